@@ -1,0 +1,91 @@
+-- The reading of the contents of an IN2 text, as far as its form goes: whether the arcs have a cycle is asked at its end.
+use Rattle.std.specs.Prelude.{◌≡◌, ℕ, zero, suc, Bool, true, false, cond, nat_eq, List, [], ◌∷◌, Result, Ok, Err}
+use Rattle.line_io.specs.Lines.{number_in}
+use Rattle.line_io.specs.declared.text.Num.{Num}
+use Rattle.line_io.specs.declared.text.Num.TheVariants.{Value, NotANumber as NoNumber, Above}
+use Rattle.in2_reader.specs.Pairs.{pair_in}
+use Rattle.in2_reader.specs.Contents.{contents_from, lines_in}
+use Rattle.line_instance.specs.declared.prec.Prec.{Prec}
+use Rattle.in2_reader.specs.declared.pair.Pair.{Pair}
+use Rattle.in2_reader.specs.declared.pair.Pair.TheVariants.{Arc, BadArc as NoTasks, End, Other}
+use Rattle.in2_reader.specs.declared.fault.In2Fault.{In2Fault}
+use Rattle.in2_reader.specs.declared.fault.In2Kind.{In2Kind}
+use Rattle.in2_reader.specs.declared.fault.In2Kind.TheVariants.{NotANumber, Range, MissingTimes, MissingEnd, BadArc, TooManyArcs}
+use Rattle.in2_reader.specs.declared.fault.ReadError.{ReadError}
+use Rattle.in2_reader.specs.declared.fault.ReadError.TheVariants as errors
+
+abbrev pub Lines : Type 0
+Lines = List (ℕ × List ℕ)
+
+abbrev pub fault : {A : Type 0} → ℕ → In2Kind → Result A In2Fault
+fault line kind = Err (record { line = line; kind = kind })
+
+-- what the text says, as far as it has been read: times, arcs, and the line of the end mark
+pub record In2 : Type 0 where
+  pub times : List ℕ
+  pub arcs : List Prec
+  pub last : ℕ
+
+-- a time before those that follow it
+abbrev pub with_time : ℕ → Result (List ℕ × Lines) In2Fault → Result (List ℕ × Lines) In2Fault
+with_time t (Err e) = Err e
+with_time t (Ok x) = Ok (t ∷ x.0, x.1)
+
+abbrev pub timed : ℕ → Num → Result (List ℕ × Lines) In2Fault → Result (List ℕ × Lines) In2Fault
+timed line NoNumber more = fault line NotANumber
+timed line Above more = fault line Range
+timed line (Value t) more = with_time t more
+
+-- so many times, and what stands behind them; `end` is the number behind the last line
+abbrev pub times_in : ℕ → ℕ → Lines → Result (List ℕ × Lines) In2Fault
+times_in end zero lines = Ok ([], lines)
+times_in end (suc n) [] = fault end MissingTimes
+times_in end (suc n) (l ∷ lines) = timed l.0 (number_in 200000000000000 l.1) (times_in end n lines)
+
+-- an arc before those that follow it
+abbrev pub with_arc : Prec → Result (List Prec × ℕ) In2Fault → Result (List Prec × ℕ) In2Fault
+with_arc a (Err e) = Err e
+with_arc a (Ok x) = Ok (a ∷ x.0, x.1)
+
+-- one pair, where `room` more may stand: the form is tested first, then the room, then the tasks
+abbrev pub paired : ℕ → Bool → Pair → Result (List Prec × ℕ) In2Fault → Result (List Prec × ℕ) In2Fault
+paired line full Other more = fault line NotANumber
+paired line full End more = Ok ([], line)
+paired line full NoTasks more = cond full (fault line TooManyArcs) (fault line BadArc)
+paired line full (Arc a) more = cond full (fault line TooManyArcs) (with_arc a more)
+
+-- pairs up to the end mark, with room for so many
+abbrev pub pairs_in : ℕ → ℕ → ℕ → Lines → Result (List Prec × ℕ) In2Fault
+pairs_in end tasks room [] = fault end MissingEnd
+pairs_in end tasks zero (l ∷ lines) = paired l.0 true (pair_in tasks l.1) (fault end MissingEnd)
+pairs_in end tasks (suc room) (l ∷ lines) = paired l.0 false (pair_in tasks l.1) (pairs_in end tasks room lines)
+
+abbrev pub with_times : List ℕ → Result (List Prec × ℕ) In2Fault → Result In2 In2Fault
+with_times times (Err e) = Err e
+with_times times (Ok x) = Ok (record { times = times; arcs = x.0; last = x.1 })
+
+abbrev pub then_pairs : ℕ → ℕ → Result (List ℕ × Lines) In2Fault → Result In2 In2Fault
+then_pairs end tasks (Err e) = Err e
+then_pairs end tasks (Ok x) = with_times x.0 (pairs_in end tasks 524288 x.1)
+
+abbrev pub counted : ℕ → ℕ → Num → Lines → Result In2 In2Fault
+counted end line NoNumber lines = fault line NotANumber
+counted end line Above lines = fault line Range
+counted end line (Value n) lines = cond (nat_eq n 0) (fault line Range) (then_pairs end n (times_in end n lines))
+
+abbrev pub lines_said : ℕ → Lines → Result In2 In2Fault
+lines_said end [] = fault end MissingTimes
+lines_said end (l ∷ lines) = counted end l.0 (number_in 1024 l.1) lines
+
+-- what a text says
+abbrev pub text_said : List ℕ → Result In2 In2Fault
+text_said text = lines_said (lines_in 1 text) (contents_from 1 text)
+
+-- What a function returned, seen by view, is what reading gives, unless memory ran out.
+abbrev pub Fails : {Y : Type 0} → ReadError → Result Y In2Fault → Type 0
+Fails errors.Memory read = Unit {0}
+Fails (errors.Fault f) read = read ≡ Err f
+
+abbrev pub Gives : {X Y : Type 0} → (X → Y) → Result X ReadError → Result Y In2Fault → Type 0
+Gives view (Ok x) read = read ≡ Ok (view x)
+Gives view (Err e) read = Fails e read

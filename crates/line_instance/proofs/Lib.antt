@@ -1,0 +1,5 @@
+pub mod Sums
+pub mod Joining
+pub mod Orders
+pub mod Turning
+pub mod Sound

@@ -1,0 +1,7 @@
+pub mod Line
+pub mod Sums
+pub mod Walks
+pub mod Ranks
+pub mod Made
+pub mod Inside
+pub mod Ordered

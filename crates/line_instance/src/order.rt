@@ -1,0 +1,48 @@
+//! The order of the tasks by rank.
+ghost use Rattle.std.specs.Prelude.{◌≡◌, ℕ, ◌≤◌, ◌<◌, length, IsNone, IfOk, IfSome};
+ghost use Rattle.line_instance.specs.Inside.{AreRows, MayCome, IsLeastFree, IsWhole, IsStuck};
+ghost use Rattle.line_instance.specs.Ordered.{IsOrdered};
+
+use std::alloc::{AllocError, Global};
+use task_set::TaskSet;
+
+// An order of all tasks, or the tasks that were placed where none was free.
+#[derive(Drop)]
+pub enum Ordered {
+    Whole(Vec<u32>),
+    Stuck(TaskSet),
+}
+
+// The least task that isn't placed, after tasks that are.
+fn free_task(direct: &[TaskSet], placed: &TaskSet) -> Option<u32>
+    requires { length direct.now ≤ 1024 }
+    ensures none { IsNone result → (t : ℕ) → MayCome direct.now placed.now t → ⊥ }
+    ensures some { IfSome result (IsLeastFree direct.now placed.now) }
+{
+    for t in 0..direct.len() {
+        if !placed.has(t as u32) && direct[t].is_subset(placed) {
+            return Some(t as u32);
+        }
+    }
+    None
+}
+
+// The order that always takes the least free task, where there is one.
+pub fn order_of(alloc: Global, direct: &[TaskSet]) -> Result<Ordered, AllocError>
+    requires many { length direct.now ≤ 1024 }
+    requires rows { AreRows (length direct.now) direct.now }
+    ensures { IfOk result (IsOrdered direct.now) }
+{
+    let mut placed = TaskSet::empty();
+    let mut order = Vec::new(alloc);
+    for _rank in 0..direct.len() {
+        match free_task(direct, &placed) {
+            None => return Ok(Ordered::Stuck(placed)),
+            Some(task) => {
+                order.push(task)?;
+                placed = placed.with(task);
+            }
+        }
+    }
+    Ok(Ordered::Whole(order))
+}

@@ -1,0 +1,186 @@
+//! Files in memory, which tell what they hold, and fail at chosen calls.
+ghost use Rattle.std.specs.Prelude.{◌≡◌, ◌≢◌, ◌≤◌, ◌-◌, ℕ, Some, None, IsSome, length, min, take, List, [], option_map, OnOk, OnErr};
+ghost use Rattle.line_io.specs.Outside.{Copies, Fetches, Grows, GrowsWhole, BecomesEmpty};
+ghost use Rattle.line_io.specs.Kept.{file_in, fetched, unused, IsToFail, next_keep, torn, after_fetch, after_write, KeepsFront};
+ghost use Rattle.line_io.specs.declared.outside.Fetched.TheVariants.{Failed as FetchFailed};
+ghost use Rattle.line_io.specs.declared.outside.Stored.TheVariants.{Failed, Done};
+
+use crate::calls::Calls;
+use crate::kept_files::{MemFile, add, bytes_of, extend, extend_by_front, place_of, replace};
+use crate::outside::{Fetched, Shelf, Stored};
+use std::alloc::{AllocError, Global};
+use std::marker::Model;
+
+/// Files in memory. Its calls are `fetch`, `fresh` and `append`, numbered from 0 up to
+/// 2^64 - 1, where the number stays; those of chosen numbers fail, each with a fault.
+#[derive(Drop)]
+pub struct MemShelf {
+    alloc: Global,
+    files: Vec<MemFile>,
+    calls: Calls,
+}
+
+impl Model for MemShelf {
+    ghost use Rattle.line_io.specs.Kept.{Kept};
+
+    ghost Value = { Kept };
+
+    ghost view = { λ s. record { files = s.files.items; calls = s.calls } };
+}
+
+impl MemShelf {
+    /// No files. The calls of these numbers, from 0, fail. It takes no memory itself.
+    pub fn new(alloc: Global, fails: Vec<u64>) -> MemShelf
+        ensures { result ≡ record { files = []; calls = unused fails.items } }
+    {
+        MemShelf {
+            alloc,
+            files: Vec::new(alloc),
+            calls: Calls::new(alloc, fails),
+        }
+    }
+
+    /// Makes a file of these bytes, or gives them to the file of that name. It is no call.
+    /// Want of memory changes nothing.
+    pub fn put_file(&mut self, name: &str, bytes: &[u8]) -> Result<(), AllocError>
+        ensures done { OnOk result (file_in self.new.files name.now ≡ Some bytes.now) }
+        ensures others { OnOk result ((q : List ℕ) → q ≢ name.now → file_in self.new.files q ≡ file_in self.old.files q) }
+        ensures calls { self.new.calls ≡ self.old.calls }
+        ensures err { OnErr result (self.new ≡ self.old) }
+    {
+        let bytes = Vec::from_slice(self.alloc, bytes)?;
+        match place_of(&self.files, name.as_bytes()) {
+            Some(k) => {
+                replace(&mut self.files, name.as_bytes(), k, bytes);
+                Ok(())
+            }
+            None => add(self.alloc, &mut self.files, name.as_bytes(), bytes),
+        }
+    }
+
+    /// The bytes of a file: None exactly where the name is missing. It is no call.
+    pub fn file(&self, name: &str) -> Option<&[u8]>
+        ensures { option_map (λ b. b.now) result ≡ file_in self.now.files name.now }
+    {
+        bytes_of(&self.files, name.as_bytes())
+    }
+
+    /// Lets the call of a number fail; where it is an `append`, after the first `keep` bytes
+    /// of its piece are kept, or all where it has fewer. The first tear of a number stands.
+    /// It is no call. Want of memory changes nothing.
+    pub fn tear(&mut self, call: u64, keep: u64) -> Result<(), AllocError>
+        ensures ok { OnOk result (self.new ≡ record self.old { calls = torn self.old.calls call keep }) }
+        ensures err { OnErr result (self.new ≡ self.old) }
+    {
+        self.calls.tear(call, keep)
+    }
+}
+
+fn copy_piece(bytes: &[u8], at: u64, piece: &mut [u8]) -> usize
+    ensures copies { Copies bytes.now at piece.new result }
+    ensures most { result ≡ min (length bytes.now - at) (length piece.old) }
+{
+    if at >= bytes.len() as u64 {
+        return 0;
+    }
+    let rest = &bytes[at as usize..];
+    let n = rest.len().min(piece.len());
+    piece[..n].copy_from_slice(&rest[..n]);
+    n
+}
+
+impl Shelf for MemShelf {
+    ghost use Rattle.line_io.specs.Kept.{file_in};
+
+    ghost tells = { Unit {0} };
+
+    ghost file = { λ s. file_in s.files };
+
+    ghost faults = { λ s. s.calls.faults };
+
+    /// Fails exactly where the call is one of those that fail or the name is missing.
+    /// Otherwise it gives as many bytes as are left and fit into the piece.
+    fn fetch(&mut self, name: &str, at: u64, piece: &mut [u8]) -> Fetched
+        ensures count { self.old.calls.faults ≤ self.new.calls.faults }
+        ensures got { Fetches (file_in self.old.files name.now) at piece.new result }
+        ensures fails { IsToFail self.old.calls → result ≡ FetchFailed }
+        ensures works { ¬ IsToFail self.old.calls → result ≡ fetched (file_in self.old.files name.now) at (length piece.old) }
+        ensures files { self.new.files ≡ self.old.files }
+        ensures calls { self.new.calls ≡ after_fetch self.old.calls result }
+    {
+        if self.calls.begin().is_some() {
+            self.calls.fail();
+            return Fetched::Failed;
+        }
+        match bytes_of(&self.files, name.as_bytes()) {
+            Some(bytes) => Fetched::Got(copy_piece(bytes, at, piece)),
+            None => {
+                self.calls.fail();
+                Fetched::Failed
+            }
+        }
+    }
+
+    /// Fails where the call is one of those that fail, or a new file finds no memory, and
+    /// changes no file then.
+    fn fresh(&mut self, name: &str) -> Stored
+        ensures count { self.old.calls.faults ≤ self.new.calls.faults }
+        ensures fails { IsToFail self.old.calls → result ≡ Failed }
+        ensures works { ¬ IsToFail self.old.calls → IsSome (file_in self.old.files name.now) → result ≡ Done }
+        ensures done { result ≡ Done → file_in self.new.files name.now ≡ Some [] }
+        ensures failed { result ≡ Failed → self.new.files ≡ self.old.files }
+        ensures others { (q : List ℕ) → q ≢ name.now → file_in self.new.files q ≡ file_in self.old.files q }
+        ensures calls { self.new.calls ≡ after_write self.old.calls result }
+    {
+        if self.calls.begin().is_some() {
+            self.calls.fail();
+            return Stored::Failed;
+        }
+        let empty = Vec::new(self.alloc);
+        match place_of(&self.files, name.as_bytes()) {
+            Some(k) => {
+                replace(&mut self.files, name.as_bytes(), k, empty);
+                Stored::Done
+            }
+            None => match add(self.alloc, &mut self.files, name.as_bytes(), empty) {
+                Ok(()) => Stored::Done,
+                Err(_) => {
+                    self.calls.fail();
+                    Stored::Failed
+                }
+            },
+        }
+    }
+
+    /// Fails where the call is one of those that fail, the name is missing, or the file finds
+    /// no memory. A torn call keeps the front that its tear says, where that finds memory.
+    fn append(&mut self, name: &str, bytes: &[u8]) -> Stored
+        ensures count { self.old.calls.faults ≤ self.new.calls.faults }
+        ensures fails { IsToFail self.old.calls → result ≡ Failed }
+        ensures missing { file_in self.old.files name.now ≡ None → result ≡ Failed }
+        ensures done { result ≡ Done → GrowsWhole (file_in self.old.files name.now) bytes.now (file_in self.new.files name.now) }
+        ensures failed { result ≡ Failed → Grows (file_in self.old.files name.now) bytes.now (file_in self.new.files name.now) }
+        ensures refused { result ≡ Failed → ¬ IsToFail self.old.calls → file_in self.new.files name.now ≡ file_in self.old.files name.now }
+        ensures torn { IsToFail self.old.calls → KeepsFront (file_in self.old.files name.now) (take (next_keep self.old.calls) bytes.now) (file_in self.new.files name.now) }
+        ensures others { (q : List ℕ) → q ≢ name.now → file_in self.new.files q ≡ file_in self.old.files q }
+        ensures calls { self.new.calls ≡ after_write self.old.calls result }
+    {
+        let keep = self.calls.begin();
+        let Some(k) = place_of(&self.files, name.as_bytes()) else {
+            self.calls.fail();
+            return Stored::Failed;
+        };
+        if let Some(keep) = keep {
+            extend_by_front(&mut self.files, name.as_bytes(), k, bytes, keep);
+            self.calls.fail();
+            return Stored::Failed;
+        }
+        match extend(&mut self.files, name.as_bytes(), k, bytes) {
+            Stored::Done => Stored::Done,
+            Stored::Failed => {
+                self.calls.fail();
+                Stored::Failed
+            }
+        }
+    }
+}

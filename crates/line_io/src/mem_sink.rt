@@ -1,0 +1,97 @@
+//! An output in memory, which tells what was put, and fails at chosen calls.
+ghost use Rattle.std.specs.Prelude.{◌≡◌, ◌≤◌, ◌++◌, take, OnOk, OnErr, [], Some};
+ghost use Rattle.line_io.specs.Outside.{Grows};
+ghost use Rattle.line_io.specs.Kept.{unused, IsToFail, next_keep, torn, after_write, KeepsFront};
+ghost use Rattle.line_io.specs.declared.outside.Stored.TheVariants.{Failed, Done};
+
+use crate::calls::Calls;
+use crate::outside::{Sink, Stored};
+use std::alloc::{AllocError, Global};
+use std::marker::Model;
+
+/// An output in memory. Its calls are those of `put`, numbered from 0 up to 2^64 - 1, where
+/// the number stays; those of chosen numbers fail, each with a fault.
+#[derive(Drop)]
+pub struct MemSink {
+    bytes: Vec<u8>,
+    calls: Calls,
+}
+
+impl Model for MemSink {
+    ghost use Rattle.line_io.specs.Kept.{Shown};
+
+    ghost Value = { Shown };
+
+    ghost view = { λ s. record { bytes = s.bytes.items; calls = s.calls } };
+}
+
+impl MemSink {
+    /// Nothing yet. The calls of these numbers, from 0, fail. It takes no memory itself.
+    pub fn new(alloc: Global, fails: Vec<u64>) -> MemSink
+        ensures { result ≡ record { bytes = []; calls = unused fails.items } }
+    {
+        MemSink {
+            bytes: Vec::new(alloc),
+            calls: Calls::new(alloc, fails),
+        }
+    }
+
+    /// What was put. It is no call.
+    pub fn bytes(&self) -> &[u8]
+        ensures { result.now ≡ self.now.bytes }
+    {
+        self.bytes.as_slice()
+    }
+
+    /// Lets the call of a number fail after the first `keep` bytes of its piece are kept, or
+    /// all where it has fewer. The first tear of a number stands. It is no call. Want of
+    /// memory changes nothing.
+    pub fn tear(&mut self, call: u64, keep: u64) -> Result<(), AllocError>
+        ensures ok { OnOk result (self.new ≡ record self.old { calls = torn self.old.calls call keep }) }
+        ensures err { OnErr result (self.new ≡ self.old) }
+    {
+        self.calls.tear(call, keep)
+    }
+}
+
+impl Sink for MemSink {
+    ghost tells = { Unit {0} };
+
+    ghost shown = { λ s. s.bytes };
+
+    ghost faults = { λ s. s.calls.faults };
+
+    /// Fails where the call is one of those that fail, or there is no memory. A torn call
+    /// keeps the front that its tear says, where that finds memory.
+    fn put(&mut self, bytes: &[u8]) -> Stored
+        ensures count { self.old.calls.faults ≤ self.new.calls.faults }
+        ensures fails { IsToFail self.old.calls → result ≡ Failed }
+        ensures done { result ≡ Done → self.new.bytes ≡ self.old.bytes ++ bytes.now }
+        ensures failed { result ≡ Failed → Grows (Some self.old.bytes) bytes.now (Some self.new.bytes) }
+        ensures refused { result ≡ Failed → ¬ IsToFail self.old.calls → self.new.bytes ≡ self.old.bytes }
+        ensures torn { IsToFail self.old.calls → KeepsFront (Some self.old.bytes) (take (next_keep self.old.calls) bytes.now) (Some self.new.bytes) }
+        ensures calls { self.new.calls ≡ after_write self.old.calls result }
+    {
+        if let Some(keep) = self.calls.begin() {
+            put_front(&mut self.bytes, bytes, keep);
+            self.calls.fail();
+            return Stored::Failed;
+        }
+        match self.bytes.extend_from_slice(bytes) {
+            Ok(()) => Stored::Done,
+            Err(_) => {
+                self.calls.fail();
+                Stored::Failed
+            }
+        }
+    }
+}
+
+/// Puts the first `keep` bytes, where memory allows it.
+fn put_front(shown: &mut Vec<u8>, bytes: &[u8], keep: u64)
+    ensures front { KeepsFront (Some shown.old.items) (take keep bytes.now) (Some shown.new.items) }
+    ensures grows { Grows (Some shown.old.items) bytes.now (Some shown.new.items) }
+{
+    let keep = keep.min(bytes.len() as u64) as usize;
+    let _ = shown.extend_from_slice(&bytes[..keep]);
+}

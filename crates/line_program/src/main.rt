@@ -1,0 +1,6 @@
+//! Balances of assembly lines, each with its bound.
+#![tactic(auto)]
+
+mod words;
+
+fn main(rt: HostRuntime) {}

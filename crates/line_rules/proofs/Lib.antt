@@ -1,0 +1,4 @@
+pub mod All
+pub mod Tests
+pub mod Stations
+pub mod Found

@@ -1,0 +1,10 @@
+//! The rules of assembly lines: balances of straight lines and U-lines, and the test of a balance.
+#![tactic(auto)]
+
+mod checking;
+mod listed;
+mod types;
+
+pub use checking::check_balance;
+pub use listed::{Listed, Places};
+pub use types::{Balance, BalanceCheck, LineKind, Seatplace, Side};

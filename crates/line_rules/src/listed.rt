@@ -1,0 +1,75 @@
+ghost use Rattle.std.specs.Prelude.{◌≡◌, ◌==◌, ◌<◌, [], ◌∷◌, ◌++◌, length, slice_get, Some, OnOk, OnErr, IfOk};
+
+use crate::types::Seatplace;
+use std::alloc::{AllocError, Global};
+use std::marker::Model;
+
+/// A list that contracts see as one: made from a vector without taking memory.
+#[derive(Drop)]
+pub struct Listed<T> {
+    items: Vec<T>,
+}
+
+/// The places of the tasks, in the order of the tasks.
+pub type Places = Listed<Seatplace>;
+
+impl<T> Model for Listed<T> {
+    ghost use Rattle.std.specs.Prelude.{List};
+
+    ghost Value = { List T };
+
+    ghost view = { λ s. s.items.items };
+}
+
+impl<T> Listed<T> {
+    /// The list of these items.
+    pub fn from_vec(items: Vec<T>) -> Listed<T>
+        ensures { result ≡ items.items }
+    {
+        Listed { items }
+    }
+
+    /// How many items there are.
+    #[inline]
+    pub fn len(&self) -> usize
+        ensures { result ≡ length self.now }
+    {
+        self.items.len()
+    }
+
+    /// Whether there is none.
+    pub fn is_empty(&self) -> bool
+        ensures { result ≡ (length self.now == 0) }
+    {
+        self.items.is_empty()
+    }
+
+    /// The item at place `k`, from 0.
+    #[inline]
+    pub fn at(&self, k: usize) -> &T
+        requires { k < length self.now }
+        ensures { slice_get self.now k ≡ Some result.now }
+    {
+        &self.items[k]
+    }
+
+    /// Puts an item at the end. For want of memory the list stays as it was, and the item is given up.
+    pub fn push(&mut self, item: T) -> Result<(), AllocError>
+        where T: Drop
+        ensures ok { OnOk result (self.new ≡ self.old ++ item ∷ []) }
+        ensures err { OnErr result (self.new ≡ self.old) }
+    {
+        self.items.push(item)?;
+        Ok(())
+    }
+}
+
+impl<T: Copy> Listed<T> {
+    /// An equal list.
+    pub fn copy(&self, alloc: Global) -> Result<Listed<T>, AllocError>
+        ensures { IfOk result (λ v. v ≡ self.now) }
+    {
+        let items = Vec::from_slice(alloc, &self.items)?;
+        Ok(Listed { items })
+    }
+}

@@ -1,0 +1,5 @@
+use Rattle.task_set.proofs.Listed.{count_listed}
+use Rattle.task_set.proofs.laws.count_is_length.Goals as goal
+
+pub returns : goal.returns
+returns c = count_listed 0

@@ -1,0 +1,5 @@
+use Rattle.task_set.proofs.Listed.{rising}
+use Rattle.task_set.proofs.laws.members_rise.Goals as goal
+
+pub returns : goal.returns
+returns c = rising 0
