@@ -1,11 +1,11 @@
 -- The set of all tasks.
-use Rattle.std.proofs.Common.{◌≡◌, ℕ, ◌<◌, ◌≤◌, Bool, true, false, length, get_or, sym, ◌∙◌, inl, inr, arith}
+use Rattle.std.proofs.Common.{◌≡◌, ℕ, ◌<◌, ◌≤◌, Bool, true, false, List, length, get_or, refl, sym, ◌∙◌, inl, inr, arith}
 use Rattle.std.specs.Prelude.{ltb}
 use Rattle.std.proofs.lemmas.Bool.{cases_lt, lt-ltb, le-ltb, false≢true}
-use Rattle.std.proofs.lemmas.List.{get_or_past}
+use Rattle.std.proofs.lemmas.List.{get_or_past, ext_get_or}
 use Rattle.std.proofs.lemmas.List.FromFn.{length-map-range_with_len, get_or-map-range_with_len}
 use Rattle.task_set.specs.Truths.{In, full_to}
-use Rattle.line_instance.specs.Line.{Line, tasks}
+use Rattle.line_instance.specs.Line.{Line, IsTaskSet, tasks}
 use Rattle.line_rules.specs.Balance.{all_tasks}
 
 pub length-full_to : (n : ℕ) → length (full_to n) ≡ 1024
@@ -33,3 +33,13 @@ In-all line i h l = In-full_to (tasks line) i h l
 
 pub In-all_lt : (line : Line) (i : ℕ) → In (all_tasks line) i → i < tasks line
 In-all_lt line i m = In-full_to_lt (tasks line) i m
+
+same_truth : (a b : Bool) → (a ≡ true → b ≡ true) → (b ≡ true → a ≡ true) → a ≡ b
+same_truth true b f g = sym (f refl)
+same_truth false true f g = g refl
+same_truth false false f g = refl
+
+-- a set of tasks that has every task is the set of all
+pub all_is : (line : Line) (s : List Bool) → tasks line ≤ 1024 → IsTaskSet line s → ((i : ℕ) → i < tasks line → In s i) → s ≡ all_tasks line
+all_is line s small set each = ext_get_or false s (all_tasks line) (set.truths ∙ sym (length-full_to (tasks line)))
+    (λ i l. same_truth (get_or s i false) (get_or (all_tasks line) i false) (λ m. In-all line i small (set.tasks i m)) (λ m. each i (In-all_lt line i m)))

@@ -3,4 +3,4 @@
 
 mod total;
 
-pub use total::{first_too_long, total_bound};
+pub use total::{first_too_long, total_bound, total_time};

@@ -1,15 +1,24 @@
 ghost use Rattle.std.specs.Prelude.{◌≡◌, ◌≤◌, ◌<◌, ℕ, IsNone, IfSome};
-ghost use Rattle.line_rules.specs.Bounds.{total_bound, IsTooLong};
+ghost use Rattle.line_rules.specs.Bounds.{total_bound, total_time, IsTooLong};
 ghost use Rattle.line_rules.specs.Checked.{IsLeastWhere};
 
 use line_instance::Instance;
+
+/// The times of all tasks together, in the instance's time unit, at most 204,800,000,000,000,000.
+pub fn total_time(inst: &Instance) -> u64
+    ensures total { result ≡ total_time inst.now }
+    ensures limit { result ≤ 204800000000000000 }
+{
+    let _tasks = inst.tasks();
+    inst.sum(&inst.all())
+}
 
 /// The greater of 1 and the total time divided by the cycle, rounded up (Scholl's LM1). The cycle is at least 1.
 pub fn total_bound(inst: &Instance, cycle: u64) -> u64
     requires { 1 ≤ cycle }
     ensures { result ≡ total_bound inst.now cycle }
 {
-    inst.sum(&inst.all()).div_ceil(cycle).max(1)
+    total_time(inst).div_ceil(cycle).max(1)
 }
 
 /// The least task whose time exceeds the cycle, None exactly where there is none.
