@@ -2,6 +2,7 @@
 #![tactic(auto)]
 
 mod checking;
+pub mod laws;
 mod listed;
 mod types;
 
