@@ -5,10 +5,13 @@ use Rattle.std.proofs.Math.ListN.{length-set}
 use Rattle.std.proofs.lemmas.List.{get_or-set_same, get_or-set_other, get_or-replicate, get_or_past, length-replicate}
 use Rattle.std.proofs.lemmas.List.Elements.{Contains-append_left, Contains-append_right, Contains-append_cases}
 use Rattle.std.proofs.lemmas.Bool.{cases_eq, cases_lt, false≢true}
-use Rattle.task_set.specs.Truths.{In, union, IsGreatestBelow}
+use Rattle.std.proofs.lemmas.List.FromFn.{length-map-range_with_len, get_or-map-range_with_len}
+use Rattle.std.proofs.lemmas.Bool.{ltb-true, lt-ltb}
+use Rattle.std.specs.Prelude.{ltb}
+use Rattle.task_set.specs.Truths.{In, union, IsGreatestBelow, full_to}
 use Rattle.task_set.proofs.Members.{In-set_same, In-set_kept, In-set_cases, In-union_left, In-union_right, In-union_cases}
 use Rattle.line_instance.specs.Walks.{at}
-use Rattle.line_instance.specs.Inside.{AreRows, AreDirect, IsJoined, AreJoined, IsWhole}
+use Rattle.line_instance.specs.Inside.{AreRows, AreEmpty, AreDirect, IsJoined, AreJoined, IsWhole}
 use Rattle.line_instance.specs.declared.arcs.Prec.{Prec}
 
 -- nothing is in the empty set
@@ -16,6 +19,16 @@ pub nothing_in : (n i : ℕ) → In (replicate n false) i → ⊥
 nothing_in n i m = elim (cases_lt i n) [
   | inl l ↦ false≢true (sym (get_or-replicate n i false false l) ∙ m)
   | inr g ↦ false≢true (sym (get_or_past (replicate n false) i false (omega (arith, length-replicate n false))) ∙ m)
+]
+
+-- the numbers below n
+pub full_members : (n i : ℕ) → n ≤ 1024 → (In (full_to n) i → i < n) × (i < n → In (full_to n) i)
+unfolding full_to
+full_members n i few = elim (cases_lt i 1024) [
+  | inl l ↦ (let e : get_or (full_to n) i false ≡ ltb i n = get_or-map-range_with_len (λ k. ltb k n) 0 1024 i i false l (omega arith) in
+      (λ m. ltb-true i n (sym e ∙ m), λ h. e ∙ lt-ltb i n h))
+  | inr g ↦ (let none : get_or (full_to n) i false ≡ false = get_or_past (full_to n) i false (omega (arith, g, length-map-range_with_len (λ k. ltb k n) 0 1024)) in
+      (λ m. absurd (false≢true (sym none ∙ m)), λ h. absurd (omega arith)))
 ]
 
 -- one member more in one row
@@ -77,11 +90,6 @@ none_in n rows m e i t l = elim (cases_lt t n) [
   | inr g ↦ false≢true (sym (ap (λ r. get_or r i false) (get_or_past rows t [] (omega arith))) ∙ l)
 ]
 
--- so many empty sets
-pub record AreEmpty (n : ℕ) (rows : List (List Bool)) : Type 0 where
-  pub sets : AreRows n rows
-  pub none : (i t : ℕ) → In (get_or rows t []) i → ⊥
-
 pub empty_ones : (n : ℕ) (rows : List (List Bool)) → length rows ≡ n → ((t : ℕ) → t < n → get_or rows t [] ≡ replicate 1024 false) → AreEmpty n rows
 empty_ones n rows m e = record {
   sets = record {
@@ -99,7 +107,7 @@ no_arcs n rows e = record {
   only = λ i t l. absurd (e.none i t l);
 }
 
-only_one : (a b : Prec) → Contains (a ∷ []) b → a ≡ b
+pub only_one : (a b : Prec) → Contains (a ∷ []) b → a ≡ b
 only_one a b h = let z : h.0 ≡ 0 = omega (arith, h.1) in ap (λ k. get_or (a ∷ []) k b) (sym z) ∙ h.2
 
 pub one_arc : (n : ℕ) (arcs : List Prec) (rows : List (List Bool)) (a : Prec) → n ≤ 1024 → AreDirect n arcs rows → a.first < n → a.«then» < n → AreDirect n (arcs ++ a ∷ []) (marked rows a.«then» a.first)

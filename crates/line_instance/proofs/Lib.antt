@@ -1,5 +1,7 @@
 pub mod Sums
 pub mod Joining
+pub mod Marking
 pub mod Orders
 pub mod Turning
 pub mod Sound
+pub mod Keeping

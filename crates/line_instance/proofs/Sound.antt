@@ -4,12 +4,14 @@ use Rattle.std.proofs.lemmas.List.{get_or_past}
 use Rattle.std.proofs.lemmas.Bool.{cases_lt, false≢true}
 use Rattle.task_set.specs.Truths.{In}
 use Rattle.line_instance.specs.Line.{Line, IsLine, IsRanked, IsTaskSet}
-use Rattle.line_instance.specs.Walks.{Leads, Walk, arc, on, IsRow, IsRing, IsRingOf, at, AreArcs}
+use Rattle.line_instance.specs.Walks.{Leads, Walk, arc, on, IsRow, IsRing, IsRingOf, ArePairs, at, AreArcs}
 use Rattle.line_instance.specs.Ranks.{AreRanks}
 use Rattle.line_instance.specs.Made.{AreTimes, IsInstanceOf}
-use Rattle.line_instance.specs.Inside.{AreDirect, IsJoined, AreJoined, IsWhole, StandsBelow, LeadsIn, IsSound}
+use Rattle.line_instance.specs.Inside.{AreDirect, IsJoined, AreJoined, IsWhole, StandsBelow, LeadsIn, IsSound, AreEmpty, AreRows, AreTurned, AreRanksOf, ArePartners, ArePaired, of_rows}
+use Rattle.line_instance.proofs.Marking.{both_ways, of_two}
+use Rattle.line_instance.specs.declared.partners.Kept.{Kept}
+use Rattle.line_instance.proofs.Keeping.{partners_along}
 use Rattle.line_instance.specs.declared.arcs.Prec.{Prec}
-use Rattle.line_instance.proofs.Joining.{AreEmpty}
 
 -- a walk after a walk
 walk_on : (arcs : List Prec) {i j k : ℕ} → Walk arcs i j → Walk arcs j k → Walk arcs i k
@@ -70,7 +72,14 @@ module _ (n : ℕ) (arcs : List Prec) (direct : List (List Bool)) (order : List 
   first_task {i} {t} (arc l) = (d.sets.tasks i t (d.there i t l)).0
   first_task (on w l) = first_task w
 
-  module _ (times : List ℕ) (apart : List (List Bool)) (whole : List Bool) (many : length times ≡ n) (right : AreTimes times) (none : AreEmpty n apart) (truths : length whole ≡ 1024) (members : (i : ℕ) → In whole i → i < n) (each : (i : ℕ) → i < n → In whole i) where
+  pub before_rows : AreRows (length before) before
+  before_rows = record {
+    many = refl;
+    truths = λ t l. (rows t (omega (arith, b.many, d.sets.many))).truths;
+    tasks = λ i t m. (omega (arith, b.many, d.sets.many, first_task (walk_of i t m)), omega (arith, b.many, d.sets.many, in_rows i t m));
+  }
+
+  module _ (times : List ℕ) (apart : List (List Bool)) (many : length times ≡ n) (right : AreTimes times) (none : AreEmpty n apart) where
     abbrev pub line : Line
     line = record { times = times; before = before; apart = apart; order = order }
 
@@ -120,12 +129,13 @@ module _ (n : ℕ) (arcs : List Prec) (direct : List (List Bool)) (order : List 
       least = λ k t l f. o.order_is.least k t (omega (arith, o.many, d.sets.many, many)) (omega (arith, f.task, d.sets.many, many)) f.new (λ i m. f.ready i (all (arc (d.only i t m))));
     }
 
-    pub sound : IsSound whole line
-    sound = record {
+    pub sound : (after : List (List Bool)) (ranks : List ℕ) (partners : List Kept) → AreTurned before after → AreRanksOf order ranks → ArePartners (of_rows times before apart) partners → IsSound after ranks partners line
+    sound after ranks partners t r p = record {
       line_is = line_is;
       ranked = ranked;
-      whole = record { truths = truths; tasks = λ i m. omega (arith, many, members i m) };
-      each = λ i l. each i (omega (arith, many));
+      turned = t;
+      rank_is = r;
+      partners_are = partners_along line partners p;
     }
 
     pub instance_is : AreArcs (length times) arcs → IsInstanceOf times arcs line
@@ -146,4 +156,28 @@ arcs_ring n arcs direct ring d r = record {
   closes = λ k l. d.only (at ring k) (at ring 0) (r.closes k l);
   once = r.once;
   least = r.least;
+}
+
+-- other pairs are apart
+pub parted : (after : List (List Bool)) (ranks : List ℕ) (old partners : List Kept) (times : List ℕ) (before apart new : List (List Bool)) (order : List ℕ) (pairs : List Prec) → ArePairs (length times) pairs
+    → IsSound after ranks old (record { times = times; before = before; apart = apart; order = order }) → ArePaired (length times) pairs new → ArePartners (of_rows times before new) partners
+    → IsSound after ranks partners (record { times = times; before = before; apart = new; order = order })
+parted after ranks old partners times before apart new order pairs h s p k = record {
+  line_is = record {
+    some = s.line_is.some;
+    small = s.line_is.small;
+    times = s.line_is.times;
+    before_rows = s.line_is.before_rows;
+    before = λ j l. let b = s.line_is.before j l in record { truths = b.truths; tasks = b.tasks };
+    leads_on = s.line_is.leads_on;
+    not_itself = s.line_is.not_itself;
+    apart_rows = p.sets.many;
+    apart = λ j l. record { truths = p.sets.truths j l; tasks = λ i m. (p.sets.tasks i j m).0 };
+    both_ways = λ i j m. both_ways (length times) pairs new p i j m;
+    of_two = λ i m. of_two (length times) pairs new h p i m;
+  };
+  ranked = record { many = s.ranked.many; task = s.ranked.task; rank = s.ranked.rank; once = s.ranked.once; rises = s.ranked.rises };
+  turned = s.turned;
+  rank_is = s.rank_is;
+  partners_are = partners_along (record { times = times; before = before; apart = new; order = order }) partners k;
 }

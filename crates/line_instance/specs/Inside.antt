@@ -1,8 +1,10 @@
 -- What the steps of making an instance say of rows of sets.
-use Rattle.std.specs.Prelude.{◌≡◌, ℕ, ◌+◌, ◌<◌, ◌≤◌, ◌⊎◌, Bool, false, List, [], length, slice_index_or}
+use Rattle.std.specs.Prelude.{◌≡◌, ℕ, ◌+◌, ◌<◌, ◌≤◌, ◌⊎◌, ◌↔◌, Bool, false, List, [], length, slice_index_or, slice_get, Some, take}
 use Rattle.task_set.specs.Truths.{In, IsSubset}
-use Rattle.line_instance.specs.Line.{Line, IsLine, IsRanked, IsTaskSet, tasks}
-use Rattle.line_instance.specs.Walks.{Leads, at}
+use Rattle.line_instance.specs.Line.{Line, IsLine, IsRanked, tasks}
+use Rattle.line_instance.specs.Walks.{Leads, IsGiven, at}
+use Rattle.line_instance.specs.Partners.{AreKept}
+use Rattle.line_instance.specs.declared.partners.Kept.{Kept}
 use Rattle.line_instance.specs.declared.arcs.Prec.{Prec}
 
 -- n sets, of tasks below n
@@ -86,9 +88,60 @@ pub record AreJoined (direct rows : List (List Bool)) : Type 0 where
   pub many : length rows ≡ length direct
   pub joined : (t : ℕ) → t < length direct → IsJoined (slice_index_or direct t []) rows (slice_index_or rows t [])
 
--- what an instance keeps beside its value: the set of all tasks
-pub record IsSound (all : List Bool) (line : Line) : Type 0 where
+-- the rows turned round: row i has j where row j had i
+pub record AreTurned (before after : List (List Bool)) : Type 0 where
+  pub sets : AreRows (length before) after
+  pub same : (i j : ℕ) → LeadsIn before i j ↔ LeadsIn after j i
+
+-- the rows of the members have got one member more
+pub record AreMarked (old : List (List Bool)) (chosen : List Bool) (mark : ℕ) (new : List (List Bool)) : Type 0 where
+  pub many : length new ≡ length old
+  pub truths : (t : ℕ) → length (slice_index_or new t []) ≡ length (slice_index_or old t [])
+  pub from : (i t : ℕ) → In (slice_index_or new t []) i → In (slice_index_or old t []) i ⊎ (In chosen t × (i ≡ mark))
+  pub kept : (i t : ℕ) → In (slice_index_or old t []) i → In (slice_index_or new t []) i
+  pub here : (t : ℕ) → In chosen t → In (slice_index_or new t []) mark
+
+-- n empty sets
+pub record AreEmpty (n : ℕ) (rows : List (List Bool)) : Type 0 where
+  pub sets : AreRows n rows
+  pub none : (i t : ℕ) → In (slice_index_or rows t []) i → ⊥
+
+-- row t has the tasks that a pair joins to t
+pub record ArePaired (n : ℕ) (pairs : List Prec) (rows : List (List Bool)) : Type 0 where
+  pub sets : AreRows n rows
+  pub there : (i t : ℕ) → IsGiven pairs i t → In (slice_index_or rows t []) i
+  pub only : (i t : ℕ) → In (slice_index_or rows t []) i → IsGiven pairs i t
+
+-- the places go over the tasks, each task once
+pub record IsPermutation (order : List ℕ) : Type 0 where
+  pub small : (k : ℕ) → k < length order → at order k < length order
+  pub stands : (t : ℕ) → t < length order → StandsBelow order (length order) t
+  pub once : (k m : ℕ) → k < length order → m < length order → at order k ≡ at order m → k ≡ m
+
+-- the rank of each task
+pub record AreRanksOf (order ranks : List ℕ) : Type 0 where
+  pub many : length ranks ≡ length order
+  pub small : (i : ℕ) → i < length order → at ranks i < length order
+  pub task : (i : ℕ) → i < length order → at order (at ranks i) ≡ i
+
+-- the instance of these rows, for what doesn't ask for ranks
+abbrev pub of_rows : List ℕ → List (List Bool) → List (List Bool) → Line
+of_rows times before apart = record { times = times; before = before; apart = apart; order = [] }
+
+-- the tasks that are kept
+abbrev pub kept_of : Kept → List ℕ
+kept_of kept = take kept.many kept.tasks
+
+-- each task's kept partners
+pub record ArePartners (line : Line) (partners : List Kept) : Type 0 where
+  pub many : length partners ≡ tasks line
+  pub room : (i : ℕ) (kept : Kept) → slice_get partners i ≡ Some kept → (length kept.tasks ≡ 8) × (kept.many ≤ 8)
+  pub right : (i : ℕ) (kept : Kept) → slice_get partners i ≡ Some kept → AreKept line i (kept_of kept)
+
+-- what an instance keeps beside its value: the tasks after each one, each task's rank, and its kept partners
+pub record IsSound (after : List (List Bool)) (ranks : List ℕ) (partners : List Kept) (line : Line) : Type 0 where
   pub line_is : IsLine line
   pub ranked : IsRanked line
-  pub whole : IsTaskSet line all
-  pub each : (i : ℕ) → i < tasks line → In all i
+  pub turned : AreTurned line.before after
+  pub rank_is : AreRanksOf line.order ranks
+  pub partners_are : ArePartners line partners

@@ -32,6 +32,11 @@ Before line i j = In (slice_index_or line.before j []) i
 abbrev pub Apart : Line → ℕ → ℕ → Type 0
 Apart line i j = In (slice_index_or line.apart j []) i
 
+-- j is covered by i: i is before j and no task lies between (Scholl)
+pub record Covers (line : Line) (i j : ℕ) : Type 0 where
+  pub before : Before line i j
+  pub between : (k : ℕ) → Before line i k → Before line k j → ⊥
+
 -- a set of tasks is a list of 1,024 truths, which are true of tasks alone
 pub record IsTaskSet (line : Line) (s : List Bool) : Type 0 where
   pub truths : length s ≡ 1024

@@ -1,5 +1,5 @@
 -- Walks along arcs.
-use Rattle.std.specs.Prelude.{◌≡◌, ℕ, ◌+◌, ◌<◌, ◌≤◌, Bool, List, length, slice_index_or}
+use Rattle.std.specs.Prelude.{◌≡◌, ℕ, ◌+◌, ◌<◌, ◌≤◌, ◌⊎◌, Bool, List, length, slice_index_or}
 use Rattle.std.specs.List.{Contains}
 use Rattle.task_set.specs.Truths.{In}
 use Rattle.line_instance.specs.declared.arcs.Prec.{Prec}
@@ -29,6 +29,14 @@ Names n a = (a.first < n) × (a.«then» < n)
 -- each arc names two tasks below n
 abbrev pub AreArcs : ℕ → List Prec → Type 0
 AreArcs n arcs = (k : ℕ) → k < length arcs → Names n (arc_at arcs k)
+
+-- the pairs that are given to be apart: each of two tasks
+abbrev pub ArePairs : ℕ → List Prec → Type 0
+ArePairs n pairs = (k : ℕ) → k < length pairs → Names n (arc_at pairs k) × ((arc_at pairs k).first ≡ (arc_at pairs k).«then» → ⊥)
+
+-- one of the pairs is of i and j, in either order
+abbrev pub IsGiven : List Prec → ℕ → ℕ → Type 0
+IsGiven pairs i j = Leads pairs i j ⊎ Leads pairs j i
 
 -- the member of a list at place k
 abbrev pub at : List ℕ → ℕ → ℕ

@@ -1,9 +1,14 @@
 //! Instances: tasks with times, the tasks before each one, and a rank for each.
-ghost use Rattle.std.specs.Prelude.{◌≡◌, ◌≤◌, ◌<◌, ◌↔◌, ℕ, List, [], length, slice_index_or};
-ghost use Rattle.line_instance.specs.Line.{Line, IsLine, IsRanked, IsTaskSet, Before, Apart, tasks, time, at_rank, has};
+ghost use Rattle.std.specs.Prelude.{◌≡◌, ◌≤◌, ◌<◌, ◌↔◌, ℕ, List, [], length, slice_index_or, IsTrue, IfOk};
+ghost use Rattle.line_instance.specs.Walks.{ArePairs, IsGiven};
+ghost use Rattle.line_instance.specs.Partners.{IsKeptAt};
+ghost use Rattle.line_instance.specs.Line.{Line, IsLine, IsRanked, IsTaskSet, Before, Apart, Covers, tasks, time, at_rank, has};
 ghost use Rattle.line_instance.specs.Sums.{sum_where};
-ghost use Rattle.task_set.specs.Truths.{In};
+ghost use Rattle.task_set.specs.Truths.{In, full_to};
 
+use crate::arcs::Prec;
+use crate::partners::{Kept, kept_at, part};
+use std::alloc::AllocError;
 use std::marker::Model;
 use task_set::TaskSet;
 
@@ -19,9 +24,11 @@ pub const MAX_TIME: u64 = 200_000_000_000_000;
 pub struct Instance {
     pub(crate) times: Vec<u64>,
     pub(crate) before: Vec<TaskSet>,
+    pub(crate) after: Vec<TaskSet>,
     pub(crate) apart: Vec<TaskSet>,
     pub(crate) order: Vec<u32>,
-    pub(crate) all: TaskSet,
+    pub(crate) ranks: Vec<u32>,
+    pub(crate) partners: Vec<Kept>,
 }
 
 impl Model for Instance {
@@ -32,7 +39,7 @@ impl Model for Instance {
 
     ghost view = { λ s. record { times = s.times.items; before = s.before.items; apart = s.apart.items; order = s.order.items } };
 
-    ghost invariant = { λ s. IsSound s.all (record { times = s.times.items; before = s.before.items; apart = s.apart.items; order = s.order.items }) };
+    ghost invariant = { λ s. IsSound s.after.items s.ranks.items s.partners.items (record { times = s.times.items; before = s.before.items; apart = s.apart.items; order = s.order.items }) };
 }
 
 impl Instance {
@@ -64,6 +71,25 @@ impl Instance {
         &self.before[i as usize]
     }
 
+    /// The tasks after task `i`: those to which a nonempty walk of arcs leads from it.
+    pub fn after(&self, i: u32) -> &TaskSet
+        requires { i < tasks self.now }
+        ensures members { (j : ℕ) → In result.now j ↔ Before self.now i j }
+        ensures set { IsTaskSet self.now result.now }
+    {
+        &self.after[i as usize]
+    }
+
+    /// Whether task `i` is before task `j` with no task between them.
+    pub fn covers(&self, i: u32, j: u32) -> bool
+        requires first { i < tasks self.now }
+        requires then { j < tasks self.now }
+        ensures { IsTrue result ↔ Covers self.now i j }
+    {
+        let before = &self.before[j as usize];
+        before.has(i) && self.after[i as usize].meet(before).is_empty()
+    }
+
     /// The tasks apart from task `i`.
     pub fn apart(&self, i: u32) -> &TaskSet
         requires { i < tasks self.now }
@@ -83,12 +109,63 @@ impl Instance {
         self.order[k as usize]
     }
 
+    /// The rank of task `i`, counted from 0.
+    pub fn rank_of(&self, i: u32) -> u32
+        requires { i < tasks self.now }
+        ensures rank { at_rank self.now result ≡ i }
+        ensures within { result < tasks self.now }
+    {
+        self.ranks[i as usize]
+    }
+
+    /// The `k`-th kept partner of task `i`, counted from 0; None where fewer are kept.
+    pub fn partner(&self, i: u32, k: u32) -> Option<u32>
+        requires { i < tasks self.now }
+        ensures { IsKeptAt self.now i k result }
+    {
+        kept_at(&self.partners[i as usize], k)
+    }
+
+    /// Makes two tasks apart exactly where a pair of them is given, in either order. Takes no memory.
+    pub fn set_apart(&mut self, pairs: &[Prec])
+        requires { ArePairs (tasks self.old) pairs.now }
+        ensures apart { (i j : ℕ) → Apart self.new i j ↔ IsGiven pairs.now i j }
+        ensures times { self.new.times ≡ self.old.times }
+        ensures before { self.new.before ≡ self.old.before }
+        ensures order { self.new.order ≡ self.old.order }
+    {
+        part(
+            &self.times,
+            &self.before,
+            &self.after,
+            &mut self.apart,
+            &mut self.partners,
+            pairs,
+        );
+    }
+
+    /// An equal instance; an error where memory is wanting.
+    pub fn copy(&self) -> Result<Instance, AllocError>
+        ensures { IfOk result (λ c. c ≡ self.now) }
+    {
+        Ok(Instance {
+            times: self.times.clone()?,
+            before: self.before.clone()?,
+            after: self.after.clone()?,
+            apart: self.apart.clone()?,
+            order: self.order.clone()?,
+            ranks: self.ranks.clone()?,
+            partners: self.partners.clone()?,
+        })
+    }
+
     /// The set of all tasks.
     pub fn all(&self) -> TaskSet
+        ensures value { result ≡ full_to (tasks self.now) }
         ensures members { (i : ℕ) → In result i ↔ i < tasks self.now }
         ensures set { IsTaskSet self.now result }
     {
-        self.all
+        TaskSet::full_to(self.times.len() as u32)
     }
 
     /// The total time of a set of tasks, in the instance's time unit, at most 204,800,000,000,000,000.

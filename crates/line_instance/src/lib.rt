@@ -5,6 +5,7 @@ mod arcs;
 mod instance;
 mod making;
 mod order;
+mod partners;
 mod rings;
 mod rows;
 

@@ -5,9 +5,10 @@ ghost use Rattle.line_instance.specs.Walks.{AreArcs};
 
 use crate::arcs::{Prec, first_bad_arc};
 use crate::instance::{Instance, MAX_TASKS, MAX_TIME};
-use crate::order::{Ordered, order_of};
+use crate::order::{Ordered, order_of, ranks_of};
+use crate::partners::partners_of;
 use crate::rings::{Ring, ring_of};
-use crate::rows::{closed_rows, direct_rows, empty_rows, full_set};
+use crate::rows::{closed_rows, direct_rows, empty_rows, turned_rows};
 use std::alloc::{AllocError, Global};
 
 /// What `make` answers.
@@ -79,12 +80,17 @@ fn made_of(alloc: Global, times: Vec<u64>, arcs: &[Prec]) -> Result<Made, AllocE
         Ordered::Stuck(placed) => return Ok(Made::Cycle(ring_of(alloc, &direct, &placed)?)),
     };
     let before = closed_rows(alloc, &direct, &order)?;
+    let after = turned_rows(alloc, &before)?;
     let apart = empty_rows(alloc, n)?;
+    let ranks = ranks_of(alloc, &order)?;
+    let partners = partners_of(alloc, &times, &before, &after, &apart)?;
     Ok(Made::Good(Instance {
         times,
         before,
+        after,
         apart,
         order,
-        all: full_set(n as u32),
+        ranks,
+        partners,
     }))
 }

@@ -1,6 +1,6 @@
 //! The order of the tasks by rank.
 ghost use Rattle.std.specs.Prelude.{◌≡◌, ℕ, ◌≤◌, ◌<◌, length, IsNone, IfOk, IfSome};
-ghost use Rattle.line_instance.specs.Inside.{AreRows, MayCome, IsLeastFree, IsWhole, IsStuck};
+ghost use Rattle.line_instance.specs.Inside.{AreRows, MayCome, IsLeastFree, IsWhole, IsStuck, IsPermutation, AreRanksOf};
 ghost use Rattle.line_instance.specs.Ordered.{IsOrdered};
 
 use std::alloc::{AllocError, Global};
@@ -45,4 +45,17 @@ pub fn order_of(alloc: Global, direct: &[TaskSet]) -> Result<Ordered, AllocError
         }
     }
     Ok(Ordered::Whole(order))
+}
+
+// The rank of each task.
+pub fn ranks_of(alloc: Global, order: &[u32]) -> Result<Vec<u32>, AllocError>
+    requires few { length order.now ≤ 1024 }
+    requires order { IsPermutation order.now }
+    ensures { IfOk result (λ v. AreRanksOf order.now v.items) }
+{
+    let mut ranks = vec![in alloc; 0; order.len()]?;
+    for k in 0..order.len() {
+        ranks[order[k] as usize] = k as u32;
+    }
+    Ok(ranks)
 }

@@ -1,7 +1,7 @@
 //! The tasks before each task, as rows of sets.
-ghost use Rattle.std.specs.Prelude.{◌≡◌, ◌≤◌, ◌<◌, ◌↔◌, ℕ, List, [], length, IfOk, slice_index_or, replicate, false};
+ghost use Rattle.std.specs.Prelude.{◌≡◌, ◌≤◌, ◌<◌, ℕ, List, [], length, IfOk, slice_index_or, replicate, false};
 ghost use Rattle.line_instance.specs.Walks.{AreArcs};
-ghost use Rattle.line_instance.specs.Inside.{AreRows, AreDirect, IsJoined, AreJoined, IsWhole};
+ghost use Rattle.line_instance.specs.Inside.{AreRows, AreEmpty, AreDirect, IsJoined, AreJoined, IsWhole, AreMarked, AreTurned, ArePaired};
 ghost use Rattle.task_set.specs.Truths.{In};
 
 use crate::arcs::Prec;
@@ -14,19 +14,6 @@ pub fn empty_rows(alloc: Global, n: usize) -> Result<Vec<TaskSet>, AllocError>
     ensures empty { IfOk result (λ v. (t : ℕ) → t < n → slice_index_or v.items t [] ≡ replicate 1024 false) }
 {
     vec![in alloc; TaskSet::empty(); n]
-}
-
-// The tasks below `n`.
-pub fn full_set(n: u32) -> TaskSet
-    requires { n ≤ 1024 }
-    ensures truths { length result ≡ 1024 }
-    ensures members { (i : ℕ) → In result i ↔ i < n }
-{
-    let mut all = TaskSet::empty();
-    for i in 0..n {
-        all = all.with(i);
-    }
-    all
 }
 
 // For each task the tasks with an arc to it.
@@ -76,4 +63,58 @@ pub fn closed_rows(
         rows[task] = joined_row(&direct[task], &rows);
     }
     Ok(rows)
+}
+
+// Puts a mark into the row of each member.
+fn mark_rows(rows: &mut [TaskSet], chosen: &TaskSet, mark: u32)
+    requires few { length rows.old ≤ 1024 }
+    requires truths { (t : ℕ) → t < length rows.old → length (slice_index_or rows.old t []) ≡ 1024 }
+    requires tasks { (t : ℕ) → In chosen.now t → t < length rows.old }
+    requires mark { mark < 1024 }
+    ensures { AreMarked rows.old chosen.now mark rows.new }
+{
+    let mut bound = 1024;
+    while let Some(t) = chosen.greatest_below(bound) {
+        let row = &mut rows[t as usize];
+        *row = row.with(mark);
+        bound = t;
+    }
+}
+
+// The rows turned round: row i has the tasks whose row has i.
+pub fn turned_rows(alloc: Global, rows: &[TaskSet]) -> Result<Vec<TaskSet>, AllocError>
+    requires few { length rows.now ≤ 1024 }
+    requires rows { AreRows (length rows.now) rows.now }
+    ensures { IfOk result (λ v. AreTurned rows.now v.items) }
+{
+    let mut turned = empty_rows(alloc, rows.len())?;
+    for j in 0..rows.len() {
+        mark_rows(&mut turned, &rows[j], j as u32);
+    }
+    Ok(turned)
+}
+
+// Empties each row.
+pub fn clear_rows(rows: &mut [TaskSet])
+    ensures { AreEmpty (length rows.old) rows.new }
+{
+    for t in 0..rows.len() {
+        rows[t] = TaskSet::empty();
+    }
+}
+
+// Puts each task of a pair into the row of the other one.
+pub fn mark_pairs(rows: &mut [TaskSet], pairs: &[Prec])
+    requires few { length rows.old ≤ 1024 }
+    requires rows { AreEmpty (length rows.old) rows.old }
+    requires pairs { AreArcs (length rows.old) pairs.now }
+    ensures { ArePaired (length rows.old) pairs.now rows.new }
+{
+    for pair in pairs {
+        let pair = *pair;
+        let row = &mut rows[pair.then as usize];
+        *row = row.with(pair.first);
+        let other = &mut rows[pair.first as usize];
+        *other = other.with(pair.then);
+    }
 }

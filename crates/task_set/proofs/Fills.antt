@@ -39,7 +39,13 @@ fill ws h k n w l bits below j b = elim (cases_eq (j / 64) k) [
   | inr d ↦ ap (λ v. eqb (bit_at v (j % 64)) 1) (get_or-set_other ws k (j / 64) w 0 d) ∙ below j (omega arith)
 ]
 
-pub filled : (ws : List ℕ) (n : ℕ) → ((j : ℕ) → j < 1024 → truth_at ws j ≡ ltb j n) → truths_of ws ≡ full_to n
+pub length-full_to : (n : ℕ) → length (full_to n) ≡ 1024
 unfolding full_to
-filled ws n h = truths_same ws (full_to n) (length-map-range_with_len (λ i. ltb i n) 0 1024)
-    (λ i l. h i l ∙ sym (get_or-map-range_with_len (λ j. ltb j n) 0 1024 i i false l (omega arith)))
+length-full_to n = length-map-range_with_len (λ i. ltb i n) 0 1024
+
+pub get_or-full_to : (n i : ℕ) → i < 1024 → get_or (full_to n) i false ≡ ltb i n
+unfolding full_to
+get_or-full_to n i l = get_or-map-range_with_len (λ j. ltb j n) 0 1024 i i false l (omega arith)
+
+pub filled : (ws : List ℕ) (n : ℕ) → ((j : ℕ) → j < 1024 → truth_at ws j ≡ ltb j n) → truths_of ws ≡ full_to n
+filled ws n h = truths_same ws (full_to n) (length-full_to n) (λ i l. h i l ∙ sym (get_or-full_to n i l))

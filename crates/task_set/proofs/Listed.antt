@@ -2,7 +2,7 @@
 use Rattle.std.proofs.Common.{◌≡◌, ℕ, zero, suc, ◌+◌, ◌*◌, ◌/◌, ◌<◌, ◌≤◌, ◌↔◌, Bool, true, false, List, [], ◌∷◌, ◌++◌, length, get_or, set, take, replicate, refl, sym, ap, ◌∙◌, subst, inl, inr, arith}
 use Rattle.std.specs.List.{Contains}
 use Rattle.task_set.specs.Truths.{In, IsEmpty, IsLeast, members_from, members_of, count}
-use Rattle.task_set.proofs.Members.{In-set_same, In-set_kept, In-set_cases}
+use Rattle.task_set.proofs.Members.{In-set_same, In-set_kept, In-set_cases, In-empty}
 use Rattle.std.proofs.lemmas.Bool.{false≢true, cases_eq}
 use Rattle.std.proofs.lemmas.List.{get_or-set_other, take_more}
 use Rattle.task_set.specs.Text.{list_text}
@@ -43,13 +43,6 @@ others_from s i l j m = elim (cases_eq j i) [
   | inr n ↦ omega (arith, l.least j (sym (get_or-set_other s i j false false n) ∙ m))
 ]
 
-pub In-clear_kept : (s : List Bool) (i j : ℕ) → In (set s i false) j → In s j
-In-clear_kept [] i j m = m
-In-clear_kept (b ∷ bs) zero zero m = absurd (false≢true m)
-In-clear_kept (b ∷ bs) zero (suc j) m = m
-In-clear_kept (b ∷ bs) (suc i) zero m = m
-In-clear_kept (b ∷ bs) (suc i) (suc j) m = In-clear_kept bs i j m
-
 -- one task more
 pub listed_more : (s : List Bool) (xs : List ℕ) (k : ℕ) → length s ≡ 1024 → k < length xs → get_or xs k 0 < 1024
     → ((i : ℕ) → In s i ↔ Contains (take k xs) i) → (i : ℕ) → In (set s (get_or xs k 0) true) i ↔ Contains (take (k + 1) xs) i
@@ -67,14 +60,9 @@ listed_more s xs k e l b h i =
       ],
     )
 
-not_in_empty : (n i : ℕ) → In (replicate n false) i → ⊥
-not_in_empty zero i m = false≢true m
-not_in_empty (suc n) zero m = false≢true m
-not_in_empty (suc n) (suc i) m = not_in_empty n i m
-
 pub listed_none : (s : List Bool) (xs : List ℕ) → s ≡ replicate 1024 false → (i : ℕ) → In s i ↔ Contains (take 0 xs) i
 listed_none s xs e i = (
-  λ m. let P : List Bool → Type 0 = λ t. In t i in absurd (not_in_empty 1024 i (subst P e m)),
+  λ m. let P : List Bool → Type 0 = λ t. In t i in absurd (In-empty 1024 i (subst P e m)),
   λ c. absurd (omega (arith, c.1)),
 )
 
@@ -148,3 +136,16 @@ text_step done mark i left more all e h =
 pub text_end : (done mark left all : List ℕ) → left ≡ [] → done ++ list_text mark left ≡ all → done ≡ all
 unfolding list_text
 text_end done mark left all e h = sym (append-nil done) ∙ ap (λ l. done ++ list_text mark l) (sym e) ∙ h
+
+-- a turn of a loop over the members: the next one is a member, and goes over to those that were
+pub member_turn : (s : List Bool) (done left more : List ℕ) (i : ℕ) → done ++ left ≡ members_of s → left ≡ i ∷ more → In s i × ((done ++ i ∷ []) ++ more ≡ members_of s)
+member_turn s done left more i h e =
+    let all : done ++ (i ∷ more) ≡ members_of s = ap (λ l. done ++ l) (sym e) ∙ h in
+    let P : List ℕ → Type 0 = λ l. Contains l i in (
+      (listed s i).1 (subst P all (Contains-append_right done (i ∷ more) i (0, omega arith, refl))),
+      append_assoc done (i ∷ []) more ∙ all,
+    )
+
+-- the end of such a loop: each member was gone over
+pub member_end : (s : List Bool) (done left : List ℕ) → done ++ left ≡ members_of s → left ≡ [] → done ≡ members_of s
+member_end s done left h e = sym (append-nil done) ∙ ap (λ l. done ++ l) (sym e) ∙ h

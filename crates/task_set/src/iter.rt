@@ -74,6 +74,11 @@ impl<'a> IntoIterator for &'a TaskSet {
 }
 
 impl Debug for TaskSet {
+    ghost use Rattle.std.specs.Prelude.{Some};
+    ghost use Rattle.task_set.specs.Text.{set_text};
+
+    ghost debug_output = { λ set. Some (set_text set) };
+
     fn fmt<W: fmt::Write>(&self, f: &mut Formatter<W>) -> fmt::Result {
         Display::fmt(self, f)
     }

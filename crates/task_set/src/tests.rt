@@ -4,9 +4,18 @@ use std::test::Fail;
 #[test]
 fn prints_the_members(rt: HostRuntime) -> Result<(), Fail> {
     let set = TaskSet::from_members(&[17, 3, 0, 1023, 3]);
-    assert_eq!(rt; format!(in rt.alloc(); "{set}")?.as_str(), "{0, 3, 17, 1023}");
-    assert_eq!(rt; format!(in rt.alloc(); "{set:?}")?.as_str(), "{0, 3, 17, 1023}");
-    assert_eq!(rt; format!(in rt.alloc(); "{}", TaskSet::empty())?.as_str(), "{}");
+    assert_eq!(rt;
+        format!(in rt.alloc(); "{set}")?.as_str(),
+        "{0, 3, 17, 1023}"
+    );
+    assert_eq!(rt;
+        format!(in rt.alloc(); "{set:?}")?.as_str(),
+        "{0, 3, 17, 1023}"
+    );
+    assert_eq!(rt;
+        format!(in rt.alloc(); "{}", TaskSet::empty())?.as_str(),
+        "{}"
+    );
     Ok(())
 }
 

@@ -1,0 +1,187 @@
+//! The same operations and the same sets in plain Rust: sixteen words, a loop for each operation.
+
+use std::time::Instant;
+
+const TURNS: u32 = 10_000_000;
+
+#[derive(Clone, Copy)]
+struct TaskSet {
+    words: [u64; 16],
+}
+
+impl TaskSet {
+    fn empty() -> TaskSet {
+        TaskSet { words: [0; 16] }
+    }
+
+    #[inline]
+    fn with(&self, i: u32) -> TaskSet {
+        let mut words = self.words;
+        words[(i / 64) as usize] |= 1 << (i % 64);
+        TaskSet { words }
+    }
+
+    #[inline]
+    fn union(&self, other: &TaskSet) -> TaskSet {
+        let mut words = [0; 16];
+        for k in 0..16 {
+            words[k] = self.words[k] | other.words[k];
+        }
+        TaskSet { words }
+    }
+
+    #[inline]
+    fn minus(&self, other: &TaskSet) -> TaskSet {
+        let mut words = [0; 16];
+        for k in 0..16 {
+            words[k] = self.words[k] & !other.words[k];
+        }
+        TaskSet { words }
+    }
+
+    #[inline]
+    fn is_subset(&self, other: &TaskSet) -> bool {
+        let mut rest = 0;
+        for k in 0..16 {
+            rest |= self.words[k] & !other.words[k];
+        }
+        rest == 0
+    }
+
+    #[inline]
+    fn count(&self) -> u32 {
+        let mut members = 0;
+        for k in 0..16 {
+            members += self.words[k].count_ones();
+        }
+        members
+    }
+
+    #[inline]
+    fn least(&self) -> Option<u32> {
+        for k in 0..16 {
+            if self.words[k] != 0 {
+                return Some(64 * k as u32 + self.words[k].trailing_zeros());
+            }
+        }
+        None
+    }
+}
+
+#[derive(Clone, Copy)]
+struct Sets {
+    half: [TaskSet; 64],
+    upper: [TaskSet; 64],
+    late: [TaskSet; 64],
+}
+
+fn next(state: u64) -> u64 {
+    state
+        .wrapping_mul(6_364_136_223_846_793_005)
+        .wrapping_add(1_442_695_040_888_963_407)
+}
+
+fn half_from(first: u32, tasks: u32, seed: u64) -> TaskSet {
+    let mut set = TaskSet::empty();
+    let mut state = seed;
+    for i in first..tasks {
+        state = next(state);
+        if state >> 63 == 1 {
+            set = set.with(i);
+        }
+    }
+    set
+}
+
+fn sets_of(tasks: u32) -> Sets {
+    let blank = [TaskSet::empty(); 64];
+    let mut sets = Sets { half: blank, upper: blank, late: blank };
+    for k in 0..64u32 {
+        let seed = u64::from(k) + 1;
+        let half = half_from(0, tasks, seed);
+        let more = half_from(0, tasks, seed + 100);
+        sets.half[k as usize] = half;
+        sets.upper[k as usize] = if k % 2 == 0 { half.union(&more) } else { more };
+        sets.late[k as usize] = half_from(k * tasks / 64, tasks, seed + 200);
+    }
+    sets
+}
+
+fn sum_of(sets: &[TaskSet; 64]) -> u64 {
+    let mut sum = 0u64;
+    for set in sets {
+        for i in 0..1024 {
+            if set.words[(i / 64) as usize] >> (i % 64) & 1 == 1 {
+                sum = next(sum).wrapping_add(i);
+            }
+        }
+    }
+    sum
+}
+
+#[inline(never)]
+fn union(sets: &Sets) -> u64 {
+    let mut out = sets.half;
+    for j in 0..TURNS {
+        out[(j % 64) as usize] = sets.half[(j % 64) as usize].union(&sets.upper[(j / 64 % 64) as usize]);
+    }
+    sum_of(&out)
+}
+
+#[inline(never)]
+fn minus(sets: &Sets) -> u64 {
+    let mut out = sets.half;
+    for j in 0..TURNS {
+        out[(j % 64) as usize] = sets.half[(j % 64) as usize].minus(&sets.upper[(j / 64 % 64) as usize]);
+    }
+    sum_of(&out)
+}
+
+#[inline(never)]
+fn is_subset(sets: &Sets) -> u64 {
+    let mut sum = 0u64;
+    for j in 0..TURNS {
+        if sets.half[(j % 64) as usize].is_subset(&sets.upper[(j % 64) as usize]) {
+            sum = sum.wrapping_add(u64::from(j));
+        }
+    }
+    sum
+}
+
+#[inline(never)]
+fn count(sets: &Sets) -> u64 {
+    let mut sum = 0u64;
+    for j in 0..TURNS {
+        sum = sum.wrapping_add(u64::from(sets.half[(j % 64) as usize].count()));
+    }
+    sum
+}
+
+#[inline(never)]
+fn least(sets: &Sets) -> u64 {
+    let mut sum = 0u64;
+    for j in 0..TURNS {
+        if let Some(i) = sets.late[(j % 64) as usize].least() {
+            sum = sum.wrapping_add(u64::from(i));
+        }
+    }
+    sum
+}
+
+fn main() {
+    let operations: [(&str, fn(&Sets) -> u64); 5] = [
+        ("union", union),
+        ("minus", minus),
+        ("is_subset", is_subset),
+        ("count", count),
+        ("least", least),
+    ];
+    for tasks in [60, 300, 1000] {
+        let sets = sets_of(tasks);
+        for (name, run) in operations {
+            let start = Instant::now();
+            let sum = run(&sets);
+            println!("{name} {tasks} {} {sum}", start.elapsed().as_nanos());
+        }
+    }
+}

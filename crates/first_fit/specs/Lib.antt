@@ -1,0 +1,4 @@
+pub mod Filling
+pub mod Weights
+pub mod Picked
+pub mod Answers
