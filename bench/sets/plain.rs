@@ -3,6 +3,7 @@
 use std::time::Instant;
 
 const TURNS: u32 = 10_000_000;
+const WALKS: u32 = 200_000;
 
 #[derive(Clone, Copy)]
 struct TaskSet {
@@ -168,20 +169,38 @@ fn least(sets: &Sets) -> u64 {
     sum
 }
 
+#[inline(never)]
+fn iter(sets: &Sets) -> u64 {
+    let mut sum = 0u64;
+    for j in 0..WALKS {
+        let set = &sets.half[(j % 64) as usize];
+        for k in 0..16 {
+            let mut word = set.words[k];
+            while word != 0 {
+                let i = 64 * k as u32 + word.trailing_zeros();
+                word &= word - 1;
+                sum = sum.wrapping_mul(3).wrapping_add(u64::from(i));
+            }
+        }
+    }
+    sum
+}
+
 fn main() {
-    let operations: [(&str, fn(&Sets) -> u64); 5] = [
-        ("union", union),
-        ("minus", minus),
-        ("is_subset", is_subset),
-        ("count", count),
-        ("least", least),
+    let operations: [(&str, u32, fn(&Sets) -> u64); 6] = [
+        ("union", TURNS, union),
+        ("minus", TURNS, minus),
+        ("is_subset", TURNS, is_subset),
+        ("count", TURNS, count),
+        ("least", TURNS, least),
+        ("iter", WALKS, iter),
     ];
     for tasks in [60, 300, 1000] {
         let sets = sets_of(tasks);
-        for (name, run) in operations {
+        for (name, turns, run) in operations {
             let start = Instant::now();
             let sum = run(&sets);
-            println!("{name} {tasks} {} {sum}", start.elapsed().as_nanos());
+            println!("{name} {tasks} {turns} {} {sum}", start.elapsed().as_nanos());
         }
     }
 }

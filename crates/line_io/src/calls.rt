@@ -1,5 +1,5 @@
 //! Calls that are counted, and that fail where this was asked for.
-ghost use Rattle.std.specs.Prelude.{◌≡◌, ◌≤◌, ℕ, IsNone, IfSome, OnOk, OnErr};
+ghost use Rattle.std.specs.Prelude.{◌≡◌, ◌≤◌, IsNone, IfSome, OnOk, OnErr};
 ghost use Rattle.line_io.specs.Outside.{up};
 ghost use Rattle.line_io.specs.Kept.{IsToFail, unused, counted, keep_of, next_keep, torn};
 

@@ -1,11 +1,9 @@
 //! Files kept in memory, each found by its name.
-ghost use Rattle.std.specs.Prelude.{◌≡◌, ◌≢◌, ◌∷◌, ◌++◌, ℕ, Some, None, IfSome, IfNone, List, [], take, option_map, OnOk, OnErr};
-ghost use Rattle.line_io.specs.Kept.{file_in, KeepsFront};
+ghost use Rattle.std.specs.Prelude.{◌≡◌, ◌≢◌, ℕ, Some, None, IfSome, IfNone, List, take, option_map, OnOk, OnErr};
+ghost use Rattle.line_io.specs.Kept.{file_in};
 ghost use Rattle.line_io.specs.Outside.{Grows, GrowsWhole};
 ghost use Rattle.line_io.specs.Places.{IsPlace};
-ghost use Rattle.line_io.specs.declared.outside.Stored.TheVariants.{Failed, Done};
 
-use crate::outside::Stored;
 use std::alloc::{AllocError, Global};
 use std::marker::Model;
 
@@ -52,29 +50,35 @@ pub fn bytes_of<'a>(files: &'a [MemFile], name: &[u8]) -> Option<&'a [u8]>
 }
 
 /// Writes behind the bytes of the file at a place.
-pub fn extend(files: &mut [MemFile], name: &[u8], k: usize, bytes: &[u8]) -> Stored
+pub fn extend(files: &mut [MemFile], name: &[u8], k: usize, bytes: &[u8]) -> Result<(), AllocError>
     requires { IsPlace files.old name.now k }
-    ensures done { result ≡ Done → GrowsWhole (file_in files.old name.now) bytes.now (file_in files.new name.now) }
-    ensures failed { result ≡ Failed → file_in files.new name.now ≡ file_in files.old name.now }
-    ensures grows { result ≡ Failed → Grows (file_in files.old name.now) bytes.now (file_in files.new name.now) }
+    ensures done { OnOk result (GrowsWhole (file_in files.old name.now) bytes.now (file_in files.new name.now)) }
+    ensures same { OnErr result (file_in files.new name.now ≡ file_in files.old name.now) }
+    ensures grows { Grows (file_in files.old name.now) bytes.now (file_in files.new name.now) }
     ensures others { (q : List ℕ) → q ≢ name.now → file_in files.new q ≡ file_in files.old q }
 {
     let file = &mut files[k];
-    match file.bytes.extend_from_slice(bytes) {
-        Ok(()) => Stored::Done,
-        Err(_) => Stored::Failed,
-    }
+    file.bytes.extend_from_slice(bytes)?;
+    Ok(())
 }
 
-/// Writes the first `keep` bytes behind those of the file at a place, where memory allows it.
-pub fn extend_by_front(files: &mut [MemFile], name: &[u8], k: usize, bytes: &[u8], keep: u64)
+/// Writes the first `keep` bytes behind those of the file at a place, or all where there are
+/// fewer.
+pub fn extend_by_front(
+    files: &mut [MemFile],
+    name: &[u8],
+    k: usize,
+    bytes: &[u8],
+    keep: u64,
+) -> Result<(), AllocError>
     requires { IsPlace files.old name.now k }
-    ensures front { KeepsFront (file_in files.old name.now) (take keep bytes.now) (file_in files.new name.now) }
+    ensures done { OnOk result (GrowsWhole (file_in files.old name.now) (take keep bytes.now) (file_in files.new name.now)) }
+    ensures same { OnErr result (file_in files.new name.now ≡ file_in files.old name.now) }
     ensures grows { Grows (file_in files.old name.now) bytes.now (file_in files.new name.now) }
     ensures others { (q : List ℕ) → q ≢ name.now → file_in files.new q ≡ file_in files.old q }
 {
     let keep = keep.min(bytes.len() as u64) as usize;
-    let _ = extend(files, name, k, &bytes[..keep]);
+    extend(files, name, k, &bytes[..keep])
 }
 
 /// Gives the file at a place these bytes.

@@ -1,6 +1,6 @@
 //! Files in memory, which tell what they hold, and fail at chosen calls.
 ghost use Rattle.std.specs.Prelude.{◌≡◌, ◌≢◌, ◌≤◌, ◌-◌, ℕ, Some, None, IsSome, length, min, take, List, [], option_map, OnOk, OnErr};
-ghost use Rattle.line_io.specs.Outside.{Copies, Fetches, Grows, GrowsWhole, BecomesEmpty};
+ghost use Rattle.line_io.specs.Outside.{Copies, Fetches, Grows, GrowsWhole};
 ghost use Rattle.line_io.specs.Kept.{file_in, fetched, unused, IsToFail, next_keep, torn, after_fetch, after_write, KeepsFront};
 ghost use Rattle.line_io.specs.declared.outside.Fetched.TheVariants.{Failed as FetchFailed};
 ghost use Rattle.line_io.specs.declared.outside.Stored.TheVariants.{Failed, Done};
@@ -171,13 +171,13 @@ impl Shelf for MemShelf {
             return Stored::Failed;
         };
         if let Some(keep) = keep {
-            extend_by_front(&mut self.files, name.as_bytes(), k, bytes, keep);
+            let _ = extend_by_front(&mut self.files, name.as_bytes(), k, bytes, keep);
             self.calls.fail();
             return Stored::Failed;
         }
         match extend(&mut self.files, name.as_bytes(), k, bytes) {
-            Stored::Done => Stored::Done,
-            Stored::Failed => {
+            Ok(()) => Stored::Done,
+            Err(_) => {
                 self.calls.fail();
                 Stored::Failed
             }

@@ -73,7 +73,7 @@ impl Sink for MemSink {
         ensures calls { self.new.calls ≡ after_write self.old.calls result }
     {
         if let Some(keep) = self.calls.begin() {
-            put_front(&mut self.bytes, bytes, keep);
+            let _ = put_front(&mut self.bytes, bytes, keep);
             self.calls.fail();
             return Stored::Failed;
         }
@@ -87,11 +87,13 @@ impl Sink for MemSink {
     }
 }
 
-/// Puts the first `keep` bytes, where memory allows it.
-fn put_front(shown: &mut Vec<u8>, bytes: &[u8], keep: u64)
-    ensures front { KeepsFront (Some shown.old.items) (take keep bytes.now) (Some shown.new.items) }
+/// Puts the first `keep` bytes, or all where there are fewer.
+fn put_front(shown: &mut Vec<u8>, bytes: &[u8], keep: u64) -> Result<(), AllocError>
+    ensures done { OnOk result (shown.new.items ≡ shown.old.items ++ take keep bytes.now) }
+    ensures same { OnErr result (shown.new.items ≡ shown.old.items) }
     ensures grows { Grows (Some shown.old.items) bytes.now (Some shown.new.items) }
 {
     let keep = keep.min(bytes.len() as u64) as usize;
-    let _ = shown.extend_from_slice(&bytes[..keep]);
+    shown.extend_from_slice(&bytes[..keep])?;
+    Ok(())
 }

@@ -10,52 +10,62 @@ use std::marker::Model;
 
 /// The tasks of a set that are still to come, ascending. A contract sees it as the list of these tasks.
 #[derive(Drop)]
-pub struct Tasks {
-    left: TaskSet,
-    // The words before this one have no member left.
-    first: u32,
+pub struct Tasks<'a> {
+    set: &'a TaskSet,
+    // The members that are left of the word that is gone over, whose lowest bit stands for task `base`.
+    word: u64,
+    base: u32,
+    // The word that comes next.
+    next: u32,
 }
 
-impl Model for Tasks {
-    ghost use Rattle.std.specs.Prelude.{ℕ, ◌≤◌, ◌*◌, List};
-    ghost use Rattle.task_set.specs.Truths.{In, members_of};
+impl<'a> Model for Tasks<'a> {
+    ghost use Rattle.std.specs.Prelude.{ℕ, ◌≤◌, List};
+    ghost use Rattle.task_set.specs.Words.{members_left};
 
     ghost Value = { List ℕ };
 
-    ghost view = { λ m. members_of m.left };
+    ghost view = { λ t. members_left t.word t.base t.next t.set.now };
 
-    ghost invariant = { λ m. (m.first ≤ 16) × ((i : ℕ) → In m.left i → 64 * m.first ≤ i) };
+    ghost invariant = { λ t. (t.base ≤ 960) × (t.next ≤ 16) };
 }
 
-impl Iterator for Tasks {
+impl<'a> Iterator for Tasks<'a> {
     ghost use Rattle.std.specs.Iterator.{YieldsFirst, item_count};
 
     type Item = u32;
 
-    ghost next_gives = { YieldsFirst (λ m. m) };
+    ghost next_gives = { YieldsFirst (λ t. t) };
 
-    ghost remaining = { item_count (λ m. m) };
+    ghost remaining = { item_count (λ t. t) };
 
     #[inline]
     fn next(&mut self) -> Option<u32> {
-        let i = self.left.least_from(self.first)?;
-        self.left = self.left.without(i);
-        self.first = i / 64;
+        if self.word == 0 {
+            let (k, word) = self.set.word_from(self.next)?;
+            self.word = word;
+            self.base = 64 * k;
+            self.next = k + 1;
+        }
+        let i = self.base + self.word.trailing_zeros();
+        self.word &= self.word - 1;
         Some(i)
     }
 }
 
-impl FusedIterator for Tasks {}
+impl<'a> FusedIterator for Tasks<'a> {}
 
 impl TaskSet {
     /// The members, ascending.
     #[inline]
-    pub fn iter(&self) -> Tasks
+    pub fn iter(&self) -> Tasks<'_>
         ensures { result ≡ members_of self.now }
     {
         Tasks {
-            left: *self,
-            first: 0,
+            set: self,
+            word: 0,
+            base: 0,
+            next: 0,
         }
     }
 }
@@ -63,12 +73,12 @@ impl TaskSet {
 impl<'a> IntoIterator for &'a TaskSet {
     type Item = u32;
 
-    type IntoIter = Tasks;
+    type IntoIter = Tasks<'a>;
 
     ghost into_iter_gives = { λ set it. it ≡ members_of set.now };
 
     #[inline]
-    fn into_iter(self) -> Tasks {
+    fn into_iter(self) -> Tasks<'a> {
         self.iter()
     }
 }

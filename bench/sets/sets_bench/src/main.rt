@@ -1,5 +1,5 @@
-//! Times the operations on sets of tasks. Each line names the operation and the number of tasks, and gives the
-//! nanoseconds of all turns and a sum of what came out, which does not depend on how the sets are kept.
+//! Times the operations on sets of tasks. Each line names the operation and the number of tasks, and gives the turns,
+//! the nanoseconds of all turns and a sum of what came out, which does not depend on how the sets are kept.
 #![tactic(auto)]
 
 ghost use Rattle.std.specs.Prelude.{◌≤◌};
@@ -10,6 +10,9 @@ use task_set::TaskSet;
 
 /// How often an operation is run.
 const TURNS: u32 = 10_000_000;
+
+/// How many sets are gone over, member by member.
+const WALKS: u32 = 200_000;
 
 /// The sets that the operations run over.
 #[derive(Clone, Copy)]
@@ -119,24 +122,37 @@ fn least(sets: &Sets) -> u64 {
     sum
 }
 
+fn iter(sets: &Sets) -> u64 {
+    let mut sum = 0u64;
+    for j in 0..WALKS {
+        for i in &sets.half[(j % 64) as usize] {
+            sum = sum.wrapping_mul(3).wrapping_add(u64::from(i));
+        }
+    }
+    sum
+}
+
 fn main(rt: HostRuntime) -> io::Result<()> {
     for tasks in [60, 300, 1000] {
         let sets = sets_of(tasks);
         let start = Instant::now(&rt)?;
         let sum = union(&sets);
-        println!(rt; "union {tasks} {} {sum}", start.elapsed(&rt)?.as_nanos())?;
+        println!(rt; "union {tasks} {TURNS} {} {sum}", start.elapsed(&rt)?.as_nanos())?;
         let start = Instant::now(&rt)?;
         let sum = minus(&sets);
-        println!(rt; "minus {tasks} {} {sum}", start.elapsed(&rt)?.as_nanos())?;
+        println!(rt; "minus {tasks} {TURNS} {} {sum}", start.elapsed(&rt)?.as_nanos())?;
         let start = Instant::now(&rt)?;
         let sum = is_subset(&sets);
-        println!(rt; "is_subset {tasks} {} {sum}", start.elapsed(&rt)?.as_nanos())?;
+        println!(rt; "is_subset {tasks} {TURNS} {} {sum}", start.elapsed(&rt)?.as_nanos())?;
         let start = Instant::now(&rt)?;
         let sum = count(&sets);
-        println!(rt; "count {tasks} {} {sum}", start.elapsed(&rt)?.as_nanos())?;
+        println!(rt; "count {tasks} {TURNS} {} {sum}", start.elapsed(&rt)?.as_nanos())?;
         let start = Instant::now(&rt)?;
         let sum = least(&sets);
-        println!(rt; "least {tasks} {} {sum}", start.elapsed(&rt)?.as_nanos())?;
+        println!(rt; "least {tasks} {TURNS} {} {sum}", start.elapsed(&rt)?.as_nanos())?;
+        let start = Instant::now(&rt)?;
+        let sum = iter(&sets);
+        println!(rt; "iter {tasks} {WALKS} {} {sum}", start.elapsed(&rt)?.as_nanos())?;
     }
     Ok(())
 }
