@@ -5,7 +5,7 @@ use Rattle.line_io.specs.declared.text.Num.{Num}
 use Rattle.line_io.specs.declared.text.Num.TheVariants.{Value, NotANumber as NoNumber, Above}
 use Rattle.in2_reader.specs.Pairs.{pair_in}
 use Rattle.in2_reader.specs.Contents.{contents_from, lines_in}
-use Rattle.line_instance.specs.declared.prec.Prec.{Prec}
+use Rattle.line_instance.specs.declared.arcs.Prec.{Prec}
 use Rattle.in2_reader.specs.declared.pair.Pair.{Pair}
 use Rattle.in2_reader.specs.declared.pair.Pair.TheVariants.{Arc, BadArc as NoTasks, End, Other}
 use Rattle.in2_reader.specs.declared.fault.In2Fault.{In2Fault}
