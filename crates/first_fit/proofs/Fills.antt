@@ -3,7 +3,7 @@ use Rattle.std.proofs.Common.{◌≡◌, ◌≢◌, ℕ, zero, suc, ◌+◌, ◌
 use Rattle.std.proofs.lemmas.Bool.{false≢true, cases_eq, cases_lt, cases_Bool}
 use Rattle.std.proofs.lemmas.Bool.Decides.{nat_tests}
 use Rattle.std.proofs.lemmas.List.{get_or-set_same, get_or-set_other, length-set, length-replicate}
-use Rattle.task_set.specs.Truths.{In}
+use Rattle.task_set.specs.Truths.{In, union}
 use Rattle.task_set.proofs.Members.{In-set_same, In-set_kept, In-set_cases, In-empty, members, members-set, members-le}
 use Rattle.line_instance.specs.Line.{Line, IsLine, IsRanked, Before, Apart, tasks, time, at_rank}
 use Rattle.line_rules.specs.Balance.{IsSide, seat}
@@ -26,6 +26,8 @@ pub record IsFilling (kind : LineKind) (line : Line) (c : ℕ) (f : Filled) (pla
   pub placed : List Placement
   pub ranked : AreRanked kind line c placed
   pub opened : (f.station ≡ station_of placed) ⊎ ((f.station ≡ suc (station_of placed)) × IsClosed kind line c placed (station_of placed))
+  -- a new station is opened only where something isn't placed
+  pub waits : f.station ≡ suc (station_of placed) → ((i : ℕ) → i < tasks line → In (union f.front f.back) i) → ⊥
   pub front_truths : length f.front ≡ 1024
   pub back_truths : length f.back ≡ 1024
   pub here_truths : length f.here ≡ 1024
@@ -136,11 +138,11 @@ module _ (ps : List Placement) (p : Placement) (s : List Bool) (long : length s 
   back_joins_all Front e to i (q, inl u, t, d) = absurd (other (sym e ∙ ap (λ x. x.place.side) (sym u) ∙ d))
   back_joins_all Front e to i (q, inr k, t, d) = to i (q, k, t, d)
 
-length-with_front : (side : Side) (s : List Bool) (t : ℕ) → length (with_front side s t) ≡ length s
+pub length-with_front : (side : Side) (s : List Bool) (t : ℕ) → length (with_front side s t) ≡ length s
 length-with_front Front s t = length-set s t true
 length-with_front Back s t = refl
 
-length-with_back : (side : Side) (s : List Bool) (t : ℕ) → length (with_back side s t) ≡ length s
+pub length-with_back : (side : Side) (s : List Bool) (t : ℕ) → length (with_back side s t) ≡ length s
 length-with_back Front s t = refl
 length-with_back Back s t = length-set s t true
 
@@ -173,6 +175,7 @@ module _ (kind : LineKind) (line : Line) (c : ℕ) (f : Filled) (place : List Se
     placed = now ∷ h.placed;
     ranked = (next_of kind line c f place is h a first, h.ranked);
     opened = inl refl;
+    waits = λ e all. absurd (omega (arith, e));
     front_truths = length-with_front a.side f.front a.task ∙ h.front_truths;
     back_truths = length-with_back a.side f.back a.task ∙ h.back_truths;
     here_truths = length-set f.here a.task true ∙ h.here_truths;

@@ -1,2 +1,3 @@
 pub mod Fills
 pub mod Joins
+pub mod Steps

@@ -26,6 +26,7 @@ at_start kind line c place each = record {
   placed = [];
   ranked = tt;
   opened = inl refl;
+  waits = λ e all. absurd (omega (arith, e));
   front_truths = length-replicate 1024 false;
   back_truths = length-replicate 1024 false;
   here_truths = length-replicate 1024 false;
@@ -127,7 +128,7 @@ module _ (kind : LineKind) (line : Line) (c : ℕ) (f : Filled) (place : List Se
     | inr n ↦ members_find f.here n
   ]
 
-  module _ (some : (i : ℕ) × In f.here i) where
+  module _ (some : (i : ℕ) × In f.here i) (not_all : ((i : ℕ) → i < tasks line → In (union f.front f.back) i) → ⊥) where
     current : f.station ≡ station_of h.placed
     current = elim h.opened [
       | inl e ↦ e
@@ -139,6 +140,7 @@ module _ (kind : LineKind) (line : Line) (c : ℕ) (f : Filled) (place : List Se
       placed = h.placed;
       ranked = h.ranked;
       opened = inr (omega (arith, current), (let P : ℕ → Type 0 = IsClosed kind line c h.placed in subst P current (closed_of kind line c f place is h none)));
+      waits = λ e. not_all;
       front_truths = h.front_truths;
       back_truths = h.back_truths;
       here_truths = length-replicate 1024 false;
@@ -157,6 +159,56 @@ module _ (kind : LineKind) (line : Line) (c : ℕ) (f : Filled) (place : List Se
     flag_falls = ap (λ b. cond {A = ℕ} b 0 1) (not_equal (members f.here) 0 (λ e. absurd (omega (arith, e, members_some f.here some.0 some.1))))
 
 -- once all is placed, the placements are the ranked balance
-pub finished : (kind : LineKind) (line : Line) (c : ℕ) (f : Filled) (place : List Seatplace) (b : Assignment) → IsLine line → IsFilling kind line c f place
-    → ((i : ℕ) → i < tasks line → In (union f.front f.back) i) → b.stations ≡ f.station → b.place ≡ place → (f.station ≡ station_of _) → IsRankedBalance kind line c b
-finished kind line c f place b is h all = ?
+module _ (kind : LineKind) (line : Line) (c : ℕ) (f : Filled) (place : List Seatplace) (h : IsFilling kind line c f place)
+    (all : (i : ℕ) → i < tasks line → In (union f.front f.back) i) where
+  has_place : (i : ℕ) → i < tasks line → (p : Placement) × Has h.placed p × (p.task ≡ i)
+  has_place i l = elim (In-union_cases f.front f.back i (all i l)) [
+    | inl m ↦ (let a = h.front i m in (a.0, a.1, a.2))
+    | inr m ↦ (let a = h.back i m in (a.0, a.1, a.2))
+  ]
+
+  pub finished : IsRankedBalance kind line c (record { stations = f.station; place = place })
+  finished = record {
+    placed = h.placed;
+    ranked = h.ranked;
+    all = has_place;
+    each = h.each;
+    seats = h.seats;
+    stations = elim h.opened [
+      | inl e ↦ e
+      | inr q ↦ absurd (h.waits q.0 all)
+    ];
+  }
+
+-- one task more is placed
+pub members_join : (side : Side) (front back : List Bool) (t : ℕ) → length front ≡ 1024 → length back ≡ 1024 → t < 1024 → get_or front t false ≡ false → get_or back t false ≡ false
+    → members (with_front side front t) + members (with_back side back t) ≡ suc (members front + members back)
+members_join Front front back t lf lb l nf nb = omega (arith, members-set front t (omega (arith, lf)) nf)
+members_join Back front back t lf lb l nf nb = omega (arith, members-set back t (omega (arith, lb)) nb)
+
+pub flag_most : (b : Bool) → cond {A = ℕ} b 0 1 ≤ 1
+flag_most true = omega arith
+flag_most false = omega arith
+
+pub not_in : (s : List Bool) (i : ℕ) → (In s i → ⊥) → get_or s i false ≡ false
+not_in s i n = elim (cases_Bool (get_or s i false)) [
+  | inl y ↦ absurd (n y)
+  | inr e ↦ e
+]
+
+-- what is left to do: two for each task that isn't placed, and one for a station that isn't empty
+abbrev pub work : Filled → ℕ
+work f = 2 * (2048 - (members f.front + members f.back)) + cond (nat_eq (members f.here) 0) 0 1
+
+pub work_joins : (kind : LineKind) (line : Line) (c : ℕ) (f : Filled) (place : List Seatplace) (a : Pick) (t : ℕ) → IsLine line → IsFilling kind line c f place → MayJoin kind line f a → work (joined f a t) < work f
+work_joins kind line c f place a t is h m =
+    let small : a.task < 1024 = omega (arith, m.task, is.small) in
+    let more = members_join a.side f.front f.back a.task h.front_truths h.back_truths small (not_in f.front a.task m.front) (not_in f.back a.task m.back) in
+    let most : members (with_front a.side f.front a.task) + members (with_back a.side f.back a.task) ≤ 2048 =
+        omega (arith, members-le (with_front a.side f.front a.task), members-le (with_back a.side f.back a.task), length-with_front a.side f.front a.task, length-with_back a.side f.back a.task, h.front_truths, h.back_truths) in
+    omega (arith, more, most, flag_most (nat_eq (members (set f.here a.task true)) 0))
+
+pub work_goes_on : (f : Filled) (c : ℕ) → cond {A = ℕ} (nat_eq (members f.here) 0) 0 1 ≡ 1 → work (next_station f c) < work f
+work_goes_on f c flag =
+    let e : cond {A = ℕ} (nat_eq (members (replicate 1024 false)) 0) 0 1 ≡ 0 = ap (λ n. cond {A = ℕ} (nat_eq n 0) 0 1) (members_none 1024) in
+    omega (arith, flag, e)

@@ -71,6 +71,7 @@ fn filled(
 pub fn ranked_balance(alloc: Global, inst: &Instance, kind: LineKind, cycle: u64) -> Ranked
     ensures { IsRanked kind inst.now cycle result }
 {
+    let _tasks = inst.tasks();
     if let Some(task) = first_too_long(inst, cycle) {
         return Ranked::TooLong(task);
     }
