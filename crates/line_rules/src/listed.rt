@@ -1,7 +1,7 @@
 ghost use Rattle.std.specs.Prelude.{◌≡◌, ◌==◌, ◌<◌, [], ◌∷◌, ◌++◌, length, slice_get, Some, OnOk, OnErr, IfOk};
 
 use crate::types::Seatplace;
-use std::alloc::{AllocError, Global};
+use std::alloc::AllocError;
 use std::marker::Model;
 
 /// A list that contracts see as one: made from a vector without taking memory.
@@ -53,6 +53,14 @@ impl<T> Listed<T> {
         &self.items[k]
     }
 
+    /// The items, in order.
+    #[inline]
+    pub fn as_slice(&self) -> &[T]
+        ensures { result.now ≡ self.now }
+    {
+        self.items.as_slice()
+    }
+
     /// Puts an item at the end. For want of memory the list stays as it was, and the item is given up.
     pub fn push(&mut self, item: T) -> Result<(), AllocError>
         where T: Drop
@@ -65,11 +73,12 @@ impl<T> Listed<T> {
 }
 
 impl<T: Copy> Listed<T> {
-    /// An equal list.
-    pub fn copy(&self, alloc: Global) -> Result<Listed<T>, AllocError>
+    /// An equal list; an error where memory is wanting.
+    pub fn copy(&self) -> Result<Listed<T>, AllocError>
         ensures { IfOk result (λ v. v ≡ self.now) }
     {
-        let items = Vec::from_slice(alloc, &self.items)?;
-        Ok(Listed { items })
+        Ok(Listed {
+            items: Vec::from_slice(*self.items.allocator(), &self.items)?,
+        })
     }
 }

@@ -1,6 +1,6 @@
 //! The members of a set, one by one, and their text.
 
-ghost use Rattle.std.specs.Prelude.{◌≡◌, ℕ, ◌*◌, ◌≤◌};
+ghost use Rattle.std.specs.Prelude.{◌≡◌};
 ghost use Rattle.task_set.specs.Truths.{members_of};
 
 use crate::sets::TaskSet;
@@ -8,7 +8,9 @@ use std::fmt::{self, Debug, Display, Formatter};
 use std::iter::FusedIterator;
 use std::marker::Model;
 
-/// The tasks of a set that are still to come, ascending. A contract sees it as the list of these tasks.
+/// The members of a set that are still to come, ascending: what [`TaskSet::iter`] gives.
+///
+/// A contract sees it as the list of these members.
 #[derive(Drop)]
 pub struct Tasks<'a> {
     set: &'a TaskSet,

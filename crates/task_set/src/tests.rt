@@ -1,4 +1,5 @@
 use crate::TaskSet;
+use std::collections::HashSet;
 use std::test::Fail;
 
 #[test]
@@ -43,6 +44,7 @@ fn finds_members(rt: HostRuntime) -> Result<(), Fail> {
     assert_eq!(rt; set.greatest_below(5), None);
     assert_eq!(rt; TaskSet::empty().least(), None);
     assert_eq!(rt; set.count(), 4);
+    assert_eq!(rt; set.capacity(), 1024);
     Ok(())
 }
 
@@ -70,5 +72,14 @@ fn joins_sets(rt: HostRuntime) -> Result<(), Fail> {
     assert!(rt; a.meet(&b).is_subset(&a));
     assert!(rt; !a.is_subset(&b));
     assert!(rt; a.minus(&a).is_empty());
+    Ok(())
+}
+
+#[test]
+fn hashes_equal_sets_alike(rt: HostRuntime) -> Result<(), Fail> {
+    let mut seen = HashSet::new(rt.alloc());
+    seen.insert(TaskSet::full_to(300))?;
+    assert!(rt; seen.contains(&TaskSet::full_to(299).with(299)));
+    assert!(rt; !seen.contains(&TaskSet::full_to(299)));
     Ok(())
 }

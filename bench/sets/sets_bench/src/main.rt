@@ -81,7 +81,9 @@ fn sum_of(sets: &[TaskSet; 64]) -> u64 {
 fn union(sets: &Sets) -> u64 {
     let mut out = sets.half;
     for j in 0..TURNS {
-        out[(j % 64) as usize] = sets.half[(j % 64) as usize].union(&sets.upper[(j / 64 % 64) as usize]);
+        out[(j % 64) as usize] = sets.half[(j % 64) as usize].union(
+            &sets.upper[(j / 64 % 64) as usize],
+        );
     }
     sum_of(&out)
 }
@@ -89,7 +91,9 @@ fn union(sets: &Sets) -> u64 {
 fn minus(sets: &Sets) -> u64 {
     let mut out = sets.half;
     for j in 0..TURNS {
-        out[(j % 64) as usize] = sets.half[(j % 64) as usize].minus(&sets.upper[(j / 64 % 64) as usize]);
+        out[(j % 64) as usize] = sets.half[(j % 64) as usize].minus(
+            &sets.upper[(j / 64 % 64) as usize],
+        );
     }
     sum_of(&out)
 }
@@ -137,22 +141,40 @@ fn main(rt: HostRuntime) -> io::Result<()> {
         let sets = sets_of(tasks);
         let start = Instant::now(&rt)?;
         let sum = union(&sets);
-        println!(rt; "union {tasks} {TURNS} {} {sum}", start.elapsed(&rt)?.as_nanos())?;
+        println!(rt;
+            "union {tasks} {TURNS} {} {sum}",
+            start.elapsed(&rt)?.as_nanos()
+        )?;
         let start = Instant::now(&rt)?;
         let sum = minus(&sets);
-        println!(rt; "minus {tasks} {TURNS} {} {sum}", start.elapsed(&rt)?.as_nanos())?;
+        println!(rt;
+            "minus {tasks} {TURNS} {} {sum}",
+            start.elapsed(&rt)?.as_nanos()
+        )?;
         let start = Instant::now(&rt)?;
         let sum = is_subset(&sets);
-        println!(rt; "is_subset {tasks} {TURNS} {} {sum}", start.elapsed(&rt)?.as_nanos())?;
+        println!(rt;
+            "is_subset {tasks} {TURNS} {} {sum}",
+            start.elapsed(&rt)?.as_nanos()
+        )?;
         let start = Instant::now(&rt)?;
         let sum = count(&sets);
-        println!(rt; "count {tasks} {TURNS} {} {sum}", start.elapsed(&rt)?.as_nanos())?;
+        println!(rt;
+            "count {tasks} {TURNS} {} {sum}",
+            start.elapsed(&rt)?.as_nanos()
+        )?;
         let start = Instant::now(&rt)?;
         let sum = least(&sets);
-        println!(rt; "least {tasks} {TURNS} {} {sum}", start.elapsed(&rt)?.as_nanos())?;
+        println!(rt;
+            "least {tasks} {TURNS} {} {sum}",
+            start.elapsed(&rt)?.as_nanos()
+        )?;
         let start = Instant::now(&rt)?;
         let sum = iter(&sets);
-        println!(rt; "iter {tasks} {WALKS} {} {sum}", start.elapsed(&rt)?.as_nanos())?;
+        println!(rt;
+            "iter {tasks} {WALKS} {} {sum}",
+            start.elapsed(&rt)?.as_nanos()
+        )?;
     }
     Ok(())
 }
