@@ -1,2 +1,5 @@
 pub mod Words
 pub mod Report
+pub mod Codes
+pub mod Answers
+pub mod Run

@@ -1,7 +1,35 @@
 //! Balances of assembly lines, each with its bound.
+//!
+//! `main` makes the files and the standard output, and hands them with the words to `run`, whose contract says what is printed.
 #![tactic(auto)]
 
 mod report;
+mod status;
+#[cfg(test)]
+mod tests;
+mod top;
 mod words;
 
-fn main(rt: HostRuntime) {}
+use line_io::{DiskShelf, OutSink};
+use std::env;
+use std::io;
+use std::process::ExitCode;
+use top::run;
+
+/// The words after the program's name.
+fn words_of(rt: &HostRuntime) -> io::Result<Vec<String>> {
+    let words = env::args(rt)?.skip(1).collect(rt.alloc())?;
+    Ok(words)
+}
+
+fn main(rt: HostRuntime) -> ExitCode {
+    // Words that aren't text are answered as no words.
+    let words = match words_of(&rt) {
+        Ok(words) => words,
+        Err(_) => Vec::new(rt.alloc()),
+    };
+    let mut shelf = DiskShelf::new(&rt);
+    let mut out = OutSink::new(&rt);
+    let status = run(rt.alloc(), &words, &mut shelf, &mut out);
+    ExitCode::from(status.code())
+}

@@ -6,6 +6,12 @@ use std::alloc::{AllocError, Global};
 /// The greatest cycle time.
 const MAX_CYCLE: u64 = 1_000_000_000_000_000_000;
 
+fn is_command(word: &str) -> bool
+    ensures { IsTrue result ↔ (word.now ≡ codes "balance") }
+{
+    word == "balance"
+}
+
 fn is_name(name: &str) -> bool
     ensures { IsTrue result ↔ IsName name.now }
 {
@@ -58,7 +64,7 @@ pub fn job_of(alloc: Global, words: &[String]) -> Result<Option<Job<'_>>, AllocE
     let [command, file, setting] = words else {
         return Ok(None);
     };
-    if command.as_str() != "balance" || !is_name(file.as_str()) {
+    if !is_command(command.as_str()) || !is_name(file.as_str()) {
         return Ok(None);
     }
     match cycle_of(alloc, setting.as_str())? {
