@@ -1,5 +1,5 @@
 -- Reading and the grammar.
-use Rattle.std.proofs.Common.{◌≡◌, ℕ, zero, suc, ◌≤◌, Bool, true, false, cond, nat_eq, List, [], ◌∷◌, ◌++◌, length, map, refl, sym, ◌∙◌, ap, arith, Ok, Err, Result, ◌⊎◌, inl, inr, append_assoc}
+use Rattle.std.proofs.Common.{◌≡◌, ℕ, zero, suc, ◌≤◌, Bool, true, false, cond, nat_eq, List, [], ◌∷◌, ◌++◌, length, map, refl, sym, ◌∙◌, ap, arith, Ok, Err, Result, ◌⊎◌, inl, inr}
 use Rattle.std.proofs.lemmas.Bool.{false≢true}
 use Rattle.std.proofs.lemmas.Bool.Decides.{nat_tests}
 use Rattle.line_io.specs.Lines.{number_in}
@@ -10,14 +10,19 @@ use Rattle.in2_reader.specs.Pairs.{pair_in}
 use Rattle.in2_reader.specs.declared.pair.Pair.{Pair}
 use Rattle.in2_reader.specs.declared.pair.Pair.TheVariants.{Arc, BadArc as NoTasks, End, Other}
 use Rattle.in2_reader.specs.declared.fault.In2Fault.{In2Fault}
-use Rattle.in2_reader.specs.declared.fault.In2Kind.TheVariants.{NotANumber, Range, MissingTimes, MissingEnd, BadArc, TooManyArcs}
-use Rattle.in2_reader.specs.Reading.{Lines, In2, times_in, pairs_in, timed, paired, with_time, with_arc, with_times, then_pairs, counted, lines_said}
-use Rattle.in2_reader.specs.Grammar.{Spells, IsFirstFault}
+use Rattle.in2_reader.specs.declared.fault.In2Kind.TheVariants.{Range, MissingEnd}
+use Rattle.in2_reader.specs.Contents.{Lines}
+use Rattle.in2_reader.specs.Reading.{times_in, pairs_in, timed, paired, with_time, with_arc, with_times, then_pairs, counted, lines_said}
+use Rattle.in2_reader.specs.Grammar.{In2, Spells}
 
-abbrev time_at : ℕ × List ℕ → Num
+-- what a line is where a time is wanted, and where a pair is
+abbrev pub time_at : ℕ × List ℕ → Num
 time_at l = number_in 200000000000000 l.1
 
-times_read : (end : ℕ) (tl : Lines) (ts : List ℕ) (rest : Lines) → map time_at tl ≡ map Value ts → times_in end (length ts) (tl ++ rest) ≡ Ok (ts, rest)
+abbrev pub pair_at : ℕ → ℕ × List ℕ → Pair
+pair_at tasks l = pair_in tasks l.1
+
+pub times_read : (end : ℕ) (tl : Lines) (ts : List ℕ) (rest : Lines) → map time_at tl ≡ map Value ts → times_in end (length ts) (tl ++ rest) ≡ Ok (ts, rest)
 times_read end [] [] rest e = refl
 times_read end [] (t ∷ ts) rest e = (cc)
 times_read end (l ∷ tl) [] rest e = (cc)
@@ -64,7 +69,7 @@ paired_ok k true (Arc a) r x e = (cc)
 paired_ok k false (Arc a) (Err f) x e = (cc)
 paired_ok k false (Arc a) (Ok y) x e = inr (a, y, refl, refl, refl, (let i : x ≡ (a ∷ y.0, y.1) = cc in i))
 
-times_spelled : (end n : ℕ) (ls : Lines) (x : List ℕ × Lines) → times_in end n ls ≡ Ok x → (tl : Lines) × (ls ≡ tl ++ x.1) × (map time_at tl ≡ map Value x.0) × (length x.0 ≡ n)
+pub times_spelled : (end n : ℕ) (ls : Lines) (x : List ℕ × Lines) → times_in end n ls ≡ Ok x → (tl : Lines) × (ls ≡ tl ++ x.1) × (map time_at tl ≡ map Value x.0) × (length x.0 ≡ n)
 times_spelled end zero ls x e =
     let i : x ≡ ([], ls) = cc in
     ([], ap (λ p. p.1) (sym i), ap (λ p. map Value p.0) (sym i), ap (λ p. length p.0) i)
@@ -143,120 +148,3 @@ read_is_spelled end (l ∷ ls) x e =
       ends = ap (λ k. pair_in k p.1.1) n ∙ p.6;
       last = ap (λ y. y.last) o.7 ∙ p.7;
     }
-
--- the same of the times, and of the pairs
-abbrev FixedTimes : ℕ → ℕ → Lines → In2Fault → Type 0
-FixedTimes end n ls f = ((b : Lines) × (l : ℕ × List ℕ) × (a : Lines) × (ls ≡ b ++ l ∷ a) × (f.line ≡ l.0) × ((end : ℕ) (more : Lines) → times_in end n (b ++ l ∷ more) ≡ Err f)) ⊎ (f.line ≡ end)
-
-timed_err : (k : ℕ) (v : Num) (r : Result (List ℕ × Lines) In2Fault) (f : In2Fault) → timed k v r ≡ Err f
-    → ((f.line ≡ k) × ((s : Result (List ℕ × Lines) In2Fault) → timed k v s ≡ Err f)) ⊎ ((t : ℕ) × (v ≡ Value t) × (r ≡ Err f))
-timed_err k NoNumber r f e = inl (ap (λ x. x.line) (let i : f ≡ record { line = k; kind = NotANumber } = cc in i), λ s. e)
-timed_err k Above r f e = inl (ap (λ x. x.line) (let i : f ≡ record { line = k; kind = Range } = cc in i), λ s. e)
-timed_err k (Value t) (Err g) f e = inr (t, refl, e)
-timed_err k (Value t) (Ok y) f e = (cc)
-
-times_fixed : (end n : ℕ) (ls : Lines) (f : In2Fault) → times_in end n ls ≡ Err f → FixedTimes end n ls f
-times_fixed end zero ls f e = (cc)
-times_fixed end (suc n) [] f e = inr (ap (λ x. x.line) (let i : f ≡ record { line = end; kind = MissingTimes } = cc in i))
-times_fixed end (suc n) (l ∷ ls) f e = elim (timed_err l.0 (time_at l) (times_in end n ls) f e) [
-  | inl o ↦ inl ([], l, ls, refl, o.0, λ end more. o.1 (times_in end n more))
-  | inr o ↦ elim (times_fixed end n ls f o.2) [
-    | inl i ↦ inl (l ∷ i.0, i.1, i.2, ap (λ r. l ∷ r) i.3, i.4, λ end more. ap (λ v. timed l.0 v (times_in end n (i.0 ++ i.1 ∷ more))) o.1 ∙ ap (with_time o.0) (i.5 end more))
-    | inr i ↦ inr i
-  ]
-]
-
-abbrev FixedPairs : ℕ → ℕ → ℕ → Lines → In2Fault → Type 0
-FixedPairs end tasks room ls f = ((b : Lines) × (l : ℕ × List ℕ) × (a : Lines) × (ls ≡ b ++ l ∷ a) × (f.line ≡ l.0) × ((end : ℕ) (more : Lines) → pairs_in end tasks room (b ++ l ∷ more) ≡ Err f)) ⊎ (f.line ≡ end)
-
-paired_err : (k : ℕ) (full : Bool) (p : Pair) (r : Result (List Prec × ℕ) In2Fault) (f : In2Fault) → paired k full p r ≡ Err f
-    → ((f.line ≡ k) × ((s : Result (List Prec × ℕ) In2Fault) → paired k full p s ≡ Err f)) ⊎ ((a : Prec) × (p ≡ Arc a) × (full ≡ false) × (r ≡ Err f))
-paired_err k full Other r f e = inl (ap (λ x. x.line) (let i : f ≡ record { line = k; kind = NotANumber } = cc in i), λ s. e)
-paired_err k full End r f e = (cc)
-paired_err k true NoTasks r f e = inl (ap (λ x. x.line) (let i : f ≡ record { line = k; kind = TooManyArcs } = cc in i), λ s. e)
-paired_err k false NoTasks r f e = inl (ap (λ x. x.line) (let i : f ≡ record { line = k; kind = BadArc } = cc in i), λ s. e)
-paired_err k true (Arc a) r f e = inl (ap (λ x. x.line) (let i : f ≡ record { line = k; kind = TooManyArcs } = cc in i), λ s. e)
-paired_err k false (Arc a) (Err g) f e = inr (a, refl, refl, e)
-paired_err k false (Arc a) (Ok y) f e = (cc)
-
-pairs_fixed : (end tasks room : ℕ) (ls : Lines) (f : In2Fault) → pairs_in end tasks room ls ≡ Err f → FixedPairs end tasks room ls f
-pairs_fixed end tasks room [] f e = inr (ap (λ x. x.line) (let i : f ≡ record { line = end; kind = MissingEnd } = cc in i))
-pairs_fixed end tasks zero (l ∷ ls) f e = elim (paired_err l.0 true (pair_in tasks l.1) (Err (record { line = end; kind = MissingEnd })) f e) [
-  | inl o ↦ inl ([], l, ls, refl, o.0, λ end more. o.1 (Err (record { line = end; kind = MissingEnd })))
-  | inr o ↦ absurd (false≢true (sym o.2))
-]
-pairs_fixed end tasks (suc room) (l ∷ ls) f e = elim (paired_err l.0 false (pair_in tasks l.1) (pairs_in end tasks room ls) f e) [
-  | inl o ↦ inl ([], l, ls, refl, o.0, λ end more. o.1 (pairs_in end tasks room more))
-  | inr o ↦ elim (pairs_fixed end tasks room ls f o.3) [
-    | inl i ↦ inl (l ∷ i.0, i.1, i.2, ap (λ r. l ∷ r) i.3, i.4, λ end more. ap (λ v. paired l.0 false v (pairs_in end tasks room (i.0 ++ i.1 ∷ more))) o.1 ∙ ap (with_arc o.0) (i.5 end more))
-    | inr i ↦ inr i
-  ]
-]
-
--- times are read the same whatever stands behind the pairs
-times_kept : (end n : ℕ) (ls : Lines) (t : List ℕ × Lines) → times_in end n ls ≡ Ok t → (tl : Lines) × (ls ≡ tl ++ t.1) × ((end : ℕ) (more : Lines) → times_in end n (tl ++ more) ≡ Ok (t.0, more))
-times_kept end n ls t e =
-    let s = times_spelled end n ls t e in
-    (s.0, s.1, λ end more. ap (λ k. times_in end k (s.0 ++ more)) (sym s.3) ∙ times_read end s.0 t.0 more s.2)
-
-head_err : (end k : ℕ) (v : Num) (ls : Lines) (f : In2Fault) → counted end k v ls ≡ Err f
-    → ((f.line ≡ k) × ((end : ℕ) (more : Lines) → counted end k v more ≡ Err f)) ⊎ ((n : ℕ) × (v ≡ Value n) × (nat_eq n 0 ≡ false) × (then_pairs end n (times_in end n ls) ≡ Err f))
-head_err end k NoNumber ls f e = inl (ap (λ x. x.line) (let i : f ≡ record { line = k; kind = NotANumber } = cc in i), λ end more. e)
-head_err end k Above ls f e = inl (ap (λ x. x.line) (let i : f ≡ record { line = k; kind = Range } = cc in i), λ end more. e)
-head_err end k (Value n) ls f e =
-    let I : (b : Bool) → nat_eq n 0 ≡ b → cond b (Err (record { line = k; kind = Range })) (then_pairs end n (times_in end n ls)) ≡ Err f
-    → ((f.line ≡ k) × ((end : ℕ) (more : Lines) → counted end k (Value n) more ≡ Err f)) ⊎ ((m : ℕ) × (Value n ≡ Value m) × (nat_eq m 0 ≡ false) × (then_pairs end m (times_in end m ls) ≡ Err f)) =
-    elim [
-      | true ↦ (λ z h. inl (
-        ap (λ x. x.line) (let w : Err (record { line = k; kind = Range }) ≡ Err f = h in let i : f ≡ record { line = k; kind = Range } = cc in i),
-        λ end more. ap (λ b. cond b (Err (record { line = k; kind = Range })) (then_pairs end n (times_in end n more))) z ∙ h,
-      ))
-      | false ↦ (λ z h. inr (n, refl, z, h))
-    ] in
-    I (nat_eq n 0) refl e
-
-parts_err : (end n : ℕ) (ls : Lines) (f : In2Fault) → then_pairs end n (times_in end n ls) ≡ Err f → (times_in end n ls ≡ Err f) ⊎ ((t : List ℕ × Lines) × (times_in end n ls ≡ Ok t) × (pairs_in end n 524288 t.1 ≡ Err f))
-parts_err end n ls f e =
-    let J : (t : List ℕ × Lines) (p : Result (List Prec × ℕ) In2Fault) → pairs_in end n 524288 t.1 ≡ p → with_times t.0 p ≡ Err f → pairs_in end n 524288 t.1 ≡ Err f =
-    λ t. elim [ Err g ↦ (λ a h. a ∙ (let w : Err g ≡ Err f = h in let i : g ≡ f = cc in ap (λ x. Err x) i)) | Ok q ↦ (λ a h. (let w : Ok (record { times = t.0; arcs = q.0; last = q.1 }) ≡ Err f = h in (cc))) ] in
-    let K : (r : Result (List ℕ × Lines) In2Fault) → times_in end n ls ≡ r → then_pairs end n r ≡ Err f → (times_in end n ls ≡ Err f) ⊎ ((t : List ℕ × Lines) × (times_in end n ls ≡ Ok t) × (pairs_in end n 524288 t.1 ≡ Err f)) =
-    elim [ Err g ↦ (λ a h. inl (a ∙ (let w : Err g ≡ Err f = h in let i : g ≡ f = cc in ap (λ x. Err x) i))) | Ok t ↦ (λ a h. inr (t, a, J t (pairs_in end n 524288 t.1) refl h)) ] in
-    K (times_in end n ls) refl e
-
--- the head line is a number of tasks, and more follows
-behind_head : (end n : ℕ) (l : ℕ × List ℕ) (more : Lines) → number_in 1024 l.1 ≡ Value n → nat_eq n 0 ≡ false → lines_said end (l ∷ more) ≡ then_pairs end n (times_in end n more)
-behind_head end n l more v z =
-    ap (λ x. counted end l.0 x more) v ∙ ap (λ b. cond b (Err (record { line = l.0; kind = Range })) (then_pairs end n (times_in end n more))) z
-
-pub fault_is_first : (end : ℕ) (lines : Lines) (f : In2Fault) → lines_said end lines ≡ Err f → IsFirstFault end lines f
-fault_is_first end [] f e = inr (ap (λ x. x.line) (let i : f ≡ record { line = end; kind = MissingTimes } = cc in i))
-fault_is_first end (l ∷ ls) f e = elim (head_err end l.0 (number_in 1024 l.1) ls f e) [
-  | inl o ↦ inl (record { before = []; at = l; after = ls; all = refl; line = o.0; none = o.1 })
-  | inr o ↦ elim (parts_err end o.0 ls f o.3) [
-    | inl t ↦ elim (times_fixed end o.0 ls f t) [
-      | inl i ↦ inl (record {
-        before = l ∷ i.0;
-        at = i.1;
-        after = i.2;
-        all = ap (λ r. l ∷ r) i.3;
-        line = i.4;
-        none = λ end more. behind_head end o.0 l (i.0 ++ i.1 ∷ more) o.1 o.2 ∙ ap (then_pairs end o.0) (i.5 end more);
-      })
-      | inr i ↦ inr i
-    ]
-    | inr t ↦ elim (pairs_fixed end o.0 524288 t.0.1 f t.2) [
-      | inl i ↦ (let kept = times_kept end o.0 ls t.0 t.1 in
-          inl (record {
-            before = l ∷ (kept.0 ++ i.0);
-            at = i.1;
-            after = i.2;
-            all = ap (λ r. l ∷ r) (kept.1 ∙ ap (λ r. kept.0 ++ r) i.3 ∙ sym (append_assoc kept.0 i.0 (i.1 ∷ i.2)));
-            line = i.4;
-            none = λ end' more. behind_head end' o.0 l ((kept.0 ++ i.0) ++ i.1 ∷ more) o.1 o.2
-                ∙ ap (λ r. then_pairs end' o.0 (times_in end' o.0 r)) (append_assoc kept.0 i.0 (i.1 ∷ more))
-                ∙ ap (then_pairs end' o.0) (kept.2 end' (i.0 ++ i.1 ∷ more)) ∙ ap (with_times t.0.0) (i.5 end' more);
-          }))
-      | inr i ↦ inr i
-    ]
-  ]
-]

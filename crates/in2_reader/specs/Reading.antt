@@ -1,10 +1,11 @@
--- The reading of the contents of an IN2 text, as far as its form goes: whether the arcs have a cycle is asked at its end.
+-- The reading of an IN2 text, line by line, as far as its form goes.
 use Rattle.std.specs.Prelude.{◌≡◌, ℕ, zero, suc, Bool, true, false, cond, nat_eq, List, [], ◌∷◌, Result, Ok, Err}
 use Rattle.line_io.specs.Lines.{number_in}
 use Rattle.line_io.specs.declared.text.Num.{Num}
 use Rattle.line_io.specs.declared.text.Num.TheVariants.{Value, NotANumber as NoNumber, Above}
 use Rattle.in2_reader.specs.Pairs.{pair_in}
-use Rattle.in2_reader.specs.Contents.{contents_from, lines_in}
+use Rattle.in2_reader.specs.Contents.{Lines, contents_from, lines_in}
+use Rattle.in2_reader.specs.Grammar.{In2}
 use Rattle.line_instance.specs.declared.arcs.Prec.{Prec}
 use Rattle.in2_reader.specs.declared.pair.Pair.{Pair}
 use Rattle.in2_reader.specs.declared.pair.Pair.TheVariants.{Arc, BadArc as NoTasks, End, Other}
@@ -14,17 +15,9 @@ use Rattle.in2_reader.specs.declared.fault.In2Kind.TheVariants.{NotANumber, Rang
 use Rattle.in2_reader.specs.declared.fault.ReadError.{ReadError}
 use Rattle.in2_reader.specs.declared.fault.ReadError.TheVariants as errors
 
-abbrev pub Lines : Type 0
-Lines = List (ℕ × List ℕ)
-
+-- a fault of a line
 abbrev pub fault : {A : Type 0} → ℕ → In2Kind → Result A In2Fault
 fault line kind = Err (record { line = line; kind = kind })
-
--- what the text says, as far as it has been read: times, arcs, and the line of the end mark
-pub record In2 : Type 0 where
-  pub times : List ℕ
-  pub arcs : List Prec
-  pub last : ℕ
 
 -- a time before those that follow it
 abbrev pub with_time : ℕ → Result (List ℕ × Lines) In2Fault → Result (List ℕ × Lines) In2Fault
@@ -60,19 +53,23 @@ pairs_in end tasks room [] = fault end MissingEnd
 pairs_in end tasks zero (l ∷ lines) = paired l.0 true (pair_in tasks l.1) (fault end MissingEnd)
 pairs_in end tasks (suc room) (l ∷ lines) = paired l.0 false (pair_in tasks l.1) (pairs_in end tasks room lines)
 
+-- the times before what the pairs say
 abbrev pub with_times : List ℕ → Result (List Prec × ℕ) In2Fault → Result In2 In2Fault
 with_times times (Err e) = Err e
 with_times times (Ok x) = Ok (record { times = times; arcs = x.0; last = x.1 })
 
+-- the pairs that stand behind the times
 abbrev pub then_pairs : ℕ → ℕ → Result (List ℕ × Lines) In2Fault → Result In2 In2Fault
 then_pairs end tasks (Err e) = Err e
 then_pairs end tasks (Ok x) = with_times x.0 (pairs_in end tasks 524288 x.1)
 
+-- times and pairs behind the number of tasks
 abbrev pub counted : ℕ → ℕ → Num → Lines → Result In2 In2Fault
 counted end line NoNumber lines = fault line NotANumber
 counted end line Above lines = fault line Range
 counted end line (Value n) lines = cond (nat_eq n 0) (fault line Range) (then_pairs end n (times_in end n lines))
 
+-- what contents say
 abbrev pub lines_said : ℕ → Lines → Result In2 In2Fault
 lines_said end [] = fault end MissingTimes
 lines_said end (l ∷ lines) = counted end l.0 (number_in 1024 l.1) lines

@@ -5,3 +5,4 @@ pub mod Orders
 pub mod Turning
 pub mod Sound
 pub mod Keeping
+pub mod Unique

@@ -27,12 +27,12 @@ size-most [] = omega arith
 size-most (true ∷ bs) = omega (arith, size-most bs)
 size-most (false ∷ bs) = omega (arith, size-most bs)
 
-size-none : (n : ℕ) → size (replicate n false) ≡ 0
+pub size-none : (n : ℕ) → size (replicate n false) ≡ 0
 unfolding size
 size-none zero = refl
 size-none (suc n) = omega (arith, size-none n)
 
-size-below : (s : List Bool) (n : ℕ) → ((i : ℕ) → In s i → i < n) → size s ≤ n
+pub size-below : (s : List Bool) (n : ℕ) → ((i : ℕ) → In s i → i < n) → size s ≤ n
 unfolding size
 size-below [] n h = omega arith
 size-below (true ∷ bs) zero h = absurd (omega (arith, h 0 refl))

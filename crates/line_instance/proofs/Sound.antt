@@ -129,8 +129,8 @@ module _ (n : ℕ) (arcs : List Prec) (direct : List (List Bool)) (order : List 
       least = λ k t l f. o.order_is.least k t (omega (arith, o.many, d.sets.many, many)) (omega (arith, f.task, d.sets.many, many)) f.new (λ i m. f.ready i (all (arc (d.only i t m))));
     }
 
-    pub sound : (after : List (List Bool)) (ranks : List ℕ) (partners : List Kept) → AreTurned before after → AreRanksOf order ranks → ArePartners (of_rows times before apart) partners → IsSound after ranks partners line
-    sound after ranks partners t r p = record {
+    pub sound : (after : List (List Bool)) (places : List ℕ) (partners : List Kept) → AreTurned before after → AreRanksOf order places → ArePartners (of_rows times before apart) partners → IsSound after places partners line
+    sound after places partners t r p = record {
       line_is = line_is;
       ranked = ranked;
       turned = t;
@@ -146,6 +146,7 @@ module _ (n : ℕ) (arcs : List Prec) (direct : List (List Bool)) (order : List 
       before = λ t l. row t (omega (arith, many));
       apart = λ i j m. none.none i j m;
       ranks = ranks;
+      line_is = line_is;
     }
 
 -- a ring of direct rows is a ring of arcs
@@ -159,10 +160,10 @@ arcs_ring n arcs direct ring d r = record {
 }
 
 -- other pairs are apart
-pub parted : (after : List (List Bool)) (ranks : List ℕ) (old partners : List Kept) (times : List ℕ) (before apart new : List (List Bool)) (order : List ℕ) (pairs : List Prec) → ArePairs (length times) pairs
-    → IsSound after ranks old (record { times = times; before = before; apart = apart; order = order }) → ArePaired (length times) pairs new → ArePartners (of_rows times before new) partners
-    → IsSound after ranks partners (record { times = times; before = before; apart = new; order = order })
-parted after ranks old partners times before apart new order pairs h s p k = record {
+pub parted : (after : List (List Bool)) (places : List ℕ) (old partners : List Kept) (times : List ℕ) (before apart new : List (List Bool)) (order : List ℕ) (pairs : List Prec) → ArePairs (length times) pairs
+    → IsSound after places old (record { times = times; before = before; apart = apart; order = order }) → ArePaired (length times) pairs new → ArePartners (of_rows times before new) partners
+    → IsSound after places partners (record { times = times; before = before; apart = new; order = order })
+parted after places old partners times before apart new order pairs h s p k = record {
   line_is = record {
     some = s.line_is.some;
     small = s.line_is.small;

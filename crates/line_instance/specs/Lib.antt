@@ -4,5 +4,6 @@ pub mod Walks
 pub mod Ranks
 pub mod Partners
 pub mod Made
+pub mod Laws
 pub mod Inside
 pub mod Ordered

@@ -1,6 +1,6 @@
 -- What making an instance answers.
 use Rattle.std.specs.Prelude.{◌≡◌, ℕ, ◌<◌, ◌≤◌, List, [], length, slice_index_or}
-use Rattle.line_instance.specs.Line.{Line, tasks, Apart}
+use Rattle.line_instance.specs.Line.{Line, IsLine, tasks, Apart}
 use Rattle.line_instance.specs.Walks.{IsRow, arc_at, Names, AreArcs, IsRing}
 use Rattle.line_instance.specs.Ranks.{AreRanks}
 use Rattle.line_instance.specs.declared.arcs.Prec.{Prec}
@@ -33,6 +33,7 @@ pub record IsInstanceOf (given : List ℕ) (arcs : List Prec) (line : Line) : Ty
   pub before : (t : ℕ) → t < tasks line → IsRow arcs (slice_index_or line.before t []) t
   pub apart : (i j : ℕ) → Apart line i j → ⊥
   pub ranks : AreRanks line
+  pub line_is : IsLine line
 
 -- Each answer with its cause. The refusals come in this order: no time, too many, a time above the limit, an arc that names no task,
 -- a cycle. Want of memory comes where none of the first four does.

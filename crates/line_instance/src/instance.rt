@@ -44,6 +44,7 @@ impl Model for Instance {
 
 impl Instance {
     /// The number of tasks, 1 to 1,024.
+    #[inline]
     pub fn tasks(&self) -> u32
         ensures tasks { result ≡ tasks self.now }
         ensures line { IsLine self.now }
@@ -53,6 +54,7 @@ impl Instance {
     }
 
     /// The time of task `i`, in the instance's time unit, at most 200,000,000,000,000.
+    #[inline]
     pub fn time(&self, i: u32) -> u64
         requires { i < tasks self.now }
         ensures time { result ≡ time self.now i }
@@ -62,6 +64,7 @@ impl Instance {
     }
 
     /// The tasks before task `i`: those from which a nonempty walk of arcs leads to it.
+    #[inline]
     pub fn before(&self, i: u32) -> &TaskSet
         requires { i < tasks self.now }
         ensures row { result.now ≡ slice_index_or self.now.before i [] }
@@ -72,6 +75,7 @@ impl Instance {
     }
 
     /// The tasks after task `i`: those to which a nonempty walk of arcs leads from it.
+    #[inline]
     pub fn after(&self, i: u32) -> &TaskSet
         requires { i < tasks self.now }
         ensures members { (j : ℕ) → In result.now j ↔ Before self.now i j }
@@ -81,6 +85,7 @@ impl Instance {
     }
 
     /// Whether task `i` is before task `j` with no task between them.
+    #[inline]
     pub fn covers(&self, i: u32, j: u32) -> bool
         requires first { i < tasks self.now }
         requires then { j < tasks self.now }
@@ -91,6 +96,7 @@ impl Instance {
     }
 
     /// The tasks apart from task `i`.
+    #[inline]
     pub fn apart(&self, i: u32) -> &TaskSet
         requires { i < tasks self.now }
         ensures row { result.now ≡ slice_index_or self.now.apart i [] }
@@ -101,6 +107,7 @@ impl Instance {
     }
 
     /// The task of rank `k`, counted from 0. What is before a task has a lower rank.
+    #[inline]
     pub fn at_rank(&self, k: u32) -> u32
         requires { k < tasks self.now }
         ensures task { result ≡ at_rank self.now k }
@@ -110,6 +117,7 @@ impl Instance {
     }
 
     /// The rank of task `i`, counted from 0.
+    #[inline]
     pub fn rank_of(&self, i: u32) -> u32
         requires { i < tasks self.now }
         ensures rank { at_rank self.now result ≡ i }
@@ -119,6 +127,7 @@ impl Instance {
     }
 
     /// The `k`-th kept partner of task `i`, counted from 0; None where fewer are kept.
+    #[inline]
     pub fn partner(&self, i: u32, k: u32) -> Option<u32>
         requires { i < tasks self.now }
         ensures { IsKeptAt self.now i k result }
@@ -160,6 +169,7 @@ impl Instance {
     }
 
     /// The set of all tasks.
+    #[inline]
     pub fn all(&self) -> TaskSet
         ensures value { result ≡ full_to (tasks self.now) }
         ensures members { (i : ℕ) → In result i ↔ i < tasks self.now }

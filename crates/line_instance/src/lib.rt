@@ -3,11 +3,14 @@
 
 mod arcs;
 mod instance;
+pub mod laws;
 mod making;
 mod order;
 mod partners;
 mod rings;
 mod rows;
+#[cfg(test)]
+mod tests;
 
 pub use arcs::Prec;
 pub use instance::{Instance, MAX_TASKS, MAX_TIME};

@@ -1,0 +1,98 @@
+//! What no clause says: outside instances, and that each call can succeed.
+use crate::{Instance, Made, Prec, make};
+use std::test::Fail;
+use task_set::TaskSet;
+
+fn arc(first: u32, then: u32) -> Prec {
+    Prec { first, then }
+}
+
+// The answer in words.
+fn told(made: &Made) -> &'static str {
+    match made {
+        Made::Good(_) => "good",
+        Made::NoTasks => "no tasks",
+        Made::TooManyTasks(_) => "too many tasks",
+        Made::BadTime(_) => "bad time",
+        Made::BadArc(_) => "bad arc",
+        Made::Cycle(_) => "cycle",
+        Made::NoMemory => "no memory",
+    }
+}
+
+fn good(made: Made) -> Result<Instance, &'static str> {
+    match made {
+        Made::Good(inst) => Ok(inst),
+        other => Err(told(&other)),
+    }
+}
+
+#[test]
+fn makes_a_chain(rt: HostRuntime) -> Result<(), Fail> {
+    let times = vec![in rt.alloc(); 1, 2, 1]?;
+    let chain = good(make(rt.alloc(), times, &[arc(0, 1), arc(1, 2)]))?;
+    assert_eq!(rt; chain.tasks(), 3);
+    assert_eq!(rt; chain.time(1), 2);
+    assert_eq!(rt; *chain.before(2), TaskSet::full_to(2));
+    assert_eq!(rt; *chain.after(0), TaskSet::from_members(&[1, 2]));
+    assert!(rt; chain.covers(0, 1));
+    assert!(rt; !chain.covers(0, 2));
+    assert_eq!(rt; chain.at_rank(2), 2);
+    assert_eq!(rt; chain.rank_of(1), 1);
+    assert_eq!(rt; chain.sum(&chain.all()), 4);
+    Ok(())
+}
+
+#[test]
+fn refuses_each_fault(rt: HostRuntime) -> Result<(), Fail> {
+    let alloc = rt.alloc();
+    assert_eq!(rt; told(&make(alloc, Vec::new(alloc), &[])), "no tasks");
+    assert_eq!(rt;
+        told(&make(alloc, vec![in alloc; 1; 1025]?, &[])),
+        "too many tasks"
+    );
+    let long = vec![in alloc; 1, 200_000_000_000_001]?;
+    assert_eq!(rt; told(&make(alloc, long, &[arc(0, 2)])), "bad time");
+    let two = vec![in alloc; 1, 1]?;
+    assert!(rt; matches!(make(alloc, two, &[arc(0, 1), arc(2, 0)]), Made::BadArc(1)));
+    assert_eq!(rt;
+        told(&make(alloc, vec![in alloc; 1]?, &[arc(0, 0)])),
+        "cycle"
+    );
+    Ok(())
+}
+
+#[test]
+fn shows_the_ring_from_its_least_task(rt: HostRuntime) -> Result<(), Fail> {
+    let times = vec![in rt.alloc(); 1, 1, 1]?;
+    let Made::Cycle(ring) = make(rt.alloc(), times, &[arc(2, 0), arc(0, 1), arc(1, 2)]) else {
+        return Err("no ring")?;
+    };
+    if ring.len() != 3 {
+        return Err("another ring")?;
+    }
+    assert_eq!(rt; (ring.at(0), ring.at(1), ring.at(2)), (0, 1, 2));
+    Ok(())
+}
+
+#[test]
+fn keeps_partners_and_copies_them(rt: HostRuntime) -> Result<(), Fail> {
+    let times = vec![in rt.alloc(); 2, 2, 1, 3]?;
+    let mut pair = good(make(rt.alloc(), times, &[arc(0, 3), arc(1, 3)]))?;
+    assert_eq!(rt; pair.partner(0, 0), Some(1));
+    assert_eq!(rt; pair.partner(0, 1), Some(2));
+    assert_eq!(rt; pair.partner(0, 2), None);
+    if pair.tasks() != 4 {
+        return Err("other tasks")?;
+    }
+    pair.set_apart(&[Prec { first: 3, then: 1 }]);
+    assert_eq!(rt; pair.partner(0, 0), Some(2));
+    let copy = pair.copy()?;
+    if copy.tasks() != 4 {
+        return Err("another copy")?;
+    }
+    assert!(rt; copy.apart(1).has(3));
+    assert!(rt; copy.apart(3).has(1));
+    assert_eq!(rt; copy.partner(0, 0), Some(2));
+    Ok(())
+}
