@@ -200,12 +200,15 @@ head_err end k (Value n) ls f e =
     ] in
     I (nat_eq n 0) refl e
 
+same_fault : {A : Type 0} (r : Result A In2Fault) (g f : In2Fault) → r ≡ Err g → r ≡ Err f → g ≡ f
+same_fault r g f d e = cc
+
 parts_err : (end n : ℕ) (ls : Lines) (f : In2Fault) → then_pairs end n (times_in end n ls) ≡ Err f → (times_in end n ls ≡ Err f) ⊎ ((t : List ℕ × Lines) × (times_in end n ls ≡ Ok t) × (pairs_in end n 524288 t.1 ≡ Err f))
 parts_err end n ls f e =
     let J : (t : List ℕ × Lines) (p : Result (List Prec × ℕ) In2Fault) → pairs_in end n 524288 t.1 ≡ p → with_times t.0 p ≡ Err f → pairs_in end n 524288 t.1 ≡ Err f =
-    λ t. elim [ Err g ↦ (λ a h. a ∙ (let w : Err g ≡ Err f = h in let i : g ≡ f = cc in ap (λ x. Err x) i)) | Ok q ↦ (λ a h. (let w : Ok (record { times = t.0; arcs = q.0; last = q.1 }) ≡ Err f = h in (cc))) ] in
+    λ t. elim [ Err g ↦ (λ a h. a ∙ ap (λ x. Err x) (same_fault {A = In2} (Err g) g f refl h)) | Ok q ↦ (λ a h. (let w : ◌≡◌ {A = Result In2 In2Fault} (Ok (record { times = t.0; arcs = q.0; last = q.1 })) (Err f) = h in (cc))) ] in
     let K : (r : Result (List ℕ × Lines) In2Fault) → times_in end n ls ≡ r → then_pairs end n r ≡ Err f → (times_in end n ls ≡ Err f) ⊎ ((t : List ℕ × Lines) × (times_in end n ls ≡ Ok t) × (pairs_in end n 524288 t.1 ≡ Err f)) =
-    elim [ Err g ↦ (λ a h. inl (a ∙ (let w : Err g ≡ Err f = h in let i : g ≡ f = cc in ap (λ x. Err x) i))) | Ok t ↦ (λ a h. inr (t, a, J t (pairs_in end n 524288 t.1) refl h)) ] in
+    elim [ Err g ↦ (λ a h. inl (a ∙ ap (λ x. Err x) (same_fault {A = In2} (Err g) g f refl h))) | Ok t ↦ (λ a h. inr (t, a, J t (pairs_in end n 524288 t.1) refl h)) ] in
     K (times_in end n ls) refl e
 
 -- the head line is a number of tasks, and more follows

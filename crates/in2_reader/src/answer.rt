@@ -1,7 +1,9 @@
 //! The reading of an IN2 text as an instance.
 ghost use Rattle.std.specs.Prelude.{◌≡◌, ◌<◌, ◌^◌, length};
 ghost use Rattle.in2_reader.specs.Grammar.{In2};
-ghost use Rattle.in2_reader.specs.Answers.{IsIn2Read, IsReadingOf, refusal};
+ghost use Rattle.in2_reader.specs.Answers.{IsIn2Read, IsReading, IsReadingOf, refusal};
+ghost use Rattle.in2_reader.specs.declared.fault.In2Fault.{In2Fault};
+ghost use Rattle.line_instance.specs.Line.{Line};
 ghost use Rattle.line_instance.specs.Made.{AreTimes};
 ghost use Rattle.line_instance.specs.Walks.{AreArcs};
 
@@ -24,7 +26,8 @@ pub enum In2Read {
 /// Reads an IN2 text: the number of tasks, their times, in any time unit, arcs counted from 1, and the end mark.
 pub fn read_in2(alloc: Global, bytes: &[u8]) -> In2Read
     requires { length bytes.now < 2 ^ 63 }
-    ensures { IsIn2Read bytes.now result }
+    ensures read { IsIn2Read bytes.now result }
+    ensures none { (f : In2Fault) → result ≡ In2Read.Fault f → (line : Line) → ¬ IsReading bytes.now line }
 {
     match read_draft(alloc, bytes) {
         Ok(draft) => instance_of(alloc, draft),
