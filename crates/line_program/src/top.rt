@@ -10,7 +10,7 @@ ghost use Rattle.std.specs.Prelude.{Some};
 
 use crate::report::{balance_report, infeasible_report};
 use crate::status::Status;
-use crate::words::{Job, job_of};
+use crate::words::job_of;
 use first_fit::{Ranked, ranked_balance};
 use in2_reader::{In2Fault, In2Read, push_fault, read_in2};
 use line_instance::Instance;
@@ -78,43 +78,54 @@ fn fault_line(alloc: Global, file: &str, fault: &In2Fault) -> Result<String, All
 }
 
 /// What is reported of a file's bytes.
-fn bytes_report(alloc: Global, bytes: &[u8], job: Job<'_>) -> Result<Report, AllocError>
-    requires some { 1 ≤ job.cycle }
-    requires limit { job.cycle ≤ 1000000000000000000 }
+fn bytes_report(
+    alloc: Global,
+    bytes: &[u8],
+    file: &str,
+    cycle: u64,
+) -> Result<Report, AllocError>
+    requires some { 1 ≤ cycle }
+    requires limit { cycle ≤ 1000000000000000000 }
     requires short { length bytes.now < 2 ^ 63 }
-    ensures { IfOk result (λ r. IsFileReport (Some bytes.now) job.file.now job.cycle r.status (string_bytes r.text)) }
+    ensures report { IfOk result (λ r. IsFileReport (Some bytes.now) file.now cycle r.status (string_bytes r.text)) }
+    ensures others { IfOk result (λ r. (r.status ≢ ends.ReadFault) × (r.status ≢ ends.WriteFault) × (r.status ≢ ends.Usage)) }
 {
     match read_in2(alloc, bytes) {
         In2Read::Good(inst) => Ok(Report {
             status: Status::Done,
-            text: answer(alloc, &inst, job.cycle)?,
+            text: answer(alloc, &inst, cycle)?,
         }),
         In2Read::Fault(fault) => Ok(Report {
             status: Status::Input,
-            text: fault_line(alloc, job.file, &fault)?,
+            text: fault_line(alloc, file, &fault)?,
         }),
         In2Read::NoMemory => Err(AllocError),
     }
 }
 
 /// What is reported of a job's file.
-fn file_report<S: Shelf>(alloc: Global, job: Job<'_>, shelf: &mut S) -> Result<Report, AllocError>
-    requires some { 1 ≤ job.cycle }
-    requires limit { job.cycle ≤ 1000000000000000000 }
-    ensures report { S.tells → IfOk result (λ r. IsFileReport (S.file shelf.old job.file.now) job.file.now job.cycle r.status (string_bytes r.text)) }
+fn file_report<S: Shelf>(
+    alloc: Global,
+    file: &str,
+    cycle: u64,
+    shelf: &mut S,
+) -> Result<Report, AllocError>
+    requires some { 1 ≤ cycle }
+    requires limit { cycle ≤ 1000000000000000000 }
+    ensures report { S.tells → IfOk result (λ r. IsFileReport (S.file shelf.old file.now) file.now cycle r.status (string_bytes r.text)) }
     ensures read { IfOk result (λ r. r.status ≡ ends.ReadFault → Rises (S.faults shelf.old) (S.faults shelf.new)) }
     ensures others { IfOk result (λ r. (r.status ≢ ends.WriteFault) × (r.status ≢ ends.Usage)) }
     ensures files { S.tells → (q : List ℕ) → S.file shelf.new q ≡ S.file shelf.old q }
 {
-    match read_whole(alloc, shelf, job.file, MAX_FILE) {
-        Whole::Bytes(bytes) => bytes_report(alloc, &bytes, job),
+    match read_whole(alloc, shelf, file, MAX_FILE) {
+        Whole::Bytes(bytes) => bytes_report(alloc, &bytes, file, cycle),
         Whole::ReadFault => Ok(Report {
             status: Status::ReadFault,
-            text: line_about(alloc, "read fault: ", job.file, "\n")?,
+            text: line_about(alloc, "read fault: ", file, "\n")?,
         }),
         Whole::TooLong => Ok(Report {
             status: Status::Input,
-            text: line_about(alloc, "input: ", job.file, " too long\n")?,
+            text: line_about(alloc, "input: ", file, " too long\n")?,
         }),
         Whole::NoMemory => Err(AllocError),
     }
@@ -133,7 +144,10 @@ fn report_of<S: Shelf>(
     ensures files { S.tells → (q : List ℕ) → S.file shelf.new q ≡ S.file shelf.old q }
 {
     match job_of(alloc, words)? {
-        Some(job) => file_report(alloc, job, shelf),
+        Some(job) => {
+            let report = file_report(alloc, job.file, job.cycle, shelf)?;
+            Ok(report)
+        }
         None => Ok(Report {
             status: Status::Usage,
             text: String::from_str(alloc, "usage\n")?,
