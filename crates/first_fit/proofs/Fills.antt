@@ -89,8 +89,8 @@ module _ (kind : LineKind) (line : Line) (c : ℕ) (f : Filled) (place : List Se
     ready = stand_of q.place.side q.task m.ready;
     fits = (let P : ℕ → Type 0 = λ s. time_placed line h.placed s + time line q.task ≤ c in omega (arith, h.room, subst P e m.fits));
     parted = λ j x a. (let p = h.here j x in
-    let P : ℕ → Type 0 = λ k. Apart line k q.task in
-    m.parted p.0 p.1 (p.3 ∙ sym e) (subst P (sym p.2) a));
+        let P : ℕ → Type 0 = λ k. Apart line k q.task in
+        m.parted p.0 p.1 (p.3 ∙ sym e) (subst P (sym p.2) a));
   }
 
   -- where nothing may join, nothing more may be placed at the station

@@ -92,31 +92,47 @@ module _ (kind : LineKind) (line : Line) (f : Filled) (task : ℕ) (side : Side)
     | inl o ↦ h a o m
     | inr e ↦ (let P : Pick → Type 0 = MayJoin kind line f in n (subst P e m))
   ]
-  kept (Some b) n h = (h.0, inl h.1, λ a s m. elim s [
-    | inl o ↦ h.2 a o m
-    | inr e ↦ (let P : Pick → Type 0 = MayJoin kind line f in absurd (n (subst P e m)))
-  ])
+  kept (Some b) n h = (
+    h.0,
+    inl h.1,
+    λ a s m. elim s [
+      | inl o ↦ h.2 a o m
+      | inr e ↦ (let P : Pick → Type 0 = MayJoin kind line f in absurd (n (subst P e m)))
+    ],
+  )
 
   weights_less : (b a : Pick) → weight line b.task b.side < weight line task side → RanksFirst line b.task b.side a.task a.side → RanksFirst line task side a.task a.side
   weights_less b a l (inl s) = inl (omega (arith, l, s))
   weights_less b a l (inr q) = inl (omega (arith, l, q.0))
 
   pub joins : (best : Option Pick) → MayJoin kind line f here → IsBestOf kind line f (IsOver task side) best → IsBestOf kind line f OrHere (heavier line best here)
-  joins None m h = (m, inr refl, λ a s k. elim s [
-    | inl o ↦ absurd (h a o k)
-    | inr e ↦ ranks_here here a e itself
-  ])
+  joins None m h = (
+    m,
+    inr refl,
+    λ a s k. elim s [
+      | inl o ↦ absurd (h a o k)
+      | inr e ↦ ranks_here here a e itself
+    ],
+  )
   joins (Some b) m h = elim (cases_lt (weight line b.task b.side) (weight line task side)) [
     | inl l ↦ (let P : Bool → Type 0 = λ t. IsBestOf kind line f OrHere (cond t (Some here) (Some b)) in
-        subst P (sym (less (weight line b.task b.side) (weight line task side) l)) (m, inr refl, λ a s k. elim s [
-          | inl o ↦ weights_less b a l (h.2 a o k)
-          | inr e ↦ ranks_here here a e itself
-        ]))
+        subst P (sym (less (weight line b.task b.side) (weight line task side) l)) (
+          m,
+          inr refl,
+          λ a s k. elim s [
+            | inl o ↦ weights_less b a l (h.2 a o k)
+            | inr e ↦ ranks_here here a e itself
+          ],
+        ))
     | inr g ↦ (let P : Bool → Type 0 = λ t. IsBestOf kind line f OrHere (cond t (Some here) (Some b)) in
-        subst P (sym (not_less (weight line b.task b.side) (weight line task side) g)) (h.0, inl h.1, λ a s k. elim s [
-          | inl o ↦ h.2 a o k
-          | inr e ↦ ranks_here b a e (former b h.1 g)
-        ]))
+        subst P (sym (not_less (weight line b.task b.side) (weight line task side) g)) (
+          h.0,
+          inl h.1,
+          λ a s k. elim s [
+            | inl o ↦ h.2 a o k
+            | inr e ↦ ranks_here b a e (former b h.1 g)
+          ],
+        ))
   ]
 
   pub better_of : (best found : Option Pick) → IsBetter kind line f best here found → IsBestOf kind line f (IsOver task side) best → IsBestOf kind line f OrHere found

@@ -93,16 +93,16 @@ module _ (kind : LineKind) (line : Line) (c : ℕ) (f : Filled) (place : List Se
           back = λ x. false≢true (sym nb ∙ x);
           side = side_front kind Front refl;
           ready = λ j b. (let r : (m : ℕ) × (m < tasks line) × (at_rank line m ≡ j) = ranks.rank j ((is.before (at_rank line k) (ranks.task k t)).tasks j b) in
-          let B : ℕ → Type 0 = λ x. Before line x (at_rank line k) in
-          let F : ℕ → Type 0 = λ x. In f.front x in
-          let up : r.0 < k = ranks.rises r.0 k r.1 t (subst B (sym r.2) b) in
-          elim (below n r.0 (omega (arith, up)) r.1) [
-            | inl y ↦ subst F r.2 y
-            | inr y ↦ (let a = h.back (at_rank line r.0) y in
-                let A : ℕ → Type 0 = λ x. Before line x (at_rank line k) in
-                let q = back_closed kind line c h.placed h.ranked a.0 a.1 a.3 (at_rank line k) (subst A (sym r.2 ∙ sym a.2) b) in
-                absurd (false≢true (sym nb ∙ h.back_all (at_rank line k) (q.0, q.1, q.2, q.3))))
-          ]);
+              let B : ℕ → Type 0 = λ x. Before line x (at_rank line k) in
+              let F : ℕ → Type 0 = λ x. In f.front x in
+              let up : r.0 < k = ranks.rises r.0 k r.1 t (subst B (sym r.2) b) in
+              elim (below n r.0 (omega (arith, up)) r.1) [
+                | inl y ↦ subst F r.2 y
+                | inr y ↦ (let a = h.back (at_rank line r.0) y in
+                    let A : ℕ → Type 0 = λ x. Before line x (at_rank line k) in
+                    let q = back_closed kind line c h.placed h.ranked a.0 a.1 a.3 (at_rank line k) (subst A (sym r.2 ∙ sym a.2) b) in
+                    absurd (false≢true (sym nb ∙ h.back_all (at_rank line k) (q.0, q.1, q.2, q.3))))
+              ]);
           fits = elim (cases_lt c (time line (at_rank line k))) [
             | inl long ↦ absurd (short (at_rank line k) (ranks.task k t, long))
             | inr g ↦ omega (arith, whole)
@@ -205,7 +205,7 @@ work_joins kind line c f place a t is h m =
     let small : a.task < 1024 = omega (arith, m.task, is.small) in
     let more = members_join a.side f.front f.back a.task h.front_truths h.back_truths small (not_in f.front a.task m.front) (not_in f.back a.task m.back) in
     let most : members (with_front a.side f.front a.task) + members (with_back a.side f.back a.task) ≤ 2048 =
-        omega (arith, members-le (with_front a.side f.front a.task), members-le (with_back a.side f.back a.task), length-with_front a.side f.front a.task, length-with_back a.side f.back a.task, h.front_truths, h.back_truths) in
+    omega (arith, members-le (with_front a.side f.front a.task), members-le (with_back a.side f.back a.task), length-with_front a.side f.front a.task, length-with_back a.side f.back a.task, h.front_truths, h.back_truths) in
     omega (arith, more, most, flag_most (nat_eq (members (set f.here a.task true)) 0))
 
 pub work_goes_on : (f : Filled) (c : ℕ) → cond {A = ℕ} (nat_eq (members f.here) 0) 0 1 ≡ 1 → work (next_station f c) < work f

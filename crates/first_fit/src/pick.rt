@@ -19,9 +19,15 @@ pub fn pick(inst: &Instance, kind: LineKind, weights: &Weights, filling: &Fillin
 {
     let mut best = None;
     for task in 0..inst.tasks() {
-        let front = Choice { task, side: Side::Front };
+        let front = Choice {
+            task,
+            side: Side::Front,
+        };
         best = better(inst, kind, weights, filling, best, front);
-        let back = Choice { task, side: Side::Back };
+        let back = Choice {
+            task,
+            side: Side::Back,
+        };
         best = better(inst, kind, weights, filling, best, back);
     }
     best

@@ -35,12 +35,7 @@ fn no_places(alloc: Global, n: usize) -> Result<Vec<Seatplace>, AllocError>
 }
 
 /// Fills the line, where no task is longer than the cycle.
-fn filled(
-    alloc: Global,
-    inst: &Instance,
-    kind: LineKind,
-    cycle: u64,
-) -> Result<Balance, AllocError>
+fn filled(alloc: Global, inst: &Instance, kind: LineKind, cycle: u64) -> Result<Balance, AllocError>
     requires { (i : ℕ) → IsTooLong inst.now cycle i → ⊥ }
     ensures { IfOk result (IsRankedBalance kind inst.now cycle) }
 {

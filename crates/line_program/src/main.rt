@@ -11,9 +11,8 @@ mod top;
 mod words;
 
 use line_io::{DiskShelf, OutSink};
-use std::env;
-use std::io;
 use std::process::ExitCode;
+use std::{env, io};
 use top::run;
 
 /// The words after the program's name.

@@ -7,7 +7,8 @@ use std::test::Fail;
 
 const P5: &[u8] = b"5\n4\n4\n2\n2\n2\n-1,-1\n";
 
-const JACKSON: &[u8] = b"11\n6\n2\n5\n7\n1\n2\n3\n6\n5\n5\n4\n1,2\n1,3\n1,4\n1,5\n2,6\n3,7\n4,7\n5,7\n6,8\n7,9\n8,10\n9,11\n10,11\n-1,-1\n";
+const JACKSON: &[u8] =
+    b"11\n6\n2\n5\n7\n1\n2\n3\n6\n5\n5\n4\n1,2\n1,3\n1,4\n1,5\n2,6\n3,7\n4,7\n5,7\n6,8\n7,9\n8,10\n9,11\n10,11\n-1,-1\n";
 
 /// How a run with these words ends over one file, and what it puts. The calls of these numbers fail.
 fn run_over(
@@ -41,7 +42,10 @@ fn balance(alloc: Global, text: &[u8], cycle: &str) -> Result<(Status, String), 
 fn balance_of_five_tasks(rt: HostRuntime) -> Result<(), Fail> {
     let (status, text) = balance(rt.alloc(), P5, "cycle=7")?;
     assert_eq!(rt; status, Status::Done);
-    assert_eq!(rt; text.as_str(), "balance 3\ntotal bound 2\nidle 7\nstation 1: 1 3\nstation 2: 2 4\nstation 3: 5\n");
+    assert_eq!(rt;
+        text.as_str(),
+        "balance 3\ntotal bound 2\nidle 7\nstation 1: 1 3\nstation 2: 2 4\nstation 3: 5\n"
+    );
     Ok(())
 }
 
@@ -57,21 +61,37 @@ fn a_task_too_long(rt: HostRuntime) -> Result<(), Fail> {
 fn balance_of_jackson(rt: HostRuntime) -> Result<(), Fail> {
     let (status, text) = balance(rt.alloc(), JACKSON, "cycle=10")?;
     assert_eq!(rt; status, Status::Done);
-    assert_eq!(rt; text.as_str(), "balance 6\ntotal bound 5\nidle 14\nstation 1: 1 2 6\nstation 2: 4 5\nstation 3: 3 7\nstation 4: 8\nstation 5: 9 10\nstation 6: 11\n");
+    assert_eq!(rt;
+        text.as_str(),
+        "balance 6\ntotal bound 5\nidle 14\nstation 1: 1 2 6\nstation 2: 4 5\nstation 3: 3 7\nstation 4: 8\nstation 5: 9 10\nstation 6: 11\n"
+    );
     Ok(())
 }
 
 #[test]
 fn a_huge_idle_time(rt: HostRuntime) -> Result<(), Fail> {
-    let (status, text) = balance(rt.alloc(), b"1\n200000000000000\n-1,-1\n", "cycle=1000000000000000000")?;
+    let (status, text) = balance(
+        rt.alloc(),
+        b"1\n200000000000000\n-1,-1\n",
+        "cycle=1000000000000000000",
+    )?;
     assert_eq!(rt; status, Status::Done);
-    assert_eq!(rt; text.as_str(), "balance 1\ntotal bound 1\nidle 999800000000000000\nstation 1: 1\n");
+    assert_eq!(rt;
+        text.as_str(),
+        "balance 1\ntotal bound 1\nidle 999800000000000000\nstation 1: 1\n"
+    );
     Ok(())
 }
 
 #[test]
 fn no_such_file(rt: HostRuntime) -> Result<(), Fail> {
-    let (status, text) = run_over(rt.alloc(), &["balance", "none.in2", "cycle=7"], P5, &[], &[])?;
+    let (status, text) = run_over(
+        rt.alloc(),
+        &["balance", "none.in2", "cycle=7"],
+        P5,
+        &[],
+        &[],
+    )?;
     assert_eq!(rt; status, Status::ReadFault);
     assert_eq!(rt; text.as_str(), "read fault: none.in2\n");
     let (status, text) = run_over(rt.alloc(), &["balance", "t.in2", "cycle=7"], P5, &[0], &[])?;
@@ -113,7 +133,10 @@ fn words_that_ask_for_nothing(rt: HostRuntime) -> Result<(), Fail> {
 fn after_the_end(rt: HostRuntime) -> Result<(), Fail> {
     let (status, text) = balance(rt.alloc(), b"1\n5\n-1,-1\nmade by hand\n", "cycle=5")?;
     assert_eq!(rt; status, Status::Done);
-    assert_eq!(rt; text.as_str(), "balance 1\ntotal bound 1\nidle 0\nstation 1: 1\n");
+    assert_eq!(rt;
+        text.as_str(),
+        "balance 1\ntotal bound 1\nidle 0\nstation 1: 1\n"
+    );
     Ok(())
 }
 
@@ -121,17 +144,29 @@ fn after_the_end(rt: HostRuntime) -> Result<(), Fail> {
 fn faults_at_their_lines(rt: HostRuntime) -> Result<(), Fail> {
     let rows: [(&[u8], &str); 12] = [
         (b"2\n3\n4\n1,2\n", "input: t.in2 line 5 missing end\n"),
-        (b"3\n1\n1\n1\n1,2\n2,3\n3,1\n-1,-1\n", "input: t.in2 line 8 cycle 1 2 3\n"),
+        (
+            b"3\n1\n1\n1\n1,2\n2,3\n3,1\n-1,-1\n",
+            "input: t.in2 line 8 cycle 1 2 3\n",
+        ),
         (b"2\n1\n1\n2,2\n-1,-1\n", "input: t.in2 line 5 cycle 2\n"),
         (b"2\n1\n1\n1,3\n-1,-1\n", "input: t.in2 line 4 bad arc\n"),
         (b"1025\n", "input: t.in2 line 1 range\n"),
         (b"", "input: t.in2 line 1 missing times\n"),
         (b"  \n\t\r\n \n", "input: t.in2 line 4 missing times\n"),
-        (b"1\n200000000000001\n-1,-1\n", "input: t.in2 line 2 range\n"),
-        (b"1\n1111111111222222222233333333334444444444\n-1,-1\n", "input: t.in2 line 2 range\n"),
+        (
+            b"1\n200000000000001\n-1,-1\n",
+            "input: t.in2 line 2 range\n",
+        ),
+        (
+            b"1\n1111111111222222222233333333334444444444\n-1,-1\n",
+            "input: t.in2 line 2 range\n",
+        ),
         (b"2\n1\n", "input: t.in2 line 3 missing times\n"),
         (b"one\n", "input: t.in2 line 1 not a number\n"),
-        (b"1\n1\n1\r,1\n-1,-1\n", "input: t.in2 line 3 not a number\n"),
+        (
+            b"1\n1\n1\r,1\n-1,-1\n",
+            "input: t.in2 line 3 not a number\n",
+        ),
     ];
     for row in rows {
         let (status, text) = balance(rt.alloc(), row.0, "cycle=5")?;

@@ -78,12 +78,7 @@ fn fault_line(alloc: Global, file: &str, fault: &In2Fault) -> Result<String, All
 }
 
 /// What is reported of a file's bytes.
-fn bytes_report(
-    alloc: Global,
-    bytes: &[u8],
-    file: &str,
-    cycle: u64,
-) -> Result<Report, AllocError>
+fn bytes_report(alloc: Global, bytes: &[u8], file: &str, cycle: u64) -> Result<Report, AllocError>
     requires some { 1 ≤ cycle }
     requires limit { cycle ≤ 1000000000000000000 }
     requires short { length bytes.now < 2 ^ 63 }
@@ -132,11 +127,7 @@ fn file_report<S: Shelf>(
 }
 
 /// The report of the words' job, and of words that ask for none.
-fn report_of<S: Shelf>(
-    alloc: Global,
-    words: &[String],
-    shelf: &mut S,
-) -> Result<Report, AllocError>
+fn report_of<S: Shelf>(alloc: Global, words: &[String], shelf: &mut S) -> Result<Report, AllocError>
     ensures report { S.tells → IfOk result (λ r. IsPrinted words.now (S.file shelf.old) r.status (string_bytes r.text)) }
     ensures usage { IfOk result (λ r. r.status ≡ ends.Usage → AskNothing words.now) }
     ensures read { IfOk result (λ r. r.status ≡ ends.ReadFault → Rises (S.faults shelf.old) (S.faults shelf.new)) }
@@ -174,12 +165,7 @@ fn put<K: Sink>(out: &mut K, text: &[u8], status: Status) -> Status
 /// The words are `balance`, the name of an IN2 file, and `cycle=C`. The report is the ranked balance of the file's instance at cycle
 /// time C, with the bound by total time and the idle time, or the least task that is longer than C. Any other words are answered by
 /// the line `usage`. Each refusal is one line, and nothing is put with it. The files stay as they are.
-pub fn run<S: Shelf, K: Sink>(
-    alloc: Global,
-    words: &[String],
-    shelf: &mut S,
-    out: &mut K,
-) -> Status
+pub fn run<S: Shelf, K: Sink>(alloc: Global, words: &[String], shelf: &mut S, out: &mut K) -> Status
     ensures put { S.tells → K.tells → result ≢ ends.WriteFault → IsPut words.now (S.file shelf.old) result (K.shown out.old) (K.shown out.new) }
     ensures torn { S.tells → K.tells → result ≡ ends.WriteFault → IsTorn words.now (S.file shelf.old) (K.shown out.old) (K.shown out.new) }
     ensures usage { result ≡ ends.Usage → AskNothing words.now }

@@ -29,8 +29,11 @@ filling-preserved-in-Some c =
     (one_more c.args.kind c.args.inst.now c.args.cycle c.filling.filling c.filling.place.items c.tasks.ensures.line c.filling.invariant c.in-Some.choice c.in-Some.ensures.some))
 
 pub next_station-filling-requires : goal.next_station-filling-requires
-next_station-filling-requires c = omega (arith, c.tasks.ensures.line.small,
-    station_small c.args.kind c.args.inst.now c.args.cycle c.filling.filling c.filling.place.items c.tasks.ensures.line c.tasks.ensures.ranked c.filling.invariant c.requires (c.in-None.ensures.none refl))
+next_station-filling-requires c = omega (
+  arith,
+  c.tasks.ensures.line.small,
+  station_small c.args.kind c.args.inst.now c.args.cycle c.filling.filling c.filling.place.items c.tasks.ensures.line c.tasks.ensures.ranked c.filling.invariant c.requires (c.in-None.ensures.none refl),
+)
 
 pub filling-smaller : goal.filling-smaller
 filling-smaller c =
