@@ -87,8 +87,8 @@ one_reading lines x y s t = let e : Ok x ≡ Ok y = sym (spelled_is_read 0 lines
 pub no_instance : (bytes : List ℕ) (f : In2Fault) (line : Line) → IsIn2Fault bytes f → IsReading bytes line → ⊥
 no_instance bytes f line (inl (inl o)) r =
     let P : Lines → Type 0 = λ ls. Spells ls r.x in
-    o.stops (o.after, r.x, subst P (o.all ∙ sym (append_assoc o.before (o.at ∷ []) o.after)) r.reads)
-no_instance bytes f line (inl (inr o)) r = o.ends r.x r.reads
+    o.stops (o.after, (r.x, subst P (o.all ∙ sym (append_assoc o.before (o.at ∷ []) o.after)) r.reads))
+no_instance bytes f line (inl (inr o)) r = o.ends (r.x, r.reads)
 no_instance bytes f line (inr o) r =
     let same : o.x ≡ r.x = one_reading (contents_from 1 bytes) o.x r.x o.reads r.reads in
     let P : In2 → Type 0 = λ x. IsRing x.arcs o.ring in

@@ -8,13 +8,15 @@ use Rattle.line_io.specs.declared.text.Num.{Num}
 use Rattle.line_io.specs.declared.text.Num.TheVariants.{Value, NotANumber as NoNumber, Above}
 use Rattle.line_instance.specs.declared.arcs.Prec.{Prec}
 use Rattle.in2_reader.specs.Contents.{Lines}
+use Rattle.in2_reader.specs.declared.pair.Meaning.{Meaning}
+use Rattle.in2_reader.specs.declared.pair.Meaning.TheVariants.{Before}
 use Rattle.in2_reader.specs.declared.pair.Pair.{Pair}
 use Rattle.in2_reader.specs.declared.pair.Pair.TheVariants.{Arc, BadArc as NoTasks, End, Other}
 use Rattle.in2_reader.specs.declared.fault.In2Fault.{In2Fault}
 use Rattle.in2_reader.specs.declared.fault.In2Kind.TheVariants.{NotANumber, Range, MissingTimes, MissingEnd, BadArc, TooManyArcs}
 use Rattle.in2_reader.specs.Reading.{times_in, pairs_in, timed, paired, with_time, with_arc, with_times, then_pairs, counted, lines_said}
 use Rattle.in2_reader.specs.Grammar.{In2, Spells}
-use Rattle.in2_reader.specs.Faults.{IsBeginning, Begins, count_fault, time_fault, pair_fault, count, time, pair, all, times, mark, IsLineFault, IsEndFault, IsFormFault}
+use Rattle.in2_reader.specs.Faults.{IsBeginning, IsRead, Begins, count_fault, time_fault, pair_fault, IsWrong, count, time, pair, IsMissing, all, times, mark, IsLineFault, IsEndFault, IsFormFault}
 use Rattle.in2_reader.proofs.Spelled.{time_at, pair_at, times_read, times_spelled, spelled_is_read}
 use Rattle.in2_reader.proofs.Filling.{times_begin, pairs_begin, nothing_begins}
 
@@ -77,24 +79,24 @@ times_faulty end (suc n) (l ∷ ls) f e = elim (timed_err l.0 (time_at l) (times
 ]
 
 -- a line stops the pairs: those before it are pairs, and it is none that may stand there
-pub record StopsPairs (tasks room : ℕ) (ls : Lines) (f : In2Fault) : Type 0 where
+pub record StopsPairs (meaning : Meaning) (tasks room : ℕ) (ls : Lines) (f : In2Fault) : Type 0 where
   pub before : Lines
   pub at : ℕ × List ℕ
   pub after : Lines
   pub ps : List Prec
   pub all : ls ≡ before ++ at ∷ after
   pub line : f.line ≡ at.0
-  pub read : map (pair_at tasks) before ≡ map Arc ps
+  pub read : map (pair_at meaning tasks) before ≡ map Arc ps
   pub few : length ps ≤ room
-  pub wrong : pair_fault (nat_eq (length ps) room) (pair_at tasks at) ≡ Some f.kind
-  pub stays : (end : ℕ) (more : Lines) → pairs_in end tasks room (before ++ at ∷ more) ≡ Err f
+  pub wrong : pair_fault (nat_eq (length ps) room) (pair_at meaning tasks at) ≡ Some f.kind
+  pub stays : (end : ℕ) (more : Lines) → pairs_in end meaning tasks room (before ++ at ∷ more) ≡ Err f
 
 -- the text ends within the pairs
-pub record EndsPairs (end tasks room : ℕ) (ls : Lines) (f : In2Fault) : Type 0 where
+pub record EndsPairs (end : ℕ) (meaning : Meaning) (tasks room : ℕ) (ls : Lines) (f : In2Fault) : Type 0 where
   pub ps : List Prec
   pub line : f.line ≡ end
   pub kind : f.kind ≡ MissingEnd
-  pub read : map (pair_at tasks) ls ≡ map Arc ps
+  pub read : map (pair_at meaning tasks) ls ≡ map Arc ps
   pub few : length ps ≤ room
 
 paired_err : (k : ℕ) (full : Bool) (p : Pair) (r : Result (List Prec × ℕ) In2Fault) (f : In2Fault) → paired k full p r ≡ Err f
@@ -113,11 +115,11 @@ none_is_room r = grind (arith, nat_tests)
 both_more : (a b : ℕ) → nat_eq (suc a) (suc b) ≡ nat_eq a b
 both_more a b = grind (arith, nat_tests)
 
-pairs_faulty : (end tasks room : ℕ) (ls : Lines) (f : In2Fault) → pairs_in end tasks room ls ≡ Err f → StopsPairs tasks room ls f ⊎ EndsPairs end tasks room ls f
-pairs_faulty end tasks room [] f e =
+pub pairs_faulty : (end : ℕ) (meaning : Meaning) (tasks room : ℕ) (ls : Lines) (f : In2Fault) → pairs_in end meaning tasks room ls ≡ Err f → StopsPairs meaning tasks room ls f ⊎ EndsPairs end meaning tasks room ls f
+pairs_faulty end meaning tasks room [] f e =
     let i : f ≡ record { line = end; kind = MissingEnd } = cc in
     inr (record { ps = []; line = ap (λ x. x.line) i; kind = ap (λ x. x.kind) i; read = refl; few = omega arith })
-pairs_faulty end tasks zero (l ∷ ls) f e = elim (paired_err l.0 true (pair_at tasks l) (Err (record { line = end; kind = MissingEnd })) f e) [
+pairs_faulty end meaning tasks zero (l ∷ ls) f e = elim (paired_err l.0 true (pair_at meaning tasks l) (Err (record { line = end; kind = MissingEnd })) f e) [
   | inl o ↦ inl (record {
     before = [];
     at = l;
@@ -132,7 +134,7 @@ pairs_faulty end tasks zero (l ∷ ls) f e = elim (paired_err l.0 true (pair_at 
   })
   | inr o ↦ absurd (false≢true (sym o.2))
 ]
-pairs_faulty end tasks (suc room) (l ∷ ls) f e = elim (paired_err l.0 false (pair_at tasks l) (pairs_in end tasks room ls) f e) [
+pairs_faulty end meaning tasks (suc room) (l ∷ ls) f e = elim (paired_err l.0 false (pair_at meaning tasks l) (pairs_in end meaning tasks room ls) f e) [
   | inl o ↦ inl (record {
     before = [];
     at = l;
@@ -142,10 +144,10 @@ pairs_faulty end tasks (suc room) (l ∷ ls) f e = elim (paired_err l.0 false (p
     line = o.0;
     read = refl;
     few = omega arith;
-    wrong = ap (λ full. pair_fault full (pair_at tasks l)) (none_is_room room) ∙ o.1;
-    stays = λ end more. o.2 (pairs_in end tasks room more);
+    wrong = ap (λ full. pair_fault full (pair_at meaning tasks l)) (none_is_room room) ∙ o.1;
+    stays = λ end more. o.2 (pairs_in end meaning tasks room more);
   })
-  | inr o ↦ elim (pairs_faulty end tasks room ls f o.3) [
+  | inr o ↦ elim (pairs_faulty end meaning tasks room ls f o.3) [
     | inl i ↦ inl (record {
       before = l ∷ i.before;
       at = i.at;
@@ -153,16 +155,16 @@ pairs_faulty end tasks (suc room) (l ∷ ls) f e = elim (paired_err l.0 false (p
       ps = o.0 ∷ i.ps;
       all = ap (λ r. l ∷ r) i.all;
       line = i.line;
-      read = ap (λ v. v ∷ map (pair_at tasks) i.before) o.1 ∙ ap (λ r. Arc o.0 ∷ r) i.read;
+      read = ap (λ v. v ∷ map (pair_at meaning tasks) i.before) o.1 ∙ ap (λ r. Arc o.0 ∷ r) i.read;
       few = omega (arith, i.few);
-      wrong = ap (λ full. pair_fault full (pair_at tasks i.at)) (both_more (length i.ps) room) ∙ i.wrong;
-      stays = λ end more. ap (λ v. paired l.0 false v (pairs_in end tasks room (i.before ++ i.at ∷ more))) o.1 ∙ ap (with_arc o.0) (i.stays end more);
+      wrong = ap (λ full. pair_fault full (pair_at meaning tasks i.at)) (both_more (length i.ps) room) ∙ i.wrong;
+      stays = λ end more. ap (λ v. paired l.0 false v (pairs_in end meaning tasks room (i.before ++ i.at ∷ more))) o.1 ∙ ap (with_arc o.0) (i.stays end more);
     })
     | inr i ↦ inr (record {
       ps = o.0 ∷ i.ps;
       line = i.line;
       kind = i.kind;
-      read = ap (λ v. v ∷ map (pair_at tasks) ls) o.1 ∙ ap (λ r. Arc o.0 ∷ r) i.read;
+      read = ap (λ v. v ∷ map (pair_at meaning tasks) ls) o.1 ∙ ap (λ r. Arc o.0 ∷ r) i.read;
       few = omega (arith, i.few);
     })
   ]
@@ -203,12 +205,12 @@ head_err end k (Value n) ls f e =
 same_fault : {A : Type 0} (r : Result A In2Fault) (g f : In2Fault) → r ≡ Err g → r ≡ Err f → g ≡ f
 same_fault r g f d e = cc
 
-parts_err : (end n : ℕ) (ls : Lines) (f : In2Fault) → then_pairs end n (times_in end n ls) ≡ Err f → (times_in end n ls ≡ Err f) ⊎ ((t : List ℕ × Lines) × (times_in end n ls ≡ Ok t) × (pairs_in end n 524288 t.1 ≡ Err f))
+parts_err : (end n : ℕ) (ls : Lines) (f : In2Fault) → then_pairs end n (times_in end n ls) ≡ Err f → (times_in end n ls ≡ Err f) ⊎ ((t : List ℕ × Lines) × (times_in end n ls ≡ Ok t) × (pairs_in end Before n 524288 t.1 ≡ Err f))
 parts_err end n ls f e =
-    let J : (t : List ℕ × Lines) (p : Result (List Prec × ℕ) In2Fault) → pairs_in end n 524288 t.1 ≡ p → with_times t.0 p ≡ Err f → pairs_in end n 524288 t.1 ≡ Err f =
+    let J : (t : List ℕ × Lines) (p : Result (List Prec × ℕ) In2Fault) → pairs_in end Before n 524288 t.1 ≡ p → with_times t.0 p ≡ Err f → pairs_in end Before n 524288 t.1 ≡ Err f =
     λ t. elim [ Err g ↦ (λ a h. a ∙ ap (λ x. Err x) (same_fault {A = In2} (Err g) g f refl h)) | Ok q ↦ (λ a h. (let w : ◌≡◌ {A = Result In2 In2Fault} (Ok (record { times = t.0; arcs = q.0; last = q.1 })) (Err f) = h in (cc))) ] in
-    let K : (r : Result (List ℕ × Lines) In2Fault) → times_in end n ls ≡ r → then_pairs end n r ≡ Err f → (times_in end n ls ≡ Err f) ⊎ ((t : List ℕ × Lines) × (times_in end n ls ≡ Ok t) × (pairs_in end n 524288 t.1 ≡ Err f)) =
-    elim [ Err g ↦ (λ a h. inl (a ∙ ap (λ x. Err x) (same_fault {A = In2} (Err g) g f refl h))) | Ok t ↦ (λ a h. inr (t, a, J t (pairs_in end n 524288 t.1) refl h)) ] in
+    let K : (r : Result (List ℕ × Lines) In2Fault) → times_in end n ls ≡ r → then_pairs end n r ≡ Err f → (times_in end n ls ≡ Err f) ⊎ ((t : List ℕ × Lines) × (times_in end n ls ≡ Ok t) × (pairs_in end Before n 524288 t.1 ≡ Err f)) =
+    elim [ Err g ↦ (λ a h. inl (a ∙ ap (λ x. Err x) (same_fault {A = In2} (Err g) g f refl h))) | Ok t ↦ (λ a h. inr (t, a, J t (pairs_in end Before n 524288 t.1) refl h)) ] in
     K (times_in end n ls) refl e
 
 -- the head line is a number of tasks, and more follows
@@ -217,10 +219,10 @@ behind_head end n l more v z =
     ap (λ x. counted end l.0 x more) v ∙ ap (λ b. cond b (Err (record { line = l.0; kind = Range })) (then_pairs end n (times_in end n more))) z
 
 -- no contents that begin so are read, where the reading finds the fault whatever follows
-no_beginning : (before : Lines) (at : ℕ × List ℕ) (f : In2Fault) → ((end : ℕ) (more : Lines) → lines_said end (before ++ at ∷ more) ≡ Err f) → IsBeginning (before ++ at ∷ []) → ⊥
+no_beginning : (before : Lines) (at : ℕ × List ℕ) (f : In2Fault) → ((end : ℕ) (more : Lines) → lines_said end (before ++ at ∷ more) ≡ Err f) → IsBeginning IsRead (before ++ at ∷ []) → ⊥
 no_beginning before at f h b =
-    let said : lines_said 0 (before ++ at ∷ b.0) ≡ Ok b.1 = ap (lines_said 0) (sym (append_assoc before (at ∷ []) b.0)) ∙ spelled_is_read 0 ((before ++ at ∷ []) ++ b.0) b.1 b.2 in
-    let w : Err f ≡ Ok b.1 = sym (h 0 b.0) ∙ said in
+    let said : lines_said 0 (before ++ at ∷ b.0) ≡ Ok b.1.0 = ap (lines_said 0) (sym (append_assoc before (at ∷ []) b.0)) ∙ spelled_is_read 0 ((before ++ at ∷ []) ++ b.0) b.1.0 b.1.1 in
+    let w : Err f ≡ Ok b.1.0 = sym (h 0 b.0) ∙ said in
     (cc)
 
 not_spelled : (end : ℕ) (lines : Lines) (f : In2Fault) (x : In2) → lines_said end lines ≡ Err f → Spells lines x → ⊥
@@ -230,13 +232,13 @@ module _ (end n : ℕ) (l : ℕ × List ℕ) (ls : Lines) (f : In2Fault) (v : nu
   some : 0 < n
   some = grind (arith, nat_tests, z)
 
-  begun : (tl pl : Lines) (ts : List ℕ) (ps : List Prec) → map time_at tl ≡ map Value ts → map (pair_at n) pl ≡ map Arc ps → length ps ≤ 524288 → Begins (l ∷ (tl ++ pl)) n ts ps
+  begun : (tl pl : Lines) (ts : List ℕ) (ps : List Prec) → map time_at tl ≡ map Value ts → map (pair_at Before n) pl ≡ map Arc ps → length ps ≤ 524288 → Begins (l ∷ (tl ++ pl)) n ts ps
   begun tl pl ts ps t p h = record { head = l; timed = tl; paired = pl; all = refl; count = v; some = some; times = t; arcs = p; few = h }
 
   begun_times : (tl : Lines) (ts : List ℕ) → map time_at tl ≡ map Value ts → Begins (l ∷ tl) n ts []
   begun_times tl ts t = record { head = l; timed = tl; paired = []; all = ap (λ r. l ∷ r) (sym (append-nil tl)); count = v; some = some; times = t; arcs = refl; few = omega arith }
 
-  within_times : StopsTimes n ls f → IsLineFault (l ∷ ls) f
+  within_times : StopsTimes n ls f → IsLineFault IsRead IsWrong (l ∷ ls) f
   within_times i = record {
     before = l ∷ i.before;
     at = i.at;
@@ -248,16 +250,16 @@ module _ (end n : ℕ) (l : ℕ × List ℕ) (ls : Lines) (f : In2Fault) (v : nu
     kind = time n i.ts (begun_times i.before i.ts i.read) i.few i.wrong;
   }
 
-  at_end_of_times : EndsTimes end n ls f → IsEndFault end (l ∷ ls) f
+  at_end_of_times : EndsTimes end n ls f → IsEndFault IsRead IsMissing end (l ∷ ls) f
   at_end_of_times i = record {
     line = i.line;
     passes = times_begin (l ∷ ls) n i.ts (begun_times ls i.ts i.read) (omega (arith, i.few));
-    ends = λ x s. not_spelled end (l ∷ ls) f x e s;
+    ends = λ r. not_spelled end (l ∷ ls) f r.0 e r.1;
     kind = times n i.ts (begun_times ls i.ts i.read) i.few i.kind;
   }
 
   module _ (t : List ℕ × Lines) (k : KeepsTimes n ls t) where
-    within_pairs : StopsPairs n 524288 t.1 f → IsLineFault (l ∷ ls) f
+    within_pairs : StopsPairs Before n 524288 t.1 f → IsLineFault IsRead IsWrong (l ∷ ls) f
     within_pairs i =
         let b : Begins (l ∷ (k.timed ++ i.before)) n t.0 i.ps = begun k.timed i.before t.0 i.ps k.read i.read i.few in
         record {
@@ -274,21 +276,21 @@ module _ (end n : ℕ) (l : ℕ × List ℕ) (ls : Lines) (f : In2Fault) (v : nu
           kind = pair n t.0 i.ps b k.many i.wrong;
         }
 
-    at_end_of_pairs : EndsPairs end n 524288 t.1 f → IsEndFault end (l ∷ ls) f
+    at_end_of_pairs : EndsPairs end Before n 524288 t.1 f → IsEndFault IsRead IsMissing end (l ∷ ls) f
     at_end_of_pairs i =
         let P : Lines → Type 0 = λ r. Begins (l ∷ r) n t.0 i.ps in
         let b : Begins (l ∷ ls) n t.0 i.ps = subst P (sym k.all) (begun k.timed t.1 t.0 i.ps k.read i.read i.few) in
         record {
           line = i.line;
           passes = pairs_begin (l ∷ ls) n t.0 i.ps b k.many;
-          ends = λ x s. not_spelled end (l ∷ ls) f x e s;
+          ends = λ r. not_spelled end (l ∷ ls) f r.0 e r.1;
           kind = mark n t.0 i.ps b k.many i.kind;
         }
 
 pub fault_is_first : (end : ℕ) (lines : Lines) (f : In2Fault) → lines_said end lines ≡ Err f → IsFormFault end lines f
 fault_is_first end [] f e =
     let i : f ≡ record { line = end; kind = MissingTimes } = cc in
-    inr (record { line = ap (λ x. x.line) i; passes = nothing_begins; ends = λ x s. not_spelled end [] f x e s; kind = all refl (ap (λ x. x.kind) i) })
+    inr (record { line = ap (λ x. x.line) i; passes = nothing_begins; ends = λ r. not_spelled end [] f r.0 e r.1; kind = all refl (ap (λ x. x.kind) i) })
 fault_is_first end (l ∷ ls) f e = elim (head_err end l.0 (number_in 1024 l.1) ls f e) [
   | inl o ↦ inl (record {
     before = [];
@@ -302,7 +304,7 @@ fault_is_first end (l ∷ ls) f e = elim (head_err end l.0 (number_in 1024 l.1) 
   })
   | inr o ↦ elim (parts_err end o.0 ls f o.3) [
     | inl t ↦ elim (times_faulty end o.0 ls f t) [ inl i ↦ inl (within_times end o.0 l ls f o.1 o.2 e i) | inr i ↦ inr (at_end_of_times end o.0 l ls f o.1 o.2 e i) ]
-    | inr t ↦ elim (pairs_faulty end o.0 524288 t.0.1 f t.2) [
+    | inr t ↦ elim (pairs_faulty end Before o.0 524288 t.0.1 f t.2) [
       | inl i ↦ inl (within_pairs end o.0 l ls f o.1 o.2 e t.0 (times_kept end o.0 ls t.0 t.1) i)
       | inr i ↦ inr (at_end_of_pairs end o.0 l ls f o.1 o.2 e t.0 (times_kept end o.0 ls t.0 t.1) i)
     ]

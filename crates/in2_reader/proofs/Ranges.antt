@@ -9,6 +9,7 @@ use Rattle.line_instance.specs.Walks.{AreArcs, Names}
 use Rattle.line_instance.specs.Made.{AreTimes}
 use Rattle.in2_reader.specs.Contents.{Lines}
 use Rattle.in2_reader.specs.Pairs.{pair_in, parts_in, comma_split, arc_in, is_minus_one, without_gaps_front, without_gaps_back}
+use Rattle.in2_reader.specs.declared.pair.Meaning.TheVariants.{Before}
 use Rattle.in2_reader.specs.declared.pair.Pair.TheVariants.{Arc, BadArc, End}
 use Rattle.in2_reader.specs.Grammar.{In2, Spells}
 use Rattle.in2_reader.proofs.Spelled.{time_at, pair_at}
@@ -66,12 +67,12 @@ times_below (l ∷ tl) [] e i = (cc)
 times_below (l ∷ tl) (t ∷ ts) e zero = let head : time_at l ≡ Value t = cc in number_most 200000000000000 l.1 t head
 times_below (l ∷ tl) (t ∷ ts) e (suc i) = let tail : map time_at tl ≡ map Value ts = cc in times_below tl ts tail i
 
-arcs_named : (n : ℕ) (pl : Lines) (ps : List Prec) → map (pair_at n) pl ≡ map Arc ps → AreArcs n ps
+arcs_named : (n : ℕ) (pl : Lines) (ps : List Prec) → map (pair_at Before n) pl ≡ map Arc ps → AreArcs n ps
 arcs_named n [] [] e k h = absurd (omega arith)
 arcs_named n [] (p ∷ ps) e k h = (cc)
 arcs_named n (l ∷ pl) [] e k h = (cc)
-arcs_named n (l ∷ pl) (p ∷ ps) e zero h = let head : pair_at n l ≡ Arc p = cc in pair_named n l.1 p head
-arcs_named n (l ∷ pl) (p ∷ ps) e (suc k) h = let tail : map (pair_at n) pl ≡ map Arc ps = cc in arcs_named n pl ps tail k (omega arith)
+arcs_named n (l ∷ pl) (p ∷ ps) e zero h = let head : pair_at Before n l ≡ Arc p = cc in pair_named n l.1 p head
+arcs_named n (l ∷ pl) (p ∷ ps) e (suc k) h = let tail : map (pair_at Before n) pl ≡ map Arc ps = cc in arcs_named n pl ps tail k (omega arith)
 
 pub times_in_range : (lines : Lines) (x : In2) → Spells lines x → AreTimes x.times
 times_in_range lines x s = record { some = s.some; few = number_most 1024 s.head.1 (length x.times) s.count; limit = times_below s.timed x.times s.times }

@@ -6,7 +6,9 @@ use Rattle.line_io.specs.Lines.{number_in}
 use Rattle.line_io.specs.declared.text.Num.{Num}
 use Rattle.line_io.specs.declared.text.Num.TheVariants.{Value, NotANumber as NoNumber, Above}
 use Rattle.line_instance.specs.declared.arcs.Prec.{Prec}
-use Rattle.in2_reader.specs.Pairs.{pair_in}
+use Rattle.in2_reader.specs.Pairs.{pair_in, pair_for}
+use Rattle.in2_reader.specs.declared.pair.Meaning.{Meaning}
+use Rattle.in2_reader.specs.declared.pair.Meaning.TheVariants.{Before}
 use Rattle.in2_reader.specs.declared.pair.Pair.{Pair}
 use Rattle.in2_reader.specs.declared.pair.Pair.TheVariants.{Arc, BadArc as NoTasks, End, Other}
 use Rattle.in2_reader.specs.declared.fault.In2Fault.{In2Fault}
@@ -19,8 +21,8 @@ use Rattle.in2_reader.specs.Grammar.{In2, Spells}
 abbrev pub time_at : ℕ × List ℕ → Num
 time_at l = number_in 200000000000000 l.1
 
-abbrev pub pair_at : ℕ → ℕ × List ℕ → Pair
-pair_at tasks l = pair_in tasks l.1
+abbrev pub pair_at : Meaning → ℕ → ℕ × List ℕ → Pair
+pair_at meaning tasks l = pair_for meaning tasks l.1
 
 pub times_read : (end : ℕ) (tl : Lines) (ts : List ℕ) (rest : Lines) → map time_at tl ≡ map Value ts → times_in end (length ts) (tl ++ rest) ≡ Ok (ts, rest)
 times_read end [] [] rest e = refl
@@ -31,16 +33,16 @@ times_read end (l ∷ tl) (t ∷ ts) rest e =
     let tail : map time_at tl ≡ map Value ts = cc in
     ap (λ x. timed l.0 x (times_in end (length ts) (tl ++ rest))) head ∙ ap (with_time t) (times_read end tl ts rest tail)
 
-pairs_read : (end tasks room : ℕ) (pl : Lines) (ps : List Prec) (mark : ℕ × List ℕ) (rest : Lines) → map (λ l. pair_in tasks l.1) pl ≡ map Arc ps → length ps ≤ room → pair_in tasks mark.1 ≡ End → pairs_in end tasks room (pl ++ mark ∷ rest) ≡ Ok (ps, mark.0)
-pairs_read end tasks zero [] [] mark rest e h m = ap (λ x. paired mark.0 true x (Err (record { line = end; kind = MissingEnd }))) m
-pairs_read end tasks (suc room) [] [] mark rest e h m = ap (λ x. paired mark.0 false x (pairs_in end tasks room rest)) m
-pairs_read end tasks room [] (a ∷ ps) mark rest e h m = (cc)
-pairs_read end tasks room (l ∷ pl) [] mark rest e h m = (cc)
-pairs_read end tasks zero (l ∷ pl) (a ∷ ps) mark rest e h m = absurd (omega arith)
-pairs_read end tasks (suc room) (l ∷ pl) (a ∷ ps) mark rest e h m =
-    let head : pair_in tasks l.1 ≡ Arc a = cc in
-    let tail : map (λ l. pair_in tasks l.1) pl ≡ map Arc ps = cc in
-    ap (λ x. paired l.0 false x (pairs_in end tasks room (pl ++ mark ∷ rest))) head ∙ ap (with_arc a) (pairs_read end tasks room pl ps mark rest tail (omega arith) m)
+pub pairs_read : (end : ℕ) (meaning : Meaning) (tasks room : ℕ) (pl : Lines) (ps : List Prec) (mark : ℕ × List ℕ) (rest : Lines) → map (λ l. pair_for meaning tasks l.1) pl ≡ map Arc ps → length ps ≤ room → pair_for meaning tasks mark.1 ≡ End → pairs_in end meaning tasks room (pl ++ mark ∷ rest) ≡ Ok (ps, mark.0)
+pairs_read end meaning tasks zero [] [] mark rest e h m = ap (λ x. paired mark.0 true x (Err (record { line = end; kind = MissingEnd }))) m
+pairs_read end meaning tasks (suc room) [] [] mark rest e h m = ap (λ x. paired mark.0 false x (pairs_in end meaning tasks room rest)) m
+pairs_read end meaning tasks room [] (a ∷ ps) mark rest e h m = (cc)
+pairs_read end meaning tasks room (l ∷ pl) [] mark rest e h m = (cc)
+pairs_read end meaning tasks zero (l ∷ pl) (a ∷ ps) mark rest e h m = absurd (omega arith)
+pairs_read end meaning tasks (suc room) (l ∷ pl) (a ∷ ps) mark rest e h m =
+    let head : pair_for meaning tasks l.1 ≡ Arc a = cc in
+    let tail : map (λ l. pair_for meaning tasks l.1) pl ≡ map Arc ps = cc in
+    ap (λ x. paired l.0 false x (pairs_in end meaning tasks room (pl ++ mark ∷ rest))) head ∙ ap (with_arc a) (pairs_read end meaning tasks room pl ps mark rest tail (omega arith) m)
 
 pub spelled_is_read : (end : ℕ) (lines : Lines) (x : In2) → Spells lines x → lines_said end lines ≡ Ok x
 spelled_is_read end lines x s =
@@ -50,7 +52,7 @@ spelled_is_read end lines x s =
     ∙ ap (λ v. counted end s.head.0 v (s.timed ++ (s.paired ++ s.mark ∷ s.rest))) s.count
     ∙ ap (λ b. cond b (Err (record { line = s.head.0; kind = Range })) (then_pairs end n (times_in end n (s.timed ++ (s.paired ++ s.mark ∷ s.rest))))) some
     ∙ ap (then_pairs end n) (times_read end s.timed x.times (s.paired ++ s.mark ∷ s.rest) s.times)
-    ∙ ap (with_times x.times) (pairs_read end n 524288 s.paired x.arcs s.mark s.rest s.arcs s.few s.ends)
+    ∙ ap (with_times x.times) (pairs_read end Before n 524288 s.paired x.arcs s.mark s.rest s.arcs s.few s.ends)
     ∙ ap (λ k. Ok (record { times = x.times; arcs = x.arcs; last = k })) (sym s.last)
 
 -- how one line came to be read
@@ -83,21 +85,21 @@ times_spelled end (suc n) (l ∷ ls) x e =
       ap (λ p. length p.0) o.4 ∙ ap suc more.3,
     )
 
-pairs_spelled : (end tasks room : ℕ) (ls : Lines) (x : List Prec × ℕ) → pairs_in end tasks room ls ≡ Ok x
-    → (pl : Lines) × (mark : ℕ × List ℕ) × (rest : Lines) × (ls ≡ pl ++ mark ∷ rest) × (map (λ l. pair_in tasks l.1) pl ≡ map Arc x.0) × (length x.0 ≤ room) × (pair_in tasks mark.1 ≡ End) × (x.1 ≡ mark.0)
-pairs_spelled end tasks room [] x e = (cc)
-pairs_spelled end tasks zero (l ∷ ls) x e = elim (paired_ok l.0 true (pair_in tasks l.1) (Err (record { line = end; kind = MissingEnd })) x e) [
+pub pairs_spelled : (end : ℕ) (meaning : Meaning) (tasks room : ℕ) (ls : Lines) (x : List Prec × ℕ) → pairs_in end meaning tasks room ls ≡ Ok x
+    → (pl : Lines) × (mark : ℕ × List ℕ) × (rest : Lines) × (ls ≡ pl ++ mark ∷ rest) × (map (λ l. pair_for meaning tasks l.1) pl ≡ map Arc x.0) × (length x.0 ≤ room) × (pair_for meaning tasks mark.1 ≡ End) × (x.1 ≡ mark.0)
+pairs_spelled end meaning tasks room [] x e = (cc)
+pairs_spelled end meaning tasks zero (l ∷ ls) x e = elim (paired_ok l.0 true (pair_for meaning tasks l.1) (Err (record { line = end; kind = MissingEnd })) x e) [
   | inl o ↦ ([], l, ls, refl, ap (λ p. map Arc p.0) (sym o.1), omega (arith, ap (λ p. length p.0) o.1), o.0, ap (λ p. p.1) o.1)
   | inr o ↦ absurd (false≢true (sym o.3))
 ]
-pairs_spelled end tasks (suc room) (l ∷ ls) x e = elim (paired_ok l.0 false (pair_in tasks l.1) (pairs_in end tasks room ls) x e) [
+pairs_spelled end meaning tasks (suc room) (l ∷ ls) x e = elim (paired_ok l.0 false (pair_for meaning tasks l.1) (pairs_in end meaning tasks room ls) x e) [
   | inl o ↦ ([], l, ls, refl, ap (λ p. map Arc p.0) (sym o.1), omega (arith, ap (λ p. length p.0) o.1), o.0, ap (λ p. p.1) o.1)
-  | inr o ↦ (let more = pairs_spelled end tasks room ls o.1 o.4 in (
+  | inr o ↦ (let more = pairs_spelled end meaning tasks room ls o.1 o.4 in (
     l ∷ more.0,
     more.1,
     more.2,
     ap (λ t. l ∷ t) more.3,
-    ap (λ v. v ∷ map (λ l. pair_in tasks l.1) more.0) o.2 ∙ ap (λ t. Arc o.0 ∷ t) more.4 ∙ ap (λ p. map Arc p.0) (sym o.5),
+    ap (λ v. v ∷ map (λ l. pair_for meaning tasks l.1) more.0) o.2 ∙ ap (λ t. Arc o.0 ∷ t) more.4 ∙ ap (λ p. map Arc p.0) (sym o.5),
     omega (arith, ap (λ p. length p.0) o.5, more.5),
     more.6,
     ap (λ p. p.1) o.5 ∙ more.7,
@@ -105,24 +107,24 @@ pairs_spelled end tasks (suc room) (l ∷ ls) x e = elim (paired_ok l.0 false (p
 ]
 
 both_ok : (end n : ℕ) (ls : Lines) (x : In2) → nat_eq n 0 ≡ false → then_pairs end n (times_in end n ls) ≡ Ok x
-    → (m : ℕ) × (t : List ℕ × Lines) × (p : List Prec × ℕ) × (Value n ≡ Value m) × (nat_eq m 0 ≡ false) × (times_in end m ls ≡ Ok t) × (pairs_in end m 524288 t.1 ≡ Ok p) × (x ≡ record { times = t.0; arcs = p.0; last = p.1 })
+    → (m : ℕ) × (t : List ℕ × Lines) × (p : List Prec × ℕ) × (Value n ≡ Value m) × (nat_eq m 0 ≡ false) × (times_in end m ls ≡ Ok t) × (pairs_in end Before m 524288 t.1 ≡ Ok p) × (x ≡ record { times = t.0; arcs = p.0; last = p.1 })
 both_ok end n ls x z h =
-    let J : (p : Result (List Prec × ℕ) In2Fault) (t : List ℕ × Lines) → times_in end n ls ≡ Ok t → pairs_in end n 524288 t.1 ≡ p → with_times t.0 p ≡ Ok x
-    → (m : ℕ) × (t : List ℕ × Lines) × (p : List Prec × ℕ) × (Value n ≡ Value m) × (nat_eq m 0 ≡ false) × (times_in end m ls ≡ Ok t) × (pairs_in end m 524288 t.1 ≡ Ok p) × (x ≡ record { times = t.0; arcs = p.0; last = p.1 }) =
+    let J : (p : Result (List Prec × ℕ) In2Fault) (t : List ℕ × Lines) → times_in end n ls ≡ Ok t → pairs_in end Before n 524288 t.1 ≡ p → with_times t.0 p ≡ Ok x
+    → (m : ℕ) × (t : List ℕ × Lines) × (p : List Prec × ℕ) × (Value n ≡ Value m) × (nat_eq m 0 ≡ false) × (times_in end m ls ≡ Ok t) × (pairs_in end Before m 524288 t.1 ≡ Ok p) × (x ≡ record { times = t.0; arcs = p.0; last = p.1 }) =
     elim [ Err f ↦ (λ t a b g. absurd (let w : Err f ≡ Ok x = g in (cc))) | Ok q ↦ (λ t a b g. (n, t, q, refl, z, a, b, (let i : x ≡ record { times = t.0; arcs = q.0; last = q.1 } = cc in i))) ] in
     let K : (r : Result (List ℕ × Lines) In2Fault) → times_in end n ls ≡ r → then_pairs end n r ≡ Ok x
-    → (m : ℕ) × (t : List ℕ × Lines) × (p : List Prec × ℕ) × (Value n ≡ Value m) × (nat_eq m 0 ≡ false) × (times_in end m ls ≡ Ok t) × (pairs_in end m 524288 t.1 ≡ Ok p) × (x ≡ record { times = t.0; arcs = p.0; last = p.1 }) =
-    elim [ Err f ↦ (λ a g. absurd (let w : Err f ≡ Ok x = g in (cc))) | Ok t ↦ (λ a g. J (pairs_in end n 524288 t.1) t a refl g) ] in
+    → (m : ℕ) × (t : List ℕ × Lines) × (p : List Prec × ℕ) × (Value n ≡ Value m) × (nat_eq m 0 ≡ false) × (times_in end m ls ≡ Ok t) × (pairs_in end Before m 524288 t.1 ≡ Ok p) × (x ≡ record { times = t.0; arcs = p.0; last = p.1 }) =
+    elim [ Err f ↦ (λ a g. absurd (let w : Err f ≡ Ok x = g in (cc))) | Ok t ↦ (λ a g. J (pairs_in end Before n 524288 t.1) t a refl g) ] in
     K (times_in end n ls) refl h
 
 -- what the head line and the parts behind it came from
 counted_ok : (end k : ℕ) (v : Num) (ls : Lines) (x : In2) → counted end k v ls ≡ Ok x
-    → (n : ℕ) × (t : List ℕ × Lines) × (p : List Prec × ℕ) × (v ≡ Value n) × (nat_eq n 0 ≡ false) × (times_in end n ls ≡ Ok t) × (pairs_in end n 524288 t.1 ≡ Ok p) × (x ≡ record { times = t.0; arcs = p.0; last = p.1 })
+    → (n : ℕ) × (t : List ℕ × Lines) × (p : List Prec × ℕ) × (v ≡ Value n) × (nat_eq n 0 ≡ false) × (times_in end n ls ≡ Ok t) × (pairs_in end Before n 524288 t.1 ≡ Ok p) × (x ≡ record { times = t.0; arcs = p.0; last = p.1 })
 counted_ok end k NoNumber ls x e = (cc)
 counted_ok end k Above ls x e = (cc)
 counted_ok end k (Value n) ls x e =
     let I : (b : Bool) → nat_eq n 0 ≡ b → cond b (Err (record { line = k; kind = Range })) (then_pairs end n (times_in end n ls)) ≡ Ok x
-    → (m : ℕ) × (t : List ℕ × Lines) × (p : List Prec × ℕ) × (Value n ≡ Value m) × (nat_eq m 0 ≡ false) × (times_in end m ls ≡ Ok t) × (pairs_in end m 524288 t.1 ≡ Ok p) × (x ≡ record { times = t.0; arcs = p.0; last = p.1 }) =
+    → (m : ℕ) × (t : List ℕ × Lines) × (p : List Prec × ℕ) × (Value n ≡ Value m) × (nat_eq m 0 ≡ false) × (times_in end m ls ≡ Ok t) × (pairs_in end Before m 524288 t.1 ≡ Ok p) × (x ≡ record { times = t.0; arcs = p.0; last = p.1 }) =
     elim [ true ↦ (λ z h. absurd (let w : Err (record { line = k; kind = Range }) ≡ Ok x = h in (cc))) | false ↦ (λ z h. both_ok end n ls x z h) ] in
     I (nat_eq n 0) refl e
 
@@ -131,7 +133,7 @@ read_is_spelled end [] x e = (cc)
 read_is_spelled end (l ∷ ls) x e =
     let o = counted_ok end l.0 (number_in 1024 l.1) ls x e in
     let t = times_spelled end o.0 ls o.1 o.5 in
-    let p = pairs_spelled end o.0 524288 o.1.1 o.2 o.6 in
+    let p = pairs_spelled end Before o.0 524288 o.1.1 o.2 o.6 in
     let n : length x.times ≡ o.0 = ap (λ y. length y.times) o.7 ∙ t.3 in
     record {
       head = l;

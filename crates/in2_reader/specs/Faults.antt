@@ -15,8 +15,31 @@ use Rattle.in2_reader.specs.declared.fault.In2Kind.{In2Kind}
 use Rattle.in2_reader.specs.declared.fault.In2Kind.TheVariants.{NotANumber, Range, MissingTimes, MissingEnd, BadArc, TooManyArcs, Cycle}
 
 -- some contents that are read begin with these lines
-abbrev pub IsBeginning : Lines → Type 0
-IsBeginning lines = (more : Lines) × (x : In2) × Spells (lines ++ more) x
+abbrev pub IsBeginning : (Lines → Type 0) → Lines → Type 0
+IsBeginning Read lines = (more : Lines) × Read (lines ++ more)
+
+-- The fault is of the first line that no reading passes: the lines before it begin contents that are read, and with it they begin
+-- none. What is wrong with it goes by the lines before it and its content.
+pub record IsLineFault (Read : Lines → Type 0) (Wrong : Lines → List ℕ → In2Kind → Type 0) (lines : Lines) (f : In2Fault) : Type 0 where
+  pub before : Lines
+  pub at : ℕ × List ℕ
+  pub after : Lines
+  pub all : lines ≡ before ++ at ∷ after
+  pub line : f.line ≡ at.0
+  pub passes : IsBeginning Read before
+  pub stops : IsBeginning Read (before ++ at ∷ []) → ⊥
+  pub kind : Wrong before at.1 f.kind
+
+-- The fault is of the text's end: the lines begin contents that are read, and aren't read themselves. What is missing goes by them.
+pub record IsEndFault (Read : Lines → Type 0) (Missing : Lines → In2Kind → Type 0) (end : ℕ) (lines : Lines) (f : In2Fault) : Type 0 where
+  pub line : f.line ≡ end
+  pub passes : IsBeginning Read lines
+  pub ends : Read lines → ⊥
+  pub kind : Missing lines f.kind
+
+-- the contents are read
+abbrev pub IsRead : Lines → Type 0
+IsRead lines = (x : In2) × Spells lines x
 
 -- the lines are a number of tasks and, behind it, lines of these times and then of these pairs
 pub record Begins (lines : Lines) (n : ℕ) (ts : List ℕ) (ps : List Prec) : Type 0 where
@@ -64,24 +87,6 @@ pub data IsMissing (lines : Lines) (kind : In2Kind) : Type 0 where
   times : (n : ℕ) (ts : List ℕ) → Begins lines n ts [] → length ts < n → kind ≡ MissingTimes → IsMissing lines kind
   mark : (n : ℕ) (ts : List ℕ) (ps : List Prec) → Begins lines n ts ps → length ts ≡ n → kind ≡ MissingEnd → IsMissing lines kind
 
--- the fault is of the first line that no reading passes: the lines before it begin contents that are read, and with it they begin none
-pub record IsLineFault (lines : Lines) (f : In2Fault) : Type 0 where
-  pub before : Lines
-  pub at : ℕ × List ℕ
-  pub after : Lines
-  pub all : lines ≡ before ++ at ∷ after
-  pub line : f.line ≡ at.0
-  pub passes : IsBeginning before
-  pub stops : IsBeginning (before ++ at ∷ []) → ⊥
-  pub kind : IsWrong before at.1 f.kind
-
--- the fault is of the text's end: the lines begin contents that are read, and aren't read themselves
-pub record IsEndFault (end : ℕ) (lines : Lines) (f : In2Fault) : Type 0 where
-  pub line : f.line ≡ end
-  pub passes : IsBeginning lines
-  pub ends : (x : In2) → Spells lines x → ⊥
-  pub kind : IsMissing lines f.kind
-
 -- the fault is a cycle, at the line of the end mark: the text says arcs that have this ring
 pub record IsCycleFault (bytes : List ℕ) (f : In2Fault) : Type 0 where
   pub x : In2
@@ -93,7 +98,7 @@ pub record IsCycleFault (bytes : List ℕ) (f : In2Fault) : Type 0 where
 
 -- a fault of the form: of a line, or of the end
 abbrev pub IsFormFault : ℕ → Lines → In2Fault → Type 0
-IsFormFault end lines f = IsLineFault lines f ⊎ IsEndFault end lines f
+IsFormFault end lines f = IsLineFault IsRead IsWrong lines f ⊎ IsEndFault IsRead IsMissing end lines f
 
 -- the fault of a text
 abbrev pub IsIn2Fault : List ℕ → In2Fault → Type 0

@@ -3,10 +3,12 @@ use Rattle.std.specs.Prelude.{◌≡◌, ℕ, zero, suc, Bool, true, false, cond
 use Rattle.line_io.specs.Lines.{number_in}
 use Rattle.line_io.specs.declared.text.Num.{Num}
 use Rattle.line_io.specs.declared.text.Num.TheVariants.{Value, NotANumber as NoNumber, Above}
-use Rattle.in2_reader.specs.Pairs.{pair_in}
+use Rattle.in2_reader.specs.Pairs.{pair_for}
 use Rattle.in2_reader.specs.Contents.{Lines, contents_from, lines_in}
 use Rattle.in2_reader.specs.Grammar.{In2}
 use Rattle.line_instance.specs.declared.arcs.Prec.{Prec}
+use Rattle.in2_reader.specs.declared.pair.Meaning.{Meaning}
+use Rattle.in2_reader.specs.declared.pair.Meaning.TheVariants.{Before, Apart}
 use Rattle.in2_reader.specs.declared.pair.Pair.{Pair}
 use Rattle.in2_reader.specs.declared.pair.Pair.TheVariants.{Arc, BadArc as NoTasks, End, Other}
 use Rattle.in2_reader.specs.declared.fault.In2Fault.{In2Fault}
@@ -48,10 +50,10 @@ paired line full NoTasks more = cond full (fault line TooManyArcs) (fault line B
 paired line full (Arc a) more = cond full (fault line TooManyArcs) (with_arc a more)
 
 -- pairs up to the end mark, with room for so many
-abbrev pub pairs_in : ℕ → ℕ → ℕ → Lines → Result (List Prec × ℕ) In2Fault
-pairs_in end tasks room [] = fault end MissingEnd
-pairs_in end tasks zero (l ∷ lines) = paired l.0 true (pair_in tasks l.1) (fault end MissingEnd)
-pairs_in end tasks (suc room) (l ∷ lines) = paired l.0 false (pair_in tasks l.1) (pairs_in end tasks room lines)
+abbrev pub pairs_in : ℕ → Meaning → ℕ → ℕ → Lines → Result (List Prec × ℕ) In2Fault
+pairs_in end meaning tasks room [] = fault end MissingEnd
+pairs_in end meaning tasks zero (l ∷ lines) = paired l.0 true (pair_for meaning tasks l.1) (fault end MissingEnd)
+pairs_in end meaning tasks (suc room) (l ∷ lines) = paired l.0 false (pair_for meaning tasks l.1) (pairs_in end meaning tasks room lines)
 
 -- the times before what the pairs say
 abbrev pub with_times : List ℕ → Result (List Prec × ℕ) In2Fault → Result In2 In2Fault
@@ -61,7 +63,7 @@ with_times times (Ok x) = Ok (record { times = times; arcs = x.0; last = x.1 })
 -- the pairs that stand behind the times
 abbrev pub then_pairs : ℕ → ℕ → Result (List ℕ × Lines) In2Fault → Result In2 In2Fault
 then_pairs end tasks (Err e) = Err e
-then_pairs end tasks (Ok x) = with_times x.0 (pairs_in end tasks 524288 x.1)
+then_pairs end tasks (Ok x) = with_times x.0 (pairs_in end Before tasks 524288 x.1)
 
 -- times and pairs behind the number of tasks
 abbrev pub counted : ℕ → ℕ → Num → Lines → Result In2 In2Fault
@@ -74,9 +76,13 @@ abbrev pub lines_said : ℕ → Lines → Result In2 In2Fault
 lines_said end [] = fault end MissingTimes
 lines_said end (l ∷ lines) = counted end l.0 (number_in 1024 l.1) lines
 
--- what a text says
+-- what a text of an instance says
 abbrev pub text_said : List ℕ → Result In2 In2Fault
 text_said text = lines_said (lines_in 1 text) (contents_from 1 text)
+
+-- the pairs apart that a text says, and the line of its end mark
+abbrev pub apart_said : ℕ → List ℕ → Result (List Prec × ℕ) In2Fault
+apart_said tasks text = pairs_in (lines_in 1 text) Apart tasks 524288 (contents_from 1 text)
 
 -- What a function returned, seen by view, is what reading gives, unless memory ran out.
 abbrev pub Fails : {Y : Type 0} → ReadError → Result Y In2Fault → Type 0

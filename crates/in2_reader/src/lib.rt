@@ -1,13 +1,17 @@
-//! Instances as IN2 texts.
+//! Instances as IN2 texts, and texts of tasks that are apart.
 #![tactic(auto)]
 
 mod answer;
+mod apart;
 mod fault;
 mod line;
 mod pair;
 mod reading;
+#[cfg(test)]
+mod tests;
 mod text;
 
 pub use answer::{In2Read, read_in2};
+pub use apart::{ApartRead, read_apart};
 pub use fault::{In2Fault, In2Kind};
 pub use text::push_fault;

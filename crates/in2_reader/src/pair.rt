@@ -1,17 +1,30 @@
 ghost use Rattle.std.specs.Prelude.{◌≡◌, ◌≢◌, ◌≤◌, ◌<◌, ◌^◌, ℕ, MatchOption, length, take, drop, IfSome, IsNone, None, Some};
-ghost use Rattle.in2_reader.specs.Pairs.{pair_in, comma_split, without_gaps_front, without_gaps_back, is_gap as gap, arc_in, is_minus_one as minus_one};
+ghost use Rattle.in2_reader.specs.Pairs.{pair_in, pair_for, comma_split, without_gaps_front, without_gaps_back, is_gap as gap, arc_in, is_minus_one as minus_one};
 ghost use Rattle.line_io.specs.declared.text.Num.TheVariants.{Value};
 ghost use Rattle.line_io.specs.Lines.{number_in};
 
 use line_instance::Prec;
 use line_io::{Num, Span, number};
 
+/// What pairs of tasks mean.
+#[derive(Clone, Copy, Debug, PartialEq, Eq)]
+pub enum Meaning {
+    /// The first task is done before the other.
+    Before,
+    /// The tasks are apart, so they are two.
+    Apart,
+}
+
 /// What a content is where pairs stand.
 #[derive(Clone, Copy, Debug, PartialEq, Eq)]
 pub enum Pair {
+    /// A pair of tasks.
     Arc(Prec),
+    /// A pair of which a member is no task, or that may not be of one task and is.
     BadArc,
+    /// The end mark.
     End,
+    /// Neither a pair nor the end mark.
     Other,
 }
 
@@ -95,8 +108,18 @@ fn arc_of(first: Num, then: Num) -> Pair
     }
 }
 
-/// What a content is, of an instance of this many tasks.
-pub fn pair_of(content: &[u8], tasks: u32) -> Pair
+/// What a content is where pairs of this meaning stand, of this many tasks.
+pub fn pair_of(content: &[u8], tasks: u32, meaning: Meaning) -> Pair
+    ensures { result ≡ pair_for meaning tasks content.now }
+{
+    match (pair_in_content(content, tasks), meaning) {
+        (Pair::Arc(arc), Meaning::Apart) if arc.first == arc.then => Pair::BadArc,
+        (pair, _) => pair,
+    }
+}
+
+// The pair of a content, which may be of one task.
+fn pair_in_content(content: &[u8], tasks: u32) -> Pair
     ensures { result ≡ pair_in tasks content.now }
 {
     match split_comma(content) {

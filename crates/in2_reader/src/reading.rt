@@ -7,16 +7,19 @@ ghost use Rattle.in2_reader.specs.Reading.{Gives, times_in, pairs_in, counted, t
 
 use crate::fault::{In2Fault, In2Kind, ReadError};
 use crate::line::next_content;
-use crate::pair::{Pair, pair_of};
+use crate::pair::{Meaning, Pair, pair_of};
 use line_instance::Prec;
 use line_io::{Num, Span, number};
 use std::alloc::Global;
 
+// The most tasks.
 const MAX_TASKS: u64 = 1024;
 
+// The greatest time of a task.
 const MAX_TIME: u64 = 200_000_000_000_000;
 
-const MAX_ARCS: usize = 524_288;
+/// The most pairs that a text may have.
+pub const MAX_ARCS: usize = 524_288;
 
 /// What an IN2 text says; `last` is the line of its end mark.
 #[derive(Debug, Drop)]
@@ -33,12 +36,14 @@ struct Left<'a> {
     line: u64,
 }
 
+// A fault of a line.
 fn fault(line: u64, kind: In2Kind) -> ReadError
     ensures { result ≡ errors.Fault (record { line = line; kind = kind }) }
 {
     ReadError::Fault(In2Fault { line, kind })
 }
 
+// What bytes are, all of them read as a number up to a maximum.
 fn whole(bytes: &[u8], max: u64) -> Num
     ensures number { result ≡ number_in max bytes.now }
     ensures most { (v : ℕ) → result ≡ Value v → v ≤ max }
@@ -53,6 +58,7 @@ fn whole(bytes: &[u8], max: u64) -> Num
     )
 }
 
+// Reads so many times, and gives them with what is left.
 fn read_times(
     alloc: Global,
     tasks: u64,
@@ -90,15 +96,17 @@ fn read_times(
     ))
 }
 
-fn read_pairs(
+/// Reads pairs up to the end mark, at most so many, and gives them with the line of the mark.
+pub fn read_pairs(
     alloc: Global,
+    meaning: Meaning,
     tasks: u32,
     most: usize,
     text: &[u8],
     line: u64,
 ) -> Result<(Vec<Prec>, u64), ReadError>
     requires { line + length text.now < 2 ^ 64 }
-    ensures { Gives (λ x. (x.0.items, x.1)) result (pairs_in (lines_in line text.now) tasks most (contents_from line text.now)) }
+    ensures { Gives (λ x. (x.0.items, x.1)) result (pairs_in (lines_in line text.now) meaning tasks most (contents_from line text.now)) }
 {
     let mut arcs = Vec::new(alloc);
     let mut left = text;
@@ -108,7 +116,7 @@ fn read_pairs(
             Err(end) => return Err(fault(end, In2Kind::MissingEnd)),
             Ok(content) => {
                 let is_full = arcs.len() == most;
-                match pair_of(content.bytes, tasks) {
+                match pair_of(content.bytes, tasks, meaning) {
                     Pair::Other => return Err(fault(content.line, In2Kind::NotANumber)),
                     Pair::End => return Ok((arcs, content.line)),
                     Pair::BadArc => {
@@ -146,7 +154,14 @@ pub fn read_draft(alloc: Global, bytes: &[u8]) -> Result<Draft, ReadError>
             Num::Value(0) => Err(fault(content.line, In2Kind::Range)),
             Num::Value(tasks) => {
                 let (times, left) = read_times(alloc, tasks, content.rest, content.line + 1)?;
-                let (arcs, last) = read_pairs(alloc, tasks as u32, MAX_ARCS, left.text, left.line)?;
+                let (arcs, last) = read_pairs(
+                    alloc,
+                    Meaning::Before,
+                    tasks as u32,
+                    MAX_ARCS,
+                    left.text,
+                    left.line,
+                )?;
                 Ok(Draft { times, arcs, last })
             }
         },

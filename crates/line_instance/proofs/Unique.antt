@@ -1,16 +1,16 @@
 -- An instance, an answer and a list of kept partners are determined by what is said of them.
 use Rattle.std.proofs.Common.{◌≡◌, ℕ, zero, suc, ◌+◌, ◌-◌, ◌<◌, ◌≤◌, Bool, true, false, List, [], length, get_or, set, replicate, refl, sym, ap, ◌∙◌, subst, ◌⊎◌, inl, inr, arith}
 use Rattle.std.proofs.Math.ListN.{length-set}
-use Rattle.std.proofs.lemmas.List.{ext_get_or, get_or_past, get_or_read, length-replicate}
-use Rattle.std.proofs.lemmas.Bool.{cases_eq, cases_lt, cases_Bool, false≢true}
+use Rattle.std.proofs.lemmas.List.{ext_get_or, get_or_read, length-replicate}
+use Rattle.std.proofs.lemmas.Bool.{cases_eq, cases_lt, cases_Bool}
 use Rattle.task_set.specs.Truths.{In}
-use Rattle.task_set.proofs.Members.{In-set_cases, In-set_kept, In-set_same}
-use Rattle.line_instance.specs.Line.{Line, IsLine, IsRanked, IsTaskSet, tasks, at_rank, Before, Apart}
-use Rattle.line_instance.specs.Walks.{Leads, Walk, arc, on, IsRow, IsRing, at, arc_at, AreArcs}
+use Rattle.task_set.proofs.Members.{In-set_cases}
+use Rattle.line_instance.specs.Line.{Line, IsLine, IsRanked, tasks, at_rank, Before}
+use Rattle.line_instance.specs.Walks.{Leads, Walk, arc, on, IsRing, at, arc_at, AreArcs}
 use Rattle.line_instance.specs.Ranks.{AreRanks, IsFree, IsPlaced}
-use Rattle.line_instance.specs.Partners.{IsPartner, IsAmong, AreKept}
-use Rattle.line_instance.specs.Made.{IsInstanceOf, IsMade, AreTimes, IsFirstLong, IsFirstBad}
-use Rattle.line_instance.specs.Laws.{RanksArePermutation, InstanceIsOne, NoRing, AnswerIsOne, Agree, KeptIsOne}
+use Rattle.line_instance.specs.Partners.{AreKept}
+use Rattle.line_instance.specs.Made.{IsInstanceOf, AreTimes, IsFirstLong, IsFirstBad}
+use Rattle.line_instance.specs.Laws.{RanksArePermutation, InstanceIsOne, NoRing, AnswerIsOne, KeptIsOne}
 use Rattle.line_instance.specs.declared.arcs.Prec.{Prec}
 use Rattle.line_instance.specs.declared.making.Made.TheVariants.{Good, NoTasks, TooManyTasks, BadTime, BadArc, Cycle, NoMemory}
 use Rattle.line_instance.proofs.Sums.{same_truth}

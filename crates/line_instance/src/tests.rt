@@ -1,5 +1,5 @@
 //! What no clause says: outside instances, and that each call can succeed.
-use crate::{Instance, Made, Prec, make};
+use crate::{Instance, Made, Prec, Ring, make};
 use std::test::Fail;
 use task_set::TaskSet;
 
@@ -94,5 +94,17 @@ fn keeps_partners_and_copies_them(rt: HostRuntime) -> Result<(), Fail> {
     assert!(rt; copy.apart(1).has(3));
     assert!(rt; copy.apart(3).has(1));
     assert_eq!(rt; copy.partner(0, 0), Some(2));
+    Ok(())
+}
+
+#[test]
+fn lists_the_tasks_of_a_ring(rt: HostRuntime) -> Result<(), Fail> {
+    let mut ring = Ring::from_vec(vec![in rt.alloc(); 4]?);
+    ring.push(7)?;
+    let copy = ring.copy()?;
+    assert_eq!(rt; copy.len(), 2);
+    if copy.len() == 2 {
+        assert_eq!(rt; copy.at(1), 7);
+    }
     Ok(())
 }

@@ -2,4 +2,11 @@ pub mod Balance
 pub mod Checked
 pub mod Bounds
 pub mod Ranked
+pub mod Loads
+pub mod Order
+pub mod Entries
+pub mod Units
+pub mod Trails
+pub mod Seats
+pub mod Accepted
 pub mod Laws

@@ -1,7 +1,84 @@
 //! What is true of all lines, cycles and sets, for the crates above to cite.
-ghost use Rattle.line_rules.specs.Laws.{EveryRankedBalanceIsRight};
+ghost use Rattle.line_rules.specs.Laws.{EveryRankedBalanceIsRight, EveryEntryHolds, EveryBoundHolds, EveryBalanceCarriesOver, EveryRefusalCarriesOver, EachTaskMayStandAlone};
+ghost use Rattle.line_rules.specs.Laws.{OrderIsStrict, OrderIsTotal, ListsAreUnique, UnitsAreUnique, EveryRestIsSmaller, FollowsFromMore, AnswersLeadOn, DerivedGrows};
+ghost use Rattle.line_rules.specs.Laws.{EveryAcceptedBoundIsTrue, EveryInfeasibleCertificateIsTrue};
 
 /// The ranked balance of a line is right, and has at most as many stations as there are tasks.
 pub fn every_ranked_balance_is_right()
     ensures { EveryRankedBalanceIsRight }
+{}
+
+/// In a derived list every entry holds: its set has no balance in its number of stations at its cycle.
+pub fn every_entry_holds()
+    ensures { EveryEntryHolds }
+{}
+
+/// A set whose bound exceeds a number of stations has no balance in so many, on either kind of line.
+pub fn every_bound_holds()
+    ensures { EveryBoundHolds }
+{}
+
+/// A balance of a set is one of each subset, at each greater cycle, and in more stations.
+pub fn every_balance_carries_over()
+    ensures { EveryBalanceCarriesOver }
+{}
+
+/// A set without a balance has none with more tasks, at a lesser cycle, or in fewer stations.
+pub fn every_refusal_carries_over()
+    ensures { EveryRefusalCarriesOver }
+{}
+
+/// Tasks that each fit a station have a balance with one task per station.
+pub fn each_task_may_stand_alone()
+    ensures { EachTaskMayStandAlone }
+{}
+
+/// No load stands before itself, and the order of loads leads on.
+pub fn order_is_strict()
+    ensures { OrderIsStrict }
+{}
+
+/// Of two loads of a set, one stands before the other, or they are the same.
+pub fn order_is_total()
+    ensures { OrderIsTotal }
+{}
+
+/// There is one list of the loads of a set, in their order, and one of those that need a cite.
+pub fn lists_are_unique()
+    ensures { ListsAreUnique }
+{}
+
+/// Entries and a trail have one number of units.
+pub fn units_are_unique()
+    ensures { UnitsAreUnique }
+{}
+
+/// The rest of a load of a set is a subset of the set, with fewer tasks.
+pub fn every_rest_is_smaller()
+    ensures { EveryRestIsSmaller }
+{}
+
+/// What follows from a list of entries follows from each longer list that begins with it.
+pub fn follows_from_more()
+    ensures { FollowsFromMore }
+{}
+
+/// An entry that answers the question of an entry answers what that one answers.
+pub fn answers_lead_on()
+    ensures { AnswersLeadOn }
+{}
+
+/// A derived list grows by entries that follow from it, and each beginning of one is derived.
+pub fn derived_grows()
+    ensures { DerivedGrows }
+{}
+
+/// The bounds of an accepted certificate are true: a balance reaches the upper one, and none lies below the lower one.
+pub fn every_accepted_bound_is_true()
+    ensures { EveryAcceptedBoundIsTrue }
+{}
+
+/// Where a certificate that there is no balance is accepted, there is none.
+pub fn every_infeasible_certificate_is_true()
+    ensures { EveryInfeasibleCertificateIsTrue }
 {}

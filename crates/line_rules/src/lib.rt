@@ -1,4 +1,5 @@
-//! The rules of assembly lines: balances of straight lines and U-lines, and the test of a balance.
+//! The rules of assembly lines: balances of straight lines and U-lines, loads, bounds, what follows from what,
+//! certificates, and the test of a balance.
 #![tactic(auto)]
 
 mod checking;
@@ -7,5 +8,8 @@ mod listed;
 mod types;
 
 pub use checking::check_balance;
-pub use listed::{Listed, Places};
-pub use types::{Balance, BalanceCheck, LineKind, Seatplace, Side};
+pub use listed::{Cites, Entries, EqualCopy, Frames, Listed, Loads, Places};
+pub use types::{
+    Ask, Balance, BalanceCheck, Certificate, Claim, Entry, LineKind, Load, Mode, OpenFrame,
+    Seatplace, Side, Trail, Why,
+};

@@ -1,6 +1,6 @@
 ghost use Rattle.std.specs.Prelude.{◌≡◌, ◌==◌, ◌<◌, [], ◌∷◌, ◌++◌, length, slice_get, Some, OnOk, OnErr, IfOk};
 
-use crate::types::Seatplace;
+use crate::types::{Entry, Load, OpenFrame, Seatplace};
 use std::alloc::AllocError;
 use std::marker::Model;
 
@@ -12,6 +12,55 @@ pub struct Listed<T> {
 
 /// The places of the tasks, in the order of the tasks.
 pub type Places = Listed<Seatplace>;
+
+/// The numbers of the entries that something stands on, from 0.
+pub type Cites = Listed<u64>;
+
+/// Entries, from number 0 on.
+pub type Entries = Listed<Entry>;
+
+/// Open frames, from the outermost on.
+pub type Frames = Listed<OpenFrame>;
+
+/// Loads, in the order of their stations.
+pub type Loads = Listed<Load>;
+
+/// A value of which an equal one can be made, where there is memory for it.
+pub trait EqualCopy: Drop {
+    /// An equal value; an error where memory is wanting.
+    fn equal_copy(&self) -> Result<Self, AllocError>
+        ensures equal { IfOk result (λ v. v ≡ self.now) };
+}
+
+impl EqualCopy for u64 {
+    fn equal_copy(&self) -> Result<u64, AllocError> {
+        Ok(*self)
+    }
+}
+
+impl EqualCopy for Seatplace {
+    fn equal_copy(&self) -> Result<Seatplace, AllocError> {
+        Ok(*self)
+    }
+}
+
+impl EqualCopy for Load {
+    fn equal_copy(&self) -> Result<Load, AllocError> {
+        Ok(*self)
+    }
+}
+
+impl EqualCopy for Entry {
+    fn equal_copy(&self) -> Result<Entry, AllocError> {
+        self.copy()
+    }
+}
+
+impl EqualCopy for OpenFrame {
+    fn equal_copy(&self) -> Result<OpenFrame, AllocError> {
+        self.copy()
+    }
+}
 
 impl<T> Model for Listed<T> {
     ghost use Rattle.std.specs.Prelude.{List};
@@ -72,13 +121,15 @@ impl<T> Listed<T> {
     }
 }
 
-impl<T: Copy> Listed<T> {
+impl<T: EqualCopy> Listed<T> {
     /// An equal list; an error where memory is wanting.
     pub fn copy(&self) -> Result<Listed<T>, AllocError>
         ensures { IfOk result (λ v. v ≡ self.now) }
     {
-        Ok(Listed {
-            items: Vec::from_slice(*self.items.allocator(), &self.items)?,
-        })
+        let mut items = Vec::with_capacity(*self.items.allocator(), self.items.len())?;
+        for item in self.items.as_slice() {
+            items.push(item.equal_copy()?)?;
+        }
+        Ok(Listed { items })
     }
 }

@@ -1,0 +1,25 @@
+//! What is true of all runs of a book, for the crates above to cite.
+ghost use Rattle.line_rules.specs.Laws.{EveryEntryHolds};
+ghost use Rattle.lemma_core.specs.Laws.{LastAnswerIsLast, HistoryReplays, RunsKeep};
+
+/// In a derived list every entry holds: its set has no balance in its number of stations at its cycle.
+pub fn every_entry_holds()
+    ensures { EveryEntryHolds }
+{
+    line_rules::laws::every_entry_holds()
+}
+
+/// The search through the entries finds the last one that answers, and none exactly where none does.
+pub fn last_answer_is_last()
+    ensures { LastAnswerIsLast }
+{}
+
+/// A history replays to the entries and to the stations of the best balance.
+pub fn history_replays()
+    ensures { HistoryReplays }
+{}
+
+/// Entries stay derived and fresh, and the best balance stays right.
+pub fn runs_keep()
+    ensures { RunsKeep }
+{}

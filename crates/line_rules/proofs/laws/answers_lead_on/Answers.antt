@@ -1,0 +1,5 @@
+use Rattle.line_rules.proofs.Carried.{answers_on}
+use Rattle.line_rules.proofs.laws.answers_lead_on.Goals as goal
+
+pub returns : goal.returns
+returns c = answers_on

@@ -1,0 +1,6 @@
+use Rattle.line_rules.proofs.Grown.{derived_push}
+use Rattle.line_rules.proofs.Carried.{derived_take}
+use Rattle.line_rules.proofs.laws.derived_grows.Goals as goal
+
+pub returns : goal.returns
+returns c = record { more = derived_push; less = derived_take }

@@ -1,0 +1,5 @@
+use Rattle.line_rules.proofs.Restrict.{restricted}
+use Rattle.line_rules.proofs.laws.every_balance_carries_over.Goals as goal
+
+pub returns : goal.returns
+returns c = restricted

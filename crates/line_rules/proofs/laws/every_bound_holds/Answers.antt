@@ -1,0 +1,5 @@
+use Rattle.line_rules.proofs.Carried.{bound_holds}
+use Rattle.line_rules.proofs.laws.every_bound_holds.Goals as goal
+
+pub returns : goal.returns
+returns c = bound_holds

@@ -1,0 +1,5 @@
+use Rattle.line_rules.proofs.Carried.{rest_smaller}
+use Rattle.line_rules.proofs.laws.every_rest_is_smaller.Goals as goal
+
+pub returns : goal.returns
+returns c = rest_smaller

@@ -1,0 +1,5 @@
+use Rattle.line_rules.proofs.Places.{three_ways}
+use Rattle.line_rules.proofs.laws.order_is_total.Goals as goal
+
+pub returns : goal.returns
+returns c = three_ways

@@ -1,0 +1,5 @@
+use Rattle.line_rules.proofs.Carried.{units_same}
+use Rattle.line_rules.proofs.laws.units_are_unique.Goals as goal
+
+pub returns : goal.returns
+returns c = units_same
