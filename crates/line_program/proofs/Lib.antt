@@ -1,2 +1,3 @@
-pub mod Three
+pub mod Listed
 pub mod Printed
+pub mod Sources

@@ -2,4 +2,5 @@ pub mod Words
 pub mod Report
 pub mod Codes
 pub mod Answers
+pub mod Files
 pub mod Run

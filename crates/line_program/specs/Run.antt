@@ -2,26 +2,23 @@
 use Rattle.std.specs.Prelude.{◌≡◌, ℕ, List, Option, ◌++◌, take, codes}
 use Rattle.std.specs.declared.string.String.{String}
 use Rattle.std.specs.declared.alloc.Global.{Global}
-use Rattle.line_program.specs.Words.{Asks, texts}
-use Rattle.line_program.specs.Answers.{IsFileReport}
+use Rattle.line_program.specs.Words.{Asks, AskNothing, texts}
+use Rattle.line_program.specs.Answers.{IsReport}
 use Rattle.line_program.specs.declared.status.Status.{Status}
 use Rattle.line_program.specs.declared.status.Status.TheVariants as ends
 
--- the words ask for a job, and this is reported of its file
+-- the words ask for a job, and this is reported of its files
 pub record IsJobReport (words : List (String Global)) (files : List ℕ → Option (List ℕ)) (status : Status) (text : List ℕ) : Type 0 where
   pub name : List ℕ
+  pub apart : Option (List ℕ)
   pub cycle : ℕ
-  pub asked : Asks (texts words) name cycle
-  pub reported : IsFileReport (files name) name cycle status text
-
--- the words ask for no job
-abbrev pub AskNothing : List (String Global) → Type 0
-AskNothing words = (name : List ℕ) (c : ℕ) → Asks (texts words) name c → ⊥
+  pub asked : Asks (texts words) name apart cycle
+  pub reported : IsReport files name apart cycle status text
 
 -- What is put with each status, over the files as they stood. Want of memory is free.
 abbrev pub IsPrinted : List (String Global) → (List ℕ → Option (List ℕ)) → Status → List ℕ → Type 0
 IsPrinted words files ends.Done text = IsJobReport words files ends.Done text
-IsPrinted words files ends.Usage text = AskNothing words × (text ≡ codes "usage\n")
+IsPrinted words files ends.Usage text = AskNothing (texts words) × (text ≡ codes "usage\n")
 IsPrinted words files ends.Input text = IsJobReport words files ends.Input text
 IsPrinted words files ends.ReadFault text = IsJobReport words files ends.ReadFault text
 IsPrinted words files ends.Memory text = text ≡ codes "memory\n"

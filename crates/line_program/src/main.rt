@@ -3,6 +3,8 @@
 //! `main` makes the files and the standard output, and hands them with the words to `run`, whose contract says what is printed.
 #![tactic(auto)]
 
+mod files;
+mod refusal;
 mod report;
 mod status;
 #[cfg(test)]

@@ -20,6 +20,8 @@ fn run_over(
 ) -> Result<(Status, String), AllocError> {
     let mut shelf = MemShelf::new(alloc, Vec::from_slice(alloc, shelf_fails)?);
     shelf.put_file("t.in2", text)?;
+    shelf.put_file("two.apart", b"1,2\n-1,-1\n")?;
+    shelf.put_file("one.apart", b"2,2\n-1,-1\n")?;
     let mut out = MemSink::new(alloc, Vec::from_slice(alloc, sink_fails)?);
     let mut list = Vec::new(alloc);
     for word in words {
@@ -119,13 +121,39 @@ fn words_that_ask_for_nothing(rt: HostRuntime) -> Result<(), Fail> {
         &["balance", "t.in2", "cycle=1000000000000000001"],
         &["balance", "t=.in2", "cycle=7"],
         &["balance", "", "cycle=7"],
-        &["balance", "t.in2", "cycle=7", "more"],
+        &["balance", "t.in2", "cycle=7", "apart="],
     ];
     for words in lists {
         let (status, text) = run_over(rt.alloc(), words, P5, &[], &[])?;
         assert_eq!(rt; status, Status::Usage);
         assert_eq!(rt; text.as_str(), "usage\n");
     }
+    Ok(())
+}
+
+#[test]
+fn balance_apart(rt: HostRuntime) -> Result<(), Fail> {
+    let words = ["balance", "t.in2", "cycle=2", "apart=two.apart"];
+    let (status, text) = run_over(rt.alloc(), &words, b"2\n1\n1\n-1,-1\n", &[], &[])?;
+    assert_eq!(rt; status, Status::Done);
+    assert_eq!(rt;
+        text.as_str(),
+        "balance 2\ntotal bound 1\nidle 2\nstation 1: 1\nstation 2: 2\n"
+    );
+    Ok(())
+}
+
+#[test]
+fn apart_file(rt: HostRuntime) -> Result<(), Fail> {
+    let two = b"2\n1\n1\n-1,-1\n";
+    let words = ["balance", "t.in2", "cycle=2", "apart=one.apart"];
+    let (status, text) = run_over(rt.alloc(), &words, two, &[], &[])?;
+    assert_eq!(rt; status, Status::Input);
+    assert_eq!(rt; text.as_str(), "input: one.apart line 1 bad arc\n");
+    let words = ["balance", "t.in2", "cycle=2", "apart=none.apart"];
+    let (status, text) = run_over(rt.alloc(), &words, two, &[], &[])?;
+    assert_eq!(rt; status, Status::ReadFault);
+    assert_eq!(rt; text.as_str(), "read fault: none.apart\n");
     Ok(())
 }
 

@@ -1,5 +1,5 @@
-ghost use Rattle.std.specs.Prelude.{◌≡◌, ◌≤◌, ◌<◌, ◌++◌, ℕ, List, [], ◌∷◌, IfOk, IfSome, IsNone, IsTrue, ◌^◌, ◌↔◌, MatchOption, codes, decimal, length};
-ghost use Rattle.line_program.specs.Words.{Asks, IsName, IsCycle, texts};
+ghost use Rattle.std.specs.Prelude.{◌≡◌, ◌≤◌, ◌<◌, ◌++◌, ℕ, List, [], ◌∷◌, IfOk, IfSome, IsNone, IsTrue, ◌^◌, ◌↔◌, MatchOption, codes, decimal, length, option_map};
+ghost use Rattle.line_program.specs.Words.{Asks, AskNothing, IsAsked, IsName, IsCycle, texts};
 
 use std::alloc::{AllocError, Global};
 
@@ -50,28 +50,71 @@ fn cycle_of(alloc: Global, word: &str) -> Result<Option<u64>, AllocError>
     }
 }
 
-/// A job of `balance`: the file with the instance, and the cycle time.
+/// The cycle time that three words ask for.
+fn asked_cycle(
+    alloc: Global,
+    command: &str,
+    file: &str,
+    setting: &str,
+) -> Result<Option<u64>, AllocError>
+    ensures { IfOk result (λ o. MatchOption o ((c : ℕ) → IsAsked command.now file.now setting.now c → ⊥) (λ c. IsAsked command.now file.now setting.now c)) }
+{
+    if !is_command(command) || !is_name(file) {
+        return Ok(None);
+    }
+    match cycle_of(alloc, setting)? {
+        Some(cycle) => Ok(Some(cycle)),
+        None => Ok(None),
+    }
+}
+
+/// The name of a word `apart=NAME`, which isn't empty.
+fn apart_of(word: &str) -> Option<&str>
+    ensures { MatchOption result ((a : List ℕ) → 0 < length a → word.now ≡ codes "apart=" ++ a → ⊥) (λ a. (0 < length a.now) × (word.now ≡ codes "apart=" ++ a.now)) }
+{
+    let name = word.strip_prefix("apart=")?;
+    if name.is_empty() {
+        return None;
+    }
+    Some(name)
+}
+
+/// A job of `balance`: the file with the instance, the file with the tasks that are apart, and the cycle time.
 #[derive(Clone, Copy, Debug)]
 pub struct Job<'a> {
     pub file: &'a str,
+    pub apart: Option<&'a str>,
     pub cycle: u64,
 }
 
 /// The job that the words ask for, None exactly where they ask for none.
 pub fn job_of(alloc: Global, words: &[String]) -> Result<Option<Job<'_>>, AllocError>
-    ensures { IfOk result (λ o. MatchOption o ((name : List ℕ) (c : ℕ) → Asks (texts words.now) name c → ⊥) (λ j. Asks (texts words.now) j.file.now j.cycle)) }
+    ensures { IfOk result (λ o. MatchOption o (AskNothing (texts words.now)) (λ j. Asks (texts words.now) j.file.now (option_map (λ a. a.now) j.apart) j.cycle)) }
 {
-    let [command, file, setting] = words else {
-        return Ok(None);
-    };
-    if !is_command(command.as_str()) || !is_name(file.as_str()) {
-        return Ok(None);
-    }
-    match cycle_of(alloc, setting.as_str())? {
-        Some(cycle) => Ok(Some(Job {
-            file: file.as_str(),
-            cycle,
-        })),
-        None => Ok(None),
+    match words {
+        [command, file, setting] => {
+            match asked_cycle(alloc, command.as_str(), file.as_str(), setting.as_str())? {
+                None => Ok(None),
+                Some(cycle) => Ok(Some(Job {
+                    file: file.as_str(),
+                    apart: None,
+                    cycle,
+                })),
+            }
+        }
+        [command, file, setting, last] => {
+            let Some(apart) = apart_of(last.as_str()) else {
+                return Ok(None);
+            };
+            match asked_cycle(alloc, command.as_str(), file.as_str(), setting.as_str())? {
+                None => Ok(None),
+                Some(cycle) => Ok(Some(Job {
+                    file: file.as_str(),
+                    apart: Some(apart),
+                    cycle,
+                })),
+            }
+        }
+        _ => Ok(None),
     }
 }

@@ -1,12 +1,15 @@
-use Rattle.std.proofs.Common.{◌≡◌, ◌∙◌, ℕ, List, codes, decimal, ◌++◌, string_bytes, sym, ap, subst, arith}
-use Rattle.line_program.specs.Words.{IsName, IsCycle}
-use Rattle.line_program.proofs.Three.{asks}
+use Rattle.std.proofs.Common.{◌≡◌, ◌∙◌, ℕ, List, [], ◌∷◌, string_bytes, arith}
+use Rattle.line_program.specs.Words.{texts}
+use Rattle.line_program.proofs.Listed.{four_texts, asked_of, apart_word}
 use Rattle.line_program.proofs.words.job_of.Goals as goal
 
-pub returns-in-Some : goal.returns-in-Some
-returns-in-Some c =
-    let N : List ℕ → Type 0 = IsName in
-    let m = rw c.in-Some.is at c.in_ok-cycle.ensures in
-    let command : string_bytes c.command-item.result ≡ codes "balance" = sym c.as_str.ensures.value ∙ c.is_command.ensures.0 c.if-not-is_command.false in
-    asks c.args.words.now c.command-item.result c.file-item.result c.setting-item.result c.as_str-in-Some.result.now c.in-Some.cycle (omega arith) c.command-item.is c.file-item.is c.setting-item.is
-    command c.as_str-in-Some.ensures.value (subst N (c.as_str-else-not-is_command.ensures.value ∙ sym c.as_str-in-Some.ensures.value) (c.is_name.ensures.0 c.if-not-is_name.false)) m.0 (sym c.as_str-2.ensures.value ∙ m.1)
+pub returns-in_default-apart_of : goal.returns-in_default-apart_of
+returns-in_default-apart_of c = λ name apart cycle x.
+    let a = c.command-item-then-words-lt5.result in
+    let b = c.file-item-then-words-lt5.result in
+    let d = c.setting-item-then-words-lt5.result in
+    let l = c.last-item.result in
+    let is = four_texts c.args.words.now a b d l (omega arith) c.command-item-then-words-lt5.is c.file-item-then-words-lt5.is c.setting-item-then-words-lt5.is c.last-item.is in
+    let m = (asked_of (texts c.args.words.now) (string_bytes a) (string_bytes b) (string_bytes d) (string_bytes l ∷ []) is name apart cycle x).1 in
+    let w = apart_word (string_bytes l) apart m x.apart_is in
+    c.in_default-apart_of.ensures w.0 w.1 (c.as_str-in-len4.ensures.value ∙ w.2)
