@@ -11,16 +11,16 @@ use Rattle.line_instance.specs.Line.{Line, tasks, at_rank, Before}
 use Rattle.line_instance.specs.Ranks.{AreRanks, IsPlaced}
 use Rattle.line_instance.specs.Walks.{Leads, Walk, arc, on, AreArcs, arc_at, IsRing, at}
 use Rattle.line_instance.specs.Made.{IsInstanceOf}
-use Rattle.in2_reader.specs.Contents.{Lines, contents_from}
-use Rattle.in2_reader.specs.Grammar.{In2, Spells}
-use Rattle.in2_reader.specs.Faults.{IsIn2Fault}
+use Rattle.in2_reader.specs.Contents.{Lines, contents_from, lines_in}
+use Rattle.in2_reader.specs.Grammar.{In2, Spells, IsIn2}
+use Rattle.in2_reader.specs.Faults.{IsFormFault, IsIn2Fault}
 use Rattle.in2_reader.specs.Answers.{IsReading, IsIn2Read}
 use Rattle.in2_reader.specs.declared.fault.In2Fault.{In2Fault}
 use Rattle.in2_reader.specs.declared.answer.In2Read.{In2Read}
 use Rattle.in2_reader.specs.declared.answer.In2Read.TheVariants.{Fault}
 use Rattle.in2_reader.proofs.Spelled.{spelled_is_read}
 
-any_below : (xs : List ℕ) (n : ℕ) → ((k : ℕ) → k < length xs → get_or xs k 0 < n) → (q : ℕ) → list_any (eqb q) xs ≡ true → q < n
+pub any_below : (xs : List ℕ) (n : ℕ) → ((k : ℕ) → k < length xs → get_or xs k 0 < n) → (q : ℕ) → list_any (eqb q) xs ≡ true → q < n
 any_below [] n h q e = (cc)
 any_below (x ∷ xs) n h q e =
     let I : (b : Bool) → eqb q x ≡ b → (b || list_any (eqb q) xs) ≡ true → q < n =
@@ -47,7 +47,7 @@ round_from : (arcs : List Prec) (ring : List ℕ) (n : ℕ) → length ring ≡ 
 round_from arcs ring zero e r = arc (r.closes 0 (omega arith))
 round_from arcs ring (suc n) e r = on (walk_to arcs ring n r (omega arith)) (r.closes (suc n) (omega arith))
 
-round : (arcs : List Prec) (ring : List ℕ) → IsRing arcs ring → Walk arcs (at ring 0) (at ring 0)
+pub round : (arcs : List Prec) (ring : List ℕ) → IsRing arcs ring → Walk arcs (at ring 0) (at ring 0)
 round arcs ring r = let some = r.some in round_from arcs ring (length ring - 1) (omega arith) r
 
 last_arc : (arcs : List Prec) (n i j : ℕ) → AreArcs n arcs → Walk arcs i j → j < n
@@ -81,14 +81,18 @@ no_ring ts arcs line ring i r =
     let task : at ring 0 < tasks line = omega (arith, last_arc arcs (length ts) (at ring 0) (at ring 0) i.named w, ap length i.times) in
     unranked line (at ring 0) i.ranks task ((i.before (at ring 0) task).all (at ring 0) w)
 
-one_reading : (lines : Lines) (x y : In2) → Spells lines x → Spells lines y → x ≡ y
+pub one_reading : (lines : Lines) (x y : In2) → Spells lines x → Spells lines y → x ≡ y
 one_reading lines x y s t = let e : Ok x ≡ Ok y = sym (spelled_is_read 0 lines x s) ∙ spelled_is_read 0 lines y t in (cc)
 
+-- a text with a fault of its form says nothing
+pub form_fault_has_none : (bytes : List ℕ) (f : In2Fault) (x : In2) → IsFormFault (lines_in 1 bytes) (contents_from 1 bytes) f → IsIn2 bytes x → ⊥
+form_fault_has_none bytes f x (inl o) r =
+    let P : Lines → Type 0 = λ ls. Spells ls x in
+    o.stops (o.after, (x, subst P (o.all ∙ sym (append_assoc o.before (o.at ∷ []) o.after)) r))
+form_fault_has_none bytes f x (inr o) r = o.ends (x, r)
+
 pub no_instance : (bytes : List ℕ) (f : In2Fault) (line : Line) → IsIn2Fault bytes f → IsReading bytes line → ⊥
-no_instance bytes f line (inl (inl o)) r =
-    let P : Lines → Type 0 = λ ls. Spells ls r.x in
-    o.stops (o.after, (r.x, subst P (o.all ∙ sym (append_assoc o.before (o.at ∷ []) o.after)) r.reads))
-no_instance bytes f line (inl (inr o)) r = o.ends (r.x, r.reads)
+no_instance bytes f line (inl o) r = form_fault_has_none bytes f r.x o r.reads
 no_instance bytes f line (inr o) r =
     let same : o.x ≡ r.x = one_reading (contents_from 1 bytes) o.x r.x o.reads r.reads in
     let P : In2 → Type 0 = λ x. IsRing x.arcs o.ring in

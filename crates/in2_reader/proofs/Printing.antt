@@ -1,16 +1,12 @@
--- The text of a ring, a task at a time.
-use Rattle.std.proofs.Common.{◌≡◌, ℕ, ◌+◌, ◌<◌, List, [], ◌∷◌, ◌++◌, length, take, get_or, slice_index, refl, sym, ◌∙◌, ap, append_assoc}
-use Rattle.std.specs.Prelude.{codes, decimal}
-use Rattle.std.proofs.lemmas.List.{take_more, append-nil}
-use Rattle.in2_reader.specs.Texts.{ring_text}
+-- A text that is made of the texts of a list's members, a member at a time.
+use Rattle.std.proofs.Common.{◌≡◌, ℕ, ◌+◌, ◌<◌, List, [], ◌++◌, length, take, get_or, sym, ◌∙◌, ap, append_assoc}
+use Rattle.std.specs.List.{flat_map}
+use Rattle.std.proofs.lemmas.List.{take_more, flat_map_more}
 
-ring_after : (xs ys : List ℕ) → ring_text (xs ++ ys) ≡ ring_text xs ++ ring_text ys
-ring_after [] ys = refl
-ring_after (x ∷ xs) ys = ap (λ r. codes " " ++ decimal (x + 1) ++ r) (ring_after xs ys) ∙ sym (append_assoc (codes " " ++ decimal (x + 1)) (ring_text xs) (ring_text ys))
+pub next_text : {X : Type 0} (f : X → List ℕ) (xs : List X) (k : ℕ) (d : X) (part : List ℕ) → k < length xs → f (get_or xs k d) ≡ part → flat_map f (take k xs) ++ part ≡ flat_map f (take (k + 1) xs)
+next_text f xs k d part h p =
+    ap (λ r. flat_map f (take k xs) ++ r) (sym p) ∙ flat_map_more f [] (take k xs) (get_or xs k d) ∙ ap (flat_map f) (sym (take_more xs k d h))
 
-pub ring_next : (ring : List ℕ) (k t : ℕ) → k < length ring → t ≡ slice_index ring k → ring_text (take k ring) ++ (codes " " ++ decimal (t + 1)) ≡ ring_text (take (k + 1) ring)
-ring_next ring k t h e =
-    ap (λ x. ring_text (take k ring) ++ (codes " " ++ decimal (x + 1))) e
-    ∙ ap (λ r. ring_text (take k ring) ++ r) (sym (append-nil (codes " " ++ decimal (get_or ring k 0 + 1))))
-    ∙ sym (ring_after (take k ring) (get_or ring k 0 ∷ []))
-    ∙ ap ring_text (sym (take_more ring k 0 h))
+pub next_written : {X : Type 0} (f : X → List ℕ) (xs : List X) (k : ℕ) (d : X) (text old new part : List ℕ) → k < length xs → f (get_or xs k d) ≡ part → old ≡ text ++ flat_map f (take k xs) → new ≡ old ++ part → new ≡ text ++ flat_map f (take (k + 1) xs)
+next_written f xs k d text old new part h p o w =
+    w ∙ ap (λ r. r ++ part) o ∙ append_assoc text (flat_map f (take k xs)) part ∙ ap (λ r. text ++ r) (next_text f xs k d part h p)

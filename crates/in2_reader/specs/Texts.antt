@@ -1,13 +1,17 @@
 -- How a fault is printed.
-use Rattle.std.specs.Prelude.{ℕ, ◌+◌, List, [], ◌∷◌, ◌++◌, codes, decimal}
+use Rattle.std.specs.Prelude.{ℕ, ◌+◌, List, ◌++◌, codes, decimal}
+use Rattle.std.specs.List.{flat_map}
 use Rattle.in2_reader.specs.declared.fault.In2Fault.{In2Fault}
 use Rattle.in2_reader.specs.declared.fault.In2Kind.{In2Kind}
 use Rattle.in2_reader.specs.declared.fault.In2Kind.TheVariants.{NotANumber, Range, MissingTimes, MissingEnd, BadArc, TooManyArcs, Cycle}
 
--- the tasks of a ring, counted from 1, a blank before each
+-- a task, counted from 1, behind a blank
+abbrev pub task_text : ℕ → List ℕ
+task_text t = codes " " ++ decimal (t + 1)
+
+-- the tasks of a ring
 abbrev pub ring_text : List ℕ → List ℕ
-ring_text [] = []
-ring_text (t ∷ ring) = codes " " ++ decimal (t + 1) ++ ring_text ring
+ring_text ring = flat_map task_text ring
 
 -- what is wrong, in words; a cycle with its tasks
 abbrev pub kind_text : In2Kind → List ℕ

@@ -4,14 +4,17 @@
 mod answer;
 mod apart;
 mod fault;
+pub mod laws;
 mod line;
 mod pair;
 mod reading;
 #[cfg(test)]
 mod tests;
 mod text;
+mod writing;
 
 pub use answer::{In2Read, read_in2};
 pub use apart::{ApartRead, read_apart};
 pub use fault::{In2Fault, In2Kind};
 pub use text::push_fault;
+pub use writing::write_in2;

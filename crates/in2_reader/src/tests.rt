@@ -73,7 +73,10 @@ fn takes_so_many_pairs(rt: HostRuntime) -> Result<(), Fail> {
     let most = repeated_pairs(rt.alloc(), 524_288)?;
     assert_eq!(rt; answer(rt.alloc(), &most)?.as_str(), "good");
     let more = repeated_pairs(rt.alloc(), 524_289)?;
-    assert_eq!(rt; answer(rt.alloc(), &more)?.as_str(), "line 524292 too many arcs");
+    assert_eq!(rt;
+        answer(rt.alloc(), &more)?.as_str(),
+        "line 524292 too many arcs"
+    );
     Ok(())
 }
 
@@ -138,7 +141,14 @@ fn answers_each_broken_text(rt: HostRuntime) -> Result<(), Fail> {
     for k in 0..=text.len() {
         cut.note(fault_of(rt.alloc(), &text[..k]));
     }
-    assert_eq!(rt; cut, Tally { good: 3, cycles: 0, lines: 160 });
+    assert_eq!(rt;
+        cut,
+        Tally {
+            good: 3,
+            cycles: 0,
+            lines: 160
+        }
+    );
     let mut changed = none;
     for k in 0..text.len() {
         for byte in *b"019,-\n\r \t\xffa\0" {
@@ -148,7 +158,14 @@ fn answers_each_broken_text(rt: HostRuntime) -> Result<(), Fail> {
             changed.note(fault_of(rt.alloc(), &bytes));
         }
     }
-    assert_eq!(rt; changed, Tally { good: 83, cycles: 2, lines: 1676 });
+    assert_eq!(rt;
+        changed,
+        Tally {
+            good: 83,
+            cycles: 2,
+            lines: 1676
+        }
+    );
     Ok(())
 }
 
@@ -176,6 +193,13 @@ fn reads_pairs_apart(rt: HostRuntime) -> Result<(), Fail> {
     for k in 0..=text.len() {
         cut.note(apart_fault_of(rt.alloc(), &text[..k]));
     }
-    assert_eq!(rt; cut, Tally { good: 3, cycles: 0, lines: 76 });
+    assert_eq!(rt;
+        cut,
+        Tally {
+            good: 3,
+            cycles: 0,
+            lines: 76
+        }
+    );
     Ok(())
 }

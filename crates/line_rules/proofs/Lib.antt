@@ -22,3 +22,4 @@ pub mod Seated
 pub mod Spread
 pub mod Carried
 pub mod Proved
+pub mod Rows

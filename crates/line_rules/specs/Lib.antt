@@ -10,3 +10,4 @@ pub mod Trails
 pub mod Seats
 pub mod Accepted
 pub mod Laws
+pub mod Rows

@@ -2,6 +2,7 @@
 ghost use Rattle.line_rules.specs.Laws.{EveryRankedBalanceIsRight, EveryEntryHolds, EveryBoundHolds, EveryBalanceCarriesOver, EveryRefusalCarriesOver, EachTaskMayStandAlone};
 ghost use Rattle.line_rules.specs.Laws.{OrderIsStrict, OrderIsTotal, ListsAreUnique, UnitsAreUnique, EveryRestIsSmaller, FollowsFromMore, AnswersLeadOn, DerivedGrows};
 ghost use Rattle.line_rules.specs.Laws.{EveryAcceptedBoundIsTrue, EveryInfeasibleCertificateIsTrue};
+ghost use Rattle.line_rules.specs.Rows.{BoundsOfTheRows};
 
 /// The ranked balance of a line is right, and has at most as many stations as there are tasks.
 pub fn every_ranked_balance_is_right()
@@ -81,4 +82,9 @@ pub fn every_accepted_bound_is_true()
 /// Where a certificate that there is no balance is accepted, there is none.
 pub fn every_infeasible_certificate_is_true()
     ensures { EveryInfeasibleCertificateIsTrue }
+{}
+
+/// The bounds of small lines, as worked by hand.
+pub fn the_bounds_of_the_rows()
+    ensures { BoundsOfTheRows }
 {}
