@@ -8,7 +8,7 @@ ghost use Rattle.task_set.specs.Truths.{In, full_to};
 
 use crate::arcs::Prec;
 use crate::partners::{Kept, kept_at, part};
-use std::alloc::AllocError;
+use std::alloc::{AllocError, Global};
 use std::marker::Model;
 use task_set::TaskSet;
 
@@ -154,17 +154,17 @@ impl Instance {
     }
 
     /// An equal instance; an error where memory is wanting.
-    pub fn copy(&self) -> Result<Instance, AllocError>
+    pub fn copy(&self, alloc: Global) -> Result<Instance, AllocError>
         ensures { IfOk result (λ c. c ≡ self.now) }
     {
         Ok(Instance {
-            times: self.times.clone()?,
-            before: self.before.clone()?,
-            after: self.after.clone()?,
-            apart: self.apart.clone()?,
-            order: self.order.clone()?,
-            ranks: self.ranks.clone()?,
-            partners: self.partners.clone()?,
+            times: Vec::from_slice(alloc, &self.times)?,
+            before: Vec::from_slice(alloc, &self.before)?,
+            after: Vec::from_slice(alloc, &self.after)?,
+            apart: Vec::from_slice(alloc, &self.apart)?,
+            order: Vec::from_slice(alloc, &self.order)?,
+            ranks: Vec::from_slice(alloc, &self.ranks)?,
+            partners: Vec::from_slice(alloc, &self.partners)?,
         })
     }
 

@@ -87,7 +87,7 @@ fn keeps_partners_and_copies_them(rt: HostRuntime) -> Result<(), Fail> {
     }
     pair.set_apart(&[Prec { first: 3, then: 1 }]);
     assert_eq!(rt; pair.partner(0, 0), Some(2));
-    let copy = pair.copy()?;
+    let copy = pair.copy(rt.alloc())?;
     if copy.tasks() != 4 {
         return Err("another copy")?;
     }

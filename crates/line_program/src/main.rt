@@ -3,6 +3,8 @@
 //! `main` makes the files and the standard output, and hands them with the words to `run`, whose contract says what is printed.
 #![tactic(auto)]
 
+#[cfg(test)]
+mod call_tests;
 mod files;
 mod refusal;
 mod report;
