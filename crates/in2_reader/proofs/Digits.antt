@@ -16,14 +16,15 @@ pub record Spell (n : ℕ) (ds : List ℕ) : Type 0 where
   pub some : 0 < length ds
   pub value : value_of ds ≡ n
 
+-- both tests are true, and so is each
 both : (a b : Bool) → a ≡ true → b ≡ true → (a && b) ≡ true
 both a b e f = ap (λ x. x && b) e ∙ f
 
-left : (a b : Bool) → (a && b) ≡ true → a ≡ true
+pub left : (a b : Bool) → (a && b) ≡ true → a ≡ true
 left true b e = refl
 left false b e = (cc)
 
-right : (a b : Bool) → (a && b) ≡ true → b ≡ true
+pub right : (a b : Bool) → (a && b) ≡ true → b ≡ true
 right true b e = e
 right false b e = (cc)
 

@@ -6,6 +6,7 @@ use Rattle.line_instance.specs.declared.arcs.Prec.{Prec}
 use Rattle.line_instance.specs.Line.{Line, IsLine, IsRanked, tasks, at_rank, is_before, Before}
 use Rattle.line_instance.specs.Walks.{Leads, Walk, arc, on, arc_at}
 use Rattle.in2_reader.specs.Written.{AreCovers}
+use Rattle.in2_reader.proofs.Digits.{left, right}
 use Rattle.in2_reader.proofs.Collecting.{first_task, last_task}
 
 -- a number below n passes the test, or none does
@@ -23,14 +24,6 @@ search_below p (suc n) = elim (search_below p n) [
 walk_on : (arcs : List Prec) {i j k : ℕ} → Walk arcs i j → Walk arcs j k → Walk arcs i k
 walk_on arcs v (arc l) = on v l
 walk_on arcs v (on w l) = on (walk_on arcs v w) l
-
-left : (a b : Bool) → (a && b) ≡ true → a ≡ true
-left true b e = refl
-left false b e = (cc)
-
-right : (a b : Bool) → (a && b) ≡ true → b ≡ true
-right true b e = e
-right false b e = (cc)
 
 module _ (line : Line) (ps : List Prec) (s : IsLine line) (r : IsRanked line) (c : AreCovers line ps) where
   higher : (i j p q : ℕ) → p < tasks line → q < tasks line → at_rank line p ≡ i → at_rank line q ≡ j → Before line i j → p < q

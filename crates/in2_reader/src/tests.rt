@@ -2,7 +2,7 @@
 //! language.
 ghost use Rattle.std.specs.Prelude.{◌≡◌, ◌≤◌, ◌<◌, ◌^◌, length};
 
-use crate::{ApartRead, In2Fault, In2Kind, In2Read, push_fault, read_apart, read_in2};
+use crate::{ApartRead, In2Fault, In2Kind, In2Read, push_fault, read_apart, read_in2, write_in2};
 use std::alloc::{AllocError, Global};
 use std::test::Fail;
 
@@ -200,6 +200,20 @@ fn reads_pairs_apart(rt: HostRuntime) -> Result<(), Fail> {
             cycles: 0,
             lines: 76
         }
+    );
+    Ok(())
+}
+
+#[test]
+fn writes_the_canonical_text(rt: HostRuntime) -> Result<(), Fail> {
+    let text = b"4\r\n1\n02\n3\n4\n2,3\n1,3\n1,2\n1,4\n1,2\n-1 , -1\nmade by hand".as_slice();
+    let mut written = Vec::new(rt.alloc());
+    if let In2Read::Good(instance) = read_in2(rt.alloc(), text) {
+        written = write_in2(rt.alloc(), &instance)?;
+    }
+    assert_eq!(rt;
+        written.as_slice(),
+        b"4\n1\n2\n3\n4\n1,2\n1,4\n2,3\n-1,-1\n".as_slice()
     );
     Ok(())
 }

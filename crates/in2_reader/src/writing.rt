@@ -63,9 +63,22 @@ fn push_covers(pairs: &mut Vec<Prec>, inst: &Instance, i: u32) -> Result<(), All
     ensures { OnOk result (AreCoversTo inst.now pairs.new.items (i + 1) 0) }
 {
     for j in 0..inst.tasks() {
-        if inst.covers(i, j) {
-            pairs.push(Prec { first: i, then: j })?;
-        }
+        push_cover(pairs, inst, i, j)?;
     }
+    Ok(())
+}
+
+// Appends the pair of `i` and `j` where it is a covering pair.
+#[tactic(auto, using(crate::proofs::Collecting::one_collected, crate::proofs::Collecting::one_passed))]
+fn push_cover(pairs: &mut Vec<Prec>, inst: &Instance, i: u32, j: u32) -> Result<(), AllocError>
+    requires first { i < tasks inst.now }
+    requires then { j < tasks inst.now }
+    requires pairs { AreCoversTo inst.now pairs.old.items i j }
+    ensures { OnOk result (AreCoversTo inst.now pairs.new.items i (j + 1)) }
+{
+    if !inst.covers(i, j) {
+        return Ok(());
+    }
+    pairs.push(Prec { first: i, then: j })?;
     Ok(())
 }

@@ -13,7 +13,7 @@ In-all line i h l = In-full_to (tasks line) i h l
 pub In-all_lt : (line : Line) (i : ℕ) → In (all_tasks line) i → i < tasks line
 In-all_lt line i m = In-full_to_below (tasks line) i m
 
-length-all : (line : Line) → length (all_tasks line) ≡ 1024
+pub length-all : (line : Line) → length (all_tasks line) ≡ 1024
 length-all line = length-full_to (tasks line)
 
 -- a set of tasks that has every task is the set of all

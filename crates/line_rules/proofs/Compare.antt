@@ -36,7 +36,7 @@ pub compare : (line : Line) (a b : Load) → ((k : ℕ) → k < 2 * tasks line �
 compare line a b = compare_below line a b (2 * tasks line) (omega arith)
 
 module _ (line : Line) (ranked : IsRanked line) (a b : Load) (same : (k : ℕ) → k < 2 * tasks line → truth line a k ≡ truth line b k) where
-  same_front : IsTaskSet line a.front → IsTaskSet line b.front → a.front ≡ b.front
+  pub same_front : IsTaskSet line a.front → IsTaskSet line b.front → a.front ≡ b.front
   same_front f g = ext_get_or false a.front b.front (f.truths ∙ sym g.truths) (λ i l. elim (cases_lt i (tasks line)) [
     | inl t ↦
         let r : (k : ℕ) × (k < tasks line) × (at_rank line k ≡ i) = ranked.rank i t in
@@ -44,7 +44,7 @@ module _ (line : Line) (ranked : IsRanked line) (a b : Load) (same : (k : ℕ) �
     | inr n ↦ outside a.front f i n ∙ sym (outside b.front g i n)
   ])
 
-  same_back : IsTaskSet line a.back → IsTaskSet line b.back → a.back ≡ b.back
+  pub same_back : IsTaskSet line a.back → IsTaskSet line b.back → a.back ≡ b.back
   same_back f g = ext_get_or false a.back b.back (f.truths ∙ sym g.truths) (λ i l. elim (cases_lt i (tasks line)) [
     | inl t ↦
         let r : (k : ℕ) × (k < tasks line) × (at_rank line k ≡ i) = ranked.rank i t in

@@ -41,19 +41,23 @@ none_in_none kind line c r ok few place b =
 proved : (kind : LineKind) (line : Line) → IsLine line → (a : Ask) (l u : ℕ) (b : Assignment) (es : List Entry) (trail : Option Trail)
     → IsProof kind line a l u b es trail → IsProved kind line a l u
 proved kind line ok (ask.Stations cycle) l u b es trail p =
-    let P : ℕ → Type 0 = λ s. IsBalance kind line cycle (all_tasks line) s (seat b.place) in
-    ((seat b.place, subst P p.stations p.balance.balance), λ r less. elim (cases_lt 1 l) [
-      | inl more ↦
-          holds_more kind line cycle cycle (all_tasks line) (all_tasks line) r (l - 1) (omega arith) (omega (arith, less)) (λ i m. m)
-              (answer_holds kind line ok es p.derived (all_tasks line) (l - 1) cycle (p.goal more))
-      | inr few ↦ none_in_none kind line cycle r ok (omega (arith, less, few))
-    ])
+    let P : ℕ → Type 0 = λ s. IsBalance kind line cycle (all_tasks line) s (seat b.place) in (
+      (seat b.place, subst P p.stations p.balance.balance),
+      λ r less. elim (cases_lt 1 l) [
+        | inl more ↦
+            holds_more kind line cycle cycle (all_tasks line) (all_tasks line) r (l - 1) (omega arith) (omega (arith, less)) (λ i m. m)
+            (answer_holds kind line ok es p.derived (all_tasks line) (l - 1) cycle (p.goal more))
+        | inr few ↦ none_in_none kind line cycle r ok (omega (arith, less, few))
+      ],
+    )
 proved kind line ok (ask.Cycle stations) l u b es trail p =
-    let P : ℕ → Type 0 = λ s. IsBalance kind line u (all_tasks line) s (seat b.place) in
-    ((seat b.place, subst P p.stations p.balance.balance), λ c one less.
-    let more : 1 < l = omega (arith, one, less) in
-    holds_more kind line c (l - 1) (all_tasks line) (all_tasks line) stations stations (omega (arith, less)) (omega arith) (λ i m. m)
-        (answer_holds kind line ok es p.derived (all_tasks line) stations (l - 1) (p.goal more)))
+    let P : ℕ → Type 0 = λ s. IsBalance kind line u (all_tasks line) s (seat b.place) in (
+      (seat b.place, subst P p.stations p.balance.balance),
+      λ c one less.
+          let more : 1 < l = omega (arith, one, less) in
+          holds_more kind line c (l - 1) (all_tasks line) (all_tasks line) stations stations (omega (arith, less)) (omega arith) (λ i m. m)
+          (answer_holds kind line ok es p.derived (all_tasks line) stations (l - 1) (p.goal more)),
+    )
 
 claim_true : (kind : LineKind) (line : Line) → IsLine line → (a : Ask) (k : Claim) (lower upper units : ℕ) → ClaimIsAccepted kind line a k lower upper units → IsProved kind line a lower upper
 claim_true kind line ok a (claim.TooLong task) lower upper units p = absurd p

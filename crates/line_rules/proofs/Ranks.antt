@@ -274,18 +274,21 @@ keeps_of U line c b is h i j mi mj before = record {
 
 -- a ranked balance is a right balance, with at most one station per task
 pub ranked_right : (kind : LineKind) (line : Line) (c : ℕ) (b : Assignment) → IsLine line → IsRankedBalance kind line c b → IsRight kind line c b × (b.stations ≤ tasks line)
-ranked_right kind line c b is h = (record {
-  each = h.each;
-  sides = side_of kind line c b is h;
-  balance = record {
-    first = λ i m. (let p = placement kind line c b is h i m in omega (arith, ap (λ x. x.station) p.3, station_first kind line c h.placed h.ranked p.0 p.1));
-    last = λ i m. (let p = placement kind line c b is h i m in omega (arith, h.stations, ap (λ x. x.station) p.3, station_last kind line c h.placed h.ranked p.0 p.1));
-    keeps = keeps_of kind line c b is h;
-    parted = λ i j mi mj a e. (let p = placement kind line c b is h i mi in
-    let q = placement kind line c b is h j mj in
-    let P : ℕ → Type 0 = λ k. Apart line k j in
-    let Q : ℕ → Type 0 = λ k. Apart line p.0.task k in
-    placed_parted kind line c is.both_ways is.of_two h.placed h.ranked p.0 q.0 p.1 q.1 (ap (λ x. x.station) (sym p.3) ∙ e ∙ ap (λ x. x.station) q.3) (subst Q (sym q.2) (subst P (sym p.2) a)));
-    fits = time_fits kind line c b is h;
-  };
-}, omega (arith, h.stations, stations_few kind line c h.placed h.ranked is.some))
+ranked_right kind line c b is h = (
+  record {
+    each = h.each;
+    sides = side_of kind line c b is h;
+    balance = record {
+      first = λ i m. (let p = placement kind line c b is h i m in omega (arith, ap (λ x. x.station) p.3, station_first kind line c h.placed h.ranked p.0 p.1));
+      last = λ i m. (let p = placement kind line c b is h i m in omega (arith, h.stations, ap (λ x. x.station) p.3, station_last kind line c h.placed h.ranked p.0 p.1));
+      keeps = keeps_of kind line c b is h;
+      parted = λ i j mi mj a e. (let p = placement kind line c b is h i mi in
+          let q = placement kind line c b is h j mj in
+          let P : ℕ → Type 0 = λ k. Apart line k j in
+          let Q : ℕ → Type 0 = λ k. Apart line p.0.task k in
+          placed_parted kind line c is.both_ways is.of_two h.placed h.ranked p.0 q.0 p.1 q.1 (ap (λ x. x.station) (sym p.3) ∙ e ∙ ap (λ x. x.station) q.3) (subst Q (sym q.2) (subst P (sym p.2) a)));
+      fits = time_fits kind line c b is h;
+    };
+  },
+  omega (arith, h.stations, stations_few kind line c h.placed h.ranked is.some),
+)

@@ -30,7 +30,7 @@ get_before (x ∷ xs) zero a e = (x, refl)
 get_before (x ∷ xs) (suc k) a e = get_before xs k a e
 
 -- a load is the first of a rising list, or stands above it
-first_less : (line : Line) (P : Load → Type 0) (x : Load) (xs : List Load) → Lists line P (x ∷ xs) → (k : ℕ) (a : Load) → slice_get xs k ≡ Some a → Precedes line x a
+pub first_less : (line : Line) (P : Load → Type 0) (x : Load) (xs : List Load) → Lists line P (x ∷ xs) → (k : ℕ) (a : Load) → slice_get xs k ≡ Some a → Precedes line x a
 first_less line P x xs h zero a e = h.rises 0 x a refl e
 first_less line P x xs h (suc k) a e =
     let b : (b : Load) × (slice_get xs k ≡ Some b) = get_before xs k a e in
@@ -54,7 +54,7 @@ heads line P x y xs ys f g = elim (place_of line P x xs f y (f.complete y (g.sou
 ]
 
 -- the list after its first load
-tail_lists : (line : Line) (P : Load → Type 0) (x : Load) (xs : List Load) → Lists line P (x ∷ xs) → Lists line (λ l. P l × Precedes line x l) xs
+pub tail_lists : (line : Line) (P : Load → Type 0) (x : Load) (xs : List Load) → Lists line P (x ∷ xs) → Lists line (λ l. P l × Precedes line x l) xs
 tail_lists line P x xs h = record {
   rises = λ k a b e f. h.rises (suc k) a b e f;
   sound = λ k a e. (h.sound (suc k) a e, first_less line P x xs h k a e);

@@ -7,7 +7,7 @@ use Rattle.line_rules.specs.Bounds.{bound}
 use Rattle.line_rules.specs.Loads.{IsLoad, rest}
 use Rattle.line_rules.specs.Order.{Precedes, Lists, UpTo}
 use Rattle.line_rules.specs.Entries.{Answers, IsOpen, Follows, IsDerived}
-use Rattle.line_rules.specs.Units.{UnitsWhole}
+use Rattle.line_rules.specs.Units.{UnitsOf, UnitsWhole}
 use Rattle.line_rules.specs.Accepted.{HasBalance, IsAccepted, IsInfeasible}
 use Rattle.line_rules.specs.Ranked.{IsRankedBalance}
 use Rattle.line_rules.specs.declared.types.LineKind.{LineKind}
@@ -72,9 +72,19 @@ pub record ListsAreUnique : Type 0 where
   pub left : (kind : LineKind) (line : Line) (c : ℕ) (mode : Mode) (R : List Bool) (most : ℕ) (xs ys : List Load)
       → Lists line (IsOpen kind line c mode R most) xs → Lists line (IsOpen kind line c mode R most) ys → xs ≡ ys
 
+-- each set of tasks has a list of its loads in a mode, and a list of the full ones whose rest the bound leaves open
+pub record EachSetHasItsLists : Type 0 where
+  pub loads : (line : Line) → IsLine line → IsRanked line → (c : ℕ) (mode : Mode) (R : List Bool) → IsTaskSet line R → (ls : List Load) × Lists line (IsLoad line c mode R) ls
+  pub left : (kind : LineKind) (line : Line) → IsLine line → IsRanked line → (c : ℕ) (mode : Mode) (R : List Bool) → IsTaskSet line R → (most : ℕ)
+      → (ls : List Load) × Lists line (IsOpen kind line c mode R most) ls
+
 -- entries and a trail have one number of units
 abbrev pub UnitsAreUnique : Type 0
 UnitsAreUnique = (line : Line) (es : List Entry) (trail : Option Trail) (a b : ℕ) → UnitsWhole line es trail a → UnitsWhole line es trail b → a ≡ b
+
+-- the entries of a derived list have a number of units
+abbrev pub DerivedHasUnits : Type 0
+DerivedHasUnits = (kind : LineKind) (line : Line) → IsLine line → IsRanked line → (es : List Entry) → IsDerived kind line es → (units : ℕ) × UnitsOf line es units
 
 -- the rest of a load of R is a set of tasks of R, and lacks a task of R
 pub record IsRest (line : Line) (R S : List Bool) : Type 0 where

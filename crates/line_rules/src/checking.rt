@@ -165,12 +165,7 @@ fn first_together(inst: &Instance, balance: &Balance) -> Option<(u32, u32)>
 ///
 /// The answers are tested in the order of `BalanceCheck`, and each says that everything before it is right. Takes no memory, and
 /// time proportional to the tasks and the pairs of tasks that are before one another or apart.
-pub fn check_balance(
-    inst: &Instance,
-    kind: LineKind,
-    cycle: u64,
-    balance: &Balance,
-) -> BalanceCheck
+pub fn check_balance(inst: &Instance, kind: LineKind, cycle: u64, balance: &Balance) -> BalanceCheck
     requires places { length balance.now.place ≤ tasks inst.now }
     requires stations { balance.now.stations ≤ 1024 }
     ensures { IsChecked kind inst.now cycle balance.now result }

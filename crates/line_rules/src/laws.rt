@@ -1,8 +1,8 @@
 //! What is true of all lines, cycles and sets, for the crates above to cite.
 ghost use Rattle.line_rules.specs.Laws.{EveryRankedBalanceIsRight, EveryEntryHolds, EveryBoundHolds, EveryBalanceCarriesOver, EveryRefusalCarriesOver, EachTaskMayStandAlone};
-ghost use Rattle.line_rules.specs.Laws.{OrderIsStrict, OrderIsTotal, ListsAreUnique, UnitsAreUnique, EveryRestIsSmaller, FollowsFromMore, AnswersLeadOn, DerivedGrows};
+ghost use Rattle.line_rules.specs.Laws.{OrderIsStrict, OrderIsTotal, EachSetHasItsLists, DerivedHasUnits, ListsAreUnique, UnitsAreUnique, EveryRestIsSmaller, FollowsFromMore, AnswersLeadOn, DerivedGrows};
 ghost use Rattle.line_rules.specs.Laws.{EveryAcceptedBoundIsTrue, EveryInfeasibleCertificateIsTrue};
-ghost use Rattle.line_rules.specs.Rows.{BoundsOfTheRows};
+ghost use Rattle.line_rules.specs.Rows.{BoundsOfTheRows, CertificateOfTheRows, BranchesOfTheRows, SwapOfTheRows};
 
 /// The ranked balance of a line is right, and has at most as many stations as there are tasks.
 pub fn every_ranked_balance_is_right()
@@ -49,9 +49,19 @@ pub fn lists_are_unique()
     ensures { ListsAreUnique }
 {}
 
+/// Each set of tasks has a list of its loads, and a list of those that need a cite.
+pub fn each_set_has_its_lists()
+    ensures { EachSetHasItsLists }
+{}
+
 /// Entries and a trail have one number of units.
 pub fn units_are_unique()
     ensures { UnitsAreUnique }
+{}
+
+/// The entries of a derived list have a number of units.
+pub fn derived_has_units()
+    ensures { DerivedHasUnits }
 {}
 
 /// The rest of a load of a set is a subset of the set, with fewer tasks.
@@ -87,4 +97,19 @@ pub fn every_infeasible_certificate_is_true()
 /// The bounds of small lines, as worked by hand.
 pub fn the_bounds_of_the_rows()
     ensures { BoundsOfTheRows }
+{}
+
+/// The loads and the certificates of five tasks, as worked by hand.
+pub fn the_certificate_of_the_rows()
+    ensures { CertificateOfTheRows }
+{}
+
+/// Two branches of six tasks, as worked by hand, and entries that don't follow.
+pub fn the_branches_of_the_rows()
+    ensures { BranchesOfTheRows }
+{}
+
+/// A swap among seven tasks, as worked by hand.
+pub fn the_swap_of_the_rows()
+    ensures { SwapOfTheRows }
 {}

@@ -5,6 +5,8 @@
 mod checking;
 pub mod laws;
 mod listed;
+#[cfg(test)]
+mod tests;
 mod types;
 
 pub use checking::check_balance;

@@ -112,7 +112,8 @@ impl<T> Listed<T> {
 
     /// Puts an item at the end. For want of memory the list stays as it was, and the item is given up.
     pub fn push(&mut self, item: T) -> Result<(), AllocError>
-        where T: Drop
+    where
+        T: Drop,
         ensures ok { OnOk result (self.new ≡ self.old ++ item ∷ []) }
         ensures err { OnErr result (self.new ≡ self.old) }
     {

@@ -186,7 +186,9 @@ pub enum Ask {
 #[derive(Drop)]
 pub enum Claim {
     /// There is no balance, since this task, from 0, is longer than the cycle.
-    TooLong { task: u32 },
+    TooLong {
+        task: u32,
+    },
     /// The answer lies within bounds.
     Bounds {
         /// The lower bound, from 1.

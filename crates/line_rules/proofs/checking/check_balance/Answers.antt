@@ -27,9 +27,13 @@ returns-in-Some-overfull c =
     let s = c.in-Some-overfull.s in
     let stations : HasStations line b = stations_all line b c.tasks-tasks.ensures.line (λ i l. c.in_default.ensures.none refl i (omega arith)) in
     let sides : HasSides c.args.kind line b = sides_all line b c.tasks-tasks.ensures.line c.args.kind (λ i l. c.in_default-wrong_side.ensures.none refl i (omega arith)) in
-    let within : s < 1025 = omega (arith, c.in-Some-overfull.ensures.some.passes.0, c.station_times-times.ensures.long) in
-    (omega arith, stations, sides, c.station_times-times.ensures.times s within,
-    least_over line b c.tasks-tasks.ensures.line c.station_times-times.result c.args.cycle s c.station_times-times.ensures.long c.station_times-times.ensures.times c.in-Some-overfull.ensures.some)
+    let within : s < 1025 = omega (arith, c.in-Some-overfull.ensures.some.passes.0, c.station_times-times.ensures.long) in (
+      omega arith,
+      stations,
+      sides,
+      c.station_times-times.ensures.times s within,
+      least_over line b c.tasks-tasks.ensures.line c.station_times-times.result c.args.cycle s c.station_times-times.ensures.long c.station_times-times.ensures.times c.in-Some-overfull.ensures.some,
+    )
 
 pub returns-in-Some-first_broken : goal.returns-in-Some-first_broken
 returns-in-Some-first_broken c =
