@@ -1,3 +1,4 @@
+//! Pairs of tasks, and the end mark.
 ghost use Rattle.std.specs.Prelude.{◌≡◌, ◌≢◌, ◌≤◌, ◌<◌, ◌^◌, ℕ, MatchOption, length, take, drop, IfSome, IsNone, None, Some};
 ghost use Rattle.in2_reader.specs.Pairs.{pair_in, pair_for, comma_split, without_gaps_front, without_gaps_back, is_gap as gap, arc_in, is_minus_one as minus_one};
 ghost use Rattle.line_io.specs.declared.text.Num.TheVariants.{Value};
@@ -28,12 +29,14 @@ pub enum Pair {
     Other,
 }
 
+// Whether a byte is a blank or a tab; a CR isn't one.
 fn is_gap(b: u8) -> bool
     ensures { result ≡ gap b }
 {
     b == b' ' || b == b'\t'
 }
 
+// The bytes up to the last one that is neither.
 fn before_gaps(bytes: &[u8]) -> &[u8]
     ensures { result.now ≡ without_gaps_back bytes.now }
 {
@@ -47,6 +50,7 @@ fn before_gaps(bytes: &[u8]) -> &[u8]
     kept
 }
 
+// The bytes from the first one that is neither.
 fn behind_gaps(bytes: &[u8]) -> &[u8]
     ensures { result.now ≡ without_gaps_front bytes.now }
 {
@@ -60,6 +64,7 @@ fn behind_gaps(bytes: &[u8]) -> &[u8]
     kept
 }
 
+// What stands before the first comma and behind it.
 fn split_comma(bytes: &[u8]) -> Option<(&[u8], &[u8])>
     ensures none { IsNone result → comma_split bytes.now ≡ None }
     ensures some { IfSome result (λ p. comma_split bytes.now ≡ Some (p.0.now, p.1.now)) }
@@ -72,12 +77,14 @@ fn split_comma(bytes: &[u8]) -> Option<(&[u8], &[u8])>
     None
 }
 
+// Whether the bytes are `-1`.
 fn is_minus_one(bytes: &[u8]) -> bool
     ensures { result ≡ minus_one bytes.now }
 {
     bytes == b"-1".as_slice()
 }
 
+// What the bytes are, read as a number of a task.
 fn whole(bytes: &[u8], tasks: u32) -> Num
     ensures number { result ≡ number_in tasks bytes.now }
     ensures most { (v : ℕ) → result ≡ Value v → v < 2 ^ 32 }
@@ -92,6 +99,7 @@ fn whole(bytes: &[u8], tasks: u32) -> Num
     )
 }
 
+// The pair of two numbers, as tasks counted from 0.
 fn arc_of(first: Num, then: Num) -> Pair
     requires first { (v : ℕ) → first ≡ Value v → v < 2 ^ 32 }
     requires then { (v : ℕ) → «then» ≡ Value v → v < 2 ^ 32 }

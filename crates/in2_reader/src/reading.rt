@@ -1,3 +1,4 @@
+//! The reading of a text line by line: times, and pairs up to the end mark.
 ghost use Rattle.std.specs.Prelude.{◌≡◌, ◌≤◌, ◌<◌, ◌+◌, ◌-◌, ◌^◌, ℕ, length, IfOk, Ok};
 ghost use Rattle.line_io.specs.Lines.{number_in};
 ghost use Rattle.in2_reader.specs.Contents.{contents_from, lines_in};
@@ -21,15 +22,18 @@ const MAX_TIME: u64 = 200_000_000_000_000;
 /// The most pairs that a text may have.
 pub const MAX_ARCS: usize = 524_288;
 
-/// What an IN2 text says; `last` is the line of its end mark.
+/// What an IN2 text says.
 #[derive(Debug, Drop)]
 pub struct Draft {
+    /// The times of the tasks, in the text's time unit.
     pub times: Vec<u64>,
+    /// The arcs, their tasks counted from 0.
     pub arcs: Vec<Prec>,
+    /// The number of the line of the end mark, counted from 1.
     pub last: u64,
 }
 
-/// Bytes that are left, and the number of their first line.
+// Bytes that are left, and the number of their first line.
 #[derive(Drop)]
 struct Left<'a> {
     text: &'a [u8],

@@ -1,6 +1,7 @@
 //! What is true of all runs of a book, for the crates above to cite.
 ghost use Rattle.line_rules.specs.Laws.{EveryEntryHolds};
 ghost use Rattle.lemma_core.specs.Laws.{LastAnswerIsLast, HistoryReplays, RunsKeep};
+ghost use Rattle.lemma_core.specs.Rows.{EventsOfTheRows};
 
 /// In a derived list every entry holds: its set has no balance in its number of stations at its cycle.
 pub fn every_entry_holds()
@@ -22,4 +23,9 @@ pub fn history_replays()
 /// Entries stay derived and fresh, and the best balance stays right.
 pub fn runs_keep()
     ensures { RunsKeep }
+{}
+
+/// Five events on an empty book, as worked by hand.
+pub fn the_events_of_the_rows()
+    ensures { EventsOfTheRows }
 {}

@@ -1,6 +1,6 @@
 -- The set of all tasks.
-use Rattle.std.proofs.Common.{◌≡◌, ℕ, ◌<◌, ◌≤◌, Bool, List, length, refl}
-use Rattle.task_set.specs.Truths.{In, full_to}
+use Rattle.std.proofs.Common.{◌≡◌, ℕ, ◌<◌, ◌≤◌, Bool, List, length}
+use Rattle.task_set.specs.Truths.{In}
 use Rattle.task_set.proofs.Members.{In-full_to, In-full_to_below}
 use Rattle.task_set.proofs.Counts.{same_members}
 use Rattle.task_set.proofs.Fills.{length-full_to}

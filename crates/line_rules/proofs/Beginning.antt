@@ -1,5 +1,5 @@
 -- The beginning of the list of loads: those up to one of them.
-use Rattle.std.proofs.Common.{◌≡◌, ℕ, suc, List, [], ◌∷◌, ◌++◌, refl, sym, subst, ◌⊎◌, inl, inr, Some}
+use Rattle.std.proofs.Common.{◌≡◌, ℕ, List, [], ◌∷◌, ◌++◌, refl, sym, subst, inl, inr, Some}
 use Rattle.std.specs.Prelude.{slice_get}
 use Rattle.line_instance.specs.Line.{Line}
 use Rattle.line_rules.specs.Order.{Precedes, Lists, UpTo}

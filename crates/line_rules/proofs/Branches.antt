@@ -1,8 +1,8 @@
 -- An entry by Branch follows where its open loads, by computing, are these, and its cites cover them.
-use Rattle.std.proofs.Common.{◌≡◌, ℕ, zero, suc, ◌-◌, ◌<◌, ◌≤◌, Bool, List, [], ◌∷◌, length, refl, ap, ◌∙◌, subst, Some, arith}
+use Rattle.std.proofs.Common.{◌≡◌, ℕ, zero, suc, ◌-◌, ◌≤◌, Bool, List, [], ◌∷◌, length, refl, ap, subst, Some}
 use Rattle.std.specs.Prelude.{slice_get}
-use Rattle.task_set.specs.Truths.{In, IsSubset}
-use Rattle.line_instance.specs.Line.{Line, IsRanked, IsTaskSet, tasks, has}
+use Rattle.task_set.specs.Truths.{In}
+use Rattle.line_instance.specs.Line.{Line, IsRanked, IsTaskSet, tasks}
 use Rattle.line_rules.specs.Loads.{Belongs, rest}
 use Rattle.line_rules.specs.Order.{Lists}
 use Rattle.line_rules.specs.Entries.{IsOpen, Cites, Follows}

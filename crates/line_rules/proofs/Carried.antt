@@ -8,9 +8,9 @@ use Rattle.line_instance.specs.Line.{Line, IsLine, IsRanked, IsTaskSet, has, tas
 use Rattle.line_rules.specs.Balance.{IsBalance, Holds}
 use Rattle.line_rules.specs.Bounds.{bound}
 use Rattle.line_rules.specs.Loads.{IsLoad, taken, rest}
-use Rattle.line_rules.specs.Order.{Lists, Counts, UpTo}
+use Rattle.line_rules.specs.Order.{Counts, UpTo}
 use Rattle.line_rules.specs.Entries.{Answers, Follows, IsDerived}
-use Rattle.line_rules.specs.Units.{UnitsBy, UnitsOf, FrameUnits, UnitsIn, TrailUnits, UnitsWhole}
+use Rattle.line_rules.specs.Units.{UnitsBy, UnitsOf, UnitsIn, TrailUnits, UnitsWhole}
 use Rattle.line_rules.specs.Laws.{IsRest}
 use Rattle.line_rules.specs.declared.types.LineKind.{LineKind}
 use Rattle.line_rules.specs.declared.types.Mode.{Mode}

@@ -1,5 +1,5 @@
 -- The entries of a derived list have a number of units.
-use Rattle.std.proofs.Common.{◌≡◌, ℕ, zero, suc, ◌+◌, Bool, List, [], ◌∷◌, length, refl, Some}
+use Rattle.std.proofs.Common.{◌≡◌, ℕ, suc, ◌+◌, List, [], ◌∷◌, length, refl, Some}
 use Rattle.std.specs.Prelude.{slice_get}
 use Rattle.line_instance.specs.Line.{Line, IsLine, IsRanked, IsTaskSet}
 use Rattle.line_rules.specs.Entries.{IsDerived}

@@ -1,30 +1,27 @@
 -- The five tasks of the worked rows: their loads, and their certificate.
-use Rattle.std.proofs.Common.{◌≡◌, ℕ, zero, suc, ◌+◌, ◌<◌, ◌≤◌, Bool, true, false, ◌&&◌, nat_eq, List, [], ◌∷◌, ◌++◌, length, refl, sym, ap, ◌∙◌, subst, ◌⊎◌, inl, inr, Some, arith}
+use Rattle.std.proofs.Common.{◌≡◌, ℕ, zero, suc, ◌<◌, ◌≤◌, true, ◌&&◌, nat_eq, List, [], ◌∷◌, ◌++◌, length, refl, subst, inl, inr, Some, arith}
 use Rattle.std.specs.Prelude.{slice_get, slice_index_or}
-use Rattle.std.proofs.lemmas.Bool.{cases_lt, cases_Bool, and_parts, false≢true}
+use Rattle.std.proofs.lemmas.Bool.{cases_lt, cases_Bool, and_parts}
 use Rattle.std.proofs.lemmas.Bool.Decides.{nat_tests}
 use Rattle.task_set.specs.Truths.{In, full_to}
-use Rattle.task_set.proofs.Members.{In-full_to_below}
-use Rattle.task_set.proofs.Fills.{length-full_to}
-use Rattle.line_instance.specs.Line.{Line, IsLine, IsRanked, IsTaskSet, Before, Apart, tasks, time, has, at_rank}
+use Rattle.line_instance.specs.Line.{IsRanked, IsTaskSet, tasks, has}
 use Rattle.line_instance.proofs.Sums.{weigh-none}
-use Rattle.line_rules.specs.Balance.{IsBalance, IsRight, all_tasks, seat, time_at}
+use Rattle.line_rules.specs.Balance.{IsRight, all_tasks, seat, time_at}
 use Rattle.line_rules.specs.Bounds.{bound, lm1, lm2, lm3, sixths, head, tail, chained}
 use Rattle.line_rules.specs.Loads.{IsLoad}
-use Rattle.line_rules.specs.Order.{Lists, Counts}
-use Rattle.line_rules.specs.Entries.{IsOpen, FollowsByBranch, Follows, IsDerived, Answers, HasAnswer}
-use Rattle.line_rules.specs.Units.{UnitsOf, FrameUnits, UnitsWhole}
+use Rattle.line_rules.specs.Order.{Lists}
+use Rattle.line_rules.specs.Entries.{IsOpen, Follows, IsDerived, HasAnswer}
+use Rattle.line_rules.specs.Units.{UnitsOf, FrameUnits}
 use Rattle.line_rules.specs.Trails.{IsDeepest}
-use Rattle.line_rules.specs.Accepted.{IsProof, IsAccepted}
-use Rattle.line_rules.specs.Rows.{five_free, fifteen_loads, load_of, five_stopped, at, five_entry, five_certificate, set_of, CertificateOfTheRows}
-use Rattle.line_rules.specs.declared.types.LineKind.TheVariants.{Straight, U}
+use Rattle.line_rules.specs.Accepted.{IsAccepted}
+use Rattle.line_rules.specs.Rows.{five_free, fifteen_loads, load_of, five_stopped, at, five_entry, five_certificate, CertificateOfTheRows}
+use Rattle.line_rules.specs.declared.types.LineKind.TheVariants.{Straight}
 use Rattle.line_rules.specs.declared.types.Side.TheVariants.{Front}
 use Rattle.line_rules.specs.declared.types.Mode.TheVariants.{Fore, Both}
 use Rattle.line_rules.specs.declared.types.Seatplace.{Seatplace}
 use Rattle.line_rules.specs.declared.types.Load.{Load}
 use Rattle.line_rules.specs.declared.types.Entry.{Entry}
-use Rattle.line_rules.specs.declared.types.Balance.{Balance as Assignment}
-use Rattle.line_rules.proofs.All.{In-all, In-all_lt, length-all}
+use Rattle.line_rules.proofs.All.{In-all, In-all_lt}
 use Rattle.line_rules.specs.declared.types.OpenFrame.{OpenFrame}
 use Rattle.line_rules.specs.declared.types.Why.TheVariants as why
 use Rattle.line_rules.proofs.Beginning.{up_to_listed}

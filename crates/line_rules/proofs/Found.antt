@@ -1,15 +1,13 @@
 -- From the answers of the tests to the answer of the whole.
-use Rattle.std.proofs.Common.{◌≡◌, ℕ, ◌<◌, ◌≤◌, Bool, true, false, ◌&&◌, nat_eq, List, length, get_or, refl, sym, ap, ◌∙◌, subst, inl, inr, arith}
-use Rattle.std.proofs.lemmas.Bool.{cases_lt, cases_eq, cases_Bool, and_parts, false≢true}
+use Rattle.std.proofs.Common.{◌≡◌, ℕ, ◌<◌, ◌≤◌, true, ◌&&◌, nat_eq, List, length, get_or, sym, subst, inl, inr, arith}
+use Rattle.std.proofs.lemmas.Bool.{cases_lt, cases_eq, cases_Bool, and_parts}
 use Rattle.std.proofs.lemmas.Bool.Decides.{nat_tests}
 use Rattle.task_set.specs.Truths.{In}
-use Rattle.line_instance.specs.Line.{Line, IsLine, Before, Apart, tasks, has}
-use Rattle.line_instance.specs.Sums.{sum_where}
+use Rattle.line_instance.specs.Line.{Line, IsLine, Apart, tasks, has}
 use Rattle.line_instance.proofs.Sums.{weigh-none}
-use Rattle.line_rules.specs.Balance.{IsRight, IsSide, Keeps, all_tasks, seat, time_at}
-use Rattle.line_rules.specs.Checked.{IsLeastWhere, IsLeastPair, Breaks, Meets, HasStations, HasSides, HasRoom, KeepsAll}
+use Rattle.line_rules.specs.Balance.{IsRight, IsSide, all_tasks, seat, time_at}
+use Rattle.line_rules.specs.Checked.{IsLeastWhere, Meets, HasStations, HasSides, HasRoom, KeepsAll}
 use Rattle.line_rules.specs.declared.types.LineKind.{LineKind}
-use Rattle.line_rules.specs.declared.types.Seatplace.{Seatplace}
 use Rattle.line_rules.specs.declared.types.Balance.{Balance as Assignment}
 use Rattle.line_rules.proofs.All.{In-all, In-all_lt}
 

@@ -1,13 +1,12 @@
 -- Lines of tasks of which no one is before or apart from another.
-use Rattle.std.proofs.Common.{◌≡◌, ℕ, zero, suc, ◌+◌, ◌<◌, ◌≤◌, Bool, List, [], ◌∷◌, length, map, refl, sym, ap, ◌∙◌, arith}
+use Rattle.std.proofs.Common.{◌≡◌, ℕ, zero, suc, ◌<◌, ◌≤◌, List, [], ◌∷◌, length, map, refl, sym, ap, ◌∙◌, arith}
 use Rattle.std.specs.Prelude.{slice_index_or}
-use Rattle.std.specs.List.{range_with_len}
 use Rattle.std.proofs.lemmas.Bool.{false≢true}
 use Rattle.std.proofs.lemmas.List.FromFn.{get_or-range_with_len, length-range_with_len}
 use Rattle.task_set.specs.Truths.{In, full_to}
 use Rattle.task_set.proofs.Members.{In-full_to_below}
 use Rattle.task_set.proofs.Fills.{length-full_to}
-use Rattle.line_instance.specs.Line.{Line, IsLine, IsRanked, IsTaskSet, tasks, time, at_rank}
+use Rattle.line_instance.specs.Line.{Line, IsLine, IsRanked, IsTaskSet, at_rank}
 use Rattle.line_rules.specs.Balance.{all_tasks}
 use Rattle.line_rules.specs.Rows.{free}
 use Rattle.line_rules.proofs.All.{In-all_lt, length-all}

@@ -1,5 +1,5 @@
 pub mod All
-pub mod Tests
+pub mod Reading
 pub mod Stations
 pub mod Found
 pub mod Ranks
@@ -32,3 +32,4 @@ pub mod Six
 pub mod Counted
 pub mod Branches
 pub mod Seven
+pub mod Leaving

@@ -1,17 +1,15 @@
 -- What an accepted certificate proves.
-use Rattle.std.proofs.Common.{◌≡◌, ℕ, ◌-◌, ◌<◌, ◌≤◌, Bool, true, ◌&&◌, nat_eq, List, length, slice_get, refl, sym, subst, Option, Some, None, ◌⊎◌, inl, inr, arith}
+use Rattle.std.proofs.Common.{ℕ, ◌-◌, ◌<◌, Bool, ◌&&◌, nat_eq, List, refl, sym, subst, Option, inl, inr, arith}
 use Rattle.std.proofs.lemmas.Bool.{cases_lt, and_from, eq-eqb}
 use Rattle.task_set.specs.Truths.{In}
-use Rattle.line_instance.specs.Line.{Line, IsLine, tasks, time, has}
-use Rattle.line_instance.specs.Sums.{sum_where}
+use Rattle.line_instance.specs.Line.{Line, IsLine, has}
 use Rattle.line_instance.proofs.Sums.{weigh-one}
 use Rattle.line_rules.specs.Balance.{IsBalance, Holds, all_tasks, seat}
 use Rattle.line_rules.specs.Bounds.{IsTooLong}
 use Rattle.line_rules.specs.Entries.{IsDerived, Answers, HasAnswer}
-use Rattle.line_rules.specs.Accepted.{HasBalance, IsProof, ClaimIsAccepted, IsAccepted, ClaimIsInfeasible, IsInfeasible}
+use Rattle.line_rules.specs.Accepted.{IsProof, ClaimIsAccepted, IsAccepted, ClaimIsInfeasible, IsInfeasible}
 use Rattle.line_rules.specs.Laws.{IsProved, NoBalanceIsLeft}
 use Rattle.line_rules.specs.declared.types.LineKind.{LineKind}
-use Rattle.line_rules.specs.declared.types.Seatplace.{Seatplace}
 use Rattle.line_rules.specs.declared.types.Balance.{Balance as Assignment}
 use Rattle.line_rules.specs.declared.types.Entry.{Entry}
 use Rattle.line_rules.specs.declared.types.Trail.{Trail}

@@ -1,20 +1,20 @@
 -- What is true of ranked placements, and that a ranked balance is right.
-use Rattle.std.proofs.Common.{◌≡◌, ◌≢◌, ℕ, zero, suc, ◌+◌, ◌<◌, ◌≤◌, Bool, true, false, cond, ◌&&◌, ◌||◌, not, nat_eq, List, [], ◌∷◌, length, get_or, refl, sym, ap, ◌∙◌, subst, ◌⊎◌, inl, inr, arith}
-use Rattle.std.proofs.lemmas.Bool.{false≢true, cases_eq, cases_lt, cases_Bool, and_parts, and_from, or_cases}
+use Rattle.std.proofs.Common.{◌≡◌, ◌≢◌, ℕ, ◌+◌, ◌<◌, ◌≤◌, Bool, true, false, cond, ◌&&◌, ◌||◌, nat_eq, List, [], ◌∷◌, length, get_or, refl, sym, ap, ◌∙◌, subst, inl, inr, arith}
+use Rattle.std.proofs.lemmas.Bool.{false≢true, cases_eq, cases_Bool, and_parts, and_from, or_cases}
 use Rattle.std.proofs.lemmas.Bool.Decides.{nat_tests}
 use Rattle.task_set.specs.Truths.{In}
-use Rattle.line_instance.specs.Line.{Line, IsLine, Before, Apart, is_before, has, tasks, time}
-use Rattle.line_instance.specs.Sums.{weigh, sum_where}
+use Rattle.line_instance.specs.Line.{Line, IsLine, Before, Apart, has, tasks, time}
+use Rattle.line_instance.specs.Sums.{weigh}
 use Rattle.line_instance.proofs.Sums.{weigh-le, weigh-none, weigh-more, weigh-most}
-use Rattle.line_rules.specs.Balance.{IsSide, Keeps, KeepsU, IsBalance, IsRight, all_tasks, seat, time_at}
-use Rattle.line_rules.specs.Ranked.{Placement, Has, IsAt, time_placed, IsReady, MayBePlaced, station_of, IsClosed, ComesNext, AreRanked, IsRankedBalance}
+use Rattle.line_rules.specs.Balance.{IsSide, Keeps, IsRight, all_tasks, seat, time_at}
+use Rattle.line_rules.specs.Ranked.{Placement, Has, IsAt, time_placed, IsReady, station_of, ComesNext, AreRanked, IsRankedBalance}
 use Rattle.line_rules.specs.declared.types.LineKind.{LineKind}
 use Rattle.line_rules.specs.declared.types.LineKind.TheVariants.{Straight, U}
 use Rattle.line_rules.specs.declared.types.Side.{Side}
 use Rattle.line_rules.specs.declared.types.Side.TheVariants.{Front, Back}
 use Rattle.line_rules.specs.declared.types.Seatplace.{Seatplace}
 use Rattle.line_rules.specs.declared.types.Balance.{Balance as Assignment}
-use Rattle.line_rules.proofs.All.{In-all, In-all_lt}
+use Rattle.line_rules.proofs.All.{In-all_lt}
 
 -- a task placed earlier is placed later on too
 pub at_more : (q : Placement) (ps : List Placement) (side : Side) (i : ℕ) → IsAt ps side i → IsAt (q ∷ ps) side i

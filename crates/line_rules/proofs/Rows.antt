@@ -1,5 +1,5 @@
 -- The worked rows, by computing.
-use Rattle.std.proofs.Common.{◌≡◌, refl}
+use Rattle.std.proofs.Common.{refl}
 use Rattle.task_set.specs.Truths.{full_to}
 use Rattle.line_rules.specs.Bounds.{bound, lm1, lm2, lm3, sixths, head, tail, chained}
 use Rattle.line_rules.specs.Rows.{BoundsOfTheRows}

@@ -1,18 +1,16 @@
 -- The seven tasks of the worked rows: a swap.
-use Rattle.std.proofs.Common.{◌≡◌, ℕ, zero, suc, ◌+◌, ◌<◌, ◌≤◌, Bool, true, false, List, [], ◌∷◌, length, refl, sym, ap, ◌∙◌, subst, Some, arith}
-use Rattle.std.specs.Prelude.{slice_get, slice_set}
+use Rattle.std.proofs.Common.{◌≡◌, ◌≤◌, Bool, true, false, List, [], ◌∷◌, length, refl, ap, ◌∙◌, arith}
+use Rattle.std.specs.Prelude.{slice_set}
 use Rattle.task_set.specs.Truths.{In, full_to}
 use Rattle.line_instance.specs.Line.{IsRanked, IsTaskSet, tasks, has}
 use Rattle.line_rules.specs.Balance.{all_tasks}
 use Rattle.line_rules.specs.Bounds.{bound, lm1, lm2, lm3, sixths, head, tail, chained}
-use Rattle.line_rules.specs.Loads.{IsLoad, rest}
-use Rattle.line_rules.specs.Order.{Counts}
-use Rattle.line_rules.specs.Entries.{Cites, Follows, IsDerived}
+use Rattle.line_rules.specs.Loads.{rest}
+use Rattle.line_rules.specs.Entries.{Follows, IsDerived}
 use Rattle.line_rules.specs.Units.{UnitsOf}
-use Rattle.line_rules.specs.Rows.{seven_free, seven_entries, set_of, load_of, SwapOfTheRows}
+use Rattle.line_rules.specs.Rows.{seven_free, set_of, load_of, SwapOfTheRows}
 use Rattle.line_rules.specs.declared.types.LineKind.TheVariants.{Straight}
 use Rattle.line_rules.specs.declared.types.Mode.TheVariants.{Fore}
-use Rattle.line_rules.specs.declared.types.Load.{Load}
 use Rattle.line_rules.specs.declared.types.Entry.{Entry}
 use Rattle.line_rules.specs.declared.types.Why.TheVariants as why
 use Rattle.line_rules.proofs.Free.{free_ranked, all_of, no_row}

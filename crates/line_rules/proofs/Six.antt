@@ -1,5 +1,5 @@
 -- The six tasks of the worked rows: two branches, and entries that don't follow.
-use Rattle.std.proofs.Common.{◌≡◌, ℕ, zero, suc, ◌+◌, ◌<◌, ◌≤◌, Bool, true, false, List, [], ◌∷◌, length, refl, sym, ap, ◌∙◌, subst, Some, arith}
+use Rattle.std.proofs.Common.{◌≡◌, ℕ, ◌≤◌, Bool, true, false, List, [], ◌∷◌, length, refl, sym, ap, ◌∙◌, subst, Some, arith}
 use Rattle.std.specs.Prelude.{slice_get}
 use Rattle.std.proofs.lemmas.Bool.{false≢true}
 use Rattle.task_set.specs.Truths.{In, full_to, IsSubset}
@@ -8,7 +8,7 @@ use Rattle.line_rules.specs.Balance.{all_tasks}
 use Rattle.line_rules.specs.Bounds.{bound, lm1, lm2, lm3, sixths, head, tail, chained}
 use Rattle.line_rules.specs.Loads.{IsLoad, rest}
 use Rattle.line_rules.specs.Order.{Lists, Counts}
-use Rattle.line_rules.specs.Entries.{IsOpen, Cites, Covers, FollowsByBranch, Follows, IsDerived}
+use Rattle.line_rules.specs.Entries.{IsOpen, Cites, Follows, IsDerived}
 use Rattle.line_rules.specs.Units.{UnitsOf}
 use Rattle.line_rules.specs.Rows.{six_free, six_below, six_above, six_bound, set_of, load_of, BranchesOfTheRows}
 use Rattle.line_rules.specs.declared.types.LineKind.TheVariants.{Straight}

@@ -1,17 +1,16 @@
 -- The times at each station, a task at a time.
-use Rattle.std.proofs.Common.{◌≡◌, ◌≢◌, ℕ, zero, suc, ◌+◌, ◌*◌, ◌<◌, ◌≤◌, Bool, true, false, cond, ◌&&◌, nat_eq, List, [], ◌∷◌, length, get_or, set, take, replicate, Some, refl, sym, ap, ◌∙◌, subst, ◌⊎◌, inl, inr, arith, add-one}
+use Rattle.std.proofs.Common.{◌≡◌, ◌≢◌, ℕ, ◌+◌, ◌*◌, ◌<◌, ◌≤◌, Bool, true, false, cond, ◌&&◌, nat_eq, List, length, get_or, set, take, replicate, Some, sym, ap, ◌∙◌, subst, inl, inr, arith, add-one}
 use Rattle.std.specs.List.{slice_get}
-use Rattle.std.proofs.lemmas.Bool.{false≢true, cases_eq, cases_lt, cases_Bool, eqb-false, and_from, and_parts}
+use Rattle.std.proofs.lemmas.Bool.{cases_eq, cases_lt, cases_Bool, and_from, and_parts}
 use Rattle.std.proofs.lemmas.Bool.Decides.{nat_tests}
 use Rattle.std.proofs.lemmas.List.{get_or-set_same, get_or-set_other, get_or-replicate, get_or_past, length-replicate, length-set}
-use Rattle.task_set.specs.Truths.{In}
 use Rattle.line_instance.specs.Line.{Line, has, tasks, time}
-use Rattle.line_instance.specs.Sums.{weigh, sum_where}
-use Rattle.line_instance.proofs.Sums.{weigh-take, weigh-none}
-use Rattle.line_rules.specs.Balance.{all_tasks, seat, time_at}
+use Rattle.line_instance.specs.Sums.{sum_where}
+use Rattle.line_instance.proofs.Sums.{weigh-take}
+use Rattle.line_rules.specs.Balance.{all_tasks, seat}
 use Rattle.line_rules.specs.declared.types.Seatplace.{Seatplace}
 use Rattle.line_rules.proofs.All.{In-all}
-use Rattle.line_rules.proofs.Tests.{seat_read}
+use Rattle.line_rules.proofs.Reading.{seat_read}
 
 pub none_at : (n s : ℕ) → ◌≡◌ {A = ℕ} (get_or (replicate n 0) s 0) 0
 none_at n s = elim (cases_lt s n) [

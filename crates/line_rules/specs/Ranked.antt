@@ -1,5 +1,5 @@
 -- The ranked balance: placements one after the other, at each step the greatest weight that a station can still take.
-use Rattle.std.specs.Prelude.{◌≡◌, ℕ, suc, ◌+◌, ◌<◌, ◌≤◌, ◌⊎◌, Bool, cond, nat_eq, List, [], ◌∷◌, length}
+use Rattle.std.specs.Prelude.{◌≡◌, ℕ, suc, ◌+◌, ◌<◌, ◌≤◌, ◌⊎◌, cond, nat_eq, List, [], ◌∷◌, length}
 use Rattle.line_instance.specs.Line.{Line, Before, Apart, is_before, tasks, time}
 use Rattle.line_instance.specs.Sums.{sum_where}
 use Rattle.line_rules.specs.Balance.{IsSide, seat}

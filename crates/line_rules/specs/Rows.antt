@@ -1,5 +1,5 @@
 -- Worked rows: small lines, and what the definitions give for them.
-use Rattle.std.specs.Prelude.{◌≡◌, ℕ, suc, ◌+◌, ◌-◌, Bool, true, cond, List, [], ◌∷◌, length, map, slice_set, Some, None}
+use Rattle.std.specs.Prelude.{◌≡◌, ℕ, ◌+◌, ◌-◌, Bool, true, List, [], ◌∷◌, length, map, slice_set, Some, None}
 use Rattle.std.specs.List.{range_with_len}
 use Rattle.task_set.specs.Truths.{full_to}
 use Rattle.line_instance.specs.Line.{Line}

@@ -108,11 +108,14 @@ fn broken_after(inst: &Instance, kind: LineKind, balance: &Balance, i: u32) -> O
     ensures none { IsNone result → (j : ℕ) → In (all_tasks inst.now) j → Before inst.now i j → Keeps kind (seat balance.now.place i) (seat balance.now.place j) }
     ensures some { IfSome result (IsLeastWhere (Breaks kind inst.now balance.now i)) }
 {
+    let _tasks = inst.tasks();
     let earlier = balance.place.at(i as usize);
-    for j in 0..inst.tasks() {
-        if inst.before(j).has(i) && !keeps(kind, earlier, balance.place.at(j as usize)) {
+    let mut left = *inst.after(i);
+    'later: while let Some(j) = left.least() {
+        if !keeps(kind, earlier, balance.place.at(j as usize)) {
             return Some(j);
         }
+        left = left.without(j);
     }
     None
 }
@@ -138,11 +141,14 @@ fn together_with(inst: &Instance, balance: &Balance, i: u32) -> Option<u32>
     ensures none { IsNone result → (j : ℕ) → Meets inst.now balance.now i j → ⊥ }
     ensures some { IfSome result (IsLeastWhere (Meets inst.now balance.now i)) }
 {
+    let _tasks = inst.tasks();
     let station = balance.place.at(i as usize).station;
-    for j in 0..inst.tasks() {
-        if i < j && inst.apart(j).has(i) && balance.place.at(j as usize).station == station {
+    let mut left = *inst.apart(i);
+    'parted: while let Some(j) = left.least() {
+        if i < j && balance.place.at(j as usize).station == station {
             return Some(j);
         }
+        left = left.without(j);
     }
     None
 }

@@ -27,6 +27,19 @@ fn back(station: u32) -> Seatplace {
     }
 }
 
+fn checked(
+    inst: &Instance,
+    kind: LineKind,
+    cycle: u64,
+    balance: &Balance,
+) -> Result<BalanceCheck, Fail> {
+    let few = balance.place.len() <= inst.tasks() as usize;
+    if few && balance.stations <= 1024 {
+        return Ok(check_balance(inst, kind, cycle, balance));
+    }
+    Err("too many places")?
+}
+
 #[test]
 fn finds_the_broken_pair_of_a_chain(rt: HostRuntime) -> Result<(), Fail> {
     let alloc = rt.alloc();
@@ -42,11 +55,11 @@ fn finds_the_broken_pair_of_a_chain(rt: HostRuntime) -> Result<(), Fail> {
         place: Places::from_vec(places),
     };
     assert_eq!(rt;
-        check_balance(&chain, LineKind::U, 2, &balance),
+        checked(&chain, LineKind::U, 2, &balance)?,
         BalanceCheck::Broken(0, 2)
     );
     assert_eq!(rt;
-        check_balance(&chain, LineKind::Straight, 2, &balance),
+        checked(&chain, LineKind::Straight, 2, &balance)?,
         BalanceCheck::SideWrong(1)
     );
     Ok(())
@@ -61,16 +74,19 @@ fn tests_two_tasks_that_are_apart(rt: HostRuntime) -> Result<(), Fail> {
         place: Places::from_vec(vec![in alloc; front(1), front(1)]?),
     };
     assert_eq!(rt;
-        check_balance(&two, LineKind::Straight, 2, &together),
+        checked(&two, LineKind::Straight, 2, &together)?,
         BalanceCheck::Right
     );
     assert_eq!(rt;
-        check_balance(&two, LineKind::Straight, 1, &together),
+        checked(&two, LineKind::Straight, 1, &together)?,
         BalanceCheck::Overfull(1, 2)
     );
+    if two.tasks() != 2 {
+        return Err("other tasks")?;
+    }
     two.set_apart(&[Prec { first: 1, then: 0 }]);
     assert_eq!(rt;
-        check_balance(&two, LineKind::Straight, 2, &together),
+        checked(&two, LineKind::Straight, 2, &together)?,
         BalanceCheck::Together(0, 1)
     );
     Ok(())

@@ -1,25 +1,38 @@
-use Rattle.std.proofs.Common.{◌≡◌, ◌∙◌, ℕ, false, IsTrue, sym, ap, arith}
+use Rattle.std.proofs.Common.{◌≡◌, ◌∙◌, ◌<◌, ℕ, List, Bool, false, IsTrue, refl, sym, ap, subst, arith}
 use Rattle.std.proofs.lemmas.Bool.{false≢true}
-use Rattle.line_instance.specs.Line.{Before, has}
+use Rattle.task_set.specs.Truths.{IsEmpty}
+use Rattle.task_set.proofs.Members.{members}
+use Rattle.line_instance.specs.Line.{Before}
 use Rattle.line_rules.specs.Balance.{Keeps, seat}
-use Rattle.line_rules.proofs.All.{In-all_lt}
-use Rattle.line_rules.proofs.Tests.{breaks, keeps, one_more}
+use Rattle.line_rules.proofs.Leaving.{IsLeft, all_left, below_least, one_less, none_left, members_less}
+use Rattle.line_rules.proofs.Reading.{breaks, keeps}
 use Rattle.line_rules.proofs.checking.broken_after.Goals as goal
-use Rattle.line_rules.proofs.checking.broken_after.Goals.{else-has-via-then-has+else-not-keeps, else-has-via-else-has}
+
+pub later-init : goal.later-init
+later-init c = all_left (λ j. Before c.args.inst.now c.args.i j) (λ j. Keeps c.args.kind (seat c.args.balance.now.place c.args.i) (seat c.args.balance.now.place j)) c.after.result.now c.after.ensures.set.truths c.after.ensures.members
+
+pub at-requires : goal.at-requires
+at-requires c = omega (arith, c.requires.each, c.after.ensures.set.tasks c.in-Some.j ((c.after.ensures.members c.in-Some.j).1 (c.later.invariant.within c.in-Some.j c.in-Some.ensures.some.member)))
 
 pub returns-then-not-keeps-clause-some : goal.returns-then-not-keeps-clause-some
 returns-then-not-keeps-clause-some c =
-    let before : Before c.args.inst.now c.args.i c.loop-j.j = ap (λ r. has r c.args.i) (sym c.before-in-loop-j.ensures.row) ∙ sym c.has.ensures ∙ c.if-has.true in
+    let line = c.args.inst.now in
+    let before : Before line c.args.i c.in-Some.j = c.later.invariant.within c.in-Some.j c.in-Some.ensures.some.member in
     record {
-      passes = breaks c.args.kind c.args.inst.now c.args.balance.now c.tasks-j-end.ensures.line.small c.args.i c.loop-j.j c.at-earlier.result.now c.at.result.now c.at-earlier.ensures c.at.ensures (omega arith) (omega arith) before (λ k. false≢true (sym c.if-not-keeps.true ∙ c.keeps.ensures.1 k));
-      least = λ k l x. x.broken (c.loop-j.invariant k l x.before);
+      passes = breaks c.args.kind line c.args.balance.now c.tasks-tasks.ensures.line.small c.args.i c.in-Some.j c.at-earlier.result.now c.at.result.now c.at-earlier.ensures c.at.ensures c.requires.task
+          (c.after.ensures.set.tasks c.in-Some.j ((c.after.ensures.members c.in-Some.j).1 before)) before (λ k. false≢true (sym c.if-not-keeps.true ∙ c.keeps.ensures.1 k));
+      least = λ k l x. x.broken (below_least (λ j. Before line c.args.i j) (λ j. Keeps c.args.kind (seat c.args.balance.now.place c.args.i) (seat c.args.balance.now.place j)) c.later.left c.later.invariant c.in-Some.j c.in-Some.ensures.some k l x.before);
     }
 
-pub loop-j-preserved : goal.loop-j-preserved
-loop-j-preserved c = one_more (λ k. Before c.args.inst.now c.args.i k → Keeps c.args.kind (seat c.args.balance.now.place c.args.i) (seat c.args.balance.now.place k)) c.loop-j.j c.loop-j.invariant (elim c.else-has.branch [
-  | else-has-via-then-has+else-not-keeps w ↦ λ _. keeps c.args.kind c.args.inst.now c.args.balance.now c.tasks-j-end.ensures.line.small c.args.i c.loop-j.j c.at-earlier.result.now w.at.result.now c.at-earlier.ensures w.at.ensures (w.keeps.ensures.0 w.if-not-keeps.false)
-  | else-has-via-else-has w ↦ λ x. absurd (false≢true (sym (sym c.has.ensures ∙ w.if-has.false) ∙ ap (λ r. has r c.args.i) c.before-in-loop-j.ensures.row ∙ x))
-])
+pub later-smaller : goal.later-smaller
+later-smaller c = (let P : List Bool → Type 0 = λ s. members s < members c.later.left in subst P (sym c.without-left.ensures.value) (members_less c.later.left c.in-Some.j c.in-Some.ensures.some.member))
+
+pub later-preserved : goal.later-preserved
+later-preserved c =
+    let B : ℕ → Type 0 = λ j. Before c.args.inst.now c.args.i j in
+    let K : ℕ → Type 0 = λ j. Keeps c.args.kind (seat c.args.balance.now.place c.args.i) (seat c.args.balance.now.place j) in
+    subst (IsLeft B K) (sym c.without-left.ensures.value) (one_less B K c.later.left c.later.invariant c.in-Some.j
+    (keeps c.args.kind c.args.inst.now c.args.balance.now c.tasks-tasks.ensures.line.small c.args.i c.in-Some.j c.at-earlier.result.now c.at.result.now c.at-earlier.ensures c.at.ensures (c.keeps.ensures.0 c.if-not-keeps.false)))
 
 pub returns-clause-none : goal.returns-clause-none
-returns-clause-none c = λ _ j m x. c.loop-j.invariant j (omega (arith, In-all_lt c.args.inst.now j m)) x
+returns-clause-none c = λ _ j m b. none_left (λ j. Before c.args.inst.now c.args.i j) (λ j. Keeps c.args.kind (seat c.args.balance.now.place c.args.i) (seat c.args.balance.now.place j)) c.later.left c.later.invariant (c.in_default.ensures.none.0 refl) j b

@@ -1,7 +1,11 @@
-use Rattle.std.proofs.Common.{◌<◌, ℕ}
+use Rattle.task_set.proofs.Members.{members}
 use Rattle.line_instance.specs.Line.{Before}
 use Rattle.line_rules.specs.Balance.{Keeps, seat}
+use Rattle.line_rules.proofs.Leaving.{IsLeft}
 use Rattle.line_rules.proofs.checking.broken_after.Given as goal
 
-abbrev pub invariant-loop-j : goal.invariant-loop-j
-invariant-loop-j l = (k : ℕ) → k < l.j → Before l.inst l.i k → Keeps l.kind (seat l.balance.place l.i) (seat l.balance.place k)
+abbrev pub decreases-later : goal.decreases-later
+decreases-later l = members l.left
+
+abbrev pub invariant-later : goal.invariant-later
+invariant-later l = IsLeft (λ j. Before l.inst l.i j) (λ j. Keeps l.kind (seat l.balance.place l.i) (seat l.balance.place j)) l.left

@@ -1,6 +1,5 @@
-use Rattle.std.proofs.Common.{◌≡◌, ◌∙◌, ◌<◌, ◌≤◌, ℕ, length, slice_index, refl, sym, subst, arith}
-use Rattle.line_instance.specs.Line.{tasks}
-use Rattle.line_rules.specs.Balance.{IsSide, all_tasks, seat, time_at}
+use Rattle.std.proofs.Common.{◌<◌, ◌≤◌, ℕ, refl, subst, arith}
+use Rattle.line_rules.specs.Balance.{IsSide, seat}
 use Rattle.line_rules.specs.Checked.{IsLeastWhere, HasStations, HasSides, HasRoom}
 use Rattle.line_rules.proofs.Found.{stations_all, sides_all, least_off, room_all, least_over, right}
 use Rattle.line_rules.proofs.checking.check_balance.Goals as goal

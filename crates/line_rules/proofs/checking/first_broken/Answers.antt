@@ -1,6 +1,5 @@
-use Rattle.std.proofs.Common.{ℕ, arith}
+use Rattle.std.proofs.Common.{arith}
 use Rattle.line_rules.proofs.All.{In-all_lt}
-use Rattle.line_rules.proofs.Tests.{one_more}
 use Rattle.line_rules.proofs.checking.first_broken.Goals as goal
 
 pub returns-clause-none : goal.returns-clause-none

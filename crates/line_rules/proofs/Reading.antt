@@ -1,11 +1,10 @@
 -- Places read from a list, and what a test of them says of the definition.
-use Rattle.std.proofs.Common.{◌≡◌, ℕ, suc, ◌+◌, ◌<◌, ◌≤◌, ◌↔◌, Bool, true, false, List, length, get_or, Some, IsTrue, sym, ap, ◌∙◌, subst, ◌⊎◌, inl, inr, arith}
+use Rattle.std.proofs.Common.{◌≡◌, ℕ, ◌+◌, ◌<◌, ◌≤◌, List, Some, sym, subst, inl, inr, arith}
 use Rattle.std.specs.List.{slice_get}
-use Rattle.std.proofs.lemmas.Bool.{false≢true, cases_eq, cases_lt}
+use Rattle.std.proofs.lemmas.Bool.{cases_eq}
 use Rattle.std.proofs.lemmas.Option.{get_or_from_slice_get}
-use Rattle.task_set.specs.Truths.{In}
 use Rattle.line_instance.specs.Line.{Line, Before, tasks}
-use Rattle.line_rules.specs.Balance.{Keeps, all_tasks, seat}
+use Rattle.line_rules.specs.Balance.{Keeps, seat}
 use Rattle.line_rules.specs.Checked.{Breaks}
 use Rattle.line_rules.specs.declared.types.LineKind.{LineKind}
 use Rattle.line_rules.specs.declared.types.Seatplace.{Seatplace}

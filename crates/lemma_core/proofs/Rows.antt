@@ -1,0 +1,8 @@
+-- The worked row, by computing.
+use Rattle.std.proofs.Common.{refl}
+use Rattle.task_set.specs.Truths.{full_to}
+use Rattle.lemma_core.specs.Rows.{EventsOfTheRows}
+
+pub events_of_the_rows : EventsOfTheRows
+unfolding full_to
+events_of_the_rows = record { answers = refl; items = refl }
