@@ -1,5 +1,5 @@
 -- The five tasks of the worked rows: their loads, and their certificate.
-use Rattle.std.proofs.Common.{◌≡◌, ℕ, zero, suc, ◌<◌, ◌≤◌, true, ◌&&◌, nat_eq, List, [], ◌∷◌, ◌++◌, length, refl, subst, inl, inr, Some, arith}
+use Rattle.std.proofs.Common.{◌≡◌, ℕ, zero, suc, ◌<◌, ◌≤◌, true, ◌&&◌, nat_eq, List, [], ◌∷◌, ◌++◌, length, refl, sym, subst, inl, inr, Some, arith}
 use Rattle.std.specs.Prelude.{slice_get, slice_index_or}
 use Rattle.std.proofs.lemmas.Bool.{cases_lt, cases_Bool, and_parts}
 use Rattle.std.proofs.lemmas.Bool.Decides.{nat_tests}
@@ -9,12 +9,12 @@ use Rattle.line_instance.proofs.Sums.{weigh-none}
 use Rattle.line_rules.specs.Balance.{IsRight, all_tasks, seat, time_at}
 use Rattle.line_rules.specs.Bounds.{bound, lm1, lm2, lm3, sixths, head, tail, chained}
 use Rattle.line_rules.specs.Loads.{IsLoad}
-use Rattle.line_rules.specs.Order.{Lists}
-use Rattle.line_rules.specs.Entries.{IsOpen, Follows, IsDerived, HasAnswer}
+use Rattle.line_rules.specs.Order.{Lists, After}
+use Rattle.line_rules.specs.Entries.{IsOpen, Follows, IsDerived, Answers, HasAnswer}
 use Rattle.line_rules.specs.Units.{UnitsOf, FrameUnits}
-use Rattle.line_rules.specs.Trails.{IsDeepest}
+use Rattle.line_rules.specs.Trails.{IsDeepest, IsUnansweredAt, IsOpenOver}
 use Rattle.line_rules.specs.Accepted.{IsAccepted}
-use Rattle.line_rules.specs.Rows.{five_free, fifteen_loads, load_of, five_stopped, at, five_entry, five_certificate, CertificateOfTheRows}
+use Rattle.line_rules.specs.Rows.{five_free, fifteen_loads, load_of, five_bound, five_frame, five_stopped, at, five_entry, five_certificate, CertificateOfTheRows}
 use Rattle.line_rules.specs.declared.types.LineKind.TheVariants.{Straight}
 use Rattle.line_rules.specs.declared.types.Side.TheVariants.{Front}
 use Rattle.line_rules.specs.declared.types.Mode.TheVariants.{Fore, Both}
@@ -23,7 +23,6 @@ use Rattle.line_rules.specs.declared.types.Load.{Load}
 use Rattle.line_rules.specs.declared.types.Entry.{Entry}
 use Rattle.line_rules.proofs.All.{In-all, In-all_lt}
 use Rattle.line_rules.specs.declared.types.OpenFrame.{OpenFrame}
-use Rattle.line_rules.specs.declared.types.Why.TheVariants as why
 use Rattle.line_rules.proofs.Beginning.{up_to_listed}
 use Rattle.line_rules.proofs.Free.{no_row as free_no_row, free_ranked, all_of}
 use Rattle.line_rules.proofs.Covering.{get_none}
@@ -155,11 +154,8 @@ first_thirteen =
     ∷ load_of (1 ∷ []) ∷ load_of (1 ∷ 4 ∷ []) ∷ load_of (1 ∷ 3 ∷ []) ∷ load_of (1 ∷ 2 ∷ [])
     ∷ load_of (0 ∷ []) ∷ load_of (0 ∷ 4 ∷ []) ∷ []
 
-five_frame : OpenFrame
-five_frame = record { set = all_tasks five_free; most = 2; mode = Fore; last = Some (load_of (0 ∷ 3 ∷ [])); cites = [] }
-
 frame_units : FrameUnits five_free 7 five_frame 14
-unfolding first_thirteen five_frame
+unfolding first_thirteen
 frame_units = record {
   loads = first_thirteen ++ load_of (0 ∷ 3 ∷ []) ∷ [];
   listed = up_to_listed five_free (IsLoad five_free 7 Fore (all_tasks five_free)) first_thirteen (load_of (0 ∷ 3 ∷ [])) (load_of (0 ∷ 2 ∷ []) ∷ []) five_loads;
@@ -167,7 +163,6 @@ frame_units = record {
 }
 
 frame_deepest : (es : List Entry) → IsDeepest Straight five_free 7 es five_frame
-unfolding five_frame
 frame_deepest es =
     let P : List Load → Type 0 = λ ls. Lists five_free (IsOpen Straight five_free 7 Fore (all_tasks five_free) 2) ls in
     let none : Lists five_free (IsOpen Straight five_free 7 Fore (all_tasks five_free) 2) [] = subst P none_open (open_listed five_free five_few five_ranked 7 (all_tasks five_free) five_all Straight Fore 2) in
@@ -186,19 +181,14 @@ frame_deepest es =
       };
     }
 
-five_bound : Entry
-five_bound = record { set = all_tasks five_free; most = 1; cycle = 7; why = why.Bound }
-
 bound_is_two : bound Straight five_free 7 (all_tasks five_free) ≡ 2
 unfolding full_to bound lm1 lm2 lm3 sixths head tail chained
 bound_is_two = refl
 
 five_bound_derived : IsDerived Straight five_free (five_bound ∷ [])
-unfolding five_bound
 five_bound_derived = derived_push Straight five_free [] five_bound (λ k e h. absurd (get_none k e h)) (record { set = five_all; cycle = omega arith; by = omega (arith, bound_is_two) })
 
 stopped_accepted : IsAccepted five_free five_stopped 2 3 14
-unfolding five_frame five_bound
 stopped_accepted = record {
   tasks = refl;
   claim = (
@@ -215,6 +205,40 @@ stopped_accepted = record {
   );
 }
 
+one_bound : (k : ℕ) (e : Entry) → slice_get (five_bound ∷ []) k ≡ Some e → e ≡ five_bound
+one_bound zero e h = cc
+one_bound (suc k) e h = absurd (get_none k e h)
+
+one_frame : (k : ℕ) (f : OpenFrame) → slice_get (five_frame ∷ []) k ≡ Some f → f ≡ five_frame
+one_frame zero f h = cc
+one_frame (suc k) f h = absurd (get_none k f h)
+
+bound_is_short : (e : Entry) → e ≡ five_bound → Answers e (all_tasks five_free) 2 7 → ⊥
+bound_is_short e same a =
+    let P : Entry → Type 0 = λ d. 2 ≤ d.most in
+    let stations : 2 ≤ 1 = subst P same a.stations in
+    omega (arith, stations)
+
+-- the load that the search was about to try
+further_load : (f : OpenFrame) → f ≡ five_frame → (l : Load) × IsLoad five_free 7 f.mode f.set l × After five_free f.last l
+further_load f same =
+    let P : OpenFrame → Type 0 = λ g. (l : Load) × IsLoad five_free 7 g.mode g.set l × After five_free g.last l in
+    subst P (sym same) (load_of (0 ∷ 2 ∷ []), five_loads.sound 14 (load_of (0 ∷ 2 ∷ [])) refl, five_loads.rises 13 (load_of (0 ∷ 3 ∷ [])) (load_of (0 ∷ 2 ∷ [])) refl refl)
+
+frame_unanswered : (f : OpenFrame) → f ≡ five_frame → IsUnansweredAt 7 (five_bound ∷ []) f
+frame_unanswered f same =
+    let P : OpenFrame → Type 0 = IsUnansweredAt 7 (five_bound ∷ []) in
+    subst P (sym same) (λ k e h c a. bound_is_short e (one_bound k e h) a)
+
+trail_is_open : IsOpenOver five_free 7 (five_bound ∷ []) (five_frame ∷ [])
+trail_is_open = record {
+  unanswered = λ k f h. frame_unanswered f (one_frame k f h);
+  further = λ k f h e. further_load f (one_frame k f h);
+}
+
+whole_answers : Answers five_entry (all_tasks five_free) 2 7
+whole_answers = record { same = refl; stations = omega arith; long = omega arith }
+
 u_many : length (loads_of five_free five_few five_ranked 7 (all_tasks five_free) five_all Both) ≡ 54
 unfolding full_to
 u_many = refl
@@ -226,6 +250,8 @@ certificate_of_the_rows = record {
   at_6 = five_accepted 6 (omega arith) (omega arith);
   at_8 = λ lower upper units a. no_answer (a.claim.2.goal (omega arith));
   stopped = stopped_accepted;
+  left_open = trail_is_open;
+  answered = λ o. o.unanswered 0 five_frame refl 1 five_entry refl refl whole_answers;
   u_loads = record {
     loads = loads_of five_free five_few five_ranked 7 (all_tasks five_free) five_all Both;
     listed = loads_listed five_free five_few five_ranked 7 (all_tasks five_free) five_all Both;

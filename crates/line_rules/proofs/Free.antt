@@ -11,7 +11,7 @@ use Rattle.line_rules.specs.Balance.{all_tasks}
 use Rattle.line_rules.specs.Rows.{free}
 use Rattle.line_rules.proofs.All.{In-all_lt, length-all}
 
-no_member : (i : ℕ) → In (full_to 0) i → ⊥
+pub no_member : (i : ℕ) → In (full_to 0) i → ⊥
 no_member i m = omega (arith, In-full_to_below 0 i m)
 
 -- no task is before another, and none is apart from another

@@ -15,7 +15,7 @@ use Rattle.line_rules.specs.declared.types.LineKind.TheVariants.{Straight}
 use Rattle.line_rules.specs.declared.types.Mode.TheVariants.{Fore}
 use Rattle.line_rules.specs.declared.types.Load.{Load}
 use Rattle.line_rules.specs.declared.types.Entry.{Entry}
-use Rattle.line_rules.proofs.Free.{free_ranked, all_of}
+use Rattle.line_rules.proofs.Free.{no_member, free_ranked, all_of}
 use Rattle.line_rules.proofs.All.{In-all}
 use Rattle.line_rules.proofs.Covering.{get_none}
 use Rattle.line_rules.proofs.Unique.{unique}
@@ -137,4 +137,4 @@ no_subset f =
     false≢true (sym zero_out ∙ (sym (ap (λ (s : List Bool). has s 0) rest_is) ∙ m))
 
 pub branches_of_the_rows : BranchesOfTheRows
-branches_of_the_rows = record { derived = two_derived; units = two_units; itself = itself; bound = bound_follows; no_subset = no_subset }
+branches_of_the_rows = record { derived = two_derived; units = two_units; itself = itself; bound = bound_follows; no_subset = no_subset; empty = λ f. no_member f.by.some.0 f.by.some.1 }

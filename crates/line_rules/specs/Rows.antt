@@ -9,6 +9,7 @@ use Rattle.line_rules.specs.Loads.{IsLoad}
 use Rattle.line_rules.specs.Order.{Lists, Counts}
 use Rattle.line_rules.specs.Entries.{Follows, IsDerived}
 use Rattle.line_rules.specs.Units.{UnitsOf}
+use Rattle.line_rules.specs.Trails.{IsOpenOver}
 use Rattle.line_rules.specs.Accepted.{IsAccepted}
 use Rattle.line_rules.specs.declared.types.LineKind.TheVariants.{Straight, U}
 use Rattle.line_rules.specs.declared.types.Side.TheVariants.{Front}
@@ -16,6 +17,7 @@ use Rattle.line_rules.specs.declared.types.Mode.TheVariants.{Fore, Both}
 use Rattle.line_rules.specs.declared.types.Seatplace.{Seatplace}
 use Rattle.line_rules.specs.declared.types.Load.{Load}
 use Rattle.line_rules.specs.declared.types.Entry.{Entry}
+use Rattle.line_rules.specs.declared.types.OpenFrame.{OpenFrame}
 use Rattle.line_rules.specs.declared.types.Why.TheVariants as why
 use Rattle.line_rules.specs.declared.types.Ask.TheVariants as ask
 use Rattle.line_rules.specs.declared.types.Claim.TheVariants as claim
@@ -99,23 +101,31 @@ five_certificate c = record {
 
 -- the search that stopped one load short: the tasks have no balance in one station, and of the question of two stations the loads up to
 -- that of tasks 0 and 3 are tried
+abbrev pub five_bound : Entry
+five_bound = record { set = all_tasks five_free; most = 1; cycle = 7; why = why.Bound }
+
+abbrev pub five_frame : OpenFrame
+five_frame = record { set = all_tasks five_free; most = 2; mode = Fore; last = Some (load_of (0 ∷ 3 ∷ [])); cites = [] }
+
 abbrev pub five_stopped : Certificate
 five_stopped = record {
   kind = Straight;
   tasks = 5;
   ask = ask.Stations 7;
-  claim = claim.Bounds 2 3 (record { stations = 3; place = at 1 ∷ at 2 ∷ at 1 ∷ at 2 ∷ at 3 ∷ [] }) (record { set = all_tasks five_free; most = 1; cycle = 7; why = why.Bound } ∷ [])
-      (Some (record { cycle = 7; frames = record { set = all_tasks five_free; most = 2; mode = Fore; last = Some (load_of (0 ∷ 3 ∷ [])); cites = [] } ∷ [] }));
+  claim = claim.Bounds 2 3 (record { stations = 3; place = at 1 ∷ at 2 ∷ at 1 ∷ at 2 ∷ at 3 ∷ [] }) (five_bound ∷ []) (Some (record { cycle = 7; frames = five_frame ∷ [] }));
 }
 
 -- The loads and the certificates of the five tasks: the fifteen loads in order; the certificate is accepted at cycle 7, with 15 units, and
--- at cycle 6, which its entry answers too; at cycle 8 it isn't.
+-- at cycle 6, which its entry answers too; at cycle 8 it isn't. The search that stopped one load short has 14 units, and its trail is open;
+-- with the entry of the whole search beside it, it would not be.
 pub record CertificateOfTheRows : Type 0 where
   pub loads : Lists five_free (IsLoad five_free 7 Fore (all_tasks five_free)) fifteen_loads
   pub at_7 : IsAccepted five_free (five_certificate 7) 3 3 15
   pub at_6 : IsAccepted five_free (five_certificate 6) 3 3 15
   pub at_8 : (lower upper units : ℕ) → IsAccepted five_free (five_certificate 8) lower upper units → ⊥
   pub stopped : IsAccepted five_free five_stopped 2 3 14
+  pub left_open : IsOpenOver five_free 7 (five_bound ∷ []) (five_frame ∷ [])
+  pub answered : IsOpenOver five_free 7 (five_bound ∷ five_entry ∷ []) (five_frame ∷ []) → ⊥
   pub u_loads : Counts five_free (IsLoad five_free 7 Both (all_tasks five_free)) 54
 
 -- six free tasks with times 7, 4, 4, 2, 2, 2
@@ -134,14 +144,19 @@ six_above cite = record { set = all_tasks six_free; most = 3; cycle = 7; why = w
 abbrev pub six_bound : Entry
 six_bound = record { set = all_tasks six_free; most = 2; cycle = 7; why = why.Bound }
 
+-- an entry by Branch that speaks of no task
+abbrev pub six_empty : Entry
+six_empty = record { set = set_of []; most = 2; cycle = 7; why = why.Branch Fore [] }
+
 -- Two branches: the list is derived, with 31 units. An entry that cites itself doesn't follow, and neither does one whose cite isn't of a
--- subset of the rest.
+-- subset of the rest, or one of an empty set.
 pub record BranchesOfTheRows : Type 0 where
   pub derived : IsDerived Straight six_free (six_below ∷ six_above 0 ∷ [])
   pub units : UnitsOf six_free (six_below ∷ six_above 0 ∷ []) 31
   pub itself : Follows Straight six_free (six_below ∷ []) (six_above 1) → ⊥
   pub bound : Follows Straight six_free [] six_bound
   pub no_subset : Follows Straight six_free (six_bound ∷ []) (six_above 0) → ⊥
+  pub empty : Follows Straight six_free [] six_empty → ⊥
 
 -- seven free tasks with times 7, 7, 4, 4, 2, 2, 2, of which the first two can stand in for each other
 abbrev pub seven_free : Line
