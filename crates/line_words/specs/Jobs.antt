@@ -1,0 +1,181 @@
+-- What the words ask for, and the first fault in them.
+use Rattle.std.specs.Prelude.{◌≡◌, ◌⊎◌, ℕ, suc, ◌<◌, cond, nat_lt, List, [], ◌∷◌, length, take, slice_index_or, Option, Some, None, codes}
+use Rattle.std.specs.Str.{bytes_eq}
+use Rattle.line_words.specs.Words.{Text, setting, names_of, value_of, sets}
+use Rattle.line_words.specs.Table.{command_named, names_wanted, keys_wanted, takes, sets_all, is_value, is_some, most_of, number_up_to}
+use Rattle.line_words.specs.declared.command.Command.{Command}
+use Rattle.line_words.specs.declared.command.Command.TheVariants as command
+use Rattle.line_words.specs.declared.job.Job.{Job}
+use Rattle.line_words.specs.declared.job.Job.TheVariants.{Help, Version, Balance, Solve, Cycle, Check, Convert, Combine, Utility, Timeline, Try}
+use Rattle.line_words.specs.declared.job.LineWord.{LineWord}
+use Rattle.line_words.specs.declared.job.LineWord.TheVariants.{Straight, U}
+use Rattle.line_words.specs.declared.job.FormWord.{FormWord}
+use Rattle.line_words.specs.declared.job.FormWord.TheVariants.{In2, Alb, Cert}
+use Rattle.line_words.specs.declared.fault.UsageKind.{UsageKind}
+use Rattle.line_words.specs.declared.fault.UsageKind.TheVariants.{NoCommand, UnknownCommand, UnknownKey, RepeatedKey, BadValue, ExtraName, MissingName, MissingKey}
+use Rattle.line_words.specs.declared.reading.JobRead.{JobRead}
+use Rattle.line_words.specs.declared.reading.JobRead.TheVariants.{Good, Usage, NoMemory}
+
+-- what is wrong with a setting, by the words before it: its key is none of the command, or stands before, or its value is wrong
+abbrev pub setting_fault : Command → List Text → Text × Text → Option UsageKind
+setting_fault command before p =
+    cond (takes command p.0)
+    (cond (sets before p.0) (Some RepeatedKey) (cond (is_value command p.0 p.1) None (Some BadValue)))
+    (Some UnknownKey)
+
+-- what is wrong with a name, by the words before it: it is empty, or one too many
+abbrev pub name_fault : Command → List Text → Text → Option UsageKind
+name_fault command before word =
+    cond (is_some word) (cond (nat_lt (length (names_of before)) (names_wanted command)) None (Some ExtraName)) (Some ExtraName)
+
+-- what is wrong with a word that is a setting, or a name
+abbrev pub fault_by : Command → List Text → Text → Option (Text × Text) → Option UsageKind
+fault_by command before word None = name_fault command before word
+fault_by command before word (Some p) = setting_fault command before p
+
+-- what is wrong with a word behind others, where something is
+abbrev pub word_fault : Command → List Text → Text → Option UsageKind
+word_fault command before word = fault_by command before word (setting word)
+
+-- what is wrong with the word at a place
+abbrev pub fault_at : Command → List Text → ℕ → Option UsageKind
+fault_at command words k = word_fault command (take k words) (slice_index_or words k [])
+
+-- nothing is wrong with any of the words
+abbrev pub AreRight : Command → List Text → Type 0
+AreRight command words = (k : ℕ) → k < length words → fault_at command words k ≡ None
+
+-- the word at a place is the first one with which something is wrong
+pub record IsFirstFault (command : Command) (words : List Text) (k : ℕ) (kind : UsageKind) : Type 0 where
+  pub within : k < length words
+  pub before : (j : ℕ) → j < k → fault_at command words j ≡ None
+  pub wrong : fault_at command words k ≡ Some kind
+
+-- what is missing among the words of a command: a name, or else a key
+abbrev pub missing : Command → List Text → Option UsageKind
+missing command words =
+    cond (nat_lt (length (names_of words)) (names_wanted command)) (Some MissingName)
+    (cond (sets_all words (keys_wanted command)) None (Some MissingKey))
+
+-- the number that a text writes for a key
+abbrev pub number_in_value : Command → Text → Option Text → Option ℕ
+number_in_value command key None = None
+number_in_value command key (Some value) = number_up_to (most_of command key) value
+
+-- the number that the words set a key to, where they set it
+abbrev pub number_set : Command → List Text → Text → Option ℕ
+number_set command words key = number_in_value command key (value_of words key)
+
+-- a number, or the default
+abbrev pub or_default : ℕ → Option ℕ → ℕ
+or_default d None = d
+or_default d (Some n) = n
+
+-- the number that the words set a key to, else the default
+abbrev pub number_or : Command → List Text → Text → ℕ → ℕ
+number_or command words key d = or_default d (number_set command words key)
+
+-- the kind of line with this name; straight is the default
+abbrev pub line_named : Option Text → LineWord
+line_named None = Straight
+line_named (Some value) = cond (bytes_eq value (codes "u")) U Straight
+
+-- the kind of line that the words set
+abbrev pub line_set : List Text → LineWord
+line_set words = line_named (value_of words (codes "line"))
+
+-- the form with this name
+abbrev pub form_named : Option Text → FormWord
+form_named None = In2
+form_named (Some value) = cond (bytes_eq value (codes "alb")) Alb (cond (bytes_eq value (codes "cert")) Cert In2)
+
+-- the form that the words set
+abbrev pub form_set : List Text → FormWord
+form_set words = form_named (value_of words (codes "to"))
+
+-- the name at a place among the names
+abbrev pub name_at : List Text → ℕ → Text
+name_at words k = slice_index_or (names_of words) k []
+
+-- the job of a command with these words, in which nothing is wrong or missing
+abbrev pub job_for : Command → List Text → Job
+job_for command.Balance ws =
+    Balance (name_at ws 0) (number_set command.Balance ws (codes "cycle")) (line_set ws) (value_of ws (codes "apart"))
+job_for command.Solve ws =
+    Solve (name_at ws 0) (number_set command.Solve ws (codes "cycle")) (line_set ws) (number_or command.Solve ws (codes "helpers") 4)
+    (number_or command.Solve ws (codes "units") 1000000) (value_of ws (codes "cert")) (value_of ws (codes "apart"))
+job_for command.Cycle ws =
+    Cycle (name_at ws 0) (number_or command.Cycle ws (codes "stations") 1) (line_set ws) (number_or command.Cycle ws (codes "helpers") 4)
+    (number_or command.Cycle ws (codes "units") 1000000) (value_of ws (codes "cert"))
+job_for command.Check ws =
+    Check (name_at ws 0) (name_at ws 1) (number_or command.Check ws (codes "steps") 20000000) (value_of ws (codes "apart"))
+job_for command.Convert ws = Convert (name_at ws 0) (name_at ws 1) (form_set ws) (number_set command.Convert ws (codes "cycle"))
+job_for command.Combine ws = Combine (name_at ws 0) (name_at ws 1)
+job_for command.Utility ws =
+    Utility (name_at ws 0) (name_at ws 1) (name_at ws 2) (number_or command.Utility ws (codes "interval") 1) (number_or command.Utility ws (codes "length") 1)
+job_for command.Timeline ws =
+    Timeline (name_at ws 0) (name_at ws 1) (name_at ws 2) (number_or command.Timeline ws (codes "interval") 1) (number_or command.Timeline ws (codes "length") 1)
+job_for command.Try ws =
+    Try (number_or command.Try ws (codes "seed") 0) (number_or command.Try ws (codes "tasks") 1) (number_or command.Try ws (codes "cycle") 200) (line_set ws)
+    (number_or command.Try ws (codes "units") 1000000)
+
+-- the words behind a command ask for this job: nothing is wrong with them, nothing is missing, and it has their values or the defaults
+pub record Asks (command : Command) (words : List Text) (job : Job) : Type 0 where
+  pub right : AreRight command words
+  pub whole : missing command words ≡ None
+  pub is : job ≡ job_for command words
+
+-- the fault of the words behind a command: the first word with which something is wrong, or else what is missing, which counts as of the
+-- place behind the words
+abbrev pub IsCommandFault : Command → List Text → ℕ → UsageKind → Type 0
+IsCommandFault command words at kind =
+    IsFirstFault command words at kind ⊎ (AreRight command words × (at ≡ length words) × (missing command words ≡ Some kind))
+
+-- the first word is a command, and this is true of it and of the words behind it
+abbrev pub IsCommanded : List Text → (Command → List Text → Type 0) → Type 0
+IsCommanded [] P = ⊥
+IsCommanded (word ∷ words) P = (command : Command) × (command_named word ≡ Some command) × P command words
+
+-- the words are `--help` or `--version` alone
+abbrev pub IsPage : List Text → Type 0
+IsPage words = (words ≡ codes "--help" ∷ []) ⊎ (words ≡ codes "--version" ∷ [])
+
+-- the words are some, and the first is no command, nor do they ask for a page
+pub record IsUncommanded (words : List Text) : Type 0 where
+  pub some : 0 < length words
+  pub unknown : command_named (slice_index_or words 0 []) ≡ None
+  pub page : IsPage words → ⊥
+
+-- the words ask for a page
+abbrev pub IsPageJob : List Text → Job → Type 0
+IsPageJob words Help = words ≡ codes "--help" ∷ []
+IsPageJob words Version = words ≡ codes "--version" ∷ []
+IsPageJob words job = ⊥
+
+-- The words ask for a job: for a page, or for what a command does.
+abbrev pub IsJob : List Text → Job → Type 0
+IsJob words job = IsPageJob words job ⊎ IsCommanded words (λ command behind. Asks command behind job)
+
+-- a fault of the first word: there is none, or it is no command
+abbrev pub IsHeadFault : List Text → UsageKind → Type 0
+IsHeadFault words NoCommand = words ≡ []
+IsHeadFault words UnknownCommand = IsUncommanded words
+IsHeadFault words kind = ⊥
+
+-- The first fault of the words, at the place of its word: of the first word, or of those behind a command.
+abbrev pub IsFault : List Text → ℕ → UsageKind → Type 0
+IsFault words index kind =
+    (IsHeadFault words kind × (index ≡ 0))
+    ⊎ IsCommanded words (λ command behind. (at : ℕ) × (index ≡ suc at) × IsCommandFault command behind at kind)
+
+-- Each answer with its cause: the job that the words ask for, or their first fault.
+abbrev pub IsJobRead : List Text → JobRead → Type 0
+IsJobRead words (Good job) = IsJob words job
+IsJobRead words (Usage index kind) = IsFault words index kind
+IsJobRead words NoMemory = Unit {0}
+
+-- the same of the words behind a command
+abbrev pub IsBehind : Command → List Text → JobRead → Type 0
+IsBehind command words (Good job) = Asks command words job
+IsBehind command words (Usage index kind) = (at : ℕ) × (index ≡ suc at) × IsCommandFault command words at kind
+IsBehind command words NoMemory = Unit {0}

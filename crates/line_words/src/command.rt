@@ -1,0 +1,123 @@
+//! The commands, with the names and the keys that each one takes.
+ghost use Rattle.std.specs.Prelude.{◌≡◌, map};
+ghost use Rattle.line_words.specs.Table.{command_named, names_wanted, keys_wanted, keys_taken, units_most};
+
+/// A command of the program.
+#[derive(Clone, Copy, Debug, PartialEq, Eq)]
+pub enum Command {
+    /// The ranked balance.
+    Balance,
+    /// A balance of the fewest stations at a cycle time.
+    Solve,
+    /// The least cycle time of a number of stations.
+    Cycle,
+    /// The test of a certificate.
+    Check,
+    /// Another form of a file.
+    Convert,
+    /// The combined instance of a mix of models.
+    Combine,
+    /// The utility work of a sequence.
+    Utility,
+    /// The utility work of a sequence, step by step.
+    Timeline,
+    /// A generated instance.
+    Try,
+}
+
+/// The command that a word names.
+pub(crate) fn command_named(word: &str) -> Option<Command>
+    ensures { result ≡ command_named word.now }
+{
+    if word == "balance" {
+        return Some(Command::Balance);
+    }
+    if word == "solve" {
+        return Some(Command::Solve);
+    }
+    if word == "cycle" {
+        return Some(Command::Cycle);
+    }
+    if word == "check" {
+        return Some(Command::Check);
+    }
+    if word == "convert" {
+        return Some(Command::Convert);
+    }
+    if word == "combine" {
+        return Some(Command::Combine);
+    }
+    if word == "utility" {
+        return Some(Command::Utility);
+    }
+    if word == "timeline" {
+        return Some(Command::Timeline);
+    }
+    if word == "try" {
+        return Some(Command::Try);
+    }
+    None
+}
+
+impl Command {
+    /// How many names the command wants.
+    pub(crate) fn names_wanted(&self) -> usize
+        ensures { result ≡ names_wanted self.now }
+    {
+        match self {
+            Command::Balance => 1,
+            Command::Solve => 1,
+            Command::Cycle => 1,
+            Command::Check => 2,
+            Command::Convert => 2,
+            Command::Combine => 2,
+            Command::Utility => 3,
+            Command::Timeline => 3,
+            Command::Try => 0,
+        }
+    }
+
+    /// The keys that the command wants.
+    pub(crate) fn keys_wanted(&self) -> &'static [&'static str]
+        ensures { map (λ k. k.now) result.now ≡ keys_wanted self.now }
+    {
+        match self {
+            Command::Balance => &[],
+            Command::Solve => &[],
+            Command::Cycle => &["stations"],
+            Command::Check => &[],
+            Command::Convert => &["to"],
+            Command::Combine => &[],
+            Command::Utility => &["interval", "length"],
+            Command::Timeline => &["interval", "length"],
+            Command::Try => &["seed", "tasks"],
+        }
+    }
+
+    /// The keys that the command takes.
+    pub(crate) fn keys_taken(&self) -> &'static [&'static str]
+        ensures { map (λ k. k.now) result.now ≡ keys_taken self.now }
+    {
+        match self {
+            Command::Balance => &["cycle", "line", "apart"],
+            Command::Solve => &["cycle", "line", "helpers", "units", "cert", "apart"],
+            Command::Cycle => &["stations", "line", "helpers", "units", "cert"],
+            Command::Check => &["steps", "apart"],
+            Command::Convert => &["to", "cycle"],
+            Command::Combine => &[],
+            Command::Utility => &["interval", "length"],
+            Command::Timeline => &["interval", "length"],
+            Command::Try => &["seed", "tasks", "cycle", "line", "units"],
+        }
+    }
+
+    /// The most work units that the command takes.
+    pub(crate) fn units_most(&self) -> u64
+        ensures { result ≡ units_most self.now }
+    {
+        match self {
+            Command::Cycle => 1_000_000,
+            _ => 3_000_000,
+        }
+    }
+}

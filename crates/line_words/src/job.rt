@@ -1,0 +1,361 @@
+//! Jobs, and what the words of a command set.
+ghost use Rattle.std.specs.Prelude.{◌≡◌, ◌≤◌, ◌<◌, ◌^◌, IfOk, IfSome, option_map, ℕ, codes};
+ghost use Rattle.line_words.specs.Words.{texts, names_of, value_of};
+ghost use Rattle.line_words.specs.Table.{most_of};
+ghost use Rattle.line_words.specs.Jobs.{number_set, number_or, line_set, form_set, name_at, job_for};
+
+use crate::command::Command;
+use crate::name::Name;
+use crate::number::number_up_to;
+use crate::word::{is_name, value_of};
+use std::alloc::{AllocError, Global};
+
+/// The kind of a line.
+#[derive(Clone, Copy, Debug, PartialEq, Eq)]
+pub enum LineWord {
+    /// A straight line.
+    Straight,
+    /// A U-line.
+    U,
+}
+
+/// The form of a file.
+#[derive(Clone, Copy, Debug, PartialEq, Eq)]
+pub enum FormWord {
+    /// An instance in the IN2 format.
+    In2,
+    /// An instance in the ALB format.
+    Alb,
+    /// A certificate.
+    Cert,
+}
+
+/// What the words ask for. Times are whole numbers of the instance's time unit.
+#[derive(Drop)]
+pub enum Job {
+    /// The page with the commands.
+    Help,
+    /// The version.
+    Version,
+    /// The ranked balance of the instance in a file.
+    Balance {
+        file: Name,
+        cycle: Option<u64>,
+        line: LineWord,
+        apart: Option<Name>,
+    },
+    /// A balance of the fewest stations, by as many helpers and at most as many work units.
+    Solve {
+        file: Name,
+        cycle: Option<u64>,
+        line: LineWord,
+        helpers: u32,
+        units: u64,
+        cert: Option<Name>,
+        apart: Option<Name>,
+    },
+    /// The least cycle time of a number of stations.
+    Cycle {
+        file: Name,
+        stations: u32,
+        line: LineWord,
+        helpers: u32,
+        units: u64,
+        cert: Option<Name>,
+    },
+    /// The test of a certificate, in at most as many steps.
+    Check {
+        file: Name,
+        cert: Name,
+        steps: u64,
+        apart: Option<Name>,
+    },
+    /// A file, written in another form.
+    Convert {
+        file: Name,
+        out: Name,
+        to: FormWord,
+        cycle: Option<u64>,
+    },
+    /// The combined instance of a mix of models.
+    Combine {
+        mix: Name,
+        out: Name,
+    },
+    /// The utility work of a sequence of models, at an interval and a length of the stations.
+    Utility {
+        mix: Name,
+        cert: Name,
+        seq: Name,
+        interval: u64,
+        length: u64,
+    },
+    /// The utility work of a sequence of models, step by step.
+    Timeline {
+        mix: Name,
+        cert: Name,
+        seq: Name,
+        interval: u64,
+        length: u64,
+    },
+    /// A generated instance of as many tasks.
+    Try {
+        seed: u64,
+        tasks: u32,
+        cycle: u64,
+        line: LineWord,
+        units: u64,
+    },
+}
+
+/// The name at a place among the names.
+fn name_at(alloc: Global, words: &[String], place: usize) -> Result<Name, AllocError>
+    ensures { IfOk result (λ n. n ≡ name_at (texts words.now) place) }
+{
+    let mut left = place;
+    for i in 0..words.len() {
+        let word = words[i].as_str();
+        if is_name(word) {
+            if left == 0 {
+                return Name::new(alloc, word);
+            }
+            left -= 1;
+        }
+    }
+    Name::new(alloc, "")
+}
+
+/// The name that the words set a key to, where they set it.
+fn name_set(alloc: Global, words: &[String], key: &str) -> Result<Option<Name>, AllocError>
+    ensures { IfOk result (λ o. o ≡ value_of (texts words.now) key.now) }
+{
+    match value_of(words, key) {
+        None => Ok(None),
+        Some(value) => Ok(Some(Name::new(alloc, value)?)),
+    }
+}
+
+/// The greatest number that a key takes.
+pub(crate) fn most_of(command: Command, key: &str) -> u64
+    ensures { result ≡ most_of command key.now }
+{
+    if key == "cycle" {
+        return 1_000_000_000_000_000_000;
+    }
+    if key == "helpers" {
+        return 64;
+    }
+    if key == "units" {
+        return command.units_most();
+    }
+    if key == "stations" {
+        return 1024;
+    }
+    if key == "tasks" {
+        return 1024;
+    }
+    if key == "steps" {
+        return 20_000_000;
+    }
+    if key == "interval" {
+        return 1_000_000_000;
+    }
+    if key == "length" {
+        return 1_000_000_000;
+    }
+    u64::MAX
+}
+
+/// The number that the words set a key to, where they set it.
+fn number_set(command: Command, words: &[String], key: &str) -> Option<u64>
+    ensures value { result ≡ number_set command (texts words.now) key.now }
+    ensures most { IfSome result (λ n. n ≤ most_of command key.now) }
+{
+    match value_of(words, key) {
+        None => None,
+        Some(value) => number_up_to(most_of(command, key), value),
+    }
+}
+
+/// The number that the words set a key to, else the default.
+fn number_or(command: Command, words: &[String], key: &str, default: u64) -> u64
+    ensures value { result ≡ number_or command (texts words.now) key.now default }
+    ensures most { default ≤ most_of command key.now → result ≤ most_of command key.now }
+{
+    match number_set(command, words, key) {
+        None => default,
+        Some(number) => number,
+    }
+}
+
+/// The number of helpers.
+fn helpers_set(command: Command, words: &[String]) -> u32
+    ensures { result ≡ number_or command (texts words.now) (codes "helpers") 4 }
+{
+    number_or(command, words, "helpers", 4) as u32
+}
+
+/// The number of stations.
+fn stations_set(command: Command, words: &[String]) -> u32
+    ensures { result ≡ number_or command (texts words.now) (codes "stations") 1 }
+{
+    number_or(command, words, "stations", 1) as u32
+}
+
+/// The number of tasks.
+fn tasks_set(command: Command, words: &[String]) -> u32
+    ensures { result ≡ number_or command (texts words.now) (codes "tasks") 1 }
+{
+    number_or(command, words, "tasks", 1) as u32
+}
+
+/// The kind of line that the words set.
+fn line_set(words: &[String]) -> LineWord
+    ensures { result ≡ line_set (texts words.now) }
+{
+    match value_of(words, "line") {
+        None => LineWord::Straight,
+        Some(value) => {
+            if value == "u" {
+                return LineWord::U;
+            }
+            LineWord::Straight
+        }
+    }
+}
+
+/// The form that the words set.
+fn form_set(words: &[String]) -> FormWord
+    ensures { result ≡ form_set (texts words.now) }
+{
+    match value_of(words, "to") {
+        None => FormWord::In2,
+        Some(value) => {
+            if value == "alb" {
+                return FormWord::Alb;
+            }
+            if value == "cert" {
+                return FormWord::Cert;
+            }
+            FormWord::In2
+        }
+    }
+}
+
+fn solve_job(alloc: Global, words: &[String]) -> Result<Job, AllocError>
+    ensures { IfOk result (λ j. j ≡ job_for Command.Solve (texts words.now)) }
+{
+    let command = Command::Solve;
+    Ok(Job::Solve {
+        file: name_at(alloc, words, 0)?,
+        cycle: number_set(command, words, "cycle"),
+        line: line_set(words),
+        helpers: helpers_set(command, words),
+        units: number_or(command, words, "units", 1_000_000),
+        cert: name_set(alloc, words, "cert")?,
+        apart: name_set(alloc, words, "apart")?,
+    })
+}
+
+fn cycle_job(alloc: Global, words: &[String]) -> Result<Job, AllocError>
+    ensures { IfOk result (λ j. j ≡ job_for Command.Cycle (texts words.now)) }
+{
+    let command = Command::Cycle;
+    Ok(Job::Cycle {
+        file: name_at(alloc, words, 0)?,
+        stations: stations_set(command, words),
+        line: line_set(words),
+        helpers: helpers_set(command, words),
+        units: number_or(command, words, "units", 1_000_000),
+        cert: name_set(alloc, words, "cert")?,
+    })
+}
+
+fn balance_job(alloc: Global, words: &[String]) -> Result<Job, AllocError>
+    ensures { IfOk result (λ j. j ≡ job_for Command.Balance (texts words.now)) }
+{
+    Ok(Job::Balance {
+        file: name_at(alloc, words, 0)?,
+        cycle: number_set(Command::Balance, words, "cycle"),
+        line: line_set(words),
+        apart: name_set(alloc, words, "apart")?,
+    })
+}
+
+fn check_job(alloc: Global, words: &[String]) -> Result<Job, AllocError>
+    ensures { IfOk result (λ j. j ≡ job_for Command.Check (texts words.now)) }
+{
+    Ok(Job::Check {
+        file: name_at(alloc, words, 0)?,
+        cert: name_at(alloc, words, 1)?,
+        steps: number_or(Command::Check, words, "steps", 20_000_000),
+        apart: name_set(alloc, words, "apart")?,
+    })
+}
+
+fn convert_job(alloc: Global, words: &[String]) -> Result<Job, AllocError>
+    ensures { IfOk result (λ j. j ≡ job_for Command.Convert (texts words.now)) }
+{
+    Ok(Job::Convert {
+        file: name_at(alloc, words, 0)?,
+        out: name_at(alloc, words, 1)?,
+        to: form_set(words),
+        cycle: number_set(Command::Convert, words, "cycle"),
+    })
+}
+
+fn utility_job(alloc: Global, words: &[String]) -> Result<Job, AllocError>
+    ensures { IfOk result (λ j. j ≡ job_for Command.Utility (texts words.now)) }
+{
+    Ok(Job::Utility {
+        mix: name_at(alloc, words, 0)?,
+        cert: name_at(alloc, words, 1)?,
+        seq: name_at(alloc, words, 2)?,
+        interval: number_or(Command::Utility, words, "interval", 1),
+        length: number_or(Command::Utility, words, "length", 1),
+    })
+}
+
+fn timeline_job(alloc: Global, words: &[String]) -> Result<Job, AllocError>
+    ensures { IfOk result (λ j. j ≡ job_for Command.Timeline (texts words.now)) }
+{
+    Ok(Job::Timeline {
+        mix: name_at(alloc, words, 0)?,
+        cert: name_at(alloc, words, 1)?,
+        seq: name_at(alloc, words, 2)?,
+        interval: number_or(Command::Timeline, words, "interval", 1),
+        length: number_or(Command::Timeline, words, "length", 1),
+    })
+}
+
+fn try_job(words: &[String]) -> Job
+    ensures { result ≡ job_for Command.Try (texts words.now) }
+{
+    Job::Try {
+        seed: number_or(Command::Try, words, "seed", 0),
+        tasks: tasks_set(Command::Try, words),
+        cycle: number_or(Command::Try, words, "cycle", 200),
+        line: line_set(words),
+        units: number_or(Command::Try, words, "units", 1_000_000),
+    }
+}
+
+/// The job of a command with these words, in which nothing is wrong or missing.
+pub(crate) fn job_for(alloc: Global, command: Command, words: &[String]) -> Result<Job, AllocError>
+    ensures { IfOk result (λ j. j ≡ job_for command (texts words.now)) }
+{
+    match command {
+        Command::Balance => balance_job(alloc, words),
+        Command::Solve => solve_job(alloc, words),
+        Command::Cycle => cycle_job(alloc, words),
+        Command::Check => check_job(alloc, words),
+        Command::Convert => convert_job(alloc, words),
+        Command::Combine => Ok(Job::Combine {
+            mix: name_at(alloc, words, 0)?,
+            out: name_at(alloc, words, 1)?,
+        }),
+        Command::Utility => utility_job(alloc, words),
+        Command::Timeline => timeline_job(alloc, words),
+        Command::Try => Ok(try_job(words)),
+    }
+}

@@ -1,0 +1,170 @@
+//! The reading of the words as a job.
+ghost use Rattle.std.specs.Prelude.{◌≡◌, ◌<◌, Option, None, MatchOption, ℕ};
+ghost use Rattle.line_words.specs.Words.{texts};
+ghost use Rattle.line_words.specs.Table.{least_of, is_value};
+ghost use Rattle.line_words.specs.Jobs.{setting_fault, name_fault, word_fault, missing, AreRight, IsFirstFault, IsBehind, IsJobRead};
+
+use crate::command::{Command, command_named};
+use crate::fault::UsageKind;
+use crate::job::{Job, job_for, most_of};
+use crate::number::number_up_to;
+use crate::word::{count_names, is_one_of, sets, sets_all, setting};
+use std::alloc::Global;
+
+/// What reading the words answers.
+#[derive(Drop)]
+pub enum JobRead {
+    /// The job that the words ask for.
+    Good(Job),
+    /// The first fault of the words.
+    Usage {
+        /// The place of the word at fault, counted from 0; the number of words where a name or a key is missing.
+        index: usize,
+        /// What is wrong.
+        kind: UsageKind,
+    },
+    /// Memory is wanting.
+    NoMemory,
+}
+
+/// The least number that a key takes.
+fn least_of(key: &str) -> u64
+    ensures { result ≡ least_of key.now }
+{
+    if key == "helpers" || key == "seed" {
+        return 0;
+    }
+    1
+}
+
+/// Whether a key of a command takes the value.
+fn is_value(command: Command, key: &str, value: &str) -> bool
+    ensures { result ≡ is_value command key.now value.now }
+{
+    if key == "line" {
+        return value == "straight" || value == "u";
+    }
+    if key == "to" {
+        return value == "in2" || value == "alb" || value == "cert";
+    }
+    if key == "cert" || key == "apart" {
+        return !value.is_empty();
+    }
+    match number_up_to(most_of(command, key), value) {
+        Some(number) => least_of(key) <= number,
+        None => false,
+    }
+}
+
+/// What is wrong with a setting behind other words, where something is.
+fn setting_fault(command: Command, before: &[String], key: &str, value: &str) -> Option<UsageKind>
+    ensures { result ≡ setting_fault command (texts before.now) (key.now, value.now) }
+{
+    if !is_one_of(key, command.keys_taken()) {
+        return Some(UsageKind::UnknownKey);
+    }
+    if sets(before, key) {
+        return Some(UsageKind::RepeatedKey);
+    }
+    if is_value(command, key, value) {
+        return None;
+    }
+    Some(UsageKind::BadValue)
+}
+
+/// What is wrong with a name behind other words, where something is.
+fn name_fault(command: Command, before: &[String], word: &str) -> Option<UsageKind>
+    ensures { result ≡ name_fault command (texts before.now) word.now }
+{
+    if word.is_empty() {
+        return Some(UsageKind::ExtraName);
+    }
+    if count_names(before) < command.names_wanted() {
+        return None;
+    }
+    Some(UsageKind::ExtraName)
+}
+
+/// What is wrong with a word behind others, where something is.
+fn word_fault(command: Command, before: &[String], word: &str) -> Option<UsageKind>
+    ensures { result ≡ word_fault command (texts before.now) word.now }
+{
+    match setting(word) {
+        Some((key, value)) => setting_fault(command, before, key, value),
+        None => name_fault(command, before, word),
+    }
+}
+
+/// The place of the first word with which something is wrong, and what.
+fn first_fault(command: Command, words: &[String]) -> Option<(usize, UsageKind)>
+    ensures { MatchOption result (AreRight command (texts words.now)) (λ p. IsFirstFault command (texts words.now) p.0 p.1) }
+{
+    for i in 0..words.len() {
+        match word_fault(command, &words[..i], words[i].as_str()) {
+            Some(kind) => return Some((i, kind)),
+            None => {}
+        }
+    }
+    None
+}
+
+/// What is missing among the words of a command, where something is.
+fn missing(command: Command, words: &[String]) -> Option<UsageKind>
+    ensures { result ≡ missing command (texts words.now) }
+{
+    if count_names(words) < command.names_wanted() {
+        return Some(UsageKind::MissingName);
+    }
+    if sets_all(words, command.keys_wanted()) {
+        return None;
+    }
+    Some(UsageKind::MissingKey)
+}
+
+/// The reading of the words behind a command.
+fn behind(alloc: Global, command: Command, words: &[String]) -> JobRead
+    ensures { IsBehind command (texts words.now) result }
+{
+    if let Some((at, kind)) = first_fault(command, words) {
+        return JobRead::Usage {
+            index: at + 1,
+            kind,
+        };
+    }
+    if let Some(kind) = missing(command, words) {
+        return JobRead::Usage {
+            index: words.len() + 1,
+            kind,
+        };
+    }
+    match job_for(alloc, command, words) {
+        Ok(job) => JobRead::Good(job),
+        Err(_) => JobRead::NoMemory,
+    }
+}
+
+/// The job that the words ask for, or their first fault: at word 0 there is no command or an unknown one; then the words from
+/// left to right, each for what is wrong with it; then a missing name, and then a missing key, at the number of words.
+pub fn job_of(alloc: Global, words: &[String]) -> JobRead
+    ensures { IsJobRead (texts words.now) result }
+{
+    let [first, rest @ ..] = words else {
+        return JobRead::Usage {
+            index: 0,
+            kind: UsageKind::NoCommand,
+        };
+    };
+    if rest.is_empty() && first.as_str() == "--help" {
+        return JobRead::Good(Job::Help);
+    }
+    if rest.is_empty() && first.as_str() == "--version" {
+        return JobRead::Good(Job::Version);
+    }
+    match command_named(first.as_str()) {
+        Some(command) => behind(alloc, command, rest),
+        None => JobRead::Usage {
+            index: 0,
+            kind: UsageKind::UnknownCommand,
+        },
+    }
+}
