@@ -1,0 +1,4 @@
+pub mod Around
+pub mod Fits
+pub mod Picked
+pub mod Shares

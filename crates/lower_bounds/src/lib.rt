@@ -1,6 +1,10 @@
-//! Lower bounds on the number of stations.
+//! Lower bounds on the number of stations that a set of tasks needs.
 #![tactic(auto)]
 
+mod bounds;
+mod chains;
+mod sizes;
 mod total;
 
+pub use bounds::{bound, exceeds};
 pub use total::{first_too_long, total_bound, total_time};

@@ -1,4 +1,4 @@
-use Rattle.std.proofs.Common.{◌≡◌, ◌∙◌, ℕ, List, Bool, ap}
+use Rattle.std.proofs.Common.{◌∙◌, ap}
 use Rattle.line_instance.specs.Line.{has}
 use Rattle.line_instance.specs.Sums.{sum_where}
 use Rattle.line_rules.proofs.All.{all_is}

@@ -1,0 +1,168 @@
+-- The head and the tail of a task part the other tasks of its set.
+use Rattle.std.proofs.Common.{◌≡◌, ℕ, ◌+◌, ◌-◌, ◌*◌, ◌/◌, ◌<◌, ◌≤◌, ◌↔◌, max, Bool, true, false, cond, ◌&&◌, ◌||◌, not, nat_eq, List, length, get_or, set, refl, sym, ap, ◌∙◌, subst, inl, inr, arith}
+use Rattle.std.proofs.lemmas.Bool.{false≢true, cases_Bool, cases_lt, and_parts, and_from, or_cases, eqb-true, eq-eqb, not-true}
+use Rattle.std.proofs.Math.Nat.{mul-le-mul_right, div-le_self}
+use Rattle.std.specs.Int.{div_ceil}
+use Rattle.task_set.specs.Truths.{In, meet, minus, members_of}
+use Rattle.task_set.proofs.Members.{In-meet, In-meet_parts, In-minus, In-minus_parts, In-clear, In-clear_kept, In-clear_gone}
+use Rattle.line_instance.specs.Line.{Line, IsLine, IsTaskSet, Before, has, is_before, tasks, time}
+use Rattle.line_instance.specs.Sums.{sum_where}
+use Rattle.line_instance.proofs.Sums.{weigh-split, weigh-more, weigh-same, same_truth}
+use Rattle.line_rules.specs.Bounds.{up, head, tail, chained}
+use Rattle.line_rules.specs.declared.types.LineKind.{LineKind}
+use Rattle.line_rules.specs.declared.types.LineKind.TheVariants.{Straight, U}
+use Rattle.lower_bounds.proofs.Picked.{greatest_of, greatest_listed}
+
+-- two numbers need at most r + 1 stations where they sum to at most r cycles and 1
+pub up_pair : (c x y r : ℕ) → 1 ≤ c → x + y ≤ r * c + 1 → up x c + up y c - 1 ≤ r
+up_pair c x y r o l = elim (cases_lt (up x c + up y c) (r + 2)) [
+  | inl less ↦ omega arith
+  | inr more ↦ (let m : (r + 2) * c ≤ (up x c + up y c) * c = mul-le-mul_right c more in
+      let a : c * ((x + (c - 1)) / c) ≤ x + (c - 1) = omega arith in
+      let b : c * ((y + (c - 1)) / c) ≤ y + (c - 1) = omega arith in
+      absurd (grind (arith, m, a, b, o, l)))
+]
+
+-- a number of cycles is at most one more than the number of time units
+pub ceil_le : (a b : ℕ) → div_ceil a b ≤ a + 1
+ceil_le a b = omega (arith, div-le_self a b)
+
+-- rounding up in code
+pub up_ceil : (a b : ℕ) → 1 ≤ b → div_ceil a b ≡ up a b
+up_ceil a b o = grind arith
+
+picked : (b : Bool) (x : ℕ) → b ≡ true → cond b x 0 ≡ x
+picked b x e = ap (λ q. cond q x 0) e
+
+or_left : (a b : Bool) → a ≡ true → (a || b) ≡ true
+or_left a b e = ap (λ x. x || b) e
+
+or_right : (a b : Bool) → b ≡ true → (a || b) ≡ true
+or_right true b e = refl
+or_right false b e = e
+
+module _ (line : Line) (ok : IsLine line) (R : List Bool) (tasks_of : IsTaskSet line R) (j : ℕ) (member : In R j) (before after : List Bool)
+    (before_is : (i : ℕ) → In before i ↔ Before line i j) (after_is : (i : ℕ) → In after i ↔ Before line j i) where
+  -- what is neither before nor after j, without j
+  abbrev pub elsewhere : List Bool
+  elsewhere = set (minus (minus R before) after) j false
+
+  not_before : (i : ℕ) → Before line i i → ⊥
+  not_before i = ok.not_itself i
+
+  never : (b : Bool) → (b ≡ true → ⊥) → b ≡ false
+  never b n = elim (cases_Bool b) [ inl e ↦ absurd (n e) | inr e ↦ e ]
+
+  -- the tasks of a side of j, and j itself
+  side : (beside : ℕ → Bool) (s : List Bool) → ((i : ℕ) → In s i ↔ (beside i ≡ true)) → (beside j ≡ true → ⊥)
+      → sum_where (λ i. has R i && (nat_eq i j || beside i)) line.times ≡ sum_where (has (meet R s)) line.times + time line j
+  side beside s is none =
+      let gone : has (meet R s) j ≡ false = never (has (meet R s) j) (λ m. none ((is j).0 (In-meet_parts R s j m).1)) in
+      let here : (has R j && (nat_eq j j || beside j)) ≡ true = and_from (has R j) (nat_eq j j || beside j) member (or_left (nat_eq j j) (beside j) (eq-eqb j j refl)) in
+      let same : (i : ℕ) → (i ≡ j → ⊥) → (has R i && (nat_eq i j || beside i)) ≡ has (meet R s) i = λ i n. same_truth (has R i && (nat_eq i j || beside i)) (has (meet R s) i)
+      (λ e. let q : (has R i ≡ true) × ((nat_eq i j || beside i) ≡ true) = and_parts (has R i) (nat_eq i j || beside i) e in
+      elim (or_cases (nat_eq i j) (beside i) q.1) [ inl w ↦ absurd (n (eqb-true i j w)) | inr b ↦ In-meet R s i q.0 ((is i).1 b) ])
+      (λ m. let q : In R i × In s i = In-meet_parts R s i m in and_from (has R i) (nat_eq i j || beside i) q.0 (or_right (nat_eq i j) (beside i) ((is i).0 q.1))) in
+      omega (arith, picked (has R j && (nat_eq j j || beside j)) (time line j) here, weigh-more (λ t. t) (λ i. has R i && (nat_eq i j || beside i)) (has (meet R s)) j gone same line.times (tasks_of.tasks j member))
+
+  pub head_sum : sum_where (λ i. has R i && (nat_eq i j || is_before line i j)) line.times ≡ sum_where (has (meet R before)) line.times + time line j
+  head_sum = side (λ i. is_before line i j) before before_is (not_before j)
+
+  pub tail_sum : sum_where (λ i. has R i && (nat_eq i j || is_before line j i)) line.times ≡ sum_where (has (meet R after)) line.times + time line j
+  tail_sum = side (λ i. is_before line j i) after after_is (not_before j)
+
+  before_met : sum_where (λ i. has R i && is_before line i j) line.times ≡ sum_where (has (meet R before)) line.times
+  before_met = weigh-same (λ t. t) (λ i. has R i && is_before line i j) (has (meet R before)) (λ i. same_truth (has R i && is_before line i j) (has (meet R before) i)
+      (λ e. let q : In R i × Before line i j = and_parts (has R i) (is_before line i j) e in In-meet R before i q.0 ((before_is i).1 q.1))
+      (λ m. let q : In R i × In before i = In-meet_parts R before i m in and_from (has R i) (is_before line i j) q.0 ((before_is i).0 q.1))) line.times
+
+  after_met : sum_where (λ i. (has R i && not (is_before line i j)) && is_before line j i) line.times ≡ sum_where (has (meet R after)) line.times
+  after_met = weigh-same (λ t. t) (λ i. (has R i && not (is_before line i j)) && is_before line j i) (has (meet R after))
+      (λ i. same_truth ((has R i && not (is_before line i j)) && is_before line j i) (has (meet R after) i)
+      (λ e. let q : ((has R i && not (is_before line i j)) ≡ true) × Before line j i = and_parts (has R i && not (is_before line i j)) (is_before line j i) e in
+      In-meet R after i (and_parts (has R i) (not (is_before line i j)) q.0).0 ((after_is i).1 q.1))
+      (λ m. let q : In R i × In after i = In-meet_parts R after i m in
+      let behind : Before line j i = (after_is i).0 q.1 in
+      let n : is_before line i j ≡ false = never (is_before line i j) (λ b. not_before i (ok.leads_on i j i b behind)) in
+      and_from (has R i && not (is_before line i j)) (is_before line j i) (and_from (has R i) (not (is_before line i j)) q.0 (ap not n)) behind)) line.times
+
+  elsewhere_met : sum_where (λ i. (has R i && not (is_before line i j)) && not (is_before line j i)) line.times ≡ sum_where (has elsewhere) line.times + time line j
+  elsewhere_met =
+      let others : List Bool = minus (minus R before) after in
+      let gone : has (set others j false) j ≡ false = never (has (set others j false) j) (In-clear_gone others j) in
+      let out : (i : ℕ) → In R i → (Before line i j → ⊥) → (Before line j i → ⊥) → ((has R i && not (is_before line i j)) && not (is_before line j i)) ≡ true =
+      λ i m b a. and_from (has R i && not (is_before line i j)) (not (is_before line j i)) (and_from (has R i) (not (is_before line i j)) m (ap not (never (is_before line i j) b))) (ap not (never (is_before line j i) a)) in
+      let same : (i : ℕ) → (i ≡ j → ⊥) → ((has R i && not (is_before line i j)) && not (is_before line j i)) ≡ has (set others j false) i =
+      λ i n. same_truth ((has R i && not (is_before line i j)) && not (is_before line j i)) (has (set others j false) i)
+      (λ e. let q : ((has R i && not (is_before line i j)) ≡ true) × (not (is_before line j i) ≡ true) = and_parts (has R i && not (is_before line i j)) (not (is_before line j i)) e in
+      let p : (has R i ≡ true) × (not (is_before line i j) ≡ true) = and_parts (has R i) (not (is_before line i j)) q.0 in
+      let b : get_or before i false ≡ false = never (get_or before i false) (λ m. false≢true (sym (not-true (is_before line i j) p.1) ∙ (before_is i).0 m)) in
+      let a : get_or after i false ≡ false = never (get_or after i false) (λ m. false≢true (sym (not-true (is_before line j i) q.1) ∙ (after_is i).0 m)) in
+      In-clear others j i (In-minus (minus R before) after i (In-minus R before i p.0 b) a) n)
+      (λ m. let q : In (minus R before) i × (get_or after i false ≡ false) = In-minus_parts (minus R before) after i (In-clear_kept others j i m) in
+      let p : In R i × (get_or before i false ≡ false) = In-minus_parts R before i q.0 in
+      out i p.0 (λ b. false≢true (sym p.1 ∙ (before_is i).1 b)) (λ a. false≢true (sym q.1 ∙ (after_is i).1 a))) in
+      omega (
+        arith,
+        picked ((has R j && not (is_before line j j)) && not (is_before line j j)) (time line j) (out j member (not_before j) (not_before j)),
+        weigh-more (λ t. t) (λ i. (has R i && not (is_before line i j)) && not (is_before line j i)) (has (set others j false)) j gone same line.times (tasks_of.tasks j member),
+      )
+
+  -- the tasks of R are those before j, those after j, j, and those elsewhere
+  pub parts : sum_where (has R) line.times + time line j
+      ≡ sum_where (λ i. has R i && (nat_eq i j || is_before line i j)) line.times + sum_where (λ i. has R i && (nat_eq i j || is_before line j i)) line.times + sum_where (has elsewhere) line.times
+  parts = omega (
+    arith,
+    head_sum,
+    tail_sum,
+    before_met,
+    after_met,
+    elsewhere_met,
+    weigh-split (λ t. t) (has R) (λ i. is_before line i j) line.times,
+    weigh-split (λ t. t) (λ i. has R i && not (is_before line i j)) (λ i. is_before line j i) line.times,
+  )
+
+  -- where the tasks elsewhere take the time that would make the difference, the head and the tail need at most r stations
+  pub few_around : (c r : ℕ) → 1 ≤ c → sum_where (has R) line.times + time line j < r * c + 2 + sum_where (has elsewhere) line.times → head line c R j + tail line c R j - 1 ≤ r
+  unfolding head tail
+  few_around c r o l =
+      up_pair c (sum_where (λ i. has R i && (nat_eq i j || is_before line i j)) line.times) (sum_where (λ i. has R i && (nat_eq i j || is_before line j i)) line.times) r o (omega (arith, parts, l))
+
+  -- the tasks before j in R, and those elsewhere
+  pub met_set : (s : List Bool) → s ≡ meet R before → length s ≡ 1024 → IsTaskSet line s
+  met_set s e l = record { truths = l; tasks = λ i m. let P : List Bool → Type 0 = λ q. In q i in tasks_of.tasks i (In-meet_parts R before i (subst P e m)).0 }
+
+  pub elsewhere_set : (s : List Bool) → s ≡ elsewhere → length s ≡ 1024 → IsTaskSet line s
+  elsewhere_set s e l = record {
+    truths = l;
+    tasks = λ i m.
+        let P : List Bool → Type 0 = λ q. In q i in
+        tasks_of.tasks i (In-minus_parts R before i (In-minus_parts (minus R before) after i (In-clear_kept (minus (minus R before) after) j i (subst P e m))).0).0;
+  }
+
+  -- the times before j and elsewhere leave that of j and what is after it
+  pub room_left : (h s : ℕ) → h ≡ sum_where (has (meet R before)) line.times + time line j → s ≡ sum_where (has elsewhere) line.times
+      → h ≤ sum_where (has R) line.times + time line j - s
+  room_left h s e f = omega (arith, e, f, head_sum, parts)
+
+  -- the head and the tail, from the times before j and elsewhere
+  pub around_is : (c h s t : ℕ) → 1 ≤ c → h ≡ sum_where (has (meet R before)) line.times + time line j → s ≡ sum_where (has elsewhere) line.times
+      → t ≡ sum_where (has R) line.times + time line j - s - h → div_ceil h c + div_ceil t c - 1 ≡ head line c R j + tail line c R j - 1
+  unfolding head tail
+  around_is c h s t o e f g =
+      let x : div_ceil h c ≡ up (sum_where (λ i. has R i && (nat_eq i j || is_before line i j)) line.times) c = up_ceil h c o ∙ ap (λ x. up x c) (omega (arith, e, head_sum)) in
+      let y : div_ceil t c ≡ up (sum_where (λ i. has R i && (nat_eq i j || is_before line j i)) line.times) c = up_ceil t c o ∙ ap (λ x. up x c) (omega (arith, e, f, g, head_sum, parts)) in
+      ap (λ n. n + div_ceil t c - 1) x ∙ ap (λ n. up (sum_where (λ i. has R i && (nat_eq i j || is_before line i j)) line.times) c + n - 1) y
+
+-- what a walk over the members starts with
+pub chain_start : (kind : LineKind) → kind ≡ Straight → (line : Line) (c : ℕ) (R : List Bool) (least : ℕ) (left : List ℕ) → IsTaskSet line R → left ≡ members_of R
+    → max least (greatest_of (λ j. head line c R j + tail line c R j - 1) left) ≡ max least (chained kind line c R)
+unfolding chained
+chain_start kind straight line c R least left set e =
+    let f : greatest_of (λ j. head line c R j + tail line c R j - 1) left ≡ greatest_of (λ j. head line c R j + tail line c R j - 1) (members_of R) = ap (greatest_of (λ j. head line c R j + tail line c R j - 1)) e in
+    ap (max least) (f ∙ greatest_listed (tasks line) (λ j. head line c R j + tail line c R j - 1) R set.tasks ∙ sym (ap (λ k. chained k line c R) straight))
+
+-- a U-line asks nothing of what is before and after a task
+pub no_chain : (kind : LineKind) → kind ≡ U → (line : Line) (c : ℕ) (R : List Bool) → chained kind line c R ≡ 0
+unfolding chained
+no_chain kind u line c R = ap (λ k. chained k line c R) u

@@ -1,0 +1,63 @@
+//! The bound on the stations of a set of tasks.
+ghost use Rattle.std.specs.Prelude.{◌≡◌, ◌≤◌, ◌<◌, ◌↔◌, ℕ, IsTrue};
+ghost use Rattle.line_instance.specs.Line.{IsTaskSet};
+ghost use Rattle.line_rules.specs.Balance.{Holds};
+ghost use Rattle.line_rules.specs.Bounds.{bound};
+
+use crate::chains::{has_longer_chain, longest_chain, sum_up_to};
+use crate::sizes::counts_of;
+use line_instance::Instance;
+use line_rules::LineKind;
+use task_set::TaskSet;
+
+/// The bound of a set with a task longer than the cycle: more stations than any line has tasks.
+const TOO_LONG: u32 = 1025;
+
+/// A number of stations that a balance of the set needs at least, on a line of that kind at that cycle: 0 for the empty set, 1,025
+/// where a task is longer than the cycle, and otherwise the greatest of 1, the set's total time in cycles (Scholl's LM1), what its
+/// tasks of half a cycle or more need (LM2), what its tasks of a third or more need (LM3), and, on a straight line, what the head and
+/// the tail of a task need. The cycle is 1 to 1,000,000,000,000,000,000, in the instance's time unit. Takes no memory.
+pub fn bound(inst: &Instance, kind: LineKind, cycle: u64, set: &TaskSet) -> u32
+    requires set { IsTaskSet inst.now set.now }
+    requires some { 1 ≤ cycle }
+    requires limit { cycle ≤ 1000000000000000000 }
+    ensures value { result ≡ bound kind inst.now cycle set.now }
+    ensures holds { (r : ℕ) → r < result → Holds kind inst.now cycle set.now r }
+{
+    let _tasks = inst.tasks();
+    if set.is_empty() {
+        return 0;
+    }
+    let counts = counts_of(inst, cycle, set);
+    if counts.too_long > 0 {
+        return TOO_LONG;
+    }
+    let time = inst.sum(set);
+    let least = time.div_ceil(cycle).max(counts.stations());
+    longest_chain(inst, kind, cycle, set, time, least) as u32
+}
+
+/// Whether the bound of a set exceeds `most`, given up as soon as that is settled: by the total time first, then by the tasks of a third
+/// of a cycle or more, and last by what is before and after a task. The cycle is 1 to 1,000,000,000,000,000,000, in the instance's time
+/// unit. Takes no memory.
+pub fn exceeds(inst: &Instance, kind: LineKind, cycle: u64, set: &TaskSet, most: u32) -> bool
+    requires set { IsTaskSet inst.now set.now }
+    requires some { 1 ≤ cycle }
+    requires limit { cycle ≤ 1000000000000000000 }
+    ensures { IsTrue result ↔ most < bound kind inst.now cycle set.now }
+{
+    let _tasks = inst.tasks();
+    if set.is_empty() || most >= TOO_LONG {
+        return false;
+    }
+    let time = inst.sum(set);
+    let most = u64::from(most);
+    if most == 0 || time.div_ceil(cycle) > most {
+        return true;
+    }
+    let counts = counts_of(inst, cycle, set);
+    if counts.too_long > 0 || counts.stations() > most {
+        return true;
+    }
+    has_longer_chain(inst, kind, cycle, set, time, most)
+}

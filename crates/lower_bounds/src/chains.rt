@@ -1,0 +1,120 @@
+//! The stations that what is before and after a task needs.
+ghost use Rattle.std.specs.Prelude.{◌≡◌, ◌≤◌, ◌<◌, ◌+◌, ◌-◌, ◌↔◌, max, IsTrue, IsNone, IfSome};
+ghost use Rattle.task_set.specs.Truths.{In};
+ghost use Rattle.line_instance.specs.Line.{IsTaskSet, has};
+ghost use Rattle.line_instance.specs.Sums.{sum_where};
+ghost use Rattle.line_rules.specs.Bounds.{head, tail, chained};
+
+use line_instance::Instance;
+use line_rules::LineKind;
+use task_set::TaskSet;
+
+/// The total time of a set of tasks, where it is at most `limit`.
+pub(crate) fn sum_up_to(inst: &Instance, set: &TaskSet, limit: u64) -> Option<u64>
+    requires { IsTaskSet inst.now set.now }
+    ensures none { IsNone result → limit < sum_where (has set.now) inst.now.times }
+    ensures some { IfSome result (λ s. s ≡ sum_where (has set.now) inst.now.times) }
+    ensures within { IfSome result (λ s. s ≤ limit) }
+    ensures most { IfSome result (λ s. s ≤ 204800000000000000) }
+{
+    let _tasks = inst.tasks();
+    let mut sum = 0;
+    for i in set {
+        sum += inst.time(i);
+        if sum > limit {
+            return None;
+        }
+    }
+    Some(sum)
+}
+
+/// The stations that the head and the tail of task `j` of a set need, its own counted once, where they are more than `least`. The
+/// set's total time is `time`.
+fn around(inst: &Instance, cycle: u64, set: &TaskSet, time: u64, least: u64, j: u32) -> Option<u64>
+    requires set { IsTaskSet inst.now set.now }
+    requires some { 1 ≤ cycle }
+    requires limit { cycle ≤ 1000000000000000000 }
+    requires time { time ≡ sum_where (has set.now) inst.now.times }
+    requires member { In set.now j }
+    ensures none { IsNone result → head inst.now cycle set.now j + tail inst.now cycle set.now j - 1 ≤ least }
+    ensures some { IfSome result (λ r. r ≡ head inst.now cycle set.now j + tail inst.now cycle set.now j - 1) }
+    ensures more { IfSome result (λ r. least < r) }
+{
+    let _tasks = inst.tasks();
+    let own = inst.time(j);
+    let before = inst.before(j);
+    let after = inst.after(j);
+    // The head and the tail need at most `least` stations where they sum to less than this.
+    let enough = u128::from(least) * u128::from(cycle) + 2;
+    let most = time + own;
+    if u128::from(most) < enough {
+        return None;
+    }
+    let elsewhere = set.minus(before).minus(after).without(j);
+    let apart = sum_up_to(inst, &elsewhere, most - enough as u64)?;
+    let head = inst.sum(&set.meet(before)) + own;
+    let tail = most - apart - head;
+    let stations = head.div_ceil(cycle) + tail.div_ceil(cycle) - 1;
+    if stations > least {
+        Some(stations)
+    } else {
+        None
+    }
+}
+
+/// The greater of `least` and the most stations that the head and the tail of a task of a set need, which is `least` on a U-line. The
+/// set's total time is `time`.
+pub(crate) fn longest_chain(
+    inst: &Instance,
+    kind: LineKind,
+    cycle: u64,
+    set: &TaskSet,
+    time: u64,
+    least: u64,
+) -> u64
+    requires set { IsTaskSet inst.now set.now }
+    requires some { 1 ≤ cycle }
+    requires limit { cycle ≤ 1000000000000000000 }
+    requires time { time ≡ sum_where (has set.now) inst.now.times }
+    ensures { result ≡ max least (chained kind inst.now cycle set.now) }
+{
+    match kind {
+        LineKind::U => return least,
+        LineKind::Straight => {}
+    }
+    let mut longest = least;
+    for j in set {
+        if let Some(stations) = around(inst, cycle, set, time, longest, j) {
+            longest = stations;
+        }
+    }
+    longest
+}
+
+/// Whether the head and the tail of a task of a set need more than `most` stations, which no task does on a U-line. The set's total time
+/// is `time`.
+pub(crate) fn has_longer_chain(
+    inst: &Instance,
+    kind: LineKind,
+    cycle: u64,
+    set: &TaskSet,
+    time: u64,
+    most: u64,
+) -> bool
+    requires set { IsTaskSet inst.now set.now }
+    requires some { 1 ≤ cycle }
+    requires limit { cycle ≤ 1000000000000000000 }
+    requires time { time ≡ sum_where (has set.now) inst.now.times }
+    ensures { IsTrue result ↔ most < chained kind inst.now cycle set.now }
+{
+    match kind {
+        LineKind::U => return false,
+        LineKind::Straight => {}
+    }
+    for j in set {
+        if around(inst, cycle, set, time, most, j).is_some() {
+            return true;
+        }
+    }
+    false
+}

@@ -1,0 +1,83 @@
+//! What the tasks of a set count for, by their times in parts of the cycle.
+ghost use Rattle.std.specs.Prelude.{◌≡◌, ◌≤◌, ◌+◌, ◌*◌, max, nat_eq, nat_lt};
+ghost use Rattle.line_instance.specs.Line.{IsTaskSet, has};
+ghost use Rattle.line_instance.specs.Sums.{count_where, weigh};
+ghost use Rattle.line_rules.specs.Bounds.{sixths, up};
+
+use line_instance::Instance;
+use task_set::TaskSet;
+
+/// How many tasks of a set have times of some size, measured in cycles.
+#[derive(Clone, Copy)]
+pub(crate) struct SizeCounts {
+    /// The tasks longer than a cycle.
+    pub(crate) too_long: u32,
+    /// The tasks longer than half a cycle.
+    pub(crate) above_half: u32,
+    /// The tasks of exactly half a cycle.
+    pub(crate) at_half: u32,
+    /// The sixths of a station of all tasks together.
+    pub(crate) sixths: u32,
+}
+
+impl SizeCounts {
+    /// The stations that the tasks need by their halves (Scholl's LM2) and sixths (LM3), and 1 at least.
+    pub(crate) fn stations(&self) -> u64
+        ensures { result ≡ max 1 (max (self.now.above_half + up self.now.at_half 2) (up self.now.sixths 6)) }
+    {
+        let by_halves = u64::from(self.above_half) + u64::from(self.at_half.div_ceil(2));
+        let by_sixths = u64::from(self.sixths.div_ceil(6));
+        by_halves.max(by_sixths).max(1)
+    }
+}
+
+/// The counts of a set of tasks.
+pub(crate) fn counts_of(inst: &Instance, cycle: u64, set: &TaskSet) -> SizeCounts
+    requires set { IsTaskSet inst.now set.now }
+    requires limit { cycle ≤ 1000000000000000000 }
+    ensures too_long { result.too_long ≡ count_where (λ t. nat_lt cycle t) (has set.now) inst.now.times }
+    ensures above_half { result.above_half ≡ count_where (λ t. nat_lt cycle (2 * t)) (has set.now) inst.now.times }
+    ensures at_half { result.at_half ≡ count_where (λ t. nat_eq (2 * t) cycle) (has set.now) inst.now.times }
+    ensures sixths { result.sixths ≡ weigh (sixths cycle) (has set.now) inst.now.times }
+    ensures most_halves { result.above_half ≤ 1024 }
+    ensures most_half { result.at_half ≤ 1024 }
+    ensures most_sixths { result.sixths ≤ 6144 }
+{
+    let _tasks = inst.tasks();
+    let mut counts = SizeCounts {
+        too_long: 0,
+        above_half: 0,
+        at_half: 0,
+        sixths: 0,
+    };
+    for i in set {
+        let time = inst.time(i);
+        counts.too_long += u32::from(time > cycle);
+        counts.above_half += u32::from(2 * time > cycle);
+        counts.at_half += u32::from(2 * time == cycle);
+        counts.sixths += sixths(cycle, time);
+    }
+    counts
+}
+
+/// The sixths of a station that a time counts for.
+#[tactic(auto, using(std::proofs::lemmas::Bool::Decides::nat_tests), unfolding(line_rules::specs::Bounds::sixths))]
+fn sixths(cycle: u64, time: u64) -> u32
+    requires cycle { cycle ≤ 1000000000000000000 }
+    requires time { time ≤ 200000000000000 }
+    ensures value { result ≡ sixths cycle time }
+    ensures most { result ≤ 6 }
+{
+    let (thirds, cycles) = (3 * time, 2 * cycle);
+    if thirds > cycles {
+        6
+    } else if thirds == cycles {
+        4
+    } else if thirds > cycle {
+        3
+    } else if thirds == cycle {
+        2
+    } else {
+        0
+    }
+}
