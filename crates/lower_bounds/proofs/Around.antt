@@ -4,14 +4,16 @@ use Rattle.std.proofs.lemmas.Bool.{false≢true, cases_Bool, cases_lt, and_parts
 use Rattle.std.proofs.Math.Nat.{mul-le-mul_right, div-le_self}
 use Rattle.std.specs.Int.{div_ceil}
 use Rattle.task_set.specs.Truths.{In, meet, minus, members_of}
-use Rattle.task_set.proofs.Members.{In-meet, In-meet_parts, In-minus, In-minus_parts, In-clear, In-clear_kept, In-clear_gone}
+use Rattle.task_set.proofs.Members.{In-meet, In-meet_parts, In-minus, In-minus_parts, In-clear, In-clear_kept, In-clear_gone, keep, In-keep, In-keep_parts}
 use Rattle.line_instance.specs.Line.{Line, IsLine, IsTaskSet, Before, has, is_before, tasks, time}
 use Rattle.line_instance.specs.Sums.{sum_where}
 use Rattle.line_instance.proofs.Sums.{weigh-split, weigh-more, weigh-same, same_truth}
 use Rattle.line_rules.specs.Bounds.{up, head, tail, chained}
 use Rattle.line_rules.specs.declared.types.LineKind.{LineKind}
 use Rattle.line_rules.specs.declared.types.LineKind.TheVariants.{Straight, U}
-use Rattle.lower_bounds.proofs.Picked.{greatest_of, greatest_listed}
+use Rattle.lower_bounds.specs.Times.{longest_of}
+use Rattle.lower_bounds.proofs.Picked.{greatest_of, greatest_listed, below_least, picked_le}
+use Rattle.lower_bounds.proofs.Shares.{longest_least}
 
 -- two numbers need at most r + 1 stations where they sum to at most r cycles and 1
 pub up_pair : (c x y r : ℕ) → 1 ≤ c → x + y ≤ r * c + 1 → up x c + up y c - 1 ≤ r
@@ -42,7 +44,7 @@ or_right true b e = refl
 or_right false b e = e
 
 module _ (line : Line) (ok : IsLine line) (R : List Bool) (tasks_of : IsTaskSet line R) (j : ℕ) (member : In R j) (before after : List Bool)
-    (before_is : (i : ℕ) → In before i ↔ Before line i j) (after_is : (i : ℕ) → In after i ↔ Before line j i) where
+    (before_is : (i : ℕ) → In R i → In before i ↔ Before line i j) (after_is : (i : ℕ) → In R i → In after i ↔ Before line j i) where
   -- what is neither before nor after j, without j
   abbrev pub elsewhere : List Bool
   elsewhere = set (minus (minus R before) after) j false
@@ -54,15 +56,15 @@ module _ (line : Line) (ok : IsLine line) (R : List Bool) (tasks_of : IsTaskSet 
   never b n = elim (cases_Bool b) [ inl e ↦ absurd (n e) | inr e ↦ e ]
 
   -- the tasks of a side of j, and j itself
-  side : (beside : ℕ → Bool) (s : List Bool) → ((i : ℕ) → In s i ↔ (beside i ≡ true)) → (beside j ≡ true → ⊥)
+  side : (beside : ℕ → Bool) (s : List Bool) → ((i : ℕ) → In R i → In s i ↔ (beside i ≡ true)) → (beside j ≡ true → ⊥)
       → sum_where (λ i. has R i && (nat_eq i j || beside i)) line.times ≡ sum_where (has (meet R s)) line.times + time line j
   side beside s is none =
-      let gone : has (meet R s) j ≡ false = never (has (meet R s) j) (λ m. none ((is j).0 (In-meet_parts R s j m).1)) in
+      let gone : has (meet R s) j ≡ false = never (has (meet R s) j) (λ m. none ((is j member).0 (In-meet_parts R s j m).1)) in
       let here : (has R j && (nat_eq j j || beside j)) ≡ true = and_from (has R j) (nat_eq j j || beside j) member (or_left (nat_eq j j) (beside j) (eq-eqb j j refl)) in
       let same : (i : ℕ) → (i ≡ j → ⊥) → (has R i && (nat_eq i j || beside i)) ≡ has (meet R s) i = λ i n. same_truth (has R i && (nat_eq i j || beside i)) (has (meet R s) i)
       (λ e. let q : (has R i ≡ true) × ((nat_eq i j || beside i) ≡ true) = and_parts (has R i) (nat_eq i j || beside i) e in
-      elim (or_cases (nat_eq i j) (beside i) q.1) [ inl w ↦ absurd (n (eqb-true i j w)) | inr b ↦ In-meet R s i q.0 ((is i).1 b) ])
-      (λ m. let q : In R i × In s i = In-meet_parts R s i m in and_from (has R i) (nat_eq i j || beside i) q.0 (or_right (nat_eq i j) (beside i) ((is i).0 q.1))) in
+      elim (or_cases (nat_eq i j) (beside i) q.1) [ inl w ↦ absurd (n (eqb-true i j w)) | inr b ↦ In-meet R s i q.0 ((is i q.0).1 b) ])
+      (λ m. let q : In R i × In s i = In-meet_parts R s i m in and_from (has R i) (nat_eq i j || beside i) q.0 (or_right (nat_eq i j) (beside i) ((is i q.0).0 q.1))) in
       omega (arith, picked (has R j && (nat_eq j j || beside j)) (time line j) here, weigh-more (λ t. t) (λ i. has R i && (nat_eq i j || beside i)) (has (meet R s)) j gone same line.times (tasks_of.tasks j member))
 
   pub head_sum : sum_where (λ i. has R i && (nat_eq i j || is_before line i j)) line.times ≡ sum_where (has (meet R before)) line.times + time line j
@@ -73,16 +75,16 @@ module _ (line : Line) (ok : IsLine line) (R : List Bool) (tasks_of : IsTaskSet 
 
   before_met : sum_where (λ i. has R i && is_before line i j) line.times ≡ sum_where (has (meet R before)) line.times
   before_met = weigh-same (λ t. t) (λ i. has R i && is_before line i j) (has (meet R before)) (λ i. same_truth (has R i && is_before line i j) (has (meet R before) i)
-      (λ e. let q : In R i × Before line i j = and_parts (has R i) (is_before line i j) e in In-meet R before i q.0 ((before_is i).1 q.1))
-      (λ m. let q : In R i × In before i = In-meet_parts R before i m in and_from (has R i) (is_before line i j) q.0 ((before_is i).0 q.1))) line.times
+      (λ e. let q : In R i × Before line i j = and_parts (has R i) (is_before line i j) e in In-meet R before i q.0 ((before_is i q.0).1 q.1))
+      (λ m. let q : In R i × In before i = In-meet_parts R before i m in and_from (has R i) (is_before line i j) q.0 ((before_is i q.0).0 q.1))) line.times
 
   after_met : sum_where (λ i. (has R i && not (is_before line i j)) && is_before line j i) line.times ≡ sum_where (has (meet R after)) line.times
   after_met = weigh-same (λ t. t) (λ i. (has R i && not (is_before line i j)) && is_before line j i) (has (meet R after))
       (λ i. same_truth ((has R i && not (is_before line i j)) && is_before line j i) (has (meet R after) i)
       (λ e. let q : ((has R i && not (is_before line i j)) ≡ true) × Before line j i = and_parts (has R i && not (is_before line i j)) (is_before line j i) e in
-      In-meet R after i (and_parts (has R i) (not (is_before line i j)) q.0).0 ((after_is i).1 q.1))
+      In-meet R after i (and_parts (has R i) (not (is_before line i j)) q.0).0 ((after_is i (and_parts (has R i) (not (is_before line i j)) q.0).0).1 q.1))
       (λ m. let q : In R i × In after i = In-meet_parts R after i m in
-      let behind : Before line j i = (after_is i).0 q.1 in
+      let behind : Before line j i = (after_is i q.0).0 q.1 in
       let n : is_before line i j ≡ false = never (is_before line i j) (λ b. not_before i (ok.leads_on i j i b behind)) in
       and_from (has R i && not (is_before line i j)) (is_before line j i) (and_from (has R i) (not (is_before line i j)) q.0 (ap not n)) behind)) line.times
 
@@ -96,12 +98,12 @@ module _ (line : Line) (ok : IsLine line) (R : List Bool) (tasks_of : IsTaskSet 
       λ i n. same_truth ((has R i && not (is_before line i j)) && not (is_before line j i)) (has (set others j false) i)
       (λ e. let q : ((has R i && not (is_before line i j)) ≡ true) × (not (is_before line j i) ≡ true) = and_parts (has R i && not (is_before line i j)) (not (is_before line j i)) e in
       let p : (has R i ≡ true) × (not (is_before line i j) ≡ true) = and_parts (has R i) (not (is_before line i j)) q.0 in
-      let b : get_or before i false ≡ false = never (get_or before i false) (λ m. false≢true (sym (not-true (is_before line i j) p.1) ∙ (before_is i).0 m)) in
-      let a : get_or after i false ≡ false = never (get_or after i false) (λ m. false≢true (sym (not-true (is_before line j i) q.1) ∙ (after_is i).0 m)) in
+      let b : get_or before i false ≡ false = never (get_or before i false) (λ m. false≢true (sym (not-true (is_before line i j) p.1) ∙ (before_is i p.0).0 m)) in
+      let a : get_or after i false ≡ false = never (get_or after i false) (λ m. false≢true (sym (not-true (is_before line j i) q.1) ∙ (after_is i p.0).0 m)) in
       In-clear others j i (In-minus (minus R before) after i (In-minus R before i p.0 b) a) n)
       (λ m. let q : In (minus R before) i × (get_or after i false ≡ false) = In-minus_parts (minus R before) after i (In-clear_kept others j i m) in
       let p : In R i × (get_or before i false ≡ false) = In-minus_parts R before i q.0 in
-      out i p.0 (λ b. false≢true (sym p.1 ∙ (before_is i).1 b)) (λ a. false≢true (sym q.1 ∙ (after_is i).1 a))) in
+      out i p.0 (λ b. false≢true (sym p.1 ∙ (before_is i p.0).1 b)) (λ a. false≢true (sym q.1 ∙ (after_is i p.0).1 a))) in
       omega (
         arith,
         picked ((has R j && not (is_before line j j)) && not (is_before line j j)) (time line j) (out j member (not_before j) (not_before j)),
@@ -140,19 +142,26 @@ module _ (line : Line) (ok : IsLine line) (R : List Bool) (tasks_of : IsTaskSet 
         tasks_of.tasks i (In-minus_parts R before i (In-minus_parts (minus R before) after i (In-clear_kept (minus (minus R before) after) j i (subst P e m))).0).0;
   }
 
-  -- the times before j and elsewhere leave that of j and what is after it
-  pub room_left : (h s : ℕ) → h ≡ sum_where (has (meet R before)) line.times + time line j → s ≡ sum_where (has elsewhere) line.times
-      → h ≤ sum_where (has R) line.times + time line j - s
-  room_left h s e f = omega (arith, e, f, head_sum, parts)
+  -- what is summed, of sets that are known to be these
+  module _ (met others : List Bool) (met_is : met ≡ meet R before) (others_are : others ≡ elsewhere) (h s : ℕ) (h_is : h ≡ sum_where (has met) line.times + time line j)
+      (s_is : s ≡ sum_where (has others) line.times) where
+    before_time : h ≡ sum_where (has (meet R before)) line.times + time line j
+    before_time = h_is ∙ ap (λ q. sum_where (has q) line.times + time line j) met_is
 
-  -- the head and the tail, from the times before j and elsewhere
-  pub around_is : (c h s t : ℕ) → 1 ≤ c → h ≡ sum_where (has (meet R before)) line.times + time line j → s ≡ sum_where (has elsewhere) line.times
-      → t ≡ sum_where (has R) line.times + time line j - s - h → div_ceil h c + div_ceil t c - 1 ≡ head line c R j + tail line c R j - 1
-  unfolding head tail
-  around_is c h s t o e f g =
-      let x : div_ceil h c ≡ up (sum_where (λ i. has R i && (nat_eq i j || is_before line i j)) line.times) c = up_ceil h c o ∙ ap (λ x. up x c) (omega (arith, e, head_sum)) in
-      let y : div_ceil t c ≡ up (sum_where (λ i. has R i && (nat_eq i j || is_before line j i)) line.times) c = up_ceil t c o ∙ ap (λ x. up x c) (omega (arith, e, f, g, head_sum, parts)) in
-      ap (λ n. n + div_ceil t c - 1) x ∙ ap (λ n. up (sum_where (λ i. has R i && (nat_eq i j || is_before line i j)) line.times) c + n - 1) y
+    elsewhere_time : s ≡ sum_where (has elsewhere) line.times
+    elsewhere_time = s_is ∙ ap (λ q. sum_where (has q) line.times) others_are
+
+    -- the times before j and elsewhere leave that of j and what is after it
+    pub room_left : h ≤ sum_where (has R) line.times + time line j - s
+    room_left = omega (arith, before_time, elsewhere_time, head_sum, parts)
+
+    -- the head and the tail
+    pub around_is : (c t : ℕ) → 1 ≤ c → t ≡ sum_where (has R) line.times + time line j - s - h → div_ceil h c + div_ceil t c - 1 ≡ head line c R j + tail line c R j - 1
+    unfolding head tail
+    around_is c t o g =
+        let x : div_ceil h c ≡ up (sum_where (λ i. has R i && (nat_eq i j || is_before line i j)) line.times) c = up_ceil h c o ∙ ap (λ x. up x c) (omega (arith, before_time, head_sum)) in
+        let y : div_ceil t c ≡ up (sum_where (λ i. has R i && (nat_eq i j || is_before line j i)) line.times) c = up_ceil t c o ∙ ap (λ x. up x c) (omega (arith, before_time, elsewhere_time, g, head_sum, parts)) in
+        ap (λ n. n + div_ceil t c - 1) x ∙ ap (λ n. up (sum_where (λ i. has R i && (nat_eq i j || is_before line i j)) line.times) c + n - 1) y
 
 -- what a walk over the members starts with
 pub chain_start : (kind : LineKind) → kind ≡ Straight → (line : Line) (c : ℕ) (R : List Bool) (least : ℕ) (left : List ℕ) → IsTaskSet line R → left ≡ members_of R
@@ -166,3 +175,16 @@ chain_start kind straight line c R least left set e =
 pub no_chain : (kind : LineKind) → kind ≡ U → (line : Line) (c : ℕ) (R : List Bool) → chained kind line c R ≡ 0
 unfolding chained
 no_chain kind u line c R = ap (λ k. chained k line c R) u
+
+-- where even the longest task can't make the difference, no head and tail need more than r stations
+pub few_chained : (kind : LineKind) (line : Line) → IsLine line → (c : ℕ) → 1 ≤ c → (R : List Bool) → IsTaskSet line R → (r total longest : ℕ) → total ≡ sum_where (has R) line.times
+    → longest ≡ longest_of line R → total + longest < r * c + 2 → chained kind line c R ≤ r
+unfolding chained
+few_chained U line ok c o R set r total longest e f l = omega arith
+few_chained Straight line ok c o R set r total longest e f l =
+    below_least (tasks line) (λ j. cond (has R j) (head line c R j + tail line c R j - 1) 0) r
+    (λ j. picked_le (has R j) (head line c R j + tail line c R j - 1) r
+    (λ m. few_around line ok R set j m (keep (λ i. is_before line i j) R) (keep (λ i. is_before line j i) R)
+    (λ i n. (λ k. (In-keep_parts (λ i. is_before line i j) R i k).1, λ b. In-keep (λ i. is_before line i j) R i n b))
+    (λ i n. (λ k. (In-keep_parts (λ i. is_before line j i) R i k).1, λ b. In-keep (λ i. is_before line j i) R i n b))
+    c r o (omega (arith, e, f, l, longest_least line R set j m))))

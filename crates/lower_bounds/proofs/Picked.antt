@@ -83,18 +83,18 @@ greatest_from f k (false ∷ bs) zero m = absurd (false≢true m)
 greatest_from f k (true ∷ bs) (suc i) m = let e : f (k + suc i) ≡ f (suc k + i) = ap f (omega arith) in omega (arith, e, greatest_from f (suc k) bs i m)
 greatest_from f k (false ∷ bs) (suc i) m = let e : f (k + suc i) ≡ f (suc k + i) = ap f (omega arith) in omega (arith, e, greatest_from f (suc k) bs i m)
 
-below_least : (n : ℕ) (f : ℕ → ℕ) (r : ℕ) → ((j : ℕ) → f j ≤ r) → greatest_below n f ≤ r
+pub below_least : (n : ℕ) (f : ℕ → ℕ) (r : ℕ) → ((j : ℕ) → f j ≤ r) → greatest_below n f ≤ r
 below_least zero f r h = omega arith
 below_least (suc n) f r h = omega (arith, h n, below_least n f r h)
 
-below_at : (n : ℕ) (f : ℕ → ℕ) (j : ℕ) → j < n → f j ≤ greatest_below n f
+pub below_at : (n : ℕ) (f : ℕ → ℕ) (j : ℕ) → j < n → f j ≤ greatest_below n f
 below_at zero f j l = absurd (omega arith)
 below_at (suc n) f j l = elim (cases_lt j n) [
   | inl k ↦ omega (arith, below_at n f j k)
   | inr g ↦ (let e : f j ≡ f n = ap f (omega arith) in omega (arith, e))
 ]
 
-picked_le : (b : Bool) (x r : ℕ) → (b ≡ true → x ≤ r) → cond b x 0 ≤ r
+pub picked_le : (b : Bool) (x r : ℕ) → (b ≡ true → x ≤ r) → cond b x 0 ≤ r
 picked_le true x r h = h refl
 picked_le false x r h = omega arith
 
@@ -123,3 +123,8 @@ weight_start w ts left s h e = let f : weight_of w ts left ≡ weight_of w ts (m
 
 pub all_in_start : (s : List Bool) (left : List ℕ) → left ≡ members_of s → AllIn s left
 all_in_start s left e = let P : List ℕ → Type 0 = λ l. AllIn s l in subst P (sym e) (all_in s)
+
+-- where no member weighs anything, the set weighs nothing
+pub weightless : (w : ℕ → ℕ) (p : ℕ → Bool) (ts : List ℕ) → ((i : ℕ) → i < length ts → p i ≡ true → w (get_or ts i 0) ≡ 0) → weigh w p ts ≡ 0
+weightless w p [] h = refl
+weightless w p (t ∷ ts) h = omega (arith, picked_le (p 0) (w t) 0 (λ e. omega (arith, h 0 (omega arith) e)), weightless w (λ i. p (suc i)) ts (λ i l e. h (suc i) (omega arith) e))

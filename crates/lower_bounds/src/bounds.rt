@@ -4,8 +4,8 @@ ghost use Rattle.line_instance.specs.Line.{IsTaskSet};
 ghost use Rattle.line_rules.specs.Balance.{Holds};
 ghost use Rattle.line_rules.specs.Bounds.{bound};
 
-use crate::chains::{has_longer_chain, longest_chain, sum_up_to};
-use crate::sizes::counts_of;
+use crate::chains::{has_longer_chain, longest_chain};
+use crate::sizes::{counts_of, times_in};
 use line_instance::Instance;
 use line_rules::LineKind;
 use task_set::TaskSet;
@@ -28,13 +28,13 @@ pub fn bound(inst: &Instance, kind: LineKind, cycle: u64, set: &TaskSet) -> u32
     if set.is_empty() {
         return 0;
     }
-    let counts = counts_of(inst, cycle, set);
+    let times = times_in(inst, set);
+    let counts = counts_of(inst, cycle, set, times.longest);
     if counts.too_long > 0 {
         return TOO_LONG;
     }
-    let time = inst.sum(set);
-    let least = time.div_ceil(cycle).max(counts.stations());
-    longest_chain(inst, kind, cycle, set, time, least) as u32
+    let least = times.total.div_ceil(cycle).max(counts.stations());
+    longest_chain(inst, kind, cycle, set, times, least) as u32
 }
 
 /// Whether the bound of a set exceeds `most`, given up as soon as that is settled: by the total time first, then by the tasks of a third
@@ -50,14 +50,14 @@ pub fn exceeds(inst: &Instance, kind: LineKind, cycle: u64, set: &TaskSet, most:
     if set.is_empty() || most >= TOO_LONG {
         return false;
     }
-    let time = inst.sum(set);
+    let times = times_in(inst, set);
     let most = u64::from(most);
-    if most == 0 || time.div_ceil(cycle) > most {
+    if most == 0 || times.total.div_ceil(cycle) > most {
         return true;
     }
-    let counts = counts_of(inst, cycle, set);
+    let counts = counts_of(inst, cycle, set, times.longest);
     if counts.too_long > 0 || counts.stations() > most {
         return true;
     }
-    has_longer_chain(inst, kind, cycle, set, time, most)
+    has_longer_chain(inst, kind, cycle, set, times, most)
 }

@@ -1,10 +1,12 @@
 //! The stations that what is before and after a task needs.
-ghost use Rattle.std.specs.Prelude.{◌≡◌, ◌≤◌, ◌<◌, ◌+◌, ◌-◌, ◌↔◌, max, IsTrue, IsNone, IfSome};
+ghost use Rattle.std.specs.Prelude.{◌≡◌, ◌≤◌, ◌<◌, ◌+◌, ◌-◌, ◌*◌, ◌↔◌, max, IsTrue, IsNone, IfSome};
 ghost use Rattle.task_set.specs.Truths.{In};
 ghost use Rattle.line_instance.specs.Line.{IsTaskSet, has};
 ghost use Rattle.line_instance.specs.Sums.{sum_where};
 ghost use Rattle.line_rules.specs.Bounds.{head, tail, chained};
+ghost use Rattle.lower_bounds.specs.Times.{longest_of};
 
+use crate::sizes::{Times, times_in};
 use line_instance::Instance;
 use line_rules::LineKind;
 use task_set::TaskSet;
@@ -28,13 +30,21 @@ pub(crate) fn sum_up_to(inst: &Instance, set: &TaskSet, limit: u64) -> Option<u6
     Some(sum)
 }
 
+/// A time from which on a head and a tail together may need more than `most` stations: two more than so many cycles.
+fn enough(cycle: u64, most: u64) -> u128
+    requires { cycle ≤ 1000000000000000000 }
+    ensures { result ≡ most * cycle + 2 }
+{
+    u128::from(most) * u128::from(cycle) + 2
+}
+
 /// The stations that the head and the tail of task `j` of a set need, its own counted once, where they are more than `least`. The
-/// set's total time is `time`.
-fn around(inst: &Instance, cycle: u64, set: &TaskSet, time: u64, least: u64, j: u32) -> Option<u64>
+/// set's total time is `total`.
+fn around(inst: &Instance, cycle: u64, set: &TaskSet, total: u64, least: u64, j: u32) -> Option<u64>
     requires set { IsTaskSet inst.now set.now }
     requires some { 1 ≤ cycle }
     requires limit { cycle ≤ 1000000000000000000 }
-    requires time { time ≡ sum_where (has set.now) inst.now.times }
+    requires total { total ≡ sum_where (has set.now) inst.now.times }
     requires member { In set.now j }
     ensures none { IsNone result → head inst.now cycle set.now j + tail inst.now cycle set.now j - 1 ≤ least }
     ensures some { IfSome result (λ r. r ≡ head inst.now cycle set.now j + tail inst.now cycle set.now j - 1) }
@@ -44,15 +54,14 @@ fn around(inst: &Instance, cycle: u64, set: &TaskSet, time: u64, least: u64, j: 
     let own = inst.time(j);
     let before = inst.before(j);
     let after = inst.after(j);
-    // The head and the tail need at most `least` stations where they sum to less than this.
-    let enough = u128::from(least) * u128::from(cycle) + 2;
-    let most = time + own;
+    let most = total + own;
+    let enough = enough(cycle, least);
     if u128::from(most) < enough {
         return None;
     }
     let elsewhere = set.minus(before).minus(after).without(j);
     let apart = sum_up_to(inst, &elsewhere, most - enough as u64)?;
-    let head = inst.sum(&set.meet(before)) + own;
+    let head = times_in(inst, &set.meet(before)).total + own;
     let tail = most - apart - head;
     let stations = head.div_ceil(cycle) + tail.div_ceil(cycle) - 1;
     if stations > least {
@@ -63,56 +72,70 @@ fn around(inst: &Instance, cycle: u64, set: &TaskSet, time: u64, least: u64, j: 
 }
 
 /// The greater of `least` and the most stations that the head and the tail of a task of a set need, which is `least` on a U-line. The
-/// set's total time is `time`.
+/// times are those of the set.
 pub(crate) fn longest_chain(
     inst: &Instance,
     kind: LineKind,
     cycle: u64,
     set: &TaskSet,
-    time: u64,
+    times: Times,
     least: u64,
 ) -> u64
     requires set { IsTaskSet inst.now set.now }
     requires some { 1 ≤ cycle }
     requires limit { cycle ≤ 1000000000000000000 }
-    requires time { time ≡ sum_where (has set.now) inst.now.times }
+    requires total { times.total ≡ sum_where (has set.now) inst.now.times }
+    requires longest { times.longest ≡ longest_of inst.now set.now }
+    requires total_limit { times.total ≤ 204800000000000000 }
+    requires longest_limit { times.longest ≤ 200000000000000 }
     ensures { result ≡ max least (chained kind inst.now cycle set.now) }
 {
+    let _tasks = inst.tasks();
     match kind {
         LineKind::U => return least,
         LineKind::Straight => {}
     }
+    if u128::from(times.total + times.longest) < enough(cycle, least) {
+        return least;
+    }
     let mut longest = least;
     for j in set {
-        if let Some(stations) = around(inst, cycle, set, time, longest, j) {
+        if let Some(stations) = around(inst, cycle, set, times.total, longest, j) {
             longest = stations;
         }
     }
     longest
 }
 
-/// Whether the head and the tail of a task of a set need more than `most` stations, which no task does on a U-line. The set's total time
-/// is `time`.
+/// Whether the head and the tail of a task of a set need more than `most` stations, which no task does on a U-line. The times are those
+/// of the set.
 pub(crate) fn has_longer_chain(
     inst: &Instance,
     kind: LineKind,
     cycle: u64,
     set: &TaskSet,
-    time: u64,
+    times: Times,
     most: u64,
 ) -> bool
     requires set { IsTaskSet inst.now set.now }
     requires some { 1 ≤ cycle }
     requires limit { cycle ≤ 1000000000000000000 }
-    requires time { time ≡ sum_where (has set.now) inst.now.times }
+    requires total { times.total ≡ sum_where (has set.now) inst.now.times }
+    requires longest { times.longest ≡ longest_of inst.now set.now }
+    requires total_limit { times.total ≤ 204800000000000000 }
+    requires longest_limit { times.longest ≤ 200000000000000 }
     ensures { IsTrue result ↔ most < chained kind inst.now cycle set.now }
 {
+    let _tasks = inst.tasks();
     match kind {
         LineKind::U => return false,
         LineKind::Straight => {}
     }
+    if u128::from(times.total + times.longest) < enough(cycle, most) {
+        return false;
+    }
     for j in set {
-        if around(inst, cycle, set, time, most, j).is_some() {
+        if around(inst, cycle, set, times.total, most, j).is_some() {
             return true;
         }
     }

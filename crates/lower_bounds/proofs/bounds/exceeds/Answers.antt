@@ -22,7 +22,7 @@ returns-then-most-eq0 c = (
     | then-most-eq0-via-then-most-eq0 w ↦
         omega (arith, w.if-most-eq0.true, at_least_one c.args.kind c.args.inst.now c.args.cycle c.args.set.now (λ h. false≢true (sym c.if-is_empty.false ∙ c.is_empty.ensures.1 h)))
     | then-most-eq0-via-else-most-eq0+then-div_ceil-most w ↦
-        let time = time_part c.args.inst.now c.args.cycle c.args.set.now c.sum-time.result w.div_ceil.result c.requires.some c.sum-time.ensures.sum w.div_ceil.ensures in
+        let time = time_part c.args.inst.now c.args.cycle c.args.set.now c.times_in-times.result.total w.div_ceil.result c.requires.some c.times_in-times.ensures.total w.div_ceil.ensures in
         below_bound c.args.kind c.args.inst.now c.args.cycle c.args.set.now (λ h. false≢true (sym c.if-is_empty.false ∙ c.is_empty.ensures.1 h)) c.args.most (omega (arith, c.if-most-ge-TOO_LONG.false))
         (λ _. omega (arith, time, w.if-div_ceil-most.true))
   ],
@@ -46,7 +46,7 @@ returns-then-counts-gt0 c =
 pub returns : goal.returns
 returns c =
     let k = c.counts_of-counts.ensures in
-    let time = time_part c.args.inst.now c.args.cycle c.args.set.now c.sum-time.result c.div_ceil.result c.requires.some c.sum-time.ensures.sum c.div_ceil.ensures in
+    let time = time_part c.args.inst.now c.args.cycle c.args.set.now c.times_in-times.result.total c.div_ceil.result c.requires.some c.times_in-times.ensures.total c.div_ceil.ensures in
     let counts = count_parts c.args.inst.now c.args.cycle c.args.set.now c.counts_of-counts.result.above_half c.counts_of-counts.result.at_half c.counts_of-counts.result.sixths c.stations.result k.above_half k.at_half k.sixths c.stations.ensures in
     let parts = parts_bound c.args.kind c.args.inst.now c.args.cycle c.args.set.now (λ h. false≢true (sym c.if-is_empty.false ∙ c.is_empty.ensures.1 h)) (omega (arith, c.if-counts-gt0.false, k.too_long)) in (
       λ e. omega (arith, parts, c.from-most.ensures, c.has_longer_chain.ensures.0 e),

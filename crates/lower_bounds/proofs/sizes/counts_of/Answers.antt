@@ -1,7 +1,7 @@
-use Rattle.std.proofs.Common.{◌*◌, nat_eq, nat_lt, arith}
+use Rattle.std.proofs.Common.{◌*◌, nat_eq, nat_lt, sym, arith}
 use Rattle.line_instance.specs.Line.{has}
 use Rattle.lower_bounds.proofs.Picked.{weight_start, all_in_start}
-use Rattle.lower_bounds.proofs.Shares.{one_more, count_most, sixths_most}
+use Rattle.lower_bounds.proofs.Shares.{one_more, count_most, sixths_most, none_long, none_above, none_half, none_sixths}
 use Rattle.lower_bounds.proofs.sizes.counts_of.Goals as goal
 
 pub loop-i-init : goal.loop-i-init
@@ -44,3 +44,14 @@ returns-clause-most_half c =
 pub returns-clause-most_sixths : goal.returns-clause-most_sixths
 returns-clause-most_sixths c =
     omega (arith, sixths_most c.args.cycle (has c.args.set.now) c.args.inst.now.times, c.loop-i.invariant.sixths)
+
+pub returns-then-longest-cycle : goal.returns-then-longest-cycle
+returns-then-longest-cycle c = record {
+  too_long = sym (none_long c.args.inst.now c.args.set.now c.requires.set c.args.cycle c.args.longest c.requires.longest c.if-longest-cycle.true);
+  above_half = sym (none_above c.args.inst.now c.args.set.now c.requires.set c.args.cycle c.args.longest c.requires.longest c.if-longest-cycle.true);
+  at_half = sym (none_half c.args.inst.now c.args.set.now c.requires.set c.args.cycle c.args.longest c.requires.longest c.if-longest-cycle.true);
+  sixths = sym (none_sixths c.args.inst.now c.args.set.now c.requires.set c.args.cycle c.args.longest c.requires.longest c.if-longest-cycle.true);
+  most_halves = omega arith;
+  most_half = omega arith;
+  most_sixths = omega arith;
+}
