@@ -1,17 +1,17 @@
 -- The head and the tail of a task part the other tasks of its set.
-use Rattle.std.proofs.Common.{◌≡◌, ℕ, ◌+◌, ◌-◌, ◌*◌, ◌/◌, ◌<◌, ◌≤◌, ◌↔◌, max, Bool, true, false, cond, ◌&&◌, ◌||◌, not, nat_eq, List, length, get_or, set, refl, sym, ap, ◌∙◌, subst, inl, inr, arith}
-use Rattle.std.proofs.lemmas.Bool.{false≢true, cases_Bool, cases_lt, and_parts, and_from, or_cases, eqb-true, eq-eqb, not-true}
+use Rattle.std.proofs.Common.{◌≡◌, ◌≢◌, ℕ, ◌+◌, ◌-◌, ◌*◌, ◌/◌, ◌<◌, ◌≤◌, ◌↔◌, max, Bool, true, false, cond, ◌&&◌, ◌||◌, not, nat_eq, List, length, get_or, set, refl, sym, ap, ◌∙◌, subst, inl, inr, arith}
+use Rattle.std.proofs.lemmas.Bool.{false≢true, cases_Bool, cases_lt, and_parts, and_from, or_cases, eqb-true, eq-eqb}
 use Rattle.std.proofs.Math.Nat.{mul-le-mul_right, div-le_self}
 use Rattle.std.specs.Int.{div_ceil}
 use Rattle.task_set.specs.Truths.{In, meet, minus, members_of}
 use Rattle.task_set.proofs.Members.{In-meet, In-meet_parts, In-minus, In-minus_parts, In-clear, In-clear_kept, In-clear_gone, keep, In-keep, In-keep_parts}
 use Rattle.line_instance.specs.Line.{Line, IsLine, IsTaskSet, Before, has, is_before, tasks, time}
 use Rattle.line_instance.specs.Sums.{sum_where}
-use Rattle.line_instance.proofs.Sums.{weigh-split, weigh-more, weigh-same, same_truth}
+use Rattle.line_instance.proofs.Sums.{weigh-split, weigh-more, weigh-same, weigh-one, same_truth}
 use Rattle.line_rules.specs.Bounds.{up, head, tail, chained}
 use Rattle.line_rules.specs.declared.types.LineKind.{LineKind}
 use Rattle.line_rules.specs.declared.types.LineKind.TheVariants.{Straight, U}
-use Rattle.lower_bounds.specs.Times.{longest_of}
+use Rattle.lower_bounds.specs.Times.{longest_of, time_elsewhere}
 use Rattle.lower_bounds.proofs.Picked.{greatest_of, greatest_listed, below_least, picked_le}
 use Rattle.lower_bounds.proofs.Shares.{longest_least}
 
@@ -43,12 +43,27 @@ or_right : (a b : Bool) → b ≡ true → (a || b) ≡ true
 or_right true b e = refl
 or_right false b e = e
 
+nots : (e b a : Bool) → e ≡ false → b ≡ false → a ≡ false → not (e || (b || a)) ≡ true
+nots e b a p q r = ap (λ x. not (x || (b || a))) p ∙ ap (λ x. not (x || a)) q ∙ ap not r
+
+nots_parts : (e b a : Bool) → not (e || (b || a)) ≡ true → (e ≡ false) × (b ≡ false) × (a ≡ false)
+nots_parts true b a h = absurd (false≢true h)
+nots_parts false true a h = absurd (false≢true h)
+nots_parts false false true h = absurd (false≢true h)
+nots_parts false false false h = (refl, refl, refl)
+
+-- one test that leaves out e, b and a, and one that leaves out b and a, where e is not so
+others : (r b a e : Bool) → e ≡ false → ((r && not b) && not a) ≡ (r && not (e || (b || a)))
+others true true a e p = ap (λ x. not (x || (true || a))) (sym p)
+others true false a e p = ap (λ x. not (x || (false || a))) (sym p)
+others false b a e p = refl
+
+itself : (r e x : Bool) → e ≡ true → (r && not (e || x)) ≡ false
+itself true e x p = ap (λ y. not (y || x)) p
+itself false e x p = refl
+
 module _ (line : Line) (ok : IsLine line) (R : List Bool) (tasks_of : IsTaskSet line R) (j : ℕ) (member : In R j) (before after : List Bool)
     (before_is : (i : ℕ) → In R i → In before i ↔ Before line i j) (after_is : (i : ℕ) → In R i → In after i ↔ Before line j i) where
-  -- what is neither before nor after j, without j
-  abbrev pub elsewhere : List Bool
-  elsewhere = set (minus (minus R before) after) j false
-
   not_before : (i : ℕ) → Before line i i → ⊥
   not_before i = ok.not_itself i
 
@@ -88,79 +103,99 @@ module _ (line : Line) (ok : IsLine line) (R : List Bool) (tasks_of : IsTaskSet 
       let n : is_before line i j ≡ false = never (is_before line i j) (λ b. not_before i (ok.leads_on i j i b behind)) in
       and_from (has R i && not (is_before line i j)) (is_before line j i) (and_from (has R i) (not (is_before line i j)) q.0 (ap not n)) behind)) line.times
 
-  elsewhere_met : sum_where (λ i. (has R i && not (is_before line i j)) && not (is_before line j i)) line.times ≡ sum_where (has elsewhere) line.times + time line j
-  elsewhere_met =
-      let others : List Bool = minus (minus R before) after in
-      let gone : has (set others j false) j ≡ false = never (has (set others j false) j) (In-clear_gone others j) in
-      let out : (i : ℕ) → In R i → (Before line i j → ⊥) → (Before line j i → ⊥) → ((has R i && not (is_before line i j)) && not (is_before line j i)) ≡ true =
-      λ i m b a. and_from (has R i && not (is_before line i j)) (not (is_before line j i)) (and_from (has R i) (not (is_before line i j)) m (ap not (never (is_before line i j) b))) (ap not (never (is_before line j i) a)) in
-      let same : (i : ℕ) → (i ≡ j → ⊥) → ((has R i && not (is_before line i j)) && not (is_before line j i)) ≡ has (set others j false) i =
-      λ i n. same_truth ((has R i && not (is_before line i j)) && not (is_before line j i)) (has (set others j false) i)
-      (λ e. let q : ((has R i && not (is_before line i j)) ≡ true) × (not (is_before line j i) ≡ true) = and_parts (has R i && not (is_before line i j)) (not (is_before line j i)) e in
-      let p : (has R i ≡ true) × (not (is_before line i j) ≡ true) = and_parts (has R i) (not (is_before line i j)) q.0 in
-      let b : get_or before i false ≡ false = never (get_or before i false) (λ m. false≢true (sym (not-true (is_before line i j) p.1) ∙ (before_is i p.0).0 m)) in
-      let a : get_or after i false ≡ false = never (get_or after i false) (λ m. false≢true (sym (not-true (is_before line j i) q.1) ∙ (after_is i p.0).0 m)) in
-      In-clear others j i (In-minus (minus R before) after i (In-minus R before i p.0 b) a) n)
-      (λ m. let q : In (minus R before) i × (get_or after i false ≡ false) = In-minus_parts (minus R before) after i (In-clear_kept others j i m) in
-      let p : In R i × (get_or before i false ≡ false) = In-minus_parts R before i q.0 in
-      out i p.0 (λ b. false≢true (sym p.1 ∙ (before_is i p.0).1 b)) (λ a. false≢true (sym q.1 ∙ (after_is i p.0).1 a))) in
+  -- what is left of R, with j
+  left_met : sum_where (λ i. (has R i && not (is_before line i j)) && not (is_before line j i)) line.times ≡ time_elsewhere line R j + time line j
+  unfolding time_elsewhere
+  left_met =
+      let picks : ℕ → Bool = λ i. has R i && not (nat_eq i j || (is_before line i j || is_before line j i)) in
+      let here : ((has R j && not (is_before line j j)) && not (is_before line j j)) ≡ true =
+      and_from (has R j && not (is_before line j j)) (not (is_before line j j)) (and_from (has R j) (not (is_before line j j)) member (ap not (never (is_before line j j) (not_before j))))
+      (ap not (never (is_before line j j) (not_before j))) in
       omega (
         arith,
-        picked ((has R j && not (is_before line j j)) && not (is_before line j j)) (time line j) (out j member (not_before j) (not_before j)),
-        weigh-more (λ t. t) (λ i. (has R i && not (is_before line i j)) && not (is_before line j i)) (has (set others j false)) j gone same line.times (tasks_of.tasks j member),
+        picked ((has R j && not (is_before line j j)) && not (is_before line j j)) (time line j) here,
+        weigh-more (λ t. t) (λ i. (has R i && not (is_before line i j)) && not (is_before line j i)) picks j (itself (has R j) (nat_eq j j) (is_before line j j || is_before line j j) (eq-eqb j j refl))
+            (λ i n. others (has R i) (is_before line i j) (is_before line j i) (nat_eq i j) (never (nat_eq i j) (λ e. n (eqb-true i j e)))) line.times (tasks_of.tasks j member),
       )
 
   -- the tasks of R are those before j, those after j, j, and those elsewhere
-  pub parts : sum_where (has R) line.times + time line j
-      ≡ sum_where (λ i. has R i && (nat_eq i j || is_before line i j)) line.times + sum_where (λ i. has R i && (nat_eq i j || is_before line j i)) line.times + sum_where (has elsewhere) line.times
+  parts : sum_where (has R) line.times + time line j
+      ≡ sum_where (λ i. has R i && (nat_eq i j || is_before line i j)) line.times + sum_where (λ i. has R i && (nat_eq i j || is_before line j i)) line.times + time_elsewhere line R j
   parts = omega (
     arith,
     head_sum,
     tail_sum,
     before_met,
     after_met,
-    elsewhere_met,
+    left_met,
     weigh-split (λ t. t) (has R) (λ i. is_before line i j) line.times,
     weigh-split (λ t. t) (λ i. has R i && not (is_before line i j)) (λ i. is_before line j i) line.times,
   )
 
   -- where the tasks elsewhere take the time that would make the difference, the head and the tail need at most r stations
-  pub few_around : (c r : ℕ) → 1 ≤ c → sum_where (has R) line.times + time line j < r * c + 2 + sum_where (has elsewhere) line.times → head line c R j + tail line c R j - 1 ≤ r
+  pub few_around : (c r : ℕ) → 1 ≤ c → sum_where (has R) line.times + time line j < r * c + 2 + time_elsewhere line R j → head line c R j + tail line c R j - 1 ≤ r
   unfolding head tail
   few_around c r o l =
       up_pair c (sum_where (λ i. has R i && (nat_eq i j || is_before line i j)) line.times) (sum_where (λ i. has R i && (nat_eq i j || is_before line j i)) line.times) r o (omega (arith, parts, l))
 
-  -- the tasks before j in R, and those elsewhere
+  -- the tasks before j in R
   pub met_set : (s : List Bool) → s ≡ meet R before → length s ≡ 1024 → IsTaskSet line s
   met_set s e l = record { truths = l; tasks = λ i m. let P : List Bool → Type 0 = λ q. In q i in tasks_of.tasks i (In-meet_parts R before i (subst P e m)).0 }
 
-  pub elsewhere_set : (s : List Bool) → s ≡ elsewhere → length s ≡ 1024 → IsTaskSet line s
-  elsewhere_set s e l = record {
-    truths = l;
-    tasks = λ i m.
+  -- those elsewhere, as a set
+  module _ (s : List Bool) (is : s ≡ set (minus (minus R before) after) j false) where
+    -- what is in it
+    pub elsewhere_parts : (i : ℕ) → In s i → In R i × (i ≢ j) × (is_before line i j ≡ false) × (is_before line j i ≡ false)
+    elsewhere_parts i m =
         let P : List Bool → Type 0 = λ q. In q i in
-        tasks_of.tasks i (In-minus_parts R before i (In-minus_parts (minus R before) after i (In-clear_kept (minus (minus R before) after) j i (subst P e m))).0).0;
-  }
+        let k : In (set (minus (minus R before) after) j false) i = subst P is m in
+        let q : In (minus R before) i × (get_or after i false ≡ false) = In-minus_parts (minus R before) after i (In-clear_kept (minus (minus R before) after) j i k) in
+        let p : In R i × (get_or before i false ≡ false) = In-minus_parts R before i q.0 in (
+          p.0,
+          λ e. let Q : ℕ → Type 0 = λ n. In (set (minus (minus R before) after) j false) n in In-clear_gone (minus (minus R before) after) j (subst Q e k),
+          never (is_before line i j) (λ b. false≢true (sym p.1 ∙ (before_is i p.0).1 b)),
+          never (is_before line j i) (λ a. false≢true (sym q.1 ∙ (after_is i p.0).1 a)),
+        )
 
-  -- what is summed, of sets that are known to be these
-  module _ (met others : List Bool) (met_is : met ≡ meet R before) (others_are : others ≡ elsewhere) (h s : ℕ) (h_is : h ≡ sum_where (has met) line.times + time line j)
-      (s_is : s ≡ sum_where (has others) line.times) where
+    pub elsewhere_set : length s ≡ 1024 → IsTaskSet line s
+    elsewhere_set l = record { truths = l; tasks = λ i m. tasks_of.tasks i (elsewhere_parts i m).0 }
+
+    pub elsewhere_sum : sum_where (has s) line.times ≡ time_elsewhere line R j
+    unfolding time_elsewhere
+    elsewhere_sum = weigh-same (λ t. t) (has s) (λ i. has R i && not (nat_eq i j || (is_before line i j || is_before line j i)))
+        (λ i. same_truth (has s i) (has R i && not (nat_eq i j || (is_before line i j || is_before line j i)))
+        (λ m. let p : In R i × (i ≢ j) × (is_before line i j ≡ false) × (is_before line j i ≡ false) = elsewhere_parts i m in
+        and_from (has R i) (not (nat_eq i j || (is_before line i j || is_before line j i))) p.0 (nots (nat_eq i j) (is_before line i j) (is_before line j i) (never (nat_eq i j) (λ e. p.1 (eqb-true i j e))) p.2 p.3))
+        (λ e. let q : (has R i ≡ true) × (not (nat_eq i j || (is_before line i j || is_before line j i)) ≡ true) = and_parts (has R i) (not (nat_eq i j || (is_before line i j || is_before line j i))) e in
+        let n : (nat_eq i j ≡ false) × (is_before line i j ≡ false) × (is_before line j i ≡ false) = nots_parts (nat_eq i j) (is_before line i j) (is_before line j i) q.1 in
+        let P : List Bool → Type 0 = λ q. In q i in
+        subst P (sym is) (In-clear (minus (minus R before) after) j i
+        (In-minus (minus R before) after i (In-minus R before i q.0 (never (get_or before i false) (λ m. false≢true (sym n.1 ∙ (before_is i q.0).0 m)))) (never (get_or after i false) (λ m. false≢true (sym n.2 ∙ (after_is i q.0).0 m))))
+        (λ d. false≢true (sym n.0 ∙ eq-eqb i j d)))))
+        line.times
+
+  -- one of those elsewhere takes no more time than all of them
+  pub one_elsewhere : (i : ℕ) → In R i → i ≢ j → get_or before i false ≡ false → get_or after i false ≡ false → time line i ≤ time_elsewhere line R j
+  unfolding time_elsewhere
+  one_elsewhere i m d b a = weigh-one (λ t. t) (λ k. has R k && not (nat_eq k j || (is_before line k j || is_before line j k))) i line.times (tasks_of.tasks i m)
+      (and_from (has R i) (not (nat_eq i j || (is_before line i j || is_before line j i))) m
+      (nots (nat_eq i j) (is_before line i j) (is_before line j i) (never (nat_eq i j) (λ e. d (eqb-true i j e)))
+      (never (is_before line i j) (λ w. false≢true (sym b ∙ (before_is i m).1 w))) (never (is_before line j i) (λ w. false≢true (sym a ∙ (after_is i m).1 w)))))
+
+  -- the times before j and elsewhere leave that of j and what is after it
+  module _ (met : List Bool) (met_is : met ≡ meet R before) (h : ℕ) (h_is : h ≡ sum_where (has met) line.times + time line j) where
     before_time : h ≡ sum_where (has (meet R before)) line.times + time line j
     before_time = h_is ∙ ap (λ q. sum_where (has q) line.times + time line j) met_is
 
-    elsewhere_time : s ≡ sum_where (has elsewhere) line.times
-    elsewhere_time = s_is ∙ ap (λ q. sum_where (has q) line.times) others_are
-
-    -- the times before j and elsewhere leave that of j and what is after it
-    pub room_left : h ≤ sum_where (has R) line.times + time line j - s
-    room_left = omega (arith, before_time, elsewhere_time, head_sum, parts)
+    pub room_left : h ≤ sum_where (has R) line.times + time line j - time_elsewhere line R j
+    room_left = omega (arith, before_time, head_sum, parts)
 
     -- the head and the tail
-    pub around_is : (c t : ℕ) → 1 ≤ c → t ≡ sum_where (has R) line.times + time line j - s - h → div_ceil h c + div_ceil t c - 1 ≡ head line c R j + tail line c R j - 1
+    pub around_is : (c t : ℕ) → 1 ≤ c → t ≡ sum_where (has R) line.times + time line j - time_elsewhere line R j - h → div_ceil h c + div_ceil t c - 1 ≡ head line c R j + tail line c R j - 1
     unfolding head tail
     around_is c t o g =
         let x : div_ceil h c ≡ up (sum_where (λ i. has R i && (nat_eq i j || is_before line i j)) line.times) c = up_ceil h c o ∙ ap (λ x. up x c) (omega (arith, before_time, head_sum)) in
-        let y : div_ceil t c ≡ up (sum_where (λ i. has R i && (nat_eq i j || is_before line j i)) line.times) c = up_ceil t c o ∙ ap (λ x. up x c) (omega (arith, before_time, elsewhere_time, g, head_sum, parts)) in
+        let y : div_ceil t c ≡ up (sum_where (λ i. has R i && (nat_eq i j || is_before line j i)) line.times) c = up_ceil t c o ∙ ap (λ x. up x c) (omega (arith, before_time, g, head_sum, parts)) in
         ap (λ n. n + div_ceil t c - 1) x ∙ ap (λ n. up (sum_where (λ i. has R i && (nat_eq i j || is_before line i j)) line.times) c + n - 1) y
 
 -- what a walk over the members starts with
@@ -176,6 +211,25 @@ pub no_chain : (kind : LineKind) → kind ≡ U → (line : Line) (c : ℕ) (R :
 unfolding chained
 no_chain kind u line c R = ap (λ k. chained k line c R) u
 
+-- the same, where what is after j is not at hand as a set
+module _ (line : Line) (ok : IsLine line) (R : List Bool) (tasks_of : IsTaskSet line R) (j : ℕ) (member : In R j) where
+  picked_out : (p : ℕ → Bool) (i : ℕ) → In R i → In (keep p R) i ↔ (p i ≡ true)
+  picked_out p i m = (λ k. (In-keep_parts p R i k).1, λ e. In-keep p R i m e)
+
+  pub few_beside : (c r : ℕ) → 1 ≤ c → sum_where (has R) line.times + time line j < r * c + 2 + time_elsewhere line R j → head line c R j + tail line c R j - 1 ≤ r
+  few_beside = few_around line ok R tasks_of j member (keep (λ i. is_before line i j) R) (keep (λ i. is_before line j i) R) (picked_out (λ i. is_before line i j)) (picked_out (λ i. is_before line j i))
+
+  module _ (before : List Bool) (before_is : (i : ℕ) → In before i ↔ Before line i j) (met : List Bool) (met_is : met ≡ meet R before) where
+    pub beside_set : length met ≡ 1024 → IsTaskSet line met
+    beside_set = met_set line ok R tasks_of j member before (keep (λ i. is_before line j i) R) (λ i _. before_is i) (picked_out (λ i. is_before line j i)) met met_is
+
+    module _ (h : ℕ) (h_is : h ≡ sum_where (has met) line.times + time line j) where
+      pub room_beside : h ≤ sum_where (has R) line.times + time line j - time_elsewhere line R j
+      room_beside = room_left line ok R tasks_of j member before (keep (λ i. is_before line j i) R) (λ i _. before_is i) (picked_out (λ i. is_before line j i)) met met_is h h_is
+
+      pub beside_is : (c t : ℕ) → 1 ≤ c → t ≡ sum_where (has R) line.times + time line j - time_elsewhere line R j - h → div_ceil h c + div_ceil t c - 1 ≡ head line c R j + tail line c R j - 1
+      beside_is = around_is line ok R tasks_of j member before (keep (λ i. is_before line j i) R) (λ i _. before_is i) (picked_out (λ i. is_before line j i)) met met_is h h_is
+
 -- where even the longest task can't make the difference, no head and tail need more than r stations
 pub few_chained : (kind : LineKind) (line : Line) → IsLine line → (c : ℕ) → 1 ≤ c → (R : List Bool) → IsTaskSet line R → (r total longest : ℕ) → total ≡ sum_where (has R) line.times
     → longest ≡ longest_of line R → total + longest < r * c + 2 → chained kind line c R ≤ r
@@ -183,8 +237,4 @@ unfolding chained
 few_chained U line ok c o R set r total longest e f l = omega arith
 few_chained Straight line ok c o R set r total longest e f l =
     below_least (tasks line) (λ j. cond (has R j) (head line c R j + tail line c R j - 1) 0) r
-    (λ j. picked_le (has R j) (head line c R j + tail line c R j - 1) r
-    (λ m. few_around line ok R set j m (keep (λ i. is_before line i j) R) (keep (λ i. is_before line j i) R)
-    (λ i n. (λ k. (In-keep_parts (λ i. is_before line i j) R i k).1, λ b. In-keep (λ i. is_before line i j) R i n b))
-    (λ i n. (λ k. (In-keep_parts (λ i. is_before line j i) R i k).1, λ b. In-keep (λ i. is_before line j i) R i n b))
-    c r o (omega (arith, e, f, l, longest_least line R set j m))))
+    (λ j. picked_le (has R j) (head line c R j + tail line c R j - 1) r (λ m. few_beside line ok R set j m c r o (omega (arith, e, f, l, longest_least line R set j m))))

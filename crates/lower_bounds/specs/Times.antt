@@ -1,8 +1,13 @@
 -- The times of a set of tasks.
-use Rattle.std.specs.Prelude.{ℕ, Bool, cond, List}
-use Rattle.line_instance.specs.Line.{Line, has, tasks, time}
+use Rattle.std.specs.Prelude.{ℕ, Bool, cond, ◌&&◌, ◌||◌, not, nat_eq, List}
+use Rattle.line_instance.specs.Line.{Line, has, is_before, tasks, time}
+use Rattle.line_instance.specs.Sums.{sum_where}
 use Rattle.line_rules.specs.Bounds.{greatest_below}
 
 -- the greatest time of a task of R, 0 where there is none
 unfoldable pub longest_of : Line → List Bool → ℕ
 longest_of line R = greatest_below (tasks line) (λ i. cond (has R i) (time line i) 0)
+
+-- the times of the tasks of R that are neither before nor after j, without j
+unfoldable pub time_elsewhere : Line → List Bool → ℕ → ℕ
+time_elsewhere line R j = sum_where (λ i. has R i && not (nat_eq i j || (is_before line i j || is_before line j i))) line.times

@@ -1,33 +1,73 @@
 //! The stations that what is before and after a task needs.
-ghost use Rattle.std.specs.Prelude.{◌≡◌, ◌≤◌, ◌<◌, ◌+◌, ◌-◌, ◌*◌, ◌↔◌, max, IsTrue, IsNone, IfSome};
+ghost use Rattle.std.specs.Prelude.{◌≡◌, ◌≤◌, ◌<◌, ◌+◌, ◌-◌, ◌*◌, ◌↔◌, max, IsTrue, IsNone, IfSome, IfOk, IfErr};
 ghost use Rattle.task_set.specs.Truths.{In};
-ghost use Rattle.line_instance.specs.Line.{IsTaskSet, has};
+ghost use Rattle.line_instance.specs.Line.{IsTaskSet, has, tasks};
 ghost use Rattle.line_instance.specs.Sums.{sum_where};
 ghost use Rattle.line_rules.specs.Bounds.{head, tail, chained};
-ghost use Rattle.lower_bounds.specs.Times.{longest_of};
+ghost use Rattle.lower_bounds.specs.Times.{longest_of, time_elsewhere};
 
 use crate::sizes::{Times, times_in};
 use line_instance::Instance;
 use line_rules::LineKind;
 use task_set::TaskSet;
 
-/// The total time of a set of tasks, where it is at most `limit`.
-pub(crate) fn sum_up_to(inst: &Instance, set: &TaskSet, limit: u64) -> Option<u64>
+/// The total time of a set of tasks, where it is at most `limit`; otherwise a task with which it is more.
+fn sum_up_to(inst: &Instance, set: &TaskSet, limit: u64) -> Result<u64, u32>
     requires { IsTaskSet inst.now set.now }
-    ensures none { IsNone result → limit < sum_where (has set.now) inst.now.times }
-    ensures some { IfSome result (λ s. s ≡ sum_where (has set.now) inst.now.times) }
-    ensures within { IfSome result (λ s. s ≤ limit) }
-    ensures most { IfSome result (λ s. s ≤ 204800000000000000) }
+    ensures more { IfErr result (λ i. limit < sum_where (has set.now) inst.now.times) }
+    ensures task { IfErr result (λ i. i < tasks inst.now) }
+    ensures sum { IfOk result (λ s. s ≡ sum_where (has set.now) inst.now.times) }
+    ensures within { IfOk result (λ s. s ≤ limit) }
 {
     let _tasks = inst.tasks();
     let mut sum = 0;
     for i in set {
         sum += inst.time(i);
         if sum > limit {
-            return None;
+            return Err(i);
         }
     }
-    Some(sum)
+    Ok(sum)
+}
+
+/// The times of the tasks of a set that are neither before nor after task `j`, without `j`, where they are at most `limit` together.
+/// The `witness` is a task that is tried first, and becomes one that may serve the next time.
+fn time_elsewhere(
+    inst: &Instance,
+    set: &TaskSet,
+    j: u32,
+    limit: u64,
+    witness: &mut u32,
+) -> Option<u64>
+    requires set { IsTaskSet inst.now set.now }
+    requires member { In set.now j }
+    requires witness { witness.old < tasks inst.now }
+    ensures none { IsNone result → limit < time_elsewhere inst.now set.now j }
+    ensures some { IfSome result (λ s. s ≡ time_elsewhere inst.now set.now j) }
+    ensures within { IfSome result (λ s. s ≤ limit) }
+    ensures witness { witness.new < tasks inst.now }
+{
+    let _tasks = inst.tasks();
+    let tried = *witness;
+    let before = inst.before(j);
+    let after = inst.after(j);
+    if set.has(tried)
+        && tried != j
+        && !before.has(tried)
+        && !after.has(tried)
+        && inst.time(tried) > limit
+    {
+        return None;
+    }
+    let mut elsewhere = set.minus(before).minus(after);
+    elsewhere.remove(j);
+    match sum_up_to(inst, &elsewhere, limit) {
+        Ok(sum) => Some(sum),
+        Err(i) => {
+            *witness = i;
+            None
+        }
+    }
 }
 
 /// A time from which on a head and a tail together may need more than `most` stations: two more than so many cycles.
@@ -39,28 +79,36 @@ fn enough(cycle: u64, most: u64) -> u128
 }
 
 /// The stations that the head and the tail of task `j` of a set need, its own counted once, where they are more than `least`. The
-/// set's total time is `total`.
-fn around(inst: &Instance, cycle: u64, set: &TaskSet, total: u64, least: u64, j: u32) -> Option<u64>
+/// set's total time is `total`; the `witness` is a task that is tried first to show that they aren't more.
+fn around(
+    inst: &Instance,
+    cycle: u64,
+    set: &TaskSet,
+    total: u64,
+    least: u64,
+    j: u32,
+    witness: &mut u32,
+) -> Option<u64>
     requires set { IsTaskSet inst.now set.now }
     requires some { 1 ≤ cycle }
     requires limit { cycle ≤ 1000000000000000000 }
     requires total { total ≡ sum_where (has set.now) inst.now.times }
     requires member { In set.now j }
+    requires witness { witness.old < tasks inst.now }
     ensures none { IsNone result → head inst.now cycle set.now j + tail inst.now cycle set.now j - 1 ≤ least }
     ensures some { IfSome result (λ r. r ≡ head inst.now cycle set.now j + tail inst.now cycle set.now j - 1) }
     ensures more { IfSome result (λ r. least < r) }
+    ensures witness { witness.new < tasks inst.now }
 {
     let _tasks = inst.tasks();
     let own = inst.time(j);
-    let before = inst.before(j);
-    let after = inst.after(j);
     let most = total + own;
     let enough = enough(cycle, least);
     if u128::from(most) < enough {
         return None;
     }
-    let elsewhere = set.minus(before).minus(after).without(j);
-    let apart = sum_up_to(inst, &elsewhere, most - enough as u64)?;
+    let apart = time_elsewhere(inst, set, j, most - enough as u64, witness)?;
+    let before = inst.before(j);
     let head = times_in(inst, &set.meet(before)).total + own;
     let tail = most - apart - head;
     let stations = head.div_ceil(cycle) + tail.div_ceil(cycle) - 1;
@@ -99,8 +147,9 @@ pub(crate) fn longest_chain(
         return least;
     }
     let mut longest = least;
+    let mut witness = 0;
     for j in set {
-        if let Some(stations) = around(inst, cycle, set, times.total, longest, j) {
+        if let Some(stations) = around(inst, cycle, set, times.total, longest, j, &mut witness) {
             longest = stations;
         }
     }
@@ -134,8 +183,9 @@ pub(crate) fn has_longer_chain(
     if u128::from(times.total + times.longest) < enough(cycle, most) {
         return false;
     }
+    let mut witness = 0;
     for j in set {
-        if around(inst, cycle, set, times.total, most, j).is_some() {
+        if around(inst, cycle, set, times.total, most, j, &mut witness).is_some() {
             return true;
         }
     }

@@ -1,9 +1,7 @@
-use Rattle.std.proofs.Common.{◌≡◌, ◌+◌, ◌-◌, false, set, ap, refl, arith}
-use Rattle.task_set.specs.Truths.{minus}
+use Rattle.std.proofs.Common.{◌+◌, ◌-◌, refl, arith}
 use Rattle.line_instance.specs.Line.{has}
-use Rattle.line_instance.specs.Sums.{sum_where}
 use Rattle.line_instance.proofs.Sums.{weigh-most}
-use Rattle.lower_bounds.proofs.Around.{few_around, met_set, elsewhere_set, room_left, around_is, ceil_le}
+use Rattle.lower_bounds.proofs.Around.{few_beside, beside_set, room_beside, beside_is, ceil_le}
 use Rattle.lower_bounds.proofs.chains.around.Goals as goal
 
 pub overflow_add-most : goal.overflow_add-most
@@ -16,32 +14,22 @@ overflow_cast-enough c =
 
 pub returns-then-from-enough-clause-none : goal.returns-then-from-enough-clause-none
 returns-then-from-enough-clause-none c = λ _.
-    few_around c.args.inst.now c.tasks-tasks.ensures.line c.args.set.now c.requires.set c.args.j c.requires.member c.before-before.result.now c.after-after.result.now (λ i _. c.before-before.ensures.members i) (λ i _. c.after-after.ensures.members i)
+    few_beside c.args.inst.now c.tasks-tasks.ensures.line c.args.set.now c.requires.set c.args.j c.requires.member
     c.args.cycle c.args.least c.requires.some (omega (arith, c.enough-enough.ensures, c.from.ensures, c.if-from-enough.true))
-
-pub sum_up_to-requires : goal.sum_up_to-requires
-sum_up_to-requires c =
-    elsewhere_set c.args.inst.now c.tasks-tasks.ensures.line c.args.set.now c.requires.set c.args.j c.requires.member c.before-before.result.now c.after-after.result.now (λ i _. c.before-before.ensures.members i) (λ i _. c.after-after.ensures.members i)
-    c.without-elsewhere.result (cc (c.without-elsewhere.ensures.value, c.minus-2.ensures.value, c.minus.ensures.value)) c.without-elsewhere.ensures.truths
 
 pub returns-in_err-apart-clause-none : goal.returns-in_err-apart-clause-none
 returns-in_err-apart-clause-none c = λ _.
-    let e : c.without-elsewhere.result ≡ set (minus (minus c.args.set.now c.before-before.result.now) c.after-after.result.now) c.args.j false =
-    cc (c.without-elsewhere.ensures.value, c.minus-2.ensures.value, c.minus.ensures.value) in
-    few_around c.args.inst.now c.tasks-tasks.ensures.line c.args.set.now c.requires.set c.args.j c.requires.member c.before-before.result.now c.after-after.result.now (λ i _. c.before-before.ensures.members i) (λ i _. c.after-after.ensures.members i)
-    c.args.cycle c.args.least c.requires.some (omega (arith, ap (λ s. sum_where (has s) c.args.inst.now.times) e, c.enough-enough.ensures, c.from.ensures, c.if-from-enough.false, c.in_err-apart.ensures.none refl))
+    few_beside c.args.inst.now c.tasks-tasks.ensures.line c.args.set.now c.requires.set c.args.j c.requires.member
+    c.args.cycle c.args.least c.requires.some (omega (arith, c.enough-enough.ensures, c.from.ensures, c.if-from-enough.false, c.in_err-apart.ensures.none refl))
 
 pub times_in-requires : goal.times_in-requires
-times_in-requires c =
-    met_set c.args.inst.now c.tasks-tasks.ensures.line c.args.set.now c.requires.set c.args.j c.requires.member c.before-before.result.now c.after-after.result.now (λ i _. c.before-before.ensures.members i) (λ i _. c.after-after.ensures.members i)
-    c.meet.result c.meet.ensures.value c.meet.ensures.truths
+times_in-requires c = beside_set c.args.inst.now c.tasks-tasks.ensures.line c.args.set.now c.requires.set c.args.j c.requires.member c.before-before.result.now c.before-before.ensures.members c.meet.result c.meet.ensures.value c.meet.ensures.truths
 
 pub overflow_sub-tail-2 : goal.overflow_sub-tail-2
 overflow_sub-tail-2 c =
-    let room = room_left c.args.inst.now c.tasks-tasks.ensures.line c.args.set.now c.requires.set c.args.j c.requires.member c.before-before.result.now c.after-after.result.now (λ i _. c.before-before.ensures.members i) (λ i _. c.after-after.ensures.members i)
-    c.meet.result c.without-elsewhere.result c.meet.ensures.value (cc (c.without-elsewhere.ensures.value, c.minus-2.ensures.value, c.minus.ensures.value))
-    (c.times_in.result.total + c.time-own.result) c.in_ok-apart.apart (omega (arith, c.times_in.ensures.total)) c.in_ok-apart.ensures.some in
-    omega (arith, room)
+    let room = room_beside c.args.inst.now c.tasks-tasks.ensures.line c.args.set.now c.requires.set c.args.j c.requires.member c.before-before.result.now c.before-before.ensures.members c.meet.result c.meet.ensures.value
+    (c.times_in.result.total + c.time-own.result) (omega (arith, c.times_in.ensures.total)) in
+    omega (arith, room, c.in_ok-apart.ensures.some)
 
 pub overflow_add-stations : goal.overflow_add-stations
 overflow_add-stations c =
@@ -53,16 +41,14 @@ pub returns-then-stations-least-clause-some : goal.returns-then-stations-least-c
 returns-then-stations-least-clause-some c =
     let h = c.times_in.result.total + c.time-own.result in
     let t = c.args.total + c.time-own.result - c.in_ok-apart.apart - h in
-    let stations = around_is c.args.inst.now c.tasks-tasks.ensures.line c.args.set.now c.requires.set c.args.j c.requires.member c.before-before.result.now c.after-after.result.now (λ i _. c.before-before.ensures.members i) (λ i _. c.after-after.ensures.members i)
-    c.meet.result c.without-elsewhere.result c.meet.ensures.value (cc (c.without-elsewhere.ensures.value, c.minus-2.ensures.value, c.minus.ensures.value))
-    h c.in_ok-apart.apart (omega (arith, c.times_in.ensures.total)) c.in_ok-apart.ensures.some c.args.cycle t c.requires.some (omega arith) in
+    let stations = beside_is c.args.inst.now c.tasks-tasks.ensures.line c.args.set.now c.requires.set c.args.j c.requires.member c.before-before.result.now c.before-before.ensures.members c.meet.result c.meet.ensures.value
+    h (omega (arith, c.times_in.ensures.total)) c.args.cycle t c.requires.some (omega (arith, c.in_ok-apart.ensures.some)) in
     omega (arith, stations, c.div_ceil.ensures, c.div_ceil-2.ensures)
 
 pub returns-else-stations-least-clause-none : goal.returns-else-stations-least-clause-none
 returns-else-stations-least-clause-none c = λ _.
     let h = c.times_in.result.total + c.time-own.result in
     let t = c.args.total + c.time-own.result - c.in_ok-apart.apart - h in
-    let stations = around_is c.args.inst.now c.tasks-tasks.ensures.line c.args.set.now c.requires.set c.args.j c.requires.member c.before-before.result.now c.after-after.result.now (λ i _. c.before-before.ensures.members i) (λ i _. c.after-after.ensures.members i)
-    c.meet.result c.without-elsewhere.result c.meet.ensures.value (cc (c.without-elsewhere.ensures.value, c.minus-2.ensures.value, c.minus.ensures.value))
-    h c.in_ok-apart.apart (omega (arith, c.times_in.ensures.total)) c.in_ok-apart.ensures.some c.args.cycle t c.requires.some (omega arith) in
+    let stations = beside_is c.args.inst.now c.tasks-tasks.ensures.line c.args.set.now c.requires.set c.args.j c.requires.member c.before-before.result.now c.before-before.ensures.members c.meet.result c.meet.ensures.value
+    h (omega (arith, c.times_in.ensures.total)) c.args.cycle t c.requires.some (omega (arith, c.in_ok-apart.ensures.some)) in
     omega (arith, stations, c.div_ceil.ensures, c.div_ceil-2.ensures, c.if-stations-least.false)

@@ -9,7 +9,7 @@ returns-in-U c = (λ e. absurd (cc), λ l. absurd (omega (arith, l, no_chain c.a
 pub loop-j-init : goal.loop-j-init
 loop-j-init c =
     let e = c.into_iter-j-iterator.ensures.into_iter_gives in
-    record { can_next = tt; finite = tt; members = all_in_start _ _ e; so_far = chain_start c.args.kind c.in-Straight.is _ _ _ _ _ c.requires.set e }
+    record { can_next = tt; finite = tt; witness = c.tasks-tasks.ensures.line.some; members = all_in_start _ _ e; so_far = chain_start c.args.kind c.in-Straight.is _ _ _ _ _ c.requires.set e }
 
 pub returns-then-from-enough : goal.returns-then-from-enough
 returns-then-from-enough c = (

@@ -1,7 +1,7 @@
 use Rattle.std.proofs.Common.{arith}
 use Rattle.line_instance.specs.Line.{has}
 use Rattle.line_instance.proofs.Sums.{weigh-most}
-use Rattle.lower_bounds.proofs.Picked.{weight_turn, weight_end, weight_start, all_in_start}
+use Rattle.lower_bounds.proofs.Picked.{weight_turn, weight_start, all_in_start}
 use Rattle.lower_bounds.proofs.chains.sum_up_to.Goals as goal
 
 pub loop-i-init : goal.loop-i-init
@@ -14,9 +14,3 @@ overflow_add-sum c =
     let next = weight_turn (λ t. t) c.args.inst.now.times _ _ c.in-Some.i _ _ c.in-Some.ensures.steps c.loop-i.invariant.so_far in
     let most = weigh-most (λ t. t) (has c.args.set.now) 200000000000000 c.args.inst.now.times (λ i l. c.tasks-tasks.ensures.line.times i) in
     omega (arith, next, most)
-
-pub returns-clause-most : goal.returns-clause-most
-returns-clause-most c =
-    let end = weight_end (λ t. t) c.args.inst.now.times _ _ _ c.in-None.ensures.steps.0 c.loop-i.invariant.so_far in
-    let most = weigh-most (λ t. t) (has c.args.set.now) 200000000000000 c.args.inst.now.times (λ i l. c.tasks-tasks.ensures.line.times i) in
-    omega (arith, end, most)
