@@ -4,6 +4,8 @@
 mod bounds;
 mod chains;
 mod sizes;
+#[cfg(test)]
+mod tests;
 mod total;
 
 pub use bounds::{bound, exceeds};
