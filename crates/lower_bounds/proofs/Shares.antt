@@ -1,5 +1,5 @@
 -- The times of a set and its counts by size.
-use Rattle.std.proofs.Common.{◌≡◌, ℕ, ◌*◌, ◌<◌, ◌≤◌, max, Bool, true, false, cond, nat_eq, nat_lt, List, length, get_or, ap, arith}
+use Rattle.std.proofs.Common.{◌≡◌, ℕ, ◌+◌, ◌*◌, ◌<◌, ◌≤◌, max, Bool, true, false, cond, nat_eq, nat_le, nat_lt, List, length, get_or, refl, ap, arith}
 use Rattle.std.proofs.lemmas.Bool.Decides.{nat_tests}
 use mir.Val.{bool_byte}
 use Rattle.task_set.specs.Truths.{In, members_of}
@@ -18,6 +18,17 @@ once false = omega arith
 pub one_more : (b : Bool) → bool_byte b ≤ 1
 one_more true = omega arith
 one_more false = omega arith
+
+-- a truth counts for one or for nothing
+pub byte_is : (b : Bool) → bool_byte b ≡ cond b 1 0
+byte_is true = refl
+byte_is false = refl
+
+-- the sixths of a time, in four steps
+pub sixths_steps : (c t : ℕ) → 1 ≤ c
+    → 2 * cond (nat_le c (3 * t)) 1 0 + cond (nat_lt c (3 * t)) 1 0 + cond (nat_le (2 * c) (3 * t)) 1 0 + 2 * cond (nat_lt (2 * c) (3 * t)) 1 0 ≡ sixths c t
+unfolding sixths
+sixths_steps c t o = grind (arith, nat_tests, o)
 
 -- at most all tasks are counted
 pub count_most : (test p : ℕ → Bool) (ts : List ℕ) → count_where test p ts ≤ length ts

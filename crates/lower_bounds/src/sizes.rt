@@ -65,6 +65,7 @@ impl SizeCounts {
 /// The counts of a set of tasks, of which `longest` is the greatest time: none where that is less than a third of the cycle.
 pub(crate) fn counts_of(inst: &Instance, cycle: u64, set: &TaskSet, longest: u64) -> SizeCounts
     requires set { IsTaskSet inst.now set.now }
+    requires some { 1 ≤ cycle }
     requires limit { cycle ≤ 1000000000000000000 }
     requires longest { longest ≡ longest_of inst.now set.now }
     requires longest_limit { longest ≤ 200000000000000 }
@@ -97,23 +98,17 @@ pub(crate) fn counts_of(inst: &Instance, cycle: u64, set: &TaskSet, longest: u64
 }
 
 /// The sixths of a station that a time counts for.
-#[tactic(auto, using(std::proofs::lemmas::Bool::Decides::nat_tests), unfolding(line_rules::specs::Bounds::sixths))]
 fn sixths(cycle: u64, time: u64) -> u32
+    requires some { 1 ≤ cycle }
     requires cycle { cycle ≤ 1000000000000000000 }
     requires time { time ≤ 200000000000000 }
     ensures value { result ≡ sixths cycle time }
     ensures most { result ≤ 6 }
 {
     let (thirds, cycles) = (3 * time, 2 * cycle);
-    if thirds > cycles {
-        6
-    } else if thirds == cycles {
-        4
-    } else if thirds > cycle {
-        3
-    } else if thirds == cycle {
-        2
-    } else {
-        0
-    }
+    // Without branches, since the times of a set come in no order: 2, 3, 4 and 6 in steps.
+    2 * u32::from(thirds >= cycle)
+        + u32::from(thirds > cycle)
+        + u32::from(thirds >= cycles)
+        + 2 * u32::from(thirds > cycles)
 }
