@@ -224,7 +224,7 @@ fn texts_that_are_read(rt: HostRuntime) -> Result<(), Fail> {
 /// So many bytes, of which the first are these and the others LF.
 fn padded(alloc: Global, front: &[u8], n: usize) -> Result<Vec<u8>, AllocError> {
     let mut bytes = Vec::from_slice(alloc, front)?;
-    while bytes.len() < n {
+    for _ in front.len()..n {
         bytes.push(b'\n')?;
     }
     Ok(bytes)
