@@ -253,6 +253,16 @@ module _ (line : Line) (small : tasks line ≤ 1024) (ranked : IsRanked line) (c
   loads_listed mode =
       listed line small ranked (first_place mode) (many_places mode) (places_within mode) (IsLoad line c mode R) (λ l. is_load line c mode R l) (load_is mode) (load_so mode) (agrees mode)
 
+  abbrev pub full_of : Mode → List Load
+  full_of mode = pick (λ l. is_load line c mode R l && is_full line c mode R l) (spread line (first_place mode) (many_places mode) nothing)
+
+  pub full_listed : (mode : Mode) → Lists line (λ l. IsLoad line c mode R l × IsFull line c mode R l) (full_of mode)
+  full_listed mode =
+      listed line small ranked (first_place mode) (many_places mode) (places_within mode) (λ l. IsLoad line c mode R l × IsFull line c mode R l) (λ l. is_load line c mode R l && is_full line c mode R l)
+      (λ l p h. (load_is mode l p (and_parts (is_load line c mode R l) (is_full line c mode R l) h).0, full_is mode l (and_parts (is_load line c mode R l) (is_full line c mode R l) h).1))
+      (λ l f. and_from (is_load line c mode R l) (is_full line c mode R l) (load_so mode l f.0) (full_so mode l (record { front = f.0.front; back = f.0.back }) f.1))
+      (λ l f. agrees mode l f.0)
+
   open_is : (kind : LineKind) (mode : Mode) (most : ℕ) (l : Load) → IsPair line l → is_open kind line c mode R most l ≡ true → IsOpen kind line c mode R most l
   open_is kind mode most l p h =
       let q : (is_load line c mode R l ≡ true) × ((is_full line c mode R l && nat_lt (bound kind line c (rest R l)) most) ≡ true) = and_parts (is_load line c mode R l) (is_full line c mode R l && nat_lt (bound kind line c (rest R l)) most) h in

@@ -8,13 +8,13 @@ use Rattle.line_instance.specs.Line.{IsRanked, IsTaskSet, tasks, has}
 use Rattle.line_instance.proofs.Sums.{weigh-none}
 use Rattle.line_rules.specs.Balance.{IsRight, all_tasks, seat, time_at}
 use Rattle.line_rules.specs.Bounds.{bound, lm1, lm2, lm3, sixths, head, tail, chained}
-use Rattle.line_rules.specs.Loads.{IsLoad}
+use Rattle.line_rules.specs.Loads.{IsLoad, IsFull}
 use Rattle.line_rules.specs.Order.{Lists, After}
 use Rattle.line_rules.specs.Entries.{IsOpen, Follows, IsDerived, Answers, HasAnswer}
 use Rattle.line_rules.specs.Units.{UnitsOf, FrameUnits}
 use Rattle.line_rules.specs.Trails.{IsDeepest, IsUnansweredAt, IsOpenOver}
 use Rattle.line_rules.specs.Accepted.{IsAccepted}
-use Rattle.line_rules.specs.Rows.{five_free, fifteen_loads, load_of, five_bound, five_frame, five_stopped, at, five_entry, five_certificate, CertificateOfTheRows}
+use Rattle.line_rules.specs.Rows.{five_free, fifteen_loads, seven_full_loads, load_of, five_bound, five_frame, five_stopped, at, five_entry, five_certificate, CertificateOfTheRows}
 use Rattle.line_rules.specs.declared.types.LineKind.TheVariants.{Straight}
 use Rattle.line_rules.specs.declared.types.Side.TheVariants.{Front}
 use Rattle.line_rules.specs.declared.types.Mode.TheVariants.{Fore, Both}
@@ -28,7 +28,7 @@ use Rattle.line_rules.proofs.Free.{no_row as free_no_row, free_ranked, all_of}
 use Rattle.line_rules.proofs.Covering.{get_none}
 use Rattle.line_rules.proofs.Grown.{derived_push}
 use Rattle.line_rules.proofs.Branches.{branch_follows}
-use Rattle.line_rules.proofs.Deciding.{loads_of, loads_listed, open_of, open_listed}
+use Rattle.line_rules.proofs.Deciding.{loads_of, loads_listed, full_of, full_listed, open_of, open_listed}
 
 no_row : (j i : ℕ) → In (slice_index_or five_free.before j []) i → ⊥
 no_row = free_no_row five_free.times
@@ -46,6 +46,10 @@ loads_are : loads_of five_free five_few five_ranked 7 (all_tasks five_free) five
 unfolding full_to
 loads_are = refl
 
+full_are : full_of five_free five_few five_ranked 7 (all_tasks five_free) five_all Fore ≡ seven_full_loads
+unfolding full_to
+full_are = refl
+
 none_open : open_of five_free five_few five_ranked 7 (all_tasks five_free) five_all Straight Fore 2 ≡ []
 unfolding full_to bound lm1 lm2 lm3 sixths head tail chained
 none_open = refl
@@ -54,6 +58,11 @@ five_loads : Lists five_free (IsLoad five_free 7 Fore (all_tasks five_free)) fif
 five_loads =
     let P : List Load → Type 0 = λ ls. Lists five_free (IsLoad five_free 7 Fore (all_tasks five_free)) ls in
     subst P loads_are (loads_listed five_free five_few five_ranked 7 (all_tasks five_free) five_all Fore)
+
+five_full : Lists five_free (λ l. IsLoad five_free 7 Fore (all_tasks five_free) l × IsFull five_free 7 Fore (all_tasks five_free) l) seven_full_loads
+five_full =
+    let P : List Load → Type 0 = λ ls. Lists five_free (λ l. IsLoad five_free 7 Fore (all_tasks five_free) l × IsFull five_free 7 Fore (all_tasks five_free) l) ls in
+    subst P full_are (full_listed five_free five_few five_ranked 7 (all_tasks five_free) five_all Fore)
 
 five_follows : Follows Straight five_free [] five_entry
 five_follows =
@@ -246,6 +255,7 @@ u_many = refl
 pub certificate_of_the_rows : CertificateOfTheRows
 certificate_of_the_rows = record {
   loads = five_loads;
+  full = five_full;
   at_7 = five_accepted 7 (omega arith) (omega arith);
   at_6 = five_accepted 6 (omega arith) (omega arith);
   at_8 = λ lower upper units a. no_answer (a.claim.2.goal (omega arith));

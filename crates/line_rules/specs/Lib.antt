@@ -9,5 +9,6 @@ pub mod Units
 pub mod Trails
 pub mod Seats
 pub mod Accepted
+pub mod Ranges
 pub mod Laws
 pub mod Rows

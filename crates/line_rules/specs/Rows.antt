@@ -5,7 +5,7 @@ use Rattle.task_set.specs.Truths.{full_to}
 use Rattle.line_instance.specs.Line.{Line}
 use Rattle.line_rules.specs.Balance.{all_tasks}
 use Rattle.line_rules.specs.Bounds.{bound, lm1, lm2, lm3, head, tail}
-use Rattle.line_rules.specs.Loads.{IsLoad}
+use Rattle.line_rules.specs.Loads.{IsLoad, IsFull}
 use Rattle.line_rules.specs.Order.{Lists, Counts}
 use Rattle.line_rules.specs.Entries.{Follows, IsDerived}
 use Rattle.line_rules.specs.Units.{UnitsOf}
@@ -82,6 +82,13 @@ fifteen_loads =
     ∷ load_of (1 ∷ []) ∷ load_of (1 ∷ 4 ∷ []) ∷ load_of (1 ∷ 3 ∷ []) ∷ load_of (1 ∷ 2 ∷ [])
     ∷ load_of (0 ∷ []) ∷ load_of (0 ∷ 4 ∷ []) ∷ load_of (0 ∷ 3 ∷ []) ∷ load_of (0 ∷ 2 ∷ []) ∷ []
 
+-- the full ones among them: the last three tasks, and each pair of a longer task and one of these
+abbrev pub seven_full_loads : List Load
+seven_full_loads =
+    load_of (2 ∷ 3 ∷ 4 ∷ [])
+    ∷ load_of (1 ∷ 4 ∷ []) ∷ load_of (1 ∷ 3 ∷ []) ∷ load_of (1 ∷ 2 ∷ [])
+    ∷ load_of (0 ∷ 4 ∷ []) ∷ load_of (0 ∷ 3 ∷ []) ∷ load_of (0 ∷ 2 ∷ []) ∷ []
+
 -- a place in front
 abbrev pub at : ℕ → Seatplace
 at s = record { station = s; side = Front }
@@ -115,11 +122,12 @@ five_stopped = record {
   claim = claim.Bounds 2 3 (record { stations = 3; place = at 1 ∷ at 2 ∷ at 1 ∷ at 2 ∷ at 3 ∷ [] }) (five_bound ∷ []) (Some (record { cycle = 7; frames = five_frame ∷ [] }));
 }
 
--- The loads and the certificates of the five tasks: the fifteen loads in order; the certificate is accepted at cycle 7, with 15 units, and
+-- The loads and the certificates of the five tasks: the fifteen loads in order, and the seven full ones; the certificate is accepted at cycle 7, with 15 units, and
 -- at cycle 6, which its entry answers too; at cycle 8 it isn't. The search that stopped one load short has 14 units, and its trail is open;
 -- with the entry of the whole search beside it, it would not be.
 pub record CertificateOfTheRows : Type 0 where
   pub loads : Lists five_free (IsLoad five_free 7 Fore (all_tasks five_free)) fifteen_loads
+  pub full : Lists five_free (λ l. IsLoad five_free 7 Fore (all_tasks five_free) l × IsFull five_free 7 Fore (all_tasks five_free) l) seven_full_loads
   pub at_7 : IsAccepted five_free (five_certificate 7) 3 3 15
   pub at_6 : IsAccepted five_free (five_certificate 6) 3 3 15
   pub at_8 : (lower upper units : ℕ) → IsAccepted five_free (five_certificate 8) lower upper units → ⊥
