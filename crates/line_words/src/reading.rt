@@ -2,6 +2,7 @@
 ghost use Rattle.std.specs.Prelude.{◌≡◌, ◌<◌, Option, None, MatchOption, ℕ};
 ghost use Rattle.line_words.specs.Words.{texts};
 ghost use Rattle.line_words.specs.Table.{least_of, is_value};
+ghost use Rattle.line_words.specs.Ranges.{HasRange};
 ghost use Rattle.line_words.specs.Jobs.{setting_fault, name_fault, word_fault, missing, AreRight, IsFirstFault, IsBehind, IsJobRead};
 
 use crate::command::{Command, command_named};
@@ -123,7 +124,8 @@ fn missing(command: Command, words: &[String]) -> Option<UsageKind>
 
 /// The reading of the words behind a command.
 fn behind(alloc: Global, command: Command, words: &[String]) -> JobRead
-    ensures { IsBehind command (texts words.now) result }
+    ensures read { IsBehind command (texts words.now) result }
+    ensures range { HasRange result }
 {
     if let Some((at, kind)) = first_fault(command, words) {
         return JobRead::Usage {
@@ -146,7 +148,8 @@ fn behind(alloc: Global, command: Command, words: &[String]) -> JobRead
 /// The job that the words ask for, or their first fault: at word 0 there is no command or an unknown one; then the words from
 /// left to right, each for what is wrong with it; then a missing name, and then a missing key, at the number of words.
 pub fn job_of(alloc: Global, words: &[String]) -> JobRead
-    ensures { IsJobRead (texts words.now) result }
+    ensures read { IsJobRead (texts words.now) result }
+    ensures range { HasRange result }
 {
     let [first, rest @ ..] = words else {
         return JobRead::Usage {

@@ -1,0 +1,52 @@
+-- The pages that are printed of the program itself.
+use Rattle.std.specs.Prelude.{ℕ, List, ◌++◌, codes}
+
+-- the name of the program and its version
+abbrev pub version_text : List ℕ
+version_text = codes "line_program 0.1.0\n"
+
+-- how the program is called, and what its balance, its search and its test give
+abbrev pub planning_text : List ℕ
+planning_text =
+    codes "line COMMAND NAMES KEY=VALUE ..    balances of assembly lines, with proof\n\n"
+    ++ codes "balance FILE    a balance at once, a bound on its stations, the idle time\n"
+    ++ codes "    cycle=C (the file's)  line=straight|u (straight)  apart=PAIRS (none)\n"
+    ++ codes "    line balance jackson.in2 cycle=10\n"
+    ++ codes "solve FILE    a balance of the fewest stations, and the proof that it is\n"
+    ++ codes "    cycle=C (the file's)  line=straight|u (straight)  helpers=0..64 (4)\n"
+    ++ codes "    units=1..3000000 (1000000)  cert=OUT (none)  apart=PAIRS (none)\n"
+    ++ codes "    line solve jackson.in2 cycle=10 cert=jackson.cert\n"
+    ++ codes "cycle FILE stations=1..1024    the least cycle time, and the proof\n"
+    ++ codes "    line=straight|u (straight)  helpers=0..64 (4)\n"
+    ++ codes "    units=1..1000000 (1000000)  cert=OUT (none)\n"
+    ++ codes "    line cycle jackson.in2 stations=5\n"
+    ++ codes "check FILE CERT    whether a proof holds, and what it shows then\n"
+    ++ codes "    steps=1..20000000 (20000000)  apart=PAIRS (none)\n"
+    ++ codes "    line check jackson.in2 jackson.cert\n"
+
+-- what the other commands give
+abbrev pub other_text : List ℕ
+other_text =
+    codes "convert FILE OUT to=in2|alb|cert    the instance or the proof in that form\n"
+    ++ codes "    cycle=C (the file's)\n"
+    ++ codes "    line convert jackson.in2 jackson.alb to=alb cycle=10\n"
+    ++ codes "combine MIX OUT    the combined instance of a mix of models\n"
+    ++ codes "    line combine models.csv all.in2\n"
+    ++ codes "utility MIX CERT SEQ interval=I length=L    utility work of a sequence\n"
+    ++ codes "    line utility models.csv all.cert day.txt interval=7 length=8\n"
+    ++ codes "timeline MIX CERT SEQ interval=I length=L    the same, unit by unit, as CSV\n"
+    ++ codes "    line timeline models.csv all.cert day.txt interval=7 length=8\n"
+    ++ codes "try seed=S tasks=1..1024    a generated instance, solved and checked\n"
+    ++ codes "    cycle=C (200)  line=straight|u (straight)  units=1..3000000 (1000000)\n"
+    ++ codes "    line try seed=1 tasks=50\n"
+    ++ codes "--help, --version    this page, and the version\n\n"
+    ++ codes "FILE has an instance as IN2 or ALB, PAIRS lines i,j of tasks that may share no\n"
+    ++ codes "station and then -1,-1. Times are whole numbers of one time unit.\n"
+
+-- what isn't there yet
+abbrev pub unbuilt_text : List ℕ
+unbuilt_text = codes "Not built yet: solve, cycle, check, combine, utility, timeline, try, to=cert,\n" ++ codes "and line=u.\n"
+
+-- the page with every command
+abbrev pub help_text : List ℕ
+help_text = planning_text ++ other_text ++ unbuilt_text

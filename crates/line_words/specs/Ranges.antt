@@ -1,0 +1,36 @@
+-- The ranges of the numbers of a job.
+use Rattle.std.specs.Prelude.{ℕ, ◌≤◌, Option, Some, None}
+use Rattle.line_words.specs.declared.job.Job.{Job}
+use Rattle.line_words.specs.declared.job.Job.TheVariants.{Help, Version, Balance, Solve, Cycle, Check, Convert, Combine, Utility, Timeline, Try}
+use Rattle.line_words.specs.declared.reading.JobRead.{JobRead}
+use Rattle.line_words.specs.declared.reading.JobRead.TheVariants.{Good, Usage, NoMemory}
+
+-- a number lies between two others, or is one of them
+abbrev pub IsBetween : ℕ → ℕ → ℕ → Type 0
+IsBetween least most n = (least ≤ n) × (n ≤ most)
+
+-- a number that is set lies between two others
+abbrev pub IsSetBetween : ℕ → ℕ → Option ℕ → Type 0
+IsSetBetween least most None = Unit {0}
+IsSetBetween least most (Some n) = IsBetween least most n
+
+-- Each number of a job lies in the range of its key.
+abbrev pub IsInRange : Job → Type 0
+IsInRange Help = Unit {0}
+IsInRange Version = Unit {0}
+IsInRange (Balance file cycle line apart) = IsSetBetween 1 1000000000000000000 cycle
+IsInRange (Solve file cycle line helpers units cert apart) = IsSetBetween 1 1000000000000000000 cycle × IsBetween 0 64 helpers × IsBetween 1 3000000 units
+IsInRange (Cycle file stations line helpers units cert) = IsBetween 1 1024 stations × IsBetween 0 64 helpers × IsBetween 1 1000000 units
+IsInRange (Check file cert steps apart) = IsBetween 1 20000000 steps
+IsInRange (Convert file out to cycle) = IsSetBetween 1 1000000000000000000 cycle
+IsInRange (Combine mix out) = Unit {0}
+IsInRange (Utility mix cert seq interval length) = IsBetween 1 1000000000 interval × IsBetween 1 1000000000 length
+IsInRange (Timeline mix cert seq interval length) = IsBetween 1 1000000000 interval × IsBetween 1 1000000000 length
+IsInRange (Try seed tasks cycle line units) =
+    IsBetween 0 18446744073709551615 seed × IsBetween 1 1024 tasks × IsBetween 1 1000000000000000000 cycle × IsBetween 1 3000000 units
+
+-- the job that was read is in its ranges, where there is one
+abbrev pub HasRange : JobRead → Type 0
+HasRange (Good job) = IsInRange job
+HasRange (Usage index kind) = Unit {0}
+HasRange NoMemory = Unit {0}
