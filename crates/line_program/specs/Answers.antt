@@ -14,6 +14,9 @@ use Rattle.in2_reader.specs.Faults.{IsIn2Fault}
 use Rattle.in2_reader.specs.ApartFile.{IsApartFile, IsApartFault}
 use Rattle.in2_reader.specs.Texts.{fault_text}
 use Rattle.in2_reader.specs.declared.fault.In2Fault.{In2Fault}
+use Rattle.line_words.specs.declared.job.Job.{Job}
+use Rattle.line_words.specs.declared.job.Job.TheVariants.{Help, Version, Balance, Solve, Cycle, Check, Convert, Combine, Utility, Timeline, Try}
+use Rattle.line_program.specs.Pages.{help_text, version_text}
 use Rattle.line_program.specs.Report.{balance_text, infeasible_text}
 use Rattle.line_program.specs.declared.status.Status.{Status}
 use Rattle.line_program.specs.declared.status.Status.TheVariants as ends
@@ -34,6 +37,10 @@ pub record IsInfeasible (line : Line) (c : ℕ) (text : List ℕ) : Type 0 where
 abbrev pub IsAnswer : Line → ℕ → List ℕ → Type 0
 IsAnswer line c text = IsBalanced line c text ⊎ IsInfeasible line c text
 
+-- the bytes say the instance, and no cycle time
+abbrev pub Says : List ℕ → Line → Option ℕ → Type 0
+Says bytes line given = IsReading bytes line × (given ≡ None)
+
 -- the file is there, and its bytes pass
 abbrev pub Reads : Option (List ℕ) → (List ℕ → Type 0) → Type 0
 Reads None P = ⊥
@@ -50,17 +57,41 @@ pub record IsParted (pairs : List Prec) (whole line : Line) : Type 0 where
 abbrev pub Parts : Line → Line → List ℕ → Type 0
 Parts whole line bytes = (pairs : List Prec) × IsApartFile (tasks whole) bytes pairs × IsParted pairs whole line
 
--- the line is the instance that the first file says, with the tasks apart that the second file says, where there is one
-abbrev pub IsSaid : (List ℕ → Option (List ℕ)) → List ℕ → Option (List ℕ) → Line → Type 0
-IsSaid files name None line = Reads (files name) (λ bytes. IsReading bytes line)
-IsSaid files name (Some apart) line =
-    (whole : Line) × Reads (files name) (λ bytes. IsReading bytes whole) × Reads (files apart) (Parts whole line)
+-- the cycle time of the words, and else that of the file
+abbrev pub cycle_of : Option ℕ → Option ℕ → Option ℕ
+cycle_of (Some c) given = Some c
+cycle_of None given = given
+
+-- the bytes of a file say the line, and the cycle time c is that of the words, or else that of the file
+pub record IsTimed (word : Option ℕ) (bytes : List ℕ) (line : Line) (c : ℕ) : Type 0 where
+  pub given : Option ℕ
+  pub says : Says bytes line given
+  pub cycle : cycle_of word given ≡ Some c
+
+-- the line is the instance that the first file says, with the tasks apart that the second file says, where there is one; c is the cycle
+abbrev pub IsSaid : (List ℕ → Option (List ℕ)) → List ℕ → Option (List ℕ) → Option ℕ → Line → ℕ → Type 0
+IsSaid files name None word line c = Reads (files name) (λ bytes. IsTimed word bytes line c)
+IsSaid files name (Some apart) word line c =
+    (whole : Line) × Reads (files name) (λ bytes. IsTimed word bytes whole c) × Reads (files apart) (Parts whole line)
 
 -- the text answers the instance that the files say
-pub record IsDone (files : List ℕ → Option (List ℕ)) (name : List ℕ) (apart : Option (List ℕ)) (c : ℕ) (text : List ℕ) : Type 0 where
+pub record IsDone (files : List ℕ → Option (List ℕ)) (name : List ℕ) (apart : Option (List ℕ)) (word : Option ℕ) (text : List ℕ) : Type 0 where
   pub line : Line
-  pub said : IsSaid files name apart line
+  pub c : ℕ
+  pub said : IsSaid files name apart word line c
   pub answered : IsAnswer line c text
+
+-- the line about a file without a cycle time
+abbrev pub no_cycle_line : List ℕ → List ℕ
+no_cycle_line name = codes "input: " ++ name ++ codes " no cycle time\n"
+
+-- the bytes say an instance, and neither they nor the words a cycle time
+pub record IsUntimed (word : Option ℕ) (name bytes text : List ℕ) : Type 0 where
+  pub line : Line
+  pub given : Option ℕ
+  pub says : Says bytes line given
+  pub none : cycle_of word given ≡ None
+  pub shown : text ≡ no_cycle_line name
 
 -- the bytes are more than a file may have
 abbrev pub IsTooMuch : List ℕ → List ℕ → List ℕ → Type 0
@@ -84,15 +115,15 @@ pub record IsFaultyApart (name : List ℕ) (n : ℕ) (bytes text : List ℕ) : T
   pub unread : (pairs : List Prec) → IsApartFile n bytes pairs → ⊥
   pub shown : text ≡ fault_line name fault
 
--- the file with the instance is refused
-abbrev pub IsRefusedFile : (List ℕ → Option (List ℕ)) → List ℕ → List ℕ → Type 0
-IsRefusedFile files name text = Reads (files name) (λ bytes. IsTooMuch name bytes text ⊎ IsFaulty name bytes text)
+-- the file with the instance is refused: it is too long, or has no reading, or there is no cycle time
+abbrev pub IsRefusedFile : (List ℕ → Option (List ℕ)) → List ℕ → Option ℕ → List ℕ → Type 0
+IsRefusedFile files name word text = Reads (files name) (λ bytes. IsTooMuch name bytes text ⊎ IsFaulty name bytes text ⊎ IsUntimed word name bytes text)
 
 -- the file with the instance is read, and that with the tasks that are apart is refused
-abbrev pub IsRefusedApart : (List ℕ → Option (List ℕ)) → List ℕ → Option (List ℕ) → List ℕ → Type 0
-IsRefusedApart files name None text = ⊥
-IsRefusedApart files name (Some apart) text =
-    (whole : Line) × Reads (files name) (λ bytes. IsReading bytes whole)
+abbrev pub IsRefusedApart : (List ℕ → Option (List ℕ)) → List ℕ → Option (List ℕ) → Option ℕ → List ℕ → Type 0
+IsRefusedApart files name None word text = ⊥
+IsRefusedApart files name (Some apart) word text =
+    (whole : Line) × (c : ℕ) × Reads (files name) (λ bytes. IsTimed word bytes whole c)
     × Reads (files apart) (λ bytes. IsTooMuch apart bytes text ⊎ IsFaultyApart apart (tasks whole) bytes text)
 
 -- the line about a file that can't be read
@@ -104,14 +135,40 @@ abbrev pub IsUnreadable : List ℕ → Option (List ℕ) → List ℕ → Type 0
 IsUnreadable name None text = text ≡ read_fault_line name
 IsUnreadable name (Some apart) text = (text ≡ read_fault_line name) ⊎ (text ≡ read_fault_line apart)
 
--- What is reported of the files of these names at this cycle, status by status.
-abbrev pub IsReport : (List ℕ → Option (List ℕ)) → List ℕ → Option (List ℕ) → ℕ → Status → List ℕ → Type 0
-IsReport files name apart c ends.Done text = IsDone files name apart c text
-IsReport files name apart c ends.Input text = IsRefusedFile files name text ⊎ IsRefusedApart files name apart text
-IsReport files name apart c ends.ReadFault text = IsUnreadable name apart text
-IsReport files name apart c ends.Stopped text = ⊥
-IsReport files name apart c ends.Usage text = ⊥
-IsReport files name apart c ends.WriteFault text = ⊥
-IsReport files name apart c ends.Memory text = ⊥
-IsReport files name apart c ends.Refused text = ⊥
-IsReport files name apart c ends.Steps text = ⊥
+-- What is reported of a balance of the files of these names at the cycle time of the words, where they have one, status by status.
+abbrev pub IsBalanceReport : (List ℕ → Option (List ℕ)) → List ℕ → Option (List ℕ) → Option ℕ → Status → List ℕ → Type 0
+IsBalanceReport files name apart word ends.Done text = IsDone files name apart word text
+IsBalanceReport files name apart word ends.Input text = IsRefusedFile files name word text ⊎ IsRefusedApart files name apart word text
+IsBalanceReport files name apart word ends.ReadFault text = IsUnreadable name apart text
+IsBalanceReport files name apart word ends.Stopped text = ⊥
+IsBalanceReport files name apart word ends.Usage text = ⊥
+IsBalanceReport files name apart word ends.WriteFault text = ⊥
+IsBalanceReport files name apart word ends.Memory text = ⊥
+IsBalanceReport files name apart word ends.Refused text = ⊥
+IsBalanceReport files name apart word ends.Steps text = ⊥
+
+-- the page is printed
+abbrev pub IsPageReport : List ℕ → Status → List ℕ → Type 0
+IsPageReport page ends.Done text = text ≡ page
+IsPageReport page ends.Input text = ⊥
+IsPageReport page ends.ReadFault text = ⊥
+IsPageReport page ends.Stopped text = ⊥
+IsPageReport page ends.Usage text = ⊥
+IsPageReport page ends.WriteFault text = ⊥
+IsPageReport page ends.Memory text = ⊥
+IsPageReport page ends.Refused text = ⊥
+IsPageReport page ends.Steps text = ⊥
+
+-- What is reported of a job over these files, status by status. Of jobs that aren't built nothing is.
+abbrev pub IsReport : (List ℕ → Option (List ℕ)) → Job → Status → List ℕ → Type 0
+IsReport files Help status text = IsPageReport help_text status text
+IsReport files Version status text = IsPageReport version_text status text
+IsReport files (Balance file cycle line apart) status text = IsBalanceReport files file apart cycle status text
+IsReport files (Solve file cycle line helpers units cert apart) status text = ⊥
+IsReport files (Cycle file stations line helpers units cert) status text = ⊥
+IsReport files (Check file cert steps apart) status text = ⊥
+IsReport files (Convert file out to cycle) status text = ⊥
+IsReport files (Combine mix out) status text = ⊥
+IsReport files (Utility mix cert seq interval length) status text = ⊥
+IsReport files (Timeline mix cert seq interval length) status text = ⊥
+IsReport files (Try seed tasks cycle line units) status text = ⊥

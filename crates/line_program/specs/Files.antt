@@ -1,6 +1,6 @@
 -- Why a file is not read, and why the files of a job say no instance.
 use Rattle.std.specs.Prelude.{◌≡◌, ◌⊎◌, ℕ, List, Option, string_bytes}
-use Rattle.line_program.specs.Answers.{Reads, IsTooMuch, IsRefusedFile, IsRefusedApart, IsUnreadable, read_fault_line}
+use Rattle.line_program.specs.Answers.{Reads, IsTooMuch, IsFaulty, IsUntimed, IsRefusedFile, IsRefusedApart, IsUnreadable, read_fault_line}
 use Rattle.line_program.specs.declared.status.Status.{Status}
 use Rattle.line_program.specs.declared.status.Status.TheVariants as ends
 use Rattle.line_program.specs.declared.refusal.Refusal.{Refusal}
@@ -23,6 +23,11 @@ abbrev pub IsRefusal : (List ℕ → List ℕ → Type 0) → Option (List ℕ) 
 IsRefusal F file name refusal.Memory = Unit {0}
 IsRefusal F file name (refusal.Report r) = IsFileReport F file name r.status (string_bytes r.text)
 
+-- want of memory, or a refusal of the input whose text is so
+abbrev pub IsRefused : (List ℕ → Type 0) → Refusal → Type 0
+IsRefused P refusal.Memory = Unit {0}
+IsRefused P (refusal.Report r) = (r.status ≡ ends.Input) × P (string_bytes r.text)
+
 -- nothing is said of the bytes but that they may be too many
 abbrev pub NoFault : List ℕ → List ℕ → Type 0
 NoFault bytes text = ⊥
@@ -32,19 +37,23 @@ abbrev pub MayFault : Type 0 → Refusal → Type 0
 MayFault P refusal.Memory = Unit {0}
 MayFault P (refusal.Report r) = (r.status ≡ ends.ReadFault → P) × (r.status ≡ ends.WriteFault → ⊥) × (r.status ≡ ends.Usage → ⊥)
 
+-- the bytes of the file with the instance have no reading, or there is no cycle time
+abbrev pub IsNoInstance : Option ℕ → List ℕ → List ℕ → List ℕ → Type 0
+IsNoInstance word name bytes text = IsFaulty name bytes text ⊎ IsUntimed word name bytes text
+
 -- what is reported of the files of these names where they say no instance
-abbrev pub IsUnsaidReport : (List ℕ → Option (List ℕ)) → List ℕ → Option (List ℕ) → Status → List ℕ → Type 0
-IsUnsaidReport files name apart ends.Input text = IsRefusedFile files name text ⊎ IsRefusedApart files name apart text
-IsUnsaidReport files name apart ends.ReadFault text = IsUnreadable name apart text
-IsUnsaidReport files name apart ends.Done text = ⊥
-IsUnsaidReport files name apart ends.Stopped text = ⊥
-IsUnsaidReport files name apart ends.Usage text = ⊥
-IsUnsaidReport files name apart ends.WriteFault text = ⊥
-IsUnsaidReport files name apart ends.Memory text = ⊥
-IsUnsaidReport files name apart ends.Refused text = ⊥
-IsUnsaidReport files name apart ends.Steps text = ⊥
+abbrev pub IsUnsaidReport : (List ℕ → Option (List ℕ)) → List ℕ → Option (List ℕ) → Option ℕ → Status → List ℕ → Type 0
+IsUnsaidReport files name apart word ends.Input text = IsRefusedFile files name word text ⊎ IsRefusedApart files name apart word text
+IsUnsaidReport files name apart word ends.ReadFault text = IsUnreadable name apart text
+IsUnsaidReport files name apart word ends.Done text = ⊥
+IsUnsaidReport files name apart word ends.Stopped text = ⊥
+IsUnsaidReport files name apart word ends.Usage text = ⊥
+IsUnsaidReport files name apart word ends.WriteFault text = ⊥
+IsUnsaidReport files name apart word ends.Memory text = ⊥
+IsUnsaidReport files name apart word ends.Refused text = ⊥
+IsUnsaidReport files name apart word ends.Steps text = ⊥
 
 -- want of memory, or that report
-abbrev pub IsUnsaid : (List ℕ → Option (List ℕ)) → List ℕ → Option (List ℕ) → Refusal → Type 0
-IsUnsaid files name apart refusal.Memory = Unit {0}
-IsUnsaid files name apart (refusal.Report r) = IsUnsaidReport files name apart r.status (string_bytes r.text)
+abbrev pub IsUnsaid : (List ℕ → Option (List ℕ)) → List ℕ → Option (List ℕ) → Option ℕ → Refusal → Type 0
+IsUnsaid files name apart word refusal.Memory = Unit {0}
+IsUnsaid files name apart word (refusal.Report r) = IsUnsaidReport files name apart word r.status (string_bytes r.text)

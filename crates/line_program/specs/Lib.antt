@@ -1,4 +1,5 @@
-pub mod Words
+pub mod Pages
+pub mod Built
 pub mod Report
 pub mod Codes
 pub mod Answers

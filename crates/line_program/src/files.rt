@@ -1,12 +1,12 @@
 //! The files of a job: fetched, and read as an instance and as pairs of tasks that are apart.
-ghost use Rattle.std.specs.Prelude.{◌≡◌, ◌≢◌, ◌++◌, ◌≤◌, ◌<◌, ◌^◌, ℕ, List, Some, length, IfOk, MatchResult, string_bytes, codes};
+ghost use Rattle.std.specs.Prelude.{◌≡◌, ◌≢◌, ◌++◌, ◌≤◌, ◌<◌, ◌^◌, ℕ, List, Some, None, length, IfOk, MatchResult, string_bytes, codes};
 ghost use Rattle.line_io.specs.Outside.{Rises};
 ghost use Rattle.line_instance.specs.Line.{tasks};
 ghost use Rattle.line_instance.specs.Walks.{ArePairs};
-ghost use Rattle.in2_reader.specs.Answers.{IsReading};
 ghost use Rattle.in2_reader.specs.ApartFile.{IsApartFile};
-ghost use Rattle.line_program.specs.Answers.{Reads, IsFaulty, IsFaultyApart, fault_line};
-ghost use Rattle.line_program.specs.Files.{IsRefusal, NoFault, MayFault};
+ghost use Rattle.line_words.specs.Ranges.{IsBetween, IsSetBetween};
+ghost use Rattle.line_program.specs.Answers.{Reads, Says, IsTimed, IsFaulty, IsFaultyApart, cycle_of, fault_line, no_cycle_line};
+ghost use Rattle.line_program.specs.Files.{IsRefusal, IsRefused, IsNoInstance, NoFault, MayFault};
 ghost use Rattle.line_program.specs.declared.status.Status.TheVariants as ends;
 
 use crate::refusal::{Refusal, Report};
@@ -67,16 +67,28 @@ fn fetch<S: Shelf>(alloc: Global, file: &str, shelf: &mut S) -> Result<Vec<u8>, 
     }
 }
 
-/// The instance of a file.
-pub fn instance_of<S: Shelf>(alloc: Global, file: &str, shelf: &mut S) -> Result<Instance, Refusal>
-    ensures said { S.tells → MatchResult result (λ inst. Reads (S.file shelf.old file.now) (λ bytes. IsReading bytes inst)) (IsRefusal (IsFaulty file.now) (S.file shelf.old file.now) file.now) }
-    ensures fault { MatchResult result (λ _. Unit {0}) (MayFault (Rises (S.faults shelf.old) (S.faults shelf.new))) }
-    ensures count { S.faults shelf.old ≤ S.faults shelf.new }
-    ensures files { S.tells → (q : List ℕ) → S.file shelf.new q ≡ S.file shelf.old q }
+/// What a file with an instance says: the instance and, where it has one, the cycle time.
+#[derive(Drop)]
+struct Sheet {
+    inst: Instance,
+    cycle: Option<u64>,
+}
+
+/// An instance, and the cycle time to balance it at.
+#[derive(Drop)]
+pub struct Timed {
+    pub inst: Instance,
+    pub cycle: u64,
+}
+
+/// What the bytes of a file with an instance say.
+fn sheet_in(alloc: Global, file: &str, bytes: &[u8]) -> Result<Sheet, Refusal>
+    requires { length bytes.now < 2 ^ 63 }
+    ensures said { MatchResult result (λ s. Says bytes.now s.inst s.cycle) (IsRefused (λ text. IsFaulty file.now bytes.now text)) }
+    ensures limit { IfOk result (λ s. IsSetBetween 1 1000000000000000000 s.cycle) }
 {
-    let bytes = fetch(alloc, file, shelf)?;
-    match read_in2(alloc, &bytes) {
-        In2Read::Good(inst) => Ok(inst),
+    match read_in2(alloc, bytes) {
+        In2Read::Good(inst) => Ok(Sheet { inst, cycle: None }),
         In2Read::Fault(fault) => {
             let text = fault_line_of(alloc, file, &fault)?;
             Err(Refusal::Report(Report {
@@ -86,6 +98,54 @@ pub fn instance_of<S: Shelf>(alloc: Global, file: &str, shelf: &mut S) -> Result
         }
         In2Read::NoMemory => Err(Refusal::Memory),
     }
+}
+
+/// The cycle time of the words, and else that of the file.
+fn cycle_for(
+    alloc: Global,
+    file: &str,
+    word: Option<u64>,
+    given: Option<u64>,
+) -> Result<u64, Refusal>
+    requires word { IsSetBetween 1 1000000000000000000 word }
+    requires given { IsSetBetween 1 1000000000000000000 given }
+    ensures cycle { MatchResult result (λ c. cycle_of word given ≡ Some c) (IsRefused (λ text. (cycle_of word given ≡ None) × (text ≡ no_cycle_line file.now))) }
+    ensures limit { IfOk result (λ c. IsBetween 1 1000000000000000000 c) }
+{
+    match (word, given) {
+        (Some(cycle), _) => Ok(cycle),
+        (None, Some(cycle)) => Ok(cycle),
+        (None, None) => {
+            let text = line_about(alloc, "input: ", file, " no cycle time\n")?;
+            Err(Refusal::Report(Report {
+                status: Status::Input,
+                text,
+            }))
+        }
+    }
+}
+
+/// The instance of a file, and its cycle time where the words have none.
+pub fn timed_of<S: Shelf>(
+    alloc: Global,
+    file: &str,
+    word: Option<u64>,
+    shelf: &mut S,
+) -> Result<Timed, Refusal>
+    requires word { IsSetBetween 1 1000000000000000000 word }
+    ensures said { S.tells → MatchResult result (λ t. Reads (S.file shelf.old file.now) (λ bytes. IsTimed word bytes t.inst t.cycle)) (IsRefusal (IsNoInstance word file.now) (S.file shelf.old file.now) file.now) }
+    ensures limit { IfOk result (λ t. IsBetween 1 1000000000000000000 t.cycle) }
+    ensures fault { MatchResult result (λ _. Unit {0}) (MayFault (Rises (S.faults shelf.old) (S.faults shelf.new))) }
+    ensures count { S.faults shelf.old ≤ S.faults shelf.new }
+    ensures files { S.tells → (q : List ℕ) → S.file shelf.new q ≡ S.file shelf.old q }
+{
+    let bytes = fetch(alloc, file, shelf)?;
+    let sheet = sheet_in(alloc, file, &bytes)?;
+    let cycle = cycle_for(alloc, file, word, sheet.cycle)?;
+    Ok(Timed {
+        inst: sheet.inst,
+        cycle,
+    })
 }
 
 /// The pairs of tasks that are apart of a file, of so many tasks.

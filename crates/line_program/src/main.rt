@@ -6,13 +6,14 @@
 #[cfg(test)]
 mod call_tests;
 mod files;
+mod pages;
 mod refusal;
 mod report;
 mod status;
 #[cfg(test)]
 mod tests;
 mod top;
-mod words;
+mod usage;
 
 use line_io::{DiskShelf, OutSink};
 use std::process::ExitCode;

@@ -111,23 +111,99 @@ fn the_sink_fails(rt: HostRuntime) -> Result<(), Fail> {
 }
 
 #[test]
-fn words_that_ask_for_nothing(rt: HostRuntime) -> Result<(), Fail> {
-    let lists: [&[&str]; 9] = [
-        &[],
-        &["balance", "t.in2"],
-        &["balance", "cycle=7", "t.in2"],
-        &["balance", "t.in2", "cycle=07"],
-        &["balance", "t.in2", "cycle=0"],
-        &["balance", "t.in2", "cycle=1000000000000000001"],
-        &["balance", "t=.in2", "cycle=7"],
-        &["balance", "", "cycle=7"],
-        &["balance", "t.in2", "cycle=7", "apart="],
+fn faults_of_the_words(rt: HostRuntime) -> Result<(), Fail> {
+    let rows: [(&[&str], &str); 14] = [
+        (&[], "usage: word 0 no command\n"),
+        (&["levy", "t.in2"], "usage: word 0 unknown command\n"),
+        (&["solve"], "usage: word 1 missing name\n"),
+        (&["solve", "t.in2", "cycle=07"], "usage: word 2 bad value\n"),
+        (&["solve", "t.in2", "hat=3"], "usage: word 2 unknown key\n"),
+        (
+            &["cycle", "t.in2", "stations=2", "units=1000001"],
+            "usage: word 3 bad value\n",
+        ),
+        (
+            &["balance", "t.in2", "cycle=0"],
+            "usage: word 2 bad value\n",
+        ),
+        (
+            &["balance", "t.in2", "cycle=1000000000000000001"],
+            "usage: word 2 bad value\n",
+        ),
+        (
+            &["balance", "t.in2", "cycle=7", "cycle=8"],
+            "usage: word 3 repeated key\n",
+        ),
+        (
+            &["balance", "t.in2", "cycle=7", "apart="],
+            "usage: word 3 bad value\n",
+        ),
+        (&["balance", "", "cycle=7"], "usage: word 1 extra name\n"),
+        (&["balance", "t.in2", "more"], "usage: word 2 extra name\n"),
+        (
+            &["convert", "t.in2", "t.alb"],
+            "usage: word 3 missing key\n",
+        ),
+        (&["--help", "solve"], "usage: word 0 unknown command\n"),
     ];
-    for words in lists {
+    for (words, line) in rows {
         let (status, text) = run_over(rt.alloc(), words, P5, &[], &[])?;
         assert_eq!(rt; status, Status::Usage);
-        assert_eq!(rt; text.as_str(), "usage\n");
+        assert_eq!(rt; text.as_str(), line);
     }
+    Ok(())
+}
+
+#[test]
+fn jobs_that_are_not_built(rt: HostRuntime) -> Result<(), Fail> {
+    let rows: [(&[&str], &str); 4] = [
+        (&["solve", "none.in2"], "not built: solve\n"),
+        (&["balance", "none.in2", "line=u"], "not built: line\n"),
+        (&["try", "seed=1", "tasks=2", "line=u"], "not built: try\n"),
+        (&["combine", "a.csv", "b.in2"], "not built: combine\n"),
+    ];
+    for (words, line) in rows {
+        let (status, text) = run_over(rt.alloc(), words, P5, &[0], &[])?;
+        assert_eq!(rt; status, Status::Usage);
+        assert_eq!(rt; text.as_str(), line);
+    }
+    Ok(())
+}
+
+#[test]
+fn pages(rt: HostRuntime) -> Result<(), Fail> {
+    let (status, text) = run_over(rt.alloc(), &["--version"], P5, &[], &[])?;
+    assert_eq!(rt; status, Status::Done);
+    assert_eq!(rt; text.as_str(), "line_program 0.1.0\n");
+    let (status, text) = run_over(rt.alloc(), &["--help"], P5, &[], &[])?;
+    assert_eq!(rt; status, Status::Done);
+    let mut lines = 0u32;
+    for line in text.lines() {
+        assert!(rt; line.len() <= 80, "{line}");
+        lines = lines.wrapping_add(1);
+    }
+    assert!(rt; lines <= 40, "{lines}");
+    assert!(rt; text.contains("line balance jackson.in2 cycle=10"));
+    let (status, _) = run_over(rt.alloc(), &["--help"], P5, &[], &[0])?;
+    assert_eq!(rt; status, Status::WriteFault);
+    Ok(())
+}
+
+#[test]
+fn no_cycle_time(rt: HostRuntime) -> Result<(), Fail> {
+    let words = ["balance", "t.in2", "apart=none.apart"];
+    let (status, text) = run_over(rt.alloc(), &words, P5, &[], &[])?;
+    assert_eq!(rt; status, Status::Input);
+    assert_eq!(rt; text.as_str(), "input: t.in2 no cycle time\n");
+    Ok(())
+}
+
+#[test]
+fn words_in_another_order(rt: HostRuntime) -> Result<(), Fail> {
+    let words = ["balance", "line=straight", "cycle=7", "t.in2"];
+    let (status, text) = run_over(rt.alloc(), &words, P5, &[], &[])?;
+    assert_eq!(rt; status, Status::Done);
+    assert!(rt; text.as_str().starts_with("balance 3\n"));
     Ok(())
 }
 

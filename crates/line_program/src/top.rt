@@ -1,22 +1,26 @@
 //! A run of the program, from its words and files to the report that is put.
-ghost use Rattle.std.specs.Prelude.{◌≡◌, ◌≢◌, ◌++◌, ◌≤◌, ◌<◌, ◌^◌, ℕ, List, length, take, IfOk, MatchResult, option_map, string_bytes, codes};
+ghost use Rattle.std.specs.Prelude.{◌≡◌, ◌≢◌, ◌++◌, ◌≤◌, ◌<◌, ◌^◌, ℕ, List, Some, None, length, take, IfOk, MatchResult, option_map, string_bytes, codes};
 ghost use Rattle.line_io.specs.Outside.{Rises};
 ghost use Rattle.line_rules.specs.Bounds.{idle_time};
-ghost use Rattle.line_program.specs.Words.{AskNothing, texts};
-ghost use Rattle.line_program.specs.Answers.{IsAnswer, IsDone, IsSaid};
+ghost use Rattle.line_words.specs.Words.{Text, texts};
+ghost use Rattle.line_words.specs.Ranges.{IsBetween, IsSetBetween, IsInRange};
+ghost use Rattle.line_program.specs.Built.{AskNothing, unbuilt};
+ghost use Rattle.line_program.specs.Answers.{IsAnswer, IsDone, IsReport, IsSaid};
 ghost use Rattle.line_program.specs.Files.{IsUnsaid, MayFault};
-ghost use Rattle.line_program.specs.Run.{IsPrinted, IsPut, IsTorn};
+ghost use Rattle.line_program.specs.Run.{IsJobRefusal, IsReported, IsPrinted, IsPut, IsTorn};
 ghost use Rattle.line_program.specs.declared.status.Status.TheVariants as ends;
 
-use crate::files::{instance_of, pairs_of};
+use crate::files::{Timed, pairs_of, timed_of};
+use crate::pages::{help_page, version_page};
 use crate::refusal::{Refusal, Report};
 use crate::report::{balance_report, infeasible_report};
 use crate::status::Status;
-use crate::words::job_of;
+use crate::usage::{unbuilt, unbuilt_report, usage_report};
 use first_fit::{Ranked, ranked_balance};
 use line_instance::Instance;
 use line_io::{Shelf, Sink, Stored};
 use line_rules::LineKind;
+use line_words::{Job, JobRead, Name, job_of};
 use lower_bounds::{total_bound, total_time};
 use std::alloc::{AllocError, Global};
 
@@ -47,61 +51,97 @@ fn answer(alloc: Global, inst: &Instance, cycle: u64) -> Result<String, AllocErr
     }
 }
 
-/// The instance that the files of a job say.
+/// The instance that the files of a job say, and the cycle time to balance it at.
 fn said_instance<S: Shelf>(
     alloc: Global,
     file: &str,
     apart: Option<&str>,
+    word: Option<u64>,
     shelf: &mut S,
-) -> Result<Instance, Refusal>
-    ensures said { S.tells → MatchResult result (IsSaid (S.file shelf.old) file.now (option_map (λ a. a.now) apart.entry)) (IsUnsaid (S.file shelf.old) file.now (option_map (λ a. a.now) apart.entry)) }
+) -> Result<Timed, Refusal>
+    requires word { IsSetBetween 1 1000000000000000000 word }
+    ensures said { S.tells → MatchResult result (λ t. IsSaid (S.file shelf.old) file.now (option_map (λ a. a.now) apart.entry) word t.inst t.cycle) (IsUnsaid (S.file shelf.old) file.now (option_map (λ a. a.now) apart.entry) word) }
+    ensures limit { IfOk result (λ t. IsBetween 1 1000000000000000000 t.cycle) }
     ensures fault { MatchResult result (λ _. Unit {0}) (MayFault (Rises (S.faults shelf.old) (S.faults shelf.new))) }
     ensures files { S.tells → (q : List ℕ) → S.file shelf.new q ≡ S.file shelf.old q }
 {
-    let mut inst = instance_of(alloc, file, shelf)?;
+    let mut timed = timed_of(alloc, file, word, shelf)?;
     let Some(apart) = apart else {
-        return Ok(inst);
+        return Ok(timed);
     };
-    let pairs = pairs_of(alloc, apart, inst.tasks(), shelf)?;
-    inst.set_apart(&pairs);
-    Ok(inst)
+    let pairs = pairs_of(alloc, apart, timed.inst.tasks(), shelf)?;
+    timed.inst.set_apart(&pairs);
+    Ok(timed)
 }
 
-/// The answer to a job.
-fn answer_job<S: Shelf>(
+/// The ranked balance of the instance of a file.
+fn balance_text_of<S: Shelf>(
     alloc: Global,
     file: &str,
     apart: Option<&str>,
-    cycle: u64,
+    word: Option<u64>,
     shelf: &mut S,
 ) -> Result<String, Refusal>
-    requires some { 1 ≤ cycle }
-    requires limit { cycle ≤ 1000000000000000000 }
-    ensures done { S.tells → MatchResult result (λ t. IsDone (S.file shelf.old) file.now (option_map (λ a. a.now) apart.entry) cycle (string_bytes t)) (IsUnsaid (S.file shelf.old) file.now (option_map (λ a. a.now) apart.entry)) }
+    requires word { IsSetBetween 1 1000000000000000000 word }
+    ensures done { S.tells → MatchResult result (λ t. IsDone (S.file shelf.old) file.now (option_map (λ a. a.now) apart.entry) word (string_bytes t)) (IsUnsaid (S.file shelf.old) file.now (option_map (λ a. a.now) apart.entry) word) }
     ensures fault { MatchResult result (λ _. Unit {0}) (MayFault (Rises (S.faults shelf.old) (S.faults shelf.new))) }
     ensures files { S.tells → (q : List ℕ) → S.file shelf.new q ≡ S.file shelf.old q }
 {
-    let inst = said_instance(alloc, file, apart, shelf)?;
-    let text = answer(alloc, &inst, cycle)?;
+    let timed = said_instance(alloc, file, apart, word, shelf)?;
+    let text = answer(alloc, &timed.inst, timed.cycle)?;
     Ok(text)
 }
 
-/// The report of the words' job, and of words that ask for none.
-fn report_of<S: Shelf>(alloc: Global, words: &[String], shelf: &mut S) -> Result<Report, AllocError>
-    ensures report { S.tells → IfOk result (λ r. IsPrinted words.now (S.file shelf.old) r.status (string_bytes r.text)) }
-    ensures usage { IfOk result (λ r. r.status ≡ ends.Usage → AskNothing (texts words.now)) }
+/// The name of an optional file.
+fn text_of(name: &Option<Name>) -> Option<&str>
+    ensures { option_map (λ a. a.now) result ≡ name.now }
+{
+    match name {
+        Some(name) => Some(name.text()),
+        None => None,
+    }
+}
+
+/// What a job puts, where all of it is built.
+fn job_text<S: Shelf>(alloc: Global, job: &Job, shelf: &mut S) -> Result<String, Refusal>
+    requires built { unbuilt job.now ≡ None }
+    requires range { IsInRange job.now }
+    ensures done { S.tells → MatchResult result (λ t. IsReport (S.file shelf.old) job.now ends.Done (string_bytes t)) (IsJobRefusal (S.file shelf.old) job.now) }
+    ensures fault { MatchResult result (λ _. Unit {0}) (MayFault (Rises (S.faults shelf.old) (S.faults shelf.new))) }
+    ensures files { S.tells → (q : List ℕ) → S.file shelf.new q ≡ S.file shelf.old q }
+{
+    match job {
+        Job::Help => {
+            let text = help_page(alloc)?;
+            Ok(text)
+        }
+        Job::Version => {
+            let text = version_page(alloc)?;
+            Ok(text)
+        }
+        Job::Balance {
+            file,
+            cycle,
+            apart,
+            ..
+        } => balance_text_of(alloc, file.text(), text_of(apart), *cycle, shelf),
+        _ => unreachable!(),
+    }
+}
+
+/// The report of a job.
+fn job_report<S: Shelf>(alloc: Global, job: &Job, shelf: &mut S) -> Result<Report, AllocError>
+    requires range { IsInRange job.now }
+    ensures report { S.tells → IfOk result (λ r. IsReported (S.file shelf.old) job.now r.status (string_bytes r.text)) }
+    ensures usage { IfOk result (λ r. r.status ≡ ends.Usage → (part : Text) × (unbuilt job.now ≡ Some part)) }
     ensures read { IfOk result (λ r. r.status ≡ ends.ReadFault → Rises (S.faults shelf.old) (S.faults shelf.new)) }
     ensures write { IfOk result (λ r. r.status ≢ ends.WriteFault) }
     ensures files { S.tells → (q : List ℕ) → S.file shelf.new q ≡ S.file shelf.old q }
 {
-    let Some(job) = job_of(alloc, words)? else {
-        let text = String::from_str(alloc, "usage\n")?;
-        return Ok(Report {
-            status: Status::Usage,
-            text,
-        });
-    };
-    match answer_job(alloc, job.file, job.apart, job.cycle, shelf) {
+    if let Some(part) = unbuilt(job) {
+        return unbuilt_report(alloc, part);
+    }
+    match job_text(alloc, job, shelf) {
         Ok(text) => Ok(Report {
             status: Status::Done,
             text,
@@ -110,6 +150,22 @@ fn report_of<S: Shelf>(alloc: Global, words: &[String], shelf: &mut S) -> Result
         Err(Refusal::Memory) => Err(AllocError),
     }
 }
+
+/// The report of the words' job, and of words that ask for none.
+fn report_of<S: Shelf>(alloc: Global, words: &[String], shelf: &mut S) -> Result<Report, AllocError>
+    ensures report { S.tells → IfOk result (λ r. IsPrinted (texts words.now) (S.file shelf.old) r.status (string_bytes r.text)) }
+    ensures usage { IfOk result (λ r. r.status ≡ ends.Usage → AskNothing (texts words.now)) }
+    ensures read { IfOk result (λ r. r.status ≡ ends.ReadFault → Rises (S.faults shelf.old) (S.faults shelf.new)) }
+    ensures write { IfOk result (λ r. r.status ≢ ends.WriteFault) }
+    ensures files { S.tells → (q : List ℕ) → S.file shelf.new q ≡ S.file shelf.old q }
+{
+    match job_of(alloc, words) {
+        JobRead::Good(job) => job_report(alloc, &job, shelf),
+        JobRead::Usage { index, kind } => usage_report(alloc, index, kind),
+        JobRead::NoMemory => Err(AllocError),
+    }
+}
+
 /// Puts a text, and answers the status, or that the put failed.
 fn put<K: Sink>(out: &mut K, text: &[u8], status: Status) -> Status
     requires { status ≢ ends.WriteFault }
@@ -126,12 +182,13 @@ fn put<K: Sink>(out: &mut K, text: &[u8], status: Status) -> Status
 
 /// Runs the program: reads the words, fetches the files that they name, and puts one report.
 ///
-/// The words are `balance`, the name of an IN2 file, `cycle=C` and, where there are tasks that may not share a station, `apart=FILE`.
-/// The report is the ranked balance of the instance at cycle time C, with the bound by total time and the idle time, or the least task
-/// that is longer than C. Any other words are answered by the line `usage`. Each refusal is one line, and nothing is put with it. The files stay as they are.
+/// `--help` puts the page with all commands. `balance` puts the ranked balance of an instance at a cycle time, with the bound by total time
+/// and the idle time, or the least task that is longer than the cycle. A fault of the words is answered by the line `usage`, with the
+/// number of the word and what is wrong, and a job that isn't built by the line `not built`. Each refusal is one line, and nothing is put
+/// with it. The files stay as they are.
 pub fn run<S: Shelf, K: Sink>(alloc: Global, words: &[String], shelf: &mut S, out: &mut K) -> Status
-    ensures put { S.tells → K.tells → result ≢ ends.WriteFault → IsPut words.now (S.file shelf.old) result (K.shown out.old) (K.shown out.new) }
-    ensures torn { S.tells → K.tells → result ≡ ends.WriteFault → IsTorn words.now (S.file shelf.old) (K.shown out.old) (K.shown out.new) }
+    ensures put { S.tells → K.tells → result ≢ ends.WriteFault → IsPut (texts words.now) (S.file shelf.old) result (K.shown out.old) (K.shown out.new) }
+    ensures torn { S.tells → K.tells → result ≡ ends.WriteFault → IsTorn (texts words.now) (S.file shelf.old) (K.shown out.old) (K.shown out.new) }
     ensures usage { result ≡ ends.Usage → AskNothing (texts words.now) }
     ensures read { result ≡ ends.ReadFault → Rises (S.faults shelf.old) (S.faults shelf.new) }
     ensures write { result ≡ ends.WriteFault → Rises (K.faults out.old) (K.faults out.new) }
