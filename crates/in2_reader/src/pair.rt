@@ -29,8 +29,8 @@ pub enum Pair {
     Other,
 }
 
-// Whether a byte is a blank or a tab; a CR isn't one.
-fn is_gap(b: u8) -> bool
+/// Whether a byte is a blank or a tab; a CR isn't one.
+pub fn is_gap(b: u8) -> bool
     ensures { result ≡ gap b }
 {
     b == b' ' || b == b'\t'
@@ -50,8 +50,8 @@ fn before_gaps(bytes: &[u8]) -> &[u8]
     kept
 }
 
-// The bytes from the first one that is neither.
-fn behind_gaps(bytes: &[u8]) -> &[u8]
+/// The bytes from the first one that is neither a blank nor a tab.
+pub fn behind_gaps(bytes: &[u8]) -> &[u8]
     ensures { result.now ≡ without_gaps_front bytes.now }
 {
     let mut kept = bytes;

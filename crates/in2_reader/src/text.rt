@@ -7,10 +7,11 @@ use line_instance::Ring;
 use std::alloc::AllocError;
 use std::fmt;
 
-// The tasks of a ring, counted from 1, a blank before each.
+/// The tasks of a ring, which are printed counted from 1, a blank before each.
 #[derive(Drop)]
-struct RingTasks<'a> {
-    ring: &'a Ring,
+pub struct RingTasks<'a> {
+    /// The ring.
+    pub ring: &'a Ring,
 }
 
 impl fmt::Display for RingTasks<'_> {

@@ -33,8 +33,8 @@ fn push_times(text: &mut String, inst: &Instance) -> Result<(), AllocError>
     Ok(())
 }
 
-// Appends a line for each pair, its tasks counted from 1.
-fn push_pairs(text: &mut String, pairs: &[Prec]) -> Result<(), AllocError>
+/// Appends a line for each pair, its tasks counted from 1. An error where memory is wanting.
+pub fn push_pairs(text: &mut String, pairs: &[Prec]) -> Result<(), AllocError>
     ensures { OnOk result (string_bytes text.new ≡ string_bytes text.old ++ flat_map pair_line pairs.now) }
 {
     for pair in pairs {
@@ -45,8 +45,8 @@ fn push_pairs(text: &mut String, pairs: &[Prec]) -> Result<(), AllocError>
     Ok(())
 }
 
-// The covering pairs, ascending by the first task and then the second.
-fn covers_of(alloc: Global, inst: &Instance) -> Result<Vec<Prec>, AllocError>
+/// The covering pairs, ascending by the first task and then the second. An error where memory is wanting.
+pub fn covers_of(alloc: Global, inst: &Instance) -> Result<Vec<Prec>, AllocError>
     ensures { IfOk result (λ pairs. AreCovers inst.now pairs.items) }
 {
     let mut pairs = Vec::new(alloc);

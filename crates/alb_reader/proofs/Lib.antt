@@ -1,0 +1,6 @@
+pub mod Filing
+pub mod Gaps
+pub mod Taking
+pub mod Upto
+pub mod Stated
+pub mod Whole

@@ -1,0 +1,14 @@
+//! Instances, with a cycle time or none, as ALB texts.
+#![tactic(auto)]
+
+mod answer;
+mod draft;
+mod fault;
+mod filling;
+mod mark;
+mod reading;
+mod text;
+
+pub use answer::{AlbRead, read_alb};
+pub use fault::{AlbFault, AlbKind};
+pub use text::push_fault;
