@@ -5,3 +5,4 @@ pub mod Texts
 pub mod Drafts
 pub mod Fillings
 pub mod Making
+pub mod Written

@@ -8,7 +8,9 @@ mod filling;
 mod mark;
 mod reading;
 mod text;
+mod writing;
 
 pub use answer::{AlbRead, read_alb};
 pub use fault::{AlbFault, AlbKind};
 pub use text::push_fault;
+pub use writing::write_alb;

@@ -1,0 +1,37 @@
+-- The canonical ALB text of an instance.
+use Rattle.std.specs.Prelude.{◌≡◌, ℕ, ◌+◌, List, [], ◌++◌, codes, decimal, Option, Some, None}
+use Rattle.std.specs.List.{flat_map, range_with_len}
+use Rattle.line_instance.specs.declared.arcs.Prec.{Prec}
+use Rattle.line_instance.specs.Line.{Line, tasks, time}
+use Rattle.in2_reader.specs.Written.{AreCovers, pair_line}
+
+-- the section of the number of tasks
+abbrev pub tasks_section : ℕ → List ℕ
+tasks_section n = codes "<number of tasks>\n" ++ decimal n ++ codes "\n\n"
+
+-- the section of the cycle time, where there is one
+abbrev pub cycle_section : Option ℕ → List ℕ
+cycle_section None = []
+cycle_section (Some c) = codes "<cycle time>\n" ++ decimal c ++ codes "\n\n"
+
+-- the line of a task, counted from 1, and its time
+abbrev pub timed_line : Line → ℕ → List ℕ
+timed_line line i = decimal (i + 1) ++ codes " " ++ decimal (time line i) ++ codes "\n"
+
+-- the section of the task times
+abbrev pub times_section : Line → List ℕ
+times_section line = codes "<task times>\n" ++ flat_map (timed_line line) (range_with_len 0 (tasks line)) ++ codes "\n"
+
+-- the section of the pairs
+abbrev pub pairs_section : List Prec → List ℕ
+pairs_section ps = codes "<precedence relations>\n" ++ flat_map pair_line ps ++ codes "\n"
+
+-- the sections in their order, each followed by an empty line, and the end mark; the tasks and the pairs ascend
+abbrev pub alb_text : Line → List Prec → Option ℕ → List ℕ
+alb_text line ps cycle = tasks_section (tasks line) ++ cycle_section cycle ++ times_section line ++ pairs_section ps ++ codes "<end>\n"
+
+-- the canonical text of a line has its times, its covering pairs, and the cycle time where there is one
+pub record IsAlbText (line : Line) (cycle : Option ℕ) (bytes : List ℕ) : Type 0 where
+  pub ps : List Prec
+  pub covers : AreCovers line ps
+  pub text : bytes ≡ alb_text line ps cycle
