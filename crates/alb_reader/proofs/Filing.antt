@@ -145,8 +145,9 @@ module _ (before : Lines) (l : ℕ × List ℕ) where
   pub heading_taken : (s : Section) (d e : Draft) (r : Result (Unit {0}) LineError) → IsDraft before d → mark_of l.1 ≡ Heading s
       → OnOk r ((heading_seen d.seen s ≡ false) × (e ≡ opened d s e.seen)) → OnOk r ((t : Section) → heading_seen e.seen t ≡ (is_same t s || heading_seen d.seen t))
       → OnErr r (heading_seen d.seen s ≡ true) → IfErr r (λ x. x ≡ Fault RepeatedHeading) → MatchResult r (λ _. (line_fault before l.1 ≡ None) × IsDraft (before ++ l ∷ []) e) (IsWrong (line_fault before l.1))
-  heading_taken s d e (Ok u) h m opened noted again kind =
-      (ap (mark_fault before l.1) m ∙ ap (λ b. cond b (Some RepeatedHeading) None) (sym (h.seen s) ∙ opened.0),
-      subst (IsDraft (before ++ l ∷ [])) (sym opened.1) (heading_draft s d e.seen h m noted))
+  heading_taken s d e (Ok u) h m opened noted again kind = (
+    ap (mark_fault before l.1) m ∙ ap (λ b. cond b (Some RepeatedHeading) None) (sym (h.seen s) ∙ opened.0),
+    subst (IsDraft (before ++ l ∷ [])) (sym opened.1) (heading_draft s d e.seen h m noted),
+  )
   heading_taken s d e (Err x) h m opened noted again kind =
       subst (IsWrong (line_fault before l.1)) (sym kind) (ap (mark_fault before l.1) m ∙ ap (λ b. cond b (Some RepeatedHeading) None) (sym (h.seen s) ∙ again))

@@ -4,3 +4,4 @@ pub mod Taking
 pub mod Upto
 pub mod Stated
 pub mod Whole
+pub mod Excluded

@@ -211,8 +211,8 @@ pub whole_are : (n : ℕ) (lines : Lines) (given : List (Option ℕ)) (times : L
     → times ≡ times_of n lines
 whole_are n lines given times g m each =
     ext_get_or 0 times (times_of n lines) (m ∙ g.many ∙ sym (length-map-range_with_len (λ i. time_of (suc i) lines) 0 n))
-        (λ i h. sym (get_or-map-range_with_len (λ i. time_of (suc i) lines) 0 n i i 0 (omega (arith, h, m, g.many)) (omega arith)
-        ∙ time_given (suc i) lines (get_or times i 0) (sym (g.each i (omega (arith, h, m, g.many))) ∙ each i (omega (arith, h, m)))))
+    (λ i h. sym (get_or-map-range_with_len (λ i. time_of (suc i) lines) 0 n i i 0 (omega (arith, h, m, g.many)) (omega arith)
+    ∙ time_given (suc i) lines (get_or times i 0) (sym (g.each i (omega (arith, h, m, g.many))) ∙ each i (omega (arith, h, m)))))
 
 pub all_named : (n : ℕ) (lines : Lines) (given : List (Option ℕ)) (times : List ℕ) → AreGiven n lines given → ((i : ℕ) → i < length given → get_or given i None ≡ Some (get_or times i 0)) → AllNamed n lines
 all_named n lines given times g each = λ i h. named_by lines (suc i) (get_or times i 0) (sym (g.each i h) ∙ each i (omega (arith, h, g.many)))
@@ -232,7 +232,7 @@ module _ (n : ℕ) (kept : List PairLine) (lines : Lines) (k : ℕ) (d : PairLin
   arcs_on arcs a r q =
       let x = arc_right n (pair_in 1024 (line_at lines k arc_there).at.1) a (sym (ap (λ l. named_arc n l.arc) (read_at pair_line kept lines k d e arc_there)) ∙ r) in
       subst (λ m. AreRight (arc_fault n) (take m lines) × (arcs ++ a ∷ [] ≡ arcs_of (take m lines))) (sym (add-one k))
-          (right_up_to (arc_fault n) lines k arc_there q.0 x.0, arcs_up_to lines k arc_there arcs a q.1 x.1)
+      (right_up_to (arc_fault n) lines k arc_there q.0 x.0, arcs_up_to lines k arc_there arcs a q.1 x.1)
 
   pub arcs_stop : named_arc n (get_or kept k d).arc ≡ None → AreRight (arc_fault n) (take k lines) → IsFirstWrong (arc_fault n) lines (get_or kept k d).line BadArc
   arcs_stop r q =
@@ -260,7 +260,7 @@ module _ (n : ℕ) (kept : List TimeLine) (lines : Lines) (k : ℕ) (d : TimeLin
       let at : (get_or kept k d).task - 1 < n = omega (arith, low, high) in
       let up : suc ((get_or kept k d).task - 1) ≡ v = omega (arith, low, task_is) in
       named_task n (take k lines) (line_at lines k time_there).at.1 b (subst (λ x. 1 ≤ x) task_is low) (subst (λ x. x ≤ n) task_is high)
-          (names_given v (take k lines) ∙ ap (λ x. is_there (given_of x (take k lines))) (sym up) ∙ ap is_there (sym (g.each ((get_or kept k d).task - 1) at)) ∙ t)
+      (names_given v (take k lines) ∙ ap (λ x. is_there (given_of x (take k lines))) (sym up) ∙ ap is_there (sym (g.each ((get_or kept k d).task - 1) at)) ∙ t)
 
   pub times_again : (given : List (Option ℕ)) → 1 ≤ (get_or kept k d).task → (get_or kept k d).task ≤ n → AreGiven n (take k lines) given → is_there (get_or given ((get_or kept k d).task - 1) None) ≡ true
       → AreRight (task_fault n) (take k lines) → IsFirstWrong (task_fault n) lines (get_or kept k d).line RepeatedTask
@@ -270,9 +270,10 @@ module _ (n : ℕ) (kept : List TimeLine) (lines : Lines) (k : ℕ) (d : TimeLin
       → AreRight (task_fault n) (take k lines) × AreGiven n (take k lines) given
       → AreRight (task_fault n) (take (k + 1) lines) × AreGiven n (take (k + 1) lines) (set given ((get_or kept k d).task - 1) (Some (get_or kept k d).time))
   times_on given low high t q =
-      subst (λ m. AreRight (task_fault n) (take m lines) × AreGiven n (take m lines) (set given ((get_or kept k d).task - 1) (Some (get_or kept k d).time))) (sym (add-one k))
-          (right_up_to (task_fault n) lines k time_there q.0 (named_is given false low high q.1 t),
-          given_up_to lines k n ((get_or kept k d).task - 1) (get_or kept k d).time given time_there q.1 (omega (arith, low, high)) (sym (omega (arith, low, task_is))) (sym (ap (λ l. l.time) (read_at time_line kept lines k d e time_there))) t)
+      subst (λ m. AreRight (task_fault n) (take m lines) × AreGiven n (take m lines) (set given ((get_or kept k d).task - 1) (Some (get_or kept k d).time))) (sym (add-one k)) (
+        right_up_to (task_fault n) lines k time_there q.0 (named_is given false low high q.1 t),
+        given_up_to lines k n ((get_or kept k d).task - 1) (get_or kept k d).time given time_there q.1 (omega (arith, low, high)) (sym (omega (arith, low, task_is))) (sym (ap (λ l. l.time) (read_at time_line kept lines k d e time_there))) t,
+      )
 
 -- the times that are given, or the first task without one
 pub times_whole : (n : ℕ) (lines : Lines) (given gone : List (Option ℕ)) (end : ℕ) (r : Result (Vec ℕ Global) AlbError) → AreRight (task_fault n) lines → AreGiven n lines given → gone ≡ given → GivesWhole gone end r → IsTimesRead n lines end r

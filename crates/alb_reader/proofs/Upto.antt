@@ -16,7 +16,7 @@ use Rattle.alb_reader.specs.declared.mark.Mark.{Mark}
 use Rattle.alb_reader.specs.declared.mark.Mark.TheVariants.{Heading, End, Unknown, Body}
 use Rattle.alb_reader.proofs.Filing.{append_nil}
 
-append_assoc : {A : Type 0} (xs ys zs : List A) → xs ++ (ys ++ zs) ≡ (xs ++ ys) ++ zs
+pub append_assoc : {A : Type 0} (xs ys zs : List A) → xs ++ (ys ++ zs) ≡ (xs ++ ys) ++ zs
 append_assoc [] ys zs = refl
 append_assoc (x ∷ xs) ys zs = ap (λ t. x ∷ t) (append_assoc xs ys zs)
 
@@ -70,9 +70,10 @@ no_end_snoc xs l n m = (before_append xs (l ∷ []) n ∙ ap (λ t. xs ++ t) (on
 
 -- an end mark behind such lines
 pub marked : (xs : Lines) (l : ℕ × List ℕ) (ys : Lines) → NoEnd xs → mark_of l.1 ≡ End → (before_end (xs ++ l ∷ ys) ≡ xs) × (end_line (xs ++ l ∷ ys) ≡ Some l.0)
-marked xs l ys n m =
-    (before_append xs (l ∷ ys) n ∙ ap (λ t. xs ++ t) (ap (λ k. cond (is_end_mark k) [] (l ∷ before_end ys)) m) ∙ append_nil xs,
-    end_append xs (l ∷ ys) n ∙ ap (λ k. cond (is_end_mark k) (Some l.0) (end_line ys)) m)
+marked xs l ys n m = (
+  before_append xs (l ∷ ys) n ∙ ap (λ t. xs ++ t) (ap (λ k. cond (is_end_mark k) [] (l ∷ before_end ys)) m) ∙ append_nil xs,
+  end_append xs (l ∷ ys) n ∙ ap (λ k. cond (is_end_mark k) (Some l.0) (end_line ys)) m,
+)
 
 -- the first line at fault
 pub first_wrong : (all xs : Lines) (l : ℕ × List ℕ) (ys : Lines) (last : ℕ) (f : AlbFault) → all ≡ xs ++ l ∷ ys → NoEnd xs → (mark_of l.1 ≡ End → ⊥) → AreRight line_fault xs

@@ -120,7 +120,6 @@ IsAlbFault bytes f =
     IsFormFault (contents_from 1 bytes) (lines_in 1 bytes) f
     ⊎ ((end : ℕ) × (n : ℕ) × IsFormed (contents_from 1 bytes) end n × IsFillFault (before_end (contents_from 1 bytes)) end n f)
 
-
 -- Each answer with its cause: what the text says, or its first fault.
 abbrev pub IsAlbRead : List ℕ → AlbRead → Type 0
 IsAlbRead bytes (Good line cycle) = IsAlbReading bytes line cycle

@@ -268,7 +268,8 @@ impl Draft {
                 Ok(())
             }
             Some(Section::Pairs) => {
-                self.pairs.push(paired_line(line, content, self.pairs.len())?)?;
+                self.pairs
+                    .push(paired_line(line, content, self.pairs.len())?)?;
                 Ok(())
             }
         }

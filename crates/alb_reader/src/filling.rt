@@ -25,7 +25,11 @@ fn is_task(number: u64, tasks: usize) -> bool
 }
 
 // The time that is given to each task, or the first line of task times that names none of them, or one that was named before.
-fn given_times(alloc: Global, tasks: usize, lines: &[TimeLine]) -> Result<Vec<Option<u64>>, AlbError>
+fn given_times(
+    alloc: Global,
+    tasks: usize,
+    lines: &[TimeLine],
+) -> Result<Vec<Option<u64>>, AlbError>
     requires { tasks ≤ 1024 }
     ensures given { (under : Lines) → lines.now ≡ map time_line under → GivesTimes tasks under result }
     ensures many { IfOk result (λ v. length v.items ≡ tasks) }
@@ -61,7 +65,12 @@ fn whole_times(alloc: Global, given: &[Option<u64>], end: u64) -> Result<Vec<u64
 }
 
 /// The times of so many tasks, or what is wrong with them.
-pub fn times_of(alloc: Global, tasks: usize, lines: &[TimeLine], end: u64) -> Result<Vec<u64>, AlbError>
+pub fn times_of(
+    alloc: Global,
+    tasks: usize,
+    lines: &[TimeLine],
+    end: u64,
+) -> Result<Vec<u64>, AlbError>
     requires { tasks ≤ 1024 }
     ensures { (under : Lines) → lines.now ≡ map time_line under → IsTimesRead tasks under end result }
 {

@@ -7,10 +7,13 @@ mod fault;
 mod filling;
 mod mark;
 mod reading;
+#[cfg(test)]
+mod tests;
 mod text;
 mod writing;
 
 pub use answer::{AlbRead, read_alb};
 pub use fault::{AlbFault, AlbKind};
+pub use mark::begins_heading;
 pub use text::push_fault;
 pub use writing::write_alb;

@@ -32,8 +32,8 @@ pub enum Mark {
     Body,
 }
 
-// Whether a content begins with `<`.
-fn begins_heading(content: &[u8]) -> bool
+/// Whether a content begins with `<`.
+pub fn begins_heading(content: &[u8]) -> bool
     ensures { result ≡ begins_heading content.now }
 {
     match content {

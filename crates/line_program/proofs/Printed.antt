@@ -1,21 +1,24 @@
--- What is reported of a job is printed for the words that ask for it.
-use Rattle.std.proofs.Common.{◌≡◌, ℕ, List, Option, Some, None, ◌⊎◌, inl, inr, refl, sym, subst, string_bytes}
-use Rattle.line_words.specs.Words.{Text}
-use Rattle.line_words.specs.Jobs.{IsJob}
-use Rattle.line_words.specs.declared.job.Job.{Job}
-use Rattle.line_words.specs.declared.job.Job.TheVariants.{Help, Version, Balance, Solve, Cycle, Check, Convert, Combine, Utility, Timeline, Try}
+-- What is reported of a job is printed for the words that ask for it, and what is left of the files.
+use Rattle.std.proofs.Common.{◌≡◌, ◌≢◌, ◌∙◌, ℕ, Bool, true, false, List, [], ◌++◌, take, Option, Some, None, ◌⊎◌, inl, inr, refl, sym, ap, subst, string_bytes, codes}
 use Rattle.std.specs.Result.{IfOk}
-use Rattle.std.proofs.lemmas.Result.{IfOk-weaker}
 use Rattle.std.specs.declared.result.Result.{Result}
 use Rattle.std.specs.declared.result.Result.TheVariants.{Ok, Err}
 use Rattle.std.specs.declared.alloc.AllocError.{AllocError}
-use Rattle.line_words.specs.Jobs.{IsFault}
+use Rattle.line_io.specs.Whole.{IsFrontWritten}
+use Rattle.line_words.specs.Words.{Text}
+use Rattle.line_words.specs.Jobs.{IsJob, IsFault}
 use Rattle.line_words.specs.Texts.{usage_text}
 use Rattle.line_words.specs.declared.fault.UsageKind.{UsageKind}
-use Rattle.line_program.specs.declared.refusal.Report.{Report}
+use Rattle.line_words.specs.declared.job.FormWord.{FormWord}
+use Rattle.line_words.specs.declared.job.FormWord.TheVariants.{In2, Alb, Cert}
+use Rattle.line_words.specs.declared.job.LineWord.TheVariants.{Straight, U}
+use Rattle.line_words.specs.declared.job.Job.{Job}
+use Rattle.line_words.specs.declared.job.Job.TheVariants.{Help, Version, Balance, Solve, Cycle, Check, Convert, Combine, Utility, Timeline, Try}
 use Rattle.line_program.specs.Built.{unbuilt, unbuilt_line, AskNothing}
-use Rattle.line_program.specs.Answers.{IsReport, IsPageReport, IsBalanceReport}
-use Rattle.line_program.specs.Run.{IsReported, IsPrinted}
+use Rattle.line_program.specs.Answers.{IsReport, IsPageReport, IsBalanceReport, IsConvertReport, IsConverted, IsFaulty}
+use Rattle.line_program.specs.Files.{IsFileReport}
+use Rattle.line_program.specs.Run.{IsPrinted, IsPut, IsTorn, IsJobPrinted, IsJobPut, IsJobTorn, IsLeft, IsLeftBy, IsWhole, Leaves, LeavesConverted, Stay, out_of, status_of, text_of}
+use Rattle.line_program.specs.declared.refusal.Report.{Report}
 use Rattle.line_program.specs.declared.status.Status.{Status}
 use Rattle.line_program.specs.declared.status.Status.TheVariants as ends
 
@@ -45,6 +48,17 @@ balance_status files name apart word ends.Memory text r = absurd r
 balance_status files name apart word ends.Refused text r = absurd r
 balance_status files name apart word ends.Steps text r = absurd r
 
+convert_status : (files : List ℕ → Option (List ℕ)) (name out : List ℕ) (to : FormWord) (word : Option ℕ) (s : Status) (text : List ℕ) → IsConvertReport files name out to word s text → MayReport s
+convert_status files name out to word ends.Done text r = inl refl
+convert_status files name out to word ends.Input text r = inr (inl refl)
+convert_status files name out to word ends.ReadFault text r = inr (inr refl)
+convert_status files name out to word ends.Stopped text r = absurd r
+convert_status files name out to word ends.Usage text r = absurd r
+convert_status files name out to word ends.WriteFault text r = absurd r
+convert_status files name out to word ends.Memory text r = absurd r
+convert_status files name out to word ends.Refused text r = absurd r
+convert_status files name out to word ends.Steps text r = absurd r
+
 job_status : (files : List ℕ → Option (List ℕ)) (job : Job) (s : Status) (text : List ℕ) → IsReport files job s text → MayReport s
 job_status files Help s text r = page_status _ s text r
 job_status files Version s text r = page_status _ s text r
@@ -52,36 +66,157 @@ job_status files (Balance file cycle line apart) s text r = balance_status files
 job_status files (Solve file cycle line helpers units cert apart) s text r = absurd r
 job_status files (Cycle file stations line helpers units cert) s text r = absurd r
 job_status files (Check file cert steps apart) s text r = absurd r
-job_status files (Convert file out to cycle) s text r = absurd r
+job_status files (Convert file out to cycle) s text r = convert_status files file out to cycle s text r
 job_status files (Combine mix out) s text r = absurd r
 job_status files (Utility mix cert seq interval length) s text r = absurd r
 job_status files (Timeline mix cert seq interval length) s text r = absurd r
 job_status files (Try seed tasks cycle line units) s text r = absurd r
 
+-- whether a status is this one
+abbrev pub Either : Status → Status → Type 0
+Either s t = (s ≡ t) ⊎ (s ≢ t)
+
+pub done_or : (s : Status) → Either s ends.Done
+done_or ends.Done = inl refl
+done_or ends.Stopped = inr (λ e. cc)
+done_or ends.Usage = inr (λ e. cc)
+done_or ends.Input = inr (λ e. cc)
+done_or ends.ReadFault = inr (λ e. cc)
+done_or ends.WriteFault = inr (λ e. cc)
+done_or ends.Memory = inr (λ e. cc)
+done_or ends.Refused = inr (λ e. cc)
+done_or ends.Steps = inr (λ e. cc)
+
+pub fault_or : (s : Status) → Either s ends.WriteFault
+fault_or ends.Done = inr (λ e. cc)
+fault_or ends.Stopped = inr (λ e. cc)
+fault_or ends.Usage = inr (λ e. cc)
+fault_or ends.Input = inr (λ e. cc)
+fault_or ends.ReadFault = inr (λ e. cc)
+fault_or ends.WriteFault = inl refl
+fault_or ends.Memory = inr (λ e. cc)
+fault_or ends.Refused = inr (λ e. cc)
+fault_or ends.Steps = inr (λ e. cc)
+
 -- what is reported of the job of words is printed for them
-pub printed : (words : List Text) (files : List ℕ → Option (List ℕ)) (job : Job) (s : Status) (text : List ℕ) → IsJob words job → IsReported files job s text → IsPrinted words files s text
-printed words files job s text asked (inr u) =
-    subst (λ t. IsPrinted words files t text) (sym u.0) (inr (record { job = job; asked = asked; part = u.1; unbuilt = u.2 }, u.3))
-printed words files job s text asked (inl q) = elim (job_status files job s text q.1) [
-  | inl e ↦ subst (λ t. IsPrinted words files t text) (sym e) (record { job = job; asked = asked; built = q.0; reported = subst (λ t. IsReport files job t text) e q.1 })
+pub printed : (words : List Text) (files : List ℕ → Option (List ℕ)) (job : Job) (s : Status) (text : List ℕ) → IsJob words job → unbuilt job ≡ None → IsJobPrinted files job s text → IsPrinted words files s text
+printed words files job s text asked built (inr m) = subst (λ t. IsPrinted words files t text) (sym m.0) m.1
+printed words files job s text asked built (inl q) = elim (job_status files job s text q) [
+  | inl e ↦ subst (λ t. IsPrinted words files t text) (sym e) (record { job = job; asked = asked; built = built; reported = subst (λ t. IsReport files job t text) e q })
   | inr o ↦ elim o [
-    | inl e ↦ subst (λ t. IsPrinted words files t text) (sym e) (record { job = job; asked = asked; built = q.0; reported = subst (λ t. IsReport files job t text) e q.1 })
-    | inr e ↦ subst (λ t. IsPrinted words files t text) (sym e) (record { job = job; asked = asked; built = q.0; reported = subst (λ t. IsReport files job t text) e q.1 })
+    | inl e ↦ subst (λ t. IsPrinted words files t text) (sym e) (record { job = job; asked = asked; built = built; reported = subst (λ t. IsReport files job t text) e q })
+    | inr e ↦ subst (λ t. IsPrinted words files t text) (sym e) (record { job = job; asked = asked; built = built; reported = subst (λ t. IsReport files job t text) e q })
   ]
 ]
 
--- the same of a report that may be wanting for memory
-pub printed_if : (words : List Text) (files : List ℕ → Option (List ℕ)) (job : Job) (r : Result Report AllocError) → IsJob words job
-    → IfOk r (λ x. IsReported files job x.status (string_bytes x.text)) → IfOk r (λ x. IsPrinted words files x.status (string_bytes x.text))
-printed_if words files job r asked = IfOk-weaker r (λ x. IsReported files job x.status (string_bytes x.text)) (λ x. IsPrinted words files x.status (string_bytes x.text)) (λ x. printed words files job x.status (string_bytes x.text) asked)
+module _ (words : List Text) (files : List ℕ → Option (List ℕ)) (job : Job) (asked : IsJob words job) (built : unbuilt job ≡ None) where
+  pub put_of : (s : Status) (old new : List ℕ) → IsJobPut files job s old new → IsPut words files s old new
+  put_of s old new p = record { text = p.text; printed = printed words files job s p.text asked built p.printed; shown = p.shown }
 
-pub unbuilt_if : (words : List Text) (job : Job) (r : Result Report AllocError) → IsJob words job
-    → IfOk r (λ x. x.status ≡ ends.Usage → (part : Text) × (unbuilt job ≡ Some part)) → IfOk r (λ x. x.status ≡ ends.Usage → AskNothing words)
-unbuilt_if words job r asked = IfOk-weaker r (λ x. x.status ≡ ends.Usage → (part : Text) × (unbuilt job ≡ Some part)) (λ x. x.status ≡ ends.Usage → AskNothing words)
-    (λ x f e. inr (record { job = job; asked = asked; part = (f e).0; unbuilt = (f e).1 }))
+  pub torn_of : (old new : List ℕ) → IsJobTorn files job old new → IsTorn words files old new
+  torn_of old new p = record { status = p.status; text = p.text; printed = printed words files job p.status p.text asked built p.printed; kept = p.kept; shown = p.shown }
 
--- the report about a fault is printed for words that have it
-pub usage_if : (words : List Text) (files : List ℕ → Option (List ℕ)) (index : ℕ) (kind : UsageKind) (r : Result Report AllocError) → IsFault words index kind
-    → IfOk r (λ x. x.status ≡ ends.Usage) → IfOk r (λ x. string_bytes x.text ≡ usage_text index kind) → IfOk r (λ x. IsPrinted words files x.status (string_bytes x.text))
-usage_if words files index kind (Ok x) fault s t = subst (λ y. IsPrinted words files y (string_bytes x.text)) (sym s) (inl (record { index = index; kind = kind; fault = fault }, t))
-usage_if words files index kind (Err e) fault s t = tt
+  pub left_of : (s : Status) (after : List ℕ → Option (List ℕ)) → IsLeftBy files job s after → IsLeft words files s after
+  left_of s after (inl d) = inl (d.0, record { job = job; asked = asked; left = d.1 })
+  left_of s after (inr (inl f)) = inr (inl (f.0, record { job = job; asked = asked; left = f.1 }))
+  left_of s after (inr (inr k)) = inr (inr k)
+
+-- a report of a job that writes no file
+pub job_printed : (files : List ℕ → Option (List ℕ)) (job : Job) (r : Result Report AllocError) → IfOk r (λ x. IsReport files job x.status (string_bytes x.text)) → IsJobPrinted files job (status_of r) (text_of r)
+job_printed files job (Ok x) p = inl p
+job_printed files job (Err e) p = inr (refl, refl)
+
+pub job_put : (files : List ℕ → Option (List ℕ)) (job : Job) (r : Result Report AllocError) (s : Status) (old new : List ℕ) → IfOk r (λ x. IsReport files job x.status (string_bytes x.text)) → s ≡ status_of r → new ≡ old ++ text_of r
+    → IsJobPut files job s old new
+job_put files job r s old new p e n = record { text = text_of r; printed = subst (λ t. IsJobPrinted files job t (text_of r)) (sym e) (job_printed files job r p); shown = n }
+
+pub job_torn : (files : List ℕ → Option (List ℕ)) (job : Job) (r : Result Report AllocError) (k : ℕ) (old new : List ℕ) → IfOk r (λ x. IsReport files job x.status (string_bytes x.text)) → new ≡ old ++ take k (text_of r)
+    → IsJobTorn files job old new
+job_torn files job r k old new p n = record { status = status_of r; text = text_of r; printed = job_printed files job r p; kept = k; shown = n }
+
+-- a status that a report has, or want of memory
+pub status_if : (r : Result Report AllocError) (t : Status) (P : Type 0) → t ≢ ends.Memory → IfOk r (λ x. x.status ≡ t → P) → status_of r ≡ t → P
+status_if (Ok x) t P n p e = p e
+status_if (Err x) t P n p e = absurd (n (sym e))
+
+-- the jobs that are built and aren't to convert a file write none
+pub writes_none : (job : Job) → unbuilt job ≡ None → ((file out : List ℕ) (to : FormWord) (cycle : Option ℕ) → job ≡ Convert file out to cycle → ⊥) → out_of job ≡ None
+writes_none Help b n = refl
+writes_none Version b n = refl
+writes_none (Balance file cycle line apart) b n = refl
+writes_none (Solve file cycle line helpers units cert apart) b n = (cc)
+writes_none (Cycle file stations line helpers units cert) b n = (cc)
+writes_none (Check file cert steps apart) b n = (cc)
+writes_none (Convert file out to cycle) b n = absurd (n file out to cycle refl)
+writes_none (Combine mix out) b n = (cc)
+writes_none (Utility mix cert seq interval length) b n = (cc)
+writes_none (Timeline mix cert seq interval length) b n = (cc)
+writes_none (Try seed tasks cycle line units) b n = (cc)
+
+leaves_stay : (files after : List ℕ → Option (List ℕ)) (job : Job) → unbuilt job ≡ None → out_of job ≡ None → Stay files after → Leaves true files job after
+leaves_stay files after Help b o s = s
+leaves_stay files after Version b o s = s
+leaves_stay files after (Balance file cycle line apart) b o s = s
+leaves_stay files after (Solve file cycle line helpers units cert apart) b o s = (cc)
+leaves_stay files after (Cycle file stations line helpers units cert) b o s = (cc)
+leaves_stay files after (Check file cert steps apart) b o s = (cc)
+leaves_stay files after (Convert file out to cycle) b o s = (cc)
+leaves_stay files after (Combine mix out) b o s = (cc)
+leaves_stay files after (Utility mix cert seq interval length) b o s = (cc)
+leaves_stay files after (Timeline mix cert seq interval length) b o s = (cc)
+leaves_stay files after (Try seed tasks cycle line units) b o s = (cc)
+
+pub left_stay : (files after : List ℕ → Option (List ℕ)) (job : Job) (s : Status) → unbuilt job ≡ None → out_of job ≡ None → Stay files after → IsLeftBy files job s after
+left_stay files after job s b o k = elim (done_or s) [ inl e ↦ inl (e, leaves_stay files after job b o k) | inr n ↦ inr (inr (n, k)) ]
+
+-- words that ask for nothing
+pub usage_put : (words : List Text) (files : List ℕ → Option (List ℕ)) (index : ℕ) (kind : UsageKind) (r : Result Report AllocError) → IsFault words index kind
+    → IfOk r (λ x. x.status ≡ ends.Usage) → IfOk r (λ x. string_bytes x.text ≡ usage_text index kind) → IsPrinted words files (status_of r) (text_of r)
+usage_put words files index kind (Ok x) fault s t = subst (λ y. IsPrinted words files y (string_bytes x.text)) (sym s) (inl (record { index = index; kind = kind; fault = fault }, t))
+usage_put words files index kind (Err e) fault s t = refl
+
+pub unbuilt_put : (words : List Text) (files : List ℕ → Option (List ℕ)) (job : Job) (part : Text) (r : Result Report AllocError) → IsJob words job → unbuilt job ≡ Some part
+    → IfOk r (λ x. x.status ≡ ends.Usage) → IfOk r (λ x. string_bytes x.text ≡ unbuilt_line part) → IsPrinted words files (status_of r) (text_of r)
+unbuilt_put words files job part (Ok x) asked u s t = subst (λ y. IsPrinted words files y (string_bytes x.text)) (sym s) (inr (record { job = job; asked = asked; part = part; unbuilt = u }, t))
+unbuilt_put words files job part (Err e) asked u s t = refl
+
+pub words_put : (words : List Text) (files : List ℕ → Option (List ℕ)) (r : Result Report AllocError) (s : Status) (old new : List ℕ) → IsPrinted words files (status_of r) (text_of r) → s ≡ status_of r → new ≡ old ++ text_of r → IsPut words files s old new
+words_put words files r s old new p e n = record { text = text_of r; printed = subst (λ t. IsPrinted words files t (text_of r)) (sym e) p; shown = n }
+
+pub words_torn : (words : List Text) (files : List ℕ → Option (List ℕ)) (r : Result Report AllocError) (k : ℕ) (old new : List ℕ) → IsPrinted words files (status_of r) (text_of r) → new ≡ old ++ take k (text_of r) → IsTorn words files old new
+words_torn words files r k old new p n = record { status = status_of r; text = text_of r; printed = p; kept = k; shown = n }
+
+never_done : (r : Result Report AllocError) → IfOk r (λ x. x.status ≡ ends.Usage) → status_of r ≢ ends.Done
+never_done (Ok x) s e = (let u : ends.Usage ≡ ends.Done = sym s ∙ e in (cc))
+never_done (Err x) s e = (cc)
+
+pub words_left : (words : List Text) (files after : List ℕ → Option (List ℕ)) (r : Result Report AllocError) (s : Status) → IfOk r (λ x. x.status ≡ ends.Usage) → (s ≢ ends.WriteFault → s ≡ status_of r) → Stay files after → IsLeft words files s after
+words_left words files after r s u k stay = elim (done_or s) [
+  | inl e ↦ absurd (never_done r u (sym (k (λ w. differ (sym e ∙ w))) ∙ e))
+  | inr n ↦ inr (inr (n, stay))
+]
+  where
+    differ : ends.Done ≡ ends.WriteFault → ⊥
+    differ e = cc
+
+-- a file that is converted
+pub leaves : (whole : Bool) (files mid after : List ℕ → Option (List ℕ)) (file out : Text) (to : FormWord) (word : Option ℕ) (text bytes : List ℕ) → IsConverted files file out to word text bytes → ((q : List ℕ) → mid q ≡ files q)
+    → IsWhole whole (mid out) bytes (after out) → ((q : List ℕ) → q ≢ out → after q ≡ mid q) → LeavesConverted files file out to word whole after
+leaves whole files mid after file out to word text bytes c same w others = record {
+  text = text;
+  bytes = bytes;
+  converted = c;
+  written = subst (λ o. IsWhole whole o bytes (after out)) (same out) w;
+  others = λ q n. others q n ∙ same q;
+}
+
+pub convert_refused : (files : List ℕ → Option (List ℕ)) (file out : Text) (to : FormWord) (word : Option ℕ) (s : Status) (text : List ℕ) → IsFileReport (IsFaulty file) (files file) file s text → IsConvertReport files file out to word s text
+convert_refused files file out to word ends.Input text r = r
+convert_refused files file out to word ends.ReadFault text r = r
+convert_refused files file out to word ends.Done text r = absurd r
+convert_refused files file out to word ends.Stopped text r = absurd r
+convert_refused files file out to word ends.Usage text r = absurd r
+convert_refused files file out to word ends.WriteFault text r = absurd r
+convert_refused files file out to word ends.Memory text r = absurd r
+convert_refused files file out to word ends.Refused text r = absurd r
+convert_refused files file out to word ends.Steps text r = absurd r

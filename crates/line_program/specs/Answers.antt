@@ -1,5 +1,5 @@
 -- What is answered about an instance, and what is reported of files.
-use Rattle.std.specs.Prelude.{◌≡◌, ℕ, ◌<◌, ◌⊎◌, ◌↔◌, List, Option, Some, None, length, ◌++◌, codes}
+use Rattle.std.specs.Prelude.{◌≡◌, ℕ, ◌<◌, ◌⊎◌, ◌↔◌, Bool, true, false, List, [], ◌∷◌, Option, Some, None, length, ◌++◌, codes}
 use Rattle.line_instance.specs.Line.{Line, Apart, tasks, time}
 use Rattle.line_instance.specs.Walks.{IsGiven}
 use Rattle.line_instance.specs.declared.arcs.Prec.{Prec}
@@ -14,6 +14,15 @@ use Rattle.in2_reader.specs.Faults.{IsIn2Fault}
 use Rattle.in2_reader.specs.ApartFile.{IsApartFile, IsApartFault}
 use Rattle.in2_reader.specs.Texts.{fault_text}
 use Rattle.in2_reader.specs.declared.fault.In2Fault.{In2Fault}
+use Rattle.in2_reader.specs.Contents.{Lines, contents_from}
+use Rattle.in2_reader.specs.Written.{IsIn2Text}
+use Rattle.alb_reader.specs.Sections.{begins_heading}
+use Rattle.alb_reader.specs.Answers.{IsAlbReading, IsAlbFault}
+use Rattle.alb_reader.specs.Texts.{fault_text as alb_fault_text}
+use Rattle.alb_reader.specs.Written.{IsAlbText}
+use Rattle.alb_reader.specs.declared.fault.AlbFault.{AlbFault}
+use Rattle.line_words.specs.declared.job.FormWord.{FormWord}
+use Rattle.line_words.specs.declared.job.FormWord.TheVariants.{In2, Alb, Cert}
 use Rattle.line_words.specs.declared.job.Job.{Job}
 use Rattle.line_words.specs.declared.job.Job.TheVariants.{Help, Version, Balance, Solve, Cycle, Check, Convert, Combine, Utility, Timeline, Try}
 use Rattle.line_program.specs.Pages.{help_text, version_text}
@@ -37,9 +46,21 @@ pub record IsInfeasible (line : Line) (c : ℕ) (text : List ℕ) : Type 0 where
 abbrev pub IsAnswer : Line → ℕ → List ℕ → Type 0
 IsAnswer line c text = IsBalanced line c text ⊎ IsInfeasible line c text
 
--- the bytes say the instance, and no cycle time
+-- the first line with a content begins, in its content, with `<`: the bytes are an ALB text, and else an IN2 text
+abbrev pub begins_alb : Lines → Bool
+begins_alb [] = false
+begins_alb (l ∷ lines) = begins_heading l.1
+
+abbrev pub is_alb : List ℕ → Bool
+is_alb bytes = begins_alb (contents_from 1 bytes)
+
+-- The bytes say the instance, and a cycle time or none. An IN2 text has none.
+abbrev pub SaysBy : Bool → List ℕ → Line → Option ℕ → Type 0
+SaysBy true bytes line given = IsAlbReading bytes line given
+SaysBy false bytes line given = IsReading bytes line × (given ≡ None)
+
 abbrev pub Says : List ℕ → Line → Option ℕ → Type 0
-Says bytes line given = IsReading bytes line × (given ≡ None)
+Says bytes line given = SaysBy (is_alb bytes) bytes line given
 
 -- the file is there, and its bytes pass
 abbrev pub Reads : Option (List ℕ) → (List ℕ → Type 0) → Type 0
@@ -98,22 +119,37 @@ abbrev pub IsTooMuch : List ℕ → List ℕ → List ℕ → Type 0
 IsTooMuch name bytes text = (16777216 < length bytes) × (text ≡ codes "input: " ++ name ++ codes " too long\n")
 
 -- the line about the fault of a file
-abbrev pub fault_line : List ℕ → In2Fault → List ℕ
-fault_line name fault = codes "input: " ++ name ++ codes " " ++ fault_text fault ++ codes "\n"
+abbrev pub fault_line : List ℕ → List ℕ → List ℕ
+fault_line name fault = codes "input: " ++ name ++ codes " " ++ fault ++ codes "\n"
 
--- the bytes have no reading, and the text names the first fault
-pub record IsFaulty (name bytes text : List ℕ) : Type 0 where
+-- the bytes have no reading as an IN2 text, and the text names the first fault
+pub record IsIn2Faulty (name bytes text : List ℕ) : Type 0 where
   pub fault : In2Fault
   pub first : IsIn2Fault bytes fault
   pub unread : (line : Line) → IsReading bytes line → ⊥
-  pub shown : text ≡ fault_line name fault
+  pub shown : text ≡ fault_line name (fault_text fault)
+
+-- the bytes have no reading as an ALB text, and the text names the first fault
+pub record IsAlbFaulty (name bytes text : List ℕ) : Type 0 where
+  pub fault : AlbFault
+  pub first : IsAlbFault bytes fault
+  pub unread : (line : Line) (given : Option ℕ) → IsAlbReading bytes line given → ⊥
+  pub shown : text ≡ fault_line name (alb_fault_text fault)
+
+-- the bytes have no reading, and the text names the first fault
+abbrev pub IsFaultyBy : Bool → List ℕ → List ℕ → List ℕ → Type 0
+IsFaultyBy true name bytes text = IsAlbFaulty name bytes text
+IsFaultyBy false name bytes text = IsIn2Faulty name bytes text
+
+abbrev pub IsFaulty : List ℕ → List ℕ → List ℕ → Type 0
+IsFaulty name bytes text = IsFaultyBy (is_alb bytes) name bytes text
 
 -- the bytes say no pairs of tasks, and the text names the first fault
 pub record IsFaultyApart (name : List ℕ) (n : ℕ) (bytes text : List ℕ) : Type 0 where
   pub fault : In2Fault
   pub first : IsApartFault n bytes fault
   pub unread : (pairs : List Prec) → IsApartFile n bytes pairs → ⊥
-  pub shown : text ≡ fault_line name fault
+  pub shown : text ≡ fault_line name (fault_text fault)
 
 -- the file with the instance is refused: it is too long, or has no reading, or there is no cycle time
 abbrev pub IsRefusedFile : (List ℕ → Option (List ℕ)) → List ℕ → Option ℕ → List ℕ → Type 0
@@ -147,6 +183,41 @@ IsBalanceReport files name apart word ends.Memory text = ⊥
 IsBalanceReport files name apart word ends.Refused text = ⊥
 IsBalanceReport files name apart word ends.Steps text = ⊥
 
+-- the bytes are the canonical text of the line in a form; IN2 has no cycle time
+abbrev pub IsWritten : FormWord → Line → Option ℕ → List ℕ → Type 0
+IsWritten In2 line cycle bytes = IsIn2Text line bytes
+IsWritten Alb line cycle bytes = IsAlbText line cycle bytes
+IsWritten Cert line cycle bytes = ⊥
+
+-- the line about the file that was written
+abbrev pub written_line : List ℕ → List ℕ
+written_line out = codes "written " ++ out ++ codes "\n"
+
+-- A file is converted: it says an instance, these bytes are the canonical text of that instance in the form, with the cycle time of the words, or
+-- else of the file, and the text names the file that has them.
+pub record IsConverted (files : List ℕ → Option (List ℕ)) (name out : List ℕ) (to : FormWord) (word : Option ℕ) (text bytes : List ℕ) : Type 0 where
+  pub line : Line
+  pub given : Option ℕ
+  pub said : Reads (files name) (λ source. Says source line given)
+  pub written : IsWritten to line (cycle_of word given) bytes
+  pub shown : text ≡ written_line out
+
+-- the file that is to be converted is refused: it is too long, or has no reading
+abbrev pub IsRefusedSource : (List ℕ → Option (List ℕ)) → List ℕ → List ℕ → Type 0
+IsRefusedSource files name text = Reads (files name) (λ bytes. IsTooMuch name bytes text ⊎ IsFaulty name bytes text)
+
+-- What is reported of converting a file, status by status.
+abbrev pub IsConvertReport : (List ℕ → Option (List ℕ)) → List ℕ → List ℕ → FormWord → Option ℕ → Status → List ℕ → Type 0
+IsConvertReport files name out to word ends.Done text = (bytes : List ℕ) × IsConverted files name out to word text bytes
+IsConvertReport files name out to word ends.Input text = IsRefusedSource files name text
+IsConvertReport files name out to word ends.ReadFault text = text ≡ read_fault_line name
+IsConvertReport files name out to word ends.Stopped text = ⊥
+IsConvertReport files name out to word ends.Usage text = ⊥
+IsConvertReport files name out to word ends.WriteFault text = ⊥
+IsConvertReport files name out to word ends.Memory text = ⊥
+IsConvertReport files name out to word ends.Refused text = ⊥
+IsConvertReport files name out to word ends.Steps text = ⊥
+
 -- the page is printed
 abbrev pub IsPageReport : List ℕ → Status → List ℕ → Type 0
 IsPageReport page ends.Done text = text ≡ page
@@ -167,7 +238,7 @@ IsReport files (Balance file cycle line apart) status text = IsBalanceReport fil
 IsReport files (Solve file cycle line helpers units cert apart) status text = ⊥
 IsReport files (Cycle file stations line helpers units cert) status text = ⊥
 IsReport files (Check file cert steps apart) status text = ⊥
-IsReport files (Convert file out to cycle) status text = ⊥
+IsReport files (Convert file out to cycle) status text = IsConvertReport files file out to cycle status text
 IsReport files (Combine mix out) status text = ⊥
 IsReport files (Utility mix cert seq interval length) status text = ⊥
 IsReport files (Timeline mix cert seq interval length) status text = ⊥

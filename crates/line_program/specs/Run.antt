@@ -1,12 +1,17 @@
 -- What a run puts.
-use Rattle.std.specs.Prelude.{◌≡◌, ◌≢◌, ◌⊎◌, ℕ, List, Option, Some, None, ◌++◌, take, codes, string_bytes}
+use Rattle.std.specs.Prelude.{◌≡◌, ◌≢◌, ◌⊎◌, ℕ, Bool, true, false, List, Option, Some, None, ◌++◌, take, codes, string_bytes, Result, Ok, Err}
 use Rattle.line_words.specs.Words.{Text}
 use Rattle.line_words.specs.Jobs.{IsJob}
+use Rattle.line_io.specs.Whole.{IsFrontWritten}
+use Rattle.line_words.specs.declared.job.FormWord.{FormWord}
 use Rattle.line_words.specs.declared.job.Job.{Job}
-use Rattle.line_program.specs.Built.{unbuilt, unbuilt_line, IsUsageText}
-use Rattle.line_program.specs.Answers.{IsReport}
+use Rattle.line_words.specs.declared.job.Job.TheVariants.{Help, Version, Balance, Solve, Cycle, Check, Convert, Combine, Utility, Timeline, Try}
+use Rattle.line_program.specs.Built.{unbuilt, IsUsageText}
+use Rattle.line_program.specs.Answers.{IsReport, IsConverted}
 use Rattle.line_program.specs.declared.status.Status.{Status}
 use Rattle.line_program.specs.declared.status.Status.TheVariants as ends
+use Rattle.std.specs.declared.alloc.AllocError.{AllocError}
+use Rattle.line_program.specs.declared.refusal.Report.{Report}
 use Rattle.line_program.specs.declared.refusal.Refusal.{Refusal}
 use Rattle.line_program.specs.declared.refusal.Refusal.TheVariants as refusal
 
@@ -15,10 +20,26 @@ abbrev pub IsJobRefusal : (List ℕ → Option (List ℕ)) → Job → Refusal �
 IsJobRefusal files job refusal.Memory = Unit {0}
 IsJobRefusal files job (refusal.Report r) = (r.status ≢ ends.Done) × IsReport files job r.status (string_bytes r.text)
 
--- what is reported of a job, or that a part of it isn't built
-abbrev pub IsReported : (List ℕ → Option (List ℕ)) → Job → Status → List ℕ → Type 0
-IsReported files job status text =
-    ((unbuilt job ≡ None) × IsReport files job status text) ⊎ ((status ≡ ends.Usage) × (part : Text) × (unbuilt job ≡ Some part) × (text ≡ unbuilt_line part))
+-- the file that a job writes
+abbrev pub out_of : Job → Option Text
+out_of Help = None
+out_of Version = None
+out_of (Balance file cycle line apart) = None
+out_of (Solve file cycle line helpers units cert apart) = cert
+out_of (Cycle file stations line helpers units cert) = cert
+out_of (Check file cert steps apart) = None
+out_of (Convert file out to cycle) = Some out
+out_of (Combine mix out) = Some out
+out_of (Utility mix cert seq interval length) = None
+out_of (Timeline mix cert seq interval length) = None
+out_of (Try seed tasks cycle line units) = None
+
+-- the words ask for a job that writes a file
+pub record IsWriting (words : List Text) : Type 0 where
+  pub job : Job
+  pub asked : IsJob words job
+  pub out : Text
+  pub writes : out_of job ≡ Some out
 
 -- the words ask for a job, all of which is built, and this is reported of it
 pub record IsJobReport (words : List Text) (files : List ℕ → Option (List ℕ)) (status : Status) (text : List ℕ) : Type 0 where
@@ -52,3 +73,77 @@ pub record IsTorn (words : List Text) (files : List ℕ → Option (List ℕ)) (
   pub printed : IsPrinted words files status text
   pub kept : ℕ
   pub shown : new ≡ old ++ take kept text
+
+-- all files stay
+abbrev pub Stay : (List ℕ → Option (List ℕ)) → (List ℕ → Option (List ℕ)) → Type 0
+Stay files after = (q : List ℕ) → after q ≡ files q
+
+-- a file has all of the bytes; or it is as before, or has a front of them
+abbrev pub IsWhole : Bool → Option (List ℕ) → List ℕ → Option (List ℕ) → Type 0
+IsWhole true old bytes new = new ≡ Some bytes
+IsWhole false old bytes new = IsFrontWritten old bytes new
+
+-- A file is converted, and the new file has the bytes, or a front of them where it could not be written; the other files stay.
+pub record LeavesConverted (files : List ℕ → Option (List ℕ)) (name out : Text) (to : FormWord) (word : Option ℕ) (whole : Bool) (after : List ℕ → Option (List ℕ)) : Type 0 where
+  pub text : List ℕ
+  pub bytes : List ℕ
+  pub converted : IsConverted files name out to word text bytes
+  pub written : IsWhole whole (files out) bytes (after out)
+  pub others : (q : List ℕ) → q ≢ out → after q ≡ files q
+
+-- what a job leaves of the files where it is done, and where the files or the report could not be written
+abbrev pub Leaves : Bool → (List ℕ → Option (List ℕ)) → Job → (List ℕ → Option (List ℕ)) → Type 0
+Leaves whole files Help after = Stay files after
+Leaves whole files Version after = Stay files after
+Leaves whole files (Balance file cycle line apart) after = Stay files after
+Leaves whole files (Solve file cycle line helpers units cert apart) after = ⊥
+Leaves whole files (Cycle file stations line helpers units cert) after = ⊥
+Leaves whole files (Check file cert steps apart) after = ⊥
+Leaves whole files (Convert file out to cycle) after = LeavesConverted files file out to cycle whole after
+Leaves whole files (Combine mix out) after = ⊥
+Leaves whole files (Utility mix cert seq interval length) after = ⊥
+Leaves whole files (Timeline mix cert seq interval length) after = ⊥
+Leaves whole files (Try seed tasks cycle line units) after = ⊥
+
+-- the words ask for a job, and this is left of the files
+pub record IsJobLeft (words : List Text) (whole : Bool) (files after : List ℕ → Option (List ℕ)) : Type 0 where
+  pub job : Job
+  pub asked : IsJob words job
+  pub left : Leaves whole files job after
+
+-- What is left of the files: where the job is done, its file is whole; where the run could not write, that file may have a front of its bytes;
+-- and else all files stay.
+abbrev pub IsLeft : List Text → (List ℕ → Option (List ℕ)) → Status → (List ℕ → Option (List ℕ)) → Type 0
+IsLeft words files status after =
+    ((status ≡ ends.Done) × IsJobLeft words true files after) ⊎ ((status ≡ ends.WriteFault) × IsJobLeft words false files after) ⊎ ((status ≢ ends.Done) × Stay files after)
+
+-- the same of a job
+abbrev pub IsLeftBy : (List ℕ → Option (List ℕ)) → Job → Status → (List ℕ → Option (List ℕ)) → Type 0
+IsLeftBy files job status after =
+    ((status ≡ ends.Done) × Leaves true files job after) ⊎ ((status ≡ ends.WriteFault) × Leaves false files job after) ⊎ ((status ≢ ends.Done) × Stay files after)
+
+-- a report of a job is put, or the line about want of memory
+abbrev pub IsJobPrinted : (List ℕ → Option (List ℕ)) → Job → Status → List ℕ → Type 0
+IsJobPrinted files job status text = IsReport files job status text ⊎ ((status ≡ ends.Memory) × (text ≡ codes "memory\n"))
+
+pub record IsJobPut (files : List ℕ → Option (List ℕ)) (job : Job) (status : Status) (old new : List ℕ) : Type 0 where
+  pub text : List ℕ
+  pub printed : IsJobPrinted files job status text
+  pub shown : new ≡ old ++ text
+
+pub record IsJobTorn (files : List ℕ → Option (List ℕ)) (job : Job) (old new : List ℕ) : Type 0 where
+  pub status : Status
+  pub text : List ℕ
+  pub printed : IsJobPrinted files job status text
+  pub kept : ℕ
+  pub shown : new ≡ old ++ take kept text
+
+-- the text of a report; want of memory has a line of its own
+abbrev pub text_of : Result Report AllocError → List ℕ
+text_of (Ok r) = string_bytes r.text
+text_of (Err e) = codes "memory\n"
+
+-- the status that a report is put with
+abbrev pub status_of : Result Report AllocError → Status
+status_of (Ok r) = r.status
+status_of (Err e) = ends.Memory

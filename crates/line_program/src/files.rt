@@ -1,17 +1,20 @@
 //! The files of a job: fetched, and read as an instance and as pairs of tasks that are apart.
-ghost use Rattle.std.specs.Prelude.{◌≡◌, ◌≢◌, ◌++◌, ◌≤◌, ◌<◌, ◌^◌, ℕ, List, Some, None, length, IfOk, MatchResult, string_bytes, codes};
+ghost use Rattle.std.specs.Prelude.{◌≡◌, ◌≢◌, ◌++◌, ◌≤◌, ◌<◌, ◌^◌, ℕ, List, Some, None, true, false, length, IfOk, MatchResult, string_bytes, codes};
 ghost use Rattle.line_io.specs.Outside.{Rises};
 ghost use Rattle.line_instance.specs.Line.{tasks};
 ghost use Rattle.line_instance.specs.Walks.{ArePairs};
 ghost use Rattle.in2_reader.specs.ApartFile.{IsApartFile};
+ghost use Rattle.in2_reader.specs.Texts.{fault_text};
+ghost use Rattle.alb_reader.specs.Texts.{fault_text as alb_fault_text};
 ghost use Rattle.line_words.specs.Ranges.{IsBetween, IsSetBetween};
-ghost use Rattle.line_program.specs.Answers.{Reads, Says, IsTimed, IsFaulty, IsFaultyApart, cycle_of, fault_line, no_cycle_line};
+ghost use Rattle.line_program.specs.Answers.{Reads, Says, SaysBy, IsFaultyBy, is_alb, IsTimed, IsFaulty, IsFaultyApart, cycle_of, fault_line, no_cycle_line};
 ghost use Rattle.line_program.specs.Files.{IsRefusal, IsRefused, IsNoInstance, NoFault, MayFault};
 ghost use Rattle.line_program.specs.declared.status.Status.TheVariants as ends;
 
 use crate::refusal::{Refusal, Report};
 use crate::status::Status;
-use in2_reader::{ApartRead, In2Fault, In2Read, push_fault, read_apart, read_in2};
+use alb_reader::{AlbFault, AlbRead, begins_heading, push_fault as push_alb_fault, read_alb};
+use in2_reader::{ApartRead, In2Fault, In2Read, next_content, push_fault, read_apart, read_in2};
 use line_instance::{Instance, Prec};
 use line_io::{Shelf, Whole, read_whole};
 use std::alloc::{AllocError, Global};
@@ -32,10 +35,20 @@ fn line_about(alloc: Global, front: &str, file: &str, back: &str) -> Result<Stri
 
 /// The line about the first fault of a file.
 fn fault_line_of(alloc: Global, file: &str, fault: &In2Fault) -> Result<String, AllocError>
-    ensures { IfOk result (λ t. string_bytes t ≡ fault_line file.now fault.now) }
+    ensures { IfOk result (λ t. string_bytes t ≡ fault_line file.now (fault_text fault.now)) }
 {
     let mut text = line_about(alloc, "input: ", file, " ")?;
     push_fault(&mut text, fault)?;
+    text.push_str("\n")?;
+    Ok(text)
+}
+
+/// The line about the first fault of an ALB file.
+fn alb_fault_line(alloc: Global, file: &str, fault: &AlbFault) -> Result<String, AllocError>
+    ensures { IfOk result (λ t. string_bytes t ≡ fault_line file.now (alb_fault_text fault.now)) }
+{
+    let mut text = line_about(alloc, "input: ", file, " ")?;
+    push_alb_fault(&mut text, fault)?;
     text.push_str("\n")?;
     Ok(text)
 }
@@ -69,9 +82,9 @@ fn fetch<S: Shelf>(alloc: Global, file: &str, shelf: &mut S) -> Result<Vec<u8>, 
 
 /// What a file with an instance says: the instance and, where it has one, the cycle time.
 #[derive(Drop)]
-struct Sheet {
-    inst: Instance,
-    cycle: Option<u64>,
+pub struct Sheet {
+    pub inst: Instance,
+    pub cycle: Option<u64>,
 }
 
 /// An instance, and the cycle time to balance it at.
@@ -81,10 +94,21 @@ pub struct Timed {
     pub cycle: u64,
 }
 
-/// What the bytes of a file with an instance say.
-fn sheet_in(alloc: Global, file: &str, bytes: &[u8]) -> Result<Sheet, Refusal>
+/// Whether the first line with a content begins, in its content, with `<`.
+fn is_alb(bytes: &[u8]) -> bool
     requires { length bytes.now < 2 ^ 63 }
-    ensures said { MatchResult result (λ s. Says bytes.now s.inst s.cycle) (IsRefused (λ text. IsFaulty file.now bytes.now text)) }
+    ensures { result ≡ is_alb bytes.now }
+{
+    match next_content(bytes, 1) {
+        Ok(content) => begins_heading(content.bytes),
+        Err(_) => false,
+    }
+}
+
+/// What the bytes of an IN2 file say.
+fn in2_sheet(alloc: Global, file: &str, bytes: &[u8]) -> Result<Sheet, Refusal>
+    requires { length bytes.now < 2 ^ 63 }
+    ensures said { MatchResult result (λ s. SaysBy false bytes.now s.inst s.cycle) (IsRefused (λ text. IsFaultyBy false file.now bytes.now text)) }
     ensures limit { IfOk result (λ s. IsSetBetween 1 1000000000000000000 s.cycle) }
 {
     match read_in2(alloc, bytes) {
@@ -98,6 +122,50 @@ fn sheet_in(alloc: Global, file: &str, bytes: &[u8]) -> Result<Sheet, Refusal>
         }
         In2Read::NoMemory => Err(Refusal::Memory),
     }
+}
+
+/// What the bytes of an ALB file say.
+fn alb_sheet(alloc: Global, file: &str, bytes: &[u8]) -> Result<Sheet, Refusal>
+    requires { length bytes.now < 2 ^ 63 }
+    ensures said { MatchResult result (λ s. SaysBy true bytes.now s.inst s.cycle) (IsRefused (λ text. IsFaultyBy true file.now bytes.now text)) }
+    ensures limit { IfOk result (λ s. IsSetBetween 1 1000000000000000000 s.cycle) }
+{
+    match read_alb(alloc, bytes) {
+        AlbRead::Good(inst, cycle) => Ok(Sheet { inst, cycle }),
+        AlbRead::Fault(fault) => {
+            let text = alb_fault_line(alloc, file, &fault)?;
+            Err(Refusal::Report(Report {
+                status: Status::Input,
+                text,
+            }))
+        }
+        AlbRead::NoMemory => Err(Refusal::Memory),
+    }
+}
+
+/// What the bytes of a file with an instance say, in either form.
+fn sheet_in(alloc: Global, file: &str, bytes: &[u8]) -> Result<Sheet, Refusal>
+    requires { length bytes.now < 2 ^ 63 }
+    ensures said { MatchResult result (λ s. Says bytes.now s.inst s.cycle) (IsRefused (λ text. IsFaulty file.now bytes.now text)) }
+    ensures limit { IfOk result (λ s. IsSetBetween 1 1000000000000000000 s.cycle) }
+{
+    if is_alb(bytes) {
+        return alb_sheet(alloc, file, bytes);
+    }
+    in2_sheet(alloc, file, bytes)
+}
+
+/// What a file with an instance says.
+pub fn sheet_of<S: Shelf>(alloc: Global, file: &str, shelf: &mut S) -> Result<Sheet, Refusal>
+    ensures said { S.tells → MatchResult result (λ s. Reads (S.file shelf.old file.now) (λ bytes. Says bytes s.inst s.cycle)) (IsRefusal (IsFaulty file.now) (S.file shelf.old file.now) file.now) }
+    ensures limit { IfOk result (λ s. IsSetBetween 1 1000000000000000000 s.cycle) }
+    ensures fault { MatchResult result (λ _. Unit {0}) (MayFault (Rises (S.faults shelf.old) (S.faults shelf.new))) }
+    ensures count { S.faults shelf.old ≤ S.faults shelf.new }
+    ensures files { S.tells → (q : List ℕ) → S.file shelf.new q ≡ S.file shelf.old q }
+{
+    let bytes = fetch(alloc, file, shelf)?;
+    let sheet = sheet_in(alloc, file, &bytes)?;
+    Ok(sheet)
 }
 
 /// The cycle time of the words, and else that of the file.

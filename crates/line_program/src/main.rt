@@ -5,8 +5,10 @@
 
 #[cfg(test)]
 mod call_tests;
+mod converting;
 mod files;
 mod pages;
+mod putting;
 mod refusal;
 mod report;
 mod status;

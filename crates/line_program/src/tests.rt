@@ -156,11 +156,15 @@ fn faults_of_the_words(rt: HostRuntime) -> Result<(), Fail> {
 
 #[test]
 fn jobs_that_are_not_built(rt: HostRuntime) -> Result<(), Fail> {
-    let rows: [(&[&str], &str); 4] = [
+    let rows: [(&[&str], &str); 5] = [
         (&["solve", "none.in2"], "not built: solve\n"),
         (&["balance", "none.in2", "line=u"], "not built: line\n"),
         (&["try", "seed=1", "tasks=2", "line=u"], "not built: try\n"),
         (&["combine", "a.csv", "b.in2"], "not built: combine\n"),
+        (
+            &["convert", "v1.cert", "v5.cert", "to=cert"],
+            "not built: convert\n",
+        ),
     ];
     for (words, line) in rows {
         let (status, text) = run_over(rt.alloc(), words, P5, &[0], &[])?;
@@ -345,5 +349,98 @@ fn many_arcs(rt: HostRuntime) -> Result<(), Fail> {
 fn codes_of_statuses(rt: HostRuntime) -> Result<(), Fail> {
     assert_eq!(rt; Status::Done.code(), 0);
     assert_eq!(rt; Status::Steps.code(), 8);
+    Ok(())
+}
+
+const ALB: &[u8] =
+    b"<task times>\r\n1 3\r\n2 4\r\n<order strength>\r\n0,268\r\n<number of tasks>\r\n2\r\n<cycle time>\r\n7\r\n<precedence relations>\r\n1,2\r\n<end>\r\n";
+
+#[test]
+fn balance_of_an_alb_file(rt: HostRuntime) -> Result<(), Fail> {
+    let (status, text) = run_over(rt.alloc(), &["balance", "t.in2"], ALB, &[], &[])?;
+    assert_eq!(rt; status, Status::Done);
+    assert_eq!(rt;
+        text.as_str(),
+        "balance 1\ntotal bound 1\nidle 0\nstation 1: 1 2\n"
+    );
+    let words = ["balance", "t.in2", "cycle=4"];
+    let (status, text) = run_over(rt.alloc(), &words, ALB, &[], &[])?;
+    assert_eq!(rt; status, Status::Done);
+    assert_eq!(rt;
+        text.as_str(),
+        "balance 2\ntotal bound 2\nidle 1\nstation 1: 1\nstation 2: 2\n"
+    );
+    let (status, text) = run_over(
+        rt.alloc(),
+        &["balance", "t.in2"],
+        b"<task times>\r\n1 3\r\n<workers>\r\n",
+        &[],
+        &[],
+    )?;
+    assert_eq!(rt; status, Status::Input);
+    assert_eq!(rt; text.as_str(), "input: t.in2 line 3 unknown heading\n");
+    Ok(())
+}
+
+const CHAIN: &[u8] = b"3\n1\n2\n1\n1,2\n2,3\n-1,-1\n";
+
+const CHAIN_ALB: &[u8] =
+    b"<number of tasks>\n3\n\n<task times>\n1 1\n2 2\n3 1\n\n<precedence relations>\n1,2\n2,3\n\n<end>\n";
+
+/// How a conversion ends over one file, what it puts, and the file that it writes. The calls of these numbers fail.
+fn convert(
+    alloc: Global,
+    setting: &str,
+    text: &[u8],
+    fails: &[u64],
+) -> Result<(Status, Vec<u8>, Option<Vec<u8>>), AllocError> {
+    let mut shelf = MemShelf::new(alloc, Vec::from_slice(alloc, fails)?);
+    shelf.put_file("a", text)?;
+    let mut out = MemSink::new(alloc, Vec::new(alloc));
+    let mut list = Vec::new(alloc);
+    for word in ["convert", "a", "b", setting] {
+        list.push(String::from_str(alloc, word)?)?;
+    }
+    let status = run(alloc, &list, &mut shelf, &mut out);
+    let shown = Vec::from_slice(alloc, out.bytes())?;
+    let written = match shelf.file("b") {
+        Some(bytes) => Some(Vec::from_slice(alloc, bytes)?),
+        None => None,
+    };
+    Ok((status, shown, written))
+}
+
+#[test]
+fn convert_to_the_other_form(rt: HostRuntime) -> Result<(), Fail> {
+    for (setting, from, to) in [("to=alb", CHAIN, CHAIN_ALB), ("to=in2", CHAIN_ALB, CHAIN)] {
+        let (status, shown, written) = convert(rt.alloc(), setting, from, &[])?;
+        assert_eq!(rt; status, Status::Done);
+        assert!(rt; shown.as_slice() == b"written b\n".as_slice());
+        let Some(written) = written else {
+            return Err(Fail::new("no file is written"));
+        };
+        assert!(rt; written.as_slice() == to);
+    }
+    Ok(())
+}
+
+#[test]
+fn a_conversion_that_cannot_write(rt: HostRuntime) -> Result<(), Fail> {
+    let (status, shown, written) = convert(rt.alloc(), "to=alb", CHAIN, &[2])?;
+    assert_eq!(rt; status, Status::WriteFault);
+    assert!(rt; shown.is_empty());
+    if let Some(written) = written {
+        assert!(rt; written.is_empty());
+    }
+    let (status, shown, written) = convert(rt.alloc(), "to=alb", CHAIN, &[3])?;
+    assert_eq!(rt; status, Status::WriteFault);
+    assert!(rt; shown.is_empty());
+    if let Some(written) = written {
+        assert!(rt; written.is_empty());
+    }
+    let (status, shown, written) = convert(rt.alloc(), "to=alb", b"1\n", &[])?;
+    assert_eq!(rt; status, Status::Input);
+    assert!(rt; shown.as_slice() == b"input: a line 2 missing times\n".as_slice());
+    assert!(rt; written.is_none());
     Ok(())
 }

@@ -1,5 +1,5 @@
 //! A run of the program, from its words and files to the report that is put.
-ghost use Rattle.std.specs.Prelude.{◌≡◌, ◌≢◌, ◌++◌, ◌≤◌, ◌<◌, ◌^◌, ℕ, List, Some, None, length, take, IfOk, MatchResult, option_map, string_bytes, codes};
+ghost use Rattle.std.specs.Prelude.{◌≡◌, ◌≢◌, ◌⊎◌, ◌++◌, ◌≤◌, ◌<◌, ◌^◌, ℕ, List, Some, None, length, take, IfOk, MatchResult, option_map, string_bytes, codes};
 ghost use Rattle.line_io.specs.Outside.{Rises};
 ghost use Rattle.line_rules.specs.Bounds.{idle_time};
 ghost use Rattle.line_words.specs.Words.{Text, texts};
@@ -7,18 +7,20 @@ ghost use Rattle.line_words.specs.Ranges.{IsBetween, IsSetBetween, IsInRange};
 ghost use Rattle.line_program.specs.Built.{AskNothing, unbuilt};
 ghost use Rattle.line_program.specs.Answers.{IsAnswer, IsDone, IsReport, IsSaid};
 ghost use Rattle.line_program.specs.Files.{IsUnsaid, MayFault};
-ghost use Rattle.line_program.specs.Run.{IsJobRefusal, IsReported, IsPrinted, IsPut, IsTorn};
+ghost use Rattle.line_program.specs.Run.{IsJobRefusal, IsPut, IsTorn, IsJobPut, IsJobTorn, IsLeft, IsLeftBy, IsWriting, Stay, out_of, status_of, text_of};
 ghost use Rattle.line_program.specs.declared.status.Status.TheVariants as ends;
 
+use crate::converting::run_convert;
 use crate::files::{Timed, pairs_of, timed_of};
 use crate::pages::{help_page, version_page};
+use crate::putting::{put, put_report};
 use crate::refusal::{Refusal, Report};
 use crate::report::{balance_report, infeasible_report};
 use crate::status::Status;
 use crate::usage::{unbuilt, unbuilt_report, usage_report};
 use first_fit::{Ranked, ranked_balance};
 use line_instance::Instance;
-use line_io::{Shelf, Sink, Stored};
+use line_io::{Shelf, Sink};
 use line_rules::LineKind;
 use line_words::{Job, JobRead, Name, job_of};
 use lower_bounds::{total_bound, total_time};
@@ -102,13 +104,14 @@ fn text_of(name: &Option<Name>) -> Option<&str>
     }
 }
 
-/// What a job puts, where all of it is built.
+/// What a job that writes no file puts.
 fn job_text<S: Shelf>(alloc: Global, job: &Job, shelf: &mut S) -> Result<String, Refusal>
     requires built { unbuilt job.now ≡ None }
     requires range { IsInRange job.now }
+    requires writes { out_of job.now ≡ None }
     ensures done { S.tells → MatchResult result (λ t. IsReport (S.file shelf.old) job.now ends.Done (string_bytes t)) (IsJobRefusal (S.file shelf.old) job.now) }
     ensures fault { MatchResult result (λ _. Unit {0}) (MayFault (Rises (S.faults shelf.old) (S.faults shelf.new))) }
-    ensures files { S.tells → (q : List ℕ) → S.file shelf.new q ≡ S.file shelf.old q }
+    ensures files { S.tells → Stay (S.file shelf.old) (S.file shelf.new) }
 {
     match job {
         Job::Help => {
@@ -129,18 +132,17 @@ fn job_text<S: Shelf>(alloc: Global, job: &Job, shelf: &mut S) -> Result<String,
     }
 }
 
-/// The report of a job.
+/// The report of a job that writes no file.
 fn job_report<S: Shelf>(alloc: Global, job: &Job, shelf: &mut S) -> Result<Report, AllocError>
+    requires built { unbuilt job.now ≡ None }
     requires range { IsInRange job.now }
-    ensures report { S.tells → IfOk result (λ r. IsReported (S.file shelf.old) job.now r.status (string_bytes r.text)) }
-    ensures usage { IfOk result (λ r. r.status ≡ ends.Usage → (part : Text) × (unbuilt job.now ≡ Some part)) }
+    requires writes { out_of job.now ≡ None }
+    ensures report { S.tells → IfOk result (λ r. IsReport (S.file shelf.old) job.now r.status (string_bytes r.text)) }
     ensures read { IfOk result (λ r. r.status ≡ ends.ReadFault → Rises (S.faults shelf.old) (S.faults shelf.new)) }
     ensures write { IfOk result (λ r. r.status ≢ ends.WriteFault) }
-    ensures files { S.tells → (q : List ℕ) → S.file shelf.new q ≡ S.file shelf.old q }
+    ensures usage { IfOk result (λ r. r.status ≢ ends.Usage) }
+    ensures files { S.tells → Stay (S.file shelf.old) (S.file shelf.new) }
 {
-    if let Some(part) = unbuilt(job) {
-        return unbuilt_report(alloc, part);
-    }
     match job_text(alloc, job, shelf) {
         Ok(text) => Ok(Report {
             status: Status::Done,
@@ -151,51 +153,50 @@ fn job_report<S: Shelf>(alloc: Global, job: &Job, shelf: &mut S) -> Result<Repor
     }
 }
 
-/// The report of the words' job, and of words that ask for none.
-fn report_of<S: Shelf>(alloc: Global, words: &[String], shelf: &mut S) -> Result<Report, AllocError>
-    ensures report { S.tells → IfOk result (λ r. IsPrinted (texts words.now) (S.file shelf.old) r.status (string_bytes r.text)) }
-    ensures usage { IfOk result (λ r. r.status ≡ ends.Usage → AskNothing (texts words.now)) }
-    ensures read { IfOk result (λ r. r.status ≡ ends.ReadFault → Rises (S.faults shelf.old) (S.faults shelf.new)) }
-    ensures write { IfOk result (λ r. r.status ≢ ends.WriteFault) }
-    ensures files { S.tells → (q : List ℕ) → S.file shelf.new q ≡ S.file shelf.old q }
+/// Does a job, all of which is built.
+fn run_job<S: Shelf, K: Sink>(alloc: Global, job: &Job, shelf: &mut S, out: &mut K) -> Status
+    requires built { unbuilt job.now ≡ None }
+    requires range { IsInRange job.now }
+    ensures put { S.tells → K.tells → result ≢ ends.WriteFault → IsJobPut (S.file shelf.old) job.now result (K.shown out.old) (K.shown out.new) }
+    ensures torn { S.tells → K.tells → result ≡ ends.WriteFault → IsJobTorn (S.file shelf.old) job.now (K.shown out.old) (K.shown out.new) }
+    ensures usage { result ≢ ends.Usage }
+    ensures read { result ≡ ends.ReadFault → Rises (S.faults shelf.old) (S.faults shelf.new) }
+    ensures write { result ≡ ends.WriteFault → Rises (K.faults out.old) (K.faults out.new) ⊎ (((name : Text) × (out_of job.now ≡ Some name)) × Rises (S.faults shelf.old) (S.faults shelf.new)) }
+    ensures files { S.tells → IsLeftBy (S.file shelf.old) job.now result (S.file shelf.new) }
 {
-    match job_of(alloc, words) {
-        JobRead::Good(job) => job_report(alloc, &job, shelf),
-        JobRead::Usage { index, kind } => usage_report(alloc, index, kind),
-        JobRead::NoMemory => Err(AllocError),
+    match job {
+        Job::Convert {
+            file,
+            out: name,
+            to,
+            cycle,
+        } => run_convert(alloc, file.text(), name.text(), *to, *cycle, shelf, out),
+        _ => put_report(out, job_report(alloc, job, shelf)),
     }
 }
 
-/// Puts a text, and answers the status, or that the put failed.
-fn put<K: Sink>(out: &mut K, text: &[u8], status: Status) -> Status
-    requires { status ≢ ends.WriteFault }
-    ensures write { result ≡ ends.WriteFault → Rises (K.faults out.old) (K.faults out.new) }
-    ensures kept { result ≢ ends.WriteFault → result ≡ status }
-    ensures put { K.tells → result ≢ ends.WriteFault → K.shown out.new ≡ K.shown out.old ++ text.now }
-    ensures torn { K.tells → result ≡ ends.WriteFault → (k : ℕ) × (K.shown out.new ≡ K.shown out.old ++ take k text.now) }
-{
-    match out.put(text) {
-        Stored::Done => status,
-        Stored::Failed => Status::WriteFault,
-    }
-}
-
-/// Runs the program: reads the words, fetches the files that they name, and puts one report.
+/// Runs the program: reads the words, fetches the files that they name, writes the one that the job writes, and puts one report.
 ///
 /// `--help` puts the page with all commands. `balance` puts the ranked balance of an instance at a cycle time, with the bound by total time
-/// and the idle time, or the least task that is longer than the cycle. A fault of the words is answered by the line `usage`, with the
-/// number of the word and what is wrong, and a job that isn't built by the line `not built`. Each refusal is one line, and nothing is put
-/// with it. The files stay as they are.
+/// and the idle time, or the least task that is longer than the cycle. `convert` writes the canonical text of an instance in the other
+/// form. A fault of the words is answered by the line `usage`, with the number of the word and what is wrong, and a job that isn't built by
+/// the line `not built`. Each refusal is one line, and nothing is put with it. All files stay but the one that a job writes.
 pub fn run<S: Shelf, K: Sink>(alloc: Global, words: &[String], shelf: &mut S, out: &mut K) -> Status
     ensures put { S.tells → K.tells → result ≢ ends.WriteFault → IsPut (texts words.now) (S.file shelf.old) result (K.shown out.old) (K.shown out.new) }
     ensures torn { S.tells → K.tells → result ≡ ends.WriteFault → IsTorn (texts words.now) (S.file shelf.old) (K.shown out.old) (K.shown out.new) }
     ensures usage { result ≡ ends.Usage → AskNothing (texts words.now) }
     ensures read { result ≡ ends.ReadFault → Rises (S.faults shelf.old) (S.faults shelf.new) }
-    ensures write { result ≡ ends.WriteFault → Rises (K.faults out.old) (K.faults out.new) }
-    ensures files { S.tells → (q : List ℕ) → S.file shelf.new q ≡ S.file shelf.old q }
+    ensures write { result ≡ ends.WriteFault → Rises (K.faults out.old) (K.faults out.new) ⊎ (IsWriting (texts words.now) × Rises (S.faults shelf.old) (S.faults shelf.new)) }
+    ensures files { S.tells → IsLeft (texts words.now) (S.file shelf.old) result (S.file shelf.new) }
 {
-    match report_of(alloc, words, shelf) {
-        Ok(report) => put(out, report.text.as_bytes(), report.status),
-        Err(_) => put(out, b"memory\n", Status::Memory),
+    match job_of(alloc, words) {
+        JobRead::Good(job) => {
+            if let Some(part) = unbuilt(&job) {
+                return put_report(out, unbuilt_report(alloc, part));
+            }
+            run_job(alloc, &job, shelf, out)
+        }
+        JobRead::Usage { index, kind } => put_report(out, usage_report(alloc, index, kind)),
+        JobRead::NoMemory => put(out, b"memory\n", Status::Memory),
     }
 }

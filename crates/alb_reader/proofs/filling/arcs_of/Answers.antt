@@ -14,7 +14,7 @@ pub returns-in-None : goal.returns-in-None
 unfolding none
 returns-in-None c = λ under e.
     subst (λ x. IsArcsRead c.args.tasks under (Err x)) (sym c.fault.ensures)
-        (arcs_stop c.args.tasks c.args.lines.now under c.loop-k.k none e c.loop-k-test.true (sym c.named_arc.ensures ∙ c.in-None.is) (c.loop-k.invariant under e).0)
+    (arcs_stop c.args.tasks c.args.lines.now under c.loop-k.k none e c.loop-k-test.true (sym c.named_arc.ensures ∙ c.in-None.is) (c.loop-k.invariant under e).0)
 
 pub loop-k-preserved : goal.loop-k-preserved
 unfolding none

@@ -9,7 +9,7 @@ use Rattle.alb_reader.proofs.reading.read_draft.Goals as goal
 pub returns-in-End : goal.returns-in-End
 returns-in-End c =
     amid_marked (contents_from 1 c.args.bytes.now) c.lines.draft (contents_from c.lines.at c.lines.left.now) (c.in-Ok.content.line, c.in-Ok.content.bytes.now) (contents_from (c.in-Ok.content.line + 1) c.in-Ok.content.rest.now)
-        c.lines.invariant.amid c.in-Ok.ensures.0 (sym c.in_ok-mark.ensures ∙ c.in-End.is)
+    c.lines.invariant.amid c.in-Ok.ensures.0 (sym c.in_ok-mark.ensures ∙ c.in-End.is)
 
 pub returns-in-Err-take : goal.returns-in-Err-take
 returns-in-Err-take c =

@@ -17,9 +17,9 @@ returns-else-self c = λ before h m. strength_taken before (c.args.line, c.args.
 pub returns-in_ok-push-in-Some-Times : goal.returns-in_ok-push-in-Some-Times
 returns-in_ok-push-in-Some-Times c = λ before h m.
     time_taken before (c.args.line, c.args.content.now) c.args.self.now h m _ (search rules) c.in_ok-timed_line-in-Some-Times.ensures.1 refl refl refl refl refl
-        (c.in_ok-push-in-Some-Times.ensures.items ∙ ap (λ t. c.args.self.now.times.items ++ t ∷ []) c.in_ok-timed_line-in-Some-Times.ensures.0) refl
+    (c.in_ok-push-in-Some-Times.ensures.items ∙ ap (λ t. c.args.self.now.times.items ++ t ∷ []) c.in_ok-timed_line-in-Some-Times.ensures.0) refl
 
 pub returns-in_ok-push-in-Some-Pairs : goal.returns-in_ok-push-in-Some-Pairs
 returns-in_ok-push-in-Some-Pairs c = λ before h m.
     pair_taken before (c.args.line, c.args.content.now) c.args.self.now h m _ c.len.result (search rules) (search rules) c.in_ok-paired_line-in-Some-Pairs.ensures.1 refl refl refl refl refl refl
-        (c.in_ok-push-in-Some-Pairs.ensures.items ∙ ap (λ t. c.args.self.now.pairs.items ++ t ∷ []) c.in_ok-paired_line-in-Some-Pairs.ensures.0)
+    (c.in_ok-push-in-Some-Pairs.ensures.items ∙ ap (λ t. c.args.self.now.pairs.items ++ t ∷ []) c.in_ok-paired_line-in-Some-Pairs.ensures.0)

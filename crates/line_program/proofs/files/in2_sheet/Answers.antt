@@ -1,5 +1,5 @@
 use Rattle.std.proofs.Common.{refl}
-use Rattle.line_program.proofs.files.sheet_in.Goals as goal
+use Rattle.line_program.proofs.files.in2_sheet.Goals as goal
 
 pub returns-in_ok-text-in-Fault-clause-said : goal.returns-in_ok-text-in-Fault-clause-said
 returns-in_ok-text-in-Fault-clause-said c = (
