@@ -9,6 +9,12 @@ use Rattle.line_rules.specs.declared.types.Side.{Side}
 use Rattle.line_rules.specs.declared.types.Side.TheVariants.{Front, Back}
 use Rattle.line_rules.specs.declared.types.Load.{Load}
 use Rattle.line_rules.proofs.Next.{IsPart, whole, cut, next_is}
+use Rattle.line_instance.specs.Sums.{sum_where}
+use Rattle.line_instance.proofs.Sums.{weigh-none}
+use Rattle.task_set.proofs.Members.{In-union_cases, In-empty}
+use Rattle.std.proofs.Common.{replicate}
+use Rattle.std.proofs.lemmas.List.{length-replicate}
+use Rattle.line_rules.specs.declared.types.Mode.TheVariants as mode
 use Rattle.line_rules.proofs.Sides.{part, with_part, fills, spot, task_at, AreSets, part_with, set_of, sets_with, set_less, set_more, part_taken, taken_part, changed, unfilled, spot_suc, spot_within, spot_of, truth_at, task_within, task_placed, truth_other, truth_here}
 use Rattle.line_rules.proofs.Joining.{MayJoin, joins, may_from, tasks_of}
 use Rattle.std.proofs.lemmas.Bool.{cases_eq, cases_lt, cases_Bool, false≢true, false_from_ne_true}
@@ -138,6 +144,41 @@ pub record IsBase (line : Line) (c : ℕ) (mode : Mode) (R : List Bool) (last : 
   pub is_part : IsPart line c mode R base
   pub is_last : (l : Load) → last ≡ Some l → base ≡ l
   pub nothing : last ≡ None → (i : ℕ) → In (taken base) i → ⊥
+
+-- neither side has a task
+abbrev pub nothing_yet : Load
+nothing_yet = record { front = replicate 1024 false; back = replicate 1024 false }
+
+nothing_taken : (i : ℕ) → In (taken nothing_yet) i → ⊥
+nothing_taken i m = elim (In-union_cases (replicate 1024 false) (replicate 1024 false) i m) [ inl f ↦ In-empty 1024 i f | inr b ↦ In-empty 1024 i b ]
+
+nothing_set : (line : Line) → IsTaskSet line (replicate 1024 false)
+nothing_set line = record { truths = length-replicate 1024 false; tasks = λ i m. absurd (In-empty 1024 i m) }
+
+nothing_suits : (mode : Mode) → Suits mode nothing_yet
+nothing_suits mode.Fore = λ i m. In-empty 1024 i m
+nothing_suits mode.Back = λ i m. In-empty 1024 i m
+nothing_suits mode.Both = tt
+
+pub base_none : (line : Line) (c : ℕ) (mode : Mode) (R : List Bool) → IsBase line c mode R None nothing_yet
+base_none line c mode R = record {
+  is_part = record {
+    front = nothing_set line;
+    back = nothing_set line;
+    suits = nothing_suits mode;
+    within = λ i m. absurd (nothing_taken i m);
+    disjoint = λ i m n. In-empty 1024 i m;
+    fits = (let e : sum_where (has (taken nothing_yet)) line.times ≡ 0 = weigh-none (λ t. t) (has (taken nothing_yet)) (λ i. false_from_ne_true (has (taken nothing_yet) i) (nothing_taken i)) line.times in omega (arith, e));
+    parted = λ i j m n a. nothing_taken i m;
+    before = λ i j m n w. absurd (In-empty 1024 j n);
+    after = λ i j m n w. absurd (In-empty 1024 i m);
+  };
+  is_last = λ l e. absurd (cc);
+  nothing = λ e. nothing_taken;
+}
+
+pub base_some : (line : Line) (c : ℕ) (mode : Mode) (R : List Bool) (l : Load) → IsLoad line c mode R l → IsBase line c mode R (Some l) l
+base_some line c mode R l load = record { is_part = whole load; is_last = λ k e. cc; nothing = λ e. absurd (cc) }
 
 first_below : (f : ℕ → Bool) (n : ℕ) → ((m : ℕ) × (m < n) × (f m ≡ true) × ((j : ℕ) → j < m → f j ≡ false)) ⊎ ((j : ℕ) → j < n → f j ≡ false)
 first_below f zero = inr (λ j h. absurd (omega arith))

@@ -47,6 +47,11 @@ abbrev pub task_at : Line → Side → ℕ → ℕ
 task_at line Front p = at_rank line p
 task_at line Back p = at_rank line (tasks line - 1 - p)
 
+-- what is so of both sides
+pub each_side : (P : Side → Type 0) → P Front → P Back → (s : Side) → P s
+each_side P f b Front = f
+each_side P f b Back = b
+
 pub part_with : (s : Side) (l : Load) (b : List Bool) → part s (with_part s l b) ≡ b
 part_with Front l b = refl
 part_with Back l b = refl
@@ -82,6 +87,9 @@ part_taken Back l i m = In-union_right l.front l.back i m
 
 pub taken_part : (l : Load) (i : ℕ) → In (taken l) i → (s : Side) × In (part s l) i
 taken_part l i m = elim (In-union_cases l.front l.back i m) [ inl f ↦ (Front, f) | inr b ↦ (Back, b) ]
+
+pub taken_set : {line : Line} (l : Load) → AreSets line l → length (taken l) ≡ 1024 → IsTaskSet line (taken l)
+taken_set l h long = record { truths = long; tasks = λ i m. elim (In-union_cases l.front l.back i m) [ inl f ↦ h.front.tasks i f | inr b ↦ h.back.tasks i b ] }
 
 -- a side with one truth changed
 abbrev pub changed : Side → Load → ℕ → Bool → Load
