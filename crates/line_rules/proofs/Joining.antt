@@ -12,17 +12,9 @@ use Rattle.line_rules.specs.declared.types.Side.{Side}
 use Rattle.line_rules.specs.declared.types.Side.TheVariants.{Front, Back}
 use Rattle.line_rules.specs.declared.types.Load.{Load}
 use Rattle.line_rules.proofs.Next.{IsPart, whole, front_in, back_in, taken_in}
-use Rattle.line_rules.proofs.Sides.{part, with_part, Ahead, fills, spot, task_at, AreSets, part_with, set_of, sets_with, set_more, part_taken, taken_part, changed, other_taken, unfilled, suits_with, spot_rises, spot_within, truth_at, task_within, task_placed, ahead_below}
+use Rattle.line_rules.specs.Sides.{part, with_part, changed, Ahead, fills, spot, task_at, MayJoin}
+use Rattle.line_rules.proofs.Sides.{AreSets, part_with, set_of, sets_with, set_more, part_taken, taken_part, other_taken, unfilled, suits_with, spot_rises, spot_within, truth_at, task_within, task_placed, ahead_below}
 use Rattle.std.proofs.lemmas.Bool.{cases_Bool, cases_eq, false≢true, true≢false, and_from, ne_eqb, eq-eqb, false_from_ne_true}
-
--- A task may join a side of a load of R: it is in R and not in the load, its time fits, nothing of the load is apart from it, and what
--- is ahead of it in R stands at that side.
-pub record MayJoin (line : Line) (c : ℕ) (R : List Bool) (s : Side) (l : Load) (i : ℕ) : Type 0 where
-  pub within : In R i
-  pub new : has (taken l) i ≡ false
-  pub fits : sum_where (has (taken l)) line.times + time line i ≤ c
-  pub parted : (j : ℕ) → In (taken l) j → Apart line j i → ⊥
-  pub ready : (j : ℕ) → In R j → Ahead line s j i → In (part s l) j
 
 pub pair_of : {line : Line} {c : ℕ} {mode : Mode} {R : List Bool} {l : Load} → IsPart line c mode R l → AreSets line l
 pair_of l = record { front = l.front; back = l.back }

@@ -4,21 +4,11 @@ use Rattle.task_set.specs.Truths.{In, minus, meet, IsEmpty}
 use Rattle.task_set.proofs.Members.{In-minus, In-minus_parts, In-meet, In-meet_parts, In-set_same, In-set_kept, In-set_cases, In-clear, In-clear_kept, In-clear_gone, members}
 use Rattle.line_instance.specs.Line.{Line, IsLine, tasks, has}
 use Rattle.line_rules.specs.declared.types.Side.{Side}
-use Rattle.line_rules.proofs.Sides.{Ahead}
+use Rattle.line_rules.specs.Sides.{Ahead, IsReady, AreReady}
 use Rattle.line_rules.proofs.Joining.{not_ahead}
 use Rattle.line_rules.proofs.Leaving.{members_less}
 use Rattle.std.proofs.lemmas.Bool.{cases_Bool, cases_eq, false≢true, false_from_ne_true}
 use Rattle.std.proofs.lemmas.List.{get_or-set_other}
-
--- a task of R that doesn't stand in the part, while all that is ahead of it in R does
-pub record IsReady (line : Line) (s : Side) (R part : List Bool) (i : ℕ) : Type 0 where
-  pub within : In R i
-  pub new : has part i ≡ false
-  pub ready : (j : ℕ) → In R j → Ahead line s j i → In part j
-
--- the set has the tasks that are ready
-pub record AreReady (line : Line) (s : Side) (R part free : List Bool) : Type 0 where
-  pub is : (i : ℕ) → In free i ↔ IsReady line s R part i
 
 absent_from : (a : List Bool) (i : ℕ) → (In a i → ⊥) → has a i ≡ false
 absent_from a i n = false_from_ne_true (has a i) n
@@ -26,37 +16,39 @@ absent_from a i n = false_from_ne_true (has a i) n
 still_absent : (a : List Bool) (t i : ℕ) → has a i ≡ false → has (set a t false) i ≡ false
 still_absent a t i e = absent_from (set a t false) i (λ m. false≢true (sym e ∙ In-clear_kept a t i m))
 
-module _ (line : Line) (ok : IsLine line) (s : Side) (R part free W : List Bool) (t : ℕ) (before : AreReady line s R part free) (waits : (i : ℕ) → In W i ↔ Ahead line s t i) where
-  -- A task is given up: it is ready again, and what waits for it isn't.
-  pub ready_less : In R t → In part t → ((j : ℕ) → In R j → Ahead line s j t → In part j) → t < length (minus free W) → AreReady line s R (set part t false) (set (minus free W) t true)
-  ready_less m p closed long = record {
-    is = λ i. (
-      λ f. elim (In-set_cases (minus free W) t i f) [
-        | inl g ↦ (
-            let q : In free i × (has W i ≡ false) = In-minus_parts free W i g in
-            let r : IsReady line s R part i = (before.is i).0 q.0 in
-            record {
-              within = r.within;
-              new = still_absent part t i r.new;
-              ready = λ j x w. In-clear part t j (r.ready j x w) (λ e. false≢true (sym q.1 ∙ (waits i).1 (let P : ℕ → Type 0 = λ k. Ahead line s k i in subst P e w)));
-            })
-        | inr e ↦ (
-            let P : ℕ → Type 0 = λ k. IsReady line s R (set part t false) k in
-            subst P (sym e) (record {
-              within = m;
-              new = absent_from (set part t false) t (In-clear_gone part t);
-              ready = λ j x w. In-clear part t j (closed j x w) (λ d. not_ahead line ok s t (let Q : ℕ → Type 0 = λ k. Ahead line s k t in subst Q d w));
-            }))
-      ],
-      λ r. elim (cases_eq i t) [
-        | inl e ↦ ap (λ k. has (set (minus free W) t true) k) e ∙ In-set_same (minus free W) t long
-        | inr n ↦ In-set_kept (minus free W) t i (In-minus free W i
-            ((before.is i).1 (record { within = r.within; new = absent_from part i (λ x. false≢true (sym r.new ∙ In-clear part t i x n)); ready = λ j x w. In-clear_kept part t j (r.ready j x w) }))
-            (absent_from W i (λ w. In-clear_gone part t (r.ready t m ((waits i).0 w)))))
-      ],
-    );
-  }
+-- A task is given up: it is ready again, and what waits for it isn't.
+pub ready_less : (line : Line) → IsLine line → (s : Side) (R part free F : List Bool) (t : ℕ) → AreReady line s R part free → In R t → In part t → ((j : ℕ) → In R j → Ahead line s j t → In part j) → t < length free
+    → ((i : ℕ) → In F i ↔ In (set free t true) i × (Ahead line s t i → ⊥)) → AreReady line s R (set part t false) F
+ready_less line ok s R part free F t before m p closed long found = record {
+  is = λ i. (
+    λ f.
+        let q : In (set free t true) i × (Ahead line s t i → ⊥) = (found i).0 f in
+        elim (In-set_cases free t i q.0) [
+          | inl g ↦ (
+              let r : IsReady line s R part i = (before.is i).0 g in
+              record {
+                within = r.within;
+                new = still_absent part t i r.new;
+                ready = λ j x w. In-clear part t j (r.ready j x w) (λ e. q.1 (let P : ℕ → Type 0 = λ k. Ahead line s k i in subst P e w));
+              })
+          | inr e ↦ (
+              let P : ℕ → Type 0 = λ k. IsReady line s R (set part t false) k in
+              subst P (sym e) (record {
+                within = m;
+                new = absent_from (set part t false) t (In-clear_gone part t);
+                ready = λ j x w. In-clear part t j (closed j x w) (λ d. not_ahead line ok s t (let Q : ℕ → Type 0 = λ k. Ahead line s k t in subst Q d w));
+              }))
+        ],
+    λ r. (found i).1 (elim (cases_eq i t) [
+      | inl e ↦ (ap (λ k. has (set free t true) k) e ∙ In-set_same free t long, λ w. not_ahead line ok s t (let P : ℕ → Type 0 = λ k. Ahead line s t k in subst P e w))
+      | inr n ↦ (
+          In-set_kept free t i ((before.is i).1 (record { within = r.within; new = absent_from part i (λ x. false≢true (sym r.new ∙ In-clear part t i x n)); ready = λ j x w. In-clear_kept part t j (r.ready j x w) })),
+          λ w. In-clear_gone part t (r.ready t m w))
+    ]),
+  );
+}
 
+module _ (line : Line) (ok : IsLine line) (s : Side) (R part free W : List Bool) (t : ℕ) (before : AreReady line s R part free) (waits : (i : ℕ) → In W i ↔ Ahead line s t i) where
   -- A task joins: it is ready no more, and what waits for it may be.
   pub ready_more : (F : List Bool) → In R t → has part t ≡ false → t < length part
       → ((i : ℕ) → In F i ↔ In (set free t false) i ⊎ (In (meet W R) i × IsReady line s R (set part t true) i)) → AreReady line s R (set part t true) F
@@ -99,6 +91,23 @@ module _ (line : Line) (ok : IsLine line) (s : Side) (R part free W : List Bool)
         | inl y ↦ false≢true (sym new ∙ closed t i m y ((waits i).0 q.0))
         | inr e ↦ not_ahead line ok s t (let P : ℕ → Type 0 = λ k. Ahead line s t k in subst P e ((waits i).0 q.0))
       ]))
+
+-- the test of a task: nothing that is ahead of it is absent
+pub ready_test : (line : Line) (s : Side) (R part A absent both : List Bool) (i : ℕ) → ((j : ℕ) → In A j ↔ Ahead line s j i) → absent ≡ minus R part → both ≡ meet A absent → In R i → has part i ≡ false → IsEmpty both ↔ IsReady line s R part i
+ready_test line s R part A absent both i ahead missing met m new = (
+  λ none. record {
+    within = m;
+    new = new;
+    ready = λ j x w. elim (cases_Bool (has part j)) [
+      | inl t ↦ t
+      | inr f ↦ absurd (none j (ap (λ b. has b j) met ∙ In-meet A absent j ((ahead j).1 w) (ap (λ b. has b j) missing ∙ In-minus R part j x f)))
+    ];
+  },
+  λ r j h.
+      let q : In A j × In absent j = In-meet_parts A absent j (ap (λ b. has b j) (sym met) ∙ h) in
+      let p : In R j × (has part j ≡ false) = In-minus_parts R part j (ap (λ b. has b j) (sym missing) ∙ q.1) in
+      false≢true (sym p.1 ∙ r.ready j p.0 ((ahead j).0 q.0)),
+)
 
 -- Candidates are gone over: what is found among them is ready, and what is ready among them is found or left.
 pub record Adding (line : Line) (s : Side) (R part start old left free : List Bool) : Type 0 where

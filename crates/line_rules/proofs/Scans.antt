@@ -15,8 +15,9 @@ use Rattle.task_set.proofs.Members.{In-union_cases, In-empty}
 use Rattle.std.proofs.Common.{replicate}
 use Rattle.std.proofs.lemmas.List.{length-replicate}
 use Rattle.line_rules.specs.declared.types.Mode.TheVariants as mode
-use Rattle.line_rules.proofs.Sides.{part, with_part, fills, spot, task_at, AreSets, part_with, set_of, sets_with, set_less, set_more, part_taken, taken_part, changed, unfilled, spot_suc, spot_within, spot_of, truth_at, task_within, task_placed, truth_other, truth_here}
-use Rattle.line_rules.proofs.Joining.{MayJoin, joins, may_from, tasks_of}
+use Rattle.line_rules.specs.Sides.{part, with_part, changed, nothing_yet, fills, spot, task_at, MayJoin}
+use Rattle.line_rules.proofs.Sides.{AreSets, part_with, set_of, sets_with, set_less, set_more, part_taken, taken_part, unfilled, spot_suc, spot_within, spot_of, truth_at, task_within, task_placed, truth_other, truth_here}
+use Rattle.line_rules.proofs.Joining.{joins, may_from, tasks_of}
 use Rattle.std.proofs.lemmas.Bool.{cases_eq, cases_lt, cases_Bool, false≢true, false_from_ne_true}
 
 -- What is left to go over are the places below k. Now agrees with base there and has nothing from k on, and no load above base agrees
@@ -126,6 +127,17 @@ module _ (line : Line) (c : ℕ) (mode : Mode) (R : List Bool) (s : Side) (base 
       (truth_other line scan.ranked s now p true within) (truth_here line scan.ranked s now p true within long) (truth_at line scan.ranked s now p within ∙ e)
       (joins line scan.sizes c mode R s now (task_at line s p) (task_within line scan.ranked s p within) (part_now line c mode R base now (spot line s (suc p)) scan) may filled)
 
+-- places with no task that may join are passed together
+pub drops : (line : Line) (c : ℕ) (mode : Mode) (R : List Bool) (s : Side) (base now : Load) (low many : ℕ) → low + many ≤ tasks line
+    → ((p : ℕ) → low ≤ p → p < low + many → (has (part s now) (task_at line s p) ≡ false) × (MayJoin line c R s now (task_at line s p) → ⊥))
+    → Scan line c mode R base now (spot line s (low + many)) → Scan line c mode R base now (spot line s low)
+drops line c mode R s base now low zero l free scan = rescan line c mode R base now (spot line s (low + zero)) (spot line s low) (ap (spot line s) (let e : low + 0 ≡ low = omega arith in e)) scan
+drops line c mode R s base now low (suc many) l free scan =
+    let here : (has (part s now) (task_at line s (low + many)) ≡ false) × (MayJoin line c R s now (task_at line s (low + many)) → ⊥) = free (low + many) (omega arith) (omega arith) in
+    drops line c mode R s base now low many (omega arith) (λ p a b. free p a (omega arith))
+    (passes line c mode R s base now (low + many) (omega arith)
+    (rescan line c mode R base now (spot line s (low + suc many)) (spot line s (suc (low + many))) (ap (spot line s) (let e : low + suc many ≡ suc (low + many) = omega arith in e)) scan) here.0 (inr here.1))
+
 -- from the end of a side that loads of the mode don't fill on, there is nothing to go over
 pub skips : (line : Line) (c : ℕ) (mode : Mode) (R : List Bool) (s : Side) (base now : Load) (p : ℕ) → p ≤ tasks line → fills mode s ≡ false → Scan line c mode R base now (spot line s p) → Scan line c mode R base now (spot line s 0)
 skips line c mode R s base now zero l e scan = scan
@@ -133,7 +145,7 @@ skips line c mode R s base now (suc p) l e scan =
     let w : p < tasks line = omega arith in
     let part : IsPart line c mode R now = part_now line c mode R base now (spot line s (suc p)) scan in
     skips line c mode R s base now p (omega arith) e
-    (passes line c mode R s base now p w scan (false_from_ne_true (has (Rattle.line_rules.proofs.Sides.part s now) (task_at line s p)) (unfilled mode s now e part.suits (task_at line s p))) (inl e))
+    (passes line c mode R s base now p w scan (false_from_ne_true (has (Rattle.line_rules.specs.Sides.part s now) (task_at line s p)) (unfilled mode s now e part.suits (task_at line s p))) (inl e))
 
 -- where all places were gone over, no load stands above
 pub none_above : (line : Line) (c : ℕ) (mode : Mode) (R : List Bool) (base now : Load) → Scan line c mode R base now 0 → (l : Load) → IsLoad line c mode R l → Precedes line base l → ⊥
@@ -144,10 +156,6 @@ pub record IsBase (line : Line) (c : ℕ) (mode : Mode) (R : List Bool) (last : 
   pub is_part : IsPart line c mode R base
   pub is_last : (l : Load) → last ≡ Some l → base ≡ l
   pub nothing : last ≡ None → (i : ℕ) → In (taken base) i → ⊥
-
--- neither side has a task
-abbrev pub nothing_yet : Load
-nothing_yet = record { front = replicate 1024 false; back = replicate 1024 false }
 
 nothing_taken : (i : ℕ) → In (taken nothing_yet) i → ⊥
 nothing_taken i m = elim (In-union_cases (replicate 1024 false) (replicate 1024 false) i m) [ inl f ↦ In-empty 1024 i f | inr b ↦ In-empty 1024 i b ]

@@ -6,6 +6,7 @@ use Rattle.task_set.proofs.Bits.{get_or-union}
 use Rattle.line_instance.specs.Line.{Line, IsTaskSet, IsRanked, tasks, has, at_rank, Before}
 use Rattle.line_rules.specs.Loads.{Suits, taken}
 use Rattle.line_rules.specs.Order.{truth}
+use Rattle.line_rules.specs.Sides.{part, with_part, changed, Ahead, fills, spot, task_at}
 use Rattle.line_rules.specs.declared.types.Mode.{Mode}
 use Rattle.line_rules.specs.declared.types.Mode.TheVariants as mode
 use Rattle.line_rules.specs.declared.types.Side.{Side}
@@ -14,38 +15,6 @@ use Rattle.line_rules.specs.declared.types.Load.{Load}
 use Rattle.line_rules.proofs.Next.{in_front, in_back}
 use Rattle.std.proofs.lemmas.Bool.{cases_eq, cases_lt, false≢true, true≢false}
 use Rattle.std.proofs.lemmas.List.{get_or-set_same, get_or-set_other, length-set}
-
--- the tasks of one side
-abbrev pub part : Side → Load → List Bool
-part Front l = l.front
-part Back l = l.back
-
--- the load with these tasks at one side
-abbrev pub with_part : Side → Load → List Bool → Load
-with_part Front l s = record { front = s; back = l.back }
-with_part Back l s = record { front = l.front; back = s }
-
--- i has to stand at a side where j does: in front where i is before j, at the back where i is after j
-abbrev pub Ahead : Line → Side → ℕ → ℕ → Type 0
-Ahead line Front i j = Before line i j
-Ahead line Back i j = Before line j i
-
--- whether loads of the mode fill a side
-abbrev pub fills : Mode → Side → Bool
-fills mode.Fore Front = true
-fills mode.Fore Back = false
-fills mode.Back Front = false
-fills mode.Back Back = true
-fills mode.Both s = true
-
--- the places of a side, from 0 to the number of tasks, among the truths of a load, and the task at each
-abbrev pub spot : Line → Side → ℕ → ℕ
-spot line Front p = p
-spot line Back p = tasks line + p
-
-abbrev pub task_at : Line → Side → ℕ → ℕ
-task_at line Front p = at_rank line p
-task_at line Back p = at_rank line (tasks line - 1 - p)
 
 -- what is so of both sides
 pub each_side : (P : Side → Type 0) → P Front → P Back → (s : Side) → P s
@@ -90,10 +59,6 @@ taken_part l i m = elim (In-union_cases l.front l.back i m) [ inl f ↦ (Front, 
 
 pub taken_set : {line : Line} (l : Load) → AreSets line l → length (taken l) ≡ 1024 → IsTaskSet line (taken l)
 taken_set l h long = record { truths = long; tasks = λ i m. elim (In-union_cases l.front l.back i m) [ inl f ↦ h.front.tasks i f | inr b ↦ h.back.tasks i b ] }
-
--- a side with one truth changed
-abbrev pub changed : Side → Load → ℕ → Bool → Load
-changed s l i b = with_part s l (set (part s l) i b)
 
 pub other_taken : (s : Side) (l : Load) (i : ℕ) (b : Bool) (j : ℕ) → j ≢ i → has (taken (changed s l i b)) j ≡ has (taken l) j
 other_taken Front l i b j n = get_or-union (set l.front i b) l.back j ∙ (ap (λ x. x || has l.back j) (get_or-set_other l.front i j b false n) ∙ sym (get_or-union l.front l.back j))

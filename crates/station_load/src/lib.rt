@@ -1,8 +1,10 @@
 //! The loads of a set in their order, none left out: the first, the one after a load, and a walk from the first to the last.
 #![tactic(auto)]
 
+mod ends;
 mod loads;
 pub mod places;
 mod sides;
+pub mod steps;
 
 pub use loads::{first_load, is_full, next_load};

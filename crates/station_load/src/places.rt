@@ -5,8 +5,8 @@ ghost use Rattle.line_rules.specs.Loads.{IsLoad, IsFull};
 ghost use Rattle.line_rules.specs.Order.{Precedes, IsNext, IsFollowing};
 ghost use Rattle.line_rules.specs.declared.types.Load.{Load as Pair};
 ghost use Rattle.line_rules.proofs.Next.{IsPart};
-ghost use Rattle.line_rules.proofs.Sides.{AreSets, fills, spot};
-ghost use Rattle.line_rules.proofs.Joining.{MayJoin};
+ghost use Rattle.line_rules.specs.Sides.{MayJoin, fills, spot};
+ghost use Rattle.line_rules.proofs.Sides.{AreSets};
 ghost use Rattle.line_rules.proofs.Scans.{Scan};
 
 use crate::sides::{ahead, fills, nothing, part, put, stands, take, task_at};

@@ -2,8 +2,7 @@
 ghost use Rattle.std.specs.Prelude.{◌≡◌, ◌-◌, ◌<◌, ◌↔◌, ℕ, true, false};
 ghost use Rattle.task_set.specs.Truths.{In};
 ghost use Rattle.line_instance.specs.Line.{IsTaskSet, tasks, has};
-ghost use Rattle.line_rules.proofs.Sides.{Ahead, part, changed, fills, task_at};
-ghost use Rattle.line_rules.proofs.Scans.{nothing_yet};
+ghost use Rattle.line_rules.specs.Sides.{Ahead, part, changed, nothing_yet, fills, task_at};
 
 use line_instance::Instance;
 use line_rules::{Load, Mode, Side};
@@ -37,6 +36,7 @@ pub(crate) fn ahead(inst: &Instance, side: Side, task: u32) -> &TaskSet
 pub(crate) fn waiting(inst: &Instance, side: Side, task: u32) -> &TaskSet
     requires { task < tasks inst.now }
     ensures members { (j : ℕ) → In result.now j ↔ Ahead inst.now side task j }
+    ensures set { IsTaskSet inst.now result.now }
 {
     match side {
         Side::Front => inst.after(task),
@@ -54,6 +54,19 @@ pub(crate) fn task_at(inst: &Instance, side: Side, place: u32) -> u32
     match side {
         Side::Front => inst.at_rank(place),
         Side::Back => inst.at_rank(inst.tasks() - 1 - place),
+    }
+}
+
+/// The place of a task at the side, below the number of tasks.
+#[inline]
+pub(crate) fn place_of(inst: &Instance, side: Side, task: u32) -> u32
+    requires { task < tasks inst.now }
+    ensures task { task_at inst.now side result ≡ task }
+    ensures within { result < tasks inst.now }
+{
+    match side {
+        Side::Front => inst.rank_of(task),
+        Side::Back => inst.tasks() - 1 - inst.rank_of(task),
     }
 }
 

@@ -1,6 +1,6 @@
 use Rattle.std.proofs.Common.{◌≤◌}
 use Rattle.line_instance.specs.Line.{tasks}
-use Rattle.line_rules.proofs.Sides.{spot}
+use Rattle.line_rules.specs.Sides.{spot}
 use Rattle.line_rules.proofs.Scans.{Scan}
 use Rattle.station_load.proofs.places.climb.Given as goal
 

@@ -1,4 +1,4 @@
-use Rattle.line_rules.proofs.Scans.{nothing_yet}
+use Rattle.line_rules.specs.Sides.{nothing_yet}
 use Rattle.station_load.proofs.Answered.{same_pair}
 use Rattle.station_load.proofs.sides.nothing.Goals as goal
 
