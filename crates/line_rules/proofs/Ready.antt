@@ -17,13 +17,13 @@ still_absent : (a : List Bool) (t i : ℕ) → has a i ≡ false → has (set a 
 still_absent a t i e = absent_from (set a t false) i (λ m. false≢true (sym e ∙ In-clear_kept a t i m))
 
 -- A task is given up: it is ready again, and what waits for it isn't.
-pub ready_less : (line : Line) → IsLine line → (s : Side) (R part free F : List Bool) (t : ℕ) → AreReady line s R part free → In R t → In part t → ((j : ℕ) → In R j → Ahead line s j t → In part j) → t < length free
-    → ((i : ℕ) → In F i ↔ In (set free t true) i × (Ahead line s t i → ⊥)) → AreReady line s R (set part t false) F
-ready_less line ok s R part free F t before m p closed long found = record {
+pub ready_less : (line : Line) → IsLine line → (s : Side) (R part free F : List Bool) (t : ℕ) → AreReady line s R part free → In R t → In part t → ((j : ℕ) → In R j → Ahead line s j t → In part j)
+    → ((i : ℕ) → In F i ↔ (In free i ⊎ (i ≡ t)) × (Ahead line s t i → ⊥)) → AreReady line s R (set part t false) F
+ready_less line ok s R part free F t before m p closed found = record {
   is = λ i. (
     λ f.
-        let q : In (set free t true) i × (Ahead line s t i → ⊥) = (found i).0 f in
-        elim (In-set_cases free t i q.0) [
+        let q : (In free i ⊎ (i ≡ t)) × (Ahead line s t i → ⊥) = (found i).0 f in
+        elim q.0 [
           | inl g ↦ (
               let r : IsReady line s R part i = (before.is i).0 g in
               record {
@@ -40,9 +40,9 @@ ready_less line ok s R part free F t before m p closed long found = record {
               }))
         ],
     λ r. (found i).1 (elim (cases_eq i t) [
-      | inl e ↦ (ap (λ k. has (set free t true) k) e ∙ In-set_same free t long, λ w. not_ahead line ok s t (let P : ℕ → Type 0 = λ k. Ahead line s t k in subst P e w))
+      | inl e ↦ (inr e, λ w. not_ahead line ok s t (let P : ℕ → Type 0 = λ k. Ahead line s t k in subst P e w))
       | inr n ↦ (
-          In-set_kept free t i ((before.is i).1 (record { within = r.within; new = absent_from part i (λ x. false≢true (sym r.new ∙ In-clear part t i x n)); ready = λ j x w. In-clear_kept part t j (r.ready j x w) })),
+          inl ((before.is i).1 (record { within = r.within; new = absent_from part i (λ x. false≢true (sym r.new ∙ In-clear part t i x n)); ready = λ j x w. In-clear_kept part t j (r.ready j x w) })),
           λ w. In-clear_gone part t (r.ready t m w))
     ]),
   );

@@ -163,6 +163,9 @@ nothing_taken i m = elim (In-union_cases (replicate 1024 false) (replicate 1024 
 nothing_set : (line : Line) → IsTaskSet line (replicate 1024 false)
 nothing_set line = record { truths = length-replicate 1024 false; tasks = λ i m. absurd (In-empty 1024 i m) }
 
+pub nothing_sum : (line : Line) → sum_where (has (taken nothing_yet)) line.times ≡ 0
+nothing_sum line = weigh-none (λ t. t) (has (taken nothing_yet)) (λ i. false_from_ne_true (has (taken nothing_yet) i) (nothing_taken i)) line.times
+
 nothing_suits : (mode : Mode) → Suits mode nothing_yet
 nothing_suits mode.Fore = λ i m. In-empty 1024 i m
 nothing_suits mode.Back = λ i m. In-empty 1024 i m
@@ -176,7 +179,7 @@ base_none line c mode R = record {
     suits = nothing_suits mode;
     within = λ i m. absurd (nothing_taken i m);
     disjoint = λ i m n. In-empty 1024 i m;
-    fits = (let e : sum_where (has (taken nothing_yet)) line.times ≡ 0 = weigh-none (λ t. t) (has (taken nothing_yet)) (λ i. false_from_ne_true (has (taken nothing_yet) i) (nothing_taken i)) line.times in omega (arith, e));
+    fits = omega (arith, nothing_sum line);
     parted = λ i j m n a. nothing_taken i m;
     before = λ i j m n w. absurd (In-empty 1024 j n);
     after = λ i j m n w. absurd (In-empty 1024 i m);

@@ -8,3 +8,6 @@ map_some (Some b) f h = f b h
 
 pub same_pair : (f g b d : List Bool) → f ≡ g → b ≡ d → ◌≡◌ {A = Load} (record { front = f; back = b }) (record { front = g; back = d })
 same_pair f g b d e k = λ i. record { front = e i; back = k i }
+
+pub some_same : (a b : Load) → Some a ≡ Some b → a ≡ b
+some_same a b e = cc

@@ -1,3 +1,5 @@
 pub mod Turns
 pub mod Answered
 pub mod Marks
+pub mod Climbs
+pub mod Walks

@@ -1,7 +1,7 @@
 -- What a walk keeps of one side of the load that it has come to.
-use Rattle.std.specs.Prelude.{◌≡◌, ℕ, ◌<◌, ◌⊎◌, ◌↔◌, Bool, true, false, List, slice_set}
+use Rattle.std.specs.Prelude.{◌≡◌, ℕ, ◌<◌, ◌≤◌, ◌⊎◌, ◌↔◌, Bool, true, false, List, slice_set}
 use Rattle.task_set.specs.Truths.{In}
-use Rattle.line_instance.specs.Line.{Line, IsTaskSet, tasks, has}
+use Rattle.line_instance.specs.Line.{Line, IsTaskSet, Apart, tasks, has, time}
 use Rattle.line_rules.specs.Sides.{Ahead, AreReady, IsReady, task_at}
 use Rattle.line_rules.specs.declared.types.Side.{Side}
 use Rattle.line_rules.specs.declared.types.Side.TheVariants.{Front, Back}
@@ -27,10 +27,15 @@ pub record Adds (line : Line) (s : Side) (R candidates : List Bool) (old new : E
 -- t has left the side: it is free, and nothing that waits for it is
 pub record GivesUp (line : Line) (s : Side) (t : ℕ) (old new : End) : Type 0 where
   pub tasks : new.tasks ≡ slice_set old.tasks t false
-  pub free : (i : ℕ) → In new.free i ↔ In (slice_set old.free t true) i × (Ahead line s t i → ⊥)
+  pub free : (i : ℕ) → In new.free i ↔ (In old.free i ⊎ (i ≡ t)) × (Ahead line s t i → ⊥)
   pub marked : AreMarked line s new
 
 -- the load with these tasks at the side and those at the other side
 abbrev pub pair_at : Side → List Bool → List Bool → Load
 pair_at Front tasks others = record { front = tasks; back = others }
 pair_at Back tasks others = record { front = others; back = tasks }
+
+-- the task's time is left, and nothing that is taken is apart from it
+pub record HasRoom (line : Line) (left : ℕ) (taken : List Bool) (i : ℕ) : Type 0 where
+  pub time : time line i ≤ left
+  pub parted : (j : ℕ) → In taken j → Apart line j i → ⊥

@@ -10,7 +10,7 @@ ghost use Rattle.line_rules.specs.Sides.{MayJoin, fills, spot};
 ghost use Rattle.line_rules.specs.declared.types.Load.{Load as Pair};
 ghost use Rattle.line_rules.proofs.Next.{IsPart};
 ghost use Rattle.line_rules.proofs.Scans.{Scan};
-ghost use Rattle.station_load.specs.Ends.{IsEnd, pair_at};
+ghost use Rattle.station_load.specs.Ends.{IsEnd, HasRoom, pair_at};
 ghost use Rattle.station_load.specs.Walking.{IsWalk, last_given};
 
 use crate::ends::End;
@@ -48,11 +48,208 @@ impl Model for Walk {
 #[inline]
 fn fits(inst: &Instance, left: u64, here: &TaskSet, other: &TaskSet, task: u32) -> bool
     requires { task < tasks inst.now }
-    ensures fits { IsTrue result → (time inst.now task ≤ left) × ((j : ℕ) → In (union here.now other.now) j → Apart inst.now j task → ⊥) }
-    ensures not { result ≡ false → time inst.now task ≤ left → ((j : ℕ) → In (union here.now other.now) j → Apart inst.now j task → ⊥) → ⊥ }
+    ensures { IsTrue result ↔ HasRoom inst.now left (union here.now other.now) task }
 {
     if inst.time(task) > left {
         return false;
     }
     here.union(other).meet(inst.apart(task)).is_empty()
+}
+
+// Goes over the places of a side from the last one down: gives up what stands there, up to the first place where a task may join.
+// Whether one has joined. The load given last tells contracts where the scan began.
+fn advance(
+    inst: &Instance,
+    cycle: u64,
+    set: &TaskSet,
+    mode: Mode,
+    side: Side,
+    last: &Load,
+    other: &TaskSet,
+    end: &mut End,
+    sum: &mut u64,
+) -> bool
+    requires set { IsTaskSet inst.now set.now }
+    requires scan { Scan inst.now cycle mode set.now last.now (pair_at side end.old.tasks other.now) (spot inst.now side (tasks inst.now)) }
+    requires kept { fills mode side ≡ true → IsEnd inst.now side set.now end.old }
+    requires sum { sum.old ≡ sum_where (has (taken (pair_at side end.old.tasks other.now))) inst.now.times }
+    ensures joined { IsTrue result → IsNext inst.now cycle mode set.now last.now (pair_at side end.new.tasks other.now) }
+    ensures passed { result ≡ false → Scan inst.now cycle mode set.now last.now (pair_at side end.new.tasks other.now) (spot inst.now side 0) }
+    ensures kept { fills mode side ≡ true → IsEnd inst.now side set.now end.new }
+    ensures sum { sum.new ≡ sum_where (has (taken (pair_at side end.new.tasks other.now))) inst.now.times }
+{
+    if !fills(mode, side) {
+        return false;
+    }
+    let mut below = inst.tasks();
+    while let Some(place) = end.places.greatest_below(below) {
+        below = place;
+        let task = task_at(inst, side, place);
+        if end.tasks.has(task) {
+            end.give_up(inst, side, task);
+            *sum -= inst.time(task);
+        } else if !other.has(task) && fits(inst, cycle - *sum, &end.tasks, other, task) {
+            end.take_in(inst, set, side, task);
+            *sum += inst.time(task);
+            return true;
+        }
+    }
+    false
+}
+
+// Whether a task that is ready for the side may join it.
+fn grows(
+    inst: &Instance,
+    cycle: u64,
+    set: &TaskSet,
+    mode: Mode,
+    side: Side,
+    end: &End,
+    other: &TaskSet,
+    sum: u64,
+) -> bool
+    requires set { IsTaskSet inst.now set.now }
+    requires kept { fills mode side ≡ true → IsEnd inst.now side set.now end.now }
+    requires sum { sum ≡ sum_where (has (taken (pair_at side end.now.tasks other.now))) inst.now.times }
+    requires fits { sum ≤ cycle }
+    ensures some { IsTrue result → (i : ℕ) × (fills mode side ≡ true) × MayJoin inst.now cycle set.now side (pair_at side end.now.tasks other.now) i }
+    ensures none { result ≡ false → (i : ℕ) → fills mode side ≡ true → MayJoin inst.now cycle set.now side (pair_at side end.now.tasks other.now) i → ⊥ }
+{
+    if !fills(mode, side) {
+        return false;
+    }
+    let mut below = inst.tasks();
+    while let Some(task) = end.free.greatest_below(below) {
+        below = task;
+        if !other.has(task) && fits(inst, cycle - sum, &end.tasks, other, task) {
+            return true;
+        }
+    }
+    false
+}
+
+/// A walk over the loads of a set of tasks, before its first one. The cycle is in the instance's time unit.
+pub fn begin(inst: &Instance, cycle: u64, set: &TaskSet, mode: Mode) -> Walk
+    requires { IsTaskSet inst.now set.now }
+    ensures walk { IsWalk inst.now result }
+    ensures cycle { result.cycle ≡ cycle }
+    ensures mode { result.mode ≡ mode }
+    ensures set { result.set ≡ set.now }
+    ensures last { result.last ≡ None }
+{
+    let _tasks = inst.tasks();
+    let nothing = nothing();
+    Walk {
+        cycle,
+        mode,
+        set: *set,
+        given: false,
+        sum: 0,
+        front: End::of(inst, set, Side::Front, &nothing.front),
+        back: End::of(inst, set, Side::Back, &nothing.back),
+    }
+}
+
+impl Walk {
+    /// The next load; None after the last one, where the walk stays.
+    pub fn step(&mut self, inst: &Instance) -> Option<Load>
+        requires { IsWalk inst.now self.old }
+        ensures none { IsNone result → (l : Pair) → IsLoad inst.now self.old.cycle self.old.mode self.old.set l → After inst.now self.old.last l → ⊥ }
+        ensures next { IfSome result (IsFollowing inst.now self.old.cycle self.old.mode self.old.set self.old.last) }
+        ensures given { self.new.last ≡ last_given self.old.last result }
+        ensures cycle { self.new.cycle ≡ self.old.cycle }
+        ensures mode { self.new.mode ≡ self.old.mode }
+        ensures set { self.new.set ≡ self.old.set }
+        ensures walk { IsWalk inst.now self.new }
+    {
+        let _tasks = inst.tasks();
+        let last = self.load();
+        let sum = self.sum;
+        if advance(
+            inst,
+            self.cycle,
+            &self.set,
+            self.mode,
+            Side::Back,
+            &last,
+            &self.front.tasks,
+            &mut self.back,
+            &mut self.sum,
+        ) {
+            self.given = true;
+            return Some(self.load());
+        }
+        if advance(
+            inst,
+            self.cycle,
+            &self.set,
+            self.mode,
+            Side::Front,
+            &last,
+            &self.back.tasks,
+            &mut self.front,
+            &mut self.sum,
+        ) {
+            self.given = true;
+            return Some(self.load());
+        }
+        self.front = End::of(inst, &self.set, Side::Front, &last.front);
+        self.back = End::of(inst, &self.set, Side::Back, &last.back);
+        self.sum = sum;
+        None
+    }
+
+    // The load that the walk stands at, or nothing.
+    #[inline]
+    fn load(&self) -> Load
+        ensures front { result.front ≡ self.now.front.tasks }
+        ensures back { result.back ≡ self.now.back.tasks }
+    {
+        Load {
+            front: self.front.tasks,
+            back: self.back.tasks,
+        }
+    }
+
+    /// The total time of the load given last, in the instance's time unit; 0 before the first.
+    #[inline]
+    pub fn sum(&self) -> u64
+        ensures { result ≡ self.now.sum }
+    {
+        self.sum
+    }
+
+    /// Whether the load given last is full: no further task of the set can be added to it so that it is a load.
+    pub fn full(&self, inst: &Instance) -> bool
+        requires walk { IsWalk inst.now self.now }
+        requires given { IsSome self.now.last }
+        ensures { IfSome self.now.last (λ l. IsTrue result ↔ IsFull inst.now self.now.cycle self.now.mode self.now.set l) }
+    {
+        let _tasks = inst.tasks();
+        if grows(
+            inst,
+            self.cycle,
+            &self.set,
+            self.mode,
+            Side::Front,
+            &self.front,
+            &self.back.tasks,
+            self.sum,
+        ) {
+            return false;
+        }
+        if grows(
+            inst,
+            self.cycle,
+            &self.set,
+            self.mode,
+            Side::Back,
+            &self.back,
+            &self.front.tasks,
+            self.sum,
+        ) {
+            return false;
+        }
+        true
+    }
 }

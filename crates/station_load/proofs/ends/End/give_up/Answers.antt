@@ -59,13 +59,15 @@ loop-other-preserved c =
     }
 
 pub returns : goal.returns
-returns c = record {
-  tasks = c.loop-other.invariant.stand ∙ c.remove.ensures.value;
-  free = λ i. (
-    λ m.
-        let o : In c.insert.new.self i × (In c.loop-other.shut i ⊎ (Ahead c.args.inst.now c.args.side c.args.task i → ⊥)) = c.loop-other.invariant.only i m in
-        (ap (λ b. has b i) (sym c.insert.ensures.value) ∙ o.0, λ a. elim o.1 [ inl x ↦ c.in_default.ensures.none.0 refl i x | inr n ↦ n a ]),
-    λ m. c.loop-other.invariant.kept i (ap (λ b. has b i) c.insert.ensures.value ∙ m.0) m.1,
-  );
-  marked = c.loop-other.invariant.marked;
-}
+returns c =
+    let inF : (j : ℕ) → In c.insert.new.self j ↔ In c.args.self.now.free j ⊎ (j ≡ c.args.task) = set_in c.args.self.now.free c.insert.new.self c.args.task c.insert.ensures.value c.insert.ensures.truths (omega (arith, c.requires.within, c.tasks-tasks.ensures.line.small)) in
+    record {
+      tasks = c.loop-other.invariant.stand ∙ c.remove.ensures.value;
+      free = λ i. (
+        λ m.
+            let o : In c.insert.new.self i × (In c.loop-other.shut i ⊎ (Ahead c.args.inst.now c.args.side c.args.task i → ⊥)) = c.loop-other.invariant.only i m in
+            ((inF i).0 o.0, λ a. elim o.1 [ inl x ↦ c.in_default.ensures.none.0 refl i x | inr n ↦ n a ]),
+        λ m. c.loop-other.invariant.kept i ((inF i).1 m.0) m.1,
+      );
+      marked = c.loop-other.invariant.marked;
+    }
