@@ -3,3 +3,4 @@ pub mod Answered
 pub mod Marks
 pub mod Climbs
 pub mod Walks
+pub mod Given

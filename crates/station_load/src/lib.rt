@@ -2,9 +2,11 @@
 #![tactic(auto)]
 
 mod ends;
+pub mod laws;
 mod loads;
 pub mod places;
 mod sides;
 pub mod steps;
 
-pub use loads::{first_load, is_full, next_load};
+pub use loads::{first_load, is_full, next_load, walk};
+pub use steps::Walk;

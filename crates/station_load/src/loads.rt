@@ -5,8 +5,10 @@ ghost use Rattle.line_rules.specs.Loads.{Belongs, IsLoad, IsFull};
 ghost use Rattle.line_rules.specs.Order.{Precedes, IsFollowing};
 ghost use Rattle.line_rules.specs.declared.types.LineKind.TheVariants.{Straight};
 ghost use Rattle.line_rules.specs.declared.types.Load.{Load as Pair};
+ghost use Rattle.station_load.specs.Walking.{IsWalk};
 
 use crate::places;
+use crate::steps::{Walk, begin};
 use line_instance::Instance;
 use line_rules::{Load, Mode};
 use task_set::TaskSet;
@@ -49,4 +51,17 @@ pub fn is_full(inst: &Instance, cycle: u64, set: &TaskSet, mode: Mode, load: &Lo
     ensures { IsTrue result ↔ IsFull inst.now cycle mode set.now load.now }
 {
     places::full(inst, cycle, set, mode, load)
+}
+
+/// A walk over the loads of a set, before its first one.
+pub fn walk(inst: &Instance, cycle: u64, set: &TaskSet, mode: Mode) -> Walk
+    requires set { IsTaskSet inst.now set.now }
+    requires mode { Belongs Straight mode }
+    ensures walk { IsWalk inst.now result }
+    ensures cycle { result.cycle ≡ cycle }
+    ensures mode { result.mode ≡ mode }
+    ensures set { result.set ≡ set.now }
+    ensures last { result.last ≡ None }
+{
+    begin(inst, cycle, set, mode)
 }

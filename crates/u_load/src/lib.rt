@@ -4,4 +4,5 @@
 
 mod loads;
 
-pub use loads::{first_load, is_full, next_load};
+pub use loads::{first_load, is_full, next_load, walk};
+pub use station_load::Walk;
