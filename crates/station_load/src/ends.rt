@@ -2,12 +2,12 @@
 ghost use Rattle.std.specs.Prelude.{◌≡◌, ◌<◌, ℕ, false, true, replicate, slice_set};
 ghost use Rattle.task_set.specs.Truths.{In};
 ghost use Rattle.line_instance.specs.Line.{IsTaskSet, tasks, has};
-ghost use Rattle.line_rules.specs.Sides.{Ahead};
+ghost use Rattle.line_rules.specs.Sides.{Ahead, fills};
 ghost use Rattle.station_load.specs.Ends.{AreMarked, IsEnd, Adds, GivesUp};
 
-use crate::sides::{ahead, place_of, waiting};
+use crate::sides::{ahead, fills, nearest, place_of, waiting};
 use line_instance::Instance;
-use line_rules::Side;
+use line_rules::{Mode, Side};
 use task_set::TaskSet;
 
 /// The tasks of a side; the tasks that are free to join it by precedence alone: in the walk's set, not at the side, with all that is ahead
@@ -20,39 +20,30 @@ pub struct End {
 }
 
 impl End {
-    /// Tasks of a set at a side, with what is free beside them.
-    pub(crate) fn of(inst: &Instance, set: &TaskSet, side: Side, tasks: &TaskSet) -> End
-        requires set { IsTaskSet inst.now set.now }
-        requires tasks { IsTaskSet inst.now tasks.now }
-        ensures tasks { result.tasks ≡ tasks.now }
-        ensures end { IsEnd inst.now side set.now result }
+    /// A side with no task, and none that is free.
+    fn bare() -> End
+        ensures tasks { result.tasks ≡ replicate 1024 false }
+        ensures free { result.free ≡ replicate 1024 false }
+        ensures places { result.places ≡ replicate 1024 false }
     {
-        let mut end = End {
+        End {
             tasks: TaskSet::empty(),
             free: TaskSet::empty(),
             places: TaskSet::empty(),
-        };
-        end.put_all(inst, side, tasks);
-        end.add_ready(inst, set, side, set.minus(tasks));
-        end
+        }
     }
 
-    // Puts tasks at an empty side.
-    fn put_all(&mut self, inst: &Instance, side: Side, tasks: &TaskSet)
-        requires tasks { IsTaskSet inst.now tasks.now }
-        requires empty { self.old.tasks ≡ replicate 1024 false }
-        requires marked { AreMarked inst.now side self.old }
-        ensures tasks { self.new.tasks ≡ tasks.now }
-        ensures free { self.new.free ≡ self.old.free }
-        ensures marked { AreMarked inst.now side self.new }
+    /// A side with no task yet, and where loads of the mode fill the side, with the tasks of the set that are free to join it.
+    pub(crate) fn start(inst: &Instance, set: &TaskSet, mode: Mode, side: Side) -> End
+        requires { IsTaskSet inst.now set.now }
+        ensures tasks { result.tasks ≡ replicate 1024 false }
+        ensures kept { fills mode side ≡ true → IsEnd inst.now side set.now result }
     {
-        let _tasks = inst.tasks();
-        let mut left = *tasks;
-        while let Some(task) = left.least() {
-            left.remove(task);
-            self.tasks.insert(task);
-            self.places.insert(place_of(inst, side, task));
+        let mut end = End::bare();
+        if fills(mode, side) {
+            end.add_ready(inst, set, side, *set);
         }
+        end
     }
 
     // Makes those of the candidates free that are ready. What waits for a candidate isn't ready, so it is no candidate any more.
@@ -65,7 +56,7 @@ impl End {
         let _tasks = inst.tasks();
         let absent = set.minus(&self.tasks);
         let mut left = candidates;
-        while let Some(task) = left.least() {
+        while let Some(task) = nearest(&left, side) {
             if ahead(inst, side, task).meet(&absent).is_empty() {
                 self.free.insert(task);
                 self.places.insert(place_of(inst, side, task));

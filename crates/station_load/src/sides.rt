@@ -1,6 +1,6 @@
 //! The two sides of a load, front and back, by one code.
-ghost use Rattle.std.specs.Prelude.{◌≡◌, ◌-◌, ◌<◌, ◌↔◌, ℕ, true, false};
-ghost use Rattle.task_set.specs.Truths.{In};
+ghost use Rattle.std.specs.Prelude.{◌≡◌, ◌-◌, ◌<◌, ◌↔◌, ℕ, true, false, IsNone, IfSome};
+ghost use Rattle.task_set.specs.Truths.{In, IsEmpty};
 ghost use Rattle.line_instance.specs.Line.{IsTaskSet, tasks, has};
 ghost use Rattle.line_rules.specs.Sides.{Ahead, part, changed, nothing_yet, fills, task_at};
 
@@ -67,6 +67,21 @@ pub(crate) fn place_of(inst: &Instance, side: Side, task: u32) -> u32
     match side {
         Side::Front => inst.rank_of(task),
         Side::Back => inst.tasks() - 1 - inst.rank_of(task),
+    }
+}
+
+/// The member of a set that is first looked at for the side: the least in front, the greatest at the back. Where tasks are numbered along their
+/// precedences, nothing else of the set is ahead of it.
+#[inline]
+pub(crate) fn nearest(set: &TaskSet, side: Side) -> Option<u32>
+    ensures none { IsNone result → IsEmpty set.now }
+    ensures some { IfSome result (λ i. In set.now i) }
+    ensures below { IfSome result (λ i. i < 1024) }
+{
+    let _most = set.capacity();
+    match side {
+        Side::Front => set.least(),
+        Side::Back => set.greatest_below(1024),
     }
 }
 

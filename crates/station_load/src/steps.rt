@@ -14,7 +14,8 @@ ghost use Rattle.station_load.specs.Ends.{IsEnd, HasRoom, pair_at};
 ghost use Rattle.station_load.specs.Walking.{IsWalk, last_given};
 
 use crate::ends::End;
-use crate::sides::{fills, nothing, task_at};
+use crate::places;
+use crate::sides::{fills, task_at};
 use line_instance::Instance;
 use line_rules::{Load, Mode, Side};
 use std::marker::Model;
@@ -30,6 +31,7 @@ pub struct Walk {
     mode: Mode,
     set: TaskSet,
     given: bool,
+    ended: bool,
     sum: u64,
     front: End,
     back: End,
@@ -41,7 +43,7 @@ impl Model for Walk {
 
     ghost Value = { Walking };
 
-    ghost view = { λ w. record { cycle = w.cycle; mode = w.mode; set = w.set; last = cond w.given (Some (record { front = w.front.tasks; back = w.back.tasks })) None; sum = w.sum; front = w.front; back = w.back } };
+    ghost view = { λ w. record { cycle = w.cycle; mode = w.mode; set = w.set; last = cond w.given (Some (record { front = w.front.tasks; back = w.back.tasks })) None; ended = w.ended; sum = w.sum; front = w.front; back = w.back } };
 }
 
 // Whether a task's time is left, and nothing of a load with these tasks at its sides is apart from it.
@@ -138,15 +140,15 @@ pub fn begin(inst: &Instance, cycle: u64, set: &TaskSet, mode: Mode) -> Walk
     ensures last { result.last ≡ None }
 {
     let _tasks = inst.tasks();
-    let nothing = nothing();
     Walk {
         cycle,
         mode,
         set: *set,
         given: false,
+        ended: false,
         sum: 0,
-        front: End::of(inst, set, Side::Front, &nothing.front),
-        back: End::of(inst, set, Side::Back, &nothing.back),
+        front: End::start(inst, set, mode, Side::Front),
+        back: End::start(inst, set, mode, Side::Back),
     }
 }
 
@@ -163,6 +165,9 @@ impl Walk {
         ensures walk { IsWalk inst.now self.new }
     {
         let _tasks = inst.tasks();
+        if self.ended {
+            return None;
+        }
         let last = self.load();
         let sum = self.sum;
         if advance(
@@ -193,9 +198,10 @@ impl Walk {
             self.given = true;
             return Some(self.load());
         }
-        self.front = End::of(inst, &self.set, Side::Front, &last.front);
-        self.back = End::of(inst, &self.set, Side::Back, &last.back);
+        self.front.tasks = last.front;
+        self.back.tasks = last.back;
         self.sum = sum;
+        self.ended = true;
         None
     }
 
@@ -226,6 +232,9 @@ impl Walk {
         ensures { IfSome self.now.last (λ l. IsTrue result ↔ IsFull inst.now self.now.cycle self.now.mode self.now.set l) }
     {
         let _tasks = inst.tasks();
+        if self.ended {
+            return places::full(inst, self.cycle, &self.set, self.mode, &self.load());
+        }
         if grows(
             inst,
             self.cycle,

@@ -15,11 +15,11 @@ pub loop-task-smaller : goal.loop-task-smaller
 loop-task-smaller c =
     let P : List Bool → Type 0 = λ b. members b < members c.loop-task.left in
     let Q : List Bool → Type 0 = λ b. members (minus b c.waiting.result.now) < members c.loop-task.left in
-    subst P (sym c.minus-left.ensures.value) (subst Q (sym c.without.ensures.value) (fewer_left c.loop-task.left c.waiting.result.now c.in-Some.task c.in-Some.ensures.some.member))
+    subst P (sym c.minus-left.ensures.value) (subst Q (sym c.without.ensures.value) (fewer_left c.loop-task.left c.waiting.result.now c.in-Some.task c.in-Some.ensures.some))
 
 pub loop-task-preserved : goal.loop-task-preserved
 loop-task-preserved c =
-    let mine : In c.loop-task.left c.in-Some.task = c.in-Some.ensures.some.member in
+    let mine : In c.loop-task.left c.in-Some.task = c.in-Some.ensures.some in
     let sound : In c.args.set.now c.in-Some.task × (has c.args.self.now.tasks c.in-Some.task ≡ false) = c.requires.candidates c.in-Some.task (c.loop-task.invariant.adding.within c.in-Some.task mine) in
     let Turn : List Bool → Type 0 = λ f. Adding c.args.inst.now c.args.side c.args.set.now c.args.self.now.tasks c.args.candidates c.args.self.now.free c.minus-left.result f in
     let test : IsEmpty c.meet.result ↔ IsReady c.args.inst.now c.args.side c.args.set.now c.args.self.now.tasks c.in-Some.task = ready_test c.args.inst.now c.args.side c.args.set.now c.args.self.now.tasks c.ahead.result.now c.minus-absent.result c.meet.result c.in-Some.task
