@@ -42,6 +42,13 @@ fn least(s: &Set) -> Option<u32> {
     None
 }
 
+fn nearest(s: &Set, side: Side) -> Option<u32> {
+    match side {
+        Side::Front => least(s),
+        Side::Back => greatest_below(s, 1024),
+    }
+}
+
 struct Line {
     times: Vec<u64>,
     before: Vec<Set>,
@@ -91,7 +98,7 @@ impl Line {
 struct End {
     tasks: Set,
     free: Set,
-    open: Set,
+    places: Set,
 }
 
 fn greatest_below(s: &Set, i: u32) -> Option<u32> {
@@ -117,14 +124,14 @@ fn add_ready(
     tasks: &Set,
     candidates: Set,
     free: &mut Set,
-    open: &mut Set,
+    places: &mut Set,
 ) {
     let absent = minus(set, tasks);
     let mut left = candidates;
-    while let Some(i) = least(&left) {
+    while let Some(i) = nearest(&left, side) {
         if disjoint(line.ahead(side, i), &absent) {
             insert(free, i);
-            insert(open, line.place_of(side, i));
+            insert(places, line.place_of(side, i));
         }
         remove(&mut left, i);
         left = minus(&left, line.waiting(side, i));
@@ -135,7 +142,7 @@ impl End {
     fn of(line: &Line, set: &Set, side: Side) -> End {
         let tasks = &[0; 16];
         let mut free = [0; 16];
-        let mut open = [0; 16];
+        let mut places = [0; 16];
         add_ready(
             line,
             set,
@@ -143,12 +150,12 @@ impl End {
             tasks,
             minus(set, tasks),
             &mut free,
-            &mut open,
+            &mut places,
         );
         End {
             tasks: *tasks,
             free,
-            open,
+            places,
         }
     }
 
@@ -158,7 +165,7 @@ impl End {
         self.free = minus(&self.free, line.waiting(side, i));
         while let Some(j) = least(&shut) {
             remove(&mut shut, j);
-            remove(&mut self.open, line.place_of(side, j));
+            remove(&mut self.places, line.place_of(side, j));
         }
         insert(&mut self.free, i);
     }
@@ -174,7 +181,7 @@ impl End {
             &self.tasks,
             candidates,
             &mut self.free,
-            &mut self.open,
+            &mut self.places,
         );
     }
 }
@@ -210,7 +217,7 @@ fn advance(
     sum: &mut u64,
 ) -> bool {
     let mut below = line.order.len() as u32;
-    while let Some(place) = greatest_below(&end.open, below) {
+    while let Some(place) = greatest_below(&end.places, below) {
         below = place;
         let i = line.task_at(side, place);
         if has(&end.tasks, i) {
@@ -373,7 +380,15 @@ fn main() {
                         set,
                         sum: 0,
                         front: End::of(&line, &set, Side::Front),
-                        back: End::of(&line, &set, Side::Back),
+                        back: if both {
+                            End::of(&line, &set, Side::Back)
+                        } else {
+                            End {
+                                tasks: [0; 16],
+                                free: [0; 16],
+                                places: [0; 16],
+                            }
+                        },
                     };
                     let (mut loads, mut full, mut mix) = (0u64, 0u64, 0u64);
                     while loads < MOST {

@@ -7,6 +7,8 @@ mod loads;
 pub mod places;
 mod sides;
 pub mod steps;
+#[cfg(test)]
+mod tests;
 
 pub use loads::{first_load, is_full, next_load, walk};
 pub use steps::Walk;

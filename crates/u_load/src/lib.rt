@@ -3,6 +3,8 @@
 #![tactic(auto)]
 
 mod loads;
+#[cfg(test)]
+mod tests;
 
 pub use loads::{first_load, is_full, next_load, walk};
 pub use station_load::Walk;
