@@ -1,8 +1,8 @@
 -- When a task may join a side of a load, and what joining and leaving do to it.
-use Rattle.std.proofs.Common.{◌≡◌, ◌≢◌, ℕ, suc, ◌+◌, ◌-◌, ◌*◌, ◌<◌, ◌≤◌, ◌↔◌, Bool, true, false, cond, ◌&&◌, not, nat_eq, List, length, get_or, set, refl, sym, ap, ◌∙◌, subst, ◌⊎◌, inl, inr, arith}
-use Rattle.task_set.specs.Truths.{In, union, IsSubset}
-use Rattle.task_set.proofs.Members.{In-union_left, In-union_right, In-union_cases, In-set_same, In-set_kept, In-set_cases, In-clear_gone}
-use Rattle.line_instance.specs.Line.{Line, IsLine, IsTaskSet, IsRanked, tasks, has, time, Before, Apart}
+use Rattle.std.proofs.Common.{◌≡◌, ◌≢◌, ℕ, ◌+◌, ◌*◌, ◌<◌, ◌≤◌, Bool, true, false, cond, ◌&&◌, not, nat_eq, List, length, get_or, set, refl, sym, ap, ◌∙◌, subst, ◌⊎◌, inl, inr, arith}
+use Rattle.task_set.specs.Truths.{In, IsSubset}
+use Rattle.task_set.proofs.Members.{In-set_same, In-set_kept, In-set_cases}
+use Rattle.line_instance.specs.Line.{Line, IsLine, IsTaskSet, IsRanked, tasks, has, time, Apart}
 use Rattle.line_instance.specs.Sums.{sum_where, weigh}
 use Rattle.line_instance.proofs.Sums.{weigh-le, weigh-more, weigh-split, weigh-one}
 use Rattle.line_rules.specs.Loads.{IsLoad, IsFull, taken}
@@ -12,9 +12,9 @@ use Rattle.line_rules.specs.declared.types.Side.{Side}
 use Rattle.line_rules.specs.declared.types.Side.TheVariants.{Front, Back}
 use Rattle.line_rules.specs.declared.types.Load.{Load}
 use Rattle.line_rules.proofs.Next.{IsPart, whole, front_in, back_in, taken_in}
-use Rattle.line_rules.specs.Sides.{part, with_part, changed, Ahead, fills, spot, task_at, MayJoin}
+use Rattle.line_rules.specs.Sides.{part, changed, Ahead, fills, spot, task_at, MayJoin}
 use Rattle.line_rules.proofs.Sides.{AreSets, part_with, set_of, sets_with, set_more, part_taken, taken_part, other_taken, unfilled, suits_with, spot_rises, spot_within, truth_at, task_within, task_placed, ahead_below}
-use Rattle.std.proofs.lemmas.Bool.{cases_Bool, cases_eq, false≢true, true≢false, and_from, ne_eqb, eq-eqb, false_from_ne_true}
+use Rattle.std.proofs.lemmas.Bool.{cases_Bool, cases_eq, false≢true, and_from, ne_eqb, eq-eqb, false_from_ne_true}
 
 pub pair_of : {line : Line} {c : ℕ} {mode : Mode} {R : List Bool} {l : Load} → IsPart line c mode R l → AreSets line l
 pair_of l = record { front = l.front; back = l.back }
@@ -217,5 +217,5 @@ module _ (line : Line) (ranked : IsRanked line) (c : ℕ) (mode : Mode) (R : Lis
             let below : r.0 < q = ahead_below line ranked s r.0 q r.1 within (subst P (sym r.2) w) in
             ap (λ k. has (part s now) k) (sym r.2)
             ∙ (sym (truth_at line ranked s now r.0 r.1)
-              ∙ (agree (spot line s r.0) (spot_rises line s r.0 q below) ∙ (truth_at line ranked s b r.0 r.1 ∙ (ap (λ k. has (part s b) k) r.2 ∙ x))));
+            ∙ (agree (spot line s r.0) (spot_rises line s r.0 q below) ∙ (truth_at line ranked s b r.0 r.1 ∙ (ap (λ k. has (part s b) k) r.2 ∙ x))));
       }

@@ -1,14 +1,13 @@
 -- The tasks that may stand next at a side, by precedence alone.
-use Rattle.std.proofs.Common.{◌≡◌, ◌≢◌, ℕ, zero, suc, ◌+◌, ◌<◌, ◌≤◌, ◌↔◌, Bool, true, false, cond, ◌&&◌, not, List, [], ◌∷◌, length, set, refl, sym, ap, ◌∙◌, subst, ◌⊎◌, inl, inr, arith}
+use Rattle.std.proofs.Common.{◌≡◌, ℕ, ◌<◌, ◌≤◌, ◌↔◌, Bool, true, false, List, [], ◌∷◌, length, set, sym, ap, ◌∙◌, subst, ◌⊎◌, inl, inr, arith}
 use Rattle.task_set.specs.Truths.{In, minus, meet, IsEmpty}
 use Rattle.task_set.proofs.Members.{In-minus, In-minus_parts, In-meet, In-meet_parts, In-set_same, In-set_kept, In-set_cases, In-clear, In-clear_kept, In-clear_gone, members}
-use Rattle.line_instance.specs.Line.{Line, IsLine, tasks, has}
+use Rattle.line_instance.specs.Line.{Line, IsLine, has}
 use Rattle.line_rules.specs.declared.types.Side.{Side}
 use Rattle.line_rules.specs.Sides.{Ahead, IsReady, AreReady}
 use Rattle.line_rules.proofs.Joining.{not_ahead}
 use Rattle.line_rules.proofs.Leaving.{members_less}
 use Rattle.std.proofs.lemmas.Bool.{cases_Bool, cases_eq, false≢true, false_from_ne_true}
-use Rattle.std.proofs.lemmas.List.{get_or-set_other}
 
 absent_from : (a : List Bool) (i : ℕ) → (In a i → ⊥) → has a i ≡ false
 absent_from a i n = false_from_ne_true (has a i) n
@@ -42,8 +41,9 @@ ready_less line ok s R part free F t before m p closed found = record {
     λ r. (found i).1 (elim (cases_eq i t) [
       | inl e ↦ (inr e, λ w. not_ahead line ok s t (let P : ℕ → Type 0 = λ k. Ahead line s t k in subst P e w))
       | inr n ↦ (
-          inl ((before.is i).1 (record { within = r.within; new = absent_from part i (λ x. false≢true (sym r.new ∙ In-clear part t i x n)); ready = λ j x w. In-clear_kept part t j (r.ready j x w) })),
-          λ w. In-clear_gone part t (r.ready t m w))
+        inl ((before.is i).1 (record { within = r.within; new = absent_from part i (λ x. false≢true (sym r.new ∙ In-clear part t i x n)); ready = λ j x w. In-clear_kept part t j (r.ready j x w) })),
+        λ w. In-clear_gone part t (r.ready t m w),
+      )
     ]),
   );
 }
@@ -86,11 +86,13 @@ module _ (line : Line) (ok : IsLine line) (s : Side) (R part free W : List Bool)
   -- what waits for a task that isn't in the part isn't in it either
   pub waiting_new : ((i j : ℕ) → In R i → In part j → Ahead line s i j → In part i) → In R t → has part t ≡ false → (i : ℕ) → In (meet W R) i → In R i × (has (set part t true) i ≡ false)
   waiting_new closed m new i g =
-      let q : In W i × In R i = In-meet_parts W R i g in
-      (q.1, absent_from (set part t true) i (λ x. elim (In-set_cases part t i x) [
-        | inl y ↦ false≢true (sym new ∙ closed t i m y ((waits i).0 q.0))
-        | inr e ↦ not_ahead line ok s t (let P : ℕ → Type 0 = λ k. Ahead line s t k in subst P e ((waits i).0 q.0))
-      ]))
+      let q : In W i × In R i = In-meet_parts W R i g in (
+        q.1,
+        absent_from (set part t true) i (λ x. elim (In-set_cases part t i x) [
+          | inl y ↦ false≢true (sym new ∙ closed t i m y ((waits i).0 q.0))
+          | inr e ↦ not_ahead line ok s t (let P : ℕ → Type 0 = λ k. Ahead line s t k in subst P e ((waits i).0 q.0))
+        ]),
+      )
 
 -- the test of a task: nothing that is ahead of it is absent
 pub ready_test : (line : Line) (s : Side) (R part A absent both : List Bool) (i : ℕ) → ((j : ℕ) → In A j ↔ Ahead line s j i) → absent ≡ minus R part → both ≡ meet A absent → In R i → has part i ≡ false → IsEmpty both ↔ IsReady line s R part i

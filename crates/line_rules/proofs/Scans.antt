@@ -1,12 +1,11 @@
 -- Going over the places from the last one down: what stands there is given up, up to the first place where a task may join.
-use Rattle.std.proofs.Common.{◌≡◌, ◌≢◌, ℕ, zero, suc, ◌+◌, ◌-◌, ◌*◌, ◌<◌, ◌≤◌, Bool, true, false, List, length, set, refl, sym, ap, ◌∙◌, subst, ◌⊎◌, inl, inr, Option, Some, None, arith}
+use Rattle.std.proofs.Common.{◌≡◌, ◌≢◌, ℕ, zero, suc, ◌+◌, ◌*◌, ◌<◌, ◌≤◌, Bool, true, false, List, length, set, refl, sym, ap, ◌∙◌, subst, ◌⊎◌, inl, inr, Option, Some, None, arith}
 use Rattle.task_set.specs.Truths.{In}
 use Rattle.line_instance.specs.Line.{Line, IsLine, IsTaskSet, IsRanked, tasks, has}
 use Rattle.line_rules.specs.Loads.{IsLoad, Suits, taken}
 use Rattle.line_rules.specs.Order.{truth, Precedes, IsNext, After, IsFollowing}
 use Rattle.line_rules.specs.declared.types.Mode.{Mode}
 use Rattle.line_rules.specs.declared.types.Side.{Side}
-use Rattle.line_rules.specs.declared.types.Side.TheVariants.{Front, Back}
 use Rattle.line_rules.specs.declared.types.Load.{Load}
 use Rattle.line_rules.proofs.Next.{IsPart, whole, cut, next_is}
 use Rattle.line_instance.specs.Sums.{sum_where}
@@ -16,9 +15,9 @@ use Rattle.std.proofs.Common.{replicate}
 use Rattle.std.proofs.lemmas.List.{length-replicate}
 use Rattle.line_rules.specs.declared.types.Mode.TheVariants as mode
 use Rattle.line_rules.specs.Sides.{part, with_part, changed, nothing_yet, fills, spot, task_at, MayJoin}
-use Rattle.line_rules.proofs.Sides.{AreSets, part_with, set_of, sets_with, set_less, set_more, part_taken, taken_part, unfilled, spot_suc, spot_within, spot_of, truth_at, task_within, task_placed, truth_other, truth_here}
+use Rattle.line_rules.proofs.Sides.{AreSets, set_of, sets_with, set_less, part_taken, taken_part, unfilled, spot_suc, spot_within, spot_of, truth_at, task_within, task_placed, truth_other, truth_here}
 use Rattle.line_rules.proofs.Joining.{joins, may_from, tasks_of}
-use Rattle.std.proofs.lemmas.Bool.{cases_eq, cases_lt, cases_Bool, false≢true, false_from_ne_true}
+use Rattle.std.proofs.lemmas.Bool.{cases_eq, cases_Bool, false≢true, false_from_ne_true}
 
 -- What is left to go over are the places below k. Now agrees with base there and has nothing from k on, and no load above base agrees
 -- with it up to a place from k on.

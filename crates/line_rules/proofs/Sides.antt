@@ -1,9 +1,9 @@
 -- The two sides of a load, and the places of their tasks in the order of loads.
-use Rattle.std.proofs.Common.{◌≡◌, ◌≢◌, ℕ, suc, ◌+◌, ◌-◌, ◌*◌, ◌<◌, ◌≤◌, Bool, true, false, ◌||◌, List, length, get_or, set, refl, sym, ap, ◌∙◌, subst, ◌⊎◌, inl, inr, arith}
-use Rattle.task_set.specs.Truths.{In, union}
+use Rattle.std.proofs.Common.{◌≡◌, ◌≢◌, ℕ, suc, ◌+◌, ◌-◌, ◌*◌, ◌<◌, Bool, true, false, ◌||◌, List, length, set, refl, sym, ap, ◌∙◌, subst, inl, inr, arith}
+use Rattle.task_set.specs.Truths.{In}
 use Rattle.task_set.proofs.Members.{In-union_left, In-union_right, In-union_cases, In-clear_kept}
 use Rattle.task_set.proofs.Bits.{get_or-union}
-use Rattle.line_instance.specs.Line.{Line, IsTaskSet, IsRanked, tasks, has, at_rank, Before}
+use Rattle.line_instance.specs.Line.{Line, IsTaskSet, IsRanked, tasks, has, at_rank}
 use Rattle.line_rules.specs.Loads.{Suits, taken}
 use Rattle.line_rules.specs.Order.{truth}
 use Rattle.line_rules.specs.Sides.{part, with_part, changed, Ahead, fills, spot, task_at}
@@ -137,8 +137,8 @@ module _ (line : Line) (ranked : IsRanked line) where
       let P : ℕ → Type 0 = λ x. x ≢ spot line s p in
       ap (λ k. truth line (changed s l (task_at line s p) b) k) r.3
       ∙ (truth_at r.0 (changed s l (task_at line s p) b) r.1 r.2
-        ∙ (other_side s r.0 l p r.1 b h r.2 (subst P r.3 n)
-          ∙ (sym (truth_at r.0 l r.1 r.2) ∙ ap (λ k. truth line l k) (sym r.3))))
+      ∙ (other_side s r.0 l p r.1 b h r.2 (subst P r.3 n)
+      ∙ (sym (truth_at r.0 l r.1 r.2) ∙ ap (λ k. truth line l k) (sym r.3))))
 
   pub truth_here : (s : Side) (l : Load) (p : ℕ) (b : Bool) → p < tasks line → task_at line s p < length (part s l) → truth line (changed s l (task_at line s p) b) (spot line s p) ≡ b
   truth_here s l p b h long =

@@ -1,22 +1,21 @@
 -- The turns of the quick walk: the places in between are passed together, and the sum goes with the task.
-use Rattle.std.proofs.Common.{◌≡◌, ◌≢◌, ℕ, suc, ◌+◌, ◌-◌, ◌*◌, ◌<◌, ◌≤◌, ◌↔◌, Bool, true, false, List, length, set, refl, sym, ap, ◌∙◌, subst, ◌⊎◌, inl, inr, arith}
+use Rattle.std.proofs.Common.{◌≡◌, ℕ, suc, ◌+◌, ◌-◌, ◌<◌, ◌≤◌, Bool, true, false, List, set, refl, sym, ap, ◌∙◌, subst, ◌⊎◌, inl, inr, arith}
 use Rattle.task_set.specs.Truths.{In, IsGreatestBelow, union}
 use Rattle.task_set.proofs.Members.{In-union_left, In-union_right, In-union_cases, In-clear_gone}
-use Rattle.line_instance.specs.Line.{Line, IsLine, IsTaskSet, IsRanked, tasks, has, time, Apart}
+use Rattle.line_instance.specs.Line.{Line, IsLine, tasks, has, time}
 use Rattle.line_instance.specs.Sums.{sum_where}
-use Rattle.line_instance.proofs.Sums.{weigh-one}
 use Rattle.line_rules.specs.Loads.{taken}
 use Rattle.line_rules.specs.Order.{IsNext}
-use Rattle.line_rules.specs.Sides.{Ahead, IsReady, MayJoin, part, changed, fills, spot, task_at}
+use Rattle.line_rules.specs.Sides.{IsReady, MayJoin, part, changed, fills, spot, task_at}
 use Rattle.line_rules.specs.declared.types.Mode.{Mode}
 use Rattle.line_rules.specs.declared.types.Side.{Side}
 use Rattle.line_rules.specs.declared.types.Side.TheVariants.{Front, Back}
 use Rattle.line_rules.specs.declared.types.Load.{Load}
 use Rattle.line_rules.proofs.Next.{IsPart}
-use Rattle.line_rules.proofs.Sides.{AreSets, other_taken, part_taken, task_within}
-use Rattle.line_rules.proofs.Joining.{sum_joined, sum_more, closed}
-use Rattle.line_rules.proofs.Scans.{Scan, rescan, gives_up, passes, joined, drops, part_now}
-use Rattle.std.proofs.lemmas.Bool.{cases_Bool, cases_eq, false≢true, false_from_ne_true}
+use Rattle.line_rules.proofs.Sides.{AreSets, other_taken}
+use Rattle.line_rules.proofs.Joining.{sum_joined, sum_more}
+use Rattle.line_rules.proofs.Scans.{Scan, rescan, gives_up, passes, joined, drops}
+use Rattle.std.proofs.lemmas.Bool.{false≢true, false_from_ne_true}
 use Rattle.station_load.specs.Ends.{IsEnd, HasRoom, pair_at}
 use Rattle.station_load.specs.declared.ends.End.{End}
 
@@ -56,9 +55,10 @@ module _ (line : Line) (c : ℕ) (mode : Mode) (R : List Bool) (s : Side) (base 
 
   -- at a place that isn't marked nothing stands, and nothing may join
   not_placed : (p : ℕ) → p < tasks line → (In e.places p → ⊥) → (has (part s (pair_at s e.tasks others)) (task_at line s p) ≡ false) × (MayJoin line c R s (pair_at s e.tasks others) (task_at line s p) → ⊥)
-  not_placed p w gone =
-      (ap (λ b. has b (task_at line s p)) (part_pair s e.tasks others) ∙ false_from_ne_true (has e.tasks (task_at line s p)) (λ m. gone ((end.marked.is p).1 (w, inl m))),
-        λ may. gone ((end.marked.is p).1 (w, inr (free_of_may (task_at line s p) may))))
+  not_placed p w gone = (
+    ap (λ b. has b (task_at line s p)) (part_pair s e.tasks others) ∙ false_from_ne_true (has e.tasks (task_at line s p)) (λ m. gone ((end.marked.is p).1 (w, inl m))),
+    λ may. gone ((end.marked.is p).1 (w, inr (free_of_may (task_at line s p) may))),
+  )
 
   module _ (below : ℕ) (low : below ≤ tasks line) (scan : Scan line c mode R base (pair_at s e.tasks others) (spot line s below)) where
     -- no place is marked
@@ -120,12 +120,13 @@ module _ (line : Line) (c : ℕ) (mode : Mode) (R : List Bool) (s : Side) (base 
       }
 
   pub room_from_may : (t sum : ℕ) → sum ≡ sum_where (has (taken (pair_at s e.tasks others))) line.times → MayJoin line c R s (pair_at s e.tasks others) t → (has others t ≡ false) × HasRoom line (c - sum) (union e.tasks others) t
-  room_from_may t sum is may =
-      (false_from_ne_true (has others t) (λ m. false≢true (sym may.new ∙ taken_there s e.tasks others t m)),
-        record {
-          time = omega (arith, is, may.fits);
-          parted = λ j m a. may.parted j (elim (In-union_cases e.tasks others j m) [ inl x ↦ taken_here s e.tasks others j x | inr y ↦ taken_there s e.tasks others j y ]) a;
-        })
+  room_from_may t sum is may = (
+    false_from_ne_true (has others t) (λ m. false≢true (sym may.new ∙ taken_there s e.tasks others t m)),
+    record {
+      time = omega (arith, is, may.fits);
+      parted = λ j m a. may.parted j (elim (In-union_cases e.tasks others j m) [ inl x ↦ taken_here s e.tasks others j x | inr y ↦ taken_there s e.tasks others j y ]) a;
+    },
+  )
 
 -- the sum of times with one task less, and with one more
 pub sum_less : (line : Line) (s : Side) (a b N : List Bool) (t : ℕ) → t < tasks line → In a t → (In b t → ⊥) → N ≡ set a t false → sum_where (has (taken (pair_at s a b))) line.times ≡ sum_where (has (taken (pair_at s N b))) line.times + time line t

@@ -1,8 +1,8 @@
 -- The loads that are given one after the other are all loads after the last.
-use Rattle.std.proofs.Common.{◌≡◌, ℕ, Bool, List, [], ◌∷◌, length, refl, sym, subst, ◌⊎◌, inl, inr, Option, Some, None}
+use Rattle.std.proofs.Common.{ℕ, Bool, List, [], ◌∷◌, sym, subst, inl, inr, Option, Some, None}
 use Rattle.line_instance.specs.Line.{Line, IsRanked}
 use Rattle.line_rules.specs.Loads.{IsLoad}
-use Rattle.line_rules.specs.Order.{Precedes, After, IsFollowing, Lists, Counts}
+use Rattle.line_rules.specs.Order.{Precedes, After, Lists}
 use Rattle.line_rules.specs.declared.types.Mode.{Mode}
 use Rattle.line_rules.specs.declared.types.Load.{Load}
 use Rattle.line_rules.proofs.Listing.{Amid, Rises, lists_of}

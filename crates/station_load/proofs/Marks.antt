@@ -1,16 +1,15 @@
 -- The places of the tasks at a side and of those that are free to join it.
-use Rattle.std.proofs.Common.{◌≡◌, ◌≢◌, ℕ, ◌<◌, ◌≤◌, ◌↔◌, Bool, true, false, List, length, set, refl, sym, ap, ◌∙◌, subst, ◌⊎◌, inl, inr, arith}
-use Rattle.task_set.specs.Truths.{In, IsEmpty}
+use Rattle.std.proofs.Common.{◌≡◌, ◌≢◌, ℕ, ◌<◌, ◌↔◌, Bool, true, false, List, length, set, sym, ap, ◌∙◌, ◌⊎◌, inl, inr, arith}
+use Rattle.task_set.specs.Truths.{In}
 use Rattle.task_set.proofs.Members.{In-set_same, In-set_kept, In-set_cases, In-clear, In-clear_kept, In-clear_gone}
 use Rattle.line_instance.specs.Line.{Line, IsRanked, tasks, has}
-use Rattle.line_rules.specs.Sides.{Ahead, task_at}
+use Rattle.line_rules.specs.Sides.{task_at}
 use Rattle.line_rules.specs.declared.types.Side.{Side}
 use Rattle.line_rules.proofs.Sides.{task_once}
-use Rattle.std.proofs.lemmas.Bool.{cases_eq, false≢true, false_from_ne_true}
+use Rattle.std.proofs.lemmas.Bool.{cases_eq}
 use Rattle.std.proofs.lemmas.List.{length-set, ext_get_or}
 use Rattle.line_instance.proofs.Sums.{same_truth}
 use Rattle.station_load.specs.Ends.{AreMarked}
-use Rattle.station_load.specs.declared.ends.End.{End}
 
 -- a set with one member more, and with one less
 pub set_in : (a b : List Bool) (i : ℕ) → b ≡ set a i true → length b ≡ 1024 → i < 1024 → (j : ℕ) → In b j ↔ In a j ⊎ (j ≡ i)
@@ -68,11 +67,13 @@ module _ (line : Line) (ranked : IsRanked line) (s : Side) (T F P : List Bool) (
   unmark G Q q i w at gone inG inQ = record {
     is = λ p. (
       λ x.
-          let y : In P p × (p ≢ q) = (inQ p).0 x in
-          (((m.is p).0 y.0).0, elim ((m.is p).0 y.0).1 [
-            | inl a ↦ inl a
-            | inr f ↦ inr ((inG (task_at line s p)).1 (f, λ e. y.1 (task_once line ranked s p q ((m.is p).0 y.0).0 w (e ∙ sym at))))
-          ]),
+          let y : In P p × (p ≢ q) = (inQ p).0 x in (
+            ((m.is p).0 y.0).0,
+            elim ((m.is p).0 y.0).1 [
+              | inl a ↦ inl a
+              | inr f ↦ inr ((inG (task_at line s p)).1 (f, λ e. y.1 (task_once line ranked s p q ((m.is p).0 y.0).0 w (e ∙ sym at))))
+            ],
+          ),
       λ x. (inQ p).1 (elim x.1 [
         | inl a ↦ ((m.is p).1 (x.0, inl a), λ e. gone (ap (λ k. has T k) (sym (ap (λ k. task_at line s k) e ∙ at)) ∙ a))
         | inr f ↦ (
@@ -86,19 +87,25 @@ module _ (line : Line) (ranked : IsRanked line) (s : Side) (T F P : List Bool) (
   pub move_in : (S G : List Bool) (i : ℕ) → In F i → ((j : ℕ) → In S j ↔ In T j ⊎ (j ≡ i)) → ((j : ℕ) → In G j ↔ In F j × (j ≢ i)) → AreMarked line s (record { tasks = S; free = G; places = P })
   move_in S G i mine inS inG = record {
     is = λ p. (
-      λ x. (((m.is p).0 x).0, elim ((m.is p).0 x).1 [
-        | inl a ↦ inl ((inS (task_at line s p)).1 (inl a))
-        | inr f ↦ elim (cases_eq (task_at line s p) i) [
-          | inl e ↦ inl ((inS (task_at line s p)).1 (inr e))
-          | inr n ↦ inr ((inG (task_at line s p)).1 (f, n))
-        ]
-      ]),
-      λ x. (m.is p).1 (x.0, elim x.1 [
-        | inl a ↦ elim ((inS (task_at line s p)).0 a) [
-          | inl b ↦ inl b
-          | inr e ↦ inr (ap (λ k. has F k) e ∙ mine)
-        ]
-        | inr f ↦ inr ((inG (task_at line s p)).0 f).0
-      ]),
+      λ x. (
+        ((m.is p).0 x).0,
+        elim ((m.is p).0 x).1 [
+          | inl a ↦ inl ((inS (task_at line s p)).1 (inl a))
+          | inr f ↦ elim (cases_eq (task_at line s p) i) [
+            | inl e ↦ inl ((inS (task_at line s p)).1 (inr e))
+            | inr n ↦ inr ((inG (task_at line s p)).1 (f, n))
+          ]
+        ],
+      ),
+      λ x. (m.is p).1 (
+        x.0,
+        elim x.1 [
+          | inl a ↦ elim ((inS (task_at line s p)).0 a) [
+            | inl b ↦ inl b
+            | inr e ↦ inr (ap (λ k. has F k) e ∙ mine)
+          ]
+          | inr f ↦ inr ((inG (task_at line s p)).0 f).0
+        ],
+      ),
     );
   }

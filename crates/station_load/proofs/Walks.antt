@@ -1,10 +1,10 @@
 -- A walk and the load that it gave last.
-use Rattle.std.proofs.Common.{◌≡◌, ℕ, ◌+◌, ◌*◌, ◌≤◌, Bool, true, false, List, refl, sym, ap, ◌∙◌, subst, Option, Some, None, IfSome, arith}
-use Rattle.line_instance.specs.Line.{Line, IsLine, IsRanked, IsTaskSet, tasks, has}
+use Rattle.std.proofs.Common.{◌≡◌, ℕ, ◌+◌, ◌*◌, Bool, true, List, refl, sym, ap, ◌∙◌, subst, Option, Some, None, IfSome, arith}
+use Rattle.line_instance.specs.Line.{Line, IsLine, IsRanked, tasks, has}
 use Rattle.line_instance.specs.Sums.{sum_where}
 use Rattle.line_rules.specs.Loads.{IsLoad, IsFull, taken}
 use Rattle.line_rules.specs.Order.{IsNext, IsFollowing, After}
-use Rattle.line_rules.specs.Sides.{MayJoin, fills, spot}
+use Rattle.line_rules.specs.Sides.{MayJoin, fills}
 use Rattle.line_rules.specs.declared.types.Mode.{Mode}
 use Rattle.line_rules.specs.declared.types.Side.{Side}
 use Rattle.line_rules.specs.declared.types.Side.TheVariants.{Front, Back}

@@ -1,7 +1,7 @@
 -- What a walk keeps of one side of the load that it has come to.
-use Rattle.std.specs.Prelude.{◌≡◌, ℕ, ◌<◌, ◌≤◌, ◌⊎◌, ◌↔◌, Bool, true, false, List, slice_set}
+use Rattle.std.specs.Prelude.{◌≡◌, ℕ, ◌<◌, ◌≤◌, ◌⊎◌, ◌↔◌, Bool, false, List, slice_set}
 use Rattle.task_set.specs.Truths.{In}
-use Rattle.line_instance.specs.Line.{Line, IsTaskSet, Apart, tasks, has, time}
+use Rattle.line_instance.specs.Line.{Line, IsTaskSet, Apart, tasks, time}
 use Rattle.line_rules.specs.Sides.{Ahead, AreReady, IsReady, task_at}
 use Rattle.line_rules.specs.declared.types.Side.{Side}
 use Rattle.line_rules.specs.declared.types.Side.TheVariants.{Front, Back}

@@ -1,5 +1,5 @@
 -- What follows of loads that are given one after the other.
-use Rattle.std.specs.Prelude.{◌≡◌, ℕ, Bool, List, [], ◌∷◌, length, Option, Some, None}
+use Rattle.std.specs.Prelude.{ℕ, Bool, List, [], ◌∷◌, length, Option, Some, None}
 use Rattle.line_instance.specs.Line.{Line, IsLine, IsRanked}
 use Rattle.line_rules.specs.Loads.{IsLoad}
 use Rattle.line_rules.specs.Order.{After, IsFollowing, Lists, Counts}

@@ -24,7 +24,8 @@ fn five(alloc: Global) -> Result<Instance, Fail> {
 }
 
 // The fifteen loads of the five tasks at 7 in front, with their sums; the full ones are marked.
-const FIFTEEN: &str = "{4} 2|{3} 2|{3, 4} 4|{2} 2|{2, 4} 4|{2, 3} 4|{2, 3, 4} 6 full|{1} 4|{1, 4} 6 full|{1, 3} 6 full|{1, 2} 6 full|{0} 4|{0, 4} 6 full|{0, 3} 6 full|{0, 2} 6 full|";
+const FIFTEEN: &str =
+    "{4} 2|{3} 2|{3, 4} 4|{2} 2|{2, 4} 4|{2, 3} 4|{2, 3, 4} 6 full|{1} 4|{1, 4} 6 full|{1, 3} 6 full|{1, 2} 6 full|{0} 4|{0, 4} 6 full|{0, 3} 6 full|{0, 2} 6 full|";
 
 // The loads that a walk in front gives, with their sums.
 fn walked(alloc: Global, inst: &Instance, cycle: u64, set: &TaskSet) -> Result<String, AllocError>
@@ -246,9 +247,18 @@ fn lists_all_loads_of_random_lines(rt: HostRuntime) -> Result<(), Fail> {
         let set = if seed % 5 == 4 { all.without(1) } else { all };
         let cycle = 3 + seed % 4;
         let sets = 1u64 << inst.tasks().min(6);
-        assert!(rt; agree(&inst, cycle, &set, Mode::Fore, sets), "in front, {seed}");
-        assert!(rt; agree(&inst, cycle, &set, Mode::Back, sets), "at the back, {seed}");
-        assert!(rt; agree(&inst, cycle, &set, Mode::Both, sets * sets), "at both, {seed}");
+        assert!(rt;
+            agree(&inst, cycle, &set, Mode::Fore, sets),
+            "in front, {seed}"
+        );
+        assert!(rt;
+            agree(&inst, cycle, &set, Mode::Back, sets),
+            "at the back, {seed}"
+        );
+        assert!(rt;
+            agree(&inst, cycle, &set, Mode::Both, sets * sets),
+            "at both, {seed}"
+        );
     }
     Ok(())
 }

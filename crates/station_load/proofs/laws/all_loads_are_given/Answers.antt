@@ -1,4 +1,4 @@
-use Rattle.std.proofs.Common.{length, refl}
+use Rattle.std.proofs.Common.{refl}
 use Rattle.station_load.proofs.Given.{given_lists}
 use Rattle.station_load.proofs.laws.all_loads_are_given.Goals as goal
 

@@ -1,15 +1,15 @@
-use Rattle.std.proofs.Common.{◌≡◌, ◌≢◌, ◌∙◌, ◌+◌, ◌-◌, ◌<◌, ◌≤◌, ◌⊎◌, ℕ, List, Bool, true, false, set, sym, ap, subst, inl, inr, refl, arith}
+use Rattle.std.proofs.Common.{◌≡◌, ◌∙◌, ◌+◌, ◌-◌, ℕ, List, Bool, false, sym, ap, subst, refl, arith}
 use Rattle.task_set.specs.Truths.{In}
-use Rattle.line_instance.specs.Line.{IsTaskSet, tasks, has, time}
+use Rattle.line_instance.specs.Line.{IsTaskSet, has, time}
 use Rattle.line_instance.specs.Sums.{sum_where}
 use Rattle.line_rules.specs.Loads.{taken}
-use Rattle.line_rules.specs.Sides.{Ahead, AreReady, MayJoin, spot, part}
+use Rattle.line_rules.specs.Sides.{Ahead, AreReady, MayJoin, spot}
 use Rattle.line_rules.proofs.Next.{IsPart}
 use Rattle.line_rules.proofs.Sides.{set_less}
 use Rattle.line_rules.proofs.Joining.{closed, pair_of}
 use Rattle.line_rules.proofs.Ready.{ready_less}
 use Rattle.line_rules.proofs.Scans.{part_now}
-use Rattle.std.proofs.lemmas.Bool.{false≢true, not-true}
+use Rattle.std.proofs.lemmas.Bool.{false≢true}
 use Rattle.station_load.specs.Ends.{HasRoom, pair_at}
 use Rattle.station_load.proofs.Climbs.{part_pair, sides_apart, taken_here, none_marked, in_free, gives_up_here, passes_here, joins_here, may_from_room, room_from_may, sum_less, sum_grown}
 use Rattle.station_load.proofs.steps.advance.Goals as goal
@@ -32,7 +32,7 @@ loop-place-preserved-then-has c =
     let S : List Bool → Type 0 = λ b. IsTaskSet c.args.inst.now b in
     let A : List Bool → Type 0 = λ b. AreReady c.args.inst.now c.args.side c.args.set.now b c.give_up.new.self.free in
     let here : (j : ℕ) → In c.args.set.now j → Ahead c.args.inst.now c.args.side j c.task_at-task.result → In c.loop-place.end.tasks j = λ j m w.
-        sym (ap (λ b. has b j) (part_pair c.args.side c.loop-place.end.tasks c.args.other.now)) ∙ closed c.args.side (pair_at c.args.side c.loop-place.end.tasks c.args.other.now) part j c.task_at-task.result m (ap (λ b. has b c.task_at-task.result) (part_pair c.args.side c.loop-place.end.tasks c.args.other.now) ∙ mine) w in
+    sym (ap (λ b. has b j) (part_pair c.args.side c.loop-place.end.tasks c.args.other.now)) ∙ closed c.args.side (pair_at c.args.side c.loop-place.end.tasks c.args.other.now) part j c.task_at-task.result m (ap (λ b. has b c.task_at-task.result) (part_pair c.args.side c.loop-place.end.tasks c.args.other.now) ∙ mine) w in
     record {
       low = omega (arith, c.loop-place.invariant.low, c.in-Some.ensures.some.below);
       scan = gives_up_here c.args.inst.now c.args.cycle c.args.mode c.args.set.now c.args.side c.args.last.now c.loop-place.end c.args.other.now c.loop-place.invariant.kept c.loop-place.below c.loop-place.invariant.low c.loop-place.invariant.scan c.in-Some.place c.in-Some.ensures.some c.task_at-task.result c.task_at-task.ensures.task
@@ -74,8 +74,12 @@ returns-then-fits-clause-sum c =
     let free : In c.loop-place.end.free c.task_at-task.result = in_free c.args.inst.now c.args.cycle c.args.mode c.args.set.now c.args.side c.args.last.now c.loop-place.end c.args.other.now c.loop-place.invariant.kept c.loop-place.below c.loop-place.invariant.low c.loop-place.invariant.scan c.in-Some.place c.in-Some.ensures.some c.task_at-task.result c.task_at-task.ensures.task gone in
     let may : MayJoin c.args.inst.now c.args.cycle c.args.set.now c.args.side (pair_at c.args.side c.loop-place.end.tasks c.args.other.now) c.task_at-task.result =
     may_from_room c.args.inst.now c.args.cycle c.args.mode c.args.set.now c.args.side c.args.last.now c.loop-place.end c.args.other.now c.loop-place.invariant.kept c.task_at-task.result c.loop-place.sum c.loop-place.invariant.added (omega (arith, part.fits, c.loop-place.invariant.added)) free away (c.fits.ensures.0 c.if-fits.true) in
-    omega (arith, c.loop-place.invariant.added, c.time-then-fits.ensures.time,
-      sum_grown c.args.inst.now c.tasks-below.ensures.line c.args.cycle c.args.mode c.args.set.now c.args.side c.loop-place.end.tasks c.args.other.now c.take_in.new.self.tasks c.task_at-task.result c.task_at-task.ensures.within (pair_of part) may.new c.take_in.ensures.tasks)
+    omega (
+      arith,
+      c.loop-place.invariant.added,
+      c.time-then-fits.ensures.time,
+      sum_grown c.args.inst.now c.tasks-below.ensures.line c.args.cycle c.args.mode c.args.set.now c.args.side c.loop-place.end.tasks c.args.other.now c.take_in.new.self.tasks c.task_at-task.result c.task_at-task.ensures.within (pair_of part) may.new c.take_in.ensures.tasks,
+    )
 
 pub loop-place-preserved : goal.loop-place-preserved
 loop-place-preserved c =

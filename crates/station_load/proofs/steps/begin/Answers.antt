@@ -1,4 +1,4 @@
-use Rattle.std.proofs.Common.{◌≡◌, ◌∙◌, sym, ap, subst, true, false, List, Bool, None, Some}
+use Rattle.std.proofs.Common.{◌≡◌, sym, true, false, None}
 use Rattle.line_rules.specs.Sides.{fills, part, nothing_yet}
 use Rattle.line_rules.specs.declared.types.Side.{Side}
 use Rattle.line_rules.proofs.Sides.{each_side}

@@ -1,7 +1,7 @@
-use Rattle.std.proofs.Common.{◌≡◌, ◌∙◌, ◌≤◌, ℕ, List, Bool, sym, ap, arith}
+use Rattle.std.proofs.Common.{◌≡◌, ◌∙◌, ℕ, sym, ap, arith}
 use Rattle.task_set.specs.Truths.{In, union}
 use Rattle.task_set.proofs.Members.{In-meet, In-meet_parts}
-use Rattle.line_instance.specs.Line.{has, time}
+use Rattle.line_instance.specs.Line.{has}
 use Rattle.station_load.proofs.steps.fits.Goals as goal
 
 pub returns : goal.returns

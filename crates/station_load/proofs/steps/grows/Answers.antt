@@ -1,7 +1,7 @@
-use Rattle.std.proofs.Common.{◌≡◌, ◌∙◌, ◌≤◌, ◌<◌, ◌⊎◌, ◌-◌, ℕ, true, false, sym, ap, subst, inl, inr, refl, arith}
+use Rattle.std.proofs.Common.{◌≡◌, ◌∙◌, ◌-◌, ℕ, false, sym, subst, inl, inr, refl, arith}
 use Rattle.task_set.specs.Truths.{In, union}
-use Rattle.line_instance.specs.Line.{tasks, has}
-use Rattle.line_rules.specs.Sides.{IsReady, MayJoin, fills, nothing_yet}
+use Rattle.line_instance.specs.Line.{has}
+use Rattle.line_rules.specs.Sides.{IsReady, MayJoin, nothing_yet}
 use Rattle.std.proofs.lemmas.Bool.{false≢true, cases_lt}
 use Rattle.station_load.specs.Ends.{IsEnd, HasRoom, pair_at}
 use Rattle.station_load.proofs.Climbs.{may_from_room, room_from_may, free_of_may}
@@ -21,9 +21,11 @@ pub greatest_below-requires : goal.greatest_below-requires
 greatest_below-requires c = omega (arith, c.tasks-below.ensures.line.small, c.loop-task.invariant.low)
 
 pub returns-then-fits-clause-some : goal.returns-then-fits-clause-some
-returns-then-fits-clause-some c = λ e.
-    (c.in-Some.task, sym c.fills.ensures ∙ c.if-not-fills.false,
-      may_from_room c.args.inst.now c.args.cycle c.args.mode c.args.set.now c.args.side nothing_yet c.args.end.now c.args.other.now (c.requires.kept (sym c.fills.ensures ∙ c.if-not-fills.false)) c.in-Some.task c.args.sum c.requires.sum c.requires.fits c.in-Some.ensures.some.member (sym c.has.ensures ∙ c.if-not-has.true) (c.fits.ensures.0 c.if-fits.true))
+returns-then-fits-clause-some c = λ e. (
+  c.in-Some.task,
+  sym c.fills.ensures ∙ c.if-not-fills.false,
+  may_from_room c.args.inst.now c.args.cycle c.args.mode c.args.set.now c.args.side nothing_yet c.args.end.now c.args.other.now (c.requires.kept (sym c.fills.ensures ∙ c.if-not-fills.false)) c.in-Some.task c.args.sum c.requires.sum c.requires.fits c.in-Some.ensures.some.member (sym c.has.ensures ∙ c.if-not-has.true) (c.fits.ensures.0 c.if-fits.true),
+)
 
 pub loop-task-preserved : goal.loop-task-preserved
 loop-task-preserved c = record {

@@ -1,9 +1,9 @@
-use Rattle.std.proofs.Common.{◌≡◌, ◌≢◌, ◌∙◌, ◌<◌, ◌⊎◌, ◌↔◌, ℕ, List, Bool, true, false, sym, ap, subst, inl, inr, refl, arith}
+use Rattle.std.proofs.Common.{◌≡◌, ◌∙◌, ◌<◌, ◌⊎◌, ◌↔◌, ℕ, List, Bool, false, sym, ap, subst, inl, inr, refl, arith}
 use Rattle.task_set.specs.Truths.{In, IsEmpty, minus}
 use Rattle.task_set.proofs.Members.{members}
 use Rattle.line_instance.specs.Line.{has}
 use Rattle.line_rules.specs.Sides.{IsReady}
-use Rattle.line_rules.proofs.Ready.{Adding, add_turn, add_end, ready_test, fewer_left}
+use Rattle.line_rules.proofs.Ready.{Adding, add_turn, ready_test, fewer_left}
 use Rattle.std.proofs.lemmas.Bool.{false≢true}
 use Rattle.station_load.specs.Ends.{AreMarked}
 use Rattle.station_load.specs.declared.ends.End.{End}
@@ -25,12 +25,12 @@ loop-task-preserved c =
     let test : IsEmpty c.meet.result ↔ IsReady c.args.inst.now c.args.side c.args.set.now c.args.self.now.tasks c.in-Some.task = ready_test c.args.inst.now c.args.side c.args.set.now c.args.self.now.tasks c.ahead.result.now c.minus-absent.result c.meet.result c.in-Some.task
     c.ahead.ensures.members c.minus-absent.ensures.value c.meet.ensures.value sound.0 sound.1 in
     let turn : (F : List Bool) → ((j : ℕ) → In F j → In c.loop-task.self.free j ⊎ ((j ≡ c.in-Some.task) × IsReady c.args.inst.now c.args.side c.args.set.now c.args.self.now.tasks c.in-Some.task)) → ((j : ℕ) → In c.loop-task.self.free j → In F j)
-      → (IsReady c.args.inst.now c.args.side c.args.set.now c.args.self.now.tasks c.in-Some.task → In F c.in-Some.task) → Turn F =
+    → (IsReady c.args.inst.now c.args.side c.args.set.now c.args.self.now.tasks c.in-Some.task → In F c.in-Some.task) → Turn F =
     λ F new kept ready.
-        let L : List Bool → Type 0 = λ b. Adding c.args.inst.now c.args.side c.args.set.now c.args.self.now.tasks c.args.candidates c.args.self.now.free b F in
-        let M : List Bool → Type 0 = λ b. L (minus b c.waiting.result.now) in
-        subst L (sym c.minus-left.ensures.value) (subst M (sym c.without.ensures.value)
-        (add_turn c.args.inst.now c.args.side c.args.set.now c.args.self.now.tasks c.args.candidates c.args.self.now.free c.loop-task.left c.loop-task.self.free c.waiting.result.now c.in-Some.task c.loop-task.invariant.adding c.requires.candidates mine c.waiting.ensures.members F new kept ready)) in
+    let L : List Bool → Type 0 = λ b. Adding c.args.inst.now c.args.side c.args.set.now c.args.self.now.tasks c.args.candidates c.args.self.now.free b F in
+    let M : List Bool → Type 0 = λ b. L (minus b c.waiting.result.now) in
+    subst L (sym c.minus-left.ensures.value) (subst M (sym c.without.ensures.value)
+    (add_turn c.args.inst.now c.args.side c.args.set.now c.args.self.now.tasks c.args.candidates c.args.self.now.free c.loop-task.left c.loop-task.self.free c.waiting.result.now c.in-Some.task c.loop-task.invariant.adding c.requires.candidates mine c.waiting.ensures.members F new kept ready)) in
     elim c.if-is_empty.branch [
       | then-is_empty w ↦
           let inF : (j : ℕ) → In w.insert.new.self j ↔ In c.loop-task.self.free j ⊎ (j ≡ c.in-Some.task) = set_in c.loop-task.self.free w.insert.new.self c.in-Some.task w.insert.ensures.value w.insert.ensures.truths c.in-Some.ensures.below in

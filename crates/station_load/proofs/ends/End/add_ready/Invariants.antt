@@ -1,5 +1,4 @@
 use Rattle.std.proofs.Common.{◌≡◌}
-use Rattle.task_set.specs.Truths.{minus}
 use Rattle.task_set.proofs.Members.{members}
 use Rattle.line_rules.proofs.Ready.{Adding}
 use Rattle.station_load.specs.Ends.{AreMarked}

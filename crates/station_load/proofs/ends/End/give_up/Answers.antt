@@ -1,10 +1,10 @@
-use Rattle.std.proofs.Common.{◌≡◌, ◌≢◌, ◌∙◌, ◌<◌, ◌⊎◌, ◌↔◌, ℕ, List, Bool, true, false, sym, ap, subst, inl, inr, refl, arith}
-use Rattle.task_set.specs.Truths.{In, meet}
+use Rattle.std.proofs.Common.{◌≡◌, ◌≢◌, ◌∙◌, ◌<◌, ◌⊎◌, ◌↔◌, ℕ, List, Bool, sym, ap, subst, inl, inr, refl, arith}
+use Rattle.task_set.specs.Truths.{In}
 use Rattle.task_set.proofs.Members.{members, In-meet, In-meet_parts}
 use Rattle.line_instance.specs.Line.{has}
 use Rattle.line_rules.specs.Sides.{Ahead}
 use Rattle.line_rules.proofs.Leaving.{members_less}
-use Rattle.std.proofs.lemmas.Bool.{cases_Bool, cases_eq, false≢true}
+use Rattle.std.proofs.lemmas.Bool.{cases_Bool, false≢true}
 use Rattle.station_load.proofs.Marks.{set_in, clear_in, move_in, swap, unmark}
 use Rattle.station_load.proofs.ends.End.give_up.Goals as goal
 
@@ -26,10 +26,13 @@ loop-other-init c =
             | inr e ↦ r.1 e
           ];
       left = λ i m. (c.waiting.ensures.members i).0 (met i m).1;
-      only = λ i m. (m, elim (cases_Bool (has c.waiting.result.now i)) [
-        | inl w ↦ inl (ap (λ b. has b i) c.meet-shut.ensures.value ∙ In-meet c.insert.new.self c.waiting.result.now i m w)
-        | inr n ↦ inr (λ a. false≢true (sym n ∙ (c.waiting.ensures.members i).1 a))
-      ]);
+      only = λ i m. (
+        m,
+        elim (cases_Bool (has c.waiting.result.now i)) [
+          | inl w ↦ inl (ap (λ b. has b i) c.meet-shut.ensures.value ∙ In-meet c.insert.new.self c.waiting.result.now i m w)
+          | inr n ↦ inr (λ a. false≢true (sym n ∙ (c.waiting.ensures.members i).1 a))
+        ],
+      );
       kept = λ i m n. m;
     }
 

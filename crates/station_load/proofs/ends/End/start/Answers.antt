@@ -1,4 +1,4 @@
-use Rattle.std.proofs.Common.{◌≡◌, ◌∙◌, ◌⊎◌, ◌↔◌, ℕ, List, Bool, true, false, replicate, sym, ap, subst, inl, inr, refl, None}
+use Rattle.std.proofs.Common.{◌≡◌, ◌∙◌, ℕ, List, Bool, false, replicate, sym, ap, subst, inl, inr, None}
 use Rattle.task_set.specs.Truths.{In}
 use Rattle.task_set.proofs.Members.{In-empty}
 use Rattle.line_instance.specs.Line.{IsTaskSet, has}

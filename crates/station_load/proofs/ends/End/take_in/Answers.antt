@@ -1,11 +1,9 @@
-use Rattle.std.proofs.Common.{◌≡◌, ◌≢◌, ◌∙◌, ◌⊎◌, ◌↔◌, ◌<◌, ℕ, List, Bool, true, false, set, length, sym, ap, subst, inl, inr, arith}
-use Rattle.task_set.specs.Truths.{In, meet}
+use Rattle.std.proofs.Common.{◌≡◌, ◌∙◌, ◌<◌, ℕ, List, Bool, true, false, set, sym, ap, subst, inl, inr, arith}
+use Rattle.task_set.specs.Truths.{In}
 use Rattle.line_instance.specs.Line.{IsTaskSet, tasks, has}
 use Rattle.line_rules.specs.Sides.{IsReady, AreReady}
 use Rattle.line_rules.proofs.Sides.{set_more}
 use Rattle.line_rules.proofs.Ready.{ready_more, waiting_new}
-use Rattle.station_load.specs.Ends.{AreMarked}
-use Rattle.station_load.proofs.Marks.{set_in, clear_in, move_in}
 use Rattle.station_load.proofs.ends.End.take_in.Goals as goal
 
 pub add_ready-requires-clause-candidates : goal.add_ready-requires-clause-candidates

@@ -1,4 +1,4 @@
-use Rattle.std.proofs.Common.{◌≡◌, ◌↔◌, ℕ, Bool, true, false, IsTrue, IfSome, sym, subst, refl}
+use Rattle.std.proofs.Common.{◌≡◌, ◌↔◌, ℕ, true, false, IsTrue, IfSome, sym, subst, refl}
 use Rattle.line_rules.specs.Loads.{IsFull}
 use Rattle.line_rules.specs.Sides.{MayJoin, fills}
 use Rattle.line_rules.specs.declared.types.Side.{Side}

@@ -1,4 +1,4 @@
-use Rattle.std.proofs.Common.{◌≡◌, ◌∙◌, sym, ap, subst, true, List, Bool, None, Some, refl}
+use Rattle.std.proofs.Common.{◌≡◌, ◌∙◌, sym, ap, subst, true, List, Bool, Some, refl}
 use Rattle.line_rules.specs.Order.{IsNext, IsFollowing, After}
 use Rattle.line_rules.specs.Loads.{IsLoad}
 use Rattle.line_rules.specs.Sides.{fills, part}
