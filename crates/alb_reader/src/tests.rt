@@ -14,8 +14,8 @@ fn answer(alloc: Global, bytes: &[u8]) -> Result<String, AllocError>
 {
     let mut text = String::new(alloc);
     match read_alb(alloc, bytes) {
-        AlbRead::Good(_, None) => text.push_str("good")?,
-        AlbRead::Good(_, Some(cycle)) => write!(text, "good at {cycle}")?,
+        AlbRead::Good(_inst, None) => text.push_str("good")?,
+        AlbRead::Good(_inst, Some(cycle)) => write!(text, "good at {cycle}")?,
         AlbRead::Fault(fault) => push_fault(&mut text, &fault)?,
         AlbRead::NoMemory => text.push_str("memory")?,
     }

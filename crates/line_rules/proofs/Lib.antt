@@ -33,3 +33,7 @@ pub mod Counted
 pub mod Branches
 pub mod Seven
 pub mod Leaving
+pub mod Sides
+pub mod Joining
+pub mod Scans
+pub mod Ready

@@ -24,6 +24,20 @@ pub record IsPart (line : Line) (c : ℕ) (mode : Mode) (R : List Bool) (l : Loa
   pub before : (i j : ℕ) → In R i → In l.front j → Before line i j → In l.front i
   pub after : (i j : ℕ) → In l.back i → In R j → Before line i j → In l.back j
 
+-- a load is one
+pub whole : {line : Line} {c : ℕ} {mode : Mode} {R : List Bool} {l : Load} → IsLoad line c mode R l → IsPart line c mode R l
+whole l = record {
+  front = l.front;
+  back = l.back;
+  suits = l.suits;
+  within = l.within;
+  disjoint = l.disjoint;
+  fits = l.fits;
+  parted = l.parted;
+  before = l.before;
+  after = l.after;
+}
+
 smaller_suits : (mode : Mode) (m b : Load) → IsSubset m.front b.front → IsSubset m.back b.back → Suits mode b → Suits mode m
 smaller_suits Fore m b f g s = λ i h. s i (g i h)
 smaller_suits Back m b f g s = λ i h. s i (f i h)
@@ -40,7 +54,7 @@ module _ (line : Line) (ranked : IsRanked line) where
       ap (λ b. cond b (has l.front (at_rank line (2 * tasks line - 1 - k))) (has l.back (at_rank line (2 * tasks line - 1 - (2 * tasks line - 1 - k))))) (le-ltb (2 * tasks line - 1 - k) (tasks line) (omega arith))
       ∙ ap (λ q. has l.back (at_rank line q)) e
 
-  module _ (c : ℕ) (mode : Mode) (R : List Bool) (b m : Load) (load : IsLoad line c mode R b) (front : IsTaskSet line m.front) (back : IsTaskSet line m.back) (k : ℕ)
+  module _ (c : ℕ) (mode : Mode) (R : List Bool) (b m : Load) (load : IsPart line c mode R b) (front : IsTaskSet line m.front) (back : IsTaskSet line m.back) (k : ℕ)
       (same : (j : ℕ) → j < k → truth line m j ≡ truth line b j) (absent : (j : ℕ) → k ≤ j → j < 2 * tasks line → truth line m j ≡ false) where
     front_place : (i : ℕ) → In m.front i → (q : ℕ) × (q < tasks line) × (at_rank line q ≡ i) × (q < k)
     front_place i h =
@@ -67,7 +81,7 @@ module _ (line : Line) (ranked : IsRanked line) where
     pub taken_in : IsSubset (taken m) (taken b)
     taken_in i h = elim (In-union_cases m.front m.back i h) [ inl f ↦ In-union_left b.front b.back i (front_in i f) | inr g ↦ In-union_right b.front b.back i (back_in i g) ]
 
-    -- a load without what stands from some place on is a load, or nothing
+    -- a load, or nothing, without what stands from some place on is again one
     pub cut : IsPart line c mode R m
     cut = record {
       front = front;

@@ -1,0 +1,64 @@
+-- A walk and the load that it gave last.
+use Rattle.std.proofs.Common.{◌≡◌, ℕ, ◌+◌, ◌*◌, Bool, true, List, refl, sym, ap, ◌∙◌, subst, Option, Some, None, IfSome, arith}
+use Rattle.line_instance.specs.Line.{Line, IsLine, IsRanked, tasks, has}
+use Rattle.line_instance.specs.Sums.{sum_where}
+use Rattle.line_rules.specs.Loads.{IsLoad, IsFull, taken}
+use Rattle.line_rules.specs.Order.{IsNext, IsFollowing, After}
+use Rattle.line_rules.specs.Sides.{MayJoin, fills}
+use Rattle.line_rules.specs.declared.types.Mode.{Mode}
+use Rattle.line_rules.specs.declared.types.Side.{Side}
+use Rattle.line_rules.specs.declared.types.Side.TheVariants.{Front, Back}
+use Rattle.line_rules.specs.declared.types.Load.{Load}
+use Rattle.line_rules.proofs.Joining.{full_of, full_none}
+use Rattle.line_rules.proofs.Scans.{Scan, IsBase, scan_start, rescan, base_none, base_some, follows, none_follows, none_above}
+use Rattle.station_load.specs.Walking.{Walking, IsWalk, last_load}
+use Rattle.station_load.proofs.Answered.{same_pair}
+
+base_of : (line : Line) (c : ℕ) (mode : Mode) (R : List Bool) (last : Option Load) → ((l : Load) → last ≡ Some l → IsLoad line c mode R l) → IsBase line c mode R last (last_load last)
+base_of line c mode R None f = base_none line c mode R
+base_of line c mode R (Some l) f = base_some line c mode R l (f l refl)
+
+-- the load that a walk stands at, by its sides
+abbrev pub stand : Walking → Load
+stand w = record { front = w.front.tasks; back = w.back.tasks }
+
+module _ (line : Line) (ok : IsLine line) (ranked : IsRanked line) (w : Walking) (is : IsWalk line w) where
+  pub stand_is : stand w ≡ last_load w.last
+  stand_is = same_pair w.front.tasks (last_load w.last).front w.back.tasks (last_load w.last).back (is.stands Front) (is.stands Back)
+
+  pub stand_sum : w.sum ≡ sum_where (has (taken (stand w))) line.times
+  stand_sum = is.sum ∙ ap (λ l. sum_where (has (taken l)) line.times) (sym stand_is)
+
+  stand_last : (l : Load) → w.last ≡ Some l → l ≡ stand w
+  stand_last l e = sym (stand_is ∙ ap last_load e)
+
+  -- the load given last is full where no task may join it
+  pub full_yes : ((s : Side) (i : ℕ) → fills w.mode s ≡ true → MayJoin line w.cycle w.set s (stand w) i → ⊥) → (l : Load) → w.last ≡ Some l → IsFull line w.cycle w.mode w.set l
+  full_yes none l e = full_of line ok w.cycle w.mode w.set is.set l (is.load l e) (λ s i f may. none s i f (let P : Load → Type 0 = λ k. MayJoin line w.cycle w.set s k i in subst P (stand_last l e) may))
+
+  pub full_no : (s : Side) (i : ℕ) → fills w.mode s ≡ true → MayJoin line w.cycle w.set s (stand w) i → (l : Load) → w.last ≡ Some l → IsFull line w.cycle w.mode w.set l → ⊥
+  full_no s i f may l e full = full_none line ok w.cycle w.mode w.set is.set l (is.load l e) full s i f (let P : Load → Type 0 = λ k. MayJoin line w.cycle w.set s k i in subst P (sym (stand_last l e)) may)
+
+  module _ (last : Load) (same : last ≡ stand w) where
+    pub base : IsBase line w.cycle w.mode w.set w.last last
+    base =
+        let P : Load → Type 0 = λ l. IsBase line w.cycle w.mode w.set w.last l in
+        subst P (sym (same ∙ stand_is)) (base_of line w.cycle w.mode w.set w.last is.load)
+
+    pub start : Scan line w.cycle w.mode w.set last (stand w) (tasks line + tasks line)
+    start =
+        let P : Load → Type 0 = λ l. Scan line w.cycle w.mode w.set last l (2 * tasks line) in
+        let b : IsBase line w.cycle w.mode w.set w.last last = base in
+        rescan line w.cycle w.mode w.set last (stand w) (2 * tasks line) (tasks line + tasks line) (omega arith) (subst P same (scan_start line ok ranked w.cycle w.mode w.set last b.is_part))
+
+    pub goes_on : (b given : Load) → given ≡ b → IsNext line w.cycle w.mode w.set last b → IsFollowing line w.cycle w.mode w.set w.last given
+    goes_on b given e n =
+        let P : Load → Type 0 = λ l. IsFollowing line w.cycle w.mode w.set w.last l in
+        subst P (sym e) (follows line w.cycle w.mode w.set ranked last w.last base b n)
+
+    pub ends : (now : Load) → Scan line w.cycle w.mode w.set last now 0 → (l : Load) → IsLoad line w.cycle w.mode w.set l → After line w.last l → ⊥
+    ends now s = none_follows line w.cycle w.mode w.set ranked last w.last base (none_above line w.cycle w.mode w.set last now s)
+
+pub of_some : {P : Load → Type 0} (o : Option Load) → ((l : Load) → o ≡ Some l → P l) → IfSome o P
+of_some None f = tt
+of_some (Some l) f = f l refl

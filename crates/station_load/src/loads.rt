@@ -1,0 +1,67 @@
+//! Loads of a straight line, from either end.
+ghost use Rattle.std.specs.Prelude.{◌≡◌, ◌↔◌, IsTrue, IsNone, IfSome, None, Some};
+ghost use Rattle.line_instance.specs.Line.{IsTaskSet};
+ghost use Rattle.line_rules.specs.Loads.{Belongs, IsLoad, IsFull};
+ghost use Rattle.line_rules.specs.Order.{Precedes, IsFollowing};
+ghost use Rattle.line_rules.specs.declared.types.LineKind.TheVariants.{Straight};
+ghost use Rattle.line_rules.specs.declared.types.Load.{Load as Pair};
+ghost use Rattle.station_load.specs.Walking.{IsWalk};
+
+use crate::places;
+use crate::steps::{Walk, begin};
+use line_instance::Instance;
+use line_rules::{Load, Mode};
+use task_set::TaskSet;
+
+/// The first load of a set of tasks, or None where the set has none.
+///
+/// The cycle is in the instance's time unit. The mode is one of a straight line: `Fore` fills the front, compared by rank from the first
+/// rank on, and `Back` the back, compared from the last rank on (Scholl).
+pub fn first_load(inst: &Instance, cycle: u64, set: &TaskSet, mode: Mode) -> Option<Load>
+    requires set { IsTaskSet inst.now set.now }
+    requires mode { Belongs Straight mode }
+    ensures none { IsNone result → (l : Pair) → IsLoad inst.now cycle mode set.now l → ⊥ }
+    ensures first { IfSome result (IsFollowing inst.now cycle mode set.now None) }
+{
+    places::first(inst, cycle, set, mode)
+}
+
+/// The load after a load of the set, or None where it is the last.
+pub fn next_load(
+    inst: &Instance,
+    cycle: u64,
+    set: &TaskSet,
+    mode: Mode,
+    last: &Load,
+) -> Option<Load>
+    requires set { IsTaskSet inst.now set.now }
+    requires mode { Belongs Straight mode }
+    requires load { IsLoad inst.now cycle mode set.now last.now }
+    ensures none { IsNone result → (l : Pair) → IsLoad inst.now cycle mode set.now l → Precedes inst.now last.now l → ⊥ }
+    ensures next { IfSome result (IsFollowing inst.now cycle mode set.now (Some last.now)) }
+{
+    places::next(inst, cycle, set, mode, last)
+}
+
+/// Whether a load of the set is full: no further task of the set can be added to it so that it is a load.
+pub fn is_full(inst: &Instance, cycle: u64, set: &TaskSet, mode: Mode, load: &Load) -> bool
+    requires set { IsTaskSet inst.now set.now }
+    requires mode { Belongs Straight mode }
+    requires load { IsLoad inst.now cycle mode set.now load.now }
+    ensures { IsTrue result ↔ IsFull inst.now cycle mode set.now load.now }
+{
+    places::full(inst, cycle, set, mode, load)
+}
+
+/// A walk over the loads of a set, before its first one.
+pub fn walk(inst: &Instance, cycle: u64, set: &TaskSet, mode: Mode) -> Walk
+    requires set { IsTaskSet inst.now set.now }
+    requires mode { Belongs Straight mode }
+    ensures walk { IsWalk inst.now result }
+    ensures cycle { result.cycle ≡ cycle }
+    ensures mode { result.mode ≡ mode }
+    ensures set { result.set ≡ set.now }
+    ensures last { result.last ≡ None }
+{
+    begin(inst, cycle, set, mode)
+}

@@ -1,0 +1,264 @@
+//! The quick walk over the loads of a set, for all modes: it keeps the sum of times and the tasks that are ready, and changes them with
+//! each task that comes or goes.
+ghost use Rattle.std.specs.Prelude.{◌≡◌, ℕ, ◌<◌, ◌≤◌, ◌↔◌, ◌+◌, IsTrue, IsNone, IfSome, IsSome, Some, None, true, false};
+ghost use Rattle.task_set.specs.Truths.{In, IsEmpty, meet, union};
+ghost use Rattle.line_instance.specs.Line.{IsTaskSet, Apart, tasks, time, has};
+ghost use Rattle.line_instance.specs.Sums.{sum_where};
+ghost use Rattle.line_rules.specs.Loads.{IsLoad, IsFull, taken};
+ghost use Rattle.line_rules.specs.Order.{After, IsNext, IsFollowing};
+ghost use Rattle.line_rules.specs.Sides.{MayJoin, fills, spot};
+ghost use Rattle.line_rules.specs.declared.types.Load.{Load as Pair};
+ghost use Rattle.line_rules.proofs.Next.{IsPart};
+ghost use Rattle.line_rules.proofs.Scans.{Scan};
+ghost use Rattle.station_load.specs.Ends.{IsEnd, HasRoom, pair_at};
+ghost use Rattle.station_load.specs.Walking.{IsWalk, last_given};
+
+use crate::ends::End;
+use crate::places;
+use crate::sides::{fills, task_at};
+use line_instance::Instance;
+use line_rules::{Load, Mode, Side};
+use std::marker::Model;
+use task_set::TaskSet;
+
+/// A walk over the loads of a set of tasks at a cycle in a mode, in their order.
+///
+/// It is begun by `walk` or [`begin`] and is a value of a kilobyte that needs no memory. A contract sees it as the cycle, the mode, the
+/// set, the load given last, and what it keeps of that load from step to step.
+#[derive(Drop)]
+pub struct Walk {
+    cycle: u64,
+    mode: Mode,
+    set: TaskSet,
+    given: bool,
+    ended: bool,
+    sum: u64,
+    front: End,
+    back: End,
+}
+
+impl Model for Walk {
+    ghost use Rattle.std.specs.Prelude.{Some, None, cond};
+    ghost use Rattle.station_load.specs.Walking.{Walking};
+
+    ghost Value = { Walking };
+
+    ghost view = { λ w. record { cycle = w.cycle; mode = w.mode; set = w.set; last = cond w.given (Some (record { front = w.front.tasks; back = w.back.tasks })) None; ended = w.ended; sum = w.sum; front = w.front; back = w.back } };
+}
+
+// Whether a task's time is left, and nothing of a load with these tasks at its sides is apart from it.
+#[inline]
+fn fits(inst: &Instance, left: u64, here: &TaskSet, other: &TaskSet, task: u32) -> bool
+    requires { task < tasks inst.now }
+    ensures { IsTrue result ↔ HasRoom inst.now left (union here.now other.now) task }
+{
+    if inst.time(task) > left {
+        return false;
+    }
+    here.union(other).meet(inst.apart(task)).is_empty()
+}
+
+// Goes over the places of a side from the last one down: gives up what stands there, up to the first place where a task may join.
+// Whether one has joined. The load given last tells contracts where the scan began.
+fn advance(
+    inst: &Instance,
+    cycle: u64,
+    set: &TaskSet,
+    mode: Mode,
+    side: Side,
+    last: &Load,
+    other: &TaskSet,
+    end: &mut End,
+    sum: &mut u64,
+) -> bool
+    requires set { IsTaskSet inst.now set.now }
+    requires scan { Scan inst.now cycle mode set.now last.now (pair_at side end.old.tasks other.now) (spot inst.now side (tasks inst.now)) }
+    requires kept { fills mode side ≡ true → IsEnd inst.now side set.now end.old }
+    requires sum { sum.old ≡ sum_where (has (taken (pair_at side end.old.tasks other.now))) inst.now.times }
+    ensures joined { IsTrue result → IsNext inst.now cycle mode set.now last.now (pair_at side end.new.tasks other.now) }
+    ensures passed { result ≡ false → Scan inst.now cycle mode set.now last.now (pair_at side end.new.tasks other.now) (spot inst.now side 0) }
+    ensures kept { fills mode side ≡ true → IsEnd inst.now side set.now end.new }
+    ensures sum { sum.new ≡ sum_where (has (taken (pair_at side end.new.tasks other.now))) inst.now.times }
+{
+    if !fills(mode, side) {
+        return false;
+    }
+    let mut below = inst.tasks();
+    while let Some(place) = end.places.greatest_below(below) {
+        below = place;
+        let task = task_at(inst, side, place);
+        if end.tasks.has(task) {
+            end.give_up(inst, side, task);
+            *sum -= inst.time(task);
+        } else if !other.has(task) && fits(inst, cycle - *sum, &end.tasks, other, task) {
+            end.take_in(inst, set, side, task);
+            *sum += inst.time(task);
+            return true;
+        }
+    }
+    false
+}
+
+// Whether a task that is ready for the side may join it.
+fn grows(
+    inst: &Instance,
+    cycle: u64,
+    set: &TaskSet,
+    mode: Mode,
+    side: Side,
+    end: &End,
+    other: &TaskSet,
+    sum: u64,
+) -> bool
+    requires set { IsTaskSet inst.now set.now }
+    requires kept { fills mode side ≡ true → IsEnd inst.now side set.now end.now }
+    requires sum { sum ≡ sum_where (has (taken (pair_at side end.now.tasks other.now))) inst.now.times }
+    requires fits { sum ≤ cycle }
+    ensures some { IsTrue result → (i : ℕ) × (fills mode side ≡ true) × MayJoin inst.now cycle set.now side (pair_at side end.now.tasks other.now) i }
+    ensures none { result ≡ false → (i : ℕ) → fills mode side ≡ true → MayJoin inst.now cycle set.now side (pair_at side end.now.tasks other.now) i → ⊥ }
+{
+    if !fills(mode, side) {
+        return false;
+    }
+    let mut below = inst.tasks();
+    while let Some(task) = end.free.greatest_below(below) {
+        below = task;
+        if !other.has(task) && fits(inst, cycle - sum, &end.tasks, other, task) {
+            return true;
+        }
+    }
+    false
+}
+
+/// A walk over the loads of a set of tasks, before its first one. The cycle is in the instance's time unit.
+pub fn begin(inst: &Instance, cycle: u64, set: &TaskSet, mode: Mode) -> Walk
+    requires { IsTaskSet inst.now set.now }
+    ensures walk { IsWalk inst.now result }
+    ensures cycle { result.cycle ≡ cycle }
+    ensures mode { result.mode ≡ mode }
+    ensures set { result.set ≡ set.now }
+    ensures last { result.last ≡ None }
+{
+    let _tasks = inst.tasks();
+    Walk {
+        cycle,
+        mode,
+        set: *set,
+        given: false,
+        ended: false,
+        sum: 0,
+        front: End::start(inst, set, mode, Side::Front),
+        back: End::start(inst, set, mode, Side::Back),
+    }
+}
+
+impl Walk {
+    /// The next load; None after the last one, where the walk stays.
+    pub fn step(&mut self, inst: &Instance) -> Option<Load>
+        requires { IsWalk inst.now self.old }
+        ensures none { IsNone result → (l : Pair) → IsLoad inst.now self.old.cycle self.old.mode self.old.set l → After inst.now self.old.last l → ⊥ }
+        ensures next { IfSome result (IsFollowing inst.now self.old.cycle self.old.mode self.old.set self.old.last) }
+        ensures given { self.new.last ≡ last_given self.old.last result }
+        ensures cycle { self.new.cycle ≡ self.old.cycle }
+        ensures mode { self.new.mode ≡ self.old.mode }
+        ensures set { self.new.set ≡ self.old.set }
+        ensures walk { IsWalk inst.now self.new }
+    {
+        let _tasks = inst.tasks();
+        if self.ended {
+            return None;
+        }
+        let last = self.load();
+        let sum = self.sum;
+        if advance(
+            inst,
+            self.cycle,
+            &self.set,
+            self.mode,
+            Side::Back,
+            &last,
+            &self.front.tasks,
+            &mut self.back,
+            &mut self.sum,
+        ) {
+            self.given = true;
+            return Some(self.load());
+        }
+        if advance(
+            inst,
+            self.cycle,
+            &self.set,
+            self.mode,
+            Side::Front,
+            &last,
+            &self.back.tasks,
+            &mut self.front,
+            &mut self.sum,
+        ) {
+            self.given = true;
+            return Some(self.load());
+        }
+        self.front.tasks = last.front;
+        self.back.tasks = last.back;
+        self.sum = sum;
+        self.ended = true;
+        None
+    }
+
+    // The load that the walk stands at, or nothing.
+    #[inline]
+    fn load(&self) -> Load
+        ensures front { result.front ≡ self.now.front.tasks }
+        ensures back { result.back ≡ self.now.back.tasks }
+    {
+        Load {
+            front: self.front.tasks,
+            back: self.back.tasks,
+        }
+    }
+
+    /// The total time of the load given last, in the instance's time unit; 0 before the first.
+    #[inline]
+    pub fn sum(&self) -> u64
+        ensures { result ≡ self.now.sum }
+    {
+        self.sum
+    }
+
+    /// Whether the load given last is full: no further task of the set can be added to it so that it is a load.
+    pub fn full(&self, inst: &Instance) -> bool
+        requires walk { IsWalk inst.now self.now }
+        requires given { IsSome self.now.last }
+        ensures { IfSome self.now.last (λ l. IsTrue result ↔ IsFull inst.now self.now.cycle self.now.mode self.now.set l) }
+    {
+        let _tasks = inst.tasks();
+        if self.ended {
+            return places::full(inst, self.cycle, &self.set, self.mode, &self.load());
+        }
+        if grows(
+            inst,
+            self.cycle,
+            &self.set,
+            self.mode,
+            Side::Front,
+            &self.front,
+            &self.back.tasks,
+            self.sum,
+        ) {
+            return false;
+        }
+        if grows(
+            inst,
+            self.cycle,
+            &self.set,
+            self.mode,
+            Side::Back,
+            &self.back,
+            &self.front.tasks,
+            self.sum,
+        ) {
+            return false;
+        }
+        true
+    }
+}
