@@ -1,7 +1,12 @@
 //! The book of entries: what its events do and answer, and the history that it replays from.
 #![tactic(auto)]
 
+mod book;
+mod desk;
 pub mod laws;
+mod scan;
 mod types;
 
+pub use book::Book;
+pub use desk::Desk;
 pub use types::{Event, LogItem, Looked, Offered, Published, Reply};
