@@ -2,6 +2,7 @@ ghost use Rattle.std.specs.Prelude.{◌≡◌, true};
 ghost use Rattle.line_rules.specs.Balance.{IsRight};
 ghost use Rattle.lemma_core.specs.Desks.{DeskView, entries, HasDerived, FollowsSeen, Waits, Finds, Publishes, Offers, Tells};
 
+use crate::book::Book;
 use crate::types::{Looked, Offered, Published};
 use line_rules::{Balance, Entry};
 use task_set::TaskSet;
@@ -34,4 +35,32 @@ pub trait Desk {
     /// The fewest stations of a balance, 1 to 1,024, as far as is known: never more than of those seen.
     fn least(&mut self) -> u32
         ensures { Tells (desk self.old) (desk self.new) result };
+}
+
+impl Desk for Book {
+    ghost use Rattle.lemma_core.specs.Books.{desk_of};
+
+    ghost desk = { desk_of };
+
+    fn look(&mut self, set: &TaskSet, most: u32) -> Looked {
+        let _len = self.len();
+        Book::look(self, set, most)
+    }
+
+    fn publish(&mut self, step: Entry) -> Published {
+        let _len = self.len();
+        let published = Book::publish(self, step);
+        let _grown = self.len();
+        published
+    }
+
+    fn offer(&mut self, balance: Balance) -> Offered {
+        let _len = self.len();
+        Book::offer(self, balance)
+    }
+
+    fn least(&mut self) -> u32 {
+        let _len = self.len();
+        Book::least(self)
+    }
 }
