@@ -10,8 +10,9 @@ use Rattle.lemma_core.specs.declared.types.Published.{Published}
 use Rattle.lemma_core.specs.declared.types.Published.TheVariants as published
 use Rattle.lemma_core.specs.declared.types.Event.{Event}
 use Rattle.lemma_core.specs.declared.types.Event.TheVariants as event
+use Rattle.lemma_core.specs.declared.types.Reply.{Reply}
 use Rattle.lemma_core.specs.declared.types.Reply.TheVariants as reply
-use Rattle.lemma_core.specs.Machine.{About, State, answer, run}
+use Rattle.lemma_core.specs.Machine.{About, State, answer, answers_of, run}
 use Rattle.lemma_core.specs.History.{Item, Standing, history, standing, replay, offers}
 use Rattle.lemma_core.specs.Desks.{DeskView}
 
@@ -80,6 +81,14 @@ abbrev pub DoesPublish : BookView → Entry → Published → BookView → Type 
 DoesPublish old e (published.Known id) new = (answer old.about.cycle old.state (event.Publish e) ≡ reply.Known id) × (new ≡ ran old (event.Publish e ∷ []))
 DoesPublish old e (published.Added id) new = (answer old.about.cycle old.state (event.Publish e) ≡ reply.Added id) × (new ≡ ran old (event.Publish e ∷ []))
 DoesPublish old e published.NoMemory new = new ≡ old
+
+-- Some of the events were done, from the first on, and no other: the answers to these were appended.
+pub record DidSome (old : BookView) (vs : List Event) (rs : List Reply) (new : BookView) (all : List Reply) : Type 0 where
+  pub done : List Event
+  pub left : List Event
+  pub events : done ++ left ≡ vs
+  pub replies : all ≡ rs ++ answers_of old.about.cycle old.state done
+  pub book : new ≡ ran old done
 
 -- a book as a desk: it is alone, has seen all its events, and each is its own
 abbrev pub desk_of : BookView → DeskView

@@ -4,9 +4,11 @@
 mod book;
 mod desk;
 pub mod laws;
+mod running;
 mod scan;
 mod types;
 
 pub use book::Book;
 pub use desk::Desk;
+pub use running::run_events;
 pub use types::{Event, LogItem, Looked, Offered, Published, Reply};
