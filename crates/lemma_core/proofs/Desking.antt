@@ -1,32 +1,27 @@
 -- What the calls of a book do, seen as those of a desk that is alone.
-use Rattle.std.proofs.Common.{◌≡◌, ℕ, zero, suc, ◌+◌, ◌-◌, ◌<◌, ◌≤◌, Bool, true, false, cond, List, [], ◌∷◌, ◌++◌, length, refl, sym, ap, ◌∙◌, subst, arith, Some, None, Option, length-append}
-use Rattle.std.specs.Prelude.{slice_get, nat_le}
+use Rattle.std.proofs.Common.{◌≡◌, ℕ, zero, suc, ◌+◌, ◌<◌, ◌≤◌, Bool, true, false, cond, List, [], ◌∷◌, ◌++◌, length, refl, sym, ap, ◌∙◌, subst, arith, Some, None, Option, length-append}
 use Rattle.std.specs.List.{range_with_len}
 use Rattle.std.proofs.lemmas.Bool.Decides.{nat_tests}
-use Rattle.line_instance.specs.Line.{Line, tasks}
 use Rattle.line_rules.specs.Accepted.{HasBalance}
 use Rattle.line_rules.specs.Balance.{seat}
-use Rattle.line_rules.specs.Entries.{Follows, IsDerived, IsLastAnswer, IsUnanswered}
+use Rattle.line_rules.specs.Entries.{IsDerived, IsLastAnswer, IsUnanswered}
 use Rattle.line_rules.specs.declared.types.Entry.{Entry}
 use Rattle.line_rules.specs.declared.types.Balance.{Balance as Assignment}
 use Rattle.lemma_core.specs.declared.types.Event.{Event}
 use Rattle.lemma_core.specs.declared.types.Event.TheVariants as event
 use Rattle.lemma_core.specs.declared.types.Looked.{Looked}
-use Rattle.lemma_core.specs.declared.types.Looked.TheVariants as looked
 use Rattle.lemma_core.specs.declared.types.Published.{Published}
 use Rattle.lemma_core.specs.declared.types.Published.TheVariants as published
 use Rattle.lemma_core.specs.declared.types.Offered.{Offered}
 use Rattle.lemma_core.specs.declared.types.Offered.TheVariants as offered
-use Rattle.lemma_core.specs.declared.types.Reply.{Reply}
 use Rattle.lemma_core.specs.declared.types.Reply.TheVariants as reply
 use Rattle.lemma_core.specs.Machine.{State, last_answer, found, answer, is_better}
 use Rattle.lemma_core.specs.Machine as machine
-use Rattle.lemma_core.specs.History.{Item, added, known, better, published_item, Standing, replay, offers}
+use Rattle.lemma_core.specs.History.{Item, added, known, better, published_item, Standing}
 use Rattle.lemma_core.specs.Books.{BookView, IsBook, IsReserved, ran, DoesPublish, desk_of}
-use Rattle.lemma_core.specs.Desks.{DeskView, entries, entries_after, fewest_after, HasDerived, Keeps, Waits, Adds, Finds, Publishes, Offers, Tells}
+use Rattle.lemma_core.specs.Desks.{entries, fewest_after, HasDerived, Waits, Adds, Finds, Publishes, Offers, Tells}
 use Rattle.lemma_core.proofs.Runs.{last_found, last_absent}
-use Rattle.lemma_core.proofs.Answering.{last_is, none_is}
-use Rattle.lemma_core.proofs.Logs.{nothing_more, worse_is, book_published, reserved_ran}
+use Rattle.lemma_core.proofs.Logs.{nothing_more, worse_is, reserved_ran}
 
 -- the entries that a book has seen are its own, and its best's stations the fewest
 pub entries_seen : (b : BookView) → IsBook b → entries (desk_of b) ≡ b.state.entries
