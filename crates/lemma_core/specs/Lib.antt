@@ -5,3 +5,4 @@ pub mod Rows
 pub mod Desks
 pub mod Books
 pub mod Inside
+pub mod Chains

@@ -7,6 +7,7 @@ ghost use Rattle.lemma_core.specs.declared.types.Event.TheVariants as event;
 ghost use Rattle.lemma_core.specs.declared.types.Reply.TheVariants as reply;
 ghost use Rattle.lemma_core.specs.Books.{BookView, IsBook, IsReserved, MayBeBest, opened, reopened, ran, with_room, DoesPublish};
 
+use crate::index::{Index, key};
 use crate::scan::{looked, scan};
 use crate::types::{LogItem, Looked, Offered, Published};
 use line_instance::Instance;
@@ -22,6 +23,7 @@ pub struct Book {
     kind: LineKind,
     cycle: u64,
     entries: Entries,
+    index: Index,
     log: Vec<LogItem>,
     best: Balance,
     start: usize,
@@ -30,7 +32,9 @@ pub struct Book {
 }
 
 impl Model for Book {
-    ghost use Rattle.std.specs.Prelude.{◌+◌, ◌≤◌, vec_len, vec_capacity};
+    ghost use Rattle.std.specs.Prelude.{◌+◌, ◌≤◌, nat_eq, vec_len, vec_capacity};
+    ghost use Rattle.std.specs.HashMap.{get};
+    ghost use Rattle.lemma_core.specs.Chains.{IsChained};
     ghost use Rattle.lemma_core.specs.Books.{BookView, IsBook};
     ghost use Rattle.lemma_core.specs.Inside.{book_of, IsLogged};
 
@@ -38,7 +42,7 @@ impl Model for Book {
 
     ghost view = { λ s. book_of s.instance s.kind s.cycle s.entries s.log.items s.best s.start s.opening s.room };
 
-    ghost invariant = { λ s. IsBook (book_of s.instance s.kind s.cycle s.entries s.log.items s.best s.start s.opening s.room) × IsLogged s.entries s.log.items s.start × (vec_len s.log + s.room ≤ vec_capacity s.log) };
+    ghost invariant = { λ s. IsBook (book_of s.instance s.kind s.cycle s.entries s.log.items s.best s.start s.opening s.room) × IsLogged s.entries s.log.items s.start × (vec_len s.log + s.room ≤ vec_capacity s.log) × IsChained s.entries (get nat_eq s.index.last) s.index.before.items };
 }
 
 impl Book {
@@ -60,6 +64,7 @@ impl Book {
             kind,
             cycle,
             entries: Entries::from_vec(Vec::new(alloc)),
+            index: Index::new(alloc),
             log: Vec::new(alloc),
             best,
             start: 0,
@@ -165,6 +170,16 @@ impl Book {
     pub fn look(&self, set: &TaskSet, most: u32) -> Looked
         ensures { result ≡ found self.now.state.entries (last_answer self.now.state.entries set.now most self.now.about.cycle) }
     {
+        looked(
+            &self.entries,
+            self.index.find(&self.entries, set, most, self.cycle),
+        )
+    }
+
+    /// The same by a search through all entries from the end: what `look` is measured by.
+    pub fn look_plain(&self, set: &TaskSet, most: u32) -> Looked
+        ensures { result ≡ found self.now.state.entries (last_answer self.now.state.entries set.now most self.now.about.cycle) }
+    {
         looked(&self.entries, scan(&self.entries, set, most, self.cycle))
     }
 
@@ -174,7 +189,10 @@ impl Book {
         requires { Follows self.old.about.kind self.old.about.line self.old.state.entries step }
         ensures { DoesPublish self.old step result self.new }
     {
-        match scan(&self.entries, &step.set, step.most, step.cycle) {
+        match self
+            .index
+            .find(&self.entries, &step.set, step.most, step.cycle)
+        {
             Some(id) => self.know(id, step),
             None => self.add(step),
         }
@@ -201,13 +219,18 @@ impl Book {
         requires unanswered { last_answer self.old.state.entries step.set step.most step.cycle ≡ None }
         ensures { DoesPublish self.old step result self.new }
     {
+        let key = key(&step.set);
         let Ok(()) = self.log.reserve(self.room as usize + 1) else {
+            return Published::NoMemory;
+        };
+        let Ok(()) = self.index.reserve() else {
             return Published::NoMemory;
         };
         let id = self.entries.len() as u64;
         let Ok(()) = self.entries.push(step) else {
             return Published::NoMemory;
         };
+        self.index.add(key);
         self.log.push_reserved(LogItem::Added(id));
         Published::Added(id)
     }

@@ -3,6 +3,7 @@
 
 mod book;
 mod desk;
+mod index;
 pub mod laws;
 mod running;
 mod scan;

@@ -21,7 +21,7 @@ invariant_of-self-2 c =
     let P : List LogItem → Type 0 = λ ls. IsBook (book_of s.instance s.kind s.cycle s.entries ls s.best s.start s.opening s.room) × IsLogged s.entries ls s.start in
     let ls : c.push_reserved.new.self.items ≡ s.log.items ++ log.Known c.args.id step.most ∷ [] = c.push_reserved.ensures.items ∙ ap (λ (xs : List LogItem). xs ++ log.Known c.args.id step.most ∷ []) c.reserve.ensures.items in
     let both : P c.push_reserved.new.self.items = subst P (sym ls) (k, known_logged s.instance s.kind s.cycle s.entries s.log.items s.best s.start s.opening s.room c.args.id step.most c.self.invariant.1) in
-    (both.0, both.1, omega (arith, c.push_reserved.ensures.len, c.push_reserved.ensures.capacity, c.reserve.ensures.len, c.in-Ok.ensures.ok))
+    (both.0, both.1, omega (arith, c.push_reserved.ensures.len, c.push_reserved.ensures.capacity, c.reserve.ensures.len, c.in-Ok.ensures.ok), c.self.invariant.3)
 
 pub returns : goal.returns
 returns c =

@@ -18,7 +18,7 @@ invariant_of-self c =
     let k : IsBook (book_of s.instance s.kind s.cycle s.entries (s.log.items ++ log.Offered c.args.balance.stations ∷ []) c.args.balance s.start s.opening (s.room - 1)) =
     (let Q : BookView → Type 0 = λ z. IsBook z in subst Q (sym (better_is s.instance s.kind s.cycle s.entries s.log.items s.best s.start s.opening s.room c.args.balance c.if-balance-self.false)) (book_offered b c.args.balance c.self.invariant.0 q)) in
     let both : P c.push_reserved.new.self.items = subst P (sym c.push_reserved.ensures.items) (k, offered_logged s.instance s.kind s.cycle s.entries s.log.items s.best s.start s.opening s.room c.args.balance.stations c.self.invariant.1) in
-    (both.0, both.1, omega (arith, c.self.invariant.0.fewer, r, c.self.invariant.2, c.push_reserved.ensures.len, c.push_reserved.ensures.capacity))
+    (both.0, both.1, omega (arith, c.self.invariant.0.fewer, r, c.self.invariant.2, c.push_reserved.ensures.len, c.push_reserved.ensures.capacity), c.self.invariant.3)
 
 ran_offer : goal.returns-clause-ran
 ran_offer c =
