@@ -1,5 +1,5 @@
 -- A log and its history, one item longer; and what a run of the core machine makes of a book.
-use Rattle.std.proofs.Common.{◌≡◌, ℕ, zero, suc, ◌+◌, ◌-◌, ◌<◌, ◌≤◌, Bool, true, false, cond, List, [], ◌∷◌, ◌++◌, length, take, refl, sym, ap, ◌∙◌, arith, Some, None, Option, length-append}
+use Rattle.std.proofs.Common.{◌≡◌, subst, ℕ, zero, suc, ◌+◌, ◌-◌, ◌<◌, ◌≤◌, Bool, true, false, cond, List, [], ◌∷◌, ◌++◌, length, take, refl, sym, ap, ◌∙◌, arith, Some, None, Option, length-append}
 use Rattle.std.specs.Prelude.{slice_get}
 use Rattle.std.proofs.lemmas.Bool.Decides.{nat_tests}
 use Rattle.line_instance.specs.Line.{Line}
@@ -15,7 +15,9 @@ use Rattle.lemma_core.specs.History.{Item, added, known, better, published_item,
 use Rattle.lemma_core.specs.Laws.{IsKept, AllMayCome}
 use Rattle.line_rules.specs.Balance.{IsRight}
 use Rattle.line_rules.specs.Entries.{Follows}
-use Rattle.lemma_core.specs.Books.{BookView, IsBook, IsReserved, ran}
+use Rattle.lemma_core.specs.Books.{BookView, IsBook, IsReserved, ran, DoesPublish}
+use Rattle.lemma_core.specs.declared.types.Published.{Published}
+use Rattle.lemma_core.specs.declared.types.Published.TheVariants as published
 use Rattle.lemma_core.specs.Inside.{Below, AllBelow, book_of, IsLogged}
 use Rattle.lemma_core.proofs.Runs.{replay-append, history_replayed, run_keeps}
 
@@ -119,6 +121,11 @@ book_offered b a ok r = book_ran b (event.Offer a ∷ []) ok (r, tt)
 -- what room was made for offers is left for those to come
 pub reserved_ran : (b : BookView) (vs : List Event) → IsReserved b → IsReserved (ran b vs)
 reserved_ran b vs r = omega (arith, offers-append b.events (history b.state vs))
+
+pub reserved_published : (b new : BookView) (e : Entry) (r : Published) → DoesPublish b e r new → IsReserved b → IsReserved new
+reserved_published b new e (published.Known id) d r = let P : BookView → Type 0 = λ z. IsReserved z in subst P (sym d.1) (reserved_ran b (event.Publish e ∷ []) r)
+reserved_published b new e (published.Added id) d r = let P : BookView → Type 0 = λ z. IsReserved z in subst P (sym d.1) (reserved_ran b (event.Publish e ∷ []) r)
+reserved_published b new e published.NoMemory d r = let P : BookView → Type 0 = λ z. IsReserved z in subst P (sym d) r
 
 -- there are no more offers than events
 pub few_offers : (xs : List Item) → offers xs ≤ length xs

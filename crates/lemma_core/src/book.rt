@@ -187,7 +187,8 @@ impl Book {
     /// For want of memory the book stays as it was, and the entry is given up.
     pub fn publish(&mut self, step: Entry) -> Published
         requires { Follows self.old.about.kind self.old.about.line self.old.state.entries step }
-        ensures { DoesPublish self.old step result self.new }
+        ensures does { DoesPublish self.old step result self.new }
+        ensures reserved { IsReserved self.old → IsReserved self.new }
     {
         match self
             .index

@@ -7,6 +7,8 @@ mod index;
 pub mod laws;
 mod running;
 mod scan;
+#[cfg(test)]
+mod tests;
 mod types;
 
 pub use book::Book;
