@@ -2,7 +2,7 @@ ghost use Rattle.std.specs.Prelude.{◌≡◌, ℕ, ◌+◌, ◌<◌, ◌≤◌,
 ghost use Rattle.line_rules.specs.Balance.{Holds, IsRight};
 ghost use Rattle.line_rules.specs.Entries.{IsDerived, IsFresh, Follows};
 ghost use Rattle.lemma_core.specs.Machine.{last_answer, answers, found, answer};
-ghost use Rattle.lemma_core.specs.History.{item_of};
+ghost use Rattle.lemma_core.specs.History.{item_of, standing, replay};
 ghost use Rattle.lemma_core.specs.declared.types.Event.TheVariants as event;
 ghost use Rattle.lemma_core.specs.declared.types.Reply.TheVariants as reply;
 ghost use Rattle.lemma_core.specs.Books.{BookView, IsBook, IsReserved, MayBeBest, opened, reopened, ran, with_room, DoesPublish};
@@ -153,7 +153,8 @@ impl Book {
 
     /// How many items the log has: one for each entry that was published, and one for each better balance, since the book opened.
     pub fn log_len(&self) -> u64
-        ensures { result ≡ length self.now.events }
+        ensures len { result ≡ length self.now.events }
+        ensures replays { replay self.now.opening self.now.events ≡ standing self.now.state }
     {
         self.log.len() as u64
     }

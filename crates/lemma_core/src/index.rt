@@ -14,8 +14,8 @@ use std::collections::HashMap;
 use std::hash::{FoldHasher, Hash, Hasher};
 use task_set::TaskSet;
 
-/// How many keys there are. More of them make shorter chains, and fewer take less memory for each entry.
-const KEYS: u64 = 2_097_152;
+/// How many keys there are: as many as fit 32 bits, so sets seldom share one. With fewer keys the map is smaller and chains are longer.
+const KEYS: u64 = 4_294_967_296;
 
 // Where entries with a set are: for each key of sets the last entry with that key, and for each entry the last one before it
 // that has its key. The first entry with a key leads to itself.

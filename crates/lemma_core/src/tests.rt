@@ -4,6 +4,7 @@ ghost use Rattle.std.specs.Prelude.{◌≡◌, ◌≤◌, List, IfOk, IfSome};
 ghost use Rattle.line_instance.specs.Line.{IsTaskSet};
 ghost use Rattle.line_rules.specs.Entries.{Follows};
 ghost use Rattle.line_rules.specs.declared.types.Entry.{Entry as Lemma};
+ghost use Rattle.lemma_core.specs.Laws.{AllMayCome};
 ghost use Rattle.lemma_core.specs.Books.{IsReserved, MayBeBest};
 
 use crate::{Book, Desk, Event, LogItem, Looked, Offered, Published, Reply, run_events};
@@ -30,8 +31,20 @@ fn entry_of(inst: &Instance, set: TaskSet, most: u32, cycle: u64) -> Option<Entr
     ensures follows { IfSome result (λ e. (kind : _) (es : List Lemma) → Follows kind inst.now es e) }
 {
     let all = inst.all();
-    let _truths = set.capacity();
-    if !set.is_subset(&all) || set.count() == 0 || most > 1024 || cycle == 0 || cycle > 1000 {
+    let truths = set.capacity();
+    if !set.is_subset(&all) {
+        return None;
+    }
+    if set.count() == 0 {
+        return None;
+    }
+    if most > truths {
+        return None;
+    }
+    if cycle == 0 {
+        return None;
+    }
+    if cycle > 1000 {
         return None;
     }
     if inst.sum(&set) <= u64::from(most) * cycle {
@@ -82,12 +95,12 @@ fn book_of_five(alloc: Global) -> Result<Book, Fail>
     Ok(book)
 }
 
-fn publish(book: &mut Book, set: TaskSet, most: u32, cycle: u64) -> Result<Published, Fail>
+fn publish(book: &mut Book, set: TaskSet, most: u32, cycle: u64) -> Option<Published>
     ensures { IsReserved book.old → IsReserved book.new }
 {
     match entry_of(book.instance(), set, most, cycle) {
-        Some(step) => Ok(book.publish(step)),
-        None => Err("no entry")?,
+        Some(step) => Some(book.publish(step)),
+        None => None,
     }
 }
 
@@ -111,25 +124,46 @@ fn logged(book: &Book, k: u64) -> Result<LogItem, Fail> {
     Err("no item")?
 }
 
+// The book at cycle 8, where the balance may be its best there.
+fn reopened(book: Book, best: Balance) -> Option<Book> {
+    let (inst, kind) = (book.instance(), book.kind());
+    let few = best.place.len() <= inst.tasks() as usize && best.stations <= inst.tasks();
+    if !few || best.stations > 1024 || check_balance(inst, kind, 8, &best) != BalanceCheck::Right {
+        return None;
+    }
+    Some(book.reopen(8, best))
+}
+
+// A book may go to another thread.
+fn sent<T: Send>(value: T) -> T {
+    value
+}
+
 // What a desk answers, whichever it is.
 fn asked<D: Desk>(desk: &mut D, set: &TaskSet, most: u32) -> (Looked, u32) {
     (desk.look(set, most), desk.least())
 }
 
-#[test]
-fn does_three_events(rt: HostRuntime) -> Result<(), Fail> {
-    let alloc = rt.alloc();
-    let mut book = book_of_five(alloc)?;
+// An entry of all tasks and one station, and looks for one station and for two.
+fn three_events(alloc: Global, book: &Book) -> Result<Vec<Event>, Fail>
+    ensures { IfOk result (λ v. AllMayCome book.now.about book.now.state v.items) }
+{
     let all = book.instance().all();
     let Some(step) = entry_of(book.instance(), all, 1, CYCLE) else {
         return Err("no entry")?;
     };
-    let events = vec![in alloc;
+    Ok(vec![in alloc;
         Event::Publish(step),
         Event::Look { set: all, most: 1 },
         Event::Look { set: all, most: 2 },
-    ]?;
-    let mut replies = Vec::new(alloc);
+    ]?)
+}
+
+#[test]
+fn does_three_events(rt: HostRuntime) -> Result<(), Fail> {
+    let mut book = book_of_five(rt.alloc())?;
+    let events = three_events(rt.alloc(), &book)?;
+    let mut replies = Vec::new(rt.alloc());
     run_events(&mut book, events, &mut replies)?;
     let want = [
         Reply::Added(0),
@@ -141,47 +175,50 @@ fn does_three_events(rt: HostRuntime) -> Result<(), Fail> {
 }
 
 #[test]
-fn answers_each_call(rt: HostRuntime) -> Result<(), Fail> {
-    let alloc = rt.alloc();
-    let mut book = book_of_five(alloc)?;
+fn names_the_last_entry_that_answers(rt: HostRuntime) -> Result<(), Fail> {
+    let mut book = book_of_five(rt.alloc())?;
     let all = book.instance().all();
-    assert_eq!(rt; (book.kind(), book.cycle()), (LineKind::Straight, CYCLE));
-    assert_eq!(rt; publish(&mut book, all, 1, CYCLE)?, Published::Added(0));
-    assert_eq!(rt; publish(&mut book, all, 1, 6)?, Published::Known(0));
-    assert_eq!(rt; publish(&mut book, all, 1, 8)?, Published::Added(1));
+    for (cycle, want) in [
+        (CYCLE, Published::Added(0)),
+        (6, Published::Known(0)),
+        (8, Published::Added(1)),
+    ] {
+        assert_eq!(rt; publish(&mut book, all, 1, cycle), Some(want), "at {cycle}");
+    }
     assert_eq!(rt;
         asked(&mut book, &all, 1),
         (Looked::Found { id: 1, most: 1 }, 5)
     );
-    assert_eq!(rt;
-        offer(&mut book, balance(alloc, 3, &[1, 2, 1, 2, 3])?)?,
-        Offered::Better
-    );
-    assert_eq!(rt;
-        offer(&mut book, balance(alloc, 4, &[1, 2, 3, 3, 4])?)?,
-        Offered::NotBetter
-    );
-    assert_eq!(rt; asked(&mut book, &all, 2), (Looked::Absent, 3));
-    assert_eq!(rt;
-        (
-            book.len(),
-            book.log_len(),
-            book.opening(),
-            book.opening_len()
-        ),
-        (2, 4, 5, 0)
-    );
-    assert_eq!(rt; logged(&book, 0)?, LogItem::Added(0));
+    assert_eq!(rt; asked(&mut book, &all, 2), (Looked::Absent, 5));
+    if book.len() != 2 || book.entries().len() != 2 {
+        return Err("other entries")?;
+    }
+    assert_eq!(rt; (book.entry(1).cycle, book.entries().at(0).cycle), (8, 7));
     assert_eq!(rt; logged(&book, 1)?, LogItem::Known { id: 0, most: 1 });
-    assert_eq!(rt; logged(&book, 3)?, LogItem::Offered { stations: 3 });
-    if book.len() == 2 {
-        assert_eq!(rt; (book.entry(1).cycle, book.entries().at(0).cycle), (8, 7));
-    }
-    let best = tested(book.instance(), 8, balance(alloc, 2, &[1, 2, 1, 2, 1])?)?;
-    if book.kind() != LineKind::Straight {
-        return Err("another kind")?;
-    }
-    let book = book.reopen(8, best);
+    Ok(())
+}
+
+#[test]
+fn keeps_the_better_balance(rt: HostRuntime) -> Result<(), Fail> {
+    let mut book = book_of_five(rt.alloc())?;
+    let three = balance(rt.alloc(), 3, &[1, 2, 1, 2, 3])?;
+    assert_eq!(rt; offer(&mut book, three)?, Offered::Better);
+    let four = balance(rt.alloc(), 4, &[1, 2, 3, 3, 4])?;
+    assert_eq!(rt; offer(&mut book, four)?, Offered::NotBetter);
+    assert_eq!(rt; (book.least(), book.opening(), book.log_len()), (3, 5, 1));
+    assert_eq!(rt; logged(&book, 0)?, LogItem::Offered { stations: 3 });
+    Ok(())
+}
+
+#[test]
+fn opens_again_at_another_cycle(rt: HostRuntime) -> Result<(), Fail> {
+    let mut book = book_of_five(rt.alloc())?;
+    let all = book.instance().all();
+    let _added = publish(&mut book, all, 1, CYCLE);
+    let two = balance(rt.alloc(), 2, &[1, 2, 1, 2, 1])?;
+    let Some(book) = reopened(sent(book), two) else {
+        return Err("no balance")?;
+    };
     assert_eq!(rt;
         (
             book.len(),
@@ -189,14 +226,14 @@ fn answers_each_call(rt: HostRuntime) -> Result<(), Fail> {
             book.opening(),
             book.opening_len()
         ),
-        (2, 0, 2, 2)
+        (1, 0, 2, 1)
     );
     assert_eq!(rt;
-        (book.cycle(), book.least(), book.best().stations),
-        (8, 2, 2)
+        (book.kind(), book.cycle(), book.best().stations),
+        (LineKind::Straight, 8, 2)
     );
     let (entries, best) = book.into_parts();
-    assert_eq!(rt; (entries.len(), best.place.len()), (2, 5));
+    assert_eq!(rt; (entries.len(), best.place.len()), (1, 5));
     Ok(())
 }
 
@@ -211,20 +248,19 @@ fn next(state: u64) -> u64 {
 fn finds_by_the_index_what_a_search_finds(rt: HostRuntime) -> Result<(), Fail> {
     let mut book = book_of_five(rt.alloc())?;
     let mut state = 1;
-    let mut found = 0;
+    let mut found = 0u32;
     for _ in 0..400 {
         state = next(state);
         let set = TaskSet::from_members(&[(state >> 33) as u32 % 5, (state >> 40) as u32 % 5]);
         let (most, cycle) = ((state >> 50) as u32 % 3, 1 + (state >> 55) % 12);
-        let Some(step) = entry_of(book.instance(), set, most, cycle) else {
+        if publish(&mut book, set, most, cycle).is_none() {
             continue;
-        };
-        let _answer = book.publish(step);
+        }
         for most in 0..4 {
             let look = book.look(&set, most);
             assert_eq!(rt; look, book.look_plain(&set, most));
             if look != Looked::Absent {
-                found += 1;
+                found = found.wrapping_add(1);
             }
         }
     }
