@@ -1,12 +1,13 @@
 -- Laws over runs of the core machine.
-use Rattle.std.specs.Prelude.{◌≡◌, ℕ, Bool, List, [], ◌∷◌, Some, None}
+use Rattle.std.specs.Prelude.{◌≡◌, ℕ, ◌≤◌, Bool, List, [], ◌∷◌, ◌++◌, Some, None}
 use Rattle.line_rules.specs.Entries.{Follows, IsDerived, IsFresh, IsUnanswered, IsLastAnswer}
 use Rattle.line_rules.specs.Balance.{IsRight}
 use Rattle.line_rules.specs.declared.types.Entry.{Entry}
 use Rattle.lemma_core.specs.declared.types.Event.{Event}
 use Rattle.lemma_core.specs.declared.types.Event.TheVariants as event
 use Rattle.lemma_core.specs.Machine.{About, State, last_answer, step, run}
-use Rattle.lemma_core.specs.History.{history, standing, replay}
+use Rattle.lemma_core.specs.History.{Item, Standing, history, standing, replay, Begins}
+use Rattle.lemma_core.specs.Desks.{DeskView, FollowsSeen, Keeps}
 
 -- the search from end to end finds the last entry that answers a question, and None exactly where none does
 pub record LastAnswerIsLast : Type 0 where
@@ -37,3 +38,14 @@ pub record IsKept (about : About) (s : State) : Type 0 where
 -- a run of events that may come keeps that
 abbrev pub RunsKeep : Type 0
 RunsKeep = (about : About) (s : State) (vs : List Event) → IsKept about s → AllMayCome about s vs → IsKept about (run s vs)
+
+-- a history that goes on only adds entries, and its fewest stations only fall
+pub record HistoryGoesOn : Type 0 where
+  pub entries : (s : Standing) (xs ys : List Item) → Begins xs ys → (more : List Entry) × ((replay s ys).entries ≡ (replay s xs).entries ++ more)
+  pub stations : (s : Standing) (xs ys : List Item) → Begins xs ys → (replay s ys).stations ≤ (replay s xs).stations
+
+-- what every call of a desk keeps is kept by none and by two calls, and what follows from what was seen follows still
+pub record DesksGoOn : Type 0 where
+  pub none : (d : DeskView) → Keeps d d
+  pub both : (a b c : DeskView) → Keeps a b → Keeps b c → Keeps a c
+  pub follows : (a b : DeskView) (e : Entry) → Keeps a b → FollowsSeen a e → FollowsSeen b e

@@ -1,6 +1,6 @@
 //! What is true of all runs of a book, for the crates above to cite.
 ghost use Rattle.line_rules.specs.Laws.{EveryEntryHolds};
-ghost use Rattle.lemma_core.specs.Laws.{LastAnswerIsLast, HistoryReplays, RunsKeep};
+ghost use Rattle.lemma_core.specs.Laws.{LastAnswerIsLast, HistoryReplays, RunsKeep, HistoryGoesOn, DesksGoOn};
 ghost use Rattle.lemma_core.specs.Rows.{EventsOfTheRows};
 
 /// In a derived list every entry holds: its set has no balance in its number of stations at its cycle.
@@ -23,6 +23,16 @@ pub fn history_replays()
 /// Entries stay derived and fresh, and the best balance stays right.
 pub fn runs_keep()
     ensures { RunsKeep }
+{}
+
+/// A history that goes on only adds entries, and its fewest stations only fall.
+pub fn history_goes_on()
+    ensures { HistoryGoesOn }
+{}
+
+/// What the calls of a desk keep is kept by all of them together, and what follows from what was seen follows still.
+pub fn desks_go_on()
+    ensures { DesksGoOn }
 {}
 
 /// Five events on an empty book, as worked by hand.

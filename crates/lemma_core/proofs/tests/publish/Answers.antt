@@ -1,0 +1,11 @@
+use Rattle.std.proofs.Common.{subst}
+use Rattle.line_instance.specs.Line.{Line}
+use Rattle.line_rules.specs.Entries.{Follows}
+use Rattle.lemma_core.proofs.tests.publish.Goals as goal
+
+pub publish-requires : goal.publish-requires
+publish-requires c =
+    let es = c.args.book.now.state.entries in
+    let kind = c.args.book.now.about.kind in
+    let Q : Line → Type 0 = λ l. Follows kind l es c.in-Some.step in
+    subst Q c.instance.ensures (c.in-Some.ensures.follows kind es)

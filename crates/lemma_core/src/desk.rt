@@ -1,0 +1,66 @@
+ghost use Rattle.std.specs.Prelude.{◌≡◌, true};
+ghost use Rattle.line_rules.specs.Balance.{IsRight};
+ghost use Rattle.lemma_core.specs.Desks.{DeskView, entries, HasDerived, FollowsSeen, Waits, Finds, Publishes, Offers, Tells};
+
+use crate::book::Book;
+use crate::types::{Looked, Offered, Published};
+use line_rules::{Balance, Entry};
+use task_set::TaskSet;
+
+/// Where entries are looked up and published, and balances are offered: a book, or a part in a shared one.
+///
+/// Contracts see of it what it is about, the state that it opened with, the list of events that it has seen, and which of
+/// them are its own. An answer speaks of that list after the call, without the call's own event, which stands last.
+pub trait Desk {
+    ghost desk: { Self → DeskView };
+
+    /// The last entry seen that answers the question of the set and so many stations, at the desk's cycle.
+    fn look(&mut self, set: &TaskSet, most: u32) -> Looked
+        ensures waits { Waits (desk self.old) (desk self.new) }
+        ensures finds { Finds (entries (desk self.new)) set.now most (desk self.new).about.cycle result }
+        ensures derived { HasDerived (desk self.new) };
+
+    /// Publishes an entry that follows from those seen: it is added where none answers it.
+    fn publish(&mut self, step: Entry) -> Published
+        requires { FollowsSeen (desk self.old) step }
+        ensures publishes { Publishes (desk self.old) (desk self.new) step result }
+        ensures derived { HasDerived (desk self.new) };
+
+    /// Offers a right balance of all tasks: it is the best from then on where it has fewer stations.
+    fn offer(&mut self, balance: Balance) -> Offered
+        requires right { IsRight (desk self.old).about.kind (desk self.old).about.line (desk self.old).about.cycle balance }
+        requires roomy { (desk self.old).roomy ≡ true }
+        ensures { Offers (desk self.old) (desk self.new) balance.stations result };
+
+    /// The fewest stations of a balance, 1 to 1,024, as far as is known: never more than of those seen.
+    fn least(&mut self) -> u32
+        ensures { Tells (desk self.old) (desk self.new) result };
+}
+
+impl Desk for Book {
+    ghost use Rattle.lemma_core.specs.Books.{desk_of};
+
+    ghost desk = { desk_of };
+
+    fn look(&mut self, set: &TaskSet, most: u32) -> Looked {
+        let _len = self.len();
+        Book::look(self, set, most)
+    }
+
+    fn publish(&mut self, step: Entry) -> Published {
+        let _len = self.len();
+        let published = Book::publish(self, step);
+        let _grown = self.len();
+        published
+    }
+
+    fn offer(&mut self, balance: Balance) -> Offered {
+        let _len = self.len();
+        Book::offer(self, balance)
+    }
+
+    fn least(&mut self) -> u32 {
+        let _len = self.len();
+        Book::least(self)
+    }
+}
