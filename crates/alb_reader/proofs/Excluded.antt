@@ -1,12 +1,12 @@
 -- A text with a fault has no reading.
-use Rattle.std.proofs.Common.{◌≡◌, ◌∙◌, ℕ, ◌<◌, true, false, List, [], ◌∷◌, ◌++◌, length, Option, Some, None, refl, sym, ap, subst, arith, inl, inr}
+use Rattle.std.proofs.Common.{◌≡◌, ◌∙◌, ℕ, List, [], ◌∷◌, ◌++◌, length, Option, Some, None, sym, ap, subst, arith, inl, inr}
 use Rattle.std.proofs.lemmas.Bool.{false≢true}
 use Rattle.line_instance.specs.Line.{Line}
 use Rattle.line_instance.specs.Made.{IsInstanceOf}
 use Rattle.in2_reader.specs.Contents.{Lines, contents_from, lines_in}
-use Rattle.alb_reader.specs.Sections.{under, before_end, end_line}
+use Rattle.alb_reader.specs.Sections.{under, before_end}
 use Rattle.alb_reader.specs.Faults.{line_fault, task_fault, arc_fault, AreRightFrom, AreRight, IsFirstWrong}
-use Rattle.alb_reader.specs.Answers.{first_number, tasks_said, times_said, arcs_said, IsFormed, IsFormFault, IsFilled, IsFillFault, IsAlbReading, IsAlbFault, IsAlbRead}
+use Rattle.alb_reader.specs.Answers.{first_number, times_said, arcs_said, IsFormed, IsFormFault, IsFilled, IsFillFault, IsAlbReading, IsAlbFault, IsAlbRead}
 use Rattle.alb_reader.specs.declared.answer.AlbRead.{AlbRead}
 use Rattle.alb_reader.specs.declared.answer.AlbRead.TheVariants as reads
 use Rattle.alb_reader.specs.declared.mark.Section.TheVariants.{Tasks, Times, Pairs}

@@ -1,5 +1,5 @@
 -- The first blank or tab of a line.
-use Rattle.std.proofs.Common.{◌≡◌, ◌∙◌, ℕ, zero, suc, ◌<◌, Bool, true, false, cond, List, [], ◌∷◌, length, get_or, take, drop, refl, sym, ap, arith, Option, Some, None}
+use Rattle.std.proofs.Common.{◌≡◌, ◌∙◌, ℕ, zero, suc, ◌<◌, true, false, cond, List, [], ◌∷◌, length, get_or, take, drop, refl, ap, arith, Some, None}
 use Rattle.in2_reader.specs.Pairs.{is_gap, onto_front}
 use Rattle.alb_reader.specs.Faults.{gap_split}
 

@@ -1,5 +1,5 @@
 -- The lines of task times and of pairs, one after another.
-use Rattle.std.proofs.Common.{◌≡◌, ◌∙◌, ℕ, zero, suc, ◌+◌, ◌-◌, ◌<◌, ◌≤◌, Bool, true, false, ◌&&◌, ◌||◌, cond, nat_eq, nat_lt, nat_le, List, [], ◌∷◌, ◌++◌, length, get_or, take, drop, map, set, replicate, Option, Some, None, refl, sym, ap, subst, arith, inl, inr, ◌⊎◌, add-one}
+use Rattle.std.proofs.Common.{◌≡◌, ◌∙◌, ℕ, zero, suc, ◌+◌, ◌-◌, ◌<◌, ◌≤◌, Bool, true, false, ◌&&◌, ◌||◌, cond, nat_eq, nat_lt, nat_le, List, [], ◌∷◌, ◌++◌, length, get_or, take, drop, map, set, replicate, Option, Some, None, refl, sym, ap, subst, arith, inl, inr, add-one}
 use Rattle.std.specs.Option.{is_some as is_there}
 use Rattle.std.proofs.lemmas.Bool.{cases_eq}
 use Rattle.std.proofs.lemmas.List.{get_or-set_same, get_or-set_other, get_or-replicate, length-set, length-replicate, take_all, ext_get_or}
@@ -23,7 +23,6 @@ use Rattle.alb_reader.specs.declared.draft.TimeLine.{TimeLine}
 use Rattle.alb_reader.specs.declared.draft.PairLine.{PairLine}
 use Rattle.alb_reader.specs.declared.fault.AlbKind.{AlbKind}
 use Rattle.alb_reader.specs.declared.fault.AlbKind.TheVariants.{BadTask, RepeatedTask, BadArc}
-use Rattle.alb_reader.proofs.Filing.{append_nil}
 use Rattle.alb_reader.proofs.Upto.{right_snoc}
 
 -- a line that stands where a list of what is kept of lines has something

@@ -1,5 +1,5 @@
 -- A line of a section is taken.
-use Rattle.std.proofs.Common.{◌≡◌, ◌∙◌, ℕ, suc, ◌<◌, Bool, true, false, cond, nat_eq, List, [], ◌∷◌, ◌++◌, length, map, Option, Some, None, refl, sym, ap, subst, arith}
+use Rattle.std.proofs.Common.{◌≡◌, ◌∙◌, ℕ, suc, ◌<◌, Bool, true, false, cond, nat_eq, List, [], ◌∷◌, ◌++◌, length, map, Some, None, refl, sym, ap, subst, arith}
 use Rattle.std.proofs.lemmas.Bool.{false≢true}
 use Rattle.std.proofs.lemmas.Bool.Decides.{nat_tests}
 use Rattle.alb_reader.specs.declared.fault.AlbKind.TheVariants.{Range}
@@ -8,18 +8,15 @@ use Rattle.line_io.specs.declared.text.Num.TheVariants.{Value}
 use Rattle.std.specs.Option.{is_some as is_there}
 use Rattle.in2_reader.specs.Contents.{Lines}
 use Rattle.in2_reader.specs.Pairs.{pair_in}
-use Rattle.alb_reader.specs.Sections.{mark_of, section_after, under, has_heading}
+use Rattle.alb_reader.specs.Sections.{mark_of, section_after, under}
 use Rattle.alb_reader.specs.Faults.{line_fault, mark_fault, body_fault, single, some_fault, timed, timed_fault, pair_fault}
 use Rattle.alb_reader.specs.Answers.{value, first_number}
 use Rattle.alb_reader.specs.Drafts.{IsDraft, is_some, time_line, pair_line}
 use Rattle.alb_reader.specs.declared.draft.Draft.{Draft}
-use Rattle.alb_reader.specs.declared.draft.TimeLine.{TimeLine}
-use Rattle.alb_reader.specs.declared.draft.PairLine.{PairLine}
-use Rattle.alb_reader.specs.declared.fault.AlbKind.{AlbKind}
 use Rattle.alb_reader.specs.declared.mark.Section.{Section}
 use Rattle.alb_reader.specs.declared.mark.Section.TheVariants.{Tasks, Cycle, Strength, Times, Pairs}
 use Rattle.alb_reader.specs.declared.mark.Mark.TheVariants.{Body}
-use Rattle.alb_reader.proofs.Filing.{append_nil, map_append, body_draft, with_line, still}
+use Rattle.alb_reader.proofs.Filing.{map_append, body_draft, still}
 
 is_empty : (xs : Lines) → is_some xs ≡ false → xs ≡ []
 is_empty [] e = refl

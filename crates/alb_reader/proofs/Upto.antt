@@ -2,7 +2,7 @@
 use Rattle.std.proofs.Common.{◌≡◌, ◌∙◌, ℕ, Bool, true, false, cond, List, [], ◌∷◌, ◌++◌, Option, Some, None, refl, sym, ap, subst}
 use Rattle.in2_reader.specs.Contents.{Lines}
 use Rattle.alb_reader.specs.Sections.{mark_of, before_end, end_line, is_end, is_end_mark}
-use Rattle.alb_reader.specs.Faults.{AreRightFrom, AreRight, IsFirstWrong, line_fault}
+use Rattle.alb_reader.specs.Faults.{AreRightFrom, AreRight, line_fault}
 use Rattle.std.specs.Prelude.{Err}
 use Rattle.alb_reader.specs.Answers.{IsFormFault}
 use Rattle.alb_reader.specs.Drafts.{IsDraft, IsDrafted, IsWhole, IsAmid, IsWrong, error_at}

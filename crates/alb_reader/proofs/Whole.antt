@@ -1,5 +1,5 @@
 -- From the draft of the lines up to the end mark to what the text says.
-use Rattle.std.proofs.Common.{◌≡◌, ◌∙◌, ℕ, zero, suc, ◌+◌, ◌<◌, ◌≤◌, ◌&&◌, Bool, true, false, cond, nat_eq, nat_lt, List, [], ◌∷◌, ◌++◌, length, get_or, map, Option, Some, None, refl, sym, ap, subst, arith, inl, inr, ◌⊎◌}
+use Rattle.std.proofs.Common.{◌≡◌, ◌∙◌, ℕ, zero, suc, ◌<◌, ◌≤◌, ◌&&◌, Bool, true, false, cond, nat_eq, nat_lt, List, [], ◌∷◌, ◌++◌, length, map, Option, Some, None, refl, sym, ap, subst, arith, inl, inr}
 use Rattle.std.specs.Option.{is_some as is_there}
 use Rattle.std.proofs.lemmas.Bool.{and_parts, cases_lt}
 use Rattle.std.proofs.lemmas.Bool.Decides.{nat_tests}
@@ -17,8 +17,8 @@ use Rattle.in2_reader.specs.declared.pair.Pair.{Pair}
 use Rattle.in2_reader.specs.declared.pair.Pair.TheVariants.{Arc, BadArc as NoTasks, End as MinusOnes, Other}
 use Rattle.in2_reader.proofs.Ranges.{number_most}
 use Rattle.alb_reader.specs.Sections.{under, before_end}
-use Rattle.alb_reader.specs.Faults.{timed, timed_by, value_or_0, gap_split, task_named, time_said, task_fault, arc_fault, members_fault, AreRight, AreRightFrom, some_fault}
-use Rattle.alb_reader.specs.Answers.{value, first_number, tasks_said, times_of, times_said, time_of, arcs_of, arcs_said, with_pair, cycle_said, AllNamed, IsFormed, IsFormFault, IsFilled, IsFillFault, IsAlbReading, IsAlbFault, IsAlbRead}
+use Rattle.alb_reader.specs.Faults.{timed_by, value_or_0, gap_split, task_named, time_said, task_fault, arc_fault, members_fault, AreRight, AreRightFrom}
+use Rattle.alb_reader.specs.Answers.{value, first_number, times_of, times_said, time_of, arcs_of, arcs_said, with_pair, AllNamed, IsFormed, IsFormFault, IsFilled, IsFillFault, IsAlbRead}
 use Rattle.alb_reader.specs.Drafts.{IsDraft, IsWhole, IsDrafted, is_some, time_line, pair_line}
 use Rattle.std.specs.Prelude.{Ok, Err}
 use Rattle.std.specs.declared.vec.Vec.{Vec}
@@ -32,7 +32,6 @@ use Rattle.alb_reader.specs.declared.draft.Draft.{Draft}
 use Rattle.alb_reader.specs.declared.draft.TimeLine.{TimeLine}
 use Rattle.alb_reader.specs.declared.mark.Section.TheVariants.{Tasks, Cycle, Times, Pairs}
 use Rattle.alb_reader.specs.declared.fault.AlbFault.{AlbFault}
-use Rattle.alb_reader.specs.declared.fault.AlbKind.{AlbKind}
 use Rattle.alb_reader.specs.declared.fault.AlbKind.TheVariants.{MissingSection, BadArc}
 use Rattle.alb_reader.specs.declared.answer.AlbRead.{AlbRead}
 use Rattle.alb_reader.specs.declared.answer.AlbRead.TheVariants as reads

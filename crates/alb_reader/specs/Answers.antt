@@ -1,5 +1,5 @@
 -- What an ALB text says, and what reading it answers.
-use Rattle.std.specs.Prelude.{◌≡◌, ◌⊎◌, ℕ, suc, ◌<◌, Bool, true, false, cond, nat_eq, List, [], ◌∷◌, length, map, Option, Some, None}
+use Rattle.std.specs.Prelude.{◌≡◌, ◌⊎◌, ℕ, suc, ◌<◌, true, false, cond, nat_eq, List, [], ◌∷◌, length, map, Option, Some, None}
 use Rattle.std.specs.List.{range_with_len}
 use Rattle.line_io.specs.Lines.{number_in}
 use Rattle.line_io.specs.declared.text.Num.{Num}
@@ -16,7 +16,6 @@ use Rattle.alb_reader.specs.Sections.{under, before_end, end_line}
 use Rattle.alb_reader.specs.Faults.{line_fault, task_fault, arc_fault, task_named, time_said, names, AreRight, IsFirstWrong}
 use Rattle.alb_reader.specs.declared.mark.Section.TheVariants.{Tasks, Cycle, Times, Pairs}
 use Rattle.alb_reader.specs.declared.fault.AlbFault.{AlbFault}
-use Rattle.alb_reader.specs.declared.fault.AlbKind.{AlbKind}
 use Rattle.alb_reader.specs.declared.answer.AlbRead.{AlbRead}
 use Rattle.alb_reader.specs.declared.answer.AlbRead.TheVariants.{Good, Fault, NoMemory}
 use Rattle.alb_reader.specs.declared.fault.AlbKind.TheVariants.{MissingEnd, MissingSection, MissingTask, Cycle as HasCycle}

@@ -1,9 +1,8 @@
 -- What is wrong with the lines of an ALB text.
-use Rattle.std.specs.Prelude.{◌≡◌, ◌⊎◌, ℕ, suc, ◌<◌, Bool, true, false, ◌&&◌, ◌||◌, cond, nat_eq, nat_le, nat_lt, List, [], ◌∷◌, ◌++◌, length, Option, Some, None}
+use Rattle.std.specs.Prelude.{◌≡◌, ℕ, Bool, false, ◌&&◌, ◌||◌, cond, nat_eq, nat_le, nat_lt, List, [], ◌∷◌, ◌++◌, length, Option, Some, None}
 use Rattle.line_io.specs.Lines.{number_in}
 use Rattle.line_io.specs.declared.text.Num.{Num}
 use Rattle.line_io.specs.declared.text.Num.TheVariants.{Value, NotANumber as NoNumber, Above}
-use Rattle.line_instance.specs.declared.arcs.Prec.{Prec}
 use Rattle.in2_reader.specs.Contents.{Lines}
 use Rattle.in2_reader.specs.Pairs.{pair_in, is_gap, onto_front, without_gaps_front}
 use Rattle.in2_reader.specs.declared.pair.Pair.{Pair}

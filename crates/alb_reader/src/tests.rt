@@ -14,8 +14,10 @@ fn answer(alloc: Global, bytes: &[u8]) -> Result<String, AllocError>
 {
     let mut text = String::new(alloc);
     match read_alb(alloc, bytes) {
-        AlbRead::Good(_inst, None) => text.push_str("good")?,
-        AlbRead::Good(_inst, Some(cycle)) => write!(text, "good at {cycle}")?,
+        AlbRead::Good(_inst, cycle) => match cycle {
+            None => text.push_str("good")?,
+            Some(cycle) => write!(text, "good at {cycle}")?,
+        },
         AlbRead::Fault(fault) => push_fault(&mut text, &fault)?,
         AlbRead::NoMemory => text.push_str("memory")?,
     }
@@ -130,7 +132,7 @@ fn refuses_what_is_said(rt: HostRuntime) -> Result<(), Fail> {
 
 #[test]
 fn writes_what_it_reads(rt: HostRuntime) -> Result<(), Fail> {
-    let AlbRead::Good(inst, None) = read_alb(rt.alloc(), CHAIN) else {
+    let AlbRead::Good(inst, _cycle) = read_alb(rt.alloc(), CHAIN) else {
         return Err(Fail::new("the chain isn't read"));
     };
     let text = write_alb(rt.alloc(), &inst, None)?;

@@ -1,24 +1,20 @@
 -- The numbers of a job lie in the ranges of their keys.
-use Rattle.std.proofs.Common.{◌≡◌, ◌∙◌, ℕ, zero, suc, ◌<◌, ◌≤◌, Bool, true, false, cond, List, [], ◌∷◌, length, take, refl, sym, ap, subst, arith, Option, Some, None, codes, inl, inr}
+use Rattle.std.proofs.Common.{◌≡◌, ◌∙◌, ℕ, suc, ◌<◌, ◌≤◌, Bool, true, false, cond, List, [], ◌∷◌, length, take, refl, sym, ap, subst, arith, Option, Some, None, codes, inl, inr}
 use Rattle.std.specs.Prelude.{slice_index_or, nat_le}
 use Rattle.std.specs.Str.{bytes_eq}
-use Rattle.std.proofs.lemmas.Bool.{cases_Bool, false≢true}
+use Rattle.std.proofs.lemmas.Bool.{cases_Bool}
 use Rattle.std.proofs.lemmas.Bool.Decides.{nat_tests}
 use Rattle.line_io.specs.Lines.{number_in, is_number, value_of as digits_value}
-use Rattle.line_io.specs.declared.text.Num.{Num}
 use Rattle.line_io.specs.declared.text.Num.TheVariants.{Value, NotANumber, Above}
 use Rattle.line_words.specs.Words.{Text, setting, value_by, value_of, or_else, sets}
 use Rattle.line_words.specs.Table.{takes, is_value, is_least, least_of, most_of, number_up_to, as_value, leads_with_nought}
-use Rattle.line_words.specs.Jobs.{setting_fault, fault_by, word_fault, fault_at, AreRight, Asks, IsJob, IsPageJob, IsCommanded, job_for, number_in_value, number_set, number_or, or_default}
-use Rattle.line_words.specs.Ranges.{IsBetween, IsSetBetween, IsInRange, HasRange}
+use Rattle.line_words.specs.Jobs.{setting_fault, fault_by, AreRight, Asks, IsJob, IsPageJob, IsCommanded, job_for, number_in_value, number_set, number_or, or_default}
+use Rattle.line_words.specs.Ranges.{IsBetween, IsSetBetween, IsInRange}
 use Rattle.line_words.specs.declared.command.Command.{Command}
 use Rattle.line_words.specs.declared.command.Command.TheVariants as command
-use Rattle.line_words.specs.declared.fault.UsageKind.{UsageKind}
 use Rattle.line_words.specs.declared.fault.UsageKind.TheVariants.{UnknownKey, RepeatedKey, BadValue}
 use Rattle.line_words.specs.declared.job.Job.{Job}
 use Rattle.line_words.specs.declared.job.Job.TheVariants.{Help, Version, Balance, Solve, Cycle, Check, Convert, Combine, Utility, Timeline, Try}
-use Rattle.line_words.specs.declared.reading.JobRead.{JobRead}
-use Rattle.line_words.specs.declared.reading.JobRead.TheVariants.{Good, Usage, NoMemory}
 use Rattle.line_words.proofs.Behind.{same_bytes}
 
 -- a setting at some place has the key and the value
@@ -40,6 +36,7 @@ set_at (word ∷ words) key value e = by_setting (set_at words key value) (setti
   where
     later : (value_of words key ≡ Some value → IsSetAt words key value) → or_else None (value_of words key) ≡ Some value → IsSetAt (word ∷ words) key value
     later f e = (let s = f e in record { place = suc s.place; within = omega (arith, s.within); is = s.is })
+
     by_key : (value_of words key ≡ Some value → IsSetAt words key value) → (p : Text × Text) → setting word ≡ Some p → (b : Bool) → bytes_eq p.0 key ≡ b
         → or_else (cond b (Some p.1) None) (value_of words key) ≡ Some value → IsSetAt (word ∷ words) key value
     by_key f p s true b e = record {
@@ -48,6 +45,7 @@ set_at (word ∷ words) key value e = by_setting (set_at words key value) (setti
       is = s ∙ ap (λ k. Some (k, p.1)) (same_bytes p.0 key b) ∙ ap (λ v. Some (key, v)) (some_same p.1 value e);
     }
     by_key f p s false b e = later f e
+
     by_setting : (value_of words key ≡ Some value → IsSetAt words key value) → (o : Option (Text × Text)) → setting word ≡ o → IsSetAt (word ∷ words) key value
     by_setting f None s = later f (sym (ap (λ o. or_else (value_by key o) (value_of words key)) s) ∙ e)
     by_setting f (Some p) s = by_key f p s (bytes_eq p.0 key) refl (sym (ap (λ o. or_else (value_by key o) (value_of words key)) s) ∙ e)

@@ -1,4 +1,4 @@
-use Rattle.std.proofs.Common.{◌∙◌, sym, ap, subst, refl}
+use Rattle.std.proofs.Common.{sym, subst, refl}
 use Rattle.in2_reader.specs.Contents.{contents_from, lines_in}
 use Rattle.alb_reader.specs.Sections.{before_end}
 use Rattle.alb_reader.specs.Answers.{IsAlbRead}

@@ -1,7 +1,4 @@
-use Rattle.std.proofs.Common.{◌≡◌, ◌∙◌, ◌++◌, ◌∷◌, [], ℕ, List, length, take, get_or, Err, None, sym, ap, subst}
-use Rattle.line_instance.specs.declared.arcs.Prec.{Prec}
-use Rattle.alb_reader.specs.Faults.{AreRight, arc_fault}
-use Rattle.alb_reader.specs.Answers.{arcs_of}
+use Rattle.std.proofs.Common.{◌∙◌, Err, None, sym, subst}
 use Rattle.alb_reader.specs.Fillings.{IsArcsRead}
 use Rattle.alb_reader.specs.declared.draft.PairLine.{PairLine}
 use Rattle.alb_reader.proofs.Stated.{arcs_on, arcs_stop}

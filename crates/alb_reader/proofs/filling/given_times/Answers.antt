@@ -1,4 +1,4 @@
-use Rattle.std.proofs.Common.{◌≡◌, ◌∙◌, ◌-◌, ◌≤◌, ◌<◌, ℕ, Err, None, get_or, inl, inr, sym, ap, subst, arith}
+use Rattle.std.proofs.Common.{◌∙◌, ◌-◌, Err, None, get_or, sym, ap, subst, arith}
 use Rattle.std.specs.Option.{is_some as is_there}
 use Rattle.std.proofs.lemmas.List.{length-set, get_or_read}
 use Rattle.alb_reader.specs.Fillings.{GivesTimes}

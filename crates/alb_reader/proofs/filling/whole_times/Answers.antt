@@ -1,4 +1,4 @@
-use Rattle.std.proofs.Common.{◌≡◌, ◌∙◌, ◌<◌, ℕ, Err, None, Some, get_or, sym, ap, subst, refl}
+use Rattle.std.proofs.Common.{Err, sym, subst, refl}
 use Rattle.alb_reader.specs.Fillings.{GivesWhole, IsThere}
 use Rattle.alb_reader.proofs.filling.whole_times.Goals as goal
 

@@ -1,4 +1,4 @@
-use Rattle.std.proofs.Common.{◌≡◌, ◌<◌, ℕ, length, get_or, Some, None, vec_len}
+use Rattle.std.proofs.Common.{◌≡◌, ◌<◌, ℕ, length, get_or, Some, None}
 use Rattle.alb_reader.proofs.filling.whole_times.Given as goal
 
 abbrev pub invariant-loop-i : goal.invariant-loop-i

@@ -1,6 +1,5 @@
-use Rattle.std.proofs.Common.{◌≡◌, ◌∙◌, ◌<◌, ℕ, List, Bool, false, IsTrue, refl, sym, ap, subst, arith}
+use Rattle.std.proofs.Common.{◌∙◌, ◌<◌, ℕ, List, Bool, refl, sym, subst, arith}
 use Rattle.std.proofs.lemmas.Bool.{false≢true}
-use Rattle.task_set.specs.Truths.{IsEmpty}
 use Rattle.task_set.proofs.Members.{members}
 use Rattle.line_instance.specs.Line.{Before}
 use Rattle.line_rules.specs.Balance.{Keeps, seat}

@@ -1,7 +1,6 @@
-use Rattle.std.proofs.Common.{◌≡◌, ◌∙◌, ◌<◌, ℕ, List, Bool, refl, sym, ap, subst, arith}
+use Rattle.std.proofs.Common.{◌∙◌, ◌<◌, ℕ, List, Bool, refl, sym, ap, subst, arith}
 use Rattle.task_set.proofs.Members.{members}
 use Rattle.line_instance.specs.Line.{Apart}
-use Rattle.line_rules.specs.Balance.{seat}
 use Rattle.line_rules.specs.Checked.{Meets}
 use Rattle.line_rules.proofs.All.{In-all}
 use Rattle.line_rules.proofs.Leaving.{IsLeft, all_left, below_least, one_less, none_left, members_less}

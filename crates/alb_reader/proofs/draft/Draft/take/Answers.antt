@@ -1,4 +1,4 @@
-use Rattle.std.proofs.Common.{◌∙◌, ap, sym, refl}
+use Rattle.std.proofs.Common.{◌∙◌, ap, sym}
 use Rattle.alb_reader.specs.Faults.{mark_fault}
 use Rattle.alb_reader.proofs.Filing.{end_draft, heading_taken}
 use Rattle.alb_reader.proofs.draft.Draft.take.Goals as goal

@@ -1,5 +1,4 @@
-use Rattle.std.proofs.Common.{◌∙◌, ◌++◌, ◌∷◌, [], ap, sym, refl, Some, rules}
-use Rattle.alb_reader.specs.Drafts.{IsDraft}
+use Rattle.std.proofs.Common.{◌∙◌, ◌++◌, ◌∷◌, [], ap, sym, refl, rules}
 use Rattle.alb_reader.proofs.Taking.{count_taken, cycle_taken, strength_taken, time_taken, pair_taken}
 use Rattle.alb_reader.proofs.draft.Draft.take_body.Goals as goal
 
