@@ -126,6 +126,9 @@ fn add_ready(
     free: &mut Set,
     places: &mut Set,
 ) {
+    if candidates == [0; 16] {
+        return;
+    }
     let absent = minus(set, tasks);
     let mut left = candidates;
     while let Some(i) = nearest(&left, side) {
@@ -200,6 +203,9 @@ fn fits(line: &Line, left: u64, tasks: &Set, other: &Set, i: u32) -> bool {
         return false;
     }
     let apart = &line.apart[i as usize];
+    if *apart == [0; 16] {
+        return true;
+    }
     let mut all = 0;
     for k in 0..16 {
         all |= (tasks[k] | other[k]) & apart[k];

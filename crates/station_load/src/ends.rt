@@ -54,6 +54,9 @@ impl End {
         ensures { Adds inst.now side set.now candidates self.old self.new }
     {
         let _tasks = inst.tasks();
+        if candidates.is_empty() {
+            return;
+        }
         let absent = set.minus(&self.tasks);
         let mut left = candidates;
         while let Some(task) = nearest(&left, side) {

@@ -55,7 +55,11 @@ fn fits(inst: &Instance, left: u64, here: &TaskSet, other: &TaskSet, task: u32) 
     if inst.time(task) > left {
         return false;
     }
-    here.union(other).meet(inst.apart(task)).is_empty()
+    let apart = inst.apart(task);
+    if apart.is_empty() {
+        return true;
+    }
+    here.union(other).meet(apart).is_empty()
 }
 
 // Goes over the places of a side from the last one down: gives up what stands there, up to the first place where a task may join.
