@@ -31,7 +31,7 @@ pub section_snoc : (now : Option Section) (xs : Lines) (l : ℕ × List ℕ) →
 section_snoc now [] l = refl
 section_snoc now (x ∷ xs) l = section_snoc (section_by now (mark_of x.1)) xs l
 
-kept_front : (here : Bool) (x : ℕ × List ℕ) (m : Mark) (ys zs : Lines) → kept here x m (ys ++ zs) ≡ kept here x m ys ++ zs
+pub kept_front : (here : Bool) (x : ℕ × List ℕ) (m : Mark) (ys zs : Lines) → kept here x m (ys ++ zs) ≡ kept here x m ys ++ zs
 kept_front here x (Heading s) ys zs = refl
 kept_front here x End ys zs = refl
 kept_front here x Unknown ys zs = refl
@@ -45,7 +45,7 @@ filed_snoc s now (x ∷ xs) l =
     ap (kept (is_in s now) x (mark_of x.1)) (filed_snoc s next xs l)
     ∙ kept_front (is_in s now) x (mark_of x.1) (filed s next xs) (kept (is_in s (section_after next xs)) l (mark_of l.1) [])
 
-or_assoc : (a b c : Bool) → (a || (b || c)) ≡ ((a || b) || c)
+pub or_assoc : (a b c : Bool) → (a || (b || c)) ≡ ((a || b) || c)
 or_assoc true b c = refl
 or_assoc false b c = refl
 

@@ -5,3 +5,7 @@ pub mod Upto
 pub mod Stated
 pub mod Whole
 pub mod Excluded
+pub mod Blocks
+pub mod Wording
+pub mod Back
+pub mod Restored

@@ -1,9 +1,12 @@
 -- The canonical ALB text of an instance.
-use Rattle.std.specs.Prelude.{◌≡◌, ℕ, ◌+◌, List, [], ◌++◌, codes, decimal, Option, Some, None}
+use Rattle.std.specs.Prelude.{◌≡◌, ◌↔◌, ℕ, ◌+◌, ◌<◌, ◌≤◌, List, [], ◌++◌, codes, decimal, Option, Some, None}
 use Rattle.std.specs.List.{flat_map, range_with_len}
 use Rattle.line_instance.specs.declared.arcs.Prec.{Prec}
-use Rattle.line_instance.specs.Line.{Line, tasks, time}
+use Rattle.line_instance.specs.Line.{Line, IsLine, IsRanked, Before, tasks, time}
 use Rattle.in2_reader.specs.Written.{AreCovers, pair_line}
+use Rattle.alb_reader.specs.Answers.{IsAlbRead}
+use Rattle.alb_reader.specs.declared.answer.AlbRead.{AlbRead}
+use Rattle.alb_reader.specs.declared.answer.AlbRead.TheVariants.{Good, Fault, NoMemory}
 
 -- the section of the number of tasks
 abbrev pub tasks_section : ℕ → List ℕ
@@ -35,3 +38,19 @@ pub record IsAlbText (line : Line) (cycle : Option ℕ) (bytes : List ℕ) : Typ
   pub ps : List Prec
   pub covers : AreCovers line ps
   pub text : bytes ≡ alb_text line ps cycle
+
+-- the answer is an instance of the line's times, in which the same tasks are before others, with the same cycle time; or memory is wanting
+abbrev pub IsReadBack : Line → Option ℕ → AlbRead → Type 0
+IsReadBack line cycle (Good l c) = (l.times ≡ line.times) × ((i j : ℕ) → j < tasks line → Before l i j ↔ Before line i j) × (c ≡ cycle)
+IsReadBack line cycle (Fault f) = ⊥
+IsReadBack line cycle NoMemory = Unit {0}
+
+-- a cycle time that is given is 1 to 10^18
+abbrev pub IsGivenCycle : Option ℕ → Type 0
+IsGivenCycle None = Unit {0}
+IsGivenCycle (Some c) = (1 ≤ c) × (c ≤ 1000000000000000000)
+
+-- Whatever reading the canonical text of a line answers is that line again, with its cycle time.
+abbrev pub EveryWrittenTextIsRead : Type 0
+EveryWrittenTextIsRead =
+    (line : Line) (cycle : Option ℕ) (bytes : List ℕ) (answer : AlbRead) → IsLine line → IsRanked line → IsGivenCycle cycle → IsAlbText line cycle bytes → IsAlbRead bytes answer → IsReadBack line cycle answer

@@ -5,6 +5,7 @@ mod answer;
 mod draft;
 mod fault;
 mod filling;
+pub mod laws;
 mod mark;
 mod reading;
 #[cfg(test)]

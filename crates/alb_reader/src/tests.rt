@@ -145,6 +145,23 @@ fn writes_what_it_reads(rt: HostRuntime) -> Result<(), Fail> {
     Ok(())
 }
 
+/// A text without its end mark has a fault, whatever else it lacks; the end of the last line isn't asked for.
+#[test]
+fn beginnings_of_a_text(rt: HostRuntime) -> Result<(), Fail> {
+    let mut text = Vec::new(rt.alloc());
+    for &byte in CHAIN {
+        let got = answer(rt.alloc(), &text)?;
+        if text.len() + 1 < CHAIN.len() {
+            assert!(rt; got.as_str().starts_with("line "));
+        } else {
+            assert_eq!(rt; got.as_str(), "good");
+        }
+        text.push(byte)?;
+    }
+    assert_eq!(rt; answer(rt.alloc(), &text)?.as_str(), "good");
+    Ok(())
+}
+
 /// So many lines of pairs of two tasks.
 fn many_pairs(alloc: Global, pairs: u32) -> Result<Vec<u8>, AllocError> {
     let mut text = Vec::new(alloc);

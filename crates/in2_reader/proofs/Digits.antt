@@ -114,7 +114,7 @@ not_comma b e = let l : nat_le 48 b ≡ true = left (nat_le 48 b) (nat_le b 57) 
 not_minus : (b : ℕ) → is_digit b ≡ true → nat_eq b 45 ≡ false
 not_minus b e = let l : nat_le 48 b ≡ true = left (nat_le 48 b) (nat_le b 57) e in grind (arith, nat_tests)
 
-not_gap : (b : ℕ) → is_digit b ≡ true → is_gap b ≡ false
+pub not_gap : (b : ℕ) → is_digit b ≡ true → is_gap b ≡ false
 not_gap b e = let l : nat_le 48 b ≡ true = left (nat_le 48 b) (nat_le b 57) e in grind (arith, nat_tests)
 
 comma_read : (ds es : List ℕ) → all_digits ds ≡ true → comma_split (ds ++ 44 ∷ es) ≡ Some (ds, es)
@@ -128,7 +128,7 @@ gaps_back [] e = refl
 gaps_back (b ∷ []) e = ap (λ t. cond t [] (b ∷ [])) (not_gap b (left (is_digit b) true e))
 gaps_back (b ∷ c ∷ ds) e = ap (with_front b) (gaps_back (c ∷ ds) (right (is_digit b) (all_digits (c ∷ ds)) e))
 
-gaps_front : (ds : List ℕ) → all_digits ds ≡ true → without_gaps_front ds ≡ ds
+pub gaps_front : (ds : List ℕ) → all_digits ds ≡ true → without_gaps_front ds ≡ ds
 gaps_front [] e = refl
 gaps_front (b ∷ ds) e = ap (λ t. cond t (without_gaps_front ds) (b ∷ ds)) (not_gap b (left (is_digit b) (all_digits ds) e))
 

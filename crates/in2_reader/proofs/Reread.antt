@@ -27,12 +27,12 @@ number_lines : ℕ → List ℕ → Lines
 number_lines k [] = []
 number_lines k (t ∷ ts) = (k, decimal t) ∷ number_lines (suc k) ts
 
-pair_lines : ℕ → List Prec → Lines
+unfoldable pub pair_lines : ℕ → List Prec → Lines
 pair_lines k [] = []
 pair_lines k (a ∷ ps) = (k, decimal (a.first + 1) ++ 44 ∷ decimal (a.«then» + 1)) ∷ pair_lines (suc k) ps
 
 -- the number of the line behind these
-after : {X : Type 0} → ℕ → List X → ℕ
+unfoldable pub after : {X : Type 0} → ℕ → List X → ℕ
 after k [] = k
 after k (x ∷ xs) = after (suc k) xs
 
@@ -66,7 +66,7 @@ one_pair k a rest h l =
     ap (λ r. r ++ rest) (pair_parts (a.first + 1) (a.«then» + 1) ∙ sym (append_assoc i (44 ∷ j) (10 ∷ []))) ∙ append_assoc (i ++ 44 ∷ j) (10 ∷ []) rest in
     ap (contents_from k) text ∙ content_read k (i ++ 44 ∷ j) rest solid (omega (arith, length-append i (44 ∷ j)))
 
-pairs_text : (k n : ℕ) (ps : List Prec) (rest : List ℕ) → n ≤ 1024 → AreArcs n ps → contents_from k (flat_map pair_line ps ++ rest) ≡ pair_lines k ps ++ contents_from (after k ps) rest
+pub pairs_text : (k n : ℕ) (ps : List Prec) (rest : List ℕ) → n ≤ 1024 → AreArcs n ps → contents_from k (flat_map pair_line ps ++ rest) ≡ pair_lines k ps ++ contents_from (after k ps) rest
 unfolding pair_lines after
 pairs_text k n [] rest m h = refl
 pairs_text k n (a ∷ ps) rest m h =
@@ -74,7 +74,7 @@ pairs_text k n (a ∷ ps) rest m h =
     ap (contents_from k) (append_assoc (pair_line a) (flat_map pair_line ps) rest) ∙ one_pair k a (flat_map pair_line ps ++ rest) (omega (arith, two.0)) (omega (arith, two.1))
     ∙ ap (λ r. (k, decimal (a.first + 1) ++ 44 ∷ decimal (a.«then» + 1)) ∷ r) (pairs_text (suc k) n ps rest m (λ i l. h (suc i) (omega arith)))
 
-pairs_are : (k n : ℕ) (ps : List Prec) → n ≤ 1024 → AreArcs n ps → map (pair_at Ordered n) (pair_lines k ps) ≡ map Arc ps
+pub pairs_are : (k n : ℕ) (ps : List Prec) → n ≤ 1024 → AreArcs n ps → map (pair_at Ordered n) (pair_lines k ps) ≡ map Arc ps
 unfolding pair_lines
 pairs_are k n [] m h = refl
 pairs_are k n (a ∷ ps) m h =
