@@ -1,0 +1,6 @@
+pub mod Numbers
+pub mod Rows
+pub mod Cert
+pub mod Faults
+pub mod Sent
+pub mod Pieces

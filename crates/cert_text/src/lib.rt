@@ -1,0 +1,12 @@
+//! The text of a certificate: one spelling, written and read line by line.
+#![tactic(auto)]
+
+mod fault;
+mod kept_text;
+mod lines;
+mod output;
+mod writer;
+mod writing;
+
+pub use fault::{CertFault, CertKind};
+pub use writer::{write_cert, write_list};
