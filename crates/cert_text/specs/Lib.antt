@@ -4,3 +4,5 @@ pub mod Cert
 pub mod Faults
 pub mod Sent
 pub mod Pieces
+pub mod Reading
+pub mod LineReading

@@ -1,11 +1,13 @@
 //! The text of a certificate: one spelling, written and read line by line.
 #![tactic(auto)]
 
+mod draft;
 mod fault;
 mod kept_text;
 mod lines;
 mod output;
 mod writer;
+mod words;
 mod writing;
 
 pub use fault::{CertFault, CertKind};
