@@ -4,3 +4,9 @@ pub mod Spelling
 pub mod Parts
 pub mod Lists
 pub mod SetWords
+pub mod NumberWords
+pub mod SetText
+pub mod CiteWords
+pub mod EntryLines
+pub mod OtherLines
+pub mod FrameLines

@@ -17,7 +17,7 @@ onto_none : (b : ℕ) (o : Option (List ℕ × List ℕ)) → onto_part b o ≡ 
 onto_none b None e = refl
 onto_none b (Some q) e = (cc)
 
-chosen : {A : Type 0} (t : Bool) (x y z : A) → cond t x y ≡ z → ((t ≡ true) × (x ≡ z)) ⊎ ((t ≡ false) × (y ≡ z))
+pub chosen : {A : Type 0} (t : Bool) (x y z : A) → cond t x y ≡ z → ((t ≡ true) × (x ≡ z)) ⊎ ((t ≡ false) × (y ≡ z))
 chosen true x y z e = inl (refl, e)
 chosen false x y z e = inr (refl, e)
 

@@ -6,3 +6,4 @@ pub mod Sent
 pub mod Pieces
 pub mod Reading
 pub mod LineReading
+pub mod Taking

@@ -100,6 +100,15 @@ load_in n Both word = do
 unfoldable pub last_in : ℕ → Mode → List ℕ → Option (Option Load)
 last_in n mode word = cond (is_none word) (Some None) (load_in n mode word >>= λ l. Some (Some l))
 
+-- what a frame says behind its set
+unfoldable pub frame_rest_in : ℕ → Mode → List Bool → List ℕ → Option FrameDraft
+frame_rest_in n mode s bytes = do
+  m ← number_first bytes
+  w ← parts_at 32 m.1
+  last ← last_in n mode w.0
+  cites ← cites_in w.1
+  Some (record { mode = mode; set = s; most = m.0; last = last; cites = cites })
+
 -- the line of a frame over n tasks
 unfoldable pub frame_in : ℕ → List ℕ → Option FrameDraft
 frame_in n line = do
@@ -108,11 +117,7 @@ frame_in n line = do
   mode ← mode_in l.0
   p ← parts_at 32 l.1
   s ← set_in n p.0
-  m ← number_first p.1
-  w ← parts_at 32 m.1
-  last ← last_in n mode w.0
-  cites ← cites_in w.1
-  Some (record { mode = mode; set = s; most = m.0; last = last; cites = cites })
+  frame_rest_in n mode s p.1
 
 -- the numbers of frames and the cycle of a trail
 unfoldable pub trail_numbers : List ℕ → Option (Option (ℕ × ℕ))

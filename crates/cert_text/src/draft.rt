@@ -254,7 +254,7 @@ fn last(word: &[u8], tasks: u32, mode: Mode) -> Option<Option<Load>>
 }
 
 /// What the line of a frame says. An error where memory is wanting.
-#[tactic(auto, unfolding(crate::specs::LineReading::frame_in))]
+#[tactic(auto, unfolding(crate::specs::LineReading::frame_in, crate::specs::LineReading::frame_rest_in))]
 pub fn frame(alloc: Global, line: &[u8], tasks: u32) -> Result<Option<FrameDraft>, AllocError>
     requires { tasks ≤ 1024 }
     ensures { IfOk result (λ f. f ≡ frame_in tasks line.now) }
