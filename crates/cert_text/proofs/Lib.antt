@@ -10,3 +10,5 @@ pub mod CiteWords
 pub mod EntryLines
 pub mod OtherLines
 pub mod FrameLines
+pub mod Composing
+pub mod Sequencing

@@ -7,3 +7,5 @@ pub mod Pieces
 pub mod Reading
 pub mod LineReading
 pub mod Taking
+pub mod Judging
+pub mod Answering

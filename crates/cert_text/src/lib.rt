@@ -6,6 +6,7 @@ mod fault;
 mod kept_text;
 mod lines;
 mod output;
+mod pattern;
 mod source;
 mod writer;
 mod words;
