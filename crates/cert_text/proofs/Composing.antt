@@ -158,7 +158,7 @@ none_so_far {V = V} row ranged passed whole vs e =
     let P : List V → Type 0 = λ x. SoFar row ranged passed whole x whole passed in
     subst P (sym e) (record { said = λ k v h. (cc); text = refl; count = omega arith })
 
-said_more : {V : Type 0} (ranged : V → Type 0) (vs : List V) (w : V) → ((k : ℕ) (v : V) → slice_get vs k ≡ Some v → ranged v) → ranged w → (k : ℕ) (v : V) → slice_get (vs ++ w ∷ []) k ≡ Some v → ranged v
+pub said_more : {V : Type 0} (ranged : V → Type 0) (vs : List V) (w : V) → ((k : ℕ) (v : V) → slice_get vs k ≡ Some v → ranged v) → ranged w → (k : ℕ) (v : V) → slice_get (vs ++ w ∷ []) k ≡ Some v → ranged v
 said_more {V = V} ranged [] w h r zero v e = let P : V → Type 0 = ranged in subst P (same_Some w v e) r
 said_more ranged [] w h r (suc k) v e = absurd (none-some v e)
 said_more {V = V} ranged (x ∷ vs) w h r zero v e = h zero v e
@@ -237,3 +237,14 @@ handed_on (Err y) e P Q h q = subst Q (sym h) q
 pub read_error : {V : Type 0} (g : Grammar V) (passed after : ℕ) (text rest : List ℕ) (r : Result V ReadError) (e : ReadError) → IsErrAnd r (λ y. y ≡ e) → IsRead g passed text rest after (Err e) → IsRead g passed text rest after r
 read_error g passed after text rest (Ok v) e h q = absurd h
 read_error g passed after text rest (Err y) e h q = error_is g passed after text rest y e h q
+
+pub none_said : {V : Type 0} (ranged : V → Type 0) (vs : List V) → vs ≡ [] → AreSaid ranged 0 vs
+none_said {V = V} ranged vs e = let P : List V → Type 0 = λ x. AreSaid ranged 0 x in subst P (sym e) (record { many = refl; each = λ k v h. absurd (none-some v h) })
+
+pub one_more_said : {V : Type 0} (ranged : V → Type 0) (n : ℕ) (vs us : List V) (w : V) → AreSaid ranged n vs → ranged w → us ≡ vs ++ w ∷ [] → AreSaid ranged (n + 1) us
+one_more_said {V = V} ranged n vs us w s r e =
+    let P : List V → Type 0 = λ x. AreSaid ranged (n + 1) x in
+    subst P (sym e) (record { many = length-append vs (w ∷ []) ∙ ap (λ k. k + 1) s.many; each = said_more ranged vs w s.each r })
+
+pub all_said : {V : Type 0} (ranged : V → Type 0) (n m : ℕ) (vs : List V) → AreSaid ranged n vs → n ≡ m → AreSaid ranged m vs
+all_said ranged n m vs s e = record { many = s.many ∙ e; each = s.each }

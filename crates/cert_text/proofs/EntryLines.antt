@@ -40,18 +40,18 @@ draft_of g (seat kind station side) = record { cycle = 0; set = []; most = 0; wh
 draft_of g (trail t) = record { cycle = 0; set = []; most = 0; why = why.Bound }
 draft_of g (frame n mode s m last cites) = record { cycle = 0; set = []; most = 0; why = why.Bound }
 
-bound_text : (n : ℕ) (c : Option ℕ) (s : List Bool) (m : ℕ) → row_text (bound n c s m) ≡ codes "bound" ++ 32 ∷ front c (set_text n s ++ 32 ∷ number_text m)
+pub bound_text : (n : ℕ) (c : Option ℕ) (s : List Bool) (m : ℕ) → row_text (bound n c s m) ≡ codes "bound" ++ 32 ∷ front c (set_text n s ++ 32 ∷ number_text m)
 unfolding row_text
 bound_text n None s m = refl
 bound_text n (Some c) s m = refl
 
-branch_text : (n : ℕ) (c : Option ℕ) (mode : Mode) (s : List Bool) (m : ℕ) (cites : List ℕ) → row_text (branch n c mode s m cites)
+pub branch_text : (n : ℕ) (c : Option ℕ) (mode : Mode) (s : List Bool) (m : ℕ) (cites : List ℕ) → row_text (branch n c mode s m cites)
     ≡ codes "branch" ++ 32 ∷ ((mode_letter mode ∷ []) ++ 32 ∷ front c (set_text n s ++ 32 ∷ (number_text m ++ 32 ∷ cites_text cites)))
 unfolding row_text
 branch_text n None mode s m cites = refl
 branch_text n (Some c) mode s m cites = refl
 
-swap_text : (n : ℕ) (c : Option ℕ) (s : List Bool) (m cite out into : ℕ) → row_text (swap n c s m cite out into)
+pub swap_text : (n : ℕ) (c : Option ℕ) (s : List Bool) (m cite out into : ℕ) → row_text (swap n c s m cite out into)
     ≡ codes "swap" ++ 32 ∷ front c (set_text n s ++ 32 ∷ (number_text m ++ 32 ∷ (number_text cite ++ 32 ∷ (number_text out ++ 32 ∷ number_text into))))
 unfolding row_text
 swap_text n None s m cite out into = refl
@@ -120,7 +120,7 @@ split_word : (n : ℕ) (g : Option ℕ) (word rest : List ℕ) → lacks 32 word
 unfolding entry_in
 split_word n g word rest e = ap (λ o. o >>= λ k. by_word n g k.0 k.1) (split_again 32 word rest e)
 
-same_entry : (n m : ℕ) (a b : Bool) → entry n a ≡ entry m b → (n ≡ m) × (a ≡ b)
+pub same_entry : (n m : ℕ) (a b : Bool) → entry n a ≡ entry m b → (n ≡ m) × (a ≡ b)
 same_entry n m a b e = (cc, cc)
 
 pub entry_again : (n : ℕ) (g : Option ℕ) (r : Row) → form_of r ≡ entry n (not (given g)) → entry_in n g (row_text r) ≡ Some (draft_of g r)

@@ -12,3 +12,7 @@ pub mod OtherLines
 pub mod FrameLines
 pub mod Composing
 pub mod Sequencing
+pub mod Judged
+pub mod JudgedMore
+pub mod JudgedEntry
+pub mod JudgedResult

@@ -9,3 +9,5 @@ pub mod LineReading
 pub mod Taking
 pub mod Judging
 pub mod Answering
+pub mod Patterns
+pub mod Parts

@@ -7,6 +7,8 @@ mod kept_text;
 mod lines;
 mod output;
 mod pattern;
+mod patterns;
+mod reading;
 mod source;
 mod writer;
 mod words;

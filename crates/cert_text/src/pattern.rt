@@ -1,7 +1,7 @@
 //! The reading of one line for a value, and of so many.
-ghost use Rattle.std.specs.Prelude.{ℕ, ◌≡◌, List, MatchResult};
+ghost use Rattle.std.specs.Prelude.{ℕ, ◌≡◌, MatchResult, IfOk, Ok, Err};
 ghost use Rattle.cert_text.specs.Rows.{Row};
-ghost use Rattle.cert_text.specs.Judging.{IsJudged, IsRead, one, each};
+ghost use Rattle.cert_text.specs.Judging.{IsJudged, IsRead, AreSaid, one, each};
 ghost use Rattle.cert_text.specs.Answering.{error_at};
 
 use crate::fault::{CertFault, CertKind, LineError, ReadError};
@@ -53,7 +53,8 @@ pub fn read_line<S: Source, P: Pattern>(
 ) -> Result<P::Value, ReadError>
     requires can { P.can_read pattern.now }
     requires some { (v : P.Value) × P.may_say pattern.now v }
-    ensures { S.told → IsRead (one (P.line_of pattern.now) (P.may_say pattern.now)) (S.number source.old) (S.left source.old) (S.left source.new) (S.number source.new) result }
+    ensures said { IfOk result (λ v. P.may_say pattern.now v) }
+    ensures read { S.told → IsRead (one (P.line_of pattern.now) (P.may_say pattern.now)) (S.number source.old) (S.left source.old) (S.left source.new) (S.number source.new) result }
 {
     match source.advance() {
         Taken::Stopped => return Err(ReadError::Stopped),
@@ -82,7 +83,8 @@ where
     P::Value: Drop,
     requires can { P.can_read pattern.now }
     requires some { (v : P.Value) × P.may_say pattern.now v }
-    ensures { S.told → MatchResult result
+    ensures said { IfOk result (λ values. AreSaid (P.may_say pattern.now) count values.items) }
+    ensures read { S.told → MatchResult result
         (λ values. IsRead (each (P.line_of pattern.now) (P.may_say pattern.now) count) (S.number source.old) (S.left source.old) (S.left source.new) (S.number source.new) (Ok values.items))
         (λ error. IsRead (each (P.line_of pattern.now) (P.may_say pattern.now) count) (S.number source.old) (S.left source.old) (S.left source.new) (S.number source.new) (Err error)) }
 {

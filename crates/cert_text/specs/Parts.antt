@@ -1,0 +1,37 @@
+-- The parts of a certificate's text as grammars.
+use Rattle.std.specs.Prelude.{◌≡◌, ℕ, ◌+◌, ◌≤◌, List, [], ◌∷◌, ◌++◌, length, map, Option, Some, None, codes}
+use Rattle.line_rules.specs.Ranges.{IsCycle, IsAsked, IsPlacing, AreEntries, IsTrailOrNone, AreBounds, IsClaim, IsInRange}
+use Rattle.line_rules.specs.declared.types.LineKind.{LineKind}
+use Rattle.line_rules.specs.declared.types.Balance.{Balance as Assignment}
+use Rattle.line_rules.specs.declared.types.Entry.{Entry}
+use Rattle.line_rules.specs.declared.types.Trail.{Trail}
+use Rattle.line_rules.specs.declared.types.Ask.{Ask}
+use Rattle.line_rules.specs.declared.types.Claim.{Claim}
+use Rattle.line_rules.specs.declared.types.Certificate.{Certificate}
+use Rattle.cert_text.specs.Rows.{fixed}
+use Rattle.cert_text.specs.Cert.{head_rows, bounds_rows, list_rows, trail_rows, claim_rows, cert_rows}
+use Rattle.cert_text.specs.Faults.{Grammar}
+use Rattle.cert_text.specs.declared.reading.Head.{Head}
+use Rattle.cert_text.specs.declared.reading.EntryList.{EntryList}
+use Rattle.cert_text.specs.declared.reading.Placed.{Placed}
+
+-- the kind of line, 1 to 1,024 tasks, the question
+pub record IsHeadOf (h : Head) : Type 0 where
+  pub some : 1 ≤ h.tasks
+  pub few : h.tasks ≤ 1024
+  pub ask : IsAsked h.ask
+
+abbrev pub heads : Grammar Head
+heads = record { rows = λ h. head_rows h.kind h.tasks h.ask; ranged = IsHeadOf }
+
+-- a trail or none, beside so many entries
+abbrev pub trails : ℕ → ℕ → Grammar (Option Trail)
+trails n count = record { rows = trail_rows n; ranged = IsTrailOrNone n count }
+
+-- entries and a trail
+abbrev pub lists : ℕ → Grammar EntryList
+lists n = record { rows = λ x. list_rows n x.entries x.trail; ranged = λ x. AreEntries n x.entries × IsTrailOrNone n (length x.entries) x.trail }
+
+-- the certificates
+abbrev pub certs : Grammar Certificate
+certs = record { rows = cert_rows; ranged = IsInRange }
