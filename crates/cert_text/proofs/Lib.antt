@@ -16,3 +16,5 @@ pub mod Judged
 pub mod JudgedMore
 pub mod JudgedEntry
 pub mod JudgedResult
+pub mod Wholes
+pub mod Failing

@@ -8,8 +8,8 @@ use Rattle.line_rules.specs.declared.types.Trail.{Trail}
 use Rattle.line_rules.specs.declared.types.Ask.{Ask}
 use Rattle.line_rules.specs.declared.types.Claim.{Claim}
 use Rattle.line_rules.specs.declared.types.Certificate.{Certificate}
-use Rattle.cert_text.specs.Rows.{fixed}
-use Rattle.cert_text.specs.Cert.{head_rows, bounds_rows, list_rows, trail_rows, claim_rows, cert_rows}
+use Rattle.cert_text.specs.Rows.{fixed, keyed}
+use Rattle.cert_text.specs.Cert.{seat_row, head_rows, bounds_rows, list_rows, trail_rows, claim_rows, cert_rows}
 use Rattle.cert_text.specs.Faults.{Grammar}
 use Rattle.cert_text.specs.declared.reading.Head.{Head}
 use Rattle.cert_text.specs.declared.reading.EntryList.{EntryList}
@@ -31,6 +31,17 @@ trails n count = record { rows = trail_rows n; ranged = IsTrailOrNone n count }
 -- entries and a trail
 abbrev pub lists : ℕ → Grammar EntryList
 lists n = record { rows = λ x. list_rows n x.entries x.trail; ranged = λ x. AreEntries n x.entries × IsTrailOrNone n (length x.entries) x.trail }
+
+-- the bounds behind the lower one, up to the places
+pub record IsPlacedOf (kind : LineKind) (n : ℕ) (p : Placed) : Type 0 where
+  pub upper : IsCycle p.upper
+  pub balance : IsPlacing kind n (record { stations = p.stations; place = p.places })
+
+abbrev pub placings : LineKind → ℕ → Grammar Placed
+placings kind n = record {
+  rows = λ p. keyed (codes "upper") p.upper ∷ keyed (codes "balance") p.stations ∷ map (seat_row kind) p.places;
+  ranged = IsPlacedOf kind n;
+}
 
 -- the certificates
 abbrev pub certs : Grammar Certificate

@@ -11,7 +11,7 @@ use line_rules::{Ask, Entry, LineKind, OpenFrame, Seatplace, Why};
 use std::alloc::Global;
 
 /// The greatest cycle.
-const MAX_CYCLE: u64 = 1_000_000_000_000_000_000;
+pub const MAX_CYCLE: u64 = 1_000_000_000_000_000_000;
 
 /// The word of a line with a number.
 #[derive(Clone, Copy)]

@@ -1,12 +1,12 @@
 //! The reading of a certificate's text, line by line.
 ghost use Rattle.std.specs.Prelude.{ℕ, ◌≤◌, IfOk, length};
 ghost use Rattle.cert_text.specs.Judging.{IsRead};
-ghost use Rattle.cert_text.specs.Parts.{IsHeadOf, heads, trails, lists};
+ghost use Rattle.cert_text.specs.Parts.{IsHeadOf, IsPlacedOf, heads, trails, lists, placings};
 ghost use Rattle.line_rules.specs.Ranges.{AreEntries, IsTrailOrNone};
 
 use crate::fault::ReadError;
 use crate::pattern::{read_line, read_lines};
-use crate::patterns::{AskLine, EntryLine, FrameLine, Key, KindLine, NumberLine, TrailLine};
+use crate::patterns::{AskLine, EntryLine, FrameLine, Key, KindLine, MAX_CYCLE, NumberLine, SeatLine, TrailLine};
 use crate::source::Source;
 use line_rules::{Ask, Entries, Frames, LineKind, Places, Trail};
 use std::alloc::Global;
@@ -126,5 +126,49 @@ pub fn read_entries<S: Source>(
     Ok(EntryList {
         entries: Entries::from_vec(entries),
         trail,
+    })
+}
+
+/// Reads the bounds behind the lower one, up to the places.
+pub fn read_placed<S: Source>(
+    alloc: Global,
+    source: &mut S,
+    kind: LineKind,
+    tasks: u32,
+) -> Result<Placed, ReadError>
+    requires some { 1 ≤ tasks }
+    requires few { tasks ≤ 1024 }
+    ensures said { IfOk result (IsPlacedOf kind tasks) }
+    ensures read { S.told → IsRead (placings kind tasks) (S.number source.old) (S.left source.old) (S.left source.new) (S.number source.new) result }
+{
+    let upper = read_line(
+        alloc,
+        source,
+        &NumberLine {
+            key: Key::Upper,
+            low: 1,
+            high: MAX_CYCLE,
+        },
+    )?;
+    let stations = read_line(
+        alloc,
+        source,
+        &NumberLine {
+            key: Key::Balance,
+            low: 1,
+            high: 1024,
+        },
+    )?;
+    let stations = stations as u32;
+    let places = read_lines(
+        alloc,
+        source,
+        &SeatLine { kind, stations },
+        u64::from(tasks),
+    )?;
+    Ok(Placed {
+        upper,
+        stations,
+        places: Places::from_vec(places),
     })
 }

@@ -1,0 +1,335 @@
+-- The parts of a certificate's text, and that each part's lines say one value at most.
+use Rattle.std.proofs.Common.{◌≡◌, ◌≢◌, ℕ, zero, suc, ◌+◌, ◌-◌, ◌<◌, ◌≤◌, List, [], ◌∷◌, ◌++◌, Bool, true, length, map, refl, sym, ◌∙◌, ap, subst, arith, Some, None, Option, Ok, Err, Result, lit≤, lit<}
+use Rattle.std.specs.Prelude.{codes, slice_get}
+use Rattle.std.proofs.lemmas.Option.{same_Some, none-some}
+use Rattle.std.proofs.lemmas.List.{map-append, append-nil}
+use Rattle.line_rules.specs.Ranges.{IsCycle, IsAsked, IsPlaced, IsPlacing, AreEntries, AreCites, IsEntry, IsWhy, IsFrame, IsLast, IsLoadLike, IsTrailLike, IsTrailOrNone}
+use Rattle.task_set.specs.Truths.{IsEmpty}
+use Rattle.line_rules.specs.declared.types.LineKind.{LineKind}
+use Rattle.line_rules.specs.declared.types.LineKind.TheVariants.{Straight, U}
+use Rattle.line_rules.specs.declared.types.Mode.{Mode}
+use Rattle.line_rules.specs.declared.types.Mode.TheVariants.{Fore, Back, Both}
+use Rattle.line_rules.specs.declared.types.Load.{Load}
+use Rattle.line_rules.specs.declared.types.Side.{Side}
+use Rattle.line_rules.specs.declared.types.Side.TheVariants.{Front}
+use Rattle.line_rules.specs.declared.types.Seatplace.{Seatplace}
+use Rattle.line_rules.specs.declared.types.Entry.{Entry}
+use Rattle.line_rules.specs.declared.types.Why.{Why}
+use Rattle.line_rules.specs.declared.types.Why.TheVariants as whys
+use Rattle.line_rules.specs.declared.types.OpenFrame.{OpenFrame}
+use Rattle.line_rules.specs.declared.types.Trail.{Trail}
+use Rattle.line_rules.specs.declared.types.Ask.{Ask}
+use Rattle.line_rules.specs.declared.types.Ask.TheVariants as ask
+use Rattle.cert_text.specs.Rows.{Row, fixed, keyed, trail, entry, form_of, row_text}
+use Rattle.cert_text.specs.Cert.{kind_row, ask_row, seat_row, why_row, entry_row, frame_row, trail_rows, list_rows}
+use Rattle.cert_text.specs.Reading.{greatest}
+use Rattle.cert_text.specs.LineReading.{keyed_in, seat_in, trail_in, entry_in, frame_in}
+use Rattle.cert_text.specs.Faults.{Grammar}
+use Rattle.cert_text.specs.Judging.{one, AreSaid, each, then_, IsRead}
+use Rattle.cert_text.specs.Patterns.{IsHead, IsSaid, given_row, entry_of}
+use Rattle.cert_text.specs.Parts.{IsHeadOf, IsPlacedOf, heads, trails, lists, placings}
+use Rattle.cert_text.specs.declared.reading.Head.{Head}
+use Rattle.cert_text.specs.declared.reading.EntryList.{EntryList}
+use Rattle.cert_text.specs.declared.draft.Draft.{Draft}
+use Rattle.cert_text.specs.declared.draft.FrameDraft.{FrameDraft}
+use Rattle.cert_text.proofs.NumberWords.{lacks}
+use Rattle.cert_text.proofs.SetText.{clip, clip_same}
+use Rattle.cert_text.proofs.CiteWords.{sat}
+use Rattle.cert_text.proofs.Judged.{small_is}
+use Rattle.cert_text.proofs.JudgedEntry.{small_cites, some_frame}
+use Rattle.cert_text.proofs.OtherLines.{keyed_again, trail_again, sat_trail, seat_again, side_read}
+use Rattle.cert_text.proofs.EntryLines.{draft_of, entry_again}
+use Rattle.cert_text.proofs.FrameLines.{load_read, last_read, the_frame, frame_again}
+use Rattle.cert_text.proofs.Sequencing.{Unique, unique_one, unique_each, unique_then, texts, Same, same_read}
+
+-- a number within a range
+abbrev pub within : ℕ → ℕ → ℕ → Type 0
+within low high v = (low ≤ v) × (v ≤ high)
+
+abbrev pub numbers : List ℕ → ℕ → ℕ → Grammar ℕ
+numbers key low high = one (keyed key) (within low high)
+
+-- what is read twice is the same
+twice : {D : Type 0} (reads : List ℕ → Option D) (a b : List ℕ) (x y : D) → reads a ≡ Some x → reads b ≡ Some y → a ≡ b → x ≡ y
+twice reads a b x y p q e = same_Some x y (sym p ∙ ap reads e ∙ q)
+
+pub unique_number : (key : List ℕ) (low high : ℕ) → lacks 32 key ≡ true → high < greatest → Unique (numbers key low high)
+unique_number key low high l h = unique_one (keyed key) (within low high)
+    (λ v w a b e. sym (small_is v (omega (arith, a.1))) ∙ twice (keyed_in key) (row_text (keyed key v)) (row_text (keyed key w)) (sat v) (sat w) (keyed_again key v l) (keyed_again key w l) e ∙ small_is w (omega (arith, b.1)))
+
+fixed_text : (t : List ℕ) → row_text (fixed t) ≡ t
+unfolding row_text
+fixed_text t = refl
+
+abbrev pub kinds : Grammar LineKind
+kinds = one kind_row (λ k. Unit {0})
+
+same_kind : (v w : LineKind) → row_text (kind_row v) ≡ row_text (kind_row w) → v ≡ w
+same_kind Straight Straight e = refl
+same_kind U U e = refl
+same_kind Straight U e = (let f : codes "line straight" ≡ codes "line u" = sym (fixed_text (codes "line straight")) ∙ e ∙ fixed_text (codes "line u") in (cc))
+same_kind U Straight e = (let f : codes "line u" ≡ codes "line straight" = sym (fixed_text (codes "line u")) ∙ e ∙ fixed_text (codes "line straight") in (cc))
+
+pub unique_kind : Unique kinds
+unique_kind = unique_one kind_row (λ k. Unit {0}) (λ v w a b e. same_kind v w e)
+
+abbrev pub tasks_grammar : Grammar ℕ
+tasks_grammar = numbers (codes "tasks") 1 1024
+
+pub unique_tasks : Unique tasks_grammar
+unique_tasks = unique_number (codes "tasks") 1 1024 refl (lit< tt)
+
+abbrev pub asks : Grammar Ask
+asks = one ask_row IsAsked
+
+abbrev pub tasks_ask : LineKind → Grammar (ℕ × Ask)
+tasks_ask k = then_ tasks_grammar (λ n. asks)
+
+abbrev pub head_parts : Grammar (LineKind × (ℕ × Ask))
+head_parts = then_ kinds tasks_ask
+
+pub one_cycle : IsCycle 1
+one_cycle = record { some = lit≤ tt; limit = lit≤ tt }
+
+pub some_ask : (a : Ask) × IsAsked a
+some_ask = (ask.Stations 1, one_cycle)
+
+pub some_tasks_ask : (k : LineKind) → Unit {0} → (b : ℕ × Ask) × (tasks_ask k).ranged b
+some_tasks_ask k t = ((1, ask.Stations 1), ((lit≤ tt, lit≤ tt), one_cycle))
+
+pub same_heads : Same head_parts heads
+same_heads = record {
+  to = λ v. record { kind = v.0; tasks = v.1.0; ask = v.1.1 };
+  from = λ h. (h.kind, (h.tasks, h.ask));
+  to_ranged = λ v r. record { some = r.1.0.0; few = r.1.0.1; ask = r.1.1 };
+  from_ranged = λ h r. (tt, ((r.some, r.few), r.ask));
+  to_rows = λ v r. refl;
+  from_rows = λ h r. refl;
+}
+
+-- heads of trails
+abbrev pub trail_heads : Grammar (Option (ℕ × ℕ))
+trail_heads = one trail IsHead
+
+small_trail : (t : Option (ℕ × ℕ)) → IsHead t → sat_trail t ≡ t
+small_trail None h = refl
+small_trail (Some t) h = ap (λ z. Some (z, sat t.1)) (small_is t.0 (omega (arith, h.1))) ∙ ap (λ z. Some (t.0, z)) (small_is t.1 (omega (arith, h.2.limit)))
+
+pub unique_trail_head : Unique trail_heads
+unique_trail_head = unique_one trail IsHead
+    (λ v w a b e. sym (small_trail v a) ∙ twice trail_in (row_text (trail v)) (row_text (trail w)) (sat_trail v) (sat_trail w) (trail_again v) (trail_again w) e ∙ small_trail w b)
+
+-- how many frames the head of a trail says
+abbrev pub frames_said : Option (ℕ × ℕ) → ℕ
+frames_said None = 0
+frames_said (Some t) = t.0
+
+abbrev pub frames_of : ℕ → ℕ → Option (ℕ × ℕ) → Grammar (List OpenFrame)
+frames_of n count h = each (frame_row n) (IsFrame n count) (frames_said h)
+
+abbrev pub trail_parts : ℕ → ℕ → Grammar (Option (ℕ × ℕ) × List OpenFrame)
+trail_parts n count = then_ trail_heads (frames_of n count)
+
+abbrev to_trail : Option (ℕ × ℕ) → List OpenFrame → Option Trail
+to_trail None fs = None
+to_trail (Some t) fs = Some (record { cycle = t.1; frames = fs })
+
+abbrev from_trail : Option Trail → Option (ℕ × ℕ) × List OpenFrame
+from_trail None = (None, [])
+from_trail (Some t) = (Some (length t.frames, t.cycle), t.frames)
+
+no_items : {A : Type 0} (xs : List A) → length xs ≡ 0 → xs ≡ []
+no_items [] e = refl
+no_items (x ∷ xs) e = absurd (omega arith)
+
+pub same_trails : (n count : ℕ) → Same (trail_parts n count) (trails n count)
+same_trails n count = record {
+  to = λ v. to_trail v.0 v.1;
+  from = from_trail;
+  to_ranged = λ v r. to_range v.0 v.1 r.0 r.1;
+  from_ranged = from_range;
+  to_rows = λ v r. to_row v.0 v.1 r.1;
+  from_rows = λ w r. from_row w;
+}
+ where
+  to_range : (h : Option (ℕ × ℕ)) (fs : List OpenFrame) → IsHead h → AreSaid (IsFrame n count) (frames_said h) fs → IsTrailOrNone n count (to_trail h fs)
+  to_range None fs a b = tt
+  to_range (Some t) fs a b = record { cycle = a.2; some = omega (arith, a.0, b.many); few = omega (arith, a.1, b.many); each = b.each }
+  from_range : (w : Option Trail) → IsTrailOrNone n count w → (trail_parts n count).ranged (from_trail w)
+  from_range None r = (tt, record { many = refl; each = λ k f e. absurd (none-some f e) })
+  from_range (Some t) r = ((r.some, r.few, r.cycle), record { many = refl; each = r.each })
+  to_row : (h : Option (ℕ × ℕ)) (fs : List OpenFrame) → AreSaid (IsFrame n count) (frames_said h) fs → trail_rows n (to_trail h fs) ≡ trail h ∷ map (frame_row n) fs
+  to_row None fs b = ap (λ x. trail None ∷ map (frame_row n) x) (sym (no_items fs b.many))
+  to_row (Some t) fs b = ap (λ x. trail (Some (x, t.1)) ∷ map (frame_row n) fs) b.many
+  from_row : (w : Option Trail) → (trail_parts n count).rows (from_trail w) ≡ trail_rows n w
+  from_row None = refl
+  from_row (Some t) = refl
+
+-- so many entries
+abbrev pub entries_of : ℕ → ℕ → Grammar (List Entry)
+entries_of n count = each (given_row n None) (IsSaid n count None) count
+
+abbrev pub entry_rest : ℕ → ℕ → Grammar (List Entry × Option Trail)
+entry_rest n count = then_ (entries_of n count) (λ es. trails n count)
+
+abbrev pub list_parts : ℕ → Grammar (ℕ × (List Entry × Option Trail))
+list_parts n = then_ (numbers (codes "entries") 0 20000000) (entry_rest n)
+
+pub unique_count : Unique (numbers (codes "entries") 0 20000000)
+unique_count = unique_number (codes "entries") 0 20000000 refl (lit< tt)
+
+pub some_rest : (n count : ℕ) → ((e : Entry) × IsSaid n count None e) → (b : List Entry × Option Trail) × (entry_rest n count).ranged b
+some_rest n count s = ((copies count s.0, None), (record { many = copies_length count s.0; each = said count s.0 s.1 }, tt))
+ where
+  copies : ℕ → Entry → List Entry
+  copies zero e = []
+  copies (suc k) e = e ∷ copies k e
+  copies_length : (k : ℕ) (e : Entry) → length (copies k e) ≡ k
+  copies_length zero e = refl
+  copies_length (suc k) e = omega (arith, copies_length k e)
+  said : (k : ℕ) (e : Entry) → IsSaid n count None e → (j : ℕ) (v : Entry) → slice_get (copies k e) j ≡ Some v → IsSaid n count None v
+  said zero e h j v q = absurd (none-some v q)
+  said (suc k) e h zero v q = let P : Entry → Type 0 = IsSaid n count None in subst P (same_Some e v q) h
+  said (suc k) e h (suc j) v q = said k e h j v q
+
+pub same_lists : (n : ℕ) → Same (list_parts n) (lists n)
+same_lists n = record {
+  to = λ v. record { entries = v.1.0; trail = v.1.1 };
+  from = λ x. (length x.entries, (x.entries, x.trail));
+  to_ranged = λ v r. to_range v.0 v.1.0 v.1.1 r.0.1 r.1.0 r.1.1;
+  from_ranged = λ x r. ((omega arith, r.0.many), (record { many = refl; each = λ k e q. (r.0.each k e q, tt) }, r.1));
+  to_rows = λ v r. ap (λ k. keyed (codes "entries") k ∷ (map (entry_row n) v.1.0 ++ trail_rows n v.1.1)) r.1.0.many;
+  from_rows = λ x r. refl;
+}
+ where
+  to_range : (count : ℕ) (es : List Entry) (t : Option Trail) → count ≤ 20000000 → AreSaid (IsSaid n count None) count es → IsTrailOrNone n count t → AreEntries n es × IsTrailOrNone n (length es) t
+  to_range count es t a b c =
+      let P : ℕ → Type 0 = λ k. AreEntries n es × IsTrailOrNone n k t in
+      let Q : ℕ → Type 0 = λ k. (j : ℕ) (e : Entry) → slice_get es j ≡ Some e → IsEntry n k e in
+      subst P (sym b.many) (record { many = omega (arith, b.many); each = subst Q (sym b.many) (λ j e q. (b.each j e q).0) }, c)
+
+pub some_frames : (n count : ℕ) (h : Option (ℕ × ℕ)) → IsHead h → (fs : List OpenFrame) × (frames_of n count h).ranged fs
+some_frames n count h r = (copies (frames_said h) f.0, record { many = copies_length (frames_said h) f.0; each = said (frames_said h) f.0 f.1 })
+ where
+  f : (x : OpenFrame) × IsFrame n count x
+  f = some_frame n count
+  copies : ℕ → OpenFrame → List OpenFrame
+  copies zero e = []
+  copies (suc k) e = e ∷ copies k e
+  copies_length : (k : ℕ) (e : OpenFrame) → length (copies k e) ≡ k
+  copies_length zero e = refl
+  copies_length (suc k) e = omega (arith, copies_length k e)
+  said : (k : ℕ) (e : OpenFrame) → IsFrame n count e → (j : ℕ) (v : OpenFrame) → slice_get (copies k e) j ≡ Some v → IsFrame n count v
+  said zero e h j v q = absurd (none-some v q)
+  said (suc k) e h zero v q = let P : OpenFrame → Type 0 = IsFrame n count in subst P (same_Some e v q) h
+  said (suc k) e h (suc j) v q = said k e h j v q
+
+pub trail_said : (n count : ℕ) (t : ℕ × ℕ) (fs : List OpenFrame) → IsHead (Some t) → AreSaid (IsFrame n count) t.0 fs → IsTrailOrNone n count (Some (record { cycle = t.1; frames = fs }))
+trail_said n count t fs a b = record { cycle = a.2; some = omega (arith, a.0, b.many); few = omega (arith, a.1, b.many); each = b.each }
+
+pub list_said : (n count : ℕ) (es : List Entry) (t : Option Trail) → count ≤ 20000000 → AreSaid (IsSaid n count None) count es → IsTrailOrNone n count t → AreEntries n es × IsTrailOrNone n (length es) t
+unfolding same_lists
+list_said n count es t a b c = (same_lists n).to_ranged (count, (es, t)) ((omega arith, a), (b, c))
+
+-- an entry is read as it was
+entry_back : (n count : ℕ) (e : Entry) (w : Why) → n ≤ 1024 → count ≤ 20000000 → IsEntry n count e → IsWhy n count w → entry_of (draft_of None (why_row n (Some e.cycle) e w)) ≡ record { set = e.set; most = e.most; cycle = e.cycle; why = w }
+entry_back n count e w a b h k =
+    parts w k
+ where
+  the : List Bool → ℕ → ℕ → Why → Entry
+  the s m c w = record { set = s; most = m; cycle = c; why = w }
+  up_to : (v w : Why) → v ≡ w → the (clip n e.set) (sat e.most) (sat e.cycle) v ≡ the e.set e.most e.cycle w
+  up_to v w q =
+      ap (λ z. the z (sat e.most) (sat e.cycle) v) (clip_same n e.set a h.set) ∙ ap (λ z. the e.set z (sat e.cycle) v) (small_is e.most (omega (arith, h.most)))
+      ∙ ap (λ z. the e.set e.most z v) (small_is e.cycle (omega (arith, h.cycle.limit))) ∙ ap (λ z. the e.set e.most e.cycle z) q
+  parts : (w : Why) → IsWhy n count w → entry_of (draft_of None (why_row n (Some e.cycle) e w)) ≡ the e.set e.most e.cycle w
+  parts whys.Bound k = up_to whys.Bound whys.Bound refl
+  parts (whys.Branch mode cites) k = up_to (whys.Branch mode (map sat cites)) (whys.Branch mode cites) (ap (whys.Branch mode) (small_cites count cites (omega arith) k))
+  parts (whys.Swap cite out into) k =
+      up_to (whys.Swap (sat cite) (sat (suc out) - 1) (sat (suc into) - 1)) (whys.Swap cite out into)
+      (ap (λ z. whys.Swap z (sat (suc out) - 1) (sat (suc into) - 1)) (small_is cite (omega (arith, k.0))) ∙ ap (λ z. whys.Swap cite z (sat (suc into) - 1)) (omega (arith, k.1.0)) ∙ ap (λ z. whys.Swap cite out z) (omega (arith, k.1.1)))
+
+why_form : (n : ℕ) (c : ℕ) (e : Entry) (w : Why) → form_of (why_row n (Some c) e w) ≡ entry n true
+why_form n c e whys.Bound = refl
+why_form n c e (whys.Branch mode cites) = refl
+why_form n c e (whys.Swap cite out into) = refl
+
+pub unique_entries : (n count : ℕ) → n ≤ 1024 → count ≤ 20000000 → Unique (entries_of n count)
+unique_entries n count a b = unique_each (given_row n None) (IsSaid n count None) count
+    (λ v w p q e.
+        sym (entry_back n count v v.why a b p.0 p.0.why)
+        ∙ ap entry_of (twice (entry_in n None) (row_text (given_row n None v)) (row_text (given_row n None w)) (draft_of None (given_row n None v)) (draft_of None (given_row n None w))
+        (entry_again n None (given_row n None v) (why_form n v.cycle v v.why)) (entry_again n None (given_row n None w) (why_form n w.cycle w w.why)) e)
+        ∙ entry_back n count w w.why a b q.0 q.0.why)
+
+pub list_read : (n count : ℕ) (es : List Entry) (t : Option Trail) (passed after : ℕ) (text rest : List ℕ) → IsRead (list_parts n) passed text rest after (Ok (count, (es, t))) → IsRead (lists n) passed text rest after (Ok (record { entries = es; trail = t }))
+unfolding same_lists
+list_read n count es t passed after text rest h = same_read (list_parts n) (lists n) passed after text rest (count, (es, t)) (same_lists n) h
+
+pub trail_read : (n count : ℕ) (t : ℕ × ℕ) (fs : List OpenFrame) (passed after : ℕ) (text rest : List ℕ) → IsRead (trail_parts n count) passed text rest after (Ok (Some t, fs)) → IsRead (trails n count) passed text rest after (Ok (Some (record { cycle = t.1; frames = fs })))
+unfolding same_trails
+trail_read n count t fs passed after text rest h = same_read (trail_parts n count) (trails n count) passed after text rest (Some t, fs) (same_trails n count) h
+
+-- the bounds behind the lower one
+abbrev pub uppers : Grammar ℕ
+uppers = numbers (codes "upper") 1 1000000000000000000
+
+abbrev pub station_numbers : Grammar ℕ
+station_numbers = numbers (codes "balance") 1 1024
+
+abbrev pub seats_of : LineKind → ℕ → ℕ → Grammar (List Seatplace)
+seats_of kind n m = each (seat_row kind) (IsPlaced kind m) n
+
+abbrev pub seats_behind : LineKind → ℕ → Grammar (ℕ × List Seatplace)
+seats_behind kind n = then_ station_numbers (seats_of kind n)
+
+abbrev pub placing_parts : LineKind → ℕ → Grammar (ℕ × (ℕ × List Seatplace))
+placing_parts kind n = then_ uppers (λ u. seats_behind kind n)
+
+pub unique_upper : Unique uppers
+unique_upper = unique_number (codes "upper") 1 1000000000000000000 refl (lit< tt)
+
+pub unique_stations : Unique station_numbers
+unique_stations = unique_number (codes "balance") 1 1024 refl (lit< tt)
+
+pub some_seat : (kind : LineKind) (m : ℕ) → 1 ≤ m → (s : Seatplace) × IsPlaced kind m s
+some_seat Straight m h = (record { station = 1; side = Front }, record { first = lit≤ tt; last = h; side = refl })
+some_seat U m h = (record { station = 1; side = Front }, record { first = lit≤ tt; last = h; side = tt })
+
+pub some_seats : (kind : LineKind) (n m : ℕ) → within 1 1024 m → (b : List Seatplace) × (seats_of kind n m).ranged b
+some_seats kind n m h = (copies n f.0, record { many = copies_length n f.0; each = said n f.0 f.1 })
+ where
+  f : (x : Seatplace) × IsPlaced kind m x
+  f = some_seat kind m h.0
+  copies : ℕ → Seatplace → List Seatplace
+  copies zero e = []
+  copies (suc k) e = e ∷ copies k e
+  copies_length : (k : ℕ) (e : Seatplace) → length (copies k e) ≡ k
+  copies_length zero e = refl
+  copies_length (suc k) e = omega (arith, copies_length k e)
+  said : (k : ℕ) (e : Seatplace) → IsPlaced kind m e → (j : ℕ) (v : Seatplace) → slice_get (copies k e) j ≡ Some v → IsPlaced kind m v
+  said zero e h j v q = absurd (none-some v q)
+  said (suc k) e h zero v q = let P : Seatplace → Type 0 = IsPlaced kind m in subst P (same_Some e v q) h
+  said (suc k) e h (suc j) v q = said k e h j v q
+
+pub some_behind : (kind : LineKind) (n u : ℕ) → within 1 1000000000000000000 u → (b : ℕ × List Seatplace) × (seats_behind kind n).ranged b
+some_behind kind n u h =
+    let s = some_seats kind n 1 (lit≤ tt, lit≤ tt) in
+    ((1, s.0), ((lit≤ tt, lit≤ tt), s.1))
+
+pub placing_said : (kind : LineKind) (n u m : ℕ) (ps : List Seatplace) → within 1 1000000000000000000 u → within 1 1024 m → AreSaid (IsPlaced kind m) n ps → IsPlacedOf kind n (record { upper = u; stations = m; places = ps })
+placing_said kind n u m ps a b c = record { upper = record { some = a.0; limit = a.1 }; balance = record { some = b.0; few = b.1; each = c.many; placed = c.each } }
+
+pub same_placings : (kind : LineKind) (n : ℕ) → Same (placing_parts kind n) (placings kind n)
+same_placings kind n = record {
+  to = λ v. record { upper = v.0; stations = v.1.0; places = v.1.1 };
+  from = λ p. (p.upper, (p.stations, p.places));
+  to_ranged = λ v r. placing_said kind n v.0 v.1.0 v.1.1 r.0 r.1.0 r.1.1;
+  from_ranged = λ p r. ((r.upper.some, r.upper.limit), ((r.balance.some, r.balance.few), record { many = r.balance.each; each = r.balance.placed }));
+  to_rows = λ v r. refl;
+  from_rows = λ p r. refl;
+}
+
+pub placing_read : (kind : LineKind) (n u m : ℕ) (ps : List Seatplace) (passed after : ℕ) (text rest : List ℕ) → IsRead (placing_parts kind n) passed text rest after (Ok (u, (m, ps))) → IsRead (placings kind n) passed text rest after (Ok (record { upper = u; stations = m; places = ps }))
+unfolding same_placings
+placing_read kind n u m ps passed after text rest h = same_read (placing_parts kind n) (placings kind n) passed after text rest (u, (m, ps)) (same_placings kind n) h
