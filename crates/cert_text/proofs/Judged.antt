@@ -14,13 +14,12 @@ use Rattle.line_rules.specs.declared.types.Ask.{Ask}
 use Rattle.line_rules.specs.declared.types.Ask.TheVariants as ask
 use Rattle.std.proofs.lemmas.Bool.{false≢true}
 use Rattle.cert_text.specs.Numbers.{number_text}
-use Rattle.cert_text.specs.declared.patterns.Version.TheVariants as versions
 use Rattle.cert_text.specs.Rows.{Row, fixed, keyed, seat, bound, branch, swap, trail, frame, Form, number, text, form_of, row_text}
 use Rattle.cert_text.specs.Reading.{greatest, parts_at}
 use Rattle.cert_text.specs.LineReading.{keyed_in}
 use Rattle.cert_text.specs.Cert.{ask_row, kind_row}
 use Rattle.cert_text.specs.Judging.{HasFormOf, IsJudged}
-use Rattle.cert_text.specs.Patterns.{key_text, opening_row, IsOpening, version_row}
+use Rattle.cert_text.specs.Patterns.{key_text, opening_row, IsOpening}
 use Rattle.cert_text.specs.declared.patterns.Opening.{Opening}
 use Rattle.cert_text.specs.declared.patterns.Opening.TheVariants as opening
 use Rattle.cert_text.specs.declared.fault.LineError.{LineError}
@@ -111,9 +110,8 @@ pub kind_not : (line u w : List ℕ) → false ≡ bytes_eq line u → u ≡ cod
 kind_not line u w e s f t (Straight, h, r, a, b) = fixed_not line (codes "line straight") u r e s a b
 kind_not line u w e s f t (U, h, r, a, b) = fixed_not line (codes "line u") w r f t a b
 
-pub version_not : (line u w : List ℕ) → false ≡ bytes_eq line u → u ≡ codes "line balance certificate 2" → false ≡ bytes_eq line w → w ≡ codes "line balance certificate 1" → HasFormOf version_row (λ v. Unit {0}) line → ⊥
-version_not line u w e s f t (versions.Second, h, r, a, b) = fixed_not line (codes "line balance certificate 2") u r e s a b
-version_not line u w e s f t (versions.First, h, r, a, b) = fixed_not line (codes "line balance certificate 1") w r f t a b
+pub version_not : (line u : List ℕ) → false ≡ bytes_eq line u → u ≡ codes "line balance certificate 2" → HasFormOf {V = Unit {0}} (λ v. fixed (codes "line balance certificate 2")) (λ v. Unit {0}) line → ⊥
+version_not line u e s f = fixed_not line (codes "line balance certificate 2") u f.2 e s f.3 f.4
 
 -- questions
 pub ask_cycle : (line : List ℕ) (x : ℕ) → keyed_in (codes "cycle") line ≡ Some x → IsCycle x → row_text (ask_row (ask.Stations x)) ≡ line

@@ -18,3 +18,4 @@ pub mod JudgedEntry
 pub mod JudgedResult
 pub mod Wholes
 pub mod Failing
+pub mod Claims

@@ -1,10 +1,11 @@
 -- The parts of a certificate's text, and that each part's lines say one value at most.
-use Rattle.std.proofs.Common.{◌≡◌, ◌≢◌, ℕ, zero, suc, ◌+◌, ◌-◌, ◌<◌, ◌≤◌, List, [], ◌∷◌, ◌++◌, Bool, true, length, map, refl, sym, ◌∙◌, ap, subst, arith, Some, None, Option, Ok, Err, Result, lit≤, lit<}
+use Rattle.std.proofs.Common.{◌≡◌, ◌≢◌, ℕ, zero, suc, ◌+◌, ◌-◌, ◌<◌, ◌≤◌, List, [], ◌∷◌, ◌++◌, Bool, true, false, replicate, get_or, length, map, refl, sym, ◌∙◌, ap, subst, arith, Some, None, Option, Ok, Err, Result, lit≤, lit<}
 use Rattle.std.specs.Prelude.{codes, slice_get}
 use Rattle.std.proofs.lemmas.Option.{same_Some, none-some}
-use Rattle.std.proofs.lemmas.List.{map-append, append-nil}
+use Rattle.std.proofs.lemmas.List.{map-append, append-nil, ext_get_or, get_or-replicate, length-replicate}
 use Rattle.line_rules.specs.Ranges.{IsCycle, IsAsked, IsPlaced, IsPlacing, AreEntries, AreCites, IsEntry, IsWhy, IsFrame, IsLast, IsLoadLike, IsTrailLike, IsTrailOrNone}
 use Rattle.task_set.specs.Truths.{IsEmpty}
+use Rattle.line_rules.specs.Balance.{IsSide}
 use Rattle.line_rules.specs.declared.types.LineKind.{LineKind}
 use Rattle.line_rules.specs.declared.types.LineKind.TheVariants.{Straight, U}
 use Rattle.line_rules.specs.declared.types.Mode.{Mode}
@@ -26,7 +27,7 @@ use Rattle.cert_text.specs.Reading.{greatest}
 use Rattle.cert_text.specs.LineReading.{keyed_in, seat_in, trail_in, entry_in, frame_in}
 use Rattle.cert_text.specs.Faults.{Grammar}
 use Rattle.cert_text.specs.Judging.{one, AreSaid, each, then_, IsRead}
-use Rattle.cert_text.specs.Patterns.{IsHead, IsSaid, given_row, entry_of}
+use Rattle.cert_text.specs.Patterns.{IsHead, IsSaid, given_row, entry_of, frame_of}
 use Rattle.cert_text.specs.Parts.{IsHeadOf, IsPlacedOf, heads, trails, lists, placings}
 use Rattle.cert_text.specs.declared.reading.Head.{Head}
 use Rattle.cert_text.specs.declared.reading.EntryList.{EntryList}
@@ -35,7 +36,7 @@ use Rattle.cert_text.specs.declared.draft.FrameDraft.{FrameDraft}
 use Rattle.cert_text.proofs.NumberWords.{lacks}
 use Rattle.cert_text.proofs.SetText.{clip, clip_same}
 use Rattle.cert_text.proofs.CiteWords.{sat}
-use Rattle.cert_text.proofs.Judged.{small_is}
+use Rattle.cert_text.proofs.Judged.{small_is, keyed_value, keyed_other}
 use Rattle.cert_text.proofs.JudgedEntry.{small_cites, some_frame}
 use Rattle.cert_text.proofs.OtherLines.{keyed_again, trail_again, sat_trail, seat_again, side_read}
 use Rattle.cert_text.proofs.EntryLines.{draft_of, entry_again}
@@ -333,3 +334,85 @@ same_placings kind n = record {
 pub placing_read : (kind : LineKind) (n u m : ℕ) (ps : List Seatplace) (passed after : ℕ) (text rest : List ℕ) → IsRead (placing_parts kind n) passed text rest after (Ok (u, (m, ps))) → IsRead (placings kind n) passed text rest after (Ok (record { upper = u; stations = m; places = ps }))
 unfolding same_placings
 placing_read kind n u m ps passed after text rest h = same_read (placing_parts kind n) (placings kind n) passed after text rest (u, (m, ps)) (same_placings kind n) h
+
+-- lines of a whole are those of one value at most, where those of its parts are
+pub unique_same : {V W : Type 0} (g : Grammar V) (h : Grammar W) (s : Same g h) → Unique g → ((w : W) → h.ranged w → s.to (s.from w) ≡ w) → Unique h
+unique_same g h s u back v w a b x y e =
+    let f = u (s.from v) (s.from w) (s.from_ranged v a) (s.from_ranged w b) x y
+        (ap (λ r. texts r ++ x) (s.from_rows v a) ∙ e ∙ ap (λ r. texts r ++ y) (sym (s.from_rows w b))) in
+    (sym (back v a) ∙ ap s.to f.0 ∙ back w b, f.1)
+
+pub unique_heads : Unique heads
+unfolding same_heads
+unique_heads = unique_same head_parts heads same_heads (unique_then kinds tasks_ask unique_kind (λ k t. unique_then tasks_grammar (λ n. asks) unique_tasks (λ n r. unique_asks))) (λ h r. refl)
+ where
+  same_ask : (v w : Ask) → IsAsked v → IsAsked w → row_text (ask_row v) ≡ row_text (ask_row w) → v ≡ w
+  same_ask (ask.Stations a) (ask.Stations b) p q e = ap (λ z. ask.Stations z) (keyed_value (codes "cycle") (row_text (keyed (codes "cycle") a)) b a refl (sym e) (omega (arith, q.limit)) (keyed_again (codes "cycle") a refl ∙ ap (λ z. Some z) (small_is a (omega (arith, p.limit)))))
+  same_ask (ask.Cycle a) (ask.Cycle b) p q e = ap (λ z. ask.Cycle z) (keyed_value (codes "stations") (row_text (keyed (codes "stations") a)) b a refl (sym e) (omega (arith, q.1)) (keyed_again (codes "stations") a refl ∙ ap (λ z. Some z) (small_is a (omega (arith, p.1)))))
+  same_ask (ask.Stations a) (ask.Cycle b) p q e = (let w : codes "stations" ≡ codes "cycle" = keyed_other (codes "stations") (codes "cycle") (row_text (keyed (codes "cycle") a)) b (sat a) refl refl (sym e) (keyed_again (codes "cycle") a refl) in (cc))
+  same_ask (ask.Cycle a) (ask.Stations b) p q e = (let w : codes "cycle" ≡ codes "stations" = keyed_other (codes "cycle") (codes "stations") (row_text (keyed (codes "stations") a)) b (sat a) refl refl (sym e) (keyed_again (codes "stations") a refl) in (cc))
+  unique_asks : Unique asks
+  unique_asks = unique_one ask_row IsAsked same_ask
+
+same_seat : (kind : LineKind) (m : ℕ) → m ≤ 1024 → (v w : Seatplace) → IsPlaced kind m v → IsPlaced kind m w → row_text (seat_row kind v) ≡ row_text (seat_row kind w) → v ≡ w
+same_seat kind m l v w a b e =
+    let f : (sat v.station, side_read kind v.side) ≡ (sat w.station, side_read kind w.side) =
+        twice (seat_in kind) (row_text (seat_row kind v)) (row_text (seat_row kind w)) (sat v.station, side_read kind v.side) (sat w.station, side_read kind w.side) (seat_again kind v.station v.side) (seat_again kind w.station w.side) e in
+    let n : v.station ≡ w.station = sym (small_is v.station (omega (arith, a.last))) ∙ ap (λ z. z.0) f ∙ small_is w.station (omega (arith, b.last)) in
+    let s : v.side ≡ w.side = sym (side_same kind v.side a.side) ∙ ap (λ z. z.1) f ∙ side_same kind w.side b.side in
+    ap (λ z. record { station = z; side = v.side }) n ∙ ap (λ z. record { station = w.station; side = z }) s
+ where
+  side_same : (kind : LineKind) (side : Side) → IsSide kind side → side_read kind side ≡ side
+  side_same Straight side h = sym h
+  side_same U side h = refl
+
+pub unique_placings : (kind : LineKind) (n : ℕ) → Unique (placings kind n)
+unfolding same_placings
+unique_placings kind n = unique_same (placing_parts kind n) (placings kind n) (same_placings kind n)
+    (unique_then uppers (λ u. seats_behind kind n) unique_upper (λ u r. unique_then station_numbers (seats_of kind n) unique_stations (λ m s. unique_each (seat_row kind) (IsPlaced kind m) n (same_seat kind m s.1))))
+    (λ p r. refl)
+
+-- a set without members
+empty_is : (s : List Bool) → length s ≡ 1024 → IsEmpty s → replicate 1024 false ≡ s
+empty_is s l h = ext_get_or false (replicate 1024 false) s (length-replicate 1024 false ∙ sym l) (λ i k. get_or-replicate 1024 i false false (omega (arith, length-replicate 1024 false)) ∙ out i (get_or s i false) refl)
+ where
+  out : (i : ℕ) (t : Bool) → get_or s i false ≡ t → false ≡ get_or s i false
+  out i true e = absurd (h i e)
+  out i false e = sym e
+
+last_back : (n : ℕ) (mode : Mode) (last : Option Load) → n ≤ 1024 → IsLast n mode last → last_read n mode last ≡ last
+last_back n mode None a h = refl
+last_back n mode (Some l) a h = ap (λ z. Some z) (part mode h)
+ where
+  part : (mode : Mode) → IsLoadLike n mode l → load_read n mode l ≡ l
+  part Fore h = ap (λ z. record { front = z; back = replicate 1024 false }) (clip_same n l.front a h.front) ∙ ap (λ z. record { front = l.front; back = z }) (empty_is l.back h.back.truths h.suits)
+  part Back h = ap (λ z. record { front = z; back = clip n l.back }) (empty_is l.front h.front.truths h.suits) ∙ ap (λ z. record { front = l.front; back = z }) (clip_same n l.back a h.back)
+  part Both h = ap (λ z. record { front = z; back = clip n l.back }) (clip_same n l.front a h.front) ∙ ap (λ z. record { front = l.front; back = z }) (clip_same n l.back a h.back)
+
+frame_back : (n count : ℕ) (f : OpenFrame) → n ≤ 1024 → count ≤ 20000000 → IsFrame n count f → frame_of (the_frame f.mode (clip n f.set) (sat f.most) (last_read n f.mode f.last) (map sat f.cites)) ≡ f
+frame_back n count f a b h =
+    ap (λ z. frame_of (the_frame f.mode z (sat f.most) (last_read n f.mode f.last) (map sat f.cites))) (clip_same n f.set a h.set)
+    ∙ ap (λ z. frame_of (the_frame f.mode f.set z (last_read n f.mode f.last) (map sat f.cites))) (small_is f.most (omega (arith, h.most)))
+    ∙ ap (λ z. frame_of (the_frame f.mode f.set f.most z (map sat f.cites))) (last_back n f.mode f.last a h.last)
+    ∙ ap (λ z. frame_of (the_frame f.mode f.set f.most f.last z)) (small_cites count f.cites (omega arith) h.cites)
+
+same_frame : (n count : ℕ) → n ≤ 1024 → count ≤ 20000000 → (v w : OpenFrame) → IsFrame n count v → IsFrame n count w → row_text (frame_row n v) ≡ row_text (frame_row n w) → v ≡ w
+same_frame n count a b v w p q e =
+    sym (frame_back n count v a b p)
+    ∙ ap frame_of (twice (frame_in n) (row_text (frame_row n v)) (row_text (frame_row n w)) (the_frame v.mode (clip n v.set) (sat v.most) (last_read n v.mode v.last) (map sat v.cites))
+    (the_frame w.mode (clip n w.set) (sat w.most) (last_read n w.mode w.last) (map sat w.cites)) (frame_again n v.mode v.set v.most v.last v.cites) (frame_again n w.mode w.set w.most w.last w.cites) e)
+    ∙ frame_back n count w a b q
+
+pub unique_trails : (n count : ℕ) → n ≤ 1024 → count ≤ 20000000 → Unique (trails n count)
+unfolding same_trails
+unique_trails n count a b = unique_same (trail_parts n count) (trails n count) (same_trails n count)
+    (unique_then trail_heads (frames_of n count) unique_trail_head (λ h r. unique_each (frame_row n) (IsFrame n count) (frames_said h) (same_frame n count a b))) back
+ where
+  back : (w : Option Trail) → IsTrailOrNone n count w → to_trail (from_trail w).0 (from_trail w).1 ≡ w
+  back None r = refl
+  back (Some t) r = refl
+
+pub unique_lists : (n : ℕ) → n ≤ 1024 → Unique (lists n)
+unfolding same_lists
+unique_lists n a = unique_same (list_parts n) (lists n) (same_lists n)
+    (unique_then (numbers (codes "entries") 0 20000000) (entry_rest n) unique_count (λ c r. unique_then (entries_of n c) (λ es. trails n c) (unique_entries n c a r.1) (λ es s. unique_trails n c a r.1))) (λ x r. refl)

@@ -11,3 +11,4 @@ pub mod Judging
 pub mod Answering
 pub mod Patterns
 pub mod Parts
+pub mod Answers

@@ -18,8 +18,6 @@ use Rattle.cert_text.specs.declared.patterns.Key.{Key}
 use Rattle.cert_text.specs.declared.patterns.Key.TheVariants as keys
 use Rattle.cert_text.specs.declared.patterns.Opening.{Opening}
 use Rattle.cert_text.specs.declared.patterns.Opening.TheVariants as opening
-use Rattle.cert_text.specs.declared.patterns.Version.{Version}
-use Rattle.cert_text.specs.declared.patterns.Version.TheVariants as versions
 
 -- the word of a key
 abbrev pub key_text : Key → List ℕ
@@ -31,11 +29,6 @@ key_text keys.Lower = codes "lower"
 key_text keys.Upper = codes "upper"
 key_text keys.Balance = codes "balance"
 key_text keys.Entries = codes "entries"
-
--- the first line of a version
-abbrev pub version_row : Version → Row
-version_row versions.First = fixed (codes "line balance certificate 1")
-version_row versions.Second = fixed (codes "line balance certificate 2")
 
 -- the line behind the question: a task, or a lower bound
 abbrev pub opening_row : Opening → Row

@@ -84,34 +84,25 @@ impl Pattern for NumberLine {
     }
 }
 
-/// The version of a text.
-#[derive(Clone, Copy, Debug, PartialEq, Eq)]
-pub enum Version {
-    First,
-    Second,
-}
-
 /// The first line.
 #[derive(Clone, Copy)]
 pub struct VersionLine;
 
 impl Pattern for VersionLine {
-    ghost use Rattle.cert_text.specs.Patterns.{version_row};
+    ghost use Rattle.std.specs.Prelude.{codes};
+    ghost use Rattle.cert_text.specs.Rows.{fixed};
 
-    type Value = Version;
+    type Value = ();
 
-    ghost line_of = { λ p v. version_row v };
+    ghost line_of = { λ p v. fixed (codes "line balance certificate 2") };
 
     ghost may_say = { λ p v. Unit {0} };
 
     ghost can_read = { λ p. Unit {0} };
 
-    fn read(&self, _alloc: Global, line: &[u8]) -> Result<Version, LineError> {
+    fn read(&self, _alloc: Global, line: &[u8]) -> Result<(), LineError> {
         if line == b"line balance certificate 2".as_slice() {
-            return Ok(Version::Second);
-        }
-        if line == b"line balance certificate 1".as_slice() {
-            return Ok(Version::First);
+            return Ok(());
         }
         Err(LineError::Form)
     }

@@ -1,14 +1,15 @@
 //! The reading of a certificate's text, line by line.
 ghost use Rattle.std.specs.Prelude.{ℕ, ◌≤◌, IfOk, length};
 ghost use Rattle.cert_text.specs.Judging.{IsRead};
-ghost use Rattle.cert_text.specs.Parts.{IsHeadOf, IsPlacedOf, heads, trails, lists, placings};
-ghost use Rattle.line_rules.specs.Ranges.{AreEntries, IsTrailOrNone};
+ghost use Rattle.cert_text.specs.Parts.{IsHeadOf, IsPlacedOf, IsOpened, heads, trails, lists, placings, opened, claims, certs};
+ghost use Rattle.cert_text.specs.Patterns.{IsOpening};
+ghost use Rattle.line_rules.specs.Ranges.{AreEntries, IsTrailOrNone, IsCycle, IsClaim, IsInRange};
 
 use crate::fault::ReadError;
 use crate::pattern::{read_line, read_lines};
-use crate::patterns::{AskLine, EntryLine, FrameLine, Key, KindLine, MAX_CYCLE, NumberLine, SeatLine, TrailLine};
+use crate::patterns::{AskLine, EndLine, EntryLine, FrameLine, Key, KindLine, MAX_CYCLE, NumberLine, Opening, OpeningLine, SeatLine, TrailLine, VersionLine};
 use crate::source::Source;
-use line_rules::{Ask, Entries, Frames, LineKind, Places, Trail};
+use line_rules::{Ask, Balance, Certificate, Claim, Entries, Frames, LineKind, Places, Trail};
 use std::alloc::Global;
 
 /// The most entries.
@@ -170,5 +171,98 @@ pub fn read_placed<S: Source>(
         upper,
         stations,
         places: Places::from_vec(places),
+    })
+}
+
+/// Reads the bounds behind the lower one, and the end.
+fn read_bounds<S: Source>(
+    alloc: Global,
+    source: &mut S,
+    kind: LineKind,
+    tasks: u32,
+    lower: u64,
+) -> Result<Claim, ReadError>
+    requires some { 1 ≤ tasks }
+    requires few { tasks ≤ 1024 }
+    requires lower { IsCycle lower }
+    ensures said { IfOk result (IsOpened kind tasks (Opening.Lower lower)) }
+    ensures read { S.told → IsRead (opened kind tasks (Opening.Lower lower)) (S.number source.old) (S.left source.old) (S.left source.new) (S.number source.new) result }
+{
+    let placed = read_placed(alloc, source, kind, tasks)?;
+    let list = read_entries(alloc, source, tasks)?;
+    read_line(alloc, source, &EndLine)?;
+    let Placed {
+        upper,
+        stations,
+        places,
+    } = placed;
+    let EntryList { entries, trail } = list;
+    Ok(Claim::Bounds {
+        lower,
+        upper,
+        balance: Balance {
+            stations,
+            place: places,
+        },
+        entries,
+        trail,
+    })
+}
+
+/// Reads what stands behind the first line of a claim.
+fn read_opened<S: Source>(
+    alloc: Global,
+    source: &mut S,
+    head: Head,
+    opening: Opening,
+) -> Result<Claim, ReadError>
+    requires head { IsHeadOf head }
+    requires opening { IsOpening head.ask head.tasks opening }
+    ensures said { IfOk result (IsOpened head.kind head.tasks opening) }
+    ensures read { S.told → IsRead (opened head.kind head.tasks opening) (S.number source.old) (S.left source.old) (S.left source.new) (S.number source.new) result }
+{
+    match opening {
+        Opening::TooLong { task } => match read_line(alloc, source, &EndLine) {
+            Ok(()) => Ok(Claim::TooLong { task }),
+            Err(error) => Err(error),
+        },
+        Opening::Lower { lower } => read_bounds(alloc, source, head.kind, head.tasks, lower),
+    }
+}
+
+/// Reads a claim.
+pub fn read_claim<S: Source>(
+    alloc: Global,
+    source: &mut S,
+    head: Head,
+) -> Result<Claim, ReadError>
+    requires { IsHeadOf head }
+    ensures said { IfOk result (IsClaim head.kind head.tasks head.ask) }
+    ensures read { S.told → IsRead (claims head) (S.number source.old) (S.left source.old) (S.left source.new) (S.number source.new) result }
+{
+    let opening = read_line(
+        alloc,
+        source,
+        &OpeningLine {
+            ask: head.ask,
+            tasks: head.tasks,
+        },
+    )?;
+    read_opened(alloc, source, head, opening)
+}
+
+/// Reads a certificate.
+pub fn read_all<S: Source>(alloc: Global, source: &mut S) -> Result<Certificate, ReadError>
+    ensures said { IfOk result IsInRange }
+    ensures read { S.told → IsRead certs (S.number source.old) (S.left source.old) (S.left source.new) (S.number source.new) result }
+{
+    read_line(alloc, source, &VersionLine)?;
+    let head = read_head(alloc, source)?;
+    let claim = read_claim(alloc, source, head)?;
+    Ok(Certificate {
+        kind: head.kind,
+        tasks: head.tasks,
+        ask: head.ask,
+        claim,
     })
 }
