@@ -1,5 +1,5 @@
 -- Cites, modes and last loads that are written are read, and what is read is how they are written.
-use Rattle.std.proofs.Common.{◌≡◌, ◌≢◌, ℕ, zero, suc, ◌+◌, ◌<◌, ◌≤◌, Bool, true, false, not, cond, ◌||◌, ◌&&◌, nat_eq, nat_le, List, [], ◌∷◌, ◌++◌, length, min, map, refl, sym, ◌∙◌, ap, subst, arith, Some, None, Option, append_assoc, length-append, inl, inr}
+use Rattle.std.proofs.Common.{◌≡◌, ℕ, Bool, true, false, cond, nat_eq, nat_le, List, [], ◌∷◌, ◌++◌, min, map, refl, sym, ◌∙◌, ap, arith, Some, None, inl, inr}
 use Rattle.std.specs.List.{flat_map}
 use Rattle.std.proofs.lemmas.Bool.Decides.{nat_tests}
 use Rattle.std.proofs.lemmas.List.{append-nil}
@@ -7,8 +7,8 @@ use Rattle.line_io.specs.Lines.{onto_first, value_of}
 use Rattle.line_rules.specs.declared.types.Mode.{Mode}
 use Rattle.line_rules.specs.declared.types.Mode.TheVariants.{Fore, Back, Both}
 use Rattle.cert_text.specs.Numbers.{number_text, cites_text, mode_letter}
-use Rattle.cert_text.specs.Reading.{◌>>=◌, parts_at, pieces_at, number_in, numbers_in, cites_in, is_none, mode_in, mode_of_letter, greatest}
-use Rattle.cert_text.proofs.NumberWords.{both, left, right, lacks, all_high, high_lacks, number_high, number_again, number_found, split_again, split_none, bind_some}
+use Rattle.cert_text.specs.Reading.{◌>>=◌, pieces_at, number_in, numbers_in, cites_in, is_none, mode_in, greatest}
+use Rattle.cert_text.proofs.NumberWords.{left, lacks, all_high, high_lacks, number_high, number_again, number_found, split_again, split_none, bind_some}
 use Rattle.cert_text.proofs.Lists.{chosen, one_piece, more_pieces}
 
 abbrev pub sat : ℕ → ℕ
@@ -55,10 +55,10 @@ cites_again [] = refl
 cites_again (c ∷ cs) =
     ap (λ b. cond b (Some []) (numbers_in (pieces_at 44 (number_text c ++ tail_text cs)))) (no_mark c cs)
     ∙ ap numbers_in (pieces_of c cs) ∙ numbers_again (c ∷ cs)
- where
-  no_mark : (c : ℕ) (cs : List ℕ) → is_none (number_text c ++ tail_text cs) ≡ false
-  no_mark c [] = ap is_none (append-nil (number_text c)) ∙ none_of_high (number_text c) (number_high c)
-  no_mark c (d ∷ cs) = none_of_long (number_text c) (number_text d ++ tail_text cs) 44 (none_of_high (number_text c) (number_high c)) (number_some c)
+  where
+    no_mark : (c : ℕ) (cs : List ℕ) → is_none (number_text c ++ tail_text cs) ≡ false
+    no_mark c [] = ap is_none (append-nil (number_text c)) ∙ none_of_high (number_text c) (number_high c)
+    no_mark c (d ∷ cs) = none_of_long (number_text c) (number_text d ++ tail_text cs) 44 (none_of_high (number_text c) (number_high c)) (number_some c)
 
 -- the pieces with marks between
 abbrev joined : List (List ℕ) → List ℕ
@@ -70,10 +70,10 @@ some_piece : (mark : ℕ) (word : List ℕ) → (p : List ℕ) × (ps : List (Li
 unfolding pieces_at
 some_piece mark [] = ([], [], refl)
 some_piece mark (b ∷ word) = I (nat_eq b mark) (some_piece mark word)
- where
-  I : (t : Bool) → ((p : List ℕ) × (ps : List (List ℕ)) × (pieces_at mark word ≡ p ∷ ps)) → (p : List ℕ) × (ps : List (List ℕ)) × (cond t ([] ∷ pieces_at mark word) (onto_first b (pieces_at mark word)) ≡ p ∷ ps)
-  I true s = ([], pieces_at mark word, refl)
-  I false s = (b ∷ s.0, s.1, ap (onto_first b) s.2)
+  where
+    I : (t : Bool) → ((p : List ℕ) × (ps : List (List ℕ)) × (pieces_at mark word ≡ p ∷ ps)) → (p : List ℕ) × (ps : List (List ℕ)) × (cond t ([] ∷ pieces_at mark word) (onto_first b (pieces_at mark word)) ≡ p ∷ ps)
+    I true s = ([], pieces_at mark word, refl)
+    I false s = (b ∷ s.0, s.1, ap (onto_first b) s.2)
 
 same_mark : (b mark : ℕ) → nat_eq b mark ≡ true → b ≡ mark
 same_mark b mark e = grind (arith, nat_tests)
@@ -87,10 +87,10 @@ joined_is : (word : List ℕ) → joined (pieces_at 44 word) ≡ word
 unfolding pieces_at
 joined_is [] = refl
 joined_is (b ∷ word) = I (nat_eq b 44) refl (joined_is word) (some_piece 44 word)
- where
-  I : (t : Bool) → nat_eq b 44 ≡ t → joined (pieces_at 44 word) ≡ word → ((p : List ℕ) × (ps : List (List ℕ)) × (pieces_at 44 word ≡ p ∷ ps)) → joined (cond t ([] ∷ pieces_at 44 word) (onto_first b (pieces_at 44 word))) ≡ b ∷ word
-  I true e h s = ap (λ ps. joined ([] ∷ ps)) s.2 ∙ ap (λ x. 44 ∷ joined x) (sym s.2) ∙ ap (λ w. 44 ∷ w) h ∙ ap (λ x. x ∷ word) (sym (same_mark b 44 e))
-  I false e h s = join_front b (pieces_at 44 word) ∙ ap (λ w. b ∷ w) h
+  where
+    I : (t : Bool) → nat_eq b 44 ≡ t → joined (pieces_at 44 word) ≡ word → ((p : List ℕ) × (ps : List (List ℕ)) × (pieces_at 44 word ≡ p ∷ ps)) → joined (cond t ([] ∷ pieces_at 44 word) (onto_first b (pieces_at 44 word))) ≡ b ∷ word
+    I true e h s = ap (λ ps. joined ([] ∷ ps)) s.2 ∙ ap (λ x. 44 ∷ joined x) (sym s.2) ∙ ap (λ w. 44 ∷ w) h ∙ ap (λ x. x ∷ word) (sym (same_mark b 44 e))
+    I false e h s = join_front b (pieces_at 44 word) ∙ ap (λ w. b ∷ w) h
 
 -- the numbers that pieces are, with their texts
 numbers_found : (ps : List (List ℕ)) (ns : List ℕ) → numbers_in ps ≡ Some ns → (cs : List ℕ) × (map number_text cs ≡ ps) × (map sat cs ≡ ns)
@@ -119,10 +119,10 @@ cites_found word ns e = elim (chosen (is_none word) (Some []) (numbers_in (piece
   | inl h ↦ (let n : [] ≡ ns = cc in ([], sym (is_none_word word h.0), n))
   | inr h ↦ (let f = numbers_found (pieces_at 44 word) ns h.1 in J f.0 f.1 f.2)
 ]
- where
-  J : (cs : List ℕ) → map number_text cs ≡ pieces_at 44 word → map sat cs ≡ ns → (ds : List ℕ) × (cites_text ds ≡ word) × (map sat ds ≡ ns)
-  J [] p q = let s = some_piece 44 word in let w : [] ≡ s.0 ∷ s.1 = p ∙ s.2 in (cc)
-  J (c ∷ cs) p q = (c ∷ cs, sym (joined_cites c cs) ∙ ap joined p ∙ joined_is word, q)
+  where
+    J : (cs : List ℕ) → map number_text cs ≡ pieces_at 44 word → map sat cs ≡ ns → (ds : List ℕ) × (cites_text ds ≡ word) × (map sat ds ≡ ns)
+    J [] p q = let s = some_piece 44 word in let w : [] ≡ s.0 ∷ s.1 = p ∙ s.2 in (cc)
+    J (c ∷ cs) p q = (c ∷ cs, sym (joined_cites c cs) ∙ ap joined p ∙ joined_is word, q)
 
 pub mode_again : (mode : Mode) → mode_in (mode_letter mode ∷ []) ≡ Some mode
 unfolding mode_in

@@ -1,49 +1,32 @@
 -- Claims and certificates as parts, and that their lines say one value at most.
-use Rattle.std.proofs.Common.{◌≡◌, ◌≢◌, ℕ, zero, suc, ◌+◌, ◌-◌, ◌<◌, ◌≤◌, List, [], ◌∷◌, ◌++◌, Bool, true, false, length, map, replicate, get_or, refl, sym, ◌∙◌, ap, subst, arith, Some, None, Option, Ok, Err, Result, lit≤, lit<, append_assoc}
-use Rattle.std.specs.Prelude.{codes, slice_get}
-use Rattle.std.proofs.lemmas.Option.{same_Some, none-some}
-use Rattle.std.proofs.lemmas.List.{map-append, append-nil, ext_get_or, length-replicate}
-use Rattle.line_rules.specs.Ranges.{IsCycle, IsAsked, IsPlaced, IsPlacing, AreBounds, AreEntries, IsEntry, IsFrame, IsLast, IsLoadLike, IsTrailOrNone, IsClaim, IsInRange}
+use Rattle.std.proofs.Common.{◌≡◌, ℕ, suc, ◌<◌, ◌≤◌, List, [], ◌∷◌, length, refl, sym, ◌∙◌, ap, subst, arith, Some, None, Ok, Err, Result, lit≤}
+use Rattle.std.specs.Prelude.{codes}
+use Rattle.std.proofs.lemmas.Option.{none-some}
+use Rattle.line_rules.specs.Ranges.{IsCycle, AreEntries, IsTrailOrNone, IsClaim}
 use Rattle.line_rules.specs.declared.types.LineKind.{LineKind}
-use Rattle.line_rules.specs.declared.types.LineKind.TheVariants.{Straight, U}
-use Rattle.line_rules.specs.declared.types.Side.{Side}
-use Rattle.line_rules.specs.declared.types.Side.TheVariants.{Front}
-use Rattle.line_rules.specs.declared.types.Mode.{Mode}
-use Rattle.line_rules.specs.declared.types.Mode.TheVariants.{Fore, Back, Both}
-use Rattle.line_rules.specs.declared.types.Load.{Load}
-use Rattle.line_rules.specs.declared.types.Seatplace.{Seatplace}
-use Rattle.line_rules.specs.declared.types.OpenFrame.{OpenFrame}
-use Rattle.line_rules.specs.declared.types.Entry.{Entry}
-use Rattle.line_rules.specs.declared.types.Trail.{Trail}
+use Rattle.line_rules.specs.declared.types.LineKind.TheVariants.{Straight}
 use Rattle.line_rules.specs.declared.types.Ask.{Ask}
 use Rattle.line_rules.specs.declared.types.Ask.TheVariants as ask
 use Rattle.line_rules.specs.declared.types.Claim.{Claim}
 use Rattle.line_rules.specs.declared.types.Claim.TheVariants as claim
-use Rattle.line_rules.specs.declared.types.Certificate.{Certificate}
-use Rattle.task_set.specs.Truths.{IsEmpty}
-use Rattle.cert_text.specs.Rows.{Row, fixed, keyed, seat, row_text}
-use Rattle.cert_text.specs.Cert.{ask_row, seat_row, frame_row, head_rows, claim_rows, cert_rows}
-use Rattle.cert_text.specs.LineReading.{keyed_in, seat_in, frame_in}
+use Rattle.cert_text.specs.Rows.{fixed, keyed, row_text}
+use Rattle.cert_text.specs.Cert.{claim_rows, cert_rows}
 use Rattle.cert_text.specs.Faults.{Grammar}
-use Rattle.cert_text.specs.Judging.{one, AreSaid, each, then_, IsRead}
-use Rattle.cert_text.specs.Patterns.{opening_row, IsOpening, frame_of}
-use Rattle.cert_text.specs.Parts.{IsHeadOf, heads, trails, lists, IsPlacedOf, placings, IsOpened, behind_rows, opened, claims, certs}
+use Rattle.cert_text.specs.Judging.{one, then_, IsRead}
+use Rattle.cert_text.specs.Patterns.{opening_row, IsOpening}
+use Rattle.cert_text.specs.Parts.{heads, lists, IsPlacedOf, placings, IsOpened, behind_rows, opened, claims, certs}
 use Rattle.cert_text.specs.declared.patterns.Opening.{Opening}
 use Rattle.cert_text.specs.declared.patterns.Opening.TheVariants as opening
 use Rattle.cert_text.specs.declared.reading.Head.{Head}
 use Rattle.cert_text.specs.declared.reading.EntryList.{EntryList}
 use Rattle.cert_text.specs.declared.reading.Placed.{Placed}
-use Rattle.cert_text.specs.declared.draft.FrameDraft.{FrameDraft}
-use Rattle.cert_text.proofs.SetText.{clip, clip_same}
 use Rattle.cert_text.proofs.CiteWords.{sat}
 use Rattle.cert_text.proofs.Judged.{small_is, keyed_value, keyed_other}
-use Rattle.cert_text.proofs.JudgedEntry.{small_cites, some_entry}
-use Rattle.cert_text.proofs.OtherLines.{keyed_again, seat_again, side_read}
-use Rattle.cert_text.proofs.FrameLines.{load_read, last_read, the_frame, frame_again}
-use Rattle.cert_text.proofs.Sequencing.{Unique, unique_one, unique_each, unique_then, texts, Same, same_read, same_error, both_read, second_error}
+use Rattle.cert_text.proofs.OtherLines.{keyed_again}
+use Rattle.cert_text.proofs.Sequencing.{Unique, unique_one, Same, same_read, same_error, both_read, second_error}
 use Rattle.cert_text.specs.declared.fault.ReadError.{ReadError}
 use Rattle.cert_text.specs.declared.fault.ReadError.TheVariants as errors
-use Rattle.cert_text.proofs.Wholes.{numbers, unique_count, entries_of, unique_entries, entry_rest, list_parts, some_rest, same_lists, trail_heads, unique_trail_head, frames_of, trail_parts, same_trails, uppers, unique_upper, station_numbers, unique_stations, seats_of, seats_behind, placing_parts, some_behind, placing_said, same_placings, within, kinds, unique_kind, tasks_grammar, unique_tasks, asks, tasks_ask, head_parts, same_heads}
+use Rattle.cert_text.proofs.Wholes.{some_behind, placing_said, within}
 
 -- the end
 abbrev pub end_grammar : Grammar (Unit {0})
@@ -75,19 +58,19 @@ same_bounds kind n lower c = record {
   to_rows = λ v r. refl;
   from_rows = from_row;
 }
- where
-  from_range : (w : Claim) → IsOpened kind n (opening.Lower lower) w → (bounds_parts kind n).ranged (from_claim w)
-  from_range (claim.TooLong t) r = absurd r
-  from_range (claim.Bounds l u b es t) r = (record { upper = r.1.up_to; balance = r.1.balance }, ((r.1.entries, r.1.trail), tt))
-  from_row : (w : Claim) → IsOpened kind n (opening.Lower lower) w → (bounds_parts kind n).rows (from_claim w) ≡ (opened kind n (opening.Lower lower)).rows w
-  from_row (claim.TooLong t) r = absurd r
-  from_row (claim.Bounds l u b es t) r = refl
+  where
+    from_range : (w : Claim) → IsOpened kind n (opening.Lower lower) w → (bounds_parts kind n).ranged (from_claim w)
+    from_range (claim.TooLong t) r = absurd r
+    from_range (claim.Bounds l u b es t) r = (record { upper = r.1.up_to; balance = r.1.balance }, ((r.1.entries, r.1.trail), tt))
+
+    from_row : (w : Claim) → IsOpened kind n (opening.Lower lower) w → (bounds_parts kind n).rows (from_claim w) ≡ (opened kind n (opening.Lower lower)).rows w
+    from_row (claim.TooLong t) r = absurd r
+    from_row (claim.Bounds l u b es t) r = refl
 
 pub bounds_read : (kind : LineKind) (n lower : ℕ) (p : Placed) (l : EntryList) (passed after : ℕ) (text rest : List ℕ) → IsCycle lower → IsRead (bounds_parts kind n) passed text rest after (Ok (p, (l, tt)))
     → IsRead (opened kind n (opening.Lower lower)) passed text rest after (Ok (claim.Bounds lower p.upper (record { stations = p.stations; place = p.places }) l.entries l.trail))
 unfolding same_bounds
 bounds_read kind n lower p l passed after text rest c h = same_read (bounds_parts kind n) (opened kind n (opening.Lower lower)) passed after text rest (p, (l, tt)) (same_bounds kind n lower c) h
-
 
 -- claims
 abbrev pub openings : Ask → ℕ → Grammar Opening
@@ -99,18 +82,18 @@ claim_parts h = then_ (openings h.ask h.tasks) (opened h.kind h.tasks)
 same_opening : (a : Ask) (n : ℕ) → n ≤ 1024 → (v w : Opening) → IsOpening a n v → IsOpening a n w → row_text (opening_row v) ≡ row_text (opening_row w) → v ≡ w
 same_opening a n l (opening.TooLong x) (opening.TooLong y) p q e =
     let f : suc x ≡ suc y = keyed_value (codes "infeasible") (row_text (keyed (codes "infeasible") (suc x))) (suc y) (suc x) refl (sym e) (omega (arith, task_small a y q))
-        (keyed_again (codes "infeasible") (suc x) refl ∙ ap (λ z. Some z) (small_is (suc x) (omega (arith, task_small a x p)))) in
+    (keyed_again (codes "infeasible") (suc x) refl ∙ ap (λ z. Some z) (small_is (suc x) (omega (arith, task_small a x p)))) in
     ap (λ z. opening.TooLong z) (omega arith)
- where
-  task_small : (a : Ask) (x : ℕ) → IsOpening a n (opening.TooLong x) → x < n
-  task_small (ask.Stations c) x h = h
-  task_small (ask.Cycle m) x h = absurd h
+  where
+    task_small : (a : Ask) (x : ℕ) → IsOpening a n (opening.TooLong x) → x < n
+    task_small (ask.Stations c) x h = h
+    task_small (ask.Cycle m) x h = absurd h
 same_opening a n l (opening.Lower x) (opening.Lower y) p q e =
     ap (λ z. opening.Lower z) (keyed_value (codes "lower") (row_text (keyed (codes "lower") x)) y x refl (sym e) (omega (arith, (cycle_said a y q).limit)) (keyed_again (codes "lower") x refl ∙ ap (λ z. Some z) (small_is x (omega (arith, (cycle_said a x p).limit)))))
- where
-  cycle_said : (a : Ask) (x : ℕ) → IsOpening a n (opening.Lower x) → IsCycle x
-  cycle_said (ask.Stations c) x h = h
-  cycle_said (ask.Cycle m) x h = h
+  where
+    cycle_said : (a : Ask) (x : ℕ) → IsOpening a n (opening.Lower x) → IsCycle x
+    cycle_said (ask.Stations c) x h = h
+    cycle_said (ask.Cycle m) x h = h
 same_opening a n l (opening.TooLong x) (opening.Lower y) p q e = (let w : codes "lower" ≡ codes "infeasible" = keyed_other (codes "lower") (codes "infeasible") (row_text (keyed (codes "infeasible") (suc x))) y (sat (suc x)) refl refl (sym e) (keyed_again (codes "infeasible") (suc x) refl) in (cc))
 same_opening a n l (opening.Lower x) (opening.TooLong y) p q e = (let w : codes "infeasible" ≡ codes "lower" = keyed_other (codes "infeasible") (codes "lower") (row_text (keyed (codes "lower") x)) (suc y) (sat x) refl refl (sym e) (keyed_again (codes "lower") x refl) in (cc))
 
@@ -144,9 +127,10 @@ some_list n = (no_list, (record { many = lit≤ tt; each = λ k e q. absurd (non
 pub some_opened : (a : Ask) (kind : LineKind) (n : ℕ) (o : Opening) → IsOpening a n o → (c : Claim) × IsOpened kind n o c
 some_opened a kind n (opening.TooLong t) h = (claim.TooLong t, refl)
 some_opened a kind n (opening.Lower l) h =
-    let p = some_placing kind n in
-    (claim.Bounds l p.0.upper (record { stations = p.0.stations; place = p.0.places }) [] None,
-      (refl, record { from = opening_cycle a n l h; up_to = p.1.upper; balance = p.1.balance; entries = no_entries n; trail = tt }))
+    let p = some_placing kind n in (
+      claim.Bounds l p.0.upper (record { stations = p.0.stations; place = p.0.places }) [] None,
+      (refl, record { from = opening_cycle a n l h; up_to = p.1.upper; balance = p.1.balance; entries = no_entries n; trail = tt }),
+    )
 
 from_opened : Claim → Opening × Claim
 from_opened (claim.TooLong t) = (opening.TooLong t, claim.TooLong t)
@@ -162,26 +146,29 @@ same_claims h = record {
   to_rows = λ v r. to_row v.0 v.1 r.1;
   from_rows = λ w r. from_row w;
 }
- where
-  to_range : (a : Ask) (o : Opening) (c : Claim) → IsOpening a h.tasks o → IsOpened h.kind h.tasks o c → IsClaim h.kind h.tasks a c
-  to_range (ask.Stations x) (opening.TooLong t) (claim.TooLong task) p q = (tt, let P : ℕ → Type 0 = λ z. z < h.tasks in subst P (sym q) p)
-  to_range (ask.Cycle x) (opening.TooLong t) (claim.TooLong task) p q = absurd p
-  to_range a (opening.TooLong t) (claim.Bounds l u b es left) p q = absurd q
-  to_range a (opening.Lower l) (claim.TooLong task) p q = absurd q
-  to_range a (opening.Lower x) (claim.Bounds l u b es left) p q = q.1
-  from_range : (a : Ask) (w : Claim) → IsClaim h.kind h.tasks a w → IsOpening a h.tasks (from_opened w).0 × IsOpened h.kind h.tasks (from_opened w).0 (from_opened w).1
-  from_range (ask.Stations c) (claim.TooLong t) r = (r.1, refl)
-  from_range (ask.Cycle c) (claim.TooLong t) r = absurd r.0
-  from_range (ask.Stations c) (claim.Bounds l u b es t) r = (r.from, (refl, r))
-  from_range (ask.Cycle c) (claim.Bounds l u b es t) r = (r.from, (refl, r))
-  to_row : (o : Opening) (c : Claim) → IsOpened h.kind h.tasks o c → claim_rows h.kind h.tasks c ≡ (claim_parts h).rows (o, c)
-  to_row (opening.TooLong t) (claim.TooLong task) q = ap (λ z. keyed (codes "infeasible") (suc z) ∷ fixed (codes "end") ∷ []) q
-  to_row (opening.TooLong t) (claim.Bounds l u b es left) q = absurd q
-  to_row (opening.Lower x) (claim.TooLong task) q = absurd q
-  to_row (opening.Lower x) (claim.Bounds l u b es left) q = ap (λ z. claim_rows h.kind h.tasks (claim.Bounds z u b es left)) q.0 ∙ ap (λ z. keyed (codes "lower") x ∷ behind_rows h.kind h.tasks (claim.Bounds l u b es left)) q.0
-  from_row : (w : Claim) → (claim_parts h).rows (from_opened w) ≡ claim_rows h.kind h.tasks w
-  from_row (claim.TooLong t) = refl
-  from_row (claim.Bounds l u b es t) = refl
+  where
+    to_range : (a : Ask) (o : Opening) (c : Claim) → IsOpening a h.tasks o → IsOpened h.kind h.tasks o c → IsClaim h.kind h.tasks a c
+    to_range (ask.Stations x) (opening.TooLong t) (claim.TooLong task) p q = (tt, let P : ℕ → Type 0 = λ z. z < h.tasks in subst P (sym q) p)
+    to_range (ask.Cycle x) (opening.TooLong t) (claim.TooLong task) p q = absurd p
+    to_range a (opening.TooLong t) (claim.Bounds l u b es left) p q = absurd q
+    to_range a (opening.Lower l) (claim.TooLong task) p q = absurd q
+    to_range a (opening.Lower x) (claim.Bounds l u b es left) p q = q.1
+
+    from_range : (a : Ask) (w : Claim) → IsClaim h.kind h.tasks a w → IsOpening a h.tasks (from_opened w).0 × IsOpened h.kind h.tasks (from_opened w).0 (from_opened w).1
+    from_range (ask.Stations c) (claim.TooLong t) r = (r.1, refl)
+    from_range (ask.Cycle c) (claim.TooLong t) r = absurd r.0
+    from_range (ask.Stations c) (claim.Bounds l u b es t) r = (r.from, (refl, r))
+    from_range (ask.Cycle c) (claim.Bounds l u b es t) r = (r.from, (refl, r))
+
+    to_row : (o : Opening) (c : Claim) → IsOpened h.kind h.tasks o c → claim_rows h.kind h.tasks c ≡ (claim_parts h).rows (o, c)
+    to_row (opening.TooLong t) (claim.TooLong task) q = ap (λ z. keyed (codes "infeasible") (suc z) ∷ fixed (codes "end") ∷ []) q
+    to_row (opening.TooLong t) (claim.Bounds l u b es left) q = absurd q
+    to_row (opening.Lower x) (claim.TooLong task) q = absurd q
+    to_row (opening.Lower x) (claim.Bounds l u b es left) q = ap (λ z. claim_rows h.kind h.tasks (claim.Bounds z u b es left)) q.0 ∙ ap (λ z. keyed (codes "lower") x ∷ behind_rows h.kind h.tasks (claim.Bounds l u b es left)) q.0
+
+    from_row : (w : Claim) → (claim_parts h).rows (from_opened w) ≡ claim_rows h.kind h.tasks w
+    from_row (claim.TooLong t) = refl
+    from_row (claim.Bounds l u b es t) = refl
 
 pub claim_read : (h : Head) (o : Opening) (c : Claim) (passed after : ℕ) (text rest : List ℕ) → IsRead (claim_parts h) passed text rest after (Ok (o, c)) → IsRead (claims h) passed text rest after (Ok c)
 unfolding same_claims
@@ -239,7 +226,7 @@ claim_result h o (Err errors.Stopped) passed middle after text left rest l x y =
 -- the end of a claim that a task is too long
 pub same_end : (kind : LineKind) (n t : ℕ) → Same end_grammar (opened kind n (opening.TooLong t))
 same_end kind n t = record { to = λ u. claim.TooLong t; from = λ c. tt; to_ranged = λ u r. refl; from_ranged = λ c r. tt; to_rows = λ u r. refl; from_rows = from_row }
- where
-  from_row : (w : Claim) → IsOpened kind n (opening.TooLong t) w → fixed (codes "end") ∷ [] ≡ behind_rows kind n w
-  from_row (claim.TooLong x) r = refl
-  from_row (claim.Bounds l u b es left) r = absurd r
+  where
+    from_row : (w : Claim) → IsOpened kind n (opening.TooLong t) w → fixed (codes "end") ∷ [] ≡ behind_rows kind n w
+    from_row (claim.TooLong x) r = refl
+    from_row (claim.Bounds l u b es left) r = absurd r

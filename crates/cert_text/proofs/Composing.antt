@@ -1,12 +1,11 @@
 -- Texts in parts: the faults of a part are faults of the whole.
-use Rattle.std.proofs.Common.{◌≡◌, ◌≢◌, ℕ, zero, suc, ◌+◌, ◌-◌, ◌<◌, ◌≤◌, List, [], ◌∷◌, ◌++◌, length, map, take, drop, replicate, refl, sym, ◌∙◌, ap, subst, arith, Some, None, Option, Ok, Err, Result, ◌⊎◌, inl, inr, append_assoc, length-append}
+use Rattle.std.proofs.Common.{◌≡◌, ◌≢◌, ℕ, zero, suc, ◌+◌, ◌-◌, ◌<◌, List, [], ◌∷◌, ◌++◌, length, map, replicate, refl, sym, ◌∙◌, ap, subst, arith, Some, Ok, Err, Result, inl, inr, append_assoc, length-append}
 use Rattle.std.specs.Prelude.{slice_get, MatchResult}
 use Rattle.std.specs.Result.{IsErrAnd}
-use Rattle.std.specs.List.{flat_map}
 use Rattle.std.proofs.lemmas.List.{append-nil, map-append, length-map, length-replicate}
 use Rattle.std.proofs.lemmas.Option.{same_Some, none-some}
 use Rattle.cert_text.specs.Rows.{Row, form_of, row_text, line_text, rows_text, lines_text}
-use Rattle.cert_text.specs.Faults.{IsLine, Grammar, Next, HasForm, IsWrong, IsLineFault, IsEndFault, IsFault}
+use Rattle.cert_text.specs.Faults.{IsLine, Grammar, Next, HasForm, IsWrong, IsFault}
 use Rattle.cert_text.specs.Judging.{HasFormOf, IsJudged, one, AreSaid, each, IsRead}
 use Rattle.cert_text.specs.Answering.{error_at}
 use Rattle.cert_text.specs.declared.fault.LineError.{LineError}
@@ -77,11 +76,11 @@ next_one row ranged v h = record { value = v; ranged = h; passed = []; more = []
 
 pub one_next : {V : Type 0} (row : V → Row) (ranged : V → Type 0) (b : List (List ℕ)) (r : Row) → Next (one row ranged) b r → (v : V) × ranged v × (r ≡ row v) × (b ≡ [])
 one_next row ranged b r n = I n.passed n.rows n.same
- where
-  I : (passed : List Row) → row n.value ∷ [] ≡ passed ++ r ∷ n.more → map row_text passed ≡ b → (v : _) × ranged v × (r ≡ row v) × (b ≡ [])
-  I [] e s = (n.value, n.ranged, cc, sym s)
-  I (x ∷ []) e s = (cc)
-  I (x ∷ y ∷ passed) e s = (cc)
+  where
+    I : (passed : List Row) → row n.value ∷ [] ≡ passed ++ r ∷ n.more → map row_text passed ≡ b → (v : _) × ranged v × (r ≡ row v) × (b ≡ [])
+    I [] e s = (n.value, n.ranged, cc, sym s)
+    I (x ∷ []) e s = (cc)
+    I (x ∷ y ∷ passed) e s = (cc)
 
 -- the text ends where a line is wanted
 pub one_ends : {V : Type 0} (row : V → Row) (ranged : V → Type 0) (v : V) (passed number : ℕ) (text : List ℕ) → ranged v → IsLine text → number ≡ suc passed
@@ -200,23 +199,24 @@ one_continues {V = V} row ranged count vs h l = record {
   to = λ b r n. there b r (one_next row ranged b r n);
   from = λ b r r' n m. here b r r' (one_next row ranged b r' n) m;
 }
- where
-  there : (b : List (List ℕ)) (r : Row) → ((v : V) × ranged v × (r ≡ row v) × (b ≡ [])) → Next (each row ranged count) (map row_text (map row vs) ++ b) r
-  there b r x =
-      let rest : ℕ = count - suc (length vs) in
-      let all : List V = vs ++ replicate (suc rest) x.0 in
-      record {
-        value = all;
-        ranged = record { many = length-append vs (replicate (suc rest) x.0) ∙ omega (arith, length-replicate (suc rest) x.0); each = said_copies ranged vs x.0 (suc rest) h x.1 };
-        passed = map row vs;
-        more = map row (replicate rest x.0);
-        rows = map-append row vs (replicate (suc rest) x.0) ∙ ap (λ y. map row vs ++ y ∷ map row (replicate rest x.0)) (sym x.2);
-        same = sym (append-nil (map row_text (map row vs))) ∙ ap (λ y. map row_text (map row vs) ++ y) (sym x.3);
-      }
-  here : (b : List (List ℕ)) (r r' : Row) → ((v : V) × ranged v × (r' ≡ row v) × (b ≡ [])) → Next (each row ranged count) (map row_text (map row vs) ++ b) r → Next (one row ranged) b r
-  here b r r' x m =
-      let y = row_at row ranged m.value m.passed m.more r m.ranged.each m.rows in
-      record { value = y.0; ranged = y.1; passed = []; more = []; rows = ap (λ z. z ∷ []) (sym y.2); same = sym x.3 }
+  where
+    there : (b : List (List ℕ)) (r : Row) → ((v : V) × ranged v × (r ≡ row v) × (b ≡ [])) → Next (each row ranged count) (map row_text (map row vs) ++ b) r
+    there b r x =
+        let rest : ℕ = count - suc (length vs) in
+        let all : List V = vs ++ replicate (suc rest) x.0 in
+        record {
+          value = all;
+          ranged = record { many = length-append vs (replicate (suc rest) x.0) ∙ omega (arith, length-replicate (suc rest) x.0); each = said_copies ranged vs x.0 (suc rest) h x.1 };
+          passed = map row vs;
+          more = map row (replicate rest x.0);
+          rows = map-append row vs (replicate (suc rest) x.0) ∙ ap (λ y. map row vs ++ y ∷ map row (replicate rest x.0)) (sym x.2);
+          same = sym (append-nil (map row_text (map row vs))) ∙ ap (λ y. map row_text (map row vs) ++ y) (sym x.3);
+        }
+
+    here : (b : List (List ℕ)) (r r' : Row) → ((v : V) × ranged v × (r' ≡ row v) × (b ≡ [])) → Next (each row ranged count) (map row_text (map row vs) ++ b) r → Next (one row ranged) b r
+    here b r r' x m =
+        let y = row_at row ranged m.value m.passed m.more r m.ranged.each m.rows in
+        record { value = y.0; ranged = y.1; passed = []; more = []; rows = ap (λ z. z ∷ []) (sym y.2); same = sym x.3 }
 
 pub each_fault : {V : Type 0} (row : V → Row) (ranged : V → Type 0) (count passed number : ℕ) (whole left : List ℕ) (vs : List V) (f : CertFault) → SoFar row ranged passed whole vs left number → length vs < count
     → IsFault (one row ranged) number left f → IsFault (each row ranged count) passed whole f

@@ -1,5 +1,5 @@
 -- Lines of entries that are written are read, and what is read is how they are written.
-use Rattle.std.proofs.Common.{◌≡◌, ℕ, suc, ◌<◌, ◌≤◌, Bool, true, false, not, cond, List, [], ◌∷◌, ◌++◌, map, refl, sym, ◌∙◌, ap, subst, arith, Some, None, Option, inl, inr}
+use Rattle.std.proofs.Common.{◌≡◌, ℕ, ◌≤◌, Bool, true, not, cond, List, [], ◌∷◌, ◌++◌, map, refl, sym, ◌∙◌, ap, subst, arith, Some, None, Option, inl, inr}
 use Rattle.std.specs.Prelude.{codes, bytes_eq}
 use Rattle.std.proofs.lemmas.Slice.Eq.{bytes_eq-Decides}
 use Rattle.std.proofs.lemmas.Option.{same_Some}
@@ -7,13 +7,13 @@ use Rattle.line_io.specs.Lines.{value_of}
 use Rattle.line_rules.specs.declared.types.Mode.{Mode}
 use Rattle.line_rules.specs.declared.types.Mode.TheVariants.{Fore, Back, Both}
 use Rattle.cert_text.specs.Numbers.{number_text, set_text, cites_text, mode_letter}
-use Rattle.cert_text.specs.Rows.{Row, fixed, keyed, seat, bound, branch, swap, trail, frame, Form, entry, form_of, given, row_text}
+use Rattle.cert_text.specs.Rows.{Row, fixed, keyed, seat, bound, branch, swap, trail, frame, entry, form_of, given, row_text}
 use Rattle.cert_text.specs.Reading.{◌>>=◌, parts_at, number_in, number_first, set_in, mode_in, cites_in}
 use Rattle.cert_text.specs.LineReading.{cycle_first, bound_in, branch_in, swap_in, entry_in}
 use Rattle.cert_text.specs.declared.draft.Draft.{Draft}
 use Rattle.cert_text.specs.declared.draft.DraftWhy.{DraftWhy as Why}
 use Rattle.cert_text.specs.declared.draft.DraftWhy.TheVariants as why
-use Rattle.cert_text.proofs.NumberWords.{number_again, number_found, number_first_again, split_again, high_lacks, lacks, bind_some, number_high}
+use Rattle.cert_text.proofs.NumberWords.{number_again, number_found, number_first_again, split_again, high_lacks, lacks, bind_some}
 use Rattle.cert_text.proofs.SetText.{clip, clip_same, set_again, set_found, set_high}
 use Rattle.cert_text.proofs.CiteWords.{sat, cites_again, cites_found, mode_again, mode_found}
 use Rattle.cert_text.proofs.Lists.{split_parts, chosen}
@@ -62,11 +62,11 @@ split_set n s rest = split_again 32 (set_text n s) rest (high_lacks 32 (set_text
 
 pub split_mode : (mode : Mode) (rest : List ℕ) → parts_at 32 ((mode_letter mode ∷ []) ++ 32 ∷ rest) ≡ Some (mode_letter mode ∷ [], rest)
 split_mode mode rest = split_again 32 (mode_letter mode ∷ []) rest (lack mode)
- where
-  lack : (mode : Mode) → lacks 32 (mode_letter mode ∷ []) ≡ true
-  lack Fore = refl
-  lack Back = refl
-  lack Both = refl
+  where
+    lack : (mode : Mode) → lacks 32 (mode_letter mode ∷ []) ≡ true
+    lack Fore = refl
+    lack Back = refl
+    lack Both = refl
 
 cycle_again : (g c : Option ℕ) (rest : List ℕ) → given c ≡ not (given g) → cycle_first g (front c rest) ≡ Some (cycle_of g c, rest)
 unfolding cycle_first

@@ -1,5 +1,5 @@
 -- Lines of frames that are written are read, and what is read is how they are written.
-use Rattle.std.proofs.Common.{◌≡◌, ℕ, suc, ◌<◌, ◌≤◌, Bool, true, false, not, cond, ◌&&◌, nat_eq, nat_le, List, [], ◌∷◌, ◌++◌, map, refl, sym, ◌∙◌, ap, subst, arith, Some, None, Option, ◌⊎◌, inl, inr, replicate}
+use Rattle.std.proofs.Common.{◌≡◌, ℕ, ◌≤◌, Bool, true, false, not, cond, nat_eq, nat_le, List, [], ◌∷◌, ◌++◌, map, refl, sym, ◌∙◌, ap, subst, arith, Some, None, Option, inl, inr, replicate}
 use Rattle.std.specs.Prelude.{codes, bytes_eq}
 use Rattle.std.proofs.lemmas.List.{append-nil}
 use Rattle.std.proofs.lemmas.Option.{same_Some, none-some}
@@ -8,8 +8,8 @@ use Rattle.line_rules.specs.declared.types.Mode.{Mode}
 use Rattle.line_rules.specs.declared.types.Mode.TheVariants.{Fore, Back, Both}
 use Rattle.line_rules.specs.declared.types.Load.{Load}
 use Rattle.cert_text.specs.Numbers.{number_text, set_text, cites_text, mode_letter, load_text, last_text}
-use Rattle.cert_text.specs.Rows.{Row, frame, row_text}
-use Rattle.cert_text.specs.Reading.{◌>>=◌, parts_at, number_in, number_first, set_in, mode_in, cites_in, is_none}
+use Rattle.cert_text.specs.Rows.{frame, row_text}
+use Rattle.cert_text.specs.Reading.{◌>>=◌, parts_at, number_first, set_in, mode_in, cites_in, is_none}
 use Rattle.cert_text.specs.LineReading.{load_in, last_in, frame_in, frame_rest_in}
 use Rattle.cert_text.specs.declared.draft.FrameDraft.{FrameDraft}
 use Rattle.cert_text.proofs.NumberWords.{number_first_again, split_again, high_lacks, all_high, lacks, bind_some, both, left, right}
@@ -77,19 +77,22 @@ unfolding last_in
 last_again n mode None = refl
 last_again n mode (Some l) =
     ap (λ b. cond b (Some None) (load_in n mode (load_text n mode l) >>= λ l. Some (Some l))) (no_mark mode l) ∙ ap (λ o. o >>= λ l. Some (Some l)) (load_again n mode l)
- where
-  stroke : (w : List ℕ) → is_none (47 ∷ w) ≡ false
-  stroke [] = refl
-  stroke (c ∷ w) = refl
-  high : (word rest : List ℕ) → all_high word ≡ true → (b : Bool) → is_none (word ++ rest) ≡ b → (word ≡ [] → is_none rest ≡ false) → is_none (word ++ rest) ≡ false
-  high word rest h false e k = e
-  high word rest h true e k = let z : word ≡ [] = none_high word rest h e in ap (λ w. is_none (w ++ rest)) z ∙ k z
-  alone : (word : List ℕ) → all_high word ≡ true → is_none word ≡ false
-  alone word h = ap is_none (sym (append-nil word)) ∙ high word [] h (is_none (word ++ [])) refl (λ z. refl)
-  no_mark : (mode : Mode) (l : Load) → is_none (load_text n mode l) ≡ false
-  no_mark Fore l = alone (set_text n l.front) (set_high n l.front)
-  no_mark Back l = alone (set_text n l.back) (set_high n l.back)
-  no_mark Both l = high (set_text n l.front) (47 ∷ set_text n l.back) (set_high n l.front) (is_none (set_text n l.front ++ 47 ∷ set_text n l.back)) refl (λ z. stroke (set_text n l.back))
+  where
+    stroke : (w : List ℕ) → is_none (47 ∷ w) ≡ false
+    stroke [] = refl
+    stroke (c ∷ w) = refl
+
+    high : (word rest : List ℕ) → all_high word ≡ true → (b : Bool) → is_none (word ++ rest) ≡ b → (word ≡ [] → is_none rest ≡ false) → is_none (word ++ rest) ≡ false
+    high word rest h false e k = e
+    high word rest h true e k = let z : word ≡ [] = none_high word rest h e in ap (λ w. is_none (w ++ rest)) z ∙ k z
+
+    alone : (word : List ℕ) → all_high word ≡ true → is_none word ≡ false
+    alone word h = ap is_none (sym (append-nil word)) ∙ high word [] h (is_none (word ++ [])) refl (λ z. refl)
+
+    no_mark : (mode : Mode) (l : Load) → is_none (load_text n mode l) ≡ false
+    no_mark Fore l = alone (set_text n l.front) (set_high n l.front)
+    no_mark Back l = alone (set_text n l.back) (set_high n l.back)
+    no_mark Both l = high (set_text n l.front) (47 ∷ set_text n l.back) (set_high n l.front) (is_none (set_text n l.front ++ 47 ∷ set_text n l.back)) refl (λ z. stroke (set_text n l.back))
 
 is_none_word : (word : List ℕ) → is_none word ≡ true → word ≡ 45 ∷ []
 is_none_word [] e = (cc)
@@ -111,10 +114,10 @@ last_lacks n mode None = refl
 last_lacks n Fore (Some l) = high_lacks 32 (set_text n l.front) (omega arith) (set_high n l.front)
 last_lacks n Back (Some l) = high_lacks 32 (set_text n l.back) (omega arith) (set_high n l.back)
 last_lacks n Both (Some l) = join (set_text n l.front) (47 ∷ set_text n l.back) (high_lacks 32 (set_text n l.front) (omega arith) (set_high n l.front)) (high_lacks 32 (set_text n l.back) (omega arith) (set_high n l.back))
- where
-  join : (a b : List ℕ) → lacks 32 a ≡ true → lacks 32 b ≡ true → lacks 32 (a ++ b) ≡ true
-  join [] b e f = f
-  join (x ∷ a) b e f = both (not (nat_eq x 32)) (lacks 32 (a ++ b)) (left (not (nat_eq x 32)) (lacks 32 a) e) (join a b (right (not (nat_eq x 32)) (lacks 32 a) e) f)
+  where
+    join : (a b : List ℕ) → lacks 32 a ≡ true → lacks 32 b ≡ true → lacks 32 (a ++ b) ≡ true
+    join [] b e f = f
+    join (x ∷ a) b e f = both (not (nat_eq x 32)) (lacks 32 (a ++ b)) (left (not (nat_eq x 32)) (lacks 32 a) e) (join a b (right (not (nat_eq x 32)) (lacks 32 a) e) f)
 
 -- a frame
 abbrev pub the_frame : Mode → List Bool → ℕ → Option Load → List ℕ → FrameDraft
@@ -197,7 +200,7 @@ made : (n : ℕ) (line k0 k1 l0 l1 r1 : List ℕ) (mode : Mode) (s : List Bool) 
 unfolding row_text
 made n line k0 k1 l0 l1 r1 mode s d a b c m e g x =
     let t1 : (mode_letter mode ∷ []) ++ 32 ∷ (set_text n s ++ 32 ∷ (number_text x.most ++ 32 ∷ (last_text n mode x.last ++ 32 ∷ cites_text x.cites))) ≡ k1 =
-        ap (λ z. (mode_letter mode ∷ []) ++ 32 ∷ (set_text n s ++ 32 ∷ z)) (sym x.text) ∙ ap (λ z. (mode_letter mode ∷ []) ++ 32 ∷ z) (sym e) ∙ ap (λ z. z ++ 32 ∷ l1) m ∙ sym c in
+    ap (λ z. (mode_letter mode ∷ []) ++ 32 ∷ (set_text n s ++ 32 ∷ z)) (sym x.text) ∙ ap (λ z. (mode_letter mode ∷ []) ++ 32 ∷ z) (sym e) ∙ ap (λ z. z ++ 32 ∷ l1) m ∙ sym c in
     along n line (the_frame mode s x.few x.last x.read) d x.is (record {
       most = x.most;
       cites = x.cites;

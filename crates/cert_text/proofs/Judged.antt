@@ -1,20 +1,19 @@
 -- What is read of a line decides what it says.
-use Rattle.std.proofs.Common.{◌≡◌, ◌≢◌, ℕ, suc, ◌+◌, ◌-◌, ◌<◌, ◌≤◌, Bool, true, false, List, [], ◌∷◌, ◌++◌, length, take, get_or, map, min, refl, sym, ◌∙◌, ap, subst, arith, Some, None, Option, Ok, Err, Result, lit≤}
-use Rattle.std.specs.Prelude.{codes, bytes_eq, slice_get}
+use Rattle.std.proofs.Common.{◌≡◌, ◌≢◌, ℕ, suc, ◌+◌, ◌<◌, ◌≤◌, true, false, List, length, take, get_or, refl, sym, ◌∙◌, ap, subst, arith, Some, None, Err, lit≤}
+use Rattle.std.specs.Prelude.{codes, bytes_eq}
 use Rattle.std.proofs.lemmas.Slice.Eq.{bytes_eq-Decides}
 use Rattle.std.proofs.lemmas.Option.{same_Some, none-some, slice_get-get_or}
 use Rattle.std.proofs.lemmas.List.{take_more, take_all}
 use Rattle.cert_text.proofs.Composing.{said_more}
 use Rattle.cert_text.specs.declared.patterns.Key.{Key}
 use Rattle.cert_text.specs.declared.patterns.Key.TheVariants as keys
-use Rattle.line_rules.specs.Ranges.{IsCycle, IsAsked, IsPlaced, IsOf, AreCites}
-use Rattle.line_rules.specs.declared.types.LineKind.{LineKind}
+use Rattle.line_rules.specs.Ranges.{IsCycle, IsAsked, AreCites}
 use Rattle.line_rules.specs.declared.types.LineKind.TheVariants.{Straight, U}
 use Rattle.line_rules.specs.declared.types.Ask.{Ask}
 use Rattle.line_rules.specs.declared.types.Ask.TheVariants as ask
 use Rattle.std.proofs.lemmas.Bool.{false≢true}
 use Rattle.cert_text.specs.Numbers.{number_text}
-use Rattle.cert_text.specs.Rows.{Row, fixed, keyed, seat, bound, branch, swap, trail, frame, Form, number, text, form_of, row_text}
+use Rattle.cert_text.specs.Rows.{Row, fixed, keyed, seat, bound, branch, swap, trail, frame, number, text, form_of, row_text}
 use Rattle.cert_text.specs.Reading.{greatest, parts_at}
 use Rattle.cert_text.specs.LineReading.{keyed_in}
 use Rattle.cert_text.specs.Cert.{ask_row, kind_row}
@@ -125,17 +124,17 @@ one_cycle = record { some = lit≤ tt; limit = lit≤ tt }
 
 pub no_cycle : (line : List ℕ) (x : ℕ) → keyed_in (codes "cycle") line ≡ Some x → (IsCycle x → ⊥) → HasFormOf ask_row IsAsked line × ((v : Ask) → IsAsked v → row_text (ask_row v) ≢ line)
 no_cycle line x e n = let f = keyed_found (codes "cycle") line x e in ((ask.Stations 1, one_cycle, keyed (codes "cycle") f.0, refl, f.1), none)
- where
-  none : (v : Ask) → IsAsked v → row_text (ask_row v) ≢ line
-  none (ask.Stations c) h t = n (let P : ℕ → Type 0 = IsCycle in subst P (sym (keyed_value (codes "cycle") line c x refl t (omega (arith, h.limit)) e)) h)
-  none (ask.Cycle m) h t = (let w : codes "stations" ≡ codes "cycle" = keyed_other (codes "stations") (codes "cycle") line m x refl refl t e in (cc))
+  where
+    none : (v : Ask) → IsAsked v → row_text (ask_row v) ≢ line
+    none (ask.Stations c) h t = n (let P : ℕ → Type 0 = IsCycle in subst P (sym (keyed_value (codes "cycle") line c x refl t (omega (arith, h.limit)) e)) h)
+    none (ask.Cycle m) h t = (let w : codes "stations" ≡ codes "cycle" = keyed_other (codes "stations") (codes "cycle") line m x refl refl t e in (cc))
 
 pub no_stations : (line : List ℕ) (x : ℕ) → keyed_in (codes "stations") line ≡ Some x → ((1 ≤ x) × (x ≤ 1024) → ⊥) → HasFormOf ask_row IsAsked line × ((v : Ask) → IsAsked v → row_text (ask_row v) ≢ line)
 no_stations line x e n = let f = keyed_found (codes "stations") line x e in ((ask.Cycle 1, (lit≤ tt, lit≤ tt), keyed (codes "stations") f.0, refl, f.1), none)
- where
-  none : (v : Ask) → IsAsked v → row_text (ask_row v) ≢ line
-  none (ask.Stations c) h t = (let w : codes "cycle" ≡ codes "stations" = keyed_other (codes "cycle") (codes "stations") line c x refl refl t e in (cc))
-  none (ask.Cycle m) h t = n (let P : ℕ → Type 0 = λ z. (1 ≤ z) × (z ≤ 1024) in subst P (sym (keyed_value (codes "stations") line m x refl t (omega (arith, h.1)) e)) h)
+  where
+    none : (v : Ask) → IsAsked v → row_text (ask_row v) ≢ line
+    none (ask.Stations c) h t = (let w : codes "cycle" ≡ codes "stations" = keyed_other (codes "cycle") (codes "stations") line c x refl refl t e in (cc))
+    none (ask.Cycle m) h t = n (let P : ℕ → Type 0 = λ z. (1 ≤ z) × (z ≤ 1024) in subst P (sym (keyed_value (codes "stations") line m x refl t (omega (arith, h.1)) e)) h)
 
 pub no_ask : (line : List ℕ) → keyed_in (codes "cycle") line ≡ None → keyed_in (codes "stations") line ≡ None → HasFormOf ask_row IsAsked line → ⊥
 no_ask line e f (ask.Stations c, h, r, a, b) = keyed_none (codes "cycle") line r refl e a b
@@ -158,12 +157,12 @@ lower_read line a n x e h = (lower_said a n x h, lower_is line x e h)
 
 pub no_lower : (line : List ℕ) (a : Ask) (n x : ℕ) → n ≤ 1024 → keyed_in (codes "lower") line ≡ Some x → (IsCycle x → ⊥) → HasFormOf opening_row (IsOpening a n) line × ((v : Opening) → IsOpening a n v → row_text (opening_row v) ≢ line)
 no_lower line a n x m e k = let f = keyed_found (codes "lower") line x e in ((opening.Lower 1, lower_said a n 1 one_cycle, keyed (codes "lower") f.0, refl, f.1), none)
- where
-  none : (v : Opening) → IsOpening a n v → row_text (opening_row v) ≢ line
-  none (opening.Lower c) h t =
-      let g = said_lower a n c h in
-      k (let P : ℕ → Type 0 = IsCycle in subst P (sym (keyed_value (codes "lower") line c x refl t (omega (arith, g.limit)) e)) g)
-  none (opening.TooLong task) h t = (let w : codes "infeasible" ≡ codes "lower" = keyed_other (codes "infeasible") (codes "lower") line (suc task) x refl refl t e in (cc))
+  where
+    none : (v : Opening) → IsOpening a n v → row_text (opening_row v) ≢ line
+    none (opening.Lower c) h t =
+        let g = said_lower a n c h in
+        k (let P : ℕ → Type 0 = IsCycle in subst P (sym (keyed_value (codes "lower") line c x refl t (omega (arith, g.limit)) e)) g)
+    none (opening.TooLong task) h t = (let w : codes "infeasible" ≡ codes "lower" = keyed_other (codes "infeasible") (codes "lower") line (suc task) x refl refl t e in (cc))
 
 pub task_read : (line : List ℕ) (n x t : ℕ) → n ≤ 1024 → keyed_in (codes "infeasible") line ≡ Some x → t + 1 ≡ x → t < n → row_text (opening_row (opening.TooLong t)) ≡ line
 task_read line n x t m e f h = ap (λ z. row_text (keyed (codes "infeasible") z)) (omega arith) ∙ keyed_line (codes "infeasible") line x e (omega arith)
@@ -174,12 +173,12 @@ no_task line a c n x s l m e k =
     let f = keyed_found (codes "infeasible") line x e in
     let P : Ask → Type 0 = λ z. HasFormOf opening_row (IsOpening z n) line × ((v : Opening) → IsOpening z n v → row_text (opening_row v) ≢ line) in
     subst P (sym s) ((opening.TooLong 0, omega arith, keyed (codes "infeasible") f.0, refl, f.1), none)
- where
-  none : (v : Opening) → IsOpening (ask.Stations c) n v → row_text (opening_row v) ≢ line
-  none (opening.TooLong task) h t =
-      let w : x ≡ suc task = keyed_value (codes "infeasible") line (suc task) x refl t (omega arith) e in
-      k (omega arith, omega arith)
-  none (opening.Lower b) h t = (let w : codes "lower" ≡ codes "infeasible" = keyed_other (codes "lower") (codes "infeasible") line b x refl refl t e in (cc))
+  where
+    none : (v : Opening) → IsOpening (ask.Stations c) n v → row_text (opening_row v) ≢ line
+    none (opening.TooLong task) h t =
+        let w : x ≡ suc task = keyed_value (codes "infeasible") line (suc task) x refl t (omega arith) e in
+        k (omega arith, omega arith)
+    none (opening.Lower b) h t = (let w : codes "lower" ≡ codes "infeasible" = keyed_other (codes "lower") (codes "infeasible") line b x refl refl t e in (cc))
 
 pub no_opening : (line : List ℕ) (a : Ask) (c n : ℕ) → a ≡ ask.Stations c → keyed_in (codes "lower") line ≡ None → keyed_in (codes "infeasible") line ≡ None → HasFormOf opening_row (IsOpening a n) line → ⊥
 no_opening line a c n s e f (opening.TooLong task, h, r, x, y) = keyed_none (codes "infeasible") line r refl f x y

@@ -1,10 +1,9 @@
 -- What is read of an entry and of a frame decides what they say.
-use Rattle.std.proofs.Common.{◌≡◌, ◌≢◌, ℕ, zero, suc, ◌+◌, ◌-◌, ◌<◌, ◌≤◌, Bool, true, false, not, List, [], ◌∷◌, ◌++◌, length, map, min, replicate, get_or, refl, sym, ◌∙◌, ap, subst, arith, Some, None, Option, lit≤}
-use Rattle.std.specs.Prelude.{slice_get, codes}
+use Rattle.std.proofs.Common.{◌≡◌, ◌≢◌, ℕ, zero, suc, ◌-◌, ◌<◌, ◌≤◌, Bool, true, false, not, List, [], ◌∷◌, ◌++◌, map, replicate, get_or, refl, sym, ◌∙◌, ap, subst, arith, Some, None, Option, lit≤}
+use Rattle.std.specs.Prelude.{codes}
 use Rattle.std.proofs.lemmas.Option.{same_Some, none-some}
 use Rattle.std.proofs.lemmas.List.{length-replicate}
-use Rattle.task_set.specs.Truths.{In}
-use Rattle.line_rules.specs.Ranges.{IsCycle, IsOf, AreCites, IsWhy, IsEntry, IsFrame, IsLast, IsLoadLike}
+use Rattle.line_rules.specs.Ranges.{IsCycle, IsOf, AreCites, IsWhy, IsFrame, IsLast, IsLoadLike}
 use Rattle.line_rules.specs.declared.types.Mode.{Mode}
 use Rattle.line_rules.specs.declared.types.Mode.TheVariants.{Fore, Back, Both}
 use Rattle.line_rules.specs.declared.types.Load.{Load}
@@ -13,21 +12,19 @@ use Rattle.line_rules.specs.declared.types.Why.{Why}
 use Rattle.line_rules.specs.declared.types.Why.TheVariants as whys
 use Rattle.line_rules.specs.declared.types.OpenFrame.{OpenFrame}
 use Rattle.cert_text.specs.Numbers.{number_text, set_text, cites_text, mode_letter}
-use Rattle.cert_text.specs.Rows.{Row, fixed, keyed, seat, bound, branch, swap, trail, frame, Form, entry, open_frame, given, form_of, row_text}
+use Rattle.cert_text.specs.Rows.{Row, fixed, keyed, seat, bound, branch, swap, trail, frame, entry, open_frame, given, form_of, row_text}
 use Rattle.cert_text.specs.Cert.{frame_row, why_row}
-use Rattle.cert_text.specs.Reading.{greatest, set_in}
+use Rattle.cert_text.specs.Reading.{greatest}
 use Rattle.cert_text.specs.LineReading.{entry_in, frame_in}
 use Rattle.cert_text.specs.Judging.{HasFormOf}
-use Rattle.cert_text.specs.Patterns.{IsWhyWithin, IsWithin, why_of, entry_of, IsFrameWithin, frame_of, written, IsGiven, IsSaid, given_row, IsGivenCycle}
+use Rattle.cert_text.specs.Patterns.{IsWithin, entry_of, IsFrameWithin, frame_of, written, IsGiven, IsSaid, given_row, IsGivenCycle}
 use Rattle.cert_text.specs.declared.draft.Draft.{Draft}
-use Rattle.cert_text.specs.declared.draft.DraftWhy.{DraftWhy}
-use Rattle.cert_text.specs.declared.draft.DraftWhy.TheVariants as why
 use Rattle.cert_text.specs.declared.draft.FrameDraft.{FrameDraft}
-use Rattle.cert_text.proofs.SetText.{clip, clip_same, set_again, set_found}
+use Rattle.cert_text.proofs.SetText.{clip, set_again, set_found}
 use Rattle.cert_text.proofs.CiteWords.{sat}
 use Rattle.cert_text.proofs.Judged.{small, small_is}
-use Rattle.cert_text.proofs.EntryLines.{cycle_of, front, draft_of, bound_text, branch_text, swap_text, same_entry, entry_again, entry_found, Found}
-use Rattle.cert_text.proofs.FrameLines.{load_read, last_read, the_frame, frame_again, frame_found, FrameFound}
+use Rattle.cert_text.proofs.EntryLines.{cycle_of, front, draft_of, bound_text, branch_text, swap_text, same_entry, entry_again, entry_found}
+use Rattle.cert_text.proofs.FrameLines.{load_read, last_read, the_frame, frame_again, frame_found}
 
 -- cites below a number that is itself small are read as they are
 pub small_cites : (count : ℕ) (cites : List ℕ) → count < greatest → AreCites count cites → map sat cites ≡ cites
@@ -84,27 +81,32 @@ some_entry n count (Some c) h = (nothing c, (record { set = no_task n; most = li
 -- an entry that may be said is read within the ranges
 within_said : (n count : ℕ) (g : Option ℕ) (e : Entry) (w : Why) → n ≤ 1024 → count ≤ 20000000 → IsSaid n count g e → IsWhy n count w → IsWithin n count (draft_of g (why_row n (written g e.cycle) e w))
 within_said n count None e w a b h k = part w k
- where
-  cyc : sat e.cycle ≡ e.cycle
-  cyc = small_is e.cycle (omega (arith, h.0.cycle.limit))
-  c : IsCycle (sat e.cycle)
-  c = let P : ℕ → Type 0 = IsCycle in subst P (sym cyc) h.0.cycle
-  m : sat e.most ≤ 1024
-  m = omega (arith, h.0.most)
-  part : (w : Why) → IsWhy n count w → IsWithin n count (draft_of None (why_row n (Some e.cycle) e w))
-  part whys.Bound k = record { cycle = c; most = m; why = tt }
-  part (whys.Branch mode cites) k = record { cycle = c; most = m; why = (let P : List ℕ → Type 0 = λ x. AreCites count x in subst P (sym (small_cites count cites (omega arith) k)) k) }
-  part (whys.Swap cite out into) k = record { cycle = c; most = m; why = (omega (arith, k.0), (omega (arith, k.1.0), omega (arith, k.1.0)), (omega (arith, k.1.1), omega (arith, k.1.1))) }
+  where
+    cyc : sat e.cycle ≡ e.cycle
+    cyc = small_is e.cycle (omega (arith, h.0.cycle.limit))
+
+    c : IsCycle (sat e.cycle)
+    c = let P : ℕ → Type 0 = IsCycle in subst P (sym cyc) h.0.cycle
+
+    m : sat e.most ≤ 1024
+    m = omega (arith, h.0.most)
+
+    part : (w : Why) → IsWhy n count w → IsWithin n count (draft_of None (why_row n (Some e.cycle) e w))
+    part whys.Bound k = record { cycle = c; most = m; why = tt }
+    part (whys.Branch mode cites) k = record { cycle = c; most = m; why = (let P : List ℕ → Type 0 = λ x. AreCites count x in subst P (sym (small_cites count cites (omega arith) k)) k) }
+    part (whys.Swap cite out into) k = record { cycle = c; most = m; why = (omega (arith, k.0), (omega (arith, k.1.0), omega (arith, k.1.0)), (omega (arith, k.1.1), omega (arith, k.1.1))) }
 within_said n count (Some x) e w a b h k = part w k
- where
-  c : IsCycle x
-  c = let P : ℕ → Type 0 = IsCycle in subst P h.1 h.0.cycle
-  m : sat e.most ≤ 1024
-  m = omega (arith, h.0.most)
-  part : (w : Why) → IsWhy n count w → IsWithin n count (draft_of (Some x) (why_row n None e w))
-  part whys.Bound k = record { cycle = c; most = m; why = tt }
-  part (whys.Branch mode cites) k = record { cycle = c; most = m; why = (let P : List ℕ → Type 0 = λ x. AreCites count x in subst P (sym (small_cites count cites (omega arith) k)) k) }
-  part (whys.Swap cite out into) k = record { cycle = c; most = m; why = (omega (arith, k.0), (omega (arith, k.1.0), omega (arith, k.1.0)), (omega (arith, k.1.1), omega (arith, k.1.1))) }
+  where
+    c : IsCycle x
+    c = let P : ℕ → Type 0 = IsCycle in subst P h.1 h.0.cycle
+
+    m : sat e.most ≤ 1024
+    m = omega (arith, h.0.most)
+
+    part : (w : Why) → IsWhy n count w → IsWithin n count (draft_of (Some x) (why_row n None e w))
+    part whys.Bound k = record { cycle = c; most = m; why = tt }
+    part (whys.Branch mode cites) k = record { cycle = c; most = m; why = (let P : List ℕ → Type 0 = λ x. AreCites count x in subst P (sym (small_cites count cites (omega arith) k)) k) }
+    part (whys.Swap cite out into) k = record { cycle = c; most = m; why = (omega (arith, k.0), (omega (arith, k.1.0), omega (arith, k.1.0)), (omega (arith, k.1.1), omega (arith, k.1.1))) }
 
 pub entry_range : (n count : ℕ) (g : Option ℕ) (line : List ℕ) (d : Draft) → n ≤ 1024 → count ≤ 20000000 → IsGivenCycle g → entry_in n g line ≡ Some d → (IsWithin n count d → ⊥)
     → HasFormOf (given_row n g) (IsSaid n count g) line × ((v : Entry) → IsSaid n count g v → row_text (given_row n g v) ≢ line)
@@ -135,7 +137,7 @@ bound_said n count g c s m a e w =
     let q : m ≡ sat m = small m (sat m) refl (omega (arith, w.most)) in (
       (record { set = t.1; most = w.most; cycle = w.cycle; why = tt }, y.1),
       ap (λ z. row_text (bound n z (clip n s) (sat m))) y.0 ∙ ap (λ z. row_text (bound n c (clip n s) z)) (sym q) ∙ bound_text n c (clip n s) m
-      ∙ ap (λ z. codes "bound" ++ 32 ∷ front c (z ++ 32 ∷ number_text m)) t.0 ∙ sym (bound_text n c s m),
+          ∙ ap (λ z. codes "bound" ++ 32 ∷ front c (z ++ 32 ∷ number_text m)) t.0 ∙ sym (bound_text n c s m),
     )
 
 branch_said : (n count : ℕ) (g c : Option ℕ) (mode : Mode) (s : List Bool) (m : ℕ) (cites : List ℕ) → n ≤ 1024 → count ≤ 20000000 → given c ≡ not (given g) → IsWithin n count (draft_of g (branch n c mode s m cites))
@@ -147,8 +149,8 @@ branch_said n count g c mode s m cites a b e w =
     let r : cites ≡ map sat cites = cites_small count cites (map sat cites) (omega arith) refl w.why in (
       (record { set = t.1; most = w.most; cycle = w.cycle; why = w.why }, y.1),
       ap (λ z. row_text (branch n z mode (clip n s) (sat m) (map sat cites))) y.0 ∙ ap (λ z. row_text (branch n c mode (clip n s) z (map sat cites))) (sym q) ∙ ap (λ z. row_text (branch n c mode (clip n s) m z)) (sym r)
-      ∙ branch_text n c mode (clip n s) m cites
-      ∙ ap (λ z. codes "branch" ++ 32 ∷ ((mode_letter mode ∷ []) ++ 32 ∷ front c (z ++ 32 ∷ (number_text m ++ 32 ∷ cites_text cites)))) t.0 ∙ sym (branch_text n c mode s m cites),
+          ∙ branch_text n c mode (clip n s) m cites
+          ∙ ap (λ z. codes "branch" ++ 32 ∷ ((mode_letter mode ∷ []) ++ 32 ∷ front c (z ++ 32 ∷ (number_text m ++ 32 ∷ cites_text cites)))) t.0 ∙ sym (branch_text n c mode s m cites),
     )
 
 swap_said : (n count : ℕ) (g c : Option ℕ) (s : List Bool) (m cite out into : ℕ) → n ≤ 1024 → count ≤ 20000000 → given c ≡ not (given g) → IsWithin n count (draft_of g (swap n c s m cite out into))
@@ -162,9 +164,9 @@ swap_said n count g c s m cite out into a b e w =
     let i : into ≡ suc (sat into - 1) = omega (arith, w.why.2) in (
       (record { set = t.1; most = w.most; cycle = w.cycle; why = (w.why.0, (omega (arith, w.why.1), omega (arith, w.why.2))) }, y.1),
       ap (λ z. row_text (swap n z (clip n s) (sat m) (sat cite) (suc (sat out - 1)) (suc (sat into - 1)))) y.0 ∙ ap (λ z. row_text (swap n c (clip n s) z (sat cite) (suc (sat out - 1)) (suc (sat into - 1)))) (sym q)
-      ∙ ap (λ z. row_text (swap n c (clip n s) m z (suc (sat out - 1)) (suc (sat into - 1)))) (sym x) ∙ ap (λ z. row_text (swap n c (clip n s) m cite z (suc (sat into - 1)))) (sym o)
-      ∙ ap (λ z. row_text (swap n c (clip n s) m cite out z)) (sym i) ∙ swap_text n c (clip n s) m cite out into
-      ∙ ap (λ z. codes "swap" ++ 32 ∷ front c (z ++ 32 ∷ (number_text m ++ 32 ∷ (number_text cite ++ 32 ∷ (number_text out ++ 32 ∷ number_text into))))) t.0 ∙ sym (swap_text n c s m cite out into),
+          ∙ ap (λ z. row_text (swap n c (clip n s) m z (suc (sat out - 1)) (suc (sat into - 1)))) (sym x) ∙ ap (λ z. row_text (swap n c (clip n s) m cite z (suc (sat into - 1)))) (sym o)
+          ∙ ap (λ z. row_text (swap n c (clip n s) m cite out z)) (sym i) ∙ swap_text n c (clip n s) m cite out into
+          ∙ ap (λ z. codes "swap" ++ 32 ∷ front c (z ++ 32 ∷ (number_text m ++ 32 ∷ (number_text cite ++ 32 ∷ (number_text out ++ 32 ∷ number_text into))))) t.0 ∙ sym (swap_text n c s m cite out into),
     )
 
 row_said : (n count : ℕ) (g : Option ℕ) (r : Row) → n ≤ 1024 → count ≤ 20000000 → form_of r ≡ entry n (not (given g)) → IsWithin n count (draft_of g r) → Says n count g (row_text r) (draft_of g r)
@@ -220,7 +222,7 @@ frame_range n count line d a b e k =
       (s.0, s.1, frame n d.mode d.set f.most d.last f.cites, refl, f.text),
       λ v u t.
           let w : the_frame v.mode (clip n v.set) (sat v.most) (last_read n v.mode v.last) (map sat v.cites) ≡ d =
-              same_Some (the_frame v.mode (clip n v.set) (sat v.most) (last_read n v.mode v.last) (map sat v.cites)) d (sym (frame_again n v.mode v.set v.most v.last v.cites) ∙ ap (frame_in n) t ∙ e) in
+          same_Some (the_frame v.mode (clip n v.set) (sat v.most) (last_read n v.mode v.last) (map sat v.cites)) d (sym (frame_again n v.mode v.set v.most v.last v.cites) ∙ ap (frame_in n) t ∙ e) in
           let P : FrameDraft → Type 0 = λ z. IsFrameWithin count z in
           let Q : List ℕ → Type 0 = λ x. AreCites count x in
           k (subst P w (record { most = omega (arith, u.most); cites = subst Q (sym (small_cites count v.cites (omega arith) u.cites)) u.cites })),
@@ -233,11 +235,11 @@ none_at j = none_in 1024 j
 last_said : (n : ℕ) (mode : Mode) (last : Option Load) → n ≤ 1024 → last_read n mode last ≡ last → IsLast n mode last
 last_said n mode None a e = tt
 last_said n mode (Some l) a e = let P : Load → Type 0 = λ z. IsLoadLike n mode z in subst P (same_Some (load_read n mode l) l e) (like mode)
- where
-  like : (mode : Mode) → IsLoadLike n mode (load_read n mode l)
-  like Fore = record { front = (clip_text n l.front a).1; back = no_task n; suits = none_at }
-  like Back = record { front = no_task n; back = (clip_text n l.back a).1; suits = none_at }
-  like Both = record { front = (clip_text n l.front a).1; back = (clip_text n l.back a).1; suits = tt }
+  where
+    like : (mode : Mode) → IsLoadLike n mode (load_read n mode l)
+    like Fore = record { front = (clip_text n l.front a).1; back = no_task n; suits = none_at }
+    like Back = record { front = no_task n; back = (clip_text n l.back a).1; suits = none_at }
+    like Both = record { front = (clip_text n l.front a).1; back = (clip_text n l.back a).1; suits = tt }
 
 pub frame_said : (n count : ℕ) (line : List ℕ) (d : FrameDraft) → n ≤ 1024 → count ≤ 20000000 → frame_in n line ≡ Some d → IsFrameWithin count d → IsFrame n count (frame_of d) × (row_text (frame_row n (frame_of d)) ≡ line)
 frame_said n count line d a b e w =

@@ -1,35 +1,21 @@
 -- What is read of a place, the head of a trail, an entry and a frame decides what they say.
-use Rattle.std.proofs.Common.{◌≡◌, ◌≢◌, ℕ, zero, suc, ◌+◌, ◌-◌, ◌<◌, ◌≤◌, Bool, true, false, not, List, [], ◌∷◌, ◌++◌, length, map, min, replicate, refl, sym, ◌∙◌, ap, subst, arith, Some, None, Option, Ok, Err, Result, lit≤}
-use Rattle.std.specs.Prelude.{slice_get}
+use Rattle.std.proofs.Common.{◌≡◌, ◌≢◌, ℕ, ◌≤◌, List, refl, sym, ◌∙◌, ap, subst, arith, Some, None, Option, lit≤}
 use Rattle.std.proofs.lemmas.Option.{same_Some, none-some}
-use Rattle.task_set.specs.Truths.{In}
-use Rattle.line_rules.specs.Ranges.{IsCycle, IsPlaced, IsOf, AreCites, IsWhy, IsEntry, IsFrame, IsLast, IsLoadLike}
+use Rattle.line_rules.specs.Ranges.{IsCycle, IsPlaced}
 use Rattle.line_rules.specs.Balance.{IsSide}
 use Rattle.line_rules.specs.declared.types.LineKind.{LineKind}
 use Rattle.line_rules.specs.declared.types.LineKind.TheVariants.{Straight, U}
 use Rattle.line_rules.specs.declared.types.Side.{Side}
 use Rattle.line_rules.specs.declared.types.Side.TheVariants.{Front}
 use Rattle.line_rules.specs.declared.types.Seatplace.{Seatplace}
-use Rattle.line_rules.specs.declared.types.Mode.{Mode}
-use Rattle.line_rules.specs.declared.types.Mode.TheVariants.{Fore, Back, Both}
-use Rattle.line_rules.specs.declared.types.Load.{Load}
-use Rattle.line_rules.specs.declared.types.Entry.{Entry}
-use Rattle.line_rules.specs.declared.types.Why.{Why}
-use Rattle.line_rules.specs.declared.types.Why.TheVariants as whys
-use Rattle.line_rules.specs.declared.types.OpenFrame.{OpenFrame}
-use Rattle.cert_text.specs.Rows.{Row, fixed, keyed, seat, bound, branch, swap, trail, frame, Form, place, head, entry, open_frame, given, form_of, row_text}
-use Rattle.cert_text.specs.Cert.{seat_row, frame_row, why_row}
-use Rattle.cert_text.specs.Reading.{greatest}
-use Rattle.cert_text.specs.LineReading.{seat_in, trail_in, entry_in, frame_in}
-use Rattle.cert_text.specs.Judging.{HasFormOf, IsJudged}
-use Rattle.cert_text.specs.Patterns.{IsHead, IsWhyWithin, IsWithin, why_of, entry_of, IsFrameWithin, frame_of, written, IsGiven, IsSaid, given_row, IsGivenCycle}
-use Rattle.cert_text.specs.declared.draft.Draft.{Draft}
-use Rattle.cert_text.specs.declared.draft.DraftWhy.{DraftWhy}
-use Rattle.cert_text.specs.declared.draft.DraftWhy.TheVariants as why
-use Rattle.cert_text.specs.declared.draft.FrameDraft.{FrameDraft}
+use Rattle.cert_text.specs.Rows.{Row, fixed, keyed, seat, bound, branch, swap, trail, frame, place, head, form_of, row_text}
+use Rattle.cert_text.specs.Cert.{seat_row}
+use Rattle.cert_text.specs.LineReading.{seat_in, trail_in}
+use Rattle.cert_text.specs.Judging.{HasFormOf}
+use Rattle.cert_text.specs.Patterns.{IsHead}
 use Rattle.cert_text.proofs.CiteWords.{sat}
 use Rattle.cert_text.proofs.Judged.{small, small_is}
-use Rattle.cert_text.proofs.OtherLines.{seat_again, seat_found, SeatFound, side_read, sat_trail, trail_again, trail_found}
+use Rattle.cert_text.proofs.OtherLines.{seat_again, seat_found, side_read, sat_trail, trail_again, trail_found}
 
 one_cycle : IsCycle 1
 one_cycle = record { some = lit≤ tt; limit = lit≤ tt }
@@ -94,17 +80,17 @@ small_trail (Some t) h = ap (λ z. Some (z, sat t.1)) (small_is t.0 (omega (arit
 
 pub trail_ok : (line : List ℕ) (t : Option (ℕ × ℕ)) → trail_in line ≡ Some t → IsHead t → row_text (trail t) ≡ line
 trail_ok line None e h = let f = trail_found line None e in none f.0 f.1 f.2
- where
-  none : (t : Option (ℕ × ℕ)) → row_text (trail t) ≡ line → sat_trail t ≡ None → row_text (trail None) ≡ line
-  none None a b = a
-  none (Some t) a b = (cc)
+  where
+    none : (t : Option (ℕ × ℕ)) → row_text (trail t) ≡ line → sat_trail t ≡ None → row_text (trail None) ≡ line
+    none None a b = a
+    none (Some t) a b = (cc)
 trail_ok line (Some x) e h = let f = trail_found line (Some x) e in some f.0 f.1 f.2
- where
-  some : (t : Option (ℕ × ℕ)) → row_text (trail t) ≡ line → sat_trail t ≡ Some x → row_text (trail (Some x)) ≡ line
-  some None a b = (cc)
-  some (Some t) a b =
-      let w : (sat t.0, sat t.1) ≡ x = same_Some (sat t.0, sat t.1) x b in
-      ap (λ z. row_text (trail (Some (z, x.1)))) (sym (small t.0 x.0 (ap (λ z. z.0) w) (omega (arith, h.1)))) ∙ ap (λ z. row_text (trail (Some (t.0, z)))) (sym (small t.1 x.1 (ap (λ z. z.1) w) (omega (arith, h.2.limit)))) ∙ a
+  where
+    some : (t : Option (ℕ × ℕ)) → row_text (trail t) ≡ line → sat_trail t ≡ Some x → row_text (trail (Some x)) ≡ line
+    some None a b = (cc)
+    some (Some t) a b =
+        let w : (sat t.0, sat t.1) ≡ x = same_Some (sat t.0, sat t.1) x b in
+        ap (λ z. row_text (trail (Some (z, x.1)))) (sym (small t.0 x.0 (ap (λ z. z.0) w) (omega (arith, h.1)))) ∙ ap (λ z. row_text (trail (Some (t.0, z)))) (sym (small t.1 x.1 (ap (λ z. z.1) w) (omega (arith, h.2.limit)))) ∙ a
 
 pub trail_range : (line : List ℕ) (x : ℕ × ℕ) → trail_in line ≡ Some (Some x) → (IsHead (Some x) → ⊥) → HasFormOf trail IsHead line × ((v : Option (ℕ × ℕ)) → IsHead v → row_text (trail v) ≢ line)
 trail_range line x e n =

@@ -1,5 +1,5 @@
 -- What an entry or a frame within its ranges, or out of them, says of its line.
-use Rattle.std.proofs.Common.{◌≡◌, ℕ, ◌≤◌, List, Some, None, Option, Ok, Err, Result, subst, sym}
+use Rattle.std.proofs.Common.{◌≡◌, ℕ, ◌≤◌, List, Some, Option, Ok, Err, Result, subst, sym}
 use Rattle.std.specs.Prelude.{MatchResult}
 use Rattle.line_rules.specs.declared.types.Entry.{Entry}
 use Rattle.line_rules.specs.declared.types.OpenFrame.{OpenFrame}

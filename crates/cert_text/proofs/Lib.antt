@@ -19,3 +19,4 @@ pub mod JudgedResult
 pub mod Wholes
 pub mod Failing
 pub mod Claims
+pub mod TakenLines

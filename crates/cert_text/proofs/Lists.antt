@@ -1,5 +1,5 @@
 -- Lists of numbers between commas.
-use Rattle.std.proofs.Common.{◌≡◌, ℕ, suc, ◌<◌, Bool, true, false, cond, nat_eq, List, [], ◌∷◌, ◌++◌, length, refl, sym, ◌∙◌, ap, arith, ◌⊎◌, inl, inr, length-append, Some, None, Option, append_assoc}
+use Rattle.std.proofs.Common.{◌≡◌, ℕ, ◌<◌, Bool, true, false, cond, nat_eq, List, [], ◌∷◌, ◌++◌, length, refl, sym, ◌∙◌, ap, arith, ◌⊎◌, inl, inr, length-append, Some, None, Option, append_assoc}
 use Rattle.std.proofs.lemmas.Bool.Decides.{nat_tests}
 use Rattle.line_io.specs.Lines.{onto_first}
 use Rattle.cert_text.specs.Reading.{◌>>=◌, parts_at, onto_part, pieces_at, numbers_in, number_in}
@@ -9,11 +9,11 @@ abbrev pub behind : List ℕ → Option (List ℕ) → Option (List ℕ)
 behind front None = None
 behind front (Some ns) = Some (front ++ ns)
 
-onto_some : (b : ℕ) (o : Option (List ℕ × List ℕ)) (p : List ℕ × List ℕ) → onto_part b o ≡ Some p → (q : List ℕ × List ℕ) × (o ≡ Some q) × ((b ∷ q.0, q.1) ≡ p)
+pub onto_some : (b : ℕ) (o : Option (List ℕ × List ℕ)) (p : List ℕ × List ℕ) → onto_part b o ≡ Some p → (q : List ℕ × List ℕ) × (o ≡ Some q) × ((b ∷ q.0, q.1) ≡ p)
 onto_some b None p e = (cc)
 onto_some b (Some q) p e = (q, refl, cc)
 
-onto_none : (b : ℕ) (o : Option (List ℕ × List ℕ)) → onto_part b o ≡ None → o ≡ None
+pub onto_none : (b : ℕ) (o : Option (List ℕ × List ℕ)) → onto_part b o ≡ None → o ≡ None
 onto_none b None e = refl
 onto_none b (Some q) e = (cc)
 

@@ -1,9 +1,9 @@
 -- Numbers that are written are read, and what is read as a number is how it is written.
-use Rattle.std.proofs.Common.{◌≡◌, ◌≢◌, ℕ, zero, suc, ◌+◌, ◌-◌, ◌*◌, ◌/◌, ◌%◌, ◌^◌, ◌<◌, ◌≤◌, Bool, true, false, not, cond, ◌||◌, ◌&&◌, nat_eq, nat_le, nat_lt, List, [], ◌∷◌, ◌++◌, length, get_or, min, refl, sym, ◌∙◌, ap, subst, arith, Some, None, Option, append_assoc, length-append}
+use Rattle.std.proofs.Common.{◌≡◌, ◌≢◌, ℕ, zero, suc, ◌+◌, ◌-◌, ◌*◌, ◌/◌, ◌%◌, ◌<◌, ◌≤◌, Bool, true, false, not, cond, ◌||◌, ◌&&◌, nat_eq, nat_le, nat_lt, List, [], ◌∷◌, ◌++◌, min, refl, sym, ◌∙◌, ap, subst, arith, Some, None, Option, append_assoc}
 use Rattle.std.proofs.lemmas.Bool.Decides.{nat_tests}
 use Rattle.std.proofs.lemmas.List.{append-nil}
 use Rattle.line_io.specs.Lines.{is_digit, all_digits, value_after, value_of}
-use Rattle.cert_text.specs.Numbers.{digits_within, number_text}
+use Rattle.cert_text.specs.Numbers.{number_text}
 use Rattle.cert_text.specs.Reading.{◌>>=◌, parts_at, onto_part, number_in, number_first, is_unplain, greatest}
 use Rattle.cert_text.proofs.Digits.{number_small, number_more}
 use Rattle.cert_text.proofs.Parts.{value_push}
@@ -102,11 +102,11 @@ plain_digits (b ∷ c ∷ ds) e f =
 pub number_found : (word : List ℕ) (v : ℕ) → number_in word ≡ Some v → (number_text (value_of word) ≡ word) × (v ≡ min (value_of word) greatest)
 unfolding number_in
 number_found word v e = I (is_unplain word) (all_digits word) refl refl e
- where
-  I : (a b : Bool) → is_unplain word ≡ a → all_digits word ≡ b → cond (a || not b) None (Some (min (value_of word) greatest)) ≡ Some v → (number_text (value_of word) ≡ word) × (v ≡ min (value_of word) greatest)
-  I true b p q h = (cc)
-  I false false p q h = (cc)
-  I false true p q h = (plain_digits word p q, cc)
+  where
+    I : (a b : Bool) → is_unplain word ≡ a → all_digits word ≡ b → cond (a || not b) None (Some (min (value_of word) greatest)) ≡ Some v → (number_text (value_of word) ≡ word) × (v ≡ min (value_of word) greatest)
+    I true b p q h = (cc)
+    I false false p q h = (cc)
+    I false true p q h = (plain_digits word p q, cc)
 
 -- each byte is at least the digit 0, so no mark below it stands among them
 abbrev pub all_high : List ℕ → Bool
@@ -137,10 +137,10 @@ high_lacks mark (b ∷ bytes) h e =
 
 isnt : (b mark : ℕ) → not (nat_eq b mark) ≡ true → nat_eq b mark ≡ false
 isnt b mark e = I (nat_eq b mark) e
- where
-  I : (t : Bool) → not t ≡ true → t ≡ false
-  I true h = (cc)
-  I false h = refl
+  where
+    I : (t : Bool) → not t ≡ true → t ≡ false
+    I true h = (cc)
+    I false h = refl
 
 is_mark : (mark : ℕ) → nat_eq mark mark ≡ true
 is_mark mark = grind (arith, nat_tests)

@@ -1,5 +1,5 @@
 -- The other lines that are written are read, and what is read is how they are written.
-use Rattle.std.proofs.Common.{◌≡◌, ℕ, suc, ◌<◌, ◌≤◌, Bool, true, false, not, cond, ◌&&◌, nat_eq, List, [], ◌∷◌, ◌++◌, map, refl, sym, ◌∙◌, ap, subst, arith, Some, None, Option, ◌⊎◌, inl, inr}
+use Rattle.std.proofs.Common.{◌≡◌, ℕ, Bool, true, false, cond, nat_eq, List, [], ◌∷◌, ◌++◌, refl, sym, ◌∙◌, ap, arith, Some, None, Option, ◌⊎◌, inl, inr}
 use Rattle.std.specs.Prelude.{codes, bytes_eq}
 use Rattle.std.proofs.lemmas.Slice.Eq.{bytes_eq-Decides}
 use Rattle.std.proofs.lemmas.Option.{same_Some, none-some}
@@ -9,18 +9,13 @@ use Rattle.line_rules.specs.declared.types.LineKind.{LineKind}
 use Rattle.line_rules.specs.declared.types.LineKind.TheVariants.{Straight, U}
 use Rattle.line_rules.specs.declared.types.Side.{Side}
 use Rattle.line_rules.specs.declared.types.Side.TheVariants.{Front, Back as AtBack}
-use Rattle.line_rules.specs.declared.types.Mode.{Mode}
-use Rattle.line_rules.specs.declared.types.Mode.TheVariants.{Fore, Back, Both}
-use Rattle.line_rules.specs.declared.types.Load.{Load}
-use Rattle.cert_text.specs.Numbers.{number_text, set_text, cites_text, mode_letter, load_text, last_text}
-use Rattle.cert_text.specs.Rows.{Row, fixed, keyed, seat, bound, branch, swap, trail, frame, row_text}
-use Rattle.cert_text.specs.Reading.{◌>>=◌, parts_at, number_in, number_first, set_in, mode_in, cites_in, is_none}
-use Rattle.cert_text.specs.LineReading.{keyed_in, seat_in, side_in, side_of_letter, load_in, last_in, frame_in, trail_in, trail_numbers}
-use Rattle.cert_text.specs.declared.draft.FrameDraft.{FrameDraft}
-use Rattle.cert_text.proofs.NumberWords.{number_again, number_found, number_first_again, split_again, split_none, high_lacks, all_high, lacks, bind_some, number_high, both, left, right}
-use Rattle.cert_text.proofs.SetText.{clip, clip_same, set_again, set_found, set_high}
-use Rattle.cert_text.proofs.CiteWords.{sat, cites_again, cites_found, mode_again, mode_found}
-use Rattle.cert_text.proofs.EntryLines.{split_set, split_mode, number_first_found, set_first_found, same_word}
+use Rattle.cert_text.specs.Numbers.{number_text}
+use Rattle.cert_text.specs.Rows.{keyed, seat, trail, row_text}
+use Rattle.cert_text.specs.Reading.{◌>>=◌, parts_at, number_in, number_first}
+use Rattle.cert_text.specs.LineReading.{keyed_in, seat_in, side_in, trail_in, trail_numbers}
+use Rattle.cert_text.proofs.NumberWords.{number_again, number_found, number_first_again, split_again, split_none, high_lacks, lacks, bind_some, number_high}
+use Rattle.cert_text.proofs.CiteWords.{sat}
+use Rattle.cert_text.proofs.EntryLines.{number_first_found, same_word}
 use Rattle.cert_text.proofs.Lists.{split_parts, chosen}
 
 same_words : (a : List ℕ) → bytes_eq a a ≡ true
@@ -110,14 +105,15 @@ sat_trail (Some t) = Some (sat t.0, sat t.1)
 
 not_zero_word : (n : ℕ) (rest : List ℕ) → bytes_eq (number_text n ++ 32 ∷ rest) (codes "0") ≡ false
 not_zero_word n rest = I (bytes_eq (number_text n ++ 32 ∷ rest) (codes "0")) refl
- where
-  lack : lacks 32 (codes "0") ≡ true
-  lack = refl
-  I : (t : Bool) → bytes_eq (number_text n ++ 32 ∷ rest) (codes "0") ≡ t → bytes_eq (number_text n ++ 32 ∷ rest) (codes "0") ≡ false
-  I false e = e
-  I true e =
-      absurd (none-some (number_text n, rest)
-      (sym (split_none 32 (codes "0") refl) ∙ ap (parts_at 32) (sym (same_word (number_text n ++ 32 ∷ rest) (codes "0") e)) ∙ split_again 32 (number_text n) rest (high_lacks 32 (number_text n) (omega arith) (number_high n))))
+  where
+    lack : lacks 32 (codes "0") ≡ true
+    lack = refl
+
+    I : (t : Bool) → bytes_eq (number_text n ++ 32 ∷ rest) (codes "0") ≡ t → bytes_eq (number_text n ++ 32 ∷ rest) (codes "0") ≡ false
+    I false e = e
+    I true e =
+        absurd (none-some (number_text n, rest)
+        (sym (split_none 32 (codes "0") refl) ∙ ap (parts_at 32) (sym (same_word (number_text n ++ 32 ∷ rest) (codes "0") e)) ∙ split_again 32 (number_text n) rest (high_lacks 32 (number_text n) (omega arith) (number_high n))))
 
 pub trail_again : (t : Option (ℕ × ℕ)) → trail_in (row_text (trail t)) ≡ Some (sat_trail t)
 unfolding trail_in row_text trail_numbers
@@ -140,10 +136,10 @@ numbers_found bytes x e =
     let y : Some (f.0.0, c.0) ≡ x = same_Some (Some (f.0.0, c.0)) x c.2 in
     elim (chosen (bytes_eq a.0.0 (codes "at")) (number_in a.0.1) None (Some c.0) c.1) [
       | inl h ↦ (let n = number_found a.0.1 c.0 h.1 in (
-          (g.0, value_of a.0.1),
-          ap (λ w. number_text g.0 ++ 32 ∷ (codes "at" ++ 32 ∷ w)) n.0 ∙ ap (λ w. number_text g.0 ++ 32 ∷ (w ++ 32 ∷ a.0.1)) (sym (same_word a.0.0 (codes "at") h.0)) ∙ ap (λ w. number_text g.0 ++ 32 ∷ w) (sym (split_parts 32 f.0.1 a.0 a.1)) ∙ sym g.1,
-          ap (λ z. Some (z, sat (value_of a.0.1))) g.2 ∙ ap (λ z. Some (f.0.0, z)) (sym n.1) ∙ y,
-        ))
+        (g.0, value_of a.0.1),
+        ap (λ w. number_text g.0 ++ 32 ∷ (codes "at" ++ 32 ∷ w)) n.0 ∙ ap (λ w. number_text g.0 ++ 32 ∷ (w ++ 32 ∷ a.0.1)) (sym (same_word a.0.0 (codes "at") h.0)) ∙ ap (λ w. number_text g.0 ++ 32 ∷ w) (sym (split_parts 32 f.0.1 a.0 a.1)) ∙ sym g.1,
+        ap (λ z. Some (z, sat (value_of a.0.1))) g.2 ∙ ap (λ z. Some (f.0.0, z)) (sym n.1) ∙ y,
+      ))
       | inr h ↦ (let w : None ≡ Some c.0 = h.1 in (cc))
     ]
 

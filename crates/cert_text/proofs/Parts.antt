@@ -1,7 +1,7 @@
 -- Words and their parts.
-use Rattle.std.proofs.Common.{◌≡◌, ℕ, zero, suc, ◌+◌, ◌-◌, ◌*◌, ◌<◌, ◌≤◌, Bool, true, false, not, cond, ◌||◌, ◌&&◌, List, [], ◌∷◌, ◌++◌, length, get_or, take, drop, min, ◌^◌, refl, sym, ◌∙◌, ap, arith, eq-eqb, nat_eq, nat_le, Some, None, Option}
+use Rattle.std.proofs.Common.{◌≡◌, ℕ, zero, suc, ◌+◌, ◌-◌, ◌*◌, ◌<◌, ◌≤◌, true, false, not, cond, ◌||◌, ◌&&◌, List, [], ◌∷◌, ◌++◌, length, get_or, take, drop, min, ◌^◌, refl, sym, ◌∙◌, ap, arith, eq-eqb, nat_eq, Some, None}
 use Rattle.std.proofs.lemmas.Bool.Decides.{nat_tests}
-use Rattle.std.proofs.lemmas.List.{take_all, drop_all, take_more, drop_more}
+use Rattle.std.proofs.lemmas.List.{take_all, take_more, drop_more}
 use Rattle.std.proofs.Common.{length-drop}
 use Rattle.line_io.specs.Lines.{is_digit, all_digits, value_after, value_of}
 use Rattle.cert_text.specs.Reading.{parts_at, onto_part, number_in, is_unplain, greatest}

@@ -1,13 +1,12 @@
 -- Parts one behind the other: whose lines are a value's, and the faults of each part.
-use Rattle.std.proofs.Common.{◌≡◌, ◌≢◌, ℕ, zero, suc, ◌+◌, ◌-◌, ◌<◌, ◌≤◌, List, [], ◌∷◌, ◌++◌, length, map, refl, sym, ◌∙◌, ap, subst, arith, Some, None, Option, Ok, Err, Result, ◌⊎◌, inl, inr, append_assoc, length-append}
+use Rattle.std.proofs.Common.{◌≡◌, ℕ, zero, suc, ◌+◌, ◌<◌, ◌≤◌, List, [], ◌∷◌, ◌++◌, length, map, refl, sym, ◌∙◌, ap, subst, arith, Some, Ok, Err, ◌⊎◌, inl, inr, append_assoc, length-append}
 use Rattle.std.specs.Prelude.{slice_get}
 use Rattle.std.proofs.lemmas.List.{append-nil, map-append, length-map, append_cancel_left}
-use Rattle.cert_text.specs.Rows.{Row, row_text, line_text, rows_text, lines_text}
-use Rattle.cert_text.specs.Faults.{Grammar, Next, IsFault}
-use Rattle.cert_text.specs.Judging.{one, AreSaid, each, IsRead, then_}
+use Rattle.cert_text.specs.Rows.{Row, row_text, rows_text}
+use Rattle.cert_text.specs.Faults.{Grammar, Next}
+use Rattle.cert_text.specs.Judging.{one, each, IsRead, then_}
 use Rattle.cert_text.specs.declared.fault.ReadError.{ReadError}
 use Rattle.cert_text.specs.declared.fault.ReadError.TheVariants as errors
-use Rattle.cert_text.specs.declared.fault.CertFault.{CertFault}
 use Rattle.cert_text.proofs.Composing.{Continues, fault_behind, rows_lines, rows_append}
 
 -- the lines of rows
@@ -79,25 +78,27 @@ first_continues {A = A} {B = B} g h u some = record {
       };
   from = λ b r r' n m. here b r r' n m (compare (length m.passed) (length (g.rows m.value.0)));
 }
- where
-  compare : (i j : ℕ) → (i < j) ⊎ (j ≤ i)
-  compare zero zero = inr (omega arith)
-  compare zero (suc j) = inl (omega arith)
-  compare (suc i) zero = inr (omega arith)
-  compare (suc i) (suc j) = elim (compare i j) [ inl a ↦ inl (omega arith) | inr a ↦ inr (omega arith) ]
-  none : (x : List (List ℕ)) (l : List ℕ) (y : List (List ℕ)) → x ++ l ∷ y ≡ [] → ⊥
-  none [] l y e = (cc)
-  none (z ∷ x) l y e = (cc)
-  here : (b : List (List ℕ)) (r r' : Row) (n : Next g b r') (m : Next (then_ g h) b r) → (length m.passed < length (g.rows m.value.0)) ⊎ (length (g.rows m.value.0) ≤ length m.passed) → Next g b r
-  here b r r' n m (inl l) =
-      let s = split_short (g.rows m.value.0) ((h m.value.0).rows m.value.1) m.passed m.more r m.rows l in
-      record { value = m.value.0; ranged = m.ranged.0; passed = m.passed; more = s.0; rows = s.1; same = m.same }
-  here b r r' n m (inr l) =
-      let s = split_long (g.rows m.value.0) ((h m.value.0).rows m.value.1) m.passed (r ∷ m.more) m.rows l in
-      let t : texts (g.rows n.value) ≡ texts (g.rows m.value.0) ++ (texts s.0 ++ row_text r' ∷ texts n.more) =
-          ap texts n.rows ∙ map-append row_text n.passed (r' ∷ n.more) ∙ ap (λ z. z ++ row_text r' ∷ texts n.more) (n.same ∙ sym m.same ∙ ap texts s.1 ∙ map-append row_text (g.rows m.value.0) s.0)
-          ∙ append_assoc (texts (g.rows m.value.0)) (texts s.0) (row_text r' ∷ texts n.more) in
-      absurd (none (texts s.0) (row_text r') (texts n.more) (u m.value.0 n.value m.ranged.0 n.ranged (texts s.0 ++ row_text r' ∷ texts n.more) [] (sym t ∙ sym (append-nil (texts (g.rows n.value))))).1)
+  where
+    compare : (i j : ℕ) → (i < j) ⊎ (j ≤ i)
+    compare zero zero = inr (omega arith)
+    compare zero (suc j) = inl (omega arith)
+    compare (suc i) zero = inr (omega arith)
+    compare (suc i) (suc j) = elim (compare i j) [ inl a ↦ inl (omega arith) | inr a ↦ inr (omega arith) ]
+
+    none : (x : List (List ℕ)) (l : List ℕ) (y : List (List ℕ)) → x ++ l ∷ y ≡ [] → ⊥
+    none [] l y e = (cc)
+    none (z ∷ x) l y e = (cc)
+
+    here : (b : List (List ℕ)) (r r' : Row) (n : Next g b r') (m : Next (then_ g h) b r) → (length m.passed < length (g.rows m.value.0)) ⊎ (length (g.rows m.value.0) ≤ length m.passed) → Next g b r
+    here b r r' n m (inl l) =
+        let s = split_short (g.rows m.value.0) ((h m.value.0).rows m.value.1) m.passed m.more r m.rows l in
+        record { value = m.value.0; ranged = m.ranged.0; passed = m.passed; more = s.0; rows = s.1; same = m.same }
+    here b r r' n m (inr l) =
+        let s = split_long (g.rows m.value.0) ((h m.value.0).rows m.value.1) m.passed (r ∷ m.more) m.rows l in
+        let t : texts (g.rows n.value) ≡ texts (g.rows m.value.0) ++ (texts s.0 ++ row_text r' ∷ texts n.more) =
+        ap texts n.rows ∙ map-append row_text n.passed (r' ∷ n.more) ∙ ap (λ z. z ++ row_text r' ∷ texts n.more) (n.same ∙ sym m.same ∙ ap texts s.1 ∙ map-append row_text (g.rows m.value.0) s.0)
+        ∙ append_assoc (texts (g.rows m.value.0)) (texts s.0) (row_text r' ∷ texts n.more) in
+        absurd (none (texts s.0) (row_text r') (texts n.more) (u m.value.0 n.value m.ranged.0 n.ranged (texts s.0 ++ row_text r' ∷ texts n.more) [] (sym t ∙ sym (append-nil (texts (g.rows n.value))))).1)
 
 -- behind the lines of a first value the second part goes on
 pub second_continues : {A B : Type 0} (g : Grammar A) (h : A → Grammar B) (a : A) → Unique g → g.ranged a → Continues (h a) (then_ g h) (texts (g.rows a))
@@ -112,24 +113,24 @@ second_continues {A = A} {B = B} g h a u k = record {
   };
   from = λ b r r' n m. here b r m.value.0 m.value.1 m.passed m.more m.ranged.0 m.ranged.1 m.rows m.same;
 }
- where
-  here : (b : List (List ℕ)) (r : Row) (c : A) (d : B) (passed more : List Row) → g.ranged c → (h c).ranged d → g.rows c ++ (h c).rows d ≡ passed ++ r ∷ more → texts passed ≡ texts (g.rows a) ++ b → Next (h a) b r
-  here b r c d passed more e f t s =
-      let w : texts (g.rows c) ++ texts ((h c).rows d) ≡ texts (g.rows a) ++ (b ++ row_text r ∷ texts more) =
-          sym (map-append row_text (g.rows c) ((h c).rows d)) ∙ ap texts t ∙ map-append row_text passed (r ∷ more) ∙ ap (λ z. z ++ row_text r ∷ texts more) s ∙ append_assoc (texts (g.rows a)) b (row_text r ∷ texts more) in
-      let v = u c a e k (texts ((h c).rows d)) (b ++ row_text r ∷ texts more) w in
-      let P : A → Type 0 = λ z. (h z).ranged d × (g.rows z ++ (h z).rows d ≡ passed ++ r ∷ more) in
-      let q : (h a).ranged d × (g.rows a ++ (h a).rows d ≡ passed ++ r ∷ more) = subst P v.0 (f, t) in
-      let long : length (g.rows a) ≤ length passed = omega (arith, sym (length-map passed row_text) ∙ ap length s ∙ length-append (texts (g.rows a)) b ∙ ap (λ n. n + length b) (length-map (g.rows a) row_text)) in
-      let x = split_long (g.rows a) ((h a).rows d) passed (r ∷ more) q.1 long in
-      record {
-        value = d;
-        ranged = q.0;
-        passed = x.0;
-        more = more;
-        rows = x.2;
-        same = append_cancel_left (texts (g.rows a)) (texts x.0) b (sym (map-append row_text (g.rows a) x.0) ∙ ap texts (sym x.1) ∙ s);
-      }
+  where
+    here : (b : List (List ℕ)) (r : Row) (c : A) (d : B) (passed more : List Row) → g.ranged c → (h c).ranged d → g.rows c ++ (h c).rows d ≡ passed ++ r ∷ more → texts passed ≡ texts (g.rows a) ++ b → Next (h a) b r
+    here b r c d passed more e f t s =
+        let w : texts (g.rows c) ++ texts ((h c).rows d) ≡ texts (g.rows a) ++ (b ++ row_text r ∷ texts more) =
+        sym (map-append row_text (g.rows c) ((h c).rows d)) ∙ ap texts t ∙ map-append row_text passed (r ∷ more) ∙ ap (λ z. z ++ row_text r ∷ texts more) s ∙ append_assoc (texts (g.rows a)) b (row_text r ∷ texts more) in
+        let v = u c a e k (texts ((h c).rows d)) (b ++ row_text r ∷ texts more) w in
+        let P : A → Type 0 = λ z. (h z).ranged d × (g.rows z ++ (h z).rows d ≡ passed ++ r ∷ more) in
+        let q : (h a).ranged d × (g.rows a ++ (h a).rows d ≡ passed ++ r ∷ more) = subst P v.0 (f, t) in
+        let long : length (g.rows a) ≤ length passed = omega (arith, sym (length-map passed row_text) ∙ ap length s ∙ length-append (texts (g.rows a)) b ∙ ap (λ n. n + length b) (length-map (g.rows a) row_text)) in
+        let x = split_long (g.rows a) ((h a).rows d) passed (r ∷ more) q.1 long in
+        record {
+          value = d;
+          ranged = q.0;
+          passed = x.0;
+          more = more;
+          rows = x.2;
+          same = append_cancel_left (texts (g.rows a)) (texts x.0) b (sym (map-append row_text (g.rows a) x.0) ∙ ap texts (sym x.1) ∙ s);
+        }
 
 -- the errors of the first part, and those of the second
 pub first_error : {A B : Type 0} (g : Grammar A) (h : A → Grammar B) (passed after after' : ℕ) (text rest rest' : List ℕ) (e : ReadError) → Unique g → ((a : A) → g.ranged a → (b : B) × (h a).ranged b)

@@ -1,12 +1,10 @@
 -- Sets that are written are read, and what is read as a set is how it is written.
-use Rattle.std.proofs.Common.{◌≡◌, ◌≢◌, ℕ, zero, suc, ◌+◌, ◌-◌, ◌*◌, ◌/◌, ◌%◌, ◌<◌, ◌≤◌, Bool, true, false, not, cond, ◌||◌, ◌&&◌, nat_eq, nat_le, nat_lt, List, [], ◌∷◌, ◌++◌, length, get_or, set, take, drop, replicate, map, refl, sym, ◌∙◌, ap, subst, arith, Some, None, Option, append_assoc, length-append, eq-eqb, add-one, ◌⊎◌, inl, inr}
+use Rattle.std.proofs.Common.{◌≡◌, ◌≢◌, ℕ, zero, suc, ◌+◌, ◌-◌, ◌*◌, ◌/◌, ◌<◌, ◌≤◌, Bool, true, false, not, cond, ◌||◌, ◌&&◌, nat_eq, nat_le, nat_lt, List, [], ◌∷◌, ◌++◌, length, get_or, replicate, map, refl, sym, ◌∙◌, ap, arith, Some, None, append_assoc, length-append, eq-eqb, add-one}
 use Rattle.std.specs.List.{flat_map, range_with_len}
 use Rattle.std.proofs.lemmas.Bool.Decides.{nat_tests}
-use Rattle.std.proofs.lemmas.List.{append-nil, set_at, get_or-replicate, length-replicate, replicate-append-replicate, ext_get_or, get_or-append-add, get_or_append_left, get_or-append_right}
+use Rattle.std.proofs.lemmas.List.{set_at, length-replicate, ext_get_or, get_or-append-add, get_or_append_left, get_or-append_right}
 use Rattle.std.proofs.lemmas.List.FromFn.{length-map-range_with_len}
-use Rattle.line_io.specs.Lines.{is_digit}
 use Rattle.line_rules.specs.Ranges.{IsOf}
-use Rattle.task_set.specs.Truths.{In}
 use Rattle.cert_text.specs.Numbers.{member, four, hex_digit, set_text}
 use Rattle.cert_text.specs.Reading.{is_hex, hex_value, bit_of, is_spare, are_digits, with_task, with_digit, with_digits, set_in}
 use Rattle.cert_text.proofs.NumberWords.{both, left, right, all_high}
@@ -87,22 +85,23 @@ within n k (b ∷ word) rest i e h t =
     cases n k b word rest i (left r0 (r1 && (r2 && r3)) s) (left r1 (r2 && r3) (right r0 (r1 && (r2 && r3)) s))
     (left r2 r3 (right r1 (r2 && r3) (right r0 (r1 && (r2 && r3)) s))) (right r2 r3 (right r1 (r2 && r3) (right r0 (r1 && (r2 && r3)) s)))
     (λ j. within n (suc k) word rest j (right (is_spare n k d) (are_digits n (suc k) word) more) h) t
- where
-  below : (m n : ℕ) (t : Bool) → (nat_lt m n || not t) ≡ true → t ≡ true → m < n
-  below m n true e f = let g : (nat_lt m n || false) ≡ true = e in I (nat_lt m n) refl g
-   where
-    I : (x : Bool) → nat_lt m n ≡ x → (x || false) ≡ true → m < n
-    I true p q = grind (arith, nat_tests)
-    I false p q = (cc)
-  below m n false e f = (cc)
-  cases : (n k b : ℕ) (word : List ℕ) (rest : List Bool) (i : ℕ) → (nat_lt (4 * k) n || not (bit_of (hex_value b) 0)) ≡ true → (nat_lt (4 * k + 1) n || not (bit_of (hex_value b) 1)) ≡ true
-      → (nat_lt (4 * k + 2) n || not (bit_of (hex_value b) 2)) ≡ true → (nat_lt (4 * k + 3) n || not (bit_of (hex_value b) 3)) ≡ true
-      → ((j : ℕ) → get_or (flat_map bits word ++ rest) j false ≡ true → 4 * suc k + j < n) → get_or (flat_map bits (b ∷ word) ++ rest) i false ≡ true → 4 * k + i < n
-  cases n k b word rest zero a0 a1 a2 a3 h t = let l : 4 * k < n = below (4 * k) n (bit_of (hex_value b) 0) a0 t in omega arith
-  cases n k b word rest (suc zero) a0 a1 a2 a3 h t = let l : 4 * k + 1 < n = below (4 * k + 1) n (bit_of (hex_value b) 1) a1 t in omega arith
-  cases n k b word rest (suc (suc zero)) a0 a1 a2 a3 h t = let l : 4 * k + 2 < n = below (4 * k + 2) n (bit_of (hex_value b) 2) a2 t in omega arith
-  cases n k b word rest (suc (suc (suc zero))) a0 a1 a2 a3 h t = let l : 4 * k + 3 < n = below (4 * k + 3) n (bit_of (hex_value b) 3) a3 t in omega arith
-  cases n k b word rest (suc (suc (suc (suc j)))) a0 a1 a2 a3 h t = let l : 4 * suc k + j < n = h j t in omega arith
+  where
+    below : (m n : ℕ) (t : Bool) → (nat_lt m n || not t) ≡ true → t ≡ true → m < n
+    below m n true e f = let g : (nat_lt m n || false) ≡ true = e in I (nat_lt m n) refl g
+      where
+        I : (x : Bool) → nat_lt m n ≡ x → (x || false) ≡ true → m < n
+        I true p q = grind (arith, nat_tests)
+        I false p q = (cc)
+    below m n false e f = (cc)
+
+    cases : (n k b : ℕ) (word : List ℕ) (rest : List Bool) (i : ℕ) → (nat_lt (4 * k) n || not (bit_of (hex_value b) 0)) ≡ true → (nat_lt (4 * k + 1) n || not (bit_of (hex_value b) 1)) ≡ true
+        → (nat_lt (4 * k + 2) n || not (bit_of (hex_value b) 2)) ≡ true → (nat_lt (4 * k + 3) n || not (bit_of (hex_value b) 3)) ≡ true
+        → ((j : ℕ) → get_or (flat_map bits word ++ rest) j false ≡ true → 4 * suc k + j < n) → get_or (flat_map bits (b ∷ word) ++ rest) i false ≡ true → 4 * k + i < n
+    cases n k b word rest zero a0 a1 a2 a3 h t = let l : 4 * k < n = below (4 * k) n (bit_of (hex_value b) 0) a0 t in omega arith
+    cases n k b word rest (suc zero) a0 a1 a2 a3 h t = let l : 4 * k + 1 < n = below (4 * k + 1) n (bit_of (hex_value b) 1) a1 t in omega arith
+    cases n k b word rest (suc (suc zero)) a0 a1 a2 a3 h t = let l : 4 * k + 2 < n = below (4 * k + 2) n (bit_of (hex_value b) 2) a2 t in omega arith
+    cases n k b word rest (suc (suc (suc zero))) a0 a1 a2 a3 h t = let l : 4 * k + 3 < n = below (4 * k + 3) n (bit_of (hex_value b) 3) a3 t in omega arith
+    cases n k b word rest (suc (suc (suc (suc j)))) a0 a1 a2 a3 h t = let l : 4 * suc k + j < n = h j t in omega arith
 
 abbrev one : Bool → ℕ
 one t = cond t 1 0
@@ -119,15 +118,15 @@ hex_back b e = grind (arith, nat_tests)
 -- a truth at a place that may be there
 there : (n i : ℕ) (s : List Bool) (t : Bool) → (nat_lt i n || not t) ≡ true → get_or s i false ≡ t → member n s i ≡ one t
 there n i s true e f = ap (λ x. one (nat_lt i n && x)) f ∙ ap (λ x. one (x && true)) (lt (nat_lt i n) e)
- where
-  lt : (x : Bool) → (x || not true) ≡ true → x ≡ true
-  lt true h = refl
-  lt false h = (cc)
+  where
+    lt : (x : Bool) → (x || not true) ≡ true → x ≡ true
+    lt true h = refl
+    lt false h = (cc)
 there n i s false e f = ap (λ x. one (nat_lt i n && x)) f ∙ none (nat_lt i n)
- where
-  none : (x : Bool) → one (x && false) ≡ 0
-  none true = refl
-  none false = refl
+  where
+    none : (x : Bool) → one (x && false) ≡ 0
+    none true = refl
+    none false = refl
 
 text_found : (n k : ℕ) (word : List ℕ) (s p post : List Bool) → length p ≡ 4 * k → s ≡ p ++ (flat_map bits word ++ post) → are_digits n k word ≡ true
     → map (λ j. hex_digit (four n s j)) (range_with_len k (length word)) ≡ word
@@ -144,24 +143,24 @@ text_found n k (b ∷ word) s p post l e d =
     let r3 = nat_lt (4 * k + 3) n || not (bit_of v 3) in
     let ys : List Bool = flat_map bits (b ∷ word) ++ post in
     let get : (j : ℕ) → get_or s (4 * k + j) false ≡ get_or ys j false =
-        λ j. ap (λ x. get_or x (4 * k + j) false) e ∙ ap (λ m. get_or (p ++ ys) (m + j) false) (sym l) ∙ get_or-append-add p ys j false in
+    λ j. ap (λ x. get_or x (4 * k + j) false) e ∙ ap (λ m. get_or (p ++ ys) (m + j) false) (sym l) ∙ get_or-append-add p ys j false in
     let m0 : member n s (4 * k) ≡ one (bit_of v 0) = there n (4 * k) s (bit_of v 0) (left r0 (r1 && (r2 && r3)) sp) (ap (λ m. get_or s m false) (omega arith) ∙ get 0) in
     let m1 : member n s (4 * k + 1) ≡ one (bit_of v 1) = there n (4 * k + 1) s (bit_of v 1) (left r1 (r2 && r3) (right r0 (r1 && (r2 && r3)) sp)) (get 1) in
     let m2 : member n s (4 * k + 2) ≡ one (bit_of v 2) = there n (4 * k + 2) s (bit_of v 2) (left r2 r3 (right r1 (r2 && r3) (right r0 (r1 && (r2 && r3)) sp))) (get 2) in
     let m3 : member n s (4 * k + 3) ≡ one (bit_of v 3) = there n (4 * k + 3) s (bit_of v 3) (right r2 r3 (right r1 (r2 && r3) (right r0 (r1 && (r2 && r3)) sp))) (get 3) in
     let f : four n s k ≡ v =
-        ap (λ x. 8 * x + 4 * member n s (4 * k + 1) + 2 * member n s (4 * k + 2) + member n s (4 * k + 3)) m0
-        ∙ ap (λ x. 8 * one (bit_of v 0) + 4 * x + 2 * member n s (4 * k + 2) + member n s (4 * k + 3)) m1
-        ∙ ap (λ x. 8 * one (bit_of v 0) + 4 * one (bit_of v 1) + 2 * x + member n s (4 * k + 3)) m2
-        ∙ ap (λ x. 8 * one (bit_of v 0) + 4 * one (bit_of v 1) + 2 * one (bit_of v 2) + x) m3
-        ∙ four_of_bits v (hex_small b hex) in
+    ap (λ x. 8 * x + 4 * member n s (4 * k + 1) + 2 * member n s (4 * k + 2) + member n s (4 * k + 3)) m0
+    ∙ ap (λ x. 8 * one (bit_of v 0) + 4 * x + 2 * member n s (4 * k + 2) + member n s (4 * k + 3)) m1
+    ∙ ap (λ x. 8 * one (bit_of v 0) + 4 * one (bit_of v 1) + 2 * x + member n s (4 * k + 3)) m2
+    ∙ ap (λ x. 8 * one (bit_of v 0) + 4 * one (bit_of v 1) + 2 * one (bit_of v 2) + x) m3
+    ∙ four_of_bits v (hex_small b hex) in
     ap (λ x. hex_digit x ∷ map (λ j. hex_digit (four n s j)) (range_with_len (k + 1) (length word))) f
     ∙ ap (λ x. x ∷ map (λ j. hex_digit (four n s j)) (range_with_len (k + 1) (length word))) (hex_back b hex)
     ∙ ap (λ j. b ∷ map (λ i. hex_digit (four n s i)) (range_with_len j (length word))) (add-one k)
     ∙ ap (λ w. b ∷ w) (text_found n (suc k) word s (p ++ bits b) post (omega (arith, length-append p (bits b))) (e ∙ regroup p (bits b) (flat_map bits word) post) (right (is_spare n k v) (are_digits n (suc k) word) more))
- where
-  regroup : (p q r post : List Bool) → p ++ ((q ++ r) ++ post) ≡ (p ++ q) ++ (r ++ post)
-  regroup p q r post = simp append_assoc
+  where
+    regroup : (p q r post : List Bool) → p ++ ((q ++ r) ++ post) ≡ (p ++ q) ++ (r ++ post)
+    regroup p q r post = simp append_assoc
 
 none_in : (r j : ℕ) → get_or (replicate r false) j false ≢ true
 none_in zero j e = (cc)
@@ -175,12 +174,12 @@ bits_length (b ∷ word) = omega (arith, length-append (bits b) (flat_map bits w
 set_parts : (n : ℕ) (word : List ℕ) (s : List Bool) → set_in n word ≡ Some s → (length word ≡ (n + 3) / 4) × (are_digits n 0 word ≡ true) × (s ≡ with_digits (replicate 1024 false) 0 word)
 unfolding set_in
 set_parts n word s e = I (nat_eq (length word) ((n + 3) / 4)) (are_digits n 0 word) refl refl e
- where
-  I : (a b : Bool) → nat_eq (length word) ((n + 3) / 4) ≡ a → are_digits n 0 word ≡ b → cond (a && b) (Some (with_digits (replicate 1024 false) 0 word)) None ≡ Some s
-      → (length word ≡ (n + 3) / 4) × (are_digits n 0 word ≡ true) × (s ≡ with_digits (replicate 1024 false) 0 word)
-  I true true p q h = (grind (arith, nat_tests), q, cc)
-  I true false p q h = (cc)
-  I false b p q h = (cc)
+  where
+    I : (a b : Bool) → nat_eq (length word) ((n + 3) / 4) ≡ a → are_digits n 0 word ≡ b → cond (a && b) (Some (with_digits (replicate 1024 false) 0 word)) None ≡ Some s
+        → (length word ≡ (n + 3) / 4) × (are_digits n 0 word ≡ true) × (s ≡ with_digits (replicate 1024 false) 0 word)
+    I true true p q h = (grind (arith, nat_tests), q, cc)
+    I true false p q h = (cc)
+    I false b p q h = (cc)
 
 -- what is read as a set is how it is written, and it is a set of the n tasks
 pub set_found : (n : ℕ) (word : List ℕ) (s : List Bool) → n ≤ 1024 → set_in n word ≡ Some s → (set_text n s ≡ word) × IsOf n s
@@ -204,10 +203,10 @@ four_small n k s =
     let c = at_most (nat_lt (4 * k + 2) n && get_or s (4 * k + 2) false) in
     let d = at_most (nat_lt (4 * k + 3) n && get_or s (4 * k + 3) false) in
     omega (arith, a, b, c, d)
- where
-  at_most : (t : Bool) → one t ≤ 1
-  at_most true = omega arith
-  at_most false = omega arith
+  where
+    at_most : (t : Bool) → one t ≤ 1
+    at_most true = omega arith
+    at_most false = omega arith
 
 hex_digit_is : (d : ℕ) → d < 16 → is_hex (hex_digit d) ≡ true
 hex_digit_is d h = grind (arith, nat_tests)
@@ -251,10 +250,10 @@ digit_bits n k s =
 
 spare_of : (n i : ℕ) (s : List Bool) (t : Bool) → t ≡ is_member n s i → (nat_lt i n || not t) ≡ true
 spare_of n i s t e = ap (λ x. nat_lt i n || not x) e ∙ I (nat_lt i n) (get_or s i false)
- where
-  I : (a b : Bool) → (a || not (a && b)) ≡ true
-  I true b = refl
-  I false b = refl
+  where
+    I : (a b : Bool) → (a || not (a && b)) ≡ true
+    I true b = refl
+    I false b = refl
 
 digit_spare : (n k : ℕ) (s : List Bool) → is_spare n k (hex_value (hex_digit (four n s k))) ≡ true
 digit_spare n k s =
@@ -300,27 +299,27 @@ set_high n s = high_from n 0 ((n + 3) / 4) s
 -- a set of the n tasks is read as it was
 member_is : (n i : ℕ) (s : List Bool) → IsOf n s → is_member n s i ≡ get_or s i false
 member_is n i s h = I (get_or s i false) refl
- where
-  I : (t : Bool) → get_or s i false ≡ t → is_member n s i ≡ get_or s i false
-  I true e = let l : nat_lt i n ≡ true = (let m : i < n = h.tasks i e in grind (arith, nat_tests)) in ap (λ x. x && get_or s i false) l
-  I false e = ap (λ x. nat_lt i n && x) e ∙ off (nat_lt i n) ∙ sym e
-   where
-    off : (x : Bool) → (x && false) ≡ false
-    off true = refl
-    off false = refl
+  where
+    I : (t : Bool) → get_or s i false ≡ t → is_member n s i ≡ get_or s i false
+    I true e = let l : nat_lt i n ≡ true = (let m : i < n = h.tasks i e in grind (arith, nat_tests)) in ap (λ x. x && get_or s i false) l
+    I false e = ap (λ x. nat_lt i n && x) e ∙ off (nat_lt i n) ∙ sym e
+      where
+        off : (x : Bool) → (x && false) ≡ false
+        off true = refl
+        off false = refl
 
 bits_get : (n k len i : ℕ) (s : List Bool) → i < 4 * len → get_or (flat_map bits (map (λ j. hex_digit (four n s j)) (range_with_len k len))) i false ≡ is_member n s (4 * k + i)
 bits_get n k zero i s h = absurd (omega arith)
 bits_get n k (suc len) i s h =
     ap (λ x. get_or (x ++ flat_map bits (map (λ j. hex_digit (four n s j)) (range_with_len (k + 1) len))) i false) (digit_bits n k s) ∙ at i h (bits_get n (k + 1) len)
- where
-  at : (i : ℕ) → i < 4 * suc len → ((j : ℕ) (s : List Bool) → j < 4 * len → get_or (flat_map bits (map (λ j. hex_digit (four n s j)) (range_with_len (k + 1) len))) j false ≡ is_member n s (4 * (k + 1) + j))
-      → get_or (is_member n s (4 * k) ∷ is_member n s (4 * k + 1) ∷ is_member n s (4 * k + 2) ∷ is_member n s (4 * k + 3) ∷ flat_map bits (map (λ j. hex_digit (four n s j)) (range_with_len (k + 1) len))) i false ≡ is_member n s (4 * k + i)
-  at zero h g = ap (is_member n s) (omega arith)
-  at (suc zero) h g = refl
-  at (suc (suc zero)) h g = refl
-  at (suc (suc (suc zero))) h g = refl
-  at (suc (suc (suc (suc j)))) h g = g j s (omega arith) ∙ ap (is_member n s) (omega arith)
+  where
+    at : (i : ℕ) → i < 4 * suc len → ((j : ℕ) (s : List Bool) → j < 4 * len → get_or (flat_map bits (map (λ j. hex_digit (four n s j)) (range_with_len (k + 1) len))) j false ≡ is_member n s (4 * (k + 1) + j))
+        → get_or (is_member n s (4 * k) ∷ is_member n s (4 * k + 1) ∷ is_member n s (4 * k + 2) ∷ is_member n s (4 * k + 3) ∷ flat_map bits (map (λ j. hex_digit (four n s j)) (range_with_len (k + 1) len))) i false ≡ is_member n s (4 * k + i)
+    at zero h g = ap (is_member n s) (omega arith)
+    at (suc zero) h g = refl
+    at (suc (suc zero)) h g = refl
+    at (suc (suc (suc zero))) h g = refl
+    at (suc (suc (suc (suc j)))) h g = g j s (omega arith) ∙ ap (is_member n s) (omega arith)
 
 pub clip_same : (n : ℕ) (s : List Bool) → n ≤ 1024 → IsOf n s → clip n s ≡ s
 unfolding set_text
@@ -333,19 +332,21 @@ clip_same n s m h =
     set_of_digits w (omega (arith, wl)) ∙ ext_get_or false (flat_map bits w ++ replicate r false) s
     (length-append (flat_map bits w) (replicate r false) ∙ omega (arith, length-replicate r false, wl, bl, h.truths))
     (λ i l. I w r bl (λ j g. bits_get n 0 len j s g ∙ ap (is_member n s) (omega arith)) i (nat_lt i (4 * len)) refl)
- where
-  rep : (r j : ℕ) → get_or (replicate r false) j false ≡ false
-  rep zero j = refl
-  rep (suc r) zero = refl
-  rep (suc r) (suc j) = rep r j
-  out : (i : ℕ) (t : Bool) → get_or s i false ≡ t → 4 * ((n + 3) / 4) ≤ i → false ≡ get_or s i false
-  out i true e g = absurd (let k : i < n = h.tasks i e in omega arith)
-  out i false e g = sym e
-  I : (w : List ℕ) (r : ℕ) → length (flat_map bits w) ≡ 4 * ((n + 3) / 4) → ((j : ℕ) → j < 4 * ((n + 3) / 4) → get_or (flat_map bits w) j false ≡ is_member n s j)
-      → (i : ℕ) (t : Bool) → nat_lt i (4 * ((n + 3) / 4)) ≡ t → get_or (flat_map bits w ++ replicate r false) i false ≡ get_or s i false
-  I w r bl gets i true e =
-      let g : i < 4 * ((n + 3) / 4) = grind (arith, nat_tests) in
-      get_or_append_left (flat_map bits w) (replicate r false) false i (omega arith) ∙ gets i g ∙ member_is n i s h
-  I w r bl gets i false e =
-      let g : 4 * ((n + 3) / 4) ≤ i = grind (arith, nat_tests) in
-      get_or-append_right (flat_map bits w) (replicate r false) (4 * ((n + 3) / 4)) i false bl g ∙ rep r (i - 4 * ((n + 3) / 4)) ∙ out i (get_or s i false) refl g
+  where
+    rep : (r j : ℕ) → get_or (replicate r false) j false ≡ false
+    rep zero j = refl
+    rep (suc r) zero = refl
+    rep (suc r) (suc j) = rep r j
+
+    out : (i : ℕ) (t : Bool) → get_or s i false ≡ t → 4 * ((n + 3) / 4) ≤ i → false ≡ get_or s i false
+    out i true e g = absurd (let k : i < n = h.tasks i e in omega arith)
+    out i false e g = sym e
+
+    I : (w : List ℕ) (r : ℕ) → length (flat_map bits w) ≡ 4 * ((n + 3) / 4) → ((j : ℕ) → j < 4 * ((n + 3) / 4) → get_or (flat_map bits w) j false ≡ is_member n s j)
+        → (i : ℕ) (t : Bool) → nat_lt i (4 * ((n + 3) / 4)) ≡ t → get_or (flat_map bits w ++ replicate r false) i false ≡ get_or s i false
+    I w r bl gets i true e =
+        let g : i < 4 * ((n + 3) / 4) = grind (arith, nat_tests) in
+        get_or_append_left (flat_map bits w) (replicate r false) false i (omega arith) ∙ gets i g ∙ member_is n i s h
+    I w r bl gets i false e =
+        let g : 4 * ((n + 3) / 4) ≤ i = grind (arith, nat_tests) in
+        get_or-append_right (flat_map bits w) (replicate r false) (4 * ((n + 3) / 4)) i false bl g ∙ rep r (i - 4 * ((n + 3) / 4)) ∙ out i (get_or s i false) refl g

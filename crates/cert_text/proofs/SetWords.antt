@@ -1,6 +1,6 @@
 -- Words that are sets, a digit after the other.
-use Rattle.std.proofs.Common.{◌≡◌, ℕ, suc, ◌+◌, ◌/◌, ◌<◌, Bool, true, false, cond, ◌&&◌, nat_eq, List, [], ◌∷◌, length, get_or, drop, replicate, refl, sym, ◌∙◌, ap, arith, Some, None, add-one}
-use Rattle.std.proofs.lemmas.List.{drop_more, drop_all}
+use Rattle.std.proofs.Common.{◌≡◌, ℕ, suc, ◌+◌, ◌/◌, ◌<◌, Bool, true, false, cond, ◌&&◌, nat_eq, List, [], length, get_or, drop, replicate, refl, sym, ◌∙◌, ap, Some, None, add-one}
+use Rattle.std.proofs.lemmas.List.{drop_more}
 use Rattle.cert_text.specs.Reading.{are_digits, with_digits, with_digit, set_in, is_hex, is_spare, hex_value}
 
 both_false : (a : Bool) → (a && false) ≡ false
@@ -27,7 +27,6 @@ pub set_more : (s : List Bool) (k : ℕ) (word : List ℕ) → k < length word �
 unfolding with_digits
 set_more s k word h =
     sym (ap (with_digits s k) (drop_more word k 0 h) ∙ ap (λ j. with_digits (with_digit s k (hex_value (get_or word k 0))) j (drop (k + 1) word)) (sym (add-one k)))
-
 
 pub set_short : (n : ℕ) (word : List ℕ) → nat_eq (length word) ((n + 3) / 4) ≡ false → None ≡ set_in n word
 unfolding set_in

@@ -1,9 +1,9 @@
 -- The parts of a certificate's text, and that each part's lines say one value at most.
-use Rattle.std.proofs.Common.{◌≡◌, ◌≢◌, ℕ, zero, suc, ◌+◌, ◌-◌, ◌<◌, ◌≤◌, List, [], ◌∷◌, ◌++◌, Bool, true, false, replicate, get_or, length, map, refl, sym, ◌∙◌, ap, subst, arith, Some, None, Option, Ok, Err, Result, lit≤, lit<}
+use Rattle.std.proofs.Common.{◌≡◌, ℕ, zero, suc, ◌-◌, ◌<◌, ◌≤◌, List, [], ◌∷◌, ◌++◌, Bool, true, false, replicate, get_or, length, map, refl, sym, ◌∙◌, ap, subst, arith, Some, None, Option, Ok, lit≤, lit<}
 use Rattle.std.specs.Prelude.{codes, slice_get}
 use Rattle.std.proofs.lemmas.Option.{same_Some, none-some}
-use Rattle.std.proofs.lemmas.List.{map-append, append-nil, ext_get_or, get_or-replicate, length-replicate}
-use Rattle.line_rules.specs.Ranges.{IsCycle, IsAsked, IsPlaced, IsPlacing, AreEntries, AreCites, IsEntry, IsWhy, IsFrame, IsLast, IsLoadLike, IsTrailLike, IsTrailOrNone}
+use Rattle.std.proofs.lemmas.List.{ext_get_or, get_or-replicate, length-replicate}
+use Rattle.line_rules.specs.Ranges.{IsCycle, IsAsked, IsPlaced, AreEntries, IsEntry, IsWhy, IsFrame, IsLast, IsLoadLike, IsTrailOrNone}
 use Rattle.task_set.specs.Truths.{IsEmpty}
 use Rattle.line_rules.specs.Balance.{IsSide}
 use Rattle.line_rules.specs.declared.types.LineKind.{LineKind}
@@ -21,18 +21,14 @@ use Rattle.line_rules.specs.declared.types.OpenFrame.{OpenFrame}
 use Rattle.line_rules.specs.declared.types.Trail.{Trail}
 use Rattle.line_rules.specs.declared.types.Ask.{Ask}
 use Rattle.line_rules.specs.declared.types.Ask.TheVariants as ask
-use Rattle.cert_text.specs.Rows.{Row, fixed, keyed, trail, entry, form_of, row_text}
-use Rattle.cert_text.specs.Cert.{kind_row, ask_row, seat_row, why_row, entry_row, frame_row, trail_rows, list_rows}
+use Rattle.cert_text.specs.Rows.{fixed, keyed, trail, entry, form_of, row_text}
+use Rattle.cert_text.specs.Cert.{kind_row, ask_row, seat_row, why_row, entry_row, frame_row, trail_rows}
 use Rattle.cert_text.specs.Reading.{greatest}
 use Rattle.cert_text.specs.LineReading.{keyed_in, seat_in, trail_in, entry_in, frame_in}
 use Rattle.cert_text.specs.Faults.{Grammar}
 use Rattle.cert_text.specs.Judging.{one, AreSaid, each, then_, IsRead}
 use Rattle.cert_text.specs.Patterns.{IsHead, IsSaid, given_row, entry_of, frame_of}
-use Rattle.cert_text.specs.Parts.{IsHeadOf, IsPlacedOf, heads, trails, lists, placings}
-use Rattle.cert_text.specs.declared.reading.Head.{Head}
-use Rattle.cert_text.specs.declared.reading.EntryList.{EntryList}
-use Rattle.cert_text.specs.declared.draft.Draft.{Draft}
-use Rattle.cert_text.specs.declared.draft.FrameDraft.{FrameDraft}
+use Rattle.cert_text.specs.Parts.{IsPlacedOf, heads, trails, lists, placings}
 use Rattle.cert_text.proofs.NumberWords.{lacks}
 use Rattle.cert_text.proofs.SetText.{clip, clip_same}
 use Rattle.cert_text.proofs.CiteWords.{sat}
@@ -152,19 +148,22 @@ same_trails n count = record {
   to_rows = λ v r. to_row v.0 v.1 r.1;
   from_rows = λ w r. from_row w;
 }
- where
-  to_range : (h : Option (ℕ × ℕ)) (fs : List OpenFrame) → IsHead h → AreSaid (IsFrame n count) (frames_said h) fs → IsTrailOrNone n count (to_trail h fs)
-  to_range None fs a b = tt
-  to_range (Some t) fs a b = record { cycle = a.2; some = omega (arith, a.0, b.many); few = omega (arith, a.1, b.many); each = b.each }
-  from_range : (w : Option Trail) → IsTrailOrNone n count w → (trail_parts n count).ranged (from_trail w)
-  from_range None r = (tt, record { many = refl; each = λ k f e. absurd (none-some f e) })
-  from_range (Some t) r = ((r.some, r.few, r.cycle), record { many = refl; each = r.each })
-  to_row : (h : Option (ℕ × ℕ)) (fs : List OpenFrame) → AreSaid (IsFrame n count) (frames_said h) fs → trail_rows n (to_trail h fs) ≡ trail h ∷ map (frame_row n) fs
-  to_row None fs b = ap (λ x. trail None ∷ map (frame_row n) x) (sym (no_items fs b.many))
-  to_row (Some t) fs b = ap (λ x. trail (Some (x, t.1)) ∷ map (frame_row n) fs) b.many
-  from_row : (w : Option Trail) → (trail_parts n count).rows (from_trail w) ≡ trail_rows n w
-  from_row None = refl
-  from_row (Some t) = refl
+  where
+    to_range : (h : Option (ℕ × ℕ)) (fs : List OpenFrame) → IsHead h → AreSaid (IsFrame n count) (frames_said h) fs → IsTrailOrNone n count (to_trail h fs)
+    to_range None fs a b = tt
+    to_range (Some t) fs a b = record { cycle = a.2; some = omega (arith, a.0, b.many); few = omega (arith, a.1, b.many); each = b.each }
+
+    from_range : (w : Option Trail) → IsTrailOrNone n count w → (trail_parts n count).ranged (from_trail w)
+    from_range None r = (tt, record { many = refl; each = λ k f e. absurd (none-some f e) })
+    from_range (Some t) r = ((r.some, r.few, r.cycle), record { many = refl; each = r.each })
+
+    to_row : (h : Option (ℕ × ℕ)) (fs : List OpenFrame) → AreSaid (IsFrame n count) (frames_said h) fs → trail_rows n (to_trail h fs) ≡ trail h ∷ map (frame_row n) fs
+    to_row None fs b = ap (λ x. trail None ∷ map (frame_row n) x) (sym (no_items fs b.many))
+    to_row (Some t) fs b = ap (λ x. trail (Some (x, t.1)) ∷ map (frame_row n) fs) b.many
+
+    from_row : (w : Option Trail) → (trail_parts n count).rows (from_trail w) ≡ trail_rows n w
+    from_row None = refl
+    from_row (Some t) = refl
 
 -- so many entries
 abbrev pub entries_of : ℕ → ℕ → Grammar (List Entry)
@@ -181,17 +180,19 @@ unique_count = unique_number (codes "entries") 0 20000000 refl (lit< tt)
 
 pub some_rest : (n count : ℕ) → ((e : Entry) × IsSaid n count None e) → (b : List Entry × Option Trail) × (entry_rest n count).ranged b
 some_rest n count s = ((copies count s.0, None), (record { many = copies_length count s.0; each = said count s.0 s.1 }, tt))
- where
-  copies : ℕ → Entry → List Entry
-  copies zero e = []
-  copies (suc k) e = e ∷ copies k e
-  copies_length : (k : ℕ) (e : Entry) → length (copies k e) ≡ k
-  copies_length zero e = refl
-  copies_length (suc k) e = omega (arith, copies_length k e)
-  said : (k : ℕ) (e : Entry) → IsSaid n count None e → (j : ℕ) (v : Entry) → slice_get (copies k e) j ≡ Some v → IsSaid n count None v
-  said zero e h j v q = absurd (none-some v q)
-  said (suc k) e h zero v q = let P : Entry → Type 0 = IsSaid n count None in subst P (same_Some e v q) h
-  said (suc k) e h (suc j) v q = said k e h j v q
+  where
+    copies : ℕ → Entry → List Entry
+    copies zero e = []
+    copies (suc k) e = e ∷ copies k e
+
+    copies_length : (k : ℕ) (e : Entry) → length (copies k e) ≡ k
+    copies_length zero e = refl
+    copies_length (suc k) e = omega (arith, copies_length k e)
+
+    said : (k : ℕ) (e : Entry) → IsSaid n count None e → (j : ℕ) (v : Entry) → slice_get (copies k e) j ≡ Some v → IsSaid n count None v
+    said zero e h j v q = absurd (none-some v q)
+    said (suc k) e h zero v q = let P : Entry → Type 0 = IsSaid n count None in subst P (same_Some e v q) h
+    said (suc k) e h (suc j) v q = said k e h j v q
 
 pub same_lists : (n : ℕ) → Same (list_parts n) (lists n)
 same_lists n = record {
@@ -202,28 +203,31 @@ same_lists n = record {
   to_rows = λ v r. ap (λ k. keyed (codes "entries") k ∷ (map (entry_row n) v.1.0 ++ trail_rows n v.1.1)) r.1.0.many;
   from_rows = λ x r. refl;
 }
- where
-  to_range : (count : ℕ) (es : List Entry) (t : Option Trail) → count ≤ 20000000 → AreSaid (IsSaid n count None) count es → IsTrailOrNone n count t → AreEntries n es × IsTrailOrNone n (length es) t
-  to_range count es t a b c =
-      let P : ℕ → Type 0 = λ k. AreEntries n es × IsTrailOrNone n k t in
-      let Q : ℕ → Type 0 = λ k. (j : ℕ) (e : Entry) → slice_get es j ≡ Some e → IsEntry n k e in
-      subst P (sym b.many) (record { many = omega (arith, b.many); each = subst Q (sym b.many) (λ j e q. (b.each j e q).0) }, c)
+  where
+    to_range : (count : ℕ) (es : List Entry) (t : Option Trail) → count ≤ 20000000 → AreSaid (IsSaid n count None) count es → IsTrailOrNone n count t → AreEntries n es × IsTrailOrNone n (length es) t
+    to_range count es t a b c =
+        let P : ℕ → Type 0 = λ k. AreEntries n es × IsTrailOrNone n k t in
+        let Q : ℕ → Type 0 = λ k. (j : ℕ) (e : Entry) → slice_get es j ≡ Some e → IsEntry n k e in
+        subst P (sym b.many) (record { many = omega (arith, b.many); each = subst Q (sym b.many) (λ j e q. (b.each j e q).0) }, c)
 
 pub some_frames : (n count : ℕ) (h : Option (ℕ × ℕ)) → IsHead h → (fs : List OpenFrame) × (frames_of n count h).ranged fs
 some_frames n count h r = (copies (frames_said h) f.0, record { many = copies_length (frames_said h) f.0; each = said (frames_said h) f.0 f.1 })
- where
-  f : (x : OpenFrame) × IsFrame n count x
-  f = some_frame n count
-  copies : ℕ → OpenFrame → List OpenFrame
-  copies zero e = []
-  copies (suc k) e = e ∷ copies k e
-  copies_length : (k : ℕ) (e : OpenFrame) → length (copies k e) ≡ k
-  copies_length zero e = refl
-  copies_length (suc k) e = omega (arith, copies_length k e)
-  said : (k : ℕ) (e : OpenFrame) → IsFrame n count e → (j : ℕ) (v : OpenFrame) → slice_get (copies k e) j ≡ Some v → IsFrame n count v
-  said zero e h j v q = absurd (none-some v q)
-  said (suc k) e h zero v q = let P : OpenFrame → Type 0 = IsFrame n count in subst P (same_Some e v q) h
-  said (suc k) e h (suc j) v q = said k e h j v q
+  where
+    f : (x : OpenFrame) × IsFrame n count x
+    f = some_frame n count
+
+    copies : ℕ → OpenFrame → List OpenFrame
+    copies zero e = []
+    copies (suc k) e = e ∷ copies k e
+
+    copies_length : (k : ℕ) (e : OpenFrame) → length (copies k e) ≡ k
+    copies_length zero e = refl
+    copies_length (suc k) e = omega (arith, copies_length k e)
+
+    said : (k : ℕ) (e : OpenFrame) → IsFrame n count e → (j : ℕ) (v : OpenFrame) → slice_get (copies k e) j ≡ Some v → IsFrame n count v
+    said zero e h j v q = absurd (none-some v q)
+    said (suc k) e h zero v q = let P : OpenFrame → Type 0 = IsFrame n count in subst P (same_Some e v q) h
+    said (suc k) e h (suc j) v q = said k e h j v q
 
 pub trail_said : (n count : ℕ) (t : ℕ × ℕ) (fs : List OpenFrame) → IsHead (Some t) → AreSaid (IsFrame n count) t.0 fs → IsTrailOrNone n count (Some (record { cycle = t.1; frames = fs }))
 trail_said n count t fs a b = record { cycle = a.2; some = omega (arith, a.0, b.many); few = omega (arith, a.1, b.many); each = b.each }
@@ -236,19 +240,21 @@ list_said n count es t a b c = (same_lists n).to_ranged (count, (es, t)) ((omega
 entry_back : (n count : ℕ) (e : Entry) (w : Why) → n ≤ 1024 → count ≤ 20000000 → IsEntry n count e → IsWhy n count w → entry_of (draft_of None (why_row n (Some e.cycle) e w)) ≡ record { set = e.set; most = e.most; cycle = e.cycle; why = w }
 entry_back n count e w a b h k =
     parts w k
- where
-  the : List Bool → ℕ → ℕ → Why → Entry
-  the s m c w = record { set = s; most = m; cycle = c; why = w }
-  up_to : (v w : Why) → v ≡ w → the (clip n e.set) (sat e.most) (sat e.cycle) v ≡ the e.set e.most e.cycle w
-  up_to v w q =
-      ap (λ z. the z (sat e.most) (sat e.cycle) v) (clip_same n e.set a h.set) ∙ ap (λ z. the e.set z (sat e.cycle) v) (small_is e.most (omega (arith, h.most)))
-      ∙ ap (λ z. the e.set e.most z v) (small_is e.cycle (omega (arith, h.cycle.limit))) ∙ ap (λ z. the e.set e.most e.cycle z) q
-  parts : (w : Why) → IsWhy n count w → entry_of (draft_of None (why_row n (Some e.cycle) e w)) ≡ the e.set e.most e.cycle w
-  parts whys.Bound k = up_to whys.Bound whys.Bound refl
-  parts (whys.Branch mode cites) k = up_to (whys.Branch mode (map sat cites)) (whys.Branch mode cites) (ap (whys.Branch mode) (small_cites count cites (omega arith) k))
-  parts (whys.Swap cite out into) k =
-      up_to (whys.Swap (sat cite) (sat (suc out) - 1) (sat (suc into) - 1)) (whys.Swap cite out into)
-      (ap (λ z. whys.Swap z (sat (suc out) - 1) (sat (suc into) - 1)) (small_is cite (omega (arith, k.0))) ∙ ap (λ z. whys.Swap cite z (sat (suc into) - 1)) (omega (arith, k.1.0)) ∙ ap (λ z. whys.Swap cite out z) (omega (arith, k.1.1)))
+  where
+    the : List Bool → ℕ → ℕ → Why → Entry
+    the s m c w = record { set = s; most = m; cycle = c; why = w }
+
+    up_to : (v w : Why) → v ≡ w → the (clip n e.set) (sat e.most) (sat e.cycle) v ≡ the e.set e.most e.cycle w
+    up_to v w q =
+        ap (λ z. the z (sat e.most) (sat e.cycle) v) (clip_same n e.set a h.set) ∙ ap (λ z. the e.set z (sat e.cycle) v) (small_is e.most (omega (arith, h.most)))
+        ∙ ap (λ z. the e.set e.most z v) (small_is e.cycle (omega (arith, h.cycle.limit))) ∙ ap (λ z. the e.set e.most e.cycle z) q
+
+    parts : (w : Why) → IsWhy n count w → entry_of (draft_of None (why_row n (Some e.cycle) e w)) ≡ the e.set e.most e.cycle w
+    parts whys.Bound k = up_to whys.Bound whys.Bound refl
+    parts (whys.Branch mode cites) k = up_to (whys.Branch mode (map sat cites)) (whys.Branch mode cites) (ap (whys.Branch mode) (small_cites count cites (omega arith) k))
+    parts (whys.Swap cite out into) k =
+        up_to (whys.Swap (sat cite) (sat (suc out) - 1) (sat (suc into) - 1)) (whys.Swap cite out into)
+        (ap (λ z. whys.Swap z (sat (suc out) - 1) (sat (suc into) - 1)) (small_is cite (omega (arith, k.0))) ∙ ap (λ z. whys.Swap cite z (sat (suc into) - 1)) (omega (arith, k.1.0)) ∙ ap (λ z. whys.Swap cite out z) (omega (arith, k.1.1)))
 
 why_form : (n : ℕ) (c : ℕ) (e : Entry) (w : Why) → form_of (why_row n (Some c) e w) ≡ entry n true
 why_form n c e whys.Bound = refl
@@ -258,10 +264,10 @@ why_form n c e (whys.Swap cite out into) = refl
 pub unique_entries : (n count : ℕ) → n ≤ 1024 → count ≤ 20000000 → Unique (entries_of n count)
 unique_entries n count a b = unique_each (given_row n None) (IsSaid n count None) count
     (λ v w p q e.
-        sym (entry_back n count v v.why a b p.0 p.0.why)
-        ∙ ap entry_of (twice (entry_in n None) (row_text (given_row n None v)) (row_text (given_row n None w)) (draft_of None (given_row n None v)) (draft_of None (given_row n None w))
-        (entry_again n None (given_row n None v) (why_form n v.cycle v v.why)) (entry_again n None (given_row n None w) (why_form n w.cycle w w.why)) e)
-        ∙ entry_back n count w w.why a b q.0 q.0.why)
+    sym (entry_back n count v v.why a b p.0 p.0.why)
+    ∙ ap entry_of (twice (entry_in n None) (row_text (given_row n None v)) (row_text (given_row n None w)) (draft_of None (given_row n None v)) (draft_of None (given_row n None w))
+    (entry_again n None (given_row n None v) (why_form n v.cycle v v.why)) (entry_again n None (given_row n None w) (why_form n w.cycle w w.why)) e)
+    ∙ entry_back n count w w.why a b q.0 q.0.why)
 
 pub list_read : (n count : ℕ) (es : List Entry) (t : Option Trail) (passed after : ℕ) (text rest : List ℕ) → IsRead (list_parts n) passed text rest after (Ok (count, (es, t))) → IsRead (lists n) passed text rest after (Ok (record { entries = es; trail = t }))
 unfolding same_lists
@@ -299,19 +305,22 @@ some_seat U m h = (record { station = 1; side = Front }, record { first = lit≤
 
 pub some_seats : (kind : LineKind) (n m : ℕ) → within 1 1024 m → (b : List Seatplace) × (seats_of kind n m).ranged b
 some_seats kind n m h = (copies n f.0, record { many = copies_length n f.0; each = said n f.0 f.1 })
- where
-  f : (x : Seatplace) × IsPlaced kind m x
-  f = some_seat kind m h.0
-  copies : ℕ → Seatplace → List Seatplace
-  copies zero e = []
-  copies (suc k) e = e ∷ copies k e
-  copies_length : (k : ℕ) (e : Seatplace) → length (copies k e) ≡ k
-  copies_length zero e = refl
-  copies_length (suc k) e = omega (arith, copies_length k e)
-  said : (k : ℕ) (e : Seatplace) → IsPlaced kind m e → (j : ℕ) (v : Seatplace) → slice_get (copies k e) j ≡ Some v → IsPlaced kind m v
-  said zero e h j v q = absurd (none-some v q)
-  said (suc k) e h zero v q = let P : Seatplace → Type 0 = IsPlaced kind m in subst P (same_Some e v q) h
-  said (suc k) e h (suc j) v q = said k e h j v q
+  where
+    f : (x : Seatplace) × IsPlaced kind m x
+    f = some_seat kind m h.0
+
+    copies : ℕ → Seatplace → List Seatplace
+    copies zero e = []
+    copies (suc k) e = e ∷ copies k e
+
+    copies_length : (k : ℕ) (e : Seatplace) → length (copies k e) ≡ k
+    copies_length zero e = refl
+    copies_length (suc k) e = omega (arith, copies_length k e)
+
+    said : (k : ℕ) (e : Seatplace) → IsPlaced kind m e → (j : ℕ) (v : Seatplace) → slice_get (copies k e) j ≡ Some v → IsPlaced kind m v
+    said zero e h j v q = absurd (none-some v q)
+    said (suc k) e h zero v q = let P : Seatplace → Type 0 = IsPlaced kind m in subst P (same_Some e v q) h
+    said (suc k) e h (suc j) v q = said k e h j v q
 
 pub some_behind : (kind : LineKind) (n u : ℕ) → within 1 1000000000000000000 u → (b : ℕ × List Seatplace) × (seats_behind kind n).ranged b
 some_behind kind n u h =
@@ -339,32 +348,33 @@ placing_read kind n u m ps passed after text rest h = same_read (placing_parts k
 pub unique_same : {V W : Type 0} (g : Grammar V) (h : Grammar W) (s : Same g h) → Unique g → ((w : W) → h.ranged w → s.to (s.from w) ≡ w) → Unique h
 unique_same g h s u back v w a b x y e =
     let f = u (s.from v) (s.from w) (s.from_ranged v a) (s.from_ranged w b) x y
-        (ap (λ r. texts r ++ x) (s.from_rows v a) ∙ e ∙ ap (λ r. texts r ++ y) (sym (s.from_rows w b))) in
+    (ap (λ r. texts r ++ x) (s.from_rows v a) ∙ e ∙ ap (λ r. texts r ++ y) (sym (s.from_rows w b))) in
     (sym (back v a) ∙ ap s.to f.0 ∙ back w b, f.1)
 
 pub unique_heads : Unique heads
 unfolding same_heads
 unique_heads = unique_same head_parts heads same_heads (unique_then kinds tasks_ask unique_kind (λ k t. unique_then tasks_grammar (λ n. asks) unique_tasks (λ n r. unique_asks))) (λ h r. refl)
- where
-  same_ask : (v w : Ask) → IsAsked v → IsAsked w → row_text (ask_row v) ≡ row_text (ask_row w) → v ≡ w
-  same_ask (ask.Stations a) (ask.Stations b) p q e = ap (λ z. ask.Stations z) (keyed_value (codes "cycle") (row_text (keyed (codes "cycle") a)) b a refl (sym e) (omega (arith, q.limit)) (keyed_again (codes "cycle") a refl ∙ ap (λ z. Some z) (small_is a (omega (arith, p.limit)))))
-  same_ask (ask.Cycle a) (ask.Cycle b) p q e = ap (λ z. ask.Cycle z) (keyed_value (codes "stations") (row_text (keyed (codes "stations") a)) b a refl (sym e) (omega (arith, q.1)) (keyed_again (codes "stations") a refl ∙ ap (λ z. Some z) (small_is a (omega (arith, p.1)))))
-  same_ask (ask.Stations a) (ask.Cycle b) p q e = (let w : codes "stations" ≡ codes "cycle" = keyed_other (codes "stations") (codes "cycle") (row_text (keyed (codes "cycle") a)) b (sat a) refl refl (sym e) (keyed_again (codes "cycle") a refl) in (cc))
-  same_ask (ask.Cycle a) (ask.Stations b) p q e = (let w : codes "cycle" ≡ codes "stations" = keyed_other (codes "cycle") (codes "stations") (row_text (keyed (codes "stations") a)) b (sat a) refl refl (sym e) (keyed_again (codes "stations") a refl) in (cc))
-  unique_asks : Unique asks
-  unique_asks = unique_one ask_row IsAsked same_ask
+  where
+    same_ask : (v w : Ask) → IsAsked v → IsAsked w → row_text (ask_row v) ≡ row_text (ask_row w) → v ≡ w
+    same_ask (ask.Stations a) (ask.Stations b) p q e = ap (λ z. ask.Stations z) (keyed_value (codes "cycle") (row_text (keyed (codes "cycle") a)) b a refl (sym e) (omega (arith, q.limit)) (keyed_again (codes "cycle") a refl ∙ ap (λ z. Some z) (small_is a (omega (arith, p.limit)))))
+    same_ask (ask.Cycle a) (ask.Cycle b) p q e = ap (λ z. ask.Cycle z) (keyed_value (codes "stations") (row_text (keyed (codes "stations") a)) b a refl (sym e) (omega (arith, q.1)) (keyed_again (codes "stations") a refl ∙ ap (λ z. Some z) (small_is a (omega (arith, p.1)))))
+    same_ask (ask.Stations a) (ask.Cycle b) p q e = (let w : codes "stations" ≡ codes "cycle" = keyed_other (codes "stations") (codes "cycle") (row_text (keyed (codes "cycle") a)) b (sat a) refl refl (sym e) (keyed_again (codes "cycle") a refl) in (cc))
+    same_ask (ask.Cycle a) (ask.Stations b) p q e = (let w : codes "cycle" ≡ codes "stations" = keyed_other (codes "cycle") (codes "stations") (row_text (keyed (codes "stations") a)) b (sat a) refl refl (sym e) (keyed_again (codes "stations") a refl) in (cc))
+
+    unique_asks : Unique asks
+    unique_asks = unique_one ask_row IsAsked same_ask
 
 same_seat : (kind : LineKind) (m : ℕ) → m ≤ 1024 → (v w : Seatplace) → IsPlaced kind m v → IsPlaced kind m w → row_text (seat_row kind v) ≡ row_text (seat_row kind w) → v ≡ w
 same_seat kind m l v w a b e =
     let f : (sat v.station, side_read kind v.side) ≡ (sat w.station, side_read kind w.side) =
-        twice (seat_in kind) (row_text (seat_row kind v)) (row_text (seat_row kind w)) (sat v.station, side_read kind v.side) (sat w.station, side_read kind w.side) (seat_again kind v.station v.side) (seat_again kind w.station w.side) e in
+    twice (seat_in kind) (row_text (seat_row kind v)) (row_text (seat_row kind w)) (sat v.station, side_read kind v.side) (sat w.station, side_read kind w.side) (seat_again kind v.station v.side) (seat_again kind w.station w.side) e in
     let n : v.station ≡ w.station = sym (small_is v.station (omega (arith, a.last))) ∙ ap (λ z. z.0) f ∙ small_is w.station (omega (arith, b.last)) in
     let s : v.side ≡ w.side = sym (side_same kind v.side a.side) ∙ ap (λ z. z.1) f ∙ side_same kind w.side b.side in
     ap (λ z. record { station = z; side = v.side }) n ∙ ap (λ z. record { station = w.station; side = z }) s
- where
-  side_same : (kind : LineKind) (side : Side) → IsSide kind side → side_read kind side ≡ side
-  side_same Straight side h = sym h
-  side_same U side h = refl
+  where
+    side_same : (kind : LineKind) (side : Side) → IsSide kind side → side_read kind side ≡ side
+    side_same Straight side h = sym h
+    side_same U side h = refl
 
 pub unique_placings : (kind : LineKind) (n : ℕ) → Unique (placings kind n)
 unfolding same_placings
@@ -375,19 +385,19 @@ unique_placings kind n = unique_same (placing_parts kind n) (placings kind n) (s
 -- a set without members
 empty_is : (s : List Bool) → length s ≡ 1024 → IsEmpty s → replicate 1024 false ≡ s
 empty_is s l h = ext_get_or false (replicate 1024 false) s (length-replicate 1024 false ∙ sym l) (λ i k. get_or-replicate 1024 i false false (omega (arith, length-replicate 1024 false)) ∙ out i (get_or s i false) refl)
- where
-  out : (i : ℕ) (t : Bool) → get_or s i false ≡ t → false ≡ get_or s i false
-  out i true e = absurd (h i e)
-  out i false e = sym e
+  where
+    out : (i : ℕ) (t : Bool) → get_or s i false ≡ t → false ≡ get_or s i false
+    out i true e = absurd (h i e)
+    out i false e = sym e
 
 last_back : (n : ℕ) (mode : Mode) (last : Option Load) → n ≤ 1024 → IsLast n mode last → last_read n mode last ≡ last
 last_back n mode None a h = refl
 last_back n mode (Some l) a h = ap (λ z. Some z) (part mode h)
- where
-  part : (mode : Mode) → IsLoadLike n mode l → load_read n mode l ≡ l
-  part Fore h = ap (λ z. record { front = z; back = replicate 1024 false }) (clip_same n l.front a h.front) ∙ ap (λ z. record { front = l.front; back = z }) (empty_is l.back h.back.truths h.suits)
-  part Back h = ap (λ z. record { front = z; back = clip n l.back }) (empty_is l.front h.front.truths h.suits) ∙ ap (λ z. record { front = l.front; back = z }) (clip_same n l.back a h.back)
-  part Both h = ap (λ z. record { front = z; back = clip n l.back }) (clip_same n l.front a h.front) ∙ ap (λ z. record { front = l.front; back = z }) (clip_same n l.back a h.back)
+  where
+    part : (mode : Mode) → IsLoadLike n mode l → load_read n mode l ≡ l
+    part Fore h = ap (λ z. record { front = z; back = replicate 1024 false }) (clip_same n l.front a h.front) ∙ ap (λ z. record { front = l.front; back = z }) (empty_is l.back h.back.truths h.suits)
+    part Back h = ap (λ z. record { front = z; back = clip n l.back }) (empty_is l.front h.front.truths h.suits) ∙ ap (λ z. record { front = l.front; back = z }) (clip_same n l.back a h.back)
+    part Both h = ap (λ z. record { front = z; back = clip n l.back }) (clip_same n l.front a h.front) ∙ ap (λ z. record { front = l.front; back = z }) (clip_same n l.back a h.back)
 
 frame_back : (n count : ℕ) (f : OpenFrame) → n ≤ 1024 → count ≤ 20000000 → IsFrame n count f → frame_of (the_frame f.mode (clip n f.set) (sat f.most) (last_read n f.mode f.last) (map sat f.cites)) ≡ f
 frame_back n count f a b h =
@@ -407,10 +417,10 @@ pub unique_trails : (n count : ℕ) → n ≤ 1024 → count ≤ 20000000 → Un
 unfolding same_trails
 unique_trails n count a b = unique_same (trail_parts n count) (trails n count) (same_trails n count)
     (unique_then trail_heads (frames_of n count) unique_trail_head (λ h r. unique_each (frame_row n) (IsFrame n count) (frames_said h) (same_frame n count a b))) back
- where
-  back : (w : Option Trail) → IsTrailOrNone n count w → to_trail (from_trail w).0 (from_trail w).1 ≡ w
-  back None r = refl
-  back (Some t) r = refl
+  where
+    back : (w : Option Trail) → IsTrailOrNone n count w → to_trail (from_trail w).0 (from_trail w).1 ≡ w
+    back None r = refl
+    back (Some t) r = refl
 
 pub unique_lists : (n : ℕ) → n ≤ 1024 → Unique (lists n)
 unfolding same_lists

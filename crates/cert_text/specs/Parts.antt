@@ -1,18 +1,15 @@
 -- The parts of a certificate's text as grammars.
-use Rattle.std.specs.Prelude.{◌≡◌, ℕ, ◌+◌, ◌≤◌, List, [], ◌∷◌, ◌++◌, length, map, Option, Some, None, codes}
+use Rattle.std.specs.Prelude.{◌≡◌, ℕ, ◌≤◌, List, [], ◌∷◌, ◌++◌, length, map, Option, codes}
 use Rattle.line_rules.specs.Ranges.{IsCycle, IsAsked, IsPlacing, AreEntries, IsTrailOrNone, AreBounds, IsClaim, IsInRange}
 use Rattle.line_rules.specs.declared.types.LineKind.{LineKind}
-use Rattle.line_rules.specs.declared.types.Balance.{Balance as Assignment}
-use Rattle.line_rules.specs.declared.types.Entry.{Entry}
 use Rattle.line_rules.specs.declared.types.Trail.{Trail}
-use Rattle.line_rules.specs.declared.types.Ask.{Ask}
 use Rattle.line_rules.specs.declared.types.Claim.{Claim}
 use Rattle.line_rules.specs.declared.types.Claim.TheVariants as claim
 use Rattle.cert_text.specs.declared.patterns.Opening.{Opening}
 use Rattle.cert_text.specs.declared.patterns.Opening.TheVariants as opening
 use Rattle.line_rules.specs.declared.types.Certificate.{Certificate}
 use Rattle.cert_text.specs.Rows.{Row, fixed, keyed}
-use Rattle.cert_text.specs.Cert.{seat_row, head_rows, bounds_rows, list_rows, trail_rows, claim_rows, cert_rows}
+use Rattle.cert_text.specs.Cert.{seat_row, head_rows, list_rows, trail_rows, claim_rows, cert_rows}
 use Rattle.cert_text.specs.Faults.{Grammar}
 use Rattle.cert_text.specs.declared.reading.Head.{Head}
 use Rattle.cert_text.specs.declared.reading.EntryList.{EntryList}

@@ -1,13 +1,12 @@
 -- The kinds of lines of a certificate, and which values they may say.
-use Rattle.std.specs.Prelude.{◌≡◌, ℕ, suc, ◌-◌, ◌<◌, ◌≤◌, List, [], ◌∷◌, Bool, Option, Some, None, codes}
-use Rattle.line_rules.specs.Ranges.{IsCycle, AreCites, IsEntry, IsFrame}
-use Rattle.line_rules.specs.declared.types.LineKind.{LineKind}
+use Rattle.std.specs.Prelude.{◌≡◌, ℕ, suc, ◌-◌, ◌<◌, ◌≤◌, List, Option, Some, None, codes}
+use Rattle.line_rules.specs.Ranges.{IsCycle, AreCites, IsEntry}
 use Rattle.line_rules.specs.declared.types.Entry.{Entry}
 use Rattle.line_rules.specs.declared.types.Why.{Why}
 use Rattle.line_rules.specs.declared.types.Why.TheVariants as whys
 use Rattle.line_rules.specs.declared.types.Ask.{Ask}
 use Rattle.line_rules.specs.declared.types.Ask.TheVariants as ask
-use Rattle.cert_text.specs.Rows.{Row, fixed, keyed, trail}
+use Rattle.cert_text.specs.Rows.{Row, keyed}
 use Rattle.cert_text.specs.Cert.{why_row}
 use Rattle.cert_text.specs.declared.draft.Draft.{Draft}
 use Rattle.cert_text.specs.declared.draft.DraftWhy.{DraftWhy}

@@ -1,15 +1,8 @@
 -- How words and lines are read. Numbers are read up to 2^64 - 1, which is above each range.
-use Rattle.std.specs.Prelude.{ℕ, zero, suc, ◌+◌, ◌-◌, ◌*◌, ◌/◌, ◌%◌, ◌^◌, min, Bool, true, false, cond, ◌&&◌, ◌||◌, not, nat_eq, nat_le, nat_lt, List, [], ◌∷◌, length, map, slice_index_or, slice_set, Option, Some, None, bytes_eq, codes, replicate}
-use Rattle.std.specs.List.{range_with_len}
+use Rattle.std.specs.Prelude.{ℕ, zero, suc, ◌+◌, ◌-◌, ◌*◌, ◌/◌, ◌%◌, ◌^◌, min, Bool, true, false, cond, ◌&&◌, ◌||◌, not, nat_eq, nat_le, nat_lt, List, [], ◌∷◌, length, slice_set, Option, Some, None, replicate}
 use Rattle.line_io.specs.Lines.{is_digit, all_digits, value_of, onto_first}
-use Rattle.line_rules.specs.declared.types.LineKind.{LineKind}
-use Rattle.line_rules.specs.declared.types.LineKind.TheVariants.{Straight, U}
-use Rattle.line_rules.specs.declared.types.Side.{Side}
-use Rattle.line_rules.specs.declared.types.Side.TheVariants.{Front, Back as AtBack}
-use Rattle.line_rules.specs.declared.types.Seatplace.{Seatplace}
 use Rattle.line_rules.specs.declared.types.Mode.{Mode}
 use Rattle.line_rules.specs.declared.types.Mode.TheVariants.{Fore, Back, Both}
-use Rattle.line_rules.specs.declared.types.Load.{Load}
 
 infixl 10 ◌>>=◌
 abbrev pub ◌>>=◌ : {A B : Type 0} → Option A → (A → Option B) → Option B

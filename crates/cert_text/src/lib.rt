@@ -6,16 +6,22 @@ mod fault;
 mod kept_text;
 mod lines;
 mod output;
-mod reader;
 mod pattern;
 mod patterns;
+mod reader;
 mod reading;
 mod slice_lines;
 mod source;
-mod writer;
+#[cfg(test)]
+mod tests;
 mod words;
+mod writer;
 mod writing;
 
-pub use fault::{CertFault, CertKind};
+pub use fault::{CertFault, CertKind, ReadError};
+pub use lines::{put_cert, put_list};
+pub use output::Output;
 pub use reader::{CertRead, read_cert};
+pub use reading::{EntryList, read_all, read_entries};
+pub use source::{Source, Taken};
 pub use writer::{write_cert, write_list};

@@ -162,13 +162,9 @@ impl Pattern for EndLine {
 #[derive(Clone, Copy)]
 pub enum Opening {
     /// A task, from 0, is too long.
-    TooLong {
-        task: u32,
-    },
+    TooLong { task: u32 },
     /// The lower bound.
-    Lower {
-        lower: u64,
-    },
+    Lower { lower: u64 },
 }
 
 /// Whether a number is a cycle.

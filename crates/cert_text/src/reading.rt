@@ -7,7 +7,10 @@ ghost use Rattle.line_rules.specs.Ranges.{AreEntries, IsTrailOrNone, IsCycle, Is
 
 use crate::fault::ReadError;
 use crate::pattern::{read_line, read_lines};
-use crate::patterns::{AskLine, EndLine, EntryLine, FrameLine, Key, KindLine, MAX_CYCLE, NumberLine, Opening, OpeningLine, SeatLine, TrailLine, VersionLine};
+use crate::patterns::{
+    AskLine, EndLine, EntryLine, FrameLine, Key, KindLine, MAX_CYCLE, NumberLine, Opening,
+    OpeningLine, SeatLine, TrailLine, VersionLine,
+};
 use crate::source::Source;
 use line_rules::{Ask, Balance, Certificate, Claim, Entries, Frames, LineKind, Places, Trail};
 use std::alloc::Global;
@@ -231,11 +234,7 @@ fn read_opened<S: Source>(
 }
 
 /// Reads a claim.
-pub fn read_claim<S: Source>(
-    alloc: Global,
-    source: &mut S,
-    head: Head,
-) -> Result<Claim, ReadError>
+pub fn read_claim<S: Source>(alloc: Global, source: &mut S, head: Head) -> Result<Claim, ReadError>
     requires { IsHeadOf head }
     ensures said { IfOk result (IsClaim head.kind head.tasks head.ask) }
     ensures read { S.told → IsRead (claims head) (S.number source.old) (S.left source.old) (S.left source.new) (S.number source.new) result }

@@ -1,5 +1,4 @@
-use Rattle.std.proofs.Common.{◌≡◌, ◌∙◌, sym, ap, refl, arith, suc, ◌+◌, subst, Err, []}
-use Rattle.cert_text.specs.Faults.{IsLine}
+use Rattle.std.proofs.Common.{◌∙◌, sym, refl, arith, subst, []}
 use Rattle.cert_text.specs.Taking.{IsTaken}
 use Rattle.cert_text.proofs.Composing.{one_ends, line_error, error_is, one_said}
 use Rattle.cert_text.proofs.pattern.read_line.Goals as goal
@@ -18,7 +17,7 @@ returns-in-Err-clause-read g c t =
 
 pub returns-in-Ok-clause-read : goal.returns-in-Ok-clause-read
 returns-in-Ok-clause-read g c t = (
-    c.in-Ok.ensures.0,
-    one_said (g.P.Pattern.line_of c.args.pattern.now c.in-Ok.value) (g.S.Source.left c.args.source.now) (g.S.Source.line c.advance.new.self) (g.S.Source.left c.advance.new.self) (c.in-Line.ensures.line t refl) (c.in-Ok.ensures.1 ∙ c.line.ensures),
-    c.in-Line.ensures.count refl ∙ omega arith,
-  )
+  c.in-Ok.ensures.0,
+  one_said (g.P.Pattern.line_of c.args.pattern.now c.in-Ok.value) (g.S.Source.left c.args.source.now) (g.S.Source.line c.advance.new.self) (g.S.Source.left c.advance.new.self) (c.in-Line.ensures.line t refl) (c.in-Ok.ensures.1 ∙ c.line.ensures),
+  c.in-Line.ensures.count refl ∙ omega arith,
+)

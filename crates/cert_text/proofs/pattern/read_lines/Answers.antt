@@ -1,6 +1,6 @@
-use Rattle.std.proofs.Common.{◌≡◌, ◌∙◌, sym, ap, refl, arith, suc, ◌+◌, subst, Err, [], length}
+use Rattle.std.proofs.Common.{◌∙◌, sym, ap, arith, ◌+◌, []}
 use Rattle.std.proofs.lemmas.List.{length-map}
-use Rattle.cert_text.proofs.Composing.{SoFar, none_so_far, one_more, none_said, one_more_said, all_said, each_error, handed_on}
+use Rattle.cert_text.proofs.Composing.{none_so_far, one_more, none_said, one_more_said, all_said, each_error, handed_on}
 use Rattle.cert_text.proofs.pattern.read_lines.Goals as goal
 
 pub loop-init : goal.loop-init

@@ -1,4 +1,4 @@
-use Rattle.std.proofs.Common.{◌≡◌, sym, subst, []}
+use Rattle.std.proofs.Common.{[]}
 use Rattle.cert_text.specs.Parts.{heads, claims, certs}
 use Rattle.cert_text.specs.Judging.{then_}
 use Rattle.cert_text.proofs.Failing.{ends, first, second, same, hand}

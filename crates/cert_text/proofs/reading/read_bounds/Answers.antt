@@ -2,9 +2,8 @@ use Rattle.std.proofs.Common.{[]}
 use Rattle.cert_text.specs.Parts.{lists, placings, opened}
 use Rattle.cert_text.specs.declared.patterns.Opening.TheVariants as opening
 use Rattle.cert_text.proofs.Failing.{ends, first, second, same, hand}
-use Rattle.cert_text.proofs.Sequencing.{both_read}
 use Rattle.cert_text.proofs.Wholes.{unique_placings, unique_lists}
-use Rattle.cert_text.proofs.Claims.{end_grammar, bounds_behind, bounds_parts, same_bounds, bounds_read, some_list}
+use Rattle.cert_text.proofs.Claims.{end_grammar, bounds_behind, bounds_parts, same_bounds, some_list}
 use Rattle.cert_text.proofs.reading.read_bounds.Goals as goal
 
 pub returns-in_err-placed-clause-read : goal.returns-in_err-placed-clause-read

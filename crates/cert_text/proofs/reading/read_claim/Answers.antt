@@ -1,6 +1,6 @@
-use Rattle.std.proofs.Common.{◌≡◌, sym, subst, []}
+use Rattle.std.proofs.Common.{[]}
 use Rattle.cert_text.specs.Parts.{opened, claims}
-use Rattle.cert_text.proofs.Failing.{ends, first, second, same, hand}
+use Rattle.cert_text.proofs.Failing.{ends, first, same, hand}
 use Rattle.cert_text.proofs.Claims.{openings, claim_parts, unique_opening, some_opening, some_opened, same_claims, claim_result}
 use Rattle.cert_text.proofs.reading.read_claim.Goals as goal
 

@@ -1,8 +1,7 @@
-use Rattle.std.proofs.Common.{◌≡◌, ◌∙◌, sym, ap, subst, Some, None, ℕ, length, List, [], Option, Ok}
+use Rattle.std.proofs.Common.{sym, subst, None, length, List, [], Ok}
 use Rattle.std.specs.Prelude.{codes}
 use Rattle.line_rules.specs.Ranges.{AreEntries, IsTrailOrNone}
 use Rattle.line_rules.specs.declared.types.Entry.{Entry}
-use Rattle.line_rules.specs.declared.types.Trail.{Trail}
 use Rattle.cert_text.specs.Parts.{trails, lists}
 use Rattle.cert_text.specs.Judging.{IsRead}
 use Rattle.cert_text.proofs.Failing.{ends, first, second, same, hand}
@@ -44,7 +43,7 @@ returns-clause-said g c =
 pub returns-clause-read : goal.returns-clause-read
 returns-clause-read g c t =
     let Q : List Entry → Type 0 = λ es. IsRead (lists c.args.tasks) (g.S.Source.number c.args.source.now) (g.S.Source.left c.args.source.now) (g.S.Source.left c.read_trail.new.source) (g.S.Source.number c.read_trail.new.source)
-        (Ok (record { entries = es; trail = c.in_ok-trail.trail })) in
+    (Ok (record { entries = es; trail = c.in_ok-trail.trail })) in
     subst Q (sym c.from_vec.ensures)
     (list_read c.args.tasks c.in_ok-count.count c.in_ok-entries.entries.items c.in_ok-trail.trail _ _ _ _
     (both_read (numbers (codes "entries") 0 20000000) (entry_rest c.args.tasks) c.in_ok-count.count (c.in_ok-entries.entries.items, c.in_ok-trail.trail) _ _ _ _ _ _ (c.in_ok-count.ensures.read t)

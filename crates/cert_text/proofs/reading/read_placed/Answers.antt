@@ -1,4 +1,4 @@
-use Rattle.std.proofs.Common.{◌≡◌, ◌∙◌, sym, subst, List, [], ℕ, Ok, Err}
+use Rattle.std.proofs.Common.{sym, subst, List, [], ℕ, Ok, Err}
 use Rattle.line_rules.specs.declared.types.Seatplace.{Seatplace}
 use Rattle.cert_text.specs.Parts.{placings, IsPlacedOf}
 use Rattle.cert_text.specs.Judging.{IsRead, AreSaid}
@@ -42,9 +42,9 @@ returns-clause-said g c =
 pub returns-clause-read : goal.returns-clause-read
 returns-clause-read g c t =
     let P : ℕ → Type 0 = λ k. IsRead (seats_of c.args.kind k c.in_ok-stations.stations) (g.S.Source.number c.read_line-2.new.source) (g.S.Source.left c.read_line-2.new.source) (g.S.Source.left c.read_lines.new.source) (g.S.Source.number c.read_lines.new.source)
-        (Ok c.in_ok-places.places.items) in
+    (Ok c.in_ok-places.places.items) in
     let Q : List Seatplace → Type 0 = λ ps. IsRead (placings c.args.kind c.args.tasks) (g.S.Source.number c.args.source.now) (g.S.Source.left c.args.source.now) (g.S.Source.left c.read_lines.new.source) (g.S.Source.number c.read_lines.new.source)
-        (Ok (record { upper = c.in_ok-upper.upper; stations = c.in_ok-stations.stations; places = ps })) in
+    (Ok (record { upper = c.in_ok-upper.upper; stations = c.in_ok-stations.stations; places = ps })) in
     subst Q (sym c.from_vec.ensures)
     (placing_read c.args.kind c.args.tasks c.in_ok-upper.upper c.in_ok-stations.stations c.in_ok-places.places.items _ _ _ _
     (both_read uppers (λ u. seats_behind c.args.kind c.args.tasks) c.in_ok-upper.upper (c.in_ok-stations.stations, c.in_ok-places.places.items) _ _ _ _ _ _ (c.in_ok-upper.ensures.read t)

@@ -1,4 +1,4 @@
-use Rattle.std.proofs.Common.{◌≡◌, ◌∙◌, sym, ap, subst, Some, None, ℕ, length, List, [], Option, Ok}
+use Rattle.std.proofs.Common.{sym, subst, Some, ℕ, List, [], Option, Ok}
 use Rattle.line_rules.specs.Ranges.{IsTrailOrNone}
 use Rattle.line_rules.specs.declared.types.OpenFrame.{OpenFrame}
 use Rattle.cert_text.specs.Patterns.{IsHead}
@@ -38,7 +38,7 @@ pub returns-clause-read : goal.returns-clause-read
 returns-clause-read g c t =
     let P : Option (ℕ × ℕ) → Type 0 = λ h. IsRead trail_heads (g.S.Source.number c.args.source.now) (g.S.Source.left c.args.source.now) (g.S.Source.left c.read_line.new.source) (g.S.Source.number c.read_line.new.source) (Ok h) in
     let Q : List OpenFrame → Type 0 = λ fs. IsRead (trails c.args.tasks c.args.count) (g.S.Source.number c.args.source.now) (g.S.Source.left c.args.source.now) (g.S.Source.left c.read_lines.new.source) (g.S.Source.number c.read_lines.new.source)
-        (Ok (Some (record { cycle = c.in-Some.cycle; frames = fs }))) in
+    (Ok (Some (record { cycle = c.in-Some.cycle; frames = fs }))) in
     subst Q (sym c.from_vec.ensures)
     (trail_read c.args.tasks c.args.count (c.in-Some.frames, c.in-Some.cycle) c.in_ok-frames.frames.items _ _ _ _
     (both_read trail_heads (frames_of c.args.tasks c.args.count) (Some (c.in-Some.frames, c.in-Some.cycle)) c.in_ok-frames.frames.items _ _ _ _ _ _ (subst P c.in-Some.is (c.in_ok-head.ensures.read t)) (c.in_ok-frames.ensures.read t)))

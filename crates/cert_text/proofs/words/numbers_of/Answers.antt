@@ -1,4 +1,4 @@
-use Rattle.std.proofs.Common.{◌≡◌, ◌∙◌, sym, ap, [], ◌∷◌, ◌++◌, Some}
+use Rattle.std.proofs.Common.{◌∙◌, sym, ap, Some}
 use Rattle.cert_text.specs.Reading.{numbers_in, pieces_at}
 use Rattle.cert_text.proofs.Lists.{behind, behind_none, split_shorter, piece_read, piece_fails, last_read, last_fails}
 use Rattle.cert_text.proofs.words.numbers_of.Goals as goal

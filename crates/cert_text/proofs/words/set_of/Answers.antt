@@ -1,6 +1,6 @@
-use Rattle.std.proofs.Common.{◌≡◌, ◌∙◌, sym, ap, [], ◌∷◌, Some, None, arith, get_or, drop, ◌+◌, ◌/◌, length, replicate, false, true, nat_eq, eq-eqb}
+use Rattle.std.proofs.Common.{◌≡◌, ◌∙◌, sym, ap, [], drop, ◌+◌, ◌/◌, length, eq-eqb}
 use Rattle.std.proofs.lemmas.List.{drop_all}
-use Rattle.cert_text.specs.Reading.{are_digits, with_digits, with_digit, is_hex, hex_value, is_spare}
+use Rattle.cert_text.specs.Reading.{are_digits, with_digits, with_digit, is_spare}
 use Rattle.cert_text.proofs.Parts.{not_equal}
 use Rattle.cert_text.proofs.SetWords.{digits_more, digits_no_hex, digits_no_spare, digits_end, set_end, set_more, set_short, set_none, set_is}
 use Rattle.cert_text.proofs.words.set_of.Goals as goal

@@ -1,4 +1,4 @@
-use Rattle.std.proofs.Common.{◌≡◌, ◌≤◌, ◌∙◌, sym, subst, ℕ}
+use Rattle.std.proofs.Common.{◌≡◌, ◌≤◌, sym, subst, ℕ}
 use Rattle.cert_text.specs.Rows.{row_text}
 use Rattle.cert_text.specs.Cert.{ask_row}
 use Rattle.line_rules.specs.Ranges.{IsAsked, IsCycle}

@@ -1,4 +1,4 @@
-use Rattle.std.proofs.Common.{◌≡◌, ◌∙◌, sym}
+use Rattle.std.proofs.Common.{◌∙◌, sym}
 use Rattle.cert_text.proofs.JudgedEntry.{entry_none}
 use Rattle.cert_text.proofs.JudgedResult.{entry_judged}
 use Rattle.cert_text.proofs.patterns.EntryLinePattern.read.Goals as goal

@@ -1,4 +1,4 @@
-use Rattle.std.proofs.Common.{◌≡◌, ◌∙◌, sym}
+use Rattle.std.proofs.Common.{◌∙◌, sym}
 use Rattle.cert_text.proofs.JudgedEntry.{frame_none}
 use Rattle.cert_text.proofs.JudgedResult.{frame_judged}
 use Rattle.cert_text.proofs.patterns.FrameLinePattern.read.Goals as goal

@@ -1,4 +1,4 @@
-use Rattle.std.proofs.Common.{◌≡◌, ◌∙◌, ◌<◌, sym, ap, arith}
+use Rattle.std.proofs.Common.{◌∙◌, ◌<◌, sym, ap, arith}
 use Rattle.cert_text.specs.LineReading.{keyed_in}
 use Rattle.cert_text.specs.Reading.{greatest}
 use Rattle.cert_text.specs.Patterns.{key_text}

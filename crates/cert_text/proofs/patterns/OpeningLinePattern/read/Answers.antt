@@ -1,4 +1,4 @@
-use Rattle.std.proofs.Common.{◌≡◌, ◌≤◌, ◌∙◌, sym, subst, ℕ}
+use Rattle.std.proofs.Common.{◌≡◌, sym, subst, ℕ}
 use Rattle.cert_text.specs.Rows.{row_text}
 use Rattle.cert_text.specs.Patterns.{opening_row, IsOpening}
 use Rattle.cert_text.specs.declared.patterns.Opening.TheVariants as opening

@@ -1,4 +1,4 @@
-use Rattle.std.proofs.Common.{◌≡◌, ◌≤◌, ◌∙◌, sym, subst, ℕ, arith}
+use Rattle.std.proofs.Common.{sym, arith}
 use Rattle.cert_text.proofs.JudgedMore.{seat_none, seat_ok, seat_range}
 use Rattle.cert_text.proofs.patterns.SeatLinePattern.read.Goals as goal
 

@@ -1,4 +1,4 @@
-use Rattle.std.proofs.Common.{◌≡◌, ◌≤◌, ◌∙◌, sym, subst, ℕ, arith, ap, Some, None}
+use Rattle.std.proofs.Common.{◌∙◌, sym, arith, ap, Some, None}
 use Rattle.std.proofs.lemmas.Bool.{false≢true}
 use Rattle.cert_text.specs.Patterns.{IsHead}
 use Rattle.cert_text.proofs.JudgedMore.{trail_none, trail_ok, trail_range}
