@@ -1,0 +1,69 @@
+-- Texts that are put one behind the other.
+use Rattle.std.proofs.Common.{◌≡◌, ℕ, Bool, true, false, List, [], ◌++◌, take, length, refl, sym, ◌∙◌, ap, subst, arith, append_assoc, ◌<◌, ◌+◌, min, get_or}
+use Rattle.std.proofs.lemmas.List.{append-nil, take-append-le, take_all, take_more, flat_map_more}
+use Rattle.std.specs.List.{flat_map}
+use Rattle.std.proofs.lemmas.Bool.{false≢true}
+use Rattle.cert_text.specs.Numbers.{number_text}
+use Rattle.cert_text.specs.Sent.{Sent, IsFront, Adds, Puts}
+
+-- a front of a text is a front of a longer one
+pub front_of_more : (front a b : List ℕ) → IsFront front a → IsFront front (a ++ b)
+front_of_more front a b f = (min f.0 (length a), f.1 ∙ clipped f.0 a ∙ sym (take-append-le (min f.0 (length a)) a b (omega arith)))
+  where
+    clipped : (k : ℕ) (a : List ℕ) → take k a ≡ take (min k (length a)) a
+    clipped k a = grind (arith, take_all)
+
+good_or_not : (b : Bool) → (b ≡ true → ⊥) → b ≡ false
+good_or_not true h = absurd (h refl)
+good_or_not false h = refl
+
+pub puts_both : (a b c : Sent) (s t : List ℕ) → Adds a s b → Adds b t c → Adds a (s ++ t) c
+puts_both a b c s t p q = record {
+  before = λ g. p.before (q.before g);
+  all = λ g. q.all g ∙ ap (λ x. x ++ t) (p.all (q.before g)) ∙ append_assoc a.shown s t;
+  front = λ g f. middle b.good refl g f;
+  stays = λ f. q.stays (good_or_not b.good (λ g. false≢true (sym f ∙ p.before g))) ∙ p.stays f;
+}
+  where
+    middle : (x : Bool) → b.good ≡ x → a.good ≡ true → c.good ≡ false → IsFront c.kept (a.shown ++ (s ++ t))
+    middle true e g f =
+        let P : List ℕ → Type 0 = λ w. IsFront c.kept w in
+        subst P (ap (λ x. x ++ t) (p.all e) ∙ append_assoc a.shown s t) (q.front e f)
+    middle false e g f =
+        let P : List ℕ → Type 0 = λ w. IsFront w (a.shown ++ (s ++ t)) in
+        let Q : List ℕ → Type 0 = λ w. IsFront b.kept w in
+        subst P (sym (q.stays e)) (subst Q (append_assoc a.shown s t) (front_of_more b.kept (a.shown ++ s) t (p.front g e)))
+
+pub puts_none : (a : Sent) → Adds a [] a
+puts_none a = record {
+  before = λ g. g;
+  all = λ g. sym (append-nil a.shown);
+  front = λ g f. absurd (false≢true (sym f ∙ g));
+  stays = λ f. refl;
+}
+
+-- nothing is put
+pub nothing : (told : Type 0) (a : Sent) (s : List ℕ) → s ≡ [] → Puts told a s a
+nothing told a s e t = let P : List ℕ → Type 0 = λ x. Adds a x a in subst P (sym e) (puts_none a)
+
+-- a text is put behind one that was put
+pub puts : (told : Type 0) (a b c : Sent) (s t u : List ℕ) → Puts told a s b → Puts told b t c → u ≡ s ++ t → Puts told a u c
+puts told a b c s t u p q e k = let P : List ℕ → Type 0 = λ x. Adds a x c in subst P (sym e) (puts_both a b c s t (p k) (q k))
+
+-- the same text, written otherwise
+pub puts_as : (told : Type 0) (a b : Sent) (s t : List ℕ) → Puts told a s b → t ≡ s → Puts told a t b
+puts_as told a b s t p e k = let P : List ℕ → Type 0 = λ x. Adds a x b in subst P (sym e) (p k)
+
+-- a text of a list's members, with one member more
+pub next_text : {X : Type 0} (f : X → List ℕ) (xs : List X) (k : ℕ) (d : X) (part : List ℕ) → k < length xs → f (get_or xs k d) ≡ part → flat_map f (take k xs) ++ part ≡ flat_map f (take (k + 1) xs)
+next_text f xs k d part h p =
+    ap (λ r. flat_map f (take k xs) ++ r) (sym p) ∙ flat_map_more f [] (take k xs) (get_or xs k d) ∙ ap (flat_map f) (sym (take_more xs k d h))
+
+-- a text behind a text
+infixr 5 ◌▹◌
+pub ◌▹◌ : {told : Type 0} {a b c : Sent} {s t : List ℕ} → Puts told a s b → Puts told b t c → Puts told a (s ++ t) c
+p ▹ q = λ k. puts_both _ _ _ _ _ (p k) (q k)
+
+-- a number that is another number
+pub number_as : {told : Type 0} {a b : Sent} {m : ℕ} (n : ℕ) → Puts told a (number_text m) b → m ≡ n → Puts told a (number_text n) b
+number_as n p e = puts_as _ _ _ _ _ p (ap number_text (sym e))

@@ -1,0 +1,11 @@
+use Rattle.std.proofs.Common.{ap, sym, map}
+use Rattle.std.specs.Prelude.{codes}
+use Rattle.cert_text.specs.Rows.{line_text, rows_text, keyed}
+use Rattle.cert_text.specs.Cert.{seat_row}
+use Rattle.cert_text.proofs.Putting.{puts_as, ◌▹◌}
+use Rattle.cert_text.proofs.lines.put_bounds.Goals as goal
+
+pub returns : goal.returns
+returns g c =
+    c.put_keyed.ensures ▹ c.put_keyed-2.ensures ▹ puts_as _ _ _ _ _ c.put_keyed-3.ensures (ap (λ n. line_text (keyed (codes "balance") n)) (sym c.from.ensures))
+    ▹ puts_as _ _ _ _ _ c.put_seats.ensures (ap (λ ps. rows_text (map (seat_row c.args.kind) ps)) (sym c.as_slice.ensures))

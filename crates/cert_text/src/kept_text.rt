@@ -1,0 +1,54 @@
+//! A text in memory.
+ghost use Rattle.std.specs.Prelude.{◌≡◌, [], ◌∷◌, ◌++◌, not, true, IfOk};
+ghost use Rattle.cert_text.specs.Sent.{Puts};
+
+use crate::output::Output;
+use std::alloc::{AllocError, Global};
+
+/// A text that is put into memory; it remembers where memory was wanting.
+#[derive(Drop)]
+pub struct KeptText {
+    bytes: Vec<u8>,
+    failed: bool,
+}
+
+impl KeptText {
+    /// No text yet.
+    pub fn new(alloc: Global) -> KeptText
+        ensures bytes { result.bytes.items ≡ [] }
+        ensures good { not result.failed ≡ true }
+    {
+        KeptText {
+            bytes: Vec::new(alloc),
+            failed: false,
+        }
+    }
+
+    /// The text, or an error where memory was wanting.
+    pub fn finish(self) -> Result<Vec<u8>, AllocError>
+        ensures { IfOk result (λ bytes. (not self.failed ≡ true) × (bytes.items ≡ self.bytes.items)) }
+    {
+        if self.failed {
+            return Err(AllocError);
+        }
+        Ok(self.bytes)
+    }
+}
+
+impl Output for KeptText {
+    ghost use Rattle.std.specs.Prelude.{not, []};
+
+    ghost told = { Unit {0} };
+
+    ghost sent = { λ s. record { good = not s.failed; shown = s.bytes.items; kept = [] } };
+
+    #[inline]
+    fn put(&mut self, byte: u8) {
+        if self.failed {
+            return;
+        }
+        if self.bytes.push(byte).is_err() {
+            self.failed = true;
+        }
+    }
+}

@@ -1,0 +1,16 @@
+//! Where a text is put, byte by byte.
+ghost use Rattle.std.specs.Prelude.{[], ◌∷◌, ℕ, List};
+ghost use Rattle.cert_text.specs.Sent.{Sent, Puts};
+
+/// An output that remembers its first failure: what is put after it is let go.
+pub trait Output {
+    /// That what is put is told.
+    ghost told: { Type 0 };
+
+    /// Whether no put has failed, what was put, and what is kept of it.
+    ghost sent: { Self → Sent };
+
+    /// Puts a byte.
+    fn put(&mut self, byte: u8)
+        ensures { Puts told (sent self.old) (byte ∷ []) (sent self.new) };
+}

@@ -1,0 +1,267 @@
+//! The reading of a certificate's text, line by line.
+ghost use Rattle.std.specs.Prelude.{ℕ, ◌≤◌, IfOk, length};
+ghost use Rattle.cert_text.specs.Judging.{IsRead};
+ghost use Rattle.cert_text.specs.Parts.{IsHeadOf, IsPlacedOf, IsOpened, heads, trails, lists, placings, opened, claims, certs};
+ghost use Rattle.cert_text.specs.Patterns.{IsOpening};
+ghost use Rattle.line_rules.specs.Ranges.{AreEntries, IsTrailOrNone, IsCycle, IsClaim, IsInRange};
+
+use crate::fault::ReadError;
+use crate::pattern::{read_line, read_lines};
+use crate::patterns::{
+    AskLine, EndLine, EntryLine, FrameLine, Key, KindLine, MAX_CYCLE, NumberLine, Opening,
+    OpeningLine, SeatLine, TrailLine, VersionLine,
+};
+use crate::source::Source;
+use line_rules::{Ask, Balance, Certificate, Claim, Entries, Frames, LineKind, Places, Trail};
+use std::alloc::Global;
+
+/// The most entries.
+const MAX_ENTRIES: u64 = 20_000_000;
+
+/// What stands before the claim.
+#[derive(Clone, Copy)]
+pub struct Head {
+    /// The kind of line.
+    pub kind: LineKind,
+    /// The number of tasks.
+    pub tasks: u32,
+    /// The question.
+    pub ask: Ask,
+}
+
+/// Entries and a trail.
+#[derive(Drop)]
+pub struct EntryList {
+    /// The entries.
+    pub entries: Entries,
+    /// The trail, where there is one.
+    pub trail: Option<Trail>,
+}
+
+/// The bounds behind the lower one.
+#[derive(Drop)]
+pub struct Placed {
+    /// The upper bound.
+    pub upper: u64,
+    /// The number of stations.
+    pub stations: u32,
+    /// The places.
+    pub places: Places,
+}
+
+/// Reads what stands before the claim.
+pub fn read_head<S: Source>(alloc: Global, source: &mut S) -> Result<Head, ReadError>
+    ensures said { IfOk result IsHeadOf }
+    ensures read { S.told → IsRead heads (S.number source.old) (S.left source.old) (S.left source.new) (S.number source.new) result }
+{
+    let kind = read_line(alloc, source, &KindLine)?;
+    let tasks = read_line(
+        alloc,
+        source,
+        &NumberLine {
+            key: Key::Tasks,
+            low: 1,
+            high: 1024,
+        },
+    )?;
+    let ask = read_line(alloc, source, &AskLine)?;
+    Ok(Head {
+        kind,
+        tasks: tasks as u32,
+        ask,
+    })
+}
+
+/// Reads a trail, or that there is none.
+pub fn read_trail<S: Source>(
+    alloc: Global,
+    source: &mut S,
+    tasks: u32,
+    count: u64,
+) -> Result<Option<Trail>, ReadError>
+    requires some { 1 ≤ tasks }
+    requires few { tasks ≤ 1024 }
+    requires entries { count ≤ 20000000 }
+    ensures said { IfOk result (IsTrailOrNone tasks count) }
+    ensures read { S.told → IsRead (trails tasks count) (S.number source.old) (S.left source.old) (S.left source.new) (S.number source.new) result }
+{
+    let head = read_line(alloc, source, &TrailLine)?;
+    let Some((frames, cycle)) = head else {
+        return Ok(None);
+    };
+    let frames = read_lines(alloc, source, &FrameLine { tasks, count }, frames)?;
+    Ok(Some(Trail {
+        cycle,
+        frames: Frames::from_vec(frames),
+    }))
+}
+
+/// Reads entries and a trail.
+pub fn read_entries<S: Source>(
+    alloc: Global,
+    source: &mut S,
+    tasks: u32,
+) -> Result<EntryList, ReadError>
+    requires some { 1 ≤ tasks }
+    requires few { tasks ≤ 1024 }
+    ensures said { IfOk result (λ x. AreEntries tasks x.entries × IsTrailOrNone tasks (length x.entries) x.trail) }
+    ensures read { S.told → IsRead (lists tasks) (S.number source.old) (S.left source.old) (S.left source.new) (S.number source.new) result }
+{
+    let count = read_line(
+        alloc,
+        source,
+        &NumberLine {
+            key: Key::Entries,
+            low: 0,
+            high: MAX_ENTRIES,
+        },
+    )?;
+    let entries = read_lines(
+        alloc,
+        source,
+        &EntryLine {
+            tasks,
+            count,
+            given: None,
+        },
+        count,
+    )?;
+    let trail = read_trail(alloc, source, tasks, count)?;
+    Ok(EntryList {
+        entries: Entries::from_vec(entries),
+        trail,
+    })
+}
+
+/// Reads the bounds behind the lower one, up to the places.
+pub fn read_placed<S: Source>(
+    alloc: Global,
+    source: &mut S,
+    kind: LineKind,
+    tasks: u32,
+) -> Result<Placed, ReadError>
+    requires some { 1 ≤ tasks }
+    requires few { tasks ≤ 1024 }
+    ensures said { IfOk result (IsPlacedOf kind tasks) }
+    ensures read { S.told → IsRead (placings kind tasks) (S.number source.old) (S.left source.old) (S.left source.new) (S.number source.new) result }
+{
+    let upper = read_line(
+        alloc,
+        source,
+        &NumberLine {
+            key: Key::Upper,
+            low: 1,
+            high: MAX_CYCLE,
+        },
+    )?;
+    let stations = read_line(
+        alloc,
+        source,
+        &NumberLine {
+            key: Key::Balance,
+            low: 1,
+            high: 1024,
+        },
+    )?;
+    let stations = stations as u32;
+    let places = read_lines(
+        alloc,
+        source,
+        &SeatLine { kind, stations },
+        u64::from(tasks),
+    )?;
+    Ok(Placed {
+        upper,
+        stations,
+        places: Places::from_vec(places),
+    })
+}
+
+/// Reads the bounds behind the lower one, and the end.
+fn read_bounds<S: Source>(
+    alloc: Global,
+    source: &mut S,
+    kind: LineKind,
+    tasks: u32,
+    lower: u64,
+) -> Result<Claim, ReadError>
+    requires some { 1 ≤ tasks }
+    requires few { tasks ≤ 1024 }
+    requires lower { IsCycle lower }
+    ensures said { IfOk result (IsOpened kind tasks (Opening.Lower lower)) }
+    ensures read { S.told → IsRead (opened kind tasks (Opening.Lower lower)) (S.number source.old) (S.left source.old) (S.left source.new) (S.number source.new) result }
+{
+    let placed = read_placed(alloc, source, kind, tasks)?;
+    let list = read_entries(alloc, source, tasks)?;
+    read_line(alloc, source, &EndLine)?;
+    let Placed {
+        upper,
+        stations,
+        places,
+    } = placed;
+    let EntryList { entries, trail } = list;
+    Ok(Claim::Bounds {
+        lower,
+        upper,
+        balance: Balance {
+            stations,
+            place: places,
+        },
+        entries,
+        trail,
+    })
+}
+
+/// Reads what stands behind the first line of a claim.
+fn read_opened<S: Source>(
+    alloc: Global,
+    source: &mut S,
+    head: Head,
+    opening: Opening,
+) -> Result<Claim, ReadError>
+    requires head { IsHeadOf head }
+    requires opening { IsOpening head.ask head.tasks opening }
+    ensures said { IfOk result (IsOpened head.kind head.tasks opening) }
+    ensures read { S.told → IsRead (opened head.kind head.tasks opening) (S.number source.old) (S.left source.old) (S.left source.new) (S.number source.new) result }
+{
+    match opening {
+        Opening::TooLong { task } => match read_line(alloc, source, &EndLine) {
+            Ok(()) => Ok(Claim::TooLong { task }),
+            Err(error) => Err(error),
+        },
+        Opening::Lower { lower } => read_bounds(alloc, source, head.kind, head.tasks, lower),
+    }
+}
+
+/// Reads a claim.
+pub fn read_claim<S: Source>(alloc: Global, source: &mut S, head: Head) -> Result<Claim, ReadError>
+    requires { IsHeadOf head }
+    ensures said { IfOk result (IsClaim head.kind head.tasks head.ask) }
+    ensures read { S.told → IsRead (claims head) (S.number source.old) (S.left source.old) (S.left source.new) (S.number source.new) result }
+{
+    let opening = read_line(
+        alloc,
+        source,
+        &OpeningLine {
+            ask: head.ask,
+            tasks: head.tasks,
+        },
+    )?;
+    read_opened(alloc, source, head, opening)
+}
+
+/// Reads a certificate.
+pub fn read_all<S: Source>(alloc: Global, source: &mut S) -> Result<Certificate, ReadError>
+    ensures said { IfOk result IsInRange }
+    ensures read { S.told → IsRead certs (S.number source.old) (S.left source.old) (S.left source.new) (S.number source.new) result }
+{
+    read_line(alloc, source, &VersionLine)?;
+    let head = read_head(alloc, source)?;
+    let claim = read_claim(alloc, source, head)?;
+    Ok(Certificate {
+        kind: head.kind,
+        tasks: head.tasks,
+        ask: head.ask,
+        claim,
+    })
+}

@@ -1,0 +1,70 @@
+//! The lines of bytes in memory.
+ghost use Rattle.std.specs.Prelude.{◌≡◌, ◌==◌, length};
+
+use crate::source::{Source, Taken};
+use crate::words::split_at;
+
+/// The lines of bytes, one after the other.
+#[derive(Drop)]
+pub struct SliceLines<'a> {
+    left: &'a [u8],
+    line: &'a [u8],
+    number: u64,
+}
+
+impl<'a> SliceLines<'a> {
+    /// The lines of these bytes.
+    pub fn new(bytes: &'a [u8]) -> SliceLines<'a>
+        ensures left { result.left.now ≡ bytes.now }
+        ensures number { result.number ≡ 0 }
+    {
+        SliceLines {
+            left: bytes,
+            line: bytes,
+            number: 0,
+        }
+    }
+
+    /// Whether nothing is left.
+    pub fn is_done(&self) -> bool
+        ensures { result ≡ (length self.now.left.now == 0) }
+    {
+        self.left.is_empty()
+    }
+}
+
+impl Source for SliceLines<'_> {
+    ghost told = { Unit {0} };
+
+    ghost left = { λ s. s.left.now };
+
+    ghost line = { λ s. s.line.now };
+
+    ghost number = { λ s. s.number };
+
+    fn advance(&mut self) -> Taken {
+        if self.number == u64::MAX {
+            return Taken::Stopped;
+        }
+        match split_at(self.left, b'\n') {
+            Some((line, rest)) => {
+                self.line = line;
+                self.left = rest;
+                self.number += 1;
+                Taken::Line
+            }
+            None => {
+                self.number += 1;
+                Taken::End
+            }
+        }
+    }
+
+    fn line(&self) -> &[u8] {
+        self.line
+    }
+
+    fn number(&self) -> u64 {
+        self.number
+    }
+}

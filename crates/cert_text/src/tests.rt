@@ -1,0 +1,277 @@
+//! What no clause says: that texts are read where there is memory, and the faults of rows.
+ghost use Rattle.std.specs.Prelude.{◌≡◌, ◌≤◌};
+
+use crate::{CertFault, CertKind, CertRead, read_cert, write_cert, write_list};
+use line_rules::{Certificate, Claim};
+use std::alloc::{AllocError, Global};
+use std::test::Fail;
+
+const V5: [&str; 16] = [
+    "line balance certificate 2",
+    "line straight",
+    "tasks 5",
+    "cycle 7",
+    "lower 3",
+    "upper 3",
+    "balance 3",
+    "1",
+    "2",
+    "1",
+    "2",
+    "3",
+    "entries 1",
+    "branch f 7 f8 2 -",
+    "trail 0",
+    "end",
+];
+
+const V6: [&str; 17] = [
+    "line balance certificate 2",
+    "line straight",
+    "tasks 5",
+    "cycle 7",
+    "lower 2",
+    "upper 3",
+    "balance 3",
+    "1",
+    "2",
+    "1",
+    "2",
+    "3",
+    "entries 1",
+    "bound 7 f8 1",
+    "trail 1 at 7",
+    "open f f8 2 90 -",
+    "end",
+];
+
+const U_LINE: [&str; 16] = [
+    "line balance certificate 2",
+    "line u",
+    "tasks 4",
+    "stations 2",
+    "lower 1",
+    "upper 2",
+    "balance 2",
+    "2 f",
+    "1 b",
+    "1 f",
+    "2 b",
+    "entries 2",
+    "bound 2 f 2",
+    "swap 2 5 1 0 4 1",
+    "trail 0",
+    "end",
+];
+
+const INFEASIBLE: [&str; 6] = [
+    "line balance certificate 2",
+    "line straight",
+    "tasks 5",
+    "cycle 3",
+    "infeasible 1",
+    "end",
+];
+
+// The word of a kind.
+fn word_of(kind: CertKind) -> &'static str {
+    match kind {
+        CertKind::Ended => "ended",
+        CertKind::Form => "form",
+        CertKind::Range => "range",
+        CertKind::Trailing => "trailing",
+    }
+}
+
+// `good`, `memory`, or the fault.
+fn answer(alloc: Global, bytes: &[u8]) -> Result<String, AllocError> {
+    let mut text = String::new(alloc);
+    match read_cert(alloc, bytes) {
+        CertRead::Good(_) => text.push_str("good")?,
+        CertRead::Fault(fault) => {
+            let CertFault { line, kind } = fault;
+            write!(text, "line {line} ")?;
+            text.push_str(word_of(kind))?;
+        }
+        CertRead::NoMemory => text.push_str("memory")?,
+    }
+    Ok(text)
+}
+
+// Lines, the one at `at` replaced.
+fn text_with(alloc: Global, lines: &[&str], at: usize, line: &str) -> Result<String, AllocError> {
+    let mut text = String::new(alloc);
+    for (k, l) in lines.iter().enumerate() {
+        if k == at {
+            text.push_str(line)?;
+        } else {
+            text.push_str(l)?;
+        }
+        text.push_str("\n")?;
+    }
+    Ok(text)
+}
+
+// The first lines.
+fn front(alloc: Global, lines: &[&str], count: usize) -> Result<String, AllocError> {
+    let mut text = String::new(alloc);
+    for (k, l) in lines.iter().enumerate() {
+        if k < count {
+            text.push_str(l)?;
+            text.push_str("\n")?;
+        }
+    }
+    Ok(text)
+}
+
+// What a text that is read is written as.
+fn rewritten(alloc: Global, bytes: &[u8]) -> Result<Vec<u8>, AllocError> {
+    match read_cert(alloc, bytes) {
+        CertRead::Good(cert) => write_cert(alloc, &cert),
+        _ => Ok(Vec::new(alloc)),
+    }
+}
+
+#[test]
+fn texts_are_written_as_they_were_read(rt: HostRuntime) -> Result<(), Fail> {
+    let texts = [
+        front(rt.alloc(), &V5, 99)?,
+        front(rt.alloc(), &V6, 99)?,
+        front(rt.alloc(), &U_LINE, 99)?,
+        front(rt.alloc(), &INFEASIBLE, 99)?,
+    ];
+    for text in texts {
+        let again = rewritten(rt.alloc(), text.as_bytes())?;
+        assert!(rt; again.as_slice() == text.as_bytes());
+    }
+    Ok(())
+}
+
+#[test]
+fn a_text_that_is_cut_short_has_ended(rt: HostRuntime) -> Result<(), Fail> {
+    for k in 0..16usize {
+        let text = front(rt.alloc(), &V5, k)?;
+        let got = answer(rt.alloc(), text.as_bytes())?;
+        let line = k + 1;
+        let wanted = format!(in rt.alloc(); "line {line} ended")?;
+        assert_eq!(rt; got.as_str(), wanted.as_str());
+    }
+    Ok(())
+}
+
+#[test]
+fn lines_of_a_search_that_ended(rt: HostRuntime) -> Result<(), Fail> {
+    let rows = [
+        (0, "line balance certificate 3", "line 1 form"),
+        (1, "line round", "line 2 form"),
+        (2, "tasks 0", "line 3 range"),
+        (2, "tasks 1025", "line 3 range"),
+        (2, "tasks", "line 3 form"),
+        (2, "tasks 5 5", "line 3 form"),
+        (3, "cycle 07", "line 4 form"),
+        (3, "cycle 0", "line 4 range"),
+        (3, "cycle 1000000000000000001", "line 4 range"),
+        (3, "cycle 99999999999999999999999999", "line 4 range"),
+        (3, "cycle  7", "line 4 form"),
+        (3, "cycle 7 ", "line 4 form"),
+        (3, "stations 3", "good"),
+        (3, "stations 1025", "line 4 range"),
+        (4, "infeasible 0", "line 5 range"),
+        (4, "infeasible 6", "line 5 range"),
+        (4, "infeasible 5", "line 6 form"),
+        (4, "lower 0", "line 5 range"),
+        (5, "upper 0", "line 6 range"),
+        (6, "balance 1025", "line 7 range"),
+        (7, "0", "line 8 range"),
+        (7, "4", "line 8 range"),
+        (7, "1 f", "line 8 form"),
+        (12, "entries 20000001", "line 13 range"),
+        (12, "entries 2", "line 15 form"),
+        (13, "branch f 7 F8 2 -", "line 14 form"),
+        (13, "branch f 7 f9 2 -", "line 14 form"),
+        (13, "branch f 7 f88 2 -", "line 14 form"),
+        (13, "branch f 7 f8 1025 -", "line 14 range"),
+        (13, "branch f 7 f8 2 0", "good"),
+        (13, "branch f 7 f8 2 1", "line 14 range"),
+        (13, "branch f 7 f8 2 0,0", "good"),
+        (13, "branch f 7 f8 2 0,", "line 14 form"),
+        (13, "branch f 0 f8 2 01", "line 14 form"),
+        (13, "branch x 7 f8 2 -", "line 14 form"),
+        (13, "swap 7 f8 2 0 0 1", "line 14 range"),
+        (13, "swap 7 f8 2 0 5 6", "line 14 range"),
+        (13, "swap 7 f8 2 0 5 1", "good"),
+        (14, "trail 5", "line 15 form"),
+        (14, "trail 0 at 7", "line 15 range"),
+        (14, "trail 1025 at 7", "line 15 range"),
+        (15, "end ", "line 16 form"),
+    ];
+    for (at, line, wanted) in rows {
+        let text = text_with(rt.alloc(), &V5, at, line)?;
+        let got = answer(rt.alloc(), text.as_bytes())?;
+        assert_eq!(rt; got.as_str(), wanted, "{line}");
+    }
+    Ok(())
+}
+
+#[test]
+fn lines_of_a_search_that_stopped(rt: HostRuntime) -> Result<(), Fail> {
+    let rows = [
+        (13, "bound 7 f8", "line 14 form"),
+        (13, "bound 7 f8 1 -", "line 14 form"),
+        (13, "bound 7 f8 -1", "line 14 form"),
+        (14, "trail 2 at 7", "line 17 form"),
+        (15, "open f f8 2 - -", "good"),
+        (15, "open b f8 2 90 -", "good"),
+        (15, "open u f8 2 90 -", "line 16 form"),
+        (15, "open u f8 2 90/08 -", "good"),
+        (15, "open f f8 2 90/08 -", "line 16 form"),
+        (15, "open f f8 1025 90 -", "line 16 range"),
+        (15, "open f f8 2 90 1", "line 16 range"),
+        (16, "end\n", "line 18 trailing"),
+        (16, "end\nx", "line 18 trailing"),
+    ];
+    for (at, line, wanted) in rows {
+        let text = text_with(rt.alloc(), &V6, at, line)?;
+        let got = answer(rt.alloc(), text.as_bytes())?;
+        assert_eq!(rt; got.as_str(), wanted, "{line}");
+    }
+    Ok(())
+}
+
+#[test]
+fn a_huge_count_takes_no_memory(rt: HostRuntime) -> Result<(), Fail> {
+    let mut text = front(rt.alloc(), &V5, 12)?;
+    text.push_str("entries 20000000\n")?;
+    let got = answer(rt.alloc(), text.as_bytes())?;
+    assert_eq!(rt; got.as_str(), "line 14 ended");
+    Ok(())
+}
+
+// The list of a certificate's entries and its trail, where it has bounds.
+fn list_of(alloc: Global, cert: &Certificate) -> Result<Vec<u8>, AllocError>
+    requires { cert.now.tasks ≤ 1024 }
+{
+    match &cert.claim {
+        Claim::TooLong { task: _ } => Ok(Vec::new(alloc)),
+        Claim::Bounds {
+            lower: _,
+            upper: _,
+            balance: _,
+            entries,
+            trail,
+        } => write_list(alloc, entries, trail, cert.tasks),
+    }
+}
+
+#[test]
+fn a_list_is_written(rt: HostRuntime) -> Result<(), Fail> {
+    let text = front(rt.alloc(), &V6, 99)?;
+    if let CertRead::Good(cert) = read_cert(rt.alloc(), text.as_bytes()) {
+        let list = list_of(rt.alloc(), &cert)?;
+        let wanted = b"entries 1\nbound 7 f8 1\ntrail 1 at 7\nopen f f8 2 90 -\n";
+        assert!(rt; list.as_slice() == wanted.as_slice());
+        return Ok(());
+    }
+    assert!(rt; false);
+    Ok(())
+}
