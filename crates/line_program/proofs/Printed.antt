@@ -1,20 +1,17 @@
 -- What is reported of a job is printed for the words that ask for it, and what is left of the files.
-use Rattle.std.proofs.Common.{◌≡◌, ◌≢◌, ◌∙◌, ℕ, Bool, true, false, List, [], ◌++◌, take, Option, Some, None, ◌⊎◌, inl, inr, refl, sym, ap, subst, string_bytes, codes}
+use Rattle.std.proofs.Common.{◌≡◌, ◌≢◌, ◌∙◌, ℕ, Bool, true, List, ◌++◌, take, Option, Some, None, ◌⊎◌, inl, inr, refl, sym, subst, string_bytes}
 use Rattle.std.specs.Result.{IfOk}
 use Rattle.std.specs.declared.result.Result.{Result}
 use Rattle.std.specs.declared.result.Result.TheVariants.{Ok, Err}
 use Rattle.std.specs.declared.alloc.AllocError.{AllocError}
-use Rattle.line_io.specs.Whole.{IsFrontWritten}
 use Rattle.line_words.specs.Words.{Text}
 use Rattle.line_words.specs.Jobs.{IsJob, IsFault}
 use Rattle.line_words.specs.Texts.{usage_text}
 use Rattle.line_words.specs.declared.fault.UsageKind.{UsageKind}
 use Rattle.line_words.specs.declared.job.FormWord.{FormWord}
-use Rattle.line_words.specs.declared.job.FormWord.TheVariants.{In2, Alb, Cert}
-use Rattle.line_words.specs.declared.job.LineWord.TheVariants.{Straight, U}
 use Rattle.line_words.specs.declared.job.Job.{Job}
 use Rattle.line_words.specs.declared.job.Job.TheVariants.{Help, Version, Balance, Solve, Cycle, Check, Convert, Combine, Utility, Timeline, Try}
-use Rattle.line_program.specs.Built.{unbuilt, unbuilt_line, AskNothing}
+use Rattle.line_program.specs.Built.{unbuilt, unbuilt_line}
 use Rattle.line_program.specs.Answers.{IsReport, IsPageReport, IsBalanceReport, IsConvertReport, IsConverted, IsFaulty}
 use Rattle.line_program.specs.Files.{IsFileReport}
 use Rattle.line_program.specs.Run.{IsPrinted, IsPut, IsTorn, IsJobPrinted, IsJobPut, IsJobTorn, IsLeft, IsLeftBy, IsWhole, Leaves, LeavesConverted, Stay, out_of, status_of, text_of}

@@ -1,10 +1,10 @@
 -- What is read in the bytes of a file.
-use Rattle.std.proofs.Common.{◌≡◌, ℕ, List, Option, Some, None, Bor, option_map, refl, sym, ap, ◌∙◌, subst, ◌↔◌, ◌⊎◌, inl, inr, string_bytes}
+use Rattle.std.proofs.Common.{◌≡◌, ℕ, List, Option, Some, None, Bor, option_map, sym, subst, ◌↔◌, ◌⊎◌, inr, string_bytes}
 use Rattle.line_instance.specs.Line.{Line, Apart, tasks}
 use Rattle.line_instance.specs.Walks.{IsGiven}
 use Rattle.line_instance.specs.declared.arcs.Prec.{Prec}
 use Rattle.in2_reader.specs.ApartFile.{IsApartFile}
-use Rattle.line_program.specs.Answers.{Reads, Parts, IsParted, IsTimed, IsSaid, IsTooMuch, IsFaultyApart}
+use Rattle.line_program.specs.Answers.{Reads, Parts, IsTimed, IsSaid, IsTooMuch, IsFaultyApart}
 use Rattle.line_program.specs.Files.{IsFileReport, IsRefusal, IsUnsaid, IsUnsaidReport}
 use Rattle.line_program.specs.declared.status.Status.{Status}
 use Rattle.line_program.specs.declared.status.Status.TheVariants as ends

@@ -1,4 +1,4 @@
-use Rattle.std.proofs.Common.{◌≡◌, ◌∙◌, ◌++◌, ℕ, [], true, false, take, string_bytes, codes, inl, inr, refl, sym, ap, subst, Some}
+use Rattle.std.proofs.Common.{◌∙◌, ◌++◌, true, false, take, string_bytes, codes, inl, inr, refl, sym, ap, subst, Some}
 use Rattle.line_io.specs.Whole.{IsFrontWritten}
 use Rattle.std.proofs.lemmas.List.{append-nil}
 use Rattle.line_program.specs.declared.status.Status.TheVariants as ends

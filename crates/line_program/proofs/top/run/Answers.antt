@@ -1,6 +1,5 @@
-use Rattle.std.proofs.Common.{◌≡◌, ◌∙◌, codes, inl, inr, refl, sym}
+use Rattle.std.proofs.Common.{codes, inl, inr, refl, sym}
 use Rattle.line_words.specs.Words.{texts}
-use Rattle.line_program.specs.Built.{unbuilt}
 use Rattle.line_program.specs.declared.status.Status.TheVariants as ends
 use Rattle.line_program.proofs.Printed.{put_of, torn_of, left_of, usage_put, unbuilt_put, words_put, words_torn, words_left}
 use Rattle.line_program.proofs.top.run.Goals as goal

@@ -1,7 +1,7 @@
-use Rattle.std.proofs.Common.{◌≡◌, ◌∙◌, inl, inr, refl, sym}
+use Rattle.std.proofs.Common.{◌≡◌, ◌∙◌, inl, sym}
 use Rattle.line_io.specs.Outside.{Rises}
 use Rattle.line_program.specs.declared.status.Status.TheVariants as ends
-use Rattle.line_program.proofs.Printed.{job_put, job_torn, status_if, writes_none, left_stay, fault_or}
+use Rattle.line_program.proofs.Printed.{job_put, job_torn, status_if, writes_none, left_stay}
 use Rattle.line_program.proofs.top.run_job.Goals as goal
 
 apart : ends.Usage ≡ ends.WriteFault → ⊥
