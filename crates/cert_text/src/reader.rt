@@ -1,5 +1,9 @@
 //! The reading of a certificate's text from memory.
+ghost use Rattle.std.specs.Prelude.{◌≡◌, ◌≢◌};
 ghost use Rattle.cert_text.specs.Answers.{IsCertRead, IsEnded};
+ghost use Rattle.cert_text.specs.Cert.{cert_text};
+ghost use Rattle.cert_text.specs.declared.fault.CertFault.{CertFault};
+ghost use Rattle.line_rules.specs.declared.types.Certificate.{Certificate};
 ghost use Rattle.line_rules.specs.Ranges.{IsInRange};
 
 use crate::fault::{CertFault, CertKind, ReadError};
@@ -22,7 +26,8 @@ pub enum CertRead {
 
 /// Reads a certificate's text of version 2.
 pub fn read_cert(alloc: Global, bytes: &[u8]) -> CertRead
-    ensures { IsCertRead bytes.now result }
+    ensures read { IsCertRead bytes.now result }
+    ensures none { (fault : CertFault) → result ≡ CertRead.Fault fault → (cert : Certificate) → IsInRange cert → bytes.now ≢ cert_text cert }
 {
     let mut lines = SliceLines::new(bytes);
     match read_all(alloc, &mut lines) {
