@@ -237,25 +237,25 @@ unique_end = unique_one (λ u. fixed (codes "end")) (λ u. Unit {0}) (λ v w a b
 unique_opened : (a : Ask) (kind : LineKind) (n : ℕ) (o : Opening) → n ≤ 1024 → IsOpening a n o → Unique (opened kind n o)
 unfolding same_end same_bounds from_claim
 unique_opened a kind n (opening.TooLong t) l h = unique_same end_grammar (opened kind n (opening.TooLong t)) (same_end kind n t) unique_end back
- where
-  back : (w : Claim) → IsOpened kind n (opening.TooLong t) w → claim.TooLong t ≡ w
-  back (claim.TooLong x) r = ap (λ z. claim.TooLong z) (sym r)
-  back (claim.Bounds a u b es left) r = absurd r
+  where
+    back : (w : Claim) → IsOpened kind n (opening.TooLong t) w → claim.TooLong t ≡ w
+    back (claim.TooLong x) r = ap (λ z. claim.TooLong z) (sym r)
+    back (claim.Bounds a u b es left) r = absurd r
 unique_opened a kind n (opening.Lower l) m h =
     unique_same (bounds_parts kind n) (opened kind n (opening.Lower l)) (same_bounds kind n l (opening_cycle a n l h))
     (unique_then (placings kind n) (λ p. bounds_behind kind n) (unique_placings kind n) (λ p r. unique_then (lists n) (λ x. end_grammar) (unique_lists n m) (λ x s. unique_end))) back
- where
-  back : (w : Claim) → IsOpened kind n (opening.Lower l) w → (same_bounds kind n l (opening_cycle a n l h)).to (from_claim w) ≡ w
-  back (claim.TooLong x) r = absurd r
-  back (claim.Bounds lower u b es left) r = ap (λ z. claim.Bounds z u b es left) (sym r.0)
+  where
+    back : (w : Claim) → IsOpened kind n (opening.Lower l) w → (same_bounds kind n l (opening_cycle a n l h)).to (from_claim w) ≡ w
+    back (claim.TooLong x) r = absurd r
+    back (claim.Bounds lower u b es left) r = ap (λ z. claim.Bounds z u b es left) (sym r.0)
 
 unique_claims : (h : Head) → IsHeadOf h → Unique (claims h)
 unfolding same_claims from_opened
 unique_claims h r = unique_same (claim_parts h) (claims h) (same_claims h) (unique_then (openings h.ask h.tasks) (opened h.kind h.tasks) (unique_opening h.ask h.tasks r.few) (λ o s. unique_opened h.ask h.kind h.tasks o r.few s)) back
- where
-  back : (w : Claim) → IsClaim h.kind h.tasks h.ask w → (from_opened w).1 ≡ w
-  back (claim.TooLong x) r = refl
-  back (claim.Bounds l u b es left) r = refl
+  where
+    back : (w : Claim) → IsClaim h.kind h.tasks h.ask w → (from_opened w).1 ≡ w
+    back (claim.TooLong x) r = refl
+    back (claim.Bounds l u b es left) r = refl
 
 -- the lines of a certificate begin those of no other
 pub unique_certs : Unique certs

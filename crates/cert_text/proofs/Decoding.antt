@@ -31,6 +31,7 @@ use Rattle.cert_text.specs.Faults.{IsLine, Next, IsLineFault, IsEndFault, IsFaul
 use Rattle.cert_text.specs.Parts.{certs}
 use Rattle.cert_text.specs.Answers.{IsTrailing, IsCertFault, IsCertRead, IsEnded}
 use Rattle.cert_text.specs.Judging.{IsRead}
+use Rattle.cert_text.specs.Laws.{NoTextBeginsAnother}
 use Rattle.cert_text.specs.declared.fault.ReadError.{ReadError}
 use Rattle.cert_text.specs.declared.fault.ReadError.TheVariants as errors
 use Rattle.cert_text.specs.declared.reader.CertRead.{CertRead}
@@ -153,22 +154,27 @@ claim_lacks : (kind : LineKind) (n : ℕ) (c : Claim) → AllLack (texts (claim_
 claim_lacks kind n (claim.TooLong t) = (row_lacks (keyed (codes "infeasible") (suc t)) refl, (row_lacks (fixed (codes "end")) refl, tt))
 claim_lacks kind n (claim.Bounds l u b es t) = (
   row_lacks (keyed (codes "lower") l) refl,
-  (row_lacks (keyed (codes "upper") u) refl,
-    (row_lacks (keyed (codes "balance") b.stations) refl,
+  (
+    row_lacks (keyed (codes "upper") u) refl,
+    (
+      row_lacks (keyed (codes "balance") b.stations) refl,
       lack_both (map (seat_row kind) b.place) (list_rows n es t ++ fixed (codes "end") ∷ []) (lack_map (seat_row kind) b.place (λ p. row_lacks (seat_row kind p) tt))
-      (lack_both (list_rows n es t) (fixed (codes "end") ∷ []) (list_lacks n es t) (row_lacks (fixed (codes "end")) refl, tt)))),
+          (lack_both (list_rows n es t) (fixed (codes "end") ∷ []) (list_lacks n es t) (row_lacks (fixed (codes "end")) refl, tt)),
+    ),
+  ),
 )
 
 cert_lacks : (c : Certificate) → AllLack (texts (cert_rows c))
 unfolding cert_rows
 cert_lacks c = (row_lacks (fixed (codes "line balance certificate 2")) refl, (kind_lacks c.kind, (row_lacks (keyed (codes "tasks") c.tasks) refl, (ask_lacks c.ask, claim_lacks c.kind c.tasks c.claim))))
- where
-  kind_lacks : (k : LineKind) → lacks 10 (row_text (kind_row k)) ≡ true
-  kind_lacks Straight = row_lacks (fixed (codes "line straight")) refl
-  kind_lacks U = row_lacks (fixed (codes "line u")) refl
-  ask_lacks : (a : Ask) → lacks 10 (row_text (ask_row a)) ≡ true
-  ask_lacks (ask.Stations x) = row_lacks (keyed (codes "cycle") x) refl
-  ask_lacks (ask.Cycle x) = row_lacks (keyed (codes "stations") x) refl
+  where
+    kind_lacks : (k : LineKind) → lacks 10 (row_text (kind_row k)) ≡ true
+    kind_lacks Straight = row_lacks (fixed (codes "line straight")) refl
+    kind_lacks U = row_lacks (fixed (codes "line u")) refl
+
+    ask_lacks : (a : Ask) → lacks 10 (row_text (ask_row a)) ≡ true
+    ask_lacks (ask.Stations x) = row_lacks (keyed (codes "cycle") x) refl
+    ask_lacks (ask.Cycle x) = row_lacks (keyed (codes "stations") x) refl
 
 -- a line without an LF is told from what follows
 same_line : (a b x y : List ℕ) → lacks 10 a ≡ true → lacks 10 b ≡ true → a ++ 10 ∷ x ≡ b ++ 10 ∷ y → (a ≡ b) × (x ≡ y)
@@ -181,10 +187,10 @@ no_lf [] h = refl
 no_lf (b ∷ line) h =
     let n : not (nat_eq b 10) ≡ true = not_true (nat_eq b 10) (λ e. h zero 0 (omega arith) (grind (arith, nat_tests))) in
     both (not (nat_eq b 10)) (lacks 10 line) n (no_lf line (λ k d l t. h (suc k) d (omega arith) t))
- where
-  not_true : (t : Bool) → (t ≡ true → ⊥) → not t ≡ true
-  not_true true h = absurd (h refl)
-  not_true false h = refl
+  where
+    not_true : (t : Bool) → (t ≡ true → ⊥) → not t ≡ true
+    not_true true h = absurd (h refl)
+    not_true false h = refl
 
 nothing_left : (a x : List ℕ) → a ++ 10 ∷ x ≡ [] → ⊥
 nothing_left [] x e = (cc)
@@ -202,7 +208,7 @@ decode (l ∷ lines) [] at after a b c e =
     (lines, ap (λ z. z ∷ lines) s.0)
 decode (l ∷ lines) (k ∷ before) at after a b c e =
     let s = same_line l k (lines_text lines) (lines_text before ++ (at ++ 10 ∷ after)) a.0 b.0
-        (sym (front_line l (lines_text lines)) ∙ e ∙ append_assoc (k ++ 10 ∷ []) (lines_text before) (at ++ 10 ∷ after) ∙ front_line k (lines_text before ++ (at ++ 10 ∷ after))) in
+    (sym (front_line l (lines_text lines)) ∙ e ∙ append_assoc (k ++ 10 ∷ []) (lines_text before) (at ++ 10 ∷ after) ∙ front_line k (lines_text before ++ (at ++ 10 ∷ after))) in
     let d = decode lines before at after a.1 b.1 c s.1 in
     (d.0, ap (λ z. z ∷ lines) s.0 ∙ ap (λ z. k ∷ z) d.1)
 
@@ -211,14 +217,14 @@ decode_end : (lines before : List (List ℕ)) (rest : List ℕ) → AllLack line
 decode_end [] [] rest a b c e = refl
 decode_end [] (l ∷ before) rest a b c e = absurd (nothing_left l (lines_text before ++ rest) (sym (e ∙ append_assoc (l ++ 10 ∷ []) (lines_text before) rest ∙ front_line l (lines_text before ++ rest))))
 decode_end (l ∷ lines) [] rest a b c e = (let w : true ≡ false = sym c ∙ ap (lacks 10) (sym e ∙ front_line l (lines_text lines)) ∙ has l (lines_text lines) in (cc))
- where
-  has : (l x : List ℕ) → lacks 10 (l ++ 10 ∷ x) ≡ false
-  has [] x = refl
-  has (b ∷ l) x = ap (λ z. not (nat_eq b 10) && z) (has l x) ∙ off (not (nat_eq b 10))
-   where
-    off : (t : Bool) → (t && false) ≡ false
-    off true = refl
-    off false = refl
+  where
+    has : (l x : List ℕ) → lacks 10 (l ++ 10 ∷ x) ≡ false
+    has [] x = refl
+    has (b ∷ l) x = ap (λ z. not (nat_eq b 10) && z) (has l x) ∙ off (not (nat_eq b 10))
+      where
+        off : (t : Bool) → (t && false) ≡ false
+        off true = refl
+        off false = refl
 decode_end (l ∷ lines) (k ∷ before) rest a b c e =
     let s = same_line l k (lines_text lines) (lines_text before ++ rest) a.0 b.0 (sym (front_line l (lines_text lines)) ∙ e ∙ append_assoc (k ++ 10 ∷ []) (lines_text before) rest ∙ front_line k (lines_text before ++ rest)) in
     ap (λ z. z ∷ lines) s.0 ∙ ap (λ z. k ∷ z) (decode_end lines before rest a.1 b.1 c s.1)
@@ -264,7 +270,7 @@ fault_has_none bytes f c (inl (inr x)) h e =
     let d = decode_end (texts (cert_rows c)) x.before x.rest (cert_lacks c) (before_lacks x.before x.some.0 x.some.1) (no_lf x.rest x.is_line) (text_lines c ∙ sym e ∙ x.all) in
     let n = x.some.1 in
     let w : texts (cert_rows n.value) ≡ texts (cert_rows c) ++ row_text x.some.0 ∷ texts n.more =
-        ap texts n.rows ∙ map-append row_text n.passed (x.some.0 ∷ n.more) ∙ ap (λ z. z ++ row_text x.some.0 ∷ texts n.more) (n.same ∙ sym d) in
+    ap texts n.rows ∙ map-append row_text n.passed (x.some.0 ∷ n.more) ∙ ap (λ z. z ++ row_text x.some.0 ∷ texts n.more) (n.same ∙ sym d) in
     none [] (row_text x.some.0) (texts n.more) (unique_certs c n.value h n.ranged (row_text x.some.0 ∷ texts n.more) [] (sym w ∙ sym (append-nil (texts (cert_rows n.value))))).1
 fault_has_none bytes f c (inr x) h e =
     let t : lines_text (texts (cert_rows c)) ≡ lines_text (texts (cert_rows x.cert)) ++ x.rest = text_lines c ∙ sym e ∙ x.all ∙ ap (λ z. z ++ x.rest) (sym (text_lines x.cert)) in
@@ -298,3 +304,11 @@ fault_whole bytes text rest n after e f g h i a b c =
     let R : List ℕ → Type 0 = λ z. IsFault certs 0 z f in
     let S : CertFault → Type 0 = λ z. IsFault certs 0 bytes z in
     inl (subst S (sym c) (subst R b (subst Q a x)))
+
+-- no text of a certificate begins that of another
+pub begins_none : NoTextBeginsAnother
+begins_none c d rest h k e =
+    let t : lines_text (texts (cert_rows d)) ≡ lines_text (texts (cert_rows c)) ++ rest = text_lines d ∙ sym e ∙ ap (λ z. z ++ rest) (sym (text_lines c)) in
+    let x = decode_front (texts (cert_rows d)) (texts (cert_rows c)) rest (cert_lacks d) (cert_lacks c) t in
+    let u = unique_certs c d h k x.0 [] (sym x.1 ∙ sym (append-nil (texts (cert_rows d)))) in
+    (u.0, sym x.2 ∙ ap lines_text u.1)

@@ -21,3 +21,4 @@ pub mod Failing
 pub mod Claims
 pub mod TakenLines
 pub mod Decoding
+pub mod ListAnswers
