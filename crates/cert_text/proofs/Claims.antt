@@ -14,7 +14,7 @@ use Rattle.cert_text.specs.Cert.{claim_rows, cert_rows}
 use Rattle.cert_text.specs.Faults.{Grammar}
 use Rattle.cert_text.specs.Judging.{one, then_, IsRead}
 use Rattle.cert_text.specs.Patterns.{opening_row, IsOpening}
-use Rattle.cert_text.specs.Parts.{heads, lists, IsPlacedOf, placings, IsOpened, behind_rows, opened, claims, certs}
+use Rattle.cert_text.specs.Parts.{IsHeadOf, heads, lists, IsPlacedOf, placings, IsOpened, behind_rows, opened, claims, certs}
 use Rattle.cert_text.specs.declared.patterns.Opening.{Opening}
 use Rattle.cert_text.specs.declared.patterns.Opening.TheVariants as opening
 use Rattle.cert_text.specs.declared.reading.Head.{Head}
@@ -23,10 +23,10 @@ use Rattle.cert_text.specs.declared.reading.Placed.{Placed}
 use Rattle.cert_text.proofs.CiteWords.{sat}
 use Rattle.cert_text.proofs.Judged.{small_is, keyed_value, keyed_other}
 use Rattle.cert_text.proofs.OtherLines.{keyed_again}
-use Rattle.cert_text.proofs.Sequencing.{Unique, unique_one, Same, same_read, same_error, both_read, second_error}
+use Rattle.cert_text.proofs.Sequencing.{unique_then, Unique, unique_one, Same, same_read, same_error, both_read, second_error}
 use Rattle.cert_text.specs.declared.fault.ReadError.{ReadError}
 use Rattle.cert_text.specs.declared.fault.ReadError.TheVariants as errors
-use Rattle.cert_text.proofs.Wholes.{some_behind, placing_said, within}
+use Rattle.cert_text.proofs.Wholes.{unique_same, unique_placings, unique_lists, unique_heads, some_behind, placing_said, within}
 
 -- the end
 abbrev pub end_grammar : Grammar (Unit {0})
@@ -230,3 +230,34 @@ same_end kind n t = record { to = λ u. claim.TooLong t; from = λ c. tt; to_ran
     from_row : (w : Claim) → IsOpened kind n (opening.TooLong t) w → fixed (codes "end") ∷ [] ≡ behind_rows kind n w
     from_row (claim.TooLong x) r = refl
     from_row (claim.Bounds l u b es left) r = absurd r
+
+unique_end : Unique end_grammar
+unique_end = unique_one (λ u. fixed (codes "end")) (λ u. Unit {0}) (λ v w a b e. refl)
+
+unique_opened : (a : Ask) (kind : LineKind) (n : ℕ) (o : Opening) → n ≤ 1024 → IsOpening a n o → Unique (opened kind n o)
+unfolding same_end same_bounds from_claim
+unique_opened a kind n (opening.TooLong t) l h = unique_same end_grammar (opened kind n (opening.TooLong t)) (same_end kind n t) unique_end back
+  where
+    back : (w : Claim) → IsOpened kind n (opening.TooLong t) w → claim.TooLong t ≡ w
+    back (claim.TooLong x) r = ap (λ z. claim.TooLong z) (sym r)
+    back (claim.Bounds a u b es left) r = absurd r
+unique_opened a kind n (opening.Lower l) m h =
+    unique_same (bounds_parts kind n) (opened kind n (opening.Lower l)) (same_bounds kind n l (opening_cycle a n l h))
+    (unique_then (placings kind n) (λ p. bounds_behind kind n) (unique_placings kind n) (λ p r. unique_then (lists n) (λ x. end_grammar) (unique_lists n m) (λ x s. unique_end))) back
+  where
+    back : (w : Claim) → IsOpened kind n (opening.Lower l) w → (same_bounds kind n l (opening_cycle a n l h)).to (from_claim w) ≡ w
+    back (claim.TooLong x) r = absurd r
+    back (claim.Bounds lower u b es left) r = ap (λ z. claim.Bounds z u b es left) (sym r.0)
+
+unique_claims : (h : Head) → IsHeadOf h → Unique (claims h)
+unfolding same_claims from_opened
+unique_claims h r = unique_same (claim_parts h) (claims h) (same_claims h) (unique_then (openings h.ask h.tasks) (opened h.kind h.tasks) (unique_opening h.ask h.tasks r.few) (λ o s. unique_opened h.ask h.kind h.tasks o r.few s)) back
+  where
+    back : (w : Claim) → IsClaim h.kind h.tasks h.ask w → (from_opened w).1 ≡ w
+    back (claim.TooLong x) r = refl
+    back (claim.Bounds l u b es left) r = refl
+
+-- the lines of a certificate begin those of no other
+pub unique_certs : Unique certs
+unfolding same_certs
+unique_certs = unique_same cert_parts certs same_certs (unique_then versions (λ u. then_ heads claims) unique_version (λ u t. unique_then heads claims unique_heads (λ h r. unique_claims h r))) (λ c r. refl)

@@ -20,3 +20,5 @@ pub mod Wholes
 pub mod Failing
 pub mod Claims
 pub mod TakenLines
+pub mod Decoding
+pub mod ListAnswers

@@ -1,12 +1,18 @@
 -- What reading a certificate's text answers.
-use Rattle.std.specs.Prelude.{◌≡◌, ◌⊎◌, ℕ, suc, ◌<◌, List, [], ◌++◌, length}
-use Rattle.line_rules.specs.Ranges.{IsInRange}
+use Rattle.std.specs.Prelude.{◌≡◌, ◌⊎◌, ℕ, suc, ◌<◌, ◌≤◌, ◌+◌, ◌-◌, List, [], ◌++◌, length, drop, Option}
+use Rattle.line_rules.specs.Ranges.{IsInRange, AreEntries, IsTrailOrNone}
 use Rattle.line_rules.specs.declared.types.Certificate.{Certificate}
-use Rattle.cert_text.specs.Cert.{cert_rows, cert_text}
+use Rattle.cert_text.specs.Cert.{cert_rows, cert_text, list_rows}
 use Rattle.cert_text.specs.Faults.{IsFault}
-use Rattle.cert_text.specs.Parts.{certs}
+use Rattle.cert_text.specs.Parts.{certs, lists as list_grammar}
 use Rattle.cert_text.specs.declared.fault.CertFault.{CertFault}
 use Rattle.cert_text.specs.declared.fault.CertKind.TheVariants.{Trailing}
+use Rattle.cert_text.specs.Rows.{rows_text}
+use Rattle.line_rules.specs.declared.types.Entry.{Entry}
+use Rattle.line_rules.specs.declared.types.Trail.{Trail}
+use Rattle.cert_text.specs.declared.reading.EntryList.{EntryList}
+use Rattle.cert_text.specs.declared.reader.ListRead.{ListRead}
+use Rattle.cert_text.specs.declared.reader.ListRead.TheVariants as lists
 use Rattle.cert_text.specs.declared.reader.CertRead.{CertRead}
 use Rattle.cert_text.specs.declared.reader.CertRead.TheVariants.{Good, Fault, NoMemory}
 
@@ -35,3 +41,23 @@ abbrev pub IsEnded : Certificate → List ℕ → ℕ → CertRead → Type 0
 IsEnded cert left number (Good c) = (c ≡ cert) × (left ≡ [])
 IsEnded cert left number (Fault f) = (0 < length left) × (f ≡ record { line = suc number; kind = Trailing })
 IsEnded cert left number NoMemory = Unit {0}
+
+-- entries and a trail that were read from a place of a text on, whose first line has this number: where the text goes on, and the number of the line there
+pub record IsListGood (bytes : List ℕ) (from line n : ℕ) (es : List Entry) (left : Option Trail) (next after : ℕ) : Type 0 where
+  pub entries : AreEntries n es
+  pub trail : IsTrailOrNone n (length es) left
+  pub within : next ≤ length bytes
+  pub text : drop from bytes ≡ rows_text (list_rows n es left) ++ drop next bytes
+  pub behind : after ≡ line + length (list_rows n es left)
+
+-- Each answer with its cause: entries and a trail, or the first fault of the text from that place on.
+abbrev pub IsListRead : List ℕ → ℕ → ℕ → ℕ → ListRead → Type 0
+IsListRead bytes from line n (lists.Good es left next after) = IsListGood bytes from line n es left next after
+IsListRead bytes from line n (lists.Fault f) = IsFault (list_grammar n) (line - 1) (drop from bytes) f
+IsListRead bytes from line n lists.NoMemory = Unit {0}
+
+-- what was read, and what is left, decide the answer
+abbrev pub IsListed : EntryList → List ℕ → List ℕ → ℕ → ListRead → Type 0
+IsListed list bytes left number (lists.Good es t next after) = (es ≡ list.entries) × (t ≡ list.trail) × (next ≡ length bytes - length left) × (after ≡ number + 1)
+IsListed list bytes left number (lists.Fault f) = ⊥
+IsListed list bytes left number lists.NoMemory = Unit {0}

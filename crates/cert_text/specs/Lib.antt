@@ -12,3 +12,4 @@ pub mod Answering
 pub mod Patterns
 pub mod Parts
 pub mod Answers
+pub mod Laws

@@ -4,6 +4,7 @@
 mod draft;
 mod fault;
 mod kept_text;
+pub mod laws;
 mod lines;
 mod output;
 mod pattern;
@@ -21,7 +22,7 @@ mod writing;
 pub use fault::{CertFault, CertKind, ReadError};
 pub use lines::{put_cert, put_list};
 pub use output::Output;
-pub use reader::{CertRead, read_cert};
+pub use reader::{CertRead, ListRead, read_cert, read_list};
 pub use reading::{EntryList, read_all, read_entries};
 pub use source::{Source, Taken};
 pub use writer::{write_cert, write_list};

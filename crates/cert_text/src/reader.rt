@@ -1,12 +1,16 @@
 //! The reading of a certificate's text from memory.
-ghost use Rattle.cert_text.specs.Answers.{IsCertRead, IsEnded};
+ghost use Rattle.std.specs.Prelude.{◌≡◌, ◌≢◌, ◌≤◌, length};
+ghost use Rattle.cert_text.specs.Answers.{IsCertRead, IsEnded, IsListRead, IsListed};
+ghost use Rattle.cert_text.specs.Cert.{cert_text};
+ghost use Rattle.cert_text.specs.declared.fault.CertFault.{CertFault};
+ghost use Rattle.line_rules.specs.declared.types.Certificate.{Certificate};
 ghost use Rattle.line_rules.specs.Ranges.{IsInRange};
 
 use crate::fault::{CertFault, CertKind, ReadError};
-use crate::reading::read_all;
+use crate::reading::{EntryList, read_all, read_entries};
 use crate::slice_lines::SliceLines;
 use crate::source::{Source, Taken};
-use line_rules::Certificate;
+use line_rules::{Certificate, Entries, Trail};
 use std::alloc::Global;
 
 /// What reading a certificate's text answers.
@@ -22,7 +26,8 @@ pub enum CertRead {
 
 /// Reads a certificate's text of version 2.
 pub fn read_cert(alloc: Global, bytes: &[u8]) -> CertRead
-    ensures { IsCertRead bytes.now result }
+    ensures read { IsCertRead bytes.now result }
+    ensures none { (fault : CertFault) → result ≡ CertRead.Fault fault → (cert : Certificate) → IsInRange cert → bytes.now ≢ cert_text cert }
 {
     let mut lines = SliceLines::new(bytes);
     match read_all(alloc, &mut lines) {
@@ -50,5 +55,55 @@ fn ended(lines: &mut SliceLines, cert: Certificate) -> CertRead
             line: lines.number(),
             kind: CertKind::Trailing,
         }),
+    }
+}
+
+/// What reading entries and a trail answers.
+#[derive(Drop)]
+pub enum ListRead {
+    /// The entries and the trail, the place behind them, and the number of the line there.
+    Good {
+        entries: Entries,
+        trail: Option<Trail>,
+        next: usize,
+        line: u64,
+    },
+    /// The first fault of the text.
+    Fault(CertFault),
+    /// Memory is wanting.
+    NoMemory,
+}
+
+/// Reads entries and a trail over so many tasks, from the line of the number of entries to the last frame. They begin at the place `from` of
+/// the bytes, where the line of number `line` begins.
+pub fn read_list(alloc: Global, bytes: &[u8], from: usize, line: u64, tasks: u32) -> ListRead
+    requires within { from ≤ length bytes.now }
+    requires first { 1 ≤ line }
+    requires some { 1 ≤ tasks }
+    requires few { tasks ≤ 1024 }
+    ensures { IsListRead bytes.now from line tasks result }
+{
+    let mut lines = SliceLines::behind(&bytes[from..], line - 1);
+    match read_entries(alloc, &mut lines, tasks) {
+        Err(ReadError::Stopped) => ListRead::NoMemory,
+        Err(ReadError::Fault(fault)) => ListRead::Fault(fault),
+        Ok(list) => listed(bytes, &lines, list),
+    }
+}
+
+// The entries and the trail, and where the text goes on.
+fn listed(bytes: &[u8], lines: &SliceLines, list: EntryList) -> ListRead
+    ensures { IsListed list bytes.now lines.now.left.now lines.now.number result }
+{
+    let EntryList { entries, trail } = list;
+    let number = lines.number();
+    if number == u64::MAX {
+        return ListRead::NoMemory;
+    }
+    ListRead::Good {
+        entries,
+        trail,
+        next: bytes.len().saturating_sub(lines.left_len()),
+        line: number + 1,
     }
 }

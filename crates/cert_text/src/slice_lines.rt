@@ -25,6 +25,25 @@ impl<'a> SliceLines<'a> {
         }
     }
 
+    /// The lines of these bytes, which come behind so many lines.
+    pub fn behind(bytes: &'a [u8], number: u64) -> SliceLines<'a>
+        ensures left { result.left.now ≡ bytes.now }
+        ensures number { result.number ≡ number }
+    {
+        SliceLines {
+            left: bytes,
+            line: bytes,
+            number,
+        }
+    }
+
+    /// How many bytes are left.
+    pub fn left_len(&self) -> usize
+        ensures { result ≡ length self.now.left.now }
+    {
+        self.left.len()
+    }
+
     /// Whether nothing is left.
     pub fn is_done(&self) -> bool
         ensures { result ≡ (length self.now.left.now == 0) }

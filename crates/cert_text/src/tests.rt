@@ -1,7 +1,9 @@
 //! What no clause says: that texts are read where there is memory, and the faults of rows.
 ghost use Rattle.std.specs.Prelude.{◌≡◌, ◌≤◌};
 
-use crate::{CertFault, CertKind, CertRead, read_cert, write_cert, write_list};
+use crate::{
+    CertFault, CertKind, CertRead, ListRead, read_cert, read_list, write_cert, write_list,
+};
 use line_rules::{Certificate, Claim};
 use std::alloc::{AllocError, Global};
 use std::test::Fail;
@@ -270,6 +272,37 @@ fn a_list_is_written(rt: HostRuntime) -> Result<(), Fail> {
         let list = list_of(rt.alloc(), &cert)?;
         let wanted = b"entries 1\nbound 7 f8 1\ntrail 1 at 7\nopen f f8 2 90 -\n";
         assert!(rt; list.as_slice() == wanted.as_slice());
+        return Ok(());
+    }
+    assert!(rt; false);
+    Ok(())
+}
+
+#[test]
+fn a_list_is_read_from_its_place(rt: HostRuntime) -> Result<(), Fail> {
+    let text = b"ahead\nentries 1\nbound 7 f8 1\ntrail 1 at 7\nopen f f8 2 90 -\nbehind\n";
+    let answer = read_list(rt.alloc(), text.as_slice(), 6, 2, 5);
+    if let ListRead::Good {
+        entries,
+        trail: _,
+        next,
+        line,
+    } = answer
+    {
+        assert_eq!(rt; entries.len(), 1);
+        assert_eq!(rt; next, 59);
+        assert_eq!(rt; line, 6);
+        return Ok(());
+    }
+    assert!(rt; false);
+    Ok(())
+}
+
+#[test]
+fn a_fault_of_a_list_is_at_its_line(rt: HostRuntime) -> Result<(), Fail> {
+    let text = b"ahead\nentries 1\nbound 7 f8 1025\n";
+    if let ListRead::Fault(fault) = read_list(rt.alloc(), text.as_slice(), 6, 2, 5) {
+        assert_eq!(rt; fault.line, 3);
         return Ok(());
     }
     assert!(rt; false);
