@@ -1,0 +1,10 @@
+pub mod Turns
+pub mod Answered
+pub mod Picked
+pub mod Shares
+pub mod Around
+pub mod Fits
+pub mod Walking
+pub mod Exact
+pub mod Entering
+pub mod Listed

@@ -1,0 +1,5 @@
+pub mod Walks
+pub mod Steps
+pub mod Faults
+pub mod Swaps
+pub mod Lists
