@@ -8,3 +8,5 @@ pub mod Walking
 pub mod Exact
 pub mod Entering
 pub mod Listed
+pub mod Reaching
+pub mod Framing

@@ -39,17 +39,17 @@ module _ (kind : LineKind) (line : Line) (ranked : IsRanked line) (c : ℕ) (mod
 
   module _ (last : Option Load) (units taken : ℕ) (w : IsWalking kind line c mode R most earlier cites last units taken) where
     module _ (l : Load) (next : IsFollowing line c mode R last l) where
-      before : Covers line (λ k. IsOpen kind line c mode R most k × Precedes line k l) earlier R most c (take taken cites)
-      before = covers_pass line ranked c mode R last w.is_load l next kind earlier most (take taken cites) w.covers
+      pub walk_before : Covers line (λ k. IsOpen kind line c mode R most k × Precedes line k l) earlier R most c (take taken cites)
+      walk_before = covers_pass line ranked c mode R last w.is_load l next kind earlier most (take taken cites) w.covers
 
-      counted : Counts line (λ k. IsLoad line c mode R k × UpTo line (Some l) k) (units + 1)
-      counted = units_push line ranked c mode R last w.is_load l next units w.counts
+      pub walk_counts : Counts line (λ k. IsLoad line c mode R k × UpTo line (Some l) k) (units + 1)
+      walk_counts = units_push line ranked c mode R last w.is_load l next units w.counts
 
       walk_skips : (IsOpen kind line c mode R most l → ⊥) → IsWalking kind line c mode R most earlier cites (Some l) (units + 1) taken
       walk_skips shut = record {
         is_load = next.load;
         covers = covers_skip line ranked c mode R last w.is_load l next kind earlier most (take taken cites) w.covers shut;
-        counts = counted;
+        counts = walk_counts;
         within = w.within;
       }
 
@@ -60,8 +60,8 @@ module _ (kind : LineKind) (line : Line) (ranked : IsRanked line) (c : ℕ) (mod
           let q : suc taken ≡ taken + 1 = omega arith in
           record {
             is_load = next.load;
-            covers = subst N q (subst P (sym (take_push cites taken x e)) (covers_cite kind line c mode R earlier most (take taken cites) l x o y before));
-            counts = counted;
+            covers = subst N q (subst P (sym (take_push cites taken x e)) (covers_cite kind line c mode R earlier most (take taken cites) l x o y walk_before));
+            counts = walk_counts;
             within = omega (arith, get_within cites taken x e);
           }
 
@@ -80,12 +80,12 @@ module _ (kind : LineKind) (line : Line) (ranked : IsRanked line) (c : ℕ) (mod
         before_it = (
           w.within,
           covers_same line (λ k. IsOpen kind line c mode R most k × Precedes line k l) (λ k. P k × Precedes line k l) earlier R most c (take taken cites)
-              (λ k p. (needs_of k p.0 p.1, p.1)) (λ k p. (open_of k p.0, p.1)) before,
+              (λ k p. (needs_of k p.0 p.1, p.1)) (λ k p. (open_of k p.0, p.1)) walk_before,
         )
 
         counts_to : CountsTo line W P earlier R most c cites l (units + 1)
         counts_to = counts_same line (λ k. IsLoad line c mode R k × UpTo line (Some l) k) (λ k. W k × UpTo line (Some l) k) (units + 1)
-            (λ k p. (walked_of k p.0 p.1, p.1)) (λ k p. (load_of k p.0, p.1)) counted
+            (λ k p. (walked_of k p.0 p.1, p.1)) (λ k p. (load_of k p.0, p.1)) walk_counts
 
         pub walk_fails : (steps : ℕ) → units < steps → P l → IsLacking kind line c mode R most earlier cites l taken
             → IsUncovered line W P earlier R most c cites l × CountsTo line W P earlier R most c cites l (units + 1) × (units + 1 ≤ steps)

@@ -3,11 +3,15 @@
 
 mod bounds;
 mod entries;
+mod frames;
 mod lists;
 mod loads;
+mod pairs;
 mod sides;
 mod types;
+mod verify;
 mod walks;
 
 pub use entries::verify_entry;
-pub use types::{EntryChecked, EntryFault, FrameFault, Place};
+pub use types::{EntryChecked, EntryFault, FrameFault, ListChecked, Place};
+pub use verify::verify_list;

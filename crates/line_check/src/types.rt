@@ -109,3 +109,33 @@ pub enum EntriesFound {
     Refused { entry: u64, why: EntryFault },
     StepsEnded,
 }
+
+/// What the check of one frame finds.
+#[derive(Clone, Copy)]
+pub enum FrameFound {
+    Right { units: u64 },
+    Fails { why: FrameFault, units: u64 },
+    StepsEnded,
+}
+
+/// What the check of the frames of a trail finds.
+#[derive(Clone, Copy)]
+pub enum FramesFound {
+    Right { units: u64 },
+    Refused { frame: u32, why: FrameFault },
+    StepsEnded,
+}
+
+/// What the check of a list of entries and a trail finds.
+#[derive(Clone, Copy)]
+pub enum ListChecked {
+    /// Each entry follows, and the trail is valid.
+    Right {
+        /// The units of the entries and the trail.
+        units: u64,
+    },
+    /// The first check that fails: an entry or a frame.
+    Refused(Place),
+    /// More loads than these steps had to be walked, before a check failed.
+    StepsEnded(u64),
+}

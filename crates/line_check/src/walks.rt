@@ -6,9 +6,11 @@ ghost use Rattle.line_rules.specs.Entries.{IsOpen, Cites as Refutes};
 ghost use Rattle.line_rules.specs.Ranges.{IsCycle};
 ghost use Rattle.line_check.specs.Walks.{IsFirstLate, AreBelow, Tells};
 ghost use Rattle.line_check.specs.Steps.{IsLacking, Takes};
+ghost use Rattle.line_check.specs.Reaches.{TellsTo, HasEnded};
 
 use crate::bounds::bound;
 use crate::loads::{is_full, next};
+use crate::pairs::is_same_load;
 use crate::types::Walked;
 use line_instance::Instance;
 use line_rules::{Cites, Entries, LineKind, Load, Mode};
@@ -39,7 +41,7 @@ pub(crate) fn first_late(cites: &Cites, k: u64) -> Option<u64>
 }
 
 /// The tasks of a set that a load leaves.
-fn rest(set: &TaskSet, load: &Load) -> TaskSet
+pub(crate) fn rest(set: &TaskSet, load: &Load) -> TaskSet
     ensures rest { result ≡ rest set.now load.now }
     ensures truths { length result ≡ 1024 }
 {
@@ -144,6 +146,62 @@ pub(crate) fn walk_all(
                 match taken_with(inst, q, entries, k, cites, taken, &load) {
                     None => return Walked::Uncovered { load, units },
                     Some(more) => taken = more,
+                }
+                last = Some(load);
+            }
+        }
+    }
+}
+
+/// What a walk over so many loads tells at its end, when so many cites are taken.
+pub(crate) fn ended(cites: &Cites, taken: usize, units: u64) -> Walked
+    ensures { HasEnded cites.now taken units result }
+{
+    if taken < cites.len() {
+        return Walked::Spare { units };
+    }
+    Walked::Right { units }
+}
+
+/// Walks over the loads of a set up to and including `end`, and takes a cite for each that needs one: of the deepest frame of a trail for
+/// the end too, and above it for those before the end alone.
+pub(crate) fn walk_to(
+    inst: &Instance,
+    q: &Question,
+    entries: &Entries,
+    cites: &Cites,
+    end: &Load,
+    deepest: bool,
+    steps: u64,
+) -> Walked
+    requires set { IsTaskSet inst.now q.now.set }
+    requires cycle { IsCycle q.now.cycle }
+    requires cites { AreBelow cites.now (length entries.now) }
+    requires end { IsLoad inst.now q.now.cycle q.now.mode q.now.set end.now }
+    ensures { TellsTo q.now.kind inst.now q.now.cycle q.now.mode q.now.set q.now.most entries.now cites.now end.now deepest steps result }
+{
+    let _tasks = inst.tasks();
+    let mut last: Option<Load> = None;
+    let mut units: u64 = 0;
+    let mut taken: usize = 0;
+    'walk: loop {
+        match next(inst, q.cycle, &q.set, q.mode, &last) {
+            None => return Walked::Right { units },
+            Some(load) => {
+                if units >= steps {
+                    return Walked::StepsEnded;
+                }
+                units += 1;
+                let ends = is_same_load(&load, end);
+                if ends && !deepest {
+                    return ended(cites, taken, units);
+                }
+                match taken_with(inst, q, entries, entries.len(), cites, taken, &load) {
+                    None => return Walked::Uncovered { load, units },
+                    Some(more) => taken = more,
+                }
+                if ends {
+                    return ended(cites, taken, units);
                 }
                 last = Some(load);
             }
