@@ -10,3 +10,4 @@ pub mod Entering
 pub mod Listed
 pub mod Reaching
 pub mod Framing
+pub mod Judging

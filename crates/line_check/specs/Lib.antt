@@ -7,3 +7,4 @@ pub mod Lists
 pub mod Pairs
 pub mod Frames
 pub mod Verdicts
+pub mod Certificates

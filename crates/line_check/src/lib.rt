@@ -2,6 +2,7 @@
 #![tactic(auto)]
 
 mod bounds;
+mod checking;
 mod entries;
 mod frames;
 mod lists;
@@ -9,9 +10,9 @@ mod loads;
 mod pairs;
 mod sides;
 mod types;
-mod verify;
+
 mod walks;
 
 pub use entries::verify_entry;
-pub use types::{EntryChecked, EntryFault, FrameFault, ListChecked, Place};
-pub use verify::verify_list;
+pub use types::{EntryChecked, EntryFault, FrameFault, ListChecked, Place, Verified};
+pub use checking::{verify, verify_list};

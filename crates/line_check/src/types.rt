@@ -139,3 +139,23 @@ pub enum ListChecked {
     /// More loads than these steps had to be walked, before a check failed.
     StepsEnded(u64),
 }
+
+/// What the check of a certificate finds.
+#[derive(Clone, Copy)]
+pub enum Verified {
+    /// The certificate is accepted: its bounds are true.
+    Accepted {
+        /// No balance lies below this bound.
+        lower: u64,
+        /// A balance lies at this bound.
+        upper: u64,
+        /// The units of the entries and the trail.
+        units: u64,
+    },
+    /// The certificate is accepted: there is no balance, since this task, from 0, is longer than the cycle.
+    TooLong(u32),
+    /// The first check that fails.
+    Refused(Place),
+    /// More loads than these steps had to be walked, before a check failed.
+    StepsEnded(u64),
+}
