@@ -80,4 +80,3 @@ chain_start kind straight line c R left set e =
 pub no_chain : (kind : LineKind) → kind ≡ U → (line : Line) (c : ℕ) (R : List Bool) → chained kind line c R ≡ 0
 unfolding chained
 no_chain kind u line c R = ap (λ k. chained k line c R) u
-

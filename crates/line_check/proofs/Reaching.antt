@@ -12,24 +12,12 @@ use Rattle.line_rules.specs.declared.types.OpenFrame.{OpenFrame}
 use Rattle.line_rules.proofs.Covering.{counts_none, covers_none}
 use Rattle.line_rules.proofs.Places.{three_ways}
 use Rattle.line_rules.proofs.Unique.{precedes_trans}
-use Rattle.std.proofs.lemmas.List.{take_all}
 use Rattle.line_check.specs.Walks.{IsUncovered, IsPast, CountsTo, Tells}
 use Rattle.line_check.specs.Reaches.{IsMatched, TellsTo, HasEnded}
 use Rattle.line_check.specs.Frames.{WalksTo, NeedsTo, EndsWell}
 use Rattle.line_check.specs.Steps.{IsLacking, Takes}
 use Rattle.line_check.specs.declared.types.Walked.{Walked}
-use Rattle.line_check.proofs.Walking.{IsWalking, walk_takes, walk_fails, walk_past, walk_before, walk_counts}
-
--- what is told at the end
-finish : (line : Line) (W P : Load → Type 0) (earlier : List Entry) (R : List Bool) (most c : ℕ) (cites : List ℕ) (taken units steps : ℕ) (r : Walked) → HasEnded cites taken units r
-    → Covers line P earlier R most c (take taken cites) → Counts line W units → units ≤ steps → Tells line W P earlier R most c cites steps r
-finish line W P earlier R most c cites taken units steps r h covers counts less =
-    let T : Walked → Type 0 = λ z. Tells line W P earlier R most c cites steps z in
-    let C : List ℕ → Type 0 = λ z. Covers line P earlier R most c z in
-    elim h [
-      | inl s ↦ subst T (sym s.1) (record { taken = taken; left = s.0; covers = covers }, counts, less)
-      | inr s ↦ subst T (sym s.1) (subst C (take_all taken cites s.0) covers, counts, less)
-    ]
+use Rattle.line_check.proofs.Walking.{IsWalking, walk_takes, walk_fails, walk_past, walk_before, walk_counts, finish}
 
 module _ (kind : LineKind) (line : Line) (ranked : IsRanked line) (c : ℕ) (mode : Mode) (R : List Bool) (most : ℕ) (es : List Entry) (cites : List ℕ) (end : Load) (deepest : Bool) (is_end : IsLoad line c mode R end) where
   abbrev pub W : Load → Type 0

@@ -26,4 +26,3 @@ six c t = grind (arith, nat_tests)
 -- each task counts for at most a whole station
 pub sixths_most : (c : ℕ) (p : ℕ → Bool) (ts : List ℕ) → weigh (sixths c) p ts ≤ length ts * 6
 sixths_most c p ts = weigh-most (sixths c) p 6 ts (λ i l. six c (get_or ts i 0))
-

@@ -14,7 +14,9 @@ use Rattle.line_rules.proofs.Covering.{counts_none, counts_same, covers_none, co
 use Rattle.line_rules.proofs.Paths.{all_up_to, covers_pass, covers_skip, covers_cite, units_push}
 use Rattle.line_rules.proofs.Sound.{get_within}
 use Rattle.std.proofs.lemmas.List.{take_all}
-use Rattle.line_check.specs.Walks.{IsUncovered, IsSpare, IsPast, CountsTo, CoversBefore}
+use Rattle.line_check.specs.Walks.{IsUncovered, IsPast, CountsTo, CoversBefore, Tells}
+use Rattle.line_check.specs.Reaches.{HasEnded}
+use Rattle.line_check.specs.declared.types.Walked.{Walked}
 use Rattle.line_check.specs.Steps.{IsLacking, IsCovered, Takes}
 
 pub record IsWalking (kind : LineKind) (line : Line) (c : ℕ) (mode : Mode) (R : List Bool) (most : ℕ) (earlier : List Entry) (cites : List ℕ) (last : Option Load) (units taken : ℕ) : Type 0 where
@@ -27,6 +29,17 @@ take_push : (xs : List ℕ) (n x : ℕ) → slice_get xs n ≡ Some x → take (
 take_push [] n x e = absurd (cc)
 take_push (y ∷ xs) zero x e = let q : y ≡ x = cc in ap (λ (z : ℕ). z ∷ []) q
 take_push (y ∷ xs) (suc n) x e = ap (λ (z : List ℕ). y ∷ z) (take_push xs n x e)
+
+-- what is told at the end
+pub finish : (line : Line) (W P : Load → Type 0) (earlier : List Entry) (R : List Bool) (most c : ℕ) (cites : List ℕ) (taken units steps : ℕ) (r : Walked) → HasEnded cites taken units r
+    → Covers line P earlier R most c (take taken cites) → Counts line W units → units ≤ steps → Tells line W P earlier R most c cites steps r
+finish line W P earlier R most c cites taken units steps r h covers counts less =
+    let T : Walked → Type 0 = λ z. Tells line W P earlier R most c cites steps z in
+    let C : List ℕ → Type 0 = λ z. Covers line P earlier R most c z in
+    elim h [
+      | inl s ↦ subst T (sym s.1) (record { taken = taken; left = s.0; covers = covers }, counts, less)
+      | inr s ↦ subst T (sym s.1) (subst C (take_all taken cites s.0) covers, counts, less)
+    ]
 
 module _ (kind : LineKind) (line : Line) (ranked : IsRanked line) (c : ℕ) (mode : Mode) (R : List Bool) (most : ℕ) (earlier : List Entry) (cites : List ℕ) where
   pub walk_starts : IsWalking kind line c mode R most earlier cites None 0 0
@@ -105,11 +118,5 @@ module _ (kind : LineKind) (line : Line) (ranked : IsRanked line) (c : ℕ) (mod
       all_counts : Counts line (IsLoad line c mode R) units
       all_counts = counts_same line (λ l. IsLoad line c mode R l × UpTo line last l) (IsLoad line c mode R) units (λ l p. p.0) (λ l g. (g, all_up_to line ranked c mode R last w.is_load none l g)) w.counts
 
-      pub walk_ends : (steps : ℕ) → units ≤ steps → length cites ≤ taken → Covers line (IsOpen kind line c mode R most) earlier R most c cites × Counts line (IsLoad line c mode R) units × (units ≤ steps)
-      walk_ends steps less e =
-          let P : List ℕ → Type 0 = λ z. Covers line (IsOpen kind line c mode R most) earlier R most c z in
-          (subst P (take_all taken cites e) all, all_counts, less)
-
-      pub walk_spares : (steps : ℕ) → units ≤ steps → taken < length cites
-          → IsSpare line (IsLoad line c mode R) (IsOpen kind line c mode R most) earlier R most c cites × Counts line (IsLoad line c mode R) units × (units ≤ steps)
-      walk_spares steps less e = (record { taken = taken; left = e; covers = all }, all_counts, less)
+      pub walk_told : (steps : ℕ) (r : Walked) → units ≤ steps → HasEnded cites taken units r → Tells line (IsLoad line c mode R) (IsOpen kind line c mode R most) earlier R most c cites steps r
+      walk_told steps r less h = finish line (IsLoad line c mode R) (IsOpen kind line c mode R most) earlier R most c cites taken units steps r h all all_counts less

@@ -10,7 +10,7 @@ use crate::entries::{belongs, is_same};
 use crate::loads::is_full;
 use crate::pairs::is_load;
 use crate::types::{FrameFault, FrameFound, FramesFound, Walked};
-use crate::walks::{Question, first_late, ended, rest, walk_to};
+use crate::walks::{Question, ended, first_late, rest, walk_to};
 use line_instance::Instance;
 use line_rules::{Entries, Frames, LineKind, OpenFrame, Trail};
 
@@ -165,7 +165,16 @@ pub(crate) fn check_frames(
     let mut units: u64 = 0;
     for j in 0..trail.frames.len() {
         let frame = trail.frames.at(j);
-        match check_frame(inst, kind, entries, trail.cycle, &trail.frames, j, frame, steps - units) {
+        match check_frame(
+            inst,
+            kind,
+            entries,
+            trail.cycle,
+            &trail.frames,
+            j,
+            frame,
+            steps - units,
+        ) {
             FrameFound::Right { units: more } => units += more,
             FrameFound::Fails { why, .. } => {
                 return FramesFound::Refused {

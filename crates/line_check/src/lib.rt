@@ -8,11 +8,14 @@ mod frames;
 mod lists;
 mod loads;
 mod pairs;
+#[cfg(test)]
+mod ranges;
 mod sides;
+#[cfg(test)]
+mod tests;
 mod types;
-
 mod walks;
 
+pub use checking::{verify, verify_list};
 pub use entries::verify_entry;
 pub use types::{EntryChecked, EntryFault, FrameFault, ListChecked, Place, Verified};
-pub use checking::{verify, verify_list};

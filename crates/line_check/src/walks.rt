@@ -111,6 +111,16 @@ fn taken_with(
     Some(taken + 1)
 }
 
+/// What a walk over so many loads tells at its end, when so many cites are taken.
+pub(crate) fn ended(cites: &Cites, taken: usize, units: u64) -> Walked
+    ensures { HasEnded cites.now taken units result }
+{
+    if taken < cites.len() {
+        return Walked::Spare { units };
+    }
+    Walked::Right { units }
+}
+
 /// Walks over all loads of a set, and takes a cite for each that needs one.
 pub(crate) fn walk_all(
     inst: &Instance,
@@ -132,12 +142,7 @@ pub(crate) fn walk_all(
     let mut taken: usize = 0;
     'walk: loop {
         match next(inst, q.cycle, &q.set, q.mode, &last) {
-            None => {
-                if taken < cites.len() {
-                    return Walked::Spare { units };
-                }
-                return Walked::Right { units };
-            }
+            None => return ended(cites, taken, units),
             Some(load) => {
                 if units >= steps {
                     return Walked::StepsEnded;
@@ -151,16 +156,6 @@ pub(crate) fn walk_all(
             }
         }
     }
-}
-
-/// What a walk over so many loads tells at its end, when so many cites are taken.
-pub(crate) fn ended(cites: &Cites, taken: usize, units: u64) -> Walked
-    ensures { HasEnded cites.now taken units result }
-{
-    if taken < cites.len() {
-        return Walked::Spare { units };
-    }
-    Walked::Right { units }
 }
 
 /// Walks over the loads of a set up to and including `end`, and takes a cite for each that needs one: of the deepest frame of a trail for

@@ -1,19 +1,15 @@
 use Rattle.std.proofs.Common.{take, refl, arith}
 use Rattle.line_rules.specs.Loads.{IsLoad}
 use Rattle.line_rules.specs.Entries.{IsOpen}
-use Rattle.line_check.proofs.Walking.{walk_starts, walk_takes, walk_fails, walk_past, walk_ends, walk_spares}
+use Rattle.line_check.proofs.Walking.{walk_starts, walk_takes, walk_fails, walk_past, walk_told}
 use Rattle.line_check.proofs.walks.walk_all.Goals as goal
 
 pub walk-init : goal.walk-init
 walk-init c = record { walking = walk_starts c.args.q.now.kind c.args.inst.now c.tasks-tasks.ensures.ranked c.args.q.now.cycle c.args.q.now.mode c.args.q.now.set c.args.q.now.most (take c.args.k c.args.entries.now) c.args.cites.now; less = omega arith }
 
-pub returns-then-taken-len : goal.returns-then-taken-len
-returns-then-taken-len c = walk_spares c.args.q.now.kind c.args.inst.now c.tasks-tasks.ensures.ranked c.args.q.now.cycle c.args.q.now.mode c.args.q.now.set c.args.q.now.most (take c.args.k c.args.entries.now) c.args.cites.now c.walk.last c.walk.units c.walk.taken c.walk.invariant.walking
-    (c.in-None.ensures.none refl) c.args.steps c.walk.invariant.less (omega (arith, c.if-taken-len.true, c.len.ensures))
-
 pub returns-in-None : goal.returns-in-None
-returns-in-None c = walk_ends c.args.q.now.kind c.args.inst.now c.tasks-tasks.ensures.ranked c.args.q.now.cycle c.args.q.now.mode c.args.q.now.set c.args.q.now.most (take c.args.k c.args.entries.now) c.args.cites.now c.walk.last c.walk.units c.walk.taken c.walk.invariant.walking
-    (c.in-None.ensures.none refl) c.args.steps c.walk.invariant.less (omega (arith, c.if-taken-len.false, c.len.ensures))
+returns-in-None c = walk_told c.args.q.now.kind c.args.inst.now c.tasks-tasks.ensures.ranked c.args.q.now.cycle c.args.q.now.mode c.args.q.now.set c.args.q.now.most (take c.args.k c.args.entries.now) c.args.cites.now c.walk.last c.walk.units c.walk.taken c.walk.invariant.walking
+    (c.in-None.ensures.none refl) c.args.steps c.ended.result c.walk.invariant.less c.ended.ensures
 
 pub returns-then-units-steps : goal.returns-then-units-steps
 returns-then-units-steps c = walk_past c.args.q.now.kind c.args.inst.now c.tasks-tasks.ensures.ranked c.args.q.now.cycle c.args.q.now.mode c.args.q.now.set c.args.q.now.most (take c.args.k c.args.entries.now) c.args.cites.now c.walk.last c.walk.units c.walk.taken c.walk.invariant.walking c.in-Some.load c.in-Some.ensures.next
