@@ -96,15 +96,15 @@ module _ (kind : LineKind) (line : Line) (X : ℕ) (es : List Entry) where
         deep = t.deep;
       }
 
-  abbrev prevs : Option OpenFrame → List OpenFrame → ℕ → Option OpenFrame
+  abbrev pub prevs : Option OpenFrame → List OpenFrame → ℕ → Option OpenFrame
   prevs p fs zero = p
   prevs p fs (suc i) = slice_get fs i
 
-  prev_shift : (f : OpenFrame) (fs : List OpenFrame) (j : ℕ) → slice_get (f ∷ fs) j ≡ prevs (Some f) fs j
+  pub prev_shift : (f : OpenFrame) (fs : List OpenFrame) (j : ℕ) → slice_get (f ∷ fs) j ≡ prevs (Some f) fs j
   prev_shift f fs zero = refl
   prev_shift f fs (suc j) = refl
 
-  same_place : (j n : ℕ) → nat_eq (suc j + 1) (suc n) ≡ nat_eq (j + 1) n
+  pub same_place : (j n : ℕ) → nat_eq (suc j + 1) (suc n) ≡ nat_eq (j + 1) n
   same_place j n = elim (cases_eq (j + 1) n) [
     | inl e ↦ eq-eqb (suc j + 1) (suc n) (omega (arith, e)) ∙ sym (eq-eqb (j + 1) n e)
     | inr d ↦ ne_eqb (suc j + 1) (suc n) (λ e. d (omega (arith, e))) ∙ sym (ne_eqb (j + 1) n d)

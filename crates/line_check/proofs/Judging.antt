@@ -31,7 +31,7 @@ module _ (kind : LineKind) (line : Line) (X : ℕ) (es : List Entry) (R : List B
   head_of (p ∷ ps) d f l e = ap (λ (z : OpenFrame). z.most) (sym (one_frame p f e)) ∙ l.1.1
 
   -- a trail begins with the stations of its first frame
-  head_most : (fs : List OpenFrame) (f : OpenFrame) → IsTrail kind line X es R most fs → slice_get fs 0 ≡ Some f → f.most ≡ most
+  pub head_most : (fs : List OpenFrame) (f : OpenFrame) → IsTrail kind line X es R most fs → slice_get fs 0 ≡ Some f → f.most ≡ most
   head_most fs f t e =
       let G : List OpenFrame → Type 0 = λ z. slice_get z 0 ≡ Some f in
       head_of t.passed t.deepest f t.leads (subst G t.all e)

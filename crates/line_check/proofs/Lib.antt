@@ -11,3 +11,6 @@ pub mod Listed
 pub mod Reaching
 pub mod Framing
 pub mod Judging
+pub mod Rejecting
+pub mod Spending
+pub mod Excluding

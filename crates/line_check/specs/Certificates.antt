@@ -142,3 +142,10 @@ IsTrueOf line cert (verified.Accepted l u units) = IsProved cert.kind line cert.
 IsTrueOf line cert (verified.TooLong i) = NoBalanceIsLeft cert.ask cert.kind line
 IsTrueOf line cert (verified.Refused place) = Unit {0}
 IsTrueOf line cert (verified.StepsEnded s) = Unit {0}
+
+-- What isn't accepted: no bounds and no task of a certificate that is refused, and, where the steps ended, no bounds with so few units.
+abbrev pub IsRejectedSo : Line → Certificate → ℕ → Verified → Type 0
+IsRejectedSo line cert steps (verified.Accepted l u units) = Unit {0}
+IsRejectedSo line cert steps (verified.TooLong i) = Unit {0}
+IsRejectedSo line cert steps (verified.Refused place) = ((l u units : ℕ) → IsAccepted line cert l u units → ⊥) × ((i : ℕ) → IsInfeasible line cert i → ⊥)
+IsRejectedSo line cert steps (verified.StepsEnded s) = ((l u units : ℕ) → IsAccepted line cert l u units → steps < units) × ((i : ℕ) → IsInfeasible line cert i → ⊥)

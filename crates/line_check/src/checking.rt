@@ -4,7 +4,7 @@ ghost use Rattle.line_instance.specs.Line.{tasks};
 ghost use Rattle.line_rules.specs.Accepted.{Refutes, MayBegin, upper_stations, upper_cycle};
 ghost use Rattle.line_rules.specs.Entries.{Answers, HasAnswer};
 ghost use Rattle.line_rules.specs.Ranges.{IsInRange, IsCycle, IsPlacing, AreBounds, AreEntries, IsTrailLike, IsTrailOrNone};
-ghost use Rattle.line_check.specs.Certificates.{IsShown, BalanceFails, IsAllowed, IsBoundsVerdict, IsTaskVerdict, IsVerdict, IsAcceptedSo, IsTrueOf};
+ghost use Rattle.line_check.specs.Certificates.{IsShown, BalanceFails, IsAllowed, IsBoundsVerdict, IsTaskVerdict, IsVerdict, IsAcceptedSo, IsRejectedSo, IsTrueOf};
 ghost use Rattle.line_check.specs.Verdicts.{IsListChecked};
 
 use crate::entries::is_same;
@@ -264,6 +264,7 @@ pub fn verify(inst: &Instance, cert: &Certificate, steps: u64) -> Verified
     requires few { steps ≤ 20000000 }
     ensures verdict { IsVerdict inst.now cert.now steps result }
     ensures accepted { IsAcceptedSo inst.now cert.now steps result }
+    ensures rejected { IsRejectedSo inst.now cert.now steps result }
     ensures true_bounds { IsTrueOf inst.now cert.now result }
 {
     let _tasks = inst.tasks();
