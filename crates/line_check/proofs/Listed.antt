@@ -56,3 +56,14 @@ all_right kind line es k units steps l few r =
 -- a list with an entry that is refused isn't derived
 pub refused_not : (kind : LineKind) (line : Line) (es : List Entry) (steps k : ℕ) (why : EntryFault) → IsRefusedAt kind line es steps k why → IsDerived kind line es → ⊥
 refused_not kind line es steps k why r d = not_follows kind line (take k es) r.entry why r.more r.fails (d k r.entry r.there)
+
+one_item : {X : Type 0} (x y : X) → Some x ≡ Some y → x ≡ y
+one_item x y e = cc
+
+-- what is so of the items below k, and of the item k
+pub each_more : {X : Type 0} (P : X → Type 0) (xs : List X) (k : ℕ) (x : X) → slice_get xs k ≡ Some x → P x → ((j : ℕ) (y : X) → j < k → slice_get xs j ≡ Some y → P y)
+    → (j : ℕ) (y : X) → j < k + 1 → slice_get xs j ≡ Some y → P y
+each_more P xs k x there p h j y l e = elim (cases_eq j k) [
+  | inl s ↦ subst P (one_item x y (sym there ∙ (ap (λ (z : ℕ). slice_get xs z) (sym s) ∙ e))) p
+  | inr d ↦ h j y (omega (arith, l, d)) e
+]

@@ -133,7 +133,11 @@ fn is_trail(inst: &Instance, count: usize, trail: &Trail) -> bool
     if !is_cycle(trail.cycle) {
         return false;
     }
-    if trail.frames.is_empty() || trail.frames.len() > 1024 {
+    let many = trail.frames.len();
+    if many < 1 {
+        return false;
+    }
+    if many > 1024 {
         return false;
     }
     for k in 0..trail.frames.len() {

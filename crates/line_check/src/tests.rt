@@ -276,3 +276,64 @@ fn checks_a_list_and_an_entry_alone(rt: HostRuntime) -> Result<(), Fail> {
     }
     Ok(())
 }
+
+#[test]
+fn goes_by_a_swap(rt: HostRuntime) -> Result<(), Fail> {
+    let alloc = rt.alloc();
+    let inst = instance(alloc, vec![in alloc; 7, 7, 4, 4, 2, 2, 2]?, &[])?;
+    let swap = Entry {
+        set: tasks(&[1, 2, 3, 4, 5, 6]),
+        most: 3,
+        cycle: 7,
+        why: Why::Swap {
+            cite: 1,
+            out_task: 1,
+            in_task: 0,
+        },
+    };
+    let entries = vec![in alloc;
+        branch(alloc, &[2, 3, 4, 5, 6], 2, &[])?,
+        branch(alloc, &[0, 2, 3, 4, 5, 6], 3, &[0])?,
+        swap,
+        branch(alloc, &[0, 1, 2, 3, 4, 5, 6], 4, &[1, 2])?,
+    ]?;
+    let cert = certificate(
+        7,
+        7,
+        5,
+        balance(alloc, 5, &[1, 2, 3, 4, 3, 4, 5])?,
+        Entries::from_vec(entries),
+        None,
+    );
+    let said = told(alloc, &inst, &cert, 48)?;
+    assert_eq!(rt; said.as_str(), "accepted 5 5 48");
+    let ended = told(alloc, &inst, &cert, 47)?;
+    assert_eq!(rt; ended.as_str(), "ended 47");
+    Ok(())
+}
+
+#[test]
+fn sees_a_broken_pair(rt: HostRuntime) -> Result<(), Fail> {
+    let alloc = rt.alloc();
+    let inst = instance(alloc, vec![in alloc; 1, 1]?, &[Prec { first: 0, then: 1 }])?;
+    let none = Entries::from_vec(Vec::new(alloc));
+    let cert = certificate(2, 2, 1, balance(alloc, 2, &[2, 1])?, none, None);
+    let said = told(alloc, &inst, &cert, 1)?;
+    assert_eq!(rt; said.as_str(), "broken 0 1");
+    Ok(())
+}
+
+#[test]
+fn sees_tasks_that_are_apart(rt: HostRuntime) -> Result<(), Fail> {
+    let alloc = rt.alloc();
+    let mut inst = instance(alloc, vec![in alloc; 1, 1]?, &[])?;
+    if inst.tasks() < 2 {
+        return Err("fewer tasks")?;
+    }
+    inst.set_apart(&[Prec { first: 0, then: 1 }]);
+    let none = Entries::from_vec(Vec::new(alloc));
+    let cert = certificate(2, 2, 1, balance(alloc, 1, &[1, 1])?, none, None);
+    let said = told(alloc, &inst, &cert, 1)?;
+    assert_eq!(rt; said.as_str(), "together 0 1");
+    Ok(())
+}
