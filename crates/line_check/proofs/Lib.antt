@@ -1,0 +1,16 @@
+pub mod Turns
+pub mod Answered
+pub mod Picked
+pub mod Shares
+pub mod Around
+pub mod Fits
+pub mod Walking
+pub mod Exact
+pub mod Entering
+pub mod Listed
+pub mod Reaching
+pub mod Framing
+pub mod Judging
+pub mod Rejecting
+pub mod Spending
+pub mod Excluding

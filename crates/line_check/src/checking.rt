@@ -1,0 +1,272 @@
+//! The check of a certificate, in the order of its parts: the balance, the entries, the lower bound, and the trail.
+ghost use Rattle.std.specs.Prelude.{◌≡◌, ℕ, ◌<◌, ◌≤◌, ◌↔◌, length, slice_get, Some, IsTrue, IsNone, IfSome};
+ghost use Rattle.line_instance.specs.Line.{tasks};
+ghost use Rattle.line_rules.specs.Accepted.{Refutes, MayBegin, upper_stations, upper_cycle};
+ghost use Rattle.line_rules.specs.Entries.{Answers, HasAnswer};
+ghost use Rattle.line_rules.specs.Ranges.{IsInRange, IsCycle, IsPlacing, AreBounds, AreEntries, IsTrailLike, IsTrailOrNone};
+ghost use Rattle.line_check.specs.Certificates.{IsShown, BalanceFails, IsAllowed, IsBoundsVerdict, IsTaskVerdict, IsVerdict, IsAcceptedSo, IsRejectedSo, IsTrueOf};
+ghost use Rattle.line_check.specs.Verdicts.{IsListChecked};
+
+use crate::entries::is_same;
+use crate::frames::check_frames;
+use crate::lists::check_entries;
+use crate::types::{EntriesFound, FrameFault, FramesFound, ListChecked, Place, Verified};
+use line_instance::Instance;
+use line_rules::{
+    Ask, Balance, BalanceCheck, Certificate, Claim, Entries, Entry, LineKind, Trail, check_balance,
+};
+use task_set::TaskSet;
+
+/// Checks a list of entries and a trail beside it: that each entry follows from those before it, and that the trail is a valid one. That the
+/// first frame lies within the bounds of a certificate isn't asked. At most `steps` loads are walked. Takes no memory.
+pub fn verify_list(
+    inst: &Instance,
+    kind: LineKind,
+    entries: &Entries,
+    trail: &Option<Trail>,
+    steps: u64,
+) -> ListChecked
+    requires entries { AreEntries (tasks inst.now) entries.now }
+    requires trail { IsTrailOrNone (tasks inst.now) (length entries.now) trail.now }
+    ensures { IsListChecked kind inst.now entries.now trail.now steps result }
+{
+    let units = match check_entries(inst, kind, entries, steps) {
+        EntriesFound::Right { units } => units,
+        EntriesFound::Refused { entry, why } => {
+            return ListChecked::Refused(Place::Entry { entry, why });
+        }
+        EntriesFound::StepsEnded => return ListChecked::StepsEnded(steps),
+    };
+    match trail {
+        None => ListChecked::Right { units },
+        Some(trail) => match check_frames(inst, kind, entries, trail, steps - units) {
+            FramesFound::Right { units: more } => ListChecked::Right {
+                units: units + more,
+            },
+            FramesFound::Refused { frame, why } => {
+                ListChecked::Refused(Place::Frame { frame, why })
+            }
+            FramesFound::StepsEnded => ListChecked::StepsEnded(steps),
+        },
+    }
+}
+
+/// Whether an entry answers a question.
+fn answers(entry: &Entry, set: &TaskSet, most: u64, cycle: u64) -> bool
+    ensures { IsTrue result ↔ Answers entry.now set.now most cycle }
+{
+    if !is_same(&entry.set, set) {
+        return false;
+    }
+    if u64::from(entry.most) < most {
+        return false;
+    }
+    entry.cycle >= cycle
+}
+
+/// Whether an entry of a list answers a question.
+fn has_answer(entries: &Entries, set: &TaskSet, most: u64, cycle: u64) -> bool
+    ensures some { IsTrue result → HasAnswer entries.now set.now most cycle }
+    ensures none { HasAnswer entries.now set.now most cycle → IsTrue result }
+{
+    for k in 0..entries.len() {
+        if answers(entries.at(k), set, most, cycle) {
+            return true;
+        }
+    }
+    false
+}
+
+/// Whether an entry refutes all tasks one below a lower bound.
+fn refutes_below(inst: &Instance, entries: &Entries, ask: Ask, lower: u64) -> bool
+    requires some { 1 ≤ lower }
+    ensures { IsTrue result ↔ Refutes inst.now entries.now ask lower }
+{
+    let all = inst.all();
+    match ask {
+        Ask::Stations { cycle } => has_answer(entries, &all, lower - 1, cycle),
+        Ask::Cycle { stations } => has_answer(entries, &all, u64::from(stations), lower - 1),
+    }
+}
+
+/// Whether a trail at a cycle may begin with the question of all tasks in `most` stations.
+fn may_begin(ask: Ask, lower: u64, upper: u64, cycle: u64, most: u32) -> bool
+    ensures { IsTrue result ↔ MayBegin ask lower upper cycle most }
+{
+    let stations = u64::from(most);
+    match ask {
+        Ask::Stations { cycle: asked } => cycle == asked && lower <= stations && stations < upper,
+        Ask::Cycle { stations: asked } => most == asked && lower <= cycle && cycle < upper,
+    }
+}
+
+/// Whether the first frame of a trail asks a question that the bounds leave open.
+fn is_allowed(ask: Ask, lower: u64, upper: u64, trail: &Trail) -> bool
+    requires some { 1 ≤ length trail.now.frames }
+    ensures { IsTrue result ↔ IsAllowed ask lower upper trail.now }
+{
+    let first = trail.frames.at(0);
+    may_begin(ask, lower, upper, trail.cycle, first.most)
+}
+
+/// The stations and the cycle of a balance that shows an upper bound.
+fn upper_stations(ask: Ask, upper: u64) -> u64
+    ensures { result ≡ upper_stations ask upper }
+{
+    match ask {
+        Ask::Stations { .. } => upper,
+        Ask::Cycle { stations } => u64::from(stations),
+    }
+}
+
+fn upper_cycle(ask: Ask, upper: u64) -> u64
+    ensures { result ≡ upper_cycle ask upper }
+{
+    match ask {
+        Ask::Stations { cycle } => cycle,
+        Ask::Cycle { .. } => upper,
+    }
+}
+
+/// The first thing that is wrong with the balance of a certificate, if it doesn't show the upper bound.
+fn balance_fault(
+    inst: &Instance,
+    kind: LineKind,
+    ask: Ask,
+    upper: u64,
+    balance: &Balance,
+) -> Option<Place>
+    requires range { IsPlacing kind (tasks inst.now) balance.now }
+    ensures none { IsNone result → IsShown kind inst.now ask upper balance.now }
+    ensures some { IfSome result (BalanceFails kind inst.now ask upper balance.now) }
+{
+    if u64::from(balance.stations) != upper_stations(ask, upper) {
+        return Some(Place::Stations(balance.stations));
+    }
+    match check_balance(inst, kind, upper_cycle(ask, upper), balance) {
+        BalanceCheck::Right => None,
+        BalanceCheck::Unplaced(_) => None,
+        BalanceCheck::StationRange(task) => Some(Place::Station(task)),
+        BalanceCheck::SideWrong(task) => Some(Place::Side(task)),
+        BalanceCheck::Overfull(station, time) => Some(Place::Overfull(station, time)),
+        BalanceCheck::Broken(i, j) => Some(Place::Broken(i, j)),
+        BalanceCheck::Together(i, j) => Some(Place::Together(i, j)),
+    }
+}
+
+/// Checks the claim that a task is too long.
+fn check_task(inst: &Instance, cycle: u64, task: u32) -> Verified
+    requires { task < tasks inst.now }
+    ensures { IsTaskVerdict inst.now cycle task result }
+{
+    let time = inst.time(task);
+    if time <= cycle {
+        return Verified::Refused(Place::Infeasible { task, time });
+    }
+    for least in 0..task {
+        if inst.time(least) > cycle {
+            return Verified::Refused(Place::Earlier { task, least });
+        }
+    }
+    Verified::TooLong(task)
+}
+
+/// Checks the claim of bounds.
+fn check_bounds(
+    inst: &Instance,
+    kind: LineKind,
+    ask: Ask,
+    lower: u64,
+    upper: u64,
+    balance: &Balance,
+    entries: &Entries,
+    trail: &Option<Trail>,
+    steps: u64,
+) -> Verified
+    requires range { AreBounds kind (tasks inst.now) lower upper balance.now entries.now trail.now }
+    ensures { IsBoundsVerdict kind inst.now ask lower upper balance.now entries.now trail.now steps result }
+{
+    if let Some(place) = balance_fault(inst, kind, ask, upper, balance) {
+        return Verified::Refused(place);
+    }
+    let units = match check_entries(inst, kind, entries, steps) {
+        EntriesFound::Right { units } => units,
+        EntriesFound::Refused { entry, why } => {
+            return Verified::Refused(Place::Entry { entry, why });
+        }
+        EntriesFound::StepsEnded => return Verified::StepsEnded(steps),
+    };
+    if lower > 1 && !refutes_below(inst, entries, ask, lower) {
+        return Verified::Refused(Place::Goal);
+    }
+    match trail {
+        None => Verified::Accepted {
+            lower,
+            upper,
+            units,
+        },
+        Some(trail) => {
+            if !is_allowed(ask, lower, upper, trail) {
+                return Verified::Refused(Place::Frame {
+                    frame: 0,
+                    why: FrameFault::Allowed,
+                });
+            }
+            match check_frames(inst, kind, entries, trail, steps - units) {
+                FramesFound::Right { units: more } => Verified::Accepted {
+                    lower,
+                    upper,
+                    units: units + more,
+                },
+                FramesFound::Refused { frame, why } => {
+                    Verified::Refused(Place::Frame { frame, why })
+                }
+                FramesFound::StepsEnded => Verified::StepsEnded(steps),
+            }
+        }
+    }
+}
+
+/// What is found of a certificate.
+fn judge(inst: &Instance, cert: &Certificate, steps: u64) -> Verified
+    requires range { IsInRange cert.now }
+    ensures { IsVerdict inst.now cert.now steps result }
+{
+    let tasks = inst.tasks();
+    if cert.tasks != tasks {
+        return Verified::Refused(Place::Tasks {
+            said: cert.tasks,
+            real: tasks,
+        });
+    }
+    match &cert.claim {
+        Claim::TooLong { task } => match cert.ask {
+            Ask::Stations { cycle } => check_task(inst, cycle, *task),
+            Ask::Cycle { .. } => Verified::TooLong(*task),
+        },
+        Claim::Bounds {
+            lower,
+            upper,
+            balance,
+            entries,
+            trail,
+        } => check_bounds(
+            inst, cert.kind, cert.ask, *lower, *upper, balance, entries, trail, steps,
+        ),
+    }
+}
+
+/// Checks a certificate against a line: its balance, its entries, its lower bound and its trail, in this order, up to the first check that
+/// fails. At most `steps` loads are walked, 1 to 20,000,000. What is accepted is true of the line. Takes no memory.
+pub fn verify(inst: &Instance, cert: &Certificate, steps: u64) -> Verified
+    requires range { IsInRange cert.now }
+    requires some { 1 ≤ steps }
+    requires few { steps ≤ 20000000 }
+    ensures verdict { IsVerdict inst.now cert.now steps result }
+    ensures accepted { IsAcceptedSo inst.now cert.now steps result }
+    ensures rejected { IsRejectedSo inst.now cert.now steps result }
+    ensures true_bounds { IsTrueOf inst.now cert.now result }
+{
+    let _tasks = inst.tasks();
+    judge(inst, cert, steps)
+}

@@ -1,0 +1,35 @@
+//! The check of a list of entries in their order.
+ghost use Rattle.line_instance.specs.Line.{tasks};
+ghost use Rattle.line_rules.specs.Ranges.{AreEntries};
+ghost use Rattle.line_check.specs.Lists.{AreFound};
+
+use crate::entries::check_entry;
+use crate::types::{EntriesFound, Found};
+use line_instance::Instance;
+use line_rules::{Entries, LineKind};
+
+/// Checks entries in order, each after those before it.
+pub(crate) fn check_entries(
+    inst: &Instance,
+    kind: LineKind,
+    entries: &Entries,
+    steps: u64,
+) -> EntriesFound
+    requires range { AreEntries (tasks inst.now) entries.now }
+    ensures { AreFound kind inst.now entries.now steps result }
+{
+    let mut units: u64 = 0;
+    for k in 0..entries.len() {
+        match check_entry(inst, kind, entries, k, entries.at(k), steps - units) {
+            Found::Right { units: more } => units += more,
+            Found::Fails { why, .. } => {
+                return EntriesFound::Refused {
+                    entry: k as u64,
+                    why,
+                };
+            }
+            Found::StepsEnded => return EntriesFound::StepsEnded,
+        }
+    }
+    EntriesFound::Right { units }
+}

@@ -1,0 +1,103 @@
+//! The two sides of a load, front and back, by one code.
+ghost use Rattle.std.specs.Prelude.{◌≡◌, ◌<◌, ◌↔◌, ℕ, true, false};
+ghost use Rattle.task_set.specs.Truths.{In};
+ghost use Rattle.line_instance.specs.Line.{tasks, has};
+ghost use Rattle.line_rules.specs.Sides.{Ahead, part, changed, nothing_yet, fills, task_at};
+
+use line_instance::Instance;
+use line_rules::{Load, Mode, Side};
+use task_set::TaskSet;
+
+/// Whether loads of the mode fill the side.
+#[inline]
+pub(crate) fn fills(mode: Mode, side: Side) -> bool
+    ensures { result ≡ fills mode side }
+{
+    match (mode, side) {
+        (Mode::Both, _) | (Mode::Fore, Side::Front) | (Mode::Back, Side::Back) => true,
+        (Mode::Fore, Side::Back) | (Mode::Back, Side::Front) => false,
+    }
+}
+
+/// The tasks that have to stand at the side where the task does: in front those before it, at the back those after it.
+#[inline]
+pub(crate) fn ahead(inst: &Instance, side: Side, task: u32) -> &TaskSet
+    requires { task < tasks inst.now }
+    ensures members { (j : ℕ) → In result.now j ↔ Ahead inst.now side j task }
+{
+    match side {
+        Side::Front => inst.before(task),
+        Side::Back => inst.after(task),
+    }
+}
+
+/// The task at a place of the side: the places of the front go by rank, those of the back from the last rank on.
+#[inline]
+pub(crate) fn task_at(inst: &Instance, side: Side, place: u32) -> u32
+    requires { place < tasks inst.now }
+    ensures task { result ≡ task_at inst.now side place }
+    ensures within { result < tasks inst.now }
+{
+    match side {
+        Side::Front => inst.at_rank(place),
+        Side::Back => inst.at_rank(inst.tasks() - 1 - place),
+    }
+}
+
+/// A pair with no task at either side.
+#[inline]
+pub(crate) fn nothing() -> Load
+    ensures { result ≡ nothing_yet }
+{
+    Load {
+        front: TaskSet::empty(),
+        back: TaskSet::empty(),
+    }
+}
+
+/// Whether the task stands at the side.
+#[inline]
+pub(crate) fn stands(load: &Load, side: Side, task: u32) -> bool
+    requires { task < 1024 }
+    ensures { result ≡ has (part side load.now) task }
+{
+    match side {
+        Side::Front => load.front.has(task),
+        Side::Back => load.back.has(task),
+    }
+}
+
+/// Puts the task at the side.
+#[inline]
+pub(crate) fn put(load: &mut Load, side: Side, task: u32)
+    requires { task < 1024 }
+    ensures { load.new ≡ changed side load.old task true }
+{
+    match side {
+        Side::Front => load.front.insert(task),
+        Side::Back => load.back.insert(task),
+    };
+}
+
+/// Takes the task from the side.
+#[inline]
+pub(crate) fn take(load: &mut Load, side: Side, task: u32)
+    requires { task < 1024 }
+    ensures { load.new ≡ changed side load.old task false }
+{
+    match side {
+        Side::Front => load.front.remove(task),
+        Side::Back => load.back.remove(task),
+    };
+}
+
+/// The tasks at the side.
+#[inline]
+pub(crate) fn part(load: &Load, side: Side) -> &TaskSet
+    ensures { result.now ≡ part side load.now }
+{
+    match side {
+        Side::Front => &load.front,
+        Side::Back => &load.back,
+    }
+}
