@@ -5,6 +5,7 @@ mod ends;
 pub mod laws;
 mod loads;
 pub mod places;
+mod shorts;
 mod sides;
 pub mod steps;
 #[cfg(test)]

@@ -1,6 +1,6 @@
 //! The quick walk over the loads of a set, for all modes: it keeps the sum of times and the tasks that are ready, and changes them with
 //! each task that comes or goes.
-ghost use Rattle.std.specs.Prelude.{◌≡◌, ℕ, ◌<◌, ◌≤◌, ◌↔◌, ◌+◌, IsTrue, IsNone, IfSome, IsSome, Some, None, true, false};
+ghost use Rattle.std.specs.Prelude.{◌≡◌, ℕ, ◌<◌, ◌≤◌, ◌↔◌, ◌+◌, ◌-◌, IsTrue, IsNone, IfSome, IsSome, Some, None, true, false};
 ghost use Rattle.task_set.specs.Truths.{In, IsEmpty, meet, union};
 ghost use Rattle.line_instance.specs.Line.{IsTaskSet, Apart, tasks, time, has};
 ghost use Rattle.line_instance.specs.Sums.{sum_where};
@@ -11,10 +11,12 @@ ghost use Rattle.line_rules.specs.declared.types.Load.{Load as Pair};
 ghost use Rattle.line_rules.proofs.Next.{IsPart};
 ghost use Rattle.line_rules.proofs.Scans.{Scan};
 ghost use Rattle.station_load.specs.Ends.{IsEnd, HasRoom, pair_at};
+ghost use Rattle.station_load.specs.Shorts.{HasShort};
 ghost use Rattle.station_load.specs.Walking.{IsWalk, last_given};
 
 use crate::ends::End;
 use crate::places;
+use crate::shorts::{Shorts, count_load};
 use crate::sides::{fills, task_at};
 use line_instance::Instance;
 use line_rules::{Load, Mode, Side};
@@ -23,7 +25,7 @@ use task_set::TaskSet;
 
 /// A walk over the loads of a set of tasks at a cycle in a mode, in their order.
 ///
-/// It is begun by `walk` or [`begin`] and is a value of a kilobyte that needs no memory. A contract sees it as the cycle, the mode, the
+/// It is begun by `walk` or [`begin`] and is a value of about 1,300 bytes that needs no memory. A contract sees it as the cycle, the mode, the
 /// set, the load given last, and what it keeps of that load from step to step.
 #[derive(Drop)]
 pub struct Walk {
@@ -35,6 +37,8 @@ pub struct Walk {
     sum: u64,
     front: End,
     back: End,
+    shorts: Shorts,
+    loads: u32,
 }
 
 impl Model for Walk {
@@ -43,7 +47,7 @@ impl Model for Walk {
 
     ghost Value = { Walking };
 
-    ghost view = { λ w. record { cycle = w.cycle; mode = w.mode; set = w.set; last = cond w.given (Some (record { front = w.front.tasks; back = w.back.tasks })) None; ended = w.ended; sum = w.sum; front = w.front; back = w.back } };
+    ghost view = { λ w. record { cycle = w.cycle; mode = w.mode; set = w.set; last = cond w.given (Some (record { front = w.front.tasks; back = w.back.tasks })) None; ended = w.ended; sum = w.sum; front = w.front; back = w.back; shorts = w.shorts } };
 }
 
 // Whether a task's time is left, and nothing of a load with these tasks at its sides is apart from it.
@@ -113,8 +117,10 @@ fn grows(
     end: &End,
     other: &TaskSet,
     sum: u64,
+    short: &TaskSet,
 ) -> bool
     requires set { IsTaskSet inst.now set.now }
+    requires short { HasShort inst.now set.now (cycle - sum) short.now }
     requires kept { fills mode side ≡ true → IsEnd inst.now side set.now end.now }
     requires sum { sum ≡ sum_where (has (taken (pair_at side end.now.tasks other.now))) inst.now.times }
     requires fits { sum ≤ cycle }
@@ -124,8 +130,9 @@ fn grows(
     if !fills(mode, side) {
         return false;
     }
+    let candidates = end.free.meet(short);
     let mut below = inst.tasks();
-    while let Some(task) = end.free.greatest_below(below) {
+    while let Some(task) = candidates.greatest_below(below) {
         below = task;
         if !other.has(task) && fits(inst, cycle - sum, &end.tasks, other, task) {
             return true;
@@ -153,6 +160,8 @@ pub fn begin(inst: &Instance, cycle: u64, set: &TaskSet, mode: Mode) -> Walk
         sum: 0,
         front: End::start(inst, set, mode, Side::Front),
         back: End::start(inst, set, mode, Side::Back),
+        shorts: Shorts::all(set),
+        loads: 0,
     }
 }
 
@@ -174,6 +183,13 @@ impl Walk {
         }
         let last = self.load();
         let sum = self.sum;
+        count_load(
+            inst,
+            self.cycle,
+            &self.set,
+            &mut self.loads,
+            &mut self.shorts,
+        );
         if advance(
             inst,
             self.cycle,
@@ -239,6 +255,9 @@ impl Walk {
         if self.ended {
             return places::full(inst, self.cycle, &self.set, self.mode, &self.load());
         }
+        let short = self
+            .shorts
+            .within(self.cycle, &self.set, self.cycle - self.sum);
         if grows(
             inst,
             self.cycle,
@@ -248,6 +267,7 @@ impl Walk {
             &self.front,
             &self.back.tasks,
             self.sum,
+            short,
         ) {
             return false;
         }
@@ -260,6 +280,7 @@ impl Walk {
             &self.back,
             &self.front.tasks,
             self.sum,
+            short,
         ) {
             return false;
         }

@@ -9,12 +9,13 @@ use Rattle.station_load.proofs.steps.begin.Goals as goal
 
 pub returns-clause-walk : goal.returns-clause-walk
 returns-clause-walk c =
-    let new : Walking = record { cycle = c.args.cycle; mode = c.args.mode; set = c.args.set.now; last = None; ended = false; sum = 0; front = c.start.result; back = c.start-2.result } in
+    let new : Walking = record { cycle = c.args.cycle; mode = c.args.mode; set = c.args.set.now; last = None; ended = false; sum = 0; front = c.start.result; back = c.start-2.result; shorts = c.all.result } in
     record {
       set = c.requires;
       load = λ l e. absurd (cc);
       sum = sym (nothing_sum c.args.inst.now);
       stands = each_side (λ (s : Side). (end_of s new).tasks ≡ part s nothing_yet) c.start.ensures.tasks c.start-2.ensures.tasks;
       ready = λ o. each_side (λ (s : Side). fills c.args.mode s ≡ true → IsEnd c.args.inst.now s c.args.set.now (end_of s new)) c.start.ensures.kept c.start-2.ensures.kept;
+      short = c.all.ensures c.args.inst.now c.args.cycle;
       over = λ e. absurd (cc);
     }

@@ -1,5 +1,6 @@
-use Rattle.std.proofs.Common.{◌≡◌, ◌∙◌, ◌-◌, ℕ, false, sym, subst, inl, inr, refl, arith}
-use Rattle.task_set.specs.Truths.{In, union}
+use Rattle.std.proofs.Common.{◌≡◌, ◌∙◌, ◌-◌, ◌<◌, ◌≤◌, ℕ, Bool, List, false, sym, subst, inl, inr, refl, arith}
+use Rattle.task_set.specs.Truths.{In, meet, union}
+use Rattle.task_set.proofs.Members.{In-meet, In-meet_parts}
 use Rattle.line_instance.specs.Line.{has}
 use Rattle.line_rules.specs.Sides.{IsReady, MayJoin, nothing_yet}
 use Rattle.std.proofs.lemmas.Bool.{false≢true, cases_lt}
@@ -24,7 +25,7 @@ pub returns-then-fits-clause-some : goal.returns-then-fits-clause-some
 returns-then-fits-clause-some c = λ e. (
   c.in-Some.task,
   sym c.fills.ensures ∙ c.if-not-fills.false,
-  may_from_room c.args.inst.now c.args.cycle c.args.mode c.args.set.now c.args.side nothing_yet c.args.end.now c.args.other.now (c.requires.kept (sym c.fills.ensures ∙ c.if-not-fills.false)) c.in-Some.task c.args.sum c.requires.sum c.requires.fits c.in-Some.ensures.some.member (sym c.has.ensures ∙ c.if-not-has.true) (c.fits.ensures.0 c.if-fits.true),
+  may_from_room c.args.inst.now c.args.cycle c.args.mode c.args.set.now c.args.side nothing_yet c.args.end.now c.args.other.now (c.requires.kept (sym c.fills.ensures ∙ c.if-not-fills.false)) c.in-Some.task c.args.sum c.requires.sum c.requires.fits (In-meet_parts c.args.end.now.free c.args.short.now c.in-Some.task (subst (λ (b : List Bool). In b c.in-Some.task) c.meet-candidates.ensures.value c.in-Some.ensures.some.member)).0 (sym c.has.ensures ∙ c.if-not-has.true) (c.fits.ensures.0 c.if-fits.true),
 )
 
 pub loop-task-preserved : goal.loop-task-preserved
@@ -32,7 +33,12 @@ loop-task-preserved c = record {
   low = omega (arith, c.loop-task.invariant.low, c.in-Some.ensures.some.below);
   none = λ i m l may. elim (cases_lt i c.loop-task.below) [
     | inl under ↦
-        let same : i ≡ c.in-Some.task = omega (arith, l, c.in-Some.ensures.some.greatest i m under) in
+        let end : IsEnd c.args.inst.now c.args.side c.args.set.now c.args.end.now = c.requires.kept (sym c.fills.ensures ∙ c.if-not-fills.false) in
+        let fit : (has c.args.other.now i ≡ false) × HasRoom c.args.inst.now (c.args.cycle - c.args.sum) (union c.args.end.now.tasks c.args.other.now) i =
+        room_from_may c.args.inst.now c.args.cycle c.args.mode c.args.set.now c.args.side nothing_yet c.args.end.now c.args.other.now end i c.args.sum c.requires.sum may in
+        let inside : IsReady c.args.inst.now c.args.side c.args.set.now c.args.end.now.tasks i = (end.ready.is i).0 m in
+        let met : In c.meet-candidates.result i = subst (λ (b : List Bool). In b i) (sym c.meet-candidates.ensures.value) (In-meet c.args.end.now.free c.args.short.now i m (c.requires.short i inside.within fit.1.time)) in
+        let same : i ≡ c.in-Some.task = omega (arith, l, c.in-Some.ensures.some.greatest i met under) in
         let P : ℕ → Type 0 = λ k. MayJoin c.args.inst.now c.args.cycle c.args.set.now c.args.side (pair_at c.args.side c.args.end.now.tasks c.args.other.now) k in
         let r : (has c.args.other.now c.in-Some.task ≡ false) × HasRoom c.args.inst.now (c.args.cycle - c.args.sum) (union c.args.end.now.tasks c.args.other.now) c.in-Some.task =
         room_from_may c.args.inst.now c.args.cycle c.args.mode c.args.set.now c.args.side nothing_yet c.args.end.now c.args.other.now (c.requires.kept (sym c.fills.ensures ∙ c.if-not-fills.false)) c.in-Some.task c.args.sum c.requires.sum (subst P same may) in
@@ -46,5 +52,10 @@ loop-task-preserved c = record {
 
 pub returns-clause-none : goal.returns-clause-none
 returns-clause-none c = λ e i f may.
-    let m : In c.args.end.now.free i = free_of_may c.args.inst.now c.args.cycle c.args.mode c.args.set.now c.args.side nothing_yet c.args.end.now c.args.other.now (c.requires.kept (sym c.fills.ensures ∙ c.if-not-fills.false)) i may in
-    c.loop-task.invariant.none i m (c.in_default.ensures.none.0 refl i m) may
+    let end : IsEnd c.args.inst.now c.args.side c.args.set.now c.args.end.now = c.requires.kept (sym c.fills.ensures ∙ c.if-not-fills.false) in
+    let m : In c.args.end.now.free i = free_of_may c.args.inst.now c.args.cycle c.args.mode c.args.set.now c.args.side nothing_yet c.args.end.now c.args.other.now end i may in
+    let fit : (has c.args.other.now i ≡ false) × HasRoom c.args.inst.now (c.args.cycle - c.args.sum) (union c.args.end.now.tasks c.args.other.now) i =
+    room_from_may c.args.inst.now c.args.cycle c.args.mode c.args.set.now c.args.side nothing_yet c.args.end.now c.args.other.now end i c.args.sum c.requires.sum may in
+    let inside : IsReady c.args.inst.now c.args.side c.args.set.now c.args.end.now.tasks i = (end.ready.is i).0 m in
+    let met : In c.meet-candidates.result i = subst (λ (b : List Bool). In b i) (sym c.meet-candidates.ensures.value) (In-meet c.args.end.now.free c.args.short.now i m (c.requires.short i inside.within fit.1.time)) in
+    c.loop-task.invariant.none i m (c.in_default.ensures.none.0 refl i met) may

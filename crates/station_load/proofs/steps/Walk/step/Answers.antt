@@ -57,7 +57,7 @@ returns-then-advance-2-clause-walk c =
     let same : c.load-last.result ≡ stand (the_view c.self.inside) = same_pair c.load-last.result.front c.self.inside.front.tasks c.load-last.result.back c.self.inside.back.tasks
     (c.load-last.ensures.front ∙ sym (ap (λ (w : Walking). w.front.tasks) c.self.view_is)) (c.load-last.ensures.back ∙ sym (ap (λ (w : Walking). w.back.tasks) c.self.view_is)) in
     let n : IsNext c.args.inst.now c.self.inside.cycle c.self.inside.mode c.self.inside.set c.load-last.result (record { front = c.advance-2.new.end.tasks; back = c.advance.new.end.tasks }) = c.if-advance-2.ensures.joined refl in
-    let new : Walking = record { cycle = c.self.inside.cycle; mode = c.self.inside.mode; set = c.self.inside.set; last = Some (record { front = c.advance-2.new.end.tasks; back = c.advance.new.end.tasks }); ended = c.self.inside.ended; sum = c.advance-2.new.sum; front = c.advance-2.new.end; back = c.advance.new.end } in
+    let new : Walking = record { cycle = c.self.inside.cycle; mode = c.self.inside.mode; set = c.self.inside.set; last = Some (record { front = c.advance-2.new.end.tasks; back = c.advance.new.end.tasks }); ended = c.self.inside.ended; sum = c.advance-2.new.sum; front = c.advance-2.new.end; back = c.advance.new.end; shorts = c.count_load.new.shorts } in
     let P : Load → Type 0 = λ l. IsLoad c.args.inst.now c.self.inside.cycle c.self.inside.mode c.self.inside.set l in
     record {
       set = is.set;
@@ -65,6 +65,7 @@ returns-then-advance-2-clause-walk c =
       sum = c.advance-2.ensures.sum;
       stands = each_side (λ (s : Side). (end_of s new).tasks ≡ part s (record { front = c.advance-2.new.end.tasks; back = c.advance.new.end.tasks })) refl refl;
       ready = λ o. each_side (λ (s : Side). fills c.self.inside.mode s ≡ true → IsEnd c.args.inst.now s c.self.inside.set (end_of s new)) c.advance-2.ensures.kept c.advance.ensures.kept;
+      short = c.count_load.ensures;
       over = λ o. absurd (false≢true (sym c.if-self.false ∙ o));
     }
 
@@ -92,6 +93,8 @@ returns-clause-walk c =
       sum = c.self.inside.sum;
       front = record { tasks = f; free = c.advance-2.new.end.free; places = c.advance-2.new.end.places };
       back = record { tasks = b; free = c.advance.new.end.free; places = c.advance.new.end.places };
+      shorts = c.count_load.new.shorts;
+      loads = c.count_load.new.loads;
     })) in
     let P : List Bool → Type 0 = λ f. G f c.load-last.result.back in
     let new : Walking = record {
@@ -103,12 +106,14 @@ returns-clause-walk c =
       sum = c.self.inside.sum;
       front = record { tasks = c.self.inside.front.tasks; free = c.advance-2.new.end.free; places = c.advance-2.new.end.places };
       back = record { tasks = c.self.inside.back.tasks; free = c.advance.new.end.free; places = c.advance.new.end.places };
+      shorts = c.count_load.new.shorts;
     } in
     subst P (sym (ap (λ (l : Load). l.front) same)) (subst (G c.self.inside.front.tasks) (sym (ap (λ (l : Load). l.back) same)) (record {
       set = is.set;
       load = is.load;
       sum = is.sum;
       stands = each_side (λ (s : Side). (end_of s new).tasks ≡ part s (last_load (the_view c.self.inside).last)) (is.stands Front) (is.stands Back);
+      short = c.count_load.ensures;
       ready = λ o. absurd (true≢false o);
       over = λ o. ends c.args.inst.now c.tasks-tasks.ensures.line c.tasks-tasks.ensures.ranked (the_view c.self.inside) is c.load-last.result same (record { front = c.advance-2.new.end.tasks; back = c.advance.new.end.tasks }) (c.if-advance-2.ensures.passed refl);
     }))
