@@ -7,7 +7,7 @@ use Rattle.line_rules.specs.declared.types.Entry.{Entry}
 
 -- the key of a set: so many bits of a hash of its words. Sets that differ may have one key.
 unfoldable pub key_of : List Bool → ℕ
-key_of set = folding.finish (fold folding.write folding.initial (fed.slice fed.u64 (words_of set))) % 8388608
+key_of set = folding.finish (fold folding.write folding.initial (fed.slice fed.u64 (words_of set))) % 1048576
 
 -- p is the last place below n of an entry with the key k
 pub record IsLastPlace (es : List Entry) (k n p : ℕ) : Type 0 where

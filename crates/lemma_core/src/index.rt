@@ -14,9 +14,9 @@ use std::collections::HashMap;
 use std::hash::{FoldHasher, Hash, Hasher};
 use task_set::TaskSet;
 
-/// How many keys there are: so many that sets seldom share one, and so few that at 2,000,000 entries the map's table is half as large as with
-/// a key for each set.
-const KEYS: u64 = 8_388_608;
+/// How many keys there are: so few that at 2,000,000 entries, where two share a key on average, an entry with its share of the index takes
+/// about 200 bytes, and so many that sets of a smaller book seldom share one.
+const KEYS: u64 = 1_048_576;
 
 // Where entries with a set are: for each key of sets the last entry with that key, and for each entry the last one before it
 // that has its key. The first entry with a key leads to itself.

@@ -4,4 +4,4 @@ use Rattle.lemma_core.proofs.index.key.Goals as goal
 
 pub returns : goal.returns
 unfolding key_of
-returns c = ap (λ (n : ℕ). n % 8388608) c.hash_of.ensures
+returns c = ap (λ (n : ℕ). n % 1048576) c.hash_of.ensures
