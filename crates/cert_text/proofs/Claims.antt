@@ -9,23 +9,23 @@ use Rattle.line_rules.specs.declared.types.Ask.{Ask}
 use Rattle.line_rules.specs.declared.types.Ask.TheVariants as ask
 use Rattle.line_rules.specs.declared.types.Claim.{Claim}
 use Rattle.line_rules.specs.declared.types.Claim.TheVariants as claim
-use Rattle.cert_text.specs.Rows.{fixed, keyed, row_text}
+use Rattle.cert_lines.specs.Rows.{fixed, keyed, row_text}
 use Rattle.cert_text.specs.Cert.{claim_rows, cert_rows}
-use Rattle.cert_text.specs.Faults.{Grammar}
-use Rattle.cert_text.specs.Judging.{one, then_, IsRead}
-use Rattle.cert_text.specs.Patterns.{opening_row, IsOpening}
+use Rattle.cert_lines.specs.Faults.{Grammar}
+use Rattle.cert_lines.specs.Judging.{one, then_, IsRead}
+use Rattle.cert_lines.specs.Patterns.{opening_row, IsOpening}
 use Rattle.cert_text.specs.Parts.{IsHeadOf, heads, lists, IsPlacedOf, placings, IsOpened, behind_rows, opened, claims, certs}
-use Rattle.cert_text.specs.declared.patterns.Opening.{Opening}
-use Rattle.cert_text.specs.declared.patterns.Opening.TheVariants as opening
+use Rattle.cert_lines.specs.declared.patterns.Opening.{Opening}
+use Rattle.cert_lines.specs.declared.patterns.Opening.TheVariants as opening
 use Rattle.cert_text.specs.declared.reading.Head.{Head}
 use Rattle.cert_text.specs.declared.reading.EntryList.{EntryList}
 use Rattle.cert_text.specs.declared.reading.Placed.{Placed}
-use Rattle.cert_text.proofs.CiteWords.{sat}
-use Rattle.cert_text.proofs.Judged.{small_is, keyed_value, keyed_other}
-use Rattle.cert_text.proofs.OtherLines.{keyed_again}
+use Rattle.cert_lines.proofs.CiteWords.{sat}
+use Rattle.cert_lines.proofs.Judged.{small_is, keyed_value, keyed_other}
+use Rattle.cert_lines.proofs.OtherLines.{keyed_again}
 use Rattle.cert_text.proofs.Sequencing.{unique_then, Unique, unique_one, Same, same_read, same_error, both_read, second_error}
-use Rattle.cert_text.specs.declared.fault.ReadError.{ReadError}
-use Rattle.cert_text.specs.declared.fault.ReadError.TheVariants as errors
+use Rattle.cert_lines.specs.declared.fault.ReadError.{ReadError}
+use Rattle.cert_lines.specs.declared.fault.ReadError.TheVariants as errors
 use Rattle.cert_text.proofs.Wholes.{unique_same, unique_placings, unique_lists, unique_heads, some_behind, placing_said, within}
 
 -- the end

@@ -24,23 +24,24 @@ use Rattle.line_rules.specs.declared.types.Ask.TheVariants as ask
 use Rattle.line_rules.specs.declared.types.Claim.{Claim}
 use Rattle.line_rules.specs.declared.types.Claim.TheVariants as claim
 use Rattle.line_rules.specs.declared.types.Certificate.{Certificate}
-use Rattle.cert_text.specs.Numbers.{number_text, set_text, cites_text, mode_letter, last_text}
-use Rattle.cert_text.specs.Rows.{Row, fixed, keyed, seat, bound, branch, swap, trail, frame, spaced, row_text, line_text, rows_text, lines_text}
-use Rattle.cert_text.specs.Cert.{kind_row, ask_row, seat_row, why_row, entry_row, frame_row, trail_rows, list_rows, claim_rows, cert_rows, cert_text}
-use Rattle.cert_text.specs.Faults.{IsLine, Next, IsLineFault, IsEndFault, IsFault}
+use Rattle.cert_lines.specs.Numbers.{number_text, set_text, cites_text, mode_letter, last_text}
+use Rattle.cert_lines.specs.Rows.{Row, fixed, keyed, seat, bound, branch, swap, trail, frame, spaced, row_text, line_text, rows_text, lines_text}
+use Rattle.cert_lines.specs.ValueRows.{kind_row, ask_row, seat_row, why_row, entry_row, frame_row}
+use Rattle.cert_text.specs.Cert.{trail_rows, list_rows, claim_rows, cert_rows, cert_text}
+use Rattle.cert_lines.specs.Faults.{IsLine, Next, IsLineFault, IsEndFault, IsFault}
 use Rattle.cert_text.specs.Parts.{certs}
 use Rattle.cert_text.specs.Answers.{IsTrailing, IsCertFault, IsCertRead, IsEnded}
-use Rattle.cert_text.specs.Judging.{IsRead}
+use Rattle.cert_lines.specs.Judging.{IsRead}
 use Rattle.cert_text.specs.Laws.{NoTextBeginsAnother}
-use Rattle.cert_text.specs.declared.fault.ReadError.{ReadError}
-use Rattle.cert_text.specs.declared.fault.ReadError.TheVariants as errors
+use Rattle.cert_lines.specs.declared.fault.ReadError.{ReadError}
+use Rattle.cert_lines.specs.declared.fault.ReadError.TheVariants as errors
 use Rattle.cert_text.specs.declared.reader.CertRead.{CertRead}
 use Rattle.cert_text.specs.declared.reader.CertRead.TheVariants.{Good, Fault, NoMemory}
-use Rattle.cert_text.specs.Reading.{parts_at}
-use Rattle.cert_text.specs.declared.fault.CertFault.{CertFault}
-use Rattle.cert_text.proofs.NumberWords.{both, left, right, lacks, high_lacks, number_high, split_again}
-use Rattle.cert_text.proofs.SetText.{set_high}
-use Rattle.cert_text.proofs.Composing.{rows_lines}
+use Rattle.cert_lines.specs.Reading.{parts_at}
+use Rattle.cert_lines.specs.declared.fault.CertFault.{CertFault}
+use Rattle.cert_lines.proofs.NumberWords.{both, left, right, lacks, high_lacks, number_high, split_again}
+use Rattle.cert_lines.proofs.SetText.{set_high}
+use Rattle.cert_lines.proofs.Composing.{rows_lines}
 use Rattle.cert_text.proofs.Sequencing.{texts}
 use Rattle.cert_text.proofs.Claims.{unique_certs}
 

@@ -3,18 +3,18 @@ use Rattle.std.proofs.Common.{◌≡◌, ℕ, suc, ◌+◌, ◌-◌, ◌<◌, �
 use Rattle.std.proofs.lemmas.List.{take-append-drop, drop_at, length-take-le}
 use Rattle.line_rules.specs.declared.types.Entry.{Entry}
 use Rattle.line_rules.specs.declared.types.Trail.{Trail}
-use Rattle.cert_text.specs.Rows.{rows_text}
+use Rattle.cert_lines.specs.Rows.{rows_text}
 use Rattle.cert_text.specs.Cert.{list_rows}
 use Rattle.cert_text.specs.Parts.{lists}
-use Rattle.cert_text.specs.Judging.{IsRead}
-use Rattle.cert_text.specs.Faults.{IsFault}
+use Rattle.cert_lines.specs.Judging.{IsRead}
+use Rattle.cert_lines.specs.Faults.{IsFault}
 use Rattle.cert_text.specs.Answers.{IsListGood, IsListRead, IsListed}
 use Rattle.cert_text.specs.declared.reading.EntryList.{EntryList}
 use Rattle.cert_text.specs.declared.reader.ListRead.{ListRead}
 use Rattle.cert_text.specs.declared.reader.ListRead.TheVariants as answers
-use Rattle.cert_text.specs.declared.fault.CertFault.{CertFault}
-use Rattle.cert_text.specs.declared.fault.ReadError.{ReadError}
-use Rattle.cert_text.specs.declared.fault.ReadError.TheVariants as errors
+use Rattle.cert_lines.specs.declared.fault.CertFault.{CertFault}
+use Rattle.cert_lines.specs.declared.fault.ReadError.{ReadError}
+use Rattle.cert_lines.specs.declared.fault.ReadError.TheVariants as errors
 
 goes_on : (bytes rows left : List ℕ) (from next : ℕ) → from ≤ length bytes → drop from bytes ≡ rows ++ left → next ≡ length bytes - length left → (next ≤ length bytes) × (drop from bytes ≡ rows ++ drop next bytes)
 goes_on bytes rows left from next h e n =

@@ -21,22 +21,23 @@ use Rattle.line_rules.specs.declared.types.OpenFrame.{OpenFrame}
 use Rattle.line_rules.specs.declared.types.Trail.{Trail}
 use Rattle.line_rules.specs.declared.types.Ask.{Ask}
 use Rattle.line_rules.specs.declared.types.Ask.TheVariants as ask
-use Rattle.cert_text.specs.Rows.{fixed, keyed, trail, entry, form_of, row_text}
-use Rattle.cert_text.specs.Cert.{kind_row, ask_row, seat_row, why_row, entry_row, frame_row, trail_rows}
-use Rattle.cert_text.specs.Reading.{greatest}
-use Rattle.cert_text.specs.LineReading.{keyed_in, seat_in, trail_in, entry_in, frame_in}
-use Rattle.cert_text.specs.Faults.{Grammar}
-use Rattle.cert_text.specs.Judging.{one, AreSaid, each, then_, IsRead}
-use Rattle.cert_text.specs.Patterns.{IsHead, IsSaid, given_row, entry_of, frame_of}
+use Rattle.cert_lines.specs.Rows.{fixed, keyed, trail, entry, form_of, row_text}
+use Rattle.cert_lines.specs.ValueRows.{kind_row, ask_row, seat_row, why_row, entry_row, frame_row}
+use Rattle.cert_text.specs.Cert.{trail_rows}
+use Rattle.cert_lines.specs.Reading.{greatest}
+use Rattle.cert_lines.specs.LineReading.{keyed_in, seat_in, trail_in, entry_in, frame_in}
+use Rattle.cert_lines.specs.Faults.{Grammar}
+use Rattle.cert_lines.specs.Judging.{one, AreSaid, each, then_, IsRead}
+use Rattle.cert_lines.specs.Patterns.{IsHead, IsSaid, given_row, entry_of, frame_of}
 use Rattle.cert_text.specs.Parts.{IsPlacedOf, heads, trails, lists, placings}
-use Rattle.cert_text.proofs.NumberWords.{lacks}
-use Rattle.cert_text.proofs.SetText.{clip, clip_same}
-use Rattle.cert_text.proofs.CiteWords.{sat}
-use Rattle.cert_text.proofs.Judged.{small_is, keyed_value, keyed_other}
-use Rattle.cert_text.proofs.JudgedEntry.{small_cites, some_frame}
-use Rattle.cert_text.proofs.OtherLines.{keyed_again, trail_again, sat_trail, seat_again, side_read}
-use Rattle.cert_text.proofs.EntryLines.{draft_of, entry_again}
-use Rattle.cert_text.proofs.FrameLines.{load_read, last_read, the_frame, frame_again}
+use Rattle.cert_lines.proofs.NumberWords.{lacks}
+use Rattle.cert_lines.proofs.SetText.{clip, clip_same}
+use Rattle.cert_lines.proofs.CiteWords.{sat}
+use Rattle.cert_lines.proofs.Judged.{small_is, keyed_value, keyed_other}
+use Rattle.cert_lines.proofs.JudgedEntry.{small_cites, some_frame}
+use Rattle.cert_lines.proofs.OtherLines.{keyed_again, trail_again, sat_trail, seat_again, side_read}
+use Rattle.cert_lines.proofs.EntryLines.{draft_of, entry_again}
+use Rattle.cert_lines.proofs.FrameLines.{load_read, last_read, the_frame, frame_again}
 use Rattle.cert_text.proofs.Sequencing.{Unique, unique_one, unique_each, unique_then, texts, Same, same_read}
 
 -- a number within a range

@@ -3,11 +3,11 @@ use Rattle.std.specs.Prelude.{◌≡◌, ◌⊎◌, ℕ, suc, ◌<◌, ◌≤◌
 use Rattle.line_rules.specs.Ranges.{IsInRange, AreEntries, IsTrailOrNone}
 use Rattle.line_rules.specs.declared.types.Certificate.{Certificate}
 use Rattle.cert_text.specs.Cert.{cert_rows, cert_text, list_rows}
-use Rattle.cert_text.specs.Faults.{IsFault}
+use Rattle.cert_lines.specs.Faults.{IsFault}
 use Rattle.cert_text.specs.Parts.{certs, lists as list_grammar}
-use Rattle.cert_text.specs.declared.fault.CertFault.{CertFault}
-use Rattle.cert_text.specs.declared.fault.CertKind.TheVariants.{Trailing}
-use Rattle.cert_text.specs.Rows.{rows_text}
+use Rattle.cert_lines.specs.declared.fault.CertFault.{CertFault}
+use Rattle.cert_lines.specs.declared.fault.CertKind.TheVariants.{Trailing}
+use Rattle.cert_lines.specs.Rows.{rows_text}
 use Rattle.line_rules.specs.declared.types.Entry.{Entry}
 use Rattle.line_rules.specs.declared.types.Trail.{Trail}
 use Rattle.cert_text.specs.declared.reading.EntryList.{EntryList}

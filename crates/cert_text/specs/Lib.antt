@@ -1,15 +1,6 @@
-pub mod Numbers
-pub mod Rows
 pub mod Cert
-pub mod Faults
 pub mod Sent
 pub mod Pieces
-pub mod Reading
-pub mod LineReading
-pub mod Taking
-pub mod Judging
-pub mod Answering
-pub mod Patterns
 pub mod Parts
 pub mod Answers
 pub mod Laws

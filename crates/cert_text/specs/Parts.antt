@@ -5,12 +5,13 @@ use Rattle.line_rules.specs.declared.types.LineKind.{LineKind}
 use Rattle.line_rules.specs.declared.types.Trail.{Trail}
 use Rattle.line_rules.specs.declared.types.Claim.{Claim}
 use Rattle.line_rules.specs.declared.types.Claim.TheVariants as claim
-use Rattle.cert_text.specs.declared.patterns.Opening.{Opening}
-use Rattle.cert_text.specs.declared.patterns.Opening.TheVariants as opening
+use Rattle.cert_lines.specs.declared.patterns.Opening.{Opening}
+use Rattle.cert_lines.specs.declared.patterns.Opening.TheVariants as opening
 use Rattle.line_rules.specs.declared.types.Certificate.{Certificate}
-use Rattle.cert_text.specs.Rows.{Row, fixed, keyed}
-use Rattle.cert_text.specs.Cert.{seat_row, head_rows, list_rows, trail_rows, claim_rows, cert_rows}
-use Rattle.cert_text.specs.Faults.{Grammar}
+use Rattle.cert_lines.specs.Rows.{Row, fixed, keyed}
+use Rattle.cert_lines.specs.ValueRows.{seat_row}
+use Rattle.cert_text.specs.Cert.{head_rows, list_rows, trail_rows, claim_rows, cert_rows}
+use Rattle.cert_lines.specs.Faults.{Grammar}
 use Rattle.cert_text.specs.declared.reading.Head.{Head}
 use Rattle.cert_text.specs.declared.reading.EntryList.{EntryList}
 use Rattle.cert_text.specs.declared.reading.Placed.{Placed}

@@ -2,14 +2,13 @@
 ghost use Rattle.std.specs.Prelude.{◌≡◌, ◌≢◌, ◌≤◌, length};
 ghost use Rattle.cert_text.specs.Answers.{IsCertRead, IsEnded, IsListRead, IsListed};
 ghost use Rattle.cert_text.specs.Cert.{cert_text};
-ghost use Rattle.cert_text.specs.declared.fault.CertFault.{CertFault};
+ghost use Rattle.cert_lines.specs.declared.fault.CertFault.{CertFault};
 ghost use Rattle.line_rules.specs.declared.types.Certificate.{Certificate};
 ghost use Rattle.line_rules.specs.Ranges.{IsInRange};
 
-use crate::fault::{CertFault, CertKind, ReadError};
 use crate::reading::{EntryList, read_all, read_entries};
 use crate::slice_lines::SliceLines;
-use crate::source::{Source, Taken};
+use cert_lines::{CertFault, CertKind, ReadError, Source, Taken};
 use line_rules::{Certificate, Entries, Trail};
 use std::alloc::Global;
 

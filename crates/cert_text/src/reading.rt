@@ -1,17 +1,16 @@
 //! The reading of a certificate's text, line by line.
 ghost use Rattle.std.specs.Prelude.{ℕ, ◌≤◌, IfOk, length};
-ghost use Rattle.cert_text.specs.Judging.{IsRead};
+ghost use Rattle.cert_lines.specs.Judging.{IsRead};
 ghost use Rattle.cert_text.specs.Parts.{IsHeadOf, IsPlacedOf, IsOpened, heads, trails, lists, placings, opened, claims, certs};
-ghost use Rattle.cert_text.specs.Patterns.{IsOpening};
+ghost use Rattle.cert_lines.specs.Patterns.{IsOpening};
 ghost use Rattle.line_rules.specs.Ranges.{AreEntries, IsTrailOrNone, IsCycle, IsClaim, IsInRange};
 
-use crate::fault::ReadError;
-use crate::pattern::{read_line, read_lines};
-use crate::patterns::{
+use cert_lines::pattern::{read_line, read_lines};
+use cert_lines::patterns::{
     AskLine, EndLine, EntryLine, FrameLine, Key, KindLine, MAX_CYCLE, NumberLine, Opening,
     OpeningLine, SeatLine, TrailLine, VersionLine,
 };
-use crate::source::Source;
+use cert_lines::{ReadError, Source};
 use line_rules::{Ask, Balance, Certificate, Claim, Entries, Frames, LineKind, Places, Trail};
 use std::alloc::Global;
 

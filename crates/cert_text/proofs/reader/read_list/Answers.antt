@@ -1,5 +1,5 @@
 use Rattle.std.proofs.Common.{◌≡◌, ◌∙◌, ◌-◌, take, drop, length, [], arith}
-use Rattle.cert_text.proofs.Parts.{to_end}
+use Rattle.cert_lines.proofs.Parts.{to_end}
 use Rattle.cert_text.proofs.ListAnswers.{list_answer, list_fault}
 use Rattle.cert_text.proofs.reader.read_list.Goals as goal
 

@@ -1,6 +1,6 @@
 use Rattle.std.proofs.Common.{[]}
 use Rattle.cert_text.specs.Parts.{heads, claims, certs}
-use Rattle.cert_text.specs.Judging.{then_}
+use Rattle.cert_lines.specs.Judging.{then_}
 use Rattle.cert_text.proofs.Failing.{ends, first, second, same, hand}
 use Rattle.cert_text.proofs.Sequencing.{both_read}
 use Rattle.cert_text.proofs.Wholes.{unique_heads}
