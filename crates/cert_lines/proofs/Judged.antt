@@ -18,7 +18,8 @@ use Rattle.cert_lines.specs.Reading.{greatest, parts_at}
 use Rattle.cert_lines.specs.LineReading.{keyed_in}
 use Rattle.cert_lines.specs.ValueRows.{ask_row, kind_row}
 use Rattle.cert_lines.specs.Judging.{HasFormOf, IsJudged}
-use Rattle.cert_lines.specs.Patterns.{key_text, opening_row, IsOpening}
+use Rattle.cert_lines.specs.Patterns.{key_text, version_row, opening_row, IsOpening}
+use Rattle.cert_lines.specs.declared.patterns.Version.TheVariants as versions
 use Rattle.cert_lines.specs.declared.patterns.Opening.{Opening}
 use Rattle.cert_lines.specs.declared.patterns.Opening.TheVariants as opening
 use Rattle.cert_lines.specs.declared.fault.LineError.{LineError}
@@ -80,7 +81,7 @@ number_range key low high line x l a b e n =
     ((low, (omega arith, a), keyed key f.0, refl, f.1), λ v r t. n (let P : ℕ → Type 0 = λ z. (low ≤ z) × (z ≤ high) in subst P (sym (keyed_value key line v x l t (omega (arith, r.1, b)) e)) r))
 
 -- fixed texts
-fixed_text : (t : List ℕ) → row_text (fixed t) ≡ t
+pub fixed_text : (t : List ℕ) → row_text (fixed t) ≡ t
 unfolding row_text
 fixed_text t = refl
 
@@ -109,8 +110,9 @@ pub kind_not : (line u w : List ℕ) → false ≡ bytes_eq line u → u ≡ cod
 kind_not line u w e s f t (Straight, h, r, a, b) = fixed_not line (codes "line straight") u r e s a b
 kind_not line u w e s f t (U, h, r, a, b) = fixed_not line (codes "line u") w r f t a b
 
-pub version_not : (line u : List ℕ) → false ≡ bytes_eq line u → u ≡ codes "line balance certificate 2" → HasFormOf {V = Unit {0}} (λ v. fixed (codes "line balance certificate 2")) (λ v. Unit {0}) line → ⊥
-version_not line u e s f = fixed_not line (codes "line balance certificate 2") u f.2 e s f.3 f.4
+pub version_not : (line u w : List ℕ) → false ≡ bytes_eq line u → u ≡ codes "line balance certificate 2" → false ≡ bytes_eq line w → w ≡ codes "line balance certificate 1" → HasFormOf version_row (λ v. Unit {0}) line → ⊥
+version_not line u w e s f t (versions.Two, h, r, a, b) = fixed_not line (codes "line balance certificate 2") u r e s a b
+version_not line u w e s f t (versions.One, h, r, a, b) = fixed_not line (codes "line balance certificate 1") w r f t a b
 
 -- questions
 pub ask_cycle : (line : List ℕ) (x : ℕ) → keyed_in (codes "cycle") line ≡ Some x → IsCycle x → row_text (ask_row (ask.Stations x)) ≡ line
@@ -197,6 +199,9 @@ key_lacks keys.Lower = refl
 key_lacks keys.Upper = refl
 key_lacks keys.Balance = refl
 key_lacks keys.Entries = refl
+key_lacks keys.Parts = refl
+key_lacks keys.Part = refl
+key_lacks keys.Trail = refl
 
 -- cites below a number
 pub cites_more : (count : ℕ) (cites : List ℕ) (k : ℕ) → k < length cites → get_or cites k 0 < count → AreCites count (take k cites) → AreCites count (take (k + 1) cites)

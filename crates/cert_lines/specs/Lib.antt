@@ -8,3 +8,5 @@ pub mod Taking
 pub mod Judging
 pub mod Answering
 pub mod Patterns
+pub mod OldRanges
+pub mod Lift

@@ -6,7 +6,7 @@ use Rattle.line_rules.specs.declared.types.Why.{Why}
 use Rattle.line_rules.specs.declared.types.Why.TheVariants as whys
 use Rattle.line_rules.specs.declared.types.Ask.{Ask}
 use Rattle.line_rules.specs.declared.types.Ask.TheVariants as ask
-use Rattle.cert_lines.specs.Rows.{Row, keyed}
+use Rattle.cert_lines.specs.Rows.{Row, fixed, keyed}
 use Rattle.cert_lines.specs.ValueRows.{why_row}
 use Rattle.cert_lines.specs.declared.draft.Draft.{Draft}
 use Rattle.cert_lines.specs.declared.draft.DraftWhy.{DraftWhy}
@@ -17,6 +17,8 @@ use Rattle.cert_lines.specs.declared.patterns.Key.{Key}
 use Rattle.cert_lines.specs.declared.patterns.Key.TheVariants as keys
 use Rattle.cert_lines.specs.declared.patterns.Opening.{Opening}
 use Rattle.cert_lines.specs.declared.patterns.Opening.TheVariants as opening
+use Rattle.cert_lines.specs.declared.patterns.Version.{Version}
+use Rattle.cert_lines.specs.declared.patterns.Version.TheVariants as version
 
 -- the word of a key
 abbrev pub key_text : Key → List ℕ
@@ -28,6 +30,14 @@ key_text keys.Lower = codes "lower"
 key_text keys.Upper = codes "upper"
 key_text keys.Balance = codes "balance"
 key_text keys.Entries = codes "entries"
+key_text keys.Parts = codes "parts"
+key_text keys.Part = codes "part"
+key_text keys.Trail = codes "trail"
+
+-- the first line of a version
+abbrev pub version_row : Version → Row
+version_row version.One = fixed (codes "line balance certificate 1")
+version_row version.Two = fixed (codes "line balance certificate 2")
 
 -- the line behind the question: a task, or a lower bound
 abbrev pub opening_row : Opening → Row

@@ -6,6 +6,7 @@ mod fault;
 pub mod pattern;
 pub mod patterns;
 mod source;
+pub mod version_one;
 pub mod words;
 
 pub use fault::{CertFault, CertKind, LineError, ReadError};

@@ -24,6 +24,9 @@ pub enum Key {
     Upper,
     Balance,
     Entries,
+    Parts,
+    Part,
+    Trail,
 }
 
 impl Key {
@@ -41,6 +44,9 @@ impl Key {
             Key::Upper => b"upper",
             Key::Balance => b"balance",
             Key::Entries => b"entries",
+            Key::Parts => b"parts",
+            Key::Part => b"part",
+            Key::Trail => b"trail",
         }
     }
 }
@@ -84,25 +90,36 @@ impl Pattern for NumberLine {
     }
 }
 
+/// The version of a certificate's text.
+#[derive(Clone, Copy, Debug, PartialEq, Eq)]
+pub enum Version {
+    /// Version 1, whose entries stand in parts.
+    One,
+    /// Version 2.
+    Two,
+}
+
 /// The first line.
 #[derive(Clone, Copy)]
 pub struct VersionLine;
 
 impl Pattern for VersionLine {
-    ghost use Rattle.std.specs.Prelude.{codes};
-    ghost use Rattle.cert_lines.specs.Rows.{fixed};
+    ghost use Rattle.cert_lines.specs.Patterns.{version_row};
 
-    type Value = ();
+    type Value = Version;
 
-    ghost line_of = { λ p v. fixed (codes "line balance certificate 2") };
+    ghost line_of = { λ p v. version_row v };
 
     ghost may_say = { λ p v. Unit {0} };
 
     ghost can_read = { λ p. Unit {0} };
 
-    fn read(&self, _alloc: Global, line: &[u8]) -> Result<(), LineError> {
+    fn read(&self, _alloc: Global, line: &[u8]) -> Result<Version, LineError> {
         if line == b"line balance certificate 2".as_slice() {
-            return Ok(());
+            return Ok(Version::Two);
+        }
+        if line == b"line balance certificate 1".as_slice() {
+            return Ok(Version::One);
         }
         Err(LineError::Form)
     }
