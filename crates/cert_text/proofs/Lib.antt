@@ -4,6 +4,10 @@ pub mod Sequencing
 pub mod Wholes
 pub mod Failing
 pub mod Claims
+pub mod OldWholes
+pub mod OldClaims
 pub mod TakenLines
 pub mod Decoding
+pub mod Lifted
+pub mod LiftRanges
 pub mod ListAnswers

@@ -3,7 +3,9 @@
 
 mod kept_text;
 pub mod laws;
+mod lifting;
 mod lines;
+mod old_reading;
 mod output;
 mod reader;
 mod reading;
