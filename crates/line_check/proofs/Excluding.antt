@@ -2,6 +2,7 @@
 use Rattle.std.proofs.Common.{◌≡◌, ℕ, ◌+◌, ◌-◌, ◌<◌, ◌≤◌, List, refl, sym, ap, ◌∙◌, subst, ◌⊎◌, inl, inr, arith, Option, Some, None}
 use Rattle.line_instance.specs.Line.{Line, IsLine, tasks}
 use Rattle.line_rules.specs.Accepted.{HasTrail, IsProof, IsAccepted, IsInfeasible, ClaimIsAccepted, ClaimIsInfeasible}
+use Rattle.line_rules.specs.Entries.{IsDerived}
 use Rattle.line_rules.specs.Units.{UnitsWhole}
 use Rattle.line_rules.specs.declared.types.LineKind.{LineKind}
 use Rattle.line_rules.specs.declared.types.Balance.{Balance as Assignment}
@@ -13,6 +14,9 @@ use Rattle.line_rules.specs.declared.types.Claim.{Claim}
 use Rattle.line_rules.specs.declared.types.Claim.TheVariants as claim
 use Rattle.line_rules.specs.declared.types.Certificate.{Certificate}
 use Rattle.line_check.specs.Certificates.{IsShown, BalanceFails, ProofFails, ProofEnds, TrailFails, TrailEnds, TaskFails, IsBoundsVerdict, IsClaimVerdict, IsVerdict, IsRejectedSo}
+use Rattle.line_check.specs.Verdicts.{IsTrailOrNothing, IsListRefused, IsListEnded, IsListChecked, IsListRejected}
+use Rattle.line_check.specs.declared.types.ListChecked.{ListChecked}
+use Rattle.line_check.specs.declared.types.ListChecked.TheVariants as checked
 use Rattle.line_check.specs.declared.types.FrameFault.{FrameFault}
 use Rattle.line_check.specs.declared.types.Place.{Place}
 use Rattle.line_check.specs.declared.types.Place.TheVariants as place
@@ -91,3 +95,34 @@ rejected_so line ok cert steps (verified.StepsEnded s) h = elim h [
   | inl w ↦ (λ l u x g. absurd (w.1 g.tasks), λ i g. w.1 g.tasks)
   | inr w ↦ (λ l u x g. claim_ended cert.kind line ok steps s cert.ask cert.claim w.1 l u x g.claim, λ i g. task_ended cert.kind line steps s cert.ask cert.claim w.1 i g.claim)
 ]
+
+-- the same of a list with a trail
+list_not : (kind : LineKind) (line : Line) (es : List Entry) (trail : Option Trail) (steps : ℕ) (p : Place) → IsListRefused kind line es trail steps p → IsDerived kind line es → IsTrailOrNothing kind line es trail → ⊥
+list_not kind line es trail steps (place.Tasks said real) h d t = h
+list_not kind line es trail steps (place.Infeasible task x) h d t = h
+list_not kind line es trail steps (place.Earlier task least) h d t = h
+list_not kind line es trail steps (place.Stations s) h d t = h
+list_not kind line es trail steps (place.Station i) h d t = h
+list_not kind line es trail steps (place.Side i) h d t = h
+list_not kind line es trail steps (place.Overfull s x) h d t = h
+list_not kind line es trail steps (place.Broken i j) h d t = h
+list_not kind line es trail steps (place.Together i j) h d t = h
+list_not kind line es trail steps (place.Entry entry why) h d t = refused_not kind line es steps entry why h d
+list_not kind line es trail steps place.Goal h d t = h
+list_not kind line es None steps (place.Frame frame why) h d t = h.2
+list_not kind line es (Some x) steps (place.Frame frame why) h d t = frame_not kind line x.cycle es x.frames (steps - h.0) frame why h.2 t
+
+list_spends : (kind : LineKind) (line : Line) (es : List Entry) (trail : Option Trail) (steps x : ℕ) → IsListEnded kind line es trail steps → UnitsWhole line es trail x → steps < x
+list_spends kind line es None steps x h u = elim h [
+  | inl w ↦ omega (arith, entries_more kind line es steps u.0 w u.2.0, u.2.2)
+  | inr w ↦ absurd w.2
+]
+list_spends kind line es (Some t) steps x h u = elim h [
+  | inl w ↦ omega (arith, entries_more kind line es steps u.0 w u.2.0, u.2.2)
+  | inr w ↦ omega (arith, one_sum line es w.0 u.0 w.1.1 u.2.0, w.1.2, frames_spend line t.cycle kind es t.frames (steps - w.0) u.1 w.2 u.2.1, u.2.2)
+]
+
+pub list_rejected : (kind : LineKind) (line : Line) (es : List Entry) (trail : Option Trail) (steps : ℕ) (v : ListChecked) → IsListChecked kind line es trail steps v → IsListRejected kind line es trail steps v
+list_rejected kind line es trail steps (checked.Right units) h = tt
+list_rejected kind line es trail steps (checked.Refused p) h = list_not kind line es trail steps p h
+list_rejected kind line es trail steps (checked.StepsEnded s) h = λ units u. list_spends kind line es trail steps units h.1 u

@@ -44,6 +44,9 @@ module _ (kind : LineKind) (line : Line) (c : ℕ) (R : List Bool) (some : IsEmp
   counted : count R ≢ 0
   counted e = elim (member_or_empty R) [ inl m ↦ absurd (count_some R e m.0 m.1) | inr h ↦ some h ]
 
+  pub at_least_one : 1 ≤ bound kind line c R
+  at_least_one = elim (member_or_empty R) [ inl m ↦ bound_some kind line c R m.0 m.1 | inr h ↦ absurd (some h) ]
+
   pub long_bound : 0 < long_ones line c R → bound kind line c R ≡ 1025
   unfolding bound
   long_bound l = let n : count R ≢ 0 = counted in grind (arith, nat_tests)
@@ -51,6 +54,13 @@ module _ (kind : LineKind) (line : Line) (c : ℕ) (R : List Bool) (some : IsEmp
   pub parts_bound : long_ones line c R ≡ 0 → bound kind line c R ≡ greatest_part kind line c R
   unfolding bound
   parts_bound l = let n : count R ≢ 0 = counted in grind (arith, nat_tests)
+
+  -- what is below each part that counts is below the bound
+  pub below_bound : (most : ℕ) → most < 1025 → (long_ones line c R ≡ 0 → most < greatest_part kind line c R) → most < bound kind line c R
+  below_bound most l h = elim (cases_eq (long_ones line c R) 0) [
+    | inl e ↦ omega (arith, h e, parts_bound e)
+    | inr n ↦ omega (arith, long_bound (omega arith))
+  ]
 
 -- where no time is too long, the bound is at most the number of tasks
 none_long : (c : ℕ) (p : ℕ → Bool) (ts : List ℕ) → count_where (λ t. nat_lt c t) p ts ≡ 0 → (i : ℕ) → i < length ts → p i ≡ true → get_or ts i 0 ≤ c
@@ -64,6 +74,16 @@ small_bound kind line c R ok ranked set o z =
     let alone : (place : ℕ → Seatplace) × IsBalance kind line c R (tasks line) place × ((i j : ℕ) → In R i → In R j → (place i).station ≡ (place j).station → i ≡ j) =
     stands_alone kind line c R ok ranked set (λ i m. none_long c (has R) line.times z i (set.tasks i m) m) in
     bound_le kind line c o R (tasks line) alone.0 alone.1
+
+-- no bound is more than 1,025
+pub most_bound : (kind : LineKind) (line : Line) (c : ℕ) (R : List Bool) → IsLine line → IsRanked line → IsTaskSet line R → 1 ≤ c → bound kind line c R ≤ 1025
+most_bound kind line c R ok ranked set o = elim (cases_eq (long_ones line c R) 0) [
+  | inl e ↦ omega (arith, small_bound kind line c R ok ranked set o e, ok.small)
+  | inr n ↦ elim (member_or_empty R) [
+    | inl m ↦ omega (arith, long_bound kind line c R (λ h. h m.0 m.1) (omega arith))
+    | inr h ↦ omega (arith, empty_bound kind line c R h)
+  ]
+]
 
 -- the parts of the bound from the total time and from the counts
 pub time_part : (line : Line) (c : ℕ) (R : List Bool) (time stations : ℕ) → 1 ≤ c → time ≡ sum_where (has R) line.times → stations ≡ div_ceil time c → stations ≡ lm1 line c R

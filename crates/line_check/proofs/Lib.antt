@@ -1,9 +1,12 @@
-pub mod Turns
 pub mod Answered
 pub mod Picked
 pub mod Shares
 pub mod Around
 pub mod Fits
+pub mod Marks
+pub mod Climbs
+pub mod Stepping
+pub mod Leaving
 pub mod Walking
 pub mod Exact
 pub mod Entering

@@ -1,5 +1,5 @@
 -- What is refused isn't accepted: the balance, and the frames of a trail.
-use Rattle.std.proofs.Common.{◌≡◌, ℕ, zero, suc, ◌+◌, ◌-◌, ◌<◌, ◌≤◌, Bool, true, false, nat_eq, List, [], ◌∷◌, ◌++◌, length, take, refl, sym, ap, ◌∙◌, subst, ◌⊎◌, inl, inr, arith, Option, Some, None}
+use Rattle.std.proofs.Common.{◌≡◌, ℕ, zero, suc, ◌+◌, ◌-◌, ◌<◌, ◌≤◌, Bool, true, false, nat_eq, List, [], ◌∷◌, ◌++◌, length, take, refl, sym, ap, ◌∙◌, subst, ◌⊎◌, inl, inr, arith, Option, Some, None, ◌↔◌, not, is_some, IsTrue, IsNone, IfSome}
 use Rattle.std.specs.Prelude.{slice_get}
 use Rattle.std.proofs.lemmas.Bool.{eq-eqb, ne_eqb}
 use Rattle.line_instance.specs.Line.{Line, IsLine, tasks}
@@ -50,6 +50,14 @@ balance_not kind line ok a upper b (place.Together i j) h s =
 balance_not kind line ok a upper b (place.Entry entry why) h s = h
 balance_not kind line ok a upper b place.Goal h s = h
 balance_not kind line ok a upper b (place.Frame frame why) h s = h
+
+-- it shows it where no fault is found
+pub shown_where : (kind : LineKind) (line : Line) → IsLine line → (a : Ask) (upper : ℕ) (b : Assignment) (o : Option Place) → (IsNone o → IsShown kind line a upper b) → IfSome o (BalanceFails kind line a upper b)
+    → (r : Bool) → is_some o ≡ not r → IsTrue r ↔ IsShown kind line a upper b
+shown_where kind line ok a upper b None f g true e = (λ t. f refl, λ s. refl)
+shown_where kind line ok a upper b None f g false e = absurd (cc)
+shown_where kind line ok a upper b (Some p) f g true e = absurd (cc)
+shown_where kind line ok a upper b (Some p) f g false e = (λ t. absurd (cc), λ s. absurd (balance_not kind line ok a upper b p g s))
 
 one_frame : (x y : OpenFrame) → Some x ≡ Some y → x ≡ y
 one_frame x y e = cc

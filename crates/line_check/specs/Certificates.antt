@@ -19,11 +19,12 @@ use Rattle.line_rules.specs.declared.types.Ask.TheVariants as ask
 use Rattle.line_rules.specs.declared.types.Claim.{Claim}
 use Rattle.line_rules.specs.declared.types.Claim.TheVariants as claim
 use Rattle.line_rules.specs.declared.types.Certificate.{Certificate}
-use Rattle.line_check.specs.Lists.{IsRefusedAt, AreStepsEnded}
+use Rattle.line_check.specs.Lists.{IsRefusedAt, AreStepsEnded, AreFound}
 use Rattle.line_check.specs.Frames.{IsFrameRefused, AreFramesEnded}
 use Rattle.line_check.specs.Verdicts.{AreDone}
 use Rattle.line_check.specs.declared.types.FrameFault.{FrameFault}
 use Rattle.line_check.specs.declared.types.FrameFault.TheVariants as fault
+use Rattle.line_check.specs.declared.types.ListFound.{ListFound}
 use Rattle.line_check.specs.declared.types.Place.{Place}
 use Rattle.line_check.specs.declared.types.Place.TheVariants as place
 use Rattle.line_check.specs.declared.types.Verified.{Verified}
@@ -99,6 +100,23 @@ IsBoundsVerdict kind line a lower upper b es trail steps (verified.Refused place
     BalanceFails kind line a upper b place ⊎ (IsShown kind line a upper b × ProofFails kind line a lower upper es trail steps place)
 IsBoundsVerdict kind line a lower upper b es trail steps (verified.StepsEnded s) =
     (s ≡ steps) × IsShown kind line a upper b × ProofEnds kind line a lower upper es trail steps
+
+-- the check comes to the entries of a claim, where its balance shows the upper bound
+abbrev pub ClaimNeeds : LineKind → Line → Ask → Claim → Type 0
+ClaimNeeds kind line a (claim.TooLong task) = ⊥
+ClaimNeeds kind line a (claim.Bounds l u b es trail) = IsShown kind line a u b
+
+-- the check comes to the entries of a certificate
+abbrev pub NeedsEntries : Line → Certificate → Type 0
+NeedsEntries line cert = (cert.tasks ≡ tasks line) × ClaimNeeds cert.kind line cert.ask cert.claim
+
+-- what is found of the entries of a claim, and of a certificate
+abbrev pub ClaimFound : LineKind → Line → Claim → ℕ → ListFound → Type 0
+ClaimFound kind line (claim.TooLong task) steps found = Unit {0}
+ClaimFound kind line (claim.Bounds l u b es trail) steps found = AreFound kind line es steps found
+
+abbrev pub AreFoundOf : Line → Certificate → ℕ → ListFound → Type 0
+AreFoundOf line cert steps found = ClaimFound cert.kind line cert.claim steps found
 
 -- the task that is said to be too long isn't, or isn't the first that is
 abbrev pub TaskFails : Line → ℕ → ℕ → Place → Type 0

@@ -7,8 +7,8 @@ use Rattle.line_rules.specs.declared.types.LineKind.{LineKind}
 use Rattle.line_rules.specs.declared.types.Entry.{Entry}
 use Rattle.line_check.specs.Faults.{Fails, Ends}
 use Rattle.line_check.specs.declared.types.EntryFault.{EntryFault}
-use Rattle.line_check.specs.declared.types.EntriesFound.{EntriesFound}
-use Rattle.line_check.specs.declared.types.EntriesFound.TheVariants as found
+use Rattle.line_check.specs.declared.types.ListFound.{ListFound}
+use Rattle.line_check.specs.declared.types.ListFound.TheVariants as found
 
 -- the entries below k follow, each from those before it, and have so many units
 pub record AreRightBelow (kind : LineKind) (line : Line) (es : List Entry) (k units : ℕ) : Type 0 where
@@ -36,7 +36,7 @@ pub record AreStepsEnded (kind : LineKind) (line : Line) (es : List Entry) (step
   pub ends : Ends kind line (take at es) entry (steps - units)
 
 -- what is found of a list of entries
-abbrev pub AreFound : LineKind → Line → List Entry → ℕ → EntriesFound → Type 0
+abbrev pub AreFound : LineKind → Line → List Entry → ℕ → ListFound → Type 0
 AreFound kind line es steps (found.Right units) = IsDerived kind line es × UnitsOf line es units × (units ≤ steps)
 AreFound kind line es steps (found.Refused entry why) = IsRefusedAt kind line es steps entry why
 AreFound kind line es steps found.StepsEnded = AreStepsEnded kind line es steps

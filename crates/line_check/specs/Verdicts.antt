@@ -58,3 +58,9 @@ abbrev pub IsListChecked : LineKind → Line → List Entry → Option Trail →
 IsListChecked kind line es trail steps (checked.Right units) = IsDerived kind line es × IsTrailOrNothing kind line es trail × UnitsWhole line es trail units × (units ≤ steps)
 IsListChecked kind line es trail steps (checked.Refused place) = IsListRefused kind line es trail steps place
 IsListChecked kind line es trail steps (checked.StepsEnded s) = (s ≡ steps) × IsListEnded kind line es trail steps
+
+-- What isn't right: a list that is refused isn't derived with a valid trail, and where the steps ended it has more units.
+abbrev pub IsListRejected : LineKind → Line → List Entry → Option Trail → ℕ → ListChecked → Type 0
+IsListRejected kind line es trail steps (checked.Right units) = Unit {0}
+IsListRejected kind line es trail steps (checked.Refused place) = IsDerived kind line es → IsTrailOrNothing kind line es trail → ⊥
+IsListRejected kind line es trail steps (checked.StepsEnded s) = (units : ℕ) → UnitsWhole line es trail units → steps < units

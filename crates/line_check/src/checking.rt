@@ -4,13 +4,14 @@ ghost use Rattle.line_instance.specs.Line.{tasks};
 ghost use Rattle.line_rules.specs.Accepted.{Refutes, MayBegin, upper_stations, upper_cycle};
 ghost use Rattle.line_rules.specs.Entries.{Answers, HasAnswer};
 ghost use Rattle.line_rules.specs.Ranges.{IsInRange, IsCycle, IsPlacing, AreBounds, AreEntries, IsTrailLike, IsTrailOrNone};
-ghost use Rattle.line_check.specs.Certificates.{IsShown, BalanceFails, IsAllowed, IsBoundsVerdict, IsTaskVerdict, IsVerdict, IsAcceptedSo, IsRejectedSo, IsTrueOf};
-ghost use Rattle.line_check.specs.Verdicts.{IsListChecked};
+ghost use Rattle.line_check.specs.Certificates.{IsShown, BalanceFails, IsAllowed, IsBoundsVerdict, IsTaskVerdict, IsVerdict, IsAcceptedSo, IsRejectedSo, IsTrueOf, NeedsEntries, AreFoundOf};
+ghost use Rattle.line_check.specs.Verdicts.{IsListChecked, IsListRejected};
+ghost use Rattle.line_check.specs.Lists.{AreFound};
 
 use crate::entries::is_same;
 use crate::frames::check_frames;
 use crate::lists::check_entries;
-use crate::types::{EntriesFound, FrameFault, FramesFound, ListChecked, Place, Verified};
+use crate::types::{ListFound, FrameFault, FramesFound, ListChecked, Place, Verified};
 use line_instance::Instance;
 use line_rules::{
     Ask, Balance, BalanceCheck, Certificate, Claim, Entries, Entry, LineKind, Trail, check_balance,
@@ -28,14 +29,51 @@ pub fn verify_list(
 ) -> ListChecked
     requires entries { AreEntries (tasks inst.now) entries.now }
     requires trail { IsTrailOrNone (tasks inst.now) (length entries.now) trail.now }
+    ensures found { IsListChecked kind inst.now entries.now trail.now steps result }
+    ensures rejected { IsListRejected kind inst.now entries.now trail.now steps result }
+{
+    let found = check_entries(inst, kind, entries, steps);
+    verify_list_found(inst, kind, entries, trail, steps, found)
+}
+
+/// The same, where the entries were checked before, as by [`check_entry`](crate::check_entry) side by side: `found` is what the check of the
+/// entries in their order, with so many steps, finds.
+pub fn verify_list_found(
+    inst: &Instance,
+    kind: LineKind,
+    entries: &Entries,
+    trail: &Option<Trail>,
+    steps: u64,
+    found: ListFound,
+) -> ListChecked
+    requires trail { IsTrailOrNone (tasks inst.now) (length entries.now) trail.now }
+    requires found { AreFound kind inst.now entries.now steps found }
+    ensures found { IsListChecked kind inst.now entries.now trail.now steps result }
+    ensures rejected { IsListRejected kind inst.now entries.now trail.now steps result }
+{
+    let _tasks = inst.tasks();
+    judge_list(inst, kind, entries, trail, steps, found)
+}
+
+/// What is found of a list and a trail.
+fn judge_list(
+    inst: &Instance,
+    kind: LineKind,
+    entries: &Entries,
+    trail: &Option<Trail>,
+    steps: u64,
+    found: ListFound,
+) -> ListChecked
+    requires trail { IsTrailOrNone (tasks inst.now) (length entries.now) trail.now }
+    requires found { AreFound kind inst.now entries.now steps found }
     ensures { IsListChecked kind inst.now entries.now trail.now steps result }
 {
-    let units = match check_entries(inst, kind, entries, steps) {
-        EntriesFound::Right { units } => units,
-        EntriesFound::Refused { entry, why } => {
+    let units = match found {
+        ListFound::Right { units } => units,
+        ListFound::Refused { entry, why } => {
             return ListChecked::Refused(Place::Entry { entry, why });
         }
-        EntriesFound::StepsEnded => return ListChecked::StepsEnded(steps),
+        ListFound::StepsEnded => return ListChecked::StepsEnded(steps),
     };
     match trail {
         None => ListChecked::Right { units },
@@ -154,6 +192,16 @@ fn balance_fault(
     }
 }
 
+/// Whether the balance of a certificate shows the upper bound.
+fn is_shown(inst: &Instance, kind: LineKind, ask: Ask, upper: u64, balance: &Balance) -> bool
+    requires range { IsPlacing kind (tasks inst.now) balance.now }
+    ensures { IsTrue result ↔ IsShown kind inst.now ask upper balance.now }
+{
+    let _tasks = inst.tasks();
+    let fault = balance_fault(inst, kind, ask, upper, balance);
+    fault.is_none()
+}
+
 /// Checks the claim that a task is too long.
 fn check_task(inst: &Instance, cycle: u64, task: u32) -> Verified
     requires { task < tasks inst.now }
@@ -171,7 +219,7 @@ fn check_task(inst: &Instance, cycle: u64, task: u32) -> Verified
     Verified::TooLong(task)
 }
 
-/// Checks the claim of bounds.
+/// Checks the claim of bounds, where the entries were checked before.
 fn check_bounds(
     inst: &Instance,
     kind: LineKind,
@@ -182,19 +230,21 @@ fn check_bounds(
     entries: &Entries,
     trail: &Option<Trail>,
     steps: u64,
+    found: ListFound,
 ) -> Verified
     requires range { AreBounds kind (tasks inst.now) lower upper balance.now entries.now trail.now }
+    requires found { IsShown kind inst.now ask upper balance.now → AreFound kind inst.now entries.now steps found }
     ensures { IsBoundsVerdict kind inst.now ask lower upper balance.now entries.now trail.now steps result }
 {
     if let Some(place) = balance_fault(inst, kind, ask, upper, balance) {
         return Verified::Refused(place);
     }
-    let units = match check_entries(inst, kind, entries, steps) {
-        EntriesFound::Right { units } => units,
-        EntriesFound::Refused { entry, why } => {
+    let units = match found {
+        ListFound::Right { units } => units,
+        ListFound::Refused { entry, why } => {
             return Verified::Refused(Place::Entry { entry, why });
         }
-        EntriesFound::StepsEnded => return Verified::StepsEnded(steps),
+        ListFound::StepsEnded => return Verified::StepsEnded(steps),
     };
     if lower > 1 && !refutes_below(inst, entries, ask, lower) {
         return Verified::Refused(Place::Goal);
@@ -228,8 +278,9 @@ fn check_bounds(
 }
 
 /// What is found of a certificate.
-fn judge(inst: &Instance, cert: &Certificate, steps: u64) -> Verified
+fn judge(inst: &Instance, cert: &Certificate, steps: u64, found: ListFound) -> Verified
     requires range { IsInRange cert.now }
+    requires found { NeedsEntries inst.now cert.now → AreFoundOf inst.now cert.now steps found }
     ensures { IsVerdict inst.now cert.now steps result }
 {
     let tasks = inst.tasks();
@@ -251,8 +302,40 @@ fn judge(inst: &Instance, cert: &Certificate, steps: u64) -> Verified
             entries,
             trail,
         } => check_bounds(
-            inst, cert.kind, cert.ask, *lower, *upper, balance, entries, trail, steps,
+            inst, cert.kind, cert.ask, *lower, *upper, balance, entries, trail, steps, found,
         ),
+    }
+}
+
+/// Whether the check of a certificate comes to its entries: it is of as many tasks as the line has, and claims bounds of which its balance
+/// shows the upper one.
+pub fn needs_entries(inst: &Instance, cert: &Certificate) -> bool
+    requires range { IsInRange cert.now }
+    ensures { IsTrue result ↔ NeedsEntries inst.now cert.now }
+{
+    let tasks = inst.tasks();
+    if cert.tasks != tasks {
+        return false;
+    }
+    match &cert.claim {
+        Claim::TooLong { .. } => false,
+        Claim::Bounds { upper, balance, .. } => {
+            is_shown(inst, cert.kind, cert.ask, *upper, balance)
+        }
+    }
+}
+
+/// What is found of the entries of a certificate, where the check comes to them.
+fn entries_found(inst: &Instance, cert: &Certificate, steps: u64) -> ListFound
+    requires range { IsInRange cert.now }
+    ensures { NeedsEntries inst.now cert.now → AreFoundOf inst.now cert.now steps result }
+{
+    if !needs_entries(inst, cert) {
+        return ListFound::StepsEnded;
+    }
+    match &cert.claim {
+        Claim::TooLong { .. } => ListFound::StepsEnded,
+        Claim::Bounds { entries, .. } => check_entries(inst, cert.kind, entries, steps),
     }
 }
 
@@ -267,6 +350,21 @@ pub fn verify(inst: &Instance, cert: &Certificate, steps: u64) -> Verified
     ensures rejected { IsRejectedSo inst.now cert.now steps result }
     ensures true_bounds { IsTrueOf inst.now cert.now result }
 {
+    verify_found(inst, cert, steps, entries_found(inst, cert, steps))
+}
+
+/// The same, where the entries were checked before, as by [`check_entry`](crate::check_entry) side by side: `found` is what the check of the
+/// entries in their order, with so many steps, finds. Where [`needs_entries`] is false, it may be anything.
+pub fn verify_found(inst: &Instance, cert: &Certificate, steps: u64, found: ListFound) -> Verified
+    requires range { IsInRange cert.now }
+    requires some { 1 ≤ steps }
+    requires few { steps ≤ 20000000 }
+    requires found { NeedsEntries inst.now cert.now → AreFoundOf inst.now cert.now steps found }
+    ensures verdict { IsVerdict inst.now cert.now steps result }
+    ensures accepted { IsAcceptedSo inst.now cert.now steps result }
+    ensures rejected { IsRejectedSo inst.now cert.now steps result }
+    ensures true_bounds { IsTrueOf inst.now cert.now result }
+{
     let _tasks = inst.tasks();
-    judge(inst, cert, steps)
+    judge(inst, cert, steps, found)
 }

@@ -10,9 +10,11 @@ ghost use Rattle.line_rules.specs.declared.types.LineKind.{LineKind as Kind};
 ghost use Rattle.line_check.specs.Faults.{IsFound, IsChecked};
 ghost use Rattle.line_check.specs.Swaps.{StandsFor, IsSwapped};
 
-use crate::bounds::bound;
+use crate::bounds::{bound, exceeds};
+use crate::questions::{Question, room};
+use crate::sizes::times_in;
 use crate::types::{EntryChecked, EntryFault, Found, Walked};
-use crate::walks::{Question, first_late, walk_all};
+use crate::walks::{first_late, walk_all};
 use line_instance::Instance;
 use line_rules::{Cites, Entries, Entry, LineKind, Mode, Why};
 use task_set::TaskSet;
@@ -89,12 +91,12 @@ fn check_bound(inst: &Instance, kind: LineKind, entry: &Entry) -> Found
     requires way { entry.now.why ≡ why.Bound }
     ensures { (earlier : List Step) (steps : ℕ) → IsFound kind inst.now earlier entry.now steps result }
 {
-    let stations = bound(inst, kind, entry.cycle, &entry.set);
-    if stations > entry.most {
+    let times = times_in(inst, &entry.set);
+    if exceeds(inst, kind, entry.cycle, &entry.set, times, entry.most) {
         return Found::Right { units: 0 };
     }
     Found::Fails {
-        why: EntryFault::Bound(stations),
+        why: EntryFault::Bound(bound(inst, kind, entry.cycle, &entry.set)),
         units: 0,
     }
 }
@@ -140,6 +142,8 @@ fn check_branch(
         most: entry.most,
         cycle: entry.cycle,
         mode,
+        times: times_in(inst, &entry.set),
+        room: room(entry.most, entry.cycle),
     };
     match walk_all(inst, &question, entries, k, cites, steps) {
         Walked::Right { units } => Found::Right { units },
@@ -186,8 +190,9 @@ fn check_swap(
     }
 }
 
-/// Checks an entry after the first `k` entries of a list.
-pub(crate) fn check_entry(
+/// Checks an entry after the first `k` entries of a list: whether it follows from them, or the first thing that is wrong with it, with the
+/// number of loads that were walked; or that more than `steps` loads had to be walked. Takes no memory.
+pub fn check_entry(
     inst: &Instance,
     kind: LineKind,
     entries: &Entries,

@@ -7,10 +7,12 @@ ghost use Rattle.line_check.specs.Frames.{IsLeftBy, IsAskedAt, EndsWell, IsReady
 ghost use Rattle.line_check.specs.Walks.{AreBelow, Tells};
 
 use crate::entries::{belongs, is_same};
-use crate::loads::is_full;
+use crate::full::is_full_load;
 use crate::pairs::is_load;
+use crate::questions::{Question, rest, room};
+use crate::sizes::times_in;
 use crate::types::{FrameFault, FrameFound, FramesFound, Walked};
-use crate::walks::{Question, ended, first_late, rest, walk_to};
+use crate::walks::{ended, first_late, walk_to};
 use line_instance::Instance;
 use line_rules::{Entries, Frames, LineKind, OpenFrame, Trail};
 
@@ -59,7 +61,7 @@ fn ends_well(inst: &Instance, cycle: u64, frame: &OpenFrame, deepest: bool) -> b
             if deepest {
                 return true;
             }
-            is_full(inst, cycle, &frame.set, frame.mode, load)
+            is_full_load(inst, cycle, &frame.set, frame.mode, load)
         }
     }
 }
@@ -89,6 +91,8 @@ fn walk_frame(
                 most: frame.most,
                 cycle,
                 mode: frame.mode,
+                times: times_in(inst, &frame.set),
+                room: room(frame.most, cycle),
             };
             walk_to(inst, &question, entries, &frame.cites, end, deepest, steps)
         }

@@ -2,20 +2,25 @@
 #![tactic(auto)]
 
 mod bounds;
+mod chains;
 mod checking;
+mod ends;
 mod entries;
 mod frames;
+mod full;
 mod lists;
 mod loads;
 mod pairs;
+mod questions;
 #[cfg(test)]
 mod ranges;
 mod sides;
+mod sizes;
 #[cfg(test)]
 mod tests;
 mod types;
 mod walks;
 
-pub use checking::{verify, verify_list};
-pub use entries::verify_entry;
-pub use types::{EntryChecked, EntryFault, FrameFault, ListChecked, Place, Verified};
+pub use checking::{needs_entries, verify, verify_found, verify_list, verify_list_found};
+pub use entries::{check_entry, verify_entry};
+pub use types::{EntryChecked, EntryFault, Found, FrameFault, ListChecked, ListFound, Place, Verified};

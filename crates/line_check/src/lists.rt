@@ -4,7 +4,7 @@ ghost use Rattle.line_rules.specs.Ranges.{AreEntries};
 ghost use Rattle.line_check.specs.Lists.{AreFound};
 
 use crate::entries::check_entry;
-use crate::types::{EntriesFound, Found};
+use crate::types::{ListFound, Found};
 use line_instance::Instance;
 use line_rules::{Entries, LineKind};
 
@@ -14,7 +14,7 @@ pub(crate) fn check_entries(
     kind: LineKind,
     entries: &Entries,
     steps: u64,
-) -> EntriesFound
+) -> ListFound
     requires range { AreEntries (tasks inst.now) entries.now }
     ensures { AreFound kind inst.now entries.now steps result }
 {
@@ -23,13 +23,13 @@ pub(crate) fn check_entries(
         match check_entry(inst, kind, entries, k, entries.at(k), steps - units) {
             Found::Right { units: more } => units += more,
             Found::Fails { why, .. } => {
-                return EntriesFound::Refused {
+                return ListFound::Refused {
                     entry: k as u64,
                     why,
                 };
             }
-            Found::StepsEnded => return EntriesFound::StepsEnded,
+            Found::StepsEnded => return ListFound::StepsEnded,
         }
     }
-    EntriesFound::Right { units }
+    ListFound::Right { units }
 }

@@ -6,20 +6,10 @@ ghost use Rattle.line_rules.specs.Loads.{IsLoad, taken};
 ghost use Rattle.line_rules.specs.Ranges.{IsLoadLike};
 ghost use Rattle.line_check.specs.Pairs.{IsClosedAt};
 
-use crate::entries::{is_met, is_same};
+use crate::entries::is_met;
 use line_instance::Instance;
 use line_rules::{Load, Mode};
 use task_set::TaskSet;
-
-/// Whether two loads are the same.
-pub(crate) fn is_same_load(load: &Load, other: &Load) -> bool
-    ensures { IsTrue result ↔ load.now ≡ other.now }
-{
-    if !is_same(&load.front, &other.front) {
-        return false;
-    }
-    is_same(&load.back, &other.back)
-}
 
 /// Whether a task, where it is present, leaves nothing out of a side that its row and the set have in common.
 fn keeps(present: bool, set: &TaskSet, row: &TaskSet, side: &TaskSet) -> bool

@@ -1,8 +1,8 @@
 //! The two sides of a load, front and back, by one code.
-ghost use Rattle.std.specs.Prelude.{◌≡◌, ◌<◌, ◌↔◌, ℕ, true, false};
-ghost use Rattle.task_set.specs.Truths.{In};
-ghost use Rattle.line_instance.specs.Line.{tasks, has};
-ghost use Rattle.line_rules.specs.Sides.{Ahead, part, changed, nothing_yet, fills, task_at};
+ghost use Rattle.std.specs.Prelude.{◌≡◌, ◌<◌, ◌↔◌, ℕ, IsNone, IfSome};
+ghost use Rattle.task_set.specs.Truths.{In, IsEmpty};
+ghost use Rattle.line_instance.specs.Line.{IsTaskSet, tasks};
+ghost use Rattle.line_rules.specs.Sides.{Ahead, part, fills, task_at};
 
 use line_instance::Instance;
 use line_rules::{Load, Mode, Side};
@@ -31,6 +31,19 @@ pub(crate) fn ahead(inst: &Instance, side: Side, task: u32) -> &TaskSet
     }
 }
 
+/// The tasks that wait for the task at the side: in front those after it, at the back those before it.
+#[inline]
+pub(crate) fn waiting(inst: &Instance, side: Side, task: u32) -> &TaskSet
+    requires { task < tasks inst.now }
+    ensures members { (j : ℕ) → In result.now j ↔ Ahead inst.now side task j }
+    ensures set { IsTaskSet inst.now result.now }
+{
+    match side {
+        Side::Front => inst.after(task),
+        Side::Back => inst.before(task),
+    }
+}
+
 /// The task at a place of the side: the places of the front go by rank, those of the back from the last rank on.
 #[inline]
 pub(crate) fn task_at(inst: &Instance, side: Side, place: u32) -> u32
@@ -44,51 +57,32 @@ pub(crate) fn task_at(inst: &Instance, side: Side, place: u32) -> u32
     }
 }
 
-/// A pair with no task at either side.
+/// The place of a task at the side, below the number of tasks.
 #[inline]
-pub(crate) fn nothing() -> Load
-    ensures { result ≡ nothing_yet }
+pub(crate) fn place_of(inst: &Instance, side: Side, task: u32) -> u32
+    requires { task < tasks inst.now }
+    ensures task { task_at inst.now side result ≡ task }
+    ensures within { result < tasks inst.now }
 {
-    Load {
-        front: TaskSet::empty(),
-        back: TaskSet::empty(),
+    match side {
+        Side::Front => inst.rank_of(task),
+        Side::Back => inst.tasks() - 1 - inst.rank_of(task),
     }
 }
 
-/// Whether the task stands at the side.
+/// The member of a set that is first looked at for the side: the least in front, the greatest at the back. Where tasks are numbered along their
+/// precedences, nothing else of the set is ahead of it.
 #[inline]
-pub(crate) fn stands(load: &Load, side: Side, task: u32) -> bool
-    requires { task < 1024 }
-    ensures { result ≡ has (part side load.now) task }
+pub(crate) fn nearest(set: &TaskSet, side: Side) -> Option<u32>
+    ensures none { IsNone result → IsEmpty set.now }
+    ensures some { IfSome result (λ i. In set.now i) }
+    ensures below { IfSome result (λ i. i < 1024) }
 {
+    let _most = set.capacity();
     match side {
-        Side::Front => load.front.has(task),
-        Side::Back => load.back.has(task),
+        Side::Front => set.least(),
+        Side::Back => set.greatest_below(1024),
     }
-}
-
-/// Puts the task at the side.
-#[inline]
-pub(crate) fn put(load: &mut Load, side: Side, task: u32)
-    requires { task < 1024 }
-    ensures { load.new ≡ changed side load.old task true }
-{
-    match side {
-        Side::Front => load.front.insert(task),
-        Side::Back => load.back.insert(task),
-    };
-}
-
-/// Takes the task from the side.
-#[inline]
-pub(crate) fn take(load: &mut Load, side: Side, task: u32)
-    requires { task < 1024 }
-    ensures { load.new ≡ changed side load.old task false }
-{
-    match side {
-        Side::Front => load.front.remove(task),
-        Side::Back => load.back.remove(task),
-    };
 }
 
 /// The tasks at the side.

@@ -58,14 +58,25 @@ pub enum EntryChecked {
 /// What the check of one entry finds, with the fault.
 #[derive(Clone, Copy)]
 pub enum Found {
-    Right { units: u64 },
-    Fails { why: EntryFault, units: u64 },
+    /// The entry follows.
+    Right {
+        /// The loads walked.
+        units: u64,
+    },
+    /// The entry doesn't follow.
+    Fails {
+        /// The first thing that is wrong with it.
+        why: EntryFault,
+        /// The loads walked up to the failure.
+        units: u64,
+    },
+    /// More loads than the steps had to be walked.
     StepsEnded,
 }
 
 /// What a walk over loads that takes cites finds.
 #[derive(Clone, Copy)]
-pub enum Walked {
+pub(crate) enum Walked {
     Right { units: u64 },
     Uncovered { load: Load, units: u64 },
     Spare { units: u64 },
@@ -77,11 +88,26 @@ pub enum Walked {
 #[derive(Clone, Copy)]
 pub enum Place {
     /// The certificate is of another number of tasks than the line has.
-    Tasks { said: u32, real: u32 },
-    /// The task that is said to be too long isn't longer than the cycle: its time.
-    Infeasible { task: u32, time: u64 },
-    /// The task that is said to be too long isn't the first: the least one.
-    Earlier { task: u32, least: u32 },
+    Tasks {
+        /// The certificate's number.
+        said: u32,
+        /// The line's.
+        real: u32,
+    },
+    /// The task that is said to be too long isn't longer than the cycle.
+    Infeasible {
+        /// The task.
+        task: u32,
+        /// Its time.
+        time: u64,
+    },
+    /// The task that is said to be too long isn't the first one.
+    Earlier {
+        /// The task.
+        task: u32,
+        /// The first task that is longer than the cycle.
+        least: u32,
+    },
     /// The balance isn't in as many stations as its bound says: as many as it has.
     Stations(u32),
     /// The least task whose station isn't one of the line's.
@@ -95,24 +121,45 @@ pub enum Place {
     /// The least pair of tasks that are apart and at one station.
     Together(u32, u32),
     /// An entry, and what is wrong with it.
-    Entry { entry: u64, why: EntryFault },
+    Entry {
+        /// The number of the entry.
+        entry: u64,
+        /// The first thing that is wrong with it.
+        why: EntryFault,
+    },
     /// No entry shows the lower bound.
     Goal,
     /// A frame of the trail, and what is wrong with it.
-    Frame { frame: u32, why: FrameFault },
+    Frame {
+        /// The number of the frame.
+        frame: u32,
+        /// The first thing that is wrong with it.
+        why: FrameFault,
+    },
 }
 
 /// What the check of a list of entries finds.
 #[derive(Clone, Copy)]
-pub enum EntriesFound {
-    Right { units: u64 },
-    Refused { entry: u64, why: EntryFault },
+pub enum ListFound {
+    /// Each entry follows.
+    Right {
+        /// The loads walked.
+        units: u64,
+    },
+    /// The first entry that doesn't follow.
+    Refused {
+        /// Its number.
+        entry: u64,
+        /// The first thing that is wrong with it.
+        why: EntryFault,
+    },
+    /// More loads than the steps had to be walked, before an entry was refused.
     StepsEnded,
 }
 
 /// What the check of one frame finds.
 #[derive(Clone, Copy)]
-pub enum FrameFound {
+pub(crate) enum FrameFound {
     Right { units: u64 },
     Fails { why: FrameFault, units: u64 },
     StepsEnded,
@@ -120,7 +167,7 @@ pub enum FrameFound {
 
 /// What the check of the frames of a trail finds.
 #[derive(Clone, Copy)]
-pub enum FramesFound {
+pub(crate) enum FramesFound {
     Right { units: u64 },
     Refused { frame: u32, why: FrameFault },
     StepsEnded,

@@ -1,30 +1,23 @@
 //! The walk over the loads of a set, which takes a cite for each load that needs one.
-ghost use Rattle.std.specs.Prelude.{◌≡◌, ℕ, ◌-◌, ◌<◌, ◌≤◌, ◌↔◌, length, take, slice_get, Some, IsTrue, IsNone, IfSome};
-ghost use Rattle.line_instance.specs.Line.{IsTaskSet};
+ghost use Rattle.std.specs.Prelude.{◌≡◌, ℕ, ◌-◌, ◌<◌, ◌≤◌, ◌↔◌, length, take, slice_get, Some, IsTrue, IsNone, IfSome, true, false};
 ghost use Rattle.line_rules.specs.Loads.{IsLoad, rest};
+ghost use Rattle.line_rules.specs.Bounds.{bound};
 ghost use Rattle.line_rules.specs.Entries.{IsOpen, Cites as Refutes};
-ghost use Rattle.line_rules.specs.Ranges.{IsCycle};
 ghost use Rattle.line_check.specs.Walks.{IsFirstLate, AreBelow, Tells};
 ghost use Rattle.line_check.specs.Steps.{IsLacking, Takes};
 ghost use Rattle.line_check.specs.Reaches.{TellsTo, HasEnded};
+ghost use Rattle.line_check.specs.Posed.{IsPosed};
+ghost use Rattle.line_check.specs.Standing.{IsWalk, stand};
 
-use crate::bounds::bound;
-use crate::loads::{is_full, next};
-use crate::pairs::is_same_load;
+use crate::bounds::{TOO_LONG, exceeds};
+use crate::entries::is_same;
+use crate::loads::Walk;
+use crate::questions::{Question, rest};
+use crate::sizes::Times;
 use crate::types::Walked;
 use line_instance::Instance;
-use line_rules::{Cites, Entries, LineKind, Load, Mode};
+use line_rules::{Cites, Entries, Load};
 use task_set::TaskSet;
-
-/// Whether a set has a balance in `most` stations at a cycle, on a line of that kind, of which an end station is filled in that mode.
-#[derive(Clone, Copy)]
-pub(crate) struct Question {
-    pub(crate) kind: LineKind,
-    pub(crate) set: TaskSet,
-    pub(crate) most: u32,
-    pub(crate) cycle: u64,
-    pub(crate) mode: Mode,
-}
 
 /// The first cite that isn't below `k`.
 pub(crate) fn first_late(cites: &Cites, k: u64) -> Option<u64>
@@ -40,25 +33,59 @@ pub(crate) fn first_late(cites: &Cites, k: u64) -> Option<u64>
     None
 }
 
-/// The tasks of a set that a load leaves.
-pub(crate) fn rest(set: &TaskSet, load: &Load) -> TaskSet
-    ensures rest { result ≡ rest set.now load.now }
-    ensures truths { length result ≡ 1024 }
+/// Whether the total time of the rest of the load alone shows that the bound of the rest is at least as many stations as are asked for.
+#[inline]
+fn is_closed_by_time(inst: &Instance, q: &Question, walk: &Walk) -> bool
+    requires posed { IsPosed inst.now q.now }
+    requires walk { IsWalk inst.now q.now.cycle q.now.mode q.now.set walk.now }
+    requires given { walk.now.given ≡ true }
+    ensures closed { IsTrue result → q.now.most ≤ bound q.now.kind inst.now q.now.cycle (rest q.now.set (stand walk.now)) }
+    ensures some { result ≡ false → 1 ≤ q.now.most }
 {
-    set.minus(&load.front.union(&load.back))
-}
-
-/// Whether a load is full and the bound leaves its rest open, so that it needs a cite.
-fn is_open(inst: &Instance, q: &Question, load: &Load) -> bool
-    requires set { IsTaskSet inst.now q.now.set }
-    requires cycle { IsCycle q.now.cycle }
-    requires load { IsLoad inst.now q.now.cycle q.now.mode q.now.set load.now }
-    ensures { IsTrue result ↔ IsOpen q.now.kind inst.now q.now.cycle q.now.mode q.now.set q.now.most load.now }
-{
-    if !is_full(inst, q.cycle, &q.set, q.mode, load) {
+    let _tasks = inst.tasks();
+    if q.most == 0 {
+        return true;
+    }
+    if q.most > TOO_LONG {
         return false;
     }
-    bound(inst, q.kind, q.cycle, &rest(&q.set, load)) < q.most
+    if u128::from(q.times.total - walk.sum) <= q.room {
+        return false;
+    }
+    true
+}
+
+/// Whether the bound of the rest of the load is at least as many stations as are asked for.
+fn is_closed(inst: &Instance, q: &Question, walk: &Walk) -> bool
+    requires posed { IsPosed inst.now q.now }
+    requires walk { IsWalk inst.now q.now.cycle q.now.mode q.now.set walk.now }
+    requires given { walk.now.given ≡ true }
+    requires some { 1 ≤ q.now.most }
+    ensures { IsTrue result ↔ q.now.most ≤ bound q.now.kind inst.now q.now.cycle (rest q.now.set (stand walk.now)) }
+{
+    let _tasks = inst.tasks();
+    let times = Times {
+        total: q.times.total - walk.sum,
+        longest: q.times.longest,
+    };
+    let left = rest(&q.set, &walk.load());
+    exceeds(inst, q.kind, q.cycle, &left, times, q.most - 1)
+}
+
+/// Whether the load is full and the bound leaves its rest open, so that it needs a cite.
+fn is_open(inst: &Instance, q: &Question, walk: &Walk) -> bool
+    requires posed { IsPosed inst.now q.now }
+    requires walk { IsWalk inst.now q.now.cycle q.now.mode q.now.set walk.now }
+    requires given { walk.now.given ≡ true }
+    ensures { IsTrue result ↔ IsOpen q.now.kind inst.now q.now.cycle q.now.mode q.now.set q.now.most (stand walk.now) }
+{
+    if is_closed_by_time(inst, q, walk) {
+        return false;
+    }
+    if !walk.is_full(inst, q) {
+        return false;
+    }
+    !is_closed(inst, q, walk)
 }
 
 /// Whether the entry `cite`, one of the first `k`, refutes a set in `most` stations at a cycle.
@@ -86,25 +113,25 @@ fn taken_with(
     k: usize,
     cites: &Cites,
     taken: usize,
-    load: &Load,
+    walk: &Walk,
 ) -> Option<usize>
-    requires set { IsTaskSet inst.now q.now.set }
-    requires cycle { IsCycle q.now.cycle }
+    requires posed { IsPosed inst.now q.now }
     requires k { k ≤ length entries.now }
     requires cites { AreBelow cites.now k }
     requires taken { taken ≤ length cites.now }
-    requires load { IsLoad inst.now q.now.cycle q.now.mode q.now.set load.now }
-    ensures open { IsNone result → IsOpen q.now.kind inst.now q.now.cycle q.now.mode q.now.set q.now.most load.now }
-    ensures lacking { IsNone result → IsLacking q.now.kind inst.now q.now.cycle q.now.mode q.now.set q.now.most (take k entries.now) cites.now load.now taken }
-    ensures some { IfSome result (Takes q.now.kind inst.now q.now.cycle q.now.mode q.now.set q.now.most (take k entries.now) cites.now load.now taken) }
+    requires walk { IsWalk inst.now q.now.cycle q.now.mode q.now.set walk.now }
+    requires given { walk.now.given ≡ true }
+    ensures open { IsNone result → IsOpen q.now.kind inst.now q.now.cycle q.now.mode q.now.set q.now.most (stand walk.now) }
+    ensures lacking { IsNone result → IsLacking q.now.kind inst.now q.now.cycle q.now.mode q.now.set q.now.most (take k entries.now) cites.now (stand walk.now) taken }
+    ensures some { IfSome result (Takes q.now.kind inst.now q.now.cycle q.now.mode q.now.set q.now.most (take k entries.now) cites.now (stand walk.now) taken) }
 {
-    if !is_open(inst, q, load) {
+    if !is_open(inst, q, walk) {
         return Some(taken);
     }
     if taken >= cites.len() {
         return None;
     }
-    let left = rest(&q.set, load);
+    let left = rest(&q.set, &walk.load());
     if !refutes(entries, k, *cites.at(taken), &left, q.most - 1, q.cycle) {
         return None;
     }
@@ -121,7 +148,7 @@ pub(crate) fn ended(cites: &Cites, taken: usize, units: u64) -> Walked
     Walked::Right { units }
 }
 
-/// Walks over all loads of a set, and takes a cite for each that needs one.
+/// Walks over all loads of a question's set, and takes a cite for each that needs one.
 pub(crate) fn walk_all(
     inst: &Instance,
     q: &Question,
@@ -130,36 +157,48 @@ pub(crate) fn walk_all(
     cites: &Cites,
     steps: u64,
 ) -> Walked
-    requires set { IsTaskSet inst.now q.now.set }
-    requires cycle { IsCycle q.now.cycle }
+    requires posed { IsPosed inst.now q.now }
     requires k { k ≤ length entries.now }
     requires cites { AreBelow cites.now k }
     ensures { Tells inst.now (IsLoad inst.now q.now.cycle q.now.mode q.now.set) (IsOpen q.now.kind inst.now q.now.cycle q.now.mode q.now.set q.now.most) (take k entries.now) q.now.set q.now.most q.now.cycle cites.now steps result }
 {
     let _tasks = inst.tasks();
-    let mut last: Option<Load> = None;
+    let mut walk = Walk::begin(inst, q);
     let mut units: u64 = 0;
     let mut taken: usize = 0;
-    'walk: loop {
-        match next(inst, q.cycle, &q.set, q.mode, &last) {
-            None => return ended(cites, taken, units),
-            Some(load) => {
-                if units >= steps {
-                    return Walked::StepsEnded;
-                }
-                units += 1;
-                match taken_with(inst, q, entries, k, cites, taken, &load) {
-                    None => return Walked::Uncovered { load, units },
-                    Some(more) => taken = more,
-                }
-                last = Some(load);
+    'loads: loop {
+        if !walk.step(inst, q) {
+            return ended(cites, taken, units);
+        }
+        if units >= steps {
+            return Walked::StepsEnded;
+        }
+        units += 1;
+        match taken_with(inst, q, entries, k, cites, taken, &walk) {
+            None => {
+                return Walked::Uncovered {
+                    load: walk.load(),
+                    units,
+                };
             }
+            Some(more) => taken = more,
         }
     }
 }
 
-/// Walks over the loads of a set up to and including `end`, and takes a cite for each that needs one: of the deepest frame of a trail for
-/// the end too, and above it for those before the end alone.
+/// Whether the walk has come to a load.
+#[inline]
+fn is_at(walk: &Walk, load: &Load) -> bool
+    ensures { IsTrue result ↔ stand walk.now ≡ load.now }
+{
+    if !is_same(&walk.front.tasks, &load.front) {
+        return false;
+    }
+    is_same(&walk.back.tasks, &load.back)
+}
+
+/// Walks over the loads of a question's set up to and including `end`, and takes a cite for each that needs one: of the deepest frame of a
+/// trail for the end too, and above it for those before the end alone.
 pub(crate) fn walk_to(
     inst: &Instance,
     q: &Question,
@@ -169,37 +208,38 @@ pub(crate) fn walk_to(
     deepest: bool,
     steps: u64,
 ) -> Walked
-    requires set { IsTaskSet inst.now q.now.set }
-    requires cycle { IsCycle q.now.cycle }
+    requires posed { IsPosed inst.now q.now }
     requires cites { AreBelow cites.now (length entries.now) }
     requires end { IsLoad inst.now q.now.cycle q.now.mode q.now.set end.now }
     ensures { TellsTo q.now.kind inst.now q.now.cycle q.now.mode q.now.set q.now.most entries.now cites.now end.now deepest steps result }
 {
     let _tasks = inst.tasks();
-    let mut last: Option<Load> = None;
+    let mut walk = Walk::begin(inst, q);
     let mut units: u64 = 0;
     let mut taken: usize = 0;
-    'walk: loop {
-        match next(inst, q.cycle, &q.set, q.mode, &last) {
-            None => return Walked::Right { units },
-            Some(load) => {
-                if units >= steps {
-                    return Walked::StepsEnded;
-                }
-                units += 1;
-                let ends = is_same_load(&load, end);
-                if ends && !deepest {
-                    return ended(cites, taken, units);
-                }
-                match taken_with(inst, q, entries, entries.len(), cites, taken, &load) {
-                    None => return Walked::Uncovered { load, units },
-                    Some(more) => taken = more,
-                }
-                if ends {
-                    return ended(cites, taken, units);
-                }
-                last = Some(load);
+    'loads: loop {
+        if !walk.step(inst, q) {
+            return Walked::Right { units };
+        }
+        if steps <= units {
+            return Walked::StepsEnded;
+        }
+        units += 1;
+        let ends = is_at(&walk, end);
+        if ends && !deepest {
+            return ended(cites, taken, units);
+        }
+        match taken_with(inst, q, entries, entries.len(), cites, taken, &walk) {
+            None => {
+                return Walked::Uncovered {
+                    load: walk.load(),
+                    units,
+                };
             }
+            Some(more) => taken = more,
+        }
+        if ends {
+            return ended(cites, taken, units);
         }
     }
 }

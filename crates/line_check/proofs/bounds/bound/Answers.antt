@@ -14,7 +14,7 @@ returns-then-counts-gt0 c =
 value : (c : goal.After-max) → c.max.result ≡ bound c.args.kind c.args.inst.now c.args.cycle c.args.set.now
 value c =
     let k = c.counts_of-counts.ensures in
-    let time = time_part c.args.inst.now c.args.cycle c.args.set.now c.sum.result c.div_ceil.result c.requires.some c.sum.ensures.sum c.div_ceil.ensures in
+    let time = time_part c.args.inst.now c.args.cycle c.args.set.now c.times_in-times.result.total c.div_ceil.result c.requires.some c.times_in-times.ensures.total c.div_ceil.ensures in
     let counts = count_parts c.args.inst.now c.args.cycle c.args.set.now c.counts_of-counts.result.above_half c.counts_of-counts.result.at_half c.counts_of-counts.result.sixths c.stations.result k.above_half k.at_half k.sixths c.stations.ensures.value in
     let parts = parts_bound c.args.kind c.args.inst.now c.args.cycle c.args.set.now (λ h. false≢true (sym c.if-is_empty.false ∙ c.is_empty.ensures.1 h)) (omega (arith, c.if-counts-gt0.false, k.too_long)) in
     omega (arith, time, counts, parts, c.max-least.ensures, c.longest_chain.ensures, c.max.ensures)
