@@ -14,3 +14,5 @@ pub mod Judging
 pub mod Rejecting
 pub mod Spending
 pub mod Excluding
+pub mod Lifting
+pub mod LiftedParts

@@ -5,6 +5,7 @@ mod bounds;
 mod checking;
 mod entries;
 mod frames;
+pub mod laws;
 mod lists;
 mod loads;
 mod pairs;
