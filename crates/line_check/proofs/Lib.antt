@@ -17,3 +17,5 @@ pub mod Judging
 pub mod Rejecting
 pub mod Spending
 pub mod Excluding
+pub mod Lifting
+pub mod LiftedParts

@@ -12,3 +12,4 @@ pub mod Pairs
 pub mod Frames
 pub mod Verdicts
 pub mod Certificates
+pub mod VersionOne

@@ -8,6 +8,7 @@ mod ends;
 mod entries;
 mod frames;
 mod full;
+pub mod laws;
 mod lists;
 mod loads;
 mod pairs;

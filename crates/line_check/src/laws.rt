@@ -1,0 +1,8 @@
+//! What is true of the check of certificates, for the crates above to cite.
+ghost use Rattle.line_check.specs.VersionOne.{EveryPassingLiftIsAccepted, EveryPassingTooLongIsAccepted};
+
+/// A certificate of version 1 that passes the rules of its version has an accepted lift, with the same bounds and units.
+pub fn every_passing_lift_is_accepted()
+    ensures bounds { EveryPassingLiftIsAccepted }
+    ensures too_long { EveryPassingTooLongIsAccepted }
+{}
