@@ -1,0 +1,143 @@
+//! The entries of a certificate, checked in batches side by side.
+ghost use Rattle.std.specs.Prelude.{◌≡◌, ◌<◌, ◌≤◌, ◌-◌, ◌+◌, IfOk, length};
+ghost use Rattle.line_instance.specs.Line.{tasks};
+ghost use Rattle.line_rules.specs.Ranges.{AreEntries};
+ghost use Rattle.line_check.specs.Lists.{AreFound, AreRightBelow};
+ghost use Rattle.wide_check.specs.Batches.{IsFoundAt, AreChecked, AreFoundTo};
+
+use line_check::{Found, ListFound, check_entry};
+use line_instance::Instance;
+use line_rules::{Entries, LineKind};
+use rayon::prelude::*;
+use std::alloc::{AllocError, Global};
+use std::thread::Threads;
+
+/// How many entries are checked side by side.
+const BATCH: usize = 4096;
+
+/// The most loads that an entry is walked for beside others.
+const QUICK: u64 = 65_536;
+
+/// Checks the entry of number `k` after those before it.
+fn entry_found(
+    inst: &Instance,
+    kind: LineKind,
+    entries: &Entries,
+    k: usize,
+    steps: u64,
+) -> Found
+    requires range { AreEntries (tasks inst.now) entries.now }
+    requires k { k < length entries.now }
+    ensures { IsFoundAt kind inst.now entries.now k steps result }
+{
+    check_entry(inst, kind, entries, k, entries.at(k), steps)
+}
+
+/// Checks the entries from number `from` up to below `to` side by side, each for a few loads.
+fn batch_found<R: Threads + Sync>(
+    rt: &R,
+    alloc: Global,
+    inst: &Instance,
+    kind: LineKind,
+    entries: &Entries,
+    from: usize,
+    to: usize,
+) -> Result<Vec<Found>, AllocError>
+    requires range { AreEntries (tasks inst.now) entries.now }
+    requires from { from ≤ to }
+    requires to { to ≤ length entries.now }
+    ensures { IfOk result (λ v. AreChecked kind inst.now entries.now from to 65536 v.items) }
+{
+    (from..to)
+        .into_par_iter()
+        .map(
+            |k: usize| -> Found
+                requires { (k < length entries.now) × AreEntries (tasks inst.now) entries.now }
+                ensures { IsFoundAt kind inst.entry.now entries.entry.now k 65536 result }
+            { entry_found(inst, kind, entries, k, QUICK) },
+        )
+        .collect(rt, alloc)
+}
+
+/// What is found of an entry with so many loads left, from what was found of it in a few loads: where these don't decide, it is walked again.
+fn settled(
+    inst: &Instance,
+    kind: LineKind,
+    entries: &Entries,
+    k: usize,
+    quick: Found,
+    left: u64,
+) -> Found
+    requires range { AreEntries (tasks inst.now) entries.now }
+    requires k { k < length entries.now }
+    requires quick { IsFoundAt kind inst.now entries.now k 65536 quick }
+    ensures { IsFoundAt kind inst.now entries.now k left result }
+{
+    match quick {
+        Found::Right { units } if units <= left => quick,
+        Found::Fails { units, .. } if units <= left => quick,
+        _ => entry_found(inst, kind, entries, k, left),
+    }
+}
+
+/// What is found of the entries up to the end of a batch, in their order, when those before it have so many units.
+fn gone_over(
+    inst: &Instance,
+    kind: LineKind,
+    entries: &Entries,
+    from: usize,
+    to: usize,
+    quick: &[Found],
+    steps: u64,
+    before: u64,
+) -> ListFound
+    requires range { AreEntries (tasks inst.now) entries.now }
+    requires from { from ≤ to }
+    requires to { to ≤ length entries.now }
+    requires quick { AreChecked kind inst.now entries.now from to 65536 quick.now }
+    requires below { AreRightBelow kind inst.now entries.now from before }
+    requires few { before ≤ steps }
+    ensures { AreFoundTo kind inst.now entries.now steps to result }
+{
+    let mut units = before;
+    for k in from..to {
+        match settled(inst, kind, entries, k, quick[k - from], steps - units) {
+            Found::Right { units: more } => units += more,
+            Found::Fails { why, .. } => {
+                return ListFound::Refused {
+                    entry: k as u64,
+                    why,
+                };
+            }
+            Found::StepsEnded => return ListFound::StepsEnded,
+        }
+    }
+    ListFound::Right { units }
+}
+
+/// Checks entries, each after those before it, batch by batch.
+pub(crate) fn entries_found<R: Threads + Sync>(
+    rt: &R,
+    alloc: Global,
+    inst: &Instance,
+    kind: LineKind,
+    entries: &Entries,
+    steps: u64,
+) -> Result<ListFound, AllocError>
+    requires range { AreEntries (tasks inst.now) entries.now }
+    ensures { IfOk result (AreFound kind inst.now entries.now steps) }
+{
+    let mut units = 0;
+    let mut from = 0;
+    while from < entries.len() {
+        let to = entries.len().min(from + BATCH);
+        let quick = batch_found(rt, alloc, inst, kind, entries, from, to)?;
+        match gone_over(inst, kind, entries, from, to, &quick, steps, units) {
+            ListFound::Right { units: sum } => units = sum,
+            ListFound::Refused { entry, why } => return Ok(ListFound::Refused { entry, why }),
+            ListFound::StepsEnded => return Ok(ListFound::StepsEnded),
+        }
+        from = to;
+    }
+    Ok(ListFound::Right { units })
+}
