@@ -16,8 +16,10 @@ mod writer;
 mod writing;
 
 pub use cert_lines::{CertFault, CertKind, ReadError, Source, Taken};
+pub use kept_text::KeptText;
 pub use lines::{put_cert, put_list};
 pub use output::Output;
 pub use reader::{CertRead, ListRead, read_cert, read_list};
 pub use reading::{EntryList, read_all, read_entries};
 pub use writer::{write_cert, write_list};
+pub use writing::put_load;

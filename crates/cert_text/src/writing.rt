@@ -95,7 +95,7 @@ pub fn put_mode<O: Output>(out: &mut O, mode: Mode)
 }
 
 /// Puts a load: the part that the mode has, or both with a stroke between.
-fn put_load<O: Output>(out: &mut O, load: &Load, mode: Mode, tasks: u32)
+pub fn put_load<O: Output>(out: &mut O, load: &Load, mode: Mode, tasks: u32)
     requires { tasks ≤ 1024 }
     ensures { Puts O.told (O.sent out.old) (load_text tasks mode load.now) (O.sent out.new) }
 {

@@ -9,52 +9,74 @@ use Rattle.line_words.specs.Jobs.{IsJob, IsFault}
 use Rattle.line_words.specs.Texts.{usage_text}
 use Rattle.line_words.specs.declared.fault.UsageKind.{UsageKind}
 use Rattle.line_words.specs.declared.job.FormWord.{FormWord}
+use Rattle.line_words.specs.declared.job.FormWord.TheVariants.{Cert}
 use Rattle.line_words.specs.declared.job.Job.{Job}
 use Rattle.line_words.specs.declared.job.Job.TheVariants.{Help, Version, Balance, Solve, Cycle, Check, Convert, Combine, Utility, Timeline, Try}
 use Rattle.line_program.specs.Built.{unbuilt, unbuilt_line}
-use Rattle.line_program.specs.Answers.{IsReport, IsPageReport, IsBalanceReport, IsConvertReport, IsConverted, IsFaulty}
-use Rattle.line_program.specs.Files.{IsFileReport}
+use Rattle.line_program.specs.Answers.{IsBalanceReport, IsFaulty}
+use Rattle.line_program.specs.Certified.{IsCheckReport}
+use Rattle.line_program.specs.Reports.{IsReport, IsPageReport, IsConvertReport, IsConverted}
+use Rattle.line_program.specs.Files.{IsFileReport, IsNoProofReport}
 use Rattle.line_program.specs.Run.{IsPrinted, IsPut, IsTorn, IsJobPrinted, IsJobPut, IsJobTorn, IsLeft, IsLeftBy, IsWhole, Leaves, LeavesConverted, Stay, out_of, status_of, text_of}
 use Rattle.line_program.specs.declared.refusal.Report.{Report}
 use Rattle.line_program.specs.declared.status.Status.{Status}
 use Rattle.line_program.specs.declared.status.Status.TheVariants as ends
 
--- a report of a job is its answer, a refusal of its input, or a read fault
+-- the statuses of the reports of jobs
 abbrev MayReport : Status → Type 0
-MayReport s = (s ≡ ends.Done) ⊎ ((s ≡ ends.Input) ⊎ (s ≡ ends.ReadFault))
+MayReport ends.Done = Unit {0}
+MayReport ends.Input = Unit {0}
+MayReport ends.ReadFault = Unit {0}
+MayReport ends.Refused = Unit {0}
+MayReport ends.Steps = Unit {0}
+MayReport ends.Stopped = ⊥
+MayReport ends.Usage = ⊥
+MayReport ends.WriteFault = ⊥
+MayReport ends.Memory = ⊥
 
 page_status : (page : List ℕ) (s : Status) (text : List ℕ) → IsPageReport page s text → MayReport s
-page_status page ends.Done text r = inl refl
+page_status page ends.Done text r = tt
 page_status page ends.Input text r = absurd r
 page_status page ends.ReadFault text r = absurd r
+page_status page ends.Refused text r = absurd r
+page_status page ends.Steps text r = absurd r
 page_status page ends.Stopped text r = absurd r
 page_status page ends.Usage text r = absurd r
 page_status page ends.WriteFault text r = absurd r
 page_status page ends.Memory text r = absurd r
-page_status page ends.Refused text r = absurd r
-page_status page ends.Steps text r = absurd r
 
 balance_status : (files : List ℕ → Option (List ℕ)) (name : List ℕ) (apart : Option (List ℕ)) (word : Option ℕ) (s : Status) (text : List ℕ) → IsBalanceReport files name apart word s text → MayReport s
-balance_status files name apart word ends.Done text r = inl refl
-balance_status files name apart word ends.Input text r = inr (inl refl)
-balance_status files name apart word ends.ReadFault text r = inr (inr refl)
+balance_status files name apart word ends.Done text r = tt
+balance_status files name apart word ends.Input text r = tt
+balance_status files name apart word ends.ReadFault text r = tt
+balance_status files name apart word ends.Refused text r = absurd r
+balance_status files name apart word ends.Steps text r = absurd r
 balance_status files name apart word ends.Stopped text r = absurd r
 balance_status files name apart word ends.Usage text r = absurd r
 balance_status files name apart word ends.WriteFault text r = absurd r
 balance_status files name apart word ends.Memory text r = absurd r
-balance_status files name apart word ends.Refused text r = absurd r
-balance_status files name apart word ends.Steps text r = absurd r
+
+check_status : (files : List ℕ → Option (List ℕ)) (name proof : List ℕ) (apart : Option (List ℕ)) (steps : ℕ) (s : Status) (text : List ℕ) → IsCheckReport files name proof apart steps s text → MayReport s
+check_status files name proof apart steps ends.Done text r = tt
+check_status files name proof apart steps ends.Input text r = tt
+check_status files name proof apart steps ends.ReadFault text r = tt
+check_status files name proof apart steps ends.Refused text r = tt
+check_status files name proof apart steps ends.Steps text r = tt
+check_status files name proof apart steps ends.Stopped text r = absurd r
+check_status files name proof apart steps ends.Usage text r = absurd r
+check_status files name proof apart steps ends.WriteFault text r = absurd r
+check_status files name proof apart steps ends.Memory text r = absurd r
 
 convert_status : (files : List ℕ → Option (List ℕ)) (name out : List ℕ) (to : FormWord) (word : Option ℕ) (s : Status) (text : List ℕ) → IsConvertReport files name out to word s text → MayReport s
-convert_status files name out to word ends.Done text r = inl refl
-convert_status files name out to word ends.Input text r = inr (inl refl)
-convert_status files name out to word ends.ReadFault text r = inr (inr refl)
+convert_status files name out to word ends.Done text r = tt
+convert_status files name out to word ends.Input text r = tt
+convert_status files name out to word ends.ReadFault text r = tt
+convert_status files name out to word ends.Refused text r = tt
+convert_status files name out to word ends.Steps text r = absurd r
 convert_status files name out to word ends.Stopped text r = absurd r
 convert_status files name out to word ends.Usage text r = absurd r
 convert_status files name out to word ends.WriteFault text r = absurd r
 convert_status files name out to word ends.Memory text r = absurd r
-convert_status files name out to word ends.Refused text r = absurd r
-convert_status files name out to word ends.Steps text r = absurd r
 
 job_status : (files : List ℕ → Option (List ℕ)) (job : Job) (s : Status) (text : List ℕ) → IsReport files job s text → MayReport s
 job_status files Help s text r = page_status _ s text r
@@ -62,7 +84,7 @@ job_status files Version s text r = page_status _ s text r
 job_status files (Balance file cycle line apart) s text r = balance_status files file apart cycle s text r
 job_status files (Solve file cycle line helpers units cert apart) s text r = absurd r
 job_status files (Cycle file stations line helpers units cert) s text r = absurd r
-job_status files (Check file cert steps apart) s text r = absurd r
+job_status files (Check file cert steps apart) s text r = check_status files file cert apart steps s text r
 job_status files (Convert file out to cycle) s text r = convert_status files file out to cycle s text r
 job_status files (Combine mix out) s text r = absurd r
 job_status files (Utility mix cert seq interval length) s text r = absurd r
@@ -96,15 +118,20 @@ fault_or ends.Refused = inr (λ e. cc)
 fault_or ends.Steps = inr (λ e. cc)
 
 -- what is reported of the job of words is printed for them
+reported : (words : List Text) (files : List ℕ → Option (List ℕ)) (job : Job) (s : Status) (text : List ℕ) → IsJob words job → unbuilt job ≡ None → IsReport files job s text → MayReport s → IsPrinted words files s text
+reported words files job ends.Done text asked built r m = record { job = job; asked = asked; built = built; reported = r }
+reported words files job ends.Input text asked built r m = record { job = job; asked = asked; built = built; reported = r }
+reported words files job ends.ReadFault text asked built r m = record { job = job; asked = asked; built = built; reported = r }
+reported words files job ends.Refused text asked built r m = record { job = job; asked = asked; built = built; reported = r }
+reported words files job ends.Steps text asked built r m = record { job = job; asked = asked; built = built; reported = r }
+reported words files job ends.Stopped text asked built r m = absurd m
+reported words files job ends.Usage text asked built r m = absurd m
+reported words files job ends.WriteFault text asked built r m = absurd m
+reported words files job ends.Memory text asked built r m = absurd m
+
 pub printed : (words : List Text) (files : List ℕ → Option (List ℕ)) (job : Job) (s : Status) (text : List ℕ) → IsJob words job → unbuilt job ≡ None → IsJobPrinted files job s text → IsPrinted words files s text
 printed words files job s text asked built (inr m) = subst (λ t. IsPrinted words files t text) (sym m.0) m.1
-printed words files job s text asked built (inl q) = elim (job_status files job s text q) [
-  | inl e ↦ subst (λ t. IsPrinted words files t text) (sym e) (record { job = job; asked = asked; built = built; reported = subst (λ t. IsReport files job t text) e q })
-  | inr o ↦ elim o [
-    | inl e ↦ subst (λ t. IsPrinted words files t text) (sym e) (record { job = job; asked = asked; built = built; reported = subst (λ t. IsReport files job t text) e q })
-    | inr e ↦ subst (λ t. IsPrinted words files t text) (sym e) (record { job = job; asked = asked; built = built; reported = subst (λ t. IsReport files job t text) e q })
-  ]
-]
+printed words files job s text asked built (inl q) = reported words files job s text asked built q (job_status files job s text q)
 
 module _ (words : List Text) (files : List ℕ → Option (List ℕ)) (job : Job) (asked : IsJob words job) (built : unbuilt job ≡ None) where
   pub put_of : (s : Status) (old new : List ℕ) → IsJobPut files job s old new → IsPut words files s old new
@@ -143,7 +170,7 @@ writes_none Version b n = refl
 writes_none (Balance file cycle line apart) b n = refl
 writes_none (Solve file cycle line helpers units cert apart) b n = (cc)
 writes_none (Cycle file stations line helpers units cert) b n = (cc)
-writes_none (Check file cert steps apart) b n = (cc)
+writes_none (Check file cert steps apart) b n = refl
 writes_none (Convert file out to cycle) b n = absurd (n file out to cycle refl)
 writes_none (Combine mix out) b n = (cc)
 writes_none (Utility mix cert seq interval length) b n = (cc)
@@ -156,7 +183,7 @@ leaves_stay files after Version b o s = s
 leaves_stay files after (Balance file cycle line apart) b o s = s
 leaves_stay files after (Solve file cycle line helpers units cert apart) b o s = (cc)
 leaves_stay files after (Cycle file stations line helpers units cert) b o s = (cc)
-leaves_stay files after (Check file cert steps apart) b o s = (cc)
+leaves_stay files after (Check file cert steps apart) b o s = s
 leaves_stay files after (Convert file out to cycle) b o s = (cc)
 leaves_stay files after (Combine mix out) b o s = (cc)
 leaves_stay files after (Utility mix cert seq interval length) b o s = (cc)
@@ -207,13 +234,24 @@ leaves whole files mid after file out to word text bytes c same w others = recor
   others = λ q n. others q n ∙ same q;
 }
 
-pub convert_refused : (files : List ℕ → Option (List ℕ)) (file out : Text) (to : FormWord) (word : Option ℕ) (s : Status) (text : List ℕ) → IsFileReport (IsFaulty file) (files file) file s text → IsConvertReport files file out to word s text
-convert_refused files file out to word ends.Input text r = r
-convert_refused files file out to word ends.ReadFault text r = r
-convert_refused files file out to word ends.Done text r = absurd r
-convert_refused files file out to word ends.Stopped text r = absurd r
-convert_refused files file out to word ends.Usage text r = absurd r
-convert_refused files file out to word ends.WriteFault text r = absurd r
-convert_refused files file out to word ends.Memory text r = absurd r
-convert_refused files file out to word ends.Refused text r = absurd r
-convert_refused files file out to word ends.Steps text r = absurd r
+pub convert_refused : (files : List ℕ → Option (List ℕ)) (file out : Text) (to : FormWord) (word : Option ℕ) (s : Status) (text : List ℕ) → to ≢ Cert → IsFileReport (IsFaulty file) (files file) file s text → IsConvertReport files file out to word s text
+convert_refused files file out to word ends.Input text n r = inl (n, r)
+convert_refused files file out to word ends.ReadFault text n r = r
+convert_refused files file out to word ends.Done text n r = absurd r
+convert_refused files file out to word ends.Stopped text n r = absurd r
+convert_refused files file out to word ends.Usage text n r = absurd r
+convert_refused files file out to word ends.WriteFault text n r = absurd r
+convert_refused files file out to word ends.Memory text n r = absurd r
+convert_refused files file out to word ends.Refused text n r = absurd r
+convert_refused files file out to word ends.Steps text n r = absurd r
+
+pub proof_refused : (files : List ℕ → Option (List ℕ)) (file out : Text) (word : Option ℕ) (s : Status) (text : List ℕ) → IsNoProofReport (files file) file s text → IsConvertReport files file out Cert word s text
+proof_refused files file out word ends.Input text r = inr (refl, r)
+proof_refused files file out word ends.Refused text r = (refl, r)
+proof_refused files file out word ends.ReadFault text r = r
+proof_refused files file out word ends.Done text r = absurd r
+proof_refused files file out word ends.Stopped text r = absurd r
+proof_refused files file out word ends.Usage text r = absurd r
+proof_refused files file out word ends.WriteFault text r = absurd r
+proof_refused files file out word ends.Memory text r = absurd r
+proof_refused files file out word ends.Steps text r = absurd r

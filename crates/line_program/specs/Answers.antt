@@ -23,9 +23,6 @@ use Rattle.alb_reader.specs.Written.{IsAlbText}
 use Rattle.alb_reader.specs.declared.fault.AlbFault.{AlbFault}
 use Rattle.line_words.specs.declared.job.FormWord.{FormWord}
 use Rattle.line_words.specs.declared.job.FormWord.TheVariants.{In2, Alb, Cert}
-use Rattle.line_words.specs.declared.job.Job.{Job}
-use Rattle.line_words.specs.declared.job.Job.TheVariants.{Help, Version, Balance, Solve, Cycle, Check, Convert, Combine, Utility, Timeline, Try}
-use Rattle.line_program.specs.Pages.{help_text, version_text}
 use Rattle.line_program.specs.Report.{balance_text, infeasible_text}
 use Rattle.line_program.specs.declared.status.Status.{Status}
 use Rattle.line_program.specs.declared.status.Status.TheVariants as ends
@@ -89,11 +86,16 @@ pub record IsTimed (word : Option ℕ) (bytes : List ℕ) (line : Line) (c : ℕ
   pub says : Says bytes line given
   pub cycle : cycle_of word given ≡ Some c
 
+-- the line is the whole one with the tasks apart that the file says, where there is one
+abbrev pub IsPartedBy : (List ℕ → Option (List ℕ)) → Option (List ℕ) → Line → Line → Type 0
+IsPartedBy files None whole line = line ≡ whole
+IsPartedBy files (Some apart) whole line = Reads (files apart) (Parts whole line)
+
 -- the line is the instance that the first file says, with the tasks apart that the second file says, where there is one; c is the cycle
-abbrev pub IsSaid : (List ℕ → Option (List ℕ)) → List ℕ → Option (List ℕ) → Option ℕ → Line → ℕ → Type 0
-IsSaid files name None word line c = Reads (files name) (λ bytes. IsTimed word bytes line c)
-IsSaid files name (Some apart) word line c =
-    (whole : Line) × Reads (files name) (λ bytes. IsTimed word bytes whole c) × Reads (files apart) (Parts whole line)
+pub record IsSaid (files : List ℕ → Option (List ℕ)) (name : List ℕ) (apart : Option (List ℕ)) (word : Option ℕ) (line : Line) (c : ℕ) : Type 0 where
+  pub whole : Line
+  pub timed : Reads (files name) (λ bytes. IsTimed word bytes whole c)
+  pub parted : IsPartedBy files apart whole line
 
 -- the text answers the instance that the files say
 pub record IsDone (files : List ℕ → Option (List ℕ)) (name : List ℕ) (apart : Option (List ℕ)) (word : Option ℕ) (text : List ℕ) : Type 0 where
@@ -155,21 +157,30 @@ pub record IsFaultyApart (name : List ℕ) (n : ℕ) (bytes text : List ℕ) : T
 abbrev pub IsRefusedFile : (List ℕ → Option (List ℕ)) → List ℕ → Option ℕ → List ℕ → Type 0
 IsRefusedFile files name word text = Reads (files name) (λ bytes. IsTooMuch name bytes text ⊎ IsFaulty name bytes text ⊎ IsUntimed word name bytes text)
 
+-- the file with the tasks that are apart, of so many, is refused: it is too long, or has no reading
+abbrev pub IsRefusedPairs : (List ℕ → Option (List ℕ)) → Option (List ℕ) → ℕ → List ℕ → Type 0
+IsRefusedPairs files None n text = ⊥
+IsRefusedPairs files (Some apart) n text = Reads (files apart) (λ bytes. IsTooMuch apart bytes text ⊎ IsFaultyApart apart n bytes text)
+
 -- the file with the instance is read, and that with the tasks that are apart is refused
-abbrev pub IsRefusedApart : (List ℕ → Option (List ℕ)) → List ℕ → Option (List ℕ) → Option ℕ → List ℕ → Type 0
-IsRefusedApart files name None word text = ⊥
-IsRefusedApart files name (Some apart) word text =
-    (whole : Line) × (c : ℕ) × Reads (files name) (λ bytes. IsTimed word bytes whole c)
-    × Reads (files apart) (λ bytes. IsTooMuch apart bytes text ⊎ IsFaultyApart apart (tasks whole) bytes text)
+pub record IsRefusedApart (files : List ℕ → Option (List ℕ)) (name : List ℕ) (apart : Option (List ℕ)) (word : Option ℕ) (text : List ℕ) : Type 0 where
+  pub whole : Line
+  pub c : ℕ
+  pub timed : Reads (files name) (λ bytes. IsTimed word bytes whole c)
+  pub pairs : IsRefusedPairs files apart (tasks whole) text
 
 -- the line about a file that can't be read
 abbrev pub read_fault_line : List ℕ → List ℕ
 read_fault_line name = codes "read fault: " ++ name ++ codes "\n"
 
+-- the text is about the file with the tasks that are apart, which can't be read
+abbrev pub IsUnreadablePairs : Option (List ℕ) → List ℕ → Type 0
+IsUnreadablePairs None text = ⊥
+IsUnreadablePairs (Some apart) text = text ≡ read_fault_line apart
+
 -- the text is about the one file or the other
 abbrev pub IsUnreadable : List ℕ → Option (List ℕ) → List ℕ → Type 0
-IsUnreadable name None text = text ≡ read_fault_line name
-IsUnreadable name (Some apart) text = (text ≡ read_fault_line name) ⊎ (text ≡ read_fault_line apart)
+IsUnreadable name apart text = (text ≡ read_fault_line name) ⊎ IsUnreadablePairs apart text
 
 -- What is reported of a balance of the files of these names at the cycle time of the words, where they have one, status by status.
 abbrev pub IsBalanceReport : (List ℕ → Option (List ℕ)) → List ℕ → Option (List ℕ) → Option ℕ → Status → List ℕ → Type 0
@@ -193,53 +204,15 @@ IsWritten Cert line cycle bytes = ⊥
 abbrev pub written_line : List ℕ → List ℕ
 written_line out = codes "written " ++ out ++ codes "\n"
 
--- A file is converted: it says an instance, these bytes are the canonical text of that instance in the form, with the cycle time of the words, or
--- else of the file, and the text names the file that has them.
-pub record IsConverted (files : List ℕ → Option (List ℕ)) (name out : List ℕ) (to : FormWord) (word : Option ℕ) (text bytes : List ℕ) : Type 0 where
+-- A file is written in another form: it says an instance, these bytes are the canonical text of that instance in the form, with the cycle time
+-- of the words, or else of the file, and the text names the file that has them.
+pub record IsLineConverted (files : List ℕ → Option (List ℕ)) (name out : List ℕ) (to : FormWord) (word : Option ℕ) (text bytes : List ℕ) : Type 0 where
   pub line : Line
   pub given : Option ℕ
   pub said : Reads (files name) (λ source. Says source line given)
   pub written : IsWritten to line (cycle_of word given) bytes
   pub shown : text ≡ written_line out
 
--- the file that is to be converted is refused: it is too long, or has no reading
+-- the file with the instance is refused: it is too long, or has no reading
 abbrev pub IsRefusedSource : (List ℕ → Option (List ℕ)) → List ℕ → List ℕ → Type 0
 IsRefusedSource files name text = Reads (files name) (λ bytes. IsTooMuch name bytes text ⊎ IsFaulty name bytes text)
-
--- What is reported of converting a file, status by status.
-abbrev pub IsConvertReport : (List ℕ → Option (List ℕ)) → List ℕ → List ℕ → FormWord → Option ℕ → Status → List ℕ → Type 0
-IsConvertReport files name out to word ends.Done text = (bytes : List ℕ) × IsConverted files name out to word text bytes
-IsConvertReport files name out to word ends.Input text = IsRefusedSource files name text
-IsConvertReport files name out to word ends.ReadFault text = text ≡ read_fault_line name
-IsConvertReport files name out to word ends.Stopped text = ⊥
-IsConvertReport files name out to word ends.Usage text = ⊥
-IsConvertReport files name out to word ends.WriteFault text = ⊥
-IsConvertReport files name out to word ends.Memory text = ⊥
-IsConvertReport files name out to word ends.Refused text = ⊥
-IsConvertReport files name out to word ends.Steps text = ⊥
-
--- the page is printed
-abbrev pub IsPageReport : List ℕ → Status → List ℕ → Type 0
-IsPageReport page ends.Done text = text ≡ page
-IsPageReport page ends.Input text = ⊥
-IsPageReport page ends.ReadFault text = ⊥
-IsPageReport page ends.Stopped text = ⊥
-IsPageReport page ends.Usage text = ⊥
-IsPageReport page ends.WriteFault text = ⊥
-IsPageReport page ends.Memory text = ⊥
-IsPageReport page ends.Refused text = ⊥
-IsPageReport page ends.Steps text = ⊥
-
--- What is reported of a job over these files, status by status. Of jobs that aren't built nothing is.
-abbrev pub IsReport : (List ℕ → Option (List ℕ)) → Job → Status → List ℕ → Type 0
-IsReport files Help status text = IsPageReport help_text status text
-IsReport files Version status text = IsPageReport version_text status text
-IsReport files (Balance file cycle line apart) status text = IsBalanceReport files file apart cycle status text
-IsReport files (Solve file cycle line helpers units cert apart) status text = ⊥
-IsReport files (Cycle file stations line helpers units cert) status text = ⊥
-IsReport files (Check file cert steps apart) status text = ⊥
-IsReport files (Convert file out to cycle) status text = IsConvertReport files file out to cycle status text
-IsReport files (Combine mix out) status text = ⊥
-IsReport files (Utility mix cert seq interval length) status text = ⊥
-IsReport files (Timeline mix cert seq interval length) status text = ⊥
-IsReport files (Try seed tasks cycle line units) status text = ⊥

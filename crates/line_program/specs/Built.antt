@@ -6,8 +6,6 @@ use Rattle.line_words.specs.Texts.{usage_text}
 use Rattle.line_words.specs.declared.fault.UsageKind.{UsageKind}
 use Rattle.line_words.specs.declared.job.Job.{Job}
 use Rattle.line_words.specs.declared.job.Job.TheVariants.{Help, Version, Balance, Solve, Cycle, Check, Convert, Combine, Utility, Timeline, Try}
-use Rattle.line_words.specs.declared.job.FormWord.{FormWord}
-use Rattle.line_words.specs.declared.job.FormWord.TheVariants.{In2, Alb, Cert}
 use Rattle.line_words.specs.declared.job.LineWord.{LineWord}
 use Rattle.line_words.specs.declared.job.LineWord.TheVariants.{Straight, U}
 
@@ -16,12 +14,6 @@ abbrev pub line_part : LineWord → Option Text
 line_part Straight = None
 line_part U = Some (codes "line")
 
--- no certificate is converted yet
-abbrev pub form_part : FormWord → Option Text
-form_part In2 = None
-form_part Alb = None
-form_part Cert = Some (codes "convert")
-
 -- the first part of a job that isn't built: its command, or its kind of line
 abbrev pub unbuilt : Job → Option Text
 unbuilt Help = None
@@ -29,8 +21,8 @@ unbuilt Version = None
 unbuilt (Balance file cycle line apart) = line_part line
 unbuilt (Solve file cycle line helpers units cert apart) = Some (codes "solve")
 unbuilt (Cycle file stations line helpers units cert) = Some (codes "cycle")
-unbuilt (Check file cert steps apart) = Some (codes "check")
-unbuilt (Convert file out to cycle) = form_part to
+unbuilt (Check file cert steps apart) = None
+unbuilt (Convert file out to cycle) = None
 unbuilt (Combine mix out) = Some (codes "combine")
 unbuilt (Utility mix cert seq interval length) = Some (codes "utility")
 unbuilt (Timeline mix cert seq interval length) = Some (codes "timeline")

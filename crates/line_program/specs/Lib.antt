@@ -5,3 +5,6 @@ pub mod Codes
 pub mod Answers
 pub mod Files
 pub mod Run
+pub mod Verdict
+pub mod Certified
+pub mod Reports

@@ -7,7 +7,7 @@ use Rattle.line_words.specs.declared.job.FormWord.{FormWord}
 use Rattle.line_words.specs.declared.job.Job.{Job}
 use Rattle.line_words.specs.declared.job.Job.TheVariants.{Help, Version, Balance, Solve, Cycle, Check, Convert, Combine, Utility, Timeline, Try}
 use Rattle.line_program.specs.Built.{unbuilt, IsUsageText}
-use Rattle.line_program.specs.Answers.{IsReport, IsConverted}
+use Rattle.line_program.specs.Reports.{IsReport, IsConverted}
 use Rattle.line_program.specs.declared.status.Status.{Status}
 use Rattle.line_program.specs.declared.status.Status.TheVariants as ends
 use Rattle.std.specs.declared.alloc.AllocError.{AllocError}
@@ -57,8 +57,8 @@ IsPrinted words files ends.ReadFault text = IsJobReport words files ends.ReadFau
 IsPrinted words files ends.Memory text = text ≡ codes "memory\n"
 IsPrinted words files ends.WriteFault text = ⊥
 IsPrinted words files ends.Stopped text = ⊥
-IsPrinted words files ends.Refused text = ⊥
-IsPrinted words files ends.Steps text = ⊥
+IsPrinted words files ends.Refused text = IsJobReport words files ends.Refused text
+IsPrinted words files ends.Steps text = IsJobReport words files ends.Steps text
 
 -- the whole text of a status is put behind what was put before
 pub record IsPut (words : List Text) (files : List ℕ → Option (List ℕ)) (status : Status) (old new : List ℕ) : Type 0 where
@@ -98,7 +98,7 @@ Leaves whole files Version after = Stay files after
 Leaves whole files (Balance file cycle line apart) after = Stay files after
 Leaves whole files (Solve file cycle line helpers units cert apart) after = ⊥
 Leaves whole files (Cycle file stations line helpers units cert) after = ⊥
-Leaves whole files (Check file cert steps apart) after = ⊥
+Leaves whole files (Check file cert steps apart) after = Stay files after
 Leaves whole files (Convert file out to cycle) after = LeavesConverted files file out to cycle whole after
 Leaves whole files (Combine mix out) after = ⊥
 Leaves whole files (Utility mix cert seq interval length) after = ⊥

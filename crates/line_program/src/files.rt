@@ -23,7 +23,7 @@ use std::alloc::{AllocError, Global};
 const MAX_FILE: u64 = 16_777_216;
 
 /// A line about a file.
-fn line_about(alloc: Global, front: &str, file: &str, back: &str) -> Result<String, AllocError>
+pub fn line_about(alloc: Global, front: &str, file: &str, back: &str) -> Result<String, AllocError>
     ensures { IfOk result (λ t. string_bytes t ≡ front.now ++ file.now ++ back.now) }
 {
     let mut text = String::new(alloc);

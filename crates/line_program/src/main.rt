@@ -5,9 +5,13 @@
 
 #[cfg(test)]
 mod call_tests;
+#[cfg(test)]
+mod check_tests;
 mod converting;
 mod files;
+mod instances;
 mod pages;
+mod proving;
 mod putting;
 mod refusal;
 mod report;
@@ -16,6 +20,7 @@ mod status;
 mod tests;
 mod top;
 mod usage;
+mod verdict;
 
 use line_io::{DiskShelf, OutSink};
 use std::process::ExitCode;

@@ -43,8 +43,7 @@ station and then -1,-1. Times are whole numbers of one time unit.
 ";
 
 /// What isn't there yet.
-const UNBUILT: &str = "Not built yet: solve, cycle, check, combine, utility, timeline, try, to=cert,
-and line=u.
+const UNBUILT: &str = "Not built yet: solve, cycle, combine, utility, timeline, try, and line=u.
 ";
 
 /// The page with every command, its names, keys, defaults and an example.

@@ -5,7 +5,7 @@ ghost use Rattle.line_program.specs.Report.{numbers_at, station_line, lines_from
 use line_rules::{Balance, Seatplace};
 use std::alloc::{AllocError, Global};
 
-fn push_number(text: &mut String, n: u64) -> Result<(), AllocError>
+pub fn push_number(text: &mut String, n: u64) -> Result<(), AllocError>
     ensures { OnOk result (string_bytes text.new ≡ string_bytes text.old ++ decimal n) }
 {
     write!(text, "{n}")

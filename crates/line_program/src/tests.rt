@@ -158,13 +158,13 @@ fn faults_of_the_words(rt: HostRuntime) -> Result<(), Fail> {
 fn jobs_that_are_not_built(rt: HostRuntime) -> Result<(), Fail> {
     let rows: [(&[&str], &str); 5] = [
         (&["solve", "none.in2"], "not built: solve\n"),
+        (
+            &["cycle", "none.in2", "stations=2"],
+            "not built: cycle\n",
+        ),
         (&["balance", "none.in2", "line=u"], "not built: line\n"),
         (&["try", "seed=1", "tasks=2", "line=u"], "not built: try\n"),
         (&["combine", "a.csv", "b.in2"], "not built: combine\n"),
-        (
-            &["convert", "v1.cert", "v5.cert", "to=cert"],
-            "not built: convert\n",
-        ),
     ];
     for (words, line) in rows {
         let (status, text) = run_over(rt.alloc(), words, P5, &[0], &[])?;

@@ -5,14 +5,16 @@ ghost use Rattle.line_rules.specs.Bounds.{idle_time};
 ghost use Rattle.line_words.specs.Words.{Text, texts};
 ghost use Rattle.line_words.specs.Ranges.{IsBetween, IsSetBetween, IsInRange};
 ghost use Rattle.line_program.specs.Built.{AskNothing, unbuilt};
-ghost use Rattle.line_program.specs.Answers.{IsAnswer, IsDone, IsReport, IsSaid};
-ghost use Rattle.line_program.specs.Files.{IsUnsaid, MayFault};
+ghost use Rattle.line_program.specs.Answers.{IsAnswer, IsDone};
+ghost use Rattle.line_program.specs.Reports.{IsReport};
+ghost use Rattle.line_program.specs.Files.{IsUnsaid, IsVerdictStatus, MayFault};
 ghost use Rattle.line_program.specs.Run.{IsJobRefusal, IsPut, IsTorn, IsJobPut, IsJobTorn, IsLeft, IsLeftBy, IsWriting, Stay, out_of, status_of, text_of};
 ghost use Rattle.line_program.specs.declared.status.Status.TheVariants as ends;
 
 use crate::converting::run_convert;
-use crate::files::{Timed, pairs_of, timed_of};
+use crate::instances::said_instance;
 use crate::pages::{help_page, version_page};
+use crate::proving::check_report;
 use crate::putting::{put, put_report};
 use crate::refusal::{Refusal, Report};
 use crate::report::{balance_report, infeasible_report};
@@ -53,29 +55,6 @@ fn answer(alloc: Global, inst: &Instance, cycle: u64) -> Result<String, AllocErr
     }
 }
 
-/// The instance that the files of a job say, and the cycle time to balance it at.
-fn said_instance<S: Shelf>(
-    alloc: Global,
-    file: &str,
-    apart: Option<&str>,
-    word: Option<u64>,
-    shelf: &mut S,
-) -> Result<Timed, Refusal>
-    requires word { IsSetBetween 1 1000000000000000000 word }
-    ensures said { S.tells → MatchResult result (λ t. IsSaid (S.file shelf.old) file.now (option_map (λ a. a.now) apart.entry) word t.inst t.cycle) (IsUnsaid (S.file shelf.old) file.now (option_map (λ a. a.now) apart.entry) word) }
-    ensures limit { IfOk result (λ t. IsBetween 1 1000000000000000000 t.cycle) }
-    ensures fault { MatchResult result (λ _. Unit {0}) (MayFault (Rises (S.faults shelf.old) (S.faults shelf.new))) }
-    ensures files { S.tells → (q : List ℕ) → S.file shelf.new q ≡ S.file shelf.old q }
-{
-    let mut timed = timed_of(alloc, file, word, shelf)?;
-    let Some(apart) = apart else {
-        return Ok(timed);
-    };
-    let pairs = pairs_of(alloc, apart, timed.inst.tasks(), shelf)?;
-    timed.inst.set_apart(&pairs);
-    Ok(timed)
-}
-
 /// The ranked balance of the instance of a file.
 fn balance_text_of<S: Shelf>(
     alloc: Global,
@@ -104,30 +83,51 @@ fn text_of(name: &Option<Name>) -> Option<&str>
     }
 }
 
+/// The report of a job that is done.
+fn done(text: String) -> Report
+    ensures status { result.status ≡ ends.Done }
+    ensures text { result.text ≡ text }
+{
+    Report {
+        status: Status::Done,
+        text,
+    }
+}
+
 /// What a job that writes no file puts.
-fn job_text<S: Shelf>(alloc: Global, job: &Job, shelf: &mut S) -> Result<String, Refusal>
+fn job_answer<S: Shelf>(alloc: Global, job: &Job, shelf: &mut S) -> Result<Report, Refusal>
     requires built { unbuilt job.now ≡ None }
     requires range { IsInRange job.now }
     requires writes { out_of job.now ≡ None }
-    ensures done { S.tells → MatchResult result (λ t. IsReport (S.file shelf.old) job.now ends.Done (string_bytes t)) (IsJobRefusal (S.file shelf.old) job.now) }
+    ensures report { S.tells → MatchResult result (λ r. IsReport (S.file shelf.old) job.now r.status (string_bytes r.text)) (IsJobRefusal (S.file shelf.old) job.now) }
+    ensures good { IfOk result (λ r. IsVerdictStatus r.status) }
     ensures fault { MatchResult result (λ _. Unit {0}) (MayFault (Rises (S.faults shelf.old) (S.faults shelf.new))) }
     ensures files { S.tells → Stay (S.file shelf.old) (S.file shelf.new) }
 {
     match job {
         Job::Help => {
             let text = help_page(alloc)?;
-            Ok(text)
+            Ok(done(text))
         }
         Job::Version => {
             let text = version_page(alloc)?;
-            Ok(text)
+            Ok(done(text))
         }
         Job::Balance {
             file,
             cycle,
             apart,
             ..
-        } => balance_text_of(alloc, file.text(), text_of(apart), *cycle, shelf),
+        } => {
+            let text = balance_text_of(alloc, file.text(), text_of(apart), *cycle, shelf)?;
+            Ok(done(text))
+        }
+        Job::Check {
+            file,
+            cert,
+            steps,
+            apart,
+        } => check_report(alloc, file.text(), cert.text(), text_of(apart), *steps, shelf),
         _ => unreachable!(),
     }
 }
@@ -143,11 +143,8 @@ fn job_report<S: Shelf>(alloc: Global, job: &Job, shelf: &mut S) -> Result<Repor
     ensures usage { IfOk result (λ r. r.status ≢ ends.Usage) }
     ensures files { S.tells → Stay (S.file shelf.old) (S.file shelf.new) }
 {
-    match job_text(alloc, job, shelf) {
-        Ok(text) => Ok(Report {
-            status: Status::Done,
-            text,
-        }),
+    match job_answer(alloc, job, shelf) {
+        Ok(report) => Ok(report),
         Err(Refusal::Report(report)) => Ok(report),
         Err(Refusal::Memory) => Err(AllocError),
     }

@@ -1,12 +1,12 @@
 //! What is answered to words that ask for no job, and to jobs that aren't built yet.
 ghost use Rattle.std.specs.Prelude.{◌≡◌, ◌++◌, IfOk, option_map, string_bytes};
 ghost use Rattle.line_words.specs.Texts.{usage_text};
-ghost use Rattle.line_program.specs.Built.{line_part, form_part, unbuilt, unbuilt_line};
+ghost use Rattle.line_program.specs.Built.{line_part, unbuilt, unbuilt_line};
 ghost use Rattle.line_program.specs.declared.status.Status.TheVariants as ends;
 
 use crate::refusal::Report;
 use crate::status::Status;
-use line_words::{FormWord, Job, LineWord, UsageKind, push_usage};
+use line_words::{Job, LineWord, UsageKind, push_usage};
 use std::alloc::{AllocError, Global};
 
 /// The kind of line, where it isn't built.
@@ -19,27 +19,15 @@ fn line_part(line: LineWord) -> Option<&'static str>
     }
 }
 
-/// The command, where a form isn't built.
-fn form_part(form: FormWord) -> Option<&'static str>
-    ensures { option_map (λ t. t.now) result ≡ form_part form }
-{
-    match form {
-        FormWord::In2 | FormWord::Alb => None,
-        FormWord::Cert => Some("convert"),
-    }
-}
-
 /// The first part of a job that isn't built: its command, or its kind of line.
 pub fn unbuilt(job: &Job) -> Option<&'static str>
     ensures { option_map (λ t. t.now) result ≡ unbuilt job.now }
 {
     match job {
-        Job::Help | Job::Version => None,
+        Job::Help | Job::Version | Job::Check { .. } | Job::Convert { .. } => None,
         Job::Balance { line, .. } => line_part(*line),
         Job::Solve { .. } => Some("solve"),
         Job::Cycle { .. } => Some("cycle"),
-        Job::Check { .. } => Some("check"),
-        Job::Convert { to, .. } => form_part(*to),
         Job::Combine { .. } => Some("combine"),
         Job::Utility { .. } => Some("utility"),
         Job::Timeline { .. } => Some("timeline"),

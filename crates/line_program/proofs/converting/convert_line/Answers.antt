@@ -3,7 +3,7 @@ use Rattle.line_io.specs.Whole.{IsFrontWritten}
 use Rattle.std.proofs.lemmas.List.{append-nil}
 use Rattle.line_program.specs.declared.status.Status.TheVariants as ends
 use Rattle.line_program.proofs.Printed.{fault_or, leaves, convert_refused}
-use Rattle.line_program.proofs.converting.run_convert.Goals as goal
+use Rattle.line_program.proofs.converting.convert_line.Goals as goal
 
 pub returns-in-Done-clause-torn : goal.returns-in-Done-clause-torn
 returns-in-Done-clause-torn g c = λ s k e.
@@ -11,7 +11,7 @@ returns-in-Done-clause-torn g c = λ s k e.
     record {
       status = ends.Done;
       text = string_bytes c.in-Ok.page.text;
-      printed = inl (c.in-Ok.page.bytes.items, c.in-Ok.ensures.said s);
+      printed = inl (c.in-Ok.page.bytes.items, inl (c.in-Ok.ensures.said s));
       kept = q.0;
       shown = q.1 ∙ ap (λ t. g.K.Sink.shown c.args.out.now ++ take q.0 t) c.as_bytes.ensures.value;
     }
@@ -26,12 +26,12 @@ returns-in-Done-clause-files g c = λ s.
     elim (fault_or c.put.result) [
       | inl e ↦ inr (inl (
         e,
-        leaves false files mid after c.args.file.now c.args.name.now c.args.to c.args.word text bytes (c.in-Ok.ensures.said s) (c.in-Ok.ensures.files s)
+        leaves false files mid after c.args.file.now c.args.name.now c.args.to c.args.word text bytes (inl (c.in-Ok.ensures.said s)) (c.in-Ok.ensures.files s)
             (subst (λ b. IsFrontWritten (mid c.args.name.now) b (after c.args.name.now)) c.deref.ensures.value (c.in-Done.ensures.front s)) (c.in-Done.ensures.others s),
       ))
       | inr n ↦ inl (
         c.put.ensures.kept n,
-        leaves true files mid after c.args.file.now c.args.name.now c.args.to c.args.word text bytes (c.in-Ok.ensures.said s) (c.in-Ok.ensures.files s)
+        leaves true files mid after c.args.file.now c.args.name.now c.args.to c.args.word text bytes (inl (c.in-Ok.ensures.said s)) (c.in-Ok.ensures.files s)
             (c.in-Done.ensures.done s refl ∙ ap Some c.deref.ensures.value) (c.in-Done.ensures.others s),
       )
     ]
@@ -40,7 +40,7 @@ pub returns-in-Ok-clause-torn : goal.returns-in-Ok-clause-torn
 returns-in-Ok-clause-torn g c = λ s k e. record {
   status = ends.Done;
   text = string_bytes c.in-Ok.page.text;
-  printed = inl (c.in-Ok.page.bytes.items, c.in-Ok.ensures.said s);
+  printed = inl (c.in-Ok.page.bytes.items, inl (c.in-Ok.ensures.said s));
   kept = 0;
   shown = sym (append-nil (g.K.Sink.shown c.args.out.now));
 }
@@ -50,7 +50,7 @@ returns-in-Ok-clause-files g c = λ s.
     inr (inl (
       refl,
       leaves false (g.S.Shelf.file c.args.shelf.now) (g.S.Shelf.file c.converted.new.shelf) (g.S.Shelf.file c.write_whole.new.shelf) c.args.file.now c.args.name.now c.args.to c.args.word (string_bytes c.in-Ok.page.text) c.in-Ok.page.bytes.items
-          (c.in-Ok.ensures.said s) (c.in-Ok.ensures.files s)
+          (inl (c.in-Ok.ensures.said s)) (c.in-Ok.ensures.files s)
           (subst (λ b. IsFrontWritten (g.S.Shelf.file c.converted.new.shelf c.args.name.now) b (g.S.Shelf.file c.write_whole.new.shelf c.args.name.now)) c.deref.ensures.value (c.in-WriteFault.ensures.front s)) (c.in-WriteFault.ensures.others s),
     ))
 
@@ -60,7 +60,7 @@ returns-in-Err-Report-clause-torn g c = λ s k e.
     record {
       status = c.in-Err-Report.report.status;
       text = string_bytes c.in-Err-Report.report.text;
-      printed = inl (convert_refused (g.S.Shelf.file c.args.shelf.now) c.args.file.now c.args.name.now c.args.to c.args.word c.in-Err-Report.report.status (string_bytes c.in-Err-Report.report.text) (rw c.in-Err-Report.field-0-is at (c.in-Err-Report.ensures.said s)));
+      printed = inl (convert_refused (g.S.Shelf.file c.args.shelf.now) c.args.file.now c.args.name.now c.args.to c.args.word c.in-Err-Report.report.status (string_bytes c.in-Err-Report.report.text) c.requires (rw c.in-Err-Report.field-0-is at (c.in-Err-Report.ensures.said s)));
       kept = q.0;
       shown = q.1 ∙ ap (λ t. g.K.Sink.shown c.args.out.now ++ take q.0 t) c.as_bytes-in-Err-Report.ensures.value;
     }

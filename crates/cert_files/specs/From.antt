@@ -1,0 +1,37 @@
+-- What reading a certificate from a file answers.
+use Rattle.std.specs.Prelude.{◌≡◌, ℕ, ◌<◌, ◌≤◌, List, length, Option, Some}
+use Rattle.line_rules.specs.Ranges.{IsInRange}
+use Rattle.cert_text.specs.Answers.{IsCertRead}
+use Rattle.cert_text.specs.declared.reader.CertRead.{CertRead}
+use Rattle.cert_text.specs.declared.reader.CertRead.TheVariants as reads
+use Rattle.cert_files.specs.declared.fetching.CertFrom.{CertFrom}
+use Rattle.cert_files.specs.declared.fetching.CertFrom.TheVariants.{Good, Fault, TooLong, ReadFault, NoMemory}
+
+-- the bytes of the file are within the limit, and reading them as a text answers this
+pub record IsReadWithin (file : Option (List ℕ)) (limit : ℕ) (answer : CertRead) : Type 0 where
+  pub bytes : List ℕ
+  pub there : file ≡ Some bytes
+  pub within : length bytes ≤ limit
+  pub read : IsCertRead bytes answer
+
+-- the file has more bytes than the limit
+pub record IsLonger (file : Option (List ℕ)) (limit : ℕ) : Type 0 where
+  pub bytes : List ℕ
+  pub there : file ≡ Some bytes
+  pub longer : limit < length bytes
+
+-- Of a file that is told: a certificate or a fault is that of its bytes, which are within the limit; TooLong comes where it has more.
+abbrev pub IsCertFrom : Option (List ℕ) → ℕ → CertFrom → Type 0
+IsCertFrom file limit (Good cert) = IsReadWithin file limit (reads.Good cert)
+IsCertFrom file limit (Fault fault) = IsReadWithin file limit (reads.Fault fault)
+IsCertFrom file limit TooLong = IsLonger file limit
+IsCertFrom file limit ReadFault = Unit {0}
+IsCertFrom file limit NoMemory = Unit {0}
+
+-- a certificate that was read is within its ranges
+abbrev pub IsGoodInRange : CertFrom → Type 0
+IsGoodInRange (Good cert) = IsInRange cert
+IsGoodInRange (Fault fault) = Unit {0}
+IsGoodInRange TooLong = Unit {0}
+IsGoodInRange ReadFault = Unit {0}
+IsGoodInRange NoMemory = Unit {0}
