@@ -68,8 +68,8 @@ module _ (files mid : List ℕ → Option (List ℕ)) (name : List ℕ) (apart :
   pub said_of : (word : Option ℕ) (c : ℕ) (whole line : Line) → Reads (files name) (λ bytes. IsTimed word bytes whole c) → IsPartedBy mid apart whole line → IsSaid files name apart word line c
   said_of word c whole line r p = record { whole = whole; timed = r; parted = parted_same files mid apart whole line same p }
 
-  pub line_of : (whole line : Line) (given : Option ℕ) → Reads (files name) (λ bytes. Says bytes whole given) → IsPartedBy mid apart whole line → IsLineOf files name apart line
-  line_of whole line given r p = record {
+  pub line_said : (whole line : Line) (given : Option ℕ) → Reads (files name) (λ bytes. Says bytes whole given) → IsPartedBy mid apart whole line → IsLineOf files name apart line
+  line_said whole line given r p = record {
     whole = whole;
     said = reads_as (files name) (λ bytes. Says bytes whole given) (SaysLine whole) (λ bytes s. (given, s)) r;
     parted = parted_same files mid apart whole line same p;

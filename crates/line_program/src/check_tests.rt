@@ -4,6 +4,7 @@ use crate::top::run;
 use line_io::{MemShelf, MemSink, Shelf};
 use std::alloc::{AllocError, Global};
 use std::test::Fail;
+use std::thread::Threads;
 
 const P5: &[u8] = b"5\n4\n4\n2\n2\n2\n-1,-1\n";
 const P6: &[u8] = b"6\n7\n4\n4\n2\n2\n2\n-1,-1\n";
@@ -43,7 +44,8 @@ const SWAP: &[u8] = b"line balance certificate 2\nline straight\ntasks 7\ncycle 
 const TOGETHER: &[u8] = b"line balance certificate 2\nline straight\ntasks 2\ncycle 2\nlower 1\nupper 1\nbalance 1\n1\n1\nentries 0\ntrail 0\nend\n";
 
 /// What a run with these words puts over an instance, a certificate and a file of pairs.
-fn run_over(
+fn run_over<R: Threads + Sync>(
+    rt: &R,
     alloc: Global,
     words: &[&str],
     instance: &[u8],
@@ -54,11 +56,12 @@ fn run_over(
     shelf.put_file("t.in2", instance)?;
     shelf.put_file("t.cert", proof)?;
     shelf.put_file("t.apart", b"1,2\n-1,-1\n")?;
-    ended(alloc, words, &mut shelf)
+    ended(rt, alloc, words, &mut shelf)
 }
 
 /// How a run with these words ends over the files of a shelf, and what it puts.
-fn ended<S: Shelf>(
+fn ended<R: Threads + Sync, S: Shelf>(
+    rt: &R,
     alloc: Global,
     words: &[&str],
     shelf: &mut S,
@@ -68,7 +71,7 @@ fn ended<S: Shelf>(
     for word in words {
         list.push(String::from_str(alloc, word)?)?;
     }
-    let status = run(alloc, &list, shelf, &mut out);
+    let status = run(rt, alloc, &list, shelf, &mut out);
     let mut shown = String::new(alloc);
     for byte in out.bytes() {
         shown.push(char::from(*byte))?;
@@ -91,7 +94,7 @@ fn what_is_accepted(rt: HostRuntime) -> Result<(), Fail> {
         (P7, SWAP, "accepted straight cycle 7 lower 5 upper 5 units 48\n"),
     ];
     for (instance, proof, wanted) in rows {
-        let (status, text) = run_over(rt.alloc(), CHECK, instance, proof, &[])?;
+        let (status, text) = run_over(&rt, rt.alloc(), CHECK, instance, proof, &[])?;
         assert_eq!(rt; text.as_str(), wanted);
         assert_eq!(rt; status, Status::Done);
     }
@@ -109,7 +112,7 @@ fn what_is_refused(rt: HostRuntime) -> Result<(), Fail> {
         (P6, V5, "refused: tasks 5 6\n"),
     ];
     for (instance, proof, wanted) in rows {
-        let (status, text) = run_over(rt.alloc(), CHECK, instance, proof, &[])?;
+        let (status, text) = run_over(&rt, rt.alloc(), CHECK, instance, proof, &[])?;
         assert_eq!(rt; text.as_str(), wanted);
         assert_eq!(rt; status, Status::Refused);
     }
@@ -120,11 +123,11 @@ fn what_is_refused(rt: HostRuntime) -> Result<(), Fail> {
 fn steps_that_end(rt: HostRuntime) -> Result<(), Fail> {
     for proof in [V1, V5] {
         let words = ["check", "t.in2", "t.cert", "steps=14"];
-        let (status, text) = run_over(rt.alloc(), &words, P5, proof, &[])?;
+        let (status, text) = run_over(&rt, rt.alloc(), &words, P5, proof, &[])?;
         assert_eq!(rt; text.as_str(), "steps ended at 14\n");
         assert_eq!(rt; status, Status::Steps);
         let words = ["check", "t.in2", "t.cert", "steps=15"];
-        let (status, _) = run_over(rt.alloc(), &words, P5, proof, &[])?;
+        let (status, _) = run_over(&rt, rt.alloc(), &words, P5, proof, &[])?;
         assert_eq!(rt; status, Status::Done);
     }
     Ok(())
@@ -133,10 +136,10 @@ fn steps_that_end(rt: HostRuntime) -> Result<(), Fail> {
 #[test]
 fn tasks_apart_that_stand_together(rt: HostRuntime) -> Result<(), Fail> {
     let words = ["check", "t.in2", "t.cert", "apart=t.apart"];
-    let (status, text) = run_over(rt.alloc(), &words, T2, TOGETHER, &[])?;
+    let (status, text) = run_over(&rt, rt.alloc(), &words, T2, TOGETHER, &[])?;
     assert_eq!(rt; text.as_str(), "refused: balance together 1 2\n");
     assert_eq!(rt; status, Status::Refused);
-    let (status, text) = run_over(rt.alloc(), CHECK, T2, TOGETHER, &[])?;
+    let (status, text) = run_over(&rt, rt.alloc(), CHECK, T2, TOGETHER, &[])?;
     assert_eq!(rt; text.as_str(), "accepted straight cycle 2 lower 1 upper 1 units 0\n");
     assert_eq!(rt; status, Status::Done);
     Ok(())
@@ -162,7 +165,7 @@ fn cut_short(rt: HostRuntime) -> Result<(), Fail> {
     for (proof, lines) in [(V5, 16usize), (V1, 18)] {
         for k in 0..lines {
             let front = &proof[..behind(proof, k).min(proof.len())];
-            let (status, text) = run_over(alloc, CHECK, P5, front, &[])?;
+            let (status, text) = run_over(&rt, alloc, CHECK, P5, front, &[])?;
             let line = k + 1;
             let wanted = format!(in alloc; "certificate: line {line} ended\n")?;
             assert_eq!(rt; text.as_str(), wanted.as_str());
@@ -189,7 +192,7 @@ fn bytes_changed(rt: HostRuntime) -> Result<(), Fail> {
             for byte in *b"019 \n" {
                 let mut changed = Vec::from_slice(alloc, proof)?;
                 changed[at] = byte;
-                let (status, text) = run_over(alloc, CHECK, P5, &changed, &[])?;
+                let (status, text) = run_over(&rt, alloc, CHECK, P5, &changed, &[])?;
                 let ends = status == Status::Done || status == Status::Refused;
                 assert!(rt; ends, "byte {at} as {byte}: {text}");
                 let true_bound = status == Status::Refused
@@ -213,7 +216,7 @@ fn faults_of_fetches(rt: HostRuntime) -> Result<(), Fail> {
         (3, "read fault: t.cert\n"),
     ];
     for (call, wanted) in rows {
-        let (status, text) = run_over(rt.alloc(), CHECK, P5, V5, &[call])?;
+        let (status, text) = run_over(&rt, rt.alloc(), CHECK, P5, V5, &[call])?;
         assert_eq!(rt; text.as_str(), wanted);
         assert_eq!(rt; status, Status::ReadFault);
     }
@@ -221,11 +224,11 @@ fn faults_of_fetches(rt: HostRuntime) -> Result<(), Fail> {
 }
 
 /// What a run that converts a certificate leaves of the file that it writes, and what it puts.
-fn converted(alloc: Global, proof: &[u8]) -> Result<(Status, String, String), AllocError> {
+fn converted<R: Threads + Sync>(rt: &R, alloc: Global, proof: &[u8]) -> Result<(Status, String, String), AllocError> {
     let mut shelf = MemShelf::new(alloc, Vec::new(alloc));
     shelf.put_file("v1.cert", proof)?;
     let words = ["convert", "v1.cert", "v5.cert", "to=cert"];
-    let (status, text) = ended(alloc, &words, &mut shelf)?;
+    let (status, text) = ended(rt, alloc, &words, &mut shelf)?;
     let mut left = String::new(alloc);
     if let Some(bytes) = shelf.file("v5.cert") {
         for byte in bytes {
@@ -238,12 +241,12 @@ fn converted(alloc: Global, proof: &[u8]) -> Result<(Status, String, String), Al
 #[test]
 fn a_certificate_is_lifted(rt: HostRuntime) -> Result<(), Fail> {
     for (proof, wanted) in [(V1, V5), (V2, V6), (V6, V6), (INFEASIBLE, INFEASIBLE)] {
-        let (status, text, left) = converted(rt.alloc(), proof)?;
+        let (status, text, left) = converted(&rt, rt.alloc(), proof)?;
         assert_eq!(rt; text.as_str(), "written v5.cert\n");
         assert_eq!(rt; status, Status::Done);
         assert_eq!(rt; left.as_bytes(), wanted);
     }
-    let (status, text, left) = converted(rt.alloc(), b"line balance certificate 3\n")?;
+    let (status, text, left) = converted(&rt, rt.alloc(), b"line balance certificate 3\n")?;
     assert_eq!(rt; text.as_str(), "certificate: line 1 form\n");
     assert_eq!(rt; status, Status::Refused);
     assert_eq!(rt; left.as_str(), "");

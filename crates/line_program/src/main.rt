@@ -41,6 +41,6 @@ fn main(rt: HostRuntime) -> ExitCode {
     };
     let mut shelf = DiskShelf::new(&rt);
     let mut out = OutSink::new(&rt);
-    let status = run(rt.alloc(), &words, &mut shelf, &mut out);
+    let status = run(&rt, rt.alloc(), &words, &mut shelf, &mut out);
     ExitCode::from(status.code())
 }

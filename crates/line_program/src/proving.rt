@@ -2,6 +2,7 @@
 ghost use Rattle.std.specs.Prelude.{◌≡◌, ◌≢◌, ◌≤◌, ℕ, List, IfOk, MatchResult, option_map, string_bytes};
 ghost use Rattle.line_io.specs.Outside.{Rises};
 ghost use Rattle.line_rules.specs.Ranges.{IsInRange};
+ghost use Rattle.line_check.specs.Certificates.{IsVerdict, IsAcceptedSo, IsRejectedSo, IsTrueOf};
 ghost use Rattle.line_words.specs.Ranges.{IsBetween};
 ghost use Rattle.line_program.specs.Answers.{Reads};
 ghost use Rattle.line_program.specs.Certified.{IsCheckReport, IsTextOf, cert_fault_line, cert_kind_text};
@@ -16,10 +17,13 @@ use crate::status::Status;
 use crate::verdict::verdict_report;
 use cert_files::{CertFrom, cert_from};
 use cert_text::{CertFault, CertKind};
-use line_check::verify;
+use line_check::{Verified, verify};
+use line_instance::Instance;
 use line_io::Shelf;
 use line_rules::Certificate;
 use std::alloc::{AllocError, Global};
+use std::thread::Threads;
+use wide_check::{Wide, verify_wide};
 
 /// The most bytes of a certificate's file.
 const MAX_PROOF: u64 = 2_147_483_648;
@@ -83,8 +87,30 @@ pub fn proof_of<S: Shelf>(alloc: Global, file: &str, shelf: &mut S) -> Result<Ce
     }
 }
 
+/// What the check of a certificate finds: with its entries side by side or, where memory for that is wanting, in order.
+fn verdict_of<R: Threads + Sync>(
+    rt: &R,
+    alloc: Global,
+    inst: &Instance,
+    cert: &Certificate,
+    steps: u64,
+) -> Verified
+    requires range { IsInRange cert.now }
+    requires steps { IsBetween 1 20000000 steps }
+    ensures verdict { IsVerdict inst.now cert.now steps result }
+    ensures accepted { IsAcceptedSo inst.now cert.now steps result }
+    ensures rejected { IsRejectedSo inst.now cert.now steps result }
+    ensures true_bounds { IsTrueOf inst.now cert.now result }
+{
+    match verify_wide(rt, alloc, inst, cert, steps) {
+        Wide::Done(verified) => verified,
+        Wide::NoMemory => verify(inst, cert, steps),
+    }
+}
+
 /// What the check of a file's certificate, for the line that the other files say, comes to in so many steps.
-pub fn check_report<S: Shelf>(
+pub fn check_report<R: Threads + Sync, S: Shelf>(
+    rt: &R,
     alloc: Global,
     file: &str,
     proof: &str,
@@ -102,7 +128,7 @@ pub fn check_report<S: Shelf>(
 {
     let inst = line_of(alloc, file, apart, shelf)?;
     let cert = proof_of(alloc, proof, shelf)?;
-    let verified = verify(&inst, &cert, steps);
+    let verified = verdict_of(rt, alloc, &inst, &cert, steps);
     let report = verdict_report(alloc, &cert, &verified)?;
     Ok(report)
 }

@@ -4,6 +4,7 @@ use crate::top::run;
 use line_io::{MemShelf, MemSink};
 use std::alloc::{AllocError, Global};
 use std::test::Fail;
+use std::thread::Threads;
 
 const P5: &[u8] = b"5\n4\n4\n2\n2\n2\n-1,-1\n";
 
@@ -11,7 +12,8 @@ const JACKSON: &[u8] =
     b"11\n6\n2\n5\n7\n1\n2\n3\n6\n5\n5\n4\n1,2\n1,3\n1,4\n1,5\n2,6\n3,7\n4,7\n5,7\n6,8\n7,9\n8,10\n9,11\n10,11\n-1,-1\n";
 
 /// How a run with these words ends over one file, and what it puts. The calls of these numbers fail.
-fn run_over(
+fn run_over<R: Threads + Sync>(
+    rt: &R,
     alloc: Global,
     words: &[&str],
     text: &[u8],
@@ -27,7 +29,7 @@ fn run_over(
     for word in words {
         list.push(String::from_str(alloc, word)?)?;
     }
-    let status = run(alloc, &list, &mut shelf, &mut out);
+    let status = run(rt, alloc, &list, &mut shelf, &mut out);
     let mut shown = String::new(alloc);
     for byte in out.bytes() {
         shown.push(char::from(*byte))?;
@@ -36,13 +38,13 @@ fn run_over(
 }
 
 /// The same with no failing calls, of `balance t.in2` and the cycle.
-fn balance(alloc: Global, text: &[u8], cycle: &str) -> Result<(Status, String), AllocError> {
-    run_over(alloc, &["balance", "t.in2", cycle], text, &[], &[])
+fn balance<R: Threads + Sync>(rt: &R, alloc: Global, text: &[u8], cycle: &str) -> Result<(Status, String), AllocError> {
+    run_over(rt, alloc, &["balance", "t.in2", cycle], text, &[], &[])
 }
 
 #[test]
 fn balance_of_five_tasks(rt: HostRuntime) -> Result<(), Fail> {
-    let (status, text) = balance(rt.alloc(), P5, "cycle=7")?;
+    let (status, text) = balance(&rt, rt.alloc(), P5, "cycle=7")?;
     assert_eq!(rt; status, Status::Done);
     assert_eq!(rt;
         text.as_str(),
@@ -53,7 +55,7 @@ fn balance_of_five_tasks(rt: HostRuntime) -> Result<(), Fail> {
 
 #[test]
 fn a_task_too_long(rt: HostRuntime) -> Result<(), Fail> {
-    let (status, text) = balance(rt.alloc(), P5, "cycle=3")?;
+    let (status, text) = balance(&rt, rt.alloc(), P5, "cycle=3")?;
     assert_eq!(rt; status, Status::Done);
     assert_eq!(rt; text.as_str(), "infeasible: task 1 time 4\n");
     Ok(())
@@ -61,7 +63,7 @@ fn a_task_too_long(rt: HostRuntime) -> Result<(), Fail> {
 
 #[test]
 fn balance_of_jackson(rt: HostRuntime) -> Result<(), Fail> {
-    let (status, text) = balance(rt.alloc(), JACKSON, "cycle=10")?;
+    let (status, text) = balance(&rt, rt.alloc(), JACKSON, "cycle=10")?;
     assert_eq!(rt; status, Status::Done);
     assert_eq!(rt;
         text.as_str(),
@@ -72,8 +74,7 @@ fn balance_of_jackson(rt: HostRuntime) -> Result<(), Fail> {
 
 #[test]
 fn a_huge_idle_time(rt: HostRuntime) -> Result<(), Fail> {
-    let (status, text) = balance(
-        rt.alloc(),
+    let (status, text) = balance(&rt, rt.alloc(),
         b"1\n200000000000000\n-1,-1\n",
         "cycle=1000000000000000000",
     )?;
@@ -87,8 +88,7 @@ fn a_huge_idle_time(rt: HostRuntime) -> Result<(), Fail> {
 
 #[test]
 fn no_such_file(rt: HostRuntime) -> Result<(), Fail> {
-    let (status, text) = run_over(
-        rt.alloc(),
+    let (status, text) = run_over(&rt, rt.alloc(),
         &["balance", "none.in2", "cycle=7"],
         P5,
         &[],
@@ -96,7 +96,7 @@ fn no_such_file(rt: HostRuntime) -> Result<(), Fail> {
     )?;
     assert_eq!(rt; status, Status::ReadFault);
     assert_eq!(rt; text.as_str(), "read fault: none.in2\n");
-    let (status, text) = run_over(rt.alloc(), &["balance", "t.in2", "cycle=7"], P5, &[0], &[])?;
+    let (status, text) = run_over(&rt, rt.alloc(), &["balance", "t.in2", "cycle=7"], P5, &[0], &[])?;
     assert_eq!(rt; status, Status::ReadFault);
     assert_eq!(rt; text.as_str(), "read fault: t.in2\n");
     Ok(())
@@ -104,7 +104,7 @@ fn no_such_file(rt: HostRuntime) -> Result<(), Fail> {
 
 #[test]
 fn the_sink_fails(rt: HostRuntime) -> Result<(), Fail> {
-    let (status, text) = run_over(rt.alloc(), &["balance", "t.in2", "cycle=7"], P5, &[], &[0])?;
+    let (status, text) = run_over(&rt, rt.alloc(), &["balance", "t.in2", "cycle=7"], P5, &[], &[0])?;
     assert_eq!(rt; status, Status::WriteFault);
     assert_eq!(rt; text.as_str(), "");
     Ok(())
@@ -147,7 +147,7 @@ fn faults_of_the_words(rt: HostRuntime) -> Result<(), Fail> {
         (&["--help", "solve"], "usage: word 0 unknown command\n"),
     ];
     for (words, line) in rows {
-        let (status, text) = run_over(rt.alloc(), words, P5, &[], &[])?;
+        let (status, text) = run_over(&rt, rt.alloc(), words, P5, &[], &[])?;
         assert_eq!(rt; status, Status::Usage);
         assert_eq!(rt; text.as_str(), line);
     }
@@ -167,7 +167,7 @@ fn jobs_that_are_not_built(rt: HostRuntime) -> Result<(), Fail> {
         (&["combine", "a.csv", "b.in2"], "not built: combine\n"),
     ];
     for (words, line) in rows {
-        let (status, text) = run_over(rt.alloc(), words, P5, &[0], &[])?;
+        let (status, text) = run_over(&rt, rt.alloc(), words, P5, &[0], &[])?;
         assert_eq!(rt; status, Status::Usage);
         assert_eq!(rt; text.as_str(), line);
     }
@@ -176,10 +176,10 @@ fn jobs_that_are_not_built(rt: HostRuntime) -> Result<(), Fail> {
 
 #[test]
 fn pages(rt: HostRuntime) -> Result<(), Fail> {
-    let (status, text) = run_over(rt.alloc(), &["--version"], P5, &[], &[])?;
+    let (status, text) = run_over(&rt, rt.alloc(), &["--version"], P5, &[], &[])?;
     assert_eq!(rt; status, Status::Done);
     assert_eq!(rt; text.as_str(), "line_program 0.1.0\n");
-    let (status, text) = run_over(rt.alloc(), &["--help"], P5, &[], &[])?;
+    let (status, text) = run_over(&rt, rt.alloc(), &["--help"], P5, &[], &[])?;
     assert_eq!(rt; status, Status::Done);
     let mut lines = 0u32;
     for line in text.lines() {
@@ -188,7 +188,7 @@ fn pages(rt: HostRuntime) -> Result<(), Fail> {
     }
     assert!(rt; lines <= 40, "{lines}");
     assert!(rt; text.contains("line balance jackson.in2 cycle=10"));
-    let (status, _) = run_over(rt.alloc(), &["--help"], P5, &[], &[0])?;
+    let (status, _) = run_over(&rt, rt.alloc(), &["--help"], P5, &[], &[0])?;
     assert_eq!(rt; status, Status::WriteFault);
     Ok(())
 }
@@ -196,7 +196,7 @@ fn pages(rt: HostRuntime) -> Result<(), Fail> {
 #[test]
 fn no_cycle_time(rt: HostRuntime) -> Result<(), Fail> {
     let words = ["balance", "t.in2", "apart=none.apart"];
-    let (status, text) = run_over(rt.alloc(), &words, P5, &[], &[])?;
+    let (status, text) = run_over(&rt, rt.alloc(), &words, P5, &[], &[])?;
     assert_eq!(rt; status, Status::Input);
     assert_eq!(rt; text.as_str(), "input: t.in2 no cycle time\n");
     Ok(())
@@ -205,7 +205,7 @@ fn no_cycle_time(rt: HostRuntime) -> Result<(), Fail> {
 #[test]
 fn words_in_another_order(rt: HostRuntime) -> Result<(), Fail> {
     let words = ["balance", "line=straight", "cycle=7", "t.in2"];
-    let (status, text) = run_over(rt.alloc(), &words, P5, &[], &[])?;
+    let (status, text) = run_over(&rt, rt.alloc(), &words, P5, &[], &[])?;
     assert_eq!(rt; status, Status::Done);
     assert!(rt; text.as_str().starts_with("balance 3\n"));
     Ok(())
@@ -214,7 +214,7 @@ fn words_in_another_order(rt: HostRuntime) -> Result<(), Fail> {
 #[test]
 fn balance_apart(rt: HostRuntime) -> Result<(), Fail> {
     let words = ["balance", "t.in2", "cycle=2", "apart=two.apart"];
-    let (status, text) = run_over(rt.alloc(), &words, b"2\n1\n1\n-1,-1\n", &[], &[])?;
+    let (status, text) = run_over(&rt, rt.alloc(), &words, b"2\n1\n1\n-1,-1\n", &[], &[])?;
     assert_eq!(rt; status, Status::Done);
     assert_eq!(rt;
         text.as_str(),
@@ -227,11 +227,11 @@ fn balance_apart(rt: HostRuntime) -> Result<(), Fail> {
 fn apart_file(rt: HostRuntime) -> Result<(), Fail> {
     let two = b"2\n1\n1\n-1,-1\n";
     let words = ["balance", "t.in2", "cycle=2", "apart=one.apart"];
-    let (status, text) = run_over(rt.alloc(), &words, two, &[], &[])?;
+    let (status, text) = run_over(&rt, rt.alloc(), &words, two, &[], &[])?;
     assert_eq!(rt; status, Status::Input);
     assert_eq!(rt; text.as_str(), "input: one.apart line 1 bad arc\n");
     let words = ["balance", "t.in2", "cycle=2", "apart=none.apart"];
-    let (status, text) = run_over(rt.alloc(), &words, two, &[], &[])?;
+    let (status, text) = run_over(&rt, rt.alloc(), &words, two, &[], &[])?;
     assert_eq!(rt; status, Status::ReadFault);
     assert_eq!(rt; text.as_str(), "read fault: none.apart\n");
     Ok(())
@@ -239,7 +239,7 @@ fn apart_file(rt: HostRuntime) -> Result<(), Fail> {
 
 #[test]
 fn after_the_end(rt: HostRuntime) -> Result<(), Fail> {
-    let (status, text) = balance(rt.alloc(), b"1\n5\n-1,-1\nmade by hand\n", "cycle=5")?;
+    let (status, text) = balance(&rt, rt.alloc(), b"1\n5\n-1,-1\nmade by hand\n", "cycle=5")?;
     assert_eq!(rt; status, Status::Done);
     assert_eq!(rt;
         text.as_str(),
@@ -277,7 +277,7 @@ fn faults_at_their_lines(rt: HostRuntime) -> Result<(), Fail> {
         ),
     ];
     for row in rows {
-        let (status, text) = balance(rt.alloc(), row.0, "cycle=5")?;
+        let (status, text) = balance(&rt, rt.alloc(), row.0, "cycle=5")?;
         assert_eq!(rt; status, Status::Input);
         assert_eq!(rt; text.as_str(), row.1);
     }
@@ -294,7 +294,7 @@ fn texts_that_are_read(rt: HostRuntime) -> Result<(), Fail> {
         b"\n 002 \n1\n\n\t1\n1 ,\t2\n-1 , -1",
     ];
     for row in rows {
-        let (status, text) = balance(rt.alloc(), row, "cycle=5")?;
+        let (status, text) = balance(&rt, rt.alloc(), row, "cycle=5")?;
         assert_eq!(rt; status, Status::Done);
         assert_eq!(rt; text.as_str(), one);
     }
@@ -314,10 +314,10 @@ fn padded(alloc: Global, front: &[u8], n: usize) -> Result<Vec<u8>, AllocError> 
 fn a_file_at_the_limit(rt: HostRuntime) -> Result<(), Fail> {
     let front = b"1\n5\n-1,-1\n";
     let text = padded(rt.alloc(), front, 16_777_216)?;
-    let (status, _) = balance(rt.alloc(), &text, "cycle=5")?;
+    let (status, _) = balance(&rt, rt.alloc(), &text, "cycle=5")?;
     assert_eq!(rt; status, Status::Done);
     let text = padded(rt.alloc(), front, 16_777_217)?;
-    let (status, text) = balance(rt.alloc(), &text, "cycle=5")?;
+    let (status, text) = balance(&rt, rt.alloc(), &text, "cycle=5")?;
     assert_eq!(rt; status, Status::Input);
     assert_eq!(rt; text.as_str(), "input: t.in2 too long\n");
     Ok(())
@@ -336,10 +336,10 @@ fn many_pairs(alloc: Global, n: usize) -> Result<Vec<u8>, AllocError> {
 #[test]
 fn many_arcs(rt: HostRuntime) -> Result<(), Fail> {
     let text = many_pairs(rt.alloc(), 524_288)?;
-    let (status, _) = balance(rt.alloc(), &text, "cycle=5")?;
+    let (status, _) = balance(&rt, rt.alloc(), &text, "cycle=5")?;
     assert_eq!(rt; status, Status::Done);
     let text = many_pairs(rt.alloc(), 524_289)?;
-    let (status, text) = balance(rt.alloc(), &text, "cycle=5")?;
+    let (status, text) = balance(&rt, rt.alloc(), &text, "cycle=5")?;
     assert_eq!(rt; status, Status::Input);
     assert_eq!(rt; text.as_str(), "input: t.in2 line 524292 too many arcs\n");
     Ok(())
@@ -357,21 +357,20 @@ const ALB: &[u8] =
 
 #[test]
 fn balance_of_an_alb_file(rt: HostRuntime) -> Result<(), Fail> {
-    let (status, text) = run_over(rt.alloc(), &["balance", "t.in2"], ALB, &[], &[])?;
+    let (status, text) = run_over(&rt, rt.alloc(), &["balance", "t.in2"], ALB, &[], &[])?;
     assert_eq!(rt; status, Status::Done);
     assert_eq!(rt;
         text.as_str(),
         "balance 1\ntotal bound 1\nidle 0\nstation 1: 1 2\n"
     );
     let words = ["balance", "t.in2", "cycle=4"];
-    let (status, text) = run_over(rt.alloc(), &words, ALB, &[], &[])?;
+    let (status, text) = run_over(&rt, rt.alloc(), &words, ALB, &[], &[])?;
     assert_eq!(rt; status, Status::Done);
     assert_eq!(rt;
         text.as_str(),
         "balance 2\ntotal bound 2\nidle 1\nstation 1: 1\nstation 2: 2\n"
     );
-    let (status, text) = run_over(
-        rt.alloc(),
+    let (status, text) = run_over(&rt, rt.alloc(),
         &["balance", "t.in2"],
         b"<task times>\r\n1 3\r\n<workers>\r\n",
         &[],
@@ -388,7 +387,8 @@ const CHAIN_ALB: &[u8] =
     b"<number of tasks>\n3\n\n<task times>\n1 1\n2 2\n3 1\n\n<precedence relations>\n1,2\n2,3\n\n<end>\n";
 
 /// How a conversion ends over one file, what it puts, and the file that it writes. The calls of these numbers fail.
-fn convert(
+fn convert<R: Threads + Sync>(
+    rt: &R,
     alloc: Global,
     setting: &str,
     text: &[u8],
@@ -401,7 +401,7 @@ fn convert(
     for word in ["convert", "a", "b", setting] {
         list.push(String::from_str(alloc, word)?)?;
     }
-    let status = run(alloc, &list, &mut shelf, &mut out);
+    let status = run(rt, alloc, &list, &mut shelf, &mut out);
     let shown = Vec::from_slice(alloc, out.bytes())?;
     let written = match shelf.file("b") {
         Some(bytes) => Some(Vec::from_slice(alloc, bytes)?),
@@ -413,7 +413,7 @@ fn convert(
 #[test]
 fn convert_to_the_other_form(rt: HostRuntime) -> Result<(), Fail> {
     for (setting, from, to) in [("to=alb", CHAIN, CHAIN_ALB), ("to=in2", CHAIN_ALB, CHAIN)] {
-        let (status, shown, written) = convert(rt.alloc(), setting, from, &[])?;
+        let (status, shown, written) = convert(&rt, rt.alloc(), setting, from, &[])?;
         assert_eq!(rt; status, Status::Done);
         assert!(rt; shown.as_slice() == b"written b\n".as_slice());
         let Some(written) = written else {
@@ -426,19 +426,19 @@ fn convert_to_the_other_form(rt: HostRuntime) -> Result<(), Fail> {
 
 #[test]
 fn a_conversion_that_cannot_write(rt: HostRuntime) -> Result<(), Fail> {
-    let (status, shown, written) = convert(rt.alloc(), "to=alb", CHAIN, &[2])?;
+    let (status, shown, written) = convert(&rt, rt.alloc(), "to=alb", CHAIN, &[2])?;
     assert_eq!(rt; status, Status::WriteFault);
     assert!(rt; shown.is_empty());
     if let Some(written) = written {
         assert!(rt; written.is_empty());
     }
-    let (status, shown, written) = convert(rt.alloc(), "to=alb", CHAIN, &[3])?;
+    let (status, shown, written) = convert(&rt, rt.alloc(), "to=alb", CHAIN, &[3])?;
     assert_eq!(rt; status, Status::WriteFault);
     assert!(rt; shown.is_empty());
     if let Some(written) = written {
         assert!(rt; written.is_empty());
     }
-    let (status, shown, written) = convert(rt.alloc(), "to=alb", b"1\n", &[])?;
+    let (status, shown, written) = convert(&rt, rt.alloc(), "to=alb", b"1\n", &[])?;
     assert_eq!(rt; status, Status::Input);
     assert!(rt; shown.as_slice() == b"input: a line 2 missing times\n".as_slice());
     assert!(rt; written.is_none());

@@ -27,6 +27,7 @@ use line_rules::LineKind;
 use line_words::{Job, JobRead, Name, job_of};
 use lower_bounds::{total_bound, total_time};
 use std::alloc::{AllocError, Global};
+use std::thread::Threads;
 
 /// The time that the stations of a balance don't use.
 fn idle_of(inst: &Instance, cycle: u64, stations: u32) -> u128
@@ -95,7 +96,12 @@ fn done(text: String) -> Report
 }
 
 /// What a job that writes no file puts.
-fn job_answer<S: Shelf>(alloc: Global, job: &Job, shelf: &mut S) -> Result<Report, Refusal>
+fn job_answer<R: Threads + Sync, S: Shelf>(
+    rt: &R,
+    alloc: Global,
+    job: &Job,
+    shelf: &mut S,
+) -> Result<Report, Refusal>
     requires built { unbuilt job.now ≡ None }
     requires range { IsInRange job.now }
     requires writes { out_of job.now ≡ None }
@@ -127,13 +133,21 @@ fn job_answer<S: Shelf>(alloc: Global, job: &Job, shelf: &mut S) -> Result<Repor
             cert,
             steps,
             apart,
-        } => check_report(alloc, file.text(), cert.text(), text_of(apart), *steps, shelf),
+        } => {
+            let apart = text_of(apart);
+            check_report(rt, alloc, file.text(), cert.text(), apart, *steps, shelf)
+        }
         _ => unreachable!(),
     }
 }
 
 /// The report of a job that writes no file.
-fn job_report<S: Shelf>(alloc: Global, job: &Job, shelf: &mut S) -> Result<Report, AllocError>
+fn job_report<R: Threads + Sync, S: Shelf>(
+    rt: &R,
+    alloc: Global,
+    job: &Job,
+    shelf: &mut S,
+) -> Result<Report, AllocError>
     requires built { unbuilt job.now ≡ None }
     requires range { IsInRange job.now }
     requires writes { out_of job.now ≡ None }
@@ -143,7 +157,7 @@ fn job_report<S: Shelf>(alloc: Global, job: &Job, shelf: &mut S) -> Result<Repor
     ensures usage { IfOk result (λ r. r.status ≢ ends.Usage) }
     ensures files { S.tells → Stay (S.file shelf.old) (S.file shelf.new) }
 {
-    match job_answer(alloc, job, shelf) {
+    match job_answer(rt, alloc, job, shelf) {
         Ok(report) => Ok(report),
         Err(Refusal::Report(report)) => Ok(report),
         Err(Refusal::Memory) => Err(AllocError),
@@ -151,7 +165,13 @@ fn job_report<S: Shelf>(alloc: Global, job: &Job, shelf: &mut S) -> Result<Repor
 }
 
 /// Does a job, all of which is built.
-fn run_job<S: Shelf, K: Sink>(alloc: Global, job: &Job, shelf: &mut S, out: &mut K) -> Status
+fn run_job<R: Threads + Sync, S: Shelf, K: Sink>(
+    rt: &R,
+    alloc: Global,
+    job: &Job,
+    shelf: &mut S,
+    out: &mut K,
+) -> Status
     requires built { unbuilt job.now ≡ None }
     requires range { IsInRange job.now }
     ensures put { S.tells → K.tells → result ≢ ends.WriteFault → IsJobPut (S.file shelf.old) job.now result (K.shown out.old) (K.shown out.new) }
@@ -168,17 +188,23 @@ fn run_job<S: Shelf, K: Sink>(alloc: Global, job: &Job, shelf: &mut S, out: &mut
             to,
             cycle,
         } => run_convert(alloc, file.text(), name.text(), *to, *cycle, shelf, out),
-        _ => put_report(out, job_report(alloc, job, shelf)),
+        _ => put_report(out, job_report(rt, alloc, job, shelf)),
     }
 }
 
 /// Runs the program: reads the words, fetches the files that they name, writes the one that the job writes, and puts one report.
 ///
 /// `--help` puts the page with all commands. `balance` puts the ranked balance of an instance at a cycle time, with the bound by total time
-/// and the idle time, or the least task that is longer than the cycle. `convert` writes the canonical text of an instance in the other
-/// form. A fault of the words is answered by the line `usage`, with the number of the word and what is wrong, and a job that isn't built by
+/// and the idle time, or the least task that is longer than the cycle. `check` puts what the check of a certificate finds: what it accepts is
+/// true of the line. `convert` writes the canonical text of an instance in the other form, or of a certificate. A fault of the words is answered by the line `usage`, with the number of the word and what is wrong, and a job that isn't built by
 /// the line `not built`. Each refusal is one line, and nothing is put with it. All files stay but the one that a job writes.
-pub fn run<S: Shelf, K: Sink>(alloc: Global, words: &[String], shelf: &mut S, out: &mut K) -> Status
+pub fn run<R: Threads + Sync, S: Shelf, K: Sink>(
+    rt: &R,
+    alloc: Global,
+    words: &[String],
+    shelf: &mut S,
+    out: &mut K,
+) -> Status
     ensures put { S.tells → K.tells → result ≢ ends.WriteFault → IsPut (texts words.now) (S.file shelf.old) result (K.shown out.old) (K.shown out.new) }
     ensures torn { S.tells → K.tells → result ≡ ends.WriteFault → IsTorn (texts words.now) (S.file shelf.old) (K.shown out.old) (K.shown out.new) }
     ensures usage { result ≡ ends.Usage → AskNothing (texts words.now) }
@@ -191,7 +217,7 @@ pub fn run<S: Shelf, K: Sink>(alloc: Global, words: &[String], shelf: &mut S, ou
             if let Some(part) = unbuilt(&job) {
                 return put_report(out, unbuilt_report(alloc, part));
             }
-            run_job(alloc, &job, shelf, out)
+            run_job(rt, alloc, &job, shelf, out)
         }
         JobRead::Usage { index, kind } => put_report(out, usage_report(alloc, index, kind)),
         JobRead::NoMemory => put(out, b"memory\n", Status::Memory),

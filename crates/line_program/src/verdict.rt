@@ -27,7 +27,7 @@ fn load_text(alloc: Global, tasks: u32, mode: Mode, load: &Load) -> Result<Strin
 
 /// Two numbers with a blank between, behind a text.
 fn push_two(text: &mut String, front: &str, a: u64, b: u64) -> Result<(), AllocError>
-    ensures { OnOk result (string_bytes text.new ≡ string_bytes text.old ++ front.now ++ two_text a b) }
+    ensures { OnOk result (string_bytes text.new ≡ string_bytes text.old ++ (front.now ++ two_text a b)) }
 {
     text.push_str(front)?;
     push_number(text, a)?;
@@ -38,7 +38,7 @@ fn push_two(text: &mut String, front: &str, a: u64, b: u64) -> Result<(), AllocE
 
 /// A number behind a text.
 fn push_one(text: &mut String, front: &str, n: u64) -> Result<(), AllocError>
-    ensures { OnOk result (string_bytes text.new ≡ string_bytes text.old ++ front.now ++ decimal n) }
+    ensures { OnOk result (string_bytes text.new ≡ string_bytes text.old ++ (front.now ++ decimal n)) }
 {
     text.push_str(front)?;
     push_number(text, n)?;
@@ -47,21 +47,21 @@ fn push_one(text: &mut String, front: &str, n: u64) -> Result<(), AllocError>
 
 /// A task, counted from 1, behind a text.
 fn push_task(text: &mut String, front: &str, task: u32) -> Result<(), AllocError>
-    ensures { OnOk result (string_bytes text.new ≡ string_bytes text.old ++ front.now ++ decimal (task + 1)) }
+    ensures { OnOk result (string_bytes text.new ≡ string_bytes text.old ++ (front.now ++ decimal (task + 1))) }
 {
     push_one(text, front, u64::from(task) + 1)
 }
 
 /// Two tasks, counted from 1, behind a text.
 fn push_pair(text: &mut String, front: &str, i: u32, j: u32) -> Result<(), AllocError>
-    ensures { OnOk result (string_bytes text.new ≡ string_bytes text.old ++ front.now ++ two_text (i + 1) (j + 1)) }
+    ensures { OnOk result (string_bytes text.new ≡ string_bytes text.old ++ (front.now ++ two_text (i + 1) (j + 1))) }
 {
     push_two(text, front, u64::from(i) + 1, u64::from(j) + 1)
 }
 
 /// A task that is said to be too long, and a number behind a word.
 fn push_infeasible(text: &mut String, task: u32, word: &str, n: u64) -> Result<(), AllocError>
-    ensures { OnOk result (string_bytes text.new ≡ string_bytes text.old ++ codes "infeasible " ++ decimal (task + 1) ++ word.now ++ decimal n) }
+    ensures { OnOk result (string_bytes text.new ≡ string_bytes text.old ++ (codes "infeasible " ++ decimal (task + 1) ++ word.now ++ decimal n)) }
 {
     push_task(text, "infeasible ", task)?;
     push_one(text, word, n)?;
@@ -77,7 +77,7 @@ fn push_uncovered(
     load: &Load,
 ) -> Result<(), AllocError>
     requires { tasks ≤ 1024 }
-    ensures { OnOk result (string_bytes text.new ≡ string_bytes text.old ++ codes " uncovered " ++ load_text tasks mode load.now) }
+    ensures { OnOk result (string_bytes text.new ≡ string_bytes text.old ++ (codes " uncovered " ++ load_text tasks mode load.now)) }
 {
     let load = load_text(alloc, tasks, mode, load)?;
     text.push_str(" uncovered ")?;
@@ -201,7 +201,7 @@ fn push_place(
 
 /// The kind of line and the question of a certificate.
 fn push_question(text: &mut String, kind: LineKind, ask: Ask) -> Result<(), AllocError>
-    ensures { OnOk result (string_bytes text.new ≡ string_bytes text.old ++ codes "accepted " ++ kind_text kind ++ codes " " ++ ask_text ask) }
+    ensures { OnOk result (string_bytes text.new ≡ string_bytes text.old ++ (codes "accepted " ++ kind_text kind ++ codes " " ++ ask_text ask)) }
 {
     text.push_str("accepted ")?;
     match kind {
@@ -222,7 +222,7 @@ fn push_accepted(
     upper: u64,
     units: u64,
 ) -> Result<(), AllocError>
-    ensures { OnOk result (string_bytes text.new ≡ string_bytes text.old ++ codes "accepted " ++ kind_text cert.now.kind ++ codes " " ++ ask_text cert.now.ask ++ codes " lower " ++ decimal lower ++ codes " upper " ++ decimal upper ++ codes " units " ++ decimal units) }
+    ensures { OnOk result (string_bytes text.new ≡ string_bytes text.old ++ (codes "accepted " ++ kind_text cert.now.kind ++ codes " " ++ ask_text cert.now.ask ++ codes " lower " ++ decimal lower ++ codes " upper " ++ decimal upper ++ codes " units " ++ decimal units)) }
 {
     push_question(text, cert.kind, cert.ask)?;
     push_one(text, " lower ", lower)?;
@@ -233,7 +233,7 @@ fn push_accepted(
 
 /// A task that is accepted as too long.
 fn push_too_long(text: &mut String, cert: &Certificate, task: u32) -> Result<(), AllocError>
-    ensures { OnOk result (string_bytes text.new ≡ string_bytes text.old ++ codes "accepted " ++ kind_text cert.now.kind ++ codes " " ++ ask_text cert.now.ask ++ codes " infeasible " ++ decimal (task + 1)) }
+    ensures { OnOk result (string_bytes text.new ≡ string_bytes text.old ++ (codes "accepted " ++ kind_text cert.now.kind ++ codes " " ++ ask_text cert.now.ask ++ codes " infeasible " ++ decimal (task + 1))) }
 {
     push_question(text, cert.kind, cert.ask)?;
     push_task(text, " infeasible ", task)?;
@@ -248,7 +248,7 @@ fn push_refused(
     place: &Place,
 ) -> Result<(), AllocError>
     requires { cert.now.tasks ≤ 1024 }
-    ensures { OnOk result (string_bytes text.new ≡ string_bytes text.old ++ codes "refused: " ++ place_text cert.now place.now) }
+    ensures { OnOk result (string_bytes text.new ≡ string_bytes text.old ++ (codes "refused: " ++ place_text cert.now place.now)) }
 {
     text.push_str("refused: ")?;
     push_place(alloc, text, cert, place)?;

@@ -36,7 +36,7 @@ returns-in-Err-Report-clause-torn g c = λ s k e.
       text = string_bytes c.in-Err-Report.report.text;
       printed = inl (proof_refused (g.S.Shelf.file c.args.shelf.now) c.args.file.now c.args.name.now c.args.word c.in-Err-Report.report.status (string_bytes c.in-Err-Report.report.text) (rw c.in-Err-Report.field-0-is at (c.in-Err-Report.ensures.said s)));
       kept = q.0;
-      shown = q.1 ∙ ap (λ t. g.K.Sink.shown c.args.out.now ++ take q.0 t) c.as_bytes-in-Err-Report.ensures.value;
+      shown = rw c.in-Err-Report.field-0-is at (q.1 ∙ ap (λ t. g.K.Sink.shown c.args.out.now ++ take q.0 t) c.as_bytes-in-Err-Report.ensures.value);
     }
 
 pub returns-clause-torn : goal.returns-clause-torn
