@@ -173,6 +173,7 @@ fn cut_short(rt: HostRuntime) -> Result<(), Fail> {
         }
     }
     let (status, text) = run_over(
+        &rt,
         alloc,
         CHECK,
         P5,
