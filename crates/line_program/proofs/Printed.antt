@@ -17,7 +17,7 @@ use Rattle.line_program.specs.Answers.{IsBalanceReport, IsFaulty}
 use Rattle.line_program.specs.Certified.{IsCheckReport}
 use Rattle.line_program.specs.Reports.{IsReport, IsPageReport, IsConvertReport, IsConverted}
 use Rattle.line_program.specs.Files.{IsFileReport, IsNoProofReport}
-use Rattle.line_program.specs.Run.{IsPrinted, IsPut, IsTorn, IsJobPrinted, IsJobPut, IsJobTorn, IsLeft, IsLeftBy, IsWhole, Leaves, LeavesConverted, Stay, out_of, status_of, text_of}
+use Rattle.line_program.specs.Run.{IsPrinted, IsPut, IsTorn, IsJobPrinted, IsJobPut, IsJobTorn, IsLeft, IsLeftBy, IsWhole, Leaves, LeavesConverted, IsJobTrue, Stay, out_of, status_of, text_of}
 use Rattle.line_program.specs.declared.refusal.Report.{Report}
 use Rattle.line_program.specs.declared.status.Status.{Status}
 use Rattle.line_program.specs.declared.status.Status.TheVariants as ends
@@ -255,3 +255,38 @@ proof_refused files file out word ends.Usage text r = absurd r
 proof_refused files file out word ends.WriteFault text r = absurd r
 proof_refused files file out word ends.Memory text r = absurd r
 proof_refused files file out word ends.Steps text r = absurd r
+
+-- the answer of a job has proved what it says
+true_of : (files : List ℕ → Option (List ℕ)) (job : Job) (text : List ℕ) → IsReport files job ends.Done text → IsJobTrue files job
+true_of files Help text r = tt
+true_of files Version text r = tt
+true_of files (Balance file cycle line apart) text r = tt
+true_of files (Solve file cycle line helpers units cert apart) text r = tt
+true_of files (Cycle file stations line helpers units cert) text r = tt
+true_of files (Check file cert steps apart) text r = record { line = r.line; cert = r.cert; found = r.found; said = r.said; read = r.read; yes = sym r.ending; accepted = r.accepted; holds = r.true_bounds }
+true_of files (Convert file out to cycle) text r = tt
+true_of files (Combine mix out) text r = tt
+true_of files (Utility mix cert seq interval length) text r = tt
+true_of files (Timeline mix cert seq interval length) text r = tt
+true_of files (Try seed tasks cycle line units) text r = tt
+
+pub report_true : (files : List ℕ → Option (List ℕ)) (job : Job) (r : Result Report AllocError) (s : Status) → IfOk r (λ x. IsReport files job x.status (string_bytes x.text)) → (s ≢ ends.WriteFault → s ≡ status_of r) → s ≡ ends.Done → IsJobTrue files job
+report_true files job (Ok x) s p k e =
+    let d : x.status ≡ ends.Done = sym (k (λ w. done_fault (sym e ∙ w))) ∙ e in
+    true_of files job (string_bytes x.text) (subst (λ t. IsReport files job t (string_bytes x.text)) d p)
+  where
+    done_fault : ends.Done ≡ ends.WriteFault → ⊥
+    done_fault e = cc
+report_true files job (Err x) s p k e = absurd (never (sym (k (λ w. done_fault (sym e ∙ w))) ∙ e))
+  where
+    done_fault : ends.Done ≡ ends.WriteFault → ⊥
+    done_fault e = cc
+    never : ends.Memory ≡ ends.Done → ⊥
+    never e = cc
+
+-- words that ask for nothing are never done
+pub not_done : (r : Result Report AllocError) (s : Status) → IfOk r (λ x. x.status ≡ ends.Usage) → (s ≢ ends.WriteFault → s ≡ status_of r) → s ≡ ends.Done → ⊥
+not_done r s u k e = never_done r u (sym (k (λ w. done_fault (sym e ∙ w))) ∙ e)
+  where
+    done_fault : ends.Done ≡ ends.WriteFault → ⊥
+    done_fault e = cc

@@ -7,6 +7,13 @@ use Rattle.line_words.specs.declared.job.FormWord.{FormWord}
 use Rattle.line_words.specs.declared.job.Job.{Job}
 use Rattle.line_words.specs.declared.job.Job.TheVariants.{Help, Version, Balance, Solve, Cycle, Check, Convert, Combine, Utility, Timeline, Try}
 use Rattle.line_program.specs.Built.{unbuilt, IsUsageText}
+use Rattle.line_instance.specs.Line.{Line}
+use Rattle.line_rules.specs.declared.types.Certificate.{Certificate}
+use Rattle.line_check.specs.Certificates.{IsAcceptedSo, IsTrueOf}
+use Rattle.line_check.specs.declared.types.Verified.{Verified}
+use Rattle.line_program.specs.Answers.{Reads}
+use Rattle.line_program.specs.Certified.{IsLineOf, IsTextOf}
+use Rattle.line_program.specs.Verdict.{verdict_status}
 use Rattle.line_program.specs.Reports.{IsReport, IsConverted}
 use Rattle.line_program.specs.declared.status.Status.{Status}
 use Rattle.line_program.specs.declared.status.Status.TheVariants as ends
@@ -147,3 +154,35 @@ text_of (Err e) = codes "memory\n"
 abbrev pub status_of : Result Report AllocError → Status
 status_of (Ok r) = r.status
 status_of (Err e) = ends.Memory
+
+-- The certificate of one file is accepted for the line that the other files say, and what it claims is true: there is a balance at its upper
+-- bound and none below the lower one, or there is none in any number of stations.
+pub record IsProvedTrue (files : List ℕ → Option (List ℕ)) (name proof : Text) (apart : Option Text) (steps : ℕ) : Type 0 where
+  pub line : Line
+  pub cert : Certificate
+  pub found : Verified
+  pub said : IsLineOf files name apart line
+  pub read : Reads (files proof) (IsTextOf cert)
+  pub yes : verdict_status found ≡ ends.Done
+  pub accepted : IsAcceptedSo line cert steps found
+  pub holds : IsTrueOf line cert found
+
+-- what a job that is done has proved
+abbrev pub IsJobTrue : (List ℕ → Option (List ℕ)) → Job → Type 0
+IsJobTrue files Help = Unit {0}
+IsJobTrue files Version = Unit {0}
+IsJobTrue files (Balance file cycle line apart) = Unit {0}
+IsJobTrue files (Solve file cycle line helpers units cert apart) = Unit {0}
+IsJobTrue files (Cycle file stations line helpers units cert) = Unit {0}
+IsJobTrue files (Check file cert steps apart) = IsProvedTrue files file cert apart steps
+IsJobTrue files (Convert file out to cycle) = Unit {0}
+IsJobTrue files (Combine mix out) = Unit {0}
+IsJobTrue files (Utility mix cert seq interval length) = Unit {0}
+IsJobTrue files (Timeline mix cert seq interval length) = Unit {0}
+IsJobTrue files (Try seed tasks cycle line units) = Unit {0}
+
+-- What a run that is done has proved: where its words ask for the check of a certificate, whoever made it, what the certificate claims is true.
+pub record IsTrueRun (words : List Text) (files : List ℕ → Option (List ℕ)) : Type 0 where
+  pub job : Job
+  pub asked : IsJob words job
+  pub holds : IsJobTrue files job

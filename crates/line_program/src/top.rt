@@ -8,7 +8,7 @@ ghost use Rattle.line_program.specs.Built.{AskNothing, unbuilt};
 ghost use Rattle.line_program.specs.Answers.{IsAnswer, IsDone};
 ghost use Rattle.line_program.specs.Reports.{IsReport};
 ghost use Rattle.line_program.specs.Files.{IsUnsaid, IsVerdictStatus, MayFault};
-ghost use Rattle.line_program.specs.Run.{IsJobRefusal, IsPut, IsTorn, IsJobPut, IsJobTorn, IsLeft, IsLeftBy, IsWriting, Stay, out_of, status_of, text_of};
+ghost use Rattle.line_program.specs.Run.{IsJobRefusal, IsPut, IsTorn, IsJobPut, IsJobTorn, IsLeft, IsLeftBy, IsJobTrue, IsTrueRun, IsWriting, Stay, out_of, status_of, text_of};
 ghost use Rattle.line_program.specs.declared.status.Status.TheVariants as ends;
 
 use crate::converting::run_convert;
@@ -180,6 +180,7 @@ fn run_job<R: Threads + Sync, S: Shelf, K: Sink>(
     ensures read { result ≡ ends.ReadFault → Rises (S.faults shelf.old) (S.faults shelf.new) }
     ensures write { result ≡ ends.WriteFault → Rises (K.faults out.old) (K.faults out.new) ⊎ (((name : Text) × (out_of job.now ≡ Some name)) × Rises (S.faults shelf.old) (S.faults shelf.new)) }
     ensures files { S.tells → IsLeftBy (S.file shelf.old) job.now result (S.file shelf.new) }
+    ensures true_bounds { S.tells → result ≡ ends.Done → IsJobTrue (S.file shelf.old) job.now }
 {
     match job {
         Job::Convert {
@@ -211,6 +212,7 @@ pub fn run<R: Threads + Sync, S: Shelf, K: Sink>(
     ensures read { result ≡ ends.ReadFault → Rises (S.faults shelf.old) (S.faults shelf.new) }
     ensures write { result ≡ ends.WriteFault → Rises (K.faults out.old) (K.faults out.new) ⊎ (IsWriting (texts words.now) × Rises (S.faults shelf.old) (S.faults shelf.new)) }
     ensures files { S.tells → IsLeft (texts words.now) (S.file shelf.old) result (S.file shelf.new) }
+    ensures true_bounds { S.tells → result ≡ ends.Done → IsTrueRun (texts words.now) (S.file shelf.old) }
 {
     match job_of(alloc, words) {
         JobRead::Good(job) => {

@@ -1,7 +1,7 @@
 use Rattle.std.proofs.Common.{codes, inl, inr, refl, sym}
 use Rattle.line_words.specs.Words.{texts}
 use Rattle.line_program.specs.declared.status.Status.TheVariants as ends
-use Rattle.line_program.proofs.Printed.{put_of, torn_of, left_of, usage_put, unbuilt_put, words_put, words_torn, words_left}
+use Rattle.line_program.proofs.Printed.{put_of, torn_of, left_of, usage_put, unbuilt_put, words_put, words_torn, words_left, not_done}
 use Rattle.line_program.proofs.top.run.Goals as goal
 
 pub returns-in-Some-clause-put : goal.returns-in-Some-clause-put
@@ -52,3 +52,12 @@ returns-in-Usage-clause-torn g c = λ s k e.
 
 pub returns-in-NoMemory-clause-torn : goal.returns-in-NoMemory-clause-torn
 returns-in-NoMemory-clause-torn g c = λ s k e. (let q = c.put.ensures.torn k e in record { status = ends.Memory; text = codes "memory\n"; printed = refl; kept = q.0; shown = q.1 })
+
+pub returns-in-Some-clause-true_bounds : goal.returns-in-Some-clause-true_bounds
+returns-in-Some-clause-true_bounds g c = λ s e. absurd (not_done c.unbuilt_report.result c.put_report.result c.unbuilt_report.ensures.status c.put_report.ensures.kept e)
+
+pub returns-in_default-clause-true_bounds : goal.returns-in_default-clause-true_bounds
+returns-in_default-clause-true_bounds g c = λ s e. record { job = c.in-Good.job; asked = c.in-Good.ensures.read; holds = c.run_job.ensures.true_bounds s e }
+
+pub returns-in-Usage-clause-true_bounds : goal.returns-in-Usage-clause-true_bounds
+returns-in-Usage-clause-true_bounds g c = λ s e. absurd (not_done c.usage_report.result c.put_report-in-Usage.result c.usage_report.ensures.status c.put_report-in-Usage.ensures.kept e)
