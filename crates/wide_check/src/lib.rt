@@ -2,6 +2,8 @@
 #![tactic(auto)]
 
 mod batches;
+#[cfg(test)]
+mod tests;
 mod wide;
 
 pub use wide::{Wide, verify_wide};
