@@ -11,7 +11,7 @@ ghost use Rattle.line_check.specs.Lists.{AreFound};
 use crate::entries::is_same;
 use crate::frames::check_frames;
 use crate::lists::check_entries;
-use crate::types::{ListFound, FrameFault, FramesFound, ListChecked, Place, Verified};
+use crate::types::{FrameFault, FramesFound, ListChecked, ListFound, Place, Verified};
 use line_instance::Instance;
 use line_rules::{
     Ask, Balance, BalanceCheck, Certificate, Claim, Entries, Entry, LineKind, Trail, check_balance,
@@ -326,7 +326,7 @@ pub fn needs_entries(inst: &Instance, cert: &Certificate) -> bool
 }
 
 /// What is found of the entries of a certificate, where the check comes to them.
-fn entries_found(inst: &Instance, cert: &Certificate, steps: u64) -> ListFound
+pub(crate) fn entries_found(inst: &Instance, cert: &Certificate, steps: u64) -> ListFound
     requires range { IsInRange cert.now }
     ensures { NeedsEntries inst.now cert.now → AreFoundOf inst.now cert.now steps result }
 {
