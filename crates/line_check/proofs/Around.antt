@@ -182,10 +182,6 @@ pub no_chain : (kind : LineKind) → kind ≡ U → (line : Line) (c : ℕ) (R :
 unfolding chained
 no_chain kind u line c R = ap (λ k. chained k line c R) u
 
-pub chain_first : (kind : LineKind) → kind ≡ Straight → (line : Line) (c : ℕ) (R : List Bool) (left : List ℕ) → IsTaskSet line R → left ≡ members_of R
-    → max 0 (greatest_of (λ j. head line c R j + tail line c R j - 1) left) ≡ chained kind line c R
-chain_first kind straight line c R left set e = omega (arith, chain_start kind straight line c R 0 left set e)
-
 module _ (line : Line) (ok : IsLine line) (R : List Bool) (tasks_of : IsTaskSet line R) (j : ℕ) (member : In R j) where
   picked_out : (p : ℕ → Bool) (i : ℕ) → In R i → In (keep p R) i ↔ (p i ≡ true)
   picked_out p i m = (λ k. (In-keep_parts p R i k).1, λ e. In-keep p R i m e)

@@ -36,8 +36,8 @@ pub fn verify_list(
     verify_list_found(inst, kind, entries, trail, steps, found)
 }
 
-/// The same, where the entries were checked before, as by [`check_entry`](crate::check_entry) side by side: `found` is what the check of the
-/// entries in their order, with so many steps, finds.
+/// Checks a list as [`verify_list`] does, where its entries were checked before, as by [`check_entry`](crate::check_entry) side by side:
+/// `found` is what the check of the entries in their order, with so many steps, finds.
 pub fn verify_list_found(
     inst: &Instance,
     kind: LineKind,
@@ -353,8 +353,8 @@ pub fn verify(inst: &Instance, cert: &Certificate, steps: u64) -> Verified
     verify_found(inst, cert, steps, entries_found(inst, cert, steps))
 }
 
-/// The same, where the entries were checked before, as by [`check_entry`](crate::check_entry) side by side: `found` is what the check of the
-/// entries in their order, with so many steps, finds. Where [`needs_entries`] is false, it may be anything.
+/// Checks a certificate as [`verify`] does, where its entries were checked before, as by [`check_entry`](crate::check_entry) side by side:
+/// `found` is what the check of the entries in their order, with so many steps, finds. Where [`needs_entries`] is false, it may be anything.
 pub fn verify_found(inst: &Instance, cert: &Certificate, steps: u64, found: ListFound) -> Verified
     requires range { IsInRange cert.now }
     requires some { 1 ≤ steps }

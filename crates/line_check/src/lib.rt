@@ -12,8 +12,6 @@ mod lists;
 mod loads;
 mod pairs;
 mod questions;
-#[cfg(test)]
-mod ranges;
 mod sides;
 mod sizes;
 #[cfg(test)]

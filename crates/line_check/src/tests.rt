@@ -1,7 +1,9 @@
 //! What no clause says: the certificates that were worked by hand, and that each call answers.
+mod ranges;
+
+use self::ranges::{are_entries, is_cycle, is_in_range, is_set, is_trail_or_none};
 use crate::checking::entries_found;
 use crate::lists::check_entries;
-use crate::ranges::{are_entries, is_cycle, is_in_range, is_set, is_trail_or_none};
 use crate::{
     EntryChecked, EntryFault, Found, ListChecked, Place, Verified, check_entry, needs_entries,
     verify, verify_entry, verify_found, verify_list, verify_list_found,
