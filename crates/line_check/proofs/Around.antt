@@ -7,7 +7,7 @@ use Rattle.task_set.specs.Truths.{In, meet, minus, members_of}
 use Rattle.task_set.proofs.Members.{In-meet, In-meet_parts, In-minus, In-minus_parts, In-clear, In-clear_kept, In-clear_gone, keep, In-keep, In-keep_parts}
 use Rattle.line_instance.specs.Line.{Line, IsLine, IsTaskSet, Before, has, is_before, tasks, time}
 use Rattle.line_instance.specs.Sums.{sum_where}
-use Rattle.line_instance.proofs.Sums.{weigh-split, weigh-more, weigh-same, weigh-one, same_truth}
+use Rattle.line_instance.proofs.Sums.{weigh-split, weigh-more, weigh-same, same_truth}
 use Rattle.line_rules.specs.Bounds.{up, head, tail, chained}
 use Rattle.line_rules.specs.declared.types.LineKind.{LineKind}
 use Rattle.line_rules.specs.declared.types.LineKind.TheVariants.{Straight, U}

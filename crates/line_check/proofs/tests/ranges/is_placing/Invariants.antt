@@ -1,6 +1,5 @@
-use Rattle.std.proofs.Common.{◌≡◌, ℕ, ◌<◌, Some, length}
+use Rattle.std.proofs.Common.{◌≡◌, ℕ, ◌<◌, Some}
 use Rattle.std.specs.Prelude.{slice_get}
-use Rattle.line_instance.specs.Line.{tasks}
 use Rattle.line_rules.specs.Ranges.{IsPlaced}
 use Rattle.line_rules.specs.declared.types.Seatplace.{Seatplace as Item}
 use Rattle.line_check.proofs.tests.ranges.is_placing.Given as goal

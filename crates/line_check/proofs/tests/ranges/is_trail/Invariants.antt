@@ -1,4 +1,4 @@
-use Rattle.std.proofs.Common.{◌≡◌, ℕ, ◌<◌, Some, length}
+use Rattle.std.proofs.Common.{◌≡◌, ℕ, ◌<◌, Some}
 use Rattle.std.specs.Prelude.{slice_get}
 use Rattle.line_instance.specs.Line.{tasks}
 use Rattle.line_rules.specs.Ranges.{IsFrame}
