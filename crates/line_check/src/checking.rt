@@ -29,7 +29,7 @@ pub fn verify_list(
 ) -> ListChecked
     requires entries { AreEntries (tasks inst.now) entries.now }
     requires trail { IsTrailOrNone (tasks inst.now) (length entries.now) trail.now }
-    ensures found { IsListChecked kind inst.now entries.now trail.now steps result }
+    ensures verdict { IsListChecked kind inst.now entries.now trail.now steps result }
     ensures rejected { IsListRejected kind inst.now entries.now trail.now steps result }
 {
     let found = check_entries(inst, kind, entries, steps);
@@ -48,7 +48,7 @@ pub fn verify_list_found(
 ) -> ListChecked
     requires trail { IsTrailOrNone (tasks inst.now) (length entries.now) trail.now }
     requires found { AreFound kind inst.now entries.now steps found }
-    ensures found { IsListChecked kind inst.now entries.now trail.now steps result }
+    ensures verdict { IsListChecked kind inst.now entries.now trail.now steps result }
     ensures rejected { IsListRejected kind inst.now entries.now trail.now steps result }
 {
     let _tasks = inst.tasks();
