@@ -7,7 +7,7 @@ use Rattle.task_set.specs.Truths.{In, meet, minus, members_of}
 use Rattle.task_set.proofs.Members.{In-meet, In-meet_parts, In-minus, In-minus_parts, In-clear, In-clear_kept, In-clear_gone, keep, In-keep, In-keep_parts}
 use Rattle.line_instance.specs.Line.{Line, IsLine, IsTaskSet, Before, has, is_before, tasks, time}
 use Rattle.line_instance.specs.Sums.{sum_where}
-use Rattle.line_instance.proofs.Sums.{weigh-split, weigh-more, weigh-same, weigh-one, same_truth}
+use Rattle.line_instance.proofs.Sums.{weigh-split, weigh-more, weigh-same, same_truth}
 use Rattle.line_rules.specs.Bounds.{up, head, tail, chained}
 use Rattle.line_rules.specs.declared.types.LineKind.{LineKind}
 use Rattle.line_rules.specs.declared.types.LineKind.TheVariants.{Straight, U}
@@ -181,10 +181,6 @@ chain_start kind straight line c R least left set e =
 pub no_chain : (kind : LineKind) → kind ≡ U → (line : Line) (c : ℕ) (R : List Bool) → chained kind line c R ≡ 0
 unfolding chained
 no_chain kind u line c R = ap (λ k. chained k line c R) u
-
-pub chain_first : (kind : LineKind) → kind ≡ Straight → (line : Line) (c : ℕ) (R : List Bool) (left : List ℕ) → IsTaskSet line R → left ≡ members_of R
-    → max 0 (greatest_of (λ j. head line c R j + tail line c R j - 1) left) ≡ chained kind line c R
-chain_first kind straight line c R left set e = omega (arith, chain_start kind straight line c R 0 left set e)
 
 module _ (line : Line) (ok : IsLine line) (R : List Bool) (tasks_of : IsTaskSet line R) (j : ℕ) (member : In R j) where
   picked_out : (p : ℕ → Bool) (i : ℕ) → In R i → In (keep p R) i ↔ (p i ≡ true)

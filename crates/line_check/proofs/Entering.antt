@@ -1,13 +1,10 @@
 -- What a fault of an entry rules out, and what it follows from.
-use Rattle.std.proofs.Common.{◌≡◌, ℕ, ◌-◌, ◌<◌, ◌≤◌, Bool, List, length, take, refl, sym, ap, ◌∙◌, subst, ◌⊎◌, inl, inr, arith, Some, length-take}
+use Rattle.std.proofs.Common.{◌≡◌, ℕ, ◌-◌, ◌≤◌, Bool, List, length, take, sym, ◌∙◌, subst, inl, inr, arith, Some, length-take}
 use Rattle.std.specs.Prelude.{slice_get}
 use Rattle.task_set.specs.Truths.{In, IsEmpty}
-use Rattle.line_instance.specs.Line.{Line, IsTaskSet}
+use Rattle.line_instance.specs.Line.{Line}
 use Rattle.line_rules.specs.Loads.{IsLoad, Belongs, rest}
-use Rattle.line_rules.specs.Bounds.{bound}
-use Rattle.line_rules.specs.Order.{Counts}
-use Rattle.line_rules.specs.Entries.{IsOpen, Cites, Covers, FollowsByBranch, FollowsBySwap, FollowsBy, Follows}
-use Rattle.line_rules.specs.Units.{UnitsBy}
+use Rattle.line_rules.specs.Entries.{IsOpen, Cites, FollowsByBranch, FollowsBySwap, FollowsBy, Follows}
 use Rattle.line_rules.specs.declared.types.LineKind.{LineKind}
 use Rattle.line_rules.specs.declared.types.Mode.{Mode}
 use Rattle.line_rules.specs.declared.types.Load.{Load}
@@ -17,11 +14,11 @@ use Rattle.line_rules.specs.declared.types.Why.TheVariants as why
 use Rattle.line_rules.proofs.Nonempty.{member_or_empty}
 use Rattle.line_rules.proofs.Sound.{get_within, get_some}
 use Rattle.line_check.specs.Walks.{IsFirstLate, AreBelow}
-use Rattle.line_check.specs.Faults.{Fails, Branches, Swaps, IsReady}
-use Rattle.line_check.specs.Swaps.{StandsFor, IsSwapped}
+use Rattle.line_check.specs.Faults.{Fails, IsReady}
+use Rattle.line_check.specs.Swaps.{IsSwapped}
 use Rattle.line_check.specs.declared.types.EntryFault.{EntryFault}
 use Rattle.line_check.specs.declared.types.EntryFault.TheVariants as fault
-use Rattle.line_check.proofs.Exact.{not_uncovered, not_spare, not_past}
+use Rattle.line_check.proofs.Exact.{not_uncovered, not_spare}
 
 -- a cite that isn't below their number names no earlier entry
 late_fails : (kind : LineKind) (line : Line) (earlier : List Entry) (e : Entry) (mode : Mode) (cites : List ℕ) (x : ℕ) → IsFirstLate cites (length earlier) x → FollowsByBranch kind line earlier e mode cites → ⊥

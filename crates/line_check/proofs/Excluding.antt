@@ -1,7 +1,7 @@
 -- What a verdict that isn't a yes rules out.
-use Rattle.std.proofs.Common.{◌≡◌, ℕ, ◌+◌, ◌-◌, ◌<◌, ◌≤◌, List, refl, sym, ap, ◌∙◌, subst, ◌⊎◌, inl, inr, arith, Option, Some, None}
-use Rattle.line_instance.specs.Line.{Line, IsLine, tasks}
-use Rattle.line_rules.specs.Accepted.{HasTrail, IsProof, IsAccepted, IsInfeasible, ClaimIsAccepted, ClaimIsInfeasible}
+use Rattle.std.proofs.Common.{ℕ, ◌-◌, ◌<◌, List, inl, inr, arith, Option, Some, None}
+use Rattle.line_instance.specs.Line.{Line, IsLine}
+use Rattle.line_rules.specs.Accepted.{HasTrail, IsProof, ClaimIsAccepted, ClaimIsInfeasible}
 use Rattle.line_rules.specs.Entries.{IsDerived}
 use Rattle.line_rules.specs.Units.{UnitsWhole}
 use Rattle.line_rules.specs.declared.types.LineKind.{LineKind}
@@ -13,7 +13,7 @@ use Rattle.line_rules.specs.declared.types.Ask.TheVariants as ask
 use Rattle.line_rules.specs.declared.types.Claim.{Claim}
 use Rattle.line_rules.specs.declared.types.Claim.TheVariants as claim
 use Rattle.line_rules.specs.declared.types.Certificate.{Certificate}
-use Rattle.line_check.specs.Certificates.{IsShown, BalanceFails, ProofFails, ProofEnds, TrailFails, TrailEnds, TaskFails, IsBoundsVerdict, IsClaimVerdict, IsVerdict, IsRejectedSo}
+use Rattle.line_check.specs.Certificates.{ProofFails, ProofEnds, TrailFails, IsClaimVerdict, IsVerdict, IsRejectedSo}
 use Rattle.line_check.specs.Verdicts.{IsTrailOrNothing, IsListRefused, IsListEnded, IsListChecked, IsListRejected}
 use Rattle.line_check.specs.declared.types.ListChecked.{ListChecked}
 use Rattle.line_check.specs.declared.types.ListChecked.TheVariants as checked

@@ -1,24 +1,22 @@
 -- Frames that are right one by one are a valid trail, and what a fault of a frame rules out.
-use Rattle.std.proofs.Common.{◌≡◌, ℕ, zero, suc, ◌+◌, ◌-◌, ◌<◌, ◌≤◌, Bool, true, false, nat_eq, List, [], ◌∷◌, ◌++◌, length, take, refl, sym, ap, ◌∙◌, subst, ◌⊎◌, inl, inr, arith, Option, Some, None, length-append}
+use Rattle.std.proofs.Common.{◌≡◌, ℕ, zero, suc, ◌+◌, ◌≤◌, Bool, true, false, nat_eq, List, [], ◌∷◌, ◌++◌, length, take, refl, sym, ap, ◌∙◌, subst, inl, inr, arith, Option, Some, None}
 use Rattle.std.specs.Prelude.{slice_get}
-use Rattle.std.proofs.lemmas.Bool.{cases_eq, eqb-true, eq-eqb, ne_eqb, false≢true}
+use Rattle.std.proofs.lemmas.Bool.{cases_eq, eq-eqb, ne_eqb}
 use Rattle.std.proofs.lemmas.List.{take_all}
 use Rattle.line_instance.specs.Line.{Line}
 use Rattle.line_rules.specs.Balance.{all_tasks}
 use Rattle.line_rules.specs.Loads.{IsLoad, IsFull, Belongs, rest}
-use Rattle.line_rules.specs.Order.{Precedes, UpTo, Counts}
 use Rattle.line_rules.specs.Entries.{IsOpen, Covers}
-use Rattle.line_rules.specs.Trails.{LastIsLoad, IsPassed, IsDeepest, Leads, IsTrail}
+use Rattle.line_rules.specs.Trails.{IsPassed, Leads, IsTrail}
 use Rattle.line_rules.specs.Units.{FrameUnits, UnitsIn}
 use Rattle.line_rules.specs.declared.types.LineKind.{LineKind}
-use Rattle.line_rules.specs.declared.types.Mode.{Mode}
 use Rattle.line_rules.specs.declared.types.Load.{Load}
 use Rattle.line_rules.specs.declared.types.Entry.{Entry}
 use Rattle.line_rules.specs.declared.types.OpenFrame.{OpenFrame}
 use Rattle.line_rules.proofs.Sound.{get_within}
 use Rattle.line_rules.proofs.Paths.{units_push_frame}
 use Rattle.line_check.specs.Reaches.{IsMatched}
-use Rattle.line_check.specs.Frames.{IsLeftBy, IsAskedAt, EndsWell, WalksTo, NeedsTo, is_deepest, IsRightAt, AreRightTo, IsTrailOf}
+use Rattle.line_check.specs.Frames.{IsLeftBy, IsAskedAt, EndsWell, NeedsTo, IsRightAt, AreRightTo, IsTrailOf}
 
 one_frame : (x y : OpenFrame) → Some x ≡ Some y → x ≡ y
 one_frame x y e = cc

@@ -1,8 +1,8 @@
 -- What a verdict on a certificate says of the line.
-use Rattle.std.proofs.Common.{◌≡◌, ℕ, ◌+◌, ◌-◌, ◌<◌, ◌≤◌, Bool, List, [], ◌∷◌, ◌++◌, refl, sym, ap, ◌∙◌, subst, ◌⊎◌, inl, inr, arith, Option, Some, None}
+use Rattle.std.proofs.Common.{◌≡◌, ℕ, ◌≤◌, Bool, List, [], ◌∷◌, ◌++◌, sym, ap, ◌∙◌, subst, inl, inr, Some}
 use Rattle.std.specs.Prelude.{slice_get}
 use Rattle.line_instance.specs.Line.{Line, IsLine, tasks}
-use Rattle.line_rules.specs.Accepted.{MayBegin, HasTrail, IsAccepted, IsInfeasible, ClaimIsAccepted, ClaimIsInfeasible, IsLeastTooLong}
+use Rattle.line_rules.specs.Accepted.{MayBegin, HasTrail, ClaimIsAccepted, ClaimIsInfeasible}
 use Rattle.line_rules.specs.Balance.{all_tasks}
 use Rattle.line_rules.specs.Trails.{Leads, IsTrail}
 use Rattle.line_rules.specs.declared.types.LineKind.{LineKind}
@@ -17,7 +17,6 @@ use Rattle.line_rules.specs.declared.types.Certificate.{Certificate}
 use Rattle.line_rules.proofs.Proved.{accepted_true, infeasible_true}
 use Rattle.line_check.specs.Frames.{IsTrailOf}
 use Rattle.line_check.specs.Certificates.{IsAllowed, IsClaimVerdict, IsVerdict, IsAcceptedSo, IsTrueOf}
-use Rattle.line_check.specs.declared.types.Place.{Place}
 use Rattle.line_check.specs.declared.types.Place.TheVariants as place
 use Rattle.line_check.specs.declared.types.Verified.{Verified}
 use Rattle.line_check.specs.declared.types.Verified.TheVariants as verified

@@ -1,9 +1,9 @@
 -- What a load of a set leaves: its total time, and the bound where that is long.
-use Rattle.std.proofs.Common.{◌≡◌, ℕ, ◌+◌, ◌-◌, ◌*◌, ◌/◌, ◌<◌, ◌≤◌, Bool, true, false, ◌&&◌, not, List, get_or, refl, sym, ap, ◌∙◌, subst, inl, inr, arith}
-use Rattle.std.proofs.lemmas.Bool.{false≢true, cases_Bool, cases_lt, and_parts, and_from}
+use Rattle.std.proofs.Common.{◌≡◌, ℕ, ◌+◌, ◌-◌, ◌*◌, ◌<◌, ◌≤◌, Bool, true, false, ◌&&◌, not, List, get_or, refl, sym, ap, ◌∙◌, inl, inr, arith}
+use Rattle.std.proofs.lemmas.Bool.{false≢true, cases_Bool, and_parts, and_from}
 use Rattle.task_set.specs.Truths.{In, IsEmpty, IsSubset}
 use Rattle.task_set.proofs.Members.{In-minus, In-minus_parts}
-use Rattle.line_instance.specs.Line.{Line, IsTaskSet, has, tasks, time}
+use Rattle.line_instance.specs.Line.{Line, has}
 use Rattle.line_instance.specs.Sums.{sum_where}
 use Rattle.line_instance.proofs.Sums.{weigh-split, weigh-same, weigh-none, same_truth}
 use Rattle.line_rules.specs.Loads.{rest, taken}

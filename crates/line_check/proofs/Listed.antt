@@ -1,21 +1,16 @@
 -- The entries below a number follow, and what that says of the list.
-use Rattle.std.proofs.Common.{◌≡◌, ℕ, zero, suc, ◌+◌, ◌-◌, ◌<◌, ◌≤◌, List, [], ◌∷◌, ◌++◌, length, take, refl, sym, ap, ◌∙◌, subst, inl, inr, arith, Some}
+use Rattle.std.proofs.Common.{◌≡◌, ℕ, zero, suc, ◌+◌, ◌<◌, ◌≤◌, List, [], ◌∷◌, ◌++◌, length, take, refl, sym, ap, ◌∙◌, subst, inl, inr, arith, Some}
 use Rattle.std.specs.Prelude.{slice_get}
 use Rattle.std.proofs.lemmas.Bool.{cases_eq}
 use Rattle.std.proofs.lemmas.List.{take_all}
 use Rattle.line_instance.specs.Line.{Line}
-use Rattle.line_rules.specs.Loads.{IsLoad}
-use Rattle.line_rules.specs.Entries.{IsOpen, Follows, IsDerived}
+use Rattle.line_rules.specs.Entries.{Follows, IsDerived}
 use Rattle.line_rules.specs.Units.{UnitsBy, UnitsOf}
 use Rattle.line_rules.specs.declared.types.LineKind.{LineKind}
 use Rattle.line_rules.specs.declared.types.Entry.{Entry}
-use Rattle.line_rules.specs.declared.types.Why.{Why}
-use Rattle.line_rules.specs.declared.types.Why.TheVariants as why
 use Rattle.line_rules.proofs.Sound.{get_within}
-use Rattle.line_check.specs.Faults.{Ends}
-use Rattle.line_check.specs.Lists.{AreRightBelow, IsRefusedAt, AreStepsEnded}
+use Rattle.line_check.specs.Lists.{AreRightBelow, IsRefusedAt}
 use Rattle.line_check.specs.declared.types.EntryFault.{EntryFault}
-use Rattle.line_check.proofs.Exact.{not_past}
 use Rattle.line_check.proofs.Entering.{not_follows}
 
 units_push : (line : Line) (es : List Entry) (e : Entry) (a b : ℕ) → UnitsOf line es a → UnitsBy line e e.why b → UnitsOf line (es ++ e ∷ []) (a + b)

@@ -1,14 +1,13 @@
 -- What is refused isn't accepted: the balance, and the frames of a trail.
-use Rattle.std.proofs.Common.{◌≡◌, ℕ, zero, suc, ◌+◌, ◌-◌, ◌<◌, ◌≤◌, Bool, true, false, nat_eq, List, [], ◌∷◌, ◌++◌, length, take, refl, sym, ap, ◌∙◌, subst, ◌⊎◌, inl, inr, arith, Option, Some, None, ◌↔◌, not, is_some, IsTrue, IsNone, IfSome}
+use Rattle.std.proofs.Common.{◌≡◌, ℕ, zero, suc, ◌+◌, ◌-◌, ◌<◌, Bool, true, false, nat_eq, List, [], ◌∷◌, ◌++◌, length, refl, sym, subst, inl, inr, arith, Option, Some, None, ◌↔◌, not, is_some, IsTrue, IsNone, IfSome}
 use Rattle.std.specs.Prelude.{slice_get}
 use Rattle.std.proofs.lemmas.Bool.{eq-eqb, ne_eqb}
-use Rattle.line_instance.specs.Line.{Line, IsLine, tasks}
+use Rattle.line_instance.specs.Line.{Line, IsLine}
 use Rattle.line_rules.specs.Accepted.{HasTrail, MayBegin}
 use Rattle.line_rules.specs.Balance.{all_tasks}
-use Rattle.line_rules.specs.Loads.{IsLoad, IsFull, Belongs, rest}
-use Rattle.line_rules.specs.Order.{Counts}
+use Rattle.line_rules.specs.Loads.{rest}
 use Rattle.line_rules.specs.Entries.{IsOpen, Covers, Cites}
-use Rattle.line_rules.specs.Trails.{IsPassed, IsDeepest, Leads, IsTrail}
+use Rattle.line_rules.specs.Trails.{IsPassed, IsDeepest, Leads}
 use Rattle.line_rules.specs.declared.types.LineKind.{LineKind}
 use Rattle.line_rules.specs.declared.types.Balance.{Balance as Assignment}
 use Rattle.line_rules.specs.declared.types.Load.{Load}
@@ -20,7 +19,7 @@ use Rattle.line_rules.proofs.All.{In-all, In-all_lt}
 use Rattle.line_rules.proofs.Sound.{get_within, get_some}
 use Rattle.line_check.specs.Walks.{IsFirstLate}
 use Rattle.line_check.specs.Reaches.{IsMatched}
-use Rattle.line_check.specs.Frames.{IsLeftBy, IsAskedAt, EndsWell, WalksTo, NeedsTo, is_deepest, IsRightAt, FailsAt, IsFrameRefused, IsTrailOf}
+use Rattle.line_check.specs.Frames.{IsAskedAt, EndsWell, WalksTo, NeedsTo, is_deepest, IsRightAt, FailsAt, IsFrameRefused, IsTrailOf}
 use Rattle.line_check.specs.Certificates.{IsShown, BalanceFails, IsAllowed}
 use Rattle.line_check.specs.declared.types.FrameFault.{FrameFault}
 use Rattle.line_check.specs.declared.types.FrameFault.TheVariants as fault

@@ -1,5 +1,5 @@
 -- The times of a set and its counts by size.
-use Rattle.std.proofs.Common.{◌≡◌, ℕ, ◌+◌, ◌*◌, ◌<◌, ◌≤◌, max, Bool, true, false, cond, nat_eq, nat_le, nat_lt, List, length, get_or, refl, ap, arith}
+use Rattle.std.proofs.Common.{◌≡◌, ℕ, ◌*◌, ◌<◌, ◌≤◌, max, Bool, true, false, cond, nat_eq, nat_lt, List, length, get_or, ap, arith}
 use Rattle.std.proofs.lemmas.Bool.Decides.{nat_tests}
 use mir.Val.{bool_byte}
 use Rattle.task_set.specs.Truths.{In, members_of}

@@ -1,11 +1,10 @@
 -- Where the steps ended, an accepted certificate has more units.
-use Rattle.std.proofs.Common.{◌≡◌, ℕ, zero, suc, ◌+◌, ◌-◌, ◌<◌, ◌≤◌, List, [], ◌∷◌, take, refl, sym, ap, ◌∙◌, subst, inl, inr, arith, Option, Some, None}
+use Rattle.std.proofs.Common.{◌≡◌, ℕ, zero, suc, ◌+◌, ◌-◌, ◌<◌, ◌≤◌, List, [], ◌∷◌, take, refl, subst, arith, Some, None}
 use Rattle.std.specs.Prelude.{slice_get}
 use Rattle.line_instance.specs.Line.{Line}
 use Rattle.line_rules.specs.Loads.{IsLoad}
-use Rattle.line_rules.specs.Order.{Counts}
-use Rattle.line_rules.specs.Entries.{IsOpen, IsDerived}
-use Rattle.line_rules.specs.Units.{UnitsBy, UnitsOf, FrameUnits, UnitsIn, UnitsWhole}
+use Rattle.line_rules.specs.Entries.{IsOpen}
+use Rattle.line_rules.specs.Units.{UnitsBy, UnitsOf, FrameUnits, UnitsIn}
 use Rattle.line_rules.specs.declared.types.LineKind.{LineKind}
 use Rattle.line_rules.specs.declared.types.Entry.{Entry}
 use Rattle.line_rules.specs.declared.types.OpenFrame.{OpenFrame}
@@ -13,7 +12,7 @@ use Rattle.line_rules.specs.declared.types.Trail.{Trail}
 use Rattle.line_rules.specs.declared.types.Why.{Why}
 use Rattle.line_rules.specs.declared.types.Why.TheVariants as why
 use Rattle.line_rules.proofs.Carried.{units_same}
-use Rattle.line_check.specs.Frames.{WalksTo, NeedsTo, is_deepest, AreFramesEnded, EndsAt}
+use Rattle.line_check.specs.Frames.{WalksTo, NeedsTo, is_deepest, AreFramesEnded}
 use Rattle.line_check.specs.Lists.{AreStepsEnded}
 use Rattle.line_check.specs.Faults.{Ends}
 use Rattle.line_check.proofs.Exact.{not_past}

@@ -1,5 +1,5 @@
 -- A walk over the loads of a set that takes a cite for each open one.
-use Rattle.std.proofs.Common.{◌≡◌, ℕ, zero, suc, ◌+◌, ◌-◌, ◌<◌, ◌≤◌, Bool, List, [], ◌∷◌, ◌++◌, length, take, refl, sym, ap, subst, ◌⊎◌, inl, inr, arith, Option, Some, None}
+use Rattle.std.proofs.Common.{◌≡◌, ℕ, zero, suc, ◌+◌, ◌-◌, ◌<◌, ◌≤◌, Bool, List, [], ◌∷◌, ◌++◌, length, take, refl, sym, ap, subst, inl, inr, arith, Option, Some, None}
 use Rattle.std.specs.Prelude.{slice_get}
 use Rattle.line_instance.specs.Line.{Line, IsRanked}
 use Rattle.line_rules.specs.Loads.{IsLoad, rest}
@@ -17,7 +17,7 @@ use Rattle.std.proofs.lemmas.List.{take_all}
 use Rattle.line_check.specs.Walks.{IsUncovered, IsPast, CountsTo, CoversBefore, Tells}
 use Rattle.line_check.specs.Reaches.{HasEnded}
 use Rattle.line_check.specs.declared.types.Walked.{Walked}
-use Rattle.line_check.specs.Steps.{IsLacking, IsCovered, Takes}
+use Rattle.line_check.specs.Steps.{IsLacking, Takes}
 
 pub record IsWalking (kind : LineKind) (line : Line) (c : ℕ) (mode : Mode) (R : List Bool) (most : ℕ) (earlier : List Entry) (cites : List ℕ) (last : Option Load) (units taken : ℕ) : Type 0 where
   pub is_load : LastIsLoad line c mode R last

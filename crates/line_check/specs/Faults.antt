@@ -8,9 +8,7 @@ use Rattle.line_rules.specs.Entries.{IsOpen, Follows, FollowsBySwap}
 use Rattle.line_rules.specs.Units.{UnitsBy}
 use Rattle.line_rules.specs.declared.types.LineKind.{LineKind}
 use Rattle.line_rules.specs.declared.types.Mode.{Mode}
-use Rattle.line_rules.specs.declared.types.Load.{Load}
 use Rattle.line_rules.specs.declared.types.Entry.{Entry}
-use Rattle.line_rules.specs.declared.types.Why.{Why}
 use Rattle.line_rules.specs.declared.types.Why.TheVariants as why
 use Rattle.line_check.specs.Walks.{IsFirstLate, AreBelow, IsUncovered, IsSpare, IsPast, CountsTo}
 use Rattle.line_rules.specs.Order.{Counts}

@@ -3,7 +3,7 @@ use Rattle.std.specs.Prelude.{◌≡◌, ℕ, ◌+◌, ◌-◌, ◌<◌, ◌≤�
 use Rattle.line_instance.specs.Line.{Line}
 use Rattle.line_rules.specs.Balance.{all_tasks}
 use Rattle.line_rules.specs.Loads.{IsLoad, IsFull, Belongs, rest}
-use Rattle.line_rules.specs.Order.{Precedes, UpTo, Counts}
+use Rattle.line_rules.specs.Order.{UpTo, Counts}
 use Rattle.line_rules.specs.Entries.{IsOpen, Covers}
 use Rattle.line_rules.specs.Trails.{LastIsLoad, IsTrail}
 use Rattle.line_rules.specs.Units.{FrameUnits, UnitsIn}

@@ -24,24 +24,6 @@ fn chain(inst: &Instance, cycle: u64, set: &TaskSet, j: u32) -> u64
     (head.div_ceil(cycle) + tail.div_ceil(cycle)).saturating_sub(1)
 }
 
-/// The most stations that the head and the tail of a task of a set need; 0 on a U-line.
-pub(crate) fn longest_chain(inst: &Instance, kind: LineKind, cycle: u64, set: &TaskSet) -> u64
-    requires set { IsTaskSet inst.now set.now }
-    requires some { 1 ≤ cycle }
-    ensures { result ≡ chained kind inst.now cycle set.now }
-{
-    let _tasks = inst.tasks();
-    match kind {
-        LineKind::U => return 0,
-        LineKind::Straight => {}
-    }
-    let mut longest = 0;
-    for j in set {
-        longest = chain(inst, cycle, set, j).max(longest);
-    }
-    longest
-}
-
 /// A time from which on a head and a tail together may need more than `stations`: 2 more than so many cycles.
 fn enough(cycle: u64, stations: u64) -> u128
     requires { cycle ≤ 1000000000000000000 }
@@ -81,43 +63,24 @@ fn elsewhere(inst: &Instance, set: &TaskSet, j: u32) -> TaskSet
     elsewhere
 }
 
-/// Whether the tasks of a set that are elsewhere than `j` take so long that its head and its tail, with its time counted twice, take less
-/// than `enough`. The set's total time is `total`.
-fn is_short(inst: &Instance, set: &TaskSet, total: u64, enough: u128, j: u32) -> bool
-    requires set { IsTaskSet inst.now set.now }
-    requires total { total ≤ 204800000000000000 }
-    requires member { In set.now j }
-    ensures { IsTrue result → total + time inst.now j < enough + time_elsewhere inst.now set.now j }
-{
-    let _tasks = inst.tasks();
-    let most = u128::from(total + inst.time(j));
-    if most < enough {
-        return true;
-    }
-    is_longer(inst, &elsewhere(inst, set, j), (most - enough) as u64)
-}
-
-/// Whether the head and the tail of task `j` of a set need more than `stations`. The set's total time is `total`, and `enough` is 2 more
-/// than so many cycles.
-fn needs_more(
-    inst: &Instance,
-    cycle: u64,
-    set: &TaskSet,
-    total: u64,
-    stations: u64,
-    enough: u128,
-    j: u32,
-) -> bool
+/// Whether the head and the tail of task `j` of a set need more than `stations`: not where all tasks with `j`
+/// once more take too little time, or those that are neither before nor after it too much. The set's total time is `total`.
+fn needs_more(inst: &Instance, cycle: u64, set: &TaskSet, total: u64, stations: u64, j: u32) -> bool
     requires set { IsTaskSet inst.now set.now }
     requires some { 1 ≤ cycle }
+    requires limit { cycle ≤ 1000000000000000000 }
     requires total { total ≡ sum_where (has set.now) inst.now.times }
-    requires limit { total ≤ 204800000000000000 }
-    requires enough { enough ≡ stations * cycle + 2 }
+    requires total_limit { total ≤ 204800000000000000 }
     requires member { In set.now j }
     ensures { IsTrue result ↔ stations < head inst.now cycle set.now j + tail inst.now cycle set.now j - 1 }
 {
     let _tasks = inst.tasks();
-    if is_short(inst, set, total, enough, j) {
+    let most = u128::from(total + inst.time(j));
+    let enough = enough(cycle, stations);
+    if most < enough {
+        return false;
+    }
+    if is_longer(inst, &elsewhere(inst, set, j), (most - enough) as u64) {
         return false;
     }
     chain(inst, cycle, set, j) > stations
@@ -143,12 +106,11 @@ pub(crate) fn has_longer_chain(
         LineKind::U => return false,
         LineKind::Straight => {}
     }
-    let enough = enough(cycle, stations);
-    if u128::from(times.total + times.longest) < enough {
+    if u128::from(times.total + times.longest) < enough(cycle, stations) {
         return false;
     }
     for j in set {
-        if needs_more(inst, cycle, set, times.total, stations, enough, j) {
+        if needs_more(inst, cycle, set, times.total, stations, j) {
             return true;
         }
     }

@@ -11,7 +11,7 @@ ghost use Rattle.line_check.specs.Lists.{AreFound};
 use crate::entries::is_same;
 use crate::frames::check_frames;
 use crate::lists::check_entries;
-use crate::types::{ListFound, FrameFault, FramesFound, ListChecked, Place, Verified};
+use crate::types::{FrameFault, FramesFound, ListChecked, ListFound, Place, Verified};
 use line_instance::Instance;
 use line_rules::{
     Ask, Balance, BalanceCheck, Certificate, Claim, Entries, Entry, LineKind, Trail, check_balance,
@@ -29,15 +29,15 @@ pub fn verify_list(
 ) -> ListChecked
     requires entries { AreEntries (tasks inst.now) entries.now }
     requires trail { IsTrailOrNone (tasks inst.now) (length entries.now) trail.now }
-    ensures found { IsListChecked kind inst.now entries.now trail.now steps result }
+    ensures verdict { IsListChecked kind inst.now entries.now trail.now steps result }
     ensures rejected { IsListRejected kind inst.now entries.now trail.now steps result }
 {
     let found = check_entries(inst, kind, entries, steps);
     verify_list_found(inst, kind, entries, trail, steps, found)
 }
 
-/// The same, where the entries were checked before, as by [`check_entry`](crate::check_entry) side by side: `found` is what the check of the
-/// entries in their order, with so many steps, finds.
+/// Checks a list as [`verify_list`] does, where its entries were checked before, as by [`check_entry`](crate::check_entry) side by side:
+/// `found` is what the check of the entries in their order, with so many steps, finds.
 pub fn verify_list_found(
     inst: &Instance,
     kind: LineKind,
@@ -48,7 +48,7 @@ pub fn verify_list_found(
 ) -> ListChecked
     requires trail { IsTrailOrNone (tasks inst.now) (length entries.now) trail.now }
     requires found { AreFound kind inst.now entries.now steps found }
-    ensures found { IsListChecked kind inst.now entries.now trail.now steps result }
+    ensures verdict { IsListChecked kind inst.now entries.now trail.now steps result }
     ensures rejected { IsListRejected kind inst.now entries.now trail.now steps result }
 {
     let _tasks = inst.tasks();
@@ -326,7 +326,7 @@ pub fn needs_entries(inst: &Instance, cert: &Certificate) -> bool
 }
 
 /// What is found of the entries of a certificate, where the check comes to them.
-fn entries_found(inst: &Instance, cert: &Certificate, steps: u64) -> ListFound
+pub(crate) fn entries_found(inst: &Instance, cert: &Certificate, steps: u64) -> ListFound
     requires range { IsInRange cert.now }
     ensures { NeedsEntries inst.now cert.now → AreFoundOf inst.now cert.now steps result }
 {
@@ -353,8 +353,8 @@ pub fn verify(inst: &Instance, cert: &Certificate, steps: u64) -> Verified
     verify_found(inst, cert, steps, entries_found(inst, cert, steps))
 }
 
-/// The same, where the entries were checked before, as by [`check_entry`](crate::check_entry) side by side: `found` is what the check of the
-/// entries in their order, with so many steps, finds. Where [`needs_entries`] is false, it may be anything.
+/// Checks a certificate as [`verify`] does, where its entries were checked before, as by [`check_entry`](crate::check_entry) side by side:
+/// `found` is what the check of the entries in their order, with so many steps, finds. Where [`needs_entries`] is false, it may be anything.
 pub fn verify_found(inst: &Instance, cert: &Certificate, steps: u64, found: ListFound) -> Verified
     requires range { IsInRange cert.now }
     requires some { 1 ≤ steps }

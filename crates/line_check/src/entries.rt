@@ -96,7 +96,7 @@ fn check_bound(inst: &Instance, kind: LineKind, entry: &Entry) -> Found
         return Found::Right { units: 0 };
     }
     Found::Fails {
-        why: EntryFault::Bound(bound(inst, kind, entry.cycle, &entry.set)),
+        why: EntryFault::Bound(bound(inst, kind, entry.cycle, &entry.set, times)),
         units: 0,
     }
 }

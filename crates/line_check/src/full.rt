@@ -55,7 +55,13 @@ fn may_grow(inst: &Instance, cycle: u64, set: &TaskSet, mode: Mode, load: &Load,
 }
 
 /// Whether no task of the set can be added to a load so that it is one, with each test made afresh.
-pub(crate) fn is_full_load(inst: &Instance, cycle: u64, set: &TaskSet, mode: Mode, load: &Load) -> bool
+pub(crate) fn is_full_load(
+    inst: &Instance,
+    cycle: u64,
+    set: &TaskSet,
+    mode: Mode,
+    load: &Load,
+) -> bool
     requires set { IsTaskSet inst.now set.now }
     requires load { IsLoad inst.now cycle mode set.now load.now }
     ensures { IsTrue result ↔ IsFull inst.now cycle mode set.now load.now }

@@ -13,8 +13,6 @@ mod lists;
 mod loads;
 mod pairs;
 mod questions;
-#[cfg(test)]
-mod ranges;
 mod sides;
 mod sizes;
 #[cfg(test)]
@@ -24,4 +22,6 @@ mod walks;
 
 pub use checking::{needs_entries, verify, verify_found, verify_list, verify_list_found};
 pub use entries::{check_entry, verify_entry};
-pub use types::{EntryChecked, EntryFault, Found, FrameFault, ListChecked, ListFound, Place, Verified};
+pub use types::{
+    EntryChecked, EntryFault, Found, FrameFault, ListChecked, ListFound, Place, Verified,
+};

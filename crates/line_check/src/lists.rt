@@ -4,7 +4,7 @@ ghost use Rattle.line_rules.specs.Ranges.{AreEntries};
 ghost use Rattle.line_check.specs.Lists.{AreFound};
 
 use crate::entries::check_entry;
-use crate::types::{ListFound, Found};
+use crate::types::{Found, ListFound};
 use line_instance::Instance;
 use line_rules::{Entries, LineKind};
 

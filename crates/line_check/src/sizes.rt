@@ -112,7 +112,6 @@ pub(crate) fn stations(counts: SizeCounts) -> u64
     requires half { counts.at_half ≤ 1024 }
     requires sixths { counts.sixths ≤ 6144 }
     ensures value { result ≡ max 1 (max (counts.above_half + up counts.at_half 2) (up counts.sixths 6)) }
-    ensures limit { result ≤ 2048 }
 {
     let by_halves = u64::from(counts.above_half) + u64::from(counts.at_half.div_ceil(2));
     let by_sixths = u64::from(counts.sixths.div_ceil(6));

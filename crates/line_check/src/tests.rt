@@ -1,7 +1,12 @@
 //! What no clause says: the certificates that were worked by hand, and that each call answers.
-use crate::ranges::{are_entries, is_cycle, is_in_range, is_set, is_trail_or_none};
+mod ranges;
+
+use self::ranges::{are_entries, is_cycle, is_in_range, is_set, is_trail_or_none};
+use crate::checking::entries_found;
+use crate::lists::check_entries;
 use crate::{
-    EntryChecked, EntryFault, ListChecked, Place, Verified, verify, verify_entry, verify_list,
+    EntryChecked, EntryFault, Found, ListChecked, Place, Verified, check_entry, needs_entries,
+    verify, verify_entry, verify_found, verify_list, verify_list_found,
 };
 use line_instance::{Instance, Made, Prec, make};
 use line_rules::{
@@ -273,6 +278,55 @@ fn checks_a_list_and_an_entry_alone(rt: HostRuntime) -> Result<(), Fail> {
     match verify_entry(&inst, LineKind::Straight, &entries, &last, 16) {
         EntryChecked::Right { units } => assert_eq!(rt; units, 16),
         _ => return Err("not right")?,
+    }
+    Ok(())
+}
+
+#[test]
+fn takes_what_was_found_before(rt: HostRuntime) -> Result<(), Fail> {
+    let alloc = rt.alloc();
+    let inst = five(alloc)?;
+    let cert = of_five(alloc, 7)?;
+    if !is_in_range(&inst, &cert) {
+        return Err("out of range")?;
+    }
+    assert!(rt; needs_entries(&inst, &cert));
+    let found = entries_found(&inst, &cert, 15);
+    match verify_found(&inst, &cert, 15, found) {
+        Verified::Accepted { units, .. } => assert_eq!(rt; units, 15),
+        _ => return Err("not accepted")?,
+    }
+    Ok(())
+}
+
+#[test]
+fn takes_a_list_and_finds_of_an_entry(rt: HostRuntime) -> Result<(), Fail> {
+    let alloc = rt.alloc();
+    let inst = six(alloc)?;
+    let below = branch(alloc, &[1, 2, 3, 4, 5], 2, &[])?;
+    let entries = Entries::from_vec(vec![in alloc; below]?);
+    let none = None;
+    if !are_entries(&inst, &entries) || !is_trail_or_none(&inst, entries.len(), &none) {
+        return Err("out of range")?;
+    }
+    let found = check_entries(&inst, LineKind::Straight, &entries, 15);
+    match verify_list_found(&inst, LineKind::Straight, &entries, &none, 15, found) {
+        ListChecked::Right { units } => assert_eq!(rt; units, 15),
+        _ => return Err("not right")?,
+    }
+    let last = branch(alloc, &[0, 1, 2, 3, 4, 5], 3, &[])?;
+    if !is_set(&inst, &last.set) || !is_cycle(last.cycle) {
+        return Err("out of range")?;
+    }
+    match check_entry(&inst, LineKind::Straight, &entries, 1, &last, 16) {
+        Found::Fails {
+            why: EntryFault::Uncovered(load),
+            units,
+        } => {
+            let said = format!(in alloc; "{} {units}", load.front)?;
+            assert_eq!(rt; said.as_str(), "{0} 16");
+        }
+        _ => return Err("no fault")?,
     }
     Ok(())
 }

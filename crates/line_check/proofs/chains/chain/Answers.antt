@@ -1,6 +1,5 @@
-use Rattle.std.proofs.Common.{◌+◌, ◌-◌, ◌∙◌, arith}
-use Rattle.line_instance.specs.Line.{has}
-use Rattle.line_check.proofs.Around.{met_set, chain_is, ceil_le}
+use Rattle.std.proofs.Common.{◌+◌, arith}
+use Rattle.line_check.proofs.Around.{met_set, chain_is}
 use Rattle.line_check.proofs.chains.chain.Goals as goal
 
 pub sum-requires : goal.sum-requires

@@ -1,4 +1,3 @@
-use Rattle.std.proofs.Common.{arith}
 use Rattle.line_check.proofs.Around.{elsewhere_set, elsewhere_sum}
 use Rattle.line_check.proofs.chains.elsewhere.Goals as goal
 

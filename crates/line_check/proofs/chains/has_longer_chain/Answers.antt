@@ -14,5 +14,5 @@ loop-j-init c =
 pub returns-then-from-enough : goal.returns-then-from-enough
 returns-then-from-enough c = (
   λ e. absurd (cc),
-  λ l. absurd (omega (arith, l, few_chained c.args.kind c.args.inst.now c.tasks-tasks.ensures.line c.args.cycle c.requires.some c.args.set.now c.requires.set c.args.stations c.args.times.total c.args.times.longest c.requires.times.total c.requires.times.longest (omega (arith, c.enough-enough.ensures, c.from.ensures, c.if-from-enough.true)))),
+  λ l. absurd (omega (arith, l, few_chained c.args.kind c.args.inst.now c.tasks-tasks.ensures.line c.args.cycle c.requires.some c.args.set.now c.requires.set c.args.stations c.args.times.total c.args.times.longest c.requires.times.total c.requires.times.longest (omega (arith, c.enough.ensures, c.from.ensures, c.if-from-enough.true)))),
 )

@@ -1,5 +1,5 @@
-use Rattle.std.proofs.Common.{ℕ, Bool, List, sym, subst}
-use Rattle.task_set.specs.Truths.{In, IsSubset}
+use Rattle.std.proofs.Common.{Bool, List, sym, subst}
+use Rattle.task_set.specs.Truths.{IsSubset}
 use Rattle.task_set.proofs.Members.{In-meet, In-meet_parts}
 use Rattle.line_check.proofs.entries.is_met.Goals as goal
 

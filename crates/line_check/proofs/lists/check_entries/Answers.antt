@@ -1,7 +1,4 @@
-use Rattle.std.proofs.Common.{ℕ, ◌+◌, ◌-◌, ◌≡◌, List, refl, arith, Some}
-use Rattle.std.specs.Prelude.{slice_get}
-use Rattle.line_instance.specs.Line.{tasks}
-use Rattle.line_rules.specs.Ranges.{IsEntry}
+use Rattle.std.proofs.Common.{arith}
 use Rattle.line_check.proofs.Listed.{right_more, all_right}
 use Rattle.line_check.proofs.lists.check_entries.Goals as goal
 

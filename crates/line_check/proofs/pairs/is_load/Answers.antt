@@ -1,4 +1,4 @@
-use Rattle.std.proofs.Common.{ℕ, ◌≡◌, ◌<◌, List, Bool, ◌∙◌, sym, ap, subst, arith, length}
+use Rattle.std.proofs.Common.{ℕ, ◌≡◌, List, Bool, ◌∙◌, sym, ap, subst, arith, length}
 use Rattle.std.proofs.lemmas.Bool.{false≢true}
 use Rattle.task_set.specs.Truths.{In, IsSubset, IsEmpty}
 use Rattle.task_set.proofs.Members.{In-empty}

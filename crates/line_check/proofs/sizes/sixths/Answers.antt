@@ -1,4 +1,4 @@
-use Rattle.std.proofs.Common.{◌*◌, arith}
+use Rattle.std.proofs.Common.{arith}
 use Rattle.std.proofs.lemmas.Bool.Decides.{nat_tests}
 use Rattle.line_rules.specs.Bounds.{sixths}
 use Rattle.line_check.proofs.sizes.sixths.Goals as goal

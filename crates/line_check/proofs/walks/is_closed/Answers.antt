@@ -1,6 +1,5 @@
-use Rattle.std.proofs.Common.{◌≡◌, ◌+◌, List, Bool, sym, ap, ◌∙◌, subst, arith}
-use Rattle.task_set.specs.Truths.{In}
-use Rattle.line_instance.specs.Line.{IsTaskSet, has}
+use Rattle.std.proofs.Common.{◌≡◌, ◌+◌, List, Bool, sym, ap, ◌∙◌, arith}
+use Rattle.line_instance.specs.Line.{has}
 use Rattle.line_instance.specs.Sums.{sum_where}
 use Rattle.line_rules.specs.Loads.{rest, taken}
 use Rattle.line_rules.specs.declared.types.Load.{Load}

@@ -1,4 +1,4 @@
-use Rattle.std.proofs.Common.{◌≡◌, ◌+◌, ◌≤◌, Option, take, refl, sym, subst, arith, None}
+use Rattle.std.proofs.Common.{◌+◌, ◌≤◌, Option, take, refl, sym, subst, arith}
 use Rattle.line_rules.specs.Loads.{IsLoad}
 use Rattle.line_rules.specs.Entries.{IsOpen}
 use Rattle.line_rules.specs.declared.types.Load.{Load}

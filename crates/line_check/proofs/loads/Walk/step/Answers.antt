@@ -1,10 +1,9 @@
-use Rattle.std.proofs.Common.{◌≡◌, sym, ap, subst, true, false, refl}
+use Rattle.std.proofs.Common.{◌≡◌, true, refl}
 use Rattle.std.proofs.lemmas.Bool.{true≢false}
 use Rattle.line_rules.specs.Order.{IsNext}
 use Rattle.line_rules.specs.Sides.{fills}
 use Rattle.line_rules.specs.declared.types.Side.{Side}
-use Rattle.line_rules.specs.declared.types.Side.TheVariants.{Front, Back}
-use Rattle.line_rules.specs.declared.types.Load.{Load}
+use Rattle.line_rules.specs.declared.types.Side.TheVariants.{Front}
 use Rattle.line_rules.proofs.Sides.{each_side}
 use Rattle.line_check.specs.Ends.{IsEnd}
 use Rattle.line_check.specs.Standing.{end_of}

@@ -1,4 +1,4 @@
-//! For the tests: whether what a certificate says lies in its ranges.
+//! Whether what a certificate says lies in its ranges, as its check requires: for tests, which make certificates by hand.
 ghost use Rattle.std.specs.Prelude.{◌≡◌, ℕ, ◌<◌, ◌≤◌, length, IsTrue};
 ghost use Rattle.line_instance.specs.Line.{tasks, IsTaskSet};
 ghost use Rattle.line_rules.specs.Ranges.{IsCycle, IsOf, AreCites, IsWhy, IsEntry, AreEntries, IsLoadLike, IsLast, IsFrame, IsTrailLike, IsPlaced, IsPlacing, IsTrailOrNone, IsClaim, IsAsked, IsInRange};

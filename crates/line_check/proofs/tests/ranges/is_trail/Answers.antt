@@ -4,7 +4,7 @@ use Rattle.line_rules.specs.Ranges.{IsFrame}
 use Rattle.line_rules.specs.declared.types.OpenFrame.{OpenFrame}
 use Rattle.line_rules.proofs.Sound.{get_within}
 use Rattle.line_check.proofs.Listed.{each_more}
-use Rattle.line_check.proofs.ranges.is_trail.Goals as goal
+use Rattle.line_check.proofs.tests.ranges.is_trail.Goals as goal
 
 pub loop-k-preserved : goal.loop-k-preserved
 loop-k-preserved c =
