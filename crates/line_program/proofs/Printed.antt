@@ -281,6 +281,7 @@ report_true files job (Err x) s p k e = absurd (never (sym (k (λ w. done_fault 
   where
     done_fault : ends.Done ≡ ends.WriteFault → ⊥
     done_fault e = cc
+
     never : ends.Memory ≡ ends.Done → ⊥
     never e = cc
 

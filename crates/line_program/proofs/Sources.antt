@@ -31,7 +31,7 @@ parted_by files apart a whole line n pairs given e s k g t b o parted =
     let G : List Prec → Type 0 = λ ps. (i j : ℕ) → Apart line i j ↔ IsGiven ps i j in
     subst P (sym e)
     (reads_as (files a.now) (λ bytes. IsApartFile n bytes pairs) (Parts whole line)
-        (λ bytes x. (pairs, subst (N bytes) k x, record { times = t; before = b; order = o; apart = subst G g parted })) s)
+    (λ bytes x. (pairs, subst (N bytes) k x, record { times = t; before = b; order = o; apart = subst G g parted })) s)
 
 -- a refusal of the file with the pairs
 pub unpaired : (files : List ℕ → Option (List ℕ)) (apart : Option (Bor (List ℕ))) (a : Bor (List ℕ)) (n m : ℕ) (e : Refusal)

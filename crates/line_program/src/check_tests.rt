@@ -7,41 +7,62 @@ use std::test::Fail;
 use std::thread::Threads;
 
 const P5: &[u8] = b"5\n4\n4\n2\n2\n2\n-1,-1\n";
+
 const P6: &[u8] = b"6\n7\n4\n4\n2\n2\n2\n-1,-1\n";
+
 const P7: &[u8] = b"7\n7\n7\n4\n4\n2\n2\n2\n-1,-1\n";
+
 const CHAIN: &[u8] = b"4\n1\n1\n1\n1\n1,2\n2,3\n3,4\n-1,-1\n";
+
 const T2: &[u8] = b"2\n1\n1\n-1,-1\n";
 
 /// A refutation in version 1: three stations, 15 units.
-const V1: &[u8] = b"line balance certificate 1\nline straight\ntasks 5\ncycle 7\nlower 3\nupper 3\nbalance 3\n1\n2\n1\n2\n3\nparts 1\npart 7\nentries 1\nbranch f f8 2 -\ntrail 0\nend\n";
+const V1: &[u8] =
+    b"line balance certificate 1\nline straight\ntasks 5\ncycle 7\nlower 3\nupper 3\nbalance 3\n1\n2\n1\n2\n3\nparts 1\npart 7\nentries 1\nbranch f f8 2 -\ntrail 0\nend\n";
 
 /// A search that stopped, in version 1: one frame, 14 units.
-const V2: &[u8] = b"line balance certificate 1\nline straight\ntasks 5\ncycle 7\nlower 2\nupper 3\nbalance 3\n1\n2\n1\n2\n3\nparts 1\npart 7\nentries 1\nbound f8 1\ntrail 1\nopen f f8 2 90 -\nend\n";
+const V2: &[u8] =
+    b"line balance certificate 1\nline straight\ntasks 5\ncycle 7\nlower 2\nupper 3\nbalance 3\n1\n2\n1\n2\n3\nparts 1\npart 7\nentries 1\nbound f8 1\ntrail 1\nopen f f8 2 90 -\nend\n";
 
 /// A U-line of a chain with a broken pair, in version 1.
-const V3: &[u8] = b"line balance certificate 1\nline u\ntasks 4\ncycle 2\nlower 1\nupper 2\nbalance 2\n2 f\n1 b\n1 f\n2 b\nparts 1\npart 2\nentries 0\ntrail 0\nend\n";
+const V3: &[u8] =
+    b"line balance certificate 1\nline u\ntasks 4\ncycle 2\nlower 1\nupper 2\nbalance 2\n2 f\n1 b\n1 f\n2 b\nparts 1\npart 2\nentries 0\ntrail 0\nend\n";
 
 /// The lift of the first one.
-const V5: &[u8] = b"line balance certificate 2\nline straight\ntasks 5\ncycle 7\nlower 3\nupper 3\nbalance 3\n1\n2\n1\n2\n3\nentries 1\nbranch f 7 f8 2 -\ntrail 0\nend\n";
+const V5: &[u8] =
+    b"line balance certificate 2\nline straight\ntasks 5\ncycle 7\nlower 3\nupper 3\nbalance 3\n1\n2\n1\n2\n3\nentries 1\nbranch f 7 f8 2 -\ntrail 0\nend\n";
 
 /// The same at other cycles.
-const V5_AT_SIX: &[u8] = b"line balance certificate 2\nline straight\ntasks 5\ncycle 6\nlower 3\nupper 3\nbalance 3\n1\n2\n1\n2\n3\nentries 1\nbranch f 7 f8 2 -\ntrail 0\nend\n";
-const V5_AT_EIGHT: &[u8] = b"line balance certificate 2\nline straight\ntasks 5\ncycle 8\nlower 3\nupper 3\nbalance 3\n1\n2\n1\n2\n3\nentries 1\nbranch f 7 f8 2 -\ntrail 0\nend\n";
+const V5_AT_SIX: &[u8] =
+    b"line balance certificate 2\nline straight\ntasks 5\ncycle 6\nlower 3\nupper 3\nbalance 3\n1\n2\n1\n2\n3\nentries 1\nbranch f 7 f8 2 -\ntrail 0\nend\n";
+
+const V5_AT_EIGHT: &[u8] =
+    b"line balance certificate 2\nline straight\ntasks 5\ncycle 8\nlower 3\nupper 3\nbalance 3\n1\n2\n1\n2\n3\nentries 1\nbranch f 7 f8 2 -\ntrail 0\nend\n";
 
 /// The lift of the second one.
-const V6: &[u8] = b"line balance certificate 2\nline straight\ntasks 5\ncycle 7\nlower 2\nupper 3\nbalance 3\n1\n2\n1\n2\n3\nentries 1\nbound 7 f8 1\ntrail 1 at 7\nopen f f8 2 90 -\nend\n";
+const V6: &[u8] =
+    b"line balance certificate 2\nline straight\ntasks 5\ncycle 7\nlower 2\nupper 3\nbalance 3\n1\n2\n1\n2\n3\nentries 1\nbound 7 f8 1\ntrail 1 at 7\nopen f f8 2 90 -\nend\n";
 
 const INFEASIBLE: &[u8] =
     b"line balance certificate 2\nline straight\ntasks 5\ncycle 3\ninfeasible 1\nend\n";
 
-const TWO_BRANCHES: &[u8] = b"line balance certificate 2\nline straight\ntasks 6\ncycle 7\nlower 4\nupper 4\nbalance 4\n1\n2\n3\n2\n3\n4\nentries 2\nbranch f 7 7c 2 -\nbranch f 7 fc 3 0\ntrail 0\nend\n";
-const CITES_ITSELF: &[u8] = b"line balance certificate 2\nline straight\ntasks 6\ncycle 7\nlower 4\nupper 4\nbalance 4\n1\n2\n3\n2\n3\n4\nentries 2\nbranch f 7 7c 2 -\nbranch f 7 fc 3 1\ntrail 0\nend\n";
-const CITES_ITSELF_IN_A_PART: &[u8] = b"line balance certificate 1\nline straight\ntasks 6\ncycle 7\nlower 4\nupper 4\nbalance 4\n1\n2\n3\n2\n3\n4\nparts 1\npart 7\nentries 2\nbranch f 7c 2 -\nbranch f fc 3 1\ntrail 0\nend\n";
-const CITES_NO_SUBSET: &[u8] = b"line balance certificate 2\nline straight\ntasks 6\ncycle 7\nlower 4\nupper 4\nbalance 4\n1\n2\n3\n2\n3\n4\nentries 2\nbound 7 fc 2\nbranch f 7 fc 3 0\ntrail 0\nend\n";
+const TWO_BRANCHES: &[u8] =
+    b"line balance certificate 2\nline straight\ntasks 6\ncycle 7\nlower 4\nupper 4\nbalance 4\n1\n2\n3\n2\n3\n4\nentries 2\nbranch f 7 7c 2 -\nbranch f 7 fc 3 0\ntrail 0\nend\n";
 
-const SWAP: &[u8] = b"line balance certificate 2\nline straight\ntasks 7\ncycle 7\nlower 5\nupper 5\nbalance 5\n1\n2\n3\n4\n3\n4\n5\nentries 4\nbranch f 7 3e 2 -\nbranch f 7 be 3 0\nswap 7 7e 3 1 2 1\nbranch f 7 fe 4 1,2\ntrail 0\nend\n";
+const CITES_ITSELF: &[u8] =
+    b"line balance certificate 2\nline straight\ntasks 6\ncycle 7\nlower 4\nupper 4\nbalance 4\n1\n2\n3\n2\n3\n4\nentries 2\nbranch f 7 7c 2 -\nbranch f 7 fc 3 1\ntrail 0\nend\n";
 
-const TOGETHER: &[u8] = b"line balance certificate 2\nline straight\ntasks 2\ncycle 2\nlower 1\nupper 1\nbalance 1\n1\n1\nentries 0\ntrail 0\nend\n";
+const CITES_ITSELF_IN_A_PART: &[u8] =
+    b"line balance certificate 1\nline straight\ntasks 6\ncycle 7\nlower 4\nupper 4\nbalance 4\n1\n2\n3\n2\n3\n4\nparts 1\npart 7\nentries 2\nbranch f 7c 2 -\nbranch f fc 3 1\ntrail 0\nend\n";
+
+const CITES_NO_SUBSET: &[u8] =
+    b"line balance certificate 2\nline straight\ntasks 6\ncycle 7\nlower 4\nupper 4\nbalance 4\n1\n2\n3\n2\n3\n4\nentries 2\nbound 7 fc 2\nbranch f 7 fc 3 0\ntrail 0\nend\n";
+
+const SWAP: &[u8] =
+    b"line balance certificate 2\nline straight\ntasks 7\ncycle 7\nlower 5\nupper 5\nbalance 5\n1\n2\n3\n4\n3\n4\n5\nentries 4\nbranch f 7 3e 2 -\nbranch f 7 be 3 0\nswap 7 7e 3 1 2 1\nbranch f 7 fe 4 1,2\ntrail 0\nend\n";
+
+const TOGETHER: &[u8] =
+    b"line balance certificate 2\nline straight\ntasks 2\ncycle 2\nlower 1\nupper 1\nbalance 1\n1\n1\nentries 0\ntrail 0\nend\n";
 
 /// What a run with these words puts over an instance, a certificate and a file of pairs.
 fn run_over<R: Threads + Sync>(
@@ -84,14 +105,42 @@ const CHECK: &[&str] = &["check", "t.in2", "t.cert"];
 #[test]
 fn what_is_accepted(rt: HostRuntime) -> Result<(), Fail> {
     let rows: [(&[u8], &[u8], &str); 8] = [
-        (P5, V5, "accepted straight cycle 7 lower 3 upper 3 units 15\n"),
-        (P5, V1, "accepted straight cycle 7 lower 3 upper 3 units 15\n"),
-        (P5, V5_AT_SIX, "accepted straight cycle 6 lower 3 upper 3 units 15\n"),
-        (P5, V6, "accepted straight cycle 7 lower 2 upper 3 units 14\n"),
-        (P5, V2, "accepted straight cycle 7 lower 2 upper 3 units 14\n"),
+        (
+            P5,
+            V5,
+            "accepted straight cycle 7 lower 3 upper 3 units 15\n",
+        ),
+        (
+            P5,
+            V1,
+            "accepted straight cycle 7 lower 3 upper 3 units 15\n",
+        ),
+        (
+            P5,
+            V5_AT_SIX,
+            "accepted straight cycle 6 lower 3 upper 3 units 15\n",
+        ),
+        (
+            P5,
+            V6,
+            "accepted straight cycle 7 lower 2 upper 3 units 14\n",
+        ),
+        (
+            P5,
+            V2,
+            "accepted straight cycle 7 lower 2 upper 3 units 14\n",
+        ),
         (P5, INFEASIBLE, "accepted straight cycle 3 infeasible 1\n"),
-        (P6, TWO_BRANCHES, "accepted straight cycle 7 lower 4 upper 4 units 31\n"),
-        (P7, SWAP, "accepted straight cycle 7 lower 5 upper 5 units 48\n"),
+        (
+            P6,
+            TWO_BRANCHES,
+            "accepted straight cycle 7 lower 4 upper 4 units 31\n",
+        ),
+        (
+            P7,
+            SWAP,
+            "accepted straight cycle 7 lower 5 upper 5 units 48\n",
+        ),
     ];
     for (instance, proof, wanted) in rows {
         let (status, text) = run_over(&rt, rt.alloc(), CHECK, instance, proof, &[])?;
@@ -140,7 +189,10 @@ fn tasks_apart_that_stand_together(rt: HostRuntime) -> Result<(), Fail> {
     assert_eq!(rt; text.as_str(), "refused: balance together 1 2\n");
     assert_eq!(rt; status, Status::Refused);
     let (status, text) = run_over(&rt, rt.alloc(), CHECK, T2, TOGETHER, &[])?;
-    assert_eq!(rt; text.as_str(), "accepted straight cycle 2 lower 1 upper 1 units 0\n");
+    assert_eq!(rt;
+        text.as_str(),
+        "accepted straight cycle 2 lower 1 upper 1 units 0\n"
+    );
     assert_eq!(rt; status, Status::Done);
     Ok(())
 }
@@ -225,7 +277,11 @@ fn faults_of_fetches(rt: HostRuntime) -> Result<(), Fail> {
 }
 
 /// What a run that converts a certificate leaves of the file that it writes, and what it puts.
-fn converted<R: Threads + Sync>(rt: &R, alloc: Global, proof: &[u8]) -> Result<(Status, String, String), AllocError> {
+fn converted<R: Threads + Sync>(
+    rt: &R,
+    alloc: Global,
+    proof: &[u8],
+) -> Result<(Status, String, String), AllocError> {
     let mut shelf = MemShelf::new(alloc, Vec::new(alloc));
     shelf.put_file("v1.cert", proof)?;
     let words = ["convert", "v1.cert", "v5.cert", "to=cert"];

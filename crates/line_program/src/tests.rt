@@ -38,7 +38,12 @@ fn run_over<R: Threads + Sync>(
 }
 
 /// The same with no failing calls, of `balance t.in2` and the cycle.
-fn balance<R: Threads + Sync>(rt: &R, alloc: Global, text: &[u8], cycle: &str) -> Result<(Status, String), AllocError> {
+fn balance<R: Threads + Sync>(
+    rt: &R,
+    alloc: Global,
+    text: &[u8],
+    cycle: &str,
+) -> Result<(Status, String), AllocError> {
     run_over(rt, alloc, &["balance", "t.in2", cycle], text, &[], &[])
 }
 
@@ -74,7 +79,9 @@ fn balance_of_jackson(rt: HostRuntime) -> Result<(), Fail> {
 
 #[test]
 fn a_huge_idle_time(rt: HostRuntime) -> Result<(), Fail> {
-    let (status, text) = balance(&rt, rt.alloc(),
+    let (status, text) = balance(
+        &rt,
+        rt.alloc(),
         b"1\n200000000000000\n-1,-1\n",
         "cycle=1000000000000000000",
     )?;
@@ -88,7 +95,9 @@ fn a_huge_idle_time(rt: HostRuntime) -> Result<(), Fail> {
 
 #[test]
 fn no_such_file(rt: HostRuntime) -> Result<(), Fail> {
-    let (status, text) = run_over(&rt, rt.alloc(),
+    let (status, text) = run_over(
+        &rt,
+        rt.alloc(),
         &["balance", "none.in2", "cycle=7"],
         P5,
         &[],
@@ -96,7 +105,14 @@ fn no_such_file(rt: HostRuntime) -> Result<(), Fail> {
     )?;
     assert_eq!(rt; status, Status::ReadFault);
     assert_eq!(rt; text.as_str(), "read fault: none.in2\n");
-    let (status, text) = run_over(&rt, rt.alloc(), &["balance", "t.in2", "cycle=7"], P5, &[0], &[])?;
+    let (status, text) = run_over(
+        &rt,
+        rt.alloc(),
+        &["balance", "t.in2", "cycle=7"],
+        P5,
+        &[0],
+        &[],
+    )?;
     assert_eq!(rt; status, Status::ReadFault);
     assert_eq!(rt; text.as_str(), "read fault: t.in2\n");
     Ok(())
@@ -104,7 +120,14 @@ fn no_such_file(rt: HostRuntime) -> Result<(), Fail> {
 
 #[test]
 fn the_sink_fails(rt: HostRuntime) -> Result<(), Fail> {
-    let (status, text) = run_over(&rt, rt.alloc(), &["balance", "t.in2", "cycle=7"], P5, &[], &[0])?;
+    let (status, text) = run_over(
+        &rt,
+        rt.alloc(),
+        &["balance", "t.in2", "cycle=7"],
+        P5,
+        &[],
+        &[0],
+    )?;
     assert_eq!(rt; status, Status::WriteFault);
     assert_eq!(rt; text.as_str(), "");
     Ok(())
@@ -158,10 +181,7 @@ fn faults_of_the_words(rt: HostRuntime) -> Result<(), Fail> {
 fn jobs_that_are_not_built(rt: HostRuntime) -> Result<(), Fail> {
     let rows: [(&[&str], &str); 5] = [
         (&["solve", "none.in2"], "not built: solve\n"),
-        (
-            &["cycle", "none.in2", "stations=2"],
-            "not built: cycle\n",
-        ),
+        (&["cycle", "none.in2", "stations=2"], "not built: cycle\n"),
         (&["balance", "none.in2", "line=u"], "not built: line\n"),
         (&["try", "seed=1", "tasks=2", "line=u"], "not built: try\n"),
         (&["combine", "a.csv", "b.in2"], "not built: combine\n"),
@@ -370,7 +390,9 @@ fn balance_of_an_alb_file(rt: HostRuntime) -> Result<(), Fail> {
         text.as_str(),
         "balance 2\ntotal bound 2\nidle 1\nstation 1: 1\nstation 2: 2\n"
     );
-    let (status, text) = run_over(&rt, rt.alloc(),
+    let (status, text) = run_over(
+        &rt,
+        rt.alloc(),
         &["balance", "t.in2"],
         b"<task times>\r\n1 3\r\n<workers>\r\n",
         &[],

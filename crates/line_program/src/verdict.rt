@@ -189,12 +189,24 @@ fn push_place(
         Place::Together(i, j) => push_pair(text, "balance together ", *i, *j),
         Place::Entry { entry, why } => {
             push_one(text, "entry ", *entry)?;
-            push_entry_fault(alloc, text, cert.tasks, entry_mode(&cert.claim, *entry), why)
+            push_entry_fault(
+                alloc,
+                text,
+                cert.tasks,
+                entry_mode(&cert.claim, *entry),
+                why,
+            )
         }
         Place::Goal => text.push_str("goal"),
         Place::Frame { frame, why } => {
             push_one(text, "frame ", u64::from(*frame))?;
-            push_frame_fault(alloc, text, cert.tasks, frame_mode(&cert.claim, *frame), why)
+            push_frame_fault(
+                alloc,
+                text,
+                cert.tasks,
+                frame_mode(&cert.claim, *frame),
+                why,
+            )
         }
     }
 }
