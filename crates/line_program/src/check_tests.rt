@@ -197,6 +197,38 @@ fn tasks_apart_that_stand_together(rt: HostRuntime) -> Result<(), Fail> {
     Ok(())
 }
 
+/// The certificate of seven tasks with 5,000 copies of its first entry before the others.
+fn many_copies(alloc: Global) -> Result<String, AllocError> {
+    let mut text = String::from_str(
+        alloc,
+        "line balance certificate 2\nline straight\ntasks 7\ncycle 7\nlower 5\nupper 5\nbalance 5\n1\n2\n3\n4\n3\n4\n5\nentries 5004\n",
+    )?;
+    for _ in 0..5000 {
+        text.push_str("branch f 7 3e 2 -\n")?;
+    }
+    text.push_str(
+        "branch f 7 3e 2 -\nbranch f 7 be 3 5000\nswap 7 7e 3 5001 2 1\nbranch f 7 fe 4 5001,5002\ntrail 0\nend\n",
+    )?;
+    Ok(text)
+}
+
+#[test]
+fn many_entries(rt: HostRuntime) -> Result<(), Fail> {
+    let alloc = rt.alloc();
+    let proof = many_copies(alloc)?;
+    let (status, text) = run_over(&rt, alloc, CHECK, P7, proof.as_bytes(), &[])?;
+    assert_eq!(rt;
+        text.as_str(),
+        "accepted straight cycle 7 lower 5 upper 5 units 75048\n"
+    );
+    assert_eq!(rt; status, Status::Done);
+    let words = ["check", "t.in2", "t.cert", "steps=75047"];
+    let (status, text) = run_over(&rt, alloc, &words, P7, proof.as_bytes(), &[])?;
+    assert_eq!(rt; text.as_str(), "steps ended at 75047\n");
+    assert_eq!(rt; status, Status::Steps);
+    Ok(())
+}
+
 /// The place behind so many lines.
 fn behind(text: &[u8], lines: usize) -> usize {
     let mut left = lines;
