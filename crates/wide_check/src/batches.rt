@@ -50,6 +50,7 @@ fn batch_found<R: Threads + Sync>(
 {
     (from..to)
         .into_par_iter()
+        .with_min_len(1)
         .map(
             |k: usize| -> Found
                 requires { (k < length entries.now) × AreEntries (tasks inst.now) entries.now }
