@@ -10,7 +10,7 @@ use Rattle.line_rules.specs.Loads.{rest, taken}
 use Rattle.line_rules.specs.Bounds.{up, lm1, bound}
 use Rattle.line_rules.specs.declared.types.LineKind.{LineKind}
 use Rattle.line_rules.specs.declared.types.Load.{Load}
-use Rattle.line_check.proofs.Fits.{below_bound}
+use Rattle.check_loads.proofs.Fits.{below_bound}
 
 never : (b : Bool) → (b ≡ true → ⊥) → b ≡ false
 never b n = elim (cases_Bool b) [ inl e ↦ absurd (n e) | inr e ↦ e ]

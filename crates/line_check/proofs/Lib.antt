@@ -1,11 +1,3 @@
-pub mod Answered
-pub mod Picked
-pub mod Shares
-pub mod Around
-pub mod Fits
-pub mod Marks
-pub mod Climbs
-pub mod Stepping
 pub mod Leaving
 pub mod Walking
 pub mod Exact

@@ -1,7 +1,3 @@
-pub mod Times
-pub mod Posed
-pub mod Ends
-pub mod Standing
 pub mod Walks
 pub mod Steps
 pub mod Reaches

@@ -10,9 +10,9 @@ ghost use Rattle.line_rules.specs.declared.types.LineKind.{LineKind as Kind};
 ghost use Rattle.line_check.specs.Faults.{IsFound, IsChecked};
 ghost use Rattle.line_check.specs.Swaps.{StandsFor, IsSwapped};
 
-use crate::bounds::{bound, exceeds};
-use crate::questions::{Question, room};
-use crate::sizes::times_in;
+use check_loads::bounds::{bound, exceeds};
+use check_loads::questions::{Question, room};
+use check_loads::sizes::times_in;
 use crate::types::{EntryChecked, EntryFault, Found, Walked};
 use crate::walks::{first_late, walk_all};
 use line_instance::Instance;

@@ -1,20 +1,12 @@
 //! An independent check of certificates: the balance, each entry of the proof, and the trail of a search that stopped.
 #![tactic(auto)]
 
-mod bounds;
-mod chains;
 mod checking;
-mod ends;
 mod entries;
 mod frames;
-mod full;
 pub mod laws;
 mod lists;
-mod loads;
 mod pairs;
-mod questions;
-mod sides;
-mod sizes;
 #[cfg(test)]
 mod tests;
 mod types;

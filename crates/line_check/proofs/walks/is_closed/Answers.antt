@@ -4,7 +4,7 @@ use Rattle.line_instance.specs.Sums.{sum_where}
 use Rattle.line_rules.specs.Loads.{rest, taken}
 use Rattle.line_rules.specs.declared.types.Load.{Load}
 use Rattle.line_rules.proofs.Paths.{rest_inside}
-use Rattle.line_check.specs.Standing.{stand}
+use Rattle.check_loads.specs.Standing.{stand}
 use Rattle.line_check.proofs.Leaving.{rest_sum}
 use Rattle.line_check.proofs.walks.is_closed.Goals as goal
 

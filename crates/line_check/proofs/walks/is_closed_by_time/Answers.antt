@@ -2,7 +2,7 @@ use Rattle.std.proofs.Common.{◌≡◌, ◌+◌, arith}
 use Rattle.line_instance.specs.Line.{has}
 use Rattle.line_instance.specs.Sums.{sum_where}
 use Rattle.line_rules.specs.Loads.{rest, taken}
-use Rattle.line_check.specs.Standing.{stand}
+use Rattle.check_loads.specs.Standing.{stand}
 use Rattle.line_check.proofs.Leaving.{rest_sum, long_rest}
 use Rattle.line_check.proofs.walks.is_closed_by_time.Goals as goal
 

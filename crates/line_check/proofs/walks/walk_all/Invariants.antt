@@ -1,5 +1,5 @@
 use Rattle.std.proofs.Common.{◌≤◌, ◌-◌, take}
-use Rattle.line_check.specs.Standing.{IsWalk, last_of}
+use Rattle.check_loads.specs.Standing.{IsWalk, last_of}
 use Rattle.line_check.proofs.Walking.{IsWalking}
 use Rattle.line_check.proofs.walks.walk_all.Given as goal
 

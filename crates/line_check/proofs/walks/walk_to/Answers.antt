@@ -9,8 +9,8 @@ use Rattle.line_rules.specs.declared.types.Load.{Load}
 use Rattle.line_check.specs.Walks.{IsUncovered, CountsTo}
 use Rattle.line_check.specs.Reaches.{IsMatched}
 use Rattle.line_check.specs.Steps.{IsLacking, Takes}
-use Rattle.line_check.specs.Standing.{stand, last_of}
-use Rattle.line_check.proofs.Stepping.{last_given, none_given}
+use Rattle.check_loads.specs.Standing.{stand, last_of}
+use Rattle.check_loads.proofs.Stepping.{last_given, none_given}
 use Rattle.line_check.proofs.Walking.{IsWalking, walk_starts, walk_takes}
 use Rattle.line_check.proofs.Reaching.{reach_past, reach_fails, reach_before, reach_end, goes_on}
 use Rattle.line_check.proofs.walks.walk_to.Goals as goal

@@ -1,0 +1,97 @@
+-- The cases of the bound, and that it is small.
+use Rattle.std.proofs.Common.{◌≡◌, ◌≢◌, ℕ, zero, suc, ◌+◌, ◌*◌, ◌<◌, ◌≤◌, max, Bool, true, false, cond, nat_eq, nat_lt, List, [], ◌∷◌, length, get_or, ap, ◌∙◌, inl, inr, arith}
+use Rattle.std.proofs.lemmas.Bool.{false≢true, cases_lt, cases_eq}
+use Rattle.std.proofs.lemmas.Bool.Decides.{nat_tests}
+use Rattle.std.specs.Int.{div_ceil}
+use Rattle.task_set.specs.Truths.{In, IsEmpty, count}
+use Rattle.task_set.proofs.Counts.{count_first}
+use Rattle.line_instance.specs.Line.{Line, IsLine, IsRanked, IsTaskSet, tasks, time, has}
+use Rattle.line_instance.specs.Sums.{weigh, sum_where, count_where}
+use Rattle.line_instance.proofs.Sums.{weigh-one}
+use Rattle.line_rules.specs.Balance.{IsBalance}
+use Rattle.line_rules.specs.Bounds.{up, sixths, lm1, lm2, lm3, chained, bound}
+use Rattle.line_rules.specs.declared.types.LineKind.{LineKind}
+use Rattle.line_rules.specs.declared.types.Seatplace.{Seatplace}
+use Rattle.line_rules.proofs.Carried.{stands_alone}
+use Rattle.line_rules.proofs.Law.{bound_le, some_member}
+use Rattle.line_rules.proofs.Nonempty.{bound_some, member_or_empty}
+use Rattle.check_loads.proofs.Around.{up_ceil}
+
+-- the tasks of R longer than the cycle
+abbrev pub long_ones : Line → ℕ → List Bool → ℕ
+long_ones line c R = count_where (λ t. nat_lt c t) (has R) line.times
+
+-- the parts of the bound
+abbrev pub greatest_part : LineKind → Line → ℕ → List Bool → ℕ
+greatest_part kind line c R = max 1 (max (lm1 line c R) (max (lm2 line c R) (max (lm3 line c R) (chained kind line c R))))
+
+none_counted : (R : List Bool) → IsEmpty R → count R ≡ 0
+none_counted R h = elim (cases_eq (count R) 0) [ inl e ↦ e | inr n ↦ (let m : (i : ℕ) × In R i = some_member R n in absurd (h m.0 m.1)) ]
+
+-- a set without a count has no member
+count_some : (R : List Bool) → count R ≡ 0 → (i : ℕ) → In R i → ⊥
+count_some [] e i m = false≢true m
+count_some (true ∷ bs) e i m = omega (arith, e, count_first true bs)
+count_some (false ∷ bs) e zero m = false≢true m
+count_some (false ∷ bs) e (suc i) m = count_some bs (omega (arith, e, count_first false bs)) i m
+
+pub empty_bound : (kind : LineKind) (line : Line) (c : ℕ) (R : List Bool) → IsEmpty R → bound kind line c R ≡ 0
+unfolding bound
+empty_bound kind line c R h =
+    ap (λ n. cond (nat_eq n 0) 0 (cond (nat_lt 0 (long_ones line c R)) 1025 (greatest_part kind line c R))) (none_counted R h)
+
+module _ (kind : LineKind) (line : Line) (c : ℕ) (R : List Bool) (some : IsEmpty R → ⊥) where
+  counted : count R ≢ 0
+  counted e = elim (member_or_empty R) [ inl m ↦ absurd (count_some R e m.0 m.1) | inr h ↦ some h ]
+
+  pub at_least_one : 1 ≤ bound kind line c R
+  at_least_one = elim (member_or_empty R) [ inl m ↦ bound_some kind line c R m.0 m.1 | inr h ↦ absurd (some h) ]
+
+  pub long_bound : 0 < long_ones line c R → bound kind line c R ≡ 1025
+  unfolding bound
+  long_bound l = let n : count R ≢ 0 = counted in grind (arith, nat_tests)
+
+  pub parts_bound : long_ones line c R ≡ 0 → bound kind line c R ≡ greatest_part kind line c R
+  unfolding bound
+  parts_bound l = let n : count R ≢ 0 = counted in grind (arith, nat_tests)
+
+  -- what is below each part that counts is below the bound
+  pub below_bound : (most : ℕ) → most < 1025 → (long_ones line c R ≡ 0 → most < greatest_part kind line c R) → most < bound kind line c R
+  below_bound most l h = elim (cases_eq (long_ones line c R) 0) [
+    | inl e ↦ omega (arith, h e, parts_bound e)
+    | inr n ↦ omega (arith, long_bound (omega arith))
+  ]
+
+-- where no time is too long, the bound is at most the number of tasks
+none_long : (c : ℕ) (p : ℕ → Bool) (ts : List ℕ) → count_where (λ t. nat_lt c t) p ts ≡ 0 → (i : ℕ) → i < length ts → p i ≡ true → get_or ts i 0 ≤ c
+none_long c p ts z i l e = elim (cases_lt c (get_or ts i 0)) [
+  | inl more ↦ (let one : 1 ≤ cond (nat_lt c (get_or ts i 0)) 1 0 = grind (arith, nat_tests) in absurd (omega (arith, one, z, weigh-one (λ t. cond (nat_lt c t) 1 0) p i ts l e)))
+  | inr less ↦ less
+]
+
+pub small_bound : (kind : LineKind) (line : Line) (c : ℕ) (R : List Bool) → IsLine line → IsRanked line → IsTaskSet line R → 1 ≤ c → long_ones line c R ≡ 0 → bound kind line c R ≤ tasks line
+small_bound kind line c R ok ranked set o z =
+    let alone : (place : ℕ → Seatplace) × IsBalance kind line c R (tasks line) place × ((i j : ℕ) → In R i → In R j → (place i).station ≡ (place j).station → i ≡ j) =
+    stands_alone kind line c R ok ranked set (λ i m. none_long c (has R) line.times z i (set.tasks i m) m) in
+    bound_le kind line c o R (tasks line) alone.0 alone.1
+
+-- no bound is more than 1,025
+pub most_bound : (kind : LineKind) (line : Line) (c : ℕ) (R : List Bool) → IsLine line → IsRanked line → IsTaskSet line R → 1 ≤ c → bound kind line c R ≤ 1025
+most_bound kind line c R ok ranked set o = elim (cases_eq (long_ones line c R) 0) [
+  | inl e ↦ omega (arith, small_bound kind line c R ok ranked set o e, ok.small)
+  | inr n ↦ elim (member_or_empty R) [
+    | inl m ↦ omega (arith, long_bound kind line c R (λ h. h m.0 m.1) (omega arith))
+    | inr h ↦ omega (arith, empty_bound kind line c R h)
+  ]
+]
+
+-- the parts of the bound from the total time and from the counts
+pub time_part : (line : Line) (c : ℕ) (R : List Bool) (time stations : ℕ) → 1 ≤ c → time ≡ sum_where (has R) line.times → stations ≡ div_ceil time c → stations ≡ lm1 line c R
+unfolding lm1
+time_part line c R time stations o e f = f ∙ up_ceil time c o ∙ ap (λ t. up t c) e
+
+pub count_parts : (line : Line) (c : ℕ) (R : List Bool) (above at six stations : ℕ) → above ≡ count_where (λ t. nat_lt c (2 * t)) (has R) line.times → at ≡ count_where (λ t. nat_eq (2 * t) c) (has R) line.times
+    → six ≡ weigh (sixths c) (has R) line.times → stations ≡ max 1 (max (above + up at 2) (up six 6)) → stations ≡ max 1 (max (lm2 line c R) (lm3 line c R))
+unfolding lm2 lm3
+count_parts line c R above at six stations e f g h = h ∙ ap (λ n. max 1 (max (n + up at 2) (up six 6))) e ∙ ap (λ n. max 1 (max (count_where (λ t. nat_lt c (2 * t)) (has R) line.times + up n 2) (up six 6))) f
+    ∙ ap (λ n. max 1 (max (count_where (λ t. nat_lt c (2 * t)) (has R) line.times + up (count_where (λ t. nat_eq (2 * t) c) (has R) line.times) 2) (up n 6))) g

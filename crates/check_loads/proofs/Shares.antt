@@ -1,0 +1,71 @@
+-- The times of a set and its counts by size.
+use Rattle.std.proofs.Common.{◌≡◌, ℕ, ◌*◌, ◌<◌, ◌≤◌, max, Bool, true, false, cond, nat_eq, nat_lt, List, length, get_or, ap, arith}
+use Rattle.std.proofs.lemmas.Bool.Decides.{nat_tests}
+use mir.Val.{bool_byte}
+use Rattle.task_set.specs.Truths.{In, members_of}
+use Rattle.line_instance.specs.Line.{Line, IsTaskSet, has, tasks, time}
+use Rattle.line_instance.specs.Sums.{weigh, count_where}
+use Rattle.line_instance.proofs.Sums.{weigh-most}
+use Rattle.line_rules.specs.Bounds.{sixths}
+use Rattle.check_loads.specs.Times.{longest_of}
+use Rattle.check_loads.proofs.Picked.{greatest_of, greatest_listed, below_least, below_at, picked_le, weightless}
+
+once : (b : Bool) → cond b 1 0 ≤ 1
+once true = omega arith
+once false = omega arith
+
+-- a truth counts for at most one
+pub one_more : (b : Bool) → bool_byte b ≤ 1
+one_more true = omega arith
+one_more false = omega arith
+
+-- at most all tasks are counted
+pub count_most : (test p : ℕ → Bool) (ts : List ℕ) → count_where test p ts ≤ length ts
+count_most test p ts = omega (arith, weigh-most (λ t. cond (test t) 1 0) p 1 ts (λ i l. once (test (get_or ts i 0))))
+
+six : (c t : ℕ) → sixths c t ≤ 6
+unfolding sixths
+six c t = grind (arith, nat_tests)
+
+-- each task counts for at most a whole station
+pub sixths_most : (c : ℕ) (p : ℕ → Bool) (ts : List ℕ) → weigh (sixths c) p ts ≤ length ts * 6
+sixths_most c p ts = weigh-most (sixths c) p 6 ts (λ i l. six c (get_or ts i 0))
+
+-- each member takes at most the greatest time
+pub longest_least : (line : Line) (R : List Bool) → IsTaskSet line R → (i : ℕ) → In R i → time line i ≤ longest_of line R
+unfolding longest_of
+longest_least line R set i m =
+    let e : cond (has R i) (time line i) 0 ≡ time line i = ap (λ b. cond b (time line i) 0) m in
+    omega (arith, e, below_at (tasks line) (λ j. cond (has R j) (time line j) 0) i (set.tasks i m))
+
+-- what a walk over the members starts with
+pub longest_start : (line : Line) (left : List ℕ) (R : List Bool) → ((i : ℕ) → In R i → i < tasks line) → left ≡ members_of R → max 0 (greatest_of (time line) left) ≡ longest_of line R
+unfolding longest_of
+longest_start line left R h e =
+    let f : greatest_of (time line) left ≡ greatest_of (time line) (members_of R) = ap (greatest_of (time line)) e in
+    omega (arith, f, greatest_listed (tasks line) (time line) R h)
+
+pub longest_most : (line : Line) (R : List Bool) (m : ℕ) → ((i : ℕ) → time line i ≤ m) → longest_of line R ≤ m
+unfolding longest_of
+longest_most line R m h = below_least (tasks line) (λ i. cond (has R i) (time line i) 0) m (λ i. picked_le (has R i) (time line i) m (λ e. h i))
+
+-- where no member takes a third of the cycle, none counts by its size
+module _ (line : Line) (R : List Bool) (set : IsTaskSet line R) (c longest : ℕ) (at_most : (i : ℕ) → In R i → time line i ≤ longest) (short : 3 * longest < c) where
+  none_counts : (w : ℕ → ℕ) → ((t : ℕ) → 3 * t < c → w t ≡ 0) → weigh w (has R) line.times ≡ 0
+  none_counts w h = weightless w (has R) line.times (λ i l m. h (time line i) (omega (arith, short, at_most i m)))
+
+  pub none_long : count_where (λ t. nat_lt c t) (has R) line.times ≡ 0
+  none_long = none_counts (λ t. cond (nat_lt c t) 1 0) (λ t l. grind (arith, nat_tests, l))
+
+  pub none_above : count_where (λ t. nat_lt c (2 * t)) (has R) line.times ≡ 0
+  none_above = none_counts (λ t. cond (nat_lt c (2 * t)) 1 0) (λ t l. grind (arith, nat_tests, l))
+
+  pub none_half : count_where (λ t. nat_eq (2 * t) c) (has R) line.times ≡ 0
+  none_half = none_counts (λ t. cond (nat_eq (2 * t) c) 1 0) (λ t l. grind (arith, nat_tests, l))
+
+  no_sixths : (t : ℕ) → 3 * t < c → sixths c t ≡ 0
+  unfolding sixths
+  no_sixths t l = grind (arith, nat_tests, l)
+
+  pub none_sixths : weigh (sixths c) (has R) line.times ≡ 0
+  none_sixths = none_counts (sixths c) no_sixths

@@ -1,0 +1,4 @@
+pub mod Ends
+pub mod Times
+pub mod Posed
+pub mod Standing

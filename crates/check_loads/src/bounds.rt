@@ -1,0 +1,63 @@
+//! The bound on the stations of a set of tasks: its value, and whether it exceeds a number.
+ghost use Rattle.std.specs.Prelude.{◌≡◌, ◌≤◌, ◌<◌, ◌↔◌, IsTrue};
+ghost use Rattle.line_instance.specs.Line.{IsTaskSet};
+ghost use Rattle.line_rules.specs.Bounds.{bound};
+ghost use Rattle.check_loads.specs.Times.{AreTimes};
+
+use crate::chains::has_longer_chain;
+use crate::sizes::{Times, counts_of, stations};
+use line_instance::Instance;
+use line_rules::LineKind;
+use task_set::TaskSet;
+
+/// The bound of a set with a task longer than the cycle: more stations than any line has tasks.
+pub const TOO_LONG: u32 = 1025;
+
+/// Whether the bound of a set of tasks exceeds `most`, settled as soon as may be. The bound is 0 for the empty set, 1,025 where a task is
+/// longer than the cycle, and otherwise the greatest of 1, the set's total time in cycles (Scholl's LM1), which is looked at first, what its
+/// tasks of half a cycle or more need (LM2), what its tasks of a third or more need (LM3), and, on a straight line, what the head and the
+/// tail of a task need, which is looked at last. The cycle is in the instance's time unit.
+pub fn exceeds(
+    inst: &Instance,
+    kind: LineKind,
+    cycle: u64,
+    set: &TaskSet,
+    times: Times,
+    most: u32,
+) -> bool
+    requires set { IsTaskSet inst.now set.now }
+    requires some { 1 ≤ cycle }
+    requires limit { cycle ≤ 1000000000000000000 }
+    requires times { AreTimes inst.now set.now times }
+    ensures { IsTrue result ↔ most < bound kind inst.now cycle set.now }
+{
+    let _tasks = inst.tasks();
+    if set.is_empty() || most >= TOO_LONG {
+        return false;
+    }
+    let most = u64::from(most);
+    if most == 0 || times.total.div_ceil(cycle) > most {
+        return true;
+    }
+    let counts = counts_of(inst, cycle, set, times.longest);
+    if counts.too_long > 0 || stations(counts) > most {
+        return true;
+    }
+    has_longer_chain(inst, kind, cycle, set, times, most)
+}
+
+/// The bound of a set of tasks: the first number that it doesn't exceed.
+pub fn bound(inst: &Instance, kind: LineKind, cycle: u64, set: &TaskSet, times: Times) -> u32
+    requires set { IsTaskSet inst.now set.now }
+    requires some { 1 ≤ cycle }
+    requires limit { cycle ≤ 1000000000000000000 }
+    requires times { AreTimes inst.now set.now times }
+    ensures { result ≡ bound kind inst.now cycle set.now }
+{
+    let _tasks = inst.tasks();
+    let mut least = 0;
+    'climb: while exceeds(inst, kind, cycle, set, times, least) {
+        least += 1;
+    }
+    least
+}

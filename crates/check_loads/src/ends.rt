@@ -1,0 +1,106 @@
+//! One side of the load that a walk has come to, with the tasks that are free to join it.
+ghost use Rattle.std.specs.Prelude.{◌≡◌, ◌<◌, ℕ, false, true, replicate, slice_set};
+ghost use Rattle.task_set.specs.Truths.{In};
+ghost use Rattle.line_instance.specs.Line.{IsTaskSet, tasks, has};
+ghost use Rattle.line_rules.specs.Sides.{Ahead, fills};
+ghost use Rattle.check_loads.specs.Ends.{AreMarked, IsEnd, Adds, GivesUp};
+
+use crate::sides::{ahead, fills, nearest, place_of, waiting};
+use line_instance::Instance;
+use line_rules::{Mode, Side};
+use task_set::TaskSet;
+
+/// The tasks of a side; the tasks that are free to join it by precedence alone: in the walk's set, not at the side, with all that is ahead
+/// of them in the set at the side; and the places of both.
+#[derive(Clone, Copy)]
+pub struct End {
+    pub tasks: TaskSet,
+    pub free: TaskSet,
+    pub places: TaskSet,
+}
+
+impl End {
+    /// A side with no task, and none that is free.
+    fn bare() -> End
+        ensures tasks { result.tasks ≡ replicate 1024 false }
+        ensures free { result.free ≡ replicate 1024 false }
+        ensures places { result.places ≡ replicate 1024 false }
+    {
+        End {
+            tasks: TaskSet::empty(),
+            free: TaskSet::empty(),
+            places: TaskSet::empty(),
+        }
+    }
+
+    /// A side with no task yet, and where loads of the mode fill the side, with the tasks of the set that are free to join it.
+    pub fn start(inst: &Instance, set: &TaskSet, mode: Mode, side: Side) -> End
+        requires { IsTaskSet inst.now set.now }
+        ensures tasks { result.tasks ≡ replicate 1024 false }
+        ensures kept { fills mode side ≡ true → IsEnd inst.now side set.now result }
+    {
+        let mut end = End::bare();
+        if fills(mode, side) {
+            end.add_ready(inst, set, side, *set);
+        }
+        end
+    }
+
+    // Makes those of the candidates free that are ready. What waits for a candidate isn't ready, so it is no candidate any more.
+    fn add_ready(&mut self, inst: &Instance, set: &TaskSet, side: Side, candidates: TaskSet)
+        requires set { IsTaskSet inst.now set.now }
+        requires candidates { (i : ℕ) → In candidates i → In set.now i × (has self.old.tasks i ≡ false) }
+        requires marked { AreMarked inst.now side self.old }
+        ensures { Adds inst.now side set.now candidates self.old self.new }
+    {
+        let _tasks = inst.tasks();
+        if candidates.is_empty() {
+            return;
+        }
+        let absent = set.minus(&self.tasks);
+        let mut left = candidates;
+        while let Some(task) = nearest(&left, side) {
+            if ahead(inst, side, task).meet(&absent).is_empty() {
+                self.free.insert(task);
+                self.places.insert(place_of(inst, side, task));
+            }
+            left = left.without(task).minus(waiting(inst, side, task));
+        }
+    }
+
+    /// Gives up a task of the side: it is free again, and what waits for it isn't.
+    #[inline]
+    pub fn give_up(&mut self, inst: &Instance, side: Side, task: u32)
+        requires task { In self.old.tasks task }
+        requires within { task < tasks inst.now }
+        requires apart { (i : ℕ) → In self.old.free i → has self.old.tasks i ≡ false }
+        requires marked { AreMarked inst.now side self.old }
+        ensures { GivesUp inst.now side task self.old self.new }
+    {
+        let _tasks = inst.tasks();
+        self.tasks.remove(task);
+        self.free.insert(task);
+        let mut shut = self.free.meet(waiting(inst, side, task));
+        while let Some(other) = shut.least() {
+            shut.remove(other);
+            self.free.remove(other);
+            self.places.remove(place_of(inst, side, other));
+        }
+    }
+
+    /// Takes in a task that is free: what waits for it may be free now.
+    #[inline]
+    pub fn take_in(&mut self, inst: &Instance, set: &TaskSet, side: Side, task: u32)
+        requires set { IsTaskSet inst.now set.now }
+        requires free { In self.old.free task }
+        requires end { IsEnd inst.now side set.now self.old }
+        requires closed { (i j : ℕ) → In set.now i → In self.old.tasks j → Ahead inst.now side i j → In self.old.tasks i }
+        ensures tasks { self.new.tasks ≡ slice_set self.old.tasks task true }
+        ensures end { IsEnd inst.now side set.now self.new }
+    {
+        let _tasks = inst.tasks();
+        self.tasks.insert(task);
+        self.free.remove(task);
+        self.add_ready(inst, set, side, waiting(inst, side, task).meet(set));
+    }
+}

@@ -1,6 +1,0 @@
-use Rattle.std.proofs.Common.{arith}
-use Rattle.line_check.proofs.Fits.{most_bound}
-use Rattle.line_check.proofs.bounds.bound.Goals as goal
-
-pub overflow_add-least : goal.overflow_add-least
-overflow_add-least c = omega (arith, c.climb.invariant, most_bound c.args.kind c.args.inst.now c.args.cycle c.args.set.now c.tasks-tasks.ensures.line c.tasks-tasks.ensures.ranked c.requires.set c.requires.some)
