@@ -1,1 +1,3 @@
 pub mod From
+pub mod Trim
+pub mod Laws
