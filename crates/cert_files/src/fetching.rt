@@ -1,7 +1,10 @@
 //! The reading of a certificate from a file.
 ghost use Rattle.std.specs.Prelude.{◌≡◌, ◌≢◌, ◌≤◌, ℕ, List, Some};
 ghost use Rattle.cert_text.specs.Cert.{cert_text};
-ghost use Rattle.cert_text.specs.declared.fault.CertFault.{CertFault};
+ghost use Rattle.cert_text.specs.OldCert.{old_text};
+ghost use Rattle.cert_lines.specs.OldRanges.{IsOldInRange};
+ghost use Rattle.cert_lines.specs.declared.fault.CertFault.{CertFault};
+ghost use Rattle.cert_lines.specs.declared.version_one.OldCertificate.{OldCertificate};
 ghost use Rattle.line_io.specs.Outside.{Rises};
 ghost use Rattle.line_rules.specs.Ranges.{IsInRange};
 ghost use Rattle.line_rules.specs.declared.types.Certificate.{Certificate};
@@ -34,6 +37,7 @@ pub fn cert_from<S: Shelf>(alloc: Global, shelf: &mut S, name: &str, limit: u64)
     ensures fault { result ≡ ReadFault → Rises (S.faults shelf.old) (S.faults shelf.new) }
     ensures read { S.tells → IsCertFrom (S.file shelf.old name.now) limit result }
     ensures none { S.tells → (fault : CertFault) → result ≡ Fault fault → (cert : Certificate) → IsInRange cert → S.file shelf.old name.now ≢ Some (cert_text cert) }
+    ensures none_old { S.tells → (fault : CertFault) → result ≡ Fault fault → (old : OldCertificate) → IsOldInRange old → S.file shelf.old name.now ≢ Some (old_text old) }
     ensures range { IsGoodInRange result }
     ensures files { S.tells → (q : List ℕ) → S.file shelf.new q ≡ S.file shelf.old q }
 {

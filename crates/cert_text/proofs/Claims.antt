@@ -2,30 +2,31 @@
 use Rattle.std.proofs.Common.{◌≡◌, ℕ, suc, ◌<◌, ◌≤◌, List, [], ◌∷◌, length, refl, sym, ◌∙◌, ap, subst, arith, Some, None, Ok, Err, Result, lit≤}
 use Rattle.std.specs.Prelude.{codes}
 use Rattle.std.proofs.lemmas.Option.{none-some}
-use Rattle.line_rules.specs.Ranges.{IsCycle, AreEntries, IsTrailOrNone, IsClaim}
+use Rattle.line_rules.specs.Ranges.{IsCycle, AreEntries, IsTrailOrNone, IsClaim, IsInRange}
+use Rattle.line_rules.specs.declared.types.Certificate.{Certificate}
 use Rattle.line_rules.specs.declared.types.LineKind.{LineKind}
 use Rattle.line_rules.specs.declared.types.LineKind.TheVariants.{Straight}
 use Rattle.line_rules.specs.declared.types.Ask.{Ask}
 use Rattle.line_rules.specs.declared.types.Ask.TheVariants as ask
 use Rattle.line_rules.specs.declared.types.Claim.{Claim}
 use Rattle.line_rules.specs.declared.types.Claim.TheVariants as claim
-use Rattle.cert_text.specs.Rows.{fixed, keyed, row_text}
-use Rattle.cert_text.specs.Cert.{claim_rows, cert_rows}
-use Rattle.cert_text.specs.Faults.{Grammar}
-use Rattle.cert_text.specs.Judging.{one, then_, IsRead}
-use Rattle.cert_text.specs.Patterns.{opening_row, IsOpening}
-use Rattle.cert_text.specs.Parts.{IsHeadOf, heads, lists, IsPlacedOf, placings, IsOpened, behind_rows, opened, claims, certs}
-use Rattle.cert_text.specs.declared.patterns.Opening.{Opening}
-use Rattle.cert_text.specs.declared.patterns.Opening.TheVariants as opening
+use Rattle.cert_lines.specs.Rows.{fixed, keyed, row_text}
+use Rattle.cert_text.specs.Cert.{claim_rows}
+use Rattle.cert_lines.specs.Faults.{Grammar}
+use Rattle.cert_lines.specs.Judging.{one, then_, IsRead}
+use Rattle.cert_lines.specs.Patterns.{opening_row, IsOpening}
+use Rattle.cert_text.specs.Parts.{IsHeadOf, heads, lists, IsPlacedOf, placings, IsOpened, behind_rows, opened, claims, bodies}
+use Rattle.cert_lines.specs.declared.patterns.Opening.{Opening}
+use Rattle.cert_lines.specs.declared.patterns.Opening.TheVariants as opening
 use Rattle.cert_text.specs.declared.reading.Head.{Head}
 use Rattle.cert_text.specs.declared.reading.EntryList.{EntryList}
 use Rattle.cert_text.specs.declared.reading.Placed.{Placed}
-use Rattle.cert_text.proofs.CiteWords.{sat}
-use Rattle.cert_text.proofs.Judged.{small_is, keyed_value, keyed_other}
-use Rattle.cert_text.proofs.OtherLines.{keyed_again}
+use Rattle.cert_lines.proofs.CiteWords.{sat}
+use Rattle.cert_lines.proofs.Judged.{small_is, keyed_value, keyed_other}
+use Rattle.cert_lines.proofs.OtherLines.{keyed_again}
 use Rattle.cert_text.proofs.Sequencing.{unique_then, Unique, unique_one, Same, same_read, same_error, both_read, second_error}
-use Rattle.cert_text.specs.declared.fault.ReadError.{ReadError}
-use Rattle.cert_text.specs.declared.fault.ReadError.TheVariants as errors
+use Rattle.cert_lines.specs.declared.fault.ReadError.{ReadError}
+use Rattle.cert_lines.specs.declared.fault.ReadError.TheVariants as errors
 use Rattle.cert_text.proofs.Wholes.{unique_same, unique_placings, unique_lists, unique_heads, some_behind, placing_said, within}
 
 -- the end
@@ -41,7 +42,7 @@ bounds_parts kind n = then_ (placings kind n) (λ p. bounds_behind kind n)
 abbrev no_list : EntryList
 no_list = record { entries = []; trail = None }
 
-abbrev no_places : Placed
+abbrev pub no_places : Placed
 no_places = record { upper = 0; stations = 0; places = [] }
 
 from_claim : Claim → Placed × (EntryList × Unit {0})
@@ -174,31 +175,21 @@ pub claim_read : (h : Head) (o : Opening) (c : Claim) (passed after : ℕ) (text
 unfolding same_claims
 claim_read h o c passed after text rest x = same_read (claim_parts h) (claims h) passed after text rest (o, c) (same_claims h) x
 
--- certificates
-abbrev pub versions : Grammar (Unit {0})
-versions = one (λ u. fixed (codes "line balance certificate 2")) (λ u. Unit {0})
-
-abbrev pub cert_parts : Grammar (Unit {0} × (Head × Claim))
-cert_parts = then_ versions (λ u. then_ heads claims)
-
-pub unique_version : Unique versions
-unique_version = unique_one (λ u. fixed (codes "line balance certificate 2")) (λ u. Unit {0}) (λ v w a b e. refl)
-
-pub same_certs : Same cert_parts certs
-unfolding cert_rows
-same_certs = record {
-  to = λ v. record { kind = v.1.0.kind; tasks = v.1.0.tasks; ask = v.1.0.ask; claim = v.1.1 };
-  from = λ c. (tt, (record { kind = c.kind; tasks = c.tasks; ask = c.ask }, c.claim));
-  to_ranged = λ v r. record { some = r.1.0.some; few = r.1.0.few; ask = r.1.0.ask; claim = r.1.1 };
-  from_ranged = λ c r. (tt, (record { some = r.some; few = r.few; ask = r.ask }, r.claim));
+-- what stands behind the first line
+pub same_bodies : Same (then_ heads claims) bodies
+same_bodies = record {
+  to = λ v. record { kind = v.0.kind; tasks = v.0.tasks; ask = v.0.ask; claim = v.1 };
+  from = λ c. (record { kind = c.kind; tasks = c.tasks; ask = c.ask }, c.claim);
+  to_ranged = λ v r. record { some = r.0.some; few = r.0.few; ask = r.0.ask; claim = r.1 };
+  from_ranged = λ c r. (record { some = r.some; few = r.few; ask = r.ask }, r.claim);
   to_rows = λ v r. refl;
   from_rows = λ c r. refl;
 }
 
-pub cert_read : (h : Head) (c : Claim) (passed after : ℕ) (text rest : List ℕ) → IsRead cert_parts passed text rest after (Ok (tt, (h, c)))
-    → IsRead certs passed text rest after (Ok (record { kind = h.kind; tasks = h.tasks; ask = h.ask; claim = c }))
-unfolding same_certs
-cert_read h c passed after text rest x = same_read cert_parts certs passed after text rest (tt, (h, c)) same_certs x
+pub body_read : (h : Head) (c : Claim) (passed after : ℕ) (text rest : List ℕ) → IsRead (then_ heads claims) passed text rest after (Ok (h, c))
+    → IsRead bodies passed text rest after (Ok (record { kind = h.kind; tasks = h.tasks; ask = h.ask; claim = c }))
+unfolding same_bodies
+body_read h c passed after text rest x = same_read (then_ heads claims) bodies passed after text rest (h, c) same_bodies x
 
 pub some_claim : (h : Head) → (c : Claim) × IsClaim h.kind h.tasks h.ask c
 unfolding same_claims
@@ -212,6 +203,10 @@ some_head =
     let h : Head = record { kind = Straight; tasks = 1; ask = ask.Stations 1 } in
     let c = some_claim h in
     ((h, c.0), (record { some = lit≤ tt; few = lit≤ tt; ask = one_cycle }, c.1))
+
+pub a_cert : (c : Certificate) × IsInRange c
+unfolding same_bodies
+a_cert = let h = some_head in (same_bodies.to h.0, same_bodies.to_ranged h.0 h.1)
 
 -- what is read behind the first line of a claim gives what the claim is
 pub claim_result : (h : Head) (o : Opening) (r : Result Claim ReadError) (passed middle after : ℕ) (text left rest : List ℕ) → h.tasks ≤ 1024 → IsRead (openings h.ask h.tasks) passed text left middle (Ok o)
@@ -231,7 +226,7 @@ same_end kind n t = record { to = λ u. claim.TooLong t; from = λ c. tt; to_ran
     from_row (claim.TooLong x) r = refl
     from_row (claim.Bounds l u b es left) r = absurd r
 
-unique_end : Unique end_grammar
+pub unique_end : Unique end_grammar
 unique_end = unique_one (λ u. fixed (codes "end")) (λ u. Unit {0}) (λ v w a b e. refl)
 
 unique_opened : (a : Ask) (kind : LineKind) (n : ℕ) (o : Opening) → n ≤ 1024 → IsOpening a n o → Unique (opened kind n o)
@@ -257,7 +252,7 @@ unique_claims h r = unique_same (claim_parts h) (claims h) (same_claims h) (uniq
     back (claim.TooLong x) r = refl
     back (claim.Bounds l u b es left) r = refl
 
--- the lines of a certificate begin those of no other
-pub unique_certs : Unique certs
-unfolding same_certs
-unique_certs = unique_same cert_parts certs same_certs (unique_then versions (λ u. then_ heads claims) unique_version (λ u t. unique_then heads claims unique_heads (λ h r. unique_claims h r))) (λ c r. refl)
+-- what stands behind the first line begins no other such
+pub unique_bodies : Unique bodies
+unfolding same_bodies
+unique_bodies = unique_same (then_ heads claims) bodies same_bodies (unique_then heads claims unique_heads (λ h r. unique_claims h r)) (λ c r. refl)

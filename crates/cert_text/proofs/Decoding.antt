@@ -1,48 +1,52 @@
--- A text is the text of its lines alone, and so no text with a fault is a certificate's.
-use Rattle.std.proofs.Common.{◌≡◌, ℕ, zero, suc, ◌<◌, Bool, true, false, not, ◌&&◌, nat_eq, List, [], ◌∷◌, ◌++◌, length, map, get_or, refl, sym, ◌∙◌, ap, subst, arith, Some, None, Option, Ok, Err, ◌+◌, ◌⊎◌, inl, inr, append_assoc}
+-- A text is the text of its lines alone, and so no text with a fault is that of a value.
+use Rattle.std.proofs.Common.{◌≡◌, ℕ, zero, suc, ◌≤◌, Bool, true, false, not, ◌&&◌, nat_eq, List, [], ◌∷◌, ◌++◌, length, map, refl, sym, ◌∙◌, ap, subst, arith, Some, None, Option, Ok, Err, ◌+◌, ◌⊎◌, inl, inr, append_assoc}
 use Rattle.std.specs.Prelude.{codes}
 use Rattle.std.specs.List.{flat_map}
 use Rattle.std.proofs.lemmas.Bool.Decides.{nat_tests}
 use Rattle.std.proofs.lemmas.Option.{same_Some}
-use Rattle.std.proofs.lemmas.List.{append-nil, map-append, append_cancel_left}
-use Rattle.line_rules.specs.Ranges.{IsInRange}
+use Rattle.std.proofs.lemmas.List.{append-nil, map-append}
+use Rattle.line_rules.specs.Ranges.{IsInRange, AreEntries, IsTrailOrNone}
 use Rattle.line_rules.specs.declared.types.LineKind.{LineKind}
 use Rattle.line_rules.specs.declared.types.LineKind.TheVariants.{Straight, U}
-use Rattle.line_rules.specs.declared.types.Side.{Side}
 use Rattle.line_rules.specs.declared.types.Side.TheVariants.{Front, Back as AtBack}
 use Rattle.line_rules.specs.declared.types.Mode.{Mode}
 use Rattle.line_rules.specs.declared.types.Mode.TheVariants.{Fore, Back, Both}
 use Rattle.line_rules.specs.declared.types.Load.{Load}
-use Rattle.line_rules.specs.declared.types.Seatplace.{Seatplace}
 use Rattle.line_rules.specs.declared.types.Entry.{Entry}
 use Rattle.line_rules.specs.declared.types.Why.{Why}
 use Rattle.line_rules.specs.declared.types.Why.TheVariants as whys
-use Rattle.line_rules.specs.declared.types.OpenFrame.{OpenFrame}
 use Rattle.line_rules.specs.declared.types.Trail.{Trail}
 use Rattle.line_rules.specs.declared.types.Ask.{Ask}
 use Rattle.line_rules.specs.declared.types.Ask.TheVariants as ask
 use Rattle.line_rules.specs.declared.types.Claim.{Claim}
 use Rattle.line_rules.specs.declared.types.Claim.TheVariants as claim
 use Rattle.line_rules.specs.declared.types.Certificate.{Certificate}
-use Rattle.cert_text.specs.Numbers.{number_text, set_text, cites_text, mode_letter, last_text}
-use Rattle.cert_text.specs.Rows.{Row, fixed, keyed, seat, bound, branch, swap, trail, frame, spaced, row_text, line_text, rows_text, lines_text}
-use Rattle.cert_text.specs.Cert.{kind_row, ask_row, seat_row, why_row, entry_row, frame_row, trail_rows, list_rows, claim_rows, cert_rows, cert_text}
-use Rattle.cert_text.specs.Faults.{IsLine, Next, IsLineFault, IsEndFault, IsFault}
-use Rattle.cert_text.specs.Parts.{certs}
-use Rattle.cert_text.specs.Answers.{IsTrailing, IsCertFault, IsCertRead, IsEnded}
-use Rattle.cert_text.specs.Judging.{IsRead}
+use Rattle.cert_lines.specs.Numbers.{number_text, set_text, cites_text, mode_letter, last_text}
+use Rattle.cert_lines.specs.Rows.{Row, fixed, keyed, seat, bound, branch, swap, trail, frame, spaced, row_text, rows_text, lines_text}
+use Rattle.cert_lines.specs.ValueRows.{kind_row, ask_row, seat_row, why_row, entry_row, frame_row}
+use Rattle.cert_text.specs.Cert.{trail_rows, list_rows, head_rows, claim_rows, cert_rows, cert_text}
+use Rattle.cert_text.specs.OldCert.{short_row, old_trail_rows, part_rows, parts_rows, counted_rows, old_claim_rows, old_rows}
+use Rattle.cert_text.specs.Versions.{AnyCertificate, newer, older, IsAnyInRange, any_rows, any_text, lifted, both as both_versions}
+use Rattle.cert_lines.specs.declared.version_one.Part.{Part}
+use Rattle.cert_lines.specs.declared.version_one.OldClaim.{OldClaim}
+use Rattle.cert_lines.specs.declared.version_one.OldClaim.TheVariants as old_claim
+use Rattle.cert_lines.specs.Faults.{IsLine, Grammar, Next, IsFault}
+use Rattle.cert_text.specs.Parts.{lists}
+use Rattle.cert_text.specs.Answers.{IsAnyRead, IsCertFault, IsSaidBy, IsCertRead, IsEnded}
+use Rattle.cert_lines.specs.Judging.{IsRead}
 use Rattle.cert_text.specs.Laws.{NoTextBeginsAnother}
-use Rattle.cert_text.specs.declared.fault.ReadError.{ReadError}
-use Rattle.cert_text.specs.declared.fault.ReadError.TheVariants as errors
+use Rattle.cert_lines.specs.declared.fault.ReadError.{ReadError}
+use Rattle.cert_lines.specs.declared.fault.ReadError.TheVariants as errors
 use Rattle.cert_text.specs.declared.reader.CertRead.{CertRead}
 use Rattle.cert_text.specs.declared.reader.CertRead.TheVariants.{Good, Fault, NoMemory}
-use Rattle.cert_text.specs.Reading.{parts_at}
-use Rattle.cert_text.specs.declared.fault.CertFault.{CertFault}
-use Rattle.cert_text.proofs.NumberWords.{both, left, right, lacks, high_lacks, number_high, split_again}
-use Rattle.cert_text.proofs.SetText.{set_high}
-use Rattle.cert_text.proofs.Composing.{rows_lines}
-use Rattle.cert_text.proofs.Sequencing.{texts}
-use Rattle.cert_text.proofs.Claims.{unique_certs}
+use Rattle.cert_lines.specs.Reading.{parts_at}
+use Rattle.cert_lines.specs.declared.fault.CertFault.{CertFault}
+use Rattle.cert_lines.proofs.NumberWords.{both, left, right, lacks, high_lacks, number_high, split_again}
+use Rattle.cert_lines.proofs.SetText.{set_high}
+use Rattle.cert_lines.proofs.Composing.{rows_lines}
+use Rattle.cert_text.proofs.Sequencing.{texts, Unique}
+use Rattle.cert_text.proofs.Wholes.{unique_lists}
+use Rattle.cert_text.proofs.OldClaims.{unique_both}
 
 lacks_append : (m : ℕ) (a b : List ℕ) → lacks m a ≡ true → lacks m b ≡ true → lacks m (a ++ b) ≡ true
 lacks_append m [] b e f = f
@@ -164,9 +168,8 @@ claim_lacks kind n (claim.Bounds l u b es t) = (
   ),
 )
 
-cert_lacks : (c : Certificate) → AllLack (texts (cert_rows c))
-unfolding cert_rows
-cert_lacks c = (row_lacks (fixed (codes "line balance certificate 2")) refl, (kind_lacks c.kind, (row_lacks (keyed (codes "tasks") c.tasks) refl, (ask_lacks c.ask, claim_lacks c.kind c.tasks c.claim))))
+head_lacks : (kind : LineKind) (n : ℕ) (a : Ask) → AllLack (texts (head_rows kind n a))
+head_lacks kind n a = (kind_lacks kind, (row_lacks (keyed (codes "tasks") n) refl, (ask_lacks a, tt)))
   where
     kind_lacks : (k : LineKind) → lacks 10 (row_text (kind_row k)) ≡ true
     kind_lacks Straight = row_lacks (fixed (codes "line straight")) refl
@@ -175,6 +178,44 @@ cert_lacks c = (row_lacks (fixed (codes "line balance certificate 2")) refl, (ki
     ask_lacks : (a : Ask) → lacks 10 (row_text (ask_row a)) ≡ true
     ask_lacks (ask.Stations x) = row_lacks (keyed (codes "cycle") x) refl
     ask_lacks (ask.Cycle x) = row_lacks (keyed (codes "stations") x) refl
+
+short_lacks : (n : ℕ) (e : Entry) (w : Why) → lacks 10 (row_text (why_row n None e w)) ≡ true
+short_lacks n e whys.Bound = row_lacks (bound n None e.set e.most) tt
+short_lacks n e (whys.Branch mode cites) = row_lacks (branch n None mode e.set e.most cites) tt
+short_lacks n e (whys.Swap cite out into) = row_lacks (swap n None e.set e.most cite (suc out) (suc into)) tt
+
+part_lacks : (n : ℕ) (p : Part) → AllLack (texts (part_rows n p))
+part_lacks n p = (
+  row_lacks (keyed (codes "part") p.cycle) refl,
+  (
+    row_lacks (keyed (codes "entries") (length p.entries)) refl,
+    lack_both (map (short_row n) p.entries) (old_trail_rows n p.frames) (lack_map (short_row n) p.entries (λ e. short_lacks n e e.why))
+        (row_lacks (keyed (codes "trail") (length p.frames)) refl, lack_map (frame_row n) p.frames (λ f. row_lacks (frame_row n f) tt)),
+  ),
+)
+
+parts_lack : (n : ℕ) (ps : List Part) → AllLack (texts (parts_rows n ps))
+parts_lack n [] = tt
+parts_lack n (p ∷ ps) = lack_both (part_rows n p) (parts_rows n ps) (part_lacks n p) (parts_lack n ps)
+
+old_claim_lacks : (kind : LineKind) (n : ℕ) (c : OldClaim) → AllLack (texts (old_claim_rows kind n c))
+old_claim_lacks kind n (old_claim.TooLong t) = (row_lacks (keyed (codes "infeasible") (suc t)) refl, (row_lacks (fixed (codes "end")) refl, tt))
+old_claim_lacks kind n (old_claim.Bounds l u b ps) = (
+  row_lacks (keyed (codes "lower") l) refl,
+  (
+    row_lacks (keyed (codes "upper") u) refl,
+    (
+      row_lacks (keyed (codes "balance") b.stations) refl,
+      lack_both (map (seat_row kind) b.place) (counted_rows n ps ++ fixed (codes "end") ∷ []) (lack_map (seat_row kind) b.place (λ p. row_lacks (seat_row kind p) tt))
+          (lack_both (counted_rows n ps) (fixed (codes "end") ∷ []) (row_lacks (keyed (codes "parts") (length ps)) refl, parts_lack n ps) (row_lacks (fixed (codes "end")) refl, tt)),
+    ),
+  ),
+)
+
+any_lacks : (x : AnyCertificate) → AllLack (texts (any_rows x))
+unfolding cert_rows old_rows
+any_lacks (newer c) = (row_lacks (fixed (codes "line balance certificate 2")) refl, lack_both (head_rows c.kind c.tasks c.ask) (claim_rows c.kind c.tasks c.claim) (head_lacks c.kind c.tasks c.ask) (claim_lacks c.kind c.tasks c.claim))
+any_lacks (older c) = (row_lacks (fixed (codes "line balance certificate 1")) refl, lack_both (head_rows c.kind c.tasks c.ask) (old_claim_rows c.kind c.tasks c.claim) (head_lacks c.kind c.tasks c.ask) (old_claim_lacks c.kind c.tasks c.claim))
 
 -- a line without an LF is told from what follows
 same_line : (a b x y : List ℕ) → lacks 10 a ≡ true → lacks 10 b ≡ true → a ++ 10 ∷ x ≡ b ++ 10 ∷ y → (a ≡ b) × (x ≡ y)
@@ -199,24 +240,28 @@ nothing_left (b ∷ a) x e = (cc)
 front_line : (l : List ℕ) (rest : List ℕ) → (l ++ 10 ∷ []) ++ rest ≡ l ++ 10 ∷ rest
 front_line l rest = append_assoc l (10 ∷ []) rest
 
--- lines whose text goes on with a line
-decode : (lines before : List (List ℕ)) (at after : List ℕ) → AllLack lines → AllLack before → lacks 10 at ≡ true → lines_text lines ≡ lines_text before ++ (at ++ 10 ∷ after) → (more : List (List ℕ)) × (lines ≡ before ++ at ∷ more)
-decode [] [] at after a b c e = absurd (nothing_left at after (sym e))
-decode [] (l ∷ before) at after a b c e = absurd (nothing_left l (lines_text before ++ (at ++ 10 ∷ after)) (sym (e ∙ append_assoc (l ++ 10 ∷ []) (lines_text before) (at ++ 10 ∷ after) ∙ front_line l (lines_text before ++ (at ++ 10 ∷ after)))))
-decode (l ∷ lines) [] at after a b c e =
-    let s = same_line l at (lines_text lines) after a.0 c (sym (front_line l (lines_text lines)) ∙ e) in
-    (lines, ap (λ z. z ∷ lines) s.0)
-decode (l ∷ lines) (k ∷ before) at after a b c e =
-    let s = same_line l k (lines_text lines) (lines_text before ++ (at ++ 10 ∷ after)) a.0 b.0
-    (sym (front_line l (lines_text lines)) ∙ e ∙ append_assoc (k ++ 10 ∷ []) (lines_text before) (at ++ 10 ∷ after) ∙ front_line k (lines_text before ++ (at ++ 10 ∷ after))) in
-    let d = decode lines before at after a.1 b.1 c s.1 in
-    (d.0, ap (λ z. z ∷ lines) s.0 ∙ ap (λ z. k ∷ z) d.1)
+long_front : (l x y : List ℕ) (lines : List (List ℕ)) → ((l ++ 10 ∷ []) ++ x) ++ y ≡ l ++ 10 ∷ (x ++ y)
+long_front l x y lines = append_assoc (l ++ 10 ∷ []) x y ∙ front_line l (x ++ y)
 
--- lines whose text goes on with no further line
-decode_end : (lines before : List (List ℕ)) (rest : List ℕ) → AllLack lines → AllLack before → lacks 10 rest ≡ true → lines_text lines ≡ lines_text before ++ rest → lines ≡ before
-decode_end [] [] rest a b c e = refl
-decode_end [] (l ∷ before) rest a b c e = absurd (nothing_left l (lines_text before ++ rest) (sym (e ∙ append_assoc (l ++ 10 ∷ []) (lines_text before) rest ∙ front_line l (lines_text before ++ rest))))
-decode_end (l ∷ lines) [] rest a b c e = (let w : true ≡ false = sym c ∙ ap (lacks 10) (sym e ∙ front_line l (lines_text lines)) ∙ has l (lines_text lines) in (cc))
+-- lines and more, whose text goes on with a line behind other lines: they have that line there, or they end before it
+decode : (lines before : List (List ℕ)) (rest at after : List ℕ) → AllLack lines → AllLack before → lacks 10 at ≡ true → lines_text lines ++ rest ≡ lines_text before ++ (at ++ 10 ∷ after)
+    → ((more : List (List ℕ)) × (lines ≡ before ++ at ∷ more)) ⊎ ((more : List (List ℕ)) × (before ≡ lines ++ more))
+decode [] before rest at after a b c e = inr (before, refl)
+decode (l ∷ lines) [] rest at after a b c e =
+    let s = same_line l at (lines_text lines ++ rest) after a.0 c (sym (long_front l (lines_text lines) rest lines) ∙ e) in
+    inl (lines, ap (λ z. z ∷ lines) s.0)
+decode (l ∷ lines) (k ∷ before) rest at after a b c e =
+    let s = same_line l k (lines_text lines ++ rest) (lines_text before ++ (at ++ 10 ∷ after)) a.0 b.0
+    (sym (long_front l (lines_text lines) rest lines) ∙ e ∙ append_assoc (k ++ 10 ∷ []) (lines_text before) (at ++ 10 ∷ after) ∙ front_line k (lines_text before ++ (at ++ 10 ∷ after))) in
+    elim (decode lines before rest at after a.1 b.1 c s.1) [
+      | inl d ↦ inl (d.0, ap (λ z. z ∷ lines) s.0 ∙ ap (λ z. k ∷ z) d.1)
+      | inr d ↦ inr (d.0, ap (λ z. k ∷ z) d.1 ∙ ap (λ z. z ∷ (lines ++ d.0)) (sym s.0))
+    ]
+
+-- lines and more, whose text goes on with no further line behind other lines: they end there or before
+decode_end : (lines before : List (List ℕ)) (rest left : List ℕ) → AllLack lines → AllLack before → lacks 10 left ≡ true → lines_text lines ++ rest ≡ lines_text before ++ left → (more : List (List ℕ)) × (before ≡ lines ++ more)
+decode_end [] before rest left a b c e = (before, refl)
+decode_end (l ∷ lines) [] rest left a b c e = (let w : true ≡ false = sym c ∙ ap (lacks 10) (sym e ∙ long_front l (lines_text lines) rest lines) ∙ has l (lines_text lines ++ rest) in (cc))
   where
     has : (l x : List ℕ) → lacks 10 (l ++ 10 ∷ x) ≡ false
     has [] x = refl
@@ -225,9 +270,10 @@ decode_end (l ∷ lines) [] rest a b c e = (let w : true ≡ false = sym c ∙ a
         off : (t : Bool) → (t && false) ≡ false
         off true = refl
         off false = refl
-decode_end (l ∷ lines) (k ∷ before) rest a b c e =
-    let s = same_line l k (lines_text lines) (lines_text before ++ rest) a.0 b.0 (sym (front_line l (lines_text lines)) ∙ e ∙ append_assoc (k ++ 10 ∷ []) (lines_text before) rest ∙ front_line k (lines_text before ++ rest)) in
-    ap (λ z. z ∷ lines) s.0 ∙ ap (λ z. k ∷ z) (decode_end lines before rest a.1 b.1 c s.1)
+decode_end (l ∷ lines) (k ∷ before) rest left a b c e =
+    let s = same_line l k (lines_text lines ++ rest) (lines_text before ++ left) a.0 b.0 (sym (long_front l (lines_text lines) rest lines) ∙ e ∙ append_assoc (k ++ 10 ∷ []) (lines_text before) left ∙ front_line k (lines_text before ++ left)) in
+    let d = decode_end lines before rest left a.1 b.1 c s.1 in
+    (d.0, ap (λ z. k ∷ z) d.1 ∙ ap (λ z. z ∷ (lines ++ d.0)) (sym s.0))
 
 -- lines whose text begins with that of lines
 decode_front : (lines before : List (List ℕ)) (rest : List ℕ) → AllLack lines → AllLack before → lines_text lines ≡ lines_text before ++ rest → (more : List (List ℕ)) × (lines ≡ before ++ more) × (lines_text more ≡ rest)
@@ -238,10 +284,10 @@ decode_front (l ∷ lines) (k ∷ before) rest a b e =
     let i = decode_front lines before rest a.1 b.1 s.1 in
     (i.0, ap (λ z. z ∷ lines) s.0 ∙ ap (λ z. k ∷ z) i.1, i.2)
 
-before_lacks : (before : List (List ℕ)) (r : Row) → Next certs before r → AllLack before
-before_lacks before r n =
+before_lacks : {V : Type 0} (g : Grammar V) (before : List (List ℕ)) (r : Row) → ((v : V) → AllLack (texts (g.rows v))) → Next g before r → AllLack before
+before_lacks g before r h n =
     let P : List (List ℕ) → Type 0 = AllLack in
-    subst P n.same (lack_front (texts n.passed) (texts (r ∷ n.more)) (subst P (ap texts n.rows ∙ map-append row_text n.passed (r ∷ n.more)) (cert_lacks n.value)))
+    subst P n.same (lack_front (texts n.passed) (texts (r ∷ n.more)) (subst P (ap texts n.rows ∙ map-append row_text n.passed (r ∷ n.more)) (h n.value)))
 
 -- rows whose texts are split
 split_rows : (rows : List Row) (before : List (List ℕ)) (at : List ℕ) (more : List (List ℕ)) → texts rows ≡ before ++ at ∷ more → (passed : List Row) × (r : Row) × (rest : List Row) × (rows ≡ passed ++ r ∷ rest) × (texts passed ≡ before) × (row_text r ≡ at)
@@ -253,62 +299,78 @@ split_rows (r ∷ rows) (l ∷ before) at more e =
     let h : row_text r ≡ l = cc in
     (r ∷ i.0, i.1, i.2, ap (λ z. r ∷ z) i.3, ap (λ z. row_text r ∷ z) i.4 ∙ ap (λ z. z ∷ before) h, i.5)
 
-text_lines : (c : Certificate) → lines_text (texts (cert_rows c)) ≡ cert_text c
-text_lines c = rows_lines (cert_rows c)
-
 none : (x : List (List ℕ)) (l : List ℕ) (y : List (List ℕ)) → x ++ l ∷ y ≡ [] → ⊥
 none [] l y e = (cc)
 none (z ∷ x) l y e = (cc)
 
--- no text with a fault is a certificate's
-pub fault_has_none : (bytes : List ℕ) (f : CertFault) (c : Certificate) → IsCertFault bytes f → IsInRange c → bytes ≡ cert_text c → ⊥
-fault_has_none bytes f c (inl (inl x)) h e =
-    let d = decode (texts (cert_rows c)) x.before x.at x.after (cert_lacks c) (before_lacks x.before x.some.0 x.some.1) (no_lf x.at x.is_line) (text_lines c ∙ sym e ∙ x.all) in
-    let s = split_rows (cert_rows c) x.before x.at d.0 d.1 in
-    x.stops s.1 (record { value = c; ranged = h; passed = s.0; more = s.2; rows = s.3; same = s.4 }) s.5
-fault_has_none bytes f c (inl (inr x)) h e =
-    let d = decode_end (texts (cert_rows c)) x.before x.rest (cert_lacks c) (before_lacks x.before x.some.0 x.some.1) (no_lf x.rest x.is_line) (text_lines c ∙ sym e ∙ x.all) in
-    let n = x.some.1 in
-    let w : texts (cert_rows n.value) ≡ texts (cert_rows c) ++ row_text x.some.0 ∷ texts n.more =
-    ap texts n.rows ∙ map-append row_text n.passed (x.some.0 ∷ n.more) ∙ ap (λ z. z ++ row_text x.some.0 ∷ texts n.more) (n.same ∙ sym d) in
-    none [] (row_text x.some.0) (texts n.more) (unique_certs c n.value h n.ranged (row_text x.some.0 ∷ texts n.more) [] (sym w ∙ sym (append-nil (texts (cert_rows n.value))))).1
-fault_has_none bytes f c (inr x) h e =
-    let t : lines_text (texts (cert_rows c)) ≡ lines_text (texts (cert_rows x.cert)) ++ x.rest = text_lines c ∙ sym e ∙ x.all ∙ ap (λ z. z ++ x.rest) (sym (text_lines x.cert)) in
-    let d = decode_front (texts (cert_rows c)) (texts (cert_rows x.cert)) x.rest (cert_lacks c) (cert_lacks x.cert) t in
-    let u = unique_certs x.cert c x.in_range h d.0 [] (sym d.1 ∙ sym (append-nil (texts (cert_rows c)))) in
-    let z : x.rest ≡ [] = sym d.2 ∙ ap lines_text u.1 in
-    absurd (omega (arith, x.some, ap length z))
+-- lines of a value don't go on
+no_more : {V : Type 0} (g : Grammar V) (v : V) (before more : List (List ℕ)) (r : Row) → Unique g → g.ranged v → before ≡ texts (g.rows v) ++ more → Next g before r → ⊥
+no_more g v before more r u h e n =
+    let w : texts (g.rows n.value) ≡ texts (g.rows v) ++ (more ++ row_text r ∷ texts n.more) =
+    ap texts n.rows ∙ map-append row_text n.passed (r ∷ n.more) ∙ ap (λ z. z ++ row_text r ∷ texts n.more) (n.same ∙ e) ∙ append_assoc (texts (g.rows v)) more (row_text r ∷ texts n.more) in
+    none more (row_text r) (texts n.more) (u v n.value h n.ranged (more ++ row_text r ∷ texts n.more) [] (sym w ∙ sym (append-nil (texts (g.rows n.value))))).1
 
--- what stands behind a certificate that was read decides the answer
-pub ended_read : (bytes left : List ℕ) (number : ℕ) (cert : Certificate) (r : CertRead) → IsRead certs 0 bytes left number (Ok cert) → IsEnded cert left number r → IsCertRead bytes r
-ended_read bytes left number cert (Good x) h e =
-    let P : Certificate → Type 0 = λ z. IsInRange z × (bytes ≡ cert_text z) in
-    subst P (sym e.0) (h.0, h.1 ∙ ap (λ z. cert_text cert ++ z) e.1 ∙ append-nil (cert_text cert))
-ended_read bytes left number cert (Fault f) h e =
-    inr (record { cert = cert; in_range = h.0; rest = left; some = e.0; all = h.1; line = ap (λ z. z.line) e.1 ∙ ap suc h.2 ∙ omega arith; kind = ap (λ z. z.kind) e.1 })
-ended_read bytes left number cert NoMemory h e = tt
+-- no text with a fault begins with that of a value
+pub fault_has_none : {V : Type 0} (g : Grammar V) (passed : ℕ) (text rest : List ℕ) (f : CertFault) (v : V) → Unique g → ((v : V) → AllLack (texts (g.rows v))) → IsFault g passed text f → g.ranged v → text ≡ rows_text (g.rows v) ++ rest → ⊥
+fault_has_none g passed text rest f v u l (inl x) h e =
+    elim (decode (texts (g.rows v)) x.before rest x.at x.after (l v) (before_lacks g x.before x.some.0 l x.some.1) (no_lf x.at x.is_line) (ap (λ z. z ++ rest) (rows_lines (g.rows v)) ∙ sym e ∙ x.all)) [
+      | inl d ↦ (let s = split_rows (g.rows v) x.before x.at d.0 d.1 in
+          x.stops s.1 (record { value = v; ranged = h; passed = s.0; more = s.2; rows = s.3; same = s.4 }) s.5)
+      | inr d ↦ no_more g v x.before d.0 x.some.0 u h d.1 x.some.1
+    ]
+fault_has_none g passed text rest f v u l (inr x) h e =
+    let d = decode_end (texts (g.rows v)) x.before rest x.rest (l v) (before_lacks g x.before x.some.0 l x.some.1) (no_lf x.rest x.is_line) (ap (λ z. z ++ rest) (rows_lines (g.rows v)) ∙ sym e ∙ x.all) in
+    no_more g v x.before d.0 x.some.0 u h d.1 x.some.1
 
--- an answer that is a fault, of a text that is no certificate's
-pub no_text : (bytes : List ℕ) (r : CertRead) (f : CertFault) (c : Certificate) → IsCertRead bytes r → r ≡ Fault f → IsInRange c → bytes ≡ cert_text c → ⊥
-no_text bytes r f c h e k t = let P : CertRead → Type 0 = IsCertRead bytes in fault_has_none bytes f c (subst P e h) k t
-
--- what was read from the front of a text is what was read of it
-pub read_whole : (bytes text left : List ℕ) (n number : ℕ) (cert : Certificate) → IsRead certs n text left number (Ok cert) → n ≡ 0 → text ≡ bytes → IsRead certs 0 bytes left number (Ok cert)
-read_whole bytes text left n number cert h e f = (h.0, sym f ∙ h.1, h.2 ∙ ap (λ z. z + length (cert_rows cert)) e)
-
-pub fault_whole : (bytes text rest : List ℕ) (n after : ℕ) (e : ReadError) (f g : CertFault) → IsRead certs n text rest after (Err e) → e ≡ errors.Fault f → n ≡ 0 → text ≡ bytes → g ≡ f → IsCertFault bytes g
-fault_whole bytes text rest n after e f g h i a b c =
-    let P : ReadError → Type 0 = λ z. IsRead certs n text rest after (Err z) in
-    let x : IsFault certs n text f = subst P i h in
-    let Q : ℕ → Type 0 = λ z. IsFault certs z text f in
-    let R : List ℕ → Type 0 = λ z. IsFault certs 0 z f in
-    let S : CertFault → Type 0 = λ z. IsFault certs 0 bytes z in
-    inl (subst S (sym c) (subst R b (subst Q a x)))
+-- no text of a value begins that of another
+pub begins_one : {V : Type 0} (g : Grammar V) (v w : V) (rest : List ℕ) → Unique g → ((v : V) → AllLack (texts (g.rows v))) → g.ranged v → g.ranged w → rows_text (g.rows v) ++ rest ≡ rows_text (g.rows w) → (v ≡ w) × (rest ≡ [])
+begins_one g v w rest u l h k e =
+    let t : lines_text (texts (g.rows w)) ≡ lines_text (texts (g.rows v)) ++ rest = rows_lines (g.rows w) ∙ sym e ∙ ap (λ z. z ++ rest) (sym (rows_lines (g.rows v))) in
+    let x = decode_front (texts (g.rows w)) (texts (g.rows v)) rest (l w) (l v) t in
+    let y = u v w h k x.0 [] (sym x.1 ∙ sym (append-nil (texts (g.rows w)))) in
+    (y.0, sym x.2 ∙ ap lines_text y.1)
 
 -- no text of a certificate begins that of another
 pub begins_none : NoTextBeginsAnother
-begins_none c d rest h k e =
-    let t : lines_text (texts (cert_rows d)) ≡ lines_text (texts (cert_rows c)) ++ rest = text_lines d ∙ sym e ∙ ap (λ z. z ++ rest) (sym (text_lines c)) in
-    let x = decode_front (texts (cert_rows d)) (texts (cert_rows c)) rest (cert_lacks d) (cert_lacks c) t in
-    let u = unique_certs c d h k x.0 [] (sym x.1 ∙ sym (append-nil (texts (cert_rows d)))) in
-    (u.0, sym x.2 ∙ ap lines_text u.1)
+begins_none c d rest h k e = begins_one both_versions c d rest unique_both any_lacks h k e
+
+-- no text with a fault is a certificate's
+any_has_none : (bytes : List ℕ) (f : CertFault) (c : AnyCertificate) → IsCertFault bytes f → IsAnyInRange c → bytes ≡ any_text c → ⊥
+any_has_none bytes f c (inl x) h e = fault_has_none both_versions 0 bytes [] f c unique_both any_lacks x h (e ∙ sym (append-nil (any_text c)))
+any_has_none bytes f c (inr x) h e =
+    let z : x.rest ≡ [] = (begins_one both_versions x.whole c x.rest unique_both any_lacks x.in_range h (sym x.all ∙ e)).1 in
+    absurd (omega (arith, x.some, ap length z))
+
+-- the certificate that the lines say, of either version
+said_by : (bytes : List ℕ) (x : AnyCertificate) (cert : Certificate) → IsAnyInRange x → bytes ≡ any_text x → cert ≡ lifted x → IsSaidBy bytes cert
+said_by bytes (newer c) cert h e q = let P : Certificate → Type 0 = λ z. IsInRange z × (bytes ≡ cert_text z) in inl (subst P (sym q) (h, e))
+said_by bytes (older o) cert h e q = inr (o, h, e, q)
+
+-- what stands behind a certificate that was read decides the answer
+pub ended_read : (bytes left : List ℕ) (number : ℕ) (cert : Certificate) (r : CertRead) → IsAnyRead 0 bytes left number (Ok cert) → IsEnded cert left number r → IsCertRead bytes r
+ended_read bytes left number cert (Good c) h e = said_by bytes h.0 c h.2.0 (h.2.1 ∙ ap (λ z. any_text h.0 ++ z) e.1 ∙ append-nil (any_text h.0)) (e.0 ∙ h.1)
+ended_read bytes left number cert (Fault f) h e =
+    inr (record { whole = h.0; in_range = h.2.0; rest = left; some = e.0; all = h.2.1; line = ap (λ z. z.line) e.1 ∙ ap suc h.2.2 ∙ omega arith; kind = ap (λ z. z.kind) e.1 })
+ended_read bytes left number cert NoMemory h e = tt
+
+-- an answer that is a fault, of a text that is no certificate's
+pub no_text : (bytes : List ℕ) (r : CertRead) (f : CertFault) (c : AnyCertificate) → IsCertRead bytes r → r ≡ Fault f → IsAnyInRange c → bytes ≡ any_text c → ⊥
+no_text bytes r f c h e k t = let P : CertRead → Type 0 = IsCertRead bytes in any_has_none bytes f c (subst P e h) k t
+
+-- what was read from the front of a text is what was read of it
+pub read_whole : (bytes text left : List ℕ) (n number : ℕ) (cert : Certificate) → IsAnyRead n text left number (Ok cert) → n ≡ 0 → text ≡ bytes → IsAnyRead 0 bytes left number (Ok cert)
+read_whole bytes text left n number cert h e f = (h.0, h.1, (h.2.0, sym f ∙ h.2.1, h.2.2 ∙ ap (λ z. z + length (any_rows h.0)) e))
+
+pub fault_whole : (bytes text rest : List ℕ) (n after : ℕ) (e : ReadError) (f g : CertFault) → IsAnyRead n text rest after (Err e) → e ≡ errors.Fault f → n ≡ 0 → text ≡ bytes → g ≡ f → IsCertFault bytes g
+fault_whole bytes text rest n after e f g h i a b c =
+    let P : ReadError → Type 0 = λ z. IsRead both_versions n text rest after (Err z) in
+    let x : IsFault both_versions n text f = subst P i h in
+    let Q : ℕ → Type 0 = λ z. IsFault both_versions z text f in
+    let R : List ℕ → Type 0 = λ z. IsFault both_versions 0 z f in
+    let S : CertFault → Type 0 = λ z. IsFault both_versions 0 bytes z in
+    inl (subst S (sym c) (subst R b (subst Q a x)))
+
+-- no text with a fault begins with that of entries and a trail
+pub list_has_none : (n passed : ℕ) (text rest : List ℕ) (f : CertFault) (es : List Entry) (t : Option Trail) → n ≤ 1024 → IsFault (lists n) passed text f → AreEntries n es → IsTrailOrNone n (length es) t
+    → text ≡ rows_text (list_rows n es t) ++ rest → ⊥
+list_has_none n passed text rest f es t a x h k e = fault_has_none (lists n) passed text rest f (record { entries = es; trail = t }) (unique_lists n a) (λ v. list_lacks n v.entries v.trail) x (h, k) e

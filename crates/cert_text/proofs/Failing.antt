@@ -1,11 +1,11 @@
 -- Errors of parts, handed on to the whole.
 use Rattle.std.proofs.Common.{◌≡◌, ℕ, List, [], Ok, Err, Result}
 use Rattle.std.specs.Result.{IsErrAnd}
-use Rattle.cert_text.specs.Faults.{Grammar}
-use Rattle.cert_text.specs.Judging.{IsRead, then_}
-use Rattle.cert_text.specs.declared.fault.ReadError.{ReadError}
-use Rattle.cert_text.specs.declared.fault.ReadError.TheVariants as errors
-use Rattle.cert_text.proofs.Composing.{read_error}
+use Rattle.cert_lines.specs.Faults.{Grammar}
+use Rattle.cert_lines.specs.Judging.{IsRead, then_}
+use Rattle.cert_lines.specs.declared.fault.ReadError.{ReadError}
+use Rattle.cert_lines.specs.declared.fault.ReadError.TheVariants as errors
+use Rattle.cert_lines.proofs.Composing.{read_error}
 use Rattle.cert_text.proofs.Sequencing.{Unique, first_error, second_error, same_error, Same}
 
 -- a part fails with an error

@@ -1,20 +1,22 @@
 -- Where a text goes on behind entries and a trail.
-use Rattle.std.proofs.Common.{◌≡◌, ℕ, suc, ◌+◌, ◌-◌, ◌<◌, ◌≤◌, List, [], ◌∷◌, ◌++◌, length, take, drop, refl, sym, ◌∙◌, ap, subst, arith, Ok, Err, append_assoc, length-append, length-drop, Option}
+use Rattle.std.proofs.Common.{◌≡◌, ℕ, ◌-◌, ◌≤◌, List, ◌++◌, length, take, drop, sym, ◌∙◌, ap, subst, arith, Ok, Err, append_assoc, length-append, length-drop, Option}
 use Rattle.std.proofs.lemmas.List.{take-append-drop, drop_at, length-take-le}
+use Rattle.line_rules.specs.Ranges.{AreEntries, IsTrailOrNone}
 use Rattle.line_rules.specs.declared.types.Entry.{Entry}
 use Rattle.line_rules.specs.declared.types.Trail.{Trail}
-use Rattle.cert_text.specs.Rows.{rows_text}
+use Rattle.cert_lines.specs.Rows.{rows_text}
 use Rattle.cert_text.specs.Cert.{list_rows}
 use Rattle.cert_text.specs.Parts.{lists}
-use Rattle.cert_text.specs.Judging.{IsRead}
-use Rattle.cert_text.specs.Faults.{IsFault}
+use Rattle.cert_lines.specs.Judging.{IsRead}
+use Rattle.cert_lines.specs.Faults.{IsFault}
 use Rattle.cert_text.specs.Answers.{IsListGood, IsListRead, IsListed}
 use Rattle.cert_text.specs.declared.reading.EntryList.{EntryList}
 use Rattle.cert_text.specs.declared.reader.ListRead.{ListRead}
 use Rattle.cert_text.specs.declared.reader.ListRead.TheVariants as answers
-use Rattle.cert_text.specs.declared.fault.CertFault.{CertFault}
-use Rattle.cert_text.specs.declared.fault.ReadError.{ReadError}
-use Rattle.cert_text.specs.declared.fault.ReadError.TheVariants as errors
+use Rattle.cert_lines.specs.declared.fault.CertFault.{CertFault}
+use Rattle.cert_text.proofs.Decoding.{list_has_none}
+use Rattle.cert_lines.specs.declared.fault.ReadError.{ReadError}
+use Rattle.cert_lines.specs.declared.fault.ReadError.TheVariants as errors
 
 goes_on : (bytes rows left : List ℕ) (from next : ℕ) → from ≤ length bytes → drop from bytes ≡ rows ++ left → next ≡ length bytes - length left → (next ≤ length bytes) × (drop from bytes ≡ rows ++ drop next bytes)
 goes_on bytes rows left from next h e n =
@@ -43,3 +45,8 @@ list_fault bytes text rest from line n passed after e f g h i a b c =
     let R : List ℕ → Type 0 = λ z. IsFault (lists n) (line - 1) z f in
     let S : CertFault → Type 0 = λ z. IsFault (lists n) (line - 1) (drop from bytes) z in
     subst S (sym c) (subst R b (subst Q a x))
+
+-- an answer that is a fault, of a text that doesn't begin with that of entries and a trail
+pub no_list : (bytes : List ℕ) (from line n : ℕ) (r : ListRead) (f : CertFault) (es : List Entry) (t : Option Trail) (rest : List ℕ) → n ≤ 1024 → IsListRead bytes from line n r → r ≡ answers.Fault f → AreEntries n es → IsTrailOrNone n (length es) t
+    → drop from bytes ≡ rows_text (list_rows n es t) ++ rest → ⊥
+no_list bytes from line n r f es t rest a h e k l x = let P : ListRead → Type 0 = IsListRead bytes from line n in list_has_none n (line - 1) (drop from bytes) rest f es t a (subst P e h) k l x

@@ -3,7 +3,7 @@ use Rattle.std.proofs.Common.{◌≡◌, ℕ, Bool, true, false, List, [], ◌++
 use Rattle.std.proofs.lemmas.List.{append-nil, take-append-le, take_all, take_more, flat_map_more}
 use Rattle.std.specs.List.{flat_map}
 use Rattle.std.proofs.lemmas.Bool.{false≢true}
-use Rattle.cert_text.specs.Numbers.{number_text}
+use Rattle.cert_lines.specs.Numbers.{number_text}
 use Rattle.cert_text.specs.Sent.{Sent, IsFront, Adds, Puts}
 
 -- a front of a text is a front of a longer one

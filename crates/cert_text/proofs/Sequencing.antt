@@ -2,12 +2,12 @@
 use Rattle.std.proofs.Common.{◌≡◌, ℕ, zero, suc, ◌+◌, ◌<◌, ◌≤◌, List, [], ◌∷◌, ◌++◌, length, map, refl, sym, ◌∙◌, ap, subst, arith, Some, Ok, Err, ◌⊎◌, inl, inr, append_assoc, length-append}
 use Rattle.std.specs.Prelude.{slice_get}
 use Rattle.std.proofs.lemmas.List.{append-nil, map-append, length-map, append_cancel_left}
-use Rattle.cert_text.specs.Rows.{Row, row_text, rows_text}
-use Rattle.cert_text.specs.Faults.{Grammar, Next}
-use Rattle.cert_text.specs.Judging.{one, each, IsRead, then_}
-use Rattle.cert_text.specs.declared.fault.ReadError.{ReadError}
-use Rattle.cert_text.specs.declared.fault.ReadError.TheVariants as errors
-use Rattle.cert_text.proofs.Composing.{Continues, fault_behind, rows_lines, rows_append}
+use Rattle.cert_lines.specs.Rows.{Row, row_text, rows_text}
+use Rattle.cert_lines.specs.Faults.{Grammar, Next}
+use Rattle.cert_lines.specs.Judging.{one, each, IsRead, then_}
+use Rattle.cert_lines.specs.declared.fault.ReadError.{ReadError}
+use Rattle.cert_lines.specs.declared.fault.ReadError.TheVariants as errors
+use Rattle.cert_lines.proofs.Composing.{Continues, fault_behind, rows_lines, rows_append}
 
 -- the lines of rows
 abbrev pub texts : List Row → List (List ℕ)

@@ -5,10 +5,10 @@ use Rattle.std.proofs.lemmas.List.{take_more, take_all, append-nil, map-append}
 use Rattle.line_rules.specs.declared.types.Entry.{Entry}
 use Rattle.line_rules.specs.declared.types.Mode.{Mode}
 use Rattle.line_rules.specs.declared.types.OpenFrame.{OpenFrame}
-use Rattle.cert_text.specs.Numbers.{number_text, set_text, cites_text, mode_letter, last_text}
+use Rattle.cert_lines.specs.Numbers.{number_text, set_text, cites_text, mode_letter, last_text}
 use Rattle.cert_text.specs.Pieces.{question_text, swap_text}
-use Rattle.cert_text.specs.Rows.{Row, row_text, line_text, rows_text, bound, branch, swap, trail}
-use Rattle.cert_text.specs.Cert.{frame_row}
+use Rattle.cert_lines.specs.Rows.{Row, row_text, line_text, rows_text, bound, branch, swap, trail}
+use Rattle.cert_lines.specs.ValueRows.{frame_row}
 
 pub bound_spelled : (n : ℕ) (e : Entry) → line_text (bound n (Some e.cycle) e.set e.most) ≡ codes "bound" ++ (question_text n e ++ 10 ∷ [])
 unfolding row_text

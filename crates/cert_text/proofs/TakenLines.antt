@@ -1,10 +1,10 @@
 -- A line that is split off a text.
 use Rattle.std.proofs.Common.{◌≡◌, ℕ, zero, suc, ◌<◌, true, false, nat_eq, List, [], ◌∷◌, length, get_or, sym, ◌∙◌, ap, subst, arith, Some, None, inl, inr}
 use Rattle.std.proofs.lemmas.Bool.Decides.{nat_tests}
-use Rattle.cert_text.specs.Reading.{parts_at, onto_part}
-use Rattle.cert_text.specs.Taking.{IsTaken}
-use Rattle.cert_text.specs.Faults.{IsLine}
-use Rattle.cert_text.proofs.Lists.{chosen, onto_some, onto_none, split_parts}
+use Rattle.cert_lines.specs.Reading.{parts_at, onto_part}
+use Rattle.cert_lines.specs.Taking.{IsTaken}
+use Rattle.cert_lines.specs.Faults.{IsLine}
+use Rattle.cert_lines.proofs.Lists.{chosen, onto_some, onto_none, split_parts}
 
 not_mark : (b mark : ℕ) → nat_eq b mark ≡ false → b ≡ mark → ⊥
 not_mark b mark e f = absurd (let w : nat_eq b mark ≡ true = grind (arith, nat_tests) in (let z : true ≡ false = sym w ∙ e in (cc)))

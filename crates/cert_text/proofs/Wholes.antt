@@ -21,22 +21,23 @@ use Rattle.line_rules.specs.declared.types.OpenFrame.{OpenFrame}
 use Rattle.line_rules.specs.declared.types.Trail.{Trail}
 use Rattle.line_rules.specs.declared.types.Ask.{Ask}
 use Rattle.line_rules.specs.declared.types.Ask.TheVariants as ask
-use Rattle.cert_text.specs.Rows.{fixed, keyed, trail, entry, form_of, row_text}
-use Rattle.cert_text.specs.Cert.{kind_row, ask_row, seat_row, why_row, entry_row, frame_row, trail_rows}
-use Rattle.cert_text.specs.Reading.{greatest}
-use Rattle.cert_text.specs.LineReading.{keyed_in, seat_in, trail_in, entry_in, frame_in}
-use Rattle.cert_text.specs.Faults.{Grammar}
-use Rattle.cert_text.specs.Judging.{one, AreSaid, each, then_, IsRead}
-use Rattle.cert_text.specs.Patterns.{IsHead, IsSaid, given_row, entry_of, frame_of}
+use Rattle.cert_lines.specs.Rows.{keyed, trail, entry, form_of, row_text}
+use Rattle.cert_lines.specs.ValueRows.{kind_row, ask_row, seat_row, why_row, entry_row, frame_row}
+use Rattle.cert_text.specs.Cert.{trail_rows}
+use Rattle.cert_lines.specs.Reading.{greatest}
+use Rattle.cert_lines.specs.LineReading.{keyed_in, seat_in, trail_in, entry_in, frame_in}
+use Rattle.cert_lines.specs.Faults.{Grammar}
+use Rattle.cert_lines.specs.Judging.{one, AreSaid, each, then_, IsRead}
+use Rattle.cert_lines.specs.Patterns.{IsHead, IsSaid, given_row, entry_of, frame_of}
 use Rattle.cert_text.specs.Parts.{IsPlacedOf, heads, trails, lists, placings}
-use Rattle.cert_text.proofs.NumberWords.{lacks}
-use Rattle.cert_text.proofs.SetText.{clip, clip_same}
-use Rattle.cert_text.proofs.CiteWords.{sat}
-use Rattle.cert_text.proofs.Judged.{small_is, keyed_value, keyed_other}
-use Rattle.cert_text.proofs.JudgedEntry.{small_cites, some_frame}
-use Rattle.cert_text.proofs.OtherLines.{keyed_again, trail_again, sat_trail, seat_again, side_read}
-use Rattle.cert_text.proofs.EntryLines.{draft_of, entry_again}
-use Rattle.cert_text.proofs.FrameLines.{load_read, last_read, the_frame, frame_again}
+use Rattle.cert_lines.proofs.NumberWords.{lacks}
+use Rattle.cert_lines.proofs.SetText.{clip, clip_same}
+use Rattle.cert_lines.proofs.CiteWords.{sat}
+use Rattle.cert_lines.proofs.Judged.{fixed_text, small_is, keyed_value, keyed_other}
+use Rattle.cert_lines.proofs.JudgedEntry.{small_cites, some_frame}
+use Rattle.cert_lines.proofs.OtherLines.{keyed_again, trail_again, sat_trail, seat_again, side_read}
+use Rattle.cert_lines.proofs.EntryLines.{draft_of, entry_again}
+use Rattle.cert_lines.proofs.FrameLines.{load_read, last_read, the_frame, frame_again}
 use Rattle.cert_text.proofs.Sequencing.{Unique, unique_one, unique_each, unique_then, texts, Same, same_read}
 
 -- a number within a range
@@ -53,10 +54,6 @@ twice reads a b x y p q e = same_Some x y (sym p ∙ ap reads e ∙ q)
 pub unique_number : (key : List ℕ) (low high : ℕ) → lacks 32 key ≡ true → high < greatest → Unique (numbers key low high)
 unique_number key low high l h = unique_one (keyed key) (within low high)
     (λ v w a b e. sym (small_is v (omega (arith, a.1))) ∙ twice (keyed_in key) (row_text (keyed key v)) (row_text (keyed key w)) (sat v) (sat w) (keyed_again key v l) (keyed_again key w l) e ∙ small_is w (omega (arith, b.1)))
-
-fixed_text : (t : List ℕ) → row_text (fixed t) ≡ t
-unfolding row_text
-fixed_text t = refl
 
 abbrev pub kinds : Grammar LineKind
 kinds = one kind_row (λ k. Unit {0})
@@ -261,6 +258,40 @@ why_form n c e whys.Bound = refl
 why_form n c e (whys.Branch mode cites) = refl
 why_form n c e (whys.Swap cite out into) = refl
 
+-- an entry whose cycle is given is read as it was
+given_back : (n count c : ℕ) (e : Entry) (w : Why) → n ≤ 1024 → count ≤ 20000000 → IsSaid n count (Some c) e → IsWhy n count w
+    → entry_of (draft_of (Some c) (why_row n None e w)) ≡ record { set = e.set; most = e.most; cycle = e.cycle; why = w }
+given_back n count c e w a b h k =
+    parts w k
+  where
+    the : List Bool → ℕ → ℕ → Why → Entry
+    the s m c w = record { set = s; most = m; cycle = c; why = w }
+
+    up_to : (v w : Why) → v ≡ w → the (clip n e.set) (sat e.most) c v ≡ the e.set e.most e.cycle w
+    up_to v w q =
+        ap (λ z. the z (sat e.most) c v) (clip_same n e.set a h.0.set) ∙ ap (λ z. the e.set z c v) (small_is e.most (omega (arith, h.0.most)))
+        ∙ ap (λ z. the e.set e.most z v) (sym h.1) ∙ ap (λ z. the e.set e.most e.cycle z) q
+
+    parts : (w : Why) → IsWhy n count w → entry_of (draft_of (Some c) (why_row n None e w)) ≡ the e.set e.most e.cycle w
+    parts whys.Bound k = up_to whys.Bound whys.Bound refl
+    parts (whys.Branch mode cites) k = up_to (whys.Branch mode (map sat cites)) (whys.Branch mode cites) (ap (whys.Branch mode) (small_cites count cites (omega arith) k))
+    parts (whys.Swap cite out into) k =
+        up_to (whys.Swap (sat cite) (sat (suc out) - 1) (sat (suc into) - 1)) (whys.Swap cite out into)
+        (ap (λ z. whys.Swap z (sat (suc out) - 1) (sat (suc into) - 1)) (small_is cite (omega (arith, k.0))) ∙ ap (λ z. whys.Swap cite z (sat (suc into) - 1)) (omega (arith, k.1.0)) ∙ ap (λ z. whys.Swap cite out z) (omega (arith, k.1.1)))
+
+short_form : (n : ℕ) (e : Entry) (w : Why) → form_of (why_row n None e w) ≡ entry n false
+short_form n e whys.Bound = refl
+short_form n e (whys.Branch mode cites) = refl
+short_form n e (whys.Swap cite out into) = refl
+
+pub unique_given : (n count c : ℕ) → n ≤ 1024 → count ≤ 20000000 → Unique (each (given_row n (Some c)) (IsSaid n count (Some c)) count)
+unique_given n count c a b = unique_each (given_row n (Some c)) (IsSaid n count (Some c)) count
+    (λ v w p q e.
+    sym (given_back n count c v v.why a b p p.0.why)
+    ∙ ap entry_of (twice (entry_in n (Some c)) (row_text (given_row n (Some c) v)) (row_text (given_row n (Some c) w)) (draft_of (Some c) (given_row n (Some c) v)) (draft_of (Some c) (given_row n (Some c) w))
+    (entry_again n (Some c) (given_row n (Some c) v) (short_form n v v.why)) (entry_again n (Some c) (given_row n (Some c) w) (short_form n w w.why)) e)
+    ∙ given_back n count c w w.why a b q q.0.why)
+
 pub unique_entries : (n count : ℕ) → n ≤ 1024 → count ≤ 20000000 → Unique (entries_of n count)
 unique_entries n count a b = unique_each (given_row n None) (IsSaid n count None) count
     (λ v w p q e.
@@ -406,7 +437,7 @@ frame_back n count f a b h =
     ∙ ap (λ z. frame_of (the_frame f.mode f.set f.most z (map sat f.cites))) (last_back n f.mode f.last a h.last)
     ∙ ap (λ z. frame_of (the_frame f.mode f.set f.most f.last z)) (small_cites count f.cites (omega arith) h.cites)
 
-same_frame : (n count : ℕ) → n ≤ 1024 → count ≤ 20000000 → (v w : OpenFrame) → IsFrame n count v → IsFrame n count w → row_text (frame_row n v) ≡ row_text (frame_row n w) → v ≡ w
+pub same_frame : (n count : ℕ) → n ≤ 1024 → count ≤ 20000000 → (v w : OpenFrame) → IsFrame n count v → IsFrame n count w → row_text (frame_row n v) ≡ row_text (frame_row n w) → v ≡ w
 same_frame n count a b v w p q e =
     sym (frame_back n count v a b p)
     ∙ ap frame_of (twice (frame_in n) (row_text (frame_row n v)) (row_text (frame_row n w)) (the_frame v.mode (clip n v.set) (sat v.most) (last_read n v.mode v.last) (map sat v.cites))

@@ -1,13 +1,20 @@
 -- What reading a certificate's text answers.
-use Rattle.std.specs.Prelude.{◌≡◌, ◌⊎◌, ℕ, suc, ◌<◌, ◌≤◌, ◌+◌, ◌-◌, List, [], ◌++◌, length, drop, Option}
+use Rattle.std.specs.Prelude.{◌≡◌, ◌⊎◌, ℕ, suc, ◌<◌, ◌≤◌, ◌+◌, ◌-◌, List, [], ◌++◌, length, drop, Option, Result, Ok, Err}
 use Rattle.line_rules.specs.Ranges.{IsInRange, AreEntries, IsTrailOrNone}
 use Rattle.line_rules.specs.declared.types.Certificate.{Certificate}
-use Rattle.cert_text.specs.Cert.{cert_rows, cert_text, list_rows}
-use Rattle.cert_text.specs.Faults.{IsFault}
-use Rattle.cert_text.specs.Parts.{certs, lists as list_grammar}
-use Rattle.cert_text.specs.declared.fault.CertFault.{CertFault}
-use Rattle.cert_text.specs.declared.fault.CertKind.TheVariants.{Trailing}
-use Rattle.cert_text.specs.Rows.{rows_text}
+use Rattle.cert_lines.specs.Lift.{lift}
+use Rattle.cert_lines.specs.OldRanges.{IsOldInRange}
+use Rattle.cert_lines.specs.declared.version_one.OldCertificate.{OldCertificate}
+use Rattle.cert_text.specs.Cert.{cert_text, list_rows}
+use Rattle.cert_text.specs.OldCert.{old_text}
+use Rattle.cert_text.specs.Versions.{AnyCertificate, IsAnyInRange, any_rows, any_text, lifted, both}
+use Rattle.cert_lines.specs.Faults.{IsFault}
+use Rattle.cert_lines.specs.Judging.{IsRead}
+use Rattle.cert_text.specs.Parts.{lists as list_grammar}
+use Rattle.cert_lines.specs.declared.fault.CertFault.{CertFault}
+use Rattle.cert_lines.specs.declared.fault.CertKind.TheVariants.{Trailing}
+use Rattle.cert_lines.specs.declared.fault.ReadError.{ReadError}
+use Rattle.cert_lines.specs.Rows.{rows_text}
 use Rattle.line_rules.specs.declared.types.Entry.{Entry}
 use Rattle.line_rules.specs.declared.types.Trail.{Trail}
 use Rattle.cert_text.specs.declared.reading.EntryList.{EntryList}
@@ -16,23 +23,32 @@ use Rattle.cert_text.specs.declared.reader.ListRead.TheVariants as lists
 use Rattle.cert_text.specs.declared.reader.CertRead.{CertRead}
 use Rattle.cert_text.specs.declared.reader.CertRead.TheVariants.{Good, Fault, NoMemory}
 
--- a whole text of a certificate, and a byte behind it: the fault is of that byte's line
+-- The lines of a certificate of either version are read: it is the one that they say, or its lift; or they have a fault.
+abbrev pub IsAnyRead : ℕ → List ℕ → List ℕ → ℕ → Result Certificate ReadError → Type 0
+IsAnyRead passed text rest after (Ok cert) = (x : AnyCertificate) × (cert ≡ lifted x) × IsRead both passed text rest after (Ok x)
+IsAnyRead passed text rest after (Err error) = IsRead both passed text rest after (Err error)
+
+-- a whole text of a certificate of either version, and a byte behind it: the fault is of that byte's line
 pub record IsTrailing (bytes : List ℕ) (f : CertFault) : Type 0 where
-  pub cert : Certificate
-  pub in_range : IsInRange cert
+  pub whole : AnyCertificate
+  pub in_range : IsAnyInRange whole
   pub rest : List ℕ
   pub some : 0 < length rest
-  pub all : bytes ≡ cert_text cert ++ rest
-  pub line : f.line ≡ suc (length (cert_rows cert))
+  pub all : bytes ≡ any_text whole ++ rest
+  pub line : f.line ≡ suc (length (any_rows whole))
   pub kind : f.kind ≡ Trailing
 
--- the fault of a text: its first line that no certificate's text passes, or its end, or a byte behind the last line
+-- the fault of a text: its first line that no certificate's text passes, of either version, or its end, or a byte behind the last line
 abbrev pub IsCertFault : List ℕ → CertFault → Type 0
-IsCertFault bytes f = IsFault certs 0 bytes f ⊎ IsTrailing bytes f
+IsCertFault bytes f = IsFault both 0 bytes f ⊎ IsTrailing bytes f
 
--- Each answer with its cause: the certificate within the ranges whose one text the bytes are, or the text's first fault.
+-- the certificate within its ranges whose one text the bytes are, or the lift of one of version 1 whose one text they are
+abbrev pub IsSaidBy : List ℕ → Certificate → Type 0
+IsSaidBy bytes cert = (IsInRange cert × (bytes ≡ cert_text cert)) ⊎ ((old : OldCertificate) × IsOldInRange old × (bytes ≡ old_text old) × (cert ≡ lift old))
+
+-- Each answer with its cause: the certificate that the bytes say, or the text's first fault.
 abbrev pub IsCertRead : List ℕ → CertRead → Type 0
-IsCertRead bytes (Good cert) = IsInRange cert × (bytes ≡ cert_text cert)
+IsCertRead bytes (Good cert) = IsSaidBy bytes cert
 IsCertRead bytes (Fault f) = IsCertFault bytes f
 IsCertRead bytes NoMemory = Unit {0}
 

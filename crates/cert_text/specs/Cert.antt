@@ -1,48 +1,15 @@
--- The text of a certificate: the one of version 2, which is written, and those of version 1, which are read as their lift.
+-- The text of a certificate: the one of version 2, which is written.
 use Rattle.std.specs.Prelude.{ℕ, suc, List, [], ◌∷◌, ◌++◌, length, map, Option, Some, None, codes}
 use Rattle.line_rules.specs.declared.types.LineKind.{LineKind}
-use Rattle.line_rules.specs.declared.types.LineKind.TheVariants.{Straight, U}
-use Rattle.line_rules.specs.declared.types.Seatplace.{Seatplace}
 use Rattle.line_rules.specs.declared.types.Balance.{Balance as Assignment}
 use Rattle.line_rules.specs.declared.types.Entry.{Entry}
-use Rattle.line_rules.specs.declared.types.Why.{Why}
-use Rattle.line_rules.specs.declared.types.Why.TheVariants as why
-use Rattle.line_rules.specs.declared.types.OpenFrame.{OpenFrame}
 use Rattle.line_rules.specs.declared.types.Trail.{Trail}
 use Rattle.line_rules.specs.declared.types.Ask.{Ask}
-use Rattle.line_rules.specs.declared.types.Ask.TheVariants as ask
 use Rattle.line_rules.specs.declared.types.Claim.{Claim}
 use Rattle.line_rules.specs.declared.types.Claim.TheVariants as claim
 use Rattle.line_rules.specs.declared.types.Certificate.{Certificate}
-use Rattle.cert_text.specs.Rows.{Row, fixed, keyed, seat, bound, branch, swap, trail, frame, rows_text}
-
--- the line of the kind of line
-abbrev pub kind_row : LineKind → Row
-kind_row Straight = fixed (codes "line straight")
-kind_row U = fixed (codes "line u")
-
--- the line of the question
-abbrev pub ask_row : Ask → Row
-ask_row (ask.Stations cycle) = keyed (codes "cycle") cycle
-ask_row (ask.Cycle stations) = keyed (codes "stations") stations
-
--- the line of a place
-abbrev pub seat_row : LineKind → Seatplace → Row
-seat_row kind p = seat kind p.station p.side
-
--- the line of an entry over n tasks, with the cycle that is given; tasks are counted from 1
-abbrev pub why_row : ℕ → Option ℕ → Entry → Why → Row
-why_row n c e why.Bound = bound n c e.set e.most
-why_row n c e (why.Branch mode cites) = branch n c mode e.set e.most cites
-why_row n c e (why.Swap cite out into) = swap n c e.set e.most cite (suc out) (suc into)
-
--- the line of an entry with its cycle
-abbrev pub entry_row : ℕ → Entry → Row
-entry_row n e = why_row n (Some e.cycle) e e.why
-
--- the line of a frame
-abbrev pub frame_row : ℕ → OpenFrame → Row
-frame_row n f = frame n f.mode f.set f.most f.last f.cites
+use Rattle.cert_lines.specs.Rows.{Row, fixed, keyed, trail, rows_text}
+use Rattle.cert_lines.specs.ValueRows.{kind_row, ask_row, seat_row, entry_row, frame_row}
 
 -- the lines of a trail, or of none
 abbrev pub trail_rows : ℕ → Option Trail → List Row

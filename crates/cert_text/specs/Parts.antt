@@ -5,12 +5,13 @@ use Rattle.line_rules.specs.declared.types.LineKind.{LineKind}
 use Rattle.line_rules.specs.declared.types.Trail.{Trail}
 use Rattle.line_rules.specs.declared.types.Claim.{Claim}
 use Rattle.line_rules.specs.declared.types.Claim.TheVariants as claim
-use Rattle.cert_text.specs.declared.patterns.Opening.{Opening}
-use Rattle.cert_text.specs.declared.patterns.Opening.TheVariants as opening
+use Rattle.cert_lines.specs.declared.patterns.Opening.{Opening}
+use Rattle.cert_lines.specs.declared.patterns.Opening.TheVariants as opening
 use Rattle.line_rules.specs.declared.types.Certificate.{Certificate}
-use Rattle.cert_text.specs.Rows.{Row, fixed, keyed}
-use Rattle.cert_text.specs.Cert.{seat_row, head_rows, list_rows, trail_rows, claim_rows, cert_rows}
-use Rattle.cert_text.specs.Faults.{Grammar}
+use Rattle.cert_lines.specs.Rows.{Row, fixed, keyed}
+use Rattle.cert_lines.specs.ValueRows.{seat_row}
+use Rattle.cert_text.specs.Cert.{head_rows, list_rows, trail_rows, claim_rows}
+use Rattle.cert_lines.specs.Faults.{Grammar}
 use Rattle.cert_text.specs.declared.reading.Head.{Head}
 use Rattle.cert_text.specs.declared.reading.EntryList.{EntryList}
 use Rattle.cert_text.specs.declared.reading.Placed.{Placed}
@@ -63,6 +64,6 @@ opened kind n o = record { rows = behind_rows kind n; ranged = IsOpened kind n o
 abbrev pub claims : Head → Grammar Claim
 claims h = record { rows = claim_rows h.kind h.tasks; ranged = IsClaim h.kind h.tasks h.ask }
 
--- the certificates
-abbrev pub certs : Grammar Certificate
-certs = record { rows = cert_rows; ranged = IsInRange }
+-- what stands behind the first line
+abbrev pub bodies : Grammar Certificate
+bodies = record { rows = λ cert. head_rows cert.kind cert.tasks cert.ask ++ claim_rows cert.kind cert.tasks cert.claim; ranged = IsInRange }

@@ -1,7 +1,7 @@
 -- A piece of a line that several lines have.
 use Rattle.std.specs.Prelude.{ℕ, List, ◌∷◌, ◌++◌, suc}
 use Rattle.line_rules.specs.declared.types.Entry.{Entry}
-use Rattle.cert_text.specs.Numbers.{number_text, set_text}
+use Rattle.cert_lines.specs.Numbers.{number_text, set_text}
 
 -- the cycle, the set and the number of stations of an entry, each behind a blank
 abbrev pub question_text : ℕ → Entry → List ℕ

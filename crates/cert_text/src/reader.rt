@@ -1,15 +1,20 @@
 //! The reading of a certificate's text from memory.
-ghost use Rattle.std.specs.Prelude.{◌≡◌, ◌≢◌, ◌≤◌, length};
+ghost use Rattle.std.specs.Prelude.{◌≡◌, ◌≢◌, ◌≤◌, ◌++◌, length, drop, ℕ, List, Option};
 ghost use Rattle.cert_text.specs.Answers.{IsCertRead, IsEnded, IsListRead, IsListed};
-ghost use Rattle.cert_text.specs.Cert.{cert_text};
-ghost use Rattle.cert_text.specs.declared.fault.CertFault.{CertFault};
+ghost use Rattle.cert_text.specs.Cert.{cert_text, list_rows};
+ghost use Rattle.cert_text.specs.OldCert.{old_text};
+ghost use Rattle.line_rules.specs.declared.types.Entry.{Entry};
+ghost use Rattle.line_rules.specs.declared.types.Trail.{Trail};
+ghost use Rattle.cert_lines.specs.Rows.{rows_text};
+ghost use Rattle.cert_lines.specs.OldRanges.{IsOldInRange};
+ghost use Rattle.cert_lines.specs.declared.version_one.OldCertificate.{OldCertificate};
+ghost use Rattle.cert_lines.specs.declared.fault.CertFault.{CertFault};
 ghost use Rattle.line_rules.specs.declared.types.Certificate.{Certificate};
-ghost use Rattle.line_rules.specs.Ranges.{IsInRange};
+ghost use Rattle.line_rules.specs.Ranges.{IsInRange, AreEntries, IsTrailOrNone};
 
-use crate::fault::{CertFault, CertKind, ReadError};
 use crate::reading::{EntryList, read_all, read_entries};
 use crate::slice_lines::SliceLines;
-use crate::source::{Source, Taken};
+use cert_lines::{CertFault, CertKind, ReadError, Source, Taken};
 use line_rules::{Certificate, Entries, Trail};
 use std::alloc::Global;
 
@@ -24,10 +29,12 @@ pub enum CertRead {
     NoMemory,
 }
 
-/// Reads a certificate's text of version 2.
+/// Reads a certificate's text of version 2, or one of version 1, whose lift is the answer.
 pub fn read_cert(alloc: Global, bytes: &[u8]) -> CertRead
     ensures read { IsCertRead bytes.now result }
+    ensures within { (cert : Certificate) → result ≡ CertRead.Good cert → IsInRange cert }
     ensures none { (fault : CertFault) → result ≡ CertRead.Fault fault → (cert : Certificate) → IsInRange cert → bytes.now ≢ cert_text cert }
+    ensures none_old { (fault : CertFault) → result ≡ CertRead.Fault fault → (old : OldCertificate) → IsOldInRange old → bytes.now ≢ old_text old }
 {
     let mut lines = SliceLines::new(bytes);
     match read_all(alloc, &mut lines) {
@@ -81,7 +88,8 @@ pub fn read_list(alloc: Global, bytes: &[u8], from: usize, line: u64, tasks: u32
     requires first { 1 ≤ line }
     requires some { 1 ≤ tasks }
     requires few { tasks ≤ 1024 }
-    ensures { IsListRead bytes.now from line tasks result }
+    ensures read { IsListRead bytes.now from line tasks result }
+    ensures none { (fault : CertFault) → result ≡ ListRead.Fault fault → (es : List Entry) (t : Option Trail) (rest : List ℕ) → AreEntries tasks es → IsTrailOrNone tasks (length es) t → drop from bytes.now ≢ rows_text (list_rows tasks es t) ++ rest }
 {
     let mut lines = SliceLines::behind(&bytes[from..], line - 1);
     match read_entries(alloc, &mut lines, tasks) {

@@ -1,17 +1,19 @@
 //! The reading of a certificate's text, line by line.
 ghost use Rattle.std.specs.Prelude.{ℕ, ◌≤◌, IfOk, length};
-ghost use Rattle.cert_text.specs.Judging.{IsRead};
-ghost use Rattle.cert_text.specs.Parts.{IsHeadOf, IsPlacedOf, IsOpened, heads, trails, lists, placings, opened, claims, certs};
-ghost use Rattle.cert_text.specs.Patterns.{IsOpening};
+ghost use Rattle.cert_lines.specs.Judging.{IsRead};
+ghost use Rattle.cert_text.specs.Parts.{IsHeadOf, IsPlacedOf, IsOpened, heads, trails, lists, placings, opened, claims, bodies};
+ghost use Rattle.cert_text.specs.Answers.{IsAnyRead};
+ghost use Rattle.cert_lines.specs.Patterns.{IsOpening};
 ghost use Rattle.line_rules.specs.Ranges.{AreEntries, IsTrailOrNone, IsCycle, IsClaim, IsInRange};
 
-use crate::fault::ReadError;
-use crate::pattern::{read_line, read_lines};
-use crate::patterns::{
+use crate::lifting::lift;
+use crate::old_reading::read_old;
+use cert_lines::pattern::{read_line, read_lines};
+use cert_lines::patterns::{
     AskLine, EndLine, EntryLine, FrameLine, Key, KindLine, MAX_CYCLE, NumberLine, Opening,
-    OpeningLine, SeatLine, TrailLine, VersionLine,
+    OpeningLine, SeatLine, TrailLine, Version, VersionLine,
 };
-use crate::source::Source;
+use cert_lines::{ReadError, Source};
 use line_rules::{Ask, Balance, Certificate, Claim, Entries, Frames, LineKind, Places, Trail};
 use std::alloc::Global;
 
@@ -250,12 +252,11 @@ pub fn read_claim<S: Source>(alloc: Global, source: &mut S, head: Head) -> Resul
     read_opened(alloc, source, head, opening)
 }
 
-/// Reads a certificate.
-pub fn read_all<S: Source>(alloc: Global, source: &mut S) -> Result<Certificate, ReadError>
+/// Reads what stands behind the first line of a text of version 2.
+fn read_new<S: Source>(alloc: Global, source: &mut S) -> Result<Certificate, ReadError>
     ensures said { IfOk result IsInRange }
-    ensures read { S.told → IsRead certs (S.number source.old) (S.left source.old) (S.left source.new) (S.number source.new) result }
+    ensures read { S.told → IsRead bodies (S.number source.old) (S.left source.old) (S.left source.new) (S.number source.new) result }
 {
-    read_line(alloc, source, &VersionLine)?;
     let head = read_head(alloc, source)?;
     let claim = read_claim(alloc, source, head)?;
     Ok(Certificate {
@@ -264,4 +265,20 @@ pub fn read_all<S: Source>(alloc: Global, source: &mut S) -> Result<Certificate,
         ask: head.ask,
         claim,
     })
+}
+
+/// Reads a certificate of version 2, or one of version 1, which is lifted.
+pub fn read_all<S: Source>(alloc: Global, source: &mut S) -> Result<Certificate, ReadError>
+    ensures said { IfOk result IsInRange }
+    ensures read { S.told → IsAnyRead (S.number source.old) (S.left source.old) (S.left source.new) (S.number source.new) result }
+{
+    let version = read_line(alloc, source, &VersionLine)?;
+    match version {
+        Version::Two => read_new(alloc, source),
+        Version::One => {
+            let old = read_old(alloc, source)?;
+            let cert = lift(alloc, old)?;
+            Ok(cert)
+        }
+    }
 }

@@ -1,8 +1,8 @@
 //! The lines of bytes in memory.
 ghost use Rattle.std.specs.Prelude.{◌≡◌, ◌==◌, length};
 
-use crate::source::{Source, Taken};
-use crate::words::split_at;
+use cert_lines::words::split_at;
+use cert_lines::{Source, Taken};
 
 /// The lines of bytes, one after the other.
 #[derive(Drop)]

@@ -8,7 +8,7 @@ use line_rules::{Certificate, Claim};
 use std::alloc::{AllocError, Global};
 use std::test::Fail;
 
-const V5: [&str; 16] = [
+pub const V5: [&str; 16] = [
     "line balance certificate 2",
     "line straight",
     "tasks 5",
@@ -27,7 +27,7 @@ const V5: [&str; 16] = [
     "end",
 ];
 
-const V6: [&str; 17] = [
+pub const V6: [&str; 17] = [
     "line balance certificate 2",
     "line straight",
     "tasks 5",
@@ -86,7 +86,7 @@ fn word_of(kind: CertKind) -> &'static str {
 }
 
 // `good`, `memory`, or the fault.
-fn answer(alloc: Global, bytes: &[u8]) -> Result<String, AllocError> {
+pub fn answer(alloc: Global, bytes: &[u8]) -> Result<String, AllocError> {
     let mut text = String::new(alloc);
     match read_cert(alloc, bytes) {
         CertRead::Good(_) => text.push_str("good")?,
@@ -101,7 +101,12 @@ fn answer(alloc: Global, bytes: &[u8]) -> Result<String, AllocError> {
 }
 
 // Lines, the one at `at` replaced.
-fn text_with(alloc: Global, lines: &[&str], at: usize, line: &str) -> Result<String, AllocError> {
+pub fn text_with(
+    alloc: Global,
+    lines: &[&str],
+    at: usize,
+    line: &str,
+) -> Result<String, AllocError> {
     let mut text = String::new(alloc);
     for (k, l) in lines.iter().enumerate() {
         if k == at {
@@ -115,7 +120,7 @@ fn text_with(alloc: Global, lines: &[&str], at: usize, line: &str) -> Result<Str
 }
 
 // The first lines.
-fn front(alloc: Global, lines: &[&str], count: usize) -> Result<String, AllocError> {
+pub fn front(alloc: Global, lines: &[&str], count: usize) -> Result<String, AllocError> {
     let mut text = String::new(alloc);
     for (k, l) in lines.iter().enumerate() {
         if k < count {
@@ -127,7 +132,7 @@ fn front(alloc: Global, lines: &[&str], count: usize) -> Result<String, AllocErr
 }
 
 // What a text that is read is written as.
-fn rewritten(alloc: Global, bytes: &[u8]) -> Result<Vec<u8>, AllocError> {
+pub fn rewritten(alloc: Global, bytes: &[u8]) -> Result<Vec<u8>, AllocError> {
     match read_cert(alloc, bytes) {
         CertRead::Good(cert) => write_cert(alloc, &cert),
         _ => Ok(Vec::new(alloc)),
@@ -157,85 +162,6 @@ fn a_text_that_is_cut_short_has_ended(rt: HostRuntime) -> Result<(), Fail> {
         let line = k + 1;
         let wanted = format!(in rt.alloc(); "line {line} ended")?;
         assert_eq!(rt; got.as_str(), wanted.as_str());
-    }
-    Ok(())
-}
-
-#[test]
-fn lines_of_a_search_that_ended(rt: HostRuntime) -> Result<(), Fail> {
-    let rows = [
-        (0, "line balance certificate 3", "line 1 form"),
-        (1, "line round", "line 2 form"),
-        (2, "tasks 0", "line 3 range"),
-        (2, "tasks 1025", "line 3 range"),
-        (2, "tasks", "line 3 form"),
-        (2, "tasks 5 5", "line 3 form"),
-        (3, "cycle 07", "line 4 form"),
-        (3, "cycle 0", "line 4 range"),
-        (3, "cycle 1000000000000000001", "line 4 range"),
-        (3, "cycle 99999999999999999999999999", "line 4 range"),
-        (3, "cycle  7", "line 4 form"),
-        (3, "cycle 7 ", "line 4 form"),
-        (3, "stations 3", "good"),
-        (3, "stations 1025", "line 4 range"),
-        (4, "infeasible 0", "line 5 range"),
-        (4, "infeasible 6", "line 5 range"),
-        (4, "infeasible 5", "line 6 form"),
-        (4, "lower 0", "line 5 range"),
-        (5, "upper 0", "line 6 range"),
-        (6, "balance 1025", "line 7 range"),
-        (7, "0", "line 8 range"),
-        (7, "4", "line 8 range"),
-        (7, "1 f", "line 8 form"),
-        (12, "entries 20000001", "line 13 range"),
-        (12, "entries 2", "line 15 form"),
-        (13, "branch f 7 F8 2 -", "line 14 form"),
-        (13, "branch f 7 f9 2 -", "line 14 form"),
-        (13, "branch f 7 f88 2 -", "line 14 form"),
-        (13, "branch f 7 f8 1025 -", "line 14 range"),
-        (13, "branch f 7 f8 2 0", "good"),
-        (13, "branch f 7 f8 2 1", "line 14 range"),
-        (13, "branch f 7 f8 2 0,0", "good"),
-        (13, "branch f 7 f8 2 0,", "line 14 form"),
-        (13, "branch f 0 f8 2 01", "line 14 form"),
-        (13, "branch x 7 f8 2 -", "line 14 form"),
-        (13, "swap 7 f8 2 0 0 1", "line 14 range"),
-        (13, "swap 7 f8 2 0 5 6", "line 14 range"),
-        (13, "swap 7 f8 2 0 5 1", "good"),
-        (14, "trail 5", "line 15 form"),
-        (14, "trail 0 at 7", "line 15 range"),
-        (14, "trail 1025 at 7", "line 15 range"),
-        (15, "end ", "line 16 form"),
-    ];
-    for (at, line, wanted) in rows {
-        let text = text_with(rt.alloc(), &V5, at, line)?;
-        let got = answer(rt.alloc(), text.as_bytes())?;
-        assert_eq!(rt; got.as_str(), wanted, "{line}");
-    }
-    Ok(())
-}
-
-#[test]
-fn lines_of_a_search_that_stopped(rt: HostRuntime) -> Result<(), Fail> {
-    let rows = [
-        (13, "bound 7 f8", "line 14 form"),
-        (13, "bound 7 f8 1 -", "line 14 form"),
-        (13, "bound 7 f8 -1", "line 14 form"),
-        (14, "trail 2 at 7", "line 17 form"),
-        (15, "open f f8 2 - -", "good"),
-        (15, "open b f8 2 90 -", "good"),
-        (15, "open u f8 2 90 -", "line 16 form"),
-        (15, "open u f8 2 90/08 -", "good"),
-        (15, "open f f8 2 90/08 -", "line 16 form"),
-        (15, "open f f8 1025 90 -", "line 16 range"),
-        (15, "open f f8 2 90 1", "line 16 range"),
-        (16, "end\n", "line 18 trailing"),
-        (16, "end\nx", "line 18 trailing"),
-    ];
-    for (at, line, wanted) in rows {
-        let text = text_with(rt.alloc(), &V6, at, line)?;
-        let got = answer(rt.alloc(), text.as_bytes())?;
-        assert_eq!(rt; got.as_str(), wanted, "{line}");
     }
     Ok(())
 }
@@ -306,5 +232,65 @@ fn a_fault_of_a_list_is_at_its_line(rt: HostRuntime) -> Result<(), Fail> {
         return Ok(());
     }
     assert!(rt; false);
+    Ok(())
+}
+
+#[test]
+fn lines_that_a_text_may_have(rt: HostRuntime) -> Result<(), Fail> {
+    let rows = [
+        (3, "stations 3"),
+        (13, "branch f 7 f8 2 0"),
+        (13, "branch f 7 f8 2 0,0"),
+        (13, "swap 7 f8 2 0 5 1"),
+    ];
+    for (at, line) in rows {
+        let text = text_with(rt.alloc(), &V5, at, line)?;
+        let got = answer(rt.alloc(), text.as_bytes())?;
+        assert_eq!(rt; got.as_str(), "good", "{line}");
+    }
+    Ok(())
+}
+
+#[test]
+fn faults_behind_a_changed_line(rt: HostRuntime) -> Result<(), Fail> {
+    let rows = [
+        (4, "infeasible 5", "line 6 form"),
+        (12, "entries 2", "line 15 form"),
+        (14, "trail 1 at 7", "line 16 form"),
+    ];
+    for (at, line, wanted) in rows {
+        let text = text_with(rt.alloc(), &V5, at, line)?;
+        let got = answer(rt.alloc(), text.as_bytes())?;
+        assert_eq!(rt; got.as_str(), wanted, "{line}");
+    }
+    Ok(())
+}
+
+#[test]
+fn frames_of_each_mode(rt: HostRuntime) -> Result<(), Fail> {
+    let rows = [
+        "open f f8 2 - -",
+        "open b f8 2 90 -",
+        "open u f8 2 90/08 -",
+        "open f f8 2 90 0",
+    ];
+    for line in rows {
+        let text = text_with(rt.alloc(), &V6, 15, line)?;
+        let got = answer(rt.alloc(), text.as_bytes())?;
+        assert_eq!(rt; got.as_str(), "good", "{line}");
+    }
+    Ok(())
+}
+
+#[test]
+fn what_stands_behind_the_end(rt: HostRuntime) -> Result<(), Fail> {
+    for line in ["end\n", "end\nx"] {
+        let text = text_with(rt.alloc(), &V6, 16, line)?;
+        let got = answer(rt.alloc(), text.as_bytes())?;
+        assert_eq!(rt; got.as_str(), "line 18 trailing", "{line}");
+    }
+    let text = text_with(rt.alloc(), &V6, 14, "trail 2 at 7")?;
+    let got = answer(rt.alloc(), text.as_bytes())?;
+    assert_eq!(rt; got.as_str(), "line 17 form");
     Ok(())
 }

@@ -1,7 +1,7 @@
 //! The writing of a certificate's text into memory.
 ghost use Rattle.std.specs.Prelude.{◌≡◌, ◌≤◌, IfOk};
 ghost use Rattle.cert_text.specs.Cert.{cert_text, list_rows};
-ghost use Rattle.cert_text.specs.Rows.{rows_text};
+ghost use Rattle.cert_lines.specs.Rows.{rows_text};
 ghost use Rattle.line_rules.specs.Ranges.{IsInRange};
 
 use crate::kept_text::KeptText;

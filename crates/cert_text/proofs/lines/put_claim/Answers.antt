@@ -1,6 +1,6 @@
 use Rattle.std.proofs.Common.{ap, ◌∙◌, ◌++◌, ◌∷◌, [], arith}
 use Rattle.std.specs.Prelude.{codes}
-use Rattle.cert_text.specs.Rows.{rows_text, line_text, keyed, fixed, row_text}
+use Rattle.cert_lines.specs.Rows.{rows_text, line_text, keyed, fixed, row_text}
 use Rattle.cert_text.specs.Cert.{claim_rows, bounds_rows, list_rows}
 use Rattle.cert_text.proofs.Putting.{puts_as, ◌▹◌}
 use Rattle.cert_text.proofs.Spelling.{rows_append}

@@ -1,7 +1,7 @@
 use Rattle.std.proofs.Common.{ap, ◌∙◌, sym}
-use Rattle.cert_text.specs.Numbers.{cites_text}
-use Rattle.cert_text.specs.Rows.{line_text}
-use Rattle.cert_text.specs.Cert.{why_row}
+use Rattle.cert_lines.specs.Numbers.{cites_text}
+use Rattle.cert_lines.specs.Rows.{line_text}
+use Rattle.cert_lines.specs.ValueRows.{why_row}
 use Rattle.std.proofs.Common.{Some}
 use Rattle.cert_text.proofs.Putting.{puts_as, ◌▹◌}
 use Rattle.cert_text.proofs.Spelling.{bound_spelled, branch_spelled, swap_spelled}

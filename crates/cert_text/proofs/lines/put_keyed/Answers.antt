@@ -1,5 +1,5 @@
 use Rattle.std.proofs.Common.{refl, append_assoc}
-use Rattle.cert_text.specs.Rows.{row_text}
+use Rattle.cert_lines.specs.Rows.{row_text}
 use Rattle.cert_text.proofs.Putting.{puts}
 use Rattle.cert_text.proofs.lines.put_keyed.Goals as goal
 

@@ -1,6 +1,6 @@
 use Rattle.std.proofs.Common.{ap}
-use Rattle.cert_text.specs.Rows.{row_text, line_text}
-use Rattle.cert_text.specs.Cert.{kind_row}
+use Rattle.cert_lines.specs.Rows.{row_text, line_text}
+use Rattle.cert_lines.specs.ValueRows.{kind_row}
 use Rattle.cert_text.proofs.Putting.{puts_as}
 use Rattle.cert_text.proofs.lines.put_kind.Goals as goal
 

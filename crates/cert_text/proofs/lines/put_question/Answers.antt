@@ -1,5 +1,5 @@
 use Rattle.std.proofs.Common.{refl, append_assoc, ap, sym}
-use Rattle.cert_text.specs.Numbers.{number_text}
+use Rattle.cert_lines.specs.Numbers.{number_text}
 use Rattle.cert_text.proofs.Putting.{puts, puts_as}
 use Rattle.cert_text.proofs.lines.put_question.Goals as goal
 

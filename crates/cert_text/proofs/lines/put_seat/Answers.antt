@@ -1,8 +1,8 @@
 use Rattle.std.proofs.Common.{ap, ◌∙◌, append_assoc, sym, ◌∷◌, []}
 use Rattle.std.specs.Prelude.{codes}
-use Rattle.cert_text.specs.Numbers.{number_text}
-use Rattle.cert_text.specs.Rows.{row_text, line_text, seat}
-use Rattle.cert_text.specs.Cert.{seat_row}
+use Rattle.cert_lines.specs.Numbers.{number_text}
+use Rattle.cert_lines.specs.Rows.{row_text, line_text, seat}
+use Rattle.cert_lines.specs.ValueRows.{seat_row}
 use Rattle.line_rules.specs.declared.types.LineKind.TheVariants.{U}
 use Rattle.cert_text.proofs.Putting.{puts, puts_as}
 use Rattle.cert_text.proofs.lines.put_seat.Goals as goal

@@ -1,5 +1,5 @@
 use Rattle.std.proofs.Common.{refl}
-use Rattle.cert_text.specs.Cert.{seat_row}
+use Rattle.cert_lines.specs.ValueRows.{seat_row}
 use Rattle.cert_text.proofs.Putting.{puts, puts_as}
 use Rattle.cert_text.proofs.Spelling.{next_line, all_lines}
 use Rattle.cert_text.proofs.lines.put_seats.Goals as goal

@@ -1,6 +1,6 @@
 use Rattle.std.proofs.Common.{take, map}
-use Rattle.cert_text.specs.Cert.{seat_row}
-use Rattle.cert_text.specs.Rows.{rows_text}
+use Rattle.cert_lines.specs.ValueRows.{seat_row}
+use Rattle.cert_lines.specs.Rows.{rows_text}
 use Rattle.cert_text.specs.Sent.{Puts}
 use Rattle.cert_text.proofs.lines.put_seats.Given as goal
 

@@ -1,31 +1,34 @@
-use Rattle.std.proofs.Common.{[]}
-use Rattle.cert_text.specs.Parts.{heads, claims, certs}
-use Rattle.cert_text.specs.Judging.{then_}
-use Rattle.cert_text.proofs.Failing.{ends, first, second, same, hand}
-use Rattle.cert_text.proofs.Sequencing.{both_read}
-use Rattle.cert_text.proofs.Wholes.{unique_heads}
-use Rattle.cert_text.proofs.Claims.{versions, unique_version, cert_parts, same_certs, cert_read, some_claim, some_head}
+use Rattle.std.proofs.Common.{[], subst, Ok}
+use Rattle.cert_lines.specs.Judging.{IsRead}
+use Rattle.cert_lines.specs.declared.patterns.Version.{Version}
+use Rattle.cert_lines.specs.declared.patterns.Version.TheVariants as version
+use Rattle.cert_text.specs.OldParts.{old_bodies}
+use Rattle.cert_text.specs.Versions.{both}
+use Rattle.cert_text.proofs.Failing.{ends, first, second, same}
+use Rattle.cert_text.proofs.OldClaims.{versions, unique_version, any_body, any_parts, same_any, same_old, some_body, new_result, old_lifted, any_hand}
+use Rattle.cert_text.proofs.LiftRanges.{lifted_in}
 use Rattle.cert_text.proofs.reading.read_all.Goals as goal
 
-pub returns-in_err-read_line-clause-read : goal.returns-in_err-read_line-clause-read
-returns-in_err-read_line-clause-read g c t =
-    hand certs _ _ _ _ c.from_residual.result c.in_err-read_line.field-0.0 c.from_residual.ensures.1
-    (same cert_parts certs same_certs (first versions (λ u. then_ heads claims) unique_version (λ u r. some_head) (ends versions _ 0 _ [] _ (c.in_err-read_line.ensures.read t))))
+pub returns-in_err-version-clause-read : goal.returns-in_err-version-clause-read
+returns-in_err-version-clause-read g c t =
+    any_hand _ _ _ _ c.from_residual.result c.in_err-version.field-0.0 c.from_residual.ensures.1 (same any_parts both same_any (first versions any_body unique_version some_body (ends versions _ 0 _ [] _ (c.in_err-version.ensures.read t))))
 
-pub returns-in_err-head-clause-read : goal.returns-in_err-head-clause-read
-returns-in_err-head-clause-read g c t =
-    hand certs _ _ _ _ c.from_residual-in_err-head.result c.in_err-head.field-0.0 c.from_residual-in_err-head.ensures.1
-    (same cert_parts certs same_certs (second versions (λ u. then_ heads claims) _ _ _ _ _ unique_version (c.in_ok-read_line.ensures.read t)
-    (first heads claims unique_heads (λ h r. some_claim h) (ends heads _ 0 _ [] _ (c.in_err-head.ensures.read t)))))
+pub returns-in_err-old-in-One-clause-read : goal.returns-in_err-old-in-One-clause-read
+returns-in_err-old-in-One-clause-read g c t =
+    let P : Version → Type 0 = λ v. IsRead versions (g.S.Source.number c.args.source.now) (g.S.Source.left c.args.source.now) (g.S.Source.left c.read_line.new.source) (g.S.Source.number c.read_line.new.source) (Ok v) in
+    any_hand _ _ _ _ c.from_residual-in_err-old-in-One.result c.in_err-old-in-One.field-0.0 c.from_residual-in_err-old-in-One.ensures.1
+    (same any_parts both same_any (second versions any_body version.One _ _ _ _ unique_version (subst P c.in-One.is (c.in_ok-version.ensures.read t))
+    (same old_bodies (any_body version.One) same_old (ends old_bodies _ 0 _ [] _ (c.in_err-old-in-One.ensures.read t)))))
 
-pub returns-in_err-claim-clause-read : goal.returns-in_err-claim-clause-read
-returns-in_err-claim-clause-read g c t =
-    hand certs _ _ _ _ c.from_residual-in_err-claim.result c.in_err-claim.field-0.0 c.from_residual-in_err-claim.ensures.1
-    (same cert_parts certs same_certs (second versions (λ u. then_ heads claims) _ _ _ _ _ unique_version (c.in_ok-read_line.ensures.read t)
-    (second heads claims _ _ _ _ _ unique_heads (c.in_ok-head.ensures.read t) (ends (claims c.in_ok-head.head) _ 0 _ [] _ (c.in_err-claim.ensures.read t)))))
+pub returns-in-Two-clause-read : goal.returns-in-Two-clause-read
+returns-in-Two-clause-read g c t =
+    let P : Version → Type 0 = λ v. IsRead versions (g.S.Source.number c.args.source.now) (g.S.Source.left c.args.source.now) (g.S.Source.left c.read_line.new.source) (g.S.Source.number c.read_line.new.source) (Ok v) in
+    new_result _ _ _ _ _ _ c.read_new.result (subst P c.in-Two.is (c.in_ok-version.ensures.read t)) (c.read_new.ensures.read t)
 
-pub returns-clause-read : goal.returns-clause-read
-returns-clause-read g c t =
-    cert_read c.in_ok-head.head c.in_ok-claim.claim _ _ _ _
-    (both_read versions (λ u. then_ heads claims) tt (c.in_ok-head.head, c.in_ok-claim.claim) _ _ _ _ _ _ (c.in_ok-read_line.ensures.read t)
-    (both_read heads claims c.in_ok-head.head c.in_ok-claim.claim _ _ _ _ _ _ (c.in_ok-head.ensures.read t) (c.in_ok-claim.ensures.read t)))
+pub returns-in_ok-cert-in-One-clause-said : goal.returns-in_ok-cert-in-One-clause-said
+returns-in_ok-cert-in-One-clause-said g c = lifted_in c.in_ok-old-in-One.old c.in_ok-cert-in-One.cert c.in_ok-cert-in-One.ensures c.in_ok-old-in-One.ensures.said
+
+pub returns-in_ok-cert-in-One-clause-read : goal.returns-in_ok-cert-in-One-clause-read
+returns-in_ok-cert-in-One-clause-read g c t =
+    let P : Version → Type 0 = λ v. IsRead versions (g.S.Source.number c.args.source.now) (g.S.Source.left c.args.source.now) (g.S.Source.left c.read_line.new.source) (g.S.Source.number c.read_line.new.source) (Ok v) in
+    old_lifted _ _ _ _ _ _ c.in_ok-old-in-One.old c.in_ok-cert-in-One.cert (subst P c.in-One.is (c.in_ok-version.ensures.read t)) (c.in_ok-old-in-One.ensures.read t) c.in_ok-cert-in-One.ensures

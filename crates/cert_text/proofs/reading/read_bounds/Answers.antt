@@ -1,6 +1,6 @@
 use Rattle.std.proofs.Common.{[]}
 use Rattle.cert_text.specs.Parts.{lists, placings, opened}
-use Rattle.cert_text.specs.declared.patterns.Opening.TheVariants as opening
+use Rattle.cert_lines.specs.declared.patterns.Opening.TheVariants as opening
 use Rattle.cert_text.proofs.Failing.{ends, first, second, same, hand}
 use Rattle.cert_text.proofs.Wholes.{unique_placings, unique_lists}
 use Rattle.cert_text.proofs.Claims.{end_grammar, bounds_behind, bounds_parts, same_bounds, some_list}

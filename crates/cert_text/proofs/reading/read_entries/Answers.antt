@@ -3,9 +3,9 @@ use Rattle.std.specs.Prelude.{codes}
 use Rattle.line_rules.specs.Ranges.{AreEntries, IsTrailOrNone}
 use Rattle.line_rules.specs.declared.types.Entry.{Entry}
 use Rattle.cert_text.specs.Parts.{trails, lists}
-use Rattle.cert_text.specs.Judging.{IsRead}
+use Rattle.cert_lines.specs.Judging.{IsRead}
 use Rattle.cert_text.proofs.Failing.{ends, first, second, same, hand}
-use Rattle.cert_text.proofs.JudgedEntry.{some_entry}
+use Rattle.cert_lines.proofs.JudgedEntry.{some_entry}
 use Rattle.cert_text.proofs.Sequencing.{both_read}
 use Rattle.cert_text.proofs.Wholes.{numbers, unique_count, entries_of, unique_entries, entry_rest, list_parts, some_rest, same_lists, list_said, list_read}
 use Rattle.cert_text.proofs.reading.read_entries.Goals as goal

@@ -1,7 +1,7 @@
 use Rattle.std.proofs.Common.{sym, subst, List, [], ℕ, Ok, Err}
 use Rattle.line_rules.specs.declared.types.Seatplace.{Seatplace}
 use Rattle.cert_text.specs.Parts.{placings, IsPlacedOf}
-use Rattle.cert_text.specs.Judging.{IsRead, AreSaid}
+use Rattle.cert_lines.specs.Judging.{IsRead, AreSaid}
 use Rattle.line_rules.specs.Ranges.{IsPlaced}
 use Rattle.cert_text.proofs.Failing.{ends, first, second, same, hand}
 use Rattle.cert_text.proofs.Sequencing.{both_read}

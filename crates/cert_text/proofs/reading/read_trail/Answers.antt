@@ -1,11 +1,11 @@
 use Rattle.std.proofs.Common.{sym, subst, Some, ℕ, List, [], Option, Ok}
 use Rattle.line_rules.specs.Ranges.{IsTrailOrNone}
 use Rattle.line_rules.specs.declared.types.OpenFrame.{OpenFrame}
-use Rattle.cert_text.specs.Patterns.{IsHead}
+use Rattle.cert_lines.specs.Patterns.{IsHead}
 use Rattle.cert_text.specs.Parts.{trails}
-use Rattle.cert_text.specs.Judging.{IsRead}
+use Rattle.cert_lines.specs.Judging.{IsRead}
 use Rattle.cert_text.proofs.Failing.{ends, first, second, same, hand}
-use Rattle.cert_text.proofs.JudgedEntry.{some_frame}
+use Rattle.cert_lines.proofs.JudgedEntry.{some_frame}
 use Rattle.cert_text.proofs.Sequencing.{both_read}
 use Rattle.cert_text.proofs.Wholes.{trail_heads, unique_trail_head, frames_of, trail_parts, same_trails, some_frames, trail_said, trail_read}
 use Rattle.cert_text.proofs.reading.read_trail.Goals as goal

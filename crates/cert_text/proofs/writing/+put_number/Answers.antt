@@ -1,4 +1,4 @@
-use Rattle.cert_text.proofs.Digits.{number_small, number_more}
+use Rattle.cert_lines.proofs.Digits.{number_small, number_more}
 use Rattle.cert_text.proofs.Putting.{puts, puts_as}
 use Rattle.cert_text.proofs.writing.+put_number.Goals as goal
 

@@ -2,7 +2,7 @@ use Rattle.std.proofs.Common.{◌≡◌, ℕ, ◌-◌, ◌≤◌, List, [], ◌�
 use Rattle.std.specs.List.{flat_map}
 use Rattle.std.specs.Prelude.{slice_get, Some}
 use Rattle.std.proofs.lemmas.List.{take_all}
-use Rattle.cert_text.specs.Numbers.{number_text, cites_text}
+use Rattle.cert_lines.specs.Numbers.{number_text, cites_text}
 use Rattle.cert_text.proofs.Putting.{nothing, puts, next_text}
 use Rattle.cert_text.proofs.writing.put_cites.Goals as goal
 

@@ -1,6 +1,6 @@
 use Rattle.std.proofs.Common.{take, ◌∷◌}
 use Rattle.std.specs.List.{flat_map}
-use Rattle.cert_text.specs.Numbers.{number_text}
+use Rattle.cert_lines.specs.Numbers.{number_text}
 use Rattle.cert_text.specs.Sent.{Puts}
 use Rattle.cert_text.proofs.writing.put_cites.Given as goal
 

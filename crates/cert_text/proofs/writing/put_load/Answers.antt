@@ -1,5 +1,5 @@
 use Rattle.std.proofs.Common.{refl, ap}
-use Rattle.cert_text.specs.Numbers.{load_text}
+use Rattle.cert_lines.specs.Numbers.{load_text}
 use Rattle.cert_text.proofs.Putting.{puts, puts_as}
 use Rattle.cert_text.proofs.writing.put_load.Goals as goal
 

@@ -1,7 +1,7 @@
 use Rattle.std.proofs.Common.{◌≡◌, ℕ, ◌+◌, ◌/◌, [], ◌∷◌, arith, refl, sym, ap, map}
 use Rattle.std.specs.List.{range_with_len}
 use Rattle.std.proofs.lemmas.List.FromFn.{map-range_with_len_more}
-use Rattle.cert_text.specs.Numbers.{set_text, hex_digit, four}
+use Rattle.cert_lines.specs.Numbers.{set_text, hex_digit, four}
 use Rattle.cert_text.proofs.Putting.{nothing, puts, puts_as}
 use Rattle.cert_text.proofs.writing.put_set.Goals as goal
 

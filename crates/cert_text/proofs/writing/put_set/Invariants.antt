@@ -1,6 +1,6 @@
 use Rattle.std.proofs.Common.{map}
 use Rattle.std.specs.List.{range_with_len}
-use Rattle.cert_text.specs.Numbers.{hex_digit, four}
+use Rattle.cert_lines.specs.Numbers.{hex_digit, four}
 use Rattle.cert_text.specs.Sent.{Puts}
 use Rattle.cert_text.proofs.writing.put_set.Given as goal
 

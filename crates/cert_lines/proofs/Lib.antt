@@ -1,0 +1,15 @@
+pub mod Digits
+pub mod Parts
+pub mod Lists
+pub mod SetWords
+pub mod NumberWords
+pub mod SetText
+pub mod CiteWords
+pub mod EntryLines
+pub mod OtherLines
+pub mod FrameLines
+pub mod Composing
+pub mod Judged
+pub mod JudgedMore
+pub mod JudgedEntry
+pub mod JudgedResult

@@ -1,0 +1,12 @@
+pub mod Numbers
+pub mod Rows
+pub mod ValueRows
+pub mod Faults
+pub mod Reading
+pub mod LineReading
+pub mod Taking
+pub mod Judging
+pub mod Answering
+pub mod Patterns
+pub mod OldRanges
+pub mod Lift

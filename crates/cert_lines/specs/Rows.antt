@@ -1,0 +1,95 @@
+-- The lines of a certificate: what may stand in a line, and how it is written.
+use Rattle.std.specs.Prelude.{ℕ, Bool, true, false, List, [], ◌∷◌, ◌++◌, Option, Some, None, codes}
+use Rattle.std.specs.List.{flat_map}
+use Rattle.line_rules.specs.declared.types.LineKind.{LineKind}
+use Rattle.line_rules.specs.declared.types.LineKind.TheVariants.{Straight, U}
+use Rattle.line_rules.specs.declared.types.Side.{Side}
+use Rattle.line_rules.specs.declared.types.Side.TheVariants.{Front, Back as AtBack}
+use Rattle.line_rules.specs.declared.types.Mode.{Mode}
+use Rattle.line_rules.specs.declared.types.Load.{Load}
+use Rattle.cert_lines.specs.Numbers.{number_text, set_text, cites_text, mode_letter, last_text}
+
+-- What a line says, its numbers as they are written and of any size: a fixed text; a word and a number; a station, and a side on a U-line;
+-- an entry over so many tasks, with its cycle or without; the head of a trail, its number of frames and its cycle where it has frames; a frame.
+pub data Row : Type 0 where
+  fixed : List ℕ → Row
+  keyed : List ℕ → ℕ → Row
+  seat : LineKind → ℕ → Side → Row
+  bound : ℕ → Option ℕ → List Bool → ℕ → Row
+  branch : ℕ → Option ℕ → Mode → List Bool → ℕ → List ℕ → Row
+  swap : ℕ → Option ℕ → List Bool → ℕ → ℕ → ℕ → ℕ → Row
+  trail : Option (ℕ × ℕ) → Row
+  frame : ℕ → Mode → List Bool → ℕ → Option Load → List ℕ → Row
+
+-- the form of a line: a fixed text, a word before a number, a place on such a line, an entry over so many tasks, the head of a trail, a
+-- frame over so many tasks
+pub data Form : Type 0 where
+  text : List ℕ → Form
+  number : List ℕ → Form
+  place : LineKind → Form
+  entry : ℕ → Bool → Form
+  head : Form
+  open_frame : ℕ → Form
+
+-- whether a cycle is given
+abbrev pub given : Option ℕ → Bool
+given None = false
+given (Some c) = true
+
+-- the form of what a line says
+abbrev pub form_of : Row → Form
+form_of (fixed t) = text t
+form_of (keyed key v) = number key
+form_of (seat kind station side) = place kind
+form_of (bound n c s m) = entry n (given c)
+form_of (branch n c mode s m cites) = entry n (given c)
+form_of (swap n c s m cite out into) = entry n (given c)
+form_of (trail t) = head
+form_of (frame n mode s m last cites) = open_frame n
+
+-- the words with one blank between
+abbrev pub spaced : List (List ℕ) → List ℕ
+spaced [] = []
+spaced (w ∷ []) = w
+spaced (w ∷ v ∷ ws) = w ++ 32 ∷ spaced (v ∷ ws)
+
+-- the word of a cycle, where there is one
+abbrev pub cycle_word : Option ℕ → List (List ℕ)
+cycle_word None = []
+cycle_word (Some c) = number_text c ∷ []
+
+-- the words of a place
+abbrev pub seat_words : LineKind → ℕ → Side → List (List ℕ)
+seat_words Straight station side = number_text station ∷ []
+seat_words U station Front = number_text station ∷ codes "f" ∷ []
+seat_words U station AtBack = number_text station ∷ codes "b" ∷ []
+
+-- the words of the head of a trail
+abbrev pub trail_words : Option (ℕ × ℕ) → List (List ℕ)
+trail_words None = codes "trail" ∷ codes "0" ∷ []
+trail_words (Some t) = codes "trail" ∷ number_text t.0 ∷ codes "at" ∷ number_text t.1 ∷ []
+
+-- the text of a line
+unfoldable pub row_text : Row → List ℕ
+row_text (fixed t) = t
+row_text (keyed key v) = spaced (key ∷ number_text v ∷ [])
+row_text (seat kind station side) = spaced (seat_words kind station side)
+row_text (bound n c s m) = spaced (codes "bound" ∷ cycle_word c ++ (set_text n s ∷ number_text m ∷ []))
+row_text (branch n c mode s m cites) =
+    spaced (codes "branch" ∷ (mode_letter mode ∷ []) ∷ cycle_word c ++ (set_text n s ∷ number_text m ∷ cites_text cites ∷ []))
+row_text (swap n c s m cite out into) =
+    spaced (codes "swap" ∷ cycle_word c ++ (set_text n s ∷ number_text m ∷ number_text cite ∷ number_text out ∷ number_text into ∷ []))
+row_text (trail t) = spaced (trail_words t)
+row_text (frame n mode s m last cites) =
+    spaced (codes "open" ∷ (mode_letter mode ∷ []) ∷ set_text n s ∷ number_text m ∷ last_text n mode last ∷ cites_text cites ∷ [])
+
+-- the text of lines, each with an LF at its end
+abbrev pub lines_text : List (List ℕ) → List ℕ
+lines_text lines = flat_map (λ l. l ++ 10 ∷ []) lines
+
+-- a line with its LF
+abbrev pub line_text : Row → List ℕ
+line_text r = row_text r ++ 10 ∷ []
+
+abbrev pub rows_text : List Row → List ℕ
+rows_text rows = flat_map line_text rows

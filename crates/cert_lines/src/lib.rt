@@ -1,0 +1,13 @@
+//! The lines of a certificate, one at a time: how each is written and read, and which values it may say.
+#![tactic(auto)]
+
+mod draft;
+mod fault;
+pub mod pattern;
+pub mod patterns;
+mod source;
+pub mod version_one;
+pub mod words;
+
+pub use fault::{CertFault, CertKind, LineError, ReadError};
+pub use source::{Source, Taken};

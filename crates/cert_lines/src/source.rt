@@ -1,0 +1,44 @@
+//! Where the lines of a text come from.
+ghost use Rattle.std.specs.Prelude.{◌≡◌, ◌+◌, ℕ, List, suc};
+ghost use Rattle.cert_lines.specs.Taking.{IsTaken, IsAtEnd};
+
+/// What became of the next line.
+#[derive(Clone, Copy, Debug, PartialEq, Eq)]
+pub enum Taken {
+    /// It was taken.
+    Line,
+    /// No LF is left in the text, so there is no further line.
+    End,
+    /// The lines can't go on, for want of memory or for a fault of the outside.
+    Stopped,
+}
+
+/// The lines of a text, one after the other.
+pub trait Source {
+    /// That the text is told.
+    ghost told: { Type 0 };
+
+    /// What is left of the text.
+    ghost left: { Self → List ℕ };
+
+    /// The line that was taken last.
+    ghost line: { Self → List ℕ };
+
+    /// How many lines were asked for.
+    ghost number: { Self → ℕ };
+
+    /// Takes the next line.
+    fn advance(&mut self) -> Taken
+        ensures line { told → result ≡ Taken.Line → IsTaken (left self.old) (line self.new) (left self.new) }
+        ensures end { told → result ≡ Taken.End → IsAtEnd (left self.old) }
+        ensures count { result ≡ Taken.Line → number self.new ≡ suc (number self.old) }
+        ensures last { result ≡ Taken.End → number self.new ≡ suc (number self.old) };
+
+    /// The line that was taken last.
+    fn line(&self) -> &[u8]
+        ensures { result.now ≡ line self.now };
+
+    /// How many lines were asked for.
+    fn number(&self) -> u64
+        ensures { result ≡ number self.now };
+}

@@ -1,0 +1,21 @@
+use Rattle.std.proofs.Common.{sym, subst, [], Err}
+use Rattle.cert_text.specs.OldParts.{old_opened}
+use Rattle.cert_lines.specs.Judging.{IsRead}
+use Rattle.cert_lines.specs.declared.patterns.Opening.{Opening}
+use Rattle.cert_lines.specs.declared.patterns.Opening.TheVariants as opening
+use Rattle.cert_text.proofs.Failing.{Fails, ends, same}
+use Rattle.cert_text.proofs.Claims.{end_grammar}
+use Rattle.cert_text.proofs.OldClaims.{same_old_end}
+use Rattle.cert_text.proofs.old_reading.read_old_opened.Goals as goal
+
+pub returns-in-Err-clause-read : goal.returns-in-Err-clause-read
+returns-in-Err-clause-read g c t =
+    let P : Opening → Type 0 = λ o. IsRead (old_opened c.args.head.kind c.args.head.tasks o) (g.S.Source.number c.args.source.now) (g.S.Source.left c.args.source.now) [] 0 (Err c.in-Err.error) in
+    let f : Fails (old_opened c.args.head.kind c.args.head.tasks (opening.TooLong c.in-TooLong.task)) (g.S.Source.number c.args.source.now) (g.S.Source.left c.args.source.now) c.in-Err.error =
+    same end_grammar (old_opened c.args.head.kind c.args.head.tasks (opening.TooLong c.in-TooLong.task)) (same_old_end c.args.head.kind c.args.head.tasks c.in-TooLong.task) (ends end_grammar _ 0 _ [] _ (c.in-Err.ensures.read t)) in
+    subst P (sym c.in-TooLong.is) f.is
+
+pub returns-in-Lower-clause-read : goal.returns-in-Lower-clause-read
+returns-in-Lower-clause-read g c t =
+    let P : Opening → Type 0 = λ o. IsRead (old_opened c.args.head.kind c.args.head.tasks o) (g.S.Source.number c.args.source.now) (g.S.Source.left c.args.source.now) (g.S.Source.left c.read_old_bounds.new.source) (g.S.Source.number c.read_old_bounds.new.source) c.read_old_bounds.result in
+    subst P (sym c.in-Lower.is) (c.read_old_bounds.ensures.read t)

@@ -1,0 +1,39 @@
+-- The certificates of both versions.
+use Rattle.std.specs.Prelude.{ℕ, List}
+use Rattle.line_rules.specs.Ranges.{IsInRange}
+use Rattle.line_rules.specs.declared.types.Certificate.{Certificate}
+use Rattle.cert_lines.specs.Rows.{Row, rows_text}
+use Rattle.cert_lines.specs.Faults.{Grammar}
+use Rattle.cert_lines.specs.Lift.{lift}
+use Rattle.cert_lines.specs.OldRanges.{IsOldInRange}
+use Rattle.cert_lines.specs.declared.version_one.OldCertificate.{OldCertificate}
+use Rattle.cert_text.specs.Cert.{cert_rows}
+use Rattle.cert_text.specs.OldCert.{old_rows}
+
+-- a certificate of version 2, or one of version 1
+pub data AnyCertificate : Type 0 where
+  newer : Certificate → AnyCertificate
+  older : OldCertificate → AnyCertificate
+
+-- its lines
+abbrev pub any_rows : AnyCertificate → List Row
+any_rows (newer cert) = cert_rows cert
+any_rows (older old) = old_rows old
+
+-- its text
+abbrev pub any_text : AnyCertificate → List ℕ
+any_text x = rows_text (any_rows x)
+
+-- it is within the ranges of its version
+abbrev pub IsAnyInRange : AnyCertificate → Type 0
+IsAnyInRange (newer cert) = IsInRange cert
+IsAnyInRange (older old) = IsOldInRange old
+
+-- the certificate that it is, or that its lift is
+abbrev pub lifted : AnyCertificate → Certificate
+lifted (newer cert) = cert
+lifted (older old) = lift old
+
+-- the texts of both versions
+abbrev pub both : Grammar AnyCertificate
+both = record { rows = any_rows; ranged = IsAnyInRange }
