@@ -2,3 +2,4 @@ pub mod Marks
 pub mod Places
 pub mod Thinned
 pub mod Trimmed
+pub mod Sending

@@ -1,3 +1,4 @@
 pub mod From
 pub mod Trim
 pub mod Laws
+pub mod Pieces

@@ -2,6 +2,7 @@
 #![tactic(auto)]
 
 mod fetching;
+mod file_text;
 pub mod laws;
 mod streaming;
 #[cfg(test)]

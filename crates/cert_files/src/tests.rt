@@ -54,7 +54,7 @@ fn told(alloc: Global, answer: CertFrom) -> Result<String, AllocError> {
 
 /// Writes the certificate of the file `f` into the file `g`.
 fn copied<S: Shelf>(alloc: Global, shelf: &mut S) -> Streamed {
-    match cert_from(alloc, shelf, "f", 1000) {
+    match cert_from(alloc, shelf, "f", 100000) {
         CertFrom::Good(cert) => stream_cert(alloc, shelf, "g", &cert),
         _ => Streamed::NoMemory,
     }
@@ -119,6 +119,41 @@ fn a_call_that_fails_leaves_a_front_of_the_text(rt: HostRuntime) -> Result<(), F
         assert_eq!(rt; written, answer, "call {call} fails and keeps {keep}");
         let got = shelf.file("g").ok_or("missing")?.len();
         assert_eq!(rt; got, length, "call {call} fails and keeps {keep}");
+    }
+    Ok(())
+}
+
+/// A certificate with 6,000 entries, a text of 78,118 bytes.
+fn long_text(alloc: Global) -> Result<String, AllocError> {
+    let mut text = String::new(alloc);
+    text.push_str(
+        "line balance certificate 2\nline straight\ntasks 5\ncycle 7\nlower 3\nupper 3\nbalance 3\n1\n2\n1\n2\n3\nentries 6000\n",
+    )?;
+    for _ in 0..6000 {
+        text.push_str("bound 7 f8 1\n")?;
+    }
+    text.push_str("trail 0\nend\n")?;
+    Ok(text)
+}
+
+#[test]
+fn a_long_text_is_written_in_pieces(rt: HostRuntime) -> Result<(), Fail> {
+    let text = long_text(rt.alloc())?;
+    // the call that fails behind the three of reading, the bytes that it keeps, the answer, and the bytes of the file
+    let rows = [
+        (4, 7, Streamed::WriteFault, 7),
+        (5, 0, Streamed::WriteFault, 65536),
+        (5, 9, Streamed::WriteFault, 65545),
+        (6, 0, Streamed::Done, 78118),
+    ];
+    for (call, keep, answer, length) in rows {
+        let mut shelf = shelf_of(rt.alloc(), text.as_bytes(), 99)?;
+        shelf.tear(call, keep)?;
+        let written = copied(rt.alloc(), &mut shelf);
+        assert_eq!(rt; written, answer, "call {call} fails and keeps {keep}");
+        let bytes = shelf.file("g").ok_or("missing")?;
+        assert_eq!(rt; bytes.len(), length, "call {call} fails and keeps {keep}");
+        assert!(rt; text.as_bytes().starts_with(bytes));
     }
     Ok(())
 }
