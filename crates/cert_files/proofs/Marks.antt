@@ -135,13 +135,13 @@ marks_closed es goal m l earlier h = record {
   closed = λ k e cite a at c. ((h.each cite).1 (cited k e cite ((h.each k).0 a) at c), earlier k e at cite c);
 }
 
--- marks that were handed on and come back whole
-pub come_back : (len : ℕ) (new old before : List Bool) → length new ≡ length old → old ≡ before → length old ≡ len → take len (new ++ drop (length new) before) ≡ new
+-- a list that was handed on and comes back whole
+pub come_back : {X : Type 0} (len : ℕ) (new old before : List X) → length new ≡ length old → old ≡ before → length old ≡ len → take len (new ++ drop (length new) before) ≡ new
 come_back len new old before e f g =
     let none : drop (length new) before ≡ [] = drop_past (length new) before (omega (arith, ap length f)) in
     ap (λ t. take len (new ++ t)) none ∙ ap (take len) (append-nil new) ∙ take_all len new (omega arith)
   where
-    drop_past : (k : ℕ) (xs : List Bool) → length xs ≤ k → drop k xs ≡ []
+    drop_past : {Y : Type 0} (k : ℕ) (xs : List Y) → length xs ≤ k → drop k xs ≡ []
     drop_past zero [] l = refl
     drop_past zero (x ∷ xs) l = absurd (omega arith)
     drop_past (suc k) [] l = refl

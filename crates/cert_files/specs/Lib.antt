@@ -2,3 +2,4 @@ pub mod From
 pub mod Trim
 pub mod Laws
 pub mod Pieces
+pub mod Rest

@@ -2,12 +2,15 @@
 #![tactic(auto)]
 
 mod fetching;
+mod file_lines;
 mod file_text;
 pub mod laws;
+mod stop;
 mod streaming;
 #[cfg(test)]
 mod tests;
 mod trimming;
+mod window;
 
 pub use fetching::{CertFrom, cert_from};
 pub use streaming::{Streamed, stream_cert};
