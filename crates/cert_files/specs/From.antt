@@ -1,9 +1,16 @@
 -- What reading a certificate from a file answers.
-use Rattle.std.specs.Prelude.{◌≡◌, ℕ, ◌<◌, ◌≤◌, List, length, Option, Some}
+use Rattle.std.specs.Prelude.{◌≡◌, ◌⊎◌, ℕ, suc, ◌<◌, ◌≤◌, List, length, Option, Some}
 use Rattle.line_rules.specs.Ranges.{IsInRange}
 use Rattle.cert_text.specs.Answers.{IsCertRead}
 use Rattle.cert_text.specs.declared.reader.CertRead.{CertRead}
 use Rattle.cert_text.specs.declared.reader.CertRead.TheVariants as reads
+use Rattle.line_rules.specs.declared.types.Certificate.{Certificate}
+use Rattle.cert_lines.specs.declared.fault.CertFault.{CertFault}
+use Rattle.cert_lines.specs.declared.fault.CertKind.TheVariants.{Trailing}
+use Rattle.cert_files.specs.declared.stop.Stop.{Stop}
+use Rattle.cert_files.specs.declared.stop.Stop.TheVariants as stops
+use Rattle.cert_files.specs.declared.stop.Rest.{Rest}
+use Rattle.cert_files.specs.declared.stop.Rest.TheVariants as rests
 use Rattle.cert_files.specs.declared.fetching.CertFrom.{CertFrom}
 use Rattle.cert_files.specs.declared.fetching.CertFrom.TheVariants.{Good, Fault, TooLong, ReadFault, NoMemory}
 
@@ -35,3 +42,24 @@ IsGoodInRange (Fault fault) = Unit {0}
 IsGoodInRange TooLong = Unit {0}
 IsGoodInRange ReadFault = Unit {0}
 IsGoodInRange NoMemory = Unit {0}
+
+-- the answer where the lines couldn't go on
+abbrev pub stopped_from : Stop → CertFrom
+stopped_from stops.Going = NoMemory
+stopped_from stops.Failed = ReadFault
+stopped_from stops.TooLong = TooLong
+stopped_from stops.Memory = NoMemory
+
+-- the answer where the text has a fault, by what stands behind it
+abbrev pub fault_from : Rest → CertFault → CertFrom
+fault_from rests.Nothing f = Fault f
+fault_from rests.More f = Fault f
+fault_from rests.TooLong f = TooLong
+fault_from rests.Failed f = ReadFault
+
+-- the answer where a certificate of so many lines was read, by what stands behind it
+abbrev pub IsGoodFrom : Rest → Certificate → ℕ → CertFrom → Type 0
+IsGoodFrom rests.Nothing cert lines answer = answer ≡ Good cert
+IsGoodFrom rests.More cert lines answer = (answer ≡ Fault (record { line = suc lines; kind = Trailing })) ⊎ (answer ≡ NoMemory)
+IsGoodFrom rests.TooLong cert lines answer = answer ≡ TooLong
+IsGoodFrom rests.Failed cert lines answer = answer ≡ ReadFault

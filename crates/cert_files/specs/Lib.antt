@@ -1,1 +1,5 @@
 pub mod From
+pub mod Trim
+pub mod Laws
+pub mod Pieces
+pub mod Rest

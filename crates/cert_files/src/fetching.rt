@@ -1,17 +1,24 @@
 //! The reading of a certificate from a file.
-ghost use Rattle.std.specs.Prelude.{◌≡◌, ◌≢◌, ◌≤◌, ℕ, List, Some};
-ghost use Rattle.cert_text.specs.Answers.{IsSaidBy};
+ghost use Rattle.std.specs.Prelude.{◌≡◌, ◌≢◌, ◌⊎◌, ◌≤◌, ℕ, suc, List, Some, IfOk, vec_len};
+ghost use Rattle.cert_text.specs.Cert.{cert_text};
+ghost use Rattle.cert_text.specs.OldCert.{old_text};
+ghost use Rattle.cert_lines.specs.OldRanges.{IsOldInRange};
 ghost use Rattle.cert_lines.specs.declared.fault.CertFault.{CertFault};
+ghost use Rattle.cert_lines.specs.declared.version_one.OldCertificate.{OldCertificate};
 ghost use Rattle.line_io.specs.Outside.{Rises};
 ghost use Rattle.line_rules.specs.Ranges.{IsInRange};
 ghost use Rattle.line_rules.specs.declared.types.Certificate.{Certificate};
-ghost use Rattle.cert_files.specs.From.{IsCertFrom, IsGoodInRange};
-ghost use Rattle.cert_files.specs.declared.fetching.CertFrom.TheVariants.{Fault, ReadFault};
+ghost use Rattle.cert_files.specs.From.{IsCertFrom, IsGoodInRange, IsGoodFrom, stopped_from, fault_from};
+ghost use Rattle.cert_files.specs.declared.fetching.CertFrom.TheVariants.{Fault, ReadFault, NoMemory};
 
-use cert_text::{CertFault, CertRead, read_cert};
-use line_io::{Shelf, Whole, read_whole};
+use crate::file_lines::{FileLines, read_on};
+use crate::file_text::PIECE;
+use crate::stop::{Rest, Stop};
+use crate::window::Window;
+use cert_text::{CertFault, CertKind, ReadError, read_all};
+use line_io::Shelf;
 use line_rules::Certificate;
-use std::alloc::Global;
+use std::alloc::{AllocError, Global};
 
 /// What reading a certificate from a file gave.
 #[derive(Drop)]
@@ -28,23 +35,106 @@ pub enum CertFrom {
     NoMemory,
 }
 
-/// Reads a certificate from a file of at most `limit` bytes. The files stay.
+/// Reads a certificate from a file of at most `limit` bytes, in pieces of 65,536 bytes and line by line. After a fault it reads on to the end: a
+/// longer file is TooLong whatever its text is. A line of more than 2^28 bytes is answered as want of memory. The files stay.
 pub fn cert_from<S: Shelf>(alloc: Global, shelf: &mut S, name: &str, limit: u64) -> CertFrom
     ensures count { S.faults shelf.old ≤ S.faults shelf.new }
     ensures fault { result ≡ ReadFault → Rises (S.faults shelf.old) (S.faults shelf.new) }
     ensures read { S.tells → IsCertFrom (S.file shelf.old name.now) limit result }
-    ensures none { S.tells → (fault : CertFault) → result ≡ Fault fault → (cert : Certificate) (bytes : List ℕ) → S.file shelf.old name.now ≡ Some bytes → IsSaidBy bytes cert → ⊥ }
+    ensures none { S.tells → (fault : CertFault) → result ≡ Fault fault → (cert : Certificate) → IsInRange cert → S.file shelf.old name.now ≢ Some (cert_text cert) }
+    ensures none_old { S.tells → (fault : CertFault) → result ≡ Fault fault → (old : OldCertificate) → IsOldInRange old → S.file shelf.old name.now ≢ Some (old_text old) }
     ensures range { IsGoodInRange result }
     ensures files { S.tells → (q : List ℕ) → S.file shelf.new q ≡ S.file shelf.old q }
 {
-    match read_whole(alloc, shelf, name, limit) {
-        Whole::ReadFault => CertFrom::ReadFault,
-        Whole::TooLong => CertFrom::TooLong,
-        Whole::NoMemory => CertFrom::NoMemory,
-        Whole::Bytes(bytes) => match read_cert(alloc, &bytes) {
-            CertRead::Good(cert) => CertFrom::Good(cert),
-            CertRead::Fault(fault) => CertFrom::Fault(fault),
-            CertRead::NoMemory => CertFrom::NoMemory,
+    let Ok(piece) = zeros(alloc, PIECE) else {
+        return CertFrom::NoMemory;
+    };
+    let mut lines = FileLines {
+        shelf,
+        name,
+        limit,
+        at: 0,
+        window: Window {
+            piece,
+            from: 0,
+            to: 0,
+        },
+        line: Vec::new(alloc),
+        number: 0,
+        stop: Stop::Going,
+    };
+    let answer = read_all(alloc, &mut lines);
+    let FileLines {
+        shelf,
+        name: _,
+        limit: _,
+        at,
+        window,
+        line: _line,
+        number,
+        stop,
+    } = lines;
+    match answer {
+        Ok(cert) => ended(read_on(shelf, name, limit, at, window), cert, number),
+        Err(error) => match error {
+            ReadError::Stopped => stopped(stop),
+            ReadError::Fault(fault) => faulty(read_on(shelf, name, limit, at, window), fault),
         },
     }
+}
+
+// A call of its own, so that no proof writes out the list of a piece.
+fn zeros(alloc: Global, n: usize) -> Result<Vec<u8>, AllocError>
+    ensures { IfOk result (λ v. vec_len v ≡ n) }
+{
+    vec![in alloc; 0u8; n]
+}
+
+// The answer where the lines couldn't go on.
+fn stopped(stop: Stop) -> CertFrom
+    ensures { result ≡ stopped_from stop }
+{
+    match stop {
+        Stop::Going => CertFrom::NoMemory,
+        Stop::Failed => CertFrom::ReadFault,
+        Stop::TooLong => CertFrom::TooLong,
+        Stop::Memory => CertFrom::NoMemory,
+    }
+}
+
+// The answer where the text has a fault.
+fn faulty(rest: Rest, fault: CertFault) -> CertFrom
+    ensures { result ≡ fault_from rest fault }
+{
+    match rest {
+        Rest::Nothing => CertFrom::Fault(fault),
+        Rest::More => CertFrom::Fault(fault),
+        Rest::TooLong => CertFrom::TooLong,
+        Rest::Failed => CertFrom::ReadFault,
+    }
+}
+
+// The answer where a certificate of so many lines was read.
+fn ended(rest: Rest, cert: Certificate, lines: u64) -> CertFrom
+    ensures { IsGoodFrom rest cert lines result }
+{
+    match rest {
+        Rest::Nothing => CertFrom::Good(cert),
+        Rest::More => trailing(lines),
+        Rest::TooLong => CertFrom::TooLong,
+        Rest::Failed => CertFrom::ReadFault,
+    }
+}
+
+// The answer where a byte stands behind a certificate of so many lines.
+fn trailing(lines: u64) -> CertFrom
+    ensures { (result ≡ Fault (record { line = suc lines; kind = CertKind.Trailing })) ⊎ (result ≡ NoMemory) }
+{
+    if lines == u64::MAX {
+        return CertFrom::NoMemory;
+    }
+    CertFrom::Fault(CertFault {
+        line: lines + 1,
+        kind: CertKind::Trailing,
+    })
 }

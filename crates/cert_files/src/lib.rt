@@ -1,10 +1,17 @@
-//! Certificates in files: written and read.
+//! Certificates in files, written and read, and their entries trimmed.
 #![tactic(auto)]
 
 mod fetching;
+mod file_lines;
+mod file_text;
+pub mod laws;
+mod stop;
 mod streaming;
 #[cfg(test)]
 mod tests;
+mod trimming;
+mod window;
 
 pub use fetching::{CertFrom, cert_from};
 pub use streaming::{Streamed, stream_cert};
+pub use trimming::trim;

@@ -1,13 +1,14 @@
 //! The writing of a certificate into a file.
-ghost use Rattle.std.specs.Prelude.{◌≡◌, ◌≢◌, ◌≤◌, ℕ, List, Some};
+ghost use Rattle.std.specs.Prelude.{◌≡◌, ◌≢◌, ◌≤◌, ℕ, List, [], Some, take, vec_capacity};
 ghost use Rattle.cert_text.specs.Cert.{cert_text};
 ghost use Rattle.line_io.specs.Outside.{Rises};
 ghost use Rattle.line_io.specs.Whole.{IsFrontWritten};
 ghost use Rattle.line_rules.specs.Ranges.{IsInRange};
 ghost use Rattle.cert_files.specs.declared.streaming.Streamed.TheVariants.{Done, WriteFault, NoMemory};
 
-use cert_text::write_cert;
-use line_io::{Shelf, Written, write_whole};
+use crate::file_text::{FileText, PIECE};
+use cert_text::put_cert;
+use line_io::{Shelf, Stored};
 use line_rules::Certificate;
 use std::alloc::Global;
 
@@ -22,7 +23,8 @@ pub enum Streamed {
     NoMemory,
 }
 
-/// Makes a file of the text of a certificate within its ranges, in version 2. The other files stay.
+/// Makes a file of the text of a certificate within its ranges, in version 2: takes its memory, makes the file empty, and then writes pieces of
+/// 65,536 bytes behind it, the last one shorter. The other files stay.
 pub fn stream_cert<S: Shelf>(
     alloc: Global,
     shelf: &mut S,
@@ -37,11 +39,45 @@ pub fn stream_cert<S: Shelf>(
     ensures others { S.tells → (q : List ℕ) → q ≢ name.now → S.file shelf.new q ≡ S.file shelf.old q }
     ensures nothing { result ≡ NoMemory → shelf.new ≡ shelf.old }
 {
-    match write_cert(alloc, cert) {
-        Err(_) => Streamed::NoMemory,
-        Ok(bytes) => match write_whole(shelf, name, &bytes) {
-            Written::Done => Streamed::Done,
-            Written::WriteFault => Streamed::WriteFault,
-        },
+    let Ok(buffer) = Vec::with_capacity(alloc, PIECE) else {
+        return Streamed::NoMemory;
+    };
+    match shelf.fresh(name) {
+        Stored::Failed => Streamed::WriteFault,
+        Stored::Done => fill(shelf, name, cert, buffer),
+    }
+}
+
+// Puts the text of a certificate into an empty file, by way of a buffer.
+fn fill<S: Shelf>(shelf: &mut S, name: &str, cert: &Certificate, buffer: Vec<u8>) -> Streamed
+    requires few { cert.now.tasks ≤ 1024 }
+    requires room { 65536 ≤ vec_capacity buffer }
+    requires none { buffer.items ≡ [] }
+    ensures count { S.faults shelf.old ≤ S.faults shelf.new }
+    ensures fault { result ≡ WriteFault → Rises (S.faults shelf.old) (S.faults shelf.new) }
+    ensures done { S.tells → S.file shelf.old name.now ≡ Some [] → result ≡ Done → S.file shelf.new name.now ≡ Some (cert_text cert.now) }
+    ensures front { S.tells → S.file shelf.old name.now ≡ Some [] → (k : ℕ) × (S.file shelf.new name.now ≡ Some (take k (cert_text cert.now))) }
+    ensures others { S.tells → (q : List ℕ) → q ≢ name.now → S.file shelf.new q ≡ S.file shelf.old q }
+    ensures memory { result ≢ NoMemory }
+{
+    let mut text = FileText {
+        shelf,
+        name,
+        buffer,
+        failed: false,
+    };
+    put_cert(&mut text, cert);
+    let FileText {
+        shelf,
+        name: _,
+        buffer,
+        failed,
+    } = text;
+    if failed {
+        return Streamed::WriteFault;
+    }
+    match shelf.append(name, &buffer) {
+        Stored::Failed => Streamed::WriteFault,
+        Stored::Done => Streamed::Done,
     }
 }

@@ -1,9 +1,17 @@
 //! What no clause says: that texts are written and read where there is memory and no call fails, and how many calls are made.
-use crate::{CertFrom, Streamed, cert_from, stream_cert};
-use cert_text::{CertFault, CertKind};
+ghost use Rattle.std.specs.Prelude.{◌<◌, ℕ, IsTrue};
+ghost use Rattle.std.specs.List.{Contains};
+ghost use Rattle.line_rules.specs.Entries.{HasAnswer};
+ghost use Rattle.cert_files.specs.Trim.{cited_by, CitesEarlier};
+
+use crate::trimming::answers;
+use crate::{CertFrom, Streamed, cert_from, stream_cert, trim};
+use cert_text::{CertFault, CertKind, ListRead, read_list, write_list};
 use line_io::{MemShelf, Shelf};
+use line_rules::{Entries, Why};
 use std::alloc::{AllocError, Global};
 use std::test::Fail;
+use task_set::TaskSet;
 
 const V5: &str =
     "line balance certificate 2\nline straight\ntasks 5\ncycle 7\nlower 3\nupper 3\nbalance 3\n1\n2\n1\n2\n3\nentries 1\nbranch f 7 f8 2 -\ntrail 0\nend\n";
@@ -46,7 +54,7 @@ fn told(alloc: Global, answer: CertFrom) -> Result<String, AllocError> {
 
 /// Writes the certificate of the file `f` into the file `g`.
 fn copied<S: Shelf>(alloc: Global, shelf: &mut S) -> Streamed {
-    match cert_from(alloc, shelf, "f", 1000) {
+    match cert_from(alloc, shelf, "f", 100000) {
         CertFrom::Good(cert) => stream_cert(alloc, shelf, "g", &cert),
         _ => Streamed::NoMemory,
     }
@@ -112,5 +120,129 @@ fn a_call_that_fails_leaves_a_front_of_the_text(rt: HostRuntime) -> Result<(), F
         let got = shelf.file("g").ok_or("missing")?.len();
         assert_eq!(rt; got, length, "call {call} fails and keeps {keep}");
     }
+    Ok(())
+}
+
+/// A certificate with 6,000 entries, a text of 78,118 bytes.
+fn long_text(alloc: Global) -> Result<String, AllocError> {
+    let mut text = String::new(alloc);
+    text.push_str(
+        "line balance certificate 2\nline straight\ntasks 5\ncycle 7\nlower 3\nupper 3\nbalance 3\n1\n2\n1\n2\n3\nentries 6000\n",
+    )?;
+    for _ in 0..6000 {
+        text.push_str("bound 7 f8 1\n")?;
+    }
+    text.push_str("trail 0\nend\n")?;
+    Ok(text)
+}
+
+#[test]
+fn a_long_text_is_written_in_pieces(rt: HostRuntime) -> Result<(), Fail> {
+    let text = long_text(rt.alloc())?;
+    // the call that fails behind the three of reading, the bytes that it keeps, the answer, and the bytes of the file
+    let rows = [
+        (4, 7, Streamed::WriteFault, 7),
+        (5, 0, Streamed::WriteFault, 65536),
+        (5, 9, Streamed::WriteFault, 65545),
+        (6, 0, Streamed::Done, 78118),
+    ];
+    for (call, keep, answer, length) in rows {
+        let mut shelf = shelf_of(rt.alloc(), text.as_bytes(), 99)?;
+        shelf.tear(call, keep)?;
+        let written = copied(rt.alloc(), &mut shelf);
+        assert_eq!(rt; written, answer, "call {call} fails and keeps {keep}");
+        let bytes = shelf.file("g").ok_or("missing")?;
+        assert_eq!(rt; bytes.len(), length, "call {call} fails and keeps {keep}");
+        assert!(rt; text.as_bytes().starts_with(bytes));
+    }
+    Ok(())
+}
+
+/// Whether some entry answers the question.
+fn is_answered(entries: &Entries, set: &TaskSet, most: u32, cycle: u64) -> bool
+    ensures { IsTrue result → HasAnswer entries.now set.now most cycle }
+{
+    for entry in entries.as_slice() {
+        if answers(entry, set, most, cycle) {
+            return true;
+        }
+    }
+    false
+}
+
+/// Whether all that is cited comes before `k`.
+fn are_before(why: &Why, k: u64) -> bool
+    ensures { IsTrue result → (cite : ℕ) → Contains (cited_by why.now) cite → cite < k }
+{
+    match why {
+        Why::Bound => true,
+        Why::Branch { mode: _, cites } => are_below(cites.as_slice(), k),
+        Why::Swap {
+            cite,
+            out_task: _,
+            in_task: _,
+        } => *cite < k,
+    }
+}
+
+/// Whether all these are below `k`.
+fn are_below(cites: &[u64], k: u64) -> bool
+    ensures { IsTrue result → (cite : ℕ) → Contains cites.now cite → cite < k }
+{
+    for cite in cites {
+        if *cite >= k {
+            return false;
+        }
+    }
+    true
+}
+
+/// Whether each entry cites entries before it alone.
+fn cite_earlier(entries: &Entries) -> bool
+    ensures { IsTrue result → CitesEarlier entries.now }
+{
+    for (k, entry) in entries.as_slice().iter().enumerate() {
+        if !are_before(&entry.why, k as u64) {
+            return false;
+        }
+    }
+    true
+}
+
+/// A list over 7 tasks, written again after it is trimmed to the question in 4 stations at cycle 7.
+fn trimmed(alloc: Global, text: &[u8]) -> Result<Vec<u8>, AllocError> {
+    if let ListRead::Good {
+        entries,
+        trail: _,
+        next: _,
+        line: _,
+    } = read_list(alloc, text, 0, 1, 7)
+    {
+        let all = TaskSet::full_to(7);
+        if is_answered(&entries, &all, 4, 7) && cite_earlier(&entries) {
+            let short = trim(alloc, entries, 7, 4, 7)?;
+            return write_list(alloc, &short, &None, 7);
+        }
+    }
+    Ok(Vec::new(alloc))
+}
+
+const SWAP: &str =
+    "entries 4\nbranch f 7 3e 2 -\nbranch f 7 be 3 0\nswap 7 7e 3 1 2 1\nbranch f 7 fe 4 1,2\ntrail 0\n";
+
+const LOOSE: &str =
+    "entries 7\nbound 7 80 0\nbranch f 7 3e 2 -\nbranch f 7 be 3 1\nbound 7 c0 0\nswap 7 7e 3 2 2 1\nbranch f 7 fe 4 2,4\nbranch f 7 fe 4 5\ntrail 0\n";
+
+#[test]
+fn a_list_without_spare_entries_stays(rt: HostRuntime) -> Result<(), Fail> {
+    let got = trimmed(rt.alloc(), SWAP.as_bytes())?;
+    assert!(rt; got.as_slice() == SWAP.as_bytes());
+    Ok(())
+}
+
+#[test]
+fn spare_entries_are_taken_out(rt: HostRuntime) -> Result<(), Fail> {
+    let got = trimmed(rt.alloc(), LOOSE.as_bytes())?;
+    assert!(rt; got.as_slice() == SWAP.as_bytes());
     Ok(())
 }

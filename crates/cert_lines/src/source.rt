@@ -1,5 +1,5 @@
 //! Where the lines of a text come from.
-ghost use Rattle.std.specs.Prelude.{◌≡◌, ◌+◌, ℕ, List, suc};
+ghost use Rattle.std.specs.Prelude.{◌≡◌, ◌+◌, ◌≤◌, ℕ, List, suc};
 ghost use Rattle.cert_lines.specs.Taking.{IsTaken, IsAtEnd};
 
 /// What became of the next line.
@@ -27,12 +27,27 @@ pub trait Source {
     /// How many lines were asked for.
     ghost number: { Self → ℕ };
 
+    /// What taking lines doesn't change.
+    ghost Base: { Type 0 };
+
+    /// What taking lines doesn't change.
+    ghost base: { Self → Base };
+
+    /// How often the outside has failed.
+    ghost faults: { Self → ℕ };
+
+    /// How often the outside has failed at least once a fetch fails: one more than now, or as often as now where one has failed.
+    ghost least: { Self → ℕ };
+
     /// Takes the next line.
     fn advance(&mut self) -> Taken
         ensures line { told → result ≡ Taken.Line → IsTaken (left self.old) (line self.new) (left self.new) }
         ensures end { told → result ≡ Taken.End → IsAtEnd (left self.old) }
         ensures count { result ≡ Taken.Line → number self.new ≡ suc (number self.old) }
-        ensures last { result ≡ Taken.End → number self.new ≡ suc (number self.old) };
+        ensures last { result ≡ Taken.End → number self.new ≡ suc (number self.old) }
+        ensures base { base self.new ≡ base self.old }
+        ensures faults { faults self.old ≤ faults self.new }
+        ensures least { least self.old ≤ least self.new };
 
     /// The line that was taken last.
     fn line(&self) -> &[u8]

@@ -1,8 +1,9 @@
 -- Texts that are put one behind the other.
-use Rattle.std.proofs.Common.{◌≡◌, ℕ, Bool, true, false, List, [], ◌++◌, take, length, refl, sym, ◌∙◌, ap, subst, arith, append_assoc, ◌<◌, ◌+◌, min, get_or}
+use Rattle.std.proofs.Common.{◌≡◌, ℕ, Bool, true, false, List, [], ◌++◌, take, length, refl, sym, ◌∙◌, ap, subst, arith, append_assoc, ◌<◌, ◌≤◌, ◌+◌, min, get_or}
 use Rattle.std.proofs.lemmas.List.{append-nil, take-append-le, take_all, take_more, flat_map_more}
 use Rattle.std.specs.List.{flat_map}
 use Rattle.std.proofs.lemmas.Bool.{false≢true}
+use Rattle.line_io.specs.Outside.{Rises}
 use Rattle.cert_lines.specs.Numbers.{number_text}
 use Rattle.cert_text.specs.Sent.{Sent, IsFront, Adds, Puts}
 
@@ -17,7 +18,7 @@ good_or_not : (b : Bool) → (b ≡ true → ⊥) → b ≡ false
 good_or_not true h = absurd (h refl)
 good_or_not false h = refl
 
-pub puts_both : (a b c : Sent) (s t : List ℕ) → Adds a s b → Adds b t c → Adds a (s ++ t) c
+pub puts_both : {B : Type 0} (a b c : Sent B) (s t : List ℕ) → Adds a s b → Adds b t c → Adds a (s ++ t) c
 puts_both a b c s t p q = record {
   before = λ g. p.before (q.before g);
   all = λ g. q.all g ∙ ap (λ x. x ++ t) (p.all (q.before g)) ∙ append_assoc a.shown s t;
@@ -34,7 +35,7 @@ puts_both a b c s t p q = record {
         let Q : List ℕ → Type 0 = λ w. IsFront b.kept w in
         subst P (sym (q.stays e)) (subst Q (append_assoc a.shown s t) (front_of_more b.kept (a.shown ++ s) t (p.front g e)))
 
-pub puts_none : (a : Sent) → Adds a [] a
+pub puts_none : {B : Type 0} (a : Sent B) → Adds a [] a
 puts_none a = record {
   before = λ g. g;
   all = λ g. sym (append-nil a.shown);
@@ -43,16 +44,33 @@ puts_none a = record {
 }
 
 -- nothing is put
-pub nothing : (told : Type 0) (a : Sent) (s : List ℕ) → s ≡ [] → Puts told a s a
-nothing told a s e t = let P : List ℕ → Type 0 = λ x. Adds a x a in subst P (sym e) (puts_none a)
-
--- a text is put behind one that was put
-pub puts : (told : Type 0) (a b c : Sent) (s t u : List ℕ) → Puts told a s b → Puts told b t c → u ≡ s ++ t → Puts told a u c
-puts told a b c s t u p q e k = let P : List ℕ → Type 0 = λ x. Adds a x c in subst P (sym e) (puts_both a b c s t (p k) (q k))
+pub nothing : {B : Type 0} (told : Type 0) (a : Sent B) (s : List ℕ) → s ≡ [] → Puts told a s a
+nothing told a s e = record {
+  base = refl;
+  count = omega arith;
+  fault = λ g f. absurd (false≢true (sym f ∙ g));
+  adds = λ t. let P : List ℕ → Type 0 = λ x. Adds a x a in subst P (sym e) (puts_none a);
+}
 
 -- the same text, written otherwise
-pub puts_as : (told : Type 0) (a b : Sent) (s t : List ℕ) → Puts told a s b → t ≡ s → Puts told a t b
-puts_as told a b s t p e k = let P : List ℕ → Type 0 = λ x. Adds a x b in subst P (sym e) (p k)
+pub puts_as : {B : Type 0} (told : Type 0) (a b : Sent B) (s t : List ℕ) → Puts told a s b → t ≡ s → Puts told a t b
+puts_as told a b s t p e = record { base = p.base; count = p.count; fault = p.fault; adds = λ k. let P : List ℕ → Type 0 = λ x. Adds a x b in subst P (sym e) (p.adds k) }
+
+-- a text is put behind one that was put
+pub behind : {B : Type 0} (told : Type 0) (a b c : Sent B) (s t : List ℕ) → Puts told a s b → Puts told b t c → Puts told a (s ++ t) c
+behind told a b c s t p q = record {
+  base = q.base ∙ p.base;
+  count = omega (arith, p.count, q.count);
+  fault = risen b.good refl;
+  adds = λ k. puts_both a b c s t (p.adds k) (q.adds k);
+}
+  where
+    risen : (x : Bool) → b.good ≡ x → a.good ≡ true → c.good ≡ false → Rises a.faults c.faults
+    risen true e g f = omega (arith, p.count, q.fault e f)
+    risen false e g f = omega (arith, p.fault g e, q.count)
+
+pub puts : {B : Type 0} (told : Type 0) (a b c : Sent B) (s t u : List ℕ) → Puts told a s b → Puts told b t c → u ≡ s ++ t → Puts told a u c
+puts told a b c s t u p q e = puts_as told a c (s ++ t) u (behind told a b c s t p q) e
 
 -- a text of a list's members, with one member more
 pub next_text : {X : Type 0} (f : X → List ℕ) (xs : List X) (k : ℕ) (d : X) (part : List ℕ) → k < length xs → f (get_or xs k d) ≡ part → flat_map f (take k xs) ++ part ≡ flat_map f (take (k + 1) xs)
@@ -61,9 +79,9 @@ next_text f xs k d part h p =
 
 -- a text behind a text
 infixr 5 ◌▹◌
-pub ◌▹◌ : {told : Type 0} {a b c : Sent} {s t : List ℕ} → Puts told a s b → Puts told b t c → Puts told a (s ++ t) c
-p ▹ q = λ k. puts_both _ _ _ _ _ (p k) (q k)
+pub ◌▹◌ : {B : Type 0} {told : Type 0} {a b c : Sent B} {s t : List ℕ} → Puts told a s b → Puts told b t c → Puts told a (s ++ t) c
+p ▹ q = behind _ _ _ _ _ _ p q
 
 -- a number that is another number
-pub number_as : {told : Type 0} {a b : Sent} {m : ℕ} (n : ℕ) → Puts told a (number_text m) b → m ≡ n → Puts told a (number_text n) b
+pub number_as : {B : Type 0} {told : Type 0} {a b : Sent B} {m : ℕ} (n : ℕ) → Puts told a (number_text m) b → m ≡ n → Puts told a (number_text n) b
 number_as n p e = puts_as _ _ _ _ _ p (ap number_text (sym e))

@@ -36,11 +36,14 @@ impl KeptText {
 }
 
 impl Output for KeptText {
-    ghost use Rattle.std.specs.Prelude.{not, []};
+    ghost use Rattle.std.specs.Prelude.{not, [], ◌-◌, ◌^◌};
 
     ghost told = { Unit {0} };
 
-    ghost sent = { λ s. record { good = not s.failed; shown = s.bytes.items; kept = [] } };
+    ghost Base = { Unit {0} };
+
+    // There is no outside; its count stands where it can't rise.
+    ghost sent = { λ s. record { good = not s.failed; shown = s.bytes.items; kept = []; faults = 2 ^ 64 - 1; base = tt } };
 
     #[inline]
     fn put(&mut self, byte: u8) {

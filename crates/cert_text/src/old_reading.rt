@@ -40,6 +40,9 @@ fn read_frames<S: Source>(
     requires room { room ≤ 1024 }
     ensures said { IfOk result (AreFrames tasks count room) }
     ensures read { S.told → IsRead (old_trails tasks count room) (S.number source.old) (S.left source.old) (S.left source.new) (S.number source.new) result }
+    ensures base { S.base source.new ≡ S.base source.old }
+    ensures faults { S.faults source.old ≤ S.faults source.new }
+    ensures least { S.least source.old ≤ S.least source.new }
 {
     let many = read_line(
         alloc,
@@ -66,6 +69,9 @@ fn read_part<S: Source>(
     requires room { room ≤ 1024 }
     ensures said { IfOk result (λ p. IsPart tasks p × (length p.frames ≤ room)) }
     ensures read { S.told → IsRead (one_part tasks room) (S.number source.old) (S.left source.old) (S.left source.new) (S.number source.new) result }
+    ensures base { S.base source.new ≡ S.base source.old }
+    ensures faults { S.faults source.old ≤ S.faults source.new }
+    ensures least { S.least source.old ≤ S.least source.new }
 {
     let cycle = read_line(
         alloc,
@@ -119,6 +125,9 @@ fn read_single<S: Source>(alloc: Global, source: &mut S, tasks: u32) -> Result<P
     requires few { tasks ≤ 1024 }
     ensures said { IfOk result (AreParts tasks) }
     ensures read { S.told → IsRead (so_many tasks 1) (S.number source.old) (S.left source.old) (S.left source.new) (S.number source.new) result }
+    ensures base { S.base source.new ≡ S.base source.old }
+    ensures faults { S.faults source.old ≤ S.faults source.new }
+    ensures least { S.least source.old ≤ S.least source.new }
 {
     let part = read_part(alloc, source, tasks, MAX_FRAMES)?;
     let mut parts = Vec::new(alloc);
@@ -132,6 +141,9 @@ fn read_pair<S: Source>(alloc: Global, source: &mut S, tasks: u32) -> Result<Par
     requires few { tasks ≤ 1024 }
     ensures said { IfOk result (AreParts tasks) }
     ensures read { S.told → IsRead (so_many tasks 2) (S.number source.old) (S.left source.old) (S.left source.new) (S.number source.new) result }
+    ensures base { S.base source.new ≡ S.base source.old }
+    ensures faults { S.faults source.old ≤ S.faults source.new }
+    ensures least { S.least source.old ≤ S.least source.new }
 {
     let first = read_part(alloc, source, tasks, MAX_FRAMES)?;
     let second = read_part(alloc, source, tasks, room_behind(&first))?;
@@ -153,6 +165,9 @@ fn read_so_many<S: Source>(
     requires two { count ≤ 2 }
     ensures said { IfOk result (AreParts tasks) }
     ensures read { S.told → IsRead (so_many tasks count) (S.number source.old) (S.left source.old) (S.left source.new) (S.number source.new) result }
+    ensures base { S.base source.new ≡ S.base source.old }
+    ensures faults { S.faults source.old ≤ S.faults source.new }
+    ensures least { S.least source.old ≤ S.least source.new }
 {
     if count == 0 {
         return Ok(Parts::from_vec(Vec::new(alloc)));
@@ -169,6 +184,9 @@ fn read_parts<S: Source>(alloc: Global, source: &mut S, tasks: u32) -> Result<Pa
     requires few { tasks ≤ 1024 }
     ensures said { IfOk result (AreParts tasks) }
     ensures read { S.told → IsRead (counted tasks) (S.number source.old) (S.left source.old) (S.left source.new) (S.number source.new) result }
+    ensures base { S.base source.new ≡ S.base source.old }
+    ensures faults { S.faults source.old ≤ S.faults source.new }
+    ensures least { S.least source.old ≤ S.least source.new }
 {
     let count = read_line(
         alloc,
@@ -195,6 +213,9 @@ fn read_old_bounds<S: Source>(
     requires lower { IsCycle lower }
     ensures said { IfOk result (IsOldOpened kind tasks (Opening.Lower lower)) }
     ensures read { S.told → IsRead (old_opened kind tasks (Opening.Lower lower)) (S.number source.old) (S.left source.old) (S.left source.new) (S.number source.new) result }
+    ensures base { S.base source.new ≡ S.base source.old }
+    ensures faults { S.faults source.old ≤ S.faults source.new }
+    ensures least { S.least source.old ≤ S.least source.new }
 {
     let placed = read_placed(alloc, source, kind, tasks)?;
     let parts = read_parts(alloc, source, tasks)?;
@@ -226,6 +247,9 @@ fn read_old_opened<S: Source>(
     requires opening { IsOpening head.ask head.tasks opening }
     ensures said { IfOk result (IsOldOpened head.kind head.tasks opening) }
     ensures read { S.told → IsRead (old_opened head.kind head.tasks opening) (S.number source.old) (S.left source.old) (S.left source.new) (S.number source.new) result }
+    ensures base { S.base source.new ≡ S.base source.old }
+    ensures faults { S.faults source.old ≤ S.faults source.new }
+    ensures least { S.least source.old ≤ S.least source.new }
 {
     match opening {
         Opening::TooLong { task } => match read_line(alloc, source, &EndLine) {
@@ -245,6 +269,9 @@ fn read_old_claim<S: Source>(
     requires { IsHeadOf head }
     ensures said { IfOk result (IsOldClaim head.kind head.tasks head.ask) }
     ensures read { S.told → IsRead (old_claims head) (S.number source.old) (S.left source.old) (S.left source.new) (S.number source.new) result }
+    ensures base { S.base source.new ≡ S.base source.old }
+    ensures faults { S.faults source.old ≤ S.faults source.new }
+    ensures least { S.least source.old ≤ S.least source.new }
 {
     let opening = read_line(
         alloc,
@@ -261,6 +288,9 @@ fn read_old_claim<S: Source>(
 pub fn read_old<S: Source>(alloc: Global, source: &mut S) -> Result<OldCertificate, ReadError>
     ensures said { IfOk result IsOldInRange }
     ensures read { S.told → IsRead old_bodies (S.number source.old) (S.left source.old) (S.left source.new) (S.number source.new) result }
+    ensures base { S.base source.new ≡ S.base source.old }
+    ensures faults { S.faults source.old ≤ S.faults source.new }
+    ensures least { S.least source.old ≤ S.least source.new }
 {
     let head = read_head(alloc, source)?;
     let claim = read_old_claim(alloc, source, head)?;

@@ -7,8 +7,11 @@ pub trait Output {
     /// That what is put is told.
     ghost told: { Type 0 };
 
-    /// Whether no put has failed, what was put, and what is kept of it.
-    ghost sent: { Self → Sent };
+    /// What no put changes.
+    ghost Base: { Type 0 };
+
+    /// Whether no put has failed, what was put, what is kept of it, and how often the outside has failed.
+    ghost sent: { Self → Sent Base };
 
     /// Puts a byte.
     fn put(&mut self, byte: u8)

@@ -1,5 +1,5 @@
 //! The reading of a certificate's text, line by line.
-ghost use Rattle.std.specs.Prelude.{ℕ, ◌≤◌, IfOk, length};
+ghost use Rattle.std.specs.Prelude.{ℕ, ◌≤◌, IfOk, length, ◌≡◌};
 ghost use Rattle.cert_lines.specs.Judging.{IsRead};
 ghost use Rattle.cert_text.specs.Parts.{IsHeadOf, IsPlacedOf, IsOpened, heads, trails, lists, placings, opened, claims, bodies};
 ghost use Rattle.cert_text.specs.Answers.{IsAnyRead};
@@ -55,6 +55,9 @@ pub struct Placed {
 pub fn read_head<S: Source>(alloc: Global, source: &mut S) -> Result<Head, ReadError>
     ensures said { IfOk result IsHeadOf }
     ensures read { S.told → IsRead heads (S.number source.old) (S.left source.old) (S.left source.new) (S.number source.new) result }
+    ensures base { S.base source.new ≡ S.base source.old }
+    ensures faults { S.faults source.old ≤ S.faults source.new }
+    ensures least { S.least source.old ≤ S.least source.new }
 {
     let kind = read_line(alloc, source, &KindLine)?;
     let tasks = read_line(
@@ -86,6 +89,9 @@ pub fn read_trail<S: Source>(
     requires entries { count ≤ 20000000 }
     ensures said { IfOk result (IsTrailOrNone tasks count) }
     ensures read { S.told → IsRead (trails tasks count) (S.number source.old) (S.left source.old) (S.left source.new) (S.number source.new) result }
+    ensures base { S.base source.new ≡ S.base source.old }
+    ensures faults { S.faults source.old ≤ S.faults source.new }
+    ensures least { S.least source.old ≤ S.least source.new }
 {
     let head = read_line(alloc, source, &TrailLine)?;
     let Some((frames, cycle)) = head else {
@@ -108,6 +114,9 @@ pub fn read_entries<S: Source>(
     requires few { tasks ≤ 1024 }
     ensures said { IfOk result (λ x. AreEntries tasks x.entries × IsTrailOrNone tasks (length x.entries) x.trail) }
     ensures read { S.told → IsRead (lists tasks) (S.number source.old) (S.left source.old) (S.left source.new) (S.number source.new) result }
+    ensures base { S.base source.new ≡ S.base source.old }
+    ensures faults { S.faults source.old ≤ S.faults source.new }
+    ensures least { S.least source.old ≤ S.least source.new }
 {
     let count = read_line(
         alloc,
@@ -146,6 +155,9 @@ pub fn read_placed<S: Source>(
     requires few { tasks ≤ 1024 }
     ensures said { IfOk result (IsPlacedOf kind tasks) }
     ensures read { S.told → IsRead (placings kind tasks) (S.number source.old) (S.left source.old) (S.left source.new) (S.number source.new) result }
+    ensures base { S.base source.new ≡ S.base source.old }
+    ensures faults { S.faults source.old ≤ S.faults source.new }
+    ensures least { S.least source.old ≤ S.least source.new }
 {
     let upper = read_line(
         alloc,
@@ -192,6 +204,9 @@ fn read_bounds<S: Source>(
     requires lower { IsCycle lower }
     ensures said { IfOk result (IsOpened kind tasks (Opening.Lower lower)) }
     ensures read { S.told → IsRead (opened kind tasks (Opening.Lower lower)) (S.number source.old) (S.left source.old) (S.left source.new) (S.number source.new) result }
+    ensures base { S.base source.new ≡ S.base source.old }
+    ensures faults { S.faults source.old ≤ S.faults source.new }
+    ensures least { S.least source.old ≤ S.least source.new }
 {
     let placed = read_placed(alloc, source, kind, tasks)?;
     let list = read_entries(alloc, source, tasks)?;
@@ -225,6 +240,9 @@ fn read_opened<S: Source>(
     requires opening { IsOpening head.ask head.tasks opening }
     ensures said { IfOk result (IsOpened head.kind head.tasks opening) }
     ensures read { S.told → IsRead (opened head.kind head.tasks opening) (S.number source.old) (S.left source.old) (S.left source.new) (S.number source.new) result }
+    ensures base { S.base source.new ≡ S.base source.old }
+    ensures faults { S.faults source.old ≤ S.faults source.new }
+    ensures least { S.least source.old ≤ S.least source.new }
 {
     match opening {
         Opening::TooLong { task } => match read_line(alloc, source, &EndLine) {
@@ -240,6 +258,9 @@ pub fn read_claim<S: Source>(alloc: Global, source: &mut S, head: Head) -> Resul
     requires { IsHeadOf head }
     ensures said { IfOk result (IsClaim head.kind head.tasks head.ask) }
     ensures read { S.told → IsRead (claims head) (S.number source.old) (S.left source.old) (S.left source.new) (S.number source.new) result }
+    ensures base { S.base source.new ≡ S.base source.old }
+    ensures faults { S.faults source.old ≤ S.faults source.new }
+    ensures least { S.least source.old ≤ S.least source.new }
 {
     let opening = read_line(
         alloc,
@@ -256,6 +277,9 @@ pub fn read_claim<S: Source>(alloc: Global, source: &mut S, head: Head) -> Resul
 fn read_new<S: Source>(alloc: Global, source: &mut S) -> Result<Certificate, ReadError>
     ensures said { IfOk result IsInRange }
     ensures read { S.told → IsRead bodies (S.number source.old) (S.left source.old) (S.left source.new) (S.number source.new) result }
+    ensures base { S.base source.new ≡ S.base source.old }
+    ensures faults { S.faults source.old ≤ S.faults source.new }
+    ensures least { S.least source.old ≤ S.least source.new }
 {
     let head = read_head(alloc, source)?;
     let claim = read_claim(alloc, source, head)?;
@@ -271,6 +295,9 @@ fn read_new<S: Source>(alloc: Global, source: &mut S) -> Result<Certificate, Rea
 pub fn read_all<S: Source>(alloc: Global, source: &mut S) -> Result<Certificate, ReadError>
     ensures said { IfOk result IsInRange }
     ensures read { S.told → IsAnyRead (S.number source.old) (S.left source.old) (S.left source.new) (S.number source.new) result }
+    ensures base { S.base source.new ≡ S.base source.old }
+    ensures faults { S.faults source.old ≤ S.faults source.new }
+    ensures least { S.least source.old ≤ S.least source.new }
 {
     let version = read_line(alloc, source, &VersionLine)?;
     match version {

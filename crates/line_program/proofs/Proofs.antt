@@ -1,12 +1,16 @@
 -- What is reported of the certificate of a file.
-use Rattle.std.proofs.Common.{◌≡◌, ℕ, List, Option, Some, None, ◌⊎◌, inl, inr, refl, sym, subst, string_bytes}
+use Rattle.std.proofs.Common.{◌≡◌, ◌≢◌, ◌∙◌, ap, ℕ, List, Option, Some, None, ◌⊎◌, inl, inr, refl, sym, subst, string_bytes}
 use Rattle.line_instance.specs.Line.{Line}
 use Rattle.line_rules.specs.declared.types.Certificate.{Certificate}
 use Rattle.line_check.specs.Certificates.{IsVerdict, IsAcceptedSo, IsRejectedSo, IsTrueOf}
 use Rattle.line_check.specs.declared.types.Verified.{Verified}
 use Rattle.line_check.specs.declared.types.Verified.TheVariants as verified
 use Rattle.line_program.specs.Verdict.{verdict_text, verdict_status}
-use Rattle.cert_text.specs.Answers.{IsSaidBy}
+use Rattle.line_rules.specs.Ranges.{IsInRange}
+use Rattle.cert_text.specs.Cert.{cert_text}
+use Rattle.cert_text.specs.OldCert.{old_text}
+use Rattle.cert_lines.specs.OldRanges.{IsOldInRange}
+use Rattle.cert_lines.specs.declared.version_one.OldCertificate.{OldCertificate}
 use Rattle.cert_lines.specs.declared.fault.CertFault.{CertFault}
 use Rattle.cert_files.specs.From.{IsCertFrom}
 use Rattle.cert_files.specs.declared.fetching.CertFrom.TheVariants.{Fault}
@@ -20,10 +24,15 @@ use Rattle.line_program.specs.declared.refusal.Refusal.TheVariants as refusal
 use Rattle.line_program.proofs.Sources.{reads}
 
 -- the file's bytes have a fault, and no certificate says them
-pub faulty_proof : (file : Option (List ℕ)) (limit : ℕ) (fault : CertFault) (text : List ℕ) → IsCertFrom file limit (Fault fault) → ((cert : Certificate) (bytes : List ℕ) → file ≡ Some bytes → IsSaidBy bytes cert → ⊥)
+pub faulty_proof : (file : Option (List ℕ)) (limit : ℕ) (fault : CertFault) (text : List ℕ) → IsCertFrom file limit (Fault fault)
+    → ((cert : Certificate) → IsInRange cert → file ≢ Some (cert_text cert)) → ((old : OldCertificate) → IsOldInRange old → file ≢ Some (old_text old))
     → text ≡ cert_fault_line fault → Reads file (λ bytes. IsFaultyProof bytes text)
-faulty_proof file limit fault text r none shown =
-    reads file r.bytes (λ bytes. IsFaultyProof bytes text) r.there (record { fault = fault; first = r.read; unread = λ cert s. none cert r.bytes r.there s; shown = shown })
+faulty_proof file limit fault text r none none_old shown =
+    reads file r.bytes (λ bytes. IsFaultyProof bytes text) r.there (record { fault = fault; first = r.read; unread = unread; shown = shown })
+  where
+    unread : (cert : Certificate) → IsTextOf cert r.bytes → ⊥
+    unread cert (inl s) = none cert s.0 (r.there ∙ ap Some s.1)
+    unread cert (inr s) = none_old s.0 s.1 (r.there ∙ ap Some s.2)
 
 module _ (files : List ℕ → Option (List ℕ)) (name proof : List ℕ) (apart : Option (List ℕ)) (steps : ℕ) where
   -- a refusal of the files with the instance is one of the check

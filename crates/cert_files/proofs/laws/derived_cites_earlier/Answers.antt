@@ -1,0 +1,5 @@
+use Rattle.cert_files.proofs.Trimmed.{derived_earlier}
+use Rattle.cert_files.proofs.laws.derived_cites_earlier.Goals as goal
+
+pub returns : goal.returns
+returns c = derived_earlier

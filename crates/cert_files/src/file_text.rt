@@ -1,0 +1,49 @@
+//! A text that is put into a file piece by piece.
+ghost use Rattle.std.specs.Prelude.{◌≤◌, vec_len, vec_capacity};
+
+use cert_text::Output;
+use line_io::{Shelf, Stored};
+
+/// How many bytes a piece has.
+pub(crate) const PIECE: usize = 65536;
+
+/// A text that is put into the file of a name: its bytes wait in a buffer until that is full. It remembers its first failure.
+#[derive(Drop)]
+pub(crate) struct FileText<'a, 'b, S: Shelf> {
+    pub(crate) shelf: &'a mut S,
+    pub(crate) name: &'b str,
+    pub(crate) buffer: Vec<u8>,
+    pub(crate) failed: bool,
+    ghost room: { 65536 ≤ vec_capacity buffer },
+    ghost full: { vec_len buffer ≤ 65536 },
+}
+
+impl<'a, 'b, S: Shelf> Output for FileText<'a, 'b, S> {
+    ghost use Rattle.cert_files.specs.Pieces.{Staying, sent_into};
+
+    ghost told = { S.tells };
+
+    ghost Base = { Staying S.tells };
+
+    ghost sent = { λ s. sent_into S.tells s.failed s.buffer.items s.shelf.ghost_name s.name.now (S.file s.shelf.now) (S.faults s.shelf.now) };
+
+    #[inline]
+    fn put(&mut self, byte: u8) {
+        if self.failed {
+            return;
+        }
+        if self.buffer.len() < PIECE {
+            self.buffer.push_reserved(byte);
+            return;
+        }
+        match self.shelf.append(self.name, &self.buffer) {
+            Stored::Failed => {
+                self.failed = true;
+                return;
+            }
+            Stored::Done => {}
+        }
+        self.buffer.clear();
+        self.buffer.push_reserved(byte);
+    }
+}
