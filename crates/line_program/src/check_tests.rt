@@ -14,7 +14,7 @@ const P7: &[u8] = b"7\n7\n7\n4\n4\n2\n2\n2\n-1,-1\n";
 
 const CHAIN: &[u8] = b"4\n1\n1\n1\n1\n1,2\n2,3\n3,4\n-1,-1\n";
 
-const T2: &[u8] = b"2\n1\n1\n-1,-1\n";
+const TWO_FREE: &[u8] = b"2\n1\n1\n-1,-1\n";
 
 /// A refutation in version 1: three stations, 15 units.
 const V1: &[u8] =
@@ -185,10 +185,10 @@ fn steps_that_end(rt: HostRuntime) -> Result<(), Fail> {
 #[test]
 fn tasks_apart_that_stand_together(rt: HostRuntime) -> Result<(), Fail> {
     let words = ["check", "t.in2", "t.cert", "apart=t.apart"];
-    let (status, text) = run_over(&rt, rt.alloc(), &words, T2, TOGETHER, &[])?;
+    let (status, text) = run_over(&rt, rt.alloc(), &words, TWO_FREE, TOGETHER, &[])?;
     assert_eq!(rt; text.as_str(), "refused: balance together 1 2\n");
     assert_eq!(rt; status, Status::Refused);
-    let (status, text) = run_over(&rt, rt.alloc(), CHECK, T2, TOGETHER, &[])?;
+    let (status, text) = run_over(&rt, rt.alloc(), CHECK, TWO_FREE, TOGETHER, &[])?;
     assert_eq!(rt;
         text.as_str(),
         "accepted straight cycle 2 lower 1 upper 1 units 0\n"
