@@ -27,6 +27,14 @@ impl Source for Repeated<'_> {
 
     ghost number = { λ s. s.number };
 
+    ghost Base = { Unit {0} };
+
+    ghost base = { λ _. tt };
+
+    ghost faults = { λ _. 0 };
+
+    ghost least = { λ _. 0 };
+
     fn advance(&mut self) -> Taken {
         if self.number == u64::MAX {
             return Taken::Stopped;
