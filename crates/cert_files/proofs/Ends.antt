@@ -1,5 +1,5 @@
 -- What was read of a file, by what its lines said and by what stands behind them.
-use Rattle.std.proofs.Common.{◌≡◌, ◌⊎◌, ℕ, suc, ◌<◌, ◌≤◌, List, [], ◌++◌, length, Option, Some, None, Result, Ok, Err, refl, sym, ap, ◌∙◌, subst, inl, inr, arith}
+use Rattle.std.proofs.Common.{◌≡◌, ℕ, suc, ◌<◌, List, [], ◌++◌, length, Option, Some, None, Result, Ok, Err, refl, sym, ap, ◌∙◌, subst, inl, inr, arith}
 use Rattle.line_rules.specs.Ranges.{IsInRange}
 use Rattle.line_rules.specs.declared.types.Certificate.{Certificate}
 use Rattle.cert_lines.specs.OldRanges.{IsOldInRange}
@@ -23,7 +23,7 @@ use Rattle.cert_files.specs.declared.stop.Stop.TheVariants as stops
 use Rattle.cert_files.specs.declared.stop.Rest.{Rest}
 use Rattle.cert_files.specs.declared.stop.Rest.TheVariants as rests
 use Rattle.cert_files.specs.declared.fetching.CertFrom.{CertFrom}
-use Rattle.cert_files.specs.declared.fetching.CertFrom.TheVariants.{Good, Fault, TooLong, ReadFault, NoMemory}
+use Rattle.cert_files.specs.declared.fetching.CertFrom.TheVariants.{Fault}
 
 longer : (file : Option (List ℕ)) (limit : ℕ) → limit < length (bytes_of file) → IsLonger file limit
 longer None limit l = absurd (omega arith)

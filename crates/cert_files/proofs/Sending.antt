@@ -1,5 +1,5 @@
 -- What putting a byte into a file, by way of a buffer, does.
-use Rattle.std.proofs.Common.{◌≡◌, ℕ, ◌+◌, ◌≤◌, Bool, true, false, not, cond, List, [], ◌∷◌, ◌++◌, length, take, Option, Some, None, refl, sym, ap, ◌∙◌, subst, inl, inr, arith, append_assoc, append-nil}
+use Rattle.std.proofs.Common.{◌≡◌, ℕ, ◌+◌, ◌≤◌, Bool, true, false, not, cond, List, [], ◌∷◌, ◌++◌, length, take, Option, Some, None, refl, sym, ap, ◌∙◌, subst, arith, append_assoc, append-nil}
 use Rattle.std.specs.Prelude.{bytes_eq}
 use Rattle.std.proofs.Math.Seq.{take-append-add}
 use Rattle.std.proofs.lemmas.Bool.{false≢true}
@@ -7,8 +7,8 @@ use Rattle.std.proofs.lemmas.List.{take_all}
 use Rattle.std.proofs.lemmas.Slice.Eq.{bytes_eq-Decides}
 use Rattle.line_io.specs.Outside.{Rises, Grows, GrowsWhole}
 use Rattle.cert_lines.proofs.EntryLines.{same_word}
-use Rattle.cert_text.specs.Sent.{Sent, IsFront, Adds, Puts}
-use Rattle.cert_text.proofs.Putting.{front_of_more, puts}
+use Rattle.cert_text.specs.Sent.{IsFront, Puts}
+use Rattle.cert_text.proofs.Putting.{front_of_more}
 use Rattle.cert_files.specs.Pieces.{bytes_of, emptied, beside, Staying, sent_into}
 
 module _ (tells : Type 0) (reference : ℕ) (name : List ℕ) where

@@ -1,9 +1,8 @@
 -- Pieces of a file and the lines in them.
 use Rattle.std.proofs.Common.{◌≡◌, ◌⊎◌, ℕ, zero, suc, ◌+◌, ◌-◌, ◌<◌, ◌≤◌, List, [], ◌∷◌, ◌++◌, length, get_or, take, drop, Option, Some, None, refl, sym, ap, ◌∙◌, subst, inl, inr, arith, append_assoc, append-nil}
-use Rattle.std.specs.Prelude.{slice_range, slice_index, slice_index_or}
-use Rattle.std.specs.List.{All}
+use Rattle.std.specs.Prelude.{slice_range, slice_index}
 use Rattle.std.proofs.lemmas.Bool.{cases_lt}
-use Rattle.std.proofs.lemmas.List.{take-append-drop, drop-drop, length-take, length-append, take_all}
+use Rattle.std.proofs.lemmas.List.{take-append-drop, drop-drop, length-take, length-append}
 use Rattle.std.proofs.Common.{length-drop}
 use Rattle.std.proofs.lemmas.List.Elements.{All-append}
 use Rattle.line_io.specs.Outside.{Fetches}
@@ -11,7 +10,7 @@ use Rattle.line_io.specs.declared.outside.Fetched.TheVariants.{Got}
 use Rattle.cert_lines.specs.Faults.{IsLine}
 use Rattle.cert_lines.specs.Taking.{IsTaken, IsAtEnd}
 use Rattle.cert_files.specs.Pieces.{bytes_of}
-use Rattle.cert_files.specs.Rest.{bytes_from, IsNext, IsEnd, IsWithin}
+use Rattle.cert_files.specs.Rest.{bytes_from, IsNext, IsEnd}
 
 front_of : (new : List ℕ) (n : ℕ) → slice_range new 0 n ≡ take n new
 front_of new n = let e : n - 0 ≡ n = omega arith in ap (λ k. take k new) e

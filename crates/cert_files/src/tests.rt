@@ -6,10 +6,11 @@ ghost use Rattle.cert_files.specs.Trim.{cited_by, CitesEarlier};
 
 use crate::trimming::answers;
 use crate::{CertFrom, Streamed, cert_from, stream_cert, trim};
-use cert_text::{CertFault, CertKind, ListRead, read_list, write_list};
-use line_io::{MemShelf, Shelf};
+use cert_text::{CertFault, CertKind, CertRead, ListRead, read_cert, read_list, write_list};
+use line_io::{Fetched, MemShelf, Shelf, Stored, Whole, read_whole};
 use line_rules::{Entries, Why};
 use std::alloc::{AllocError, Global};
+use std::process::Abort;
 use std::test::Fail;
 use task_set::TaskSet;
 
@@ -154,6 +155,128 @@ fn a_long_text_is_written_in_pieces(rt: HostRuntime) -> Result<(), Fail> {
         let bytes = shelf.file("g").ok_or("missing")?;
         assert_eq!(rt; bytes.len(), length, "call {call} fails and keeps {keep}");
         assert!(rt; text.as_bytes().starts_with(bytes));
+    }
+    Ok(())
+}
+
+/// A shelf that gives the bytes of its files one at a time.
+#[derive(Drop)]
+struct Drops<S: Shelf> {
+    shelf: S,
+}
+
+impl<S: Shelf> Shelf for Drops<S> {
+    ghost use Rattle.std.specs.Prelude.{None};
+
+    ghost tells = { ⊥ };
+
+    ghost file = { λ _ _. None };
+
+    ghost faults = { λ s. S.faults s.shelf };
+
+    fn fetch(&mut self, name: &str, at: u64, piece: &mut [u8]) -> Fetched {
+        let n = piece.len().min(1);
+        self.shelf.fetch(name, at, &mut piece[..n])
+    }
+
+    fn fresh(&mut self, name: &str) -> Stored {
+        self.shelf.fresh(name)
+    }
+
+    fn append(&mut self, name: &str, bytes: &[u8]) -> Stored {
+        self.shelf.append(name, bytes)
+    }
+}
+
+/// The answer by way of the whole text in memory.
+fn read_at_once<S: Shelf>(alloc: Global, shelf: &mut S, name: &str, limit: u64) -> CertFrom {
+    match read_whole(alloc, shelf, name, limit) {
+        Whole::ReadFault => CertFrom::ReadFault,
+        Whole::TooLong => CertFrom::TooLong,
+        Whole::NoMemory => CertFrom::NoMemory,
+        Whole::Bytes(bytes) => match read_cert(alloc, &bytes) {
+            CertRead::Good(cert) => CertFrom::Good(cert),
+            CertRead::Fault(fault) => CertFrom::Fault(fault),
+            CertRead::NoMemory => CertFrom::NoMemory,
+        },
+    }
+}
+
+/// What reading a text gives, line by line and at once; the two are compared.
+fn read_twice(rt: &impl Abort, alloc: Global, text: &[u8]) -> Result<String, Fail> {
+    let mut shelf = shelf_of(alloc, text, 9999)?;
+    let answer = cert_from(alloc, &mut shelf, "f", 1000);
+    let lines = told(alloc, answer)?;
+    let answer = read_at_once(alloc, &mut shelf, "f", 1000);
+    let whole = told(alloc, answer)?;
+    assert_eq!(rt; lines.as_str(), whole.as_str());
+    Ok(whole)
+}
+
+/// What reading a text gives, one byte a fetch.
+fn read_in_drops(alloc: Global, text: &[u8]) -> Result<String, Fail> {
+    let shelf = shelf_of(alloc, text, 9999)?;
+    let mut drops = Drops { shelf };
+    let answer = cert_from(alloc, &mut drops, "f", 1000);
+    Ok(told(alloc, answer)?)
+}
+
+const V1: &str =
+    "line balance certificate 1\nline straight\ntasks 5\ncycle 7\nlower 3\nupper 3\nbalance 3\n1\n2\n1\n2\n3\nparts 1\npart 7\nentries 1\nbranch f f8 2 -\ntrail 0\nend\n";
+
+const V6: &str =
+    "line balance certificate 2\nline straight\ntasks 5\ncycle 7\nlower 2\nupper 3\nbalance 3\n1\n2\n1\n2\n3\nentries 1\nbound 7 f8 1\ntrail 1 at 7\nopen f f8 2 90 -\nend\n";
+
+#[test]
+fn a_text_that_is_cut_short_has_ended(rt: HostRuntime) -> Result<(), Fail> {
+    for text in [V1, V5] {
+        let mut line = 1u64;
+        for (k, byte) in text.as_bytes().iter().enumerate() {
+            let front = &text.as_bytes()[..k];
+            let wanted = format!(in rt.alloc(); "line {line} ended")?;
+            let got = read_twice(&rt, rt.alloc(), front)?;
+            assert_eq!(rt; got.as_str(), wanted.as_str());
+            let got = read_in_drops(rt.alloc(), front)?;
+            assert_eq!(rt; got.as_str(), wanted.as_str());
+            if *byte == b'\n' && line < 99 {
+                line += 1;
+            }
+        }
+        let got = read_twice(&rt, rt.alloc(), text.as_bytes())?;
+        assert_eq!(rt; got.as_str(), "good");
+        let got = read_in_drops(rt.alloc(), text.as_bytes())?;
+        assert_eq!(rt; got.as_str(), "good");
+    }
+    Ok(())
+}
+
+#[test]
+fn texts_with_a_byte_changed_are_read_alike(rt: HostRuntime) -> Result<(), Fail> {
+    for text in [V5, V6] {
+        for k in 0..text.len() {
+            for byte in [b'0', b'1', b'9', b' ', b'\n'] {
+                let mut changed = text.as_bytes().to_vec(rt.alloc())?;
+                if k < changed.len() {
+                    changed[k] = byte;
+                }
+                let _ = read_twice(&rt, rt.alloc(), &changed)?;
+            }
+        }
+    }
+    Ok(())
+}
+
+#[test]
+fn after_a_fault_the_file_is_read_to_its_end(rt: HostRuntime) -> Result<(), Fail> {
+    let rows = [(0, "read fault"), (1, "read fault"), (2, "line 1 form")];
+    for (fails, wanted) in rows {
+        let mut shelf = shelf_of(rt.alloc(), b"no text\nend\n".as_slice(), fails)?;
+        let answer = cert_from(rt.alloc(), &mut shelf, "f", 1000);
+        assert_eq!(rt;
+            told(rt.alloc(), answer)?.as_str(),
+            wanted,
+            "call {fails} fails"
+        );
     }
     Ok(())
 }

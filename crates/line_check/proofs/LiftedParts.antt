@@ -73,8 +73,7 @@ units_parts line kind n [] u r o h = (0, 0, (refl, refl, h))
 units_parts line kind n (p ∷ []) u r o h =
     let own : UnitsWhole line p.entries (trail_at p.cycle p.frames) h.0 = h.2.0 in
     let P : List Entry → Type 0 = λ l. UnitsOf line l own.0 in
-    let Q : Option Trail → Type 0 = λ t. TrailUnits line t own.1 in
-    (
+    let Q : Option Trail → Type 0 = λ t. TrailUnits line t own.1 in (
       own.0,
       own.1,
       (
@@ -87,8 +86,7 @@ units_parts line kind n (p ∷ q ∷ ps) u r o h =
     let own : UnitsWhole line p.entries (trail_at p.cycle p.frames) h.0 = h.2.0 in
     let more : UnitsWhole line (lifted_entries (n + length p.entries) (q ∷ ps)) (lifted_trail (n + length p.entries) (q ∷ ps)) h.1 = units_parts line kind (n + length p.entries) (q ∷ ps) h.1 r.1 o.1 h.2.1 in
     let none : own.1 ≡ 0 = no_trail line p own.1 o.0 own.2.1 in
-    let Q : Option Trail → Type 0 = λ t. TrailUnits line t more.1 in
-    (
+    let Q : Option Trail → Type 0 = λ t. TrailUnits line t more.1 in (
       own.0 + more.0,
       more.1,
       (

@@ -10,11 +10,11 @@ ghost use Rattle.line_rules.specs.declared.types.LineKind.{LineKind as Kind};
 ghost use Rattle.line_check.specs.Faults.{IsFound, IsChecked};
 ghost use Rattle.line_check.specs.Swaps.{StandsFor, IsSwapped};
 
+use crate::types::{EntryChecked, EntryFault, Found, Walked};
+use crate::walks::{first_late, walk_all};
 use check_loads::bounds::{bound, exceeds};
 use check_loads::questions::{Question, room};
 use check_loads::sizes::times_in;
-use crate::types::{EntryChecked, EntryFault, Found, Walked};
-use crate::walks::{first_late, walk_all};
 use line_instance::Instance;
 use line_rules::{Cites, Entries, Entry, LineKind, Mode, Why};
 use task_set::TaskSet;

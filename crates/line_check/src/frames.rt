@@ -7,12 +7,12 @@ ghost use Rattle.line_check.specs.Frames.{IsLeftBy, IsAskedAt, EndsWell, IsReady
 ghost use Rattle.line_check.specs.Walks.{AreBelow, Tells};
 
 use crate::entries::{belongs, is_same};
-use check_loads::full::is_full_load;
 use crate::pairs::is_load;
-use check_loads::questions::{Question, rest, room};
-use check_loads::sizes::times_in;
 use crate::types::{FrameFault, FrameFound, FramesFound, Walked};
 use crate::walks::{ended, first_late, walk_to};
+use check_loads::full::is_full_load;
+use check_loads::questions::{Question, rest, room};
+use check_loads::sizes::times_in;
 use line_instance::Instance;
 use line_rules::{Entries, Frames, LineKind, OpenFrame, Trail};
 

@@ -9,12 +9,12 @@ ghost use Rattle.line_check.specs.Reaches.{TellsTo, HasEnded};
 ghost use Rattle.check_loads.specs.Posed.{IsPosed};
 ghost use Rattle.check_loads.specs.Standing.{IsWalk, stand};
 
-use check_loads::bounds::{TOO_LONG, exceeds};
 use crate::entries::is_same;
+use crate::types::Walked;
+use check_loads::bounds::{TOO_LONG, exceeds};
 use check_loads::loads::Walk;
 use check_loads::questions::{Question, rest};
 use check_loads::sizes::Times;
-use crate::types::Walked;
 use line_instance::Instance;
 use line_rules::{Cites, Entries, Load};
 use task_set::TaskSet;

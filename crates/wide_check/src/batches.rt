@@ -19,13 +19,7 @@ const BATCH: usize = 4096;
 const QUICK: u64 = 65_536;
 
 /// Checks the entry of number `k` after those before it.
-fn entry_found(
-    inst: &Instance,
-    kind: LineKind,
-    entries: &Entries,
-    k: usize,
-    steps: u64,
-) -> Found
+fn entry_found(inst: &Instance, kind: LineKind, entries: &Entries, k: usize, steps: u64) -> Found
     requires range { AreEntries (tasks inst.now) entries.now }
     requires k { k < length entries.now }
     ensures { IsFoundAt kind inst.now entries.now k steps result }

@@ -1,4 +1,4 @@
-use Rattle.std.proofs.Common.{rules, ◌≡◌, ◌∙◌, ℕ, List, Result, Ok, Err, refl}
+use Rattle.std.proofs.Common.{rules, ◌≡◌, ◌∙◌, Ok}
 use Rattle.cert_files.proofs.Ends.{same_files, stopped_read, fault_read, good_read, none_of, none_of_old}
 use Rattle.cert_files.proofs.fetching.cert_from.Goals as goal
 

@@ -1,7 +1,6 @@
-use Rattle.std.proofs.Common.{rules, ◌≡◌, ◌≢◌, ◌∙◌, ◌++◌, ℕ, false, List, Option, Some, [], take, refl, sym, subst}
+use Rattle.std.proofs.Common.{rules, ◌≡◌, ◌∙◌, ℕ, false, List, Some, take, subst}
 use Rattle.line_io.specs.Outside.{Grows, GrowsWhole}
 use Rattle.cert_text.specs.Cert.{cert_text}
-use Rattle.cert_files.specs.Pieces.{bytes_of}
 use Rattle.cert_files.proofs.Sending.{others_stay, front_kept, all_put, same_front, front_grown, whole_grown, whole_front}
 use Rattle.cert_files.proofs.streaming.fill.Goals as goal
 

@@ -1,4 +1,4 @@
-use Rattle.std.proofs.Common.{◌≡◌, ◌≤◌, List, ℕ, length, ap, sym, subst, arith}
+use Rattle.std.proofs.Common.{◌≤◌, List, ℕ, length, sym, subst, arith}
 use Rattle.std.specs.Prelude.{slice_range}
 use Rattle.cert_files.specs.Rest.{IsNext}
 use Rattle.cert_files.proofs.Marks.{come_back}

@@ -1,6 +1,5 @@
-use Rattle.std.proofs.Common.{rules, ◌≡◌, ◌+◌, ◌<◌, ◌++◌, ◌∷◌, List, ℕ, length, take, ap, sym, subst, arith}
-use Rattle.std.specs.Prelude.{slice_range, slice_index}
-use Rattle.std.proofs.lemmas.Grind.{common_steps}
+use Rattle.std.proofs.Common.{rules, ◌≡◌, ◌+◌, ◌<◌, ◌++◌, ◌∷◌, List, ℕ, length, take, subst, arith}
+use Rattle.std.specs.Prelude.{slice_range}
 use Rattle.cert_lines.specs.Faults.{IsLine}
 use Rattle.cert_files.proofs.Windows.{split_line, free_front}
 use Rattle.cert_files.proofs.window.Window.take_line.Goals as goal
