@@ -1,6 +1,5 @@
 -- The parts of a certificate of version 1 as one list of entries with one trail.
-use Rattle.std.proofs.Common.{◌≡◌, ℕ, zero, suc, ◌+◌, ◌-◌, ◌<◌, ◌≤◌, Bool, List, [], ◌∷◌, ◌++◌, length, map, refl, sym, ap, ◌∙◌, subst, ◌⊎◌, inl, inr, arith, Option, Some, None, append_assoc, length-append}
-use Rattle.std.specs.Prelude.{slice_get}
+use Rattle.std.proofs.Common.{◌≡◌, ℕ, ◌+◌, ◌-◌, ◌≤◌, Bool, List, [], ◌∷◌, ◌++◌, length, map, refl, sym, ap, ◌∙◌, subst, inl, inr, arith, Option, Some, None, append_assoc, length-append}
 use Rattle.std.proofs.lemmas.List.{append-nil, length-map}
 use Rattle.line_instance.specs.Line.{Line}
 use Rattle.line_rules.specs.Accepted.{HasTrail, IsProof, ClaimIsAccepted, ClaimIsInfeasible}
@@ -15,13 +14,12 @@ use Rattle.line_rules.specs.declared.types.Entry.{Entry}
 use Rattle.line_rules.specs.declared.types.OpenFrame.{OpenFrame}
 use Rattle.line_rules.specs.declared.types.Trail.{Trail}
 use Rattle.line_rules.proofs.Grown.{get_longer}
-use Rattle.cert_lines.specs.Lift.{lifted_entry, lifted_frame, lifted_entries, lifted_trail, lifted_claim, trail_at, trail_or, lift}
+use Rattle.cert_lines.specs.Lift.{lifted_entry, lifted_frame, lifted_entries, lifted_trail, lifted_claim, trail_at, trail_or}
 use Rattle.cert_lines.specs.declared.version_one.Part.{Part}
 use Rattle.cert_lines.specs.declared.version_one.OldClaim.{OldClaim}
 use Rattle.cert_lines.specs.declared.version_one.OldClaim.TheVariants as claim
-use Rattle.cert_lines.specs.declared.version_one.OldCertificate.{OldCertificate}
 use Rattle.line_check.specs.VersionOne.{IsPartRight, HasPartTrail, PassesAtCycle, ShowsLower, IsFurther, PassesForStations, AreLower, IsOneOrNone, PartUnits, ClaimPasses, TooLongPasses, EveryPassingLiftIsAccepted, EveryPassingTooLongIsAccepted}
-use Rattle.line_check.proofs.Lifting.{AreAt, behind, derived_up, answer_up, has_trail_up, units_same, frames_same, units_both}
+use Rattle.line_check.proofs.Lifting.{behind, derived_up, answer_up, has_trail_up, units_same, frames_same, units_both}
 
 -- the parts stand by themselves, and no part but the last has a trail
 abbrev pub AreRight : LineKind → Line → List Part → Type 0

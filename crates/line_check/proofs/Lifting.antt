@@ -1,17 +1,17 @@
 -- The entries and frames of a part, lifted behind earlier entries: what follows in the part follows there.
-use Rattle.std.proofs.Common.{◌≡◌, ℕ, zero, suc, ◌+◌, ◌-◌, ◌<◌, ◌≤◌, Bool, List, [], ◌∷◌, ◌++◌, length, map, take, refl, sym, ap, ◌∙◌, subst, ◌⊎◌, inl, inr, arith, Option, Some, None, append_assoc, length-append}
+use Rattle.std.proofs.Common.{◌≡◌, ℕ, zero, suc, ◌+◌, ◌-◌, ◌<◌, ◌≤◌, Bool, List, [], ◌∷◌, ◌++◌, length, map, take, refl, sym, ap, ◌∙◌, subst, inl, inr, arith, Some}
 use Rattle.std.specs.Prelude.{slice_get}
 use Rattle.std.proofs.lemmas.Bool.{cases_lt}
-use Rattle.std.proofs.lemmas.List.{append-nil, map-append, length-map, take-append-le}
+use Rattle.std.proofs.lemmas.List.{map-append, length-map, take-append-le}
 use Rattle.line_instance.specs.Line.{Line}
-use Rattle.line_rules.specs.Accepted.{MayBegin, HasTrail}
+use Rattle.line_rules.specs.Accepted.{HasTrail}
 use Rattle.line_rules.specs.Loads.{IsLoad, rest}
 use Rattle.line_rules.specs.Bounds.{bound}
 use Rattle.line_rules.specs.Balance.{all_tasks}
 use Rattle.line_rules.specs.Order.{Precedes, UpTo, Counts}
-use Rattle.line_rules.specs.Entries.{Answers, IsOpen, Cites, Covers, FollowsBy, Follows, IsDerived, HasAnswer}
-use Rattle.line_rules.specs.Trails.{IsPassed, IsDeepest, Leads, IsTrail}
-use Rattle.line_rules.specs.Units.{UnitsBy, UnitsOf, UnitsIn, TrailUnits, UnitsWhole}
+use Rattle.line_rules.specs.Entries.{IsOpen, Cites, Covers, FollowsBy, Follows, IsDerived, HasAnswer}
+use Rattle.line_rules.specs.Trails.{IsPassed, Leads, IsTrail}
+use Rattle.line_rules.specs.Units.{UnitsBy, UnitsOf, UnitsIn}
 use Rattle.line_rules.specs.declared.types.LineKind.{LineKind}
 use Rattle.line_rules.specs.declared.types.Load.{Load}
 use Rattle.line_rules.specs.declared.types.Ask.{Ask}
@@ -19,11 +19,7 @@ use Rattle.line_rules.specs.declared.types.Entry.{Entry}
 use Rattle.line_rules.specs.declared.types.Why.{Why}
 use Rattle.line_rules.specs.declared.types.Why.TheVariants as why
 use Rattle.line_rules.specs.declared.types.OpenFrame.{OpenFrame}
-use Rattle.line_rules.specs.declared.types.Trail.{Trail}
-use Rattle.line_rules.proofs.Grown.{get_longer}
-use Rattle.cert_lines.specs.Lift.{raised, lifted_why, lifted_entry, lifted_frame, lifted_entries, lifted_trail, trail_at, trail_or}
-use Rattle.cert_lines.specs.declared.version_one.Part.{Part}
-use Rattle.line_check.specs.VersionOne.{IsPartRight, PartUnits}
+use Rattle.cert_lines.specs.Lift.{raised, lifted_why, lifted_entry, lifted_frame, trail_at}
 
 -- places in lists
 get_map : {X Y : Type 0} (f : X → Y) (xs : List X) (k : ℕ) (x : X) → slice_get xs k ≡ Some x → slice_get (map f xs) k ≡ Some (f x)

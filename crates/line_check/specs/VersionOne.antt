@@ -1,6 +1,6 @@
 -- What made a certificate of version 1 acceptable, part by part: kept for the law that its lift is accepted then.
 use Rattle.std.specs.Prelude.{◌≡◌, ◌⊎◌, ℕ, ◌+◌, ◌-◌, ◌<◌, ◌≤◌, List, [], ◌∷◌, ◌++◌, slice_get, Some}
-use Rattle.line_instance.specs.Line.{Line, IsLine, tasks}
+use Rattle.line_instance.specs.Line.{Line, tasks}
 use Rattle.line_rules.specs.Accepted.{HasTrail, IsAccepted, IsInfeasible, IsLeastTooLong, upper_cycle, upper_stations}
 use Rattle.line_rules.specs.Balance.{IsRight, all_tasks}
 use Rattle.line_rules.specs.Entries.{IsDerived, HasAnswer}

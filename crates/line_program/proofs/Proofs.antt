@@ -1,5 +1,5 @@
 -- What is reported of the certificate of a file.
-use Rattle.std.proofs.Common.{◌≡◌, ◌≢◌, ◌∙◌, ap, ℕ, List, Option, Some, None, ◌⊎◌, inl, inr, refl, sym, subst, string_bytes}
+use Rattle.std.proofs.Common.{◌≡◌, ◌≢◌, ◌∙◌, ap, ℕ, List, Option, Some, inl, inr, refl, sym, subst, string_bytes}
 use Rattle.line_instance.specs.Line.{Line}
 use Rattle.line_rules.specs.declared.types.Certificate.{Certificate}
 use Rattle.line_check.specs.Certificates.{IsVerdict, IsAcceptedSo, IsRejectedSo, IsTrueOf}
@@ -15,7 +15,7 @@ use Rattle.cert_lines.specs.declared.fault.CertFault.{CertFault}
 use Rattle.cert_files.specs.From.{IsCertFrom}
 use Rattle.cert_files.specs.declared.fetching.CertFrom.TheVariants.{Fault}
 use Rattle.line_program.specs.Answers.{Reads}
-use Rattle.line_program.specs.Certified.{IsFaultyProof, cert_fault_line, IsLineOf, IsTextOf, IsUnread, IsCheckReport}
+use Rattle.line_program.specs.Certified.{IsFaultyProof, cert_fault_line, IsLineOf, IsTextOf, IsCheckReport}
 use Rattle.line_program.specs.Files.{IsNoLine, IsNoLineReport, IsNoProof, IsNoProofReport, IsUnchecked, IsVerdictStatus}
 use Rattle.line_program.specs.declared.status.Status.{Status}
 use Rattle.line_program.specs.declared.status.Status.TheVariants as ends

@@ -5,7 +5,7 @@ use Rattle.line_instance.specs.Walks.{IsGiven}
 use Rattle.line_instance.specs.declared.arcs.Prec.{Prec}
 use Rattle.in2_reader.specs.ApartFile.{IsApartFile}
 use Rattle.line_program.specs.Answers.{Reads, Says, Parts, IsTimed, IsSaid, IsPartedBy, IsRefusedPairs, IsTooMuch, IsFaulty, IsFaultyApart}
-use Rattle.line_program.specs.Certified.{SaysLine, IsLineOf, IsUnparted}
+use Rattle.line_program.specs.Certified.{SaysLine, IsLineOf}
 use Rattle.line_program.specs.Files.{IsFileReport, IsRefusal, IsUnsaid, IsUnsaidReport, IsUnpaired, IsUnpairedReport, IsNoLine, IsNoLineReport}
 use Rattle.line_program.specs.declared.status.Status.{Status}
 use Rattle.line_program.specs.declared.status.Status.TheVariants as ends

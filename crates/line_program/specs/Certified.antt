@@ -1,5 +1,5 @@
 -- What is reported of a certificate that is checked, or written anew.
-use Rattle.std.specs.Prelude.{◌≡◌, ◌⊎◌, ℕ, ◌<◌, List, ◌++◌, Option, Some, None, length, codes, decimal}
+use Rattle.std.specs.Prelude.{◌≡◌, ◌⊎◌, ℕ, ◌<◌, List, ◌++◌, Option, length, codes, decimal}
 use Rattle.line_instance.specs.Line.{Line, tasks}
 use Rattle.line_rules.specs.declared.types.Certificate.{Certificate}
 use Rattle.cert_text.specs.Answers.{IsCertFault, IsSaidBy}

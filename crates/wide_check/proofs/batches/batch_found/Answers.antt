@@ -1,5 +1,4 @@
-use Rattle.std.proofs.Common.{◌≡◌, ℕ, ◌<◌, ◌-◌, ◌∙◌, length, List, arith}
-use Rattle.std.specs.List.{range_with_len}
+use Rattle.std.proofs.Common.{◌<◌, ◌∙◌, length, arith}
 use Rattle.line_instance.specs.Line.{tasks}
 use Rattle.line_rules.specs.Ranges.{AreEntries}
 use Rattle.rayon.specs.Numbers.{nat_range}
