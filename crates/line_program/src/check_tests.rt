@@ -232,15 +232,13 @@ fn many_entries(rt: HostRuntime) -> Result<(), Fail> {
 /// The place behind so many lines.
 fn behind(text: &[u8], lines: usize) -> usize {
     let mut left = lines;
-    let mut at = 0;
-    for byte in text {
+    for (at, byte) in text.iter().enumerate() {
         if left == 0 {
-            break;
+            return at;
         }
-        left -= usize::from(*byte == b'\n');
-        at += 1;
+        left = left.saturating_sub(usize::from(*byte == b'\n'));
     }
-    at
+    text.len()
 }
 
 #[test]
