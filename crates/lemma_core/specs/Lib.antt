@@ -3,6 +3,7 @@ pub mod History
 pub mod Laws
 pub mod Rows
 pub mod Desks
+pub mod Own
 pub mod Books
 pub mod Inside
 pub mod Chains
