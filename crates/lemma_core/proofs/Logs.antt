@@ -15,6 +15,7 @@ use Rattle.lemma_core.specs.History.{Item, added, known, better, published_item,
 use Rattle.lemma_core.specs.Laws.{IsKept, AllMayCome}
 use Rattle.line_rules.specs.Balance.{IsRight}
 use Rattle.line_rules.specs.Entries.{Follows}
+use Rattle.lemma_core.specs.Own.{IsStatable}
 use Rattle.lemma_core.specs.Books.{BookView, IsBook, IsReserved, ran, DoesPublish}
 use Rattle.lemma_core.specs.declared.types.Published.{Published}
 use Rattle.lemma_core.specs.declared.types.Published.TheVariants as published
@@ -40,7 +41,7 @@ get-more [] ys k l = absurd (omega arith)
 get-more (x ∷ xs) ys zero l = refl
 get-more (x ∷ xs) ys (suc k) l = get-more xs ys k (omega arith)
 
-get-end : {X : Type 0} (xs : List X) (x : X) → slice_get (xs ++ x ∷ []) (length xs) ≡ Some x
+pub get-end : {X : Type 0} (xs : List X) (x : X) → slice_get (xs ++ x ∷ []) (length xs) ≡ Some x
 get-end [] x = refl
 get-end (y ∷ ys) x = get-end ys x
 
@@ -103,17 +104,18 @@ run_fewer s (v ∷ vs) = omega (arith, run_fewer (step s v) vs, step_fewer s v, 
 -- a book stays one by events that may come
 pub book_ran : (b : BookView) (vs : List Event) → IsBook b → AllMayCome b.about b.state vs → IsBook (ran b vs)
 book_ran b vs ok may =
-    let kept : IsKept b.about (run b.state vs) = run_keeps b.about b.state vs (record { derived = ok.derived; fresh = ok.fresh; right = ok.right }) may in
+    let kept : IsKept b.about (run b.state vs) = run_keeps b.about b.state vs (record { derived = ok.derived; fresh = ok.fresh; statable = ok.statable; right = ok.right }) may in
     record {
       derived = kept.derived;
       fresh = kept.fresh;
+      statable = kept.statable;
       right = kept.right;
       replays = replay-append b.opening b.events (history b.state vs) ∙ (ap (λ (z : Standing). replay z (history b.state vs)) ok.replays ∙ history_replayed b.state vs);
       fewer = omega (arith, ok.fewer, run_fewer b.state vs, offers-append b.events (history b.state vs));
     }
 
-pub book_published : (b : BookView) (e : Entry) → IsBook b → Follows b.about.kind b.about.line b.state.entries e → IsBook (ran b (event.Publish e ∷ []))
-book_published b e ok f = book_ran b (event.Publish e ∷ []) ok (f, tt)
+pub book_published : (b : BookView) (e : Entry) → IsBook b → Follows b.about.kind b.about.line b.state.entries e → IsStatable e → IsBook (ran b (event.Publish e ∷ []))
+book_published b e ok f r = book_ran b (event.Publish e ∷ []) ok ((f, r), tt)
 
 pub book_offered : (b : BookView) (a : Assignment) → IsBook b → IsRight b.about.kind b.about.line b.about.cycle a → IsBook (ran b (event.Offer a ∷ []))
 book_offered b a ok r = book_ran b (event.Offer a ∷ []) ok (r, tt)

@@ -16,6 +16,7 @@ use Rattle.lemma_core.specs.declared.types.Event.{Event}
 use Rattle.lemma_core.specs.declared.types.Event.TheVariants as event
 use Rattle.lemma_core.specs.Machine.{About, State, answers, later, last_from, last_answer, is_better, with_entry, step, run}
 use Rattle.lemma_core.specs.History.{Item, better, items, published_item, history, Standing, standing, after, replay}
+use Rattle.lemma_core.specs.Own.{IsStatable, AreStatable}
 use Rattle.lemma_core.specs.Laws.{MayCome, AllMayCome, IsKept}
 
 -- the test of an answer says whether it is one
@@ -133,21 +134,29 @@ fresh_push es e f u j k a b l g h t = elim (get_push_cases es e b k h) [
   ])
 ]
 
-publish_keeps : (about : About) (s : State) (e : Entry) (o : Option ℕ) → last_answer s.entries e.set e.most e.cycle ≡ o → IsKept about s → Follows about.kind about.line s.entries e → IsKept about (with_entry o s e)
-publish_keeps about s e (Some id) g h f = h
-publish_keeps about s e None g h f = record {
+statable_push : (es : List Entry) (e : Entry) → AreStatable es → IsStatable e → AreStatable (es ++ e ∷ [])
+statable_push es e s r k x g = elim (get_push_cases es e x k g) [
+  | inl p ↦ s k x p.1
+  | inr p ↦ (let P : Entry → Type 0 = λ z. IsStatable z in subst P p.1 r)
+]
+
+publish_keeps : (about : About) (s : State) (e : Entry) (o : Option ℕ) → last_answer s.entries e.set e.most e.cycle ≡ o → IsKept about s → Follows about.kind about.line s.entries e → IsStatable e
+    → IsKept about (with_entry o s e)
+publish_keeps about s e (Some id) g h f r = h
+publish_keeps about s e None g h f r = record {
   derived = derived_push about.kind about.line s.entries e h.derived f;
   fresh = fresh_push s.entries e h.fresh (last_absent s.entries e.set e.most e.cycle g);
+  statable = statable_push s.entries e h.statable r;
   right = h.right;
 }
 
 offer_keeps : (about : About) (s : State) (b : Assignment) (t : Bool) → IsKept about s → IsRight about.kind about.line about.cycle b → IsKept about (cond t (record { entries = s.entries; best = b }) s)
-offer_keeps about s b true h r = record { derived = h.derived; fresh = h.fresh; right = r }
+offer_keeps about s b true h r = record { derived = h.derived; fresh = h.fresh; statable = h.statable; right = r }
 offer_keeps about s b false h r = h
 
 step_keeps : (about : About) (s : State) (v : Event) → IsKept about s → MayCome about s v → IsKept about (step s v)
 step_keeps about s (event.Look set most) h m = h
-step_keeps about s (event.Publish e) h m = publish_keeps about s e (last_answer s.entries e.set e.most e.cycle) refl h m
+step_keeps about s (event.Publish e) h m = publish_keeps about s e (last_answer s.entries e.set e.most e.cycle) refl h m.0 m.1
 step_keeps about s (event.Offer b) h m = offer_keeps about s b (is_better s b) h m
 
 pub run_keeps : (about : About) (s : State) (vs : List Event) → IsKept about s → AllMayCome about s vs → IsKept about (run s vs)

@@ -15,6 +15,7 @@ use Rattle.lemma_core.specs.declared.types.Reply.TheVariants as reply
 use Rattle.lemma_core.specs.Machine.{About, State, answer, answers_of, run}
 use Rattle.lemma_core.specs.History.{Item, Standing, history, standing, replay, offers}
 use Rattle.lemma_core.specs.Desks.{DeskView}
+use Rattle.lemma_core.specs.Own.{AreStatable}
 
 -- What a book is about; the state that it opened with; its state; the events since then; and for how many offers its log has room.
 pub record BookView : Type 0 where
@@ -24,11 +25,12 @@ pub record BookView : Type 0 where
   pub events : List Item
   pub room : ℕ
 
--- What is true of every book: its entries are derived and fresh, its best balance is right at its cycle, its events replay from the opening
+-- What is true of every book: its entries are derived, fresh and such as a certificate can say, its best balance is right at its cycle, its events replay from the opening
 -- state to the entries and the best's stations, and the best has at most as many stations as there are tasks, with each better offer fewer.
 pub record IsBook (b : BookView) : Type 0 where
   pub derived : IsDerived b.about.kind b.about.line b.state.entries
   pub fresh : IsFresh b.state.entries
+  pub statable : AreStatable b.state.entries
   pub right : IsRight b.about.kind b.about.line b.about.cycle b.state.best
   pub replays : replay b.opening b.events ≡ standing b.state
   pub fewer : b.state.best.stations + offers b.events ≤ tasks b.about.line

@@ -1,5 +1,5 @@
 -- What a call did on a desk: the desk's own events since the call began, and the entries that they name.
-use Rattle.std.specs.Prelude.{◌≡◌, ℕ, ◌≤◌, List, [], ◌∷◌, ◌++◌, length, slice_get, Option, Some, None}
+use Rattle.std.specs.Prelude.{◌≡◌, ℕ, ◌≤◌, true, List, [], ◌∷◌, ◌++◌, length, slice_get, Option, Some, None}
 use Rattle.line_rules.specs.declared.types.Entry.{Entry}
 use Rattle.line_rules.specs.Ranges.{IsCycle}
 use Rattle.lemma_core.specs.History.{Item, added, known, better}
@@ -9,6 +9,10 @@ use Rattle.lemma_core.specs.Desks.{DeskView}
 pub record IsStatable (e : Entry) : Type 0 where
   pub most : e.most ≤ 1024
   pub cycle : IsCycle e.cycle
+
+-- every entry is one that a certificate can say
+abbrev pub AreStatable : List Entry → Type 0
+AreStatable es = (k : ℕ) (e : Entry) → slice_get es k ≡ Some e → IsStatable e
 
 -- the item is of a Publish: an entry was added, or it was known
 abbrev pub IsPublish : Item → Type 0
@@ -47,3 +51,7 @@ pub record Did (old new : DeskView) (items : List Item) : Type 0 where
   pub own : new.own ≡ old.own ++ places
   pub behind : (k p : ℕ) → slice_get places k ≡ Some p → length old.seen ≤ p
   pub there : AreAt new.seen places items
+
+-- where the desk was alone, it has seen these items since, and nothing else
+abbrev pub SawOnly : DeskView → DeskView → List Item → Type 0
+SawOnly old new items = old.alone ≡ true → new.seen ≡ old.seen ++ items

@@ -5,6 +5,7 @@ ghost use Rattle.lemma_core.specs.Machine.{last_answer, answers, found, answer};
 ghost use Rattle.lemma_core.specs.History.{item_of, standing, replay};
 ghost use Rattle.lemma_core.specs.declared.types.Event.TheVariants as event;
 ghost use Rattle.lemma_core.specs.declared.types.Reply.TheVariants as reply;
+ghost use Rattle.lemma_core.specs.Own.{IsStatable, AreStatable};
 ghost use Rattle.lemma_core.specs.Books.{BookView, IsBook, IsReserved, MayBeBest, opened, reopened, ran, with_room, DoesPublish};
 
 use crate::index::{Index, key};
@@ -113,11 +114,12 @@ impl Book {
         self.entries.at(id as usize)
     }
 
-    /// The entries: each follows from those before it, and none is answered by an earlier one.
+    /// The entries: each follows from those before it, none is answered by an earlier one, and a certificate can say each.
     pub fn entries(&self) -> &Entries
         ensures entries { result.now ≡ self.now.state.entries }
         ensures derived { IsDerived self.now.about.kind self.now.about.line result.now }
         ensures fresh { IsFresh result.now }
+        ensures statable { AreStatable result.now }
     {
         &self.entries
     }
@@ -184,10 +186,12 @@ impl Book {
         looked(&self.entries, scan(&self.entries, set, most, self.cycle))
     }
 
-    /// Publishes an entry that follows from those of the book. Where one answers it, the last such is named; else it is added.
+    /// Publishes an entry that follows from those of the book and that a certificate can say: at most 1,024 stations, at a cycle of 1
+    /// to 10^18. Where one answers it, the last such is named; else it is added.
     /// For want of memory the book stays as it was, and the entry is given up.
     pub fn publish(&mut self, step: Entry) -> Published
-        requires { Follows self.old.about.kind self.old.about.line self.old.state.entries step }
+        requires follows { Follows self.old.about.kind self.old.about.line self.old.state.entries step }
+        requires range { IsStatable step }
         ensures does { DoesPublish self.old step result self.new }
         ensures reserved { IsReserved self.old → IsReserved self.new }
     {
@@ -203,6 +207,7 @@ impl Book {
     // Notes in the log that the entry was known: `id` is the last one that answers it.
     fn know(&mut self, id: u64, step: Entry) -> Published
         requires follows { Follows self.old.about.kind self.old.about.line self.old.state.entries step }
+        requires range { IsStatable step }
         requires known { last_answer self.old.state.entries step.set step.most step.cycle ≡ Some id }
         ensures { DoesPublish self.old step result self.new }
     {
@@ -218,6 +223,7 @@ impl Book {
     // Adds an entry that none answers, and notes that in the log.
     fn add(&mut self, step: Entry) -> Published
         requires follows { Follows self.old.about.kind self.old.about.line self.old.state.entries step }
+        requires range { IsStatable step }
         requires unanswered { last_answer self.old.state.entries step.set step.most step.cycle ≡ None }
         ensures { DoesPublish self.old step result self.new }
     {
@@ -284,10 +290,14 @@ impl Book {
         self
     }
 
-    /// The entries and the best balance.
+    /// The entries and the best balance, with what the book kept of them.
     pub fn into_parts(self) -> (Entries, Balance)
         ensures entries { result.0 ≡ self.state.entries }
         ensures best { result.1 ≡ self.state.best }
+        ensures derived { IsDerived self.about.kind self.about.line result.0 }
+        ensures fresh { IsFresh result.0 }
+        ensures statable { AreStatable result.0 }
+        ensures right { MayBeBest self.about result.1 }
     {
         (self.entries, self.best)
     }

@@ -1,6 +1,7 @@
 ghost use Rattle.std.specs.Prelude.{◌≡◌, true};
 ghost use Rattle.line_rules.specs.Balance.{IsRight};
 ghost use Rattle.lemma_core.specs.Desks.{DeskView, entries, HasDerived, FollowsSeen, Waits, Finds, Publishes, Offers, Tells};
+ghost use Rattle.lemma_core.specs.Own.{IsStatable};
 
 use crate::book::Book;
 use crate::types::{Looked, Offered, Published};
@@ -20,9 +21,10 @@ pub trait Desk {
         ensures finds { Finds (entries (desk self.new)) set.now most (desk self.new).about.cycle result }
         ensures derived { HasDerived (desk self.new) };
 
-    /// Publishes an entry that follows from those seen: it is added where none answers it.
+    /// Publishes an entry that follows from those seen and that a certificate can say: it is added where none answers it.
     fn publish(&mut self, step: Entry) -> Published
-        requires { FollowsSeen (desk self.old) step }
+        requires follows { FollowsSeen (desk self.old) step }
+        requires range { IsStatable step }
         ensures publishes { Publishes (desk self.old) (desk self.new) step result }
         ensures derived { HasDerived (desk self.new) };
 

@@ -1,6 +1,6 @@
 //! What is true of all runs of a book, for the crates above to cite.
 ghost use Rattle.line_rules.specs.Laws.{EveryEntryHolds};
-ghost use Rattle.lemma_core.specs.Laws.{LastAnswerIsLast, HistoryReplays, RunsKeep, HistoryGoesOn, DesksGoOn};
+ghost use Rattle.lemma_core.specs.Laws.{LastAnswerIsLast, HistoryReplays, RunsKeep, HistoryGoesOn, DesksGoOn, OwnEventsGoOn, AloneSeesItsOwn, EntriesGoOn};
 ghost use Rattle.lemma_core.specs.Rows.{EventsOfTheRows};
 
 /// In a derived list every entry holds: its set has no balance in its number of stations at its cycle.
@@ -33,6 +33,21 @@ pub fn history_goes_on()
 /// What the calls of a desk keep is kept by all of them together, and what follows from what was seen follows still.
 pub fn desks_go_on()
     ensures { DesksGoOn }
+{}
+
+/// What a desk did goes on by what each call adds, also over two stretches.
+pub fn own_events_go_on()
+    ensures { OwnEventsGoOn }
+{}
+
+/// Where a desk is alone, it sees what it does itself and nothing else.
+pub fn alone_sees_its_own()
+    ensures { AloneSeesItsOwn }
+{}
+
+/// The entries seen go on with those that were added, and an item goes on naming the same entry.
+pub fn entries_go_on()
+    ensures { EntriesGoOn }
 {}
 
 /// Five events on an empty book, as worked by hand.

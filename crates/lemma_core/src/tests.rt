@@ -4,6 +4,7 @@ ghost use Rattle.std.specs.Prelude.{◌≡◌, ◌≤◌, List, IfOk, IfSome};
 ghost use Rattle.line_instance.specs.Line.{IsTaskSet};
 ghost use Rattle.line_rules.specs.Entries.{Follows};
 ghost use Rattle.line_rules.specs.declared.types.Entry.{Entry as Lemma};
+ghost use Rattle.lemma_core.specs.Own.{IsStatable};
 ghost use Rattle.lemma_core.specs.Laws.{AllMayCome};
 ghost use Rattle.lemma_core.specs.Books.{IsReserved, MayBeBest};
 
@@ -29,6 +30,7 @@ fn five(alloc: Global) -> Result<Instance, Fail> {
 // That the set has no balance in so many stations, where its times are more than they hold.
 fn entry_of(inst: &Instance, set: TaskSet, most: u32, cycle: u64) -> Option<Entry>
     ensures follows { IfSome result (λ e. (kind : _) (es : List Lemma) → Follows kind inst.now es e) }
+    ensures range { IfSome result IsStatable }
 {
     let all = inst.all();
     let truths = set.capacity();

@@ -40,4 +40,7 @@ returns c =
     let few : c.args.most ≤ 1024 = omega (arith, c.capacity-truths.ensures.value, c.if-most-truths.false) in
     let cycle : 1 ≤ c.args.cycle = omega (arith, c.if-cycle-eq0.false) in
     let set : IsTaskSet c.args.inst.now c.args.set = search rules in
-    record { follows = λ kind es. record { set = set; cycle = cycle; by = big kind c.args.inst.now c.args.cycle c.args.set c.args.most cycle few some long } }
+    record {
+      follows = λ kind es. record { set = set; cycle = cycle; by = big kind c.args.inst.now c.args.cycle c.args.set c.args.most cycle few some long };
+      range = record { most = few; cycle = record { some = cycle; limit = omega arith } };
+    }

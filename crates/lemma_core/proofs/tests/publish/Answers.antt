@@ -3,8 +3,8 @@ use Rattle.line_instance.specs.Line.{Line}
 use Rattle.line_rules.specs.Entries.{Follows}
 use Rattle.lemma_core.proofs.tests.publish.Goals as goal
 
-pub publish-requires : goal.publish-requires
-publish-requires c =
+pub publish-requires-clause-follows : goal.publish-requires-clause-follows
+publish-requires-clause-follows c =
     let es = c.args.book.now.state.entries in
     let kind = c.args.book.now.about.kind in
     let Q : Line → Type 0 = λ l. Follows kind l es c.in-Some.step in

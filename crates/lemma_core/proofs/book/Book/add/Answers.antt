@@ -22,7 +22,7 @@ invariant_of-self-2 c =
     let f : Follows s.kind s.instance s.entries step = (let P : BookView → Type 0 = λ z. Follows z.about.kind z.about.line z.state.entries step in subst P (sym c.self.view_is) c.requires.follows) in
     let g : last_answer s.entries step.set step.most step.cycle ≡ None = (let P : BookView → Type 0 = λ z. last_answer z.state.entries step.set step.most step.cycle ≡ None in subst P (sym c.self.view_is) c.requires.unanswered) in
     let k : IsBook (book_of s.instance s.kind s.cycle (s.entries ++ step ∷ []) (s.log.items ++ log.Added (length s.entries) ∷ []) s.best s.start s.opening s.room) =
-    (let Q : BookView → Type 0 = λ z. IsBook z in subst Q (sym (added_is s.instance s.kind s.cycle s.entries s.log.items s.best s.start s.opening s.room step g c.self.invariant.1)) (book_published b step c.self.invariant.0 f)) in
+    (let Q : BookView → Type 0 = λ z. IsBook z in subst Q (sym (added_is s.instance s.kind s.cycle s.entries s.log.items s.best s.start s.opening s.room step g c.self.invariant.1)) (book_published b step c.self.invariant.0 f c.requires.range)) in
     let P : List Entry → List LogItem → Type 0 = λ es ls. IsBook (book_of s.instance s.kind s.cycle es ls s.best s.start s.opening s.room) × IsLogged es ls s.start in
     let ls : c.push_reserved.new.self.items ≡ s.log.items ++ log.Added (length s.entries) ∷ [] =
     c.push_reserved.ensures.items ∙ (λ i. c.reserve.ensures.items i ++ log.Added (c.len-id.ensures i) ∷ []) in
