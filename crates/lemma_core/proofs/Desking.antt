@@ -1,7 +1,9 @@
 -- What the calls of a book do, seen as those of a desk that is alone.
 use Rattle.std.proofs.Common.{◌≡◌, ℕ, zero, suc, ◌+◌, ◌<◌, ◌≤◌, Bool, true, false, cond, List, [], ◌∷◌, ◌++◌, length, refl, sym, ap, ◌∙◌, subst, arith, Some, None, Option, length-append}
 use Rattle.std.specs.List.{range_with_len}
+use Rattle.std.specs.Prelude.{slice_get}
 use Rattle.std.proofs.lemmas.Bool.Decides.{nat_tests}
+use Rattle.std.proofs.lemmas.Option.{same_Some}
 use Rattle.line_rules.specs.Accepted.{HasBalance}
 use Rattle.line_rules.specs.Balance.{seat}
 use Rattle.line_rules.specs.Entries.{IsDerived, IsLastAnswer, IsUnanswered}
@@ -19,7 +21,7 @@ use Rattle.lemma_core.specs.Machine.{State, last_answer, found, answer, is_bette
 use Rattle.lemma_core.specs.Machine as machine
 use Rattle.lemma_core.specs.History.{Item, added, known, better, published_item, Standing}
 use Rattle.lemma_core.specs.Books.{BookView, IsBook, IsReserved, ran, DoesPublish, desk_of}
-use Rattle.lemma_core.specs.Desks.{entries, fewest_after, HasDerived, Waits, Adds, Finds, Publishes, Offers, Tells}
+use Rattle.lemma_core.specs.Desks.{entries, fewest_after, HasDerived, HasOwn, Waits, Adds, Finds, Publishes, Offers, Tells}
 use Rattle.lemma_core.proofs.Runs.{last_found, last_absent}
 use Rattle.lemma_core.proofs.Logs.{nothing_more, worse_is, reserved_ran}
 
@@ -53,6 +55,21 @@ own_push xs x =
     let e : length (xs ++ x ∷ []) ≡ suc (length xs) = omega (arith, length-append xs (x ∷ [])) in
     let z : 0 + length xs ≡ length xs = omega arith in
     ap (λ (n : ℕ). range_with_len 0 n) e ∙ (range_push 0 (length xs) ∙ ap (λ (n : ℕ). range_with_len 0 (length xs) ++ n ∷ []) z)
+
+-- a book's own places are all of them
+range_at : (a n k x : ℕ) → slice_get (range_with_len a n) k ≡ Some x → (x ≡ a + k) × (k < n)
+range_at a zero k x e = absurd (cc)
+range_at a (suc n) zero x e = let same : a ≡ x = same_Some a x e in (omega (arith, same), omega arith)
+range_at a (suc n) (suc k) x e = let h : (x ≡ a + 1 + k) × (k < n) = range_at (a + 1) n k x e in (omega (arith, h.0), omega (arith, h.1))
+
+range_rises : (n k a b : ℕ) → slice_get (range_with_len 0 n) k ≡ Some a → slice_get (range_with_len 0 n) (suc k) ≡ Some b → a < b
+range_rises n k a b e f = omega (arith, (range_at 0 n k a e).0, (range_at 0 n (suc k) b f).0)
+
+pub has_own : (b : BookView) → HasOwn (desk_of b)
+has_own b = record {
+  rises = λ k x y e f. range_rises (length b.events) k x y e f;
+  within = λ k x e. omega (arith, range_at 0 (length b.events) k x e);
+}
 
 -- room for offers was made, as a test and as a fact
 pub is_roomy : (b : BookView) → (desk_of b).roomy ≡ true → IsReserved b

@@ -11,7 +11,7 @@ use Rattle.lemma_core.specs.declared.types.LogItem.TheVariants as log
 use Rattle.lemma_core.specs.declared.types.Event.{Event}
 use Rattle.lemma_core.specs.declared.types.Event.TheVariants as event
 use Rattle.lemma_core.specs.Machine.{State, last_answer, is_better, with_entry, step, run}
-use Rattle.lemma_core.specs.History.{Item, added, known, better, published_item, items, history, Standing, replay, added_item, item_of, items_of, offers}
+use Rattle.lemma_core.specs.History.{Item, added, known, better, published_item, items, history, Standing, replay, AreExact, added_item, item_of, items_of, offers}
 use Rattle.lemma_core.specs.Laws.{IsKept, AllMayCome}
 use Rattle.line_rules.specs.Balance.{IsRight}
 use Rattle.line_rules.specs.Entries.{Follows}
@@ -20,6 +20,7 @@ use Rattle.lemma_core.specs.Books.{BookView, IsBook, IsReserved, ran, DoesPublis
 use Rattle.lemma_core.specs.declared.types.Published.{Published}
 use Rattle.lemma_core.specs.declared.types.Published.TheVariants as published
 use Rattle.lemma_core.specs.Inside.{Below, AllBelow, book_of, IsLogged}
+use Rattle.lemma_core.proofs.ExactItems.{exact_append, history_exact}
 use Rattle.lemma_core.proofs.Runs.{replay-append, history_replayed, run_keeps}
 
 pub items-push : (es : List Entry) (ls : List LogItem) (l : LogItem) → items_of es (ls ++ l ∷ []) ≡ items_of es ls ++ item_of es l ∷ []
@@ -111,6 +112,8 @@ book_ran b vs ok may =
       statable = kept.statable;
       right = kept.right;
       replays = replay-append b.opening b.events (history b.state vs) ∙ (ap (λ (z : Standing). replay z (history b.state vs)) ok.replays ∙ history_replayed b.state vs);
+      exact = (let P : Standing → Type 0 = λ z. AreExact z (history b.state vs) in
+          exact_append b.opening b.events (history b.state vs) ok.exact (subst P (sym ok.replays) (history_exact b.state vs)));
       fewer = omega (arith, ok.fewer, run_fewer b.state vs, offers-append b.events (history b.state vs));
     }
 

@@ -113,7 +113,7 @@ offer_step s b true e =
     ap (λ (n : ℕ). record { entries = s.entries; stations = n }) less
 offer_step s b false e = refl
 
-one_step : (s : State) (v : Event) → replay (standing s) (items s v) ≡ standing (step s v)
+pub one_step : (s : State) (v : Event) → replay (standing s) (items s v) ≡ standing (step s v)
 one_step s (event.Look set most) = refl
 one_step s (event.Publish e) = publish_step s e (last_answer s.entries e.set e.most e.cycle)
 one_step s (event.Offer b) = offer_step s b (is_better s b) refl

@@ -13,7 +13,7 @@ use Rattle.lemma_core.specs.declared.types.Event.TheVariants as event
 use Rattle.lemma_core.specs.declared.types.Reply.{Reply}
 use Rattle.lemma_core.specs.declared.types.Reply.TheVariants as reply
 use Rattle.lemma_core.specs.Machine.{About, State, answer, answers_of, run}
-use Rattle.lemma_core.specs.History.{Item, Standing, history, standing, replay, offers}
+use Rattle.lemma_core.specs.History.{Item, Standing, history, standing, replay, AreExact, offers}
 use Rattle.lemma_core.specs.Desks.{DeskView}
 use Rattle.lemma_core.specs.Own.{AreStatable}
 
@@ -25,14 +25,15 @@ pub record BookView : Type 0 where
   pub events : List Item
   pub room : ℕ
 
--- What is true of every book: its entries are derived, fresh and such as a certificate can say, its best balance is right at its cycle, its events replay from the opening
--- state to the entries and the best's stations, and the best has at most as many stations as there are tasks, with each better offer fewer.
+-- What is true of every book: its entries are derived, fresh and such as a certificate can say, its best balance is right at its cycle, its events are exact, each at
+-- its turn, and replay from the opening state to the entries and the best's stations, and the best has at most as many stations as there are tasks, with each better offer fewer.
 pub record IsBook (b : BookView) : Type 0 where
   pub derived : IsDerived b.about.kind b.about.line b.state.entries
   pub fresh : IsFresh b.state.entries
   pub statable : AreStatable b.state.entries
   pub right : IsRight b.about.kind b.about.line b.about.cycle b.state.best
   pub replays : replay b.opening b.events ≡ standing b.state
+  pub exact : AreExact b.opening b.events
   pub fewer : b.state.best.stations + offers b.events ≤ tasks b.about.line
 
 -- the room for offers was made: it and the offers so far are together at least as many as the tasks

@@ -4,7 +4,7 @@ use Rattle.line_rules.specs.Accepted.{HasBalance}
 use Rattle.line_rules.specs.Entries.{Follows, IsDerived, IsUnanswered, IsLastAnswer}
 use Rattle.line_rules.specs.declared.types.Entry.{Entry}
 use Rattle.lemma_core.specs.Machine.{About}
-use Rattle.lemma_core.specs.History.{Item, added, known, better, Standing, replay, Begins}
+use Rattle.lemma_core.specs.History.{Item, added, known, better, Standing, replay, Begins, AreOwn}
 use Rattle.lemma_core.specs.declared.types.Looked.{Looked}
 use Rattle.lemma_core.specs.declared.types.Looked.TheVariants as looked
 use Rattle.lemma_core.specs.declared.types.Published.{Published}
@@ -33,6 +33,10 @@ fewest_after d h = (replay d.opening h).stations
 -- the entries that a desk has seen
 abbrev pub entries : DeskView → List Entry
 entries d = entries_after d d.seen
+
+-- the desk's own places rise, and lie within the list that it has seen
+abbrev pub HasOwn : DeskView → Type 0
+HasOwn d = AreOwn d.seen d.own
 
 -- the entries that a desk has seen are derived
 abbrev pub HasDerived : DeskView → Type 0

@@ -1,5 +1,6 @@
 -- The history of a machine: what its log keeps, and the state that replays from it.
-use Rattle.std.specs.Prelude.{◌≡◌, ℕ, suc, ◌<◌, min, cond, List, [], ◌∷◌, ◌++◌, length, slice_get, Option, Some, None}
+use Rattle.std.specs.Prelude.{◌≡◌, ℕ, suc, ◌<◌, min, cond, Bool, List, [], ◌∷◌, ◌++◌, length, slice_get, Option, Some, None}
+use Rattle.line_rules.specs.Entries.{IsUnanswered, IsLastAnswer}
 use Rattle.line_rules.specs.declared.types.Entry.{Entry}
 use Rattle.lemma_core.specs.declared.types.LogItem.{LogItem}
 use Rattle.lemma_core.specs.declared.types.LogItem.TheVariants as log
@@ -48,6 +49,18 @@ after s (better n) = record { entries = s.entries; stations = min s.stations n }
 abbrev pub replay : Standing → List Item → Standing
 replay s [] = s
 replay s (i ∷ is) = replay (after s i) is
+
+-- An item is exact at its turn: an entry is added that none answers, numbered by those before it; an entry that is known is named by the last
+-- one that answers a question of so many stations; and a better balance has fewer stations than the best.
+abbrev pub IsExact : Standing → Item → Type 0
+IsExact s (added id e) = (id ≡ length s.entries) × IsUnanswered s.entries e.set e.most e.cycle
+IsExact s (known id most) = (set : List Bool) × (cycle : ℕ) × IsLastAnswer s.entries set most cycle id
+IsExact s (better n) = n < s.stations
+
+-- each item of a history is exact at its turn
+abbrev pub AreExact : Standing → List Item → Type 0
+AreExact s [] = Unit {0}
+AreExact s (i ∷ is) = IsExact s i × AreExact (after s i) is
 
 -- the history that a log stands for, beside the entries of the book: an Added item carries the entry of its number
 abbrev pub added_item : ℕ → Option Entry → Item

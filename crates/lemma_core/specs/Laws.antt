@@ -6,7 +6,7 @@ use Rattle.line_rules.specs.declared.types.Entry.{Entry}
 use Rattle.lemma_core.specs.declared.types.Event.{Event}
 use Rattle.lemma_core.specs.declared.types.Event.TheVariants as event
 use Rattle.lemma_core.specs.Machine.{About, State, last_answer, step, run}
-use Rattle.lemma_core.specs.History.{Item, Standing, history, standing, replay, Begins}
+use Rattle.lemma_core.specs.History.{Item, Standing, history, standing, replay, AreExact, Begins}
 use Rattle.lemma_core.specs.Desks.{DeskView, entries, FollowsSeen, Keeps, Waits, Adds}
 use Rattle.lemma_core.specs.Own.{IsStatable, AreStatable, named, added_of, AreAt, Did, SawOnly}
 
@@ -18,6 +18,10 @@ pub record LastAnswerIsLast : Type 0 where
 -- a run's history replays from the state at its start to the entries and the best's stations at its end
 abbrev pub HistoryReplays : Type 0
 HistoryReplays = (s : State) (vs : List Event) → replay (standing s) (history s vs) ≡ standing (run s vs)
+
+-- each item of a run's history is exact at its turn
+abbrev pub HistoryIsExact : Type 0
+HistoryIsExact = (s : State) (vs : List Event) → AreExact (standing s) (history s vs)
 
 -- an event may come: an entry that is published follows from the entries and a certificate can say it, and an offered balance is right at the cycle
 abbrev pub MayCome : About → State → Event → Type 0
@@ -41,10 +45,11 @@ pub record IsKept (about : About) (s : State) : Type 0 where
 abbrev pub RunsKeep : Type 0
 RunsKeep = (about : About) (s : State) (vs : List Event) → IsKept about s → AllMayCome about s vs → IsKept about (run s vs)
 
--- a history that goes on only adds entries, and its fewest stations only fall
+-- a history that goes on only adds entries, and its fewest stations only fall; and what an exact history begins with is exact
 pub record HistoryGoesOn : Type 0 where
   pub entries : (s : Standing) (xs ys : List Item) → Begins xs ys → (more : List Entry) × ((replay s ys).entries ≡ (replay s xs).entries ++ more)
   pub stations : (s : Standing) (xs ys : List Item) → Begins xs ys → (replay s ys).stations ≤ (replay s xs).stations
+  pub exact : (s : Standing) (xs ys : List Item) → Begins xs ys → AreExact s ys → AreExact s xs
 
 -- what every call of a desk keeps is kept by none and by two calls, and what follows from what was seen follows still
 pub record DesksGoOn : Type 0 where

@@ -1,8 +1,8 @@
-ghost use Rattle.std.specs.Prelude.{◌≡◌, ℕ, ◌+◌, ◌<◌, ◌≤◌, List, [], ◌∷◌, length, slice_get, Some, None, OnOk, OnErr};
+ghost use Rattle.std.specs.Prelude.{◌≡◌, ℕ, ◌+◌, ◌<◌, ◌≤◌, List, [], ◌∷◌, length, take, slice_get, Some, None, OnOk, OnErr};
 ghost use Rattle.line_rules.specs.Balance.{Holds, IsRight};
 ghost use Rattle.line_rules.specs.Entries.{IsDerived, IsFresh, Follows};
 ghost use Rattle.lemma_core.specs.Machine.{last_answer, answers, found, answer};
-ghost use Rattle.lemma_core.specs.History.{item_of, standing, replay};
+ghost use Rattle.lemma_core.specs.History.{item_of, standing, replay, IsExact, AreExact};
 ghost use Rattle.lemma_core.specs.declared.types.Event.TheVariants as event;
 ghost use Rattle.lemma_core.specs.declared.types.Reply.TheVariants as reply;
 ghost use Rattle.lemma_core.specs.Own.{IsStatable, AreStatable};
@@ -157,6 +157,7 @@ impl Book {
     pub fn log_len(&self) -> u64
         ensures len { result ≡ length self.now.events }
         ensures replays { replay self.now.opening self.now.events ≡ standing self.now.state }
+        ensures exact { AreExact self.now.opening self.now.events }
     {
         self.log.len() as u64
     }
@@ -164,7 +165,8 @@ impl Book {
     /// The item of the log at place `k`, from 0 and below `log_len`.
     pub fn log_at(&self, k: u64) -> LogItem
         requires { k < length self.now.events }
-        ensures { slice_get self.now.events k ≡ Some (item_of self.now.state.entries result) }
+        ensures item { slice_get self.now.events k ≡ Some (item_of self.now.state.entries result) }
+        ensures exact { IsExact (replay self.now.opening (take k self.now.events)) (item_of self.now.state.entries result) }
     {
         self.log[k as usize]
     }

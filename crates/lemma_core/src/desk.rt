@@ -1,6 +1,6 @@
 ghost use Rattle.std.specs.Prelude.{◌≡◌, true};
 ghost use Rattle.line_rules.specs.Balance.{IsRight};
-ghost use Rattle.lemma_core.specs.Desks.{DeskView, entries, HasDerived, FollowsSeen, Waits, Finds, Publishes, Offers, Tells};
+ghost use Rattle.lemma_core.specs.Desks.{DeskView, entries, HasDerived, HasOwn, FollowsSeen, Waits, Finds, Publishes, Offers, Tells};
 ghost use Rattle.lemma_core.specs.Own.{IsStatable};
 
 use crate::book::Book;
@@ -19,24 +19,28 @@ pub trait Desk {
     fn look(&mut self, set: &TaskSet, most: u32) -> Looked
         ensures waits { Waits (desk self.old) (desk self.new) }
         ensures finds { Finds (entries (desk self.new)) set.now most (desk self.new).about.cycle result }
-        ensures derived { HasDerived (desk self.new) };
+        ensures derived { HasDerived (desk self.new) }
+        ensures own { HasOwn (desk self.new) };
 
     /// Publishes an entry that follows from those seen and that a certificate can say: it is added where none answers it.
     fn publish(&mut self, step: Entry) -> Published
         requires follows { FollowsSeen (desk self.old) step }
         requires range { IsStatable step }
         ensures publishes { Publishes (desk self.old) (desk self.new) step result }
-        ensures derived { HasDerived (desk self.new) };
+        ensures derived { HasDerived (desk self.new) }
+        ensures own { HasOwn (desk self.new) };
 
     /// Offers a right balance of all tasks: it is the best from then on where it has fewer stations.
     fn offer(&mut self, balance: Balance) -> Offered
         requires right { IsRight (desk self.old).about.kind (desk self.old).about.line (desk self.old).about.cycle balance }
         requires roomy { (desk self.old).roomy ≡ true }
-        ensures { Offers (desk self.old) (desk self.new) balance.stations result };
+        ensures offers { Offers (desk self.old) (desk self.new) balance.stations result }
+        ensures own { HasOwn (desk self.new) };
 
     /// The fewest stations of a balance, 1 to 1,024, as far as is known: never more than of those seen.
     fn least(&mut self) -> u32
-        ensures { Tells (desk self.old) (desk self.new) result };
+        ensures tells { Tells (desk self.old) (desk self.new) result }
+        ensures own { HasOwn (desk self.new) };
 }
 
 impl Desk for Book {
@@ -44,7 +48,14 @@ impl Desk for Book {
 
     ghost desk = { desk_of };
 
-    fn look(&mut self, set: &TaskSet, most: u32) -> Looked {
+    /// As of each desk; and the book stays as it was.
+    fn look(&mut self, set: &TaskSet, most: u32) -> Looked
+        ensures waits { Waits (desk_of self.old) (desk_of self.new) }
+        ensures finds { Finds (entries (desk_of self.new)) set.now most (desk_of self.new).about.cycle result }
+        ensures derived { HasDerived (desk_of self.new) }
+        ensures own { HasOwn (desk_of self.new) }
+        ensures same { self.new ≡ self.old }
+    {
         let _len = self.len();
         Book::look(self, set, most)
     }
@@ -61,7 +72,12 @@ impl Desk for Book {
         Book::offer(self, balance)
     }
 
-    fn least(&mut self) -> u32 {
+    /// As of each desk; and the book stays as it was.
+    fn least(&mut self) -> u32
+        ensures tells { Tells (desk_of self.old) (desk_of self.new) result }
+        ensures own { HasOwn (desk_of self.new) }
+        ensures same { self.new ≡ self.old }
+    {
         let _len = self.len();
         Book::least(self)
     }

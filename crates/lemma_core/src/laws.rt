@@ -1,6 +1,6 @@
 //! What is true of all runs of a book, for the crates above to cite.
 ghost use Rattle.line_rules.specs.Laws.{EveryEntryHolds};
-ghost use Rattle.lemma_core.specs.Laws.{LastAnswerIsLast, HistoryReplays, RunsKeep, HistoryGoesOn, DesksGoOn, OwnEventsGoOn, AloneSeesItsOwn, EntriesGoOn};
+ghost use Rattle.lemma_core.specs.Laws.{LastAnswerIsLast, HistoryReplays, HistoryIsExact, RunsKeep, HistoryGoesOn, DesksGoOn, OwnEventsGoOn, AloneSeesItsOwn, EntriesGoOn};
 ghost use Rattle.lemma_core.specs.Rows.{EventsOfTheRows};
 
 /// In a derived list every entry holds: its set has no balance in its number of stations at its cycle.
@@ -20,12 +20,17 @@ pub fn history_replays()
     ensures { HistoryReplays }
 {}
 
+/// Each item of a history is exact at its turn: what is added is new, what is known is known, and what is better is better.
+pub fn history_is_exact()
+    ensures { HistoryIsExact }
+{}
+
 /// Entries stay derived and fresh, and the best balance stays right.
 pub fn runs_keep()
     ensures { RunsKeep }
 {}
 
-/// A history that goes on only adds entries, and its fewest stations only fall.
+/// A history that goes on only adds entries, its fewest stations only fall, and what was exact stays so.
 pub fn history_goes_on()
     ensures { HistoryGoesOn }
 {}

@@ -2,7 +2,7 @@ use Rattle.std.proofs.Common.{◌≡◌, List, [], ◌∷◌, ◌++◌, length, 
 use Rattle.std.specs.Vec.Iter.{into_iter_items}
 use Rattle.lemma_core.specs.declared.types.Event.{Event}
 use Rattle.lemma_core.specs.declared.types.Reply.{Reply}
-use Rattle.lemma_core.specs.Books.{BookView, DidSome}
+use Rattle.lemma_core.specs.Books.{BookView, IsReserved, DidSome}
 use Rattle.lemma_core.proofs.Amid.{IsAmid, amid_first, amid_next, did_some, all_done}
 use Rattle.lemma_core.proofs.running.run_events.Goals as goal
 
@@ -56,3 +56,12 @@ pub returns-clause-ran : goal.returns-clause-ran
 returns-clause-ran c =
     (all_done c.args.book.now c.args.events.items c.args.replies.now.items c.loop-event.book c.loop-event.replies.items (into_iter_items c.loop-event.event-iterator)
     (none_left (into_iter_items c.loop-event.event-iterator) (sym c.loop-event.event-iterator.rest.ok.0 ∙ c.in-None.ensures.steps.0)) c.loop-event.invariant).1
+
+pub returns-in_err-reserve-clause-reserved : goal.returns-in_err-reserve-clause-reserved
+returns-in_err-reserve-clause-reserved c = c.loop-event.invariant.reserved
+
+pub returns-in_err-reply-clause-reserved : goal.returns-in_err-reply-clause-reserved
+returns-in_err-reply-clause-reserved c = let P : BookView → Type 0 = λ b. IsReserved b in subst P (sym c.in_err-reply.ensures.same) c.loop-event.invariant.reserved
+
+pub returns-clause-reserved : goal.returns-clause-reserved
+returns-clause-reserved c = c.loop-event.invariant.reserved

@@ -1,4 +1,4 @@
-use Rattle.lemma_core.proofs.Desking.{publishes, has_derived}
+use Rattle.lemma_core.proofs.Desking.{publishes, has_derived, has_own}
 use Rattle.lemma_core.proofs.desk.BookDesk.publish.Goals as goal
 
 pub returns-clause-publishes : goal.returns-clause-publishes
@@ -6,3 +6,6 @@ returns-clause-publishes c = publishes c.args.self.now c.publish-published.new.s
 
 pub returns-clause-derived : goal.returns-clause-derived
 returns-clause-derived c = has_derived c.publish-published.new.self c.len-grown.ensures.kept
+
+pub returns-clause-own : goal.returns-clause-own
+returns-clause-own c = has_own c.publish-published.new.self
