@@ -1,4 +1,3 @@
-pub mod Leaving
 pub mod Walking
 pub mod Exact
 pub mod Entering

@@ -1,4 +1,10 @@
-ghost use Rattle.std.specs.Prelude.{◌≡◌, ◌==◌, ◌<◌, [], ◌∷◌, ◌++◌, length, slice_get, Some, OnOk, OnErr, IfOk};
+//! Lists that contracts see as lists, and nothing more.
+//!
+//! A list is a vector whose view is the list of its items: its room and its allocator are no part of what a contract says. So a
+//! balance, a certificate or a trail is a plain record of lists, and two of them are equal where their items are.
+//! `from_vec`, `into_vec`, `len`, `at`, `as_slice` and `pop` take constant time and no memory. `push` may move the items to
+//! a greater room, and leaves the list as it was where that takes more memory than there is. `copy` takes memory for the items and for what they hold.
+ghost use Rattle.std.specs.Prelude.{◌≡◌, ◌==◌, ◌<◌, [], ◌∷◌, ◌++◌, length, slice_get, Some, OnOk, OnErr, IfOk, IsNone, IfSome};
 
 use crate::types::{Entry, Load, OpenFrame, Seatplace};
 use std::alloc::AllocError;
@@ -119,6 +125,25 @@ impl<T> Listed<T> {
     {
         self.items.push(item)?;
         Ok(())
+    }
+
+    /// Takes the last item from the list, or answers None where it has none.
+    #[inline]
+    pub fn pop(&mut self) -> Option<T>
+        ensures none { IsNone result → self.old ≡ [] }
+        ensures kept { IsNone result → self.new ≡ self.old }
+        ensures some { IfSome result (λ item. self.old ≡ self.new ++ item ∷ []) }
+    {
+        self.items.pop()
+    }
+
+    /// The items as a vector, in order.
+    #[inline]
+    pub fn into_vec(self) -> Vec<T>
+        ensures { result.items ≡ self }
+    {
+        let Listed { items } = self;
+        items
     }
 }
 

@@ -1,4 +1,0 @@
-pub mod Around
-pub mod Fits
-pub mod Picked
-pub mod Shares

@@ -3,9 +3,10 @@ ghost use Rattle.std.specs.Prelude.{◌≡◌, ◌≤◌, ◌<◌, ◌↔◌, �
 ghost use Rattle.line_instance.specs.Line.{IsTaskSet};
 ghost use Rattle.line_rules.specs.Balance.{Holds};
 ghost use Rattle.line_rules.specs.Bounds.{bound};
+ghost use Rattle.load_facts.specs.Times.{AreTimes};
 
 use crate::chains::{has_longer_chain, longest_chain};
-use crate::sizes::{counts_of, times_in};
+use crate::sizes::{Times, counts_of, times_in};
 use line_instance::Instance;
 use line_rules::LineKind;
 use task_set::TaskSet;
@@ -46,11 +47,29 @@ pub fn exceeds(inst: &Instance, kind: LineKind, cycle: u64, set: &TaskSet, most:
     requires limit { cycle ≤ 1000000000000000000 }
     ensures { IsTrue result ↔ most < bound kind inst.now cycle set.now }
 {
+    exceeds_with(inst, kind, cycle, set, times_in(inst, set), most)
+}
+
+/// The same, with the times of the set, which a caller may keep: so the set isn't summed anew. For a set that a load leaves, the total is
+/// the total of the whole less that of the load, and no task of it takes longer than the longest of the whole.
+pub fn exceeds_with(
+    inst: &Instance,
+    kind: LineKind,
+    cycle: u64,
+    set: &TaskSet,
+    times: Times,
+    most: u32,
+) -> bool
+    requires set { IsTaskSet inst.now set.now }
+    requires some { 1 ≤ cycle }
+    requires limit { cycle ≤ 1000000000000000000 }
+    requires times { AreTimes inst.now set.now times.total times.longest }
+    ensures { IsTrue result ↔ most < bound kind inst.now cycle set.now }
+{
     let _tasks = inst.tasks();
     if set.is_empty() || most >= TOO_LONG {
         return false;
     }
-    let times = times_in(inst, set);
     let most = u64::from(most);
     if most == 0 || times.total.div_ceil(cycle) > most {
         return true;

@@ -4,7 +4,7 @@ ghost use Rattle.task_set.specs.Truths.{In};
 ghost use Rattle.line_instance.specs.Line.{IsTaskSet, has, tasks};
 ghost use Rattle.line_instance.specs.Sums.{sum_where};
 ghost use Rattle.line_rules.specs.Bounds.{head, tail, chained};
-ghost use Rattle.lower_bounds.specs.Times.{longest_of, time_elsewhere};
+ghost use Rattle.load_facts.specs.Times.{AreTimes, time_elsewhere};
 
 use crate::sizes::{Times, times_in};
 use line_instance::Instance;
@@ -132,10 +132,7 @@ pub(crate) fn longest_chain(
     requires set { IsTaskSet inst.now set.now }
     requires some { 1 ≤ cycle }
     requires limit { cycle ≤ 1000000000000000000 }
-    requires total { times.total ≡ sum_where (has set.now) inst.now.times }
-    requires longest { times.longest ≡ longest_of inst.now set.now }
-    requires total_limit { times.total ≤ 204800000000000000 }
-    requires longest_limit { times.longest ≤ 200000000000000 }
+    requires times { AreTimes inst.now set.now times.total times.longest }
     ensures { result ≡ max least (chained kind inst.now cycle set.now) }
 {
     let _tasks = inst.tasks();
@@ -169,10 +166,7 @@ pub(crate) fn has_longer_chain(
     requires set { IsTaskSet inst.now set.now }
     requires some { 1 ≤ cycle }
     requires limit { cycle ≤ 1000000000000000000 }
-    requires total { times.total ≡ sum_where (has set.now) inst.now.times }
-    requires longest { times.longest ≡ longest_of inst.now set.now }
-    requires total_limit { times.total ≤ 204800000000000000 }
-    requires longest_limit { times.longest ≤ 200000000000000 }
+    requires times { AreTimes inst.now set.now times.total times.longest }
     ensures { IsTrue result ↔ most < chained kind inst.now cycle set.now }
 {
     let _tasks = inst.tasks();

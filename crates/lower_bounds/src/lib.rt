@@ -8,5 +8,6 @@ mod sizes;
 mod tests;
 mod total;
 
-pub use bounds::{bound, exceeds};
+pub use bounds::{bound, exceeds, exceeds_with};
+pub use sizes::{Times, times_in};
 pub use total::{first_too_long, total_bound, total_time};

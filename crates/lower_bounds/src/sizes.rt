@@ -1,29 +1,28 @@
 //! What the tasks of a set count for, by their times in parts of the cycle.
-ghost use Rattle.std.specs.Prelude.{◌≡◌, ◌≤◌, ◌+◌, ◌*◌, max, nat_eq, nat_lt};
-ghost use Rattle.line_instance.specs.Line.{IsTaskSet, has};
-ghost use Rattle.line_instance.specs.Sums.{sum_where, count_where, weigh};
+ghost use Rattle.std.specs.Prelude.{◌≡◌, ℕ, ◌≤◌, ◌+◌, ◌*◌, max, nat_eq, nat_lt};
+ghost use Rattle.task_set.specs.Truths.{In};
+ghost use Rattle.line_instance.specs.Line.{IsTaskSet, has, time};
+ghost use Rattle.line_instance.specs.Sums.{count_where, weigh};
 ghost use Rattle.line_rules.specs.Bounds.{sixths, up};
-ghost use Rattle.lower_bounds.specs.Times.{longest_of};
+ghost use Rattle.load_facts.specs.Times.{AreTimes, longest_of};
 
 use line_instance::Instance;
 use task_set::TaskSet;
 
-/// The times of the tasks of a set, in the instance's time unit.
+/// What is known of the times of the tasks of a set, in the instance's time unit.
 #[derive(Clone, Copy)]
-pub(crate) struct Times {
+pub struct Times {
     /// The total time, at most 204,800,000,000,000,000.
-    pub(crate) total: u64,
-    /// The greatest time, 0 where there is no task.
-    pub(crate) longest: u64,
+    pub total: u64,
+    /// A time that no task of the set exceeds, at most 200,000,000,000,000.
+    pub longest: u64,
 }
 
-/// The times of a set of tasks.
-pub(crate) fn times_in(inst: &Instance, set: &TaskSet) -> Times
+/// The total time of a set of tasks, and their greatest time, 0 where there is no task.
+pub fn times_in(inst: &Instance, set: &TaskSet) -> Times
     requires { IsTaskSet inst.now set.now }
-    ensures total { result.total ≡ sum_where (has set.now) inst.now.times }
+    ensures times { AreTimes inst.now set.now result.total result.longest }
     ensures longest { result.longest ≡ longest_of inst.now set.now }
-    ensures limit { result.total ≤ 204800000000000000 }
-    ensures longest_limit { result.longest ≤ 200000000000000 }
 {
     let _tasks = inst.tasks();
     let mut times = Times {
@@ -62,12 +61,12 @@ impl SizeCounts {
     }
 }
 
-/// The counts of a set of tasks, of which `longest` is the greatest time: none where that is less than a third of the cycle.
+/// The counts of a set of tasks, of which none takes more than `longest`: all 0 where that is less than a third of the cycle.
 pub(crate) fn counts_of(inst: &Instance, cycle: u64, set: &TaskSet, longest: u64) -> SizeCounts
     requires set { IsTaskSet inst.now set.now }
     requires some { 1 ≤ cycle }
     requires limit { cycle ≤ 1000000000000000000 }
-    requires longest { longest ≡ longest_of inst.now set.now }
+    requires longest { (i : ℕ) → In set.now i → time inst.now i ≤ longest }
     requires longest_limit { longest ≤ 200000000000000 }
     ensures too_long { result.too_long ≡ count_where (λ t. nat_lt cycle t) (has set.now) inst.now.times }
     ensures above_half { result.above_half ≡ count_where (λ t. nat_lt cycle (2 * t)) (has set.now) inst.now.times }

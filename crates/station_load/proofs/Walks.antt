@@ -1,17 +1,23 @@
 -- A walk and the load that it gave last.
-use Rattle.std.proofs.Common.{◌≡◌, ℕ, ◌+◌, ◌*◌, Bool, true, List, refl, sym, ap, ◌∙◌, subst, Option, Some, None, IfSome, arith}
-use Rattle.line_instance.specs.Line.{Line, IsLine, IsRanked, tasks, has}
+use Rattle.std.proofs.Common.{◌≡◌, ℕ, ◌+◌, ◌*◌, Bool, true, false, cond, List, refl, sym, ap, ◌∙◌, subst, Option, Some, None, IfSome, arith}
+use Rattle.std.proofs.lemmas.Option.{same_Some}
+use Rattle.line_instance.specs.Line.{Line, IsLine, IsRanked, IsTaskSet, tasks, has}
 use Rattle.line_instance.specs.Sums.{sum_where}
 use Rattle.line_rules.specs.Loads.{IsLoad, IsFull, taken}
 use Rattle.line_rules.specs.Order.{IsNext, IsFollowing, After}
-use Rattle.line_rules.specs.Sides.{MayJoin, fills}
+use Rattle.line_rules.specs.Sides.{MayJoin, fills, part, nothing_yet}
 use Rattle.line_rules.specs.declared.types.Mode.{Mode}
 use Rattle.line_rules.specs.declared.types.Side.{Side}
 use Rattle.line_rules.specs.declared.types.Side.TheVariants.{Front, Back}
 use Rattle.line_rules.specs.declared.types.Load.{Load}
+use Rattle.line_rules.proofs.Sides.{AreSets, each_side}
 use Rattle.line_rules.proofs.Joining.{full_of, full_none}
 use Rattle.line_rules.proofs.Scans.{Scan, IsBase, scan_start, rescan, base_none, base_some, follows, none_follows, none_above}
-use Rattle.station_load.specs.Walking.{Walking, IsWalk, last_load}
+use Rattle.station_load.specs.declared.ends.End.{End}
+use Rattle.station_load.specs.declared.shorts.Shorts.{Shorts}
+use Rattle.station_load.specs.Ends.{IsEnd}
+use Rattle.station_load.specs.Shorts.{AreShort}
+use Rattle.station_load.specs.Walking.{Walking, IsWalk, end_of, last_load}
 use Rattle.station_load.proofs.Answered.{same_pair}
 
 base_of : (line : Line) (c : ℕ) (mode : Mode) (R : List Bool) (last : Option Load) → ((l : Load) → last ≡ Some l → IsLoad line c mode R l) → IsBase line c mode R last (last_load last)
@@ -62,3 +68,39 @@ module _ (line : Line) (ok : IsLine line) (ranked : IsRanked line) (w : Walking)
 pub of_some : {P : Load → Type 0} (o : Option Load) → ((l : Load) → o ≡ Some l → P l) → IfSome o P
 of_some None f = tt
 of_some (Some l) f = f l refl
+
+last_is : (b : Bool) (l : Load) → (b ≡ false → l ≡ nothing_yet) → last_load (cond b (Some l) None) ≡ l
+last_is true l h = refl
+last_is false l h = sym (h refl)
+
+given_is : (b : Bool) (l k : Load) → cond b (Some l) None ≡ Some k → (b ≡ true) × (l ≡ k)
+given_is true l k e = (refl, same_Some l k e)
+given_is false l k e = absurd (cc)
+
+-- a walk that stands at a load given last, or before the first one
+pub stands_at : (line : Line) (c : ℕ) (mode : Mode) (R : List Bool) → IsTaskSet line R → (given : Bool) (load : Load) (sum : ℕ) (front back : End) (shorts : Shorts) → (given ≡ true → IsLoad line c mode R load) → (given ≡ false → load ≡ nothing_yet)
+    → sum ≡ sum_where (has (taken load)) line.times → front.tasks ≡ load.front → back.tasks ≡ load.back → (fills mode Front ≡ true → IsEnd line Front R front) → (fills mode Back ≡ true → IsEnd line Back R back) → AreShort line c R shorts
+    → IsWalk line (record { cycle = c; mode = mode; set = R; last = cond given (Some (record { front = front.tasks; back = back.tasks })) None; ended = false; sum = sum; front = front; back = back; shorts = shorts })
+stands_at line c mode R set given load sum front back shorts is nothing total f b ready_front ready_back short =
+    let pair : Load = record { front = front.tasks; back = back.tasks } in
+    let new : Walking = record { cycle = c; mode = mode; set = R; last = cond given (Some pair) None; ended = false; sum = sum; front = front; back = back; shorts = shorts } in
+    let same : pair ≡ load = same_pair front.tasks load.front back.tasks load.back f b in
+    let at : last_load (cond given (Some pair) None) ≡ pair = last_is given pair (λ e. same ∙ nothing e) in
+    let P : Load → Type 0 = λ l. IsLoad line c mode R l in
+    record {
+      set = set;
+      load = λ l e. let q : (given ≡ true) × (pair ≡ l) = given_is given pair l e in subst P (sym same ∙ q.1) (is q.0);
+      sum = total ∙ ap (λ l. sum_where (has (taken l)) line.times) (sym (at ∙ same));
+      stands = each_side (λ (s : Side). (end_of s new).tasks ≡ part s (last_load new.last)) (ap (λ (l : Load). l.front) (sym at)) (ap (λ (l : Load). l.back) (sym at));
+      ready = λ o. each_side (λ (s : Side). fills mode s ≡ true → IsEnd line s R (end_of s new)) ready_front ready_back;
+      short = short;
+      over = λ e. absurd (cc);
+    }
+
+-- both sides of it are sets of tasks
+pub stand_sets : (line : Line) (c : ℕ) (mode : Mode) (R : List Bool) (given : Bool) (load : Load) → (given ≡ true → IsLoad line c mode R load) → (given ≡ false → load ≡ nothing_yet) → AreSets line load
+stand_sets line c mode R true load is nothing = record { front = (is refl).front; back = (is refl).back }
+stand_sets line c mode R false load is nothing =
+    let b : IsBase line c mode R None nothing_yet = base_none line c mode R in
+    let P : Load → Type 0 = λ l. AreSets line l in
+    subst P (sym (nothing refl)) (record { front = b.is_part.front; back = b.is_part.back })

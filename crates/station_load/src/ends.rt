@@ -1,11 +1,11 @@
 //! One side of the load that a walk has come to, with the tasks that are ready for it.
-ghost use Rattle.std.specs.Prelude.{◌≡◌, ◌<◌, ℕ, false, true, replicate, slice_set};
+ghost use Rattle.std.specs.Prelude.{◌≡◌, ◌<◌, ℕ, false, true, slice_set};
 ghost use Rattle.task_set.specs.Truths.{In};
 ghost use Rattle.line_instance.specs.Line.{IsTaskSet, tasks, has};
 ghost use Rattle.line_rules.specs.Sides.{Ahead, fills};
 ghost use Rattle.station_load.specs.Ends.{AreMarked, IsEnd, Adds, GivesUp};
 
-use crate::sides::{ahead, fills, nearest, place_of, waiting};
+use crate::sides::{ahead, fills, nearest, place_of, places_of, waiting};
 use line_instance::Instance;
 use line_rules::{Mode, Side};
 use task_set::TaskSet;
@@ -20,28 +20,27 @@ pub struct End {
 }
 
 impl End {
-    /// A side with no task, and none that is free.
-    fn bare() -> End
-        ensures tasks { result.tasks ≡ replicate 1024 false }
-        ensures free { result.free ≡ replicate 1024 false }
-        ensures places { result.places ≡ replicate 1024 false }
-    {
-        End {
-            tasks: TaskSet::empty(),
-            free: TaskSet::empty(),
-            places: TaskSet::empty(),
-        }
-    }
-
-    /// A side with no task yet, and where loads of the mode fill the side, with the tasks of the set that are free to join it.
-    pub(crate) fn start(inst: &Instance, set: &TaskSet, mode: Mode, side: Side) -> End
-        requires { IsTaskSet inst.now set.now }
-        ensures tasks { result.tasks ≡ replicate 1024 false }
+    /// A side with these tasks, and where loads of the mode fill the side, with the tasks of the set that are free to join them.
+    pub(crate) fn start(
+        inst: &Instance,
+        set: &TaskSet,
+        mode: Mode,
+        side: Side,
+        part: &TaskSet,
+    ) -> End
+        requires set { IsTaskSet inst.now set.now }
+        requires part { IsTaskSet inst.now part.now }
+        ensures tasks { result.tasks ≡ part.now }
         ensures kept { fills mode side ≡ true → IsEnd inst.now side set.now result }
     {
-        let mut end = End::bare();
+        let mut end = End {
+            tasks: *part,
+            free: TaskSet::empty(),
+            places: TaskSet::empty(),
+        };
         if fills(mode, side) {
-            end.add_ready(inst, set, side, *set);
+            end.places = places_of(inst, side, part);
+            end.add_ready(inst, set, side, set.minus(part));
         }
         end
     }

@@ -11,5 +11,5 @@ pub mod steps;
 #[cfg(test)]
 mod tests;
 
-pub use loads::{first_load, is_full, next_load, walk};
+pub use loads::{first_load, is_full, next_load, resume, walk};
 pub use steps::Walk;

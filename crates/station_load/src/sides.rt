@@ -70,6 +70,21 @@ pub(crate) fn place_of(inst: &Instance, side: Side, task: u32) -> u32
     }
 }
 
+/// The places of the tasks of a part of the side.
+pub(crate) fn places_of(inst: &Instance, side: Side, part: &TaskSet) -> TaskSet
+    requires { IsTaskSet inst.now part.now }
+    ensures { (p : ℕ) → In result p ↔ (p < tasks inst.now) × In part.now (task_at inst.now side p) }
+{
+    let _tasks = inst.tasks();
+    let mut places = TaskSet::empty();
+    let mut left = *part;
+    while let Some(task) = left.least() {
+        left.remove(task);
+        places.insert(place_of(inst, side, task));
+    }
+    places
+}
+
 /// The member of a set that is first looked at for the side: the least in front, the greatest at the back. Where tasks are numbered along their
 /// precedences, nothing else of the set is ahead of it.
 #[inline]

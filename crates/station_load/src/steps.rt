@@ -1,12 +1,12 @@
 //! The quick walk over the loads of a set, for all modes: it keeps the sum of times and the tasks that are ready, and changes them with
 //! each task that comes or goes.
-ghost use Rattle.std.specs.Prelude.{◌≡◌, ℕ, ◌<◌, ◌≤◌, ◌↔◌, ◌+◌, ◌-◌, IsTrue, IsNone, IfSome, IsSome, Some, None, true, false};
+ghost use Rattle.std.specs.Prelude.{◌≡◌, ℕ, ◌<◌, ◌≤◌, ◌↔◌, ◌+◌, ◌-◌, IsTrue, IsNone, IfSome, IsSome, Some, None, true, false, cond};
 ghost use Rattle.task_set.specs.Truths.{In, IsEmpty, meet, union};
 ghost use Rattle.line_instance.specs.Line.{IsTaskSet, Apart, tasks, time, has};
 ghost use Rattle.line_instance.specs.Sums.{sum_where};
 ghost use Rattle.line_rules.specs.Loads.{IsLoad, IsFull, taken};
 ghost use Rattle.line_rules.specs.Order.{After, IsNext, IsFollowing};
-ghost use Rattle.line_rules.specs.Sides.{MayJoin, fills, spot};
+ghost use Rattle.line_rules.specs.Sides.{MayJoin, fills, spot, nothing_yet};
 ghost use Rattle.line_rules.specs.declared.types.Load.{Load as Pair};
 ghost use Rattle.line_rules.proofs.Next.{IsPart};
 ghost use Rattle.line_rules.proofs.Scans.{Scan};
@@ -17,7 +17,7 @@ ghost use Rattle.station_load.specs.Walking.{IsWalk, last_given};
 use crate::ends::End;
 use crate::places;
 use crate::shorts::{Shorts, count_load};
-use crate::sides::{fills, task_at};
+use crate::sides::{fills, nothing, task_at};
 use line_instance::Instance;
 use line_rules::{Load, Mode, Side};
 use std::marker::Model;
@@ -141,6 +141,42 @@ fn grows(
     false
 }
 
+// A walk that stands at a load with this sum, given last, or before the first load.
+fn stand_at(
+    inst: &Instance,
+    cycle: u64,
+    set: &TaskSet,
+    mode: Mode,
+    given: bool,
+    load: &Load,
+    sum: u64,
+) -> Walk
+    requires set { IsTaskSet inst.now set.now }
+    requires load { given ≡ true → IsLoad inst.now cycle mode set.now load.now }
+    requires nothing { given ≡ false → load.now ≡ nothing_yet }
+    requires sum { sum ≡ sum_where (has (taken load.now)) inst.now.times }
+    ensures walk { IsWalk inst.now result }
+    ensures cycle { result.cycle ≡ cycle }
+    ensures mode { result.mode ≡ mode }
+    ensures set { result.set ≡ set.now }
+    ensures last { result.last ≡ cond given (Some load.now) None }
+    ensures sum { result.sum ≡ sum }
+{
+    let _tasks = inst.tasks();
+    Walk {
+        cycle,
+        mode,
+        set: *set,
+        given,
+        ended: false,
+        sum,
+        front: End::start(inst, set, mode, Side::Front, &load.front),
+        back: End::start(inst, set, mode, Side::Back, &load.back),
+        shorts: Shorts::all(set),
+        loads: 0,
+    }
+}
+
 /// A walk over the loads of a set of tasks, before its first one. The cycle is in the instance's time unit.
 pub fn begin(inst: &Instance, cycle: u64, set: &TaskSet, mode: Mode) -> Walk
     requires { IsTaskSet inst.now set.now }
@@ -149,20 +185,26 @@ pub fn begin(inst: &Instance, cycle: u64, set: &TaskSet, mode: Mode) -> Walk
     ensures mode { result.mode ≡ mode }
     ensures set { result.set ≡ set.now }
     ensures last { result.last ≡ None }
+    ensures sum { result.sum ≡ 0 }
+{
+    stand_at(inst, cycle, set, mode, false, &nothing(), 0)
+}
+
+/// A walk over the loads of a set of tasks that goes on after a load of the set, as if it had given that load last. The cycle is in the
+/// instance's time unit.
+pub fn resume(inst: &Instance, cycle: u64, set: &TaskSet, mode: Mode, last: &Load) -> Walk
+    requires set { IsTaskSet inst.now set.now }
+    requires load { IsLoad inst.now cycle mode set.now last.now }
+    ensures walk { IsWalk inst.now result }
+    ensures cycle { result.cycle ≡ cycle }
+    ensures mode { result.mode ≡ mode }
+    ensures set { result.set ≡ set.now }
+    ensures last { result.last ≡ Some last.now }
+    ensures sum { result.sum ≡ sum_where (has (taken last.now)) inst.now.times }
 {
     let _tasks = inst.tasks();
-    Walk {
-        cycle,
-        mode,
-        set: *set,
-        given: false,
-        ended: false,
-        sum: 0,
-        front: End::start(inst, set, mode, Side::Front),
-        back: End::start(inst, set, mode, Side::Back),
-        shorts: Shorts::all(set),
-        loads: 0,
-    }
+    let sum = inst.sum(&last.front.union(&last.back));
+    stand_at(inst, cycle, set, mode, true, last, sum)
 }
 
 impl Walk {

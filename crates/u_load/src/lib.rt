@@ -6,5 +6,5 @@ mod loads;
 #[cfg(test)]
 mod tests;
 
-pub use loads::{first_load, is_full, next_load, walk};
+pub use loads::{first_load, is_full, next_load, resume, walk};
 pub use station_load::Walk;

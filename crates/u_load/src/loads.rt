@@ -1,7 +1,8 @@
 //! Loads of a U-line, from both ends.
 ghost use Rattle.std.specs.Prelude.{◌≡◌, ◌↔◌, IsTrue, IsNone, IfSome, None, Some};
-ghost use Rattle.line_instance.specs.Line.{IsTaskSet};
-ghost use Rattle.line_rules.specs.Loads.{Belongs, IsLoad, IsFull};
+ghost use Rattle.line_instance.specs.Line.{IsTaskSet, has};
+ghost use Rattle.line_instance.specs.Sums.{sum_where};
+ghost use Rattle.line_rules.specs.Loads.{Belongs, IsLoad, IsFull, taken};
 ghost use Rattle.line_rules.specs.Order.{Precedes, IsFollowing};
 ghost use Rattle.line_rules.specs.declared.types.LineKind.TheVariants.{U};
 ghost use Rattle.line_rules.specs.declared.types.Load.{Load as Pair};
@@ -10,7 +11,7 @@ ghost use Rattle.station_load.specs.Walking.{IsWalk};
 use line_instance::Instance;
 use line_rules::{Load, Mode};
 use station_load::places;
-use station_load::steps::{Walk, begin};
+use station_load::steps::{self, Walk, begin};
 use task_set::TaskSet;
 
 /// The first load of a set of tasks, or None where the set has none.
@@ -64,4 +65,19 @@ pub fn walk(inst: &Instance, cycle: u64, set: &TaskSet, mode: Mode) -> Walk
     ensures last { result.last ≡ None }
 {
     begin(inst, cycle, set, mode)
+}
+
+/// A walk over the loads of a set that goes on after a load of the set, as if it had given that load last.
+pub fn resume(inst: &Instance, cycle: u64, set: &TaskSet, mode: Mode, last: &Load) -> Walk
+    requires set { IsTaskSet inst.now set.now }
+    requires mode { Belongs U mode }
+    requires load { IsLoad inst.now cycle mode set.now last.now }
+    ensures walk { IsWalk inst.now result }
+    ensures cycle { result.cycle ≡ cycle }
+    ensures mode { result.mode ≡ mode }
+    ensures set { result.set ≡ set.now }
+    ensures last { result.last ≡ Some last.now }
+    ensures sum { result.sum ≡ sum_where (has (taken last.now)) inst.now.times }
+{
+    steps::resume(inst, cycle, set, mode, last)
 }

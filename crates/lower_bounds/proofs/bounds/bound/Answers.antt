@@ -2,7 +2,7 @@ use Rattle.std.proofs.Common.{◌≡◌, ◌∙◌, sym, arith}
 use Rattle.std.proofs.lemmas.Bool.{false≢true}
 use Rattle.line_rules.specs.Bounds.{bound}
 use Rattle.line_rules.proofs.Carried.{bound_holds}
-use Rattle.lower_bounds.proofs.Fits.{empty_bound, long_bound, parts_bound, small_bound, time_part, count_parts}
+use Rattle.load_facts.proofs.BoundCases.{empty_bound, long_bound, parts_bound, small_bound, time_part, count_parts}
 use Rattle.lower_bounds.proofs.bounds.bound.Goals as goal
 
 pub returns-then-is_empty-clause-value : goal.returns-then-is_empty-clause-value
@@ -20,7 +20,7 @@ returns-then-counts-gt0-clause-holds c = λ r l.
 value : (c : goal.After-longest_chain) → c.longest_chain.result ≡ bound c.args.kind c.args.inst.now c.args.cycle c.args.set.now
 value c =
     let k = c.counts_of-counts.ensures in
-    let time = time_part c.args.inst.now c.args.cycle c.args.set.now c.times_in-times.result.total c.div_ceil.result c.requires.some c.times_in-times.ensures.total c.div_ceil.ensures in
+    let time = time_part c.args.inst.now c.args.cycle c.args.set.now c.times_in-times.result.total c.div_ceil.result c.requires.some c.times_in-times.ensures.times.total c.div_ceil.ensures in
     let counts = count_parts c.args.inst.now c.args.cycle c.args.set.now c.counts_of-counts.result.above_half c.counts_of-counts.result.at_half c.counts_of-counts.result.sixths c.stations.result k.above_half k.at_half k.sixths c.stations.ensures in
     let parts = parts_bound c.args.kind c.args.inst.now c.args.cycle c.args.set.now (λ h. false≢true (sym c.if-is_empty.false ∙ c.is_empty.ensures.1 h)) (omega (arith, c.if-counts-gt0.false, k.too_long)) in
     omega (arith, time, counts, parts, c.max-least.ensures, c.longest_chain.ensures)

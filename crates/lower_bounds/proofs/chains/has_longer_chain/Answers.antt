@@ -1,6 +1,6 @@
 use Rattle.std.proofs.Common.{arith}
-use Rattle.lower_bounds.proofs.Picked.{all_in_start}
-use Rattle.lower_bounds.proofs.Around.{chain_start, no_chain, few_chained}
+use Rattle.load_facts.proofs.SumsOverMembers.{all_in_start}
+use Rattle.load_facts.proofs.HeadTail.{chain_start, no_chain, few_chained}
 use Rattle.lower_bounds.proofs.chains.has_longer_chain.Goals as goal
 
 pub returns-in-U : goal.returns-in-U
@@ -14,5 +14,5 @@ loop-j-init c =
 pub returns-then-from-enough : goal.returns-then-from-enough
 returns-then-from-enough c = (
   λ e. absurd (cc),
-  λ l. absurd (omega (arith, l, few_chained c.args.kind c.args.inst.now c.tasks-tasks.ensures.line c.args.cycle c.requires.some c.args.set.now c.requires.set c.args.most c.args.times.total c.args.times.longest c.requires.total c.requires.longest (omega (arith, c.enough.ensures, c.from.ensures, c.if-from-enough.true)))),
+  λ l. absurd (omega (arith, l, few_chained c.args.kind c.args.inst.now c.tasks-tasks.ensures.line c.args.cycle c.requires.some c.args.set.now c.requires.set c.args.most c.args.times.total c.args.times.longest c.requires.times.total c.requires.times.longest (omega (arith, c.enough.ensures, c.from.ensures, c.if-from-enough.true)))),
 )

@@ -1,6 +1,6 @@
 use Rattle.std.proofs.Common.{arith}
-use Rattle.lower_bounds.proofs.Picked.{all_in_start}
-use Rattle.lower_bounds.proofs.Around.{chain_start, no_chain, few_chained}
+use Rattle.load_facts.proofs.SumsOverMembers.{all_in_start}
+use Rattle.load_facts.proofs.HeadTail.{chain_start, no_chain, few_chained}
 use Rattle.lower_bounds.proofs.chains.longest_chain.Goals as goal
 
 pub returns-in-U : goal.returns-in-U
@@ -13,4 +13,4 @@ loop-j-init c =
 
 pub returns-then-from-enough : goal.returns-then-from-enough
 returns-then-from-enough c =
-    omega (arith, few_chained c.args.kind c.args.inst.now c.tasks-tasks.ensures.line c.args.cycle c.requires.some c.args.set.now c.requires.set c.args.least c.args.times.total c.args.times.longest c.requires.total c.requires.longest (omega (arith, c.enough.ensures, c.from.ensures, c.if-from-enough.true)))
+    omega (arith, few_chained c.args.kind c.args.inst.now c.tasks-tasks.ensures.line c.args.cycle c.requires.some c.args.set.now c.requires.set c.args.least c.args.times.total c.args.times.longest c.requires.times.total c.requires.times.longest (omega (arith, c.enough.ensures, c.from.ensures, c.if-from-enough.true)))

@@ -1,8 +1,10 @@
-use Rattle.std.proofs.Common.{arith}
-use Rattle.line_instance.specs.Line.{has}
+use Rattle.std.proofs.Common.{◌≡◌, arith}
+use Rattle.line_instance.specs.Line.{has, time}
+use Rattle.line_instance.specs.Sums.{sum_where}
+use Rattle.load_facts.specs.Times.{longest_of}
 use Rattle.line_instance.proofs.Sums.{weigh-most}
-use Rattle.lower_bounds.proofs.Picked.{weight_turn, weight_start, all_in_start}
-use Rattle.lower_bounds.proofs.Shares.{longest_start, longest_most}
+use Rattle.load_facts.proofs.SumsOverMembers.{weight_turn, weight_start, weight_end, greatest_end, all_in_start}
+use Rattle.load_facts.proofs.SizeClasses.{longest_start, longest_least, longest_most}
 use Rattle.lower_bounds.proofs.sizes.times_in.Goals as goal
 
 pub loop-i-init : goal.loop-i-init
@@ -15,10 +17,13 @@ overflow_add-times c =
     let next = weight_turn (λ t. t) c.args.inst.now.times _ _ c.in-Some.i _ _ c.in-Some.ensures.steps c.loop-i.invariant.total in
     omega (arith, next, weigh-most (λ t. t) (has c.args.set.now) 200000000000000 c.args.inst.now.times (λ i l. c.tasks-tasks.ensures.line.times i))
 
-pub returns-clause-limit : goal.returns-clause-limit
-returns-clause-limit c =
-    omega (arith, c.loop-i.invariant.total, weigh-most (λ t. t) (has c.args.set.now) 200000000000000 c.args.inst.now.times (λ i l. c.tasks-tasks.ensures.line.times i))
-
-pub returns-clause-longest_limit : goal.returns-clause-longest_limit
-returns-clause-longest_limit c =
-    omega (arith, c.loop-i.invariant.longest, longest_most c.args.inst.now c.args.set.now 200000000000000 c.tasks-tasks.ensures.line.times)
+pub returns-clause-times : goal.returns-clause-times
+returns-clause-times c =
+    let longest : c.loop-i.times.longest ≡ longest_of c.args.inst.now c.args.set.now = greatest_end (time c.args.inst.now) c.loop-i.i-iterator c.loop-i.times.longest (longest_of c.args.inst.now c.args.set.now) c.in-None.ensures.steps.0 c.loop-i.invariant.longest in
+    let total : c.loop-i.times.total ≡ sum_where (has c.args.set.now) c.args.inst.now.times = weight_end (λ t. t) c.args.inst.now.times c.loop-i.i-iterator c.loop-i.times.total (sum_where (has c.args.set.now) c.args.inst.now.times) c.in-None.ensures.steps.0 c.loop-i.invariant.total in
+    record {
+      total = total;
+      total_limit = omega (arith, total, weigh-most (λ t. t) (has c.args.set.now) 200000000000000 c.args.inst.now.times (λ i l. c.tasks-tasks.ensures.line.times i));
+      longest = λ i m. omega (arith, longest, longest_least c.args.inst.now c.args.set.now c.requires i m);
+      longest_limit = omega (arith, longest, longest_most c.args.inst.now c.args.set.now 200000000000000 c.tasks-tasks.ensures.line.times);
+    }

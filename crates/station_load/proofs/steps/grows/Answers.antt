@@ -1,5 +1,5 @@
-use Rattle.std.proofs.Common.{◌≡◌, ◌∙◌, ◌-◌, ◌<◌, ◌≤◌, ℕ, Bool, List, false, sym, subst, inl, inr, refl, arith}
-use Rattle.task_set.specs.Truths.{In, meet, union}
+use Rattle.std.proofs.Common.{◌≡◌, ◌∙◌, ◌-◌, ℕ, Bool, List, false, sym, subst, inl, inr, refl, arith}
+use Rattle.task_set.specs.Truths.{In, union}
 use Rattle.task_set.proofs.Members.{In-meet, In-meet_parts}
 use Rattle.line_instance.specs.Line.{has}
 use Rattle.line_rules.specs.Sides.{IsReady, MayJoin, nothing_yet}

@@ -1,25 +1,19 @@
-use Rattle.std.proofs.Common.{◌≡◌, ◌∙◌, ℕ, List, Bool, false, replicate, sym, ap, subst, inl, inr, None}
-use Rattle.task_set.specs.Truths.{In}
-use Rattle.task_set.proofs.Members.{In-empty}
+use Rattle.std.proofs.Common.{◌∙◌, ℕ, List, Bool, sym, ap, subst, inl, inr}
+use Rattle.task_set.proofs.Members.{In-empty, In-minus, In-minus_parts}
 use Rattle.line_instance.specs.Line.{IsTaskSet, has}
-use Rattle.line_rules.specs.Sides.{IsReady, nothing_yet, task_at}
-use Rattle.line_rules.proofs.Scans.{IsBase, base_none}
-use Rattle.std.proofs.lemmas.Bool.{false_from_ne_true}
+use Rattle.line_rules.specs.Sides.{IsReady, task_at}
 use Rattle.station_load.proofs.ends.End.start.Goals as goal
 
-none_in : (b : List Bool) → b ≡ replicate 1024 false → (i : ℕ) → In b i → ⊥
-none_in b e i m = In-empty 1024 i (ap (λ x. has x i) (sym e) ∙ m)
-
 pub add_ready-requires-clause-candidates : goal.add_ready-requires-clause-candidates
-add_ready-requires-clause-candidates c = λ i m. (m, false_from_ne_true (has c.bare-end.result.tasks i) (none_in c.bare-end.result.tasks c.bare-end.ensures.tasks i))
+add_ready-requires-clause-candidates c = λ i m. In-minus_parts c.args.set.now c.args.part.now i (ap (λ b. has b i) (sym c.minus.ensures.value) ∙ m)
 
 pub add_ready-requires-clause-marked : goal.add_ready-requires-clause-marked
 add_ready-requires-clause-marked c = record {
   is = λ p. (
-    λ m. absurd (none_in c.bare-end.result.places c.bare-end.ensures.places p m),
+    λ m. (((c.places_of-end.ensures p).0 m).0, inl ((c.places_of-end.ensures p).0 m).1),
     λ m. elim m.1 [
-      | inl t ↦ absurd (none_in c.bare-end.result.tasks c.bare-end.ensures.tasks (task_at c.args.inst.now c.args.side p) t)
-      | inr f ↦ absurd (none_in c.bare-end.result.free c.bare-end.ensures.free (task_at c.args.inst.now c.args.side p) f)
+      | inl t ↦ (c.places_of-end.ensures p).1 (m.0, t)
+      | inr f ↦ absurd (In-empty 1024 (task_at c.args.inst.now c.args.side p) (ap (λ b. has b (task_at c.args.inst.now c.args.side p)) (sym c.empty.ensures.value) ∙ f))
     ],
   );
 }
@@ -28,18 +22,17 @@ pub returns-then-fills-clause-kept : goal.returns-then-fills-clause-kept
 returns-then-fills-clause-kept c = λ e.
     let S : List Bool → Type 0 = λ b. IsTaskSet c.args.inst.now b in
     let R : ℕ → List Bool → Type 0 = λ i b. IsReady c.args.inst.now c.args.side c.args.set.now b i in
-    let b : IsBase c.args.inst.now 0 c.args.mode c.args.set.now None nothing_yet = base_none c.args.inst.now 0 c.args.mode c.args.set.now in
     record {
-      set = subst S (sym (c.add_ready.ensures.tasks ∙ c.bare-end.ensures.tasks)) b.is_part.front;
+      set = subst S (sym c.add_ready.ensures.tasks) c.requires.part;
       ready = record {
         is = λ i. (
           λ m. elim ((c.add_ready.ensures.free i).0 m) [
-            | inl o ↦ absurd (none_in c.bare-end.result.free c.bare-end.ensures.free i o)
+            | inl o ↦ absurd (In-empty 1024 i (ap (λ b. has b i) (sym c.empty.ensures.value) ∙ o))
             | inr r ↦ subst (R i) (sym c.add_ready.ensures.tasks) r.1
           ],
           λ r.
-              let q : IsReady c.args.inst.now c.args.side c.args.set.now c.bare-end.result.tasks i = subst (R i) c.add_ready.ensures.tasks r in
-              (c.add_ready.ensures.free i).1 (inr (q.within, q)),
+              let q : IsReady c.args.inst.now c.args.side c.args.set.now c.args.part.now i = subst (R i) c.add_ready.ensures.tasks r in
+              (c.add_ready.ensures.free i).1 (inr (ap (λ b. has b i) c.minus.ensures.value ∙ In-minus c.args.set.now c.args.part.now i q.within q.new, q)),
         );
       };
       marked = c.add_ready.ensures.marked;

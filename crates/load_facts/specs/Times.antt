@@ -1,5 +1,6 @@
--- The times of a set of tasks.
-use Rattle.std.specs.Prelude.{ℕ, Bool, cond, ◌&&◌, ◌||◌, not, nat_eq, List}
+-- What is known of the times of a set of tasks.
+use Rattle.std.specs.Prelude.{◌≡◌, ℕ, ◌≤◌, Bool, cond, ◌&&◌, ◌||◌, not, nat_eq, List}
+use Rattle.task_set.specs.Truths.{In}
 use Rattle.line_instance.specs.Line.{Line, has, is_before, tasks, time}
 use Rattle.line_instance.specs.Sums.{sum_where}
 use Rattle.line_rules.specs.Bounds.{greatest_below}
@@ -11,3 +12,10 @@ longest_of line R = greatest_below (tasks line) (λ i. cond (has R i) (time line
 -- the times of the tasks of R that are neither before nor after j, without j
 unfoldable pub time_elsewhere : Line → List Bool → ℕ → ℕ
 time_elsewhere line R j = sum_where (λ i. has R i && not (nat_eq i j || (is_before line i j || is_before line j i))) line.times
+
+-- a number that is the total time of R, and one that no task of R exceeds by its time, within the limits of times
+pub record AreTimes (line : Line) (R : List Bool) (sum most : ℕ) : Type 0 where
+  pub total : sum ≡ sum_where (has R) line.times
+  pub total_limit : sum ≤ 204800000000000000
+  pub longest : (i : ℕ) → In R i → time line i ≤ most
+  pub longest_limit : most ≤ 200000000000000

@@ -15,7 +15,7 @@ use Rattle.line_rules.specs.declared.types.Seatplace.{Seatplace}
 use Rattle.line_rules.proofs.Carried.{stands_alone}
 use Rattle.line_rules.proofs.Law.{bound_le, some_member}
 use Rattle.line_rules.proofs.Nonempty.{bound_some, member_or_empty}
-use Rattle.lower_bounds.proofs.Around.{up_ceil}
+use Rattle.load_facts.proofs.HeadTail.{up_ceil}
 
 -- the tasks of R longer than the cycle
 abbrev pub long_ones : Line → ℕ → List Bool → ℕ

@@ -1,10 +1,10 @@
 use Rattle.std.proofs.Common.{◌∙◌, refl, sym, arith}
 use Rattle.std.proofs.lemmas.Bool.{false≢true}
-use Rattle.lower_bounds.proofs.Fits.{empty_bound, long_bound, parts_bound, most_bound, below_bound, at_least_one, time_part, count_parts}
-use Rattle.lower_bounds.proofs.bounds.exceeds.Goals as goal
-use Rattle.lower_bounds.proofs.bounds.exceeds.Goals.{then-is_empty-via-then-is_empty, then-is_empty-via-else-is_empty+then-most-ge-TOO_LONG}
-use Rattle.lower_bounds.proofs.bounds.exceeds.Goals.{then-most-eq0-via-then-most-eq0, then-most-eq0-via-else-most-eq0+then-div_ceil-most}
-use Rattle.lower_bounds.proofs.bounds.exceeds.Goals.{then-counts-gt0-via-then-counts-gt0, then-counts-gt0-via-else-counts-gt0+then-stations-most}
+use Rattle.load_facts.proofs.BoundCases.{empty_bound, long_bound, parts_bound, most_bound, below_bound, at_least_one, time_part, count_parts}
+use Rattle.lower_bounds.proofs.bounds.exceeds_with.Goals as goal
+use Rattle.lower_bounds.proofs.bounds.exceeds_with.Goals.{then-is_empty-via-then-is_empty, then-is_empty-via-else-is_empty+then-most-ge-TOO_LONG}
+use Rattle.lower_bounds.proofs.bounds.exceeds_with.Goals.{then-most-eq0-via-then-most-eq0, then-most-eq0-via-else-most-eq0+then-div_ceil-most}
+use Rattle.lower_bounds.proofs.bounds.exceeds_with.Goals.{then-counts-gt0-via-then-counts-gt0, then-counts-gt0-via-else-counts-gt0+then-stations-most}
 
 pub returns-then-is_empty : goal.returns-then-is_empty
 returns-then-is_empty c = (
@@ -22,7 +22,7 @@ returns-then-most-eq0 c = (
     | then-most-eq0-via-then-most-eq0 w ↦
         omega (arith, w.if-most-eq0.true, at_least_one c.args.kind c.args.inst.now c.args.cycle c.args.set.now (λ h. false≢true (sym c.if-is_empty.false ∙ c.is_empty.ensures.1 h)))
     | then-most-eq0-via-else-most-eq0+then-div_ceil-most w ↦
-        let time = time_part c.args.inst.now c.args.cycle c.args.set.now c.times_in-times.result.total w.div_ceil.result c.requires.some c.times_in-times.ensures.total w.div_ceil.ensures in
+        let time = time_part c.args.inst.now c.args.cycle c.args.set.now c.args.times.total w.div_ceil.result c.requires.some c.requires.times.total w.div_ceil.ensures in
         below_bound c.args.kind c.args.inst.now c.args.cycle c.args.set.now (λ h. false≢true (sym c.if-is_empty.false ∙ c.is_empty.ensures.1 h)) c.args.most (omega (arith, c.if-most-ge-TOO_LONG.false))
         (λ _. omega (arith, time, w.if-div_ceil-most.true))
   ],
@@ -46,7 +46,7 @@ returns-then-counts-gt0 c =
 pub returns : goal.returns
 returns c =
     let k = c.counts_of-counts.ensures in
-    let time = time_part c.args.inst.now c.args.cycle c.args.set.now c.times_in-times.result.total c.div_ceil.result c.requires.some c.times_in-times.ensures.total c.div_ceil.ensures in
+    let time = time_part c.args.inst.now c.args.cycle c.args.set.now c.args.times.total c.div_ceil.result c.requires.some c.requires.times.total c.div_ceil.ensures in
     let counts = count_parts c.args.inst.now c.args.cycle c.args.set.now c.counts_of-counts.result.above_half c.counts_of-counts.result.at_half c.counts_of-counts.result.sixths c.stations.result k.above_half k.at_half k.sixths c.stations.ensures in
     let parts = parts_bound c.args.kind c.args.inst.now c.args.cycle c.args.set.now (λ h. false≢true (sym c.if-is_empty.false ∙ c.is_empty.ensures.1 h)) (omega (arith, c.if-counts-gt0.false, k.too_long)) in (
       λ e. omega (arith, parts, c.from-most.ensures, c.has_longer_chain.ensures.0 e),

@@ -1,6 +1,6 @@
 -- What a load of a set leaves: its total time, and the bound where that is long.
-use Rattle.std.proofs.Common.{◌≡◌, ℕ, ◌+◌, ◌-◌, ◌*◌, ◌<◌, ◌≤◌, Bool, true, false, ◌&&◌, not, List, get_or, refl, sym, ap, ◌∙◌, inl, inr, arith}
-use Rattle.std.proofs.lemmas.Bool.{false≢true, cases_Bool, and_parts, and_from}
+use Rattle.std.proofs.Common.{◌≡◌, ℕ, ◌+◌, ◌-◌, ◌*◌, ◌<◌, ◌≤◌, Bool, true, false, ◌&&◌, not, List, get_or, refl, sym, ap, ◌∙◌, arith}
+use Rattle.std.proofs.lemmas.Bool.{false≢true, and_parts, and_from, false_from_ne_true}
 use Rattle.task_set.specs.Truths.{In, IsEmpty, IsSubset}
 use Rattle.task_set.proofs.Members.{In-minus, In-minus_parts}
 use Rattle.line_instance.specs.Line.{Line, has}
@@ -10,10 +10,7 @@ use Rattle.line_rules.specs.Loads.{rest, taken}
 use Rattle.line_rules.specs.Bounds.{up, lm1, bound}
 use Rattle.line_rules.specs.declared.types.LineKind.{LineKind}
 use Rattle.line_rules.specs.declared.types.Load.{Load}
-use Rattle.check_loads.proofs.Fits.{below_bound}
-
-never : (b : Bool) → (b ≡ true → ⊥) → b ≡ false
-never b n = elim (cases_Bool b) [ inl e ↦ absurd (n e) | inr e ↦ e ]
+use Rattle.load_facts.proofs.BoundCases.{below_bound}
 
 -- the tasks of R are those of the load and those of its rest
 pub rest_sum : (line : Line) (R : List Bool) (l : Load) → IsSubset (taken l) R → sum_where (has R) line.times ≡ sum_where (has (taken l)) line.times + sum_where (has (rest R l)) line.times
@@ -24,13 +21,13 @@ rest_sum line R l within =
     let there : sum_where (λ i. has R i && not (has (taken l) i)) line.times ≡ sum_where (has (rest R l)) line.times =
     weigh-same (λ t. t) (λ i. has R i && not (has (taken l) i)) (has (rest R l)) (λ i. same_truth (has R i && not (has (taken l) i)) (has (rest R l) i)
     (λ e. let q : In R i × (not (has (taken l) i) ≡ true) = and_parts (has R i) (not (has (taken l) i)) e in
-    In-minus R (taken l) i q.0 (never (has (taken l) i) (λ m. false≢true (sym (ap not m) ∙ q.1))))
+    In-minus R (taken l) i q.0 (false_from_ne_true (has (taken l) i) (λ m. false≢true (sym (ap not m) ∙ q.1))))
     (λ m. let q : In R i × (get_or (taken l) i false ≡ false) = In-minus_parts R (taken l) i m in and_from (has R i) (not (has (taken l) i)) q.0 (ap not q.1))) line.times in
     omega (arith, here, there, weigh-split (λ t. t) (has R) (has (taken l)) line.times)
 
 -- a set with a time has a task
 some_time : (line : Line) (T : List Bool) → 0 < sum_where (has T) line.times → IsEmpty T → ⊥
-some_time line T l none = omega (arith, l, weigh-none (λ t. t) (has T) (λ i. never (has T i) (none i)) line.times)
+some_time line T l none = omega (arith, l, weigh-none (λ t. t) (has T) (λ i. false_from_ne_true (has T i) (none i)) line.times)
 
 lm1_is : (line : Line) (c : ℕ) (T : List Bool) → lm1 line c T ≡ up (sum_where (has T) line.times) c
 unfolding lm1

@@ -7,8 +7,8 @@ use Rattle.line_instance.specs.Line.{Line, IsTaskSet, has, tasks, time}
 use Rattle.line_instance.specs.Sums.{weigh, count_where}
 use Rattle.line_instance.proofs.Sums.{weigh-most}
 use Rattle.line_rules.specs.Bounds.{sixths}
-use Rattle.lower_bounds.specs.Times.{longest_of}
-use Rattle.lower_bounds.proofs.Picked.{greatest_of, greatest_listed, below_least, below_at, picked_le, weightless}
+use Rattle.load_facts.specs.Times.{longest_of}
+use Rattle.load_facts.proofs.SumsOverMembers.{greatest_of, greatest_listed, below_least, below_at, picked_le, weightless}
 
 once : (b : Bool) → cond b 1 0 ≤ 1
 once true = omega arith
@@ -61,9 +61,9 @@ unfolding longest_of
 longest_most line R m h = below_least (tasks line) (λ i. cond (has R i) (time line i) 0) m (λ i. picked_le (has R i) (time line i) m (λ e. h i))
 
 -- where no member takes a third of the cycle, none counts by its size
-module _ (line : Line) (R : List Bool) (set : IsTaskSet line R) (c longest : ℕ) (is : longest ≡ longest_of line R) (short : 3 * longest < c) where
+module _ (line : Line) (R : List Bool) (set : IsTaskSet line R) (c longest : ℕ) (at_most : (i : ℕ) → In R i → time line i ≤ longest) (short : 3 * longest < c) where
   none_counts : (w : ℕ → ℕ) → ((t : ℕ) → 3 * t < c → w t ≡ 0) → weigh w (has R) line.times ≡ 0
-  none_counts w h = weightless w (has R) line.times (λ i l m. h (time line i) (omega (arith, is, short, longest_least line R set i m)))
+  none_counts w h = weightless w (has R) line.times (λ i l m. h (time line i) (omega (arith, short, at_most i m)))
 
   pub none_long : count_where (λ t. nat_lt c t) (has R) line.times ≡ 0
   none_long = none_counts (λ t. cond (nat_lt c t) 1 0) (λ t l. grind (arith, nat_tests, l))
