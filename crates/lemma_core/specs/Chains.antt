@@ -1,37 +1,77 @@
--- How entries are found by their sets: each set has a key, and the entries whose sets have one key stand in a chain, the last one first.
-use Rattle.std.specs.Prelude.{◌≡◌, ℕ, ◌<◌, ◌%◌, nat_lt, cond, Bool, List, length, slice_get, slice_index, fold, Option, Some, None}
+-- How entries are found by their sets. Each set has a tag, which is a part of a hash of it. The tags of the entries fall into buckets, and
+-- those of one bucket stand in a chain, the last one first. A sieve has a mark for each of them, and lets few other tags through.
+use Rattle.std.specs.Prelude.{◌≡◌, ℕ, zero, suc, ◌-◌, ◌/◌, ◌%◌, ◌^◌, ◌<◌, Bool, List, [], length, slice_get, slice_index, map, fold, bit_and, Option, Some, None}
 use Rattle.std.specs.Hash as fed
 use Rattle.std.specs.Hash.FoldHasher as folding
 use Rattle.task_set.specs.Truths.{words_of}
 use Rattle.line_rules.specs.declared.types.Entry.{Entry}
+use Rattle.lemma_core.specs.declared.index.Link.{Link}
 
--- the key of a set: so many bits of a hash of its words. Sets that differ may have one key.
-unfoldable pub key_of : List Bool → ℕ
-key_of set = folding.finish (fold folding.write folding.initial (fed.slice fed.u64 (words_of set))) % 1048576
+-- the tag of a set: 32 bits of a hash of its words. Sets that differ may have one tag.
+unfoldable pub tag_of : List Bool → ℕ
+tag_of set = folding.finish (fold folding.write folding.initial (fed.slice fed.u64 (words_of set))) % 4294967296
 
--- p is the last place below n of an entry with the key k
-pub record IsLastPlace (es : List Entry) (k n p : ℕ) : Type 0 where
+-- the tags of the entries' sets
+abbrev pub tags_of : List Entry → List ℕ
+tags_of es = map (λ (e : Entry). tag_of e.set) es
+
+-- a place as it is stored: one more than it, and 0 where there is none
+abbrev pub place : ℕ → Option ℕ
+place zero = None
+place (suc p) = Some p
+
+-- p is the last place below n of a tag that falls into the bucket b
+pub record IsLastPlace (bucket : ℕ → ℕ) (ts : List ℕ) (b n p : ℕ) : Type 0 where
   pub below : p < n
-  pub entry : Entry
-  pub there : slice_get es p ≡ Some entry
-  pub key : key_of entry.set ≡ k
-  pub last : (j : ℕ) (e : Entry) → p < j → j < n → slice_get es j ≡ Some e → key_of e.set ≡ k → ⊥
+  pub tag : ℕ
+  pub there : slice_get ts p ≡ Some tag
+  pub falls : bucket tag ≡ b
+  pub last : (j t : ℕ) → p < j → j < n → slice_get ts j ≡ Some t → bucket t ≡ b → ⊥
 
--- no place below n has an entry with the key k
-abbrev pub HasNoPlace : List Entry → ℕ → ℕ → Type 0
-HasNoPlace es k n = (j : ℕ) (e : Entry) → j < n → slice_get es j ≡ Some e → key_of e.set ≡ k → ⊥
+-- no place below n has a tag that falls into the bucket b
+abbrev pub HasNoPlace : (ℕ → ℕ) → List ℕ → ℕ → ℕ → Type 0
+HasNoPlace bucket ts b n = (j t : ℕ) → j < n → slice_get ts j ≡ Some t → bucket t ≡ b → ⊥
 
--- the last place below n of an entry with the key k, where there is one
-abbrev pub IsLast : List Entry → ℕ → ℕ → Option ℕ → Type 0
-IsLast es k n (Some p) = IsLastPlace es k n p
-IsLast es k n None = HasNoPlace es k n
+-- the last place below n of a tag that falls into the bucket b, where there is one
+abbrev pub IsLast : (ℕ → ℕ) → List ℕ → ℕ → ℕ → Option ℕ → Type 0
+IsLast bucket ts b n (Some p) = IsLastPlace bucket ts b n p
+IsLast bucket ts b n None = HasNoPlace bucket ts b n
 
--- where the link of the entry at a place leads; one that leads to the entry itself ends the chain
-abbrev pub link : List ℕ → ℕ → Option ℕ
-link links n = cond (nat_lt (slice_index links n) n) (Some (slice_index links n)) None
+-- Each bucket leads to the last tag in it, and each tag to the last one before it in its bucket.
+pub record IsChained (bucket : ℕ → ℕ) (ts hs bs : List ℕ) : Type 0 where
+  pub heads : (b : ℕ) → b < length hs → IsLast bucket ts b (length ts) (place (slice_index hs b))
+  pub links : (n t : ℕ) → slice_get ts n ≡ Some t → IsLast bucket ts (bucket t) n (place (slice_index bs n))
 
--- Each key leads to the last entry with it, and each entry to the last one before it that has its key.
-pub record IsChained (es : List Entry) (last : ℕ → Option ℕ) (before : List ℕ) : Type 0 where
-  pub many : length before ≡ length es
-  pub heads : (k : ℕ) → IsLast es k (length es) (last k)
-  pub links : (n : ℕ) (e : Entry) → slice_get es n ≡ Some e → IsLast es (key_of e.set) n (link before n)
+-- the mark of each tag is in its word
+abbrev pub IsSieve : (ℕ → ℕ) → (ℕ → ℕ) → List ℕ → List ℕ → Type 0
+IsSieve word mark ts words = (k t : ℕ) → slice_get ts k ≡ Some t → bit_and (slice_index words (word t)) (mark t) ≡ mark t
+
+-- the bucket, out of so many, into which a tag falls
+abbrev pub bucket_in : ℕ → ℕ → ℕ
+bucket_in count t = bit_and t (count - 1)
+
+-- the word of a sieve of so many, and the mark in it, for a tag
+abbrev pub word_in : ℕ → ℕ → ℕ
+word_in count t = bit_and (t / 64) (count - 1)
+
+abbrev pub mark_of : ℕ → ℕ
+mark_of t = 2 ^ (t % 64)
+
+-- the tags and the links of what an index keeps of each entry
+abbrev pub tags : List Link → List ℕ
+tags ls = map (λ (l : Link). l.tag) ls
+
+abbrev pub links : List Link → List ℕ
+links ls = map (λ (l : Link). l.before) ls
+
+-- What is true of every index: the chains and the sieve are those of its tags, and both are there or neither, and then there is no tag.
+pub record IsIndex (heads : List ℕ) (ls : List Link) (sieve : List ℕ) : Type 0 where
+  pub chained : IsChained (bucket_in (length heads)) (tags ls) heads (links ls)
+  pub sieved : IsSieve (word_in (length sieve)) mark_of (tags ls) sieve
+  pub none : length sieve ≡ 0 → length ls ≡ 0
+  pub both : (0 < length sieve → 0 < length heads) × (0 < length heads → 0 < length sieve)
+
+-- the index is of these entries
+pub record IsIndexOf (es : List Entry) (heads : List ℕ) (ls : List Link) (sieve : List ℕ) : Type 0 where
+  pub index : IsIndex heads ls sieve
+  pub same : tags ls ≡ tags_of es

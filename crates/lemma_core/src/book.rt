@@ -8,7 +8,7 @@ ghost use Rattle.lemma_core.specs.declared.types.Reply.TheVariants as reply;
 ghost use Rattle.lemma_core.specs.Own.{IsStatable, AreStatable};
 ghost use Rattle.lemma_core.specs.Books.{BookView, IsBook, IsReserved, MayBeBest, opened, reopened, ran, with_room, DoesPublish};
 
-use crate::index::{Index, key};
+use crate::index::{Index, tag};
 use crate::scan::{looked, scan};
 use crate::types::{LogItem, Looked, Offered, Published};
 use line_instance::Instance;
@@ -33,9 +33,8 @@ pub struct Book {
 }
 
 impl Model for Book {
-    ghost use Rattle.std.specs.Prelude.{◌+◌, ◌≤◌, nat_eq, vec_len, vec_capacity};
-    ghost use Rattle.std.specs.HashMap.{get};
-    ghost use Rattle.lemma_core.specs.Chains.{IsChained};
+    ghost use Rattle.std.specs.Prelude.{◌+◌, ◌≤◌, vec_len, vec_capacity};
+    ghost use Rattle.lemma_core.specs.Chains.{IsIndexOf};
     ghost use Rattle.lemma_core.specs.Books.{BookView, IsBook};
     ghost use Rattle.lemma_core.specs.Inside.{book_of, IsLogged};
 
@@ -43,7 +42,7 @@ impl Model for Book {
 
     ghost view = { λ s. book_of s.instance s.kind s.cycle s.entries s.log.items s.best s.start s.opening s.room };
 
-    ghost invariant = { λ s. IsBook (book_of s.instance s.kind s.cycle s.entries s.log.items s.best s.start s.opening s.room) × IsLogged s.entries s.log.items s.start × (vec_len s.log + s.room ≤ vec_capacity s.log) × IsChained s.entries (get nat_eq s.index.last) s.index.before.items };
+    ghost invariant = { λ s. IsBook (book_of s.instance s.kind s.cycle s.entries s.log.items s.best s.start s.opening s.room) × IsLogged s.entries s.log.items s.start × (vec_len s.log + s.room ≤ vec_capacity s.log) × IsIndexOf s.entries s.index.heads.items s.index.links.items s.index.sieve.items };
 }
 
 impl Book {
@@ -229,7 +228,7 @@ impl Book {
         requires unanswered { last_answer self.old.state.entries step.set step.most step.cycle ≡ None }
         ensures { DoesPublish self.old step result self.new }
     {
-        let key = key(&step.set);
+        let tag = tag(&step.set);
         let Ok(()) = self.log.reserve(self.room as usize + 1) else {
             return Published::NoMemory;
         };
@@ -240,7 +239,7 @@ impl Book {
         let Ok(()) = self.entries.push(step) else {
             return Published::NoMemory;
         };
-        self.index.add(key);
+        self.index.add(tag);
         self.log.push_reserved(LogItem::Added(id));
         Published::Added(id)
     }

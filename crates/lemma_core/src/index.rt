@@ -1,29 +1,35 @@
-ghost use Rattle.std.specs.Prelude.{◌≡◌, ℕ, ◌+◌, ◌<◌, ◌≤◌, ◌^◌, ◌%◌, List, [], ◌∷◌, ◌++◌, nat_eq, fold, vec_len, vec_capacity, OnOk};
-ghost use Rattle.std.specs.HashMap.{get, spare};
+//! Where entries with a set are: a hashed index.
+//!
+//! Each set has a tag, 32 bits of a hash. A look for a set that no entry has mostly ends at the sieve, which has a bit for each tag and eight
+//! bits and more for an entry. Else the low bits of the tag lead to a chain of entries, the last one first, and only an entry with the same
+//! tag is read. So a look that finds nothing touches one line of memory, and one that finds an entry about four. An entry takes 13 bytes,
+//! or up to twice that right after the tables grew; they grow by two, from the tags alone.
+ghost use Rattle.std.specs.Prelude.{◌≡◌, ℕ, ◌+◌, ◌-◌, ◌<◌, ◌≤◌, ◌^◌, ◌/◌, ◌%◌, true, false, List, [], ◌∷◌, ◌++◌, length, slice_get, slice_index, slice_set, replicate, fold, bit_or, vec_len, vec_capacity, Some, OnOk};
 ghost use Rattle.std.specs.Hash as fed;
 ghost use Rattle.std.specs.Hash.FoldHasher as folding;
 ghost use Rattle.task_set.specs.Truths.{words_of};
-ghost use Rattle.line_rules.specs.declared.types.Entry.{Entry as Lemma};
 ghost use Rattle.lemma_core.specs.Machine.{last_answer};
-ghost use Rattle.lemma_core.specs.Chains.{key_of, IsChained};
+ghost use Rattle.lemma_core.specs.Chains.{tag_of, tags, bucket_in, word_in, mark_of, IsIndex, IsIndexOf};
 
 use crate::scan::is_answer;
 use line_rules::Entries;
 use std::alloc::{AllocError, Global};
-use std::collections::HashMap;
 use std::hash::{FoldHasher, Hash, Hasher};
 use task_set::TaskSet;
 
-/// How many keys there are: so few that at 2,000,000 entries, where two share a key on average, an entry with its share of the index takes
-/// about 200 bytes, and so many that sets of a smaller book seldom share one.
-const KEYS: u64 = 1_048_576;
+// What the index keeps of an entry: the tag of its set, and one more than the place before it in its chain, or 0.
+#[derive(Clone, Copy)]
+pub(crate) struct Link {
+    pub(crate) tag: u32,
+    pub(crate) before: u32,
+}
 
-// Where entries with a set are: for each key of sets the last entry with that key, and for each entry the last one before it
-// that has its key. The first entry with a key leads to itself.
+// For each bucket one more than the last place in its chain, or 0; what is kept of each entry; and the words of the sieve.
 #[derive(Drop)]
 pub(crate) struct Index {
-    pub(crate) last: HashMap<u32, u32>,
-    pub(crate) before: Vec<u32>,
+    pub(crate) heads: Vec<u32>,
+    pub(crate) links: Vec<Link>,
+    pub(crate) sieve: Vec<u64>,
 }
 
 // A hash of the set.
@@ -36,25 +42,102 @@ fn hash_of(set: &TaskSet) -> u64
     state.finish()
 }
 
-// The key of the set.
+// The tag of the set.
 #[inline]
-pub(crate) fn key(set: &TaskSet) -> u32
-    ensures { result ≡ key_of set.now }
+pub(crate) fn tag(set: &TaskSet) -> u32
+    ensures { result ≡ tag_of set.now }
 {
-    (hash_of(set) % KEYS) as u32
+    (hash_of(set) % 4_294_967_296) as u32
+}
+
+// The bucket of a tag.
+#[inline]
+fn bucket(tag: u32, count: usize) -> usize
+    requires { 0 < count }
+    ensures value { result ≡ bucket_in count tag }
+    ensures within { result < count }
+{
+    tag as usize & (count - 1)
+}
+
+// The word of the sieve in which the mark of a tag is.
+#[inline]
+fn word(tag: u32, count: usize) -> usize
+    requires { 0 < count }
+    ensures value { result ≡ word_in count tag }
+    ensures within { result < count }
+{
+    (tag / 64) as usize & (count - 1)
+}
+
+// The mark of a tag.
+#[inline]
+fn mark(tag: u32) -> u64
+    ensures { result ≡ mark_of tag }
+{
+    1 << (tag % 64)
+}
+
+// Puts the tag of an entry into the sieve and at the head of its bucket, and returns what headed that.
+#[inline]
+fn hang(heads: &mut [u32], sieve: &mut [u64], tag: u32, place: u32) -> u32
+    requires heads { 0 < length heads.old }
+    requires sieve { 0 < length sieve.old }
+    ensures before { result ≡ slice_index heads.old (bucket_in (length heads.old) tag) }
+    ensures heads { heads.new ≡ slice_set heads.old (bucket_in (length heads.old) tag) place }
+    ensures sieve { sieve.new ≡ slice_set sieve.old (word_in (length sieve.old) tag) (bit_or (slice_index sieve.old (word_in (length sieve.old) tag)) (mark_of tag)) }
+{
+    let at = word(tag, sieve.len());
+    sieve[at] |= mark(tag);
+    let bucket = bucket(tag, heads.len());
+    let before = heads[bucket];
+    heads[bucket] = place;
+    before
+}
+
+// Puts all tags into tables that are empty.
+fn hang_all(links: &mut [Link], heads: &mut [u32], sieve: &mut [u64])
+    requires heads { 0 < length heads.old }
+    requires sieve { 0 < length sieve.old }
+    requires few { length links.old + 1 < 2 ^ 32 }
+    requires empty { heads.old ≡ replicate (length heads.old) 0 }
+    ensures tags { tags links.new ≡ tags links.old }
+    ensures index { IsIndex heads.new links.new sieve.new }
+{
+    for k in 0..links.len() {
+        let tag = links[k].tag;
+        let before = hang(heads, sieve, tag, k as u32 + 1);
+        links[k] = Link { tag, before };
+    }
 }
 
 impl Index {
     pub(crate) fn new(alloc: Global) -> Index
-        ensures { IsChained [] (get nat_eq result.last) result.before.items }
+        ensures { IsIndexOf [] result.heads.items result.links.items result.sieve.items }
     {
         Index {
-            last: HashMap::new(alloc),
-            before: Vec::new(alloc),
+            heads: Vec::new(alloc),
+            links: Vec::new(alloc),
+            sieve: Vec::new(alloc),
         }
     }
 
-    // The number of the last entry that answers the question: from the last entry with the key of the set back.
+    // Whether an entry may have the tag.
+    #[inline]
+    fn may_have(&self, tag: u32) -> bool
+        requires { IsIndex self.now.heads.items self.now.links.items self.now.sieve.items }
+        ensures absent { result ≡ false → (k : ℕ) → slice_get (tags self.now.links.items) k ≡ Some tag → ⊥ }
+        ensures heads { result ≡ true → 0 < vec_len self.now.heads }
+    {
+        let count = self.sieve.len();
+        if count == 0 {
+            return false;
+        }
+        let mark = mark(tag);
+        self.sieve[word(tag, count)] & mark == mark
+    }
+
+    // The number of the last entry that answers the question: from the last entry in the bucket of the set back.
     #[inline]
     pub(crate) fn find(
         &self,
@@ -63,52 +146,86 @@ impl Index {
         most: u32,
         cycle: u64,
     ) -> Option<u64>
-        requires { IsChained entries.now (get nat_eq self.now.last) self.now.before.items }
+        requires { IsIndexOf entries.now self.now.heads.items self.now.links.items self.now.sieve.items }
         ensures { result ≡ last_answer entries.now set.now most cycle }
     {
-        let Some(last) = self.last.get(&key(set)).copied() else {
+        let tag = tag(set);
+        if !self.may_have(tag) {
             return None;
-        };
-        let mut at = last as usize;
-        'chain: loop {
-            if is_answer(entries.at(at), set, most, cycle) {
-                return Some(at as u64);
-            }
-            let before = self.before[at] as usize;
-            if before >= at {
-                return None;
-            }
-            at = before;
         }
+        let mut at = self.heads[bucket(tag, self.heads.len())];
+        'chain: while at > 0 {
+            let place = at as usize - 1;
+            let link = self.links[place];
+            if link.tag == tag {
+                if is_answer(entries.at(place), set, most, cycle) {
+                    return Some(place as u64);
+                }
+            }
+            at = link.before;
+        }
+        None
     }
 
-    // Takes room for one entry more. On an error nothing changes.
-    pub(crate) fn reserve(&mut self) -> Result<(), AllocError>
-        ensures entries { (k : ℕ) → get nat_eq self.new.last k ≡ get nat_eq self.old.last k }
-        ensures links { self.new.before.items ≡ self.old.before.items }
-        ensures few { OnOk result (vec_len self.new.before + 1 < 2 ^ 32) }
-        ensures room { OnOk result (vec_len self.new.before < vec_capacity self.new.before) }
-        ensures spare { OnOk result (0 < spare self.new.last) }
+    // Makes tables for twice as many entries. On an error nothing changes.
+    fn grow(&mut self) -> Result<(), AllocError>
+        requires few { vec_len self.old.links + 1 < 2 ^ 32 }
+        requires index { IsIndex self.old.heads.items self.old.links.items self.old.sieve.items }
+        ensures index { IsIndex self.new.heads.items self.new.links.items self.new.sieve.items }
+        ensures tags { tags self.new.links.items ≡ tags self.old.links.items }
+        ensures links { vec_len self.new.links ≡ vec_len self.old.links }
+        ensures room { vec_capacity self.new.links ≡ vec_capacity self.old.links }
+        ensures ok { OnOk result (0 < vec_len self.new.heads) }
     {
-        if self.before.len() >= u32::MAX as usize {
-            return Err(AllocError);
-        }
-        self.before.reserve(1)?;
-        self.last.reserve(1)?;
+        let alloc = *self.links.allocator();
+        let count = self.heads.len().saturating_mul(2).max(64);
+        let mut heads = vec![in alloc; 0; count]?;
+        let mut sieve = vec![in alloc; 0; count / 8]?;
+        hang_all(
+            self.links.as_mut_slice(),
+            heads.as_mut_slice(),
+            sieve.as_mut_slice(),
+        );
+        self.heads = heads;
+        self.sieve = sieve;
         Ok(())
     }
 
-    // Puts the next entry, which has a set of this key, at the head of its chain. There is room for it.
-    pub(crate) fn add(&mut self, key: u32)
-        requires few { vec_len self.old.before + 1 < 2 ^ 32 }
-        requires room { vec_len self.old.before < vec_capacity self.old.before }
-        requires spare { 0 < spare self.old.last }
-        ensures { (es : List Lemma) (e : Lemma) → key_of e.set ≡ key → IsChained es (get nat_eq self.old.last) self.old.before.items → IsChained (es ++ e ∷ []) (get nat_eq self.new.last) self.new.before.items }
+    // Takes room for one entry more. On an error nothing changes but where the chains stand.
+    pub(crate) fn reserve(&mut self) -> Result<(), AllocError>
+        requires { IsIndex self.old.heads.items self.old.links.items self.old.sieve.items }
+        ensures index { IsIndex self.new.heads.items self.new.links.items self.new.sieve.items }
+        ensures tags { tags self.new.links.items ≡ tags self.old.links.items }
+        ensures few { OnOk result (vec_len self.new.links + 1 < 2 ^ 32) }
+        ensures room { OnOk result (vec_len self.new.links < vec_capacity self.new.links) }
+        ensures heads { OnOk result (0 < vec_len self.new.heads) }
     {
-        let id = self.before.len() as u32;
-        let Ok(last) = self.last.insert(key, id) else {
-            unreachable!()
-        };
-        self.before.push_reserved(last.unwrap_or(id));
+        if self.links.len() >= u32::MAX as usize {
+            return Err(AllocError);
+        }
+        self.links.reserve(1)?;
+        if self.links.len() < self.heads.len() {
+            return Ok(());
+        }
+        self.grow()
+    }
+
+    // Puts the next entry, whose set has this tag, at the head of its chain. There is room for it.
+    pub(crate) fn add(&mut self, tag: u32)
+        requires few { vec_len self.old.links + 1 < 2 ^ 32 }
+        requires room { vec_len self.old.links < vec_capacity self.old.links }
+        requires heads { 0 < vec_len self.old.heads }
+        requires index { IsIndex self.old.heads.items self.old.links.items self.old.sieve.items }
+        ensures index { IsIndex self.new.heads.items self.new.links.items self.new.sieve.items }
+        ensures tags { tags self.new.links.items ≡ tags self.old.links.items ++ tag ∷ [] }
+    {
+        let place = self.links.len() as u32 + 1;
+        let before = hang(
+            self.heads.as_mut_slice(),
+            self.sieve.as_mut_slice(),
+            tag,
+            place,
+        );
+        self.links.push_reserved(Link { tag, before });
     }
 }

@@ -1,4 +1,4 @@
-use Rattle.std.proofs.Common.{◌≡◌, ℕ, eqb, [], ◌∷◌, ◌++◌, length, sym, ap, ◌∙◌, arith, subst, List, None}
+use Rattle.std.proofs.Common.{◌≡◌, ℕ, [], ◌∷◌, ◌++◌, length, sym, ap, ◌∙◌, arith, subst, List, None}
 use Rattle.line_rules.specs.Entries.{Follows}
 use Rattle.line_rules.specs.declared.types.Entry.{Entry}
 use Rattle.lemma_core.specs.declared.types.LogItem.{LogItem}
@@ -7,10 +7,9 @@ use Rattle.lemma_core.specs.declared.types.Event.TheVariants as event
 use Rattle.lemma_core.specs.declared.types.Reply.TheVariants as reply
 use Rattle.lemma_core.specs.Machine.{last_answer, published}
 use Rattle.lemma_core.specs.Books.{BookView, IsBook, ran}
-use Rattle.std.specs.HashMap.{get}
-use Rattle.lemma_core.specs.Chains.{IsChained}
+use Rattle.std.proofs.lemmas.List.{map-append}
+use Rattle.lemma_core.specs.Chains.{tag_of, IsIndexOf}
 use Rattle.lemma_core.specs.Inside.{book_of, IsLogged}
-use Rattle.lemma_core.proofs.Chaining.{chained_same}
 use Rattle.lemma_core.proofs.Logs.{added_is, added_logged, book_published}
 use Rattle.lemma_core.proofs.book.Book.add.Goals as goal
 
@@ -29,11 +28,12 @@ invariant_of-self-2 c =
     let both : P c.push.new.self c.push_reserved.new.self.items =
     (let R : List LogItem → Type 0 = λ z. P c.push.new.self z in let T : List Entry → Type 0 = λ z. P z (s.log.items ++ log.Added (length s.entries) ∷ []) in
     subst R (sym ls) (subst T (sym c.in-Ok-push.ensures.ok) (k, added_logged s.instance s.kind s.cycle s.entries s.log.items s.best s.start s.opening s.room step c.self.invariant.1))) in
-    let room : IsChained s.entries (get eqb c.reserve-2.new.self.last) c.reserve-2.new.self.before.items =
-    (let T : List ℕ → Type 0 = λ z. IsChained s.entries (get eqb s.index.last) z in
-    chained_same s.entries (get eqb s.index.last) (get eqb c.reserve-2.new.self.last) c.reserve-2.new.self.before.items c.reserve-2.ensures.entries (subst T (sym c.reserve-2.ensures.links) c.self.invariant.3)) in
-    let U : List Entry → Type 0 = λ z. IsChained z (get eqb c.add.new.self.last) c.add.new.self.before.items in
-    (both.0, both.1, omega (arith, c.push_reserved.ensures.len, c.push_reserved.ensures.capacity, c.reserve.ensures.len, c.in-Ok.ensures.ok), subst U (sym c.in-Ok-push.ensures.ok) (c.add.ensures s.entries step (sym c.key-key.ensures) room))
+    let index : IsIndexOf (s.entries ++ step ∷ []) c.add.new.self.heads.items c.add.new.self.links.items c.add.new.self.sieve.items = record {
+      index = c.add.ensures.index;
+      same = c.add.ensures.tags ∙ ((λ i. (c.reserve-2.ensures.tags ∙ c.self.invariant.3.same) i ++ c.tag-tag.ensures i ∷ []) ∙ sym (map-append (λ (e : Entry). tag_of e.set) s.entries (step ∷ [])));
+    } in
+    let U : List Entry → Type 0 = λ z. IsIndexOf z c.add.new.self.heads.items c.add.new.self.links.items c.add.new.self.sieve.items in
+    (both.0, both.1, omega (arith, c.push_reserved.ensures.len, c.push_reserved.ensures.capacity, c.reserve.ensures.len, c.in-Ok.ensures.ok), subst U (sym c.in-Ok-push.ensures.ok) index)
 
 pub returns : goal.returns
 returns c =
