@@ -2,6 +2,7 @@
 use Rattle.std.proofs.Common.{◌≡◌, subst, ℕ, zero, suc, ◌+◌, ◌-◌, ◌<◌, ◌≤◌, Bool, true, false, cond, List, [], ◌∷◌, ◌++◌, length, take, refl, sym, ap, ◌∙◌, arith, Some, None, Option, length-append}
 use Rattle.std.specs.Prelude.{slice_get}
 use Rattle.std.proofs.lemmas.Bool.Decides.{nat_tests}
+use Rattle.std.proofs.lemmas.List.{append-nil, take-append-le}
 use Rattle.line_instance.specs.Line.{Line}
 use Rattle.line_rules.specs.declared.types.LineKind.{LineKind}
 use Rattle.line_rules.specs.declared.types.Entry.{Entry}
@@ -68,20 +69,11 @@ all-push : (n : ℕ) (ls : List LogItem) (l : LogItem) → AllBelow n ls → Bel
 all-push n [] l b c = (c, tt)
 all-push n (x ∷ xs) l b c = (b.0, all-push n xs l b.1 c)
 
-take-more : {X : Type 0} (n : ℕ) (xs : List X) (x : X) → n ≤ length xs → take n (xs ++ x ∷ []) ≡ take n xs
-take-more zero xs x l = refl
-take-more (suc n) [] x l = absurd (omega arith)
-take-more (suc n) (y ∷ ys) x l = ap (λ zs. y ∷ zs) (take-more n ys x (omega arith))
-
 pub offers-append : (xs ys : List Item) → offers (xs ++ ys) ≡ offers xs + offers ys
 offers-append [] ys = omega arith
 offers-append (added id e ∷ xs) ys = offers-append xs ys
 offers-append (known id m ∷ xs) ys = offers-append xs ys
 offers-append (better m ∷ xs) ys = omega (arith, offers-append xs ys)
-
-pub nothing_more : {X : Type 0} (xs : List X) → xs ++ [] ≡ xs
-nothing_more [] = refl
-nothing_more (x ∷ xs) = ap (λ zs. x ∷ zs) (nothing_more xs)
 
 -- each better offer of an event leaves the best with a station less at least
 offer_fewer : (s : State) (b : Assignment) (t : Bool) → is_better s b ≡ t
@@ -162,7 +154,7 @@ module _ (line : Line) (kind : LineKind) (cycle : ℕ) (es : List Entry) (ls : L
       let p : room ≡ room - 0 = omega arith in
       λ i. record {
         about = here.about;
-        opening = record { entries = take-more start es e h.start i; stations = stations };
+        opening = record { entries = take-append-le start es (e ∷ []) h.start i; stations = stations };
         state = record { entries = es ++ e ∷ []; best = best };
         events = items-added e h.below i;
         room = p i;
@@ -191,4 +183,4 @@ worse_is b a l =
     let t : is_better b.state a ≡ false = grind (arith, nat_tests, l) in
     rw t (
     let p : b.room ≡ b.room - 0 = omega arith in
-    λ i. record { about = b.about; opening = b.opening; state = b.state; events = sym (nothing_more b.events) i; room = p i })
+    λ i. record { about = b.about; opening = b.opening; state = b.state; events = sym (append-nil b.events) i; room = p i })

@@ -1,5 +1,6 @@
 -- What a desk did, what it saw where it is alone, and the entries that its items name, step by step.
 use Rattle.std.proofs.Common.{◌≡◌, ℕ, zero, suc, ◌<◌, ◌≤◌, Bool, true, List, [], ◌∷◌, ◌++◌, length, inl, inr, refl, sym, ap, ◌∙◌, subst, arith, append_assoc, length-append, Some, None, Option}
+use Rattle.std.proofs.lemmas.List.{append-nil}
 use Rattle.std.specs.Prelude.{slice_get}
 use Rattle.line_rules.specs.declared.types.Entry.{Entry}
 use Rattle.line_rules.proofs.Grown.{get_longer, get_push_cases}
@@ -7,8 +8,8 @@ use Rattle.lemma_core.specs.History.{Item, added, known, better, Standing, after
 use Rattle.lemma_core.specs.Desks.{DeskView, entries, Keeps, Waits, Adds}
 use Rattle.lemma_core.specs.Own.{named, added_of, AreAt, Did, SawOnly}
 use Rattle.lemma_core.proofs.Runs.{replay-append}
-use Rattle.lemma_core.proofs.Logs.{nothing_more, get-end}
-use Rattle.lemma_core.proofs.GoingOn.{entries_go_on}
+use Rattle.lemma_core.proofs.Logs.{get-end}
+use Rattle.lemma_core.proofs.HistoryGrows.{entries_go_on}
 
 -- a list that another one begins with is at most as long
 begins_longer : (h g : List Item) → Begins h g → length h ≤ length g
@@ -38,7 +39,7 @@ behind_both (x ∷ ps) qs n a b zero p e = a zero p e
 behind_both (x ∷ ps) qs n a b (suc k) p e = behind_both ps qs n (λ j q f. a (suc j) q f) b k p e
 
 pub did_none : (d : DeskView) → Did d d []
-did_none d = record { places = []; own = sym (nothing_more d.own); behind = λ k p e. absurd (cc); there = tt }
+did_none d = record { places = []; own = sym (append-nil d.own); behind = λ k p e. absurd (cc); there = tt }
 
 pub did_both : (a b c : DeskView) (is js : List Item) → Keeps a b → Keeps b c → Did a b is → Did b c js → Did a c (is ++ js)
 did_both a b c is js k l x y = record {
@@ -68,7 +69,7 @@ pub did_adds : (a b c : DeskView) (is before : List Item) (item : Item) → Keep
 did_adds a b c is before item k x y = did_both a b c is (item ∷ []) k y.keeps x (did_one b c before item y)
 
 pub saw_none : (d : DeskView) → SawOnly d d []
-saw_none d t = sym (nothing_more d.seen)
+saw_none d t = sym (append-nil d.seen)
 
 pub saw_both : (a b c : DeskView) (is js : List Item) → Keeps a b → SawOnly a b is → SawOnly b c js → SawOnly a c (is ++ js)
 saw_both a b c is js k x y t = y (k.alone ∙ t) ∙ (ap (λ (h : List Item). h ++ js) (x t) ∙ append_assoc a.seen is js)
@@ -84,7 +85,7 @@ saw_adds a b c is before item k x y = saw_both a b c is (item ∷ []) k x (saw_o
 
 -- the entries of a replay are those at its start and those that its items added
 replay_adds : (s : Standing) (is : List Item) → (replay s is).entries ≡ s.entries ++ added_of is
-replay_adds s [] = sym (nothing_more s.entries)
+replay_adds s [] = sym (append-nil s.entries)
 replay_adds s (added id e ∷ is) = replay_adds (after s (added id e)) is ∙ append_assoc s.entries (e ∷ []) (added_of is)
 replay_adds s (known id most ∷ is) = replay_adds s is
 replay_adds s (better n ∷ is) = replay_adds (after s (better n)) is

@@ -5,6 +5,7 @@ use Rattle.std.specs.Bool.{beq}
 use lib.Pointwise.{pointwise}
 use Rattle.std.proofs.lemmas.Bool.{and_parts, and_from, true≢false}
 use Rattle.std.proofs.lemmas.Bool.Decides.{nat_tests}
+use Rattle.std.proofs.lemmas.Option.{none-some, same_Some}
 use Rattle.task_set.specs.Words.{equal_sets}
 use Rattle.line_rules.specs.Entries.{Answers, Follows, IsFresh, IsUnanswered, IsLastAnswer}
 use Rattle.line_rules.specs.declared.types.Entry.{Entry}
@@ -39,15 +40,6 @@ record IsFoundFrom (k : ℕ) (es : List Entry) (set : List Bool) (most cycle : �
   found : (id : ℕ) → o ≡ Some id → (d : ℕ) × ((id ≡ k + d) × IsLastAnswer es set most cycle d)
   absent : o ≡ None → IsUnanswered es set most cycle
 
-none_some : {A : Type 0} (x : A) → None ≡ Some x → ⊥
-none_some x e = absurd (cc)
-
-some_none : {A : Type 0} (x : A) → Some x ≡ None → ⊥
-some_none x e = absurd (cc)
-
-some_same : (a b : ℕ) → Some a ≡ Some b → a ≡ b
-some_same a b e = cc
-
 shifted_last : (e : Entry) (es : List Entry) (set : List Bool) (most cycle d : ℕ) → ((k : ℕ) (x : Entry) → d < k → slice_get es k ≡ Some x → Answers x set most cycle → ⊥)
     → (k : ℕ) (x : Entry) → suc d < k → slice_get (e ∷ es) k ≡ Some x → Answers x set most cycle → ⊥
 shifted_last e es set most cycle d h zero x l g a = absurd (omega arith)
@@ -73,20 +65,20 @@ found_step : (k : ℕ) (e : Entry) (es : List Entry) (set : List Bool) (most cyc
 found_step k e es set most cycle (Some i) b t f = record {
   found = λ id g.
       let h : (d : ℕ) × ((i ≡ suc k + d) × IsLastAnswer es set most cycle d) = f.found i refl in
-      (suc h.0, (omega (arith, some_same i id g, h.1.0), shifted e es set most cycle h.0 h.1.1));
-  absent = λ g. absurd (some_none i g);
+      (suc h.0, (omega (arith, same_Some i id g, h.1.0), shifted e es set most cycle h.0 h.1.1));
+  absent = λ g. absurd (none-some i (sym g));
 }
 found_step k e es set most cycle None true t f = record {
-  found = λ id g. (0, (omega (arith, some_same k id g), record { entry = e; there = refl; answers = answers_is e set most cycle t; last = first_last e es set most cycle (f.absent refl) }));
-  absent = λ g. absurd (some_none k g);
+  found = λ id g. (0, (omega (arith, same_Some k id g), record { entry = e; there = refl; answers = answers_is e set most cycle t; last = first_last e es set most cycle (f.absent refl) }));
+  absent = λ g. absurd (none-some k (sym g));
 }
 found_step k e es set most cycle None false t f = record {
-  found = λ id g. absurd (none_some id g);
+  found = λ id g. absurd (none-some id g);
   absent = λ g. none_is e es set most cycle t (f.absent refl);
 }
 
 found_from : (k : ℕ) (es : List Entry) (set : List Bool) (most cycle : ℕ) → IsFoundFrom k es set most cycle (last_from k es set most cycle)
-found_from k [] set most cycle = record { found = λ id g. absurd (none_some id g); absent = λ g j x h a. get_none j x h }
+found_from k [] set most cycle = record { found = λ id g. absurd (none-some id g); absent = λ g j x h a. get_none j x h }
 found_from k (e ∷ es) set most cycle = found_step k e es set most cycle (last_from (suc k) es set most cycle) (answers e set most cycle) refl (found_from (suc k) es set most cycle)
 
 pub last_found : (es : List Entry) (set : List Bool) (most cycle id : ℕ) → last_answer es set most cycle ≡ Some id → IsLastAnswer es set most cycle id

@@ -1,3 +1,9 @@
+//! A book: entries, each of which follows from those before it, the best balance so far, and a log of what was published and offered.
+//!
+//! Its state is that of a small machine (specs/Machine.antt) after the events of the log: an entry is added where none answers it, and a
+//! balance becomes the best where it has fewer stations. A look costs a hash of the set and a step or a few in the index. A publish adds
+//! the entry at the end of three vectors, whose room is taken before anything changes, so it does all or nothing. An entry takes about
+//! 214 bytes with its log item and its share of the index. `reserve_offers` takes room for all offers to come, so an offer never takes memory.
 ghost use Rattle.std.specs.Prelude.{◌≡◌, ℕ, ◌+◌, ◌<◌, ◌≤◌, List, [], ◌∷◌, length, take, slice_get, Some, None, OnOk, OnErr};
 ghost use Rattle.line_rules.specs.Balance.{Holds, IsRight};
 ghost use Rattle.line_rules.specs.Entries.{IsDerived, IsFresh, Follows};
@@ -9,7 +15,7 @@ ghost use Rattle.lemma_core.specs.Own.{IsStatable, AreStatable};
 ghost use Rattle.lemma_core.specs.Books.{BookView, IsBook, IsReserved, MayBeBest, opened, reopened, ran, with_room, DoesPublish};
 
 use crate::index::{Index, tag};
-use crate::scan::{looked, scan};
+use crate::plain_lookup::{find_plain, looked};
 use crate::types::{LogItem, Looked, Offered, Published};
 use line_instance::Instance;
 use line_rules::{Balance, Entries, Entry, LineKind};
@@ -184,7 +190,7 @@ impl Book {
     pub fn look_plain(&self, set: &TaskSet, most: u32) -> Looked
         ensures { result ≡ found self.now.state.entries (last_answer self.now.state.entries set.now most self.now.about.cycle) }
     {
-        looked(&self.entries, scan(&self.entries, set, most, self.cycle))
+        looked(&self.entries, find_plain(&self.entries, set, most, self.cycle))
     }
 
     /// Publishes an entry that follows from those of the book and that a certificate can say: at most 1,024 stations, at a cycle of 1

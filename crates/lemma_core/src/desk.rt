@@ -1,3 +1,7 @@
+//! A desk: the four calls that a search makes, whether it works on a book of its own or on a part in one that others work on too.
+//!
+//! Contracts see of a desk the list of events that it has seen, so that an answer can be said to be true at the time of its call and to
+//! stay true. For a book the calls cost what the book's own cost: `offer` and `least` a few steps, `look` and `publish` a look into the index.
 ghost use Rattle.std.specs.Prelude.{◌≡◌, true};
 ghost use Rattle.line_rules.specs.Balance.{IsRight};
 ghost use Rattle.lemma_core.specs.Desks.{DeskView, entries, HasDerived, HasOwn, FollowsSeen, Waits, Finds, Publishes, Offers, Tells};

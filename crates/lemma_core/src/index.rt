@@ -11,7 +11,7 @@ ghost use Rattle.task_set.specs.Truths.{words_of};
 ghost use Rattle.lemma_core.specs.Machine.{last_answer};
 ghost use Rattle.lemma_core.specs.Chains.{tag_of, tags, bucket_in, word_in, mark_of, IsIndex, IsIndexOf};
 
-use crate::scan::is_answer;
+use crate::plain_lookup::is_answer;
 use line_rules::Entries;
 use std::alloc::{AllocError, Global};
 use std::hash::{FoldHasher, Hash, Hasher};

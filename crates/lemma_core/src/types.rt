@@ -1,3 +1,5 @@
+//! What a book is asked, what it answers, and what its log keeps. Each is plain data and copied like a number, but for an event, which
+//! hands its entry or its balance over.
 use line_rules::{Balance, Entry};
 use task_set::TaskSet;
 

@@ -2,7 +2,7 @@ use Rattle.std.proofs.Common.{◌≡◌, ◌<◌, get_or, length, ◌∙◌, ari
 use Rattle.std.specs.Prelude.{slice_get}
 use Rattle.std.proofs.lemmas.Option.{slice_get-get_or}
 use Rattle.lemma_core.specs.declared.index.Link.{Link}
-use Rattle.lemma_core.proofs.Chaining.{hung_tags, hung_chains, hung_sieve}
+use Rattle.lemma_core.proofs.ChainFacts.{hung_tags, hung_chains, hung_sieve}
 use Rattle.lemma_core.proofs.index.hang_all.Goals as goal
 
 pub loop-k-preserved : goal.loop-k-preserved

@@ -1,4 +1,4 @@
-use Rattle.lemma_core.proofs.GoingOn.{keeps_none, keeps_both, follows_still}
+use Rattle.lemma_core.proofs.HistoryGrows.{keeps_none, keeps_both, follows_still}
 use Rattle.lemma_core.proofs.laws.desks_go_on.Goals as goal
 
 pub returns : goal.returns

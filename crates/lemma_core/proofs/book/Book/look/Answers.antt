@@ -1,5 +1,5 @@
 use Rattle.std.proofs.Common.{sym, ◌∙◌}
-use Rattle.lemma_core.proofs.Answering.{last_within}
+use Rattle.lemma_core.proofs.LastAnswers.{last_within}
 use Rattle.lemma_core.proofs.book.Book.look.Goals as goal
 
 pub looked-requires : goal.looked-requires

@@ -1,4 +1,4 @@
-use Rattle.lemma_core.proofs.Desking.{has_own}
+use Rattle.lemma_core.proofs.BookAsDesk.{has_own}
 use Rattle.lemma_core.proofs.desk.BookDesk.least.Goals as goal
 
 pub returns-clause-own : goal.returns-clause-own

@@ -1,4 +1,4 @@
-use Rattle.lemma_core.proofs.Desking.{looks, has_derived, has_own}
+use Rattle.lemma_core.proofs.BookAsDesk.{looks, has_derived, has_own}
 use Rattle.lemma_core.proofs.desk.BookDesk.look.Goals as goal
 
 pub returns-clause-finds : goal.returns-clause-finds

@@ -1,4 +1,4 @@
-use Rattle.lemma_core.proofs.Desking.{offers_so, has_own}
+use Rattle.lemma_core.proofs.BookAsDesk.{offers_so, has_own}
 use Rattle.lemma_core.proofs.desk.BookDesk.offer.Goals as goal
 
 pub returns-clause-own : goal.returns-clause-own

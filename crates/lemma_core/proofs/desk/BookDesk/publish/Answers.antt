@@ -1,4 +1,4 @@
-use Rattle.lemma_core.proofs.Desking.{publishes, has_derived, has_own}
+use Rattle.lemma_core.proofs.BookAsDesk.{publishes, has_derived, has_own}
 use Rattle.lemma_core.proofs.desk.BookDesk.publish.Goals as goal
 
 pub returns-clause-publishes : goal.returns-clause-publishes

@@ -6,8 +6,8 @@ use Rattle.line_rules.specs.declared.types.Entry.{Entry}
 use Rattle.lemma_core.specs.declared.index.Link.{Link}
 use Rattle.lemma_core.specs.Chains.{tag_of, bucket_in, IsIndexOf}
 use Rattle.lemma_core.proofs.Runs.{answers_is}
-use Rattle.lemma_core.proofs.Answering.{last_is, none_is, fails_so}
-use Rattle.lemma_core.proofs.Chaining.{IsAt, at_place, at_end, length_links, none_has, walk_first, walk_below, walk_next, other_tag, read_at}
+use Rattle.lemma_core.proofs.LastAnswers.{last_is, none_is, fails_so}
+use Rattle.lemma_core.proofs.ChainFacts.{IsAt, at_place, at_end, length_links, none_has, walk_first, walk_below, walk_next, other_tag, read_at}
 use Rattle.lemma_core.proofs.index.Index.find.Goals as goal
 
 pub returns-then-not-may_have : goal.returns-then-not-may_have

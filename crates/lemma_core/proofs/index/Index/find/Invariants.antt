@@ -1,6 +1,6 @@
 use Rattle.std.proofs.Common.{ℕ, length}
 use Rattle.lemma_core.specs.Chains.{place, bucket_in}
-use Rattle.lemma_core.proofs.Chaining.{IsWalk}
+use Rattle.lemma_core.proofs.ChainFacts.{IsWalk}
 use Rattle.lemma_core.proofs.index.Index.find.Given as goal
 
 abbrev pub invariant-chain : goal.invariant-chain

@@ -1,3 +1,7 @@
+//! A run of events on a book, one after the other: what a book is when no part of the program holds it alone.
+//!
+//! An event costs what its call costs. Room for a reply is taken before its event is done, so the replies that were appended name the
+//! events that were done, also where memory ends.
 ghost use Rattle.std.specs.Prelude.{◌≡◌, [], ◌∷◌, ◌++◌, IfOk, OnOk, OnErr};
 ghost use Rattle.lemma_core.specs.Machine.{answer, answers_of};
 ghost use Rattle.lemma_core.specs.Laws.{MayCome, AllMayCome};

@@ -2,7 +2,7 @@ use Rattle.std.proofs.Common.{◌≤◌, ◌≡◌, ℕ, length, Some}
 use Rattle.std.specs.Prelude.{slice_get}
 use Rattle.line_rules.specs.Entries.{Answers}
 use Rattle.line_rules.specs.declared.types.Entry.{Entry}
-use Rattle.lemma_core.proofs.scan.scan.Given as goal
+use Rattle.lemma_core.proofs.plain_lookup.find_plain.Given as goal
 
 abbrev pub invariant-loop-k : goal.invariant-loop-k
 invariant-loop-k l = record {

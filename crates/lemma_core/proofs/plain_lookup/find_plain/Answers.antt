@@ -1,7 +1,7 @@
 use Rattle.std.proofs.Common.{◌∙◌, sym, arith, ◌-◌}
 use Rattle.lemma_core.proofs.Runs.{answers_is}
-use Rattle.lemma_core.proofs.Answering.{last_is, none_is, passes, fails_so}
-use Rattle.lemma_core.proofs.scan.scan.Goals as goal
+use Rattle.lemma_core.proofs.LastAnswers.{last_is, none_is, passes, fails_so}
+use Rattle.lemma_core.proofs.plain_lookup.find_plain.Goals as goal
 
 pub returns-then-is_answer : goal.returns-then-is_answer
 returns-then-is_answer c = sym (last_is c.args.entries.now c.args.set.now c.args.most c.args.cycle (c.loop-k.k - 1) (record {

@@ -2,7 +2,7 @@
 use Rattle.std.proofs.Common.{◌≡◌, ℕ, ◌<◌, ◌≤◌, Bool, false, List, length, refl, sym, ap, ◌∙◌, subst, inl, inr, arith, Some, None, Option}
 use Rattle.std.specs.Prelude.{slice_get}
 use Rattle.std.proofs.lemmas.Bool.{cases_lt, cases_eq, true≢false}
-use Rattle.std.proofs.lemmas.Option.{slice_get_within}
+use Rattle.std.proofs.lemmas.Option.{slice_get_within, same_Some}
 use Rattle.line_rules.specs.Entries.{Answers, IsUnanswered, IsLastAnswer}
 use Rattle.line_rules.specs.declared.types.Entry.{Entry}
 use Rattle.lemma_core.specs.Machine.{answers, last_answer}
@@ -32,14 +32,11 @@ none_is es set most cycle u = none_case es set most cycle (last_answer es set mo
 pub last_within : (es : List Entry) (set : List Bool) (most cycle id : ℕ) → last_answer es set most cycle ≡ Some id → id < length es
 last_within es set most cycle id e = let a : IsLastAnswer es set most cycle id = last_found es set most cycle id e in slice_get_within es id a.entry a.there
 
-some_same : (x a : Entry) → Some x ≡ Some a → x ≡ a
-some_same x a e = cc
-
 -- the entry at k doesn't answer, and so none from there on does
 pub passes : (es : List Entry) (set : List Bool) (most cycle k : ℕ) (entry : Entry) → slice_get es k ≡ Some entry → (Answers entry set most cycle → ⊥)
     → ((j : ℕ) (e : Entry) → k < j → slice_get es j ≡ Some e → Answers e set most cycle → ⊥) → (j : ℕ) (e : Entry) → k ≤ j → slice_get es j ≡ Some e → Answers e set most cycle → ⊥
 passes es set most cycle k entry there fails above j e l g a = elim (cases_eq j k) [
-  | inl q ↦ fails (let P : Entry → Type 0 = λ z. Answers z set most cycle in subst P (some_same e entry (sym g ∙ (ap (λ (z : ℕ). slice_get es z) q ∙ there))) a)
+  | inl q ↦ fails (let P : Entry → Type 0 = λ z. Answers z set most cycle in subst P (same_Some e entry (sym g ∙ (ap (λ (z : ℕ). slice_get es z) q ∙ there))) a)
   | inr d ↦ above j e (omega arith) g a
 ]
 

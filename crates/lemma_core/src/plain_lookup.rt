@@ -1,3 +1,6 @@
+//! The search through all entries from the end, which finds the last one that answers a question.
+//!
+//! It reads each entry, at about 184 bytes an entry. The index is measured by it, and shares its test of one entry.
 ghost use Rattle.std.specs.Prelude.{◌≡◌, ◌<◌, length};
 ghost use Rattle.std.specs.Option.{ForSome};
 ghost use Rattle.lemma_core.specs.Machine.{answers, last_answer, found};
@@ -15,7 +18,7 @@ pub(crate) fn is_answer(entry: &Entry, set: &TaskSet, most: u32, cycle: u64) -> 
 }
 
 // The number of the last entry that answers the question, by a search through all of them from the end.
-pub(crate) fn scan(entries: &Entries, set: &TaskSet, most: u32, cycle: u64) -> Option<u64>
+pub(crate) fn find_plain(entries: &Entries, set: &TaskSet, most: u32, cycle: u64) -> Option<u64>
     ensures { result ≡ last_answer entries.now set.now most cycle }
 {
     let mut k = entries.len();

@@ -1,5 +1,6 @@
 -- What the calls of a book do, seen as those of a desk that is alone.
 use Rattle.std.proofs.Common.{◌≡◌, ℕ, zero, suc, ◌+◌, ◌<◌, ◌≤◌, Bool, true, false, cond, List, [], ◌∷◌, ◌++◌, length, refl, sym, ap, ◌∙◌, subst, arith, Some, None, Option, length-append}
+use Rattle.std.proofs.lemmas.List.{append-nil}
 use Rattle.std.specs.List.{range_with_len}
 use Rattle.std.specs.Prelude.{slice_get}
 use Rattle.std.proofs.lemmas.Bool.Decides.{nat_tests}
@@ -23,7 +24,7 @@ use Rattle.lemma_core.specs.History.{Item, added, known, better, published_item,
 use Rattle.lemma_core.specs.Books.{BookView, IsBook, IsReserved, ran, DoesPublish, desk_of}
 use Rattle.lemma_core.specs.Desks.{entries, fewest_after, HasDerived, HasOwn, Waits, Adds, Finds, Publishes, Offers, Tells}
 use Rattle.lemma_core.proofs.Runs.{last_found, last_absent}
-use Rattle.lemma_core.proofs.Logs.{nothing_more, worse_is, reserved_ran}
+use Rattle.lemma_core.proofs.Logs.{worse_is, reserved_ran}
 
 -- the entries that a book has seen are its own, and its best's stations the fewest
 pub entries_seen : (b : BookView) → IsBook b → entries (desk_of b) ≡ b.state.entries
@@ -38,7 +39,7 @@ has_derived b ok = let P : List Entry → Type 0 = λ es. IsDerived b.about.kind
 -- nothing changes
 pub stays : (b : BookView) → Waits (desk_of b) (desk_of b)
 stays b = record {
-  keeps = record { about = refl; opening = refl; alone = refl; roomy = λ t. t; seen = ([], nothing_more b.events) };
+  keeps = record { about = refl; opening = refl; alone = refl; roomy = λ t. t; seen = ([], append-nil b.events) };
   own = refl;
   still = λ t. refl;
 }
@@ -89,7 +90,7 @@ adds b v item e = record {
     seen = (item ∷ [], sym e);
   };
   last = e;
-  since = ([], nothing_more b.events);
+  since = ([], append-nil b.events);
   own = ap (λ (xs : List Item). range_with_len 0 (length xs)) e ∙ own_push b.events item;
   still = λ t. refl;
 }
@@ -179,7 +180,7 @@ pub tells : (b : BookView) (n : ℕ) → IsBook b → n ≡ b.state.best.station
 tells b n ok e = record {
   waits = stays b;
   history = b.events;
-  begins = ([], nothing_more b.events);
+  begins = ([], append-nil b.events);
   stations = e ∙ sym (fewest_seen b ok);
   balance = let P : ℕ → Type 0 = λ m. HasBalance b.about.kind b.about.line b.about.cycle m in subst P (sym e) (seat b.state.best.place, ok.right.balance);
   fewest = omega (arith, e, fewest_seen b ok);

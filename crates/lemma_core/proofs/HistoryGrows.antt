@@ -1,5 +1,6 @@
 -- A history that goes on, and a desk that sees more of it.
 use Rattle.std.proofs.Common.{◌≡◌, ◌≤◌, List, [], ◌∷◌, ◌++◌, refl, sym, ap, ◌∙◌, subst, arith, append_assoc}
+use Rattle.std.proofs.lemmas.List.{append-nil}
 use Rattle.line_rules.specs.Entries.{Follows}
 use Rattle.line_rules.specs.declared.types.Entry.{Entry}
 use Rattle.line_rules.proofs.Grown.{follows_longer}
@@ -7,10 +8,9 @@ use Rattle.lemma_core.specs.Machine.{About}
 use Rattle.lemma_core.specs.History.{Item, added, known, better, Standing, after, replay, Begins}
 use Rattle.lemma_core.specs.Desks.{DeskView, entries, FollowsSeen, Keeps}
 use Rattle.lemma_core.proofs.Runs.{replay-append}
-use Rattle.lemma_core.proofs.Logs.{nothing_more}
 
 more_entries : (s : Standing) (xs : List Item) → (more : List Entry) × ((replay s xs).entries ≡ s.entries ++ more)
-more_entries s [] = ([], sym (nothing_more s.entries))
+more_entries s [] = ([], sym (append-nil s.entries))
 more_entries s (added id e ∷ xs) =
     let h : (more : List Entry) × ((replay (after s (added id e)) xs).entries ≡ (s.entries ++ e ∷ []) ++ more) = more_entries (after s (added id e)) xs in
     (e ∷ h.0, h.1 ∙ append_assoc s.entries (e ∷ []) h.0)
@@ -37,7 +37,7 @@ begins_on : (xs ys zs : List Item) → Begins xs ys → Begins ys zs → Begins 
 begins_on xs ys zs a b = (a.0 ++ b.0, sym (append_assoc xs a.0 b.0) ∙ (ap (λ (w : List Item). w ++ b.0) a.1 ∙ b.1))
 
 pub keeps_none : (d : DeskView) → Keeps d d
-keeps_none d = record { about = refl; opening = refl; alone = refl; roomy = λ t. t; seen = ([], nothing_more d.seen) }
+keeps_none d = record { about = refl; opening = refl; alone = refl; roomy = λ t. t; seen = ([], append-nil d.seen) }
 
 pub keeps_both : (a b c : DeskView) → Keeps a b → Keeps b c → Keeps a c
 keeps_both a b c k l = record {

@@ -1,12 +1,13 @@
 -- A book amid a list of events: some were done, and the others are left.
 use Rattle.std.proofs.Common.{◌≡◌, ℕ, ◌+◌, ◌-◌, List, [], ◌∷◌, ◌++◌, refl, sym, ap, ◌∙◌, subst, arith, append_assoc}
+use Rattle.std.proofs.lemmas.List.{append-nil}
 use Rattle.lemma_core.specs.declared.types.Event.{Event}
 use Rattle.lemma_core.specs.declared.types.Reply.{Reply}
 use Rattle.lemma_core.specs.Machine.{State, answer, answers_of, step, run}
 use Rattle.lemma_core.specs.History.{Item, items, history, offers}
 use Rattle.lemma_core.specs.Laws.{AllMayCome}
 use Rattle.lemma_core.specs.Books.{BookView, IsReserved, ran, DidSome}
-use Rattle.lemma_core.proofs.Logs.{nothing_more, offers-append, reserved_ran}
+use Rattle.lemma_core.proofs.Logs.{offers-append, reserved_ran}
 
 run-append : (s : State) (xs ys : List Event) → run s (xs ++ ys) ≡ run (run s xs) ys
 run-append s [] ys = refl
@@ -33,9 +34,9 @@ ran-append b xs ys =
 ran-none : (b : BookView) → b ≡ ran b []
 ran-none b =
     let r : b.room ≡ b.room - 0 = omega arith in
-    λ i. record { about = b.about; opening = b.opening; state = b.state; events = sym (nothing_more b.events) i; room = r i }
+    λ i. record { about = b.about; opening = b.opening; state = b.state; events = sym (append-nil b.events) i; room = r i }
 
-pub record IsAmid (old : BookView) (vs : List Event) (rs : List Reply) (b : BookView) (all : List Reply) (left : List Event) : Type 0 where
+pub record IsMidRun (old : BookView) (vs : List Event) (rs : List Reply) (b : BookView) (all : List Reply) (left : List Event) : Type 0 where
   pub done : List Event
   pub events : done ++ left ≡ vs
   pub replies : all ≡ rs ++ answers_of old.about.cycle old.state done
@@ -43,13 +44,13 @@ pub record IsAmid (old : BookView) (vs : List Event) (rs : List Reply) (b : Book
   pub reserved : IsReserved b
   pub may : AllMayCome b.about b.state left
 
-pub amid_first : (old : BookView) (vs : List Event) (rs : List Reply) → IsReserved old → AllMayCome old.about old.state vs → IsAmid old vs rs old rs vs
-amid_first old vs rs r m = record { done = []; events = refl; replies = sym (nothing_more rs); book = ran-none old; reserved = r; may = m }
+pub run_first : (old : BookView) (vs : List Event) (rs : List Reply) → IsReserved old → AllMayCome old.about old.state vs → IsMidRun old vs rs old rs vs
+run_first old vs rs r m = record { done = []; events = refl; replies = sym (append-nil rs); book = ran-none old; reserved = r; may = m }
 
 module _ (old : BookView) (vs : List Event) (rs : List Reply) (b : BookView) (all : List Reply) (v : Event) (left : List Event) where
-  pub amid_next : (new : BookView) (more : List Reply) (r : Reply) → IsAmid old vs rs b all (v ∷ left) → new ≡ ran b (v ∷ []) → r ≡ answer b.about.cycle b.state v → more ≡ all ++ r ∷ []
-      → IsAmid old vs rs new more left
-  amid_next new more r h n a m =
+  pub run_next : (new : BookView) (more : List Reply) (r : Reply) → IsMidRun old vs rs b all (v ∷ left) → new ≡ ran b (v ∷ []) → r ≡ answer b.about.cycle b.state v → more ≡ all ++ r ∷ []
+      → IsMidRun old vs rs new more left
+  run_next new more r h n a m =
       let q : r ≡ answer old.about.cycle (run old.state h.done) v = a ∙ ap (λ (z : BookView). answer z.about.cycle z.state v) h.book in
       let P : BookView → Type 0 = λ z. IsReserved z in
       let Q : BookView → Type 0 = λ z. AllMayCome z.about z.state left in
@@ -63,12 +64,12 @@ module _ (old : BookView) (vs : List Event) (rs : List Reply) (b : BookView) (al
         may = subst Q (sym n) h.may.1;
       }
 
-pub did_some : (old : BookView) (vs : List Event) (rs : List Reply) (b : BookView) (all : List Reply) (left : List Event) → IsAmid old vs rs b all left → DidSome old vs rs b all
+pub did_some : (old : BookView) (vs : List Event) (rs : List Reply) (b : BookView) (all : List Reply) (left : List Event) → IsMidRun old vs rs b all left → DidSome old vs rs b all
 did_some old vs rs b all left h = record { done = h.done; left = left; events = h.events; replies = h.replies; book = h.book }
 
 -- where nothing is left, all is done
-pub all_done : (old : BookView) (vs : List Event) (rs : List Reply) (b : BookView) (all : List Reply) (left : List Event) → left ≡ [] → IsAmid old vs rs b all left
+pub all_done : (old : BookView) (vs : List Event) (rs : List Reply) (b : BookView) (all : List Reply) (left : List Event) → left ≡ [] → IsMidRun old vs rs b all left
     → (all ≡ rs ++ answers_of old.about.cycle old.state vs) × (b ≡ ran old vs)
 all_done old vs rs b all left none h =
-    let e : h.done ≡ vs = sym (nothing_more h.done) ∙ (ap (λ (zs : List Event). h.done ++ zs) (sym none) ∙ h.events) in
+    let e : h.done ≡ vs = sym (append-nil h.done) ∙ (ap (λ (zs : List Event). h.done ++ zs) (sym none) ∙ h.events) in
     (h.replies ∙ ap (λ (zs : List Event). rs ++ answers_of old.about.cycle old.state zs) e, h.book ∙ ap (λ (zs : List Event). ran old zs) e)
