@@ -176,66 +176,121 @@ fn does_three_events(rt: HostRuntime) -> Result<(), Fail> {
     Ok(())
 }
 
-#[test]
-fn names_the_last_entry_that_answers(rt: HostRuntime) -> Result<(), Fail> {
-    let mut book = book_of_five(rt.alloc())?;
+// The book of the five tasks, and what it answers to three entries of all tasks and one station, at cycles 7, 6 and 8.
+fn book_of_two_entries(alloc: Global) -> Result<(Book, [Option<Published>; 3]), Fail> {
+    let mut book = book_of_five(alloc)?;
     let all = book.instance().all();
-    for (cycle, want) in [
-        (CYCLE, Published::Added(0)),
-        (6, Published::Known(0)),
-        (8, Published::Added(1)),
-    ] {
-        assert_eq!(rt; publish(&mut book, all, 1, cycle), Some(want), "at {cycle}");
-    }
-    assert_eq!(rt;
-        asked(&mut book, &all, 1),
-        (Looked::Found { id: 1, most: 1 }, 5)
-    );
+    let first = publish(&mut book, all, 1, CYCLE);
+    let second = publish(&mut book, all, 1, 6);
+    let third = publish(&mut book, all, 1, 8);
+    Ok((book, [first, second, third]))
+}
+
+#[test]
+fn publishes_what_is_new(rt: HostRuntime) -> Result<(), Fail> {
+    let (book, answers) = book_of_two_entries(rt.alloc())?;
+    drop(book);
+    let want = [
+        Some(Published::Added(0)),
+        Some(Published::Known(0)),
+        Some(Published::Added(1)),
+    ];
+    assert_eq!(rt; answers.as_slice(), want.as_slice());
+    Ok(())
+}
+
+#[test]
+fn finds_the_last_entry_that_answers(rt: HostRuntime) -> Result<(), Fail> {
+    let (mut book, _answers) = book_of_two_entries(rt.alloc())?;
+    let all = book.instance().all();
+    let want = (Looked::Found { id: 1, most: 1 }, 5);
+    assert_eq!(rt; asked(&mut book, &all, 1), want);
+    Ok(())
+}
+
+#[test]
+fn finds_no_entry_for_more_stations(rt: HostRuntime) -> Result<(), Fail> {
+    let (mut book, _answers) = book_of_two_entries(rt.alloc())?;
+    let all = book.instance().all();
     assert_eq!(rt; asked(&mut book, &all, 2), (Looked::Absent, 5));
+    Ok(())
+}
+
+#[test]
+fn keeps_the_entries(rt: HostRuntime) -> Result<(), Fail> {
+    let (book, _answers) = book_of_two_entries(rt.alloc())?;
     if book.len() != 2 || book.entries().len() != 2 {
         return Err("other entries")?;
     }
     assert_eq!(rt; (book.entry(1).cycle, book.entries().at(0).cycle), (8, 7));
+    Ok(())
+}
+
+#[test]
+fn logs_what_was_known(rt: HostRuntime) -> Result<(), Fail> {
+    let (book, _answers) = book_of_two_entries(rt.alloc())?;
     assert_eq!(rt; logged(&book, 1)?, LogItem::Known { id: 0, most: 1 });
+    Ok(())
+}
+
+// The book of the five tasks, and what it answers to balances in three stations and in four.
+fn book_of_three_stations(alloc: Global) -> Result<(Book, (Offered, Offered)), Fail> {
+    let mut book = book_of_five(alloc)?;
+    let first = offer(&mut book, balance(alloc, 3, &[1, 2, 1, 2, 3])?)?;
+    let second = offer(&mut book, balance(alloc, 4, &[1, 2, 3, 3, 4])?)?;
+    Ok((book, (first, second)))
+}
+
+#[test]
+fn takes_the_better_balance(rt: HostRuntime) -> Result<(), Fail> {
+    let (book, answers) = book_of_three_stations(rt.alloc())?;
+    drop(book);
+    assert_eq!(rt; answers, (Offered::Better, Offered::NotBetter));
     Ok(())
 }
 
 #[test]
 fn keeps_the_better_balance(rt: HostRuntime) -> Result<(), Fail> {
-    let mut book = book_of_five(rt.alloc())?;
-    let three = balance(rt.alloc(), 3, &[1, 2, 1, 2, 3])?;
-    assert_eq!(rt; offer(&mut book, three)?, Offered::Better);
-    let four = balance(rt.alloc(), 4, &[1, 2, 3, 3, 4])?;
-    assert_eq!(rt; offer(&mut book, four)?, Offered::NotBetter);
+    let (book, _answers) = book_of_three_stations(rt.alloc())?;
     assert_eq!(rt; (book.least(), book.opening(), book.log_len()), (3, 5, 1));
+    Ok(())
+}
+
+#[test]
+fn logs_the_better_balance(rt: HostRuntime) -> Result<(), Fail> {
+    let (book, _answers) = book_of_three_stations(rt.alloc())?;
     assert_eq!(rt; logged(&book, 0)?, LogItem::Offered { stations: 3 });
+    Ok(())
+}
+
+// A book with an entry of all tasks, opened again at cycle 8 with a balance in two stations.
+fn book_opened_again(alloc: Global) -> Result<Book, Fail> {
+    let (book, _answers) = book_of_two_entries(alloc)?;
+    let two = balance(alloc, 2, &[1, 2, 1, 2, 1])?;
+    let Some(book) = reopened(sent(book), two) else {
+        return Err("no balance")?;
+    };
+    Ok(book)
+}
+
+#[test]
+fn opens_again_with_its_entries(rt: HostRuntime) -> Result<(), Fail> {
+    let book = book_opened_again(rt.alloc())?;
+    assert_eq!(rt; (book.len(), book.log_len(), book.opening_len()), (2, 0, 2));
     Ok(())
 }
 
 #[test]
 fn opens_again_at_another_cycle(rt: HostRuntime) -> Result<(), Fail> {
-    let mut book = book_of_five(rt.alloc())?;
-    let all = book.instance().all();
-    let _added = publish(&mut book, all, 1, CYCLE);
-    let two = balance(rt.alloc(), 2, &[1, 2, 1, 2, 1])?;
-    let Some(book) = reopened(sent(book), two) else {
-        return Err("no balance")?;
-    };
-    assert_eq!(rt;
-        (
-            book.len(),
-            book.log_len(),
-            book.opening(),
-            book.opening_len()
-        ),
-        (1, 0, 2, 1)
-    );
-    assert_eq!(rt;
-        (book.kind(), book.cycle(), book.best().stations),
-        (LineKind::Straight, 8, 2)
-    );
-    let (entries, best) = book.into_parts();
-    assert_eq!(rt; (entries.len(), best.place.len()), (1, 5));
+    let book = book_opened_again(rt.alloc())?;
+    assert_eq!(rt; (book.opening(), book.cycle(), book.best().stations), (2, 8, 2));
+    Ok(())
+}
+
+#[test]
+fn gives_its_parts(rt: HostRuntime) -> Result<(), Fail> {
+    let (entries, best) = book_opened_again(rt.alloc())?.into_parts();
+    assert_eq!(rt; (entries.len(), best.place.len()), (2, 5));
     Ok(())
 }
 
@@ -246,6 +301,31 @@ fn next(state: u64) -> u64 {
         .wrapping_add(1_442_695_040_888_963_407)
 }
 
+// How many of the looks for the set, by up to three stations, find something; none where the index and the search don't agree.
+fn found_alike(book: &Book, set: &TaskSet) -> Option<u32> {
+    let mut found = 0u32;
+    for most in 0..4 {
+        let look = book.look(set, most);
+        if look != book.look_plain(set, most) {
+            return None;
+        }
+        if look != Looked::Absent {
+            found = found.wrapping_add(1);
+        }
+    }
+    Some(found)
+}
+
+// Publishes an entry of a set of two of the five tasks, where its number gives one, and counts what is found of it.
+fn found_of(book: &mut Book, state: u64) -> Option<u32> {
+    let set = TaskSet::from_members(&[(state >> 33) as u32 % 5, (state >> 40) as u32 % 5]);
+    let (most, cycle) = ((state >> 50) as u32 % 3, 1 + (state >> 55) % 12);
+    if publish(book, set, most, cycle).is_none() {
+        return Some(0);
+    }
+    found_alike(book, &set)
+}
+
 #[test]
 fn finds_by_the_index_what_a_search_finds(rt: HostRuntime) -> Result<(), Fail> {
     let mut book = book_of_five(rt.alloc())?;
@@ -253,19 +333,23 @@ fn finds_by_the_index_what_a_search_finds(rt: HostRuntime) -> Result<(), Fail> {
     let mut found = 0u32;
     for _ in 0..400 {
         state = next(state);
-        let set = TaskSet::from_members(&[(state >> 33) as u32 % 5, (state >> 40) as u32 % 5]);
-        let (most, cycle) = ((state >> 50) as u32 % 3, 1 + (state >> 55) % 12);
-        if publish(&mut book, set, most, cycle).is_none() {
-            continue;
-        }
-        for most in 0..4 {
-            let look = book.look(&set, most);
-            assert_eq!(rt; look, book.look_plain(&set, most));
-            if look != Looked::Absent {
-                found = found.wrapping_add(1);
-            }
-        }
+        found = found.wrapping_add(found_of(&mut book, state).ok_or("not alike")?);
     }
     assert!(rt; book.len() > 10 && found > 100);
+    Ok(())
+}
+
+// Publishes the entries of a hundred sets, so that the tables of the index grow, and tells whether each set is found alike.
+#[test]
+fn finds_alike_after_the_tables_grew(rt: HostRuntime) -> Result<(), Fail> {
+    let mut book = book_of_five(rt.alloc())?;
+    let mut state = 1;
+    for k in 0..100 {
+        state = next(state);
+        let set = TaskSet::from_members(&[k % 5, (state >> 40) as u32 % 5, (state >> 50) as u32 % 5]);
+        let _added = publish(&mut book, set, 0, 1 + u64::from(k));
+        let _found = found_alike(&book, &set).ok_or("not alike")?;
+    }
+    assert!(rt; book.len() > 64);
     Ok(())
 }
