@@ -1,10 +1,10 @@
-//! The same entries in plain Rust: a vector of entries, a vector of log items, and a map from the words of a set to the numbers of its
-//! entries.
+//! The same entries in plain Rust: a vector of entries, a vector of log items, and a map from the words of a set to
+//! the numbers of its entries.
 
 use std::collections::HashMap;
 use std::time::Instant;
 
-const ENTRIES: u64 = 2_000_000;
+const LOOKS: u64 = 2_000_000;
 
 #[allow(dead_code)]
 enum Why {
@@ -82,12 +82,12 @@ fn held() -> u64 {
     pages.unwrap_or(0) * 4096
 }
 
-fn main() {
+fn time_book(entries: u64) {
     let mut book = Book::default();
     let empty = held();
     let start = Instant::now();
     let mut added = 0;
-    for number in 0..ENTRIES {
+    for number in 0..entries {
         let step = Entry {
             set: set_of(number),
             most: 0,
@@ -99,18 +99,27 @@ fn main() {
         }
     }
     let spent = start.elapsed().as_nanos();
-    println!("publish {ENTRIES} {spent} {added} {}", held() - empty);
+    println!("publish-{entries} {entries} {spent} {added} {}", held().saturating_sub(empty));
+    let rounds = LOOKS / entries;
     for _ in 0..3 {
-        for (name, first) in [("look", 0), ("absent", ENTRIES)] {
+        for (name, first) in [("look", 0), ("absent", entries)] {
             let start = Instant::now();
             let mut found = 0;
-            for number in 0..ENTRIES {
-                if book.look(&set_of(number + first), 0, 1).is_some() {
-                    found += 1;
+            for _ in 0..rounds {
+                for number in 0..entries {
+                    if book.look(&set_of(number + first), 0, 1).is_some() {
+                        found += 1;
+                    }
                 }
             }
             let spent = start.elapsed().as_nanos();
-            println!("{name} {ENTRIES} {spent} {found} 0");
+            println!("{name}-{entries} {} {spent} {found} 0", rounds * entries);
         }
     }
+}
+
+fn main() {
+    time_book(2_000_000);
+    time_book(200_000);
+    time_book(10_000);
 }

@@ -1,5 +1,5 @@
 -- A walk along a chain of entries whose tags fall into one bucket, a chain with a tag more, and a sieve with a mark more.
-use Rattle.std.proofs.Common.{◌≡◌, ◌≢◌, ℕ, zero, suc, ◌+◌, ◌-◌, ◌/◌, ◌%◌, ◌^◌, ◌<◌, ◌≤◌, min, max, Bool, get_or, set, List, [], ◌∷◌, ◌++◌, length, take, map, replicate, inl, inr, refl, sym, ap, ◌∙◌, subst, arith, Some, None, Option, length-append, length-set, bit_and, bit_or}
+use Rattle.std.proofs.Common.{◌≡◌, ℕ, zero, suc, ◌+◌, ◌-◌, ◌/◌, ◌<◌, ◌≤◌, min, max, Bool, get_or, set, List, [], ◌∷◌, ◌++◌, length, take, replicate, inl, inr, refl, sym, ap, ◌∙◌, subst, arith, Some, None, Option, length-append, length-set, bit_and, bit_or}
 use Rattle.std.specs.Prelude.{slice_get, slice_index, slice_set}
 use Rattle.std.specs.Int.{bit_at}
 use Rattle.std.specs.Option.{option_map}
@@ -12,7 +12,7 @@ use Rattle.std.proofs.lemmas.Option.{slice_get_within, slice_get_read, slice_get
 use Rattle.line_rules.specs.Entries.{Answers, IsUnanswered}
 use Rattle.line_rules.specs.declared.types.Entry.{Entry}
 use Rattle.line_rules.proofs.Grown.{get_longer, get_push_cases}
-use Rattle.lemma_core.specs.Chains.{tag_of, tags_of, place, IsLastPlace, HasNoPlace, IsLast, IsChained, IsSieve, bucket_in, word_in, mark_of, tags, links, IsIndex, IsIndexOf}
+use Rattle.lemma_core.specs.Chains.{tag_of, tags_of, place, IsLast, IsChained, IsSieve, bucket_in, word_in, mark_of, tags, links, IsIndex, IsIndexOf}
 use Rattle.lemma_core.specs.declared.index.Link.{Link}
 use Rattle.lemma_core.proofs.Logs.{get-end}
 

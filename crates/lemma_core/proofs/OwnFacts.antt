@@ -1,9 +1,9 @@
 -- What a desk did, what it saw where it is alone, and the entries that its items name, step by step.
-use Rattle.std.proofs.Common.{◌≡◌, ℕ, zero, suc, ◌<◌, ◌≤◌, Bool, true, List, [], ◌∷◌, ◌++◌, length, inl, inr, refl, sym, ap, ◌∙◌, subst, arith, append_assoc, length-append, Some, None, Option}
+use Rattle.std.proofs.Common.{◌≡◌, ℕ, zero, suc, ◌≤◌, List, [], ◌∷◌, ◌++◌, length, sym, ap, ◌∙◌, subst, arith, append_assoc, length-append, Some}
 use Rattle.std.proofs.lemmas.List.{append-nil}
 use Rattle.std.specs.Prelude.{slice_get}
 use Rattle.line_rules.specs.declared.types.Entry.{Entry}
-use Rattle.line_rules.proofs.Grown.{get_longer, get_push_cases}
+use Rattle.line_rules.proofs.Grown.{get_longer}
 use Rattle.lemma_core.specs.History.{Item, added, known, better, Standing, after, replay, Begins}
 use Rattle.lemma_core.specs.Desks.{DeskView, entries, Keeps, Waits, Adds}
 use Rattle.lemma_core.specs.Own.{named, added_of, AreAt, Did, SawOnly}

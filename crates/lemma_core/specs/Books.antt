@@ -17,7 +17,8 @@ use Rattle.lemma_core.specs.History.{Item, Standing, history, standing, replay, 
 use Rattle.lemma_core.specs.Desks.{DeskView}
 use Rattle.lemma_core.specs.Own.{AreStatable}
 
--- What a book is about; the state that it opened with; its state; the events since then; and for how many offers its log has room.
+-- What a book is about; the state that it opened with; its state; the events since then; and for how many offers its
+-- log has room.
 pub record BookView : Type 0 where
   pub about : About
   pub opening : Standing
@@ -25,8 +26,9 @@ pub record BookView : Type 0 where
   pub events : List Item
   pub room : ℕ
 
--- What is true of every book: its entries are derived, fresh and such as a certificate can say, its best balance is right at its cycle, its events are exact, each at
--- its turn, and replay from the opening state to the entries and the best's stations, and the best has at most as many stations as there are tasks, with each better offer fewer.
+-- What is true of every book: its entries are derived, fresh and such as a certificate can say, its best balance is
+-- right at its cycle, its events are exact, each at its turn, and replay from the opening state to the entries and
+-- the best's stations, and the best has at most as many stations as there are tasks, with each better offer fewer.
 pub record IsBook (b : BookView) : Type 0 where
   pub derived : IsDerived b.about.kind b.about.line b.state.entries
   pub fresh : IsFresh b.state.entries
@@ -79,7 +81,7 @@ ran b vs = record {
 abbrev pub with_room : BookView → ℕ → BookView
 with_room b room = record { about = b.about; opening = b.opening; state = b.state; events = b.events; room = room }
 
--- what publishing does to a book: the core machine answers, and the event is done; or for want of memory nothing is
+-- what publishing does to a book: the core machine answers, and the event is done; or, out of memory, nothing is
 abbrev pub DoesPublish : BookView → Entry → Published → BookView → Type 0
 DoesPublish old e (published.Known id) new = (answer old.about.cycle old.state (event.Publish e) ≡ reply.Known id) × (new ≡ ran old (event.Publish e ∷ []))
 DoesPublish old e (published.Added id) new = (answer old.about.cycle old.state (event.Publish e) ≡ reply.Added id) × (new ≡ ran old (event.Publish e ∷ []))

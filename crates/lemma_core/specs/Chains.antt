@@ -1,6 +1,7 @@
--- How entries are found by their sets. Each set has a tag, which is a part of a hash of it. The tags of the entries fall into buckets, and
--- those of one bucket stand in a chain, the last one first. A sieve has a mark for each of them, and lets few other tags through.
-use Rattle.std.specs.Prelude.{◌≡◌, ℕ, zero, suc, ◌-◌, ◌/◌, ◌%◌, ◌^◌, ◌<◌, Bool, List, [], length, slice_get, slice_index, map, fold, bit_and, Option, Some, None}
+-- How entries are found by their sets. Each set has a tag, which is a part of a hash of it. The tags of the entries
+-- fall into buckets, and those of one bucket stand in a chain, the last one first. A sieve has a mark for each of
+-- them, and lets few other tags through.
+use Rattle.std.specs.Prelude.{◌≡◌, ℕ, zero, suc, ◌-◌, ◌/◌, ◌%◌, ◌^◌, ◌<◌, Bool, List, length, slice_get, slice_index, map, fold, bit_and, Option, Some, None}
 use Rattle.std.specs.Hash as fed
 use Rattle.std.specs.Hash.FoldHasher as folding
 use Rattle.task_set.specs.Truths.{words_of}
@@ -64,7 +65,8 @@ tags ls = map (λ (l : Link). l.tag) ls
 abbrev pub links : List Link → List ℕ
 links ls = map (λ (l : Link). l.before) ls
 
--- What is true of every index: the chains and the sieve are those of its tags, and both are there or neither, and then there is no tag.
+-- What is true of every index: the chains and the sieve are those of its tags, and both are there or neither, and
+-- then there is no tag.
 pub record IsIndex (heads : List ℕ) (ls : List Link) (sieve : List ℕ) : Type 0 where
   pub chained : IsChained (bucket_in (length heads)) (tags ls) heads (links ls)
   pub sieved : IsSieve (word_in (length sieve)) mark_of (tags ls) sieve

@@ -1,4 +1,5 @@
--- What contracts see of a desk, where entries are looked up and published and balances are offered, and what its calls do.
+-- What contracts see of a desk, where entries are looked up and published and balances are offered, and what its
+-- calls do.
 use Rattle.std.specs.Prelude.{◌≡◌, ℕ, ◌<◌, ◌≤◌, Bool, true, List, [], ◌∷◌, ◌++◌, length}
 use Rattle.line_rules.specs.Accepted.{HasBalance}
 use Rattle.line_rules.specs.Entries.{Follows, IsDerived, IsUnanswered, IsLastAnswer}
@@ -12,8 +13,8 @@ use Rattle.lemma_core.specs.declared.types.Published.TheVariants as published
 use Rattle.lemma_core.specs.declared.types.Offered.{Offered}
 use Rattle.lemma_core.specs.declared.types.Offered.TheVariants as offered
 
--- What a desk is about; its opening state; the list of the events that it has seen, each a Publish or a better Offer; the places of its
--- own events in that list; whether it is alone; and whether the room for offers was made.
+-- What a desk is about; its opening state; the list of the events that it has seen, each a Publish or a better Offer;
+-- the places of its own events in that list; whether it is alone; and whether the room for offers was made.
 pub record DeskView : Type 0 where
   pub about : About
   pub opening : Standing
@@ -46,7 +47,8 @@ HasDerived d = IsDerived d.about.kind d.about.line (entries d)
 abbrev pub FollowsSeen : DeskView → Entry → Type 0
 FollowsSeen d e = Follows d.about.kind d.about.line (entries d) e
 
--- what every call keeps: what the desk is about, its opening state, that room for offers was made; and its list begins with the old one
+-- what every call keeps: what the desk is about, its opening state, that room for offers was made; and its list
+-- begins with the old one
 pub record Keeps (old new : DeskView) : Type 0 where
   pub about : new.about ≡ old.about
   pub opening : new.opening ≡ old.opening
@@ -73,8 +75,8 @@ abbrev pub Finds : List Entry → List Bool → ℕ → ℕ → Looked → Type 
 Finds es set most cycle (looked.Found id has) = (last : IsLastAnswer es set most cycle id) × (last.entry.most ≡ has)
 Finds es set most cycle looked.Absent = IsUnanswered es set most cycle
 
--- what publishing an entry does: the last entry that answers it is named, or it is added with the number of the entries before; and for
--- want of memory no event is added
+-- what publishing an entry does: the last entry that answers it is named, or it is added with the number of the
+-- entries before; and out of memory no event is added
 abbrev pub Publishes : DeskView → DeskView → Entry → Published → Type 0
 Publishes old new e (published.Known id) =
     (before : List Item) × Adds old new before (known id e.most) × IsLastAnswer (entries_after old before) e.set e.most e.cycle id
@@ -88,8 +90,9 @@ abbrev pub Offers : DeskView → DeskView → ℕ → Offered → Type 0
 Offers old new n offered.Better = (before : List Item) × Adds old new before (better n) × (n < fewest_after old before)
 Offers old new n offered.NotBetter = Waits old new × (fewest_after old new.seen ≤ n)
 
--- What `least` tells: the fewest stations of the opening balance and the better offers of a history that begins with the list seen. So
--- many stations have a balance, and there are no more of them than in what is seen. Where the desk is alone, the history is the list.
+-- What `least` tells: the fewest stations of the opening balance and the better offers of a history that begins with
+-- the list seen. So many stations have a balance, and there are no more of them than in what is seen. Where the desk
+-- is alone, the history is the list.
 pub record Tells (old new : DeskView) (n : ℕ) : Type 0 where
   pub waits : Waits old new
   pub history : List Item

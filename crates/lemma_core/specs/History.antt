@@ -8,8 +8,8 @@ use Rattle.lemma_core.specs.declared.types.Event.{Event}
 use Rattle.lemma_core.specs.declared.types.Event.TheVariants as event
 use Rattle.lemma_core.specs.Machine.{State, last_answer, is_better, step}
 
--- An item of the history: an entry was added, with its number; an entry was published that one of number id answers; or a balance of so
--- many stations became the best.
+-- An item of the history: an entry was added, with its number; an entry was published that one of number id answers;
+-- or a balance of so many stations became the best.
 pub data Item : Type 0 where
   added : ℕ → Entry → Item
   known : ℕ → ℕ → Item
@@ -50,8 +50,9 @@ abbrev pub replay : Standing → List Item → Standing
 replay s [] = s
 replay s (i ∷ is) = replay (after s i) is
 
--- An item is exact at its turn: an entry is added that none answers, numbered by those before it; an entry that is known is named by the last
--- one that answers a question of so many stations; and a better balance has fewer stations than the best.
+-- An item is exact at its turn: an entry is added that none answers, numbered by those before it; an entry that is
+-- known is named by the last one that answers a question of so many stations; and a better balance has fewer stations
+-- than the best.
 abbrev pub IsExact : Standing → Item → Type 0
 IsExact s (added id e) = (id ≡ length s.entries) × IsUnanswered s.entries e.set e.most e.cycle
 IsExact s (known id most) = (set : List Bool) × (cycle : ℕ) × IsLastAnswer s.entries set most cycle id

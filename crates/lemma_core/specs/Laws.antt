@@ -23,7 +23,8 @@ HistoryReplays = (s : State) (vs : List Event) → replay (standing s) (history 
 abbrev pub HistoryIsExact : Type 0
 HistoryIsExact = (s : State) (vs : List Event) → AreExact (standing s) (history s vs)
 
--- an event may come: an entry that is published follows from the entries and a certificate can say it, and an offered balance is right at the cycle
+-- an event may come: an entry that is published follows from the entries and a certificate can say it, and an offered
+-- balance is right at the cycle
 abbrev pub MayCome : About → State → Event → Type 0
 MayCome about s (event.Look set most) = Unit {0}
 MayCome about s (event.Publish e) = Follows about.kind about.line s.entries e × IsStatable e
@@ -34,7 +35,8 @@ abbrev pub AllMayCome : About → State → List Event → Type 0
 AllMayCome about s [] = Unit {0}
 AllMayCome about s (v ∷ vs) = MayCome about s v × AllMayCome about (step s v) vs
 
--- a state is kept: its entries are derived, fresh and such as a certificate can say, and its best balance is right at the cycle
+-- a state is kept: its entries are derived, fresh and such as a certificate can say, and its best balance is right at
+-- the cycle
 pub record IsKept (about : About) (s : State) : Type 0 where
   pub derived : IsDerived about.kind about.line s.entries
   pub fresh : IsFresh s.entries
@@ -45,7 +47,8 @@ pub record IsKept (about : About) (s : State) : Type 0 where
 abbrev pub RunsKeep : Type 0
 RunsKeep = (about : About) (s : State) (vs : List Event) → IsKept about s → AllMayCome about s vs → IsKept about (run s vs)
 
--- a history that goes on only adds entries, and its fewest stations only fall; and what an exact history begins with is exact
+-- a history that goes on only adds entries, and its fewest stations only fall; and what an exact history begins with
+-- is exact
 pub record HistoryGoesOn : Type 0 where
   pub entries : (s : Standing) (xs ys : List Item) → Begins xs ys → (more : List Entry) × ((replay s ys).entries ≡ (replay s xs).entries ++ more)
   pub stations : (s : Standing) (xs ys : List Item) → Begins xs ys → (replay s ys).stations ≤ (replay s xs).stations
@@ -57,8 +60,9 @@ pub record DesksGoOn : Type 0 where
   pub both : (a b c : DeskView) → Keeps a b → Keeps b c → Keeps a c
   pub follows : (a b : DeskView) (e : Entry) → Keeps a b → FollowsSeen a e → FollowsSeen b e
 
--- What a desk did since it was `a`: nothing at first, the same after a call that adds no event of its own, one item more after a call that
--- adds one, and what it did in two stretches is what it did in both. Items at their places stand there in a history that goes on.
+-- What a desk did since it was `a`: nothing at first, the same after a call that adds no event of its own, one item
+-- more after a call that adds one, and what it did in two stretches is what it did in both. Items at their places
+-- stand there in a history that goes on.
 pub record OwnEventsGoOn : Type 0 where
   pub none : (d : DeskView) → Did d d []
   pub waits : (a b c : DeskView) (is : List Item) → Did a b is → Waits b c → Did a c is

@@ -25,7 +25,8 @@ abbrev pub ArePublish : List Item → Type 0
 ArePublish [] = Unit {0}
 ArePublish (i ∷ is) = IsPublish i × ArePublish is
 
--- the entry that a Publish names, among the entries seen: the one that it added, or the one of its number, which answers it
+-- the entry that a Publish names, among the entries seen: the one that it added, or the one of its number, which
+-- answers it
 abbrev pub named : List Entry → Item → Option Entry
 named es (added id e) = Some e
 named es (known id most) = slice_get es id

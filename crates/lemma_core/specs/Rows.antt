@@ -15,7 +15,8 @@ use Rattle.lemma_core.specs.History.{history, added, known}
 abbrev pub empty_book : State
 empty_book = record { entries = []; best = record { stations = 3; place = at 1 ∷ at 2 ∷ at 1 ∷ at 2 ∷ at 3 ∷ [] } }
 
--- publish that the tasks have no balance in one station; look for one station, then for two; publish it again; offer a balance of three
+-- publish that the tasks have no balance in one station; look for one station, then for two; publish it again; offer
+-- a balance of three
 abbrev pub five_events : List Event
 five_events =
     event.Publish (record { set = all_tasks five_free; most = 1; cycle = 7; why = why.Bound }) ∷ event.Look (all_tasks five_free) 1 ∷ event.Look (all_tasks five_free) 2

@@ -1,9 +1,11 @@
-//! A book: entries, each of which follows from those before it, the best balance so far, and a log of what was published and offered.
+//! A book: entries, each of which follows from those before it, the best balance so far, and a log of what was
+//! published and offered.
 //!
-//! Its state is that of a small machine (specs/Machine.antt) after the events of the log: an entry is added where none answers it, and a
-//! balance becomes the best where it has fewer stations. A look costs a hash of the set and a step or a few in the index. A publish adds
-//! the entry at the end of three vectors, whose room is taken before anything changes, so it does all or nothing. An entry takes about
-//! 214 bytes with its log item and its share of the index. `reserve_offers` takes room for all offers to come, so an offer never takes memory.
+//! Its state is that of a small machine (specs/Machine.antt) after the events of the log: an entry is added where
+//! none answers it, and a balance becomes the best where it has fewer stations. A look costs a hash of the set and a
+//! step or a few in the index. A publish adds the entry at the end of three vectors, whose room is taken before
+//! anything changes, so it does all or nothing. An entry takes about 214 bytes with its log item and its share of the
+//! index. `reserve_offers` takes room for all offers to come, so an offer never takes memory.
 ghost use Rattle.std.specs.Prelude.{◌≡◌, ℕ, ◌+◌, ◌<◌, ◌≤◌, List, [], ◌∷◌, length, take, slice_get, Some, None, OnOk, OnErr};
 ghost use Rattle.line_rules.specs.Balance.{Holds, IsRight};
 ghost use Rattle.line_rules.specs.Entries.{IsDerived, IsFresh, Follows};
@@ -23,7 +25,8 @@ use std::alloc::{AllocError, Global};
 use std::marker::Model;
 use task_set::TaskSet;
 
-/// Entries, each of which follows from those before it, the best balance so far, and the log of what was published and offered.
+/// Entries, each of which follows from those before it, the best balance so far, and the log of what was published
+/// and offered.
 #[derive(Drop)]
 pub struct Book {
     instance: Instance,
@@ -52,8 +55,8 @@ impl Model for Book {
 }
 
 impl Book {
-    /// A book without entries, about the instance, the kind of line and the cycle, in the instance's time unit. The balance is
-    /// its first best one.
+    /// A book without entries, about the instance, the kind of line and the cycle, in the instance's time unit. The
+    /// balance is its first best one.
     pub fn make(
         alloc: Global,
         instance: Instance,
@@ -119,7 +122,8 @@ impl Book {
         self.entries.at(id as usize)
     }
 
-    /// The entries: each follows from those before it, none is answered by an earlier one, and a certificate can say each.
+    /// The entries: each follows from those before it, none is answered by an earlier one, and a certificate can say
+    /// each.
     pub fn entries(&self) -> &Entries
         ensures entries { result.now ≡ self.now.state.entries }
         ensures derived { IsDerived self.now.about.kind self.now.about.line result.now }
@@ -158,7 +162,8 @@ impl Book {
         self.start as u64
     }
 
-    /// How many items the log has: one for each entry that was published, and one for each better balance, since the book opened.
+    /// How many items the log has: one for each entry that was published, and one for each better balance, since the
+    /// book opened.
     pub fn log_len(&self) -> u64
         ensures len { result ≡ length self.now.events }
         ensures replays { replay self.now.opening self.now.events ≡ standing self.now.state }
@@ -190,12 +195,15 @@ impl Book {
     pub fn look_plain(&self, set: &TaskSet, most: u32) -> Looked
         ensures { result ≡ found self.now.state.entries (last_answer self.now.state.entries set.now most self.now.about.cycle) }
     {
-        looked(&self.entries, find_plain(&self.entries, set, most, self.cycle))
+        looked(
+            &self.entries,
+            find_plain(&self.entries, set, most, self.cycle),
+        )
     }
 
-    /// Publishes an entry that follows from those of the book and that a certificate can say: at most 1,024 stations, at a cycle of 1
-    /// to 10^18. Where one answers it, the last such is named; else it is added.
-    /// For want of memory the book stays as it was, and the entry is given up.
+    /// Publishes an entry that follows from those of the book and that a certificate can say: at most 1,024 stations,
+    /// at a cycle of 1 to 10^18. Where one answers it, the last such is named; else it is added. Out of memory, the
+    /// book stays as it was, and the entry is given up.
     pub fn publish(&mut self, step: Entry) -> Published
         requires follows { Follows self.old.about.kind self.old.about.line self.old.state.entries step }
         requires range { IsStatable step }
@@ -250,7 +258,8 @@ impl Book {
         Published::Added(id)
     }
 
-    /// Offers a right balance of all tasks, once `reserve_offers` was done: it is the best from then on where it has fewer stations.
+    /// Offers a right balance of all tasks, once `reserve_offers` was done: it is the best from then on where it has
+    /// fewer stations.
     pub fn offer(&mut self, balance: Balance) -> Offered
         requires right { IsRight self.old.about.kind self.old.about.line self.old.about.cycle balance }
         requires reserved { IsReserved self.old }
@@ -269,7 +278,8 @@ impl Book {
         Offered::Better
     }
 
-    /// Takes room in the log for as many better balances as there are tasks: there can't be more. On an error nothing changes.
+    /// Takes room in the log for as many better balances as there are tasks: there can't be more. On an error nothing
+    /// changes.
     pub fn reserve_offers(&mut self) -> Result<(), AllocError>
         ensures ok { OnOk result (IsReserved self.new) }
         ensures same { self.new ≡ with_room self.old self.new.room }
@@ -280,8 +290,8 @@ impl Book {
         Ok(())
     }
 
-    /// The book asked at another cycle: its entries and this balance are what it opens with, and its log is empty. Where
-    /// `reserve_offers` was done, there is room for as many offers again. It takes no memory.
+    /// The book asked at another cycle: its entries and this balance are what it opens with, and its log is empty.
+    /// Where `reserve_offers` was done, there is room for as many offers again. It takes no memory.
     pub fn reopen(mut self, cycle: u64, best: Balance) -> Book
         requires { MayBeBest (record { line = self.about.line; kind = self.about.kind; cycle = cycle }) best }
         ensures reopened { result ≡ reopened self cycle best result.room }

@@ -1,7 +1,9 @@
-//! A desk: the four calls that a search makes, whether it works on a book of its own or on a part in one that others work on too.
+//! A desk: the four calls that a search makes, whether it works on a book of its own or on a part in one that others
+//! work on too.
 //!
-//! Contracts see of a desk the list of events that it has seen, so that an answer can be said to be true at the time of its call and to
-//! stay true. For a book the calls cost what the book's own cost: `offer` and `least` a few steps, `look` and `publish` a look into the index.
+//! Contracts see of a desk the list of events that it has seen, so that an answer can be said to be true at the time
+//! of its call and to stay true. For a book the calls cost what the book's own cost: `offer` and `least` a few steps,
+//! `look` and `publish` a look into the index.
 ghost use Rattle.std.specs.Prelude.{◌≡◌, true};
 ghost use Rattle.line_rules.specs.Balance.{IsRight};
 ghost use Rattle.lemma_core.specs.Desks.{DeskView, entries, HasDerived, HasOwn, FollowsSeen, Waits, Finds, Publishes, Offers, Tells};
@@ -14,8 +16,9 @@ use task_set::TaskSet;
 
 /// Where entries are looked up and published, and balances are offered: a book, or a part in a shared one.
 ///
-/// Contracts see of it what it is about, the state that it opened with, the list of events that it has seen, and which of
-/// them are its own. An answer speaks of that list after the call, without the call's own event, which stands last.
+/// Contracts see of it what it is about, the state that it opened with, the list of events that it has seen, and
+/// which of them are its own. An answer speaks of that list after the call, without the call's own event, which
+/// stands last.
 pub trait Desk {
     ghost desk: { Self → DeskView };
 
@@ -26,7 +29,8 @@ pub trait Desk {
         ensures derived { HasDerived (desk self.new) }
         ensures own { HasOwn (desk self.new) };
 
-    /// Publishes an entry that follows from those seen and that a certificate can say: it is added where none answers it.
+    /// Publishes an entry that follows from those seen and that a certificate can say: it is added where none answers
+    /// it.
     fn publish(&mut self, step: Entry) -> Published
         requires follows { FollowsSeen (desk self.old) step }
         requires range { IsStatable step }

@@ -1,7 +1,7 @@
 //! A run of events on a book, one after the other: what a book is when no part of the program holds it alone.
 //!
-//! An event costs what its call costs. Room for a reply is taken before its event is done, so the replies that were appended name the
-//! events that were done, also where memory ends.
+//! An event costs what its call costs. Room for a reply is taken before its event is done, so the replies that were
+//! appended name the events that were done, also where memory ends.
 ghost use Rattle.std.specs.Prelude.{◌≡◌, [], ◌∷◌, ◌++◌, IfOk, OnOk, OnErr};
 ghost use Rattle.lemma_core.specs.Machine.{answer, answers_of};
 ghost use Rattle.lemma_core.specs.Laws.{MayCome, AllMayCome};
@@ -11,7 +11,7 @@ use crate::book::Book;
 use crate::types::{Event, Published, Reply};
 use std::alloc::AllocError;
 
-// Does one event. For want of memory nothing is done.
+// Does one event. Out of memory, it does nothing.
 fn respond(book: &mut Book, event: Event) -> Result<Reply, AllocError>
     requires reserved { IsReserved book.old }
     requires may { MayCome book.old.about book.old.state event }
@@ -32,8 +32,9 @@ fn respond(book: &mut Book, event: Event) -> Result<Reply, AllocError>
 
 /// Does the events on the book, one after the other, and appends what the book answers to each one.
 ///
-/// Room for offers must have been made, each entry must follow when its turn comes, and each balance must be right. For
-/// want of memory the events whose answers were appended are done, and no other.
+/// Room for offers must have been made, each entry must follow when its turn comes, with at most 1,024 stations and a
+/// cycle of 1 to 10^18, and each balance must be right. Out of memory, the events whose answers were appended are
+/// done, and no other.
 pub fn run_events(
     book: &mut Book,
     events: Vec<Event>,

@@ -1,9 +1,10 @@
 //! Where entries with a set are: a hashed index.
 //!
-//! Each set has a tag, 32 bits of a hash. A look for a set that no entry has mostly ends at the sieve, which has a bit for each tag and eight
-//! bits and more for an entry. Else the low bits of the tag lead to a chain of entries, the last one first, and only an entry with the same
-//! tag is read. So a look that finds nothing touches one line of memory, and one that finds an entry about four. An entry takes 13 bytes,
-//! or up to twice that right after the tables grew; they grow by two, from the tags alone.
+//! Each set has a tag, 32 bits of a hash. A look for a set that no entry has mostly ends at the sieve, which has a
+//! bit for each tag and eight bits and more for an entry. Else the low bits of the tag lead to a chain of entries,
+//! the last one first, and only an entry with the same tag is read. So a look that finds nothing touches one line of
+//! memory, and one that finds an entry about four. An entry takes 13 bytes, or up to twice that right after the
+//! tables grew; they grow by two, from the tags alone.
 ghost use Rattle.std.specs.Prelude.{◌≡◌, ℕ, ◌+◌, ◌-◌, ◌<◌, ◌≤◌, ◌^◌, ◌/◌, ◌%◌, true, false, List, [], ◌∷◌, ◌++◌, length, slice_get, slice_index, slice_set, replicate, fold, bit_or, vec_len, vec_capacity, Some, OnOk};
 ghost use Rattle.std.specs.Hash as fed;
 ghost use Rattle.std.specs.Hash.FoldHasher as folding;
@@ -24,7 +25,8 @@ pub(crate) struct Link {
     pub(crate) before: u32,
 }
 
-// For each bucket one more than the last place in its chain, or 0; what is kept of each entry; and the words of the sieve.
+// For each bucket one more than the last place in its chain, or 0; what is kept of each entry; and the words of the
+// sieve.
 #[derive(Drop)]
 pub(crate) struct Index {
     pub(crate) heads: Vec<u32>,

@@ -20,7 +20,8 @@ pub fn history_replays()
     ensures { HistoryReplays }
 {}
 
-/// Each item of a history is exact at its turn: what is added is new, what is known is known, and what is better is better.
+/// Each item of a history is exact at its turn: what is added is new, what is known is known, and what is better is
+/// better.
 pub fn history_is_exact()
     ensures { HistoryIsExact }
 {}

@@ -1,7 +1,7 @@
 //! The book of entries: what its events do and answer, and the history that it replays from.
 //!
-//! `book` keeps entries, best balance and log; `index` finds entries by their sets, and `plain_lookup` without it; `desk` is what a search
-//! sees of a book; `event_run` runs a list of events; `laws` are what is true of all runs.
+//! `book` keeps entries, best balance and log; `index` finds entries by their sets, and `plain_lookup` without it;
+//! `desk` is what a search sees of a book; `event_run` runs a list of events; `laws` are what is true of all runs.
 #![tactic(auto)]
 
 mod book;

@@ -1,5 +1,5 @@
-//! What no clause says: that each call answers where there is memory, three events as worked by hand, and that the index and the
-//! search through all entries find the same.
+//! What no clause says: that each call answers where there is memory, three events as worked by hand, and that the
+//! index and the search through all entries find the same.
 ghost use Rattle.std.specs.Prelude.{◌≡◌, ◌≤◌, List, IfOk, IfSome};
 ghost use Rattle.line_instance.specs.Line.{IsTaskSet};
 ghost use Rattle.line_rules.specs.Entries.{Follows};
@@ -283,7 +283,10 @@ fn opens_again_with_its_entries(rt: HostRuntime) -> Result<(), Fail> {
 #[test]
 fn opens_again_at_another_cycle(rt: HostRuntime) -> Result<(), Fail> {
     let book = book_opened_again(rt.alloc())?;
-    assert_eq!(rt; (book.opening(), book.cycle(), book.best().stations), (2, 8, 2));
+    assert_eq!(rt;
+        (book.opening(), book.cycle(), book.best().stations),
+        (2, 8, 2)
+    );
     Ok(())
 }
 
@@ -301,7 +304,8 @@ fn next(state: u64) -> u64 {
         .wrapping_add(1_442_695_040_888_963_407)
 }
 
-// How many of the looks for the set, by up to three stations, find something; none where the index and the search don't agree.
+// How many of the looks for the set, by up to three stations, find something; none where the index and the search
+// don't agree.
 fn found_alike(book: &Book, set: &TaskSet) -> Option<u32> {
     let mut found = 0u32;
     for most in 0..4 {
@@ -339,14 +343,19 @@ fn finds_by_the_index_what_a_search_finds(rt: HostRuntime) -> Result<(), Fail> {
     Ok(())
 }
 
-// Publishes the entries of a hundred sets, so that the tables of the index grow, and tells whether each set is found alike.
+// Publishes the entries of a hundred sets, so that the tables of the index grow, and tells whether each set is found
+// alike.
 #[test]
 fn finds_alike_after_the_tables_grew(rt: HostRuntime) -> Result<(), Fail> {
     let mut book = book_of_five(rt.alloc())?;
     let mut state = 1;
     for k in 0..100 {
         state = next(state);
-        let set = TaskSet::from_members(&[k % 5, (state >> 40) as u32 % 5, (state >> 50) as u32 % 5]);
+        let set = TaskSet::from_members(&[
+            k % 5,
+            (state >> 40) as u32 % 5,
+            (state >> 50) as u32 % 5,
+        ]);
         let _added = publish(&mut book, set, 0, 1 + u64::from(k));
         let _found = found_alike(&book, &set).ok_or("not alike")?;
     }

@@ -1,5 +1,5 @@
-//! What a book is asked, what it answers, and what its log keeps. Each is plain data and copied like a number, but for an event, which
-//! hands its entry or its balance over.
+//! What a book is asked, what it answers, and what its log keeps. Each is plain data and copied like a number, but
+//! for an event, which hands its entry or its balance over.
 use line_rules::{Balance, Entry};
 use task_set::TaskSet;
 
@@ -19,7 +19,7 @@ pub enum Published {
     Known(u64),
     /// It was added, with this number.
     Added(u64),
-    /// Memory was wanting: nothing is added, and the entry is given up.
+    /// Out of memory: nothing is added, and the entry is given up.
     NoMemory,
 }
 
@@ -37,7 +37,8 @@ pub enum Offered {
 pub enum LogItem {
     /// An entry was added with this number.
     Added(u64),
-    /// An entry was published that an earlier one answers: the number of that one, and the stations of the published one.
+    /// An entry was published that an earlier one answers: the number of that one, and the stations of the published
+    /// one.
     Known { id: u64, most: u32 },
     /// A balance of so many stations became the best.
     Offered { stations: u32 },

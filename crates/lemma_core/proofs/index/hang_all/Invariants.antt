@@ -1,4 +1,4 @@
-use Rattle.std.proofs.Common.{◌≡◌, ◌<◌, ℕ, length, take}
+use Rattle.std.proofs.Common.{◌≡◌, ◌<◌, length, take}
 use Rattle.lemma_core.specs.Chains.{tags, links, IsChained, IsSieve, bucket_in, word_in, mark_of}
 use Rattle.lemma_core.proofs.index.hang_all.Given as goal
 
