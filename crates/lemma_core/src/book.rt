@@ -6,7 +6,8 @@
 //! step or a few in the index. A publish adds the entry at the end of three vectors, whose room is taken before
 //! anything changes, so it does all or nothing. An entry takes about 214 bytes with its log item and its share of the
 //! index. `reserve_offers` takes room for all offers to come, so an offer never takes memory.
-ghost use Rattle.std.specs.Prelude.{◌≡◌, ℕ, ◌+◌, ◌<◌, ◌≤◌, List, [], ◌∷◌, length, take, slice_get, Some, None, OnOk, OnErr};
+ghost use Rattle.std.specs.Prelude.{◌≡◌, ℕ, ◌+◌, ◌<◌, ◌≤◌, List, [], ◌∷◌, length, take, slice_get, Some, None};
+ghost use Rattle.std.specs.Prelude.{OnOk, OnErr};
 ghost use Rattle.line_rules.specs.Balance.{Holds, IsRight};
 ghost use Rattle.line_rules.specs.Entries.{IsDerived, IsFresh, Follows};
 ghost use Rattle.lemma_core.specs.Machine.{last_answer, answers, found, answer};
@@ -14,7 +15,8 @@ ghost use Rattle.lemma_core.specs.History.{item_of, standing, replay, IsExact, A
 ghost use Rattle.lemma_core.specs.declared.types.Event.TheVariants as event;
 ghost use Rattle.lemma_core.specs.declared.types.Reply.TheVariants as reply;
 ghost use Rattle.lemma_core.specs.Own.{IsStatable, AreStatable};
-ghost use Rattle.lemma_core.specs.Books.{BookView, IsBook, IsReserved, MayBeBest, opened, reopened, ran, with_room, DoesPublish};
+ghost use Rattle.lemma_core.specs.Books.{BookView, IsBook, IsReserved, MayBeBest, opened, reopened, ran, with_room};
+ghost use Rattle.lemma_core.specs.Books.{DoesPublish};
 
 use crate::index::{Index, tag};
 use crate::plain_lookup::{find_plain, looked};
@@ -51,7 +53,11 @@ impl Model for Book {
 
     ghost view = { λ s. book_of s.instance s.kind s.cycle s.entries s.log.items s.best s.start s.opening s.room };
 
-    ghost invariant = { λ s. IsBook (book_of s.instance s.kind s.cycle s.entries s.log.items s.best s.start s.opening s.room) × IsLogged s.entries s.log.items s.start × (vec_len s.log + s.room ≤ vec_capacity s.log) × IsIndexOf s.entries s.index.heads.items s.index.links.items s.index.sieve.items };
+    ghost invariant = { λ s.
+        IsBook (book_of s.instance s.kind s.cycle s.entries s.log.items s.best s.start s.opening s.room)
+        × IsLogged s.entries s.log.items s.start
+        × (vec_len s.log + s.room ≤ vec_capacity s.log)
+        × IsIndexOf s.entries s.index.heads.items s.index.links.items s.index.sieve.items };
 }
 
 impl Book {
@@ -176,14 +182,16 @@ impl Book {
     pub fn log_at(&self, k: u64) -> LogItem
         requires { k < length self.now.events }
         ensures item { slice_get self.now.events k ≡ Some (item_of self.now.state.entries result) }
-        ensures exact { IsExact (replay self.now.opening (take k self.now.events)) (item_of self.now.state.entries result) }
+        ensures exact { let before = replay self.now.opening (take k self.now.events) in
+            IsExact before (item_of self.now.state.entries result) }
     {
         self.log[k as usize]
     }
 
     /// The last entry that answers the question of the set and so many stations, at the book's cycle.
     pub fn look(&self, set: &TaskSet, most: u32) -> Looked
-        ensures { result ≡ found self.now.state.entries (last_answer self.now.state.entries set.now most self.now.about.cycle) }
+        ensures { let es = self.now.state.entries in
+            result ≡ found es (last_answer es set.now most self.now.about.cycle) }
     {
         looked(
             &self.entries,
@@ -193,7 +201,8 @@ impl Book {
 
     /// The same by a search through all entries from the end: what `look` is measured by.
     pub fn look_plain(&self, set: &TaskSet, most: u32) -> Looked
-        ensures { result ≡ found self.now.state.entries (last_answer self.now.state.entries set.now most self.now.about.cycle) }
+        ensures { let es = self.now.state.entries in
+            result ≡ found es (last_answer es set.now most self.now.about.cycle) }
     {
         looked(
             &self.entries,

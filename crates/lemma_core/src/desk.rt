@@ -6,7 +6,8 @@
 //! `look` and `publish` a look into the index.
 ghost use Rattle.std.specs.Prelude.{◌≡◌, true};
 ghost use Rattle.line_rules.specs.Balance.{IsRight};
-ghost use Rattle.lemma_core.specs.Desks.{DeskView, entries, HasDerived, HasOwn, FollowsSeen, Waits, Finds, Publishes, Offers, Tells};
+ghost use Rattle.lemma_core.specs.Desks.{DeskView, entries, HasDerived, HasOwn, FollowsSeen, Waits, Finds};
+ghost use Rattle.lemma_core.specs.Desks.{Publishes, Offers, Tells};
 ghost use Rattle.lemma_core.specs.Own.{IsStatable};
 
 use crate::book::Book;
@@ -40,7 +41,8 @@ pub trait Desk {
 
     /// Offers a right balance of all tasks: it is the best from then on where it has fewer stations.
     fn offer(&mut self, balance: Balance) -> Offered
-        requires right { IsRight (desk self.old).about.kind (desk self.old).about.line (desk self.old).about.cycle balance }
+        requires right { let about = (desk self.old).about in
+            IsRight about.kind about.line about.cycle balance }
         requires roomy { (desk self.old).roomy ≡ true }
         ensures offers { Offers (desk self.old) (desk self.new) balance.stations result }
         ensures own { HasOwn (desk self.new) };

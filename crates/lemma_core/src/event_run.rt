@@ -42,7 +42,8 @@ pub fn run_events(
 ) -> Result<(), AllocError>
     requires reserved { IsReserved book.old }
     requires may { AllMayCome book.old.about book.old.state events.items }
-    ensures replies { OnOk result (replies.new.items ≡ replies.old.items ++ answers_of book.old.about.cycle book.old.state events.items) }
+    ensures replies { let answers = answers_of book.old.about.cycle book.old.state events.items in
+        OnOk result (replies.new.items ≡ replies.old.items ++ answers) }
     ensures ran { OnOk result (book.new ≡ ran book.old events.items) }
     ensures reserved { IsReserved book.new }
     ensures some { OnErr result (DidSome book.old events.items replies.old.items book.new replies.new.items) }

@@ -5,7 +5,9 @@
 //! the last one first, and only an entry with the same tag is read. So a look that finds nothing touches one line of
 //! memory, and one that finds an entry about four. An entry takes 13 bytes, or up to twice that right after the
 //! tables grew; they grow by two, from the tags alone.
-ghost use Rattle.std.specs.Prelude.{◌≡◌, ℕ, ◌+◌, ◌-◌, ◌<◌, ◌≤◌, ◌^◌, ◌/◌, ◌%◌, true, false, List, [], ◌∷◌, ◌++◌, length, slice_get, slice_index, slice_set, replicate, fold, bit_or, vec_len, vec_capacity, Some, OnOk};
+ghost use Rattle.std.specs.Prelude.{◌≡◌, ℕ, ◌+◌, ◌-◌, ◌<◌, ◌≤◌, ◌^◌, ◌/◌, ◌%◌, true, false, List, [], ◌∷◌, ◌++◌};
+ghost use Rattle.std.specs.Prelude.{length, slice_get, slice_index, slice_set, replicate, fold, bit_or, vec_len};
+ghost use Rattle.std.specs.Prelude.{vec_capacity, Some, OnOk};
 ghost use Rattle.std.specs.Hash as fed;
 ghost use Rattle.std.specs.Hash.FoldHasher as folding;
 ghost use Rattle.task_set.specs.Truths.{words_of};
@@ -87,7 +89,8 @@ fn hang(heads: &mut [u32], sieve: &mut [u64], tag: u32, place: u32) -> u32
     requires sieve { 0 < length sieve.old }
     ensures before { result ≡ slice_index heads.old (bucket_in (length heads.old) tag) }
     ensures heads { heads.new ≡ slice_set heads.old (bucket_in (length heads.old) tag) place }
-    ensures sieve { sieve.new ≡ slice_set sieve.old (word_in (length sieve.old) tag) (bit_or (slice_index sieve.old (word_in (length sieve.old) tag)) (mark_of tag)) }
+    ensures sieve { let word = word_in (length sieve.old) tag in
+        sieve.new ≡ slice_set sieve.old word (bit_or (slice_index sieve.old word) (mark_of tag)) }
 {
     let at = word(tag, sieve.len());
     sieve[at] |= mark(tag);

@@ -1,6 +1,7 @@
 //! What is true of all runs of a book, for the crates above to cite.
 ghost use Rattle.line_rules.specs.Laws.{EveryEntryHolds};
-ghost use Rattle.lemma_core.specs.Laws.{LastAnswerIsLast, HistoryReplays, HistoryIsExact, RunsKeep, HistoryGoesOn, DesksGoOn, OwnEventsGoOn, AloneSeesItsOwn, EntriesGoOn};
+ghost use Rattle.lemma_core.specs.Laws.{LastAnswerIsLast, HistoryReplays, HistoryIsExact, RunsKeep, HistoryGoesOn};
+ghost use Rattle.lemma_core.specs.Laws.{DesksGoOn, OwnEventsGoOn, AloneSeesItsOwn, EntriesGoOn};
 ghost use Rattle.lemma_core.specs.Rows.{EventsOfTheRows};
 
 /// In a derived list every entry holds: its set has no balance in its number of stations at its cycle.
