@@ -1,4 +1,2 @@
-pub mod Ends
-pub mod Times
 pub mod Posed
 pub mod Standing

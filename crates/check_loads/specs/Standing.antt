@@ -3,12 +3,12 @@ use Rattle.std.specs.Prelude.{◌≡◌, ℕ, Bool, true, false, cond, List, Opt
 use Rattle.line_instance.specs.Line.{Line, has}
 use Rattle.line_instance.specs.Sums.{sum_where}
 use Rattle.line_rules.specs.Loads.{IsLoad, taken}
-use Rattle.line_rules.specs.Sides.{fills, nothing_yet}
+use Rattle.load_facts.specs.Sides.{fills, nothing_yet}
 use Rattle.line_rules.specs.declared.types.Mode.{Mode}
 use Rattle.line_rules.specs.declared.types.Side.{Side}
 use Rattle.line_rules.specs.declared.types.Side.TheVariants.{Front, Back}
 use Rattle.line_rules.specs.declared.types.Load.{Load}
-use Rattle.check_loads.specs.Ends.{IsEnd}
+use Rattle.load_facts.specs.Ends.{IsEnd}
 use Rattle.check_loads.specs.declared.ends.End.{End}
 use Rattle.check_loads.specs.declared.loads.Walk.{Walk}
 
@@ -31,4 +31,4 @@ pub record IsWalk (line : Line) (c : ℕ) (mode : Mode) (R : List Bool) (w : Wal
   pub load : w.given ≡ true → IsLoad line c mode R (stand w)
   pub nothing : w.given ≡ false → stand w ≡ nothing_yet
   pub sum : w.sum ≡ sum_where (has (taken (stand w))) line.times
-  pub kept : (s : Side) → fills mode s ≡ true → IsEnd line s R (end_of s w)
+  pub kept : (s : Side) → fills mode s ≡ true → IsEnd line s R (end_of s w).tasks (end_of s w).free (end_of s w).places

@@ -2,7 +2,7 @@
 ghost use Rattle.std.specs.Prelude.{◌≡◌, ◌≤◌, ◌<◌, ◌↔◌, IsTrue};
 ghost use Rattle.line_instance.specs.Line.{IsTaskSet};
 ghost use Rattle.line_rules.specs.Bounds.{bound};
-ghost use Rattle.check_loads.specs.Times.{AreTimes};
+ghost use Rattle.load_facts.specs.Times.{AreTimes};
 
 use crate::chains::has_longer_chain;
 use crate::sizes::{Times, counts_of, stations};
@@ -28,7 +28,7 @@ pub fn exceeds(
     requires set { IsTaskSet inst.now set.now }
     requires some { 1 ≤ cycle }
     requires limit { cycle ≤ 1000000000000000000 }
-    requires times { AreTimes inst.now set.now times }
+    requires times { AreTimes inst.now set.now times.total times.longest }
     ensures { IsTrue result ↔ most < bound kind inst.now cycle set.now }
 {
     let _tasks = inst.tasks();
@@ -51,7 +51,7 @@ pub fn bound(inst: &Instance, kind: LineKind, cycle: u64, set: &TaskSet, times: 
     requires set { IsTaskSet inst.now set.now }
     requires some { 1 ≤ cycle }
     requires limit { cycle ≤ 1000000000000000000 }
-    requires times { AreTimes inst.now set.now times }
+    requires times { AreTimes inst.now set.now times.total times.longest }
     ensures { result ≡ bound kind inst.now cycle set.now }
 {
     let _tasks = inst.tasks();

@@ -4,7 +4,7 @@ ghost use Rattle.task_set.specs.Truths.{In};
 ghost use Rattle.line_instance.specs.Line.{IsTaskSet, has, time};
 ghost use Rattle.line_instance.specs.Sums.{sum_where};
 ghost use Rattle.line_rules.specs.Bounds.{chained, head, tail};
-ghost use Rattle.check_loads.specs.Times.{AreTimes, time_elsewhere};
+ghost use Rattle.load_facts.specs.Times.{AreTimes, time_elsewhere};
 
 use crate::sizes::Times;
 use line_instance::Instance;
@@ -98,7 +98,7 @@ pub fn has_longer_chain(
     requires set { IsTaskSet inst.now set.now }
     requires some { 1 ≤ cycle }
     requires limit { cycle ≤ 1000000000000000000 }
-    requires times { AreTimes inst.now set.now times }
+    requires times { AreTimes inst.now set.now times.total times.longest }
     ensures { IsTrue result ↔ stations < chained kind inst.now cycle set.now }
 {
     let _tasks = inst.tasks();

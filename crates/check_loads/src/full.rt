@@ -2,8 +2,8 @@
 ghost use Rattle.std.specs.Prelude.{◌≡◌, ℕ, ◌<◌, ◌↔◌, IsTrue, true, false};
 ghost use Rattle.line_instance.specs.Line.{IsTaskSet, tasks};
 ghost use Rattle.line_rules.specs.Loads.{IsLoad, IsFull};
-ghost use Rattle.line_rules.specs.Sides.{MayJoin, fills};
-ghost use Rattle.line_rules.proofs.Sides.{AreSets};
+ghost use Rattle.load_facts.specs.Sides.{MayJoin, fills};
+ghost use Rattle.load_facts.specs.Sides.{AreSets};
 
 use crate::sides::{ahead, fills, part};
 use line_instance::Instance;

@@ -2,7 +2,7 @@
 ghost use Rattle.std.specs.Prelude.{◌≡◌, ◌<◌, ◌↔◌, ℕ, IsNone, IfSome};
 ghost use Rattle.task_set.specs.Truths.{In, IsEmpty};
 ghost use Rattle.line_instance.specs.Line.{IsTaskSet, tasks};
-ghost use Rattle.line_rules.specs.Sides.{Ahead, part, fills, task_at};
+ghost use Rattle.load_facts.specs.Sides.{Ahead, part, fills, task_at};
 
 use line_instance::Instance;
 use line_rules::{Load, Mode, Side};

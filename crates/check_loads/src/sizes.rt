@@ -4,7 +4,7 @@ ghost use Rattle.task_set.specs.Truths.{In};
 ghost use Rattle.line_instance.specs.Line.{IsTaskSet, has, time};
 ghost use Rattle.line_instance.specs.Sums.{count_where, weigh};
 ghost use Rattle.line_rules.specs.Bounds.{sixths, up};
-ghost use Rattle.check_loads.specs.Times.{AreTimes};
+ghost use Rattle.load_facts.specs.Times.{AreTimes};
 
 use line_instance::Instance;
 use task_set::TaskSet;
@@ -21,7 +21,7 @@ pub struct Times {
 /// The total and the greatest time of a set of tasks.
 pub fn times_in(inst: &Instance, set: &TaskSet) -> Times
     requires { IsTaskSet inst.now set.now }
-    ensures { AreTimes inst.now set.now result }
+    ensures { AreTimes inst.now set.now result.total result.longest }
 {
     let _tasks = inst.tasks();
     let mut times = Times {

@@ -3,6 +3,7 @@ use Rattle.std.proofs.Common.{◌≡◌, ℕ, zero, suc, ◌-◌, ◌≤◌, Boo
 use Rattle.std.specs.Prelude.{slice_get}
 use Rattle.task_set.specs.Truths.{In}
 use Rattle.line_instance.specs.Line.{Line, IsRanked, IsTaskSet, tasks}
+use Rattle.std.proofs.lemmas.Option.{same_Some}
 use Rattle.line_rules.specs.Loads.{Belongs, rest}
 use Rattle.line_rules.specs.Order.{Lists}
 use Rattle.line_rules.specs.Entries.{IsOpen, Cites, Follows}
@@ -27,12 +28,6 @@ as_many es R most c [] (l ∷ ls) h = absurd h
 as_many es R most c (k ∷ ks) [] h = absurd h
 as_many es R most c (k ∷ ks) (l ∷ ls) h = ap suc (as_many es R most c ks ls h.1)
 
-some_number : (a b : ℕ) → Some a ≡ Some b → a ≡ b
-some_number a b e = cc
-
-some_load : (a b : Load) → Some a ≡ Some b → a ≡ b
-some_load a b e = cc
-
 cited_at : (es : List Entry) (R : List Bool) (most c : ℕ) (ks : List ℕ) (ls : List Load) → AreCited es R most c ks ls
     → (p k : ℕ) (l : Load) → slice_get ks p ≡ Some k → slice_get ls p ≡ Some l → Cites es k (rest R l) (most - 1) c
 cited_at es R most c [] [] h p k l e f = absurd (get_none p k e)
@@ -41,7 +36,7 @@ cited_at es R most c (x ∷ xs) [] h p k l e f = absurd h
 cited_at es R most c (x ∷ xs) (y ∷ ys) h zero k l e f =
     let P : ℕ → Type 0 = λ z. Cites es z (rest R l) (most - 1) c in
     let Q : Load → Type 0 = λ z. Cites es x (rest R z) (most - 1) c in
-    subst P (some_number x k e) (subst Q (some_load y l f) h.0)
+    subst P (same_Some x k e) (subst Q (same_Some y l f) h.0)
 cited_at es R most c (x ∷ xs) (y ∷ ys) h (suc p) k l e f = cited_at es R most c xs ys h.1 p k l e f
 
 pub branch_follows : (kind : LineKind) (line : Line) (small : tasks line ≤ 1024) (ranked : IsRanked line) (es : List Entry) (R : List Bool) (set : IsTaskSet line R) (most c : ℕ) (mode : Mode)

@@ -24,7 +24,7 @@ use Rattle.line_rules.specs.declared.types.Why.TheVariants as why
 use Rattle.line_rules.proofs.Law.{bound_le}
 use Rattle.line_rules.proofs.Spread.{each_alone}
 use Rattle.line_rules.proofs.Unique.{unique}
-use Rattle.line_rules.proofs.Sound.{get_take}
+use Rattle.line_rules.proofs.ListFacts.{get_take}
 
 pub bound_holds : (kind : LineKind) (line : Line) (c : ℕ) → 1 ≤ c → (R : List Bool) (r : ℕ) → r < bound kind line c R → Holds kind line c R r
 bound_holds kind line c one R r less place b = omega (arith, less, bound_le kind line c one R r place b)

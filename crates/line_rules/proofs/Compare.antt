@@ -1,15 +1,25 @@
 -- The order of loads is total, and a list that goes from each load to the next has all of them.
-use Rattle.std.proofs.Common.{◌≡◌, ℕ, zero, suc, ◌-◌, ◌*◌, ◌<◌, ◌≤◌, Bool, true, false, List, [], ◌∷◌, ◌++◌, refl, sym, ap, ◌∙◌, subst, ◌⊎◌, inl, inr, arith}
+use Rattle.std.proofs.Common.{◌≡◌, ℕ, zero, suc, ◌-◌, ◌*◌, ◌<◌, ◌≤◌, Bool, true, false, cond, List, [], ◌∷◌, ◌++◌, refl, sym, ap, ◌∙◌, subst, ◌⊎◌, inl, inr, arith}
 use Rattle.std.specs.List.{Contains}
 use Rattle.line_instance.specs.Line.{Line, IsTaskSet, IsRanked, tasks, has, at_rank}
 use Rattle.line_rules.specs.Loads.{IsLoad}
 use Rattle.line_rules.specs.Order.{truth, Precedes, IsNext}
 use Rattle.line_rules.specs.declared.types.Mode.{Mode}
 use Rattle.line_rules.specs.declared.types.Load.{Load}
-use Rattle.line_rules.proofs.Next.{in_front, in_back}
-use Rattle.std.proofs.lemmas.Bool.{cases_Bool, cases_lt, cases_eq}
+use Rattle.std.proofs.lemmas.Bool.{cases_Bool, cases_lt, cases_eq, lt-ltb, le-ltb}
 use Rattle.std.proofs.lemmas.List.{ext_get_or}
 use Rattle.std.proofs.lemmas.List.Elements.{Contains-append_left, Contains-push}
+
+module _ (line : Line) (ranked : IsRanked line) where
+  -- where a task stands among the truths
+  pub in_front : (l : Load) (k : ℕ) → k < tasks line → truth line l k ≡ has l.front (at_rank line k)
+  in_front l k h = ap (λ b. cond b (has l.front (at_rank line k)) (has l.back (at_rank line (2 * tasks line - 1 - k)))) (lt-ltb k (tasks line) h)
+
+  pub in_back : (l : Load) (k : ℕ) → k < tasks line → truth line l (2 * tasks line - 1 - k) ≡ has l.back (at_rank line k)
+  in_back l k h =
+      let e : 2 * tasks line - 1 - (2 * tasks line - 1 - k) ≡ k = omega arith in
+      ap (λ b. cond b (has l.front (at_rank line (2 * tasks line - 1 - k))) (has l.back (at_rank line (2 * tasks line - 1 - (2 * tasks line - 1 - k))))) (le-ltb (2 * tasks line - 1 - k) (tasks line) (omega arith))
+      ∙ ap (λ q. has l.back (at_rank line q)) e
 
 agree_more : (line : Line) (a b : Load) (n : ℕ) → ((k : ℕ) → k < n → truth line a k ≡ truth line b k) → truth line a n ≡ truth line b n → (k : ℕ) → k < suc n → truth line a k ≡ truth line b k
 agree_more line a b n same e k h = elim (cases_eq k n) [ inl q ↦ rw (q) e | inr d ↦ same k (omega arith) ]

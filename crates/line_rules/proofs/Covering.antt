@@ -7,11 +7,7 @@ use Rattle.line_rules.specs.Order.{Precedes, Lists, Counts}
 use Rattle.line_rules.specs.Entries.{Cites, Covers}
 use Rattle.line_rules.specs.declared.types.Load.{Load}
 use Rattle.line_rules.specs.declared.types.Entry.{Entry}
-use Rattle.line_rules.proofs.Grown.{get_longer, get_push_cases}
-
-pub get_last : {X : Type 0} (xs : List X) (x : X) → slice_get (xs ++ x ∷ []) (length xs) ≡ Some x
-get_last [] x = refl
-get_last (y ∷ xs) x = get_last xs x
+use Rattle.line_rules.proofs.ListFacts.{get_longer, get_push_cases, get_last}
 
 pub get_none : {X : Type 0} (k : ℕ) (x : X) → slice_get [] k ≡ Some x → ⊥
 get_none k x e = cc

@@ -1,7 +1,7 @@
 -- Loads, full loads and open loads by tests, and with them the lists of loads.
 use Rattle.std.proofs.Common.{◌≡◌, ℕ, zero, suc, ◌+◌, ◌-◌, ◌*◌, ◌<◌, ◌≤◌, Bool, true, false, cond, ◌&&◌, ◌||◌, not, nat_lt, List, refl, sym, ap, ◌∙◌, inl, inr, arith}
 use Rattle.std.specs.Prelude.{nat_le}
-use Rattle.std.proofs.lemmas.Bool.{cases_eq, cases_Bool, false≢true, and_parts, and_from, or_left, or_right, not-true, not_from_false, false_from_ne_true}
+use Rattle.std.proofs.lemmas.Bool.{cases_eq, cases_Bool, false≢true, and_parts, and_from, or_left, or_right, not-true, not_from_false, false_from_ne_true, ltb-true, lt-ltb}
 use Rattle.std.proofs.lemmas.Bool.Decides.{nat_tests}
 use Rattle.task_set.specs.Truths.{In}
 use Rattle.task_set.proofs.Members.{In-union_cases}
@@ -88,12 +88,6 @@ empty_is n s within h i m = false≢true (sym (not-true (has s i) (every_is n (�
 
 empty_so : (n : ℕ) (s : List Bool) → ((i : ℕ) → In s i → ⊥) → every n (λ i. not (has s i)) ≡ true
 empty_so n s h = every_so n (λ i. not (has s i)) (λ i l. not_from_false (has s i) (false_from_ne_true (has s i) (λ t. h i t)))
-
-is_less : (a b : ℕ) → nat_lt a b ≡ true → a < b
-is_less a b h = grind (arith, nat_tests, h)
-
-yes_less : (a b : ℕ) → a < b → nat_lt a b ≡ true
-yes_less a b h = grind (arith, nat_tests, h)
 
 is_le : (a b : ℕ) → nat_le a b ≡ true → a ≤ b
 is_le a b h = grind (arith, nat_tests, h)
@@ -267,12 +261,12 @@ module _ (line : Line) (small : tasks line ≤ 1024) (ranked : IsRanked line) (c
   open_is kind mode most l p h =
       let q : (is_load line c mode R l ≡ true) × ((is_full line c mode R l && nat_lt (bound kind line c (rest R l)) most) ≡ true) = and_parts (is_load line c mode R l) (is_full line c mode R l && nat_lt (bound kind line c (rest R l)) most) h in
       let r : (is_full line c mode R l ≡ true) × (nat_lt (bound kind line c (rest R l)) most ≡ true) = and_parts (is_full line c mode R l) (nat_lt (bound kind line c (rest R l)) most) q.1 in
-      record { load = load_is mode l p q.0; full = full_is mode l r.0; bound = is_less (bound kind line c (rest R l)) most r.1 }
+      record { load = load_is mode l p q.0; full = full_is mode l r.0; bound = ltb-true (bound kind line c (rest R l)) most r.1 }
 
   open_so : (kind : LineKind) (mode : Mode) (most : ℕ) (l : Load) → IsOpen kind line c mode R most l → is_open kind line c mode R most l ≡ true
   open_so kind mode most l f =
       and_from (is_load line c mode R l) (is_full line c mode R l && nat_lt (bound kind line c (rest R l)) most) (load_so mode l f.load)
-      (and_from (is_full line c mode R l) (nat_lt (bound kind line c (rest R l)) most) (full_so mode l (record { front = f.load.front; back = f.load.back }) f.full) (yes_less (bound kind line c (rest R l)) most f.bound))
+      (and_from (is_full line c mode R l) (nat_lt (bound kind line c (rest R l)) most) (full_so mode l (record { front = f.load.front; back = f.load.back }) f.full) (lt-ltb (bound kind line c (rest R l)) most f.bound))
 
   pub open_listed : (kind : LineKind) (mode : Mode) (most : ℕ) → Lists line (IsOpen kind line c mode R most) (open_of kind mode most)
   open_listed kind mode most =

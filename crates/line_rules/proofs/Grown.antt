@@ -1,7 +1,7 @@
 -- A derived list that grows stays derived, and what follows from a list follows from each longer one.
-use Rattle.std.proofs.Common.{◌≡◌, ℕ, zero, suc, ◌-◌, ◌<◌, Bool, List, [], ◌∷◌, ◌++◌, length, take, refl, sym, ◌∙◌, subst, ◌⊎◌, inl, inr, arith, Some}
-use Rattle.std.specs.Prelude.{slice_get}
+use Rattle.std.proofs.Common.{◌≡◌, ℕ, ◌-◌, Bool, List, [], ◌∷◌, ◌++◌, take, sym, ◌∙◌, subst, inl, inr, arith}
 use Rattle.line_instance.specs.Line.{Line}
+pub use Rattle.line_rules.proofs.ListFacts.{get_longer, get_push_cases}
 use Rattle.line_rules.specs.Loads.{rest}
 use Rattle.line_rules.specs.Entries.{IsOpen, Covers, Cites, FollowsBy, Follows, IsDerived}
 use Rattle.line_rules.specs.declared.types.LineKind.{LineKind}
@@ -10,17 +10,6 @@ use Rattle.line_rules.specs.declared.types.Entry.{Entry}
 use Rattle.line_rules.specs.declared.types.Why.{Why}
 use Rattle.line_rules.specs.declared.types.Why.TheVariants as why
 use Rattle.std.proofs.lemmas.List.{take-append-le, take_all}
-
-pub get_longer : {X : Type 0} (xs ys : List X) (k : ℕ) (x : X) → slice_get xs k ≡ Some x → slice_get (xs ++ ys) k ≡ Some x
-get_longer [] ys k x e = absurd (cc)
-get_longer (y ∷ xs) ys zero x e = e
-get_longer (y ∷ xs) ys (suc k) x e = get_longer xs ys k x e
-
-pub get_push_cases : {X : Type 0} (xs : List X) (y x : X) (k : ℕ) → slice_get (xs ++ y ∷ []) k ≡ Some x → ((k < length xs) × (slice_get xs k ≡ Some x)) ⊎ ((k ≡ length xs) × (y ≡ x))
-get_push_cases [] y x zero e = inr (refl, cc)
-get_push_cases [] y x (suc k) e = absurd (cc)
-get_push_cases (z ∷ xs) y x zero e = inl (omega arith, e)
-get_push_cases (z ∷ xs) y x (suc k) e = elim (get_push_cases xs y x k e) [ inl p ↦ inl (omega (arith, p.0), p.1) | inr q ↦ inr (omega (arith, q.0), q.1) ]
 
 pub cites_longer : (es more : List Entry) (cite : ℕ) (T : List Bool) (r c : ℕ) → Cites es cite T r c → Cites (es ++ more) cite T r c
 cites_longer es more cite T r c h = record { entry = h.entry; there = get_longer es more cite h.entry h.there; part = h.part; stations = h.stations; cycle = h.cycle }

@@ -1,3 +1,4 @@
+pub mod ListFacts
 pub mod All
 pub mod Reading
 pub mod Stations
@@ -9,7 +10,6 @@ pub mod Step
 pub mod Law
 pub mod Swap
 pub mod Sound
-pub mod Next
 pub mod Compare
 pub mod Unique
 pub mod Grown
@@ -33,7 +33,3 @@ pub mod Counted
 pub mod Branches
 pub mod Seven
 pub mod Leaving
-pub mod Sides
-pub mod Joining
-pub mod Scans
-pub mod Ready

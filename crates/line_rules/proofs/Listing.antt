@@ -7,6 +7,7 @@ use Rattle.task_set.specs.Truths.{full_to}
 use Rattle.task_set.proofs.Members.{In-full_to_below}
 use Rattle.task_set.proofs.Fills.{length-full_to}
 use Rattle.line_instance.specs.Line.{Line, IsTaskSet, IsRanked, tasks, has, at_rank}
+use Rattle.std.proofs.lemmas.Option.{same_Some}
 use Rattle.line_rules.specs.Loads.{with_front, with_back}
 use Rattle.line_rules.specs.Order.{truth, Precedes, Lists}
 use Rattle.line_rules.specs.declared.types.Load.{Load}
@@ -59,12 +60,9 @@ rises_append line [] ys r s h = s
 rises_append line (x ∷ xs) ys r s h =
     (λ b m. elim (amid_cases b xs ys m) [ inl p ↦ r.0 b p | inr q ↦ h x b (inl refl) q ], rises_append line xs ys r.1 s (λ a b p q. h a b (inr p) q))
 
-some_same : (x a : Load) → Some x ≡ Some a → x ≡ a
-some_same x a e = cc
-
 pub amid_at : (xs : List Load) (k : ℕ) (a : Load) → slice_get xs k ≡ Some a → Amid a xs
 amid_at [] k a e = absurd (cc)
-amid_at (x ∷ xs) zero a e = inl (sym (some_same x a e))
+amid_at (x ∷ xs) zero a e = inl (sym (same_Some x a e))
 amid_at (x ∷ xs) (suc k) a e = inr (amid_at xs k a e)
 
 pub at_amid : (xs : List Load) (a : Load) → Amid a xs → (k : ℕ) × (slice_get xs k ≡ Some a)
@@ -74,7 +72,7 @@ at_amid (x ∷ xs) a (inr h) = let r : (k : ℕ) × (slice_get xs k ≡ Some a) 
 
 steps_up : (line : Line) (xs : List Load) → Rises line xs → (k : ℕ) (a b : Load) → slice_get xs k ≡ Some a → slice_get xs (suc k) ≡ Some b → Precedes line a b
 steps_up line [] r k a b e f = absurd (cc)
-steps_up line (x ∷ xs) r zero a b e f = let P : Load → Type 0 = λ z. Precedes line z b in subst P (some_same x a e) (r.0 b (amid_at xs 0 b f))
+steps_up line (x ∷ xs) r zero a b e f = let P : Load → Type 0 = λ z. Precedes line z b in subst P (same_Some x a e) (r.0 b (amid_at xs 0 b f))
 steps_up line (x ∷ xs) r (suc k) a b e f = steps_up line xs r.1 k a b e f
 
 -- a rising list of what passes is the list of it

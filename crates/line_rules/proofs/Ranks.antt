@@ -1,7 +1,6 @@
 -- What is true of ranked placements, and that a ranked balance is right.
-use Rattle.std.proofs.Common.{◌≡◌, ◌≢◌, ℕ, ◌+◌, ◌<◌, ◌≤◌, Bool, true, false, cond, ◌&&◌, ◌||◌, nat_eq, List, [], ◌∷◌, length, get_or, refl, sym, ap, ◌∙◌, subst, inl, inr, arith}
-use Rattle.std.proofs.lemmas.Bool.{false≢true, cases_eq, cases_Bool, and_parts, and_from, or_cases}
-use Rattle.std.proofs.lemmas.Bool.Decides.{nat_tests}
+use Rattle.std.proofs.Common.{◌≡◌, ℕ, ◌+◌, ◌<◌, ◌≤◌, Bool, true, false, cond, ◌&&◌, ◌||◌, nat_eq, List, [], ◌∷◌, length, get_or, refl, sym, ap, ◌∙◌, subst, inl, inr, arith}
+use Rattle.std.proofs.lemmas.Bool.{false≢true, cases_eq, cases_Bool, and_parts, and_from, or_cases, or_left, or_right, eqb-true, eq-eqb, ne_eqb}
 use Rattle.task_set.specs.Truths.{In}
 use Rattle.line_instance.specs.Line.{Line, IsLine, Before, Apart, has, tasks, time}
 use Rattle.line_instance.specs.Sums.{weigh}
@@ -23,9 +22,6 @@ at_more q ps side i a = (a.0, inr a.1, a.2, a.3)
 cond_most : (b : Bool) (t : ℕ) → cond b t 0 ≤ t
 cond_most true t = omega arith
 cond_most false t = omega arith
-
-not_equal : (a b : ℕ) → a ≢ b → nat_eq a b ≡ false
-not_equal a b n = grind (arith, nat_tests, n)
 
 module _ (kind : LineKind) (line : Line) (c : ℕ) where
   -- a later placement has no lesser station
@@ -104,7 +100,7 @@ module _ (kind : LineKind) (line : Line) (c : ℕ) where
         let T : ℕ → Type 0 = λ k. time_placed line ps k + time line p.task ≤ c in
         omega (arith, t, subst T e r.0.may.fits)
     | inr d ↦
-        let z : cond (nat_eq p.place.station s) (time line p.task) 0 ≡ 0 = ap {B = ℕ} (λ b. cond b (time line p.task) 0) (not_equal p.place.station s d) in
+        let z : cond (nat_eq p.place.station s) (time line p.task) 0 ≡ 0 = ap {B = ℕ} (λ b. cond b (time line p.task) 0) (ne_eqb p.place.station s d) in
         omega (arith, z, placed_fits ps r.1 s)
   ]
 
@@ -130,31 +126,18 @@ abbrev pub weight_of : Line → (ℕ → ℕ) → (Placement → Bool) → List 
 weight_of line w f [] = 0
 weight_of line w f (p ∷ ps) = cond (f p) (w (time line p.task)) 0 + weight_of line w f ps
 
-same : (a b : ℕ) → nat_eq a b ≡ true → a ≡ b
-same a b h = grind (arith, nat_tests, h)
-
-equal : (a b : ℕ) → a ≡ b → nat_eq a b ≡ true
-equal a b h = grind (arith, nat_tests, h)
-
 pub pick_has : (f : Placement → Bool) (ps : List Placement) (i : ℕ) → picks f ps i ≡ true → (p : Placement) × Has ps p × (p.task ≡ i) × (f p ≡ true)
 pick_has f [] i e = absurd (false≢true e)
 pick_has f (x ∷ ps) i e = elim (or_cases (nat_eq x.task i && f x) (picks f ps i) e) [
-  | inl a ↦ (let q : (nat_eq x.task i ≡ true) × (f x ≡ true) = and_parts (nat_eq x.task i) (f x) a in (x, inl refl, same x.task i q.0, q.1))
+  | inl a ↦ (let q : (nat_eq x.task i ≡ true) × (f x ≡ true) = and_parts (nat_eq x.task i) (f x) a in (x, inl refl, eqb-true x.task i q.0, q.1))
   | inr b ↦ (let q = pick_has f ps i b in (q.0, inr q.1, q.2, q.3))
 ]
-
-or_left : (a b : Bool) → a ≡ true → (a || b) ≡ true
-or_left a b e = ap (λ x. x || b) e
-
-or_right : (a b : Bool) → b ≡ true → (a || b) ≡ true
-or_right true b e = refl
-or_right false b e = e
 
 pub has_pick : (f : Placement → Bool) (ps : List Placement) (i : ℕ) (p : Placement) → Has ps p → p.task ≡ i → f p ≡ true → picks f ps i ≡ true
 has_pick f [] i p h t e = absurd h
 has_pick f (x ∷ ps) i p (inl a) t e =
     let E : ℕ → Type 0 = λ k. nat_eq k i ≡ true in
-    or_left (nat_eq x.task i && f x) (picks f ps i) (and_from (nat_eq x.task i) (f x) (equal x.task i (ap (λ y. y.task) (sym a) ∙ t)) (ap f (sym a) ∙ e))
+    or_left (nat_eq x.task i && f x) (picks f ps i) (and_from (nat_eq x.task i) (f x) (eq-eqb x.task i (ap (λ y. y.task) (sym a) ∙ t)) (ap f (sym a) ∙ e))
 has_pick f (x ∷ ps) i p (inr h) t e = or_right (nat_eq x.task i && f x) (picks f ps i) (has_pick f ps i p h t e)
 
 or_none : (b : Bool) (c : Bool) → c ≡ false → ((true && b) || c) ≡ b
@@ -173,8 +156,8 @@ module _ (kind : LineKind) (line : Line) (c : ℕ) (w : ℕ → ℕ) (f : Placem
   weigh-picks [] r = weigh-none w (λ i. false) (λ i. refl) line.times
   weigh-picks (x ∷ ps) r =
       let none : picks f ps x.task ≡ false = none_yet x ps r.0 in
-      let others : (i : ℕ) → (i ≡ x.task → ⊥) → picks f (x ∷ ps) i ≡ picks f ps i = λ i n. ap (λ b. (b && f x) || picks f ps i) (not_equal x.task i (λ e. n (sym e))) in
-      let here : picks f (x ∷ ps) x.task ≡ f x = ap (λ b. (b && f x) || picks f ps x.task) (equal x.task x.task refl) ∙ or_none (f x) (picks f ps x.task) none in
+      let others : (i : ℕ) → (i ≡ x.task → ⊥) → picks f (x ∷ ps) i ≡ picks f ps i = λ i n. ap (λ b. (b && f x) || picks f ps i) (ne_eqb x.task i (λ e. n (sym e))) in
+      let here : picks f (x ∷ ps) x.task ≡ f x = ap (λ b. (b && f x) || picks f ps x.task) (eq-eqb x.task x.task refl) ∙ or_none (f x) (picks f ps x.task) none in
       let more : weigh w (picks f (x ∷ ps)) line.times ≡ weigh w (picks f ps) line.times + cond (picks f (x ∷ ps) x.task) (w (get_or line.times x.task 0)) 0 = weigh-more w (picks f (x ∷ ps)) (picks f ps) x.task none others line.times r.0.may.task in
       let h : cond (picks f (x ∷ ps) x.task) (w (get_or line.times x.task 0)) 0 ≡ cond (f x) (w (get_or line.times x.task 0)) 0 = ap (λ b. cond b (w (get_or line.times x.task 0)) 0) here in
       omega (arith, more, h, weigh-picks ps r.1)

@@ -20,8 +20,7 @@ use Rattle.line_rules.specs.declared.types.Seatplace.{Seatplace}
 use Rattle.line_rules.specs.declared.types.Load.{Load}
 use Rattle.line_instance.proofs.Sums.{sum_where-le, weigh-none}
 use Rattle.line_rules.proofs.Stack.{stacked_first, fore_stack, both_stack, first_taken, first_others}
-use Rattle.line_rules.proofs.Grown.{get_longer, get_push_cases}
-use Rattle.line_rules.proofs.Covering.{get_last}
+use Rattle.line_rules.proofs.ListFacts.{get_longer, get_push_cases, get_last}
 use Rattle.line_rules.proofs.Paths.{rest_inside, rest_without}
 use Rattle.std.proofs.lemmas.Bool.{cases_Bool, cases_eq, and_parts, and_from, eqb-true, eq-eqb}
 

@@ -4,6 +4,7 @@ use Rattle.std.specs.Prelude.{slice_get}
 use Rattle.std.proofs.lemmas.Bool.{false≢true}
 use Rattle.task_set.specs.Truths.{In, full_to, IsSubset}
 use Rattle.line_instance.specs.Line.{IsRanked, IsTaskSet, tasks, has}
+use Rattle.std.proofs.lemmas.Option.{same_Some}
 use Rattle.line_rules.specs.Balance.{all_tasks}
 use Rattle.line_rules.specs.Bounds.{bound, lm1, lm2, lm3, sixths, head, tail, chained}
 use Rattle.line_rules.specs.Loads.{IsLoad, rest}
@@ -126,14 +127,11 @@ bound_is_three = refl
 bound_follows : Follows Straight six_free [] six_bound
 bound_follows = record { set = all; cycle = omega arith; by = omega (arith, bound_is_three) }
 
-some_entry : (a b : Entry) → Some a ≡ Some b → a ≡ b
-some_entry a b e = cc
-
 no_subset : Follows Straight six_free (six_bound ∷ []) (six_above 0) → ⊥
 no_subset f =
     let c : Cites (six_bound ∷ []) 0 (rest (all_tasks six_free) (load_of (0 ∷ []))) 2 7 = needs (six_bound ∷ []) 0 f in
     let P : Entry → Type 0 = λ e. IsSubset e.set (rest (all_tasks six_free) (load_of (0 ∷ []))) in
-    let m : In (rest (all_tasks six_free) (load_of (0 ∷ []))) 0 = subst P (sym (some_entry six_bound c.entry c.there)) c.part 0 (In-all six_free 0 few (omega arith)) in
+    let m : In (rest (all_tasks six_free) (load_of (0 ∷ []))) 0 = subst P (sym (same_Some six_bound c.entry c.there)) c.part 0 (In-all six_free 0 few (omega arith)) in
     false≢true (sym zero_out ∙ (sym (ap (λ (s : List Bool). has s 0) rest_is) ∙ m))
 
 pub branches_of_the_rows : BranchesOfTheRows

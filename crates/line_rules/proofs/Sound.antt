@@ -2,6 +2,7 @@
 use Rattle.std.proofs.Common.{◌≡◌, ℕ, zero, suc, ◌-◌, ◌<◌, ◌≤◌, List, [], ◌∷◌, length, set, take, refl, inl, inr, arith, Some}
 use Rattle.std.specs.Prelude.{slice_get}
 use Rattle.line_instance.specs.Line.{Line, IsLine, IsTaskSet}
+pub use Rattle.line_rules.proofs.ListFacts.{get_take}
 use Rattle.line_rules.specs.Balance.{Holds}
 use Rattle.line_rules.specs.Loads.{rest}
 use Rattle.line_rules.specs.Bounds.{bound}
@@ -16,12 +17,6 @@ use Rattle.line_rules.proofs.Law.{bound_le}
 use Rattle.line_rules.proofs.Step.{step}
 use Rattle.line_rules.proofs.Swap.{swapped, swap_seats}
 use Rattle.std.proofs.lemmas.Bool.{cases_lt}
-
-pub get_take : {X : Type 0} (xs : List X) (n k : ℕ) (x : X) → slice_get (take n xs) k ≡ Some x → (k < n) × (slice_get xs k ≡ Some x)
-get_take xs zero k x e = absurd (cc)
-get_take [] (suc n) k x e = absurd (cc)
-get_take (y ∷ ys) (suc n) zero x e = (omega arith, e)
-get_take (y ∷ ys) (suc n) (suc k) x e = let p : (k < n) × (slice_get ys k ≡ Some x) = get_take ys n k x e in (omega (arith, p.0), p.1)
 
 pub get_within : {X : Type 0} (xs : List X) (k : ℕ) (x : X) → slice_get xs k ≡ Some x → k < length xs
 get_within [] k x e = absurd (cc)

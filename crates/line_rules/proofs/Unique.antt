@@ -2,6 +2,7 @@
 use Rattle.std.proofs.Common.{◌≡◌, ℕ, zero, suc, List, [], ◌∷◌, refl, sym, ap, ◌∙◌, subst, ◌⊎◌, inl, inr, arith, Some}
 use Rattle.std.specs.Prelude.{slice_get}
 use Rattle.line_instance.specs.Line.{Line}
+use Rattle.std.proofs.lemmas.Option.{same_Some}
 use Rattle.line_rules.specs.Order.{truth, Precedes, Lists}
 use Rattle.line_rules.specs.declared.types.Load.{Load}
 use Rattle.std.proofs.lemmas.Bool.{cases_order, false≢true}
@@ -17,9 +18,6 @@ precedes_trans line a b c p q = elim (cases_order p.at q.at) [
 
 pub precedes_itself : (line : Line) (a : Load) → Precedes line a a → ⊥
 precedes_itself line a p = false≢true (sym p.absent ∙ p.present)
-
-some_same : (x a : Load) → Some x ≡ Some a → x ≡ a
-some_same x a e = cc
 
 none_at : (k : ℕ) (a : Load) → slice_get [] k ≡ Some a → ⊥
 none_at k a e = cc
@@ -37,11 +35,11 @@ first_less line P x xs h (suc k) a e =
     precedes_trans line x b.0 a (first_less line P x xs h k b.0 b.1) (h.rises (suc k) b.0 a b.1 e)
 
 behind : (line : Line) (P : Load → Type 0) (x : Load) (xs : List Load) (a : Load) (k : ℕ) → slice_get (x ∷ xs) k ≡ Some a → Precedes line x a → (j : ℕ) × (slice_get xs j ≡ Some a)
-behind line P x xs a zero e p = absurd (precedes_itself line x (let Q : Load → Type 0 = λ z. Precedes line x z in subst Q (sym (some_same x a e)) p))
+behind line P x xs a zero e p = absurd (precedes_itself line x (let Q : Load → Type 0 = λ z. Precedes line x z in subst Q (sym (same_Some x a e)) p))
 behind line P x xs a (suc k) e p = (k, e)
 
 place_of : (line : Line) (P : Load → Type 0) (x : Load) (xs : List Load) → Lists line P (x ∷ xs) → (a : Load) (k : ℕ) → slice_get (x ∷ xs) k ≡ Some a → (x ≡ a) ⊎ Precedes line x a
-place_of line P x xs h a zero e = inl (some_same x a e)
+place_of line P x xs h a zero e = inl (same_Some x a e)
 place_of line P x xs h a (suc k) e = inr (first_less line P x xs h k a e)
 
 heads : (line : Line) (P : Load → Type 0) (x y : Load) (xs ys : List Load) → Lists line P (x ∷ xs) → Lists line P (y ∷ ys) → x ≡ y

@@ -4,7 +4,6 @@ pub mod Bounds
 pub mod Ranked
 pub mod Loads
 pub mod Order
-pub mod Sides
 pub mod Entries
 pub mod Units
 pub mod Trails

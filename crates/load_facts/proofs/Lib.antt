@@ -3,4 +3,10 @@ pub mod SizeClasses
 pub mod HeadTail
 pub mod BoundCases
 pub mod Rest
+pub mod NextLoad
+pub mod SideFacts
+pub mod JoinFacts
+pub mod ScanFacts
+pub mod ReadyFacts
 pub mod SidePlaces
+pub mod WalkTurns

@@ -1,1 +1,4 @@
 pub mod Times
+pub mod Sides
+pub mod Scan
+pub mod Ends

@@ -5,20 +5,22 @@ use Rattle.line_instance.specs.Line.{Line, IsLine, IsRanked, IsTaskSet, tasks, h
 use Rattle.line_instance.specs.Sums.{sum_where}
 use Rattle.line_rules.specs.Loads.{IsLoad, IsFull, taken}
 use Rattle.line_rules.specs.Order.{IsNext, IsFollowing, After}
-use Rattle.line_rules.specs.Sides.{MayJoin, fills, part, nothing_yet}
+use Rattle.load_facts.specs.Sides.{MayJoin, fills, part, nothing_yet}
 use Rattle.line_rules.specs.declared.types.Mode.{Mode}
 use Rattle.line_rules.specs.declared.types.Side.{Side}
 use Rattle.line_rules.specs.declared.types.Side.TheVariants.{Front, Back}
 use Rattle.line_rules.specs.declared.types.Load.{Load}
-use Rattle.line_rules.proofs.Sides.{AreSets, each_side}
-use Rattle.line_rules.proofs.Joining.{full_of, full_none}
-use Rattle.line_rules.proofs.Scans.{Scan, IsBase, scan_start, rescan, base_none, base_some, follows, none_follows, none_above}
+use Rattle.load_facts.specs.Sides.{AreSets}
+use Rattle.load_facts.proofs.SideFacts.{each_side}
+use Rattle.load_facts.proofs.JoinFacts.{full_of, full_none}
+use Rattle.load_facts.specs.Scan.{Scan}
+use Rattle.load_facts.proofs.ScanFacts.{IsBase, scan_start, rescan, base_none, base_some, follows, none_follows, none_above}
 use Rattle.station_load.specs.declared.ends.End.{End}
 use Rattle.station_load.specs.declared.shorts.Shorts.{Shorts}
-use Rattle.station_load.specs.Ends.{IsEnd}
+use Rattle.load_facts.specs.Ends.{IsEnd}
 use Rattle.station_load.specs.Shorts.{AreShort}
 use Rattle.station_load.specs.Walking.{Walking, IsWalk, end_of, last_load}
-use Rattle.station_load.proofs.Answered.{same_pair}
+use Rattle.load_facts.proofs.NextLoad.{same_pair}
 
 base_of : (line : Line) (c : ℕ) (mode : Mode) (R : List Bool) (last : Option Load) → ((l : Load) → last ≡ Some l → IsLoad line c mode R l) → IsBase line c mode R last (last_load last)
 base_of line c mode R None f = base_none line c mode R
@@ -79,7 +81,7 @@ given_is false l k e = absurd (cc)
 
 -- a walk that stands at a load given last, or before the first one
 pub stands_at : (line : Line) (c : ℕ) (mode : Mode) (R : List Bool) → IsTaskSet line R → (given : Bool) (load : Load) (sum : ℕ) (front back : End) (shorts : Shorts) → (given ≡ true → IsLoad line c mode R load) → (given ≡ false → load ≡ nothing_yet)
-    → sum ≡ sum_where (has (taken load)) line.times → front.tasks ≡ load.front → back.tasks ≡ load.back → (fills mode Front ≡ true → IsEnd line Front R front) → (fills mode Back ≡ true → IsEnd line Back R back) → AreShort line c R shorts
+    → sum ≡ sum_where (has (taken load)) line.times → front.tasks ≡ load.front → back.tasks ≡ load.back → (fills mode Front ≡ true → IsEnd line Front R front.tasks front.free front.places) → (fills mode Back ≡ true → IsEnd line Back R back.tasks back.free back.places) → AreShort line c R shorts
     → IsWalk line (record { cycle = c; mode = mode; set = R; last = cond given (Some (record { front = front.tasks; back = back.tasks })) None; ended = false; sum = sum; front = front; back = back; shorts = shorts })
 stands_at line c mode R set given load sum front back shorts is nothing total f b ready_front ready_back short =
     let pair : Load = record { front = front.tasks; back = back.tasks } in
@@ -92,7 +94,7 @@ stands_at line c mode R set given load sum front back shorts is nothing total f 
       load = λ l e. let q : (given ≡ true) × (pair ≡ l) = given_is given pair l e in subst P (sym same ∙ q.1) (is q.0);
       sum = total ∙ ap (λ l. sum_where (has (taken l)) line.times) (sym (at ∙ same));
       stands = each_side (λ (s : Side). (end_of s new).tasks ≡ part s (last_load new.last)) (ap (λ (l : Load). l.front) (sym at)) (ap (λ (l : Load). l.back) (sym at));
-      ready = λ o. each_side (λ (s : Side). fills mode s ≡ true → IsEnd line s R (end_of s new)) ready_front ready_back;
+      ready = λ o. each_side (λ (s : Side). fills mode s ≡ true → IsEnd line s R (end_of s new).tasks (end_of s new).free (end_of s new).places) ready_front ready_back;
       short = short;
       over = λ e. absurd (cc);
     }

@@ -4,12 +4,12 @@ use Rattle.line_instance.specs.Line.{Line, IsTaskSet, has}
 use Rattle.line_instance.specs.Sums.{sum_where}
 use Rattle.line_rules.specs.Loads.{IsLoad, taken}
 use Rattle.line_rules.specs.Order.{After}
-use Rattle.line_rules.specs.Sides.{part, fills, nothing_yet}
+use Rattle.load_facts.specs.Sides.{part, fills, nothing_yet}
 use Rattle.line_rules.specs.declared.types.Mode.{Mode}
 use Rattle.line_rules.specs.declared.types.Side.{Side}
 use Rattle.line_rules.specs.declared.types.Side.TheVariants.{Front, Back}
 use Rattle.line_rules.specs.declared.types.Load.{Load}
-use Rattle.station_load.specs.Ends.{IsEnd}
+use Rattle.load_facts.specs.Ends.{IsEnd}
 use Rattle.station_load.specs.Shorts.{AreShort}
 use Rattle.station_load.specs.declared.shorts.Shorts.{Shorts}
 use Rattle.station_load.specs.declared.ends.End.{End}
@@ -45,7 +45,7 @@ pub record IsWalk (line : Line) (w : Walking) : Type 0 where
   pub load : (l : Load) → w.last ≡ Some l → IsLoad line w.cycle w.mode w.set l
   pub sum : w.sum ≡ sum_where (has (taken (last_load w.last))) line.times
   pub stands : (s : Side) → (end_of s w).tasks ≡ part s (last_load w.last)
-  pub ready : w.ended ≡ false → (s : Side) → fills w.mode s ≡ true → IsEnd line s w.set (end_of s w)
+  pub ready : w.ended ≡ false → (s : Side) → fills w.mode s ≡ true → IsEnd line s w.set (end_of s w).tasks (end_of s w).free (end_of s w).places
   pub short : AreShort line w.cycle w.set w.shorts
   pub over : w.ended ≡ true → (l : Load) → IsLoad line w.cycle w.mode w.set l → After line w.last l → ⊥
 

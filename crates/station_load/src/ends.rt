@@ -1,9 +1,9 @@
 //! One side of the load that a walk has come to, with the tasks that are ready for it.
-ghost use Rattle.std.specs.Prelude.{◌≡◌, ◌<◌, ℕ, false, true, slice_set};
+ghost use Rattle.std.specs.Prelude.{◌≡◌, ◌<◌, ◌⊎◌, ◌↔◌, ℕ, false, true, slice_set};
 ghost use Rattle.task_set.specs.Truths.{In};
 ghost use Rattle.line_instance.specs.Line.{IsTaskSet, tasks, has};
-ghost use Rattle.line_rules.specs.Sides.{Ahead, fills};
-ghost use Rattle.station_load.specs.Ends.{AreMarked, IsEnd, Adds, GivesUp};
+ghost use Rattle.load_facts.specs.Sides.{Ahead, IsReady, fills};
+ghost use Rattle.load_facts.specs.Ends.{AreMarked, IsEnd};
 
 use crate::sides::{ahead, fills, nearest, place_of, places_of, waiting};
 use line_instance::Instance;
@@ -31,7 +31,7 @@ impl End {
         requires set { IsTaskSet inst.now set.now }
         requires part { IsTaskSet inst.now part.now }
         ensures tasks { result.tasks ≡ part.now }
-        ensures kept { fills mode side ≡ true → IsEnd inst.now side set.now result }
+        ensures kept { fills mode side ≡ true → IsEnd inst.now side set.now result.tasks result.free result.places }
     {
         let mut end = End {
             tasks: *part,
@@ -49,8 +49,10 @@ impl End {
     fn add_ready(&mut self, inst: &Instance, set: &TaskSet, side: Side, candidates: TaskSet)
         requires set { IsTaskSet inst.now set.now }
         requires candidates { (i : ℕ) → In candidates i → In set.now i × (has self.old.tasks i ≡ false) }
-        requires marked { AreMarked inst.now side self.old }
-        ensures { Adds inst.now side set.now candidates self.old self.new }
+        requires marked { AreMarked inst.now side self.old.tasks self.old.free self.old.places }
+        ensures tasks { self.new.tasks ≡ self.old.tasks }
+        ensures free { (i : ℕ) → In self.new.free i ↔ In self.old.free i ⊎ (In candidates i × IsReady inst.now side set.now self.old.tasks i) }
+        ensures marked { AreMarked inst.now side self.new.tasks self.new.free self.new.places }
     {
         let _tasks = inst.tasks();
         if candidates.is_empty() {
@@ -73,8 +75,10 @@ impl End {
         requires task { In self.old.tasks task }
         requires within { task < tasks inst.now }
         requires apart { (i : ℕ) → In self.old.free i → has self.old.tasks i ≡ false }
-        requires marked { AreMarked inst.now side self.old }
-        ensures { GivesUp inst.now side task self.old self.new }
+        requires marked { AreMarked inst.now side self.old.tasks self.old.free self.old.places }
+        ensures tasks { self.new.tasks ≡ slice_set self.old.tasks task false }
+        ensures free { (i : ℕ) → In self.new.free i ↔ (In self.old.free i ⊎ (i ≡ task)) × (Ahead inst.now side task i → ⊥) }
+        ensures marked { AreMarked inst.now side self.new.tasks self.new.free self.new.places }
     {
         let _tasks = inst.tasks();
         self.tasks.remove(task);
@@ -92,10 +96,10 @@ impl End {
     pub(crate) fn take_in(&mut self, inst: &Instance, set: &TaskSet, side: Side, task: u32)
         requires set { IsTaskSet inst.now set.now }
         requires free { In self.old.free task }
-        requires end { IsEnd inst.now side set.now self.old }
+        requires end { IsEnd inst.now side set.now self.old.tasks self.old.free self.old.places }
         requires closed { (i j : ℕ) → In set.now i → In self.old.tasks j → Ahead inst.now side i j → In self.old.tasks i }
         ensures tasks { self.new.tasks ≡ slice_set self.old.tasks task true }
-        ensures end { IsEnd inst.now side set.now self.new }
+        ensures end { IsEnd inst.now side set.now self.new.tasks self.new.free self.new.places }
     {
         let _tasks = inst.tasks();
         self.tasks.insert(task);

@@ -4,10 +4,10 @@ ghost use Rattle.line_instance.specs.Line.{IsTaskSet, tasks};
 ghost use Rattle.line_rules.specs.Loads.{IsLoad, IsFull};
 ghost use Rattle.line_rules.specs.Order.{Precedes, IsNext, IsFollowing};
 ghost use Rattle.line_rules.specs.declared.types.Load.{Load as Pair};
-ghost use Rattle.line_rules.proofs.Next.{IsPart};
-ghost use Rattle.line_rules.specs.Sides.{MayJoin, fills, spot};
-ghost use Rattle.line_rules.proofs.Sides.{AreSets};
-ghost use Rattle.line_rules.proofs.Scans.{Scan};
+ghost use Rattle.load_facts.specs.Scan.{IsPart};
+ghost use Rattle.load_facts.specs.Sides.{MayJoin, fills, spot};
+ghost use Rattle.load_facts.specs.Sides.{AreSets};
+ghost use Rattle.load_facts.specs.Scan.{Scan};
 
 use crate::sides::{ahead, fills, nothing, part, put, stands, take, task_at};
 use line_instance::Instance;

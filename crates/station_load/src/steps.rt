@@ -6,11 +6,12 @@ ghost use Rattle.line_instance.specs.Line.{IsTaskSet, Apart, tasks, time, has};
 ghost use Rattle.line_instance.specs.Sums.{sum_where};
 ghost use Rattle.line_rules.specs.Loads.{IsLoad, IsFull, taken};
 ghost use Rattle.line_rules.specs.Order.{After, IsNext, IsFollowing};
-ghost use Rattle.line_rules.specs.Sides.{MayJoin, fills, spot, nothing_yet};
+ghost use Rattle.load_facts.specs.Sides.{MayJoin, fills, spot, nothing_yet};
 ghost use Rattle.line_rules.specs.declared.types.Load.{Load as Pair};
-ghost use Rattle.line_rules.proofs.Next.{IsPart};
-ghost use Rattle.line_rules.proofs.Scans.{Scan};
-ghost use Rattle.station_load.specs.Ends.{IsEnd, HasRoom, pair_at};
+ghost use Rattle.load_facts.specs.Scan.{IsPart};
+ghost use Rattle.load_facts.specs.Scan.{Scan};
+ghost use Rattle.load_facts.specs.Ends.{IsEnd};
+ghost use Rattle.load_facts.specs.Sides.{HasRoom, pair_at};
 ghost use Rattle.station_load.specs.Shorts.{HasShort};
 ghost use Rattle.station_load.specs.Walking.{IsWalk, last_given};
 
@@ -81,11 +82,11 @@ fn advance(
 ) -> bool
     requires set { IsTaskSet inst.now set.now }
     requires scan { Scan inst.now cycle mode set.now last.now (pair_at side end.old.tasks other.now) (spot inst.now side (tasks inst.now)) }
-    requires kept { fills mode side ≡ true → IsEnd inst.now side set.now end.old }
+    requires kept { fills mode side ≡ true → IsEnd inst.now side set.now end.old.tasks end.old.free end.old.places }
     requires sum { sum.old ≡ sum_where (has (taken (pair_at side end.old.tasks other.now))) inst.now.times }
     ensures joined { IsTrue result → IsNext inst.now cycle mode set.now last.now (pair_at side end.new.tasks other.now) }
     ensures passed { result ≡ false → Scan inst.now cycle mode set.now last.now (pair_at side end.new.tasks other.now) (spot inst.now side 0) }
-    ensures kept { fills mode side ≡ true → IsEnd inst.now side set.now end.new }
+    ensures kept { fills mode side ≡ true → IsEnd inst.now side set.now end.new.tasks end.new.free end.new.places }
     ensures sum { sum.new ≡ sum_where (has (taken (pair_at side end.new.tasks other.now))) inst.now.times }
 {
     if !fills(mode, side) {
@@ -121,7 +122,7 @@ fn grows(
 ) -> bool
     requires set { IsTaskSet inst.now set.now }
     requires short { HasShort inst.now set.now (cycle - sum) short.now }
-    requires kept { fills mode side ≡ true → IsEnd inst.now side set.now end.now }
+    requires kept { fills mode side ≡ true → IsEnd inst.now side set.now end.now.tasks end.now.free end.now.places }
     requires sum { sum ≡ sum_where (has (taken (pair_at side end.now.tasks other.now))) inst.now.times }
     requires fits { sum ≤ cycle }
     ensures some { IsTrue result → (i : ℕ) × (fills mode side ≡ true) × MayJoin inst.now cycle set.now side (pair_at side end.now.tasks other.now) i }

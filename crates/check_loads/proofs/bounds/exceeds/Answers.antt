@@ -1,6 +1,6 @@
 use Rattle.std.proofs.Common.{◌∙◌, refl, sym, arith}
 use Rattle.std.proofs.lemmas.Bool.{false≢true}
-use Rattle.check_loads.proofs.Fits.{empty_bound, long_bound, parts_bound, most_bound, below_bound, at_least_one, time_part, count_parts}
+use Rattle.load_facts.proofs.BoundCases.{empty_bound, long_bound, parts_bound, most_bound, below_bound, at_least_one, time_part, count_parts}
 use Rattle.check_loads.proofs.bounds.exceeds.Goals as goal
 use Rattle.check_loads.proofs.bounds.exceeds.Goals.{then-is_empty-via-then-is_empty, then-is_empty-via-else-is_empty+then-most-ge-TOO_LONG}
 use Rattle.check_loads.proofs.bounds.exceeds.Goals.{then-most-eq0-via-then-most-eq0, then-most-eq0-via-else-most-eq0+then-div_ceil-most}

@@ -1,6 +1,6 @@
 use Rattle.std.proofs.Common.{arith}
-use Rattle.check_loads.proofs.Picked.{all_in_start}
-use Rattle.check_loads.proofs.Around.{chain_start, no_chain, few_chained}
+use Rattle.load_facts.proofs.SumsOverMembers.{all_in_start}
+use Rattle.load_facts.proofs.HeadTail.{chain_start, no_chain, few_chained}
 use Rattle.check_loads.proofs.chains.has_longer_chain.Goals as goal
 
 pub returns-in-U : goal.returns-in-U

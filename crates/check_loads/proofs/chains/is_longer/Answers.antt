@@ -1,7 +1,7 @@
 use Rattle.std.proofs.Common.{arith}
 use Rattle.line_instance.specs.Line.{has}
 use Rattle.line_instance.proofs.Sums.{weigh-most}
-use Rattle.check_loads.proofs.Picked.{weight_turn, weight_start, all_in_start}
+use Rattle.load_facts.proofs.SumsOverMembers.{weight_turn, weight_start, all_in_start}
 use Rattle.check_loads.proofs.chains.is_longer.Goals as goal
 
 pub loop-i-init : goal.loop-i-init

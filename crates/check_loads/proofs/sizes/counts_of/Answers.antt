@@ -1,7 +1,7 @@
 use Rattle.std.proofs.Common.{◌*◌, nat_eq, nat_lt, sym, arith}
 use Rattle.line_instance.specs.Line.{has}
-use Rattle.check_loads.proofs.Picked.{weight_start, all_in_start}
-use Rattle.check_loads.proofs.Shares.{one_more, count_most, sixths_most, none_long, none_above, none_half, none_sixths}
+use Rattle.load_facts.proofs.SumsOverMembers.{weight_start, all_in_start}
+use Rattle.load_facts.proofs.SizeClasses.{one_more, count_most, sixths_most, none_long, none_above, none_half, none_sixths}
 use Rattle.check_loads.proofs.sizes.counts_of.Goals as goal
 
 pub loop-i-init : goal.loop-i-init

@@ -2,7 +2,7 @@ use Rattle.std.proofs.Common.{◌≡◌, ◌+◌, ◌*◌, nat_eq, nat_lt, cond}
 use Rattle.line_instance.specs.Line.{has}
 use Rattle.line_instance.specs.Sums.{count_where, weigh}
 use Rattle.line_rules.specs.Bounds.{sixths}
-use Rattle.check_loads.proofs.Picked.{weight_of, AllIn}
+use Rattle.load_facts.proofs.SumsOverMembers.{weight_of, AllIn}
 use Rattle.check_loads.proofs.sizes.counts_of.Given as goal
 
 abbrev pub invariant-loop-i : goal.invariant-loop-i

@@ -1,10 +1,10 @@
 use Rattle.std.proofs.Common.{◌≡◌, arith}
 use Rattle.line_instance.specs.Line.{has, time}
 use Rattle.line_instance.specs.Sums.{sum_where}
-use Rattle.check_loads.specs.Times.{longest_of}
+use Rattle.load_facts.specs.Times.{longest_of}
 use Rattle.line_instance.proofs.Sums.{weigh-most}
-use Rattle.check_loads.proofs.Picked.{weight_turn, weight_start, weight_end, greatest_end, all_in_start}
-use Rattle.check_loads.proofs.Shares.{longest_start, longest_least, longest_most}
+use Rattle.load_facts.proofs.SumsOverMembers.{weight_turn, weight_start, weight_end, greatest_end, all_in_start}
+use Rattle.load_facts.proofs.SizeClasses.{longest_start, longest_least, longest_most}
 use Rattle.check_loads.proofs.sizes.times_in.Goals as goal
 
 pub loop-i-init : goal.loop-i-init

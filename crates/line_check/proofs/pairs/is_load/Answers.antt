@@ -5,7 +5,7 @@ use Rattle.task_set.proofs.Members.{In-empty}
 use Rattle.line_instance.specs.Line.{IsTaskSet, has}
 use Rattle.line_instance.specs.Sums.{sum_where}
 use Rattle.line_rules.specs.Loads.{taken}
-use Rattle.line_rules.proofs.Sides.{taken_set}
+use Rattle.load_facts.proofs.SideFacts.{taken_set}
 use Rattle.line_check.proofs.Entering.{some_task}
 use Rattle.line_check.proofs.pairs.is_load.Goals as goal
 

@@ -1,9 +1,9 @@
 use Rattle.std.proofs.Common.{◌≡◌, ℕ, true, refl}
 use Rattle.line_rules.specs.declared.types.Side.{Side}
 use Rattle.line_rules.specs.declared.types.Side.TheVariants.{Front, Back}
-use Rattle.line_rules.specs.Sides.{fills, MayJoin}
-use Rattle.line_rules.proofs.Sides.{each_side}
-use Rattle.line_rules.proofs.Joining.{full_of, full_none}
+use Rattle.load_facts.specs.Sides.{fills, MayJoin}
+use Rattle.load_facts.proofs.SideFacts.{each_side}
+use Rattle.load_facts.proofs.JoinFacts.{full_of, full_none}
 use Rattle.std.proofs.lemmas.Bool.{false≢true}
 use Rattle.station_load.proofs.places.full.Goals as goal
 

@@ -4,7 +4,7 @@ use Rattle.task_set.proofs.Members.{In-meet, In-meet_parts}
 use Rattle.line_instance.specs.Line.{IsTaskSet, has}
 use Rattle.line_instance.specs.Sums.{sum_where}
 use Rattle.line_rules.specs.Loads.{taken}
-use Rattle.line_rules.proofs.Sides.{taken_set}
+use Rattle.load_facts.proofs.SideFacts.{taken_set}
 use Rattle.std.proofs.lemmas.Bool.{false≢true}
 use Rattle.station_load.proofs.places.may_join.Goals as goal
 

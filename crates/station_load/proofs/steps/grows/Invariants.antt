@@ -1,8 +1,8 @@
 use Rattle.std.proofs.Common.{◌≤◌, ℕ}
 use Rattle.task_set.specs.Truths.{In}
 use Rattle.line_instance.specs.Line.{tasks}
-use Rattle.line_rules.specs.Sides.{MayJoin}
-use Rattle.station_load.specs.Ends.{pair_at}
+use Rattle.load_facts.specs.Sides.{MayJoin}
+use Rattle.load_facts.specs.Sides.{pair_at}
 use Rattle.station_load.proofs.steps.grows.Given as goal
 
 abbrev pub decreases-loop-task : goal.decreases-loop-task

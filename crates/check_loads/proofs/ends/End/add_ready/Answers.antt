@@ -2,12 +2,12 @@ use Rattle.std.proofs.Common.{◌≡◌, ◌∙◌, ◌<◌, ◌⊎◌, ◌↔�
 use Rattle.task_set.specs.Truths.{In, IsEmpty, minus}
 use Rattle.task_set.proofs.Members.{members}
 use Rattle.line_instance.specs.Line.{has}
-use Rattle.line_rules.specs.Sides.{IsReady}
-use Rattle.line_rules.proofs.Ready.{Adding, add_turn, ready_test, fewer_left}
+use Rattle.load_facts.specs.Sides.{IsReady}
+use Rattle.load_facts.proofs.ReadyFacts.{Adding, add_turn, ready_test, fewer_left}
 use Rattle.std.proofs.lemmas.Bool.{false≢true}
-use Rattle.check_loads.specs.Ends.{AreMarked}
+use Rattle.load_facts.specs.Ends.{AreMarked}
 use Rattle.check_loads.specs.declared.ends.End.{End}
-use Rattle.check_loads.proofs.Marks.{set_in, mark_free}
+use Rattle.load_facts.proofs.SidePlaces.{set_in, mark_free}
 use Rattle.check_loads.proofs.ends.End.add_ready.Goals as goal
 use Rattle.check_loads.proofs.ends.End.add_ready.Goals.{then-is_empty-2, else-is_empty-2}
 
@@ -37,14 +37,14 @@ loop-task-preserved c =
           let inP : (j : ℕ) → In w.insert-then-is_empty-2.new.self j ↔ In c.loop-task.self.places j ⊎ (j ≡ w.place_of.result) = set_in c.loop-task.self.places w.insert-then-is_empty-2.new.self w.place_of.result w.insert-then-is_empty-2.ensures.value w.insert-then-is_empty-2.ensures.truths
           (omega (arith, w.place_of.ensures.within, c.tasks-tasks.ensures.line.small)) in
           let is_ready : IsReady c.args.inst.now c.args.side c.args.set.now c.args.self.now.tasks c.in-Some.task = test.0 (c.is_empty-in-Some.ensures.0 w.if-is_empty-2.true) in
-          let A : End → Type 0 = λ e. AreMarked c.args.inst.now c.args.side e in
+          let A : End → Type 0 = λ e. AreMarked c.args.inst.now c.args.side e.tasks e.free e.places in
           record {
             marked = subst A (sym w.self-is) (mark_free c.args.inst.now c.tasks-tasks.ensures.ranked c.args.side c.loop-task.self.tasks c.loop-task.self.free c.loop-task.self.places c.loop-task.invariant.marked w.insert.new.self w.insert-then-is_empty-2.new.self w.place_of.result c.in-Some.task w.place_of.ensures.within w.place_of.ensures.task inF inP);
             stand = ap (λ (e : End). e.tasks) w.self-is ∙ c.loop-task.invariant.stand;
             adding = subst Turn (sym (ap (λ (e : End). e.free) w.self-is)) (turn w.insert.new.self (λ j m. elim ((inF j).0 m) [ inl h ↦ inl h | inr e ↦ inr (e, is_ready) ]) (λ j m. (inF j).1 (inl m)) (λ r. (inF c.in-Some.task).1 (inr refl)));
           }
       | else-is_empty-2 w ↦
-          let A : End → Type 0 = λ e. AreMarked c.args.inst.now c.args.side e in
+          let A : End → Type 0 = λ e. AreMarked c.args.inst.now c.args.side e.tasks e.free e.places in
           record {
             marked = subst A (sym w.self-is) c.loop-task.invariant.marked;
             stand = ap (λ (e : End). e.tasks) w.self-is ∙ c.loop-task.invariant.stand;

@@ -2,8 +2,8 @@ use Rattle.std.proofs.Common.{◌≡◌, ◌∙◌, ℕ, List, Bool, false, repl
 use Rattle.task_set.specs.Truths.{In}
 use Rattle.task_set.proofs.Members.{In-empty}
 use Rattle.line_instance.specs.Line.{IsTaskSet, has}
-use Rattle.line_rules.specs.Sides.{IsReady, nothing_yet, task_at}
-use Rattle.line_rules.proofs.Scans.{IsBase, base_none}
+use Rattle.load_facts.specs.Sides.{IsReady, nothing_yet, task_at}
+use Rattle.load_facts.proofs.ScanFacts.{IsBase, base_none}
 use Rattle.std.proofs.lemmas.Bool.{false_from_ne_true}
 use Rattle.check_loads.proofs.ends.End.start.Goals as goal
 

@@ -3,15 +3,15 @@ use Rattle.std.proofs.lemmas.Bool.{false≢true}
 use Rattle.line_instance.specs.Line.{has}
 use Rattle.line_instance.specs.Sums.{sum_where}
 use Rattle.line_rules.specs.Loads.{taken}
-use Rattle.line_rules.specs.Sides.{fills, nothing_yet}
+use Rattle.load_facts.specs.Sides.{fills, nothing_yet}
 use Rattle.line_rules.specs.declared.types.Side.{Side}
 use Rattle.line_rules.specs.declared.types.Load.{Load}
-use Rattle.line_rules.proofs.Sides.{each_side}
-use Rattle.line_rules.proofs.Scans.{nothing_sum}
-use Rattle.check_loads.specs.Ends.{IsEnd}
+use Rattle.load_facts.proofs.SideFacts.{each_side}
+use Rattle.load_facts.proofs.ScanFacts.{nothing_sum}
+use Rattle.load_facts.specs.Ends.{IsEnd}
 use Rattle.check_loads.specs.Standing.{stand, end_of}
 use Rattle.check_loads.specs.declared.loads.Walk.{Walk}
-use Rattle.check_loads.proofs.Answered.{same_pair}
+use Rattle.load_facts.proofs.NextLoad.{same_pair}
 use Rattle.check_loads.proofs.loads.Walk.begin.Goals as goal
 
 pub returns-clause-walk : goal.returns-clause-walk
@@ -22,5 +22,5 @@ returns-clause-walk c =
       load = λ e. absurd (false≢true e);
       nothing = λ e. none;
       sum = sym (ap (λ (l : Load). sum_where (has (taken l)) c.args.inst.now.times) none ∙ nothing_sum c.args.inst.now);
-      kept = each_side (λ (s : Side). fills c.args.q.now.mode s ≡ true → IsEnd c.args.inst.now s c.args.q.now.set (end_of s new)) c.start.ensures.kept c.start-2.ensures.kept;
+      kept = each_side (λ (s : Side). fills c.args.q.now.mode s ≡ true → IsEnd c.args.inst.now s c.args.q.now.set (end_of s new).tasks (end_of s new).free (end_of s new).places) c.start.ensures.kept c.start-2.ensures.kept;
     }

@@ -1,10 +1,10 @@
 use Rattle.std.proofs.Common.{◌≡◌, ℕ, true, refl}
 use Rattle.std.proofs.lemmas.Bool.{false≢true}
-use Rattle.line_rules.specs.Sides.{MayJoin, fills}
+use Rattle.load_facts.specs.Sides.{MayJoin, fills}
 use Rattle.line_rules.specs.declared.types.Side.{Side}
 use Rattle.line_rules.specs.declared.types.Side.TheVariants.{Front, Back}
-use Rattle.line_rules.proofs.Sides.{each_side}
-use Rattle.line_rules.proofs.Joining.{full_of, full_none}
+use Rattle.load_facts.proofs.SideFacts.{each_side}
+use Rattle.load_facts.proofs.JoinFacts.{full_of, full_none}
 use Rattle.check_loads.specs.Standing.{stand}
 use Rattle.check_loads.proofs.loads.Walk.is_full.Goals as goal
 

@@ -1,11 +1,11 @@
 use Rattle.std.proofs.Common.{◌≡◌, true, refl}
 use Rattle.std.proofs.lemmas.Bool.{true≢false}
 use Rattle.line_rules.specs.Order.{IsNext}
-use Rattle.line_rules.specs.Sides.{fills}
+use Rattle.load_facts.specs.Sides.{fills}
 use Rattle.line_rules.specs.declared.types.Side.{Side}
 use Rattle.line_rules.specs.declared.types.Side.TheVariants.{Front}
-use Rattle.line_rules.proofs.Sides.{each_side}
-use Rattle.check_loads.specs.Ends.{IsEnd}
+use Rattle.load_facts.proofs.SideFacts.{each_side}
+use Rattle.load_facts.specs.Ends.{IsEnd}
 use Rattle.check_loads.specs.Standing.{end_of}
 use Rattle.check_loads.specs.declared.loads.Walk.{Walk}
 use Rattle.check_loads.proofs.Stepping.{start, goes_on, ends}
@@ -28,7 +28,7 @@ returns-then-advance-clause-walk c = λ e.
       load = λ g. n.load;
       nothing = λ g. absurd (true≢false g);
       sum = c.advance.ensures.sum;
-      kept = each_side (λ (s : Side). fills c.args.q.now.mode s ≡ true → IsEnd c.args.inst.now s c.args.q.now.set (end_of s new)) (c.requires.walk.kept Front) c.advance.ensures.kept;
+      kept = each_side (λ (s : Side). fills c.args.q.now.mode s ≡ true → IsEnd c.args.inst.now s c.args.q.now.set (end_of s new).tasks (end_of s new).free (end_of s new).places) (c.requires.walk.kept Front) c.advance.ensures.kept;
     }
 
 pub returns-then-advance-2-clause-next : goal.returns-then-advance-2-clause-next
@@ -44,7 +44,7 @@ returns-then-advance-2-clause-walk c = λ e.
       load = λ g. n.load;
       nothing = λ g. absurd (true≢false g);
       sum = c.advance-2.ensures.sum;
-      kept = each_side (λ (s : Side). fills c.args.q.now.mode s ≡ true → IsEnd c.args.inst.now s c.args.q.now.set (end_of s new)) c.advance-2.ensures.kept c.advance.ensures.kept;
+      kept = each_side (λ (s : Side). fills c.args.q.now.mode s ≡ true → IsEnd c.args.inst.now s c.args.q.now.set (end_of s new).tasks (end_of s new).free (end_of s new).places) c.advance-2.ensures.kept c.advance.ensures.kept;
     }
 
 pub returns-clause-none : goal.returns-clause-none

@@ -1,12 +1,12 @@
 use Rattle.std.proofs.Common.{◌≡◌}
 use Rattle.task_set.proofs.Members.{members}
-use Rattle.line_rules.proofs.Ready.{Adding}
-use Rattle.station_load.specs.Ends.{AreMarked}
+use Rattle.load_facts.proofs.ReadyFacts.{Adding}
+use Rattle.load_facts.specs.Ends.{AreMarked}
 use Rattle.station_load.proofs.ends.End.add_ready.Given as goal
 
 abbrev pub invariant-loop-task : goal.invariant-loop-task
 invariant-loop-task l = record {
-  marked : AreMarked l.inst l.side l.self;
+  marked : AreMarked l.inst l.side l.self.tasks l.self.free l.self.places;
   stand : l.self.tasks ≡ l.initial.self.tasks;
   adding : Adding l.inst l.side l.set l.initial.self.tasks l.fn.candidates l.initial.self.free l.left l.self.free;
 }

@@ -2,10 +2,10 @@ use Rattle.std.proofs.Common.{◌≡◌, ◌≢◌, ◌∙◌, ◌<◌, ◌⊎�
 use Rattle.task_set.specs.Truths.{In}
 use Rattle.task_set.proofs.Members.{members, In-meet, In-meet_parts}
 use Rattle.line_instance.specs.Line.{has}
-use Rattle.line_rules.specs.Sides.{Ahead}
+use Rattle.load_facts.specs.Sides.{Ahead}
 use Rattle.line_rules.proofs.Leaving.{members_less}
 use Rattle.std.proofs.lemmas.Bool.{cases_Bool, false≢true}
-use Rattle.station_load.proofs.Marks.{set_in, clear_in, move_in, swap, unmark}
+use Rattle.load_facts.proofs.SidePlaces.{set_in, clear_in, move_in, swap, unmark}
 use Rattle.station_load.proofs.ends.End.give_up.Goals as goal
 
 pub loop-other-init : goal.loop-other-init

@@ -1,7 +1,7 @@
 use Rattle.std.proofs.Common.{◌∙◌, ℕ, List, Bool, sym, ap, subst, inl, inr}
 use Rattle.task_set.proofs.Members.{In-empty, In-minus, In-minus_parts}
 use Rattle.line_instance.specs.Line.{IsTaskSet, has}
-use Rattle.line_rules.specs.Sides.{IsReady, task_at}
+use Rattle.load_facts.specs.Sides.{IsReady, task_at}
 use Rattle.station_load.proofs.ends.End.start.Goals as goal
 
 pub add_ready-requires-clause-candidates : goal.add_ready-requires-clause-candidates

@@ -1,9 +1,9 @@
 use Rattle.std.proofs.Common.{◌≡◌, ◌∙◌, ◌<◌, ℕ, List, Bool, true, false, set, sym, ap, subst, inl, inr, arith}
 use Rattle.task_set.specs.Truths.{In}
 use Rattle.line_instance.specs.Line.{IsTaskSet, tasks, has}
-use Rattle.line_rules.specs.Sides.{IsReady, AreReady}
-use Rattle.line_rules.proofs.Sides.{set_more}
-use Rattle.line_rules.proofs.Ready.{ready_more, waiting_new}
+use Rattle.load_facts.specs.Sides.{IsReady, AreReady}
+use Rattle.load_facts.proofs.SideFacts.{set_more}
+use Rattle.load_facts.proofs.ReadyFacts.{ready_more, waiting_new}
 use Rattle.station_load.proofs.ends.End.take_in.Goals as goal
 
 pub add_ready-requires-clause-candidates : goal.add_ready-requires-clause-candidates

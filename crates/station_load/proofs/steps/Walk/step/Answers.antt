@@ -1,16 +1,17 @@
 use Rattle.std.proofs.Common.{◌≡◌, ◌∙◌, sym, ap, subst, true, List, Bool, Some, refl}
 use Rattle.line_rules.specs.Order.{IsNext, IsFollowing, After}
 use Rattle.line_rules.specs.Loads.{IsLoad}
-use Rattle.line_rules.specs.Sides.{fills, part}
+use Rattle.load_facts.specs.Sides.{fills, part}
 use Rattle.line_rules.specs.declared.types.Side.{Side}
 use Rattle.line_rules.specs.declared.types.Side.TheVariants.{Front, Back}
 use Rattle.line_rules.specs.declared.types.Load.{Load}
-use Rattle.line_rules.proofs.Sides.{each_side}
+use Rattle.load_facts.proofs.SideFacts.{each_side}
 use Rattle.std.proofs.lemmas.Bool.{false≢true, true≢false}
-use Rattle.station_load.specs.Ends.{IsEnd}
+use Rattle.load_facts.specs.Ends.{IsEnd}
 use Rattle.station_load.specs.Walking.{Walking, IsWalk, end_of, last_load}
 use Rattle.station_load.specs.contracts.steps.Walk.{the_view}
-use Rattle.station_load.proofs.Answered.{same_pair, some_same}
+use Rattle.load_facts.proofs.NextLoad.{same_pair}
+use Rattle.std.proofs.lemmas.Option.{same_Some}
 use Rattle.station_load.proofs.Walks.{stand, stand_sum, start, goes_on, ends}
 use Rattle.station_load.proofs.steps.Walk.step.Goals as goal
 
@@ -61,10 +62,10 @@ returns-then-advance-2-clause-walk c =
     let P : Load → Type 0 = λ l. IsLoad c.args.inst.now c.self.inside.cycle c.self.inside.mode c.self.inside.set l in
     record {
       set = is.set;
-      load = λ l e. subst P (some_same (record { front = c.advance-2.new.end.tasks; back = c.advance.new.end.tasks }) l e) n.load;
+      load = λ l e. subst P (same_Some (record { front = c.advance-2.new.end.tasks; back = c.advance.new.end.tasks }) l e) n.load;
       sum = c.advance-2.ensures.sum;
       stands = each_side (λ (s : Side). (end_of s new).tasks ≡ part s (record { front = c.advance-2.new.end.tasks; back = c.advance.new.end.tasks })) refl refl;
-      ready = λ o. each_side (λ (s : Side). fills c.self.inside.mode s ≡ true → IsEnd c.args.inst.now s c.self.inside.set (end_of s new)) c.advance-2.ensures.kept c.advance.ensures.kept;
+      ready = λ o. each_side (λ (s : Side). fills c.self.inside.mode s ≡ true → IsEnd c.args.inst.now s c.self.inside.set (end_of s new).tasks (end_of s new).free (end_of s new).places) c.advance-2.ensures.kept c.advance.ensures.kept;
       short = c.count_load.ensures;
       over = λ o. absurd (false≢true (sym c.if-self.false ∙ o));
     }

@@ -1,7 +1,7 @@
 -- The two sides of a load, in front and at the back, spoken of alike.
 use Rattle.std.specs.Prelude.{◌≡◌, ℕ, ◌+◌, ◌-◌, ◌≤◌, ◌↔◌, Bool, true, false, List, slice_set, replicate}
 use Rattle.task_set.specs.Truths.{In}
-use Rattle.line_instance.specs.Line.{Line, tasks, has, time, at_rank, Before, Apart}
+use Rattle.line_instance.specs.Line.{Line, IsTaskSet, tasks, has, time, at_rank, Before, Apart}
 use Rattle.line_instance.specs.Sums.{sum_where}
 use Rattle.line_rules.specs.Loads.{taken}
 use Rattle.line_rules.specs.declared.types.Mode.{Mode}
@@ -68,3 +68,18 @@ pub record IsReady (line : Line) (s : Side) (R part : List Bool) (i : ℕ) : Typ
 -- the set has the tasks that are ready for the side
 pub record AreReady (line : Line) (s : Side) (R part free : List Bool) : Type 0 where
   pub is : (i : ℕ) → In free i ↔ IsReady line s R part i
+
+-- both sides are sets of tasks
+pub record AreSets (line : Line) (l : Load) : Type 0 where
+  pub front : IsTaskSet line l.front
+  pub back : IsTaskSet line l.back
+
+-- the load with these tasks at the side and those at the other side
+abbrev pub pair_at : Side → List Bool → List Bool → Load
+pair_at Front tasks others = record { front = tasks; back = others }
+pair_at Back tasks others = record { front = others; back = tasks }
+
+-- the task's time is left, and nothing that is taken is apart from it
+pub record HasRoom (line : Line) (left : ℕ) (taken : List Bool) (i : ℕ) : Type 0 where
+  pub time : time line i ≤ left
+  pub parted : (j : ℕ) → In taken j → Apart line j i → ⊥

@@ -11,9 +11,11 @@ use Rattle.line_rules.specs.declared.types.Mode.{Mode}
 use Rattle.line_rules.specs.declared.types.Side.{Side}
 use Rattle.line_rules.specs.declared.types.Side.TheVariants.{Front, Back}
 use Rattle.line_rules.specs.declared.types.Load.{Load}
-use Rattle.line_rules.proofs.Next.{IsPart, whole, front_in, back_in, taken_in}
-use Rattle.line_rules.specs.Sides.{part, changed, Ahead, fills, spot, task_at, MayJoin}
-use Rattle.line_rules.proofs.Sides.{AreSets, part_with, set_of, sets_with, set_more, part_taken, taken_part, other_taken, unfilled, suits_with, spot_rises, spot_within, truth_at, task_within, task_placed, ahead_below}
+use Rattle.load_facts.specs.Scan.{IsPart}
+use Rattle.load_facts.proofs.NextLoad.{whole, front_in, back_in, taken_in}
+use Rattle.load_facts.specs.Sides.{part, changed, Ahead, fills, spot, task_at, MayJoin}
+use Rattle.load_facts.specs.Sides.{AreSets}
+use Rattle.load_facts.proofs.SideFacts.{part_with, set_of, sets_with, set_more, part_taken, taken_part, other_taken, unfilled, suits_with, spot_rises, spot_within, truth_at, task_within, task_placed, ahead_below}
 use Rattle.std.proofs.lemmas.Bool.{cases_Bool, cases_eq, false≢true, and_from, ne_eqb, eq-eqb, false_from_ne_true}
 
 pub pair_of : {line : Line} {c : ℕ} {mode : Mode} {R : List Bool} {l : Load} → IsPart line c mode R l → AreSets line l

@@ -4,15 +4,16 @@ use Rattle.task_set.specs.Truths.{In}
 use Rattle.task_set.proofs.Members.{In-union_left, In-union_right, In-union_cases, In-clear_kept}
 use Rattle.task_set.proofs.Bits.{get_or-union}
 use Rattle.line_instance.specs.Line.{Line, IsTaskSet, IsRanked, tasks, has, at_rank}
+use Rattle.load_facts.specs.Sides.{AreSets}
 use Rattle.line_rules.specs.Loads.{Suits, taken}
 use Rattle.line_rules.specs.Order.{truth}
-use Rattle.line_rules.specs.Sides.{part, with_part, changed, Ahead, fills, spot, task_at}
+use Rattle.load_facts.specs.Sides.{part, with_part, changed, Ahead, fills, spot, task_at}
 use Rattle.line_rules.specs.declared.types.Mode.{Mode}
 use Rattle.line_rules.specs.declared.types.Mode.TheVariants as mode
 use Rattle.line_rules.specs.declared.types.Side.{Side}
 use Rattle.line_rules.specs.declared.types.Side.TheVariants.{Front, Back}
 use Rattle.line_rules.specs.declared.types.Load.{Load}
-use Rattle.line_rules.proofs.Next.{in_front, in_back}
+use Rattle.line_rules.proofs.Compare.{in_front, in_back}
 use Rattle.std.proofs.lemmas.Bool.{cases_eq, cases_lt, false≢true, true≢false}
 use Rattle.std.proofs.lemmas.List.{get_or-set_same, get_or-set_other, length-set}
 
@@ -24,11 +25,6 @@ each_side P f b Back = b
 pub part_with : (s : Side) (l : Load) (b : List Bool) → part s (with_part s l b) ≡ b
 part_with Front l b = refl
 part_with Back l b = refl
-
--- both sides are sets of tasks
-pub record AreSets (line : Line) (l : Load) : Type 0 where
-  pub front : IsTaskSet line l.front
-  pub back : IsTaskSet line l.back
 
 pub set_of : {line : Line} (s : Side) (l : Load) → AreSets line l → IsTaskSet line (part s l)
 set_of Front l h = h.front

@@ -4,8 +4,8 @@ use Rattle.task_set.specs.Truths.{In, minus, meet, IsEmpty}
 use Rattle.task_set.proofs.Members.{In-minus, In-minus_parts, In-meet, In-meet_parts, In-set_same, In-set_kept, In-set_cases, In-clear, In-clear_kept, In-clear_gone, members}
 use Rattle.line_instance.specs.Line.{Line, IsLine, has}
 use Rattle.line_rules.specs.declared.types.Side.{Side}
-use Rattle.line_rules.specs.Sides.{Ahead, IsReady, AreReady}
-use Rattle.line_rules.proofs.Joining.{not_ahead}
+use Rattle.load_facts.specs.Sides.{Ahead, IsReady, AreReady}
+use Rattle.load_facts.proofs.JoinFacts.{not_ahead}
 use Rattle.line_rules.proofs.Leaving.{members_less}
 use Rattle.std.proofs.lemmas.Bool.{cases_Bool, cases_eq, false≢true, false_from_ne_true}
 

@@ -2,35 +2,25 @@
 use Rattle.std.proofs.Common.{◌≡◌, ◌≢◌, ℕ, zero, suc, ◌+◌, ◌*◌, ◌<◌, ◌≤◌, Bool, true, false, List, length, set, refl, sym, ap, ◌∙◌, subst, ◌⊎◌, inl, inr, Option, Some, None, arith}
 use Rattle.task_set.specs.Truths.{In}
 use Rattle.line_instance.specs.Line.{Line, IsLine, IsTaskSet, IsRanked, tasks, has}
+use Rattle.load_facts.specs.Scan.{Scan}
 use Rattle.line_rules.specs.Loads.{IsLoad, Suits, taken}
 use Rattle.line_rules.specs.Order.{truth, Precedes, IsNext, After, IsFollowing}
 use Rattle.line_rules.specs.declared.types.Mode.{Mode}
 use Rattle.line_rules.specs.declared.types.Side.{Side}
 use Rattle.line_rules.specs.declared.types.Load.{Load}
-use Rattle.line_rules.proofs.Next.{IsPart, whole, cut, next_is}
+use Rattle.load_facts.specs.Scan.{IsPart}
+use Rattle.load_facts.proofs.NextLoad.{whole, cut, next_is}
 use Rattle.line_instance.specs.Sums.{sum_where}
 use Rattle.line_instance.proofs.Sums.{weigh-none}
 use Rattle.task_set.proofs.Members.{In-union_cases, In-empty}
 use Rattle.std.proofs.Common.{replicate}
 use Rattle.std.proofs.lemmas.List.{length-replicate}
 use Rattle.line_rules.specs.declared.types.Mode.TheVariants as mode
-use Rattle.line_rules.specs.Sides.{part, with_part, changed, nothing_yet, fills, spot, task_at, MayJoin}
-use Rattle.line_rules.proofs.Sides.{AreSets, set_of, sets_with, set_less, part_taken, taken_part, unfilled, spot_suc, spot_within, spot_of, truth_at, task_within, task_placed, truth_other, truth_here}
-use Rattle.line_rules.proofs.Joining.{joins, may_from, tasks_of}
+use Rattle.load_facts.specs.Sides.{part, with_part, changed, nothing_yet, fills, spot, task_at, MayJoin}
+use Rattle.load_facts.specs.Sides.{AreSets}
+use Rattle.load_facts.proofs.SideFacts.{set_of, sets_with, set_less, part_taken, taken_part, unfilled, spot_suc, spot_within, spot_of, truth_at, task_within, task_placed, truth_other, truth_here}
+use Rattle.load_facts.proofs.JoinFacts.{joins, may_from, tasks_of}
 use Rattle.std.proofs.lemmas.Bool.{cases_eq, cases_Bool, false≢true, false_from_ne_true}
-
--- What is left to go over are the places below k. Now agrees with base there and has nothing from k on, and no load above base agrees
--- with it up to a place from k on.
-pub record Scan (line : Line) (c : ℕ) (mode : Mode) (R : List Bool) (base now : Load) (k : ℕ) : Type 0 where
-  pub within : k ≤ 2 * tasks line
-  pub sizes : IsLine line
-  pub ranked : IsRanked line
-  pub whole : IsPart line c mode R base
-  pub sets : AreSets line now
-  pub same : (j : ℕ) → j < k → truth line now j ≡ truth line base j
-  pub absent : (j : ℕ) → k ≤ j → j < 2 * tasks line → truth line now j ≡ false
-  pub none : (j : ℕ) → k ≤ j → j < 2 * tasks line → (b : Load) → IsLoad line c mode R b → ((i : ℕ) → i < j → truth line base i ≡ truth line b i)
-      → truth line base j ≡ false → truth line b j ≡ true → ⊥
 
 pub scan_start : (line : Line) → IsLine line → IsRanked line → (c : ℕ) (mode : Mode) (R : List Bool) (base : Load) → IsPart line c mode R base → Scan line c mode R base base (2 * tasks line)
 scan_start line ok ranked c mode R base l = record {
@@ -144,7 +134,7 @@ skips line c mode R s base now (suc p) l e scan =
     let w : p < tasks line = omega arith in
     let part : IsPart line c mode R now = part_now line c mode R base now (spot line s (suc p)) scan in
     skips line c mode R s base now p (omega arith) e
-    (passes line c mode R s base now p w scan (false_from_ne_true (has (Rattle.line_rules.specs.Sides.part s now) (task_at line s p)) (unfilled mode s now e part.suits (task_at line s p))) (inl e))
+    (passes line c mode R s base now p w scan (false_from_ne_true (has (Rattle.load_facts.specs.Sides.part s now) (task_at line s p)) (unfilled mode s now e part.suits (task_at line s p))) (inl e))
 
 -- where all places were gone over, no load stands above
 pub none_above : (line : Line) (c : ℕ) (mode : Mode) (R : List Bool) (base now : Load) → Scan line c mode R base now 0 → (l : Load) → IsLoad line c mode R l → Precedes line base l → ⊥
