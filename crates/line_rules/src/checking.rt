@@ -1,9 +1,10 @@
 //! The test of a balance by the rules of its line, which names the first rule that is broken.
 //!
-//! One rule is looked at after the other: a place for each task, stations in range, sides that the line has, times within the cycle,
-//! precedences, and tasks that are apart. Each look ends at the least task, station or pair that breaks its rule, so an answer also says
-//! that all that comes before it is right. The times at all stations are summed in one pass over the tasks, in an array of 8 KB on the
-//! stack. Each pair of tasks that are before one another or apart is looked at once. No memory is taken.
+//! One rule is looked at after the other: a place for each task, stations in range, sides that the line has, times
+//! within the cycle, precedences, and tasks that are apart. Each look ends at the least task, station or pair that
+//! breaks its rule, so an answer also says that all that comes before it is right. The times at all stations are
+//! summed in one pass over the tasks, in an array of 8 KB on the stack. Each pair of tasks that are before one
+//! another or apart is looked at once. No memory is taken.
 ghost use Rattle.std.specs.Prelude.{◌≡◌, ◌≤◌, ◌<◌, ◌↔◌, ℕ, length, slice_index, slice_index_or, IsTrue, IsNone, IfSome};
 ghost use Rattle.task_set.specs.Truths.{In};
 ghost use Rattle.line_instance.specs.Line.{Line, Before, tasks};

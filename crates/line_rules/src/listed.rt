@@ -1,9 +1,10 @@
 //! Lists that contracts see as lists, and nothing more.
 //!
-//! A list is a vector whose view is the list of its items: its room and its allocator are no part of what a contract says. So a
-//! balance, a certificate or a trail is a plain record of lists, and two of them are equal where their items are.
-//! `from_vec`, `into_vec`, `len`, `at`, `as_slice` and `pop` take constant time and no memory. `push` may move the items to
-//! a greater room, and leaves the list as it was where that takes more memory than there is. `copy` takes memory for the items and for what they hold.
+//! A list is a vector whose view is the list of its items: its room and its allocator are no part of what a contract
+//! says. So a balance, a certificate or a trail is a plain record of lists, and two of them are equal where their
+//! items are. `from_vec`, `into_vec`, `len`, `at`, `as_slice` and `pop` take constant time and no memory. `push` may
+//! move the items to a greater room, and leaves the list as it was where that takes more memory than there is. `copy`
+//! takes memory for the items and for what they hold.
 ghost use Rattle.std.specs.Prelude.{◌≡◌, ◌==◌, ◌<◌, [], ◌∷◌, ◌++◌, length, slice_get, Some, OnOk, OnErr, IfOk, IsNone, IfSome};
 
 use crate::types::{Entry, Load, OpenFrame, Seatplace};

@@ -1,7 +1,8 @@
-//! The words of the subject as types: kinds of lines, sides, balances, loads, what is known of sets of tasks, trails and certificates.
+//! The words of the subject as types: kinds of lines, sides, balances, loads, what is known of sets of tasks, trails
+//! and certificates.
 //!
-//! All of them are plain data with public fields, and contracts see them as records of what they hold. Those that hold no list are
-//! copied by value; those that do have a `copy`, which takes memory and makes an equal one.
+//! All of them are plain data with public fields, and contracts see them as records of what they hold. Those that
+//! hold no list are copied by value; those that do have a `copy`, which takes memory and makes an equal one.
 ghost use Rattle.std.specs.Prelude.{◌≡◌, IfOk};
 
 use crate::listed::{Cites, Entries, Frames, Places};

@@ -149,7 +149,7 @@ pub record IsBase (line : Line) (c : ℕ) (mode : Mode) (R : List Bool) (last : 
 nothing_taken : (i : ℕ) → In (taken nothing_yet) i → ⊥
 nothing_taken i m = elim (In-union_cases (replicate 1024 false) (replicate 1024 false) i m) [ inl f ↦ In-empty 1024 i f | inr b ↦ In-empty 1024 i b ]
 
-nothing_set : (line : Line) → IsTaskSet line (replicate 1024 false)
+pub nothing_set : (line : Line) → IsTaskSet line (replicate 1024 false)
 nothing_set line = record { truths = length-replicate 1024 false; tasks = λ i m. absurd (In-empty 1024 i m) }
 
 pub nothing_sum : (line : Line) → sum_where (has (taken nothing_yet)) line.times ≡ 0

@@ -1,5 +1,5 @@
 -- The times of a set and its counts by size.
-use Rattle.std.proofs.Common.{◌≡◌, ℕ, ◌+◌, ◌*◌, ◌<◌, ◌≤◌, max, Bool, true, false, cond, nat_eq, nat_le, nat_lt, List, length, get_or, refl, ap, arith}
+use Rattle.std.proofs.Common.{[], ◌∷◌, sym, ◌≡◌, ℕ, ◌+◌, ◌*◌, ◌<◌, ◌≤◌, max, Bool, true, false, cond, nat_eq, nat_le, nat_lt, List, length, get_or, refl, ap, ◌∙◌, arith}
 use Rattle.std.proofs.lemmas.Bool.Decides.{nat_tests}
 use mir.Val.{bool_byte}
 use Rattle.task_set.specs.Truths.{In, members_of}
@@ -8,7 +8,7 @@ use Rattle.line_instance.specs.Sums.{weigh, count_where}
 use Rattle.line_instance.proofs.Sums.{weigh-most}
 use Rattle.line_rules.specs.Bounds.{sixths}
 use Rattle.load_facts.specs.Times.{longest_of}
-use Rattle.load_facts.proofs.SumsOverMembers.{greatest_of, greatest_listed, below_least, below_at, picked_le, weightless}
+use Rattle.load_facts.proofs.SumsOverMembers.{AllIn, all_in_start, all_in_turn, weight_of, weight_start, weight_turn, weight_end, greatest_of, greatest_listed, below_least, below_at, picked_le, weightless}
 
 once : (b : Bool) → cond b 1 0 ≤ 1
 once true = omega arith
@@ -60,6 +60,68 @@ pub longest_most : (line : Line) (R : List Bool) (m : ℕ) → ((i : ℕ) → ti
 unfolding longest_of
 longest_most line R m h = below_least (tasks line) (λ i. cond (has R i) (time line i) 0) m (λ i. picked_le (has R i) (time line i) m (λ e. h i))
 
+-- the counts of R by size
+pub record Counted (line : Line) (c : ℕ) (R : List Bool) (long above half six : ℕ) : Type 0 where
+  pub too_long : long ≡ count_where (λ t. nat_lt c t) (has R) line.times
+  pub above_half : above ≡ count_where (λ t. nat_lt c (2 * t)) (has R) line.times
+  pub at_half : half ≡ count_where (λ t. nat_eq (2 * t) c) (has R) line.times
+  pub sixths : six ≡ weigh (sixths c) (has R) line.times
+
+-- the counts of the members of R that were gone over, and what the listed ones, which are left, add to them
+pub record Counting (line : Line) (c : ℕ) (R : List Bool) (long above half six : ℕ) (left : List ℕ) : Type 0 where
+  pub members : AllIn R left
+  pub too_long : long + weight_of (λ t. cond (nat_lt c t) 1 0) line.times left ≡ count_where (λ t. nat_lt c t) (has R) line.times
+  pub above_half : above + weight_of (λ t. cond (nat_lt c (2 * t)) 1 0) line.times left ≡ count_where (λ t. nat_lt c (2 * t)) (has R) line.times
+  pub at_half : half + weight_of (λ t. cond (nat_eq (2 * t) c) 1 0) line.times left ≡ count_where (λ t. nat_eq (2 * t) c) (has R) line.times
+  pub sixths : six + weight_of (sixths c) line.times left ≡ weigh (sixths c) (has R) line.times
+
+pub count_start : {line : Line} (c : ℕ) {R : List Bool} {left : List ℕ} → IsTaskSet line R → left ≡ members_of R → Counting line c R 0 0 0 0 left
+count_start {line} c {R} {left} set e = record {
+  members = all_in_start R left e;
+  too_long = weight_start (λ t. cond (nat_lt c t) 1 0) line.times left R set.tasks e;
+  above_half = weight_start (λ t. cond (nat_lt c (2 * t)) 1 0) line.times left R set.tasks e;
+  at_half = weight_start (λ t. cond (nat_eq (2 * t) c) 1 0) line.times left R set.tasks e;
+  sixths = weight_start (sixths c) line.times left R set.tasks e;
+}
+
+-- how great the counts can be
+pub record Few (line : Line) (long above half six : ℕ) : Type 0 where
+  pub too_long : long ≤ length line.times
+  pub above_half : above ≤ length line.times
+  pub at_half : half ≤ length line.times
+  pub sixths : six ≤ length line.times * 6
+
+pub counts_few : {line : Line} {c : ℕ} {R : List Bool} {long above half six : ℕ} {left : List ℕ} → Counting line c R long above half six left → Few line long above half six
+counts_few {line} {c} {R} {long} {above} {half} {six} {left} h = record {
+  too_long = omega (arith, h.too_long, count_most (λ t. nat_lt c t) (has R) line.times);
+  above_half = omega (arith, h.above_half, count_most (λ t. nat_lt c (2 * t)) (has R) line.times);
+  at_half = omega (arith, h.at_half, count_most (λ t. nat_eq (2 * t) c) (has R) line.times);
+  sixths = omega (arith, h.sixths, sixths_most c (has R) line.times);
+}
+
+pub count_turn : {line : Line} {c : ℕ} {R : List Bool} {long above half six : ℕ} {left : List ℕ} → Counting line c R long above half six left → {i t p q r w : ℕ} {more : List ℕ} → left ≡ i ∷ more → t ≡ time line i
+    → p ≡ bool_byte (nat_lt c t) → q ≡ bool_byte (nat_lt c (2 * t)) → r ≡ bool_byte (nat_eq (2 * t) c) → w ≡ sixths c t → Counting line c R (long + p) (above + q) (half + r) (six + w) more
+count_turn {line} {c} {R} {long} {above} {half} {six} {left} h {i} {t} {p} {q} {r} {w} {more} e is ep eq er ew =
+    let bp : p ≡ cond (nat_lt c (get_or line.times i 0)) 1 0 = ep ∙ ap (λ n. bool_byte (nat_lt c n)) is ∙ byte_is (nat_lt c (get_or line.times i 0)) in
+    let bq : q ≡ cond (nat_lt c (2 * get_or line.times i 0)) 1 0 = eq ∙ ap (λ n. bool_byte (nat_lt c (2 * n))) is ∙ byte_is (nat_lt c (2 * get_or line.times i 0)) in
+    let br : r ≡ cond (nat_eq (2 * get_or line.times i 0) c) 1 0 = er ∙ ap (λ n. bool_byte (nat_eq (2 * n) c)) is ∙ byte_is (nat_eq (2 * get_or line.times i 0) c) in
+    let bw : w ≡ sixths c (get_or line.times i 0) = ew ∙ ap (λ n. sixths c n) is in
+    record {
+      members = (all_in_turn R left more i e h.members).1;
+      too_long = omega (arith, bp, weight_turn (λ t. cond (nat_lt c t) 1 0) line.times left more i long (count_where (λ t. nat_lt c t) (has R) line.times) e h.too_long);
+      above_half = omega (arith, bq, weight_turn (λ t. cond (nat_lt c (2 * t)) 1 0) line.times left more i above (count_where (λ t. nat_lt c (2 * t)) (has R) line.times) e h.above_half);
+      at_half = omega (arith, br, weight_turn (λ t. cond (nat_eq (2 * t) c) 1 0) line.times left more i half (count_where (λ t. nat_eq (2 * t) c) (has R) line.times) e h.at_half);
+      sixths = omega (arith, bw, weight_turn (sixths c) line.times left more i six (weigh (sixths c) (has R) line.times) e h.sixths);
+    }
+
+pub count_end : {line : Line} {c : ℕ} {R : List Bool} {long above half six : ℕ} {left : List ℕ} → Counting line c R long above half six left → left ≡ [] → Counted line c R long above half six
+count_end {line} {c} {R} {long} {above} {half} {six} {left} h e = record {
+  too_long = weight_end (λ t. cond (nat_lt c t) 1 0) line.times left long (count_where (λ t. nat_lt c t) (has R) line.times) e h.too_long;
+  above_half = weight_end (λ t. cond (nat_lt c (2 * t)) 1 0) line.times left above (count_where (λ t. nat_lt c (2 * t)) (has R) line.times) e h.above_half;
+  at_half = weight_end (λ t. cond (nat_eq (2 * t) c) 1 0) line.times left half (count_where (λ t. nat_eq (2 * t) c) (has R) line.times) e h.at_half;
+  sixths = weight_end (sixths c) line.times left six (weigh (sixths c) (has R) line.times) e h.sixths;
+}
+
 -- where no member takes a third of the cycle, none counts by its size
 module _ (line : Line) (R : List Bool) (set : IsTaskSet line R) (c longest : ℕ) (at_most : (i : ℕ) → In R i → time line i ≤ longest) (short : 3 * longest < c) where
   none_counts : (w : ℕ → ℕ) → ((t : ℕ) → 3 * t < c → w t ≡ 0) → weigh w (has R) line.times ≡ 0
@@ -80,3 +142,7 @@ module _ (line : Line) (R : List Bool) (set : IsTaskSet line R) (c longest : ℕ
 
   pub none_sixths : weigh (sixths c) (has R) line.times ≡ 0
   none_sixths = none_counts (sixths c) no_sixths
+
+  -- so all counts are 0
+  pub nothing_counts : Counted line c R 0 0 0 0
+  nothing_counts = record { too_long = sym none_long; above_half = sym none_above; at_half = sym none_half; sixths = sym none_sixths }

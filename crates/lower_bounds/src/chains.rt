@@ -1,4 +1,12 @@
-//! The stations that what is before and after a task needs.
+//! The stations that what is before and after a task needs, on a straight line.
+//!
+//! A task's head is the time of what is before it in the set, with its own, and its tail the same of what is after
+//! it; in cycles, rounded up, they need as many stations, of which the task's own is counted twice. Head and tail
+//! take the set's time and the task's own less the time of what is elsewhere, that is neither before nor after the
+//! task. So a task can only need more than `most` stations where what is elsewhere takes no more than that time less
+//! `most` cycles. It is passed over as soon as the times found elsewhere exceed that; the task with which they did is
+//! kept as a witness, and is tried first at the next task. Only what stays gets its head summed. The cost is one pass
+//! over the set for each of its tasks at most.
 ghost use Rattle.std.specs.Prelude.{◌≡◌, ◌≤◌, ◌<◌, ◌+◌, ◌-◌, ◌*◌, ◌↔◌, max, IsTrue, IsNone, IfSome, IfOk, IfErr};
 ghost use Rattle.task_set.specs.Truths.{In};
 ghost use Rattle.line_instance.specs.Line.{IsTaskSet, has, tasks};

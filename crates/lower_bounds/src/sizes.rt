@@ -1,4 +1,9 @@
 //! What the tasks of a set count for, by their times in parts of the cycle.
+//!
+//! Two tasks longer than half a cycle share no station, and two of exactly half a cycle fill one (Scholl's LM2). Of
+//! tasks measured in sixths of a station (LM3), those above two thirds count six, those of two thirds four, those
+//! above a third three and those of a third two: no station holds more than six. One pass counts all of these,
+//! without branches; where the longest time is below a third of the cycle there is nothing to count, and no pass.
 ghost use Rattle.std.specs.Prelude.{◌≡◌, ℕ, ◌≤◌, ◌+◌, ◌*◌, max, nat_eq, nat_lt};
 ghost use Rattle.task_set.specs.Truths.{In};
 ghost use Rattle.line_instance.specs.Line.{IsTaskSet, has, time};

@@ -1,3 +1,8 @@
+//! What is known of a whole line before any search: its total time, the bound from that time alone, and a task that
+//! no station can hold.
+//!
+//! The total time in cycles, rounded up, is Scholl's LM1 of all tasks, and 1 at least. Each call takes one pass over
+//! the tasks.
 ghost use Rattle.std.specs.Prelude.{◌≡◌, ◌≤◌, ◌<◌, ℕ, IsNone, IfSome};
 ghost use Rattle.line_rules.specs.Bounds.{total_bound, total_time, IsTooLong};
 ghost use Rattle.line_rules.specs.Checked.{IsLeastWhere};

@@ -1,4 +1,9 @@
-//! The plain form, for all modes: from a load to the next over the places from the last one down, with each test made afresh.
+//! The plain form, for all modes: from a load to the next over the places from the last one down, with each test made
+//! afresh.
+//!
+//! It keeps nothing from load to load, so it serves where a load is given and no walk stands at it. Each place that
+//! is passed costs the whole test of its task: the sum of the load's times, what is apart from the task, and what is
+//! ahead of it in the set.
 ghost use Rattle.std.specs.Prelude.{◌≡◌, ℕ, ◌<◌, ◌↔◌, IsTrue, IsNone, IfSome, None, Some, true, false};
 ghost use Rattle.line_instance.specs.Line.{IsTaskSet, tasks};
 ghost use Rattle.line_rules.specs.Loads.{IsLoad, IsFull};

@@ -1,4 +1,10 @@
 //! The short tasks of a set: where little of the cycle is left, only they are looked at.
+//!
+//! A load is full where no ready task fits into what it leaves of the cycle, and most loads leave little. So a walk
+//! keeps the tasks of its set that take at most a quarter of the cycle, an eighth and a sixteenth, and meets the
+//! ready ones with the smallest of these sets that has all that fit. The sets are made in three passes, once a walk
+//! has given 64 loads; until then each of them is the whole set. A longer task among them does no harm, since what is
+//! left is tested anyway.
 ghost use Rattle.std.specs.Prelude.{ℕ, ◌/◌};
 ghost use Rattle.line_instance.specs.Line.{IsTaskSet, Line};
 ghost use Rattle.station_load.specs.Shorts.{AreShort, HasShort};

@@ -1,5 +1,13 @@
-//! The quick walk over the loads of a set, for all modes: it keeps the sum of times and the tasks that are ready, and changes them with
-//! each task that comes or goes.
+//! The quick walk over the loads of a set, for all modes: it keeps the sum of times and the tasks that are ready, and
+//! changes them with each task that comes or goes.
+//!
+//! The loads of a set are ordered by their truths, place by place: the front's by rank, then the back's from the last
+//! rank on. The load after a load is found from the last place down: what stands there is given up, until a task may
+//! join at a place where none stood. For each side that loads of the mode fill the walk keeps the places of its tasks
+//! and of the tasks that are ready for it by precedence alone. Only these are gone over, by words of 64: at any other
+//! place nothing stands and nothing may join. A task that is given up becomes ready and shuts what waits for it; one
+//! that joins opens those that waited for it alone. So a turn costs a few operations on sets, and a step as many
+//! turns as places are given up.
 ghost use Rattle.std.specs.Prelude.{◌≡◌, ℕ, ◌<◌, ◌≤◌, ◌↔◌, ◌+◌, ◌-◌, IsTrue, IsNone, IfSome, IsSome, Some, None, true, false, cond};
 ghost use Rattle.task_set.specs.Truths.{In, IsEmpty, meet, union};
 ghost use Rattle.line_instance.specs.Line.{IsTaskSet, Apart, tasks, time, has};

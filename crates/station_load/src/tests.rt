@@ -4,7 +4,7 @@ ghost use Rattle.std.specs.Prelude.{◌≤◌, ◌<◌};
 ghost use Rattle.line_instance.specs.Line.{IsTaskSet};
 
 use crate::steps::begin;
-use crate::{first_load, is_full, next_load, places, walk};
+use crate::{first_load, is_full, next_load, places, resume, walk};
 use line_instance::{Instance, Made, Prec, make};
 use line_rules::{Load, Mode};
 use std::alloc::{AllocError, Global};
@@ -61,6 +61,24 @@ fn found(alloc: Global, inst: &Instance, cycle: u64, set: &TaskSet) -> Result<St
     Ok(text)
 }
 
+// The same, by a walk that is resumed after each load.
+fn resumed(alloc: Global, inst: &Instance, cycle: u64, set: &TaskSet) -> Result<String, AllocError>
+    requires { IsTaskSet inst.now set.now }
+{
+    let mut text = String::new(alloc);
+    let mut next = first_load(inst, cycle, set, Mode::Fore);
+    'steps: for _ in 0..20 {
+        if let Some(load) = next {
+            let mut walk = resume(inst, cycle, set, Mode::Fore, &load);
+            let full = if walk.full(inst) { " full" } else { "" };
+            let line = format!(in alloc; "{} {}{full}|", load.front, walk.sum())?;
+            text.push_str(line.as_str())?;
+            next = walk.step(inst);
+        }
+    }
+    Ok(text)
+}
+
 #[test]
 fn lists_the_fifteen_loads(rt: HostRuntime) -> Result<(), Fail> {
     let inst = five(rt.alloc())?;
@@ -68,6 +86,7 @@ fn lists_the_fifteen_loads(rt: HostRuntime) -> Result<(), Fail> {
     assert_eq!(rt; walk(&inst, 7, &all, Mode::Fore).sum(), 0);
     assert_eq!(rt; walked(rt.alloc(), &inst, 7, &all)?.as_str(), FIFTEEN);
     assert_eq!(rt; found(rt.alloc(), &inst, 7, &all)?.as_str(), FIFTEEN);
+    assert_eq!(rt; resumed(rt.alloc(), &inst, 7, &all)?.as_str(), FIFTEEN);
     Ok(())
 }
 

@@ -1,7 +1,7 @@
 //! What no clause says: the loads of small lines that were listed outside, by the walk and load by load.
 ghost use Rattle.line_instance.specs.Line.{IsTaskSet};
 
-use crate::{first_load, is_full, next_load, walk};
+use crate::{first_load, is_full, next_load, resume, walk};
 use line_instance::{Instance, Made, Prec, make};
 use line_rules::Mode;
 use std::alloc::{AllocError, Global};
@@ -81,5 +81,11 @@ fn lists_the_loads_of_a_chain_and_a_task(rt: HostRuntime) -> Result<(), Fail> {
     let text = walked(alloc, &inst, 3, &all)?;
     assert_eq!(rt; text.as_str(), SEVENTEEN);
     assert_eq!(rt; found(alloc, &inst, 3, &all)?.as_str(), text.as_str());
+    if let Some(load) = first_load(&inst, 3, &all, Mode::Both) {
+        let mut walk = resume(&inst, 3, &all, Mode::Both, &load);
+        assert_eq!(rt; walk.sum(), 2);
+        assert!(rt; walk.step(&inst).is_some());
+        assert_eq!(rt; walk.sum(), 2);
+    }
     Ok(())
 }

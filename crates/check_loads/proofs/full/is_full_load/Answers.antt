@@ -1,31 +1,13 @@
-use Rattle.std.proofs.Common.{◌≡◌, ℕ, true, refl}
-use Rattle.line_rules.specs.declared.types.Side.{Side}
+use Rattle.std.proofs.Common.{refl}
 use Rattle.line_rules.specs.declared.types.Side.TheVariants.{Front, Back}
-use Rattle.load_facts.specs.Sides.{fills, MayJoin}
-use Rattle.load_facts.proofs.SideFacts.{each_side}
-use Rattle.load_facts.proofs.JoinFacts.{full_of, full_none}
-use Rattle.std.proofs.lemmas.Bool.{false≢true}
+use Rattle.load_facts.proofs.JoinTests.{is_full, not_full}
 use Rattle.check_loads.proofs.full.is_full_load.Goals as goal
 
 pub returns-then-may_grow : goal.returns-then-may_grow
-returns-then-may_grow c = (
-  λ e. absurd (false≢true e),
-  λ f.
-      let r : (i : ℕ) × (fills c.args.mode Front ≡ true) × MayJoin c.args.inst.now c.args.cycle c.args.set.now Front c.args.load.now i = c.if-may_grow.ensures.some refl in
-      absurd (full_none c.args.inst.now c.tasks-tasks.ensures.line c.args.cycle c.args.mode c.args.set.now c.requires.set c.args.load.now c.requires.load f Front r.0 r.1 r.2),
-)
+returns-then-may_grow c = not_full c.tasks-tasks.ensures.line c.requires.set c.requires.load Front (c.if-may_grow.ensures.some refl)
 
 pub returns-then-may_grow-2 : goal.returns-then-may_grow-2
-returns-then-may_grow-2 c = (
-  λ e. absurd (false≢true e),
-  λ f.
-      let r : (i : ℕ) × (fills c.args.mode Back ≡ true) × MayJoin c.args.inst.now c.args.cycle c.args.set.now Back c.args.load.now i = c.if-may_grow-2.ensures.some refl in
-      absurd (full_none c.args.inst.now c.tasks-tasks.ensures.line c.args.cycle c.args.mode c.args.set.now c.requires.set c.args.load.now c.requires.load f Back r.0 r.1 r.2),
-)
+returns-then-may_grow-2 c = not_full c.tasks-tasks.ensures.line c.requires.set c.requires.load Back (c.if-may_grow-2.ensures.some refl)
 
 pub returns : goal.returns
-returns c = (
-  λ e. full_of c.args.inst.now c.tasks-tasks.ensures.line c.args.cycle c.args.mode c.args.set.now c.requires.set c.args.load.now c.requires.load
-      (each_side (λ (s : Side). (i : ℕ) → fills c.args.mode s ≡ true → MayJoin c.args.inst.now c.args.cycle c.args.set.now s c.args.load.now i → ⊥) (c.if-may_grow.ensures.none refl) (c.if-may_grow-2.ensures.none refl)),
-  λ f. refl,
-)
+returns c = is_full c.tasks-tasks.ensures.line c.requires.set c.requires.load (c.if-may_grow.ensures.none refl) (c.if-may_grow-2.ensures.none refl)

@@ -1,15 +1,9 @@
-use Rattle.std.proofs.Common.{◌≡◌}
 use Rattle.task_set.proofs.Members.{members}
-use Rattle.load_facts.proofs.ReadyFacts.{Adding}
-use Rattle.load_facts.specs.Ends.{AreMarked}
+use Rattle.load_facts.proofs.SideTurns.{Freeing}
 use Rattle.check_loads.proofs.ends.End.add_ready.Given as goal
 
 abbrev pub invariant-loop-task : goal.invariant-loop-task
-invariant-loop-task l = record {
-  marked : AreMarked l.inst l.side l.self.tasks l.self.free l.self.places;
-  stand : l.self.tasks ≡ l.initial.self.tasks;
-  adding : Adding l.inst l.side l.set l.initial.self.tasks l.fn.candidates l.initial.self.free l.left l.self.free;
-}
+invariant-loop-task l = Freeing l.inst l.side l.set l.initial.self.tasks l.fn.candidates l.initial.self.free l.left l.self.tasks l.self.free l.self.places
 
 abbrev pub decreases-loop-task : goal.decreases-loop-task
 decreases-loop-task l = members l.left

@@ -1,10 +1,11 @@
-use Rattle.std.proofs.Common.{◌≡◌, ◌∙◌, ℕ, List, Bool, false, replicate, sym, ap, subst, inl, inr, None}
+use Rattle.std.proofs.Common.{◌≡◌, ◌∙◌, ℕ, List, Bool, false, replicate, sym, ap, subst, inl, inr}
 use Rattle.task_set.specs.Truths.{In}
 use Rattle.task_set.proofs.Members.{In-empty}
 use Rattle.line_instance.specs.Line.{IsTaskSet, has}
-use Rattle.load_facts.specs.Sides.{IsReady, nothing_yet, task_at}
-use Rattle.load_facts.proofs.ScanFacts.{IsBase, base_none}
+use Rattle.load_facts.specs.Sides.{task_at}
 use Rattle.std.proofs.lemmas.Bool.{false_from_ne_true}
+use Rattle.load_facts.proofs.SideTurns.{end_made}
+use Rattle.load_facts.proofs.ScanFacts.{nothing_set}
 use Rattle.check_loads.proofs.ends.End.start.Goals as goal
 
 none_in : (b : List Bool) → b ≡ replicate 1024 false → (i : ℕ) → In b i → ⊥
@@ -27,20 +28,5 @@ add_ready-requires-clause-marked c = record {
 pub returns-then-fills-clause-kept : goal.returns-then-fills-clause-kept
 returns-then-fills-clause-kept c = λ e.
     let S : List Bool → Type 0 = λ b. IsTaskSet c.args.inst.now b in
-    let R : ℕ → List Bool → Type 0 = λ i b. IsReady c.args.inst.now c.args.side c.args.set.now b i in
-    let b : IsBase c.args.inst.now 0 c.args.mode c.args.set.now None nothing_yet = base_none c.args.inst.now 0 c.args.mode c.args.set.now in
-    record {
-      set = subst S (sym (c.add_ready.ensures.tasks ∙ c.bare-end.ensures.tasks)) b.is_part.front;
-      ready = record {
-        is = λ i. (
-          λ m. elim ((c.add_ready.ensures.free i).0 m) [
-            | inl o ↦ absurd (none_in c.bare-end.result.free c.bare-end.ensures.free i o)
-            | inr r ↦ subst (R i) (sym c.add_ready.ensures.tasks) r.1
-          ],
-          λ r.
-              let q : IsReady c.args.inst.now c.args.side c.args.set.now c.bare-end.result.tasks i = subst (R i) c.add_ready.ensures.tasks r in
-              (c.add_ready.ensures.free i).1 (inr (q.within, q)),
-        );
-      };
-      marked = c.add_ready.ensures.marked;
-    }
+    end_made c.bare-end.result.free c.args.set.now (subst S (sym c.bare-end.ensures.tasks) (nothing_set c.args.inst.now)) c.add_ready.ensures.tasks (none_in c.bare-end.result.free c.bare-end.ensures.free)
+    (λ i m n. m) c.add_ready.ensures.free c.add_ready.ensures.marked

@@ -1,0 +1,96 @@
+-- The quick walk goes over the places of a side from the last one down: what it keeps from place to place, and each of its turns.
+use Rattle.std.proofs.Common.{◌≡◌, ℕ, ◌+◌, ◌-◌, ◌<◌, ◌≤◌, Bool, true, false, List, set, sym, ap, ◌∙◌, subst, ◌⊎◌, ◌↔◌, arith}
+use Rattle.task_set.specs.Truths.{In, IsGreatestBelow, union}
+use Rattle.line_instance.specs.Line.{Line, IsTaskSet, tasks, has, time}
+use Rattle.line_instance.specs.Sums.{sum_where}
+use Rattle.line_rules.specs.Loads.{taken}
+use Rattle.line_rules.specs.Order.{IsNext}
+use Rattle.line_rules.specs.declared.types.Mode.{Mode}
+use Rattle.line_rules.specs.declared.types.Side.{Side}
+use Rattle.line_rules.specs.declared.types.Load.{Load}
+use Rattle.load_facts.specs.Sides.{Ahead, AreReady, HasRoom, MayJoin, fills, pair_at, spot, task_at}
+use Rattle.load_facts.specs.Scan.{IsPart, Scan}
+use Rattle.load_facts.specs.Ends.{AreMarked, IsEnd}
+use Rattle.load_facts.proofs.SideFacts.{set_less, task_within}
+use Rattle.load_facts.proofs.JoinFacts.{closed, pair_of}
+use Rattle.load_facts.proofs.ReadyFacts.{ready_less}
+use Rattle.load_facts.proofs.ScanFacts.{part_now}
+use Rattle.load_facts.proofs.WalkTurns.{part_pair, sides_apart, taken_here, none_marked, in_free, gives_up_here, passes_here, joins_here, may_from_room, room_from_may, sum_less, sum_grown}
+
+-- The places below are left to go over; now at the side stand these tasks, with those that are free to join them; the sum is that of the load.
+pub record Advancing (line : Line) (c : ℕ) (mode : Mode) (R : List Bool) (s : Side) (base : Load) (here free places others : List Bool) (below sum : ℕ) : Type 0 where
+  pub low : below ≤ tasks line
+  pub scan : Scan line c mode R base (pair_at s here others) (spot line s below)
+  pub kept : IsEnd line s R here free places
+  pub added : sum ≡ sum_where (has (taken (pair_at s here others))) line.times
+
+module _ {line : Line} {c : ℕ} {mode : Mode} {R : List Bool} {s : Side} {base : Load} {here free places others : List Bool} {below sum : ℕ} (at : Advancing line c mode R s base here free places others below sum) where
+  part_here : IsPart line c mode R (pair_at s here others)
+  part_here = part_now line c mode R base (pair_at s here others) (spot line s below) at.scan
+
+  pub sum_fits : sum ≤ c
+  sum_fits = let p : IsPart line c mode R (pair_at s here others) = part_here in omega (arith, p.fits, at.added)
+
+  pub closed_here : (i j : ℕ) → In R i → In here j → Ahead line s i j → In here i
+  closed_here i j m g w =
+      sym (ap (λ b. has b i) (part_pair s here others)) ∙ closed s (pair_at s here others) part_here i j m (ap (λ b. has b j) (part_pair s here others) ∙ g) w
+
+  pub no_place : ((j : ℕ) → In places j → below ≤ j) → Scan line c mode R base (pair_at s here others) (spot line s 0)
+  no_place none = none_marked line c mode R s base here free places others at.kept below at.low at.scan none
+
+  module _ {place t : ℕ} (found : IsGreatestBelow places below place) (is : t ≡ task_at line s place) where
+    is_task : t < tasks line
+    is_task = let w : task_at line s place < tasks line = task_within line at.scan.ranked s place (omega (arith, found.below, at.low)) in omega (arith, is, w)
+
+    less : In here t → (N : List Bool) → N ≡ set here t false → sum ≡ sum_where (has (taken (pair_at s N others))) line.times + time line t
+    less mine N w = at.added ∙ sum_less line s here others N t is_task mine (sides_apart s here others part_here t mine) w
+
+    pub time_within : In here t → time line t ≤ sum
+    time_within mine = let e : sum ≡ sum_where (has (taken (pair_at s (set here t false) others))) line.times + time line t = less mine (set here t false) (ap (λ b. set here t b) (let r : false ≡ false = λ i. false in r)) in omega (arith, e)
+
+    -- a task of the side is given up
+    pub gave_up : In here t → (N F P : List Bool) (k : ℕ) → N ≡ set here t false → ((i : ℕ) → In F i ↔ (In free i ⊎ (i ≡ t)) × (Ahead line s t i → ⊥)) → AreMarked line s N F P → k ≡ sum - time line t → Advancing line c mode R s base N F P others place k
+    gave_up mine N F P k w isF marked e =
+        let S : List Bool → Type 0 = λ b. IsTaskSet line b in
+        let A : List Bool → Type 0 = λ b. AreReady line s R b F in
+        let p : IsPart line c mode R (pair_at s here others) = part_here in
+        record {
+          low = omega (arith, found.below, at.low);
+          scan = gives_up_here line c mode R s base here free places others at.kept below at.low at.scan place found t is N w mine;
+          kept = record {
+            set = subst S (sym w) (set_less line here t at.kept.set);
+            ready = subst A (sym w) (ready_less line at.scan.sizes s R here free F t at.kept.ready (p.within t (taken_here s here others t mine)) mine (λ j m a. closed_here j t m mine a) isF);
+            marked = marked;
+          };
+          added = let l : sum ≡ sum_where (has (taken (pair_at s N others))) line.times + time line t = less mine N w in omega (arith, l, e);
+        }
+
+    -- a task that isn't at the side and may not join it is passed over
+    pub passed : has here t ≡ false → (has others t ≡ false → HasRoom line (c - sum) (union here others) t → ⊥) → Advancing line c mode R s base here free places others place sum
+    passed gone cannot = record {
+      low = omega (arith, found.below, at.low);
+      scan = passes_here line c mode R s base here free places others at.kept below at.low at.scan place found t is gone (λ may.
+          let r : (has others t ≡ false) × HasRoom line (c - sum) (union here others) t = room_from_may line c mode R s base here free places others at.kept t sum at.added may in
+          cannot r.0 r.1);
+      kept = at.kept;
+      added = at.added;
+    }
+
+    module _ (gone : has here t ≡ false) where
+      pub is_free : In free t
+      is_free = in_free line c mode R s base here free places others at.kept below at.low at.scan place found t is gone
+
+      module _ (away : has others t ≡ false) (room : HasRoom line (c - sum) (union here others) t) where
+        may : MayJoin line c R s (pair_at s here others) t
+        may = may_from_room line c mode R s base here free places others at.kept t sum at.added sum_fits is_free away room
+
+        -- the task joins
+        pub next_here : fills mode s ≡ true → (N : List Bool) → N ≡ set here t true → IsNext line c mode R base (pair_at s N others)
+        next_here filled N w = joins_here line c mode R s base here free places others at.kept below at.low at.scan place found t is N w gone filled may
+
+        pub sum_here : (N : List Bool) → N ≡ set here t true → sum_where (has (taken (pair_at s N others))) line.times ≡ sum + time line t
+        sum_here N w =
+            let m : MayJoin line c R s (pair_at s here others) t = may in
+            let e : sum_where (has (taken (pair_at s N others))) line.times ≡ sum_where (has (taken (pair_at s here others))) line.times + time line t =
+            sum_grown line at.scan.sizes c mode R s here others N t is_task (pair_of part_here) m.new w in
+            omega (arith, e, at.added)
