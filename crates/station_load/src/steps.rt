@@ -9,14 +9,13 @@
 //! that joins opens those that waited for it alone. So a turn costs a few operations on sets, and a step as many
 //! turns as places are given up.
 ghost use Rattle.std.specs.Prelude.{◌≡◌, ℕ, ◌<◌, ◌≤◌, ◌↔◌, ◌+◌, ◌-◌, IsTrue, IsNone, IfSome, IsSome, Some, None, true, false, cond};
-ghost use Rattle.task_set.specs.Truths.{In, IsEmpty, meet, union};
-ghost use Rattle.line_instance.specs.Line.{IsTaskSet, Apart, tasks, time, has};
+ghost use Rattle.task_set.specs.Truths.{meet, union};
+ghost use Rattle.line_instance.specs.Line.{IsTaskSet, tasks, time, has};
 ghost use Rattle.line_instance.specs.Sums.{sum_where};
 ghost use Rattle.line_rules.specs.Loads.{IsLoad, IsFull, taken};
 ghost use Rattle.line_rules.specs.Order.{After, IsNext, IsFollowing};
 ghost use Rattle.load_facts.specs.Sides.{MayJoin, fills, spot, nothing_yet};
 ghost use Rattle.line_rules.specs.declared.types.Load.{Load as Pair};
-ghost use Rattle.load_facts.specs.Scan.{IsPart};
 ghost use Rattle.load_facts.specs.Scan.{Scan};
 ghost use Rattle.load_facts.specs.Ends.{IsEnd};
 ghost use Rattle.load_facts.specs.Sides.{HasRoom, pair_at};

@@ -1,6 +1,6 @@
 //! What no clause says: the loads of small lines that were listed outside, and that the walk, the plain form and a listing by the
 //! definition agree on lines drawn at random.
-ghost use Rattle.std.specs.Prelude.{◌≤◌, ◌<◌};
+ghost use Rattle.std.specs.Prelude.{◌<◌};
 ghost use Rattle.line_instance.specs.Line.{IsTaskSet};
 
 use crate::steps::begin;
