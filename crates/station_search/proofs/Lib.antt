@@ -1,0 +1,9 @@
+pub mod Sources
+pub mod Orders
+pub mod Events
+pub mod Paying
+pub mod States
+pub mod Pairs
+pub mod Tallies
+pub mod Turns
+pub mod Clauses

@@ -1,0 +1,113 @@
+-- What the steps of a search do: how a load is sorted, what is published, and what a walk stands for.
+use Rattle.std.specs.Prelude.{◌≡◌, ℕ, ◌+◌, ◌-◌, ◌≤◌, Bool, true, List, [], ◌∷◌, ◌++◌, length, Option, Some}
+use Rattle.task_set.specs.Truths.{IsEmpty}
+use Rattle.line_instance.specs.Line.{Line}
+use Rattle.line_rules.specs.Loads.{rest}
+use Rattle.line_rules.specs.Entries.{IsOpen, Cites, IsUnanswered}
+use Rattle.line_rules.specs.Units.{UnitsIn}
+use Rattle.line_rules.specs.declared.types.LineKind.{LineKind}
+use Rattle.line_rules.specs.declared.types.Load.{Load}
+use Rattle.line_rules.specs.declared.types.Entry.{Entry}
+use Rattle.line_rules.specs.declared.types.Why.TheVariants as why
+use Rattle.line_rules.specs.declared.types.OpenFrame.{OpenFrame}
+use Rattle.lemma_core.specs.History.{Item, added, known, better}
+use Rattle.lemma_core.specs.Desks.{DeskView, entries}
+use Rattle.lemma_core.specs.Own.{Did, ArePublish, added_of}
+use Rattle.station_load.specs.Walking.{Walking, IsWalk}
+use Rattle.station_search.specs.Costs.{AreLemmas, PayAll, AreUnanswered}
+use Rattle.station_search.specs.declared.answers.Decided.{Decided}
+use Rattle.station_search.specs.declared.answers.Decided.TheVariants as decided
+use Rattle.station_search.specs.declared.sorting.Sorted.{Sorted}
+use Rattle.station_search.specs.declared.sorting.Sorted.TheVariants as sorted
+
+-- the walk goes over the loads of the frame, and stands at its last one
+pub record IsBeside (line : Line) (X : ℕ) (f : OpenFrame) (w : Walking) : Type 0 where
+  pub walk : IsWalk line w
+  pub same_cycle : w.cycle ≡ X
+  pub same_mode : w.mode ≡ f.mode
+  pub same_set : w.set ≡ f.set
+  pub same_last : w.last ≡ f.last
+
+-- the frame with a load as its last, and with other cites
+abbrev pub with_last : OpenFrame → Load → OpenFrame
+with_last f l = record { set = f.set; most = f.most; mode = f.mode; last = Some l; cites = f.cites }
+
+abbrev pub with_cites : OpenFrame → List ℕ → OpenFrame
+with_cites f cites = record { set = f.set; most = f.most; mode = f.mode; last = f.last; cites = cites }
+
+-- the Branch entry of a frame whose loads ended
+abbrev pub branch_of : ℕ → OpenFrame → Entry
+branch_of X f = record { set = f.set; most = f.most; cycle = X; why = why.Branch f.mode f.cites }
+
+-- What is told of a load of the frame: it isn't open; an entry refutes its rest; its rest is empty; or its rest is open, and no entry
+-- answers it where the desk is alone.
+abbrev pub Sorts : LineKind → Line → ℕ → Bool → List Entry → OpenFrame → Load → Sorted → Type 0
+Sorts kind line X alone es f l sorted.Closed = IsOpen kind line X f.mode f.set f.most l → ⊥
+Sorts kind line X alone es f l (sorted.Covered id) = IsOpen kind line X f.mode f.set f.most l × Cites es id (rest f.set l) (f.most - 1) X
+Sorts kind line X alone es f l sorted.Empty = IsOpen kind line X f.mode f.set f.most l × IsEmpty (rest f.set l)
+Sorts kind line X alone es f l (sorted.Open set) =
+    IsOpen kind line X f.mode f.set f.most l × (set ≡ rest f.set l) × (IsEmpty set → ⊥) × (alone ≡ true → IsUnanswered es set (f.most - 1) X)
+
+-- What was done on a desk: these own events, which paid so much; a desk that is alone saw nothing else.
+pub record Does (kind : LineKind) (line : Line) (X : ℕ) (old new : DeskView) (items : List Item) (n : ℕ) : Type 0 where
+  pub did : Did old new items
+  pub publishes : ArePublish items
+  pub lemmas : AreLemmas kind line X (added_of items)
+  pub paid : PayAll kind line X (entries new) items n
+  pub alone : old.alone ≡ true → new.seen ≡ old.seen ++ items
+
+-- each item is of an entry that was added
+abbrev pub AllAdded : List Item → Type 0
+AllAdded [] = Unit {0}
+AllAdded (added id e ∷ is) = AllAdded is
+AllAdded (known id most ∷ is) = ⊥
+AllAdded (better n ∷ is) = ⊥
+
+-- each of the entries has this set
+abbrev pub AreOfSet : List Bool → List Entry → Type 0
+AreOfSet T [] = Unit {0}
+AreOfSet T (e ∷ es) = (e.set ≡ T) × AreOfSet T es
+
+-- Publishes of entries of the set T, of which at most so many were added: all, where the desk is alone.
+pub record DoesFor (kind : LineKind) (line : Line) (X : ℕ) (old new : DeskView) (T : List Bool) (most n : ℕ) : Type 0 where
+  pub items : List Item
+  pub done : Does kind line X old new items n
+  pub few : length (added_of items) ≤ most
+  pub of_set : AreOfSet T (added_of items)
+  pub fresh : old.alone ≡ true → AllAdded items
+
+-- how many entries may be added where a load is sorted: a Swap entry where the load is covered
+abbrev pub may_add : Sorted → ℕ
+may_add sorted.Closed = 0
+may_add (sorted.Covered id) = 1
+may_add sorted.Empty = 0
+may_add (sorted.Open set) = 0
+
+-- the account of a search: what was done and the frames pay for units used, and the entries added are at most so many
+pub record Accounts (kind : LineKind) (line : Line) (X : ℕ) (old new : DeskView) (frames : List OpenFrame) (used most : ℕ) : Type 0 where
+  pub items : List Item
+  pub published : ℕ
+  pub listed : ℕ
+  pub done : Does kind line X old new items published
+  pub framed : UnitsIn line X frames listed
+  pub within : published + listed ≤ used
+  pub few : length (added_of items) ≤ most
+
+-- all units used are paid for, and a desk that is alone added an entry with each event
+pub record Balances (kind : LineKind) (line : Line) (X : ℕ) (old new : DeskView) (frames : List OpenFrame) (used most : ℕ) : Type 0 where
+  pub items : List Item
+  pub published : ℕ
+  pub listed : ℕ
+  pub done : Does kind line X old new items published
+  pub framed : UnitsIn line X frames listed
+  pub sum : published + listed ≡ used
+  pub few : length (added_of items) ≤ most
+  pub fresh : old.alone ≡ true → AllAdded items
+
+-- the account of an answer
+abbrev pub Ends : LineKind → Line → ℕ → DeskView → DeskView → ℕ → Decided → Type 0
+Ends kind line X old new used (decided.Refuted reason) = Balances kind line X old new [] used (used + 1)
+Ends kind line X old new used (decided.Found loads) = Accounts kind line X old new [] used used
+Ends kind line X old new used (decided.Spent frames) =
+    Balances kind line X old new frames used used × (old.alone ≡ true → AreUnanswered (entries new) X frames)
+Ends kind line X old new used (decided.NoMemory frames) = Accounts kind line X old new frames used used

@@ -1,0 +1,64 @@
+//! Whether a set of tasks has a balance in so many stations.
+ghost use Rattle.std.specs.Prelude.{◌≡◌, ◌+◌, ◌-◌, ◌^◌, ◌<◌, ◌≤◌, true};
+ghost use Rattle.line_instance.specs.Line.{IsTaskSet};
+ghost use Rattle.line_rules.specs.Bounds.{bound};
+ghost use Rattle.line_rules.specs.Entries.{HasAnswer};
+ghost use Rattle.line_rules.specs.Ranges.{IsCycle};
+ghost use Rattle.lemma_core.specs.Desks.{entries, Keeps};
+ghost use Rattle.station_search.specs.Decide.{IsFor, Decides, IsByEntry};
+ghost use Rattle.station_search.specs.Costs.{HasPublished, Costs, CostsAlone, FewAdded};
+
+use crate::answers::{Decided, Reason, Units};
+use crate::searching::search;
+use lemma_core::{Desk, Looked};
+use line_instance::Instance;
+use line_rules::{Frames, LineKind, Loads};
+use lower_bounds::exceeds;
+use std::alloc::Global;
+use task_set::TaskSet;
+
+/// Whether a set of tasks has a balance in `most` stations on a line of this kind at this cycle: by the bound, by an entry that the desk has
+/// seen, or by a search that lists the loads of the end station and publishes what it refutes.
+///
+/// The desk is for this instance, line kind and cycle, which is 1 to 1,000,000,000,000,000,000 in the instance's time unit; `most` is at most
+/// 1,024. Each load that is listed takes a unit from those left. Where none is left and one more load is needed, the answer is `Spent`. The
+/// frames of the search stand on a stack in the heap.
+pub fn decide<D: Desk>(
+    alloc: Global,
+    desk: &mut D,
+    inst: &Instance,
+    kind: LineKind,
+    cycle: u64,
+    set: &TaskSet,
+    most: u32,
+    units: &mut Units,
+) -> Decided
+    requires desk { IsFor (D.desk desk.old) inst.now kind cycle }
+    requires set { IsTaskSet inst.now set.now }
+    requires cycle { IsCycle cycle }
+    requires few { most ≤ 1024 }
+    requires units { units.old.used + units.old.left < 2 ^ 64 }
+    ensures keeps { Keeps (D.desk desk.old) (D.desk desk.new) }
+    ensures units { units.new.used + units.new.left ≡ units.old.used + units.old.left }
+    ensures own { HasPublished kind inst.now cycle (D.desk desk.old) (D.desk desk.new) }
+    ensures decides { Decides kind inst.now cycle (entries (D.desk desk.new)) set.now most units.new.left result }
+    ensures known { bound kind inst.now cycle set.now ≤ most → HasAnswer (entries (D.desk desk.old)) set.now most cycle → IsByEntry result × (units.new.used ≡ units.old.used) }
+    ensures costs { Costs kind inst.now cycle (D.desk desk.old) (D.desk desk.new) (units.new.used - units.old.used) result }
+    ensures alone { (D.desk desk.old).alone ≡ true → CostsAlone inst.now cycle (D.desk desk.old) (D.desk desk.new) (units.new.used - units.old.used) result }
+    ensures few { FewAdded inst.now cycle (D.desk desk.old) (D.desk desk.new) (units.new.used - units.old.used) result }
+{
+    if exceeds(inst, kind, cycle, set, most) {
+        return Decided::Refuted(Reason::ByBound);
+    }
+    match desk.look(set, most) {
+        Looked::Found { id, .. } => return Decided::Refuted(Reason::ByEntry(id)),
+        Looked::Absent => {}
+    }
+    if set.is_empty() {
+        return Decided::Found(Loads::from_vec(Vec::new(alloc)));
+    }
+    match search(alloc, desk, inst, kind, cycle, set, most, units) {
+        Ok(decided) => decided,
+        Err(_) => Decided::NoMemory(Frames::from_vec(Vec::new(alloc))),
+    }
+}

@@ -1,0 +1,15 @@
+//! Decides whether a set of tasks has a balance in so many stations: by the bound, by what a desk has seen, or by a search over the loads of
+//! the end station. Each load that is listed costs one unit, and what is refuted is published.
+#![tactic(auto)]
+
+mod answers;
+mod deciding;
+mod modes;
+mod ordering;
+mod searching;
+mod sorting;
+mod stacks;
+
+pub use answers::{Decided, Reason, Units};
+pub use deciding::decide;
+pub use modes::choose_mode;

@@ -1,0 +1,52 @@
+//! The choice of the end from which the stations of a set are filled: the one with fewer tasks to begin with.
+//!
+//! One pass over the members, with two meets of words for each.
+ghost use Rattle.std.specs.Prelude.{◌≡◌, ◌<◌};
+ghost use Rattle.line_instance.specs.Line.{IsTaskSet, tasks};
+ghost use Rattle.line_rules.specs.Loads.{Belongs};
+ghost use Rattle.station_search.specs.Mode.{mode_of, is_source, is_sink};
+
+use line_instance::Instance;
+use line_rules::{LineKind, Mode};
+use task_set::TaskSet;
+
+// Whether no member of the set is before the task.
+#[inline]
+fn is_source(inst: &Instance, set: &TaskSet, task: u32) -> bool
+    requires { task < tasks inst.now }
+    ensures { result ≡ is_source inst.now set.now task }
+{
+    inst.before(task).meet(set).is_empty()
+}
+
+// Whether no member of the set is after the task.
+#[inline]
+fn is_sink(inst: &Instance, set: &TaskSet, task: u32) -> bool
+    requires { task < tasks inst.now }
+    ensures { result ≡ is_sink inst.now set.now task }
+{
+    inst.after(task).meet(set).is_empty()
+}
+
+/// The mode of a set of tasks: both ends on a U-line. On a straight line it is the front, where the tasks of the set without predecessor in it
+/// are at most as many as those without successor in it, and otherwise the back.
+pub fn choose_mode(inst: &Instance, kind: LineKind, set: &TaskSet) -> Mode
+    requires { IsTaskSet inst.now set.now }
+    ensures mode { result ≡ mode_of kind inst.now set.now }
+    ensures belongs { Belongs kind result }
+{
+    match kind {
+        LineKind::U => return Mode::Both,
+        LineKind::Straight => {}
+    }
+    let (mut sources, mut sinks) = (0u32, 0u32);
+    for task in set {
+        sources += u32::from(is_source(inst, set, task));
+        sinks += u32::from(is_sink(inst, set, task));
+    }
+    if sources <= sinks {
+        Mode::Fore
+    } else {
+        Mode::Back
+    }
+}

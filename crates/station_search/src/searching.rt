@@ -1,0 +1,147 @@
+//! The search over the loads of a set, from load to load, with the frames on a stack in the heap.
+//!
+//! A frame is a question: whether its set has a balance in so many stations. Its loads are listed in order. The rest of a load that nothing
+//! refutes is the question of a frame below. A frame whose loads ended is refuted, and published.
+ghost use Rattle.std.specs.Prelude.{◌≡◌, ℕ, ◌+◌, ◌-◌, ◌^◌, ◌<◌, ◌≤◌, true, IfOk, OnOk, OnErr, None, List, [], ◌∷◌, ◌++◌};
+ghost use Rattle.task_set.specs.Truths.{In};
+ghost use Rattle.line_instance.specs.Line.{Line, IsTaskSet};
+ghost use Rattle.line_rules.specs.Bounds.{bound};
+ghost use Rattle.line_rules.specs.Loads.{IsLoad, Belongs};
+ghost use Rattle.line_rules.specs.Order.{Counts};
+ghost use Rattle.line_rules.specs.Entries.{IsUnanswered};
+ghost use Rattle.line_rules.specs.Ranges.{IsCycle};
+ghost use Rattle.line_rules.specs.declared.types.LineKind.{LineKind as Kind};
+ghost use Rattle.lemma_core.specs.Desks.{entries, Keeps, Waits, FollowsSeen};
+ghost use Rattle.lemma_core.specs.Own.{IsStatable};
+ghost use Rattle.station_search.specs.Mode.{mode_of};
+ghost use Rattle.station_search.specs.Decide.{IsFor, IsAnswered, Decides};
+ghost use Rattle.station_search.specs.Work.{branch_of, DoesFor, Accounts, Ends};
+
+use crate::answers::{Decided, Reason, Units};
+use crate::modes::choose_mode;
+use crate::ordering::loads_in_order;
+use crate::sorting::{Sorted, next_load, sort_load};
+use crate::stacks::{pop_from, push_on, take_from};
+use lemma_core::{Desk, Published};
+use line_instance::Instance;
+use line_rules::{Cites, Entry, Frames, LineKind, OpenFrame, Why};
+use station_load::Walk;
+use station_load::steps::begin;
+use std::alloc::{AllocError, Global};
+use task_set::TaskSet;
+
+// Publishes a frame whose loads ended as a Branch entry, and gives the number of an entry that answers it.
+fn publish_branch<D: Desk>(desk: &mut D, cycle: u64, frame: OpenFrame) -> Result<u64, AllocError>
+    requires follows { FollowsSeen (D.desk desk.old) (branch_of cycle frame) }
+    requires range { IsStatable (branch_of cycle frame) }
+    ensures keeps { Keeps (D.desk desk.old) (D.desk desk.new) }
+    ensures waits { OnErr result (Waits (D.desk desk.old) (D.desk desk.new)) }
+    ensures answered { IfOk result (λ id. IsAnswered (entries (D.desk desk.new)) id frame.set frame.most cycle) }
+    ensures publishes { (kind : Kind) (line : Line) (n : ℕ) → frame.mode ≡ mode_of kind line frame.set → Counts line (IsLoad line cycle frame.mode frame.set) n → ((D.desk desk.old).alone ≡ true → IsUnanswered (entries (D.desk desk.old)) frame.set frame.most cycle) → OnOk result (DoesFor kind line cycle (D.desk desk.old) (D.desk desk.new) frame.set 1 n) }
+{
+    let step = Entry {
+        set: frame.set,
+        most: frame.most,
+        cycle,
+        why: Why::Branch {
+            mode: frame.mode,
+            cites: frame.cites,
+        },
+    };
+    match desk.publish(step) {
+        Published::Known(id) => Ok(id),
+        Published::Added(id) => Ok(id),
+        Published::NoMemory => Err(AllocError),
+    }
+}
+
+// A frame of which no load was listed.
+fn open_frame(alloc: Global, inst: &Instance, kind: LineKind, set: &TaskSet, most: u32) -> OpenFrame
+    requires { IsTaskSet inst.now set.now }
+    ensures set { result.set ≡ set.now }
+    ensures most { result.most ≡ most }
+    ensures mode { result.mode ≡ mode_of kind inst.now set.now }
+    ensures belongs { Belongs kind result.mode }
+    ensures last { result.last ≡ None }
+    ensures cites { result.cites ≡ [] }
+{
+    OpenFrame {
+        set: *set,
+        most,
+        mode: choose_mode(inst, kind, set),
+        last: None,
+        cites: Cites::from_vec(Vec::new(alloc)),
+    }
+}
+
+/// Goes from load to load until the set is refuted, a balance is found, or the units end.
+pub fn search<D: Desk>(
+    alloc: Global,
+    desk: &mut D,
+    inst: &Instance,
+    kind: LineKind,
+    cycle: u64,
+    set: &TaskSet,
+    most: u32,
+    units: &mut Units,
+) -> Result<Decided, AllocError>
+    requires desk { IsFor (D.desk desk.old) inst.now kind cycle }
+    requires set { IsTaskSet inst.now set.now }
+    requires cycle { IsCycle cycle }
+    requires few { most ≤ 1024 }
+    requires some { (i : ℕ) × In set.now i }
+    requires bound { bound kind inst.now cycle set.now ≤ most }
+    requires unanswered { (D.desk desk.old).alone ≡ true → IsUnanswered (entries (D.desk desk.old)) set.now most cycle }
+    requires units { units.old.used + units.old.left < 2 ^ 64 }
+    ensures keeps { Keeps (D.desk desk.old) (D.desk desk.new) }
+    ensures units { units.new.used + units.new.left ≡ units.old.used + units.old.left }
+    ensures decides { IfOk result (Decides kind inst.now cycle (entries (D.desk desk.new)) set.now most units.new.left) }
+    ensures ends { IfOk result (Ends kind inst.now cycle (D.desk desk.old) (D.desk desk.new) (units.new.used - units.old.used)) }
+    ensures accounts { OnErr result (Accounts kind inst.now cycle (D.desk desk.old) (D.desk desk.new) [] (units.new.used - units.old.used) (units.new.used - units.old.used)) }
+{
+    let _tasks = inst.tasks();
+    let mut passed: Vec<OpenFrame> = Vec::new(alloc);
+    let mut walks: Vec<Walk> = Vec::new(alloc);
+    let mut frame = open_frame(alloc, inst, kind, set, most);
+    let mut walk = begin(inst, cycle, set, frame.mode);
+    'search: loop {
+        match next_load(inst, cycle, &frame, &mut walk) {
+            None => {
+                let id = publish_branch(desk, cycle, frame)?;
+                match pop_from(&mut passed) {
+                    None => return Ok(Decided::Refuted(Reason::ByEntry(id))),
+                    Some(parent) => {
+                        frame = parent;
+                        walk = take_from(&mut walks);
+                        frame.cites.push(id)?;
+                    }
+                }
+            }
+            Some(load) => {
+                if units.left == 0 {
+                    push_on(&mut passed, frame)?;
+                    return Ok(Decided::Spent(Frames::from_vec(passed)));
+                }
+                units.left -= 1;
+                units.used += 1;
+                frame.last = Some(load);
+                match sort_load(desk, inst, kind, cycle, &frame, &load, &walk)? {
+                    Sorted::Closed => {}
+                    Sorted::Covered(id) => frame.cites.push(id)?,
+                    Sorted::Empty => {
+                        push_on(&mut passed, frame)?;
+                        let frames = Frames::from_vec(passed);
+                        return Ok(Decided::Found(loads_in_order(alloc, &frames)?));
+                    }
+                    Sorted::Open(rest) => {
+                        let below = open_frame(alloc, inst, kind, &rest, frame.most - 1);
+                        push_on(&mut passed, frame)?;
+                        push_on(&mut walks, walk)?;
+                        walk = begin(inst, cycle, &rest, below.mode);
+                        frame = below;
+                    }
+                }
+            }
+        }
+    }
+}
