@@ -7,3 +7,5 @@ pub mod Pairs
 pub mod Tallies
 pub mod Turns
 pub mod Clauses
+pub mod Standins
+pub mod Endings

@@ -1,5 +1,5 @@
 -- The turns of the loop of a search, over the values before and after them.
-use Rattle.std.proofs.Common.{◌≡◌, ℕ, ◌+◌, ◌-◌, ◌≤◌, Bool, true, List, [], ◌∷◌, ◌++◌, length, refl, sym, ap, ◌∙◌, subst, arith, Some, None, inl, inr, length-append, Result, Ok, Err, OnErr}
+use Rattle.std.proofs.Common.{◌≡◌, ℕ, ◌+◌, ◌-◌, ◌≤◌, Bool, true, List, [], ◌∷◌, ◌++◌, length, refl, sym, ap, ◌∙◌, subst, arith, Some, None, inl, inr, length-append}
 use Rattle.std.specs.Prelude.{slice_get}
 use Rattle.task_set.specs.Truths.{In, IsEmpty}
 use Rattle.line_instance.specs.Line.{Line, IsTaskSet, IsRanked}
@@ -29,10 +29,6 @@ use Rattle.station_search.specs.declared.sorting.Sorted.TheVariants as sorted
 use Rattle.station_search.proofs.Events.{entries_longer}
 use Rattle.station_search.proofs.States.{IsSearching, starts, longer, goes_down, holds_on, trail, rest_tasks}
 use Rattle.station_search.proofs.Tallies.{Tally, tally_starts, tally_lists, tally_down, tally_stops, accounts, all_listed}
-
-pub on_err : {A E : Type 0} (r : Result A E) (P : Type 0) → P → OnErr r P
-on_err (Ok a) P p = tt
-on_err (Err e) P p = p
 
 pub adds_few : (s : Sorted) → may_add s ≤ 1
 adds_few sorted.Closed = omega arith

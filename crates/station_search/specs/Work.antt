@@ -1,5 +1,5 @@
 -- What the steps of a search do: how a load is sorted, what is published, and what a walk stands for.
-use Rattle.std.specs.Prelude.{◌≡◌, ℕ, ◌+◌, ◌-◌, ◌≤◌, Bool, true, List, [], ◌∷◌, ◌++◌, length, Option, Some}
+use Rattle.std.specs.Prelude.{◌≡◌, ℕ, ◌+◌, ◌-◌, ◌≤◌, Bool, true, List, [], ◌∷◌, ◌++◌, length, Option, Some, None}
 use Rattle.task_set.specs.Truths.{IsEmpty}
 use Rattle.line_instance.specs.Line.{Line}
 use Rattle.line_rules.specs.Loads.{rest}
@@ -38,6 +38,10 @@ with_cites f cites = record { set = f.set; most = f.most; mode = f.mode; last = 
 -- the Branch entry of a frame whose loads ended
 abbrev pub branch_of : ℕ → OpenFrame → Entry
 branch_of X f = record { set = f.set; most = f.most; cycle = X; why = why.Branch f.mode f.cites }
+
+-- the Swap entry of a set: without a task and with another one, an entry refutes it
+abbrev pub swap_of : ℕ → List Bool → ℕ → ℕ → ℕ → ℕ → Entry
+swap_of X set most cite out into = record { set = set; most = most; cycle = X; why = why.Swap cite out into }
 
 -- What is told of a load of the frame: it isn't open; an entry refutes its rest; its rest is empty; or its rest is open, and no entry
 -- answers it where the desk is alone.
@@ -82,6 +86,11 @@ may_add sorted.Closed = 0
 may_add (sorted.Covered id) = 1
 may_add sorted.Empty = 0
 may_add (sorted.Open set) = 0
+
+-- how many entries may be added where a Swap is looked for: one where it is found
+abbrev pub may_swap : Option ℕ → ℕ
+may_swap None = 0
+may_swap (Some id) = 1
 
 -- the account of a search: what was done and the frames pay for units used, and the entries added are at most so many
 pub record Accounts (kind : LineKind) (line : Line) (X : ℕ) (old new : DeskView) (frames : List OpenFrame) (used most : ℕ) : Type 0 where

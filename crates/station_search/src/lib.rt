@@ -9,6 +9,7 @@ mod ordering;
 mod searching;
 mod sorting;
 mod stacks;
+mod swaps;
 
 pub use answers::{Decided, Reason, Units};
 pub use deciding::decide;

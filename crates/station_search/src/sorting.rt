@@ -9,6 +9,7 @@ ghost use Rattle.lemma_core.specs.Desks.{entries, Keeps};
 ghost use Rattle.station_search.specs.Decide.{IsFor};
 ghost use Rattle.station_search.specs.Work.{IsBeside, Sorts, DoesFor, may_add, with_last};
 
+use crate::swaps::publish_swap;
 use lemma_core::{Desk, Looked};
 use line_instance::Instance;
 use line_rules::{LineKind, Load, OpenFrame};
@@ -73,7 +74,11 @@ pub fn sort_load<D: Desk>(
         return Ok(Sorted::Empty);
     }
     match desk.look(&rest, frame.most - 1) {
-        Looked::Found { id, .. } => Ok(Sorted::Covered(id)),
-        Looked::Absent => Ok(Sorted::Open(rest)),
+        Looked::Found { id, .. } => return Ok(Sorted::Covered(id)),
+        Looked::Absent => {}
+    }
+    match publish_swap(desk, inst, kind, cycle, &rest, frame.most - 1)? {
+        Some(id) => Ok(Sorted::Covered(id)),
+        None => Ok(Sorted::Open(rest)),
     }
 }

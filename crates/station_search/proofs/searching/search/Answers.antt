@@ -14,7 +14,8 @@ use Rattle.station_search.proofs.Paying.{one_none}
 use Rattle.station_search.proofs.States.{rest_tasks, follows, closed, covered, goes_up}
 use Rattle.station_search.proofs.Pairs.{paired_none, paired_push, paired_pop, paired_last}
 use Rattle.station_search.proofs.Tallies.{tally_lists, tally_ends, tally_up, accounts}
-use Rattle.station_search.proofs.Turns.{on_err, adds_few, begun, beside_cites, grown, first, first_tally, stations_few, stops, stopped, down, down_tally, found, gives_up, refuted}
+use Rattle.station_search.proofs.Endings.{on_err}
+use Rattle.station_search.proofs.Turns.{adds_few, begun, beside_cites, grown, first, first_tally, stations_few, stops, stopped, down, down_tally, found, gives_up, refuted}
 use Rattle.station_search.proofs.searching.search.Goals as goal
 
 pub search-init : goal.search-init

@@ -1,8 +1,12 @@
-use Rattle.std.proofs.Common.{List, Bool, ap, ◌∙◌, sym, subst}
+use Rattle.std.proofs.Common.{ℕ, List, Bool, ap, ◌∙◌, sym, subst}
 use Rattle.task_set.specs.Truths.{minus}
 use Rattle.line_instance.specs.Line.{Line, IsTaskSet}
 use Rattle.line_rules.specs.Loads.{rest}
+use Rattle.lemma_core.proofs.GoingOn.{keeps_both}
+use Rattle.station_search.specs.Work.{DoesFor, may_swap}
 use Rattle.station_search.proofs.Events.{waits_none}
+use Rattle.station_search.proofs.Standins.{does_for_then}
+use Rattle.station_search.proofs.Endings.{on_err}
 use Rattle.station_search.proofs.Paying.{one_none}
 use Rattle.station_search.proofs.States.{rest_tasks}
 use Rattle.station_search.proofs.sorting.sort_load.Goals as goal
@@ -28,6 +32,35 @@ pub returns-in-Found-clause-publishes : goal.returns-in-Found-clause-publishes
 returns-in-Found-clause-publishes g c =
     one_none c.args.kind c.args.inst.now c.args.cycle (g.D.Desk.desk c.args.desk.now) (g.D.Desk.desk c.look.new.self) (rest c.args.frame.now.set c.args.load.now) 1 c.look.ensures.waits
 
-pub returns-in-Absent-clause-publishes : goal.returns-in-Absent-clause-publishes
-returns-in-Absent-clause-publishes g c =
-    one_none c.args.kind c.args.inst.now c.args.cycle (g.D.Desk.desk c.args.desk.now) (g.D.Desk.desk c.look.new.self) (rest c.args.frame.now.set c.args.load.now) 0 c.look.ensures.waits
+pub publish_swap-requires-clause-set : goal.publish_swap-requires-clause-set
+publish_swap-requires-clause-set g c =
+    let P : List Bool → Type 0 = λ z. IsTaskSet c.args.inst.now z in
+    subst P (sym (c.minus-rest.ensures.value ∙ ap (λ (z : List Bool). minus c.args.frame.now.set z) c.union.ensures.value)) (rest_tasks c.args.inst.now c.args.frame.now.set c.args.load.now c.requires.set)
+
+pub returns-in_err-id-clause-keeps : goal.returns-in_err-id-clause-keeps
+returns-in_err-id-clause-keeps g c = keeps_both (g.D.Desk.desk c.args.desk.now) (g.D.Desk.desk c.look.new.self) (g.D.Desk.desk c.publish_swap.new.desk) c.look.ensures.waits.keeps c.publish_swap.ensures.keeps
+
+pub returns-in_err-id-clause-fails : goal.returns-in_err-id-clause-fails
+returns-in_err-id-clause-fails g c =
+    on_err c.from_residual.result (DoesFor c.args.kind c.args.inst.now c.args.cycle (g.D.Desk.desk c.args.desk.now) (g.D.Desk.desk c.publish_swap.new.desk) (rest c.args.frame.now.set c.args.load.now) 0 0)
+    (does_for_then c.args.kind c.args.inst.now c.args.cycle (g.D.Desk.desk c.args.desk.now) (g.D.Desk.desk c.look.new.self) (g.D.Desk.desk c.publish_swap.new.desk) (rest c.args.frame.now.set c.args.load.now) 0 0 c.look.ensures.waits c.publish_swap.ensures.keeps (one_none c.args.kind c.args.inst.now c.args.cycle (g.D.Desk.desk c.look.new.self) (g.D.Desk.desk c.publish_swap.new.desk) (rest c.args.frame.now.set c.args.load.now) 0 c.in_err-id.ensures.fails))
+
+pub returns-in-Some-clause-keeps : goal.returns-in-Some-clause-keeps
+returns-in-Some-clause-keeps g c = keeps_both (g.D.Desk.desk c.args.desk.now) (g.D.Desk.desk c.look.new.self) (g.D.Desk.desk c.publish_swap.new.desk) c.look.ensures.waits.keeps c.publish_swap.ensures.keeps
+
+pub returns-in-Some-clause-publishes : goal.returns-in-Some-clause-publishes
+returns-in-Some-clause-publishes g c =
+    let P : ℕ → Type 0 = λ z. DoesFor c.args.kind c.args.inst.now c.args.cycle (g.D.Desk.desk c.look.new.self) (g.D.Desk.desk c.publish_swap.new.desk) c.minus-rest.result z 0 in
+    let Q : List Bool → Type 0 = λ z. DoesFor c.args.kind c.args.inst.now c.args.cycle (g.D.Desk.desk c.look.new.self) (g.D.Desk.desk c.publish_swap.new.desk) z 1 0 in
+    does_for_then c.args.kind c.args.inst.now c.args.cycle (g.D.Desk.desk c.args.desk.now) (g.D.Desk.desk c.look.new.self) (g.D.Desk.desk c.publish_swap.new.desk) (rest c.args.frame.now.set c.args.load.now) 1 0 c.look.ensures.waits c.publish_swap.ensures.keeps
+    (subst Q (c.minus-rest.ensures.value ∙ ap (λ (z : List Bool). minus c.args.frame.now.set z) c.union.ensures.value) (subst P (ap may_swap c.in-Some.is) c.in_ok-id.ensures.publishes))
+
+pub returns-in-None-clause-keeps : goal.returns-in-None-clause-keeps
+returns-in-None-clause-keeps g c = keeps_both (g.D.Desk.desk c.args.desk.now) (g.D.Desk.desk c.look.new.self) (g.D.Desk.desk c.publish_swap.new.desk) c.look.ensures.waits.keeps c.publish_swap.ensures.keeps
+
+pub returns-in-None-clause-publishes : goal.returns-in-None-clause-publishes
+returns-in-None-clause-publishes g c =
+    let P : ℕ → Type 0 = λ z. DoesFor c.args.kind c.args.inst.now c.args.cycle (g.D.Desk.desk c.look.new.self) (g.D.Desk.desk c.publish_swap.new.desk) c.minus-rest.result z 0 in
+    let Q : List Bool → Type 0 = λ z. DoesFor c.args.kind c.args.inst.now c.args.cycle (g.D.Desk.desk c.look.new.self) (g.D.Desk.desk c.publish_swap.new.desk) z 0 0 in
+    does_for_then c.args.kind c.args.inst.now c.args.cycle (g.D.Desk.desk c.args.desk.now) (g.D.Desk.desk c.look.new.self) (g.D.Desk.desk c.publish_swap.new.desk) (rest c.args.frame.now.set c.args.load.now) 0 0 c.look.ensures.waits c.publish_swap.ensures.keeps
+    (subst Q (c.minus-rest.ensures.value ∙ ap (λ (z : List Bool). minus c.args.frame.now.set z) c.union.ensures.value) (subst P (ap may_swap c.in-None.is) c.in_ok-id.ensures.publishes))

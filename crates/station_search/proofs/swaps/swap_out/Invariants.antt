@@ -1,0 +1,5 @@
+use Rattle.lemma_core.specs.Desks.{Waits}
+use Rattle.station_search.proofs.swaps.swap_out.Given as goal
+
+abbrev pub invariant-loop-k : goal.invariant-loop-k
+invariant-loop-k g l = Waits (g.D.Desk.desk l.fn.desk) (g.D.Desk.desk l.desk)
