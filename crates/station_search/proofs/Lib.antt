@@ -9,3 +9,4 @@ pub mod Turns
 pub mod Clauses
 pub mod Standins
 pub mod Endings
+pub mod Standing

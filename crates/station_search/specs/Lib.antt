@@ -3,3 +3,4 @@ pub mod Decide
 pub mod Costs
 pub mod Order
 pub mod Work
+pub mod Parts
