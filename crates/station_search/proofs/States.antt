@@ -20,14 +20,15 @@ use Rattle.station_search.specs.Mode.{mode_of}
 use Rattle.station_search.specs.Decide.{IsAnswered}
 use Rattle.station_search.specs.Work.{branch_of, with_last, with_cites}
 
--- of a frame that waits for the one below it: its set is one of tasks, it has the mode of its set, and the bound leaves the rest of its last
--- load open
+-- of a frame that waits for the one below it: its set is one of tasks, it has the mode of its set, and the bound leaves
+-- the rest of its last load open
 pub record IsHeld (kind : LineKind) (line : Line) (X : ℕ) (f : OpenFrame) : Type 0 where
   pub tasks : IsTaskSet line f.set
   pub has_mode : f.mode ≡ mode_of kind line f.set
   pub open_rest : (l : Load) → f.last ≡ Some l → bound kind line X (rest f.set l) < f.most
 
--- The frames lead from the question to the frame in hand, which is as a deepest frame is, of a set of tasks that isn't empty.
+-- The frames lead from the question to the frame in hand, which is as a deepest frame is, of a set of tasks that isn't
+-- empty.
 pub record IsSearching (kind : LineKind) (line : Line) (X : ℕ) (es : List Entry) (R : List Bool) (most : ℕ) (passed : List OpenFrame) (frame : OpenFrame) : Type 0 where
   pub leads : Leads kind line X es R most passed frame.set frame.most
   pub deep : IsDeepest kind line X es frame

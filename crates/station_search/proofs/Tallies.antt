@@ -23,8 +23,9 @@ use Rattle.station_search.specs.Work.{with_last, with_cites, Does, AllAdded, Doe
 use Rattle.station_search.proofs.Events.{waits_none}
 use Rattle.station_search.proofs.Paying.{does_waits, does_both, all_added_both, added_length, unanswered_still}
 
--- What the steps so far did on the desk, and the units of the frames, come to what was spent; the entries added, the frames that wait and
--- some room are no more. Where the desk is alone, each event added an entry, and no entry answers a frame.
+-- What the steps so far did on the desk, and the units of the frames, come to what was spent; the entries added, the
+-- frames that wait and some room are no more. Where the desk is alone, each event added an entry, and no entry answers
+-- a frame.
 pub record Tally (kind : LineKind) (line : Line) (X : ℕ) (old new : DeskView) (passed : List OpenFrame) (frame : OpenFrame) (spent room : ℕ) : Type 0 where
   pub items : List Item
   pub published : ℕ

@@ -31,7 +31,8 @@ abbrev pub AreLemmas : LineKind → Line → ℕ → List Entry → Type 0
 AreLemmas kind line X [] = Unit {0}
 AreLemmas kind line X (e ∷ es) = (e.cycle ≡ X) × HasMode kind line e.set e.why × AreLemmas kind line X es
 
--- The desk's own events in the call are Publishes, and the entries that they added have the cycle X and the modes of their sets.
+-- The desk's own events in the call are Publishes, and the entries that they added have the cycle X and the modes of
+-- their sets.
 pub record HasPublished (kind : LineKind) (line : Line) (X : ℕ) (old new : DeskView) : Type 0 where
   pub items : List Item
   pub did : Did old new items
@@ -45,8 +46,8 @@ pub record HasLoads (line : Line) (c : ℕ) (mode : Mode) (R : List Bool) (n : �
   pub each : (k : ℕ) (a : Load) → slice_get loads k ≡ Some a → IsLoad line c mode R a
   pub long : length loads ≡ n
 
--- What a Publish pays, the entries being those seen: an entry that was added its units, and one that was known some loads of its set at the
--- cycle X, in the mode of the set.
+-- What a Publish pays, the entries being those seen: an entry that was added its units, and one that was known some
+-- loads of its set at the cycle X, in the mode of the set.
 abbrev pub Pays : LineKind → Line → ℕ → List Entry → Item → ℕ → Type 0
 Pays kind line X es (added id e) n = UnitsBy line e e.why n
 Pays kind line X es (known id most) n = (e : Entry) × (slice_get es id ≡ Some e) × HasLoads line X (mode_of kind line e.set) e.set n
@@ -84,7 +85,8 @@ Costs kind line X old new used (decided.Found loads) = PaysWithin kind line X ol
 Costs kind line X old new used (decided.Spent frames) = PaysExactly kind line X old new frames used
 Costs kind line X old new used (decided.NoMemory frames) = PaysWithin kind line X old new frames used
 
--- what a desk that is alone saw in the call is its own events, and the units used are those of the entries added and of the frames
+-- what a desk that is alone saw in the call is its own events, and the units used are those of the entries added and of
+-- the frames
 pub record Spends (line : Line) (X : ℕ) (old new : DeskView) (frames : List OpenFrame) (used : ℕ) : Type 0 where
   pub items : List Item
   pub did : Did old new items
@@ -99,7 +101,8 @@ pub record Spends (line : Line) (X : ℕ) (old new : DeskView) (frames : List Op
 abbrev pub AreUnanswered : List Entry → ℕ → List OpenFrame → Type 0
 AreUnanswered es X frames = (k : ℕ) (f : OpenFrame) → slice_get frames k ≡ Some f → IsUnanswered es f.set f.most X
 
--- where the desk is alone, the trail of a search that stopped is open over the entries seen, and no entry seen answers a frame
+-- where the desk is alone, the trail of a search that stopped is open over the entries seen, and no entry seen answers
+-- a frame
 abbrev pub CostsAlone : Line → ℕ → DeskView → DeskView → ℕ → Decided → Type 0
 CostsAlone line X old new used (decided.Refuted reason) = Spends line X old new [] used
 CostsAlone line X old new used (decided.Found loads) = Unit {0}
@@ -118,7 +121,8 @@ pub record AddsFew (line : Line) (X : ℕ) (old new : DeskView) (frames : List O
   pub framed : UnitsIn line X frames listed
   pub sum : published + listed ≤ used
 
--- whatever the answer, the entries added are at most as many as the units used, with one more where the question was refuted
+-- whatever the answer, the entries added are at most as many as the units used, with one more where the question was
+-- refuted
 abbrev pub FewAdded : Line → ℕ → DeskView → DeskView → ℕ → Decided → Type 0
 FewAdded line X old new used (decided.Refuted reason) = AddsFew line X old new [] used (used + 1)
 FewAdded line X old new used (decided.Found loads) = AddsFew line X old new [] used used

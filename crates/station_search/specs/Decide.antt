@@ -38,8 +38,8 @@ HasFurther line X frames =
 abbrev pub HaveModes : LineKind → Line → List OpenFrame → Type 0
 HaveModes kind line frames = (k : ℕ) (f : OpenFrame) → slice_get frames k ≡ Some f → f.mode ≡ mode_of kind line f.set
 
--- A search that stopped: its trail leads from the question of R in `most` stations, which the bound leaves open; no unit is left, and one
--- more load is needed.
+-- A search that stopped: its trail leads from the question of R in `most` stations, which the bound leaves open; no
+-- unit is left, and one more load is needed.
 pub record Stops (kind : LineKind) (line : Line) (X : ℕ) (es : List Entry) (R : List Bool) (most left : ℕ) (frames : List OpenFrame) : Type 0 where
   pub bounded : bound kind line X R ≤ most
   pub trail : IsTrail kind line X es R most frames
@@ -47,8 +47,9 @@ pub record Stops (kind : LineKind) (line : Line) (X : ℕ) (es : List Entry) (R 
   pub further : HasFurther line X frames
   pub modes : HaveModes kind line frames
 
--- What an answer says of the question whether R has a balance in `most` stations at cycle X, with the entries seen after the call and the
--- units left: the bound refutes it; the bound doesn't, and an entry does; there is a balance, by loads; the units ended; or memory did.
+-- What an answer says of the question whether R has a balance in `most` stations at cycle X, with the entries seen
+-- after the call and the units left: the bound refutes it; the bound doesn't, and an entry does; there is a balance, by
+-- loads; the units ended; or memory did.
 abbrev pub Decides : LineKind → Line → ℕ → List Entry → List Bool → ℕ → ℕ → Decided → Type 0
 Decides kind line X es R most left (decided.Refuted reason.ByBound) = most < bound kind line X R
 Decides kind line X es R most left (decided.Refuted (reason.ByEntry id)) = (bound kind line X R ≤ most) × IsAnswered es id R most X

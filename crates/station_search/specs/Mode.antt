@@ -22,8 +22,8 @@ sources line R = count_by (is_source line R) (members_of R)
 unfoldable pub sinks : Line → List Bool → ℕ
 sinks line R = count_by (is_sink line R) (members_of R)
 
--- The mode of a set: both ends on a U-line. On a straight line the front, where the tasks without predecessor in R are at most as many as
--- those without successor in R, and otherwise the back.
+-- The mode of a set: both ends on a U-line. On a straight line the front, where the tasks without predecessor in R are
+-- at most as many as those without successor in R, and otherwise the back.
 unfoldable pub mode_of : LineKind → Line → List Bool → Mode
 mode_of Straight line R = cond (nat_le (sources line R) (sinks line R)) mode.Fore mode.Back
 mode_of U line R = mode.Both

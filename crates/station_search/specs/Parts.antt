@@ -19,6 +19,7 @@ pub record AreParts (line : Line) (loads : List Load) : Type 0 where
   pub within : (k : ℕ) (l : Load) (i : ℕ) → slice_get loads k ≡ Some l → In (taken l) i → In (all_tasks line) i
   pub once : IsOnce loads
 
--- the place is that of the task, where a load has it: the number of that load, counted from 1, and the side of the task's part
+-- the place is that of the task, where a load has it: the number of that load, counted from 1, and the side of the
+-- task's part
 abbrev pub IsPlaceOf : LineKind → List Load → ℕ → Seatplace → Type 0
 IsPlaceOf kind loads i place = (k : ℕ) (l : Load) → slice_get loads k ≡ Some l → In (taken l) i → place ≡ record { station = suc k; side = side_of kind l i }

@@ -43,8 +43,8 @@ branch_of X f = record { set = f.set; most = f.most; cycle = X; why = why.Branch
 abbrev pub swap_of : ℕ → List Bool → ℕ → ℕ → ℕ → ℕ → Entry
 swap_of X set most cite out into = record { set = set; most = most; cycle = X; why = why.Swap cite out into }
 
--- What is told of a load of the frame: it isn't open; an entry refutes its rest; its rest is empty; or its rest is open, and no entry
--- answers it where the desk is alone.
+-- What is told of a load of the frame: it isn't open; an entry refutes its rest; its rest is empty; or its rest is
+-- open, and no entry answers it where the desk is alone.
 abbrev pub Sorts : LineKind → Line → ℕ → Bool → List Entry → OpenFrame → Load → Sorted → Type 0
 Sorts kind line X alone es f l sorted.Closed = IsOpen kind line X f.mode f.set f.most l → ⊥
 Sorts kind line X alone es f l (sorted.Covered id) = IsOpen kind line X f.mode f.set f.most l × Cites es id (rest f.set l) (f.most - 1) X

@@ -17,12 +17,12 @@ use lower_bounds::exceeds;
 use std::alloc::Global;
 use task_set::TaskSet;
 
-/// Whether a set of tasks has a balance in `most` stations on a line of this kind at this cycle: by the bound, by an entry that the desk has
-/// seen, or by a search that lists the loads of the end station and publishes what it refutes.
+/// Whether a set of tasks has a balance in `most` stations on a line of this kind at this cycle: by the bound, by an
+/// entry that the desk has seen, or by a search that lists the loads of the end station and publishes what it refutes.
 ///
-/// The desk is for this instance, line kind and cycle, which is 1 to 1,000,000,000,000,000,000 in the instance's time unit; `most` is at most
-/// 1,024. Each load that is listed takes a unit from those left. Where none is left and one more load is needed, the answer is `Spent`. The
-/// frames of the search stand on a stack in the heap.
+/// The desk is for this instance, line kind and cycle, which is 1 to 1,000,000,000,000,000,000 in the instance's time
+/// unit; `most` is at most 1,024. Each load that is listed takes a unit from those left. Where none is left and one
+/// more load is needed, the answer is `Spent`. The frames of the search stand on a stack in the heap.
 pub fn decide<D: Desk>(
     alloc: Global,
     desk: &mut D,

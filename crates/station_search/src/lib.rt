@@ -1,5 +1,5 @@
-//! Decides whether a set of tasks has a balance in so many stations: by the bound, by what a desk has seen, or by a search over the loads of
-//! the end station. Each load that is listed costs one unit, and what is refuted is published.
+//! Decides whether a set of tasks has a balance in so many stations: by the bound, by what a desk has seen, or by a
+//! search over the loads of the end station. Each load that is listed costs one unit, and what is refuted is published.
 #![tactic(auto)]
 
 mod answers;

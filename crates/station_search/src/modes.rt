@@ -28,8 +28,8 @@ fn is_sink(inst: &Instance, set: &TaskSet, task: u32) -> bool
     inst.after(task).meet(set).is_empty()
 }
 
-/// The mode of a set of tasks: both ends on a U-line. On a straight line it is the front, where the tasks of the set without predecessor in it
-/// are at most as many as those without successor in it, and otherwise the back.
+/// The mode of a set of tasks: both ends on a U-line. On a straight line it is the front, where the tasks of the set
+/// without predecessor in it are at most as many as those without successor in it, and otherwise the back.
 pub fn choose_mode(inst: &Instance, kind: LineKind, set: &TaskSet) -> Mode
     requires { IsTaskSet inst.now set.now }
     ensures mode { result ≡ mode_of kind inst.now set.now }

@@ -1,6 +1,7 @@
 //! The balance of loads in the order of their stations.
 //!
-//! A task stands at the first load that has it, so a balance takes as many steps as there are tasks and loads before theirs.
+//! A task stands at the first load that has it, so a balance takes as many steps as there are tasks and loads before
+//! theirs.
 ghost use Rattle.std.specs.Prelude.{◌≡◌, ℕ, ◌+◌, ◌<◌, ◌≤◌, ◌↔◌, IsTrue, length, IfOk};
 ghost use Rattle.task_set.specs.Truths.{In};
 ghost use Rattle.line_instance.specs.Line.{tasks};
@@ -62,8 +63,9 @@ fn place_of(kind: LineKind, loads: &Loads, task: u32) -> Seatplace
     }
 }
 
-/// The balance of loads that part all tasks, in so many stations: each task has the number of its load, counted from 1, as its station, and on
-/// a U-line the side of its part. The stations are at most 1,024, and no fewer than the loads. An error where memory is wanting.
+/// The balance of loads that part all tasks, in so many stations: each task has the number of its load, counted from 1,
+/// as its station, and on a U-line the side of its part. The stations are at most 1,024, and no fewer than the loads.
+/// An error where memory is wanting.
 pub fn balance_of(
     alloc: Global,
     inst: &Instance,

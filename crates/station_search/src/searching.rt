@@ -1,7 +1,7 @@
 //! The search over the loads of a set, from load to load, with the frames on a stack in the heap.
 //!
-//! A frame is a question: whether its set has a balance in so many stations. Its loads are listed in order. The rest of a load that nothing
-//! refutes is the question of a frame below. A frame whose loads ended is refuted, and published.
+//! A frame is a question: whether its set has a balance in so many stations. Its loads are listed in order. The rest of
+//! a load that nothing refutes is the question of a frame below. A frame whose loads ended is refuted, and published.
 ghost use Rattle.std.specs.Prelude.{◌≡◌, ℕ, ◌+◌, ◌-◌, ◌^◌, ◌<◌, ◌≤◌, true, IfOk, OnOk, OnErr, None, List, [], ◌∷◌, ◌++◌};
 ghost use Rattle.task_set.specs.Truths.{In};
 ghost use Rattle.line_instance.specs.Line.{Line, IsTaskSet};

@@ -1,4 +1,5 @@
-//! The two stacks of a search: the frames that wait for the one in hand, and their walks. Both stand in the heap and grow one by one.
+//! The two stacks of a search: the frames that wait for the one in hand, and their walks. Both stand in the heap and
+//! grow one by one.
 ghost use Rattle.std.specs.Prelude.{◌≡◌, ◌<◌, ◌∷◌, ◌++◌, [], length, IsNone, IfSome, OnOk};
 
 use std::alloc::AllocError;

@@ -1,4 +1,5 @@
-//! The Swap rule: a rest is refuted where an entry refutes the set in which one of its tasks gives way to a task that can stand in for it.
+//! The Swap rule: a rest is refuted where an entry refutes the set in which one of its tasks gives way to a task that
+//! can stand in for it.
 //!
 //! At most 32 looks are made for a rest, with the kept partners of its tasks.
 ghost use Rattle.std.specs.Prelude.{◌≡◌, ◌<◌, ◌≤◌, true, IsNone, IfSome, IfOk, OnErr};
@@ -103,7 +104,8 @@ fn find_swap<D: Desk>(
     None
 }
 
-/// Publishes that a set is refuted by the Swap rule, where an entry is found for that, and gives the number of an entry that answers the set.
+/// Publishes that a set is refuted by the Swap rule, where an entry is found for that, and gives the number of an entry
+/// that answers the set.
 pub fn publish_swap<D: Desk>(
     desk: &mut D,
     inst: &Instance,

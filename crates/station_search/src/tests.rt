@@ -1,4 +1,5 @@
-//! What no clause says: small searches as they were worked out outside, with their units and entries, and searches that stop at each budget.
+//! What no clause says: small searches as they were worked out outside, with their units and entries, and searches that
+//! stop at each budget.
 ghost use Rattle.std.specs.Prelude.{◌<◌, ◌≤◌, All, IfOk};
 ghost use Rattle.line_instance.specs.Line.{IsTaskSet};
 ghost use Rattle.line_rules.specs.Ranges.{IsCycle};
