@@ -1,5 +1,5 @@
 //! The reading of a certificate from a file.
-ghost use Rattle.std.specs.Prelude.{◌≡◌, ◌≢◌, ◌⊎◌, ◌≤◌, ℕ, suc, List, Some, IfOk, vec_len};
+ghost use Rattle.std.specs.Prelude.{◌≡◌, ◌≢◌, ◌⊎◌, ◌≤◌, ℕ, suc, true, List, Some};
 ghost use Rattle.cert_text.specs.Cert.{cert_text};
 ghost use Rattle.cert_text.specs.OldCert.{old_text};
 ghost use Rattle.cert_lines.specs.OldRanges.{IsOldInRange};
@@ -12,13 +12,12 @@ ghost use Rattle.cert_files.specs.From.{IsCertFrom, IsGoodInRange, IsGoodFrom, s
 ghost use Rattle.cert_files.specs.declared.fetching.CertFrom.TheVariants.{Fault, ReadFault, NoMemory};
 
 use crate::file_lines::{FileLines, read_on};
-use crate::file_text::PIECE;
 use crate::stop::{Rest, Stop};
 use crate::window::Window;
 use cert_text::{CertFault, CertKind, ReadError, read_all};
-use line_io::Shelf;
+use line_io::{PIECE, Shelf, zeros};
 use line_rules::Certificate;
-use std::alloc::{AllocError, Global};
+use std::alloc::Global;
 
 /// What reading a certificate from a file gave.
 #[derive(Drop)]
@@ -31,15 +30,16 @@ pub enum CertFrom {
     TooLong,
     /// A fetch failed, and the shelf's faults rose.
     ReadFault,
-    /// Memory is wanting.
+    /// Out of memory.
     NoMemory,
 }
 
 /// Reads a certificate from a file of at most `limit` bytes, in pieces of 65,536 bytes and line by line. After a fault it reads on to the end: a
-/// longer file is TooLong whatever its text is. A line of more than 2^28 bytes is answered as want of memory. The files stay.
+/// longer file is TooLong whatever its text is. A line of more than 2^28 bytes is answered as out of memory. The files stay.
 pub fn cert_from<S: Shelf>(alloc: Global, shelf: &mut S, name: &str, limit: u64) -> CertFrom
     ensures count { S.faults shelf.old ≤ S.faults shelf.new }
     ensures fault { result ≡ ReadFault → Rises (S.faults shelf.old) (S.faults shelf.new) }
+    ensures blame { S.tells → result ≡ ReadFault → S.blames shelf.new name.now ≡ true }
     ensures read { S.tells → IsCertFrom (S.file shelf.old name.now) limit result }
     ensures none { S.tells → (fault : CertFault) → result ≡ Fault fault → (cert : Certificate) → IsInRange cert → S.file shelf.old name.now ≢ Some (cert_text cert) }
     ensures none_old { S.tells → (fault : CertFault) → result ≡ Fault fault → (old : OldCertificate) → IsOldInRange old → S.file shelf.old name.now ≢ Some (old_text old) }
@@ -81,13 +81,6 @@ pub fn cert_from<S: Shelf>(alloc: Global, shelf: &mut S, name: &str, limit: u64)
             ReadError::Fault(fault) => faulty(read_on(shelf, name, limit, at, window), fault),
         },
     }
-}
-
-// A call of its own, so that no proof writes out the list of a piece.
-fn zeros(alloc: Global, n: usize) -> Result<Vec<u8>, AllocError>
-    ensures { IfOk result (λ v. vec_len v ≡ n) }
-{
-    vec![in alloc; 0u8; n]
 }
 
 // The answer where the lines couldn't go on.

@@ -1,5 +1,5 @@
 //! The lines of a file that is fetched piece by piece.
-ghost use Rattle.std.specs.Prelude.{◌≡◌, ◌≢◌, ◌⊎◌, ◌+◌, ◌<◌, ◌≤◌, ◌++◌, [], ℕ, List, length, slice_range};
+ghost use Rattle.std.specs.Prelude.{◌≡◌, ◌≢◌, ◌⊎◌, ◌+◌, ◌<◌, ◌≤◌, ◌++◌, [], ℕ, true, List, length, slice_range};
 ghost use Rattle.line_io.specs.Outside.{Rises};
 ghost use Rattle.cert_lines.specs.Taking.{IsTaken, IsAtEnd};
 ghost use Rattle.cert_files.specs.Pieces.{bytes_of};
@@ -25,6 +25,7 @@ pub(crate) struct FileLines<'a, 'b, S: Shelf> {
     pub(crate) number: u64,
     pub(crate) stop: Stop,
     ghost within: { at ≤ limit },
+    ghost blame: { S.tells → stop ≡ Stop.Failed → S.blames shelf.now name.now ≡ true },
     ghost long: { S.tells → stop ≡ Stop.TooLong → limit < length (bytes_of (S.file shelf.now name.now)) },
 }
 
@@ -41,6 +42,7 @@ fn next_line<S: Shelf>(
     requires none { line.old.items ≡ [] }
     ensures count { S.faults shelf.old ≤ S.faults shelf.new }
     ensures fault { result ≡ Next.Failed → Rises (S.faults shelf.old) (S.faults shelf.new) }
+    ensures blame { S.tells → result ≡ Next.Failed → S.blames shelf.new name.now ≡ true }
     ensures files { S.tells → (q : List ℕ) → S.file shelf.new q ≡ S.file shelf.old q }
     ensures within { at.new ≤ limit }
     ensures line { S.tells → result ≡ Next.Line → IsTaken (slice_range window.old.piece.items window.old.from window.old.to ++ bytes_from at.old (S.file shelf.old name.now)) line.new.items (slice_range window.new.piece.items window.new.from window.new.to ++ bytes_from at.new (S.file shelf.old name.now)) }
@@ -139,6 +141,7 @@ pub(crate) fn read_on<S: Shelf>(
     requires { from ≤ limit }
     ensures count { S.faults shelf.old ≤ S.faults shelf.new }
     ensures fault { result ≡ Rest.Failed → Rises (S.faults shelf.old) (S.faults shelf.new) }
+    ensures blame { S.tells → result ≡ Rest.Failed → S.blames shelf.new name.now ≡ true }
     ensures files { S.tells → (q : List ℕ) → S.file shelf.new q ≡ S.file shelf.old q }
     ensures nothing { S.tells → result ≡ Rest.Nothing → slice_range window.piece.items window.from window.to ++ bytes_from from (S.file shelf.old name.now) ≡ [] }
     ensures more { S.tells → result ≡ Rest.More → 0 < length (slice_range window.piece.items window.from window.to ++ bytes_from from (S.file shelf.old name.now)) }

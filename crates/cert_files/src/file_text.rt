@@ -1,11 +1,8 @@
 //! A text that is put into a file piece by piece.
-ghost use Rattle.std.specs.Prelude.{◌≤◌, vec_len, vec_capacity};
+ghost use Rattle.std.specs.Prelude.{◌≡◌, ◌≤◌, true, vec_len, vec_capacity};
 
 use cert_text::Output;
-use line_io::{Shelf, Stored};
-
-/// How many bytes a piece has.
-pub(crate) const PIECE: usize = 65536;
+use line_io::{PIECE, Shelf, Stored};
 
 /// A text that is put into the file of a name: its bytes wait in a buffer until that is full. It remembers its first failure.
 #[derive(Drop)]
@@ -16,6 +13,7 @@ pub(crate) struct FileText<'a, 'b, S: Shelf> {
     pub(crate) failed: bool,
     ghost room: { 65536 ≤ vec_capacity buffer },
     ghost full: { vec_len buffer ≤ 65536 },
+    ghost blame: { S.tells → failed ≡ true → S.blames shelf.now name.now ≡ true },
 }
 
 impl<'a, 'b, S: Shelf> Output for FileText<'a, 'b, S> {

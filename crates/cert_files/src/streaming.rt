@@ -1,14 +1,14 @@
 //! The writing of a certificate into a file.
-ghost use Rattle.std.specs.Prelude.{◌≡◌, ◌≢◌, ◌≤◌, ℕ, List, [], Some, take, vec_capacity};
+ghost use Rattle.std.specs.Prelude.{◌≡◌, ◌≢◌, ◌≤◌, ℕ, true, List, [], Some, take, vec_capacity};
 ghost use Rattle.cert_text.specs.Cert.{cert_text};
 ghost use Rattle.line_io.specs.Outside.{Rises};
-ghost use Rattle.line_io.specs.Whole.{IsFrontWritten};
+ghost use Rattle.line_io.specs.Whole.{IsPrefixWritten};
 ghost use Rattle.line_rules.specs.Ranges.{IsInRange};
 ghost use Rattle.cert_files.specs.declared.streaming.Streamed.TheVariants.{Done, WriteFault, NoMemory};
 
-use crate::file_text::{FileText, PIECE};
+use crate::file_text::FileText;
 use cert_text::put_cert;
-use line_io::{Shelf, Stored};
+use line_io::{PIECE, Shelf, Stored};
 use line_rules::Certificate;
 use std::alloc::Global;
 
@@ -17,9 +17,9 @@ use std::alloc::Global;
 pub enum Streamed {
     /// The file has the certificate's text.
     Done,
-    /// A call failed, and the shelf's faults rose: the file is as before, or has a front of the text.
+    /// A call failed, and the shelf's faults rose: the file is as before, or has a prefix of the text.
     WriteFault,
-    /// Memory is wanting: nothing was called.
+    /// Out of memory: nothing was called.
     NoMemory,
 }
 
@@ -34,8 +34,9 @@ pub fn stream_cert<S: Shelf>(
     requires { IsInRange cert.now }
     ensures count { S.faults shelf.old ≤ S.faults shelf.new }
     ensures fault { result ≡ WriteFault → Rises (S.faults shelf.old) (S.faults shelf.new) }
+    ensures blame { S.tells → result ≡ WriteFault → S.blames shelf.new name.now ≡ true }
     ensures done { S.tells → result ≡ Done → S.file shelf.new name.now ≡ Some (cert_text cert.now) }
-    ensures front { S.tells → IsFrontWritten (S.file shelf.old name.now) (cert_text cert.now) (S.file shelf.new name.now) }
+    ensures prefix { S.tells → IsPrefixWritten (S.file shelf.old name.now) (cert_text cert.now) (S.file shelf.new name.now) }
     ensures others { S.tells → (q : List ℕ) → q ≢ name.now → S.file shelf.new q ≡ S.file shelf.old q }
     ensures nothing { result ≡ NoMemory → shelf.new ≡ shelf.old }
 {
@@ -55,8 +56,9 @@ fn fill<S: Shelf>(shelf: &mut S, name: &str, cert: &Certificate, buffer: Vec<u8>
     requires none { buffer.items ≡ [] }
     ensures count { S.faults shelf.old ≤ S.faults shelf.new }
     ensures fault { result ≡ WriteFault → Rises (S.faults shelf.old) (S.faults shelf.new) }
+    ensures blame { S.tells → result ≡ WriteFault → S.blames shelf.new name.now ≡ true }
     ensures done { S.tells → S.file shelf.old name.now ≡ Some [] → result ≡ Done → S.file shelf.new name.now ≡ Some (cert_text cert.now) }
-    ensures front { S.tells → S.file shelf.old name.now ≡ Some [] → (k : ℕ) × (S.file shelf.new name.now ≡ Some (take k (cert_text cert.now))) }
+    ensures prefix { S.tells → S.file shelf.old name.now ≡ Some [] → (k : ℕ) × (S.file shelf.new name.now ≡ Some (take k (cert_text cert.now))) }
     ensures others { S.tells → (q : List ℕ) → q ≢ name.now → S.file shelf.new q ≡ S.file shelf.old q }
     ensures memory { result ≢ NoMemory }
 {

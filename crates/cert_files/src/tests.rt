@@ -166,13 +166,17 @@ struct Drops<S: Shelf> {
 }
 
 impl<S: Shelf> Shelf for Drops<S> {
-    ghost use Rattle.std.specs.Prelude.{None};
+    ghost use Rattle.std.specs.Prelude.{None, false};
 
     ghost tells = { ⊥ };
 
     ghost file = { λ _ _. None };
 
     ghost faults = { λ s. S.faults s.shelf };
+
+    ghost blames = { λ _ _. false };
+
+    ghost given = { λ s. S.given s.shelf };
 
     fn fetch(&mut self, name: &str, at: u64, piece: &mut [u8]) -> Fetched {
         let n = piece.len().min(1);

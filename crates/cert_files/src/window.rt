@@ -1,5 +1,5 @@
 //! The bytes of a file that were fetched and wait to be read.
-ghost use Rattle.std.specs.Prelude.{◌≡◌, ◌≢◌, ◌+◌, ◌<◌, ◌≤◌, ◌∷◌, ◌++◌, [], ℕ, List, length, slice_range, vec_len};
+ghost use Rattle.std.specs.Prelude.{◌≡◌, ◌≢◌, ◌+◌, ◌<◌, ◌≤◌, ◌∷◌, ◌++◌, [], ℕ, true, List, length, slice_range, vec_len};
 ghost use Rattle.line_io.specs.Outside.{Rises};
 ghost use Rattle.cert_lines.specs.Faults.{IsLine};
 ghost use Rattle.cert_files.specs.Pieces.{bytes_of};
@@ -64,6 +64,7 @@ impl Window {
         requires { at ≤ limit }
         ensures count { S.faults shelf.old ≤ S.faults shelf.new }
         ensures fault { result ≡ Refill.Failed → Rises (S.faults shelf.old) (S.faults shelf.new) }
+        ensures blame { S.tells → result ≡ Refill.Failed → S.blames shelf.new name.now ≡ true }
         ensures files { S.tells → (q : List ℕ) → S.file shelf.new q ≡ S.file shelf.old q }
         ensures within { result ≡ Refill.More → at + length (slice_range self.new.piece.items self.new.from self.new.to) ≤ limit }
         ensures some { result ≡ Refill.More → 0 < length (slice_range self.new.piece.items self.new.from self.new.to) }

@@ -1,7 +1,7 @@
 -- Where the file of a name is.
 use Rattle.std.proofs.Common.{◌≡◌, ℕ, zero, suc, ◌<◌, Bool, true, false, cond, List, [], ◌∷◌, ◌++◌, length, get_or, set, Some, None, refl, sym, ◌∙◌, ap, arith, bytes_eq}
 use Rattle.std.proofs.lemmas.Slice.Eq.{bytes_eq-Decides}
-use Rattle.line_io.specs.Kept.{NamedFile, file_in}
+use Rattle.line_io.specs.Kept.{NamedFile, file_in, name_at}
 use Rattle.line_io.specs.Places.{IsPlace}
 
 alike : (a b : List ℕ) → a ≡ b → bytes_eq a b ≡ true
@@ -48,12 +48,22 @@ same_default [] k c d h = absurd (omega arith)
 same_default (f ∷ fs) zero c d h = refl
 same_default (f ∷ fs) (suc k) c d h = same_default fs k c d (omega arith)
 
+abbrev nameless : NamedFile
+nameless = record { name = []; bytes = [] }
+
+set_there : (fs : List NamedFile) (k : ℕ) (f d : NamedFile) → k < length fs → get_or (set fs k f) k d ≡ f
+set_there [] k f d h = absurd (omega arith)
+set_there (g ∷ fs) zero f d h = refl
+set_there (g ∷ fs) (suc k) f d h = set_there fs k f d (omega arith)
+
 pub place : (fs : List NamedFile) (q : List ℕ) (k : ℕ) (c : NamedFile) → k < length fs → NoneBefore fs q k → (get_or fs k c).name ≡ q → IsPlace fs q k
 place fs q k c h b e =
     let named : (d : NamedFile) → (get_or fs k d).name ≡ q = λ d. ap (λ f. f.name) (same_default fs k d c h) ∙ e in
     record {
       within = h;
       name = named;
+      blame = alike (name_at fs k) q (named nameless);
+      kept = λ f i. alike (name_at (set fs k f) k) q (ap (λ g. g.name) (set_there fs k f nameless h) ∙ i);
       read = λ d. read_at fs q k d h b (named d);
       written = λ f i. written_at fs q k f h b i;
       others = λ f i r n. others_at fs q k f c h e i r n;

@@ -1,6 +1,7 @@
 //! Files kept in memory, each found by its name.
-ghost use Rattle.std.specs.Prelude.{◌≡◌, ◌≢◌, ℕ, Some, None, IfSome, IfNone, List, take, option_map, OnOk, OnErr};
-ghost use Rattle.line_io.specs.Kept.{file_in};
+ghost use Rattle.std.specs.Prelude.{◌≡◌, ◌≢◌, ℕ, true, Some, None, IfSome, IfNone, List, take, option_map, OnOk, OnErr};
+ghost use Rattle.line_io.specs.Kept.{file_in, blames};
+ghost use Rattle.line_io.specs.declared.kept_files.Blame.TheVariants.{File};
 ghost use Rattle.line_io.specs.Outside.{Grows, GrowsWhole};
 ghost use Rattle.line_io.specs.Places.{IsPlace};
 
@@ -20,6 +21,17 @@ impl Model for MemFile {
     ghost Value = { NamedFile };
 
     ghost view = { λ f. record { name = f.name.items; bytes = f.bytes.items } };
+}
+
+/// Which file the last call that failed was on.
+#[derive(Clone, Copy, Debug, PartialEq, Eq)]
+pub enum Blame {
+    /// No call has failed.
+    Nothing,
+    /// A file that is missing.
+    Missing,
+    /// The file at this place.
+    File(usize),
 }
 
 /// The place of the file of a name.
@@ -54,6 +66,7 @@ pub fn extend(files: &mut [MemFile], name: &[u8], k: usize, bytes: &[u8]) -> Res
     requires { IsPlace files.old name.now k }
     ensures done { OnOk result (GrowsWhole (file_in files.old name.now) bytes.now (file_in files.new name.now)) }
     ensures same { OnErr result (file_in files.new name.now ≡ file_in files.old name.now) }
+    ensures blame { blames files.new (File k) name.now ≡ true }
     ensures grows { Grows (file_in files.old name.now) bytes.now (file_in files.new name.now) }
     ensures others { (q : List ℕ) → q ≢ name.now → file_in files.new q ≡ file_in files.old q }
 {
@@ -62,9 +75,8 @@ pub fn extend(files: &mut [MemFile], name: &[u8], k: usize, bytes: &[u8]) -> Res
     Ok(())
 }
 
-/// Writes the first `keep` bytes behind those of the file at a place, or all where there are
-/// fewer.
-pub fn extend_by_front(
+/// Writes the first `keep` bytes behind those of the file at a place, or all where there are fewer.
+pub fn extend_by_prefix(
     files: &mut [MemFile],
     name: &[u8],
     k: usize,
@@ -74,6 +86,7 @@ pub fn extend_by_front(
     requires { IsPlace files.old name.now k }
     ensures done { OnOk result (GrowsWhole (file_in files.old name.now) (take keep bytes.now) (file_in files.new name.now)) }
     ensures same { OnErr result (file_in files.new name.now ≡ file_in files.old name.now) }
+    ensures blame { blames files.new (File k) name.now ≡ true }
     ensures grows { Grows (file_in files.old name.now) bytes.now (file_in files.new name.now) }
     ensures others { (q : List ℕ) → q ≢ name.now → file_in files.new q ≡ file_in files.old q }
 {

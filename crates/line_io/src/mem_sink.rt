@@ -1,7 +1,7 @@
 //! An output in memory, which tells what was put, and fails at chosen calls.
 ghost use Rattle.std.specs.Prelude.{◌≡◌, ◌≤◌, ◌++◌, take, OnOk, OnErr, [], Some};
 ghost use Rattle.line_io.specs.Outside.{Grows};
-ghost use Rattle.line_io.specs.Kept.{unused, IsToFail, next_keep, torn, after_write, KeepsFront};
+ghost use Rattle.line_io.specs.Kept.{unused, counted, IsToFail, next_keep, torn, after_write, KeepsTorn};
 ghost use Rattle.line_io.specs.declared.outside.Stored.TheVariants.{Failed, Done};
 
 use crate::calls::Calls;
@@ -43,9 +43,8 @@ impl MemSink {
         self.bytes.as_slice()
     }
 
-    /// Lets the call of a number fail after the first `keep` bytes of its piece are kept, or
-    /// all where it has fewer. The first tear of a number stands. It is no call. Want of
-    /// memory changes nothing.
+    /// Lets the call of a number fail after the first `keep` bytes of its piece are kept, or all where it has fewer. The
+    /// first tear of a number counts. It is no call. Out of memory, nothing changes.
     pub fn tear(&mut self, call: u64, keep: u64) -> Result<(), AllocError>
         ensures ok { OnOk result (self.new ≡ record self.old { calls = torn self.old.calls call keep }) }
         ensures err { OnErr result (self.new ≡ self.old) }
@@ -61,20 +60,22 @@ impl Sink for MemSink {
 
     ghost faults = { λ s. s.calls.faults };
 
-    /// Fails where the call is one of those that fail, or there is no memory. A torn call
-    /// keeps the front that its tear says, where that finds memory.
+    /// Fails where the call is one of those that fail, or there is no memory. A torn call keeps as many bytes as its tear
+    /// says; where memory refuses them it keeps none, and a second fault is counted.
     fn put(&mut self, bytes: &[u8]) -> Stored
         ensures count { self.old.calls.faults ≤ self.new.calls.faults }
         ensures fails { IsToFail self.old.calls → result ≡ Failed }
         ensures done { result ≡ Done → self.new.bytes ≡ self.old.bytes ++ bytes.now }
         ensures failed { result ≡ Failed → Grows (Some self.old.bytes) bytes.now (Some self.new.bytes) }
         ensures refused { result ≡ Failed → ¬ IsToFail self.old.calls → self.new.bytes ≡ self.old.bytes }
-        ensures torn { IsToFail self.old.calls → KeepsFront (Some self.old.bytes) (take (next_keep self.old.calls) bytes.now) (Some self.new.bytes) }
-        ensures calls { self.new.calls ≡ after_write self.old.calls result }
+        ensures torn { IsToFail self.old.calls → KeepsTorn (Some self.old.bytes) (take (next_keep self.old.calls) bytes.now) (counted self.old.calls) (Some self.new.bytes) self.new.calls }
+        ensures calls { ¬ IsToFail self.old.calls → self.new.calls ≡ after_write self.old.calls result }
     {
         if let Some(keep) = self.calls.begin() {
-            let _ = put_front(&mut self.bytes, bytes, keep);
             self.calls.fail();
+            if put_prefix(&mut self.bytes, bytes, keep).is_err() {
+                self.calls.fail();
+            }
             return Stored::Failed;
         }
         match self.bytes.extend_from_slice(bytes) {
@@ -88,7 +89,7 @@ impl Sink for MemSink {
 }
 
 /// Puts the first `keep` bytes, or all where there are fewer.
-fn put_front(shown: &mut Vec<u8>, bytes: &[u8], keep: u64) -> Result<(), AllocError>
+fn put_prefix(shown: &mut Vec<u8>, bytes: &[u8], keep: u64) -> Result<(), AllocError>
     ensures done { OnOk result (shown.new.items ≡ shown.old.items ++ take keep bytes.now) }
     ensures same { OnErr result (shown.new.items ≡ shown.old.items) }
     ensures grows { Grows (Some shown.old.items) bytes.now (Some shown.new.items) }
