@@ -1,6 +1,6 @@
 //! An output in memory, which tells what was put, and fails at chosen calls.
 ghost use Rattle.std.specs.Prelude.{◌≡◌, ◌≤◌, ◌++◌, take, OnOk, OnErr, [], Some};
-ghost use Rattle.line_io.specs.Outside.{Grows};
+ghost use Rattle.line_io.specs.Outside.{up, Grows};
 ghost use Rattle.line_io.specs.Kept.{unused, counted, IsToFail, next_keep, torn, after_write, KeepsTorn};
 ghost use Rattle.line_io.specs.declared.outside.Stored.TheVariants.{Failed, Done};
 
@@ -60,9 +60,12 @@ impl Sink for MemSink {
 
     ghost faults = { λ s. s.calls.faults };
 
+    ghost puts = { λ s. s.calls.made };
+
     /// Fails where the call is one of those that fail, or there is no memory. A torn call keeps as many bytes as its tear
     /// says; where memory refuses them it keeps none, and a second fault is counted.
     fn put(&mut self, bytes: &[u8]) -> Stored
+        ensures puts { self.new.calls.made ≡ up self.old.calls.made }
         ensures count { self.old.calls.faults ≤ self.new.calls.faults }
         ensures fails { IsToFail self.old.calls → result ≡ Failed }
         ensures done { result ≡ Done → self.new.bytes ≡ self.old.bytes ++ bytes.now }

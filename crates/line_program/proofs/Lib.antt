@@ -1,3 +1,1 @@
-pub mod Sources
-pub mod Proofs
-pub mod Printed
+pub mod RunFacts

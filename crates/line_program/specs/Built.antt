@@ -8,6 +8,8 @@ use Rattle.line_words.specs.declared.job.Job.{Job}
 use Rattle.line_words.specs.declared.job.Job.TheVariants.{Help, Version, Balance, Solve, Cycle, Check, Convert, Combine, Utility, Timeline, Try}
 use Rattle.line_words.specs.declared.job.LineWord.{LineWord}
 use Rattle.line_words.specs.declared.job.LineWord.TheVariants.{Straight, U}
+use Rattle.command_outcome.specs.Outcome.{Outcome, told}
+use Rattle.command_outcome.specs.declared.status.Status.TheVariants as ends
 
 -- U-lines aren't built
 abbrev pub line_part : LineWord → Option Text
@@ -49,7 +51,7 @@ AskNothing words = HasFault words ⊎ IsUnbuilt words
 abbrev pub unbuilt_line : Text → List ℕ
 unbuilt_line part = codes "not built: " ++ part ++ codes "\n"
 
--- the first fault of the words, printed, or the first part of their job that isn't built
-abbrev pub IsUsageText : List Text → List ℕ → Type 0
-IsUsageText words text =
-    ((fault : HasFault words) × (text ≡ usage_text fault.index fault.kind)) ⊎ ((job : IsUnbuilt words) × (text ≡ unbuilt_line job.part))
+-- the first fault of the words is told, or the first part of their job that isn't built
+abbrev pub IsUsageOutcome : List Text → Outcome → Type 0
+IsUsageOutcome words out =
+    ((fault : HasFault words) × (out ≡ told ends.Usage (usage_text fault.index fault.kind))) ⊎ ((job : IsUnbuilt words) × (out ≡ told ends.Usage (unbuilt_line job.part)))

@@ -1,10 +1,3 @@
-pub mod Pages
 pub mod Built
-pub mod Report
-pub mod Codes
-pub mod Answers
-pub mod Files
+pub mod Pages
 pub mod Run
-pub mod Verdict
-pub mod Certified
-pub mod Reports

@@ -1,31 +1,103 @@
--- What a run puts.
-use Rattle.std.specs.Prelude.{◌≡◌, ◌≢◌, ◌⊎◌, ℕ, Bool, true, false, List, Option, Some, None, ◌++◌, take, codes, string_bytes, Result, Ok, Err}
+-- What a run comes to, over the words and the outside.
+use Rattle.std.specs.Prelude.{◌≡◌, ◌⊎◌, ℕ, List, Option, Some, None}
+use Rattle.std.specs.declared.result.Result.{Result}
+use Rattle.std.specs.declared.result.Result.TheVariants.{Ok, Err}
 use Rattle.line_words.specs.Words.{Text}
 use Rattle.line_words.specs.Jobs.{IsJob}
-use Rattle.line_io.specs.Whole.{IsFrontWritten}
-use Rattle.line_words.specs.declared.job.FormWord.{FormWord}
 use Rattle.line_words.specs.declared.job.Job.{Job}
 use Rattle.line_words.specs.declared.job.Job.TheVariants.{Help, Version, Balance, Solve, Cycle, Check, Convert, Combine, Utility, Timeline, Try}
-use Rattle.line_program.specs.Built.{unbuilt, IsUsageText}
-use Rattle.line_instance.specs.Line.{Line}
-use Rattle.line_rules.specs.declared.types.Certificate.{Certificate}
-use Rattle.line_check.specs.Certificates.{IsAcceptedSo, IsTrueOf}
-use Rattle.line_check.specs.declared.types.Verified.{Verified}
-use Rattle.line_program.specs.Answers.{Reads}
-use Rattle.line_program.specs.Certified.{IsLineOf, IsTextOf}
-use Rattle.line_program.specs.Verdict.{verdict_status}
-use Rattle.line_program.specs.Reports.{IsReport, IsConverted}
-use Rattle.line_program.specs.declared.status.Status.{Status}
-use Rattle.line_program.specs.declared.status.Status.TheVariants as ends
-use Rattle.std.specs.declared.alloc.AllocError.{AllocError}
-use Rattle.line_program.specs.declared.refusal.Report.{Report}
-use Rattle.line_program.specs.declared.refusal.Refusal.{Refusal}
-use Rattle.line_program.specs.declared.refusal.Refusal.TheVariants as refusal
+use Rattle.command_outcome.specs.Outcome.{Files, Outside, Outcome, IsCut, IsWritten, told}
+use Rattle.command_outcome.specs.Output.{Puts, memory_line}
+use Rattle.command_outcome.specs.declared.report.Report.{Report}
+use Rattle.command_outcome.specs.declared.report.Stop.{Stop}
+use Rattle.command_outcome.specs.declared.report.Stop.TheVariants as stop
+use Rattle.command_outcome.specs.declared.status.Status.{Status}
+use Rattle.command_outcome.specs.declared.status.Status.TheVariants as ends
+use Rattle.balance_command.specs.Balance.{IsBalanceOutcome}
+use Rattle.check_command.specs.Check.{IsCheckOutcome, IsProvedTrue}
+use Rattle.convert_command.specs.Convert.{IsConvertOutcome}
+use Rattle.line_program.specs.Built.{IsUsageOutcome, unbuilt}
+use Rattle.line_program.specs.Pages.{help_text, version_text}
 
--- want of memory, or a report of the job that isn't its answer
-abbrev pub IsJobRefusal : (List ℕ → Option (List ℕ)) → Job → Refusal → Type 0
-IsJobRefusal files job refusal.Memory = Unit {0}
-IsJobRefusal files job (refusal.Report r) = (r.status ≢ ends.Done) × IsReport files job r.status (string_bytes r.text)
+-- What a job comes to, command by command. Jobs that aren't built come to nothing.
+abbrev pub IsJobOutcome : Outside → Job → Outcome → Type 0
+IsJobOutcome o Help out = out ≡ told ends.Done help_text
+IsJobOutcome o Version out = out ≡ told ends.Done version_text
+IsJobOutcome o (Balance file cycle line apart) out = IsBalanceOutcome o file apart cycle out
+IsJobOutcome o (Solve file cycle line helpers units cert apart) out = ⊥
+IsJobOutcome o (Cycle file stations line helpers units cert) out = ⊥
+IsJobOutcome o (Check file cert steps apart) out = IsCheckOutcome o file cert apart steps out
+IsJobOutcome o (Convert file name to cycle) out = IsConvertOutcome o file name to cycle out
+IsJobOutcome o (Combine mix name) out = ⊥
+IsJobOutcome o (Utility mix cert seq interval length) out = ⊥
+IsJobOutcome o (Timeline mix cert seq interval length) out = ⊥
+IsJobOutcome o (Try seed tasks cycle line units) out = ⊥
+
+-- the words ask for a job, all of which is built, and this is what it comes to
+pub record AsksJob (words : List Text) (o : Outside) (out : Outcome) : Type 0 where
+  pub job : Job
+  pub asked : IsJob words job
+  pub built : unbuilt job ≡ None
+  pub outcome : IsJobOutcome o job out
+
+-- what the words come to, memory aside: they ask for nothing that is built, or for a job
+abbrev pub IsAnswer : List Text → Outside → Outcome → Type 0
+IsAnswer words o out = IsUsageOutcome words out ⊎ AsksJob words o out
+
+-- What a run comes to: an answer to its words, or it is out of memory.
+abbrev pub IsOutcome : List Text → Outside → Outcome → Type 0
+IsOutcome words o out = IsAnswer words o out ⊎ (out ≡ told ends.Memory memory_line)
+
+-- a page of the program itself
+abbrev pub IsPage : Job → Outcome → Type 0
+IsPage Help out = out ≡ told ends.Done help_text
+IsPage Version out = out ≡ told ends.Done version_text
+IsPage (Balance file cycle line apart) out = ⊥
+IsPage (Solve file cycle line helpers units cert apart) out = ⊥
+IsPage (Cycle file stations line helpers units cert) out = ⊥
+IsPage (Check file cert steps apart) out = ⊥
+IsPage (Convert file name to cycle) out = ⊥
+IsPage (Combine mix name) out = ⊥
+IsPage (Utility mix cert seq interval length) out = ⊥
+IsPage (Timeline mix cert seq interval length) out = ⊥
+IsPage (Try seed tasks cycle line units) out = ⊥
+
+-- the job reads files
+abbrev pub ReadsFiles : Job → Type 0
+ReadsFiles Help = ⊥
+ReadsFiles Version = ⊥
+ReadsFiles (Balance file cycle line apart) = Unit {0}
+ReadsFiles (Solve file cycle line helpers units cert apart) = Unit {0}
+ReadsFiles (Cycle file stations line helpers units cert) = Unit {0}
+ReadsFiles (Check file cert steps apart) = Unit {0}
+ReadsFiles (Convert file name to cycle) = Unit {0}
+ReadsFiles (Combine mix name) = Unit {0}
+ReadsFiles (Utility mix cert seq interval length) = Unit {0}
+ReadsFiles (Timeline mix cert seq interval length) = Unit {0}
+ReadsFiles (Try seed tasks cycle line units) = ⊥
+
+-- the words ask for a job that is built and reads files
+pub record AsksFiles (words : List Text) : Type 0 where
+  pub job : Job
+  pub asked : IsJob words job
+  pub built : unbuilt job ≡ None
+  pub reads : ReadsFiles job
+
+-- the words ask for a page
+pub record AsksPage (words : List Text) (out : Outcome) : Type 0 where
+  pub job : Job
+  pub asked : IsJob words job
+  pub page : IsPage job out
+
+-- what words come to that need no file: a usage line, a page, or the line about memory
+abbrev pub IsPlainOutcome : List Text → Outcome → Type 0
+IsPlainOutcome words out = IsUsageOutcome words out ⊎ AsksPage words out ⊎ (out ≡ told ends.Memory memory_line)
+
+-- an outcome that P is true of is put: whole with its status, or a prefix of it where the output failed
+pub record IsPut (P : Outcome → Type 0) (old new : List ℕ) (before after : ℕ) (status : Status) : Type 0 where
+  pub outcome : Outcome
+  pub reached : P outcome
+  pub put : Puts outcome.status outcome.text old new before after status
 
 -- the file that a job writes
 abbrev pub out_of : Job → Option Text
@@ -35,8 +107,8 @@ out_of (Balance file cycle line apart) = None
 out_of (Solve file cycle line helpers units cert apart) = cert
 out_of (Cycle file stations line helpers units cert) = cert
 out_of (Check file cert steps apart) = None
-out_of (Convert file out to cycle) = Some out
-out_of (Combine mix out) = Some out
+out_of (Convert file name to cycle) = Some name
+out_of (Combine mix name) = Some name
 out_of (Utility mix cert seq interval length) = None
 out_of (Timeline mix cert seq interval length) = None
 out_of (Try seed tasks cycle line units) = None
@@ -45,144 +117,51 @@ out_of (Try seed tasks cycle line units) = None
 pub record IsWriting (words : List Text) : Type 0 where
   pub job : Job
   pub asked : IsJob words job
-  pub out : Text
-  pub writes : out_of job ≡ Some out
+  pub name : Text
+  pub writes : out_of job ≡ Some name
 
--- the words ask for a job, all of which is built, and this is reported of it
-pub record IsJobReport (words : List Text) (files : List ℕ → Option (List ℕ)) (status : Status) (text : List ℕ) : Type 0 where
-  pub job : Job
-  pub asked : IsJob words job
-  pub built : unbuilt job ≡ None
-  pub reported : IsReport files job status text
+-- the run came to an outcome that P is true of, or failed to put it, and the outcome's page is written
+pub record HasWritten (o : Outside) (P : Outcome → Type 0) (status : Status) (after : Files) : Type 0 where
+  pub outcome : Outcome
+  pub reached : P outcome
+  pub ended : (status ≡ outcome.status) ⊎ (status ≡ ends.WriteFault)
+  pub written : IsWritten o.files outcome.page after
 
--- What is put with each status, over the files as they stood. Want of memory is free.
-abbrev pub IsPrinted : List Text → (List ℕ → Option (List ℕ)) → Status → List ℕ → Type 0
-IsPrinted words files ends.Done text = IsJobReport words files ends.Done text
-IsPrinted words files ends.Usage text = IsUsageText words text
-IsPrinted words files ends.Input text = IsJobReport words files ends.Input text
-IsPrinted words files ends.ReadFault text = IsJobReport words files ends.ReadFault text
-IsPrinted words files ends.Memory text = text ≡ codes "memory\n"
-IsPrinted words files ends.WriteFault text = ⊥
-IsPrinted words files ends.Stopped text = ⊥
-IsPrinted words files ends.Refused text = IsJobReport words files ends.Refused text
-IsPrinted words files ends.Steps text = IsJobReport words files ends.Steps text
-
--- the whole text of a status is put behind what was put before
-pub record IsPut (words : List Text) (files : List ℕ → Option (List ℕ)) (status : Status) (old new : List ℕ) : Type 0 where
-  pub text : List ℕ
-  pub printed : IsPrinted words files status text
-  pub shown : new ≡ old ++ text
-
--- a front of the text of some status is put
-pub record IsTorn (words : List Text) (files : List ℕ → Option (List ℕ)) (old new : List ℕ) : Type 0 where
-  pub status : Status
-  pub text : List ℕ
-  pub printed : IsPrinted words files status text
-  pub kept : ℕ
-  pub shown : new ≡ old ++ take kept text
-
--- all files stay
-abbrev pub Stay : (List ℕ → Option (List ℕ)) → (List ℕ → Option (List ℕ)) → Type 0
-Stay files after = (q : List ℕ) → after q ≡ files q
-
--- a file has all of the bytes; or it is as before, or has a front of them
-abbrev pub IsWhole : Bool → Option (List ℕ) → List ℕ → Option (List ℕ) → Type 0
-IsWhole true old bytes new = new ≡ Some bytes
-IsWhole false old bytes new = IsFrontWritten old bytes new
-
--- A file is converted, and the new file has the bytes, or a front of them where it could not be written; the other files stay.
-pub record LeavesConverted (files : List ℕ → Option (List ℕ)) (name out : Text) (to : FormWord) (word : Option ℕ) (whole : Bool) (after : List ℕ → Option (List ℕ)) : Type 0 where
-  pub text : List ℕ
-  pub bytes : List ℕ
-  pub converted : IsConverted files name out to word text bytes
-  pub written : IsWhole whole (files out) bytes (after out)
-  pub others : (q : List ℕ) → q ≢ out → after q ≡ files q
-
--- what a job leaves of the files where it is done, and where the files or the report could not be written
-abbrev pub Leaves : Bool → (List ℕ → Option (List ℕ)) → Job → (List ℕ → Option (List ℕ)) → Type 0
-Leaves whole files Help after = Stay files after
-Leaves whole files Version after = Stay files after
-Leaves whole files (Balance file cycle line apart) after = Stay files after
-Leaves whole files (Solve file cycle line helpers units cert apart) after = ⊥
-Leaves whole files (Cycle file stations line helpers units cert) after = ⊥
-Leaves whole files (Check file cert steps apart) after = Stay files after
-Leaves whole files (Convert file out to cycle) after = LeavesConverted files file out to cycle whole after
-Leaves whole files (Combine mix out) after = ⊥
-Leaves whole files (Utility mix cert seq interval length) after = ⊥
-Leaves whole files (Timeline mix cert seq interval length) after = ⊥
-Leaves whole files (Try seed tasks cycle line units) after = ⊥
-
--- the words ask for a job, and this is left of the files
-pub record IsJobLeft (words : List Text) (whole : Bool) (files after : List ℕ → Option (List ℕ)) : Type 0 where
-  pub job : Job
-  pub asked : IsJob words job
-  pub left : Leaves whole files job after
-
--- What is left of the files: where the job is done, its file is whole; where the run could not write, that file may have a front of its bytes;
--- and else all files stay.
-abbrev pub IsLeft : List Text → (List ℕ → Option (List ℕ)) → Status → (List ℕ → Option (List ℕ)) → Type 0
-IsLeft words files status after =
-    ((status ≡ ends.Done) × IsJobLeft words true files after) ⊎ ((status ≡ ends.WriteFault) × IsJobLeft words false files after) ⊎ ((status ≢ ends.Done) × Stay files after)
-
--- the same of a job
-abbrev pub IsLeftBy : (List ℕ → Option (List ℕ)) → Job → Status → (List ℕ → Option (List ℕ)) → Type 0
-IsLeftBy files job status after =
-    ((status ≡ ends.Done) × Leaves true files job after) ⊎ ((status ≡ ends.WriteFault) × Leaves false files job after) ⊎ ((status ≢ ends.Done) × Stay files after)
-
--- a report of a job is put, or the line about want of memory
-abbrev pub IsJobPrinted : (List ℕ → Option (List ℕ)) → Job → Status → List ℕ → Type 0
-IsJobPrinted files job status text = IsReport files job status text ⊎ ((status ≡ ends.Memory) × (text ≡ codes "memory\n"))
-
-pub record IsJobPut (files : List ℕ → Option (List ℕ)) (job : Job) (status : Status) (old new : List ℕ) : Type 0 where
-  pub text : List ℕ
-  pub printed : IsJobPrinted files job status text
-  pub shown : new ≡ old ++ text
-
-pub record IsJobTorn (files : List ℕ → Option (List ℕ)) (job : Job) (old new : List ℕ) : Type 0 where
-  pub status : Status
-  pub text : List ℕ
-  pub printed : IsJobPrinted files job status text
-  pub kept : ℕ
-  pub shown : new ≡ old ++ take kept text
-
--- the text of a report; want of memory has a line of its own
-abbrev pub text_of : Result Report AllocError → List ℕ
-text_of (Ok r) = string_bytes r.text
-text_of (Err e) = codes "memory\n"
-
--- the status that a report is put with
-abbrev pub status_of : Result Report AllocError → Status
-status_of (Ok r) = r.status
-status_of (Err e) = ends.Memory
-
--- The certificate of one file is accepted for the line that the other files say, and what it claims is true: there is a balance at its upper
--- bound and none below the lower one, or there is none in any number of stations.
-pub record IsProvedTrue (files : List ℕ → Option (List ℕ)) (name proof : Text) (apart : Option Text) (steps : ℕ) : Type 0 where
-  pub line : Line
-  pub cert : Certificate
-  pub found : Verified
-  pub said : IsLineOf files name apart line
-  pub read : Reads (files proof) (IsTextOf cert)
-  pub yes : verdict_status found ≡ ends.Done
-  pub accepted : IsAcceptedSo line cert steps found
-  pub holds : IsTrueOf line cert found
+-- What is left of the files: the page of the outcome is written and the others stay; or it could not be written, and status 5 says so.
+abbrev pub IsLeft : Outside → (Outcome → Type 0) → Status → Files → Type 0
+IsLeft o P status after = HasWritten o P status after ⊎ ((status ≡ ends.WriteFault) × IsCut o P after)
 
 -- what a job that is done has proved
-abbrev pub IsJobTrue : (List ℕ → Option (List ℕ)) → Job → Type 0
+abbrev pub IsJobTrue : Files → Job → Type 0
 IsJobTrue files Help = Unit {0}
 IsJobTrue files Version = Unit {0}
 IsJobTrue files (Balance file cycle line apart) = Unit {0}
 IsJobTrue files (Solve file cycle line helpers units cert apart) = Unit {0}
 IsJobTrue files (Cycle file stations line helpers units cert) = Unit {0}
 IsJobTrue files (Check file cert steps apart) = IsProvedTrue files file cert apart steps
-IsJobTrue files (Convert file out to cycle) = Unit {0}
-IsJobTrue files (Combine mix out) = Unit {0}
+IsJobTrue files (Convert file name to cycle) = Unit {0}
+IsJobTrue files (Combine mix name) = Unit {0}
 IsJobTrue files (Utility mix cert seq interval length) = Unit {0}
 IsJobTrue files (Timeline mix cert seq interval length) = Unit {0}
 IsJobTrue files (Try seed tasks cycle line units) = Unit {0}
 
 -- What a run that is done has proved: where its words ask for the check of a certificate, whoever made it, what the certificate claims is true.
-pub record IsTrueRun (words : List Text) (files : List ℕ → Option (List ℕ)) : Type 0 where
+pub record IsTrueRun (words : List Text) (files : Files) : Type 0 where
   pub job : Job
   pub asked : IsJob words job
   pub holds : IsJobTrue files job
+
+-- what a job that reads no file ended with: a page, or out of memory
+abbrev pub IsPlainEnd : (Outcome → Type 0) → Result Report Stop → Type 0
+IsPlainEnd P (Ok r) = P (told r.status r.text.items)
+IsPlainEnd P (Err (stop.Report r)) = P (told r.status r.text.items)
+IsPlainEnd P (Err stop.Memory) = Unit {0}
+IsPlainEnd P (Err stop.Unwritten) = ⊥
+
+-- a job reads files, or its end is a page
+abbrev pub IsJobPlain : Job → Result Report Stop → Type 0
+IsJobPlain job result = ReadsFiles job ⊎ IsPlainEnd (IsPage job) result
+
+-- the job writes a file
+abbrev pub WritesFile : Job → Type 0
+WritesFile job = (name : Text) × (out_of job ≡ Some name)

@@ -1,6 +1,6 @@
 //! Runs of `check`, and of `convert` to a certificate, over files in memory: the worked rows.
-use crate::status::Status;
-use crate::top::run;
+use crate::program::run;
+use command_outcome::Status;
 use line_io::{MemShelf, MemSink, Shelf};
 use std::alloc::{AllocError, Global};
 use std::test::Fail;

@@ -1,4 +1,4 @@
-//! Balances of assembly lines, each with its bound.
+//! Balances of assembly lines, and a proved check of their certificates.
 //!
 //! `main` makes the files and the standard output, and hands them with the words to `run`, whose contract says what is printed.
 #![tactic(auto)]
@@ -7,25 +7,18 @@
 mod call_tests;
 #[cfg(test)]
 mod check_tests;
-mod converting;
-mod files;
-mod instances;
 mod pages;
-mod proving;
-mod putting;
-mod refusal;
-mod report;
-mod status;
+mod program;
 #[cfg(test)]
 mod tests;
-mod top;
 mod usage;
-mod verdict;
 
+use command_outcome::{Stop, finish};
 use line_io::{DiskShelf, OutSink};
+use program::run;
+use std::io::ErrorKind;
 use std::process::ExitCode;
 use std::{env, io};
-use top::run;
 
 /// The words after the program's name.
 fn words_of(rt: &HostRuntime) -> io::Result<Vec<String>> {
@@ -34,13 +27,17 @@ fn words_of(rt: &HostRuntime) -> io::Result<Vec<String>> {
 }
 
 fn main(rt: HostRuntime) -> ExitCode {
-    // Words that aren't text are answered as no words.
+    let mut out = OutSink::new(&rt);
+    // Words that aren't text are taken for no words.
     let words = match words_of(&rt) {
         Ok(words) => words,
-        Err(_) => Vec::new(rt.alloc()),
+        Err(error) if error.kind() == ErrorKind::InvalidData => Vec::new(rt.alloc()),
+        Err(_) => {
+            let status = finish(&mut out, Err(Stop::Memory));
+            return ExitCode::from(status.code());
+        }
     };
     let mut shelf = DiskShelf::new(&rt);
-    let mut out = OutSink::new(&rt);
     let status = run(&rt, rt.alloc(), &words, &mut shelf, &mut out);
     ExitCode::from(status.code())
 }

@@ -1,5 +1,5 @@
-//! The pages that are printed of the program itself.
-ghost use Rattle.std.specs.Prelude.{◌≡◌, ◌++◌, IfOk, string_bytes};
+//! The pages that are printed of the program itself: every command with an example, and the version.
+ghost use Rattle.std.specs.Prelude.{◌≡◌, ◌++◌, IfOk};
 ghost use Rattle.line_program.specs.Pages.{help_text, version_text};
 
 use std::alloc::{AllocError, Global};
@@ -47,19 +47,19 @@ const UNBUILT: &str = "Not built yet: solve, cycle, combine, utility, timeline, 
 ";
 
 /// The page with every command, its names, keys, defaults and an example.
-pub fn help_page(alloc: Global) -> Result<String, AllocError>
-    ensures { IfOk result (λ t. string_bytes t ≡ help_text) }
+pub fn help_page(alloc: Global) -> Result<Vec<u8>, AllocError>
+    ensures { IfOk result (λ t. t.items ≡ help_text) }
 {
     let mut text = String::new(alloc);
     text.push_str(PLANNING)?;
     text.push_str(OTHER)?;
     text.push_str(UNBUILT)?;
-    Ok(text)
+    Ok(text.into_bytes())
 }
 
 /// The name of the program and its version.
-pub fn version_page(alloc: Global) -> Result<String, AllocError>
-    ensures { IfOk result (λ t. string_bytes t ≡ version_text) }
+pub fn version_page(alloc: Global) -> Result<Vec<u8>, AllocError>
+    ensures { IfOk result (λ t. t.items ≡ version_text) }
 {
-    String::from_str(alloc, "line_program 0.1.0\n")
+    Vec::from_slice(alloc, b"line_program 0.1.0\n")
 }

@@ -1,6 +1,6 @@
 //! Runs over files in memory: the worked rows of `balance` and of IN2 files.
-use crate::status::Status;
-use crate::top::run;
+use crate::program::run;
+use command_outcome::Status;
 use line_io::{MemShelf, MemSink};
 use std::alloc::{AllocError, Global};
 use std::test::Fail;

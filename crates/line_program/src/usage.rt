@@ -1,11 +1,10 @@
 //! What is answered to words that ask for no job, and to jobs that aren't built yet.
-ghost use Rattle.std.specs.Prelude.{◌≡◌, ◌++◌, IfOk, option_map, string_bytes};
+ghost use Rattle.std.specs.Prelude.{◌≡◌, ◌++◌, IfOk, option_map};
 ghost use Rattle.line_words.specs.Texts.{usage_text};
 ghost use Rattle.line_program.specs.Built.{line_part, unbuilt, unbuilt_line};
-ghost use Rattle.line_program.specs.declared.status.Status.TheVariants as ends;
+ghost use Rattle.command_outcome.specs.declared.status.Status.TheVariants as ends;
 
-use crate::refusal::Report;
-use crate::status::Status;
+use command_outcome::{Report, Status};
 use line_words::{Job, LineWord, UsageKind, push_usage};
 use std::alloc::{AllocError, Global};
 
@@ -38,26 +37,26 @@ pub fn unbuilt(job: &Job) -> Option<&'static str>
 /// The report about a part that isn't built.
 pub fn unbuilt_report(alloc: Global, part: &str) -> Result<Report, AllocError>
     ensures status { IfOk result (λ r. r.status ≡ ends.Usage) }
-    ensures text { IfOk result (λ r. string_bytes r.text ≡ unbuilt_line part.now) }
+    ensures text { IfOk result (λ r. r.text.items ≡ unbuilt_line part.now) }
 {
     let mut text = String::from_str(alloc, "not built: ")?;
     text.push_str(part)?;
     text.push_str("\n")?;
     Ok(Report {
         status: Status::Usage,
-        text,
+        text: text.into_bytes(),
     })
 }
 
 /// The report about the first fault of the words.
 pub fn usage_report(alloc: Global, index: usize, kind: UsageKind) -> Result<Report, AllocError>
     ensures status { IfOk result (λ r. r.status ≡ ends.Usage) }
-    ensures text { IfOk result (λ r. string_bytes r.text ≡ usage_text index kind) }
+    ensures text { IfOk result (λ r. r.text.items ≡ usage_text index kind) }
 {
     let mut text = String::new(alloc);
     push_usage(&mut text, index, kind)?;
     Ok(Report {
         status: Status::Usage,
-        text,
+        text: text.into_bytes(),
     })
 }

@@ -3,8 +3,8 @@ use Rattle.std.proofs.Common.{◌≡◌, ◌≢◌, ℕ, zero, suc, ◌+◌, ◌
 use Rattle.task_set.specs.Truths.{In, count}
 use Rattle.line_instance.specs.Line.{Line, tasks, has, is_before}
 use Rattle.line_instance.specs.Sums.{weigh, sum_where, count_where}
-use Rattle.line_rules.specs.Balance.{IsBalance}
-use Rattle.line_rules.specs.Bounds.{up, lm1, lm2, lm3, sixths, head, tail, greatest_below, chained, bound}
+use Rattle.line_rules.specs.Balance.{IsBalance, all_tasks}
+use Rattle.line_rules.specs.Bounds.{up, lm1, lm2, lm3, sixths, head, tail, greatest_below, chained, bound, total_bound}
 use Rattle.line_rules.specs.declared.types.LineKind.{LineKind}
 use Rattle.line_rules.specs.declared.types.LineKind.TheVariants.{Straight, U}
 use Rattle.line_rules.specs.declared.types.Seatplace.{Seatplace}
@@ -185,3 +185,8 @@ bound_le kind line c o R r place b =
     (λ n.
     let m : (i : ℕ) × In R i = some_member R n in
     omega (arith, b.first m.0 m.1, b.last m.0 m.1, lm1_le line c o R r place kind b, lm2_le line c o R r place kind b, lm3_le line c o R r place kind b, chained_le kind line c o R r place b))
+
+-- a balance of all tasks has at least as many stations as the bound by total time, and 1
+pub total_bound_le : (kind : LineKind) (line : Line) (c : ℕ) → 1 ≤ c → (i : ℕ) → In (all_tasks line) i → (r : ℕ) (place : ℕ → Seatplace) → IsBalance kind line c (all_tasks line) r place → total_bound line c ≤ r
+unfolding lm1
+total_bound_le kind line c o i m r place b = omega (arith, b.first i m, b.last i m, lm1_le line c o (all_tasks line) r place kind b)

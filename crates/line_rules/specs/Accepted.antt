@@ -22,6 +22,10 @@ use Rattle.line_rules.specs.declared.types.Certificate.{Certificate}
 abbrev pub HasBalance : LineKind → Line → ℕ → ℕ → Type 0
 HasBalance kind line c r = (place : ℕ → Seatplace) × IsBalance kind line c (all_tasks line) r place
 
+-- no balance of all tasks at cycle c, on a line of either kind, has fewer than b stations
+abbrev pub IsBelowAll : Line → ℕ → ℕ → Type 0
+IsBelowAll line c b = (kind : LineKind) (r : ℕ) → HasBalance kind line c r → b ≤ r
+
 -- r is the least number of stations of a balance of all tasks at cycle c (Scholl's SALBP-1)
 pub record IsLeastStations (kind : LineKind) (line : Line) (c r : ℕ) : Type 0 where
   pub reached : HasBalance kind line c r

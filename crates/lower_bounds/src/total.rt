@@ -5,6 +5,7 @@
 //! the tasks.
 ghost use Rattle.std.specs.Prelude.{◌≡◌, ◌≤◌, ◌<◌, ℕ, IsNone, IfSome};
 ghost use Rattle.line_rules.specs.Bounds.{total_bound, total_time, IsTooLong};
+ghost use Rattle.line_rules.specs.Accepted.{IsBelowAll};
 ghost use Rattle.line_rules.specs.Checked.{IsLeastWhere};
 
 use line_instance::Instance;
@@ -18,8 +19,19 @@ pub fn total_time(inst: &Instance) -> u64
     inst.sum(&inst.all())
 }
 
-/// The greater of 1 and the total time divided by the cycle, rounded up (Scholl's LM1). The cycle is at least 1.
+/// The greater of 1 and the total time divided by the cycle, rounded up (Scholl's LM1): no balance of either kind has fewer
+/// stations. The cycle is at least 1.
 pub fn total_bound(inst: &Instance, cycle: u64) -> u64
+    requires { 1 ≤ cycle }
+    ensures value { result ≡ total_bound inst.now cycle }
+    ensures below_all { IsBelowAll inst.now cycle result }
+{
+    let _tasks = inst.tasks();
+    by_total_time(inst, cycle)
+}
+
+// The same number, as it is computed.
+fn by_total_time(inst: &Instance, cycle: u64) -> u64
     requires { 1 ≤ cycle }
     ensures { result ≡ total_bound inst.now cycle }
 {

@@ -1,0 +1,2 @@
+pub mod BalanceText
+pub mod Balance

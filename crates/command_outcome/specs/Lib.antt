@@ -1,0 +1,5 @@
+pub mod Codes
+pub mod Print
+pub mod Outcome
+pub mod Output
+pub mod Ending

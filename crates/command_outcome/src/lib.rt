@@ -1,0 +1,17 @@
+//! What every command comes to: a status, a text that is put, and the file that it writes where it writes one.
+//!
+//! A command gives a [`Report`], or a [`Stop`] that says why there is none or why it came early. [`finish`] puts it. So a command
+//! itself never puts anything, and its contract speaks of an outcome: the status, the text and the written page.
+#![tactic(auto)]
+
+mod output;
+mod print;
+mod report;
+mod status;
+#[cfg(test)]
+mod tests;
+
+pub use output::finish;
+pub use print::{line_about, push_number, push_printed};
+pub use report::{Report, Stop, refuse};
+pub use status::Status;

@@ -1,0 +1,70 @@
+//! Certificates of files.
+ghost use Rattle.std.specs.Prelude.{◌≡◌, ◌≤◌, ℕ, List, IfOk, MatchResult};
+ghost use Rattle.line_io.specs.Outside.{Rises};
+ghost use Rattle.line_rules.specs.Ranges.{IsInRange};
+ghost use Rattle.command_outcome.specs.Outcome.{Stops, MayStop, outside};
+ghost use Rattle.input_files.specs.Certificate.{IsCertificateOf, IsNoCertificate, cert_fault_line, cert_kind_text};
+
+use cert_files::{CertFrom, cert_from};
+use cert_text::{CertFault, CertKind};
+use command_outcome::{Status, Stop, line_about, push_number, refuse};
+use line_io::Shelf;
+use line_rules::Certificate;
+use std::alloc::{AllocError, Global};
+
+/// The most bytes of a certificate's file: 2 GiB.
+const MAX_CERTIFICATE: u64 = 2_147_483_648;
+
+/// What is wrong with a line of a certificate.
+fn kind_text(kind: CertKind) -> &'static str
+    ensures { result.now ≡ cert_kind_text kind }
+{
+    match kind {
+        CertKind::Ended => "ended",
+        CertKind::Form => "form",
+        CertKind::Range => "range",
+        CertKind::Trailing => "trailing",
+    }
+}
+
+/// The line about the first fault of a certificate's text.
+fn cert_fault_line_of(alloc: Global, fault: CertFault) -> Result<Vec<u8>, AllocError>
+    ensures { IfOk result (λ t. t.items ≡ cert_fault_line fault) }
+{
+    let mut text = String::from_str(alloc, "certificate: line ")?;
+    push_number(&mut text, fault.line)?;
+    text.push_str(" ")?;
+    text.push_str(kind_text(fault.kind))?;
+    text.push_str("\n")?;
+    Ok(text.into_bytes())
+}
+
+/// The certificate of a file, within its ranges.
+pub fn certificate_of<S: Shelf>(
+    alloc: Global,
+    file: &str,
+    shelf: &mut S,
+) -> Result<Certificate, Stop>
+    ensures said { S.tells → MatchResult result (IsCertificateOf (S.file shelf.old) file.now) (Stops (IsNoCertificate (outside (S.file shelf.old) (S.blames shelf.new)) file.now)) }
+    ensures range { IfOk result IsInRange }
+    ensures fault { MatchResult result (λ _. Unit {0}) (MayStop (Rises (S.faults shelf.old) (S.faults shelf.new))) }
+    ensures count { S.faults shelf.old ≤ S.faults shelf.new }
+    ensures files { S.tells → (q : List ℕ) → S.file shelf.new q ≡ S.file shelf.old q }
+{
+    match cert_from(alloc, shelf, file, MAX_CERTIFICATE) {
+        CertFrom::Good(cert) => Ok(cert),
+        CertFrom::Fault(fault) => {
+            let text = cert_fault_line_of(alloc, fault)?;
+            Err(refuse(Status::Refused, text))
+        }
+        CertFrom::TooLong => {
+            let text = line_about(alloc, "input: ", file, " too long\n")?;
+            Err(refuse(Status::Input, text))
+        }
+        CertFrom::ReadFault => {
+            let text = line_about(alloc, "read fault: ", file, "\n")?;
+            Err(refuse(Status::ReadFault, text))
+        }
+        CertFrom::NoMemory => Err(Stop::Memory),
+    }
+}

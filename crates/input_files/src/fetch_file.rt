@@ -1,0 +1,33 @@
+//! A file, fetched whole within the limit of instance files.
+ghost use Rattle.std.specs.Prelude.{◌≡◌, ◌≤◌, ℕ, List, Some, length, MatchResult};
+ghost use Rattle.line_io.specs.Outside.{Rises};
+ghost use Rattle.command_outcome.specs.Outcome.{Stops, MayStop, outside};
+ghost use Rattle.input_files.specs.InputFile.{IsUntaken, max_file};
+
+use command_outcome::{Status, Stop, line_about, refuse};
+use line_io::{Shelf, Whole, read_whole};
+use std::alloc::Global;
+
+/// The most bytes of an instance file and of a file of pairs: 16 MiB.
+const MAX_FILE: u64 = 16_777_216;
+
+/// The bytes of a file.
+pub fn fetch<S: Shelf>(alloc: Global, file: &str, shelf: &mut S) -> Result<Vec<u8>, Stop>
+    ensures source { S.tells → MatchResult result (λ v. (S.file shelf.old file.now ≡ Some v.items) × (length v.items ≤ max_file)) (Stops (IsUntaken (outside (S.file shelf.old) (S.blames shelf.new)) max_file file.now)) }
+    ensures fault { MatchResult result (λ _. Unit {0}) (MayStop (Rises (S.faults shelf.old) (S.faults shelf.new))) }
+    ensures count { S.faults shelf.old ≤ S.faults shelf.new }
+    ensures files { S.tells → (q : List ℕ) → S.file shelf.new q ≡ S.file shelf.old q }
+{
+    match read_whole(alloc, shelf, file, MAX_FILE) {
+        Whole::Bytes(bytes) => Ok(bytes),
+        Whole::ReadFault => {
+            let text = line_about(alloc, "read fault: ", file, "\n")?;
+            Err(refuse(Status::ReadFault, text))
+        }
+        Whole::TooLong => {
+            let text = line_about(alloc, "input: ", file, " too long\n")?;
+            Err(refuse(Status::Input, text))
+        }
+        Whole::NoMemory => Err(Stop::Memory),
+    }
+}

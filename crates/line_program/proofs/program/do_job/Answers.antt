@@ -1,0 +1,37 @@
+use Rattle.std.proofs.Common.{◌≡◌, sym, subst, List, ℕ, Option, option_map}
+use Rattle.line_words.specs.declared.job.Job.{Job}
+use Rattle.command_outcome.specs.Outcome.{Files, Outside, Ends, outside}
+use Rattle.balance_command.specs.Balance.{IsBalanceOutcome}
+use Rattle.check_command.specs.Check.{IsCheckOutcome}
+use Rattle.convert_command.specs.Convert.{IsConvertOutcome}
+use Rattle.line_program.specs.Run.{IsJobOutcome}
+use Rattle.line_program.proofs.program.do_job.Goals as goal
+
+pub returns-in-Balance-clause-ends : goal.returns-in-Balance-clause-ends
+returns-in-Balance-clause-ends g c = λ t.
+    let o : Outside = outside (g.S.Shelf.file c.args.shelf.now) (g.S.Shelf.blames c.balance_report.new.shelf) in
+    let after : Files = g.S.Shelf.file c.balance_report.new.shelf in
+    let J : Job → Type 0 = λ j. Ends o (IsJobOutcome o j) after c.balance_report.result in
+    let F : List ℕ → Type 0 = λ f. Ends o (IsBalanceOutcome o f (option_map (λ a. a.now) c.name_of.result) c.in-Balance.cycle) after c.balance_report.result in
+    let A : Option (List ℕ) → Type 0 = λ a. Ends o (IsBalanceOutcome o c.in-Balance.file a c.in-Balance.cycle) after c.balance_report.result in
+    subst J (sym c.in-Balance.is) (subst A c.name_of.ensures (subst F c.text.ensures (c.balance_report.ensures.ends t)))
+
+pub returns-in-Check-clause-ends : goal.returns-in-Check-clause-ends
+returns-in-Check-clause-ends g c = λ t.
+    let o : Outside = outside (g.S.Shelf.file c.args.shelf.now) (g.S.Shelf.blames c.check_report.new.shelf) in
+    let after : Files = g.S.Shelf.file c.check_report.new.shelf in
+    let apart : Option (List ℕ) = option_map (λ a. a.now) c.name_of-in-Check.result in
+    let J : Job → Type 0 = λ j. Ends o (IsJobOutcome o j) after c.check_report.result in
+    let F : List ℕ → Type 0 = λ f. Ends o (IsCheckOutcome o f c.text-in-Check-2.result.now apart c.in-Check.steps) after c.check_report.result in
+    let C : List ℕ → Type 0 = λ f. Ends o (IsCheckOutcome o c.in-Check.file f apart c.in-Check.steps) after c.check_report.result in
+    let A : Option (List ℕ) → Type 0 = λ a. Ends o (IsCheckOutcome o c.in-Check.file c.in-Check.cert a c.in-Check.steps) after c.check_report.result in
+    subst J (sym c.in-Check.is) (subst A c.name_of-in-Check.ensures (subst C c.text-in-Check-2.ensures (subst F c.text-in-Check.ensures (c.check_report.ensures.ends t))))
+
+pub returns-in-Convert-clause-ends : goal.returns-in-Convert-clause-ends
+returns-in-Convert-clause-ends g c = λ t.
+    let o : Outside = outside (g.S.Shelf.file c.args.shelf.now) (g.S.Shelf.blames c.convert_report.new.shelf) in
+    let after : Files = g.S.Shelf.file c.convert_report.new.shelf in
+    let J : Job → Type 0 = λ j. Ends o (IsJobOutcome o j) after c.convert_report.result in
+    let F : List ℕ → Type 0 = λ f. Ends o (IsConvertOutcome o f c.text-in-Convert-2.result.now c.in-Convert.to c.in-Convert.cycle) after c.convert_report.result in
+    let N : List ℕ → Type 0 = λ n. Ends o (IsConvertOutcome o c.in-Convert.file n c.in-Convert.to c.in-Convert.cycle) after c.convert_report.result in
+    subst J (sym c.in-Convert.is) (subst N c.text-in-Convert-2.ensures (subst F c.text-in-Convert.ensures (c.convert_report.ensures.ends t)))

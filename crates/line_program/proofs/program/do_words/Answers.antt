@@ -1,0 +1,53 @@
+use Rattle.std.proofs.Common.{◌≡◌, ◌∙◌, inl, inr, sym, ap, refl, None, ℕ, List}
+use Rattle.line_words.specs.Texts.{usage_text}
+use Rattle.command_outcome.specs.Outcome.{Outside, Outcome, outside}
+use Rattle.command_outcome.specs.declared.status.Status.TheVariants as ends
+use Rattle.line_program.specs.Built.{unbuilt_line}
+use Rattle.line_program.specs.Run.{IsJobOutcome, IsAnswer, IsPage, IsPlainOutcome}
+use Rattle.line_program.proofs.RunFacts.{ends_as, plain_as, told_as}
+use Rattle.line_program.proofs.program.do_words.Goals as goal
+
+pub returns-in-Some-clause-ends : goal.returns-in-Some-clause-ends
+returns-in-Some-clause-ends g c = λ t. record {
+  page = None;
+  reached = inl (inr (
+    record { job = c.in-Good.job; asked = c.in-Good.ensures.read; part = c.in-Some.part.now; unbuilt = sym c.in-Some.ensures },
+    told_as _ ends.Usage _ (unbuilt_line c.in-Some.part.now) c.in_ok-unbuilt_report-in-Good.ensures.status c.in_ok-unbuilt_report-in-Good.ensures.text,
+  ));
+  written = λ q. refl;
+}
+
+pub returns-in-Some-clause-plain : goal.returns-in-Some-clause-plain
+returns-in-Some-clause-plain g c = inr (inl (inr (
+  record { job = c.in-Good.job; asked = c.in-Good.ensures.read; part = c.in-Some.part.now; unbuilt = sym c.in-Some.ensures },
+  told_as _ ends.Usage _ (unbuilt_line c.in-Some.part.now) c.in_ok-unbuilt_report-in-Good.ensures.status c.in_ok-unbuilt_report-in-Good.ensures.text,
+)))
+
+pub returns-in_default-clause-ends : goal.returns-in_default-clause-ends
+returns-in_default-clause-ends g c = λ t.
+    let o : Outside = outside (g.S.Shelf.file c.args.shelf.now) (g.S.Shelf.blames c.do_job.new.shelf) in
+    ends_as o (IsJobOutcome o c.in-Good.job) (IsAnswer _ o) (g.S.Shelf.file c.do_job.new.shelf) c.do_job.result
+    (λ out x. inr (record { job = c.in-Good.job; asked = c.in-Good.ensures.read; built = sym c.in_default.ensures; outcome = x }))
+    (c.do_job.ensures.ends t)
+
+pub returns-in_default-clause-plain : goal.returns-in_default-clause-plain
+returns-in_default-clause-plain g c = elim c.do_job.ensures.plain [
+  | inl f ↦ inl (record { job = c.in-Good.job; asked = c.in-Good.ensures.read; built = sym c.in_default.ensures; reads = f })
+  | inr p ↦ inr (plain_as (IsPage c.in-Good.job) (IsPlainOutcome _) c.do_job.result (λ out x. inr (inl (record { job = c.in-Good.job; asked = c.in-Good.ensures.read; page = x }))) p)
+]
+
+pub returns-in_ok-usage_report-in-Usage-clause-ends : goal.returns-in_ok-usage_report-in-Usage-clause-ends
+returns-in_ok-usage_report-in-Usage-clause-ends g c = λ t. record {
+  page = None;
+  reached = inl (inl (
+    record { index = c.in-Usage.index; kind = c.in-Usage.kind; fault = c.in-Usage.ensures.read },
+    told_as _ ends.Usage _ (usage_text c.in-Usage.index c.in-Usage.kind) c.in_ok-usage_report-in-Usage.ensures.status c.in_ok-usage_report-in-Usage.ensures.text,
+  ));
+  written = λ q. refl;
+}
+
+pub returns-in_ok-usage_report-in-Usage-clause-plain : goal.returns-in_ok-usage_report-in-Usage-clause-plain
+returns-in_ok-usage_report-in-Usage-clause-plain g c = inr (inl (inl (
+  record { index = c.in-Usage.index; kind = c.in-Usage.kind; fault = c.in-Usage.ensures.read },
+  told_as _ ends.Usage _ (usage_text c.in-Usage.index c.in-Usage.kind) c.in_ok-usage_report-in-Usage.ensures.status c.in_ok-usage_report-in-Usage.ensures.text,
+)))

@@ -1,0 +1,151 @@
+//! A run of the program: the words are read, the job that they ask for is done over the files, and one report is put.
+//!
+//! Each command is a crate of its own, whose contract says what it comes to; here they are only joined. A run goes in this order: the
+//! words; each named file, fetched and read in turn; the job; the file that it writes; one put of the whole report. The first refusal
+//! ends it.
+ghost use Rattle.std.specs.Prelude.{◌≡◌, ◌≢◌, ◌⊎◌, ℕ, List, Ok, Err, None, MatchResult, option_map};
+ghost use Rattle.line_io.specs.Outside.{Rises};
+ghost use Rattle.line_words.specs.Words.{texts};
+ghost use Rattle.line_words.specs.Ranges.{IsInRange};
+ghost use Rattle.command_outcome.specs.Outcome.{Ends, outside, told};
+ghost use Rattle.command_outcome.specs.Output.{IsOnePut, status_of};
+ghost use Rattle.command_outcome.specs.Ending.{IsEnding};
+ghost use Rattle.command_outcome.specs.declared.report.Stop.TheVariants.{Unwritten};
+ghost use Rattle.command_outcome.specs.declared.status.Status.TheVariants as ends;
+ghost use Rattle.line_program.specs.Built.{AskNothing, unbuilt};
+ghost use Rattle.line_program.specs.Run.{IsJobOutcome, IsAnswer, IsOutcome, IsPlainEnd, IsJobPlain, AsksFiles, IsPlainOutcome, IsPut, IsWriting, IsLeft, IsJobTrue, IsTrueRun, WritesFile};
+
+use crate::pages::{help_page, version_page};
+use crate::usage::{unbuilt, unbuilt_report, usage_report};
+use balance_command::balance_report;
+use check_command::check_report;
+use command_outcome::{Report, Status, Stop, finish};
+use convert_command::convert_report;
+use line_io::{Shelf, Sink};
+use line_words::{Job, JobRead, Name, job_of};
+use std::alloc::Global;
+use std::thread::Threads;
+
+/// The name of an optional file.
+fn name_of(name: &Option<Name>) -> Option<&str>
+    ensures { option_map (λ a. a.now) result ≡ name.now }
+{
+    match name {
+        Some(name) => Some(name.text()),
+        None => None,
+    }
+}
+
+/// The report of a page.
+fn page(text: Vec<u8>) -> Report
+    ensures { result ≡ record { status = ends.Done; text = text } }
+{
+    Report {
+        status: Status::Done,
+        text,
+    }
+}
+
+/// Does a job, all of which is built.
+fn do_job<R: Threads + Sync, S: Shelf>(
+    rt: &R,
+    alloc: Global,
+    job: &Job,
+    shelf: &mut S,
+) -> Result<Report, Stop>
+    requires built { unbuilt job.now ≡ None }
+    requires range { IsInRange job.now }
+    ensures ends { S.tells → Ends (outside (S.file shelf.old) (S.blames shelf.new)) (IsJobOutcome (outside (S.file shelf.old) (S.blames shelf.new)) job.now) (S.file shelf.new) result }
+    ensures plain { IsJobPlain job.now result }
+    ensures usage { status_of result ≢ ends.Usage }
+    ensures read { status_of result ≡ ends.ReadFault → Rises (S.faults shelf.old) (S.faults shelf.new) }
+    ensures write { status_of result ≡ ends.WriteFault → result ≡ Err Unwritten }
+    ensures unwritten { result ≡ Err Unwritten → WritesFile job.now × Rises (S.faults shelf.old) (S.faults shelf.new) }
+    ensures true_bounds { S.tells → status_of result ≡ ends.Done → IsJobTrue (S.file shelf.old) job.now }
+{
+    match job {
+        Job::Help => Ok(page(help_page(alloc)?)),
+        Job::Version => Ok(page(version_page(alloc)?)),
+        Job::Balance {
+            file,
+            cycle,
+            apart,
+            ..
+        } => balance_report(alloc, file.text(), name_of(apart), *cycle, shelf),
+        Job::Check {
+            file,
+            cert,
+            steps,
+            apart,
+        } => check_report(
+            rt,
+            alloc,
+            file.text(),
+            cert.text(),
+            name_of(apart),
+            *steps,
+            shelf,
+        ),
+        Job::Convert {
+            file,
+            out,
+            to,
+            cycle,
+        } => convert_report(alloc, file.text(), out.text(), *to, *cycle, shelf),
+        _ => unreachable!(),
+    }
+}
+
+/// Does what the words ask for.
+fn do_words<R: Threads + Sync, S: Shelf>(
+    rt: &R,
+    alloc: Global,
+    words: &[String],
+    shelf: &mut S,
+) -> Result<Report, Stop>
+    ensures ends { S.tells → Ends (outside (S.file shelf.old) (S.blames shelf.new)) (IsAnswer (texts words.now) (outside (S.file shelf.old) (S.blames shelf.new))) (S.file shelf.new) result }
+    ensures plain { AsksFiles (texts words.now) ⊎ IsPlainEnd (IsPlainOutcome (texts words.now)) result }
+    ensures usage { status_of result ≡ ends.Usage → AskNothing (texts words.now) }
+    ensures read { status_of result ≡ ends.ReadFault → Rises (S.faults shelf.old) (S.faults shelf.new) }
+    ensures write { status_of result ≡ ends.WriteFault → result ≡ Err Unwritten }
+    ensures unwritten { result ≡ Err Unwritten → IsWriting (texts words.now) × Rises (S.faults shelf.old) (S.faults shelf.new) }
+    ensures true_bounds { S.tells → status_of result ≡ ends.Done → IsTrueRun (texts words.now) (S.file shelf.old) }
+{
+    match job_of(alloc, words) {
+        JobRead::Good(job) => {
+            if let Some(part) = unbuilt(&job) {
+                return Ok(unbuilt_report(alloc, part)?);
+            }
+            do_job(rt, alloc, &job, shelf)
+        }
+        JobRead::Usage { index, kind } => Ok(usage_report(alloc, index, kind)?),
+        JobRead::NoMemory => Err(Stop::Memory),
+    }
+}
+
+/// Runs the program: reads the words, fetches the files that they name, writes the one that the job writes, and puts one report.
+///
+/// `--help` puts the page with all commands. `balance` puts the ranked balance of an instance at a cycle time, with the bound by total time
+/// and the idle time, or the least task that is longer than the cycle. `check` puts what the check of a certificate finds: what it accepts is
+/// true of the line. `convert` writes the canonical text of an instance in the other form, or of a certificate. A fault of the words is
+/// answered by the line `usage`, with the number of the word and what is wrong, and a job that isn't built by the line `not built`. Each
+/// refusal is one line, and nothing is put with it. All files stay but the one that a job writes.
+pub fn run<R: Threads + Sync, S: Shelf, K: Sink>(
+    rt: &R,
+    alloc: Global,
+    words: &[String],
+    shelf: &mut S,
+    out: &mut K,
+) -> Status
+    ensures ends { S.tells → K.tells → (let o = outside (S.file shelf.old) (S.blames shelf.new) in IsEnding o (IsOutcome (texts words.now) o) (record { status = result; files = S.file shelf.new; shown_before = K.shown out.old; shown = K.shown out.new; faults_before = K.faults out.old; faults = K.faults out.new })) }
+    ensures plain { K.tells → AsksFiles (texts words.now) ⊎ IsPut (IsPlainOutcome (texts words.now)) (K.shown out.old) (K.shown out.new) (K.faults out.old) (K.faults out.new) result }
+    ensures one_put { IsOnePut (K.puts out.old) (K.puts out.new) }
+    ensures usage { result ≡ ends.Usage → AskNothing (texts words.now) }
+    ensures read { result ≡ ends.ReadFault → Rises (S.faults shelf.old) (S.faults shelf.new) }
+    ensures write { result ≡ ends.WriteFault → Rises (K.faults out.old) (K.faults out.new) ⊎ (IsWriting (texts words.now) × Rises (S.faults shelf.old) (S.faults shelf.new)) }
+    ensures files { S.tells → (let o = outside (S.file shelf.old) (S.blames shelf.new) in IsLeft o (IsOutcome (texts words.now) o) result (S.file shelf.new)) }
+    ensures true_bounds { S.tells → result ≡ ends.Done → IsTrueRun (texts words.now) (S.file shelf.old) }
+{
+    let ended = do_words(rt, alloc, words, shelf);
+    finish(out, ended)
+}
