@@ -64,6 +64,22 @@ const SWAP: &[u8] =
 const TOGETHER: &[u8] =
     b"line balance certificate 2\nline straight\ntasks 2\ncycle 2\nlower 1\nupper 1\nbalance 1\n1\n1\nentries 0\ntrail 0\nend\n";
 
+/// Five tasks as a U-line: one refutation over 54 pairs of loads.
+const FIVE_AS_U: &[u8] =
+    b"line balance certificate 2\nline u\ntasks 5\ncycle 7\nlower 3\nupper 3\nbalance 3\n1 f\n2 f\n1 f\n2 f\n3 f\nentries 1\nbranch u 7 f8 2 -\ntrail 0\nend\n";
+
+/// The least cycle time of five tasks in two stations.
+const LEAST_CYCLE: &[u8] =
+    b"line balance certificate 2\nline straight\ntasks 5\nstations 2\nlower 8\nupper 8\nbalance 2\n1\n1\n2\n2\n2\nentries 1\nbranch f 7 f8 2 -\ntrail 0\nend\n";
+
+/// The same, stopped at cycle 7 before its last load.
+const STOPPED_CYCLE: &[u8] =
+    b"line balance certificate 2\nline straight\ntasks 5\nstations 2\nlower 7\nupper 8\nbalance 2\n1\n1\n2\n2\n2\nentries 1\nbound 6 f8 2\ntrail 1 at 7\nopen f f8 2 90 -\nend\n";
+
+/// Five tasks, refuted from the back.
+const FROM_THE_BACK: &[u8] =
+    b"line balance certificate 2\nline straight\ntasks 5\ncycle 7\nlower 3\nupper 3\nbalance 3\n1\n2\n1\n2\n3\nentries 1\nbranch b 7 f8 2 -\ntrail 0\nend\n";
+
 /// What a run with these words puts over an instance, a certificate and a file of pairs.
 fn run_over<R: Threads + Sync>(
     rt: &R,
@@ -337,5 +353,30 @@ fn a_certificate_is_lifted(rt: HostRuntime) -> Result<(), Fail> {
     assert_eq!(rt; text.as_str(), "certificate: line 1 form\n");
     assert_eq!(rt; status, Status::Refused);
     assert_eq!(rt; left.as_str(), "");
+    Ok(())
+}
+
+#[test]
+fn other_kinds_and_questions(rt: HostRuntime) -> Result<(), Fail> {
+    let rows: [(&[u8], &str); 4] = [
+        (FIVE_AS_U, "accepted u cycle 7 lower 3 upper 3 units 54\n"),
+        (
+            LEAST_CYCLE,
+            "accepted straight stations 2 lower 8 upper 8 units 15\n",
+        ),
+        (
+            STOPPED_CYCLE,
+            "accepted straight stations 2 lower 7 upper 8 units 14\n",
+        ),
+        (
+            FROM_THE_BACK,
+            "accepted straight cycle 7 lower 3 upper 3 units 15\n",
+        ),
+    ];
+    for (proof, wanted) in rows {
+        let (status, text) = run_over(&rt, rt.alloc(), CHECK, P5, proof, &[])?;
+        assert_eq!(rt; text.as_str(), wanted);
+        assert_eq!(rt; status, Status::Done);
+    }
     Ok(())
 }

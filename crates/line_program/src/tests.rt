@@ -466,3 +466,12 @@ fn a_conversion_that_cannot_write(rt: HostRuntime) -> Result<(), Fail> {
     assert!(rt; written.is_none());
     Ok(())
 }
+
+#[test]
+fn a_name_makes_no_second_line(rt: HostRuntime) -> Result<(), Fail> {
+    let words = ["balance", "x\nbalance 1", "cycle=7"];
+    let (status, text) = run_over(&rt, rt.alloc(), &words, P5, &[], &[])?;
+    assert_eq!(rt; status, Status::ReadFault);
+    assert_eq!(rt; text.as_str(), "read fault: x?balance 1\n");
+    Ok(())
+}
