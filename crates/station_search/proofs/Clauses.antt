@@ -1,11 +1,11 @@
 -- From the account of a search to what is said of its costs, clause by clause.
-use Rattle.std.proofs.Common.{◌≡◌, ℕ, ◌+◌, ◌<◌, ◌≤◌, Bool, true, false, inl, inr, List, [], ◌∷◌, ◌++◌, length, refl, sym, ap, ◌∙◌, subst, arith, Some}
+use Rattle.std.proofs.Common.{◌≡◌, ℕ, ◌+◌, ◌<◌, ◌≤◌, Bool, true, false, inl, inr, List, [], ◌++◌, length, sym, ap, ◌∙◌, subst, arith, Some}
 use Rattle.std.specs.Prelude.{slice_get, IsTrue, ◌↔◌}
 use Rattle.std.proofs.lemmas.Bool.{cases_lt, false≢true}
 use Rattle.task_set.specs.Truths.{IsEmpty}
 use Rattle.line_instance.specs.Line.{Line}
 use Rattle.line_rules.specs.Bounds.{bound}
-use Rattle.line_rules.specs.Entries.{Answers, HasAnswer, IsUnanswered}
+use Rattle.line_rules.specs.Entries.{HasAnswer, IsUnanswered}
 use Rattle.line_rules.specs.Seats.{AreSeated}
 use Rattle.line_rules.specs.Units.{UnitsOf}
 use Rattle.line_rules.specs.declared.types.LineKind.{LineKind}
@@ -22,8 +22,9 @@ use Rattle.station_search.specs.Costs.{HasPublished, PaysExactly, PaysWithin, Co
 use Rattle.station_search.specs.Work.{Does, Accounts, Balances, Ends}
 use Rattle.station_search.specs.declared.answers.Decided.{Decided}
 use Rattle.station_search.specs.declared.answers.Decided.TheVariants as decided
-use Rattle.station_search.proofs.Events.{entries_longer, for_still}
-use Rattle.station_search.proofs.Paying.{does_waits, does_then, units_among, units_paid}
+use Rattle.lemma_core.proofs.OwnFacts.{entries_more}
+use Rattle.station_search.proofs.Events.{for_still}
+use Rattle.station_search.proofs.Paying.{does_then, units_among, units_paid}
 
 module _ (kind : LineKind) (line : Line) (X : ℕ) where
   own_does : (old new : DeskView) (items : List Item) (n : ℕ) → Does kind line X old new items n → HasPublished kind line X old new
@@ -120,7 +121,7 @@ pub not_known : (old new : DeskView) (line : Line) (kind : LineKind) (R : List B
 not_known old new line kind R most X f k u h =
     let C : ℕ → Type 0 = λ z. IsUnanswered (entries new) R most z in
     let un : IsUnanswered (entries new) R most X = subst C (for_still old new line kind X f k).same_cycle u in
-    let m : (more : List Entry) × (entries new ≡ entries old ++ more) = entries_longer old new k in
+    let m : (more : List Entry) × (entries new ≡ entries old ++ more) = entries_more old new k in
     let P : List Entry → Type 0 = λ z. slice_get z h.0 ≡ Some h.1 in
     un h.0 h.1 (subst P (sym m.1) (get_longer (entries old) m.0 h.0 h.1 h.2.0)) h.2.1
 

@@ -1,28 +1,24 @@
 -- What steps of a search publish and pay, one after the other.
-use Rattle.std.proofs.Common.{◌≡◌, ℕ, zero, suc, ◌+◌, ◌<◌, ◌≤◌, Bool, true, List, [], ◌∷◌, ◌++◌, length, refl, sym, ap, ◌∙◌, subst, inl, inr, arith, Option, Some, None, length-append}
+use Rattle.std.proofs.Common.{◌≡◌, ℕ, zero, suc, ◌+◌, ◌≤◌, Bool, true, List, [], ◌∷◌, ◌++◌, length, refl, sym, ap, ◌∙◌, subst, inl, inr, arith, Some, length-append}
 use Rattle.std.specs.Prelude.{slice_get}
 use Rattle.line_instance.specs.Line.{Line}
 use Rattle.line_rules.specs.Loads.{IsLoad}
 use Rattle.line_rules.specs.Order.{Counts}
-use Rattle.line_rules.specs.Units.{UnitsBy, UnitsOf, UnitsIn}
+use Rattle.line_rules.specs.Units.{UnitsBy, UnitsOf}
 use Rattle.line_rules.specs.Entries.{Answers, IsUnanswered, IsLastAnswer}
 use Rattle.line_rules.specs.declared.types.LineKind.{LineKind}
 use Rattle.line_rules.specs.declared.types.Mode.{Mode}
-use Rattle.line_rules.specs.declared.types.Load.{Load}
 use Rattle.line_rules.specs.declared.types.Entry.{Entry}
-use Rattle.line_rules.specs.declared.types.OpenFrame.{OpenFrame}
 use Rattle.line_rules.proofs.Grown.{get_longer}
 use Rattle.lemma_core.specs.History.{Item, added, known, better}
 use Rattle.lemma_core.specs.Desks.{DeskView, entries, entries_after, Keeps, Waits, Adds}
-use Rattle.lemma_core.specs.Own.{Did, ArePublish, added_of}
+use Rattle.lemma_core.specs.Own.{added_of}
 use Rattle.station_search.specs.Mode.{mode_of}
 use Rattle.station_search.specs.Costs.{HasMode, AreLemmas, HasLoads, Pays, PayAll}
 use Rattle.station_search.specs.Work.{Does, AllAdded, AreOfSet, DoesFor}
-use Rattle.station_search.proofs.Events.{appended, get_append_cases, did_waits, did_adds, did_both, publish_both, added_both, entries_longer, entries_more, known_answers}
-
-nothing : (xs : List Item) → xs ++ [] ≡ xs
-nothing [] = refl
-nothing (x ∷ xs) = ap (λ (ys : List Item). x ∷ ys) (nothing xs)
+use Rattle.lemma_core.proofs.HistoryGrows.{keeps_none}
+use Rattle.lemma_core.proofs.OwnFacts.{did_none, did_waits, did_adds, did_both, saw_none, saw_waits, saw_adds, saw_both, entries_more, entries_added}
+use Rattle.station_search.proofs.Events.{get_append_cases, publish_both, added_both, known_answers}
 
 pays_longer : (kind : LineKind) (line : Line) (X : ℕ) (es more : List Entry) (i : Item) (n : ℕ) → Pays kind line X es i n → Pays kind line X (es ++ more) i n
 pays_longer kind line X es more (added id e) n p = p
@@ -80,16 +76,16 @@ no_loads line c mode R = record { loads = []; rises = λ k a b e d. absurd (cc);
 module _ (kind : LineKind) (line : Line) (X : ℕ) where
   pub does_waits : (old new : DeskView) → Waits old new → Does kind line X old new [] 0
   does_waits old new w = record {
-    did = did_waits old new w;
+    did = did_waits old old new [] (did_none old) w;
     publishes = tt;
     lemmas = tt;
     paid = refl;
-    alone = λ t. w.still t ∙ sym (nothing old.seen);
+    alone = saw_waits old old new [] (keeps_none old) (saw_none old) w;
   }
 
   pub does_both : (a b c : DeskView) (xs ys : List Item) (m n : ℕ) → Keeps a b → Keeps b c → Does kind line X a b xs m → Does kind line X b c ys n → Does kind line X a c (xs ++ ys) (m + n)
   does_both a b c xs ys m n k l d e =
-      let h : (more : List Entry) × (entries c ≡ entries b ++ more) = entries_longer b c l in
+      let h : (more : List Entry) × (entries c ≡ entries b ++ more) = entries_more b c l in
       let P : List Entry → Type 0 = λ z. PayAll kind line X z xs m in
       let Q : List Entry → Type 0 = λ z. AreLemmas kind line X z in
       record {
@@ -97,7 +93,7 @@ module _ (kind : LineKind) (line : Line) (X : ℕ) where
         publishes = publish_both xs ys d.publishes e.publishes;
         lemmas = subst Q (sym (added_both xs ys)) (lemmas_both kind line X (added_of xs) (added_of ys) d.lemmas e.lemmas);
         paid = pay_both kind line X (entries c) xs ys m n (subst P (sym h.1) (pay_longer kind line X (entries b) h.0 xs m d.paid)) e.paid;
-        alone = λ t. e.alone (k.alone ∙ t) ∙ (ap (λ (z : List Item). z ++ ys) (d.alone t) ∙ appended a.seen xs ys);
+        alone = saw_both a b c xs ys k d.alone e.alone;
       }
 
   -- what is done after a call that added no event
@@ -115,11 +111,11 @@ module _ (kind : LineKind) (line : Line) (X : ℕ) where
   one_added old new before id e T n a cycle mode units set = record {
     items = added id e ∷ [];
     done = record {
-      did = did_adds old new before (added id e) a;
+      did = did_adds old old new [] before (added id e) (keeps_none old) (did_none old) a;
       publishes = (tt, tt);
       lemmas = (cycle, mode, tt);
       paid = (n, 0, (units, refl, omega arith));
-      alone = λ t. a.last ∙ ap (λ (z : List Item). z ++ added id e ∷ []) (a.still t);
+      alone = saw_adds old old new [] before (added id e) (keeps_none old) (saw_none old) a;
     };
     few = omega arith;
     of_set = (set, tt);
@@ -134,11 +130,11 @@ module _ (kind : LineKind) (line : Line) (X : ℕ) where
       record {
         items = known id m ∷ [];
         done = record {
-          did = did_adds old new before (known id m) a;
+          did = did_adds old old new [] before (known id m) (keeps_none old) (did_none old) a;
           publishes = (tt, tt);
           lemmas = tt;
           paid = (n, 0, ((s.entry, s.there, subst H (sym s.answers.same) loads), refl, omega arith));
-          alone = λ t. a.last ∙ ap (λ (z : List Item). z ++ known id m ∷ []) (a.still t);
+          alone = saw_adds old old new [] before (known id m) (keeps_none old) (saw_none old) a;
         };
         few = omega arith;
         of_set = tt;
@@ -159,7 +155,7 @@ pub unanswered_still : (kind : LineKind) (line : Line) (X : ℕ) (old new : Desk
     → IsUnanswered (entries old) set most X → IsUnanswered (entries new) set most X
 unanswered_still kind line X old new T many n set most alone k d differs un =
     let P : List Entry → Type 0 = λ z. IsUnanswered z set most X in
-    subst P (sym (entries_more old new d.items k (d.done.alone alone))) (λ j e g a. elim (get_append_cases (entries old) (added_of d.items) j e g) [
+    subst P (sym (entries_added old new d.items k (d.done.alone alone))) (λ j e g a. elim (get_append_cases (entries old) (added_of d.items) j e g) [
       | inl h ↦ un j e h a
       | inr h ↦ of_another T set most X (added_of d.items) h.0 e differs d.of_set h.1 a
     ])

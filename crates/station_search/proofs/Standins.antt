@@ -1,19 +1,16 @@
 -- A partner stands in for a task.
-use Rattle.std.proofs.Common.{◌≡◌, ℕ, zero, suc, ◌+◌, ◌<◌, ◌≤◌, Bool, true, false, List, [], ◌∷◌, ◌++◌, length, refl, sym, ap, ◌∙◌, subst, inl, inr, arith, Some, None, Option}
-use Rattle.std.specs.Prelude.{slice_get, slice_set, slice_index_or}
-use Rattle.std.proofs.lemmas.Bool.{false≢true}
+use Rattle.std.proofs.Common.{◌≡◌, ℕ, zero, suc, Bool, true, false, List, [], ◌∷◌, sym, ◌∙◌, subst, inl, inr, arith, Some, Option}
+use Rattle.std.specs.Prelude.{slice_get, slice_set}
 use Rattle.std.proofs.lemmas.Option.{slice_get_within}
-use Rattle.task_set.specs.Truths.{In, IsSubset}
+use Rattle.task_set.specs.Truths.{In}
 use Rattle.task_set.proofs.Members.{In-set_cases, In-clear_gone}
-use Rattle.line_instance.specs.Line.{Line, IsTaskSet, tasks, has}
+use Rattle.line_instance.specs.Line.{Line, has}
 use Rattle.line_instance.specs.Walks.{at}
-use Rattle.line_instance.specs.Partners.{IsPartner, AreKept, IsKeptAt}
-use Rattle.line_rules.specs.Entries.{Answers, IsLastAnswer, IsUnanswered, Cites, FollowsBySwap}
+use Rattle.line_instance.specs.Partners.{IsPartner, IsKeptAt}
+use Rattle.line_rules.specs.Entries.{IsLastAnswer, IsUnanswered, FollowsBySwap}
 use Rattle.line_rules.specs.declared.types.LineKind.{LineKind}
 use Rattle.line_rules.specs.declared.types.Entry.{Entry}
-use Rattle.lemma_core.specs.History.{Item}
 use Rattle.lemma_core.specs.Desks.{DeskView, entries, Keeps, Waits}
-use Rattle.station_search.specs.Decide.{IsAnswered}
 use Rattle.station_search.specs.Work.{DoesFor, swap_of}
 use Rattle.station_search.proofs.Events.{entries_same}
 use Rattle.station_search.proofs.Paying.{does_then}

@@ -13,8 +13,8 @@ use Rattle.line_rules.specs.declared.types.LineKind.{LineKind}
 use Rattle.line_rules.specs.declared.types.Load.{Load}
 use Rattle.line_rules.specs.declared.types.Entry.{Entry}
 use Rattle.line_rules.specs.declared.types.OpenFrame.{OpenFrame}
-use Rattle.line_rules.proofs.Covering.{covers_same, covers_none, get_last}
-use Rattle.line_rules.proofs.Grown.{get_longer, get_push_cases}
+use Rattle.line_rules.proofs.Covering.{covers_same, covers_none}
+use Rattle.line_rules.proofs.ListFacts.{get_longer, get_push_cases, get_last}
 use Rattle.line_rules.proofs.Paths.{all_up_to, covers_pass, covers_skip, covers_cite, leads_push, leads_pop, leads_longer, deep_longer, rest_inside}
 use Rattle.station_search.specs.Mode.{mode_of}
 use Rattle.station_search.specs.Decide.{IsAnswered}

@@ -12,8 +12,8 @@ use Rattle.line_rules.specs.declared.types.LineKind.{LineKind}
 use Rattle.line_rules.specs.declared.types.Load.{Load}
 use Rattle.line_rules.specs.declared.types.Entry.{Entry}
 use Rattle.line_rules.specs.declared.types.OpenFrame.{OpenFrame}
-use Rattle.line_rules.proofs.Covering.{counts_none, counts_same, get_last}
-use Rattle.line_rules.proofs.Grown.{get_longer, get_push_cases}
+use Rattle.line_rules.proofs.Covering.{counts_none, counts_same}
+use Rattle.line_rules.proofs.ListFacts.{get_longer, get_push_cases, get_last}
 use Rattle.line_rules.proofs.Paths.{units_push, units_push_frame, units_pop_frame, all_up_to, rest_inside, rest_without, leads_inside}
 use Rattle.lemma_core.specs.History.{Item}
 use Rattle.lemma_core.specs.Desks.{DeskView, entries, Keeps}

@@ -1,5 +1,5 @@
 -- The turns of the loop of a search, over the values before and after them.
-use Rattle.std.proofs.Common.{◌≡◌, ℕ, ◌+◌, ◌-◌, ◌≤◌, Bool, true, List, [], ◌∷◌, ◌++◌, length, refl, sym, ap, ◌∙◌, subst, arith, Some, None, inl, inr, length-append}
+use Rattle.std.proofs.Common.{◌≡◌, ℕ, ◌+◌, ◌-◌, ◌≤◌, Bool, true, List, [], ◌∷◌, ◌++◌, length, sym, ap, ◌∙◌, subst, arith, None, inl, inr, length-append}
 use Rattle.std.specs.Prelude.{slice_get}
 use Rattle.task_set.specs.Truths.{In, IsEmpty}
 use Rattle.line_instance.specs.Line.{Line, IsTaskSet, IsRanked}
@@ -7,7 +7,7 @@ use Rattle.line_rules.specs.Loads.{IsLoad, Belongs, rest}
 use Rattle.line_rules.specs.Bounds.{bound}
 use Rattle.line_rules.specs.Order.{Counts, After, IsFollowing}
 use Rattle.line_rules.specs.Entries.{IsOpen, IsUnanswered}
-use Rattle.line_rules.specs.Trails.{LastIsLoad, Leads, IsTrail}
+use Rattle.line_rules.specs.Trails.{Leads, IsTrail}
 use Rattle.line_rules.specs.Seats.{seated, AreSeated}
 use Rattle.line_rules.specs.declared.types.LineKind.{LineKind}
 use Rattle.line_rules.specs.declared.types.Load.{Load}
@@ -15,18 +15,18 @@ use Rattle.line_rules.specs.declared.types.Entry.{Entry}
 use Rattle.line_rules.specs.declared.types.OpenFrame.{OpenFrame}
 use Rattle.line_rules.proofs.Nonempty.{bound_some, member_or_empty}
 use Rattle.line_rules.proofs.Grown.{get_push_cases}
-use Rattle.line_rules.proofs.Covering.{get_last}
+use Rattle.line_rules.proofs.ListFacts.{get_last}
 use Rattle.line_rules.proofs.Paths.{leads_depth}
 use Rattle.line_rules.proofs.Seated.{path_seated, seated_long, seated_none}
 use Rattle.lemma_core.specs.Desks.{DeskView, entries, Keeps}
 use Rattle.station_load.specs.Walking.{Walking, IsWalk}
 use Rattle.station_search.specs.Mode.{mode_of}
-use Rattle.station_search.specs.Decide.{Stops, HasFurther, HaveModes}
+use Rattle.station_search.specs.Decide.{Stops, HaveModes}
 use Rattle.station_search.specs.Costs.{AreUnanswered}
 use Rattle.station_search.specs.Work.{IsBeside, with_last, with_cites, may_add, DoesFor, Accounts, Balances}
 use Rattle.station_search.specs.declared.sorting.Sorted.{Sorted}
 use Rattle.station_search.specs.declared.sorting.Sorted.TheVariants as sorted
-use Rattle.station_search.proofs.Events.{entries_longer}
+use Rattle.lemma_core.proofs.OwnFacts.{entries_more}
 use Rattle.station_search.proofs.States.{IsSearching, starts, longer, goes_down, holds_on, trail, rest_tasks}
 use Rattle.station_search.proofs.Tallies.{Tally, tally_starts, tally_lists, tally_down, tally_stops, accounts, all_listed}
 
@@ -48,7 +48,7 @@ module _ (kind : LineKind) (line : Line) (ranked : IsRanked line) (X : ℕ) (R :
   -- the search's state over the entries that are there after a call
   pub grown : (old new : DeskView) (passed : List OpenFrame) (frame : OpenFrame) → Keeps old new → IsSearching kind line X (entries old) R most passed frame → IsSearching kind line X (entries new) R most passed frame
   grown old new passed frame k s =
-      let h : (more : List Entry) × (entries new ≡ entries old ++ more) = entries_longer old new k in
+      let h : (more : List Entry) × (entries new ≡ entries old ++ more) = entries_more old new k in
       let P : List Entry → Type 0 = λ z. IsSearching kind line X z R most passed frame in
       subst P (sym h.1) (longer kind line ranked X R most (entries old) h.0 passed frame s)
 

@@ -1,5 +1,5 @@
 -- What a call of `decide` publishes on its desk, and how that pays for the units that it uses.
-use Rattle.std.specs.Prelude.{◌≡◌, ℕ, suc, ◌+◌, ◌≤◌, Bool, true, List, [], ◌∷◌, ◌++◌, length, slice_get, Some}
+use Rattle.std.specs.Prelude.{◌≡◌, ℕ, suc, ◌+◌, ◌≤◌, Bool, List, [], ◌∷◌, ◌++◌, length, slice_get, Some}
 use Rattle.line_instance.specs.Line.{Line}
 use Rattle.line_rules.specs.Loads.{IsLoad}
 use Rattle.line_rules.specs.Order.{Precedes}

@@ -1,4 +1,4 @@
-use Rattle.std.proofs.Common.{◌≡◌, ℕ, ◌-◌, ◌∙◌, ◌++◌, sym, ap, ◌≤◌, List, [], length, Bool, subst, arith, inl, inr}
+use Rattle.std.proofs.Common.{◌-◌, ◌∙◌, sym, List, [], subst, inl, inr}
 use Rattle.std.proofs.lemmas.Bool.{false≢true}
 use Rattle.line_rules.proofs.Nonempty.{member_or_empty}
 use Rattle.line_rules.specs.Bounds.{bound}

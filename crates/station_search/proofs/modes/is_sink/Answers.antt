@@ -1,4 +1,4 @@
-use Rattle.std.proofs.Common.{ℕ, Bool, List, subst}
+use Rattle.std.proofs.Common.{Bool, List, subst}
 use Rattle.std.specs.Prelude.{IsTrue, ◌↔◌}
 use Rattle.task_set.specs.Truths.{IsEmpty}
 use Rattle.line_instance.specs.Line.{is_before}

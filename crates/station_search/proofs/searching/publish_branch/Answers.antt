@@ -1,7 +1,6 @@
-use Rattle.std.proofs.Common.{◌≡◌, ℕ, List, Bool, refl, subst}
+use Rattle.std.proofs.Common.{refl, subst}
 use Rattle.line_rules.specs.declared.types.Mode.{Mode}
 use Rattle.lemma_core.specs.History.{known}
-use Rattle.station_search.specs.Mode.{mode_of}
 use Rattle.station_search.specs.Costs.{HasLoads}
 use Rattle.station_search.specs.Work.{branch_of}
 use Rattle.station_search.proofs.Events.{known_answers, added_answers}

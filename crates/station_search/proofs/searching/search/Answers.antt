@@ -1,11 +1,11 @@
-use Rattle.std.proofs.Common.{◌≡◌, ℕ, ◌+◌, ◌-◌, ◌≤◌, Bool, List, [], ◌∷◌, ◌++◌, length, refl, sym, ap, ◌∙◌, subst, arith, length-append}
+use Rattle.std.proofs.Common.{◌+◌, ◌-◌, Bool, List, [], ◌∷◌, length, refl, sym, ap, ◌∙◌, subst, arith, length-append}
 use Rattle.line_instance.specs.Line.{Line, IsTaskSet}
 use Rattle.line_rules.specs.Loads.{rest}
 use Rattle.line_rules.specs.Entries.{Follows}
 use Rattle.line_rules.specs.declared.types.LineKind.{LineKind}
 use Rattle.line_rules.specs.declared.types.OpenFrame.{OpenFrame}
 use Rattle.lemma_core.specs.Desks.{DeskView, entries}
-use Rattle.lemma_core.proofs.GoingOn.{keeps_none, keeps_both}
+use Rattle.lemma_core.proofs.HistoryGrows.{keeps_none, keeps_both}
 use Rattle.station_search.specs.Decide.{IsFor}
 use Rattle.station_search.specs.Work.{branch_of, with_last, may_add, Sorts, Accounts}
 use Rattle.station_search.specs.declared.sorting.Sorted.{Sorted}

@@ -1,8 +1,8 @@
 use Rattle.std.proofs.Common.{ℕ, List, Bool, ap, ◌∙◌, sym, subst}
 use Rattle.task_set.specs.Truths.{minus}
-use Rattle.line_instance.specs.Line.{Line, IsTaskSet}
+use Rattle.line_instance.specs.Line.{IsTaskSet}
 use Rattle.line_rules.specs.Loads.{rest}
-use Rattle.lemma_core.proofs.GoingOn.{keeps_both}
+use Rattle.lemma_core.proofs.HistoryGrows.{keeps_both}
 use Rattle.station_search.specs.Work.{DoesFor, may_swap}
 use Rattle.station_search.proofs.Events.{waits_none}
 use Rattle.station_search.proofs.Standins.{does_for_then}

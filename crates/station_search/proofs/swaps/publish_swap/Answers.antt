@@ -1,4 +1,4 @@
-use Rattle.std.proofs.Common.{◌≡◌, ◌∙◌, sym, refl}
+use Rattle.std.proofs.Common.{◌∙◌, sym, refl}
 use Rattle.lemma_core.specs.History.{known}
 use Rattle.station_search.specs.Mode.{mode_of}
 use Rattle.station_search.specs.Work.{swap_of}

@@ -1,7 +1,7 @@
-use Rattle.std.proofs.Common.{◌≡◌, ◌∙◌, sym, ap, true, Bool, List}
+use Rattle.std.proofs.Common.{◌∙◌, sym, ap, true, Bool, List}
 use Rattle.std.specs.Prelude.{slice_set}
 use Rattle.lemma_core.specs.Desks.{entries, Keeps}
-use Rattle.lemma_core.proofs.GoingOn.{keeps_both}
+use Rattle.lemma_core.proofs.HistoryGrows.{keeps_both}
 use Rattle.station_search.proofs.Events.{for_still}
 use Rattle.station_search.proofs.Standins.{kept_partner, stands_in}
 use Rattle.station_search.proofs.swaps.swap_out.Goals as goal
