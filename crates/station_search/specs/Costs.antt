@@ -50,16 +50,19 @@ pub record HasLoads (line : Line) (c : ℕ) (mode : Mode) (R : List Bool) (n : �
 -- loads of its set at the cycle X, in the mode of the set.
 abbrev pub Pays : LineKind → Line → ℕ → List Entry → Item → ℕ → Type 0
 Pays kind line X es (added id e) n = UnitsBy line e e.why n
-Pays kind line X es (known id most) n = (e : Entry) × (slice_get es id ≡ Some e) × HasLoads line X (mode_of kind line e.set) e.set n
+Pays kind line X es (known id most) n =
+    (e : Entry) × (slice_get es id ≡ Some e) × HasLoads line X (mode_of kind line e.set) e.set n
 Pays kind line X es (better m) n = n ≡ 0
 
 -- the sum of what the items pay
 abbrev pub PayAll : LineKind → Line → ℕ → List Entry → List Item → ℕ → Type 0
 PayAll kind line X es [] n = n ≡ 0
-PayAll kind line X es (i ∷ is) n = (a : ℕ) × (b : ℕ) × (Pays kind line X es i a × PayAll kind line X es is b × (n ≡ a + b))
+PayAll kind line X es (i ∷ is) n =
+    (a : ℕ) × (b : ℕ) × (Pays kind line X es i a × PayAll kind line X es is b × (n ≡ a + b))
 
 -- every unit used is paid for: the own events and the frames answered pay them all
-pub record PaysExactly (kind : LineKind) (line : Line) (X : ℕ) (old new : DeskView) (frames : List OpenFrame) (used : ℕ) : Type 0 where
+pub record PaysExactly (kind : LineKind) (line : Line) (X : ℕ) (old new : DeskView) (frames : List OpenFrame) (used : ℕ)
+    : Type 0 where
   pub items : List Item
   pub did : Did old new items
   pub published : ℕ
@@ -69,7 +72,8 @@ pub record PaysExactly (kind : LineKind) (line : Line) (X : ℕ) (old new : Desk
   pub sum : published + listed ≡ used
 
 -- the own events and the frames answered pay for units used, and for no more
-pub record PaysWithin (kind : LineKind) (line : Line) (X : ℕ) (old new : DeskView) (frames : List OpenFrame) (used : ℕ) : Type 0 where
+pub record PaysWithin (kind : LineKind) (line : Line) (X : ℕ) (old new : DeskView) (frames : List OpenFrame) (used : ℕ)
+    : Type 0 where
   pub items : List Item
   pub did : Did old new items
   pub published : ℕ

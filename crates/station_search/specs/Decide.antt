@@ -32,7 +32,8 @@ pub record IsAnswered (es : List Entry) (id : ℕ) (set : List Bool) (most cycle
 -- the deepest frame has a further load after its last
 abbrev pub HasFurther : Line → ℕ → List OpenFrame → Type 0
 HasFurther line X frames =
-    (k : ℕ) (f : OpenFrame) → slice_get frames k ≡ Some f → length frames ≡ suc k → (l : Load) × IsLoad line X f.mode f.set l × After line f.last l
+    (k : ℕ) (f : OpenFrame) → slice_get frames k ≡ Some f → length frames ≡ suc k
+    → (l : Load) × IsLoad line X f.mode f.set l × After line f.last l
 
 -- each frame has the mode of its set
 abbrev pub HaveModes : LineKind → Line → List OpenFrame → Type 0
@@ -40,7 +41,8 @@ HaveModes kind line frames = (k : ℕ) (f : OpenFrame) → slice_get frames k �
 
 -- A search that stopped: its trail leads from the question of R in `most` stations, which the bound leaves open; no
 -- unit is left, and one more load is needed.
-pub record Stops (kind : LineKind) (line : Line) (X : ℕ) (es : List Entry) (R : List Bool) (most left : ℕ) (frames : List OpenFrame) : Type 0 where
+pub record Stops (kind : LineKind) (line : Line) (X : ℕ) (es : List Entry) (R : List Bool) (most left : ℕ)
+    (frames : List OpenFrame) : Type 0 where
   pub bounded : bound kind line X R ≤ most
   pub trail : IsTrail kind line X es R most frames
   pub spent : left ≡ 0
@@ -52,8 +54,10 @@ pub record Stops (kind : LineKind) (line : Line) (X : ℕ) (es : List Entry) (R 
 -- loads; the units ended; or memory did.
 abbrev pub Decides : LineKind → Line → ℕ → List Entry → List Bool → ℕ → ℕ → Decided → Type 0
 Decides kind line X es R most left (decided.Refuted reason.ByBound) = most < bound kind line X R
-Decides kind line X es R most left (decided.Refuted (reason.ByEntry id)) = (bound kind line X R ≤ most) × IsAnswered es id R most X
-Decides kind line X es R most left (decided.Found loads) = (bound kind line X R ≤ most) × (length loads ≤ most) × AreSeated kind line X R loads
+Decides kind line X es R most left (decided.Refuted (reason.ByEntry id)) =
+    (bound kind line X R ≤ most) × IsAnswered es id R most X
+Decides kind line X es R most left (decided.Found loads) =
+    (bound kind line X R ≤ most) × (length loads ≤ most) × AreSeated kind line X R loads
 Decides kind line X es R most left (decided.Spent frames) = Stops kind line X es R most left frames
 Decides kind line X es R most left (decided.NoMemory frames) = Unit {0}
 

@@ -47,10 +47,12 @@ swap_of X set most cite out into = record { set = set; most = most; cycle = X; w
 -- open, and no entry answers it where the desk is alone.
 abbrev pub Sorts : LineKind → Line → ℕ → Bool → List Entry → OpenFrame → Load → Sorted → Type 0
 Sorts kind line X alone es f l sorted.Closed = IsOpen kind line X f.mode f.set f.most l → ⊥
-Sorts kind line X alone es f l (sorted.Covered id) = IsOpen kind line X f.mode f.set f.most l × Cites es id (rest f.set l) (f.most - 1) X
+Sorts kind line X alone es f l (sorted.Covered id) =
+    IsOpen kind line X f.mode f.set f.most l × Cites es id (rest f.set l) (f.most - 1) X
 Sorts kind line X alone es f l sorted.Empty = IsOpen kind line X f.mode f.set f.most l × IsEmpty (rest f.set l)
 Sorts kind line X alone es f l (sorted.Open set) =
-    IsOpen kind line X f.mode f.set f.most l × (set ≡ rest f.set l) × (IsEmpty set → ⊥) × (alone ≡ true → IsUnanswered es set (f.most - 1) X)
+    IsOpen kind line X f.mode f.set f.most l × (set ≡ rest f.set l) × (IsEmpty set → ⊥)
+    × (alone ≡ true → IsUnanswered es set (f.most - 1) X)
 
 -- What was done on a desk: these own events, which paid so much; a desk that is alone saw nothing else.
 pub record Does (kind : LineKind) (line : Line) (X : ℕ) (old new : DeskView) (items : List Item) (n : ℕ) : Type 0 where
@@ -73,7 +75,8 @@ AreOfSet T [] = Unit {0}
 AreOfSet T (e ∷ es) = (e.set ≡ T) × AreOfSet T es
 
 -- Publishes of entries of the set T, of which at most so many were added: all, where the desk is alone.
-pub record DoesFor (kind : LineKind) (line : Line) (X : ℕ) (old new : DeskView) (T : List Bool) (most n : ℕ) : Type 0 where
+pub record DoesFor (kind : LineKind) (line : Line) (X : ℕ) (old new : DeskView) (T : List Bool) (most n : ℕ)
+    : Type 0 where
   pub items : List Item
   pub done : Does kind line X old new items n
   pub few : length (added_of items) ≤ most
@@ -93,7 +96,8 @@ may_swap None = 0
 may_swap (Some id) = 1
 
 -- the account of a search: what was done and the frames pay for units used, and the entries added are at most so many
-pub record Accounts (kind : LineKind) (line : Line) (X : ℕ) (old new : DeskView) (frames : List OpenFrame) (used most : ℕ) : Type 0 where
+pub record Accounts (kind : LineKind) (line : Line) (X : ℕ) (old new : DeskView) (frames : List OpenFrame) (used most : ℕ)
+    : Type 0 where
   pub items : List Item
   pub published : ℕ
   pub listed : ℕ
@@ -103,7 +107,8 @@ pub record Accounts (kind : LineKind) (line : Line) (X : ℕ) (old new : DeskVie
   pub few : length (added_of items) ≤ most
 
 -- all units used are paid for, and a desk that is alone added an entry with each event
-pub record Balances (kind : LineKind) (line : Line) (X : ℕ) (old new : DeskView) (frames : List OpenFrame) (used most : ℕ) : Type 0 where
+pub record Balances (kind : LineKind) (line : Line) (X : ℕ) (old new : DeskView) (frames : List OpenFrame) (used most : ℕ)
+    : Type 0 where
   pub items : List Item
   pub published : ℕ
   pub listed : ℕ

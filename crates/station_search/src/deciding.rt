@@ -42,10 +42,15 @@ pub fn decide<D: Desk>(
     ensures units { units.new.used + units.new.left ≡ units.old.used + units.old.left }
     ensures own { HasPublished kind inst.now cycle (D.desk desk.old) (D.desk desk.new) }
     ensures decides { Decides kind inst.now cycle (entries (D.desk desk.new)) set.now most units.new.left result }
-    ensures known { bound kind inst.now cycle set.now ≤ most → HasAnswer (entries (D.desk desk.old)) set.now most cycle → IsByEntry result × (units.new.used ≡ units.old.used) }
-    ensures costs { Costs kind inst.now cycle (D.desk desk.old) (D.desk desk.new) (units.new.used - units.old.used) result }
-    ensures alone { (D.desk desk.old).alone ≡ true → CostsAlone inst.now cycle (D.desk desk.old) (D.desk desk.new) (units.new.used - units.old.used) result }
-    ensures few { FewAdded inst.now cycle (D.desk desk.old) (D.desk desk.new) (units.new.used - units.old.used) result }
+    ensures known { bound kind inst.now cycle set.now ≤ most
+        → HasAnswer (entries (D.desk desk.old)) set.now most cycle
+        → IsByEntry result × (units.new.used ≡ units.old.used) }
+    ensures costs { let used = units.new.used - units.old.used in
+        Costs kind inst.now cycle (D.desk desk.old) (D.desk desk.new) used result }
+    ensures alone { let used = units.new.used - units.old.used in
+        (D.desk desk.old).alone ≡ true → CostsAlone inst.now cycle (D.desk desk.old) (D.desk desk.new) used result }
+    ensures few { let used = units.new.used - units.old.used in
+        FewAdded inst.now cycle (D.desk desk.old) (D.desk desk.new) used result }
 {
     if exceeds(inst, kind, cycle, set, most) {
         return Decided::Refuted(Reason::ByBound);

@@ -79,7 +79,9 @@ pub fn balance_of(
     ensures stations { IfOk result (λ b. b.stations ≡ stations) }
     ensures each { IfOk result (λ b. length b.place ≡ tasks inst.now) }
     ensures placed { IfOk result (λ b. IsPlacement kind loads.now (seat b.place)) }
-    ensures right { IfOk result (λ b. (c : ℕ) → AreSeated kind inst.now c (all_tasks inst.now) loads.now → IsRight kind inst.now c b) }
+    ensures right { IfOk result (λ b. (c : ℕ)
+        → AreSeated kind inst.now c (all_tasks inst.now) loads.now
+        → IsRight kind inst.now c b) }
 {
     let tasks = inst.tasks();
     let mut place = Vec::with_capacity(alloc, tasks as usize)?;

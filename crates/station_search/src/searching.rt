@@ -2,7 +2,8 @@
 //!
 //! A frame is a question: whether its set has a balance in so many stations. Its loads are listed in order. The rest of
 //! a load that nothing refutes is the question of a frame below. A frame whose loads ended is refuted, and published.
-ghost use Rattle.std.specs.Prelude.{◌≡◌, ℕ, ◌+◌, ◌-◌, ◌^◌, ◌<◌, ◌≤◌, true, IfOk, OnOk, OnErr, None, List, [], ◌∷◌, ◌++◌};
+ghost use Rattle.std.specs.Prelude.{◌≡◌, ℕ, ◌+◌, ◌-◌, ◌^◌, ◌<◌, ◌≤◌, true, List, [], ◌∷◌, ◌++◌};
+ghost use Rattle.std.specs.Prelude.{IfOk, OnOk, OnErr, None};
 ghost use Rattle.task_set.specs.Truths.{In};
 ghost use Rattle.line_instance.specs.Line.{Line, IsTaskSet};
 ghost use Rattle.line_rules.specs.Bounds.{bound};
@@ -37,7 +38,11 @@ fn publish_branch<D: Desk>(desk: &mut D, cycle: u64, frame: OpenFrame) -> Result
     ensures keeps { Keeps (D.desk desk.old) (D.desk desk.new) }
     ensures waits { OnErr result (Waits (D.desk desk.old) (D.desk desk.new)) }
     ensures answered { IfOk result (λ id. IsAnswered (entries (D.desk desk.new)) id frame.set frame.most cycle) }
-    ensures publishes { (kind : Kind) (line : Line) (n : ℕ) → frame.mode ≡ mode_of kind line frame.set → Counts line (IsLoad line cycle frame.mode frame.set) n → ((D.desk desk.old).alone ≡ true → IsUnanswered (entries (D.desk desk.old)) frame.set frame.most cycle) → OnOk result (DoesFor kind line cycle (D.desk desk.old) (D.desk desk.new) frame.set 1 n) }
+    ensures publishes { (kind : Kind) (line : Line) (n : ℕ)
+        → frame.mode ≡ mode_of kind line frame.set
+        → Counts line (IsLoad line cycle frame.mode frame.set) n
+        → ((D.desk desk.old).alone ≡ true → IsUnanswered (entries (D.desk desk.old)) frame.set frame.most cycle)
+        → OnOk result (DoesFor kind line cycle (D.desk desk.old) (D.desk desk.new) frame.set 1 n) }
 {
     let step = Entry {
         set: frame.set,
@@ -95,9 +100,12 @@ pub fn search<D: Desk>(
     requires units { units.old.used + units.old.left < 2 ^ 64 }
     ensures keeps { Keeps (D.desk desk.old) (D.desk desk.new) }
     ensures units { units.new.used + units.new.left ≡ units.old.used + units.old.left }
-    ensures decides { IfOk result (Decides kind inst.now cycle (entries (D.desk desk.new)) set.now most units.new.left) }
-    ensures ends { IfOk result (Ends kind inst.now cycle (D.desk desk.old) (D.desk desk.new) (units.new.used - units.old.used)) }
-    ensures accounts { OnErr result (Accounts kind inst.now cycle (D.desk desk.old) (D.desk desk.new) [] (units.new.used - units.old.used) (units.new.used - units.old.used)) }
+    ensures decides { IfOk result
+        (Decides kind inst.now cycle (entries (D.desk desk.new)) set.now most units.new.left) }
+    ensures ends { IfOk result
+        (Ends kind inst.now cycle (D.desk desk.old) (D.desk desk.new) (units.new.used - units.old.used)) }
+    ensures accounts { let used = units.new.used - units.old.used in
+        OnErr result (Accounts kind inst.now cycle (D.desk desk.old) (D.desk desk.new) [] used used) }
 {
     let _tasks = inst.tasks();
     let mut passed: Vec<OpenFrame> = Vec::new(alloc);

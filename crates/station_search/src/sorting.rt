@@ -33,7 +33,8 @@ pub enum Sorted {
 /// The load after the last one of a frame, by the walk beside it.
 pub fn next_load(inst: &Instance, cycle: u64, frame: &OpenFrame, walk: &mut Walk) -> Option<Load>
     requires { IsBeside inst.now cycle frame.now walk.old }
-    ensures none { IsNone result → (l : Pair) → IsLoad inst.now cycle frame.now.mode frame.now.set l → After inst.now frame.now.last l → ⊥ }
+    ensures none { IsNone result → (l : Pair)
+        → IsLoad inst.now cycle frame.now.mode frame.now.set l → After inst.now frame.now.last l → ⊥ }
     ensures next { IfSome result (IsFollowing inst.now cycle frame.now.mode frame.now.set frame.now.last) }
     ensures beside { IfSome result (λ l. IsBeside inst.now cycle (with_last frame.now l) walk.new) }
 {
@@ -59,9 +60,12 @@ pub fn sort_load<D: Desk>(
     requires some { 1 ≤ frame.now.most }
     requires few { frame.now.most ≤ 1024 }
     ensures keeps { Keeps (D.desk desk.old) (D.desk desk.new) }
-    ensures publishes { IfOk result (λ s. DoesFor kind inst.now cycle (D.desk desk.old) (D.desk desk.new) (rest frame.now.set load.now) (may_add s) 0) }
-    ensures fails { OnErr result (DoesFor kind inst.now cycle (D.desk desk.old) (D.desk desk.new) (rest frame.now.set load.now) 0 0) }
-    ensures sorts { IfOk result (Sorts kind inst.now cycle (D.desk desk.old).alone (entries (D.desk desk.new)) frame.now load.now) }
+    ensures publishes { let rest = rest frame.now.set load.now in
+        IfOk result (λ s. DoesFor kind inst.now cycle (D.desk desk.old) (D.desk desk.new) rest (may_add s) 0) }
+    ensures fails { let rest = rest frame.now.set load.now in
+        OnErr result (DoesFor kind inst.now cycle (D.desk desk.old) (D.desk desk.new) rest 0 0) }
+    ensures sorts { IfOk result
+        (Sorts kind inst.now cycle (D.desk desk.old).alone (entries (D.desk desk.new)) frame.now load.now) }
 {
     if !walk.full(inst) {
         return Ok(Sorted::Closed);

@@ -49,7 +49,8 @@ fn swap_out<D: Desk>(
     requires set { IsTaskSet inst.now set.now }
     requires task { In set.now out_task }
     ensures waits { Waits (D.desk desk.old) (D.desk desk.new) }
-    ensures found { IfSome result (λ s. FollowsBySwap inst.now (entries (D.desk desk.new)) (swap_of cycle set.now most s.cite s.out_task s.in_task) s.cite s.out_task s.in_task) }
+    ensures found { IfSome result (λ s. let swap = swap_of cycle set.now most s.cite s.out_task s.in_task in
+        FollowsBySwap inst.now (entries (D.desk desk.new)) swap s.cite s.out_task s.in_task) }
 {
     let _tasks = inst.tasks();
     for k in 0..MAX_PARTNERS {
@@ -90,7 +91,8 @@ fn find_swap<D: Desk>(
     requires desk { IsFor (D.desk desk.old) inst.now kind cycle }
     requires set { IsTaskSet inst.now set.now }
     ensures waits { Waits (D.desk desk.old) (D.desk desk.new) }
-    ensures found { IfSome result (λ s. FollowsBySwap inst.now (entries (D.desk desk.new)) (swap_of cycle set.now most s.cite s.out_task s.in_task) s.cite s.out_task s.in_task) }
+    ensures found { IfSome result (λ s. let swap = swap_of cycle set.now most s.cite s.out_task s.in_task in
+        FollowsBySwap inst.now (entries (D.desk desk.new)) swap s.cite s.out_task s.in_task) }
 {
     let mut looks = MAX_LOOKS;
     for task in set {
@@ -120,10 +122,13 @@ pub fn publish_swap<D: Desk>(
     requires few { most ≤ 1024 }
     requires unanswered { (D.desk desk.old).alone ≡ true → IsUnanswered (entries (D.desk desk.old)) set.now most cycle }
     ensures keeps { Keeps (D.desk desk.old) (D.desk desk.new) }
-    ensures publishes { IfOk result (λ found. DoesFor kind inst.now cycle (D.desk desk.old) (D.desk desk.new) set.now (may_swap found) 0) }
+    ensures publishes { IfOk result (λ found.
+        DoesFor kind inst.now cycle (D.desk desk.old) (D.desk desk.new) set.now (may_swap found) 0) }
     ensures fails { OnErr result (Waits (D.desk desk.old) (D.desk desk.new)) }
-    ensures answered { IfOk result (λ found. IfSome found (λ id. IsAnswered (entries (D.desk desk.new)) id set.now most cycle)) }
-    ensures unanswered { IfOk result (λ found. IsNone found → (D.desk desk.old).alone ≡ true → IsUnanswered (entries (D.desk desk.new)) set.now most cycle) }
+    ensures answered { IfOk result (λ found.
+        IfSome found (λ id. IsAnswered (entries (D.desk desk.new)) id set.now most cycle)) }
+    ensures unanswered { IfOk result (λ found. IsNone found
+        → (D.desk desk.old).alone ≡ true → IsUnanswered (entries (D.desk desk.new)) set.now most cycle) }
 {
     let Some(swap) = find_swap(desk, inst, kind, cycle, set, most) else {
         return Ok(None);

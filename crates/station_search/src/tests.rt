@@ -214,14 +214,16 @@ fn refutes_six_tasks(rt: HostRuntime) -> Result<(), Fail> {
     Ok(())
 }
 
+// What refutes seven tasks in four stations: the third entry is by Swap.
+const SEVEN: &str =
+    "entry 3 used 48|branch Fore {2, 3, 4, 5, 6} 2|branch Fore {0, 2, 3, 4, 5, 6} 3 0|\
+    swap {1, 2, 3, 4, 5, 6} 3 1 1 0|branch Fore {0, 1, 2, 3, 4, 5, 6} 4 1 2|";
+
 #[test]
 fn refutes_seven_tasks_with_a_swap(rt: HostRuntime) -> Result<(), Fail> {
     let alloc = rt.alloc();
     let text = answer(alloc, &seven(alloc)?, LineKind::Straight, 4, 48)?;
-    assert_eq!(rt;
-        text.as_str(),
-        "entry 3 used 48|branch Fore {2, 3, 4, 5, 6} 2|branch Fore {0, 2, 3, 4, 5, 6} 3 0|swap {1, 2, 3, 4, 5, 6} 3 1 1 0|branch Fore {0, 1, 2, 3, 4, 5, 6} 4 1 2|"
-    );
+    assert_eq!(rt; text.as_str(), SEVEN);
     Ok(())
 }
 
