@@ -1,9 +1,9 @@
 -- What a command ends with that is stopped, or that reports.
-use Rattle.std.proofs.Common.{◌≡◌, ℕ, List, None, refl}
+use Rattle.std.proofs.Common.{None}
 use Rattle.std.specs.Result.{IfOk}
 use Rattle.std.specs.declared.result.Result.{Result}
 use Rattle.std.specs.declared.result.Result.TheVariants.{Ok, Err}
-use Rattle.command_outcome.specs.Outcome.{Files, Outside, Outcome, Comes, Ends, Stay, Stops, told}
+use Rattle.command_outcome.specs.Outcome.{Files, Outside, Outcome, Ends, Stay, Stops, told}
 use Rattle.command_outcome.specs.declared.report.Stop.{Stop}
 use Rattle.command_outcome.specs.declared.report.Stop.TheVariants as stop
 

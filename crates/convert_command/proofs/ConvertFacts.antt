@@ -1,5 +1,5 @@
 -- What is left where a file was written, and where it could not be.
-use Rattle.std.proofs.Common.{◌≡◌, ◌≢◌, ◌∙◌, ℕ, Bool, true, List, Option, Some, refl, sym, ap, subst}
+use Rattle.std.proofs.Common.{◌≡◌, ◌≢◌, ◌∙◌, ℕ, Bool, true, List, Option, Some, refl, sym, subst}
 use Rattle.line_io.specs.Whole.{IsPrefixWritten}
 use Rattle.command_outcome.specs.Outcome.{Files, Outcome, Comes, IsCut, outside}
 use Rattle.command_outcome.specs.declared.status.Status.{Status}

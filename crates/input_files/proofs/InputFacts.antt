@@ -1,5 +1,5 @@
 -- What is read in the bytes of a file, and files that are the same.
-use Rattle.std.proofs.Common.{◌≡◌, ◌≢◌, ◌∙◌, ℕ, ◌≤◌, List, length, Option, Some, None, Bor, option_map, sym, subst, ap, ◌↔◌, inl, inr}
+use Rattle.std.proofs.Common.{◌≡◌, ◌≢◌, ◌∙◌, ℕ, ◌≤◌, List, length, Option, Some, None, Bor, sym, subst, ap, ◌↔◌, inl, inr}
 use Rattle.line_instance.specs.Line.{Line, Apart, tasks}
 use Rattle.line_instance.specs.Walks.{IsGiven}
 use Rattle.line_instance.specs.declared.arcs.Prec.{Prec}
@@ -15,8 +15,8 @@ use Rattle.cert_files.specs.From.{IsCertFrom}
 use Rattle.cert_files.specs.declared.fetching.CertFrom.TheVariants.{Fault}
 use Rattle.command_outcome.specs.Outcome.{Files, told}
 use Rattle.command_outcome.specs.declared.status.Status.TheVariants as ends
-use Rattle.input_files.specs.InputFile.{Has, Reads}
-use Rattle.input_files.specs.Instance.{Parts, IsPartedBy}
+use Rattle.input_files.specs.InputFile.{Reads}
+use Rattle.input_files.specs.Instance.{Parts}
 use Rattle.input_files.specs.Certificate.{IsFaultyCertificate, IsTextOf, cert_fault_line}
 
 -- a file of these bytes reads as they do

@@ -1,6 +1,6 @@
-use Rattle.std.proofs.Common.{◌≡◌, ◌∙◌, ap, inl, subst, sym, ℕ, List}
+use Rattle.std.proofs.Common.{◌≡◌, ◌∙◌, ap, inl, subst, ℕ}
 use Rattle.line_rules.specs.Accepted.{IsBelowAll}
-use Rattle.line_rules.specs.Bounds.{total_bound, idle_time}
+use Rattle.line_rules.specs.Bounds.{total_bound}
 use Rattle.command_outcome.specs.Outcome.{told}
 use Rattle.command_outcome.specs.declared.status.Status.TheVariants as ends
 use Rattle.command_outcome.proofs.OutcomeFacts.{ok_as}

@@ -1,5 +1,5 @@
-use Rattle.std.proofs.Common.{◌≡◌, ◌∙◌, ap, inl, subst, sym, List, ℕ, Option, None, option_map}
-use Rattle.command_outcome.specs.Outcome.{Files, Outcome, told}
+use Rattle.std.proofs.Common.{◌≡◌, ◌∙◌, ap, inl, subst, List, ℕ, Option, None}
+use Rattle.command_outcome.specs.Outcome.{Files, told}
 use Rattle.command_outcome.specs.declared.status.Status.{Status}
 use Rattle.input_files.specs.InputFile.{Reads, max_certificate}
 use Rattle.input_files.specs.Certificate.{IsTextOf}

@@ -1,4 +1,4 @@
-use Rattle.std.proofs.Common.{◌≡◌, ◌∙◌, ap, inl, inr, refl, List, ℕ}
+use Rattle.std.proofs.Common.{inl, inr, refl}
 use Rattle.cert_text.specs.Cert.{cert_text}
 use Rattle.line_words.specs.declared.job.FormWord.TheVariants.{Cert}
 use Rattle.command_outcome.specs.Outcome.{Outcome, outside}

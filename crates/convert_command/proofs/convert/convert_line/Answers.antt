@@ -1,4 +1,4 @@
-use Rattle.std.proofs.Common.{◌≡◌, ◌∙◌, ap, inl, refl, subst, List, ℕ, Some}
+use Rattle.std.proofs.Common.{◌∙◌, ap, inl, refl, subst, List, ℕ, Some}
 use Rattle.line_io.specs.Whole.{IsPrefixWritten}
 use Rattle.command_outcome.specs.Outcome.{Outcome, outside}
 use Rattle.convert_command.specs.Convert.{IsConvertOutcome, IsTextIn}
