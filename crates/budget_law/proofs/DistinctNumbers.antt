@@ -1,5 +1,6 @@
 -- Lists of numbers of which no two are equal.
-use Rattle.std.proofs.Common.{◌≡◌, ℕ, ◌<◌, ◌≤◌, true, false, Bool, ◌||◌, List, [], ◌∷◌, ◌++◌, length, refl, sym, ◌⊎◌, inl, inr}
+use Rattle.std.proofs.Common.{◌≡◌, ℕ, ◌<◌, ◌≤◌, true, false, Bool, ◌||◌, List, [], ◌∷◌, ◌++◌, length, refl, sym, ◌⊎◌}
+use Rattle.std.proofs.Common.{inl, inr}
 use Rattle.std.specs.Prelude.{eqb}
 use Rattle.std.specs.List.{IsDistinct, AllByRecursion, list_any}
 use Rattle.std.proofs.lemmas.Map.Steps.{length-le_from_distinct_below}
@@ -22,7 +23,10 @@ has_append (x ∷ xs) ys z (inr h) = elim (has_append xs ys z h) [ inl a ↦ inl
 
 pub differ_append : (xs ys : List ℕ) → Differ xs → Differ ys → ((z : ℕ) → Has xs z → Has ys z → ⊥) → Differ (xs ++ ys)
 differ_append [] ys p q r = q
-differ_append (x ∷ xs) ys p q r = (λ h. elim (has_append xs ys x h) [ inl a ↦ p.0 a | inr b ↦ r x (inl refl) b ], differ_append xs ys p.1 q (λ z a b. r z (inr a) b))
+differ_append (x ∷ xs) ys p q r = (
+  λ h. elim (has_append xs ys x h) [ inl a ↦ p.0 a | inr b ↦ r x (inl refl) b ],
+  differ_append xs ys p.1 q (λ z a b. r z (inr a) b),
+)
 
 all_differ : (x : ℕ) (xs : List ℕ) → (Has xs x → ⊥) → AllByRecursion (λ y. eqb x y ≡ false) xs
 all_differ x [] h = tt
@@ -39,7 +43,8 @@ or_parts false b e = inr e
 
 has_any : (q : ℕ) (xs : List ℕ) → list_any (eqb q) xs ≡ true → Has xs q
 has_any q [] e = false≢true e
-has_any q (x ∷ xs) e = elim (or_parts (eqb q x) (list_any (eqb q) xs) e) [ inl a ↦ inl (sym (eqb-true q x a)) | inr b ↦ inr (has_any q xs b) ]
+has_any q (x ∷ xs) e = elim (or_parts (eqb q x) (list_any (eqb q) xs) e)
+    [ inl a ↦ inl (sym (eqb-true q x a)) | inr b ↦ inr (has_any q xs b) ]
 
 -- different numbers below n are at most n
 pub few_below : (xs : List ℕ) (n : ℕ) → Differ xs → ((q : ℕ) → Has xs q → q < n) → length xs ≤ n

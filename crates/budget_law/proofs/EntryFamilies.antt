@@ -1,5 +1,6 @@
--- The families of the entries of a cycle: of each entry by Branch its set, its number of stations and the loads of its set.
-use Rattle.std.proofs.Common.{◌≡◌, ℕ, zero, suc, ◌+◌, ◌<◌, true, false, Bool, cond, List, [], ◌∷◌, length, take, refl, sym, ap, ◌∙◌, subst, inl, inr, arith, Some}
+-- The families of the entries of a cycle: of each entry by Branch its set, its stations and the loads of its set.
+use Rattle.std.proofs.Common.{◌≡◌, ℕ, zero, suc, ◌+◌, ◌<◌, true, false, Bool, cond, List, [], ◌∷◌, length, take, refl}
+use Rattle.std.proofs.Common.{sym, ap, ◌∙◌, subst, inl, inr, arith, Some}
 use Rattle.std.specs.Prelude.{nat_eq, slice_get}
 use Rattle.std.proofs.lemmas.Bool.{cases_lt, eqb-true}
 use Rattle.task_set.specs.Truths.{In}
@@ -33,27 +34,39 @@ record IsKnown (kind : LineKind) (line : Line) (e : Entry) : Type 0 where
   mode : HasMode kind e.why
 
 -- a set of tasks that each fit a station, with no balance in `most` stations: these are fewer than the tasks
-most_below : (kind : LineKind) (line : Line) → IsLine line → IsRanked line → (X : ℕ) → ((i : ℕ) → IsTooLong line X i → ⊥) → (R : List Bool) → IsTaskSet line R → (most : ℕ) → Holds kind line X R most → most < tasks line
+most_below : (kind : LineKind) (line : Line) → IsLine line → IsRanked line → (X : ℕ)
+    → ((i : ℕ) → IsTooLong line X i → ⊥) → (R : List Bool) → IsTaskSet line R → (most : ℕ) → Holds kind line X R most
+    → most < tasks line
 most_below kind line ok ranked X short R set most h =
-    let alone : (place : ℕ → Seatplace) × IsBalance kind line X R (tasks line) place × ((i j : ℕ) → In R i → In R j → (place i).station ≡ (place j).station → i ≡ j) =
-    stands_alone kind line X R ok ranked set (λ i m. elim (cases_lt X (time line i)) [ inl l ↦ absurd (short i (set.tasks i m, l)) | inr g ↦ g ]) in
+    let alone : (place : ℕ → Seatplace) × IsBalance kind line X R (tasks line) place
+    × ((i j : ℕ) → In R i → In R j → (place i).station ≡ (place j).station → i ≡ j) =
+    stands_alone kind line X R ok ranked set (λ i m. elim (cases_lt X (time line i))
+    [ inl l ↦ absurd (short i (set.tasks i m, l)) | inr g ↦ g ]) in
     elim (cases_lt most (tasks line)) [
       | inl l ↦ l
-      | inr g ↦ absurd (h alone.0 (restricted kind line X X R R (tasks line) most alone.0 (omega arith) g (λ i m. m) alone.1))
+      | inr g ↦ absurd (h alone.0 (restricted kind line X X R R (tasks line) most alone.0 (omega arith) g (λ i m. m)
+          alone.1))
     ]
 
-has_mode : (kind : LineKind) (line : Line) (es : List Entry) (e : Entry) (w : Why) → FollowsBy kind line es e w → HasMode kind w
+has_mode : (kind : LineKind) (line : Line) (es : List Entry) (e : Entry) (w : Why) → FollowsBy kind line es e w
+    → HasMode kind w
 unfolding HasMode
 has_mode kind line es e why.Bound f = tt
 has_mode kind line es e (why.Branch mode cites) f = f.belongs
 has_mode kind line es e (why.Swap cite out into) f = tt
 
-known : (kind : LineKind) (line : Line) → IsLine line → IsRanked line → (X : ℕ) → ((i : ℕ) → IsTooLong line X i → ⊥) → (es : List Entry) → IsDerived kind line es
+known : (kind : LineKind) (line : Line) → IsLine line → IsRanked line → (X : ℕ) → ((i : ℕ) → IsTooLong line X i → ⊥)
+    → (es : List Entry) → IsDerived kind line es
     → (k : ℕ) (e : Entry) → slice_get es k ≡ Some e → e.cycle ≡ X → IsKnown kind line e
 known kind line ok ranked X short es d k e g c =
     let f : Follows kind line (take k es) e = d k e g in
     let P : ℕ → Type 0 = λ z. Holds kind line z e.set e.most in
-    record { set = f.set; most = most_below kind line ok ranked X short e.set f.set e.most (subst P c (sound kind line ok es d k e g)); mode = has_mode kind line (take k es) e e.why f.by }
+    record {
+      set = f.set;
+      most = most_below kind line ok ranked X short e.set f.set e.most
+          (subst P c (sound kind line ok es d k e g));
+      mode = has_mode kind line (take k es) e e.why f.by;
+    }
 
 -- an entry of cycle X with the question of a family
 record Comes (X : ℕ) (es : List Entry) (f : Family) : Type 0 where
@@ -82,11 +95,19 @@ module _ (kind : LineKind) (line : Line) (X : ℕ) where
   later e es f h = record {
     family = h.family;
     below = h.below;
-    comes = record { at = suc h.comes.at; entry = h.comes.entry; there = h.comes.there; cycle = h.comes.cycle; set = h.comes.set; most = h.comes.most };
+    comes = record {
+      at = suc h.comes.at;
+      entry = h.comes.entry;
+      there = h.comes.there;
+      cycle = h.comes.cycle;
+      set = h.comes.set;
+      most = h.comes.most;
+    };
   }
 
   -- an entry without units
-  without : (e : Entry) (es : List Entry) (units b : ℕ) → units ≡ b → FromEntries kind line X es b → FromEntries kind line X (e ∷ es) units
+  without : (e : Entry) (es : List Entry) (units b : ℕ) → units ≡ b → FromEntries kind line X es b
+      → FromEntries kind line X (e ∷ es) units
   without e es units b s h = record {
     families = h.families;
     sum = h.sum ∙ sym s;
@@ -94,12 +115,18 @@ module _ (kind : LineKind) (line : Line) (X : ℕ) where
     different = h.different;
   }
 
-  module _ (e : Entry) (es : List Entry) (b : ℕ) (f : Family) (is : IsFamily kind line X f) (below : f.number < tasks line) (cycle : e.cycle ≡ X) (set : e.set ≡ f.set) (most : e.most ≡ f.number) (h : FromEntries kind line X es b) where
+  module _ (e : Entry) (es : List Entry) (b : ℕ) (f : Family) (is : IsFamily kind line X f)
+      (below : f.number < tasks line) (cycle : e.cycle ≡ X) (set : e.set ≡ f.set) (most : e.most ≡ f.number)
+      (h : FromEntries kind line X es b) where
     each_more : (k : ℕ) (g : Family) → slice_get (f ∷ h.families) k ≡ Some g → IsOfEntry kind line X (e ∷ es) g
     each_more zero g p =
         let q : f ≡ g = cc in
         let P : Family → Type 0 = λ z. IsOfEntry kind line X (e ∷ es) z in
-        subst P q (record { family = is; below = below; comes = record { at = 0; entry = e; there = refl; cycle = cycle; set = set; most = most } })
+        subst P q (record {
+          family = is;
+          below = below;
+          comes = record { at = 0; entry = e; there = refl; cycle = cycle; set = set; most = most };
+        })
     each_more (suc k) g p = later e es g (h.each k g p)
 
     different_more : IsFreshAt X (e ∷ es) → AreDifferent (f ∷ h.families)
@@ -116,11 +143,18 @@ module _ (kind : LineKind) (line : Line) (X : ℕ) where
     different_more fresh (suc j) zero x y l p q u v = omega (arith, l)
     different_more fresh (suc j) (suc k) x y l p q u v = h.different j k x y (omega (arith, l)) p q u v
 
-    with_family : (units : ℕ) → units ≡ length f.loads + b → IsFreshAt X (e ∷ es) → FromEntries kind line X (e ∷ es) units
-    with_family units s fresh = record { families = f ∷ h.families; sum = omega (arith, h.sum, s); each = each_more; different = different_more fresh }
+    with_family : (units : ℕ) → units ≡ length f.loads + b → IsFreshAt X (e ∷ es)
+        → FromEntries kind line X (e ∷ es) units
+    with_family units s fresh = record {
+      families = f ∷ h.families;
+      sum = omega (arith, h.sum, s);
+      each = each_more;
+      different = different_more fresh;
+    }
 
   -- an entry of the cycle, by its way
-  by_way : (e : Entry) (es : List Entry) (units a b : ℕ) (w : Why) → IsTaskSet line e.set → e.most < tasks line → HasMode kind w → e.cycle ≡ X → UnitsBy line e w a → units ≡ a + b
+  by_way : (e : Entry) (es : List Entry) (units a b : ℕ) (w : Why) → IsTaskSet line e.set → e.most < tasks line
+      → HasMode kind w → e.cycle ≡ X → UnitsBy line e w a → units ≡ a + b
       → IsFreshAt X (e ∷ es) → FromEntries kind line X es b → FromEntries kind line X (e ∷ es) units
   unfolding HasMode
   by_way e es units a b why.Bound set most mode c u sum fresh h = without e es units b (omega (arith, sum, u)) h
@@ -129,31 +163,49 @@ module _ (kind : LineKind) (line : Line) (X : ℕ) where
       let n : Counts line (IsLoad line X mode e.set) a = subst P c u in
       let f : Family = record { set = e.set; number = e.most; mode = mode; loads = n.loads } in
       with_family e es b f
-      (record { tasks = set; belongs = belongs; few = omega (arith, most); rises = listed_rise line n.loads (IsLoad line X mode e.set) n.listed; sound = n.listed.sound })
+      (record {
+        tasks = set;
+        belongs = belongs;
+        few = omega (arith, most);
+        rises = listed_rise line n.loads (IsLoad line X mode e.set) n.listed;
+        sound = n.listed.sound;
+      })
       most c refl refl h units (omega (arith, n.long, sum)) fresh
-  by_way e es units a b (why.Swap cite out into) set most mode c u sum fresh h = without e es units b (omega (arith, sum, u)) h
+  by_way e es units a b (why.Swap cite out into) set most mode c u sum fresh h =
+      without e es units b (omega (arith, sum, u)) h
 
   AreKnown : List Entry → Type 0
   AreKnown es = (k : ℕ) (e : Entry) → slice_get es k ≡ Some e → e.cycle ≡ X → IsKnown kind line e
 
   -- an entry before others, of cycle X or of another one
-  one_more : (e : Entry) (es : List Entry) (units : ℕ) (here : Bool) → nat_eq e.cycle X ≡ here → (e.cycle ≡ X → IsKnown kind line e) → IsFreshAt X (e ∷ es)
-      → ((b : ℕ) → UnitsOf line (entries_at X es) b → FromEntries kind line X es b) → UnitsOf line (cond here (e ∷ entries_at X es) (entries_at X es)) units → FromEntries kind line X (e ∷ es) units
+  one_more : (e : Entry) (es : List Entry) (units : ℕ) (here : Bool) → nat_eq e.cycle X ≡ here
+      → (e.cycle ≡ X → IsKnown kind line e) → IsFreshAt X (e ∷ es)
+      → ((b : ℕ) → UnitsOf line (entries_at X es) b → FromEntries kind line X es b)
+      → UnitsOf line (cond here (e ∷ entries_at X es) (entries_at X es)) units → FromEntries kind line X (e ∷ es) units
   one_more e es units true same is fresh rest u =
       let c : e.cycle ≡ X = eqb-true e.cycle X same in
       let k : IsKnown kind line e = is c in
       by_way e es units u.0 u.1 e.why k.set k.most k.mode c u.2.0 u.2.2 fresh (rest u.1 u.2.1)
   one_more e es units false same is fresh rest u = without e es units units refl (rest units u)
 
-  families_of : (es : List Entry) (units : ℕ) → AreKnown es → IsFreshAt X es → UnitsOf line (entries_at X es) units → FromEntries kind line X es units
+  families_of : (es : List Entry) (units : ℕ) → AreKnown es → IsFreshAt X es → UnitsOf line (entries_at X es) units
+      → FromEntries kind line X es units
   unfolding AreKnown
-  families_of [] units are fresh u = record { families = []; sum = sym u; each = λ k f e. absurd (cc); different = λ j k a b l e f s n. absurd (cc) }
+  families_of [] units are fresh u = record {
+    families = [];
+    sum = sym u;
+    each = λ k f e. absurd (cc);
+    different = λ j k a b l e f s n. absurd (cc);
+  }
   families_of (e ∷ es) units are fresh u =
       one_more e es units (nat_eq e.cycle X) refl (are 0 e refl) fresh
-      (λ b v. families_of es b (λ k g h c. are (suc k) g h c) (λ j k x y l p q c d. fresh (suc j) (suc k) x y (omega (arith, l)) p q c d) v) u
+      (λ b v. families_of es b (λ k g h c. are (suc k) g h c)
+      (λ j k x y l p q c d. fresh (suc j) (suc k) x y (omega (arith, l)) p q c d) v) u
 
 -- the families of the entries of cycle X
-pub from_entries : (kind : LineKind) (line : Line) → IsLine line → IsRanked line → (X : ℕ) → ((i : ℕ) → IsTooLong line X i → ⊥) → (es : List Entry) → IsDerived kind line es → IsFreshAt X es
+pub from_entries : (kind : LineKind) (line : Line) → IsLine line → IsRanked line → (X : ℕ)
+    → ((i : ℕ) → IsTooLong line X i → ⊥) → (es : List Entry) → IsDerived kind line es → IsFreshAt X es
     → (units : ℕ) → UnitsOf line (entries_at X es) units → FromEntries kind line X es units
 unfolding AreKnown
-from_entries kind line ok ranked X short es derived fresh units u = families_of kind line X es units (λ k e g c. known kind line ok ranked X short es derived k e g c) fresh u
+from_entries kind line ok ranked X short es derived fresh units u =
+    families_of kind line X es units (λ k e g c. known kind line ok ranked X short es derived k e g c) fresh u

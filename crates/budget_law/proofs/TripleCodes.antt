@@ -1,5 +1,6 @@
 -- A set and a load of it as a number: its digits say what each task is to them.
-use Rattle.std.proofs.Common.{◌≡◌, ℕ, zero, suc, ◌+◌, ◌*◌, ◌^◌, ◌<◌, ◌≤◌, true, false, Bool, cond, List, refl, sym, ap, ◌∙◌, inl, inr, arith}
+use Rattle.std.proofs.Common.{◌≡◌, ℕ, zero, suc, ◌+◌, ◌*◌, ◌^◌, ◌<◌, ◌≤◌, true, false, Bool, cond, List, refl, sym, ap}
+use Rattle.std.proofs.Common.{◌∙◌, inl, inr, arith}
 use Rattle.std.specs.Prelude.{nat_eq, nat_lt}
 use Rattle.std.proofs.Math.Nat.{mul-le-mul_left, pow-succ', pow-zero}
 use Rattle.std.proofs.lemmas.Bool.{cases_order, cases_eq, cases_Bool, false≢true}
@@ -29,7 +30,8 @@ pub code : ℕ → (ℕ → ℕ) → ℕ → ℕ
 code b f zero = 0
 code b f (suc n) = f n + b * code b f n
 
-pub code_same : (b : ℕ) (f g : ℕ → ℕ) (n : ℕ) → ((i : ℕ) → f i < b) → ((i : ℕ) → g i < b) → code b f n ≡ code b g n → (i : ℕ) → i < n → f i ≡ g i
+pub code_same : (b : ℕ) (f g : ℕ → ℕ) (n : ℕ) → ((i : ℕ) → f i < b) → ((i : ℕ) → g i < b) → code b f n ≡ code b g n
+    → (i : ℕ) → i < n → f i ≡ g i
 unfolding code
 code_same b f g zero p q e i l = absurd (omega (arith, l))
 code_same b f g (suc n) p q e i l =
@@ -125,8 +127,10 @@ digit_member Straight R l i = three_member (has R i) (has (taken l) i)
 digit_member U R l i = four_member (has R i) (has l.front i) (has l.back i)
 
 -- where the digits are equal, the task is in both sets or in none
-pub members_alike : (kind : LineKind) (R S : List Bool) (l m : Load) (i : ℕ) → digit kind R l i ≡ digit kind S m i → has R i ≡ has S i
-members_alike kind R S l m i e = digit_member kind R l i ∙ (ap (λ (d : ℕ). nat_lt 0 d) e ∙ sym (digit_member kind S m i))
+pub members_alike : (kind : LineKind) (R S : List Bool) (l m : Load) (i : ℕ) → digit kind R l i ≡ digit kind S m i
+    → has R i ≡ has S i
+members_alike kind R S l m i e = digit_member kind R l i
+    ∙ (ap (λ (d : ℕ). nat_lt 0 d) e ∙ sym (digit_member kind S m i))
 
 -- a task of the set has a digit above 0
 pub digit_some : (kind : LineKind) (R : List Bool) (l : Load) (i : ℕ) → In R i → digit kind R l i ≡ 0 → ⊥
@@ -141,10 +145,12 @@ both_true false true f g = g refl
 both_true false false f g = refl
 
 front_is : (l : Load) (i : ℕ) → IsEmpty l.back → has l.front i ≡ has (taken l) i
-front_is l i n = both_true (has l.front i) (has (taken l) i) (λ f. In-union_left l.front l.back i f) (λ t. elim (In-union_cases l.front l.back i t) [ inl f ↦ f | inr b ↦ absurd (n i b) ])
+front_is l i n = both_true (has l.front i) (has (taken l) i) (λ f. In-union_left l.front l.back i f)
+    (λ t. elim (In-union_cases l.front l.back i t) [ inl f ↦ f | inr b ↦ absurd (n i b) ])
 
 back_is : (l : Load) (i : ℕ) → IsEmpty l.front → has l.back i ≡ has (taken l) i
-back_is l i n = both_true (has l.back i) (has (taken l) i) (λ b. In-union_right l.front l.back i b) (λ t. elim (In-union_cases l.front l.back i t) [ inl f ↦ absurd (n i f) | inr b ↦ b ])
+back_is l i n = both_true (has l.back i) (has (taken l) i) (λ b. In-union_right l.front l.back i b)
+    (λ t. elim (In-union_cases l.front l.back i t) [ inl f ↦ absurd (n i f) | inr b ↦ b ])
 
 -- two loads have a task alike: both in front, both at the back, or neither
 pub record Alike (l m : Load) (i : ℕ) : Type 0 where
@@ -152,7 +158,8 @@ pub record Alike (l m : Load) (i : ℕ) : Type 0 where
   pub back : has l.back i ≡ has m.back i
 
 module _ (line : Line) (X : ℕ) (R : List Bool) (l m : Load) (i : ℕ) where
-  straight_alike : (mode : Mode) → Belongs Straight mode → IsLoad line X mode R l → IsLoad line X mode R m → has (taken l) i ≡ has (taken m) i → Alike l m i
+  straight_alike : (mode : Mode) → Belongs Straight mode → IsLoad line X mode R l → IsLoad line X mode R m
+      → has (taken l) i ≡ has (taken m) i → Alike l m i
   straight_alike mode.Fore b p q e = record {
     front = front_is l i p.suits ∙ (e ∙ sym (front_is m i q.suits));
     back = empty_at l.back i p.suits ∙ sym (empty_at m.back i q.suits);
@@ -164,13 +171,18 @@ module _ (line : Line) (X : ℕ) (R : List Bool) (l m : Load) (i : ℕ) where
   straight_alike mode.Both b p q e = absurd b
 
   -- loads of one set and mode with equal digits at a task have it alike
-  pub loads_alike : (kind : LineKind) (mode : Mode) → Belongs kind mode → IsLoad line X mode R l → IsLoad line X mode R m → digit kind R l i ≡ digit kind R m i → Alike l m i
+  pub loads_alike : (kind : LineKind) (mode : Mode) → Belongs kind mode → IsLoad line X mode R l
+      → IsLoad line X mode R m → digit kind R l i ≡ digit kind R m i → Alike l m i
   unfolding digit
   loads_alike Straight mode b p q e =
-      straight_alike mode b p q (three_taken (has R i) (has (taken l) i) (λ t. p.within i t) ∙ (ap (λ (d : ℕ). nat_eq d 2) e ∙ sym (three_taken (has R i) (has (taken m) i) (λ t. q.within i t))))
+      straight_alike mode b p q (three_taken (has R i) (has (taken l) i) (λ t. p.within i t)
+      ∙ (ap (λ (d : ℕ). nat_eq d 2) e ∙ sym (three_taken (has R i) (has (taken m) i) (λ t. q.within i t))))
   loads_alike U mode b p q e = record {
     front = four_front (has R i) (has l.front i) (has l.back i) (λ t. p.within i (In-union_left l.front l.back i t))
-        ∙ (ap (λ (d : ℕ). nat_eq d 2) e ∙ sym (four_front (has R i) (has m.front i) (has m.back i) (λ t. q.within i (In-union_left m.front m.back i t))));
-    back = four_back (has R i) (has l.front i) (has l.back i) (λ t. p.within i (In-union_right l.front l.back i t)) (λ t u. p.disjoint i t u)
-        ∙ (ap (λ (d : ℕ). nat_eq d 3) e ∙ sym (four_back (has R i) (has m.front i) (has m.back i) (λ t. q.within i (In-union_right m.front m.back i t)) (λ t u. q.disjoint i t u)));
+        ∙ (ap (λ (d : ℕ). nat_eq d 2) e ∙ sym (four_front (has R i) (has m.front i) (has m.back i)
+        (λ t. q.within i (In-union_left m.front m.back i t))));
+    back = four_back (has R i) (has l.front i) (has l.back i) (λ t. p.within i (In-union_right l.front l.back i t))
+        (λ t u. p.disjoint i t u)
+        ∙ (ap (λ (d : ℕ). nat_eq d 3) e ∙ sym (four_back (has R i) (has m.front i) (has m.back i)
+        (λ t. q.within i (In-union_right m.front m.back i t)) (λ t u. q.disjoint i t u)));
   }
