@@ -3,7 +3,7 @@ use Rattle.std.proofs.Common.{◌≡◌, ℕ, ◌+◌, ◌*◌, ◌^◌, ◌<◌
 use Rattle.std.proofs.Common.{arith, Option, Some, None}
 use Rattle.std.specs.Prelude.{nat_eq}
 use Rattle.std.proofs.lemmas.Bool.{eqb-true}
-use Rattle.line_instance.specs.Line.{Line, IsRanked, IsTaskSet, tasks}
+use Rattle.line_instance.specs.Line.{Line, IsRanked, tasks}
 use Rattle.line_rules.specs.Balance.{all_tasks}
 use Rattle.line_rules.specs.Trails.{IsTrail}
 use Rattle.line_rules.specs.Units.{UnitsIn, TrailUnitsAt}
@@ -11,7 +11,7 @@ use Rattle.line_rules.specs.declared.types.LineKind.{LineKind}
 use Rattle.line_rules.specs.declared.types.Entry.{Entry}
 use Rattle.line_rules.specs.declared.types.OpenFrame.{OpenFrame}
 use Rattle.line_rules.specs.declared.types.Trail.{Trail}
-use Rattle.line_rules.proofs.All.{In-all_lt, length-all}
+use Rattle.line_rules.proofs.Free.{all_of}
 use Rattle.budget_law.specs.Budget.{states, HasTrailAt, UnitsAreFew}
 use Rattle.budget_law.proofs.Families.{get_append_cases, different_append, triples_append}
 use Rattle.budget_law.proofs.DistinctTriples.{few_triples}
@@ -26,9 +26,6 @@ record Adds (kind : LineKind) (line : Line) (X units : ℕ) : Type 0 where
   sum : UnitsIn line X frames units
 
 module _ (kind : LineKind) (line : Line) (X : ℕ) (es : List Entry) where
-  all_set : IsTaskSet line (all_tasks line)
-  all_set = record { truths = length-all line; tasks = λ i m. In-all_lt line i m }
-
   adds_none : (units : ℕ) → units ≡ 0 → Adds kind line X units
   adds_none units u = record { frames = []; are = no_frames kind line; sum = u }
 
@@ -40,7 +37,7 @@ module _ (kind : LineKind) (line : Line) (X : ℕ) (es : List Entry) where
       h (eqb-true trail.cycle X same) in
       record {
         frames = trail.frames;
-        are = trail_frames kind line X es (all_tasks line) t.0 trail.frames all_set t.1;
+        are = trail_frames kind line X es (all_tasks line) t.0 trail.frames (all_of line) t.1;
         sum = u;
       }
   adds_here trail units false same h u = adds_none units u
