@@ -3,7 +3,7 @@ use Rattle.std.specs.Prelude.{ℕ, List, ◌++◌, codes}
 
 -- the name of the program and its version
 abbrev pub version_text : List ℕ
-version_text = codes "line_program 0.1.0\n"
+version_text = codes "line 0.1.0\n"
 
 -- how the program is called, and what its balance, its search and its test give
 abbrev pub planning_text : List ℕ

@@ -61,5 +61,5 @@ pub fn help_page(alloc: Global) -> Result<Vec<u8>, AllocError>
 pub fn version_page(alloc: Global) -> Result<Vec<u8>, AllocError>
     ensures { IfOk result (λ t. t.items ≡ version_text) }
 {
-    Vec::from_slice(alloc, b"line_program 0.1.0\n")
+    Vec::from_slice(alloc, b"line 0.1.0\n")
 }

@@ -198,7 +198,7 @@ fn jobs_that_are_not_built(rt: HostRuntime) -> Result<(), Fail> {
 fn pages(rt: HostRuntime) -> Result<(), Fail> {
     let (status, text) = run_over(&rt, rt.alloc(), &["--version"], P5, &[], &[])?;
     assert_eq!(rt; status, Status::Done);
-    assert_eq!(rt; text.as_str(), "line_program 0.1.0\n");
+    assert_eq!(rt; text.as_str(), "line 0.1.0\n");
     let (status, text) = run_over(&rt, rt.alloc(), &["--help"], P5, &[], &[])?;
     assert_eq!(rt; status, Status::Done);
     let mut lines = 0u32;
