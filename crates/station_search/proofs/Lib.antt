@@ -10,3 +10,4 @@ pub mod Clauses
 pub mod Standins
 pub mod Endings
 pub mod Standing
+pub mod RestTimes

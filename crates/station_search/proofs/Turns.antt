@@ -19,11 +19,11 @@ use Rattle.line_rules.proofs.ListFacts.{get_last}
 use Rattle.line_rules.proofs.Paths.{leads_depth}
 use Rattle.line_rules.proofs.Seated.{path_seated, seated_long, seated_none}
 use Rattle.lemma_core.specs.Desks.{DeskView, entries, Keeps}
-use Rattle.station_load.specs.Walking.{Walking, IsWalk}
 use Rattle.station_search.specs.Mode.{mode_of}
 use Rattle.station_search.specs.Decide.{Stops, HaveModes}
 use Rattle.station_search.specs.Costs.{AreUnanswered}
 use Rattle.station_search.specs.Work.{IsBeside, with_last, with_cites, may_add, DoesFor, Accounts, Balances}
+use Rattle.station_search.specs.declared.listings.Listing.{Listing}
 use Rattle.station_search.specs.declared.sorting.Sorted.{Sorted}
 use Rattle.station_search.specs.declared.sorting.Sorted.TheVariants as sorted
 use Rattle.lemma_core.proofs.OwnFacts.{entries_more}
@@ -36,13 +36,9 @@ adds_few (sorted.Covered id) = omega arith
 adds_few sorted.Empty = omega arith
 adds_few (sorted.Open set) = omega arith
 
--- a walk that was begun for a frame of which no load was listed
-pub begun : (line : Line) (X : ℕ) (f : OpenFrame) (w : Walking) (R : List Bool) → IsWalk line w → w.cycle ≡ X → w.mode ≡ f.mode → w.set ≡ R → f.set ≡ R → w.last ≡ None → f.last ≡ None → IsBeside line X f w
-begun line X f w R walk c m s t l n = record { walk = walk; same_cycle = c; same_mode = m; same_set = s ∙ sym t; same_last = l ∙ sym n }
-
 -- a load beside other cites
-pub beside_cites : (line : Line) (X : ℕ) (f : OpenFrame) (w : Walking) (cites : List ℕ) → IsBeside line X f w → IsBeside line X (with_cites f cites) w
-beside_cites line X f w cites b = record { walk = b.walk; same_cycle = b.same_cycle; same_mode = b.same_mode; same_set = b.same_set; same_last = b.same_last }
+pub beside_cites : (line : Line) (X : ℕ) (f : OpenFrame) (w : Listing) (cites : List ℕ) → IsBeside line X f w → IsBeside line X (with_cites f cites) w
+beside_cites line X f w cites b = record { walk = b.walk; same_cycle = b.same_cycle; same_mode = b.same_mode; same_set = b.same_set; same_last = b.same_last; times = b.times }
 
 module _ (kind : LineKind) (line : Line) (ranked : IsRanked line) (X : ℕ) (R : List Bool) (most : ℕ) where
   -- the search's state over the entries that are there after a call

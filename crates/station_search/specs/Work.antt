@@ -13,20 +13,23 @@ use Rattle.line_rules.specs.declared.types.OpenFrame.{OpenFrame}
 use Rattle.lemma_core.specs.History.{Item, added, known, better}
 use Rattle.lemma_core.specs.Desks.{DeskView, entries}
 use Rattle.lemma_core.specs.Own.{Did, ArePublish, added_of}
-use Rattle.station_load.specs.Walking.{Walking, IsWalk}
+use Rattle.load_facts.specs.Times.{AreTimes}
+use Rattle.station_load.specs.Walking.{IsWalk}
 use Rattle.station_search.specs.Costs.{AreLemmas, PayAll, AreUnanswered}
 use Rattle.station_search.specs.declared.answers.Decided.{Decided}
 use Rattle.station_search.specs.declared.answers.Decided.TheVariants as decided
+use Rattle.station_search.specs.declared.listings.Listing.{Listing}
 use Rattle.station_search.specs.declared.sorting.Sorted.{Sorted}
 use Rattle.station_search.specs.declared.sorting.Sorted.TheVariants as sorted
 
--- the walk goes over the loads of the frame, and stands at its last one
-pub record IsBeside (line : Line) (X : ℕ) (f : OpenFrame) (w : Walking) : Type 0 where
-  pub walk : IsWalk line w
-  pub same_cycle : w.cycle ≡ X
-  pub same_mode : w.mode ≡ f.mode
-  pub same_set : w.set ≡ f.set
-  pub same_last : w.last ≡ f.last
+-- the listing goes over the loads of the frame, stands at its last one, and has the times of its set
+pub record IsBeside (line : Line) (X : ℕ) (f : OpenFrame) (g : Listing) : Type 0 where
+  pub walk : IsWalk line g.walk
+  pub same_cycle : g.walk.cycle ≡ X
+  pub same_mode : g.walk.mode ≡ f.mode
+  pub same_set : g.walk.set ≡ f.set
+  pub same_last : g.walk.last ≡ f.last
+  pub times : AreTimes line f.set g.times.total g.times.longest
 
 -- the frame with a load as its last, and with other cites
 abbrev pub with_last : OpenFrame → Load → OpenFrame

@@ -4,6 +4,7 @@
 
 mod answers;
 mod deciding;
+mod listings;
 mod modes;
 mod ordering;
 mod placing;

@@ -19,15 +19,14 @@ ghost use Rattle.station_search.specs.Decide.{IsFor, IsAnswered, Decides};
 ghost use Rattle.station_search.specs.Work.{branch_of, DoesFor, Accounts, Ends};
 
 use crate::answers::{Decided, Reason, Units};
+use crate::listings::{Listing, begin_listing, next_load};
 use crate::modes::choose_mode;
 use crate::ordering::loads_in_order;
-use crate::sorting::{Sorted, next_load, sort_load};
+use crate::sorting::{Sorted, sort_load};
 use crate::stacks::{pop_from, push_on, take_from};
 use lemma_core::{Desk, Published};
 use line_instance::Instance;
 use line_rules::{Cites, Entry, Frames, LineKind, OpenFrame, Why};
-use station_load::Walk;
-use station_load::steps::begin;
 use std::alloc::{AllocError, Global};
 use task_set::TaskSet;
 
@@ -109,18 +108,18 @@ pub fn search<D: Desk>(
 {
     let _tasks = inst.tasks();
     let mut passed: Vec<OpenFrame> = Vec::new(alloc);
-    let mut walks: Vec<Walk> = Vec::new(alloc);
+    let mut listings: Vec<Listing> = Vec::new(alloc);
     let mut frame = open_frame(alloc, inst, kind, set, most);
-    let mut walk = begin(inst, cycle, set, frame.mode);
+    let mut listing = begin_listing(inst, cycle, &frame);
     'search: loop {
-        match next_load(inst, cycle, &frame, &mut walk) {
+        match next_load(inst, cycle, &frame, &mut listing) {
             None => {
                 let id = publish_branch(desk, cycle, frame)?;
                 match pop_from(&mut passed) {
                     None => return Ok(Decided::Refuted(Reason::ByEntry(id))),
                     Some(parent) => {
                         frame = parent;
-                        walk = take_from(&mut walks);
+                        listing = take_from(&mut listings);
                         frame.cites.push(id)?;
                     }
                 }
@@ -133,7 +132,7 @@ pub fn search<D: Desk>(
                 units.left -= 1;
                 units.used += 1;
                 frame.last = Some(load);
-                match sort_load(desk, inst, kind, cycle, &frame, &load, &walk)? {
+                match sort_load(desk, inst, kind, cycle, &frame, &load, &listing)? {
                     Sorted::Closed => {}
                     Sorted::Covered(id) => frame.cites.push(id)?,
                     Sorted::Empty => {
@@ -144,8 +143,8 @@ pub fn search<D: Desk>(
                     Sorted::Open(rest) => {
                         let below = open_frame(alloc, inst, kind, &rest, frame.most - 1);
                         push_on(&mut passed, frame)?;
-                        push_on(&mut walks, walk)?;
-                        walk = begin(inst, cycle, &rest, below.mode);
+                        push_on(&mut listings, listing)?;
+                        listing = begin_listing(inst, cycle, &below);
                         frame = below;
                     }
                 }

@@ -1,20 +1,18 @@
 //! What is to be done with a load that was listed: the tests of the load and of its rest.
-ghost use Rattle.std.specs.Prelude.{◌≡◌, ◌<◌, ◌≤◌, ◌-◌, Some, IsNone, IfSome, IfOk, OnErr};
+ghost use Rattle.std.specs.Prelude.{◌≡◌, ◌≤◌, Some, IfOk, OnErr};
 ghost use Rattle.line_instance.specs.Line.{IsTaskSet};
 ghost use Rattle.line_rules.specs.Loads.{IsLoad, rest};
-ghost use Rattle.line_rules.specs.Order.{After, IsFollowing};
 ghost use Rattle.line_rules.specs.Ranges.{IsCycle};
-ghost use Rattle.line_rules.specs.declared.types.Load.{Load as Pair};
 ghost use Rattle.lemma_core.specs.Desks.{entries, Keeps};
 ghost use Rattle.station_search.specs.Decide.{IsFor};
-ghost use Rattle.station_search.specs.Work.{IsBeside, Sorts, DoesFor, may_add, with_last};
+ghost use Rattle.station_search.specs.Work.{IsBeside, Sorts, DoesFor, may_add};
 
+use crate::listings::{Listing, is_longer, rest_times};
 use crate::swaps::publish_swap;
 use lemma_core::{Desk, Looked};
 use line_instance::Instance;
 use line_rules::{LineKind, Load, OpenFrame};
-use lower_bounds::exceeds;
-use station_load::Walk;
+use lower_bounds::exceeds_with;
 use std::alloc::AllocError;
 use task_set::TaskSet;
 
@@ -30,18 +28,8 @@ pub enum Sorted {
     Open(TaskSet),
 }
 
-/// The load after the last one of a frame, by the walk beside it.
-pub fn next_load(inst: &Instance, cycle: u64, frame: &OpenFrame, walk: &mut Walk) -> Option<Load>
-    requires { IsBeside inst.now cycle frame.now walk.old }
-    ensures none { IsNone result → (l : Pair)
-        → IsLoad inst.now cycle frame.now.mode frame.now.set l → After inst.now frame.now.last l → ⊥ }
-    ensures next { IfSome result (IsFollowing inst.now cycle frame.now.mode frame.now.set frame.now.last) }
-    ensures beside { IfSome result (λ l. IsBeside inst.now cycle (with_last frame.now l) walk.new) }
-{
-    walk.step(inst)
-}
-
-/// What is to be done with the last load of a frame, at which its walk stands.
+/// What is to be done with the last load of a frame, at which its listing stands. The total time of what it leaves
+/// is asked first, since it closes most loads.
 pub fn sort_load<D: Desk>(
     desk: &mut D,
     inst: &Instance,
@@ -49,14 +37,14 @@ pub fn sort_load<D: Desk>(
     cycle: u64,
     frame: &OpenFrame,
     load: &Load,
-    walk: &Walk,
+    listing: &Listing,
 ) -> Result<Sorted, AllocError>
     requires desk { IsFor (D.desk desk.old) inst.now kind cycle }
     requires cycle { IsCycle cycle }
     requires set { IsTaskSet inst.now frame.now.set }
     requires load { IsLoad inst.now cycle frame.now.mode frame.now.set load.now }
     requires last { frame.now.last ≡ Some load.now }
-    requires beside { IsBeside inst.now cycle frame.now walk.now }
+    requires beside { IsBeside inst.now cycle frame.now listing.now }
     requires some { 1 ≤ frame.now.most }
     requires few { frame.now.most ≤ 1024 }
     ensures keeps { Keeps (D.desk desk.old) (D.desk desk.new) }
@@ -67,11 +55,15 @@ pub fn sort_load<D: Desk>(
     ensures sorts { IfOk result
         (Sorts kind inst.now cycle (D.desk desk.old).alone (entries (D.desk desk.new)) frame.now load.now) }
 {
-    if !walk.full(inst) {
+    let times = rest_times(inst, cycle, frame, load, listing);
+    if is_longer(times.total, frame.most - 1, cycle) {
+        return Ok(Sorted::Closed);
+    }
+    if !listing.walk.full(inst) {
         return Ok(Sorted::Closed);
     }
     let rest = frame.set.minus(&load.front.union(&load.back));
-    if exceeds(inst, kind, cycle, &rest, frame.most - 1) {
+    if exceeds_with(inst, kind, cycle, &rest, times, frame.most - 1) {
         return Ok(Sorted::Closed);
     }
     if rest.is_empty() {

@@ -15,7 +15,7 @@ use Rattle.station_search.proofs.States.{rest_tasks, follows, closed, covered, g
 use Rattle.station_search.proofs.Pairs.{paired_none, paired_push, paired_pop, paired_last}
 use Rattle.station_search.proofs.Tallies.{tally_lists, tally_ends, tally_up, accounts}
 use Rattle.station_search.proofs.Endings.{on_err}
-use Rattle.station_search.proofs.Turns.{adds_few, begun, beside_cites, grown, first, first_tally, stations_few, stops, stopped, down, down_tally, found, gives_up, refuted}
+use Rattle.station_search.proofs.Turns.{adds_few, beside_cites, grown, first, first_tally, stations_few, stops, stopped, down, down_tally, found, gives_up, refuted}
 use Rattle.station_search.proofs.searching.search.Goals as goal
 
 pub search-init : goal.search-init
@@ -25,8 +25,8 @@ search-init g c = record {
   spent = omega arith;
   searching = first c.args.kind c.args.inst.now c.tasks-tasks.ensures.ranked c.args.cycle c.args.set.now c.args.most (entries (g.D.Desk.desk c.args.desk.now)) c.new-passed.result.items c.open_frame-frame.result c.new-passed.ensures.items c.open_frame-frame.ensures.set c.open_frame-frame.ensures.most c.open_frame-frame.ensures.mode
       c.open_frame-frame.ensures.belongs c.open_frame-frame.ensures.last c.open_frame-frame.ensures.cites c.requires.some c.requires.set c.requires.bound;
-  beside = begun c.args.inst.now c.args.cycle c.open_frame-frame.result c.begin-walk.result c.args.set.now c.begin-walk.ensures.walk c.begin-walk.ensures.cycle c.begin-walk.ensures.mode c.begin-walk.ensures.set c.open_frame-frame.ensures.set c.begin-walk.ensures.last c.open_frame-frame.ensures.last;
-  paired = paired_none c.args.inst.now c.args.cycle c.new-passed.result.items c.new-walks.result.items c.new-passed.ensures.items c.new-walks.ensures.items;
+  beside = c.begin_listing-listing.ensures;
+  paired = paired_none c.args.inst.now c.args.cycle c.new-passed.result.items c.new-listings.result.items c.new-passed.ensures.items c.new-listings.ensures.items;
   tally = first_tally c.args.kind c.args.inst.now c.tasks-tasks.ensures.ranked c.args.cycle c.args.set.now c.args.most (g.D.Desk.desk c.args.desk.now) c.new-passed.result.items c.open_frame-frame.result (c.args.units.now.used - c.args.units.now.used) c.new-passed.ensures.items c.open_frame-frame.ensures.set c.open_frame-frame.ensures.most c.open_frame-frame.ensures.last (omega arith) c.requires.unanswered;
 }
 
@@ -57,8 +57,8 @@ search-preserved-in_ok-push-in-Some-pop_from g c = record {
   spent = c.search.invariant.spent;
   searching = goes_up c.args.kind c.args.inst.now c.tasks-tasks.ensures.ranked c.args.cycle c.args.set.now c.args.most (entries (g.D.Desk.desk c.publish_branch.new.desk)) c.search.passed.items c.pop_from.new.stack.items c.search.frame c.in-Some-pop_from.parent c.in_ok-id-in-None.id c.push.new.self c.in-Some-pop_from.ensures.some c.in_ok-push-in-Some-pop_from.ensures.ok c.requires.set
       (grown c.args.kind c.args.inst.now c.tasks-tasks.ensures.ranked c.args.cycle c.args.set.now c.args.most (g.D.Desk.desk c.search.desk) (g.D.Desk.desk c.publish_branch.new.desk) c.search.passed.items c.search.frame c.publish_branch.ensures.keeps c.search.invariant.searching) c.in_ok-id-in-None.ensures.answered;
-  beside = paired_last c.args.inst.now c.args.cycle c.search.passed.items c.pop_from.new.stack.items c.search.walks.items c.take_from-walk.new.stack.items c.in-Some-pop_from.parent c.take_from-walk.result c.in-Some-pop_from.ensures.some c.take_from-walk.ensures c.search.invariant.paired c.push.new.self;
-  paired = paired_pop c.args.inst.now c.args.cycle c.search.passed.items c.pop_from.new.stack.items c.search.walks.items c.take_from-walk.new.stack.items c.in-Some-pop_from.parent c.take_from-walk.result c.in-Some-pop_from.ensures.some c.take_from-walk.ensures c.search.invariant.paired;
+  beside = paired_last c.args.inst.now c.args.cycle c.search.passed.items c.pop_from.new.stack.items c.search.listings.items c.take_from-listing.new.stack.items c.in-Some-pop_from.parent c.take_from-listing.result c.in-Some-pop_from.ensures.some c.take_from-listing.ensures c.search.invariant.paired c.push.new.self;
+  paired = paired_pop c.args.inst.now c.args.cycle c.search.passed.items c.pop_from.new.stack.items c.search.listings.items c.take_from-listing.new.stack.items c.in-Some-pop_from.parent c.take_from-listing.result c.in-Some-pop_from.ensures.some c.take_from-listing.ensures c.search.invariant.paired;
   tally = tally_up c.args.kind c.args.inst.now c.tasks-tasks.ensures.ranked c.args.cycle (g.D.Desk.desk c.args.desk.now) (g.D.Desk.desk c.search.desk) (g.D.Desk.desk c.publish_branch.new.desk) c.search.passed.items c.search.frame (c.search.units.used - c.args.units.now.used) c.search.invariant.keeps c.publish_branch.ensures.keeps c.search.invariant.tally c.pop_from.new.stack.items c.in-Some-pop_from.parent c.push.new.self (entries (g.D.Desk.desk c.search.desk)) c.args.set.now c.args.most (refuted c.args.kind c.args.inst.now c.tasks-tasks.ensures.ranked c.args.cycle c.args.set.now c.args.most (g.D.Desk.desk c.args.desk.now) (g.D.Desk.desk c.search.desk) (g.D.Desk.desk c.publish_branch.new.desk) c.search.passed.items c.search.frame (c.search.units.used - c.args.units.now.used) c.search.invariant.keeps c.publish_branch.ensures.keeps c.search.invariant.tally (entries (g.D.Desk.desk c.search.desk)) c.search.invariant.searching (c.in-None.ensures.none refl) c.in_ok-id-in-None.ensures.publishes) c.in-Some-pop_from.ensures.some c.search.invariant.searching.leads;
 }
 
@@ -106,7 +106,7 @@ search-preserved-in_ok-push-in-Covered g c =
       units = omega (arith, c.search.invariant.units, c.if-units-eq0.false);
       spent = (omega (arith, c.search.invariant.spent));
       searching = covered c.args.kind c.args.inst.now c.tasks-tasks.ensures.ranked c.args.cycle c.args.set.now c.args.most (entries (g.D.Desk.desk c.sort_load.new.desk)) c.search.passed.items c.search.frame (grown c.args.kind c.args.inst.now c.tasks-tasks.ensures.ranked c.args.cycle c.args.set.now c.args.most (g.D.Desk.desk c.search.desk) (g.D.Desk.desk c.sort_load.new.desk) c.search.passed.items c.search.frame c.sort_load.ensures.keeps c.search.invariant.searching) c.in-Some.load c.in-Some.ensures.next c.in-Covered.id c.push-in-Covered.new.self c.in_ok-push-in-Covered.ensures.ok o.0 o.1;
-      beside = beside_cites c.args.inst.now c.args.cycle (with_last c.search.frame c.in-Some.load) c.next_load.new.walk c.push-in-Covered.new.self c.in-Some.ensures.beside;
+      beside = beside_cites c.args.inst.now c.args.cycle (with_last c.search.frame c.in-Some.load) c.next_load.new.listing c.push-in-Covered.new.self c.in-Some.ensures.beside;
       paired = c.search.invariant.paired;
       tally = tally_lists c.args.kind c.args.inst.now c.tasks-tasks.ensures.ranked c.args.cycle (g.D.Desk.desk c.args.desk.now) (g.D.Desk.desk c.search.desk) (g.D.Desk.desk c.sort_load.new.desk) c.search.passed.items c.search.frame (c.search.units.used - c.args.units.now.used) c.search.invariant.keeps c.sort_load.ensures.keeps c.search.invariant.tally (entries (g.D.Desk.desk c.search.desk)) c.args.set.now c.args.most c.in-Some.load c.push-in-Covered.new.self (may_add c.in_ok-sort_load-in-Some.field-0) 0 (c.search.units.used + 1 - c.args.units.now.used) c.search.invariant.searching.leads c.in-Some.ensures.next c.search.invariant.searching.deep.last c.in_ok-sort_load-in-Some.ensures.publishes (omega (arith, adds_few c.in_ok-sort_load-in-Some.field-0)) (omega (arith, c.search.invariant.spent));
     }
@@ -168,12 +168,12 @@ pub returns-in_err-push_on-in-Open-2-clause-accounts : goal.returns-in_err-push_
 returns-in_err-push_on-in-Open-2-clause-accounts g c =
     on_err c.from_residual-in_err-push_on-in-Open-2.result (Accounts c.args.kind c.args.inst.now c.args.cycle (g.D.Desk.desk c.args.desk.now) (g.D.Desk.desk c.sort_load.new.desk) [] (c.search.units.used + 1 - c.args.units.now.used) (c.search.units.used + 1 - c.args.units.now.used)) (gives_up c.args.kind c.args.inst.now c.tasks-tasks.ensures.ranked c.args.cycle c.args.set.now c.args.most (g.D.Desk.desk c.args.desk.now) (g.D.Desk.desk c.search.desk) (g.D.Desk.desk c.sort_load.new.desk) c.search.passed.items c.search.frame (c.search.units.used - c.args.units.now.used) c.search.invariant.keeps c.sort_load.ensures.keeps c.search.invariant.tally (rest c.search.frame.set c.in-Some.load) (may_add c.in_ok-sort_load-in-Some.field-0) (c.search.units.used + 1 - c.args.units.now.used) c.in_ok-sort_load-in-Some.ensures.publishes (adds_few c.in_ok-sort_load-in-Some.field-0) (omega (arith, c.search.invariant.spent)))
 
-pub begin-walk-requires-in-Open : goal.begin-walk-requires-in-Open
-begin-walk-requires-in-Open g c =
+pub begin_listing-listing-requires-in-Open-clause-set : goal.begin_listing-listing-requires-in-Open-clause-set
+begin_listing-listing-requires-in-Open-clause-set g c =
     let S : Sorted → Type 0 = λ z. Sorts c.args.kind c.args.inst.now c.args.cycle (g.D.Desk.desk c.search.desk).alone (entries (g.D.Desk.desk c.sort_load.new.desk)) (with_last c.search.frame c.in-Some.load) c.in-Some.load z in
     let o = subst S c.in-Open.is c.in_ok-sort_load-in-Some.ensures.sorts in
     let P : List Bool → Type 0 = λ z. IsTaskSet c.args.inst.now z in
-    subst P (sym o.1) (rest_tasks c.args.inst.now c.search.frame.set c.in-Some.load c.search.invariant.searching.tasks)
+    subst P (sym (c.open_frame-below.ensures.set ∙ o.1)) (rest_tasks c.args.inst.now c.search.frame.set c.in-Some.load c.search.invariant.searching.tasks)
 
 pub search-preserved : goal.search-preserved
 search-preserved g c =
@@ -185,9 +185,8 @@ search-preserved g c =
       spent = (omega (arith, c.search.invariant.spent));
       searching = down c.args.kind c.args.inst.now c.tasks-tasks.ensures.ranked c.args.cycle c.args.set.now c.args.most (entries (g.D.Desk.desk c.sort_load.new.desk)) c.search.passed.items c.search.frame (grown c.args.kind c.args.inst.now c.tasks-tasks.ensures.ranked c.args.cycle c.args.set.now c.args.most (g.D.Desk.desk c.search.desk) (g.D.Desk.desk c.sort_load.new.desk) c.search.passed.items c.search.frame c.sort_load.ensures.keeps c.search.invariant.searching) c.in-Some.load c.in-Some.ensures.next o.0 c.push_on-in-Open.new.stack.items c.open_frame-below.result c.in-Open.rest c.in_ok-push_on-in-Open.ensures c.open_frame-below.ensures.set c.open_frame-below.ensures.most c.open_frame-below.ensures.mode
           c.open_frame-below.ensures.belongs c.open_frame-below.ensures.last c.open_frame-below.ensures.cites o.1 o.2;
-      beside = begun c.args.inst.now c.args.cycle c.open_frame-below.result c.begin-walk-in-Open.result c.in-Open.rest c.begin-walk-in-Open.ensures.walk c.begin-walk-in-Open.ensures.cycle c.begin-walk-in-Open.ensures.mode c.begin-walk-in-Open.ensures.set c.open_frame-below.ensures.set
-          c.begin-walk-in-Open.ensures.last c.open_frame-below.ensures.last;
-      paired = paired_push c.args.inst.now c.args.cycle c.search.passed.items c.push_on-in-Open.new.stack.items c.search.walks.items c.push_on-in-Open-2.new.stack.items (with_last c.search.frame c.in-Some.load) c.next_load.new.walk c.in_ok-push_on-in-Open.ensures c.in_ok-push_on-in-Open-2.ensures c.in-Some.ensures.beside c.search.invariant.paired;
+      beside = c.begin_listing-listing-in-Open.ensures;
+      paired = paired_push c.args.inst.now c.args.cycle c.search.passed.items c.push_on-in-Open.new.stack.items c.search.listings.items c.push_on-in-Open-2.new.stack.items (with_last c.search.frame c.in-Some.load) c.next_load.new.listing c.in_ok-push_on-in-Open.ensures c.in_ok-push_on-in-Open-2.ensures c.in-Some.ensures.beside c.search.invariant.paired;
       tally = down_tally c.args.kind c.args.inst.now c.tasks-tasks.ensures.ranked c.args.cycle c.args.set.now c.args.most (g.D.Desk.desk c.args.desk.now) (g.D.Desk.desk c.search.desk) (g.D.Desk.desk c.sort_load.new.desk) c.search.passed.items c.search.frame (c.search.units.used - c.args.units.now.used) c.search.invariant.keeps c.sort_load.ensures.keeps c.search.invariant.tally (entries (g.D.Desk.desk c.search.desk)) c.push_on-in-Open.new.stack.items c.open_frame-below.result c.in-Some.load c.in-Open.rest (may_add c.in_ok-sort_load-in-Some.field-0) (c.search.units.used + 1 - c.args.units.now.used) c.search.invariant.searching c.in-Some.ensures.next c.in_ok-sort_load-in-Some.ensures.publishes (ap may_add c.in-Open.is) c.in_ok-push_on-in-Open.ensures
           c.open_frame-below.ensures.set c.open_frame-below.ensures.most c.open_frame-below.ensures.last (omega (arith, c.search.invariant.spent)) o.3;
     }

@@ -1,7 +1,9 @@
-use Rattle.std.proofs.Common.{ℕ, List, Bool, ap, ◌∙◌, sym, subst}
+use Rattle.std.proofs.Common.{ℕ, ◌-◌, ◌*◌, ◌<◌, List, Bool, ap, ◌∙◌, sym, subst, arith}
 use Rattle.task_set.specs.Truths.{minus}
 use Rattle.line_instance.specs.Line.{IsTaskSet}
 use Rattle.line_rules.specs.Loads.{rest}
+use Rattle.load_facts.specs.Times.{AreTimes}
+use Rattle.load_facts.proofs.Rest.{long_rest}
 use Rattle.lemma_core.proofs.HistoryGrows.{keeps_both}
 use Rattle.station_search.specs.Work.{DoesFor, may_swap}
 use Rattle.station_search.proofs.Events.{waits_none}
@@ -11,17 +13,32 @@ use Rattle.station_search.proofs.Paying.{one_none}
 use Rattle.station_search.proofs.States.{rest_tasks}
 use Rattle.station_search.proofs.sorting.sort_load.Goals as goal
 
+pub returns-then-is_longer-clause-publishes : goal.returns-then-is_longer-clause-publishes
+returns-then-is_longer-clause-publishes g c =
+    one_none c.args.kind c.args.inst.now c.args.cycle (g.D.Desk.desk c.args.desk.now) (g.D.Desk.desk c.args.desk.now) (rest c.args.frame.now.set c.args.load.now) 0 (waits_none (g.D.Desk.desk c.args.desk.now))
+
+pub returns-then-is_longer-clause-sorts : goal.returns-then-is_longer-clause-sorts
+returns-then-is_longer-clause-sorts g c = λ o.
+    let T : List Bool = rest c.args.frame.now.set c.args.load.now in
+    let more : (c.args.frame.now.most - 1) * c.args.cycle < c.rest_times-times.result.total = c.is_longer.ensures.0 c.if-is_longer.true in
+    omega (arith, o.bound, long_rest c.args.kind c.args.inst.now c.args.cycle T c.args.frame.now.most c.requires.cycle.some c.requires.some (omega (arith, c.requires.few)) (omega (arith, more, c.rest_times-times.ensures.total)))
+
+pub exceeds_with-requires-clause-times : goal.exceeds_with-requires-clause-times
+exceeds_with-requires-clause-times g c =
+    let P : List Bool → Type 0 = λ z. AreTimes c.args.inst.now z c.rest_times-times.result.total c.rest_times-times.result.longest in
+    subst P (sym (c.minus-rest.ensures.value ∙ ap (λ (z : List Bool). minus c.args.frame.now.set z) c.union.ensures.value)) c.rest_times-times.ensures
+
 pub returns-then-not-full-clause-publishes : goal.returns-then-not-full-clause-publishes
 returns-then-not-full-clause-publishes g c =
     one_none c.args.kind c.args.inst.now c.args.cycle (g.D.Desk.desk c.args.desk.now) (g.D.Desk.desk c.args.desk.now) (rest c.args.frame.now.set c.args.load.now) 0 (waits_none (g.D.Desk.desk c.args.desk.now))
 
-pub exceeds-requires-clause-set : goal.exceeds-requires-clause-set
-exceeds-requires-clause-set g c =
+pub exceeds_with-requires-clause-set : goal.exceeds_with-requires-clause-set
+exceeds_with-requires-clause-set g c =
     let P : List Bool → Type 0 = λ z. IsTaskSet c.args.inst.now z in
     subst P (sym (c.minus-rest.ensures.value ∙ ap (λ (z : List Bool). minus c.args.frame.now.set z) c.union.ensures.value)) (rest_tasks c.args.inst.now c.args.frame.now.set c.args.load.now c.requires.set)
 
-pub returns-then-exceeds-clause-publishes : goal.returns-then-exceeds-clause-publishes
-returns-then-exceeds-clause-publishes g c =
+pub returns-then-exceeds_with-clause-publishes : goal.returns-then-exceeds_with-clause-publishes
+returns-then-exceeds_with-clause-publishes g c =
     one_none c.args.kind c.args.inst.now c.args.cycle (g.D.Desk.desk c.args.desk.now) (g.D.Desk.desk c.args.desk.now) (rest c.args.frame.now.set c.args.load.now) 0 (waits_none (g.D.Desk.desk c.args.desk.now))
 
 pub returns-then-is_empty-clause-publishes : goal.returns-then-is_empty-clause-publishes

@@ -1,0 +1,81 @@
+//! The listing of a frame's loads: the walk from load to load, beside the times of the frame's set.
+//!
+//! The rest of a load takes the total time of the set less the load's own, which the walk keeps. So most loads are
+//! closed by two numbers, before the tasks that they leave are looked at.
+ghost use Rattle.std.specs.Prelude.{◌≡◌, ◌*◌, ◌<◌, ◌↔◌, IsTrue, Some, None, IsNone, IfSome};
+ghost use Rattle.line_instance.specs.Line.{IsTaskSet};
+ghost use Rattle.line_rules.specs.Loads.{IsLoad, rest};
+ghost use Rattle.line_rules.specs.Order.{After, IsFollowing};
+ghost use Rattle.line_rules.specs.declared.types.Load.{Load as Pair};
+ghost use Rattle.load_facts.specs.Times.{AreTimes};
+ghost use Rattle.station_search.specs.Work.{IsBeside, with_last};
+
+use line_instance::Instance;
+use line_rules::{Load, OpenFrame};
+use lower_bounds::{Times, times_in};
+use station_load::Walk;
+use station_load::steps::begin;
+
+/// A walk over the loads of a set, and the times of the set.
+#[derive(Drop)]
+pub struct Listing {
+    /// The walk, which stands at the load that was listed last.
+    pub walk: Walk,
+    /// The times of the set.
+    pub times: Times,
+}
+
+/// The listing of a frame of which no load was listed.
+pub fn begin_listing(inst: &Instance, cycle: u64, frame: &OpenFrame) -> Listing
+    requires set { IsTaskSet inst.now frame.now.set }
+    requires last { frame.now.last ≡ None }
+    ensures { IsBeside inst.now cycle frame.now result }
+{
+    Listing {
+        walk: begin(inst, cycle, &frame.set, frame.mode),
+        times: times_in(inst, &frame.set),
+    }
+}
+
+/// The load after the last one of a frame, by the listing beside it.
+pub fn next_load(
+    inst: &Instance,
+    cycle: u64,
+    frame: &OpenFrame,
+    listing: &mut Listing,
+) -> Option<Load>
+    requires { IsBeside inst.now cycle frame.now listing.old }
+    ensures none { IsNone result → (l : Pair) → IsLoad inst.now cycle frame.now.mode frame.now.set l → After inst.now frame.now.last l → ⊥ }
+    ensures next { IfSome result (IsFollowing inst.now cycle frame.now.mode frame.now.set frame.now.last) }
+    ensures beside { IfSome result (λ l. IsBeside inst.now cycle (with_last frame.now l) listing.new) }
+{
+    listing.walk.step(inst)
+}
+
+/// The times of what the last load of a frame leaves: their total, and a time that no task of the frame's set exceeds.
+#[inline]
+pub fn rest_times(
+    inst: &Instance,
+    cycle: u64,
+    frame: &OpenFrame,
+    load: &Load,
+    listing: &Listing,
+) -> Times
+    requires beside { IsBeside inst.now cycle frame.now listing.now }
+    requires load { IsLoad inst.now cycle frame.now.mode frame.now.set load.now }
+    requires last { frame.now.last ≡ Some load.now }
+    ensures { AreTimes inst.now (rest frame.now.set load.now) result.total result.longest }
+{
+    Times {
+        total: listing.times.total - listing.walk.sum(),
+        longest: listing.times.longest,
+    }
+}
+
+/// Whether a time is more than so many cycles.
+#[inline]
+pub fn is_longer(time: u64, most: u32, cycle: u64) -> bool
+    ensures { IsTrue result ↔ most * cycle < time }
+{
+    u128::from(most) * u128::from(cycle) < u128::from(time)
+}
