@@ -61,7 +61,7 @@ pub record IsDraft (lines : Lines) (d : Draft) : Type 0 where
   pub times : d.times.items ≡ map time_line (under Times lines)
   pub pairs : d.pairs.items ≡ map pair_line (under Pairs lines)
 
--- want of memory, or this is wrong
+-- out of memory, or this is wrong
 abbrev pub IsWrong : Option AlbKind → LineError → Type 0
 IsWrong fault Memory = Unit {0}
 IsWrong fault (Fault kind) = fault ≡ Some kind
@@ -74,7 +74,7 @@ Takes before line content d r = MatchResult r (λ _. (line_fault before content 
 abbrev pub opened : Draft → Section → Headings → Draft
 opened d s seen = record { section = Some s; seen = seen; tasks = d.tasks; cycle = d.cycle; strength = d.strength; times = d.times; pairs = d.pairs }
 
--- a fault of a line, or want of memory
+-- a fault of a line, or out of memory
 abbrev pub error_at : ℕ → LineError → AlbError
 error_at line Memory = errors.Memory
 error_at line (Fault kind) = errors.Fault (record { line = line; kind = kind })

@@ -9,7 +9,7 @@ use crate::mark::{Mark, mark_of};
 use in2_reader::next_content;
 use std::alloc::Global;
 
-// The fault of a line, or want of memory.
+// The fault of a line, or out of memory.
 fn error_at(line: u64, error: LineError) -> AlbError
     ensures { result ≡ error_at line error }
 {

@@ -121,7 +121,7 @@ module _ (tells : Type 0) (r r' : ℕ) (name name' : List ℕ) (files new : List
   start : bytes_of (files name) ++ buffer ≡ []
   start = ap (λ o. bytes_of o ++ buffer) e ∙ none
 
-  -- after a put that failed the file has a front of the text
+  -- after a put that failed the file has a prefix of the text
   pub front_kept : failed' ≡ true → (k : ℕ) × (new name ≡ Some (take k text))
   front_kept f =
       let same : name' ≡ name = ap (λ b. b.1) p.base in

@@ -9,7 +9,7 @@ pub enum Taken {
     Line,
     /// No LF is left in the text, so there is no further line.
     End,
-    /// The lines can't go on, for want of memory or for a fault of the outside.
+    /// The lines can't go on: out of memory, or a fault of the outside.
     Stopped,
 }
 

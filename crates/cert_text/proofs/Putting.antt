@@ -7,7 +7,7 @@ use Rattle.line_io.specs.Outside.{Rises}
 use Rattle.cert_lines.specs.Numbers.{number_text}
 use Rattle.cert_text.specs.Sent.{Sent, IsFront, Adds, Puts}
 
--- a front of a text is a front of a longer one
+-- a prefix of a text is a prefix of a longer one
 pub front_of_more : (front a b : List ℕ) → IsFront front a → IsFront front (a ++ b)
 front_of_more front a b f = (min f.0 (length a), f.1 ∙ clipped f.0 a ∙ sym (take-append-le (min f.0 (length a)) a b (omega arith)))
   where

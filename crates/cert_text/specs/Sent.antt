@@ -10,7 +10,7 @@ pub record Sent (B : Type 0) : Type 0 where
   pub faults : ℕ
   pub base : B
 
--- a front of a text
+-- a prefix of a text
 abbrev pub IsFront : List ℕ → List ℕ → Type 0
 IsFront front text = (k : ℕ) × (front ≡ take k text)
 

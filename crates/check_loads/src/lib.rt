@@ -1,5 +1,5 @@
-//! The loads of a set in their order, whether one is full, and the bound of a set, for the check of certificates alone: it shares no code
-//! with what finds them.
+//! The loads of a set in their order, whether one is full, and the bound of a set, for the check of certificates alone:
+//! beyond sets and lines it shares no code with what finds them.
 #![tactic(auto)]
 
 pub mod bounds;

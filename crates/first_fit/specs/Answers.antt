@@ -17,7 +17,7 @@ pub record IsGood (kind : LineKind) (line : Line) (c : ℕ) (b : Assignment) : T
   pub few : b.stations ≤ tasks line
   pub short : (i : ℕ) → IsTooLong line c i → ⊥
 
--- the ranked balance, or the least task that is longer than the cycle; want of memory is free
+-- the ranked balance, or the least task that is longer than the cycle; out of memory is free
 abbrev pub IsRanked : LineKind → Line → ℕ → Ranked → Type 0
 IsRanked kind line c (answers.Good b) = IsGood kind line c b
 IsRanked kind line c (answers.TooLong i) = IsLeastWhere (IsTooLong line c) i

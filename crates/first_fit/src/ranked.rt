@@ -19,7 +19,7 @@ pub enum Ranked {
     Good(Balance),
     /// The least task whose time exceeds the cycle.
     TooLong(u32),
-    /// Want of memory.
+    /// Out of memory.
     NoMemory,
 }
 

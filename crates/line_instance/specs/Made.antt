@@ -36,7 +36,7 @@ pub record IsInstanceOf (given : List ℕ) (arcs : List Prec) (line : Line) : Ty
   pub line_is : IsLine line
 
 -- Each answer with its cause. The refusals come in this order: no time, too many, a time above the limit, an arc that names no task,
--- a cycle. Want of memory comes where none of the first four does.
+-- a cycle. Out of memory comes where none of the first four does.
 abbrev pub IsMade : List ℕ → List Prec → Made → Type 0
 IsMade times arcs (Good line) = IsInstanceOf times arcs line
 IsMade times arcs NoTasks = times ≡ []

@@ -54,7 +54,7 @@ pub fn no_ring()
     ensures { NoRing }
 {}
 
-/// The answers of `make` exclude each other, up to the ring that is shown and to want of memory.
+/// The answers of `make` exclude each other, up to the ring that is shown and to out of memory.
 pub fn answer_is_one()
     ensures { AnswerIsOne }
 {}

@@ -67,7 +67,7 @@ impl Calls {
         Some(kept_of(&self.tears, call))
     }
 
-    /// Lets the call of a number fail after a front of its piece is kept.
+    /// Lets the call of a number fail after a prefix of its piece is kept.
     pub fn tear(&mut self, call: u64, keep: u64) -> Result<(), AllocError>
         ensures ok { OnOk result (self.new ≡ torn self.old call keep) }
         ensures err { OnErr result (self.new ≡ self.old) }

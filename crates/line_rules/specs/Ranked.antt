@@ -77,8 +77,8 @@ abbrev pub AreRanked : LineKind → Line → ℕ → List Placement → Type 0
 AreRanked kind line c [] = Unit {0}
 AreRanked kind line c (p ∷ ps) = ComesNext kind line c ps p × AreRanked kind line c ps
 
--- The ranked balance (Scholl's ranked positional weights, with sides): its placements are ranked, each task has one, each stands where
--- the balance says, and the station of the last one is the balance's last.
+-- The ranked balance (the ranked positional weights of Helgeson and Birnie, with sides): its placements are ranked, each
+-- task has one, each stands where the balance says, and the station of the last one is the balance's last.
 pub record IsRankedBalance (kind : LineKind) (line : Line) (c : ℕ) (b : Assignment) : Type 0 where
   pub placed : List Placement
   pub ranked : AreRanked kind line c placed

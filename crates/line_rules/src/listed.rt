@@ -117,7 +117,7 @@ impl<T> Listed<T> {
         self.items.as_slice()
     }
 
-    /// Puts an item at the end. For want of memory the list stays as it was, and the item is given up.
+    /// Puts an item at the end. Where memory is out the list stays as it was, and the item is given up.
     pub fn push(&mut self, item: T) -> Result<(), AllocError>
     where
         T: Drop,

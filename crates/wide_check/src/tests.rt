@@ -11,7 +11,7 @@ use std::alloc::{AllocError, Global};
 use std::test::Fail;
 use std::thread::Threads;
 
-/// The front of a certificate of seven free tasks at 7, in five stations.
+/// The first lines of a certificate of seven free tasks at 7, in five stations.
 const SEVEN: &str =
     "line balance certificate 2\nline straight\ntasks 7\ncycle 7\nlower 5\nupper 5\nbalance 5\n1\n2\n3\n4\n3\n4\n5\n";
 
