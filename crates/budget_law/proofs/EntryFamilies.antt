@@ -3,7 +3,7 @@ use Rattle.std.proofs.Common.{◌≡◌, ℕ, zero, suc, ◌+◌, ◌<◌, true,
 use Rattle.std.proofs.Common.{sym, ap, ◌∙◌, subst, inl, inr, arith, Some}
 use Rattle.std.specs.Prelude.{nat_eq, slice_get}
 use Rattle.std.proofs.lemmas.Bool.{cases_lt, eqb-true}
-use Rattle.task_set.specs.Truths.{In}
+use Rattle.task_set.specs.Truths.{In, count}
 use Rattle.line_instance.specs.Line.{Line, IsLine, IsRanked, IsTaskSet, tasks, time}
 use Rattle.line_rules.specs.Balance.{IsBalance, Holds}
 use Rattle.line_rules.specs.Bounds.{IsTooLong}
@@ -17,6 +17,7 @@ use Rattle.line_rules.specs.declared.types.Entry.{Entry}
 use Rattle.line_rules.specs.declared.types.Why.{Why}
 use Rattle.line_rules.specs.declared.types.Why.TheVariants as why
 use Rattle.line_rules.proofs.Carried.{stands_alone}
+use Rattle.line_rules.proofs.Spread.{count_below}
 use Rattle.line_rules.proofs.Restrict.{restricted}
 use Rattle.line_rules.proofs.Sound.{sound}
 use Rattle.budget_law.proofs.Families.{Family, IsFamily, AreDifferent, triples_of, listed_rise}
@@ -38,14 +39,14 @@ most_below : (kind : LineKind) (line : Line) → IsLine line → IsRanked line �
     → ((i : ℕ) → IsTooLong line X i → ⊥) → (R : List Bool) → IsTaskSet line R → (most : ℕ) → Holds kind line X R most
     → most < tasks line
 most_below kind line ok ranked X short R set most h =
-    let alone : (place : ℕ → Seatplace) × IsBalance kind line X R (tasks line) place
+    let alone : (place : ℕ → Seatplace) × IsBalance kind line X R (count R) place
     × ((i j : ℕ) → In R i → In R j → (place i).station ≡ (place j).station → i ≡ j) =
     stands_alone kind line X R ok ranked set (λ i m. elim (cases_lt X (time line i))
     [ inl l ↦ absurd (short i (set.tasks i m, l)) | inr g ↦ g ]) in
     elim (cases_lt most (tasks line)) [
       | inl l ↦ l
-      | inr g ↦ absurd (h alone.0 (restricted kind line X X R R (tasks line) most alone.0 (omega arith) g (λ i m. m)
-          alone.1))
+      | inr g ↦ absurd (h alone.0 (restricted kind line X X R R (count R) most alone.0 (omega arith)
+          (omega (arith, g, count_below R (tasks line) set.tasks)) (λ i m. m) alone.1))
     ]
 
 has_mode : (kind : LineKind) (line : Line) (es : List Entry) (e : Entry) (w : Why) → FollowsBy kind line es e w

@@ -10,7 +10,7 @@ use Rattle.line_instance.specs.Inside.{MayCome, IsLeastFree, IsOrdering, IsWhole
 use Rattle.line_instance.proofs.Joining.{nothing_in}
 
 -- how many are in s
-pub size : List Bool → ℕ
+unfoldable pub size : List Bool → ℕ
 size [] = 0
 size (b ∷ bs) = cond b 1 0 + size bs
 

@@ -4,13 +4,14 @@ use Rattle.std.proofs.Math.ListN.{length-set}
 use Rattle.std.proofs.lemmas.List.{ext_get_or, get_or_read, length-replicate}
 use Rattle.std.proofs.lemmas.Bool.{cases_eq, cases_lt, cases_Bool}
 use Rattle.task_set.specs.Truths.{In}
+use Rattle.task_set.proofs.Counts.{same_members}
 use Rattle.task_set.proofs.Members.{In-set_cases}
 use Rattle.line_instance.specs.Line.{Line, IsLine, IsRanked, tasks, at_rank, Before}
 use Rattle.line_instance.specs.Walks.{Leads, Walk, arc, on, IsRing, at, arc_at, AreArcs}
 use Rattle.line_instance.specs.Ranks.{AreRanks, IsFree, IsPlaced}
 use Rattle.line_instance.specs.Partners.{AreKept}
 use Rattle.line_instance.specs.Made.{IsInstanceOf, AreTimes, IsFirstLong, IsFirstBad}
-use Rattle.line_instance.specs.Laws.{RanksArePermutation, InstanceIsOne, NoRing, AnswerIsOne, KeptIsOne}
+use Rattle.line_instance.specs.Laws.{AfterIsTheConverse, IsRankOf, RanksAreInverse, RanksArePermutation, InstanceIsOne, NoRing, AnswerIsOne, KeptIsOne}
 use Rattle.line_instance.specs.declared.arcs.Prec.{Prec}
 use Rattle.line_instance.specs.declared.making.Made.TheVariants.{Good, NoTasks, TooManyTasks, BadTime, BadArc, Cycle, NoMemory}
 use Rattle.line_instance.proofs.Sums.{same_truth}
@@ -298,3 +299,14 @@ kept_is_one line i a b x y = ext_get_or 0 a b (omega (arith, no_longer line i a 
 
 pub instance_is_one : InstanceIsOne
 instance_is_one = one_instance
+
+pub after_is_converse : AfterIsTheConverse
+after_is_converse = record {
+  one = λ line i a b p q. same_members a b p.set.truths q.set.truths (λ j. (λ m. (q.members j).1 ((p.members j).0 m), λ m. (p.members j).1 ((q.members j).0 m)));
+  converse = λ line i j s p. p.members j;
+}
+
+pub ranks_inverse : RanksAreInverse
+ranks_inverse line ranked rank h k l =
+    let t : IsRankOf line (at_rank line k) (rank (at_rank line k)) = h (at_rank line k) (ranked.task k l) in
+    ranked.once (rank (at_rank line k)) k t.rank l t.task

@@ -1,7 +1,8 @@
-//! Laws of instances. Each function does nothing, or shows that two calls agree: its contract is the law.
-ghost use Rattle.std.specs.Prelude.{◌≡◌, ◌<◌, ℕ, IsTrue};
+//! Laws of instances. Each function does nothing: its contract is the law.
+ghost use Rattle.std.specs.Prelude.{◌<◌, ℕ};
 ghost use Rattle.line_instance.specs.Line.{Before, tasks, at_rank};
-ghost use Rattle.line_instance.specs.Laws.{RanksArePermutation, InstanceIsOne, NoRing, AnswerIsOne, KeptIsOne};
+ghost use Rattle.line_instance.specs.Laws.{AfterIsTheConverse, RanksAreInverse, RanksArePermutation};
+ghost use Rattle.line_instance.specs.Laws.{InstanceIsOne, NoRing, AnswerIsOne, KeptIsOne};
 
 use crate::instance::Instance;
 
@@ -13,15 +14,10 @@ pub fn before_is_an_order(inst: &Instance)
     let _tasks = inst.tasks();
 }
 
-/// Task `j` is after task `i` where `i` is before `j`: the answer is always true.
-pub fn after_is_the_converse(inst: &Instance, i: u32, j: u32) -> bool
-    requires first { i < tasks inst.now }
-    requires then { j < tasks inst.now }
-    ensures { IsTrue result }
-{
-    let _tasks = inst.tasks();
-    inst.after(i).has(j) == inst.before(j).has(i)
-}
+/// The set of the tasks after a task is one, and a task is in it where the other is in its row of the tasks before it.
+pub fn after_is_the_converse()
+    ensures { AfterIsTheConverse }
+{}
 
 /// A task's rank is above those of the tasks before it.
 pub fn ranks_rise(inst: &Instance)
@@ -30,14 +26,10 @@ pub fn ranks_rise(inst: &Instance)
     let _tasks = inst.tasks();
 }
 
-/// `rank_of` and `at_rank` undo each other: the answer is always true.
-pub fn ranks_are_inverse(inst: &Instance, i: u32) -> bool
-    requires { i < tasks inst.now }
-    ensures { IsTrue result }
-{
-    let _tasks = inst.tasks();
-    inst.at_rank(inst.rank_of(i)) == i && inst.rank_of(inst.at_rank(i)) == i
-}
+/// Ranks by tasks and tasks by ranks undo each other: the rank of the task of a rank is that rank.
+pub fn ranks_are_inverse()
+    ensures { RanksAreInverse }
+{}
 
 /// The ranks go over the tasks, each task once.
 pub fn ranks_are_a_permutation()

@@ -22,14 +22,8 @@ pub mod Seated
 pub mod Spread
 pub mod Carried
 pub mod Proved
-pub mod Rows
 pub mod Listing
 pub mod Deciding
-pub mod Five
 pub mod Free
-pub mod Beginning
-pub mod Six
 pub mod Counted
-pub mod Branches
-pub mod Seven
 pub mod Leaving

@@ -1,5 +1,5 @@
 -- What an accepted certificate proves.
-use Rattle.std.proofs.Common.{ℕ, ◌-◌, ◌<◌, Bool, ◌&&◌, nat_eq, List, refl, sym, subst, Option, inl, inr, arith}
+use Rattle.std.proofs.Common.{◌≡◌, ℕ, ◌-◌, ◌<◌, ◌≤◌, Bool, ◌&&◌, nat_eq, List, refl, sym, subst, Option, inl, inr, arith}
 use Rattle.std.proofs.lemmas.Bool.{cases_lt, and_from, eq-eqb}
 use Rattle.task_set.specs.Truths.{In}
 use Rattle.line_instance.specs.Line.{Line, IsLine, has}
@@ -7,8 +7,8 @@ use Rattle.line_instance.proofs.Sums.{weigh-one}
 use Rattle.line_rules.specs.Balance.{IsBalance, Holds, all_tasks, seat}
 use Rattle.line_rules.specs.Bounds.{IsTooLong}
 use Rattle.line_rules.specs.Entries.{IsDerived, Answers, HasAnswer}
-use Rattle.line_rules.specs.Accepted.{IsProof, ClaimIsAccepted, IsAccepted, ClaimIsInfeasible, IsInfeasible}
-use Rattle.line_rules.specs.Laws.{IsProved, NoBalanceIsLeft}
+use Rattle.line_rules.specs.Accepted.{IsProof, ClaimIsAccepted, IsAccepted, IsLeastStations, IsLeastCycle, ClaimIsInfeasible, IsInfeasible}
+use Rattle.line_rules.specs.Laws.{IsProved, AcceptedOptimumIsLeast, NoBalanceIsLeft}
 use Rattle.line_rules.specs.declared.types.LineKind.{LineKind}
 use Rattle.line_rules.specs.declared.types.Balance.{Balance as Assignment}
 use Rattle.line_rules.specs.declared.types.Entry.{Entry}
@@ -87,3 +87,21 @@ claim_left kind line ok (ask.Cycle stations) (claim.Bounds l u b es trail) i p =
 
 pub infeasible_true : (line : Line) (cert : Certificate) (i : ℕ) → IsLine line → IsInfeasible line cert i → NoBalanceIsLeft cert.ask cert.kind line
 infeasible_true line cert i ok p = claim_left cert.kind line ok cert.ask cert.claim i p.claim
+
+least_stations : (kind : LineKind) (line : Line) (cycle best : ℕ) (a : Ask) → a ≡ ask.Stations cycle → IsProved kind line a best best → IsLeastStations kind line cycle best
+least_stations kind line cycle best a e p =
+    let P : Ask → Type 0 = λ x. IsProved kind line x best best in
+    let q : IsProved kind line (ask.Stations cycle) best best = subst P e p in
+    record { reached = q.0; least = q.1 }
+
+least_cycle : (kind : LineKind) (line : Line) (stations best : ℕ) (a : Ask) → 1 ≤ best → a ≡ ask.Cycle stations → IsProved kind line a best best → IsLeastCycle kind line stations best
+least_cycle kind line stations best a one e p =
+    let P : Ask → Type 0 = λ x. IsProved kind line x best best in
+    let q : IsProved kind line (ask.Cycle stations) best best = subst P e p in
+    record { some = one; reached = q.0; least = q.1 }
+
+pub optimum_is_least : AcceptedOptimumIsLeast
+optimum_is_least = record {
+  stations = λ line cert cycle best units ok e p. least_stations cert.kind line cycle best cert.ask e (accepted_true line cert best best units ok p);
+  cycle = λ line cert stations best units ok one e p. least_cycle cert.kind line stations best cert.ask one e (accepted_true line cert best best units ok p);
+}

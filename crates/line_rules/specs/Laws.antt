@@ -1,14 +1,14 @@
 -- Laws over the definitions.
 use Rattle.std.specs.Prelude.{◌≡◌, ℕ, ◌<◌, ◌≤◌, ◌⊎◌, Bool, false, List, [], ◌∷◌, ◌++◌, take, slice_get, Option, Some}
-use Rattle.task_set.specs.Truths.{In, IsSubset}
+use Rattle.task_set.specs.Truths.{In, IsSubset, count}
 use Rattle.line_instance.specs.Line.{Line, IsLine, IsRanked, IsTaskSet, has, tasks, time}
 use Rattle.line_rules.specs.Balance.{IsBalance, Holds, IsRight, all_tasks}
 use Rattle.line_rules.specs.Bounds.{bound}
 use Rattle.line_rules.specs.Loads.{IsLoad, rest}
 use Rattle.line_rules.specs.Order.{Precedes, Lists, UpTo}
-use Rattle.line_rules.specs.Entries.{Answers, IsOpen, Follows, IsDerived}
-use Rattle.line_rules.specs.Units.{UnitsOf, UnitsWhole}
-use Rattle.line_rules.specs.Accepted.{HasBalance, IsAccepted, IsInfeasible}
+use Rattle.line_rules.specs.Entries.{Answers, IsOpen, Follows, IsDerived, IsFresh, IsFreshAt}
+use Rattle.line_rules.specs.Units.{UnitsOf, UnitsAt, UnitsWhole}
+use Rattle.line_rules.specs.Accepted.{HasBalance, IsAccepted, IsInfeasible, IsLeastStations, IsLeastCycle}
 use Rattle.line_rules.specs.Ranked.{IsRankedBalance}
 use Rattle.line_rules.specs.declared.types.LineKind.{LineKind}
 use Rattle.line_rules.specs.declared.types.Mode.{Mode}
@@ -47,11 +47,11 @@ EveryRefusalCarriesOver =
     (kind : LineKind) (line : Line) (c d : ℕ) (R S : List Bool) (r s : ℕ)
     → c ≤ d → r ≤ s → IsSubset S R → Holds kind line d S s → Holds kind line c R r
 
--- tasks that each fit a station have a balance with one task per station, in as many stations as the line has tasks
+-- tasks that each fit a station have a balance with one task per station, in as many stations as there are of them
 abbrev pub EachTaskMayStandAlone : Type 0
 EachTaskMayStandAlone =
     (kind : LineKind) (line : Line) (c : ℕ) (R : List Bool) → IsLine line → IsRanked line → IsTaskSet line R → ((i : ℕ) → In R i → time line i ≤ c)
-    → (place : ℕ → Seatplace) × IsBalance kind line c R (tasks line) place × ((i j : ℕ) → In R i → In R j → (place i).station ≡ (place j).station → i ≡ j)
+    → (place : ℕ → Seatplace) × IsBalance kind line c R (count R) place × ((i j : ℕ) → In R i → In R j → (place i).station ≡ (place j).station → i ≡ j)
 
 -- the order of loads is strict: no load stands before itself, and what stands before a load that stands before a third does so too
 pub record OrderIsStrict : Type 0 where
@@ -85,6 +85,16 @@ UnitsAreUnique = (line : Line) (es : List Entry) (trail : Option Trail) (a b : �
 -- the entries of a derived list have a number of units
 abbrev pub DerivedHasUnits : Type 0
 DerivedHasUnits = (kind : LineKind) (line : Line) → IsLine line → IsRanked line → (es : List Entry) → IsDerived kind line es → (units : ℕ) × UnitsOf line es units
+
+-- entries of which none is answered by an earlier one are so at each cycle
+abbrev pub FreshIsFreshAtEach : Type 0
+FreshIsFreshAtEach = (es : List Entry) (X : ℕ) → IsFresh es → IsFreshAt X es
+
+-- the units at a cycle are at most those of all the entries and the trail
+abbrev pub UnitsAtAreAtMostWhole : Type 0
+UnitsAtAreAtMostWhole =
+    (line : Line) (X : ℕ) (es : List Entry) (trail : Option Trail) (a b : ℕ)
+    → UnitsAt line X es trail a → UnitsWhole line es trail b → a ≤ b
 
 -- the rest of a load of R is a set of tasks of R, and lacks a task of R
 pub record IsRest (line : Line) (R S : List Bool) : Type 0 where
@@ -121,6 +131,14 @@ abbrev pub EveryAcceptedBoundIsTrue : Type 0
 EveryAcceptedBoundIsTrue =
     (line : Line) (cert : Certificate) (lower upper units : ℕ) → IsLine line → IsAccepted line cert lower upper units
     → IsProved cert.kind line cert.ask lower upper
+
+-- where the bounds of an accepted certificate meet they are what is asked for: the least number of stations, or the least
+-- cycle from 1
+pub record AcceptedOptimumIsLeast : Type 0 where
+  pub stations : (line : Line) (cert : Certificate) (cycle best units : ℕ) → IsLine line
+      → cert.ask ≡ ask.Stations cycle → IsAccepted line cert best best units → IsLeastStations cert.kind line cycle best
+  pub cycle : (line : Line) (cert : Certificate) (stations best units : ℕ) → IsLine line → 1 ≤ best
+      → cert.ask ≡ ask.Cycle stations → IsAccepted line cert best best units → IsLeastCycle cert.kind line stations best
 
 -- where a certificate that there is no balance is accepted, there is none, in any number of stations
 abbrev pub NoBalanceIsLeft : Ask → LineKind → Line → Type 0

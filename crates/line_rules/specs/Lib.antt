@@ -11,4 +11,3 @@ pub mod Seats
 pub mod Accepted
 pub mod Ranges
 pub mod Laws
-pub mod Rows

@@ -1,8 +1,11 @@
 //! What is true of all lines, cycles and sets, for the crates above to cite.
-ghost use Rattle.line_rules.specs.Laws.{EveryRankedBalanceIsRight, EveryEntryHolds, EveryBoundHolds, EveryBalanceCarriesOver, EveryRefusalCarriesOver, EachTaskMayStandAlone};
-ghost use Rattle.line_rules.specs.Laws.{OrderIsStrict, OrderIsTotal, EachSetHasItsLists, DerivedHasUnits, ListsAreUnique, UnitsAreUnique, EveryRestIsSmaller, FollowsFromMore, AnswersLeadOn, DerivedGrows};
-ghost use Rattle.line_rules.specs.Laws.{EveryAcceptedBoundIsTrue, EveryInfeasibleCertificateIsTrue};
-ghost use Rattle.line_rules.specs.Rows.{BoundsOfTheRows, CertificateOfTheRows, BranchesOfTheRows, SwapOfTheRows};
+ghost use Rattle.line_rules.specs.Laws.{EveryRankedBalanceIsRight, EveryEntryHolds, EveryBoundHolds};
+ghost use Rattle.line_rules.specs.Laws.{EveryBalanceCarriesOver, EveryRefusalCarriesOver, EachTaskMayStandAlone};
+ghost use Rattle.line_rules.specs.Laws.{OrderIsStrict, OrderIsTotal, EachSetHasItsLists, ListsAreUnique};
+ghost use Rattle.line_rules.specs.Laws.{DerivedHasUnits, UnitsAreUnique, FreshIsFreshAtEach, UnitsAtAreAtMostWhole};
+ghost use Rattle.line_rules.specs.Laws.{EveryRestIsSmaller, FollowsFromMore, AnswersLeadOn, DerivedGrows};
+ghost use Rattle.line_rules.specs.Laws.{EveryAcceptedBoundIsTrue, AcceptedOptimumIsLeast};
+ghost use Rattle.line_rules.specs.Laws.{EveryInfeasibleCertificateIsTrue};
 
 /// The ranked balance of a line is right, and has at most as many stations as there are tasks.
 pub fn every_ranked_balance_is_right()
@@ -29,7 +32,7 @@ pub fn every_refusal_carries_over()
     ensures { EveryRefusalCarriesOver }
 {}
 
-/// Tasks that each fit a station have a balance with one task per station.
+/// Tasks that each fit a station have a balance with one task per station, in as many stations as there are of them.
 pub fn each_task_may_stand_alone()
     ensures { EachTaskMayStandAlone }
 {}
@@ -64,6 +67,16 @@ pub fn derived_has_units()
     ensures { DerivedHasUnits }
 {}
 
+/// Entries of which none is answered by an earlier one are so at each cycle.
+pub fn fresh_is_fresh_at_each()
+    ensures { FreshIsFreshAtEach }
+{}
+
+/// The units at a cycle are at most those of all the entries and the trail.
+pub fn units_at_are_at_most_whole()
+    ensures { UnitsAtAreAtMostWhole }
+{}
+
 /// The rest of a load of a set is a subset of the set, with fewer tasks.
 pub fn every_rest_is_smaller()
     ensures { EveryRestIsSmaller }
@@ -89,27 +102,12 @@ pub fn every_accepted_bound_is_true()
     ensures { EveryAcceptedBoundIsTrue }
 {}
 
+/// Where the bounds of an accepted certificate meet they are what is asked for: the least stations, or the least cycle.
+pub fn accepted_optimum_is_least()
+    ensures { AcceptedOptimumIsLeast }
+{}
+
 /// Where a certificate that there is no balance is accepted, there is none.
 pub fn every_infeasible_certificate_is_true()
     ensures { EveryInfeasibleCertificateIsTrue }
-{}
-
-/// The bounds of small lines, as worked by hand.
-pub fn the_bounds_of_the_rows()
-    ensures { BoundsOfTheRows }
-{}
-
-/// The loads and the certificates of five tasks, as worked by hand.
-pub fn the_certificate_of_the_rows()
-    ensures { CertificateOfTheRows }
-{}
-
-/// Two branches of six tasks, as worked by hand, and entries that don't follow.
-pub fn the_branches_of_the_rows()
-    ensures { BranchesOfTheRows }
-{}
-
-/// A swap among seven tasks, as worked by hand.
-pub fn the_swap_of_the_rows()
-    ensures { SwapOfTheRows }
 {}

@@ -13,6 +13,7 @@ use Rattle.line_rules.specs.Bounds.{up, sixths, lm1, lm2, lm3, chained, bound}
 use Rattle.line_rules.specs.declared.types.LineKind.{LineKind}
 use Rattle.line_rules.specs.declared.types.Seatplace.{Seatplace}
 use Rattle.line_rules.proofs.Carried.{stands_alone}
+use Rattle.line_rules.proofs.Spread.{count_below}
 use Rattle.line_rules.proofs.Law.{bound_le, some_member}
 use Rattle.line_rules.proofs.Nonempty.{bound_some, member_or_empty}
 use Rattle.load_facts.proofs.HeadTail.{up_ceil}
@@ -71,9 +72,9 @@ none_long c p ts z i l e = elim (cases_lt c (get_or ts i 0)) [
 
 pub small_bound : (kind : LineKind) (line : Line) (c : ℕ) (R : List Bool) → IsLine line → IsRanked line → IsTaskSet line R → 1 ≤ c → long_ones line c R ≡ 0 → bound kind line c R ≤ tasks line
 small_bound kind line c R ok ranked set o z =
-    let alone : (place : ℕ → Seatplace) × IsBalance kind line c R (tasks line) place × ((i j : ℕ) → In R i → In R j → (place i).station ≡ (place j).station → i ≡ j) =
+    let alone : (place : ℕ → Seatplace) × IsBalance kind line c R (count R) place × ((i j : ℕ) → In R i → In R j → (place i).station ≡ (place j).station → i ≡ j) =
     stands_alone kind line c R ok ranked set (λ i m. none_long c (has R) line.times z i (set.tasks i m) m) in
-    bound_le kind line c o R (tasks line) alone.0 alone.1
+    omega (arith, bound_le kind line c o R (count R) alone.0 alone.1, count_below R (tasks line) set.tasks)
 
 -- no bound is more than 1,025
 pub most_bound : (kind : LineKind) (line : Line) (c : ℕ) (R : List Bool) → IsLine line → IsRanked line → IsTaskSet line R → 1 ≤ c → bound kind line c R ≤ 1025

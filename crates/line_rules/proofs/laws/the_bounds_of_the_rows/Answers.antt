@@ -1,5 +1,0 @@
-use Rattle.line_rules.proofs.Rows.{bounds_of_the_rows}
-use Rattle.line_rules.proofs.laws.the_bounds_of_the_rows.Goals as goal
-
-pub returns : goal.returns
-returns c = bounds_of_the_rows
