@@ -1,7 +1,6 @@
 pub mod Machine
 pub mod History
 pub mod Laws
-pub mod Rows
 pub mod Desks
 pub mod Own
 pub mod Books

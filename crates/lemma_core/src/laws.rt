@@ -2,7 +2,6 @@
 ghost use Rattle.line_rules.specs.Laws.{EveryEntryHolds};
 ghost use Rattle.lemma_core.specs.Laws.{LastAnswerIsLast, HistoryReplays, HistoryIsExact, RunsKeep, HistoryGoesOn};
 ghost use Rattle.lemma_core.specs.Laws.{DesksGoOn, OwnEventsGoOn, AloneSeesItsOwn, EntriesGoOn};
-ghost use Rattle.lemma_core.specs.Rows.{EventsOfTheRows};
 
 /// In a derived list every entry holds: its set has no balance in its number of stations at its cycle.
 pub fn every_entry_holds()
@@ -55,9 +54,4 @@ pub fn alone_sees_its_own()
 /// The entries seen go on with those that were added, and an item goes on naming the same entry.
 pub fn entries_go_on()
     ensures { EntriesGoOn }
-{}
-
-/// Five events on an empty book, as worked by hand.
-pub fn the_events_of_the_rows()
-    ensures { EventsOfTheRows }
 {}

@@ -1,7 +1,7 @@
--- A worked row: three events on an empty book.
+-- A worked row: five events on an empty book.
 use Rattle.std.specs.Prelude.{◌≡◌, List, [], ◌∷◌}
 use Rattle.line_rules.specs.Balance.{all_tasks}
-use Rattle.line_rules.specs.Rows.{five_free, at}
+use Rattle.worked_lines.specs.Rows.{five_free, at}
 use Rattle.line_rules.specs.declared.types.Why.TheVariants as why
 use Rattle.lemma_core.specs.declared.types.Event.{Event}
 use Rattle.lemma_core.specs.declared.types.Event.TheVariants as event

@@ -1,7 +1,7 @@
 -- The worked row, by computing.
 use Rattle.std.proofs.Common.{refl}
 use Rattle.task_set.specs.Truths.{full_to}
-use Rattle.lemma_core.specs.Rows.{EventsOfTheRows}
+use Rattle.worked_lines.specs.Events.{EventsOfTheRows}
 
 pub events_of_the_rows : EventsOfTheRows
 unfolding full_to

@@ -1,0 +1,5 @@
+use Rattle.worked_lines.proofs.Five.{certificate_of_the_rows}
+use Rattle.worked_lines.proofs.laws.the_certificate_of_the_rows.Goals as goal
+
+pub returns : goal.returns
+returns c = certificate_of_the_rows
