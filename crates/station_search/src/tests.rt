@@ -7,6 +7,8 @@ ghost use Rattle.lemma_core.specs.Machine.{About};
 ghost use Rattle.lemma_core.specs.Books.{MayBeBest, desk_of};
 ghost use Rattle.station_search.specs.Decide.{IsFor};
 
+mod sharing;
+
 use crate::{Decided, Reason, Units, balance_of, choose_mode, decide};
 use lemma_core::Book;
 use line_instance::{Instance, Made, Prec, make};
@@ -159,6 +161,10 @@ fn five(alloc: Global) -> Result<Instance, Fail> {
     instance(alloc, vec![in alloc; 4, 4, 2, 2, 2]?, &[])
 }
 
+fn six(alloc: Global) -> Result<Instance, Fail> {
+    instance(alloc, vec![in alloc; 7, 4, 4, 2, 2, 2]?, &[])
+}
+
 fn seven(alloc: Global) -> Result<Instance, Fail> {
     instance(alloc, vec![in alloc; 7, 7, 4, 4, 2, 2, 2]?, &[])
 }
@@ -205,8 +211,7 @@ fn refutes_five_tasks_of_which_three_are_apart(rt: HostRuntime) -> Result<(), Fa
 #[test]
 fn refutes_six_tasks(rt: HostRuntime) -> Result<(), Fail> {
     let alloc = rt.alloc();
-    let inst = instance(alloc, vec![in alloc; 7, 4, 4, 2, 2, 2]?, &[])?;
-    let text = answer(alloc, &inst, LineKind::Straight, 3, 1000)?;
+    let text = answer(alloc, &six(alloc)?, LineKind::Straight, 3, 1000)?;
     assert_eq!(rt;
         text.as_str(),
         "entry 1 used 31|branch Fore {1, 2, 3, 4, 5} 2|branch Fore {0, 1, 2, 3, 4, 5} 3 0|"
