@@ -1,0 +1,308 @@
+-- What a run comes to whose questions ended: the least number of stations, or bounds.
+use Rattle.std.proofs.Common.{◌≡◌, ℕ, zero, suc, ◌+◌, ◌-◌, ◌<◌, ◌≤◌, Bool, true, cond, List, [], ◌∷◌, ◌++◌, length}
+use Rattle.std.proofs.Common.{refl, sym, ap, ◌∙◌, subst, inl, inr, arith, Option, Some, None}
+use Rattle.std.proofs.lemmas.Bool.{cases_lt, eq-eqb}
+use Rattle.std.specs.Prelude.{slice_get, nat_eq}
+use Rattle.task_set.specs.Truths.{In, IsSubset}
+use Rattle.line_instance.specs.Line.{Line, IsLine, IsRanked, tasks}
+use Rattle.line_rules.specs.Balance.{Holds, IsRight, all_tasks, seat}
+use Rattle.line_rules.specs.Bounds.{bound}
+use Rattle.line_rules.specs.Entries.{Answers, HasAnswer, IsDerived}
+use Rattle.line_rules.specs.Loads.{taken, rest}
+use Rattle.line_rules.specs.Ranked.{IsRankedBalance}
+use Rattle.line_rules.specs.Trails.{Leads, IsTrail, IsOpenOver}
+use Rattle.line_rules.specs.Units.{UnitsOf, UnitsIn, UnitsAt, entries_at}
+use Rattle.line_rules.specs.declared.types.LineKind.{LineKind}
+use Rattle.line_rules.specs.declared.types.Entry.{Entry}
+use Rattle.line_rules.specs.declared.types.OpenFrame.{OpenFrame}
+use Rattle.line_rules.specs.declared.types.Balance.{Balance as Assignment}
+use Rattle.line_rules.proofs.All.{In-all}
+use Rattle.line_rules.proofs.Carried.{bound_holds}
+use Rattle.line_rules.proofs.Nonempty.{bound_some}
+use Rattle.line_rules.proofs.Paths.{rest_inside, rest_without, leads_longer, deep_longer}
+use Rattle.line_rules.proofs.Proved.{answer_holds}
+use Rattle.line_rules.proofs.Restrict.{holds_more}
+use Rattle.lemma_core.specs.Machine.{About}
+use Rattle.lemma_core.specs.Books.{BookView, IsBook, IsReserved, MayBeBest}
+use Rattle.station_search.proofs.Events.{get_append_cases}
+use Rattle.budget_law.proofs.FewUnits.{units_few}
+use Rattle.round_run.specs.Rounds.{AreAtCycle, AddsBound, by_bound}
+use Rattle.round_run.specs.Questions.{IsRun, HasAsked, trail_of, stop_by}
+use Rattle.round_run.specs.Solving.{IsRunBook, IsBelow, IsSolved, IsStopped, IsSpent, FitsAll, Solves}
+use Rattle.round_run.specs.declared.questions.Stop.{Stop}
+use Rattle.round_run.specs.declared.solving.Cause.{Cause}
+use Rattle.round_run.specs.declared.solving.Cause.TheVariants as cause
+use Rattle.round_run.specs.declared.solving.Outcome.TheVariants as outcome
+use Rattle.round_run.proofs.RankedOnce.{same_stations}
+use Rattle.round_run.proofs.Turns.{cycles_on, units_on, longer}
+
+-- a trail is valid over more entries
+trail_longer : (kind : LineKind) (line : Line) (X : ℕ) (es more : List Entry) (R : List Bool) (most : ℕ)
+    (frames : List OpenFrame) → IsTrail kind line X es R most frames → IsTrail kind line X (es ++ more) R most frames
+trail_longer kind line X es more R most frames t = record {
+  passed = t.passed;
+  deepest = t.deepest;
+  all = t.all;
+  leads = leads_longer kind line X es more t.passed R most t.deepest.set t.deepest.most t.leads;
+  deep = deep_longer kind line X es more t.deepest t.deep;
+}
+
+module _ (kind : LineKind) (line : Line) (X : ℕ) (es : List Entry) (deepest : OpenFrame) where
+  -- the set of each frame is a part of that of the question
+  inside : (fs : List OpenFrame) (R : List Bool) (most : ℕ) → Leads kind line X es R most fs deepest.set deepest.most
+      → (k : ℕ) (f : OpenFrame) → slice_get (fs ++ deepest ∷ []) k ≡ Some f → IsSubset f.set R
+  inside [] R most h zero f e =
+      let s : deepest ≡ f = cc in
+      let P : List Bool → Type 0 = λ z. IsSubset f.set z in
+      subst P (ap (λ (z : OpenFrame). z.set) (sym s) ∙ h.0) (λ i m. m)
+  inside [] R most h (suc k) f e = absurd (cc)
+  inside (g ∷ fs) R most h zero f e =
+      let s : g ≡ f = cc in
+      let P : List Bool → Type 0 = λ z. IsSubset f.set z in
+      subst P (ap (λ (z : OpenFrame). z.set) (sym s) ∙ h.1.0) (λ i m. m)
+  inside (g ∷ fs) R most h (suc k) f e =
+      let P : List Bool → Type 0 = λ z. IsSubset f.set z in
+      subst P h.1.0 (λ i m. rest_inside g.set h.0 i (inside fs (rest g.set h.0) (g.most - 1) h.1.3 k f e i m))
+
+  -- and it lacks a task of that, but for the first frame's
+  most_is : (fs : List OpenFrame) (R : List Bool) (most : ℕ) → Leads kind line X es R most fs deepest.set deepest.most
+      → (k : ℕ) (f : OpenFrame) → slice_get (fs ++ deepest ∷ []) k ≡ Some f → f.set ≡ R → f.most ≡ most
+  most_is [] R most h zero f e q = let s : deepest ≡ f = cc in ap (λ (z : OpenFrame). z.most) (sym s) ∙ h.1
+  most_is [] R most h (suc k) f e q = absurd (cc)
+  most_is (g ∷ fs) R most h zero f e q = let s : g ≡ f = cc in ap (λ (z : OpenFrame). z.most) (sym s) ∙ h.1.1
+  most_is (g ∷ fs) R most h (suc k) f e q =
+      let i : (i : ℕ) × In (taken h.0) i = h.1.2.load.some in
+      let P : List Bool → Type 0 = λ z. In z i.0 in
+      let m : In f.set i.0 = subst P (h.1.0 ∙ sym q) (h.1.2.load.within i.0 i.1) in
+      absurd (rest_without g.set h.0 i.0 i.1 (inside fs (rest g.set h.0) (g.most - 1) h.1.3 k f e i.0 m))
+
+-- a frame of a trail that has the set of the question has its stations
+pub question_most : (kind : LineKind) (line : Line) (X : ℕ) (es : List Entry) (R : List Bool) (most : ℕ)
+    (frames : List OpenFrame) → IsTrail kind line X es R most frames → (k : ℕ) (f : OpenFrame)
+    → slice_get frames k ≡ Some f → f.set ≡ R → f.most ≡ most
+question_most kind line X es R most frames t k f e q =
+    most_is kind line X es t.deepest t.passed R most t.leads k f
+    (sym (ap (λ (z : List OpenFrame). slice_get z k) t.all) ∙ e) q
+
+-- where each entry is at the cycle, they are the entries of that cycle
+all_at : (X : ℕ) (es : List Entry) → AreAtCycle X es → entries_at X es ≡ es
+all_at X [] h = refl
+all_at X (e ∷ es) h =
+    let t : nat_eq e.cycle X ≡ true = eq-eqb e.cycle X (h 0 e refl) in
+    rw t (ap (λ (z : List Entry). e ∷ z) (all_at X es (λ k x g. h (suc k) x g)))
+
+no_entry : (j : ℕ) (x : Entry) → slice_get [] j ≡ Some x → ⊥
+no_entry j x e = cc
+
+one_entry : (y : Entry) (j : ℕ) (x : Entry) → slice_get (y ∷ []) j ≡ Some x → y ≡ x
+one_entry y zero x e = cc
+one_entry y (suc j) x e = absurd (cc)
+
+-- a run begins with the ranked balance, and with the bound of all tasks as its first question
+pub begins : (line : Line) (first : ℕ) (b : BookView) → IsLine line → b.about.line ≡ line → 1 ≤ b.about.cycle
+    → b.state.entries ≡ [] → MayBeBest b.about b.state.best
+    → IsRankedBalance b.about.kind line b.about.cycle b.state.best → IsReserved b
+    → first ≡ bound b.about.kind line b.about.cycle (all_tasks line)
+    → IsRun b.about.kind line b.about.cycle first first b
+begins line first b ok same cycle none may ranked reserved start =
+    let all : tasks b.about.line ≡ tasks line = ap (λ (z : Line). tasks z) same in
+    let P : List Entry → Type 0 = λ z. AreAtCycle b.about.cycle z in
+    let Q : Line → Type 0 = λ z. IsRight b.about.kind z b.about.cycle b.state.best in
+    let right : IsRight b.about.kind line b.about.cycle b.state.best = subst Q same may.right in
+    record {
+      about = λ i. record { line = same i; kind = b.about.kind; cycle = b.about.cycle };
+      cycles = subst P (sym none) (λ k e g. absurd (cc));
+      some = omega (
+        arith,
+        start,
+        bound_some b.about.kind line b.about.cycle (all_tasks line) 0
+            (In-all line 0 ok.small ok.some),
+      );
+      from = omega arith;
+      up_to = elim (cases_lt b.state.best.stations first) [
+        | inl l ↦ absurd (bound_holds b.about.kind line b.about.cycle cycle (all_tasks line) b.state.best.stations
+            (omega (arith, l, start)) (seat b.state.best.place) right.balance)
+        | inr l ↦ omega (arith, l, all, may.few)
+      ];
+      refuted = λ l. absurd (omega (arith, l));
+      ranked = λ a r. omega (arith, same_stations b.about.kind line b.about.cycle b.state.best a ranked r);
+      reserved = reserved;
+    }
+
+module _ (kind : LineKind) (line : Line) (c N first lower : ℕ) (b new : BookView) (ok : IsLine line)
+    (is_ranked : IsRanked line) (cycle : 1 ≤ c) (start : first ≡ bound kind line c (all_tasks line))
+    (fits : FitsAll line c) (a : AddsBound (first - 1) b new) (kept : IsBook new)
+    (shown : IsBelow line c new lower) where
+  gained_units : UnitsOf line a.gained 0
+  gained_units =
+      let P : List Entry → Type 0 = λ z. UnitsOf line z 0 in
+      elim a.entry [ inl e ↦ subst P (sym e) refl | inr e ↦ subst P (sym e) (0, 0, (refl, refl, refl)) ]
+
+  gained_few : length a.gained ≤ 1
+  gained_few = elim a.entry [
+    | inl e ↦ omega (arith, ap (λ (z : List Entry). length z) e)
+    | inr e ↦ omega (arith, ap (λ (z : List Entry). length z) e)
+  ]
+
+  module _ (stop : Option Stop)
+      (h : HasAsked kind line c N first (record { book = b; lower = lower; stop = stop })) where
+    about_is : new.about ≡ record { line = line; kind = kind; cycle = c }
+    about_is = a.goes_on.about ∙ h.run.about
+
+    right : IsRight kind line c new.state.best
+    right = let P : About → Type 0 = λ z. IsRight z.kind z.line z.cycle new.state.best in subst P about_is kept.right
+
+    derived : IsDerived kind line new.state.entries
+    derived = let P : About → Type 0 = λ z. IsDerived z.kind z.line new.state.entries in subst P about_is kept.derived
+
+    cycles : AreAtCycle c new.state.entries
+    cycles = cycles_on kind line c first lower b new h.run a.gained a.goes_on
+
+    units : UnitsOf line new.state.entries h.published
+    units =
+        let e : h.published + 0 ≡ h.published = omega arith in
+        let P : ℕ → Type 0 = λ z. UnitsOf line new.state.entries z in
+        subst P e (units_on kind line c first lower b new h.run a.gained a.goes_on h.published 0 h.entry_units
+        gained_units)
+
+    run_book : IsRunBook kind line c N (trail_of stop) new
+    run_book = record {
+      about = about_is;
+      cycles = cycles;
+      few = omega (
+        arith,
+        longer kind line c first lower b new h.run a.gained a.goes_on,
+        gained_few,
+        h.few,
+        h.run.up_to,
+        ok.small,
+      );
+      published = h.published;
+      listed = h.listed;
+      entry_units = units;
+      frame_units = h.frame_units;
+      within = omega (arith, h.within);
+    }
+
+    -- no balance has fewer stations than the lower bound
+    none_below : (s : ℕ) → s < lower → Holds kind line c (all_tasks line) s
+    none_below s l = elim (cases_lt 1 lower) [
+      | inl more ↦
+          holds_more kind line c c (all_tasks line) (all_tasks line) s (lower - 1) (omega arith) (omega (arith, l))
+          (λ i m. m)
+          (answer_holds kind line ok new.state.entries derived (all_tasks line) (lower - 1) c (shown more))
+      | inr few ↦ bound_holds kind line c cycle (all_tasks line) s (omega (arith, few, l, start, h.run.some))
+    ]
+
+    pub solved : new.state.best.stations ≤ lower → IsSolved kind line c N new
+    solved best = record {
+      run = record {
+        about = run_book.about;
+        cycles = run_book.cycles;
+        few = run_book.few;
+        published = run_book.published;
+        listed = 0;
+        entry_units = run_book.entry_units;
+        frame_units = refl;
+        within = omega (arith, run_book.within);
+      };
+      least = record {
+        reached = (seat new.state.best.place, right.balance);
+        least = λ s l. none_below s (omega (arith, l, best));
+      };
+      goal = λ more.
+          let s : HasAnswer new.state.entries (all_tasks line) (lower - 1) c = shown (omega (arith, more, best)) in
+          let r : Answers s.1 (all_tasks line) (lower - 1) c = s.2.1 in
+          (s.0, s.1, (s.2.0, record { same = r.same; stations = omega (arith, r.stations, best); long = r.long }));
+    }
+
+    stopped : (l : lower < new.state.best.stations) → IsStopped kind line c N lower new (trail_of stop)
+    stopped l = record { run = run_book; some = omega (arith, h.run.some, h.run.from); below = l; goal = shown }
+
+  -- a frame of the trail isn't answered by the entry of the bound
+  module _ (trail : List OpenFrame)
+      (h : HasAsked kind line c N first (record { book = b; lower = lower; stop = stop_by cause.Units trail })) where
+    unanswered : (k : ℕ) (f : OpenFrame) → slice_get trail k ≡ Some f → (j : ℕ) (x : Entry)
+        → slice_get a.gained j ≡ Some x
+        → Answers x f.set f.most c → ⊥
+    unanswered k f e j x g r =
+        let same : b.about.line ≡ line = ap (λ (z : About). z.line) h.run.about in
+        elim a.entry [
+          | inl none ↦
+              let y : slice_get [] j ≡ Some x = sym (ap (λ (z : List Entry). slice_get z j) none) ∙ g in
+              no_entry j x y
+          | inr one ↦
+              let y : by_bound b.about.line (first - 1) b.about.cycle ≡ x =
+              one_entry (by_bound b.about.line (first - 1) b.about.cycle) j x
+              (sym (ap (λ (z : List Entry). slice_get z j) one) ∙ g) in
+              let set : f.set ≡ all_tasks line =
+              sym r.same ∙ (sym (ap (λ (z : Entry). z.set) y) ∙ ap (λ (z : Line). all_tasks z) same) in
+              let most : f.most ≡ lower =
+              question_most kind line c b.state.entries (all_tasks line) lower trail h.ends.1.1 k f e set in
+              let few : x.most ≡ first - 1 = sym (ap (λ (z : Entry). z.most) y) in
+              omega (arith, most, few, r.stations, h.run.some, h.run.from)
+        ]
+
+    valid : IsTrail kind line c new.state.entries (all_tasks line) lower trail
+    valid =
+        let P : List Entry → Type 0 = λ z. IsTrail kind line c z (all_tasks line) lower trail in
+        subst P (sym a.goes_on.entries)
+        (trail_longer kind line c b.state.entries a.gained (all_tasks line) lower trail h.ends.1.1)
+
+    opens : IsOpenOver line c new.state.entries trail
+    opens =
+        let P : List Entry → Type 0 = λ z. IsOpenOver line c z trail in
+        subst P (sym a.goes_on.entries) (record {
+          unanswered = λ k f e j x g q r. elim (get_append_cases b.state.entries a.gained j x g) [
+            | inl y ↦ h.ends.1.2.unanswered k f e j x y q r
+            | inr y ↦ unanswered k f e y.0 x y.1 r
+          ];
+          further = h.ends.1.2.further;
+        })
+
+    units_here : UnitsAt line c new.state.entries (Some (record { cycle = c; frames = trail })) N
+    units_here =
+        let P : List Entry → Type 0 = λ z. UnitsOf line z h.published in
+        let t : nat_eq c c ≡ true = eq-eqb c c refl in
+        let Q : Bool → Type 0 = λ z. cond z (UnitsIn line c trail h.listed) (h.listed ≡ 0) in (
+          h.published,
+          h.listed,
+          (
+            subst P (sym (all_at c new.state.entries (cycles (stop_by cause.Units trail) h)))
+                (units (stop_by cause.Units trail) h),
+            subst Q (sym t) h.frame_units,
+            sym h.ends.1.0,
+          ),
+        )
+
+    spent : lower < new.state.best.stations → IsSpent kind line c N lower new trail
+    spent l = record {
+      stopped = stopped (stop_by cause.Units trail) h l;
+      from = omega (arith, start, h.run.from);
+      ranked = λ x r. omega (arith, a.goes_on.best, h.run.ranked x r);
+      valid = valid;
+      opens = opens;
+      units = (
+        h.published,
+        h.listed,
+        (units (stop_by cause.Units trail) h, h.frame_units, sym h.ends.1.0),
+      );
+      budget = units_few kind line ok is_ranked c fits new.state.entries (Some (record { cycle = c; frames = trail }))
+          (derived (stop_by cause.Units trail) h)
+          (λ j k x y m p q s t r. kept.fresh j k x y m p q r) (λ e. (lower, valid)) N units_here;
+    }
+
+  best_still : new.state.best.stations ≡ b.state.best.stations
+  best_still = ap (λ (z : Assignment). z.stations) a.best
+
+  -- what the run comes to
+  pub solves : HasAsked kind line c N first (record { book = b; lower = lower; stop = None })
+      → Solves kind line c N (outcome.Solved new)
+  solves h = (fits, solved None h (omega (arith, best_still, h.ends)))
+
+  pub stops_by : (why : Cause) (trail : List OpenFrame)
+      → HasAsked kind line c N first (record { book = b; lower = lower; stop = stop_by why trail })
+      → Solves kind line c N (outcome.Stopped why lower new trail)
+  stops_by cause.Units trail h = (fits, spent trail h (omega (arith, best_still, h.ends.0)))
+  stops_by cause.Memory trail h =
+      (fits, stopped (stop_by cause.Memory trail) h (omega (arith, best_still, h.ends.0)))

@@ -1,0 +1,5 @@
+pub mod Jobs
+pub mod Plans
+pub mod Questions
+pub mod Rounds
+pub mod Solving

@@ -1,0 +1,77 @@
+-- A run over the questions of a line at a cycle, and where it ends.
+use Rattle.std.specs.Prelude.{◌≡◌, ℕ, ◌+◌, ◌-◌, ◌<◌, ◌≤◌, List, [], length, Option, Some, None}
+use Rattle.line_instance.specs.Line.{Line, tasks}
+use Rattle.line_rules.specs.Balance.{all_tasks}
+use Rattle.line_rules.specs.Entries.{HasAnswer}
+use Rattle.line_rules.specs.Ranked.{IsRankedBalance}
+use Rattle.line_rules.specs.Trails.{IsTrail, IsOpenOver}
+use Rattle.line_rules.specs.Units.{UnitsOf, UnitsIn}
+use Rattle.line_rules.specs.declared.types.LineKind.{LineKind}
+use Rattle.line_rules.specs.declared.types.Balance.{Balance as Assignment}
+use Rattle.line_rules.specs.declared.types.OpenFrame.{OpenFrame}
+use Rattle.lemma_core.specs.Books.{BookView, IsReserved}
+use Rattle.round_run.specs.Rounds.{AreAtCycle}
+use Rattle.round_run.specs.declared.solving.Cause.{Cause}
+use Rattle.round_run.specs.declared.solving.Cause.TheVariants as cause
+use Rattle.round_run.specs.declared.questions.Asked.{Asked}
+use Rattle.round_run.specs.declared.questions.Stop.{Stop}
+use Rattle.round_run.specs.declared.rounds.Verdict.{Verdict}
+use Rattle.round_run.specs.declared.rounds.Verdict.TheVariants as verdict
+
+-- A run from the question `first` on, whose next question is `lower`: an entry of the book refutes the one before it,
+-- where there is one, and the best balance has no more stations than the ranked one.
+pub record IsRun (kind : LineKind) (line : Line) (c first lower : ℕ) (book : BookView) : Type 0 where
+  pub about : book.about ≡ record { line = line; kind = kind; cycle = c }
+  pub cycles : AreAtCycle c book.state.entries
+  pub some : 1 ≤ first
+  pub from : first ≤ lower
+  pub up_to : lower ≤ tasks line
+  pub refuted : first < lower → HasAnswer book.state.entries (all_tasks line) (lower - 1) c
+  pub ranked : (b : Assignment) → IsRankedBalance kind line c b → book.state.best.stations ≤ b.stations
+  pub reserved : IsReserved book
+
+-- The entries of the book have as many units as were used, and are at most as many, with one more for each question
+-- that was refuted.
+pub record IsPaid (line : Line) (first lower used : ℕ) (book : BookView) : Type 0 where
+  pub units : UnitsOf line book.state.entries used
+  pub few : length book.state.entries + first ≤ used + lower
+
+-- the open frames where it stopped
+abbrev pub trail_of : Option Stop → List OpenFrame
+trail_of None = []
+trail_of (Some stop) = stop.trail
+
+-- a run stops for this cause, with these open frames
+abbrev pub stop_by : Cause → List OpenFrame → Option Stop
+stop_by why trail = Some (record { cause = why; trail = trail })
+
+-- where a run stops with the answer to a question that was not refuted
+abbrev pub stop_of : Verdict → Option Stop
+stop_of verdict.Refuted = None
+stop_of verdict.Found = None
+stop_of (verdict.Spent frames) = stop_by cause.Units frames
+stop_of (verdict.NoMemory frames) = stop_by cause.Memory frames
+
+-- Units ended: all N are listed, and the trail of the search is valid from the next question and open over the book.
+abbrev pub StopsBy : LineKind → Line → ℕ → ℕ → ℕ → BookView → ℕ → Cause → List OpenFrame → Type 0
+StopsBy kind line c N lower book listed cause.Units trail =
+    (listed ≡ N) × IsTrail kind line c book.state.entries (all_tasks line) lower trail
+    × IsOpenOver line c book.state.entries trail
+StopsBy kind line c N lower book listed cause.Memory trail = Unit {0}
+
+-- The best balance has at most as many stations as the next question asks for; or the run stopped below it.
+abbrev pub EndsBy : LineKind → Line → ℕ → ℕ → ℕ → BookView → ℕ → Option Stop → Type 0
+EndsBy kind line c N lower book listed None = book.state.best.stations ≤ lower
+EndsBy kind line c N lower book listed (Some stop) =
+    (lower < book.state.best.stations) × StopsBy kind line c N lower book listed stop.cause stop.trail
+
+-- A run of N units whose questions ended: the entries and the open frames have at most N units.
+pub record HasAsked (kind : LineKind) (line : Line) (c N first : ℕ) (asked : Asked) : Type 0 where
+  pub run : IsRun kind line c first asked.lower asked.book
+  pub few : length asked.book.state.entries ≤ N + asked.lower
+  pub published : ℕ
+  pub listed : ℕ
+  pub entry_units : UnitsOf line asked.book.state.entries published
+  pub frame_units : UnitsIn line c (trail_of asked.stop) listed
+  pub within : published + listed ≤ N
+  pub ends : EndsBy kind line c N asked.lower asked.book (published + listed) asked.stop

@@ -1,0 +1,86 @@
+-- What deciding one question over a book does to the book, and what it answers.
+use Rattle.std.specs.Prelude.{◌≡◌, ℕ, ◌+◌, ◌<◌, ◌≤◌, ◌⊎◌, List, [], ◌∷◌, ◌++◌, length, slice_get, Some}
+use Rattle.line_instance.specs.Line.{Line}
+use Rattle.line_rules.specs.Balance.{all_tasks}
+use Rattle.line_rules.specs.Entries.{HasAnswer}
+use Rattle.line_rules.specs.Trails.{IsOpenOver}
+use Rattle.line_rules.specs.Units.{UnitsOf, UnitsIn}
+use Rattle.line_rules.specs.declared.types.Entry.{Entry}
+use Rattle.line_rules.specs.declared.types.Why.TheVariants as why
+use Rattle.line_rules.specs.declared.types.OpenFrame.{OpenFrame}
+use Rattle.lemma_core.specs.Books.{BookView}
+use Rattle.station_search.specs.Decide.{Stops}
+use Rattle.round_run.specs.declared.rounds.Verdict.{Verdict}
+use Rattle.round_run.specs.declared.rounds.Verdict.TheVariants as verdict
+
+-- each entry has the cycle X
+abbrev pub AreAtCycle : ℕ → List Entry → Type 0
+AreAtCycle X es = (k : ℕ) (e : Entry) → slice_get es k ≡ Some e → e.cycle ≡ X
+
+-- The book went on: it is about the same and opened with the same, its entries stay and these were added, each at the
+-- book's cycle, and the best balance has no more stations than before.
+pub record GoesOn (old new : BookView) (gained : List Entry) : Type 0 where
+  pub about : new.about ≡ old.about
+  pub opening : new.opening ≡ old.opening
+  pub entries : new.state.entries ≡ old.state.entries ++ gained
+  pub cycles : AreAtCycle old.about.cycle gained
+  pub best : new.state.best.stations ≤ old.state.best.stations
+
+-- the entry by Bound that all tasks have no balance in so many stations
+abbrev pub by_bound : Line → ℕ → ℕ → Entry
+by_bound line most c = record { set = all_tasks line; most = most; cycle = c; why = why.Bound }
+
+-- The entry by Bound of all tasks in so many stations was added, or nothing was; the best balance stays.
+pub record AddsBound (most : ℕ) (old new : BookView) : Type 0 where
+  pub gained : List Entry
+  pub goes_on : GoesOn old new gained
+  pub entry : (gained ≡ []) ⊎ (gained ≡ by_bound old.about.line most old.about.cycle ∷ [])
+  pub best : new.state.best ≡ old.state.best
+
+-- the open frames of an answer
+abbrev pub frames_of : Verdict → List OpenFrame
+frames_of verdict.Refuted = []
+frames_of verdict.Found = []
+frames_of (verdict.Spent frames) = frames
+frames_of (verdict.NoMemory frames) = frames
+
+-- the question was refuted, or the units ended: then each unit used is listed
+abbrev pub IsListed : Verdict → Type 0
+IsListed verdict.Refuted = Unit {0}
+IsListed verdict.Found = ⊥
+IsListed (verdict.Spent frames) = Unit {0}
+IsListed (verdict.NoMemory frames) = ⊥
+
+-- What a round adds to a book for the units that it used: at most one entry more than units, and no more units than
+-- were used are listed by these entries and the open frames together; exactly so many where the question was refuted or
+-- the units ended.
+pub record Gains (old new : BookView) (answer : Verdict) (used : ℕ) : Type 0 where
+  pub gained : List Entry
+  pub goes_on : GoesOn old new gained
+  pub few : length gained ≤ used + 1
+  pub published : ℕ
+  pub listed : ℕ
+  pub entry_units : UnitsOf old.about.line gained published
+  pub frame_units : UnitsIn old.about.line old.about.cycle (frames_of answer) listed
+  pub within : published + listed ≤ used
+  pub exact : IsListed answer → published + listed ≡ used
+
+-- What an answer says of the question whether all tasks have a balance in `most` stations, of the book after the round
+-- and the units left to the closing pass: an entry of the book refutes it; the best balance has at most so many
+-- stations; the units ended, and the trail of the search is valid from the question and open over the book; or memory
+-- ended.
+abbrev pub IsAnswer : BookView → ℕ → ℕ → Verdict → Type 0
+IsAnswer book most left verdict.Refuted = HasAnswer book.state.entries (all_tasks book.about.line) most book.about.cycle
+IsAnswer book most left verdict.Found = book.state.best.stations ≤ most
+IsAnswer book most left (verdict.Spent frames) =
+    Stops book.about.kind book.about.line book.about.cycle book.state.entries
+    (all_tasks book.about.line) most left frames
+    × IsOpenOver book.about.line book.about.cycle book.state.entries frames
+IsAnswer book most left (verdict.NoMemory frames) = Unit {0}
+
+-- where no balance of the question was found, a best balance with more stations than it asks for still has more
+abbrev pub StaysAbove : ℕ → BookView → BookView → Verdict → Type 0
+StaysAbove most old new verdict.Refuted = most < old.state.best.stations → most < new.state.best.stations
+StaysAbove most old new verdict.Found = Unit {0}
+StaysAbove most old new (verdict.Spent frames) = most < old.state.best.stations → most < new.state.best.stations
+StaysAbove most old new (verdict.NoMemory frames) = most < old.state.best.stations → most < new.state.best.stations

@@ -1,0 +1,98 @@
+//! The questions of a run, one after the other over one book.
+//!
+//! Each round but the last refutes its question, so the next one asks for one station more.
+ghost use Rattle.std.specs.Prelude.{◌≡◌, []};
+ghost use Rattle.line_rules.specs.Ranges.{IsCycle};
+ghost use Rattle.round_run.specs.Questions.{IsRun, HasAsked, stop_of};
+
+use crate::gates::Gate;
+use crate::plans::Purse;
+use crate::rounds::{Verdict, decide_round};
+use crate::solving::Cause;
+use lemma_core::Book;
+use line_instance::Instance;
+use line_rules::Frames;
+use station_search::Units;
+use std::alloc::Global;
+use std::sync::Wait;
+use std::thread::Threads;
+
+/// Why the questions of a run stopped, and the open frames of its last search.
+#[derive(Drop)]
+pub(crate) struct Stop {
+    pub cause: Cause,
+    pub trail: Frames,
+}
+
+/// A run whose questions ended.
+#[derive(Drop)]
+pub(crate) struct Asked {
+    pub book: Book,
+    /// The question that was asked last, or the one that was not asked any more: a number of stations.
+    pub lower: u32,
+    /// None where the best balance has at most `lower` stations.
+    pub stop: Option<Stop>,
+}
+
+// Where a run stops with this answer: nowhere with a balance.
+fn stop_of(verdict: Verdict) -> Option<Stop>
+    ensures { result ≡ stop_of verdict }
+{
+    match verdict {
+        Verdict::Refuted | Verdict::Found => None,
+        Verdict::Spent(trail) => Some(Stop {
+            cause: Cause::Units,
+            trail,
+        }),
+        Verdict::NoMemory(trail) => Some(Stop {
+            cause: Cause::Memory,
+            trail,
+        }),
+    }
+}
+
+/// Asks whether all tasks have a balance in `first` stations, in one more, and so on, until the best balance of the
+/// book has at most as many, or units or memory end. There are no helpers.
+pub(crate) fn ask_all<R: Threads + Wait + Sync, G: Gate>(
+    rt: &R,
+    alloc: Global,
+    inst: &Instance,
+    book: Book,
+    first: u32,
+    units: u64,
+    gate: &G,
+) -> Asked
+    requires cycle { IsCycle book.about.cycle }
+    requires begun { IsRun book.about.kind inst.now book.about.cycle first first book }
+    requires empty { book.state.entries ≡ [] }
+    ensures { HasAsked book.about.kind inst.now book.about.cycle units first result }
+{
+    let mut purse = Purse {
+        closing: Units {
+            left: units,
+            used: 0,
+        },
+        helper: Vec::new(alloc),
+    };
+    let mut book = book;
+    let mut lower = first;
+    'asking: while lower < book.best().stations {
+        let round = decide_round(rt, alloc, inst, book, lower, &mut purse, gate);
+        book = round.book;
+        match round.verdict {
+            Verdict::Refuted => lower += 1,
+            verdict => {
+                return Asked {
+                    book,
+                    lower,
+                    stop: stop_of(verdict),
+                };
+            }
+        }
+    }
+    Asked {
+        book,
+        lower,
+        stop: None,
+    }
+}

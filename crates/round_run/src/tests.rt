@@ -1,0 +1,251 @@
+//! What no clause says: small runs as they were worked out outside, with the entries that they publish and the units
+//! that they need.
+ghost use Rattle.std.specs.Prelude.{◌≡◌, ◌≤◌, IfOk};
+ghost use Rattle.line_rules.specs.Ranges.{IsCycle};
+ghost use Rattle.line_rules.specs.declared.types.LineKind.TheVariants.{Straight};
+ghost use Rattle.lemma_core.specs.Machine.{About};
+ghost use Rattle.lemma_core.specs.Books.{IsReserved, MayBeBest};
+
+use crate::{AlwaysOpen, Outcome, Plan, Purse, Verdict, decide_round, jobs, solve};
+use lemma_core::Book;
+use line_instance::{Instance, Made, Prec, make};
+use line_rules::{
+    Balance, BalanceCheck, Entry, LineKind, Places, Seatplace, Side, Why, check_balance,
+};
+use station_search::Units;
+use std::alloc::{AllocError, Global};
+use std::sync::Wait;
+use std::test::Fail;
+use std::thread::Threads;
+
+const CYCLE: u64 = 7;
+
+fn instance(alloc: Global, times: Vec<u64>, arcs: &[Prec]) -> Result<Instance, Fail> {
+    match make(alloc, times, arcs) {
+        Made::Good(inst) => Ok(inst),
+        _ => Err("no instance")?,
+    }
+}
+
+fn five(alloc: Global) -> Result<Instance, Fail> {
+    instance(alloc, vec![in alloc; 4, 4, 2, 2, 2]?, &[])
+}
+
+fn seven(alloc: Global) -> Result<Instance, Fail> {
+    instance(alloc, vec![in alloc; 7, 7, 4, 4, 2, 2, 2]?, &[])
+}
+
+// An entry as a text: its set, its stations, and whether it stands by Bound, Branch or Swap.
+fn entry_text(alloc: Global, entry: &Entry) -> Result<String, AllocError> {
+    let (set, most) = (entry.set, entry.most);
+    let why = match &entry.why {
+        Why::Bound => "bound",
+        Why::Branch { .. } => "branch",
+        Why::Swap { .. } => "swap",
+    };
+    format!(in alloc; "{why} {set} {most}|")
+}
+
+// The stations of a book's best balance and its entries, as a text.
+fn book_text(alloc: Global, book: &Book) -> Result<String, AllocError> {
+    let least = book.least();
+    let mut text = format!(in alloc; "{least}|")?;
+    for entry in book.entries().as_slice() {
+        let one = entry_text(alloc, entry)?;
+        text.push_str(one.as_str())?;
+    }
+    Ok(text)
+}
+
+fn outcome_text(alloc: Global, outcome: &Outcome) -> Result<String, AllocError> {
+    match outcome {
+        Outcome::TooLong(task) => format!(in alloc; "too long {task}"),
+        Outcome::Solved { book } => {
+            let text = book_text(alloc, book)?;
+            format!(in alloc; "solved {text}")
+        }
+        Outcome::Stopped {
+            cause,
+            lower,
+            book,
+            trail,
+        } => {
+            let text = book_text(alloc, book)?;
+            let many = trail.len();
+            format!(in alloc; "{cause:?} {lower} {many} {text}")
+        }
+        Outcome::NoMemory => format!(in alloc; "no memory"),
+    }
+}
+
+// What a run over an instance comes to.
+fn solved<R: Threads + Wait + Sync>(
+    rt: &R,
+    alloc: Global,
+    inst: &Instance,
+    kind: LineKind,
+    cycle: u64,
+    units: u32,
+) -> Result<String, Fail>
+    requires { IsCycle cycle }
+{
+    if units < 1 || units > 3_000_000 {
+        return Err("out of range")?;
+    }
+    let plan = Plan {
+        helpers: 0,
+        units: u64::from(units),
+    };
+    let outcome = solve(rt, alloc, inst, kind, cycle, &plan, &AlwaysOpen);
+    Ok(outcome_text(alloc, &outcome)?)
+}
+
+#[test]
+fn solves_five_tasks_with_fifteen_units(rt: HostRuntime) -> Result<(), Fail> {
+    let alloc = rt.alloc();
+    let inst = five(alloc)?;
+    assert_eq!(&rt;
+        solved(&rt, alloc, &inst, LineKind::Straight, CYCLE, 15)?.as_str(),
+        "solved 3|branch {0, 1, 2, 3, 4} 2|"
+    );
+    assert_eq!(&rt;
+        solved(&rt, alloc, &inst, LineKind::Straight, CYCLE, 14)?.as_str(),
+        "Units 2 1 3|bound {0, 1, 2, 3, 4} 1|"
+    );
+    assert_eq!(&rt;
+        solved(&rt, alloc, &inst, LineKind::Straight, 3, 15)?.as_str(),
+        "too long 0"
+    );
+    Ok(())
+}
+
+#[test]
+fn solves_a_chain_without_a_search(rt: HostRuntime) -> Result<(), Fail> {
+    let alloc = rt.alloc();
+    let arcs = [Prec { first: 0, then: 1 }, Prec { first: 1, then: 2 }];
+    let inst = instance(alloc, vec![in alloc; 1, 2, 1]?, &arcs)?;
+    assert_eq!(&rt;
+        solved(&rt, alloc, &inst, LineKind::Straight, 2, 1)?.as_str(),
+        "solved 3|bound {0, 1, 2} 2|"
+    );
+    assert_eq!(&rt;
+        solved(&rt, alloc, &inst, LineKind::U, 2, 1000)?.as_str(),
+        "solved 2|bound {0, 1, 2} 1|"
+    );
+    Ok(())
+}
+
+#[test]
+fn solves_six_tasks_in_two_entries(rt: HostRuntime) -> Result<(), Fail> {
+    let alloc = rt.alloc();
+    let inst = instance(alloc, vec![in alloc; 7, 4, 4, 2, 2, 2]?, &[])?;
+    assert_eq!(&rt;
+        solved(&rt, alloc, &inst, LineKind::Straight, CYCLE, 1000)?.as_str(),
+        "solved 4|branch {1, 2, 3, 4, 5} 2|branch {0, 1, 2, 3, 4, 5} 3|"
+    );
+    Ok(())
+}
+
+#[test]
+fn lists_two_jobs_of_seven_tasks(rt: HostRuntime) -> Result<(), Fail> {
+    let alloc = rt.alloc();
+    let inst = seven(alloc)?;
+    let mut text = String::new(alloc);
+    for job in &jobs(alloc, &inst, LineKind::Straight, CYCLE, 4)? {
+        let (set, front) = (job.set, job.load.front);
+        let one = format!(in alloc; "{front} {set}|")?;
+        text.push_str(one.as_str())?;
+    }
+    assert_eq!(&rt;
+        text.as_str(),
+        "{1} {0, 2, 3, 4, 5, 6}|{0} {1, 2, 3, 4, 5, 6}|"
+    );
+    Ok(())
+}
+
+// Each task at a station of its own.
+fn alone(alloc: Global, tasks: u32) -> Result<Balance, AllocError> {
+    let mut place = Vec::new(alloc);
+    for task in 0..tasks.min(1024) {
+        place.push(Seatplace {
+            station: task + 1,
+            side: Side::Front,
+        })?;
+    }
+    Ok(Balance {
+        stations: tasks,
+        place: Places::from_vec(place),
+    })
+}
+
+// The balance, where it may be the best of a book.
+fn tested(inst: &Instance, best: Balance) -> Result<Balance, Fail>
+    ensures { IfOk result (λ b. MayBeBest (record { line = inst.now; kind = Straight; cycle = 7 }) b) }
+{
+    let few = best.place.len() <= inst.tasks() as usize && best.stations <= inst.tasks();
+    if few && check_balance(inst, LineKind::Straight, CYCLE, &best) == BalanceCheck::Right {
+        return Ok(best);
+    }
+    Err("no balance")?
+}
+
+// An empty book of an instance, with room for offers.
+fn book_of(alloc: Global, inst: &Instance) -> Result<Book, Fail>
+    ensures about { IfOk result (λ b. b.about ≡ record { line = inst.now; kind = Straight; cycle = 7 }) }
+    ensures reserved { IfOk result (λ b. IsReserved b) }
+{
+    let best = tested(inst, alone(alloc, inst.tasks())?)?;
+    let mut book = Book::make(alloc, inst.copy(alloc)?, LineKind::Straight, CYCLE, best);
+    book.reserve_offers()?;
+    Ok(book)
+}
+
+// The answer to a question over an empty book, as a text.
+fn round_text<R: Threads + Wait + Sync>(
+    rt: &R,
+    alloc: Global,
+    inst: &Instance,
+    most: u32,
+    units: u32,
+) -> Result<String, Fail>
+    requires some { 1 ≤ most }
+    requires few { most ≤ 1024 }
+{
+    let mut purse = Purse {
+        closing: Units {
+            left: u64::from(units),
+            used: 0,
+        },
+        helper: Vec::new(alloc),
+    };
+    let book = book_of(alloc, inst)?;
+    let round = decide_round(rt, alloc, inst, book, most, &mut purse, &AlwaysOpen);
+    let verdict = match &round.verdict {
+        Verdict::Refuted => "refuted",
+        Verdict::Found => "found",
+        Verdict::Spent(_) => "spent",
+        Verdict::NoMemory(_) => "no memory",
+    };
+    let (from, used) = (round.closing_from, purse.closing.used);
+    let text = book_text(alloc, &round.book)?;
+    Ok(format!(in alloc; "{verdict} from {from} used {used} {text}")?)
+}
+
+// What refutes seven tasks in four stations, over an empty book whose best balance has seven.
+const SEVEN: &str = "refuted from 0 used 48 7|branch {2, 3, 4, 5, 6} 2|branch {0, 2, 3, 4, 5, 6} 3|\
+    swap {1, 2, 3, 4, 5, 6} 3|branch {0, 1, 2, 3, 4, 5, 6} 4|";
+
+#[test]
+fn decides_questions_over_an_empty_book(rt: HostRuntime) -> Result<(), Fail> {
+    let alloc = rt.alloc();
+    let inst = seven(alloc)?;
+    assert_eq!(&rt; round_text(&rt, alloc, &inst, 4, 48)?.as_str(), SEVEN);
+    assert_eq!(&rt;
+        round_text(&rt, alloc, &inst, 3, 48)?.as_str(),
+        "refuted from 0 used 0 7|bound {0, 1, 2, 3, 4, 5, 6} 3|"
+    );
+    let text = round_text(&rt, alloc, &five(alloc)?, 3, 1000)?;
+    assert!(&rt; text.as_str().starts_with("found from 0 "));
+    assert!(&rt; text.as_str().ends_with(" 3|"));
+    Ok(())
+}
