@@ -8,6 +8,4 @@ pub mod OldWholes
 pub mod OldClaims
 pub mod TakenLines
 pub mod Decoding
-pub mod Lifted
-pub mod LiftRanges
 pub mod ListAnswers

@@ -1,5 +1,5 @@
 -- Texts that are put one behind the other.
-use Rattle.std.proofs.Common.{◌≡◌, ℕ, Bool, true, false, List, [], ◌++◌, take, length, refl, sym, ◌∙◌, ap, subst, arith, append_assoc, ◌<◌, ◌≤◌, ◌+◌, min, get_or}
+use Rattle.std.proofs.Common.{◌≡◌, ℕ, Bool, true, false, List, [], ◌++◌, take, length, refl, sym, ◌∙◌, ap, subst, arith, append_assoc, ◌<◌, ◌+◌, min, get_or}
 use Rattle.std.proofs.lemmas.List.{append-nil, take-append-le, take_all, take_more, flat_map_more}
 use Rattle.std.specs.List.{flat_map}
 use Rattle.std.proofs.lemmas.Bool.{false≢true}

@@ -1,21 +1,14 @@
 //! The text of a certificate: one spelling, written and read line by line.
 #![tactic(auto)]
 
-#[cfg(test)]
-mod hostile_tests;
 mod kept_text;
 pub mod laws;
-mod lifting;
 mod lines;
 mod old_reading;
-#[cfg(test)]
-mod old_tests;
 mod output;
 mod reader;
 mod reading;
 mod slice_lines;
-#[cfg(test)]
-mod tests;
 mod writer;
 mod writing;
 

@@ -6,8 +6,8 @@ ghost use Rattle.cert_text.specs.Answers.{IsAnyRead};
 ghost use Rattle.cert_lines.specs.Patterns.{IsOpening};
 ghost use Rattle.line_rules.specs.Ranges.{AreEntries, IsTrailOrNone, IsCycle, IsClaim, IsInRange};
 
-use crate::lifting::lift;
 use crate::old_reading::read_old;
+use cert_lift::lift;
 use cert_lines::pattern::{read_line, read_lines};
 use cert_lines::patterns::{
     AskLine, EndLine, EntryLine, FrameLine, Key, KindLine, MAX_CYCLE, NumberLine, Opening,

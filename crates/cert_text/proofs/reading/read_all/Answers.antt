@@ -6,7 +6,7 @@ use Rattle.cert_text.specs.OldParts.{old_bodies}
 use Rattle.cert_text.specs.Versions.{both}
 use Rattle.cert_text.proofs.Failing.{ends, first, second, same}
 use Rattle.cert_text.proofs.OldClaims.{versions, unique_version, any_body, any_parts, same_any, same_old, some_body, new_result, old_lifted, any_hand}
-use Rattle.cert_text.proofs.LiftRanges.{lifted_in}
+use Rattle.cert_lift.proofs.LiftRanges.{lifted_in}
 use Rattle.cert_text.proofs.reading.read_all.Goals as goal
 
 pub returns-in_err-version-clause-read : goal.returns-in_err-version-clause-read

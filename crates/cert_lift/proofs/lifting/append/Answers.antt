@@ -1,5 +1,5 @@
-use Rattle.cert_text.proofs.Lifted.{entry_of_part}
-use Rattle.cert_text.proofs.lifting.append.Goals as goal
+use Rattle.cert_lift.proofs.Lifted.{entry_of_part}
+use Rattle.cert_lift.proofs.lifting.append.Goals as goal
 
 pub lift_entry-requires-clause-entry : goal.lift_entry-requires-clause-entry
 lift_entry-requires-clause-entry c =

@@ -6,10 +6,16 @@ ghost use Rattle.line_rules.specs.Ranges.{AreCites, IsWhy, IsEntry, IsFrame};
 ghost use Rattle.line_rules.specs.declared.types.Ask.{Ask};
 ghost use Rattle.line_rules.specs.declared.types.LineKind.{LineKind};
 
-use crate::reading::EntryList;
 use cert_lines::version_one::{OldCertificate, OldClaim, Part, Parts};
 use line_rules::{Certificate, Cites, Claim, Entries, Entry, Frames, OpenFrame, Trail, Why};
 use std::alloc::{AllocError, Global};
+
+// The entries of all parts, and the trail, where there is one.
+#[derive(Drop)]
+struct Lists {
+    entries: Entries,
+    trail: Option<Trail>,
+}
 
 // Cites of a part of so many entries, raised by the number of entries before.
 fn raise(alloc: Global, cites: &Cites, count: u64, earlier: u64) -> Result<Cites, AllocError>
@@ -144,7 +150,7 @@ fn either(trail: Option<Trail>, other: Option<Trail>) -> Option<Trail>
 }
 
 // The entries and the trail of one part.
-fn single(part: Part) -> EntryList
+fn single(part: Part) -> Lists
     requires { (n : ℕ) × IsPart n part }
     ensures entries { result.entries ≡ lifted_entries 0 (part ∷ []) }
     ensures trail { result.trail ≡ lifted_trail 0 (part ∷ []) }
@@ -154,14 +160,14 @@ fn single(part: Part) -> EntryList
         entries,
         frames,
     } = part;
-    EntryList {
+    Lists {
         entries,
         trail: trail_at(cycle, frames),
     }
 }
 
 // The entries and the trail of two parts.
-fn joined(alloc: Global, first: Part, second: Part) -> Result<EntryList, AllocError>
+fn joined(alloc: Global, first: Part, second: Part) -> Result<Lists, AllocError>
     requires { (n : ℕ) × AreParts n (first ∷ second ∷ []) }
     ensures entries { IfOk result (λ l. l.entries ≡ lifted_entries 0 (first ∷ second ∷ [])) }
     ensures trail { IfOk result (λ l. l.trail ≡ lifted_trail 0 (first ∷ second ∷ [])) }
@@ -174,21 +180,21 @@ fn joined(alloc: Global, first: Part, second: Part) -> Result<EntryList, AllocEr
     let earlier = entries.len() as u64;
     append(alloc, &mut entries, &second, earlier)?;
     let behind = lift_frames(alloc, &second, earlier)?;
-    Ok(EntryList {
+    Ok(Lists {
         entries,
         trail: either(trail_at(cycle, frames), trail_at(second.cycle, behind)),
     })
 }
 
 // The entries and the trail of parts.
-fn lift_parts(alloc: Global, parts: Parts) -> Result<EntryList, AllocError>
+fn lift_parts(alloc: Global, parts: Parts) -> Result<Lists, AllocError>
     requires { (n : ℕ) × AreParts n parts }
     ensures entries { IfOk result (λ l. l.entries ≡ lifted_entries 0 parts) }
     ensures trail { IfOk result (λ l. l.trail ≡ lifted_trail 0 parts) }
 {
     let mut parts = parts.into_vec();
     let Some(last) = parts.pop() else {
-        return Ok(EntryList {
+        return Ok(Lists {
             entries: Entries::from_vec(Vec::new(alloc)),
             trail: None,
         });
@@ -212,7 +218,7 @@ fn lift_claim(alloc: Global, claim: OldClaim) -> Result<Claim, AllocError>
             balance,
             parts,
         } => {
-            let EntryList { entries, trail } = lift_parts(alloc, parts)?;
+            let Lists { entries, trail } = lift_parts(alloc, parts)?;
             Ok(Claim::Bounds {
                 lower,
                 upper,

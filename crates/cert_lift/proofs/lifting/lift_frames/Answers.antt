@@ -1,5 +1,5 @@
-use Rattle.cert_text.proofs.Lifted.{frame_of_part}
-use Rattle.cert_text.proofs.lifting.lift_frames.Goals as goal
+use Rattle.cert_lift.proofs.Lifted.{frame_of_part}
+use Rattle.cert_lift.proofs.lifting.lift_frames.Goals as goal
 
 pub lift_frame-requires-clause-frame : goal.lift_frame-requires-clause-frame
 lift_frame-requires-clause-frame c =

@@ -1,5 +1,5 @@
-use Rattle.cert_text.proofs.Lifted.{single_entries, single_trail}
-use Rattle.cert_text.proofs.lifting.single.Goals as goal
+use Rattle.cert_lift.proofs.Lifted.{single_entries, single_trail}
+use Rattle.cert_lift.proofs.lifting.single.Goals as goal
 
 pub returns-clause-entries : goal.returns-clause-entries
 returns-clause-entries c = single_entries c.requires.0 c.args.part c.requires.1

@@ -1,7 +1,7 @@
 //! What no clause says: that texts are read where there is memory, and the faults of rows.
 ghost use Rattle.std.specs.Prelude.{◌≡◌, ◌≤◌};
 
-use crate::{
+use cert_text::{
     CertFault, CertKind, CertRead, ListRead, read_cert, read_list, write_cert, write_list,
 };
 use line_rules::{Certificate, Claim};

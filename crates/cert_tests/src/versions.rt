@@ -1,5 +1,5 @@
 //! Texts of version 1, whose lift is read.
-use crate::tests::{V5, V6, answer, front, rewritten, text_with};
+use crate::texts::{V5, V6, answer, front, rewritten, text_with};
 use std::test::Fail;
 
 /// A search that ended.

@@ -1,7 +1,7 @@
 use Rattle.std.proofs.Common.{◌≡◌, ℕ, ◌++◌, map, subst}
 use Rattle.cert_lines.specs.Lift.{lifted_entry, lifted_frame}
-use Rattle.cert_text.proofs.Lifted.{joined_entries, joined_trail}
-use Rattle.cert_text.proofs.lifting.joined.Goals as goal
+use Rattle.cert_lift.proofs.Lifted.{joined_entries, joined_trail}
+use Rattle.cert_lift.proofs.lifting.joined.Goals as goal
 
 pub returns-clause-entries : goal.returns-clause-entries
 returns-clause-entries c =
