@@ -35,7 +35,7 @@ far line P ls h j (suc k) a b l e f =
     ]
 
 -- the loads before one of a list are its first ones
-firsts : (line : Line) (P : Load → Type 0) (ls : List Load) → Lists line P ls → (q : ℕ) (load : Load) → slice_get ls q ≡ Some load → Lists line (λ k. P k × Precedes line k load) (take q ls)
+pub firsts : (line : Line) (P : Load → Type 0) (ls : List Load) → Lists line P ls → (q : ℕ) (load : Load) → slice_get ls q ≡ Some load → Lists line (λ k. P k × Precedes line k load) (take q ls)
 firsts line P ls h q load e = record {
   rises = λ k a b f g. h.rises k a b (get_take ls q k a f).1 (get_take ls q (suc k) b g).1;
   sound = λ k a f. let p : (k < q) × (slice_get ls k ≡ Some a) = get_take ls q k a f in (h.sound k a p.1, far line P ls h k q a load p.0 p.1 e);

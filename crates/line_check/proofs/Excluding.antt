@@ -34,7 +34,7 @@ module _ (kind : LineKind) (line : Line) (ok : IsLine line) (a : Ask) (lower upp
     | inr w ↦ frame_not kind line left.cycle es left.frames steps j why w.1 (t.0, t.2)
   ]
 
-  proof_not : (left : Option Trail) (steps : ℕ) (p : Place) → ProofFails kind line a lower upper es left steps p → IsProof kind line a lower upper b es left → ⊥
+  pub proof_not : (left : Option Trail) (steps : ℕ) (p : Place) → ProofFails kind line a lower upper es left steps p → IsProof kind line a lower upper b es left → ⊥
   proof_not left steps (place.Tasks said real) h q = h
   proof_not left steps (place.Infeasible task t) h q = h
   proof_not left steps (place.Earlier task least) h q = h
@@ -48,7 +48,7 @@ module _ (kind : LineKind) (line : Line) (ok : IsLine line) (a : Ask) (lower upp
   proof_not left steps place.Goal h q = h.1.2 (q.goal h.1.1)
   proof_not left steps (place.Frame frame why) h q = trail_not left (steps - h.0) frame why h.1.2 q.trail
 
-  ends_spend : (left : Option Trail) (steps x : ℕ) → ProofEnds kind line a lower upper es left steps → UnitsWhole line es left x → steps < x
+  pub ends_spend : (left : Option Trail) (steps x : ℕ) → ProofEnds kind line a lower upper es left steps → UnitsWhole line es left x → steps < x
   ends_spend None steps x h u = elim h [
     | inl w ↦ omega (arith, entries_more kind line es steps u.0 w u.2.0, u.2.2)
     | inr w ↦ absurd w.1.2
@@ -97,7 +97,7 @@ rejected_so line ok cert steps (verified.StepsEnded s) h = elim h [
 ]
 
 -- the same of a list with a trail
-list_not : (kind : LineKind) (line : Line) (es : List Entry) (trail : Option Trail) (steps : ℕ) (p : Place) → IsListRefused kind line es trail steps p → IsDerived kind line es → IsTrailOrNothing kind line es trail → ⊥
+pub list_not : (kind : LineKind) (line : Line) (es : List Entry) (trail : Option Trail) (steps : ℕ) (p : Place) → IsListRefused kind line es trail steps p → IsDerived kind line es → IsTrailOrNothing kind line es trail → ⊥
 list_not kind line es trail steps (place.Tasks said real) h d t = h
 list_not kind line es trail steps (place.Infeasible task x) h d t = h
 list_not kind line es trail steps (place.Earlier task least) h d t = h
@@ -112,7 +112,7 @@ list_not kind line es trail steps place.Goal h d t = h
 list_not kind line es None steps (place.Frame frame why) h d t = h.2
 list_not kind line es (Some x) steps (place.Frame frame why) h d t = frame_not kind line x.cycle es x.frames (steps - h.0) frame why h.2 t
 
-list_spends : (kind : LineKind) (line : Line) (es : List Entry) (trail : Option Trail) (steps x : ℕ) → IsListEnded kind line es trail steps → UnitsWhole line es trail x → steps < x
+pub list_spends : (kind : LineKind) (line : Line) (es : List Entry) (trail : Option Trail) (steps x : ℕ) → IsListEnded kind line es trail steps → UnitsWhole line es trail x → steps < x
 list_spends kind line es None steps x h u = elim h [
   | inl w ↦ omega (arith, entries_more kind line es steps u.0 w u.2.0, u.2.2)
   | inr w ↦ absurd w.2

@@ -10,3 +10,8 @@ pub mod Spending
 pub mod Excluding
 pub mod Lifting
 pub mod LiftedParts
+pub mod OneWalk
+pub mod OneEntry
+pub mod OneTrail
+pub mod OneBalance
+pub mod OneVerdict

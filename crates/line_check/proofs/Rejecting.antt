@@ -125,7 +125,7 @@ module _ (kind : LineKind) (line : Line) (X : ℕ) (es : List Entry) where
       omega (arith, h.late, get_within es x y.entry y.there)
 
   -- a frame with a fault isn't right
-  not_right : (fs : List OpenFrame) (j : ℕ) (f : OpenFrame) (why : FrameFault) (units : ℕ) → FailsAt kind line X es fs j f why units → IsRightAt kind line X es fs j f → ⊥
+  pub not_right : (fs : List OpenFrame) (j : ℕ) (f : OpenFrame) (why : FrameFault) (units : ℕ) → FailsAt kind line X es fs j f why units → IsRightAt kind line X es fs j f → ⊥
   not_right fs j f fault.Allowed units h r = h
   not_right fs j f fault.Set units h r = h.0 r.asked
   not_right fs j f fault.Mode units h r = h.1 r.belongs

@@ -28,7 +28,7 @@ one_frame : (x y : OpenFrame) → Some x ≡ Some y → x ≡ y
 one_frame x y e = cc
 
 -- the units of the entries before one of a list and its own are at most those of the list
-units_at : (line : Line) (es : List Entry) (k : ℕ) (e : Entry) (before all : ℕ) → slice_get es k ≡ Some e → UnitsOf line (take k es) before → UnitsOf line es all
+pub units_at : (line : Line) (es : List Entry) (k : ℕ) (e : Entry) (before all : ℕ) → slice_get es k ≡ Some e → UnitsOf line (take k es) before → UnitsOf line es all
     → (b : ℕ) × (UnitsBy line e e.why b × (before + b ≤ all))
 units_at line [] k e before all there u w = absurd (cc)
 units_at line (x ∷ es) zero e before all there u w =
@@ -42,7 +42,7 @@ units_at line (x ∷ es) (suc k) e before all there u w =
 by_branch : (line : Line) (e : Entry) (w : Why) (b : ℕ) → e.why ≡ w → UnitsBy line e e.why b → UnitsBy line e w b
 by_branch line e w b is u = let P : Why → Type 0 = λ z. UnitsBy line e z b in subst P is u
 
-ends_more : (kind : LineKind) (line : Line) (earlier : List Entry) (e : Entry) (steps b : ℕ) → Ends kind line earlier e steps → UnitsBy line e e.why b → steps < b
+pub ends_more : (kind : LineKind) (line : Line) (earlier : List Entry) (e : Entry) (steps b : ℕ) → Ends kind line earlier e steps → UnitsBy line e e.why b → steps < b
 ends_more kind line earlier e steps b h u =
     not_past line (IsLoad line e.cycle h.0 e.set) (IsOpen kind line e.cycle h.0 e.set e.most) earlier e.set e.most e.cycle h.1 steps b h.2.1.1 (by_branch line e (why.Branch h.0 h.1) b h.2.0 u)
 
@@ -53,12 +53,12 @@ entries_more kind line es steps all h w =
 
 -- the same of frames
 module _ (line : Line) (X : ℕ) where
-  one_frame_units : (f : OpenFrame) (a b : ℕ) → FrameUnits line X f a → FrameUnits line X f b → a ≡ b
+  pub one_frame_units : (f : OpenFrame) (a b : ℕ) → FrameUnits line X f a → FrameUnits line X f b → a ≡ b
   one_frame_units f a b p q =
       let t : Trail = record { cycle = X; frames = f ∷ [] } in
       units_same line [] (Some t) a b (0, a, (refl, (a, 0, (p, refl, omega arith)), omega arith)) (0, b, (refl, (b, 0, (q, refl, omega arith)), omega arith))
 
-  frame_units_at : (fs : List OpenFrame) (k : ℕ) (f : OpenFrame) (before all : ℕ) → slice_get fs k ≡ Some f → UnitsIn line X (take k fs) before → UnitsIn line X fs all
+  pub frame_units_at : (fs : List OpenFrame) (k : ℕ) (f : OpenFrame) (before all : ℕ) → slice_get fs k ≡ Some f → UnitsIn line X (take k fs) before → UnitsIn line X fs all
       → (b : ℕ) × (FrameUnits line X f b × (before + b ≤ all))
   frame_units_at [] k f before all there u w = absurd (cc)
   frame_units_at (x ∷ fs) zero f before all there u w =

@@ -9,3 +9,4 @@ pub mod Frames
 pub mod Verdicts
 pub mod Certificates
 pub mod VersionOne
+pub mod Laws

@@ -326,7 +326,7 @@ pub fn needs_entries(inst: &Instance, cert: &Certificate) -> bool
 }
 
 /// What is found of the entries of a certificate, where the check comes to them.
-pub(crate) fn entries_found(inst: &Instance, cert: &Certificate, steps: u64) -> ListFound
+fn entries_found(inst: &Instance, cert: &Certificate, steps: u64) -> ListFound
     requires range { IsInRange cert.now }
     ensures { NeedsEntries inst.now cert.now → AreFoundOf inst.now cert.now steps result }
 {

@@ -1,5 +1,11 @@
 //! What is true of the check of certificates, for the crates above to cite.
+ghost use Rattle.line_check.specs.Laws.{VerdictIsOne};
 ghost use Rattle.line_check.specs.VersionOne.{EveryPassingLiftIsAccepted, EveryPassingTooLongIsAccepted};
+
+/// A check with so many steps has one answer: so a check in threads answers as the check in order does.
+pub fn verdict_is_one()
+    ensures { VerdictIsOne }
+{}
 
 /// A certificate of version 1 that passes the rules of its version has an accepted lift, with the same bounds and units.
 pub fn every_passing_lift_is_accepted()

@@ -7,8 +7,6 @@ mod frames;
 pub mod laws;
 mod lists;
 mod pairs;
-#[cfg(test)]
-mod tests;
 mod types;
 mod walks;
 

@@ -1,8 +1,9 @@
 -- What the check of a certificate in threads answers.
-use Rattle.std.specs.Prelude.{ℕ}
+use Rattle.std.specs.Prelude.{◌≡◌, ℕ}
 use Rattle.line_instance.specs.Line.{Line}
 use Rattle.line_rules.specs.declared.types.Certificate.{Certificate}
 use Rattle.line_check.specs.Certificates.{IsVerdict, IsAcceptedSo, IsRejectedSo, IsTrueOf}
+use Rattle.line_check.specs.declared.types.Verified.{Verified}
 use Rattle.wide_check.specs.declared.wide.Wide.{Wide}
 use Rattle.wide_check.specs.declared.wide.Wide.TheVariants.{Done, NoMemory}
 
@@ -10,6 +11,11 @@ use Rattle.wide_check.specs.declared.wide.Wide.TheVariants.{Done, NoMemory}
 abbrev pub IsWideVerdict : Line → Certificate → ℕ → Wide → Type 0
 IsWideVerdict line cert steps (Done v) = IsVerdict line cert steps v
 IsWideVerdict line cert steps NoMemory = Unit {0}
+
+-- it is the one verdict on the certificate, so the check in order answers the same
+abbrev pub IsInOrder : Line → Certificate → ℕ → Wide → Type 0
+IsInOrder line cert steps (Done v) = (w : Verified) → IsVerdict line cert steps w → v ≡ w
+IsInOrder line cert steps NoMemory = Unit {0}
 
 -- accepted and too long say that the certificate is accepted so
 abbrev pub IsWideAccepted : Line → Certificate → ℕ → Wide → Type 0

@@ -3,6 +3,8 @@
 
 mod batches;
 #[cfg(test)]
+mod check_tests;
+#[cfg(test)]
 mod tests;
 mod wide;
 

@@ -12,15 +12,15 @@ use std::test::Fail;
 use std::thread::Threads;
 
 /// The first lines of a certificate of seven free tasks at 7, in five stations.
-const SEVEN: &str =
+pub(crate) const SEVEN: &str =
     "line balance certificate 2\nline straight\ntasks 7\ncycle 7\nlower 5\nupper 5\nbalance 5\n1\n2\n3\n4\n3\n4\n5\n";
 
 /// A certificate of five free tasks at 7, in three stations.
-const FIVE: &str =
+pub(crate) const FIVE: &str =
     "line balance certificate 2\nline straight\ntasks 5\ncycle 7\nlower 3\nupper 3\nbalance 3\n1\n2\n1\n2\n3\nentries 1\nbranch f 7 f8 2 -\ntrail 0\nend\n";
 
 /// The same of a search that stopped.
-const STOPPED: &str =
+pub(crate) const STOPPED: &str =
     "line balance certificate 2\nline straight\ntasks 5\ncycle 7\nlower 2\nupper 3\nbalance 3\n1\n2\n1\n2\n3\nentries 1\nbound 7 f8 1\ntrail 1 at 7\nopen f f8 2 90 -\nend\n";
 
 /// That a task of five is too long.
@@ -38,7 +38,7 @@ fn instance(alloc: Global, times: &[u64]) -> Result<Instance, Fail> {
     }
 }
 
-fn certificate(alloc: Global, text: &str) -> Result<Certificate, Fail>
+pub(crate) fn certificate(alloc: Global, text: &str) -> Result<Certificate, Fail>
     ensures { IfOk result IsInRange }
 {
     match read_cert(alloc, text.as_bytes()) {

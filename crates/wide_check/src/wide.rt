@@ -2,7 +2,7 @@
 ghost use Rattle.std.specs.Prelude.{◌≤◌, IfOk};
 ghost use Rattle.line_rules.specs.Ranges.{IsInRange};
 ghost use Rattle.line_check.specs.Certificates.{NeedsEntries, AreFoundOf};
-ghost use Rattle.wide_check.specs.Wide.{IsWideVerdict, IsWideAccepted, IsWideRejected, IsWideTrue};
+ghost use Rattle.wide_check.specs.Wide.{IsWideVerdict, IsInOrder, IsWideAccepted, IsWideRejected, IsWideTrue};
 
 use crate::batches::entries_found;
 use line_check::{ListFound, Verified, needs_entries, verify_found};
@@ -53,10 +53,12 @@ pub fn verify_wide<R: Threads + Sync>(
     requires some { 1 ≤ steps }
     requires few { steps ≤ 20000000 }
     ensures verdict { IsWideVerdict inst.now cert.now steps result }
+    ensures in_order { IsInOrder inst.now cert.now steps result }
     ensures accepted { IsWideAccepted inst.now cert.now steps result }
     ensures rejected { IsWideRejected inst.now cert.now steps result }
     ensures true_bounds { IsWideTrue inst.now cert.now result }
 {
+    let _tasks = inst.tasks();
     match found_of(rt, alloc, inst, cert, steps) {
         Ok(found) => Wide::Done(verify_found(inst, cert, steps, found)),
         Err(_) => Wide::NoMemory,
