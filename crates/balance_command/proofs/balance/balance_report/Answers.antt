@@ -12,7 +12,7 @@ returns-in_err-timed-clause-ends g c = λ t.
     let o : Outside = outside (g.S.Shelf.file c.args.shelf.now) (g.S.Shelf.blames c.said_instance.new.shelf) in
     let name : List ℕ = c.args.file.now in
     let apart : Option (List ℕ) = option_map (λ a. a.now) c.args.apart in
-    let P : Outcome → Type 0 = IsBalanceOutcome o name apart c.args.word in
+    let P : Outcome → Type 0 = IsBalanceOutcome o name apart c.args.word c.args.kind in
     let after : Files = g.S.Shelf.file c.said_instance.new.shelf in
     let q = err_from_is_err_and c.from_residual.result c.from_residual.ensures.1 in
     subst (λ r. Ends o P after r) (sym q.1)

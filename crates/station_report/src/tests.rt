@@ -1,0 +1,50 @@
+//! The station lines of small balances.
+ghost use Rattle.std.specs.Prelude.{◌<◌, ◌^◌, length};
+
+use crate::stations_text;
+use line_rules::{Balance, LineKind, Places, Seatplace, Side};
+use std::alloc::{AllocError, Global};
+use std::test::Fail;
+
+/// The place at a station, from 1.
+fn seat(station: u32, side: Side) -> Seatplace {
+    Seatplace { station, side }
+}
+
+/// The lines of so many stations of a U-line with these places.
+fn lines(alloc: Global, stations: u32, places: &[Seatplace]) -> Result<Vec<u8>, AllocError>
+    requires places { length places.now < 2 ^ 31 }
+    requires stations { stations < 2 ^ 31 }
+{
+    let balance = Balance {
+        stations,
+        place: Places::from_vec(Vec::from_slice(alloc, places)?),
+    };
+    stations_text(alloc, &balance, LineKind::U)
+}
+
+#[test]
+fn a_u_line_of_a_chain(rt: HostRuntime) -> Result<(), Fail> {
+    let places = [
+        seat(1, Side::Front),
+        seat(2, Side::Front),
+        seat(1, Side::Back),
+    ];
+    let text = lines(rt.alloc(), 2, &places)?;
+    assert_eq!(rt;
+        text.as_slice(),
+        b"station 1: 1 back 3\nstation 2: 2\n".as_slice()
+    );
+    Ok(())
+}
+
+#[test]
+fn stations_without_tasks(rt: HostRuntime) -> Result<(), Fail> {
+    let places = [seat(3, Side::Back), seat(1, Side::Front)];
+    let text = lines(rt.alloc(), 3, &places)?;
+    assert_eq!(rt;
+        text.as_slice(),
+        b"station 1: 2\nstation 2:\nstation 3: back 1\n".as_slice()
+    );
+    Ok(())
+}
