@@ -5,6 +5,7 @@ ghost use Rattle.line_rules.specs.Ranges.{IsInRange};
 ghost use Rattle.line_check.specs.Certificates.{IsVerdict, IsAcceptedSo, IsRejectedSo, IsTrueOf};
 ghost use Rattle.line_words.specs.Ranges.{IsBetween};
 ghost use Rattle.command_outcome.specs.Outcome.{Ends, Stops, MayStop, outside};
+ghost use Rattle.command_outcome.specs.declared.report.Kept.TheVariants.{Nothing};
 ghost use Rattle.command_outcome.specs.declared.status.Status.TheVariants as ends;
 ghost use Rattle.check_command.specs.Check.{IsCheckOutcome, IsProvedTrue, IsVerdictStatus};
 
@@ -54,6 +55,7 @@ pub fn check_report<R: Threads + Sync, S: Shelf>(
     requires { IsBetween 1 20000000 steps }
     ensures ends { S.tells → Ends (outside (S.file shelf.old) (S.blames shelf.new)) (IsCheckOutcome (outside (S.file shelf.old) (S.blames shelf.new)) file.now proof.now (option_map (λ a. a.now) apart.entry) steps) (S.file shelf.new) result }
     ensures good { IfOk result (λ r. IsVerdictStatus r.status) }
+    ensures kept { IfOk result (λ r. r.kept ≡ Nothing) }
     ensures true_bounds { S.tells → IfOk result (λ r. r.status ≡ ends.Done → IsProvedTrue (S.file shelf.old) file.now proof.now (option_map (λ a. a.now) apart.entry) steps) }
     ensures fault { MatchResult result (λ _. Unit {0}) (MayStop (Rises (S.faults shelf.old) (S.faults shelf.new))) }
     ensures files { S.tells → (q : List ℕ) → S.file shelf.new q ≡ S.file shelf.old q }

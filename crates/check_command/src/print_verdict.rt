@@ -1,6 +1,7 @@
 //! The line that is printed of the check of a certificate: what is accepted, or the first check that fails with its values.
 ghost use Rattle.std.specs.Prelude.{◌≡◌, ◌++◌, ◌+◌, ◌≤◌, ◌<◌, ◌^◌, IfOk, OnOk, string_bytes, codes, decimal};
 ghost use Rattle.cert_lines.specs.Numbers.{load_text};
+ghost use Rattle.command_outcome.specs.declared.report.Kept.TheVariants.{Nothing};
 ghost use Rattle.check_command.specs.VerdictText.{ask_text, entry_fault_text, found_text, frame_fault_text, kind_text, mode_at_entry, mode_at_frame, place_text, two_text, verdict_status, verdict_text};
 
 use cert_text::{KeptText, put_load};
@@ -307,12 +308,10 @@ pub fn verdict_report(
     requires { cert.now.tasks ≤ 1024 }
     ensures status { IfOk result (λ r. r.status ≡ verdict_status verified.now) }
     ensures text { IfOk result (λ r. r.text.items ≡ verdict_text cert.now verified.now) }
+    ensures kept { IfOk result (λ r. r.kept ≡ Nothing) }
 {
     let mut text = String::new(alloc);
     push_found(alloc, &mut text, cert, verified)?;
     text.push_str("\n")?;
-    Ok(Report {
-        status: verdict_status(verified),
-        text: text.into_bytes(),
-    })
+    Ok(Report::told(verdict_status(verified), text.into_bytes()))
 }

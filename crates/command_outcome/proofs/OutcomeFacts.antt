@@ -1,25 +1,38 @@
 -- What a command ends with that is stopped, or that reports.
-use Rattle.std.proofs.Common.{None}
-use Rattle.std.specs.Result.{IfOk}
+use Rattle.std.proofs.Common.{◌≡◌, ◌∙◌, ap, ℕ, List, None}
 use Rattle.std.specs.declared.result.Result.{Result}
 use Rattle.std.specs.declared.result.Result.TheVariants.{Ok, Err}
-use Rattle.command_outcome.specs.Outcome.{Files, Outside, Outcome, Ends, Stay, Stops, told}
+use Rattle.command_outcome.specs.Outcome.{Files, Outside, Outcome, Ends, Stay, Stops, outcome_of, told}
+use Rattle.command_outcome.specs.declared.report.Kept.{Kept}
+use Rattle.command_outcome.specs.declared.report.Kept.TheVariants.{Nothing}
+use Rattle.command_outcome.specs.declared.report.Report.{Report}
 use Rattle.command_outcome.specs.declared.report.Stop.{Stop}
 use Rattle.command_outcome.specs.declared.report.Stop.TheVariants as stop
+use Rattle.command_outcome.specs.declared.status.Status.{Status}
 
 -- a refusal of one kind is one of another that it implies
 pub stops_as : (P Q : Outcome → Type 0) (s : Stop) → ((out : Outcome) → P out → Q out) → Stops P s → Stops Q s
-stops_as P Q (stop.Report r) f p = f (told r.status r.text.items) p
+stops_as P Q (stop.Report r) f p = f (outcome_of r None) p
 stops_as P Q stop.Memory f p = p
 stops_as P Q stop.Unwritten f p = p
 
 -- a command that is stopped before it writes anything
 pub stopped : (o : Outside) (P Q : Outcome → Type 0) (after : Files) (s : Stop) → ((out : Outcome) → Q out → P out) → Stay o.files after → Stops Q s → Ends o P after (Err s)
-stopped o P Q after (stop.Report r) f k q = record { page = None; reached = f (told r.status r.text.items) q; written = k }
+stopped o P Q after (stop.Report r) f k q = record { page = None; reached = f (outcome_of r None) q; written = k }
 stopped o P Q after stop.Memory f k q = k
 stopped o P Q after stop.Unwritten f k q = absurd q
 
--- what is so of a value that was made is so of another fact that it implies
-pub ok_as : {T E : Type 0} (r : Result T E) (P Q : T → Type 0) → ((x : T) → P x → Q x) → IfOk r P → IfOk r Q
-ok_as (Ok x) P Q f p = f x p
-ok_as (Err e) P Q f p = p
+-- what a report of this status and text comes to that keeps nothing
+pub told_as : (r : Report) (status : Status) (text : List ℕ) → r.status ≡ status → r.text.items ≡ text → r.kept ≡ Nothing → outcome_of r None ≡ told status text
+told_as r status text s t k =
+    let with_status : Status → Outcome = λ x. record { status = x; text = r.text.items; page = None; kept = r.kept } in
+    let with_text : List ℕ → Outcome = λ x. record { status = status; text = x; page = None; kept = r.kept } in
+    let with_kept : Kept → Outcome = λ x. record { status = status; text = text; page = None; kept = x } in
+    ap with_status s ∙ ap with_text t ∙ ap with_kept k
+
+-- an end of which P is true is one of which Q is true, where P implies Q
+pub ends_as : (o : Outside) (P Q : Outcome → Type 0) (after : Files) (r : Result Report Stop) → ((out : Outcome) → P out → Q out) → Ends o P after r → Ends o Q after r
+ends_as o P Q after (Ok r) f e = record { page = e.page; reached = f (outcome_of r e.page) e.reached; written = e.written }
+ends_as o P Q after (Err (stop.Report r)) f e = record { page = e.page; reached = f (outcome_of r e.page) e.reached; written = e.written }
+ends_as o P Q after (Err stop.Memory) f e = e
+ends_as o P Q after (Err stop.Unwritten) f e = record { outcome = e.outcome; reached = f e.outcome e.reached; page = e.page; has = e.has; blamed = e.blamed; cut = e.cut; others = e.others }

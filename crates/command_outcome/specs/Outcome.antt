@@ -3,6 +3,8 @@ use Rattle.std.specs.Prelude.{◌≡◌, ◌≢◌, ℕ, Bool, true, List, Optio
 use Rattle.std.specs.declared.result.Result.{Result}
 use Rattle.std.specs.declared.result.Result.TheVariants.{Ok, Err}
 use Rattle.line_io.specs.Whole.{IsPrefixWritten}
+use Rattle.command_outcome.specs.declared.report.Kept.{Kept}
+use Rattle.command_outcome.specs.declared.report.Kept.TheVariants.{Nothing}
 use Rattle.command_outcome.specs.declared.report.Report.{Report}
 use Rattle.command_outcome.specs.declared.report.Stop.{Stop}
 use Rattle.command_outcome.specs.declared.report.Stop.TheVariants as stop
@@ -23,15 +25,21 @@ pub record Page : Type 0 where
   pub name : List ℕ
   pub bytes : List ℕ
 
--- what a command comes to: a status, the text that is put, and the page that is written, where there is one
+-- what a command comes to: a status, the text that is put, the page that is written, where there is one, and the
+-- certificate that is kept, where there is one
 pub record Outcome : Type 0 where
   pub status : Status
   pub text : List ℕ
   pub page : Option Page
+  pub kept : Kept
 
--- a status and a text, and no page
+-- a status and a text, no page, and nothing kept
 abbrev pub told : Status → List ℕ → Outcome
-told status text = record { status = status; text = text; page = None }
+told status text = record { status = status; text = text; page = None; kept = Nothing }
+
+-- what a report with a page, or with none, comes to
+abbrev pub outcome_of : Report → Option Page → Outcome
+outcome_of r page = record { status = r.status; text = r.text.items; page = page; kept = r.kept }
 
 -- all files stay
 abbrev pub Stay : Files → Files → Type 0
@@ -42,10 +50,10 @@ abbrev pub IsWritten : Files → Option Page → Files → Type 0
 IsWritten files None after = Stay files after
 IsWritten files (Some page) after = (after page.name ≡ Some page.bytes) × ((q : List ℕ) → q ≢ page.name → after q ≡ files q)
 
--- A command that P is true of comes to this status and text, and the page is written.
-pub record Comes (o : Outside) (P : Outcome → Type 0) (after : Files) (status : Status) (text : List ℕ) : Type 0 where
+-- A command that P is true of comes to this report, and the page is written.
+pub record Comes (o : Outside) (P : Outcome → Type 0) (after : Files) (r : Report) : Type 0 where
   pub page : Option Page
-  pub reached : P (record { status = status; text = text; page = page })
+  pub reached : P (outcome_of r page)
   pub written : IsWritten o.files page after
 
 -- A command that P is true of could not write its page: the last call that failed was on that file, which is as before or has a prefix of the
@@ -61,27 +69,29 @@ pub record IsCut (o : Outside) (P : Outcome → Type 0) (after : Files) : Type 0
 
 -- What a command ended with: a report that P is true of; its page could not be written; or out of memory, and all files stay.
 abbrev pub Ends : Outside → (Outcome → Type 0) → Files → Result Report Stop → Type 0
-Ends o P after (Ok r) = Comes o P after r.status r.text.items
-Ends o P after (Err (stop.Report r)) = Comes o P after r.status r.text.items
+Ends o P after (Ok r) = Comes o P after r
+Ends o P after (Err (stop.Report r)) = Comes o P after r
 Ends o P after (Err stop.Memory) = Stay o.files after
 Ends o P after (Err stop.Unwritten) = IsCut o P after
 
 -- Why a file could not be taken in: a refusal that Q is true of, which writes no page; or out of memory.
 abbrev pub Stops : (Outcome → Type 0) → Stop → Type 0
-Stops Q (stop.Report r) = Q (told r.status r.text.items)
+Stops Q (stop.Report r) = Q (outcome_of r None)
 Stops Q stop.Memory = Unit {0}
 Stops Q stop.Unwritten = ⊥
 
--- A refusal of the input: its status is Input, ReadFault or Refused, and ReadFault only where R.
-pub record IsInputStatus (R : Type 0) (s : Status) : Type 0 where
-  pub read : s ≡ ends.ReadFault → R
-  pub write : s ≢ ends.WriteFault
-  pub usage : s ≢ ends.Usage
-  pub done : s ≢ ends.Done
+-- A refusal of the input: its status is Input, ReadFault or Refused, and ReadFault only where R; nothing is kept.
+pub record IsRefusal (R : Type 0) (r : Report) : Type 0 where
+  pub read : r.status ≡ ends.ReadFault → R
+  pub write : r.status ≢ ends.WriteFault
+  pub usage : r.status ≢ ends.Usage
+  pub done : r.status ≢ ends.Done
+  pub stopped : r.status ≢ ends.Stopped
+  pub kept : r.kept ≡ Nothing
 
 -- the same of what stopped
 abbrev pub MayStop : Type 0 → Stop → Type 0
-MayStop R (stop.Report r) = IsInputStatus R r.status
+MayStop R (stop.Report r) = IsRefusal R r
 MayStop R stop.Memory = Unit {0}
 MayStop R stop.Unwritten = ⊥
 
@@ -91,6 +101,6 @@ outside files blames = record { files = files; blames = blames }
 
 -- the same of a command that writes a file: it couldn't be written only where R
 abbrev pub MayEnd : Type 0 → Stop → Type 0
-MayEnd R (stop.Report r) = IsInputStatus R r.status
+MayEnd R (stop.Report r) = IsRefusal R r
 MayEnd R stop.Memory = Unit {0}
 MayEnd R stop.Unwritten = R

@@ -1,7 +1,9 @@
-//! What every command comes to: a status, a text that is put, and the file that it writes where it writes one.
+//! What every command comes to: a status, a text that is put, the file that it writes where it writes one, and the
+//! certificate that the run keeps where it makes one.
 //!
-//! A command gives a [`Report`], or a [`Stop`] that says why there is none or why it came early. [`finish`] puts it. So a command
-//! itself never puts anything, and its contract speaks of an outcome: the status, the text and the written page.
+//! A command gives a [`Report`], or a [`Stop`] that says why there is none or why it came early. [`finish`] puts it. So
+//! a command itself never puts anything, and its contract speaks of an outcome: the status, the text, the written page
+//! and the kept certificate.
 #![tactic(auto)]
 
 mod output;
@@ -13,5 +15,5 @@ mod tests;
 
 pub use output::finish;
 pub use print::{line_about, push_number, push_printed};
-pub use report::{Report, Stop, refuse};
+pub use report::{Kept, Report, Stop, refuse};
 pub use status::Status;

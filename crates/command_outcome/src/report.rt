@@ -1,15 +1,40 @@
 //! Reports, and why a command stops without one or early. A `?` on either carries a refusal up to the caller.
 ghost use Rattle.std.specs.Prelude.{◌≡◌};
+ghost use Rattle.command_outcome.specs.declared.report.Kept.TheVariants.{Nothing};
 ghost use Rattle.command_outcome.specs.declared.report.Stop.TheVariants.{Memory, Report as Early};
 
 use crate::status::Status;
+use line_rules::Certificate;
 use std::alloc::AllocError;
 
-/// A status, and the text that is put with it.
+/// The certificate that a run leaves in memory, beside what it prints and writes.
+#[derive(Drop)]
+pub enum Kept {
+    /// None.
+    Nothing,
+    /// The certificate of a line.
+    Line(Certificate),
+}
+
+/// A status, the text that is put with it, and the certificate that is kept once it is put.
 #[derive(Drop)]
 pub struct Report {
     pub status: Status,
     pub text: Vec<u8>,
+    pub kept: Kept,
+}
+
+impl Report {
+    /// A report with which nothing is kept.
+    pub fn told(status: Status, text: Vec<u8>) -> Report
+        ensures { result ≡ record { status = status; text = text; kept = Nothing } }
+    {
+        Report {
+            status,
+            text,
+            kept: Kept::Nothing,
+        }
+    }
 }
 
 /// Why a command stops.
@@ -31,9 +56,9 @@ impl From<AllocError> for Stop {
     }
 }
 
-/// A refusal with this status and text.
+/// A refusal with this status and text. Nothing is kept with it.
 pub fn refuse(status: Status, text: Vec<u8>) -> Stop
-    ensures { result ≡ Early (record { status = status; text = text }) }
+    ensures { result ≡ Early (record { status = status; text = text; kept = Nothing }) }
 {
-    Stop::Report(Report { status, text })
+    Stop::Report(Report::told(status, text))
 }

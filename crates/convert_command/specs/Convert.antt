@@ -9,6 +9,7 @@ use Rattle.line_words.specs.declared.job.FormWord.{FormWord}
 use Rattle.line_words.specs.declared.job.FormWord.TheVariants.{In2, Alb, Cert}
 use Rattle.command_outcome.specs.Outcome.{Files, Outside, Outcome}
 use Rattle.command_outcome.specs.Print.{printed}
+use Rattle.command_outcome.specs.declared.report.Kept.TheVariants.{Nothing}
 use Rattle.command_outcome.specs.declared.status.Status.TheVariants as ends
 use Rattle.input_files.specs.Instance.{IsInstance, IsNoInstance, cycle_of}
 use Rattle.input_files.specs.Certificate.{IsCertificateOf, IsNoCertificate}
@@ -23,9 +24,10 @@ IsTextIn Cert line cycle bytes = ⊥
 abbrev pub written_line : List ℕ → List ℕ
 written_line name = codes "written " ++ printed name ++ codes "\n"
 
--- done, with a page of this name and these bytes
+-- done, with a page of this name and these bytes, and nothing kept
 abbrev pub wrote : List ℕ → List ℕ → Outcome
-wrote name bytes = record { status = ends.Done; text = written_line name; page = Some (record { name = name; bytes = bytes }) }
+wrote name bytes =
+    record { status = ends.Done; text = written_line name; page = Some (record { name = name; bytes = bytes }); kept = Nothing }
 
 -- A file says an instance, and what is written is its canonical text in the form, with the cycle time of the words, or else of the file.
 pub record IsLineConverted (files : Files) (name to_name : List ℕ) (to : FormWord) (word : Option ℕ) (out : Outcome) : Type 0 where

@@ -3,6 +3,7 @@ ghost use Rattle.std.specs.Prelude.{◌≡◌, ◌≢◌, ℕ, List, Some, None,
 ghost use Rattle.line_io.specs.Outside.{Rises};
 ghost use Rattle.line_words.specs.declared.job.FormWord.TheVariants.{Cert};
 ghost use Rattle.command_outcome.specs.Outcome.{Ends, MayEnd, outside};
+ghost use Rattle.command_outcome.specs.declared.report.Kept.TheVariants.{Nothing};
 ghost use Rattle.command_outcome.specs.declared.status.Status.TheVariants as ends;
 ghost use Rattle.input_files.specs.Instance.{cycle_of};
 ghost use Rattle.convert_command.specs.Convert.{IsConvertOutcome, IsTextIn, written_line};
@@ -48,12 +49,10 @@ fn text_in(
 fn written(alloc: Global, name: &str) -> Result<Report, AllocError>
     ensures status { IfOk result (λ r. r.status ≡ ends.Done) }
     ensures text { IfOk result (λ r. r.text.items ≡ written_line name.now) }
+    ensures kept { IfOk result (λ r. r.kept ≡ Nothing) }
 {
     let text = line_about(alloc, "written ", name, "\n")?;
-    Ok(Report {
-        status: Status::Done,
-        text,
-    })
+    Ok(Report::told(Status::Done, text))
 }
 
 /// Writes an instance in another form.
@@ -68,6 +67,7 @@ fn convert_line<S: Shelf>(
     requires { to ≢ Cert }
     ensures ends { S.tells → Ends (outside (S.file shelf.old) (S.blames shelf.new)) (IsConvertOutcome (outside (S.file shelf.old) (S.blames shelf.new)) file.now name.now to word) (S.file shelf.new) result }
     ensures good { IfOk result (λ r. r.status ≡ ends.Done) }
+    ensures kept { IfOk result (λ r. r.kept ≡ Nothing) }
     ensures fault { MatchResult result (λ _. Unit {0}) (MayEnd (Rises (S.faults shelf.old) (S.faults shelf.new))) }
 {
     let sheet = sheet_of(alloc, file, shelf)?;
@@ -89,6 +89,7 @@ fn convert_cert<S: Shelf>(
 ) -> Result<Report, Stop>
     ensures ends { S.tells → Ends (outside (S.file shelf.old) (S.blames shelf.new)) (IsConvertOutcome (outside (S.file shelf.old) (S.blames shelf.new)) file.now name.now Cert word) (S.file shelf.new) result }
     ensures good { IfOk result (λ r. r.status ≡ ends.Done) }
+    ensures kept { IfOk result (λ r. r.kept ≡ Nothing) }
     ensures fault { MatchResult result (λ _. Unit {0}) (MayEnd (Rises (S.faults shelf.old) (S.faults shelf.new))) }
 {
     let cert = certificate_of(alloc, file, shelf)?;
@@ -112,6 +113,7 @@ pub fn convert_report<S: Shelf>(
 ) -> Result<Report, Stop>
     ensures ends { S.tells → Ends (outside (S.file shelf.old) (S.blames shelf.new)) (IsConvertOutcome (outside (S.file shelf.old) (S.blames shelf.new)) file.now name.now to word) (S.file shelf.new) result }
     ensures good { IfOk result (λ r. r.status ≡ ends.Done) }
+    ensures kept { IfOk result (λ r. r.kept ≡ Nothing) }
     ensures fault { MatchResult result (λ _. Unit {0}) (MayEnd (Rises (S.faults shelf.old) (S.faults shelf.new))) }
 {
     match to {

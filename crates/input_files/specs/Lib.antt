@@ -1,3 +1,4 @@
 pub mod InputFile
 pub mod Instance
 pub mod Certificate
+pub mod Kind

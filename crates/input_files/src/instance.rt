@@ -211,6 +211,7 @@ pub fn said_instance<S: Shelf>(
     ensures said { S.tells → MatchResult result (λ t. IsSaid (S.file shelf.old) file.now (option_map (λ a. a.now) apart.entry) word t.inst t.cycle) (Stops (IsUnsaid (outside (S.file shelf.old) (S.blames shelf.new)) file.now (option_map (λ a. a.now) apart.entry) word)) }
     ensures limit { IfOk result (λ t. IsBetween 1 1000000000000000000 t.cycle) }
     ensures fault { MatchResult result (λ _. Unit {0}) (MayStop (Rises (S.faults shelf.old) (S.faults shelf.new))) }
+    ensures count { S.faults shelf.old ≤ S.faults shelf.new }
     ensures files { S.tells → (q : List ℕ) → S.file shelf.new q ≡ S.file shelf.old q }
 {
     let Timed { inst, cycle } = timed_of(alloc, file, word, shelf)?;

@@ -9,6 +9,8 @@ mod apart_pairs;
 mod certificate;
 mod fetch_file;
 mod instance;
+mod kind;
 
 pub use certificate::certificate_of;
 pub use instance::{Sheet, Timed, line_of, said_instance, sheet_of};
+pub use kind::kind_of;

@@ -1,14 +1,10 @@
-use Rattle.std.proofs.Common.{◌≡◌, ◌∙◌, ap, inl, subst, List, ℕ, Option, None}
-use Rattle.command_outcome.specs.Outcome.{Files, told}
-use Rattle.command_outcome.specs.declared.status.Status.{Status}
+use Rattle.std.proofs.Common.{◌∙◌, inl, subst, List, ℕ, Option, None}
+use Rattle.command_outcome.specs.Outcome.{Files}
+use Rattle.command_outcome.proofs.OutcomeFacts.{told_as}
 use Rattle.input_files.specs.InputFile.{Reads, max_certificate}
 use Rattle.input_files.specs.Certificate.{IsTextOf}
 use Rattle.check_command.specs.VerdictText.{verdict_text, verdict_status}
 use Rattle.check_command.proofs.check.check_report.Goals as goal
-
--- an outcome of this status and text
-told_as : (s t : Status) (x y : List ℕ) → s ≡ t → x ≡ y → told s x ≡ told t y
-told_as s t x y e f = ap (λ a. told a x) e ∙ ap (told t) f
 
 pub returns-clause-ends : goal.returns-clause-ends
 returns-clause-ends g c = λ t.
@@ -28,7 +24,7 @@ returns-clause-ends g c = λ t.
         accepted = c.verdict_of-verified.ensures.accepted;
         rejected = c.verdict_of-verified.ensures.rejected;
         true_bounds = c.verdict_of-verified.ensures.true_bounds;
-        shown = told_as c.in_ok-report.report.status (verdict_status c.verdict_of-verified.result) c.in_ok-report.report.text.items (verdict_text c.in_ok-cert.cert c.verdict_of-verified.result) c.in_ok-report.ensures.status c.in_ok-report.ensures.text;
+        shown = told_as c.in_ok-report.report (verdict_status c.verdict_of-verified.result) (verdict_text c.in_ok-cert.cert c.verdict_of-verified.result) c.in_ok-report.ensures.status c.in_ok-report.ensures.text c.in_ok-report.ensures.kept;
       });
       written = λ q. c.in_ok-cert.ensures.files t q ∙ c.in_ok-inst.ensures.files t q;
     }

@@ -13,7 +13,7 @@ returns-in-Done-clause-ends g c = λ t.
     let P : Outcome → Type 0 = IsConvertOutcome (outside files blames) c.args.file.now c.args.name.now Cert c.args.word in
     comes files (g.S.Shelf.file c.certificate_of.new.shelf) (g.S.Shelf.file c.stream_cert.new.shelf) blames P c.args.name.now (cert_text c.in_ok-cert.cert) (c.in_ok-cert.ensures.files t) (c.in-Done.ensures.others t)
     (inr (refl, inl (record { cert = c.in_ok-cert.cert; said = c.in_ok-cert.ensures.said t; shown = refl })))
-    c.in_ok-report.report.status c.in_ok-report.report.text.items c.in_ok-report.ensures.status c.in_ok-report.ensures.text (c.in-Done.ensures.done t refl)
+    c.in_ok-report.report c.in_ok-report.ensures.status c.in_ok-report.ensures.text c.in_ok-report.ensures.kept (c.in-Done.ensures.done t refl)
 
 pub returns-in-WriteFault-clause-ends : goal.returns-in-WriteFault-clause-ends
 returns-in-WriteFault-clause-ends g c = λ t.
