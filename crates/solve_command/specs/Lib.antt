@@ -1,0 +1,3 @@
+pub mod SolutionText
+pub mod Solution
+pub mod Promise

@@ -1,0 +1,96 @@
+-- What `solve` promises, fact by fact, where it answers with status 0 or 1.
+use Rattle.std.specs.Prelude.{◌≡◌, ◌⊎◌, ℕ, ◌+◌, ◌*◌, ◌^◌, ◌<◌, ◌≤◌, List, Option, Some, None, cond, nat_eq}
+use Rattle.line_instance.specs.Line.{Line, tasks, time}
+use Rattle.line_rules.specs.Accepted.{IsAccepted, IsInfeasible as IsAcceptedInfeasible, IsLeastStations}
+use Rattle.line_rules.specs.Balance.{IsRight}
+use Rattle.line_rules.specs.Bounds.{idle_time, IsTooLong}
+use Rattle.line_rules.specs.Checked.{IsLeastWhere}
+use Rattle.line_rules.specs.Entries.{IsFresh}
+use Rattle.line_rules.specs.Laws.{IsProved, NoBalanceIsLeft}
+use Rattle.line_rules.specs.Trails.{IsOpenOver}
+use Rattle.line_rules.specs.declared.types.LineKind.{LineKind}
+use Rattle.line_rules.specs.declared.types.Balance.{Balance as Assignment}
+use Rattle.line_rules.specs.declared.types.Entry.{Entry}
+use Rattle.line_rules.specs.declared.types.OpenFrame.{OpenFrame}
+use Rattle.line_rules.specs.declared.types.Trail.{Trail}
+use Rattle.line_rules.specs.declared.types.Ask.TheVariants as ask
+use Rattle.line_rules.specs.declared.types.Claim.TheVariants as claim
+use Rattle.line_rules.specs.declared.types.Certificate.{Certificate}
+use Rattle.cert_text.specs.Cert.{cert_text}
+use Rattle.budget_law.specs.Budget.{states}
+use Rattle.run_certificates.specs.Certified.{about_stations, max_units}
+use Rattle.command_outcome.specs.Outcome.{Files}
+use Rattle.command_outcome.specs.declared.report.Kept.{Kept}
+use Rattle.command_outcome.specs.declared.report.Kept.TheVariants.{Line as Certified}
+use Rattle.command_outcome.specs.declared.status.Status.{Status}
+use Rattle.command_outcome.specs.declared.status.Status.TheVariants as ends
+use Rattle.input_files.specs.Instance.{IsSaid}
+use Rattle.station_report.specs.InfeasibleText.{infeasible_text}
+use Rattle.solve_command.specs.SolutionText.{optimal_text, stopped_text}
+
+-- the printed text of bounds: the optimum where they are equal, and both where they differ
+abbrev pub bounds_text : LineKind → ℕ → Assignment → ℕ → List ℕ
+bounds_text kind lower b idle = cond (nat_eq lower b.stations) (optimal_text kind b idle) (stopped_text kind lower b idle)
+
+-- The N units were spent on loads that the certificate lists: its entries and its trail have exactly N units, no entry is
+-- answered by an earlier one, and the trail, which is valid since the certificate is accepted, has a further load.
+pub record AreSpent (line : Line) (c N : ℕ) (es : List Entry) (trail : Option Trail) (units : ℕ) : Type 0 where
+  pub frames : List OpenFrame
+  pub left : trail ≡ Some (record { cycle = c; frames = frames })
+  pub exactly : units ≡ N
+  pub fresh : IsFresh es
+  pub opens : IsOpenOver line c es frames
+
+-- What is promised of bounds: the printed balance keeps every precedence and the cycle; the certificate is accepted by the
+-- check with its default steps; no balance of that kind has fewer stations than the lower bound; what is printed are the
+-- certificate's bounds and balance; the bounds differ only where the N units were spent on loads that the certificate lists,
+-- and status 1 says so; where they are equal they are the least number of stations; and they are equal where N is at least
+-- (n + 1) x 3^n for n tasks, and on a U-line (n + 1) x 4^n.
+pub record HasBounds (kind : LineKind) (line : Line) (c N : ℕ) (certificate : Certificate) (status : Status) (text : List ℕ)
+    : Type 0 where
+  pub lower : ℕ
+  pub balance : Assignment
+  pub entries : List Entry
+  pub trail : Option Trail
+  pub units : ℕ
+  pub right : IsRight kind line c balance
+  pub said : certificate ≡ about_stations kind line c (claim.Bounds lower balance.stations balance entries trail)
+  pub accepted : IsAccepted line certificate lower balance.stations units
+  pub few : units ≤ max_units
+  pub true_bounds : IsProved kind line (ask.Stations c) lower balance.stations
+  pub printed : text ≡ bounds_text kind lower balance (idle_time line c balance.stations)
+  pub differ : lower < balance.stations → (status ≡ ends.Stopped) × AreSpent line c N entries trail units
+  pub equal : lower ≡ balance.stations → (status ≡ ends.Done) × IsLeastStations kind line c lower
+  pub complete : (tasks line + 1) * states kind ^ tasks line ≤ N → lower ≡ balance.stations
+
+-- What is promised where a task is longer than the cycle: the least such task is printed, the certificate names it and is
+-- accepted, and no number of stations is enough.
+pub record HasNone (kind : LineKind) (line : Line) (c : ℕ) (certificate : Certificate) (status : Status) (text : List ℕ) : Type 0 where
+  pub task : ℕ
+  pub least : IsLeastWhere (IsTooLong line c) task
+  pub said : certificate ≡ about_stations kind line c (claim.TooLong task)
+  pub accepted : IsAcceptedInfeasible line certificate task
+  pub none : NoBalanceIsLeft (ask.Stations c) kind line
+  pub printed : text ≡ infeasible_text task (time line task)
+  pub done : status ≡ ends.Done
+
+-- the file that the words name, where they name one, has the text of the certificate
+abbrev pub HasCertificate : Option (List ℕ) → Files → Certificate → Type 0
+HasCertificate None after certificate = Unit {0}
+HasCertificate (Some name) after certificate = after name ≡ Some (cert_text certificate)
+
+-- what is printed is shown by a certificate, which is kept
+pub record IsShown (kind : LineKind) (line : Line) (c N : ℕ) (status : Status) (text : List ℕ) (kept : Kept) : Type 0 where
+  pub certificate : Certificate
+  pub keeps : kept ≡ Certified certificate
+  pub shows : HasBounds kind line c N certificate status text ⊎ HasNone kind line c certificate status text
+
+-- The promise of `solve` for the line and the cycle that the files say: what is printed is shown by a certificate, which is
+-- kept, and written where the words name a file.
+pub record IsPromised (files after : Files) (file : List ℕ) (apart : Option (List ℕ)) (word : Option ℕ) (kind : LineKind) (N : ℕ)
+    (name : Option (List ℕ)) (status : Status) (text : List ℕ) (kept : Kept) : Type 0 where
+  pub line : Line
+  pub c : ℕ
+  pub said : IsSaid files file apart word line c
+  pub shown : IsShown kind line c N status text kept
+  pub written : HasCertificate name after shown.certificate

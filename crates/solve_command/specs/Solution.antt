@@ -1,0 +1,78 @@
+-- What `solve` comes to.
+use Rattle.std.specs.Prelude.{◌≡◌, ◌⊎◌, ℕ, ◌<◌, List, Option, Some, None}
+use Rattle.line_instance.specs.Line.{Line, time}
+use Rattle.line_rules.specs.Bounds.{idle_time, IsTooLong}
+use Rattle.line_rules.specs.Checked.{IsLeastWhere}
+use Rattle.line_rules.specs.Laws.{IsProved}
+use Rattle.line_rules.specs.declared.types.LineKind.{LineKind}
+use Rattle.line_rules.specs.declared.types.Balance.{Balance as Assignment}
+use Rattle.line_rules.specs.declared.types.Ask.TheVariants as ask
+use Rattle.line_rules.specs.declared.types.Certificate.{Certificate}
+use Rattle.cert_text.specs.Cert.{cert_text}
+use Rattle.run_certificates.specs.Certified.{IsOptimum, IsStop, IsNoBalance}
+use Rattle.command_outcome.specs.Outcome.{Files, Outside, Page, Outcome, told}
+use Rattle.command_outcome.specs.declared.report.Kept.TheVariants.{Line as Certified}
+use Rattle.command_outcome.specs.declared.status.Status.{Status}
+use Rattle.command_outcome.specs.declared.status.Status.TheVariants as ends
+use Rattle.input_files.specs.Instance.{IsSaid, IsUnsaid}
+use Rattle.station_report.specs.InfeasibleText.{infeasible_text}
+use Rattle.solve_command.specs.SolutionText.{optimal_text, stopped_text, cut_short_text}
+
+-- the page of a certificate: its text in the file that the words name, where they name one
+abbrev pub page_of : Option (List ℕ) → Certificate → Option Page
+page_of None cert = None
+page_of (Some name) cert = Some (record { name = name; bytes = cert_text cert })
+
+-- an outcome with a certificate, which is kept, and written where the words name a file
+abbrev pub certified_by : Option (List ℕ) → Certificate → Status → List ℕ → Outcome
+certified_by name cert status text = record { status = status; text = text; page = page_of name cert; kept = Certified cert }
+
+-- The optimum: the balance that is printed has the least number of stations, and the certificate proves it.
+pub record IsOptimal (kind : LineKind) (line : Line) (c : ℕ) (name : Option (List ℕ)) (out : Outcome) : Type 0 where
+  pub balance : Assignment
+  pub certificate : Certificate
+  pub proved : IsOptimum kind line c balance certificate
+  pub shown : out ≡ certified_by name certificate ends.Done (optimal_text kind balance (idle_time line c balance.stations))
+
+-- The N units were used: the bounds and the balance that are printed are those of the certificate, which lists the units.
+pub record IsStopped (kind : LineKind) (line : Line) (c N : ℕ) (name : Option (List ℕ)) (out : Outcome) : Type 0 where
+  pub lower : ℕ
+  pub balance : Assignment
+  pub certificate : Certificate
+  pub proved : IsStop kind line c N lower balance certificate
+  pub shown : out ≡ certified_by name certificate ends.Stopped (stopped_text kind lower balance (idle_time line c balance.stations))
+
+-- There is no balance: the least task that is longer than the cycle is printed, and the certificate names it.
+pub record IsInfeasible (kind : LineKind) (line : Line) (c : ℕ) (name : Option (List ℕ)) (out : Outcome) : Type 0 where
+  pub task : ℕ
+  pub least : IsLeastWhere (IsTooLong line c) task
+  pub certificate : Certificate
+  pub proved : IsNoBalance kind line c task certificate
+  pub shown : out ≡ certified_by name certificate ends.Done (infeasible_text task (time line task))
+
+-- what is found with a certificate
+abbrev pub IsSolution : LineKind → Line → ℕ → ℕ → Option (List ℕ) → Outcome → Type 0
+IsSolution kind line c N name out = IsOptimal kind line c name out ⊎ IsStopped kind line c N name out ⊎ IsInfeasible kind line c name out
+
+-- a run with a certificate is done, or its units ended
+abbrev pub IsSolveStatus : Status → Type 0
+IsSolveStatus status = (status ≡ ends.Done) ⊎ (status ≡ ends.Stopped)
+
+-- Memory ended the search: the bounds that are printed differ, and are true.
+pub record IsCutShort (kind : LineKind) (line : Line) (c : ℕ) (out : Outcome) : Type 0 where
+  pub lower : ℕ
+  pub upper : ℕ
+  pub below : lower < upper
+  pub true_bounds : IsProved kind line (ask.Stations c) lower upper
+  pub shown : out ≡ told ends.Memory (cut_short_text lower upper)
+
+-- the files say the line and the cycle time, and this is answered of them
+pub record IsAnswered (files : Files) (file : List ℕ) (apart : Option (List ℕ)) (word : Option ℕ) (kind : LineKind) (N : ℕ) (name : Option (List ℕ)) (out : Outcome) : Type 0 where
+  pub line : Line
+  pub c : ℕ
+  pub said : IsSaid files file apart word line c
+  pub answer : IsSolution kind line c N name out ⊎ IsCutShort kind line c out
+
+-- What `solve` comes to with N units and no helpers: an answer, or why the files say no line with a cycle time.
+abbrev pub IsSolveOutcome : Outside → List ℕ → Option (List ℕ) → Option ℕ → LineKind → ℕ → Option (List ℕ) → Outcome → Type 0
+IsSolveOutcome o file apart word kind N name out = IsAnswered o.files file apart word kind N name out ⊎ IsUnsaid o file apart word out

@@ -1,0 +1,223 @@
+//! What `solve` answers of a line, and of files that say one.
+ghost use Rattle.std.specs.Prelude.{◌≡◌, ◌≢◌, ◌≤◌, ℕ, List, [], string_bytes, Some, None, Err, IfOk, MatchResult, option_map};
+ghost use Rattle.line_io.specs.Outside.{Rises};
+ghost use Rattle.line_instance.specs.Line.{Line};
+ghost use Rattle.line_rules.specs.Bounds.{IsTooLong};
+ghost use Rattle.line_rules.specs.Checked.{IsLeastWhere};
+ghost use Rattle.line_rules.specs.Ranges.{IsCycle, IsInRange};
+ghost use Rattle.line_rules.specs.declared.types.LineKind.{LineKind as Kind};
+ghost use Rattle.line_rules.specs.declared.types.OpenFrame.{OpenFrame};
+ghost use Rattle.line_rules.specs.declared.types.Certificate.{Certificate as Proof};
+ghost use Rattle.command_outcome.specs.declared.report.Kept.TheVariants.{Line as Certified};
+ghost use Rattle.line_words.specs.Ranges.{IsSetBetween};
+ghost use Rattle.round_run.specs.Plans.{IsPlan};
+ghost use Rattle.round_run.specs.Solving.{IsSolved, IsSpent, IsStopped as HasStopped};
+ghost use Rattle.command_outcome.specs.Outcome.{Files, Ends, MayEnd, Stay, Stops, MayStop, outside, outcome_of};
+ghost use Rattle.command_outcome.specs.declared.status.Status.TheVariants as ends;
+ghost use Rattle.command_outcome.specs.declared.report.Stop.TheVariants.{Unwritten};
+ghost use Rattle.solve_command.specs.Promise.{HasCertificate, IsPromised, IsShown};
+ghost use Rattle.solve_command.specs.Solution.{IsOptimal, IsStopped, IsInfeasible, IsSolution, IsCutShort, IsSolveOutcome, IsSolveStatus};
+
+use crate::print_solution::{cut_short_text, optimal_text, room_for_bounds, stopped_text};
+use cert_files::{Streamed, stream_cert};
+use command_outcome::{Kept, Report, Status, Stop, refuse};
+use input_files::said_instance;
+use lemma_core::Book;
+use line_instance::Instance;
+use line_io::Shelf;
+use line_rules::{Frames, LineKind};
+use round_run::{Cause, Gate, Outcome, Plan, solve};
+use run_certificates::{certify_optimum, certify_stop, certify_too_long};
+use station_report::{idle_of, infeasible_line};
+use std::alloc::{AllocError, Global};
+use std::sync::Wait;
+use std::thread::Threads;
+
+/// The report of a run that was solved, with its certificate.
+fn optimal(
+    alloc: Global,
+    inst: &Instance,
+    kind: LineKind,
+    cycle: u64,
+    book: Book,
+) -> Result<Report, AllocError>
+    requires cycle { IsCycle cycle }
+    requires solved { (N : ℕ) × (N ≤ 3000000) × IsSolved kind inst.now cycle N book }
+    ensures { IfOk result (λ r. IsOptimal kind inst.now cycle None (outcome_of r None)) }
+{
+    let _tasks = inst.tasks();
+    let balance = book.best();
+    let idle = idle_of(inst, cycle, balance.stations);
+    let text = optimal_text(alloc, balance, kind, idle)?;
+    let certificate = certify_optimum(alloc, inst, kind, cycle, book)?;
+    Ok(Report {
+        status: Status::Done,
+        text,
+        kept: Kept::Line(certificate),
+    })
+}
+
+/// The report of a run whose units ended, with its certificate.
+fn stopped(
+    alloc: Global,
+    inst: &Instance,
+    kind: LineKind,
+    cycle: u64,
+    lower: u32,
+    book: Book,
+    trail: Frames,
+) -> Result<Report, AllocError>
+    requires cycle { IsCycle cycle }
+    requires spent { (N : ℕ) × (N ≤ 3000000) × IsSpent kind inst.now cycle N lower book trail }
+    ensures { IfOk result (λ r. (N : ℕ) → N ≤ 3000000
+        → IsSpent kind inst.now cycle N lower book trail
+        → IsStopped kind inst.now cycle N None (outcome_of r None)) }
+{
+    let _tasks = inst.tasks();
+    let balance = book.best();
+    let idle = idle_of(inst, cycle, balance.stations);
+    let text = stopped_text(alloc, lower, balance, kind, idle)?;
+    Ok(Report {
+        status: Status::Stopped,
+        text,
+        kept: Kept::Line(certify_stop(inst, kind, cycle, lower, book, trail)),
+    })
+}
+
+/// The report that a task is longer than the cycle, with its certificate.
+fn infeasible(
+    alloc: Global,
+    inst: &Instance,
+    kind: LineKind,
+    cycle: u64,
+    task: u32,
+) -> Result<Report, AllocError>
+    requires cycle { IsCycle cycle }
+    requires long { IsLeastWhere (IsTooLong inst.now cycle) task }
+    ensures { IfOk result (λ r. IsInfeasible kind inst.now cycle None (outcome_of r None)) }
+{
+    let _tasks = inst.tasks();
+    let text = infeasible_line(alloc, task, inst.time(task))?;
+    Ok(Report {
+        status: Status::Done,
+        text,
+        kept: Kept::Line(certify_too_long(inst, kind, cycle, task)),
+    })
+}
+
+/// The refusal of a search that memory ended, with its bounds.
+fn cut_short(
+    inst: &Instance,
+    kind: LineKind,
+    cycle: u64,
+    room: String,
+    lower: u32,
+    book: &Book,
+) -> Result<Stop, AllocError>
+    requires room { string_bytes room ≡ [] }
+    requires stopped { (N : ℕ) × (trail : List OpenFrame) × HasStopped kind inst.now cycle N lower book.now trail }
+    ensures answer { IfOk result (Stops (IsCutShort kind inst.now cycle)) }
+    ensures fault { IfOk result (MayStop ⊥) }
+{
+    let _tasks = inst.tasks();
+    let _entries = book.entries();
+    let text = cut_short_text(room, lower, book.best().stations)?;
+    Ok(refuse(Status::Memory, text))
+}
+
+/// What is reported of a line of this kind at a cycle time, with a certificate; or the bounds, where memory ended the search.
+fn solution<R: Threads + Wait + Sync, G: Gate>(
+    rt: &R,
+    alloc: Global,
+    inst: &Instance,
+    kind: LineKind,
+    cycle: u64,
+    plan: &Plan,
+    gate: &G,
+) -> Result<Report, Stop>
+    requires cycle { IsCycle cycle }
+    requires plan { IsPlan plan.now }
+    requires alone { plan.now.helpers ≡ 0 }
+    ensures answer { MatchResult result
+        (λ r. IsSolution kind inst.now cycle plan.now.units None (outcome_of r None))
+        (Stops (IsCutShort kind inst.now cycle)) }
+    ensures shown { IfOk result (λ r. IsShown kind inst.now cycle plan.now.units r.status r.text.items r.kept) }
+    ensures good { IfOk result (λ r. IsSolveStatus r.status) }
+    ensures fault { MatchResult result (λ _. Unit {0}) (MayStop ⊥) }
+{
+    let room = room_for_bounds(alloc)?;
+    match solve(rt, alloc, inst, kind, cycle, plan, gate) {
+        Outcome::TooLong(task) => Ok(infeasible(alloc, inst, kind, cycle, task)?),
+        Outcome::Solved { book } => Ok(optimal(alloc, inst, kind, cycle, book)?),
+        Outcome::Stopped {
+            cause,
+            lower,
+            book,
+            trail,
+        } => match cause {
+            Cause::Units => Ok(stopped(alloc, inst, kind, cycle, lower, book, trail)?),
+            Cause::Memory => Err(cut_short(inst, kind, cycle, room, lower, &book)?),
+        },
+        Outcome::NoMemory => Err(Stop::Memory),
+    }
+}
+
+/// Writes the certificate of a report, and hands the report on.
+fn written<S: Shelf>(
+    alloc: Global,
+    shelf: &mut S,
+    name: &str,
+    report: Report,
+) -> Result<Report, Stop>
+    requires sayable { (certificate : Proof) → report.kept ≡ Certified certificate → IsInRange certificate }
+    ensures ends { S.tells → (files : Files) → Stay files (S.file shelf.old)
+        → (kind : Kind) (line : Line) (c N : ℕ) → IsSolution kind line c N None (outcome_of report None)
+        → Ends (outside files (S.blames shelf.new)) (IsSolution kind line c N (Some name.now)) (S.file shelf.new) result }
+    ensures same { IfOk result (λ r. r ≡ report) }
+    ensures certificate { S.tells → IfOk result (λ r. (cert : Proof) → r.kept ≡ Certified cert → HasCertificate (Some name.now) (S.file shelf.new) cert) }
+    ensures fault { MatchResult result (λ _. Unit {0}) (MayEnd (Rises (S.faults shelf.old) (S.faults shelf.new))) }
+    ensures count { S.faults shelf.old ≤ S.faults shelf.new }
+{
+    let Kept::Line(certificate) = &report.kept else {
+        return Ok(report);
+    };
+    match stream_cert(alloc, shelf, name, certificate) {
+        Streamed::Done => Ok(report),
+        Streamed::WriteFault => Err(Stop::Unwritten),
+        Streamed::NoMemory => Err(Stop::Memory),
+    }
+}
+
+/// The report of `solve` for the file of an instance, the file of the tasks that are apart, where there is one, the cycle time
+/// of the words, where they have one, the kind of line, the plan, which has no helpers, and the name of the file that the
+/// certificate is written to, where there is one.
+pub fn solve_report<R: Threads + Wait + Sync, S: Shelf, G: Gate>(
+    rt: &R,
+    alloc: Global,
+    file: &str,
+    apart: Option<&str>,
+    word: Option<u64>,
+    kind: LineKind,
+    plan: &Plan,
+    name: Option<&str>,
+    shelf: &mut S,
+    gate: &G,
+) -> Result<Report, Stop>
+    requires word { IsSetBetween 1 1000000000000000000 word }
+    requires plan { IsPlan plan.now }
+    requires alone { plan.now.helpers ≡ 0 }
+    ensures ends { S.tells → (let o = outside (S.file shelf.old) (S.blames shelf.new) in
+        Ends o (IsSolveOutcome o file.now (option_map (λ a. a.now) apart.entry) word kind plan.now.units (option_map (λ a. a.now) name.entry)) (S.file shelf.new) result) }
+    ensures good { IfOk result (λ r. IsSolveStatus r.status) }
+    ensures fault { MatchResult result (λ _. Unit {0}) (MayEnd (Rises (S.faults shelf.old) (S.faults shelf.new))) }
+    ensures unwritten { result ≡ Err Unwritten → (n : List ℕ) × (option_map (λ a. a.now) name.entry ≡ Some n) }
+    ensures promise { S.tells → IfOk result (λ r.
+        IsPromised (S.file shelf.old) (S.file shelf.new) file.now (option_map (λ a. a.now) apart.entry) word kind plan.now.units (option_map (λ a. a.now) name.entry) r.status r.text.items r.kept) }
+{
+    let timed = said_instance(alloc, file, apart, word, shelf)?;
+    let report = solution(rt, alloc, &timed.inst, kind, timed.cycle, plan, gate)?;
+    match name {
+        None => Ok(report),
+        Some(name) => written(alloc, shelf, name, report),
+    }
+}
