@@ -2,9 +2,11 @@
 use Rattle.std.proofs.Common.{◌≡◌, ◌≢◌, ◌∙◌, ◌⊎◌, ℕ, List, Option, Some, None, inl, inr, refl, sym, ap, subst}
 use Rattle.std.specs.declared.result.Result.{Result}
 use Rattle.std.specs.declared.result.Result.TheVariants.{Ok, Err}
-use Rattle.command_outcome.specs.Outcome.{Files, Outside, Outcome, Comes, IsCut, Ends, Stay, told}
+use Rattle.command_outcome.specs.Outcome.{Files, Outside, Outcome, Comes, IsCut, Ends, Stay, outcome_of, told}
 use Rattle.command_outcome.specs.Output.{Finishes, Puts, memory_line, status_of}
 use Rattle.command_outcome.specs.Ending.{Ending, IsEnding}
+use Rattle.command_outcome.specs.declared.report.Kept.{Kept}
+use Rattle.command_outcome.specs.declared.report.Kept.TheVariants.{Nothing}
 use Rattle.command_outcome.specs.declared.report.Report.{Report}
 use Rattle.command_outcome.specs.declared.report.Stop.{Stop}
 use Rattle.command_outcome.specs.declared.report.Stop.TheVariants as stop
@@ -12,17 +14,10 @@ use Rattle.command_outcome.specs.declared.status.Status.{Status}
 use Rattle.command_outcome.specs.declared.status.Status.TheVariants as ends
 use Rattle.line_program.specs.Run.{IsPlainEnd, IsPut, IsLeft}
 
--- an end of which P is true is one of which Q is true, where P implies Q
-pub ends_as : (o : Outside) (P Q : Outcome → Type 0) (after : Files) (r : Result Report Stop) → ((out : Outcome) → P out → Q out) → Ends o P after r → Ends o Q after r
-ends_as o P Q after (Ok r) f e = record { page = e.page; reached = f (record { status = r.status; text = r.text.items; page = e.page }) e.reached; written = e.written }
-ends_as o P Q after (Err (stop.Report r)) f e = record { page = e.page; reached = f (record { status = r.status; text = r.text.items; page = e.page }) e.reached; written = e.written }
-ends_as o P Q after (Err stop.Memory) f e = e
-ends_as o P Q after (Err stop.Unwritten) f e = record { outcome = e.outcome; reached = f e.outcome e.reached; page = e.page; has = e.has; blamed = e.blamed; cut = e.cut; others = e.others }
-
--- the same of an end that needs no file
+-- an end that needs no file and of which P is true is one of which Q is true, where P implies Q
 pub plain_as : (P Q : Outcome → Type 0) (r : Result Report Stop) → ((out : Outcome) → P out → Q out) → IsPlainEnd P r → IsPlainEnd Q r
-plain_as P Q (Ok r) f p = f (told r.status r.text.items) p
-plain_as P Q (Err (stop.Report r)) f p = f (told r.status r.text.items) p
+plain_as P Q (Ok r) f p = f (outcome_of r None) p
+plain_as P Q (Err (stop.Report r)) f p = f (outcome_of r None) p
 plain_as P Q (Err stop.Memory) f p = p
 plain_as P Q (Err stop.Unwritten) f p = p
 
@@ -30,20 +25,20 @@ plain_as P Q (Err stop.Unwritten) f p = p
 abbrev OrMemory : (Outcome → Type 0) → Outcome → Type 0
 OrMemory P out = P out ⊎ (out ≡ told ends.Memory memory_line)
 
-module _ (o : Outside) (P : Outcome → Type 0) (after : Files) (old new : List ℕ) (before faults : ℕ) (result : Status) where
+module _ (o : Outside) (P : Outcome → Type 0) (after : Files) (old new : List ℕ) (before faults : ℕ) (result : Status) (kept : Kept) where
   abbrev ending : Ending
-  ending = record { status = result; files = after; shown_before = old; shown = new; faults_before = before; faults = faults }
+  ending = record { status = result; files = after; kept = kept; shown_before = old; shown = new; faults_before = before; faults = faults }
 
-  reported : (r : Report) → Comes o P after r.status r.text.items → Puts r.status r.text.items old new before faults result → IsEnding o (OrMemory P) ending
-  reported r e (inl p) = inl (record { outcome = record { status = r.status; text = r.text.items; page = e.page }; reached = inl e.reached; status = p.0; shown = p.1; written = e.written })
-  reported r e (inr p) = inr (inl (record { outcome = record { status = r.status; text = r.text.items; page = e.page }; reached = inl e.reached; status = p.0; failed = p.1; kept = p.2.0; shown = p.2.1; written = e.written }))
+  reported : (r : Report) → Comes o P after r → Puts r.status r.text.items r.kept old new before faults result kept → IsEnding o (OrMemory P) ending
+  reported r e (inl p) = inl (record { outcome = outcome_of r e.page; reached = inl e.reached; status = p.0; shown = p.1; written = e.written; kept = p.2 })
+  reported r e (inr p) = inr (inl (record { outcome = outcome_of r e.page; reached = inl e.reached; status = p.0; failed = p.1; long = p.2.0; shown = p.2.1; written = e.written; kept = p.3 }))
 
-  remembered : Stay o.files after → Puts ends.Memory memory_line old new before faults result → IsEnding o (OrMemory P) ending
-  remembered k (inl p) = inl (record { outcome = told ends.Memory memory_line; reached = inr refl; status = p.0; shown = p.1; written = k })
-  remembered k (inr p) = inr (inl (record { outcome = told ends.Memory memory_line; reached = inr refl; status = p.0; failed = p.1; kept = p.2.0; shown = p.2.1; written = k }))
+  remembered : Stay o.files after → Puts ends.Memory memory_line Nothing old new before faults result kept → IsEnding o (OrMemory P) ending
+  remembered k (inl p) = inl (record { outcome = told ends.Memory memory_line; reached = inr refl; status = p.0; shown = p.1; written = k; kept = p.2 })
+  remembered k (inr p) = inr (inl (record { outcome = told ends.Memory memory_line; reached = inr refl; status = p.0; failed = p.1; long = p.2.0; shown = p.2.1; written = k; kept = p.3 }))
 
   -- what is put of an end is the end of the run
-  pub run_ends : (r : Result Report Stop) → Ends o P after r → Finishes r old new before faults result → IsEnding o (OrMemory P) ending
+  pub run_ends : (r : Result Report Stop) → Ends o P after r → Finishes r old new before faults result kept → IsEnding o (OrMemory P) ending
   run_ends (Ok r) e f = reported r e f
   run_ends (Err (stop.Report r)) e f = reported r e f
   run_ends (Err stop.Memory) e f = remembered e f
@@ -57,23 +52,25 @@ module _ (o : Outside) (P : Outcome → Type 0) (after : Files) (old new : List 
     cut = e.cut;
     others = e.others;
     shown = f.1;
+    kept = f.2;
   }))
 
-  -- and of the files
-  left_by : (s : Status) (text : List ℕ) → Comes o P after s text → (result ≡ s) ⊎ (result ≡ ends.WriteFault) → IsLeft o (OrMemory P) result after
-  left_by s text e k = inl (record { outcome = record { status = s; text = text; page = e.page }; reached = inl e.reached; ended = k; written = e.written })
+-- what is left of the files
+module _ (o : Outside) (P : Outcome → Type 0) (after : Files) (result : Status) where
+  left_by : (r : Report) → Comes o P after r → (result ≡ r.status) ⊎ (result ≡ ends.WriteFault) → IsLeft o (OrMemory P) result after
+  left_by r e k = inl (record { outcome = outcome_of r e.page; reached = inl e.reached; ended = k; written = e.written })
 
   pub run_leaves : (r : Result Report Stop) → Ends o P after r → (result ≡ status_of r) ⊎ (result ≡ ends.WriteFault) → IsLeft o (OrMemory P) result after
-  run_leaves (Ok r) e k = left_by r.status r.text.items e k
-  run_leaves (Err (stop.Report r)) e k = left_by r.status r.text.items e k
+  run_leaves (Ok r) e k = left_by r e k
+  run_leaves (Err (stop.Report r)) e k = left_by r e k
   run_leaves (Err stop.Memory) e k = inl (record { outcome = told ends.Memory memory_line; reached = inr refl; ended = k; written = e })
   run_leaves (Err stop.Unwritten) e k = inr (elim k [ inl x ↦ x | inr x ↦ x ], record { outcome = e.outcome; reached = inl e.reached; page = e.page; has = e.has; blamed = e.blamed; cut = e.cut; others = e.others })
 
 -- what is put of an end that needs no file
-module _ (P : Outcome → Type 0) (memory : P (told ends.Memory memory_line)) (old new : List ℕ) (before faults : ℕ) (result : Status) where
-  pub plain_put : (r : Result Report Stop) → IsPlainEnd P r → Finishes r old new before faults result → IsPut P old new before faults result
-  plain_put (Ok r) p f = record { outcome = told r.status r.text.items; reached = p; put = f }
-  plain_put (Err (stop.Report r)) p f = record { outcome = told r.status r.text.items; reached = p; put = f }
+module _ (P : Outcome → Type 0) (memory : P (told ends.Memory memory_line)) (old new : List ℕ) (before faults : ℕ) (result : Status) (kept : Kept) where
+  pub plain_put : (r : Result Report Stop) → IsPlainEnd P r → Finishes r old new before faults result kept → IsPut P old new before faults result kept
+  plain_put (Ok r) p f = record { outcome = outcome_of r None; reached = p; put = f }
+  plain_put (Err (stop.Report r)) p f = record { outcome = outcome_of r None; reached = p; put = f }
   plain_put (Err stop.Memory) p f = record { outcome = told ends.Memory memory_line; reached = memory; put = f }
   plain_put (Err stop.Unwritten) p f = absurd p
 
@@ -95,7 +92,3 @@ unwritten_or (Ok r) = inr (λ e. cc)
 unwritten_or (Err (stop.Report r)) = inr (λ e. cc)
 unwritten_or (Err stop.Memory) = inr (λ e. cc)
 unwritten_or (Err stop.Unwritten) = inl refl
-
--- an outcome of this status and text
-pub told_as : (s t : Status) (x y : List ℕ) → s ≡ t → x ≡ y → told s x ≡ told t y
-told_as s t x y e f = ap (λ a. told a x) e ∙ ap (told t) f

@@ -1,27 +1,24 @@
 -- What of the jobs isn't built yet.
-use Rattle.std.specs.Prelude.{◌≡◌, ◌⊎◌, ℕ, List, ◌++◌, Option, Some, None, codes}
+use Rattle.std.specs.Prelude.{◌≡◌, ◌⊎◌, ℕ, cond, nat_eq, List, ◌++◌, Option, Some, None, codes}
 use Rattle.line_words.specs.Words.{Text}
 use Rattle.line_words.specs.Jobs.{IsJob, IsFault}
 use Rattle.line_words.specs.Texts.{usage_text}
 use Rattle.line_words.specs.declared.fault.UsageKind.{UsageKind}
 use Rattle.line_words.specs.declared.job.Job.{Job}
 use Rattle.line_words.specs.declared.job.Job.TheVariants.{Help, Version, Balance, Solve, Cycle, Check, Convert, Combine, Utility, Timeline, Try}
-use Rattle.line_words.specs.declared.job.LineWord.{LineWord}
-use Rattle.line_words.specs.declared.job.LineWord.TheVariants.{Straight, U}
 use Rattle.command_outcome.specs.Outcome.{Outcome, told}
 use Rattle.command_outcome.specs.declared.status.Status.TheVariants as ends
 
--- U-lines aren't built
-abbrev pub line_part : LineWord → Option Text
-line_part Straight = None
-line_part U = Some (codes "line")
+-- helpers aren't built
+abbrev pub helpers_part : ℕ → Option Text
+helpers_part helpers = cond (nat_eq helpers 0) None (Some (codes "helpers"))
 
--- the first part of a job that isn't built: its command, or its kind of line
+-- the part of a job that isn't built: its command, or its helpers
 abbrev pub unbuilt : Job → Option Text
 unbuilt Help = None
 unbuilt Version = None
-unbuilt (Balance file cycle line apart) = line_part line
-unbuilt (Solve file cycle line helpers units cert apart) = Some (codes "solve")
+unbuilt (Balance file cycle line apart) = None
+unbuilt (Solve file cycle line helpers units cert apart) = helpers_part helpers
 unbuilt (Cycle file stations line helpers units cert) = Some (codes "cycle")
 unbuilt (Check file cert steps apart) = None
 unbuilt (Convert file out to cycle) = None
@@ -51,7 +48,7 @@ AskNothing words = HasFault words ⊎ IsUnbuilt words
 abbrev pub unbuilt_line : Text → List ℕ
 unbuilt_line part = codes "not built: " ++ part ++ codes "\n"
 
--- the first fault of the words is told, or the first part of their job that isn't built
+-- the first fault of the words is told, or the part of their job that isn't built
 abbrev pub IsUsageOutcome : List Text → Outcome → Type 0
 IsUsageOutcome words out =
     ((fault : HasFault words) × (out ≡ told ends.Usage (usage_text fault.index fault.kind))) ⊎ ((job : IsUnbuilt words) × (out ≡ told ends.Usage (unbuilt_line job.part)))

@@ -1,3 +1,4 @@
 pub mod Built
 pub mod Pages
 pub mod Run
+pub mod Headline

@@ -6,16 +6,19 @@ use Rattle.line_words.specs.Words.{Text}
 use Rattle.line_words.specs.Jobs.{IsJob}
 use Rattle.line_words.specs.declared.job.Job.{Job}
 use Rattle.line_words.specs.declared.job.Job.TheVariants.{Help, Version, Balance, Solve, Cycle, Check, Convert, Combine, Utility, Timeline, Try}
-use Rattle.command_outcome.specs.Outcome.{Files, Outside, Outcome, IsCut, IsWritten, told}
+use Rattle.command_outcome.specs.Outcome.{Files, Outside, Outcome, IsCut, IsWritten, outcome_of, told}
 use Rattle.command_outcome.specs.Output.{Puts, memory_line}
+use Rattle.command_outcome.specs.declared.report.Kept.{Kept}
 use Rattle.command_outcome.specs.declared.report.Report.{Report}
 use Rattle.command_outcome.specs.declared.report.Stop.{Stop}
 use Rattle.command_outcome.specs.declared.report.Stop.TheVariants as stop
 use Rattle.command_outcome.specs.declared.status.Status.{Status}
 use Rattle.command_outcome.specs.declared.status.Status.TheVariants as ends
+use Rattle.input_files.specs.Kind.{kind_of}
 use Rattle.balance_command.specs.Balance.{IsBalanceOutcome}
 use Rattle.check_command.specs.Check.{IsCheckOutcome, IsProvedTrue}
 use Rattle.convert_command.specs.Convert.{IsConvertOutcome}
+use Rattle.solve_command.specs.Solution.{IsSolveOutcome}
 use Rattle.line_program.specs.Built.{IsUsageOutcome, unbuilt}
 use Rattle.line_program.specs.Pages.{help_text, version_text}
 
@@ -23,8 +26,8 @@ use Rattle.line_program.specs.Pages.{help_text, version_text}
 abbrev pub IsJobOutcome : Outside → Job → Outcome → Type 0
 IsJobOutcome o Help out = out ≡ told ends.Done help_text
 IsJobOutcome o Version out = out ≡ told ends.Done version_text
-IsJobOutcome o (Balance file cycle line apart) out = IsBalanceOutcome o file apart cycle out
-IsJobOutcome o (Solve file cycle line helpers units cert apart) out = ⊥
+IsJobOutcome o (Balance file cycle line apart) out = IsBalanceOutcome o file apart cycle (kind_of line) out
+IsJobOutcome o (Solve file cycle line helpers units cert apart) out = IsSolveOutcome o file apart cycle (kind_of line) units cert out
 IsJobOutcome o (Cycle file stations line helpers units cert) out = ⊥
 IsJobOutcome o (Check file cert steps apart) out = IsCheckOutcome o file cert apart steps out
 IsJobOutcome o (Convert file name to cycle) out = IsConvertOutcome o file name to cycle out
@@ -93,11 +96,12 @@ pub record AsksPage (words : List Text) (out : Outcome) : Type 0 where
 abbrev pub IsPlainOutcome : List Text → Outcome → Type 0
 IsPlainOutcome words out = IsUsageOutcome words out ⊎ AsksPage words out ⊎ (out ≡ told ends.Memory memory_line)
 
--- an outcome that P is true of is put: whole with its status, or a prefix of it where the output failed
-pub record IsPut (P : Outcome → Type 0) (old new : List ℕ) (before after : ℕ) (status : Status) : Type 0 where
+-- an outcome that P is true of is put: whole with its status and what it keeps, or a prefix where the output failed
+pub record IsPut (P : Outcome → Type 0) (old new : List ℕ) (before after : ℕ) (status : Status) (kept : Kept)
+    : Type 0 where
   pub outcome : Outcome
   pub reached : P outcome
-  pub put : Puts outcome.status outcome.text old new before after status
+  pub put : Puts outcome.status outcome.text outcome.kept old new before after status kept
 
 -- the file that a job writes
 abbrev pub out_of : Job → Option Text
@@ -153,8 +157,8 @@ pub record IsTrueRun (words : List Text) (files : Files) : Type 0 where
 
 -- what a job that reads no file ended with: a page, or out of memory
 abbrev pub IsPlainEnd : (Outcome → Type 0) → Result Report Stop → Type 0
-IsPlainEnd P (Ok r) = P (told r.status r.text.items)
-IsPlainEnd P (Err (stop.Report r)) = P (told r.status r.text.items)
+IsPlainEnd P (Ok r) = P (outcome_of r None)
+IsPlainEnd P (Err (stop.Report r)) = P (outcome_of r None)
 IsPlainEnd P (Err stop.Memory) = Unit {0}
 IsPlainEnd P (Err stop.Unwritten) = ⊥
 

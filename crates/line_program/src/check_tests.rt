@@ -1,8 +1,9 @@
 //! Runs of `check`, and of `convert` to a certificate, over files in memory: the worked rows.
 use crate::program::run;
-use command_outcome::Status;
+use command_outcome::{Kept, Status};
 use line_io::{MemShelf, MemSink, Shelf};
 use std::alloc::{AllocError, Global};
+use std::sync::Wait;
 use std::test::Fail;
 use std::thread::Threads;
 
@@ -81,7 +82,7 @@ const FROM_THE_BACK: &[u8] =
     b"line balance certificate 2\nline straight\ntasks 5\ncycle 7\nlower 3\nupper 3\nbalance 3\n1\n2\n1\n2\n3\nentries 1\nbranch b 7 f8 2 -\ntrail 0\nend\n";
 
 /// What a run with these words puts over an instance, a certificate and a file of pairs.
-fn run_over<R: Threads + Sync>(
+fn run_over<R: Threads + Wait + Sync>(
     rt: &R,
     alloc: Global,
     words: &[&str],
@@ -97,7 +98,7 @@ fn run_over<R: Threads + Sync>(
 }
 
 /// How a run with these words ends over the files of a shelf, and what it puts.
-fn ended<R: Threads + Sync, S: Shelf>(
+fn ended<R: Threads + Wait + Sync, S: Shelf>(
     rt: &R,
     alloc: Global,
     words: &[&str],
@@ -108,7 +109,8 @@ fn ended<R: Threads + Sync, S: Shelf>(
     for word in words {
         list.push(String::from_str(alloc, word)?)?;
     }
-    let status = run(rt, alloc, &list, shelf, &mut out);
+    let mut kept = Kept::Nothing;
+    let status = run(rt, alloc, &list, shelf, &mut out, &mut kept);
     let mut shown = String::new(alloc);
     for byte in out.bytes() {
         shown.push(char::from(*byte))?;
@@ -323,7 +325,7 @@ fn faults_of_fetches(rt: HostRuntime) -> Result<(), Fail> {
 }
 
 /// What a run that converts a certificate leaves of the file that it writes, and what it puts.
-fn converted<R: Threads + Sync>(
+fn converted<R: Threads + Wait + Sync>(
     rt: &R,
     alloc: Global,
     proof: &[u8],

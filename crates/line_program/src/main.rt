@@ -10,10 +10,12 @@ mod check_tests;
 mod pages;
 mod program;
 #[cfg(test)]
+mod solve_tests;
+#[cfg(test)]
 mod tests;
 mod usage;
 
-use command_outcome::{Stop, finish};
+use command_outcome::{Kept, Stop, finish};
 use line_io::{DiskShelf, OutSink};
 use program::run;
 use std::io::ErrorKind;
@@ -28,16 +30,17 @@ fn words_of(rt: &HostRuntime) -> io::Result<Vec<String>> {
 
 fn main(rt: HostRuntime) -> ExitCode {
     let mut out = OutSink::new(&rt);
+    let mut kept = Kept::Nothing;
     // Words that aren't text are taken for no words.
     let words = match words_of(&rt) {
         Ok(words) => words,
         Err(error) if error.kind() == ErrorKind::InvalidData => Vec::new(rt.alloc()),
         Err(_) => {
-            let status = finish(&mut out, Err(Stop::Memory));
+            let status = finish(&mut out, Err(Stop::Memory), &mut kept);
             return ExitCode::from(status.code());
         }
     };
     let mut shelf = DiskShelf::new(&rt);
-    let status = run(&rt, rt.alloc(), &words, &mut shelf, &mut out);
+    let status = run(&rt, rt.alloc(), &words, &mut shelf, &mut out, &mut kept);
     ExitCode::from(status.code())
 }

@@ -43,7 +43,8 @@ station and then -1,-1. Times are whole numbers of one time unit.
 ";
 
 /// What isn't there yet.
-const UNBUILT: &str = "Not built yet: solve, cycle, combine, utility, timeline, try, and line=u.
+const UNBUILT: &str = "Not built yet: cycle, combine, utility, timeline, try; and helpers of solve,
+so give it helpers=0.
 ";
 
 /// The page with every command, its names, keys, defaults and an example.

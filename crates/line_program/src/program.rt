@@ -8,22 +8,28 @@ ghost use Rattle.line_io.specs.Outside.{Rises};
 ghost use Rattle.line_words.specs.Words.{texts};
 ghost use Rattle.line_words.specs.Ranges.{IsInRange};
 ghost use Rattle.command_outcome.specs.Outcome.{Ends, outside, told};
-ghost use Rattle.command_outcome.specs.Output.{IsOnePut, status_of};
+ghost use Rattle.command_outcome.specs.Output.{IsOnePut, kept_of, status_of};
 ghost use Rattle.command_outcome.specs.Ending.{IsEnding};
+ghost use Rattle.command_outcome.specs.declared.report.Kept.TheVariants.{Nothing};
 ghost use Rattle.command_outcome.specs.declared.report.Stop.TheVariants.{Unwritten};
 ghost use Rattle.command_outcome.specs.declared.status.Status.TheVariants as ends;
 ghost use Rattle.line_program.specs.Built.{AskNothing, unbuilt};
+ghost use Rattle.line_program.specs.Headline.{IsAnswered, AsksPromise, HasPromise, IsHeadline};
 ghost use Rattle.line_program.specs.Run.{IsJobOutcome, IsAnswer, IsOutcome, IsPlainEnd, IsJobPlain, AsksFiles, IsPlainOutcome, IsPut, IsWriting, IsLeft, IsJobTrue, IsTrueRun, WritesFile};
 
 use crate::pages::{help_page, version_page};
 use crate::usage::{unbuilt, unbuilt_report, usage_report};
 use balance_command::balance_report;
 use check_command::check_report;
-use command_outcome::{Report, Status, Stop, finish};
+use command_outcome::{Kept, Report, Status, Stop, finish};
 use convert_command::convert_report;
+use input_files::kind_of;
 use line_io::{Shelf, Sink};
 use line_words::{Job, JobRead, Name, job_of};
+use round_run::{AlwaysOpen, Gate, Plan};
+use solve_command::solve_report;
 use std::alloc::Global;
+use std::sync::Wait;
 use std::thread::Threads;
 
 /// The name of an optional file.
@@ -36,22 +42,13 @@ fn name_of(name: &Option<Name>) -> Option<&str>
     }
 }
 
-/// The report of a page.
-fn page(text: Vec<u8>) -> Report
-    ensures { result ≡ record { status = ends.Done; text = text } }
-{
-    Report {
-        status: Status::Done,
-        text,
-    }
-}
-
 /// Does a job, all of which is built.
-fn do_job<R: Threads + Sync, S: Shelf>(
+fn do_job<R: Threads + Wait + Sync, S: Shelf, G: Gate>(
     rt: &R,
     alloc: Global,
     job: &Job,
     shelf: &mut S,
+    gate: &G,
 ) -> Result<Report, Stop>
     requires built { unbuilt job.now ≡ None }
     requires range { IsInRange job.now }
@@ -61,17 +58,49 @@ fn do_job<R: Threads + Sync, S: Shelf>(
     ensures read { status_of result ≡ ends.ReadFault → Rises (S.faults shelf.old) (S.faults shelf.new) }
     ensures write { status_of result ≡ ends.WriteFault → result ≡ Err Unwritten }
     ensures unwritten { result ≡ Err Unwritten → WritesFile job.now × Rises (S.faults shelf.old) (S.faults shelf.new) }
+    ensures kept { status_of result ≢ ends.Done → status_of result ≢ ends.Stopped → kept_of result ≡ Nothing }
     ensures true_bounds { S.tells → status_of result ≡ ends.Done → IsJobTrue (S.file shelf.old) job.now }
+    ensures promise { S.tells → IsAnswered (status_of result) → HasPromise (S.file shelf.old) (S.file shelf.new) job.now result }
 {
     match job {
-        Job::Help => Ok(page(help_page(alloc)?)),
-        Job::Version => Ok(page(version_page(alloc)?)),
+        Job::Help => Ok(Report::told(Status::Done, help_page(alloc)?)),
+        Job::Version => Ok(Report::told(Status::Done, version_page(alloc)?)),
         Job::Balance {
             file,
             cycle,
+            line,
             apart,
-            ..
-        } => balance_report(alloc, file.text(), name_of(apart), *cycle, shelf),
+        } => {
+            let kind = kind_of(*line);
+            balance_report(alloc, file.text(), name_of(apart), *cycle, kind, shelf)
+        }
+        Job::Solve {
+            file,
+            cycle,
+            line,
+            helpers,
+            units,
+            cert,
+            apart,
+        } => {
+            let kind = kind_of(*line);
+            let plan = Plan {
+                helpers: *helpers,
+                units: *units,
+            };
+            solve_report(
+                rt,
+                alloc,
+                file.text(),
+                name_of(apart),
+                *cycle,
+                kind,
+                &plan,
+                name_of(cert),
+                shelf,
+                gate,
+            )
+        }
         Job::Check {
             file,
             cert,
@@ -97,11 +126,12 @@ fn do_job<R: Threads + Sync, S: Shelf>(
 }
 
 /// Does what the words ask for.
-fn do_words<R: Threads + Sync, S: Shelf>(
+fn do_words<R: Threads + Wait + Sync, S: Shelf, G: Gate>(
     rt: &R,
     alloc: Global,
     words: &[String],
     shelf: &mut S,
+    gate: &G,
 ) -> Result<Report, Stop>
     ensures ends { S.tells → Ends (outside (S.file shelf.old) (S.blames shelf.new)) (IsAnswer (texts words.now) (outside (S.file shelf.old) (S.blames shelf.new))) (S.file shelf.new) result }
     ensures plain { AsksFiles (texts words.now) ⊎ IsPlainEnd (IsPlainOutcome (texts words.now)) result }
@@ -109,43 +139,77 @@ fn do_words<R: Threads + Sync, S: Shelf>(
     ensures read { status_of result ≡ ends.ReadFault → Rises (S.faults shelf.old) (S.faults shelf.new) }
     ensures write { status_of result ≡ ends.WriteFault → result ≡ Err Unwritten }
     ensures unwritten { result ≡ Err Unwritten → IsWriting (texts words.now) × Rises (S.faults shelf.old) (S.faults shelf.new) }
+    ensures kept { status_of result ≢ ends.Done → status_of result ≢ ends.Stopped → kept_of result ≡ Nothing }
     ensures true_bounds { S.tells → status_of result ≡ ends.Done → IsTrueRun (texts words.now) (S.file shelf.old) }
+    ensures promise { S.tells → IsAnswered (status_of result) → AsksPromise (texts words.now) (S.file shelf.old) (S.file shelf.new) result }
 {
     match job_of(alloc, words) {
         JobRead::Good(job) => {
             if let Some(part) = unbuilt(&job) {
                 return Ok(unbuilt_report(alloc, part)?);
             }
-            do_job(rt, alloc, &job, shelf)
+            do_job(rt, alloc, &job, shelf, gate)
         }
         JobRead::Usage { index, kind } => Ok(usage_report(alloc, index, kind)?),
         JobRead::NoMemory => Err(Stop::Memory),
     }
 }
 
-/// Runs the program: reads the words, fetches the files that they name, writes the one that the job writes, and puts one report.
+/// Runs the program: reads the words, fetches the files that they name, writes the one that the job writes, and puts one report. Helpers meet
+/// the gate before each publish; it has no effect on any answer.
 ///
-/// `--help` puts the page with all commands. `balance` puts the ranked balance of an instance at a cycle time, with the bound by total time
-/// and the idle time, or the least task that is longer than the cycle. `check` puts what the check of a certificate finds: what it accepts is
-/// true of the line. `convert` writes the canonical text of an instance in the other form, or of a certificate. A fault of the words is
-/// answered by the line `usage`, with the number of the word and what is wrong, and a job that isn't built by the line `not built`. Each
-/// refusal is one line, and nothing is put with it. All files stay but the one that a job writes.
-pub fn run<R: Threads + Sync, S: Shelf, K: Sink>(
+/// `--help` puts the page with all commands. `balance` puts the ranked balance of an instance, as a straight line or a
+/// U-line, at a cycle time, with the bound by total time and the idle time, or the least task that is longer than the
+/// cycle. `solve` puts a balance of the fewest stations, or bounds and the best balance where its units ended, and writes
+/// the certificate where the words name a file. `check` puts what the check of a certificate finds: what it accepts is true
+/// of the line. `convert` writes the canonical text of an instance in the other form, or of a certificate. A fault of the
+/// words is answered by the line `usage`, with the number of the word and what is wrong, and a job that isn't built by the
+/// line `not built`. Each refusal is one line, and nothing is put with it. All files stay but the one that a job writes.
+/// `kept` then holds the certificate that the run made, where its answer was put, and else nothing; what it held before is
+/// dropped.
+pub fn run_gated<R: Threads + Wait + Sync, S: Shelf, K: Sink, G: Gate>(
     rt: &R,
     alloc: Global,
     words: &[String],
     shelf: &mut S,
     out: &mut K,
+    gate: &G,
+    kept: &mut Kept,
 ) -> Status
-    ensures ends { S.tells → K.tells → (let o = outside (S.file shelf.old) (S.blames shelf.new) in IsEnding o (IsOutcome (texts words.now) o) (record { status = result; files = S.file shelf.new; shown_before = K.shown out.old; shown = K.shown out.new; faults_before = K.faults out.old; faults = K.faults out.new })) }
-    ensures plain { K.tells → AsksFiles (texts words.now) ⊎ IsPut (IsPlainOutcome (texts words.now)) (K.shown out.old) (K.shown out.new) (K.faults out.old) (K.faults out.new) result }
+    ensures headline { S.tells → K.tells → IsAnswered result → IsHeadline (texts words.now) (S.file shelf.old) (S.file shelf.new) (K.shown out.old) (K.shown out.new) result kept.new }
+    ensures ends { S.tells → K.tells → (let o = outside (S.file shelf.old) (S.blames shelf.new) in IsEnding o (IsOutcome (texts words.now) o) (record { status = result; files = S.file shelf.new; kept = kept.new; shown_before = K.shown out.old; shown = K.shown out.new; faults_before = K.faults out.old; faults = K.faults out.new })) }
+    ensures plain { K.tells → AsksFiles (texts words.now) ⊎ IsPut (IsPlainOutcome (texts words.now)) (K.shown out.old) (K.shown out.new) (K.faults out.old) (K.faults out.new) result kept.new }
     ensures one_put { IsOnePut (K.puts out.old) (K.puts out.new) }
     ensures usage { result ≡ ends.Usage → AskNothing (texts words.now) }
     ensures read { result ≡ ends.ReadFault → Rises (S.faults shelf.old) (S.faults shelf.new) }
     ensures write { result ≡ ends.WriteFault → Rises (K.faults out.old) (K.faults out.new) ⊎ (IsWriting (texts words.now) × Rises (S.faults shelf.old) (S.faults shelf.new)) }
     ensures files { S.tells → (let o = outside (S.file shelf.old) (S.blames shelf.new) in IsLeft o (IsOutcome (texts words.now) o) result (S.file shelf.new)) }
+    ensures kept { result ≢ ends.Done → result ≢ ends.Stopped → kept.new ≡ Nothing }
     ensures true_bounds { S.tells → result ≡ ends.Done → IsTrueRun (texts words.now) (S.file shelf.old) }
 {
-    let ended = do_words(rt, alloc, words, shelf);
-    finish(out, ended)
+    let ended = do_words(rt, alloc, words, shelf, gate);
+    finish(out, ended, kept)
+}
+
+/// The same with a gate that holds nobody.
+pub fn run<R: Threads + Wait + Sync, S: Shelf, K: Sink>(
+    rt: &R,
+    alloc: Global,
+    words: &[String],
+    shelf: &mut S,
+    out: &mut K,
+    kept: &mut Kept,
+) -> Status
+    ensures headline { S.tells → K.tells → IsAnswered result → IsHeadline (texts words.now) (S.file shelf.old) (S.file shelf.new) (K.shown out.old) (K.shown out.new) result kept.new }
+    ensures ends { S.tells → K.tells → (let o = outside (S.file shelf.old) (S.blames shelf.new) in IsEnding o (IsOutcome (texts words.now) o) (record { status = result; files = S.file shelf.new; kept = kept.new; shown_before = K.shown out.old; shown = K.shown out.new; faults_before = K.faults out.old; faults = K.faults out.new })) }
+    ensures plain { K.tells → AsksFiles (texts words.now) ⊎ IsPut (IsPlainOutcome (texts words.now)) (K.shown out.old) (K.shown out.new) (K.faults out.old) (K.faults out.new) result kept.new }
+    ensures one_put { IsOnePut (K.puts out.old) (K.puts out.new) }
+    ensures usage { result ≡ ends.Usage → AskNothing (texts words.now) }
+    ensures read { result ≡ ends.ReadFault → Rises (S.faults shelf.old) (S.faults shelf.new) }
+    ensures write { result ≡ ends.WriteFault → Rises (K.faults out.old) (K.faults out.new) ⊎ (IsWriting (texts words.now) × Rises (S.faults shelf.old) (S.faults shelf.new)) }
+    ensures files { S.tells → (let o = outside (S.file shelf.old) (S.blames shelf.new) in IsLeft o (IsOutcome (texts words.now) o) result (S.file shelf.new)) }
+    ensures kept { result ≢ ends.Done → result ≢ ends.Stopped → kept.new ≡ Nothing }
+    ensures true_bounds { S.tells → result ≡ ends.Done → IsTrueRun (texts words.now) (S.file shelf.old) }
+{
+    run_gated(rt, alloc, words, shelf, out, &AlwaysOpen, kept)
 }

@@ -1,8 +1,9 @@
 //! Runs over files in memory: the worked rows of `balance` and of IN2 files.
 use crate::program::run;
-use command_outcome::Status;
+use command_outcome::{Kept, Status};
 use line_io::{MemShelf, MemSink};
 use std::alloc::{AllocError, Global};
+use std::sync::Wait;
 use std::test::Fail;
 use std::thread::Threads;
 
@@ -12,7 +13,7 @@ const JACKSON: &[u8] =
     b"11\n6\n2\n5\n7\n1\n2\n3\n6\n5\n5\n4\n1,2\n1,3\n1,4\n1,5\n2,6\n3,7\n4,7\n5,7\n6,8\n7,9\n8,10\n9,11\n10,11\n-1,-1\n";
 
 /// How a run with these words ends over one file, and what it puts. The calls of these numbers fail.
-fn run_over<R: Threads + Sync>(
+fn run_over<R: Threads + Wait + Sync>(
     rt: &R,
     alloc: Global,
     words: &[&str],
@@ -29,7 +30,8 @@ fn run_over<R: Threads + Sync>(
     for word in words {
         list.push(String::from_str(alloc, word)?)?;
     }
-    let status = run(rt, alloc, &list, &mut shelf, &mut out);
+    let mut kept = Kept::Nothing;
+    let status = run(rt, alloc, &list, &mut shelf, &mut out, &mut kept);
     let mut shown = String::new(alloc);
     for byte in out.bytes() {
         shown.push(char::from(*byte))?;
@@ -38,7 +40,7 @@ fn run_over<R: Threads + Sync>(
 }
 
 /// The same with no failing calls, of `balance t.in2` and the cycle.
-fn balance<R: Threads + Sync>(
+fn balance<R: Threads + Wait + Sync>(
     rt: &R,
     alloc: Global,
     text: &[u8],
@@ -180,9 +182,9 @@ fn faults_of_the_words(rt: HostRuntime) -> Result<(), Fail> {
 #[test]
 fn jobs_that_are_not_built(rt: HostRuntime) -> Result<(), Fail> {
     let rows: [(&[&str], &str); 5] = [
-        (&["solve", "none.in2"], "not built: solve\n"),
+        (&["solve", "none.in2"], "not built: helpers\n"),
         (&["cycle", "none.in2", "stations=2"], "not built: cycle\n"),
-        (&["balance", "none.in2", "line=u"], "not built: line\n"),
+        (&["solve", "none.in2", "line=u"], "not built: helpers\n"),
         (&["try", "seed=1", "tasks=2", "line=u"], "not built: try\n"),
         (&["combine", "a.csv", "b.in2"], "not built: combine\n"),
     ];
@@ -219,6 +221,22 @@ fn no_cycle_time(rt: HostRuntime) -> Result<(), Fail> {
     let (status, text) = run_over(&rt, rt.alloc(), &words, P5, &[], &[])?;
     assert_eq!(rt; status, Status::Input);
     assert_eq!(rt; text.as_str(), "input: t.in2 no cycle time\n");
+    Ok(())
+}
+
+#[test]
+fn balance_of_a_u_line(rt: HostRuntime) -> Result<(), Fail> {
+    let words = ["balance", "t.in2", "cycle=2", "line=u"];
+    let (status, text) = run_over(&rt, rt.alloc(), &words, CHAIN, &[], &[])?;
+    assert_eq!(rt; status, Status::Done);
+    assert_eq!(rt;
+        text.as_str(),
+        "balance 2\ntotal bound 2\nidle 0\nstation 1: 1 back 3\nstation 2: 2\n"
+    );
+    let words = ["balance", "none.in2", "line=u"];
+    let (status, text) = run_over(&rt, rt.alloc(), &words, CHAIN, &[], &[])?;
+    assert_eq!(rt; status, Status::ReadFault);
+    assert_eq!(rt; text.as_str(), "read fault: none.in2\n");
     Ok(())
 }
 
@@ -409,7 +427,7 @@ const CHAIN_ALB: &[u8] =
     b"<number of tasks>\n3\n\n<task times>\n1 1\n2 2\n3 1\n\n<precedence relations>\n1,2\n2,3\n\n<end>\n";
 
 /// How a conversion ends over one file, what it puts, and the file that it writes. The calls of these numbers fail.
-fn convert<R: Threads + Sync>(
+fn convert<R: Threads + Wait + Sync>(
     rt: &R,
     alloc: Global,
     setting: &str,
@@ -423,7 +441,8 @@ fn convert<R: Threads + Sync>(
     for word in ["convert", "a", "b", setting] {
         list.push(String::from_str(alloc, word)?)?;
     }
-    let status = run(rt, alloc, &list, &mut shelf, &mut out);
+    let mut kept = Kept::Nothing;
+    let status = run(rt, alloc, &list, &mut shelf, &mut out, &mut kept);
     let shown = Vec::from_slice(alloc, out.bytes())?;
     let written = match shelf.file("b") {
         Some(bytes) => Some(Vec::from_slice(alloc, bytes)?),

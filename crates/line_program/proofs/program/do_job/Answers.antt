@@ -1,9 +1,12 @@
-use Rattle.std.proofs.Common.{◌≡◌, sym, subst, List, ℕ, Option, option_map}
+use Rattle.std.proofs.Common.{sym, subst, List, ℕ, Option, option_map}
 use Rattle.line_words.specs.declared.job.Job.{Job}
+use Rattle.line_rules.specs.declared.types.LineKind.{LineKind}
 use Rattle.command_outcome.specs.Outcome.{Files, Outside, Ends, outside}
+use Rattle.input_files.specs.Kind.{kind_of}
 use Rattle.balance_command.specs.Balance.{IsBalanceOutcome}
 use Rattle.check_command.specs.Check.{IsCheckOutcome}
 use Rattle.convert_command.specs.Convert.{IsConvertOutcome}
+use Rattle.solve_command.specs.Solution.{IsSolveOutcome}
 use Rattle.line_program.specs.Run.{IsJobOutcome}
 use Rattle.line_program.proofs.program.do_job.Goals as goal
 
@@ -12,9 +15,10 @@ returns-in-Balance-clause-ends g c = λ t.
     let o : Outside = outside (g.S.Shelf.file c.args.shelf.now) (g.S.Shelf.blames c.balance_report.new.shelf) in
     let after : Files = g.S.Shelf.file c.balance_report.new.shelf in
     let J : Job → Type 0 = λ j. Ends o (IsJobOutcome o j) after c.balance_report.result in
-    let F : List ℕ → Type 0 = λ f. Ends o (IsBalanceOutcome o f (option_map (λ a. a.now) c.name_of.result) c.in-Balance.cycle) after c.balance_report.result in
-    let A : Option (List ℕ) → Type 0 = λ a. Ends o (IsBalanceOutcome o c.in-Balance.file a c.in-Balance.cycle) after c.balance_report.result in
-    subst J (sym c.in-Balance.is) (subst A c.name_of.ensures (subst F c.text.ensures (c.balance_report.ensures.ends t)))
+    let K : LineKind → Type 0 = λ k. Ends o (IsBalanceOutcome o c.text.result.now (option_map (λ a. a.now) c.name_of.result) c.in-Balance.cycle k) after c.balance_report.result in
+    let F : List ℕ → Type 0 = λ f. Ends o (IsBalanceOutcome o f (option_map (λ a. a.now) c.name_of.result) c.in-Balance.cycle (kind_of c.in-Balance.line)) after c.balance_report.result in
+    let A : Option (List ℕ) → Type 0 = λ a. Ends o (IsBalanceOutcome o c.in-Balance.file a c.in-Balance.cycle (kind_of c.in-Balance.line)) after c.balance_report.result in
+    subst J (sym c.in-Balance.is) (subst A c.name_of.ensures (subst F c.text.ensures (subst K c.kind_of-kind.ensures (c.balance_report.ensures.ends t))))
 
 pub returns-in-Check-clause-ends : goal.returns-in-Check-clause-ends
 returns-in-Check-clause-ends g c = λ t.
@@ -35,3 +39,18 @@ returns-in-Convert-clause-ends g c = λ t.
     let F : List ℕ → Type 0 = λ f. Ends o (IsConvertOutcome o f c.text-in-Convert-2.result.now c.in-Convert.to c.in-Convert.cycle) after c.convert_report.result in
     let N : List ℕ → Type 0 = λ n. Ends o (IsConvertOutcome o c.in-Convert.file n c.in-Convert.to c.in-Convert.cycle) after c.convert_report.result in
     subst J (sym c.in-Convert.is) (subst N c.text-in-Convert-2.ensures (subst F c.text-in-Convert.ensures (c.convert_report.ensures.ends t)))
+
+pub returns-in-Solve-clause-ends : goal.returns-in-Solve-clause-ends
+returns-in-Solve-clause-ends g c = λ t.
+    let o : Outside = outside (g.S.Shelf.file c.args.shelf.now) (g.S.Shelf.blames c.solve_report.new.shelf) in
+    let after : Files = g.S.Shelf.file c.solve_report.new.shelf in
+    let E : List ℕ → Option (List ℕ) → LineKind → Option (List ℕ) → Type 0 = λ f a k n. Ends o (IsSolveOutcome o f a c.in-Solve.cycle k c.in-Solve.units n) after c.solve_report.result in
+    let file : List ℕ = c.text-in-Solve.result.now in
+    let apart : Option (List ℕ) = option_map (λ a. a.now) c.name_of-in-Solve.result in
+    let name : Option (List ℕ) = option_map (λ a. a.now) c.name_of-in-Solve-2.result in
+    let J : Job → Type 0 = λ j. Ends o (IsJobOutcome o j) after c.solve_report.result in
+    let K : LineKind → Type 0 = λ k. E file apart k name in
+    let F : List ℕ → Type 0 = λ f. E f apart (kind_of c.in-Solve.line) name in
+    let A : Option (List ℕ) → Type 0 = λ a. E c.in-Solve.file a (kind_of c.in-Solve.line) name in
+    let N : Option (List ℕ) → Type 0 = λ n. E c.in-Solve.file c.in-Solve.apart (kind_of c.in-Solve.line) n in
+    subst J (sym c.in-Solve.is) (subst N c.name_of-in-Solve-2.ensures (subst A c.name_of-in-Solve.ensures (subst F c.text-in-Solve.ensures (subst K c.kind_of-kind-in-Solve.ensures (c.solve_report.ensures.ends t)))))

@@ -4,7 +4,9 @@ use Rattle.command_outcome.specs.Outcome.{Outside, Outcome, outside}
 use Rattle.command_outcome.specs.declared.status.Status.TheVariants as ends
 use Rattle.line_program.specs.Built.{unbuilt_line}
 use Rattle.line_program.specs.Run.{IsJobOutcome, IsAnswer, IsPage, IsPlainOutcome}
-use Rattle.line_program.proofs.RunFacts.{ends_as, plain_as, told_as}
+use Rattle.command_outcome.proofs.OutcomeFacts.{told_as}
+use Rattle.command_outcome.proofs.OutcomeFacts.{ends_as}
+use Rattle.line_program.proofs.RunFacts.{plain_as}
 use Rattle.line_program.proofs.program.do_words.Goals as goal
 
 pub returns-in-Some-clause-ends : goal.returns-in-Some-clause-ends
@@ -12,7 +14,7 @@ returns-in-Some-clause-ends g c = λ t. record {
   page = None;
   reached = inl (inr (
     record { job = c.in-Good.job; asked = c.in-Good.ensures.read; part = c.in-Some.part.now; unbuilt = sym c.in-Some.ensures },
-    told_as _ ends.Usage _ (unbuilt_line c.in-Some.part.now) c.in_ok-unbuilt_report-in-Good.ensures.status c.in_ok-unbuilt_report-in-Good.ensures.text,
+    told_as c.in_ok-unbuilt_report-in-Good.field-0 ends.Usage (unbuilt_line c.in-Some.part.now) c.in_ok-unbuilt_report-in-Good.ensures.status c.in_ok-unbuilt_report-in-Good.ensures.text c.in_ok-unbuilt_report-in-Good.ensures.kept,
   ));
   written = λ q. refl;
 }
@@ -20,7 +22,7 @@ returns-in-Some-clause-ends g c = λ t. record {
 pub returns-in-Some-clause-plain : goal.returns-in-Some-clause-plain
 returns-in-Some-clause-plain g c = inr (inl (inr (
   record { job = c.in-Good.job; asked = c.in-Good.ensures.read; part = c.in-Some.part.now; unbuilt = sym c.in-Some.ensures },
-  told_as _ ends.Usage _ (unbuilt_line c.in-Some.part.now) c.in_ok-unbuilt_report-in-Good.ensures.status c.in_ok-unbuilt_report-in-Good.ensures.text,
+  told_as c.in_ok-unbuilt_report-in-Good.field-0 ends.Usage (unbuilt_line c.in-Some.part.now) c.in_ok-unbuilt_report-in-Good.ensures.status c.in_ok-unbuilt_report-in-Good.ensures.text c.in_ok-unbuilt_report-in-Good.ensures.kept,
 )))
 
 pub returns-in_default-clause-ends : goal.returns-in_default-clause-ends
@@ -41,7 +43,7 @@ returns-in_ok-usage_report-in-Usage-clause-ends g c = λ t. record {
   page = None;
   reached = inl (inl (
     record { index = c.in-Usage.index; kind = c.in-Usage.kind; fault = c.in-Usage.ensures.read },
-    told_as _ ends.Usage _ (usage_text c.in-Usage.index c.in-Usage.kind) c.in_ok-usage_report-in-Usage.ensures.status c.in_ok-usage_report-in-Usage.ensures.text,
+    told_as c.in_ok-usage_report-in-Usage.field-0 ends.Usage (usage_text c.in-Usage.index c.in-Usage.kind) c.in_ok-usage_report-in-Usage.ensures.status c.in_ok-usage_report-in-Usage.ensures.text c.in_ok-usage_report-in-Usage.ensures.kept,
   ));
   written = λ q. refl;
 }
@@ -49,5 +51,8 @@ returns-in_ok-usage_report-in-Usage-clause-ends g c = λ t. record {
 pub returns-in_ok-usage_report-in-Usage-clause-plain : goal.returns-in_ok-usage_report-in-Usage-clause-plain
 returns-in_ok-usage_report-in-Usage-clause-plain g c = inr (inl (inl (
   record { index = c.in-Usage.index; kind = c.in-Usage.kind; fault = c.in-Usage.ensures.read },
-  told_as _ ends.Usage _ (usage_text c.in-Usage.index c.in-Usage.kind) c.in_ok-usage_report-in-Usage.ensures.status c.in_ok-usage_report-in-Usage.ensures.text,
+  told_as c.in_ok-usage_report-in-Usage.field-0 ends.Usage (usage_text c.in-Usage.index c.in-Usage.kind) c.in_ok-usage_report-in-Usage.ensures.status c.in_ok-usage_report-in-Usage.ensures.text c.in_ok-usage_report-in-Usage.ensures.kept,
 )))
+
+pub returns-in_default-clause-promise : goal.returns-in_default-clause-promise
+returns-in_default-clause-promise g c = λ t a. record { job = c.in-Good.job; asked = c.in-Good.ensures.read; promise = c.do_job.ensures.promise t a }
