@@ -1,5 +1,6 @@
 //! Runs of `solve` over files in memory: the worked rows.
 use crate::program::run;
+use cert_ranges::is_in_range;
 use cert_text::write_cert;
 use command_outcome::{Kept, Status};
 use line_io::{MemShelf, MemSink};
@@ -8,65 +9,65 @@ use std::sync::Wait;
 use std::test::Fail;
 use std::thread::Threads;
 
-const ZERO: &[u8] = b"1\n0\n-1,-1\n";
+/// The optimum of five tasks: its words, what is printed, and its certificate, one refutation of 15 loads.
+const FIVE: &str = "solve five.in2 cycle=7 helpers=0 cert=t.cert";
 
-const CHAIN: &[u8] = b"3\n1\n2\n1\n1,2\n2,3\n-1,-1\n";
+const FIVE_SHOWN: &str = "optimal 3\nidle 7\nstation 1: 1 3\nstation 2: 2 4\nstation 3: 5\n";
 
-const P5: &[u8] = b"5\n4\n4\n2\n2\n2\n-1,-1\n";
-
-const P6: &[u8] = b"6\n7\n4\n4\n2\n2\n2\n-1,-1\n";
-
-const P7: &[u8] = b"7\n7\n7\n4\n4\n2\n2\n2\n-1,-1\n";
-
-const JACKSON: &[u8] =
-    b"11\n6\n2\n5\n7\n1\n2\n3\n6\n5\n5\n4\n1,2\n1,3\n1,4\n1,5\n2,6\n3,7\n4,7\n5,7\n6,8\n7,9\n8,10\n9,11\n10,11\n-1,-1\n";
-
-const TWO_FREE: &[u8] = b"2\n1\n1\n-1,-1\n";
-
-/// Two tasks that may share no station, and three of five.
-const FIRST_TWO: &[u8] = b"1,2\n-1,-1\n";
-
-const LAST_THREE: &[u8] = b"3,4\n4,5\n3,5\n-1,-1\n";
-
-/// What is printed of five tasks in three stations, behind the first lines.
-const FIVE: &str = "idle 7\nstation 1: 1 3\nstation 2: 2 4\nstation 3: 5\n";
-
-const FIVE_OPTIMAL: &str = "optimal 3\nidle 7\nstation 1: 1 3\nstation 2: 2 4\nstation 3: 5\n";
-
-/// The certificate of that optimum: one refutation of 15 loads.
 const FIVE_PROVED: &str =
     "line balance certificate 2\nline straight\ntasks 5\ncycle 7\nlower 3\nupper 3\nbalance 3\n1\n2\n1\n2\n3\nentries 1\nbranch f 7 f8 2 -\ntrail 0\nend\n";
 
-/// What a run leaves: how it ended, what it put, the file of its certificate, and the text of the certificate that is kept.
-#[derive(Drop)]
-struct Ran {
-    status: Status,
-    shown: String,
-    file: String,
-    kept: String,
-}
+/// The worked rows, a line each: the words of a run, what it prints or begins to print, a part of the certificate that it
+/// keeps, and what `check` prints of the file that it wrote, where it wrote one; `/` stands for the end of a line. Where 16
+/// units are spent on six tasks, the search has just gone down to a second question: its trail has two frames.
+const ROWS: &str = "solve zero.in2 cycle=1 helpers=0|optimal 1/idle 1/station 1: 1/|/entries 0/|
+solve chain.in2 cycle=2 helpers=0|optimal 3/idle 2/station 1: 1/station 2: 2/station 3: 3/|/entries 1/bound 2 e 2/trail 0/|
+solve chain.in2 cycle=2 line=u helpers=0|optimal 2/idle 0/station 1: 1 back 3/station 2: 2/|/entries 1/|
+solve five.in2 cycle=7 helpers=0 units=15 cert=t.cert|optimal 3/idle 7/station 1: 1 3/station 2: 2 4/station 3: 5/|/entries 1/branch f 7 f8 2 -/trail 0/|accepted straight cycle 7 lower 3 upper 3 units 15/
+solve five.in2 cycle=7 helpers=0 units=14 cert=t.cert|stopped by units/bounds 2 3/idle 7/station 1: 1 3/station 2: 2 4/station 3: 5/|/entries 1/bound 7 f8 1/trail 1 at 7/open f f8 2 90 -/end/|accepted straight cycle 7 lower 2 upper 3 units 14/
+solve five.in2 cycle=3 helpers=0 cert=t.cert|infeasible: task 1 time 4/|/cycle 3/infeasible 1/end/|accepted straight cycle 3 infeasible 1/
+solve jackson.in2 cycle=10 helpers=0 units=3000000|optimal 5/idle 4/station 1: 1 2 6/station 2: 5 8/station 3: 3 10/station 4: 4 7/station 5: 9 11/|/entries 1/bound 10 ffe 4/trail 0/|
+solve jackson.in2 cycle=7 helpers=0 units=3000000|optimal 8/idle 10/||
+solve six.in2 cycle=7 helpers=0 cert=t.cert|optimal 4/idle 7/station 1: 1/station 2: 2 4/station 3: 3 5/station 4: 6/|/entries 2/branch f 7 7c 2 -/branch f 7 fc 3 0/trail 0/|accepted straight cycle 7 lower 4 upper 4 units 31/
+solve six.in2 cycle=7 helpers=0 units=16 cert=t.cert|stopped by units/bounds 3 4/|/trail 2 at 7/open f fc 3 80 -/open f 7c 2 - -/end/|accepted straight cycle 7 lower 3 upper 4 units 16/
+solve seven.in2 cycle=7 helpers=0 cert=t.cert|optimal 5/idle 7/station 1: 1/station 2: 2/station 3: 3 5/station 4: 4 6/station 5: 7/|/entries 4/branch f 7 3e 2 -/branch f 7 be 3 0/swap 7 7e 3 1 2 1/branch f 7 fe 4 1,2/trail 0/|accepted straight cycle 7 lower 5 upper 5 units 48/
+solve five.in2 cycle=7 line=u helpers=0 units=54 cert=t.cert|optimal 3/idle 7/station 1: 1 3/station 2: 2 4/station 3: 5/|/entries 1/branch u 7 f8 2 -/trail 0/|accepted u cycle 7 lower 3 upper 3 units 54/
+solve five.in2 cycle=7 line=u helpers=0 units=53 cert=t.cert|stopped by units/bounds 2 3/idle 7/station 1: 1 3/|/trail 1 at 7/|accepted u cycle 7 lower 2 upper 3 units 53/
+solve two.in2 cycle=2 apart=two.apart helpers=0 cert=t.cert|optimal 2/idle 2/station 1: 1/station 2: 2/|/entries 1/branch f 2 c 1 -/trail 0/|refused: entry 0 uncovered c/
+solve five.in2 cycle=7 apart=three.apart helpers=0 units=11|optimal 3/idle 7/station 1: 1 3/station 2: 2 4/station 3: 5/||
+solve alb.in2 helpers=0|optimal 1/idle 0/station 1: 1 2/||
+solve five.in2 helpers=0|input: five.in2 no cycle time/||
+solve five.in2 cycle=7|not built: helpers/||
+solve none.in2 cycle=7 helpers=0|read fault: none.in2/||
+solve five.in2 cycle=7 helpers=0 cert=five.in2|optimal 3/||";
 
-/// Bytes as a text.
-fn text_of(alloc: Global, bytes: &[u8]) -> Result<String, AllocError> {
+/// Bytes as a text, with `/` for the end of a line.
+fn slashed(alloc: Global, bytes: &[u8]) -> Result<String, AllocError> {
     let mut text = String::new(alloc);
     for byte in bytes {
-        text.push(char::from(*byte))?;
+        text.push(if *byte == b'\n' {
+            '/'
+        } else {
+            char::from(*byte)
+        })?;
     }
     Ok(text)
 }
 
 /// The text of a certificate that is kept, and nothing where none is.
-fn kept_text(alloc: Global, kept: &Kept) -> Result<String, AllocError> {
+fn kept_text(alloc: Global, kept: &Kept) -> Result<Vec<u8>, AllocError> {
     match kept {
-        Kept::Nothing => Ok(String::new(alloc)),
-        Kept::Line(certificate) => {
-            if !cert_ranges::is_in_range(certificate) {
-                return Ok(String::new(alloc));
-            }
-            let bytes = write_cert(alloc, certificate)?;
-            text_of(alloc, &bytes)
-        }
+        Kept::Line(certificate) if is_in_range(certificate) => write_cert(alloc, certificate),
+        _ => Ok(Vec::new(alloc)),
     }
+}
+
+/// What a run leaves: how it ended, what it put, and the text of the certificate that it keeps.
+#[derive(Drop)]
+struct Left {
+    status: Status,
+    shown: String,
+    kept: String,
 }
 
 /// A run with these words over a shelf.
@@ -75,329 +76,166 @@ fn run_words<R: Threads + Wait + Sync>(
     alloc: Global,
     words: &str,
     shelf: &mut MemShelf,
-) -> Result<Ran, AllocError> {
-    let mut out = MemSink::new(alloc, Vec::new(alloc));
+    out: &mut MemSink,
+) -> Result<Left, AllocError> {
     let mut list = Vec::new(alloc);
     for word in words.split(' ') {
         list.push(String::from_str(alloc, word)?)?;
     }
     let mut kept = Kept::Nothing;
-    let status = run(rt, alloc, &list, shelf, &mut out, &mut kept);
-    let file = match shelf.file("t.cert") {
-        Some(bytes) => text_of(alloc, bytes)?,
-        None => String::new(alloc),
-    };
-    Ok(Ran {
+    let status = run(rt, alloc, &list, shelf, out, &mut kept);
+    let shown = slashed(alloc, out.bytes())?;
+    let text = kept_text(alloc, &kept)?;
+    Ok(Left {
         status,
-        shown: text_of(alloc, out.bytes())?,
-        file,
-        kept: kept_text(alloc, &kept)?,
+        shown,
+        kept: slashed(alloc, &text)?,
     })
 }
 
-/// Files in memory: an instance, and pairs of tasks that are apart.
-fn shelf_of(
-    alloc: Global,
-    instance: &[u8],
-    pairs: &[u8],
-    fails: &[u64],
-) -> Result<MemShelf, AllocError> {
+/// The files of the rows, where calls of these numbers fail.
+fn files(alloc: Global, fails: &[u64]) -> Result<MemShelf, AllocError> {
     let mut shelf = MemShelf::new(alloc, Vec::from_slice(alloc, fails)?);
-    shelf.put_file("t.in2", instance)?;
-    shelf.put_file("t.apart", pairs)?;
+    let rows: [(&str, &[u8]); 10] = [
+        ("zero.in2", b"1\n0\n-1,-1\n"),
+        ("chain.in2", b"3\n1\n2\n1\n1,2\n2,3\n-1,-1\n"),
+        ("two.in2", b"2\n1\n1\n-1,-1\n"),
+        ("five.in2", b"5\n4\n4\n2\n2\n2\n-1,-1\n"),
+        ("six.in2", b"6\n7\n4\n4\n2\n2\n2\n-1,-1\n"),
+        ("seven.in2", b"7\n7\n7\n4\n4\n2\n2\n2\n-1,-1\n"),
+        (
+            "jackson.in2",
+            b"11\n6\n2\n5\n7\n1\n2\n3\n6\n5\n5\n4\n1,2\n1,3\n1,4\n1,5\n2,6\n3,7\n4,7\n5,7\n6,8\n7,9\n8,10\n9,11\n10,11\n-1,-1\n",
+        ),
+        (
+            "alb.in2",
+            b"<task times>\r\n1 3\r\n2 4\r\n<order strength>\r\n0,268\r\n<number of tasks>\r\n2\r\n<cycle time>\r\n7\r\n<precedence relations>\r\n1,2\r\n<end>\r\n",
+        ),
+        ("two.apart", b"1,2\n-1,-1\n"),
+        ("three.apart", b"3,4\n4,5\n3,5\n-1,-1\n"),
+    ];
+    for (name, bytes) in rows {
+        shelf.put_file(name, bytes)?;
+    }
     Ok(shelf)
 }
 
-/// A run with these words over an instance.
-fn solved<R: Threads + Wait + Sync>(
+/// What `check` puts of the certificate that a run wrote for the instance of its words.
+fn checked<R: Threads + Wait + Sync>(
     rt: &R,
     alloc: Global,
     words: &str,
-    instance: &[u8],
-) -> Result<Ran, AllocError> {
-    let mut shelf = shelf_of(alloc, instance, FIRST_TWO, &[])?;
-    run_words(rt, alloc, words, &mut shelf)
+    shelf: &mut MemShelf,
+) -> Result<String, AllocError> {
+    let mut out = MemSink::new(alloc, Vec::new(alloc));
+    let mut line = String::from_str(alloc, "check ")?;
+    line.push_str(words.split(' ').nth(1).unwrap_or(""))?;
+    line.push_str(" t.cert")?;
+    Ok(run_words(rt, alloc, &line, shelf, &mut out)?.shown)
+}
+
+/// Whether a row holds.
+fn holds<R: Threads + Wait + Sync>(rt: &R, alloc: Global, row: &str) -> Result<bool, AllocError> {
+    let mut fields = row.split('|');
+    let words = fields.next().unwrap_or("");
+    let shown = fields.next().unwrap_or("");
+    let proved = fields.next().unwrap_or("");
+    let check = fields.next().unwrap_or("");
+    let mut shelf = files(alloc, &[])?;
+    let mut out = MemSink::new(alloc, Vec::new(alloc));
+    let left = run_words(rt, alloc, words, &mut shelf, &mut out)?;
+    if !left.shown.starts_with(shown) || !left.kept.contains(proved) {
+        return Ok(false);
+    }
+    Ok(check.is_empty() || checked(rt, alloc, words, &mut shelf)?.as_str() == check)
 }
 
 #[test]
-fn zero_time(rt: HostRuntime) -> Result<(), Fail> {
-    let run = solved(&rt, rt.alloc(), "solve t.in2 cycle=1 helpers=0", ZERO)?;
-    assert_eq!(rt; run.status, Status::Done);
-    assert_eq!(rt; run.shown.as_str(), "optimal 1\nidle 1\nstation 1: 1\n");
-    assert!(rt; run.kept.contains("\nentries 0\n"));
+fn the_rows(rt: HostRuntime) -> Result<(), Fail> {
+    for row in ROWS.lines() {
+        let right = holds(&rt, rt.alloc(), row)?;
+        assert!(rt; right, "{row}");
+    }
     Ok(())
 }
 
-#[test]
-fn chain_of_three(rt: HostRuntime) -> Result<(), Fail> {
-    let run = solved(&rt, rt.alloc(), "solve t.in2 cycle=2 helpers=0", CHAIN)?;
-    assert_eq!(rt; run.status, Status::Done);
-    assert_eq!(rt;
-        run.shown.as_str(),
-        "optimal 3\nidle 2\nstation 1: 1\nstation 2: 2\nstation 3: 3\n"
-    );
-    assert!(rt; run.kept.contains("\nentries 1\nbound 2 e 2\ntrail 0\n"));
-    Ok(())
-}
-
-#[test]
-fn u_line_of_a_chain(rt: HostRuntime) -> Result<(), Fail> {
-    let run = solved(
-        &rt,
-        rt.alloc(),
-        "solve t.in2 cycle=2 line=u helpers=0",
-        CHAIN,
-    )?;
-    assert_eq!(rt; run.status, Status::Done);
-    assert_eq!(rt;
-        run.shown.as_str(),
-        "optimal 2\nidle 0\nstation 1: 1 back 3\nstation 2: 2\n"
-    );
-    Ok(())
-}
-
-#[test]
-fn optimum_of_five(rt: HostRuntime) -> Result<(), Fail> {
-    let run = solved(
-        &rt,
-        rt.alloc(),
-        "solve t.in2 cycle=7 helpers=0 units=15 cert=t.cert",
-        P5,
-    )?;
-    assert_eq!(rt; run.status, Status::Done);
-    assert_eq!(rt; run.shown.as_str(), FIVE_OPTIMAL);
-    assert_eq!(rt; run.file.as_str(), FIVE_PROVED);
-    assert_eq!(rt; run.kept.as_str(), FIVE_PROVED);
-    Ok(())
-}
-
-#[test]
-fn one_unit_short(rt: HostRuntime) -> Result<(), Fail> {
-    let run = solved(
-        &rt,
-        rt.alloc(),
-        "solve t.in2 cycle=7 helpers=0 units=14 cert=t.cert",
-        P5,
-    )?;
-    assert_eq!(rt; run.status, Status::Stopped);
-    assert!(rt; run.shown.starts_with("stopped by units\nbounds 2 3\n"));
-    assert!(rt; run.shown.ends_with(FIVE));
-    assert_eq!(rt; run.shown.len(), 28 + FIVE.len());
-    assert_eq!(rt;
-        run.file.as_str(),
-        "line balance certificate 2\nline straight\ntasks 5\ncycle 7\nlower 2\nupper 3\nbalance 3\n1\n2\n1\n2\n3\nentries 1\nbound 7 f8 1\ntrail 1 at 7\nopen f f8 2 90 -\nend\n"
-    );
-    assert_eq!(rt; run.kept.as_str(), run.file.as_str());
-    Ok(())
-}
-
-#[test]
-fn infeasible(rt: HostRuntime) -> Result<(), Fail> {
-    let run = solved(
-        &rt,
-        rt.alloc(),
-        "solve t.in2 cycle=3 helpers=0 cert=t.cert",
-        P5,
-    )?;
-    assert_eq!(rt; run.status, Status::Done);
-    assert_eq!(rt; run.shown.as_str(), "infeasible: task 1 time 4\n");
-    assert_eq!(rt;
-        run.file.as_str(),
-        "line balance certificate 2\nline straight\ntasks 5\ncycle 3\ninfeasible 1\nend\n"
-    );
-    Ok(())
-}
-
-#[test]
-fn jackson_at_ten(rt: HostRuntime) -> Result<(), Fail> {
-    let run = solved(
-        &rt,
-        rt.alloc(),
-        "solve t.in2 cycle=10 helpers=0 units=3000000",
-        JACKSON,
-    )?;
-    assert_eq!(rt; run.status, Status::Done);
-    assert_eq!(rt;
-        run.shown.as_str(),
-        "optimal 5\nidle 4\nstation 1: 1 2 6\nstation 2: 5 8\nstation 3: 3 10\nstation 4: 4 7\nstation 5: 9 11\n"
-    );
-    assert!(rt; run.kept.contains("\nentries 1\nbound 10 ffe 4\ntrail 0\n"));
-    Ok(())
-}
-
-#[test]
-fn jackson_at_seven(rt: HostRuntime) -> Result<(), Fail> {
-    let run = solved(
-        &rt,
-        rt.alloc(),
-        "solve t.in2 cycle=7 helpers=0 units=3000000",
-        JACKSON,
-    )?;
-    assert_eq!(rt; run.status, Status::Done);
-    assert!(rt; run.shown.starts_with("optimal 8\nidle 10\n"));
-    Ok(())
-}
-
-#[test]
-fn optimum_of_six(rt: HostRuntime) -> Result<(), Fail> {
-    let mut shelf = shelf_of(rt.alloc(), P6, FIRST_TWO, &[])?;
-    let run = run_words(
-        &rt,
-        rt.alloc(),
-        "solve t.in2 cycle=7 helpers=0 cert=t.cert",
-        &mut shelf,
-    )?;
-    assert_eq!(rt;
-        run.shown.as_str(),
-        "optimal 4\nidle 7\nstation 1: 1\nstation 2: 2 4\nstation 3: 3 5\nstation 4: 6\n"
-    );
-    assert!(rt; run.file.contains("\nentries 2\nbranch f 7 7c 2 -\nbranch f 7 fc 3 0\ntrail 0\n"));
-    let check = run_words(&rt, rt.alloc(), "check t.in2 t.cert", &mut shelf)?;
-    assert_eq!(rt;
-        check.shown.as_str(),
-        "accepted straight cycle 7 lower 4 upper 4 units 31\n"
-    );
-    Ok(())
-}
-
-#[test]
-fn optimum_of_seven(rt: HostRuntime) -> Result<(), Fail> {
-    let mut shelf = shelf_of(rt.alloc(), P7, FIRST_TWO, &[])?;
-    let run = run_words(
-        &rt,
-        rt.alloc(),
-        "solve t.in2 cycle=7 helpers=0 cert=t.cert",
-        &mut shelf,
-    )?;
-    assert_eq!(rt;
-        run.shown.as_str(),
-        "optimal 5\nidle 7\nstation 1: 1\nstation 2: 2\nstation 3: 3 5\nstation 4: 4 6\nstation 5: 7\n"
-    );
-    assert!(rt;
-        run.file.contains(
-            "\nentries 4\nbranch f 7 3e 2 -\nbranch f 7 be 3 0\nswap 7 7e 3 1 2 1\nbranch f 7 fe 4 1,2\ntrail 0\n"
-        )
-    );
-    let check = run_words(&rt, rt.alloc(), "check t.in2 t.cert", &mut shelf)?;
-    assert_eq!(rt;
-        check.shown.as_str(),
-        "accepted straight cycle 7 lower 5 upper 5 units 48\n"
-    );
-    Ok(())
-}
-
-#[test]
-fn five_as_a_u_line(rt: HostRuntime) -> Result<(), Fail> {
-    let mut shelf = shelf_of(rt.alloc(), P5, FIRST_TWO, &[])?;
-    let run = run_words(
-        &rt,
-        rt.alloc(),
-        "solve t.in2 cycle=7 line=u helpers=0 units=54 cert=t.cert",
-        &mut shelf,
-    )?;
-    assert_eq!(rt; run.shown.as_str(), FIVE_OPTIMAL);
-    assert!(rt;
-        run.file
-            .contains("\nentries 1\nbranch u 7 f8 2 -\ntrail 0\n")
-    );
-    let check = run_words(&rt, rt.alloc(), "check t.in2 t.cert", &mut shelf)?;
-    assert_eq!(rt;
-        check.shown.as_str(),
-        "accepted u cycle 7 lower 3 upper 3 units 54\n"
-    );
-    Ok(())
-}
-
-#[test]
-fn five_as_a_u_line_one_unit_short(rt: HostRuntime) -> Result<(), Fail> {
-    let run = solved(
-        &rt,
-        rt.alloc(),
-        "solve t.in2 cycle=7 line=u helpers=0 units=53",
-        P5,
-    )?;
-    assert_eq!(rt; run.status, Status::Stopped);
-    assert!(rt; run.shown.starts_with("stopped by units\nbounds 2 3\n"));
-    assert!(rt; run.shown.ends_with(FIVE));
-    Ok(())
-}
-
-/// How the optimum of five tasks ends where a call of the shelf fails, and what it puts.
+/// How the optimum of five tasks ends where a call of the shelf or of the output fails.
 fn five_failing<R: Threads + Wait + Sync>(
     rt: &R,
     alloc: Global,
-    fail: u64,
-) -> Result<Ran, AllocError> {
-    let mut shelf = shelf_of(alloc, P5, FIRST_TWO, &[fail])?;
-    run_words(
-        rt,
-        alloc,
-        "solve t.in2 cycle=7 helpers=0 cert=t.cert",
-        &mut shelf,
-    )
+    shelf_fails: &[u64],
+    sink_fails: &[u64],
+) -> Result<(Left, bool), AllocError> {
+    let mut shelf = files(alloc, shelf_fails)?;
+    let mut out = MemSink::new(alloc, Vec::from_slice(alloc, sink_fails)?);
+    let left = run_words(rt, alloc, FIVE, &mut shelf, &mut out)?;
+    let whole = shelf.file("t.cert") == Some(FIVE_PROVED.as_bytes());
+    Ok((left, whole))
 }
 
 #[test]
 fn calls_that_fail(rt: HostRuntime) -> Result<(), Fail> {
-    for fail in 0..2 {
-        let run = five_failing(&rt, rt.alloc(), fail)?;
-        assert_eq!(rt; run.status, Status::ReadFault);
-        assert_eq!(rt; run.shown.as_str(), "read fault: t.in2\n");
-    }
-    for fail in 2..4 {
-        let run = five_failing(&rt, rt.alloc(), fail)?;
-        assert_eq!(rt; run.status, Status::WriteFault);
-        assert_eq!(rt; run.shown.as_str(), "");
-        assert_eq!(rt; run.kept.as_str(), "");
+    for fail in 0..4 {
+        let (left, _whole) = five_failing(&rt, rt.alloc(), &[fail], &[])?;
+        let read = fail < 2;
+        let status = if read {
+            Status::ReadFault
+        } else {
+            Status::WriteFault
+        };
+        let shown = if read { "read fault: five.in2/" } else { "" };
+        assert_eq!(rt; left.status, status);
+        assert_eq!(rt; left.shown.as_str(), shown);
+        assert_eq!(rt; left.kept.as_str(), "");
     }
     Ok(())
 }
 
 #[test]
 fn an_output_that_fails(rt: HostRuntime) -> Result<(), Fail> {
-    let alloc = rt.alloc();
-    let mut shelf = shelf_of(alloc, P5, FIRST_TWO, &[])?;
-    let mut out = MemSink::new(alloc, Vec::from_slice(alloc, &[0])?);
-    let mut list = Vec::new(alloc);
-    for word in "solve t.in2 cycle=7 helpers=0 cert=t.cert".split(' ') {
-        list.push(String::from_str(alloc, word)?)?;
-    }
-    let mut kept = Kept::Nothing;
-    let status = run(&rt, alloc, &list, &mut shelf, &mut out, &mut kept);
-    assert_eq!(rt; status, Status::WriteFault);
-    assert_eq!(rt; shelf.file("t.cert"), Some(FIVE_PROVED.as_bytes()));
-    assert_eq!(rt; kept_text(alloc, &kept)?.as_str(), "");
+    let (left, whole) = five_failing(&rt, rt.alloc(), &[], &[0])?;
+    assert_eq!(rt; left.status, Status::WriteFault);
+    assert_eq!(rt; left.kept.as_str(), "");
+    assert!(rt; whole);
     Ok(())
 }
 
-/// The optimum of five tasks with its certificate torn behind so many bytes, and the check of what is left.
-fn torn_at<R: Threads + Wait + Sync>(
-    rt: &R,
-    alloc: Global,
-    keep: u64,
-) -> Result<(Status, Ran), AllocError> {
-    let mut shelf = shelf_of(alloc, P5, FIRST_TWO, &[])?;
+#[test]
+fn what_is_written_is_kept(rt: HostRuntime) -> Result<(), Fail> {
+    let (left, whole) = five_failing(&rt, rt.alloc(), &[], &[])?;
+    assert_eq!(rt; left.status, Status::Done);
+    assert_eq!(rt;
+        left.kept.as_str(),
+        slashed(rt.alloc(), FIVE_PROVED.as_bytes())?.as_str()
+    );
+    assert_eq!(rt;
+        left.shown.as_str(),
+        slashed(rt.alloc(), FIVE_SHOWN.as_bytes())?.as_str()
+    );
+    assert!(rt; whole);
+    Ok(())
+}
+
+/// Whether the optimum of five tasks ends with a failed write where its certificate is torn behind so many bytes, and the
+/// check of what is left says that its text ended.
+fn torn_at<R: Threads + Wait + Sync>(rt: &R, alloc: Global, keep: u64) -> Result<bool, AllocError> {
+    let mut shelf = files(alloc, &[])?;
     shelf.tear(3, keep)?;
-    let run = run_words(
-        rt,
-        alloc,
-        "solve t.in2 cycle=7 helpers=0 cert=t.cert",
-        &mut shelf,
-    )?;
-    Ok((
-        run.status,
-        run_words(rt, alloc, "check t.in2 t.cert", &mut shelf)?,
-    ))
+    let mut out = MemSink::new(alloc, Vec::new(alloc));
+    let left = run_words(rt, alloc, FIVE, &mut shelf, &mut out)?;
+    let check = checked(rt, alloc, FIVE, &mut shelf)?;
+    Ok(
+        left.status == Status::WriteFault
+            && check.starts_with("certificate: line ")
+            && check.ends_with(" ended/"),
+    )
 }
 
 #[test]
 fn a_torn_certificate(rt: HostRuntime) -> Result<(), Fail> {
     for keep in 0..FIVE_PROVED.len() {
-        let (status, check) = torn_at(&rt, rt.alloc(), keep as u64)?;
-        assert_eq!(rt; status, Status::WriteFault);
-        assert_eq!(rt; check.status, Status::Refused);
-        assert!(rt; check.shown.starts_with("certificate: line "));
-        assert!(rt; check.shown.ends_with(" ended\n"));
+        let right = torn_at(&rt, rt.alloc(), keep as u64)?;
+        assert!(rt; right);
     }
     Ok(())
 }
@@ -414,77 +252,18 @@ fn no_times(alloc: Global) -> Result<Vec<u8>, AllocError> {
 
 #[test]
 fn all_times_zero(rt: HostRuntime) -> Result<(), Fail> {
-    let text = no_times(rt.alloc())?;
-    let run = solved(&rt, rt.alloc(), "solve t.in2 cycle=1 helpers=0", &text)?;
-    assert_eq!(rt; run.status, Status::Done);
-    assert!(rt; run.shown.starts_with("optimal 1\nidle 1\n"));
-    Ok(())
-}
-
-#[test]
-fn apart_in_solve(rt: HostRuntime) -> Result<(), Fail> {
     let alloc = rt.alloc();
-    let mut shelf = shelf_of(alloc, TWO_FREE, FIRST_TWO, &[])?;
-    let words = "solve t.in2 cycle=2 apart=t.apart helpers=0 cert=t.cert";
-    let run = run_words(&rt, alloc, words, &mut shelf)?;
-    assert_eq!(rt;
-        run.shown.as_str(),
-        "optimal 2\nidle 2\nstation 1: 1\nstation 2: 2\n"
-    );
-    assert!(rt;
-        run.file
-            .contains("\nentries 1\nbranch f 2 c 1 -\ntrail 0\n")
-    );
-    let check = run_words(&rt, alloc, "check t.in2 t.cert apart=t.apart", &mut shelf)?;
-    assert_eq!(rt;
-        check.shown.as_str(),
-        "accepted straight cycle 2 lower 2 upper 2 units 2\n"
-    );
-    let check = run_words(&rt, alloc, "check t.in2 t.cert", &mut shelf)?;
-    assert_eq!(rt; check.status, Status::Refused);
-    assert_eq!(rt; check.shown.as_str(), "refused: entry 0 uncovered c\n");
-    Ok(())
-}
-
-#[test]
-fn apart_saves_units(rt: HostRuntime) -> Result<(), Fail> {
-    let mut shelf = shelf_of(rt.alloc(), P5, LAST_THREE, &[])?;
-    let run = run_words(
+    let mut shelf = MemShelf::new(alloc, Vec::new(alloc));
+    shelf.put_file("t.in2", &no_times(alloc)?)?;
+    let mut out = MemSink::new(alloc, Vec::new(alloc));
+    let left = run_words(
         &rt,
-        rt.alloc(),
-        "solve t.in2 cycle=7 apart=t.apart helpers=0 units=11",
+        alloc,
+        "solve t.in2 cycle=1 helpers=0",
         &mut shelf,
+        &mut out,
     )?;
-    assert_eq!(rt; run.status, Status::Done);
-    assert_eq!(rt; run.shown.as_str(), FIVE_OPTIMAL);
-    Ok(())
-}
-
-#[test]
-fn an_alb_file(rt: HostRuntime) -> Result<(), Fail> {
-    let text =
-        b"<task times>\r\n1 3\r\n2 4\r\n<order strength>\r\n0,268\r\n<number of tasks>\r\n2\r\n<cycle time>\r\n7\r\n<precedence relations>\r\n1,2\r\n<end>\r\n";
-    let run = solved(&rt, rt.alloc(), "solve t.in2 helpers=0", text)?;
-    assert_eq!(rt; run.status, Status::Done);
-    assert_eq!(rt; run.shown.as_str(), "optimal 1\nidle 0\nstation 1: 1 2\n");
-    Ok(())
-}
-
-#[test]
-fn words_that_are_refused(rt: HostRuntime) -> Result<(), Fail> {
-    let run = solved(&rt, rt.alloc(), "solve t.in2 helpers=0", P5)?;
-    assert_eq!(rt; run.status, Status::Input);
-    assert_eq!(rt; run.shown.as_str(), "input: t.in2 no cycle time\n");
-    let run = solved(&rt, rt.alloc(), "solve t.in2 cycle=7", P5)?;
-    assert_eq!(rt; run.status, Status::Usage);
-    assert_eq!(rt; run.shown.as_str(), "not built: helpers\n");
-    let run = solved(
-        &rt,
-        rt.alloc(),
-        "solve t.in2 cycle=7 helpers=0 cert=t.in2",
-        P5,
-    )?;
-    assert_eq!(rt; run.status, Status::Done);
-    assert_eq!(rt; run.shown.as_str(), FIVE_OPTIMAL);
+    assert_eq!(rt; left.status, Status::Done);
+    assert!(rt; left.shown.starts_with("optimal 1/idle 1/"));
     Ok(())
 }
