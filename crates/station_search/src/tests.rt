@@ -8,6 +8,7 @@ ghost use Rattle.lemma_core.specs.Books.{MayBeBest, desk_of};
 ghost use Rattle.station_search.specs.Decide.{IsFor};
 
 mod sharing;
+mod stops;
 
 use crate::{Decided, Reason, Units, balance_of, choose_mode, decide};
 use lemma_core::Book;
