@@ -1,0 +1,24 @@
+use Rattle.std.proofs.Common.{Bool, List, ℕ, sym, ap, subst}
+use Rattle.lemma_core.specs.declared.types.Looked.{Looked}
+use Rattle.lemma_core.specs.Books.{BookView, desk_of}
+use Rattle.lemma_core.specs.Desks.{entries, HasDerived, Finds}
+use Rattle.book_share.specs.Passes.{desk_by}
+use Rattle.book_share.specs.Rule.{IsFor}
+use Rattle.book_share.specs.Steps.{Mine, given}
+use Rattle.book_share.proofs.Hands.{finds_by, derived_by}
+use Rattle.book_share.proofs.turns.look.Goals as goal
+
+pub returns-clause-finds : goal.returns-clause-finds
+returns-clause-finds c =
+    let v = c.args.seat.now.me.0 in
+    let b : BookView = c.look-looked.new.self in
+    let is : IsFor v.base v.seen b = subst (λ (x : BookView). IsFor v.base v.seen x) (sym c.look-looked.ensures.same) c.requires.seat.1.book in
+    subst (λ (m : Mine). Finds (entries (desk_by m.0)) c.args.set.now c.args.most m.0.base.about.cycle c.look-looked.result) (sym c.give.ensures.me)
+    (finds_by (given v) b c.args.set.now c.args.most c.look-looked.result is c.look-looked.ensures.finds)
+
+pub returns-clause-derived : goal.returns-clause-derived
+returns-clause-derived c =
+    let v = c.args.seat.now.me.0 in
+    let b : BookView = c.look-looked.new.self in
+    let is : IsFor v.base v.seen b = subst (λ (x : BookView). IsFor v.base v.seen x) (sym c.look-looked.ensures.same) c.requires.seat.1.book in
+    subst (λ (m : Mine). HasDerived (desk_by m.0)) (sym c.give.ensures.me) (derived_by (given v) b is c.look-looked.ensures.derived)

@@ -1,0 +1,27 @@
+use Rattle.std.proofs.Common.{◌∙◌, sym, subst}
+use Rattle.lemma_core.specs.Books.{BookView, desk_of}
+use Rattle.lemma_core.specs.Desks.{HasDerived, Waits}
+use Rattle.book_share.specs.Passes.{desk_by}
+use Rattle.book_share.specs.Steps.{Mine, given}
+use Rattle.book_share.specs.Turning.{Holds}
+use Rattle.book_share.proofs.Hands.{published_new, turn_publishes, has_same, derived_by}
+use Rattle.book_share.proofs.turns.publish.Goals as goal
+
+pub give_published-requires : goal.give_published-requires
+give_published-requires c = record {
+  sized = c.requires.sized;
+  seat = c.requires.seat.0;
+  new = published_new c.args.seat.now.me c.args.book c.publish-published.new.self c.args.step c.publish-published.result c.requires.seat.1 c.publish-published.ensures.publishes c.in_default.not-NoMemory;
+}
+
+pub returns-in-NoMemory-clause-derived : goal.returns-in-NoMemory-clause-derived
+returns-in-NoMemory-clause-derived c =
+    let m : Mine = c.args.seat.now.me in
+    let b : BookView = c.publish-published.new.self in
+    let h : Holds m b = has_same m c.args.book b c.requires.seat.1 c.in-NoMemory.ensures.publishes in
+    subst (λ (x : Mine). HasDerived (desk_by x.0)) (sym c.give.ensures.me) (derived_by (given m.0) b h.book c.publish-published.ensures.derived)
+
+pub returns-in_default : goal.returns-in_default
+returns-in_default c =
+    let t = turn_publishes c.args.seat.now.me c.give_published.new.seat.me c.args.book c.publish-published.new.self c.args.step c.publish-published.result c.requires.seat.1 c.requires.seat.2 c.publish-published.ensures.publishes c.in_default.not-NoMemory c.publish-published.ensures.derived c.log_len-exact.ensures.exact c.give_published.ensures.me in
+    record { seat = c.give_published.ensures.seat; ends = t.ends; publishes = t.publishes; derived = t.derived }

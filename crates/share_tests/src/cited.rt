@@ -1,0 +1,137 @@
+//! Two passes of one share decide a question each, and the second cites an entry of the first.
+ghost use Rattle.std.specs.Prelude.{◌≡◌, IfOk};
+ghost use Rattle.line_instance.specs.Line.{IsTaskSet};
+ghost use Rattle.line_rules.specs.declared.types.LineKind.TheVariants.{Straight};
+ghost use Rattle.lemma_core.specs.Books.{IsReserved, MayBeBest};
+ghost use Rattle.book_share.specs.Calls.{IsPassOf};
+
+use book_share::{Desked, Pass, Share, Started};
+use lemma_core::Book;
+use line_instance::{Instance, Made, make};
+use line_rules::{
+    Balance, BalanceCheck, Entry, LineKind, Mode, Places, Seatplace, Side, Why, check_balance,
+};
+use station_search::{Decided, Reason, Units, decide};
+use std::alloc::{AllocError, Global};
+use std::sync::Wait;
+use std::test::Fail;
+use task_set::TaskSet;
+
+const CYCLE: u64 = 7;
+
+// Seven free tasks.
+fn seven(alloc: Global) -> Result<Instance, Fail> {
+    match make(alloc, vec![in alloc; 7, 7, 4, 4, 2, 2, 2]?, &[]) {
+        Made::Good(inst) => Ok(inst),
+        _ => Err("no instance")?,
+    }
+}
+
+// Each task at a station of its own.
+fn alone(alloc: Global, tasks: u32) -> Result<Balance, AllocError> {
+    let mut place = Vec::new(alloc);
+    for task in 0..tasks.min(1024) {
+        place.push(Seatplace {
+            station: task + 1,
+            side: Side::Front,
+        })?;
+    }
+    Ok(Balance {
+        stations: tasks,
+        place: Places::from_vec(place),
+    })
+}
+
+// The balance, where it may be the best of a book.
+fn tested(inst: &Instance, best: Balance) -> Result<Balance, Fail>
+    ensures { IfOk result (λ b. MayBeBest (record { line = inst.now; kind = Straight; cycle = 7 }) b) }
+{
+    let few = best.place.len() <= inst.tasks() as usize && best.stations <= inst.tasks();
+    if few && check_balance(inst, LineKind::Straight, CYCLE, &best) == BalanceCheck::Right {
+        return Ok(best);
+    }
+    Err("no balance")?
+}
+
+// A share of an empty book of the tasks.
+fn shared(alloc: Global, inst: &Instance) -> Result<(Share, Pass), Fail>
+    ensures pass { IfOk result (λ r. IsPassOf r.0 r.1) }
+    ensures about { IfOk result (λ r. r.1.view.base.about ≡ record { line = inst.now; kind = Straight; cycle = 7 }) }
+{
+    let best = tested(inst, alone(alloc, inst.tasks())?)?;
+    let mut book = Book::make(alloc, inst.copy(alloc)?, LineKind::Straight, CYCLE, best);
+    book.reserve_offers()?;
+    match Share::start(alloc, book) {
+        Started::Good(share, pass) => Ok((share, pass)),
+        Started::NoMemory(_) => Err("out of memory")?,
+    }
+}
+
+// The entry that refutes a set in three stations, and the units that it takes to find it.
+fn refuted<R: Wait>(
+    rt: &R,
+    alloc: Global,
+    share: &Share,
+    pass: &mut Pass,
+    inst: &Instance,
+    set: &TaskSet,
+) -> Option<(u64, u64)>
+    requires pass { IsPassOf share.now pass.old }
+    requires about { pass.old.view.base.about ≡ record { line = inst.now; kind = Straight; cycle = 7 } }
+    requires set { IsTaskSet inst.now set.now }
+    ensures pass { IsPassOf share.now pass.new }
+    ensures base { pass.new.view.base ≡ pass.old.view.base }
+{
+    let mut units = Units {
+        left: 1000,
+        used: 0,
+    };
+    let mut desk = Desked { rt, share, pass };
+    let decided = decide(
+        alloc,
+        &mut desk,
+        inst,
+        LineKind::Straight,
+        CYCLE,
+        set,
+        3,
+        &mut units,
+    );
+    match decided {
+        Decided::Refuted(Reason::ByEntry(id)) => Some((id, units.used)),
+        _ => None,
+    }
+}
+
+// Whether an entry is by a branch that cites one entry alone, this one.
+fn cites_only(entry: &Entry, id: u64) -> bool {
+    match &entry.why {
+        Why::Branch {
+            mode: Mode::Fore,
+            cites,
+        } => cites.len() == 1 && *cites.at(0) == id,
+        _ => false,
+    }
+}
+
+#[test]
+fn a_pass_cites_an_entry_of_another(rt: HostRuntime) -> Result<(), Fail> {
+    let alloc = rt.alloc();
+    let inst = seven(alloc)?;
+    let (share, mut one) = shared(alloc, &inst)?;
+    let mut two = share.split(&mut one);
+    let first = refuted(&rt, alloc, &share, &mut one, &inst, &inst.all().without(1));
+    let second = refuted(&rt, alloc, &share, &mut two, &inst, &inst.all().without(0));
+    if first != Some((1, 31)) || second != Some((2, 16)) {
+        return Err("other answers")?;
+    }
+    share.join(&mut one, two);
+    let book = share.close(&rt, one);
+    if book.len() != 3 || book.entry(0).set != inst.all().without(0).without(1) {
+        return Err("other entries")?;
+    }
+    if !cites_only(book.entry(1), 0) || !cites_only(book.entry(2), 0) {
+        return Err("other cites")?;
+    }
+    Ok(())
+}
