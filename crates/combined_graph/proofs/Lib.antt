@@ -1,0 +1,4 @@
+pub mod Arcs
+pub mod DraftTurns
+pub mod FourFields
+pub mod RecordsLeft

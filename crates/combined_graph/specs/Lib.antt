@@ -1,0 +1,6 @@
+pub mod Mixes
+pub mod Records
+pub mod Reading
+pub mod Answers
+pub mod Combined
+pub mod Sequences

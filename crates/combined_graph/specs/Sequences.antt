@@ -1,0 +1,1 @@
+-- Sequences of models, as texts with the name of a model on each line.
