@@ -2,3 +2,4 @@ pub mod Arcs
 pub mod DraftTurns
 pub mod FourFields
 pub mod RecordsLeft
+pub mod UnitNames

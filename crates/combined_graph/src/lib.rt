@@ -9,6 +9,7 @@ mod mix;
 mod model;
 mod reading;
 mod records;
+mod sequence;
 #[cfg(test)]
 mod tests;
 
@@ -16,3 +17,4 @@ pub use combining::{Combined, combine};
 pub use fault::{MixFault, MixKind};
 pub use mix::Mix;
 pub use reading::{MixRead, read_mix};
+pub use sequence::{SeqRead, read_sequence};

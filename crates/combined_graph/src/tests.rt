@@ -1,6 +1,7 @@
 //! What no clause says: that texts are read where there is memory. The rows come from the words of the formats, worked by hand.
+ghost use Rattle.std.specs.Prelude.{◌<◌, ◌^◌, length};
 
-use crate::{Combined, MixKind, MixRead, combine, read_mix};
+use crate::{Combined, Mix, MixKind, MixRead, SeqRead, combine, read_mix, read_sequence};
 use std::alloc::{AllocError, Global};
 use std::test::Fail;
 
@@ -138,5 +139,81 @@ fn refuses_a_model_too_many(rt: HostRuntime) -> Result<(), Fail> {
     }
     let got = answer(rt.alloc(), text.as_bytes())?;
     assert_eq!(rt; got.as_str(), "record 18 too many models");
+    Ok(())
+}
+
+/// The models of the units, or what is wrong with them.
+fn units(alloc: Global, mix: &Mix, bytes: &[u8]) -> Result<String, AllocError>
+    requires { length bytes.now < 2 ^ 63 }
+{
+    let mut text = String::new(alloc);
+    match read_sequence(alloc, mix, bytes) {
+        SeqRead::NoMemory => text.push_str("memory")?,
+        SeqRead::UnknownModel(unit) => write!(text, "unit {unit} unknown model")?,
+        SeqRead::TooManyUnits => text.push_str("too many units")?,
+        SeqRead::Good(models) => {
+            for model in &models {
+                write!(text, "{model} ")?;
+            }
+        }
+    }
+    Ok(text)
+}
+
+#[test]
+fn reads_sequences(rt: HostRuntime) -> Result<(), Fail> {
+    let MixRead::Good(mix) = read_mix(
+        rt.alloc(),
+        b"tasks,1,,\nmodel,A,1,\nmodel,B-2,1,\nmodel,C,1,\n",
+    ) else {
+        return Err(Fail::new("no mix"));
+    };
+    let rows = [
+        ("A\nB-2\nC\n", "0 1 2 "),
+        ("C\r\n\r\n \tA \n\nA", "2 0 0 "),
+        ("", ""),
+        ("\n \n", ""),
+        ("A\nB-2\nD\nE\n", "unit 3 unknown model"),
+        ("A\rA\n", "unit 1 unknown model"),
+        ("\"A\"\n", "unit 1 unknown model"),
+    ];
+    for (text, wanted) in rows {
+        let got = units(rt.alloc(), &mix, text.as_bytes())?;
+        assert_eq!(rt; got.as_str(), wanted, "{text}");
+    }
+    Ok(())
+}
+
+#[test]
+fn refuses_a_unit_too_many(rt: HostRuntime) -> Result<(), Fail> {
+    let MixRead::Good(mix) = read_mix(rt.alloc(), b"tasks,1,,\nmodel,A,1,\n") else {
+        return Err(Fail::new("no mix"));
+    };
+    let mut text = Vec::new(rt.alloc());
+    for _ in 0..100_000u32 {
+        text.extend_from_slice(b"A\n")?;
+    }
+    let got = units(rt.alloc(), &mix, &text)?;
+    assert_eq!(rt; got.len(), 200_000);
+    text.extend_from_slice(b"A")?;
+    let got = units(rt.alloc(), &mix, &text)?;
+    assert_eq!(rt; got.as_str(), "too many units");
+    Ok(())
+}
+
+#[test]
+fn tells_its_models(rt: HostRuntime) -> Result<(), Fail> {
+    let MixRead::Good(mix) = read_mix(
+        rt.alloc(),
+        b"tasks,2,,\nmodel,A,3,\nmodel,B,4,\ntime,B,2,7\n",
+    ) else {
+        return Err(Fail::new("no mix"));
+    };
+    assert_eq!(rt; mix.tasks(), 2);
+    assert_eq!(rt; mix.models(), 2);
+    assert_eq!(rt; mix.demand(1), 4);
+    assert_eq!(rt; mix.name(1), b"B".as_slice());
+    assert_eq!(rt; mix.time(1, 1), 7);
+    assert_eq!(rt; mix.time(0, 1), 0);
     Ok(())
 }
