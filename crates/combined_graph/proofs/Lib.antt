@@ -1,5 +1,6 @@
 pub mod Arcs
 pub mod DraftTurns
+pub mod FirstFault
 pub mod FourFields
 pub mod RecordsLeft
 pub mod UnitNames

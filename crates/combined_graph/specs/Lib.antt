@@ -2,5 +2,6 @@ pub mod Mixes
 pub mod Records
 pub mod Reading
 pub mod Answers
+pub mod Faults
 pub mod Combined
 pub mod Sequences

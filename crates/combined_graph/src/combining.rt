@@ -1,7 +1,8 @@
 //! The instance that a mix combines to.
-ghost use Rattle.std.specs.Prelude.{◌≡◌, ◌≤◌, ◌<◌, ◌*◌, ℕ, IfOk, length, slice_index_or};
-ghost use Rattle.combined_graph.specs.Combined.{IsCombinedAs, combined_time, all_arcs, total_demand};
-ghost use Rattle.combined_graph.specs.Mixes.{IsModel, model_at};
+ghost use Rattle.std.specs.Prelude.{◌≡◌, ◌≤◌, ◌<◌, ◌*◌, ℕ, List, IfOk, length, slice_index_or};
+ghost use Rattle.combined_graph.specs.Combined.{IsCombined, IsCombinedAs, combined_time, all_arcs, total_demand};
+ghost use Rattle.combined_graph.specs.Mixes.{model_at};
+ghost use Rattle.line_instance.specs.Line.{Line};
 
 use crate::mix::Mix;
 use crate::model::MixModel;
@@ -22,7 +23,8 @@ pub enum Combined {
 /// Combines a mix: the time of a task is the sum over the models of demand times time, and the arcs are those of all
 /// models. So a cycle time of the launch interval times the total demand is an interval for each unit on average.
 pub fn combine(alloc: Global, mix: &Mix) -> Combined
-    ensures { IsCombinedAs mix.now result }
+    ensures combined { IsCombinedAs mix.now result }
+    ensures cycle { (ring : List ℕ) → result ≡ Combined.Cycle ring → (line : Line) → ¬ IsCombined mix.now line }
 {
     let tasks = mix.tasks();
     let Ok(times) = times_of(alloc, tasks, &mix.models) else {

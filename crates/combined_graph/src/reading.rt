@@ -2,7 +2,9 @@
 ghost use Rattle.std.specs.Prelude.{◌≡◌, []};
 ghost use Rattle.combined_graph.specs.Answers.{IsMixRead, IsSaid};
 ghost use Rattle.combined_graph.specs.Reading.{rest_said};
-ghost use Rattle.combined_graph.specs.Records.{IsReading, records_of};
+ghost use Rattle.combined_graph.specs.Faults.{IsFirstFault};
+ghost use Rattle.combined_graph.specs.Records.{IsReading, mix_records, records_of};
+ghost use Rattle.combined_graph.specs.declared.fault.MixFault.{MixFault};
 
 use crate::draft::{Draft, Stop, first_of};
 use crate::fault::{MixFault, MixKind};
@@ -25,7 +27,8 @@ pub enum MixRead {
 /// Reads a mix: comma-separated values with the number of tasks, and then models, times and arcs in any order, each
 /// model before its times and arcs. The text's tasks are counted from 1.
 pub fn read_mix(alloc: Global, bytes: &[u8]) -> MixRead
-    ensures { IsMixRead bytes.now result }
+    ensures read { IsMixRead bytes.now result }
+    ensures first { (f : MixFault) → result ≡ MixRead.Fault f → IsFirstFault (mix_records bytes.now) f }
 {
     let mut reader = reader_of(alloc, bytes);
     let mut row = ByteRecord::new(alloc);
