@@ -2,7 +2,9 @@
 ghost use Rattle.std.specs.Prelude.{◌≡◌, []};
 ghost use Rattle.combined_graph.specs.Answers.{IsMixRead, IsSaid};
 ghost use Rattle.combined_graph.specs.Reading.{rest_said};
+ghost use Rattle.combined_graph.specs.Contents.{IsMixOf};
 ghost use Rattle.combined_graph.specs.Faults.{IsFirstFault};
+ghost use Rattle.combined_graph.specs.Mixes.{MixedLine};
 ghost use Rattle.combined_graph.specs.Records.{IsReading, mix_records, records_of};
 ghost use Rattle.combined_graph.specs.declared.fault.MixFault.{MixFault};
 
@@ -28,6 +30,7 @@ pub enum MixRead {
 /// model before its times and arcs. The text's tasks are counted from 1.
 pub fn read_mix(alloc: Global, bytes: &[u8]) -> MixRead
     ensures read { IsMixRead bytes.now result }
+    ensures told { (mix : MixedLine) → result ≡ MixRead.Good mix → IsMixOf (mix_records bytes.now) mix }
     ensures first { (f : MixFault) → result ≡ MixRead.Fault f → IsFirstFault (mix_records bytes.now) f }
 {
     let mut reader = reader_of(alloc, bytes);

@@ -1,6 +1,7 @@
 use Rattle.std.proofs.Common.{rules}
 use Rattle.combined_graph.specs.Answers.{IsMixRead}
 use Rattle.combined_graph.proofs.FirstFault.{answer_is_first}
+use Rattle.combined_graph.proofs.Told.{answer_is_told}
 use Rattle.combined_graph.proofs.reading.read_mix.Goals as goal
 
 pub returns-in-Err-first_of-clause-first : goal.returns-in-Err-first_of-clause-first
@@ -17,3 +18,8 @@ pub returns-clause-first : goal.returns-clause-first
 returns-clause-first c =
     let is : IsMixRead c.args.bytes.now c.read_rest.result = search rules in
     answer_is_first c.args.bytes.now c.read_rest.result is
+
+pub returns-clause-told : goal.returns-clause-told
+returns-clause-told c =
+    let is : IsMixRead c.args.bytes.now c.read_rest.result = search rules in
+    answer_is_told c.args.bytes.now c.read_rest.result is
