@@ -1,5 +1,5 @@
 -- Mixes: several models of a product that are built on one line, each with a demand, with times and with arcs of its own.
-use Rattle.std.specs.Prelude.{◌≡◌, ◌||◌, ◌&&◌, ℕ, ◌<◌, ◌≤◌, Bool, true, nat_eq, nat_lt, nat_le, bytes_eq, List, [], length, slice_index_or, Option, None, unwrap_or, sum_by, position}
+use Rattle.std.specs.Prelude.{◌≡◌, ◌||◌, ◌&&◌, ℕ, ◌<◌, ◌≤◌, Bool, true, nat_eq, nat_lt, nat_le, bytes_eq, List, [], length, slice_index_or, replicate, Option, None, unwrap_or, sum_by, position}
 use Rattle.std.specs.Char.{is_ascii_alphanumeric}
 use Rattle.std.specs.List.{All, list_all}
 use Rattle.line_instance.specs.Walks.{AreArcs}
@@ -16,6 +16,10 @@ pub record LineModel : Type 0 where
 pub record MixedLine : Type 0 where
   pub tasks : ℕ
   pub models : List LineModel
+
+-- a model of so many tasks, of which no time and no arc is given yet
+abbrev pub new_model : ℕ → List ℕ → ℕ → LineModel
+new_model tasks name demand = record { name = name; demand = demand; times = replicate tasks None; arcs = [] }
 
 -- the model at a place, counted from 0
 abbrev pub model_at : List LineModel → ℕ → LineModel

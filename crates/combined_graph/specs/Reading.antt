@@ -1,10 +1,10 @@
 -- The reading of a mix, record by record.
-use Rattle.std.specs.Prelude.{ℕ, zero, suc, ◌+◌, cond, nat_lt, bytes_eq, codes, List, [], ◌∷◌, ◌++◌, length, replicate, slice_set, Option, Some, None, is_some, Result, Ok, Err}
+use Rattle.std.specs.Prelude.{ℕ, zero, suc, ◌+◌, cond, nat_lt, bytes_eq, codes, List, [], ◌∷◌, ◌++◌, length, slice_set, Option, Some, None, is_some, Result, Ok, Err}
 use Rattle.line_io.specs.Lines.{number_in}
 use Rattle.line_io.specs.declared.text.Num.{Num}
 use Rattle.line_io.specs.declared.text.Num.TheVariants.{Value, NotANumber, Above}
 use Rattle.line_instance.specs.declared.arcs.Prec.{Prec}
-use Rattle.combined_graph.specs.Mixes.{LineModel, MixedLine, model_at, model_named, given_time, arc_count, is_name}
+use Rattle.combined_graph.specs.Mixes.{LineModel, MixedLine, new_model, model_at, model_named, given_time, arc_count, is_name}
 use Rattle.combined_graph.specs.Records.{Fields}
 use Rattle.combined_graph.specs.declared.fault.MixFault.{MixFault}
 use Rattle.combined_graph.specs.declared.fault.MixKind.{MixKind}
@@ -50,10 +50,10 @@ abbrev pub if_empty : {A : Type 0} → List ℕ → Said A → Said A
 if_empty [] more = more
 if_empty (b ∷ bytes) more = Err Form
 
--- one more model, of which no time and no arc is given yet
+-- one more model
 abbrev pub with_model : MixedLine → List ℕ → ℕ → MixedLine
 with_model mix name demand =
-    record mix { models = mix.models ++ record { name = name; demand = demand; times = replicate mix.tasks None; arcs = [] } ∷ [] }
+    record mix { models = mix.models ++ new_model mix.tasks name demand ∷ [] }
 
 -- a time of a model's task
 abbrev pub with_time : MixedLine → ℕ → ℕ → ℕ → MixedLine

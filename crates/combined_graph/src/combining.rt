@@ -1,4 +1,8 @@
 //! The instance that a mix combines to.
+//!
+//! The combined time of a task is summed model by model, and fits the limit of an instance: 16 models of a demand of
+//! 10,000 and a time of 1,000,000,000 come to 160,000,000,000,000. The arcs of all models are put behind each other,
+//! and an arc that two models have stands twice, which changes no walk.
 ghost use Rattle.std.specs.Prelude.{◌≡◌, ◌≤◌, ◌<◌, ◌*◌, ℕ, List, IfOk, length, slice_index_or};
 ghost use Rattle.combined_graph.specs.Combined.{IsCombined, IsCombinedAs, combined_time, all_arcs, total_demand};
 ghost use Rattle.combined_graph.specs.Mixes.{model_at};
@@ -14,7 +18,8 @@ use std::alloc::{AllocError, Global};
 pub enum Combined {
     /// The combined instance, and how many units are wanted of all models together.
     Good(Instance, u64),
-    /// The arcs of the models have a cycle together; a closed walk without a repeated task, written from its least task.
+    /// The arcs of the models have a cycle together; a closed walk without a repeated task, written from its least
+    /// task.
     Cycle(Ring),
     /// Memory is wanting.
     NoMemory,

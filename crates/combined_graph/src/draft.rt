@@ -1,9 +1,13 @@
 //! A mix that is being read: what the records so far make of it.
+//!
+//! Each kind of record has a function that reads its fields in the order in which faults are told, and one that adds
+//! what was read. Where memory ends, what was added before stays, and the reading ends.
 ghost use Rattle.std.specs.Prelude.{◌≡◌, ◌≤◌, ◌<◌, length, true, IfSome};
 ghost use Rattle.csv.specs.Records.{fields_of};
 ghost use Rattle.combined_graph.specs.Answers.{Makes};
 ghost use Rattle.combined_graph.specs.Mixes.{model_named, is_name as is_name_of};
-ghost use Rattle.combined_graph.specs.Reading.{model_for, time_for, arc_for, model_said, time_said, arc_said, first_said, record_said, empty_mix};
+ghost use Rattle.combined_graph.specs.Reading.{model_for, time_for, arc_for, model_said, time_said, arc_said};
+ghost use Rattle.combined_graph.specs.Reading.{first_said, record_said, empty_mix};
 ghost use Rattle.combined_graph.specs.declared.draft.Stop.TheVariants as stop;
 
 use crate::fault::MixKind;
@@ -79,7 +83,9 @@ impl Model for Draft {
 
     ghost view = { λ s. record { tasks = s.tasks; models = s.models.items } };
 
-    ghost invariant = { λ s. IsDraft (record { tasks = s.tasks; models = s.models.items }) × (s.arcs ≡ arc_count s.models.items) };
+    ghost invariant = { λ s.
+        IsDraft (record { tasks = s.tasks; models = s.models.items })
+        × (s.arcs ≡ arc_count s.models.items) };
 }
 
 /// The place of the first model of a name.

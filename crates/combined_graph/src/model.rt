@@ -1,6 +1,6 @@
 //! One model of a mix.
-ghost use Rattle.std.specs.Prelude.{◌≡◌, ◌≤◌, ◌<◌, ◌*◌, ◌∷◌, ◌++◌, [], ℕ, None, Some, length, replicate, slice_set, slice_index, true, IfOk, OnOk, OnErr, IsOk, is_some};
-ghost use Rattle.combined_graph.specs.Mixes.{IsModel, is_name, given_time, time_of};
+ghost use Rattle.std.specs.Prelude.{◌≡◌, ◌≤◌, ◌<◌, ◌*◌, ◌∷◌, ◌++◌, [], Some, length, slice_set, true, IfOk, OnOk, OnErr, is_some};
+ghost use Rattle.combined_graph.specs.Mixes.{IsModel, is_name, given_time, time_of, new_model};
 ghost use Rattle.line_instance.specs.Walks.{Names};
 
 use line_instance::Prec;
@@ -24,7 +24,9 @@ impl Model for MixModel {
 
     ghost view = { λ s. record { name = s.name.items; demand = s.demand; times = s.times.items; arcs = s.arcs.items } };
 
-    ghost invariant = { λ s. IsModel (length s.times.items) (record { name = s.name.items; demand = s.demand; times = s.times.items; arcs = s.arcs.items }) };
+    ghost invariant = { λ s.
+        IsModel (length s.times.items)
+        (record { name = s.name.items; demand = s.demand; times = s.times.items; arcs = s.arcs.items }) };
 }
 
 impl MixModel {
@@ -33,7 +35,7 @@ impl MixModel {
         requires name { is_name name.now ≡ true }
         requires some { 0 < demand }
         requires demand { demand ≤ 10000 }
-        ensures value { IfOk result (λ m. m ≡ record { name = name.now; demand = demand; times = replicate tasks None; arcs = [] }) }
+        ensures value { IfOk result (λ m. m ≡ new_model tasks name.now demand) }
         ensures right { IfOk result (λ m. IsModel tasks m) }
     {
         Ok(MixModel {

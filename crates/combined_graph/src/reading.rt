@@ -1,4 +1,7 @@
 //! The reading of a mix.
+//!
+//! The number of a record is counted beside the reading, so a fault has its record, and the end of the records has the
+//! number behind them.
 ghost use Rattle.std.specs.Prelude.{◌≡◌, []};
 ghost use Rattle.combined_graph.specs.Answers.{IsMixRead, IsSaid};
 ghost use Rattle.combined_graph.specs.Reading.{rest_said};

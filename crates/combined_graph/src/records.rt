@@ -1,4 +1,7 @@
 //! The records of a text, one after the other.
+//!
+//! The room of one record is used for all of them. A record may have any number of fields, so that one of a wrong
+//! number is a fault of the mix and not of its text.
 ghost use Rattle.std.specs.Prelude.{◌≡◌, ◌≢◌, ◌∷◌, [], IfOk, IfSome, IsNone, length};
 ghost use Rattle.csv.specs.Records.{fields_of};
 ghost use Rattle.combined_graph.specs.Records.{IsReading, TakesRecord, records_of, mix_records};
@@ -47,7 +50,8 @@ pub struct Four<'a> {
 
 /// The four fields of a record that has four.
 pub fn four_of(row: &ByteRecord) -> Option<Four<'_>>
-    ensures some { IfSome result (λ f. fields_of row.now ≡ f.word.now ∷ f.second.now ∷ f.third.now ∷ f.fourth.now ∷ []) }
+    ensures some { IfSome result (λ f.
+        fields_of row.now ≡ f.word.now ∷ f.second.now ∷ f.third.now ∷ f.fourth.now ∷ []) }
     ensures none { IsNone result → length (fields_of row.now) ≢ 4 }
 {
     if row.len() != 4 {

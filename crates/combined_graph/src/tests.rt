@@ -1,4 +1,4 @@
-//! What no clause says: that texts are read where there is memory. The rows come from the words of the formats, worked by hand.
+//! What no clause says: that texts are read where there is memory. The rows are worked by hand.
 ghost use Rattle.std.specs.Prelude.{◌<◌, ◌^◌, length};
 
 use crate::{Combined, Mix, MixKind, MixRead, SeqRead, combine, read_mix, read_sequence};

@@ -33,7 +33,8 @@ fn time_at(mix: &Mix, balance: &Balance, station: u32, model: u32, task: u32) ->
     requires places { length balance.now.place ≡ mix.now.tasks }
     requires model { model < length mix.now.models }
     requires task { task < mix.now.tasks }
-    ensures time { result ≡ cond (nat_eq (seat balance.now.place task).station station) (time_of (model_at mix.now.models model) task) 0 }
+    ensures time { result
+        ≡ cond (nat_eq (seat balance.now.place task).station station) (time_of (model_at mix.now.models model) task) 0 }
     ensures limit { result ≤ 1000000000 }
 {
     if balance.place.at(task as usize).station == station {
@@ -60,7 +61,8 @@ fn work_of(mix: &Mix, balance: &Balance, station: u32, model: u32) -> u64
 // The work that each model brings to a station.
 fn works_at(mix: &Mix, balance: &Balance, station: u32) -> [u64; MAX_MODELS]
     requires { length balance.now.place ≡ mix.now.tasks }
-    ensures each { (m : ℕ) → m < length mix.now.models → slice_index_or result m 0 ≡ work_at balance.now.place station (model_at mix.now.models m) }
+    ensures each { (m : ℕ) → m < length mix.now.models
+        → slice_index_or result m 0 ≡ work_at balance.now.place station (model_at mix.now.models m) }
     ensures limit { (m : ℕ) → slice_index_or result m 0 ≤ 1024000000000 }
 {
     let mut works = [0; MAX_MODELS];
@@ -121,7 +123,9 @@ pub fn utility(
     requires lengths { length lengths.now ≡ balance.now.stations }
     requires limit { All (λ l. l ≤ 1000000000) lengths.now }
     requires per { length per.old ≡ balance.now.stations }
-    ensures each { (k : ℕ) → k < balance.now.stations → slice_index per.new k ≡ station_utility mix.now balance.now.place sequence.now interval (slice_index lengths.now k) (k + 1) }
+    ensures each { (k : ℕ) → k < balance.now.stations
+        → slice_index per.new k
+        ≡ station_utility mix.now balance.now.place sequence.now interval (slice_index lengths.now k) (k + 1) }
     ensures total { result ≡ sum per.new }
 {
     let _models = mix.models();
