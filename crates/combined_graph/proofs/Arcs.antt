@@ -1,11 +1,9 @@
 -- The arcs of all models, and what can come of making an instance of right times and arcs.
-use Rattle.std.proofs.Common.{◌≡◌, ◌≤◌, ◌<◌, ◌+◌, ◌-◌, ℕ, zero, suc, List, [], ◌∷◌, ◌++◌, length, refl, sym, ◌∙◌, ap, subst, arith, length-append, inl, inr}
-use Rattle.std.proofs.Math.ListN.{get_or-append}
-use Rattle.std.proofs.Math.Seq.{get_or-append_right}
-use Rattle.std.specs.Prelude.{All, slice_index_or, ◌⊎◌}
+use Rattle.std.proofs.Common.{◌≡◌, ℕ, zero, suc, List, [], ◌∷◌, ◌++◌, length, refl, sym, ◌∙◌, ap, subst, arith}
+use Rattle.std.specs.Prelude.{All}
 use Rattle.line_instance.specs.Line.{Line}
 use Rattle.line_instance.specs.Made.{AreTimes, IsMade}
-use Rattle.line_instance.specs.Walks.{AreArcs, Names, arc_at}
+use Rattle.line_instance.specs.Walks.{AreArcs}
 use Rattle.line_instance.specs.declared.arcs.Prec.{Prec}
 use Rattle.line_instance.specs.declared.making.Made.{Made}
 use Rattle.line_instance.specs.declared.making.Made.TheVariants.{Good, NoTasks, TooManyTasks, BadTime, BadArc, Cycle, NoMemory}

@@ -1,11 +1,9 @@
 -- What one more record changes of a mix that is being read.
-use Rattle.std.proofs.Common.{◌≡◌, ◌≤◌, ◌<◌, ◌+◌, ℕ, List, [], ◌∷◌, ◌++◌, length, Option, Some, sym, subst, arith, length-append}
+use Rattle.std.proofs.Common.{◌≤◌, ◌<◌, ℕ, [], length, arith}
 use Rattle.std.proofs.Math.ListN.{length-set}
-use Rattle.std.proofs.lemmas.List.Elements.{All-set, All-append, All-get_or}
-use Rattle.std.proofs.lemmas.List.Sums.{sum_by-set, sum_by-append}
-use Rattle.std.specs.Prelude.{All, slice_set}
-use Rattle.line_instance.specs.declared.arcs.Prec.{Prec}
-use Rattle.combined_graph.specs.Mixes.{LineModel, MixedLine, IsModel, IsDraft, model_at, arc_count}
+use Rattle.std.proofs.lemmas.List.Elements.{All-set}
+use Rattle.std.specs.Prelude.{slice_set}
+use Rattle.combined_graph.specs.Mixes.{LineModel, MixedLine, IsModel, IsDraft, arc_count}
 
 nothing : LineModel
 nothing = record { name = []; demand = 0; times = []; arcs = [] }

@@ -1,5 +1,5 @@
 -- The fault that the reading finds is of the first record that no reading passes.
-use Rattle.std.proofs.Common.{◌≡◌, ◌<◌, ◌+◌, ℕ, zero, suc, List, [], ◌∷◌, ◌++◌, length, Result, Ok, Err, refl, sym, ◌∙◌, ap, subst, arith, append_assoc, inl, inr, length-append}
+use Rattle.std.proofs.Common.{◌≡◌, ◌+◌, ℕ, List, [], ◌∷◌, ◌++◌, length, Result, Ok, Err, refl, sym, ◌∙◌, ap, subst, arith, append_assoc, inl, inr}
 use Rattle.std.specs.Prelude.{◌⊎◌, codes, cond, nat_lt, Bool, true, false}
 use Rattle.std.proofs.lemmas.Bool.Decides.{nat_tests}
 use Rattle.combined_graph.specs.Mixes.{LineModel, MixedLine}
@@ -7,8 +7,8 @@ use Rattle.combined_graph.specs.Records.{Fields, mix_records}
 use Rattle.combined_graph.specs.Answers.{IsMixRead}
 use Rattle.combined_graph.specs.declared.reading.MixRead.{MixRead}
 use Rattle.combined_graph.specs.declared.reading.MixRead.TheVariants.{Fault}
-use Rattle.combined_graph.specs.Reading.{Said, next, at_record, record_said, first_said, rest_said, records_said}
-use Rattle.combined_graph.specs.Faults.{AreRead, AreBeginning, IsRecordFault, IsEndFault, IsFirstFault}
+use Rattle.combined_graph.specs.Reading.{Said, at_record, record_said, first_said, rest_said, records_said}
+use Rattle.combined_graph.specs.Faults.{AreBeginning, IsFirstFault}
 use Rattle.combined_graph.specs.declared.fault.MixFault.{MixFault}
 use Rattle.combined_graph.specs.declared.fault.MixKind.{MixKind}
 use Rattle.combined_graph.specs.declared.fault.MixKind.TheVariants.{Form, NoModel}

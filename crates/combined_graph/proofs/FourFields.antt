@@ -1,5 +1,5 @@
 -- A record of four fields, read field by field.
-use Rattle.std.proofs.Common.{◌≡◌, ◌≤◌, ◌<◌, ℕ, zero, suc, List, [], ◌∷◌, length, Option, Some, None, arith}
+use Rattle.std.proofs.Common.{◌≡◌, ◌≤◌, ℕ, zero, suc, List, [], ◌∷◌, length, Some, None, arith}
 use Rattle.csv.specs.Records.{field_at}
 use Rattle.combined_graph.specs.Records.{Fields}
 

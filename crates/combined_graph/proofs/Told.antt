@@ -1,5 +1,5 @@
 -- The records of a text tell the mix that is read of them.
-use Rattle.std.proofs.Common.{◌≡◌, ◌≢◌, ◌≤◌, ◌<◌, ◌+◌, ◌-◌, ℕ, zero, suc, Bool, true, false, cond, ◌&&◌, not, nat_eq, nat_lt, nat_le, List, [], ◌∷◌, ◌++◌, length, map, get_or, set, replicate, Option, Some, None, Result, Ok, Err, refl, sym, ◌∙◌, ap, subst, arith, append_assoc, length-append, inl, inr}
+use Rattle.std.proofs.Common.{◌≡◌, ◌≤◌, ◌<◌, ◌+◌, ◌-◌, ℕ, zero, suc, Bool, true, false, cond, ◌&&◌, not, nat_eq, nat_lt, nat_le, List, [], ◌∷◌, ◌++◌, length, map, get_or, replicate, Option, Some, None, Result, Ok, Err, refl, sym, ◌∙◌, ap, subst, arith, append_assoc, length-append, inl, inr}
 use Rattle.std.specs.Prelude.{◌⊎◌, codes, bytes_eq, filter_map, is_some, slice_set}
 use Rattle.std.specs.List.{prefix_len, position_or_len, cons_option}
 use Rattle.std.specs.Option.{option_to_list}
@@ -14,7 +14,6 @@ use Rattle.std.proofs.Math.Seq.{get_or-append_seam, map-set_same}
 use Rattle.line_io.specs.Lines.{number_in, value_of, is_number}
 use Rattle.line_io.specs.declared.text.Num.{Num}
 use Rattle.line_io.specs.declared.text.Num.TheVariants.{Value, NotANumber, Above}
-use Rattle.line_instance.specs.declared.arcs.Prec.{Prec}
 use Rattle.combined_graph.specs.Mixes.{LineModel, MixedLine, model_at, model_named, given_time, is_name, arc_count}
 use Rattle.combined_graph.specs.Records.{Fields, mix_records}
 use Rattle.combined_graph.specs.Answers.{IsMixRead}
@@ -24,7 +23,6 @@ use Rattle.combined_graph.specs.Reading.{Said, next, named, if_empty, bounded, p
 use Rattle.combined_graph.specs.Contents.{model_in, time_in, arc_in, IsMixOf}
 use Rattle.combined_graph.specs.declared.fault.MixFault.{MixFault}
 use Rattle.combined_graph.specs.declared.fault.MixKind.TheVariants.{Form, TooManyModels, RepeatedTime, TooManyArcs, NoModel}
-use Rattle.combined_graph.specs.declared.fault.MixKind.{MixKind}
 
 -- ---- one record more
 

@@ -1,7 +1,7 @@
 -- The instance that a mix combines to (Scholl, scaled to whole numbers).
 use Rattle.std.specs.Prelude.{◌≡◌, ℕ, ◌*◌, ◌<◌, List, sum_by}
 use Rattle.std.specs.List.{flat_map}
-use Rattle.line_instance.specs.Line.{Line, IsLine, tasks, time, Apart}
+use Rattle.line_instance.specs.Line.{Line, tasks, time}
 use Rattle.line_instance.specs.Made.{IsInstanceOf}
 use Rattle.line_instance.specs.Walks.{IsRing}
 use Rattle.line_instance.specs.declared.arcs.Prec.{Prec}

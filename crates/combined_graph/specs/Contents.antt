@@ -3,7 +3,7 @@ use Rattle.std.specs.Prelude.{◌≡◌, ◌&&◌, ℕ, ◌+◌, ◌-◌, ◌<�
 use Rattle.std.specs.Option.{option_to_list}
 use Rattle.line_io.specs.Lines.{value_of}
 use Rattle.line_instance.specs.declared.arcs.Prec.{Prec}
-use Rattle.combined_graph.specs.Mixes.{LineModel, MixedLine, model_at, given_time}
+use Rattle.combined_graph.specs.Mixes.{MixedLine, model_at, given_time}
 use Rattle.combined_graph.specs.Records.{Fields}
 
 -- the name and the demand, where a record is that of a model

@@ -1,5 +1,5 @@
 -- The fault of a mix: the first record that no reading passes, or the end of the records.
-use Rattle.std.specs.Prelude.{◌≡◌, ◌⊎◌, ℕ, ◌+◌, List, [], ◌∷◌, ◌++◌, length, Ok}
+use Rattle.std.specs.Prelude.{◌≡◌, ◌⊎◌, ◌+◌, List, [], ◌∷◌, ◌++◌, length, Ok}
 use Rattle.combined_graph.specs.Mixes.{MixedLine}
 use Rattle.combined_graph.specs.Records.{Fields}
 use Rattle.combined_graph.specs.Reading.{records_said}

@@ -3,8 +3,7 @@ use Rattle.std.specs.Prelude.{ℕ, zero, suc, ◌+◌, cond, nat_lt, bytes_eq, c
 use Rattle.line_io.specs.Lines.{number_in}
 use Rattle.line_io.specs.declared.text.Num.{Num}
 use Rattle.line_io.specs.declared.text.Num.TheVariants.{Value, NotANumber, Above}
-use Rattle.line_instance.specs.declared.arcs.Prec.{Prec}
-use Rattle.combined_graph.specs.Mixes.{LineModel, MixedLine, new_model, model_at, model_named, given_time, arc_count, is_name}
+use Rattle.combined_graph.specs.Mixes.{MixedLine, new_model, model_at, model_named, given_time, arc_count, is_name}
 use Rattle.combined_graph.specs.Records.{Fields}
 use Rattle.combined_graph.specs.declared.fault.MixFault.{MixFault}
 use Rattle.combined_graph.specs.declared.fault.MixKind.{MixKind}

@@ -1,5 +1,5 @@
 -- One task more, and one model more.
-use Rattle.std.proofs.Common.{◌≡◌, ◌≢◌, ◌≤◌, ◌<◌, ◌+◌, ℕ, zero, suc, List, [], ◌∷◌, length, take, map, get_or, set, cond, nat_eq, Option, None, refl, sym, ◌∙◌, ap, subst, arith, add-one, inl, inr}
+use Rattle.std.proofs.Common.{◌≡◌, ◌≤◌, ◌<◌, ◌+◌, ℕ, zero, suc, List, [], ◌∷◌, length, take, map, get_or, set, cond, nat_eq, Option, None, refl, sym, ◌∙◌, ap, subst, arith, add-one, inl, inr}
 use Rattle.std.specs.Prelude.{unwrap_or, All}
 use Rattle.utility_work.specs.Utility.{help_of, next_start, help_from}
 use Rattle.std.proofs.lemmas.Bool.{cases_eq}
@@ -10,13 +10,13 @@ use Rattle.line_rules.specs.Balance.{seat}
 use Rattle.line_rules.specs.declared.types.Seatplace.{Seatplace}
 
 -- the time of a task in the list of times
-time_is : (times : List (Option ℕ)) (k : ℕ) → get_or (map (λ t. unwrap_or t 0) times) k 0 ≡ unwrap_or (get_or times k None) 0
+pub time_is : (times : List (Option ℕ)) (k : ℕ) → get_or (map (λ t. unwrap_or t 0) times) k 0 ≡ unwrap_or (get_or times k None) 0
 time_is [] zero = refl
 time_is [] (suc k) = refl
 time_is (t ∷ ts) zero = refl
 time_is (t ∷ ts) (suc k) = time_is ts k
 
-as_many : (times : List (Option ℕ)) → length (map (λ t. unwrap_or t 0) times) ≡ length times
+pub as_many : (times : List (Option ℕ)) → length (map (λ t. unwrap_or t 0) times) ≡ length times
 as_many [] = refl
 as_many (t ∷ ts) = ap suc (as_many ts)
 

@@ -107,7 +107,8 @@ fn total_of(per: &[u64]) -> u128
 /// The utility work of a sequence of units on a balanced line, each unit a model of the mix: writes that of each
 /// station into `per`, the first station first, and answers their sum.
 ///
-/// The interval and the lengths of the stations are in the mix's time unit.
+/// The interval and the lengths of the stations are in the mix's time unit. The sum is at most 102,400,000,000,000,000,
+/// since helpers do no more than the work of the units.
 pub fn utility(
     mix: &Mix,
     balance: &Balance,
@@ -127,8 +128,9 @@ pub fn utility(
         → slice_index per.new k
         ≡ station_utility mix.now balance.now.place sequence.now interval (slice_index lengths.now k) (k + 1) }
     ensures total { result ≡ sum per.new }
+    ensures limit { result ≤ 102400000000000000 }
 {
-    let _models = mix.models();
+    let _tasks = mix.tasks();
     for k in 0..lengths.len() {
         let works = works_at(mix, balance, k as u32 + 1);
         per[k] = help_at(&works, sequence, interval, lengths[k]);

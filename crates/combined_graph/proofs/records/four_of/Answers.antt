@@ -1,4 +1,4 @@
-use Rattle.std.proofs.Common.{◌≡◌, Option, Some, None, length, ap, sym, ◌∙◌, arith, option_map, Bor, List, ℕ}
+use Rattle.std.proofs.Common.{◌≡◌, Some, None, length, ap, sym, ◌∙◌, arith, option_map, Bor, List, ℕ}
 use Rattle.csv.specs.Records.{fields_of, field_at}
 use Rattle.combined_graph.proofs.FourFields.{four_fields, no_field}
 use Rattle.combined_graph.proofs.records.four_of.Goals as goal

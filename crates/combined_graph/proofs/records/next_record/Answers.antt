@@ -1,4 +1,3 @@
-use Rattle.std.proofs.Common.{rules}
 use Rattle.csv.specs.Records.{fields_of}
 use Rattle.combined_graph.proofs.RecordsLeft.{takes}
 use Rattle.combined_graph.proofs.records.next_record.Goals as goal

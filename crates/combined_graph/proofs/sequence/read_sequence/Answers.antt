@@ -1,4 +1,4 @@
-use Rattle.std.proofs.Common.{◌≡◌, ◌∙◌, ap, sym, subst, List}
+use Rattle.std.proofs.Common.{◌∙◌, ap, subst, List}
 use Rattle.combined_graph.specs.Mixes.{LineModel}
 use Rattle.combined_graph.specs.Sequences.{IsSequenceRead}
 use Rattle.combined_graph.proofs.sequence.read_sequence.Goals as goal

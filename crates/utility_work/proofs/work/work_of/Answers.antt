@@ -1,4 +1,4 @@
-use Rattle.std.proofs.Common.{◌≡◌, ◌<◌, [], arith, length}
+use Rattle.std.proofs.Common.{◌<◌, [], arith, length}
 use Rattle.combined_graph.specs.Mixes.{model_at}
 use Rattle.utility_work.proofs.Steps.{task_added}
 use Rattle.utility_work.proofs.work.work_of.Goals as goal

@@ -1,4 +1,4 @@
-use Rattle.std.proofs.Common.{◌≡◌, ◌∙◌, arith, length}
+use Rattle.std.proofs.Common.{◌∙◌, arith}
 use Rattle.combined_graph.specs.Mixes.{model_at}
 use Rattle.utility_work.specs.Utility.{work_at}
 use Rattle.utility_work.proofs.Steps.{one_value, values_limit}
