@@ -1,5 +1,4 @@
 pub mod Arcs
-pub mod DraftTurns
 pub mod FirstFault
 pub mod FourFields
 pub mod RecordsLeft
