@@ -1,7 +1,7 @@
 -- One task more, and one model more.
 use Rattle.std.proofs.Common.{◌≡◌, ◌≤◌, ◌<◌, ◌+◌, ℕ, zero, suc, List, [], ◌∷◌, length, take, map, get_or, set, cond, nat_eq, Option, None, refl, sym, ◌∙◌, ap, subst, arith, add-one, inl, inr}
 use Rattle.std.specs.Prelude.{unwrap_or, All}
-use Rattle.utility_work.specs.Utility.{help_of, next_start, help_from}
+use Rattle.utility_work.specs.Utility.{utility_of, next_start, utility_from}
 use Rattle.std.proofs.lemmas.Bool.{cases_eq}
 use Rattle.std.proofs.lemmas.List.{get_or-set_same, get_or-set_other}
 use Rattle.line_instance.specs.Sums.{sum_where}
@@ -54,9 +54,9 @@ values_limit xs k v most h few before m = elim (cases_eq m k) [
 ]
 
 -- two ways to tell the work of each model that agree on the models of the units
-pub same_help : (f g : ℕ → ℕ) (n reach interval start : ℕ) (units : List ℕ) → ((m : ℕ) → m < n → f m ≡ g m) → All (λ m. m < n) units
-    → help_from reach interval f start units ≡ help_from reach interval g start units
-same_help f g n reach interval start [] same within = refl
-same_help f g n reach interval start (m ∷ units) same within =
-    ap (λ w. help_of start w reach + help_from reach interval f (next_start start w reach interval) units) (same m (within zero 0 (omega arith)))
-    ∙ ap (λ x. help_of start (g m) reach + x) (same_help f g n reach interval (next_start start (g m) reach interval) units same (λ k d less. within (suc k) d (omega (arith, less))))
+pub same_utility : (f g : ℕ → ℕ) (n reach interval start : ℕ) (units : List ℕ) → ((m : ℕ) → m < n → f m ≡ g m) → All (λ m. m < n) units
+    → utility_from reach interval f start units ≡ utility_from reach interval g start units
+same_utility f g n reach interval start [] same within = refl
+same_utility f g n reach interval start (m ∷ units) same within =
+    ap (λ w. utility_of start w reach + utility_from reach interval f (next_start start w reach interval) units) (same m (within zero 0 (omega arith)))
+    ∙ ap (λ x. utility_of start (g m) reach + x) (same_utility f g n reach interval (next_start start (g m) reach interval) units same (λ k d less. within (suc k) d (omega (arith, less))))

@@ -7,7 +7,7 @@ use Rattle.line_instance.specs.Sums.{sum_where}
 use Rattle.line_rules.specs.Balance.{seat}
 use Rattle.line_rules.specs.declared.types.Seatplace.{Seatplace}
 use Rattle.combined_graph.specs.Mixes.{LineModel, MixedLine, IsMix, IsModel, model_at}
-use Rattle.utility_work.specs.Utility.{work_at, next_start, help_from, station_utility}
+use Rattle.utility_work.specs.Utility.{work_at, next_start, utility_from, station_utility}
 use Rattle.utility_work.proofs.Steps.{time_is, as_many}
 
 -- the sum of f over the numbers below n
@@ -57,11 +57,11 @@ abbrev pub work_sum : (ℕ → ℕ) → List ℕ → ℕ
 work_sum work [] = 0
 work_sum work (m ∷ units) = work m + work_sum work units
 
--- what helpers do is no more than the work
-help_below : (reach interval start : ℕ) (work : ℕ → ℕ) (units : List ℕ) → start ≤ reach → help_from reach interval work start units ≤ work_sum work units
-help_below reach interval start work [] h = omega arith
-help_below reach interval start work (m ∷ units) h =
-    let rest = help_below reach interval (next_start start (work m) reach interval) work units (omega (arith, h)) in
+-- there is no more utility work than work
+utility_below : (reach interval start : ℕ) (work : ℕ → ℕ) (units : List ℕ) → start ≤ reach → utility_from reach interval work start units ≤ work_sum work units
+utility_below reach interval start work [] h = omega arith
+utility_below reach interval start work (m ∷ units) h =
+    let rest = utility_below reach interval (next_start start (work m) reach interval) work units (omega (arith, h)) in
     omega (arith, h, rest)
 
 -- the work of units at all stations, where a model has at most so much
@@ -84,12 +84,12 @@ pub total_below : (mix : MixedLine) (places : List Seatplace) (units : List ℕ)
     → sum per ≤ 1024000000000 * length units
 total_below mix places units interval lengths per right within each =
     let work : ℕ → ℕ → ℕ = λ k m. work_at places (k + 1) (model_at mix.models m) in
-    let helped : sum per ≤ all (λ k. work_sum (work k) units) (length per) =
-    sum_below per (λ k. work_sum (work k) units) (λ k h. omega (arith, each k h, help_below (get_or lengths k 0) interval 0 (work k) units (omega arith))) in
+    let overload : sum per ≤ all (λ k. work_sum (work k) units) (length per) =
+    sum_below per (λ k. work_sum (work k) units) (λ k h. omega (arith, each k h, utility_below (get_or lengths k 0) interval 0 (work k) units (omega arith))) in
     let spread = units_below work 1024000000000 (length mix.models) (length per) units
     (λ m h. omega (
       arith,
       stations_below (λ t. (seat places t).station) (map (λ t. unwrap_or t 0) (model_at mix.models m).times) (length per),
       model_below mix.tasks (model_at mix.models m) right.draft.few (right.draft.each m (record { name = []; demand = 0; times = []; arcs = [] }) h),
     )) within in
-    omega (arith, helped, spread)
+    omega (arith, overload, spread)

@@ -2,7 +2,7 @@
 ghost use Rattle.std.specs.Prelude.{◌≡◌, ◌≤◌, ◌<◌, ◌+◌, ℕ, length, slice_index, slice_index_or, cond, nat_eq, sum, All};
 ghost use Rattle.combined_graph.specs.Mixes.{model_at, time_of};
 ghost use Rattle.line_rules.specs.Balance.{seat};
-ghost use Rattle.utility_work.specs.Utility.{work_at, help_of, next_start, help_from, station_utility};
+ghost use Rattle.utility_work.specs.Utility.{work_at, utility_of, next_start, utility_from, station_utility};
 
 use combined_graph::Mix;
 use line_rules::Balance;
@@ -18,14 +18,14 @@ pub fn utility_step(start: u64, work: u64, length: u64, interval: u64) -> (u64, 
     requires start { start ≤ 1000000000 }
     requires work { work ≤ 1024000000000 }
     requires length { length ≤ 1000000000 }
-    ensures help { result.0 ≡ help_of start work length }
+    ensures utility { result.0 ≡ utility_of start work length }
     ensures next { result.1 ≡ next_start start work length interval }
     ensures within { result.1 ≤ length }
     ensures own { start ≤ length → result.0 ≤ work }
 {
     let end = start + work;
-    let help = end.saturating_sub(length);
-    (help, (end - help).saturating_sub(interval))
+    let over = end.saturating_sub(length);
+    (over, (end - over).saturating_sub(interval))
 }
 
 // The time of a model's task, where the task is at the station, counted from 1.
@@ -73,23 +73,23 @@ fn works_at(mix: &Mix, balance: &Balance, station: u32) -> [u64; MAX_MODELS]
 }
 
 // The utility work of all units at one station, which reaches so far.
-fn help_at(works: &[u64; MAX_MODELS], sequence: &[u32], interval: u64, reach: u64) -> u64
+fn utility_at(works: &[u64; MAX_MODELS], sequence: &[u32], interval: u64, reach: u64) -> u64
     requires limit { (m : ℕ) → slice_index_or works.now m 0 ≤ 1024000000000 }
     requires few { length sequence.now ≤ 100000 }
     requires models { All (λ m. m < 16) sequence.now }
     requires reach { reach ≤ 1000000000 }
-    ensures help { result ≡ help_from reach interval (λ m. slice_index_or works.now m 0) 0 sequence.now }
+    ensures utility { result ≡ utility_from reach interval (λ m. slice_index_or works.now m 0) 0 sequence.now }
     ensures limit { result ≤ 102400000000000000 }
 {
-    let mut help = 0;
+    let mut sum = 0;
     let mut start = 0;
     for k in 0..sequence.len() {
         let work = works[sequence[k] as usize];
-        let (more, next) = utility_step(start, work, reach, interval);
-        help += more;
+        let (over, next) = utility_step(start, work, reach, interval);
+        sum += over;
         start = next;
     }
-    help
+    sum
 }
 
 // The sum of all stations.
@@ -108,7 +108,7 @@ fn total_of(per: &[u64]) -> u128
 /// station into `per`, the first station first, and answers their sum.
 ///
 /// The interval and the lengths of the stations are in the mix's time unit. The sum is at most 102,400,000,000,000,000,
-/// since helpers do no more than the work of the units.
+/// since there is no more of it than work of the units.
 pub fn utility(
     mix: &Mix,
     balance: &Balance,
@@ -133,7 +133,7 @@ pub fn utility(
     let _tasks = mix.tasks();
     for k in 0..lengths.len() {
         let works = works_at(mix, balance, k as u32 + 1);
-        per[k] = help_at(&works, sequence, interval, lengths[k]);
+        per[k] = utility_at(&works, sequence, interval, lengths[k]);
     }
     total_of(per)
 }
