@@ -44,4 +44,11 @@ pub record PassOf : Type 0 where
 
 -- a pass as a desk: it isn't alone, and the room for offers was made
 abbrev pub desk_by : PassView → DeskView
-desk_by v = record { about = v.base.about; opening = v.base.opening; seen = v.seen; own = v.own; alone = false; roomy = true }
+desk_by v = record {
+  about = v.base.about;
+  opening = v.base.opening;
+  seen = v.seen;
+  own = v.own;
+  alone = false;
+  roomy = true;
+}

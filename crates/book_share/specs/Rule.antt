@@ -16,23 +16,53 @@ use Rattle.book_share.specs.Places.{but_last, longer, shorter, times, once_from,
 
 -- the first pass, of a book as it is at the start: it has seen the whole log, and all parts are its own
 abbrev pub newcomer : BookView → PassView
-newcomer b = record { base = record { about = b.about; opening = b.opening; from = length b.events }; seen = b.events; own = []; heard = []; tries = 0; met = 0; reads = 0; read = 0; parts = 1024; phase = Idle }
+newcomer b = record {
+  base = record { about = b.about; opening = b.opening; from = length b.events };
+  seen = b.events;
+  own = [];
+  heard = [];
+  tries = 0;
+  met = 0;
+  reads = 0;
+  read = 0;
+  parts = 1024;
+  phase = Idle;
+}
 
 -- a pass of which one part goes, where it has two or more, and the pass to which it goes; else both have none
 abbrev pub left_of : PassView → PassView
-left_of v = record { base = v.base; seen = v.seen; own = v.own; heard = v.heard; tries = v.tries; met = v.met; reads = v.reads; read = v.read; parts = cond (nat_lt 1 v.parts) (v.parts - 1) 0; phase = Idle }
+left_of v = record v { parts = cond (nat_lt 1 v.parts) (v.parts - 1) 0; phase = Idle }
 
 abbrev pub right_of : PassView → PassView
-right_of v = record { base = v.base; seen = v.seen; own = []; heard = []; tries = 0; met = 0; reads = 0; read = 0; parts = cond (nat_lt 1 v.parts) 1 0; phase = Idle }
+right_of v = record v {
+  own = [];
+  heard = [];
+  tries = 0;
+  met = 0;
+  reads = 0;
+  read = 0;
+  parts = cond (nat_lt 1 v.parts) 1 0;
+  phase = Idle;
+}
 
 -- a pass into which another was joined: it has the longer list, the places and the parts of both
 abbrev pub both_of : PassView → PassView → PassView
-both_of v w = record { base = v.base; seen = longer v.seen w.seen; own = merged v.own w.own; heard = shorter v.seen w.seen; tries = v.tries; met = v.met; reads = v.reads; read = v.read; parts = v.parts + w.parts; phase = Idle }
+both_of v w = record v {
+  seen = longer v.seen w.seen;
+  own = merged v.own w.own;
+  heard = shorter v.seen w.seen;
+  parts = v.parts + w.parts;
+  phase = Idle;
+}
 
 -- what is left of a pass that was joined into another
 abbrev pub spent : PassView
 spent = record {
-  base = record { about = record { line = record { times = []; before = []; apart = []; order = [] }; kind = Straight; cycle = 0 }; opening = record { entries = []; stations = 0 }; from = 0 };
+  base = record {
+    about = record { line = record { times = []; before = []; apart = []; order = [] }; kind = Straight; cycle = 0 };
+    opening = record { entries = []; stations = 0 };
+    from = 0;
+  };
   seen = [];
   own = [];
   heard = [];
@@ -125,11 +155,13 @@ pub record Kept (s : State (Option BookView) PassView) : Type 0 where
   pub home : Home view.phase view.base view.seen s.homes
   pub stands : Stands view.base view.seen (counted view.phase view.seen)
   -- every other pass is spent, or between two calls with a beginning of the history
-  pub others : (j : ℕ) (v : PassView) → j ≢ at → get_elem? s.views j ≡ some v → (v ≡ spent) ⊎ IsIdle view.base (shown view.phase view.seen) v
+  pub others : (j : ℕ) (v : PassView) → j ≢ at → get_elem? s.views j ≡ some v
+      → (v ≡ spent) ⊎ IsIdle view.base (shown view.phase view.seen) v
   pub rises : (j : ℕ) (v : PassView) → get_elem? s.views j ≡ some v → OwnRises v
   pub heard : (j : ℕ) (v : PassView) → get_elem? s.views j ≡ some v → Begins v.heard v.seen
   -- each place from the start on is an own place of one pass, once
   pub places : (x : ℕ) → own_times x s.views ≡ once_from view.base.from (length view.seen) x
   -- there are at most 1,024 parts, and where there are so many, each pass has one
   pub parts : all_parts s.views ≤ 1024
-  pub each : all_parts s.views ≡ 1024 → (j : ℕ) (v : PassView) → get_elem? s.views j ≡ some v → (v ≡ spent) ⊎ (1 ≤ v.parts)
+  pub each : all_parts s.views ≡ 1024 → (j : ℕ) (v : PassView) → get_elem? s.views j ≡ some v
+      → (v ≡ spent) ⊎ (1 ≤ v.parts)

@@ -15,27 +15,27 @@ Mine = Me (Option BookView) PassView
 
 -- the turn was held
 abbrev pub missed : PassView → PassView
-missed v = record { base = v.base; seen = v.seen; own = v.own; heard = v.heard; tries = suc v.tries; met = 1; reads = v.reads; read = v.read; parts = v.parts; phase = Idle }
+missed v = record v { tries = suc v.tries; met = 1; phase = Idle }
 
 -- the turn was had, and the whole history h seen
 abbrev pub taken : PassView → List Item → PassView
-taken v h = record { base = v.base; seen = h; own = v.own; heard = v.heard; tries = suc v.tries; met = 0; reads = v.reads; read = v.read; parts = v.parts; phase = Holding }
+taken v h = record v { seen = h; tries = suc v.tries; met = 0; phase = Holding }
 
 -- the last event of h was recorded, at a place of the pass's own
 abbrev pub recorded : PassView → List Item → PassView
-recorded v h = record { base = v.base; seen = h; own = v.own ++ length v.seen ∷ []; heard = v.heard; tries = v.tries; met = v.met; reads = v.reads; read = v.read; parts = v.parts; phase = Recorded }
+recorded v h = record v { seen = h; own = v.own ++ length v.seen ∷ []; phase = Recorded }
 
 -- the least count was lowered to that of the offer recorded
 abbrev pub lowered : PassView → PassView
-lowered v = record { base = v.base; seen = v.seen; own = v.own; heard = v.heard; tries = v.tries; met = v.met; reads = v.reads; read = v.read; parts = v.parts; phase = Lowered }
+lowered v = record v { phase = Lowered }
 
 -- the turn was given back
 abbrev pub given : PassView → PassView
-given v = record { base = v.base; seen = v.seen; own = v.own; heard = v.heard; tries = v.tries; met = v.met; reads = v.reads; read = v.read; parts = v.parts; phase = Idle }
+given v = record v { phase = Idle }
 
 -- a load found n
 abbrev pub loaded : PassView → ℕ → PassView
-loaded v n = record { base = v.base; seen = v.seen; own = v.own; heard = v.heard; tries = v.tries; met = v.met; reads = suc v.reads; read = n; parts = v.parts; phase = Idle }
+loaded v n = record v { reads = suc v.reads; read = n; phase = Idle }
 
 -- what the taker of the turn learns of the book, which it then has
 pub record IsHad (v : PassView) (b : BookView) : Type 0 where

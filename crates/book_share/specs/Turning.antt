@@ -28,15 +28,16 @@ IsQuiet (better stations) = ⊥
 
 -- the pass after a turn that recorded the event that ends h
 abbrev pub noted : PassView → List Item → PassView
-noted v h = record { base = v.base; seen = h; own = v.own ++ length v.seen ∷ []; heard = v.heard; tries = v.tries; met = v.met; reads = v.reads; read = v.read; parts = v.parts; phase = Idle }
+noted v h = record v { seen = h; own = v.own ++ length v.seen ∷ []; phase = Idle }
 
 -- the pass after some tries
 abbrev pub waited : PassView → ℕ → ℕ → PassView
-waited v t n = record { base = v.base; seen = v.seen; own = v.own; heard = v.heard; tries = t; met = n; reads = v.reads; read = v.read; parts = v.parts; phase = Idle }
+waited v t n = record v { tries = t; met = n; phase = Idle }
 
 -- the turn was had after some tries
 abbrev pub HasWaited : PassView → Mine → BookView → Type 0
-HasWaited v m b = (t : ℕ) × (n : ℕ) × (v.tries ≤ t) × (m ≡ (taken (waited v t n) b.events, (0, None) ∷ [])) × IsHad (waited v t n) b
+HasWaited v m b =
+    (t : ℕ) × (n : ℕ) × (v.tries ≤ t) × (m ≡ (taken (waited v t n) b.events, (0, None) ∷ [])) × IsHad (waited v t n) b
 
 -- A turn that began with the book in hand, as m knows it, is over: what the pass has seen is exact and its own places
 -- rise, and nothing else changed but these two lists.

@@ -12,6 +12,7 @@ use std::sync::Wait;
 use task_set::TaskSet;
 
 /// A desk at a shared book: it isn't alone, and its list is what the pass has seen.
+#[derive(Drop)]
 pub struct Desked<'a, R: Wait> {
     /// The leave to wait for the turn.
     pub rt: &'a R,

@@ -1,6 +1,8 @@
-//! The calls of a share. Each but `least`, `glance`, `split` and `join` is one turn (turns.rt): what it answers is the
-//! book's answer at that point of the one history, and the pass has then seen the history up to there. A turn costs what
-//! the book's call costs and three or four atomic steps; the other calls cost one or two.
+//! The calls of a share.
+//!
+//! Each but `least`, `glance`, `split` and `join` is one turn (turns.rt): what it answers is the book's answer at that
+//! point of the one history, and the pass has then seen the history up to there. A turn costs what the book's call costs
+//! and three or four atomic steps; the other calls cost one or two.
 ghost use Rattle.std.specs.Prelude.{◌≡◌, ◌≤◌, length, IfSome, IfNone};
 ghost use Rattle.line_rules.specs.Balance.{IsRight};
 ghost use Rattle.lemma_core.specs.History.{Begins};
@@ -105,8 +107,8 @@ impl Share {
         self.table.shared.load::<LoadBest>(&mut pass.seat, LEAST) as u32
     }
 
-    /// The number of events of the history so far: never less than what the pass has seen. It waits for nobody, and what
-    /// the pass has seen stays.
+    /// The number of events of the history so far: never less than what the pass has seen. It waits for nobody, and
+    /// what the pass has seen stays.
     pub fn glance(&self, pass: &mut Pass) -> u64
         requires { IsPassOf self.now pass.old }
         ensures pass { IsPassOf self.now pass.new }

@@ -1,6 +1,7 @@
-//! A turn, on a seat at the table: the turn and the book are taken, the book is asked, and both are given back. An event
-//! is counted when the book is home in its slot already, and before the turn is free, so its place is its number in the
-//! one history. Who finds the turn held spins for a while, and then yields the processor between tries.
+//! A turn, on a seat at the table: the turn and the book are taken, the book is asked, and both are given back.
+//!
+//! An event is counted when the book is home in its slot already, and before the turn is free, so its place is its
+//! number in the one history. Who finds the turn held spins for a while, and then yields the processor between tries.
 ghost use Rattle.std.specs.Prelude.{◌≡◌, [], ◌∷◌, IfSome, IfNone, None};
 ghost use Rattle.line_rules.specs.Balance.{IsRight};
 ghost use Rattle.lemma_core.specs.History.{Item, AreExact, better};

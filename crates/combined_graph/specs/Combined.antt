@@ -21,7 +21,8 @@ all_arcs models = flat_map (λ m. m.arcs) models
 abbrev pub total_demand : List LineModel → ℕ
 total_demand models = sum_by (λ m. m.demand) models
 
--- the combined instance: each task's combined time, and a task before another where a walk along arcs of any models leads to it
+-- the combined instance: each task's combined time, and a task before another where a walk along arcs of any models
+-- leads to it
 pub record IsCombined (mix : MixedLine) (line : Line) : Type 0 where
   pub tasks : tasks line ≡ mix.tasks
   pub times : (t : ℕ) → t < mix.tasks → time line t ≡ combined_time mix.models t

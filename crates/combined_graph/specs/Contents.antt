@@ -23,14 +23,18 @@ arc_in name (word ∷ model ∷ i ∷ j ∷ []) =
     cond (bytes_eq word (codes "arc") && bytes_eq model name) (Some (record { first = value_of i - 1; «then» = value_of j - 1 })) None
 arc_in name fields = None
 
--- Records tell a mix: the first one the number of tasks; its models, each with a name of its own, are those of the records in their
--- order; the time of a task is that of its one record, and no time where there is none; and a model's arcs are those of the records.
+-- Records tell a mix: the first one the number of tasks; its models, each with a name of its own, are those of the
+-- records in their order; the time of a task is that of its one record, and no time where there is none; and a model's
+-- arcs are those of the records.
 pub record IsMixOf (records : List Fields) (mix : MixedLine) : Type 0 where
   pub number : List ℕ
   pub rest : List Fields
   pub all : records ≡ (codes "tasks" ∷ number ∷ [] ∷ [] ∷ []) ∷ rest
   pub tasks : mix.tasks ≡ value_of number
   pub models : map (λ m. (m.name, m.demand)) mix.models ≡ filter_map model_in rest
-  pub once : (j k : ℕ) → j < length mix.models → k < length mix.models → (model_at mix.models j).name ≡ (model_at mix.models k).name → j ≡ k
-  pub times : (m t : ℕ) → m < length mix.models → option_to_list (given_time (model_at mix.models m) t) ≡ filter_map (time_in (model_at mix.models m).name t) rest
-  pub arcs : (m : ℕ) → m < length mix.models → (model_at mix.models m).arcs ≡ filter_map (arc_in (model_at mix.models m).name) rest
+  pub once : (j k : ℕ) → j < length mix.models → k < length mix.models
+      → (model_at mix.models j).name ≡ (model_at mix.models k).name → j ≡ k
+  pub times : (m t : ℕ) → m < length mix.models
+      → option_to_list (given_time (model_at mix.models m) t) ≡ filter_map (time_in (model_at mix.models m).name t) rest
+  pub arcs : (m : ℕ) → m < length mix.models
+      → (model_at mix.models m).arcs ≡ filter_map (arc_in (model_at mix.models m).name) rest

@@ -1,4 +1,5 @@
--- Mixes: several models of a product that are built on one line, each with a demand, with times and with arcs of its own.
+-- Mixes: several models of a product that are built on one line, each with a demand, with times and with arcs of its
+-- own.
 use Rattle.std.specs.Prelude.{◌≡◌, ◌||◌, ◌&&◌, ℕ, ◌<◌, ◌≤◌, Bool, true, nat_eq, nat_lt, nat_le, bytes_eq, List, [], length, slice_index_or, replicate, Option, None, unwrap_or, sum_by, position}
 use Rattle.std.specs.Char.{is_ascii_alphanumeric}
 use Rattle.std.specs.List.{All, list_all}
@@ -49,7 +50,8 @@ is_name_byte b = is_ascii_alphanumeric b || (nat_eq b 45 || nat_eq b 95)
 abbrev pub is_name : List ℕ → Bool
 is_name name = nat_lt 0 (length name) && (nat_le (length name) 32 && list_all is_name_byte name)
 
--- what is true of each model of so many tasks: a demand of 1 to 10,000, times up to 1,000,000,000, and arcs of these tasks
+-- what is true of each model of so many tasks: a demand of 1 to 10,000, times up to 1,000,000,000, and arcs of these
+-- tasks
 pub record IsModel (tasks : ℕ) (model : LineModel) : Type 0 where
   pub name : is_name model.name ≡ true
   pub some : 0 < model.demand

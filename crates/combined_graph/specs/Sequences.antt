@@ -20,8 +20,8 @@ pub record IsFirstUnknown (models : List LineModel) (names : List (List ℕ)) (k
   pub unknown : model_named models (slice_index_or names (k - 1) []) ≡ None
   pub known : All (IsNamed models) (take (k - 1) names)
 
--- Each answer with its cause: the model of each of at most 100,000 units; the first unit without a model, which is none behind the
--- 100,000th; or there are more units, and the first 100,000 are known.
+-- Each answer with its cause: the model of each of at most 100,000 units; the first unit without a model, which is none
+-- behind the 100,000th; or there are more units, and the first 100,000 are known.
 abbrev pub IsSequenceRead : List LineModel → List ℕ → SeqRead → Type 0
 IsSequenceRead models text (Good units) = (map (model_named models) (unit_names text) ≡ map Some units.items) × (length (unit_names text) ≤ 100000)
 IsSequenceRead models text (UnknownModel k) = IsFirstUnknown models (unit_names text) k × (k ≤ 100000)

@@ -21,7 +21,7 @@ pub enum Combined {
     /// The arcs of the models have a cycle together; a closed walk without a repeated task, written from its least
     /// task.
     Cycle(Ring),
-    /// Memory is wanting.
+    /// Out of memory.
     NoMemory,
 }
 

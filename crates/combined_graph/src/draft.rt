@@ -37,7 +37,7 @@ const MAX_ARCS: usize = 524_288;
 /// Why a record isn't taken.
 #[derive(Drop)]
 pub enum Stop {
-    /// Memory is wanting.
+    /// Out of memory.
     Memory,
     /// The record has a fault.
     Fault(MixKind),

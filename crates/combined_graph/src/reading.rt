@@ -25,7 +25,7 @@ pub enum MixRead {
     Good(Mix),
     /// The first record at fault.
     Fault(MixFault),
-    /// Memory is wanting.
+    /// Out of memory.
     NoMemory,
 }
 

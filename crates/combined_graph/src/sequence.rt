@@ -23,7 +23,7 @@ pub enum SeqRead {
     UnknownModel(u64),
     /// The text has more than 100,000 units, and each of the first 100,000 names a model.
     TooManyUnits,
-    /// Memory is wanting.
+    /// Out of memory.
     NoMemory,
 }
 

@@ -1,5 +1,6 @@
--- Utility work (Scholl): units of models come to a closed station one launch interval apart, and whatever a worker can't do before the
--- station's end is done by a utility worker. Places in a station are told in units of time, and `-` stops at 0.
+-- Utility work (Scholl): units of models come to a closed station one launch interval apart, and whatever a worker
+-- can't do before the station's end is done by a utility worker. Places in a station are told in units of time, and `-`
+-- stops at 0.
 use Rattle.std.specs.Prelude.{ℕ, ◌+◌, ◌-◌, nat_eq, List, [], ◌∷◌, map, unwrap_or}
 use Rattle.combined_graph.specs.Mixes.{LineModel, MixedLine, model_at}
 use Rattle.line_instance.specs.Sums.{sum_where}
