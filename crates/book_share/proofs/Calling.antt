@@ -5,7 +5,6 @@ use Rattle.lemma_core.specs.History.{AreExact}
 use Rattle.lemma_core.specs.Books.{BookView}
 use Rattle.lemma_core.specs.Desks.{FollowsSeen, Waits}
 use Rattle.book_share.specs.Passes.{PassView, desk_by}
-use Rattle.book_share.specs.Places.{Rises}
 use Rattle.book_share.specs.Rule.{OwnRises, right_of}
 use Rattle.book_share.specs.Steps.{Mine, missed, taken, given, loaded, IsHad}
 use Rattle.book_share.specs.Turning.{Holds}

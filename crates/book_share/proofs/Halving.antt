@@ -1,5 +1,5 @@
 -- Split and join keep the rule.
-use Rattle.std.proofs.Common.{◌≡◌, ◌≢◌, ◌⊎◌, ℕ, ◌+◌, ◌-◌, ◌<◌, ◌≤◌, cond, List, [], ◌∷◌, ◌++◌, length, set, refl, sym, ap, ◌∙◌, subst, inl, inr, arith}
+use Rattle.std.proofs.Common.{◌≡◌, ◌≢◌, ◌⊎◌, ℕ, ◌+◌, ◌-◌, ◌≤◌, cond, List, [], ◌∷◌, ◌++◌, length, set, refl, sym, ap, ◌∙◌, subst, inl, inr, arith}
 use Rattle.std.specs.Prelude.{nat_lt}
 use Rattle.std.proofs.lemmas.Bool.Decides.{nat_tests}
 use mathlib.Core.Option.{some}
@@ -9,7 +9,7 @@ use lib.ListN.{get_elem?}
 use Rattle.atomic_table.specs.Table.{Splits, Joins}
 use Rattle.atomic_table.proofs.Lists.{at_set, at_snoc, at_longer, set_else}
 use Rattle.lemma_core.specs.History.{Item, Begins}
-use Rattle.book_share.specs.Passes.{Phase, Idle, Spent, Base, PassView}
+use Rattle.book_share.specs.Passes.{Phase, Idle, Base, PassView}
 use Rattle.book_share.specs.Places.{longer, times, once_from, Rises, total}
 use Rattle.book_share.specs.Rule.{spent, turn_of, shown, counted, fewest, Stands, Home, IsIdle, OwnRises, all_parts, own_times, Kept, left_of, right_of, both_of}
 use Rattle.book_share.proofs.Lists.{begins_refl, begins_length, begins_longer, longer_left, longer_right, rises_le, rises_wider, times_merged, rises_merged, begins_both, begins_shorter, once_le}

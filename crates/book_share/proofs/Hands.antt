@@ -1,8 +1,7 @@
 -- The book in hand: what its calls tell as a desk is what the pass with the turn may be told.
-use Rattle.std.proofs.Common.{◌≡◌, ◌≢◌, ℕ, ◌<◌, ◌≤◌, suc, Bool, true, false, List, [], ◌∷◌, ◌++◌, length, length-append, refl, sym, ap, ◌∙◌, subst, arith, append-nil, None}
+use Rattle.std.proofs.Common.{◌≡◌, ◌≢◌, ℕ, ◌<◌, ◌≤◌, suc, Bool, true, List, [], ◌∷◌, ◌++◌, length, length-append, refl, sym, ap, ◌∙◌, subst, arith, append-nil}
 use Rattle.std.proofs.lemmas.Bool.{true≢false}
 use Rattle.std.proofs.lemmas.Bool.Decides.{nat_tests}
-use Rattle.line_instance.specs.Line.{tasks}
 use Rattle.line_rules.specs.Accepted.{HasBalance}
 use Rattle.line_rules.specs.Balance.{seat}
 use Rattle.line_rules.specs.Entries.{Follows, IsDerived, IsLastAnswer, IsUnanswered}
@@ -15,10 +14,10 @@ use Rattle.lemma_core.specs.declared.types.Offered.TheVariants as offered
 use Rattle.lemma_core.specs.Machine.{About}
 use Rattle.lemma_core.specs.History.{Item, added, known, better, Standing, replay, Begins, AreExact}
 use Rattle.lemma_core.specs.Books.{BookView, IsBook, IsReserved, desk_of}
-use Rattle.lemma_core.specs.Desks.{DeskView, entries, entries_after, fewest_after, HasDerived, FollowsSeen, Keeps, Waits, Adds, Finds, Publishes, Offers, Tells}
+use Rattle.lemma_core.specs.Desks.{entries, HasDerived, FollowsSeen, Waits, Adds, Finds, Publishes, Offers}
 use Rattle.lemma_core.proofs.BookAsDesk.{is_roomy, fewest_seen}
 use Rattle.lemma_core.proofs.HistoryGrows.{follows_still}
-use Rattle.book_share.specs.Passes.{Holding, Base, PassView, desk_by}
+use Rattle.book_share.specs.Passes.{Base, PassView, desk_by}
 use Rattle.book_share.specs.Places.{Rises}
 use Rattle.book_share.specs.Rule.{IsFor, IsReached, OwnRises, fewest}
 use Rattle.book_share.specs.Steps.{Mine}

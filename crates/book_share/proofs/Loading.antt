@@ -1,5 +1,5 @@
 -- The other kinds of step on the words: lower, and the loads.
-use Rattle.std.proofs.Common.{◌≡◌, ◌≢◌, ◌⊎◌, ℕ, ◌<◌, ◌≤◌, min, List, [], ◌∷◌, ◌++◌, length, set, inr, refl, sym, ap, ◌∙◌, subst, arith, Option}
+use Rattle.std.proofs.Common.{◌≡◌, ◌≢◌, ◌⊎◌, ℕ, min, List, [], ◌∷◌, ◌++◌, length, set, inr, refl, sym, ap, ◌∙◌, subst, arith, Option}
 use Rattle.std.specs.Prelude.{slice_index, slice_set}
 use mathlib.Core.Option.{some, none}
 use mathlib.Core.Logic.{dite}

@@ -8,7 +8,6 @@ use lib.ListN.{get_elem?}
 use prog.Atomic.{either}
 use Rattle.atomic_table.specs.Table.{State, step, Act, keeps, takes, gives, Allows, Valid, stepped, carried_after, opening}
 use Rattle.atomic_table.proofs.Lists.{set_else, exchanged}
-use Rattle.line_instance.specs.Line.{tasks}
 use Rattle.lemma_core.specs.History.{Item, replay, Begins, AreExact}
 use Rattle.lemma_core.specs.Books.{BookView, IsReserved}
 use Rattle.book_share.specs.Passes.{Phase, Idle, Holding, Recorded, Lowered, Spent, Base, PassView}

@@ -1,13 +1,13 @@
 -- What the calls of a share promise of a pass: what it has seen, its own places, its tries, its loads and its parts.
 -- Each answer is in the words of a desk (lemma_core), on a list that begins with what was seen before. Own.
-use Rattle.std.specs.Prelude.{◌≡◌, ℕ, suc, ◌<◌, ◌≤◌, List, length, slice_get, Option, Some, None}
+use Rattle.std.specs.Prelude.{◌≡◌, ℕ, suc, ◌<◌, ◌≤◌, slice_get, Option, Some, None}
 use Rattle.atomic_table.specs.Seated.{TableId}
 use Rattle.line_rules.specs.declared.types.Entry.{Entry}
 use Rattle.lemma_core.specs.declared.types.Looked.{Looked}
 use Rattle.lemma_core.specs.declared.types.Looked.TheVariants as looked
 use Rattle.lemma_core.specs.declared.types.Published.{Published}
 use Rattle.lemma_core.specs.declared.types.Published.TheVariants as published
-use Rattle.lemma_core.specs.History.{Begins, AreExact}
+use Rattle.lemma_core.specs.History.{AreExact}
 use Rattle.lemma_core.specs.Books.{BookView}
 use Rattle.lemma_core.specs.Desks.{HasOwn}
 use Rattle.book_share.specs.declared.pass.TryLooked.{TryLooked}

@@ -9,7 +9,7 @@ use Rattle.line_instance.specs.Line.{tasks}
 use Rattle.line_rules.specs.Accepted.{HasBalance}
 use Rattle.line_rules.specs.declared.types.LineKind.TheVariants.{Straight}
 use Rattle.lemma_core.specs.Machine.{About}
-use Rattle.lemma_core.specs.History.{Item, Standing, replay, Begins, AreExact}
+use Rattle.lemma_core.specs.History.{Item, replay, Begins, AreExact}
 use Rattle.lemma_core.specs.Books.{BookView, IsReserved}
 use Rattle.book_share.specs.Passes.{Phase, Idle, Holding, Recorded, Lowered, Spent, Base, PassView}
 use Rattle.book_share.specs.Places.{but_last, longer, shorter, times, once_from, Rises, merged, total}

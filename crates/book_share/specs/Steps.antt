@@ -2,8 +2,6 @@
 -- and only an attempt to take the turn changes `tries` and `met`, only a load `reads` and `read`. Own.
 use Rattle.std.specs.Prelude.{◌≡◌, ◌≢◌, ℕ, suc, ◌<◌, ◌≤◌, List, [], ◌∷◌, ◌++◌, length, Option, Some, None}
 use Rattle.atomic_table.specs.Table.{Step, Me}
-use Rattle.line_instance.specs.Line.{tasks}
-use Rattle.line_rules.specs.Accepted.{HasBalance}
 use Rattle.lemma_core.specs.History.{Item, Begins, AreExact}
 use Rattle.lemma_core.specs.Books.{BookView}
 use Rattle.book_share.specs.Passes.{Idle, Holding, Recorded, Lowered, PassView}

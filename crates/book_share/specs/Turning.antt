@@ -1,7 +1,7 @@
 -- What a pass has in hand in a turn. Own.
 use Rattle.std.specs.Prelude.{◌≡◌, ℕ, ◌≤◌, List, [], ◌∷◌, ◌++◌, length, None}
 use Rattle.lemma_core.specs.History.{Item, added, known, better}
-use Rattle.lemma_core.specs.Books.{BookView, IsBook}
+use Rattle.lemma_core.specs.Books.{BookView}
 use Rattle.book_share.specs.Passes.{Holding, Idle, PassView}
 use Rattle.book_share.specs.Rule.{IsFor}
 use Rattle.book_share.specs.Steps.{Mine, taken, IsHad}

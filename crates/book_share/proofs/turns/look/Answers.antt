@@ -1,6 +1,5 @@
-use Rattle.std.proofs.Common.{Bool, List, ℕ, sym, ap, subst}
-use Rattle.lemma_core.specs.declared.types.Looked.{Looked}
-use Rattle.lemma_core.specs.Books.{BookView, desk_of}
+use Rattle.std.proofs.Common.{sym, subst}
+use Rattle.lemma_core.specs.Books.{BookView}
 use Rattle.lemma_core.specs.Desks.{entries, HasDerived, Finds}
 use Rattle.book_share.specs.Passes.{desk_by}
 use Rattle.book_share.specs.Rule.{IsFor}

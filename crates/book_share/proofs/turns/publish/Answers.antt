@@ -1,6 +1,6 @@
-use Rattle.std.proofs.Common.{◌∙◌, sym, subst}
-use Rattle.lemma_core.specs.Books.{BookView, desk_of}
-use Rattle.lemma_core.specs.Desks.{HasDerived, Waits}
+use Rattle.std.proofs.Common.{sym, subst}
+use Rattle.lemma_core.specs.Books.{BookView}
+use Rattle.lemma_core.specs.Desks.{HasDerived}
 use Rattle.book_share.specs.Passes.{desk_by}
 use Rattle.book_share.specs.Steps.{Mine, given}
 use Rattle.book_share.specs.Turning.{Holds}

@@ -1,4 +1,4 @@
-use Rattle.std.proofs.Common.{◌≡◌, ◌≤◌, suc, [], ◌∷◌, None, refl, sym, ap, ◌∙◌, subst, arith}
+use Rattle.std.proofs.Common.{◌≡◌, suc, [], ◌∷◌, None, refl, sym, ap, ◌∙◌, subst, arith}
 use Rattle.book_share.specs.Passes.{PassView}
 use Rattle.book_share.specs.Steps.{Mine, missed, taken, given, IsHad}
 use Rattle.book_share.specs.Turning.{waited}

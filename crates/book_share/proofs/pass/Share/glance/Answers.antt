@@ -1,4 +1,4 @@
-use Rattle.std.proofs.Common.{ℕ, [], refl, sym, subst, rules}
+use Rattle.std.proofs.Common.{[], refl, sym, subst, rules}
 use mathlib.Core.Option.{none}
 use Rattle.atomic_table.specs.Table.{Allows, step}
 use Rattle.book_share.specs.Rule.{Kept}

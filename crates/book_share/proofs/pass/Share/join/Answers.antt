@@ -1,5 +1,5 @@
 use Rattle.std.proofs.Common.{◌≡◌, [], refl, sym, ap, ◌∙◌, subst, arith, rules}
-use Rattle.lemma_core.specs.History.{Begins, AreExact}
+use Rattle.lemma_core.specs.History.{AreExact}
 use Rattle.book_share.specs.Passes.{PassView, PassOf}
 use Rattle.book_share.specs.Places.{times}
 use Rattle.book_share.specs.Rule.{both_of, OwnRises}
@@ -7,7 +7,7 @@ use Rattle.book_share.specs.Steps.{Mine, IsJoined}
 use Rattle.book_share.specs.Inside.{IsResting}
 use Rattle.book_share.proofs.Halving.{joins}
 use Rattle.book_share.proofs.Loading.{settles}
-use Rattle.book_share.proofs.Lists.{rises_once, times_merged, begins_both}
+use Rattle.book_share.proofs.Lists.{rises_once, times_merged}
 use Rattle.book_share.proofs.Calling.{sound_of}
 use Rattle.book_share.proofs.pass.Share.join.Goals as goal
 

@@ -1,4 +1,4 @@
-use Rattle.std.proofs.Common.{subst, sym, rules, Option, Some}
+use Rattle.std.proofs.Common.{subst, sym, rules, Option}
 use Rattle.std.specs.Option.{IfSome}
 use Rattle.lemma_core.specs.declared.types.Published.{Published}
 use Rattle.lemma_core.specs.Desks.{FollowsSeen, Publishes}

@@ -1,4 +1,4 @@
-use Rattle.std.proofs.Common.{ℕ, ◌-◌}
+use Rattle.std.proofs.Common.{◌-◌}
 use Rattle.book_share.proofs.tests.threads.+fn-in_threads-join+arg2+fn-in_threads-join+arg3+in_threads.Given as goal
 
 abbrev pub decreases-join+arg2 : goal.decreases-join+arg2
