@@ -55,7 +55,7 @@ pub fn take(room: &Room, seat: &mut Sitter) -> Option<Book>
     if found != 0 {
         return None;
     }
-    Some(room.shared.exchange(seat, BOOK, None).unwrap())
+    room.shared.exchange(seat, BOOK, None)
 }
 
 /// Waits for the turn, and takes it and the book.
