@@ -169,7 +169,7 @@ impl Share {
     }
 
     /// A further pass, which has seen the same and has no place of its own. One of the pass's parts goes to it, where
-    /// the pass has two or more; else both have none. There is no limit to the number of passes.
+    /// the pass has two or more; else both have none.
     pub fn split(&self, pass: &mut Pass) -> Pass
         requires { IsPassOf self.now pass.old }
         ensures passes { IsPassOf self.now pass.new × IsPassOf self.now result }
