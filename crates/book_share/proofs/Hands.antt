@@ -62,7 +62,7 @@ reached_for v b is ok = over (λ x. IsReached x.0 (replay x.1.0 x.1.1).stations)
 -- a pass that sees more
 pub waits_by : (v w : PassView) → w.base ≡ v.base → w.own ≡ v.own → Begins v.seen w.seen → Waits (desk_by v) (desk_by w)
 waits_by v w base own seen = record {
-  keeps = record { about = ap (λ (x : Base). x.about) base; opening = ap (λ (x : Base). x.opening) base; alone = refl; roomy = λ t. t; seen = seen };
+  keeps = record { about = ap (λ (x : Base). x.about) base; opening = ap (λ (x : Base). x.opening) base; alone = refl; roomy = λ t. t; kept = refl; seen = seen };
   own = own;
   still = λ t. absurd (true≢false (sym t));
 }
@@ -78,6 +78,7 @@ adds_from v t w before i a b = record {
     opening = b.keeps.opening ∙ a.keeps.opening;
     alone = refl;
     roomy = λ z. z;
+    kept = refl;
     seen = begins_trans v.seen t.seen w.seen a.keeps.seen b.keeps.seen;
   };
   last = b.last;
@@ -93,6 +94,7 @@ waits_from v t w a b = record {
     opening = b.keeps.opening ∙ a.keeps.opening;
     alone = refl;
     roomy = λ z. z;
+    kept = refl;
     seen = begins_trans v.seen t.seen w.seen a.keeps.seen b.keeps.seen;
   };
   own = b.own ∙ a.own;
@@ -125,6 +127,7 @@ adds_by v w b b' before i is a base seen own =
         opening = ap (λ (x : Base). x.opening) base;
         alone = refl;
         roomy = λ z. z;
+        kept = refl;
         seen = (i ∷ [], ap (λ (h : List Item). h ++ i ∷ []) (sym same) ∙ sym last);
       };
       last = last;

@@ -1,5 +1,5 @@
 -- What contracts see of a pass, with which a caller works on a shared book. Own.
-use Rattle.std.specs.Prelude.{ℕ, false, true, List}
+use Rattle.std.specs.Prelude.{ℕ, false, true, List, []}
 use Rattle.atomic_table.specs.Seated.{TableId}
 use Rattle.lemma_core.specs.Machine.{About}
 use Rattle.lemma_core.specs.History.{Item, Standing}
@@ -51,4 +51,5 @@ desk_by v = record {
   own = v.own;
   alone = false;
   roomy = true;
+  kept = [];
 }

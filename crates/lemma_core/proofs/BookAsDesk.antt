@@ -39,7 +39,7 @@ has_derived b ok = let P : List Entry → Type 0 = λ es. IsDerived b.about.kind
 -- nothing changes
 pub stays : (b : BookView) → Waits (desk_of b) (desk_of b)
 stays b = record {
-  keeps = record { about = refl; opening = refl; alone = refl; roomy = λ t. t; seen = ([], append-nil b.events) };
+  keeps = record { about = refl; opening = refl; alone = refl; roomy = λ t. t; kept = refl; seen = ([], append-nil b.events) };
   own = refl;
   still = λ t. refl;
 }
@@ -87,6 +87,7 @@ adds b v item e = record {
     opening = refl;
     alone = refl;
     roomy = λ t. roomy_is (ran b (v ∷ [])) (reserved_ran b (v ∷ []) (is_roomy b t));
+    kept = refl;
     seen = (item ∷ [], sym e);
   };
   last = e;

@@ -37,7 +37,7 @@ begins_on : (xs ys zs : List Item) → Begins xs ys → Begins ys zs → Begins 
 begins_on xs ys zs a b = (a.0 ++ b.0, sym (append_assoc xs a.0 b.0) ∙ (ap (λ (w : List Item). w ++ b.0) a.1 ∙ b.1))
 
 pub keeps_none : (d : DeskView) → Keeps d d
-keeps_none d = record { about = refl; opening = refl; alone = refl; roomy = λ t. t; seen = ([], append-nil d.seen) }
+keeps_none d = record { about = refl; opening = refl; alone = refl; roomy = λ t. t; kept = refl; seen = ([], append-nil d.seen) }
 
 pub keeps_both : (a b c : DeskView) → Keeps a b → Keeps b c → Keeps a c
 keeps_both a b c k l = record {
@@ -45,6 +45,7 @@ keeps_both a b c k l = record {
   opening = l.opening ∙ k.opening;
   alone = l.alone ∙ k.alone;
   roomy = λ t. l.roomy (k.roomy t);
+  kept = l.kept ∙ k.kept;
   seen = begins_on a.seen b.seen c.seen k.seen l.seen;
 }
 

@@ -104,4 +104,5 @@ desk_of b = record {
   own = range_with_len 0 (length b.events);
   alone = true;
   roomy = nat_le (tasks b.about.line) (b.room + offers b.events);
+  kept = [];
 }

@@ -14,7 +14,8 @@ use Rattle.lemma_core.specs.declared.types.Offered.{Offered}
 use Rattle.lemma_core.specs.declared.types.Offered.TheVariants as offered
 
 -- What a desk is about; its opening state; the list of the events that it has seen, each a Publish or a better Offer;
--- the places of its own events in that list; whether it is alone; and whether the room for offers was made.
+-- the places of its own events in that list; whether it is alone; whether the room for offers was made; and numbers
+-- of its own that no call changes, by which a caller knows the desk again.
 pub record DeskView : Type 0 where
   pub about : About
   pub opening : Standing
@@ -22,6 +23,7 @@ pub record DeskView : Type 0 where
   pub own : List ℕ
   pub alone : Bool
   pub roomy : Bool
+  pub kept : List ℕ
 
 -- the entries that replay from the opening state by a list of events
 abbrev pub entries_after : DeskView → List Item → List Entry
@@ -47,13 +49,14 @@ HasDerived d = IsDerived d.about.kind d.about.line (entries d)
 abbrev pub FollowsSeen : DeskView → Entry → Type 0
 FollowsSeen d e = Follows d.about.kind d.about.line (entries d) e
 
--- what every call keeps: what the desk is about, its opening state, that room for offers was made; and its list
--- begins with the old one
+-- what every call keeps: what the desk is about, its opening state, that room for offers was made, and the numbers of
+-- its own; and its list begins with the old one
 pub record Keeps (old new : DeskView) : Type 0 where
   pub about : new.about ≡ old.about
   pub opening : new.opening ≡ old.opening
   pub alone : new.alone ≡ old.alone
   pub roomy : old.roomy ≡ true → new.roomy ≡ true
+  pub kept : new.kept ≡ old.kept
   pub seen : Begins old.seen new.seen
 
 -- A call that adds no event of its own. Where the desk is alone its list stays.

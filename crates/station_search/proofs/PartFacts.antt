@@ -60,7 +60,7 @@ own_push from to n h =
 
 -- what a book keeps, a part in it keeps
 keeps_too : (a b : BookView) (f t g u : ℕ) → Keeps (desk_of a) (desk_of b) → Keeps (part_of a f t) (part_of b g u)
-keeps_too a b f t g u k = record { about = k.about; opening = k.opening; alone = refl; roomy = k.roomy; seen = k.seen }
+keeps_too a b f t g u k = record { about = k.about; opening = k.opening; alone = refl; roomy = k.roomy; kept = refl; seen = k.seen }
 
 -- no call, no event
 part_waits : (b : BookView) (from to : ℕ) → Waits (part_of b from to) (part_of b from to)

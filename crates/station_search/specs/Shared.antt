@@ -1,5 +1,5 @@
 -- A part in a book that another caller works on too, as a desk: the searches of tests run at it.
-use Rattle.std.specs.Prelude.{ℕ, ◌-◌, false, List, ◌++◌, length}
+use Rattle.std.specs.Prelude.{ℕ, ◌-◌, false, List, [], ◌++◌, length}
 use Rattle.std.specs.List.{range_with_len}
 use Rattle.lemma_core.specs.Books.{BookView, desk_of}
 use Rattle.lemma_core.specs.Desks.{DeskView}
@@ -18,4 +18,5 @@ part_of b from to = record {
   own = own_of from to (length b.events);
   alone = false;
   roomy = (desk_of b).roomy;
+  kept = [];
 }
