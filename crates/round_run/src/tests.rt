@@ -146,23 +146,6 @@ fn solves_six_tasks_in_two_entries(rt: HostRuntime) -> Result<(), Fail> {
     Ok(())
 }
 
-#[test]
-fn lists_two_jobs_of_seven_tasks(rt: HostRuntime) -> Result<(), Fail> {
-    let alloc = rt.alloc();
-    let inst = seven(alloc)?;
-    let mut text = String::new(alloc);
-    for job in &jobs(alloc, &inst, LineKind::Straight, CYCLE, 4)? {
-        let (set, front) = (job.set, job.load.front);
-        let one = format!(in alloc; "{front} {set}|")?;
-        text.push_str(one.as_str())?;
-    }
-    assert_eq!(&rt;
-        text.as_str(),
-        "{1} {0, 2, 3, 4, 5, 6}|{0} {1, 2, 3, 4, 5, 6}|"
-    );
-    Ok(())
-}
-
 // Each task at a station of its own.
 fn alone(alloc: Global, tasks: u32) -> Result<Balance, AllocError> {
     let mut place = Vec::new(alloc);

@@ -2,10 +2,10 @@ use Rattle.std.proofs.Common.{◌≡◌, ◌+◌, Bool, List, [], ◌∷◌, ◌
 use Rattle.std.proofs.Common.{length-append, Vec, Global}
 use Rattle.line_rules.specs.declared.types.Mode.{Mode}
 use Rattle.station_search.specs.Mode.{mode_of}
-use Rattle.round_run.specs.declared.job_list.Job.{Job}
-use Rattle.round_run.proofs.JobFacts.{IsListing, starts, passes, joins, over, all_jobs}
-use Rattle.round_run.proofs.job_list.jobs.Goals.{in-Some-job_at+in_ok-push+else-len-eq-MAX_JOBS, in_default-job_at}
-use Rattle.round_run.proofs.job_list.jobs.Goals as goal
+use Rattle.round_helpers.specs.declared.job_list.Job.{Job}
+use Rattle.round_helpers.proofs.JobFacts.{IsListing, starts, passes, joins, over, all_jobs}
+use Rattle.round_helpers.proofs.job_list.jobs.Goals.{in-Some-job_at+in_ok-push+else-len-eq-MAX_JOBS, in_default-job_at}
+use Rattle.round_helpers.proofs.job_list.jobs.Goals as goal
 
 pub listing-init : goal.listing-init
 listing-init c =

@@ -5,7 +5,7 @@ ghost use Rattle.std.specs.Prelude.{◌≡◌, ◌≤◌, IfOk, IfSome, IsNone, 
 ghost use Rattle.line_rules.specs.Entries.{IsOpen};
 ghost use Rattle.line_rules.specs.Ranges.{IsCycle};
 ghost use Rattle.station_load.specs.Walking.{IsWalk};
-ghost use Rattle.round_run.specs.Jobs.{AreJobs, job_of};
+ghost use Rattle.round_helpers.specs.Jobs.{AreJobs, job_of};
 
 use line_instance::Instance;
 use line_rules::{LineKind, Load};

@@ -1,7 +1,7 @@
 use Rattle.std.proofs.Common.{◌≡◌, ◌<◌, length}
 use Rattle.line_rules.specs.Balance.{all_tasks}
-use Rattle.round_run.proofs.JobFacts.{IsListing}
-use Rattle.round_run.proofs.job_list.jobs.Given as goal
+use Rattle.round_helpers.proofs.JobFacts.{IsListing}
+use Rattle.round_helpers.proofs.job_list.jobs.Given as goal
 
 abbrev pub invariant-listing : goal.invariant-listing
 invariant-listing l = record {

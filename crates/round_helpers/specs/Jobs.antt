@@ -9,7 +9,7 @@ use Rattle.line_rules.specs.Entries.{IsOpen}
 use Rattle.line_rules.specs.declared.types.LineKind.{LineKind}
 use Rattle.line_rules.specs.declared.types.Load.{Load}
 use Rattle.station_search.specs.Mode.{mode_of}
-use Rattle.round_run.specs.declared.job_list.Job.{Job}
+use Rattle.round_helpers.specs.declared.job_list.Job.{Job}
 
 -- how many loads are gone over for jobs, and how many jobs there are at most
 unfoldable pub max_loads : ℕ
@@ -32,3 +32,8 @@ pub record AreJobs (kind : LineKind) (line : Line) (c most : ℕ) (jobs : List J
       let mode = mode_of kind line (all_tasks line) in
       Lists line (λ l. IsOpen kind line c mode (all_tasks line) most l × Contains (take max_loads loads) l) left
   pub first : jobs ≡ map (job_of (all_tasks line)) (take max_jobs left)
+
+-- a job of the question of `most` stations: a load that the bound leaves open, and its rest
+pub record IsJobOf (kind : LineKind) (line : Line) (c most : ℕ) (job : Job) : Type 0 where
+  pub opens : IsOpen kind line c (mode_of kind line (all_tasks line)) (all_tasks line) most job.load
+  pub set : job.set ≡ rest (all_tasks line) job.load

@@ -22,8 +22,8 @@ use Rattle.line_rules.proofs.Listing.{Amid, Rises, lists_of, pick, picked, picks
 use Rattle.line_rules.proofs.Unique.{precedes_trans, first_less, tail_lists}
 use Rattle.station_load.specs.Walking.{Walking, IsWalk}
 use Rattle.station_search.specs.Mode.{mode_of}
-use Rattle.round_run.specs.Jobs.{AreJobs, job_of, max_loads, max_jobs}
-use Rattle.round_run.specs.declared.job_list.Job.{Job}
+use Rattle.round_helpers.specs.Jobs.{AreJobs, job_of, max_loads, max_jobs}
+use Rattle.round_helpers.specs.declared.job_list.Job.{Job}
 
 -- a member by its place, and by the list
 amid_from : (xs : List Load) (a : Load) (k : ℕ) → k < length xs → slice_index_or xs k a ≡ a → Amid a xs
