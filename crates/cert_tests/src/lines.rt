@@ -4,8 +4,8 @@ use cert_lines::patterns::{
     EndLine, EntryLine, FrameLine, Key, KindLine, NumberLine, SeatLine, TrailLine, Version,
     VersionLine,
 };
-use cert_lines::{Source, Taken};
 use cert_lines::words::{number, set_of, split_at};
+use cert_lines::{Source, Taken};
 use line_rules::{LineKind, Side};
 use std::test::Fail;
 

@@ -9,7 +9,6 @@ use cert_text::{CertFault, CertKind, CertRead, ListRead, read_cert, read_list, w
 use line_io::{Fetched, MemShelf, Shelf, Stored, Whole, read_whole};
 use line_rules::{Entries, Why};
 use std::alloc::{AllocError, Global};
-use std::process::Abort;
 use std::test::Fail;
 use task_set::TaskSet;
 
@@ -69,6 +68,13 @@ fn a_certificate_is_written_as_it_was_read(rt: HostRuntime) -> Result<(), Fail> 
     Ok(())
 }
 
+/// What reading a text gives, up to a limit, where the call of number `fails` fails.
+fn read_up_to(alloc: Global, text: &str, fails: u64, limit: u64) -> Result<String, Fail> {
+    let mut shelf = shelf_of(alloc, text.as_bytes(), fails)?;
+    let answer = cert_from(alloc, &mut shelf, "f", limit);
+    Ok(told(alloc, answer)?)
+}
+
 #[test]
 fn a_call_that_fails_is_a_fault_of_reading(rt: HostRuntime) -> Result<(), Fail> {
     // the call that fails, the limit, and what reading the file gives
@@ -80,11 +86,14 @@ fn a_call_that_fails_is_a_fault_of_reading(rt: HostRuntime) -> Result<(), Fail> 
         (99, 132, "too long"),
     ];
     for (fails, limit, wanted) in rows {
-        let mut shelf = shelf_of(rt.alloc(), V5.as_bytes(), fails)?;
-        let answer = cert_from(rt.alloc(), &mut shelf, "f", limit);
-        let got = told(rt.alloc(), answer)?;
-        assert_eq!(rt; got.as_str(), wanted, "call {fails} fails, limit {limit}");
+        let got = read_up_to(rt.alloc(), V5, fails, limit)?;
+        assert!(rt; got.as_str() == wanted, "call {fails} fails, limit {limit}");
     }
+    Ok(())
+}
+
+#[test]
+fn a_missing_name_is_a_read_fault(rt: HostRuntime) -> Result<(), Fail> {
     let mut shelf = shelf_of(rt.alloc(), V5.as_bytes(), 99)?;
     let answer = cert_from(rt.alloc(), &mut shelf, "g", 1000);
     assert_eq!(rt; told(rt.alloc(), answer)?.as_str(), "read fault");
@@ -93,32 +102,46 @@ fn a_call_that_fails_is_a_fault_of_reading(rt: HostRuntime) -> Result<(), Fail> 
 
 #[test]
 fn a_text_is_too_long_before_it_is_at_fault(rt: HostRuntime) -> Result<(), Fail> {
-    let rows = [(12, "line 1 form"), (11, "too long")];
-    for (limit, wanted) in rows {
-        let mut shelf = shelf_of(rt.alloc(), b"no text\nend\n".as_slice(), 99)?;
-        let answer = cert_from(rt.alloc(), &mut shelf, "f", limit);
-        assert_eq!(rt; told(rt.alloc(), answer)?.as_str(), wanted);
+    for (limit, wanted) in [(12, "line 1 form"), (11, "too long")] {
+        let got = read_up_to(rt.alloc(), "no text\nend\n", 99, limit)?;
+        assert!(rt; got.as_str() == wanted, "limit {limit}");
     }
     Ok(())
 }
 
+/// How the file `f`, which has this text, is written into the file `g` where a call fails and keeps so many bytes, how many
+/// `g` has then, and whether the text begins with them.
+fn copied_torn(
+    alloc: Global,
+    shelf: &mut MemShelf,
+    text: &str,
+    call: u64,
+    keep: u64,
+) -> Result<(Streamed, usize, bool), Fail> {
+    shelf.tear(call, keep)?;
+    let written = copied(alloc, shelf);
+    let bytes = shelf.file("g").ok_or("missing")?;
+    Ok((written, bytes.len(), text.as_bytes().starts_with(bytes)))
+}
+
 #[test]
 fn a_call_that_fails_leaves_a_front_of_the_text(rt: HostRuntime) -> Result<(), Fail> {
-    // the call that fails behind the two of reading, the bytes that it keeps, the answer, and the bytes of the file
+    // the call that fails behind the two of reading, the bytes that it keeps, the answer, the bytes of the file, and
+    // whether they begin the text
     let rows = [
-        (2, 0, Streamed::WriteFault, 3),
-        (3, 0, Streamed::WriteFault, 0),
-        (3, 7, Streamed::WriteFault, 7),
-        (4, 0, Streamed::Done, 133),
+        (2, 0, Streamed::WriteFault, 3, false),
+        (3, 0, Streamed::WriteFault, 0, true),
+        (3, 7, Streamed::WriteFault, 7, true),
+        (4, 0, Streamed::Done, 133, true),
     ];
-    for (call, keep, answer, length) in rows {
+    for (call, keep, answer, length, is_front) in rows {
         let mut shelf = shelf_of(rt.alloc(), V5.as_bytes(), 99)?;
         shelf.put_file("g", b"old".as_slice())?;
-        shelf.tear(call, keep)?;
-        let written = copied(rt.alloc(), &mut shelf);
-        assert_eq!(rt; written, answer, "call {call} fails and keeps {keep}");
-        let got = shelf.file("g").ok_or("missing")?.len();
-        assert_eq!(rt; got, length, "call {call} fails and keeps {keep}");
+        let got = copied_torn(rt.alloc(), &mut shelf, V5, call, keep)?;
+        assert!(rt;
+            got == (answer, length, is_front),
+            "call {call} fails and keeps {keep}"
+        );
     }
     Ok(())
 }
@@ -148,12 +171,11 @@ fn a_long_text_is_written_in_pieces(rt: HostRuntime) -> Result<(), Fail> {
     ];
     for (call, keep, answer, length) in rows {
         let mut shelf = shelf_of(rt.alloc(), text.as_bytes(), 99)?;
-        shelf.tear(call, keep)?;
-        let written = copied(rt.alloc(), &mut shelf);
-        assert_eq!(rt; written, answer, "call {call} fails and keeps {keep}");
-        let bytes = shelf.file("g").ok_or("missing")?;
-        assert_eq!(rt; bytes.len(), length, "call {call} fails and keeps {keep}");
-        assert!(rt; text.as_bytes().starts_with(bytes));
+        let got = copied_torn(rt.alloc(), &mut shelf, text.as_str(), call, keep)?;
+        assert!(rt;
+            got == (answer, length, true),
+            "call {call} fails and keeps {keep}"
+        );
     }
     Ok(())
 }
@@ -205,15 +227,12 @@ fn read_at_once<S: Shelf>(alloc: Global, shelf: &mut S, name: &str, limit: u64) 
     }
 }
 
-/// What reading a text gives, line by line and at once; the two are compared.
-fn read_twice(rt: &impl Abort, alloc: Global, text: &[u8]) -> Result<String, Fail> {
+/// What reading a text gives line by line, and at once.
+fn read_twice(alloc: Global, text: &[u8]) -> Result<(String, String), Fail> {
     let mut shelf = shelf_of(alloc, text, 9999)?;
-    let answer = cert_from(alloc, &mut shelf, "f", 1000);
-    let lines = told(alloc, answer)?;
-    let answer = read_at_once(alloc, &mut shelf, "f", 1000);
-    let whole = told(alloc, answer)?;
-    assert_eq!(rt; lines.as_str(), whole.as_str());
-    Ok(whole)
+    let by_lines = cert_from(alloc, &mut shelf, "f", 1000);
+    let at_once = read_at_once(alloc, &mut shelf, "f", 1000);
+    Ok((told(alloc, by_lines)?, told(alloc, at_once)?))
 }
 
 /// What reading a text gives, one byte a fetch.
@@ -224,46 +243,62 @@ fn read_in_drops(alloc: Global, text: &[u8]) -> Result<String, Fail> {
     Ok(told(alloc, answer)?)
 }
 
+/// Whether reading a text gives this in each of the three ways.
+fn is_read_as(alloc: Global, text: &[u8], wanted: &str) -> Result<bool, Fail> {
+    let (by_lines, at_once) = read_twice(alloc, text)?;
+    let in_drops = read_in_drops(alloc, text)?;
+    let same = (by_lines.as_str() == wanted) & (at_once.as_str() == wanted);
+    Ok(same & (in_drops.as_str() == wanted))
+}
+
 const V1: &str =
     "line balance certificate 1\nline straight\ntasks 5\ncycle 7\nlower 3\nupper 3\nbalance 3\n1\n2\n1\n2\n3\nparts 1\npart 7\nentries 1\nbranch f f8 2 -\ntrail 0\nend\n";
 
 const V6: &str =
     "line balance certificate 2\nline straight\ntasks 5\ncycle 7\nlower 2\nupper 3\nbalance 3\n1\n2\n1\n2\n3\nentries 1\nbound 7 f8 1\ntrail 1 at 7\nopen f f8 2 90 -\nend\n";
 
+/// Whether each beginning of a text has ended in its last line.
+fn have_ended(alloc: Global, text: &str) -> Result<bool, Fail> {
+    let mut right = true;
+    let mut line = 1u64;
+    for (k, byte) in text.as_bytes().iter().enumerate() {
+        let wanted = format!(in alloc; "line {line} ended")?;
+        right &= is_read_as(alloc, &text.as_bytes()[..k], wanted.as_str())?;
+        if *byte == b'\n' && line < 99 {
+            line += 1;
+        }
+    }
+    Ok(right)
+}
+
 #[test]
 fn a_text_that_is_cut_short_has_ended(rt: HostRuntime) -> Result<(), Fail> {
     for text in [V1, V5] {
-        let mut line = 1u64;
-        for (k, byte) in text.as_bytes().iter().enumerate() {
-            let front = &text.as_bytes()[..k];
-            let wanted = format!(in rt.alloc(); "line {line} ended")?;
-            let got = read_twice(&rt, rt.alloc(), front)?;
-            assert_eq!(rt; got.as_str(), wanted.as_str());
-            let got = read_in_drops(rt.alloc(), front)?;
-            assert_eq!(rt; got.as_str(), wanted.as_str());
-            if *byte == b'\n' && line < 99 {
-                line += 1;
-            }
-        }
-        let got = read_twice(&rt, rt.alloc(), text.as_bytes())?;
-        assert_eq!(rt; got.as_str(), "good");
-        let got = read_in_drops(rt.alloc(), text.as_bytes())?;
-        assert_eq!(rt; got.as_str(), "good");
+        let ended = have_ended(rt.alloc(), text)?;
+        assert!(rt; ended & is_read_as(rt.alloc(), text.as_bytes(), "good")?);
     }
     Ok(())
+}
+
+/// Whether a text is read alike line by line and at once, whichever byte stands at this place.
+fn is_read_alike(alloc: Global, text: &str, place: usize) -> Result<bool, Fail> {
+    let mut alike = true;
+    for byte in [b'0', b'1', b'9', b' ', b'\n'] {
+        let mut changed = text.as_bytes().to_vec(alloc)?;
+        if place < changed.len() {
+            changed[place] = byte;
+        }
+        let (by_lines, at_once) = read_twice(alloc, &changed)?;
+        alike &= by_lines == at_once;
+    }
+    Ok(alike)
 }
 
 #[test]
 fn texts_with_a_byte_changed_are_read_alike(rt: HostRuntime) -> Result<(), Fail> {
     for text in [V5, V6] {
         for k in 0..text.len() {
-            for byte in [b'0', b'1', b'9', b' ', b'\n'] {
-                let mut changed = text.as_bytes().to_vec(rt.alloc())?;
-                if k < changed.len() {
-                    changed[k] = byte;
-                }
-                let _ = read_twice(&rt, rt.alloc(), &changed)?;
-            }
+            assert!(rt; is_read_alike(rt.alloc(), text, k)?, "byte {k}");
         }
     }
     Ok(())
@@ -271,15 +306,9 @@ fn texts_with_a_byte_changed_are_read_alike(rt: HostRuntime) -> Result<(), Fail>
 
 #[test]
 fn after_a_fault_the_file_is_read_to_its_end(rt: HostRuntime) -> Result<(), Fail> {
-    let rows = [(0, "read fault"), (1, "read fault"), (2, "line 1 form")];
-    for (fails, wanted) in rows {
-        let mut shelf = shelf_of(rt.alloc(), b"no text\nend\n".as_slice(), fails)?;
-        let answer = cert_from(rt.alloc(), &mut shelf, "f", 1000);
-        assert_eq!(rt;
-            told(rt.alloc(), answer)?.as_str(),
-            wanted,
-            "call {fails} fails"
-        );
+    for (fails, wanted) in [(0, "read fault"), (1, "read fault"), (2, "line 1 form")] {
+        let got = read_up_to(rt.alloc(), "no text\nend\n", fails, 1000)?;
+        assert!(rt; got.as_str() == wanted, "call {fails} fails");
     }
     Ok(())
 }

@@ -1,5 +1,5 @@
-//! Tests of what comes from outside: files and output in memory and on disk, the two formats of instances, and the words of
-//! the command line.
+//! Tests of what comes from outside and goes there: files and output in memory and on disk, the two formats of instances, the
+//! words of the command line, and what a command leaves.
 #![tactic(auto)]
 
 #[cfg(test)]
@@ -8,6 +8,8 @@ mod alb_texts;
 mod files;
 #[cfg(test)]
 mod in2_texts;
+#[cfg(test)]
+mod outcomes;
 #[cfg(test)]
 mod rows;
 #[cfg(test)]

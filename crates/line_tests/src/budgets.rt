@@ -1,5 +1,5 @@
 //! The law is called once.
-use crate::laws::units_are_few;
+use budget_law::laws::units_are_few;
 
 #[test]
 fn the_law_is_called() {

@@ -1,7 +1,7 @@
 //! What no clause says: that texts are read where there is memory. The rows are worked by hand.
 ghost use Rattle.std.specs.Prelude.{◌<◌, ◌^◌, length};
 
-use crate::{Combined, Mix, MixKind, MixRead, SeqRead, combine, read_mix, read_sequence};
+use combined_graph::{Combined, Mix, MixKind, MixRead, SeqRead, combine, read_mix, read_sequence};
 use std::alloc::{AllocError, Global};
 use std::test::Fail;
 

@@ -1,5 +1,5 @@
 //! Codes, printed names and what is kept, as calls.
-use crate::{Kept, Report, Status, finish, line_about};
+use command_outcome::{Kept, Report, Status, finish, line_about};
 use line_io::MemSink;
 use line_rules::{Ask, Certificate, Claim, LineKind};
 use std::alloc::{AllocError, Global};

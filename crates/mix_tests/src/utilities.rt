@@ -1,11 +1,11 @@
 //! What no clause says: rows worked by hand.
 ghost use Rattle.std.specs.Prelude.{◌<◌, ◌^◌, length};
 
-use crate::{utility, utility_step};
 use combined_graph::{Mix, MixRead, SeqRead, read_mix, read_sequence};
 use line_rules::{Balance, Places, Seatplace, Side};
 use std::alloc::{AllocError, Global};
 use std::test::Fail;
+use utility_work::{utility, utility_step};
 
 const THREE: &str =
     "tasks,1,,\nmodel,A,1,\nmodel,B,1,\nmodel,C,1,\ntime,A,1,6\ntime,B,1,9\ntime,C,1,4\n";
