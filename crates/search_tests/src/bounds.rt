@@ -1,10 +1,9 @@
 //! What no clause says: bounds that were computed outside, and that each call answers.
-ghost use Rattle.std.specs.Prelude.{◌≤◌};
 ghost use Rattle.line_instance.specs.Line.{IsTaskSet};
 
-use lower_bounds::{bound, exceeds, first_too_long, total_bound, total_time};
 use line_instance::{Instance, Made, Prec, make};
 use line_rules::LineKind;
+use lower_bounds::{bound, exceeds, first_too_long, total_bound, total_time};
 use std::alloc::Global;
 use std::test::Fail;
 use task_set::TaskSet;
@@ -49,24 +48,31 @@ fn jackson(alloc: Global) -> Result<Instance, Fail> {
     Ok(instance(alloc, times, &arcs)?)
 }
 
-// The bound of all tasks without precedences, at a cycle of 1 to 1,000,000,000,000,000,000.
-fn bound_of(alloc: Global, times: Vec<u64>, cycle: u64) -> Result<u32, Fail>
-    requires some { 1 ≤ cycle }
-    requires limit { cycle ≤ 1000000000000000000 }
-{
-    let inst = instance(alloc, times, &[])?;
+// The bound of all tasks without precedences; an error where the cycle is out of range.
+fn bound_of(alloc: Global, times: &[u64], cycle: u64) -> Result<u32, Fail> {
+    if cycle < 1 || cycle > 1000 {
+        return Err("another cycle")?;
+    }
+    let inst = instance(alloc, Vec::from_slice(alloc, times)?, &[])?;
     Ok(bound(&inst, LineKind::Straight, cycle, &inst.all()))
 }
 
 #[test]
 fn bounds_a_chain(rt: HostRuntime) -> Result<(), Fail> {
     let inst = chain(rt.alloc())?;
-    assert_eq!(rt; total_time(&inst), 4);
-    assert_eq!(rt; total_bound(&inst, 2), 2);
-    assert_eq!(rt; first_too_long(&inst, 1), Some(1));
-    assert_eq!(rt; bound(&inst, LineKind::Straight, 2, &inst.all()), 3);
-    assert_eq!(rt; bound(&inst, LineKind::U, 2, &inst.all()), 2);
-    assert_eq!(rt; bound(&inst, LineKind::Straight, 1, &inst.all()), 1025);
+    let all = inst.all();
+    let totals = (
+        total_time(&inst),
+        total_bound(&inst, 2),
+        first_too_long(&inst, 1),
+    );
+    assert_eq!(rt; totals, (4, 2, Some(1)));
+    let bounds = [
+        bound(&inst, LineKind::Straight, 2, &all),
+        bound(&inst, LineKind::U, 2, &all),
+        bound(&inst, LineKind::Straight, 1, &all),
+    ];
+    assert_eq!(rt; bounds, [3, 2, 1025]);
     Ok(())
 }
 
@@ -80,15 +86,20 @@ fn bounds_the_tasks_of_jackson(rt: HostRuntime) -> Result<(), Fail> {
 
 #[test]
 fn counts_by_size(rt: HostRuntime) -> Result<(), Fail> {
-    let alloc = rt.alloc();
-    assert_eq!(rt; bound_of(alloc, vec![in alloc; 7, 7, 6]?, 12)?, 3);
-    assert_eq!(rt; bound_of(alloc, vec![in alloc; 7, 6, 6]?, 12)?, 2);
-    assert_eq!(rt; bound_of(alloc, vec![in alloc; 6, 6, 6, 6, 5]?, 15)?, 3);
-    assert_eq!(rt; bound_of(alloc, vec![in alloc; 5, 5, 5]?, 15)?, 1);
-    assert_eq!(rt; bound_of(alloc, vec![in alloc; 10, 5]?, 15)?, 1);
-    assert_eq!(rt; bound_of(alloc, vec![in alloc; 100, 51, 51, 51]?, 150)?, 3);
-    assert_eq!(rt; bound_of(alloc, vec![in alloc; 0]?, 1)?, 1);
-    assert_eq!(rt; bound_of(alloc, vec![in alloc; 1, 3]?, 2)?, 1025);
+    let rows: [(&[u64], u64, u32); 8] = [
+        (&[7, 7, 6], 12, 3),
+        (&[7, 6, 6], 12, 2),
+        (&[6, 6, 6, 6, 5], 15, 3),
+        (&[5, 5, 5], 15, 1),
+        (&[10, 5], 15, 1),
+        (&[100, 51, 51, 51], 150, 3),
+        (&[0], 1, 1),
+        (&[1, 3], 2, 1025),
+    ];
+    for (times, cycle, stations) in rows {
+        let found = bound_of(rt.alloc(), times, cycle)?;
+        assert_eq!(rt; found, stations, "at {cycle}");
+    }
     Ok(())
 }
 

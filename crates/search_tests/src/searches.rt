@@ -10,13 +10,13 @@ ghost use Rattle.station_search.specs.Decide.{IsFor};
 mod sharing;
 mod stops;
 
-use station_search::{Decided, Reason, Units, balance_of, choose_mode, decide};
 use lemma_core::Book;
 use line_instance::{Instance, Made, Prec, make};
 use line_rules::{
     Balance, BalanceCheck, Cites, Entry, LineKind, Loads, Mode, Places, Seatplace, Side, Why,
     check_balance,
 };
+use station_search::{Decided, Reason, Units, balance_of, choose_mode, decide};
 use std::alloc::{AllocError, Global};
 use std::test::Fail;
 use task_set::TaskSet;

@@ -8,10 +8,10 @@ ghost use Rattle.station_search.specs.Decide.{IsFor};
 ghost use Rattle.search_tests.specs.Shared.{part_of};
 
 use super::{CYCLE, answer_text, book_of, entries_text, five, seven, six};
-use station_search::{Units, decide};
 use lemma_core::{Book, Desk, Looked, Offered, Published};
 use line_instance::Instance;
 use line_rules::{Balance, Entry, LineKind};
+use station_search::{Units, decide};
 use std::alloc::{AllocError, Global};
 use std::test::Fail;
 use task_set::TaskSet;

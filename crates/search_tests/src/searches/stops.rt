@@ -3,11 +3,11 @@
 ghost use Rattle.std.specs.Prelude.{◌≤◌};
 
 use super::{CYCLE, book_of, instance, seven, six};
-use station_search::{Decided, Units, decide};
 use lemma_core::{Book, Desk, Looked};
 use line_instance::{Instance, Prec};
 use line_rules::{Frames, LineKind, OpenFrame};
 use station_load::steps::begin;
+use station_search::{Decided, Units, decide};
 use std::alloc::Global;
 use std::test::Fail;
 
