@@ -27,7 +27,9 @@ fn shelf_of(alloc: Global, n: usize, fails: u64) -> Result<MemShelf, Fail> {
 }
 
 /// How many bytes were read, or why none were.
-fn length_read(whole: Whole) -> Result<usize, &'static str> {
+type Got = Result<usize, &'static str>;
+
+fn length_read(whole: Whole) -> Got {
     match whole {
         Whole::Bytes(bytes) => Ok(bytes.len()),
         Whole::ReadFault => Err("read fault"),
@@ -37,16 +39,11 @@ fn length_read(whole: Whole) -> Result<usize, &'static str> {
 }
 
 /// What is read of a file of n bytes up to a limit, and then again; the call of number `fails` fails.
-fn read_twice(
-    alloc: Global,
-    n: usize,
-    limit: u64,
-    fails: u64,
-) -> Result<[Result<usize, &'static str>; 2], Fail> {
+fn read_twice(alloc: Global, n: usize, limit: u64, fails: u64) -> Result<(Got, Got), Fail> {
     let mut shelf = shelf_of(alloc, n, fails)?;
     let first = length_read(read_whole(alloc, &mut shelf, "f", limit));
     let second = length_read(read_whole(alloc, &mut shelf, "f", limit));
-    Ok([first, second])
+    Ok((first, second))
 }
 
 #[test]
@@ -71,7 +68,7 @@ fn reads_up_to_the_limit(rt: HostRuntime) -> Result<(), Fail> {
     for (bytes, limit, fails, first, second) in rows {
         let got = read_twice(rt.alloc(), bytes, limit, fails)?;
         assert!(rt;
-            got == [first, second],
+            got == (first, second),
             "{bytes} bytes, limit {limit}, call {fails} fails"
         );
     }
