@@ -1,2 +1,0 @@
-pub mod TryText
-pub mod Tried
