@@ -1,0 +1,4 @@
+pub mod Demand
+pub mod CombineFacts
+pub mod PlanFacts
+pub mod UtilityFacts
