@@ -100,12 +100,7 @@ fn right(alloc: Global, line: &Instance, cycle: u64, balance: Balance) -> Result
 }
 
 /// The balance of a certificate, where it is a straight one that is right for the line at the cycle time.
-fn tested(
-    alloc: Global,
-    line: &Instance,
-    cycle: u64,
-    cert: Certificate,
-) -> Result<Balance, Stop>
+fn tested(alloc: Global, line: &Instance, cycle: u64, cert: Certificate) -> Result<Balance, Stop>
     requires { IsInRange cert }
     ensures said { MatchResult result (IsTested line.now cycle cert) (Stops (IsRefused line.now cycle cert)) }
     ensures few { IfOk result (λ b. b.stations ≤ 1024) }

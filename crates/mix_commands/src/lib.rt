@@ -12,6 +12,8 @@ mod combine_mix;
 mod mix_file;
 mod plan;
 mod sequence_file;
+#[cfg(test)]
+mod tests;
 mod timeline;
 mod utility;
 

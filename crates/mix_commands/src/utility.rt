@@ -83,6 +83,13 @@ pub fn utility_report<S: Shelf>(
     ensures files { S.tells → (q : List ℕ) → S.file shelf.new q ≡ S.file shelf.old q }
 {
     let plan = plan_of(alloc, mix, cert, seq, interval, shelf)?;
-    let text = text_of(alloc, &plan.mix, &plan.balance, &plan.units, interval, reach)?;
+    let text = text_of(
+        alloc,
+        &plan.mix,
+        &plan.balance,
+        &plan.units,
+        interval,
+        reach,
+    )?;
     Ok(Report::told(Status::Done, text))
 }

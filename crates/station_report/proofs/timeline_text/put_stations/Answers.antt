@@ -22,9 +22,9 @@ loop-k-preserved c =
     record {
       table = c.in_ok-put_units.ensures.table;
       text =
-        ap (λ (t : List ℕ). t ++ rows_from mix places units interval reach (k + 1) n) told
-        ∙ append_assoc old rows (rows_from mix places units interval reach (k + 1) n)
-        ∙ ap (λ (j : ℕ). old ++ (rows ++ rows_from mix places units interval reach j n)) (add-one k)
-        ∙ sym (ap (λ (m : ℕ). old ++ rows_from mix places units interval reach k m) one)
-        ∙ c.loop-k.invariant.text;
+          ap (λ (t : List ℕ). t ++ rows_from mix places units interval reach (k + 1) n) told
+          ∙ append_assoc old rows (rows_from mix places units interval reach (k + 1) n)
+          ∙ ap (λ (j : ℕ). old ++ (rows ++ rows_from mix places units interval reach j n)) (add-one k)
+          ∙ sym (ap (λ (m : ℕ). old ++ rows_from mix places units interval reach k m) one)
+          ∙ c.loop-k.invariant.text;
     }
