@@ -1,4 +1,4 @@
 pub mod Demand
 pub mod CombineFacts
-pub mod PlanFacts
+pub mod LaunchFacts
 pub mod UtilityFacts

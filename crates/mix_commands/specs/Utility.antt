@@ -6,7 +6,7 @@ use Rattle.combined_graph.specs.Mixes.{MixedLine}
 use Rattle.utility_work.specs.Utility.{station_utility}
 use Rattle.command_outcome.specs.Outcome.{Files, Outside, Outcome, told}
 use Rattle.command_outcome.specs.declared.status.Status.TheVariants as ends
-use Rattle.mix_commands.specs.Plan.{Names, IsPlan, IsUnplanned}
+use Rattle.mix_commands.specs.Launch.{Names, IsLaunch, IsUnlaunched}
 
 -- the utility work at each of n stations, from station k on, all of one length
 abbrev pub utilities : MixedLine → List Seatplace → List ℕ → ℕ → ℕ → ℕ → ℕ → List ℕ
@@ -32,11 +32,11 @@ pub record IsUtilityTold (files : Files) (names : Names) (interval length : ℕ)
   pub mix : MixedLine
   pub balance : Assignment
   pub units : List ℕ
-  pub plan : IsPlan files names interval mix balance units
+  pub launch : IsLaunch files names interval mix balance units
   pub shown : out ≡ told ends.Done (utility_text mix balance units interval length)
 
--- What `utility` comes to: the utility work, or why the files say no plan.
+-- What `utility` comes to: the utility work, or why the files say none.
 abbrev pub IsUtilityOutcome : Outside → List ℕ → List ℕ → List ℕ → ℕ → ℕ → Outcome → Type 0
 IsUtilityOutcome o mix cert seq interval length out =
     let names : Names = record { mix = mix; cert = cert; seq = seq } in
-    IsUtilityTold o.files names interval length out ⊎ IsUnplanned o names interval out
+    IsUtilityTold o.files names interval length out ⊎ IsUnlaunched o names interval out

@@ -8,15 +8,15 @@
 #![tactic(auto)]
 
 mod balance_file;
-mod combine_mix;
+mod combine;
+mod launch;
 mod mix_file;
-mod plan;
 mod sequence_file;
 #[cfg(test)]
 mod tests;
 mod timeline;
 mod utility;
 
-pub use combine_mix::combine_report;
+pub use combine::combine_report;
 pub use timeline::timeline_report;
 pub use utility::utility_report;

@@ -18,7 +18,7 @@ use std::alloc::{AllocError, Global};
 
 /// A mix, and the line that it combines to.
 #[derive(Drop)]
-pub struct Joined {
+pub struct CombinedMix {
     pub mix: Mix,
     pub line: Instance,
     /// How many units are wanted of all models together, at most 160,000.
@@ -82,7 +82,7 @@ pub fn mix_of<S: Shelf>(alloc: Global, file: &str, shelf: &mut S) -> Result<Mix,
 }
 
 /// The line that a mix of a file combines to.
-fn join_models(alloc: Global, file: &str, mix: Mix) -> Result<Joined, Stop>
+fn combine_models(alloc: Global, file: &str, mix: Mix) -> Result<CombinedMix, Stop>
     ensures said { MatchResult result (λ j. (j.mix ≡ mix) × IsCombined mix j.line) (Stops (IsCyclic file.now mix)) }
     ensures demand { IfOk result (λ j. j.demand ≡ total_demand j.mix.models) }
     ensures limit { IfOk result (λ j. j.demand ≤ 160000) }
@@ -90,7 +90,7 @@ fn join_models(alloc: Global, file: &str, mix: Mix) -> Result<Joined, Stop>
 {
     let _tasks = mix.tasks();
     match combine(alloc, &mix) {
-        Combined::Good(line, demand) => Ok(Joined { mix, line, demand }),
+        Combined::Good(line, demand) => Ok(CombinedMix { mix, line, demand }),
         Combined::Cycle(ring) => {
             let text = cycle_line(alloc, file, &ring)?;
             Err(refuse(Status::Input, text))
@@ -100,7 +100,7 @@ fn join_models(alloc: Global, file: &str, mix: Mix) -> Result<Joined, Stop>
 }
 
 /// The mix of a file, and the line that it combines to.
-pub fn joined_of<S: Shelf>(alloc: Global, file: &str, shelf: &mut S) -> Result<Joined, Stop>
+pub fn combined_of<S: Shelf>(alloc: Global, file: &str, shelf: &mut S) -> Result<CombinedMix, Stop>
     ensures said { S.tells → MatchResult result (λ j. IsCombinedFile (S.file shelf.old) file.now j.mix j.line) (Stops (IsUncombined (outside (S.file shelf.old) (S.blames shelf.new)) file.now)) }
     ensures combined { IfOk result (λ j. IsCombined j.mix j.line) }
     ensures demand { IfOk result (λ j. j.demand ≡ total_demand j.mix.models) }
@@ -110,6 +110,6 @@ pub fn joined_of<S: Shelf>(alloc: Global, file: &str, shelf: &mut S) -> Result<J
     ensures files { S.tells → (q : List ℕ) → S.file shelf.new q ≡ S.file shelf.old q }
 {
     let mix = mix_of(alloc, file, shelf)?;
-    let joined = join_models(alloc, file, mix)?;
-    Ok(joined)
+    let combined = combine_models(alloc, file, mix)?;
+    Ok(combined)
 }

@@ -9,36 +9,36 @@ ghost use Rattle.command_outcome.specs.declared.status.Status.TheVariants as end
 ghost use Rattle.input_files.specs.InputFile.{fault_line};
 ghost use Rattle.mix_commands.specs.Timeline.{IsTimelineOutcome, large_text};
 
-use crate::plan::{Plan, plan_of};
+use crate::launch::{Launch, launch_of};
 use command_outcome::{Report, Status, Stop, refuse};
 use input_files::fault_line_of;
 use line_io::Shelf;
 use station_report::{TimelineRead, timeline};
 use std::alloc::Global;
 
-/// The text of the timeline of a plan, where each station has this length; it is too large for more than 1,000,000 rows.
+/// The text of the timeline of a launch, where each station has this length; it is too large for more than 1,000,000 rows.
 fn text_of(
     alloc: Global,
     seq: &str,
-    plan: &Plan,
+    launch: &Launch,
     interval: u64,
     reach: u64,
 ) -> Result<Vec<u8>, Stop>
-    requires places { length plan.now.balance.place ≡ plan.now.mix.tasks }
-    requires stations { plan.now.balance.stations ≤ 1024 }
-    requires few { length plan.now.units.items ≤ 100000 }
-    requires models { All (λ m. m < length plan.now.mix.models) plan.now.units.items }
+    requires places { length launch.now.balance.place ≡ launch.now.mix.tasks }
+    requires stations { launch.now.balance.stations ≤ 1024 }
+    requires few { length launch.now.units.items ≤ 100000 }
+    requires models { All (λ m. m < length launch.now.mix.models) launch.now.units.items }
     requires reach { reach ≤ 1000000000 }
     ensures said { MatchResult result
-        (λ t. (t.items ≡ timeline_text plan.now.mix plan.now.balance plan.now.units.items interval reach) × (length plan.now.units.items * plan.now.balance.stations ≤ 1000000))
-        (Stops (λ out. (1000000 < length plan.now.units.items * plan.now.balance.stations) × (out ≡ told ends.Input (fault_line seq.now large_text)))) }
+        (λ t. (t.items ≡ timeline_text launch.now.mix launch.now.balance launch.now.units.items interval reach) × (length launch.now.units.items * launch.now.balance.stations ≤ 1000000))
+        (Stops (λ out. (1000000 < length launch.now.units.items * launch.now.balance.stations) × (out ≡ told ends.Input (fault_line seq.now large_text)))) }
     ensures status { MatchResult result (λ _. Unit {0}) (MayStop ⊥) }
 {
     match timeline(
         alloc,
-        &plan.mix,
-        &plan.balance,
-        &plan.units,
+        &launch.mix,
+        &launch.balance,
+        &launch.units,
         interval,
         reach,
     ) {
@@ -70,7 +70,7 @@ pub fn timeline_report<S: Shelf>(
     ensures fault { MatchResult result (λ _. Unit {0}) (MayStop (Rises (S.faults shelf.old) (S.faults shelf.new))) }
     ensures files { S.tells → (q : List ℕ) → S.file shelf.new q ≡ S.file shelf.old q }
 {
-    let plan = plan_of(alloc, mix, cert, seq, interval, shelf)?;
-    let text = text_of(alloc, seq, &plan, interval, reach)?;
+    let launch = launch_of(alloc, mix, cert, seq, interval, shelf)?;
+    let text = text_of(alloc, seq, &launch, interval, reach)?;
     Ok(Report::told(Status::Done, text))
 }

@@ -7,7 +7,7 @@ ghost use Rattle.command_outcome.specs.declared.report.Kept.TheVariants.{Nothing
 ghost use Rattle.command_outcome.specs.declared.status.Status.TheVariants as ends;
 ghost use Rattle.mix_commands.specs.Utility.{IsUtilityOutcome, lines_text, utility_lines, utility_text};
 
-use crate::plan::plan_of;
+use crate::launch::launch_of;
 use combined_graph::Mix;
 use command_outcome::{Report, Status, Stop};
 use line_io::Shelf;
@@ -82,12 +82,12 @@ pub fn utility_report<S: Shelf>(
     ensures fault { MatchResult result (λ _. Unit {0}) (MayStop (Rises (S.faults shelf.old) (S.faults shelf.new))) }
     ensures files { S.tells → (q : List ℕ) → S.file shelf.new q ≡ S.file shelf.old q }
 {
-    let plan = plan_of(alloc, mix, cert, seq, interval, shelf)?;
+    let launch = launch_of(alloc, mix, cert, seq, interval, shelf)?;
     let text = text_of(
         alloc,
-        &plan.mix,
-        &plan.balance,
-        &plan.units,
+        &launch.mix,
+        &launch.balance,
+        &launch.units,
         interval,
         reach,
     )?;

@@ -3,10 +3,10 @@ ghost use Rattle.std.specs.Prelude.{◌≡◌, ◌≤◌, ◌<◌, ℕ, List, Al
 ghost use Rattle.line_io.specs.Outside.{Rises};
 ghost use Rattle.line_words.specs.Ranges.{IsBetween};
 ghost use Rattle.command_outcome.specs.Outcome.{Stops, MayStop, outside};
-ghost use Rattle.mix_commands.specs.Plan.{IsPlan, IsUnplanned};
+ghost use Rattle.mix_commands.specs.Launch.{IsLaunch, IsUnlaunched};
 
 use crate::balance_file::balance_of;
-use crate::mix_file::joined_of;
+use crate::mix_file::combined_of;
 use crate::sequence_file::sequence_of;
 use combined_graph::Mix;
 use command_outcome::Stop;
@@ -16,26 +16,26 @@ use std::alloc::Global;
 
 /// A mix, a right straight balance of the line that it combines to, and a sequence of units.
 #[derive(Drop)]
-pub struct Plan {
+pub struct Launch {
     pub mix: Mix,
     pub balance: Balance,
     /// The model of each unit, counted from 0.
     pub units: Vec<u32>,
 }
 
-/// The plan of the files of a mix, a certificate and a sequence, for a launch interval.
-pub fn plan_of<S: Shelf>(
+/// The launch of the files of a mix, a certificate and a sequence, for a launch interval.
+pub fn launch_of<S: Shelf>(
     alloc: Global,
     mix: &str,
     cert: &str,
     seq: &str,
     interval: u64,
     shelf: &mut S,
-) -> Result<Plan, Stop>
+) -> Result<Launch, Stop>
     requires { IsBetween 1 1000000000 interval }
     ensures said { S.tells → MatchResult result
-        (λ p. IsPlan (S.file shelf.old) (record { mix = mix.now; cert = cert.now; seq = seq.now }) interval p.mix p.balance p.units.items)
-        (Stops (IsUnplanned (outside (S.file shelf.old) (S.blames shelf.new)) (record { mix = mix.now; cert = cert.now; seq = seq.now }) interval)) }
+        (λ p. IsLaunch (S.file shelf.old) (record { mix = mix.now; cert = cert.now; seq = seq.now }) interval p.mix p.balance p.units.items)
+        (Stops (IsUnlaunched (outside (S.file shelf.old) (S.blames shelf.new)) (record { mix = mix.now; cert = cert.now; seq = seq.now }) interval)) }
     ensures places { IfOk result (λ p. length p.balance.place ≡ p.mix.tasks) }
     ensures stations { IfOk result (λ p. p.balance.stations ≤ 1024) }
     ensures few { IfOk result (λ p. length p.units.items ≤ 100000) }
@@ -44,12 +44,12 @@ pub fn plan_of<S: Shelf>(
     ensures count { S.faults shelf.old ≤ S.faults shelf.new }
     ensures files { S.tells → (q : List ℕ) → S.file shelf.new q ≡ S.file shelf.old q }
 {
-    let joined = joined_of(alloc, mix, shelf)?;
-    let cycle = interval * joined.demand;
-    let balance = balance_of(alloc, cert, &joined.line, cycle, shelf)?;
-    let units = sequence_of(alloc, seq, &joined.mix, shelf)?;
-    Ok(Plan {
-        mix: joined.mix,
+    let combined = combined_of(alloc, mix, shelf)?;
+    let cycle = interval * combined.demand;
+    let balance = balance_of(alloc, cert, &combined.line, cycle, shelf)?;
+    let units = sequence_of(alloc, seq, &combined.mix, shelf)?;
+    Ok(Launch {
+        mix: combined.mix,
         balance,
         units,
     })

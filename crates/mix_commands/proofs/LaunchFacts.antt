@@ -1,5 +1,5 @@
 -- What the files say where a later one is refused, over the files as they were before.
-use Rattle.std.proofs.Common.{◌≡◌, ◌*◌, ℕ, Bool, List, inl, inr, ap, subst}
+use Rattle.std.proofs.Common.{◌≡◌, ◌*◌, ℕ, Bool, List, inl, inr, subst}
 use Rattle.line_instance.specs.Line.{Line}
 use Rattle.line_rules.specs.declared.types.Balance.{Balance as Assignment}
 use Rattle.combined_graph.specs.Mixes.{MixedLine}
@@ -8,7 +8,7 @@ use Rattle.command_outcome.specs.Outcome.{Files, Outcome, outside}
 use Rattle.mix_commands.specs.MixFile.{IsCombinedFile}
 use Rattle.mix_commands.specs.BalanceFile.{IsBalanceFile, IsNoBalance}
 use Rattle.mix_commands.specs.SequenceFile.{IsSequenceFile, IsNoSequence}
-use Rattle.mix_commands.specs.Plan.{Names, IsPlan, IsUnplanned}
+use Rattle.mix_commands.specs.Launch.{Names, IsLaunch, IsUnlaunched}
 
 -- files that are the same at each name are the same
 same_files : (f g : Files) → ((q : List ℕ) → f q ≡ g q) → f ≡ g
@@ -17,7 +17,7 @@ same_files f g h = λ i q. h q i
 module _ (files mid : Files) (names : Names) (interval demand : ℕ) (mix : MixedLine) (line : Line)
     (same : (q : List ℕ) → mid q ≡ files q) (combined : IsCombinedFile files names.mix mix line) (total : demand ≡ total_demand mix.models) where
   -- the second file says no right balance
-  pub unbalanced : (blames : List ℕ → Bool) (out : Outcome) → IsNoBalance (outside mid blames) names.cert line (interval * demand) out → IsUnplanned (outside files blames) names interval out
+  pub unbalanced : (blames : List ℕ → Bool) (out : Outcome) → IsNoBalance (outside mid blames) names.cert line (interval * demand) out → IsUnlaunched (outside files blames) names interval out
   unbalanced blames out none =
       let F : Files → Type 0 = λ f. IsNoBalance (outside f blames) names.cert line (interval * demand) out in
       let D : ℕ → Type 0 = λ d. IsNoBalance (outside files blames) names.cert line (interval * d) out in
@@ -32,13 +32,13 @@ module _ (files mid : Files) (names : Names) (interval demand : ℕ) (mix : Mixe
 
     -- the third file says no units
     pub unsequenced : (late : Files) → ((q : List ℕ) → late q ≡ files q) → (blames : List ℕ → Bool) (out : Outcome)
-        → IsNoSequence (outside late blames) names.seq mix.models out → IsUnplanned (outside files blames) names interval out
+        → IsNoSequence (outside late blames) names.seq mix.models out → IsUnlaunched (outside files blames) names interval out
     unsequenced late stay blames out none =
         let F : Files → Type 0 = λ f. IsNoSequence (outside f blames) names.seq mix.models out in
         inr (inr (record { mix = mix; line = line; balance = balance; combined = combined; balanced = right; unsequenced = subst F (same_files late files stay) none }))
 
     -- the third file says units
-    pub planned : (late : Files) → ((q : List ℕ) → late q ≡ files q) → (units : List ℕ) → IsSequenceFile late names.seq mix.models units → IsPlan files names interval mix balance units
-    planned late stay units said =
+    pub launched : (late : Files) → ((q : List ℕ) → late q ≡ files q) → (units : List ℕ) → IsSequenceFile late names.seq mix.models units → IsLaunch files names interval mix balance units
+    launched late stay units said =
         let F : Files → Type 0 = λ f. IsSequenceFile f names.seq mix.models units in
         record { line = line; combined = combined; balanced = right; sequence = subst F (same_files late files stay) said }

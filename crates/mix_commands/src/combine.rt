@@ -7,7 +7,7 @@ ghost use Rattle.command_outcome.specs.declared.report.Kept.TheVariants.{Nothing
 ghost use Rattle.command_outcome.specs.declared.status.Status.TheVariants as ends;
 ghost use Rattle.mix_commands.specs.Combine.{IsCombineOutcome, combined_line};
 
-use crate::mix_file::joined_of;
+use crate::mix_file::combined_of;
 use combined_graph::Mix;
 use command_outcome::{Report, Status, Stop};
 use in2_reader::write_in2;
@@ -15,7 +15,7 @@ use line_io::{Shelf, Written, write_whole};
 use std::alloc::{AllocError, Global};
 
 /// The report about what a mix combines to.
-fn combined(alloc: Global, mix: &Mix, demand: u64) -> Result<Report, AllocError>
+fn combined_report(alloc: Global, mix: &Mix, demand: u64) -> Result<Report, AllocError>
     requires { demand ≡ total_demand mix.now.models }
     ensures status { IfOk result (λ r. r.status ≡ ends.Done) }
     ensures text { IfOk result (λ r. r.text.items ≡ combined_line mix.now) }
@@ -41,9 +41,9 @@ pub fn combine_report<S: Shelf>(
     ensures kept { IfOk result (λ r. r.kept ≡ Nothing) }
     ensures fault { MatchResult result (λ _. Unit {0}) (MayEnd (Rises (S.faults shelf.old) (S.faults shelf.new))) }
 {
-    let joined = joined_of(alloc, mix, shelf)?;
-    let bytes = write_in2(alloc, &joined.line)?;
-    let report = combined(alloc, &joined.mix, joined.demand)?;
+    let combined = combined_of(alloc, mix, shelf)?;
+    let bytes = write_in2(alloc, &combined.line)?;
+    let report = combined_report(alloc, &combined.mix, combined.demand)?;
     match write_whole(shelf, name, &bytes) {
         Written::Done => Ok(report),
         Written::WriteFault => Err(Stop::Unwritten),

@@ -17,7 +17,7 @@ pub record Names : Type 0 where
 
 -- The first file says the mix, the second one a straight balance that is right for its combined line at the launch
 -- interval times the total demand, and the third one the units.
-pub record IsPlan (files : Files) (names : Names) (interval : ℕ) (mix : MixedLine) (b : Assignment) (units : List ℕ) : Type 0 where
+pub record IsLaunch (files : Files) (names : Names) (interval : ℕ) (mix : MixedLine) (b : Assignment) (units : List ℕ) : Type 0 where
   pub line : Line
   pub combined : IsCombinedFile files names.mix mix line
   pub balanced : IsBalanceFile files names.cert line (interval * total_demand mix.models) b
@@ -39,6 +39,6 @@ pub record IsUnsequenced (o : Outside) (names : Names) (interval : ℕ) (out : O
   pub balanced : IsBalanceFile o.files names.cert line (interval * total_demand mix.models) balance
   pub unsequenced : IsNoSequence o names.seq mix.models out
 
--- Why there is no plan. A later file is named only where the earlier ones were read, combined and tested.
-abbrev pub IsUnplanned : Outside → Names → ℕ → Outcome → Type 0
-IsUnplanned o names interval out = IsUncombined o names.mix out ⊎ IsUnbalanced o names interval out ⊎ IsUnsequenced o names interval out
+-- Why there is no launch. A later file is named only where the earlier ones were read, combined and tested.
+abbrev pub IsUnlaunched : Outside → Names → ℕ → Outcome → Type 0
+IsUnlaunched o names interval out = IsUncombined o names.mix out ⊎ IsUnbalanced o names interval out ⊎ IsUnsequenced o names interval out
