@@ -1,13 +1,13 @@
 -- Names and numbers are fields that need no quotes, so a record of six of them is written with commas between.
-use Rattle.std.proofs.Common.{◌≡◌, ◌<◌, ◌^◌, ℕ, Bool, true, false, List, [], ◌∷◌, ◌++◌, codes, decimal, refl, sym, ◌∙◌, ap, append_assoc, arith}
-use Rattle.std.specs.Prelude.{◌&&◌, ◌||◌, ◌==◌, if◌then◌else◌, cond}
-use Rattle.std.specs.List.{list_all, list_any}
+use Rattle.std.proofs.Common.{◌≡◌, ◌<◌, ◌^◌, ℕ, Bool, true, false, List, [], ◌∷◌, ◌++◌, codes, decimal, refl, append_assoc, arith}
+use Rattle.std.specs.Prelude.{◌&&◌}
+use Rattle.std.specs.List.{list_all}
 use Rattle.std.proofs.lemmas.Bool.Decides.{nat_tests}
 use Rattle.std.proofs.lemmas.Fmt.{decimal_is_IsNumeral}
 use Rattle.std.proofs.lemmas.Str.Parse.{digit_from_value}
 use Rattle.std.specs.Str.Parse.{AllDigits}
 use Rattle.station_report.specs.TimelineText.{timeline_row}
-use Rattle.csv.specs.Writing.{default_writer, needs_byte, needs_quotes, quoted, row_text, is_blank, fields_text}
+use Rattle.csv.specs.Writing.{default_writer, needs_byte, needs_quotes, row_text, is_blank, fields_text}
 use Rattle.combined_graph.specs.Mixes.{is_name_byte, is_name}
 
 -- a field that needs no quotes

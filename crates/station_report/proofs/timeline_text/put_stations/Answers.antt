@@ -1,7 +1,7 @@
-use Rattle.std.proofs.Common.{◌≡◌, ◌∙◌, ◌+◌, ◌-◌, ◌++◌, ℕ, List, ap, sym, arith, suc, add-one, append_assoc, get_or, zero}
+use Rattle.std.proofs.Common.{◌≡◌, ◌∙◌, ◌+◌, ◌-◌, ◌++◌, ℕ, List, ap, sym, arith, suc, add-one, append_assoc, get_or}
 use Rattle.combined_graph.specs.Mixes.{model_at}
 use Rattle.utility_work.specs.Utility.{work_at}
-use Rattle.station_report.specs.TimelineText.{rows_from, station_rows, unit_rows}
+use Rattle.station_report.specs.TimelineText.{rows_from, station_rows}
 use Rattle.station_report.proofs.RowFacts.{same_rows}
 use Rattle.station_report.proofs.timeline_text.put_stations.Goals as goal
 

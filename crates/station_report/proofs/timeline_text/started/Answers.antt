@@ -1,4 +1,3 @@
-use Rattle.std.proofs.Common.{◌∙◌, ap, refl}
 use Rattle.csv.specs.Writing.{is_blank, fields_text}
 use Rattle.station_report.proofs.timeline_text.started.Goals as goal
 
