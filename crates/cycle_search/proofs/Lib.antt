@@ -1,0 +1,5 @@
+pub mod BehindFacts
+pub mod EndFacts
+pub mod Tries
+pub mod Results
+pub mod Reopening
