@@ -109,6 +109,7 @@ module _ (kind : LineKind) (line : Line) (m : ℕ) (plan : Plan) (h : Halving) (
         reached = has_balance kind line m h.upper h.balance between.ends.balance;
         least = λ d some l. absurd (omega (arith, met, e, some, l));
       };
+      limit = between.ends.limit;
       balance = between.ends.balance;
       proof =
           let P : List Entry → Type 0 = λ z. ShowsLower kind line m h.upper z in
@@ -138,6 +139,7 @@ module _ (kind : LineKind) (line : Line) (m : ℕ) (plan : Plan) (h : Halving) (
             reached = has_balance kind line m h.upper h.balance between.ends.balance;
             least = none_below kind line m h.upper all ok shown;
           };
+          limit = between.ends.limit;
           balance = between.ends.balance;
           proof = subst P (sym (more n)) shown;
           one = λ c. absurd (n (omega (arith, met, c)));

@@ -42,10 +42,11 @@ pub record ShowsLower (kind : LineKind) (line : Line) (m lower : ℕ) (es : List
   pub statable : AreStatable es
   pub goal : IsBelow line m es lower
 
--- The least cycle for m stations (Scholl's SALBP-2): the balance is right at it, and the entries show that there is none
--- at the cycle below; there is no entry where it is 1.
+-- The least cycle for m stations (Scholl's SALBP-2), at most the limit of a total time: the balance is right at it, and
+-- the entries show that there is none at the cycle below; there is no entry where it is 1.
 pub record IsSolved (kind : LineKind) (line : Line) (m N cycle : ℕ) (b : Assignment) (es : List Entry) : Type 0 where
   pub least : IsLeastCycle kind line m cycle
+  pub limit : cycle ≤ 204800000000000000
   pub balance : IsRightIn kind line m cycle b
   pub proof : ShowsLower kind line m cycle es
   pub one : cycle ≡ 1 → es ≡ []
