@@ -36,13 +36,13 @@ use Rattle.cycle_search.proofs.EndFacts.{none_long}
 use Rattle.cycle_search.proofs.Tries.{outside_none}
 
 -- no balance is below the lower bound that entries show
-none_below : (kind : LineKind) (line : Line) (m lower : ℕ) (es : List Entry) → IsLine line
+pub none_below : (kind : LineKind) (line : Line) (m lower : ℕ) (es : List Entry) → IsLine line
     → ShowsLower kind line m lower es → (d : ℕ) → 1 ≤ d → d < lower → Holds kind line d (all_tasks line) m
 none_below kind line m lower es ok p d one l =
     holds_more kind line d (lower - 1) (all_tasks line) (all_tasks line) m m (omega (arith, l)) (omega arith) (λ i h. h)
     (answer_holds kind line ok es p.derived (all_tasks line) m (lower - 1) (p.goal (omega (arith, one, l))))
 
-has_balance : (kind : LineKind) (line : Line) (m c : ℕ) (b : Assignment) → IsRightIn kind line m c b
+pub has_balance : (kind : LineKind) (line : Line) (m c : ℕ) (b : Assignment) → IsRightIn kind line m c b
     → HasBalance kind line c m
 has_balance kind line m c b r =
     let P : ℕ → Type 0 = λ s. IsBalance kind line c (all_tasks line) s (seat b.place) in

@@ -1,0 +1,1 @@
+//! What no clause says: the printed text of small lines.
