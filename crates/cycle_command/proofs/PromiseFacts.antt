@@ -64,18 +64,21 @@ module _ (kind : LineKind) (line : Line) (m : ℕ) (plan : Plan) where
     printed = sym (not_chosen (nat_eq lower upper) (optimal_text kind upper b (idle_time line upper m))
         (stopped_text kind lower upper b (idle_time line upper m))
         (λ e. omega (arith, p.spent.stopped.below, eqb-true lower upper e)));
-    differ = λ h. (refl, record {
-      trail = p.trail;
-      has = refl;
-      from = p.spent.from;
-      to = p.spent.to;
-      units = p.spent.units;
-      counted = p.spent.counted;
-      all = p.spent.all;
-      alone = p.spent.alone;
-      fresh = p.spent.fresh;
-      opens = p.spent.opens;
-    });
+    differ = λ h. (
+      refl,
+      record {
+        trail = p.trail;
+        has = refl;
+        from = p.spent.from;
+        to = p.spent.to;
+        units = p.spent.units;
+        counted = p.spent.counted;
+        all = p.spent.all;
+        alone = p.spent.alone;
+        fresh = p.spent.fresh;
+        opens = p.spent.opens;
+      },
+    );
     equal = λ e. absurd (omega (arith, e, p.spent.stopped.below));
     complete = λ h. absurd (omega (arith, h, p.spent.budget));
   }

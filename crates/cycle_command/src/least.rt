@@ -84,7 +84,9 @@ fn stopped(
     let _tasks = inst.tasks();
     let idle = idle_of(inst, upper, stations);
     let text = stopped_text(alloc, lower, upper, &balance, kind, idle)?;
-    let certificate = certify_cycle_stop(inst, kind, stations, lower, upper, balance, entries, trail);
+    let certificate = certify_cycle_stop(
+        inst, kind, stations, lower, upper, balance, entries, trail,
+    );
     Ok(Report {
         status: Status::Stopped,
         text,
