@@ -12,7 +12,8 @@ use Rattle.lemma_core.specs.declared.types.Event.TheVariants as event
 use Rattle.lemma_core.specs.declared.types.Published.{Published}
 use Rattle.lemma_core.specs.declared.types.Published.TheVariants as published
 use Rattle.lemma_core.proofs.Runs.{last_found}
-use Rattle.round_run.specs.Rounds.{AreAtCycle, AddsBound, by_bound}
+use Rattle.round_helpers.specs.Growth.{AreAtCycle}
+use Rattle.round_run.specs.Rounds.{AddsBound, by_bound}
 use Rattle.round_run.proofs.Going.{goes_same}
 
 one_at : (X : ℕ) (e : Entry) → e.cycle ≡ X → AreAtCycle X (e ∷ [])

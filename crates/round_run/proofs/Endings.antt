@@ -1,5 +1,5 @@
 -- What a run comes to whose questions ended: the least number of stations, or bounds.
-use Rattle.std.proofs.Common.{◌≡◌, ℕ, zero, suc, ◌+◌, ◌-◌, ◌<◌, ◌≤◌, Bool, true, cond, List, [], ◌∷◌, ◌++◌, length}
+use Rattle.std.proofs.Common.{◌≡◌, ℕ, zero, suc, ◌+◌, ◌-◌, ◌*◌, ◌^◌, ◌<◌, ◌≤◌, Bool, true, cond, List, [], ◌∷◌, ◌++◌, length}
 use Rattle.std.proofs.Common.{refl, sym, ap, ◌∙◌, subst, inl, inr, arith, Option, Some, None}
 use Rattle.std.proofs.lemmas.Bool.{cases_lt, eq-eqb}
 use Rattle.std.specs.Prelude.{slice_get, nat_eq}
@@ -25,11 +25,14 @@ use Rattle.line_rules.proofs.Restrict.{holds_more}
 use Rattle.lemma_core.specs.Machine.{About}
 use Rattle.lemma_core.specs.Books.{BookView, IsBook, IsReserved, MayBeBest}
 use Rattle.station_search.proofs.Events.{get_append_cases}
+use Rattle.budget_law.specs.Budget.{states}
 use Rattle.budget_law.proofs.FewUnits.{units_few}
-use Rattle.round_run.specs.Rounds.{AreAtCycle, AddsBound, by_bound}
+use Rattle.round_helpers.specs.Growth.{AreAtCycle}
+use Rattle.round_run.specs.Rounds.{AddsBound, by_bound}
 use Rattle.round_run.specs.Questions.{IsRun, HasAsked, trail_of, stop_by}
 use Rattle.round_run.specs.Solving.{IsRunBook, IsBelow, IsSolved, IsStopped, IsSpent, FitsAll, Solves}
 use Rattle.round_run.specs.declared.questions.Stop.{Stop}
+use Rattle.round_run.specs.declared.plans.Plan.{Plan}
 use Rattle.round_run.specs.declared.solving.Cause.{Cause}
 use Rattle.round_run.specs.declared.solving.Cause.TheVariants as cause
 use Rattle.round_run.specs.declared.solving.Outcome.TheVariants as outcome
@@ -129,10 +132,11 @@ begins line first b ok same cycle none may ranked reserved start =
       reserved = reserved;
     }
 
-module _ (kind : LineKind) (line : Line) (c N first lower : ℕ) (b new : BookView) (ok : IsLine line)
+module _ (kind : LineKind) (line : Line) (c N G first lower : ℕ) (b new : BookView) (plan : Plan) (ok : IsLine line)
     (is_ranked : IsRanked line) (cycle : 1 ≤ c) (start : first ≡ bound kind line c (all_tasks line))
     (fits : FitsAll line c) (a : AddsBound (first - 1) b new) (kept : IsBook new)
-    (shown : IsBelow line c new lower) where
+    (shown : IsBelow line c new lower) (plan_units : N ≡ plan.units) (helpers : G ≤ N)
+    (alone : plan.helpers ≡ 0 → G ≡ 0) where
   gained_units : UnitsOf line a.gained 0
   gained_units =
       let P : List Entry → Type 0 = λ z. UnitsOf line z 0 in
@@ -145,7 +149,7 @@ module _ (kind : LineKind) (line : Line) (c N first lower : ℕ) (b new : BookVi
   ]
 
   module _ (stop : Option Stop)
-      (h : HasAsked kind line c N first (record { book = b; lower = lower; stop = stop })) where
+      (h : HasAsked kind line c N G first (record { book = b; lower = lower; stop = stop })) where
     about_is : new.about ≡ record { line = line; kind = kind; cycle = c }
     about_is = a.goes_on.about ∙ h.run.about
 
@@ -176,12 +180,13 @@ module _ (kind : LineKind) (line : Line) (c N first lower : ℕ) (b new : BookVi
         h.few,
         h.run.up_to,
         ok.small,
+        helpers,
       );
       published = h.published;
       listed = h.listed;
       entry_units = units;
       frame_units = h.frame_units;
-      within = omega (arith, h.within);
+      within = omega (arith, h.within, helpers);
     }
 
     -- no balance has fewer stations than the lower bound
@@ -221,7 +226,7 @@ module _ (kind : LineKind) (line : Line) (c N first lower : ℕ) (b new : BookVi
 
   -- a frame of the trail isn't answered by the entry of the bound
   module _ (trail : List OpenFrame)
-      (h : HasAsked kind line c N first (record { book = b; lower = lower; stop = stop_by cause.Units trail })) where
+      (h : HasAsked kind line c N G first (record { book = b; lower = lower; stop = stop_by cause.Units trail })) where
     unanswered : (k : ℕ) (f : OpenFrame) → slice_get trail k ≡ Some f → (j : ℕ) (x : Entry)
         → slice_get a.gained j ≡ Some x
         → Answers x f.set f.most c → ⊥
@@ -260,7 +265,7 @@ module _ (kind : LineKind) (line : Line) (c N first lower : ℕ) (b new : BookVi
           further = h.ends.1.2.further;
         })
 
-    units_here : UnitsAt line c new.state.entries (Some (record { cycle = c; frames = trail })) N
+    units_here : UnitsAt line c new.state.entries (Some (record { cycle = c; frames = trail })) (h.published + h.listed)
     units_here =
         let P : List Entry → Type 0 = λ z. UnitsOf line z h.published in
         let t : nat_eq c c ≡ true = eq-eqb c c refl in
@@ -271,38 +276,50 @@ module _ (kind : LineKind) (line : Line) (c N first lower : ℕ) (b new : BookVi
             subst P (sym (all_at c new.state.entries (cycles (stop_by cause.Units trail) h)))
                 (units (stop_by cause.Units trail) h),
             subst Q (sym t) h.frame_units,
-            sym h.ends.1.0,
+            refl,
           ),
         )
 
-    spent : lower < new.state.best.stations → IsSpent kind line c N lower new trail
-    spent l = record {
-      stopped = stopped (stop_by cause.Units trail) h l;
-      from = omega (arith, start, h.run.from);
-      ranked = λ x r. omega (arith, a.goes_on.best, h.run.ranked x r);
-      valid = valid;
-      opens = opens;
-      units = (
-        h.published,
-        h.listed,
-        (units (stop_by cause.Units trail) h, h.frame_units, sym h.ends.1.0),
-      );
-      budget = units_few kind line ok is_ranked c fits new.state.entries (Some (record { cycle = c; frames = trail }))
-          (derived (stop_by cause.Units trail) h)
-          (λ j k x y m p q s t r. kept.fresh j k x y m p q r) (λ e. (lower, valid)) N units_here;
-    }
+    spent : lower < new.state.best.stations → IsSpent kind line c plan lower new trail
+    spent l =
+        let S : ℕ → Type 0 = λ z. IsStopped kind line c z lower new trail in
+        let less : h.published + h.listed < (tasks line + 1) * states kind ^ tasks line =
+        units_few kind line ok is_ranked c fits new.state.entries (Some (record { cycle = c; frames = trail }))
+        (derived (stop_by cause.Units trail) h)
+        (λ j k x y m p q s t r. kept.fresh j k x y m p q r) (λ e. (lower, valid)) (h.published + h.listed)
+        units_here in
+        record {
+          stopped = subst S plan_units (stopped (stop_by cause.Units trail) h l);
+          from = omega (arith, start, h.run.from);
+          ranked = λ x r. omega (arith, a.goes_on.best, h.run.ranked x r);
+          valid = valid;
+          opens = opens;
+          listed = h.published + h.listed;
+          units = (
+            h.published,
+            h.listed,
+            (units (stop_by cause.Units trail) h, h.frame_units, refl),
+          );
+          least = omega (arith, h.ends.1.0, plan_units);
+          alone = λ none. omega (arith, h.ends.1.0, h.within, alone none, plan_units);
+          most = omega (arith, h.within, helpers, plan_units);
+          budget = omega (arith, less, h.ends.1.0, plan_units);
+        }
 
   best_still : new.state.best.stations ≡ b.state.best.stations
   best_still = ap (λ (z : Assignment). z.stations) a.best
 
   -- what the run comes to
-  pub solves : HasAsked kind line c N first (record { book = b; lower = lower; stop = None })
-      → Solves kind line c N (outcome.Solved new)
-  solves h = (fits, solved None h (omega (arith, best_still, h.ends)))
+  pub solves : HasAsked kind line c N G first (record { book = b; lower = lower; stop = None })
+      → Solves kind line c plan (outcome.Solved new)
+  solves h =
+      let S : ℕ → Type 0 = λ z. IsSolved kind line c z new in
+      (fits, subst S plan_units (solved None h (omega (arith, best_still, h.ends))))
 
   pub stops_by : (why : Cause) (trail : List OpenFrame)
-      → HasAsked kind line c N first (record { book = b; lower = lower; stop = stop_by why trail })
-      → Solves kind line c N (outcome.Stopped why lower new trail)
+      → HasAsked kind line c N G first (record { book = b; lower = lower; stop = stop_by why trail })
+      → Solves kind line c plan (outcome.Stopped why lower new trail)
   stops_by cause.Units trail h = (fits, spent trail h (omega (arith, best_still, h.ends.0)))
   stops_by cause.Memory trail h =
-      (fits, stopped (stop_by cause.Memory trail) h (omega (arith, best_still, h.ends.0)))
+      let S : ℕ → Type 0 = λ z. IsStopped kind line c z lower new trail in
+      (fits, subst S plan_units (stopped (stop_by cause.Memory trail) h (omega (arith, best_still, h.ends.0))))

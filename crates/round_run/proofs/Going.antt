@@ -23,8 +23,11 @@ use Rattle.station_search.specs.Decide.{Decides}
 use Rattle.station_search.specs.declared.answers.Reason.{Reason}
 use Rattle.station_search.specs.declared.answers.Reason.TheVariants as reason
 use Rattle.station_search.specs.declared.answers.Decided.TheVariants as decided
-use Rattle.round_run.specs.Rounds.{AreAtCycle, GoesOn, Gains, frames_of, IsListed}
-use Rattle.round_run.specs.declared.rounds.Verdict.{Verdict}
+use Rattle.round_helpers.specs.Growth.{AreAtCycle, GoesOn}
+use Rattle.round_helpers.proofs.Growing.{lemmas_at}
+use Rattle.round_helpers.proofs.Ranges.{at_range}
+use Rattle.round_run.specs.Rounds.{Gains, frames_of, IsListed}
+use Rattle.round_run.specs.declared.closing.Verdict.{Verdict}
 
 -- a desk's own places since a book's last event are all places since then
 range_split : (a m n : ℕ) → range_with_len a (m + n) ≡ range_with_len a m ++ range_with_len (a + m) n
@@ -38,24 +41,6 @@ range_split a (suc m) n =
     let r : range_with_len (a + 1) (m + n) ≡ range_with_len (a + 1) m ++ range_with_len (a + suc m) n =
     range_split (a + 1) m n ∙ ap (λ (x : ℕ). range_with_len (a + 1) m ++ range_with_len x n) e in
     ap (λ (k : ℕ). range_with_len a k) l ∙ ap (λ (xs : List ℕ). a ∷ xs) r
-
-get_behind : (h more : List Item) (x : Item) → slice_get (h ++ x ∷ more) (length h) ≡ Some x
-get_behind [] more x = refl
-get_behind (y ∷ h) more x = get_behind h more x
-
-at_range : (h more is g : List Item) (a : ℕ) → g ≡ h ++ more → a ≡ length h
-    → AreAt g (range_with_len a (length more)) is
-    → is ≡ more
-at_range h [] [] g a e l t = refl
-at_range h [] (i ∷ is) g a e l t = absurd t
-at_range h (x ∷ more) [] g a e l t = absurd t
-at_range h (x ∷ more) (i ∷ is) g a e l t =
-    let here : slice_get g a ≡ Some x =
-    ap (λ (z : List Item). slice_get z a) e ∙ (ap (λ (k : ℕ). slice_get (h ++ x ∷ more) k) l ∙ get_behind h more x) in
-    let same : i ≡ x = cc (t.0, here) in
-    let long : a + 1 ≡ length (h ++ x ∷ []) = omega (arith, l, length-append h (x ∷ [])) in
-    let r : is ≡ more = at_range (h ++ x ∷ []) more is g (a + 1) (e ∙ sym (append_assoc h (x ∷ []) more)) long t.1 in
-    λ j. same j ∷ r j
 
 -- so what was done is what the log gained
 pub did_more : (old new : BookView) (is : List Item) → Keeps (desk_of old) (desk_of new)
@@ -75,13 +60,6 @@ did_more old new is k d =
     let same : is ≡ more =
     at_range old.events more is new.events (0 + length old.events) (sym k.seen.1) n (subst P places d.there) in
     sym k.seen.1 ∙ ap (λ (z : List Item). old.events ++ z) (sym same)
-
-lemmas_at : (kind : LineKind) (line : Line) (X : ℕ) (es : List Entry) → AreLemmas kind line X es → AreAtCycle X es
-lemmas_at kind line X [] h k e g = absurd (cc)
-lemmas_at kind line X (x ∷ es) h zero e g =
-    let same : x ≡ e = cc in
-    sym (ap (λ (z : Entry). z.cycle) same) ∙ h.0
-lemmas_at kind line X (x ∷ es) h (suc k) e g = lemmas_at kind line X es h.2 k e g
 
 -- entries that are published leave the best balance alone
 publishes_keep : (s : Standing) (is : List Item) → ArePublish is → (replay s is).stations ≡ s.stations
@@ -187,21 +165,3 @@ module _ (old new : BookView) (ok : IsBook old) (okn : IsBook new) (k : Keeps (d
         within = few.sum;
         exact = λ all. absurd (not all);
       }
-
--- a fact on a kind of line, a line, a cycle, entries and a set, carried over to equal ones
-pub carried : (P : LineKind → Line → ℕ → List Entry → List Bool → Type 0) (kind kind' : LineKind) (line line' : Line)
-    (X X' : ℕ) (es es' : List Entry) (R R' : List Bool) → kind ≡ kind' → line ≡ line' → X ≡ X' → es ≡ es' → R ≡ R'
-    → P kind line X es R → P kind' line' X' es' R'
-carried P kind kind' line line' X X' es es' R R' a b c d e p =
-    let A : LineKind → Type 0 = λ z. P z line X es R in
-    let B : Line → Type 0 = λ z. P kind' z X es R in
-    let C : ℕ → Type 0 = λ z. P kind' line' z es R in
-    let D : List Entry → Type 0 = λ z. P kind' line' X' z R in
-    let E : List Bool → Type 0 = λ z. P kind' line' X' es' z in
-    subst E e (subst D d (subst C c (subst B b (subst A a p))))
-
--- a question that was refuted, and not by the bound, has an entry
-pub refuted_has : (kind : LineKind) (line : Line) (X : ℕ) (es : List Entry) (R : List Bool) (most left : ℕ) (r : Reason)
-    → bound kind line X R ≤ most → Decides kind line X es R most left (decided.Refuted r) → HasAnswer es R most X
-refuted_has kind line X es R most left reason.ByBound b d = absurd (omega (arith, b, d))
-refuted_has kind line X es R most left (reason.ByEntry id) b d = (id, d.1.entry, (d.1.there, d.1.answers))

@@ -3,4 +3,4 @@ pub mod Going
 pub mod RankedOnce
 pub mod Turns
 pub mod Endings
-pub mod JobFacts
+pub mod PurseFacts

@@ -1,4 +1,3 @@
-pub mod Jobs
 pub mod Plans
 pub mod Questions
 pub mod Rounds

@@ -10,13 +10,13 @@ use Rattle.line_rules.specs.declared.types.LineKind.{LineKind}
 use Rattle.line_rules.specs.declared.types.Balance.{Balance as Assignment}
 use Rattle.line_rules.specs.declared.types.OpenFrame.{OpenFrame}
 use Rattle.lemma_core.specs.Books.{BookView, IsReserved}
-use Rattle.round_run.specs.Rounds.{AreAtCycle}
+use Rattle.round_helpers.specs.Growth.{AreAtCycle}
 use Rattle.round_run.specs.declared.solving.Cause.{Cause}
 use Rattle.round_run.specs.declared.solving.Cause.TheVariants as cause
 use Rattle.round_run.specs.declared.questions.Asked.{Asked}
 use Rattle.round_run.specs.declared.questions.Stop.{Stop}
-use Rattle.round_run.specs.declared.rounds.Verdict.{Verdict}
-use Rattle.round_run.specs.declared.rounds.Verdict.TheVariants as verdict
+use Rattle.round_run.specs.declared.closing.Verdict.{Verdict}
+use Rattle.round_run.specs.declared.closing.Verdict.TheVariants as verdict
 
 -- A run from the question `first` on, whose next question is `lower`: an entry of the book refutes the one before it,
 -- where there is one, and the best balance has no more stations than the ranked one.
@@ -30,11 +30,14 @@ pub record IsRun (kind : LineKind) (line : Line) (c first lower : ℕ) (book : B
   pub ranked : (b : Assignment) → IsRankedBalance kind line c b → book.state.best.stations ≤ b.stations
   pub reserved : IsReserved book
 
--- The entries of the book have as many units as were used, and are at most as many, with one more for each question
--- that was refuted.
-pub record IsPaid (line : Line) (first lower used : ℕ) (book : BookView) : Type 0 where
-  pub units : UnitsOf line book.state.entries used
-  pub few : length book.state.entries + first ≤ used + lower
+-- The entries of the book have at least as many units as the closing passes used, and at most as many as these and the
+-- helpers together. They are at most as many, with one more for each question that was refuted.
+pub record IsPaid (line : Line) (first lower used helped : ℕ) (book : BookView) : Type 0 where
+  pub published : ℕ
+  pub units : UnitsOf line book.state.entries published
+  pub least : used ≤ published
+  pub most : published ≤ used + helped
+  pub few : length book.state.entries + first ≤ used + helped + lower
 
 -- the open frames where it stopped
 abbrev pub trail_of : Option Stop → List OpenFrame
@@ -52,10 +55,10 @@ stop_of verdict.Found = None
 stop_of (verdict.Spent frames) = stop_by cause.Units frames
 stop_of (verdict.NoMemory frames) = stop_by cause.Memory frames
 
--- Units ended: all N are listed, and the trail of the search is valid from the next question and open over the book.
+-- Units ended: at least N are listed, and the trail of the search is valid from the next question and open over the book.
 abbrev pub StopsBy : LineKind → Line → ℕ → ℕ → ℕ → BookView → ℕ → Cause → List OpenFrame → Type 0
 StopsBy kind line c N lower book listed cause.Units trail =
-    (listed ≡ N) × IsTrail kind line c book.state.entries (all_tasks line) lower trail
+    (N ≤ listed) × IsTrail kind line c book.state.entries (all_tasks line) lower trail
     × IsOpenOver line c book.state.entries trail
 StopsBy kind line c N lower book listed cause.Memory trail = Unit {0}
 
@@ -65,13 +68,14 @@ EndsBy kind line c N lower book listed None = book.state.best.stations ≤ lower
 EndsBy kind line c N lower book listed (Some stop) =
     (lower < book.state.best.stations) × StopsBy kind line c N lower book listed stop.cause stop.trail
 
--- A run of N units whose questions ended: the entries and the open frames have at most N units.
-pub record HasAsked (kind : LineKind) (line : Line) (c N first : ℕ) (asked : Asked) : Type 0 where
+-- A run whose questions ended, with N units for its closing passes and `helpers` for all its helpers: the entries and the
+-- open frames have no more units than these together.
+pub record HasAsked (kind : LineKind) (line : Line) (c N helpers first : ℕ) (asked : Asked) : Type 0 where
   pub run : IsRun kind line c first asked.lower asked.book
-  pub few : length asked.book.state.entries ≤ N + asked.lower
+  pub few : length asked.book.state.entries ≤ N + helpers + asked.lower
   pub published : ℕ
   pub listed : ℕ
   pub entry_units : UnitsOf line asked.book.state.entries published
   pub frame_units : UnitsIn line c (trail_of asked.stop) listed
-  pub within : published + listed ≤ N
+  pub within : published + listed ≤ N + helpers
   pub ends : EndsBy kind line c N asked.lower asked.book (published + listed) asked.stop

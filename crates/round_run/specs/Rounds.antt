@@ -1,5 +1,5 @@
 -- What deciding one question over a book does to the book, and what it answers.
-use Rattle.std.specs.Prelude.{◌≡◌, ℕ, ◌+◌, ◌<◌, ◌≤◌, ◌⊎◌, List, [], ◌∷◌, ◌++◌, length, slice_get, Some}
+use Rattle.std.specs.Prelude.{◌≡◌, ℕ, ◌+◌, ◌<◌, ◌≤◌, ◌⊎◌, List, [], ◌∷◌, length}
 use Rattle.line_instance.specs.Line.{Line}
 use Rattle.line_rules.specs.Balance.{all_tasks}
 use Rattle.line_rules.specs.Entries.{HasAnswer}
@@ -10,21 +10,13 @@ use Rattle.line_rules.specs.declared.types.Why.TheVariants as why
 use Rattle.line_rules.specs.declared.types.OpenFrame.{OpenFrame}
 use Rattle.lemma_core.specs.Books.{BookView}
 use Rattle.station_search.specs.Decide.{Stops}
-use Rattle.round_run.specs.declared.rounds.Verdict.{Verdict}
-use Rattle.round_run.specs.declared.rounds.Verdict.TheVariants as verdict
-
--- each entry has the cycle X
-abbrev pub AreAtCycle : ℕ → List Entry → Type 0
-AreAtCycle X es = (k : ℕ) (e : Entry) → slice_get es k ≡ Some e → e.cycle ≡ X
-
--- The book went on: it is about the same and opened with the same, its entries stay and these were added, each at the
--- book's cycle, and the best balance has no more stations than before.
-pub record GoesOn (old new : BookView) (gained : List Entry) : Type 0 where
-  pub about : new.about ≡ old.about
-  pub opening : new.opening ≡ old.opening
-  pub entries : new.state.entries ≡ old.state.entries ++ gained
-  pub cycles : AreAtCycle old.about.cycle gained
-  pub best : new.state.best.stations ≤ old.state.best.stations
+use Rattle.station_search.specs.declared.answers.Units.{Units}
+use Rattle.round_helpers.specs.Growth.{GoesOn, Helps}
+use Rattle.round_helpers.specs.Helping.{HasHelped}
+use Rattle.round_helpers.specs.declared.helping.Helped.TheVariants.{Unneeded}
+use Rattle.round_run.specs.declared.closing.Verdict.{Verdict}
+use Rattle.round_run.specs.declared.closing.Verdict.TheVariants as verdict
+use Rattle.round_run.specs.declared.rounds.Round.{Round}
 
 -- the entry by Bound that all tasks have no balance in so many stations
 abbrev pub by_bound : Line → ℕ → ℕ → Entry
@@ -84,3 +76,14 @@ StaysAbove most old new verdict.Refuted = most < old.state.best.stations → mos
 StaysAbove most old new verdict.Found = Unit {0}
 StaysAbove most old new (verdict.Spent frames) = most < old.state.best.stations → most < new.state.best.stations
 StaysAbove most old new (verdict.NoMemory frames) = most < old.state.best.stations → most < new.state.best.stations
+
+-- A round: the helpers did so much for the question, for so many units of theirs, and the book that came back is `mid`;
+-- then the closing pass began behind its entries, gained what it did for so many units, and gave the answer.
+pub record IsRound (old : BookView) (round : Round) (most : ℕ) (team : List Units) (helpers closing : ℕ)
+    : Type 0 where
+  pub mid : BookView
+  pub helps : Helps old mid helpers
+  pub helped : HasHelped old mid most team round.helped
+  pub still : round.helped ≡ Unneeded → mid ≡ old
+  pub gains : Gains mid round.book round.verdict closing
+  pub from : round.closing_from ≡ length mid.state.entries

@@ -14,7 +14,8 @@ use Rattle.line_rules.specs.declared.types.Balance.{Balance as Assignment}
 use Rattle.line_rules.specs.declared.types.OpenFrame.{OpenFrame}
 use Rattle.lemma_core.specs.Books.{BookView}
 use Rattle.budget_law.specs.Budget.{states}
-use Rattle.round_run.specs.Rounds.{AreAtCycle}
+use Rattle.round_helpers.specs.Growth.{AreAtCycle}
+use Rattle.round_run.specs.declared.plans.Plan.{Plan}
 use Rattle.round_run.specs.declared.solving.Cause.TheVariants as cause
 use Rattle.round_run.specs.declared.solving.Outcome.{Outcome}
 use Rattle.round_run.specs.declared.solving.Outcome.TheVariants as outcome
@@ -51,30 +52,35 @@ pub record IsStopped (kind : LineKind) (line : Line) (c N lower : ℕ) (book : B
   pub below : lower < book.state.best.stations
   pub goal : IsBelow line c book lower
 
--- The units ended: the lower bound is at least the bound of all tasks, and the best balance has no more stations than
--- the ranked one; the trail is valid from all tasks in `lower` stations, and open over the book; the entries and the
--- trail have N units, and N is below what the budget law allows.
-pub record IsSpent (kind : LineKind) (line : Line) (c N lower : ℕ) (book : BookView)
+-- The units of the closing passes ended: the lower bound is at least the bound of all tasks, and the best balance has no
+-- more stations than the ranked one; the trail is valid from all tasks in `lower` stations, and open over the book; the
+-- entries and the trail have at least the units of the plan, exactly so many without helpers, and these are fewer than the
+-- budget law allows.
+pub record IsSpent (kind : LineKind) (line : Line) (c : ℕ) (plan : Plan) (lower : ℕ) (book : BookView)
     (trail : List OpenFrame) : Type 0 where
-  pub stopped : IsStopped kind line c N lower book trail
+  pub stopped : IsStopped kind line c plan.units lower book trail
   pub from : bound kind line c (all_tasks line) ≤ lower
   pub ranked : (b : Assignment) → IsRankedBalance kind line c b → book.state.best.stations ≤ b.stations
   pub valid : IsTrail kind line c book.state.entries (all_tasks line) lower trail
   pub opens : IsOpenOver line c book.state.entries trail
-  pub units : UnitsWhole line book.state.entries (Some (record { cycle = c; frames = trail })) N
-  pub budget : N < (tasks line + 1) * states kind ^ tasks line
+  pub listed : ℕ
+  pub units : UnitsWhole line book.state.entries (Some (record { cycle = c; frames = trail })) listed
+  pub least : plan.units ≤ listed
+  pub alone : plan.helpers ≡ 0 → listed ≡ plan.units
+  pub most : listed ≤ 2 * plan.units
+  pub budget : plan.units < (tasks line + 1) * states kind ^ tasks line
 
 -- no task is longer than the cycle
 abbrev pub FitsAll : Line → ℕ → Type 0
 FitsAll line c = (i : ℕ) → IsTooLong line c i → ⊥
 
--- What a run without helpers answers: the least task that is longer than the cycle; else a balance of the fewest
--- stations; or bounds, where its N units ended or memory did. Out of memory is free.
-abbrev pub Solves : LineKind → Line → ℕ → ℕ → Outcome → Type 0
-Solves kind line c N (outcome.TooLong i) = IsLeastWhere (IsTooLong line c) i
-Solves kind line c N (outcome.Solved book) = FitsAll line c × IsSolved kind line c N book
-Solves kind line c N (outcome.Stopped cause.Units lower book trail) = FitsAll line c
-    × IsSpent kind line c N lower book trail
-Solves kind line c N (outcome.Stopped cause.Memory lower book trail) =
-    FitsAll line c × IsStopped kind line c N lower book trail
-Solves kind line c N outcome.NoMemory = Unit {0}
+-- What a run answers: the least task that is longer than the cycle; else a balance of the fewest stations; or bounds,
+-- where the units of its closing passes ended or memory did. Out of memory is free.
+abbrev pub Solves : LineKind → Line → ℕ → Plan → Outcome → Type 0
+Solves kind line c plan (outcome.TooLong i) = IsLeastWhere (IsTooLong line c) i
+Solves kind line c plan (outcome.Solved book) = FitsAll line c × IsSolved kind line c plan.units book
+Solves kind line c plan (outcome.Stopped cause.Units lower book trail) = FitsAll line c
+    × IsSpent kind line c plan lower book trail
+Solves kind line c plan (outcome.Stopped cause.Memory lower book trail) =
+    FitsAll line c × IsStopped kind line c plan.units lower book trail
+Solves kind line c plan outcome.NoMemory = Unit {0}

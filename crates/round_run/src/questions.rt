@@ -3,16 +3,18 @@
 //! Each round but the last refutes its question, so the next one asks for one station more.
 ghost use Rattle.std.specs.Prelude.{◌≡◌, []};
 ghost use Rattle.line_rules.specs.Ranges.{IsCycle};
+ghost use Rattle.round_helpers.specs.Helping.{IsTeam, all_used};
+ghost use Rattle.round_run.specs.Plans.{all_left};
 ghost use Rattle.round_run.specs.Questions.{IsRun, HasAsked, stop_of};
 
-use crate::gates::Gate;
+use crate::closing::Verdict;
 use crate::plans::Purse;
-use crate::rounds::{Verdict, decide_round};
+use crate::rounds::decide_round;
 use crate::solving::Cause;
 use lemma_core::Book;
 use line_instance::Instance;
 use line_rules::Frames;
-use station_search::Units;
+use round_helpers::Gate;
 use std::alloc::Global;
 use std::sync::Wait;
 use std::thread::Threads;
@@ -52,28 +54,25 @@ fn stop_of(verdict: Verdict) -> Option<Stop>
 }
 
 /// Asks whether all tasks have a balance in `first` stations, in one more, and so on, until the best balance of the
-/// book has at most as many, or units or memory end. There are no helpers.
+/// book has at most as many, or the units of the purse's closing pass or memory end. The purse is as a plan fills it.
 pub(crate) fn ask_all<R: Threads + Wait + Sync, G: Gate>(
     rt: &R,
     alloc: Global,
     inst: &Instance,
     book: Book,
     first: u32,
-    units: u64,
+    purse: Purse,
     gate: &G,
 ) -> Asked
     requires cycle { IsCycle book.about.cycle }
     requires begun { IsRun book.about.kind inst.now book.about.cycle first first book }
     requires empty { book.state.entries ≡ [] }
-    ensures { HasAsked book.about.kind inst.now book.about.cycle units first result }
+    requires team { IsTeam purse.helper.items }
+    requires fresh { (purse.closing.used ≡ 0) × (all_used purse.helper.items ≡ 0) }
+    ensures { HasAsked book.about.kind inst.now book.about.cycle purse.closing.left (all_left purse.helper.items) first
+        result }
 {
-    let mut purse = Purse {
-        closing: Units {
-            left: units,
-            used: 0,
-        },
-        helper: Vec::new(alloc),
-    };
+    let mut purse = purse;
     let mut book = book;
     let mut lower = first;
     'asking: while lower < book.best().stations {

@@ -3,7 +3,8 @@
 //! The bound of all tasks is the first lower bound and the ranked balance the first best one. While the lower bound is
 //! below the best balance, the question is decided whether all tasks have a balance in so many stations: a refuted one
 //! raises the lower bound by one, and a balance ends the run. All questions share one book, so what one refuted the
-//! next one cites. The cost is that of the searches: a unit for each load that is listed, of which a plan has so many.
+//! next one cites. The cost is that of the searches: a unit for each load that is listed, of which a plan has so many for
+//! its closing passes and as many again for all its helpers.
 ghost use Rattle.std.specs.Prelude.{◌≡◌, ◌-◌, ◌<◌, ◌≤◌, ℕ, [], IfOk, OnOk};
 ghost use Rattle.line_rules.specs.Balance.{all_tasks};
 ghost use Rattle.line_rules.specs.Bounds.{bound};
@@ -12,19 +13,20 @@ ghost use Rattle.line_rules.specs.Ranges.{IsCycle};
 ghost use Rattle.line_rules.specs.Ranked.{IsRankedBalance};
 ghost use Rattle.lemma_core.specs.Books.{IsReserved, MayBeBest};
 ghost use Rattle.round_run.specs.Plans.{IsPlan};
+ghost use Rattle.round_run.specs.declared.plans.Plan.{Plan as PlanOf};
 ghost use Rattle.round_run.specs.Questions.{IsRun, HasAsked};
 ghost use Rattle.round_run.specs.Rounds.{AddsBound};
 ghost use Rattle.round_run.specs.Solving.{FitsAll, IsBelow, Solves};
 
 use crate::bounding::refute_by_bound;
-use crate::gates::Gate;
-use crate::plans::Plan;
+use crate::plans::{Plan, fill};
 use crate::questions::{Asked, ask_all};
 use first_fit::{Ranked, ranked_balance};
 use lemma_core::Book;
 use line_instance::Instance;
 use line_rules::{Balance, Frames, LineKind};
 use lower_bounds::bound;
+use round_helpers::Gate;
 use std::alloc::{AllocError, Global};
 use std::sync::Wait;
 use std::thread::Threads;
@@ -60,7 +62,8 @@ pub enum Outcome {
 }
 
 /// The least number of stations in which a line of this kind has a balance at a cycle of 1 to 10^18, in the instance's
-/// time unit; or bounds on it, where the units of the plan ended first. The plan has no helpers.
+/// time unit; or bounds on it, where the units of the plan ended first. Helpers run in threads, in any order; they meet the
+/// gate before each publish. Without helpers the same plan gives the same answer each time.
 pub fn solve<R: Threads + Wait + Sync, G: Gate>(
     rt: &R,
     alloc: Global,
@@ -72,14 +75,13 @@ pub fn solve<R: Threads + Wait + Sync, G: Gate>(
 ) -> Outcome
     requires cycle { IsCycle cycle }
     requires plan { IsPlan plan.now }
-    requires alone { plan.now.helpers ≡ 0 }
-    ensures { Solves kind inst.now cycle plan.now.units result }
+    ensures { Solves kind inst.now cycle plan.now result }
 {
     match ranked_balance(alloc, inst, kind, cycle) {
         Ranked::TooLong(task) => Outcome::TooLong(task),
         Ranked::NoMemory => Outcome::NoMemory,
         Ranked::Good(best) => match open_book(alloc, inst, kind, cycle, best) {
-            Ok(book) => solve_from(rt, alloc, inst, book, plan.units, gate),
+            Ok(book) => solve_from(rt, alloc, inst, book, plan, gate),
             Err(_) => Outcome::NoMemory,
         },
     }
@@ -109,7 +111,7 @@ fn solve_from<R: Threads + Wait + Sync, G: Gate>(
     alloc: Global,
     inst: &Instance,
     book: Book,
-    units: u64,
+    plan: &Plan,
     gate: &G,
 ) -> Outcome
     requires same { book.about.line ≡ inst.now }
@@ -118,12 +120,16 @@ fn solve_from<R: Threads + Wait + Sync, G: Gate>(
     requires empty { book.state.entries ≡ [] }
     requires ranked { IsRankedBalance book.about.kind inst.now book.about.cycle book.state.best }
     requires reserved { IsReserved book }
-    ensures { Solves book.about.kind inst.now book.about.cycle units result }
+    requires plan { IsPlan plan.now }
+    ensures { Solves book.about.kind inst.now book.about.cycle plan.now result }
 {
+    let Ok(purse) = fill(alloc, plan) else {
+        return Outcome::NoMemory;
+    };
     let _tasks = inst.tasks();
     let _right = book.best();
     let first = bound(inst, book.kind(), book.cycle(), &inst.all());
-    let asked = ask_all(rt, alloc, inst, book, first, units, gate);
+    let asked = ask_all(rt, alloc, inst, book, first, purse, gate);
     concluded(inst, first, asked)
 }
 
@@ -133,9 +139,9 @@ fn concluded(inst: &Instance, first: u32, asked: Asked) -> Outcome
     requires run { IsRun asked.book.about.kind inst.now asked.book.about.cycle first asked.lower asked.book }
     requires first { first ≡ bound asked.book.about.kind inst.now asked.book.about.cycle (all_tasks inst.now) }
     requires fits { FitsAll inst.now asked.book.about.cycle }
-    ensures { (units : ℕ)
-        → HasAsked asked.book.about.kind inst.now asked.book.about.cycle units first asked
-        → Solves asked.book.about.kind inst.now asked.book.about.cycle units result }
+    ensures { (plan : PlanOf) (helpers : ℕ) → helpers ≤ plan.units → (plan.helpers ≡ 0 → helpers ≡ 0)
+        → HasAsked asked.book.about.kind inst.now asked.book.about.cycle plan.units helpers first asked
+        → Solves asked.book.about.kind inst.now asked.book.about.cycle plan result }
 {
     let _tasks = inst.tasks();
     let Asked {

@@ -1,18 +1,19 @@
 //! What no clause says: small runs as they were worked out outside, with the entries that they publish and the units
 //! that they need.
-ghost use Rattle.std.specs.Prelude.{◌≡◌, ◌≤◌, IfOk};
+ghost use Rattle.std.specs.Prelude.{◌≡◌, ◌+◌, ◌^◌, ◌<◌, ◌≤◌, IfOk};
 ghost use Rattle.line_rules.specs.Ranges.{IsCycle};
 ghost use Rattle.line_rules.specs.declared.types.LineKind.TheVariants.{Straight};
 ghost use Rattle.lemma_core.specs.Machine.{About};
 ghost use Rattle.lemma_core.specs.Books.{IsReserved, MayBeBest};
+ghost use Rattle.round_helpers.specs.Helping.{IsTeam};
 
-use crate::{AlwaysOpen, Outcome, Plan, Purse, Verdict, decide_round, jobs, solve};
+use crate::plans::fill;
+use crate::{AlwaysOpen, Outcome, Plan, Purse, Verdict, decide_round, solve};
 use lemma_core::Book;
 use line_instance::{Instance, Made, Prec, make};
 use line_rules::{
     Balance, BalanceCheck, Entry, LineKind, Places, Seatplace, Side, Why, check_balance,
 };
-use station_search::Units;
 use std::alloc::{AllocError, Global};
 use std::sync::Wait;
 use std::test::Fail;
@@ -146,23 +147,6 @@ fn solves_six_tasks_in_two_entries(rt: HostRuntime) -> Result<(), Fail> {
     Ok(())
 }
 
-#[test]
-fn lists_two_jobs_of_seven_tasks(rt: HostRuntime) -> Result<(), Fail> {
-    let alloc = rt.alloc();
-    let inst = seven(alloc)?;
-    let mut text = String::new(alloc);
-    for job in &jobs(alloc, &inst, LineKind::Straight, CYCLE, 4)? {
-        let (set, front) = (job.set, job.load.front);
-        let one = format!(in alloc; "{front} {set}|")?;
-        text.push_str(one.as_str())?;
-    }
-    assert_eq!(&rt;
-        text.as_str(),
-        "{1} {0, 2, 3, 4, 5, 6}|{0} {1, 2, 3, 4, 5, 6}|"
-    );
-    Ok(())
-}
-
 // Each task at a station of its own.
 fn alone(alloc: Global, tasks: u32) -> Result<Balance, AllocError> {
     let mut place = Vec::new(alloc);
@@ -200,24 +184,35 @@ fn book_of(alloc: Global, inst: &Instance) -> Result<Book, Fail>
     Ok(book)
 }
 
+// A purse with so many units for the closing pass, and for each of some helpers.
+fn purse_of(alloc: Global, units: u32, helpers: u32, each: u32) -> Result<Purse, Fail>
+    requires { helpers ≤ 64 }
+    ensures team { IfOk result (λ p. IsTeam p.helper.items) }
+    ensures units { IfOk result (λ p. p.closing.used + p.closing.left < 2 ^ 64) }
+{
+    let plan = Plan {
+        helpers,
+        units: u64::from(each.min(40_000)) * u64::from(helpers) + 1,
+    };
+    let mut purse = fill(alloc, &plan)?;
+    purse.closing.left = u64::from(units);
+    Ok(purse)
+}
+
 // The answer to a question over an empty book, as a text.
 fn round_text<R: Threads + Wait + Sync>(
     rt: &R,
     alloc: Global,
     inst: &Instance,
     most: u32,
-    units: u32,
+    purse: Purse,
 ) -> Result<String, Fail>
     requires some { 1 ≤ most }
     requires few { most ≤ 1024 }
+    requires team { IsTeam purse.helper.items }
+    requires units { purse.closing.used + purse.closing.left < 2 ^ 64 }
 {
-    let mut purse = Purse {
-        closing: Units {
-            left: u64::from(units),
-            used: 0,
-        },
-        helper: Vec::new(alloc),
-    };
+    let mut purse = purse;
     let book = book_of(alloc, inst)?;
     let round = decide_round(rt, alloc, inst, book, most, &mut purse, &AlwaysOpen);
     let verdict = match &round.verdict {
@@ -226,26 +221,49 @@ fn round_text<R: Threads + Wait + Sync>(
         Verdict::Spent(_) => "spent",
         Verdict::NoMemory(_) => "no memory",
     };
-    let (from, used) = (round.closing_from, purse.closing.used);
-    let text = book_text(alloc, &round.book)?;
-    Ok(format!(in alloc; "{verdict} from {from} used {used} {text}")?)
+    let (helped, from, used) = (round.helped, round.closing_from, purse.closing.used);
+    let mut text = book_text(alloc, &round.book)?;
+    for units in &purse.helper {
+        let one = format!(in alloc; " helper {}", units.used)?;
+        text.push_str(one.as_str())?;
+    }
+    Ok(format!(in alloc; "{helped:?} {verdict} from {from} used {used} {text}")?)
 }
 
 // What refutes seven tasks in four stations, over an empty book whose best balance has seven.
-const SEVEN: &str = "refuted from 0 used 48 7|branch {2, 3, 4, 5, 6} 2|branch {0, 2, 3, 4, 5, 6} 3|\
+const SEVEN: &str = "Unneeded refuted from 0 used 48 7|branch {2, 3, 4, 5, 6} 2|branch {0, 2, 3, 4, 5, 6} 3|\
     swap {1, 2, 3, 4, 5, 6} 3|branch {0, 1, 2, 3, 4, 5, 6} 4|";
+
+// The same after a helper did both jobs of the question.
+const A_ROUND: &str = "Whole refuted from 3 used 17 7|branch {2, 3, 4, 5, 6} 2|branch {0, 2, 3, 4, 5, 6} 3|\
+    branch {1, 2, 3, 4, 5, 6} 3|branch {0, 1, 2, 3, 4, 5, 6} 4| helper 49";
 
 #[test]
 fn decides_questions_over_an_empty_book(rt: HostRuntime) -> Result<(), Fail> {
     let alloc = rt.alloc();
     let inst = seven(alloc)?;
-    assert_eq!(&rt; round_text(&rt, alloc, &inst, 4, 48)?.as_str(), SEVEN);
+    let purse = purse_of(alloc, 48, 0, 0)?;
+    assert_eq!(&rt; round_text(&rt, alloc, &inst, 4, purse)?.as_str(), SEVEN);
+    let purse = purse_of(alloc, 48, 0, 0)?;
     assert_eq!(&rt;
-        round_text(&rt, alloc, &inst, 3, 48)?.as_str(),
-        "refuted from 0 used 0 7|bound {0, 1, 2, 3, 4, 5, 6} 3|"
+        round_text(&rt, alloc, &inst, 3, purse)?.as_str(),
+        "Unneeded refuted from 0 used 0 7|bound {0, 1, 2, 3, 4, 5, 6} 3|"
     );
-    let text = round_text(&rt, alloc, &five(alloc)?, 3, 1000)?;
-    assert!(&rt; text.as_str().starts_with("found from 0 "));
+    let purse = purse_of(alloc, 1000, 0, 0)?;
+    let text = round_text(&rt, alloc, &five(alloc)?, 3, purse)?;
+    assert!(&rt; text.as_str().starts_with("Unneeded found from 0 "));
     assert!(&rt; text.as_str().ends_with(" 3|"));
+    Ok(())
+}
+
+#[test]
+fn has_a_helper_do_the_jobs_of_a_round(rt: HostRuntime) -> Result<(), Fail> {
+    let alloc = rt.alloc();
+    let inst = seven(alloc)?;
+    let purse = purse_of(alloc, 17, 1, 200)?;
+    assert_eq!(&rt; round_text(&rt, alloc, &inst, 4, purse)?.as_str(), A_ROUND);
+    let purse = purse_of(alloc, 48, 2, 0)?;
+    let text = round_text(&rt, alloc, &inst, 4, purse)?;
+    assert!(&rt; text.as_str().starts_with("Cut(1) refuted from 0 used 48 "));
     Ok(())
 }

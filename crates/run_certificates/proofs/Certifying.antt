@@ -24,8 +24,9 @@ use Rattle.line_rules.proofs.Proved.{accepted_true, infeasible_true}
 use Rattle.lemma_core.specs.Machine.{About}
 use Rattle.lemma_core.specs.Own.{AreStatable}
 use Rattle.lemma_core.specs.Books.{BookView, MayBeBest}
-use Rattle.round_run.specs.Rounds.{AreAtCycle}
+use Rattle.round_helpers.specs.Growth.{AreAtCycle}
 use Rattle.round_run.specs.Solving.{IsRunBook, IsSolved, IsStopped, IsSpent}
+use Rattle.round_run.specs.declared.plans.Plan.{Plan}
 use Rattle.cert_files.specs.Trim.{IsTrimmed}
 use Rattle.run_certificates.specs.Certified.{IsCertified, IsOptimum, IsStop, IsNoBalance, about_stations, max_units}
 use Rattle.run_certificates.proofs.Sayable.{entries_ok, trail_ok, balance_ok, all_are_tasks}
@@ -130,31 +131,38 @@ module _ (kind : LineKind) (line : Line) (c N : ℕ) (book : BookView) (es : Lis
       some_stations : IsLeastStations kind line c b.stations → IsRight kind line c b → 1 ≤ b.stations
       some_stations l r = (balance_ok kind line c b ok r (right_of kind line c book.about b solved.run.about best).few).some
 
-  -- the certificate of a run whose units ended
-  pub stop : (lower : ℕ) (frames : List OpenFrame) → IsSpent kind line c N lower book frames → IsFresh es
-      → IsStop kind line c N lower book.state.best (about_stations kind line c (claim.Bounds lower b.stations b es (Some (record { cycle = c; frames = frames }))))
+-- the certificate of a run whose units ended
+module _ (kind : LineKind) (line : Line) (c : ℕ) (plan : Plan) (book : BookView) (es : List Entry) (b : Assignment)
+    (ok : IsLine line) (cycle : IsCycle c) (limit : plan.units ≤ 3000000)
+    (es_are : es ≡ book.state.entries) (b_is : b ≡ book.state.best)
+    (derived : IsDerived book.about.kind book.about.line es) (statable : AreStatable es) (best : MayBeBest book.about b) where
+  pub stop : (lower : ℕ) (frames : List OpenFrame) → IsSpent kind line c plan lower book frames → IsFresh es
+      → IsStop kind line c plan lower book.state.best (about_stations kind line c (claim.Bounds lower b.stations b es (Some (record { cycle = c; frames = frames }))))
   stop lower frames spent fresh =
       let run = spent.stopped.run in
       let derived' = derived_of kind line c book.about es run.about derived in
       let right = right_of kind line c book.about b run.about best in
       let trail : Trail = record { cycle = c; frames = frames } in
       let A : List Entry → Type 0 = AreAtCycle c in
-      let W : List Entry → Type 0 = λ x. UnitsWhole line x (Some trail) N in
+      let W : List Entry → Type 0 = λ x. UnitsWhole line x (Some trail) spent.listed in
       let V : List Entry → Type 0 = λ x. IsTrail kind line c x (all_tasks line) lower frames in
       let O : List Entry → Type 0 = λ x. IsOpenOver line c x frames in
       let G : List Entry → Type 0 = λ x. 1 < lower → HasAnswer x (all_tasks line) (lower - 1) c in
       let below : lower < b.stations = omega (arith, spent.stopped.below, ap (λ (x : Assignment). x.stations) b_is) in
       let valid = subst V (sym es_are) spent.valid in
-      let B : Assignment → Type 0 = λ x. IsStop kind line c N lower x (about_stations kind line c (claim.Bounds lower b.stations b es (Some trail))) in
+      let B : Assignment → Type 0 = λ x. IsStop kind line c plan lower x (about_stations kind line c (claim.Bounds lower b.stations b es (Some trail))) in
       subst B b_is (record {
         entries = es;
         frames = frames;
-        certified = certified kind line c lower b es (Some trail) N ok cycle spent.stopped.some (omega (arith, below)) right.right right.few derived'
-            (entries_ok kind line es derived' statable (many frames run))
+        certified = certified kind line c lower b es (Some trail) spent.listed ok cycle spent.stopped.some (omega (arith, below)) right.right right.few derived'
+            (entries_ok kind line es derived' statable (many kind line c plan.units book es b ok cycle limit es_are b_is derived statable best frames run))
             (subst A (sym es_are) run.cycles) (subst G (sym es_are) spent.stopped.goal) (lower, (refl, omega arith, below), valid)
             (trail_ok kind line c es (all_tasks line) lower frames cycle (all_are_tasks line ok) (omega (arith, below, right.few, ok.small)) valid)
-            (subst W (sym es_are) spent.units) (omega (arith, limit));
+            (subst W (sym es_are) spent.units) (omega (arith, limit, spent.most));
+        units = spent.listed;
         below = below;
+        least = spent.least;
+        alone = spent.alone;
         fresh = fresh;
         opens = subst O (sym es_are) spent.opens;
         budget = spent.budget;

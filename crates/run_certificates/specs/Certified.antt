@@ -17,7 +17,8 @@ use Rattle.line_rules.specs.declared.types.Claim.{Claim}
 use Rattle.line_rules.specs.declared.types.Claim.TheVariants as claim
 use Rattle.line_rules.specs.declared.types.Certificate.{Certificate}
 use Rattle.budget_law.specs.Budget.{states}
-use Rattle.round_run.specs.Rounds.{AreAtCycle}
+use Rattle.round_helpers.specs.Growth.{AreAtCycle}
+use Rattle.round_run.specs.declared.plans.Plan.{Plan}
 
 -- the most units that a certificate may have, so that the check walks them with its default steps
 abbrev pub max_units : ℕ
@@ -47,16 +48,21 @@ pub record IsOptimum (kind : LineKind) (line : Line) (c : ℕ) (b : Assignment) 
   pub certified : IsCertified kind line c b.stations b entries None units cert
   pub least : IsLeastStations kind line c b.stations
 
--- The certificate of a search that used its N units: its bounds differ; its entries, of which none is answered by an earlier
--- one, and its trail have exactly N units; the trail is open over the entries; and N is below what the budget law allows.
-pub record IsStop (kind : LineKind) (line : Line) (c N lower : ℕ) (b : Assignment) (cert : Certificate) : Type 0 where
+-- The certificate of a search that used the units of its plan: its bounds differ; its entries, of which none is answered by
+-- an earlier one, and its trail have at least these units, exactly so many without helpers; the trail is open over the
+-- entries; and the units of the plan are below what the budget law allows.
+pub record IsStop (kind : LineKind) (line : Line) (c : ℕ) (plan : Plan) (lower : ℕ) (b : Assignment) (cert : Certificate)
+    : Type 0 where
   pub entries : List Entry
   pub frames : List OpenFrame
-  pub certified : IsCertified kind line c lower b entries (Some (record { cycle = c; frames = frames })) N cert
+  pub units : ℕ
+  pub certified : IsCertified kind line c lower b entries (Some (record { cycle = c; frames = frames })) units cert
   pub below : lower < b.stations
+  pub least : plan.units ≤ units
+  pub alone : plan.helpers ≡ 0 → units ≡ plan.units
   pub fresh : IsFresh entries
   pub opens : IsOpenOver line c entries frames
-  pub budget : N < (tasks line + 1) * states kind ^ tasks line
+  pub budget : plan.units < (tasks line + 1) * states kind ^ tasks line
 
 -- The certificate that there is no balance, in any number of stations: it names the least task that is longer than the
 -- cycle.

@@ -9,8 +9,9 @@ ghost use Rattle.line_rules.specs.Ranges.{IsCycle, AreEntries};
 ghost use Rattle.line_rules.specs.Units.{UnitsOf};
 ghost use Rattle.line_rules.specs.declared.types.LineKind.{LineKind as Kind};
 ghost use Rattle.cert_files.specs.Trim.{CitesEarlier};
-ghost use Rattle.round_run.specs.Rounds.{AreAtCycle};
+ghost use Rattle.round_helpers.specs.Growth.{AreAtCycle};
 ghost use Rattle.round_run.specs.Solving.{IsSolved, IsSpent};
+ghost use Rattle.round_run.specs.declared.plans.Plan.{Plan};
 ghost use Rattle.run_certificates.specs.Certified.{about_stations, IsOptimum, IsStop, IsNoBalance};
 
 use cert_files::trim;
@@ -95,9 +96,9 @@ pub fn certify_stop(
     frames: Frames,
 ) -> Certificate
     requires cycle { IsCycle cycle }
-    ensures { (N : ℕ) → N ≤ 3000000
-        → IsSpent kind inst.now cycle N lower book frames
-        → IsStop kind inst.now cycle N lower book.state.best result }
+    ensures { (plan : Plan) → plan.units ≤ 3000000
+        → IsSpent kind inst.now cycle plan lower book frames
+        → IsStop kind inst.now cycle plan lower book.state.best result }
 {
     let (entries, balance) = book.into_parts();
     let upper = u64::from(balance.stations);

@@ -19,6 +19,7 @@ use Rattle.line_rules.specs.declared.types.Certificate.{Certificate}
 use Rattle.cert_text.specs.Cert.{cert_text}
 use Rattle.budget_law.specs.Budget.{states}
 use Rattle.run_certificates.specs.Certified.{about_stations, max_units}
+use Rattle.round_run.specs.declared.plans.Plan.{Plan}
 use Rattle.command_outcome.specs.Outcome.{Files}
 use Rattle.command_outcome.specs.declared.report.Kept.{Kept}
 use Rattle.command_outcome.specs.declared.report.Kept.TheVariants.{Line as Certified}
@@ -32,21 +33,23 @@ use Rattle.solve_command.specs.SolutionText.{optimal_text, stopped_text}
 abbrev pub bounds_text : LineKind → ℕ → Assignment → ℕ → List ℕ
 bounds_text kind lower b idle = cond (nat_eq lower b.stations) (optimal_text kind b idle) (stopped_text kind lower b idle)
 
--- The N units were spent on loads that the certificate lists: its entries and its trail have exactly N units, no entry is
--- answered by an earlier one, and the trail, which is valid since the certificate is accepted, has a further load.
-pub record AreSpent (line : Line) (c N : ℕ) (es : List Entry) (trail : Option Trail) (units : ℕ) : Type 0 where
+-- The units of the plan were spent on loads that the certificate lists: its entries and its trail have at least so many
+-- units, exactly so many without helpers, no entry is answered by an earlier one, and the trail, which is valid since the
+-- certificate is accepted, has a further load.
+pub record AreSpent (line : Line) (c : ℕ) (plan : Plan) (es : List Entry) (trail : Option Trail) (units : ℕ) : Type 0 where
   pub frames : List OpenFrame
   pub left : trail ≡ Some (record { cycle = c; frames = frames })
-  pub exactly : units ≡ N
+  pub least : plan.units ≤ units
+  pub alone : plan.helpers ≡ 0 → units ≡ plan.units
   pub fresh : IsFresh es
   pub opens : IsOpenOver line c es frames
 
 -- What is promised of bounds: the printed balance keeps every precedence and the cycle; the certificate is accepted by the
 -- check with its default steps; no balance of that kind has fewer stations than the lower bound; what is printed are the
--- certificate's bounds and balance; the bounds differ only where the N units were spent on loads that the certificate lists,
--- and status 1 says so; where they are equal they are the least number of stations; and they are equal where N is at least
--- (n + 1) x 3^n for n tasks, and on a U-line (n + 1) x 4^n.
-pub record HasBounds (kind : LineKind) (line : Line) (c N : ℕ) (certificate : Certificate) (status : Status) (text : List ℕ)
+-- certificate's bounds and balance; the bounds differ only where the units of the plan were spent on loads that the
+-- certificate lists, and status 1 says so; where they are equal they are the least number of stations; and they are equal
+-- where the units are at least (n + 1) x 3^n for n tasks, and on a U-line (n + 1) x 4^n.
+pub record HasBounds (kind : LineKind) (line : Line) (c : ℕ) (plan : Plan) (certificate : Certificate) (status : Status) (text : List ℕ)
     : Type 0 where
   pub lower : ℕ
   pub balance : Assignment
@@ -59,9 +62,9 @@ pub record HasBounds (kind : LineKind) (line : Line) (c N : ℕ) (certificate : 
   pub few : units ≤ max_units
   pub true_bounds : IsProved kind line (ask.Stations c) lower balance.stations
   pub printed : text ≡ bounds_text kind lower balance (idle_time line c balance.stations)
-  pub differ : lower < balance.stations → (status ≡ ends.Stopped) × AreSpent line c N entries trail units
+  pub differ : lower < balance.stations → (status ≡ ends.Stopped) × AreSpent line c plan entries trail units
   pub equal : lower ≡ balance.stations → (status ≡ ends.Done) × IsLeastStations kind line c lower
-  pub complete : (tasks line + 1) * states kind ^ tasks line ≤ N → lower ≡ balance.stations
+  pub complete : (tasks line + 1) * states kind ^ tasks line ≤ plan.units → lower ≡ balance.stations
 
 -- What is promised where a task is longer than the cycle: the least such task is printed, the certificate names it and is
 -- accepted, and no number of stations is enough.
@@ -80,17 +83,17 @@ HasCertificate None after certificate = Unit {0}
 HasCertificate (Some name) after certificate = after name ≡ Some (cert_text certificate)
 
 -- what is printed is shown by a certificate, which is kept
-pub record IsShown (kind : LineKind) (line : Line) (c N : ℕ) (status : Status) (text : List ℕ) (kept : Kept) : Type 0 where
+pub record IsShown (kind : LineKind) (line : Line) (c : ℕ) (plan : Plan) (status : Status) (text : List ℕ) (kept : Kept) : Type 0 where
   pub certificate : Certificate
   pub keeps : kept ≡ Certified certificate
-  pub shows : HasBounds kind line c N certificate status text ⊎ HasNone kind line c certificate status text
+  pub shows : HasBounds kind line c plan certificate status text ⊎ HasNone kind line c certificate status text
 
 -- The promise of `solve` for the line and the cycle that the files say: what is printed is shown by a certificate, which is
 -- kept, and written where the words name a file.
-pub record IsPromised (files after : Files) (file : List ℕ) (apart : Option (List ℕ)) (word : Option ℕ) (kind : LineKind) (N : ℕ)
+pub record IsPromised (files after : Files) (file : List ℕ) (apart : Option (List ℕ)) (word : Option ℕ) (kind : LineKind) (plan : Plan)
     (name : Option (List ℕ)) (status : Status) (text : List ℕ) (kept : Kept) : Type 0 where
   pub line : Line
   pub c : ℕ
   pub said : IsSaid files file apart word line c
-  pub shown : IsShown kind line c N status text kept
+  pub shown : IsShown kind line c plan status text kept
   pub written : HasCertificate name after shown.certificate

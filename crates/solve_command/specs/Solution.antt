@@ -10,6 +10,7 @@ use Rattle.line_rules.specs.declared.types.Ask.TheVariants as ask
 use Rattle.line_rules.specs.declared.types.Certificate.{Certificate}
 use Rattle.cert_text.specs.Cert.{cert_text}
 use Rattle.run_certificates.specs.Certified.{IsOptimum, IsStop, IsNoBalance}
+use Rattle.round_run.specs.declared.plans.Plan.{Plan}
 use Rattle.command_outcome.specs.Outcome.{Files, Outside, Page, Outcome, told}
 use Rattle.command_outcome.specs.declared.report.Kept.TheVariants.{Line as Certified}
 use Rattle.command_outcome.specs.declared.status.Status.{Status}
@@ -34,12 +35,12 @@ pub record IsOptimal (kind : LineKind) (line : Line) (c : ℕ) (name : Option (L
   pub proved : IsOptimum kind line c balance certificate
   pub shown : out ≡ certified_by name certificate ends.Done (optimal_text kind balance (idle_time line c balance.stations))
 
--- The N units were used: the bounds and the balance that are printed are those of the certificate, which lists the units.
-pub record IsStopped (kind : LineKind) (line : Line) (c N : ℕ) (name : Option (List ℕ)) (out : Outcome) : Type 0 where
+-- The units of the plan were used: the bounds and the balance that are printed are those of the certificate, which lists the units.
+pub record IsStopped (kind : LineKind) (line : Line) (c : ℕ) (plan : Plan) (name : Option (List ℕ)) (out : Outcome) : Type 0 where
   pub lower : ℕ
   pub balance : Assignment
   pub certificate : Certificate
-  pub proved : IsStop kind line c N lower balance certificate
+  pub proved : IsStop kind line c plan lower balance certificate
   pub shown : out ≡ certified_by name certificate ends.Stopped (stopped_text kind lower balance (idle_time line c balance.stations))
 
 -- There is no balance: the least task that is longer than the cycle is printed, and the certificate names it.
@@ -51,8 +52,8 @@ pub record IsInfeasible (kind : LineKind) (line : Line) (c : ℕ) (name : Option
   pub shown : out ≡ certified_by name certificate ends.Done (infeasible_text task (time line task))
 
 -- what is found with a certificate
-abbrev pub IsSolution : LineKind → Line → ℕ → ℕ → Option (List ℕ) → Outcome → Type 0
-IsSolution kind line c N name out = IsOptimal kind line c name out ⊎ IsStopped kind line c N name out ⊎ IsInfeasible kind line c name out
+abbrev pub IsSolution : LineKind → Line → ℕ → Plan → Option (List ℕ) → Outcome → Type 0
+IsSolution kind line c plan name out = IsOptimal kind line c name out ⊎ IsStopped kind line c plan name out ⊎ IsInfeasible kind line c name out
 
 -- a run with a certificate is done, or its units ended
 abbrev pub IsSolveStatus : Status → Type 0
@@ -67,12 +68,12 @@ pub record IsCutShort (kind : LineKind) (line : Line) (c : ℕ) (out : Outcome) 
   pub shown : out ≡ told ends.Memory (cut_short_text lower upper)
 
 -- the files say the line and the cycle time, and this is answered of them
-pub record IsAnswered (files : Files) (file : List ℕ) (apart : Option (List ℕ)) (word : Option ℕ) (kind : LineKind) (N : ℕ) (name : Option (List ℕ)) (out : Outcome) : Type 0 where
+pub record IsAnswered (files : Files) (file : List ℕ) (apart : Option (List ℕ)) (word : Option ℕ) (kind : LineKind) (plan : Plan) (name : Option (List ℕ)) (out : Outcome) : Type 0 where
   pub line : Line
   pub c : ℕ
   pub said : IsSaid files file apart word line c
-  pub answer : IsSolution kind line c N name out ⊎ IsCutShort kind line c out
+  pub answer : IsSolution kind line c plan name out ⊎ IsCutShort kind line c out
 
--- What `solve` comes to with N units and no helpers: an answer, or why the files say no line with a cycle time.
-abbrev pub IsSolveOutcome : Outside → List ℕ → Option (List ℕ) → Option ℕ → LineKind → ℕ → Option (List ℕ) → Outcome → Type 0
-IsSolveOutcome o file apart word kind N name out = IsAnswered o.files file apart word kind N name out ⊎ IsUnsaid o file apart word out
+-- What `solve` comes to with so many helpers and units: an answer, or why the files say no line with a cycle time.
+abbrev pub IsSolveOutcome : Outside → List ℕ → Option (List ℕ) → Option ℕ → LineKind → Plan → Option (List ℕ) → Outcome → Type 0
+IsSolveOutcome o file apart word kind plan name out = IsAnswered o.files file apart word kind plan name out ⊎ IsUnsaid o file apart word out

@@ -11,6 +11,7 @@ ghost use Rattle.line_rules.specs.declared.types.Certificate.{Certificate as Pro
 ghost use Rattle.command_outcome.specs.declared.report.Kept.TheVariants.{Line as Certified};
 ghost use Rattle.line_words.specs.Ranges.{IsSetBetween};
 ghost use Rattle.round_run.specs.Plans.{IsPlan};
+ghost use Rattle.round_run.specs.declared.plans.Plan.{Plan as PlanOf};
 ghost use Rattle.round_run.specs.Solving.{IsSolved, IsSpent, IsStopped as HasStopped};
 ghost use Rattle.command_outcome.specs.Outcome.{Files, Ends, MayEnd, Stay, Stops, MayStop, outside, outcome_of};
 ghost use Rattle.command_outcome.specs.declared.status.Status.TheVariants as ends;
@@ -68,10 +69,10 @@ fn stopped(
     trail: Frames,
 ) -> Result<Report, AllocError>
     requires cycle { IsCycle cycle }
-    requires spent { (N : ℕ) × (N ≤ 3000000) × IsSpent kind inst.now cycle N lower book trail }
-    ensures { IfOk result (λ r. (N : ℕ) → N ≤ 3000000
-        → IsSpent kind inst.now cycle N lower book trail
-        → IsStopped kind inst.now cycle N None (outcome_of r None)) }
+    requires spent { (plan : PlanOf) × (plan.units ≤ 3000000) × IsSpent kind inst.now cycle plan lower book trail }
+    ensures { IfOk result (λ r. (plan : PlanOf) → plan.units ≤ 3000000
+        → IsSpent kind inst.now cycle plan lower book trail
+        → IsStopped kind inst.now cycle plan None (outcome_of r None)) }
 {
     let _tasks = inst.tasks();
     let balance = book.best();
@@ -137,11 +138,10 @@ fn solution<R: Threads + Wait + Sync, G: Gate>(
 ) -> Result<Report, Stop>
     requires cycle { IsCycle cycle }
     requires plan { IsPlan plan.now }
-    requires alone { plan.now.helpers ≡ 0 }
     ensures answer { MatchResult result
-        (λ r. IsSolution kind inst.now cycle plan.now.units None (outcome_of r None))
+        (λ r. IsSolution kind inst.now cycle plan.now None (outcome_of r None))
         (Stops (IsCutShort kind inst.now cycle)) }
-    ensures shown { IfOk result (λ r. IsShown kind inst.now cycle plan.now.units r.status r.text.items r.kept) }
+    ensures shown { IfOk result (λ r. IsShown kind inst.now cycle plan.now r.status r.text.items r.kept) }
     ensures good { IfOk result (λ r. IsSolveStatus r.status) }
     ensures fault { MatchResult result (λ _. Unit {0}) (MayStop ⊥) }
 {
@@ -171,8 +171,8 @@ fn written<S: Shelf>(
 ) -> Result<Report, Stop>
     requires sayable { (certificate : Proof) → report.kept ≡ Certified certificate → IsInRange certificate }
     ensures ends { S.tells → (files : Files) → Stay files (S.file shelf.old)
-        → (kind : Kind) (line : Line) (c N : ℕ) → IsSolution kind line c N None (outcome_of report None)
-        → Ends (outside files (S.blames shelf.new)) (IsSolution kind line c N (Some name.now)) (S.file shelf.new) result }
+        → (kind : Kind) (line : Line) (c : ℕ) (plan : PlanOf) → IsSolution kind line c plan None (outcome_of report None)
+        → Ends (outside files (S.blames shelf.new)) (IsSolution kind line c plan (Some name.now)) (S.file shelf.new) result }
     ensures same { IfOk result (λ r. r ≡ report) }
     ensures certificate { S.tells → IfOk result (λ r. (cert : Proof) → r.kept ≡ Certified cert → HasCertificate (Some name.now) (S.file shelf.new) cert) }
     ensures fault { MatchResult result (λ _. Unit {0}) (MayEnd (Rises (S.faults shelf.old) (S.faults shelf.new))) }
@@ -189,7 +189,7 @@ fn written<S: Shelf>(
 }
 
 /// The report of `solve` for the file of an instance, the file of the tasks that are apart, where there is one, the cycle time
-/// of the words, where they have one, the kind of line, the plan, which has no helpers, and the name of the file that the
+/// of the words, where they have one, the kind of line, the plan, and the name of the file that the
 /// certificate is written to, where there is one.
 pub fn solve_report<R: Threads + Wait + Sync, S: Shelf, G: Gate>(
     rt: &R,
@@ -205,14 +205,13 @@ pub fn solve_report<R: Threads + Wait + Sync, S: Shelf, G: Gate>(
 ) -> Result<Report, Stop>
     requires word { IsSetBetween 1 1000000000000000000 word }
     requires plan { IsPlan plan.now }
-    requires alone { plan.now.helpers ≡ 0 }
     ensures ends { S.tells → (let o = outside (S.file shelf.old) (S.blames shelf.new) in
-        Ends o (IsSolveOutcome o file.now (option_map (λ a. a.now) apart.entry) word kind plan.now.units (option_map (λ a. a.now) name.entry)) (S.file shelf.new) result) }
+        Ends o (IsSolveOutcome o file.now (option_map (λ a. a.now) apart.entry) word kind plan.now (option_map (λ a. a.now) name.entry)) (S.file shelf.new) result) }
     ensures good { IfOk result (λ r. IsSolveStatus r.status) }
     ensures fault { MatchResult result (λ _. Unit {0}) (MayEnd (Rises (S.faults shelf.old) (S.faults shelf.new))) }
     ensures unwritten { result ≡ Err Unwritten → (n : List ℕ) × (option_map (λ a. a.now) name.entry ≡ Some n) }
     ensures promise { S.tells → IfOk result (λ r.
-        IsPromised (S.file shelf.old) (S.file shelf.new) file.now (option_map (λ a. a.now) apart.entry) word kind plan.now.units (option_map (λ a. a.now) name.entry) r.status r.text.items r.kept) }
+        IsPromised (S.file shelf.old) (S.file shelf.new) file.now (option_map (λ a. a.now) apart.entry) word kind plan.now (option_map (λ a. a.now) name.entry) r.status r.text.items r.kept) }
 {
     let timed = said_instance(alloc, file, apart, word, shelf)?;
     let report = solution(rt, alloc, &timed.inst, kind, timed.cycle, plan, gate)?;

@@ -1,9 +1,10 @@
-use Rattle.std.proofs.Common.{◌≡◌, sym, ◌∙◌, subst}
+use Rattle.std.proofs.Common.{◌≡◌, ℕ, sym, ◌∙◌, subst}
 use Rattle.line_rules.specs.Balance.{all_tasks}
 use Rattle.line_rules.specs.Bounds.{bound}
 use Rattle.line_rules.specs.declared.types.Balance.{Balance as Assignment}
 use Rattle.lemma_core.specs.Machine.{About}
 use Rattle.lemma_core.specs.Books.{MayBeBest}
+use Rattle.round_run.specs.Plans.{all_left}
 use Rattle.round_run.specs.Questions.{HasAsked}
 use Rattle.round_run.specs.Solving.{Solves}
 use Rattle.round_run.proofs.Endings.{begins}
@@ -21,10 +22,18 @@ ask_all-asked-requires-clause-begun g c κs within =
     c.requires.empty (subst P c.best-right.ensures.best c.best-right.ensures.right) c.requires.ranked
     c.requires.reserved first
 
+pub ask_all-asked-requires-clause-fresh : goal.ask_all-asked-requires-clause-fresh
+ask_all-asked-requires-clause-fresh g c κs within = (c.in-Ok.ensures.used, c.in-Ok.ensures.none_used)
+
 pub returns : goal.returns
 returns g c =
     let P : About → Type 0 =
-    λ z. HasAsked z.kind c.args.inst.now z.cycle c.args.units c.bound-first.result c.ask_all-asked.result in
-    let Q : About → Type 0 = λ z. Solves z.kind c.args.inst.now z.cycle c.args.units c.concluded.result in
-    subst Q c.ask_all-asked.ensures.run.about (c.concluded.ensures c.args.units
-    (subst P (sym c.ask_all-asked.ensures.run.about) c.ask_all-asked.ensures))
+    λ z. HasAsked z.kind c.args.inst.now z.cycle c.in-Ok.purse.closing.left (all_left c.in-Ok.purse.helper.items)
+    c.bound-first.result c.ask_all-asked.result in
+    let N : ℕ → Type 0 =
+    λ z. HasAsked c.ask_all-asked.result.book.about.kind c.args.inst.now c.ask_all-asked.result.book.about.cycle z
+    (all_left c.in-Ok.purse.helper.items) c.bound-first.result c.ask_all-asked.result in
+    let Q : About → Type 0 = λ z. Solves z.kind c.args.inst.now z.cycle c.args.plan.now c.concluded.result in
+    subst Q c.ask_all-asked.ensures.run.about (c.concluded.ensures c.args.plan.now
+    (all_left c.in-Ok.purse.helper.items) c.in-Ok.ensures.few c.in-Ok.ensures.alone
+    (subst N c.in-Ok.ensures.left (subst P (sym c.ask_all-asked.ensures.run.about) c.ask_all-asked.ensures)))

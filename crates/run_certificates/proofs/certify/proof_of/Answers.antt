@@ -2,7 +2,7 @@ use Rattle.std.proofs.Common.{ℕ, ◌-◌}
 use Rattle.std.proofs.lemmas.Result.{IfOk-weaker}
 use Rattle.task_set.specs.Truths.{full_to}
 use Rattle.cert_files.specs.Trim.{IsTrimmed}
-use Rattle.round_run.specs.Rounds.{AreAtCycle}
+use Rattle.round_helpers.specs.Growth.{AreAtCycle}
 use Rattle.run_certificates.proofs.Certifying.{trimmed_cycles}
 use Rattle.run_certificates.proofs.certify.proof_of.Goals as goal
 

@@ -6,14 +6,14 @@ use Rattle.solve_command.proofs.solution.solution.Goals as goal
 
 pub returns-in_ok-optimal-in-Solved-clause-shown : goal.returns-in_ok-optimal-in-Solved-clause-shown
 returns-in_ok-optimal-in-Solved-clause-shown g c =
-    shown_of c.args.kind c.args.inst.now c.args.cycle c.args.plan.now.units None (outcome_of c.in_ok-optimal-in-Solved.field-0 None) (inl c.in_ok-optimal-in-Solved.ensures)
+    shown_of c.args.kind c.args.inst.now c.args.cycle c.args.plan.now None (outcome_of c.in_ok-optimal-in-Solved.field-0 None) (inl c.in_ok-optimal-in-Solved.ensures)
 
 pub returns-in_ok-stopped-in-Units-clause-shown : goal.returns-in_ok-stopped-in-Units-clause-shown
 returns-in_ok-stopped-in-Units-clause-shown g c =
-    shown_of c.args.kind c.args.inst.now c.args.cycle c.args.plan.now.units None (outcome_of c.in_ok-stopped-in-Units.field-0 None)
-    (inr (inl (c.in_ok-stopped-in-Units.ensures c.args.plan.now.units c.requires.plan.limit (spent_of c.args.kind c.args.inst.now c.args.cycle c.args.plan.now.units c.in-Stopped.cause c.in-Stopped.lower c.in-Stopped.book c.in-Stopped.trail c.in-Units.is c.in-Stopped.ensures))))
+    shown_of c.args.kind c.args.inst.now c.args.cycle c.args.plan.now None (outcome_of c.in_ok-stopped-in-Units.field-0 None)
+    (inr (inl (c.in_ok-stopped-in-Units.ensures c.args.plan.now c.requires.plan.limit (spent_of c.args.kind c.args.inst.now c.args.cycle c.args.plan.now c.in-Stopped.cause c.in-Stopped.lower c.in-Stopped.book c.in-Stopped.trail c.in-Units.is c.in-Stopped.ensures))))
 
 pub returns-in_ok-stopped-in-Units-clause-good : goal.returns-in_ok-stopped-in-Units-clause-good
 returns-in_ok-stopped-in-Units-clause-good g c =
-    stopped_status c.args.kind c.args.inst.now c.args.cycle c.args.plan.now.units c.in_ok-stopped-in-Units.field-0
-    (c.in_ok-stopped-in-Units.ensures c.args.plan.now.units c.requires.plan.limit (spent_of c.args.kind c.args.inst.now c.args.cycle c.args.plan.now.units c.in-Stopped.cause c.in-Stopped.lower c.in-Stopped.book c.in-Stopped.trail c.in-Units.is c.in-Stopped.ensures))
+    stopped_status c.args.kind c.args.inst.now c.args.cycle c.args.plan.now c.in_ok-stopped-in-Units.field-0
+    (c.in_ok-stopped-in-Units.ensures c.args.plan.now c.requires.plan.limit (spent_of c.args.kind c.args.inst.now c.args.cycle c.args.plan.now c.in-Stopped.cause c.in-Stopped.lower c.in-Stopped.book c.in-Stopped.trail c.in-Units.is c.in-Stopped.ensures))

@@ -15,7 +15,7 @@ returns-in_err-timed-clause-ends g c = λ t.
     let file : List ℕ = c.args.file.now in
     let apart : Option (List ℕ) = option_map (λ a. a.now) c.args.apart in
     let name : Option (List ℕ) = option_map (λ a. a.now) c.args.name in
-    let P : Outcome → Type 0 = IsSolveOutcome o file apart c.args.word c.args.kind c.args.plan.now.units name in
+    let P : Outcome → Type 0 = IsSolveOutcome o file apart c.args.word c.args.kind c.args.plan.now name in
     let after : Files = g.S.Shelf.file c.said_instance.new.shelf in
     let q = err_from_is_err_and c.from_residual.result c.from_residual.ensures.1 in
     subst (λ r. Ends o P after r) (sym q.1)
@@ -28,7 +28,7 @@ returns-in-None-clause-ends g c = λ t.
     let file : List ℕ = c.args.file.now in
     let apart : Option (List ℕ) = option_map (λ a. a.now) c.args.apart in
     let after : Files = g.S.Shelf.file c.said_instance.new.shelf in
-    let C : Option (List ℕ) → Type 0 = λ n. Comes o (IsSolveOutcome o file apart c.args.word c.args.kind c.args.plan.now.units n) after c.in_ok-report.report in
+    let C : Option (List ℕ) → Type 0 = λ n. Comes o (IsSolveOutcome o file apart c.args.word c.args.kind c.args.plan.now n) after c.in_ok-report.report in
     subst C (sym (ap (option_map (λ a. a.now)) c.in-None.is)) (record {
       page = None;
       reached = inl (record { line = c.in_ok-timed.timed.inst; c = c.in_ok-timed.timed.cycle; said = c.in_ok-timed.ensures.said t; answer = inl c.in_ok-report.ensures.answer });
@@ -37,7 +37,7 @@ returns-in-None-clause-ends g c = λ t.
 
 pub written-requires : goal.written-requires
 written-requires g c = record {
-  sayable = λ certificate kept. sayable c.args.kind c.in_ok-timed.timed.inst c.in_ok-timed.timed.cycle c.args.plan.now.units c.in_ok-report.report certificate kept c.in_ok-report.ensures.answer;
+  sayable = λ certificate kept. sayable c.args.kind c.in_ok-timed.timed.inst c.in_ok-timed.timed.cycle c.args.plan.now c.in_ok-report.report certificate kept c.in_ok-report.ensures.answer;
 }
 
 pub returns-clause-ends : goal.returns-clause-ends
@@ -49,13 +49,13 @@ returns-clause-ends g c = λ t.
     let after : Files = g.S.Shelf.file c.written.new.shelf in
     let line = c.in_ok-timed.timed.inst in
     let cycle = c.in_ok-timed.timed.cycle in
-    let N = c.args.plan.now.units in
+    let plan = c.args.plan.now in
     let name = Some c.in-Some.name.now in
-    let E : Option (List ℕ) → Type 0 = λ n. Ends o (IsSolveOutcome o file apart c.args.word c.args.kind N n) after c.written.result in
+    let E : Option (List ℕ) → Type 0 = λ n. Ends o (IsSolveOutcome o file apart c.args.word c.args.kind plan n) after c.written.result in
     subst E (sym (ap (option_map (λ a. a.now)) c.in-Some.is))
-    (ends_as o (IsSolution c.args.kind line cycle N name) (IsSolveOutcome o file apart c.args.word c.args.kind N name) after c.written.result
+    (ends_as o (IsSolution c.args.kind line cycle plan name) (IsSolveOutcome o file apart c.args.word c.args.kind plan name) after c.written.result
     (λ out p. inl (record { line = line; c = cycle; said = c.in_ok-timed.ensures.said t; answer = inl p }))
-    (c.written.ensures.ends t files (c.in_ok-timed.ensures.files t) c.args.kind line cycle N c.in_ok-report.ensures.answer))
+    (c.written.ensures.ends t files (c.in_ok-timed.ensures.files t) c.args.kind line cycle plan c.in_ok-report.ensures.answer))
 
 pub returns-clause-unwritten : goal.returns-clause-unwritten
 returns-clause-unwritten g c = λ e. (c.in-Some.name.now, ap (option_map (λ a. a.now)) c.in-Some.is)
@@ -68,7 +68,7 @@ returns-clause-promise g c = λ t.
     let apart : Option (List ℕ) = option_map (λ a. a.now) c.args.apart in
     let line = c.in_ok-timed.timed.inst in
     let cycle = c.in_ok-timed.timed.cycle in
-    let N = c.args.plan.now.units in
-    let R : Option (List ℕ) → Type 0 = λ n. IfOk c.written.result (λ r. IsPromised files after file apart c.args.word c.args.kind N n r.status r.text.items r.kept) in
+    let plan = c.args.plan.now in
+    let R : Option (List ℕ) → Type 0 = λ n. IfOk c.written.result (λ r. IsPromised files after file apart c.args.word c.args.kind plan n r.status r.text.items r.kept) in
     subst R (sym (ap (option_map (λ a. a.now)) c.in-Some.is))
-    (promised files after file apart c.args.word c.args.kind N c.in-Some.name.now line cycle c.in_ok-report.report c.written.result (c.in_ok-timed.ensures.said t) c.in_ok-report.ensures.shown c.written.ensures.same (c.written.ensures.certificate t))
+    (promised files after file apart c.args.word c.args.kind plan c.in-Some.name.now line cycle c.in_ok-report.report c.written.result (c.in_ok-timed.ensures.said t) c.in_ok-report.ensures.shown c.written.ensures.same (c.written.ensures.certificate t))

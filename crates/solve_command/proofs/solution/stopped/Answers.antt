@@ -5,10 +5,10 @@ use Rattle.solve_command.proofs.WrittenFacts.{stopped_as}
 use Rattle.solve_command.proofs.solution.stopped.Goals as goal
 
 pub returns : goal.returns
-returns c = λ N limit spent. record {
+returns c = λ plan limit spent. record {
   lower = c.args.lower;
   balance = c.args.book.state.best;
   certificate = c.certify_stop.result;
-  proved = c.certify_stop.ensures N limit spent;
+  proved = c.certify_stop.ensures plan limit spent;
   shown = ap (certified_by None c.certify_stop.result ends.Stopped) (stopped_as c.in_ok-text.text.items c.args.kind c.args.inst.now c.args.cycle c.args.lower c.best-balance.result.now c.args.book.state.best c.idle_of-idle.result c.in_ok-text.ensures c.best-balance.ensures.best c.idle_of-idle.ensures);
 }

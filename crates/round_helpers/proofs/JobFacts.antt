@@ -1,0 +1,364 @@
+-- The loads gone over so far, those still ahead, and the jobs found.
+use Rattle.std.proofs.Common.{◌≡◌, ℕ, zero, suc, ◌+◌, ◌-◌, ◌<◌, ◌≤◌, ◌⊎◌, Bool, true, false, cond, ◌&&◌, List, [], ◌∷◌}
+use Rattle.std.proofs.Common.{◌++◌, length, take, map, refl, sym, ap, ◌∙◌, subst, inl, inr, arith, append_assoc}
+use Rattle.std.proofs.Common.{length-append, Option, Some, None}
+use Rattle.std.specs.Prelude.{slice_get, slice_index_or, nat_lt}
+use Rattle.std.specs.List.{Contains}
+use Rattle.std.proofs.lemmas.Bool.{and_parts, and_from, lt-ltb, ltb-true, cases_Bool}
+use Rattle.std.proofs.lemmas.List.{append-nil, take_all}
+use Rattle.std.proofs.Math.Seq.{take-append_seam, take-append-add}
+use Rattle.line_instance.specs.Line.{Line, IsLine, IsRanked}
+use Rattle.line_rules.specs.Bounds.{bound}
+use Rattle.line_rules.specs.Balance.{all_tasks}
+use Rattle.line_rules.specs.Loads.{IsLoad, rest}
+use Rattle.line_rules.specs.Order.{Precedes, After, IsFollowing, Lists}
+use Rattle.line_rules.specs.Entries.{IsOpen}
+use Rattle.line_rules.specs.declared.types.LineKind.{LineKind}
+use Rattle.line_rules.specs.declared.types.Mode.{Mode}
+use Rattle.line_rules.specs.declared.types.Load.{Load}
+use Rattle.line_rules.proofs.Deciding.{is_open, is_full, is_load, load_so, full_is, full_so, loads_of, loads_listed}
+use Rattle.line_rules.proofs.Free.{all_of}
+use Rattle.line_rules.proofs.Listing.{Amid, Rises, lists_of, pick, picked, picks, picked_rise}
+use Rattle.line_rules.proofs.Unique.{precedes_trans, first_less, tail_lists}
+use Rattle.station_load.specs.Walking.{Walking, IsWalk}
+use Rattle.station_search.specs.Mode.{mode_of}
+use Rattle.round_helpers.specs.Jobs.{AreJobs, job_of, max_loads, max_jobs}
+use Rattle.round_helpers.specs.declared.job_list.Job.{Job}
+
+-- a member by its place, and by the list
+amid_from : (xs : List Load) (a : Load) (k : ℕ) → k < length xs → slice_index_or xs k a ≡ a → Amid a xs
+amid_from [] a k l e = absurd (omega (arith, l))
+amid_from (x ∷ xs) a zero l e = inl (sym e)
+amid_from (x ∷ xs) a (suc k) l e = inr (amid_from xs a k (omega (arith, l)) e)
+
+contains_so : (xs : List Load) (a : Load) → Amid a xs → Contains xs a
+contains_so [] a m = absurd m
+contains_so (x ∷ xs) a (inl e) = (0, omega arith, sym e)
+contains_so (x ∷ xs) a (inr m) =
+    let r : Contains xs a = contains_so xs a m in (suc r.0, omega (arith, r.1), r.2)
+
+amid_take : (n : ℕ) (xs : List Load) (a : Load) → Amid a (take n xs) → Amid a xs
+amid_take zero xs a m = absurd m
+amid_take (suc n) [] a m = absurd m
+amid_take (suc n) (x ∷ xs) a (inl e) = inl e
+amid_take (suc n) (x ∷ xs) a (inr m) = inr (amid_take n xs a m)
+
+rises_take : (line : Line) (n : ℕ) (xs : List Load) → Rises line xs → Rises line (take n xs)
+rises_take line zero xs r = tt
+rises_take line (suc n) [] r = tt
+rises_take line (suc n) (x ∷ xs) r = (λ b m. r.0 b (amid_take n xs b m), rises_take line n xs r.1)
+
+no_load : (k : ℕ) (a : Load) → slice_get [] k ≡ Some a → ⊥
+no_load k a e = cc
+
+-- a list of what passes rises
+amid_some : (xs : List Load) (a : Load) → Amid a xs → (k : ℕ) × (slice_get xs k ≡ Some a)
+amid_some [] a m = absurd m
+amid_some (x ∷ xs) a (inl e) = (0, ap (λ (z : Load). Some z) (sym e))
+amid_some (x ∷ xs) a (inr m) = let r : (k : ℕ) × (slice_get xs k ≡ Some a) = amid_some xs a m in (suc r.0, r.1)
+
+rises_of : (line : Line) (xs : List Load) (P : Load → Type 0) → Lists line P xs → Rises line xs
+rises_of line [] P h = tt
+rises_of line (x ∷ xs) P h = (
+  λ b m.
+      let r : (k : ℕ) × (slice_get xs k ≡ Some b) = amid_some xs b m in first_less line P x xs h r.0 b r.1,
+  rises_of line xs (λ l. P l × Precedes line x l) (tail_lists line P x xs h),
+)
+
+pick_cons : (p : Load → Bool) (y : Load) (b : Bool) (xs ys zs : List Load) → xs ≡ ys ++ zs
+    → cond b (y ∷ xs) xs ≡ cond b (y ∷ ys) ys ++ zs
+pick_cons p y true xs ys zs e = ap (λ (z : List Load). y ∷ z) e
+pick_cons p y false xs ys zs e = e
+
+pick_push : (p : Load → Bool) (xs : List Load) (x : Load) → pick p (xs ++ x ∷ []) ≡ pick p xs ++ cond (p x) (x ∷ []) []
+pick_push p [] x = refl
+pick_push p (y ∷ xs) x =
+    pick_cons p y (p y) (pick p (xs ++ x ∷ [])) (pick p xs) (cond (p x) (x ∷ []) []) (pick_push p xs x)
+
+map_push : (f : Load → Job) (xs : List Load) (x : Load) → map f (xs ++ x ∷ []) ≡ map f xs ++ f x ∷ []
+map_push f [] x = refl
+map_push f (y ∷ xs) x = ap (λ (z : List Job). f y ∷ z) (map_push f xs x)
+
+pick_both : (p : Load → Bool) (xs ys : List Load) → pick p (xs ++ ys) ≡ pick p xs ++ pick p ys
+pick_both p [] ys = refl
+pick_both p (x ∷ xs) ys = pick_cons p x (p x) (pick p (xs ++ ys)) (pick p xs) (pick p ys) (pick_both p xs ys)
+
+take_none : (n : ℕ) → take {A = Load} n [] ≡ []
+take_none zero = refl
+take_none (suc n) = refl
+
+take_no : (xs : List Load) → take 0 xs ≡ []
+take_no [] = refl
+take_no (x ∷ xs) = refl
+
+-- The first m that pass of the first n loads are those of the loads gone over, where these are n, or all, or m of them
+-- pass.
+first_ones : (p : Load → Bool) (n m : ℕ) (done ahead : List Load) → length done ≤ n → length (pick p done) ≤ m
+    → ((length done ≡ n) ⊎ (ahead ≡ [])) ⊎ (length (pick p done) ≡ m)
+    → take m (pick p (take n (done ++ ahead))) ≡ pick p done
+first_ones p n m done ahead l few ends =
+    let k : length done + (n - length done) ≡ n = omega (arith, l) in
+    let t : take n (done ++ ahead) ≡ done ++ take (n - length done) ahead =
+    ap (λ (z : ℕ). take z (done ++ ahead)) (sym k) ∙ take-append-add done ahead (n - length done) in
+    let q : pick p (take n (done ++ ahead)) ≡ pick p done ++ pick p (take (n - length done) ahead) =
+    ap (λ (z : List Load). pick p z) t ∙ pick_both p done (take (n - length done) ahead) in
+    let none : take (n - length done) ahead ≡ [] → take m (pick p (take n (done ++ ahead))) ≡ pick p done = λ e.
+    ap (λ (z : List Load). take m z) (q
+    ∙ (ap (λ (z : List Load). pick p done ++ pick p z) e ∙ append-nil (pick p done)))
+    ∙ take_all m (pick p done) few in
+    elim ends [
+      | inl x ↦ (elim x [
+        | inl e ↦
+            let z : n - length done ≡ 0 = omega (arith, e) in
+            none (ap (λ (y : ℕ). take y ahead) z ∙ take_no ahead)
+        | inr e ↦ none (ap (λ (y : List Load). take (n - length done) y) e ∙ take_none (n - length done))
+      ])
+      | inr e ↦
+          ap (λ (z : List Load). take m z) q
+          ∙ (ap (λ (y : ℕ). take y (pick p done ++ pick p (take (n - length done) ahead))) (sym e)
+          ∙ take-append_seam (pick p done) (pick p (take (n - length done) ahead)))
+    ]
+
+module _ (line : Line) (c : ℕ) (mode : Mode) (R : List Bool) where
+  -- the loads after the last one
+  abbrev pub Further : Option Load → Load → Type 0
+  Further last l = IsLoad line c mode R l × After line last l
+
+  after_on : (last : Option Load) (a b : Load) → After line last a → Precedes line a b → After line last b
+  after_on None a b h p = tt
+  after_on (Some l) a b h p = precedes_trans line l a b h p
+
+  first_is : (last : Option Load) (x : Load) (xs : List Load) (l : Load) → Lists line (Further last) (x ∷ xs)
+      → IsFollowing line c mode R last l → (k : ℕ) → slice_get (x ∷ xs) k ≡ Some l → x ≡ l
+  first_is last x xs l h next zero e = cc
+  first_is last x xs l h next (suc k) e =
+      absurd (next.least x (h.sound 0 x refl).0 (h.sound 0 x refl).1 (first_less line (Further last) x xs h k l e))
+
+  -- the load that follows is the first of those ahead
+  next_first : (last : Option Load) (ahead : List Load) (l : Load) → Lists line (Further last) ahead
+      → IsFollowing line c mode R last l
+      → (more : List Load) × ((ahead ≡ l ∷ more) × Lists line (Further (Some l)) more)
+  next_first last [] l h next =
+      let r : (k : ℕ) × (slice_get [] k ≡ Some l) = h.complete l (next.load, next.above) in absurd (no_load r.0 l r.1)
+  next_first last (x ∷ xs) l h next =
+      let r : (k : ℕ) × (slice_get (x ∷ xs) k ≡ Some l) = h.complete l (next.load, next.above) in
+      let same : x ≡ l = first_is last x xs l h next r.0 r.1 in
+      let P : Load → Type 0 = λ z. Lists line (λ a. Further last a × Precedes line z a) xs in
+      let t : Lists line (λ a. Further last a × Precedes line l a) xs =
+      subst P same (tail_lists line (Further last) x xs h) in (
+        xs,
+        (
+          λ i. same i ∷ xs,
+          record {
+            rises = t.rises;
+            sound = λ k a e. ((t.sound k a e).0.0, (t.sound k a e).1);
+            complete = λ a q. t.complete a ((q.0, after_on last l a next.above q.1), q.1);
+          },
+        ),
+      )
+
+  none_ahead : (last : Option Load) (ahead : List Load) → Lists line (Further last) ahead
+      → ((l : Load) → IsLoad line c mode R l → After line last l → ⊥) → ahead ≡ []
+  none_ahead last [] h none = refl
+  none_ahead last (x ∷ xs) h none = absurd (none x (h.sound 0 x refl).0 (h.sound 0 x refl).1)
+
+map_pick : (f : Load → Job) (l : Load) (b : Bool) (xs : List Load)
+    → map f (xs ++ cond b (l ∷ []) []) ≡ map f xs ++ cond b (f l ∷ []) []
+map_pick f l true xs = map_push f xs l
+map_pick f l false xs =
+    ap (λ (z : List Load). map f z) (append-nil xs) ∙ sym (append-nil (map f xs))
+
+length_mapped : (f : Load → Job) (xs : List Load) → length (map f xs) ≡ length xs
+length_mapped f [] = refl
+length_mapped f (x ∷ xs) = ap {B = ℕ} suc (length_mapped f xs)
+
+-- A walk over all tasks that has gone over k loads, and the jobs among them.
+pub record IsListing (kind : LineKind) (line : Line) (c most k : ℕ) (walk : Walking) (jobs : List Job) : Type 0 where
+  pub is_walk : IsWalk line walk
+  pub same_cycle : walk.cycle ≡ c
+  pub same_mode : walk.mode ≡ mode_of kind line (all_tasks line)
+  pub same_set : walk.set ≡ all_tasks line
+  pub done : List Load
+  pub ahead : List Load
+  pub listed : Lists line (IsLoad line c (mode_of kind line (all_tasks line)) (all_tasks line)) (done ++ ahead)
+  pub further : Lists line (Further line c (mode_of kind line (all_tasks line)) (all_tasks line) walk.last) ahead
+  pub many : length done ≡ k
+  pub found : jobs ≡ map (job_of (all_tasks line))
+      (pick (λ l. is_open kind line c (mode_of kind line (all_tasks line)) (all_tasks line) most l) done)
+  pub few : length jobs ≤ 4096
+
+module _ (kind : LineKind) (line : Line) (ok : IsLine line) (ranked : IsRanked line) (c most : ℕ) where
+  abbrev pub mode : Mode
+  mode = mode_of kind line (all_tasks line)
+
+  abbrev pub wanted : Load → Bool
+  wanted l = is_open kind line c mode (all_tasks line) most l
+
+  -- the test of a load
+  pub open_so : (l : Load) → IsOpen kind line c mode (all_tasks line) most l → wanted l ≡ true
+  open_so l o =
+      and_from (is_load line c mode (all_tasks line) l)
+      (is_full line c mode (all_tasks line) l && nat_lt (bound kind line c (rest (all_tasks line) l)) most)
+      (load_so line ok.small ranked c (all_tasks line) (all_of line) mode l o.load)
+      (and_from (is_full line c mode (all_tasks line) l) (nat_lt (bound kind line c (rest (all_tasks line) l)) most)
+      (full_so line ok.small ranked c (all_tasks line) (all_of line) mode l
+      (record { front = o.load.front; back = o.load.back }) o.full)
+      (lt-ltb (bound kind line c (rest (all_tasks line) l)) most o.bound))
+
+  open_is : (l : Load) → IsLoad line c mode (all_tasks line) l → wanted l ≡ true
+      → IsOpen kind line c mode (all_tasks line) most l
+  open_is l g t =
+      let q : (is_full line c mode (all_tasks line) l && nat_lt
+      (bound kind line c (rest (all_tasks line) l)) most) ≡ true =
+      (and_parts (is_load line c mode (all_tasks line) l)
+      (is_full line c mode (all_tasks line) l && nat_lt (bound kind line c (rest (all_tasks line) l)) most) t).1 in
+      let r : (is_full line c mode (all_tasks line) l ≡ true)
+      × (nat_lt (bound kind line c (rest (all_tasks line) l)) most ≡ true) =
+      and_parts (is_full line c mode (all_tasks line) l)
+      (nat_lt (bound kind line c (rest (all_tasks line) l)) most) q in
+      record {
+        load = g;
+        full = full_is line ok.small ranked c (all_tasks line) (all_of line) mode l r.0;
+        bound = ltb-true (bound kind line c (rest (all_tasks line) l)) most r.1;
+      }
+
+  shut_so : (l : Load) → IsLoad line c mode (all_tasks line) l → (IsOpen kind line c mode (all_tasks line) most l → ⊥)
+      → wanted l ≡ false
+  shut_so l g shut = elim (cases_Bool (wanted l)) [ inl t ↦ absurd (shut (open_is l g t)) | inr f ↦ f ]
+
+  -- a walk that has given no load
+  pub starts : (walk : Walking) → IsWalk line walk → walk.cycle ≡ c → walk.mode ≡ mode → walk.set ≡ all_tasks line
+      → walk.last ≡ None → IsListing kind line c most 0 walk []
+  starts walk w cycle of_mode set last =
+      let P : Option Load → Type 0 =
+      λ z. Lists line (Further line c mode (all_tasks line) z)
+      (loads_of line ok.small ranked c (all_tasks line) (all_of line) mode) in
+      let h : Lists line (IsLoad line c mode (all_tasks line))
+      (loads_of line ok.small ranked c (all_tasks line) (all_of line) mode) =
+      loads_listed line ok.small ranked c (all_tasks line) (all_of line) mode in
+      record {
+        is_walk = w;
+        same_cycle = cycle;
+        same_mode = of_mode;
+        same_set = set;
+        done = [];
+        ahead = loads_of line ok.small ranked c (all_tasks line) (all_of line) mode;
+        listed = h;
+        further = subst P (sym last) (record {
+          rises = h.rises;
+          sound = λ k a e. (h.sound k a e, tt);
+          complete = λ a q. h.complete a q.0;
+        });
+        many = refl;
+        found = refl;
+        few = omega arith;
+      }
+
+  module _ (k : ℕ) (walk new : Walking) (jobs : List Job) (h : IsListing kind line c most k walk jobs) where
+    following : (l : Load) → IsFollowing line walk.cycle walk.mode walk.set walk.last l
+        → IsFollowing line c mode (all_tasks line) walk.last l
+    following l next =
+        let P : ℕ → Type 0 = λ z. IsFollowing line z walk.mode walk.set walk.last l in
+        let Q : Mode → Type 0 = λ z. IsFollowing line c z walk.set walk.last l in
+        let R : List Bool → Type 0 = λ z. IsFollowing line c mode z walk.last l in
+        subst R h.same_set (subst Q h.same_mode (subst P h.same_cycle next))
+
+    goes : (l : Load) (b : Bool) → wanted l ≡ b → IsFollowing line c mode (all_tasks line) walk.last l → IsWalk line new
+        → new.cycle ≡ walk.cycle → new.mode ≡ walk.mode → new.set ≡ walk.set → new.last ≡ Some l → (more : List Job)
+        → more ≡ jobs ++ cond b (job_of (all_tasks line) l ∷ []) [] → length more ≤ 4096
+        → IsListing kind line c most (k + 1) new more
+    goes l b t next w cycle of_mode set last more e few =
+        let r : (rest : List Load)
+        × ((h.ahead ≡ l ∷ rest) × Lists line (Further line c mode (all_tasks line) (Some l)) rest) =
+        next_first line c mode (all_tasks line) walk.last h.ahead l h.further next in
+        let s : h.done ++ h.ahead ≡ (h.done ++ l ∷ []) ++ r.0 =
+        ap (λ (z : List Load). h.done ++ z) r.1.0 ∙ sym (append_assoc h.done (l ∷ []) r.0) in
+        let P : List Load → Type 0 = λ z. Lists line (IsLoad line c mode (all_tasks line)) z in
+        let Q : Option Load → Type 0 = λ z. Lists line (Further line c mode (all_tasks line) z) r.0 in
+        record {
+          is_walk = w;
+          same_cycle = cycle ∙ h.same_cycle;
+          same_mode = of_mode ∙ h.same_mode;
+          same_set = set ∙ h.same_set;
+          done = h.done ++ l ∷ [];
+          ahead = r.0;
+          listed = subst P s h.listed;
+          further = subst Q (sym last) r.1.1;
+          many = omega (arith, h.many, length-append h.done (l ∷ []));
+          found = e ∙ (ap (λ (z : List Job). z ++ cond b (job_of (all_tasks line) l ∷ []) []) h.found
+              ∙ (sym (map_pick (job_of (all_tasks line)) l b (pick wanted h.done))
+              ∙ ap (λ (z : List Load). map (job_of (all_tasks line)) z)
+              (ap (λ (z : Bool). pick wanted h.done ++ cond z (l ∷ []) []) (sym t) ∙ sym (pick_push wanted h.done l))));
+          few = few;
+        }
+
+    module _ (l : Load) (next : IsFollowing line walk.cycle walk.mode walk.set walk.last l) (w : IsWalk line new)
+        (cycle : new.cycle ≡ walk.cycle) (of_mode : new.mode ≡ walk.mode) (set : new.set ≡ walk.set)
+        (last : new.last ≡ Some l) where
+      module _ (m : Mode) (R : List Bool) (of_walk : m ≡ new.mode) (all : R ≡ all_tasks line) where
+        to_mode : m ≡ mode
+        to_mode = of_walk ∙ (of_mode ∙ h.same_mode)
+
+        -- a load that is no job
+        pub passes : (IsOpen kind line c m R most l → ⊥) → IsListing kind line c most (k + 1) new jobs
+        passes shut =
+            let P : Mode → Type 0 = λ z. IsOpen kind line c z R most l → ⊥ in
+            let Q : List Bool → Type 0 = λ z. IsOpen kind line c mode z most l → ⊥ in
+            goes l false (shut_so l (following l next).load (subst Q all (subst P to_mode shut)))
+            (following l next) w cycle
+            of_mode set last jobs (sym (append-nil jobs)) h.few
+
+        -- a load that is one
+        pub joins : (job : Job) (more : List Job) → (job ≡ job_of R l) × IsOpen kind line c m R most l
+            → more ≡ jobs ++ job ∷ [] → length more ≤ 4096 → IsListing kind line c most (k + 1) new more
+        joins job more o e few =
+            let P : Mode → Type 0 = λ z. IsOpen kind line c z R most l in
+            let Q : List Bool → Type 0 = λ z. IsOpen kind line c mode z most l in
+            let j : job ≡ job_of (all_tasks line) l = o.0 ∙ ap (λ (z : List Bool). job_of z l) all in
+            goes l true (open_so l (subst Q all (subst P to_mode o.1))) (following l next) w cycle of_mode set last more
+            (e ∙ ap (λ (z : Job). jobs ++ z ∷ []) j) few
+
+    -- no load is left
+    pub over : ((l : Load) → IsLoad line walk.cycle walk.mode walk.set l → After line walk.last l → ⊥) → h.ahead ≡ []
+    over none =
+        let P : ℕ → Type 0 = λ z. (l : Load) → IsLoad line z walk.mode walk.set l → After line walk.last l → ⊥ in
+        let Q : Mode → Type 0 = λ z. (l : Load) → IsLoad line c z walk.set l → After line walk.last l → ⊥ in
+        let R : List Bool → Type 0 = λ z. (l : Load) → IsLoad line c mode z l → After line walk.last l → ⊥ in
+        none_ahead line c mode (all_tasks line) walk.last h.ahead h.further
+        (subst R h.same_set (subst Q h.same_mode (subst P h.same_cycle none)))
+
+  -- the jobs, where so many loads were gone over, or all, or so many jobs were found
+  pub all_jobs : (k : ℕ) (walk : Walking) (jobs : List Job) (h : IsListing kind line c most k walk jobs) → k ≤ 65536
+      → ((k ≡ 65536) ⊎ (h.ahead ≡ [])) ⊎ (length jobs ≡ 4096) → AreJobs kind line c most jobs
+  unfolding max_loads max_jobs
+  all_jobs k walk jobs h l ends =
+      let long : length jobs ≡ length (pick wanted h.done) =
+      ap (λ (z : List Job). length z) h.found ∙ length_mapped (job_of (all_tasks line)) (pick wanted h.done) in
+      let these : ((length h.done ≡ 65536) ⊎ (h.ahead ≡ [])) ⊎ (length (pick wanted h.done) ≡ 4096) =
+      elim ends [
+        | inl x ↦ inl (elim x [ inl e ↦ inl (omega (arith, e, h.many)) | inr e ↦ inr e ])
+        | inr e ↦ inr (omega (arith, e, long))
+      ] in
+      let r : Rises line (take 65536 (h.done ++ h.ahead)) =
+      rises_take line 65536 (h.done ++ h.ahead)
+      (rises_of line (h.done ++ h.ahead) (IsLoad line c mode (all_tasks line)) h.listed) in
+      record {
+        loads = h.done ++ h.ahead;
+        listed = h.listed;
+        left = pick wanted (take 65536 (h.done ++ h.ahead));
+        picked = lists_of line
+            (λ a. IsOpen kind line c mode (all_tasks line) most a × Contains (take 65536 (h.done ++ h.ahead)) a)
+            (pick wanted (take 65536 (h.done ++ h.ahead))) (picked_rise line wanted (take 65536 (h.done ++ h.ahead)) r)
+            (λ a m.
+            let s : Amid a (take 65536 (h.done ++ h.ahead)) × (wanted a ≡ true) =
+            picked wanted a (take 65536 (h.done ++ h.ahead)) m in
+            let t : (j : ℕ) × (slice_get (h.done ++ h.ahead) j ≡ Some a) =
+            amid_some (h.done ++ h.ahead) a (amid_take 65536 (h.done ++ h.ahead) a s.0) in
+            (open_is a (h.listed.sound t.0 a t.1) s.1, contains_so (take 65536 (h.done ++ h.ahead)) a s.0))
+            (λ a q. picks wanted a (take 65536 (h.done ++ h.ahead))
+            (amid_from (take 65536 (h.done ++ h.ahead)) a q.1.0 q.1.1 q.1.2) (open_so a q.0));
+        first = h.found
+            ∙ ap (λ (z : List Load). map (job_of (all_tasks line)) z)
+            (sym (first_ones wanted 65536 4096 h.done h.ahead (omega (arith, h.many, l))
+            (omega (arith, long, h.few)) these));
+      }

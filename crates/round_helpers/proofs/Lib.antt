@@ -1,0 +1,13 @@
+pub mod Growing
+pub mod Lookups
+pub mod WorkFacts
+pub mod JobEnds
+pub mod OfferFacts
+pub mod MixedItems
+pub mod AllPlaces
+pub mod DeskFacts
+pub mod SettleFacts
+pub mod Joining
+pub mod Ranges
+pub mod HelpFacts
+pub mod JobFacts

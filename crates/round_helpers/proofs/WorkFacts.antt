@@ -1,0 +1,133 @@
+-- What is done on a desk, step by step, and what stays true of a desk that sees more.
+use Rattle.std.proofs.Common.{◌≡◌, ℕ, ◌+◌, ◌≤◌, Bool, List, [], ◌∷◌, ◌++◌, length, length-append, refl, sym, ap, ◌∙◌, subst, arith}
+use Rattle.std.proofs.lemmas.List.{append_cancel_left}
+use Rattle.line_instance.specs.Line.{Line}
+use Rattle.line_rules.specs.Entries.{HasAnswer}
+use Rattle.line_rules.specs.Units.{UnitsOf}
+use Rattle.line_rules.specs.declared.types.LineKind.{LineKind}
+use Rattle.line_rules.specs.declared.types.Entry.{Entry}
+use Rattle.line_rules.specs.declared.types.OpenFrame.{OpenFrame}
+use Rattle.lemma_core.specs.History.{Item, Standing, replay}
+use Rattle.lemma_core.specs.Desks.{DeskView, entries, Keeps, Waits}
+use Rattle.lemma_core.specs.Own.{AreAt, Did, added_of}
+use Rattle.lemma_core.proofs.HistoryGrows.{stations_go_on}
+use Rattle.lemma_core.proofs.OwnFacts.{did_none, did_both, did_waits, entries_more}
+use Rattle.station_search.specs.Costs.{HasPublished, AddsFew}
+use Rattle.station_search.proofs.Events.{added_both}
+use Rattle.round_helpers.specs.Growth.{AreAtCycle}
+use Rattle.round_helpers.specs.Works.{Works, fewest_seen}
+use Rattle.round_helpers.proofs.Growing.{units_both, cycles_both, has_longer, lemmas_at}
+
+-- the items at places are one list, and so are the own events since a call began
+at_once : (h : List Item) (ps : List ℕ) (is js : List Item) → AreAt h ps is → AreAt h ps js → is ≡ js
+at_once h [] [] [] a b = refl
+at_once h [] [] (j ∷ js) a b = absurd b
+at_once h [] (i ∷ is) js a b = absurd a
+at_once h (p ∷ ps) [] js a b = absurd a
+at_once h (p ∷ ps) (i ∷ is) [] a b = absurd b
+at_once h (p ∷ ps) (i ∷ is) (j ∷ js) a b =
+    let same : i ≡ j = cc (a.0, b.0) in
+    let rest : is ≡ js = at_once h ps is js a.1 b.1 in
+    λ x. same x ∷ rest x
+
+did_once : (old new : DeskView) (is js : List Item) → Did old new is → Did old new js → is ≡ js
+did_once old new is js x y =
+    let places : x.places ≡ y.places = append_cancel_left old.own x.places y.places (sym x.own ∙ y.own) in
+    let P : List ℕ → Type 0 = λ z. AreAt new.seen z is in
+    at_once new.seen y.places is js (subst P places x.there) y.there
+
+-- nothing was done
+works_nothing : (line : Line) (X : ℕ) (old new : DeskView) (is : List Item) → added_of is ≡ [] → Did old new is
+    → Works line X old new 0 0
+works_nothing line X old new is none d =
+    let P : List Entry → Type 0 = λ z. AreAtCycle X z in
+    let Q : List Entry → Type 0 = λ z. UnitsOf line z 0 in
+    record {
+      items = is;
+      did = d;
+      cycles = subst P (sym none) (λ k e g. absurd (cc));
+      few = omega (arith, ap (λ (z : List Entry). length z) none);
+      published = 0;
+      units = subst Q (sym none) refl;
+      within = omega arith;
+    }
+
+pub works_none : (line : Line) (X : ℕ) (d : DeskView) → Works line X d d 0 0
+works_none line X d = works_nothing line X d d [] refl (did_none d)
+
+pub works_waits : (line : Line) (X : ℕ) (old new : DeskView) → Waits old new → Works line X old new 0 0
+works_waits line X old new w = works_nothing line X old new [] refl (did_waits old old new [] (did_none old) w)
+
+pub works_item : (line : Line) (X : ℕ) (old new : DeskView) (i : Item) → added_of (i ∷ []) ≡ [] → Did old new (i ∷ [])
+    → Works line X old new 0 0
+works_item line X old new i none d = works_nothing line X old new (i ∷ []) none d
+
+-- something was done, and then more
+pub works_both : (line : Line) (X : ℕ) (a b c : DeskView) (u v m n : ℕ) → Keeps a b → Keeps b c → Works line X a b u m
+    → Works line X b c v n
+    → Works line X a c (u + v) (m + n)
+works_both line X a b c u v m n k l x y =
+    let e : added_of (x.items ++ y.items) ≡ added_of x.items ++ added_of y.items = added_both x.items y.items in
+    let P : List Entry → Type 0 = λ z. AreAtCycle X z in
+    let Q : List Entry → Type 0 = λ z. UnitsOf line z (x.published + y.published) in
+    record {
+      items = x.items ++ y.items;
+      did = did_both a b c x.items y.items k l x.did y.did;
+      cycles = subst P (sym e) (cycles_both X (added_of x.items) (added_of y.items) x.cycles y.cycles);
+      few = omega (
+        arith,
+        ap (λ (z : List Entry). length z) e,
+        length-append (added_of x.items) (added_of y.items),
+        x.few,
+        y.few,
+      );
+      published = x.published + y.published;
+      units = subst Q (sym e)
+          (units_both line (added_of x.items) (added_of y.items) x.published y.published x.units y.units);
+      within = omega (arith, x.within, y.within);
+    }
+
+-- the numbers may be written otherwise
+pub works_as : (line : Line) (X : ℕ) (a b : DeskView) (u v m n : ℕ) → u ≤ v → m ≤ n → Works line X a b u m
+    → Works line X a b v n
+works_as line X a b u v m n l k w = record {
+  items = w.items;
+  did = w.did;
+  cycles = w.cycles;
+  few = omega (arith, w.few, k);
+  published = w.published;
+  units = w.units;
+  within = omega (arith, w.within, l);
+}
+
+-- what a search does
+module _ (kind : LineKind) (line : Line) (X : ℕ) (old new : DeskView) (used : ℕ)
+    (h : HasPublished kind line X old new) where
+  pub works_few : (frames : List OpenFrame) (most : ℕ) → AddsFew line X old new frames used most
+      → Works line X old new used most
+  works_few frames most f =
+      let P : List Item → Type 0 = λ z. AreAtCycle X (added_of z) in
+      record {
+        items = f.items;
+        did = f.did;
+        cycles = subst P (did_once old new h.items f.items h.did f.did) (lemmas_at kind line X (added_of h.items) h.lemmas);
+        few = f.few;
+        published = f.published;
+        units = f.entry_units;
+        within = omega (arith, f.sum);
+      }
+
+-- what was answered stays answered
+pub answered_on : (old new : DeskView) (R : List Bool) (most X : ℕ) → Keeps old new → HasAnswer (entries old) R most X
+    → HasAnswer (entries new) R most X
+answered_on old new R most X k a =
+    let m : (more : List Entry) × (entries new ≡ entries old ++ more) = entries_more old new k in
+    let P : List Entry → Type 0 = λ z. HasAnswer z R most X in
+    subst P (sym m.1) (has_longer (entries old) m.0 R most X a)
+
+-- the fewest stations seen don't rise
+pub fewest_on : (old new : DeskView) → Keeps old new → fewest_seen new ≤ fewest_seen old
+fewest_on old new k =
+    let e : fewest_seen new ≡ (replay old.opening new.seen).stations =
+    ap (λ (z : Standing). (replay z new.seen).stations) k.opening in
+    omega (arith, e, stations_go_on old.opening old.seen new.seen k.seen)

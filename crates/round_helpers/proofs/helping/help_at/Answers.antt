@@ -1,0 +1,104 @@
+use Rattle.std.proofs.Common.{◌≡◌, ◌-◌, ◌≤◌, List, length, sym, ap, ◌∙◌, subst, inr, arith}
+use Rattle.lemma_core.specs.Books.{BookView}
+use Rattle.book_share.specs.Passes.{Base, PassView}
+use Rattle.line_rules.specs.Ranges.{IsCycle}
+use Rattle.round_helpers.specs.Seats.{HaveWorked, HasJoined}
+use Rattle.round_helpers.specs.Teams.{AreSettled, IsTold, settled}
+use Rattle.round_helpers.specs.declared.teams.Helper.{Helper}
+use Rattle.round_helpers.proofs.HelpFacts.{bare_first, may_work, have_worked, passes_are, are_settled, comes_back, spent_back}
+use Rattle.round_helpers.proofs.helping.help_at.Goals as goal
+
+pub split_off-ready-requires-clause-bare : goal.split_off-ready-requires-clause-bare
+split_off-ready-requires-clause-bare g c =
+    bare_first c.args.share c.args.pass c.requires.started.0 c.requires.pass c.requires.started.1.0
+
+pub worked-helpers-requires-clause-each : goal.worked-helpers-requires-clause-each
+worked-helpers-requires-clause-each g c κs within =
+    may_work c.args.share c.args.pass.view.base c.args.pass.view.seen c.args.inst.now c.args.question c.args.jobs.now
+    c.args.units.now c.split_off-ready.result.items
+    (sym c.split_off-ready.result.ok.0 ∙ c.split_off-ready.ensures.count) c.requires.team.few
+    c.split_off-ready.ensures.ready
+    (ap (λ (z : PassView). z.base.about) c.requires.started.1.0 ∙ c.requires.started.1.1)
+    c.requires.cycle c.requires.some c.requires.few c.requires.are
+
+pub settle-requires-clause-sums : goal.settle-requires-clause-sums
+settle-requires-clause-sums g c =
+    let before : length c.split_off-ready.result.items ≡ length c.args.units.now =
+    sym c.split_off-ready.result.ok.0 ∙ c.split_off-ready.ensures.count in
+    let all = have_worked c.args.share c.args.pass.view.base c.args.pass.view.seen c.args.inst.now c.args.question
+    c.args.jobs.now c.args.units.now c.split_off-ready.result.items c.worked-helpers.result.items before
+    c.split_off-ready.ensures.ready c.worked-helpers.ensures.each in
+    let P : List Helper → Type 0 = λ z. AreSettled c.args.units.now z in
+    subst P (sym c.deref.ensures.value)
+    (are_settled c.args.share c.args.pass.view.base c.args.pass.view.seen c.args.inst.now c.args.question
+    c.args.jobs.now c.args.units.now c.worked-helpers.result.items (c.worked-helpers.ensures.count ∙ before) all
+    c.requires.team)
+
+pub join_all-pass-requires-clause-each : goal.join_all-pass-requires-clause-each
+join_all-pass-requires-clause-each g c =
+    let before : length c.split_off-ready.result.items ≡ length c.args.units.now =
+    sym c.split_off-ready.result.ok.0 ∙ c.split_off-ready.ensures.count in
+    let all = have_worked c.args.share c.args.pass.view.base c.args.pass.view.seen c.args.inst.now c.args.question
+    c.args.jobs.now c.args.units.now c.split_off-ready.result.items c.worked-helpers.result.items before
+    c.split_off-ready.ensures.ready c.worked-helpers.ensures.each in
+    passes_are c.args.share c.args.pass.view.base c.args.pass.view.seen c.args.inst.now c.args.question
+    c.args.jobs.now c.args.units.now c.worked-helpers.result.items (c.worked-helpers.ensures.count ∙ before) all
+
+pub returns-then-least-question-clause-help : goal.returns-then-least-question-clause-help
+returns-then-least-question-clause-help g c = λ book ok e about.
+    let before : length c.split_off-ready.result.items ≡ length c.args.units.now =
+    sym c.split_off-ready.result.ok.0 ∙ c.split_off-ready.ensures.count in
+    let all = have_worked c.args.share c.args.pass.view.base c.args.pass.view.seen c.args.inst.now c.args.question
+    c.args.jobs.now c.args.units.now c.split_off-ready.result.items c.worked-helpers.result.items before
+    c.split_off-ready.ensures.ready c.worked-helpers.ensures.each in
+    let T : List Helper → Type 0 = λ z. IsTold z c.tell-told.result in
+    let units = c.settle.ensures ∙ ap (λ (z : List Helper). settled c.args.units.now z) c.deref.ensures.value in
+    let back = comes_back c.args.share c.args.inst.now c.args.question c.args.jobs.now c.args.units.now
+    c.settle.new.units c.worked-helpers.result.items c.args.pass c.split_off-ready.new.pass c.join_all-pass.result
+    book c.close-book.result c.tell-told.result (c.worked-helpers.ensures.count ∙ before) c.requires.helper
+    c.requires.team.few e about c.requires.are all c.split_off-ready.ensures.bare c.join_all-pass.ensures.joined
+    c.close-book.ensures.about c.close-book.ensures.opening c.close-book.ensures.seen c.close-book.ensures.all
+    c.close-book.ensures.reserved ok c.len-len.ensures.kept units
+    (subst T c.deref-2.ensures.value c.tell-told.ensures) in
+    (back.0, inr (omega (arith, c.least.ensures, c.if-least-question.true)))
+
+pub returns-then-least-question-clause-spent : goal.returns-then-least-question-clause-spent
+returns-then-least-question-clause-spent g c =
+    let before : length c.split_off-ready.result.items ≡ length c.args.units.now =
+    sym c.split_off-ready.result.ok.0 ∙ c.split_off-ready.ensures.count in
+    let all = have_worked c.args.share c.args.pass.view.base c.args.pass.view.seen c.args.inst.now c.args.question
+    c.args.jobs.now c.args.units.now c.split_off-ready.result.items c.worked-helpers.result.items before
+    c.split_off-ready.ensures.ready c.worked-helpers.ensures.each in
+    let units = c.settle.ensures ∙ ap (λ (z : List Helper). settled c.args.units.now z) c.deref.ensures.value in
+    spent_back c.args.share c.args.pass.view.base c.args.pass.view.seen c.args.inst.now c.args.question
+    c.args.jobs.now c.args.units.now c.settle.new.units c.worked-helpers.result.items
+    (c.worked-helpers.ensures.count ∙ before) all units
+
+pub returns-clause-help : goal.returns-clause-help
+returns-clause-help g c = λ book ok e about.
+    let before : length c.split_off-ready.result.items ≡ length c.args.units.now =
+    sym c.split_off-ready.result.ok.0 ∙ c.split_off-ready.ensures.count in
+    let all = have_worked c.args.share c.args.pass.view.base c.args.pass.view.seen c.args.inst.now c.args.question
+    c.args.jobs.now c.args.units.now c.split_off-ready.result.items c.worked-helpers.result.items before
+    c.split_off-ready.ensures.ready c.worked-helpers.ensures.each in
+    let T : List Helper → Type 0 = λ z. IsTold z c.tell-told.result in
+    let units = c.settle.ensures ∙ ap (λ (z : List Helper). settled c.args.units.now z) c.deref.ensures.value in
+    comes_back c.args.share c.args.inst.now c.args.question c.args.jobs.now c.args.units.now
+    c.settle.new.units c.worked-helpers.result.items c.args.pass c.split_off-ready.new.pass c.join_all-pass.result
+    book c.close-book.result c.tell-told.result (c.worked-helpers.ensures.count ∙ before) c.requires.helper
+    c.requires.team.few e about c.requires.are all c.split_off-ready.ensures.bare c.join_all-pass.ensures.joined
+    c.close-book.ensures.about c.close-book.ensures.opening c.close-book.ensures.seen c.close-book.ensures.all
+    c.close-book.ensures.reserved ok c.len-len.ensures.kept units
+    (subst T c.deref-2.ensures.value c.tell-told.ensures)
+
+pub returns-clause-spent : goal.returns-clause-spent
+returns-clause-spent g c =
+    let before : length c.split_off-ready.result.items ≡ length c.args.units.now =
+    sym c.split_off-ready.result.ok.0 ∙ c.split_off-ready.ensures.count in
+    let all = have_worked c.args.share c.args.pass.view.base c.args.pass.view.seen c.args.inst.now c.args.question
+    c.args.jobs.now c.args.units.now c.split_off-ready.result.items c.worked-helpers.result.items before
+    c.split_off-ready.ensures.ready c.worked-helpers.ensures.each in
+    let units = c.settle.ensures ∙ ap (λ (z : List Helper). settled c.args.units.now z) c.deref.ensures.value in
+    spent_back c.args.share c.args.pass.view.base c.args.pass.view.seen c.args.inst.now c.args.question
+    c.args.jobs.now c.args.units.now c.settle.new.units c.worked-helpers.result.items
+    (c.worked-helpers.ensures.count ∙ before) all units

@@ -1,0 +1,22 @@
+use Rattle.std.proofs.Common.{◌≡◌, List, length, drop, ap, ◌∙◌, sym, subst, arith, Some}
+use Rattle.std.proofs.lemmas.List.{take_at}
+use Rattle.std.specs.Prelude.{slice_get}
+use Rattle.round_helpers.specs.Seats.{HaveAllWorked}
+use Rattle.round_helpers.specs.declared.teams.Helper.{Helper}
+use Rattle.round_helpers.proofs.teams.worked.Goals as goal
+
+pub returns-clause-each : goal.returns-clause-each
+returns-clause-each g c =
+    let P : List Helper → Type 0 =
+    λ z. HaveAllWorked c.args.share.now c.args.inst.now c.args.question c.args.jobs.now z
+    c.work_in_threads.new.helpers in
+    let Q : List Helper → Type 0 =
+    λ z. HaveAllWorked c.args.share.now c.args.inst.now c.args.question c.args.jobs.now c.args.helpers.items z in
+    subst Q (sym (take_at c.work_in_threads.new.helpers
+    (drop (length c.work_in_threads.new.helpers) c.args.helpers.items) c.args.helpers.len
+    (omega (
+      arith,
+      c.work_in_threads.ensures.count,
+      ap (λ (z : List Helper). length z) c.deref_mut.ensures.value,
+      c.args.helpers.ok.0,
+    )))) (subst P c.deref_mut.ensures.value c.work_in_threads.ensures.each)

@@ -1,0 +1,54 @@
+//! The desk of one helper: a part in the shared book, with a gate before each publish.
+//!
+//! Its calls are those of the share that wait for the turn; the gate has no effect on what they answer. It keeps numbers
+//! by which the helper's pass is known again after a search.
+ghost use Rattle.std.specs.Prelude.{◌≡◌};
+ghost use Rattle.book_share.specs.Calls.{IsPassOf};
+ghost use Rattle.round_helpers.specs.Seats.{helper_desk};
+
+use crate::gates::Gate;
+use book_share::{Pass, Share};
+use lemma_core::{Desk, Looked, Offered, Published};
+use line_rules::{Balance, Entry};
+use std::sync::Wait;
+use task_set::TaskSet;
+
+/// A helper's desk at a shared book: it isn't alone, and its list is what its pass has seen.
+#[derive(Drop)]
+pub struct HelperDesk<'a, R: Wait, G: Gate> {
+    /// The leave to wait for the turn.
+    pub rt: &'a R,
+    /// The share.
+    pub share: &'a Share,
+    /// A pass of it.
+    pub pass: &'a mut Pass,
+    /// What the helper meets before each publish.
+    pub gate: &'a G,
+    /// The helper's number, from 1.
+    pub helper: u32,
+    /// How often the helper published.
+    pub publishes: u64,
+    pub ghost fits: { IsPassOf share.now pass.now },
+}
+
+impl<'a, R: Wait, G: Gate> Desk for HelperDesk<'a, R, G> {
+    ghost desk = { λ d. helper_desk d.pass.ghost_name d.share.now d.pass.now.view };
+
+    fn look(&mut self, set: &TaskSet, most: u32) -> Looked {
+        self.share.look(self.rt, self.pass, set, most)
+    }
+
+    fn publish(&mut self, step: Entry) -> Published {
+        self.gate.pass_gate(self.helper, self.publishes);
+        self.publishes = self.publishes.saturating_add(1);
+        self.share.publish(self.rt, self.pass, step)
+    }
+
+    fn offer(&mut self, balance: Balance) -> Offered {
+        self.share.offer(self.rt, self.pass, balance)
+    }
+
+    fn least(&mut self) -> u32 {
+        self.share.least(self.pass)
+    }
+}

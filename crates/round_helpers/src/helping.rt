@@ -1,0 +1,174 @@
+//! The help for a question, from a book to the book that comes back: the book is shared, the helpers do its jobs in
+//! threads, and the share is closed again. Every lemma of a helper enters the book through that close alone.
+ghost use Rattle.std.specs.Prelude.{◌≡◌, ℕ, ◌+◌, ◌-◌, ◌<◌, ◌≤◌, ◌⊎◌, ◌↔◌, IsTrue, [], length, vec_capacity};
+ghost use Rattle.line_rules.specs.Balance.{all_tasks};
+ghost use Rattle.line_rules.specs.Bounds.{bound};
+ghost use Rattle.line_rules.specs.Entries.{HasAnswer};
+ghost use Rattle.line_rules.specs.Ranges.{IsCycle};
+ghost use Rattle.lemma_core.specs.Books.{BookView, IsBook, IsReserved};
+ghost use Rattle.book_share.specs.Calls.{IsPassOf};
+ghost use Rattle.book_share.specs.Rule.{newcomer};
+ghost use Rattle.round_helpers.specs.Growth.{Helps};
+ghost use Rattle.round_helpers.specs.Helping.{IsTeam, all_used, HaveSpent, IsUnneeded, HasHelped};
+ghost use Rattle.round_helpers.specs.Jobs.{AreJobs};
+ghost use Rattle.round_helpers.specs.declared.helping.Helped.TheVariants.{Unneeded};
+
+use crate::gates::Gate;
+use crate::job_list::{Job, jobs};
+use crate::job_work::Question;
+use crate::teams::{Helper, join_all, settle, split_off, tell, worked};
+use book_share::{Pass, Share, Started};
+use lemma_core::{Book, Looked};
+use line_instance::Instance;
+use lower_bounds::exceeds;
+use station_search::Units;
+use std::alloc::Global;
+use std::sync::Wait;
+use std::thread::Threads;
+
+/// What the helpers did for a question.
+#[derive(Clone, Copy, Debug, PartialEq, Eq)]
+pub enum Helped {
+    /// They weren't needed: there are none, or the bound or an entry of the book refutes the question.
+    Unneeded,
+    /// Each job was decided, or a balance of the question was found.
+    Whole,
+    /// The helper of this number, from 1, used all its units.
+    Cut(u32),
+    /// Out of memory.
+    NoMemory,
+}
+
+/// The book after the help, and what the helpers did.
+#[derive(Drop)]
+pub struct Help {
+    pub book: Book,
+    pub helped: Helped,
+}
+
+// Whether the bound of all tasks or an entry of the book refutes the question.
+fn is_refuted(inst: &Instance, book: &Book, most: u32) -> bool
+    requires same { book.now.about.line ≡ inst.now }
+    requires cycle { IsCycle book.now.about.cycle }
+    ensures { IsTrue result ↔ ((most < bound book.now.about.kind book.now.about.line book.now.about.cycle (all_tasks book.now.about.line)) ⊎ HasAnswer book.now.state.entries (all_tasks book.now.about.line) most book.now.about.cycle) }
+{
+    let all = inst.all();
+    if exceeds(inst, book.kind(), book.cycle(), &all, most) {
+        return true;
+    }
+    match book.look(&all, most) {
+        Looked::Found { .. } => true,
+        Looked::Absent => false,
+    }
+}
+
+// The help of a team at a share that was just started.
+fn help_at<R: Threads + Wait + Sync, G: Gate>(
+    rt: &R,
+    alloc: Global,
+    inst: &Instance,
+    question: Question,
+    jobs: &[Job],
+    share: Share,
+    pass: Pass,
+    helpers: Vec<Helper>,
+    units: &mut [Units],
+    gate: &G,
+) -> Help
+    requires pass { IsPassOf share pass }
+    requires started { (book : BookView) × ((pass.view ≡ newcomer book)
+        × (book.about ≡ record { line = inst.now; kind = question.kind; cycle = question.cycle })) }
+    requires are { AreJobs question.kind inst.now question.cycle question.most jobs.now }
+    requires cycle { IsCycle question.cycle }
+    requires some { 1 ≤ question.most }
+    requires few { question.most ≤ 1024 }
+    requires team { IsTeam units.old }
+    requires helper { 0 < length units.old }
+    requires none { helpers.items ≡ [] }
+    requires room { length units.old ≤ vec_capacity helpers }
+    ensures help { (book : BookView) → IsBook book → pass.view ≡ newcomer book
+        → book.about ≡ record { line = inst.now; kind = question.kind; cycle = question.cycle }
+        → Helps book result.book (all_used units.new - all_used units.old)
+            × HasHelped book result.book question.most units.new result.helped }
+    ensures reserved { IsReserved result.book }
+    ensures spent { HaveSpent units.old units.new }
+{
+    let mut pass = pass;
+    let ready = split_off(&share, &mut pass, units, helpers);
+    let helpers = worked(rt, alloc, &share, inst, question, jobs, gate, ready);
+    settle(&helpers, units);
+    let told = tell(&helpers);
+    let pass = join_all(&share, pass, helpers);
+    let book = share.close(rt, pass);
+    let _len = book.len();
+    let _log = book.log_len();
+    if book.least() <= question.most {
+        return Help {
+            book,
+            helped: Helped::Whole,
+        };
+    }
+    Help { book, helped: told }
+}
+
+/// Has helpers decide the jobs of the question whether all tasks have a balance in `most` stations, 1 to 1,024, at the
+/// book's cycle, which is 1 to 10^18 in the instance's time unit. There is a helper for each of the units, at most 64, and
+/// each uses its own: one for each job, and one for each load that a search lists. The book is about this instance, and
+/// `reserve_offers` was done for it. Each helper runs in a thread of its own and meets the gate before each publish.
+pub fn call_helpers<R: Threads + Wait + Sync, G: Gate>(
+    rt: &R,
+    alloc: Global,
+    inst: &Instance,
+    book: Book,
+    most: u32,
+    units: &mut [Units],
+    gate: &G,
+) -> Help
+    requires same { book.about.line ≡ inst.now }
+    requires cycle { IsCycle book.about.cycle }
+    requires reserved { IsReserved book }
+    requires some { 1 ≤ most }
+    requires few { most ≤ 1024 }
+    requires team { IsTeam units.old }
+    ensures helps { Helps book result.book (all_used units.new - all_used units.old) }
+    ensures helped { HasHelped book result.book most units.new result.helped }
+    ensures unneeded { IsUnneeded book most units.old
+        → (result.helped ≡ Unneeded) × (result.book ≡ book) × (units.new ≡ units.old) }
+    ensures reserved { IsReserved result.book }
+    ensures spent { HaveSpent units.old units.new }
+{
+    let _kept = book.len();
+    if units.is_empty() || is_refuted(inst, &book, most) {
+        return Help {
+            book,
+            helped: Helped::Unneeded,
+        };
+    }
+    let question = Question {
+        kind: book.kind(),
+        cycle: book.cycle(),
+        most,
+    };
+    let wanting = Helped::NoMemory;
+    let Ok(jobs) = jobs(alloc, inst, question.kind, question.cycle, most) else {
+        return Help {
+            book,
+            helped: wanting,
+        };
+    };
+    let Ok(helpers) = Vec::with_capacity(alloc, units.len()) else {
+        return Help {
+            book,
+            helped: wanting,
+        };
+    };
+    match Share::start(alloc, book) {
+        Started::Good(share, pass) => help_at(
+            rt, alloc, inst, question, &jobs, share, pass, helpers, units, gate,
+        ),
+        Started::NoMemory(book) => Help {
+            book,
+            helped: wanting,
+        },
+    }
+}

@@ -1,0 +1,251 @@
+//! What one helper does: of each of its jobs it asks whether the rest has a balance in one station less than the question
+//! has, and it ends at the first one that has.
+//!
+//! A helper with an even number first asks for a better balance than the best one so far: with two stations less than the
+//! least published count, where that is more than it would ask with else. So half of the helpers look for balances and
+//! half for refutations. It works over any desk. A job costs a unit, and so does each load that a search lists.
+ghost use Rattle.std.specs.Prelude.{◌≡◌, ◌+◌, ◌-◌, ◌^◌, ◌<◌, ◌≤◌, true, length, Some, IfOk, OnOk};
+ghost use Rattle.line_rules.specs.Entries.{HasAnswer};
+ghost use Rattle.line_rules.specs.Ranges.{IsCycle};
+ghost use Rattle.line_rules.specs.Seats.{AreSeated, around};
+ghost use Rattle.lemma_core.specs.Desks.{Keeps, entries};
+ghost use Rattle.station_search.specs.Decide.{IsFor};
+ghost use Rattle.round_helpers.specs.Jobs.{AreJobs, IsJobOf};
+ghost use Rattle.round_helpers.specs.Works.{Works, IsAsked, IsEnd, fewest_seen, most_added};
+ghost use Rattle.round_helpers.specs.declared.job_work.End.TheVariants as ends;
+
+use crate::job_list::Job;
+use lemma_core::{Desk, Offered};
+use line_instance::Instance;
+use line_rules::{LineKind, Load, Loads, Mode};
+use station_search::{Decided, Units, balance_of, choose_mode, decide};
+use std::alloc::{AllocError, Global};
+
+/// The most stations that a question may ask for beside a load.
+const MOST_BESIDE: u32 = 1023;
+
+/// The question whether all tasks have a balance in `most` stations.
+#[derive(Clone, Copy, Debug, PartialEq, Eq)]
+pub struct Question {
+    pub kind: LineKind,
+    pub cycle: u64,
+    pub most: u32,
+}
+
+/// How a question about a job, or the work on all jobs of a helper, ends.
+#[derive(Clone, Copy, Debug, PartialEq, Eq)]
+pub enum End {
+    /// The job, or each one, is refuted.
+    Refuted,
+    /// A balance was found and offered.
+    Found,
+    /// The units ended.
+    Spent,
+    /// Out of memory.
+    NoMemory,
+}
+
+/// Which jobs a helper has: those whose number leaves `place` when divided by `count`.
+#[derive(Clone, Copy, Debug, PartialEq, Eq)]
+pub struct Deal {
+    /// The helper's place, from 0.
+    pub place: usize,
+    /// How many helpers there are.
+    pub count: usize,
+}
+
+// The loads of a rest, with the job's own load at its end of the line.
+fn around(mode: Mode, load: Load, loads: Loads) -> Result<Loads, AllocError>
+    ensures { IfOk result (λ v. v ≡ around mode (Some load) loads) }
+{
+    let mut items = loads.into_vec();
+    match mode {
+        Mode::Back => items.push(load)?,
+        Mode::Fore | Mode::Both => items.insert(0, load)?,
+    }
+    Ok(Loads::from_vec(items))
+}
+
+// Offers the balance of the loads that were found for the rest of a job, with the job's own load beside them.
+fn offer_job<D: Desk>(
+    alloc: Global,
+    desk: &mut D,
+    inst: &Instance,
+    question: Question,
+    job: &Job,
+    loads: Loads,
+) -> Result<(), AllocError>
+    requires desk { IsFor (D.desk desk.old) inst.now question.kind question.cycle }
+    requires roomy { (D.desk desk.old).roomy ≡ true }
+    requires job { IsJobOf question.kind inst.now question.cycle question.most job.now }
+    requires few { length loads ≤ 1023 }
+    requires seated { AreSeated question.kind inst.now question.cycle job.now.set loads }
+    ensures keeps { Keeps (D.desk desk.old) (D.desk desk.new) }
+    ensures works { Works inst.now question.cycle (D.desk desk.old) (D.desk desk.new) 0 0 }
+    ensures found { OnOk result (fewest_seen (D.desk desk.new) ≤ length loads + 1) }
+{
+    let all = inst.all();
+    let loads = around(choose_mode(inst, question.kind, &all), job.load, loads)?;
+    let stations = loads.len() as u32;
+    let balance = balance_of(alloc, inst, question.kind, stations, &loads)?;
+    match desk.offer(balance) {
+        Offered::Better => Ok(()),
+        Offered::NotBetter => Ok(()),
+    }
+}
+
+// Asks whether the rest of a job has a balance in so many stations, and offers what is found.
+fn ask<D: Desk>(
+    alloc: Global,
+    desk: &mut D,
+    inst: &Instance,
+    question: Question,
+    job: &Job,
+    most: u32,
+    units: &mut Units,
+) -> End
+    requires desk { IsFor (D.desk desk.old) inst.now question.kind question.cycle }
+    requires roomy { (D.desk desk.old).roomy ≡ true }
+    requires cycle { IsCycle question.cycle }
+    requires job { IsJobOf question.kind inst.now question.cycle question.most job.now }
+    requires least { question.most ≤ most + 1 }
+    requires few { most ≤ 1023 }
+    requires units { units.old.used + units.old.left < 2 ^ 64 }
+    ensures keeps { Keeps (D.desk desk.old) (D.desk desk.new) }
+    ensures units { units.new.used + units.new.left ≡ units.old.used + units.old.left }
+    ensures spent { units.old.used ≤ units.new.used }
+    ensures works { let used = units.new.used - units.old.used in
+        Works inst.now question.cycle (D.desk desk.old) (D.desk desk.new) used (most_added result used) }
+    ensures asked { IsAsked (D.desk desk.new) question.cycle job.now.set most units.new.left result }
+{
+    // The units of this question alone are counted from 0.
+    let mut own = Units {
+        left: units.left,
+        used: 0,
+    };
+    let (kind, cycle) = (question.kind, question.cycle);
+    let decided = decide(alloc, desk, inst, kind, cycle, &job.set, most, &mut own);
+    units.left = own.left;
+    units.used += own.used;
+    match decided {
+        Decided::Refuted(_) => End::Refuted,
+        Decided::Found(loads) => match offer_job(alloc, desk, inst, question, job, loads) {
+            Ok(()) => End::Found,
+            Err(_) => End::NoMemory,
+        },
+        Decided::Spent(_) => End::Spent,
+        Decided::NoMemory(_) => End::NoMemory,
+    }
+}
+
+// What an eager helper asks first: for a balance better than the best so far, with two stations less than the least count
+// for the rest, where that is more than the question itself leaves for it. Else nothing is asked, as if it was found.
+fn ask_for_better<D: Desk>(
+    alloc: Global,
+    desk: &mut D,
+    inst: &Instance,
+    question: Question,
+    job: &Job,
+    eager: bool,
+    units: &mut Units,
+) -> End
+    requires desk { IsFor (D.desk desk.old) inst.now question.kind question.cycle }
+    requires roomy { (D.desk desk.old).roomy ≡ true }
+    requires cycle { IsCycle question.cycle }
+    requires job { IsJobOf question.kind inst.now question.cycle question.most job.now }
+    requires few { question.most ≤ 1024 }
+    requires units { units.old.used + units.old.left < 2 ^ 64 }
+    ensures keeps { Keeps (D.desk desk.old) (D.desk desk.new) }
+    ensures units { units.new.used + units.new.left ≡ units.old.used + units.old.left }
+    ensures spent { units.old.used ≤ units.new.used }
+    ensures works { let used = units.new.used - units.old.used in
+        Works inst.now question.cycle (D.desk desk.old) (D.desk desk.new) used (most_added result used) }
+    ensures refuted { result ≡ ends.Refuted
+        → HasAnswer (entries (D.desk desk.new)) job.now.set (question.most - 1) question.cycle }
+    ensures left { result ≡ ends.Spent → units.new.left ≡ 0 }
+{
+    if !eager {
+        return End::Found;
+    }
+    let least = desk.least();
+    if least <= question.most + 1 {
+        return End::Found;
+    }
+    let most = (least - 2).min(MOST_BESIDE);
+    ask(alloc, desk, inst, question, job, most, units)
+}
+
+// Does a job: asks whether its rest has a balance in one station less than the question has.
+fn do_job<D: Desk>(
+    alloc: Global,
+    desk: &mut D,
+    inst: &Instance,
+    question: Question,
+    job: &Job,
+    eager: bool,
+    units: &mut Units,
+) -> End
+    requires desk { IsFor (D.desk desk.old) inst.now question.kind question.cycle }
+    requires roomy { (D.desk desk.old).roomy ≡ true }
+    requires cycle { IsCycle question.cycle }
+    requires job { IsJobOf question.kind inst.now question.cycle question.most job.now }
+    requires some { 1 ≤ question.most }
+    requires few { question.most ≤ 1024 }
+    requires units { units.old.used + units.old.left < 2 ^ 64 }
+    ensures keeps { Keeps (D.desk desk.old) (D.desk desk.new) }
+    ensures units { units.new.used + units.new.left ≡ units.old.used + units.old.left }
+    ensures spent { units.old.used ≤ units.new.used }
+    ensures works { let used = units.new.used - units.old.used in
+        Works inst.now question.cycle (D.desk desk.old) (D.desk desk.new) used used }
+    ensures asked { IsAsked (D.desk desk.new) question.cycle job.now.set (question.most - 1) units.new.left result }
+{
+    if units.left == 0 {
+        return End::Spent;
+    }
+    units.left -= 1;
+    units.used += 1;
+    match ask_for_better(alloc, desk, inst, question, job, eager, units) {
+        End::Found => ask(alloc, desk, inst, question, job, question.most - 1, units),
+        end => end,
+    }
+}
+
+/// Does the jobs of one helper in order, until one of them has a balance, or units or memory end.
+pub fn do_jobs<D: Desk>(
+    alloc: Global,
+    desk: &mut D,
+    inst: &Instance,
+    question: Question,
+    jobs: &[Job],
+    deal: Deal,
+    units: &mut Units,
+) -> End
+    requires desk { IsFor (D.desk desk.old) inst.now question.kind question.cycle }
+    requires roomy { (D.desk desk.old).roomy ≡ true }
+    requires cycle { IsCycle question.cycle }
+    requires jobs { AreJobs question.kind inst.now question.cycle question.most jobs.now }
+    requires deal { 0 < deal.count }
+    requires some { 1 ≤ question.most }
+    requires few { question.most ≤ 1024 }
+    requires units { units.old.used + units.old.left < 2 ^ 64 }
+    ensures keeps { Keeps (D.desk desk.old) (D.desk desk.new) }
+    ensures units { units.new.used + units.new.left ≡ units.old.used + units.old.left }
+    ensures spent { units.old.used ≤ units.new.used }
+    ensures works { let used = units.new.used - units.old.used in
+        Works inst.now question.cycle (D.desk desk.old) (D.desk desk.new) used used }
+    ensures ends { IsEnd (D.desk desk.new) question.cycle question.most jobs.now deal.place deal.count units.new.left
+        result }
+{
+    // The helpers are numbered from 1: those with an even number are eager.
+    let eager = deal.place % 2 == 1;
+    'working: for k in 0..jobs.len() {
+        if k % deal.count != deal.place {
+            continue;
+        }
+        match do_job(alloc, desk, inst, question, &jobs[k], eager, units) {
+            End::Refuted => {}
+            end => return end,
+        }
+    }
+    End::Refuted
+}

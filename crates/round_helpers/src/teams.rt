@@ -1,0 +1,195 @@
+//! A team: the helpers of a question, each with a pass of the share and units of its own.
+//!
+//! The first pass is split, once for each helper. Then the helpers work in threads, one each, and afterwards their passes
+//! are joined into the first one again, so that it has seen what any of them has and has all their places.
+ghost use Rattle.std.specs.Prelude.{◌≡◌, ℕ, ◌+◌, ◌-◌, ◌^◌, ◌<◌, ◌≤◌, List, [], length, vec_len, vec_capacity};
+ghost use Rattle.line_instance.specs.Line.{Line};
+ghost use Rattle.line_rules.specs.Ranges.{IsCycle};
+ghost use Rattle.lemma_core.specs.History.{Item};
+ghost use Rattle.book_share.specs.Calls.{IsPassOf};
+ghost use Rattle.book_share.specs.Passes.{Base};
+ghost use Rattle.round_helpers.specs.Jobs.{AreJobs};
+ghost use Rattle.round_helpers.specs.Seats.{IsBare, AreReady, HasWorked, HaveAllWorked, HasJoined};
+ghost use Rattle.round_helpers.specs.Teams.{MayWork, MayAllWork, ArePassesOf, AreJoinable, AreSettled, settled, IsTold};
+
+use crate::gates::Gate;
+use crate::helper_desk::HelperDesk;
+use crate::helping::Helped;
+use crate::job_list::Job;
+use crate::job_work::{Deal, End, Question, do_jobs};
+use book_share::{Pass, Share};
+use line_instance::Instance;
+use station_search::Units;
+use std::alloc::Global;
+use std::sync::Wait;
+use std::thread::{self, Threads};
+
+/// A helper: its pass, its units, which count what it uses from 0, and how its work ended.
+#[derive(Drop)]
+pub struct Helper {
+    pub pass: Pass,
+    pub units: Units,
+    pub end: End,
+}
+
+// A helper before its work, with a pass of its own and so many units.
+fn ready(pass: Pass, left: u64) -> Helper
+    ensures pass { result.pass ≡ pass }
+    ensures left { result.units.left ≡ left }
+    ensures used { result.units.used ≡ 0 }
+{
+    Helper {
+        pass,
+        units: Units { left, used: 0 },
+        end: End::Refuted,
+    }
+}
+
+/// Splits a pass off for each helper, with the units that are left to it. There is room for them.
+pub fn split_off(
+    share: &Share,
+    pass: &mut Pass,
+    units: &[Units],
+    helpers: Vec<Helper>,
+) -> Vec<Helper>
+    requires bare { IsBare share.now pass.old.view.base pass.old.view.seen 1024 pass.old }
+    requires few { length units.now ≤ 64 }
+    requires none { helpers.items ≡ [] }
+    requires room { length units.now ≤ vec_capacity helpers }
+    ensures bare { IsBare share.now pass.old.view.base pass.old.view.seen (1024 - length units.now) pass.new }
+    ensures count { vec_len result ≡ length units.now }
+    ensures ready { AreReady share.now pass.old.view.base pass.old.view.seen units.now result.items }
+{
+    let mut helpers = helpers;
+    for k in 0..units.len() {
+        let own = share.split(pass);
+        helpers.push_reserved(ready(own, units[k].left));
+    }
+    helpers
+}
+
+// One helper's work.
+fn work<R: Wait, G: Gate>(
+    rt: &R,
+    alloc: Global,
+    share: &Share,
+    inst: &Instance,
+    question: Question,
+    jobs: &[Job],
+    gate: &G,
+    deal: Deal,
+    helper: &mut Helper,
+)
+    requires may { MayWork share.now inst.now question jobs.now deal.count deal.place helper.old }
+    ensures worked { HasWorked share.now helper.old.pass.view.base helper.old.pass.view.seen inst.now question jobs.now
+        deal.count deal.place helper.old.units.left helper.new }
+{
+    let _left = helper.units.left;
+    let mut desk = HelperDesk {
+        rt,
+        share,
+        pass: &mut helper.pass,
+        gate,
+        helper: deal.place as u32 + 1,
+        publishes: 0,
+    };
+    let end = do_jobs(alloc, &mut desk, inst, question, jobs, deal, &mut helper.units);
+    helper.end = end;
+}
+
+// Has the helpers work, each in a thread of its own.
+fn work_in_threads<R: Threads + Wait + Sync, G: Gate>(
+    rt: &R,
+    alloc: Global,
+    share: &Share,
+    inst: &Instance,
+    question: Question,
+    jobs: &[Job],
+    gate: &G,
+    helpers: &mut [Helper],
+)
+    requires some { 0 < length helpers.old }
+    requires few { length helpers.old ≤ 64 }
+    requires each { MayAllWork share.now inst.now question jobs.now helpers.old }
+    ensures count { length helpers.new ≡ length helpers.old }
+    ensures each { HaveAllWorked share.now inst.now question jobs.now helpers.old helpers.new }
+{
+    let count = helpers.len();
+    let shift = |place: usize, helper: &mut Helper|
+        requires { MayWork share.now inst.now question jobs.now count place helper.now }
+        ensures { HasWorked share.entry.now helper.entry.now.pass.view.base helper.entry.now.pass.view.seen inst.entry.now question jobs.entry.now count place helper.entry.now.units.left helper.exit.now }
+    {
+        let deal = Deal { place, count };
+        work(rt, alloc, share, inst, question, jobs, gate, deal, helper)
+    };
+    thread::for_each_mut(rt, helpers, count, &shift);
+}
+
+/// The helpers after their work, each in a thread of its own.
+pub fn worked<R: Threads + Wait + Sync, G: Gate>(
+    rt: &R,
+    alloc: Global,
+    share: &Share,
+    inst: &Instance,
+    question: Question,
+    jobs: &[Job],
+    gate: &G,
+    helpers: Vec<Helper>,
+) -> Vec<Helper>
+    requires some { 0 < length helpers.items }
+    requires few { length helpers.items ≤ 64 }
+    requires each { MayAllWork share.now inst.now question jobs.now helpers.items }
+    ensures count { length result.items ≡ length helpers.items }
+    ensures each { HaveAllWorked share.now inst.now question jobs.now helpers.items result.items }
+{
+    let mut helpers = helpers;
+    work_in_threads(rt, alloc, share, inst, question, jobs, gate, &mut helpers);
+    helpers
+}
+
+/// Joins the passes of helpers into the first one, which has no own places.
+pub fn join_all(share: &Share, pass: Pass, helpers: Vec<Helper>) -> Pass
+    requires pass { IsPassOf share.now pass }
+    requires none { pass.view.own ≡ [] }
+    requires each { ArePassesOf share.now helpers.items }
+    ensures pass { IsPassOf share.now result }
+    ensures joined { (line : Line) (X : ℕ) → AreJoinable pass.view.base pass.view.seen line X helpers.items
+        → HasJoined share.now pass.view.base pass.view.seen pass.view.parts line X helpers.items result }
+{
+    let mut pass = pass;
+    for helper in helpers {
+        let Helper { pass: other, .. } = helper;
+        share.join(&mut pass, other);
+    }
+    pass
+}
+
+/// Takes over what helpers have left, and counts what they used.
+pub fn settle(helpers: &[Helper], units: &mut [Units])
+    requires same { length helpers.now ≡ length units.old }
+    requires sums { AreSettled units.old helpers.now }
+    ensures { units.new ≡ settled units.old helpers.now }
+{
+    for k in 0..helpers.len() {
+        units[k] = Units {
+            left: helpers[k].units.left,
+            used: units[k].used + helpers[k].units.used,
+        };
+    }
+}
+
+/// What helpers did, by how their work ended: the first one that didn't end with its last job refuted tells it.
+pub fn tell(helpers: &[Helper]) -> Helped
+    requires { length helpers.now ≤ 64 }
+    ensures { IsTold helpers.now result }
+{
+    for k in 0..helpers.len() {
+        match helpers[k].end {
+            End::Refuted => {}
+            End::Found => return Helped::Whole,
+            End::Spent => return Helped::Cut(k as u32 + 1),
+            End::NoMemory => return Helped::NoMemory,
+        }
+    }
+    Helped::Whole
+}
