@@ -129,7 +129,6 @@ fn found<R: Threads + Wait + Sync, G: Gate>(
     requires some { 1 ≤ stations }
     requires few { stations ≤ 1024 }
     requires plan { IsPlan plan.now }
-    requires alone { plan.now.helpers ≡ 0 }
     ensures answer { MatchResult result
         (λ r. IsFound kind inst.now stations plan.now None (outcome_of r None))
         (Stops (IsCutShort kind inst.now stations)) }
@@ -188,8 +187,8 @@ fn written<S: Shelf>(
     }
 }
 
-/// The report of `cycle` for the file of an instance, the kind of line, 1 to 1,024 stations, the plan, which has no helpers,
-/// and the name of the file that the certificate is written to, where there is one.
+/// The report of `cycle` for the file of an instance, the kind of line, 1 to 1,024 stations, the plan, and the name of the
+/// file that the certificate is written to, where there is one. Helpers run in threads and meet the gate before each publish.
 pub fn cycle_report<R: Threads + Wait + Sync, S: Shelf, G: Gate>(
     rt: &R,
     alloc: Global,
@@ -204,7 +203,6 @@ pub fn cycle_report<R: Threads + Wait + Sync, S: Shelf, G: Gate>(
     requires some { 1 ≤ stations }
     requires few { stations ≤ 1024 }
     requires plan { IsPlan plan.now }
-    requires alone { plan.now.helpers ≡ 0 }
     ensures ends { S.tells → (let o = outside (S.file shelf.old) (S.blames shelf.new) in
         Ends o (IsCycleOutcome o file.now kind stations plan.now.helpers plan.now.units (option_map (λ a. a.now) name.entry))
         (S.file shelf.new) result) }

@@ -21,7 +21,7 @@ use Rattle.line_rules.specs.declared.types.OpenFrame.{OpenFrame}
 use Rattle.line_rules.proofs.ListFacts.{get_longer, get_take}
 use Rattle.lemma_core.specs.Own.{AreStatable}
 use Rattle.station_search.proofs.Events.{get_append_cases}
-use Rattle.round_run.proofs.Turns.{units_both}
+use Rattle.round_helpers.proofs.Growing.{units_both}
 use Rattle.cert_lines.specs.Lift.{raised, lifted_why, lifted_frame}
 use Rattle.cycle_search.specs.Joined.{raised_entry, behind, HaveCites, HaveFrameCites}
 

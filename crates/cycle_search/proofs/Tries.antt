@@ -15,12 +15,13 @@ use Rattle.line_rules.proofs.Restrict.{restricted}
 use Rattle.lemma_core.specs.Machine.{About}
 use Rattle.lemma_core.specs.Books.{BookView, MayBeBest}
 use Rattle.station_search.proofs.Events.{get_append_cases}
-use Rattle.round_run.specs.Rounds.{AreAtCycle, frames_of}
+use Rattle.round_helpers.specs.Growth.{AreAtCycle}
+use Rattle.round_run.specs.Rounds.{frames_of}
 use Rattle.round_run.specs.declared.plans.Plan.{Plan}
-use Rattle.round_run.specs.declared.rounds.Verdict.{Verdict}
-use Rattle.round_run.specs.declared.rounds.Verdict.TheVariants as verdict
+use Rattle.round_run.specs.declared.closing.Verdict.{Verdict}
+use Rattle.round_run.specs.declared.closing.Verdict.TheVariants as verdict
 use Rattle.round_run.specs.declared.solving.Cause.TheVariants as cause
-use Rattle.round_run.proofs.Turns.{units_both, has_longer}
+use Rattle.round_helpers.proofs.Growing.{units_both, has_longer}
 use Rattle.cycle_search.specs.Outcomes.{IsRightIn, IsBelow}
 use Rattle.cycle_search.specs.Searching.{AreOutside, IsKept, HasEnds, IsBetween, IsAsking, HasAsked, IsStuck, IsCloser}
 use Rattle.cycle_search.specs.declared.halving.Halving.{Halving}

@@ -11,10 +11,11 @@ use Rattle.line_rules.specs.declared.types.Entry.{Entry}
 use Rattle.line_rules.specs.declared.types.OpenFrame.{OpenFrame}
 use Rattle.lemma_core.specs.Own.{AreStatable}
 use Rattle.lemma_core.specs.Books.{BookView, IsReserved}
-use Rattle.round_run.specs.Rounds.{AreAtCycle, IsAnswer, frames_of, by_bound}
+use Rattle.round_helpers.specs.Growth.{AreAtCycle}
+use Rattle.round_run.specs.Rounds.{IsAnswer, frames_of, by_bound}
 use Rattle.round_run.specs.declared.plans.Plan.{Plan}
-use Rattle.round_run.specs.declared.rounds.Verdict.{Verdict}
-use Rattle.round_run.specs.declared.rounds.Verdict.TheVariants as verdict
+use Rattle.round_run.specs.declared.closing.Verdict.{Verdict}
+use Rattle.round_run.specs.declared.closing.Verdict.TheVariants as verdict
 use Rattle.round_run.specs.declared.solving.Cause.{Cause}
 use Rattle.round_run.specs.declared.solving.Cause.TheVariants as cause
 use Rattle.cycle_search.specs.Ends.{first_lower, first_upper}

@@ -136,7 +136,6 @@ fn halve<R: Threads + Wait + Sync, G: Gate>(
     requires some { 1 ≤ stations }
     requires few { stations ≤ 1024 }
     requires plan { IsPlan plan.now }
-    requires alone { plan.now.helpers ≡ 0 }
     ensures { IfOk result (Searches kind inst.now stations plan.now) }
 {
     let _tasks = inst.tasks();
@@ -157,7 +156,8 @@ fn halve<R: Threads + Wait + Sync, G: Gate>(
 
 /// The least cycle, from 1 on and in the instance's time unit, at which a line of this kind has a balance in 1 to 1,024
 /// stations; or bounds on it, where the units of a try ended first. Of the instance no pair is apart. Each cycle that is
-/// tried has the units of the plan anew.
+/// tried has the units of the plan anew, and so has each helper its part of them. Helpers run in threads, in any order; they
+/// meet the gate before each publish. Without helpers the same plan gives the same answer each time.
 pub fn least_cycle<R: Threads + Wait + Sync, G: Gate>(
     rt: &R,
     alloc: Global,
@@ -171,7 +171,6 @@ pub fn least_cycle<R: Threads + Wait + Sync, G: Gate>(
     requires some { 1 ≤ stations }
     requires few { stations ≤ 1024 }
     requires plan { IsPlan plan.now }
-    requires alone { plan.now.helpers ≡ 0 }
     ensures { Searches kind inst.now stations plan.now result }
 {
     match halve(rt, alloc, inst, kind, stations, plan, gate) {

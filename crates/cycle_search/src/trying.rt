@@ -11,6 +11,7 @@ ghost use Rattle.line_rules.specs.Ranges.{IsCycle};
 ghost use Rattle.line_rules.specs.declared.types.LineKind.{LineKind as Kind};
 ghost use Rattle.lemma_core.specs.Books.{IsReserved, MayBeBest};
 ghost use Rattle.cert_files.specs.Trim.{CitesEarlier};
+ghost use Rattle.round_helpers.specs.Helping.{all_used};
 ghost use Rattle.round_run.specs.Plans.{IsPlan};
 ghost use Rattle.cycle_search.specs.Searching.{IsBetween, IsAsking, HasAsked, IsTried, IsKept};
 
@@ -20,7 +21,7 @@ use cert_files::trim;
 use first_fit::{Ranked, ranked_balance};
 use line_instance::Instance;
 use line_rules::{Balance, Entries, Frames, LineKind};
-use round_run::{Cause, Gate, Plan, Purse, Verdict, decide_round};
+use round_run::{Cause, Gate, Plan, Verdict, decide_round, fill};
 use station_search::Units;
 use std::alloc::{AllocError, Global};
 use std::sync::Wait;
@@ -148,20 +149,16 @@ fn reopened(
     })
 }
 
-// The units of one try.
-fn purse_of(alloc: Global, plan: &Plan) -> Purse
-    requires { plan.now.helpers ≡ 0 }
-    ensures left { result.closing.left ≡ plan.now.units }
-    ensures used { result.closing.used ≡ 0 }
-    ensures helper { length result.helper.items ≡ 0 }
+// The units that helpers have used.
+fn used_by(team: &[Units]) -> u64
+    requires { all_used team.now ≤ 3000000 }
+    ensures { result ≡ all_used team.now }
 {
-    Purse {
-        closing: Units {
-            left: plan.units,
-            used: 0,
-        },
-        helper: Vec::new(alloc),
+    let mut used = 0;
+    for units in team {
+        used += units.used;
     }
+    used
 }
 
 // The search after its question was asked at the cycle of its book, and the answer.
@@ -173,17 +170,17 @@ fn ask<R: Threads + Wait + Sync, G: Gate>(
     plan: &Plan,
     gate: &G,
     search: Halving,
-) -> (Halving, Verdict)
+) -> Result<(Halving, Verdict), AllocError>
     requires plan { IsPlan plan.now }
-    requires alone { plan.now.helpers ≡ 0 }
     requires some { 1 ≤ stations }
     requires few { stations ≤ 1024 }
     requires same { search.book.about.line ≡ inst.now }
     requires cycle { IsCycle search.book.about.cycle }
     requires reserved { IsReserved search.book }
     requires paid { search.paid ≤ 1000000 }
-    ensures { HasAsked stations plan.now search result.0 result.1 }
+    ensures { IfOk result (λ r. HasAsked stations plan.now search r.0 r.1) }
 {
+    let mut purse = fill(alloc, plan)?;
     let Halving {
         lower,
         upper,
@@ -192,7 +189,6 @@ fn ask<R: Threads + Wait + Sync, G: Gate>(
         book,
         paid,
     } = search;
-    let mut purse = purse_of(alloc, plan);
     let round = decide_round(rt, alloc, inst, book, stations, &mut purse, gate);
     let search = Halving {
         lower,
@@ -200,9 +196,9 @@ fn ask<R: Threads + Wait + Sync, G: Gate>(
         balance,
         proof,
         book: round.book,
-        paid: paid + purse.closing.used,
+        paid: paid + purse.closing.used + used_by(&purse.helper),
     };
-    (search, round.verdict)
+    Ok((search, round.verdict))
 }
 
 // The balance in so many stations, the last ones perhaps empty.
@@ -278,7 +274,6 @@ fn asked<R: Threads + Wait + Sync, G: Gate>(
     search: Halving,
 ) -> Result<Tried, AllocError>
     requires plan { IsPlan plan.now }
-    requires alone { plan.now.helpers ≡ 0 }
     requires some { 1 ≤ stations }
     requires few { stations ≤ 1024 }
     requires asking { let kind = search.book.about.kind in
@@ -286,7 +281,7 @@ fn asked<R: Threads + Wait + Sync, G: Gate>(
     ensures { IfOk result (IsTried search.book.about.kind inst.now stations plan.now search.lower search.upper) }
 {
     let _tasks = inst.tasks();
-    let (search, verdict) = ask(rt, alloc, inst, stations, plan, gate, search);
+    let (search, verdict) = ask(rt, alloc, inst, stations, plan, gate, search)?;
     match verdict {
         Verdict::Refuted => Ok(Tried::Goes(refuted(alloc, search))),
         Verdict::Found => Ok(Tried::Goes(found(stations, search)?)),
@@ -346,7 +341,6 @@ pub(crate) fn try_cycle<R: Threads + Wait + Sync, G: Gate>(
     cycle: u64,
 ) -> Result<Tried, AllocError>
     requires plan { IsPlan plan.now }
-    requires alone { plan.now.helpers ≡ 0 }
     requires some { 1 ≤ stations }
     requires few { stations ≤ 1024 }
     requires between { IsBetween kind inst.now stations plan.now.units search }

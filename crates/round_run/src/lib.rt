@@ -16,7 +16,7 @@ mod solving;
 #[cfg(test)]
 mod tests;
 
-pub use plans::{Plan, Purse};
+pub use plans::{Plan, Purse, fill};
 pub use closing::Verdict;
 pub use round_helpers::{AlwaysOpen, Gate, Helped, Job, jobs};
 pub use rounds::{Round, decide_round};

@@ -13,7 +13,7 @@ returns-in-Refuted g c =
     λ z. IsBetween s.book.about.kind c.args.inst.now c.args.stations c.args.plan.now.units z
     × IsCloser s.lower s.upper z in
     subst P (sym c.refuted.ensures) (refuted s.book.about.kind c.args.inst.now c.args.stations c.args.plan.now
-    s.book.about.cycle s c.ask-search.result.0 c.requires.asking c.ask-search.result.1 c.ask-search.ensures
+    s.book.about.cycle s c.in_ok-search.search c.requires.asking c.in_ok-search.verdict c.in_ok-search.ensures
     c.in-Refuted.is)
 
 pub returns-in-Found : goal.returns-in-Found
@@ -23,20 +23,21 @@ returns-in-Found g c =
     λ z. IsBetween s.book.about.kind c.args.inst.now c.args.stations c.args.plan.now.units z
     × IsCloser s.lower s.upper z in
     subst P (sym c.in_ok-found-in-Found.ensures.found) (found s.book.about.kind c.args.inst.now c.args.stations
-    c.args.plan.now s.book.about.cycle s c.ask-search.result.0 c.requires.asking c.ask-search.result.1
-    c.ask-search.ensures c.in-Found.is c.found.ensures.right)
+    c.args.plan.now s.book.about.cycle s c.in_ok-search.search c.requires.asking c.in_ok-search.verdict
+    c.in_ok-search.ensures c.in-Found.is c.found.ensures.right)
 
 pub returns-in-Spent : goal.returns-in-Spent
 returns-in-Spent g c =
     let s = c.args.search in
     spent s.book.about.kind c.args.inst.now c.args.stations c.args.plan.now s.book.about.cycle s
-    c.ask-search.result.0 c.requires.asking c.ask-search.result.1 c.in-Spent.frames c.ask-search.ensures c.in-Spent.is
+    c.in_ok-search.search c.requires.asking c.in_ok-search.verdict c.in-Spent.frames c.in_ok-search.ensures
+    c.in-Spent.is
 
 pub returns : goal.returns
 returns g c =
     let s = c.args.search in
     let P : List OpenFrame → Type 0 = λ z. IsStuck s.book.about.kind c.args.inst.now c.args.stations c.args.plan.now
-    cause.Memory c.ask-search.result.0 z in
+    cause.Memory c.in_ok-search.search z in
     subst P (sym (c.from_vec.ensures ∙ c.new.ensures.items)) (wanting s.book.about.kind c.args.inst.now c.args.stations
-    c.args.plan.now s.book.about.cycle s c.ask-search.result.0 c.requires.asking c.ask-search.result.1
-    c.in-NoMemory.field-0 c.ask-search.ensures c.in-NoMemory.is)
+    c.args.plan.now s.book.about.cycle s c.in_ok-search.search c.requires.asking c.in_ok-search.verdict
+    c.in-NoMemory.field-0 c.in_ok-search.ensures c.in-NoMemory.is)
