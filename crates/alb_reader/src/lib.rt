@@ -8,8 +8,6 @@ mod filling;
 pub mod laws;
 mod mark;
 mod reading;
-#[cfg(test)]
-mod tests;
 mod text;
 mod writing;
 

@@ -7,11 +7,9 @@ mod file_text;
 pub mod laws;
 mod stop;
 mod streaming;
-#[cfg(test)]
-mod tests;
 mod trimming;
 mod window;
 
 pub use fetching::{CertFrom, cert_from};
 pub use streaming::{Streamed, stream_cert};
-pub use trimming::trim;
+pub use trimming::{answers, trim};

@@ -39,9 +39,10 @@ pub fn trim(
     kept(alloc, &entries, &marks)
 }
 
-// Whether the entry answers the question.
+/// Whether an entry answers the question, whether a set has a balance in `most` stations at a cycle: it is of that set, for
+/// as many stations or more, at that cycle or a greater one.
 #[inline]
-pub(crate) fn answers(entry: &Entry, set: &TaskSet, most: u32, cycle: u64) -> bool
+pub fn answers(entry: &Entry, set: &TaskSet, most: u32, cycle: u64) -> bool
     ensures { IsTrue result ↔ Answers entry.now set.now most cycle }
 {
     is_same(&entry.set, set) && most <= entry.most && cycle <= entry.cycle

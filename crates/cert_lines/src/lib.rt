@@ -6,8 +6,6 @@ mod fault;
 pub mod pattern;
 pub mod patterns;
 mod source;
-#[cfg(test)]
-mod tests;
 pub mod version_one;
 pub mod words;
 

@@ -9,8 +9,6 @@
 mod certificate;
 mod entries;
 mod sets;
-#[cfg(test)]
-mod tests;
 mod trails;
 
 pub use certificate::is_in_range;

@@ -1,9 +1,15 @@
-//! Tests of the texts of certificates, of both versions: what is read from memory, and the fault that each spoilt line
-//! has.
+//! Tests of certificates: their ranges, their lines and texts of both versions, what is read from memory and from a file, and
+//! the fault that each spoilt line has.
 #![tactic(auto)]
 
 #[cfg(test)]
 mod hostile;
+#[cfg(test)]
+mod lines;
+#[cfg(test)]
+mod ranges;
+#[cfg(test)]
+mod streams;
 #[cfg(test)]
 mod texts;
 #[cfg(test)]

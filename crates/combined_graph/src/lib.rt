@@ -16,8 +16,6 @@ mod model;
 mod reading;
 mod records;
 mod sequence;
-#[cfg(test)]
-mod tests;
 
 pub use combining::{Combined, combine};
 pub use fault::{MixFault, MixKind};

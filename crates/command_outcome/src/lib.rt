@@ -10,8 +10,6 @@ mod output;
 mod print;
 mod report;
 mod status;
-#[cfg(test)]
-mod tests;
 
 pub use output::finish;
 pub use print::{line_about, push_number, push_printed};

@@ -8,8 +8,6 @@ pub mod laws;
 mod line;
 mod pair;
 mod reading;
-#[cfg(test)]
-mod tests;
 mod text;
 mod writing;
 

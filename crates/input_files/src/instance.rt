@@ -45,7 +45,7 @@ fn is_alb(bytes: &[u8]) -> bool
 }
 
 /// The line about the first fault of a file.
-fn fault_line_of(alloc: Global, file: &str, fault: &str) -> Result<Vec<u8>, AllocError>
+pub fn fault_line_of(alloc: Global, file: &str, fault: &str) -> Result<Vec<u8>, AllocError>
     ensures { IfOk result (λ t. t.items ≡ fault_line file.now fault.now) }
 {
     let mut text = line_about(alloc, "input: ", file, " ")?;

@@ -12,5 +12,6 @@ mod instance;
 mod kind;
 
 pub use certificate::certificate_of;
-pub use instance::{Sheet, Timed, line_of, said_instance, sheet_of};
+pub use fetch_file::fetch;
+pub use instance::{Sheet, Timed, fault_line_of, line_of, said_instance, sheet_of};
 pub use kind::kind_of;

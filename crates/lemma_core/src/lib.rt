@@ -10,8 +10,6 @@ mod event_run;
 mod index;
 pub mod laws;
 mod plain_lookup;
-#[cfg(test)]
-mod tests;
 mod types;
 
 pub use book::Book;

@@ -9,8 +9,6 @@ mod order;
 mod partners;
 mod rings;
 mod rows;
-#[cfg(test)]
-mod tests;
 
 pub use arcs::Prec;
 pub use instance::{Instance, MAX_TASKS, MAX_TIME};

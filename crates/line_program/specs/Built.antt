@@ -1,5 +1,5 @@
 -- What of the jobs isn't built yet.
-use Rattle.std.specs.Prelude.{◌≡◌, ◌⊎◌, ℕ, cond, nat_eq, List, ◌++◌, Option, Some, None, codes}
+use Rattle.std.specs.Prelude.{◌≡◌, ◌⊎◌, ℕ, List, ◌++◌, Option, Some, None, codes}
 use Rattle.line_words.specs.Words.{Text}
 use Rattle.line_words.specs.Jobs.{IsJob, IsFault}
 use Rattle.line_words.specs.Texts.{usage_text}
@@ -9,22 +9,18 @@ use Rattle.line_words.specs.declared.job.Job.TheVariants.{Help, Version, Balance
 use Rattle.command_outcome.specs.Outcome.{Outcome, told}
 use Rattle.command_outcome.specs.declared.status.Status.TheVariants as ends
 
--- helpers aren't built
-abbrev pub helpers_part : ℕ → Option Text
-helpers_part helpers = cond (nat_eq helpers 0) None (Some (codes "helpers"))
-
--- the part of a job that isn't built: its command, or its helpers
+-- the part of a job that isn't built: its command
 abbrev pub unbuilt : Job → Option Text
 unbuilt Help = None
 unbuilt Version = None
 unbuilt (Balance file cycle line apart) = None
-unbuilt (Solve file cycle line helpers units cert apart) = helpers_part helpers
+unbuilt (Solve file cycle line helpers units cert apart) = None
 unbuilt (Cycle file stations line helpers units cert) = Some (codes "cycle")
 unbuilt (Check file cert steps apart) = None
 unbuilt (Convert file out to cycle) = None
-unbuilt (Combine mix out) = Some (codes "combine")
-unbuilt (Utility mix cert seq interval length) = Some (codes "utility")
-unbuilt (Timeline mix cert seq interval length) = Some (codes "timeline")
+unbuilt (Combine mix out) = None
+unbuilt (Utility mix cert seq interval length) = None
+unbuilt (Timeline mix cert seq interval length) = None
 unbuilt (Try seed tasks cycle line units) = Some (codes "try")
 
 -- the words have a fault, and this is the first, at this place

@@ -15,6 +15,7 @@ use Rattle.command_outcome.specs.declared.status.Status.TheVariants as ends
 use Rattle.input_files.specs.Kind.{kind_of}
 use Rattle.check_command.specs.Check.{IsProvedTrue}
 use Rattle.solve_command.specs.Promise.{IsPromised}
+use Rattle.line_program.specs.Run.{planned}
 
 -- the run answers the question of its words: with status 0, or with status 1 where it stopped by units
 abbrev pub IsAnswered : Status → Type 0
@@ -29,7 +30,7 @@ PromisesOf files after Help status text kept = Unit {0}
 PromisesOf files after Version status text kept = Unit {0}
 PromisesOf files after (Balance file cycle line apart) status text kept = Unit {0}
 PromisesOf files after (Solve file cycle line helpers units cert apart) status text kept =
-    IsPromised files after file apart cycle (kind_of line) units cert status text kept
+    IsPromised files after file apart cycle (kind_of line) (planned helpers units) cert status text kept
 PromisesOf files after (Cycle file stations line helpers units cert) status text kept = Unit {0}
 PromisesOf files after (Check file cert steps apart) status text kept = status ≡ ends.Done → IsProvedTrue files file cert apart steps
 PromisesOf files after (Convert file name to cycle) status text kept = Unit {0}

@@ -6,6 +6,7 @@ use Rattle.line_words.specs.Words.{Text}
 use Rattle.line_words.specs.Jobs.{IsJob}
 use Rattle.line_words.specs.declared.job.Job.{Job}
 use Rattle.line_words.specs.declared.job.Job.TheVariants.{Help, Version, Balance, Solve, Cycle, Check, Convert, Combine, Utility, Timeline, Try}
+use Rattle.round_run.specs.declared.plans.Plan.{Plan}
 use Rattle.command_outcome.specs.Outcome.{Files, Outside, Outcome, IsCut, IsWritten, outcome_of, told}
 use Rattle.command_outcome.specs.Output.{Puts, memory_line}
 use Rattle.command_outcome.specs.declared.report.Kept.{Kept}
@@ -19,21 +20,28 @@ use Rattle.balance_command.specs.Balance.{IsBalanceOutcome}
 use Rattle.check_command.specs.Check.{IsCheckOutcome, IsProvedTrue}
 use Rattle.convert_command.specs.Convert.{IsConvertOutcome}
 use Rattle.solve_command.specs.Solution.{IsSolveOutcome}
+use Rattle.mix_commands.specs.Combine.{IsCombineOutcome}
+use Rattle.mix_commands.specs.Utility.{IsUtilityOutcome}
+use Rattle.mix_commands.specs.Timeline.{IsTimelineOutcome}
 use Rattle.line_program.specs.Built.{IsUsageOutcome, unbuilt}
 use Rattle.line_program.specs.Pages.{help_text, version_text}
+
+-- so many helpers, and so many units
+abbrev pub planned : ℕ → ℕ → Plan
+planned helpers units = record { helpers = helpers; units = units }
 
 -- What a job comes to, command by command. Jobs that aren't built come to nothing.
 abbrev pub IsJobOutcome : Outside → Job → Outcome → Type 0
 IsJobOutcome o Help out = out ≡ told ends.Done help_text
 IsJobOutcome o Version out = out ≡ told ends.Done version_text
 IsJobOutcome o (Balance file cycle line apart) out = IsBalanceOutcome o file apart cycle (kind_of line) out
-IsJobOutcome o (Solve file cycle line helpers units cert apart) out = IsSolveOutcome o file apart cycle (kind_of line) units cert out
+IsJobOutcome o (Solve file cycle line helpers units cert apart) out = IsSolveOutcome o file apart cycle (kind_of line) (planned helpers units) cert out
 IsJobOutcome o (Cycle file stations line helpers units cert) out = ⊥
 IsJobOutcome o (Check file cert steps apart) out = IsCheckOutcome o file cert apart steps out
 IsJobOutcome o (Convert file name to cycle) out = IsConvertOutcome o file name to cycle out
-IsJobOutcome o (Combine mix name) out = ⊥
-IsJobOutcome o (Utility mix cert seq interval length) out = ⊥
-IsJobOutcome o (Timeline mix cert seq interval length) out = ⊥
+IsJobOutcome o (Combine mix name) out = IsCombineOutcome o mix name out
+IsJobOutcome o (Utility mix cert seq interval length) out = IsUtilityOutcome o mix cert seq interval length out
+IsJobOutcome o (Timeline mix cert seq interval length) out = IsTimelineOutcome o mix cert seq interval length out
 IsJobOutcome o (Try seed tasks cycle line units) out = ⊥
 
 -- the words ask for a job, all of which is built, and this is what it comes to

@@ -7,8 +7,14 @@
 mod call_tests;
 #[cfg(test)]
 mod check_tests;
+#[cfg(test)]
+mod gate_tests;
+#[cfg(test)]
+mod mix_tests;
 mod pages;
 mod program;
+#[cfg(test)]
+mod runs;
 #[cfg(test)]
 mod solve_tests;
 #[cfg(test)]

@@ -26,6 +26,7 @@ use convert_command::convert_report;
 use input_files::kind_of;
 use line_io::{Shelf, Sink};
 use line_words::{Job, JobRead, Name, job_of};
+use mix_commands::{combine_report, timeline_report, utility_report};
 use round_run::{AlwaysOpen, Gate, Plan};
 use solve_command::solve_report;
 use std::alloc::Global;
@@ -121,6 +122,37 @@ fn do_job<R: Threads + Wait + Sync, S: Shelf, G: Gate>(
             to,
             cycle,
         } => convert_report(alloc, file.text(), out.text(), *to, *cycle, shelf),
+        Job::Combine { mix, out } => combine_report(alloc, mix.text(), out.text(), shelf),
+        Job::Utility {
+            mix,
+            cert,
+            seq,
+            interval,
+            length,
+        } => utility_report(
+            alloc,
+            mix.text(),
+            cert.text(),
+            seq.text(),
+            *interval,
+            *length,
+            shelf,
+        ),
+        Job::Timeline {
+            mix,
+            cert,
+            seq,
+            interval,
+            length,
+        } => timeline_report(
+            alloc,
+            mix.text(),
+            cert.text(),
+            seq.text(),
+            *interval,
+            *length,
+            shelf,
+        ),
         _ => unreachable!(),
     }
 }
@@ -162,8 +194,9 @@ fn do_words<R: Threads + Wait + Sync, S: Shelf, G: Gate>(
 /// U-line, at a cycle time, with the bound by total time and the idle time, or the least task that is longer than the
 /// cycle. `solve` puts a balance of the fewest stations, or bounds and the best balance where its units ended, and writes
 /// the certificate where the words name a file. `check` puts what the check of a certificate finds: what it accepts is true
-/// of the line. `convert` writes the canonical text of an instance in the other form, or of a certificate. A fault of the
-/// words is answered by the line `usage`, with the number of the word and what is wrong, and a job that isn't built by the
+/// of the line. `convert` writes the canonical text of an instance in the other form, or of a certificate. `combine` writes
+/// the line that a mix of models combines to, `utility` puts the utility work of a sequence of units, and `timeline` puts it
+/// unit by unit. A fault of the words is answered by the line `usage`, with the number of the word and what is wrong, and a job that isn't built by the
 /// line `not built`. Each refusal is one line, and nothing is put with it. All files stay but the one that a job writes.
 /// `kept` then holds the certificate that the run made, where its answer was put, and else nothing; what it held before is
 /// dropped.

@@ -1,8 +1,6 @@
 //! Runs of `solve` over files in memory: the worked rows.
-use crate::program::run;
-use cert_ranges::is_in_range;
-use cert_text::write_cert;
-use command_outcome::{Kept, Status};
+use crate::runs::{Left, run_words, slashed};
+use command_outcome::Status;
 use line_io::{MemShelf, MemSink};
 use std::alloc::{AllocError, Global};
 use std::sync::Wait;
@@ -28,6 +26,8 @@ solve five.in2 cycle=7 helpers=0 units=14 cert=t.cert|stopped by units/bounds 2 
 solve five.in2 cycle=3 helpers=0 cert=t.cert|infeasible: task 1 time 4/|/cycle 3/infeasible 1/end/|accepted straight cycle 3 infeasible 1/
 solve jackson.in2 cycle=10 helpers=0 units=3000000|optimal 5/idle 4/station 1: 1 2 6/station 2: 5 8/station 3: 3 10/station 4: 4 7/station 5: 9 11/|/entries 1/bound 10 ffe 4/trail 0/|
 solve jackson.in2 cycle=7 helpers=0 units=3000000|optimal 8/idle 10/||
+solve jackson.in2 cycle=7 helpers=1 units=3000000|optimal 8/idle 10/||
+solve jackson.in2 cycle=7 helpers=8 units=3000000|optimal 8/idle 10/||
 solve six.in2 cycle=7 helpers=0 cert=t.cert|optimal 4/idle 7/station 1: 1/station 2: 2 4/station 3: 3 5/station 4: 6/|/entries 2/branch f 7 7c 2 -/branch f 7 fc 3 0/trail 0/|accepted straight cycle 7 lower 4 upper 4 units 31/
 solve six.in2 cycle=7 helpers=0 units=16 cert=t.cert|stopped by units/bounds 3 4/|/trail 2 at 7/open f fc 3 80 -/open f 7c 2 - -/end/|accepted straight cycle 7 lower 3 upper 4 units 16/
 solve seven.in2 cycle=7 helpers=0 cert=t.cert|optimal 5/idle 7/station 1: 1/station 2: 2/station 3: 3 5/station 4: 4 6/station 5: 7/|/entries 4/branch f 7 3e 2 -/branch f 7 be 3 0/swap 7 7e 3 1 2 1/branch f 7 fe 4 1,2/trail 0/|accepted straight cycle 7 lower 5 upper 5 units 48/
@@ -36,61 +36,30 @@ solve five.in2 cycle=7 line=u helpers=0 units=53 cert=t.cert|stopped by units/bo
 solve two.in2 cycle=2 apart=two.apart helpers=0 cert=t.cert|optimal 2/idle 2/station 1: 1/station 2: 2/|/entries 1/branch f 2 c 1 -/trail 0/|refused: entry 0 uncovered c/
 solve five.in2 cycle=7 apart=three.apart helpers=0 units=11|optimal 3/idle 7/station 1: 1 3/station 2: 2 4/station 3: 5/||
 solve alb.in2 helpers=0|optimal 1/idle 0/station 1: 1 2/||
-solve five.in2 helpers=0|input: five.in2 no cycle time/||
-solve five.in2 cycle=7|not built: helpers/||
+solve five.in2|input: five.in2 no cycle time/||
+solve five.in2 cycle=7|optimal 3/idle 7/||
+solve five.in2 cycle=7 helpers=2 units=14 cert=t.cert|optimal 3/idle 7/|/entries 1/branch f 7 f8 2 -/trail 0/|accepted straight cycle 7 lower 3 upper 3 units 15/
+solve seven.in2 cycle=7 helpers=2 cert=t.cert|optimal 5/idle 7/||
+solve zero.in2 cycle=1 helpers=64|optimal 1/idle 1/station 1: 1/|/entries 0/|
+solve big.alb helpers=4 units=200000 cert=t.cert|optimal 20/idle 0/station 1: 1 2 3 4 5/||accepted straight cycle 1000 lower 20 upper 20 units 0/
 solve none.in2 cycle=7 helpers=0|read fault: none.in2/||
 solve five.in2 cycle=7 helpers=0 cert=five.in2|optimal 3/||";
 
-/// Bytes as a text, with `/` for the end of a line.
-fn slashed(alloc: Global, bytes: &[u8]) -> Result<String, AllocError> {
-    let mut text = String::new(alloc);
-    for byte in bytes {
-        text.push(if *byte == b'\n' {
-            '/'
-        } else {
-            char::from(*byte)
-        })?;
+/// An ALB text of a hundred tasks in a row, of which five fill a station at a cycle time of 1,000.
+fn hundred_tasks(alloc: Global) -> Result<Vec<u8>, AllocError> {
+    let mut text = String::from_str(alloc, "<number of tasks>\n100\n<cycle time>\n1000\n")?;
+    text.push_str("<task times>\n")?;
+    for task in 1..101u32 {
+        let time = 100 + 50 * (task % 5);
+        write!(text, "{task} {time}\n")?;
     }
-    Ok(text)
-}
-
-/// The text of a certificate that is kept, and nothing where none is.
-fn kept_text(alloc: Global, kept: &Kept) -> Result<Vec<u8>, AllocError> {
-    match kept {
-        Kept::Line(certificate) if is_in_range(certificate) => write_cert(alloc, certificate),
-        _ => Ok(Vec::new(alloc)),
+    text.push_str("<precedence relations>\n")?;
+    for task in 1..100u32 {
+        let next = task + 1;
+        write!(text, "{task},{next}\n")?;
     }
-}
-
-/// What a run leaves: how it ended, what it put, and the text of the certificate that it keeps.
-#[derive(Drop)]
-struct Left {
-    status: Status,
-    shown: String,
-    kept: String,
-}
-
-/// A run with these words over a shelf.
-fn run_words<R: Threads + Wait + Sync>(
-    rt: &R,
-    alloc: Global,
-    words: &str,
-    shelf: &mut MemShelf,
-    out: &mut MemSink,
-) -> Result<Left, AllocError> {
-    let mut list = Vec::new(alloc);
-    for word in words.split(' ') {
-        list.push(String::from_str(alloc, word)?)?;
-    }
-    let mut kept = Kept::Nothing;
-    let status = run(rt, alloc, &list, shelf, out, &mut kept);
-    let shown = slashed(alloc, out.bytes())?;
-    let text = kept_text(alloc, &kept)?;
-    Ok(Left {
-        status,
-        shown,
-        kept: slashed(alloc, &text)?,
-    })
+    text.push_str("<end>\n")?;
+    Ok(text.into_bytes())
 }
 
 /// The files of the rows, where calls of these numbers fail.
@@ -117,6 +86,7 @@ fn files(alloc: Global, fails: &[u64]) -> Result<MemShelf, AllocError> {
     for (name, bytes) in rows {
         shelf.put_file(name, bytes)?;
     }
+    shelf.put_file("big.alb", &hundred_tasks(alloc)?)?;
     Ok(shelf)
 }
 

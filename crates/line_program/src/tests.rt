@@ -181,12 +181,9 @@ fn faults_of_the_words(rt: HostRuntime) -> Result<(), Fail> {
 
 #[test]
 fn jobs_that_are_not_built(rt: HostRuntime) -> Result<(), Fail> {
-    let rows: [(&[&str], &str); 5] = [
-        (&["solve", "none.in2"], "not built: helpers\n"),
+    let rows: [(&[&str], &str); 2] = [
         (&["cycle", "none.in2", "stations=2"], "not built: cycle\n"),
-        (&["solve", "none.in2", "line=u"], "not built: helpers\n"),
         (&["try", "seed=1", "tasks=2", "line=u"], "not built: try\n"),
-        (&["combine", "a.csv", "b.in2"], "not built: combine\n"),
     ];
     for (words, line) in rows {
         let (status, text) = run_over(&rt, rt.alloc(), words, P5, &[0], &[])?;

@@ -1,7 +1,7 @@
 //! What is answered to words that ask for no job, and to jobs that aren't built yet.
 ghost use Rattle.std.specs.Prelude.{◌≡◌, ◌++◌, IfOk, option_map};
 ghost use Rattle.line_words.specs.Texts.{usage_text};
-ghost use Rattle.line_program.specs.Built.{helpers_part, unbuilt, unbuilt_line};
+ghost use Rattle.line_program.specs.Built.{unbuilt, unbuilt_line};
 ghost use Rattle.command_outcome.specs.declared.report.Kept.TheVariants.{Nothing};
 ghost use Rattle.command_outcome.specs.declared.status.Status.TheVariants as ends;
 
@@ -9,26 +9,14 @@ use command_outcome::{Report, Status};
 use line_words::{Job, UsageKind, push_usage};
 use std::alloc::{AllocError, Global};
 
-/// The helpers, where there are any: they aren't built.
-fn helpers_part(helpers: u32) -> Option<&'static str>
-    ensures { option_map (λ t. t.now) result ≡ helpers_part helpers }
-{
-    if helpers == 0 { None } else { Some("helpers") }
-}
-
-/// The part of a job that isn't built: its command, or its helpers.
+/// The part of a job that isn't built: its command.
 pub fn unbuilt(job: &Job) -> Option<&'static str>
     ensures { option_map (λ t. t.now) result ≡ unbuilt job.now }
 {
     match job {
-        Job::Help | Job::Version | Job::Balance { .. } | Job::Check { .. } | Job::Convert { .. } =>
-            None,
-        Job::Solve { helpers, .. } => helpers_part(*helpers),
         Job::Cycle { .. } => Some("cycle"),
-        Job::Combine { .. } => Some("combine"),
-        Job::Utility { .. } => Some("utility"),
-        Job::Timeline { .. } => Some("timeline"),
         Job::Try { .. } => Some("try"),
+        _ => None,
     }
 }
 

@@ -5,8 +5,6 @@
 mod checking;
 pub mod laws;
 mod listed;
-#[cfg(test)]
-mod tests;
 mod types;
 
 pub use checking::check_balance;

@@ -7,8 +7,6 @@ mod job;
 mod name;
 mod number;
 mod reading;
-#[cfg(test)]
-mod tests;
 mod word;
 
 pub use command::Command;

@@ -4,8 +4,6 @@
 mod bounds;
 mod chains;
 mod sizes;
-#[cfg(test)]
-mod tests;
 mod total;
 
 pub use bounds::{bound, exceeds, exceeds_with};

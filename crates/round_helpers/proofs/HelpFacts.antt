@@ -1,5 +1,5 @@
 -- From the work of all helpers to the book that comes back.
-use Rattle.std.proofs.Common.{◌≡◌, ℕ, zero, suc, ◌+◌, ◌-◌, ◌%◌, ◌<◌, ◌≤◌, ◌⊎◌, Bool, true, List, [], ◌∷◌, ◌++◌, length, length-append, refl, sym, ap, ◌∙◌, subst, inl, inr, arith, Some}
+use Rattle.std.proofs.Common.{◌≡◌, ℕ, zero, suc, ◌+◌, ◌-◌, ◌%◌, ◌<◌, ◌≤◌, Bool, List, [], ◌∷◌, ◌++◌, length, length-append, refl, sym, ap, ◌∙◌, subst, inl, inr, arith, Some}
 use Rattle.std.specs.List.{range_with_len}
 use Rattle.std.specs.Prelude.{slice_get}
 use Rattle.std.proofs.Math.Nat.{mod-lt}
@@ -9,9 +9,8 @@ use Rattle.line_rules.specs.Entries.{HasAnswer}
 use Rattle.line_rules.specs.Ranges.{IsCycle}
 use Rattle.line_rules.specs.Units.{UnitsOf}
 use Rattle.line_rules.specs.declared.types.Entry.{Entry}
-use Rattle.line_rules.proofs.ListFacts.{get_longer}
 use Rattle.lemma_core.specs.Machine.{About}
-use Rattle.lemma_core.specs.History.{Item, Standing, replay, Begins, AreOwn}
+use Rattle.lemma_core.specs.History.{Item, Standing, replay, Begins}
 use Rattle.lemma_core.specs.Desks.{entries, Keeps}
 use Rattle.lemma_core.specs.Own.{AreAt, added_of}
 use Rattle.lemma_core.specs.Books.{BookView, IsBook, IsReserved, desk_of}

@@ -1,5 +1,5 @@
 -- What a look into a book tells of a question.
-use Rattle.std.proofs.Common.{◌≡◌, ℕ, Bool, List, refl, sym, ap, ◌∙◌, Option, Some, None}
+use Rattle.std.proofs.Common.{◌≡◌, ℕ, Bool, List, refl, Option, Some, None}
 use Rattle.line_rules.specs.Entries.{HasAnswer, IsLastAnswer, IsUnanswered}
 use Rattle.line_rules.specs.declared.types.Entry.{Entry}
 use Rattle.lemma_core.specs.Machine.{last_answer, found}

@@ -1,5 +1,5 @@
 -- What an offer of a balance does on a desk, and which balance the loads of a job give.
-use Rattle.std.proofs.Common.{◌≡◌, ℕ, ◌+◌, ◌≤◌, Bool, List, [], ◌∷◌, ◌++◌, length, length-append, refl, sym, ap, ◌∙◌, subst, arith, Some}
+use Rattle.std.proofs.Common.{◌≡◌, ℕ, ◌+◌, ◌≤◌, Bool, List, [], ◌∷◌, length, length-append, refl, sym, ap, ◌∙◌, subst, arith, Some}
 use Rattle.line_instance.specs.Line.{Line}
 use Rattle.line_rules.specs.Balance.{IsRight, all_tasks}
 use Rattle.line_rules.specs.Loads.{IsLoad, Belongs, rest}
@@ -12,8 +12,7 @@ use Rattle.line_rules.specs.declared.types.Mode.TheVariants as mode
 use Rattle.line_rules.specs.declared.types.Load.{Load}
 use Rattle.line_rules.proofs.Seated.{seated_first, seated_last}
 use Rattle.lemma_core.specs.History.{Item, better, Standing, replay}
-use Rattle.lemma_core.specs.Machine.{About}
-use Rattle.lemma_core.specs.Desks.{DeskView, fewest_after, Keeps, Waits, Adds, Offers}
+use Rattle.lemma_core.specs.Desks.{DeskView, fewest_after, Keeps, Adds, Offers}
 use Rattle.lemma_core.specs.declared.types.Offered.{Offered}
 use Rattle.lemma_core.specs.declared.types.Offered.TheVariants as offered
 use Rattle.lemma_core.proofs.HistoryGrows.{keeps_none}

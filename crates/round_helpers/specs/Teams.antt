@@ -4,7 +4,6 @@ use Rattle.atomic_table.specs.Seated.{TableId}
 use Rattle.line_instance.specs.Line.{Line}
 use Rattle.line_rules.specs.Ranges.{IsCycle}
 use Rattle.lemma_core.specs.History.{Item, Begins}
-use Rattle.lemma_core.specs.Machine.{About}
 use Rattle.book_share.specs.Calls.{IsPassOf}
 use Rattle.book_share.specs.Passes.{Base}
 use Rattle.station_search.specs.declared.answers.Units.{Units}

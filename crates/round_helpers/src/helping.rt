@@ -89,7 +89,7 @@ fn help_at<R: Threads + Wait + Sync, G: Gate>(
     ensures help { (book : BookView) → IsBook book → pass.view ≡ newcomer book
         → book.about ≡ record { line = inst.now; kind = question.kind; cycle = question.cycle }
         → Helps book result.book (all_used units.new - all_used units.old)
-            × HasHelped book result.book question.most units.new result.helped }
+        × HasHelped book result.book question.most units.new result.helped }
     ensures reserved { IsReserved result.book }
     ensures spent { HaveSpent units.old units.new }
 {

@@ -93,7 +93,15 @@ fn work<R: Wait, G: Gate>(
         helper: deal.place as u32 + 1,
         publishes: 0,
     };
-    let end = do_jobs(alloc, &mut desk, inst, question, jobs, deal, &mut helper.units);
+    let end = do_jobs(
+        alloc,
+        &mut desk,
+        inst,
+        question,
+        jobs,
+        deal,
+        &mut helper.units,
+    );
     helper.end = end;
 }
 

@@ -16,8 +16,8 @@ mod solving;
 #[cfg(test)]
 mod tests;
 
-pub use plans::{Plan, Purse, fill};
 pub use closing::Verdict;
+pub use plans::{Plan, Purse, fill};
 pub use round_helpers::{AlwaysOpen, Gate, Helped, Job, jobs};
 pub use rounds::{Round, decide_round};
 pub use solving::{Cause, Outcome, solve};

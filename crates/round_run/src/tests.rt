@@ -231,11 +231,13 @@ fn round_text<R: Threads + Wait + Sync>(
 }
 
 // What refutes seven tasks in four stations, over an empty book whose best balance has seven.
-const SEVEN: &str = "Unneeded refuted from 0 used 48 7|branch {2, 3, 4, 5, 6} 2|branch {0, 2, 3, 4, 5, 6} 3|\
+const SEVEN: &str =
+    "Unneeded refuted from 0 used 48 7|branch {2, 3, 4, 5, 6} 2|branch {0, 2, 3, 4, 5, 6} 3|\
     swap {1, 2, 3, 4, 5, 6} 3|branch {0, 1, 2, 3, 4, 5, 6} 4|";
 
 // The same after a helper did both jobs of the question.
-const A_ROUND: &str = "Whole refuted from 3 used 17 7|branch {2, 3, 4, 5, 6} 2|branch {0, 2, 3, 4, 5, 6} 3|\
+const A_ROUND: &str =
+    "Whole refuted from 3 used 17 7|branch {2, 3, 4, 5, 6} 2|branch {0, 2, 3, 4, 5, 6} 3|\
     branch {1, 2, 3, 4, 5, 6} 3|branch {0, 1, 2, 3, 4, 5, 6} 4| helper 49";
 
 #[test]

@@ -8,8 +8,6 @@ pub mod places;
 mod shorts;
 mod sides;
 pub mod steps;
-#[cfg(test)]
-mod tests;
 
 pub use loads::{first_load, is_full, next_load, resume, walk};
 pub use steps::Walk;

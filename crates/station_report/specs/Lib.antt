@@ -1,3 +1,5 @@
 pub mod StationsText
 pub mod BalanceLines
 pub mod InfeasibleText
+pub mod TimelineText
+pub mod Table

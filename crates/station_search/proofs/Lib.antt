@@ -11,4 +11,3 @@ pub mod Standins
 pub mod Endings
 pub mod Standing
 pub mod RestTimes
-pub mod PartFacts

@@ -4,4 +4,3 @@ pub mod Costs
 pub mod Order
 pub mod Work
 pub mod Parts
-pub mod Shared

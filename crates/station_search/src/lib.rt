@@ -12,8 +12,6 @@ mod searching;
 mod sorting;
 mod stacks;
 mod swaps;
-#[cfg(test)]
-mod tests;
 
 pub use answers::{Decided, Reason, Units};
 pub use deciding::decide;

@@ -3,8 +3,6 @@
 #![tactic(auto)]
 
 mod loads;
-#[cfg(test)]
-mod tests;
 
 pub use loads::{first_load, is_full, next_load, resume, walk};
 pub use station_load::Walk;

@@ -6,8 +6,6 @@
 //! units, and to stations times models times tasks. No call takes memory.
 #![tactic(auto)]
 
-#[cfg(test)]
-mod tests;
 mod work;
 
 pub use work::{utility, utility_step};

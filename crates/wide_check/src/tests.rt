@@ -47,39 +47,76 @@ pub(crate) fn certificate(alloc: Global, text: &str) -> Result<Certificate, Fail
     }
 }
 
-/// The verdict in words.
-fn told<R: Threads + Sync>(
+/// Why a certificate is refused, in words.
+pub(crate) fn refusal(alloc: Global, place: &Place) -> Result<String, AllocError> {
+    match place {
+        Place::Infeasible { task, time } => format!(in alloc; "infeasible {task} {time}"),
+        Place::Earlier { task, least } => format!(in alloc; "earlier {task} {least}"),
+        Place::Broken(i, j) => format!(in alloc; "broken {i} {j}"),
+        Place::Together(i, j) => format!(in alloc; "together {i} {j}"),
+        Place::Goal => format!(in alloc; "goal"),
+        Place::Entry { entry, why } => fault(alloc, *entry, why),
+        _ => format!(in alloc; "other"),
+    }
+}
+
+/// What is wrong with an entry, in words.
+fn fault(alloc: Global, entry: u64, why: &EntryFault) -> Result<String, AllocError> {
+    match why {
+        EntryFault::Cite(cite) => format!(in alloc; "entry {entry} cite {cite}"),
+        EntryFault::Uncovered(load) => format!(in alloc; "entry {entry} uncovered {}", load.front),
+        _ => format!(in alloc; "entry {entry}"),
+    }
+}
+
+/// A verdict in words.
+pub(crate) fn verdict(alloc: Global, verified: &Verified) -> Result<String, AllocError> {
+    match verified {
+        Verified::Accepted {
+            lower,
+            upper,
+            units,
+        } => format!(in alloc; "accepted {lower} {upper} {units}"),
+        Verified::TooLong(task) => format!(in alloc; "too long {task}"),
+        Verified::Refused(place) => refusal(alloc, place),
+        Verified::StepsEnded(steps) => format!(in alloc; "ended {steps}"),
+    }
+}
+
+/// Whether the verdict on a certificate is this one.
+fn is_told<R: Threads + Sync>(
     rt: &R,
     alloc: Global,
     times: &[u64],
     text: &str,
     steps: u64,
-) -> Result<String, Fail> {
+    want: &str,
+) -> Result<bool, Fail> {
     if steps < 1 || steps > 20_000_000 {
-        return Err("out of range")?;
+        return Ok(false);
     }
     let inst = instance(alloc, times)?;
     let cert = certificate(alloc, text)?;
     let Wide::Done(verified) = verify_wide(rt, alloc, &inst, &cert, steps) else {
-        return Err("no memory")?;
+        return Ok(false);
     };
-    Ok(match verified {
-        Verified::Accepted {
-            lower,
-            upper,
-            units,
-        } => format!(in alloc; "accepted {lower} {upper} {units}")?,
-        Verified::TooLong(task) => format!(in alloc; "too long {task}")?,
-        Verified::Refused(
-            Place::Entry {
-                entry,
-                why: EntryFault::Cite(cite),
-            },
-        ) => format!(in alloc; "entry {entry} cite {cite}")?,
-        Verified::Refused(Place::Goal) => format!(in alloc; "goal")?,
-        Verified::Refused(_) => format!(in alloc; "refused")?,
-        Verified::StepsEnded(steps) => format!(in alloc; "ended {steps}")?,
-    })
+    let told = verdict(alloc, &verified)?;
+    Ok(told.as_str() == want)
+}
+
+/// The first of these rows, each a certificate, its steps and its verdict, that is told otherwise.
+fn first_wrong<'a, R: Threads + Sync>(
+    rt: &R,
+    alloc: Global,
+    times: &[u64],
+    rows: &[(&'a str, u64, &'a str)],
+) -> Result<Option<usize>, Fail> {
+    for (k, (text, steps, want)) in rows.iter().enumerate() {
+        if !is_told(rt, alloc, times, text, *steps, want)? {
+            return Ok(Some(k));
+        }
+    }
+    Ok(None)
 }
 
 /// A certificate of seven tasks with so many copies of its first entry before the others, whose last entry cites so.
@@ -100,61 +137,41 @@ fn copies(alloc: Global, n: usize, last: usize) -> Result<String, AllocError> {
 
 #[test]
 fn answers_as_in_order(rt: HostRuntime) -> Result<(), Fail> {
-    let alloc = rt.alloc();
-    let five = [4, 4, 2, 2, 2];
-    assert_eq!(&rt;
-        told(&rt, alloc, &five, FIVE, 15)?.as_str(),
-        "accepted 3 3 15"
-    );
-    assert_eq!(&rt; told(&rt, alloc, &five, FIVE, 14)?.as_str(), "ended 14");
-    assert_eq!(&rt;
-        told(&rt, alloc, &five, STOPPED, 14)?.as_str(),
-        "accepted 2 3 14"
-    );
-    assert_eq!(&rt; told(&rt, alloc, &five, STOPPED, 13)?.as_str(), "ended 13");
-    assert_eq!(&rt;
-        told(&rt, alloc, &five, TOO_LONG, 1)?.as_str(),
-        "too long 0"
-    );
+    let rows = [
+        (FIVE, 15, "accepted 3 3 15"),
+        (FIVE, 14, "ended 14"),
+        (STOPPED, 14, "accepted 2 3 14"),
+        (STOPPED, 13, "ended 13"),
+        (TOO_LONG, 1, "too long 0"),
+    ];
+    let wrong = first_wrong(&rt, rt.alloc(), &[4, 4, 2, 2, 2], &rows)?;
+    assert_eq!(&rt; wrong, None);
     Ok(())
 }
 
 #[test]
 fn many_copies(rt: HostRuntime) -> Result<(), Fail> {
     let alloc = rt.alloc();
-    let seven = [7, 7, 4, 4, 2, 2, 2];
-    let text = copies(alloc, 5000, 5002)?;
-    assert_eq!(&rt;
-        told(&rt, alloc, &seven, text.as_str(), 20_000_000)?.as_str(),
-        "accepted 5 5 75048"
-    );
-    assert_eq!(&rt;
-        told(&rt, alloc, &seven, text.as_str(), 75_048)?.as_str(),
-        "accepted 5 5 75048"
-    );
-    assert_eq!(&rt;
-        told(&rt, alloc, &seven, text.as_str(), 75_047)?.as_str(),
-        "ended 75047"
-    );
-    let text = copies(alloc, 5000, 5003)?;
-    assert_eq!(&rt;
-        told(&rt, alloc, &seven, text.as_str(), 75_047)?.as_str(),
-        "entry 5003 cite 5003"
-    );
+    let right = copies(alloc, 5000, 5002)?;
+    let wrong = copies(alloc, 5000, 5003)?;
+    let rows = [
+        (right.as_str(), 20_000_000, "accepted 5 5 75048"),
+        (right.as_str(), 75_048, "accepted 5 5 75048"),
+        (right.as_str(), 75_047, "ended 75047"),
+        (wrong.as_str(), 75_047, "entry 5003 cite 5003"),
+    ];
+    let wrong = first_wrong(&rt, alloc, &[7, 7, 4, 4, 2, 2, 2], &rows)?;
+    assert_eq!(&rt; wrong, None);
     Ok(())
 }
 
 #[test]
 fn a_long_entry_is_walked_again(rt: HostRuntime) -> Result<(), Fail> {
-    let alloc = rt.alloc();
-    let eighteen = [1; 18];
-    assert_eq!(&rt;
-        told(&rt, alloc, &eighteen, EIGHTEEN, 20_000_000)?.as_str(),
-        "accepted 2 2 155381"
-    );
-    assert_eq!(&rt;
-        told(&rt, alloc, &eighteen, EIGHTEEN, 155_380)?.as_str(),
-        "ended 155380"
-    );
+    let rows = [
+        (EIGHTEEN, 20_000_000, "accepted 2 2 155381"),
+        (EIGHTEEN, 155_380, "ended 155380"),
+    ];
+    let wrong = first_wrong(&rt, rt.alloc(), &[1; 18], &rows)?;
+    assert_eq!(&rt; wrong, None);
     Ok(())
 }

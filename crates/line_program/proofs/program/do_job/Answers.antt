@@ -7,7 +7,10 @@ use Rattle.balance_command.specs.Balance.{IsBalanceOutcome}
 use Rattle.check_command.specs.Check.{IsCheckOutcome}
 use Rattle.convert_command.specs.Convert.{IsConvertOutcome}
 use Rattle.solve_command.specs.Solution.{IsSolveOutcome}
-use Rattle.line_program.specs.Run.{IsJobOutcome}
+use Rattle.mix_commands.specs.Combine.{IsCombineOutcome}
+use Rattle.mix_commands.specs.Utility.{IsUtilityOutcome}
+use Rattle.mix_commands.specs.Timeline.{IsTimelineOutcome}
+use Rattle.line_program.specs.Run.{planned, IsJobOutcome}
 use Rattle.line_program.proofs.program.do_job.Goals as goal
 
 pub returns-in-Balance-clause-ends : goal.returns-in-Balance-clause-ends
@@ -44,7 +47,7 @@ pub returns-in-Solve-clause-ends : goal.returns-in-Solve-clause-ends
 returns-in-Solve-clause-ends g c = λ t.
     let o : Outside = outside (g.S.Shelf.file c.args.shelf.now) (g.S.Shelf.blames c.solve_report.new.shelf) in
     let after : Files = g.S.Shelf.file c.solve_report.new.shelf in
-    let E : List ℕ → Option (List ℕ) → LineKind → Option (List ℕ) → Type 0 = λ f a k n. Ends o (IsSolveOutcome o f a c.in-Solve.cycle k c.in-Solve.units n) after c.solve_report.result in
+    let E : List ℕ → Option (List ℕ) → LineKind → Option (List ℕ) → Type 0 = λ f a k n. Ends o (IsSolveOutcome o f a c.in-Solve.cycle k (planned c.in-Solve.helpers c.in-Solve.units) n) after c.solve_report.result in
     let file : List ℕ = c.text-in-Solve.result.now in
     let apart : Option (List ℕ) = option_map (λ a. a.now) c.name_of-in-Solve.result in
     let name : Option (List ℕ) = option_map (λ a. a.now) c.name_of-in-Solve-2.result in
@@ -54,3 +57,32 @@ returns-in-Solve-clause-ends g c = λ t.
     let A : Option (List ℕ) → Type 0 = λ a. E c.in-Solve.file a (kind_of c.in-Solve.line) name in
     let N : Option (List ℕ) → Type 0 = λ n. E c.in-Solve.file c.in-Solve.apart (kind_of c.in-Solve.line) n in
     subst J (sym c.in-Solve.is) (subst N c.name_of-in-Solve-2.ensures (subst A c.name_of-in-Solve.ensures (subst F c.text-in-Solve.ensures (subst K c.kind_of-kind-in-Solve.ensures (c.solve_report.ensures.ends t)))))
+
+pub returns-in-Combine-clause-ends : goal.returns-in-Combine-clause-ends
+returns-in-Combine-clause-ends g c = λ t.
+    let o : Outside = outside (g.S.Shelf.file c.args.shelf.now) (g.S.Shelf.blames c.combine_report.new.shelf) in
+    let after : Files = g.S.Shelf.file c.combine_report.new.shelf in
+    let J : Job → Type 0 = λ j. Ends o (IsJobOutcome o j) after c.combine_report.result in
+    let M : List ℕ → Type 0 = λ f. Ends o (IsCombineOutcome o f c.text-in-Combine-2.result.now) after c.combine_report.result in
+    let N : List ℕ → Type 0 = λ n. Ends o (IsCombineOutcome o c.in-Combine.mix n) after c.combine_report.result in
+    subst J (sym c.in-Combine.is) (subst N c.text-in-Combine-2.ensures (subst M c.text-in-Combine.ensures (c.combine_report.ensures.ends t)))
+
+pub returns-in-Utility-clause-ends : goal.returns-in-Utility-clause-ends
+returns-in-Utility-clause-ends g c = λ t.
+    let o : Outside = outside (g.S.Shelf.file c.args.shelf.now) (g.S.Shelf.blames c.utility_report.new.shelf) in
+    let E : List ℕ → List ℕ → List ℕ → Type 0 = λ m n s. Ends o (IsUtilityOutcome o m n s c.in-Utility.interval c.in-Utility.length) (g.S.Shelf.file c.utility_report.new.shelf) c.utility_report.result in
+    let J : Job → Type 0 = λ j. Ends o (IsJobOutcome o j) (g.S.Shelf.file c.utility_report.new.shelf) c.utility_report.result in
+    let M : List ℕ → Type 0 = λ m. E m c.text-in-Utility-2.result.now c.text-in-Utility-3.result.now in
+    let N : List ℕ → Type 0 = λ n. E c.in-Utility.mix n c.text-in-Utility-3.result.now in
+    let Q : List ℕ → Type 0 = λ s. E c.in-Utility.mix c.in-Utility.cert s in
+    subst J (sym c.in-Utility.is) (subst Q c.text-in-Utility-3.ensures (subst N c.text-in-Utility-2.ensures (subst M c.text-in-Utility.ensures (c.utility_report.ensures.ends t))))
+
+pub returns-in-Timeline-clause-ends : goal.returns-in-Timeline-clause-ends
+returns-in-Timeline-clause-ends g c = λ t.
+    let o : Outside = outside (g.S.Shelf.file c.args.shelf.now) (g.S.Shelf.blames c.timeline_report.new.shelf) in
+    let E : List ℕ → List ℕ → List ℕ → Type 0 = λ m n s. Ends o (IsTimelineOutcome o m n s c.in-Timeline.interval c.in-Timeline.length) (g.S.Shelf.file c.timeline_report.new.shelf) c.timeline_report.result in
+    let J : Job → Type 0 = λ j. Ends o (IsJobOutcome o j) (g.S.Shelf.file c.timeline_report.new.shelf) c.timeline_report.result in
+    let M : List ℕ → Type 0 = λ m. E m c.text-in-Timeline-2.result.now c.text-in-Timeline-3.result.now in
+    let N : List ℕ → Type 0 = λ n. E c.in-Timeline.mix n c.text-in-Timeline-3.result.now in
+    let Q : List ℕ → Type 0 = λ s. E c.in-Timeline.mix c.in-Timeline.cert s in
+    subst J (sym c.in-Timeline.is) (subst Q c.text-in-Timeline-3.ensures (subst N c.text-in-Timeline-2.ensures (subst M c.text-in-Timeline.ensures (c.timeline_report.ensures.ends t))))

@@ -1,8 +1,5 @@
-use Rattle.std.proofs.Common.{◌≡◌, ◌-◌, ◌≤◌, List, length, sym, ap, ◌∙◌, subst, inr, arith}
-use Rattle.lemma_core.specs.Books.{BookView}
-use Rattle.book_share.specs.Passes.{Base, PassView}
-use Rattle.line_rules.specs.Ranges.{IsCycle}
-use Rattle.round_helpers.specs.Seats.{HaveWorked, HasJoined}
+use Rattle.std.proofs.Common.{◌≡◌, List, length, sym, ap, ◌∙◌, subst, inr, arith}
+use Rattle.book_share.specs.Passes.{PassView}
 use Rattle.round_helpers.specs.Teams.{AreSettled, IsTold, settled}
 use Rattle.round_helpers.specs.declared.teams.Helper.{Helper}
 use Rattle.round_helpers.proofs.HelpFacts.{bare_first, may_work, have_worked, passes_are, are_settled, comes_back, spent_back}

@@ -1,10 +1,9 @@
-use Rattle.std.proofs.Common.{◌≡◌, ◌+◌, ◌-◌, ◌≤◌, ℕ, Bool, List, [], sym, subst, arith}
+use Rattle.std.proofs.Common.{◌+◌, ◌-◌, ℕ, Bool, List, [], sym, subst, arith}
 use Rattle.line_instance.specs.Line.{IsTaskSet}
 use Rattle.line_rules.specs.Balance.{all_tasks}
 use Rattle.line_rules.proofs.Free.{all_of}
 use Rattle.lemma_core.proofs.HistoryGrows.{keeps_both}
 use Rattle.station_search.proofs.States.{rest_tasks}
-use Rattle.round_helpers.specs.Works.{Works}
 use Rattle.round_helpers.proofs.WorkFacts.{works_as, works_both, works_few}
 use Rattle.round_helpers.proofs.job_work.ask.Goals as goal
 

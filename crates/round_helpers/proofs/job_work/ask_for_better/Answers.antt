@@ -1,4 +1,4 @@
-use Rattle.std.proofs.Common.{◌-◌, ◌+◌, ◌≤◌, ℕ, arith}
+use Rattle.std.proofs.Common.{◌-◌, ◌+◌, ℕ, arith}
 use Rattle.lemma_core.proofs.HistoryGrows.{keeps_both}
 use Rattle.round_helpers.specs.Works.{most_added}
 use Rattle.round_helpers.proofs.WorkFacts.{works_as, works_both, works_waits}

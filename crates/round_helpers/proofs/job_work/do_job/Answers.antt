@@ -1,4 +1,4 @@
-use Rattle.std.proofs.Common.{◌-◌, ◌+◌, ◌≤◌, ℕ, arith}
+use Rattle.std.proofs.Common.{◌-◌, ◌+◌, ℕ, arith}
 use Rattle.round_helpers.specs.Works.{most_added}
 use Rattle.round_helpers.proofs.JobEnds.{added_few}
 use Rattle.round_helpers.proofs.WorkFacts.{works_as, works_both}

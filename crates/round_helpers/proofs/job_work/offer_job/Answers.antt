@@ -1,5 +1,4 @@
-use Rattle.std.proofs.Common.{◌≡◌, ◌+◌, ◌≤◌, Bool, List, length, ap, ◌∙◌, arith}
-use Rattle.line_rules.specs.Balance.{all_tasks}
+use Rattle.std.proofs.Common.{◌≡◌, ◌+◌, Bool, List, length, ap, ◌∙◌, arith}
 use Rattle.line_rules.specs.declared.types.Load.{Load}
 use Rattle.line_rules.specs.declared.types.Mode.{Mode}
 use Rattle.lemma_core.specs.declared.types.Offered.TheVariants as offered

@@ -1,4 +1,4 @@
-use Rattle.std.proofs.Common.{◌+◌, arith}
+use Rattle.std.proofs.Common.{arith}
 use Rattle.round_helpers.proofs.SettleFacts.{settle_start, settle_turn, settle_fits}
 use Rattle.round_helpers.proofs.teams.settle.Goals as goal
 

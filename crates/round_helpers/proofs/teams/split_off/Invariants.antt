@@ -1,4 +1,4 @@
-use Rattle.std.proofs.Common.{◌≡◌, ◌-◌, ◌+◌, ◌≤◌, length, vec_capacity}
+use Rattle.std.proofs.Common.{◌≡◌, ◌-◌, ◌≤◌, length, vec_capacity}
 use Rattle.round_helpers.specs.Seats.{IsBare, AreReady}
 use Rattle.round_helpers.proofs.teams.split_off.Given as goal
 

@@ -1,6 +1,5 @@
-use Rattle.std.proofs.Common.{◌≡◌, List, length, drop, ap, ◌∙◌, sym, subst, arith, Some}
+use Rattle.std.proofs.Common.{List, length, drop, ap, sym, subst, arith}
 use Rattle.std.proofs.lemmas.List.{take_at}
-use Rattle.std.specs.Prelude.{slice_get}
 use Rattle.round_helpers.specs.Seats.{HaveAllWorked}
 use Rattle.round_helpers.specs.declared.teams.Helper.{Helper}
 use Rattle.round_helpers.proofs.teams.worked.Goals as goal

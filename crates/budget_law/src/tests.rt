@@ -1,7 +1,0 @@
-//! The law is called once.
-use crate::laws::units_are_few;
-
-#[test]
-fn the_law_is_called() {
-    units_are_few();
-}

@@ -1,0 +1,4 @@
+pub mod Demand
+pub mod CombineFacts
+pub mod LaunchFacts
+pub mod UtilityFacts

@@ -1,0 +1,7 @@
+pub mod MixFile
+pub mod SequenceFile
+pub mod BalanceFile
+pub mod Launch
+pub mod Combine
+pub mod Utility
+pub mod Timeline

@@ -1,7 +1,0 @@
-use Rattle.station_search.proofs.PartFacts.{own_kept}
-use Rattle.station_search.proofs.tests.sharing.PartDesk.look.Goals as goal
-
-pub returns-clause-own : goal.returns-clause-own
-returns-clause-own c =
-    let part = c.meet_other.new.self in
-    own_kept part.book c.look.new.self part.from part.to part.turned part.within c.look.ensures.waits
