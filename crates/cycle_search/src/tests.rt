@@ -72,15 +72,16 @@ fn searched<R: Threads + Wait + Sync>(
     inst: &Instance,
     kind: LineKind,
     stations: u32,
+    helpers: u32,
     units: u32,
 ) -> Result<String, Fail>
     requires { NoneApart inst.now }
 {
-    if stations < 1 || stations > 1024 || units < 1 || units > 3_000_000 {
+    if stations < 1 || stations > 1024 || helpers > 64 || units < 1 || units > 3_000_000 {
         return Err("out of range")?;
     }
     let plan = Plan {
-        helpers: 0,
+        helpers,
         units: u64::from(units),
     };
     let outcome = least_cycle(rt, alloc, inst, kind, stations, &plan, &AlwaysOpen);
@@ -105,11 +106,11 @@ fn least_cycle_of_a_chain_of_three(rt: HostRuntime) -> Result<(), Fail> {
     let alloc = rt.alloc();
     let inst = chain(alloc)?;
     assert_eq!(&rt;
-        searched(&rt, alloc, &inst, LineKind::Straight, 2, 1000)?.as_str(),
+        searched(&rt, alloc, &inst, LineKind::Straight, 2, 0, 1000)?.as_str(),
         "solved 3: 1 1 2 bound 1 {0, 1, 2} 2 bound 2 {0, 1, 2} 2 "
     );
     assert_eq!(&rt;
-        searched(&rt, alloc, &inst, LineKind::U, 2, 1000)?.as_str(),
+        searched(&rt, alloc, &inst, LineKind::U, 2, 0, 1000)?.as_str(),
         "solved 2: 1 2 1 bound 1 {0, 1, 2} 2 "
     );
     Ok(())
@@ -120,11 +121,11 @@ fn least_cycle_in_one_station_or_in_more_than_there_are_tasks(rt: HostRuntime) -
     let alloc = rt.alloc();
     let inst = chain(alloc)?;
     assert_eq!(&rt;
-        searched(&rt, alloc, &inst, LineKind::Straight, 1, 1)?.as_str(),
+        searched(&rt, alloc, &inst, LineKind::Straight, 1, 0, 1)?.as_str(),
         "solved 4: 1 1 1 bound 3 {0, 1, 2} 1 "
     );
     assert_eq!(&rt;
-        searched(&rt, alloc, &inst, LineKind::Straight, 5, 1)?.as_str(),
+        searched(&rt, alloc, &inst, LineKind::Straight, 5, 0, 1)?.as_str(),
         "solved 2: 1 2 3 bound 1 {0, 1, 2} 5 "
     );
     Ok(())
@@ -135,7 +136,7 @@ fn least_cycle_where_all_times_are_zero(rt: HostRuntime) -> Result<(), Fail> {
     let alloc = rt.alloc();
     let inst = instance(alloc, vec![in alloc; 0, 0]?, &[])?;
     assert_eq!(&rt;
-        searched(&rt, alloc, &inst, LineKind::Straight, 1, 1)?.as_str(),
+        searched(&rt, alloc, &inst, LineKind::Straight, 1, 0, 1)?.as_str(),
         "solved 1: 1 1 "
     );
     Ok(())
@@ -146,7 +147,7 @@ fn least_cycle_of_five_tasks_with_fifteen_units(rt: HostRuntime) -> Result<(), F
     let alloc = rt.alloc();
     let inst = five(alloc)?;
     assert_eq!(&rt;
-        searched(&rt, alloc, &inst, LineKind::Straight, 2, 15)?.as_str(),
+        searched(&rt, alloc, &inst, LineKind::Straight, 2, 0, 15)?.as_str(),
         "solved 8: 1 1 2 2 2 bound 6 {0, 1, 2, 3, 4} 2 branch 7 {0, 1, 2, 3, 4} 2 "
     );
     Ok(())
@@ -158,8 +159,22 @@ fn stops_at_five_tasks_with_fourteen_units_or_with_one(rt: HostRuntime) -> Resul
     let inst = five(alloc)?;
     for units in [14u32, 1] {
         assert_eq!(&rt;
-            searched(&rt, alloc, &inst, LineKind::Straight, 2, units)?.as_str(),
+            searched(&rt, alloc, &inst, LineKind::Straight, 2, 0, units)?.as_str(),
             "Units 7 8: 1 1 2 2 2 bound 6 {0, 1, 2, 3, 4} 2 trail 1 at 7"
+        );
+    }
+    Ok(())
+}
+
+#[test]
+fn least_cycle_of_five_tasks_with_helpers(rt: HostRuntime) -> Result<(), Fail> {
+    let alloc = rt.alloc();
+    let inst = five(alloc)?;
+    for helpers in [1u32, 2] {
+        let text = searched(&rt, alloc, &inst, LineKind::Straight, 2, helpers, 15)?;
+        assert!(&rt;
+            text.as_str()
+                .starts_with("solved 8: 1 1 2 2 2 bound 6 {0, 1, 2, 3, 4} 2 ")
         );
     }
     Ok(())
