@@ -20,9 +20,9 @@ use Rattle.cycle_search.specs.Outcomes.{IsRightIn, IsSpent}
 abbrev pub about_cycle : LineKind → Line → ℕ → Claim → Certificate
 about_cycle kind line m said = record { kind = kind; tasks = tasks line; ask = ask.Cycle m; claim = said }
 
--- A certificate of bounds on the least cycle: it claims them, a balance in m stations that is right at the upper one, these
--- entries and this trail. A text can say it; the check accepts it, with so many units, which are few enough for the default
--- steps; and its bounds are true.
+-- A certificate of bounds on the least cycle: it claims them, a balance in m stations that is right at the upper one,
+-- these entries and this trail. A text can say it; the check accepts it, with so many units, which are few enough for
+-- the default steps; and its bounds are true.
 pub record IsCertified (kind : LineKind) (line : Line) (m lower upper : ℕ) (b : Assignment) (es : List Entry)
     (trail : Option Trail) (units : ℕ) (cert : Certificate) : Type 0 where
   pub said : cert ≡ about_cycle kind line m (claim.Bounds lower upper b es trail)
@@ -40,8 +40,8 @@ pub record IsOptimum (kind : LineKind) (line : Line) (m c : ℕ) (b : Assignment
   pub least : IsLeastCycle kind line m c
   pub one : c ≡ 1 → entries ≡ []
 
--- The certificate of a search whose units ended at a tried cycle: its bounds differ, and it has the entries and the trail of
--- the search, on which all units of that try were spent.
+-- The certificate of a search whose units ended at a tried cycle: its bounds differ, and it has the entries and the
+-- trail of the search, on which all units of that try were spent.
 pub record IsStop (kind : LineKind) (line : Line) (m : ℕ) (plan : Plan) (lower upper : ℕ) (b : Assignment)
     (cert : Certificate) : Type 0 where
   pub entries : List Entry

@@ -29,8 +29,8 @@ fn about_cycle(inst: &Instance, kind: LineKind, stations: u32, claim: Claim) -> 
     }
 }
 
-/// The entries that show a least cycle: none are needed for 1, and above it the first entry that refutes the cycle below,
-/// with all that it stands on.
+/// The entries that show a least cycle: none are needed for 1, and above it the first entry that refutes the cycle
+/// below, with all that it stands on.
 fn proof_of(
     alloc: Global,
     entries: Entries,
@@ -43,7 +43,8 @@ fn proof_of(
     requires goal { 1 < cycle → HasAnswer entries (full_to tasks) stations (cycle - 1) }
     requires earlier { CitesEarlier entries }
     ensures one { IfOk result (λ new. cycle ≡ 1 → new ≡ []) }
-    ensures derived { IfOk result (λ new. (kind : Kind) (line : Line) → IsDerived kind line entries → IsDerived kind line new) }
+    ensures derived { IfOk result (λ new. (kind : Kind) (line : Line)
+        → IsDerived kind line entries → IsDerived kind line new) }
     ensures goal { IfOk result (λ new. 1 < cycle → HasAnswer new (full_to tasks) stations (cycle - 1)) }
     ensures units { IfOk result (λ new. (line : Line) (old : ℕ)
         → UnitsOf line entries old → (units : ℕ) × UnitsOf line new units × (units ≤ old)) }
@@ -55,8 +56,8 @@ fn proof_of(
     trim(alloc, entries, tasks, stations, cycle - 1)
 }
 
-/// The certificate of the least cycle in 1 to 1,024 stations, in the instance's time unit: a balance at it, and the proof
-/// that there is none at the cycle below. An error where memory is wanting.
+/// The certificate of the least cycle in 1 to 1,024 stations, in the instance's time unit: a balance at it, and the
+/// proof that there is none at the cycle below. An error where memory is wanting.
 pub fn certify_cycle(
     alloc: Global,
     inst: &Instance,
@@ -82,8 +83,8 @@ pub fn certify_cycle(
     Ok(about_cycle(inst, kind, stations, claim))
 }
 
-/// The certificate of a search in 1 to 1,024 stations whose units ended, in the instance's time unit: the bounds, a balance
-/// at the upper one, and all entries and the trail.
+/// The certificate of a search in 1 to 1,024 stations whose units ended, in the instance's time unit: the bounds, a
+/// balance at the upper one, and all entries and the trail.
 pub fn certify_cycle_stop(
     inst: &Instance,
     kind: LineKind,

@@ -1,5 +1,6 @@
 -- A line of which no two tasks are apart: it is the same after it was made so once more.
-use Rattle.std.proofs.Common.{◌≡◌, ◌∙◌, ℕ, ◌<◌, ◌≤◌, ◌↔◌, Bool, true, false, List, [], length, get_or, Option, Some, None, refl, sym, ap, subst, inl, inr, arith}
+use Rattle.std.proofs.Common.{◌≡◌, ◌∙◌, ℕ, ◌<◌, ◌≤◌, ◌↔◌, Bool, true, false, List, [], length, get_or, Option, Some}
+use Rattle.std.proofs.Common.{None, refl, sym, ap, subst, inl, inr, arith}
 use Rattle.std.specs.Prelude.{slice_index_or}
 use Rattle.std.specs.declared.result.Result.{Result}
 use Rattle.std.proofs.lemmas.Bool.{cases_Bool}

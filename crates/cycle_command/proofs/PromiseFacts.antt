@@ -1,5 +1,6 @@
 -- What `cycle` answers is what it promises.
-use Rattle.std.proofs.Common.{◌≡◌, inl, inr, ℕ, Bool, true, false, cond, nat_eq, List, Option, Some, None, refl, sym, subst, arith, rules}
+use Rattle.std.proofs.Common.{◌≡◌, inl, inr, ℕ, Bool, true, false, cond, nat_eq, List, Option, Some, None, refl, sym}
+use Rattle.std.proofs.Common.{subst, arith, rules}
 use Rattle.std.proofs.lemmas.Bool.{eqb-true}
 use Rattle.line_instance.specs.Line.{Line}
 use Rattle.line_rules.specs.Bounds.{idle_time}

@@ -1,7 +1,8 @@
 -- The certificate of a report is written where the words name a file.
 use Rattle.std.specs.declared.result.Result.{Result}
 use Rattle.std.specs.declared.result.Result.TheVariants.{Ok, Err}
-use Rattle.std.proofs.Common.{IfOk, rules, ◌≡◌, ◌≢◌, ◌∙◌, inl, inr, ℕ, Bool, true, List, Option, Some, None, refl, sym, ap, subst, arith}
+use Rattle.std.proofs.Common.{IfOk, rules, ◌≡◌, ◌≢◌, ◌∙◌, inl, inr, ℕ, Bool, true, List, Option, Some, None, refl, sym}
+use Rattle.std.proofs.Common.{ap, subst, arith}
 use Rattle.line_io.specs.Whole.{IsPrefixWritten}
 use Rattle.line_instance.specs.Line.{Line, IsLine}
 use Rattle.line_rules.specs.Laws.{IsProved}

@@ -34,10 +34,11 @@ abbrev pub bounds_text : LineKind → ℕ → ℕ → Assignment → ℕ → Lis
 bounds_text kind lower upper b idle =
     cond (nat_eq lower upper) (optimal_text kind upper b idle) (stopped_text kind lower upper b idle)
 
--- The units of a cycle X between the bounds were spent on loads that the certificate lists: its entries and its trail, which
--- is at X, have at least as many at X, and exactly so many with no helpers; no entry of cycle X is answered by an earlier one
--- of that cycle, and the trail, which is valid since the certificate is accepted, has a further load.
-pub record AreSpentAt (line : Line) (plan : Plan) (lower upper : ℕ) (es : List Entry) (left : Option Trail) : Type 0 where
+-- The units of a cycle X between the bounds were spent on loads that the certificate lists: its entries and its trail,
+-- which is at X, have at least as many at X, and exactly so many with no helpers; no entry of cycle X is answered by an
+-- earlier one of that cycle, and the trail, which is valid since the certificate is accepted, has a further load.
+pub record AreSpentAt (line : Line) (plan : Plan) (lower upper : ℕ) (es : List Entry) (left : Option Trail)
+    : Type 0 where
   pub trail : Trail
   pub has : left ≡ Some trail
   pub from : lower ≤ trail.cycle
@@ -49,11 +50,11 @@ pub record AreSpentAt (line : Line) (plan : Plan) (lower upper : ℕ) (es : List
   pub fresh : IsFreshAt trail.cycle es
   pub opens : IsOpenOver line trail.cycle es trail.frames
 
--- What is promised of bounds on the least cycle in m stations: the printed balance has m stations and is right at the upper
--- one; the certificate is accepted by the check with its default steps; the bounds are true; what is printed are the
--- certificate's bounds and balance; the bounds differ only where the units of a tried cycle were spent on loads that the
--- certificate lists, and status 1 says so; where they are equal they are the least cycle; and they are equal where the units
--- are at least (n + 1) x 3^n for n tasks, and on a U-line (n + 1) x 4^n.
+-- What is promised of bounds on the least cycle in m stations: the printed balance has m stations and is right at the
+-- upper one; the certificate is accepted by the check with its default steps; the bounds are true; what is printed are
+-- the certificate's bounds and balance; the bounds differ only where the units of a tried cycle were spent on loads
+-- that the certificate lists, and status 1 says so; where they are equal they are the least cycle; and they are equal
+-- where the units are at least (n + 1) x 3^n for n tasks, and on a U-line (n + 1) x 4^n.
 pub record HasBounds (kind : LineKind) (line : Line) (m : ℕ) (plan : Plan) (certificate : Certificate) (status : Status)
     (text : List ℕ) : Type 0 where
   pub lower : ℕ

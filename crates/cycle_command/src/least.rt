@@ -1,5 +1,6 @@
 //! What `cycle` answers of a line, and of a file that says one.
-ghost use Rattle.std.specs.Prelude.{◌≡◌, ◌≤◌, ℕ, List, [], string_bytes, Some, None, Err, IfOk, MatchResult, option_map};
+ghost use Rattle.std.specs.Prelude.{◌≡◌, ◌≤◌, ℕ, List, [], string_bytes, Some, None, Err, IfOk, MatchResult};
+ghost use Rattle.std.specs.Prelude.{option_map};
 ghost use Rattle.line_io.specs.Outside.{Rises};
 ghost use Rattle.line_instance.specs.Line.{Line};
 ghost use Rattle.line_rules.specs.Ranges.{IsInRange};
@@ -114,8 +115,8 @@ fn cut_short(
     Ok(refuse(Status::Memory, text))
 }
 
-/// What is reported of a line of this kind in so many stations, with a certificate; or the bounds, where memory ended the
-/// search.
+/// What is reported of a line of this kind in so many stations, with a certificate; or the bounds, where memory ended
+/// the search.
 fn found<R: Threads + Wait + Sync, G: Gate>(
     rt: &R,
     alloc: Global,
@@ -170,7 +171,8 @@ fn written<S: Shelf>(
     requires sayable { (certificate : Proof) → report.kept ≡ Certified certificate → IsInRange certificate }
     ensures ends { S.tells → (files : Files) → Stay files (S.file shelf.old)
         → (kind : Kind) (line : Line) (m : ℕ) (plan : Planned) → IsFound kind line m plan None (outcome_of report None)
-        → Ends (outside files (S.blames shelf.new)) (IsFound kind line m plan (Some name.now)) (S.file shelf.new) result }
+        → Ends (outside files (S.blames shelf.new)) (IsFound kind line m plan (Some name.now)) (S.file shelf.new)
+        result }
     ensures same { IfOk result (λ r. r ≡ report) }
     ensures certificate { S.tells → IfOk result (λ r. (cert : Proof) → r.kept ≡ Certified cert
         → HasCertificate (Some name.now) (S.file shelf.new) cert) }
@@ -187,8 +189,9 @@ fn written<S: Shelf>(
     }
 }
 
-/// The report of `cycle` for the file of an instance, the kind of line, 1 to 1,024 stations, the plan, and the name of the
-/// file that the certificate is written to, where there is one. Helpers run in threads and meet the gate before each publish.
+/// The report of `cycle` for the file of an instance, the kind of line, 1 to 1,024 stations, the plan, and the name of
+/// the file that the certificate is written to, where there is one. Helpers run in threads and meet the gate before
+/// each publish.
 pub fn cycle_report<R: Threads + Wait + Sync, S: Shelf, G: Gate>(
     rt: &R,
     alloc: Global,
@@ -204,7 +207,8 @@ pub fn cycle_report<R: Threads + Wait + Sync, S: Shelf, G: Gate>(
     requires few { stations ≤ 1024 }
     requires plan { IsPlan plan.now }
     ensures ends { S.tells → (let o = outside (S.file shelf.old) (S.blames shelf.new) in
-        Ends o (IsCycleOutcome o file.now kind stations plan.now.helpers plan.now.units (option_map (λ a. a.now) name.entry))
+        Ends o (IsCycleOutcome o file.now kind stations plan.now.helpers plan.now.units
+        (option_map (λ a. a.now) name.entry))
         (S.file shelf.new) result) }
     ensures good { IfOk result (λ r. IsSolveStatus r.status) }
     ensures fault { MatchResult result (λ _. Unit {0}) (MayEnd (Rises (S.faults shelf.old) (S.faults shelf.new))) }

@@ -1,5 +1,7 @@
--- A round at the cycle of a search's book is what its question needs: what helpers and the closing pass added is paid for.
-use Rattle.std.proofs.Common.{◌≡◌, ℕ, zero, suc, ◌+◌, ◌-◌, ◌*◌, ◌<◌, ◌≤◌, List, [], ◌∷◌, ◌++◌, length, take, refl, sym, ap, ◌∙◌, subst, arith, append_assoc, length-append, Some}
+-- A round at the cycle of a search's book is what its question needs: what helpers and the closing pass added is paid
+-- for.
+use Rattle.std.proofs.Common.{◌≡◌, ℕ, zero, suc, ◌+◌, ◌-◌, ◌*◌, ◌<◌, ◌≤◌, List, [], ◌∷◌, ◌++◌, length, take, refl, sym}
+use Rattle.std.proofs.Common.{ap, ◌∙◌, subst, arith, append_assoc, length-append, Some}
 use Rattle.line_instance.specs.Line.{Line}
 use Rattle.line_rules.specs.Units.{UnitsOf, UnitsIn}
 use Rattle.line_rules.specs.declared.types.Entry.{Entry}
@@ -119,7 +121,8 @@ module _ (m : ℕ) (plan : Plan) (old : Halving) (purse after : Purse) (round : 
     within = omega (arith, helped_few, sum, filled.used, filled.left);
     left = after.closing.left;
     answer = answer;
-    all = lists_all round.verdict plan round.book m after.closing.left r.helps.published r.gains.published r.gains.listed
+    all = lists_all round.verdict plan round.book m after.closing.left r.helps.published r.gains.published
+        r.gains.listed
         (after.closing.used - purse.closing.used) answer r.gains.exact (omega (arith, sum, filled.used, filled.left))
         (λ z. omega (arith, r.helps.within, helped_none z));
   }

@@ -1,5 +1,7 @@
 -- Entries behind those of an earlier list: what follows in their list follows there, with cites raised.
-use Rattle.std.proofs.Common.{◌≡◌, ℕ, zero, suc, ◌+◌, ◌-◌, ◌<◌, ◌≤◌, ◌⊎◌, Bool, true, false, cond, List, [], ◌∷◌, ◌++◌, length, map, take, refl, sym, ap, ◌∙◌, subst, inl, inr, arith, Option, Some, length-append, get_or}
+use Rattle.std.proofs.Common.{◌≡◌, ℕ, zero, suc, ◌+◌, ◌-◌, ◌<◌, ◌≤◌, ◌⊎◌, Bool, true, false, cond, List, [], ◌∷◌, ◌++◌}
+use Rattle.std.proofs.Common.{length, map, take, refl, sym, ap, ◌∙◌, subst, inl, inr, arith, Option, Some}
+use Rattle.std.proofs.Common.{length-append, get_or}
 use Rattle.std.specs.Prelude.{slice_get, nat_eq}
 use Rattle.std.proofs.lemmas.Option.{slice_get-get_or}
 use Rattle.std.proofs.lemmas.Bool.{cases_lt, cases_Bool, eqb-true, eq-eqb}
@@ -8,7 +10,8 @@ use Rattle.line_instance.specs.Line.{Line}
 use Rattle.line_rules.specs.Loads.{IsLoad, rest}
 use Rattle.line_rules.specs.Bounds.{bound}
 use Rattle.line_rules.specs.Order.{Precedes, UpTo, After}
-use Rattle.line_rules.specs.Entries.{Answers, IsOpen, Cites, Covers, FollowsBy, Follows, IsDerived, IsFresh, IsFreshAt, HasAnswer}
+use Rattle.line_rules.specs.Entries.{Answers, IsOpen, Cites, Covers, FollowsBy, Follows, IsDerived, IsFresh, IsFreshAt}
+use Rattle.line_rules.specs.Entries.{HasAnswer}
 use Rattle.line_rules.specs.Ranges.{AreCites, IsWhy}
 use Rattle.line_rules.specs.Trails.{IsPassed, Leads, IsTrail, IsOpenOver}
 use Rattle.line_rules.specs.Units.{UnitsBy, UnitsOf, UnitsIn, entries_at}

@@ -1,6 +1,7 @@
 -- The first ends of a search: no cycle below the lower one serves, and all tasks at the first station serve at the
 -- upper one.
-use Rattle.std.proofs.Common.{◌≡◌, ℕ, zero, suc, ◌+◌, ◌-◌, ◌*◌, ◌/◌, ◌<◌, ◌≤◌, ◌⊎◌, max, Bool, true, cond, ◌&&◌, List, [], ◌∷◌, length, replicate, refl, sym, ap, ◌∙◌, subst, inl, inr, arith}
+use Rattle.std.proofs.Common.{◌≡◌, ℕ, zero, suc, ◌+◌, ◌-◌, ◌*◌, ◌/◌, ◌<◌, ◌≤◌, ◌⊎◌, max, Bool, true, cond, ◌&&◌, List}
+use Rattle.std.proofs.Common.{[], ◌∷◌, length, replicate, refl, sym, ap, ◌∙◌, subst, inl, inr, arith}
 use Rattle.std.specs.Prelude.{nat_eq, nat_lt, slice_get}
 use Rattle.std.proofs.lemmas.Bool.{cases_lt, and_parts}
 use Rattle.std.proofs.lemmas.Bool.Decides.{nat_tests}
@@ -63,7 +64,9 @@ up_small a b o = up_le a b a o (let m : a * 1 ≤ a * b = mul-le-mul_left a o in
 above_up : (a b r : ℕ) → 1 ≤ b → r < up a b → b * r < a
 above_up a b r o l = elim (cases_lt (b * r) a) [
   | inl more ↦ more
-  | inr less ↦ (let p : b * r ≡ r * b = omega arith in absurd (omega (arith, l, up_le a b r o (omega (arith, less, p)))))
+  | inr less ↦
+      let p : b * r ≡ r * b = omega arith in
+      absurd (omega (arith, l, up_le a b r o (omega (arith, less, p))))
 ]
 
 -- where no task of all is counted as too long, each time is at most the cycle

@@ -1,5 +1,6 @@
 -- What a search comes to: the least cycle, or bounds, with the entries that show them.
-use Rattle.std.proofs.Common.{◌≡◌, ℕ, zero, suc, ◌+◌, ◌-◌, ◌*◌, ◌^◌, ◌<◌, ◌≤◌, ◌⊎◌, Bool, true, cond, List, [], ◌∷◌, ◌++◌, length, map, refl, sym, ap, ◌∙◌, subst, inl, inr, arith, Option, Some, None}
+use Rattle.std.proofs.Common.{◌≡◌, ℕ, zero, suc, ◌+◌, ◌-◌, ◌*◌, ◌^◌, ◌<◌, ◌≤◌, ◌⊎◌, Bool, true, cond, List, [], ◌∷◌}
+use Rattle.std.proofs.Common.{◌++◌, length, map, refl, sym, ap, ◌∙◌, subst, inl, inr, arith, Option, Some, None}
 use Rattle.std.specs.Prelude.{nat_eq, slice_get}
 use Rattle.std.proofs.lemmas.Bool.{cases_eq, eq-eqb}
 use Rattle.std.proofs.lemmas.Option.{slice_get_within}
@@ -31,7 +32,9 @@ use Rattle.cycle_search.specs.Outcomes.{IsRightIn, IsBelow, AreSome, ShowsLower,
 use Rattle.cycle_search.specs.Searching.{HasEnds, IsBetween, IsStuck, IsStuckBy}
 use Rattle.cycle_search.specs.declared.halving.Halving.{Halving}
 use Rattle.cycle_search.specs.declared.searching.CycleOutcome.TheVariants as outcome
-use Rattle.cycle_search.proofs.BehindFacts.{derived_up, trail_up, length_behind, statable_behind, answer_before, answer_behind, fresh_behind, opens_behind, frames_raised, units_behind, units_at_behind}
+use Rattle.cycle_search.proofs.BehindFacts.{derived_up, trail_up, length_behind, statable_behind, answer_before}
+use Rattle.cycle_search.proofs.BehindFacts.{answer_behind, fresh_behind, opens_behind, frames_raised, units_behind}
+use Rattle.cycle_search.proofs.BehindFacts.{units_at_behind}
 use Rattle.cycle_search.proofs.EndFacts.{none_long}
 use Rattle.cycle_search.proofs.Tries.{outside_none}
 

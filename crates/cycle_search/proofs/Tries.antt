@@ -1,5 +1,6 @@
 -- What a try does to a search: the ends are closer, or it stopped at its cycle.
-use Rattle.std.proofs.Common.{◌≡◌, ℕ, zero, suc, ◌+◌, ◌-◌, ◌*◌, ◌<◌, ◌≤◌, ◌⊎◌, Bool, true, cond, List, [], ◌∷◌, ◌++◌, length, refl, sym, ap, ◌∙◌, subst, inl, inr, arith, Some, length-append}
+use Rattle.std.proofs.Common.{◌≡◌, ℕ, zero, suc, ◌+◌, ◌-◌, ◌*◌, ◌<◌, ◌≤◌, ◌⊎◌, Bool, true, cond, List, [], ◌∷◌, ◌++◌}
+use Rattle.std.proofs.Common.{length, refl, sym, ap, ◌∙◌, subst, inl, inr, arith, Some, length-append}
 use Rattle.std.specs.Prelude.{nat_eq, slice_get}
 use Rattle.std.proofs.lemmas.Bool.{eq-eqb}
 use Rattle.line_instance.specs.Line.{Line, IsLine, tasks}
@@ -202,7 +203,8 @@ module _ (kind : LineKind) (line : Line) (m : ℕ) (plan : Plan) (X : ℕ) (old 
         let Q : List Entry → Type 0 = λ es. IsBelow line m es new.lower in
         let none : length old.proof ≡ 0 = sym (ap (λ (es : List Entry). length es) h.proof) ∙ z in
         let g : IsBelow line m old.book.state.entries new.lower = subst P (sym h.lower) (a.between.ends.goal none) in
-        subst Q (sym h.entries) (λ l. has_longer old.book.state.entries h.gained (all_tasks line) m (new.lower - 1) (g l))
+        subst Q (sym h.entries)
+        (λ l. has_longer old.book.state.entries h.gained (all_tasks line) m (new.lower - 1) (g l))
 
     ends_now : HasEnds kind line m plan.units new
     ends_now = record {

@@ -63,9 +63,10 @@ pub record IsStopped (kind : LineKind) (line : Line) (m N lower upper : ℕ) (b 
   pub proof : ShowsLower kind line m lower es
   pub some : AreSome line N es (Some trail)
 
--- The N units of a try ended, and one more load was needed: there are fewer stations than tasks, and the trail is at a cycle X between the bounds, valid from the
--- question of all tasks in m stations, and open over the entries, which are fresh at X; the entries and the trail have
--- at least N units at X, and exactly so many where there are no helpers; and N is below what the budget law allows.
+-- The N units of a try ended, and one more load was needed: there are fewer stations than tasks, and the trail is at a
+-- cycle X between the bounds, valid from the question of all tasks in m stations, and open over the entries, which are
+-- fresh at X; the entries and the trail have at least N units at X, and exactly so many where there are no helpers; and
+-- N is below what the budget law allows.
 pub record IsSpent (kind : LineKind) (line : Line) (m : ℕ) (plan : Plan) (lower upper : ℕ) (b : Assignment)
     (es : List Entry) (trail : Trail) : Type 0 where
   pub stopped : IsStopped kind line m plan.units lower upper b es trail

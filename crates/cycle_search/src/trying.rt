@@ -1,8 +1,8 @@
 //! One try of a cycle between the ends.
 //!
 //! The ranked balance is made first, and where it has few enough stations nothing is searched. Else the question is
-//! decided over the book, which is reopened at the cycle; a book that has grown too large is given up for a new one, and
-//! of its entries only the proof of the lower end is kept.
+//! decided over the book, which is reopened at the cycle; a book that has grown too large is given up for a new one,
+//! and of its entries only the proof of the lower end is kept.
 ghost use Rattle.std.specs.Prelude.{◌≡◌, ◌+◌, ◌-◌, ◌<◌, ◌≤◌, ℕ, [], length, IfOk};
 ghost use Rattle.task_set.specs.Truths.{full_to};
 ghost use Rattle.line_instance.specs.Line.{Line, tasks as count_tasks};

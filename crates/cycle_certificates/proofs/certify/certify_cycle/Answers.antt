@@ -9,8 +9,8 @@ use Rattle.cycle_certificates.proofs.certify.certify_cycle.Goals as goal
 
 pub proof_of-requires-clause-goal : goal.proof_of-requires-clause-goal
 proof_of-requires-clause-goal c =
-    shown_goal c.args.kind c.args.inst.now c.args.stations c.requires.solved.0 c.args.cycle c.args.balance c.args.entries
-    c.tasks.result c.tasks.ensures.tasks c.requires.solved.2
+    shown_goal c.args.kind c.args.inst.now c.args.stations c.requires.solved.0 c.args.cycle c.args.balance
+    c.args.entries c.tasks.result c.tasks.ensures.tasks c.requires.solved.2
 
 pub proof_of-requires-clause-earlier : goal.proof_of-requires-clause-earlier
 proof_of-requires-clause-earlier c =

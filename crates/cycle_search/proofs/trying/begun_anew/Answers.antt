@@ -13,7 +13,8 @@ returns-clause-asking c = λ N b.
     let s = c.args.search in
     let k = c.in_ok-proof.ensures c.args.kind c.args.inst.now N s.upper c.tasks.ensures.tasks b.ends.proof
     (book_kept c.args.kind c.args.inst.now c.args.stations N s c.into_parts-entries.result.0
-    c.into_parts-entries.ensures.entries c.into_parts-entries.ensures.derived c.into_parts-entries.ensures.statable b) in
+    c.into_parts-entries.ensures.entries c.into_parts-entries.ensures.derived c.into_parts-entries.ensures.statable b)
+    in
     anew_asking c.args.kind c.args.inst.now c.args.stations N c.args.cycle s c.in_ok-proof.proof
     c.in_ok-open_book.field-0 c.args.best b k.0 k.1 c.in_ok-open_book.ensures.about c.in_ok-open_book.ensures.state
     c.in_ok-open_book.ensures.reserved c.requires.from c.requires.to
