@@ -17,7 +17,7 @@ mod solving;
 mod tests;
 
 pub use closing::Verdict;
-pub use plans::{Plan, Purse};
+pub use plans::{Plan, Purse, fill};
 pub use round_helpers::{AlwaysOpen, Gate, Helped, Job, jobs};
 pub use rounds::{Round, decide_round};
 pub use solving::{Cause, Outcome, solve};

@@ -1,0 +1,3 @@
+pub mod PromiseFacts
+pub mod WrittenFacts
+pub mod PlainFacts

@@ -1,0 +1,103 @@
+-- What `cycle` answers is what it promises.
+use Rattle.std.proofs.Common.{◌≡◌, inl, inr, ℕ, Bool, true, false, cond, nat_eq, List, Option, Some, None, refl, sym}
+use Rattle.std.proofs.Common.{subst, arith, rules}
+use Rattle.std.proofs.lemmas.Bool.{eqb-true}
+use Rattle.line_instance.specs.Line.{Line}
+use Rattle.line_rules.specs.Bounds.{idle_time}
+use Rattle.line_rules.specs.declared.types.LineKind.{LineKind}
+use Rattle.line_rules.specs.declared.types.Balance.{Balance as Assignment}
+use Rattle.line_rules.specs.declared.types.Certificate.{Certificate}
+use Rattle.round_run.specs.declared.plans.Plan.{Plan}
+use Rattle.command_outcome.specs.Outcome.{Outcome}
+use Rattle.command_outcome.specs.declared.status.Status.TheVariants as ends
+use Rattle.cycle_certificates.specs.CycleCertified.{IsOptimum, IsStop}
+use Rattle.cycle_command.specs.CycleText.{optimal_text, stopped_text}
+use Rattle.cycle_command.specs.Found.{IsFound}
+use Rattle.cycle_command.specs.CyclePromise.{HasBounds, IsShown}
+
+-- a choice by a test, where the answer is known
+chosen : {X : Type 0} (b : Bool) (x y : X) → b ≡ true → cond b x y ≡ x
+chosen true x y e = refl
+chosen false x y e = absurd (cc)
+
+not_chosen : {X : Type 0} (b : Bool) (x y : X) → (b ≡ true → ⊥) → cond b x y ≡ y
+not_chosen true x y f = absurd (f refl)
+not_chosen false x y f = refl
+
+module _ (kind : LineKind) (line : Line) (m : ℕ) (plan : Plan) where
+  -- the bounds of an optimum
+  of_optimum : (c : ℕ) (b : Assignment) (cert : Certificate) → IsOptimum kind line m c b cert
+      → HasBounds kind line m plan cert ends.Done (optimal_text kind c b (idle_time line c m))
+  of_optimum c b cert p = record {
+    lower = c;
+    upper = c;
+    balance = b;
+    entries = p.entries;
+    trail = None;
+    units = p.units;
+    right = p.certified.right;
+    said = p.certified.said;
+    accepted = p.certified.accepted;
+    few = p.certified.few;
+    true_bounds = p.certified.true_bounds;
+    printed = sym (chosen (nat_eq c c) (optimal_text kind c b (idle_time line c m))
+        (stopped_text kind c c b (idle_time line c m)) (search rules));
+    differ = λ h. absurd (omega (arith, h));
+    equal = λ e. (refl, p.least);
+    complete = λ h. refl;
+  }
+
+  -- the bounds of a search whose units ended
+  of_stop : (lower upper : ℕ) (b : Assignment) (cert : Certificate) → IsStop kind line m plan lower upper b cert
+      → HasBounds kind line m plan cert ends.Stopped (stopped_text kind lower upper b (idle_time line upper m))
+  of_stop lower upper b cert p = record {
+    lower = lower;
+    upper = upper;
+    balance = b;
+    entries = p.entries;
+    trail = Some p.trail;
+    units = p.units;
+    right = p.certified.right;
+    said = p.certified.said;
+    accepted = p.certified.accepted;
+    few = p.certified.few;
+    true_bounds = p.certified.true_bounds;
+    printed = sym (not_chosen (nat_eq lower upper) (optimal_text kind upper b (idle_time line upper m))
+        (stopped_text kind lower upper b (idle_time line upper m))
+        (λ e. omega (arith, p.spent.stopped.below, eqb-true lower upper e)));
+    differ = λ h. (
+      refl,
+      record {
+        trail = p.trail;
+        has = refl;
+        from = p.spent.from;
+        to = p.spent.to;
+        units = p.spent.units;
+        counted = p.spent.counted;
+        all = p.spent.all;
+        alone = p.spent.alone;
+        fresh = p.spent.fresh;
+        opens = p.spent.opens;
+      },
+    );
+    equal = λ e. absurd (omega (arith, e, p.spent.stopped.below));
+    complete = λ h. absurd (omega (arith, h, p.spent.budget));
+  }
+
+  -- what is found with a certificate is shown by it
+  pub shown_of : (name : Option (List ℕ)) (out : Outcome) → IsFound kind line m plan name out
+      → IsShown kind line m plan out.status out.text out.kept
+  shown_of name out (inl p) =
+      let S : Outcome → Type 0 = λ o. IsShown kind line m plan o.status o.text o.kept in
+      subst S (sym p.shown) (record {
+        certificate = p.certificate;
+        keeps = refl;
+        shows = of_optimum p.cycle p.balance p.certificate p.proved;
+      })
+  shown_of name out (inr p) =
+      let S : Outcome → Type 0 = λ o. IsShown kind line m plan o.status o.text o.kept in
+      subst S (sym p.shown) (record {
+        certificate = p.certificate;
+        keeps = refl;
+        shows = of_stop p.lower p.upper p.balance p.certificate p.proved;
+      })

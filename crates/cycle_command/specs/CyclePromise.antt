@@ -1,0 +1,90 @@
+-- What `cycle` promises, fact by fact, where it answers with status 0 or 1.
+use Rattle.std.specs.Prelude.{◌≡◌, ℕ, ◌+◌, ◌*◌, ◌^◌, ◌<◌, ◌≤◌, List, Option, Some, None, cond, nat_eq}
+use Rattle.line_instance.specs.Line.{Line, tasks}
+use Rattle.line_rules.specs.Accepted.{IsAccepted, IsLeastCycle}
+use Rattle.line_rules.specs.Bounds.{idle_time}
+use Rattle.line_rules.specs.Entries.{IsFreshAt}
+use Rattle.line_rules.specs.Laws.{IsProved}
+use Rattle.line_rules.specs.Trails.{IsOpenOver}
+use Rattle.line_rules.specs.Units.{UnitsAt}
+use Rattle.line_rules.specs.declared.types.LineKind.{LineKind}
+use Rattle.line_rules.specs.declared.types.Balance.{Balance as Assignment}
+use Rattle.line_rules.specs.declared.types.Entry.{Entry}
+use Rattle.line_rules.specs.declared.types.Trail.{Trail}
+use Rattle.line_rules.specs.declared.types.Ask.TheVariants as ask
+use Rattle.line_rules.specs.declared.types.Claim.TheVariants as claim
+use Rattle.line_rules.specs.declared.types.Certificate.{Certificate}
+use Rattle.budget_law.specs.Budget.{states}
+use Rattle.round_run.specs.declared.plans.Plan.{Plan}
+use Rattle.run_certificates.specs.Certified.{max_units}
+use Rattle.command_outcome.specs.Outcome.{Files}
+use Rattle.command_outcome.specs.declared.report.Kept.{Kept}
+use Rattle.command_outcome.specs.declared.report.Kept.TheVariants.{Line as Certified}
+use Rattle.command_outcome.specs.declared.status.Status.{Status}
+use Rattle.command_outcome.specs.declared.status.Status.TheVariants as ends
+use Rattle.input_files.specs.Instance.{IsLineOf}
+use Rattle.solve_command.specs.Promise.{HasCertificate}
+use Rattle.cycle_search.specs.Outcomes.{IsRightIn}
+use Rattle.cycle_certificates.specs.CycleCertified.{about_cycle}
+use Rattle.cycle_command.specs.CycleText.{optimal_text, stopped_text}
+use Rattle.cycle_command.specs.Found.{planned}
+
+-- the printed text of bounds: the optimum where they are equal, and both where they differ
+abbrev pub bounds_text : LineKind → ℕ → ℕ → Assignment → ℕ → List ℕ
+bounds_text kind lower upper b idle =
+    cond (nat_eq lower upper) (optimal_text kind upper b idle) (stopped_text kind lower upper b idle)
+
+-- The units of a cycle X between the bounds were spent on loads that the certificate lists: its entries and its trail,
+-- which is at X, have at least as many at X, and exactly so many with no helpers; no entry of cycle X is answered by an
+-- earlier one of that cycle, and the trail, which is valid since the certificate is accepted, has a further load.
+pub record AreSpentAt (line : Line) (plan : Plan) (lower upper : ℕ) (es : List Entry) (left : Option Trail)
+    : Type 0 where
+  pub trail : Trail
+  pub has : left ≡ Some trail
+  pub from : lower ≤ trail.cycle
+  pub to : trail.cycle < upper
+  pub units : ℕ
+  pub counted : UnitsAt line trail.cycle es (Some trail) units
+  pub all : plan.units ≤ units
+  pub alone : plan.helpers ≡ 0 → units ≡ plan.units
+  pub fresh : IsFreshAt trail.cycle es
+  pub opens : IsOpenOver line trail.cycle es trail.frames
+
+-- What is promised of bounds on the least cycle in m stations: the printed balance has m stations and is right at the
+-- upper one; the certificate is accepted by the check with its default steps; the bounds are true; what is printed are
+-- the certificate's bounds and balance; the bounds differ only where the units of a tried cycle were spent on loads
+-- that the certificate lists, and status 1 says so; where they are equal they are the least cycle; and they are equal
+-- where the units are at least (n + 1) x 3^n for n tasks, and on a U-line (n + 1) x 4^n.
+pub record HasBounds (kind : LineKind) (line : Line) (m : ℕ) (plan : Plan) (certificate : Certificate) (status : Status)
+    (text : List ℕ) : Type 0 where
+  pub lower : ℕ
+  pub upper : ℕ
+  pub balance : Assignment
+  pub entries : List Entry
+  pub trail : Option Trail
+  pub units : ℕ
+  pub right : IsRightIn kind line m upper balance
+  pub said : certificate ≡ about_cycle kind line m (claim.Bounds lower upper balance entries trail)
+  pub accepted : IsAccepted line certificate lower upper units
+  pub few : units ≤ max_units
+  pub true_bounds : IsProved kind line (ask.Cycle m) lower upper
+  pub printed : text ≡ bounds_text kind lower upper balance (idle_time line upper m)
+  pub differ : lower < upper → (status ≡ ends.Stopped) × AreSpentAt line plan lower upper entries trail
+  pub equal : lower ≡ upper → (status ≡ ends.Done) × IsLeastCycle kind line m lower
+  pub complete : (tasks line + 1) * states kind ^ tasks line ≤ plan.units → lower ≡ upper
+
+-- what is printed is shown by a certificate, which is kept
+pub record IsShown (kind : LineKind) (line : Line) (m : ℕ) (plan : Plan) (status : Status) (text : List ℕ) (kept : Kept)
+    : Type 0 where
+  pub certificate : Certificate
+  pub keeps : kept ≡ Certified certificate
+  pub shows : HasBounds kind line m plan certificate status text
+
+-- The promise of `cycle` for the line that the file says: what is printed is shown by a certificate, which is kept, and
+-- written where the words name a file.
+pub record IsCyclePromised (files after : Files) (file : List ℕ) (kind : LineKind) (m helpers units : ℕ)
+    (name : Option (List ℕ)) (status : Status) (text : List ℕ) (kept : Kept) : Type 0 where
+  pub line : Line
+  pub said : IsLineOf files file None line
+  pub shown : IsShown kind line m (planned helpers units) status text kept
+  pub written : HasCertificate name after shown.certificate

@@ -1,0 +1,65 @@
+-- What `cycle` comes to.
+use Rattle.std.specs.Prelude.{◌≡◌, ◌⊎◌, ℕ, ◌<◌, List, Option, None}
+use Rattle.line_instance.specs.Line.{Line}
+use Rattle.line_rules.specs.Bounds.{idle_time}
+use Rattle.line_rules.specs.Laws.{IsProved}
+use Rattle.line_rules.specs.declared.types.LineKind.{LineKind}
+use Rattle.line_rules.specs.declared.types.Balance.{Balance as Assignment}
+use Rattle.line_rules.specs.declared.types.Ask.TheVariants as ask
+use Rattle.line_rules.specs.declared.types.Certificate.{Certificate}
+use Rattle.round_run.specs.declared.plans.Plan.{Plan}
+use Rattle.command_outcome.specs.Outcome.{Files, Outside, Outcome, told}
+use Rattle.command_outcome.specs.declared.status.Status.TheVariants as ends
+use Rattle.input_files.specs.Instance.{IsLineOf, IsNoLine}
+use Rattle.solve_command.specs.Solution.{certified_by}
+use Rattle.solve_command.specs.SolutionText.{cut_short_text}
+use Rattle.cycle_certificates.specs.CycleCertified.{IsOptimum, IsStop}
+use Rattle.cycle_command.specs.CycleText.{optimal_text, stopped_text}
+
+-- The least cycle: the balance that is printed is right at it, and the certificate proves it.
+pub record IsOptimal (kind : LineKind) (line : Line) (m : ℕ) (name : Option (List ℕ)) (out : Outcome) : Type 0 where
+  pub cycle : ℕ
+  pub balance : Assignment
+  pub certificate : Certificate
+  pub proved : IsOptimum kind line m cycle balance certificate
+  pub shown : out ≡ certified_by name certificate ends.Done (optimal_text kind cycle balance (idle_time line cycle m))
+
+-- The units of a tried cycle were used: the bounds that are printed, and the balance at the upper one, are those of the
+-- certificate, which lists the units.
+pub record IsStopped (kind : LineKind) (line : Line) (m : ℕ) (plan : Plan) (name : Option (List ℕ)) (out : Outcome)
+    : Type 0 where
+  pub lower : ℕ
+  pub upper : ℕ
+  pub balance : Assignment
+  pub certificate : Certificate
+  pub proved : IsStop kind line m plan lower upper balance certificate
+  pub shown : out ≡ certified_by name certificate ends.Stopped
+      (stopped_text kind lower upper balance (idle_time line upper m))
+
+-- what is found with a certificate
+abbrev pub IsFound : LineKind → Line → ℕ → Plan → Option (List ℕ) → Outcome → Type 0
+IsFound kind line m plan name out = IsOptimal kind line m name out ⊎ IsStopped kind line m plan name out
+
+-- Memory ended the search: the bounds that are printed differ, and are true.
+pub record IsCutShort (kind : LineKind) (line : Line) (m : ℕ) (out : Outcome) : Type 0 where
+  pub lower : ℕ
+  pub upper : ℕ
+  pub below : lower < upper
+  pub true_bounds : IsProved kind line (ask.Cycle m) lower upper
+  pub shown : out ≡ told ends.Memory (cut_short_text lower upper)
+
+-- so many helpers, and so many units for each cycle that is tried
+abbrev pub planned : ℕ → ℕ → Plan
+planned helpers units = record { helpers = helpers; units = units }
+
+-- the file says the line, and this is answered of it
+pub record IsAnswered (files : Files) (file : List ℕ) (kind : LineKind) (m : ℕ) (plan : Plan) (name : Option (List ℕ))
+    (out : Outcome) : Type 0 where
+  pub line : Line
+  pub said : IsLineOf files file None line
+  pub answer : IsFound kind line m plan name out ⊎ IsCutShort kind line m out
+
+-- What `cycle` comes to for m stations: an answer, or why the file says no line.
+abbrev pub IsCycleOutcome : Outside → List ℕ → LineKind → ℕ → ℕ → ℕ → Option (List ℕ) → Outcome → Type 0
+IsCycleOutcome o file kind m helpers units name out =
+    IsAnswered o.files file kind m (planned helpers units) name out ⊎ IsNoLine o file None out

@@ -1,0 +1,3 @@
+pub mod CycleText
+pub mod Found
+pub mod CyclePromise

@@ -1,0 +1,226 @@
+//! What `cycle` answers of a line, and of a file that says one.
+ghost use Rattle.std.specs.Prelude.{◌≡◌, ◌≤◌, ℕ, List, [], string_bytes, Some, None, Err, IfOk, MatchResult};
+ghost use Rattle.std.specs.Prelude.{option_map};
+ghost use Rattle.line_io.specs.Outside.{Rises};
+ghost use Rattle.line_instance.specs.Line.{Line};
+ghost use Rattle.line_rules.specs.Ranges.{IsInRange};
+ghost use Rattle.line_rules.specs.declared.types.LineKind.{LineKind as Kind};
+ghost use Rattle.line_rules.specs.declared.types.Balance.{Balance as Assignment};
+ghost use Rattle.line_rules.specs.declared.types.Entry.{Entry};
+ghost use Rattle.line_rules.specs.declared.types.Trail.{Trail as Frames};
+ghost use Rattle.line_rules.specs.declared.types.Certificate.{Certificate as Proof};
+ghost use Rattle.command_outcome.specs.Outcome.{Files, Ends, MayEnd, Stay, Stops, MayStop, outside, outcome_of};
+ghost use Rattle.command_outcome.specs.declared.report.Kept.TheVariants.{Line as Certified};
+ghost use Rattle.command_outcome.specs.declared.report.Stop.TheVariants.{Unwritten};
+ghost use Rattle.round_run.specs.Plans.{IsPlan};
+ghost use Rattle.round_run.specs.declared.plans.Plan.{Plan as Planned};
+ghost use Rattle.solve_command.specs.Promise.{HasCertificate};
+ghost use Rattle.solve_command.specs.Solution.{IsSolveStatus};
+ghost use Rattle.cycle_search.specs.Ends.{NoneApart};
+ghost use Rattle.cycle_search.specs.Outcomes.{IsSolved, IsSpent, IsStopped as HasStopped};
+ghost use Rattle.cycle_command.specs.CyclePromise.{IsCyclePromised, IsShown};
+ghost use Rattle.cycle_command.specs.Found.{IsOptimal, IsStopped, IsFound, IsCutShort, IsCycleOutcome};
+
+use crate::plain_line::plain_line;
+use crate::print_cycle::{cut_short_text, optimal_text, room_for_bounds, stopped_text};
+use cert_files::{Streamed, stream_cert};
+use command_outcome::{Kept, Report, Status, Stop, refuse};
+use cycle_certificates::{certify_cycle, certify_cycle_stop};
+use cycle_search::{CycleOutcome, least_cycle};
+use line_instance::Instance;
+use line_io::Shelf;
+use line_rules::{Balance, Entries, LineKind, Trail};
+use round_run::{Cause, Gate, Plan};
+use station_report::idle_of;
+use std::alloc::{AllocError, Global};
+use std::sync::Wait;
+use std::thread::Threads;
+
+/// The report of the least cycle, with its certificate.
+fn optimal(
+    alloc: Global,
+    inst: &Instance,
+    kind: LineKind,
+    stations: u32,
+    cycle: u64,
+    balance: Balance,
+    entries: Entries,
+) -> Result<Report, AllocError>
+    requires some { 1 ≤ stations }
+    requires few { stations ≤ 1024 }
+    requires solved { (N : ℕ) × (N ≤ 3000000) × IsSolved kind inst.now stations N cycle balance entries }
+    ensures { IfOk result (λ r. IsOptimal kind inst.now stations None (outcome_of r None)) }
+{
+    let _tasks = inst.tasks();
+    let idle = idle_of(inst, cycle, stations);
+    let text = optimal_text(alloc, cycle, &balance, kind, idle)?;
+    let certificate = certify_cycle(alloc, inst, kind, stations, cycle, balance, entries)?;
+    Ok(Report {
+        status: Status::Done,
+        text,
+        kept: Kept::Line(certificate),
+    })
+}
+
+/// The report of a search whose units ended, with its certificate.
+fn stopped(
+    alloc: Global,
+    inst: &Instance,
+    kind: LineKind,
+    stations: u32,
+    lower: u64,
+    upper: u64,
+    balance: Balance,
+    entries: Entries,
+    trail: Trail,
+) -> Result<Report, AllocError>
+    requires some { 1 ≤ stations }
+    requires few { stations ≤ 1024 }
+    requires spent { (plan : Planned) × (plan.units ≤ 3000000)
+        × IsSpent kind inst.now stations plan lower upper balance entries trail }
+    ensures { IfOk result (λ r. (plan : Planned) → plan.units ≤ 3000000
+        → IsSpent kind inst.now stations plan lower upper balance entries trail
+        → IsStopped kind inst.now stations plan None (outcome_of r None)) }
+{
+    let _tasks = inst.tasks();
+    let idle = idle_of(inst, upper, stations);
+    let text = stopped_text(alloc, lower, upper, &balance, kind, idle)?;
+    let certificate = certify_cycle_stop(
+        inst, kind, stations, lower, upper, balance, entries, trail,
+    );
+    Ok(Report {
+        status: Status::Stopped,
+        text,
+        kept: Kept::Line(certificate),
+    })
+}
+
+/// The refusal of a search that memory ended, with its bounds.
+fn cut_short(
+    inst: &Instance,
+    kind: LineKind,
+    stations: u32,
+    room: String,
+    lower: u64,
+    upper: u64,
+) -> Result<Stop, AllocError>
+    requires room { string_bytes room ≡ [] }
+    requires stopped { (N : ℕ) × (b : Assignment) × (es : List Entry) × (trail : Frames)
+        × HasStopped kind inst.now stations N lower upper b es trail }
+    ensures answer { IfOk result (Stops (IsCutShort kind inst.now stations)) }
+    ensures fault { IfOk result (MayStop ⊥) }
+{
+    let _tasks = inst.tasks();
+    let text = cut_short_text(room, lower, upper)?;
+    Ok(refuse(Status::Memory, text))
+}
+
+/// What is reported of a line of this kind in so many stations, with a certificate; or the bounds, where memory ended
+/// the search.
+fn found<R: Threads + Wait + Sync, G: Gate>(
+    rt: &R,
+    alloc: Global,
+    inst: &Instance,
+    kind: LineKind,
+    stations: u32,
+    plan: &Plan,
+    gate: &G,
+) -> Result<Report, Stop>
+    requires none { NoneApart inst.now }
+    requires some { 1 ≤ stations }
+    requires few { stations ≤ 1024 }
+    requires plan { IsPlan plan.now }
+    ensures answer { MatchResult result
+        (λ r. IsFound kind inst.now stations plan.now None (outcome_of r None))
+        (Stops (IsCutShort kind inst.now stations)) }
+    ensures shown { IfOk result (λ r. IsShown kind inst.now stations plan.now r.status r.text.items r.kept) }
+    ensures good { IfOk result (λ r. IsSolveStatus r.status) }
+    ensures fault { MatchResult result (λ _. Unit {0}) (MayStop ⊥) }
+{
+    let room = room_for_bounds(alloc)?;
+    match least_cycle(rt, alloc, inst, kind, stations, plan, gate) {
+        CycleOutcome::Solved {
+            cycle,
+            balance,
+            entries,
+        } => Ok(optimal(alloc, inst, kind, stations, cycle, balance, entries)?),
+        CycleOutcome::Stopped {
+            cause,
+            lower,
+            upper,
+            balance,
+            entries,
+            trail,
+        } => match cause {
+            Cause::Units => Ok(stopped(
+                alloc, inst, kind, stations, lower, upper, balance, entries, trail,
+            )?),
+            Cause::Memory => Err(cut_short(inst, kind, stations, room, lower, upper)?),
+        },
+        CycleOutcome::NoMemory => Err(Stop::Memory),
+    }
+}
+
+/// Writes the certificate of a report, and hands the report on.
+fn written<S: Shelf>(
+    alloc: Global,
+    shelf: &mut S,
+    name: &str,
+    report: Report,
+) -> Result<Report, Stop>
+    requires sayable { (certificate : Proof) → report.kept ≡ Certified certificate → IsInRange certificate }
+    ensures ends { S.tells → (files : Files) → Stay files (S.file shelf.old)
+        → (kind : Kind) (line : Line) (m : ℕ) (plan : Planned) → IsFound kind line m plan None (outcome_of report None)
+        → Ends (outside files (S.blames shelf.new)) (IsFound kind line m plan (Some name.now)) (S.file shelf.new)
+        result }
+    ensures same { IfOk result (λ r. r ≡ report) }
+    ensures certificate { S.tells → IfOk result (λ r. (cert : Proof) → r.kept ≡ Certified cert
+        → HasCertificate (Some name.now) (S.file shelf.new) cert) }
+    ensures fault { MatchResult result (λ _. Unit {0}) (MayEnd (Rises (S.faults shelf.old) (S.faults shelf.new))) }
+    ensures count { S.faults shelf.old ≤ S.faults shelf.new }
+{
+    let Kept::Line(certificate) = &report.kept else {
+        return Ok(report);
+    };
+    match stream_cert(alloc, shelf, name, certificate) {
+        Streamed::Done => Ok(report),
+        Streamed::WriteFault => Err(Stop::Unwritten),
+        Streamed::NoMemory => Err(Stop::Memory),
+    }
+}
+
+/// The report of `cycle` for the file of an instance, the kind of line, 1 to 1,024 stations, the plan, and the name of
+/// the file that the certificate is written to, where there is one. Helpers run in threads and meet the gate before
+/// each publish.
+pub fn cycle_report<R: Threads + Wait + Sync, S: Shelf, G: Gate>(
+    rt: &R,
+    alloc: Global,
+    file: &str,
+    kind: LineKind,
+    stations: u32,
+    plan: &Plan,
+    name: Option<&str>,
+    shelf: &mut S,
+    gate: &G,
+) -> Result<Report, Stop>
+    requires some { 1 ≤ stations }
+    requires few { stations ≤ 1024 }
+    requires plan { IsPlan plan.now }
+    ensures ends { S.tells → (let o = outside (S.file shelf.old) (S.blames shelf.new) in
+        Ends o (IsCycleOutcome o file.now kind stations plan.now.helpers plan.now.units
+        (option_map (λ a. a.now) name.entry))
+        (S.file shelf.new) result) }
+    ensures good { IfOk result (λ r. IsSolveStatus r.status) }
+    ensures fault { MatchResult result (λ _. Unit {0}) (MayEnd (Rises (S.faults shelf.old) (S.faults shelf.new))) }
+    ensures unwritten { result ≡ Err Unwritten → (n : List ℕ) × (option_map (λ a. a.now) name.entry ≡ Some n) }
+    ensures promise { S.tells → IfOk result (λ r.
+        IsCyclePromised (S.file shelf.old) (S.file shelf.new) file.now kind stations plan.now.helpers plan.now.units
+        (option_map (λ a. a.now) name.entry) r.status r.text.items r.kept) }
+{
+    let inst = plain_line(alloc, file, shelf)?;
+    let report = found(rt, alloc, &inst, kind, stations, plan, gate)?;
+    match name {
+        None => Ok(report),
+        Some(name) => written(alloc, shelf, name, report),
+    }
+}

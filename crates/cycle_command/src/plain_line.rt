@@ -1,0 +1,34 @@
+//! The line that a file says, of which no two tasks are apart.
+ghost use Rattle.std.specs.Prelude.{◌≡◌, ◌≤◌, ℕ, List, None, IfOk, MatchResult};
+ghost use Rattle.line_io.specs.Outside.{Rises};
+ghost use Rattle.command_outcome.specs.Outcome.{Stops, MayStop, outside};
+ghost use Rattle.input_files.specs.Instance.{IsLineOf, IsNoLine};
+ghost use Rattle.cycle_search.specs.Ends.{NoneApart};
+
+use command_outcome::Stop;
+use input_files::line_of;
+use line_instance::{Instance, Prec};
+use line_io::Shelf;
+use std::alloc::Global;
+
+/// The line that the file says, whatever the cycle time. No file of pairs is read, so no two tasks are apart: that is
+/// made so once more, for callers to know it of every file.
+pub(crate) fn plain_line<S: Shelf>(
+    alloc: Global,
+    file: &str,
+    shelf: &mut S,
+) -> Result<Instance, Stop>
+    ensures said { S.tells → MatchResult result (IsLineOf (S.file shelf.old) file.now None)
+        (Stops (IsNoLine (outside (S.file shelf.old) (S.blames shelf.new)) file.now None)) }
+    ensures none { IfOk result (λ i. NoneApart i) }
+    ensures fault { MatchResult result (λ _. Unit {0}) (MayStop (Rises (S.faults shelf.old) (S.faults shelf.new))) }
+    ensures count { S.faults shelf.old ≤ S.faults shelf.new }
+    ensures files { S.tells → (q : List ℕ) → S.file shelf.new q ≡ S.file shelf.old q }
+{
+    let mut inst = line_of(alloc, file, None, shelf)?;
+    let _before = inst.tasks();
+    let none: [Prec; 0] = [];
+    inst.set_apart(&none);
+    let _after = inst.tasks();
+    Ok(inst)
+}

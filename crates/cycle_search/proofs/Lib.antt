@@ -1,0 +1,6 @@
+pub mod BehindFacts
+pub mod EndFacts
+pub mod Tries
+pub mod AskFacts
+pub mod Results
+pub mod Reopening

@@ -1,0 +1,17 @@
+use Rattle.std.proofs.Common.{arith}
+use Rattle.cycle_search.specs.Searching.{IsTried, IsStuck}
+use Rattle.cycle_search.specs.declared.trying.Tried.{Tried}
+use Rattle.cycle_search.proofs.Reopening.{stuck_cites}
+use Rattle.cycle_search.proofs.searching.halve.Goals as goal
+use Rattle.std.proofs.Common.{subst}
+use Rattle.round_run.specs.declared.solving.Cause.TheVariants as cause
+
+pub stopped-requires-clause-cites : goal.stopped-requires-clause-cites
+stopped-requires-clause-cites g c =
+    let P : Tried → Type 0 = λ z.
+    IsTried c.args.kind c.args.inst.now c.args.stations c.args.plan.now c.halving.search.lower c.halving.search.upper z
+    in
+    let s : IsStuck c.args.kind c.args.inst.now c.args.stations c.args.plan.now c.in-Stops.cause c.in-Stops.search
+    c.in-Stops.frames = subst P c.in-Stops.is c.in_ok-closer.ensures in
+    stuck_cites c.args.kind c.args.inst.now c.args.stations c.args.plan.now c.in-Stops.cause c.in-Stops.search
+    c.in-Stops.frames c.tasks-tasks.ensures.line s

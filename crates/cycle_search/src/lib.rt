@@ -1,0 +1,22 @@
+//! The least cycle of a line with so many stations (Scholl's SALBP-2, and its counterpart for U-lines).
+//!
+//! Two ends are kept: all tasks have a balance at the upper one, and none below the lower one. The cycle halfway
+//! between them is tried until they meet: by the ranked balance first, then by a search over the book, which is kept
+//! from try to try, since a lemma at a greater cycle serves at a smaller one. With ends L and U there are at most
+//! log2(U - L) + 1 tries, each with the units of the plan.
+//!
+//! `ends` has the first ends, `opening` the first book and its first entry; `halving` is the search between two tries;
+//! `trying` has one try, and `joining` makes one list of the entries of a search; `searching` says what a search comes
+//! to.
+#![tactic(auto)]
+
+mod ends;
+mod halving;
+mod joining;
+mod opening;
+mod searching;
+#[cfg(test)]
+mod tests;
+mod trying;
+
+pub use searching::{CycleOutcome, least_cycle};
