@@ -15,6 +15,7 @@ use Rattle.command_outcome.specs.declared.status.Status.TheVariants as ends
 use Rattle.input_files.specs.Kind.{kind_of}
 use Rattle.check_command.specs.Check.{IsProvedTrue}
 use Rattle.solve_command.specs.Promise.{IsPromised}
+use Rattle.cycle_command.specs.CyclePromise.{IsCyclePromised}
 use Rattle.line_program.specs.Run.{planned}
 
 -- the run answers the question of its words: with status 0, or with status 1 where it stopped by units
@@ -24,14 +25,15 @@ IsAnswered status = (status ≡ ends.Done) ⊎ (status ≡ ends.Stopped)
 -- What a job promises of a status, a text and what is kept, with the files before and after it. Of `solve`: for the line and
 -- the cycle that the files say, the balance that is printed is right, a certificate that the check accepts is kept, and
 -- written where the words name a file, its bounds are the printed ones and true, and they differ only where the units were
--- spent on loads that it lists. Of `check`: where a certificate is accepted, whoever made it, what it claims is true.
+-- spent on loads that it lists; of `cycle` the same of the least cycle time in so many stations. Of `check`: where a certificate is accepted, whoever made it, what it claims is true.
 abbrev pub PromisesOf : Files → Files → Job → Status → List ℕ → Kept → Type 0
 PromisesOf files after Help status text kept = Unit {0}
 PromisesOf files after Version status text kept = Unit {0}
 PromisesOf files after (Balance file cycle line apart) status text kept = Unit {0}
 PromisesOf files after (Solve file cycle line helpers units cert apart) status text kept =
     IsPromised files after file apart cycle (kind_of line) (planned helpers units) cert status text kept
-PromisesOf files after (Cycle file stations line helpers units cert) status text kept = Unit {0}
+PromisesOf files after (Cycle file stations line helpers units cert) status text kept =
+    IsCyclePromised files after file (kind_of line) stations helpers units cert status text kept
 PromisesOf files after (Check file cert steps apart) status text kept = status ≡ ends.Done → IsProvedTrue files file cert apart steps
 PromisesOf files after (Convert file name to cycle) status text kept = Unit {0}
 PromisesOf files after (Combine mix name) status text kept = Unit {0}

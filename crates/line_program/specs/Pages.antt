@@ -45,7 +45,7 @@ other_text =
 
 -- what isn't there yet
 abbrev pub unbuilt_text : List ℕ
-unbuilt_text = codes "Not built yet: cycle, try.\n"
+unbuilt_text = codes "Not built yet: try.\n"
 
 -- the page with every command
 abbrev pub help_text : List ℕ

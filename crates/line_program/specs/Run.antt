@@ -20,6 +20,7 @@ use Rattle.balance_command.specs.Balance.{IsBalanceOutcome}
 use Rattle.check_command.specs.Check.{IsCheckOutcome, IsProvedTrue}
 use Rattle.convert_command.specs.Convert.{IsConvertOutcome}
 use Rattle.solve_command.specs.Solution.{IsSolveOutcome}
+use Rattle.cycle_command.specs.Found.{IsCycleOutcome}
 use Rattle.mix_commands.specs.Combine.{IsCombineOutcome}
 use Rattle.mix_commands.specs.Utility.{IsUtilityOutcome}
 use Rattle.mix_commands.specs.Timeline.{IsTimelineOutcome}
@@ -36,7 +37,7 @@ IsJobOutcome o Help out = out ≡ told ends.Done help_text
 IsJobOutcome o Version out = out ≡ told ends.Done version_text
 IsJobOutcome o (Balance file cycle line apart) out = IsBalanceOutcome o file apart cycle (kind_of line) out
 IsJobOutcome o (Solve file cycle line helpers units cert apart) out = IsSolveOutcome o file apart cycle (kind_of line) (planned helpers units) cert out
-IsJobOutcome o (Cycle file stations line helpers units cert) out = ⊥
+IsJobOutcome o (Cycle file stations line helpers units cert) out = IsCycleOutcome o file (kind_of line) stations helpers units cert out
 IsJobOutcome o (Check file cert steps apart) out = IsCheckOutcome o file cert apart steps out
 IsJobOutcome o (Convert file name to cycle) out = IsConvertOutcome o file name to cycle out
 IsJobOutcome o (Combine mix name) out = IsCombineOutcome o mix name out

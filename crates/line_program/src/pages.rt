@@ -43,7 +43,7 @@ station and then -1,-1. Times are whole numbers of one time unit.
 ";
 
 /// What isn't there yet.
-const UNBUILT: &str = "Not built yet: cycle, try.
+const UNBUILT: &str = "Not built yet: try.
 ";
 
 /// The page with every command, its names, keys, defaults and an example.

@@ -23,6 +23,7 @@ use balance_command::balance_report;
 use check_command::check_report;
 use command_outcome::{Kept, Report, Status, Stop, finish};
 use convert_command::convert_report;
+use cycle_command::cycle_report;
 use input_files::kind_of;
 use line_io::{Shelf, Sink};
 use line_words::{Job, JobRead, Name, job_of};
@@ -96,6 +97,31 @@ fn do_job<R: Threads + Wait + Sync, S: Shelf, G: Gate>(
                 name_of(apart),
                 *cycle,
                 kind,
+                &plan,
+                name_of(cert),
+                shelf,
+                gate,
+            )
+        }
+        Job::Cycle {
+            file,
+            stations,
+            line,
+            helpers,
+            units,
+            cert,
+        } => {
+            let kind = kind_of(*line);
+            let plan = Plan {
+                helpers: *helpers,
+                units: *units,
+            };
+            cycle_report(
+                rt,
+                alloc,
+                file.text(),
+                kind,
+                *stations,
                 &plan,
                 name_of(cert),
                 shelf,
@@ -192,14 +218,15 @@ fn do_words<R: Threads + Wait + Sync, S: Shelf, G: Gate>(
 ///
 /// `--help` puts the page with all commands. `balance` puts the ranked balance of an instance, as a straight line or a
 /// U-line, at a cycle time, with the bound by total time and the idle time, or the least task that is longer than the
-/// cycle. `solve` puts a balance of the fewest stations, or bounds and the best balance where its units ended, and writes
-/// the certificate where the words name a file. `check` puts what the check of a certificate finds: what it accepts is true
-/// of the line. `convert` writes the canonical text of an instance in the other form, or of a certificate. `combine` writes
-/// the line that a mix of models combines to, `utility` puts the utility work of a sequence of units, and `timeline` puts it
-/// unit by unit. A fault of the words is answered by the line `usage`, with the number of the word and what is wrong, and a job that isn't built by the
-/// line `not built`. Each refusal is one line, and nothing is put with it. All files stay but the one that a job writes.
-/// `kept` then holds the certificate that the run made, where its answer was put, and else nothing; what it held before is
-/// dropped.
+/// cycle. `solve` puts a balance of the fewest stations, or bounds and the best balance where its units ended, and
+/// writes the certificate where the words name a file; `cycle` does the same of the least cycle time in so many
+/// stations. `check` puts what the check of a certificate finds: what it accepts is true of the line. `convert` writes
+/// the canonical text of an instance in the other form, or of a certificate. `combine` writes the line that a mix of
+/// models combines to, `utility` puts the utility work of a sequence of units, and `timeline` puts it unit by unit. A
+/// fault of the words is answered by the line `usage`, with the number of the word and what is wrong, and a job that
+/// isn't built by the line `not built`. Each refusal is one line, and nothing is put with it. All files stay but the
+/// one that a job writes. `kept` then holds the certificate that the run made, where its answer was put, and else
+/// nothing; what it held before is dropped.
 pub fn run_gated<R: Threads + Wait + Sync, S: Shelf, K: Sink, G: Gate>(
     rt: &R,
     alloc: Global,

@@ -42,6 +42,17 @@ solve five.in2 cycle=7 helpers=2 units=14 cert=t.cert|optimal 3/idle 7/|/entries
 solve seven.in2 cycle=7 helpers=2 cert=t.cert|optimal 5/idle 7/||
 solve zero.in2 cycle=1 helpers=64|optimal 1/idle 1/station 1: 1/|/entries 0/|
 solve big.alb helpers=4 units=200000 cert=t.cert|optimal 20/idle 0/station 1: 1 2 3 4 5/||accepted straight cycle 1000 lower 20 upper 20 units 0/
+cycle chain.in2 stations=2 helpers=0|optimal cycle 3/idle 2/station 1: 1 2/station 2: 3/||
+cycle chain.in2 stations=2 line=u helpers=0|optimal cycle 2/idle 0/station 1: 1 back 3/station 2: 2/||
+cycle chain.in2 stations=2 helpers=4|optimal cycle 3/||
+cycle nothing.in2 stations=1 helpers=0|optimal cycle 1/idle 1/station 1: 1 2/|/entries 0/|
+cycle five.in2 stations=2 helpers=0 units=15 cert=t.cert|optimal cycle 8/idle 2/station 1: 1 2/station 2: 3 4 5/|/entries 1/branch f 7 f8 2 -/|accepted straight stations 2 lower 8 upper 8 units 15/
+cycle five.in2 stations=2 helpers=0 units=14 cert=t.cert|stopped by units/bounds 7 8/idle 2/station 1: 1 2/station 2: 3 4 5/|/entries 1/bound 6 f8 2/trail 1 at 7/open f f8 2 90 -/|accepted straight stations 2 lower 7 upper 8 units 14/
+cycle five.in2 stations=2 helpers=2 cert=t.cert|optimal cycle 8/||accepted straight stations 2 lower 8 upper 8 units 15/
+cycle five.in2 stations=0|usage: word 2 bad value/||
+cycle five.in2 stations=1025|usage: word 2 bad value/||
+cycle five.in2 stations=2 apart=two.apart|usage: word 3 unknown key/||
+cycle none.in2 stations=2|read fault: none.in2/||
 solve none.in2 cycle=7 helpers=0|read fault: none.in2/||
 solve five.in2 cycle=7 helpers=0 cert=five.in2|optimal 3/||";
 
@@ -65,10 +76,11 @@ fn hundred_tasks(alloc: Global) -> Result<Vec<u8>, AllocError> {
 /// The files of the rows, where calls of these numbers fail.
 fn files(alloc: Global, fails: &[u64]) -> Result<MemShelf, AllocError> {
     let mut shelf = MemShelf::new(alloc, Vec::from_slice(alloc, fails)?);
-    let rows: [(&str, &[u8]); 10] = [
+    let rows: [(&str, &[u8]); 11] = [
         ("zero.in2", b"1\n0\n-1,-1\n"),
         ("chain.in2", b"3\n1\n2\n1\n1,2\n2,3\n-1,-1\n"),
         ("two.in2", b"2\n1\n1\n-1,-1\n"),
+        ("nothing.in2", b"2\n0\n0\n-1,-1\n"),
         ("five.in2", b"5\n4\n4\n2\n2\n2\n-1,-1\n"),
         ("six.in2", b"6\n7\n4\n4\n2\n2\n2\n-1,-1\n"),
         ("seven.in2", b"7\n7\n7\n4\n4\n2\n2\n2\n-1,-1\n"),

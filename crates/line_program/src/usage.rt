@@ -14,7 +14,6 @@ pub fn unbuilt(job: &Job) -> Option<&'static str>
     ensures { option_map (λ t. t.now) result ≡ unbuilt job.now }
 {
     match job {
-        Job::Cycle { .. } => Some("cycle"),
         Job::Try { .. } => Some("try"),
         _ => None,
     }

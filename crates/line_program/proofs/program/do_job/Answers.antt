@@ -7,6 +7,7 @@ use Rattle.balance_command.specs.Balance.{IsBalanceOutcome}
 use Rattle.check_command.specs.Check.{IsCheckOutcome}
 use Rattle.convert_command.specs.Convert.{IsConvertOutcome}
 use Rattle.solve_command.specs.Solution.{IsSolveOutcome}
+use Rattle.cycle_command.specs.Found.{IsCycleOutcome}
 use Rattle.mix_commands.specs.Combine.{IsCombineOutcome}
 use Rattle.mix_commands.specs.Utility.{IsUtilityOutcome}
 use Rattle.mix_commands.specs.Timeline.{IsTimelineOutcome}
@@ -86,3 +87,14 @@ returns-in-Timeline-clause-ends g c = λ t.
     let N : List ℕ → Type 0 = λ n. E c.in-Timeline.mix n c.text-in-Timeline-3.result.now in
     let Q : List ℕ → Type 0 = λ s. E c.in-Timeline.mix c.in-Timeline.cert s in
     subst J (sym c.in-Timeline.is) (subst Q c.text-in-Timeline-3.ensures (subst N c.text-in-Timeline-2.ensures (subst M c.text-in-Timeline.ensures (c.timeline_report.ensures.ends t))))
+
+pub returns-in-Cycle-clause-ends : goal.returns-in-Cycle-clause-ends
+returns-in-Cycle-clause-ends g c = λ t.
+    let o : Outside = outside (g.S.Shelf.file c.args.shelf.now) (g.S.Shelf.blames c.cycle_report.new.shelf) in
+    let E : List ℕ → LineKind → Option (List ℕ) → Type 0 = λ f k n. Ends o (IsCycleOutcome o f k c.in-Cycle.stations c.in-Cycle.helpers c.in-Cycle.units n) (g.S.Shelf.file c.cycle_report.new.shelf) c.cycle_report.result in
+    let name : Option (List ℕ) = option_map (λ a. a.now) c.name_of-in-Cycle.result in
+    let J : Job → Type 0 = λ j. Ends o (IsJobOutcome o j) (g.S.Shelf.file c.cycle_report.new.shelf) c.cycle_report.result in
+    let K : LineKind → Type 0 = λ k. E c.text-in-Cycle.result.now k name in
+    let F : List ℕ → Type 0 = λ f. E f (kind_of c.in-Cycle.line) name in
+    let N : Option (List ℕ) → Type 0 = λ n. E c.in-Cycle.file (kind_of c.in-Cycle.line) n in
+    subst J (sym c.in-Cycle.is) (subst N c.name_of-in-Cycle.ensures (subst F c.text-in-Cycle.ensures (subst K c.kind_of-kind-in-Cycle.ensures (c.cycle_report.ensures.ends t))))
