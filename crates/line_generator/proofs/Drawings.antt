@@ -1,29 +1,39 @@
 -- What is drawn makes a line: so many times within the limit, and arcs that lead on and so in no ring.
-use Rattle.std.proofs.Common.{◌≡◌, ℕ, zero, suc, ◌+◌, ◌-◌, ◌*◌, ◌/◌, ◌%◌, ◌<◌, ◌≤◌, Bool, true, false, cond, List, [], ◌∷◌, ◌++◌, length, get_or, refl, sym, ap, ◌∙◌, subst, arith, inl, inr, length-append}
-use Rattle.std.specs.Prelude.{nat_eq, ⊥}
+use Rattle.std.proofs.Common.{◌≡◌, ℕ, zero, suc, ◌+◌, ◌-◌, ◌/◌, ◌%◌, ◌<◌, ◌≤◌, Bool, true, false, cond, List, [], ◌∷◌, ◌++◌, length, get_or, refl, sym, ap, arith, inl, inr, length-append}
+use Rattle.std.specs.Prelude.{nat_eq}
 use Rattle.std.specs.List.{Contains}
-use Rattle.std.proofs.Math.Nat.{mod-lt}
+use Rattle.std.proofs.lemmas.Nat.{mod_below}
 use Rattle.std.proofs.lemmas.Bool.{cases_lt}
 use Rattle.std.proofs.lemmas.List.{get_or_past}
 use Rattle.std.proofs.lemmas.List.Elements.{Contains-push_cases, Contains-append_cases, Contains-get_or}
 use Rattle.line_instance.specs.declared.arcs.Prec.{Prec}
 use Rattle.line_instance.specs.Made.{AreTimes}
 use Rattle.line_instance.specs.Walks.{AreArcs, arc_at, IsRing, at}
+use Rattle.rand_core.specs.Pcg32Seed.{pcg32_seed}
+use Rattle.rand_pcg.specs.Pcg.{pcg32_of_seed}
 use Rattle.line_generator.specs.Drawn.{word, next, in_front, time_of, arc_of, times_of, arcs_of}
 
 -- the turns of what is drawn
+pub front_none : (seed : ℕ) → in_front seed 0 ≡ pcg32_of_seed (pcg32_seed 16 seed)
+unfolding in_front
+front_none seed = refl
+
 pub front_first : (seed : ℕ) → in_front seed 1 ≡ next (in_front seed 0)
 unfolding in_front
 front_first seed = refl
 
 pub front_more : (seed t : ℕ) → 0 < t → in_front seed (t + 1) ≡ next (next (in_front seed t))
 unfolding in_front
-front_more seed zero l = omega (arith, l)
+front_more seed zero l = absurd (omega (arith, l))
 front_more seed (suc t) l = let e : suc t + 1 ≡ suc (suc t) = omega arith in rw e refl
 
 pub times_more : (seed t : ℕ) → times_of seed (t + 1) ≡ times_of seed t ++ time_of seed t ∷ []
 unfolding times_of
 times_more seed t = let e : t + 1 ≡ suc t = omega arith in rw e refl
+
+pub times_first : (seed : ℕ) → times_of seed 1 ≡ time_of seed 0 ∷ []
+unfolding times_of
+times_first seed = refl
 
 pub arcs_first : (seed : ℕ) → arcs_of seed 1 ≡ []
 unfolding arcs_of
@@ -31,7 +41,7 @@ arcs_first seed = refl
 
 pub arcs_more : (seed t : ℕ) → 0 < t → arcs_of seed (t + 1) ≡ arcs_of seed t ++ arc_of seed t
 unfolding arcs_of
-arcs_more seed zero l = omega (arith, l)
+arcs_more seed zero l = absurd (omega (arith, l))
 arcs_more seed (suc t) l = let e : suc t + 1 ≡ suc (suc t) = omega arith in rw e refl
 
 -- the times
@@ -63,7 +73,7 @@ one_on : (b : Bool) (v t : ℕ) (p : Prec) → 0 < t → Contains (cond b (recor
 one_on true v t p o (zero, l, e) =
     let f : v / 2 % t ≡ p.first = ap (λ (q : Prec). q.first) e in
     let s : t ≡ p.«then» = ap (λ (q : Prec). q.«then») e in
-    (omega (arith, mod-lt (v / 2) {t} o, f, s), sym s)
+    (omega (arith, mod_below (v / 2) t o, f, s), sym s)
 one_on true v t p o (suc k, l, e) = omega (arith, l)
 one_on false v t p o (k, l, e) = omega (arith, l)
 

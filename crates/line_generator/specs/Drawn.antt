@@ -1,6 +1,6 @@
 -- The line of a seed (own): times and arcs that are drawn from the words of a generator, task by task. Tasks are counted from
 -- 0 here. The generator is PCG's XSH RR 64/32 (O'Neill), as the crate rand_pcg states it.
-use Rattle.std.specs.Prelude.{⊤, ℕ, zero, suc, ◌+◌, ◌*◌, ◌/◌, ◌%◌, cond, nat_eq, List, [], ◌∷◌, ◌++◌}
+use Rattle.std.specs.Prelude.{⊤, ℕ, zero, suc, ◌+◌, ◌/◌, ◌%◌, cond, nat_eq, List, [], ◌∷◌, ◌++◌}
 use Rattle.rand_core.specs.Pcg32Seed.{pcg32_seed}
 use Rattle.rand_pcg.specs.Lcg.{Lcg}
 use Rattle.rand_pcg.specs.Pcg.{pcg32, pcg32_of_seed}
@@ -23,15 +23,20 @@ in_front seed zero = pcg32_of_seed (pcg32_seed 16 seed)
 in_front seed (suc zero) = next (in_front seed zero)
 in_front seed (suc (suc t)) = next (next (in_front seed (suc t)))
 
--- the time of task t is 1 to 100
-abbrev pub time_of : ℕ → ℕ → ℕ
-time_of seed t = 1 + word (in_front seed t) % 100
+-- a word is a time of 1 to 100
+abbrev pub time_from : ℕ → ℕ
+time_from w = 1 + w % 100
 
--- an even second word of task t is an arc to it from an earlier task
+-- an even word is an arc to task t from an earlier task
+abbrev pub arc_from : ℕ → ℕ → List Prec
+arc_from v t = cond (nat_eq (v % 2) 0) (record { first = v / 2 % t; «then» = t } ∷ []) []
+
+-- the time of task t is drawn from its first word, and the arc to it from its second one
+abbrev pub time_of : ℕ → ℕ → ℕ
+time_of seed t = time_from (word (in_front seed t))
+
 abbrev pub arc_of : ℕ → ℕ → List Prec
-arc_of seed t =
-    let v = word (next (in_front seed t)) in
-    cond (nat_eq (v % 2) 0) (record { first = v / 2 % t; «then» = t } ∷ []) []
+arc_of seed t = arc_from (word (next (in_front seed t))) t
 
 -- the times of the first n tasks
 unfoldable pub times_of : ℕ → ℕ → List ℕ

@@ -1,8 +1,8 @@
 //! Draws times and arcs, task by task, and makes the instance of them.
-ghost use Rattle.std.specs.Prelude.{◌≡◌, ◌≤◌, ⊥, ℕ, List, length, IfOk};
+ghost use Rattle.std.specs.Prelude.{◌≡◌, ◌≤◌, ◌++◌, ◌∷◌, [], ℕ, List, length, IfOk, OnOk};
 ghost use Rattle.line_instance.specs.Made.{AreTimes, IsInstanceOf};
 ghost use Rattle.line_instance.specs.Walks.{AreArcs, IsRing};
-ghost use Rattle.line_generator.specs.Drawn.{IfGood, IsGenerated, times_of, arcs_of};
+ghost use Rattle.line_generator.specs.Drawn.{IfGood, IsGenerated, word, next, time_from, arc_from, times_of, arcs_of};
 
 use line_instance::{Instance, Made, Prec, make};
 use rand_core::SeedableRng;
@@ -21,7 +21,7 @@ pub enum Generated {
 
 /// Times and arcs.
 #[derive(Drop)]
-struct Drawn {
+struct Draft {
     times: Vec<u64>,
     arcs: Vec<Prec>,
 }
@@ -32,20 +32,20 @@ pub fn generate(alloc: Global, seed: u64, tasks: u32) -> Generated
     requires few { tasks ≤ 1024 }
     ensures { IfGood result (IsGenerated seed tasks) }
 {
-    match drawn(alloc, seed, tasks) {
-        Ok(drawn) => line_of(alloc, drawn),
+    match draw(alloc, seed, tasks) {
+        Ok(draft) => line_of(alloc, draft),
         Err(_) => Generated::NoMemory,
     }
 }
 
 // The line of times and arcs that no refusal fits.
-fn line_of(alloc: Global, drawn: Drawn) -> Generated
-    requires times { AreTimes drawn.times.items }
-    requires arcs { AreArcs (length drawn.times.items) drawn.arcs.items }
-    requires ringless { (ring : List ℕ) → IsRing drawn.arcs.items ring → ⊥ }
-    ensures { IfGood result (IsInstanceOf drawn.times.items drawn.arcs.items) }
+fn line_of(alloc: Global, draft: Draft) -> Generated
+    requires times { AreTimes draft.times.items }
+    requires arcs { AreArcs (length draft.times.items) draft.arcs.items }
+    requires ringless { (ring : List ℕ) → IsRing draft.arcs.items ring → ⊥ }
+    ensures { IfGood result (IsInstanceOf draft.times.items draft.arcs.items) }
 {
-    let Drawn { times, arcs } = drawn;
+    let Draft { times, arcs } = draft;
     match make(alloc, times, &arcs) {
         Made::Good(inst) => Generated::Good(inst),
         Made::NoMemory => Generated::NoMemory,
@@ -54,24 +54,43 @@ fn line_of(alloc: Global, drawn: Drawn) -> Generated
 }
 
 // The times and arcs of the line.
-fn drawn(alloc: Global, seed: u64, tasks: u32) -> Result<Drawn, AllocError>
-    requires { tasks ≤ 1024 }
+fn draw(alloc: Global, seed: u64, tasks: u32) -> Result<Draft, AllocError>
+    requires { 1 ≤ tasks }
     ensures times { IfOk result (λ d. d.times.items ≡ times_of seed tasks) }
     ensures arcs { IfOk result (λ d. d.arcs.items ≡ arcs_of seed tasks) }
 {
     let mut rng = Lcg64Xsh32::seed_from_u64(seed);
     let (mut times, mut arcs) = (Vec::new(alloc), Vec::new(alloc));
-    for task in 0..tasks {
-        times.push(1 + u64::from(rng.next_word() % 100))?;
-        if task > 0 {
-            let word = rng.next_word();
-            if word % 2 == 0 {
-                arcs.push(Prec {
-                    first: word / 2 % task,
-                    then: task,
-                })?;
-            }
-        }
+    draw_time(&mut rng, &mut times)?;
+    for task in 1..tasks {
+        draw_time(&mut rng, &mut times)?;
+        draw_arc(&mut rng, task, &mut arcs)?;
     }
-    Ok(Drawn { times, arcs })
+    Ok(Draft { times, arcs })
+}
+
+// Draws the time of the next task.
+fn draw_time(rng: &mut Lcg64Xsh32, times: &mut Vec<u64>) -> Result<(), AllocError>
+    ensures rng { rng.new ≡ next rng.old }
+    ensures times { OnOk result (times.new.items ≡ times.old.items ++ time_from (word rng.old) ∷ []) }
+{
+    let word = rng.next_word();
+    times.push(1 + u64::from(word % 100))?;
+    Ok(())
+}
+
+// Draws the arc to a task from an earlier one, where its word is one.
+fn draw_arc(rng: &mut Lcg64Xsh32, task: u32, arcs: &mut Vec<Prec>) -> Result<(), AllocError>
+    requires { 1 ≤ task }
+    ensures rng { rng.new ≡ next rng.old }
+    ensures arcs { OnOk result (arcs.new.items ≡ arcs.old.items ++ arc_from (word rng.old) task) }
+{
+    let word = rng.next_word();
+    if word % 2 == 0 {
+        arcs.push(Prec {
+            first: word / 2 % task,
+            then: task,
+        })?;
+    }
+    Ok(())
 }

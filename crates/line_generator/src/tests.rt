@@ -21,8 +21,16 @@ fn is_drawn(alloc: Global, seed: u64, tasks: u32, text: &str) -> Result<bool, Fa
 fn draws_the_lines_of_the_model(rt: HostRuntime) -> Result<(), Fail> {
     let rows = [
         (7, 2, "2\n38\n7\n-1,-1\n"),
-        (1, 12, "12\n75\n15\n85\n81\n13\n37\n37\n51\n9\n64\n6\n44\n1,4\n3,5\n8,9\n9,11\n-1,-1\n"),
-        (9223372036854775813, 6, "6\n47\n24\n30\n57\n44\n54\n2,3\n2,4\n4,5\n-1,-1\n"),
+        (
+            1,
+            12,
+            "12\n75\n15\n85\n81\n13\n37\n37\n51\n9\n64\n6\n44\n1,4\n3,5\n8,9\n9,11\n-1,-1\n",
+        ),
+        (
+            9223372036854775813,
+            6,
+            "6\n47\n24\n30\n57\n44\n54\n2,3\n2,4\n4,5\n-1,-1\n",
+        ),
         (5, 6, "6\n43\n13\n64\n40\n42\n65\n1,3\n3,4\n5,6\n-1,-1\n"),
     ];
     for (seed, tasks, text) in rows {

@@ -1,6 +1,6 @@
 use Rattle.std.proofs.Common.{◌≡◌}
 use Rattle.line_generator.specs.Drawn.{in_front, times_of, arcs_of}
-use Rattle.line_generator.proofs.drawing.drawn.Given as goal
+use Rattle.line_generator.proofs.drawing.draw.Given as goal
 
 abbrev pub invariant-loop-task : goal.invariant-loop-task
 invariant-loop-task l = record {
