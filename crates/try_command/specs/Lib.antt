@@ -1,0 +1,2 @@
+pub mod TryText
+pub mod Tried
