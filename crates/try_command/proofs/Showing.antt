@@ -10,7 +10,7 @@ use Rattle.command_outcome.specs.declared.report.Report.{Report}
 use Rattle.command_outcome.specs.declared.status.Status.{Status}
 use Rattle.command_outcome.specs.declared.status.Status.TheVariants as ends
 use Rattle.try_command.specs.TryText.{bounds_line}
-use Rattle.try_command.specs.Tried.{IsAcceptable, IsReadAndVerified, IsTold, IsShown}
+use Rattle.try_command.specs.Tried.{alone, IsAcceptable, IsReadAndVerified, IsTold, IsShown}
 use Rattle.try_command.proofs.ReadBack.{bounds_once}
 
 pub acceptable_optimum : (kind : LineKind) (line : Line) (c : ℕ) (b : Assignment) (cert : Certificate) → IsOptimum kind line c b cert → IsAcceptable line cert
@@ -23,12 +23,12 @@ acceptable_optimum kind line c b cert o = record {
   few = o.certified.few;
 }
 
-pub acceptable_stop : (kind : LineKind) (line : Line) (c N lower : ℕ) (b : Assignment) (cert : Certificate) → IsStop kind line c N lower b cert → IsAcceptable line cert
+pub acceptable_stop : (kind : LineKind) (line : Line) (c N lower : ℕ) (b : Assignment) (cert : Certificate) → IsStop kind line c (alone N) lower b cert → IsAcceptable line cert
 acceptable_stop kind line c N lower b cert s = record {
   sayable = s.certified.sayable;
   lower = lower;
   upper = b.stations;
-  units = N;
+  units = s.units;
   accepted = s.certified.accepted;
   few = s.certified.few;
 }
@@ -60,9 +60,9 @@ shown_optimum kind line seed c b cert r o t N =
     }
 
 pub shown_stop : (kind : LineKind) (line : Line) (seed c N lower : ℕ) (b : Assignment) (cert : Certificate) (r : Report)
-    → IsStop kind line c N lower b cert → IsTold line seed ends.Stopped cert r → IsShown kind line seed (tasks line) c N r.status r.text.items r.kept
+    → IsStop kind line c (alone N) lower b cert → IsTold line seed ends.Stopped cert r → IsShown kind line seed (tasks line) c N r.status r.text.items r.kept
 shown_stop kind line seed c N lower b cert r s t =
-    let same = bounds_once line cert t.lower t.upper t.units lower b.stations N t.accepted s.certified.accepted in
+    let same = bounds_once line cert t.lower t.upper t.units lower b.stations s.units t.accepted s.certified.accepted in
     record {
       certificate = cert;
       keeps = t.keeps;

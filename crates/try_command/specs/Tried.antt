@@ -15,6 +15,7 @@ use Rattle.cert_text.specs.Cert.{cert_text}
 use Rattle.cert_text.specs.Answers.{IsCertRead}
 use Rattle.cert_text.specs.declared.reader.CertRead.TheVariants.{Good}
 use Rattle.run_certificates.specs.Certified.{IsOptimum, IsStop, IsNoBalance, max_units}
+use Rattle.round_run.specs.declared.plans.Plan.{Plan}
 use Rattle.command_outcome.specs.Codes.{code_of}
 use Rattle.command_outcome.specs.declared.report.Report.{Report}
 use Rattle.command_outcome.specs.declared.report.Kept.{Kept}
@@ -23,6 +24,10 @@ use Rattle.command_outcome.specs.declared.status.Status.{Status}
 use Rattle.command_outcome.specs.declared.status.Status.TheVariants as ends
 use Rattle.line_generator.specs.Drawn.{IsGenerated}
 use Rattle.try_command.specs.TryText.{bounds_line, none_line}
+
+-- so many units, and no helpers
+abbrev pub alone : ℕ → Plan
+alone N = record { helpers = 0; units = N }
 
 -- The certificate is what its text reads as, and the check with its default steps accepts it with these bounds.
 pub record IsReadAndVerified (line : Line) (certificate : Certificate) (lower upper : ℕ) : Type 0 where
@@ -42,7 +47,7 @@ pub record IsOptimumTried (kind : LineKind) (line : Line) (seed n c : ℕ) (cert
 pub record IsStopTried (kind : LineKind) (line : Line) (seed n c N : ℕ) (certificate : Certificate) (status : Status) (text : List ℕ) : Type 0 where
   pub lower : ℕ
   pub balance : Assignment
-  pub proved : IsStop kind line c N lower balance certificate
+  pub proved : IsStop kind line c (alone N) lower balance certificate
   pub stopped : status ≡ ends.Stopped
   pub accepted : IsReadAndVerified line certificate lower balance.stations
   pub printed : text ≡ bounds_line seed n 1 lower balance.stations

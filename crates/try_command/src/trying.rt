@@ -11,7 +11,7 @@ ghost use Rattle.cert_text.specs.declared.reader.CertRead.TheVariants.{Good};
 ghost use Rattle.round_run.specs.Solving.{IsSolved, IsSpent};
 ghost use Rattle.run_certificates.specs.Certified.{IsStop};
 ghost use Rattle.command_outcome.specs.declared.report.Stop.TheVariants.{Memory};
-ghost use Rattle.try_command.specs.Tried.{IsAcceptable, IsShown, IsTold, IsTried};
+ghost use Rattle.try_command.specs.Tried.{alone, IsAcceptable, IsShown, IsTold, IsTried};
 
 use crate::print_try::{bounds_text, none_text};
 use cert_text::{CertRead, read_cert, write_cert};
@@ -116,11 +116,11 @@ fn stop_certificate(
     trail: Frames,
 ) -> Certificate
     requires cycle { IsCycle cycle }
-    requires spent { (N : ℕ) × (N ≤ 3000000) × IsSpent kind inst.now cycle N lower book trail }
+    requires spent { (N : ℕ) × (N ≤ 3000000) × IsSpent kind inst.now cycle (alone N) lower book trail }
     ensures acceptable { IsAcceptable inst.now result }
     ensures stop { (N : ℕ) → N ≤ 3000000
-        → IsSpent kind inst.now cycle N lower book trail
-        → IsStop kind inst.now cycle N lower book.state.best result }
+        → IsSpent kind inst.now cycle (alone N) lower book trail
+        → IsStop kind inst.now cycle (alone N) lower book.state.best result }
 {
     certify_stop(inst, kind, cycle, lower, book, trail)
 }
@@ -138,9 +138,9 @@ fn stopped<R: Threads + Sync>(
     trail: Frames,
 ) -> Result<Report, AllocError>
     requires cycle { IsCycle cycle }
-    requires spent { (N : ℕ) × (N ≤ 3000000) × IsSpent kind inst.now cycle N lower book trail }
+    requires spent { (N : ℕ) × (N ≤ 3000000) × IsSpent kind inst.now cycle (alone N) lower book trail }
     ensures { IfOk result (λ r. (N : ℕ) → N ≤ 3000000
-        → IsSpent kind inst.now cycle N lower book trail
+        → IsSpent kind inst.now cycle (alone N) lower book trail
         → IsShown kind inst.now seed (tasks inst.now) cycle N r.status r.text.items r.kept) }
 {
     let cert = stop_certificate(inst, kind, cycle, lower, book, trail);
