@@ -16,6 +16,7 @@ use Rattle.input_files.specs.Kind.{kind_of}
 use Rattle.check_command.specs.Check.{IsProvedTrue}
 use Rattle.solve_command.specs.Promise.{IsPromised}
 use Rattle.cycle_command.specs.CyclePromise.{IsCyclePromised}
+use Rattle.try_command.specs.Tried.{IsTried}
 use Rattle.line_program.specs.Run.{planned}
 
 -- the run answers the question of its words: with status 0, or with status 1 where it stopped by units
@@ -25,7 +26,8 @@ IsAnswered status = (status ≡ ends.Done) ⊎ (status ≡ ends.Stopped)
 -- What a job promises of a status, a text and what is kept, with the files before and after it. Of `solve`: for the line and
 -- the cycle that the files say, the balance that is printed is right, a certificate that the check accepts is kept, and
 -- written where the words name a file, its bounds are the printed ones and true, and they differ only where the units were
--- spent on loads that it lists; of `cycle` the same of the least cycle time in so many stations. Of `check`: where a certificate is accepted, whoever made it, what it claims is true.
+-- spent on loads that it lists; of `cycle` the same of the least cycle time in so many stations. Of `try`: the same of the line of a
+-- seed. Of `check`: where a certificate is accepted, whoever made it, what it claims is true.
 abbrev pub PromisesOf : Files → Files → Job → Status → List ℕ → Kept → Type 0
 PromisesOf files after Help status text kept = Unit {0}
 PromisesOf files after Version status text kept = Unit {0}
@@ -39,7 +41,7 @@ PromisesOf files after (Convert file name to cycle) status text kept = Unit {0}
 PromisesOf files after (Combine mix name) status text kept = Unit {0}
 PromisesOf files after (Utility mix cert seq interval length) status text kept = Unit {0}
 PromisesOf files after (Timeline mix cert seq interval length) status text kept = Unit {0}
-PromisesOf files after (Try seed tasks cycle line units) status text kept = Unit {0}
+PromisesOf files after (Try seed tasks cycle line units) status text kept = IsTried seed tasks cycle (kind_of line) units status text kept
 
 -- The headline of a run that answers: the words ask for a job, its whole text is put behind what was put before, and what
 -- the job promises holds of that text, of the status, and of the certificate that is kept.

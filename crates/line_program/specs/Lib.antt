@@ -1,4 +1,4 @@
-pub mod Built
+pub mod Usage
 pub mod Pages
 pub mod Run
 pub mod Headline

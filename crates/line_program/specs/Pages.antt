@@ -43,10 +43,6 @@ other_text =
     ++ codes "FILE has an instance as IN2 or ALB, PAIRS lines i,j of tasks that may share no\n"
     ++ codes "station and then -1,-1. Times are whole numbers of one time unit.\n"
 
--- what isn't there yet
-abbrev pub unbuilt_text : List ℕ
-unbuilt_text = codes "Not built yet: try.\n"
-
 -- the page with every command
 abbrev pub help_text : List ℕ
-help_text = planning_text ++ other_text ++ unbuilt_text
+help_text = planning_text ++ other_text

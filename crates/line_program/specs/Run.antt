@@ -6,6 +6,7 @@ use Rattle.line_words.specs.Words.{Text}
 use Rattle.line_words.specs.Jobs.{IsJob}
 use Rattle.line_words.specs.declared.job.Job.{Job}
 use Rattle.line_words.specs.declared.job.Job.TheVariants.{Help, Version, Balance, Solve, Cycle, Check, Convert, Combine, Utility, Timeline, Try}
+use Rattle.line_rules.specs.declared.types.LineKind.{LineKind}
 use Rattle.round_run.specs.declared.plans.Plan.{Plan}
 use Rattle.command_outcome.specs.Outcome.{Files, Outside, Outcome, IsCut, IsWritten, outcome_of, told}
 use Rattle.command_outcome.specs.Output.{Puts, memory_line}
@@ -24,14 +25,20 @@ use Rattle.cycle_command.specs.Found.{IsCycleOutcome}
 use Rattle.mix_commands.specs.Combine.{IsCombineOutcome}
 use Rattle.mix_commands.specs.Utility.{IsUtilityOutcome}
 use Rattle.mix_commands.specs.Timeline.{IsTimelineOutcome}
-use Rattle.line_program.specs.Built.{IsUsageOutcome, unbuilt}
+use Rattle.try_command.specs.Tried.{IsTried}
+use Rattle.line_program.specs.Usage.{IsUsageOutcome}
 use Rattle.line_program.specs.Pages.{help_text, version_text}
 
 -- so many helpers, and so many units
 abbrev pub planned : ℕ → ℕ → Plan
 planned helpers units = record { helpers = helpers; units = units }
 
--- What a job comes to, command by command. Jobs that aren't built come to nothing.
+-- What `try` comes to: what is told of the line of a seed. No file is written.
+pub record IsTryOutcome (seed tasks cycle : ℕ) (kind : LineKind) (units : ℕ) (out : Outcome) : Type 0 where
+  pub tried : IsTried seed tasks cycle kind units out.status out.text out.kept
+  pub bare : out.page ≡ None
+
+-- What a job comes to, command by command.
 abbrev pub IsJobOutcome : Outside → Job → Outcome → Type 0
 IsJobOutcome o Help out = out ≡ told ends.Done help_text
 IsJobOutcome o Version out = out ≡ told ends.Done version_text
@@ -43,16 +50,15 @@ IsJobOutcome o (Convert file name to cycle) out = IsConvertOutcome o file name t
 IsJobOutcome o (Combine mix name) out = IsCombineOutcome o mix name out
 IsJobOutcome o (Utility mix cert seq interval length) out = IsUtilityOutcome o mix cert seq interval length out
 IsJobOutcome o (Timeline mix cert seq interval length) out = IsTimelineOutcome o mix cert seq interval length out
-IsJobOutcome o (Try seed tasks cycle line units) out = ⊥
+IsJobOutcome o (Try seed tasks cycle line units) out = IsTryOutcome seed tasks cycle (kind_of line) units out
 
--- the words ask for a job, all of which is built, and this is what it comes to
+-- the words ask for a job, and this is what it comes to
 pub record AsksJob (words : List Text) (o : Outside) (out : Outcome) : Type 0 where
   pub job : Job
   pub asked : IsJob words job
-  pub built : unbuilt job ≡ None
   pub outcome : IsJobOutcome o job out
 
--- what the words come to, memory aside: they ask for nothing that is built, or for a job
+-- what the words come to, memory aside: they have a fault, or ask for a job
 abbrev pub IsAnswer : List Text → Outside → Outcome → Type 0
 IsAnswer words o out = IsUsageOutcome words out ⊎ AsksJob words o out
 
@@ -60,7 +66,7 @@ IsAnswer words o out = IsUsageOutcome words out ⊎ AsksJob words o out
 abbrev pub IsOutcome : List Text → Outside → Outcome → Type 0
 IsOutcome words o out = IsAnswer words o out ⊎ (out ≡ told ends.Memory memory_line)
 
--- a page of the program itself
+-- what a job comes to that reads no file: a page of the program itself, or what `try` tells
 abbrev pub IsPage : Job → Outcome → Type 0
 IsPage Help out = out ≡ told ends.Done help_text
 IsPage Version out = out ≡ told ends.Done version_text
@@ -72,7 +78,7 @@ IsPage (Convert file name to cycle) out = ⊥
 IsPage (Combine mix name) out = ⊥
 IsPage (Utility mix cert seq interval length) out = ⊥
 IsPage (Timeline mix cert seq interval length) out = ⊥
-IsPage (Try seed tasks cycle line units) out = ⊥
+IsPage (Try seed tasks cycle line units) out = IsTryOutcome seed tasks cycle (kind_of line) units out
 
 -- the job reads files
 abbrev pub ReadsFiles : Job → Type 0
@@ -88,20 +94,19 @@ ReadsFiles (Utility mix cert seq interval length) = Unit {0}
 ReadsFiles (Timeline mix cert seq interval length) = Unit {0}
 ReadsFiles (Try seed tasks cycle line units) = ⊥
 
--- the words ask for a job that is built and reads files
+-- the words ask for a job that reads files
 pub record AsksFiles (words : List Text) : Type 0 where
   pub job : Job
   pub asked : IsJob words job
-  pub built : unbuilt job ≡ None
   pub reads : ReadsFiles job
 
--- the words ask for a page
+-- the words ask for a job that reads no file, and this is what it comes to
 pub record AsksPage (words : List Text) (out : Outcome) : Type 0 where
   pub job : Job
   pub asked : IsJob words job
   pub page : IsPage job out
 
--- what words come to that need no file: a usage line, a page, or the line about memory
+-- what words come to that need no file: a usage line, a page, what `try` tells, or the line about memory
 abbrev pub IsPlainOutcome : List Text → Outcome → Type 0
 IsPlainOutcome words out = IsUsageOutcome words out ⊎ AsksPage words out ⊎ (out ≡ told ends.Memory memory_line)
 
@@ -164,14 +169,14 @@ pub record IsTrueRun (words : List Text) (files : Files) : Type 0 where
   pub asked : IsJob words job
   pub holds : IsJobTrue files job
 
--- what a job that reads no file ended with: a page, or out of memory
+-- what a job that reads no file ended with: what it comes to, or out of memory
 abbrev pub IsPlainEnd : (Outcome → Type 0) → Result Report Stop → Type 0
 IsPlainEnd P (Ok r) = P (outcome_of r None)
 IsPlainEnd P (Err (stop.Report r)) = P (outcome_of r None)
 IsPlainEnd P (Err stop.Memory) = Unit {0}
 IsPlainEnd P (Err stop.Unwritten) = ⊥
 
--- a job reads files, or its end is a page
+-- a job reads files, or its end is what a job without files comes to
 abbrev pub IsJobPlain : Job → Result Report Stop → Type 0
 IsJobPlain job result = ReadsFiles job ⊎ IsPlainEnd (IsPage job) result
 

@@ -10,6 +10,7 @@ use std::test::Fail;
 const LOOKS: u32 = 50_000_000;
 
 /// Two helpers, each of which waits before its first lemma until the other one is there too.
+#[derive(Drop)]
 struct Meeting {
     /// Who arrived: the first helper, and the second.
     first: AtomicU64,

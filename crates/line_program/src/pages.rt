@@ -42,10 +42,6 @@ FILE has an instance as IN2 or ALB, PAIRS lines i,j of tasks that may share no
 station and then -1,-1. Times are whole numbers of one time unit.
 ";
 
-/// What isn't there yet.
-const UNBUILT: &str = "Not built yet: try.
-";
-
 /// The page with every command, its names, keys, defaults and an example.
 pub fn help_page(alloc: Global) -> Result<Vec<u8>, AllocError>
     ensures { IfOk result (λ t. t.items ≡ help_text) }
@@ -53,7 +49,6 @@ pub fn help_page(alloc: Global) -> Result<Vec<u8>, AllocError>
     let mut text = String::new(alloc);
     text.push_str(PLANNING)?;
     text.push_str(OTHER)?;
-    text.push_str(UNBUILT)?;
     Ok(text.into_bytes())
 }
 

@@ -13,12 +13,12 @@ ghost use Rattle.command_outcome.specs.Ending.{IsEnding};
 ghost use Rattle.command_outcome.specs.declared.report.Kept.TheVariants.{Nothing};
 ghost use Rattle.command_outcome.specs.declared.report.Stop.TheVariants.{Unwritten};
 ghost use Rattle.command_outcome.specs.declared.status.Status.TheVariants as ends;
-ghost use Rattle.line_program.specs.Built.{AskNothing, unbuilt};
+ghost use Rattle.line_program.specs.Usage.{HasFault};
 ghost use Rattle.line_program.specs.Headline.{IsAnswered, AsksPromise, HasPromise, IsHeadline};
 ghost use Rattle.line_program.specs.Run.{IsJobOutcome, IsAnswer, IsOutcome, IsPlainEnd, IsJobPlain, AsksFiles, IsPlainOutcome, IsPut, IsWriting, IsLeft, IsJobTrue, IsTrueRun, WritesFile};
 
 use crate::pages::{help_page, version_page};
-use crate::usage::{unbuilt, unbuilt_report, usage_report};
+use crate::usage::usage_report;
 use balance_command::balance_report;
 use check_command::check_report;
 use command_outcome::{Kept, Report, Status, Stop, finish};
@@ -33,6 +33,7 @@ use solve_command::solve_report;
 use std::alloc::Global;
 use std::sync::Wait;
 use std::thread::Threads;
+use try_command::try_report;
 
 /// The name of an optional file.
 fn name_of(name: &Option<Name>) -> Option<&str>
@@ -44,7 +45,7 @@ fn name_of(name: &Option<Name>) -> Option<&str>
     }
 }
 
-/// Does a job, all of which is built.
+/// Does a job.
 fn do_job<R: Threads + Wait + Sync, S: Shelf, G: Gate>(
     rt: &R,
     alloc: Global,
@@ -52,7 +53,6 @@ fn do_job<R: Threads + Wait + Sync, S: Shelf, G: Gate>(
     shelf: &mut S,
     gate: &G,
 ) -> Result<Report, Stop>
-    requires built { unbuilt job.now ≡ None }
     requires range { IsInRange job.now }
     ensures ends { S.tells → Ends (outside (S.file shelf.old) (S.blames shelf.new)) (IsJobOutcome (outside (S.file shelf.old) (S.blames shelf.new)) job.now) (S.file shelf.new) result }
     ensures plain { IsJobPlain job.now result }
@@ -179,7 +179,16 @@ fn do_job<R: Threads + Wait + Sync, S: Shelf, G: Gate>(
             *length,
             shelf,
         ),
-        _ => unreachable!(),
+        Job::Try {
+            seed,
+            tasks,
+            cycle,
+            line,
+            units,
+        } => {
+            let kind = kind_of(*line);
+            try_report(rt, alloc, *seed, *tasks, *cycle, kind, *units)
+        }
     }
 }
 
@@ -193,7 +202,7 @@ fn do_words<R: Threads + Wait + Sync, S: Shelf, G: Gate>(
 ) -> Result<Report, Stop>
     ensures ends { S.tells → Ends (outside (S.file shelf.old) (S.blames shelf.new)) (IsAnswer (texts words.now) (outside (S.file shelf.old) (S.blames shelf.new))) (S.file shelf.new) result }
     ensures plain { AsksFiles (texts words.now) ⊎ IsPlainEnd (IsPlainOutcome (texts words.now)) result }
-    ensures usage { status_of result ≡ ends.Usage → AskNothing (texts words.now) }
+    ensures usage { status_of result ≡ ends.Usage → HasFault (texts words.now) }
     ensures read { status_of result ≡ ends.ReadFault → Rises (S.faults shelf.old) (S.faults shelf.new) }
     ensures write { status_of result ≡ ends.WriteFault → result ≡ Err Unwritten }
     ensures unwritten { result ≡ Err Unwritten → IsWriting (texts words.now) × Rises (S.faults shelf.old) (S.faults shelf.new) }
@@ -202,12 +211,7 @@ fn do_words<R: Threads + Wait + Sync, S: Shelf, G: Gate>(
     ensures promise { S.tells → IsAnswered (status_of result) → AsksPromise (texts words.now) (S.file shelf.old) (S.file shelf.new) result }
 {
     match job_of(alloc, words) {
-        JobRead::Good(job) => {
-            if let Some(part) = unbuilt(&job) {
-                return Ok(unbuilt_report(alloc, part)?);
-            }
-            do_job(rt, alloc, &job, shelf, gate)
-        }
+        JobRead::Good(job) => do_job(rt, alloc, &job, shelf, gate),
         JobRead::Usage { index, kind } => Ok(usage_report(alloc, index, kind)?),
         JobRead::NoMemory => Err(Stop::Memory),
     }
@@ -222,11 +226,11 @@ fn do_words<R: Threads + Wait + Sync, S: Shelf, G: Gate>(
 /// writes the certificate where the words name a file; `cycle` does the same of the least cycle time in so many
 /// stations. `check` puts what the check of a certificate finds: what it accepts is true of the line. `convert` writes
 /// the canonical text of an instance in the other form, or of a certificate. `combine` writes the line that a mix of
-/// models combines to, `utility` puts the utility work of a sequence of units, and `timeline` puts it unit by unit. A
-/// fault of the words is answered by the line `usage`, with the number of the word and what is wrong, and a job that
-/// isn't built by the line `not built`. Each refusal is one line, and nothing is put with it. All files stay but the
-/// one that a job writes. `kept` then holds the certificate that the run made, where its answer was put, and else
-/// nothing; what it held before is dropped.
+/// models combines to, `utility` puts the utility work of a sequence of units, and `timeline` puts it unit by unit.
+/// `try` draws a line from a seed, solves it, and tells the bounds of a certificate that was read again and verified. A
+/// fault of the words is answered by the line `usage`, with the number of the word and what is wrong. Each refusal is
+/// one line, and nothing is put with it. All files stay but the one that a job writes. `kept` then holds the
+/// certificate that the run made, where its answer was put, and else nothing; what it held before is dropped.
 pub fn run_gated<R: Threads + Wait + Sync, S: Shelf, K: Sink, G: Gate>(
     rt: &R,
     alloc: Global,
@@ -240,7 +244,7 @@ pub fn run_gated<R: Threads + Wait + Sync, S: Shelf, K: Sink, G: Gate>(
     ensures ends { S.tells → K.tells → (let o = outside (S.file shelf.old) (S.blames shelf.new) in IsEnding o (IsOutcome (texts words.now) o) (record { status = result; files = S.file shelf.new; kept = kept.new; shown_before = K.shown out.old; shown = K.shown out.new; faults_before = K.faults out.old; faults = K.faults out.new })) }
     ensures plain { K.tells → AsksFiles (texts words.now) ⊎ IsPut (IsPlainOutcome (texts words.now)) (K.shown out.old) (K.shown out.new) (K.faults out.old) (K.faults out.new) result kept.new }
     ensures one_put { IsOnePut (K.puts out.old) (K.puts out.new) }
-    ensures usage { result ≡ ends.Usage → AskNothing (texts words.now) }
+    ensures usage { result ≡ ends.Usage → HasFault (texts words.now) }
     ensures read { result ≡ ends.ReadFault → Rises (S.faults shelf.old) (S.faults shelf.new) }
     ensures write { result ≡ ends.WriteFault → Rises (K.faults out.old) (K.faults out.new) ⊎ (IsWriting (texts words.now) × Rises (S.faults shelf.old) (S.faults shelf.new)) }
     ensures files { S.tells → (let o = outside (S.file shelf.old) (S.blames shelf.new) in IsLeft o (IsOutcome (texts words.now) o) result (S.file shelf.new)) }
@@ -264,7 +268,7 @@ pub fn run<R: Threads + Wait + Sync, S: Shelf, K: Sink>(
     ensures ends { S.tells → K.tells → (let o = outside (S.file shelf.old) (S.blames shelf.new) in IsEnding o (IsOutcome (texts words.now) o) (record { status = result; files = S.file shelf.new; kept = kept.new; shown_before = K.shown out.old; shown = K.shown out.new; faults_before = K.faults out.old; faults = K.faults out.new })) }
     ensures plain { K.tells → AsksFiles (texts words.now) ⊎ IsPut (IsPlainOutcome (texts words.now)) (K.shown out.old) (K.shown out.new) (K.faults out.old) (K.faults out.new) result kept.new }
     ensures one_put { IsOnePut (K.puts out.old) (K.puts out.new) }
-    ensures usage { result ≡ ends.Usage → AskNothing (texts words.now) }
+    ensures usage { result ≡ ends.Usage → HasFault (texts words.now) }
     ensures read { result ≡ ends.ReadFault → Rises (S.faults shelf.old) (S.faults shelf.new) }
     ensures write { result ≡ ends.WriteFault → Rises (K.faults out.old) (K.faults out.new) ⊎ (IsWriting (texts words.now) × Rises (S.faults shelf.old) (S.faults shelf.new)) }
     ensures files { S.tells → (let o = outside (S.file shelf.old) (S.blames shelf.new) in IsLeft o (IsOutcome (texts words.now) o) result (S.file shelf.new)) }

@@ -38,7 +38,7 @@ solve five.in2 cycle=7 apart=three.apart helpers=0 units=11|optimal 3/idle 7/sta
 solve alb.in2 helpers=0|optimal 1/idle 0/station 1: 1 2/||
 solve five.in2|input: five.in2 no cycle time/||
 solve five.in2 cycle=7|optimal 3/idle 7/||
-solve five.in2 cycle=7 helpers=2 units=14 cert=t.cert|optimal 3/idle 7/|/entries 1/branch f 7 f8 2 -/trail 0/|accepted straight cycle 7 lower 3 upper 3 units 15/
+solve five.in2 cycle=7 helpers=2 units=14 cert=t.cert|stopped by units/bounds 2 3/|/trail 1 at 7/|accepted straight cycle 7 lower 2 upper 3 units 14/
 solve seven.in2 cycle=7 helpers=2 cert=t.cert|optimal 5/idle 7/||
 solve zero.in2 cycle=1 helpers=64|optimal 1/idle 1/station 1: 1/|/entries 0/|
 solve big.alb helpers=4 units=200000 cert=t.cert|optimal 20/idle 0/station 1: 1 2 3 4 5/||accepted straight cycle 1000 lower 20 upper 20 units 0/
@@ -53,6 +53,7 @@ cycle five.in2 stations=0|usage: word 2 bad value/||
 cycle five.in2 stations=1025|usage: word 2 bad value/||
 cycle five.in2 stations=2 apart=two.apart|usage: word 3 unknown key/||
 cycle none.in2 stations=2|read fault: none.in2/||
+try seed=7 tasks=2|try seed 7 tasks 2 status 0 lower 1 upper 1 accepted/||
 solve none.in2 cycle=7 helpers=0|read fault: none.in2/||
 solve five.in2 cycle=7 helpers=0 cert=five.in2|optimal 3/||";
 

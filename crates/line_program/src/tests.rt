@@ -180,20 +180,6 @@ fn faults_of_the_words(rt: HostRuntime) -> Result<(), Fail> {
 }
 
 #[test]
-fn jobs_that_are_not_built(rt: HostRuntime) -> Result<(), Fail> {
-    let rows: [(&[&str], &str); 1] = [(
-        &["try", "seed=1", "tasks=2", "line=u"],
-        "not built: try\n",
-    )];
-    for (words, line) in rows {
-        let (status, text) = run_over(&rt, rt.alloc(), words, P5, &[0], &[])?;
-        assert_eq!(rt; status, Status::Usage);
-        assert_eq!(rt; text.as_str(), line);
-    }
-    Ok(())
-}
-
-#[test]
 fn pages(rt: HostRuntime) -> Result<(), Fail> {
     let (status, text) = run_over(&rt, rt.alloc(), &["--version"], P5, &[], &[])?;
     assert_eq!(rt; status, Status::Done);

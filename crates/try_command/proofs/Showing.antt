@@ -1,5 +1,5 @@
 -- What is told of a certificate shows what its run proved.
-use Rattle.std.proofs.Common.{◌≡◌, ℕ, ◌≤◌, List, refl, sym, ap, ◌∙◌, subst, inl, inr}
+use Rattle.std.proofs.Common.{◌≡◌, ◌⊎◌, ℕ, ◌≤◌, List, refl, sym, ap, ◌∙◌, subst, inl, inr}
 use Rattle.line_instance.specs.Line.{Line, tasks}
 use Rattle.line_rules.specs.declared.types.LineKind.{LineKind}
 use Rattle.line_rules.specs.declared.types.Balance.{Balance as Assignment}
@@ -75,6 +75,15 @@ shown_stop kind line seed c N lower b cert r s t =
         printed = t.printed ∙ line_as seed (tasks line) 1 t.lower t.upper lower b.stations same.0 same.1;
       }));
     }
+
+-- what is told is done, or its units ended
+pub status_shown : (kind : LineKind) (line : Line) (seed n c N : ℕ) (r : Report)
+    → IsShown kind line seed n c N r.status r.text.items r.kept → (r.status ≡ ends.Done) ⊎ (r.status ≡ ends.Stopped)
+status_shown kind line seed n c N r s = elim s.shows [
+  | inl o ↦ inl o.done
+  | inr (inl p) ↦ inr p.stopped
+  | inr (inr q) ↦ inl q.done
+]
 
 -- the same said of a number of tasks
 pub shown_of : (kind : LineKind) (line : Line) (seed n c N : ℕ) (r : Report) → tasks line ≡ n

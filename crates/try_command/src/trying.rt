@@ -1,5 +1,5 @@
 //! What `try` answers of a seed.
-ghost use Rattle.std.specs.Prelude.{◌≡◌, ℕ, ◌≤◌, IfOk, MatchResult};
+ghost use Rattle.std.specs.Prelude.{◌≡◌, ◌⊎◌, ℕ, ◌≤◌, IfOk, MatchResult};
 ghost use Rattle.line_instance.specs.Line.{tasks};
 ghost use Rattle.line_rules.specs.Bounds.{IsTooLong};
 ghost use Rattle.line_rules.specs.Checked.{IsLeastWhere};
@@ -11,6 +11,7 @@ ghost use Rattle.cert_text.specs.declared.reader.CertRead.TheVariants.{Good};
 ghost use Rattle.round_run.specs.Solving.{IsSolved, IsSpent};
 ghost use Rattle.run_certificates.specs.Certified.{IsStop};
 ghost use Rattle.command_outcome.specs.declared.report.Stop.TheVariants.{Memory};
+ghost use Rattle.command_outcome.specs.declared.status.Status.TheVariants as ends;
 ghost use Rattle.try_command.specs.Tried.{alone, IsAcceptable, IsShown, IsTold, IsTried};
 
 use crate::print_try::{bounds_text, none_text};
@@ -218,6 +219,7 @@ pub fn try_report<R: Threads + Wait + Sync>(
     requires unit { 1 ≤ units }
     requires few { units ≤ 3000000 }
     ensures tried { IfOk result (λ r. IsTried seed tasks cycle kind units r.status r.text.items r.kept) }
+    ensures good { IfOk result (λ r. (r.status ≡ ends.Done) ⊎ (r.status ≡ ends.Stopped)) }
     ensures memory { MatchResult result (λ _. Unit {0}) (λ s. s ≡ Memory) }
 {
     let Generated::Good(inst) = generate(alloc, seed, tasks) else {

@@ -1,4 +1,4 @@
-use Rattle.std.proofs.Common.{sym, subst, List, ℕ, Option, option_map}
+use Rattle.std.proofs.Common.{inr, sym, subst, List, ℕ, Option, option_map}
 use Rattle.line_words.specs.declared.job.Job.{Job}
 use Rattle.line_rules.specs.declared.types.LineKind.{LineKind}
 use Rattle.command_outcome.specs.Outcome.{Files, Outside, Ends, outside}
@@ -11,7 +11,8 @@ use Rattle.cycle_command.specs.Found.{IsCycleOutcome}
 use Rattle.mix_commands.specs.Combine.{IsCombineOutcome}
 use Rattle.mix_commands.specs.Utility.{IsUtilityOutcome}
 use Rattle.mix_commands.specs.Timeline.{IsTimelineOutcome}
-use Rattle.line_program.specs.Run.{planned, IsJobOutcome}
+use Rattle.line_program.specs.Run.{planned, IsTryOutcome, IsJobOutcome, IsJobPlain, IsPlainEnd}
+use Rattle.line_program.proofs.TryFacts.{try_ends, try_plain}
 use Rattle.line_program.proofs.program.do_job.Goals as goal
 
 pub returns-in-Balance-clause-ends : goal.returns-in-Balance-clause-ends
@@ -98,3 +99,16 @@ returns-in-Cycle-clause-ends g c = λ t.
     let F : List ℕ → Type 0 = λ f. E f (kind_of c.in-Cycle.line) name in
     let N : Option (List ℕ) → Type 0 = λ n. E c.in-Cycle.file (kind_of c.in-Cycle.line) n in
     subst J (sym c.in-Cycle.is) (subst N c.name_of-in-Cycle.ensures (subst F c.text-in-Cycle.ensures (subst K c.kind_of-kind-in-Cycle.ensures (c.cycle_report.ensures.ends t))))
+
+pub returns-in-Try-clause-ends : goal.returns-in-Try-clause-ends
+returns-in-Try-clause-ends g c = λ t.
+    let o : Outside = outside (g.S.Shelf.file c.args.shelf.now) (g.S.Shelf.blames c.args.shelf.now) in
+    let J : Job → Type 0 = λ j. Ends o (IsJobOutcome o j) (g.S.Shelf.file c.args.shelf.now) c.try_report.result in
+    let K : LineKind → Type 0 = λ k. Ends o (IsTryOutcome c.in-Try.seed c.in-Try.tasks c.in-Try.cycle k c.in-Try.units) (g.S.Shelf.file c.args.shelf.now) c.try_report.result in
+    subst J (sym c.in-Try.is) (subst K c.kind_of-kind-in-Try.ensures (try_ends o c.in-Try.seed c.in-Try.tasks c.in-Try.cycle c.kind_of-kind-in-Try.result c.in-Try.units c.try_report.result c.try_report.ensures.tried c.try_report.ensures.memory))
+
+pub returns-in-Try-clause-plain : goal.returns-in-Try-clause-plain
+returns-in-Try-clause-plain g c =
+    let J : Job → Type 0 = λ j. IsJobPlain j c.try_report.result in
+    let K : LineKind → Type 0 = λ k. IsPlainEnd (IsTryOutcome c.in-Try.seed c.in-Try.tasks c.in-Try.cycle k c.in-Try.units) c.try_report.result in
+    subst J (sym c.in-Try.is) (inr (subst K c.kind_of-kind-in-Try.ensures (try_plain c.in-Try.seed c.in-Try.tasks c.in-Try.cycle c.kind_of-kind-in-Try.result c.in-Try.units c.try_report.result c.try_report.ensures.tried c.try_report.ensures.memory)))
