@@ -1,13 +1,11 @@
 -- What is told of a certificate shows what its run proved.
-use Rattle.std.proofs.Common.{◌≡◌, ℕ, ◌≤◌, List, refl, sym, ap, ◌∙◌, subst, inl, inr}
+use Rattle.std.proofs.Common.{◌≡◌, ℕ, ap, ◌∙◌, subst, inl, inr}
 use Rattle.line_instance.specs.Line.{Line, tasks}
 use Rattle.line_rules.specs.declared.types.LineKind.{LineKind}
 use Rattle.line_rules.specs.declared.types.Balance.{Balance as Assignment}
 use Rattle.line_rules.specs.declared.types.Certificate.{Certificate}
 use Rattle.run_certificates.specs.Certified.{IsOptimum, IsStop}
-use Rattle.command_outcome.specs.Codes.{code_of}
 use Rattle.command_outcome.specs.declared.report.Report.{Report}
-use Rattle.command_outcome.specs.declared.status.Status.{Status}
 use Rattle.command_outcome.specs.declared.status.Status.TheVariants as ends
 use Rattle.try_command.specs.TryText.{bounds_line}
 use Rattle.try_command.specs.Tried.{IsAcceptable, IsReadAndVerified, IsTold, IsShown}
