@@ -1,5 +1,5 @@
 -- The text of a certificate is read as that certificate, and the check accepts one that is accepted.
-use Rattle.std.proofs.Common.{◌≡◌, ℕ, ◌<◌, ◌≤◌, [], ◌++◌, refl, sym, ap, ◌∙◌, subst, arith, inl, inr}
+use Rattle.std.proofs.Common.{◌≡◌, ℕ, [], sym, ◌∙◌, inl, inr}
 use Rattle.std.proofs.lemmas.List.{append-nil}
 use Rattle.line_instance.specs.Line.{Line}
 use Rattle.line_rules.specs.Accepted.{IsAccepted, IsInfeasible, ClaimIsAccepted, ClaimIsInfeasible}
@@ -10,7 +10,7 @@ use Rattle.line_rules.specs.declared.types.Certificate.{Certificate}
 use Rattle.cert_lines.specs.declared.version_one.OldCertificate.{OldCertificate}
 use Rattle.cert_text.specs.Cert.{cert_text}
 use Rattle.cert_text.specs.Answers.{IsSaidBy}
-use Rattle.cert_text.specs.Versions.{AnyCertificate, newer, older}
+use Rattle.cert_text.specs.Versions.{newer, older}
 use Rattle.cert_text.proofs.Decoding.{begins_none}
 
 same_newer : (c d : Certificate) → newer c ≡ newer d → c ≡ d

@@ -1,4 +1,4 @@
-use Rattle.std.proofs.Common.{List, ℕ, sym, ap, ◌∙◌, subst}
+use Rattle.std.proofs.Common.{List, ℕ, ◌∙◌, subst}
 use Rattle.cert_text.specs.Answers.{IsSaidBy}
 use Rattle.try_command.proofs.ReadBack.{read_same}
 use Rattle.try_command.proofs.trying.read_back.Goals as goal
