@@ -1,2 +1,91 @@
 -- What is told of a certificate shows what its run proved.
 use Rattle.std.proofs.Common.{◌≡◌, ◌⊎◌, ℕ, ap, ◌∙◌, subst, inl, inr}
+use Rattle.line_instance.specs.Line.{Line, tasks}
+use Rattle.line_rules.specs.declared.types.LineKind.{LineKind}
+use Rattle.line_rules.specs.declared.types.Balance.{Balance as Assignment}
+use Rattle.line_rules.specs.declared.types.Certificate.{Certificate}
+use Rattle.run_certificates.specs.Certified.{IsOptimum, IsStop}
+use Rattle.command_outcome.specs.declared.report.Report.{Report}
+use Rattle.command_outcome.specs.declared.status.Status.TheVariants as ends
+use Rattle.try_command.specs.TryText.{bounds_line}
+use Rattle.try_command.specs.Tried.{alone, IsAcceptable, IsReadAndVerified, IsTold, IsShown}
+use Rattle.try_command.proofs.ReadBack.{bounds_once}
+
+pub acceptable_optimum : (kind : LineKind) (line : Line) (c : ℕ) (b : Assignment) (cert : Certificate) → IsOptimum kind line c b cert → IsAcceptable line cert
+acceptable_optimum kind line c b cert o = record {
+  sayable = o.certified.sayable;
+  lower = b.stations;
+  upper = b.stations;
+  units = o.units;
+  accepted = o.certified.accepted;
+  few = o.certified.few;
+}
+
+pub acceptable_stop : (kind : LineKind) (line : Line) (c N lower : ℕ) (b : Assignment) (cert : Certificate) → IsStop kind line c (alone N) lower b cert → IsAcceptable line cert
+acceptable_stop kind line c N lower b cert s = record {
+  sayable = s.certified.sayable;
+  lower = lower;
+  upper = b.stations;
+  units = s.units;
+  accepted = s.certified.accepted;
+  few = s.certified.few;
+}
+
+-- the bounds that were found and printed are those of the certificate
+found_as : (line : Line) (cert : Certificate) (l u m v : ℕ) → l ≡ m → u ≡ v → IsReadAndVerified line cert l u → IsReadAndVerified line cert m v
+found_as line cert l u m v e f r =
+    let P : ℕ → Type 0 = λ x. IsReadAndVerified line cert x u in
+    let Q : ℕ → Type 0 = λ y. IsReadAndVerified line cert m y in
+    subst Q f (subst P e r)
+
+line_as : (seed n code l u m v : ℕ) → l ≡ m → u ≡ v → bounds_line seed n code l u ≡ bounds_line seed n code m v
+line_as seed n code l u m v e f = ap (λ x. bounds_line seed n code x u) e ∙ ap (λ y. bounds_line seed n code m y) f
+
+pub shown_optimum : (kind : LineKind) (line : Line) (seed c : ℕ) (b : Assignment) (cert : Certificate) (r : Report)
+    → IsOptimum kind line c b cert → IsTold line seed ends.Done cert r → (N : ℕ) → IsShown kind line seed (tasks line) c N r.status r.text.items r.kept
+shown_optimum kind line seed c b cert r o t N =
+    let same = bounds_once line cert t.lower t.upper t.units b.stations b.stations o.units t.accepted o.certified.accepted in
+    record {
+      certificate = cert;
+      keeps = t.keeps;
+      shows = inl (record {
+        balance = b;
+        proved = o;
+        done = t.ends;
+        accepted = found_as line cert t.lower t.upper b.stations b.stations same.0 same.1 t.found;
+        printed = t.printed ∙ line_as seed (tasks line) 0 t.lower t.upper b.stations b.stations same.0 same.1;
+      });
+    }
+
+pub shown_stop : (kind : LineKind) (line : Line) (seed c N lower : ℕ) (b : Assignment) (cert : Certificate) (r : Report)
+    → IsStop kind line c (alone N) lower b cert → IsTold line seed ends.Stopped cert r → IsShown kind line seed (tasks line) c N r.status r.text.items r.kept
+shown_stop kind line seed c N lower b cert r s t =
+    let same = bounds_once line cert t.lower t.upper t.units lower b.stations s.units t.accepted s.certified.accepted in
+    record {
+      certificate = cert;
+      keeps = t.keeps;
+      shows = inr (inl (record {
+        lower = lower;
+        balance = b;
+        proved = s;
+        stopped = t.ends;
+        accepted = found_as line cert t.lower t.upper lower b.stations same.0 same.1 t.found;
+        printed = t.printed ∙ line_as seed (tasks line) 1 t.lower t.upper lower b.stations same.0 same.1;
+      }));
+    }
+
+-- what is told is done, or its units ended
+pub status_shown : (kind : LineKind) (line : Line) (seed n c N : ℕ) (r : Report)
+    → IsShown kind line seed n c N r.status r.text.items r.kept → (r.status ≡ ends.Done) ⊎ (r.status ≡ ends.Stopped)
+status_shown kind line seed n c N r s = elim s.shows [
+  | inl o ↦ inl o.done
+  | inr (inl p) ↦ inr p.stopped
+  | inr (inr q) ↦ inl q.done
+]
+
+-- the same said of a number of tasks
+pub shown_of : (kind : LineKind) (line : Line) (seed n c N : ℕ) (r : Report) → tasks line ≡ n
+    → IsShown kind line seed (tasks line) c N r.status r.text.items r.kept → IsShown kind line seed n c N r.status r.text.items r.kept
+shown_of kind line seed n c N r e s =
+    let P : ℕ → Type 0 = λ x. IsShown kind line seed x c N r.status r.text.items r.kept in
+    subst P e s
