@@ -1,16 +1,15 @@
 -- Entries behind those of an earlier list: what follows in their list follows there, with cites raised.
-use Rattle.std.proofs.Common.{◌≡◌, ℕ, zero, suc, ◌+◌, ◌-◌, ◌<◌, ◌≤◌, ◌⊎◌, Bool, true, false, cond, List, [], ◌∷◌, ◌++◌}
-use Rattle.std.proofs.Common.{length, map, take, refl, sym, ap, ◌∙◌, subst, inl, inr, arith, Option, Some}
+use Rattle.std.proofs.Common.{◌≡◌, ℕ, zero, suc, ◌+◌, ◌-◌, ◌<◌, ◌⊎◌, Bool, true, false, List, [], ◌∷◌, ◌++◌}
+use Rattle.std.proofs.Common.{length, map, take, refl, sym, ap, ◌∙◌, subst, inl, inr, arith, Some}
 use Rattle.std.proofs.Common.{length-append, get_or}
 use Rattle.std.specs.Prelude.{slice_get, nat_eq}
 use Rattle.std.proofs.lemmas.Option.{slice_get-get_or}
-use Rattle.std.proofs.lemmas.Bool.{cases_lt, cases_Bool, eqb-true, eq-eqb}
-use Rattle.std.proofs.lemmas.List.{map-append, length-map, take-append-le, append-nil}
+use Rattle.std.proofs.lemmas.Bool.{cases_lt, cases_Bool, eqb-true}
+use Rattle.std.proofs.lemmas.List.{map-append, length-map, take-append-le}
 use Rattle.line_instance.specs.Line.{Line}
 use Rattle.line_rules.specs.Loads.{IsLoad, rest}
-use Rattle.line_rules.specs.Bounds.{bound}
 use Rattle.line_rules.specs.Order.{Precedes, UpTo, After}
-use Rattle.line_rules.specs.Entries.{Answers, IsOpen, Cites, Covers, FollowsBy, Follows, IsDerived, IsFresh, IsFreshAt}
+use Rattle.line_rules.specs.Entries.{IsOpen, Cites, Covers, FollowsBy, Follows, IsDerived, IsFresh, IsFreshAt}
 use Rattle.line_rules.specs.Entries.{HasAnswer}
 use Rattle.line_rules.specs.Ranges.{AreCites, IsWhy}
 use Rattle.line_rules.specs.Trails.{IsPassed, Leads, IsTrail, IsOpenOver}
@@ -21,9 +20,8 @@ use Rattle.line_rules.specs.declared.types.Entry.{Entry}
 use Rattle.line_rules.specs.declared.types.Why.{Why}
 use Rattle.line_rules.specs.declared.types.Why.TheVariants as why
 use Rattle.line_rules.specs.declared.types.OpenFrame.{OpenFrame}
-use Rattle.line_rules.proofs.ListFacts.{get_longer, get_take}
+use Rattle.line_rules.proofs.ListFacts.{get_longer}
 use Rattle.lemma_core.specs.Own.{AreStatable}
-use Rattle.station_search.proofs.Events.{get_append_cases}
 use Rattle.round_helpers.proofs.Growing.{units_both}
 use Rattle.cert_lines.specs.Lift.{raised, lifted_why, lifted_frame}
 use Rattle.cycle_search.specs.Joined.{raised_entry, behind, HaveCites, HaveFrameCites}

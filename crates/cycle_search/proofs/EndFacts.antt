@@ -1,16 +1,15 @@
 -- The first ends of a search: no cycle below the lower one serves, and all tasks at the first station serve at the
 -- upper one.
-use Rattle.std.proofs.Common.{◌≡◌, ℕ, zero, suc, ◌+◌, ◌-◌, ◌*◌, ◌/◌, ◌<◌, ◌≤◌, ◌⊎◌, max, Bool, true, cond, ◌&&◌, List}
-use Rattle.std.proofs.Common.{[], ◌∷◌, length, replicate, refl, sym, ap, ◌∙◌, subst, inl, inr, arith}
-use Rattle.std.specs.Prelude.{nat_eq, nat_lt, slice_get}
+use Rattle.std.proofs.Common.{◌≡◌, ℕ, zero, suc, ◌+◌, ◌-◌, ◌*◌, ◌/◌, ◌<◌, ◌≤◌, true, cond, ◌&&◌, List}
+use Rattle.std.proofs.Common.{[], ◌∷◌, length, replicate, refl, sym, ap, subst, inl, inr, arith}
+use Rattle.std.specs.Prelude.{nat_eq, nat_lt}
 use Rattle.std.proofs.lemmas.Bool.{cases_lt, and_parts}
 use Rattle.std.proofs.lemmas.Bool.Decides.{nat_tests}
 use Rattle.std.proofs.lemmas.List.{get_or-replicate, length-replicate}
 use Rattle.std.proofs.Math.Nat.{mul-le-mul_left}
-use Rattle.task_set.specs.Truths.{In, IsEmpty}
+use Rattle.task_set.specs.Truths.{In}
 use Rattle.task_set.proofs.Members.{In-full_to_below}
 use Rattle.line_instance.specs.Line.{Line, IsLine, tasks, time, has}
-use Rattle.line_instance.specs.Sums.{sum_where, count_where}
 use Rattle.line_instance.proofs.Sums.{weigh-one, sum_where-le}
 use Rattle.line_rules.specs.Balance.{IsRight, IsSide, Keeps, all_tasks, seat}
 use Rattle.line_rules.specs.Bounds.{up, bound, lm1, total_time, IsTooLong}
@@ -25,12 +24,12 @@ use Rattle.line_rules.proofs.All.{In-all}
 use Rattle.line_rules.proofs.Law.{up_le}
 use Rattle.load_facts.specs.Times.{longest_of}
 use Rattle.load_facts.proofs.SumsOverMembers.{below_least, below_at, picked_le}
-use Rattle.load_facts.proofs.BoundCases.{long_ones, greatest_part, below_bound}
+use Rattle.load_facts.proofs.BoundCases.{long_ones, below_bound}
 use Rattle.lemma_core.specs.Books.{MayBeBest}
 use Rattle.round_run.specs.Rounds.{by_bound}
 use Rattle.cycle_search.specs.Ends.{NoneApart, first_lower, first_upper, at_first}
 use Rattle.cycle_search.specs.Outcomes.{IsRightIn, IsBelow}
-use Rattle.cycle_search.specs.Searching.{AreOutside, IsKept, HasEnds, IsBetween, IsFirstBook}
+use Rattle.cycle_search.specs.Searching.{AreOutside, IsKept, IsBetween, IsFirstBook}
 use Rattle.cycle_search.specs.declared.halving.Halving.{Halving}
 
 -- no task is longer than a cycle from the first lower end on

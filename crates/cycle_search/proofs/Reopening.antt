@@ -1,5 +1,5 @@
 -- A search whose book is opened at the cycle of the next try, and what its entries and frames cite.
-use Rattle.std.proofs.Common.{◌≡◌, ℕ, ◌+◌, ◌-◌, ◌*◌, ◌<◌, ◌≤◌, ◌⊎◌, inl, inr, Bool, List, [], length, refl, sym, ap}
+use Rattle.std.proofs.Common.{◌≡◌, ℕ, ◌-◌, ◌<◌, ◌≤◌, inl, inr, Bool, List, [], length, refl, sym, ap}
 use Rattle.std.proofs.Common.{◌∙◌, subst, arith, Some}
 use Rattle.std.specs.Prelude.{slice_get}
 use Rattle.std.proofs.lemmas.Option.{slice_get_within}
@@ -7,8 +7,6 @@ use Rattle.task_set.specs.Truths.{full_to}
 use Rattle.line_instance.specs.Line.{Line, IsLine, tasks}
 use Rattle.line_rules.specs.Balance.{all_tasks}
 use Rattle.line_rules.specs.Entries.{HasAnswer, IsDerived}
-use Rattle.line_rules.specs.Ranges.{IsCycle}
-use Rattle.line_rules.specs.Trails.{IsTrail}
 use Rattle.line_rules.specs.Units.{UnitsOf}
 use Rattle.line_rules.specs.declared.types.LineKind.{LineKind}
 use Rattle.line_rules.specs.declared.types.Balance.{Balance as Assignment}
@@ -24,7 +22,6 @@ use Rattle.round_run.specs.declared.plans.Plan.{Plan}
 use Rattle.round_run.specs.declared.solving.Cause.{Cause}
 use Rattle.round_run.specs.declared.solving.Cause.TheVariants as cause
 use Rattle.run_certificates.proofs.Sayable.{entries_ok, trail_ok, all_are_tasks}
-use Rattle.cycle_search.specs.Ends.{first_lower}
 use Rattle.cycle_search.specs.Joined.{HaveCites, HaveFrameCites}
 use Rattle.cycle_search.specs.Outcomes.{IsBelow}
 use Rattle.cycle_search.specs.Searching.{AreOutside, IsKept, IsBetween, IsAsking, IsStuck}

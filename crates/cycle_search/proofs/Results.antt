@@ -1,23 +1,19 @@
 -- What a search comes to: the least cycle, or bounds, with the entries that show them.
-use Rattle.std.proofs.Common.{◌≡◌, ℕ, zero, suc, ◌+◌, ◌-◌, ◌*◌, ◌^◌, ◌<◌, ◌≤◌, ◌⊎◌, Bool, true, cond, List, [], ◌∷◌}
-use Rattle.std.proofs.Common.{◌++◌, length, map, refl, sym, ap, ◌∙◌, subst, inl, inr, arith, Option, Some, None}
+use Rattle.std.proofs.Common.{◌≡◌, ℕ, ◌+◌, ◌-◌, ◌*◌, ◌^◌, ◌<◌, ◌≤◌, Bool, true, cond, List, []}
+use Rattle.std.proofs.Common.{length, map, refl, sym, ap, subst, inl, inr, arith, Option, Some, None}
 use Rattle.std.specs.Prelude.{nat_eq, slice_get}
 use Rattle.std.proofs.lemmas.Bool.{cases_eq, eq-eqb}
-use Rattle.std.proofs.lemmas.Option.{slice_get_within}
 use Rattle.line_instance.specs.Line.{Line, IsLine, IsRanked, tasks}
-use Rattle.line_rules.specs.Accepted.{IsLeastCycle, HasBalance}
+use Rattle.line_rules.specs.Accepted.{HasBalance}
 use Rattle.line_rules.specs.Balance.{IsBalance, Holds, all_tasks, seat}
-use Rattle.line_rules.specs.Entries.{HasAnswer, IsDerived, IsFresh, FollowsBy}
-use Rattle.line_rules.specs.Ranges.{AreCites, IsWhy}
+use Rattle.line_rules.specs.Entries.{HasAnswer, IsDerived, IsFresh}
 use Rattle.line_rules.specs.Trails.{IsTrail, IsOpenOver}
-use Rattle.line_rules.specs.Units.{UnitsOf, UnitsIn, UnitsAt, UnitsWhole, TrailUnits, entries_at}
+use Rattle.line_rules.specs.Units.{UnitsOf, UnitsIn, UnitsAt, TrailUnits, entries_at}
 use Rattle.line_rules.specs.declared.types.LineKind.{LineKind}
 use Rattle.line_rules.specs.declared.types.Balance.{Balance as Assignment}
 use Rattle.line_rules.specs.declared.types.Entry.{Entry}
 use Rattle.line_rules.specs.declared.types.OpenFrame.{OpenFrame}
 use Rattle.line_rules.specs.declared.types.Trail.{Trail}
-use Rattle.line_rules.specs.declared.types.Why.{Why}
-use Rattle.line_rules.specs.declared.types.Why.TheVariants as why
 use Rattle.line_rules.proofs.Proved.{answer_holds}
 use Rattle.line_rules.proofs.Restrict.{holds_more}
 use Rattle.lemma_core.specs.Own.{AreStatable}
@@ -28,8 +24,8 @@ use Rattle.round_run.specs.declared.solving.Cause.{Cause}
 use Rattle.round_run.specs.declared.solving.Cause.TheVariants as cause
 use Rattle.cert_lines.specs.Lift.{lifted_frame}
 use Rattle.cycle_search.specs.Joined.{behind}
-use Rattle.cycle_search.specs.Outcomes.{IsRightIn, IsBelow, AreSome, ShowsLower, IsSolved, IsStopped, IsSpent, Searches}
-use Rattle.cycle_search.specs.Searching.{HasEnds, IsBetween, IsStuck, IsStuckBy}
+use Rattle.cycle_search.specs.Outcomes.{IsRightIn, AreSome, ShowsLower, IsStopped, IsSpent, Searches}
+use Rattle.cycle_search.specs.Searching.{HasEnds, IsBetween, IsStuck}
 use Rattle.cycle_search.specs.declared.halving.Halving.{Halving}
 use Rattle.cycle_search.specs.declared.searching.CycleOutcome.TheVariants as outcome
 use Rattle.cycle_search.proofs.BehindFacts.{derived_up, trail_up, length_behind, statable_behind, answer_before}

@@ -1,9 +1,9 @@
 -- What a try does to a search: the ends are closer, or it stopped at its cycle.
-use Rattle.std.proofs.Common.{◌≡◌, ℕ, zero, suc, ◌+◌, ◌-◌, ◌*◌, ◌<◌, ◌≤◌, ◌⊎◌, Bool, true, cond, List, [], ◌∷◌, ◌++◌}
+use Rattle.std.proofs.Common.{◌≡◌, ℕ, suc, ◌+◌, ◌-◌, ◌*◌, ◌<◌, ◌≤◌, ◌⊎◌, Bool, true, cond, List, [], ◌∷◌, ◌++◌}
 use Rattle.std.proofs.Common.{length, refl, sym, ap, ◌∙◌, subst, inl, inr, arith, Some, length-append}
 use Rattle.std.specs.Prelude.{nat_eq, slice_get}
 use Rattle.std.proofs.lemmas.Bool.{eq-eqb}
-use Rattle.line_instance.specs.Line.{Line, IsLine, tasks}
+use Rattle.line_instance.specs.Line.{Line}
 use Rattle.line_rules.specs.Balance.{IsRight, all_tasks, seat}
 use Rattle.line_rules.specs.Entries.{HasAnswer}
 use Rattle.line_rules.specs.Trails.{IsTrail, IsOpenOver}
@@ -14,7 +14,7 @@ use Rattle.line_rules.specs.declared.types.Entry.{Entry}
 use Rattle.line_rules.specs.declared.types.OpenFrame.{OpenFrame}
 use Rattle.line_rules.proofs.Restrict.{restricted}
 use Rattle.lemma_core.specs.Machine.{About}
-use Rattle.lemma_core.specs.Books.{BookView, MayBeBest}
+use Rattle.lemma_core.specs.Books.{MayBeBest}
 use Rattle.station_search.proofs.Events.{get_append_cases}
 use Rattle.round_helpers.specs.Growth.{AreAtCycle}
 use Rattle.round_run.specs.Rounds.{frames_of}

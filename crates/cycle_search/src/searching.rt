@@ -157,7 +157,7 @@ fn halve<R: Threads + Wait + Sync, G: Gate>(
 /// The least cycle, from 1 on and in the instance's time unit, at which a line of this kind has a balance in 1 to 1,024
 /// stations; or bounds on it, where the units of a try ended first. Of the instance no pair is apart. Each cycle that
 /// is tried has the units of the plan anew, and so has each helper its part of them. Helpers run in threads, in any
-/// order; they meet the gate before each publish. Without helpers the same plan gives the same answer each time.
+/// order; they meet the gate before each publish.
 pub fn least_cycle<R: Threads + Wait + Sync, G: Gate>(
     rt: &R,
     alloc: Global,

@@ -1,10 +1,8 @@
 use Rattle.std.proofs.Common.{◌≡◌, ℕ, ◌-◌, ◌<◌, sym, ap, subst, arith}
 use Rattle.line_rules.specs.Balance.{all_tasks}
 use Rattle.line_rules.specs.Bounds.{bound}
-use Rattle.line_rules.specs.declared.types.Balance.{Balance as Assignment}
 use Rattle.line_rules.specs.declared.types.LineKind.{LineKind}
 use Rattle.lemma_core.specs.Machine.{About}
-use Rattle.lemma_core.specs.Books.{MayBeBest}
 use Rattle.cycle_search.proofs.EndFacts.{first_best, first_met, first_refuted}
 use Rattle.cycle_search.proofs.opening.first_book.Goals as goal
 

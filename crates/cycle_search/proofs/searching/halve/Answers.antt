@@ -1,10 +1,8 @@
-use Rattle.std.proofs.Common.{arith}
 use Rattle.cycle_search.specs.Searching.{IsTried, IsStuck}
 use Rattle.cycle_search.specs.declared.trying.Tried.{Tried}
 use Rattle.cycle_search.proofs.Reopening.{stuck_cites}
 use Rattle.cycle_search.proofs.searching.halve.Goals as goal
 use Rattle.std.proofs.Common.{subst}
-use Rattle.round_run.specs.declared.solving.Cause.TheVariants as cause
 
 pub stopped-requires-clause-cites : goal.stopped-requires-clause-cites
 stopped-requires-clause-cites g c =

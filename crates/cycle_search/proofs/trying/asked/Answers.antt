@@ -1,4 +1,4 @@
-use Rattle.std.proofs.Common.{◌≡◌, sym, ◌∙◌, subst, List, []}
+use Rattle.std.proofs.Common.{sym, ◌∙◌, subst, List}
 use Rattle.line_rules.specs.declared.types.OpenFrame.{OpenFrame}
 use Rattle.round_run.specs.declared.solving.Cause.TheVariants as cause
 use Rattle.cycle_search.specs.Searching.{IsBetween, IsCloser, IsStuck}

@@ -1,4 +1,4 @@
-use Rattle.std.proofs.Common.{◌≡◌, ℕ, IfOk, sym, subst, arith}
+use Rattle.std.proofs.Common.{ℕ, IfOk, sym, subst, arith}
 use Rattle.line_rules.specs.declared.types.LineKind.{LineKind}
 use Rattle.cycle_search.specs.Searching.{IsBetween, IsAsking, IsCloser, IsTried}
 use Rattle.cycle_search.specs.declared.halving.Halving.{Halving}
