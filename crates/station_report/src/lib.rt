@@ -7,7 +7,6 @@
 
 mod balance_lines;
 mod infeasible;
-mod station_work;
 mod stations;
 #[cfg(test)]
 mod tests;

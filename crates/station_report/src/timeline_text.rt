@@ -9,13 +9,12 @@ ghost use Rattle.combined_graph.specs.Mixes.{is_name};
 ghost use Rattle.station_report.specs.Table.{IsTable, table_text};
 ghost use Rattle.station_report.specs.TimelineText.{IsTimelineRead, rows_from, station_rows, timeline_heading, timeline_row, unit_rows};
 
-use crate::station_work::{MAX_MODELS, works_at};
 use combined_graph::Mix;
 use csv::Writer;
 use itoa::Buffer;
 use line_rules::Balance;
 use std::alloc::{AllocError, Global};
-use utility_work::utility_step;
+use utility_work::{MAX_MODELS, utility_step, works_at};
 
 /// The most rows of a timeline.
 const MAX_ROWS: usize = 1_000_000;

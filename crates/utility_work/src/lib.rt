@@ -8,4 +8,4 @@
 
 mod work;
 
-pub use work::{utility, utility_step};
+pub use work::{MAX_MODELS, utility, utility_step, works_at};

@@ -7,8 +7,8 @@ ghost use Rattle.utility_work.specs.Utility.{work_at, utility_of, next_start, ut
 use combined_graph::Mix;
 use line_rules::Balance;
 
-// The most models of a mix.
-const MAX_MODELS: usize = 16;
+/// The most models of a mix.
+pub const MAX_MODELS: usize = 16;
 
 /// One unit at a station: its utility work, and where the next unit is begun.
 ///
@@ -58,8 +58,9 @@ fn work_of(mix: &Mix, balance: &Balance, station: u32, model: u32) -> u64
     work
 }
 
-// The work that each model brings to a station.
-fn works_at(mix: &Mix, balance: &Balance, station: u32) -> [u64; MAX_MODELS]
+/// The work that each model brings to a station, counted from 1: models times tasks additions.
+#[inline]
+pub fn works_at(mix: &Mix, balance: &Balance, station: u32) -> [u64; MAX_MODELS]
     requires { length balance.now.place ≡ mix.now.tasks }
     ensures each { (m : ℕ) → m < length mix.now.models
         → slice_index_or result m 0 ≡ work_at balance.now.place station (model_at mix.now.models m) }
