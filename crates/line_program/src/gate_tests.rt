@@ -3,6 +3,7 @@ use crate::program::run_gated;
 use command_outcome::{Kept, Status};
 use line_io::{MemShelf, MemSink};
 use round_run::Gate;
+use std::hint;
 use std::sync::atomic::AtomicU64;
 use std::sync::atomic::Ordering::SeqCst;
 use std::test::Fail;
@@ -34,6 +35,7 @@ impl Gate for Meeting {
             if other.load(SeqCst) != 0 {
                 return;
             }
+            hint::spin_loop();
         }
         self.missed.fetch_add(1, SeqCst);
     }
