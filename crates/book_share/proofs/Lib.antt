@@ -5,3 +5,4 @@ pub mod Loading
 pub mod Halving
 pub mod Hands
 pub mod Calling
+pub mod MarkFacts

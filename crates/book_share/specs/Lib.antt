@@ -4,4 +4,5 @@ pub mod Rule
 pub mod Steps
 pub mod Inside
 pub mod Turning
+pub mod Marking
 pub mod Calls

@@ -9,6 +9,7 @@
 #![tactic(auto)]
 
 mod desked;
+mod marks;
 mod pass;
 mod rule;
 mod share;

@@ -1,10 +1,13 @@
-//! A share and its passes, and what they answer. A pass has no bytes: what it knows stands in contracts alone.
+//! A share and its passes, and what they answer. What a pass knows stands in contracts alone; at run time
+//! it has marks of the entries that it has seen, where its caller wants some.
 ghost use Rattle.std.specs.Prelude.{◌≡◌, Some};
 ghost use Rattle.book_share.specs.Calls.{found_by, published_by};
 
+use crate::marks::Marks;
 use crate::turns::{Room, Sitter};
 use lemma_core::{Book, Looked, Published};
 use line_rules::Entry;
+use std::alloc::Global;
 use std::marker::Model;
 
 /// A book that several threads share, by turns. Contracts see which share it is.
@@ -31,10 +34,12 @@ impl Model for Share {
 #[derive(Drop)]
 pub struct Pass {
     pub(crate) seat: Sitter,
+    pub(crate) marks: Marks,
 }
 
 impl Model for Pass {
-    ghost use Rattle.book_share.specs.Passes.{PassOf};
+    ghost use Rattle.book_share.specs.Passes.{PassOf, desk_by};
+    ghost use Rattle.book_share.specs.Marking.{AreMarkedBy};
 
     ghost Value = { PassOf };
 
@@ -42,7 +47,17 @@ impl Model for Pass {
 
     ghost view = { λ p. record { share = p.seat.table_id; view = p.seat.me.0 } };
 
-    ghost invariant = { λ p. IsResting p.seat.me };
+    ghost invariant = { λ p. IsResting p.seat.me × AreMarkedBy p.marks (desk_by p.seat.me.0) };
+}
+
+impl Pass {
+    /// Keeps marks of the entries that the pass sees from its next turn on, and of those that it has seen by then. They
+    /// take 512 KiB; out of memory, it keeps none.
+    pub fn keep_marks(&mut self, alloc: Global)
+        ensures { self.new ≡ self.old }
+    {
+        self.marks = Marks::new(alloc);
+    }
 }
 
 /// What comes of sharing a book.

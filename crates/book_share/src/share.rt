@@ -3,18 +3,20 @@
 //! Each but `least`, `glance`, `split` and `join` is one turn (turns.rt): what it answers is the book's answer at that
 //! point of the one history, and the pass has then seen the history up to there. A turn costs what the book's call costs
 //! and three or four atomic steps; the other calls cost one or two.
-ghost use Rattle.std.specs.Prelude.{◌≡◌, ◌≤◌, length, IfSome, IfNone};
+ghost use Rattle.std.specs.Prelude.{◌≡◌, ◌≤◌, ℕ, length, IfSome, IfNone, IsTrue};
 ghost use Rattle.line_rules.specs.Balance.{IsRight};
 ghost use Rattle.lemma_core.specs.History.{Begins};
 ghost use Rattle.lemma_core.specs.Desks.{entries, HasDerived, FollowsSeen, Waits, Finds, Publishes, Offers};
 ghost use Rattle.lemma_core.specs.Books.{IsReserved};
 ghost use Rattle.lemma_core.specs.Own.{IsStatable};
+ghost use Rattle.line_rules.specs.Entries.{IsUnanswered};
 ghost use Rattle.book_share.specs.Passes.{desk_by};
 ghost use Rattle.book_share.specs.Places.{AreApart, AreAllFrom};
 ghost use Rattle.book_share.specs.Rule.{left_of, right_of, both_of};
 ghost use Rattle.book_share.specs.Steps.{missed, loaded, IsLeastCount, IsEventCount};
 ghost use Rattle.book_share.specs.Calls.{IsPassOf, Starts, IsSound, Rests, TriedOnce, Waited, found_by, published_by, GivesBack};
 
+use crate::marks::Marks;
 use crate::pass::{Pass, Share, Started, TryLooked, TryPublished};
 use crate::rule::{Both, Halve, LoadBest, LoadCount, Settle};
 use crate::turns::{self, COUNT, LEAST};
@@ -43,7 +45,10 @@ impl Share {
         };
         slots.push_reserved(Some(book));
         match Table::new(alloc, &[0, count, least], slots, &key) {
-            Ok((table, seat)) => Started::Good(Share { table }, Pass { seat }),
+            Ok((table, seat)) => {
+                let marks = Marks::Off;
+                Started::Good(Share { table }, Pass { seat, marks })
+            },
             Err(Refused { mut slots }) => {
                 let Some(Some(book)) = slots.pop() else {
                     unreachable!()
@@ -70,7 +75,14 @@ impl Share {
         let Some(book) = turns::take(&self.table, &mut pass.seat) else {
             return TryLooked::Busy;
         };
-        TryLooked::of(turns::look(&self.table, &mut pass.seat, book, set, most))
+        TryLooked::of(turns::look(
+            &self.table,
+            &mut pass.seat,
+            book,
+            &mut pass.marks,
+            set,
+            most,
+        ))
     }
 
     /// Publishes an entry as `publish` does; and Busy, where another pass has the turn, with the entry. It waits for
@@ -92,7 +104,7 @@ impl Share {
         let Some(book) = turns::take(&self.table, &mut pass.seat) else {
             return TryPublished::Busy(step);
         };
-        TryPublished::of(turns::publish(&self.table, &mut pass.seat, book, step))
+        TryPublished::of(turns::publish(&self.table, &mut pass.seat, book, &mut pass.marks, step))
     }
 
     /// The least station count of a balance that was given at the start or offered since, 1 to 1,024: never more than
@@ -133,7 +145,26 @@ impl Share {
         ensures sound { IsSound pass.new.view }
     {
         let book = turns::take_waiting(rt, &self.table, &mut pass.seat);
-        turns::look(&self.table, &mut pass.seat, book, set, most)
+        turns::look(
+            &self.table,
+            &mut pass.seat,
+            book,
+            &mut pass.marks,
+            set,
+            most,
+        )
+    }
+
+    /// Whether the pass's marks show that no entry that it has seen has the set. Where they don't, there may be one or
+    /// none. It waits for nobody, takes no turn, and touches one word.
+    #[inline]
+    pub fn lacks(&self, pass: &Pass, set: &TaskSet) -> bool
+        requires { IsPassOf self.now pass.now }
+        ensures none { IsTrue result → (most cycle : ℕ) → IsUnanswered (entries (desk_by pass.now.view)) set.now most cycle }
+        ensures derived { IsTrue result → HasDerived (desk_by pass.now.view) }
+        ensures sound { IsSound pass.now.view }
+    {
+        pass.marks.lack(set)
     }
 
     /// Publishes an entry that follows from those that the pass has seen and that a certificate can say: it is added
@@ -150,7 +181,7 @@ impl Share {
         ensures sound { IsSound pass.new.view }
     {
         let book = turns::take_waiting(rt, &self.table, &mut pass.seat);
-        turns::publish(&self.table, &mut pass.seat, book, step)
+        turns::publish(&self.table, &mut pass.seat, book, &mut pass.marks, step)
     }
 
     /// Offers a right balance of all tasks: it is the best from then on where it has fewer stations. It may wait for
@@ -165,7 +196,7 @@ impl Share {
         ensures sound { IsSound pass.new.view }
     {
         let book = turns::take_waiting(rt, &self.table, &mut pass.seat);
-        turns::offer(&self.table, &mut pass.seat, book, balance)
+        turns::offer(&self.table, &mut pass.seat, book, &mut pass.marks, balance)
     }
 
     /// A further pass, which has seen the same and has no place of its own. One of the pass's parts goes to it, where
@@ -178,7 +209,10 @@ impl Share {
         ensures sound { IsSound pass.new.view × IsSound result.view }
     {
         let seat = self.table.shared.split_seat::<Halve>(&mut pass.seat);
-        Pass { seat }
+        Pass {
+            seat,
+            marks: Marks::Off,
+        }
     }
 
     /// Ends another pass: this one has then the list that goes further, and the places and parts of both. What either
@@ -191,7 +225,8 @@ impl Share {
         ensures apart { AreApart pass.old.view.own other.view.own }
         ensures sound { IsSound pass.new.view }
     {
-        let Pass { seat } = other;
+        let Pass { seat, .. } = other;
+        pass.marks.forget();
         self.table.shared.join_seat::<Both>(&mut pass.seat, seat);
         self.table.shared.load::<Settle>(&mut pass.seat, COUNT);
     }
@@ -206,7 +241,7 @@ impl Share {
         ensures reserved { IsReserved result }
     {
         let Share { table } = self;
-        let Pass { mut seat } = pass;
+        let Pass { mut seat, .. } = pass;
         turns::take_waiting(rt, &table, &mut seat)
     }
 }

@@ -1,18 +1,20 @@
 //! A turn, on a seat at the table: the turn and the book are taken, the book is asked, and both are given back.
 //!
 //! An event is counted when the book is home in its slot already, and before the turn is free, so its place is its
-//! number in the one history. Who finds the turn held spins for a while, and then yields the processor between tries.
+//! number in the one history. Before the book goes home, marks of its entries catch up with it. Who finds the turn held spins for a while, and then yields the processor between tries.
 ghost use Rattle.std.specs.Prelude.{◌≡◌, [], ◌∷◌, IfSome, IfNone, None};
 ghost use Rattle.line_rules.specs.Balance.{IsRight};
 ghost use Rattle.lemma_core.specs.History.{Item, AreExact, better};
 ghost use Rattle.lemma_core.specs.Desks.{entries, HasDerived, FollowsSeen, Finds, Publishes, Offers};
 ghost use Rattle.lemma_core.specs.Books.{IsReserved};
 ghost use Rattle.lemma_core.specs.Own.{IsStatable};
+ghost use Rattle.book_share.specs.Marking.{AreMarkedBy, WereMarked};
 ghost use Rattle.book_share.specs.Passes.{desk_by};
 ghost use Rattle.book_share.specs.Rule.{OwnRises};
 ghost use Rattle.book_share.specs.Steps.{missed, taken, given, IsHad};
 ghost use Rattle.book_share.specs.Turning.{Holds, HasNew, HasWaited, IsQuiet, Ends, noted};
 
+use crate::marks::Marks;
 use crate::rule::{Give, Lower, Record, Take, Turns};
 use crate::view::View;
 use atomic_table::{Seat, Table};
@@ -133,35 +135,54 @@ fn give_offered(room: &Room, seat: &mut Sitter, book: Book, stations: u32)
 
 /// Looks into the book in hand, and ends the turn.
 #[inline]
-pub fn look(room: &Room, seat: &mut Sitter, mut book: Book, set: &TaskSet, most: u32) -> Looked
+pub fn look(
+    room: &Room,
+    seat: &mut Sitter,
+    mut book: Book,
+    marks: &mut Marks,
+    set: &TaskSet,
+    most: u32,
+) -> Looked
     requires sized { (room.now.shared.table_id.words ≡ 3) × (room.now.shared.table_id.slots ≡ 1) }
     requires seat { (seat.old.table_id ≡ room.now.shared.table_id) × Holds seat.old.me book }
+    requires marks { WereMarked marks.old (desk_by seat.old.me.0) }
     ensures seat { seat.new.table_id ≡ seat.old.table_id }
     ensures me { seat.new.me ≡ (given seat.old.me.0, []) }
     ensures finds { let desk = desk_by seat.new.me.0 in Finds (entries desk) set.now most desk.about.cycle result }
     ensures derived { HasDerived (desk_by seat.new.me.0) }
     ensures exact { AreExact seat.new.me.0.base.opening seat.new.me.0.seen }
+    ensures marks { AreMarkedBy marks.new (desk_by seat.new.me.0) }
 {
-    let _exact = book.log_len();
     let looked = Desk::look(&mut book, set, most);
+    let _exact = book.log_len();
+    marks.catch_up(&book);
     give(room, seat, book);
     looked
 }
 
 /// Publishes an entry in the book in hand, and ends the turn.
 #[inline]
-pub fn publish(room: &Room, seat: &mut Sitter, mut book: Book, step: Entry) -> Published
+pub fn publish(
+    room: &Room,
+    seat: &mut Sitter,
+    mut book: Book,
+    marks: &mut Marks,
+    step: Entry,
+) -> Published
     requires sized { (room.now.shared.table_id.words ≡ 3) × (room.now.shared.table_id.slots ≡ 1) }
     requires seat { (seat.old.table_id ≡ room.now.shared.table_id) × Holds seat.old.me book × OwnRises seat.old.me.0 }
+    requires marks { WereMarked marks.old (desk_by seat.old.me.0) }
     requires follows { FollowsSeen (desk_by seat.old.me.0) step }
     requires range { IsStatable step }
     ensures seat { seat.new.table_id ≡ seat.old.table_id }
     ensures ends { Ends seat.old.me.0 seat.new.me }
     ensures publishes { Publishes (desk_by seat.old.me.0) (desk_by seat.new.me.0) step result }
     ensures derived { HasDerived (desk_by seat.new.me.0) }
+    ensures marks { AreMarkedBy marks.new (desk_by seat.new.me.0) }
 {
     let published = Desk::publish(&mut book, step);
     let _exact = book.log_len();
+    marks.catch_up(&book);
     match published {
         Published::NoMemory => give(room, seat, book),
         _ => give_published(room, seat, book),
@@ -171,17 +192,26 @@ pub fn publish(room: &Room, seat: &mut Sitter, mut book: Book, step: Entry) -> P
 
 /// Offers a balance to the book in hand, and ends the turn.
 #[inline]
-pub fn offer(room: &Room, seat: &mut Sitter, mut book: Book, balance: Balance) -> Offered
+pub fn offer(
+    room: &Room,
+    seat: &mut Sitter,
+    mut book: Book,
+    marks: &mut Marks,
+    balance: Balance,
+) -> Offered
     requires sized { (room.now.shared.table_id.words ≡ 3) × (room.now.shared.table_id.slots ≡ 1) }
     requires seat { (seat.old.table_id ≡ room.now.shared.table_id) × Holds seat.old.me book × OwnRises seat.old.me.0 }
+    requires marks { WereMarked marks.old (desk_by seat.old.me.0) }
     requires right { let about = seat.old.me.0.base.about in IsRight about.kind about.line about.cycle balance }
     ensures seat { seat.new.table_id ≡ seat.old.table_id }
     ensures ends { Ends seat.old.me.0 seat.new.me }
     ensures offers { Offers (desk_by seat.old.me.0) (desk_by seat.new.me.0) balance.stations result }
+    ensures marks { AreMarkedBy marks.new (desk_by seat.new.me.0) }
 {
     let stations = balance.stations;
     let offered = Desk::offer(&mut book, balance);
     let _exact = book.log_len();
+    marks.catch_up(&book);
     match offered {
         Offered::Better => give_offered(room, seat, book, stations),
         Offered::NotBetter => give(room, seat, book),

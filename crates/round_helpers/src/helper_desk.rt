@@ -1,7 +1,8 @@
 //! The desk of one helper: a part in the shared book, with a gate before each publish.
 //!
-//! Its calls are those of the share that wait for the turn; the gate has no effect on what they answer. It keeps numbers
-//! by which the helper's pass is known again after a search.
+//! Its calls are those of the share that wait for the turn; the gate has no effect on what they answer. Most looks find
+//! nothing, and end at the marks that the pass keeps of what it has seen, without a turn: what other helpers publish is
+//! seen at the next turn. The desk keeps numbers by which the helper's pass is known again after a search.
 ghost use Rattle.std.specs.Prelude.{◌≡◌};
 ghost use Rattle.book_share.specs.Calls.{IsPassOf};
 ghost use Rattle.round_helpers.specs.Seats.{helper_desk};
@@ -35,6 +36,9 @@ impl<'a, R: Wait, G: Gate> Desk for HelperDesk<'a, R, G> {
     ghost desk = { λ d. helper_desk d.pass.ghost_name d.share.now d.pass.now.view };
 
     fn look(&mut self, set: &TaskSet, most: u32) -> Looked {
+        if self.share.lacks(self.pass, set) {
+            return Looked::Absent;
+        }
         self.share.look(self.rt, self.pass, set, most)
     }
 

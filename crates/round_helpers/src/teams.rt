@@ -85,6 +85,7 @@ fn work<R: Wait, G: Gate>(
         deal.count deal.place helper.old.units.left helper.new }
 {
     let _left = helper.units.left;
+    helper.pass.keep_marks(alloc);
     let mut desk = HelperDesk {
         rt,
         share,

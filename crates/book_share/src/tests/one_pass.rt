@@ -4,6 +4,7 @@ ghost use Rattle.line_rules.specs.declared.types.LineKind.TheVariants.{Straight}
 ghost use Rattle.book_share.specs.Calls.{IsPassOf};
 
 use super::{balance, free_tasks, offer, publish, shared, tested, try_publish};
+use crate::marks::Marks;
 use crate::{Pass, Share, TryLooked, TryPublished, turns};
 use lemma_core::{Book, LogItem, Looked, Offered, Published};
 use line_instance::Instance;
@@ -35,6 +36,27 @@ fn publishes_and_looks<R: Wait>(rt: &R, share: &Share, pass: &mut Pass, inst: &I
     let absent = share.look(rt, pass, &all, 2) == Looked::Absent;
     let again = publish(rt, share, pass, inst, all, 1) == Some(Published::Known(0));
     first & found & absent & again
+}
+
+// Marks tell nothing before a turn, then that no entry has the set of all tasks, and nothing once one has it.
+fn marks_follow_the_book<R: Wait>(
+    rt: &R,
+    alloc: Global,
+    share: &Share,
+    pass: &mut Pass,
+    inst: &Instance,
+) -> bool
+    requires pass { IsPassOf share.now pass.old }
+    requires about { pass.old.view.base.about ≡ record { line = inst.now; kind = Straight; cycle = 7 } }
+{
+    let all = inst.all();
+    pass.keep_marks(alloc);
+    let before = share.lacks(pass, &all);
+    let looked = share.look(rt, pass, &all, 1) == Looked::Absent;
+    let lacks = share.lacks(pass, &all);
+    let added = publish(rt, share, pass, inst, all, 1) == Some(Published::Added(0));
+    let after = share.lacks(pass, &all);
+    looked & lacks & added & !before & !after
 }
 
 // Whether a book has one entry and these two events.
@@ -81,7 +103,14 @@ fn meets_a_held_turn(share: &Share, pass: &mut Pass, other: &mut Pass, inst: &In
         Some(TryPublished::Busy(step)) => (step.set == all) & (step.most == 1),
         _ => false,
     };
-    turns::look(&share.table, &mut other.seat, book, &all, 1);
+    turns::look(
+        &share.table,
+        &mut other.seat,
+        book,
+        &mut Marks::Off,
+        &all,
+        1,
+    );
     busy & back
 }
 
@@ -122,4 +151,15 @@ fn a_better_offer_lowers_the_least(rt: HostRuntime) -> Result<(), Fail> {
         return Ok(());
     }
     Err("another answer")?
+}
+
+#[test]
+fn marks_tell_what_is_absent(rt: HostRuntime) -> Result<(), Fail> {
+    let alloc = rt.alloc();
+    let inst = five(alloc)?;
+    let (share, mut pass) = shared(alloc, &inst, in_three(alloc)?)?;
+    if marks_follow_the_book(&rt, alloc, &share, &mut pass, &inst) {
+        return Ok(());
+    }
+    Err("marks that don't follow")?
 }

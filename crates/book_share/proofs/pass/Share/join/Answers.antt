@@ -1,6 +1,5 @@
 use Rattle.std.proofs.Common.{◌≡◌, [], refl, sym, ap, ◌∙◌, subst, arith, rules}
 use Rattle.lemma_core.specs.History.{AreExact}
-use Rattle.book_share.specs.Passes.{PassView, PassOf}
 use Rattle.book_share.specs.Places.{times}
 use Rattle.book_share.specs.Rule.{both_of, OwnRises}
 use Rattle.book_share.specs.Steps.{Mine, IsJoined}
@@ -9,13 +8,17 @@ use Rattle.book_share.proofs.Halving.{joins}
 use Rattle.book_share.proofs.Loading.{settles}
 use Rattle.book_share.proofs.Lists.{rises_once, times_merged}
 use Rattle.book_share.proofs.Calling.{sound_of}
+use Rattle.book_share.specs.declared.marks.Marks.{Marks}
+use Rattle.book_share.specs.Marking.{AreMarkedBy}
+use Rattle.book_share.specs.Passes.{PassView, PassOf, desk_by}
+use Rattle.book_share.proofs.MarkFacts.{unmarked}
 use Rattle.book_share.proofs.pass.Share.join.Goals as goal
 
 pub join_seat-requires : goal.join_seat-requires
 join_seat-requires c =
     let p = c.pass.inside.seat in
     let q = c.other.inside.seat in
-    (search rules, search rules, ap (λ (m : Mine). m.1) c.other.invariant.me, search rules, joins p.id q.id p.me.0 q.me.0 (ap (λ (m : Mine). m.0.phase) c.pass.invariant.me) (ap (λ (m : Mine). m.0.phase) c.other.invariant.me))
+    (search rules, search rules, ap (λ (m : Mine). m.1) c.other.invariant.0.me, search rules, joins p.id q.id p.me.0 q.me.0 (ap (λ (m : Mine). m.0.phase) c.pass.invariant.0.me) (ap (λ (m : Mine). m.0.phase) c.other.invariant.0.me))
 
 pub load-requires : goal.load-requires
 load-requires c =
@@ -31,14 +34,11 @@ joined m w v u same is ok = subst IsResting (sym (same ∙ is)) (record {
   exact = subst (λ (x : Mine). AreExact x.0.base.opening x.0.seen) is ok.exact;
 })
 
-rests : (c : goal.After-load) → IsResting c.load.new.seat.me
-rests c =
-    let v = c.pass.inside.seat.me.0 in
-    let u = c.other.inside.seat.me.0 in
-    joined c.join_seat.new.seat.me c.load.new.seat.me v u c.load.ensures.2.0 (c.join_seat.ensures.2 ∙ ap (λ (m : Mine). (both_of v u, m.1)) c.pass.invariant.me) c.load.ensures.2.1
-
 pub invariant_of-pass : goal.invariant_of-pass
-invariant_of-pass c = rests c
+invariant_of-pass c =
+    let rests : IsResting c.load.new.seat.me = joined c.join_seat.new.seat.me c.load.new.seat.me c.pass.inside.seat.me.0 c.other.inside.seat.me.0 c.load.ensures.2.0
+    (c.join_seat.ensures.2 ∙ ap (λ (m : Mine). (both_of c.pass.inside.seat.me.0 c.other.inside.seat.me.0, m.1)) c.pass.invariant.0.me) c.load.ensures.2.1 in
+    (rests, subst (λ (m : Marks). AreMarkedBy m (desk_by c.load.new.seat.me.0)) (sym c.forget.ensures) (unmarked (desk_by c.load.new.seat.me.0)))
 
 pub returns-clause-apart : goal.returns-clause-apart
 returns-clause-apart c x =
@@ -50,4 +50,7 @@ returns-clause-apart c x =
     omega (arith, e, f, times_merged x v.own u.own, rises_once _ _ _ x sound.rises)
 
 pub returns-clause-sound : goal.returns-clause-sound
-returns-clause-sound c = sound_of c.load.new.seat.me (rests c)
+returns-clause-sound c =
+    let rests : IsResting c.load.new.seat.me = joined c.join_seat.new.seat.me c.load.new.seat.me c.pass.inside.seat.me.0 c.other.inside.seat.me.0 c.load.ensures.2.0
+    (c.join_seat.ensures.2 ∙ ap (λ (m : Mine). (both_of c.pass.inside.seat.me.0 c.other.inside.seat.me.0, m.1)) c.pass.invariant.0.me) c.load.ensures.2.1 in
+    sound_of c.load.new.seat.me rests

@@ -1,9 +1,11 @@
-use Rattle.std.proofs.Common.{subst, rules}
+use Rattle.std.proofs.Common.{subst, sym, rules}
 use Rattle.lemma_core.specs.Desks.{Offers}
 use Rattle.book_share.specs.Passes.{PassOf, desk_by}
+use Rattle.book_share.specs.Marking.{AreMarkedBy}
 use Rattle.book_share.specs.Turning.{waited}
 use Rattle.book_share.proofs.Hands.{offers_from}
 use Rattle.book_share.proofs.Calling.{sound_of, holds, rises_in, waits_in}
+use Rattle.book_share.proofs.MarkFacts.{were_marked}
 use Rattle.book_share.proofs.pass.Share.offer.Goals as goal
 
 pub offer-requires-clause-seat : goal.offer-requires-clause-seat
@@ -12,7 +14,7 @@ offer-requires-clause-seat g c =
     let v = waited c.pass.inside.seat.me.0 h.0 h.1 in
     let m = c.take_waiting-book.new.seat.me in
     let b = c.take_waiting-book.result in
-    (search rules, holds v m b h.4 h.3, rises_in v m b h.4 h.3 c.pass.invariant.rises)
+    (search rules, holds v m b h.4 h.3, rises_in v m b h.4 h.3 c.pass.invariant.0.rises)
 
 pub returns-clause-offers : goal.returns-clause-offers
 returns-clause-offers g c =
@@ -25,3 +27,10 @@ returns-clause-offers g c =
 
 pub returns-clause-sound : goal.returns-clause-sound
 returns-clause-sound g c = sound_of c.offer.new.seat.me c.offer.ensures.ends.resting
+
+pub offer-requires-clause-marks : goal.offer-requires-clause-marks
+offer-requires-clause-marks g c =
+    let h = c.take_waiting-book.ensures.had in
+    let v = waited c.pass.inside.seat.me.0 h.0 h.1 in
+    let m = c.take_waiting-book.new.seat.me in
+    were_marked c.pass.inside.marks (desk_by v) (desk_by m.0) (waits_in v m c.take_waiting-book.result h.4 h.3).keeps c.pass.invariant.1

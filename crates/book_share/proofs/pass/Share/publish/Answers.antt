@@ -1,9 +1,11 @@
 use Rattle.std.proofs.Common.{subst, sym, rules}
 use Rattle.lemma_core.specs.Desks.{FollowsSeen, Publishes}
 use Rattle.book_share.specs.Passes.{PassOf, desk_by}
+use Rattle.book_share.specs.Marking.{AreMarkedBy}
 use Rattle.book_share.specs.Turning.{waited}
 use Rattle.book_share.proofs.Hands.{publishes_from}
 use Rattle.book_share.proofs.Calling.{sound_of, holds, rises_in, waits_in, follows_in_turn}
+use Rattle.book_share.proofs.MarkFacts.{were_marked}
 use Rattle.book_share.proofs.pass.Share.publish.Goals as goal
 
 pub publish-requires-clause-seat : goal.publish-requires-clause-seat
@@ -12,7 +14,7 @@ publish-requires-clause-seat g c =
     let v = waited c.pass.inside.seat.me.0 h.0 h.1 in
     let m = c.take_waiting-book.new.seat.me in
     let b = c.take_waiting-book.result in
-    (search rules, holds v m b h.4 h.3, rises_in v m b h.4 h.3 c.pass.invariant.rises)
+    (search rules, holds v m b h.4 h.3, rises_in v m b h.4 h.3 c.pass.invariant.0.rises)
 
 pub publish-requires-clause-follows : goal.publish-requires-clause-follows
 publish-requires-clause-follows g c =
@@ -32,3 +34,10 @@ returns-clause-publishes g c =
 
 pub returns-clause-sound : goal.returns-clause-sound
 returns-clause-sound g c = sound_of c.publish.new.seat.me c.publish.ensures.ends.resting
+
+pub publish-requires-clause-marks : goal.publish-requires-clause-marks
+publish-requires-clause-marks g c =
+    let h = c.take_waiting-book.ensures.had in
+    let v = waited c.pass.inside.seat.me.0 h.0 h.1 in
+    let m = c.take_waiting-book.new.seat.me in
+    were_marked c.pass.inside.marks (desk_by v) (desk_by m.0) (waits_in v m c.take_waiting-book.result h.4 h.3).keeps c.pass.invariant.1

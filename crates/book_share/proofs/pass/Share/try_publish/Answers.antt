@@ -5,17 +5,18 @@ use Rattle.lemma_core.specs.Desks.{FollowsSeen, Publishes}
 use Rattle.book_share.specs.Passes.{PassOf, desk_by}
 use Rattle.book_share.proofs.Hands.{publishes_from}
 use Rattle.book_share.proofs.Calling.{sound_of, after_miss, holds, rises_in, waits_in, follows_in_turn}
+use Rattle.book_share.proofs.MarkFacts.{were_marked}
 use Rattle.book_share.proofs.pass.Share.try_publish.Goals as goal
 
 pub returns-in_default-clause-sound : goal.returns-in_default-clause-sound
-returns-in_default-clause-sound c = sound_of c.take.new.seat.me (after_miss c.pass.inside.seat.me c.take.new.seat.me c.pass.invariant c.in_default.ensures.none)
+returns-in_default-clause-sound c = sound_of c.take.new.seat.me (after_miss c.pass.inside.seat.me c.take.new.seat.me c.pass.invariant.0 c.in_default.ensures.none)
 
 pub publish-requires-clause-seat : goal.publish-requires-clause-seat
 publish-requires-clause-seat c =
     let t = c.in-Some.ensures.some in
     let v = c.pass.inside.seat.me.0 in
     let m = c.take.new.seat.me in
-    (search rules, holds v m c.in-Some.book t.1 t.0, rises_in v m c.in-Some.book t.1 t.0 c.pass.invariant.rises)
+    (search rules, holds v m c.in-Some.book t.1 t.0, rises_in v m c.in-Some.book t.1 t.0 c.pass.invariant.0.rises)
 
 pub publish-requires-clause-follows : goal.publish-requires-clause-follows
 publish-requires-clause-follows c =
@@ -35,3 +36,10 @@ returns-clause-publishes c =
 
 pub returns-clause-sound : goal.returns-clause-sound
 returns-clause-sound c = sound_of c.publish.new.seat.me c.publish.ensures.ends.resting
+
+pub publish-requires-clause-marks : goal.publish-requires-clause-marks
+publish-requires-clause-marks c =
+    let t = c.in-Some.ensures.some in
+    let v = c.pass.inside.seat.me.0 in
+    let m = c.take.new.seat.me in
+    were_marked c.pass.inside.marks (desk_by v) (desk_by m.0) (waits_in v m c.in-Some.book t.1 t.0).keeps c.pass.invariant.1
