@@ -14,7 +14,7 @@ use Rattle.line_words.specs.declared.command.Command.{Command}
 use Rattle.line_words.specs.declared.command.Command.TheVariants as command
 use Rattle.line_words.specs.declared.fault.UsageKind.TheVariants.{UnknownKey, RepeatedKey, BadValue}
 use Rattle.line_words.specs.declared.job.Job.{Job}
-use Rattle.line_words.specs.declared.job.Job.TheVariants.{Help, Version, Balance, Solve, Cycle, Check, Convert, Combine, Utility, Timeline, Try}
+use Rattle.line_words.specs.declared.job.Job.TheVariants.{Help, Version, Balance, Solve, Cycle, Check, Convert, Combine, Utility, Timeline, Try, Draw}
 use Rattle.line_words.proofs.Behind.{same_bytes}
 
 -- a setting at some place has the key and the value
@@ -143,6 +143,7 @@ job_between command.Try ws r = (
   default_between command.Try ws (codes "cycle") 200 (λ v. refl) r (omega arith, omega arith),
   default_between command.Try ws (codes "units") 1000000 (λ v. refl) r (omega arith, omega arith),
 )
+job_between command.Draw ws r = tt
 
 commanded_between : (words : List Text) (job : Job) → IsCommanded words (λ command behind. Asks command behind job) → IsInRange job
 commanded_between [] job c = absurd c
@@ -152,7 +153,7 @@ page_between : (words : List Text) (job : Job) → IsPageJob words job → IsInR
 page_between words Help p = tt
 page_between words Version p = tt
 page_between words (Balance file cycle line apart) p = absurd p
-page_between words (Solve file cycle line helpers units cert apart) p = absurd p
+page_between words (Solve file cycle line helpers units cert apart warm) p = absurd p
 page_between words (Cycle file stations line helpers units cert) p = absurd p
 page_between words (Check file cert steps apart) p = absurd p
 page_between words (Convert file out to cycle) p = absurd p
@@ -160,6 +161,7 @@ page_between words (Combine mix out) p = absurd p
 page_between words (Utility mix cert seq interval length) p = absurd p
 page_between words (Timeline mix cert seq interval length) p = absurd p
 page_between words (Try seed tasks cycle line units) p = absurd p
+page_between words (Draw file cert out apart) p = absurd p
 
 -- each job that words ask for is in its ranges
 pub every_job_between : (words : List Text) (job : Job) → IsJob words job → IsInRange job

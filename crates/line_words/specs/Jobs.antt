@@ -6,7 +6,7 @@ use Rattle.line_words.specs.Table.{command_named, names_wanted, keys_wanted, tak
 use Rattle.line_words.specs.declared.command.Command.{Command}
 use Rattle.line_words.specs.declared.command.Command.TheVariants as command
 use Rattle.line_words.specs.declared.job.Job.{Job}
-use Rattle.line_words.specs.declared.job.Job.TheVariants.{Help, Version, Balance, Solve, Cycle, Check, Convert, Combine, Utility, Timeline, Try}
+use Rattle.line_words.specs.declared.job.Job.TheVariants.{Help, Version, Balance, Solve, Cycle, Check, Convert, Combine, Utility, Timeline, Try, Draw}
 use Rattle.line_words.specs.declared.job.LineWord.{LineWord}
 use Rattle.line_words.specs.declared.job.LineWord.TheVariants.{Straight, U}
 use Rattle.line_words.specs.declared.job.FormWord.{FormWord}
@@ -103,7 +103,7 @@ job_for command.Balance ws =
     Balance (name_at ws 0) (number_set command.Balance ws (codes "cycle")) (line_set ws) (value_of ws (codes "apart"))
 job_for command.Solve ws =
     Solve (name_at ws 0) (number_set command.Solve ws (codes "cycle")) (line_set ws) (number_or command.Solve ws (codes "helpers") 4)
-    (number_or command.Solve ws (codes "units") 1000000) (value_of ws (codes "cert")) (value_of ws (codes "apart"))
+    (number_or command.Solve ws (codes "units") 1000000) (value_of ws (codes "cert")) (value_of ws (codes "apart")) (value_of ws (codes "warm"))
 job_for command.Cycle ws =
     Cycle (name_at ws 0) (number_or command.Cycle ws (codes "stations") 1) (line_set ws) (number_or command.Cycle ws (codes "helpers") 4)
     (number_or command.Cycle ws (codes "units") 1000000) (value_of ws (codes "cert"))
@@ -118,6 +118,7 @@ job_for command.Timeline ws =
 job_for command.Try ws =
     Try (number_or command.Try ws (codes "seed") 0) (number_or command.Try ws (codes "tasks") 1) (number_or command.Try ws (codes "cycle") 200) (line_set ws)
     (number_or command.Try ws (codes "units") 1000000)
+job_for command.Draw ws = Draw (name_at ws 0) (name_at ws 1) (name_at ws 2) (value_of ws (codes "apart"))
 
 -- the words behind a command ask for this job: nothing is wrong with them, nothing is missing, and it has their values or the defaults
 pub record Asks (command : Command) (words : List Text) (job : Job) : Type 0 where

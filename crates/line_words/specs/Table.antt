@@ -6,7 +6,7 @@ use Rattle.line_io.specs.declared.text.Num.{Num}
 use Rattle.line_io.specs.declared.text.Num.TheVariants.{Value, NotANumber, Above}
 use Rattle.line_words.specs.Words.{Text, sets}
 use Rattle.line_words.specs.declared.command.Command.{Command}
-use Rattle.line_words.specs.declared.command.Command.TheVariants.{Balance, Solve, Cycle, Check, Convert, Combine, Utility, Timeline, Try}
+use Rattle.line_words.specs.declared.command.Command.TheVariants.{Balance, Solve, Cycle, Check, Convert, Combine, Utility, Timeline, Try, Draw}
 
 -- the command that a word names
 abbrev pub command_named : Text → Option Command
@@ -19,7 +19,8 @@ command_named word =
     (cond (bytes_eq word (codes "combine")) (Some Combine)
     (cond (bytes_eq word (codes "utility")) (Some Utility)
     (cond (bytes_eq word (codes "timeline")) (Some Timeline)
-    (cond (bytes_eq word (codes "try")) (Some Try) None))))))))
+    (cond (bytes_eq word (codes "try")) (Some Try)
+    (cond (bytes_eq word (codes "draw")) (Some Draw) None)))))))))
 
 -- how many names a command wants
 abbrev pub names_wanted : Command → ℕ
@@ -32,6 +33,7 @@ names_wanted Combine = 2
 names_wanted Utility = 3
 names_wanted Timeline = 3
 names_wanted Try = 0
+names_wanted Draw = 3
 
 -- a key is one of these
 abbrev pub one_of : Text → List Text → Bool
@@ -49,11 +51,13 @@ keys_wanted Combine = []
 keys_wanted Utility = codes "interval" ∷ codes "length" ∷ []
 keys_wanted Timeline = codes "interval" ∷ codes "length" ∷ []
 keys_wanted Try = codes "seed" ∷ codes "tasks" ∷ []
+keys_wanted Draw = []
 
 -- the keys that a command takes
 abbrev pub keys_taken : Command → List Text
 keys_taken Balance = codes "cycle" ∷ codes "line" ∷ codes "apart" ∷ []
-keys_taken Solve = codes "cycle" ∷ codes "line" ∷ codes "helpers" ∷ codes "units" ∷ codes "cert" ∷ codes "apart" ∷ []
+keys_taken Solve =
+    codes "cycle" ∷ codes "line" ∷ codes "helpers" ∷ codes "units" ∷ codes "cert" ∷ codes "apart" ∷ codes "warm" ∷ []
 keys_taken Cycle = codes "stations" ∷ codes "line" ∷ codes "helpers" ∷ codes "units" ∷ codes "cert" ∷ []
 keys_taken Check = codes "steps" ∷ codes "apart" ∷ []
 keys_taken Convert = codes "to" ∷ codes "cycle" ∷ []
@@ -61,6 +65,7 @@ keys_taken Combine = []
 keys_taken Utility = codes "interval" ∷ codes "length" ∷ []
 keys_taken Timeline = codes "interval" ∷ codes "length" ∷ []
 keys_taken Try = codes "seed" ∷ codes "tasks" ∷ codes "cycle" ∷ codes "line" ∷ codes "units" ∷ []
+keys_taken Draw = codes "apart" ∷ []
 
 -- a command takes a key
 abbrev pub takes : Command → Text → Bool
@@ -82,6 +87,7 @@ units_most Combine = 3000000
 units_most Utility = 3000000
 units_most Timeline = 3000000
 units_most Try = 3000000
+units_most Draw = 3000000
 
 -- the least number that a key takes
 abbrev pub least_of : Text → ℕ
@@ -131,5 +137,5 @@ abbrev pub is_value : Command → Text → Text → Bool
 is_value command key value =
     cond (bytes_eq key (codes "line")) (bytes_eq value (codes "straight") || bytes_eq value (codes "u"))
     (cond (bytes_eq key (codes "to")) (bytes_eq value (codes "in2") || bytes_eq value (codes "alb") || bytes_eq value (codes "cert"))
-    (cond (bytes_eq key (codes "cert") || bytes_eq key (codes "apart")) (is_some value)
+    (cond (bytes_eq key (codes "cert") || bytes_eq key (codes "apart") || bytes_eq key (codes "warm")) (is_some value)
     (is_least (least_of key) (number_up_to (most_of command key) value))))

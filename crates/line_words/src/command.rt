@@ -23,6 +23,8 @@ pub enum Command {
     Timeline,
     /// A generated instance.
     Try,
+    /// The picture of a balance.
+    Draw,
 }
 
 /// The command that a word names.
@@ -56,6 +58,9 @@ pub(crate) fn command_named(word: &str) -> Option<Command>
     if word == "try" {
         return Some(Command::Try);
     }
+    if word == "draw" {
+        return Some(Command::Draw);
+    }
     None
 }
 
@@ -74,6 +79,7 @@ impl Command {
             Command::Utility => 3,
             Command::Timeline => 3,
             Command::Try => 0,
+            Command::Draw => 3,
         }
     }
 
@@ -91,6 +97,7 @@ impl Command {
             Command::Utility => &["interval", "length"],
             Command::Timeline => &["interval", "length"],
             Command::Try => &["seed", "tasks"],
+            Command::Draw => &[],
         }
     }
 
@@ -100,7 +107,7 @@ impl Command {
     {
         match self {
             Command::Balance => &["cycle", "line", "apart"],
-            Command::Solve => &["cycle", "line", "helpers", "units", "cert", "apart"],
+            Command::Solve => &["cycle", "line", "helpers", "units", "cert", "apart", "warm"],
             Command::Cycle => &["stations", "line", "helpers", "units", "cert"],
             Command::Check => &["steps", "apart"],
             Command::Convert => &["to", "cycle"],
@@ -108,6 +115,7 @@ impl Command {
             Command::Utility => &["interval", "length"],
             Command::Timeline => &["interval", "length"],
             Command::Try => &["seed", "tasks", "cycle", "line", "units"],
+            Command::Draw => &["apart"],
         }
     }
 

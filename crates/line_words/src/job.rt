@@ -44,7 +44,8 @@ pub enum Job {
         line: LineWord,
         apart: Option<Name>,
     },
-    /// A balance of the fewest stations, by as many helpers and at most as many work units.
+    /// A balance of the fewest stations, by as many helpers and at most as many work units, from what an earlier
+    /// certificate shows.
     Solve {
         file: Name,
         cycle: Option<u64>,
@@ -53,6 +54,7 @@ pub enum Job {
         units: u64,
         cert: Option<Name>,
         apart: Option<Name>,
+        warm: Option<Name>,
     },
     /// The least cycle time of a number of stations.
     Cycle {
@@ -105,6 +107,13 @@ pub enum Job {
         cycle: u64,
         line: LineWord,
         units: u64,
+    },
+    /// The picture of a certificate's balance.
+    Draw {
+        file: Name,
+        cert: Name,
+        out: Name,
+        apart: Option<Name>,
     },
 }
 
@@ -254,6 +263,7 @@ fn solve_job(alloc: Global, words: &[String]) -> Result<Job, AllocError>
         units: number_or(command, words, "units", 1_000_000),
         cert: name_set(alloc, words, "cert")?,
         apart: name_set(alloc, words, "apart")?,
+        warm: name_set(alloc, words, "warm")?,
     })
 }
 
@@ -340,6 +350,17 @@ fn try_job(words: &[String]) -> Job
     }
 }
 
+fn draw_job(alloc: Global, words: &[String]) -> Result<Job, AllocError>
+    ensures { IfOk result (λ j. j ≡ job_for Command.Draw (texts words.now)) }
+{
+    Ok(Job::Draw {
+        file: name_at(alloc, words, 0)?,
+        cert: name_at(alloc, words, 1)?,
+        out: name_at(alloc, words, 2)?,
+        apart: name_set(alloc, words, "apart")?,
+    })
+}
+
 /// The job of a command with these words, in which nothing is wrong or missing.
 pub(crate) fn job_for(alloc: Global, command: Command, words: &[String]) -> Result<Job, AllocError>
     ensures { IfOk result (λ j. j ≡ job_for command (texts words.now)) }
@@ -357,5 +378,6 @@ pub(crate) fn job_for(alloc: Global, command: Command, words: &[String]) -> Resu
         Command::Utility => utility_job(alloc, words),
         Command::Timeline => timeline_job(alloc, words),
         Command::Try => Ok(try_job(words)),
+        Command::Draw => draw_job(alloc, words),
     }
 }

@@ -48,7 +48,7 @@ fn is_value(command: Command, key: &str, value: &str) -> bool
     if key == "to" {
         return value == "in2" || value == "alb" || value == "cert";
     }
-    if key == "cert" || key == "apart" {
+    if key == "cert" || key == "apart" || key == "warm" {
         return !value.is_empty();
     }
     match number_up_to(most_of(command, key), value) {
