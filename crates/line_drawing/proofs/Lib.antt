@@ -1,0 +1,9 @@
+pub mod Chains
+pub mod Listed
+pub mod Positions
+pub mod SegmentFacts
+pub mod StationFacts
+pub mod NumberFacts
+pub mod StationSums
+pub mod NoteFacts
+pub mod DrawingFacts

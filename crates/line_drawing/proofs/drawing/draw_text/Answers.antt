@@ -1,0 +1,5 @@
+use Rattle.line_drawing.proofs.DrawingFacts.{drawing_true}
+use Rattle.line_drawing.proofs.drawing.draw_text.Goals as goal
+
+pub returns-clause-true_picture : goal.returns-clause-true_picture
+returns-clause-true_picture c = drawing_true c.args.inst.now c.args.cert.now c.tasks-tasks.ensures.line c.tasks-tasks.ensures.ranked c.requires.range c.requires.right

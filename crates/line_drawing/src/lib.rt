@@ -1,0 +1,16 @@
+//! The picture of a balance: a certificate's stations as rows of segments, in one SVG text.
+//!
+//! A row is a cycle long, and a task's segment has the length of its time in it. Where a segment begins follows from the
+//! sum of the times before it, rounded down, so that neighbours meet and no error adds up. The tasks of each station are
+//! gone over four times, and all tasks once for each station and side, so the time is that of the stations times the
+//! tasks. The text is built on one string; beside it the segments of one station are kept.
+#![tactic(auto)]
+
+mod drawing;
+mod figures;
+mod notes;
+mod rows;
+mod segments;
+
+pub use drawing::draw_text;
+pub use segments::Segment;
