@@ -1,6 +1,7 @@
 -- What a run comes to whose questions ended: the least number of stations, or bounds.
-use Rattle.std.proofs.Common.{◌≡◌, ℕ, zero, suc, ◌+◌, ◌-◌, ◌*◌, ◌^◌, ◌<◌, ◌≤◌, Bool, true, cond, List, [], ◌∷◌, ◌++◌, length}
-use Rattle.std.proofs.Common.{refl, sym, ap, ◌∙◌, subst, inl, inr, arith, Option, Some, None}
+use Rattle.std.proofs.Common.{◌≡◌, ℕ, zero, suc, ◌+◌, ◌-◌, ◌*◌, ◌^◌, ◌<◌, ◌≤◌, Bool, true, false, cond, List, [], ◌∷◌, ◌++◌, length}
+use Rattle.std.proofs.Common.{refl, sym, ap, ◌∙◌, subst, inl, inr, arith, length-append, Option, Some, None}
+use Rattle.std.proofs.lemmas.List.{append-nil}
 use Rattle.std.proofs.lemmas.Bool.{cases_lt, eq-eqb}
 use Rattle.std.specs.Prelude.{slice_get, nat_eq}
 use Rattle.task_set.specs.Truths.{In, IsSubset}
@@ -18,6 +19,7 @@ use Rattle.line_rules.specs.declared.types.OpenFrame.{OpenFrame}
 use Rattle.line_rules.specs.declared.types.Balance.{Balance as Assignment}
 use Rattle.line_rules.proofs.All.{In-all}
 use Rattle.line_rules.proofs.Carried.{bound_holds}
+use Rattle.line_rules.proofs.Counted.{derived_counted}
 use Rattle.line_rules.proofs.Nonempty.{bound_some}
 use Rattle.line_rules.proofs.Paths.{rest_inside, rest_without, leads_longer, deep_longer}
 use Rattle.line_rules.proofs.Proved.{answer_holds}
@@ -28,16 +30,18 @@ use Rattle.station_search.proofs.Events.{get_append_cases}
 use Rattle.budget_law.specs.Budget.{states}
 use Rattle.budget_law.proofs.FewUnits.{units_few}
 use Rattle.round_helpers.specs.Growth.{AreAtCycle}
+use Rattle.round_helpers.proofs.Growing.{units_both}
 use Rattle.round_run.specs.Rounds.{AddsBound, by_bound}
 use Rattle.round_run.specs.Questions.{IsRun, HasAsked, trail_of, stop_by}
-use Rattle.round_run.specs.Solving.{IsRunBook, IsBelow, IsSolved, IsStopped, IsSpent, FitsAll, Solves}
+use Rattle.round_run.specs.Solving.{IsRunBook, IsBelow, IsSolvedFrom, IsStoppedFrom, IsSpentFrom, FitsAll, SolvesFrom, Solves}
 use Rattle.round_run.specs.declared.questions.Stop.{Stop}
 use Rattle.round_run.specs.declared.plans.Plan.{Plan}
 use Rattle.round_run.specs.declared.solving.Cause.{Cause}
 use Rattle.round_run.specs.declared.solving.Cause.TheVariants as cause
+use Rattle.round_run.specs.declared.solving.Outcome.{Outcome}
 use Rattle.round_run.specs.declared.solving.Outcome.TheVariants as outcome
 use Rattle.round_run.proofs.RankedOnce.{same_stations}
-use Rattle.round_run.proofs.Turns.{cycles_on, units_on, longer}
+use Rattle.round_run.proofs.Turns.{cycles_on, entries_on}
 
 -- a trail is valid over more entries
 trail_longer : (kind : LineKind) (line : Line) (X : ℕ) (es more : List Entry) (R : List Bool) (most : ℕ)
@@ -94,6 +98,36 @@ all_at X (e ∷ es) h =
     let t : nat_eq e.cycle X ≡ true = eq-eqb e.cycle X (h 0 e refl) in
     rw t (ap (λ (z : List Entry). e ∷ z) (all_at X es (λ k x g. h (suc k) x g)))
 
+-- entries of a cycle have a number of units, where all have one
+one_some : (line : Line) (e : Entry) (es at : List Entry) (u : ℕ) (t : Bool) → UnitsOf line (e ∷ es) u
+    → (v : ℕ) × UnitsOf line at v → (v : ℕ) × UnitsOf line (cond t (e ∷ at) at) v
+one_some line e es at u true h rest = (h.0 + rest.0, (h.0, rest.0, (h.2.0, rest.1, refl)))
+one_some line e es at u false h rest = rest
+
+units_some : (line : Line) (X : ℕ) (es : List Entry) (u : ℕ) → UnitsOf line es u
+    → (v : ℕ) × UnitsOf line (entries_at X es) v
+units_some line X [] u h = (0, refl)
+units_some line X (e ∷ es) u h =
+    one_some line e es (entries_at X es) u (nat_eq e.cycle X) h (units_some line X es h.1 h.2.1)
+
+-- the first entries of a list have a number of units, where all have one
+units_front : (line : Line) (xs ys : List Entry) (u : ℕ) → UnitsOf line (xs ++ ys) u → (v : ℕ) × UnitsOf line xs v
+units_front line [] ys u h = (0, refl)
+units_front line (x ∷ xs) ys u h =
+    let rest : (v : ℕ) × UnitsOf line xs v = units_front line xs ys h.1 h.2.1 in
+    (h.0 + rest.0, (h.0, rest.0, (h.2.0, rest.1, refl)))
+
+-- the entries of a cycle in two lists
+one_both : (x : Entry) (all xs ys : List Entry) (t : Bool) → all ≡ xs ++ ys
+    → cond t (x ∷ all) all ≡ cond t (x ∷ xs) xs ++ ys
+one_both x all xs ys true e = ap (λ (z : List Entry). x ∷ z) e
+one_both x all xs ys false e = e
+
+at_both : (X : ℕ) (xs ys : List Entry) → entries_at X (xs ++ ys) ≡ entries_at X xs ++ entries_at X ys
+at_both X [] ys = refl
+at_both X (x ∷ xs) ys =
+    one_both x (entries_at X (xs ++ ys)) (entries_at X xs) (entries_at X ys) (nat_eq x.cycle X) (at_both X xs ys)
+
 no_entry : (j : ℕ) (x : Entry) → slice_get [] j ≡ Some x → ⊥
 no_entry j x e = cc
 
@@ -101,20 +135,19 @@ one_entry : (y : Entry) (j : ℕ) (x : Entry) → slice_get (y ∷ []) j ≡ Som
 one_entry y zero x e = cc
 one_entry y (suc j) x e = absurd (cc)
 
--- a run begins with the ranked balance, and with the bound of all tasks as its first question
+-- a run begins with the best balance of its book, and with the bound of all tasks as its first question
 pub begins : (line : Line) (first : ℕ) (b : BookView) → IsLine line → b.about.line ≡ line → 1 ≤ b.about.cycle
-    → b.state.entries ≡ [] → MayBeBest b.about b.state.best
-    → IsRankedBalance b.about.kind line b.about.cycle b.state.best → IsReserved b
+    → MayBeBest b.about b.state.best → IsReserved b
     → first ≡ bound b.about.kind line b.about.cycle (all_tasks line)
-    → IsRun b.about.kind line b.about.cycle first first b
-begins line first b ok same cycle none may ranked reserved start =
+    → IsRun b.about.kind line b.about.cycle b.state.entries [] b.state.best.stations first first b
+begins line first b ok same cycle may reserved start =
     let all : tasks b.about.line ≡ tasks line = ap (λ (z : Line). tasks z) same in
-    let P : List Entry → Type 0 = λ z. AreAtCycle b.about.cycle z in
     let Q : Line → Type 0 = λ z. IsRight b.about.kind z b.about.cycle b.state.best in
     let right : IsRight b.about.kind line b.about.cycle b.state.best = subst Q same may.right in
     record {
       about = λ i. record { line = same i; kind = b.about.kind; cycle = b.about.cycle };
-      cycles = subst P (sym none) (λ k e g. absurd (cc));
+      entries = sym (append-nil b.state.entries);
+      cycles = λ k e g. absurd (cc);
       some = omega (
         arith,
         start,
@@ -128,11 +161,12 @@ begins line first b ok same cycle none may ranked reserved start =
         | inr l ↦ omega (arith, l, all, may.few)
       ];
       refuted = λ l. absurd (omega (arith, l));
-      ranked = λ a r. omega (arith, same_stations b.about.kind line b.about.cycle b.state.best a ranked r);
+      best = omega arith;
       reserved = reserved;
     }
 
-module _ (kind : LineKind) (line : Line) (c N G first lower : ℕ) (b new : BookView) (plan : Plan) (ok : IsLine line)
+module _ (kind : LineKind) (line : Line) (c : ℕ) (before : List Entry) (top N G first lower : ℕ) (b new : BookView)
+    (plan : Plan) (ok : IsLine line)
     (is_ranked : IsRanked line) (cycle : 1 ≤ c) (start : first ≡ bound kind line c (all_tasks line))
     (fits : FitsAll line c) (a : AddsBound (first - 1) b new) (kept : IsBook new)
     (shown : IsBelow line c new lower) (plan_units : N ≡ plan.units) (helpers : G ≤ N)
@@ -148,8 +182,15 @@ module _ (kind : LineKind) (line : Line) (c N G first lower : ℕ) (b new : Book
     | inr e ↦ omega (arith, ap (λ (z : List Entry). length z) e)
   ]
 
-  module _ (stop : Option Stop)
-      (h : HasAsked kind line c N G first (record { book = b; lower = lower; stop = stop })) where
+  -- the questions of the run ended so
+  abbrev pub Asked : Option Stop → Type 0
+  Asked stop = HasAsked kind line c before top N G first (record { book = b; lower = lower; stop = stop })
+
+  module _ (stop : Option Stop) (h : Asked stop) where
+    -- what the run added
+    abbrev pub added : List Entry
+    added = h.added ++ a.gained
+
     about_is : new.about ≡ record { line = line; kind = kind; cycle = c }
     about_is = a.goes_on.about ∙ h.run.about
 
@@ -159,23 +200,26 @@ module _ (kind : LineKind) (line : Line) (c N G first lower : ℕ) (b new : Book
     derived : IsDerived kind line new.state.entries
     derived = let P : About → Type 0 = λ z. IsDerived z.kind z.line new.state.entries in subst P about_is kept.derived
 
-    cycles : AreAtCycle c new.state.entries
-    cycles = cycles_on kind line c first lower b new h.run a.gained a.goes_on
+    cycles : AreAtCycle c added
+    cycles = cycles_on kind line c before h.added top first lower b new h.run a.gained a.goes_on
 
-    units : UnitsOf line new.state.entries h.published
+    entries : new.state.entries ≡ before ++ added
+    entries = entries_on kind line c before h.added top first lower b new h.run a.gained a.goes_on
+
+    units : UnitsOf line added h.published
     units =
         let e : h.published + 0 ≡ h.published = omega arith in
-        let P : ℕ → Type 0 = λ z. UnitsOf line new.state.entries z in
-        subst P e (units_on kind line c first lower b new h.run a.gained a.goes_on h.published 0 h.entry_units
-        gained_units)
+        let P : ℕ → Type 0 = λ z. UnitsOf line added z in
+        subst P e (units_both line h.added a.gained h.published 0 h.entry_units gained_units)
 
-    run_book : IsRunBook kind line c N (trail_of stop) new
+    run_book : IsRunBook kind line c N before added (trail_of stop) new
     run_book = record {
       about = about_is;
+      entries = entries;
       cycles = cycles;
       few = omega (
         arith,
-        longer kind line c first lower b new h.run a.gained a.goes_on,
+        length-append h.added a.gained,
         gained_few,
         h.few,
         h.run.up_to,
@@ -199,10 +243,12 @@ module _ (kind : LineKind) (line : Line) (c N G first lower : ℕ) (b new : Book
       | inr few ↦ bound_holds kind line c cycle (all_tasks line) s (omega (arith, few, l, start, h.run.some))
     ]
 
-    pub solved : new.state.best.stations ≤ lower → IsSolved kind line c N new
+    pub solved : new.state.best.stations ≤ lower → IsSolvedFrom kind line c N before new
     solved best = record {
+      added = added;
       run = record {
         about = run_book.about;
+        entries = run_book.entries;
         cycles = run_book.cycles;
         few = run_book.few;
         published = run_book.published;
@@ -221,12 +267,12 @@ module _ (kind : LineKind) (line : Line) (c N G first lower : ℕ) (b new : Book
           (s.0, s.1, (s.2.0, record { same = r.same; stations = omega (arith, r.stations, best); long = r.long }));
     }
 
-    stopped : (l : lower < new.state.best.stations) → IsStopped kind line c N lower new (trail_of stop)
+    stopped : (l : lower < new.state.best.stations)
+        → IsStoppedFrom kind line c N before added lower new (trail_of stop)
     stopped l = record { run = run_book; some = omega (arith, h.run.some, h.run.from); below = l; goal = shown }
 
   -- a frame of the trail isn't answered by the entry of the bound
-  module _ (trail : List OpenFrame)
-      (h : HasAsked kind line c N G first (record { book = b; lower = lower; stop = stop_by cause.Units trail })) where
+  module _ (trail : List OpenFrame) (h : Asked (stop_by cause.Units trail)) where
     unanswered : (k : ℕ) (f : OpenFrame) → slice_get trail k ≡ Some f → (j : ℕ) (x : Entry)
         → slice_get a.gained j ≡ Some x
         → Answers x f.set f.most c → ⊥
@@ -265,33 +311,54 @@ module _ (kind : LineKind) (line : Line) (c N G first lower : ℕ) (b new : Book
           further = h.ends.1.2.further;
         })
 
-    units_here : UnitsAt line c new.state.entries (Some (record { cycle = c; frames = trail })) (h.published + h.listed)
+    -- the units at the cycle: those of entries with which the run began, and those that it listed
+    units_here : (u : ℕ) × UnitsAt line c new.state.entries (Some (record { cycle = c; frames = trail }))
+        (u + h.published + h.listed)
     units_here =
-        let P : List Entry → Type 0 = λ z. UnitsOf line z h.published in
+        let all : (v : ℕ) × UnitsOf line new.state.entries v =
+        derived_counted line ok is_ranked kind new.state.entries (derived (stop_by cause.Units trail) h) in
+        let W : List Entry → Type 0 = λ z. UnitsOf line z all.0 in
+        let front : (v : ℕ) × UnitsOf line before v =
+        units_front line before (added (stop_by cause.Units trail) h) all.0
+        (subst W (entries (stop_by cause.Units trail) h) all.1) in
+        let some : (v : ℕ) × UnitsOf line (entries_at c before) v = units_some line c before front.0 front.1 in
+        let P : List Entry → Type 0 = λ z. UnitsOf line z (some.0 + h.published) in
         let t : nat_eq c c ≡ true = eq-eqb c c refl in
-        let Q : Bool → Type 0 = λ z. cond z (UnitsIn line c trail h.listed) (h.listed ≡ 0) in (
-          h.published,
-          h.listed,
+        let Q : Bool → Type 0 = λ z. cond z (UnitsIn line c trail h.listed) (h.listed ≡ 0) in
+        let e : entries_at c before ++ added (stop_by cause.Units trail) h ≡ entries_at c new.state.entries =
+        sym (ap (λ (z : List Entry). entries_at c z) (entries (stop_by cause.Units trail) h)
+        ∙ (at_both c before (added (stop_by cause.Units trail) h)
+        ∙ ap (λ (z : List Entry). entries_at c before ++ z)
+        (all_at c (added (stop_by cause.Units trail) h) (cycles (stop_by cause.Units trail) h)))) in (
+          some.0,
           (
-            subst P (sym (all_at c new.state.entries (cycles (stop_by cause.Units trail) h)))
-                (units (stop_by cause.Units trail) h),
-            subst Q (sym t) h.frame_units,
-            refl,
+            some.0 + h.published,
+            h.listed,
+            (
+              subst P e (units_both line (entries_at c before) (added (stop_by cause.Units trail) h) some.0 h.published
+                  some.1 (units (stop_by cause.Units trail) h)),
+              subst Q (sym t) h.frame_units,
+              refl,
+            ),
           ),
         )
 
-    spent : lower < new.state.best.stations → IsSpent kind line c plan lower new trail
+    spent : lower < new.state.best.stations → IsSpentFrom kind line c plan before top lower new trail
     spent l =
-        let S : ℕ → Type 0 = λ z. IsStopped kind line c z lower new trail in
-        let less : h.published + h.listed < (tasks line + 1) * states kind ^ tasks line =
+        let S : ℕ → Type 0 =
+        λ z. IsStoppedFrom kind line c z before (added (stop_by cause.Units trail) h) lower new trail in
+        let here : (u : ℕ) × UnitsAt line c new.state.entries (Some (record { cycle = c; frames = trail }))
+        (u + h.published + h.listed) = units_here in
+        let less : here.0 + h.published + h.listed < (tasks line + 1) * states kind ^ tasks line =
         units_few kind line ok is_ranked c fits new.state.entries (Some (record { cycle = c; frames = trail }))
         (derived (stop_by cause.Units trail) h)
-        (λ j k x y m p q s t r. kept.fresh j k x y m p q r) (λ e. (lower, valid)) (h.published + h.listed)
-        units_here in
+        (λ j k x y m p q s t r. kept.fresh j k x y m p q r) (λ e. (lower, valid)) (here.0 + h.published + h.listed)
+        here.1 in
         record {
+          added = added (stop_by cause.Units trail) h;
           stopped = subst S plan_units (stopped (stop_by cause.Units trail) h l);
           from = omega (arith, start, h.run.from);
-          ranked = λ x r. omega (arith, a.goes_on.best, h.run.ranked x r);
+          best = omega (arith, a.goes_on.best, h.run.best);
           valid = valid;
           opens = opens;
           listed = h.published + h.listed;
@@ -310,16 +377,34 @@ module _ (kind : LineKind) (line : Line) (c N G first lower : ℕ) (b new : Book
   best_still = ap (λ (z : Assignment). z.stations) a.best
 
   -- what the run comes to
-  pub solves : HasAsked kind line c N G first (record { book = b; lower = lower; stop = None })
-      → Solves kind line c plan (outcome.Solved new)
+  pub solves : Asked None → SolvesFrom kind line c plan before top (outcome.Solved new)
   solves h =
-      let S : ℕ → Type 0 = λ z. IsSolved kind line c z new in
-      (fits, subst S plan_units (solved None h (omega (arith, best_still, h.ends))))
+      let S : ℕ → Type 0 = λ z. IsSolvedFrom kind line c z before new in
+      subst S plan_units (solved None h (omega (arith, best_still, h.ends)))
 
-  pub stops_by : (why : Cause) (trail : List OpenFrame)
-      → HasAsked kind line c N G first (record { book = b; lower = lower; stop = stop_by why trail })
-      → Solves kind line c plan (outcome.Stopped why lower new trail)
-  stops_by cause.Units trail h = (fits, spent trail h (omega (arith, best_still, h.ends.0)))
+  pub stops_by : (why : Cause) (trail : List OpenFrame) → Asked (stop_by why trail)
+      → SolvesFrom kind line c plan before top (outcome.Stopped why lower new trail)
+  stops_by cause.Units trail h = spent trail h (omega (arith, best_still, h.ends.0))
   stops_by cause.Memory trail h =
-      let S : ℕ → Type 0 = λ z. IsStopped kind line c z lower new trail in
-      (fits, subst S plan_units (stopped (stop_by cause.Memory trail) h (omega (arith, best_still, h.ends.0))))
+      let S : ℕ → Type 0 =
+      λ z. IsStoppedFrom kind line c z before (added (stop_by cause.Memory trail) h) lower new trail in (
+        added (stop_by cause.Memory trail) h,
+        subst S plan_units (stopped (stop_by cause.Memory trail) h (omega (arith, best_still, h.ends.0))),
+      )
+
+-- a run that began with an empty book and the ranked balance
+pub from_ranked : (kind : LineKind) (line : Line) (c : ℕ) (plan : Plan) (best : Assignment) (o : Outcome)
+    → IsRankedBalance kind line c best → FitsAll line c → SolvesFrom kind line c plan [] best.stations o
+    → Solves kind line c plan o
+from_ranked kind line c plan best (outcome.TooLong i) ranked fits s = absurd s
+from_ranked kind line c plan best (outcome.Solved book) ranked fits s = (fits, s)
+from_ranked kind line c plan best (outcome.Stopped cause.Units lower book trail) ranked fits s = (
+  fits,
+  record {
+    top = best.stations;
+    spent = s;
+    ranked = λ a r. omega (arith, same_stations kind line c best a ranked r);
+  },
+)
+from_ranked kind line c plan best (outcome.Stopped cause.Memory lower book trail) ranked fits s = (fits, s)
+from_ranked kind line c plan best outcome.NoMemory ranked fits s = tt

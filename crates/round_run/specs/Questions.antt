@@ -1,13 +1,12 @@
 -- A run over the questions of a line at a cycle, and where it ends.
-use Rattle.std.specs.Prelude.{◌≡◌, ℕ, ◌+◌, ◌-◌, ◌<◌, ◌≤◌, List, [], length, Option, Some, None}
+use Rattle.std.specs.Prelude.{◌≡◌, ℕ, ◌+◌, ◌-◌, ◌<◌, ◌≤◌, List, [], ◌++◌, length, Option, Some, None}
 use Rattle.line_instance.specs.Line.{Line, tasks}
 use Rattle.line_rules.specs.Balance.{all_tasks}
 use Rattle.line_rules.specs.Entries.{HasAnswer}
-use Rattle.line_rules.specs.Ranked.{IsRankedBalance}
 use Rattle.line_rules.specs.Trails.{IsTrail, IsOpenOver}
 use Rattle.line_rules.specs.Units.{UnitsOf, UnitsIn}
 use Rattle.line_rules.specs.declared.types.LineKind.{LineKind}
-use Rattle.line_rules.specs.declared.types.Balance.{Balance as Assignment}
+use Rattle.line_rules.specs.declared.types.Entry.{Entry}
 use Rattle.line_rules.specs.declared.types.OpenFrame.{OpenFrame}
 use Rattle.lemma_core.specs.Books.{BookView, IsReserved}
 use Rattle.round_helpers.specs.Growth.{AreAtCycle}
@@ -18,26 +17,32 @@ use Rattle.round_run.specs.declared.questions.Stop.{Stop}
 use Rattle.round_run.specs.declared.closing.Verdict.{Verdict}
 use Rattle.round_run.specs.declared.closing.Verdict.TheVariants as verdict
 
--- A run from the question `first` on, whose next question is `lower`: an entry of the book refutes the one before it,
--- where there is one, and the best balance has no more stations than the ranked one.
-pub record IsRun (kind : LineKind) (line : Line) (c first lower : ℕ) (book : BookView) : Type 0 where
+-- A run from the question `first` on, whose next question is `lower`: behind the entries with which it began, the book has
+-- those that the run added, each at the cycle; an entry refutes the question before the next one, where there is one; and
+-- the best balance has at most `top` stations, as many as the run began with.
+pub record IsRun (kind : LineKind) (line : Line) (c : ℕ) (before added : List Entry) (top first lower : ℕ)
+    (book : BookView) : Type 0 where
   pub about : book.about ≡ record { line = line; kind = kind; cycle = c }
-  pub cycles : AreAtCycle c book.state.entries
+  pub entries : book.state.entries ≡ before ++ added
+  pub cycles : AreAtCycle c added
   pub some : 1 ≤ first
   pub from : first ≤ lower
   pub up_to : lower ≤ tasks line
   pub refuted : first < lower → HasAnswer book.state.entries (all_tasks line) (lower - 1) c
-  pub ranked : (b : Assignment) → IsRankedBalance kind line c b → book.state.best.stations ≤ b.stations
+  pub best : book.state.best.stations ≤ top
   pub reserved : IsReserved book
 
--- The entries of the book have at least as many units as the closing passes used, and at most as many as these and the
--- helpers together. They are at most as many, with one more for each question that was refuted.
-pub record IsPaid (line : Line) (first lower used helped : ℕ) (book : BookView) : Type 0 where
+-- A run with what it paid: the entries that it added have at least as many units as the closing passes used, and at most as
+-- many as these and the helpers together. They are at most as many, with one more for each question that was refuted.
+pub record IsPaid (kind : LineKind) (line : Line) (c : ℕ) (before : List Entry) (top first lower used helped : ℕ)
+    (book : BookView) : Type 0 where
+  pub added : List Entry
+  pub run : IsRun kind line c before added top first lower book
   pub published : ℕ
-  pub units : UnitsOf line book.state.entries published
+  pub units : UnitsOf line added published
   pub least : used ≤ published
   pub most : published ≤ used + helped
-  pub few : length book.state.entries + first ≤ used + helped + lower
+  pub few : length added + first ≤ used + helped + lower
 
 -- the open frames where it stopped
 abbrev pub trail_of : Option Stop → List OpenFrame
@@ -68,14 +73,16 @@ EndsBy kind line c N lower book listed None = book.state.best.stations ≤ lower
 EndsBy kind line c N lower book listed (Some stop) =
     (lower < book.state.best.stations) × StopsBy kind line c N lower book listed stop.cause stop.trail
 
--- A run whose questions ended, with N units for its closing passes and `helpers` for all its helpers: the entries and the
--- open frames have no more units than these together.
-pub record HasAsked (kind : LineKind) (line : Line) (c N helpers first : ℕ) (asked : Asked) : Type 0 where
-  pub run : IsRun kind line c first asked.lower asked.book
-  pub few : length asked.book.state.entries ≤ N + helpers + asked.lower
+-- A run whose questions ended, with N units for its closing passes and `helpers` for all its helpers: the entries that it
+-- added and the open frames have no more units than these together.
+pub record HasAsked (kind : LineKind) (line : Line) (c : ℕ) (before : List Entry) (top N helpers first : ℕ)
+    (asked : Asked) : Type 0 where
+  pub added : List Entry
+  pub run : IsRun kind line c before added top first asked.lower asked.book
+  pub few : length added ≤ N + helpers + asked.lower
   pub published : ℕ
   pub listed : ℕ
-  pub entry_units : UnitsOf line asked.book.state.entries published
+  pub entry_units : UnitsOf line added published
   pub frame_units : UnitsIn line c (trail_of asked.stop) listed
   pub within : published + listed ≤ N + helpers
   pub ends : EndsBy kind line c N asked.lower asked.book (published + listed) asked.stop

@@ -20,4 +20,4 @@ pub use closing::Verdict;
 pub use plans::{Plan, Purse, fill};
 pub use round_helpers::{AlwaysOpen, Gate, Helped, Job, jobs};
 pub use rounds::{Round, decide_round};
-pub use solving::{Cause, Outcome, solve};
+pub use solving::{Cause, Outcome, open_book, solve, solve_from};

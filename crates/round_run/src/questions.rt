@@ -65,12 +65,13 @@ pub(crate) fn ask_all<R: Threads + Wait + Sync, G: Gate>(
     gate: &G,
 ) -> Asked
     requires cycle { IsCycle book.about.cycle }
-    requires begun { IsRun book.about.kind inst.now book.about.cycle first first book }
-    requires empty { book.state.entries ≡ [] }
+    requires begun { let state = book.state in
+        IsRun book.about.kind inst.now book.about.cycle state.entries [] state.best.stations first first book }
     requires team { IsTeam purse.helper.items }
     requires fresh { (purse.closing.used ≡ 0) × (all_used purse.helper.items ≡ 0) }
-    ensures { HasAsked book.about.kind inst.now book.about.cycle purse.closing.left (all_left purse.helper.items) first
-        result }
+    ensures { let state = book.state in
+        HasAsked book.about.kind inst.now book.about.cycle state.entries state.best.stations purse.closing.left
+        (all_left purse.helper.items) first result }
 {
     let mut purse = purse;
     let mut book = book;

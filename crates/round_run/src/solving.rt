@@ -5,18 +5,18 @@
 //! raises the lower bound by one, and a balance ends the run. All questions share one book, so what one refuted the
 //! next one cites. The cost is that of the searches: a unit for each load that is listed, of which a plan has so many for
 //! its closing passes and as many again for all its helpers.
-ghost use Rattle.std.specs.Prelude.{◌≡◌, ◌-◌, ◌<◌, ◌≤◌, ℕ, [], IfOk, OnOk};
+ghost use Rattle.std.specs.Prelude.{◌≡◌, ◌-◌, ◌<◌, ◌≤◌, ℕ, List, [], IfOk, OnOk};
 ghost use Rattle.line_rules.specs.Balance.{all_tasks};
 ghost use Rattle.line_rules.specs.Bounds.{bound};
 ghost use Rattle.line_rules.specs.Entries.{HasAnswer};
 ghost use Rattle.line_rules.specs.Ranges.{IsCycle};
-ghost use Rattle.line_rules.specs.Ranked.{IsRankedBalance};
+ghost use Rattle.line_rules.specs.declared.types.Entry.{Entry as EntryOf};
 ghost use Rattle.lemma_core.specs.Books.{IsReserved, MayBeBest};
 ghost use Rattle.round_run.specs.Plans.{IsPlan};
 ghost use Rattle.round_run.specs.declared.plans.Plan.{Plan as PlanOf};
 ghost use Rattle.round_run.specs.Questions.{IsRun, HasAsked};
 ghost use Rattle.round_run.specs.Rounds.{AddsBound};
-ghost use Rattle.round_run.specs.Solving.{FitsAll, IsBelow, Solves};
+ghost use Rattle.round_run.specs.Solving.{FitsAll, IsBelow, SolvesFrom, Solves};
 
 use crate::bounding::refute_by_bound;
 use crate::plans::{Plan, fill};
@@ -87,8 +87,9 @@ pub fn solve<R: Threads + Wait + Sync, G: Gate>(
     }
 }
 
-// An empty book with its first best balance, and with room for the better ones.
-fn open_book(
+/// An empty book about the instance, with its first best balance, and with room for the better ones. An error where memory
+/// is out.
+pub fn open_book(
     alloc: Global,
     inst: &Instance,
     kind: LineKind,
@@ -105,8 +106,11 @@ fn open_book(
     Ok(book)
 }
 
-// The run over an empty book whose best balance is the ranked one.
-fn solve_from<R: Threads + Wait + Sync, G: Gate>(
+/// The same over a book that may have entries: the least number of stations at the book's cycle, or bounds on it. The book is
+/// about the instance, no task is longer than its cycle, and `reserve_offers` was done. The entries that the run adds stand
+/// behind those of the book, and are all at its cycle; its units are counted from here on. The first best balance is the
+/// book's.
+pub fn solve_from<R: Threads + Wait + Sync, G: Gate>(
     rt: &R,
     alloc: Global,
     inst: &Instance,
@@ -117,11 +121,10 @@ fn solve_from<R: Threads + Wait + Sync, G: Gate>(
     requires same { book.about.line ≡ inst.now }
     requires cycle { IsCycle book.about.cycle }
     requires fits { FitsAll inst.now book.about.cycle }
-    requires empty { book.state.entries ≡ [] }
-    requires ranked { IsRankedBalance book.about.kind inst.now book.about.cycle book.state.best }
     requires reserved { IsReserved book }
     requires plan { IsPlan plan.now }
-    ensures { Solves book.about.kind inst.now book.about.cycle plan.now result }
+    ensures { let state = book.state in
+        SolvesFrom book.about.kind inst.now book.about.cycle plan.now state.entries state.best.stations result }
 {
     let Ok(purse) = fill(alloc, plan) else {
         return Outcome::NoMemory;
@@ -136,12 +139,14 @@ fn solve_from<R: Threads + Wait + Sync, G: Gate>(
 // What a run comes to whose questions ended.
 fn concluded(inst: &Instance, first: u32, asked: Asked) -> Outcome
     requires cycle { IsCycle asked.book.about.cycle }
-    requires run { IsRun asked.book.about.kind inst.now asked.book.about.cycle first asked.lower asked.book }
+    requires run { (before : List EntryOf) × (added : List EntryOf) × (top : ℕ)
+        × IsRun asked.book.about.kind inst.now asked.book.about.cycle before added top first asked.lower asked.book }
     requires first { first ≡ bound asked.book.about.kind inst.now asked.book.about.cycle (all_tasks inst.now) }
     requires fits { FitsAll inst.now asked.book.about.cycle }
-    ensures { (plan : PlanOf) (helpers : ℕ) → helpers ≤ plan.units → (plan.helpers ≡ 0 → helpers ≡ 0)
-        → HasAsked asked.book.about.kind inst.now asked.book.about.cycle plan.units helpers first asked
-        → Solves asked.book.about.kind inst.now asked.book.about.cycle plan result }
+    ensures { (before : List EntryOf) (top : ℕ) (plan : PlanOf) (helpers : ℕ) → helpers ≤ plan.units
+        → (plan.helpers ≡ 0 → helpers ≡ 0)
+        → HasAsked asked.book.about.kind inst.now asked.book.about.cycle before top plan.units helpers first asked
+        → SolvesFrom asked.book.about.kind inst.now asked.book.about.cycle plan before top result }
 {
     let _tasks = inst.tasks();
     let Asked {

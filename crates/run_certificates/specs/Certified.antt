@@ -1,5 +1,5 @@
 -- Certificates that runs for the least number of stations make of a line at a cycle.
-use Rattle.std.specs.Prelude.{◌≡◌, ℕ, ◌+◌, ◌*◌, ◌^◌, ◌<◌, ◌≤◌, List, Option, Some, None}
+use Rattle.std.specs.Prelude.{◌≡◌, ◌⊎◌, ℕ, ◌+◌, ◌*◌, ◌^◌, ◌<◌, ◌≤◌, List, [], ◌++◌, length, slice_get, Option, Some, None}
 use Rattle.line_instance.specs.Line.{Line, tasks}
 use Rattle.line_rules.specs.Accepted.{IsAccepted, IsInfeasible, IsLeastStations}
 use Rattle.line_rules.specs.Balance.{IsRight}
@@ -7,6 +7,7 @@ use Rattle.line_rules.specs.Entries.{IsFresh}
 use Rattle.line_rules.specs.Laws.{IsProved, NoBalanceIsLeft}
 use Rattle.line_rules.specs.Ranges.{IsInRange}
 use Rattle.line_rules.specs.Trails.{IsOpenOver}
+use Rattle.line_rules.specs.Units.{UnitsOf, UnitsWhole}
 use Rattle.line_rules.specs.declared.types.LineKind.{LineKind}
 use Rattle.line_rules.specs.declared.types.Balance.{Balance as Assignment}
 use Rattle.line_rules.specs.declared.types.Entry.{Entry}
@@ -30,7 +31,7 @@ about_stations kind line c said = record { kind = kind; tasks = tasks line; ask 
 
 -- A certificate of bounds: it claims `lower`, the stations of the balance as the upper bound, the balance, these entries and
 -- this trail. A text can say it; its balance is right; the check accepts it, with so many units, which are few enough for
--- the default steps; its bounds are true; and its entries are all at cycle c.
+-- the default steps; and its bounds are true.
 pub record IsCertified (kind : LineKind) (line : Line) (c lower : ℕ) (b : Assignment) (es : List Entry) (trail : Option Trail)
     (units : ℕ) (cert : Certificate) : Type 0 where
   pub said : cert ≡ about_stations kind line c (claim.Bounds lower b.stations b es trail)
@@ -39,30 +40,68 @@ pub record IsCertified (kind : LineKind) (line : Line) (c lower : ℕ) (b : Assi
   pub accepted : IsAccepted line cert lower b.stations units
   pub few : units ≤ max_units
   pub true_bounds : IsProved kind line (ask.Stations c) lower b.stations
-  pub cycles : AreAtCycle c es
 
--- The certificate of an optimum: both its bounds are the least number of stations, and it has no trail.
-pub record IsOptimum (kind : LineKind) (line : Line) (c : ℕ) (b : Assignment) (cert : Certificate) : Type 0 where
+-- each entry is at cycle c, or at the cycle of one of those before
+abbrev pub AreAtOrAs : ℕ → List Entry → List Entry → Type 0
+AreAtOrAs c before es =
+    (k : ℕ) (e : Entry) → slice_get es k ≡ Some e
+    → (e.cycle ≡ c) ⊎ ((j : ℕ) × (x : Entry) × ((slice_get before j ≡ Some x) × (e.cycle ≡ x.cycle)))
+
+-- each entry is at the cycle of an entry of the other list
+abbrev pub HaveCyclesOf : List Entry → List Entry → Type 0
+HaveCyclesOf es new =
+    (k : ℕ) (e : Entry) → slice_get new k ≡ Some e
+    → (j : ℕ) × (x : Entry) × ((slice_get es j ≡ Some x) × (e.cycle ≡ x.cycle))
+
+-- The entries with which a run of N units began: a certificate has room for them beside those of the run, and so have the
+-- default steps for their units.
+pub record LeaveRoom (line : Line) (N : ℕ) (before : List Entry) : Type 0 where
+  pub units : ℕ
+  pub counted : UnitsOf line before units
+  pub paid : units + 2 * N ≤ max_units
+  pub few : length before + 2 * N + 1025 ≤ 20000000
+
+-- The certificate of an optimum, of a run that began with some entries: both its bounds are the least number of stations,
+-- and it has no trail; its entries are at cycle c, or at cycles of those with which the run began.
+pub record IsOptimumFrom (kind : LineKind) (line : Line) (c : ℕ) (before : List Entry) (b : Assignment)
+    (cert : Certificate) : Type 0 where
   pub entries : List Entry
   pub units : ℕ
   pub certified : IsCertified kind line c b.stations b entries None units cert
   pub least : IsLeastStations kind line c b.stations
+  pub cycles : AreAtOrAs c before entries
 
--- The certificate of a search that used the units of its plan: its bounds differ; its entries, of which none is answered by
--- an earlier one, and its trail have at least these units, exactly so many without helpers; the trail is open over the
--- entries; and the units of the plan are below what the budget law allows.
-pub record IsStop (kind : LineKind) (line : Line) (c : ℕ) (plan : Plan) (lower : ℕ) (b : Assignment) (cert : Certificate)
-    : Type 0 where
+-- The certificate of a search that began with some entries and used the units of its plan: its bounds differ; its entries,
+-- of which none is answered by an earlier one, begin with those, and the others are at cycle c; these others and its trail
+-- have at least the units of the plan, exactly so many without helpers; the trail is open over the entries; and the units
+-- of the plan are below what the budget law allows.
+pub record IsStopFrom (kind : LineKind) (line : Line) (c : ℕ) (plan : Plan) (before : List Entry) (lower : ℕ)
+    (b : Assignment) (cert : Certificate) : Type 0 where
   pub entries : List Entry
+  pub added : List Entry
   pub frames : List OpenFrame
   pub units : ℕ
   pub certified : IsCertified kind line c lower b entries (Some (record { cycle = c; frames = frames })) units cert
+  pub begins : entries ≡ before ++ added
+  pub cycles : AreAtCycle c added
   pub below : lower < b.stations
-  pub least : plan.units ≤ units
-  pub alone : plan.helpers ≡ 0 → units ≡ plan.units
+  pub paid : ℕ
+  pub before_units : UnitsOf line before paid
+  pub listed : ℕ
+  pub counted : UnitsWhole line added (Some (record { cycle = c; frames = frames })) listed
+  pub sum : units ≡ paid + listed
+  pub least : plan.units ≤ listed
+  pub alone : plan.helpers ≡ 0 → listed ≡ plan.units
   pub fresh : IsFresh entries
   pub opens : IsOpenOver line c entries frames
   pub budget : plan.units < (tasks line + 1) * states kind ^ tasks line
+
+-- the same of a run that began with an empty book
+abbrev pub IsOptimum : LineKind → Line → ℕ → Assignment → Certificate → Type 0
+IsOptimum kind line c b cert = IsOptimumFrom kind line c [] b cert
+
+abbrev pub IsStop : LineKind → Line → ℕ → Plan → ℕ → Assignment → Certificate → Type 0
+IsStop kind line c plan lower b cert = IsStopFrom kind line c plan [] lower b cert
 
 -- The certificate that there is no balance, in any number of stations: it names the least task that is longer than the
 -- cycle.

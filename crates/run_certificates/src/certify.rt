@@ -1,5 +1,5 @@
 //! What a run proved, as a certificate.
-ghost use Rattle.std.specs.Prelude.{◌≡◌, ℕ, ◌-◌, ◌<◌, ◌≤◌, IfOk};
+ghost use Rattle.std.specs.Prelude.{◌≡◌, ℕ, ◌-◌, ◌<◌, ◌≤◌, List, IfOk};
 ghost use Rattle.task_set.specs.Truths.{full_to};
 ghost use Rattle.line_instance.specs.Line.{Line, IsLine};
 ghost use Rattle.line_rules.specs.Bounds.{IsTooLong};
@@ -7,12 +7,12 @@ ghost use Rattle.line_rules.specs.Checked.{IsLeastWhere};
 ghost use Rattle.line_rules.specs.Entries.{HasAnswer, IsDerived};
 ghost use Rattle.line_rules.specs.Ranges.{IsCycle, AreEntries};
 ghost use Rattle.line_rules.specs.Units.{UnitsOf};
+ghost use Rattle.line_rules.specs.declared.types.Entry.{Entry};
 ghost use Rattle.line_rules.specs.declared.types.LineKind.{LineKind as Kind};
 ghost use Rattle.cert_files.specs.Trim.{CitesEarlier};
-ghost use Rattle.round_helpers.specs.Growth.{AreAtCycle};
-ghost use Rattle.round_run.specs.Solving.{IsSolved, IsSpent};
+ghost use Rattle.round_run.specs.Solving.{IsSolved, IsSolvedFrom, IsSpent, IsSpentFrom};
 ghost use Rattle.round_run.specs.declared.plans.Plan.{Plan};
-ghost use Rattle.run_certificates.specs.Certified.{about_stations, IsOptimum, IsStop, IsNoBalance};
+ghost use Rattle.run_certificates.specs.Certified.{about_stations, HaveCyclesOf, LeaveRoom, IsOptimum, IsOptimumFrom, IsStop, IsStopFrom, IsNoBalance};
 
 use cert_files::trim;
 use lemma_core::Book;
@@ -50,7 +50,7 @@ fn proof_of(
     ensures units { IfOk result (λ new. (line : Line) (old : ℕ)
         → UnitsOf line entries old → (units : ℕ) × UnitsOf line new units × (units ≤ old)) }
     ensures ranges { IfOk result (λ new. (n : ℕ) → AreEntries n entries → AreEntries n new) }
-    ensures cycles { IfOk result (λ new. (X : ℕ) → AreAtCycle X entries → AreAtCycle X new) }
+    ensures cycles { IfOk result (HaveCyclesOf entries) }
 {
     if lower <= 1 {
         return Ok(Entries::from_vec(Vec::new(alloc)));
@@ -70,6 +70,24 @@ pub fn certify_optimum(
     requires cycle { IsCycle cycle }
     requires solved { (N : ℕ) × (N ≤ 3000000) × IsSolved kind inst.now cycle N book }
     ensures { IfOk result (IsOptimum kind inst.now cycle book.state.best) }
+{
+    certify_warm_optimum(alloc, inst, kind, cycle, book)
+}
+
+/// The same of a run that began with some entries, for which a certificate has room.
+pub fn certify_warm_optimum(
+    alloc: Global,
+    inst: &Instance,
+    kind: LineKind,
+    cycle: u64,
+    book: Book,
+) -> Result<Certificate, AllocError>
+    requires cycle { IsCycle cycle }
+    requires solved { (before : List Entry) × (N : ℕ) × LeaveRoom inst.now N before
+        × IsSolvedFrom kind inst.now cycle N before book }
+    ensures { IfOk result (λ cert. (before : List Entry) (N : ℕ) → LeaveRoom inst.now N before
+        → IsSolvedFrom kind inst.now cycle N before book
+        → IsOptimumFrom kind inst.now cycle before book.state.best cert) }
 {
     let tasks = inst.tasks();
     let (entries, balance) = book.into_parts();
@@ -99,6 +117,23 @@ pub fn certify_stop(
     ensures { (plan : Plan) → plan.units ≤ 3000000
         → IsSpent kind inst.now cycle plan lower book frames
         → IsStop kind inst.now cycle plan lower book.state.best result }
+{
+    certify_warm_stop(inst, kind, cycle, lower, book, frames)
+}
+
+/// The same of a run that began with some entries, for which a certificate has room.
+pub fn certify_warm_stop(
+    inst: &Instance,
+    kind: LineKind,
+    cycle: u64,
+    lower: u32,
+    book: Book,
+    frames: Frames,
+) -> Certificate
+    requires cycle { IsCycle cycle }
+    ensures { (before : List Entry) (top : ℕ) (plan : Plan) → LeaveRoom inst.now plan.units before
+        → IsSpentFrom kind inst.now cycle plan before top lower book frames
+        → IsStopFrom kind inst.now cycle plan before lower book.state.best result }
 {
     let (entries, balance) = book.into_parts();
     let upper = u64::from(balance.stations);

@@ -7,4 +7,6 @@
 
 mod certify;
 
-pub use certify::{certify_optimum, certify_stop, certify_too_long};
+pub use certify::{
+    certify_optimum, certify_stop, certify_too_long, certify_warm_optimum, certify_warm_stop,
+};

@@ -6,7 +6,7 @@ use Rattle.lemma_core.specs.Machine.{About}
 use Rattle.lemma_core.specs.Books.{MayBeBest}
 use Rattle.round_run.specs.Plans.{all_left}
 use Rattle.round_run.specs.Questions.{HasAsked}
-use Rattle.round_run.specs.Solving.{Solves}
+use Rattle.round_run.specs.Solving.{SolvesFrom}
 use Rattle.round_run.proofs.Endings.{begins}
 use Rattle.round_run.proofs.solving.solve_from.Goals as goal
 
@@ -19,21 +19,32 @@ ask_all-asked-requires-clause-begun g c κs within =
     ∙ (λ i. bound (c.kind.ensures i) c.args.inst.now (c.cycle.ensures i) (c.all.ensures.value i)) in
     begins c.args.inst.now c.bound-first.result c.args.book c.tasks-tasks.ensures.line c.requires.same
     c.requires.cycle.some
-    c.requires.empty (subst P c.best-right.ensures.best c.best-right.ensures.right) c.requires.ranked
-    c.requires.reserved first
+    (subst P c.best-right.ensures.best c.best-right.ensures.right) c.requires.reserved first
 
 pub ask_all-asked-requires-clause-fresh : goal.ask_all-asked-requires-clause-fresh
 ask_all-asked-requires-clause-fresh g c κs within = (c.in-Ok.ensures.used, c.in-Ok.ensures.none_used)
 
+pub concluded-requires-clause-run : goal.concluded-requires-clause-run
+concluded-requires-clause-run g c =
+    let P : About → Type 0 =
+    λ z. HasAsked z.kind c.args.inst.now z.cycle c.args.book.state.entries c.args.book.state.best.stations
+    c.in-Ok.purse.closing.left (all_left c.in-Ok.purse.helper.items) c.bound-first.result c.ask_all-asked.result in
+    let h = subst P (sym c.ask_all-asked.ensures.run.about) c.ask_all-asked.ensures in
+    (c.args.book.state.entries, h.added, c.args.book.state.best.stations, h.run)
+
 pub returns : goal.returns
 returns g c =
     let P : About → Type 0 =
-    λ z. HasAsked z.kind c.args.inst.now z.cycle c.in-Ok.purse.closing.left (all_left c.in-Ok.purse.helper.items)
-    c.bound-first.result c.ask_all-asked.result in
+    λ z. HasAsked z.kind c.args.inst.now z.cycle c.args.book.state.entries c.args.book.state.best.stations
+    c.in-Ok.purse.closing.left (all_left c.in-Ok.purse.helper.items) c.bound-first.result c.ask_all-asked.result in
     let N : ℕ → Type 0 =
-    λ z. HasAsked c.ask_all-asked.result.book.about.kind c.args.inst.now c.ask_all-asked.result.book.about.cycle z
-    (all_left c.in-Ok.purse.helper.items) c.bound-first.result c.ask_all-asked.result in
-    let Q : About → Type 0 = λ z. Solves z.kind c.args.inst.now z.cycle c.args.plan.now c.concluded.result in
-    subst Q c.ask_all-asked.ensures.run.about (c.concluded.ensures c.args.plan.now
+    λ z. HasAsked c.ask_all-asked.result.book.about.kind c.args.inst.now c.ask_all-asked.result.book.about.cycle
+    c.args.book.state.entries c.args.book.state.best.stations z (all_left c.in-Ok.purse.helper.items)
+    c.bound-first.result c.ask_all-asked.result in
+    let Q : About → Type 0 =
+    λ z. SolvesFrom z.kind c.args.inst.now z.cycle c.args.plan.now c.args.book.state.entries
+    c.args.book.state.best.stations c.concluded.result in
+    subst Q c.ask_all-asked.ensures.run.about (c.concluded.ensures c.args.book.state.entries
+    c.args.book.state.best.stations c.args.plan.now
     (all_left c.in-Ok.purse.helper.items) c.in-Ok.ensures.few c.in-Ok.ensures.alone
     (subst N c.in-Ok.ensures.left (subst P (sym c.ask_all-asked.ensures.run.about) c.ask_all-asked.ensures)))
