@@ -1,8 +1,8 @@
 //! Certificates of the least product of stations and cycle (Scholl's SALBP-E), and their text.
 //!
 //! The text is that of a certificate, line by line, with the range of stations that is asked for in place of a
-//! question, and with bounds on a product. It has one spelling. Writing takes one pass over the entries, and reading one
-//! over the bytes.
+//! question, and with bounds on a product. It has one spelling. Writing takes one pass over the entries, and reading
+//! one over the bytes.
 #![tactic(auto)]
 
 mod cert;
