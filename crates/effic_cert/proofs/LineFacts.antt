@@ -1,11 +1,10 @@
 -- What is read of the lines that other certificates lack decides what they say.
-use Rattle.std.proofs.Common.{◌≡◌, ◌≢◌, ℕ, ◌<◌, ◌≤◌, ◌≡◌, true, false, List, min, refl, sym, ◌∙◌, ap, subst, arith}
+use Rattle.std.proofs.Common.{◌≡◌, ◌≢◌, ℕ, ◌<◌, ◌≡◌, true, false, List, min, refl, sym, ◌∙◌, ap, subst, arith}
 use Rattle.std.proofs.Common.{Some, None, lit≤}
 use Rattle.std.specs.Prelude.{codes, bytes_eq}
 use Rattle.std.proofs.lemmas.Option.{same_Some, none-some}
 use Rattle.cert_lines.specs.Rows.{Row, fixed, keyed, span, seat, bound, branch, swap, trail, frame, two_numbers}
 use Rattle.cert_lines.specs.Rows.{form_of, row_text}
-use Rattle.cert_lines.specs.Reading.{greatest}
 use Rattle.cert_lines.specs.Judging.{HasFormOf}
 use Rattle.cert_lines.proofs.NumberWords.{lacks}
 use Rattle.cert_lines.proofs.CiteWords.{sat}

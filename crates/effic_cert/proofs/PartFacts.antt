@@ -1,9 +1,6 @@
 -- The parts of the text of a certificate of a product, and that each part's lines say one value at most.
-use Rattle.std.proofs.Common.{◌≡◌, ℕ, ◌≤◌, List, [], ◌∷◌, ◌++◌, length, refl, Option, None, Ok, Err, Result, lit≤, lit<}
-use Rattle.std.proofs.Common.{sym, ap, append_assoc}
+use Rattle.std.proofs.Common.{ℕ, ◌≤◌, List, refl, Ok, lit≤, lit<}
 use Rattle.std.specs.Prelude.{codes}
-use Rattle.std.proofs.lemmas.Option.{none-some}
-use Rattle.line_rules.specs.Ranges.{IsCycle, IsPlacing}
 use Rattle.line_rules.specs.declared.types.LineKind.{LineKind}
 use Rattle.line_rules.specs.declared.types.LineKind.TheVariants.{Straight}
 use Rattle.line_rules.specs.declared.types.Balance.{Balance as Assignment}

@@ -1,4 +1,3 @@
-use Rattle.std.proofs.Common.{refl}
 use Rattle.cert_text.proofs.Putting.{puts_as, ◌▹◌}
 use Rattle.std.proofs.lemmas.List.{append-nil}
 use Rattle.effic_cert.proofs.writing.put_bounds.Goals as goal

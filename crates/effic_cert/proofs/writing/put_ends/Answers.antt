@@ -1,6 +1,6 @@
-use Rattle.std.proofs.Common.{refl, append_assoc}
+use Rattle.std.proofs.Common.{append_assoc}
 use Rattle.cert_lines.specs.Rows.{row_text}
-use Rattle.cert_text.proofs.Putting.{puts, number_as, ◌▹◌}
+use Rattle.cert_text.proofs.Putting.{number_as, ◌▹◌}
 use Rattle.cert_text.proofs.Putting.{puts_as}
 use Rattle.effic_cert.proofs.writing.put_ends.Goals as goal
 

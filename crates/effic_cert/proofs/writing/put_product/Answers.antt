@@ -1,6 +1,6 @@
-use Rattle.std.proofs.Common.{◌∙◌, ◌++◌, ◌∷◌, [], ap, sym}
+use Rattle.std.proofs.Common.{◌∙◌, ◌++◌, ◌∷◌, [], ap}
 use Rattle.std.specs.Prelude.{codes}
-use Rattle.cert_lines.specs.Rows.{rows_text, line_text, fixed, row_text}
+use Rattle.cert_lines.specs.Rows.{rows_text, fixed, row_text}
 use Rattle.cert_text.specs.Cert.{list_rows}
 use Rattle.cert_text.proofs.Putting.{puts_as, ◌▹◌}
 use Rattle.cert_text.proofs.Spelling.{rows_append}

@@ -1,4 +1,4 @@
-use Rattle.std.proofs.Common.{◌≡◌, ◌∙◌, sym, ap, arith, Some}
+use Rattle.std.proofs.Common.{◌∙◌, sym, ap, arith}
 use Rattle.effic_cert.specs.Product.{IsProduct}
 use Rattle.effic_cert.specs.Parts.{bound_text}
 use Rattle.effic_cert.specs.WideReading.{wide_keyed_in}
