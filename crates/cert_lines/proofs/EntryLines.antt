@@ -7,7 +7,7 @@ use Rattle.line_io.specs.Lines.{value_of}
 use Rattle.line_rules.specs.declared.types.Mode.{Mode}
 use Rattle.line_rules.specs.declared.types.Mode.TheVariants.{Fore, Back, Both}
 use Rattle.cert_lines.specs.Numbers.{number_text, set_text, cites_text, mode_letter}
-use Rattle.cert_lines.specs.Rows.{Row, fixed, keyed, seat, bound, branch, swap, trail, frame, entry, form_of, given, row_text}
+use Rattle.cert_lines.specs.Rows.{Row, fixed, keyed, span, seat, bound, branch, swap, trail, frame, entry, form_of, given, row_text}
 use Rattle.cert_lines.specs.Reading.{◌>>=◌, parts_at, number_in, number_first, set_in, mode_in, cites_in}
 use Rattle.cert_lines.specs.LineReading.{cycle_first, bound_in, branch_in, swap_in, entry_in}
 use Rattle.cert_lines.specs.declared.draft.Draft.{Draft}
@@ -36,6 +36,7 @@ draft_of g (branch n c mode s m cites) = record { cycle = cycle_of g c; set = cl
 draft_of g (swap n c s m cite out into) = record { cycle = cycle_of g c; set = clip n s; most = sat m; why = why.Swap (sat cite) (sat out) (sat into) }
 draft_of g (fixed t) = record { cycle = 0; set = []; most = 0; why = why.Bound }
 draft_of g (keyed key v) = record { cycle = 0; set = []; most = 0; why = why.Bound }
+draft_of g (span key v w) = record { cycle = 0; set = []; most = 0; why = why.Bound }
 draft_of g (seat kind station side) = record { cycle = 0; set = []; most = 0; why = why.Bound }
 draft_of g (trail t) = record { cycle = 0; set = []; most = 0; why = why.Bound }
 draft_of g (frame n mode s m last cites) = record { cycle = 0; set = []; most = 0; why = why.Bound }
@@ -140,6 +141,7 @@ entry_again n g (swap k c s m cite out into) e =
     ∙ split_word k g (codes "swap") (front c (set_text k s ++ 32 ∷ (number_text m ++ 32 ∷ (number_text cite ++ 32 ∷ (number_text out ++ 32 ∷ number_text into))))) refl ∙ swap_again k g c s m cite out into f.1)
 entry_again n g (fixed t) e = (cc)
 entry_again n g (keyed key v) e = (cc)
+entry_again n g (span key v w) e = (cc)
 entry_again n g (seat kind station side) e = (cc)
 entry_again n g (trail t) e = (cc)
 entry_again n g (frame k mode s m last cites) e = (cc)

@@ -13,7 +13,7 @@ use Rattle.line_rules.specs.declared.types.Ask.{Ask}
 use Rattle.line_rules.specs.declared.types.Ask.TheVariants as ask
 use Rattle.std.proofs.lemmas.Bool.{false≢true}
 use Rattle.cert_lines.specs.Numbers.{number_text}
-use Rattle.cert_lines.specs.Rows.{Row, fixed, keyed, seat, bound, branch, swap, trail, frame, number, text, form_of, row_text}
+use Rattle.cert_lines.specs.Rows.{Row, fixed, keyed, span, seat, bound, branch, swap, trail, frame, number, text, form_of, row_text}
 use Rattle.cert_lines.specs.Reading.{greatest, parts_at}
 use Rattle.cert_lines.specs.LineReading.{keyed_in}
 use Rattle.cert_lines.specs.ValueRows.{ask_row, kind_row}
@@ -34,9 +34,10 @@ small n x e h = omega (arith, e, h)
 pub small_is : (n : ℕ) → n < greatest → sat n ≡ n
 small_is n h = omega (arith, h)
 
-keyed_only : (r : Row) (key : List ℕ) → form_of r ≡ number key → (n : ℕ) × (r ≡ keyed key n)
+pub keyed_only : (r : Row) (key : List ℕ) → form_of r ≡ number key → (n : ℕ) × (r ≡ keyed key n)
 keyed_only (keyed k v) key e = let s : k ≡ key = cc in (v, ap (λ z. keyed z v) s)
 keyed_only (fixed t) key e = (cc)
+keyed_only (span k v w) key e = (cc)
 keyed_only (seat kind station side) key e = (cc)
 keyed_only (bound n c s m) key e = (cc)
 keyed_only (branch n c mode s m cites) key e = (cc)
@@ -91,6 +92,7 @@ fixed_is line t u e s = fixed_text t ∙ sym s ∙ sym ((bytes_eq-Decides line u
 fixed_only : (r : Row) (t : List ℕ) → form_of r ≡ text t → r ≡ fixed t
 fixed_only (fixed u) t e = let s : u ≡ t = cc in ap fixed s
 fixed_only (keyed key v) t e = (cc)
+fixed_only (span key v w) t e = (cc)
 fixed_only (seat kind station side) t e = (cc)
 fixed_only (bound n c s m) t e = (cc)
 fixed_only (branch n c mode s m cites) t e = (cc)

@@ -12,7 +12,7 @@ use Rattle.line_rules.specs.declared.types.Why.{Why}
 use Rattle.line_rules.specs.declared.types.Why.TheVariants as whys
 use Rattle.line_rules.specs.declared.types.OpenFrame.{OpenFrame}
 use Rattle.cert_lines.specs.Numbers.{number_text, set_text, cites_text, mode_letter}
-use Rattle.cert_lines.specs.Rows.{Row, fixed, keyed, seat, bound, branch, swap, trail, frame, entry, open_frame, given, form_of, row_text}
+use Rattle.cert_lines.specs.Rows.{Row, fixed, keyed, span, seat, bound, branch, swap, trail, frame, entry, open_frame, given, form_of, row_text}
 use Rattle.cert_lines.specs.ValueRows.{frame_row, why_row}
 use Rattle.cert_lines.specs.Reading.{greatest}
 use Rattle.cert_lines.specs.LineReading.{entry_in, frame_in}
@@ -184,6 +184,7 @@ row_said n count g (swap k c s m cite out into) a b e w =
     subst P f.0 (λ l v. swap_said k count g c s m cite out into l b f.1 v) a w
 row_said n count g (fixed t) a b e w = (cc)
 row_said n count g (keyed key v) a b e w = (cc)
+row_said n count g (span key x y) a b e w = (cc)
 row_said n count g (seat kind station side) a b e w = (cc)
 row_said n count g (trail t) a b e w = (cc)
 row_said n count g (frame k mode s m last cites) a b e w = (cc)
@@ -200,6 +201,7 @@ frame_only : (r : Row) (n : ℕ) → form_of r ≡ open_frame n → (mode : Mode
 frame_only (frame k mode s m last cites) n e = let q : k ≡ n = cc in (mode, s, m, last, cites, ap (λ z. frame z mode s m last cites) q)
 frame_only (fixed t) n e = (cc)
 frame_only (keyed key v) n e = (cc)
+frame_only (span key v w) n e = (cc)
 frame_only (seat kind station side) n e = (cc)
 frame_only (bound k c s m) n e = (cc)
 frame_only (branch k c mode s m cites) n e = (cc)

@@ -8,7 +8,7 @@ use Rattle.line_rules.specs.declared.types.LineKind.TheVariants.{Straight, U}
 use Rattle.line_rules.specs.declared.types.Side.{Side}
 use Rattle.line_rules.specs.declared.types.Side.TheVariants.{Front}
 use Rattle.line_rules.specs.declared.types.Seatplace.{Seatplace}
-use Rattle.cert_lines.specs.Rows.{Row, fixed, keyed, seat, bound, branch, swap, trail, frame, place, head, form_of, row_text}
+use Rattle.cert_lines.specs.Rows.{Row, fixed, keyed, span, seat, bound, branch, swap, trail, frame, place, head, form_of, row_text}
 use Rattle.cert_lines.specs.ValueRows.{seat_row}
 use Rattle.cert_lines.specs.LineReading.{seat_in, trail_in}
 use Rattle.cert_lines.specs.Judging.{HasFormOf}
@@ -24,6 +24,7 @@ seat_only : (r : Row) (kind : LineKind) → form_of r ≡ place kind → (n : �
 seat_only (seat k n side) kind e = let s : k ≡ kind = cc in (n, side, ap (λ z. seat z n side) s)
 seat_only (fixed t) kind e = (cc)
 seat_only (keyed key v) kind e = (cc)
+seat_only (span key v w) kind e = (cc)
 seat_only (bound n c s m) kind e = (cc)
 seat_only (branch n c mode s m cites) kind e = (cc)
 seat_only (swap n c s m cite out into) kind e = (cc)
@@ -63,6 +64,7 @@ trail_only : (r : Row) → form_of r ≡ head → (t : Option (ℕ × ℕ)) × (
 trail_only (trail t) e = (t, refl)
 trail_only (fixed t) e = (cc)
 trail_only (keyed key v) e = (cc)
+trail_only (span key v w) e = (cc)
 trail_only (seat kind n side) e = (cc)
 trail_only (bound n c s m) e = (cc)
 trail_only (branch n c mode s m cites) e = (cc)

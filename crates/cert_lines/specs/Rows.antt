@@ -9,11 +9,13 @@ use Rattle.line_rules.specs.declared.types.Mode.{Mode}
 use Rattle.line_rules.specs.declared.types.Load.{Load}
 use Rattle.cert_lines.specs.Numbers.{number_text, set_text, cites_text, mode_letter, last_text}
 
--- What a line says, its numbers as they are written and of any size: a fixed text; a word and a number; a station, and a side on a U-line;
+-- What a line says, its numbers as they are written and of any size: a fixed text; a word and a number; a word and two numbers; a station,
+-- and a side on a U-line;
 -- an entry over so many tasks, with its cycle or without; the head of a trail, its number of frames and its cycle where it has frames; a frame.
 pub data Row : Type 0 where
   fixed : List ℕ → Row
   keyed : List ℕ → ℕ → Row
+  span : List ℕ → ℕ → ℕ → Row
   seat : LineKind → ℕ → Side → Row
   bound : ℕ → Option ℕ → List Bool → ℕ → Row
   branch : ℕ → Option ℕ → Mode → List Bool → ℕ → List ℕ → Row
@@ -21,11 +23,12 @@ pub data Row : Type 0 where
   trail : Option (ℕ × ℕ) → Row
   frame : ℕ → Mode → List Bool → ℕ → Option Load → List ℕ → Row
 
--- the form of a line: a fixed text, a word before a number, a place on such a line, an entry over so many tasks, the head of a trail, a
+-- the form of a line: a fixed text, a word before a number, a word before two, a place on such a line, an entry over so many tasks, the head of a trail, a
 -- frame over so many tasks
 pub data Form : Type 0 where
   text : List ℕ → Form
   number : List ℕ → Form
+  two_numbers : List ℕ → Form
   place : LineKind → Form
   entry : ℕ → Bool → Form
   head : Form
@@ -40,6 +43,7 @@ given (Some c) = true
 abbrev pub form_of : Row → Form
 form_of (fixed t) = text t
 form_of (keyed key v) = number key
+form_of (span key v w) = two_numbers key
 form_of (seat kind station side) = place kind
 form_of (bound n c s m) = entry n (given c)
 form_of (branch n c mode s m cites) = entry n (given c)
@@ -73,6 +77,7 @@ trail_words (Some t) = codes "trail" ∷ number_text t.0 ∷ codes "at" ∷ numb
 unfoldable pub row_text : Row → List ℕ
 row_text (fixed t) = t
 row_text (keyed key v) = spaced (key ∷ number_text v ∷ [])
+row_text (span key v w) = spaced (key ∷ number_text v ∷ number_text w ∷ [])
 row_text (seat kind station side) = spaced (seat_words kind station side)
 row_text (bound n c s m) = spaced (codes "bound" ∷ cycle_word c ++ (set_text n s ∷ number_text m ∷ []))
 row_text (branch n c mode s m cites) =

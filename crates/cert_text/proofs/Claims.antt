@@ -27,7 +27,7 @@ use Rattle.cert_lines.proofs.OtherLines.{keyed_again}
 use Rattle.cert_text.proofs.Sequencing.{unique_then, Unique, unique_one, Same, same_read, same_error, both_read, second_error}
 use Rattle.cert_lines.specs.declared.fault.ReadError.{ReadError}
 use Rattle.cert_lines.specs.declared.fault.ReadError.TheVariants as errors
-use Rattle.cert_text.proofs.Wholes.{unique_same, unique_placings, unique_lists, unique_heads, some_behind, placing_said, within}
+use Rattle.cert_text.proofs.Wholes.{unique_same, unique_placings, unique_lists, unique_heads, some_seating, placing_said, within}
 
 -- the end
 abbrev pub end_grammar : Grammar (Unit {0})
@@ -43,16 +43,16 @@ abbrev no_list : EntryList
 no_list = record { entries = []; trail = None }
 
 abbrev pub no_places : Placed
-no_places = record { upper = 0; stations = 0; places = [] }
+no_places = record { upper = 0; balance = record { stations = 0; place = [] } }
 
 from_claim : Claim → Placed × (EntryList × Unit {0})
 from_claim (claim.TooLong t) = (no_places, (no_list, tt))
-from_claim (claim.Bounds l u b es t) = (record { upper = u; stations = b.stations; places = b.place }, (record { entries = es; trail = t }, tt))
+from_claim (claim.Bounds l u b es t) = (record { upper = u; balance = b }, (record { entries = es; trail = t }, tt))
 
 pub same_bounds : (kind : LineKind) (n lower : ℕ) → IsCycle lower → Same (bounds_parts kind n) (opened kind n (opening.Lower lower))
 unfolding from_claim
 same_bounds kind n lower c = record {
-  to = λ v. claim.Bounds lower v.0.upper (record { stations = v.0.stations; place = v.0.places }) v.1.0.entries v.1.0.trail;
+  to = λ v. claim.Bounds lower v.0.upper v.0.balance v.1.0.entries v.1.0.trail;
   from = from_claim;
   to_ranged = λ v r. (refl, record { from = c; up_to = r.0.upper; balance = r.0.balance; entries = r.1.0.0; trail = r.1.0.1 });
   from_ranged = from_range;
@@ -69,7 +69,7 @@ same_bounds kind n lower c = record {
     from_row (claim.Bounds l u b es t) r = refl
 
 pub bounds_read : (kind : LineKind) (n lower : ℕ) (p : Placed) (l : EntryList) (passed after : ℕ) (text rest : List ℕ) → IsCycle lower → IsRead (bounds_parts kind n) passed text rest after (Ok (p, (l, tt)))
-    → IsRead (opened kind n (opening.Lower lower)) passed text rest after (Ok (claim.Bounds lower p.upper (record { stations = p.stations; place = p.places }) l.entries l.trail))
+    → IsRead (opened kind n (opening.Lower lower)) passed text rest after (Ok (claim.Bounds lower p.upper p.balance l.entries l.trail))
 unfolding same_bounds
 bounds_read kind n lower p l passed after text rest c h = same_read (bounds_parts kind n) (opened kind n (opening.Lower lower)) passed after text rest (p, (l, tt)) (same_bounds kind n lower c) h
 
@@ -116,8 +116,8 @@ opening_cycle (ask.Cycle m) n l h = h
 pub some_placing : (kind : LineKind) (n : ℕ) → (p : Placed) × IsPlacedOf kind n p
 some_placing kind n =
     let u : within 1 1000000000000000000 1 = (lit≤ tt, lit≤ tt) in
-    let s = some_behind kind n 1 u in
-    (record { upper = 1; stations = s.0.0; places = s.0.1 }, placing_said kind n 1 s.0.0 s.0.1 u s.1.0 s.1.1)
+    let s = some_seating kind n in
+    (record { upper = 1; balance = s.0 }, placing_said kind n 1 s.0 u s.1)
 
 no_entries : (n : ℕ) → AreEntries n []
 no_entries n = record { many = lit≤ tt; each = λ k e q. absurd (none-some e q) }
@@ -129,7 +129,7 @@ pub some_opened : (a : Ask) (kind : LineKind) (n : ℕ) (o : Opening) → IsOpen
 some_opened a kind n (opening.TooLong t) h = (claim.TooLong t, refl)
 some_opened a kind n (opening.Lower l) h =
     let p = some_placing kind n in (
-      claim.Bounds l p.0.upper (record { stations = p.0.stations; place = p.0.places }) [] None,
+      claim.Bounds l p.0.upper p.0.balance [] None,
       (refl, record { from = opening_cycle a n l h; up_to = p.1.upper; balance = p.1.balance; entries = no_entries n; trail = tt }),
     )
 

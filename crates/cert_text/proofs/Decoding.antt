@@ -22,7 +22,7 @@ use Rattle.line_rules.specs.declared.types.Claim.{Claim}
 use Rattle.line_rules.specs.declared.types.Claim.TheVariants as claim
 use Rattle.line_rules.specs.declared.types.Certificate.{Certificate}
 use Rattle.cert_lines.specs.Numbers.{number_text, set_text, cites_text, mode_letter, last_text}
-use Rattle.cert_lines.specs.Rows.{Row, fixed, keyed, seat, bound, branch, swap, trail, frame, spaced, row_text, rows_text, lines_text}
+use Rattle.cert_lines.specs.Rows.{Row, fixed, keyed, span, seat, bound, branch, swap, trail, frame, spaced, row_text, rows_text, lines_text}
 use Rattle.cert_lines.specs.ValueRows.{kind_row, ask_row, seat_row, why_row, entry_row, frame_row}
 use Rattle.cert_text.specs.Cert.{trail_rows, list_rows, head_rows, claim_rows, cert_rows, cert_text}
 use Rattle.cert_text.specs.OldCert.{short_row, old_trail_rows, part_rows, parts_rows, counted_rows, old_claim_rows, old_rows}
@@ -82,9 +82,10 @@ last_lacks n Back (Some l) = set_lacks n l.back
 last_lacks n Both (Some l) = lacks_append 10 (set_text n l.front) (47 ∷ set_text n l.back) (set_lacks n l.front) (set_lacks n l.back)
 
 -- a fixed text and a word without an LF
-abbrev IsPlain : Row → Type 0
+abbrev pub IsPlain : Row → Type 0
 IsPlain (fixed t) = lacks 10 t ≡ true
 IsPlain (keyed key v) = lacks 10 key ≡ true
+IsPlain (span key v w) = lacks 10 key ≡ true
 IsPlain (seat kind n side) = Unit {0}
 IsPlain (bound n c s m) = Unit {0}
 IsPlain (branch n c mode s m cites) = Unit {0}
@@ -93,7 +94,7 @@ IsPlain (trail t) = Unit {0}
 IsPlain (frame n mode s m last cites) = Unit {0}
 
 -- no word has an LF
-abbrev AllLack : List (List ℕ) → Type 0
+abbrev pub AllLack : List (List ℕ) → Type 0
 AllLack [] = Unit {0}
 AllLack (l ∷ ls) = (lacks 10 l ≡ true) × AllLack ls
 
@@ -102,10 +103,11 @@ words_lack [] h = refl
 words_lack (w ∷ []) h = h.0
 words_lack (w ∷ v ∷ ws) h = spaced_lacks w (spaced (v ∷ ws)) h.0 (words_lack (v ∷ ws) h.1)
 
-row_lacks : (r : Row) → IsPlain r → lacks 10 (row_text r) ≡ true
+pub row_lacks : (r : Row) → IsPlain r → lacks 10 (row_text r) ≡ true
 unfolding row_text
 row_lacks (fixed t) h = h
 row_lacks (keyed key v) h = spaced_lacks key (number_text v) h (number_lacks v)
+row_lacks (span key v w) h = words_lack (key ∷ number_text v ∷ number_text w ∷ []) (h, (number_lacks v, (number_lacks w, tt)))
 row_lacks (seat Straight n side) h = number_lacks n
 row_lacks (seat U n Front) h = spaced_lacks (number_text n) (codes "f") (number_lacks n) refl
 row_lacks (seat U n AtBack) h = spaced_lacks (number_text n) (codes "b") (number_lacks n) refl
@@ -134,7 +136,7 @@ lack_front : (a b : List (List ℕ)) → AllLack (a ++ b) → AllLack a
 lack_front [] b e = tt
 lack_front (l ∷ a) b e = (e.0, lack_front a b e.1)
 
-lack_map : {X : Type 0} (row : X → Row) (xs : List X) → ((x : X) → lacks 10 (row_text (row x)) ≡ true) → AllLack (texts (map row xs))
+pub lack_map : {X : Type 0} (row : X → Row) (xs : List X) → ((x : X) → lacks 10 (row_text (row x)) ≡ true) → AllLack (texts (map row xs))
 lack_map row [] h = tt
 lack_map row (x ∷ xs) h = (h x, lack_map row xs h)
 
@@ -147,10 +149,10 @@ trail_lacks : (n : ℕ) (t : Option Trail) → AllLack (texts (trail_rows n t))
 trail_lacks n None = (row_lacks (trail None) tt, tt)
 trail_lacks n (Some t) = (row_lacks (trail (Some (length t.frames, t.cycle))) tt, lack_map (frame_row n) t.frames (λ f. row_lacks (frame_row n f) tt))
 
-lack_both : (a b : List Row) → AllLack (texts a) → AllLack (texts b) → AllLack (texts (a ++ b))
+pub lack_both : (a b : List Row) → AllLack (texts a) → AllLack (texts b) → AllLack (texts (a ++ b))
 lack_both a b e f = let P : List (List ℕ) → Type 0 = AllLack in subst P (sym (map-append row_text a b)) (lack_append (texts a) (texts b) e f)
 
-list_lacks : (n : ℕ) (es : List Entry) (t : Option Trail) → AllLack (texts (list_rows n es t))
+pub list_lacks : (n : ℕ) (es : List Entry) (t : Option Trail) → AllLack (texts (list_rows n es t))
 list_lacks n es t =
     (row_lacks (keyed (codes "entries") (length es)) refl, lack_both (map (entry_row n) es) (trail_rows n t) (lack_map (entry_row n) es (λ e. why_lacks n e.cycle e e.why)) (trail_lacks n t))
 

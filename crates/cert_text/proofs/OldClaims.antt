@@ -50,12 +50,12 @@ old_bounds_parts kind n = then_ (placings kind n) (λ p. old_bounds_behind n)
 
 from_old_claim : OldClaim → Placed × (List Part × Unit {0})
 from_old_claim (claim.TooLong t) = (no_places, ([], tt))
-from_old_claim (claim.Bounds l u b ps) = (record { upper = u; stations = b.stations; places = b.place }, (ps, tt))
+from_old_claim (claim.Bounds l u b ps) = (record { upper = u; balance = b }, (ps, tt))
 
 pub same_old_bounds : (kind : LineKind) (n lower : ℕ) → IsCycle lower → Same (old_bounds_parts kind n) (old_opened kind n (opening.Lower lower))
 unfolding from_old_claim
 same_old_bounds kind n lower c = record {
-  to = λ v. claim.Bounds lower v.0.upper (record { stations = v.0.stations; place = v.0.places }) v.1.0;
+  to = λ v. claim.Bounds lower v.0.upper v.0.balance v.1.0;
   from = from_old_claim;
   to_ranged = λ v r. (refl, record { from = c; up_to = r.0.upper; balance = r.0.balance; parts = r.1.0 });
   from_ranged = from_range;
@@ -72,7 +72,7 @@ same_old_bounds kind n lower c = record {
     from_row (claim.Bounds l u b ps) r = refl
 
 pub old_bounds_read : (kind : LineKind) (n lower : ℕ) (p : Placed) (ps : List Part) (passed after : ℕ) (text rest : List ℕ) → IsCycle lower → IsRead (old_bounds_parts kind n) passed text rest after (Ok (p, (ps, tt)))
-    → IsRead (old_opened kind n (opening.Lower lower)) passed text rest after (Ok (claim.Bounds lower p.upper (record { stations = p.stations; place = p.places }) ps))
+    → IsRead (old_opened kind n (opening.Lower lower)) passed text rest after (Ok (claim.Bounds lower p.upper p.balance ps))
 unfolding same_old_bounds
 old_bounds_read kind n lower p ps passed after text rest c h = same_read (old_bounds_parts kind n) (old_opened kind n (opening.Lower lower)) passed after text rest (p, (ps, tt)) (same_old_bounds kind n lower c) h
 
@@ -84,7 +84,7 @@ pub some_old_opened : (a : Ask) (kind : LineKind) (n : ℕ) (o : Opening) → Is
 some_old_opened a kind n (opening.TooLong t) h = (claim.TooLong t, refl)
 some_old_opened a kind n (opening.Lower l) h =
     let p = some_placing kind n in (
-      claim.Bounds l p.0.upper (record { stations = p.0.stations; place = p.0.places }) [],
+      claim.Bounds l p.0.upper p.0.balance [],
       (refl, record { from = opening_cycle a n l h; up_to = p.1.upper; balance = p.1.balance; parts = tt }),
     )
 

@@ -3,7 +3,7 @@ use Rattle.std.proofs.Common.{◌≡◌, ℕ, zero, suc, ◌-◌, ◌<◌, ◌�
 use Rattle.std.specs.Prelude.{codes, slice_get}
 use Rattle.std.proofs.lemmas.Option.{same_Some, none-some}
 use Rattle.std.proofs.lemmas.List.{ext_get_or, get_or-replicate, length-replicate}
-use Rattle.line_rules.specs.Ranges.{IsCycle, IsAsked, IsPlaced, AreEntries, IsEntry, IsWhy, IsFrame, IsLast, IsLoadLike, IsTrailOrNone}
+use Rattle.line_rules.specs.Ranges.{IsCycle, IsAsked, IsPlaced, IsPlacing, AreEntries, IsEntry, IsWhy, IsFrame, IsLast, IsLoadLike, IsTrailOrNone}
 use Rattle.task_set.specs.Truths.{IsEmpty}
 use Rattle.line_rules.specs.Balance.{IsSide}
 use Rattle.line_rules.specs.declared.types.LineKind.{LineKind}
@@ -14,6 +14,7 @@ use Rattle.line_rules.specs.declared.types.Load.{Load}
 use Rattle.line_rules.specs.declared.types.Side.{Side}
 use Rattle.line_rules.specs.declared.types.Side.TheVariants.{Front}
 use Rattle.line_rules.specs.declared.types.Seatplace.{Seatplace}
+use Rattle.line_rules.specs.declared.types.Balance.{Balance as Assignment}
 use Rattle.line_rules.specs.declared.types.Entry.{Entry}
 use Rattle.line_rules.specs.declared.types.Why.{Why}
 use Rattle.line_rules.specs.declared.types.Why.TheVariants as whys
@@ -29,7 +30,7 @@ use Rattle.cert_lines.specs.LineReading.{keyed_in, seat_in, trail_in, entry_in, 
 use Rattle.cert_lines.specs.Faults.{Grammar}
 use Rattle.cert_lines.specs.Judging.{one, AreSaid, each, then_, IsRead}
 use Rattle.cert_lines.specs.Patterns.{IsHead, IsSaid, given_row, entry_of, frame_of}
-use Rattle.cert_text.specs.Parts.{IsPlacedOf, heads, trails, lists, placings}
+use Rattle.cert_text.specs.Parts.{IsPlacedOf, heads, trails, lists, seatings, placings}
 use Rattle.cert_lines.proofs.NumberWords.{lacks}
 use Rattle.cert_lines.proofs.SetText.{clip, clip_same}
 use Rattle.cert_lines.proofs.CiteWords.{sat}
@@ -321,8 +322,8 @@ seats_of kind n m = each (seat_row kind) (IsPlaced kind m) n
 abbrev pub seats_behind : LineKind → ℕ → Grammar (ℕ × List Seatplace)
 seats_behind kind n = then_ station_numbers (seats_of kind n)
 
-abbrev pub placing_parts : LineKind → ℕ → Grammar (ℕ × (ℕ × List Seatplace))
-placing_parts kind n = then_ uppers (λ u. seats_behind kind n)
+abbrev pub placing_parts : LineKind → ℕ → Grammar (ℕ × Assignment)
+placing_parts kind n = then_ uppers (λ u. seatings kind n)
 
 pub unique_upper : Unique uppers
 unique_upper = unique_number (codes "upper") 1 1000000000000000000 refl (lit< tt)
@@ -353,27 +354,44 @@ some_seats kind n m h = (copies n f.0, record { many = copies_length n f.0; each
     said (suc k) e h zero v q = let P : Seatplace → Type 0 = IsPlaced kind m in subst P (same_Some e v q) h
     said (suc k) e h (suc j) v q = said k e h j v q
 
-pub some_behind : (kind : LineKind) (n u : ℕ) → within 1 1000000000000000000 u → (b : ℕ × List Seatplace) × (seats_behind kind n).ranged b
-some_behind kind n u h =
-    let s = some_seats kind n 1 (lit≤ tt, lit≤ tt) in
-    ((1, s.0), ((lit≤ tt, lit≤ tt), s.1))
+pub seating_said : (kind : LineKind) (n m : ℕ) (ps : List Seatplace) → within 1 1024 m → AreSaid (IsPlaced kind m) n ps → IsPlacing kind n (record { stations = m; place = ps })
+seating_said kind n m ps b c = record { some = b.0; few = b.1; each = c.many; placed = c.each }
 
-pub placing_said : (kind : LineKind) (n u m : ℕ) (ps : List Seatplace) → within 1 1000000000000000000 u → within 1 1024 m → AreSaid (IsPlaced kind m) n ps → IsPlacedOf kind n (record { upper = u; stations = m; places = ps })
-placing_said kind n u m ps a b c = record { upper = record { some = a.0; limit = a.1 }; balance = record { some = b.0; few = b.1; each = c.many; placed = c.each } }
+pub same_seatings : (kind : LineKind) (n : ℕ) → Same (seats_behind kind n) (seatings kind n)
+same_seatings kind n = record {
+  to = λ v. record { stations = v.0; place = v.1 };
+  from = λ b. (b.stations, b.place);
+  to_ranged = λ v r. seating_said kind n v.0 v.1 r.0 r.1;
+  from_ranged = λ b r. ((r.some, r.few), record { many = r.each; each = r.placed });
+  to_rows = λ v r. refl;
+  from_rows = λ b r. refl;
+}
+
+pub seating_read : (kind : LineKind) (n m : ℕ) (ps : List Seatplace) (passed after : ℕ) (text rest : List ℕ) → IsRead (seats_behind kind n) passed text rest after (Ok (m, ps)) → IsRead (seatings kind n) passed text rest after (Ok (record { stations = m; place = ps }))
+unfolding same_seatings
+seating_read kind n m ps passed after text rest h = same_read (seats_behind kind n) (seatings kind n) passed after text rest (m, ps) (same_seatings kind n) h
+
+pub some_seating : (kind : LineKind) (n : ℕ) → (b : Assignment) × IsPlacing kind n b
+some_seating kind n =
+    let s = some_seats kind n 1 (lit≤ tt, lit≤ tt) in
+    (record { stations = 1; place = s.0 }, seating_said kind n 1 s.0 (lit≤ tt, lit≤ tt) s.1)
+
+pub placing_said : (kind : LineKind) (n u : ℕ) (b : Assignment) → within 1 1000000000000000000 u → IsPlacing kind n b → IsPlacedOf kind n (record { upper = u; balance = b })
+placing_said kind n u b a c = record { upper = record { some = a.0; limit = a.1 }; balance = c }
 
 pub same_placings : (kind : LineKind) (n : ℕ) → Same (placing_parts kind n) (placings kind n)
 same_placings kind n = record {
-  to = λ v. record { upper = v.0; stations = v.1.0; places = v.1.1 };
-  from = λ p. (p.upper, (p.stations, p.places));
-  to_ranged = λ v r. placing_said kind n v.0 v.1.0 v.1.1 r.0 r.1.0 r.1.1;
-  from_ranged = λ p r. ((r.upper.some, r.upper.limit), ((r.balance.some, r.balance.few), record { many = r.balance.each; each = r.balance.placed }));
+  to = λ v. record { upper = v.0; balance = v.1 };
+  from = λ p. (p.upper, p.balance);
+  to_ranged = λ v r. placing_said kind n v.0 v.1 r.0 r.1;
+  from_ranged = λ p r. ((r.upper.some, r.upper.limit), r.balance);
   to_rows = λ v r. refl;
   from_rows = λ p r. refl;
 }
 
-pub placing_read : (kind : LineKind) (n u m : ℕ) (ps : List Seatplace) (passed after : ℕ) (text rest : List ℕ) → IsRead (placing_parts kind n) passed text rest after (Ok (u, (m, ps))) → IsRead (placings kind n) passed text rest after (Ok (record { upper = u; stations = m; places = ps }))
+pub placing_read : (kind : LineKind) (n u : ℕ) (b : Assignment) (passed after : ℕ) (text rest : List ℕ) → IsRead (placing_parts kind n) passed text rest after (Ok (u, b)) → IsRead (placings kind n) passed text rest after (Ok (record { upper = u; balance = b }))
 unfolding same_placings
-placing_read kind n u m ps passed after text rest h = same_read (placing_parts kind n) (placings kind n) passed after text rest (u, (m, ps)) (same_placings kind n) h
+placing_read kind n u b passed after text rest h = same_read (placing_parts kind n) (placings kind n) passed after text rest (u, b) (same_placings kind n) h
 
 -- lines of a whole are those of one value at most, where those of its parts are
 pub unique_same : {V W : Type 0} (g : Grammar V) (h : Grammar W) (s : Same g h) → Unique g → ((w : W) → h.ranged w → s.to (s.from w) ≡ w) → Unique h
@@ -407,11 +425,15 @@ same_seat kind m l v w a b e =
     side_same Straight side h = sym h
     side_same U side h = refl
 
+pub unique_seatings : (kind : LineKind) (n : ℕ) → Unique (seatings kind n)
+unfolding same_seatings
+unique_seatings kind n = unique_same (seats_behind kind n) (seatings kind n) (same_seatings kind n)
+    (unique_then station_numbers (seats_of kind n) unique_stations (λ m s. unique_each (seat_row kind) (IsPlaced kind m) n (same_seat kind m s.1))) (λ b r. refl)
+
 pub unique_placings : (kind : LineKind) (n : ℕ) → Unique (placings kind n)
 unfolding same_placings
 unique_placings kind n = unique_same (placing_parts kind n) (placings kind n) (same_placings kind n)
-    (unique_then uppers (λ u. seats_behind kind n) unique_upper (λ u r. unique_then station_numbers (seats_of kind n) unique_stations (λ m s. unique_each (seat_row kind) (IsPlaced kind m) n (same_seat kind m s.1))))
-    (λ p r. refl)
+    (unique_then uppers (λ u. seatings kind n) unique_upper (λ u r. unique_seatings kind n)) (λ p r. refl)
 
 -- a set without members
 empty_is : (s : List Bool) → length s ≡ 1024 → IsEmpty s → replicate 1024 false ≡ s

@@ -2,6 +2,7 @@
 use Rattle.std.specs.Prelude.{◌≡◌, ℕ, ◌≤◌, List, [], ◌∷◌, ◌++◌, length, map, Option, codes}
 use Rattle.line_rules.specs.Ranges.{IsCycle, IsAsked, IsPlacing, AreEntries, IsTrailOrNone, AreBounds, IsClaim, IsInRange}
 use Rattle.line_rules.specs.declared.types.LineKind.{LineKind}
+use Rattle.line_rules.specs.declared.types.Balance.{Balance as Assignment}
 use Rattle.line_rules.specs.declared.types.Trail.{Trail}
 use Rattle.line_rules.specs.declared.types.Claim.{Claim}
 use Rattle.line_rules.specs.declared.types.Claim.TheVariants as claim
@@ -33,14 +34,18 @@ trails n count = record { rows = trail_rows n; ranged = IsTrailOrNone n count }
 abbrev pub lists : ℕ → Grammar EntryList
 lists n = record { rows = λ x. list_rows n x.entries x.trail; ranged = λ x. AreEntries n x.entries × IsTrailOrNone n (length x.entries) x.trail }
 
+-- a balance: its stations, and a place for each of n tasks
+abbrev pub seatings : LineKind → ℕ → Grammar Assignment
+seatings kind n = record { rows = λ b. keyed (codes "balance") b.stations ∷ map (seat_row kind) b.place; ranged = IsPlacing kind n }
+
 -- the bounds behind the lower one, up to the places
 pub record IsPlacedOf (kind : LineKind) (n : ℕ) (p : Placed) : Type 0 where
   pub upper : IsCycle p.upper
-  pub balance : IsPlacing kind n (record { stations = p.stations; place = p.places })
+  pub balance : IsPlacing kind n p.balance
 
 abbrev pub placings : LineKind → ℕ → Grammar Placed
 placings kind n = record {
-  rows = λ p. keyed (codes "upper") p.upper ∷ keyed (codes "balance") p.stations ∷ map (seat_row kind) p.places;
+  rows = λ p. keyed (codes "upper") p.upper ∷ keyed (codes "balance") p.balance.stations ∷ map (seat_row kind) p.balance.place;
   ranged = IsPlacedOf kind n;
 }
 

@@ -14,7 +14,7 @@ use line_rules::{
 };
 
 /// Puts the line of a word and a number.
-fn put_keyed<O: Output>(out: &mut O, key: &[u8], n: u64)
+pub fn put_keyed<O: Output>(out: &mut O, key: &[u8], n: u64)
     ensures { Puts O.told (O.sent out.old) (line_text (keyed key.now n)) (O.sent out.new) }
 {
     put_text(out, key);
@@ -24,7 +24,7 @@ fn put_keyed<O: Output>(out: &mut O, key: &[u8], n: u64)
 }
 
 /// Puts the line of the kind of line.
-fn put_kind<O: Output>(out: &mut O, kind: LineKind)
+pub fn put_kind<O: Output>(out: &mut O, kind: LineKind)
     ensures { Puts O.told (O.sent out.old) (line_text (kind_row kind)) (O.sent out.new) }
 {
     match kind {
@@ -164,7 +164,7 @@ pub fn put_list<O: Output>(out: &mut O, entries: &Entries, left: &Option<Trail>,
 }
 
 /// Puts the lines of places.
-fn put_seats<O: Output>(out: &mut O, kind: LineKind, places: &[Seatplace])
+pub fn put_seats<O: Output>(out: &mut O, kind: LineKind, places: &[Seatplace])
     ensures { Puts O.told (O.sent out.old) (rows_text (map (seat_row kind) places.now)) (O.sent out.new) }
 {
     for place in places {

@@ -220,18 +220,11 @@ fn read_old_bounds<S: Source>(
     let placed = read_placed(alloc, source, kind, tasks)?;
     let parts = read_parts(alloc, source, tasks)?;
     read_line(alloc, source, &EndLine)?;
-    let Placed {
-        upper,
-        stations,
-        places,
-    } = placed;
+    let Placed { upper, balance } = placed;
     Ok(OldClaim::Bounds {
         lower,
         upper,
-        balance: Balance {
-            stations,
-            place: places,
-        },
+        balance,
         parts,
     })
 }

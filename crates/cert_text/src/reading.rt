@@ -1,10 +1,10 @@
 //! The reading of a certificate's text, line by line.
 ghost use Rattle.std.specs.Prelude.{ℕ, ◌≤◌, IfOk, length, ◌≡◌};
 ghost use Rattle.cert_lines.specs.Judging.{IsRead};
-ghost use Rattle.cert_text.specs.Parts.{IsHeadOf, IsPlacedOf, IsOpened, heads, trails, lists, placings, opened, claims, bodies};
+ghost use Rattle.cert_text.specs.Parts.{IsHeadOf, IsPlacedOf, IsOpened, heads, trails, lists, seatings, placings, opened, claims, bodies};
 ghost use Rattle.cert_text.specs.Answers.{IsAnyRead};
 ghost use Rattle.cert_lines.specs.Patterns.{IsOpening};
-ghost use Rattle.line_rules.specs.Ranges.{AreEntries, IsTrailOrNone, IsCycle, IsClaim, IsInRange};
+ghost use Rattle.line_rules.specs.Ranges.{AreEntries, IsTrailOrNone, IsCycle, IsPlacing, IsClaim, IsInRange};
 
 use crate::old_reading::read_old;
 use cert_lift::lift;
@@ -45,10 +45,8 @@ pub struct EntryList {
 pub struct Placed {
     /// The upper bound.
     pub upper: u64,
-    /// The number of stations.
-    pub stations: u32,
-    /// The places.
-    pub places: Places,
+    /// The balance.
+    pub balance: Balance,
 }
 
 /// Reads what stands before the claim.
@@ -144,6 +142,43 @@ pub fn read_entries<S: Source>(
     })
 }
 
+/// Reads a balance: its number of stations, and a place for each task.
+pub fn read_seating<S: Source>(
+    alloc: Global,
+    source: &mut S,
+    kind: LineKind,
+    tasks: u32,
+) -> Result<Balance, ReadError>
+    requires some { 1 ≤ tasks }
+    requires few { tasks ≤ 1024 }
+    ensures said { IfOk result (IsPlacing kind tasks) }
+    ensures read { S.told → IsRead (seatings kind tasks) (S.number source.old) (S.left source.old) (S.left source.new) (S.number source.new) result }
+    ensures base { S.base source.new ≡ S.base source.old }
+    ensures faults { S.faults source.old ≤ S.faults source.new }
+    ensures least { S.least source.old ≤ S.least source.new }
+{
+    let stations = read_line(
+        alloc,
+        source,
+        &NumberLine {
+            key: Key::Balance,
+            low: 1,
+            high: 1024,
+        },
+    )?;
+    let stations = stations as u32;
+    let places = read_lines(
+        alloc,
+        source,
+        &SeatLine { kind, stations },
+        u64::from(tasks),
+    )?;
+    Ok(Balance {
+        stations,
+        place: Places::from_vec(places),
+    })
+}
+
 /// Reads the bounds behind the lower one, up to the places.
 pub fn read_placed<S: Source>(
     alloc: Global,
@@ -168,27 +203,8 @@ pub fn read_placed<S: Source>(
             high: MAX_CYCLE,
         },
     )?;
-    let stations = read_line(
-        alloc,
-        source,
-        &NumberLine {
-            key: Key::Balance,
-            low: 1,
-            high: 1024,
-        },
-    )?;
-    let stations = stations as u32;
-    let places = read_lines(
-        alloc,
-        source,
-        &SeatLine { kind, stations },
-        u64::from(tasks),
-    )?;
-    Ok(Placed {
-        upper,
-        stations,
-        places: Places::from_vec(places),
-    })
+    let balance = read_seating(alloc, source, kind, tasks)?;
+    Ok(Placed { upper, balance })
 }
 
 /// Reads the bounds behind the lower one, and the end.
@@ -211,19 +227,12 @@ fn read_bounds<S: Source>(
     let placed = read_placed(alloc, source, kind, tasks)?;
     let list = read_entries(alloc, source, tasks)?;
     read_line(alloc, source, &EndLine)?;
-    let Placed {
-        upper,
-        stations,
-        places,
-    } = placed;
+    let Placed { upper, balance } = placed;
     let EntryList { entries, trail } = list;
     Ok(Claim::Bounds {
         lower,
         upper,
-        balance: Balance {
-            stations,
-            place: places,
-        },
+        balance,
         entries,
         trail,
     })

@@ -102,8 +102,9 @@ fn answers(entry: &Entry, set: &TaskSet, most: u64, cycle: u64) -> bool
     entry.cycle >= cycle
 }
 
-/// Whether an entry of a list answers a question.
-fn has_answer(entries: &Entries, set: &TaskSet, most: u64, cycle: u64) -> bool
+/// Whether an entry of a list answers a question: whether it is of that set, for as many stations or more, at that cycle or a greater one.
+/// One pass over the entries.
+pub fn has_answer(entries: &Entries, set: &TaskSet, most: u64, cycle: u64) -> bool
     ensures some { IsTrue result → HasAnswer entries.now set.now most cycle }
     ensures none { HasAnswer entries.now set.now most cycle → IsTrue result }
 {

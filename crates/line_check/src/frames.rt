@@ -155,8 +155,9 @@ fn check_frame(
     }
 }
 
-/// Checks the frames of a trail in order.
-pub(crate) fn check_frames(
+/// Checks the frames of a trail in order, up to the first that isn't what it should be. Which question the first frame may ask isn't tested.
+/// At most `steps` loads are walked. Takes no memory.
+pub fn check_frames(
     inst: &Instance,
     kind: LineKind,
     entries: &Entries,

@@ -10,8 +10,13 @@ mod pairs;
 mod types;
 mod walks;
 
-pub use checking::{needs_entries, verify, verify_found, verify_list, verify_list_found};
+pub use checking::{
+    has_answer, needs_entries, verify, verify_found, verify_list, verify_list_found,
+};
 pub use entries::{check_entry, verify_entry};
+pub use frames::check_frames;
+pub use lists::check_entries;
 pub use types::{
-    EntryChecked, EntryFault, Found, FrameFault, ListChecked, ListFound, Place, Verified,
+    EntryChecked, EntryFault, Found, FrameFault, FramesFound, ListChecked, ListFound, Place,
+    Verified,
 };

@@ -167,9 +167,20 @@ pub(crate) enum FrameFound {
 
 /// What the check of the frames of a trail finds.
 #[derive(Clone, Copy)]
-pub(crate) enum FramesFound {
-    Right { units: u64 },
-    Refused { frame: u32, why: FrameFault },
+pub enum FramesFound {
+    /// The frames are a valid trail.
+    Right {
+        /// The loads walked.
+        units: u64,
+    },
+    /// The first frame that isn't what it should be.
+    Refused {
+        /// Its number.
+        frame: u32,
+        /// The first thing that is wrong with it.
+        why: FrameFault,
+    },
+    /// More loads than the steps had to be walked, before a frame was refused.
     StepsEnded,
 }
 

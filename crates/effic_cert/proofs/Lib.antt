@@ -1,0 +1,4 @@
+pub mod WideWords
+pub mod LineFacts
+pub mod PartFacts
+pub mod WholeFacts

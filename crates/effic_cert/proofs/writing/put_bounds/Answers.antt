@@ -1,0 +1,6 @@
+use Rattle.cert_text.proofs.Putting.{puts_as, ◌▹◌}
+use Rattle.std.proofs.lemmas.List.{append-nil}
+use Rattle.effic_cert.proofs.writing.put_bounds.Goals as goal
+
+pub returns : goal.returns
+returns g c = puts_as _ _ _ _ _ (c.put_keyed.ensures ▹ c.put_bound.ensures ▹ c.put_bound-2.ensures) (simp append-nil)

@@ -1,0 +1,29 @@
+use Rattle.std.proofs.Common.{◌∙◌, ◌++◌, ◌∷◌, [], ap}
+use Rattle.std.specs.Prelude.{codes}
+use Rattle.cert_lines.specs.Rows.{rows_text, fixed, row_text}
+use Rattle.cert_text.specs.Cert.{list_rows}
+use Rattle.cert_text.proofs.Putting.{puts_as, ◌▹◌}
+use Rattle.cert_text.proofs.Spelling.{rows_append}
+use Rattle.effic_cert.specs.Product.{asked_rows, bound_rows, balance_rows, product_rows}
+use Rattle.effic_cert.proofs.writing.put_product.Goals as goal
+
+pub returns : goal.returns
+unfolding row_text product_rows
+returns g c =
+    puts_as _ _ _ _ _ (c.put_text.ensures ▹ c.put_asked.ensures ▹ c.put_bounds.ensures ▹ c.put_balance.ensures
+    ▹ c.put_list.ensures ▹ c.put_text-2.ensures)
+    (ap (λ t. codes "line balance product 1\n" ++ t)
+    (rows_append (asked_rows c.args.cert.now)
+    (bound_rows c.args.cert.now
+    ++ (balance_rows c.args.cert.now ++
+    (list_rows c.args.cert.now.tasks c.args.cert.now.entries c.args.cert.now.trail ++ fixed (codes "end") ∷ [])))
+    ∙ ap (λ t. rows_text (asked_rows c.args.cert.now) ++ t)
+    (rows_append (bound_rows c.args.cert.now)
+    (balance_rows c.args.cert.now
+    ++ (list_rows c.args.cert.now.tasks c.args.cert.now.entries c.args.cert.now.trail ++ fixed (codes "end") ∷ []))
+    ∙ ap (λ t. rows_text (bound_rows c.args.cert.now) ++ t)
+    (rows_append (balance_rows c.args.cert.now)
+    (list_rows c.args.cert.now.tasks c.args.cert.now.entries c.args.cert.now.trail ++ fixed (codes "end") ∷ [])
+    ∙ ap (λ t. rows_text (balance_rows c.args.cert.now) ++ t)
+    (rows_append (list_rows c.args.cert.now.tasks c.args.cert.now.entries c.args.cert.now.trail)
+    (fixed (codes "end") ∷ []))))))

@@ -1,0 +1,5 @@
+pub mod Product
+pub mod Faults
+pub mod Laws
+pub mod WideReading
+pub mod Parts

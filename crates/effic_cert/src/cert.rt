@@ -1,0 +1,28 @@
+//! A certificate of the least product of stations and cycle.
+use line_rules::{Balance, Entries, LineKind, Trail};
+
+/// Bounds on the least product of stations and cycle over a range of stations, with their proof. Cycles are in the
+/// instance's time unit.
+#[derive(Drop)]
+pub struct EfficCert {
+    /// The kind of line.
+    pub kind: LineKind,
+    /// The number of tasks of the instance, 1 to 1,024.
+    pub tasks: u32,
+    /// The fewest stations that are asked for, 1 to 1,024.
+    pub least_m: u32,
+    /// The most stations that are asked for, 1 to 1,024.
+    pub most_m: u32,
+    /// The cycle of the balance, 1 to 10^18.
+    pub cycle: u64,
+    /// The lower bound on the product, 1 to 10^24.
+    pub lower: u128,
+    /// The upper bound, 1 to 10^24: the stations of the balance times its cycle.
+    pub upper: u128,
+    /// A balance of all tasks.
+    pub balance: Balance,
+    /// Entries, each of which follows from those before it; they show the lower bound.
+    pub entries: Entries,
+    /// Where the search was when its units ended, if they did.
+    pub trail: Option<Trail>,
+}

@@ -1,0 +1,20 @@
+//! Certificates of the least product of stations and cycle (Scholl's SALBP-E), and their text.
+//!
+//! The text is that of a certificate, line by line, with the range of stations that is asked for in place of a
+//! question, and with bounds on a product. It has one spelling. Writing takes one pass over the entries, and reading
+//! one over the bytes.
+#![tactic(auto)]
+
+mod cert;
+pub mod laws;
+mod lines;
+mod reader;
+mod reading;
+#[cfg(test)]
+mod tests;
+mod words;
+mod writing;
+
+pub use cert::EfficCert;
+pub use reader::{EfficRead, read_effic};
+pub use writing::write_effic;

@@ -1,0 +1,4 @@
+pub mod ClosedFacts
+pub mod FoundFacts
+pub mod Rejected
+pub mod Proved
