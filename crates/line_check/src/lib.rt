@@ -10,7 +10,7 @@ mod pairs;
 mod types;
 mod walks;
 
-pub use checking::{needs_entries, verify, verify_found, verify_list, verify_list_found};
+pub use checking::{balance_fault, needs_entries, verify, verify_found, verify_list, verify_list_found};
 pub use entries::{check_entry, verify_entry};
 pub use types::{
     EntryChecked, EntryFault, Found, FrameFault, ListChecked, ListFound, Place, Verified,
