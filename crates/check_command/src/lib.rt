@@ -7,3 +7,4 @@ mod check;
 mod print_verdict;
 
 pub use check::check_report;
+pub use print_verdict::verdict_report;

@@ -45,8 +45,8 @@ fn text_in(
     }
 }
 
-/// The report about a file that was written.
-fn written(alloc: Global, name: &str) -> Result<Report, AllocError>
+/// The report about a file of this name that was written.
+pub fn written(alloc: Global, name: &str) -> Result<Report, AllocError>
     ensures status { IfOk result (λ r. r.status ≡ ends.Done) }
     ensures text { IfOk result (λ r. r.text.items ≡ written_line name.now) }
     ensures kept { IfOk result (λ r. r.kept ≡ Nothing) }

@@ -167,8 +167,9 @@ fn upper_cycle(ask: Ask, upper: u64) -> u64
     }
 }
 
-/// The first thing that is wrong with the balance of a certificate, if it doesn't show the upper bound.
-fn balance_fault(
+/// The first thing that is wrong with the balance of a certificate, if it doesn't show the upper bound; the upper bound is tested alone, and
+/// nothing else of the certificate. Takes no memory.
+pub fn balance_fault(
     inst: &Instance,
     kind: LineKind,
     ask: Ask,

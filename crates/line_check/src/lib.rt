@@ -11,7 +11,7 @@ mod types;
 mod walks;
 
 pub use checking::{
-    has_answer, needs_entries, verify, verify_found, verify_list, verify_list_found,
+    balance_fault, has_answer, needs_entries, verify, verify_found, verify_list, verify_list_found,
 };
 pub use entries::{check_entry, verify_entry};
 pub use frames::check_frames;

@@ -7,3 +7,5 @@ pub mod NumberFacts
 pub mod StationSums
 pub mod NoteFacts
 pub mod DrawingFacts
+pub mod SizeFacts
+pub mod PictureSizes

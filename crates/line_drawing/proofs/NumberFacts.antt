@@ -24,7 +24,7 @@ sums_to line places (suc n) = sums_to line places n + sum_at line places (suc n)
 abbrev within : Line → List Seatplace → ℕ → ℕ → Bool
 within line places n i = has (all_tasks line) i && nat_le (seat places i).station n
 
-le_from : (a b : ℕ) → nat_le a b ≡ true → a ≤ b
+pub le_from : (a b : ℕ) → nat_le a b ≡ true → a ≤ b
 le_from a b e = grind (arith, nat_tests, e)
 
 from_le : (a b : ℕ) → a ≤ b → nat_le a b ≡ true

@@ -14,7 +14,7 @@ use Rattle.line_rules.specs.declared.types.Certificate.{Certificate}
 use Rattle.line_drawing.specs.Segments.{segments_at}
 use Rattle.line_drawing.specs.Notes.{note_of}
 use Rattle.line_drawing.specs.Figures.{efficiency_of, figures_of, height_of, idle_of, sum_at, width_of}
-use Rattle.line_drawing.specs.Parts.{parts}
+use Rattle.line_drawing.specs.Parts.{text_of}
 use Rattle.line_drawing.specs.Rows.{row_text}
 use Rattle.line_drawing.specs.declared.figures.Figures.{Figures}
 
@@ -42,26 +42,35 @@ bounds_text a lower upper =
     ++ cond (nat_eq lower upper) (codes "optimal") (codes "at least " ++ decimal lower ++ codes ", at most " ++ decimal upper)
 
 -- the first lines: the size, and the title
-abbrev pub size_text : Figures → List ℕ
-size_text f =
-    parts (codes "<svg xmlns=\"http://www.w3.org/2000/svg\" version=\"1.1\" width=\"" ∷ decimal (width_of f) ∷ codes "\" height=\"" ∷ decimal (height_of f)
+abbrev pub size_parts : Figures → List (List ℕ)
+size_parts f =
+    codes "<svg xmlns=\"http://www.w3.org/2000/svg\" version=\"1.1\" width=\"" ∷ decimal (width_of f) ∷ codes "\" height=\"" ∷ decimal (height_of f)
     ∷ codes "\" viewBox=\"0 0 " ∷ decimal (width_of f) ∷ codes " " ∷ decimal (height_of f)
-    ∷ codes "\" role=\"img\" font-family=\"Arial,sans-serif\" font-size=\"12\" shape-rendering=\"crispEdges\">\n<title>" ∷ [])
+    ∷ codes "\" role=\"img\" font-family=\"Arial,sans-serif\" font-size=\"12\" shape-rendering=\"crispEdges\">\n<title>" ∷ []
+
+abbrev pub size_text : Figures → List ℕ
+size_text f = text_of (size_parts f)
+
+abbrev pub ground_parts : Figures → List (List ℕ)
+ground_parts f =
+    codes "</title>\n<rect width=\"" ∷ decimal (width_of f) ∷ codes "\" height=\"" ∷ decimal (height_of f)
+    ∷ codes "\" fill=\"#fff\"/>\n<text x=\"64\" y=\"28\" font-size=\"18\">" ∷ []
 
 abbrev pub ground_text : Figures → List ℕ
-ground_text f =
-    parts (codes "</title>\n<rect width=\"" ∷ decimal (width_of f) ∷ codes "\" height=\"" ∷ decimal (height_of f)
-    ∷ codes "\" fill=\"#fff\"/>\n<text x=\"64\" y=\"28\" font-size=\"18\">" ∷ [])
+ground_text f = text_of (ground_parts f)
 
 abbrev pub top_text : Figures → List ℕ
 top_text f = size_text f ++ head_text f ++ ground_text f ++ head_text f ++ codes "</text>\n<text x=\"64\" y=\"48\">"
 
 -- the line of the totals
-abbrev pub totals_text : Figures → List ℕ
-totals_text f =
-    parts (codes " (by the certificate)</text>\n<text x=\"64\" y=\"66\">Efficiency " ∷ decimal (efficiency_of f / 10) ∷ codes "." ∷ decimal (efficiency_of f % 10)
+abbrev pub totals_parts : Figures → List (List ℕ)
+totals_parts f =
+    codes " (by the certificate)</text>\n<text x=\"64\" y=\"66\">Efficiency " ∷ decimal (efficiency_of f / 10) ∷ codes "." ∷ decimal (efficiency_of f % 10)
     ∷ codes " %, total time " ∷ decimal f.total ∷ codes ", idle time " ∷ decimal (idle_of f)
-    ∷ codes ", longest station time " ∷ decimal f.longest ∷ codes "</text>\n" ∷ [])
+    ∷ codes ", longest station time " ∷ decimal f.longest ∷ codes "</text>\n" ∷ []
+
+abbrev pub totals_text : Figures → List ℕ
+totals_text f = text_of (totals_parts f)
 
 -- what the colours mean, on a U-line
 abbrev pub legend_text : LineKind → List ℕ
@@ -69,15 +78,21 @@ legend_text Straight = []
 legend_text U = codes "<text x=\"104\" y=\"88\">light: front tasks, dark: back tasks</text>\n"
 
 -- the heading of the notes, where there are some
+abbrev pub notes_parts : Figures → List (List ℕ)
+notes_parts f = codes "<text x=\"" ∷ decimal (936 + 2 * f.column) ∷ codes "\" y=\"88\">narrow tasks</text>\n" ∷ []
+
 abbrev pub notes_text : Figures → List ℕ
-notes_text f = cond (nat_eq f.notes 0) [] (parts (codes "<text x=\"" ∷ decimal (936 + 2 * f.column) ∷ codes "\" y=\"88\">narrow tasks</text>\n" ∷ []))
+notes_text f = cond (nat_eq f.notes 0) [] (text_of (notes_parts f))
 
 -- the headings of the columns
-abbrev pub headings_text : Figures → List ℕ
-headings_text f =
-    parts (codes "<g text-anchor=\"end\">\n<text x=\"56\" y=\"88\">station</text><text x=\"864\" y=\"88\">cycle time " ∷ decimal f.cycle
+abbrev pub headings_parts : Figures → List (List ℕ)
+headings_parts f =
+    codes "<g text-anchor=\"end\">\n<text x=\"56\" y=\"88\">station</text><text x=\"864\" y=\"88\">cycle time " ∷ decimal f.cycle
     ∷ codes "</text><text x=\"" ∷ decimal (864 + f.column) ∷ codes "\" y=\"88\">time</text><text x=\"" ∷ decimal (864 + 2 * f.column)
-    ∷ codes "\" y=\"88\">idle</text>\n" ∷ [])
+    ∷ codes "\" y=\"88\">idle</text>\n" ∷ []
+
+abbrev pub headings_text : Figures → List ℕ
+headings_text f = text_of (headings_parts f)
 
 -- the row of a station
 abbrev pub station_text : Line → Figures → List Seatplace → ℕ → List ℕ
@@ -91,8 +106,12 @@ rows_from line f places k zero = []
 rows_from line f places k (suc n) = station_text line f places k ++ rows_from line f places (suc k) n
 
 -- the line where the cycle ends, and the end
+abbrev pub end_parts : Figures → List (List ℕ)
+end_parts f =
+    codes "<path stroke=\"#000\" stroke-width=\"3\" d=\"M864 92v" ∷ decimal (24 * f.stations + 6) ∷ codes "\"/>\n</g>\n</svg>\n" ∷ []
+
 abbrev pub end_text : Figures → List ℕ
-end_text f = parts (codes "<path stroke=\"#000\" stroke-width=\"3\" d=\"M864 92v" ∷ decimal (24 * f.stations + 6) ∷ codes "\"/>\n</g>\n</svg>\n" ∷ [])
+end_text f = text_of (end_parts f)
 
 -- what stands above the rows
 abbrev pub above_text : Figures → Ask → ℕ → ℕ → List ℕ

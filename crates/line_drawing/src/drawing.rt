@@ -1,10 +1,10 @@
 //! The whole picture of a certificate's balance.
-ghost use Rattle.std.specs.Prelude.{◌≡◌, ◌≤◌, ◌<◌, ◌^◌, ◌+◌, ◌++◌, ℕ, IfOk, OnOk, length, string_bytes};
+ghost use Rattle.std.specs.Prelude.{◌≡◌, ◌≤◌, ◌<◌, ◌^◌, ◌+◌, ◌*◌, ◌++◌, ℕ, IfOk, OnOk, length, string_bytes};
 ghost use Rattle.line_instance.specs.Line.{tasks};
 ghost use Rattle.line_rules.specs.Accepted.{upper_cycle};
 ghost use Rattle.line_rules.specs.Ranges.{IsInRange};
 ghost use Rattle.line_drawing.specs.Figures.{AreFigures, sum_at};
-ghost use Rattle.line_drawing.specs.Facts.{HasRightBalance, IsTrueDrawing};
+ghost use Rattle.line_drawing.specs.Facts.{HasRightBalance, IsTrueDrawing, stations_of};
 ghost use Rattle.line_drawing.specs.Drawing.{above_text, bounds_text, drawing_text, end_text, ground_text, head_text, headings_text, kind_word, ask_word, size_text, station_word, legend_text, notes_text, picture_text, rows_from, station_text, top_text, totals_text};
 
 use crate::figures::{Figures, figures_of, sum_at};
@@ -309,6 +309,7 @@ pub fn draw_text(alloc: Global, inst: &Instance, cert: &Certificate) -> Result<V
     requires right { HasRightBalance inst.now cert.now }
     ensures text { IfOk result (λ t. t.items ≡ drawing_text inst.now cert.now) }
     ensures true_picture { IsTrueDrawing inst.now cert.now }
+    ensures size { length (drawing_text inst.now cert.now) ≤ 1000 + 500 * stations_of cert.now + 120 * tasks inst.now }
 {
     let _tasks = inst.tasks();
     drawn(alloc, inst, cert)
