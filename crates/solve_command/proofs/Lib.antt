@@ -1,2 +1,3 @@
 pub mod PromiseFacts
 pub mod WrittenFacts
+pub mod BegunFacts

@@ -1,19 +1,26 @@
 -- What `solve` answers is what it promises.
-use Rattle.std.proofs.Common.{◌≡◌, inl, inr, ℕ, Bool, true, false, cond, nat_eq, List, Option, Some, None, refl, sym, subst, arith, rules}
+use Rattle.std.specs.declared.result.Result.{Result}
+use Rattle.std.specs.declared.result.Result.TheVariants.{Ok, Err}
+use Rattle.std.specs.Prelude.{IfOk, MatchResult}
+use Rattle.std.proofs.Common.{◌≡◌, ◌<◌, inl, inr, ℕ, Bool, true, false, cond, nat_eq, List, ◌++◌, Option, Some, None, refl, sym, ap, subst, arith, rules}
 use Rattle.std.proofs.lemmas.Bool.{eqb-true}
 use Rattle.line_instance.specs.Line.{Line, time}
 use Rattle.line_rules.specs.Bounds.{idle_time}
 use Rattle.line_rules.specs.declared.types.LineKind.{LineKind}
 use Rattle.line_rules.specs.declared.types.Balance.{Balance as Assignment}
+use Rattle.line_rules.specs.declared.types.Entry.{Entry}
 use Rattle.line_rules.specs.declared.types.Certificate.{Certificate}
-use Rattle.run_certificates.specs.Certified.{IsOptimum, IsStop}
+use Rattle.run_certificates.specs.Certified.{IsOptimumFrom, IsStopFrom}
 use Rattle.round_run.specs.declared.plans.Plan.{Plan}
-use Rattle.command_outcome.specs.Outcome.{Outcome}
+use Rattle.command_outcome.specs.Outcome.{Outcome, Stops, outcome_of}
+use Rattle.command_outcome.specs.declared.report.Report.{Report}
+use Rattle.command_outcome.specs.declared.report.Stop.{Stop}
 use Rattle.command_outcome.specs.declared.status.Status.TheVariants as ends
 use Rattle.station_report.specs.InfeasibleText.{infeasible_text}
 use Rattle.solve_command.specs.SolutionText.{optimal_text, stopped_text}
-use Rattle.solve_command.specs.Solution.{IsInfeasible, IsSolution}
-use Rattle.solve_command.specs.Promise.{HasBounds, HasNone, IsShown}
+use Rattle.solve_command.specs.WarmStart.{BeginsWith}
+use Rattle.solve_command.specs.Solution.{IsInfeasible, IsBounded, IsSolution, IsCutShort}
+use Rattle.solve_command.specs.Promise.{HasBounds, HasNone, IsShown, bounds_text}
 
 -- a choice by a test, where the answer is known
 chosen : {X : Type 0} (b : Bool) (x y : X) → b ≡ true → cond b x y ≡ x
@@ -24,44 +31,81 @@ not_chosen : {X : Type 0} (b : Bool) (x y : X) → (b ≡ true → ⊥) → cond
 not_chosen true x y f = absurd (f refl)
 not_chosen false x y f = refl
 
-module _ (kind : LineKind) (line : Line) (c : ℕ) (plan : Plan) where
-  -- the bounds of an optimum
-  of_optimum : (b : Assignment) (cert : Certificate) → IsOptimum kind line c b cert → HasBounds kind line c plan cert ends.Done (optimal_text kind b (idle_time line c b.stations))
-  of_optimum b cert p = record {
-    lower = b.stations;
-    balance = b;
-    entries = p.entries;
-    trail = None;
-    units = p.units;
-    right = p.certified.right;
-    said = p.certified.said;
-    accepted = p.certified.accepted;
-    few = p.certified.few;
-    true_bounds = p.certified.true_bounds;
-    printed = sym (chosen (nat_eq b.stations b.stations) (optimal_text kind b (idle_time line c b.stations)) (stopped_text kind b.stations b (idle_time line c b.stations)) (search rules));
-    differ = λ h. absurd (omega (arith, h));
-    equal = λ e. (refl, p.least);
-    complete = λ h. refl;
-  }
+-- behind a first text, the text of bounds is that of an optimum where they are equal, and else that of a stop
+optimum_behind : (first : List ℕ) (kind : LineKind) (b : Assignment) (idle : ℕ)
+    → first ++ optimal_text kind b idle ≡ first ++ bounds_text kind b.stations b idle
+optimum_behind first kind b idle =
+    ap (λ (z : List ℕ). first ++ z) (sym (chosen (nat_eq b.stations b.stations) (optimal_text kind b idle) (stopped_text kind b.stations b idle) (search rules)))
 
-  -- the bounds of a search that used its units
-  of_stop : (lower : ℕ) (b : Assignment) (cert : Certificate) → IsStop kind line c plan lower b cert → HasBounds kind line c plan cert ends.Stopped (stopped_text kind lower b (idle_time line c b.stations))
-  of_stop lower b cert p = record {
-    lower = lower;
-    balance = b;
-    entries = p.entries;
-    trail = Some (record { cycle = c; frames = p.frames });
-    units = p.units;
-    right = p.certified.right;
-    said = p.certified.said;
-    accepted = p.certified.accepted;
-    few = p.certified.few;
-    true_bounds = p.certified.true_bounds;
-    printed = sym (not_chosen (nat_eq lower b.stations) (optimal_text kind b (idle_time line c b.stations)) (stopped_text kind lower b (idle_time line c b.stations)) (λ e. omega (arith, p.below, eqb-true lower b.stations e)));
-    differ = λ h. (refl, record { frames = p.frames; left = refl; least = p.least; alone = p.alone; fresh = p.fresh; opens = p.opens });
-    equal = λ e. absurd (omega (arith, e, p.below));
-    complete = λ h. absurd (omega (arith, h, p.budget));
-  }
+stop_behind : (first : List ℕ) (kind : LineKind) (lower : ℕ) (b : Assignment) (idle : ℕ) → lower < b.stations
+    → first ++ stopped_text kind lower b idle ≡ first ++ bounds_text kind lower b idle
+stop_behind first kind lower b idle l =
+    ap (λ (z : List ℕ). first ++ z) (sym (not_chosen (nat_eq lower b.stations) (optimal_text kind b idle) (stopped_text kind lower b idle) (λ e. omega (arith, l, eqb-true lower b.stations e))))
+
+module _ (kind : LineKind) (line : Line) (c : ℕ) (plan : Plan) (olds : Option (List Entry)) where
+  module _ (before : List Entry) (first : List ℕ) (begins : BeginsWith kind line c plan olds before first) where
+    -- the bounds of an optimum
+    of_optimum : (b : Assignment) (cert : Certificate) → IsOptimumFrom kind line c before b cert
+        → HasBounds kind line c plan olds cert ends.Done (first ++ optimal_text kind b (idle_time line c b.stations))
+    of_optimum b cert p = record {
+      before = before;
+      first = first;
+      begins = begins;
+      lower = b.stations;
+      balance = b;
+      entries = p.entries;
+      trail = None;
+      units = p.units;
+      right = p.certified.right;
+      said = p.certified.said;
+      accepted = p.certified.accepted;
+      few = p.certified.few;
+      true_bounds = p.certified.true_bounds;
+      printed = optimum_behind first kind b (idle_time line c b.stations);
+      differ = λ h. absurd (omega (arith, h));
+      equal = λ e. (refl, p.least);
+      complete = λ h. refl;
+    }
+
+    -- the bounds of a search that used its units
+    of_stop : (lower : ℕ) (b : Assignment) (cert : Certificate) → IsStopFrom kind line c plan before lower b cert
+        → HasBounds kind line c plan olds cert ends.Stopped (first ++ stopped_text kind lower b (idle_time line c b.stations))
+    of_stop lower b cert p = record {
+      before = before;
+      first = first;
+      begins = begins;
+      lower = lower;
+      balance = b;
+      entries = p.entries;
+      trail = Some (record { cycle = c; frames = p.frames });
+      units = p.units;
+      right = p.certified.right;
+      said = p.certified.said;
+      accepted = p.certified.accepted;
+      few = p.certified.few;
+      true_bounds = p.certified.true_bounds;
+      printed = stop_behind first kind lower b (idle_time line c b.stations) p.below;
+      differ = λ h. (
+        refl,
+        record {
+          added = p.added;
+          begins = p.begins;
+          frames = p.frames;
+          left = refl;
+          paid = p.paid;
+          before_units = p.before_units;
+          listed = p.listed;
+          counted = p.counted;
+          sum = p.sum;
+          least = p.least;
+          alone = p.alone;
+          fresh = p.fresh;
+          opens = p.opens;
+        },
+      );
+      equal = λ e. absurd (omega (arith, e, p.below));
+      complete = λ h. absurd (omega (arith, h, p.budget));
+    }
 
   -- a line without a balance
   of_refusal : (name : Option (List ℕ)) (out : Outcome) (p : IsInfeasible kind line c name out) → HasNone kind line c p.certificate ends.Done (infeasible_text p.task (time line p.task))
@@ -75,14 +119,35 @@ module _ (kind : LineKind) (line : Line) (c : ℕ) (plan : Plan) where
     done = refl;
   }
 
+  -- a run with bounds is shown by its certificate
+  pub bounds_shown : (name : Option (List ℕ)) (out : Outcome) → IsBounded kind line c plan olds name out
+      → IsShown kind line c plan olds out.status out.text out.kept
+  bounds_shown name out b =
+      let S : Outcome → Type 0 = λ o. IsShown kind line c plan olds o.status o.text o.kept in
+      elim b.found [
+        | inl p ↦ subst S (sym p.shown) (record {
+          certificate = p.certificate;
+          keeps = refl;
+          shows = inl (of_optimum b.before b.first b.begins p.balance p.certificate p.proved);
+        })
+        | inr p ↦ subst S (sym p.shown) (record {
+          certificate = p.certificate;
+          keeps = refl;
+          shows = inl (of_stop b.before b.first b.begins p.lower p.balance p.certificate p.proved);
+        })
+      ]
+
   -- what is answered with a certificate is shown by it
-  pub shown_of : (name : Option (List ℕ)) (out : Outcome) → IsSolution kind line c plan name out → IsShown kind line c plan out.status out.text out.kept
-  shown_of name out (inl p) =
-      let S : Outcome → Type 0 = λ o. IsShown kind line c plan o.status o.text o.kept in
-      subst S (sym p.shown) (record { certificate = p.certificate; keeps = refl; shows = inl (of_optimum p.balance p.certificate p.proved) })
-  shown_of name out (inr (inl p)) =
-      let S : Outcome → Type 0 = λ o. IsShown kind line c plan o.status o.text o.kept in
-      subst S (sym p.shown) (record { certificate = p.certificate; keeps = refl; shows = inl (of_stop p.lower p.balance p.certificate p.proved) })
-  shown_of name out (inr (inr p)) =
-      let S : Outcome → Type 0 = λ o. IsShown kind line c plan o.status o.text o.kept in
+  pub shown_of : (name : Option (List ℕ)) (out : Outcome) → IsSolution kind line c plan olds name out → IsShown kind line c plan olds out.status out.text out.kept
+  shown_of name out (inl b) = bounds_shown name out b
+  shown_of name out (inr p) =
+      let S : Outcome → Type 0 = λ o. IsShown kind line c plan olds o.status o.text o.kept in
       subst S (sym p.shown) (record { certificate = p.certificate; keeps = refl; shows = inr (of_refusal name out p) })
+
+  -- a run with bounds that came to a report of a search: it has the bounds, or it was stopped
+  pub bounded_shown : (r : Result Report Stop)
+      → MatchResult r (λ x. IsBounded kind line c plan olds None (outcome_of x None)) (Stops (IsCutShort kind line c))
+      → MatchResult r (λ x. IsSolution kind line c plan olds None (outcome_of x None)) (Stops (IsCutShort kind line c))
+      × IfOk r (λ x. IsShown kind line c plan olds x.status x.text.items x.kept)
+  bounded_shown (Ok x) b = (inl b, bounds_shown None (outcome_of x None) b)
+  bounded_shown (Err e) b = (b, search rules)

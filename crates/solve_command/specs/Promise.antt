@@ -1,5 +1,5 @@
 -- What `solve` promises, fact by fact, where it answers with status 0 or 1.
-use Rattle.std.specs.Prelude.{◌≡◌, ◌⊎◌, ℕ, ◌+◌, ◌*◌, ◌^◌, ◌<◌, ◌≤◌, List, Option, Some, None, cond, nat_eq}
+use Rattle.std.specs.Prelude.{◌≡◌, ◌⊎◌, ℕ, ◌+◌, ◌*◌, ◌^◌, ◌<◌, ◌≤◌, List, ◌++◌, Option, Some, None, cond, nat_eq}
 use Rattle.line_instance.specs.Line.{Line, tasks, time}
 use Rattle.line_rules.specs.Accepted.{IsAccepted, IsInfeasible as IsAcceptedInfeasible, IsLeastStations}
 use Rattle.line_rules.specs.Balance.{IsRight}
@@ -8,6 +8,7 @@ use Rattle.line_rules.specs.Checked.{IsLeastWhere}
 use Rattle.line_rules.specs.Entries.{IsFresh}
 use Rattle.line_rules.specs.Laws.{IsProved, NoBalanceIsLeft}
 use Rattle.line_rules.specs.Trails.{IsOpenOver}
+use Rattle.line_rules.specs.Units.{UnitsOf, UnitsWhole}
 use Rattle.line_rules.specs.declared.types.LineKind.{LineKind}
 use Rattle.line_rules.specs.declared.types.Balance.{Balance as Assignment}
 use Rattle.line_rules.specs.declared.types.Entry.{Entry}
@@ -27,30 +28,42 @@ use Rattle.command_outcome.specs.declared.status.Status.{Status}
 use Rattle.command_outcome.specs.declared.status.Status.TheVariants as ends
 use Rattle.input_files.specs.Instance.{IsSaid}
 use Rattle.station_report.specs.InfeasibleText.{infeasible_text}
+use Rattle.solve_command.specs.WarmStart.{AreOld, BeginsWith}
 use Rattle.solve_command.specs.SolutionText.{optimal_text, stopped_text}
 
 -- the printed text of bounds: the optimum where they are equal, and both where they differ
 abbrev pub bounds_text : LineKind → ℕ → Assignment → ℕ → List ℕ
 bounds_text kind lower b idle = cond (nat_eq lower b.stations) (optimal_text kind b idle) (stopped_text kind lower b idle)
 
--- The units of the plan were spent on loads that the certificate lists: its entries and its trail have at least so many
--- units, exactly so many without helpers, no entry is answered by an earlier one, and the trail, which is valid since the
--- certificate is accepted, has a further load.
-pub record AreSpent (line : Line) (c : ℕ) (plan : Plan) (es : List Entry) (trail : Option Trail) (units : ℕ) : Type 0 where
+-- The units of the plan were spent on loads that the certificate lists: its entries begin with those that the run began
+-- with; the entries after these and its trail have at least so many units, exactly so many without helpers; no entry is
+-- answered by an earlier one; and the trail, which is valid since the certificate is accepted, has a further load.
+pub record AreSpent (line : Line) (c : ℕ) (plan : Plan) (before es : List Entry) (trail : Option Trail) (units : ℕ) : Type 0 where
+  pub added : List Entry
+  pub begins : es ≡ before ++ added
   pub frames : List OpenFrame
   pub left : trail ≡ Some (record { cycle = c; frames = frames })
-  pub least : plan.units ≤ units
-  pub alone : plan.helpers ≡ 0 → units ≡ plan.units
+  pub paid : ℕ
+  pub before_units : UnitsOf line before paid
+  pub listed : ℕ
+  pub counted : UnitsWhole line added trail listed
+  pub sum : units ≡ paid + listed
+  pub least : plan.units ≤ listed
+  pub alone : plan.helpers ≡ 0 → listed ≡ plan.units
   pub fresh : IsFresh es
   pub opens : IsOpenOver line c es frames
 
 -- What is promised of bounds: the printed balance keeps every precedence and the cycle; the certificate is accepted by the
 -- check with its default steps; no balance of that kind has fewer stations than the lower bound; what is printed are the
--- certificate's bounds and balance; the bounds differ only where the units of the plan were spent on loads that the
--- certificate lists, and status 1 says so; where they are equal they are the least number of stations; and they are equal
--- where the units are at least (n + 1) x 3^n for n tasks, and on a U-line (n + 1) x 4^n.
-pub record HasBounds (kind : LineKind) (line : Line) (c : ℕ) (plan : Plan) (certificate : Certificate) (status : Status) (text : List ℕ)
+-- certificate's bounds and balance, behind the line on the old entries, where there are any; the bounds differ only where
+-- the units of the plan were spent on loads that the certificate lists, and status 1 says so; where they are equal they are
+-- the least number of stations; and they are equal where the units are at least (n + 1) x 3^n for n tasks, and on a U-line
+-- (n + 1) x 4^n.
+pub record HasBounds (kind : LineKind) (line : Line) (c : ℕ) (plan : Plan) (olds : Option (List Entry)) (certificate : Certificate) (status : Status) (text : List ℕ)
     : Type 0 where
+  pub before : List Entry
+  pub first : List ℕ
+  pub begins : BeginsWith kind line c plan olds before first
   pub lower : ℕ
   pub balance : Assignment
   pub entries : List Entry
@@ -61,8 +74,8 @@ pub record HasBounds (kind : LineKind) (line : Line) (c : ℕ) (plan : Plan) (ce
   pub accepted : IsAccepted line certificate lower balance.stations units
   pub few : units ≤ max_units
   pub true_bounds : IsProved kind line (ask.Stations c) lower balance.stations
-  pub printed : text ≡ bounds_text kind lower balance (idle_time line c balance.stations)
-  pub differ : lower < balance.stations → (status ≡ ends.Stopped) × AreSpent line c plan entries trail units
+  pub printed : text ≡ first ++ bounds_text kind lower balance (idle_time line c balance.stations)
+  pub differ : lower < balance.stations → (status ≡ ends.Stopped) × AreSpent line c plan before entries trail units
   pub equal : lower ≡ balance.stations → (status ≡ ends.Done) × IsLeastStations kind line c lower
   pub complete : (tasks line + 1) * states kind ^ tasks line ≤ plan.units → lower ≡ balance.stations
 
@@ -83,17 +96,19 @@ HasCertificate None after certificate = Unit {0}
 HasCertificate (Some name) after certificate = after name ≡ Some (cert_text certificate)
 
 -- what is printed is shown by a certificate, which is kept
-pub record IsShown (kind : LineKind) (line : Line) (c : ℕ) (plan : Plan) (status : Status) (text : List ℕ) (kept : Kept) : Type 0 where
+pub record IsShown (kind : LineKind) (line : Line) (c : ℕ) (plan : Plan) (olds : Option (List Entry)) (status : Status) (text : List ℕ) (kept : Kept) : Type 0 where
   pub certificate : Certificate
   pub keeps : kept ≡ Certified certificate
-  pub shows : HasBounds kind line c plan certificate status text ⊎ HasNone kind line c certificate status text
+  pub shows : HasBounds kind line c plan olds certificate status text ⊎ HasNone kind line c certificate status text
 
--- The promise of `solve` for the line and the cycle that the files say: what is printed is shown by a certificate, which is
--- kept, and written where the words name a file.
-pub record IsPromised (files after : Files) (file : List ℕ) (apart : Option (List ℕ)) (word : Option ℕ) (kind : LineKind) (plan : Plan)
+-- The promise of `solve` for the line, the cycle and the old entries that the files say: what is printed is shown by a
+-- certificate, which is kept, and written where the words name a file.
+pub record IsPromised (files after : Files) (file : List ℕ) (apart warm : Option (List ℕ)) (word : Option ℕ) (kind : LineKind) (plan : Plan)
     (name : Option (List ℕ)) (status : Status) (text : List ℕ) (kept : Kept) : Type 0 where
   pub line : Line
   pub c : ℕ
   pub said : IsSaid files file apart word line c
-  pub shown : IsShown kind line c plan status text kept
+  pub olds : Option (List Entry)
+  pub old : AreOld files warm kind line olds
+  pub shown : IsShown kind line c plan olds status text kept
   pub written : HasCertificate name after shown.certificate

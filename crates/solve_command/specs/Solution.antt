@@ -1,15 +1,16 @@
 -- What `solve` comes to.
-use Rattle.std.specs.Prelude.{◌≡◌, ◌⊎◌, ℕ, ◌<◌, List, Option, Some, None}
+use Rattle.std.specs.Prelude.{◌≡◌, ◌⊎◌, ℕ, ◌<◌, List, ◌++◌, Option, Some, None}
 use Rattle.line_instance.specs.Line.{Line, time}
 use Rattle.line_rules.specs.Bounds.{idle_time, IsTooLong}
 use Rattle.line_rules.specs.Checked.{IsLeastWhere}
 use Rattle.line_rules.specs.Laws.{IsProved}
 use Rattle.line_rules.specs.declared.types.LineKind.{LineKind}
 use Rattle.line_rules.specs.declared.types.Balance.{Balance as Assignment}
+use Rattle.line_rules.specs.declared.types.Entry.{Entry}
 use Rattle.line_rules.specs.declared.types.Ask.TheVariants as ask
 use Rattle.line_rules.specs.declared.types.Certificate.{Certificate}
 use Rattle.cert_text.specs.Cert.{cert_text}
-use Rattle.run_certificates.specs.Certified.{IsOptimum, IsStop, IsNoBalance}
+use Rattle.run_certificates.specs.Certified.{IsOptimumFrom, IsStopFrom, IsNoBalance}
 use Rattle.round_run.specs.declared.plans.Plan.{Plan}
 use Rattle.command_outcome.specs.Outcome.{Files, Outside, Page, Outcome, told}
 use Rattle.command_outcome.specs.declared.report.Kept.TheVariants.{Line as Certified}
@@ -17,6 +18,7 @@ use Rattle.command_outcome.specs.declared.status.Status.{Status}
 use Rattle.command_outcome.specs.declared.status.Status.TheVariants as ends
 use Rattle.input_files.specs.Instance.{IsSaid, IsUnsaid}
 use Rattle.station_report.specs.InfeasibleText.{infeasible_text}
+use Rattle.solve_command.specs.WarmStart.{AreOld, IsUnwarmed, BeginsWith}
 use Rattle.solve_command.specs.SolutionText.{optimal_text, stopped_text, cut_short_text}
 
 -- the page of a certificate: its text in the file that the words name, where they name one
@@ -28,20 +30,24 @@ page_of (Some name) cert = Some (record { name = name; bytes = cert_text cert })
 abbrev pub certified_by : Option (List ℕ) → Certificate → Status → List ℕ → Outcome
 certified_by name cert status text = record { status = status; text = text; page = page_of name cert; kept = Certified cert }
 
--- The optimum: the balance that is printed has the least number of stations, and the certificate proves it.
-pub record IsOptimal (kind : LineKind) (line : Line) (c : ℕ) (name : Option (List ℕ)) (out : Outcome) : Type 0 where
+-- The optimum, of a run that began with some entries: the balance that is printed has the least number of stations, and the
+-- certificate proves it.
+pub record IsOptimal (kind : LineKind) (line : Line) (c : ℕ) (before : List Entry) (first : List ℕ) (name : Option (List ℕ))
+    (out : Outcome) : Type 0 where
   pub balance : Assignment
   pub certificate : Certificate
-  pub proved : IsOptimum kind line c balance certificate
-  pub shown : out ≡ certified_by name certificate ends.Done (optimal_text kind balance (idle_time line c balance.stations))
+  pub proved : IsOptimumFrom kind line c before balance certificate
+  pub shown : out ≡ certified_by name certificate ends.Done (first ++ optimal_text kind balance (idle_time line c balance.stations))
 
--- The units of the plan were used: the bounds and the balance that are printed are those of the certificate, which lists the units.
-pub record IsStopped (kind : LineKind) (line : Line) (c : ℕ) (plan : Plan) (name : Option (List ℕ)) (out : Outcome) : Type 0 where
+-- The units of the plan were used, of a run that began with some entries: the bounds and the balance that are printed are
+-- those of the certificate, which lists the units.
+pub record IsStopped (kind : LineKind) (line : Line) (c : ℕ) (plan : Plan) (before : List Entry) (first : List ℕ)
+    (name : Option (List ℕ)) (out : Outcome) : Type 0 where
   pub lower : ℕ
   pub balance : Assignment
   pub certificate : Certificate
-  pub proved : IsStop kind line c plan lower balance certificate
-  pub shown : out ≡ certified_by name certificate ends.Stopped (stopped_text kind lower balance (idle_time line c balance.stations))
+  pub proved : IsStopFrom kind line c plan before lower balance certificate
+  pub shown : out ≡ certified_by name certificate ends.Stopped (first ++ stopped_text kind lower balance (idle_time line c balance.stations))
 
 -- There is no balance: the least task that is longer than the cycle is printed, and the certificate names it.
 pub record IsInfeasible (kind : LineKind) (line : Line) (c : ℕ) (name : Option (List ℕ)) (out : Outcome) : Type 0 where
@@ -51,9 +57,18 @@ pub record IsInfeasible (kind : LineKind) (line : Line) (c : ℕ) (name : Option
   pub proved : IsNoBalance kind line c task certificate
   pub shown : out ≡ certified_by name certificate ends.Done (infeasible_text task (time line task))
 
+-- A run was made: it began with these entries, and its text with this line, where there are old entries; and it found the
+-- optimum, or its units ended.
+pub record IsBounded (kind : LineKind) (line : Line) (c : ℕ) (plan : Plan) (olds : Option (List Entry))
+    (name : Option (List ℕ)) (out : Outcome) : Type 0 where
+  pub before : List Entry
+  pub first : List ℕ
+  pub begins : BeginsWith kind line c plan olds before first
+  pub found : IsOptimal kind line c before first name out ⊎ IsStopped kind line c plan before first name out
+
 -- what is found with a certificate
-abbrev pub IsSolution : LineKind → Line → ℕ → Plan → Option (List ℕ) → Outcome → Type 0
-IsSolution kind line c plan name out = IsOptimal kind line c name out ⊎ IsStopped kind line c plan name out ⊎ IsInfeasible kind line c name out
+abbrev pub IsSolution : LineKind → Line → ℕ → Plan → Option (List Entry) → Option (List ℕ) → Outcome → Type 0
+IsSolution kind line c plan olds name out = IsBounded kind line c plan olds name out ⊎ IsInfeasible kind line c name out
 
 -- a run with a certificate is done, or its units ended
 abbrev pub IsSolveStatus : Status → Type 0
@@ -67,13 +82,25 @@ pub record IsCutShort (kind : LineKind) (line : Line) (c : ℕ) (out : Outcome) 
   pub true_bounds : IsProved kind line (ask.Stations c) lower upper
   pub shown : out ≡ told ends.Memory (cut_short_text lower upper)
 
--- the files say the line and the cycle time, and this is answered of them
-pub record IsAnswered (files : Files) (file : List ℕ) (apart : Option (List ℕ)) (word : Option ℕ) (kind : LineKind) (plan : Plan) (name : Option (List ℕ)) (out : Outcome) : Type 0 where
+-- the files say the line, the cycle time and the old entries, where there are any, and this is answered of them
+pub record IsAnswered (files : Files) (file : List ℕ) (apart warm : Option (List ℕ)) (word : Option ℕ) (kind : LineKind) (plan : Plan) (name : Option (List ℕ)) (out : Outcome) : Type 0 where
   pub line : Line
   pub c : ℕ
   pub said : IsSaid files file apart word line c
-  pub answer : IsSolution kind line c plan name out ⊎ IsCutShort kind line c out
+  pub olds : Option (List Entry)
+  pub old : AreOld files warm kind line olds
+  pub answer : IsSolution kind line c plan olds name out ⊎ IsCutShort kind line c out
 
--- What `solve` comes to with so many helpers and units: an answer, or why the files say no line with a cycle time.
-abbrev pub IsSolveOutcome : Outside → List ℕ → Option (List ℕ) → Option ℕ → LineKind → Plan → Option (List ℕ) → Outcome → Type 0
-IsSolveOutcome o file apart word kind plan name out = IsAnswered o.files file apart word kind plan name out ⊎ IsUnsaid o file apart word out
+-- the files say the line and the cycle time, and the file of the old certificate says none to begin with
+pub record IsSaidUnwarmed (o : Outside) (file : List ℕ) (apart warm : Option (List ℕ)) (word : Option ℕ) (kind : LineKind) (out : Outcome) : Type 0 where
+  pub line : Line
+  pub c : ℕ
+  pub said : IsSaid o.files file apart word line c
+  pub unwarmed : IsUnwarmed o warm kind line out
+
+-- What `solve` comes to with so many helpers and units: an answer; why the files say no line with a cycle time; or why the
+-- old certificate is refused. A later file is named only where the earlier ones were read.
+abbrev pub IsSolveOutcome : Outside → List ℕ → Option (List ℕ) → Option (List ℕ) → Option ℕ → LineKind → Plan → Option (List ℕ) → Outcome → Type 0
+IsSolveOutcome o file apart warm word kind plan name out =
+    IsAnswered o.files file apart warm word kind plan name out ⊎ IsUnsaid o file apart word out
+    ⊎ IsSaidUnwarmed o file apart warm word kind out

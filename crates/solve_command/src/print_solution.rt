@@ -16,26 +16,28 @@ fn push_bounds(text: &mut String, lower: u32, upper: u32) -> Result<(), AllocErr
     write!(text, "bounds {lower} {upper}\n")
 }
 
-/// The report of an optimum, with its balance.
+/// The report of an optimum, with its balance, behind a first text.
 pub fn optimal_text(
     alloc: Global,
+    first: String,
     balance: &Balance,
     kind: LineKind,
     idle: u128,
 ) -> Result<Vec<u8>, AllocError>
     requires places { length balance.now.place < 2 ^ 31 }
     requires stations { balance.now.stations < 2 ^ 31 }
-    ensures { IfOk result (λ t. t.items ≡ optimal_text kind balance.now idle) }
+    ensures { IfOk result (λ t. t.items ≡ string_bytes first ++ optimal_text kind balance.now idle) }
 {
     let stations = balance.stations;
-    let mut heading = String::new(alloc);
+    let mut heading = first;
     write!(heading, "optimal {stations}\n")?;
     balance_text(alloc, heading, balance, kind, idle)
 }
 
-/// The report of a search that used its units, with its best balance.
+/// The report of a search that used its units, with its best balance, behind a first text.
 pub fn stopped_text(
     alloc: Global,
+    first: String,
     lower: u32,
     balance: &Balance,
     kind: LineKind,
@@ -43,9 +45,10 @@ pub fn stopped_text(
 ) -> Result<Vec<u8>, AllocError>
     requires places { length balance.now.place < 2 ^ 31 }
     requires stations { balance.now.stations < 2 ^ 31 }
-    ensures { IfOk result (λ t. t.items ≡ stopped_text kind lower balance.now idle) }
+    ensures { IfOk result (λ t. t.items ≡ string_bytes first ++ stopped_text kind lower balance.now idle) }
 {
-    let mut heading = String::from_str(alloc, "stopped by units\n")?;
+    let mut heading = first;
+    heading.push_str("stopped by units\n")?;
     push_bounds(&mut heading, lower, balance.stations)?;
     balance_text(alloc, heading, balance, kind, idle)
 }

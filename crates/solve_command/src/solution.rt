@@ -1,34 +1,40 @@
 //! What `solve` answers of a line, and of files that say one.
-ghost use Rattle.std.specs.Prelude.{◌≡◌, ◌≢◌, ◌≤◌, ℕ, List, [], string_bytes, Some, None, Err, IfOk, MatchResult, option_map};
+ghost use Rattle.std.specs.Prelude.{◌≡◌, ◌≢◌, ◌≤◌, ℕ, List, [], Option, string_bytes, Some, None, Err, IfOk, MatchResult, option_map};
+ghost use Rattle.std.specs.Option.{ForSome};
 ghost use Rattle.line_io.specs.Outside.{Rises};
-ghost use Rattle.line_instance.specs.Line.{Line};
+ghost use Rattle.line_instance.specs.Line.{Line, tasks};
 ghost use Rattle.line_rules.specs.Bounds.{IsTooLong};
 ghost use Rattle.line_rules.specs.Checked.{IsLeastWhere};
-ghost use Rattle.line_rules.specs.Ranges.{IsCycle, IsInRange};
+ghost use Rattle.line_rules.specs.Ranges.{AreEntries, IsCycle, IsInRange};
 ghost use Rattle.line_rules.specs.declared.types.LineKind.{LineKind as Kind};
+ghost use Rattle.line_rules.specs.declared.types.Entry.{Entry as Lemma};
 ghost use Rattle.line_rules.specs.declared.types.OpenFrame.{OpenFrame};
 ghost use Rattle.line_rules.specs.declared.types.Certificate.{Certificate as Proof};
 ghost use Rattle.command_outcome.specs.declared.report.Kept.TheVariants.{Line as Certified};
 ghost use Rattle.line_words.specs.Ranges.{IsSetBetween};
 ghost use Rattle.round_run.specs.Plans.{IsPlan};
 ghost use Rattle.round_run.specs.declared.plans.Plan.{Plan as PlanOf};
-ghost use Rattle.round_run.specs.Solving.{IsSolved, IsSpent, IsStopped as HasStopped};
+ghost use Rattle.round_run.specs.Solving.{FitsAll, IsSolvedFrom, IsSpentFrom, IsStoppedFrom as HasStopped};
+ghost use Rattle.run_certificates.specs.Certified.{LeaveRoom};
 ghost use Rattle.command_outcome.specs.Outcome.{Files, Ends, MayEnd, Stay, Stops, MayStop, outside, outcome_of};
 ghost use Rattle.command_outcome.specs.declared.status.Status.TheVariants as ends;
 ghost use Rattle.command_outcome.specs.declared.report.Stop.TheVariants.{Unwritten};
+ghost use Rattle.solve_command.specs.Begun.{IsBegun};
 ghost use Rattle.solve_command.specs.Promise.{HasCertificate, IsPromised, IsShown};
-ghost use Rattle.solve_command.specs.Solution.{IsOptimal, IsStopped, IsInfeasible, IsSolution, IsCutShort, IsSolveOutcome, IsSolveStatus};
+ghost use Rattle.solve_command.specs.Solution.{IsOptimal, IsStopped, IsInfeasible, IsBounded, IsSolution, IsCutShort, IsSolveOutcome, IsSolveStatus};
 
 use crate::print_solution::{cut_short_text, optimal_text, room_for_bounds, stopped_text};
+use crate::warm_start::{Begun, begin, old_entries};
 use cert_files::{Streamed, stream_cert};
 use command_outcome::{Kept, Report, Status, Stop, refuse};
+use first_fit::{Ranked, ranked_balance};
 use input_files::said_instance;
 use lemma_core::Book;
 use line_instance::Instance;
 use line_io::Shelf;
-use line_rules::{Frames, LineKind};
-use round_run::{Cause, Gate, Outcome, Plan, solve};
-use run_certificates::{certify_optimum, certify_stop, certify_too_long};
+use line_rules::{Entries, Frames, LineKind};
+use round_run::{Cause, Gate, Outcome, Plan, solve_from};
+use run_certificates::{certify_too_long, certify_warm_optimum, certify_warm_stop};
 use station_report::{idle_of, infeasible_line};
 use std::alloc::{AllocError, Global};
 use std::sync::Wait;
@@ -40,17 +46,21 @@ fn optimal(
     inst: &Instance,
     kind: LineKind,
     cycle: u64,
+    first: String,
     book: Book,
 ) -> Result<Report, AllocError>
     requires cycle { IsCycle cycle }
-    requires solved { (N : ℕ) × (N ≤ 3000000) × IsSolved kind inst.now cycle N book }
-    ensures { IfOk result (λ r. IsOptimal kind inst.now cycle None (outcome_of r None)) }
+    requires solved { (before : List Lemma) × (N : ℕ) × LeaveRoom inst.now N before
+        × IsSolvedFrom kind inst.now cycle N before book }
+    ensures { IfOk result (λ r. (before : List Lemma) (N : ℕ) → LeaveRoom inst.now N before
+        → IsSolvedFrom kind inst.now cycle N before book
+        → IsOptimal kind inst.now cycle before (string_bytes first) None (outcome_of r None)) }
 {
     let _tasks = inst.tasks();
     let balance = book.best();
     let idle = idle_of(inst, cycle, balance.stations);
-    let text = optimal_text(alloc, balance, kind, idle)?;
-    let certificate = certify_optimum(alloc, inst, kind, cycle, book)?;
+    let text = optimal_text(alloc, first, balance, kind, idle)?;
+    let certificate = certify_warm_optimum(alloc, inst, kind, cycle, book)?;
     Ok(Report {
         status: Status::Done,
         text,
@@ -64,24 +74,26 @@ fn stopped(
     inst: &Instance,
     kind: LineKind,
     cycle: u64,
+    first: String,
     lower: u32,
     book: Book,
     trail: Frames,
 ) -> Result<Report, AllocError>
     requires cycle { IsCycle cycle }
-    requires spent { (plan : PlanOf) × (plan.units ≤ 3000000) × IsSpent kind inst.now cycle plan lower book trail }
-    ensures { IfOk result (λ r. (plan : PlanOf) → plan.units ≤ 3000000
-        → IsSpent kind inst.now cycle plan lower book trail
-        → IsStopped kind inst.now cycle plan None (outcome_of r None)) }
+    requires spent { (before : List Lemma) × (top : ℕ) × (plan : PlanOf)
+        × IsSpentFrom kind inst.now cycle plan before top lower book trail }
+    ensures { IfOk result (λ r. (before : List Lemma) (top : ℕ) (plan : PlanOf) → LeaveRoom inst.now plan.units before
+        → IsSpentFrom kind inst.now cycle plan before top lower book trail
+        → IsStopped kind inst.now cycle plan before (string_bytes first) None (outcome_of r None)) }
 {
     let _tasks = inst.tasks();
     let balance = book.best();
     let idle = idle_of(inst, cycle, balance.stations);
-    let text = stopped_text(alloc, lower, balance, kind, idle)?;
+    let text = stopped_text(alloc, first, lower, balance, kind, idle)?;
     Ok(Report {
         status: Status::Stopped,
         text,
-        kept: Kept::Line(certify_stop(inst, kind, cycle, lower, book, trail)),
+        kept: Kept::Line(certify_warm_stop(inst, kind, cycle, lower, book, trail)),
     })
 }
 
@@ -116,7 +128,8 @@ fn cut_short(
     book: &Book,
 ) -> Result<Stop, AllocError>
     requires room { string_bytes room ≡ [] }
-    requires stopped { (N : ℕ) × (trail : List OpenFrame) × HasStopped kind inst.now cycle N lower book.now trail }
+    requires stopped { (N : ℕ) × (before : List Lemma) × (added : List Lemma) × (trail : List OpenFrame)
+        × HasStopped kind inst.now cycle N before added lower book.now trail }
     ensures answer { IfOk result (Stops (IsCutShort kind inst.now cycle)) }
     ensures fault { IfOk result (MayStop ⊥) }
 {
@@ -126,6 +139,48 @@ fn cut_short(
     Ok(refuse(Status::Memory, text))
 }
 
+/// What is reported of a run that began so, with a certificate; or the bounds, where memory ended the search.
+fn run<R: Threads + Wait + Sync, G: Gate>(
+    rt: &R,
+    alloc: Global,
+    inst: &Instance,
+    kind: LineKind,
+    cycle: u64,
+    begun: Begun,
+    plan: &Plan,
+    gate: &G,
+    room: String,
+) -> Result<Report, Stop>
+    requires cycle { IsCycle cycle }
+    requires fits { FitsAll inst.now cycle }
+    requires plan { IsPlan plan.now }
+    requires room { string_bytes room ≡ [] }
+    requires begun { (olds : Option (List Lemma))
+        × IsBegun kind inst.now cycle plan.now olds begun.book (string_bytes begun.first) }
+    ensures answer { (olds : Option (List Lemma))
+        → IsBegun kind inst.now cycle plan.now olds begun.book (string_bytes begun.first)
+        → MatchResult result (λ r. IsBounded kind inst.now cycle plan.now olds None (outcome_of r None))
+        (Stops (IsCutShort kind inst.now cycle)) }
+    ensures good { IfOk result (λ r. IsSolveStatus r.status) }
+    ensures fault { MatchResult result (λ _. Unit {0}) (MayStop ⊥) }
+{
+    let Begun { book, first } = begun;
+    match solve_from(rt, alloc, inst, book, plan, gate) {
+        Outcome::TooLong(_) => unreachable!(),
+        Outcome::Solved { book } => Ok(optimal(alloc, inst, kind, cycle, first, book)?),
+        Outcome::Stopped {
+            cause,
+            lower,
+            book,
+            trail,
+        } => match cause {
+            Cause::Units => Ok(stopped(alloc, inst, kind, cycle, first, lower, book, trail)?),
+            Cause::Memory => Err(cut_short(inst, kind, cycle, room, lower, &book)?),
+        },
+        Outcome::NoMemory => Err(Stop::Memory),
+    }
+}
+
 /// What is reported of a line of this kind at a cycle time, with a certificate; or the bounds, where memory ended the search.
 fn solution<R: Threads + Wait + Sync, G: Gate>(
     rt: &R,
@@ -133,33 +188,28 @@ fn solution<R: Threads + Wait + Sync, G: Gate>(
     inst: &Instance,
     kind: LineKind,
     cycle: u64,
+    olds: Option<Entries>,
     plan: &Plan,
     gate: &G,
 ) -> Result<Report, Stop>
     requires cycle { IsCycle cycle }
     requires plan { IsPlan plan.now }
+    requires range { ForSome olds (AreEntries (tasks inst.now)) }
     ensures answer { MatchResult result
-        (λ r. IsSolution kind inst.now cycle plan.now None (outcome_of r None))
+        (λ r. IsSolution kind inst.now cycle plan.now olds None (outcome_of r None))
         (Stops (IsCutShort kind inst.now cycle)) }
-    ensures shown { IfOk result (λ r. IsShown kind inst.now cycle plan.now r.status r.text.items r.kept) }
+    ensures shown { IfOk result (λ r. IsShown kind inst.now cycle plan.now olds r.status r.text.items r.kept) }
     ensures good { IfOk result (λ r. IsSolveStatus r.status) }
     ensures fault { MatchResult result (λ _. Unit {0}) (MayStop ⊥) }
 {
     let room = room_for_bounds(alloc)?;
-    match solve(rt, alloc, inst, kind, cycle, plan, gate) {
-        Outcome::TooLong(task) => Ok(infeasible(alloc, inst, kind, cycle, task)?),
-        Outcome::Solved { book } => Ok(optimal(alloc, inst, kind, cycle, book)?),
-        Outcome::Stopped {
-            cause,
-            lower,
-            book,
-            trail,
-        } => match cause {
-            Cause::Units => Ok(stopped(alloc, inst, kind, cycle, lower, book, trail)?),
-            Cause::Memory => Err(cut_short(inst, kind, cycle, room, lower, &book)?),
-        },
-        Outcome::NoMemory => Err(Stop::Memory),
-    }
+    let best = match ranked_balance(alloc, inst, kind, cycle) {
+        Ranked::Good(best) => best,
+        Ranked::TooLong(task) => return Ok(infeasible(alloc, inst, kind, cycle, task)?),
+        Ranked::NoMemory => return Err(Stop::Memory),
+    };
+    let begun = begin(alloc, inst, kind, cycle, best, olds, plan)?;
+    run(rt, alloc, inst, kind, cycle, begun, plan, gate, room)
 }
 
 /// Writes the certificate of a report, and hands the report on.
@@ -171,8 +221,9 @@ fn written<S: Shelf>(
 ) -> Result<Report, Stop>
     requires sayable { (certificate : Proof) → report.kept ≡ Certified certificate → IsInRange certificate }
     ensures ends { S.tells → (files : Files) → Stay files (S.file shelf.old)
-        → (kind : Kind) (line : Line) (c : ℕ) (plan : PlanOf) → IsSolution kind line c plan None (outcome_of report None)
-        → Ends (outside files (S.blames shelf.new)) (IsSolution kind line c plan (Some name.now)) (S.file shelf.new) result }
+        → (kind : Kind) (line : Line) (c : ℕ) (plan : PlanOf) (olds : Option (List Lemma))
+        → IsSolution kind line c plan olds None (outcome_of report None)
+        → Ends (outside files (S.blames shelf.new)) (IsSolution kind line c plan olds (Some name.now)) (S.file shelf.new) result }
     ensures same { IfOk result (λ r. r ≡ report) }
     ensures certificate { S.tells → IfOk result (λ r. (cert : Proof) → r.kept ≡ Certified cert → HasCertificate (Some name.now) (S.file shelf.new) cert) }
     ensures fault { MatchResult result (λ _. Unit {0}) (MayEnd (Rises (S.faults shelf.old) (S.faults shelf.new))) }
@@ -188,14 +239,15 @@ fn written<S: Shelf>(
     }
 }
 
-/// The report of `solve` for the file of an instance, the file of the tasks that are apart, where there is one, the cycle time
-/// of the words, where they have one, the kind of line, the plan, and the name of the file that the
-/// certificate is written to, where there is one.
+/// The report of `solve` for the file of an instance, the file of the tasks that are apart, where there is one, the file of an
+/// old certificate with whose entries the run begins, where there is one, the cycle time of the words, where they have one,
+/// the kind of line, the plan, and the name of the file that the certificate is written to, where there is one.
 pub fn solve_report<R: Threads + Wait + Sync, S: Shelf, G: Gate>(
     rt: &R,
     alloc: Global,
     file: &str,
     apart: Option<&str>,
+    warm: Option<&str>,
     word: Option<u64>,
     kind: LineKind,
     plan: &Plan,
@@ -206,15 +258,16 @@ pub fn solve_report<R: Threads + Wait + Sync, S: Shelf, G: Gate>(
     requires word { IsSetBetween 1 1000000000000000000 word }
     requires plan { IsPlan plan.now }
     ensures ends { S.tells → (let o = outside (S.file shelf.old) (S.blames shelf.new) in
-        Ends o (IsSolveOutcome o file.now (option_map (λ a. a.now) apart.entry) word kind plan.now (option_map (λ a. a.now) name.entry)) (S.file shelf.new) result) }
+        Ends o (IsSolveOutcome o file.now (option_map (λ a. a.now) apart.entry) (option_map (λ a. a.now) warm.entry) word kind plan.now (option_map (λ a. a.now) name.entry)) (S.file shelf.new) result) }
     ensures good { IfOk result (λ r. IsSolveStatus r.status) }
     ensures fault { MatchResult result (λ _. Unit {0}) (MayEnd (Rises (S.faults shelf.old) (S.faults shelf.new))) }
     ensures unwritten { result ≡ Err Unwritten → (n : List ℕ) × (option_map (λ a. a.now) name.entry ≡ Some n) }
     ensures promise { S.tells → IfOk result (λ r.
-        IsPromised (S.file shelf.old) (S.file shelf.new) file.now (option_map (λ a. a.now) apart.entry) word kind plan.now (option_map (λ a. a.now) name.entry) r.status r.text.items r.kept) }
+        IsPromised (S.file shelf.old) (S.file shelf.new) file.now (option_map (λ a. a.now) apart.entry) (option_map (λ a. a.now) warm.entry) word kind plan.now (option_map (λ a. a.now) name.entry) r.status r.text.items r.kept) }
 {
     let timed = said_instance(alloc, file, apart, word, shelf)?;
-    let report = solution(rt, alloc, &timed.inst, kind, timed.cycle, plan, gate)?;
+    let olds = old_entries(alloc, warm, &timed.inst, kind, shelf)?;
+    let report = solution(rt, alloc, &timed.inst, kind, timed.cycle, olds, plan, gate)?;
     match name {
         None => Ok(report),
         Some(name) => written(alloc, shelf, name, report),

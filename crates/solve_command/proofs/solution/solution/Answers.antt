@@ -1,19 +1,8 @@
-use Rattle.std.proofs.Common.{None, inl, inr}
-use Rattle.command_outcome.specs.Outcome.{outcome_of}
-use Rattle.solve_command.proofs.PromiseFacts.{shown_of}
-use Rattle.solve_command.proofs.WrittenFacts.{spent_of, stopped_status}
+use Rattle.solve_command.proofs.PromiseFacts.{bounded_shown}
 use Rattle.solve_command.proofs.solution.solution.Goals as goal
 
-pub returns-in_ok-optimal-in-Solved-clause-shown : goal.returns-in_ok-optimal-in-Solved-clause-shown
-returns-in_ok-optimal-in-Solved-clause-shown g c =
-    shown_of c.args.kind c.args.inst.now c.args.cycle c.args.plan.now None (outcome_of c.in_ok-optimal-in-Solved.field-0 None) (inl c.in_ok-optimal-in-Solved.ensures)
-
-pub returns-in_ok-stopped-in-Units-clause-shown : goal.returns-in_ok-stopped-in-Units-clause-shown
-returns-in_ok-stopped-in-Units-clause-shown g c =
-    shown_of c.args.kind c.args.inst.now c.args.cycle c.args.plan.now None (outcome_of c.in_ok-stopped-in-Units.field-0 None)
-    (inr (inl (c.in_ok-stopped-in-Units.ensures c.args.plan.now c.requires.plan.limit (spent_of c.args.kind c.args.inst.now c.args.cycle c.args.plan.now c.in-Stopped.cause c.in-Stopped.lower c.in-Stopped.book c.in-Stopped.trail c.in-Units.is c.in-Stopped.ensures))))
-
-pub returns-in_ok-stopped-in-Units-clause-good : goal.returns-in_ok-stopped-in-Units-clause-good
-returns-in_ok-stopped-in-Units-clause-good g c =
-    stopped_status c.args.kind c.args.inst.now c.args.cycle c.args.plan.now c.in_ok-stopped-in-Units.field-0
-    (c.in_ok-stopped-in-Units.ensures c.args.plan.now c.requires.plan.limit (spent_of c.args.kind c.args.inst.now c.args.cycle c.args.plan.now c.in-Stopped.cause c.in-Stopped.lower c.in-Stopped.book c.in-Stopped.trail c.in-Units.is c.in-Stopped.ensures))
+pub returns-clause-shown : goal.returns-clause-shown
+returns-clause-shown g c =
+    let r = bounded_shown c.args.kind c.args.inst.now c.args.cycle c.args.plan.now c.args.olds c.run.result
+    (c.run.ensures.answer c.args.olds c.in_ok-begun.ensures) in
+    r.1

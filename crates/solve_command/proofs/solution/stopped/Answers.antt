@@ -1,14 +1,15 @@
 use Rattle.std.proofs.Common.{None, ap}
+use Rattle.std.specs.Prelude.{string_bytes}
 use Rattle.command_outcome.specs.declared.status.Status.TheVariants as ends
 use Rattle.solve_command.specs.Solution.{certified_by}
 use Rattle.solve_command.proofs.WrittenFacts.{stopped_as}
 use Rattle.solve_command.proofs.solution.stopped.Goals as goal
 
 pub returns : goal.returns
-returns c = λ plan limit spent. record {
+returns c = λ before top plan room spent. record {
   lower = c.args.lower;
   balance = c.args.book.state.best;
-  certificate = c.certify_stop.result;
-  proved = c.certify_stop.ensures plan limit spent;
-  shown = ap (certified_by None c.certify_stop.result ends.Stopped) (stopped_as c.in_ok-text.text.items c.args.kind c.args.inst.now c.args.cycle c.args.lower c.best-balance.result.now c.args.book.state.best c.idle_of-idle.result c.in_ok-text.ensures c.best-balance.ensures.best c.idle_of-idle.ensures);
+  certificate = c.certify_warm_stop.result;
+  proved = c.certify_warm_stop.ensures before top plan room spent;
+  shown = ap (certified_by None c.certify_warm_stop.result ends.Stopped) (stopped_as c.in_ok-text.text.items (string_bytes c.args.first) c.args.kind c.args.inst.now c.args.cycle c.args.lower c.best-balance.result.now c.args.book.state.best c.idle_of-idle.result c.in_ok-text.ensures c.best-balance.ensures.best c.idle_of-idle.ensures);
 }

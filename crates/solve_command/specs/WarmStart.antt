@@ -1,0 +1,82 @@
+-- What a run begins with: the old entries that a file says, why it says none, and which of them the run keeps.
+use Rattle.std.specs.Prelude.{◌≡◌, ◌≢◌, ◌⊎◌, ℕ, ◌-◌, ◌*◌, List, [], length, ◌++◌, Option, Some, None, codes, decimal}
+use Rattle.line_instance.specs.Line.{Line, tasks}
+use Rattle.line_rules.specs.Ranked.{IsRankedBalance}
+use Rattle.line_rules.specs.declared.types.LineKind.{LineKind}
+use Rattle.line_rules.specs.declared.types.Balance.{Balance as Assignment}
+use Rattle.line_rules.specs.declared.types.Entry.{Entry}
+use Rattle.line_rules.specs.declared.types.Claim.{Claim}
+use Rattle.line_rules.specs.declared.types.Claim.TheVariants as claim
+use Rattle.line_rules.specs.declared.types.Certificate.{Certificate}
+use Rattle.lemma_core.specs.Books.{BookView}
+use Rattle.warm_book.specs.Warm.{Taking, TakesAll, untaken}
+use Rattle.round_run.specs.declared.plans.Plan.{Plan}
+use Rattle.command_outcome.specs.Outcome.{Files, Outside, Outcome, told}
+use Rattle.command_outcome.specs.declared.status.Status.TheVariants as ends
+use Rattle.input_files.specs.Certificate.{IsCertificateOf, IsNoCertificate}
+
+-- the entries of a claim; none where it says that there is no balance
+abbrev pub entries_of : Claim → List Entry
+entries_of (claim.TooLong task) = []
+entries_of (claim.Bounds lower upper b es trail) = es
+
+-- a certificate that a run over the line may begin with: it is of as many tasks, and of the kind; the old entries are its
+pub record IsOldOf (kind : LineKind) (line : Line) (cert : Certificate) (old : List Entry) : Type 0 where
+  pub as_many : cert.tasks ≡ tasks line
+  pub same_kind : cert.kind ≡ kind
+  pub entries : old ≡ entries_of cert.claim
+
+-- the line about a certificate of another number of tasks
+abbrev pub tasks_line : ℕ → ℕ → List ℕ
+tasks_line said real = codes "refused: tasks " ++ decimal said ++ codes " " ++ decimal real ++ codes "\n"
+
+-- the line about a certificate of another kind of line
+abbrev pub kind_line : List ℕ
+kind_line = codes "refused: kind\n"
+
+-- a run over the line may not begin with the certificate: it is of another number of tasks; else of another kind
+abbrev pub IsOther : LineKind → Line → Certificate → Outcome → Type 0
+IsOther kind line cert out =
+    ((cert.tasks ≢ tasks line) × (out ≡ told ends.Refused (tasks_line cert.tasks (tasks line))))
+    ⊎ ((cert.tasks ≡ tasks line) × (cert.kind ≢ kind) × (out ≡ told ends.Refused kind_line))
+
+-- the old entries are those of the certificate that the file says, where there is one
+abbrev pub AreOld : Files → Option (List ℕ) → LineKind → Line → Option (List Entry) → Type 0
+AreOld files None kind line olds = olds ≡ None
+AreOld files (Some name) kind line olds =
+    (cert : Certificate) × (old : List Entry)
+    × (IsCertificateOf files name cert × IsOldOf kind line cert old × (olds ≡ Some old))
+
+-- the file says no certificate, or none that a run over the line may begin with
+abbrev pub IsUnwarmed : Outside → Option (List ℕ) → LineKind → Line → Outcome → Type 0
+IsUnwarmed o None kind line out = ⊥
+IsUnwarmed o (Some name) kind line out =
+    IsNoCertificate o name out
+    ⊎ ((cert : Certificate) × (IsCertificateOf o.files name cert × IsOther kind line cert out))
+
+-- the room for old entries, and for their units, of a run with so many units of its own
+abbrev pub old_room : ℕ → ℕ
+old_room N = 6000000 - 2 * N
+
+-- the line that says how many of the old entries were kept
+abbrev pub warm_line : ℕ → ℕ → List ℕ
+warm_line kept all = codes "warm " ++ decimal kept ++ codes " of " ++ decimal all ++ codes "\n"
+
+-- Entries that an empty book with the ranked balance has after it took in the old ones, and the line that says how many
+-- were kept.
+pub record IsWarm (kind : LineKind) (line : Line) (c : ℕ) (plan : Plan) (old before : List Entry) (first : List ℕ)
+    : Type 0 where
+  pub book : BookView
+  pub best : Assignment
+  pub ranked : IsRankedBalance kind line c best
+  pub about : book.about ≡ record { line = line; kind = kind; cycle = c }
+  pub state : book.state ≡ record { entries = []; best = best }
+  pub end : Taking
+  pub taken : TakesAll (old_room plan.units) (untaken book) old end
+  pub entries : end.book.state.entries ≡ before
+  pub said : first ≡ warm_line end.kept (length old)
+
+-- the entries with which a run begins, and the first line of its text: none, where there are no old entries
+abbrev pub BeginsWith : LineKind → Line → ℕ → Plan → Option (List Entry) → List Entry → List ℕ → Type 0
+BeginsWith kind line c plan None before first = (before ≡ []) × (first ≡ [])
+BeginsWith kind line c plan (Some old) before first = IsWarm kind line c plan old before first
