@@ -5,7 +5,7 @@ use Rattle.std.specs.declared.result.Result.TheVariants.{Ok, Err}
 use Rattle.line_words.specs.Words.{Text}
 use Rattle.line_words.specs.Jobs.{IsJob}
 use Rattle.line_words.specs.declared.job.Job.{Job}
-use Rattle.line_words.specs.declared.job.Job.TheVariants.{Help, Version, Balance, Solve, Cycle, Check, Convert, Combine, Utility, Timeline, Try}
+use Rattle.line_words.specs.declared.job.Job.TheVariants.{Help, Version, Balance, Solve, Cycle, Check, Convert, Combine, Utility, Timeline, Try, Draw}
 use Rattle.command_outcome.specs.Outcome.{Files}
 use Rattle.command_outcome.specs.declared.report.Kept.{Kept}
 use Rattle.command_outcome.specs.declared.report.Report.{Report}
@@ -17,6 +17,7 @@ use Rattle.check_command.specs.Check.{IsProvedTrue}
 use Rattle.solve_command.specs.Promise.{IsPromised}
 use Rattle.cycle_command.specs.CyclePromise.{IsCyclePromised}
 use Rattle.try_command.specs.Tried.{IsTried}
+use Rattle.draw_command.specs.Draw.{IsTrulyDrawn}
 use Rattle.line_program.specs.Run.{planned}
 
 -- the run answers the question of its words: with status 0, or with status 1 where it stopped by units
@@ -27,13 +28,14 @@ IsAnswered status = (status ≡ ends.Done) ⊎ (status ≡ ends.Stopped)
 -- the cycle that the files say, the balance that is printed is right, a certificate that the check accepts is kept, and
 -- written where the words name a file, its bounds are the printed ones and true, and they differ only where the units were
 -- spent on loads that it lists; of `cycle` the same of the least cycle time in so many stations. Of `try`: the same of the line of a
--- seed. Of `check`: where a certificate is accepted, whoever made it, what it claims is true.
+-- seed. Of `check`: where a certificate is accepted, whoever made it, what it claims is true. Of `draw`: the picture that is
+-- written is true of the line.
 abbrev pub PromisesOf : Files → Files → Job → Status → List ℕ → Kept → Type 0
 PromisesOf files after Help status text kept = Unit {0}
 PromisesOf files after Version status text kept = Unit {0}
 PromisesOf files after (Balance file cycle line apart) status text kept = Unit {0}
-PromisesOf files after (Solve file cycle line helpers units cert apart) status text kept =
-    IsPromised files after file apart cycle (kind_of line) (planned helpers units) cert status text kept
+PromisesOf files after (Solve file cycle line helpers units cert apart warm) status text kept =
+    IsPromised files after file apart warm cycle (kind_of line) (planned helpers units) cert status text kept
 PromisesOf files after (Cycle file stations line helpers units cert) status text kept =
     IsCyclePromised files after file (kind_of line) stations helpers units cert status text kept
 PromisesOf files after (Check file cert steps apart) status text kept = status ≡ ends.Done → IsProvedTrue files file cert apart steps
@@ -42,6 +44,7 @@ PromisesOf files after (Combine mix name) status text kept = Unit {0}
 PromisesOf files after (Utility mix cert seq interval length) status text kept = Unit {0}
 PromisesOf files after (Timeline mix cert seq interval length) status text kept = Unit {0}
 PromisesOf files after (Try seed tasks cycle line units) status text kept = IsTried seed tasks cycle (kind_of line) units status text kept
+PromisesOf files after (Draw file cert name apart) status text kept = IsTrulyDrawn files after file cert name apart
 
 -- The headline of a run that answers: the words ask for a job, its whole text is put behind what was put before, and what
 -- the job promises holds of that text, of the status, and of the certificate that is kept.

@@ -5,7 +5,7 @@ use Rattle.std.specs.declared.result.Result.TheVariants.{Ok, Err}
 use Rattle.line_words.specs.Words.{Text}
 use Rattle.line_words.specs.Jobs.{IsJob}
 use Rattle.line_words.specs.declared.job.Job.{Job}
-use Rattle.line_words.specs.declared.job.Job.TheVariants.{Help, Version, Balance, Solve, Cycle, Check, Convert, Combine, Utility, Timeline, Try}
+use Rattle.line_words.specs.declared.job.Job.TheVariants.{Help, Version, Balance, Solve, Cycle, Check, Convert, Combine, Utility, Timeline, Try, Draw}
 use Rattle.line_rules.specs.declared.types.LineKind.{LineKind}
 use Rattle.round_run.specs.declared.plans.Plan.{Plan}
 use Rattle.command_outcome.specs.Outcome.{Files, Outside, Outcome, IsCut, IsWritten, outcome_of, told}
@@ -26,6 +26,7 @@ use Rattle.mix_commands.specs.Combine.{IsCombineOutcome}
 use Rattle.mix_commands.specs.Utility.{IsUtilityOutcome}
 use Rattle.mix_commands.specs.Timeline.{IsTimelineOutcome}
 use Rattle.try_command.specs.Tried.{IsTried}
+use Rattle.draw_command.specs.Draw.{IsDrawOutcome}
 use Rattle.line_program.specs.Usage.{IsUsageOutcome}
 use Rattle.line_program.specs.Pages.{help_text, version_text}
 
@@ -43,7 +44,7 @@ abbrev pub IsJobOutcome : Outside → Job → Outcome → Type 0
 IsJobOutcome o Help out = out ≡ told ends.Done help_text
 IsJobOutcome o Version out = out ≡ told ends.Done version_text
 IsJobOutcome o (Balance file cycle line apart) out = IsBalanceOutcome o file apart cycle (kind_of line) out
-IsJobOutcome o (Solve file cycle line helpers units cert apart) out = IsSolveOutcome o file apart cycle (kind_of line) (planned helpers units) cert out
+IsJobOutcome o (Solve file cycle line helpers units cert apart warm) out = IsSolveOutcome o file apart warm cycle (kind_of line) (planned helpers units) cert out
 IsJobOutcome o (Cycle file stations line helpers units cert) out = IsCycleOutcome o file (kind_of line) stations helpers units cert out
 IsJobOutcome o (Check file cert steps apart) out = IsCheckOutcome o file cert apart steps out
 IsJobOutcome o (Convert file name to cycle) out = IsConvertOutcome o file name to cycle out
@@ -51,6 +52,7 @@ IsJobOutcome o (Combine mix name) out = IsCombineOutcome o mix name out
 IsJobOutcome o (Utility mix cert seq interval length) out = IsUtilityOutcome o mix cert seq interval length out
 IsJobOutcome o (Timeline mix cert seq interval length) out = IsTimelineOutcome o mix cert seq interval length out
 IsJobOutcome o (Try seed tasks cycle line units) out = IsTryOutcome seed tasks cycle (kind_of line) units out
+IsJobOutcome o (Draw file cert name apart) out = IsDrawOutcome o file cert name apart out
 
 -- the words ask for a job, and this is what it comes to
 pub record AsksJob (words : List Text) (o : Outside) (out : Outcome) : Type 0 where
@@ -71,7 +73,7 @@ abbrev pub IsPage : Job → Outcome → Type 0
 IsPage Help out = out ≡ told ends.Done help_text
 IsPage Version out = out ≡ told ends.Done version_text
 IsPage (Balance file cycle line apart) out = ⊥
-IsPage (Solve file cycle line helpers units cert apart) out = ⊥
+IsPage (Solve file cycle line helpers units cert apart warm) out = ⊥
 IsPage (Cycle file stations line helpers units cert) out = ⊥
 IsPage (Check file cert steps apart) out = ⊥
 IsPage (Convert file name to cycle) out = ⊥
@@ -79,13 +81,14 @@ IsPage (Combine mix name) out = ⊥
 IsPage (Utility mix cert seq interval length) out = ⊥
 IsPage (Timeline mix cert seq interval length) out = ⊥
 IsPage (Try seed tasks cycle line units) out = IsTryOutcome seed tasks cycle (kind_of line) units out
+IsPage (Draw file cert name apart) out = ⊥
 
 -- the job reads files
 abbrev pub ReadsFiles : Job → Type 0
 ReadsFiles Help = ⊥
 ReadsFiles Version = ⊥
 ReadsFiles (Balance file cycle line apart) = Unit {0}
-ReadsFiles (Solve file cycle line helpers units cert apart) = Unit {0}
+ReadsFiles (Solve file cycle line helpers units cert apart warm) = Unit {0}
 ReadsFiles (Cycle file stations line helpers units cert) = Unit {0}
 ReadsFiles (Check file cert steps apart) = Unit {0}
 ReadsFiles (Convert file name to cycle) = Unit {0}
@@ -93,6 +96,7 @@ ReadsFiles (Combine mix name) = Unit {0}
 ReadsFiles (Utility mix cert seq interval length) = Unit {0}
 ReadsFiles (Timeline mix cert seq interval length) = Unit {0}
 ReadsFiles (Try seed tasks cycle line units) = ⊥
+ReadsFiles (Draw file cert name apart) = Unit {0}
 
 -- the words ask for a job that reads files
 pub record AsksFiles (words : List Text) : Type 0 where
@@ -122,7 +126,7 @@ abbrev pub out_of : Job → Option Text
 out_of Help = None
 out_of Version = None
 out_of (Balance file cycle line apart) = None
-out_of (Solve file cycle line helpers units cert apart) = cert
+out_of (Solve file cycle line helpers units cert apart warm) = cert
 out_of (Cycle file stations line helpers units cert) = cert
 out_of (Check file cert steps apart) = None
 out_of (Convert file name to cycle) = Some name
@@ -130,6 +134,7 @@ out_of (Combine mix name) = Some name
 out_of (Utility mix cert seq interval length) = None
 out_of (Timeline mix cert seq interval length) = None
 out_of (Try seed tasks cycle line units) = None
+out_of (Draw file cert name apart) = Some name
 
 -- the words ask for a job that writes a file
 pub record IsWriting (words : List Text) : Type 0 where
@@ -154,7 +159,7 @@ abbrev pub IsJobTrue : Files → Job → Type 0
 IsJobTrue files Help = Unit {0}
 IsJobTrue files Version = Unit {0}
 IsJobTrue files (Balance file cycle line apart) = Unit {0}
-IsJobTrue files (Solve file cycle line helpers units cert apart) = Unit {0}
+IsJobTrue files (Solve file cycle line helpers units cert apart warm) = Unit {0}
 IsJobTrue files (Cycle file stations line helpers units cert) = Unit {0}
 IsJobTrue files (Check file cert steps apart) = IsProvedTrue files file cert apart steps
 IsJobTrue files (Convert file name to cycle) = Unit {0}
@@ -162,6 +167,7 @@ IsJobTrue files (Combine mix name) = Unit {0}
 IsJobTrue files (Utility mix cert seq interval length) = Unit {0}
 IsJobTrue files (Timeline mix cert seq interval length) = Unit {0}
 IsJobTrue files (Try seed tasks cycle line units) = Unit {0}
+IsJobTrue files (Draw file cert name apart) = Unit {0}
 
 -- What a run that is done has proved: where its words ask for the check of a certificate, whoever made it, what the certificate claims is true.
 pub record IsTrueRun (words : List Text) (files : Files) : Type 0 where

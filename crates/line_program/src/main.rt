@@ -9,14 +9,14 @@ mod call_tests;
 mod check_tests;
 #[cfg(test)]
 mod gate_tests;
-#[cfg(test)]
-mod mix_tests;
 mod pages;
 mod program;
 #[cfg(test)]
 mod runs;
 #[cfg(test)]
 mod solve_tests;
+#[cfg(test)]
+mod step_tests;
 #[cfg(test)]
 mod tests;
 mod usage;

@@ -13,6 +13,7 @@ balance FILE    a balance at once, a bound on its stations, the idle time
 solve FILE    a balance of the fewest stations, and the proof that it is
     cycle=C (the file's)  line=straight|u (straight)  helpers=0..64 (4)
     units=1..3000000 (1000000)  cert=OUT (none)  apart=PAIRS (none)
+    warm=CERT (none)
     line solve jackson.in2 cycle=10 cert=jackson.cert
 cycle FILE stations=1..1024    the least cycle time, and the proof
     line=straight|u (straight)  helpers=0..64 (4)
@@ -36,6 +37,9 @@ timeline MIX CERT SEQ interval=I length=L    the same, unit by unit, as CSV
 try seed=S tasks=1..1024    a generated instance, solved and checked
     cycle=C (200)  line=straight|u (straight)  units=1..3000000 (1000000)
     line try seed=1 tasks=50
+draw FILE CERT OUT    the balance of a proof as a picture, in SVG
+    apart=PAIRS (none)
+    line draw jackson.in2 jackson.cert jackson.svg
 --help, --version    this page, and the version
 
 FILE has an instance as IN2 or ALB, PAIRS lines i,j of tasks that may share no

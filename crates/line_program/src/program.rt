@@ -24,6 +24,7 @@ use check_command::check_report;
 use command_outcome::{Kept, Report, Status, Stop, finish};
 use convert_command::convert_report;
 use cycle_command::cycle_report;
+use draw_command::draw_report;
 use input_files::kind_of;
 use line_io::{Shelf, Sink};
 use line_words::{Job, JobRead, Name, job_of};
@@ -84,6 +85,7 @@ fn do_job<R: Threads + Wait + Sync, S: Shelf, G: Gate>(
             units,
             cert,
             apart,
+            warm,
         } => {
             let kind = kind_of(*line);
             let plan = Plan {
@@ -95,6 +97,7 @@ fn do_job<R: Threads + Wait + Sync, S: Shelf, G: Gate>(
                 alloc,
                 file.text(),
                 name_of(apart),
+                name_of(warm),
                 *cycle,
                 kind,
                 &plan,
@@ -189,6 +192,19 @@ fn do_job<R: Threads + Wait + Sync, S: Shelf, G: Gate>(
             let kind = kind_of(*line);
             try_report(rt, alloc, *seed, *tasks, *cycle, kind, *units)
         }
+        Job::Draw {
+            file,
+            cert,
+            out,
+            apart,
+        } => draw_report(
+            alloc,
+            file.text(),
+            cert.text(),
+            out.text(),
+            name_of(apart),
+            shelf,
+        ),
     }
 }
 
@@ -227,8 +243,8 @@ fn do_words<R: Threads + Wait + Sync, S: Shelf, G: Gate>(
 /// stations. `check` puts what the check of a certificate finds: what it accepts is true of the line. `convert` writes
 /// the canonical text of an instance in the other form, or of a certificate. `combine` writes the line that a mix of
 /// models combines to, `utility` puts the utility work of a sequence of units, and `timeline` puts it unit by unit.
-/// `try` draws a line from a seed, solves it, and tells the bounds of a certificate that was read again and verified. A
-/// fault of the words is answered by the line `usage`, with the number of the word and what is wrong. Each refusal is
+/// `try` draws a line from a seed, solves it, and tells the bounds of a certificate that was read again and verified.
+/// `draw` writes the picture of a certificate's balance. A fault of the words is answered by the line `usage`, with the number of the word and what is wrong. Each refusal is
 /// one line, and nothing is put with it. All files stay but the one that a job writes. `kept` then holds the
 /// certificate that the run made, where its answer was put, and else nothing; what it held before is dropped.
 pub fn run_gated<R: Threads + Wait + Sync, S: Shelf, K: Sink, G: Gate>(
