@@ -19,8 +19,9 @@ use Rattle.input_files.specs.Certificate.{IsCertificateOf, IsNoCertificate}
 use Rattle.check_command.specs.VerdictText.{verdict_text}
 use Rattle.convert_command.specs.Convert.{wrote}
 
--- The certificate is of as many tasks as the line has, and claims a balance that shows its upper bound: it is in as many stations as that says,
--- and right at its cycle time. The check of a certificate tests the same before its entries.
+-- The certificate is of as many tasks as the line has, and claims a balance that shows its upper bound: it is in as
+-- many stations as that says, and right at its cycle time. The check of a certificate tests the same before its
+-- entries.
 abbrev pub IsDrawable : Line → Certificate → Type 0
 IsDrawable line cert = NeedsEntries line cert
 
@@ -82,14 +83,15 @@ pub record IsRefused (files : Files) (name proof : List ℕ) (apart : Option (Li
   pub read : IsCertificateOf files proof cert
   pub refused : IsUndrawable line cert out
 
--- What `draw` comes to: a picture in a file; or why the files say no line, no certificate, or none that can be drawn. A later file is named only
--- where the earlier ones were read.
+-- What `draw` comes to: a picture in a file; or why the files say no line, no certificate, or none that can be drawn.
+-- A later file is named only where the earlier ones were read.
 abbrev pub IsDrawOutcome : Outside → List ℕ → List ℕ → List ℕ → Option (List ℕ) → Outcome → Type 0
 IsDrawOutcome o name proof to_name apart out =
     IsDrawn o.files name proof to_name apart out ⊎ IsNoLine o name apart out ⊎ IsUnread o name proof apart out ⊎ IsRefused o.files name proof apart out
 
--- What a run that is done has done: its files said a line and a certificate whose balance is right and shows the upper bound; the picture of it is
--- true of the line and stands whole in the file that was to be written; the other files stay.
+-- What a run that is done has done: its files said a line and a certificate whose balance is right and shows the
+-- upper bound; the picture of it is true of the line and stands whole in the file that was to be written; the other
+-- files stay.
 pub record IsTrulyDrawn (files after : Files) (name proof to_name : List ℕ) (apart : Option (List ℕ)) : Type 0 where
   pub line : Line
   pub cert : Certificate

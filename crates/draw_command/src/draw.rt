@@ -66,8 +66,8 @@ fn test(alloc: Global, inst: &Instance, cert: &Certificate) -> Result<(), Stop>
     }
 }
 
-/// The report of `draw` for the file of an instance, that of a certificate, the name of the one that is written, and the file of the tasks that
-/// are apart, where there is one.
+/// The report of `draw` for the file of an instance, that of a certificate, the name of the one that is written, and
+/// the file of the tasks that are apart, where there is one.
 pub fn draw_report<S: Shelf>(
     alloc: Global,
     file: &str,

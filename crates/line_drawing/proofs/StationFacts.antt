@@ -86,7 +86,8 @@ stands_at side k p e =
 at_stands : (side : Side) (k : ℕ) (p : Seatplace) → p.side ≡ side → p.station ≡ k → stands side k p ≡ true
 at_stands side k p e f = and_from (is_side p.side side) (nat_eq p.station k) (is_same_side p.side side e) (grind (arith, nat_tests, f))
 
--- a later task's place keeps the precedence, so the earlier one isn't at the back of its station where the later one is in front
+-- a later task's place keeps the precedence, so the earlier one isn't at the back of its station where the later one
+-- is in front
 never_turned : (kind : LineKind) (p q : Seatplace) → IsSide kind p.side → Keeps kind p q → p.side ≡ Back → q.side ≡ Front → ⊥
 never_turned Straight p q side keeps back front = sides_differ (sym side ∙ back)
 never_turned U p q side keeps back front = sides_differ (sym (keeps.front front).0 ∙ back)

@@ -46,9 +46,9 @@ pub record IsTrueLength (cycle : ℕ) (s : Segment) : Type 0 where
 abbrev pub Meet : List Segment → Type 0
 Meet segments = (p : ℕ) (s r : Segment) → slice_get segments p ≡ Some s → slice_get segments (p + 1) ≡ Some r → end_of s ≡ r.x
 
--- The segments of a station: one of each of its tasks, on its side. Those in front begin at 0 and meet, those at the back meet and end at 800,
--- and none overlap. Each is nearly as long as its time. Of two tasks of which one is before the other, the earlier one's segment ends where or before
--- the later one's begins.
+-- The segments of a station: one of each of its tasks, on its side. Those in front begin at 0 and meet, those at the
+-- back meet and end at 800, and none overlap. Each is nearly as long as its time. Of two tasks of which one is before
+-- the other, the earlier one's segment ends where or before the later one's begins.
 pub record AreTrue (line : Line) (cycle : ℕ) (places : List Seatplace) (station : ℕ) (segments : List Segment) : Type 0 where
   pub each : (p : ℕ) (s : Segment) → slice_get segments p ≡ Some s → IsOfTask line places station s
   pub all : (i : ℕ) → i < tasks line → (seat places i).station ≡ station → (p : ℕ) × ((s : Segment) × (slice_get segments p ≡ Some s) × (s.task ≡ i))
@@ -67,8 +67,8 @@ abbrev pub idle_to : Line → ℕ → List Seatplace → ℕ → ℕ
 idle_to line cycle places zero = 0
 idle_to line cycle places (suc n) = idle_to line cycle places n + (cycle - sum_at line places (suc n))
 
--- The numbers: no station has more time than the cycle, the idle times of the stations are that of the line together, the efficiency is at most
--- 100 percent, and that only where nothing is idle.
+-- The numbers: no station has more time than the cycle, the idle times of the stations are that of the line together,
+-- the efficiency is at most 100 percent, and that only where nothing is idle.
 pub record AreTrueNumbers (line : Line) (kind : LineKind) (cycle : ℕ) (b : Assignment) : Type 0 where
   pub fits : (station : ℕ) → sum_at line b.place station ≤ cycle
   pub idle : idle_to line cycle b.place b.stations ≡ idle_of (figures_of line kind cycle b)

@@ -35,7 +35,8 @@ abbrev pub times_of : Line → List ℕ → ℕ
 times_of line [] = 0
 times_of line (i ∷ is) = time line i + times_of line is
 
--- the segments of tasks in front, behind tasks of this sum: each begins where that sum ends, and ends where the sum with its own time does
+-- the segments of tasks in front, behind tasks of this sum: each begins where that sum ends, and ends where the sum
+-- with its own time does
 abbrev pub fronts_from : Line → ℕ → ℕ → List ℕ → List Segment
 fronts_from line cycle sum [] = []
 fronts_from line cycle sum (i ∷ is) =

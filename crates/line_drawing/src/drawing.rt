@@ -300,8 +300,8 @@ fn drawn(alloc: Global, inst: &Instance, cert: &Certificate) -> Result<Vec<u8>, 
     }
 }
 
-/// The picture of a certificate's balance, which has to be right for the line: one self-contained SVG 1.1 text. The bounds are shown as the
-/// certificate claims them, and not tested. The one error is that memory is out.
+/// The picture of a certificate's balance, which has to be right for the line: one self-contained SVG 1.1 text. The
+/// bounds are shown as the certificate claims them, and not tested. The one error is that memory is out.
 ///
 /// The text takes memory once; beside it stand the segments and the note of one station.
 pub fn draw_text(alloc: Global, inst: &Instance, cert: &Certificate) -> Result<Vec<u8>, AllocError>

@@ -1,9 +1,9 @@
 //! The picture of a balance: a certificate's stations as rows of segments, in one SVG text.
 //!
-//! A row is a cycle long, and a task's segment has the length of its time in it. Where a segment begins follows from the
-//! sum of the times before it, rounded down, so that neighbours meet and no error adds up. The tasks of each station are
-//! gone over four times, and all tasks once for each station and side, so the time is that of the stations times the
-//! tasks. The text is built on one string; beside it the segments of one station are kept.
+//! A row is a cycle long, and a task's segment has the length of its time in it. Where a segment begins follows from
+//! the sum of the times before it, rounded down, so that neighbours meet and no error adds up. All tasks are gone over
+//! six times for each station, so the time is that of the stations times the tasks. The text is built on one string;
+//! beside it the segments and the note of one station are kept.
 #![tactic(auto)]
 
 mod drawing;
