@@ -90,18 +90,20 @@ fn is_solve(job: &Job) -> bool {
         units,
         cert,
         apart,
+        warm,
     } = job
     else {
         return false;
     };
     let names = file.text() == "a.in2" && cert.as_ref().is_some_and(|cert| cert.text() == "c");
     let numbers = *cycle == Some(7) && *helpers == 4 && *units == 1_000_000;
-    names && numbers && *line == LineWord::U && apart.is_none()
+    let old = warm.as_ref().is_some_and(|warm| warm.text() == "w");
+    names && numbers && old && *line == LineWord::U && apart.is_none()
 }
 
 #[test]
 fn jobs_have_their_values(rt: HostRuntime) -> Result<(), Fail> {
-    let words = words_of(rt.alloc(), "solve cycle=7 a.in2 line=u cert=c")?;
+    let words = words_of(rt.alloc(), "solve cycle=7 a.in2 line=u cert=c warm=w")?;
     let right = match job_of(rt.alloc(), &words) {
         JobRead::Good(job) => is_solve(&job),
         _ => false,
