@@ -20,7 +20,8 @@ utility m.csv m.csv three.txt interval=7 length=8|certificate: line 1 form/
 combine three.txt k.in2|input: three.txt record 1 form/";
 
 /// The same of a certificate from which later searches begin.
-const WARM: &str = "solve seven.in2 cycle=7 helpers=0 cert=seven.cert|optimal 5/idle 7/station 1: 1/station 2: 2/station 3: 3 5/station 4: 4 6/station 5: 7/
+const WARM: &str =
+    "solve seven.in2 cycle=7 helpers=0 cert=seven.cert|optimal 5/idle 7/station 1: 1/station 2: 2/station 3: 3 5/station 4: 4 6/station 5: 7/
 solve seven.in2 cycle=7 helpers=0 units=1 warm=seven.cert|warm 4 of 4/optimal 5/idle 7/station 1: 1/station 2: 2/station 3: 3 5/station 4: 4 6/station 5: 7/
 solve changed.in2 cycle=7 helpers=0 units=1 warm=seven.cert|warm 0 of 4/optimal 4/idle 1/station 1: 1/station 2: 2/station 3: 3 5 7/station 4: 4 6/
 solve chain.in2 cycle=2 helpers=0 cert=chain.cert|optimal 3/idle 2/station 1: 1/station 2: 2/station 3: 3/
@@ -31,7 +32,8 @@ solve seven.in2 cycle=7 warm=none.cert|read fault: none.cert/
 solve seven.in2 cycle=7 warm=|usage: word 3 bad value/";
 
 /// The same of a picture.
-const DRAWN: &str = "solve chain.in2 cycle=2 helpers=0 cert=chain.cert|optimal 3/idle 2/station 1: 1/station 2: 2/station 3: 3/
+const DRAWN: &str =
+    "solve chain.in2 cycle=2 helpers=0 cert=chain.cert|optimal 3/idle 2/station 1: 1/station 2: 2/station 3: 3/
 draw chain.in2 chain.cert chain.svg|written chain.svg/
 draw seven.in2 chain.cert seven.svg|refused: tasks 3 7/
 draw chain.in2 chain.in2 other.svg|certificate: line 1 form/

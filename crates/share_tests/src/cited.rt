@@ -105,6 +105,14 @@ fn refuted<R: Wait>(
     }
 }
 
+// All tasks but one.
+fn all_but(inst: &Instance, task: u32) -> TaskSet
+    requires { task < 1024 }
+    ensures { IsTaskSet inst.now result.now }
+{
+    inst.all().without(task)
+}
+
 // Whether an entry is by a branch that cites one entry alone, this one.
 fn cites_only(entry: &Entry, id: u64) -> bool {
     match &entry.why {
@@ -131,7 +139,7 @@ fn a_pass_cites_an_entry_of_another(rt: HostRuntime) -> Result<(), Fail> {
     let (share, mut last) = shared(alloc, &inst)?;
     let one = share.split(&mut last);
     let two = share.split(&mut last);
-    let (first, second) = (inst.all().without(1), inst.all().without(0));
+    let (first, second) = (all_but(&inst, 1), all_but(&inst, 0));
     let asked = refuted(&rt, alloc, &share, one, &inst, &first) == Some((1, 31));
     let cited = refuted(&rt, alloc, &share, two, &inst, &second) == Some((2, 16));
     let kept = has_both(&share.close(&rt, last), &first.without(0));

@@ -8,6 +8,7 @@ use Rattle.check_command.specs.Check.{IsCheckOutcome}
 use Rattle.convert_command.specs.Convert.{IsConvertOutcome}
 use Rattle.solve_command.specs.Solution.{IsSolveOutcome}
 use Rattle.cycle_command.specs.Found.{IsCycleOutcome}
+use Rattle.draw_command.specs.Draw.{IsDrawOutcome}
 use Rattle.mix_commands.specs.Combine.{IsCombineOutcome}
 use Rattle.mix_commands.specs.Utility.{IsUtilityOutcome}
 use Rattle.mix_commands.specs.Timeline.{IsTimelineOutcome}
@@ -49,16 +50,34 @@ pub returns-in-Solve-clause-ends : goal.returns-in-Solve-clause-ends
 returns-in-Solve-clause-ends g c = λ t.
     let o : Outside = outside (g.S.Shelf.file c.args.shelf.now) (g.S.Shelf.blames c.solve_report.new.shelf) in
     let after : Files = g.S.Shelf.file c.solve_report.new.shelf in
-    let E : List ℕ → Option (List ℕ) → LineKind → Option (List ℕ) → Type 0 = λ f a k n. Ends o (IsSolveOutcome o f a c.in-Solve.cycle k (planned c.in-Solve.helpers c.in-Solve.units) n) after c.solve_report.result in
+    let E : List ℕ → Option (List ℕ) → Option (List ℕ) → LineKind → Option (List ℕ) → Type 0 = λ f a w k n. Ends o (IsSolveOutcome o f a w c.in-Solve.cycle k (planned c.in-Solve.helpers c.in-Solve.units) n) after c.solve_report.result in
     let file : List ℕ = c.text-in-Solve.result.now in
     let apart : Option (List ℕ) = option_map (λ a. a.now) c.name_of-in-Solve.result in
-    let name : Option (List ℕ) = option_map (λ a. a.now) c.name_of-in-Solve-2.result in
+    let warm : Option (List ℕ) = option_map (λ a. a.now) c.name_of-in-Solve-2.result in
+    let name : Option (List ℕ) = option_map (λ a. a.now) c.name_of-in-Solve-3.result in
     let J : Job → Type 0 = λ j. Ends o (IsJobOutcome o j) after c.solve_report.result in
-    let K : LineKind → Type 0 = λ k. E file apart k name in
-    let F : List ℕ → Type 0 = λ f. E f apart (kind_of c.in-Solve.line) name in
-    let A : Option (List ℕ) → Type 0 = λ a. E c.in-Solve.file a (kind_of c.in-Solve.line) name in
-    let N : Option (List ℕ) → Type 0 = λ n. E c.in-Solve.file c.in-Solve.apart (kind_of c.in-Solve.line) n in
-    subst J (sym c.in-Solve.is) (subst N c.name_of-in-Solve-2.ensures (subst A c.name_of-in-Solve.ensures (subst F c.text-in-Solve.ensures (subst K c.kind_of-kind-in-Solve.ensures (c.solve_report.ensures.ends t)))))
+    let K : LineKind → Type 0 = λ k. E file apart warm k name in
+    let F : List ℕ → Type 0 = λ f. E f apart warm (kind_of c.in-Solve.line) name in
+    let A : Option (List ℕ) → Type 0 = λ a. E c.in-Solve.file a warm (kind_of c.in-Solve.line) name in
+    let W : Option (List ℕ) → Type 0 = λ w. E c.in-Solve.file c.in-Solve.apart w (kind_of c.in-Solve.line) name in
+    let N : Option (List ℕ) → Type 0 = λ n. E c.in-Solve.file c.in-Solve.apart c.in-Solve.warm (kind_of c.in-Solve.line) n in
+    subst J (sym c.in-Solve.is)
+    (subst N c.name_of-in-Solve-3.ensures (subst W c.name_of-in-Solve-2.ensures (subst A c.name_of-in-Solve.ensures (subst F c.text-in-Solve.ensures (subst K c.kind_of-kind-in-Solve.ensures (c.solve_report.ensures.ends t))))))
+
+pub returns-in-Draw-clause-ends : goal.returns-in-Draw-clause-ends
+returns-in-Draw-clause-ends g c = λ t.
+    let o : Outside = outside (g.S.Shelf.file c.args.shelf.now) (g.S.Shelf.blames c.draw_report.new.shelf) in
+    let after : Files = g.S.Shelf.file c.draw_report.new.shelf in
+    let E : List ℕ → List ℕ → List ℕ → Option (List ℕ) → Type 0 = λ f p n a. Ends o (IsDrawOutcome o f p n a) after c.draw_report.result in
+    let proof : List ℕ = c.text-in-Draw-2.result.now in
+    let name : List ℕ = c.text-in-Draw-3.result.now in
+    let apart : Option (List ℕ) = option_map (λ a. a.now) c.name_of-in-Draw.result in
+    let J : Job → Type 0 = λ j. Ends o (IsJobOutcome o j) after c.draw_report.result in
+    let F : List ℕ → Type 0 = λ f. E f proof name apart in
+    let P : List ℕ → Type 0 = λ p. E c.in-Draw.file p name apart in
+    let N : List ℕ → Type 0 = λ n. E c.in-Draw.file c.in-Draw.cert n apart in
+    let A : Option (List ℕ) → Type 0 = λ a. E c.in-Draw.file c.in-Draw.cert c.in-Draw.out a in
+    subst J (sym c.in-Draw.is) (subst A c.name_of-in-Draw.ensures (subst N c.text-in-Draw-3.ensures (subst P c.text-in-Draw-2.ensures (subst F c.text-in-Draw.ensures (c.draw_report.ensures.ends t)))))
 
 pub returns-in-Combine-clause-ends : goal.returns-in-Combine-clause-ends
 returns-in-Combine-clause-ends g c = λ t.
