@@ -4,7 +4,6 @@ ghost use Rattle.line_rules.specs.declared.types.LineKind.TheVariants.{Straight}
 ghost use Rattle.book_share.specs.Calls.{IsPassOf};
 
 use super::{balance, free_tasks, offer, publish, shared, tested, try_publish};
-use crate::marks::Marks;
 use crate::{Pass, Share, TryLooked, TryPublished, turns};
 use lemma_core::{Book, LogItem, Looked, Offered, Published};
 use line_instance::Instance;
@@ -107,7 +106,7 @@ fn meets_a_held_turn(share: &Share, pass: &mut Pass, other: &mut Pass, inst: &In
         &share.table,
         &mut other.seat,
         book,
-        &mut Marks::Off,
+        &mut other.marks,
         &all,
         1,
     );
