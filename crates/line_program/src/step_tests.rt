@@ -29,7 +29,21 @@ solve seven.in2 cycle=7 warm=chain.cert|refused: tasks 3 7/
 solve seven.in2 cycle=7 line=u warm=seven.cert|refused: kind/
 solve seven.in2 cycle=7 warm=seven.in2|certificate: line 1 form/
 solve seven.in2 cycle=7 warm=none.cert|read fault: none.cert/
-solve seven.in2 cycle=7 warm=|usage: word 3 bad value/";
+solve seven.in2 cycle=7 warm=|usage: word 3 bad value/
+solve seven.in2 cycle=3 helpers=0 warm=chain.cert|refused: tasks 3 7/
+solve seven.in2 cycle=3 helpers=0 warm=seven.cert cert=none.cert|infeasible: task 1 time 7/
+solve seven.in2 cycle=7 helpers=0 warm=none.cert|warm 0 of 0/optimal 5/idle 7/station 1: 1/station 2: 2/station 3: 3 5/station 4: 4 6/station 5: 7/
+solve seven.in2 cycle=8 helpers=0 warm=seven.cert cert=eight.cert|warm 0 of 4/optimal 4/idle 4/station 1: 1/station 2: 2/station 3: 3 4/station 4: 5 6 7/
+solve seven.in2 cycle=7 helpers=0 warm=eight.cert|warm 1 of 1/optimal 5/idle 7/station 1: 1/station 2: 2/station 3: 3 5/station 4: 4 6/station 5: 7/
+solve five.in2 cycle=7 helpers=0 units=1 warm=first.cert|warm 1 of 1/optimal 3/idle 7/station 1: 1 3/station 2: 2 4/station 3: 5/
+solve five.in2 cycle=7 warm=bad.cert|certificate: line 16 form/";
+
+/// What refutes five tasks in two stations, in version 1, and in version 2 with a wrong last line.
+const FIRST: &[u8] =
+    b"line balance certificate 1\nline straight\ntasks 5\ncycle 7\nlower 3\nupper 3\nbalance 3\n1\n2\n1\n2\n3\nparts 1\npart 7\nentries 1\nbranch f f8 2 -\ntrail 0\nend\n";
+
+const BAD: &[u8] =
+    b"line balance certificate 2\nline straight\ntasks 5\ncycle 7\nlower 3\nupper 3\nbalance 3\n1\n2\n1\n2\n3\nentries 1\nbranch f 7 f8 2 -\ntrail 0\nEND\n";
 
 /// The same of a picture.
 const DRAWN: &str =
@@ -44,7 +58,7 @@ draw none.in2 chain.cert other.svg|read fault: none.in2/";
 /// The files of the rows.
 fn files(alloc: Global) -> Result<MemShelf, AllocError> {
     let mut shelf = MemShelf::new(alloc, Vec::new(alloc));
-    let rows: [(&str, &[u8]); 7] = [
+    let rows: [(&str, &[u8]); 10] = [
         (
             "m.csv",
             b"tasks,1,,\nmodel,A,1,\nmodel,B,1,\nmodel,C,1,\ntime,A,1,6\ntime,B,1,9\ntime,C,1,4\n",
@@ -53,6 +67,9 @@ fn files(alloc: Global) -> Result<MemShelf, AllocError> {
         ("other.txt", b"A\nB\nD\n"),
         ("none.txt", b""),
         ("chain.in2", b"3\n1\n2\n1\n1,2\n2,3\n-1,-1\n"),
+        ("five.in2", b"5\n4\n4\n2\n2\n2\n-1,-1\n"),
+        ("first.cert", FIRST),
+        ("bad.cert", BAD),
         ("seven.in2", b"7\n7\n7\n4\n4\n2\n2\n2\n-1,-1\n"),
         ("changed.in2", b"7\n7\n7\n4\n4\n2\n2\n1\n-1,-1\n"),
     ];
