@@ -81,13 +81,7 @@ fn verified_text(
 }
 
 // What is found of a text with a line in the place of the one of this number, counted from 1, in at most so many steps.
-fn found(
-    alloc: Global,
-    text: &str,
-    number: usize,
-    line: &str,
-    steps: u32,
-) -> Result<String, Fail> {
+fn found(alloc: Global, text: &str, number: usize, line: &str, steps: u32) -> Result<String, Fail> {
     let mut changed = String::new(alloc);
     for (k, old) in text.lines().enumerate() {
         changed.push_str(if k + 1 == number { line } else { old })?;
