@@ -1,5 +1,5 @@
 //! Two passes of one share decide a question each, and the second cites an entry of the first.
-ghost use Rattle.std.specs.Prelude.{◌≡◌, IfOk};
+ghost use Rattle.std.specs.Prelude.{◌≡◌, ◌<◌, IfOk};
 ghost use Rattle.line_instance.specs.Line.{IsTaskSet};
 ghost use Rattle.line_rules.specs.declared.types.LineKind.TheVariants.{Straight};
 ghost use Rattle.lemma_core.specs.Books.{IsReserved, MayBeBest};
@@ -108,7 +108,7 @@ fn refuted<R: Wait>(
 // All tasks but one.
 fn all_but(inst: &Instance, task: u32) -> TaskSet
     requires { task < 1024 }
-    ensures { IsTaskSet inst.now result.now }
+    ensures { IsTaskSet inst.now result }
 {
     inst.all().without(task)
 }
