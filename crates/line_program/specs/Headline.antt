@@ -5,7 +5,7 @@ use Rattle.std.specs.declared.result.Result.TheVariants.{Ok, Err}
 use Rattle.line_words.specs.Words.{Text}
 use Rattle.line_words.specs.Jobs.{IsJob}
 use Rattle.line_words.specs.declared.job.Job.{Job}
-use Rattle.line_words.specs.declared.job.Job.TheVariants.{Help, Version, Balance, Solve, Cycle, Check, Convert, Combine, Utility, Timeline, Try, Draw}
+use Rattle.line_words.specs.declared.job.Job.TheVariants.{Help, Version, Balance, Solve, Cycle, Check, Convert, Combine, Utility, Timeline, Try, Draw, Effic, EfficCheck}
 use Rattle.command_outcome.specs.Outcome.{Files}
 use Rattle.command_outcome.specs.declared.report.Kept.{Kept}
 use Rattle.command_outcome.specs.declared.report.Report.{Report}
@@ -18,6 +18,8 @@ use Rattle.solve_command.specs.Promise.{IsPromised}
 use Rattle.cycle_command.specs.CyclePromise.{IsCyclePromised}
 use Rattle.try_command.specs.Tried.{IsTried}
 use Rattle.draw_command.specs.Draw.{IsTrulyDrawn}
+use Rattle.effic_command.specs.EfficPromise.{IsEfficPromised}
+use Rattle.effic_command.specs.EfficCheck.{IsProvedProduct}
 use Rattle.line_program.specs.Run.{planned}
 
 -- the run answers the question of its words: with status 0, or with status 1 where it stopped by units
@@ -29,7 +31,8 @@ IsAnswered status = (status ≡ ends.Done) ⊎ (status ≡ ends.Stopped)
 -- written where the words name a file, its bounds are the printed ones and true, and they differ only where the units were
 -- spent on loads that it lists; of `cycle` the same of the least cycle time in so many stations. Of `try`: the same of the line of a
 -- seed. Of `check`: where a certificate is accepted, whoever made it, what it claims is true. Of `draw`: the picture that is
--- written is true of the line.
+-- written is true of the line. Of `effic`: the same as of `cycle` of the least product of stations and cycle, which may also
+-- stop by the size of its book; of `effic-check` the same as of `check`.
 abbrev pub PromisesOf : Files → Files → Job → Status → List ℕ → Kept → Type 0
 PromisesOf files after Help status text kept = Unit {0}
 PromisesOf files after Version status text kept = Unit {0}
@@ -45,6 +48,9 @@ PromisesOf files after (Utility mix cert seq interval length) status text kept =
 PromisesOf files after (Timeline mix cert seq interval length) status text kept = Unit {0}
 PromisesOf files after (Try seed tasks cycle line units) status text kept = IsTried seed tasks cycle (kind_of line) units status text kept
 PromisesOf files after (Draw file cert name apart) status text kept = IsTrulyDrawn files after file cert name apart
+PromisesOf files after (Effic file least most line helpers units cert) status text kept =
+    IsEfficPromised files after file (kind_of line) least most helpers units cert status text kept
+PromisesOf files after (EfficCheck file cert steps) status text kept = status ≡ ends.Done → IsProvedProduct files file cert steps
 
 -- The headline of a run that answers: the words ask for a job, its whole text is put behind what was put before, and what
 -- the job promises holds of that text, of the status, and of the certificate that is kept.

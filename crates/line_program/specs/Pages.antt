@@ -21,9 +21,16 @@ planning_text =
     ++ codes "    line=straight|u (straight)  helpers=0..64 (4)\n"
     ++ codes "    units=1..1000000 (1000000)  cert=OUT (none)\n"
     ++ codes "    line cycle jackson.in2 stations=5\n"
+    ++ codes "effic FILE least=1..1024 most=1..1024    the least stations times cycle time\n"
+    ++ codes "    line=straight|u (straight)  helpers=0..64 (4)\n"
+    ++ codes "    units=1..1000000 (1000000)  cert=OUT (none)\n"
+    ++ codes "    line effic jackson.in2 least=3 most=6 cert=jackson.product\n"
     ++ codes "check FILE CERT    whether a proof holds, and what it shows then\n"
     ++ codes "    steps=1..20000000 (20000000)  apart=PAIRS (none)\n"
     ++ codes "    line check jackson.in2 jackson.cert\n"
+    ++ codes "effic-check FILE CERT    the same of a proof of effic\n"
+    ++ codes "    steps=1..20000000 (20000000)\n"
+    ++ codes "    line effic-check jackson.in2 jackson.product\n"
 
 -- what the other commands give
 abbrev pub other_text : List ℕ

@@ -5,7 +5,7 @@ use Rattle.std.specs.declared.result.Result.TheVariants.{Ok, Err}
 use Rattle.line_words.specs.Words.{Text}
 use Rattle.line_words.specs.Jobs.{IsJob}
 use Rattle.line_words.specs.declared.job.Job.{Job}
-use Rattle.line_words.specs.declared.job.Job.TheVariants.{Help, Version, Balance, Solve, Cycle, Check, Convert, Combine, Utility, Timeline, Try, Draw}
+use Rattle.line_words.specs.declared.job.Job.TheVariants.{Help, Version, Balance, Solve, Cycle, Check, Convert, Combine, Utility, Timeline, Try, Draw, Effic, EfficCheck}
 use Rattle.line_rules.specs.declared.types.LineKind.{LineKind}
 use Rattle.round_run.specs.declared.plans.Plan.{Plan}
 use Rattle.command_outcome.specs.Outcome.{Files, Outside, Outcome, IsCut, IsWritten, outcome_of, told}
@@ -27,6 +27,8 @@ use Rattle.mix_commands.specs.Utility.{IsUtilityOutcome}
 use Rattle.mix_commands.specs.Timeline.{IsTimelineOutcome}
 use Rattle.try_command.specs.Tried.{IsTried}
 use Rattle.draw_command.specs.Draw.{IsDrawOutcome}
+use Rattle.effic_command.specs.EfficFound.{IsEfficOutcome}
+use Rattle.effic_command.specs.EfficCheck.{IsEfficCheckOutcome, IsProvedProduct}
 use Rattle.line_program.specs.Usage.{IsUsageOutcome}
 use Rattle.line_program.specs.Pages.{help_text, version_text}
 
@@ -53,6 +55,8 @@ IsJobOutcome o (Utility mix cert seq interval length) out = IsUtilityOutcome o m
 IsJobOutcome o (Timeline mix cert seq interval length) out = IsTimelineOutcome o mix cert seq interval length out
 IsJobOutcome o (Try seed tasks cycle line units) out = IsTryOutcome seed tasks cycle (kind_of line) units out
 IsJobOutcome o (Draw file cert name apart) out = IsDrawOutcome o file cert name apart out
+IsJobOutcome o (Effic file least most line helpers units cert) out = IsEfficOutcome o file (kind_of line) least most helpers units cert out
+IsJobOutcome o (EfficCheck file cert steps) out = IsEfficCheckOutcome o file cert steps out
 
 -- the words ask for a job, and this is what it comes to
 pub record AsksJob (words : List Text) (o : Outside) (out : Outcome) : Type 0 where
@@ -82,6 +86,8 @@ IsPage (Utility mix cert seq interval length) out = ⊥
 IsPage (Timeline mix cert seq interval length) out = ⊥
 IsPage (Try seed tasks cycle line units) out = IsTryOutcome seed tasks cycle (kind_of line) units out
 IsPage (Draw file cert name apart) out = ⊥
+IsPage (Effic file least most line helpers units cert) out = ⊥
+IsPage (EfficCheck file cert steps) out = ⊥
 
 -- the job reads files
 abbrev pub ReadsFiles : Job → Type 0
@@ -97,6 +103,8 @@ ReadsFiles (Utility mix cert seq interval length) = Unit {0}
 ReadsFiles (Timeline mix cert seq interval length) = Unit {0}
 ReadsFiles (Try seed tasks cycle line units) = ⊥
 ReadsFiles (Draw file cert name apart) = Unit {0}
+ReadsFiles (Effic file least most line helpers units cert) = Unit {0}
+ReadsFiles (EfficCheck file cert steps) = Unit {0}
 
 -- the words ask for a job that reads files
 pub record AsksFiles (words : List Text) : Type 0 where
@@ -135,6 +143,8 @@ out_of (Utility mix cert seq interval length) = None
 out_of (Timeline mix cert seq interval length) = None
 out_of (Try seed tasks cycle line units) = None
 out_of (Draw file cert name apart) = Some name
+out_of (Effic file least most line helpers units cert) = cert
+out_of (EfficCheck file cert steps) = None
 
 -- the words ask for a job that writes a file
 pub record IsWriting (words : List Text) : Type 0 where
@@ -168,6 +178,8 @@ IsJobTrue files (Utility mix cert seq interval length) = Unit {0}
 IsJobTrue files (Timeline mix cert seq interval length) = Unit {0}
 IsJobTrue files (Try seed tasks cycle line units) = Unit {0}
 IsJobTrue files (Draw file cert name apart) = Unit {0}
+IsJobTrue files (Effic file least most line helpers units cert) = Unit {0}
+IsJobTrue files (EfficCheck file cert steps) = IsProvedProduct files file cert steps
 
 -- What a run that is done has proved: where its words ask for the check of a certificate, whoever made it, what the certificate claims is true.
 pub record IsTrueRun (words : List Text) (files : Files) : Type 0 where

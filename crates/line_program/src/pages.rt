@@ -19,9 +19,16 @@ cycle FILE stations=1..1024    the least cycle time, and the proof
     line=straight|u (straight)  helpers=0..64 (4)
     units=1..1000000 (1000000)  cert=OUT (none)
     line cycle jackson.in2 stations=5
+effic FILE least=1..1024 most=1..1024    the least stations times cycle time
+    line=straight|u (straight)  helpers=0..64 (4)
+    units=1..1000000 (1000000)  cert=OUT (none)
+    line effic jackson.in2 least=3 most=6 cert=jackson.product
 check FILE CERT    whether a proof holds, and what it shows then
     steps=1..20000000 (20000000)  apart=PAIRS (none)
     line check jackson.in2 jackson.cert
+effic-check FILE CERT    the same of a proof of effic
+    steps=1..20000000 (20000000)
+    line effic-check jackson.in2 jackson.product
 ";
 
 /// What the other commands give.

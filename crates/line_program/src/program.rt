@@ -25,6 +25,7 @@ use command_outcome::{Kept, Report, Status, Stop, finish};
 use convert_command::convert_report;
 use cycle_command::cycle_report;
 use draw_command::draw_report;
+use effic_command::{effic_check_report, effic_report};
 use input_files::kind_of;
 use line_io::{Shelf, Sink};
 use line_words::{Job, JobRead, Name, job_of};
@@ -205,6 +206,36 @@ fn do_job<R: Threads + Wait + Sync, S: Shelf, G: Gate>(
             name_of(apart),
             shelf,
         ),
+        Job::Effic {
+            file,
+            least,
+            most,
+            line,
+            helpers,
+            units,
+            cert,
+        } => {
+            let kind = kind_of(*line);
+            let plan = Plan {
+                helpers: *helpers,
+                units: *units,
+            };
+            effic_report(
+                rt,
+                alloc,
+                file.text(),
+                kind,
+                *least,
+                *most,
+                &plan,
+                name_of(cert),
+                shelf,
+                gate,
+            )
+        }
+        Job::EfficCheck { file, cert, steps } => {
+            effic_check_report(alloc, file.text(), cert.text(), *steps, shelf)
+        }
     }
 }
 
@@ -244,8 +275,9 @@ fn do_words<R: Threads + Wait + Sync, S: Shelf, G: Gate>(
 /// the canonical text of an instance in the other form, or of a certificate. `combine` writes the line that a mix of
 /// models combines to, `utility` puts the utility work of a sequence of units, and `timeline` puts it unit by unit.
 /// `try` draws a line from a seed, solves it, and tells the bounds of a certificate that was read again and verified.
-/// `draw` writes the picture of a certificate's balance. A fault of the words is answered by the line `usage`, with the number of the word and what is wrong. Each refusal is
-/// one line, and nothing is put with it. All files stay but the one that a job writes. `kept` then holds the
+/// `draw` writes the picture of a certificate's balance. `effic` puts the least product of stations and cycle time, and
+/// writes its certificate, and `effic-check` puts what the check of such a certificate finds. A fault of the words is
+/// answered by the line `usage`, with the number of the word and what is wrong. Each refusal is one line, and nothing is put with it. All files stay but the one that a job writes. `kept` then holds the
 /// certificate that the run made, where its answer was put, and else nothing; what it held before is dropped.
 pub fn run_gated<R: Threads + Wait + Sync, S: Shelf, K: Sink, G: Gate>(
     rt: &R,

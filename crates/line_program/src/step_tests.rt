@@ -1,5 +1,5 @@
 //! Runs over files in memory, one after another, where a later one reads what an earlier one wrote: the worked rows of
-//! mixes, of warm starts and of pictures.
+//! mixes, of warm starts, of pictures and of least products.
 use crate::runs::run_words;
 use line_io::{MemShelf, MemSink};
 use std::alloc::{AllocError, Global};
@@ -54,6 +54,19 @@ draw chain.in2 chain.in2 other.svg|certificate: line 1 form/
 draw chain.in2 chain.cert|usage: word 3 missing name/
 draw chain.in2 chain.cert chain.svg cycle=2|usage: word 4 unknown key/
 draw none.in2 chain.cert other.svg|read fault: none.in2/";
+
+/// The same of the least product of stations and cycle.
+const PRODUCTS: &str = "effic five.in2 least=2 most=4 helpers=0 units=15 cert=e.cert|optimal product 16/stations 2 cycle 8/idle 2/station 1: 1 2/station 2: 3 4 5/
+effic-check five.in2 e.cert|accepted straight product 2 4 lower 16 upper 16 units 15/
+effic-check five.in2 e.cert steps=14|steps ended at 14/
+effic-check seven.in2 e.cert|refused: tasks 5 7/
+effic five.in2 least=2 most=4 helpers=0 units=14 cert=e.cert|stopped by units/bounds 14 16/stations 2 cycle 8/idle 2/station 1: 1 2/station 2: 3 4 5/
+effic-check five.in2 e.cert|accepted straight product 2 4 lower 14 upper 16 units 14/
+effic five.in2 least=3 most=3 helpers=0|optimal product 18/stations 3 cycle 6/idle 4/station 1: 1 3/station 2: 2 4/station 3: 5/
+effic five.in2 least=4 most=3|usage: word 3 bad value/
+effic chain.in2 least=2 most=2 line=u helpers=0|optimal product 4/stations 2 cycle 2/idle 0/station 1: 1 back 3/station 2: 2/
+effic none.in2 least=1 most=1|read fault: none.in2/
+effic-check five.in2 first.cert|certificate: line 1 form/";
 
 /// The files of the rows.
 fn files(alloc: Global) -> Result<MemShelf, AllocError> {
@@ -111,6 +124,14 @@ fn a_mix_of_three_models(rt: HostRuntime) -> Result<(), Fail> {
 fn what_was_proved_is_not_proved_again(rt: HostRuntime) -> Result<(), Fail> {
     let mut shelf = files(rt.alloc())?;
     let wrong = first_wrong(&rt, rt.alloc(), WARM, &mut shelf)?;
+    assert_eq!(rt; wrong.as_str(), "");
+    Ok(())
+}
+
+#[test]
+fn the_least_product_is_proved(rt: HostRuntime) -> Result<(), Fail> {
+    let mut shelf = files(rt.alloc())?;
+    let wrong = first_wrong(&rt, rt.alloc(), PRODUCTS, &mut shelf)?;
     assert_eq!(rt; wrong.as_str(), "");
     Ok(())
 }

@@ -1,12 +1,12 @@
 -- What the words ask for, and the first fault in them.
-use Rattle.std.specs.Prelude.{◌≡◌, ◌⊎◌, ℕ, suc, ◌<◌, cond, nat_lt, List, [], ◌∷◌, length, take, slice_index_or, Option, Some, None, codes}
+use Rattle.std.specs.Prelude.{◌≡◌, ◌⊎◌, ℕ, suc, ◌<◌, cond, nat_lt, nat_le, ◌&&◌, Bool, true, List, [], ◌∷◌, length, take, slice_index_or, Option, Some, None, codes}
 use Rattle.std.specs.Str.{bytes_eq}
 use Rattle.line_words.specs.Words.{Text, setting, names_of, value_of, sets}
 use Rattle.line_words.specs.Table.{command_named, names_wanted, keys_wanted, takes, sets_all, is_value, is_some, most_of, number_up_to}
 use Rattle.line_words.specs.declared.command.Command.{Command}
 use Rattle.line_words.specs.declared.command.Command.TheVariants as command
 use Rattle.line_words.specs.declared.job.Job.{Job}
-use Rattle.line_words.specs.declared.job.Job.TheVariants.{Help, Version, Balance, Solve, Cycle, Check, Convert, Combine, Utility, Timeline, Try, Draw}
+use Rattle.line_words.specs.declared.job.Job.TheVariants.{Help, Version, Balance, Solve, Cycle, Check, Convert, Combine, Utility, Timeline, Try, Draw, Effic, EfficCheck}
 use Rattle.line_words.specs.declared.job.LineWord.{LineWord}
 use Rattle.line_words.specs.declared.job.LineWord.TheVariants.{Straight, U}
 use Rattle.line_words.specs.declared.job.FormWord.{FormWord}
@@ -16,11 +16,34 @@ use Rattle.line_words.specs.declared.fault.UsageKind.TheVariants.{NoCommand, Unk
 use Rattle.line_words.specs.declared.reading.JobRead.{JobRead}
 use Rattle.line_words.specs.declared.reading.JobRead.TheVariants.{Good, Usage, NoMemory}
 
--- what is wrong with a setting, by the words before it: its key is none of the command, or stands before, or its value is wrong
+-- the number that a text writes for a key
+abbrev pub number_in_value : Command → Text → Option Text → Option ℕ
+number_in_value command key None = None
+number_in_value command key (Some value) = number_up_to (most_of command key) value
+
+-- the number that the words set a key to, where they set it
+abbrev pub number_set : Command → List Text → Text → Option ℕ
+number_set command words key = number_in_value command key (value_of words key)
+
+-- the first of two numbers isn't above the second, where both are there
+abbrev pub are_ordered : Option ℕ → Option ℕ → Bool
+are_ordered None most = true
+are_ordered (Some least) None = true
+are_ordered (Some least) (Some most) = nat_le least most
+
+-- the least number of stations isn't above the most, where one of them is set here and the other by the words before
+abbrev pub ends_agree : Command → List Text → Text × Text → Bool
+ends_agree command before p =
+    cond (bytes_eq p.0 (codes "least")) (are_ordered (number_up_to (most_of command p.0) p.1) (number_set command before (codes "most")))
+    (cond (bytes_eq p.0 (codes "most")) (are_ordered (number_set command before (codes "least")) (number_up_to (most_of command p.0) p.1))
+    true)
+
+-- what is wrong with a setting, by the words before it: its key is none of the command, or stands before, or its value is wrong, or the
+-- least number of stations is above the most
 abbrev pub setting_fault : Command → List Text → Text × Text → Option UsageKind
 setting_fault command before p =
     cond (takes command p.0)
-    (cond (sets before p.0) (Some RepeatedKey) (cond (is_value command p.0 p.1) None (Some BadValue)))
+    (cond (sets before p.0) (Some RepeatedKey) (cond (is_value command p.0 p.1 && ends_agree command before p) None (Some BadValue)))
     (Some UnknownKey)
 
 -- what is wrong with a name, by the words before it: it is empty, or one too many
@@ -56,15 +79,6 @@ abbrev pub missing : Command → List Text → Option UsageKind
 missing command words =
     cond (nat_lt (length (names_of words)) (names_wanted command)) (Some MissingName)
     (cond (sets_all words (keys_wanted command)) None (Some MissingKey))
-
--- the number that a text writes for a key
-abbrev pub number_in_value : Command → Text → Option Text → Option ℕ
-number_in_value command key None = None
-number_in_value command key (Some value) = number_up_to (most_of command key) value
-
--- the number that the words set a key to, where they set it
-abbrev pub number_set : Command → List Text → Text → Option ℕ
-number_set command words key = number_in_value command key (value_of words key)
 
 -- a number, or the default
 abbrev pub or_default : ℕ → Option ℕ → ℕ
@@ -119,6 +133,10 @@ job_for command.Try ws =
     Try (number_or command.Try ws (codes "seed") 0) (number_or command.Try ws (codes "tasks") 1) (number_or command.Try ws (codes "cycle") 200) (line_set ws)
     (number_or command.Try ws (codes "units") 1000000)
 job_for command.Draw ws = Draw (name_at ws 0) (name_at ws 1) (name_at ws 2) (value_of ws (codes "apart"))
+job_for command.Effic ws =
+    Effic (name_at ws 0) (number_or command.Effic ws (codes "least") 1) (number_or command.Effic ws (codes "most") 1024) (line_set ws)
+    (number_or command.Effic ws (codes "helpers") 4) (number_or command.Effic ws (codes "units") 1000000) (value_of ws (codes "cert"))
+job_for command.EfficCheck ws = EfficCheck (name_at ws 0) (name_at ws 1) (number_or command.EfficCheck ws (codes "steps") 20000000)
 
 -- the words behind a command ask for this job: nothing is wrong with them, nothing is missing, and it has their values or the defaults
 pub record Asks (command : Command) (words : List Text) (job : Job) : Type 0 where

@@ -1,7 +1,7 @@
 -- The ranges of the numbers of a job.
 use Rattle.std.specs.Prelude.{ℕ, ◌≤◌, Option, Some, None}
 use Rattle.line_words.specs.declared.job.Job.{Job}
-use Rattle.line_words.specs.declared.job.Job.TheVariants.{Help, Version, Balance, Solve, Cycle, Check, Convert, Combine, Utility, Timeline, Try, Draw}
+use Rattle.line_words.specs.declared.job.Job.TheVariants.{Help, Version, Balance, Solve, Cycle, Check, Convert, Combine, Utility, Timeline, Try, Draw, Effic, EfficCheck}
 use Rattle.line_words.specs.declared.reading.JobRead.{JobRead}
 use Rattle.line_words.specs.declared.reading.JobRead.TheVariants.{Good, Usage, NoMemory}
 
@@ -30,6 +30,9 @@ IsInRange (Timeline mix cert seq interval length) = IsBetween 1 1000000000 inter
 IsInRange (Try seed tasks cycle line units) =
     IsBetween 0 18446744073709551615 seed × IsBetween 1 1024 tasks × IsBetween 1 1000000000000000000 cycle × IsBetween 1 3000000 units
 IsInRange (Draw file cert out apart) = Unit {0}
+IsInRange (Effic file least most line helpers units cert) =
+    IsBetween 1 1024 least × IsBetween 1 1024 most × (least ≤ most) × IsBetween 0 64 helpers × IsBetween 1 1000000 units
+IsInRange (EfficCheck file cert steps) = IsBetween 1 20000000 steps
 
 -- the job that was read is in its ranges, where there is one
 abbrev pub HasRange : JobRead → Type 0

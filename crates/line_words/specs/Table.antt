@@ -6,7 +6,7 @@ use Rattle.line_io.specs.declared.text.Num.{Num}
 use Rattle.line_io.specs.declared.text.Num.TheVariants.{Value, NotANumber, Above}
 use Rattle.line_words.specs.Words.{Text, sets}
 use Rattle.line_words.specs.declared.command.Command.{Command}
-use Rattle.line_words.specs.declared.command.Command.TheVariants.{Balance, Solve, Cycle, Check, Convert, Combine, Utility, Timeline, Try, Draw}
+use Rattle.line_words.specs.declared.command.Command.TheVariants.{Balance, Solve, Cycle, Check, Convert, Combine, Utility, Timeline, Try, Draw, Effic, EfficCheck}
 
 -- the command that a word names
 abbrev pub command_named : Text → Option Command
@@ -20,7 +20,9 @@ command_named word =
     (cond (bytes_eq word (codes "utility")) (Some Utility)
     (cond (bytes_eq word (codes "timeline")) (Some Timeline)
     (cond (bytes_eq word (codes "try")) (Some Try)
-    (cond (bytes_eq word (codes "draw")) (Some Draw) None)))))))))
+    (cond (bytes_eq word (codes "draw")) (Some Draw)
+    (cond (bytes_eq word (codes "effic")) (Some Effic)
+    (cond (bytes_eq word (codes "effic-check")) (Some EfficCheck) None)))))))))))
 
 -- how many names a command wants
 abbrev pub names_wanted : Command → ℕ
@@ -34,6 +36,8 @@ names_wanted Utility = 3
 names_wanted Timeline = 3
 names_wanted Try = 0
 names_wanted Draw = 3
+names_wanted Effic = 1
+names_wanted EfficCheck = 2
 
 -- a key is one of these
 abbrev pub one_of : Text → List Text → Bool
@@ -52,6 +56,8 @@ keys_wanted Utility = codes "interval" ∷ codes "length" ∷ []
 keys_wanted Timeline = codes "interval" ∷ codes "length" ∷ []
 keys_wanted Try = codes "seed" ∷ codes "tasks" ∷ []
 keys_wanted Draw = []
+keys_wanted Effic = codes "least" ∷ codes "most" ∷ []
+keys_wanted EfficCheck = []
 
 -- the keys that a command takes
 abbrev pub keys_taken : Command → List Text
@@ -66,6 +72,9 @@ keys_taken Utility = codes "interval" ∷ codes "length" ∷ []
 keys_taken Timeline = codes "interval" ∷ codes "length" ∷ []
 keys_taken Try = codes "seed" ∷ codes "tasks" ∷ codes "cycle" ∷ codes "line" ∷ codes "units" ∷ []
 keys_taken Draw = codes "apart" ∷ []
+keys_taken Effic =
+    codes "least" ∷ codes "most" ∷ codes "line" ∷ codes "helpers" ∷ codes "units" ∷ codes "cert" ∷ []
+keys_taken EfficCheck = codes "steps" ∷ []
 
 -- a command takes a key
 abbrev pub takes : Command → Text → Bool
@@ -88,6 +97,8 @@ units_most Utility = 3000000
 units_most Timeline = 3000000
 units_most Try = 3000000
 units_most Draw = 3000000
+units_most Effic = 1000000
+units_most EfficCheck = 3000000
 
 -- the least number that a key takes
 abbrev pub least_of : Text → ℕ
@@ -99,7 +110,7 @@ most_of command key =
     cond (bytes_eq key (codes "cycle")) 1000000000000000000
     (cond (bytes_eq key (codes "helpers")) 64
     (cond (bytes_eq key (codes "units")) (units_most command)
-    (cond (bytes_eq key (codes "stations")) 1024
+    (cond (bytes_eq key (codes "stations") || bytes_eq key (codes "least") || bytes_eq key (codes "most")) 1024
     (cond (bytes_eq key (codes "tasks")) 1024
     (cond (bytes_eq key (codes "steps")) 20000000
     (cond (bytes_eq key (codes "interval")) 1000000000

@@ -25,6 +25,10 @@ pub enum Command {
     Try,
     /// The picture of a balance.
     Draw,
+    /// The least product of stations and cycle.
+    Effic,
+    /// The test of a certificate of a least product.
+    EfficCheck,
 }
 
 /// The command that a word names.
@@ -61,6 +65,12 @@ pub(crate) fn command_named(word: &str) -> Option<Command>
     if word == "draw" {
         return Some(Command::Draw);
     }
+    if word == "effic" {
+        return Some(Command::Effic);
+    }
+    if word == "effic-check" {
+        return Some(Command::EfficCheck);
+    }
     None
 }
 
@@ -80,6 +90,8 @@ impl Command {
             Command::Timeline => 3,
             Command::Try => 0,
             Command::Draw => 3,
+            Command::Effic => 1,
+            Command::EfficCheck => 2,
         }
     }
 
@@ -98,6 +110,8 @@ impl Command {
             Command::Timeline => &["interval", "length"],
             Command::Try => &["seed", "tasks"],
             Command::Draw => &[],
+            Command::Effic => &["least", "most"],
+            Command::EfficCheck => &[],
         }
     }
 
@@ -116,6 +130,8 @@ impl Command {
             Command::Timeline => &["interval", "length"],
             Command::Try => &["seed", "tasks", "cycle", "line", "units"],
             Command::Draw => &["apart"],
+            Command::Effic => &["least", "most", "line", "helpers", "units", "cert"],
+            Command::EfficCheck => &["steps"],
         }
     }
 
@@ -124,7 +140,7 @@ impl Command {
         ensures { result ≡ units_most self.now }
     {
         match self {
-            Command::Cycle => 1_000_000,
+            Command::Cycle | Command::Effic => 1_000_000,
             _ => 3_000_000,
         }
     }

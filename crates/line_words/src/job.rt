@@ -115,6 +115,22 @@ pub enum Job {
         out: Name,
         apart: Option<Name>,
     },
+    /// The least product of stations and cycle, in a number of stations from the least to the most one.
+    Effic {
+        file: Name,
+        least: u32,
+        most: u32,
+        line: LineWord,
+        helpers: u32,
+        units: u64,
+        cert: Option<Name>,
+    },
+    /// The test of a certificate of a least product, in at most as many steps.
+    EfficCheck {
+        file: Name,
+        cert: Name,
+        steps: u64,
+    },
 }
 
 /// The name at a place among the names.
@@ -157,7 +173,7 @@ pub(crate) fn most_of(command: Command, key: &str) -> u64
     if key == "units" {
         return command.units_most();
     }
-    if key == "stations" {
+    if key == "stations" || key == "least" || key == "most" {
         return 1024;
     }
     if key == "tasks" {
@@ -176,7 +192,7 @@ pub(crate) fn most_of(command: Command, key: &str) -> u64
 }
 
 /// The number that the words set a key to, where they set it.
-fn number_set(command: Command, words: &[String], key: &str) -> Option<u64>
+pub(crate) fn number_set(command: Command, words: &[String], key: &str) -> Option<u64>
     ensures value { result ≡ number_set command (texts words.now) key.now }
     ensures most { IfSome result (λ n. n ≤ most_of command key.now) }
 {
@@ -209,6 +225,20 @@ fn stations_set(command: Command, words: &[String]) -> u32
     ensures { result ≡ number_or command (texts words.now) (codes "stations") 1 }
 {
     number_or(command, words, "stations", 1) as u32
+}
+
+/// The least number of stations.
+fn least_set(command: Command, words: &[String]) -> u32
+    ensures { result ≡ number_or command (texts words.now) (codes "least") 1 }
+{
+    number_or(command, words, "least", 1) as u32
+}
+
+/// The most stations.
+fn most_set(command: Command, words: &[String]) -> u32
+    ensures { result ≡ number_or command (texts words.now) (codes "most") 1024 }
+{
+    number_or(command, words, "most", 1024) as u32
 }
 
 /// The number of tasks.
@@ -361,6 +391,31 @@ fn draw_job(alloc: Global, words: &[String]) -> Result<Job, AllocError>
     })
 }
 
+fn effic_job(alloc: Global, words: &[String]) -> Result<Job, AllocError>
+    ensures { IfOk result (λ j. j ≡ job_for Command.Effic (texts words.now)) }
+{
+    let command = Command::Effic;
+    Ok(Job::Effic {
+        file: name_at(alloc, words, 0)?,
+        least: least_set(command, words),
+        most: most_set(command, words),
+        line: line_set(words),
+        helpers: helpers_set(command, words),
+        units: number_or(command, words, "units", 1_000_000),
+        cert: name_set(alloc, words, "cert")?,
+    })
+}
+
+fn effic_check_job(alloc: Global, words: &[String]) -> Result<Job, AllocError>
+    ensures { IfOk result (λ j. j ≡ job_for Command.EfficCheck (texts words.now)) }
+{
+    Ok(Job::EfficCheck {
+        file: name_at(alloc, words, 0)?,
+        cert: name_at(alloc, words, 1)?,
+        steps: number_or(Command::EfficCheck, words, "steps", 20_000_000),
+    })
+}
+
 /// The job of a command with these words, in which nothing is wrong or missing.
 pub(crate) fn job_for(alloc: Global, command: Command, words: &[String]) -> Result<Job, AllocError>
     ensures { IfOk result (λ j. j ≡ job_for command (texts words.now)) }
@@ -379,5 +434,7 @@ pub(crate) fn job_for(alloc: Global, command: Command, words: &[String]) -> Resu
         Command::Timeline => timeline_job(alloc, words),
         Command::Try => Ok(try_job(words)),
         Command::Draw => draw_job(alloc, words),
+        Command::Effic => effic_job(alloc, words),
+        Command::EfficCheck => effic_check_job(alloc, words),
     }
 }

@@ -3,11 +3,11 @@ ghost use Rattle.std.specs.Prelude.{◌≡◌, ◌<◌, Option, None, MatchOptio
 ghost use Rattle.line_words.specs.Words.{texts};
 ghost use Rattle.line_words.specs.Table.{least_of, is_value};
 ghost use Rattle.line_words.specs.Ranges.{HasRange};
-ghost use Rattle.line_words.specs.Jobs.{setting_fault, name_fault, word_fault, missing, AreRight, IsFirstFault, IsBehind, IsJobRead};
+ghost use Rattle.line_words.specs.Jobs.{are_ordered, ends_agree, setting_fault, name_fault, word_fault, missing, AreRight, IsFirstFault, IsBehind, IsJobRead};
 
 use crate::command::{Command, command_named};
 use crate::fault::UsageKind;
-use crate::job::{Job, job_for, most_of};
+use crate::job::{Job, job_for, most_of, number_set};
 use crate::number::number_up_to;
 use crate::word::{count_names, is_one_of, sets, sets_all, setting};
 use std::alloc::Global;
@@ -57,6 +57,30 @@ fn is_value(command: Command, key: &str, value: &str) -> bool
     }
 }
 
+/// Whether the first of two numbers isn't above the second, where both are there.
+fn are_ordered(least: Option<u64>, most: Option<u64>) -> bool
+    ensures { result ≡ are_ordered least most }
+{
+    match (least, most) {
+        (Some(least), Some(most)) => least <= most,
+        _ => true,
+    }
+}
+
+/// Whether the least number of stations isn't above the most, where one of them is set here and the other before.
+fn ends_agree(command: Command, before: &[String], key: &str, value: &str) -> bool
+    ensures { result ≡ ends_agree command (texts before.now) (key.now, value.now) }
+{
+    let number = number_up_to(most_of(command, key), value);
+    if key == "least" {
+        return are_ordered(number, number_set(command, before, "most"));
+    }
+    if key == "most" {
+        return are_ordered(number_set(command, before, "least"), number);
+    }
+    true
+}
+
 /// What is wrong with a setting behind other words, where something is.
 fn setting_fault(command: Command, before: &[String], key: &str, value: &str) -> Option<UsageKind>
     ensures { result ≡ setting_fault command (texts before.now) (key.now, value.now) }
@@ -67,7 +91,7 @@ fn setting_fault(command: Command, before: &[String], key: &str, value: &str) ->
     if sets(before, key) {
         return Some(UsageKind::RepeatedKey);
     }
-    if is_value(command, key, value) {
+    if is_value(command, key, value) && ends_agree(command, before, key, value) {
         return None;
     }
     Some(UsageKind::BadValue)

@@ -39,7 +39,17 @@ solve a cycle=0 cycle=0 -> usage: word 2 bad value\n\
 solve a cycle=7 cycle=0 -> usage: word 3 repeated key\n\
 solve a cycle=7 hat=1 b -> usage: word 3 unknown key\n\
 balance a units=3 -> usage: word 2 unknown key\n\
-effic a -> usage: word 0 unknown command";
+sequence a -> usage: word 0 unknown command\n\
+effic a least=2 -> usage: word 3 missing key\n\
+effic a least=2 most=2 -> good\n\
+effic a least=3 most=2 -> usage: word 3 bad value\n\
+effic a most=2 units=1000000 least=3 -> usage: word 4 bad value\n\
+effic a least=0 most=2 -> usage: word 2 bad value\n\
+effic a least=1 most=1025 -> usage: word 3 bad value\n\
+effic a least=1 most=2 apart=b -> usage: word 4 unknown key\n\
+effic a least=1 most=2 units=1000001 -> usage: word 4 bad value\n\
+effic-check a -> usage: word 2 missing name\n\
+effic-check a b steps=20000000 -> good";
 
 /// The words of a text.
 fn words_of(alloc: Global, text: &str) -> Result<Vec<String>, AllocError> {

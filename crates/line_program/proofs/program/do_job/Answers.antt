@@ -9,6 +9,8 @@ use Rattle.convert_command.specs.Convert.{IsConvertOutcome}
 use Rattle.solve_command.specs.Solution.{IsSolveOutcome}
 use Rattle.cycle_command.specs.Found.{IsCycleOutcome}
 use Rattle.draw_command.specs.Draw.{IsDrawOutcome}
+use Rattle.effic_command.specs.EfficFound.{IsEfficOutcome}
+use Rattle.effic_command.specs.EfficCheck.{IsEfficCheckOutcome}
 use Rattle.mix_commands.specs.Combine.{IsCombineOutcome}
 use Rattle.mix_commands.specs.Utility.{IsUtilityOutcome}
 use Rattle.mix_commands.specs.Timeline.{IsTimelineOutcome}
@@ -118,6 +120,26 @@ returns-in-Cycle-clause-ends g c = λ t.
     let F : List ℕ → Type 0 = λ f. E f (kind_of c.in-Cycle.line) name in
     let N : Option (List ℕ) → Type 0 = λ n. E c.in-Cycle.file (kind_of c.in-Cycle.line) n in
     subst J (sym c.in-Cycle.is) (subst N c.name_of-in-Cycle.ensures (subst F c.text-in-Cycle.ensures (subst K c.kind_of-kind-in-Cycle.ensures (c.cycle_report.ensures.ends t))))
+
+pub returns-in-Effic-clause-ends : goal.returns-in-Effic-clause-ends
+returns-in-Effic-clause-ends g c = λ t.
+    let o : Outside = outside (g.S.Shelf.file c.args.shelf.now) (g.S.Shelf.blames c.effic_report.new.shelf) in
+    let E : List ℕ → LineKind → Option (List ℕ) → Type 0 = λ f k n. Ends o (IsEfficOutcome o f k c.in-Effic.least c.in-Effic.most c.in-Effic.helpers c.in-Effic.units n) (g.S.Shelf.file c.effic_report.new.shelf) c.effic_report.result in
+    let name : Option (List ℕ) = option_map (λ a. a.now) c.name_of-in-Effic.result in
+    let J : Job → Type 0 = λ j. Ends o (IsJobOutcome o j) (g.S.Shelf.file c.effic_report.new.shelf) c.effic_report.result in
+    let K : LineKind → Type 0 = λ k. E c.text-in-Effic.result.now k name in
+    let F : List ℕ → Type 0 = λ f. E f (kind_of c.in-Effic.line) name in
+    let N : Option (List ℕ) → Type 0 = λ n. E c.in-Effic.file (kind_of c.in-Effic.line) n in
+    subst J (sym c.in-Effic.is) (subst N c.name_of-in-Effic.ensures (subst F c.text-in-Effic.ensures (subst K c.kind_of-kind-in-Effic.ensures (c.effic_report.ensures.ends t))))
+
+pub returns-in-EfficCheck-clause-ends : goal.returns-in-EfficCheck-clause-ends
+returns-in-EfficCheck-clause-ends g c = λ t.
+    let o : Outside = outside (g.S.Shelf.file c.args.shelf.now) (g.S.Shelf.blames c.effic_check_report.new.shelf) in
+    let after : Files = g.S.Shelf.file c.effic_check_report.new.shelf in
+    let J : Job → Type 0 = λ j. Ends o (IsJobOutcome o j) after c.effic_check_report.result in
+    let F : List ℕ → Type 0 = λ f. Ends o (IsEfficCheckOutcome o f c.text-in-EfficCheck-2.result.now c.in-EfficCheck.steps) after c.effic_check_report.result in
+    let C : List ℕ → Type 0 = λ f. Ends o (IsEfficCheckOutcome o c.in-EfficCheck.file f c.in-EfficCheck.steps) after c.effic_check_report.result in
+    subst J (sym c.in-EfficCheck.is) (subst C c.text-in-EfficCheck-2.ensures (subst F c.text-in-EfficCheck.ensures (c.effic_check_report.ensures.ends t)))
 
 pub returns-in-Try-clause-ends : goal.returns-in-Try-clause-ends
 returns-in-Try-clause-ends g c = λ t.
