@@ -1,4 +1,6 @@
-//! Runs over files in memory, and what they leave.
+//! Runs over files in memory, and what they leave: what the tests of runs share.
+//!
+//! In the tables a line is a row, its fields stand between `|`, and `/` stands for the end of a line in a text.
 use crate::program::run;
 use cert_ranges::is_in_range;
 use cert_text::write_cert;
@@ -8,7 +10,67 @@ use std::alloc::{AllocError, Global};
 use std::sync::Wait;
 use std::thread::Threads;
 
-/// Bytes as a text, with `/` for the end of a line.
+/// Instances, pairs, a mix and its sequences: a name and a text each.
+const INPUTS: &str = "zero.in2 1/0/-1,-1/
+nothing.in2 2/0/0/-1,-1/
+two.in2 2/1/1/-1,-1/
+chain.in2 3/1/2/1/1,2/2,3/-1,-1/
+four.in2 4/1/1/1/1/1,2/2,3/3,4/-1,-1/
+five.in2 5/4/4/2/2/2/-1,-1/
+six.in2 6/7/4/4/2/2/2/-1,-1/
+seven.in2 7/7/7/4/4/2/2/2/-1,-1/
+changed.in2 7/7/7/4/4/2/2/1/-1,-1/
+jackson.in2 11/6/2/5/7/1/2/3/6/5/5/4/1,2/1,3/1,4/1,5/2,6/3,7/4,7/5,7/6,8/7,9/8,10/9,11/10,11/-1,-1/
+huge.in2 1/200000000000000/-1,-1/
+noted.in2 1/5/-1,-1/made by hand/
+short.in2 1/
+alb.in2 <task times>\r/1 3\r/2 4\r/<order strength>\r/0,268\r/<number of tasks>\r/2\r/<cycle time>\r/7\r/<precedence relations>\r/1,2\r/<end>\r/
+workers.in2 <task times>\r/1 3\r/<workers>\r/
+other.alb <number of tasks>/3//<task times>/1 1/2 2/3 1//<precedence relations>/1,2/2,3//<end>/
+one.apart 2,2/-1,-1/
+two.apart 1,2/-1,-1/
+three.apart 3,4/4,5/3,5/-1,-1/
+m.csv tasks,1,,/model,A,1,/model,B,1,/model,C,1,/time,A,1,6/time,B,1,9/time,C,1,4/
+three.txt A/B/C/
+other.txt A/B/D/
+none.txt ";
+
+/// Certificates, by what they show or what is wrong with them.
+const CERTIFICATES: &str =
+    "first.cert line balance certificate 1/line straight/tasks 5/cycle 7/lower 3/upper 3/balance 3/1/2/1/2/3/parts 1/part 7/entries 1/branch f f8 2 -/trail 0/end/
+first-stopped.cert line balance certificate 1/line straight/tasks 5/cycle 7/lower 2/upper 3/balance 3/1/2/1/2/3/parts 1/part 7/entries 1/bound f8 1/trail 1/open f f8 2 90 -/end/
+broken.cert line balance certificate 1/line u/tasks 4/cycle 2/lower 1/upper 2/balance 2/2 f/1 b/1 f/2 b/parts 1/part 2/entries 0/trail 0/end/
+five.cert line balance certificate 2/line straight/tasks 5/cycle 7/lower 3/upper 3/balance 3/1/2/1/2/3/entries 1/branch f 7 f8 2 -/trail 0/end/
+five-at-six.cert line balance certificate 2/line straight/tasks 5/cycle 6/lower 3/upper 3/balance 3/1/2/1/2/3/entries 1/branch f 7 f8 2 -/trail 0/end/
+five-at-eight.cert line balance certificate 2/line straight/tasks 5/cycle 8/lower 3/upper 3/balance 3/1/2/1/2/3/entries 1/branch f 7 f8 2 -/trail 0/end/
+stopped.cert line balance certificate 2/line straight/tasks 5/cycle 7/lower 2/upper 3/balance 3/1/2/1/2/3/entries 1/bound 7 f8 1/trail 1 at 7/open f f8 2 90 -/end/
+infeasible.cert line balance certificate 2/line straight/tasks 5/cycle 3/infeasible 1/end/
+branches.cert line balance certificate 2/line straight/tasks 6/cycle 7/lower 4/upper 4/balance 4/1/2/3/2/3/4/entries 2/branch f 7 7c 2 -/branch f 7 fc 3 0/trail 0/end/
+itself.cert line balance certificate 2/line straight/tasks 6/cycle 7/lower 4/upper 4/balance 4/1/2/3/2/3/4/entries 2/branch f 7 7c 2 -/branch f 7 fc 3 1/trail 0/end/
+itself-in-a-part.cert line balance certificate 1/line straight/tasks 6/cycle 7/lower 4/upper 4/balance 4/1/2/3/2/3/4/parts 1/part 7/entries 2/branch f 7c 2 -/branch f fc 3 1/trail 0/end/
+no-subset.cert line balance certificate 2/line straight/tasks 6/cycle 7/lower 4/upper 4/balance 4/1/2/3/2/3/4/entries 2/bound 7 fc 2/branch f 7 fc 3 0/trail 0/end/
+swap.cert line balance certificate 2/line straight/tasks 7/cycle 7/lower 5/upper 5/balance 5/1/2/3/4/3/4/5/entries 4/branch f 7 3e 2 -/branch f 7 be 3 0/swap 7 7e 3 1 2 1/branch f 7 fe 4 1,2/trail 0/end/
+together.cert line balance certificate 2/line straight/tasks 2/cycle 2/lower 1/upper 1/balance 1/1/1/entries 0/trail 0/end/
+five-as-u.cert line balance certificate 2/line u/tasks 5/cycle 7/lower 3/upper 3/balance 3/1 f/2 f/1 f/2 f/3 f/entries 1/branch u 7 f8 2 -/trail 0/end/
+least-cycle.cert line balance certificate 2/line straight/tasks 5/stations 2/lower 8/upper 8/balance 2/1/1/2/2/2/entries 1/branch f 7 f8 2 -/trail 0/end/
+stopped-cycle.cert line balance certificate 2/line straight/tasks 5/stations 2/lower 7/upper 8/balance 2/1/1/2/2/2/entries 1/bound 6 f8 2/trail 1 at 7/open f f8 2 90 -/end/
+from-the-back.cert line balance certificate 2/line straight/tasks 5/cycle 7/lower 3/upper 3/balance 3/1/2/1/2/3/entries 1/branch b 7 f8 2 -/trail 0/end/
+bad.cert line balance certificate 2/line straight/tasks 5/cycle 7/lower 3/upper 3/balance 3/1/2/1/2/3/entries 1/branch f 7 f8 2 -/trail 0/END/
+leading.cert line balance certificate 2/line straight/tasks 5/cycle 07/
+third.cert line balance certificate 3/";
+
+/// The bytes of a text of a table.
+pub fn unslashed(alloc: Global, text: &str) -> Result<Vec<u8>, AllocError> {
+    let mut bytes = Vec::from_slice(alloc, text.as_bytes())?;
+    for byte in bytes.iter_mut() {
+        if *byte == b'/' {
+            *byte = b'\n';
+        }
+    }
+    Ok(bytes)
+}
+
+/// Bytes as a text of a table.
 pub fn slashed(alloc: Global, bytes: &[u8]) -> Result<String, AllocError> {
     let mut text = String::new(alloc);
     for byte in bytes {
@@ -19,6 +81,16 @@ pub fn slashed(alloc: Global, bytes: &[u8]) -> Result<String, AllocError> {
         })?;
     }
     Ok(text)
+}
+
+/// A shelf with the files of both tables, whose calls of these numbers fail.
+pub fn files(alloc: Global, fails: &[u64]) -> Result<MemShelf, AllocError> {
+    let mut shelf = MemShelf::new(alloc, Vec::from_slice(alloc, fails)?);
+    for row in INPUTS.lines().chain(CERTIFICATES.lines()) {
+        let (name, text) = row.split_once(' ').unwrap_or((row, ""));
+        shelf.put_file(name, &unslashed(alloc, text)?)?;
+    }
+    Ok(shelf)
 }
 
 /// The text of a certificate that is kept, and nothing where none is.
@@ -37,20 +109,29 @@ pub struct Left {
     pub kept: String,
 }
 
-/// A run with these words over a shelf.
+/// The words of a line, with one blank between two; no words of an empty line.
+fn words_of(alloc: Global, line: &str) -> Result<Vec<String>, AllocError> {
+    let mut words = Vec::new(alloc);
+    if line.is_empty() {
+        return Ok(words);
+    }
+    for word in line.split(' ') {
+        words.push(String::from_str(alloc, word)?)?;
+    }
+    Ok(words)
+}
+
+/// A run with the words of a line over a shelf.
 pub fn run_words<R: Threads + Wait + Sync>(
     rt: &R,
     alloc: Global,
-    words: &str,
+    line: &str,
     shelf: &mut MemShelf,
     out: &mut MemSink,
 ) -> Result<Left, AllocError> {
-    let mut list = Vec::new(alloc);
-    for word in words.split(' ') {
-        list.push(String::from_str(alloc, word)?)?;
-    }
+    let words = words_of(alloc, line)?;
     let mut kept = Kept::Nothing;
-    let status = run(rt, alloc, &list, shelf, out, &mut kept);
+    let status = run(rt, alloc, &words, shelf, out, &mut kept);
     let shown = slashed(alloc, out.bytes())?;
     let text = kept_text(alloc, &kept)?;
     Ok(Left {
@@ -58,4 +139,45 @@ pub fn run_words<R: Threads + Wait + Sync>(
         shown,
         kept: slashed(alloc, &text)?,
     })
+}
+
+/// What is wrong with a step, and nothing where it comes to what it should.
+fn wrong_with<R: Threads + Wait + Sync>(
+    rt: &R,
+    alloc: Global,
+    step: &str,
+    shelf: &mut MemShelf,
+) -> Result<String, AllocError> {
+    let mut fields = step.split('|');
+    let words = fields.next().unwrap_or("");
+    let code = fields.next().unwrap_or("");
+    let shown = fields.next().unwrap_or("");
+    let is_front = fields.next().is_some();
+    let mut out = MemSink::new(alloc, Vec::new(alloc));
+    let left = run_words(rt, alloc, words, shelf, &mut out)?;
+    let ended = left.status.code();
+    let told = format!(in alloc; "{ended}")?;
+    let whole = left.shown.as_str() == shown || is_front && left.shown.starts_with(shown);
+    if told.as_str() == code && whole {
+        return Ok(String::new(alloc));
+    }
+    let found = left.shown;
+    format!(in alloc; "{words}: {ended} {found}")
+}
+
+/// The first of some steps over the same files that doesn't come to what it should, with what it comes to; nothing where each
+/// does. A step has its words, the exit code, and what is put, or, where a fourth field follows, what that begins with.
+pub fn first_wrong<R: Threads + Wait + Sync>(
+    rt: &R,
+    alloc: Global,
+    steps: &str,
+    shelf: &mut MemShelf,
+) -> Result<String, AllocError> {
+    for step in steps.lines() {
+        let wrong = wrong_with(rt, alloc, step, shelf)?;
+        if !wrong.is_empty() {
+            return Ok(wrong);
+        }
+    }
+    Ok(String::new(alloc))
 }

@@ -1,5 +1,5 @@
-//! Runs of `solve` over files in memory: the worked rows.
-use crate::runs::{Left, run_words, slashed};
+//! Runs of `solve`, `cycle` and `try` over files in memory: the worked rows.
+use crate::runs::{Left, files, run_words, slashed};
 use command_outcome::Status;
 use line_io::{MemShelf, MemSink};
 use std::alloc::{AllocError, Global};
@@ -75,30 +75,8 @@ fn hundred_tasks(alloc: Global) -> Result<Vec<u8>, AllocError> {
 }
 
 /// The files of the rows, where calls of these numbers fail.
-fn files(alloc: Global, fails: &[u64]) -> Result<MemShelf, AllocError> {
-    let mut shelf = MemShelf::new(alloc, Vec::from_slice(alloc, fails)?);
-    let rows: [(&str, &[u8]); 11] = [
-        ("zero.in2", b"1\n0\n-1,-1\n"),
-        ("chain.in2", b"3\n1\n2\n1\n1,2\n2,3\n-1,-1\n"),
-        ("two.in2", b"2\n1\n1\n-1,-1\n"),
-        ("nothing.in2", b"2\n0\n0\n-1,-1\n"),
-        ("five.in2", b"5\n4\n4\n2\n2\n2\n-1,-1\n"),
-        ("six.in2", b"6\n7\n4\n4\n2\n2\n2\n-1,-1\n"),
-        ("seven.in2", b"7\n7\n7\n4\n4\n2\n2\n2\n-1,-1\n"),
-        (
-            "jackson.in2",
-            b"11\n6\n2\n5\n7\n1\n2\n3\n6\n5\n5\n4\n1,2\n1,3\n1,4\n1,5\n2,6\n3,7\n4,7\n5,7\n6,8\n7,9\n8,10\n9,11\n10,11\n-1,-1\n",
-        ),
-        (
-            "alb.in2",
-            b"<task times>\r\n1 3\r\n2 4\r\n<order strength>\r\n0,268\r\n<number of tasks>\r\n2\r\n<cycle time>\r\n7\r\n<precedence relations>\r\n1,2\r\n<end>\r\n",
-        ),
-        ("two.apart", b"1,2\n-1,-1\n"),
-        ("three.apart", b"3,4\n4,5\n3,5\n-1,-1\n"),
-    ];
-    for (name, bytes) in rows {
-        shelf.put_file(name, bytes)?;
-    }
+fn files_with_big(alloc: Global, fails: &[u64]) -> Result<MemShelf, AllocError> {
+    let mut shelf = files(alloc, fails)?;
     shelf.put_file("big.alb", &hundred_tasks(alloc)?)?;
     Ok(shelf)
 }
@@ -124,7 +102,7 @@ fn holds<R: Threads + Wait + Sync>(rt: &R, alloc: Global, row: &str) -> Result<b
     let shown = fields.next().unwrap_or("");
     let proved = fields.next().unwrap_or("");
     let check = fields.next().unwrap_or("");
-    let mut shelf = files(alloc, &[])?;
+    let mut shelf = files_with_big(alloc, &[])?;
     let mut out = MemSink::new(alloc, Vec::new(alloc));
     let left = run_words(rt, alloc, words, &mut shelf, &mut out)?;
     if !left.shown.starts_with(shown) || !left.kept.contains(proved) {
