@@ -1,7 +1,7 @@
 //! Runs of `check` over files in memory: the worked rows, certificates that are cut or changed, and calls that fail.
 use crate::runs::{Left, files, first_wrong, run_words};
 use command_outcome::Status;
-use line_io::MemSink;
+use line_io::{MemShelf, MemSink};
 use std::alloc::{AllocError, Global};
 use std::sync::Wait;
 use std::test::Fail;
@@ -78,7 +78,8 @@ fn checked<R: Threads + Wait + Sync>(
     alloc: Global,
     proof: &[u8],
 ) -> Result<Left, AllocError> {
-    let mut shelf = files(alloc, &[])?;
+    let mut shelf = MemShelf::new(alloc, Vec::new(alloc));
+    shelf.put_file("five.in2", b"5\n4\n4\n2\n2\n2\n-1,-1\n")?;
     shelf.put_file("t.cert", proof)?;
     let mut out = MemSink::new(alloc, Vec::new(alloc));
     run_words(rt, alloc, "check five.in2 t.cert", &mut shelf, &mut out)
