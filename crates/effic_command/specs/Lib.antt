@@ -1,0 +1,3 @@
+pub mod ProductFile
+pub mod ProductText
+pub mod EfficCheck
