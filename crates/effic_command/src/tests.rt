@@ -1,9 +1,13 @@
 //! What no clause says: the printed lines about small certificates, as they were worked out outside.
-use crate::effic_check_report;
+use crate::{effic_check_report, effic_report};
 use command_outcome::{Report, Status, Stop};
 use line_io::MemShelf;
+use line_rules::LineKind;
+use round_run::{AlwaysOpen, Plan};
 use std::alloc::{AllocError, Global};
+use std::sync::Wait;
 use std::test::Fail;
+use std::thread::Threads;
 
 const FIVE: &[u8] = b"5\n4\n4\n2\n2\n2\n-1,-1\n";
 
@@ -100,5 +104,79 @@ fn the_lines_about_what_is_refused(rt: HostRuntime) -> Result<(), Fail> {
     ] {
         assert!(&rt; reports(alloc, number, line, Status::Refused, wanted)?);
     }
+    Ok(())
+}
+
+// What `effic` reports of five tasks in two to four stations with so many units, and whether the certificate is written
+// that is worked out above.
+fn searched<R: Threads + Wait + Sync>(
+    rt: &R,
+    alloc: Global,
+    units: u32,
+) -> Result<(Report, bool), Fail> {
+    if units < 1 || units > 1_000_000 {
+        return Err("out of range")?;
+    }
+    let mut shelf = MemShelf::new(alloc, Vec::new(alloc));
+    shelf.put_file("p5.in2", FIVE)?;
+    let plan = Plan {
+        helpers: 0,
+        units: u64::from(units),
+    };
+    match effic_report(
+        rt,
+        alloc,
+        "p5.in2",
+        LineKind::Straight,
+        2,
+        4,
+        &plan,
+        Some("e.cert"),
+        &mut shelf,
+        &AlwaysOpen,
+    ) {
+        Ok(report) => {
+            let is_proof = match shelf.file("e.cert") {
+                Some(bytes) => bytes == PROOF.as_bytes(),
+                None => false,
+            };
+            Ok((report, is_proof))
+        }
+        Err(_) => Err("no report")?,
+    }
+}
+
+#[test]
+fn the_least_product_of_five_tasks(rt: HostRuntime) -> Result<(), Fail> {
+    let (report, is_proof) = searched(&rt, rt.alloc(), 15)?;
+    assert!(&rt; is_proof && report.status == Status::Done);
+    assert!(&rt;
+        report.text.as_slice()
+            == b"optimal product 16
+stations 2 cycle 8
+idle 2
+station 1: 1 2
+station 2: 3 4 5
+"
+                .as_slice()
+    );
+    Ok(())
+}
+
+#[test]
+fn the_least_product_of_five_tasks_stopped(rt: HostRuntime) -> Result<(), Fail> {
+    let (report, is_proof) = searched(&rt, rt.alloc(), 14)?;
+    assert!(&rt; !is_proof && report.status == Status::Stopped);
+    assert!(&rt;
+        report.text.as_slice()
+            == b"stopped by units
+bounds 14 16
+stations 2 cycle 8
+idle 2
+station 1: 1 2
+station 2: 3 4 5
+"
+                .as_slice()
+    );
     Ok(())
 }

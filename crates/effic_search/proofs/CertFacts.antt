@@ -1,6 +1,6 @@
 -- The certificate of a search is within its ranges and accepted, and what the search comes to.
 use Rattle.std.proofs.Common.{◌≡◌, ℕ, ◌+◌, ◌-◌, ◌*◌, ◌^◌, ◌<◌, ◌≤◌, Bool, true, cond, List, [], length, take, Option}
-use Rattle.std.proofs.Common.{Some, None}
+use Rattle.std.proofs.Common.{Some, None, ◌⊎◌}
 use Rattle.std.proofs.Common.{refl, sym, ap, ◌∙◌, subst, inl, inr, arith}
 use Rattle.std.specs.Prelude.{nat_eq, slice_get}
 use Rattle.std.proofs.lemmas.Bool.{eq-eqb}
@@ -41,6 +41,7 @@ use Rattle.effic_search.specs.Outcomes.{IsCertified, IsSolved, IsSpent, IsLarge}
 use Rattle.effic_search.specs.declared.lowering.Lowering.{Lowering}
 use Rattle.effic_search.proofs.LowestFacts.{lowest_closed, lowest_meets, lowest_below}
 use Rattle.effic_search.proofs.SinceFacts.{since_units}
+use Rattle.effic_search.proofs.SizeFacts.{large_budget}
 use Rattle.effic_search.proofs.TryFacts.{below_upper, none_too_long, product_some}
 
 -- a right balance in 1 to 1,024 stations
@@ -82,7 +83,7 @@ module _ (kind : LineKind) (line : Line) (least most : ℕ) (h : Lowering) (ok :
   product_limit : product_of h ≤ 1000000000000000000000000
   product_limit =
       let a : h.balance.stations * h.cycle ≤ 1024 * 204800000000000000 = mul-le h.balance.stations h.cycle 1024
-          204800000000000000
+      204800000000000000
       (omega (arith, l.to, few)) l.limit in
       omega (arith, a)
 
@@ -154,6 +155,7 @@ module _ (kind : LineKind) (line : Line) (least most : ℕ) (h : Lowering) (ok :
       few = omega (arith, l.within, units.2);
       true_bounds = between line ok (cert_of trail) sayable (h.listed.units + units.0) accepted;
       lowest = low;
+      tight = l.tight;
     }
 
     -- the same of what is equal to it
@@ -252,14 +254,23 @@ module _ (kind : LineKind) (line : Line) (least most : ℕ) (h : Lowering) (ok :
   )
 
   -- the book was too large
-  pub large_is : cert.trail ≡ None → IsFresh (entries_of h) → IsDue kind line least most h
-      → IsLarge kind line least most cert
-  large_is none fresh due =
+  pub large_is : IsRanked line → cert.trail ≡ None → IsFresh (entries_of h) → IsDerived kind line (entries_of h)
+      → IsDue kind line least most h → IsLarge kind line least most cert
+  large_is ranked none fresh derived due =
       let F : List Entry → Type 0 = λ z. IsFresh z in
       let U : List Entry → Type 0 = λ z. UnitsOf line z h.listed.units in
       let H : List Entry → Type 0 = λ z. HaveCycles line z in
       let whole : take (length (entries_of h)) (entries_of h) ≡ entries_of h = take-length (entries_of h) in
       let all : take (length (entries_of h)) (entries_of h) ≡ cert.entries = whole ∙ sym entries in
+      let large : (4000000 < h.listed.units) ⊎ (4000000 < others (entries_of h)) = (elim due.large [
+        | inl u ↦ inl u
+        | inr n ↦ inr (omega (
+          arith,
+          n,
+          due.lowering.counted.entries,
+          ap (λ (z : List Entry). others z) whole,
+        ))
+      ]) in
       record {
         certified = c;
         below = left_below due.m due.X due.left;
@@ -277,6 +288,8 @@ module _ (kind : LineKind) (line : Line) (least most : ℕ) (h : Lowering) (ok :
           ))
         ];
         cycles = subst H (sym entries) due.lowering.cycles;
+        budget = large_budget kind line ok ranked (entries_of h) derived fresh due.lowering.cycles h.listed.units
+            (subst U whole due.lowering.counted.units) large;
       }
 
   -- the units of a try ended
@@ -314,7 +327,10 @@ module _ (kind : LineKind) (line : Line) (least most : ℕ) (h : Lowering) (ok :
         has = has;
         opens = subst O (sym is) (subst E (sym entries) s.opens);
         fresh = subst P (sym is) (subst F (sym entries) fresh_at);
+        front = s.front;
         since = s.since;
+        added = entries ∙ s.added;
+        few = s.small;
         goal = subst Q (sym is) (subst G (sym entries) s.goal);
         published = s.published;
         listed = s.listed;

@@ -6,3 +6,6 @@ pub mod StartFacts
 pub mod TryFacts
 pub mod CertFacts
 pub mod LookFacts
+pub mod CycleSums
+pub mod SizeFacts
+pub mod AskFacts

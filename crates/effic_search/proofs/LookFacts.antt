@@ -39,4 +39,4 @@ module _ (kind : LineKind) (line : Line) (c d : ℕ) (b : Assignment) (ok : IsLi
       member : (i j : ℕ) → In (all_tasks line) j → i < j → In (all_tasks line) i
       member i j here less =
           In-full_to (tasks line) i (omega (arith, ok.small))
-              (omega (arith, less, In-full_to_below (tasks line) j here))
+          (omega (arith, less, In-full_to_below (tasks line) j here))

@@ -2,18 +2,24 @@
 use Rattle.std.proofs.Common.{◌≡◌, ℕ, zero, suc, ◌+◌, ◌-◌, ◌*◌, ◌<◌, ◌≤◌, ◌⊎◌, List, [], ◌∷◌, ◌++◌, length, take, refl}
 use Rattle.std.proofs.Common.{sym, ap}
 use Rattle.std.proofs.Common.{◌∙◌}
-use Rattle.std.proofs.Common.{subst, inl, inr, arith, Option, Some, None, length-append, replicate}
-use Rattle.std.specs.Prelude.{slice_get}
+use Rattle.std.proofs.Common.{subst, inl, inr, arith, Bool, true, false, Option, Some, None, length-append, replicate}
+use Rattle.std.specs.Prelude.{slice_get, nat_eq, ◌&&◌}
 use Rattle.std.proofs.lemmas.Bool.{cases_eq}
-use Rattle.std.proofs.lemmas.List.{append-nil}
+use Rattle.std.proofs.lemmas.List.{append-nil, get_or-replicate}
 use Rattle.std.proofs.Math.Seq.{take-length}
-use Rattle.line_instance.specs.Line.{Line, IsLine, tasks}
-use Rattle.line_rules.specs.Balance.{IsRight, all_tasks}
+use Rattle.task_set.specs.Truths.{In}
+use Rattle.task_set.proofs.Members.{In-full_to_below}
+use Rattle.line_instance.specs.Line.{Line, IsLine, has, tasks}
+use Rattle.line_instance.proofs.Sums.{sum_where-le}
+use Rattle.line_rules.specs.Balance.{IsRight, all_tasks, seat}
+use Rattle.line_rules.specs.Bounds.{total_time}
 use Rattle.line_rules.specs.Entries.{HasAnswer, IsLastAnswer}
 use Rattle.line_rules.specs.Units.{UnitsBy, UnitsOf}
 use Rattle.line_rules.specs.declared.types.LineKind.{LineKind}
 use Rattle.line_rules.specs.declared.types.Entry.{Entry}
 use Rattle.line_rules.specs.declared.types.Balance.{Balance as Assignment}
+use Rattle.line_rules.specs.declared.types.Seatplace.{Seatplace}
+use Rattle.line_rules.specs.declared.types.Side.TheVariants.{Front}
 use Rattle.line_rules.specs.declared.types.Why.{Why}
 use Rattle.line_rules.specs.declared.types.Why.TheVariants as why
 use Rattle.line_rules.proofs.ListFacts.{get_last}
@@ -28,7 +34,7 @@ use Rattle.round_helpers.proofs.Growing.{units_both, has_longer}
 use Rattle.cycle_search.specs.Ends.{NoneApart, first_lower, first_upper, at_first}
 use Rattle.cycle_search.proofs.EndFacts.{first_right}
 use Rattle.effic_search.specs.Counted.{other, others, IsCounted}
-use Rattle.effic_search.specs.Going.{IsFloored, IsLowering, IsGoing}
+use Rattle.effic_search.specs.Going.{IsFloored, IsTight, IsLowering, IsGoing}
 use Rattle.effic_search.specs.Opening.{IsGoalByBound, AddsGoal, IsFirstBook}
 use Rattle.effic_search.specs.Since.{IsSinceGoal}
 use Rattle.effic_search.specs.declared.counting.Listed.{Listed}
@@ -49,7 +55,7 @@ module _ (b : BookView) (e : Entry) where
       → HasAnswer after.state.entries e.set e.most e.cycle
   ran_answers (Some id) g =
       let a : IsLastAnswer b.state.entries e.set e.most e.cycle id = last_found b.state.entries e.set e.most e.cycle id
-          g in
+      g in
       rw g (id, a.entry, (a.there, a.answers))
   ran_answers None g = rw g (
     length b.state.entries,
@@ -62,11 +68,11 @@ module _ (b : BookView) (e : Entry) where
       → (new.state.entries ≡ b.state.entries) ⊎ (new.state.entries ≡ b.state.entries ++ e ∷ [])
   adds_one new (published.Known id) d =
       let P : BookView → Type 0 = λ z. (z.state.entries ≡ b.state.entries)
-          ⊎ (z.state.entries ≡ b.state.entries ++ e ∷ []) in
+      ⊎ (z.state.entries ≡ b.state.entries ++ e ∷ []) in
       subst P (sym d.1) (ran_adds (last_answer b.state.entries e.set e.most e.cycle) refl)
   adds_one new (published.Added id) d =
       let P : BookView → Type 0 = λ z. (z.state.entries ≡ b.state.entries)
-          ⊎ (z.state.entries ≡ b.state.entries ++ e ∷ []) in
+      ⊎ (z.state.entries ≡ b.state.entries ++ e ∷ []) in
       subst P (sym d.1) (ran_adds (last_answer b.state.entries e.set e.most e.cycle) refl)
   adds_one new published.NoMemory d = inl (ap (λ (z : BookView). z.state.entries) d)
 
@@ -191,6 +197,27 @@ module _ (kind : LineKind) (line : Line) (least m next : ℕ) (old new : BookVie
   pub first_next : AddsGoal line old.state.entries new.state.entries → IsFirstBook kind line least next new
   first_next a = elim a [ inl s ↦ stays s | inr m ↦ adds m.0 m.1 m.2 ]
 
+both_true : (a b : Bool) → a ≡ true → b ≡ true → (a && b) ≡ true
+both_true true b p q = q
+both_true false b p q = absurd (cc)
+
+-- all tasks at the first station take all their time
+tight_first : (kind : LineKind) (line : Line) (m c : ℕ)
+    → IsRight kind line c (record { stations = m; place = replicate (tasks line) at_first }) → total_time line ≤ c
+tight_first kind line m c r =
+    let places : List Seatplace = replicate (tasks line) at_first in
+    let at : (i : ℕ) → In (all_tasks line) i → at_first ≡ seat places i =
+    λ i here. sym (get_or-replicate (tasks line) i at_first (record { station = 0; side = Front })
+    (In-full_to_below (tasks line) i here)) in
+    let P : Seatplace → Type 0 = λ p. nat_eq p.station 1 ≡ true in
+    omega (
+      arith,
+      r.balance.fits 1,
+      sum_where-le (has (all_tasks line)) (λ i. has (all_tasks line) i && nat_eq (seat places i).station 1)
+          (λ i e. both_true (has (all_tasks line) i) (nat_eq (seat places i).station 1) e (subst P (at i e) refl))
+          line.times,
+    )
+
 -- the search before its first try
 pub going_begins : (kind : LineKind) (line : Line) (least most : ℕ) (h : Lowering) → IsLine line → NoneApart line
     → 1 ≤ least → least ≤ most → most ≤ 1024 → IsFirstBook kind line least (most + 1) h.book
@@ -201,6 +228,7 @@ going_begins kind line least most h ok none some order few book cycle limit bala
     let es : List Entry = h.book.state.entries in
     let stations : h.balance.stations ≡ least = ap (λ (z : Assignment). z.stations) balance in
     let B : Assignment → Type 0 = λ z. IsRight kind line h.cycle z in
+    let T : Assignment → Type 0 = λ z. IsTight kind line z h.cycle in
     let P : ℕ → Type 0 = λ z. z * h.cycle ≤ least * first_upper line in
     let Q : ℕ → Type 0 = λ z. least * z ≤ least * first_upper line in
     let C : Listed → Type 0 = λ z. IsCounted line es (length es) z in
@@ -216,6 +244,8 @@ going_begins kind line least most h ok none some order few book cycle limit bala
         some = omega (arith, cycle);
         limit = limit;
         bounded = omega (arith, cycle, limit);
+        tight = subst T (sym balance) (λ c one right.
+            omega (arith, cycle, one, tight_first kind line least c right));
         right = subst B (sym balance) (first_right kind line least h.cycle ok none some (omega (arith, cycle)));
         first = subst P (sym stations) (subst Q (sym cycle) (omega arith));
         counted = subst C (sym listed) (record {

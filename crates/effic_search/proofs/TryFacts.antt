@@ -7,6 +7,7 @@ use Rattle.std.proofs.lemmas.Bool.{cases_eq, cases_lt}
 use Rattle.std.proofs.lemmas.List.{append-nil}
 use Rattle.std.proofs.lemmas.Nat.{mul-le}
 use Rattle.std.proofs.Math.Nat.{mul-le-mul_left, lt_of_mul-lt-mul_left}
+use Rattle.std.proofs.Math.Seq.{take-length}
 use Rattle.line_instance.specs.Line.{Line, IsLine, tasks}
 use Rattle.line_rules.specs.Balance.{IsRight, all_tasks, seat}
 use Rattle.line_rules.specs.Bounds.{IsTooLong}
@@ -19,7 +20,7 @@ use Rattle.line_rules.specs.declared.types.OpenFrame.{OpenFrame}
 use Rattle.line_rules.specs.declared.types.Balance.{Balance as Assignment}
 use Rattle.line_rules.proofs.Restrict.{restricted}
 use Rattle.lemma_core.specs.Machine.{About}
-use Rattle.lemma_core.specs.Books.{BookView, IsReserved}
+use Rattle.lemma_core.specs.Books.{BookView, IsReserved, MayBeBest}
 use Rattle.station_search.proofs.Events.{get_append_cases}
 use Rattle.round_helpers.specs.Growth.{AreAtCycle}
 use Rattle.round_helpers.proofs.Growing.{has_longer}
@@ -31,11 +32,12 @@ use Rattle.cycle_search.specs.Asking.{ListsAll}
 use Rattle.cycle_search.specs.Ends.{first_lower, first_upper}
 use Rattle.cycle_search.specs.declared.asking.Asked.{Asked}
 use Rattle.cycle_search.proofs.EndFacts.{none_long}
+use Rattle.cycle_search.proofs.Tries.{widened_right}
 use Rattle.effic_check.specs.Accepted.{IsClosed, cycle_below}
 use Rattle.effic_check.proofs.Proved.{below_cycle}
-use Rattle.effic_search.specs.Counted.{IsCounted}
+use Rattle.effic_search.specs.Counted.{IsCounted, AreFew, others}
 use Rattle.effic_search.specs.Going.{IsFloored, HaveCycles, IsLowering, IsGoing, IsLeftAt, IsStuck, HasAsked}
-use Rattle.effic_search.specs.Going.{IsImproved}
+use Rattle.effic_search.specs.Going.{IsTight, IsImproved}
 use Rattle.effic_search.specs.Going.{EndsWith, IsSettled, product_of, entries_of}
 use Rattle.effic_search.specs.declared.settling.Settled.{Settled}
 use Rattle.effic_search.specs.declared.settling.Settled.TheVariants as settled
@@ -56,6 +58,15 @@ right_longer kind line c d b l r = record {
       (omega arith) (λ i h. h) r.balance;
 }
 
+-- the best balance of a book, in so many stations, the last ones perhaps empty
+pub best_right : (kind : LineKind) (line : Line) (m : ℕ) (about : About) (b : Assignment) → about.line ≡ line
+    → about.kind ≡ kind → MayBeBest about b → b.stations ≤ m
+    → IsRight kind line about.cycle (record { stations = m; place = b.place })
+best_right kind line m about b line_is kind_is best few =
+    let P : Line → Type 0 = λ z. IsRight about.kind z about.cycle b in
+    let Q : LineKind → Type 0 = λ z. IsRight z line about.cycle b in
+    (widened_right kind line m about.cycle b (subst Q kind_is (subst P line_is best.right)) few).right
+
 -- a trail begins with its question
 module _ (kind : LineKind) (line : Line) (X : ℕ) (es : List Entry) (R : List Bool) (most : ℕ) where
   first_of : (ps : List OpenFrame) (d : OpenFrame) → Leads kind line X es R most ps d.set d.most
@@ -67,7 +78,7 @@ module _ (kind : LineKind) (line : Line) (X : ℕ) (es : List Entry) (R : List B
       → (f : OpenFrame) × (slice_get fs 0 ≡ Some f) × (f.set ≡ R) × (f.most ≡ most)
   first_frame fs t =
       let P : List OpenFrame → Type 0 = λ z. (f : OpenFrame) × (slice_get z 0 ≡ Some f) × (f.set ≡ R)
-          × (f.most ≡ most) in
+      × (f.most ≡ most) in
       subst P (sym t.all) (first_of t.passed t.deepest t.leads)
 
 module _ (kind : LineKind) (line : Line) (least most m X : ℕ) where
@@ -77,7 +88,7 @@ module _ (kind : LineKind) (line : Line) (least most m X : ℕ) where
   floor_of es floored one left = elim (cases_lt X (first_lower line m)) [
     | inl l ↦
         absurd (left (has_shorter es (all_tasks line) m (first_lower line m - 1) X (omega (arith, l))
-            (floored (omega (arith, one, l)))))
+        (floored (omega (arith, one, l)))))
     | inr more ↦ more
   ]
 
@@ -86,7 +97,7 @@ module _ (kind : LineKind) (line : Line) (least most m X : ℕ) where
       → X < first_upper line
   below_upper h l from near =
       let a : least * first_upper line ≤ m * first_upper line = mul-le least (first_upper line) m
-          (first_upper line) from (omega arith) in
+      (first_upper line) from (omega arith) in
       lt_of_mul-lt-mul_left m (omega (arith, near, l.first, a))
 
 -- the product of a search is at least 1
@@ -94,7 +105,7 @@ pub product_some : (kind : LineKind) (line : Line) (least most : ℕ) (h : Lower
     → IsLowering kind line least most h → 1 ≤ product_of h
 product_some kind line least most h some l =
     let a : 1 * 1 ≤ h.balance.stations * h.cycle = mul-le 1 1 h.balance.stations h.cycle
-        (omega (arith, some, l.from)) l.some in
+    (omega (arith, some, l.from)) l.some in
     omega (arith, a)
 
 -- what is left open of a search before a try in m stations
@@ -173,6 +184,7 @@ module _ (kind : LineKind) (line : Line) (least most m X : ℕ) (old new : Lower
         limit = omega (arith, i.less, u, l.bounded);
         bounded = l.bounded;
         right = i.right;
+        tight = i.tight;
         first = omega (arith, product_less, l.first);
         counted = subst D same_entries (subst C (sym i.listed) l.counted);
         few = omega (arith, l.few, ap (λ (z : List Entry). length z) same_entries);
@@ -212,9 +224,9 @@ ranked_going kind line least most m X old new some going left i = (
 -- the question was asked
 module _ (kind : LineKind) (line : Line) (least most m X : ℕ) (plan : Plan) (old new : Lowering) (some : 1 ≤ least)
     (limit : plan.units ≤ 3000000) (going : IsGoing kind line least most m old)
-        (left : IsLeftAt line least most m X old)
+    (left : IsLeftAt line least most m X old)
     (is : X ≡ cycle_below (product_of old) m) (small : old.listed.units ≤ 4000000)
-    (room : length (entries_of old) ≤ 13999999) (v : Verdict) (h : HasAsked m plan X old new v) where
+    (short : old.listed.entries ≤ 4000000) (room : length (entries_of old) ≤ 13999999) (v : Verdict) (h : HasAsked m plan X old new v) where
   l : IsLowering kind line least most old
   l = going.lowering
 
@@ -270,11 +282,25 @@ module _ (kind : LineKind) (line : Line) (least most m X : ℕ) (plan : Plan) (o
             (omega (arith, left.floor, c), omega (arith, u, c))
       ])
 
+  -- the book before the try was small enough for it
+  few_before : AreFew line (entries_of old)
+  few_before =
+      let whole : take (length (entries_of old)) (entries_of old) ≡ entries_of old = take-length (entries_of old) in
+      let U : List Entry → Type 0 = λ z. UnitsOf line z old.listed.units in
+      record {
+        units = old.listed.units;
+        counted = subst U whole l.counted.units;
+        small = small;
+        short = omega (arith, short, l.counted.entries, ap (λ (z : List Entry). others z) whole);
+      }
+
   pub asked_lowering : IsLowering kind line least most new
   asked_lowering =
       let F : List Entry → Type 0 = λ z. (s : ℕ) → least ≤ s → s ≤ most → IsFloored line z s in
       let B : Assignment → Type 0 = λ z. IsRight kind line new.cycle z in
       let C : ℕ → Type 0 = λ z. IsRight kind line z old.balance in
+      let T : Assignment → Type 0 = λ z. IsTight kind line z new.cycle in
+      let O : ℕ → Type 0 = λ z. IsTight kind line old.balance z in
       let L : Line → Type 0 = λ z. IsCounted z (entries_of new) (length (entries_of new)) new.listed in
       let R : BookView → Type 0 = λ z. IsReserved z in
       let stations : new.balance.stations ≡ old.balance.stations = ap (λ (z : Assignment). z.stations) h.balance in
@@ -288,6 +314,7 @@ module _ (kind : LineKind) (line : Line) (least most m X : ℕ) (plan : Plan) (o
         limit = omega (arith, l.limit, h.cycle);
         bounded = l.bounded;
         right = subst B (sym h.balance) (subst C (sym h.cycle) l.right);
+        tight = subst T (sym h.balance) (subst O (sym h.cycle) l.tight);
         first = omega (arith, l.first, product_now);
         counted = subst L l.line_is h.counted;
         few = few_now;
@@ -441,7 +468,7 @@ module _ (kind : LineKind) (line : Line) (least most m X : ℕ) (plan : Plan) (o
         let P : List Entry → Type 0 = λ z. slice_get z (length (entries_of old) + k) ≡ Some e in
         none (length (entries_of old) + k) e (omega arith)
         (subst P (sym entries_now)
-            (get_behind (entries_of old) gained k (length (entries_of old) + k) e g (omega arith)))
+        (get_behind (entries_of old) gained k (length (entries_of old) + k) e g (omega arith)))
 
     goal_now : IsSinceGoal line X (entries_of new) gained
     goal_now =
@@ -487,7 +514,10 @@ module _ (kind : LineKind) (line : Line) (least most m X : ℕ) (plan : Plan) (o
           few = few;
           trail = trail_now;
           opens = opens_now;
+          front = entries_of old;
           since = gained;
+          added = entries_now;
+          small = few_before;
           goal = subst G same goal_now;
           published = h.does.published;
           listed = h.does.listed;

@@ -10,6 +10,7 @@ use Rattle.line_rules.specs.Units.{UnitsOf, UnitsIn, TrailUnits}
 use Rattle.line_rules.specs.declared.types.LineKind.{LineKind}
 use Rattle.line_rules.specs.declared.types.Entry.{Entry}
 use Rattle.line_rules.specs.declared.types.OpenFrame.{OpenFrame}
+use Rattle.line_rules.specs.declared.types.Balance.{Balance as Assignment}
 use Rattle.line_rules.specs.declared.types.Trail.{Trail}
 use Rattle.line_rules.specs.declared.types.Why.TheVariants as why
 use Rattle.load_facts.specs.Times.{longest_of}
@@ -21,7 +22,7 @@ use Rattle.cycle_search.specs.Asking.{HasAskedBook}
 use Rattle.cycle_search.specs.Ends.{first_lower, first_upper}
 use Rattle.cycle_search.specs.declared.asking.Asked.{Asked}
 use Rattle.effic_check.specs.Accepted.{IsClosed}
-use Rattle.effic_search.specs.Counted.{IsCounted, others}
+use Rattle.effic_search.specs.Counted.{IsCounted, AreFew}
 use Rattle.effic_search.specs.Since.{IsSinceGoal}
 use Rattle.effic_search.specs.declared.lowering.Lowering.{Lowering}
 use Rattle.effic_search.specs.declared.counting.Listed.{Listed}
@@ -47,7 +48,11 @@ abbrev pub HaveCycles : Line → List Entry → Type 0
 HaveCycles line es = (k : ℕ) (e : Entry) → slice_get es k ≡ Some e → e.why ≢ why.Bound
     → (longest_of line (all_tasks line) ≤ e.cycle) × (e.cycle ≤ max (total_time line) 1)
 
--- A search: its balance is right at its cycle, in a number of stations that is asked for, and of no greater product
+-- no lesser cycle from 1 on is enough for the balance: this one is the greater of 1 and its longest station
+abbrev pub IsTight : LineKind → Line → Assignment → ℕ → Type 0
+IsTight kind line b cycle = (c : ℕ) → 1 ≤ c → IsRight kind line c b → cycle ≤ c
+
+-- A search: its balance is right at its cycle, and at no lesser one, in a number of stations that is asked for, and of no greater product
 -- than
 -- the first one; its entries are counted, and refute each number of stations below the first lower end.
 pub record IsLowering (kind : LineKind) (line : Line) (least most : ℕ) (h : Lowering) : Type 0 where
@@ -60,6 +65,7 @@ pub record IsLowering (kind : LineKind) (line : Line) (least most : ℕ) (h : Lo
   pub limit : h.cycle ≤ 204800000000000000
   pub bounded : first_upper line ≤ 204800000000000000
   pub right : IsRight kind line h.cycle h.balance
+  pub tight : IsTight kind line h.balance h.cycle
   pub first : product_of h ≤ least * first_upper line
   pub counted : IsCounted line (entries_of h) (length (entries_of h)) h.listed
   pub few : length (entries_of h) ≤ 20000000
@@ -92,7 +98,8 @@ pub record IsDue (kind : LineKind) (line : Line) (least most : ℕ) (h : Lowerin
   pub large : (4000000 < h.listed.units) ⊎ (4000000 < h.listed.entries)
 
 -- The units of a try in m stations at the cycle of the book ended: its frames are a trail from the question, open over
--- the entries, and what they and the entries since the last one of all tasks list is all units of the plan.
+-- the entries; the book before it was small enough for a try; and what the frames and the entries since, which are those
+-- since the last one of all tasks, list is all units of the plan.
 pub record IsStuck (kind : LineKind) (line : Line) (least most : ℕ) (plan : Plan) (h : Lowering)
     (frames : List OpenFrame) : Type 0 where
   pub lowering : IsLowering kind line least most h
@@ -101,7 +108,10 @@ pub record IsStuck (kind : LineKind) (line : Line) (least most : ℕ) (plan : Pl
   pub few : m < tasks line
   pub trail : IsTrail kind line h.book.about.cycle (entries_of h) (all_tasks line) m frames
   pub opens : IsOpenOver line h.book.about.cycle (entries_of h) frames
+  pub front : List Entry
   pub since : List Entry
+  pub added : entries_of h ≡ front ++ since
+  pub small : AreFew line front
   pub goal : IsSinceGoal line h.book.about.cycle (entries_of h) since
   pub published : ℕ
   pub listed : ℕ
@@ -140,12 +150,13 @@ pub record HasAsked (m : ℕ) (plan : Plan) (X : ℕ) (old new : Lowering) (v : 
   pub counted : IsCounted old.book.about.line (entries_of new) (length (entries_of new)) new.listed
   pub units : new.listed.units ≤ old.listed.units + 2 * plan.units
 
--- A search with another balance, which is right at its cycle, in m stations; the cycle is 1 to X. The rest stays.
+-- A search with another balance, which is right at its cycle and at no lesser one, in m stations; the cycle is 1 to X. The rest stays.
 pub record IsImproved (kind : LineKind) (line : Line) (m X : ℕ) (old new : Lowering) : Type 0 where
   pub book : new.book ≡ old.book
   pub listed : new.listed ≡ old.listed
   pub stations : new.balance.stations ≡ m
   pub right : IsRight kind line new.cycle new.balance
+  pub tight : IsTight kind line new.balance new.cycle
   pub some : 1 ≤ new.cycle
   pub less : new.cycle ≤ X
 

@@ -36,6 +36,7 @@ pub(crate) enum Settled {
 fn is_large(listed: Listed) -> bool
     ensures large { result ≡ true → (4000000 < listed.units) ⊎ (4000000 < listed.entries) }
     ensures small { result ≡ false → listed.units ≤ 4000000 }
+    ensures few { result ≡ false → listed.entries ≤ 4000000 }
 {
     if listed.units > MOST {
         return true;

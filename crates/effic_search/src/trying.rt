@@ -10,7 +10,7 @@ ghost use Rattle.lemma_core.specs.Books.{IsReserved, MayBeBest};
 ghost use Rattle.round_run.specs.Plans.{IsPlan};
 ghost use Rattle.effic_check.specs.Accepted.{cycle_below};
 ghost use Rattle.effic_search.specs.Counted.{IsCounted};
-ghost use Rattle.effic_search.specs.Going.{IsGoing, IsImproved, IsTried, HasAsked, product_of, entries_of};
+ghost use Rattle.effic_search.specs.Going.{IsGoing, IsTight, IsImproved, IsTried, HasAsked, product_of, entries_of};
 
 use crate::counting::{counted, ends_with_all, has_all_from};
 use crate::lowering::{Lowering, Wanted};
@@ -36,13 +36,13 @@ pub(crate) enum Tried {
     NoMemory(Lowering),
 }
 
-/// The longest station of a balance that is right at a cycle, or a greater time up to it at which it is right too. Each
-/// look at the balance finds a longer station than the one before.
+/// The longest station of a balance that is right at a cycle. Each look at the balance finds a longer station than the
+/// one before.
 fn longest_station(inst: &Instance, kind: LineKind, balance: &Balance, cycle: u64) -> u64
     requires right { IsRight kind inst.now cycle balance.now }
     requires few { balance.now.stations ≤ 1024 }
     ensures right { IsRight kind inst.now result balance.now }
-    ensures within { result ≤ cycle }
+    ensures least_one { (c : ℕ) → IsRight kind inst.now c balance.now → result ≤ c }
 {
     let _tasks = inst.tasks();
     let mut longest = 0;
@@ -55,7 +55,13 @@ fn longest_station(inst: &Instance, kind: LineKind, balance: &Balance, cycle: u6
 }
 
 /// The search with a balance that is right at a cycle, at the greater of 1 and its longest station.
-fn improved(inst: &Instance, kind: LineKind, search: Lowering, cycle: u64, balance: Balance) -> Lowering
+fn improved(
+    inst: &Instance,
+    kind: LineKind,
+    search: Lowering,
+    cycle: u64,
+    balance: Balance,
+) -> Lowering
     requires right { IsRight kind inst.now cycle balance }
     requires few { balance.stations ≤ 1024 }
     requires one { 1 ≤ cycle }
@@ -63,6 +69,7 @@ fn improved(inst: &Instance, kind: LineKind, search: Lowering, cycle: u64, balan
     ensures listed { result.listed ≡ search.listed }
     ensures balance { result.balance ≡ balance }
     ensures right { IsRight kind inst.now result.cycle balance }
+    ensures tight { IsTight kind inst.now balance result.cycle }
     ensures some { 1 ≤ result.cycle }
     ensures less { result.cycle ≤ cycle }
 {
@@ -115,7 +122,14 @@ fn ask<R: Threads + Wait + Sync, G: Gate>(
     let kind = book.kind();
     let book = book.reopen(cycle, best);
     let asked = ask_book(rt, alloc, inst, book, stations, plan, gate)?;
-    let listed = counted(inst, kind, asked.book.entries(), from, listed, 2 * plan.units);
+    let listed = counted(
+        inst,
+        kind,
+        asked.book.entries(),
+        from,
+        listed,
+        2 * plan.units,
+    );
     let search = Lowering {
         cycle: reached,
         balance,
@@ -126,7 +140,12 @@ fn ask<R: Threads + Wait + Sync, G: Gate>(
 }
 
 /// The search with the best balance of its book, in so many stations.
-fn found(inst: &Instance, kind: LineKind, stations: u32, search: Lowering) -> Result<Lowering, AllocError>
+fn found(
+    inst: &Instance,
+    kind: LineKind,
+    stations: u32,
+    search: Lowering,
+) -> Result<Lowering, AllocError>
     requires same { search.book.about.line ≡ inst.now }
     requires kind { search.book.about.kind ≡ kind }
     requires one { 1 ≤ search.book.about.cycle }
@@ -161,6 +180,7 @@ pub(crate) fn try_cycle<R: Threads + Wait + Sync, G: Gate>(
     requires cycle { cycle ≡ cycle_below (product_of search) stations }
     requires left { HasAnswer (entries_of search) (all_tasks inst.now) stations cycle → ⊥ }
     requires small { search.listed.units ≤ 4000000 }
+    requires short { search.listed.entries ≤ 4000000 }
     requires room { length (entries_of search) ≤ 13999999 }
     ensures { let tried = IsTried wanted.kind inst.now wanted.least wanted.most stations in
         IfOk result (tried plan.now (product_of search)) }

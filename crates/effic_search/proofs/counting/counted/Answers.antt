@@ -45,8 +45,7 @@ pub loop-k-preserved : goal.loop-k-preserved
 loop-k-preserved c =
     let i = c.loop-k.invariant in
     let left = left_next c.args.inst.now c.args.entries.now c.loop-k.k (c.loop-k.k + 1) c.at-entry.result.now
-    c.at-entry.ensures (omega arith) i.1.0 c.units_of.result i.1.1 c.units_of.ensures.units in
-    (
+    c.at-entry.ensures (omega arith) i.1.0 c.units_of.result i.1.1 c.units_of.ensures.units in (
       counted_next c.args.inst.now c.args.entries.now c.loop-k.k (c.loop-k.k + 1) c.at-entry.result.now
           c.at-entry.ensures (omega arith) c.searched.result c.units_of.result c.loop-k.all c.searched.ensures
           c.units_of.ensures.units i.0,

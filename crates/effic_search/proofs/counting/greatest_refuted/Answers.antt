@@ -22,8 +22,7 @@ loop-k-preserved c =
     λ j e q g. one_entry e x (sym g ∙ (ap (λ (z : ℕ). slice_get es z) q ∙ c.at-entry.ensures)) in
     elim c.if-eq.branch [
       | then-eq w ↦
-          let same = (equal_sets x.set c.all-all.result).0 (sym c.eq.ensures ∙ w.if-eq) ∙ c.all-all.ensures.value in
-          (
+          let same = (equal_sets x.set c.all-all.result).0 (sym c.eq.ensures ∙ w.if-eq) ∙ c.all-all.ensures.value in (
             λ one. (
               k,
               x,
@@ -44,8 +43,7 @@ loop-k-preserved c =
             ],
           )
       | else-eq w ↦
-          let P : ℕ → Type 0 = λ z. HasAnswer es (all_tasks line) c.args.stations z in
-          (
+          let P : ℕ → Type 0 = λ z. HasAnswer es (all_tasks line) c.args.stations z in (
             λ one. subst P (sym w.greatest-is) (c.loop-k.invariant.0 (omega (arith, one, w.greatest-is))),
             λ j e l g s m. elim (cases_eq j k) [
               | inl q ↦

@@ -32,8 +32,13 @@ returns c =
     let w = c.args.wanted in
     let P : ℕ → Type 0 = λ z. IsFirstBook w.kind c.args.inst.now w.least z c.loop-stations.book in
     let end : c.loop-stations.stations ≡ w.most + 1 =
-    omega (arith, c.loop-stations-test.false, c.loop-stations.auto.stations, c.loop-stations.auto.stations-end,
-    c.requires.order) in
+    omega (
+      arith,
+      c.loop-stations-test.false,
+      c.loop-stations.auto.stations,
+      c.loop-stations.auto.stations-end,
+      c.requires.order,
+    ) in
     going_begins w.kind c.args.inst.now w.least w.most _ c.tasks-tasks.ensures.line c.requires.none c.requires.some
     c.requires.order c.requires.few (subst P end c.loop-stations.invariant) c.first_ends-ends.ensures.upper
     c.first_ends-ends.ensures.limit c.in_ok-all_at_first.ensures refl

@@ -65,8 +65,8 @@ returns-in-Large c = λ plan s.
     let S : Settled → Type 0 = λ z. IsSettled w.kind c.args.inst.now w.least w.most w.most plan z in
     let cert = c.certified-in-Large in
     large_is w.kind c.args.inst.now w.least w.most c.in-Large.search c.tasks-tasks.ensures.line c.requires.some
-    cert.result cert.ensures.certified cert.ensures.upper cert.ensures.entries cert.ensures.trail cert.ensures.fresh
-    (subst S c.in-Large.is s)
+    cert.result cert.ensures.certified cert.ensures.upper cert.ensures.entries c.tasks-tasks.ensures.ranked
+    cert.ensures.trail cert.ensures.fresh cert.ensures.derived (subst S c.in-Large.is s)
 
 pub returns-in-Spent : goal.returns-in-Spent
 returns-in-Spent c = λ plan s.
