@@ -1,13 +1,13 @@
 //! The line that is printed of the check of a certificate: what is accepted, or the first check that fails with its values.
-ghost use Rattle.std.specs.Prelude.{◌≡◌, ◌++◌, ◌+◌, ◌≤◌, ◌<◌, ◌^◌, IfOk, OnOk, string_bytes, codes, decimal};
+ghost use Rattle.std.specs.Prelude.{◌≡◌, ◌++◌, ◌+◌, ◌≤◌, ◌<◌, ◌^◌, IfOk, OnOk, slice_get, string_bytes, codes, decimal};
 ghost use Rattle.cert_lines.specs.Numbers.{load_text};
 ghost use Rattle.command_outcome.specs.declared.report.Kept.TheVariants.{Nothing};
-ghost use Rattle.check_command.specs.VerdictText.{ask_text, entry_fault_text, found_text, frame_fault_text, kind_text, mode_at_entry, mode_at_frame, place_text, two_text, verdict_status, verdict_text};
+ghost use Rattle.check_command.specs.VerdictText.{ask_text, entry_fault_text, entry_mode, found_text, frame_fault_text, frame_mode, frame_of, kind_text, mode_at_entry, mode_at_frame, place_text, two_text, verdict_status, verdict_text};
 
 use cert_text::{KeptText, put_load};
 use command_outcome::{Report, Status, push_number};
 use line_check::{EntryFault, FrameFault, Place, Verified};
-use line_rules::{Ask, Certificate, Claim, LineKind, Load, Mode, Why};
+use line_rules::{Ask, Certificate, Claim, Entries, LineKind, Load, Mode, Trail, Why};
 use std::alloc::{AllocError, Global};
 
 /// The text of a load, as the parts that the mode has.
@@ -25,7 +25,7 @@ fn load_text(alloc: Global, tasks: u32, mode: Mode, load: &Load) -> Result<Strin
 }
 
 /// Two numbers with a blank between, behind a text.
-fn push_two(text: &mut String, front: &str, a: u64, b: u64) -> Result<(), AllocError>
+pub fn push_two(text: &mut String, front: &str, a: u64, b: u64) -> Result<(), AllocError>
     ensures { OnOk result (string_bytes text.new ≡ string_bytes text.old ++ (front.now ++ two_text a b)) }
 {
     text.push_str(front)?;
@@ -36,7 +36,7 @@ fn push_two(text: &mut String, front: &str, a: u64, b: u64) -> Result<(), AllocE
 }
 
 /// A number behind a text.
-fn push_one(text: &mut String, front: &str, n: u64) -> Result<(), AllocError>
+pub fn push_one(text: &mut String, front: &str, n: u64) -> Result<(), AllocError>
     ensures { OnOk result (string_bytes text.new ≡ string_bytes text.old ++ (front.now ++ decimal n)) }
 {
     text.push_str(front)?;
@@ -45,14 +45,14 @@ fn push_one(text: &mut String, front: &str, n: u64) -> Result<(), AllocError>
 }
 
 /// A task, counted from 1, behind a text.
-fn push_task(text: &mut String, front: &str, task: u32) -> Result<(), AllocError>
+pub fn push_task(text: &mut String, front: &str, task: u32) -> Result<(), AllocError>
     ensures { OnOk result (string_bytes text.new ≡ string_bytes text.old ++ (front.now ++ decimal (task + 1))) }
 {
     push_one(text, front, u64::from(task) + 1)
 }
 
 /// Two tasks, counted from 1, behind a text.
-fn push_pair(text: &mut String, front: &str, i: u32, j: u32) -> Result<(), AllocError>
+pub fn push_pair(text: &mut String, front: &str, i: u32, j: u32) -> Result<(), AllocError>
     ensures { OnOk result (string_bytes text.new ≡ string_bytes text.old ++ (front.now ++ two_text (i + 1) (j + 1))) }
 {
     push_two(text, front, u64::from(i) + 1, u64::from(j) + 1)
@@ -85,7 +85,7 @@ fn push_uncovered(
 }
 
 /// Why an entry is refused.
-fn push_entry_fault(
+pub fn push_entry_fault(
     alloc: Global,
     text: &mut String,
     tasks: u32,
@@ -107,7 +107,7 @@ fn push_entry_fault(
 }
 
 /// Why a frame is refused.
-fn push_frame_fault(
+pub fn push_frame_fault(
     alloc: Global,
     text: &mut String,
     tasks: u32,
@@ -128,13 +128,10 @@ fn push_frame_fault(
     }
 }
 
-/// The mode of the entry of this number.
-fn entry_mode(claim: &Claim, entry: u64) -> Mode
-    ensures { result ≡ mode_at_entry claim.now entry }
+/// The mode of the entry of this number, in which its loads are printed.
+pub fn entry_mode(entries: &Entries, entry: u64) -> Mode
+    ensures { result ≡ entry_mode (slice_get entries.now entry) }
 {
-    let Claim::Bounds { entries, .. } = claim else {
-        return Mode::Fore;
-    };
     let Some(entry) = entries.as_slice().get(entry as usize) else {
         return Mode::Fore;
     };
@@ -144,19 +141,36 @@ fn entry_mode(claim: &Claim, entry: u64) -> Mode
     }
 }
 
-/// The mode of the frame of this number.
-fn frame_mode(claim: &Claim, frame: u32) -> Mode
-    ensures { result ≡ mode_at_frame claim.now frame }
+/// The mode of the frame of this number, in which its loads are printed.
+pub fn frame_mode(trail: &Option<Trail>, frame: u32) -> Mode
+    ensures { result ≡ frame_mode (frame_of trail.now frame) }
 {
-    let Claim::Bounds { trail, .. } = claim else {
-        return Mode::Fore;
-    };
     let Some(trail) = trail else {
         return Mode::Fore;
     };
     match trail.frames.as_slice().get(frame as usize) {
         Some(frame) => frame.mode,
         None => Mode::Fore,
+    }
+}
+
+/// The mode of the entry of this number of a claim.
+fn mode_at_entry(claim: &Claim, entry: u64) -> Mode
+    ensures { result ≡ mode_at_entry claim.now entry }
+{
+    match claim {
+        Claim::TooLong { .. } => Mode::Fore,
+        Claim::Bounds { entries, .. } => entry_mode(entries, entry),
+    }
+}
+
+/// The mode of the frame of this number of a claim.
+fn mode_at_frame(claim: &Claim, frame: u32) -> Mode
+    ensures { result ≡ mode_at_frame claim.now frame }
+{
+    match claim {
+        Claim::TooLong { .. } => Mode::Fore,
+        Claim::Bounds { trail, .. } => frame_mode(trail, frame),
     }
 }
 
@@ -192,7 +206,7 @@ fn push_place(
                 alloc,
                 text,
                 cert.tasks,
-                entry_mode(&cert.claim, *entry),
+                mode_at_entry(&cert.claim, *entry),
                 why,
             )
         }
@@ -203,7 +217,7 @@ fn push_place(
                 alloc,
                 text,
                 cert.tasks,
-                frame_mode(&cert.claim, *frame),
+                mode_at_frame(&cert.claim, *frame),
                 why,
             )
         }

@@ -4,6 +4,7 @@ ghost use Rattle.command_outcome.specs.declared.report.Kept.TheVariants.{Nothing
 ghost use Rattle.command_outcome.specs.declared.report.Stop.TheVariants.{Memory, Report as Early};
 
 use crate::status::Status;
+use effic_cert::EfficCert;
 use line_rules::Certificate;
 use std::alloc::AllocError;
 
@@ -14,6 +15,8 @@ pub enum Kept {
     Nothing,
     /// The certificate of a line.
     Line(Certificate),
+    /// The certificate of a least product of stations and cycle.
+    Product(EfficCert),
 }
 
 /// A status, the text that is put with it, and the certificate that is kept once it is put.

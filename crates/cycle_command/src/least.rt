@@ -21,7 +21,7 @@ ghost use Rattle.cycle_search.specs.Outcomes.{IsSolved, IsSpent, IsStopped as Ha
 ghost use Rattle.cycle_command.specs.CyclePromise.{IsCyclePromised, IsShown};
 ghost use Rattle.cycle_command.specs.Found.{IsOptimal, IsStopped, IsFound, IsCutShort, IsCycleOutcome};
 
-use crate::plain_line::plain_line;
+use crate::line_file::plain_line;
 use crate::print_cycle::{cut_short_text, optimal_text, room_for_bounds, stopped_text};
 use cert_files::{Streamed, stream_cert};
 use command_outcome::{Kept, Report, Status, Stop, refuse};

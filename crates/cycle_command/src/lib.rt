@@ -6,9 +6,10 @@
 #![tactic(auto)]
 
 mod least;
-mod plain_line;
+mod line_file;
 mod print_cycle;
 #[cfg(test)]
 mod tests;
 
 pub use least::cycle_report;
+pub use line_file::plain_line;

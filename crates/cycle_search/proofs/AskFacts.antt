@@ -1,5 +1,4 @@
--- A round at the cycle of a search's book is what its question needs: what helpers and the closing pass added is paid
--- for.
+-- A round at the cycle of a book is what its question needs: what helpers and the closing pass added is paid for.
 use Rattle.std.proofs.Common.{◌≡◌, ℕ, ◌+◌, ◌-◌, ◌*◌, ◌≤◌, List, ◌++◌, length, refl}
 use Rattle.std.proofs.Common.{ap, ◌∙◌, subst, arith, append_assoc, length-append}
 use Rattle.line_rules.specs.Units.{UnitsOf, UnitsIn}
@@ -17,7 +16,9 @@ use Rattle.round_run.specs.declared.plans.Plan.{Plan}
 use Rattle.round_run.specs.declared.plans.Purse.{Purse}
 use Rattle.round_run.specs.declared.rounds.Round.{Round}
 use Rattle.round_run.proofs.PurseFacts.{spent_sum}
-use Rattle.cycle_search.specs.Searching.{HasAsked, ListsAll}
+use Rattle.cycle_search.specs.Asking.{HasAskedBook, ListsAll}
+use Rattle.cycle_search.specs.Searching.{HasAsked}
+use Rattle.cycle_search.specs.declared.asking.Asked.{Asked}
 use Rattle.cycle_search.specs.declared.halving.Halving.{Halving}
 
 -- where units ended, all of the plan's are listed
@@ -32,15 +33,15 @@ lists_all (verdict.Spent frames) plan b m left helped published listed used a ex
 )
 lists_all (verdict.NoMemory frames) plan b m left helped published listed used a exact sum alone = tt
 
-module _ (m : ℕ) (plan : Plan) (old : Halving) (purse after : Purse) (round : Round) (filled : IsFilled plan purse)
+module _ (m : ℕ) (plan : Plan) (old : BookView) (purse after : Purse) (round : Round) (filled : IsFilled plan purse)
     (sum : after.closing.used + after.closing.left ≡ purse.closing.used + purse.closing.left)
     (spent : HaveSpent purse.helper.items after.helper.items)
-    (r : IsRound old.book round m after.helper.items (all_used after.helper.items - all_used purse.helper.items)
+    (r : IsRound old round m after.helper.items (all_used after.helper.items - all_used purse.helper.items)
     (after.closing.used - purse.closing.used)) where
   gained : List Entry
   gained = r.helps.gained ++ r.gains.gained
 
-  same_about : r.mid.about ≡ old.book.about
+  same_about : r.mid.about ≡ old.about
   same_about = r.helps.goes_on.about
 
   helped_few : all_used after.helper.items ≤ plan.units
@@ -50,31 +51,31 @@ module _ (m : ℕ) (plan : Plan) (old : Halving) (purse after : Purse) (round : 
   helped_none z =
       omega (arith, spent_sum purse.helper.items after.helper.items spent, filled.alone z, filled.none_used)
 
-  all_units : UnitsOf old.book.about.line gained (r.helps.published + r.gains.published)
+  all_units : UnitsOf old.about.line gained (r.helps.published + r.gains.published)
   unfolding gained
   all_units =
       let P : About → Type 0 = λ z. UnitsOf z.line r.gains.gained r.gains.published in
-      units_both old.book.about.line r.helps.gained r.gains.gained r.helps.published r.gains.published r.helps.units
+      units_both old.about.line r.helps.gained r.gains.gained r.helps.published r.gains.published r.helps.units
       (subst P same_about r.gains.entry_units)
 
-  all_cycles : AreAtCycle old.book.about.cycle gained
+  all_cycles : AreAtCycle old.about.cycle gained
   unfolding gained
   all_cycles =
       let P : About → Type 0 = λ z. AreAtCycle z.cycle r.gains.gained in
-      cycles_both old.book.about.cycle r.helps.gained r.gains.gained r.helps.goes_on.cycles
+      cycles_both old.about.cycle r.helps.gained r.gains.gained r.helps.goes_on.cycles
       (subst P same_about r.gains.goes_on.cycles)
 
-  all_frames : UnitsIn old.book.about.line old.book.about.cycle (frames_of round.verdict) r.gains.listed
+  all_frames : UnitsIn old.about.line old.about.cycle (frames_of round.verdict) r.gains.listed
   all_frames =
       let P : About → Type 0 = λ z. UnitsIn z.line z.cycle (frames_of round.verdict) r.gains.listed in
       subst P same_about r.gains.frame_units
 
-  entries_now : round.book.state.entries ≡ old.book.state.entries ++ gained
+  entries_now : round.book.state.entries ≡ old.state.entries ++ gained
   unfolding gained
   entries_now =
       r.gains.goes_on.entries
       ∙ (ap (λ (z : List Entry). z ++ r.gains.gained) r.helps.goes_on.entries
-      ∙ append_assoc old.book.state.entries r.helps.gained r.gains.gained)
+      ∙ append_assoc old.state.entries r.helps.gained r.gains.gained)
 
   few_now : length gained ≤ 2 * plan.units + 1
   unfolding gained
@@ -89,21 +90,14 @@ module _ (m : ℕ) (plan : Plan) (old : Halving) (purse after : Purse) (round : 
     filled.left,
   )
 
-  -- the round as the search sees it
+  -- the round as its asker sees it
   pub has_asked : IsAnswer round.book m after.closing.left round.verdict → IsReserved round.book
-      → HasAsked m plan old (record {
-        lower = old.lower;
-        upper = old.upper;
-        balance = old.balance;
-        proof = old.proof;
+      → HasAskedBook m plan old (record {
         book = round.book;
-        paid = old.paid + after.closing.used + all_used after.helper.items;
-      }) round.verdict
+        verdict = round.verdict;
+        used = after.closing.used + all_used after.helper.items;
+      })
   has_asked answer reserved = record {
-    lower = refl;
-    upper = refl;
-    balance = refl;
-    proof = refl;
     about = r.gains.goes_on.about ∙ same_about;
     reserved = reserved;
     gained = gained;
@@ -125,7 +119,37 @@ module _ (m : ℕ) (plan : Plan) (old : Halving) (purse after : Purse) (round : 
   }
 
   -- the units used fit into the numbers that are summed
-  pub fits : old.paid ≤ 1000000 → plan.units ≤ 3000000
-      → (after.closing.used ≤ 3000000) × (all_used after.helper.items ≤ 3000000)
-  fits paid limit =
-      (omega (arith, sum, filled.used, filled.left, limit), omega (arith, helped_few, limit))
+  pub fits : plan.units ≤ 3000000 → (after.closing.used ≤ 3000000) × (all_used after.helper.items ≤ 3000000)
+  fits limit = (omega (arith, sum, filled.used, filled.left, limit), omega (arith, helped_few, limit))
+
+-- a question over the book of a search
+pub search_asked : (m : ℕ) (plan : Plan) (old : Halving) (asked : Asked) → HasAskedBook m plan old.book asked
+    → HasAsked m plan old (record {
+      lower = old.lower;
+      upper = old.upper;
+      balance = old.balance;
+      proof = old.proof;
+      book = asked.book;
+      paid = old.paid + asked.used;
+    }) asked.verdict
+search_asked m plan old asked h = record {
+  lower = refl;
+  upper = refl;
+  balance = refl;
+  proof = refl;
+  about = h.about;
+  reserved = h.reserved;
+  gained = h.gained;
+  entries = h.entries;
+  cycles = h.cycles;
+  few = h.few;
+  published = h.published;
+  listed = h.listed;
+  entry_units = h.entry_units;
+  frame_units = h.frame_units;
+  paid = omega (arith, h.paid);
+  within = omega (arith, h.within);
+  left = h.left;
+  answer = h.answer;
+  all = h.all;
+}

@@ -96,7 +96,7 @@ kept_closer kind line m N lower upper upper' es u k = record {
 }
 
 -- entries that are all at X
-all_at : (X : ℕ) (es : List Entry) → AreAtCycle X es → entries_at X es ≡ es
+pub all_at : (X : ℕ) (es : List Entry) → AreAtCycle X es → entries_at X es ≡ es
 all_at X [] h = refl
 all_at X (e ∷ es) h =
     let t : nat_eq e.cycle X ≡ true = eq-eqb e.cycle X (h 0 e refl) in

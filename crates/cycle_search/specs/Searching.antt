@@ -17,6 +17,7 @@ use Rattle.round_run.specs.declared.closing.Verdict.{Verdict}
 use Rattle.round_run.specs.declared.closing.Verdict.TheVariants as verdict
 use Rattle.round_run.specs.declared.solving.Cause.{Cause}
 use Rattle.round_run.specs.declared.solving.Cause.TheVariants as cause
+use Rattle.cycle_search.specs.Asking.{ListsAll}
 use Rattle.cycle_search.specs.Ends.{first_lower}
 use Rattle.cycle_search.specs.Outcomes.{IsRightIn, IsBelow}
 use Rattle.cycle_search.specs.declared.halving.Halving.{Halving}
@@ -81,13 +82,6 @@ pub record IsAsking (kind : LineKind) (line : Line) (m N X : ℕ) (h : Halving) 
   pub stations : m < tasks line
   pub small : length h.book.state.entries ≤ 1000000
   pub cheap : h.paid ≤ 1000000
-
--- where units ended, all of them are listed: at least N, and exactly N where there are no helpers
-abbrev pub ListsAll : Verdict → Plan → ℕ → Type 0
-ListsAll verdict.Refuted plan listed = Unit {0}
-ListsAll verdict.Found plan listed = Unit {0}
-ListsAll (verdict.Spent frames) plan listed = (plan.units ≤ listed) × (plan.helpers ≡ 0 → listed ≡ plan.units)
-ListsAll (verdict.NoMemory frames) plan listed = Unit {0}
 
 -- The question of m stations was asked over the book of a search: what the book gained is at its cycle, and paid for,
 -- and the rest of the search stays.

@@ -13,7 +13,7 @@ use std::alloc::{AllocError, Global};
 
 /// The first ends of a search, in the instance's time unit.
 #[derive(Clone, Copy)]
-pub(crate) struct Ends {
+pub struct Ends {
     /// There is no balance at a cycle below it.
     pub lower: u64,
     /// There is one at it.
@@ -21,7 +21,7 @@ pub(crate) struct Ends {
 }
 
 /// The first ends, for 1 to 1,024 stations.
-pub(crate) fn first_ends(inst: &Instance, stations: u32) -> Ends
+pub fn first_ends(inst: &Instance, stations: u32) -> Ends
     requires some { 1 ≤ stations }
     ensures lower { result.lower ≡ first_lower inst.now stations }
     ensures upper { result.upper ≡ first_upper inst.now }
@@ -39,7 +39,7 @@ pub(crate) fn first_ends(inst: &Instance, stations: u32) -> Ends
 }
 
 /// All tasks at the first of so many stations, in front. An error where memory is wanting.
-pub(crate) fn all_at_first(
+pub fn all_at_first(
     alloc: Global,
     inst: &Instance,
     stations: u32,

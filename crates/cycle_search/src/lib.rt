@@ -5,11 +5,12 @@
 //! from try to try, since a lemma at a greater cycle serves at a smaller one. With ends L and U there are at most
 //! log2(U - L) + 1 tries, each with the units of the plan.
 //!
-//! `ends` has the first ends, `opening` the first book and its first entry; `halving` is the search between two tries;
-//! `trying` has one try, and `joining` makes one list of the entries of a search; `searching` says what a search comes
-//! to.
+//! `ends` has the first ends, `opening` the first book and its first entry; `asking` asks one question over a book;
+//! `halving` is the search between two tries; `trying` has one try, and `joining` makes one list of the entries of a
+//! search; `searching` says what a search comes to.
 #![tactic(auto)]
 
+mod asking;
 mod ends;
 mod halving;
 mod joining;
@@ -19,4 +20,8 @@ mod searching;
 mod tests;
 mod trying;
 
+pub use asking::{Asked, ask_book};
+pub use ends::{Ends, all_at_first, first_ends};
+pub use opening::open_book;
 pub use searching::{CycleOutcome, least_cycle};
+pub use trying::widened;

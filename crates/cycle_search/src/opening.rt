@@ -16,7 +16,7 @@ use line_rules::{Balance, Entries, Entry, LineKind, Why};
 use std::alloc::{AllocError, Global};
 
 /// A book without entries, with a first best balance and with room for the better ones.
-pub(crate) fn open_book(
+pub fn open_book(
     alloc: Global,
     inst: &Instance,
     kind: LineKind,

@@ -11,18 +11,17 @@ ghost use Rattle.line_rules.specs.Ranges.{IsCycle};
 ghost use Rattle.line_rules.specs.declared.types.LineKind.{LineKind as Kind};
 ghost use Rattle.lemma_core.specs.Books.{IsReserved, MayBeBest};
 ghost use Rattle.cert_files.specs.Trim.{CitesEarlier};
-ghost use Rattle.round_helpers.specs.Helping.{all_used};
 ghost use Rattle.round_run.specs.Plans.{IsPlan};
 ghost use Rattle.cycle_search.specs.Searching.{IsBetween, IsAsking, HasAsked, IsTried, IsKept};
 
+use crate::asking::ask_book;
 use crate::halving::Halving;
 use crate::opening::open_book;
 use cert_files::trim;
 use first_fit::{Ranked, ranked_balance};
 use line_instance::Instance;
 use line_rules::{Balance, Entries, Frames, LineKind};
-use round_run::{Cause, Gate, Plan, Verdict, decide_round, fill};
-use station_search::Units;
+use round_run::{Cause, Gate, Plan, Verdict};
 use std::alloc::{AllocError, Global};
 use std::sync::Wait;
 use std::thread::Threads;
@@ -149,18 +148,6 @@ fn reopened(
     })
 }
 
-// The units that helpers have used.
-fn used_by(team: &[Units]) -> u64
-    requires { all_used team.now ≤ 3000000 }
-    ensures { result ≡ all_used team.now }
-{
-    let mut used = 0;
-    for units in team {
-        used += units.used;
-    }
-    used
-}
-
 // The search after its question was asked at the cycle of its book, and the answer.
 fn ask<R: Threads + Wait + Sync, G: Gate>(
     rt: &R,
@@ -180,7 +167,6 @@ fn ask<R: Threads + Wait + Sync, G: Gate>(
     requires paid { search.paid ≤ 1000000 }
     ensures { IfOk result (λ r. HasAsked stations plan.now search r.0 r.1) }
 {
-    let mut purse = fill(alloc, plan)?;
     let Halving {
         lower,
         upper,
@@ -189,20 +175,20 @@ fn ask<R: Threads + Wait + Sync, G: Gate>(
         book,
         paid,
     } = search;
-    let round = decide_round(rt, alloc, inst, book, stations, &mut purse, gate);
+    let asked = ask_book(rt, alloc, inst, book, stations, plan, gate)?;
     let search = Halving {
         lower,
         upper,
         balance,
         proof,
-        book: round.book,
-        paid: paid + purse.closing.used + used_by(&purse.helper),
+        book: asked.book,
+        paid: paid + asked.used,
     };
-    Ok((search, round.verdict))
+    Ok((search, asked.verdict))
 }
 
-// The balance in so many stations, the last ones perhaps empty.
-fn widened(balance: &Balance, stations: u32) -> Result<Balance, AllocError>
+/// The balance in so many stations, the last ones perhaps empty. An error where memory is wanting.
+pub fn widened(balance: &Balance, stations: u32) -> Result<Balance, AllocError>
     ensures { IfOk result (λ b. b ≡ record { stations = stations; place = balance.now.place }) }
 {
     Ok(Balance {

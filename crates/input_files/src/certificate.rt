@@ -13,7 +13,7 @@ use line_rules::Certificate;
 use std::alloc::{AllocError, Global};
 
 /// The most bytes of a certificate's file: 2 GiB.
-const MAX_CERTIFICATE: u64 = 2_147_483_648;
+pub const MAX_CERTIFICATE: u64 = 2_147_483_648;
 
 /// What is wrong with a line of a certificate.
 fn kind_text(kind: CertKind) -> &'static str
@@ -28,7 +28,7 @@ fn kind_text(kind: CertKind) -> &'static str
 }
 
 /// The line about the first fault of a certificate's text.
-fn cert_fault_line_of(alloc: Global, fault: CertFault) -> Result<Vec<u8>, AllocError>
+pub fn cert_fault_line_of(alloc: Global, fault: CertFault) -> Result<Vec<u8>, AllocError>
     ensures { IfOk result (λ t. t.items ≡ cert_fault_line fault) }
 {
     let mut text = String::from_str(alloc, "certificate: line ")?;

@@ -11,14 +11,21 @@ use std::alloc::Global;
 /// The most bytes of an instance file and of a file of pairs: 16 MiB.
 const MAX_FILE: u64 = 16_777_216;
 
-/// The bytes of a file.
-pub fn fetch<S: Shelf>(alloc: Global, file: &str, shelf: &mut S) -> Result<Vec<u8>, Stop>
-    ensures source { S.tells → MatchResult result (λ v. (S.file shelf.old file.now ≡ Some v.items) × (length v.items ≤ max_file)) (Stops (IsUntaken (outside (S.file shelf.old) (S.blames shelf.new)) max_file file.now)) }
+/// The bytes of a file of at most `limit` bytes.
+pub fn fetch_within<S: Shelf>(
+    alloc: Global,
+    file: &str,
+    limit: u64,
+    shelf: &mut S,
+) -> Result<Vec<u8>, Stop>
+    ensures source { S.tells → MatchResult result
+        (λ v. (S.file shelf.old file.now ≡ Some v.items) × (length v.items ≤ limit))
+        (Stops (IsUntaken (outside (S.file shelf.old) (S.blames shelf.new)) limit file.now)) }
     ensures fault { MatchResult result (λ _. Unit {0}) (MayStop (Rises (S.faults shelf.old) (S.faults shelf.new))) }
     ensures count { S.faults shelf.old ≤ S.faults shelf.new }
     ensures files { S.tells → (q : List ℕ) → S.file shelf.new q ≡ S.file shelf.old q }
 {
-    match read_whole(alloc, shelf, file, MAX_FILE) {
+    match read_whole(alloc, shelf, file, limit) {
         Whole::Bytes(bytes) => Ok(bytes),
         Whole::ReadFault => {
             let text = line_about(alloc, "read fault: ", file, "\n")?;
@@ -30,4 +37,16 @@ pub fn fetch<S: Shelf>(alloc: Global, file: &str, shelf: &mut S) -> Result<Vec<u
         }
         Whole::NoMemory => Err(Stop::Memory),
     }
+}
+
+/// The bytes of an instance file or of a file of pairs.
+pub fn fetch<S: Shelf>(alloc: Global, file: &str, shelf: &mut S) -> Result<Vec<u8>, Stop>
+    ensures source { S.tells → MatchResult result
+        (λ v. (S.file shelf.old file.now ≡ Some v.items) × (length v.items ≤ max_file))
+        (Stops (IsUntaken (outside (S.file shelf.old) (S.blames shelf.new)) max_file file.now)) }
+    ensures fault { MatchResult result (λ _. Unit {0}) (MayStop (Rises (S.faults shelf.old) (S.faults shelf.new))) }
+    ensures count { S.faults shelf.old ≤ S.faults shelf.new }
+    ensures files { S.tells → (q : List ℕ) → S.file shelf.new q ≡ S.file shelf.old q }
+{
+    fetch_within(alloc, file, MAX_FILE, shelf)
 }

@@ -11,7 +11,7 @@ mod fetch_file;
 mod instance;
 mod kind;
 
-pub use certificate::certificate_of;
-pub use fetch_file::fetch;
+pub use certificate::{MAX_CERTIFICATE, cert_fault_line_of, certificate_of};
+pub use fetch_file::{fetch, fetch_within};
 pub use instance::{Sheet, Timed, fault_line_of, line_of, said_instance, sheet_of};
 pub use kind::kind_of;

@@ -41,7 +41,7 @@ fn tasks_kept(alloc: Global, fails: &[u64]) -> Result<Option<u32>, AllocError> {
     };
     let _status = finish(&mut out, Ok(report), &mut kept);
     Ok(match kept {
-        Kept::Nothing => None,
+        Kept::Nothing | Kept::Product(_) => None,
         Kept::Line(certificate) => Some(certificate.tasks),
     })
 }

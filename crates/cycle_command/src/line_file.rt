@@ -13,7 +13,7 @@ use std::alloc::Global;
 
 /// The line that the file says, whatever the cycle time. No file of pairs is read, so no two tasks are apart: that is
 /// made so once more, for callers to know it of every file.
-pub(crate) fn plain_line<S: Shelf>(
+pub fn plain_line<S: Shelf>(
     alloc: Global,
     file: &str,
     shelf: &mut S,

@@ -1,6 +1,6 @@
 use Rattle.std.proofs.Common.{◌≡◌, ℕ, inl, inr}
 use Rattle.cycle_command.proofs.PlainFacts.{said_plain, none_given}
-use Rattle.cycle_command.proofs.plain_line.plain_line.Goals as goal
+use Rattle.cycle_command.proofs.line_file.plain_line.Goals as goal
 
 pub returns-clause-said : goal.returns-clause-said
 returns-clause-said g c = λ t.

@@ -1,0 +1,2 @@
+pub mod PromiseFacts
+pub mod WrittenFacts

@@ -1,0 +1,32 @@
+use Rattle.std.proofs.Common.{◌∙◌, inl, subst, List, ℕ, Option, None}
+use Rattle.command_outcome.specs.Outcome.{Files}
+use Rattle.command_outcome.proofs.OutcomeFacts.{told_as}
+use Rattle.input_files.specs.InputFile.{Reads, max_certificate}
+use Rattle.effic_command.specs.ProductFile.{IsTextOf}
+use Rattle.effic_command.specs.ProductText.{verdict_text, verdict_status}
+use Rattle.effic_command.proofs.check.effic_check_report.Goals as goal
+
+pub returns-clause-ends : goal.returns-clause-ends
+returns-clause-ends g c = λ t.
+    let files : Files = g.S.Shelf.file c.args.shelf.now in
+    let proof : List ℕ = c.args.proof.now in
+    let cert = c.in_ok-cert.cert in
+    let found = c.verify_effic-verified.result in
+    let R : Option (List ℕ) → Type 0 = λ f. Reads max_certificate f (IsTextOf c.in_ok-cert.cert) in
+    record {
+      page = None;
+      reached = inl (record {
+        line = c.in_ok-inst.inst;
+        cert = cert;
+        found = found;
+        said = c.in_ok-inst.ensures.said t;
+        read = subst R (c.in_ok-inst.ensures.files t proof) (c.in_ok-cert.ensures.said t);
+        verdict = c.verify_effic-verified.ensures.verdict;
+        accepted = c.verify_effic-verified.ensures.accepted;
+        rejected = c.verify_effic-verified.ensures.rejected;
+        true_bounds = c.verify_effic-verified.ensures.true_bounds;
+        shown = told_as c.in_ok-report.report (verdict_status found) (verdict_text cert found)
+            c.in_ok-report.ensures.status c.in_ok-report.ensures.text c.in_ok-report.ensures.kept;
+      });
+      written = λ q. c.in_ok-cert.ensures.files t q ∙ c.in_ok-inst.ensures.files t q;
+    }

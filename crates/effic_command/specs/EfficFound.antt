@@ -1,0 +1,73 @@
+-- What `effic` comes to.
+use Rattle.std.specs.Prelude.{◌≡◌, ◌⊎◌, ℕ, List, Option, Some, None}
+use Rattle.line_instance.specs.Line.{Line}
+use Rattle.line_rules.specs.Bounds.{idle_time}
+use Rattle.line_rules.specs.declared.types.LineKind.{LineKind}
+use Rattle.round_run.specs.declared.plans.Plan.{Plan}
+use Rattle.command_outcome.specs.Outcome.{Files, Outside, Page, Outcome, told}
+use Rattle.command_outcome.specs.declared.report.Kept.TheVariants.{Product}
+use Rattle.command_outcome.specs.declared.status.Status.{Status}
+use Rattle.command_outcome.specs.declared.status.Status.TheVariants as ends
+use Rattle.input_files.specs.Instance.{IsLineOf, IsNoLine}
+use Rattle.solve_command.specs.SolutionText.{cut_short_text}
+use Rattle.cycle_command.specs.Found.{planned}
+use Rattle.effic_cert.specs.Product.{product_text}
+use Rattle.effic_cert.specs.declared.cert.EfficCert.{EfficCert}
+use Rattle.effic_check.specs.Truth.{IsBetween}
+use Rattle.effic_search.specs.Outcomes.{IsSolved, StoppedBy}
+use Rattle.effic_search.specs.declared.searching.Ended.{Ended}
+use Rattle.effic_command.specs.EfficText.{optimal_text, stopped_text}
+
+-- the time of the stations of the balance that no task uses
+abbrev pub idle_of : Line → EfficCert → ℕ
+idle_of line cert = idle_time line cert.cycle cert.balance.stations
+
+-- the page of a certificate: its text in the file that the words name, where they name one
+abbrev pub page_of : Option (List ℕ) → EfficCert → Option Page
+page_of None cert = None
+page_of (Some name) cert = Some (record { name = name; bytes = product_text cert })
+
+-- an outcome with a certificate, which is kept, and written where the words name a file
+abbrev pub certified_by : Option (List ℕ) → EfficCert → Status → List ℕ → Outcome
+certified_by name cert status text =
+    record { status = status; text = text; page = page_of name cert; kept = Product cert }
+
+-- The least product: the certificate proves it, and what is printed are its product and its balance.
+pub record IsOptimal (kind : LineKind) (line : Line) (least most : ℕ) (name : Option (List ℕ)) (out : Outcome)
+    : Type 0 where
+  pub certificate : EfficCert
+  pub solved : IsSolved kind line least most certificate
+  pub shown : out ≡ certified_by name certificate ends.Done (optimal_text certificate (idle_of line certificate))
+
+-- The search stopped: the certificate says why, and what is printed are its bounds and its balance.
+pub record IsStopped (kind : LineKind) (line : Line) (least most : ℕ) (plan : Plan) (name : Option (List ℕ))
+    (out : Outcome) : Type 0 where
+  pub why : Ended
+  pub certificate : EfficCert
+  pub stopped : StoppedBy why kind line least most plan certificate
+  pub shown : out ≡ certified_by name certificate ends.Stopped
+      (stopped_text why certificate (idle_of line certificate))
+
+-- what is found with a certificate
+abbrev pub IsFound : LineKind → Line → ℕ → ℕ → Plan → Option (List ℕ) → Outcome → Type 0
+IsFound kind line least most plan name out =
+    IsOptimal kind line least most name out ⊎ IsStopped kind line least most plan name out
+
+-- Memory ended the search: the bounds that are printed are true.
+pub record IsCutShort (kind : LineKind) (line : Line) (least most : ℕ) (out : Outcome) : Type 0 where
+  pub lower : ℕ
+  pub upper : ℕ
+  pub true_bounds : IsBetween kind line least most lower upper
+  pub shown : out ≡ told ends.Memory (cut_short_text lower upper)
+
+-- the file says the line, and this is answered of it
+pub record IsAnswered (files : Files) (file : List ℕ) (kind : LineKind) (least most : ℕ) (plan : Plan)
+    (name : Option (List ℕ)) (out : Outcome) : Type 0 where
+  pub line : Line
+  pub said : IsLineOf files file None line
+  pub answer : IsFound kind line least most plan name out ⊎ IsCutShort kind line least most out
+
+-- What `effic` comes to for `least` to `most` stations: an answer, or why the file says no line.
+abbrev pub IsEfficOutcome : Outside → List ℕ → LineKind → ℕ → ℕ → ℕ → ℕ → Option (List ℕ) → Outcome → Type 0
+IsEfficOutcome o file kind least most helpers units name out =
+    IsAnswered o.files file kind least most (planned helpers units) name out ⊎ IsNoLine o file None out

@@ -1,0 +1,73 @@
+-- What `effic` promises, fact by fact, where it answers with status 0 or 1.
+use Rattle.std.specs.Prelude.{◌≡◌, ◌⊎◌, ℕ, ◌<◌, ◌≤◌, List, Option, Some, None}
+use Rattle.line_instance.specs.Line.{Line}
+use Rattle.line_rules.specs.declared.types.LineKind.{LineKind}
+use Rattle.round_run.specs.declared.plans.Plan.{Plan}
+use Rattle.run_certificates.specs.Certified.{max_units}
+use Rattle.command_outcome.specs.Outcome.{Files}
+use Rattle.command_outcome.specs.declared.report.Kept.{Kept}
+use Rattle.command_outcome.specs.declared.report.Kept.TheVariants.{Product}
+use Rattle.command_outcome.specs.declared.status.Status.{Status}
+use Rattle.command_outcome.specs.declared.status.Status.TheVariants as ends
+use Rattle.input_files.specs.Instance.{IsLineOf}
+use Rattle.cycle_command.specs.Found.{planned}
+use Rattle.effic_cert.specs.Product.{product_text}
+use Rattle.effic_cert.specs.declared.cert.EfficCert.{EfficCert}
+use Rattle.effic_check.specs.Accepted.{IsAccepted}
+use Rattle.effic_check.specs.Truth.{IsBetween, IsLeastProduct}
+use Rattle.effic_search.specs.Outcomes.{StoppedBy}
+use Rattle.effic_search.specs.declared.searching.Ended.{Ended}
+use Rattle.effic_command.specs.EfficText.{optimal_text, stopped_text}
+use Rattle.effic_command.specs.EfficFound.{idle_of}
+
+-- A search stopped for a reason, which is printed with the bounds, and for which the certificate stands.
+pub record IsToldWhy (kind : LineKind) (line : Line) (least most : ℕ) (plan : Plan) (cert : EfficCert)
+    (text : List ℕ) : Type 0 where
+  pub why : Ended
+  pub stopped : StoppedBy why kind line least most plan cert
+  pub printed : text ≡ stopped_text why cert (idle_of line cert)
+
+-- The certificate is of the least product, which is printed with its balance.
+pub record IsToldLeast (kind : LineKind) (line : Line) (least most : ℕ) (cert : EfficCert) (text : List ℕ)
+    : Type 0 where
+  pub least_one : IsLeastProduct kind line least most cert.upper
+  pub printed : text ≡ optimal_text cert (idle_of line cert)
+
+-- What is promised of bounds on the product in `least` to `most` stations: the certificate is of this question, and
+-- accepted by the check with its default steps; so its balance reaches its upper bound, and none lies below its lower
+-- one. The bounds differ only where the search stopped, by the units of a try or by the size of its book, and status 1
+-- says so; where they are equal they are the least product. What is printed are the bounds and the balance of the
+-- certificate.
+pub record HasBounds (kind : LineKind) (line : Line) (least most : ℕ) (plan : Plan) (cert : EfficCert)
+    (status : Status) (text : List ℕ) : Type 0 where
+  pub kind_is : cert.kind ≡ kind
+  pub least_is : cert.least_m ≡ least
+  pub most_is : cert.most_m ≡ most
+  pub units : ℕ
+  pub accepted : IsAccepted line cert units
+  pub few : units ≤ max_units
+  pub true_bounds : IsBetween kind line least most cert.lower cert.upper
+  pub order : cert.lower ≤ cert.upper
+  pub differ : cert.lower < cert.upper → (status ≡ ends.Stopped) × IsToldWhy kind line least most plan cert text
+  pub equal : cert.lower ≡ cert.upper → (status ≡ ends.Done) × IsToldLeast kind line least most cert text
+
+-- what is printed is shown by a certificate, which is kept
+pub record IsShown (kind : LineKind) (line : Line) (least most : ℕ) (plan : Plan) (status : Status) (text : List ℕ)
+    (kept : Kept) : Type 0 where
+  pub certificate : EfficCert
+  pub keeps : kept ≡ Product certificate
+  pub shows : HasBounds kind line least most plan certificate status text
+
+-- the file that the words name, where they name one, has the text of the certificate
+abbrev pub HasCertificate : Option (List ℕ) → Files → EfficCert → Type 0
+HasCertificate None after certificate = Unit {0}
+HasCertificate (Some name) after certificate = after name ≡ Some (product_text certificate)
+
+-- The promise of `effic` for the line that the file says: what is printed is shown by a certificate, which is kept, and
+-- written where the words name a file.
+pub record IsEfficPromised (files after : Files) (file : List ℕ) (kind : LineKind) (least most helpers units : ℕ)
+    (name : Option (List ℕ)) (status : Status) (text : List ℕ) (kept : Kept) : Type 0 where
+  pub line : Line
+  pub said : IsLineOf files file None line
+  pub shown : IsShown kind line least most (planned helpers units) status text kept
+  pub written : HasCertificate name after shown.certificate

@@ -1,0 +1,6 @@
+pub mod ProductFile
+pub mod ProductText
+pub mod EfficCheck
+pub mod EfficText
+pub mod EfficFound
+pub mod EfficPromise

@@ -1,0 +1,205 @@
+//! What `effic` answers of a line, and of a file that says one.
+//!
+//! What a search found becomes a report with the certificate, which is kept, and written where the words name a file.
+//! The report and the text of the certificate are made before the file, so that a run without memory for them writes
+//! none.
+ghost use Rattle.std.specs.Prelude.{◌≡◌, ◌≤◌, ℕ, List, [], string_bytes, Some, None, Err, IfOk, MatchResult};
+ghost use Rattle.std.specs.Prelude.{option_map};
+ghost use Rattle.line_io.specs.Outside.{Rises};
+ghost use Rattle.line_instance.specs.Line.{Line};
+ghost use Rattle.line_rules.specs.declared.types.LineKind.{LineKind as Kind};
+ghost use Rattle.command_outcome.specs.Outcome.{Files, Ends, MayEnd, Stay, Stops, MayStop, outside, outcome_of};
+ghost use Rattle.command_outcome.specs.declared.report.Kept.TheVariants.{Product as Certified};
+ghost use Rattle.command_outcome.specs.declared.report.Stop.TheVariants.{Unwritten};
+ghost use Rattle.command_outcome.specs.declared.status.Status.TheVariants as ends;
+ghost use Rattle.round_run.specs.Plans.{IsPlan};
+ghost use Rattle.round_run.specs.declared.plans.Plan.{Plan as Planned};
+ghost use Rattle.solve_command.specs.Solution.{IsSolveStatus};
+ghost use Rattle.effic_cert.specs.Product.{IsSayable};
+ghost use Rattle.effic_cert.specs.declared.cert.EfficCert.{EfficCert as Proof};
+ghost use Rattle.effic_check.specs.Accepted.{NoneApart};
+ghost use Rattle.effic_check.specs.Truth.{IsBetween};
+ghost use Rattle.effic_command.specs.EfficText.{optimal_text, stopped_text};
+ghost use Rattle.effic_command.specs.EfficFound.{idle_of, certified_by, IsFound, IsCutShort, IsEfficOutcome};
+ghost use Rattle.effic_command.specs.EfficPromise.{HasCertificate, IsEfficPromised, IsShown};
+
+use crate::print_effic::{cut_short_text, optimal_text, room_for_bounds, stopped_text};
+use command_outcome::{Kept, Report, Status, Stop, refuse};
+use cycle_command::plain_line;
+use effic_cert::{EfficCert, write_effic};
+use effic_search::{EfficOutcome, Ended, least_product};
+use line_instance::Instance;
+use line_io::{Shelf, Written, write_whole};
+use line_rules::LineKind;
+use round_run::{Gate, Plan};
+use station_report::idle_of;
+use std::alloc::{AllocError, Global};
+use std::sync::Wait;
+use std::thread::Threads;
+
+/// What `effic` is asked for.
+#[derive(Clone, Copy)]
+struct Wanted {
+    /// The kind of line.
+    kind: LineKind,
+    /// The least number of stations.
+    least: u32,
+    /// The greatest number of stations.
+    most: u32,
+}
+
+/// The report of the least product, with its certificate.
+fn optimal(alloc: Global, inst: &Instance, cert: EfficCert) -> Result<Report, AllocError>
+    requires { IsSayable cert }
+    ensures { IfOk result (λ r. outcome_of r None
+        ≡ certified_by None cert ends.Done (optimal_text cert (idle_of inst.now cert))) }
+{
+    let idle = idle_of(inst, cert.cycle, cert.balance.stations);
+    let text = optimal_text(alloc, &cert, idle)?;
+    Ok(Report {
+        status: Status::Done,
+        text,
+        kept: Kept::Product(cert),
+    })
+}
+
+/// The report of a search that stopped, with its certificate.
+fn stopped(
+    alloc: Global,
+    inst: &Instance,
+    why: Ended,
+    cert: EfficCert,
+) -> Result<Report, AllocError>
+    requires { IsSayable cert }
+    ensures { IfOk result (λ r. outcome_of r None
+        ≡ certified_by None cert ends.Stopped (stopped_text why cert (idle_of inst.now cert))) }
+{
+    let idle = idle_of(inst, cert.cycle, cert.balance.stations);
+    let text = stopped_text(alloc, why, &cert, idle)?;
+    Ok(Report {
+        status: Status::Stopped,
+        text,
+        kept: Kept::Product(cert),
+    })
+}
+
+/// The refusal of a search that memory ended, with its bounds.
+fn cut_short(
+    inst: &Instance,
+    wanted: Wanted,
+    room: String,
+    lower: u128,
+    upper: u128,
+) -> Result<Stop, AllocError>
+    requires room { string_bytes room ≡ [] }
+    requires true_bounds { IsBetween wanted.kind inst.now wanted.least wanted.most lower upper }
+    ensures answer { IfOk result (Stops (IsCutShort wanted.kind inst.now wanted.least wanted.most)) }
+    ensures fault { IfOk result (MayStop ⊥) }
+{
+    let text = cut_short_text(room, lower, upper)?;
+    Ok(refuse(Status::Memory, text))
+}
+
+/// What is reported of a line, with a certificate; or the bounds, where memory ended the search.
+fn found<R: Threads + Wait + Sync, G: Gate>(
+    rt: &R,
+    alloc: Global,
+    inst: &Instance,
+    wanted: Wanted,
+    plan: &Plan,
+    gate: &G,
+) -> Result<Report, Stop>
+    requires none { NoneApart inst.now }
+    requires some { 1 ≤ wanted.least }
+    requires order { wanted.least ≤ wanted.most }
+    requires few { wanted.most ≤ 1024 }
+    requires plan { IsPlan plan.now }
+    ensures answer { MatchResult result
+        (λ r. IsFound wanted.kind inst.now wanted.least wanted.most plan.now None (outcome_of r None))
+        (Stops (IsCutShort wanted.kind inst.now wanted.least wanted.most)) }
+    ensures shown { IfOk result (λ r.
+        IsShown wanted.kind inst.now wanted.least wanted.most plan.now r.status r.text.items r.kept) }
+    ensures good { IfOk result (λ r. IsSolveStatus r.status) }
+    ensures fault { MatchResult result (λ _. Unit {0}) (MayStop ⊥) }
+{
+    let room = room_for_bounds(alloc)?;
+    let Wanted { kind, least, most } = wanted;
+    match least_product(rt, alloc, inst, kind, least, most, plan, gate) {
+        EfficOutcome::Solved(cert) => Ok(optimal(alloc, inst, cert)?),
+        EfficOutcome::Stopped { why, cert } => Ok(stopped(alloc, inst, why, cert)?),
+        EfficOutcome::Memory { lower, upper } => Err(cut_short(inst, wanted, room, lower, upper)?),
+        EfficOutcome::NoMemory => Err(Stop::Memory),
+    }
+}
+
+/// Writes the certificate of a report, and hands the report on.
+fn written<S: Shelf>(
+    alloc: Global,
+    shelf: &mut S,
+    name: &str,
+    report: Report,
+) -> Result<Report, Stop>
+    requires sayable { (certificate : Proof) → report.kept ≡ Certified certificate → IsSayable certificate }
+    ensures ends { S.tells → (files : Files) → Stay files (S.file shelf.old)
+        → (kind : Kind) (line : Line) (least most : ℕ) (plan : Planned)
+        → IsFound kind line least most plan None (outcome_of report None)
+        → Ends (outside files (S.blames shelf.new)) (IsFound kind line least most plan (Some name.now))
+        (S.file shelf.new) result }
+    ensures same { IfOk result (λ r. r ≡ report) }
+    ensures certificate { S.tells → IfOk result (λ r. (cert : Proof) → r.kept ≡ Certified cert
+        → HasCertificate (Some name.now) (S.file shelf.new) cert) }
+    ensures fault { MatchResult result (λ _. Unit {0}) (MayEnd (Rises (S.faults shelf.old) (S.faults shelf.new))) }
+    ensures count { S.faults shelf.old ≤ S.faults shelf.new }
+{
+    let Kept::Product(cert) = &report.kept else {
+        return Ok(report);
+    };
+    let text = write_effic(alloc, cert)?;
+    match write_whole(shelf, name, &text) {
+        Written::Done => Ok(report),
+        Written::WriteFault => Err(Stop::Unwritten),
+    }
+}
+
+/// The report of `effic` for the file of an instance, the kind of line, the least and the greatest number of stations,
+/// 1 to 1,024, the plan, and the name of the file that the certificate is written to, where there is one. Helpers run
+/// in threads and meet the gate before each publish.
+pub fn effic_report<R: Threads + Wait + Sync, S: Shelf, G: Gate>(
+    rt: &R,
+    alloc: Global,
+    file: &str,
+    kind: LineKind,
+    least_m: u32,
+    most_m: u32,
+    plan: &Plan,
+    name: Option<&str>,
+    shelf: &mut S,
+    gate: &G,
+) -> Result<Report, Stop>
+    requires some { 1 ≤ least_m }
+    requires order { least_m ≤ most_m }
+    requires few { most_m ≤ 1024 }
+    requires plan { IsPlan plan.now }
+    ensures ends { S.tells → (let o = outside (S.file shelf.old) (S.blames shelf.new) in
+        Ends o (IsEfficOutcome o file.now kind least_m most_m plan.now.helpers plan.now.units
+        (option_map (λ a. a.now) name.entry))
+        (S.file shelf.new) result) }
+    ensures good { IfOk result (λ r. IsSolveStatus r.status) }
+    ensures fault { MatchResult result (λ _. Unit {0}) (MayEnd (Rises (S.faults shelf.old) (S.faults shelf.new))) }
+    ensures unwritten { result ≡ Err Unwritten → (n : List ℕ) × (option_map (λ a. a.now) name.entry ≡ Some n) }
+    ensures promise { S.tells → IfOk result (λ r.
+        IsEfficPromised (S.file shelf.old) (S.file shelf.new) file.now kind least_m most_m plan.now.helpers
+        plan.now.units (option_map (λ a. a.now) name.entry) r.status r.text.items r.kept) }
+{
+    let inst = plain_line(alloc, file, shelf)?;
+    let wanted = Wanted {
+        kind,
+        least: least_m,
+        most: most_m,
+    };
+    let report = found(rt, alloc, &inst, wanted, plan, gate)?;
+    match name {
+        None => Ok(report),
+        Some(name) => written(alloc, shelf, name, report),
+    }
+}

@@ -1,0 +1,342 @@
+-- The certificate of a search is within its ranges and accepted, and what the search comes to.
+use Rattle.std.proofs.Common.{◌≡◌, ℕ, ◌+◌, ◌-◌, ◌*◌, ◌^◌, ◌<◌, ◌≤◌, Bool, true, cond, List, [], length, take, Option}
+use Rattle.std.proofs.Common.{Some, None, ◌⊎◌}
+use Rattle.std.proofs.Common.{refl, sym, ap, ◌∙◌, subst, inl, inr, arith}
+use Rattle.std.specs.Prelude.{nat_eq, slice_get}
+use Rattle.std.proofs.lemmas.Bool.{eq-eqb}
+use Rattle.std.proofs.lemmas.Option.{slice_get_within}
+use Rattle.std.proofs.lemmas.Nat.{mul-le}
+use Rattle.std.proofs.Math.Seq.{take-length}
+use Rattle.task_set.specs.Truths.{In}
+use Rattle.task_set.proofs.Members.{In-full_to}
+use Rattle.line_instance.specs.Line.{Line, IsLine, IsRanked, tasks}
+use Rattle.line_rules.specs.Balance.{IsRight, all_tasks}
+use Rattle.line_rules.specs.Entries.{IsDerived, IsFresh, IsFreshAt}
+use Rattle.line_rules.specs.Trails.{IsOpenOver}
+use Rattle.line_rules.specs.Ranges.{IsCycle, IsPlaced, IsPlacing, IsTrailOrNone}
+use Rattle.line_rules.specs.Units.{UnitsOf, UnitsIn, UnitsAt, TrailUnits, entries_at}
+use Rattle.line_rules.specs.declared.types.LineKind.{LineKind}
+use Rattle.line_rules.specs.declared.types.Entry.{Entry}
+use Rattle.line_rules.specs.declared.types.OpenFrame.{OpenFrame}
+use Rattle.line_rules.specs.declared.types.Seatplace.{Seatplace}
+use Rattle.line_rules.specs.declared.types.Balance.{Balance as Assignment}
+use Rattle.line_rules.specs.declared.types.Trail.{Trail}
+use Rattle.line_rules.proofs.Reading.{seat_read}
+use Rattle.lemma_core.specs.Own.{AreStatable}
+use Rattle.budget_law.specs.Budget.{states}
+use Rattle.budget_law.proofs.FewUnits.{units_few}
+use Rattle.round_run.specs.declared.plans.Plan.{Plan}
+use Rattle.run_certificates.proofs.Sayable.{entries_ok, trail_ok, all_are_tasks}
+use Rattle.effic_cert.specs.Product.{IsSayable}
+use Rattle.effic_cert.specs.declared.cert.EfficCert.{EfficCert}
+use Rattle.effic_check.specs.Accepted.{IsAccepted, HasTrail}
+use Rattle.effic_check.specs.Truth.{IsBetween, NoneBelow}
+use Rattle.effic_check.proofs.Proved.{between}
+use Rattle.effic_search.specs.Counted.{others}
+use Rattle.effic_search.specs.Since.{IsSinceGoal}
+use Rattle.effic_search.specs.Going.{HaveCycles, IsLowering, IsGoing, IsLeftAt, IsDue, IsStuck, HasTrailBy, HasFewUnits}
+use Rattle.effic_search.specs.Going.{product_of, entries_of}
+use Rattle.effic_search.specs.Lowest.{IsLowest}
+use Rattle.effic_search.specs.Outcomes.{IsCertified, IsSolved, IsSpent, IsLarge}
+use Rattle.effic_search.specs.declared.lowering.Lowering.{Lowering}
+use Rattle.effic_search.proofs.LowestFacts.{lowest_closed, lowest_meets, lowest_below}
+use Rattle.effic_search.proofs.SinceFacts.{since_units}
+use Rattle.effic_search.proofs.SizeFacts.{large_budget}
+use Rattle.effic_search.proofs.TryFacts.{below_upper, none_too_long, product_some}
+
+-- a right balance in 1 to 1,024 stations
+placing : (kind : LineKind) (line : Line) (c : ℕ) (b : Assignment) → IsLine line → IsRight kind line c b
+    → 1 ≤ b.stations → b.stations ≤ 1024 → IsPlacing kind (tasks line) b
+placing kind line c b ok r some few = record {
+  some = some;
+  few = few;
+  each = r.each;
+  placed = λ i p there.
+      let P : Seatplace → Type 0 = IsPlaced kind b.stations in
+      let here : In (all_tasks line) i =
+      In-full_to (tasks line) i ok.small (omega (arith, slice_get_within b.place i p there, r.each)) in
+      subst P (sym (seat_read b.place i p there)) (record {
+        first = r.balance.first i here;
+        last = r.balance.last i here;
+        side = r.sides i here;
+      });
+}
+
+module _ (kind : LineKind) (line : Line) (least most : ℕ) (h : Lowering) (ok : IsLine line) (some : 1 ≤ least)
+    (order : least ≤ most) (few : most ≤ 1024) (l : IsLowering kind line least most h)
+    (derived : IsDerived kind line (entries_of h)) (statable : AreStatable (entries_of h)) (lower : ℕ)
+    (low : IsLowest line (entries_of h) least (most + 1) (product_of h) lower) where
+  abbrev pub cert_of : Option Trail → EfficCert
+  cert_of trail = record {
+    kind = kind;
+    tasks = tasks line;
+    least_m = least;
+    most_m = most;
+    cycle = h.cycle;
+    lower = lower;
+    upper = product_of h;
+    balance = h.balance;
+    entries = entries_of h;
+    trail = trail;
+  }
+
+  product_limit : product_of h ≤ 1000000000000000000000000
+  product_limit =
+      let a : h.balance.stations * h.cycle ≤ 1024 * 204800000000000000 = mul-le h.balance.stations h.cycle 1024
+      204800000000000000
+      (omega (arith, l.to, few)) l.limit in
+      omega (arith, a)
+
+  lower_some : 1 ≤ lower
+  lower_some = elim low.reached [
+    | inl e ↦ omega (arith, e, product_some kind line least most h some l)
+    | inr r ↦
+        let a : 1 * 1 ≤ r.0 * (r.1 + 1) = mul-le 1 1 r.0 (r.1 + 1) (omega (arith, some, r.2)) (omega arith) in
+        omega (arith, a, r.5)
+  ]
+
+  cycle_ok : (m X : ℕ) → IsLeftAt line least most m X h → IsCycle X
+  cycle_ok m X left = record {
+    some = left.some;
+    limit = omega (arith, below_upper kind line least most m X h l left.from left.near, l.bounded);
+  }
+
+  trail_said : (trail : Option Trail) → HasTrailBy kind line least most h trail
+      → IsTrailOrNone (tasks line) (length (entries_of h)) trail
+  trail_said None t = tt
+  trail_said (Some t) s =
+      trail_ok kind line t.cycle (entries_of h) (all_tasks line) s.0 t.frames (cycle_ok s.0 t.cycle s.2)
+      (all_are_tasks line ok) (omega (arith, s.1, ok.small)) s.3
+
+  trail_valid : (trail whole : Option Trail) → HasTrailBy kind line least most h trail
+      → HasTrail kind line (cert_of whole) trail
+  trail_valid None whole t = tt
+  trail_valid (Some t) whole s = (s.0, ((s.2.from, s.2.to), s.2.near), s.3)
+
+  whole_units : UnitsOf line (entries_of h) h.listed.units
+  whole_units =
+      let U : List Entry → Type 0 = λ z. UnitsOf line z h.listed.units in
+      subst U (take-length (entries_of h)) l.counted.units
+
+  module _ (trail : Option Trail) (has : HasTrailBy kind line least most h trail) (units : HasFewUnits line trail) where
+    sayable : IsSayable (cert_of trail)
+    sayable = record {
+      some = ok.some;
+      few = ok.small;
+      least = record { some = some; few = omega (arith, order, few) };
+      most = record { some = omega (arith, some, order); few = few };
+      cycle = record { some = l.some; limit = omega (arith, l.limit) };
+      lower = record { some = lower_some; limit = omega (arith, low.within, product_limit) };
+      upper = record { some = product_some kind line least most h some l; limit = product_limit };
+      balance = placing kind line h.cycle h.balance ok l.right (omega (arith, some, l.from)) (omega (arith, l.to, few));
+      entries = entries_ok kind line (entries_of h) derived statable l.few;
+      trail = trail_said trail has;
+    }
+
+    accepted : IsAccepted line (cert_of trail) (h.listed.units + units.0)
+    accepted = record {
+      tasks = refl;
+      shown = record { asked = (l.from, l.to); right = l.right; upper = refl };
+      derived = derived;
+      closed = λ m asked. lowest_closed line (entries_of h) least (most + 1) (product_of h) lower low m some asked.0
+          (omega (arith, asked.1));
+      trail = trail_valid trail trail has;
+      spent = (h.listed.units, units.0, (whole_units, units.1, refl));
+    }
+
+    pub certified_is : IsCertified kind line least most (cert_of trail)
+    certified_is = record {
+      kind_is = refl;
+      least_is = refl;
+      most_is = refl;
+      sayable = sayable;
+      units = h.listed.units + units.0;
+      accepted = accepted;
+      few = omega (arith, l.within, units.2);
+      true_bounds = between line ok (cert_of trail) sayable (h.listed.units + units.0) accepted;
+      lowest = low;
+      tight = l.tight;
+    }
+
+    -- the same of what is equal to it
+    pub certified_same : (n upper : ℕ) (es : List Entry) → n ≡ tasks line → upper ≡ product_of h → es ≡ entries_of h
+        → IsCertified kind line least most (record {
+          kind = kind;
+          tasks = n;
+          least_m = least;
+          most_m = most;
+          cycle = h.cycle;
+          lower = lower;
+          upper = upper;
+          balance = h.balance;
+          entries = es;
+          trail = trail;
+        })
+    certified_same n upper es n_is upper_is es_is =
+        let P : ℕ → ℕ → List Entry → Type 0 = λ x y z. IsCertified kind line least most (record {
+          kind = kind;
+          tasks = x;
+          least_m = least;
+          most_m = most;
+          cycle = h.cycle;
+          lower = lower;
+          upper = y;
+          balance = h.balance;
+          entries = z;
+          trail = trail;
+        }) in
+        let A : ℕ → Type 0 = λ x. P x upper es in
+        let B : ℕ → Type 0 = λ y. P (tasks line) y es in
+        let C : List Entry → Type 0 = λ z. P (tasks line) (product_of h) z in
+        subst A (sym n_is) (subst B (sym upper_is) (subst C (sym es_is) certified_is))
+
+  -- the bounds alone
+  pub bounds_true : IsBetween kind line least most lower (product_of h)
+  bounds_true = (certified_is None tt (0, refl, omega arith)).true_bounds
+
+-- what a book says of its entries, said of a search
+pub derived_of : (kind : LineKind) (line : Line) (least most : ℕ) (h : Lowering) (es : List Entry)
+    → IsLowering kind line least most h → es ≡ entries_of h → IsDerived h.book.about.kind h.book.about.line es
+    → IsDerived kind line (entries_of h)
+derived_of kind line least most h es l are d =
+    let P : LineKind → Type 0 = λ z. IsDerived z h.book.about.line es in
+    let Q : Line → Type 0 = λ z. IsDerived kind z es in
+    let R : List Entry → Type 0 = λ z. IsDerived kind line z in
+    subst R are (subst Q l.line_is (subst P l.kind_is d))
+
+-- the trail of a try whose units ended
+module _ (kind : LineKind) (line : Line) (least most : ℕ) (plan : Plan) (h : Lowering) (frames : List OpenFrame) (X : ℕ)
+    (at : X ≡ h.book.about.cycle) (s : IsStuck kind line least most plan h frames) where
+  pub trail_by : HasTrailBy kind line least most h (Some (record { cycle = X; frames = frames }))
+  trail_by =
+      let P : ℕ → Type 0 = λ z. HasTrailBy kind line least most h (Some (record { cycle = z; frames = frames })) in
+      subst P (sym at) (s.m, s.few, s.left, s.trail)
+
+  pub few_by : HasFewUnits line (Some (record { cycle = X; frames = frames }))
+  few_by =
+      let P : ℕ → Type 0 = λ z. HasFewUnits line (Some (record { cycle = z; frames = frames })) in
+      subst P (sym at) (s.listed, s.frame_units, s.within)
+
+-- what a certificate of a search shows, where its bounds and lists are those of the search
+module _ (kind : LineKind) (line : Line) (least most : ℕ) (h : Lowering) (ok : IsLine line) (some : 1 ≤ least)
+    (cert : EfficCert) (c : IsCertified kind line least most cert) (upper : cert.upper ≡ product_of h)
+    (entries : cert.entries ≡ entries_of h) where
+  lowest_here : IsLowest line (entries_of h) least (most + 1) (product_of h) cert.lower
+  lowest_here =
+      let P : ℕ → Type 0 = λ z. IsLowest line cert.entries least (most + 1) z cert.lower in
+      let Q : List Entry → Type 0 = λ z. IsLowest line z least (most + 1) (product_of h) cert.lower in
+      subst Q entries (subst P upper c.lowest)
+
+  -- each number of stations is closed: both bounds meet
+  pub solved_is : cert.trail ≡ None → IsGoing kind line least most (most + 1) h → IsSolved kind line least most cert
+  solved_is none going =
+      let meet : cert.lower ≡ product_of h =
+      lowest_meets line (entries_of h) least (most + 1) (product_of h) cert.lower lowest_here
+      (λ m from to. going.closed m from to) some in
+      let same : cert.lower ≡ cert.upper = meet ∙ sym upper in
+      let P : ℕ → Type 0 = λ z. NoneBelow kind line least most z in
+      record {
+        certified = c;
+        meet = same;
+        none = none;
+        least_one = record {
+          reached = c.true_bounds.reached;
+          least_one = subst P same c.true_bounds.none;
+        };
+      }
+
+  left_below : (m X : ℕ) → IsLeftAt line least most m X h → cert.lower < cert.upper
+  left_below m X left = omega (
+    arith,
+    upper,
+    lowest_below line (entries_of h) least (most + 1) (product_of h) cert.lower lowest_here m X left.from
+        (omega (arith, left.to)) left.some left.near left.left,
+  )
+
+  -- the book was too large
+  pub large_is : IsRanked line → cert.trail ≡ None → IsFresh (entries_of h) → IsDerived kind line (entries_of h)
+      → IsDue kind line least most h → IsLarge kind line least most cert
+  large_is ranked none fresh derived due =
+      let F : List Entry → Type 0 = λ z. IsFresh z in
+      let U : List Entry → Type 0 = λ z. UnitsOf line z h.listed.units in
+      let H : List Entry → Type 0 = λ z. HaveCycles line z in
+      let whole : take (length (entries_of h)) (entries_of h) ≡ entries_of h = take-length (entries_of h) in
+      let all : take (length (entries_of h)) (entries_of h) ≡ cert.entries = whole ∙ sym entries in
+      let large : (4000000 < h.listed.units) ⊎ (4000000 < others (entries_of h)) = (elim due.large [
+        | inl u ↦ inl u
+        | inr n ↦ inr (omega (
+          arith,
+          n,
+          due.lowering.counted.entries,
+          ap (λ (z : List Entry). others z) whole,
+        ))
+      ]) in
+      record {
+        certified = c;
+        below = left_below due.m due.X due.left;
+        none = none;
+        fresh = subst F (sym entries) fresh;
+        units = h.listed.units;
+        counted = subst U all due.lowering.counted.units;
+        large = elim due.large [
+          | inl u ↦ inl u
+          | inr n ↦ inr (omega (
+            arith,
+            n,
+            due.lowering.counted.entries,
+            ap (λ (z : List Entry). others z) all,
+          ))
+        ];
+        cycles = subst H (sym entries) due.lowering.cycles;
+        budget = large_budget kind line ok ranked (entries_of h) derived fresh due.lowering.cycles h.listed.units
+            (subst U whole due.lowering.counted.units) large;
+      }
+
+  -- the units of a try ended
+  pub spent_is : IsRanked line → (plan : Plan) (frames : List OpenFrame) (trail : Trail)
+      → trail ≡ record { cycle = h.book.about.cycle; frames = frames } → cert.trail ≡ Some trail
+      → IsFresh (entries_of h) → IsDerived kind line (entries_of h) → IsStuck kind line least most plan h frames
+      → IsSpent kind line least most plan cert
+  spent_is ranked plan frames trail is has fresh derived s =
+      let X : ℕ = h.book.about.cycle in
+      let t : Trail = record { cycle = X; frames = frames } in
+      let es : List Entry = entries_of h in
+      let U : List Entry → Type 0 = λ z. UnitsOf line z h.listed.units in
+      let all : UnitsOf line es h.listed.units = subst U (take-length es) s.lowering.counted.units in
+      let at : (more : ℕ) × UnitsOf line (entries_at X es) (more + s.published) =
+      since_units line X es s.since h.listed.units s.published s.goal all s.entry_units in
+      let e : nat_eq X X ≡ true = eq-eqb X X refl in
+      let R : Bool → Type 0 = λ z. cond z (UnitsIn line X frames s.listed) (s.listed ≡ 0) in
+      let whole : UnitsAt line X es (Some t) (at.0 + s.published + s.listed) =
+      (at.0 + s.published, s.listed, (at.1, subst R (sym e) s.frame_units, refl)) in
+      let fresh_at : IsFreshAt X es = λ j k a b l f g p q. fresh j k a b l f g in
+      let few : at.0 + s.published + s.listed < (tasks line + 1) * states kind ^ tasks line =
+      units_few kind line ok ranked X (none_too_long line least most s.m X h ok s.left) es (Some t) derived fresh_at
+      (λ q. (s.m, s.trail)) (at.0 + s.published + s.listed) whole in
+      let E : List Entry → Type 0 = λ z. IsOpenOver line X z frames in
+      let F : List Entry → Type 0 = λ z. IsFreshAt X z in
+      let G : List Entry → Type 0 = λ z. IsSinceGoal line X z s.since in
+      let O : Trail → Type 0 = λ z. IsOpenOver line z.cycle cert.entries z.frames in
+      let P : Trail → Type 0 = λ z. IsFreshAt z.cycle cert.entries in
+      let Q : Trail → Type 0 = λ z. IsSinceGoal line z.cycle cert.entries s.since in
+      let V : Trail → Type 0 = λ z. UnitsIn line z.cycle z.frames s.listed in
+      record {
+        certified = c;
+        below = left_below s.m X s.left;
+        trail = trail;
+        has = has;
+        opens = subst O (sym is) (subst E (sym entries) s.opens);
+        fresh = subst P (sym is) (subst F (sym entries) fresh_at);
+        front = s.front;
+        since = s.since;
+        added = entries ∙ s.added;
+        few = s.small;
+        goal = subst Q (sym is) (subst G (sym entries) s.goal);
+        published = s.published;
+        listed = s.listed;
+        entry_units = s.entry_units;
+        frame_units = subst V (sym is) s.frame_units;
+        all = s.all;
+        alone = s.alone;
+        budget = omega (arith, few, s.all);
+      }

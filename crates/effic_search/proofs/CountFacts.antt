@@ -1,0 +1,65 @@
+-- One entry more is counted.
+use Rattle.std.proofs.Common.{◌≡◌, ℕ, suc, ◌+◌, ◌≤◌, List, [], ◌∷◌, ◌++◌, length, take, drop, refl, sym, ap, ◌∙◌, subst}
+use Rattle.std.proofs.Common.{arith}
+use Rattle.std.proofs.Common.{Some}
+use Rattle.std.specs.Prelude.{slice_get}
+use Rattle.line_instance.specs.Line.{Line}
+use Rattle.line_rules.specs.Units.{UnitsBy, UnitsOf}
+use Rattle.line_rules.specs.declared.types.Entry.{Entry}
+use Rattle.line_rules.specs.declared.types.Why.{Why}
+use Rattle.line_rules.specs.declared.types.Why.TheVariants as why
+use Rattle.line_check.proofs.Spending.{one_sum}
+use Rattle.round_helpers.proofs.Growing.{units_both}
+use Rattle.effic_search.specs.Counted.{other, others, IsCounted}
+use Rattle.effic_search.specs.declared.counting.Listed.{Listed}
+use Rattle.effic_search.proofs.ListFacts.{take_next, drop_next}
+
+others_both : (xs ys : List Entry) → others (xs ++ ys) ≡ others xs + others ys
+others_both [] ys = omega arith
+others_both (x ∷ xs) ys = omega (arith, others_both xs ys)
+
+pub other_few : (w : Why) → other w ≤ 1
+other_few why.Bound = omega arith
+other_few (why.Branch mode cites) = omega arith
+other_few (why.Swap cite out into) = omega arith
+
+pub others_few : (es : List Entry) → others es ≤ length es
+others_few [] = omega arith
+others_few (e ∷ es) = omega (arith, other_few e.why, others_few es)
+
+module _ (line : Line) (es : List Entry) (k next : ℕ) (e : Entry) (g : slice_get es k ≡ Some e)
+    (step : next ≡ suc k) where
+  pub counted_next : (n u : ℕ) (l : Listed) → n ≡ other e.why → UnitsBy line e e.why u → IsCounted line es k l
+      → IsCounted line es next (record { entries = l.entries + n; units = l.units + u })
+  counted_next n u l same h c =
+      let q : take next es ≡ take k es ++ e ∷ [] = ap (λ (z : ℕ). take z es) step ∙ take_next es k e g in
+      let U : List Entry → Type 0 = λ z. UnitsOf line z (l.units + u) in
+      record {
+        entries = omega (
+          arith,
+          c.entries,
+          same,
+          ap (λ (z : List Entry). others z) q,
+          others_both (take k es) (e ∷ []),
+        );
+        units = subst U (sym q) (units_both line (take k es) (e ∷ []) l.units u c.units (u, 0, (h, refl, omega arith)));
+      }
+
+  -- the units of the entries that are left
+  pub left_next : (rest u : ℕ) → UnitsOf line (drop k es) rest → UnitsBy line e e.why u
+      → (left : ℕ) × UnitsOf line (drop next es) left × (rest ≡ u + left)
+  left_next rest u r h =
+      let U : List Entry → Type 0 = λ z. UnitsOf line z rest in
+      let both : UnitsOf line (e ∷ drop (suc k) es) rest = subst U (drop_next es k e g) r in
+      let V : ℕ → Type 0 = λ z. UnitsOf line (drop z es) both.1 in
+      let same : both.0 ≡ u =
+      one_sum line (e ∷ []) both.0 u (both.0, 0, (both.2.0, refl, omega arith)) (u, 0, (h, refl, omega arith)) in
+      (both.1, subst V (sym step) both.2.1, omega (arith, both.2.2, same))
+
+  -- the entry has some of the units that are left
+  pub some_units : (rest most : ℕ) → UnitsOf line (drop k es) rest → rest ≤ most
+      → (u : ℕ) × UnitsBy line e e.why u × (u ≤ most)
+  some_units rest most r few =
+      let U : List Entry → Type 0 = λ z. UnitsOf line z rest in
+      let both : UnitsOf line (e ∷ drop (suc k) es) rest = subst U (drop_next es k e g) r in
+      (both.0, both.2.0, omega (arith, both.2.2, few))

@@ -1,0 +1,5 @@
+use Rattle.effic_search.specs.Going.{IsGoing}
+use Rattle.effic_search.proofs.searching.lowered.Given as goal
+
+abbrev pub invariant-loop-stations : goal.invariant-loop-stations
+invariant-loop-stations g l = IsGoing l.wanted.kind l.inst l.wanted.least l.wanted.most l.stations l.search

@@ -1,0 +1,40 @@
+use Rattle.std.proofs.Common.{◌≡◌, ℕ, ◌≤◌, List, sym, ap, subst, arith}
+use Rattle.line_rules.specs.Balance.{all_tasks}
+use Rattle.line_rules.specs.Entries.{HasAnswer}
+use Rattle.line_rules.specs.declared.types.Entry.{Entry}
+use Rattle.effic_search.proofs.TryFacts.{closed_going, left_at}
+use Rattle.effic_search.proofs.settling.settle.Goals as goal
+
+pub returns-then-is_closed : goal.returns-then-is_closed
+returns-then-is_closed g c =
+    let w = c.args.wanted in
+    let H : List Entry → Type 0 =
+    λ z. HasAnswer z (all_tasks c.args.inst.now) c.args.stations c.cycle_below-cycle.result in
+    let C : ℕ → Type 0 =
+    λ z. 1 ≤ z → HasAnswer c.tries.search.book.state.entries (all_tasks c.args.inst.now) c.args.stations z in
+    closed_going w.kind c.args.inst.now w.least w.most c.args.stations c.tries.search c.tries.invariant
+    (subst C c.cycle_below-cycle.ensures (λ one.
+    subst H c.entries.ensures.entries (c.is_closed.ensures.closed c.if-is_closed.true one)))
+
+pub returns-then-is_large : goal.returns-then-is_large
+returns-then-is_large g c =
+    let w = c.args.wanted in
+    let L : List Entry → Type 0 =
+    λ z. HasAnswer z (all_tasks c.args.inst.now) c.args.stations c.cycle_below-cycle.result → ⊥ in
+    let left = left_at w.kind c.args.inst.now w.least w.most c.args.stations c.cycle_below-cycle.result
+    c.tries.search c.requires.some c.requires.from c.requires.to c.tries.invariant (c.is_closed.ensures.some
+    c.if-is_closed.false) c.cycle_below-cycle.ensures (subst L c.entries.ensures.entries (c.is_closed.ensures.left
+    c.if-is_closed.false)) in
+    record {
+      lowering = c.tries.invariant.lowering;
+      m = c.args.stations;
+      X = c.cycle_below-cycle.result;
+      left = left;
+      large = c.is_large.ensures.large c.if-is_large.true;
+    }
+
+pub try_cycle-requires-clause-left : goal.try_cycle-requires-clause-left
+try_cycle-requires-clause-left g c κs within =
+    let L : List Entry → Type 0 =
+    λ z. HasAnswer z (all_tasks c.args.inst.now) c.args.stations c.cycle_below-cycle.result → ⊥ in
+    subst L c.entries.ensures.entries (c.is_closed.ensures.left c.if-is_closed.false)

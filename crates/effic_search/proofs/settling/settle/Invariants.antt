@@ -1,0 +1,8 @@
+use Rattle.effic_search.specs.Going.{IsGoing, product_of}
+use Rattle.effic_search.proofs.settling.settle.Given as goal
+
+abbrev pub invariant-tries : goal.invariant-tries
+invariant-tries g l = IsGoing l.wanted.kind l.inst l.wanted.least l.wanted.most l.stations l.search
+
+abbrev pub decreases-tries : goal.decreases-tries
+decreases-tries g l = product_of l.search

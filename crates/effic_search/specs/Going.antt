@@ -1,0 +1,179 @@
+-- The search between two tries, and what a try comes to.
+use Rattle.std.specs.Prelude.{◌≡◌, ◌≢◌, ◌⊎◌, ℕ, ◌+◌, ◌-◌, ◌*◌, ◌<◌, ◌≤◌, max, List, [], ◌∷◌, ◌++◌, length, slice_get}
+use Rattle.std.specs.Prelude.{suc, Bool, Option, Some, None}
+use Rattle.line_instance.specs.Line.{Line, tasks}
+use Rattle.line_rules.specs.Balance.{IsRight, all_tasks}
+use Rattle.line_rules.specs.Bounds.{total_time}
+use Rattle.line_rules.specs.Entries.{HasAnswer}
+use Rattle.line_rules.specs.Trails.{IsTrail, IsOpenOver}
+use Rattle.line_rules.specs.Units.{UnitsOf, UnitsIn, TrailUnits}
+use Rattle.line_rules.specs.declared.types.LineKind.{LineKind}
+use Rattle.line_rules.specs.declared.types.Entry.{Entry}
+use Rattle.line_rules.specs.declared.types.OpenFrame.{OpenFrame}
+use Rattle.line_rules.specs.declared.types.Balance.{Balance as Assignment}
+use Rattle.line_rules.specs.declared.types.Trail.{Trail}
+use Rattle.line_rules.specs.declared.types.Why.TheVariants as why
+use Rattle.load_facts.specs.Times.{longest_of}
+use Rattle.lemma_core.specs.Machine.{About}
+use Rattle.lemma_core.specs.Books.{BookView, IsReserved}
+use Rattle.round_run.specs.declared.closing.Verdict.{Verdict}
+use Rattle.round_run.specs.declared.plans.Plan.{Plan}
+use Rattle.cycle_search.specs.Asking.{HasAskedBook}
+use Rattle.cycle_search.specs.Ends.{first_lower, first_upper}
+use Rattle.cycle_search.specs.declared.asking.Asked.{Asked}
+use Rattle.effic_check.specs.Accepted.{IsClosed}
+use Rattle.effic_search.specs.Counted.{IsCounted, AreFew}
+use Rattle.effic_search.specs.Since.{IsSinceGoal}
+use Rattle.effic_search.specs.declared.lowering.Lowering.{Lowering}
+use Rattle.effic_search.specs.declared.counting.Listed.{Listed}
+use Rattle.effic_search.specs.declared.trying.Tried.{Tried}
+use Rattle.effic_search.specs.declared.trying.Tried.TheVariants as tried
+use Rattle.effic_search.specs.declared.settling.Settled.{Settled}
+use Rattle.effic_search.specs.declared.settling.Settled.TheVariants as settled
+
+-- the product of the stations of the balance and its cycle
+abbrev pub product_of : Lowering → ℕ
+product_of h = h.balance.stations * h.cycle
+
+-- the entries of a search
+abbrev pub entries_of : Lowering → List Entry
+entries_of h = h.book.state.entries
+
+-- an entry refutes m stations below the first lower end, where that is above 1
+abbrev pub IsFloored : Line → List Entry → ℕ → Type 0
+IsFloored line es m = 1 < first_lower line m → HasAnswer es (all_tasks line) m (first_lower line m - 1)
+
+-- each entry other than Bound has a cycle from the longest time to the greater of 1 and the total
+abbrev pub HaveCycles : Line → List Entry → Type 0
+HaveCycles line es = (k : ℕ) (e : Entry) → slice_get es k ≡ Some e → e.why ≢ why.Bound
+    → (longest_of line (all_tasks line) ≤ e.cycle) × (e.cycle ≤ max (total_time line) 1)
+
+-- no lesser cycle from 1 on is enough for the balance: this one is the greater of 1 and its longest station
+abbrev pub IsTight : LineKind → Line → Assignment → ℕ → Type 0
+IsTight kind line b cycle = (c : ℕ) → 1 ≤ c → IsRight kind line c b → cycle ≤ c
+
+-- A search: its balance is right at its cycle, and at no lesser one, in a number of stations that is asked for, and of no greater product
+-- than
+-- the first one; its entries are counted, and refute each number of stations below the first lower end.
+pub record IsLowering (kind : LineKind) (line : Line) (least most : ℕ) (h : Lowering) : Type 0 where
+  pub line_is : h.book.about.line ≡ line
+  pub kind_is : h.book.about.kind ≡ kind
+  pub reserved : IsReserved h.book
+  pub from : least ≤ h.balance.stations
+  pub to : h.balance.stations ≤ most
+  pub some : 1 ≤ h.cycle
+  pub limit : h.cycle ≤ 204800000000000000
+  pub bounded : first_upper line ≤ 204800000000000000
+  pub right : IsRight kind line h.cycle h.balance
+  pub tight : IsTight kind line h.balance h.cycle
+  pub first : product_of h ≤ least * first_upper line
+  pub counted : IsCounted line (entries_of h) (length (entries_of h)) h.listed
+  pub few : length (entries_of h) ≤ 20000000
+  pub within : h.listed.units ≤ 10000000
+  pub floored : (m : ℕ) → least ≤ m → m ≤ most → IsFloored line (entries_of h) m
+  pub cycles : HaveCycles line (entries_of h)
+
+-- A search before a try in m stations: at each cycle of a smaller product no entry is behind the last one of all tasks,
+-- and the lesser numbers of stations are closed below the product.
+pub record IsGoing (kind : LineKind) (line : Line) (least most m : ℕ) (h : Lowering) : Type 0 where
+  pub lowering : IsLowering kind line least most h
+  pub clear : (X : ℕ) → 1 ≤ X → m * X < product_of h → IsSinceGoal line X (entries_of h) []
+  pub closed : (s : ℕ) → least ≤ s → s < m → IsClosed line (entries_of h) (product_of h) s
+
+-- a smaller product is left open: that of m stations and the cycle X, which is no less than the first lower end
+pub record IsLeftAt (line : Line) (least most m X : ℕ) (h : Lowering) : Type 0 where
+  pub from : least ≤ m
+  pub to : m ≤ most
+  pub some : 1 ≤ X
+  pub floor : first_lower line m ≤ X
+  pub near : m * X < product_of h
+  pub left : HasAnswer (entries_of h) (all_tasks line) m X → ⊥
+
+-- a product is left open, and the entries are too many, or of too many units
+pub record IsDue (kind : LineKind) (line : Line) (least most : ℕ) (h : Lowering) : Type 0 where
+  pub lowering : IsLowering kind line least most h
+  pub m : ℕ
+  pub X : ℕ
+  pub left : IsLeftAt line least most m X h
+  pub large : (4000000 < h.listed.units) ⊎ (4000000 < h.listed.entries)
+
+-- The units of a try in m stations at the cycle of the book ended: its frames are a trail from the question, open over
+-- the entries; the book before it was small enough for a try; and what the frames and the entries since, which are those
+-- since the last one of all tasks, list is all units of the plan.
+pub record IsStuck (kind : LineKind) (line : Line) (least most : ℕ) (plan : Plan) (h : Lowering)
+    (frames : List OpenFrame) : Type 0 where
+  pub lowering : IsLowering kind line least most h
+  pub m : ℕ
+  pub left : IsLeftAt line least most m h.book.about.cycle h
+  pub few : m < tasks line
+  pub trail : IsTrail kind line h.book.about.cycle (entries_of h) (all_tasks line) m frames
+  pub opens : IsOpenOver line h.book.about.cycle (entries_of h) frames
+  pub front : List Entry
+  pub since : List Entry
+  pub added : entries_of h ≡ front ++ since
+  pub small : AreFew line front
+  pub goal : IsSinceGoal line h.book.about.cycle (entries_of h) since
+  pub published : ℕ
+  pub listed : ℕ
+  pub entry_units : UnitsOf line since published
+  pub frame_units : UnitsIn line h.book.about.cycle frames listed
+  pub within : listed ≤ 6000000
+  pub all : plan.units ≤ published + listed
+  pub alone : plan.helpers ≡ 0 → published + listed ≡ plan.units
+
+-- what a try in m stations comes to, where the product was P
+abbrev pub IsTried : LineKind → Line → ℕ → ℕ → ℕ → Plan → ℕ → Tried → Type 0
+IsTried kind line least most m plan P (tried.Refuted h) = IsGoing kind line least most (m + 1) h
+IsTried kind line least most m plan P (tried.Found h) = IsGoing kind line least most m h × (product_of h < P)
+IsTried kind line least most m plan P (tried.Spent h frames) = IsStuck kind line least most plan h frames
+IsTried kind line least most m plan P (tried.NoMemory h) = IsLowering kind line least most h
+
+-- what the tries in m stations come to
+abbrev pub IsSettled : LineKind → Line → ℕ → ℕ → ℕ → Plan → Settled → Type 0
+IsSettled kind line least most m plan (settled.Goes h) = IsGoing kind line least most (m + 1) h
+IsSettled kind line least most m plan (settled.Large h) = IsDue kind line least most h
+IsSettled kind line least most m plan (settled.Spent h frames) = IsStuck kind line least most plan h frames
+IsSettled kind line least most m plan (settled.NoMemory h) = IsLowering kind line least most h
+
+-- The question of m stations was asked at the cycle X over the book of a search: what the book gained is counted, and
+-- the rest of the search stays.
+pub record HasAsked (m : ℕ) (plan : Plan) (X : ℕ) (old new : Lowering) (v : Verdict) : Type 0 where
+  pub cycle : new.cycle ≡ old.cycle
+  pub balance : new.balance ≡ old.balance
+  pub mid : BookView
+  pub about : mid.about ≡ record { line = old.book.about.line; kind = old.book.about.kind; cycle = X }
+  pub same : mid.state.entries ≡ entries_of old
+  pub asked : Asked
+  pub book : asked.book ≡ new.book
+  pub verdict : asked.verdict ≡ v
+  pub does : HasAskedBook m plan mid asked
+  pub counted : IsCounted old.book.about.line (entries_of new) (length (entries_of new)) new.listed
+  pub units : new.listed.units ≤ old.listed.units + 2 * plan.units
+
+-- A search with another balance, which is right at its cycle and at no lesser one, in m stations; the cycle is 1 to X. The rest stays.
+pub record IsImproved (kind : LineKind) (line : Line) (m X : ℕ) (old new : Lowering) : Type 0 where
+  pub book : new.book ≡ old.book
+  pub listed : new.listed ≡ old.listed
+  pub stations : new.balance.stations ≡ m
+  pub right : IsRight kind line new.cycle new.balance
+  pub tight : IsTight kind line new.balance new.cycle
+  pub some : 1 ≤ new.cycle
+  pub less : new.cycle ≤ X
+
+-- the last entry is of this set
+pub record EndsWith (es : List Entry) (set : List Bool) : Type 0 where
+  pub before : ℕ
+  pub entry : Entry
+  pub last : length es ≡ suc before
+  pub there : slice_get es before ≡ Some entry
+  pub same : entry.set ≡ set
+
+-- a trail beside the entries of a search: valid from a question of a smaller product
+abbrev pub HasTrailBy : LineKind → Line → ℕ → ℕ → Lowering → Option Trail → Type 0
+HasTrailBy kind line least most h None = Unit {0}
+HasTrailBy kind line least most h (Some t) = (m : ℕ) × (m < tasks line) × IsLeftAt line least most m t.cycle h
+    × IsTrail kind line t.cycle (entries_of h) (all_tasks line) m t.frames
+
+-- a trail of few units
+abbrev pub HasFewUnits : Line → Option Trail → Type 0
+HasFewUnits line trail = (listed : ℕ) × TrailUnits line trail listed × (listed ≤ 6000000)

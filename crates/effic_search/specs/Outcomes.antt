@@ -1,0 +1,102 @@
+-- What a search for the least product of stations and cycle comes to.
+use Rattle.std.specs.Prelude.{◌≡◌, ◌≢◌, ◌⊎◌, ℕ, ◌+◌, ◌*◌, ◌^◌, ◌<◌, ◌≤◌, max, List, [], ◌∷◌, ◌++◌, slice_get}
+use Rattle.std.specs.Prelude.{Option, Some, None}
+use Rattle.line_instance.specs.Line.{Line, tasks}
+use Rattle.line_rules.specs.Balance.{IsRight, all_tasks}
+use Rattle.line_rules.specs.Bounds.{total_time}
+use Rattle.line_rules.specs.Entries.{IsFresh, IsFreshAt}
+use Rattle.line_rules.specs.Trails.{IsOpenOver}
+use Rattle.line_rules.specs.Units.{UnitsOf, UnitsIn}
+use Rattle.line_rules.specs.declared.types.LineKind.{LineKind}
+use Rattle.line_rules.specs.declared.types.Entry.{Entry}
+use Rattle.line_rules.specs.declared.types.Trail.{Trail}
+use Rattle.line_rules.specs.declared.types.Why.TheVariants as why
+use Rattle.load_facts.specs.Times.{longest_of}
+use Rattle.budget_law.specs.Budget.{states}
+use Rattle.round_run.specs.declared.plans.Plan.{Plan}
+use Rattle.effic_cert.specs.Product.{IsSayable}
+use Rattle.effic_cert.specs.declared.cert.EfficCert.{EfficCert}
+use Rattle.effic_check.specs.Accepted.{IsAccepted}
+use Rattle.effic_check.specs.Truth.{IsBetween, IsLeastProduct}
+use Rattle.effic_search.specs.Counted.{others, AreFew}
+use Rattle.effic_search.specs.Lowest.{IsLowest}
+use Rattle.effic_search.specs.Since.{IsSinceGoal}
+use Rattle.effic_search.specs.declared.searching.Ended.{Ended}
+use Rattle.effic_search.specs.declared.searching.Ended.TheVariants as ended
+use Rattle.effic_search.specs.declared.searching.EfficOutcome.{EfficOutcome}
+use Rattle.effic_search.specs.declared.searching.EfficOutcome.TheVariants as outcome
+
+-- A certificate of the question: of this kind and this range of stations, within the ranges of its text, and accepted
+-- with so many units, which are few enough for the default steps of the check; its bounds are true, the lower one is the
+-- one that its entries show, and at no cycle from 1 on below its own its balance is right.
+pub record IsCertified (kind : LineKind) (line : Line) (least most : ℕ) (cert : EfficCert) : Type 0 where
+  pub kind_is : cert.kind ≡ kind
+  pub least_is : cert.least_m ≡ least
+  pub most_is : cert.most_m ≡ most
+  pub sayable : IsSayable cert
+  pub units : ℕ
+  pub accepted : IsAccepted line cert units
+  pub few : units ≤ 20000000
+  pub true_bounds : IsBetween kind line least most cert.lower cert.upper
+  pub lowest : IsLowest line cert.entries least (most + 1) cert.upper cert.lower
+  pub tight : (c : ℕ) → 1 ≤ c → IsRight kind line c cert.balance → cert.cycle ≤ c
+
+-- the certificate of the least product: both its bounds are it, and it has no trail
+pub record IsSolved (kind : LineKind) (line : Line) (least most : ℕ) (cert : EfficCert) : Type 0 where
+  pub certified : IsCertified kind line least most cert
+  pub meet : cert.lower ≡ cert.upper
+  pub none : cert.trail ≡ None
+  pub least_one : IsLeastProduct kind line least most cert.upper
+
+-- The N units of a try ended, and one more load was needed: the bounds differ, and the trail is at the tried cycle X,
+-- open over the entries, which are fresh at X; it and the entries of cycle X behind the last one of all tasks at X, which
+-- are those of the try, have at least N units, and exactly so many where there are no helpers; the entries before the
+-- try were few enough for it; and N is below what the budget law allows.
+pub record IsSpent (kind : LineKind) (line : Line) (least most : ℕ) (plan : Plan) (cert : EfficCert) : Type 0 where
+  pub certified : IsCertified kind line least most cert
+  pub below : cert.lower < cert.upper
+  pub trail : Trail
+  pub has : cert.trail ≡ Some trail
+  pub opens : IsOpenOver line trail.cycle cert.entries trail.frames
+  pub fresh : IsFreshAt trail.cycle cert.entries
+  pub front : List Entry
+  pub since : List Entry
+  pub added : cert.entries ≡ front ++ since
+  pub few : AreFew line front
+  pub goal : IsSinceGoal line trail.cycle cert.entries since
+  pub published : ℕ
+  pub listed : ℕ
+  pub entry_units : UnitsOf line since published
+  pub frame_units : UnitsIn line trail.cycle trail.frames listed
+  pub all : plan.units ≤ published + listed
+  pub alone : plan.helpers ≡ 0 → published + listed ≡ plan.units
+  pub budget : plan.units < (tasks line + 1) * states kind ^ tasks line
+
+-- A try was due, and the book was too large for it: the bounds differ, and the entries, which are fresh, have more than
+-- 4,000,000 units or more than 4,000,000 of them aren't by Bound; each such entry has a cycle from the longest time to
+-- the greater of 1 and the total. So the line is large: of n tasks, (n + 1) x 4^n times the greater of 1 and the total
+-- is more than 4,000,000.
+pub record IsLarge (kind : LineKind) (line : Line) (least most : ℕ) (cert : EfficCert) : Type 0 where
+  pub certified : IsCertified kind line least most cert
+  pub below : cert.lower < cert.upper
+  pub none : cert.trail ≡ None
+  pub fresh : IsFresh cert.entries
+  pub units : ℕ
+  pub counted : UnitsOf line cert.entries units
+  pub large : (4000000 < units) ⊎ (4000000 < others cert.entries)
+  pub cycles : (k : ℕ) (e : Entry) → slice_get cert.entries k ≡ Some e → e.why ≢ why.Bound
+      → (longest_of line (all_tasks line) ≤ e.cycle) × (e.cycle ≤ max (total_time line) 1)
+  pub budget : 4000000 < (tasks line + 1) * 4 ^ tasks line * max (total_time line) 1
+
+-- why a search stopped, and what its certificate has then
+abbrev pub StoppedBy : Ended → LineKind → Line → ℕ → ℕ → Plan → EfficCert → Type 0
+StoppedBy ended.Units kind line least most plan cert = IsSpent kind line least most plan cert
+StoppedBy ended.Size kind line least most plan cert = IsLarge kind line least most cert
+
+-- What is answered for `least` to `most` stations: the least product; or bounds, where the units of a try ended, the
+-- book was too large for a try, or memory ended. Out of memory is free.
+abbrev pub Lowers : LineKind → Line → ℕ → ℕ → Plan → EfficOutcome → Type 0
+Lowers kind line least most plan (outcome.Solved cert) = IsSolved kind line least most cert
+Lowers kind line least most plan (outcome.Stopped why cert) = StoppedBy why kind line least most plan cert
+Lowers kind line least most plan (outcome.Memory lower upper) = IsBetween kind line least most lower upper
+Lowers kind line least most plan outcome.NoMemory = Unit {0}

@@ -1,0 +1,216 @@
+//! One try: whether all tasks have a balance in so many stations at a cycle.
+//!
+//! The ranked balance is made first, and where it has few enough stations nothing is searched. Else the question is
+//! decided over the book, which is reopened at the cycle.
+ghost use Rattle.std.specs.Prelude.{◌≡◌, ◌≤◌, ◌<◌, ℕ, length, IfOk};
+ghost use Rattle.line_rules.specs.Balance.{IsRight, all_tasks};
+ghost use Rattle.line_rules.specs.Entries.{HasAnswer};
+ghost use Rattle.line_rules.specs.Ranges.{IsCycle};
+ghost use Rattle.lemma_core.specs.Books.{IsReserved, MayBeBest};
+ghost use Rattle.round_run.specs.Plans.{IsPlan};
+ghost use Rattle.effic_check.specs.Accepted.{cycle_below};
+ghost use Rattle.effic_search.specs.Counted.{IsCounted};
+ghost use Rattle.effic_search.specs.Going.{IsGoing, IsTight, IsImproved, IsTried, HasAsked, product_of, entries_of};
+
+use crate::counting::{counted, ends_with_all, has_all_from};
+use crate::lowering::{Lowering, Wanted};
+use cycle_search::{ask_book, widened};
+use first_fit::{Ranked, ranked_balance};
+use line_instance::Instance;
+use line_rules::{Balance, BalanceCheck, Frames, LineKind, check_balance};
+use round_run::{Gate, Plan, Verdict};
+use std::alloc::{AllocError, Global};
+use std::sync::Wait;
+use std::thread::Threads;
+
+/// What a try comes to.
+#[derive(Drop)]
+pub(crate) enum Tried {
+    /// There is none: an entry of the book says so.
+    Refuted(Lowering),
+    /// There is one, of a smaller product than the best.
+    Found(Lowering),
+    /// The units of the try ended first: the open frames of its search at the cycle of the book.
+    Spent(Lowering, Frames),
+    /// Memory ended first.
+    NoMemory(Lowering),
+}
+
+/// The longest station of a balance that is right at a cycle. Each look at the balance finds a longer station than the
+/// one before.
+fn longest_station(inst: &Instance, kind: LineKind, balance: &Balance, cycle: u64) -> u64
+    requires right { IsRight kind inst.now cycle balance.now }
+    requires few { balance.now.stations ≤ 1024 }
+    ensures right { IsRight kind inst.now result balance.now }
+    ensures least_one { (c : ℕ) → IsRight kind inst.now c balance.now → result ≤ c }
+{
+    let _tasks = inst.tasks();
+    let mut longest = 0;
+    'looks: loop {
+        match check_balance(inst, kind, longest, balance) {
+            BalanceCheck::Overfull(_, time) => longest = time,
+            _ => return longest,
+        }
+    }
+}
+
+/// The search with a balance that is right at a cycle, at the greater of 1 and its longest station.
+fn improved(
+    inst: &Instance,
+    kind: LineKind,
+    search: Lowering,
+    cycle: u64,
+    balance: Balance,
+) -> Lowering
+    requires right { IsRight kind inst.now cycle balance }
+    requires few { balance.stations ≤ 1024 }
+    requires one { 1 ≤ cycle }
+    ensures book { result.book ≡ search.book }
+    ensures listed { result.listed ≡ search.listed }
+    ensures balance { result.balance ≡ balance }
+    ensures right { IsRight kind inst.now result.cycle balance }
+    ensures tight { IsTight kind inst.now balance result.cycle }
+    ensures some { 1 ≤ result.cycle }
+    ensures less { result.cycle ≤ cycle }
+{
+    let longest = longest_station(inst, kind, &balance, cycle);
+    let Lowering {
+        cycle: _,
+        balance: _,
+        book,
+        listed,
+    } = search;
+    Lowering {
+        cycle: longest.max(1),
+        balance,
+        book,
+        listed,
+    }
+}
+
+/// The search after a question was asked at a cycle, over its book with this best balance, and the answer.
+fn ask<R: Threads + Wait + Sync, G: Gate>(
+    rt: &R,
+    alloc: Global,
+    inst: &Instance,
+    stations: u32,
+    plan: &Plan,
+    gate: &G,
+    search: Lowering,
+    cycle: u64,
+    best: Balance,
+) -> Result<(Lowering, Verdict), AllocError>
+    requires plan { IsPlan plan.now }
+    requires some { 1 ≤ stations }
+    requires few { stations ≤ 1024 }
+    requires same { search.book.about.line ≡ inst.now }
+    requires cycle { IsCycle cycle }
+    requires reserved { IsReserved search.book }
+    requires best { MayBeBest (record { line = inst.now; kind = search.book.about.kind; cycle = cycle }) best }
+    requires counted { IsCounted inst.now (entries_of search) (length (entries_of search)) search.listed }
+    requires small { search.listed.units ≤ 4000000 }
+    requires room { length (entries_of search) ≤ 13999999 }
+    ensures { IfOk result (λ r. HasAsked stations plan.now cycle search r.0 r.1) }
+{
+    let Lowering {
+        cycle: reached,
+        balance,
+        book,
+        listed,
+    } = search;
+    let from = book.len() as usize;
+    let kind = book.kind();
+    let book = book.reopen(cycle, best);
+    let asked = ask_book(rt, alloc, inst, book, stations, plan, gate)?;
+    let listed = counted(
+        inst,
+        kind,
+        asked.book.entries(),
+        from,
+        listed,
+        2 * plan.units,
+    );
+    let search = Lowering {
+        cycle: reached,
+        balance,
+        book: asked.book,
+        listed,
+    };
+    Ok((search, asked.verdict))
+}
+
+/// The search with the best balance of its book, in so many stations.
+fn found(
+    inst: &Instance,
+    kind: LineKind,
+    stations: u32,
+    search: Lowering,
+) -> Result<Lowering, AllocError>
+    requires same { search.book.about.line ≡ inst.now }
+    requires kind { search.book.about.kind ≡ kind }
+    requires one { 1 ≤ search.book.about.cycle }
+    requires few { stations ≤ 1024 }
+    requires fits { search.book.state.best.stations ≤ stations }
+    ensures { IfOk result (IsImproved kind inst.now stations search.book.about.cycle search) }
+{
+    let cycle = search.book.cycle();
+    let balance = widened(search.book.best(), stations)?;
+    Ok(improved(inst, kind, search, cycle, balance))
+}
+
+/// Tries the greatest cycle of a smaller product in so many stations, at which no entry refutes all tasks.
+pub(crate) fn try_cycle<R: Threads + Wait + Sync, G: Gate>(
+    rt: &R,
+    alloc: Global,
+    inst: &Instance,
+    wanted: Wanted,
+    stations: u32,
+    plan: &Plan,
+    gate: &G,
+    search: Lowering,
+    cycle: u64,
+) -> Result<Tried, AllocError>
+    requires plan { IsPlan plan.now }
+    requires some { 1 ≤ wanted.least }
+    requires from { wanted.least ≤ stations }
+    requires to { stations ≤ wanted.most }
+    requires few { wanted.most ≤ 1024 }
+    requires going { IsGoing wanted.kind inst.now wanted.least wanted.most stations search }
+    requires one { 1 ≤ cycle }
+    requires cycle { cycle ≡ cycle_below (product_of search) stations }
+    requires left { HasAnswer (entries_of search) (all_tasks inst.now) stations cycle → ⊥ }
+    requires small { search.listed.units ≤ 4000000 }
+    requires short { search.listed.entries ≤ 4000000 }
+    requires room { length (entries_of search) ≤ 13999999 }
+    ensures { let tried = IsTried wanted.kind inst.now wanted.least wanted.most stations in
+        IfOk result (tried plan.now (product_of search)) }
+{
+    let _tasks = inst.tasks();
+    let best = match ranked_balance(alloc, inst, wanted.kind, cycle) {
+        Ranked::Good(best) => best,
+        Ranked::TooLong(_) => unreachable!(),
+        Ranked::NoMemory => return Err(AllocError),
+    };
+    if best.stations <= stations {
+        let balance = widened(&best, stations)?;
+        return Ok(Tried::Found(improved(inst, wanted.kind, search, cycle, balance)));
+    }
+    let from = search.book.len() as usize;
+    let (search, verdict) = ask(rt, alloc, inst, stations, plan, gate, search, cycle, best)?;
+    match verdict {
+        Verdict::Refuted => {
+            if !ends_with_all(inst, search.book.entries()) {
+                return Ok(Tried::NoMemory(search));
+            }
+            Ok(Tried::Refuted(search))
+        }
+        Verdict::Found => Ok(Tried::Found(found(inst, wanted.kind, stations, search)?)),
+        Verdict::Spent(frames) => {
+            if has_all_from(inst, search.book.entries(), from) {
+                return Ok(Tried::NoMemory(search));
+            }
+            Ok(Tried::Spent(search, frames))
+        }
+        Verdict::NoMemory(_) => Ok(Tried::NoMemory(search)),
+    }
+}
