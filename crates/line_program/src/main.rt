@@ -3,27 +3,9 @@
 //! `main` makes the files and the standard output, and hands them with the words to `run`, whose contract says what is printed.
 #![tactic(auto)]
 
-#[cfg(test)]
-mod call_tests;
-#[cfg(test)]
-mod check_tests;
-#[cfg(test)]
-mod gate_tests;
-mod pages;
-mod program;
-#[cfg(test)]
-mod runs;
-#[cfg(test)]
-mod solve_tests;
-#[cfg(test)]
-mod step_tests;
-#[cfg(test)]
-mod tests;
-mod usage;
-
 use command_outcome::{Kept, Stop, finish};
 use line_io::{DiskShelf, OutSink};
-use program::run;
+use line_run::run;
 use std::io::ErrorKind;
 use std::process::ExitCode;
 use std::{env, io};

@@ -2,11 +2,11 @@ use Rattle.std.proofs.Common.{◌≡◌, ◌∙◌, inl, inr, sym, ap, refl, Non
 use Rattle.line_words.specs.Texts.{usage_text}
 use Rattle.command_outcome.specs.Outcome.{Outside, Outcome, outside}
 use Rattle.command_outcome.specs.declared.status.Status.TheVariants as ends
-use Rattle.line_program.specs.Run.{IsJobOutcome, IsAnswer, IsPage, IsPlainOutcome}
+use Rattle.line_run.specs.Run.{IsJobOutcome, IsAnswer, IsPage, IsPlainOutcome}
 use Rattle.command_outcome.proofs.OutcomeFacts.{told_as}
 use Rattle.command_outcome.proofs.OutcomeFacts.{ends_as}
-use Rattle.line_program.proofs.RunFacts.{plain_as}
-use Rattle.line_program.proofs.program.do_words.Goals as goal
+use Rattle.line_run.proofs.RunFacts.{plain_as}
+use Rattle.line_run.proofs.program.do_words.Goals as goal
 
 pub returns-in-Good-clause-ends : goal.returns-in-Good-clause-ends
 returns-in-Good-clause-ends g c = λ t.

@@ -3,10 +3,10 @@ use Rattle.line_words.specs.Words.{texts}
 use Rattle.command_outcome.specs.Outcome.{Outside, Outcome, outside}
 use Rattle.command_outcome.specs.Output.{status_of}
 use Rattle.command_outcome.specs.declared.status.Status.TheVariants as ends
-use Rattle.line_program.specs.Run.{IsAnswer, IsPlainOutcome}
-use Rattle.line_program.proofs.RunFacts.{run_ends, run_leaves, plain_put, write_or, unwritten_or}
-use Rattle.line_program.proofs.HeadlineFacts.{headlined}
-use Rattle.line_program.proofs.program.run_gated.Goals as goal
+use Rattle.line_run.specs.Run.{IsAnswer, IsPlainOutcome}
+use Rattle.line_run.proofs.RunFacts.{run_ends, run_leaves, plain_put, write_or, unwritten_or}
+use Rattle.line_run.proofs.HeadlineFacts.{headlined}
+use Rattle.line_run.proofs.program.run_gated.Goals as goal
 
 pub returns-clause-ends : goal.returns-clause-ends
 returns-clause-ends g c = λ s k.

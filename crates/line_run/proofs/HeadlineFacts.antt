@@ -11,7 +11,7 @@ use Rattle.command_outcome.specs.declared.report.Stop.{Stop}
 use Rattle.command_outcome.specs.declared.report.Stop.TheVariants as stop
 use Rattle.command_outcome.specs.declared.status.Status.{Status}
 use Rattle.command_outcome.specs.declared.status.Status.TheVariants as ends
-use Rattle.line_program.specs.Headline.{IsAnswered, PromisesOf, AsksPromise, IsHeadline}
+use Rattle.line_run.specs.Headline.{IsAnswered, PromisesOf, AsksPromise, IsHeadline}
 
 -- a run that answers wasn't cut short, and isn't out of memory
 not_written : (s : Status) → IsAnswered s → s ≡ ends.WriteFault → ⊥

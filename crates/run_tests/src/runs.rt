@@ -1,11 +1,11 @@
 //! Runs over files in memory, and what they leave: what the tests of runs share.
 //!
 //! In the tables a line is a row, its fields stand between `|`, and `/` stands for the end of a line in a text.
-use crate::program::run;
 use cert_ranges::is_in_range;
 use cert_text::write_cert;
 use command_outcome::{Kept, Status};
 use line_io::{MemShelf, MemSink};
+use line_run::run;
 use std::alloc::{AllocError, Global};
 use std::sync::Wait;
 use std::thread::Threads;

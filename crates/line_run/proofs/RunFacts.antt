@@ -12,7 +12,7 @@ use Rattle.command_outcome.specs.declared.report.Stop.{Stop}
 use Rattle.command_outcome.specs.declared.report.Stop.TheVariants as stop
 use Rattle.command_outcome.specs.declared.status.Status.{Status}
 use Rattle.command_outcome.specs.declared.status.Status.TheVariants as ends
-use Rattle.line_program.specs.Run.{IsPlainEnd, IsPut, IsLeft}
+use Rattle.line_run.specs.Run.{IsPlainEnd, IsPut, IsLeft}
 
 -- an end that needs no file and of which P is true is one of which Q is true, where P implies Q
 pub plain_as : (P Q : Outcome → Type 0) (r : Result Report Stop) → ((out : Outcome) → P out → Q out) → IsPlainEnd P r → IsPlainEnd Q r

@@ -29,8 +29,8 @@ use Rattle.try_command.specs.Tried.{IsTried}
 use Rattle.draw_command.specs.Draw.{IsDrawOutcome}
 use Rattle.effic_command.specs.EfficFound.{IsEfficOutcome}
 use Rattle.effic_command.specs.EfficCheck.{IsEfficCheckOutcome, IsProvedProduct}
-use Rattle.line_program.specs.Usage.{IsUsageOutcome}
-use Rattle.line_program.specs.Pages.{help_text, version_text}
+use Rattle.line_run.specs.Usage.{IsUsageOutcome}
+use Rattle.line_run.specs.Pages.{help_text, version_text}
 
 -- so many helpers, and so many units
 abbrev pub planned : ℕ → ℕ → Plan

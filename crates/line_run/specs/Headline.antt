@@ -20,7 +20,7 @@ use Rattle.try_command.specs.Tried.{IsTried}
 use Rattle.draw_command.specs.Draw.{IsTrulyDrawn}
 use Rattle.effic_command.specs.EfficPromise.{IsEfficPromised}
 use Rattle.effic_command.specs.EfficCheck.{IsProvedProduct}
-use Rattle.line_program.specs.Run.{planned}
+use Rattle.line_run.specs.Run.{planned}
 
 -- the run answers the question of its words: with status 0, or with status 1 where it stopped by units
 abbrev pub IsAnswered : Status → Type 0

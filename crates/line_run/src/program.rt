@@ -13,9 +13,9 @@ ghost use Rattle.command_outcome.specs.Ending.{IsEnding};
 ghost use Rattle.command_outcome.specs.declared.report.Kept.TheVariants.{Nothing};
 ghost use Rattle.command_outcome.specs.declared.report.Stop.TheVariants.{Unwritten};
 ghost use Rattle.command_outcome.specs.declared.status.Status.TheVariants as ends;
-ghost use Rattle.line_program.specs.Usage.{HasFault};
-ghost use Rattle.line_program.specs.Headline.{IsAnswered, AsksPromise, HasPromise, IsHeadline};
-ghost use Rattle.line_program.specs.Run.{IsJobOutcome, IsAnswer, IsOutcome, IsPlainEnd, IsJobPlain, AsksFiles, IsPlainOutcome, IsPut, IsWriting, IsLeft, IsJobTrue, IsTrueRun, WritesFile};
+ghost use Rattle.line_run.specs.Usage.{HasFault};
+ghost use Rattle.line_run.specs.Headline.{IsAnswered, AsksPromise, HasPromise, IsHeadline};
+ghost use Rattle.line_run.specs.Run.{IsJobOutcome, IsAnswer, IsOutcome, IsPlainEnd, IsJobPlain, AsksFiles, IsPlainOutcome, IsPut, IsWriting, IsLeft, IsJobTrue, IsTrueRun, WritesFile};
 
 use crate::pages::{help_page, version_page};
 use crate::usage::usage_report;

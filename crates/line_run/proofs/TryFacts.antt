@@ -9,7 +9,7 @@ use Rattle.command_outcome.specs.declared.report.Report.{Report}
 use Rattle.command_outcome.specs.declared.report.Stop.{Stop}
 use Rattle.command_outcome.specs.declared.report.Stop.TheVariants as stop
 use Rattle.try_command.specs.Tried.{IsTried}
-use Rattle.line_program.specs.Run.{IsTryOutcome, IsPlainEnd}
+use Rattle.line_run.specs.Run.{IsTryOutcome, IsPlainEnd}
 
 -- a report of what was tried, or out of memory
 abbrev pub OnlyMemory : Result Report Stop → Type 0

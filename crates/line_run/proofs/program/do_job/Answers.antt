@@ -14,9 +14,9 @@ use Rattle.effic_command.specs.EfficCheck.{IsEfficCheckOutcome}
 use Rattle.mix_commands.specs.Combine.{IsCombineOutcome}
 use Rattle.mix_commands.specs.Utility.{IsUtilityOutcome}
 use Rattle.mix_commands.specs.Timeline.{IsTimelineOutcome}
-use Rattle.line_program.specs.Run.{planned, IsTryOutcome, IsJobOutcome, IsJobPlain, IsPlainEnd}
-use Rattle.line_program.proofs.TryFacts.{try_ends, try_plain}
-use Rattle.line_program.proofs.program.do_job.Goals as goal
+use Rattle.line_run.specs.Run.{planned, IsTryOutcome, IsJobOutcome, IsJobPlain, IsPlainEnd}
+use Rattle.line_run.proofs.TryFacts.{try_ends, try_plain}
+use Rattle.line_run.proofs.program.do_job.Goals as goal
 
 pub returns-in-Balance-clause-ends : goal.returns-in-Balance-clause-ends
 returns-in-Balance-clause-ends g c = λ t.

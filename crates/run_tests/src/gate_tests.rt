@@ -1,7 +1,7 @@
 //! A run whose helpers meet at a gate.
-use crate::program::run_gated;
 use command_outcome::{Kept, Status};
 use line_io::{MemShelf, MemSink};
+use line_run::run_gated;
 use round_run::Gate;
 use std::hint;
 use std::sync::atomic::AtomicU64;

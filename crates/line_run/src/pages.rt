@@ -1,6 +1,6 @@
 //! The pages that are printed of the program itself: every command with an example, and the version.
 ghost use Rattle.std.specs.Prelude.{◌≡◌, ◌++◌, IfOk};
-ghost use Rattle.line_program.specs.Pages.{help_text, version_text};
+ghost use Rattle.line_run.specs.Pages.{help_text, version_text};
 
 use std::alloc::{AllocError, Global};
 
