@@ -33,19 +33,29 @@ use Rattle.effic_search.specs.Counted.{other, others}
 use Rattle.effic_search.specs.Going.{HaveCycles}
 use Rattle.effic_search.proofs.CycleSums.{SumOf, sum_few}
 
--- what an entry is to a task: 1 where its set has it
-digit : Entry → ℕ → ℕ
-digit e i = cond (has e.set i) 1 0
+bit : Bool → ℕ
+bit true = 1
+bit false = 0
 
-digit_lt : (e : Entry) (i : ℕ) → digit e i < 2
-unfolding digit
-digit_lt e i = elim (has e.set i) as (λ b. cond b 1 0 < 2) [ true ↦ omega arith | false ↦ omega arith ]
+bit_lt : (b : Bool) → bit b < 2
+unfolding bit
+bit_lt true = omega arith
+bit_lt false = omega arith
 
-same_truth : (a b : Bool) → cond a 1 0 ≡ cond b 1 0 → a ≡ b
+same_truth : (a b : Bool) → bit a ≡ bit b → a ≡ b
+unfolding bit
 same_truth true true q = refl
 same_truth true false q = absurd (omega (arith, q))
 same_truth false true q = absurd (omega (arith, q))
 same_truth false false q = refl
+
+-- what an entry is to a task: 1 where its set has it
+digit : Entry → ℕ → ℕ
+digit e i = bit (has e.set i)
+
+digit_lt : (e : Entry) (i : ℕ) → digit e i < 2
+unfolding digit
+digit_lt e i = bit_lt (has e.set i)
 
 four : (kind : LineKind) → states kind ≤ 4
 four Straight = omega arith
@@ -115,8 +125,8 @@ module _ (kind : LineKind) (line : Line) (ok : IsLine line) (ranked : IsRanked l
         )
       where
         outside : (s : List Bool) → IsTaskSet line s → (i : ℕ) → tasks line ≤ i → has s i ≡ false
-        outside s f i out =
-            elim (cases_Bool (has s i)) [ inl t ↦ absurd (omega (arith, f.tasks i t, out)) | inr no ↦ no ]
+        outside s of i out =
+            elim (cases_Bool (has s i)) [ inl t ↦ absurd (omega (arith, of.tasks i t, out)) | inr f ↦ f ]
 
     numbers : List Entry → List ℕ
     numbers [] = []

@@ -22,7 +22,7 @@ loop-k-preserved c =
     λ j e q g. one_entry e x (sym g ∙ (ap (λ (z : ℕ). slice_get es z) q ∙ c.at-entry.ensures)) in
     elim c.if-eq.branch [
       | then-eq w ↦
-          let same = (equal_sets x.set c.all-all.result).0 (sym c.eq.ensures ∙ w.if-eq) ∙ c.all-all.ensures.value in (
+          let same = (equal_sets x.set c.all-all.result).0 (sym c.eq.ensures ∙ w.if-eq.true) ∙ c.all-all.ensures.value in (
             λ one. (
               k,
               x,
@@ -49,7 +49,7 @@ loop-k-preserved c =
               | inl q ↦
                   let t = (equal_sets x.set c.all-all.result).1
                   (ap (λ (z : Entry). z.set) (sym (here j e q g)) ∙ (s ∙ sym c.all-all.ensures.value)) in
-                  absurd (false≢true (sym w.if-eq ∙ (c.eq.ensures ∙ t)))
+                  absurd (false≢true (sym w.if-eq.false ∙ (c.eq.ensures ∙ t)))
               | inr n ↦ omega (arith, w.greatest-is, c.loop-k.invariant.1 j e (omega (arith, l, n)) g s m)
             ],
           )
