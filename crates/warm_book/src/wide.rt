@@ -17,7 +17,7 @@ ghost use Rattle.line_instance.specs.Line.{tasks};
 ghost use Rattle.line_rules.specs.Entries.{IsDerived, IsFresh};
 ghost use Rattle.line_rules.specs.Ranges.{AreEntries};
 ghost use Rattle.lemma_core.specs.Books.{BookView, IsReserved};
-ghost use Rattle.warm_book.specs.Warm.{TakesAll, untaken, IsWarmed, GivesWarmer, OfBook};
+ghost use Rattle.warm_book.specs.Warm.{TakesAll, untaken, IsWarmed, IsOneWarmed, GivesWarmer, OfBook};
 ghost use Rattle.warm_book.specs.Takings.{taking};
 ghost use Rattle.warm_book.specs.Walked.{is_dropped, has_hope, may_stand, IsWalkedAt, AreWalked};
 
@@ -154,7 +154,7 @@ fn units_at(walked: &[Option<u64>], place: usize) -> Option<u64>
 
 impl Warming {
     // The units of the old entries from number `from` up to below `to`, where walks side by side found them right; none where
-    // such walks aren't worth it.
+    // such walks aren't worth it, or where there is no memory for them.
     fn batch_walks<R: Threads + Sync>(
         &self,
         rt: &R,
@@ -163,18 +163,21 @@ impl Warming {
         old: &Entries,
         from: usize,
         to: usize,
-    ) -> Result<Vec<Option<u64>>, AllocError>
+    ) -> Vec<Option<u64>>
         requires range { AreEntries (tasks inst.now) old.now }
         requires from { from ≤ to }
         requires to { to ≤ length old.now }
-        ensures { IfOk result (λ v. AreWalked self.now.book.about.kind inst.now old.now from v.items) }
+        ensures { AreWalked self.now.book.about.kind inst.now old.now from result.items }
     {
         if !is_worth(from, self.kept) {
-            return Ok(Vec::new(alloc));
+            return Vec::new(alloc);
         }
         let kind = self.book.kind();
         let cycle = self.book.cycle();
-        batch_walked(rt, alloc, inst, kind, cycle, &self.numbers, old, from, to)
+        match batch_walked(rt, alloc, inst, kind, cycle, &self.numbers, old, from, to) {
+            Ok(walked) => walked,
+            Err(_) => Vec::new(alloc),
+        }
     }
 
     // Takes the old entries from number `from` up to below `to`, whose units `walked` has where a walk found them right. Out
@@ -239,7 +242,7 @@ impl Warming {
         ensures free { length old.now ≤ vec_capacity self.new.numbers }
         ensures reserved { IsReserved self.old.book → IsReserved self.new.book }
     {
-        let walked = self.batch_walks(rt, alloc, inst, old, from, to)?;
+        let walked = self.batch_walks(rt, alloc, inst, old, from, to);
         self.take_batch(alloc, inst, old, from, to, &walked, room)
     }
 }
@@ -257,6 +260,7 @@ pub fn warm_wide<R: Threads + Sync>(
     requires same { book.about.line ≡ inst.now }
     requires range { AreEntries (tasks inst.now) old.now }
     ensures warmed { IsWarmed room book old.now result }
+    ensures in_order { IsOneWarmed room book old.now result }
     ensures warmer { GivesWarmer room book result }
     ensures derived { OfBook (λ b. IsDerived b.about.kind b.about.line b.state.entries) result }
     ensures fresh { OfBook (λ b. IsFresh b.state.entries) result }

@@ -5,6 +5,7 @@ use Rattle.line_rules.specs.declared.types.Entry.{Entry}
 use Rattle.warm_book.specs.Warm.{TakesAll, untaken}
 use Rattle.warm_book.specs.Takings.{taking}
 use Rattle.warm_book.proofs.TakingFacts.{all_add, warmer}
+use Rattle.warm_book.proofs.OneTaking.{one_warmed}
 use Rattle.warm_book.proofs.wide.warm_wide.Goals as goal
 
 pub returns-in_default-clause-derived : goal.returns-in_default-clause-derived
@@ -49,6 +50,14 @@ pub returns-in_default-walk_batch-clause-fresh : goal.returns-in_default-walk_ba
 returns-in_default-walk_batch-clause-fresh g c =
     let P : List Entry → Type 0 = λ z. IsFresh z in
     subst P c.entries-entries-in_default-walk_batch.ensures.entries c.entries-entries-in_default-walk_batch.ensures.fresh
+
+pub returns-clause-in_order : goal.returns-clause-in_order
+returns-clause-in_order g c =
+    let P : List Entry → Type 0 = λ z. TakesAll c.args.room (untaken c.args.book) z (taking c.loop-from.warming) in
+    λ other k w.
+    one_warmed c.args.room c.args.book c.args.old.now (taking c.loop-from.warming)
+    (subst P (take_all c.loop-from.from c.args.old.now (omega (arith, c.loop-from-test.false, c.len-in-loop-from.ensures)))
+    c.loop-from.invariant.taken) other k w
 
 pub returns-clause-warmer : goal.returns-clause-warmer
 returns-clause-warmer g c =
