@@ -8,5 +8,7 @@
 mod print_solution;
 mod solution;
 mod warm_start;
+#[cfg(test)]
+mod warm_tests;
 
 pub use solution::solve_report;

@@ -208,7 +208,7 @@ fn solution<R: Threads + Wait + Sync, G: Gate>(
         Ranked::TooLong(task) => return Ok(infeasible(alloc, inst, kind, cycle, task)?),
         Ranked::NoMemory => return Err(Stop::Memory),
     };
-    let begun = begin(alloc, inst, kind, cycle, best, olds, plan)?;
+    let begun = begin(rt, alloc, inst, kind, cycle, best, olds, plan)?;
     run(rt, alloc, inst, kind, cycle, begun, plan, gate, room)
 }
 

@@ -1,6 +1,6 @@
 //! What a run begins with: the entries of an old certificate, where the words name one, and the book that takes them in.
 //!
-//! The old entries are read whole, checked one after the other on the line as it is, and given up before the search. A run
+//! The old entries are read whole, checked side by side on the line as it is, and given up before the search. A run
 //! with N units takes at most 6,000,000 - 2N of them, with as many units, so that its certificate stays within the default
 //! steps of the check.
 ghost use Rattle.std.specs.Prelude.{◌≡◌, ◌≤◌, ◌↔◌, ℕ, List, [], Some, None, IfOk, IsTrue, MatchResult, string_bytes, option_map};
@@ -25,7 +25,8 @@ use line_io::Shelf;
 use line_rules::{Balance, Certificate, Claim, Entries, LineKind};
 use round_run::{Plan, open_book};
 use std::alloc::{AllocError, Global};
-use warm_book::{Warmed, warm};
+use std::thread::Threads;
+use warm_book::{Warmed, warm_wide};
 
 /// The units that a run and its old entries have together at most.
 const MOST_UNITS: u64 = 6_000_000;
@@ -77,7 +78,7 @@ fn entries_of(alloc: Global, claim: Claim) -> Entries
 }
 
 /// The entries of a certificate that a run over the line may begin with.
-fn entries_in(
+pub(crate) fn entries_in(
     alloc: Global,
     inst: &Instance,
     kind: LineKind,
@@ -145,7 +146,8 @@ pub(crate) fn old_entries<S: Shelf>(
 }
 
 /// The book with which a run begins: empty but for the old entries that it takes in, and with the ranked balance.
-pub(crate) fn begin(
+pub(crate) fn begin<R: Threads + Sync>(
+    rt: &R,
     alloc: Global,
     inst: &Instance,
     kind: LineKind,
@@ -166,7 +168,7 @@ pub(crate) fn begin(
         return Ok(Begun { book, first });
     };
     let room = MOST_UNITS - 2 * plan.units;
-    match warm(alloc, inst, book, &old, room) {
+    match warm_wide(rt, alloc, inst, book, &old, room) {
         Warmed::Done { book, kept } => {
             let first = warm_line(alloc, kept, old.len())?;
             Ok(Begun { book, first })

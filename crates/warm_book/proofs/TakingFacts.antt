@@ -16,7 +16,7 @@ use Rattle.line_check.proofs.Spending.{ends_more}
 use Rattle.warm_book.specs.Warm.{Taking, IsKept, Takes, TakesAll, keeping, dropping, untaken, renumbered, IsWarmer}
 use Rattle.warm_book.proofs.NumberFacts.{asks_same}
 
-one_entry : (x y : Entry) → Some x ≡ Some y → x ≡ y
+pub one_entry : (x y : Entry) → Some x ≡ Some y → x ≡ y
 one_entry x y e = cc
 
 -- an entry that doesn't follow, or takes more units than are left, isn't kept
@@ -208,6 +208,15 @@ one_kept room t next old s = elim s [
   | inl k ↦ omega (arith, ap (λ (z : Taking). z.kept) k.2.1)
   | inr d ↦ omega (arith, ap (λ (z : Taking). z.kept) d.1)
 ]
+
+kept_from : (room : ℕ) (t : Taking) (olds : List Entry) (end : Taking) → TakesAll room t olds end → end.kept ≤ t.kept + length olds
+kept_from room t [] end h = omega (arith, ap (λ (z : Taking). z.kept) h)
+kept_from room t (old ∷ olds) end h =
+    omega (arith, one_kept room t h.0 old h.1.0, kept_from room h.0 olds end h.1.1)
+
+-- at most so many are kept as there are
+pub all_kept : (room : ℕ) (b : BookView) (olds : List Entry) (end : Taking) → TakesAll room (untaken b) olds end → end.kept ≤ length olds
+all_kept room b olds end h = omega (arith, kept_from room (untaken b) olds end h)
 
 -- a book that took in old entries is warmer
 pub warmer : (room : ℕ) (b : BookView) (olds : List Entry) (end : Taking) → TakesAll room (untaken b) olds end

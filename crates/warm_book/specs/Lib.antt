@@ -1,2 +1,3 @@
 pub mod Warm
 pub mod Takings
+pub mod Walked

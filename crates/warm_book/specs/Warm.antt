@@ -131,6 +131,12 @@ IsWarmed room book old (warmed.NoMemory new) =
     (done : List Entry) × (left : List Entry) × (t : Taking)
     × ((done ++ left ≡ old) × TakesAll room (untaken book) done t × (t.book ≡ new))
 
+-- it is the one answer: whoever takes in all old entries has the same book then, and kept as many
+abbrev pub IsOneWarmed : ℕ → BookView → List Entry → Warmed → Type 0
+IsOneWarmed room book old (warmed.Done new kept) =
+    (other : BookView) (k : ℕ) → IsWarmed room book old (warmed.Done other k) → (other ≡ new) × (k ≡ kept)
+IsOneWarmed room book old (warmed.NoMemory new) = Unit {0}
+
 -- the book of an answer, and how many old entries it kept
 abbrev pub GivesWarmer : ℕ → BookView → Warmed → Type 0
 GivesWarmer room book (warmed.Done new kept) = IsWarmer room book new kept

@@ -2,7 +2,7 @@
 //!
 //! For each old entry gone over, its number in the book is kept, which takes 16 bytes: so cites are renumbered without a
 //! search. The room for these numbers is taken at the start.
-ghost use Rattle.std.specs.Prelude.{◌≡◌, ◌+◌, ◌-◌, ◌^◌, ◌<◌, ◌≤◌, ◌∷◌, [], length, vec_len, vec_capacity, OnOk, OnErr, IfOk};
+ghost use Rattle.std.specs.Prelude.{◌≡◌, ◌+◌, ◌-◌, ◌^◌, ◌<◌, ◌≤◌, ◌∷◌, [], length, vec_len, vec_capacity, OnOk, OnErr, IfOk, IfSome};
 ghost use Rattle.line_instance.specs.Line.{IsTaskSet, tasks};
 ghost use Rattle.line_rules.specs.Entries.{Follows, IsDerived, IsFresh};
 ghost use Rattle.line_rules.specs.Ranges.{AreEntries, IsCycle};
@@ -10,7 +10,9 @@ ghost use Rattle.lemma_core.specs.declared.types.Event.TheVariants as event;
 ghost use Rattle.lemma_core.specs.Own.{IsStatable};
 ghost use Rattle.lemma_core.specs.Books.{IsReserved, ran};
 ghost use Rattle.warm_book.specs.Warm.{number_of, Takes, IsWarmed, GivesWarmer, OfBook};
+ghost use Rattle.line_check.specs.Faults.{IsChecked};
 ghost use Rattle.warm_book.specs.Takings.{taking, IsJudged};
+ghost use Rattle.warm_book.specs.Walked.{IsWalked, IsSpared};
 
 use crate::numbers::renumbered;
 use lemma_core::{Book, Published};
@@ -30,14 +32,14 @@ pub enum Warmed {
 
 /// A book that takes in old entries.
 #[derive(Drop)]
-struct Warming {
-    book: Book,
+pub(crate) struct Warming {
+    pub(crate) book: Book,
     /// For each old entry gone over, its number in the book, where it was kept.
-    numbers: Vec<Option<u64>>,
+    pub(crate) numbers: Vec<Option<u64>>,
     /// How many were kept.
-    kept: u32,
+    pub(crate) kept: u32,
     /// The sum of the units of these.
-    units: u64,
+    pub(crate) units: u64,
 }
 
 /// An old entry that is kept: with its cites renumbered, and with its units.
@@ -48,17 +50,36 @@ struct Judged {
 }
 
 impl Warming {
-    // Whether an old entry is kept, and as which entry.
+    // What is found of an entry after those of the book. It is walked, unless a walk is known to find it right with so many
+    // units.
+    fn check(&self, inst: &Instance, entry: &Entry, walked: Option<u64>, steps: u64) -> EntryChecked
+        requires set { IsTaskSet inst.now entry.now.set }
+        requires cycle { IsCycle entry.now.cycle }
+        requires walked { let b = self.now.book in
+            IfSome walked (IsWalked b.about.kind inst.now b.state.entries entry.now) }
+        ensures { let b = self.now.book in
+            IsChecked b.about.kind inst.now b.state.entries entry.now steps result }
+    {
+        match walked {
+            Some(units) if units <= steps => EntryChecked::Right { units },
+            _ => verify_entry(inst, self.book.kind(), self.book.entries(), entry, steps),
+        }
+    }
+
+    // Whether an old entry is kept, and as which entry. `walked` are its units, where a walk among the old entries found it
+    // right.
     fn judge(
         &self,
         alloc: Global,
         inst: &Instance,
         old: &Entry,
+        walked: Option<u64>,
         room: u64,
     ) -> Result<Option<Judged>, AllocError>
         requires same { self.now.book.about.line ≡ inst.now }
         requires set { IsTaskSet inst.now old.now.set }
         requires cycle { IsCycle old.now.cycle }
+        requires walked { IsSpared (taking self.now) old.now walked }
         requires within { self.now.units ≤ room }
         ensures { IfOk result (IsJudged room (taking self.now) old.now) }
     {
@@ -70,7 +91,7 @@ impl Warming {
             return Ok(None);
         };
         let steps = room - self.units;
-        match verify_entry(inst, self.book.kind(), self.book.entries(), &entry, steps) {
+        match self.check(inst, &entry, walked, steps) {
             EntryChecked::Right { units } => Ok(Some(Judged { entry, units })),
             EntryChecked::Fails { units: _ } => Ok(None),
             EntryChecked::StepsEnded => Ok(None),
@@ -93,17 +114,20 @@ impl Warming {
         }
     }
 
-    // Takes an old entry in, or passes it over. Out of memory, the book stays as it was.
-    fn take(
+    // Takes an old entry in, or passes it over. `walked` are its units, where a walk among the old entries found it right.
+    // Out of memory, the book stays as it was.
+    pub(crate) fn take(
         &mut self,
         alloc: Global,
         inst: &Instance,
         old: &Entry,
+        walked: Option<u64>,
         room: u64,
     ) -> Result<(), AllocError>
         requires same { self.old.book.about.line ≡ inst.now }
         requires set { IsTaskSet inst.now old.now.set }
         requires range { IsStatable old.now }
+        requires walked { IsSpared (taking self.old) old.now walked }
         requires within { self.old.units ≤ room }
         requires kept { self.old.kept < 2 ^ 32 - 1 }
         requires free { vec_len self.old.numbers < vec_capacity self.old.numbers }
@@ -113,7 +137,7 @@ impl Warming {
         ensures capacity { vec_capacity self.new.numbers ≡ vec_capacity self.old.numbers }
         ensures reserved { IsReserved self.old.book → IsReserved self.new.book }
     {
-        let judged = self.judge(alloc, inst, old, room)?;
+        let judged = self.judge(alloc, inst, old, walked, room)?;
         let Some(Judged { entry, units }) = judged else {
             self.numbers.push_reserved(None);
             return Ok(());
@@ -150,7 +174,7 @@ pub fn warm(alloc: Global, inst: &Instance, book: Book, old: &Entries, room: u64
         units: 0,
     };
     for k in 0..old.len() {
-        let Ok(()) = warming.take(alloc, inst, old.at(k), room) else {
+        let Ok(()) = warming.take(alloc, inst, old.at(k), None, room) else {
             let _entries = warming.book.entries();
             return Warmed::NoMemory(warming.book);
         };

@@ -7,7 +7,7 @@ use Rattle.solve_command.proofs.BegunFacts.{begun_warm}
 use Rattle.solve_command.proofs.warm_start.begin.Goals as goal
 
 pub returns-in-Done : goal.returns-in-Done
-returns-in-Done c =
+returns-in-Done g c =
     let old : List Entry = c.in-Some.old in
     let book = c.in_ok-book.book in
     let new = c.in-Done.book in
