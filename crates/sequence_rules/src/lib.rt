@@ -1,0 +1,11 @@
+//! The rules of sequences of least utility work on a mixed-model line (Scholl): states, steps and their cost, bounds,
+//! what follows from what, certificates, and the law that the bound of an accepted certificate is true.
+//!
+//! A state is what is left to be launched of each model, and where the next unit is begun at each station. A step
+//! launches one unit. Its cost takes time proportional to the stations, and the bound of a state to stations times
+//! models. No call takes memory, except for copies.
+#![tactic(auto)]
+
+mod types;
+
+pub use types::{Numbers, SeqCert, SeqEntries, SeqEntry, SeqFrame, SeqFrames, SeqWhy, Times};
