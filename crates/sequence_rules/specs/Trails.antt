@@ -1,5 +1,5 @@
 -- The open frames of a search that stopped: valid trails, trails that are open over a list of entries, and their units.
-use Rattle.std.specs.Prelude.{◌≡◌, ℕ, zero, suc, ◌+◌, ◌<◌, ◌≤◌, ◌⊎◌, Bool, true, false, nat_eq, List, length, slice_get, Option, Some, None, sum_by}
+use Rattle.std.specs.Prelude.{◌≡◌, ℕ, zero, suc, ◌+◌, ◌<◌, ◌≤◌, Bool, true, false, nat_eq, List, length, slice_get, Option, Some, None, sum_by}
 use Rattle.sequence_rules.specs.States.{step_cost, next_starts, less_one, root_starts}
 use Rattle.sequence_rules.specs.Entries.{Answers, Covers, is_left, models_left}
 use Rattle.sequence_rules.specs.declared.types.Times.{Times}

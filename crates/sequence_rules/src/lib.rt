@@ -6,6 +6,9 @@
 //! models. No call takes memory, except for copies.
 #![tactic(auto)]
 
+pub mod laws;
+mod steps;
 mod types;
 
+pub use steps::{state_bound, step, unit_work, units_left};
 pub use types::{Numbers, SeqCert, SeqEntries, SeqEntry, SeqFrame, SeqFrames, SeqWhy, Times};

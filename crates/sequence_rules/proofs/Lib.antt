@@ -1,0 +1,3 @@
+pub mod SumFacts
+pub mod CostFacts
+pub mod Sound
