@@ -15,18 +15,17 @@ use Rattle.sequence_rules.specs.Accepted.{IsAccepted}
 use Rattle.sequence_rules.specs.Laws.{IsProved}
 use Rattle.sequence_rules.proofs.CostFacts.{cost_steps, later_starts, first_is_left, left_within, rest_is_sequence, as_many_left, bound_holds}
 
--- a number below n that passes stands in the list of those that pass
-pub passing_has : (test : ℕ → Bool) (n m : ℕ) → m < n → test m ≡ true → (p : ℕ) × (slice_get (passing test n) p ≡ Some m)
-passing_has test zero m l e = absurd (omega (arith, l))
-passing_has test (suc n) m l e = elim (cases_lt m n) [
-  | inl below ↦
-      let p : (p : ℕ) × (slice_get (passing test n) p ≡ Some m) = passing_has test n m below e in
-      (p.0, get_longer (passing test n) (cond (test n) (n ∷ []) []) p.0 m p.1)
+-- a number below n that passes stands in the list of those that pass, behind those below it
+pub passing_at : (test : ℕ → Bool) (n m : ℕ) → m < n → test m ≡ true → slice_get (passing test n) (length (passing test m)) ≡ Some m
+passing_at test zero m l e = absurd (omega (arith, l))
+passing_at test (suc n) m l e = elim (cases_lt m n) [
+  | inl below ↦ get_longer (passing test n) (cond (test n) (n ∷ []) []) (length (passing test m)) m (passing_at test n m below e)
   | inr above ↦
-      let is : n ≡ m = omega (arith, l, above) in
-      let here : cond (test n) (n ∷ []) [] ≡ m ∷ [] = ap (λ k. cond (test k) (k ∷ []) []) is ∙ ap (λ b. cond b (m ∷ []) []) e in
-      let P : List ℕ → Type 0 = λ ys. slice_get (passing test n ++ ys) (length (passing test n)) ≡ Some m in
-      (length (passing test n), subst P (sym here) (get_last (passing test n) m))
+      let is : m ≡ n = omega (arith, l, above) in
+      let here : cond (test n) (n ∷ []) [] ≡ n ∷ [] = ap (λ k. cond (test k) (n ∷ []) []) (sym is) ∙ ap (λ b. cond b (n ∷ []) []) e in
+      let P : List ℕ → Type 0 = λ ys. slice_get (passing test n ++ ys) (length (passing test n)) ≡ Some n in
+      let Q : ℕ → Type 0 = λ k. slice_get (passing test (suc n)) (length (passing test k)) ≡ Some k in
+      subst Q (sym is) (subst P (sym here) (get_last (passing test n) n))
 ]
 
 -- what an answer says of its own state holds of the state and the need that it answers
@@ -55,9 +54,10 @@ by_branch t interval reach earlier e cites held f (m ∷ units) s =
         | inl open_one ↦
             let test : ℕ → Bool = needs_cite t interval reach e.rem e.starts e.least in
             let needs : test m ≡ true = and_from (is_left e.rem m) _ (lt-ltb 0 (get_or e.rem m 0) left) (and_from (nat_lt (step_cost t reach m e.starts) e.least) _ (lt-ltb (step_cost t reach m e.starts) e.least cheap) (lt-ltb (state_bound t interval reach (less_one e.rem m) next) (e.least - step_cost t reach m e.starts) open_one)) in
-            let p : (p : ℕ) × (slice_get (passing test (length e.rem)) p ≡ Some m) = passing_has test (length e.rem) m (left_within e.rem m left) needs in
-            let q : (x : ℕ) × (slice_get cites p.0 ≡ Some x) = get_some cites p.0 (omega (arith, f.covers.as_many, get_within (passing test (length e.rem)) p.0 m p.1)) in
-            omega (arith, split, cited_holds t interval reach earlier q.0 (less_one e.rem m) next (e.least - step_cost t reach m e.starts) held (f.covers.cited p.0 m q.0 p.1 q.1) units rest)
+            let p : ℕ = length (passing test m) in
+            let there : slice_get (passing test (length e.rem)) p ≡ Some m = passing_at test (length e.rem) m (left_within e.rem m left) needs in
+            let q : (x : ℕ) × (slice_get cites p ≡ Some x) = get_some cites p (omega (arith, f.covers.as_many, get_within (passing test (length e.rem)) p m there)) in
+            omega (arith, split, cited_holds t interval reach earlier q.0 (less_one e.rem m) next (e.least - step_cost t reach m e.starts) held (f.covers.cited p m q.0 there q.1) units rest)
       ]
     ]
 

@@ -1,0 +1,7 @@
+pub mod Starts
+pub mod Walking
+pub mod Listing
+pub mod Framing
+pub mod Counting
+pub mod Posing
+pub mod Rejecting
