@@ -8,10 +8,10 @@ ghost use Rattle.sequence_check.specs.Verdicts.{IsOfLine, IsShown, FailsFirst, I
 
 use crate::entries::check_entries;
 use crate::frames::check_frames;
-use crate::sequences::{is_sequence_of, total_cost};
-use crate::states::{MAX_STATIONS, answers};
 use crate::types::{EntriesFound, FramesFound, SeqFrameFault, SeqPlace, SeqVerified};
-use sequence_rules::{SeqCert, SeqEntries, SeqFrames, Times};
+use sequence_rules::{
+    MAX_STATIONS, SeqCert, SeqEntries, SeqFrames, Times, answers, is_sequence_of, sequence_cost,
+};
 
 /// The first thing that is wrong with the sequence of a certificate, if it isn't one of the demands that costs the upper
 /// bound.
@@ -32,7 +32,7 @@ fn sequence_fault(times: &Times, interval: u64, reach: u64, cert: &SeqCert) -> O
     if !is_sequence_of(times.demands.as_slice(), sequence) {
         return Some(SeqPlace::Sequence);
     }
-    let total = total_cost(times, interval, reach, sequence);
+    let total = sequence_cost(times, interval, reach, sequence);
     if total != cert.upper {
         return Some(SeqPlace::Total(total));
     }

@@ -6,10 +6,10 @@ ghost use Rattle.sequence_rules.specs.Ranges.{IsLast, IsNumber};
 ghost use Rattle.sequence_check.specs.Walks.{IsPosed};
 ghost use Rattle.sequence_check.specs.Frames.{IsPosedFrame, IsReadyAt, IsFoundAt, AreFramesFound};
 
-use crate::states::{MAX_MODELS, MAX_STATIONS, is_same, launch};
 use crate::types::{FrameFound, FramesFound, SeqFrameFault, Walked};
 use crate::walks::{first_late, walk};
-use sequence_rules::{SeqEntries, SeqFrame, SeqFrames, Times, step};
+use sequence_rules::{MAX_STATIONS, SeqEntries, SeqFrame, SeqFrames, Times, is_same, launch, step};
+use utility_work::MAX_MODELS;
 
 /// Whether there are so many starts, all of them 0.
 fn are_noughts(starts: &[u64], stations: usize) -> bool

@@ -8,8 +8,6 @@
 mod checking;
 mod entries;
 mod frames;
-mod sequences;
-mod states;
 mod types;
 mod walks;
 

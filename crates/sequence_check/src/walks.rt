@@ -4,9 +4,11 @@ ghost use Rattle.sequence_rules.specs.States.{step_cost, next_starts, less_one};
 ghost use Rattle.sequence_rules.specs.Entries.{needs_cite};
 ghost use Rattle.sequence_check.specs.Walks.{IsFirstLate, AreBelow, IsPosed, AnswersStep, Takes, Tells};
 
-use crate::states::{MAX_MODELS, MAX_STATIONS, answers, launch};
 use crate::types::Walked;
-use sequence_rules::{Numbers, SeqEntries, Times, state_bound, step};
+use sequence_rules::{
+    MAX_STATIONS, Numbers, SeqEntries, Times, answers, launch, state_bound, step,
+};
+use utility_work::MAX_MODELS;
 
 /// The first cite that isn't below `k`.
 pub(crate) fn first_late(cites: &Numbers, k: u64) -> Option<u64>

@@ -1,10 +1,13 @@
 //! The step of a state, its cost, and the bound of a state.
 ghost use Rattle.std.specs.Prelude.{◌≡◌, ◌≤◌, ◌<◌, ◌*◌, length, sum, All};
-ghost use Rattle.sequence_rules.specs.States.{unit_work, step_cost, next_starts, work_left, state_bound};
+ghost use Rattle.sequence_rules.specs.States.{unit_work, step_cost, next_starts, less_one, work_left, state_bound};
 ghost use Rattle.sequence_rules.specs.Ranges.{AreTimes};
 
 use crate::types::Times;
 use utility_work::utility_step;
+
+/// The most stations of a line that sequences are found for.
+pub const MAX_STATIONS: usize = 64;
 
 /// The work that a unit of a model brings to a station, both counted from 0.
 #[inline]
@@ -107,4 +110,14 @@ pub fn state_bound(times: &Times, interval: u64, reach: u64, rem: &[u64], starts
         bound += end.saturating_sub(reach).saturating_sub(room);
     }
     bound
+}
+
+/// Writes into `left` what is left of each model when a unit of a model, counted from 0, is launched.
+pub fn launch(rem: &[u64], model: usize, left: &mut [u64])
+    requires model { model < length rem.now }
+    requires left { length left.old ≡ length rem.now }
+    ensures { left.new ≡ less_one rem.now model }
+{
+    left.copy_from_slice(rem);
+    left[model] = rem[model].saturating_sub(1);
 }

@@ -1,10 +1,11 @@
-//! The test of a sequence: that it is one of the demands, and what it costs.
+//! Sequences: whether one is of the demands, and what it costs.
 ghost use Rattle.std.specs.Prelude.{◌≡◌, ℕ, ◌<◌, ◌≤◌, ◌↔◌, length, nat_eq, count_by, All, IsTrue};
 ghost use Rattle.utility_work.specs.Utility.{utility_from};
 ghost use Rattle.sequence_rules.specs.States.{unit_work, IsSequenceOf, cost, root_starts};
 ghost use Rattle.sequence_rules.specs.Ranges.{AreTimes};
 
-use sequence_rules::{Times, unit_work};
+use crate::steps::unit_work;
+use crate::types::Times;
 use utility_work::utility_step;
 
 /// How many units of a sequence are of a model.
@@ -22,7 +23,7 @@ fn units_of(sequence: &[u64], model: u64) -> u64
 }
 
 /// Whether a sequence has each model as often as it is wanted: one pass over the sequence for each model.
-pub(crate) fn is_sequence_of(demands: &[u64], sequence: &[u64]) -> bool
+pub fn is_sequence_of(demands: &[u64], sequence: &[u64]) -> bool
     requires few { length sequence.now ≤ 1000 }
     requires models { All (λ u. u < length demands.now) sequence.now }
     ensures { IsTrue result ↔ IsSequenceOf demands.now sequence.now }
@@ -56,8 +57,11 @@ fn station_cost(times: &Times, interval: u64, reach: u64, sequence: &[u64], stat
     sum
 }
 
-/// The utility work of a sequence that begins at the root.
-pub(crate) fn total_cost(times: &Times, interval: u64, reach: u64, sequence: &[u64]) -> u64
+/// The cost of a sequence that begins at the root: its utility work at all stations, at most 65,536,000,000,000,000.
+///
+/// `interval` is the launch interval and `reach` the length of each station, in the mix's time unit. Takes time proportional
+/// to stations times units.
+pub fn sequence_cost(times: &Times, interval: u64, reach: u64, sequence: &[u64]) -> u64
     requires times { AreTimes times.now }
     requires reach { reach ≤ 1000000000 }
     requires few { length sequence.now ≤ 1000 }

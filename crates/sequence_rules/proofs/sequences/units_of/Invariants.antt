@@ -1,6 +1,6 @@
 use Rattle.std.proofs.Common.{◌≡◌, ◌≤◌, nat_eq, take}
 use Rattle.std.specs.Prelude.{count_by}
-use Rattle.sequence_check.proofs.sequences.units_of.Given as goal
+use Rattle.sequence_rules.proofs.sequences.units_of.Given as goal
 
 abbrev pub invariant-loop-u : goal.invariant-loop-u
 invariant-loop-u l = record {

@@ -1,7 +1,7 @@
 use Rattle.std.proofs.Common.{◌≡◌, ◌≤◌, ◌*◌, take, replicate}
 use Rattle.utility_work.specs.Utility.{utility_from}
 use Rattle.sequence_rules.specs.States.{unit_work, sum_over}
-use Rattle.sequence_check.proofs.sequences.total_cost.Given as goal
+use Rattle.sequence_rules.proofs.sequences.sequence_cost.Given as goal
 
 abbrev pub invariant-loop-k : goal.invariant-loop-k
 invariant-loop-k l = record {
