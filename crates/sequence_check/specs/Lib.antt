@@ -1,0 +1,5 @@
+pub mod Walks
+pub mod Faults
+pub mod Lists
+pub mod Frames
+pub mod Verdicts

@@ -1,0 +1,15 @@
+//! An independent check of certificates of sequences of least utility work.
+//!
+//! The sequence is tested first, then each entry in order, then that an entry shows the lower bound, and then the frames of
+//! a search that stopped. Each step that is walked is counted, and its bound takes time proportional to stations times
+//! models. No call takes memory.
+#![tactic(auto)]
+
+mod checking;
+mod entries;
+mod frames;
+mod types;
+mod walks;
+
+pub use checking::verify_seq;
+pub use types::{SeqEntryFault, SeqFrameFault, SeqPlace, SeqVerified};

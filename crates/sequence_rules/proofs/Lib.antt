@@ -1,0 +1,5 @@
+pub mod SumFacts
+pub mod CostFacts
+pub mod Sound
+pub mod Starts
+pub mod Counting

@@ -1,0 +1,5 @@
+use Rattle.sequence_rules.proofs.Sound.{proved}
+use Rattle.sequence_rules.proofs.laws.every_accepted_bound_is_true.Goals as goal
+
+pub returns : goal.returns
+returns c = proved

@@ -1,0 +1,5 @@
+use Rattle.sequence_rules.proofs.Sound.{sound}
+use Rattle.sequence_rules.proofs.laws.every_entry_holds.Goals as goal
+
+pub returns : goal.returns
+returns c = sound

@@ -1,0 +1,6 @@
+pub mod States
+pub mod Entries
+pub mod Trails
+pub mod Accepted
+pub mod Ranges
+pub mod Laws
