@@ -1,4 +1,6 @@
 //! Draws of a seed: numbers, choices and bytes.
+ghost use Rattle.std.specs.Prelude.{◌≤◌};
+
 use rand_core::SeedableRng;
 use rand_core::utils::NextWord;
 use rand_pcg::Lcg64Xsh32;
@@ -18,7 +20,9 @@ impl Draws {
     }
 
     /// A number below `n`; 0 where `n` is 0.
-    pub fn below(&mut self, n: u32) -> u32 {
+    pub fn below(&mut self, n: u32) -> u32
+        ensures { result ≤ n }
+    {
         let word = self.rng.next_word();
         if n == 0 {
             return 0;
@@ -27,7 +31,9 @@ impl Draws {
     }
 
     /// A place of a list of so many.
-    pub fn place(&mut self, n: usize) -> usize {
+    pub fn place(&mut self, n: usize) -> usize
+        ensures { result ≤ n }
+    {
         self.below(n.min(1 << 30) as u32) as usize
     }
 

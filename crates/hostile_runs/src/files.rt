@@ -17,7 +17,8 @@ pub type Contents = Vec<Option<Vec<u8>>>;
 const MIX: &str = "model,A,1,\nmodel,B,2,\ntime,A,1,3\ntime,B,1,4\ntime,B,2,1\narc,A,1,2\n";
 
 /// Certificates that are refused or read, to begin with.
-const PROOF: &str = "line balance certificate 2\nline straight\ntasks 5\ncycle 7\nlower 3\nupper 3\nbalance 3\n1\n2\n1\n2\n3\nentries 1\nbranch f 7 f8 2 -\ntrail 0\nend\n";
+const PROOF: &str =
+    "line balance certificate 2\nline straight\ntasks 5\ncycle 7\nlower 3\nupper 3\nbalance 3\n1\n2\n1\n2\n3\nentries 1\nbranch f 7 f8 2 -\ntrail 0\nend\n";
 
 /// A text with a few of its bytes changed, cut off, put twice or left out.
 pub fn spoiled(alloc: Global, draws: &mut Draws, bytes: &[u8]) -> Result<Vec<u8>, AllocError> {
@@ -49,7 +50,9 @@ fn mix(alloc: Global, tasks: usize) -> Result<String, AllocError> {
 /// The instance in the ALB format, by its text in the other one.
 fn alb(alloc: Global, line: &Small, cycle: u32) -> Result<String, AllocError> {
     let n = line.tasks;
-    let mut text = format!(in alloc; "<number of tasks>\n{n}\n<cycle time>\n{cycle}\n<task times>\n")?;
+    let mut text = format!(in alloc;
+        "<number of tasks>\n{n}\n<cycle time>\n{cycle}\n<task times>\n"
+    )?;
     let plain = line.text(alloc)?;
     for (k, row) in plain.lines().enumerate() {
         if k >= 1 && k <= n {
@@ -67,11 +70,7 @@ fn alb(alloc: Global, line: &Small, cycle: u32) -> Result<String, AllocError> {
 }
 
 /// The first contents of a case.
-pub fn draw_files(
-    alloc: Global,
-    draws: &mut Draws,
-    line: &Small,
-) -> Result<Contents, AllocError> {
+pub fn draw_files(alloc: Global, draws: &mut Draws, line: &Small) -> Result<Contents, AllocError> {
     let text = line.text(alloc)?;
     let apart = line.apart_text(alloc)?;
     let mut files = Vec::new(alloc);

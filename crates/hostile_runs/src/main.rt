@@ -22,11 +22,10 @@ use line_run::run;
 use seen::Seen;
 use small::Small;
 use std::alloc::{AllocError, Global};
-use std::env;
-use std::io;
 use std::process::ExitCode;
 use std::sync::Wait;
 use std::thread::Threads;
+use std::{env, io};
 use words::draw_words;
 
 /// How many runs a case has.
@@ -134,14 +133,21 @@ fn one_case<R: Threads + Wait + Sync>(
     let mut draws = Draws::of(seed);
     let line = Small::draw(&mut draws);
     let first = draw_files(alloc, &mut draws, &line)?;
-    let mut files = settle(alloc, &mut draws, &first, draw_files(alloc, &mut Draws::of(seed), &line)?)?;
+    let mut files = settle(
+        alloc,
+        &mut draws,
+        &first,
+        draw_files(alloc, &mut Draws::of(seed), &line)?,
+    )?;
     for number in 0..RUNS {
         let words = draw_words(alloc, &mut draws)?;
         let (wrong, after) = one_run(rt, alloc, &mut draws, &line, &files, &words)?;
         if let Some(wrong) = wrong {
             let words = joined(alloc, &words)?;
             let text = line.text(alloc)?;
-            return Ok(Some(format!(in alloc; "case {seed} run {number}: {wrong}:{words}\n{text}")?));
+            return Ok(Some(format!(in alloc;
+                "case {seed} run {number}: {wrong}:{words}\n{text}"
+            )?));
         }
         files = settle(alloc, &mut draws, &first, after)?;
     }

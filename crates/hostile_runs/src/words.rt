@@ -63,7 +63,7 @@ fn number(draws: &mut Draws, most: u32) -> u32 {
     if draws.one_in(16) {
         return draws.below(3);
     }
-    1 + draws.below(most)
+    draws.below(most).saturating_add(1)
 }
 
 /// Appends a value of a key, mostly one that it takes.
@@ -88,7 +88,7 @@ fn push_value(word: &mut String, draws: &mut Draws, key: &str) -> Result<(), All
         "cycle" => number(draws, 20),
         "units" => number(draws, 60),
         "stations" | "least" => number(draws, 4),
-        "most" => 2 + number(draws, 5),
+        "most" => number(draws, 5).saturating_add(2),
         "steps" => number(draws, 200),
         "tasks" => number(draws, 6),
         _ => number(draws, 12),
@@ -106,7 +106,7 @@ fn setting(alloc: Global, draws: &mut Draws, key: &str) -> Result<String, AllocE
 
 /// Puts a word at some place behind the first.
 fn put(draws: &mut Draws, words: &mut Vec<String>, word: String) -> Result<(), AllocError> {
-    let at = 1 + draws.place(words.len());
+    let at = draws.place(words.len()).saturating_add(1);
     words.push(word)?;
     let last = words.len().saturating_sub(1);
     if at < last {
@@ -119,21 +119,20 @@ fn put(draws: &mut Draws, words: &mut Vec<String>, word: String) -> Result<(), A
 pub fn draw_words(alloc: Global, draws: &mut Draws) -> Result<Vec<String>, AllocError> {
     let mut words = Vec::new(alloc);
     let at = draws.place(COMMANDS.len());
-    let (command, names, keys) = match COMMANDS.get(at) {
-        Some(row) => *row,
-        None => ("", [].as_slice(), [].as_slice()),
+    let Some((command, names, keys)) = COMMANDS.get(at) else {
+        return Ok(words);
     };
     if draws.one_in(60) {
         return Ok(words);
     }
     words.push(String::from_str(alloc, command)?)?;
-    for what in names {
+    for what in *names {
         if !draws.one_in(40) {
             let name = name_for(draws, what);
             words.push(String::from_str(alloc, name)?)?;
         }
     }
-    for key in keys {
+    for key in *keys {
         let is_wanted = *key != "apart" && *key != "warm" && *key != "line";
         if is_wanted && !draws.one_in(8) || draws.one_in(3) {
             let word = setting(alloc, draws, key)?;
