@@ -5,22 +5,16 @@ use Rattle.line_rules.specs.declared.types.LineKind.{LineKind}
 use Rattle.round_run.specs.declared.plans.Plan.{Plan}
 use Rattle.command_outcome.specs.Outcome.{Outcome}
 use Rattle.command_outcome.specs.declared.status.Status.TheVariants as ends
-use Rattle.effic_cert.specs.Product.{IsSayable}
 use Rattle.effic_cert.specs.declared.cert.EfficCert.{EfficCert}
 use Rattle.effic_search.specs.Outcomes.{IsCertified, IsSolved, IsSpent, IsLarge, StoppedBy}
 use Rattle.effic_search.specs.declared.searching.Ended.{Ended}
 use Rattle.effic_search.specs.declared.searching.Ended.TheVariants as ended
+use Rattle.effic_search.proofs.CertFacts.{stopped_certified}
 use Rattle.effic_command.specs.EfficText.{optimal_text, stopped_text}
 use Rattle.effic_command.specs.EfficFound.{idle_of, IsFound}
 use Rattle.effic_command.specs.EfficPromise.{HasBounds, IsShown}
 
 module _ (kind : LineKind) (line : Line) (least most : ℕ) where
-  -- the certificate of a search that stopped is one of the question
-  pub certified_of : (why : Ended) (plan : Plan) (cert : EfficCert) → StoppedBy why kind line least most plan cert
-      → IsCertified kind line least most cert
-  certified_of ended.Units plan cert s = s.certified
-  certified_of ended.Size plan cert s = s.certified
-
   below_of : (why : Ended) (plan : Plan) (cert : EfficCert) → StoppedBy why kind line least most plan cert
       → cert.lower < cert.upper
   below_of ended.Units plan cert s = s.below
@@ -46,7 +40,7 @@ module _ (kind : LineKind) (line : Line) (least most : ℕ) where
   of_stopped : (why : Ended) (plan : Plan) (cert : EfficCert) → StoppedBy why kind line least most plan cert
       → HasBounds kind line least most plan cert ends.Stopped (stopped_text why cert (idle_of line cert))
   of_stopped why plan cert s =
-      let c : IsCertified kind line least most cert = certified_of why plan cert s in
+      let c : IsCertified kind line least most cert = stopped_certified why kind line least most plan cert s in
       record {
         kind_is = c.kind_is;
         least_is = c.least_is;

@@ -19,9 +19,9 @@ use Rattle.cycle_command.specs.Found.{planned}
 use Rattle.effic_cert.specs.Product.{IsSayable, product_text}
 use Rattle.effic_cert.specs.declared.cert.EfficCert.{EfficCert}
 use Rattle.effic_search.specs.Outcomes.{IsCertified}
+use Rattle.effic_search.proofs.CertFacts.{stopped_certified}
 use Rattle.effic_command.specs.EfficFound.{certified_by, IsFound}
 use Rattle.effic_command.specs.EfficPromise.{HasCertificate, IsShown, IsEfficPromised}
-use Rattle.effic_command.proofs.PromiseFacts.{certified_of}
 
 one : (a b : EfficCert) → Certified a ≡ Certified b → a ≡ b
 one a b e = cc
@@ -100,7 +100,7 @@ module _ (kind : LineKind) (line : Line) (least most : ℕ) (plan : Plan) where
   sayable r cert e (inr p) =
       let R : EfficCert → Type 0 = IsSayable in
       let c : IsCertified kind line least most p.certificate =
-      certified_of kind line least most p.why plan p.certificate p.stopped in
+      stopped_certified p.why kind line least most plan p.certificate p.stopped in
       subst R (one p.certificate cert (sym (ap (λ (o : Outcome). o.kept) p.shown) ∙ e)) c.sayable
 
   -- a search with a certificate is done, or stopped

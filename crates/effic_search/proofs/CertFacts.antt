@@ -37,7 +37,9 @@ use Rattle.effic_search.specs.Since.{IsSinceGoal}
 use Rattle.effic_search.specs.Going.{HaveCycles, IsLowering, IsGoing, IsLeftAt, IsDue, IsStuck, HasTrailBy, HasFewUnits}
 use Rattle.effic_search.specs.Going.{product_of, entries_of}
 use Rattle.effic_search.specs.Lowest.{IsLowest}
-use Rattle.effic_search.specs.Outcomes.{IsCertified, IsSolved, IsSpent, IsLarge}
+use Rattle.effic_search.specs.Outcomes.{IsCertified, IsSolved, IsSpent, IsLarge, StoppedBy}
+use Rattle.effic_search.specs.declared.searching.Ended.{Ended}
+use Rattle.effic_search.specs.declared.searching.Ended.TheVariants as ended
 use Rattle.effic_search.specs.declared.lowering.Lowering.{Lowering}
 use Rattle.effic_search.proofs.LowestFacts.{lowest_closed, lowest_meets, lowest_below}
 use Rattle.effic_search.proofs.SinceFacts.{since_units}
@@ -340,3 +342,9 @@ module _ (kind : LineKind) (line : Line) (least most : ℕ) (h : Lowering) (ok :
         alone = s.alone;
         budget = omega (arith, few, s.all);
       }
+
+-- the certificate of a search that stopped is one of the question
+pub stopped_certified : (why : Ended) (kind : LineKind) (line : Line) (least most : ℕ) (plan : Plan) (cert : EfficCert)
+    → StoppedBy why kind line least most plan cert → IsCertified kind line least most cert
+stopped_certified ended.Units kind line least most plan cert s = s.certified
+stopped_certified ended.Size kind line least most plan cert s = s.certified

@@ -1,9 +1,10 @@
 //! What no clause says: small lines as they were worked out outside.
 ghost use Rattle.std.specs.Prelude.{IfOk};
+ghost use Rattle.effic_cert.specs.Product.{IsSayable};
 ghost use Rattle.effic_check.specs.Accepted.{NoneApart};
 
-use crate::{EfficOutcome, least_product};
-use effic_cert::write_effic;
+use crate::{EfficOutcome, Ended, least_product};
+use effic_cert::{EfficCert, write_effic};
 use line_instance::{Instance, Made, Prec, make};
 use line_rules::LineKind;
 use round_run::{AlwaysOpen, Plan};
@@ -28,20 +29,19 @@ fn instance(alloc: Global, times: Vec<u64>, arcs: &[Prec]) -> Result<Instance, F
     }
 }
 
-// What a search comes to, with the text of its certificate.
-fn outcome_text(alloc: Global, outcome: &EfficOutcome) -> Result<String, AllocError> {
-    let (word, cert) = match outcome {
-        EfficOutcome::Solved(cert) => ("solved", cert),
-        EfficOutcome::Stopped { why, cert } => match why {
-            crate::Ended::Units => ("units", cert),
-            crate::Ended::Size => ("size", cert),
-        },
-        EfficOutcome::Memory { .. } | EfficOutcome::NoMemory => {
-            return String::from_str(alloc, "memory");
-        }
-    };
+// The word of why a search stopped.
+fn word_of(why: Ended) -> &'static str {
+    match why {
+        Ended::Units => "units\n",
+        Ended::Size => "size\n",
+    }
+}
+
+// A word, and behind it the text of a certificate.
+fn text_of(alloc: Global, word: &str, cert: &EfficCert) -> Result<String, AllocError>
+    requires { IsSayable cert.now }
+{
     let mut text = String::from_str(alloc, word)?;
-    text.push_str("\n")?;
     for byte in &write_effic(alloc, cert)? {
         text.push(char::from(*byte))?;
     }
@@ -68,8 +68,11 @@ fn searched<R: Threads + Wait + Sync>(
         helpers,
         units: u64::from(units),
     };
-    let outcome = least_product(rt, alloc, inst, kind, least, most, &plan, &AlwaysOpen);
-    Ok(outcome_text(alloc, &outcome)?)
+    match least_product(rt, alloc, inst, kind, least, most, &plan, &AlwaysOpen) {
+        EfficOutcome::Solved(cert) => Ok(text_of(alloc, "solved\n", &cert)?),
+        EfficOutcome::Stopped { why, cert } => Ok(text_of(alloc, word_of(why), &cert)?),
+        EfficOutcome::Memory { .. } | EfficOutcome::NoMemory => Err("memory")?,
+    }
 }
 
 #[test]
