@@ -13,11 +13,7 @@ use std::alloc::Global;
 
 /// The line that the file says, whatever the cycle time. No file of pairs is read, so no two tasks are apart: that is
 /// made so once more, for callers to know it of every file.
-pub fn plain_line<S: Shelf>(
-    alloc: Global,
-    file: &str,
-    shelf: &mut S,
-) -> Result<Instance, Stop>
+pub fn plain_line<S: Shelf>(alloc: Global, file: &str, shelf: &mut S) -> Result<Instance, Stop>
     ensures said { S.tells → MatchResult result (IsLineOf (S.file shelf.old) file.now None)
         (Stops (IsNoLine (outside (S.file shelf.old) (S.blames shelf.new)) file.now None)) }
     ensures none { IfOk result (λ i. NoneApart i) }

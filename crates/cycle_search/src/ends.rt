@@ -39,11 +39,7 @@ pub fn first_ends(inst: &Instance, stations: u32) -> Ends
 }
 
 /// All tasks at the first of so many stations, in front. An error where memory is wanting.
-pub fn all_at_first(
-    alloc: Global,
-    inst: &Instance,
-    stations: u32,
-) -> Result<Balance, AllocError>
+pub fn all_at_first(alloc: Global, inst: &Instance, stations: u32) -> Result<Balance, AllocError>
     ensures { IfOk result (λ b. b ≡ record { stations = stations; place = replicate (tasks inst.now) at_first }) }
 {
     let first = Seatplace {
