@@ -8,8 +8,8 @@
 //! A walk beside the others is spared where the entry's cycle is too small, or where it cites one that an earlier batch
 //! passed over. It is in vain where the entry cites one that is passed over in its own batch, and where it doesn't follow: an
 //! entry costs up to so many loads more than in the plain form. So a batch has at most half as many entries as were kept
-//! before it, and once more than one in seventeen was passed over, batches are gone over as in the plain form alone. On lines
-//! that were tried, processor time grew by less than a tenth. A batch takes 16 bytes an entry.
+//! before it, and once more than one in seventeen was passed over, batches are gone over as in the plain form alone. A batch
+//! takes 16 bytes an entry.
 ghost use Rattle.std.specs.Prelude.{◌≡◌, ◌↔◌, ◌-◌, ◌/◌, ◌<◌, ◌≤◌, ℕ, IsTrue, Some, not, length, take, slice_get, vec_len, vec_capacity};
 ghost use Rattle.std.specs.Prelude.{OnOk, OnErr, IfOk, IfSome};
 ghost use Rattle.std.specs.List.{list_all};
