@@ -14,7 +14,6 @@ use Rattle.command_outcome.specs.declared.report.Stop.{Stop}
 use Rattle.command_outcome.specs.declared.status.Status.{Status}
 use Rattle.input_files.specs.Instance.{IsLineOf}
 use Rattle.round_run.specs.declared.plans.Plan.{Plan}
-use Rattle.solve_command.specs.Solution.{IsSolveStatus}
 use Rattle.cycle_command.specs.Found.{planned}
 use Rattle.effic_cert.specs.Product.{IsSayable, product_text}
 use Rattle.effic_cert.specs.declared.cert.EfficCert.{EfficCert}
@@ -102,12 +101,6 @@ module _ (kind : LineKind) (line : Line) (least most : ℕ) (plan : Plan) where
       let c : IsCertified kind line least most p.certificate =
       stopped_certified p.why kind line least most plan p.certificate p.stopped in
       subst R (one p.certificate cert (sym (ap (λ (o : Outcome). o.kept) p.shown) ∙ e)) c.sayable
-
-  -- a search with a certificate is done, or stopped
-  pub found_status : (r : Report) → IsFound kind line least most plan None (outcome_of r None)
-      → IsSolveStatus r.status
-  found_status r (inl p) = inl (ap (λ (o : Outcome). o.status) p.shown)
-  found_status r (inr p) = inr (ap (λ (o : Outcome). o.status) p.shown)
 
 -- a report that was handed on, with its certificate in the file, is what was promised
 pub promised : (files after : Files) (file : List ℕ) (kind : LineKind) (least most helpers units : ℕ) (name : List ℕ)

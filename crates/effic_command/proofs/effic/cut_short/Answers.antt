@@ -1,0 +1,17 @@
+use Rattle.std.proofs.Common.{sym, ap, subst}
+use Rattle.command_outcome.specs.Outcome.{Stops, told}
+use Rattle.command_outcome.specs.declared.report.Stop.{Stop}
+use Rattle.command_outcome.specs.declared.status.Status.TheVariants as ends
+use Rattle.effic_command.specs.EfficFound.{IsCutShort}
+use Rattle.effic_command.proofs.effic.cut_short.Goals as goal
+
+pub returns-clause-answer : goal.returns-clause-answer
+returns-clause-answer c =
+    let w = c.args.wanted in
+    let S : Stop → Type 0 = Stops (IsCutShort w.kind c.args.inst.now w.least w.most) in
+    subst S (sym c.refuse.ensures) (record {
+      lower = c.args.lower;
+      upper = c.args.upper;
+      true_bounds = c.requires.true_bounds;
+      shown = ap (told ends.Memory) c.in_ok-text.ensures;
+    })
