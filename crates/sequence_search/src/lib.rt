@@ -5,6 +5,9 @@
 //! share.
 #![tactic(auto)]
 
+mod frames;
+mod outcome;
 mod tables;
+mod trying;
 
 pub use tables::station_times;
