@@ -4,13 +4,14 @@ use Rattle.std.specs.Prelude.{slice_get, sum_by}
 use Rattle.std.specs.List.{AllZip}
 use Rattle.std.proofs.lemmas.List.{take-append-le}
 use Rattle.std.proofs.lemmas.List.Sums.{sum_by_push}
-use Rattle.line_rules.proofs.ListFacts.{get_push_cases, get_last}
+use Rattle.line_rules.proofs.ListFacts.{get_push_cases, get_last, get_longer}
 use Rattle.line_rules.proofs.Sound.{get_within}
 use Rattle.sequence_rules.specs.declared.types.Times.{Times}
 use Rattle.sequence_rules.specs.declared.types.SeqEntry.{SeqEntry}
 use Rattle.sequence_rules.specs.Entries.{Answers, IsCited, Follows, HasAnswer, entry_units, units_of}
 use Rattle.sequence_rules.specs.Ranges.{IsEntry}
 use Rattle.sequence_search.specs.Paths.{IsBook}
+use Rattle.sequence_search.specs.Tries.{KeepsRoots}
 
 -- all but the last item of a list
 pub take_front : {X : Type 0} (xs : List X) (x : X) → take (length xs) (xs ++ x ∷ []) ≡ xs
@@ -69,4 +70,48 @@ book_more t interval reach es below more e b follows unanswered l root range som
         subst P u.1 range
   ];
   few = omega (arith, b.few, length-append es (e ∷ []), sum_by_push entry_units es e, some);
+}
+
+-- an entry more that isn't of the root
+pub roots_more : (t : Times) (old es : List SeqEntry) (e : SeqEntry) → KeepsRoots t old es → (e.rem ≡ t.demands → ⊥) → KeepsRoots t old (es ++ e ∷ [])
+roots_more t old es e keeps other = (
+  λ k x g d. elim (get_push_cases es e x k g) [
+    | inl u ↦ keeps.0 k x u.1 d
+    | inr u ↦ absurd (other (ap (λ (z : SeqEntry). z.rem) u.1 ∙ d))
+  ],
+  λ k x g. get_longer es (e ∷ []) k x (keeps.1 k x g),
+)
+
+-- what an old entry answers is answered still
+pub answered_still : (t : Times) (old new : List SeqEntry) (rem starts : List ℕ) (need : ℕ) → KeepsRoots t old new → HasAnswer old rem starts need → HasAnswer new rem starts need
+answered_still t old new rem starts need keeps h = (h.0, record { entry = h.1.entry; there = keeps.1 h.0 h.1.entry h.1.there; answers = h.1.answers })
+
+-- a book whose entries of the root are those of another one
+pub book_as : (t : Times) (interval reach : ℕ) (old new : List SeqEntry) (below more : ℕ) → IsBook t interval reach old below → IsBook t interval reach new more → KeepsRoots t old new → IsBook t interval reach new below
+book_as t interval reach old new below more b n keeps = record {
+  derived = n.derived;
+  fresh = n.fresh;
+  root = λ k e g d. b.root k e (keeps.0 k e g d) d;
+  range = n.range;
+  few = n.few;
+}
+
+-- a book whose entries of the root may have more
+pub book_wide : (t : Times) (interval reach : ℕ) (es : List SeqEntry) (below more : ℕ) → below ≤ more → IsBook t interval reach es below → IsBook t interval reach es more
+book_wide t interval reach es below more l b = record {
+  derived = b.derived;
+  fresh = b.fresh;
+  root = λ k e g d. omega (arith, l, b.root k e g d);
+  range = b.range;
+  few = b.few;
+}
+
+-- no entry
+pub book_none : (t : Times) (interval reach below : ℕ) → IsBook t interval reach [] below
+book_none t interval reach below = record {
+  derived = λ k e g. absurd (cc);
+  fresh = λ j k a b l g h. absurd (cc);
+  root = λ k e g. absurd (cc);
+  range = λ k e g. absurd (cc);
+  few = omega arith;
 }

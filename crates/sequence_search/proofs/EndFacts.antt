@@ -28,7 +28,7 @@ at_most_sum (x ∷ xs) zero = omega (arith, sum_by-cons (λ n. n) x xs)
 at_most_sum (x ∷ xs) (suc k) = omega (arith, sum_by-cons (λ n. n) x xs, at_most_sum xs k)
 
 -- the root is a state
-root_state : (t : Times) → AreTimes t → IsState (length t.demands) t.stations t.demands (root_starts t)
+pub root_state : (t : Times) → AreTimes t → IsState (length t.demands) t.stations t.demands (root_starts t)
 root_state t times = record {
   each = refl;
   units = λ k d l. omega (arith, get_or_default t.demands k d 0 l, at_most_sum t.demands k, times.units);

@@ -4,3 +4,4 @@ pub mod BookFacts
 pub mod PathFacts
 pub mod TurnFacts
 pub mod EndFacts
+pub mod OrderFacts

@@ -25,11 +25,17 @@ pub record AreStopped (t : Times) (interval reach need : ℕ) (es : List SeqEntr
   pub range : (j : ℕ) (f : SeqFrame) → slice_get fs j ≡ Some f → IsFrame (length t.demands) t.stations f
   pub further : IsOpenOver es fs
 
+-- entries are added to the old ones, and none of the root
+abbrev pub KeepsRoots : Times → List SeqEntry → List SeqEntry → Type 0
+KeepsRoots t old new =
+    ((k : ℕ) (e : SeqEntry) → slice_get new k ≡ Some e → e.rem ≡ t.demands → slice_get old k ≡ Some e)
+    × ((k : ℕ) (e : SeqEntry) → slice_get old k ≡ Some e → slice_get new k ≡ Some e)
+
 -- what a try comes to, which had so many units
 abbrev pub Tries : Times → ℕ → ℕ → ℕ → ℕ → List SeqEntry → List SeqEntry → Tried → Type 0
 Tries t interval reach need room old new tried.Refuted =
     IsBook t interval reach new (need + 1) × HasAnswer new t.demands (root_starts t) need × (units_of new ≤ units_of old + room)
 Tries t interval reach need room old new (tried.Found sequence) =
-    IsBook t interval reach new need × IsSequenceOf t.demands sequence × (cost t interval reach (root_starts t) sequence < need) × (units_of new ≤ units_of old + room)
+    IsBook t interval reach new need × KeepsRoots t old new × IsSequenceOf t.demands sequence × (cost t interval reach (root_starts t) sequence < need) × (units_of new ≤ units_of old + room)
 Tries t interval reach need room old new (tried.Stopped frames) =
-    IsBook t interval reach new need × AreStopped t interval reach need new frames × (units_of new + units_in frames ≡ units_of old + room)
+    IsBook t interval reach new need × KeepsRoots t old new × AreStopped t interval reach need new frames × (units_of new + units_in frames ≡ units_of old + room)
