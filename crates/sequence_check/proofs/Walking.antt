@@ -1,14 +1,12 @@
 -- The walk over the steps of a state, model by model.
-use Rattle.std.proofs.Common.{◌≡◌, ℕ, zero, suc, ◌+◌, ◌-◌, ◌<◌, ◌≤◌, Bool, true, false, cond, ◌&&◌, nat_lt, List, [], ◌∷◌, ◌++◌, length, take, get_or, refl, sym, ap, ◌∙◌, subst, inl, inr, add-one, arith, Some, length-append}
+use Rattle.std.proofs.Common.{◌≡◌, ℕ, ◌+◌, ◌<◌, ◌≤◌, Bool, true, false, List, [], ◌∷◌, ◌++◌, length, take, sym, ap, ◌∙◌, subst, inl, inr, arith, Some, length-append}
 use Rattle.std.specs.Prelude.{slice_get}
 use Rattle.std.specs.List.{AllZip}
-use Rattle.std.proofs.lemmas.Bool.{lt-ltb}
 use Rattle.line_rules.proofs.ListFacts.{get_push_cases}
 use Rattle.line_rules.proofs.Sound.{get_within}
 use Rattle.sequence_rules.specs.declared.types.Times.{Times}
 use Rattle.sequence_rules.specs.declared.types.SeqEntry.{SeqEntry}
-use Rattle.sequence_rules.specs.States.{step_cost, next_starts, less_one, state_bound}
-use Rattle.sequence_rules.specs.Entries.{Answers, IsCited, is_left, needs_cite, passing, models_left}
+use Rattle.sequence_rules.specs.Entries.{Answers, IsCited, needs_cite, passing}
 pub use Rattle.sequence_rules.proofs.Passing.{passing_no, passing_yes, count_no, count_yes, left_more, none_left, some_left, get_taken, same_item, left_needs}
 use Rattle.sequence_check.specs.Walks.{CoversBelow, AnswersStep, needed, Takes}
 
