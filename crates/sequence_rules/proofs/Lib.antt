@@ -3,3 +3,4 @@ pub mod CostFacts
 pub mod Sound
 pub mod Starts
 pub mod Counting
+pub mod Passing

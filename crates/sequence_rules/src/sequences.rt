@@ -66,7 +66,8 @@ pub fn sequence_cost(times: &Times, interval: u64, reach: u64, sequence: &[u64])
     requires reach { reach ≤ 1000000000 }
     requires few { length sequence.now ≤ 1000 }
     requires models { All (λ u. u < length times.now.demands) sequence.now }
-    ensures { result ≡ cost times.now interval reach (root_starts times.now) sequence.now }
+    ensures cost { result ≡ cost times.now interval reach (root_starts times.now) sequence.now }
+    ensures limit { result ≤ 65536000000000000 }
 {
     let mut total = 0;
     for k in 0..times.stations as usize {

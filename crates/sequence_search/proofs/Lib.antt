@@ -1,1 +1,7 @@
 pub mod TableFacts
+pub mod CoverFacts
+pub mod BookFacts
+pub mod PathFacts
+pub mod TurnFacts
+pub mod EndFacts
+pub mod OrderFacts

@@ -5,6 +5,12 @@
 //! share.
 #![tactic(auto)]
 
+mod frames;
+mod ordering;
+mod outcome;
 mod tables;
+mod trying;
 
+pub use ordering::order;
+pub use outcome::Ordered;
 pub use tables::station_times;

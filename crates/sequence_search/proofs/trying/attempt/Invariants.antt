@@ -1,0 +1,19 @@
+use Rattle.std.proofs.Common.{◌≡◌, ◌≤◌, ◌+◌, ◌-◌, ◌*◌, length}
+use Rattle.sequence_rules.specs.Entries.{units_of}
+use Rattle.sequence_rules.specs.Trails.{frame_units, units_in}
+use Rattle.sequence_search.specs.Paths.{IsAlong, IsTop, IsBook}
+use Rattle.sequence_search.specs.Tries.{KeepsRoots}
+use Rattle.sequence_search.proofs.trying.attempt.Given as goal
+
+abbrev pub invariant-turns : goal.invariant-turns
+invariant-turns l = record {
+  book : IsBook l.times l.interval l.reach l.entries l.need;
+  along : IsAlong l.times l.interval l.reach l.need l.entries l.above;
+  top : IsTop l.times l.interval l.reach l.need l.entries l.above l.top;
+  units : units_of l.entries + (units_in l.above + frame_units l.top) ≡ units_of l.fn.entries + l.used;
+  roots : KeepsRoots l.times l.fn.entries l.entries;
+  few : l.used ≤ l.room;
+}
+
+abbrev pub decreases-turns : goal.decreases-turns
+decreases-turns l = 2 * (l.room - l.used) + length l.above

@@ -1,0 +1,6 @@
+use Rattle.std.proofs.Common.{◌≡◌, take}
+use Rattle.sequence_search.specs.Paths.{lasts}
+use Rattle.sequence_search.proofs.trying.models_of.Given as goal
+
+abbrev pub invariant-loop-k : goal.invariant-loop-k
+invariant-loop-k l = l.models.items ≡ lasts (take l.k l.frames)
