@@ -1,14 +1,12 @@
 -- Entries with one more of them.
-use Rattle.std.proofs.Common.{◌≡◌, ℕ, zero, suc, ◌+◌, ◌-◌, ◌<◌, ◌≤◌, List, [], ◌∷◌, ◌++◌, length, take, refl, sym, ap, ◌∙◌, subst, inl, inr, arith, Some, length-append}
-use Rattle.std.specs.Prelude.{slice_get, sum_by}
+use Rattle.std.proofs.Common.{◌≡◌, ℕ, ◌<◌, ◌≤◌, List, [], ◌∷◌, ◌++◌, length, take, refl, sym, ap, ◌∙◌, subst, inl, inr, arith, length-append}
 use Rattle.std.specs.List.{AllZip}
 use Rattle.std.proofs.lemmas.List.{take-append-le}
 use Rattle.std.proofs.lemmas.List.Sums.{sum_by_push}
 use Rattle.line_rules.proofs.ListFacts.{get_push_cases, get_last, get_longer}
-use Rattle.line_rules.proofs.Sound.{get_within}
 use Rattle.sequence_rules.specs.declared.types.Times.{Times}
 use Rattle.sequence_rules.specs.declared.types.SeqEntry.{SeqEntry}
-use Rattle.sequence_rules.specs.Entries.{Answers, IsCited, Follows, HasAnswer, entry_units, units_of}
+use Rattle.sequence_rules.specs.Entries.{Answers, IsCited, Follows, HasAnswer, entry_units}
 use Rattle.sequence_rules.specs.Ranges.{IsEntry}
 use Rattle.sequence_search.specs.Paths.{IsBook}
 use Rattle.sequence_search.specs.Tries.{KeepsRoots}

@@ -1,7 +1,6 @@
 -- Steps that are covered, one more of them; the units of a frame.
-use Rattle.std.proofs.Common.{◌≡◌, ℕ, zero, suc, ◌+◌, ◌-◌, ◌<◌, ◌≤◌, Bool, true, false, cond, nat_lt, List, [], ◌∷◌, ◌++◌, length, get_or, refl, sym, ap, ◌∙◌, subst, inl, inr, add-one, arith, Some, length-append, sum}
+use Rattle.std.proofs.Common.{◌≡◌, ℕ, suc, ◌+◌, ◌-◌, ◌<◌, ◌≤◌, Bool, true, false, nat_lt, List, [], ◌∷◌, ◌++◌, length, get_or, refl, sym, ap, ◌∙◌, subst, inl, inr, add-one, arith, Some, length-append, sum}
 use Rattle.std.specs.Prelude.{slice_get, All}
-use Rattle.std.proofs.lemmas.Bool.{cases_lt}
 use Rattle.std.proofs.lemmas.Bool.Decides.{nat_tests}
 use Rattle.std.proofs.lemmas.Option.{slice_get-get_or}
 use Rattle.std.proofs.lemmas.List.Sums.{sum_by-cons}
@@ -11,7 +10,7 @@ use Rattle.sequence_rules.specs.declared.types.Times.{Times}
 use Rattle.sequence_rules.specs.declared.types.SeqEntry.{SeqEntry}
 use Rattle.sequence_rules.specs.States.{step_cost, next_starts, less_one}
 use Rattle.sequence_rules.specs.Entries.{IsCited, Covers, is_left, needs_cite, passing, models_left}
-use Rattle.sequence_rules.proofs.Passing.{passing_no, passing_yes, passing_same, count_yes, left_needs, same_item}
+use Rattle.sequence_rules.proofs.Passing.{passing_no, passing_yes, passing_same, count_yes, left_needs}
 use Rattle.sequence_search.specs.Steps.{IsNoModel}
 
 -- what is covered stays so with more entries

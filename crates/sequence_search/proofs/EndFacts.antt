@@ -1,22 +1,21 @@
 -- How a try begins, and what it leaves where it is stopped.
-use Rattle.std.proofs.Common.{◌≡◌, ℕ, zero, suc, ◌+◌, ◌-◌, ◌<◌, ◌≤◌, Bool, true, false, nat_eq, List, [], ◌∷◌, ◌++◌, length, take, get_or, replicate, refl, sym, ap, ◌∙◌, subst, inl, inr, add-one, arith, Some, None, Option, length-append, sum}
-use Rattle.std.specs.Prelude.{slice_get, All}
+use Rattle.std.proofs.Common.{◌≡◌, ℕ, zero, suc, ◌+◌, ◌<◌, ◌≤◌, Bool, true, false, nat_eq, List, [], ◌∷◌, ◌++◌, length, take, get_or, refl, sym, ap, ◌∙◌, subst, inl, inr, add-one, arith, Some, None, Option, length-append, sum}
+use Rattle.std.specs.Prelude.{slice_get}
 use Rattle.std.proofs.lemmas.Bool.Decides.{nat_tests}
 use Rattle.std.proofs.lemmas.List.{length-take-le, length-replicate, get_or_default}
 use Rattle.std.proofs.lemmas.List.Sums.{sum_by-cons}
 use Rattle.line_rules.proofs.ListFacts.{get_push_cases, get_take, get_longer}
-use Rattle.line_rules.proofs.Sound.{get_within}
 use Rattle.sequence_rules.specs.declared.types.Times.{Times}
 use Rattle.sequence_rules.specs.declared.types.SeqEntry.{SeqEntry}
 use Rattle.sequence_rules.specs.declared.types.SeqFrame.{SeqFrame}
 use Rattle.sequence_rules.specs.States.{IsSequenceOf, cost, root_starts}
 use Rattle.sequence_rules.specs.Entries.{Covers, HasAnswer, is_left}
-use Rattle.sequence_rules.specs.Trails.{IsRoot, IsLeftBy, IsAskedAt, EndsWell, up_to, matched_to, is_deepest, IsRightAt}
-use Rattle.sequence_rules.specs.Ranges.{AreTimes, IsState, IsLast, IsFrame, IsNumber}
+use Rattle.sequence_rules.specs.Trails.{IsLeftBy, IsAskedAt, EndsWell, up_to, matched_to, is_deepest, IsRightAt}
+use Rattle.sequence_rules.specs.Ranges.{AreTimes, IsState, IsLast, IsFrame}
 use Rattle.sequence_rules.proofs.CostFacts.{left_within}
 use Rattle.sequence_rules.proofs.Counting.{noughts}
 use Rattle.sequence_search.specs.Steps.{IsNextModel}
-use Rattle.sequence_search.specs.Paths.{lasts, IsWorked, IsPassed, IsAlong, IsTop, IsBook}
+use Rattle.sequence_search.specs.Paths.{IsPassed, IsAlong, IsTop, IsBook}
 use Rattle.sequence_search.specs.Tries.{AreStopped}
 use Rattle.sequence_search.proofs.CoverFacts.{covers_none, cites_within}
 use Rattle.sequence_search.proofs.PathFacts.{some_left}

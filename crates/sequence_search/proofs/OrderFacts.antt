@@ -1,6 +1,6 @@
 -- Sequences of the demands, and where a search is between two tries.
-use Rattle.std.proofs.Common.{◌≡◌, ℕ, zero, suc, ◌+◌, ◌-◌, ◌*◌, ◌<◌, ◌≤◌, cond, nat_eq, List, [], ◌∷◌, ◌++◌, length, take, set, get_or, replicate, refl, sym, ap, ◌∙◌, subst, inl, inr, arith, Some, length-append, sum}
-use Rattle.std.specs.Prelude.{slice_get, count_by, sum_by, All}
+use Rattle.std.proofs.Common.{◌≡◌, ℕ, zero, suc, ◌+◌, ◌-◌, ◌*◌, ◌<◌, ◌≤◌, cond, nat_eq, List, [], ◌∷◌, ◌++◌, length, take, get_or, replicate, refl, sym, ap, subst, inl, inr, arith, Some}
+use Rattle.std.specs.Prelude.{slice_get, count_by, All}
 use Rattle.std.proofs.lemmas.Bool.{cases_eq, cases_lt, eq-eqb}
 use Rattle.std.proofs.lemmas.Bool.Decides.{nat_tests}
 use Rattle.std.proofs.lemmas.List.{length-set, get_or_past}
@@ -15,15 +15,14 @@ use Rattle.sequence_rules.specs.declared.types.SeqWhy.TheVariants as why
 use Rattle.sequence_rules.specs.States.{less_one, state_bound, IsSequenceOf, cost, Holds, root_starts}
 use Rattle.sequence_rules.specs.Entries.{HasAnswer, Follows, entry_units, units_of}
 use Rattle.sequence_rules.specs.Trails.{IsTrail, units_in}
-use Rattle.sequence_rules.specs.Accepted.{IsAccepted}
 use Rattle.sequence_rules.specs.Ranges.{AreTimes, IsEntry, IsFrame}
 use Rattle.sequence_rules.proofs.CostFacts.{first_is_left, left_within, rest_is_sequence, as_many_left, bound_holds}
 use Rattle.sequence_rules.proofs.Passing.{same_item}
 use Rattle.sequence_rules.proofs.Sound.{cited_holds, sound}
 use Rattle.sequence_search.specs.Paths.{IsBook}
 use Rattle.sequence_search.specs.Tries.{AreStopped, KeepsRoots}
-use Rattle.sequence_search.specs.Outcomes.{IsCertified, IsSolved, IsStopped, AreBounds, IsStanding, cert_of}
-use Rattle.sequence_search.proofs.BookFacts.{book_more, book_none, book_as, last_answers}
+use Rattle.sequence_search.specs.Outcomes.{IsCertified, IsSolved, IsStopped, IsStanding, cert_of}
+use Rattle.sequence_search.proofs.BookFacts.{book_as, last_answers}
 use Rattle.sequence_search.proofs.EndFacts.{root_state}
 
 -- the units of a sequence are of the models

@@ -1,27 +1,27 @@
 -- The frames of a try, with one frame more or less.
-use Rattle.std.proofs.Common.{◌≡◌, ℕ, zero, suc, ◌+◌, ◌-◌, ◌<◌, ◌≤◌, Bool, true, false, cond, ◌&&◌, nat_eq, nat_lt, List, [], ◌∷◌, ◌++◌, length, take, map, set, get_or, refl, sym, ap, ◌∙◌, subst, inl, inr, arith, Some, None, Option, length-append, append_assoc, sum}
+use Rattle.std.proofs.Common.{◌≡◌, ℕ, zero, suc, ◌+◌, ◌-◌, ◌<◌, ◌≤◌, true, cond, ◌&&◌, nat_eq, nat_lt, List, [], ◌∷◌, ◌++◌, length, take, get_or, refl, sym, ap, ◌∙◌, subst, inl, inr, arith, Some, length-append, append_assoc, sum}
 use Rattle.std.specs.Prelude.{slice_get, unwrap_or, count_by, All}
-use Rattle.std.proofs.lemmas.Bool.{cases_eq, and_parts, and_from, ltb-true, lt-ltb, eq-eqb}
+use Rattle.std.proofs.lemmas.Bool.{cases_eq, and_parts, ltb-true, eq-eqb}
 use Rattle.std.proofs.lemmas.Bool.Decides.{nat_tests}
 use Rattle.std.proofs.lemmas.List.{take-append-le, length-take-le, length-set, map-append, get_or-set_same, get_or-set_other, get_or_default}
 use Rattle.std.proofs.lemmas.List.Sums.{sum_by-cons}
-use Rattle.line_rules.proofs.ListFacts.{get_push_cases, get_last, get_take}
+use Rattle.line_rules.proofs.ListFacts.{get_push_cases, get_last}
 use Rattle.line_rules.proofs.Sound.{get_within}
 use Rattle.utility_work.specs.Utility.{next_start}
 use Rattle.sequence_rules.specs.declared.types.Times.{Times}
 use Rattle.sequence_rules.specs.declared.types.SeqEntry.{SeqEntry}
 use Rattle.sequence_rules.specs.declared.types.SeqFrame.{SeqFrame}
 use Rattle.sequence_rules.specs.States.{unit_work, step_cost, next_starts, less_one, state_bound, value_at_each, IsSequenceOf, cost, root_starts}
-use Rattle.sequence_rules.specs.Entries.{IsCited, HasAnswer, is_left, needs_cite, models_left}
-use Rattle.sequence_rules.specs.Trails.{IsRoot, IsLeftBy, IsAskedAt, EndsWell, up_to}
+use Rattle.sequence_rules.specs.Entries.{is_left, needs_cite}
+use Rattle.sequence_rules.specs.Trails.{IsLeftBy, IsAskedAt}
 use Rattle.sequence_rules.specs.Ranges.{IsState}
 use Rattle.sequence_rules.proofs.SumFacts.{length-value_at_each}
 use Rattle.sequence_rules.proofs.CostFacts.{cost_steps, left_within}
-use Rattle.sequence_rules.proofs.Passing.{get_taken, same_item}
-use Rattle.sequence_search.specs.Steps.{IsNextModel, IsNextState}
-use Rattle.sequence_search.specs.Paths.{lasts, IsOn, IsWorked, IsPassed, IsAlong, IsTop}
+use Rattle.sequence_rules.proofs.Passing.{same_item}
+use Rattle.sequence_search.specs.Steps.{IsNextState}
+use Rattle.sequence_search.specs.Paths.{lasts, IsOn, IsWorked, IsPassed, IsAlong}
 use Rattle.sequence_search.proofs.BookFacts.{take_front, unanswered_more}
-use Rattle.sequence_search.proofs.CoverFacts.{covers_grow, covers_skip, covers_no, covers_yes, covers_none}
+use Rattle.sequence_search.proofs.CoverFacts.{covers_grow}
 
 -- one frame more, and one less
 pub along_push : (t : Times) (interval reach goal : ℕ) (es : List SeqEntry) (above : List SeqFrame) (f : SeqFrame)

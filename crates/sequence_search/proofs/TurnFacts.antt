@@ -1,27 +1,22 @@
 -- The turns of a try: a step, a frame more, a frame that is published, and the ends.
-use Rattle.std.proofs.Common.{◌≡◌, ℕ, zero, suc, ◌+◌, ◌-◌, ◌<◌, ◌≤◌, Bool, true, false, nat_eq, nat_lt, List, [], ◌∷◌, ◌++◌, length, take, get_or, refl, sym, ap, ◌∙◌, subst, inl, inr, add-one, arith, Some, None, Option, length-append, sum}
-use Rattle.std.specs.Prelude.{slice_get, unwrap_or, All, sum_by}
-use Rattle.std.proofs.lemmas.Bool.{and_from, lt-ltb, eq-eqb}
-use Rattle.std.proofs.lemmas.Bool.Decides.{nat_tests}
-use Rattle.std.proofs.lemmas.List.{length-take-le, append-nil}
+use Rattle.std.proofs.Common.{◌≡◌, ℕ, suc, ◌+◌, ◌-◌, ◌<◌, ◌≤◌, true, false, nat_lt, List, [], ◌∷◌, ◌++◌, length, refl, sym, ap, ◌∙◌, subst, arith, Some, None, Option, length-append, sum}
+use Rattle.std.proofs.lemmas.Bool.{and_from, lt-ltb}
+use Rattle.std.proofs.lemmas.List.{append-nil}
 use Rattle.std.proofs.lemmas.List.Sums.{sum_by_push}
-use Rattle.line_rules.proofs.ListFacts.{get_push_cases, get_last, get_take, get_longer}
-use Rattle.line_rules.proofs.Sound.{get_within}
 use Rattle.sequence_rules.specs.declared.types.Times.{Times}
 use Rattle.sequence_rules.specs.declared.types.SeqEntry.{SeqEntry}
 use Rattle.sequence_rules.specs.declared.types.SeqFrame.{SeqFrame}
 use Rattle.sequence_rules.specs.States.{step_cost, next_starts, less_one, state_bound, IsSequenceOf, cost, root_starts}
 use Rattle.sequence_rules.specs.Entries.{IsCited, Covers, HasAnswer, Follows, is_left, needs_cite, models_left, entry_units, units_of}
 use Rattle.sequence_rules.specs.Trails.{IsRoot, IsLeftBy, IsAskedAt, EndsWell, up_to, frame_units, units_in}
-use Rattle.sequence_rules.specs.Ranges.{AreTimes, IsState, IsEntry}
 use Rattle.sequence_rules.proofs.CostFacts.{cost_steps, left_within}
 use Rattle.sequence_rules.proofs.Passing.{same_item}
 use Rattle.sequence_search.specs.Steps.{IsNextModel, IsNoModel, IsNextState}
-use Rattle.sequence_search.specs.Paths.{lasts, IsOn, IsWorked, IsPassed, IsAlong, IsTop, IsBook}
+use Rattle.sequence_search.specs.Paths.{lasts, IsWorked, IsPassed, IsAlong, IsTop, IsBook}
 use Rattle.sequence_search.specs.Tries.{entry_of}
 use Rattle.sequence_search.proofs.BookFacts.{last_answers, book_more}
-use Rattle.sequence_search.proofs.CoverFacts.{covers_grow, covers_skip, covers_no, covers_yes, covers_none, cites_within, units_step, units_end, none_sum}
-use Rattle.sequence_search.proofs.PathFacts.{along_push, along_rest, along_last, along_grow, worked_grow, asked_last, sum_less, some_left, sequence_cons, none_is_sequence, lasts_push, needs_parts, next_on}
+use Rattle.sequence_search.proofs.CoverFacts.{covers_skip, covers_no, covers_yes, covers_none, cites_within, units_step, units_end, none_sum}
+use Rattle.sequence_search.proofs.PathFacts.{along_rest, along_last, along_grow, worked_grow, asked_last, sum_less, some_left, sequence_cons, none_is_sequence, lasts_push, needs_parts, next_on}
 
 -- a frame whose last model is another one, and one with a cite more
 abbrev pub with_last : SeqFrame → ℕ → SeqFrame

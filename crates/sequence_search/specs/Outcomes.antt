@@ -1,7 +1,7 @@
 -- What a search for a sequence of least utility work comes to.
-use Rattle.std.specs.Prelude.{◌≡◌, ℕ, ◌+◌, ◌<◌, ◌≤◌, List, [], length, All}
+use Rattle.std.specs.Prelude.{◌≡◌, ℕ, ◌+◌, ◌<◌, ◌≤◌, List, [], length}
 use Rattle.sequence_rules.specs.States.{IsSequenceOf, cost, Holds, root_starts}
-use Rattle.sequence_rules.specs.Entries.{IsFresh, HasAnswer, units_of}
+use Rattle.sequence_rules.specs.Entries.{IsFresh, HasAnswer}
 use Rattle.sequence_rules.specs.Trails.{IsOpenOver}
 use Rattle.sequence_rules.specs.Accepted.{IsAccepted, units_whole}
 use Rattle.sequence_rules.specs.Ranges.{IsInRange}

@@ -1,6 +1,6 @@
 -- The open frames of a try, from the root down: each was left by the step of the one above it, and the deepest one is being
 -- worked on.
-use Rattle.std.specs.Prelude.{◌≡◌, ℕ, suc, ◌+◌, ◌<◌, ◌≤◌, true, List, ◌++◌, length, map, take, slice_get, Option, Some, None, unwrap_or, sum}
+use Rattle.std.specs.Prelude.{◌≡◌, ℕ, ◌+◌, ◌<◌, ◌≤◌, true, List, ◌++◌, length, map, take, slice_get, Some, unwrap_or, sum}
 use Rattle.sequence_rules.specs.States.{state_bound, IsSequenceOf, cost, root_starts}
 use Rattle.sequence_rules.specs.Entries.{Covers, IsDerived, IsFresh, HasAnswer, is_left, units_of}
 use Rattle.sequence_rules.specs.Trails.{IsAskedAt, EndsWell, up_to}

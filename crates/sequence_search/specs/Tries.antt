@@ -1,5 +1,5 @@
 -- What a try comes to: whether some sequence costs less than a need.
-use Rattle.std.specs.Prelude.{◌≡◌, ℕ, ◌+◌, ◌<◌, ◌≤◌, List, [], ◌∷◌, ◌++◌, length, slice_get, Some}
+use Rattle.std.specs.Prelude.{◌≡◌, ℕ, ◌+◌, ◌<◌, ◌≤◌, List, length, slice_get, Some}
 use Rattle.sequence_rules.specs.States.{IsSequenceOf, cost, root_starts}
 use Rattle.sequence_rules.specs.Entries.{HasAnswer, units_of}
 use Rattle.sequence_rules.specs.Trails.{IsRightAt, IsOpenOver, units_in}
