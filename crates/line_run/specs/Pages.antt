@@ -5,7 +5,7 @@ use Rattle.std.specs.Prelude.{ℕ, List, ◌++◌, codes}
 abbrev pub version_text : List ℕ
 version_text = codes "line 0.1.0\n"
 
--- how the program is called, and what its balance, its search and its test give
+-- how the program is called, and what its balance and its searches at a cycle time or for given stations give
 abbrev pub planning_text : List ℕ
 planning_text =
     codes "line COMMAND NAMES KEY=VALUE ..    balances of assembly lines, with proof\n\n"
@@ -21,7 +21,11 @@ planning_text =
     ++ codes "    line=straight|u (straight)  helpers=0..64 (4)\n"
     ++ codes "    units=1..1000000 (1000000)  cert=OUT (none)\n"
     ++ codes "    line cycle jackson.in2 stations=5\n"
-    ++ codes "effic FILE least=1..1024 most=1..1024    the least stations times cycle time\n"
+
+-- what the least product and the tests of proofs give
+abbrev pub proof_text : List ℕ
+proof_text =
+    codes "effic FILE least=1..1024 most=1..1024    the least stations times cycle time\n"
     ++ codes "    line=straight|u (straight)  helpers=0..64 (4)\n"
     ++ codes "    units=1..1000000 (1000000)  cert=OUT (none)\n"
     ++ codes "    line effic jackson.in2 least=3 most=6 cert=jackson.product\n"
@@ -56,4 +60,4 @@ other_text =
 
 -- the page with every command
 abbrev pub help_text : List ℕ
-help_text = planning_text ++ other_text
+help_text = (planning_text ++ proof_text) ++ other_text

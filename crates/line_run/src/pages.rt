@@ -4,7 +4,7 @@ ghost use Rattle.line_run.specs.Pages.{help_text, version_text};
 
 use std::alloc::{AllocError, Global};
 
-/// How the program is called, and what its balance, its search and its test give.
+/// How the program is called, and what its balance and its searches at a cycle time or for given stations give.
 const PLANNING: &str = "line COMMAND NAMES KEY=VALUE ..    balances of assembly lines, with proof
 
 balance FILE    a balance at once, a bound on its stations, the idle time
@@ -19,7 +19,10 @@ cycle FILE stations=1..1024    the least cycle time, and the proof
     line=straight|u (straight)  helpers=0..64 (4)
     units=1..1000000 (1000000)  cert=OUT (none)
     line cycle jackson.in2 stations=5
-effic FILE least=1..1024 most=1..1024    the least stations times cycle time
+";
+
+/// What the least product and the tests of proofs give.
+const PROOFS: &str = "effic FILE least=1..1024 most=1..1024    the least stations times cycle time
     line=straight|u (straight)  helpers=0..64 (4)
     units=1..1000000 (1000000)  cert=OUT (none)
     line effic jackson.in2 least=3 most=6 cert=jackson.product
@@ -59,6 +62,7 @@ pub fn help_page(alloc: Global) -> Result<Vec<u8>, AllocError>
 {
     let mut text = String::new(alloc);
     text.push_str(PLANNING)?;
+    text.push_str(PROOFS)?;
     text.push_str(OTHER)?;
     Ok(text.into_bytes())
 }
