@@ -5,7 +5,7 @@
 //! run wrote is spoiled before a later one reads it. After each run the status, the text, the files and the numbers are
 //! tested: what is printed as true is true of the line, as all its sets of tasks show.
 //!
-//! The words are `runs=N seed=S`; the first run that is wrong is told, with its seed and number, and ends with status 1.
+//! The words are `runs=N seed=S`, and `tally=1` for how many runs ended with each exit code; the first run that is wrong is told, with its seed and number, and ends with status 1.
 #![tactic(auto)]
 
 mod draws;
@@ -52,6 +52,32 @@ fn draw_fails(alloc: Global, draws: &mut Draws) -> Result<Vec<u64>, AllocError> 
     Ok(fails)
 }
 
+/// How many runs ended with each status, by its exit code.
+#[derive(Clone, Copy)]
+struct Tally {
+    ended: [u64; 9],
+}
+
+impl Tally {
+    /// Counts a run.
+    fn count(&mut self, status: Status) {
+        let code = usize::from(status.code());
+        if code < 9 {
+            self.ended[code] = self.ended[code].saturating_add(1);
+        }
+    }
+
+    /// The counts as a text.
+    fn text(&self, alloc: Global) -> Result<String, AllocError> {
+        let mut text = String::new(alloc);
+        for (code, ended) in self.ended.iter().enumerate() {
+            let ended = *ended;
+            write!(text, " {code}:{ended}")?;
+        }
+        Ok(text)
+    }
+}
+
 /// One run: what is wrong with it, where something is, and the files after it.
 fn one_run<R: Threads + Wait + Sync>(
     rt: &R,
@@ -60,6 +86,7 @@ fn one_run<R: Threads + Wait + Sync>(
     line: &Small,
     before: &Contents,
     words: &[String],
+    tally: &mut Tally,
 ) -> Result<(Option<&'static str>, Contents), AllocError> {
     let shelf_fails = draw_fails(alloc, draws)?;
     let sink_fails = draw_fails(alloc, draws)?;
@@ -71,6 +98,7 @@ fn one_run<R: Threads + Wait + Sync>(
     let mut out = MemSink::new(alloc, Vec::from_slice(alloc, &sink_fails)?);
     let mut kept = Kept::Nothing;
     let status = run(rt, alloc, words, &mut shelf, &mut out, &mut kept);
+    tally.count(status);
     let after = contents_of(alloc, &shelf)?;
     let keeps = match kept {
         Kept::Nothing => false,
@@ -129,6 +157,7 @@ fn one_case<R: Threads + Wait + Sync>(
     rt: &R,
     alloc: Global,
     seed: u64,
+    tally: &mut Tally,
 ) -> Result<Option<String>, AllocError> {
     let mut draws = Draws::of(seed);
     let line = Small::draw(&mut draws);
@@ -141,7 +170,7 @@ fn one_case<R: Threads + Wait + Sync>(
     )?;
     for number in 0..RUNS {
         let words = draw_words(alloc, &mut draws)?;
-        let (wrong, after) = one_run(rt, alloc, &mut draws, &line, &files, &words)?;
+        let (wrong, after) = one_run(rt, alloc, &mut draws, &line, &files, &words, tally)?;
         if let Some(wrong) = wrong {
             let words = joined(alloc, &words)?;
             let text = line.text(alloc)?;
@@ -164,12 +193,17 @@ fn main(rt: HostRuntime) -> io::Result<ExitCode> {
     let words = words_of(&rt)?;
     let runs = setting(&words, "runs", 2000);
     let seed = setting(&words, "seed", 1);
+    let mut tally = Tally { ended: [0; 9] };
     for case in 0..runs / RUNS {
-        if let Some(told) = one_case(&rt, rt.alloc(), seed.wrapping_add(case))? {
+        if let Some(told) = one_case(&rt, rt.alloc(), seed.wrapping_add(case), &mut tally)? {
             println!(rt; "{told}")?;
             return Ok(ExitCode::from(1));
         }
     }
     println!(rt; "runs {runs} seed {seed}: none is wrong")?;
+    if setting(&words, "tally", 0) == 1 {
+        let ended = tally.text(rt.alloc())?;
+        println!(rt; "by exit code:{ended}")?;
+    }
     Ok(ExitCode::from(0))
 }

@@ -43,10 +43,10 @@ fn has(mask: usize, task: usize) -> bool {
 impl Small {
     /// A line of a draw.
     pub fn draw(draws: &mut Draws) -> Small {
-        let tasks = if draws.one_in(4) {
+        let tasks = if draws.one_in(3) {
             1 + draws.place(MOST)
         } else {
-            1 + draws.place(5)
+            4 + draws.place(4)
         };
         let mut line = Small {
             tasks,
@@ -59,7 +59,9 @@ impl Small {
         for task in 0..MOST {
             line.times[task] = u64::from(draws.below(longest + 1));
         }
-        line.draw_arcs(draws);
+        if draws.one_in(2) {
+            line.draw_arcs(draws);
+        }
         line.draw_apart(draws);
         line
     }

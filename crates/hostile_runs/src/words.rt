@@ -86,7 +86,7 @@ fn push_value(word: &mut String, draws: &mut Draws, key: &str) -> Result<(), All
     }
     let value = match key {
         "cycle" => number(draws, 20),
-        "units" => number(draws, 60),
+        "units" => number(draws, 24),
         "stations" | "least" => number(draws, 4),
         "most" => number(draws, 5).saturating_add(2),
         "steps" => number(draws, 200),

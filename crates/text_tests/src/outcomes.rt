@@ -41,8 +41,9 @@ fn tasks_kept(alloc: Global, fails: &[u64]) -> Result<Option<u32>, AllocError> {
     };
     let _status = finish(&mut out, Ok(report), &mut kept);
     Ok(match kept {
-        Kept::Nothing | Kept::Product(_) => None,
+        Kept::Nothing => None,
         Kept::Line(certificate) => Some(certificate.tasks),
+        Kept::Product(certificate) => Some(certificate.tasks),
     })
 }
 
