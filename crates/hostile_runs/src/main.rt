@@ -5,7 +5,8 @@
 //! run wrote is spoiled before a later one reads it. After each run the status, the text, the files and the numbers are
 //! tested: what is printed as true is true of the line, as all its sets of tasks show.
 //!
-//! The words are `runs=N seed=S`, and `tally=1` for how many runs ended with each exit code; the first run that is wrong is told, with its seed and number, and ends with status 1.
+//! The words are `runs=N seed=S`, and `tally=1` for how many runs ended with each exit code. The first run that is wrong is
+//! told, with its seed and number, and the program ends with status 1.
 #![tactic(auto)]
 
 mod draws;
