@@ -1,5 +1,5 @@
 -- The cases of the bound, and that it is small.
-use Rattle.std.proofs.Common.{◌≡◌, ◌≢◌, ℕ, zero, suc, ◌+◌, ◌*◌, ◌<◌, ◌≤◌, max, Bool, true, false, cond, nat_eq, nat_lt, List, [], ◌∷◌, length, get_or, ap, ◌∙◌, inl, inr, arith}
+use Rattle.std.proofs.Common.{◌≡◌, ◌≢◌, ◌↔◌, ◌⊎◌, IsTrue, refl, sym, ℕ, zero, suc, ◌+◌, ◌*◌, ◌<◌, ◌≤◌, max, Bool, true, false, cond, nat_eq, nat_lt, List, [], ◌∷◌, length, get_or, ap, ◌∙◌, inl, inr, arith}
 use Rattle.std.proofs.lemmas.Bool.{false≢true, cases_lt, cases_eq}
 use Rattle.std.proofs.lemmas.Bool.Decides.{nat_tests}
 use Rattle.std.specs.Int.{div_ceil}
@@ -16,6 +16,7 @@ use Rattle.line_rules.proofs.Carried.{stands_alone}
 use Rattle.line_rules.proofs.Spread.{count_below}
 use Rattle.line_rules.proofs.Law.{bound_le, some_member}
 use Rattle.line_rules.proofs.Nonempty.{bound_some, member_or_empty}
+use Rattle.load_facts.specs.Times.{AreCounts}
 use Rattle.load_facts.proofs.HeadTail.{up_ceil}
 
 -- the tasks of R longer than the cycle
@@ -96,3 +97,47 @@ pub count_parts : (line : Line) (c : ℕ) (R : List Bool) (above at six stations
 unfolding lm2 lm3
 count_parts line c R above at six stations e f g h = h ∙ ap (λ n. max 1 (max (n + up at 2) (up six 6))) e ∙ ap (λ n. max 1 (max (count_where (λ t. nat_lt c (2 * t)) (has R) line.times + up n 2) (up six 6))) f
     ∙ ap (λ n. max 1 (max (count_where (λ t. nat_lt c (2 * t)) (has R) line.times + up (count_where (λ t. nat_eq (2 * t) c) (has R) line.times) 2) (up n 6))) g
+
+-- Whether the bound of R exceeds most, test by test. It doesn't where R has no task, or where no bound is so large.
+pub not_exceeded : {line : Line} {R : List Bool} (kind : LineKind) (c most : ℕ) → IsLine line → IsRanked line → IsTaskSet line R → 1 ≤ c → (IsEmpty R ⊎ (1025 ≤ most)) → IsTrue false ↔ most < bound kind line c R
+not_exceeded {line} {R} kind c most ok ranked set o why = (
+  λ e. absurd (false≢true e),
+  λ l. absurd (elim why [
+    | inl h ↦ omega (arith, l, empty_bound kind line c R h)
+    | inr g ↦ omega (arith, l, g, most_bound kind line c R ok ranked set o)
+  ]),
+)
+
+module _ (kind : LineKind) (line : Line) (c : ℕ) (R : List Bool) {empty : Bool} (told : IsTrue empty ↔ IsEmpty R) (isnt : empty ≡ false) (most : ℕ) where
+  some_task : IsEmpty R → ⊥
+  some_task h = false≢true (sym isnt ∙ told.1 h)
+
+  pub none_is_exceeded : most ≡ 0 → IsTrue true ↔ most < bound kind line c R
+  none_is_exceeded z = (λ _. omega (arith, z, at_least_one kind line c R some_task), λ _. refl)
+
+  pub time_exceeds : {time stations m : ℕ} → m ≡ most → m < 1025 → 1 ≤ c → time ≡ sum_where (has R) line.times → stations ≡ div_ceil time c → m < stations → IsTrue true ↔ most < bound kind line c R
+  time_exceeds {time} {stations} {m} same small o total is more = (
+    λ _. below_bound kind line c R some_task most (omega (arith, same, small)) (λ _. omega (arith, same, more, time_part line c R time stations o total is)),
+    λ _. refl,
+  )
+
+  module _ {long above half six : ℕ} (counts : AreCounts line c R long above half six) where
+    pub long_exceeds : most < 1025 → 0 < long → IsTrue true ↔ most < bound kind line c R
+    long_exceeds small more = (λ _. omega (arith, small, long_bound kind line c R some_task (omega (arith, more, counts.too_long))), λ _. refl)
+
+    module _ {stations m : ℕ} (same : m ≡ most) (is : stations ≡ max 1 (max (above + up half 2) (up six 6))) where
+      parts : stations ≡ max 1 (max (lm2 line c R) (lm3 line c R))
+      parts = count_parts line c R above half six stations counts.above_half counts.at_half counts.sixths is
+
+      pub counts_exceed : most < 1025 → m < stations → IsTrue true ↔ most < bound kind line c R
+      counts_exceed small more = (λ _. below_bound kind line c R some_task most small (λ _. omega (arith, same, more, parts)), λ _. refl)
+
+      -- where nothing else exceeds it, what the head and the tail of a task need decides
+      pub chains_decide : {time by_time : ℕ} {longer : Bool} → 1 ≤ c → time ≡ sum_where (has R) line.times → by_time ≡ div_ceil time c → by_time ≤ m → long ≤ 0 → stations ≤ m → (IsTrue longer ↔ m < chained kind line c R) → 1 ≤ m
+          → IsTrue longer ↔ most < bound kind line c R
+      chains_decide {time} {by_time} {longer} o total by fits none few tells one =
+          let whole : bound kind line c R ≡ greatest_part kind line c R = parts_bound kind line c R some_task (omega (arith, none, counts.too_long)) in
+          let first : by_time ≡ lm1 line c R = time_part line c R time by_time o total by in (
+            λ e. omega (arith, whole, same, tells.0 e),
+            λ l. tells.1 (omega (arith, l, whole, same, first, parts, fits, few, one)),
+          )

@@ -161,5 +161,7 @@ minus_fewer (true ∷ xs) (false ∷ ys) = omega (arith, minus_fewer xs ys)
 minus_fewer (false ∷ xs) (y ∷ ys) = omega (arith, minus_fewer xs ys)
 
 -- without a member, and without others, a set has fewer members
-pub fewer_left : (left W : List Bool) (i : ℕ) → In left i → members (minus (set left i false) W) < members left
-fewer_left left W i m = omega (arith, minus_fewer (set left i false) W, members_less left i m)
+pub fewer_left : {rest L : List Bool} (left W : List Bool) (i : ℕ) → In left i → rest ≡ set left i false → L ≡ minus rest W → members L < members left
+fewer_left {rest} {L} left W i m is_rest is_L =
+    let P : List Bool → Type 0 = λ b. members b < members left in
+    subst P (sym (is_L ∙ ap (λ b. minus b W) is_rest)) (omega (arith, minus_fewer (set left i false) W, members_less left i m))

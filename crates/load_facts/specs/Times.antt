@@ -1,9 +1,9 @@
 -- What is known of the times of a set of tasks.
-use Rattle.std.specs.Prelude.{◌≡◌, ℕ, ◌≤◌, Bool, cond, ◌&&◌, ◌||◌, not, nat_eq, List}
+use Rattle.std.specs.Prelude.{◌≡◌, ℕ, ◌*◌, ◌≤◌, Bool, cond, ◌&&◌, ◌||◌, not, nat_eq, nat_lt, List}
 use Rattle.task_set.specs.Truths.{In}
 use Rattle.line_instance.specs.Line.{Line, has, is_before, tasks, time}
-use Rattle.line_instance.specs.Sums.{sum_where}
-use Rattle.line_rules.specs.Bounds.{greatest_below}
+use Rattle.line_instance.specs.Sums.{sum_where, weigh, count_where}
+use Rattle.line_rules.specs.Bounds.{greatest_below, sixths}
 
 -- the greatest time of a task of R, 0 where there is none
 unfoldable pub longest_of : Line → List Bool → ℕ
@@ -19,3 +19,14 @@ pub record AreTimes (line : Line) (R : List Bool) (sum most : ℕ) : Type 0 wher
   pub total_limit : sum ≤ 204800000000000000
   pub longest : (i : ℕ) → In R i → time line i ≤ most
   pub longest_limit : most ≤ 200000000000000
+
+-- What the tasks of R count for by their size: those longer than a cycle, those longer than half a cycle, those of
+-- exactly half a cycle, and the sixths of a station of all together. And how great these counts can be.
+pub record AreCounts (line : Line) (c : ℕ) (R : List Bool) (long above half six : ℕ) : Type 0 where
+  pub too_long : long ≡ count_where (λ t. nat_lt c t) (has R) line.times
+  pub above_half : above ≡ count_where (λ t. nat_lt c (2 * t)) (has R) line.times
+  pub at_half : half ≡ count_where (λ t. nat_eq (2 * t) c) (has R) line.times
+  pub sixths : six ≡ weigh (sixths c) (has R) line.times
+  pub most_halves : above ≤ 1024
+  pub most_half : half ≤ 1024
+  pub most_sixths : six ≤ 6144

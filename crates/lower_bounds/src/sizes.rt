@@ -4,12 +4,11 @@
 //! tasks measured in sixths of a station (LM3), those above two thirds count six, those of two thirds four, those
 //! above a third three and those of a third two: no station holds more than six. One pass counts all of these,
 //! without branches; where the longest time is below a third of the cycle there is nothing to count, and no pass.
-ghost use Rattle.std.specs.Prelude.{◌≡◌, ℕ, ◌≤◌, ◌+◌, ◌*◌, max, nat_eq, nat_lt};
+ghost use Rattle.std.specs.Prelude.{◌≡◌, ℕ, ◌≤◌, ◌+◌, max};
 ghost use Rattle.task_set.specs.Truths.{In};
-ghost use Rattle.line_instance.specs.Line.{IsTaskSet, has, time};
-ghost use Rattle.line_instance.specs.Sums.{count_where, weigh};
+ghost use Rattle.line_instance.specs.Line.{IsTaskSet, time};
 ghost use Rattle.line_rules.specs.Bounds.{sixths, up};
-ghost use Rattle.load_facts.specs.Times.{AreTimes, longest_of};
+ghost use Rattle.load_facts.specs.Times.{AreCounts, AreTimes, longest_of};
 
 use line_instance::Instance;
 use task_set::TaskSet;
@@ -67,19 +66,14 @@ impl SizeCounts {
 }
 
 /// The counts of a set of tasks, of which none takes more than `longest`: all 0 where that is less than a third of the cycle.
+#[tactic(auto, using(load_facts::proofs::SizeClasses::one_more))]
 pub(crate) fn counts_of(inst: &Instance, cycle: u64, set: &TaskSet, longest: u64) -> SizeCounts
     requires set { IsTaskSet inst.now set.now }
     requires some { 1 ≤ cycle }
     requires limit { cycle ≤ 1000000000000000000 }
     requires longest { (i : ℕ) → In set.now i → time inst.now i ≤ longest }
     requires longest_limit { longest ≤ 200000000000000 }
-    ensures too_long { result.too_long ≡ count_where (λ t. nat_lt cycle t) (has set.now) inst.now.times }
-    ensures above_half { result.above_half ≡ count_where (λ t. nat_lt cycle (2 * t)) (has set.now) inst.now.times }
-    ensures at_half { result.at_half ≡ count_where (λ t. nat_eq (2 * t) cycle) (has set.now) inst.now.times }
-    ensures sixths { result.sixths ≡ weigh (sixths cycle) (has set.now) inst.now.times }
-    ensures most_halves { result.above_half ≤ 1024 }
-    ensures most_half { result.at_half ≤ 1024 }
-    ensures most_sixths { result.sixths ≤ 6144 }
+    ensures { AreCounts inst.now cycle set.now result.too_long result.above_half result.at_half result.sixths }
 {
     let _tasks = inst.tasks();
     let mut counts = SizeCounts {

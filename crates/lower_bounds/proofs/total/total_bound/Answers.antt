@@ -1,4 +1,4 @@
-use Rattle.std.proofs.Common.{ℕ, ◌≤◌, subst, sym}
+use Rattle.std.proofs.Common.{◌≤◌, subst, sym}
 use Rattle.line_rules.proofs.All.{In-all}
 use Rattle.line_rules.proofs.Law.{total_bound_le}
 use Rattle.lower_bounds.proofs.total.total_bound.Goals as goal
