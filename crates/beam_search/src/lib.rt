@@ -10,7 +10,5 @@
 mod beams;
 mod listing;
 mod placed;
-#[cfg(test)]
-mod tests;
 
 pub use beams::{Beamed, Wanted, beam};

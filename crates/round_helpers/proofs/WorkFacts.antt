@@ -1,10 +1,11 @@
 -- What is done on a desk, step by step, and what stays true of a desk that sees more.
-use Rattle.std.proofs.Common.{◌≡◌, ℕ, ◌+◌, ◌≤◌, Bool, List, [], ◌∷◌, ◌++◌, length, length-append, refl, sym, ap, ◌∙◌, subst, arith}
+use Rattle.std.proofs.Common.{◌≡◌, ℕ, ◌+◌, ◌≤◌, Bool, List, [], ◌∷◌, ◌++◌, length, length-append, refl, sym, ap, ◌∙◌, subst, arith, Option}
 use Rattle.std.proofs.lemmas.List.{append_cancel_left}
 use Rattle.line_instance.specs.Line.{Line}
 use Rattle.line_rules.specs.Entries.{HasAnswer}
 use Rattle.line_rules.specs.Units.{UnitsOf}
 use Rattle.line_rules.specs.declared.types.LineKind.{LineKind}
+use Rattle.line_rules.specs.declared.types.Mode.{Mode}
 use Rattle.line_rules.specs.declared.types.Entry.{Entry}
 use Rattle.line_rules.specs.declared.types.OpenFrame.{OpenFrame}
 use Rattle.lemma_core.specs.History.{Item, Standing, replay}
@@ -101,8 +102,8 @@ works_as line X a b u v m n l k w = record {
 }
 
 -- what a search does
-module _ (kind : LineKind) (line : Line) (X : ℕ) (old new : DeskView) (used : ℕ)
-    (h : HasPublished kind line X old new) where
+module _ {asked : Option Mode} (kind : LineKind) (line : Line) (X : ℕ) (old new : DeskView) (used : ℕ)
+    (h : HasPublished asked kind line X old new) where
   pub works_few : (frames : List OpenFrame) (most : ℕ) → AddsFew line X old new frames used most
       → Works line X old new used most
   works_few frames most f =
@@ -110,7 +111,7 @@ module _ (kind : LineKind) (line : Line) (X : ℕ) (old new : DeskView) (used : 
       record {
         items = f.items;
         did = f.did;
-        cycles = subst P (did_once old new h.items f.items h.did f.did) (lemmas_at kind line X (added_of h.items) h.lemmas);
+        cycles = subst P (did_once old new h.items f.items h.did f.did) (lemmas_at asked kind line X (added_of h.items) h.lemmas);
         few = f.few;
         published = f.published;
         units = f.entry_units;

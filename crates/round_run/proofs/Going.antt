@@ -1,6 +1,6 @@
 -- What was done on a book as a desk is how the book goes on, and what it gains for the units used.
 use Rattle.std.proofs.Common.{◌≡◌, ℕ, zero, suc, ◌+◌, ◌≤◌, Bool, List, [], ◌∷◌, ◌++◌, length, refl, sym, ap, ◌∙◌, subst}
-use Rattle.std.proofs.Common.{arith, append_assoc, length-append, Some}
+use Rattle.std.proofs.Common.{arith, append_assoc, length-append, Option, Some}
 use Rattle.std.proofs.lemmas.List.{append-nil, append_cancel_left}
 use Rattle.std.specs.List.{range_with_len}
 use Rattle.std.specs.Prelude.{slice_get}
@@ -9,6 +9,7 @@ use Rattle.line_rules.specs.Bounds.{bound}
 use Rattle.line_rules.specs.Entries.{HasAnswer}
 use Rattle.line_rules.specs.Units.{UnitsOf, UnitsIn}
 use Rattle.line_rules.specs.declared.types.LineKind.{LineKind}
+use Rattle.line_rules.specs.declared.types.Mode.{Mode}
 use Rattle.line_rules.specs.declared.types.Entry.{Entry}
 use Rattle.line_rules.specs.declared.types.OpenFrame.{OpenFrame}
 use Rattle.lemma_core.specs.History.{Item, added, known, better, Standing, after, replay}
@@ -87,9 +88,9 @@ goes_same a = record {
   best = omega arith;
 }
 
-module _ (old new : BookView) (ok : IsBook old) (okn : IsBook new) (k : Keeps (desk_of old) (desk_of new))
+module _ {asked : Option Mode} (old new : BookView) (ok : IsBook old) (okn : IsBook new) (k : Keeps (desk_of old) (desk_of new))
     (kind : LineKind) (line : Line) (X : ℕ) (of_line : line ≡ old.about.line) (of_cycle : X ≡ old.about.cycle)
-    (h : HasPublished kind line X (desk_of old) (desk_of new)) where
+    (h : HasPublished asked kind line X (desk_of old) (desk_of new)) where
   same_items : (is : List Item) → Did (desk_of old) (desk_of new) is → h.items ≡ is
   same_items is d =
       append_cancel_left old.events h.items is (sym (did_more old new h.items k h.did) ∙ did_more old new is k d)
@@ -114,7 +115,7 @@ module _ (old new : BookView) (ok : IsBook old) (okn : IsBook new) (k : Keeps (d
         entries = sym (entries_seen new okn)
             ∙ (entries_added (desk_of old) (desk_of new) is k (did_more old new is k d)
             ∙ ap (λ (es : List Entry). es ++ added_of is) (entries_seen old ok));
-        cycles = subst Q of_cycle (subst P (same_items is d) (lemmas_at kind line X (added_of h.items) h.lemmas));
+        cycles = subst Q of_cycle (subst P (same_items is d) (lemmas_at asked kind line X (added_of h.items) h.lemmas));
         best = omega (arith, best_same);
       }
 

@@ -1,5 +1,5 @@
 -- What deciding one question over a book does to the book, and what it answers.
-use Rattle.std.specs.Prelude.{◌≡◌, ℕ, ◌+◌, ◌<◌, ◌≤◌, ◌⊎◌, List, [], ◌∷◌, length}
+use Rattle.std.specs.Prelude.{◌≡◌, ℕ, ◌+◌, ◌<◌, ◌≤◌, ◌⊎◌, List, [], ◌∷◌, length, None}
 use Rattle.line_instance.specs.Line.{Line}
 use Rattle.line_rules.specs.Balance.{all_tasks}
 use Rattle.line_rules.specs.Entries.{HasAnswer}
@@ -65,7 +65,7 @@ abbrev pub IsAnswer : BookView → ℕ → ℕ → Verdict → Type 0
 IsAnswer book most left verdict.Refuted = HasAnswer book.state.entries (all_tasks book.about.line) most book.about.cycle
 IsAnswer book most left verdict.Found = book.state.best.stations ≤ most
 IsAnswer book most left (verdict.Spent frames) =
-    Stops book.about.kind book.about.line book.about.cycle book.state.entries
+    Stops None book.about.kind book.about.line book.about.cycle book.state.entries
     (all_tasks book.about.line) most left frames
     × IsOpenOver book.about.line book.about.cycle book.state.entries frames
 IsAnswer book most left (verdict.NoMemory frames) = Unit {0}

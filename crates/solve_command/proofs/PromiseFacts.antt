@@ -18,7 +18,7 @@ use Rattle.command_outcome.specs.declared.report.Stop.{Stop}
 use Rattle.command_outcome.specs.declared.status.Status.TheVariants as ends
 use Rattle.station_report.specs.InfeasibleText.{infeasible_text}
 use Rattle.solve_command.specs.SolutionText.{optimal_text, stopped_text}
-use Rattle.solve_command.specs.WarmStart.{BeginsWith}
+use Rattle.solve_command.specs.WarmStart.{Start, BeginsWith}
 use Rattle.solve_command.specs.Solution.{IsInfeasible, IsBounded, IsSolution, IsCutShort}
 use Rattle.solve_command.specs.Promise.{HasBounds, HasNone, IsShown, bounds_text}
 
@@ -42,11 +42,11 @@ stop_behind : (first : List ℕ) (kind : LineKind) (lower : ℕ) (b : Assignment
 stop_behind first kind lower b idle l =
     ap (λ (z : List ℕ). first ++ z) (sym (not_chosen (nat_eq lower b.stations) (optimal_text kind b idle) (stopped_text kind lower b idle) (λ e. omega (arith, l, eqb-true lower b.stations e))))
 
-module _ (kind : LineKind) (line : Line) (c : ℕ) (plan : Plan) (olds : Option (List Entry)) where
-  module _ (before : List Entry) (first : List ℕ) (begins : BeginsWith kind line c plan olds before first) where
+module _ (kind : LineKind) (line : Line) (c : ℕ) (plan : Plan) (start : Start) where
+  module _ (before : List Entry) (first : List ℕ) (begins : BeginsWith kind line c plan start before first) where
     -- the bounds of an optimum
     of_optimum : (b : Assignment) (cert : Certificate) → IsOptimumFrom kind line c before b cert
-        → HasBounds kind line c plan olds cert ends.Done (first ++ optimal_text kind b (idle_time line c b.stations))
+        → HasBounds kind line c plan start cert ends.Done (first ++ optimal_text kind b (idle_time line c b.stations))
     of_optimum b cert p = record {
       before = before;
       first = first;
@@ -69,7 +69,7 @@ module _ (kind : LineKind) (line : Line) (c : ℕ) (plan : Plan) (olds : Option 
 
     -- the bounds of a search that used its units
     of_stop : (lower : ℕ) (b : Assignment) (cert : Certificate) → IsStopFrom kind line c plan before lower b cert
-        → HasBounds kind line c plan olds cert ends.Stopped (first ++ stopped_text kind lower b (idle_time line c b.stations))
+        → HasBounds kind line c plan start cert ends.Stopped (first ++ stopped_text kind lower b (idle_time line c b.stations))
     of_stop lower b cert p = record {
       before = before;
       first = first;
@@ -120,10 +120,10 @@ module _ (kind : LineKind) (line : Line) (c : ℕ) (plan : Plan) (olds : Option 
   }
 
   -- a run with bounds is shown by its certificate
-  pub bounds_shown : (name : Option (List ℕ)) (out : Outcome) → IsBounded kind line c plan olds name out
-      → IsShown kind line c plan olds out.status out.text out.kept
+  pub bounds_shown : (name : Option (List ℕ)) (out : Outcome) → IsBounded kind line c plan start name out
+      → IsShown kind line c plan start out.status out.text out.kept
   bounds_shown name out b =
-      let S : Outcome → Type 0 = λ o. IsShown kind line c plan olds o.status o.text o.kept in
+      let S : Outcome → Type 0 = λ o. IsShown kind line c plan start o.status o.text o.kept in
       elim b.found [
         | inl p ↦ subst S (sym p.shown) (record {
           certificate = p.certificate;
@@ -138,16 +138,16 @@ module _ (kind : LineKind) (line : Line) (c : ℕ) (plan : Plan) (olds : Option 
       ]
 
   -- what is answered with a certificate is shown by it
-  pub shown_of : (name : Option (List ℕ)) (out : Outcome) → IsSolution kind line c plan olds name out → IsShown kind line c plan olds out.status out.text out.kept
+  pub shown_of : (name : Option (List ℕ)) (out : Outcome) → IsSolution kind line c plan start name out → IsShown kind line c plan start out.status out.text out.kept
   shown_of name out (inl b) = bounds_shown name out b
   shown_of name out (inr p) =
-      let S : Outcome → Type 0 = λ o. IsShown kind line c plan olds o.status o.text o.kept in
+      let S : Outcome → Type 0 = λ o. IsShown kind line c plan start o.status o.text o.kept in
       subst S (sym p.shown) (record { certificate = p.certificate; keeps = refl; shows = inr (of_refusal name out p) })
 
   -- a run with bounds that came to a report of a search: it has the bounds, or it was stopped
   pub bounded_shown : (r : Result Report Stop)
-      → MatchResult r (λ x. IsBounded kind line c plan olds None (outcome_of x None)) (Stops (IsCutShort kind line c))
-      → MatchResult r (λ x. IsSolution kind line c plan olds None (outcome_of x None)) (Stops (IsCutShort kind line c))
-      × IfOk r (λ x. IsShown kind line c plan olds x.status x.text.items x.kept)
+      → MatchResult r (λ x. IsBounded kind line c plan start None (outcome_of x None)) (Stops (IsCutShort kind line c))
+      → MatchResult r (λ x. IsSolution kind line c plan start None (outcome_of x None)) (Stops (IsCutShort kind line c))
+      × IfOk r (λ x. IsShown kind line c plan start x.status x.text.items x.kept)
   bounded_shown (Ok x) b = (inl b, bounds_shown None (outcome_of x None) b)
   bounded_shown (Err e) b = (b, search rules)

@@ -30,7 +30,7 @@ use Rattle.round_run.specs.declared.solving.Cause.{Cause}
 use Rattle.round_run.specs.declared.solving.Cause.TheVariants as causes
 use Rattle.round_run.specs.declared.solving.Outcome.TheVariants as outcomes
 use Rattle.solve_command.specs.Solution.{certified_by, IsOptimal, IsStopped, IsSolution, IsSolveStatus}
-use Rattle.solve_command.specs.WarmStart.{AreOld, IsUnwarmed}
+use Rattle.solve_command.specs.WarmStart.{Start, AreOld, IsUnwarmed}
 
 one : (a b : Certificate) → Certified a ≡ Certified b → a ≡ b
 one a b e = cc
@@ -42,9 +42,9 @@ again name a b s t x y e =
     ∙ ap (λ z. certified_by name b z x) (ap (λ (o : Outcome). o.status) e)
     ∙ ap (λ z. certified_by name b t z) (ap (λ (o : Outcome). o.text) e)
 
-named : (kind : LineKind) (line : Line) (c : ℕ) (plan : Plan) (olds : Option (List Entry)) (name : Option (List ℕ)) (cert : Certificate) (status : Status) (text : List ℕ)
-    → IsSolution kind line c plan olds None (certified_by None cert status text) → IsSolution kind line c plan olds name (certified_by name cert status text)
-named kind line c plan olds name cert status text (inl b) = inl (record {
+named : (kind : LineKind) (line : Line) (c : ℕ) (plan : Plan) (start : Start) (name : Option (List ℕ)) (cert : Certificate) (status : Status) (text : List ℕ)
+    → IsSolution kind line c plan start None (certified_by None cert status text) → IsSolution kind line c plan start name (certified_by name cert status text)
+named kind line c plan start name cert status text (inl b) = inl (record {
   before = b.before;
   first = b.first;
   begins = b.begins;
@@ -53,26 +53,26 @@ named kind line c plan olds name cert status text (inl b) = inl (record {
     | inr p ↦ inr (record { lower = p.lower; balance = p.balance; certificate = p.certificate; proved = p.proved; shown = again name cert p.certificate status _ text _ p.shown })
   ];
 })
-named kind line c plan olds name cert status text (inr p) =
+named kind line c plan start name cert status text (inr p) =
     inr (record { task = p.task; least = p.least; certificate = p.certificate; proved = p.proved; shown = again name cert p.certificate status _ text _ p.shown })
 
-module _ (kind : LineKind) (line : Line) (c : ℕ) (plan : Plan) (olds : Option (List Entry)) (name : List ℕ) (r : Report) (cert : Certificate) (kept : r.kept ≡ Certified cert)
-    (found : IsSolution kind line c plan olds None (outcome_of r None)) where
-  in_file : IsSolution kind line c plan olds (Some name) (certified_by (Some name) cert r.status r.text.items)
+module _ (kind : LineKind) (line : Line) (c : ℕ) (plan : Plan) (start : Start) (name : List ℕ) (r : Report) (cert : Certificate) (kept : r.kept ≡ Certified cert)
+    (found : IsSolution kind line c plan start None (outcome_of r None)) where
+  in_file : IsSolution kind line c plan start (Some name) (certified_by (Some name) cert r.status r.text.items)
   in_file =
-      let P : Kept → Type 0 = λ k. IsSolution kind line c plan olds None (record { status = r.status; text = r.text.items; page = None; kept = k }) in
-      named kind line c plan olds (Some name) cert r.status r.text.items (subst P kept found)
+      let P : Kept → Type 0 = λ k. IsSolution kind line c plan start None (record { status = r.status; text = r.text.items; page = None; kept = k }) in
+      named kind line c plan start (Some name) cert r.status r.text.items (subst P kept found)
 
   -- the certificate is written
   pub comes : (files mid after : Files) (blames : List ℕ → Bool) → Stay files mid → after name ≡ Some (cert_text cert) → ((q : List ℕ) → q ≢ name → after q ≡ mid q)
-      → Comes (outside files blames) (IsSolution kind line c plan olds (Some name)) after r
+      → Comes (outside files blames) (IsSolution kind line c plan start (Some name)) after r
   comes files mid after blames same written others =
-      let P : Kept → Type 0 = λ k. IsSolution kind line c plan olds (Some name) (record { status = r.status; text = r.text.items; page = Some (record { name = name; bytes = cert_text cert }); kept = k }) in
+      let P : Kept → Type 0 = λ k. IsSolution kind line c plan start (Some name) (record { status = r.status; text = r.text.items; page = Some (record { name = name; bytes = cert_text cert }); kept = k }) in
       record { page = Some (record { name = name; bytes = cert_text cert }); reached = subst P (sym kept) in_file; written = (written, λ q n. others q n ∙ same q) }
 
   -- the certificate could not be written
   pub cut : (files mid after : Files) (blames : List ℕ → Bool) → Stay files mid → blames name ≡ true → IsPrefixWritten (mid name) (cert_text cert) (after name) → ((q : List ℕ) → q ≢ name → after q ≡ mid q)
-      → IsCut (outside files blames) (IsSolution kind line c plan olds (Some name)) after
+      → IsCut (outside files blames) (IsSolution kind line c plan start (Some name)) after
   cut files mid after blames same blamed prefix others = record {
     outcome = certified_by (Some name) cert r.status r.text.items;
     reached = in_file;
@@ -84,14 +84,14 @@ module _ (kind : LineKind) (line : Line) (c : ℕ) (plan : Plan) (olds : Option 
   }
 
 -- the certificate of what is found can be said by a text
-pub sayable : (kind : LineKind) (line : Line) (c : ℕ) (plan : Plan) (olds : Option (List Entry)) (r : Report) (cert : Certificate) → r.kept ≡ Certified cert → IsSolution kind line c plan olds None (outcome_of r None) → IsInRange cert
-sayable kind line c plan olds r cert e (inl b) =
+pub sayable : (kind : LineKind) (line : Line) (c : ℕ) (plan : Plan) (start : Start) (r : Report) (cert : Certificate) → r.kept ≡ Certified cert → IsSolution kind line c plan start None (outcome_of r None) → IsInRange cert
+sayable kind line c plan start r cert e (inl b) =
     let R : Certificate → Type 0 = IsInRange in
     elim b.found [
       | inl p ↦ subst R (one p.certificate cert (sym (ap (λ (o : Outcome). o.kept) p.shown) ∙ e)) p.proved.certified.sayable
       | inr p ↦ subst R (one p.certificate cert (sym (ap (λ (o : Outcome). o.kept) p.shown) ∙ e)) p.proved.certified.sayable
     ]
-sayable kind line c plan olds r cert e (inr p) = (let R : Certificate → Type 0 = IsInRange in subst R (one p.certificate cert (sym (ap (λ (o : Outcome). o.kept) p.shown) ∙ e)) p.proved.sayable)
+sayable kind line c plan start r cert e (inr p) = (let R : Certificate → Type 0 = IsInRange in subst R (one p.certificate cert (sym (ap (λ (o : Outcome). o.kept) p.shown) ∙ e)) p.proved.sayable)
 
 -- the text of a search that used its units, of the balance that is the best
 pub stopped_as : (text first : List ℕ) (kind : LineKind) (line : Line) (c lower : ℕ) (b best : Assignment) (idle : ℕ)
@@ -156,12 +156,12 @@ unwarmed_in files mid blames (Some name) kind line out same (inr s) =
     inr (s.0, (subst P (same name) s.1.0, s.1.1))
 
 -- a report that was handed on, with its certificate in the file, is what was promised
-pub promised : (files after : Files) (file : List ℕ) (apart warm : Option (List ℕ)) (word : Option ℕ) (kind : LineKind) (plan : Plan) (name : List ℕ) (line : Line) (c : ℕ) (olds : Option (List Entry)) (report : Report) (r : Result Report Stop)
-    → IsSaid files file apart word line c → AreOld files warm kind line olds → IsShown kind line c plan olds report.status report.text.items report.kept
+pub promised : (files after : Files) (file : List ℕ) (apart warm : Option (List ℕ)) (seek : ℕ) (word : Option ℕ) (kind : LineKind) (plan : Plan) (name : List ℕ) (line : Line) (c : ℕ) (olds : Option (List Entry)) (report : Report) (r : Result Report Stop)
+    → IsSaid files file apart word line c → AreOld files warm kind line olds → IsShown kind line c plan (record { olds = olds; seek = seek }) report.status report.text.items report.kept
     → IfOk r (λ x. x ≡ report) → IfOk r (λ x. (cert : Certificate) → x.kept ≡ Certified cert → HasCertificate (Some name) after cert)
-    → IfOk r (λ x. IsPromised files after file apart warm word kind plan (Some name) x.status x.text.items x.kept)
-promised files after file apart warm word kind plan name line c olds report (Ok x) said old shown same written =
-    let S : Report → Type 0 = λ y. IsShown kind line c plan olds y.status y.text.items y.kept in
+    → IfOk r (λ x. IsPromised files after file apart warm seek word kind plan (Some name) x.status x.text.items x.kept)
+promised files after file apart warm seek word kind plan name line c olds report (Ok x) said old shown same written =
+    let S : Report → Type 0 = λ y. IsShown kind line c plan (record { olds = olds; seek = seek }) y.status y.text.items y.kept in
     let here = subst S (sym same) shown in
     record { line = line; c = c; said = said; olds = olds; old = old; shown = here; written = written here.certificate here.keeps }
-promised files after file apart warm word kind plan name line c olds report (Err e) said old shown same written = search rules
+promised files after file apart warm seek word kind plan name line c olds report (Err e) said old shown same written = search rules

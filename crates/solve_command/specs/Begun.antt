@@ -1,17 +1,36 @@
 -- The book with which a run begins, and the first line of its text.
-use Rattle.std.specs.Prelude.{◌≡◌, ℕ, List, Option}
+use Rattle.std.specs.Prelude.{◌≡◌, ℕ, List, ◌++◌, Option}
 use Rattle.line_instance.specs.Line.{Line}
 use Rattle.line_rules.specs.declared.types.LineKind.{LineKind}
 use Rattle.line_rules.specs.declared.types.Entry.{Entry}
 use Rattle.lemma_core.specs.Books.{BookView, IsReserved}
 use Rattle.run_certificates.specs.Certified.{LeaveRoom}
 use Rattle.round_run.specs.declared.plans.Plan.{Plan}
-use Rattle.solve_command.specs.WarmStart.{BeginsWith}
+use Rattle.solve_command.specs.WarmStart.{Start, TakesOld, TakesSought, BeginsWith}
+use Rattle.warm_book.specs.Warm.{Taking}
+use Rattle.solve_command.specs.declared.warm_start.Taken.{Taken}
 
 -- the book is about the line, has room for offers, and begins with such entries that a certificate has room for all
-pub record IsBegun (kind : LineKind) (line : Line) (c : ℕ) (plan : Plan) (olds : Option (List Entry)) (book : BookView)
+pub record IsBegun (kind : LineKind) (line : Line) (c : ℕ) (plan : Plan) (start : Start) (book : BookView)
     (first : List ℕ) : Type 0 where
-  pub begins : BeginsWith kind line c plan olds book.state.entries first
+  pub begins : BeginsWith kind line c plan start book.state.entries first
   pub about : book.about ≡ record { line = line; kind = kind; cycle = c }
   pub reserved : IsReserved book
   pub room : LeaveRoom line plan.units book.state.entries
+
+-- the book took in the old entries, where there are any: it kept so many, with so many units, and the line says so
+pub record IsTaken (N : ℕ) (book : BookView) (olds : Option (List Entry)) (taken : Taken) (said : List ℕ) : Type 0 where
+  pub at : Taking
+  pub took : TakesOld N book olds at said
+  pub same_book : at.book ≡ taken.book
+  pub same_kept : at.kept ≡ taken.kept
+  pub same_units : at.units ≡ taken.units
+
+-- a book that took in old entries took in the lemmas of a seek, and this is the text with the line of the seek behind it
+pub record HasSoughtBehind (N limit : ℕ) (at : Taking) (book : BookView) (before first : List ℕ) : Type 0 where
+  pub end : Taking
+  pub said : List ℕ
+  pub sought : TakesSought N limit at end said
+  pub entries : book.state.entries ≡ end.book.state.entries
+  pub about : book.about ≡ end.book.about
+  pub behind : first ≡ before ++ said

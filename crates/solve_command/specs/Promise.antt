@@ -28,7 +28,7 @@ use Rattle.command_outcome.specs.declared.status.Status.{Status}
 use Rattle.command_outcome.specs.declared.status.Status.TheVariants as ends
 use Rattle.input_files.specs.Instance.{IsSaid}
 use Rattle.station_report.specs.InfeasibleText.{infeasible_text}
-use Rattle.solve_command.specs.WarmStart.{AreOld, BeginsWith}
+use Rattle.solve_command.specs.WarmStart.{AreOld, Start, BeginsWith}
 use Rattle.solve_command.specs.SolutionText.{optimal_text, stopped_text}
 
 -- the printed text of bounds: the optimum where they are equal, and both where they differ
@@ -59,11 +59,11 @@ pub record AreSpent (line : Line) (c : ℕ) (plan : Plan) (before es : List Entr
 -- the units of the plan were spent on loads that the certificate lists, and status 1 says so; where they are equal they are
 -- the least number of stations; and they are equal where the units are at least (n + 1) x 3^n for n tasks, and on a U-line
 -- (n + 1) x 4^n.
-pub record HasBounds (kind : LineKind) (line : Line) (c : ℕ) (plan : Plan) (olds : Option (List Entry)) (certificate : Certificate) (status : Status) (text : List ℕ)
+pub record HasBounds (kind : LineKind) (line : Line) (c : ℕ) (plan : Plan) (start : Start) (certificate : Certificate) (status : Status) (text : List ℕ)
     : Type 0 where
   pub before : List Entry
   pub first : List ℕ
-  pub begins : BeginsWith kind line c plan olds before first
+  pub begins : BeginsWith kind line c plan start before first
   pub lower : ℕ
   pub balance : Assignment
   pub entries : List Entry
@@ -96,19 +96,19 @@ HasCertificate None after certificate = Unit {0}
 HasCertificate (Some name) after certificate = after name ≡ Some (cert_text certificate)
 
 -- what is printed is shown by a certificate, which is kept
-pub record IsShown (kind : LineKind) (line : Line) (c : ℕ) (plan : Plan) (olds : Option (List Entry)) (status : Status) (text : List ℕ) (kept : Kept) : Type 0 where
+pub record IsShown (kind : LineKind) (line : Line) (c : ℕ) (plan : Plan) (start : Start) (status : Status) (text : List ℕ) (kept : Kept) : Type 0 where
   pub certificate : Certificate
   pub keeps : kept ≡ Certified certificate
-  pub shows : HasBounds kind line c plan olds certificate status text ⊎ HasNone kind line c certificate status text
+  pub shows : HasBounds kind line c plan start certificate status text ⊎ HasNone kind line c certificate status text
 
 -- The promise of `solve` for the line, the cycle and the old entries that the files say: what is printed is shown by a
 -- certificate, which is kept, and written where the words name a file.
-pub record IsPromised (files after : Files) (file : List ℕ) (apart warm : Option (List ℕ)) (word : Option ℕ) (kind : LineKind) (plan : Plan)
-    (name : Option (List ℕ)) (status : Status) (text : List ℕ) (kept : Kept) : Type 0 where
+pub record IsPromised (files after : Files) (file : List ℕ) (apart warm : Option (List ℕ)) (seek : ℕ)
+    (word : Option ℕ) (kind : LineKind) (plan : Plan) (name : Option (List ℕ)) (status : Status) (text : List ℕ) (kept : Kept) : Type 0 where
   pub line : Line
   pub c : ℕ
   pub said : IsSaid files file apart word line c
   pub olds : Option (List Entry)
   pub old : AreOld files warm kind line olds
-  pub shown : IsShown kind line c plan olds status text kept
+  pub shown : IsShown kind line c plan (record { olds = olds; seek = seek }) status text kept
   pub written : HasCertificate name after shown.certificate

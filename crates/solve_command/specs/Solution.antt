@@ -18,7 +18,7 @@ use Rattle.command_outcome.specs.declared.status.Status.{Status}
 use Rattle.command_outcome.specs.declared.status.Status.TheVariants as ends
 use Rattle.input_files.specs.Instance.{IsSaid, IsUnsaid}
 use Rattle.station_report.specs.InfeasibleText.{infeasible_text}
-use Rattle.solve_command.specs.WarmStart.{AreOld, IsUnwarmed, BeginsWith}
+use Rattle.solve_command.specs.WarmStart.{AreOld, IsUnwarmed, Start, BeginsWith}
 use Rattle.solve_command.specs.SolutionText.{optimal_text, stopped_text, cut_short_text}
 
 -- the page of a certificate: its text in the file that the words name, where they name one
@@ -59,16 +59,16 @@ pub record IsInfeasible (kind : LineKind) (line : Line) (c : ℕ) (name : Option
 
 -- A run was made: it began with these entries, and its text with this line, where there are old entries; and it found the
 -- optimum, or its units ended.
-pub record IsBounded (kind : LineKind) (line : Line) (c : ℕ) (plan : Plan) (olds : Option (List Entry))
+pub record IsBounded (kind : LineKind) (line : Line) (c : ℕ) (plan : Plan) (start : Start)
     (name : Option (List ℕ)) (out : Outcome) : Type 0 where
   pub before : List Entry
   pub first : List ℕ
-  pub begins : BeginsWith kind line c plan olds before first
+  pub begins : BeginsWith kind line c plan start before first
   pub found : IsOptimal kind line c before first name out ⊎ IsStopped kind line c plan before first name out
 
 -- what is found with a certificate
-abbrev pub IsSolution : LineKind → Line → ℕ → Plan → Option (List Entry) → Option (List ℕ) → Outcome → Type 0
-IsSolution kind line c plan olds name out = IsBounded kind line c plan olds name out ⊎ IsInfeasible kind line c name out
+abbrev pub IsSolution : LineKind → Line → ℕ → Plan → Start → Option (List ℕ) → Outcome → Type 0
+IsSolution kind line c plan start name out = IsBounded kind line c plan start name out ⊎ IsInfeasible kind line c name out
 
 -- a run with a certificate is done, or its units ended
 abbrev pub IsSolveStatus : Status → Type 0
@@ -83,13 +83,14 @@ pub record IsCutShort (kind : LineKind) (line : Line) (c : ℕ) (out : Outcome) 
   pub shown : out ≡ told ends.Memory (cut_short_text lower upper)
 
 -- the files say the line, the cycle time and the old entries, where there are any, and this is answered of them
-pub record IsAnswered (files : Files) (file : List ℕ) (apart warm : Option (List ℕ)) (word : Option ℕ) (kind : LineKind) (plan : Plan) (name : Option (List ℕ)) (out : Outcome) : Type 0 where
+pub record IsAnswered (files : Files) (file : List ℕ) (apart warm : Option (List ℕ)) (seek : ℕ)
+    (word : Option ℕ) (kind : LineKind) (plan : Plan) (name : Option (List ℕ)) (out : Outcome) : Type 0 where
   pub line : Line
   pub c : ℕ
   pub said : IsSaid files file apart word line c
   pub olds : Option (List Entry)
   pub old : AreOld files warm kind line olds
-  pub answer : IsSolution kind line c plan olds name out ⊎ IsCutShort kind line c out
+  pub answer : IsSolution kind line c plan (record { olds = olds; seek = seek }) name out ⊎ IsCutShort kind line c out
 
 -- the files say the line and the cycle time, and the file of the old certificate says none to begin with
 pub record IsSaidUnwarmed (o : Outside) (file : List ℕ) (apart warm : Option (List ℕ)) (word : Option ℕ) (kind : LineKind) (out : Outcome) : Type 0 where
@@ -100,7 +101,7 @@ pub record IsSaidUnwarmed (o : Outside) (file : List ℕ) (apart warm : Option (
 
 -- What `solve` comes to with so many helpers and units: an answer; why the files say no line with a cycle time; or why the
 -- old certificate is refused. A later file is named only where the earlier ones were read.
-abbrev pub IsSolveOutcome : Outside → List ℕ → Option (List ℕ) → Option (List ℕ) → Option ℕ → LineKind → Plan → Option (List ℕ) → Outcome → Type 0
-IsSolveOutcome o file apart warm word kind plan name out =
-    IsAnswered o.files file apart warm word kind plan name out ⊎ IsUnsaid o file apart word out
+abbrev pub IsSolveOutcome : Outside → List ℕ → Option (List ℕ) → Option (List ℕ) → ℕ → Option ℕ → LineKind → Plan → Option (List ℕ) → Outcome → Type 0
+IsSolveOutcome o file apart warm seek word kind plan name out =
+    IsAnswered o.files file apart warm seek word kind plan name out ⊎ IsUnsaid o file apart word out
     ⊎ IsSaidUnwarmed o file apart warm word kind out

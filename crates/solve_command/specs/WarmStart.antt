@@ -1,5 +1,5 @@
 -- What a run begins with: the old entries that a file says, why it says none, and which of them the run keeps.
-use Rattle.std.specs.Prelude.{◌≡◌, ◌≢◌, ◌⊎◌, ℕ, ◌-◌, ◌*◌, List, [], length, ◌++◌, Option, Some, None, codes, decimal}
+use Rattle.std.specs.Prelude.{◌≡◌, ◌≢◌, ◌⊎◌, ℕ, zero, suc, max, ◌-◌, ◌*◌, List, [], length, ◌++◌, Option, Some, None, codes, decimal}
 use Rattle.line_instance.specs.Line.{Line, tasks}
 use Rattle.line_rules.specs.Ranked.{IsRankedBalance}
 use Rattle.line_rules.specs.declared.types.LineKind.{LineKind}
@@ -10,6 +10,7 @@ use Rattle.line_rules.specs.declared.types.Claim.TheVariants as claim
 use Rattle.line_rules.specs.declared.types.Certificate.{Certificate}
 use Rattle.lemma_core.specs.Books.{BookView}
 use Rattle.warm_book.specs.Warm.{Taking, TakesAll, untaken}
+use Rattle.line_seek.specs.Seeking.{HasSought}
 use Rattle.round_run.specs.declared.plans.Plan.{Plan}
 use Rattle.command_outcome.specs.Outcome.{Files, Outside, Outcome, told}
 use Rattle.command_outcome.specs.declared.status.Status.TheVariants as ends
@@ -62,21 +63,58 @@ old_room N = 6000000 - 2 * N
 abbrev pub warm_line : ℕ → ℕ → List ℕ
 warm_line kept all = codes "warm " ++ decimal kept ++ codes " of " ++ decimal all ++ codes "\n"
 
--- Entries that an empty book with the ranked balance has after it took in the old ones, and the line that says how many
--- were kept.
-pub record IsWarm (kind : LineKind) (line : Line) (c : ℕ) (plan : Plan) (old before : List Entry) (first : List ℕ)
-    : Type 0 where
-  pub book : BookView
+-- with what a run begins: old entries, where there are any, and a seek that may list so many loads
+pub record Start : Type 0 where
+  pub olds : Option (List Entry)
+  pub seek : ℕ
+
+-- an empty book about the line, with the ranked balance
+pub record IsOpened (kind : LineKind) (line : Line) (c : ℕ) (book : BookView) : Type 0 where
   pub best : Assignment
   pub ranked : IsRankedBalance kind line c best
   pub about : book.about ≡ record { line = line; kind = kind; cycle = c }
   pub state : book.state ≡ record { entries = []; best = best }
-  pub end : Taking
-  pub taken : TakesAll (old_room plan.units) (untaken book) old end
-  pub entries : end.book.state.entries ≡ before
-  pub said : first ≡ warm_line end.kept (length old)
 
--- the entries with which a run begins, and the first line of its text: none, where there are no old entries
-abbrev pub BeginsWith : LineKind → Line → ℕ → Plan → Option (List Entry) → List Entry → List ℕ → Type 0
-BeginsWith kind line c plan None before first = (before ≡ []) × (first ≡ [])
-BeginsWith kind line c plan (Some old) before first = IsWarm kind line c plan old before first
+-- the book takes in the old entries, where there are any, and this line says how many were kept
+abbrev pub TakesOld : ℕ → BookView → Option (List Entry) → Taking → List ℕ → Type 0
+TakesOld N book None end said = (end ≡ untaken book) × (said ≡ [])
+TakesOld N book (Some old) end said =
+    TakesAll (old_room N) (untaken book) old end × (said ≡ warm_line end.kept (length old))
+
+-- the room for the lemmas of a seek, and for their units: what the kept old entries and their units leave
+abbrev pub seek_room : ℕ → Taking → ℕ
+seek_room N at = old_room N - max at.kept at.units
+
+-- the line that says how many loads a seek listed, and how many of its lemmas were kept
+abbrev pub seek_line : ℕ → ℕ → ℕ → List ℕ
+seek_line used limit kept =
+    codes "seek used " ++ decimal used ++ codes " of " ++ decimal limit ++ codes " kept " ++ decimal kept ++ codes "\n"
+
+-- A book that took in old entries takes in the lemmas of a seek over it, and this line says how many were kept.
+pub record TakesSought (N limit : ℕ) (at end : Taking) (said : List ℕ) : Type 0 where
+  pub best : Assignment
+  pub lemmas : List Entry
+  pub used : ℕ
+  pub sought : HasSought at.book limit best lemmas used
+  pub taken : TakesAll (seek_room N at) (untaken at.book) lemmas end
+  pub said_so : said ≡ seek_line used limit end.kept
+
+-- the same where the words ask for a seek; else the book stays, and there is no line
+abbrev pub Seeks : ℕ → ℕ → Taking → Taking → List ℕ → Type 0
+Seeks N zero at end said = (end ≡ at) × (said ≡ [])
+Seeks N (suc loads) at end said = TakesSought N (suc loads) at end said
+
+-- The entries with which a run begins, and the first lines of its text: those that an empty book with the ranked balance has
+-- after it took in the old entries and the lemmas of a seek.
+pub record BeginsWith (kind : LineKind) (line : Line) (c : ℕ) (plan : Plan) (start : Start) (before : List Entry)
+    (first : List ℕ) : Type 0 where
+  pub book : BookView
+  pub opened : IsOpened kind line c book
+  pub at : Taking
+  pub warm_said : List ℕ
+  pub took : TakesOld plan.units book start.olds at warm_said
+  pub end : Taking
+  pub seek_said : List ℕ
+  pub seeks : Seeks plan.units start.seek at end seek_said
+  pub entries : end.book.state.entries ≡ before
+  pub said : first ≡ warm_said ++ seek_said

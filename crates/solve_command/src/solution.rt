@@ -20,6 +20,7 @@ ghost use Rattle.command_outcome.specs.Outcome.{Files, Ends, MayEnd, Stay, Stops
 ghost use Rattle.command_outcome.specs.declared.status.Status.TheVariants as ends;
 ghost use Rattle.command_outcome.specs.declared.report.Stop.TheVariants.{Unwritten};
 ghost use Rattle.solve_command.specs.Begun.{IsBegun};
+ghost use Rattle.solve_command.specs.WarmStart.{Start};
 ghost use Rattle.solve_command.specs.Promise.{HasCertificate, IsPromised, IsShown};
 ghost use Rattle.solve_command.specs.Solution.{IsOptimal, IsStopped, IsInfeasible, IsBounded, IsSolution, IsCutShort, IsSolveOutcome, IsSolveStatus};
 
@@ -155,11 +156,11 @@ fn run<R: Threads + Wait + Sync, G: Gate>(
     requires fits { FitsAll inst.now cycle }
     requires plan { IsPlan plan.now }
     requires room { string_bytes room ≡ [] }
-    requires begun { (olds : Option (List Lemma))
-        × IsBegun kind inst.now cycle plan.now olds begun.book (string_bytes begun.first) }
-    ensures answer { (olds : Option (List Lemma))
-        → IsBegun kind inst.now cycle plan.now olds begun.book (string_bytes begun.first)
-        → MatchResult result (λ r. IsBounded kind inst.now cycle plan.now olds None (outcome_of r None))
+    requires begun { (start : Start)
+        × IsBegun kind inst.now cycle plan.now start begun.book (string_bytes begun.first) }
+    ensures answer { (start : Start)
+        → IsBegun kind inst.now cycle plan.now start begun.book (string_bytes begun.first)
+        → MatchResult result (λ r. IsBounded kind inst.now cycle plan.now start None (outcome_of r None))
         (Stops (IsCutShort kind inst.now cycle)) }
     ensures good { IfOk result (λ r. IsSolveStatus r.status) }
     ensures fault { MatchResult result (λ _. Unit {0}) (MayStop ⊥) }
@@ -189,16 +190,19 @@ fn solution<R: Threads + Wait + Sync, G: Gate>(
     kind: LineKind,
     cycle: u64,
     olds: Option<Entries>,
+    limit: u64,
     plan: &Plan,
     gate: &G,
 ) -> Result<Report, Stop>
     requires cycle { IsCycle cycle }
+    requires limit { limit ≤ 3000000 }
     requires plan { IsPlan plan.now }
     requires range { ForSome olds (AreEntries (tasks inst.now)) }
     ensures answer { MatchResult result
-        (λ r. IsSolution kind inst.now cycle plan.now olds None (outcome_of r None))
+        (λ r. IsSolution kind inst.now cycle plan.now (record { olds = olds; seek = limit }) None (outcome_of r None))
         (Stops (IsCutShort kind inst.now cycle)) }
-    ensures shown { IfOk result (λ r. IsShown kind inst.now cycle plan.now olds r.status r.text.items r.kept) }
+    ensures shown { let start : Start = record { olds = olds; seek = limit } in
+        IfOk result (λ r. IsShown kind inst.now cycle plan.now start r.status r.text.items r.kept) }
     ensures good { IfOk result (λ r. IsSolveStatus r.status) }
     ensures fault { MatchResult result (λ _. Unit {0}) (MayStop ⊥) }
 {
@@ -208,7 +212,7 @@ fn solution<R: Threads + Wait + Sync, G: Gate>(
         Ranked::TooLong(task) => return Ok(infeasible(alloc, inst, kind, cycle, task)?),
         Ranked::NoMemory => return Err(Stop::Memory),
     };
-    let begun = begin(rt, alloc, inst, kind, cycle, best, olds, plan)?;
+    let begun = begin(rt, alloc, inst, kind, cycle, best, olds, limit, plan)?;
     run(rt, alloc, inst, kind, cycle, begun, plan, gate, room)
 }
 
@@ -221,9 +225,9 @@ fn written<S: Shelf>(
 ) -> Result<Report, Stop>
     requires sayable { (certificate : Proof) → report.kept ≡ Certified certificate → IsInRange certificate }
     ensures ends { S.tells → (files : Files) → Stay files (S.file shelf.old)
-        → (kind : Kind) (line : Line) (c : ℕ) (plan : PlanOf) (olds : Option (List Lemma))
-        → IsSolution kind line c plan olds None (outcome_of report None)
-        → Ends (outside files (S.blames shelf.new)) (IsSolution kind line c plan olds (Some name.now)) (S.file shelf.new) result }
+        → (kind : Kind) (line : Line) (c : ℕ) (plan : PlanOf) (start : Start)
+        → IsSolution kind line c plan start None (outcome_of report None)
+        → Ends (outside files (S.blames shelf.new)) (IsSolution kind line c plan start (Some name.now)) (S.file shelf.new) result }
     ensures same { IfOk result (λ r. r ≡ report) }
     ensures certificate { S.tells → IfOk result (λ r. (cert : Proof) → r.kept ≡ Certified cert → HasCertificate (Some name.now) (S.file shelf.new) cert) }
     ensures fault { MatchResult result (λ _. Unit {0}) (MayEnd (Rises (S.faults shelf.old) (S.faults shelf.new))) }
@@ -240,14 +244,15 @@ fn written<S: Shelf>(
 }
 
 /// The report of `solve` for the file of an instance, the file of the tasks that are apart, where there is one, the file of an
-/// old certificate with whose entries the run begins, where there is one, the cycle time of the words, where they have one,
-/// the kind of line, the plan, and the name of the file that the certificate is written to, where there is one.
+/// old certificate with whose entries the run begins, where there is one, the loads of a seek before the run, 0 for none, the
+/// cycle time of the words, where they have one, the kind of line, the plan, and the name of the file that the certificate is written to, where there is one.
 pub fn solve_report<R: Threads + Wait + Sync, S: Shelf, G: Gate>(
     rt: &R,
     alloc: Global,
     file: &str,
     apart: Option<&str>,
     warm: Option<&str>,
+    limit: u64,
     word: Option<u64>,
     kind: LineKind,
     plan: &Plan,
@@ -256,18 +261,29 @@ pub fn solve_report<R: Threads + Wait + Sync, S: Shelf, G: Gate>(
     gate: &G,
 ) -> Result<Report, Stop>
     requires word { IsSetBetween 1 1000000000000000000 word }
+    requires limit { limit ≤ 3000000 }
     requires plan { IsPlan plan.now }
     ensures ends { S.tells → (let o = outside (S.file shelf.old) (S.blames shelf.new) in
-        Ends o (IsSolveOutcome o file.now (option_map (λ a. a.now) apart.entry) (option_map (λ a. a.now) warm.entry) word kind plan.now (option_map (λ a. a.now) name.entry)) (S.file shelf.new) result) }
+        Ends o (IsSolveOutcome o file.now (option_map (λ a. a.now) apart.entry) (option_map (λ a. a.now) warm.entry) limit word kind plan.now (option_map (λ a. a.now) name.entry)) (S.file shelf.new) result) }
     ensures good { IfOk result (λ r. IsSolveStatus r.status) }
     ensures fault { MatchResult result (λ _. Unit {0}) (MayEnd (Rises (S.faults shelf.old) (S.faults shelf.new))) }
     ensures unwritten { result ≡ Err Unwritten → (n : List ℕ) × (option_map (λ a. a.now) name.entry ≡ Some n) }
     ensures promise { S.tells → IfOk result (λ r.
-        IsPromised (S.file shelf.old) (S.file shelf.new) file.now (option_map (λ a. a.now) apart.entry) (option_map (λ a. a.now) warm.entry) word kind plan.now (option_map (λ a. a.now) name.entry) r.status r.text.items r.kept) }
+        IsPromised (S.file shelf.old) (S.file shelf.new) file.now (option_map (λ a. a.now) apart.entry) (option_map (λ a. a.now) warm.entry) limit word kind plan.now (option_map (λ a. a.now) name.entry) r.status r.text.items r.kept) }
 {
     let timed = said_instance(alloc, file, apart, word, shelf)?;
     let olds = old_entries(alloc, warm, &timed.inst, kind, shelf)?;
-    let report = solution(rt, alloc, &timed.inst, kind, timed.cycle, olds, plan, gate)?;
+    let report = solution(
+        rt,
+        alloc,
+        &timed.inst,
+        kind,
+        timed.cycle,
+        olds,
+        limit,
+        plan,
+        gate,
+    )?;
     match name {
         None => Ok(report),
         Some(name) => written(alloc, shelf, name, report),

@@ -1,21 +1,24 @@
-//! What a run begins with: the entries of an old certificate, where the words name one, and the book that takes them in.
+//! What a run begins with: the entries of an old certificate, where the words name one, and the lemmas and the balance of a
+//! seek, where they ask for one; and the book that takes them in.
 //!
 //! The old entries are read whole, checked side by side on the line as it is, and given up before the search. A run
 //! with N units takes at most 6,000,000 - 2N of them, with as many units, so that its certificate stays within the default
 //! steps of the check.
-ghost use Rattle.std.specs.Prelude.{◌≡◌, ◌≤◌, ◌↔◌, ℕ, List, [], Some, None, IfOk, IsTrue, MatchResult, string_bytes, option_map};
+ghost use Rattle.std.specs.Prelude.{◌≡◌, ◌≤◌, ◌↔◌, ℕ, List, ◌++◌, [], Some, None, IfOk, IsTrue, MatchResult, string_bytes, option_map};
 ghost use Rattle.std.specs.Option.{ForSome};
 ghost use Rattle.line_io.specs.Outside.{Rises};
 ghost use Rattle.line_instance.specs.Line.{tasks};
 ghost use Rattle.line_rules.specs.Ranges.{AreEntries, IsCycle, IsInRange};
 ghost use Rattle.line_rules.specs.Ranked.{IsRankedBalance};
 ghost use Rattle.line_rules.specs.declared.types.Certificate.{Certificate as Proof};
-ghost use Rattle.lemma_core.specs.Books.{MayBeBest};
+ghost use Rattle.lemma_core.specs.Books.{IsReserved, MayBeBest};
 ghost use Rattle.command_outcome.specs.Outcome.{Stops, MayStop, outside};
 ghost use Rattle.input_files.specs.Certificate.{IsCertificateOf};
 ghost use Rattle.round_run.specs.Plans.{IsPlan};
 ghost use Rattle.solve_command.specs.WarmStart.{AreOld, IsOldOf, IsOther, IsUnwarmed, entries_of, tasks_line, warm_line};
-ghost use Rattle.solve_command.specs.Begun.{IsBegun};
+ghost use Rattle.solve_command.specs.WarmStart.{Start, old_room, seek_line};
+ghost use Rattle.warm_book.specs.Warm.{Taking};
+ghost use Rattle.solve_command.specs.Begun.{IsBegun, IsTaken, HasSoughtBehind};
 
 use command_outcome::{Status, Stop, refuse};
 use input_files::certificate_of;
@@ -23,10 +26,11 @@ use lemma_core::Book;
 use line_instance::Instance;
 use line_io::Shelf;
 use line_rules::{Balance, Certificate, Claim, Entries, LineKind};
+use line_seek::{Sought, seek};
 use round_run::{Plan, open_book};
 use std::alloc::{AllocError, Global};
 use std::thread::Threads;
-use warm_book::{Warmed, warm_wide};
+use warm_book::{Counted, Warmed, warm_counted, warm_wide};
 
 /// The units that a run and its old entries have together at most.
 const MOST_UNITS: u64 = 6_000_000;
@@ -36,6 +40,15 @@ const MOST_UNITS: u64 = 6_000_000;
 pub(crate) struct Begun {
     pub book: Book,
     pub first: String,
+}
+
+/// A book that took in old entries: how many it kept, with so many units, and the line that says so, where there were any.
+#[derive(Drop)]
+struct Taken {
+    book: Book,
+    kept: u32,
+    units: u64,
+    first: String,
 }
 
 /// The line about a certificate of another number of tasks.
@@ -145,7 +158,98 @@ pub(crate) fn old_entries<S: Shelf>(
     Ok(Some(old))
 }
 
-/// The book with which a run begins: empty but for the old entries that it takes in, and with the ranked balance.
+/// An empty book, with the ranked balance, that takes in old entries, where there are any.
+fn take_olds<R: Threads + Sync>(
+    rt: &R,
+    alloc: Global,
+    inst: &Instance,
+    book: Book,
+    olds: Option<Entries>,
+    plan: &Plan,
+) -> Result<Taken, AllocError>
+    requires same { book.about.line ≡ inst.now }
+    requires range { ForSome olds (AreEntries (tasks inst.now)) }
+    requires plan { IsPlan plan.now }
+    requires reserved { IsReserved book }
+    ensures taken { IfOk result (λ t. IsTaken plan.now.units book olds t (string_bytes t.first)) }
+    ensures about { IfOk result (λ t. t.book.about ≡ book.about) }
+    ensures reserved { IfOk result (λ t. IsReserved t.book) }
+{
+    let Some(old) = olds else {
+        return Ok(Taken {
+            book,
+            kept: 0,
+            units: 0,
+            first: String::new(alloc),
+        });
+    };
+    let room = MOST_UNITS - 2 * plan.units;
+    match warm_counted(rt, alloc, inst, book, &old, room) {
+        Counted::Done { book, kept, units } => {
+            let first = warm_line(alloc, kept, old.len())?;
+            Ok(Taken {
+                book,
+                kept,
+                units,
+                first,
+            })
+        }
+        Counted::NoMemory(_) => Err(AllocError),
+    }
+}
+
+/// The book after a seek of so many loads, whose lemmas it takes in and whose balance it is offered.
+fn take_sought<R: Threads + Sync>(
+    rt: &R,
+    alloc: Global,
+    inst: &Instance,
+    taken: Taken,
+    limit: u64,
+    plan: &Plan,
+) -> Result<Begun, AllocError>
+    requires same { taken.book.about.line ≡ inst.now }
+    requires cycle { IsCycle taken.book.about.cycle }
+    requires limit { limit ≤ 3000000 }
+    requires plan { IsPlan plan.now }
+    requires reserved { IsReserved taken.book }
+    requires kept { taken.kept ≤ old_room plan.now.units }
+    requires units { taken.units ≤ old_room plan.now.units }
+    ensures sought { (at : Taking) → at.book ≡ taken.book → at.kept ≡ taken.kept → at.units ≡ taken.units
+        → IfOk result (λ b. HasSoughtBehind plan.now.units limit at b.book (string_bytes taken.first) (string_bytes b.first)) }
+    ensures about { IfOk result (λ b. b.book.about ≡ taken.book.about) }
+    ensures reserved { IfOk result (λ b. IsReserved b.book) }
+{
+    let Taken {
+        book,
+        kept,
+        units,
+        first,
+    } = taken;
+    let Sought::Done { best, lemmas, used } = seek(alloc, inst, &book, limit) else {
+        return Err(AllocError);
+    };
+    let room = MOST_UNITS - 2 * plan.units - u64::from(kept).max(units);
+    match warm_wide(rt, alloc, inst, book, &lemmas, room) {
+        Warmed::Done { mut book, kept } => {
+            book.offer(best);
+            let first = with_seek_line(first, used, limit, kept)?;
+            Ok(Begun { book, first })
+        }
+        Warmed::NoMemory(_) => Err(AllocError),
+    }
+}
+
+/// A text, and behind it the line that says how many loads a seek listed, and how many of its lemmas were kept.
+fn with_seek_line(text: String, used: u64, limit: u64, kept: u32) -> Result<String, AllocError>
+    ensures { IfOk result (λ t. string_bytes t ≡ string_bytes text ++ seek_line used limit kept) }
+{
+    let mut text = text;
+    write!(text, "seek used {used} of {limit} kept {kept}\n")?;
+    Ok(text)
+}
+
+/// The book with which a run begins: empty but for the old entries that it takes in and, where the words ask for a seek of
+/// some loads, for its lemmas; with the ranked balance, or a better one of the seek.
 pub(crate) fn begin<R: Threads + Sync>(
     rt: &R,
     alloc: Global,
@@ -154,25 +258,23 @@ pub(crate) fn begin<R: Threads + Sync>(
     cycle: u64,
     best: Balance,
     olds: Option<Entries>,
+    limit: u64,
     plan: &Plan,
 ) -> Result<Begun, AllocError>
+    requires cycle { IsCycle cycle }
     requires best { MayBeBest (record { line = inst.now; kind = kind; cycle = cycle }) best }
     requires ranked { IsRankedBalance kind inst.now cycle best }
     requires range { ForSome olds (AreEntries (tasks inst.now)) }
+    requires limit { limit ≤ 3000000 }
     requires plan { IsPlan plan.now }
-    ensures { IfOk result (λ b. IsBegun kind inst.now cycle plan.now olds b.book (string_bytes b.first)) }
+    ensures { let start : Start = record { olds = olds; seek = limit } in
+        IfOk result (λ b. IsBegun kind inst.now cycle plan.now start b.book (string_bytes b.first)) }
 {
     let book = open_book(alloc, inst, kind, cycle, best)?;
-    let Some(old) = olds else {
-        let first = String::new(alloc);
+    let taken = take_olds(rt, alloc, inst, book, olds, plan)?;
+    if limit == 0 {
+        let Taken { book, first, .. } = taken;
         return Ok(Begun { book, first });
-    };
-    let room = MOST_UNITS - 2 * plan.units;
-    match warm_wide(rt, alloc, inst, book, &old, room) {
-        Warmed::Done { book, kept } => {
-            let first = warm_line(alloc, kept, old.len())?;
-            Ok(Begun { book, first })
-        }
-        Warmed::NoMemory(_) => Err(AllocError),
     }
+    take_sought(rt, alloc, inst, taken, limit, plan)
 }

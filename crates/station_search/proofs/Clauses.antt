@@ -1,5 +1,5 @@
 -- From the account of a search to what is said of its costs, clause by clause.
-use Rattle.std.proofs.Common.{◌≡◌, ℕ, ◌+◌, ◌<◌, ◌≤◌, Bool, true, false, inl, inr, List, [], ◌++◌, length, sym, ap, ◌∙◌, subst, arith, Some}
+use Rattle.std.proofs.Common.{◌≡◌, ℕ, ◌+◌, ◌<◌, ◌≤◌, Bool, true, false, inl, inr, List, [], ◌++◌, length, sym, ap, ◌∙◌, subst, arith, Option, Some, refl}
 use Rattle.std.specs.Prelude.{slice_get, IsTrue, ◌↔◌}
 use Rattle.std.proofs.lemmas.Bool.{cases_lt, false≢true}
 use Rattle.task_set.specs.Truths.{IsEmpty}
@@ -9,6 +9,7 @@ use Rattle.line_rules.specs.Entries.{HasAnswer, IsUnanswered}
 use Rattle.line_rules.specs.Seats.{AreSeated}
 use Rattle.line_rules.specs.Units.{UnitsOf}
 use Rattle.line_rules.specs.declared.types.LineKind.{LineKind}
+use Rattle.line_rules.specs.declared.types.Mode.{Mode}
 use Rattle.line_rules.specs.declared.types.Load.{Load}
 use Rattle.line_rules.specs.declared.types.Entry.{Entry}
 use Rattle.line_rules.specs.declared.types.OpenFrame.{OpenFrame}
@@ -22,58 +23,58 @@ use Rattle.station_search.specs.Costs.{HasPublished, PaysExactly, PaysWithin, Co
 use Rattle.station_search.specs.Work.{Does, Accounts, Balances, Ends}
 use Rattle.station_search.specs.declared.answers.Decided.{Decided}
 use Rattle.station_search.specs.declared.answers.Decided.TheVariants as decided
-use Rattle.lemma_core.proofs.OwnFacts.{entries_more}
+use Rattle.lemma_core.proofs.OwnFacts.{did_none, did_waits, entries_more}
 use Rattle.station_search.proofs.Events.{for_still}
 use Rattle.station_search.proofs.Paying.{does_then, units_among, units_paid}
 
-module _ (kind : LineKind) (line : Line) (X : ℕ) where
-  own_does : (old new : DeskView) (items : List Item) (n : ℕ) → Does kind line X old new items n → HasPublished kind line X old new
+module _ (asked : Option Mode) (kind : LineKind) (line : Line) (X : ℕ) where
+  own_does : (old new : DeskView) (items : List Item) (n : ℕ) → Does asked kind line X old new items n → HasPublished asked kind line X old new
   own_does old new items n d = record { items = items; did = d.did; publishes = d.publishes; lemmas = d.lemmas }
 
   module _ (old new : DeskView) (frames : List OpenFrame) (used most : ℕ) where
-    pub own_accounts : Accounts kind line X old new frames used most → HasPublished kind line X old new
+    pub own_accounts : Accounts asked kind line X old new frames used most → HasPublished asked kind line X old new
     own_accounts a = own_does old new a.items a.published a.done
 
-    own_balances : Balances kind line X old new frames used most → HasPublished kind line X old new
+    own_balances : Balances asked kind line X old new frames used most → HasPublished asked kind line X old new
     own_balances a = own_does old new a.items a.published a.done
 
-    pub within_accounts : Accounts kind line X old new frames used most → PaysWithin kind line X old new frames used
+    pub within_accounts : Accounts asked kind line X old new frames used most → PaysWithin asked kind line X old new frames used
     within_accounts a = record { items = a.items; did = a.done.did; published = a.published; listed = a.listed; paid = a.done.paid; framed = a.framed; sum = a.within }
 
-    exactly_balances : Balances kind line X old new frames used most → PaysExactly kind line X old new frames used
+    exactly_balances : Balances asked kind line X old new frames used most → PaysExactly asked kind line X old new frames used
     exactly_balances a = record { items = a.items; did = a.done.did; published = a.published; listed = a.listed; paid = a.done.paid; framed = a.framed; sum = a.sum }
 
-    spends_balances : old.alone ≡ true → Balances kind line X old new frames used most → Spends line X old new frames used
+    spends_balances : old.alone ≡ true → Balances asked kind line X old new frames used most → Spends line X old new frames used
     spends_balances alone a = record {
       items = a.items;
       did = a.done.did;
       seen = a.done.alone alone;
       published = a.published;
       listed = a.listed;
-      entry_units = units_paid kind line X (entries new) a.items a.published (a.fresh alone) a.done.paid;
+      entry_units = units_paid asked kind line X (entries new) a.items a.published (a.fresh alone) a.done.paid;
       framed = a.framed;
       sum = a.sum;
     }
 
-    pub few_accounts : Accounts kind line X old new frames used most → AddsFew line X old new frames used most
+    pub few_accounts : Accounts asked kind line X old new frames used most → AddsFew line X old new frames used most
     few_accounts a =
-        let r : (n : ℕ) × (UnitsOf line (added_of a.items) n × (n ≤ a.published)) = units_among kind line X (entries new) a.items a.published a.done.paid in
+        let r : (n : ℕ) × (UnitsOf line (added_of a.items) n × (n ≤ a.published)) = units_among asked kind line X (entries new) a.items a.published a.done.paid in
         record { items = a.items; did = a.done.did; few = a.few; published = r.0; listed = a.listed; entry_units = r.1.0; framed = a.framed; sum = omega (arith, r.1.1, a.within) }
 
-    few_balances : Balances kind line X old new frames used most → AddsFew line X old new frames used most
+    few_balances : Balances asked kind line X old new frames used most → AddsFew line X old new frames used most
     few_balances a = few_accounts (record { items = a.items; published = a.published; listed = a.listed; done = a.done; framed = a.framed; within = omega (arith, a.sum); few = a.few })
 
   module _ (old mid new : DeskView) (w : Waits old mid) (k : Keeps mid new) (frames : List OpenFrame) (used most : ℕ) where
     -- the account from before a call that added no event
-    pub accounts_then : Accounts kind line X mid new frames used most → Accounts kind line X old new frames used most
-    accounts_then a = record { items = a.items; published = a.published; listed = a.listed; done = does_then kind line X old mid new a.items a.published w k a.done; framed = a.framed; within = a.within; few = a.few }
+    pub accounts_then : Accounts asked kind line X mid new frames used most → Accounts asked kind line X old new frames used most
+    accounts_then a = record { items = a.items; published = a.published; listed = a.listed; done = does_then asked kind line X old mid new a.items a.published w k a.done; framed = a.framed; within = a.within; few = a.few }
 
-    balances_then : Balances kind line X mid new frames used most → Balances kind line X old new frames used most
+    balances_then : Balances asked kind line X mid new frames used most → Balances asked kind line X old new frames used most
     balances_then a = record {
       items = a.items;
       published = a.published;
       listed = a.listed;
-      done = does_then kind line X old mid new a.items a.published w k a.done;
+      done = does_then asked kind line X old mid new a.items a.published w k a.done;
       framed = a.framed;
       sum = a.sum;
       few = a.few;
@@ -81,32 +82,32 @@ module _ (kind : LineKind) (line : Line) (X : ℕ) where
     }
 
   -- the account of an answer from before a call that added no event
-  pub ends_then : (old mid new : DeskView) (used : ℕ) (d : Decided) → Waits old mid → Keeps mid new → Ends kind line X mid new used d → Ends kind line X old new used d
+  pub ends_then : (old mid new : DeskView) (used : ℕ) (d : Decided) → Waits old mid → Keeps mid new → Ends asked kind line X mid new used d → Ends asked kind line X old new used d
   ends_then old mid new used (decided.Refuted r) w k e = balances_then old mid new w k [] used (used + 1) e
   ends_then old mid new used (decided.Found loads) w k e = accounts_then old mid new w k [] used used e
   ends_then old mid new used (decided.Spent frames) w k e = (balances_then old mid new w k frames used used e.0, λ t. e.1 (w.keeps.alone ∙ t))
   ends_then old mid new used (decided.NoMemory frames) w k e = accounts_then old mid new w k frames used used e
 
   module _ (old new : DeskView) (used : ℕ) where
-    pub ends_own : (d : Decided) → Ends kind line X old new used d → HasPublished kind line X old new
+    pub ends_own : (d : Decided) → Ends asked kind line X old new used d → HasPublished asked kind line X old new
     ends_own (decided.Refuted r) e = own_balances old new [] used (used + 1) e
     ends_own (decided.Found loads) e = own_accounts old new [] used used e
     ends_own (decided.Spent frames) e = own_balances old new frames used used e.0
     ends_own (decided.NoMemory frames) e = own_accounts old new frames used used e
 
-    pub ends_costs : (d : Decided) → Ends kind line X old new used d → Costs kind line X old new used d
+    pub ends_costs : (d : Decided) → Ends asked kind line X old new used d → Costs asked kind line X old new used d
     ends_costs (decided.Refuted r) e = exactly_balances old new [] used (used + 1) e
     ends_costs (decided.Found loads) e = within_accounts old new [] used used e
     ends_costs (decided.Spent frames) e = exactly_balances old new frames used used e.0
     ends_costs (decided.NoMemory frames) e = within_accounts old new frames used used e
 
-    pub ends_few : (d : Decided) → Ends kind line X old new used d → FewAdded line X old new used d
+    pub ends_few : (d : Decided) → Ends asked kind line X old new used d → FewAdded line X old new used d
     ends_few (decided.Refuted r) e = few_balances old new [] used (used + 1) e
     ends_few (decided.Found loads) e = few_accounts old new [] used used e
     ends_few (decided.Spent frames) e = few_balances old new frames used used e.0
     ends_few (decided.NoMemory frames) e = few_accounts old new frames used used e
 
-    pub ends_alone : (R : List Bool) (most left : ℕ) (d : Decided) → old.alone ≡ true → Decides kind line X (entries new) R most left d → Ends kind line X old new used d → CostsAlone line X old new used d
+    pub ends_alone : (R : List Bool) (most left : ℕ) (d : Decided) → old.alone ≡ true → Decides asked kind line X (entries new) R most left d → Ends asked kind line X old new used d → CostsAlone line X old new used d
     ends_alone R most left (decided.Refuted r) alone h e = spends_balances old new [] used (used + 1) alone e
     ends_alone R most left (decided.Found loads) alone h e = tt
     ends_alone R most left (decided.Spent frames) alone h e = (
@@ -115,6 +116,10 @@ module _ (kind : LineKind) (line : Line) (X : ℕ) where
       record { unanswered = λ k f g j x q same a. e.1 alone k f g j x q a; further = h.further },
     )
     ends_alone R most left (decided.NoMemory frames) alone h e = tt
+
+-- a call that adds no event adds no entry
+pub few_none : (line : Line) (X : ℕ) (old new : DeskView) (used most : ℕ) → Waits old new → AddsFew line X old new [] used most
+few_none line X old new used most w = record { items = []; did = did_waits old old new [] (did_none old) w; few = omega arith; published = 0; listed = 0; entry_units = refl; framed = refl; sum = omega arith }
 
 -- an entry seen before a call is seen after it
 pub not_known : (old new : DeskView) (line : Line) (kind : LineKind) (R : List Bool) (most X : ℕ) → IsFor old line kind X → Keeps old new → IsUnanswered (entries new) R most new.about.cycle → HasAnswer (entries old) R most X → ⊥

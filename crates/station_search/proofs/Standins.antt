@@ -9,6 +9,7 @@ use Rattle.line_instance.specs.Walks.{at}
 use Rattle.line_instance.specs.Partners.{IsPartner, IsKeptAt}
 use Rattle.line_rules.specs.Entries.{IsLastAnswer, IsUnanswered, FollowsBySwap}
 use Rattle.line_rules.specs.declared.types.LineKind.{LineKind}
+use Rattle.line_rules.specs.declared.types.Mode.{Mode}
 use Rattle.line_rules.specs.declared.types.Entry.{Entry}
 use Rattle.lemma_core.specs.Desks.{DeskView, entries, Keeps, Waits}
 use Rattle.station_search.specs.Work.{DoesFor, swap_of}
@@ -56,10 +57,10 @@ stands_in line es set swapped most X c out into id p m absent e same a =
     }
 
 -- what is published after a call that added no event
-pub does_for_then : (kind : LineKind) (line : Line) (X : ℕ) (a b c : DeskView) (T : List Bool) (m n : ℕ) → Waits a b → Keeps b c → DoesFor kind line X b c T m n → DoesFor kind line X a c T m n
-does_for_then kind line X a b c T m n w k d = record {
+pub does_for_then : (asked : Option Mode) (kind : LineKind) (line : Line) (X : ℕ) (a b c : DeskView) (T : List Bool) (m n : ℕ) → Waits a b → Keeps b c → DoesFor asked kind line X b c T m n → DoesFor asked kind line X a c T m n
+does_for_then asked kind line X a b c T m n w k d = record {
   items = d.items;
-  done = does_then kind line X a b c d.items n w k d.done;
+  done = does_then asked kind line X a b c d.items n w k d.done;
   few = d.few;
   of_set = d.of_set;
   fresh = λ t. d.fresh (w.keeps.alone ∙ t);

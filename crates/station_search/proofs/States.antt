@@ -10,33 +10,34 @@ use Rattle.line_rules.specs.Order.{Precedes, UpTo, After, IsFollowing}
 use Rattle.line_rules.specs.Entries.{IsOpen, Cites, Covers, Follows}
 use Rattle.line_rules.specs.Trails.{LastIsLoad, IsPassed, IsDeepest, Leads, IsTrail}
 use Rattle.line_rules.specs.declared.types.LineKind.{LineKind}
+use Rattle.line_rules.specs.declared.types.Mode.{Mode}
 use Rattle.line_rules.specs.declared.types.Load.{Load}
 use Rattle.line_rules.specs.declared.types.Entry.{Entry}
 use Rattle.line_rules.specs.declared.types.OpenFrame.{OpenFrame}
 use Rattle.line_rules.proofs.Covering.{covers_same, covers_none}
 use Rattle.line_rules.proofs.ListFacts.{get_longer, get_push_cases, get_last}
 use Rattle.line_rules.proofs.Paths.{all_up_to, covers_pass, covers_skip, covers_cite, leads_push, leads_pop, leads_longer, deep_longer, rest_inside}
-use Rattle.station_search.specs.Mode.{mode_of}
+use Rattle.station_search.specs.Mode.{frame_mode}
 use Rattle.station_search.specs.Decide.{IsAnswered}
 use Rattle.station_search.specs.Work.{branch_of, with_last, with_cites}
 
 -- of a frame that waits for the one below it: its set is one of tasks, it has the mode of its set, and the bound leaves
 -- the rest of its last load open
-pub record IsHeld (kind : LineKind) (line : Line) (X : ℕ) (f : OpenFrame) : Type 0 where
+pub record IsHeld (asked : Option Mode) (kind : LineKind) (line : Line) (X : ℕ) (f : OpenFrame) : Type 0 where
   pub tasks : IsTaskSet line f.set
-  pub has_mode : f.mode ≡ mode_of kind line f.set
+  pub has_mode : f.mode ≡ frame_mode asked kind line f.set
   pub open_rest : (l : Load) → f.last ≡ Some l → bound kind line X (rest f.set l) < f.most
 
 -- The frames lead from the question to the frame in hand, which is as a deepest frame is, of a set of tasks that isn't
 -- empty.
-pub record IsSearching (kind : LineKind) (line : Line) (X : ℕ) (es : List Entry) (R : List Bool) (most : ℕ) (passed : List OpenFrame) (frame : OpenFrame) : Type 0 where
+pub record IsSearching (asked : Option Mode) (kind : LineKind) (line : Line) (X : ℕ) (es : List Entry) (R : List Bool) (most : ℕ) (passed : List OpenFrame) (frame : OpenFrame) : Type 0 where
   pub leads : Leads kind line X es R most passed frame.set frame.most
   pub deep : IsDeepest kind line X es frame
   pub some : (i : ℕ) × In frame.set i
   pub tasks : IsTaskSet line frame.set
-  pub has_mode : frame.mode ≡ mode_of kind line frame.set
+  pub has_mode : frame.mode ≡ frame_mode asked kind line frame.set
   pub stations : 1 ≤ frame.most
-  pub held : (k : ℕ) (f : OpenFrame) → slice_get passed k ≡ Some f → IsHeld kind line X f
+  pub held : (k : ℕ) (f : OpenFrame) → slice_get passed k ≡ Some f → IsHeld asked kind line X f
 
 length-minus : (xs ys : List Bool) → length (minus xs ys) ≡ length xs
 length-minus [] ys = refl
@@ -47,12 +48,12 @@ length-minus (x ∷ xs) (y ∷ ys) = omega (arith, length-minus xs ys)
 pub rest_tasks : (line : Line) (R : List Bool) (l : Load) → IsTaskSet line R → IsTaskSet line (rest R l)
 rest_tasks line R l t = record { truths = length-minus R (taken l) ∙ t.truths; tasks = λ i n. t.tasks i (rest_inside R l i n) }
 
-module _ (kind : LineKind) (line : Line) (ranked : IsRanked line) (X : ℕ) (R : List Bool) (most : ℕ) where
+module _ (asked : Option Mode) (kind : LineKind) (line : Line) (ranked : IsRanked line) (X : ℕ) (R : List Bool) (most : ℕ) where
   -- a frame of which no load was listed
   pub starts : (es : List Entry) (passed : List OpenFrame) (frame : OpenFrame) → Leads kind line X es R most passed frame.set frame.most → Belongs kind frame.mode → frame.last ≡ None → frame.cites ≡ [] → ((i : ℕ) × In frame.set i)
-      → IsTaskSet line frame.set → frame.mode ≡ mode_of kind line frame.set → 1 ≤ frame.most → ((k : ℕ) (f : OpenFrame) → slice_get passed k ≡ Some f → IsHeld kind line X f) → IsSearching kind line X es R most passed frame
+      → IsTaskSet line frame.set → frame.mode ≡ frame_mode asked kind line frame.set → 1 ≤ frame.most → ((k : ℕ) (f : OpenFrame) → slice_get passed k ≡ Some f → IsHeld asked kind line X f) → IsSearching asked kind line X es R most passed frame
   starts es passed frame leads belongs last cites some tasks has_mode stations held =
-      let P : OpenFrame → Type 0 = λ z. IsSearching kind line X es R most passed z in
+      let P : OpenFrame → Type 0 = λ z. IsSearching asked kind line X es R most passed z in
       let e : record { set = frame.set; most = frame.most; mode = frame.mode; last = None; cites = [] } ≡ frame = λ i. record { set = frame.set; most = frame.most; mode = frame.mode; last = sym last i; cites = sym cites i } in
       subst P e (record {
         leads = leads;
@@ -64,7 +65,7 @@ module _ (kind : LineKind) (line : Line) (ranked : IsRanked line) (X : ℕ) (R :
         held = held;
       })
 
-  pub longer : (es more : List Entry) (passed : List OpenFrame) (frame : OpenFrame) → IsSearching kind line X es R most passed frame → IsSearching kind line X (es ++ more) R most passed frame
+  pub longer : (es more : List Entry) (passed : List OpenFrame) (frame : OpenFrame) → IsSearching asked kind line X es R most passed frame → IsSearching asked kind line X (es ++ more) R most passed frame
   longer es more passed frame s = record {
     leads = leads_longer kind line X es more passed R most frame.set frame.most s.leads;
     deep = deep_longer kind line X es more frame s.deep;
@@ -75,10 +76,10 @@ module _ (kind : LineKind) (line : Line) (ranked : IsRanked line) (X : ℕ) (R :
     held = s.held;
   }
 
-  module _ (es : List Entry) (passed : List OpenFrame) (frame : OpenFrame) (s : IsSearching kind line X es R most passed frame) where
+  module _ (es : List Entry) (passed : List OpenFrame) (frame : OpenFrame) (s : IsSearching asked kind line X es R most passed frame) where
     module _ (l : Load) (next : IsFollowing line X frame.mode frame.set frame.last l) where
       -- a load that needs no cite
-      pub closed : (IsOpen kind line X frame.mode frame.set frame.most l → ⊥) → IsSearching kind line X es R most passed (with_last frame l)
+      pub closed : (IsOpen kind line X frame.mode frame.set frame.most l → ⊥) → IsSearching asked kind line X es R most passed (with_last frame l)
       closed shut = record {
         leads = s.leads;
         deep = record { belongs = s.deep.belongs; last = next.load; covers = covers_skip line ranked X frame.mode frame.set frame.last s.deep.last l next kind es frame.most frame.cites s.deep.covers shut };
@@ -93,7 +94,7 @@ module _ (kind : LineKind) (line : Line) (ranked : IsRanked line) (X : ℕ) (R :
       before = covers_pass line ranked X frame.mode frame.set frame.last s.deep.last l next kind es frame.most frame.cites s.deep.covers
 
       -- a load whose rest an entry refutes
-      pub covered : (id : ℕ) (cites : List ℕ) → cites ≡ frame.cites ++ id ∷ [] → IsOpen kind line X frame.mode frame.set frame.most l → Cites es id (rest frame.set l) (frame.most - 1) X → IsSearching kind line X es R most passed (with_cites (with_last frame l) cites)
+      pub covered : (id : ℕ) (cites : List ℕ) → cites ≡ frame.cites ++ id ∷ [] → IsOpen kind line X frame.mode frame.set frame.most l → Cites es id (rest frame.set l) (frame.most - 1) X → IsSearching asked kind line X es R most passed (with_cites (with_last frame l) cites)
       covered id cites e o y = record {
         leads = s.leads;
         deep = record {
@@ -116,10 +117,10 @@ module _ (kind : LineKind) (line : Line) (ranked : IsRanked line) (X : ℕ) (R :
       pub goes_down : IsOpen kind line X frame.mode frame.set frame.most l → Leads kind line X es R most (passed ++ with_last frame l ∷ []) (rest frame.set l) (frame.most - 1)
       goes_down o = leads_push kind line X es passed R most (with_last frame l) l s.leads (passes o)
 
-      pub holds_on : IsOpen kind line X frame.mode frame.set frame.most l → (k : ℕ) (f : OpenFrame) → slice_get (passed ++ with_last frame l ∷ []) k ≡ Some f → IsHeld kind line X f
+      pub holds_on : IsOpen kind line X frame.mode frame.set frame.most l → (k : ℕ) (f : OpenFrame) → slice_get (passed ++ with_last frame l ∷ []) k ≡ Some f → IsHeld asked kind line X f
       holds_on o k f e = elim (get_push_cases passed (with_last frame l) f k e) [
         | inl h ↦ s.held k f h.1
-        | inr h ↦ (let P : OpenFrame → Type 0 = λ z. IsHeld kind line X z in subst P h.1 (record {
+        | inr h ↦ (let P : OpenFrame → Type 0 = λ z. IsHeld asked kind line X z in subst P h.1 (record {
           tasks = s.tasks;
           has_mode = s.has_mode;
           open_rest = λ m q. let B : Load → Type 0 = λ z. bound kind line X (rest frame.set z) < frame.most in let w : l ≡ m = cc in subst B w o.bound;
@@ -146,7 +147,7 @@ module _ (kind : LineKind) (line : Line) (ranked : IsRanked line) (X : ℕ) (R :
 
   -- the frame is refuted, and the one above it goes on
   pub goes_up : (es : List Entry) (passed upper : List OpenFrame) (frame parent : OpenFrame) (id : ℕ) (cites : List ℕ) → passed ≡ upper ++ parent ∷ [] → cites ≡ parent.cites ++ id ∷ [] → IsTaskSet line R
-      → IsSearching kind line X es R most passed frame → IsAnswered es id frame.set frame.most X → IsSearching kind line X es R most upper (with_cites parent cites)
+      → IsSearching asked kind line X es R most passed frame → IsAnswered es id frame.set frame.most X → IsSearching asked kind line X es R most upper (with_cites parent cites)
   goes_up es passed upper frame parent id cites e f tasks s a =
       let D : List OpenFrame → Type 0 = λ z. Leads kind line X es R most z frame.set frame.most in
       let r : (l : Load) × (Leads kind line X es R most upper parent.set parent.most × IsPassed kind line X es parent l × (frame.set ≡ rest parent.set l) × (frame.most ≡ parent.most - 1)) =
@@ -154,7 +155,7 @@ module _ (kind : LineKind) (line : Line) (ranked : IsRanked line) (X : ℕ) (R :
       let l : Load = r.0 in
       let p : IsPassed kind line X es parent l = r.1.1 in
       let here : slice_get passed (length upper) ≡ Some parent = ap (λ (z : List OpenFrame). slice_get z (length upper)) e ∙ get_last upper parent in
-      let h : IsHeld kind line X parent = s.held (length upper) parent here in
+      let h : IsHeld asked kind line X parent = s.held (length upper) parent here in
       let o : IsOpen kind line X parent.mode parent.set parent.most l = record { load = p.load; full = p.full; bound = h.open_rest l p.last } in
       let y : Cites es id (rest parent.set l) (parent.most - 1) X = record {
         entry = a.entry;

@@ -9,6 +9,7 @@ use Rattle.line_rules.specs.Entries.{IsUnanswered}
 use Rattle.line_rules.specs.Units.{FrameUnits, UnitsIn}
 use Rattle.line_rules.specs.Trails.{LastIsLoad, Leads}
 use Rattle.line_rules.specs.declared.types.LineKind.{LineKind}
+use Rattle.line_rules.specs.declared.types.Mode.{Mode}
 use Rattle.line_rules.specs.declared.types.Load.{Load}
 use Rattle.line_rules.specs.declared.types.Entry.{Entry}
 use Rattle.line_rules.specs.declared.types.OpenFrame.{OpenFrame}
@@ -26,12 +27,12 @@ use Rattle.station_search.proofs.Paying.{does_waits, does_both, all_added_both, 
 -- What the steps so far did on the desk, and the units of the frames, come to what was spent; the entries added, the
 -- frames that wait and some room are no more. Where the desk is alone, each event added an entry, and no entry answers
 -- a frame.
-pub record Tally (kind : LineKind) (line : Line) (X : ℕ) (old new : DeskView) (passed : List OpenFrame) (frame : OpenFrame) (spent room : ℕ) : Type 0 where
+pub record Tally (asked : Option Mode) (kind : LineKind) (line : Line) (X : ℕ) (old new : DeskView) (passed : List OpenFrame) (frame : OpenFrame) (spent room : ℕ) : Type 0 where
   pub items : List Item
   pub published : ℕ
   pub above : ℕ
   pub here : ℕ
-  pub done : Does kind line X old new items published
+  pub done : Does asked kind line X old new items published
   pub passed_units : UnitsIn line X passed above
   pub frame_units : FrameUnits line X frame here
   pub sum : published + (above + here) ≡ spent
@@ -85,14 +86,14 @@ one_more X es passed frame all un k f e = elim (get_push_cases passed frame f k 
   | inr h ↦ (let P : OpenFrame → Type 0 = λ z. IsUnanswered es z.set z.most X in subst P h.1 un)
 ]
 
-module _ (kind : LineKind) (line : Line) (ranked : IsRanked line) (X : ℕ) (old : DeskView) where
-  pub tally_starts : (frame : OpenFrame) → frame.last ≡ None → (old.alone ≡ true → IsUnanswered (entries old) frame.set frame.most X) → Tally kind line X old old [] frame 0 0
+module _ (asked : Option Mode) (kind : LineKind) (line : Line) (ranked : IsRanked line) (X : ℕ) (old : DeskView) where
+  pub tally_starts : (frame : OpenFrame) → frame.last ≡ None → (old.alone ≡ true → IsUnanswered (entries old) frame.set frame.most X) → Tally asked kind line X old old [] frame 0 0
   tally_starts frame last un = record {
     items = [];
     published = 0;
     above = 0;
     here = 0;
-    done = does_waits kind line X old old (waits_none old);
+    done = does_waits asked kind line X old old (waits_none old);
     passed_units = refl;
     frame_units = none_counts line X frame last;
     sum = refl;
@@ -102,8 +103,8 @@ module _ (kind : LineKind) (line : Line) (ranked : IsRanked line) (X : ℕ) (old
   }
 
   -- the frame waits, and a new one is opened
-  pub tally_down : (new : DeskView) (passed : List OpenFrame) (frame below : OpenFrame) (spent : ℕ) → below.last ≡ None → (old.alone ≡ true → IsUnanswered (entries new) below.set below.most X) → Tally kind line X old new passed frame spent 1
-      → Tally kind line X old new (passed ++ frame ∷ []) below spent 0
+  pub tally_down : (new : DeskView) (passed : List OpenFrame) (frame below : OpenFrame) (spent : ℕ) → below.last ≡ None → (old.alone ≡ true → IsUnanswered (entries new) below.set below.most X) → Tally asked kind line X old new passed frame spent 1
+      → Tally asked kind line X old new (passed ++ frame ∷ []) below spent 0
   tally_down new passed frame below spent last un t = record {
     items = t.items;
     published = t.published;
@@ -119,7 +120,7 @@ module _ (kind : LineKind) (line : Line) (ranked : IsRanked line) (X : ℕ) (old
   }
 
   -- the units ended
-  pub tally_stops : (new : DeskView) (passed : List OpenFrame) (frame : OpenFrame) (spent : ℕ) → Tally kind line X old new passed frame spent 0 → Balances kind line X old new (passed ++ frame ∷ []) spent spent
+  pub tally_stops : (new : DeskView) (passed : List OpenFrame) (frame : OpenFrame) (spent : ℕ) → Tally asked kind line X old new passed frame spent 0 → Balances asked kind line X old new (passed ++ frame ∷ []) spent spent
   tally_stops new passed frame spent t = record {
     items = t.items;
     published = t.published;
@@ -131,14 +132,14 @@ module _ (kind : LineKind) (line : Line) (ranked : IsRanked line) (X : ℕ) (old
     fresh = t.fresh;
   }
 
-  module _ (mid new : DeskView) (passed : List OpenFrame) (frame : OpenFrame) (spent : ℕ) (before : Keeps old mid) (k : Keeps mid new) (t : Tally kind line X old mid passed frame spent 0) where
+  module _ (mid new : DeskView) (passed : List OpenFrame) (frame : OpenFrame) (spent : ℕ) (before : Keeps old mid) (k : Keeps mid new) (t : Tally asked kind line X old mid passed frame spent 0) where
     -- the account after a further step, for a search that gives its frames up
-    pub accounts : (T : List Bool) (m n spent' : ℕ) → DoesFor kind line X mid new T m n → n ≤ t.here → spent ≤ spent' → m + spent ≤ length passed + spent' → Accounts kind line X old new [] spent' spent'
+    pub accounts : (T : List Bool) (m n spent' : ℕ) → DoesFor asked kind line X mid new T m n → n ≤ t.here → spent ≤ spent' → m + spent ≤ length passed + spent' → Accounts asked kind line X old new [] spent' spent'
     accounts T m n spent' d l more room = record {
       items = t.items ++ d.items;
       published = t.published + n;
       listed = 0;
-      done = does_both kind line X old mid new t.items d.items t.published n before k t.done d.done;
+      done = does_both asked kind line X old mid new t.items d.items t.published n before k t.done d.done;
       framed = refl;
       within = omega (arith, t.sum, l, more);
       few = omega (arith, added_length t.items d.items, d.few, t.few, room);
@@ -146,20 +147,20 @@ module _ (kind : LineKind) (line : Line) (ranked : IsRanked line) (X : ℕ) (old
 
     -- a load is listed, and its rest may be published
     pub tally_lists : (es : List Entry) (R : List Bool) (most : ℕ) (l : Load) (cites : List ℕ) (m room spent' : ℕ) → Leads kind line X es R most passed frame.set frame.most → IsFollowing line X frame.mode frame.set frame.last l
-        → LastIsLoad line X frame.mode frame.set frame.last → DoesFor kind line X mid new (rest frame.set l) m 0 → m + room ≤ 1 → spent' ≡ spent + 1 → Tally kind line X old new passed (with_cites (with_last frame l) cites) spent' room
+        → LastIsLoad line X frame.mode frame.set frame.last → DoesFor asked kind line X mid new (rest frame.set l) m 0 → m + room ≤ 1 → spent' ≡ spent + 1 → Tally asked kind line X old new passed (with_cites (with_last frame l) cites) spent' room
     tally_lists es R most l cites m room spent' leads following is_load d less more = record {
       items = t.items ++ d.items;
       published = t.published + 0;
       above = t.above;
       here = t.here + 1;
-      done = does_both kind line X old mid new t.items d.items t.published 0 before k t.done d.done;
+      done = does_both asked kind line X old mid new t.items d.items t.published 0 before k t.done d.done;
       passed_units = t.passed_units;
       frame_units = units_push line ranked X frame.mode frame.set frame.last is_load l following t.here t.frame_units;
       sum = omega (arith, more, t.sum);
       few = omega (arith, added_length t.items d.items, d.few, t.few, less, more);
       fresh = λ a. all_added_both t.items d.items (t.fresh a) (d.fresh (before.alone ∙ a));
       unanswered = λ a. same_questions X (entries new) passed frame (with_cites (with_last frame l) cites) refl refl (λ j f e.
-          unanswered_still kind line X mid new (rest frame.set l) m 0 f.set f.most (before.alone ∙ a) k d (rest_differs kind line X es R most passed frame l leads following.load j f e) (t.unanswered a j f e));
+          unanswered_still asked kind line X mid new (rest frame.set l) m 0 f.set f.most (before.alone ∙ a) k d (rest_differs kind line X es R most passed frame l leads following.load j f e) (t.unanswered a j f e));
     }
 
     module _ (is_load : LastIsLoad line X frame.mode frame.set frame.last) (none : (l : Load) → IsLoad line X frame.mode frame.set l → After line frame.last l → ⊥) where
@@ -169,12 +170,12 @@ module _ (kind : LineKind) (line : Line) (ranked : IsRanked line) (X : ℕ) (old
           (λ l g. (g, all_up_to line ranked X frame.mode frame.set frame.last is_load none l g)) t.frame_units
 
     -- the question is refuted
-    pub tally_ends : DoesFor kind line X mid new frame.set 1 t.here → passed ≡ [] → Balances kind line X old new [] spent (spent + 1)
+    pub tally_ends : DoesFor asked kind line X mid new frame.set 1 t.here → passed ≡ [] → Balances asked kind line X old new [] spent (spent + 1)
     tally_ends d e = record {
       items = t.items ++ d.items;
       published = t.published + t.here;
       listed = 0;
-      done = does_both kind line X old mid new t.items d.items t.published t.here before k t.done d.done;
+      done = does_both asked kind line X old mid new t.items d.items t.published t.here before k t.done d.done;
       framed = refl;
       sum = let P : List OpenFrame → Type 0 = λ z. UnitsIn line X z t.above in let z : t.above ≡ 0 = subst P e t.passed_units in omega (arith, t.sum, z);
       few = omega (arith, added_length t.items d.items, d.few, t.few);
@@ -182,8 +183,8 @@ module _ (kind : LineKind) (line : Line) (ranked : IsRanked line) (X : ℕ) (old
     }
 
     -- the frame is refuted, and the one above it goes on
-    pub tally_up : (upper : List OpenFrame) (parent : OpenFrame) (cites : List ℕ) (es : List Entry) (R : List Bool) (most : ℕ) → DoesFor kind line X mid new frame.set 1 t.here → passed ≡ upper ++ parent ∷ []
-        → Leads kind line X es R most passed frame.set frame.most → Tally kind line X old new upper (with_cites parent cites) spent 0
+    pub tally_up : (upper : List OpenFrame) (parent : OpenFrame) (cites : List ℕ) (es : List Entry) (R : List Bool) (most : ℕ) → DoesFor asked kind line X mid new frame.set 1 t.here → passed ≡ upper ++ parent ∷ []
+        → Leads kind line X es R most passed frame.set frame.most → Tally asked kind line X old new upper (with_cites parent cites) spent 0
     tally_up upper parent cites es R most d e leads =
         let U : List OpenFrame → Type 0 = λ z. UnitsIn line X z t.above in
         let r : (a : ℕ) × (b : ℕ) × (UnitsIn line X upper a × FrameUnits line X parent b × (t.above ≡ a + b)) = units_pop_frame line X upper parent t.above (subst U e t.passed_units) in
@@ -192,7 +193,7 @@ module _ (kind : LineKind) (line : Line) (ranked : IsRanked line) (X : ℕ) (old
           published = t.published + t.here;
           above = r.0;
           here = r.1;
-          done = does_both kind line X old mid new t.items d.items t.published t.here before k t.done d.done;
+          done = does_both asked kind line X old mid new t.items d.items t.published t.here before k t.done d.done;
           passed_units = r.2.0;
           frame_units = r.2.1;
           sum = omega (arith, t.sum, r.2.2);
@@ -201,6 +202,6 @@ module _ (kind : LineKind) (line : Line) (ranked : IsRanked line) (X : ℕ) (old
           unanswered = λ a. same_questions X (entries new) upper parent (with_cites parent cites) refl refl (λ j f g.
               let there : slice_get passed j ≡ Some f = ap (λ (z : List OpenFrame). slice_get z j) e ∙ g in
               let s : (i : ℕ) × (In f.set i × (In frame.set i → ⊥)) = leads_strict kind line X es passed R most frame.set frame.most leads j f there in
-              unanswered_still kind line X mid new frame.set 1 t.here f.set f.most (before.alone ∙ a) k d (λ q. let P : List Bool → Type 0 = λ z. In z s.0 in s.1.1 (subst P q s.1.0))
+              unanswered_still asked kind line X mid new frame.set 1 t.here f.set f.most (before.alone ∙ a) k d (λ q. let P : List Bool → Type 0 = λ z. In z s.0 in s.1.1 (subst P q s.1.0))
               (t.unanswered a j f (get_longer passed (frame ∷ []) j f there)));
         }

@@ -1,5 +1,5 @@
 -- What a call of `decide` publishes on its desk, and how that pays for the units that it uses.
-use Rattle.std.specs.Prelude.{◌≡◌, ℕ, suc, ◌+◌, ◌≤◌, Bool, List, [], ◌∷◌, ◌++◌, length, slice_get, Some}
+use Rattle.std.specs.Prelude.{◌≡◌, ℕ, suc, ◌+◌, ◌≤◌, Bool, List, [], ◌∷◌, ◌++◌, length, slice_get, Option, Some}
 use Rattle.line_instance.specs.Line.{Line}
 use Rattle.line_rules.specs.Loads.{IsLoad}
 use Rattle.line_rules.specs.Order.{Precedes}
@@ -16,28 +16,30 @@ use Rattle.line_rules.specs.declared.types.OpenFrame.{OpenFrame}
 use Rattle.lemma_core.specs.History.{Item, added, known, better}
 use Rattle.lemma_core.specs.Desks.{DeskView, entries}
 use Rattle.lemma_core.specs.Own.{Did, ArePublish, added_of}
-use Rattle.station_search.specs.Mode.{mode_of}
+use Rattle.station_search.specs.Mode.{frame_mode}
 use Rattle.station_search.specs.declared.answers.Decided.{Decided}
 use Rattle.station_search.specs.declared.answers.Decided.TheVariants as decided
 
--- a Branch has the mode of the set
-abbrev pub HasMode : LineKind → Line → List Bool → Why → Type 0
-HasMode kind line R why.Bound = Unit {0}
-HasMode kind line R (why.Branch mode cites) = mode ≡ mode_of kind line R
-HasMode kind line R (why.Swap cite out into) = Unit {0}
+-- a Branch has the mode that was asked for, or else that of its set
+abbrev pub HasMode : Option Mode → LineKind → Line → List Bool → Why → Type 0
+HasMode asked kind line R why.Bound = Unit {0}
+HasMode asked kind line R (why.Branch mode cites) = mode ≡ frame_mode asked kind line R
+HasMode asked kind line R (why.Swap cite out into) = Unit {0}
 
--- each entry has the cycle X, and the mode of its set where it is a Branch
-abbrev pub AreLemmas : LineKind → Line → ℕ → List Entry → Type 0
-AreLemmas kind line X [] = Unit {0}
-AreLemmas kind line X (e ∷ es) = (e.cycle ≡ X) × HasMode kind line e.set e.why × AreLemmas kind line X es
+-- each entry has the cycle X, and the mode asked for or that of its set where it is a Branch
+abbrev pub AreLemmas : Option Mode → LineKind → Line → ℕ → List Entry → Type 0
+AreLemmas asked kind line X [] = Unit {0}
+AreLemmas asked kind line X (e ∷ es) =
+    (e.cycle ≡ X) × HasMode asked kind line e.set e.why × AreLemmas asked kind line X es
 
--- The desk's own events in the call are Publishes, and the entries that they added have the cycle X and the modes of
--- their sets.
-pub record HasPublished (kind : LineKind) (line : Line) (X : ℕ) (old new : DeskView) : Type 0 where
+-- The desk's own events in the call are Publishes, and the entries that they added have the cycle X and the mode asked
+-- for, or else those of their sets.
+pub record HasPublished (asked : Option Mode) (kind : LineKind) (line : Line) (X : ℕ)
+    (old new : DeskView) : Type 0 where
   pub items : List Item
   pub did : Did old new items
   pub publishes : ArePublish items
-  pub lemmas : AreLemmas kind line X (added_of items)
+  pub lemmas : AreLemmas asked kind line X (added_of items)
 
 -- so many loads of R, rising: some of its loads, and so at most all
 pub record HasLoads (line : Line) (c : ℕ) (mode : Mode) (R : List Bool) (n : ℕ) : Type 0 where
@@ -47,47 +49,47 @@ pub record HasLoads (line : Line) (c : ℕ) (mode : Mode) (R : List Bool) (n : �
   pub long : length loads ≡ n
 
 -- What a Publish pays, the entries being those seen: an entry that was added its units, and one that was known some
--- loads of its set at the cycle X, in the mode of the set.
-abbrev pub Pays : LineKind → Line → ℕ → List Entry → Item → ℕ → Type 0
-Pays kind line X es (added id e) n = UnitsBy line e e.why n
-Pays kind line X es (known id most) n =
-    (e : Entry) × (slice_get es id ≡ Some e) × HasLoads line X (mode_of kind line e.set) e.set n
-Pays kind line X es (better m) n = n ≡ 0
+-- loads of its set at the cycle X, in the mode asked for or else that of the set.
+abbrev pub Pays : Option Mode → LineKind → Line → ℕ → List Entry → Item → ℕ → Type 0
+Pays asked kind line X es (added id e) n = UnitsBy line e e.why n
+Pays asked kind line X es (known id most) n =
+    (e : Entry) × (slice_get es id ≡ Some e) × HasLoads line X (frame_mode asked kind line e.set) e.set n
+Pays asked kind line X es (better m) n = n ≡ 0
 
 -- the sum of what the items pay
-abbrev pub PayAll : LineKind → Line → ℕ → List Entry → List Item → ℕ → Type 0
-PayAll kind line X es [] n = n ≡ 0
-PayAll kind line X es (i ∷ is) n =
-    (a : ℕ) × (b : ℕ) × (Pays kind line X es i a × PayAll kind line X es is b × (n ≡ a + b))
+abbrev pub PayAll : Option Mode → LineKind → Line → ℕ → List Entry → List Item → ℕ → Type 0
+PayAll asked kind line X es [] n = n ≡ 0
+PayAll asked kind line X es (i ∷ is) n =
+    (a : ℕ) × (b : ℕ) × (Pays asked kind line X es i a × PayAll asked kind line X es is b × (n ≡ a + b))
 
 -- every unit used is paid for: the own events and the frames answered pay them all
-pub record PaysExactly (kind : LineKind) (line : Line) (X : ℕ) (old new : DeskView) (frames : List OpenFrame) (used : ℕ)
-    : Type 0 where
+pub record PaysExactly (asked : Option Mode) (kind : LineKind) (line : Line) (X : ℕ) (old new : DeskView)
+    (frames : List OpenFrame) (used : ℕ) : Type 0 where
   pub items : List Item
   pub did : Did old new items
   pub published : ℕ
   pub listed : ℕ
-  pub paid : PayAll kind line X (entries new) items published
+  pub paid : PayAll asked kind line X (entries new) items published
   pub framed : UnitsIn line X frames listed
   pub sum : published + listed ≡ used
 
 -- the own events and the frames answered pay for units used, and for no more
-pub record PaysWithin (kind : LineKind) (line : Line) (X : ℕ) (old new : DeskView) (frames : List OpenFrame) (used : ℕ)
-    : Type 0 where
+pub record PaysWithin (asked : Option Mode) (kind : LineKind) (line : Line) (X : ℕ) (old new : DeskView)
+    (frames : List OpenFrame) (used : ℕ) : Type 0 where
   pub items : List Item
   pub did : Did old new items
   pub published : ℕ
   pub listed : ℕ
-  pub paid : PayAll kind line X (entries new) items published
+  pub paid : PayAll asked kind line X (entries new) items published
   pub framed : UnitsIn line X frames listed
   pub sum : published + listed ≤ used
 
 -- the units used in the call: all are paid for where the question was refuted or the units ended
-abbrev pub Costs : LineKind → Line → ℕ → DeskView → DeskView → ℕ → Decided → Type 0
-Costs kind line X old new used (decided.Refuted reason) = PaysExactly kind line X old new [] used
-Costs kind line X old new used (decided.Found loads) = PaysWithin kind line X old new [] used
-Costs kind line X old new used (decided.Spent frames) = PaysExactly kind line X old new frames used
-Costs kind line X old new used (decided.NoMemory frames) = PaysWithin kind line X old new frames used
+abbrev pub Costs : Option Mode → LineKind → Line → ℕ → DeskView → DeskView → ℕ → Decided → Type 0
+Costs asked kind line X old new used (decided.Refuted reason) = PaysExactly asked kind line X old new [] used
+Costs asked kind line X old new used (decided.Found loads) = PaysWithin asked kind line X old new [] used
+Costs asked kind line X old new used (decided.Spent frames) = PaysExactly asked kind line X old new frames used
+Costs asked kind line X old new used (decided.NoMemory frames) = PaysWithin asked kind line X old new frames used
 
 -- what a desk that is alone saw in the call is its own events, and the units used are those of the entries added and of
 -- the frames

@@ -1,5 +1,5 @@
 -- What `decide` answers.
-use Rattle.std.specs.Prelude.{◌≡◌, ℕ, suc, ◌<◌, ◌≤◌, Bool, List, length, slice_get, Some}
+use Rattle.std.specs.Prelude.{◌≡◌, ℕ, suc, ◌<◌, ◌≤◌, Bool, List, length, slice_get, Option, Some}
 use Rattle.line_instance.specs.Line.{Line}
 use Rattle.line_rules.specs.Bounds.{bound}
 use Rattle.line_rules.specs.Loads.{IsLoad}
@@ -8,11 +8,12 @@ use Rattle.line_rules.specs.Entries.{Answers}
 use Rattle.line_rules.specs.Seats.{AreSeated}
 use Rattle.line_rules.specs.Trails.{IsTrail}
 use Rattle.line_rules.specs.declared.types.LineKind.{LineKind}
+use Rattle.line_rules.specs.declared.types.Mode.{Mode}
 use Rattle.line_rules.specs.declared.types.Load.{Load}
 use Rattle.line_rules.specs.declared.types.Entry.{Entry}
 use Rattle.line_rules.specs.declared.types.OpenFrame.{OpenFrame}
 use Rattle.lemma_core.specs.Desks.{DeskView}
-use Rattle.station_search.specs.Mode.{mode_of}
+use Rattle.station_search.specs.Mode.{frame_mode}
 use Rattle.station_search.specs.declared.answers.Reason.TheVariants as reason
 use Rattle.station_search.specs.declared.answers.Decided.{Decided}
 use Rattle.station_search.specs.declared.answers.Decided.TheVariants as decided
@@ -35,31 +36,32 @@ HasFurther line X frames =
     (k : ℕ) (f : OpenFrame) → slice_get frames k ≡ Some f → length frames ≡ suc k
     → (l : Load) × IsLoad line X f.mode f.set l × After line f.last l
 
--- each frame has the mode of its set
-abbrev pub HaveModes : LineKind → Line → List OpenFrame → Type 0
-HaveModes kind line frames = (k : ℕ) (f : OpenFrame) → slice_get frames k ≡ Some f → f.mode ≡ mode_of kind line f.set
+-- each frame has the mode that was asked for, or else that of its set
+abbrev pub HaveModes : Option Mode → LineKind → Line → List OpenFrame → Type 0
+HaveModes asked kind line frames =
+    (k : ℕ) (f : OpenFrame) → slice_get frames k ≡ Some f → f.mode ≡ frame_mode asked kind line f.set
 
 -- A search that stopped: its trail leads from the question of R in `most` stations, which the bound leaves open; no
 -- unit is left, and one more load is needed.
-pub record Stops (kind : LineKind) (line : Line) (X : ℕ) (es : List Entry) (R : List Bool) (most left : ℕ)
-    (frames : List OpenFrame) : Type 0 where
+pub record Stops (asked : Option Mode) (kind : LineKind) (line : Line) (X : ℕ) (es : List Entry) (R : List Bool)
+    (most left : ℕ) (frames : List OpenFrame) : Type 0 where
   pub bounded : bound kind line X R ≤ most
   pub trail : IsTrail kind line X es R most frames
   pub spent : left ≡ 0
   pub further : HasFurther line X frames
-  pub modes : HaveModes kind line frames
+  pub modes : HaveModes asked kind line frames
 
 -- What an answer says of the question whether R has a balance in `most` stations at cycle X, with the entries seen
 -- after the call and the units left: the bound refutes it; the bound doesn't, and an entry does; there is a balance, by
 -- loads; the units ended; or memory did.
-abbrev pub Decides : LineKind → Line → ℕ → List Entry → List Bool → ℕ → ℕ → Decided → Type 0
-Decides kind line X es R most left (decided.Refuted reason.ByBound) = most < bound kind line X R
-Decides kind line X es R most left (decided.Refuted (reason.ByEntry id)) =
+abbrev pub Decides : Option Mode → LineKind → Line → ℕ → List Entry → List Bool → ℕ → ℕ → Decided → Type 0
+Decides asked kind line X es R most left (decided.Refuted reason.ByBound) = most < bound kind line X R
+Decides asked kind line X es R most left (decided.Refuted (reason.ByEntry id)) =
     (bound kind line X R ≤ most) × IsAnswered es id R most X
-Decides kind line X es R most left (decided.Found loads) =
+Decides asked kind line X es R most left (decided.Found loads) =
     (bound kind line X R ≤ most) × (length loads ≤ most) × AreSeated kind line X R loads
-Decides kind line X es R most left (decided.Spent frames) = Stops kind line X es R most left frames
-Decides kind line X es R most left (decided.NoMemory frames) = Unit {0}
+Decides asked kind line X es R most left (decided.Spent frames) = Stops asked kind line X es R most left frames
+Decides asked kind line X es R most left (decided.NoMemory frames) = Unit {0}
 
 -- an entry refutes it
 abbrev pub IsByEntry : Decided → Type 0

@@ -1,5 +1,5 @@
 -- The end from which the stations of a set of tasks are filled.
-use Rattle.std.specs.Prelude.{ℕ, Bool, cond, nat_eq, nat_le, List}
+use Rattle.std.specs.Prelude.{ℕ, Bool, cond, nat_eq, nat_le, List, Option, Some, None}
 use Rattle.std.specs.List.{count_by}
 use Rattle.task_set.specs.Truths.{members_of}
 use Rattle.line_instance.specs.Line.{Line, is_before}
@@ -27,3 +27,8 @@ sinks line R = count_by (is_sink line R) (members_of R)
 unfoldable pub mode_of : LineKind → Line → List Bool → Mode
 mode_of Straight line R = cond (nat_le (sources line R) (sinks line R)) mode.Fore mode.Back
 mode_of U line R = mode.Both
+
+-- the mode of a frame: the one that was asked for, and where none was the mode of its set
+abbrev pub frame_mode : Option Mode → LineKind → Line → List Bool → Mode
+frame_mode None kind line R = mode_of kind line R
+frame_mode (Some mode) kind line R = mode

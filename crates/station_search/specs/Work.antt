@@ -6,6 +6,7 @@ use Rattle.line_rules.specs.Loads.{rest}
 use Rattle.line_rules.specs.Entries.{IsOpen, Cites, IsUnanswered}
 use Rattle.line_rules.specs.Units.{UnitsIn}
 use Rattle.line_rules.specs.declared.types.LineKind.{LineKind}
+use Rattle.line_rules.specs.declared.types.Mode.{Mode}
 use Rattle.line_rules.specs.declared.types.Load.{Load}
 use Rattle.line_rules.specs.declared.types.Entry.{Entry}
 use Rattle.line_rules.specs.declared.types.Why.TheVariants as why
@@ -58,11 +59,12 @@ Sorts kind line X alone es f l (sorted.Open set) =
     × (alone ≡ true → IsUnanswered es set (f.most - 1) X)
 
 -- What was done on a desk: these own events, which paid so much; a desk that is alone saw nothing else.
-pub record Does (kind : LineKind) (line : Line) (X : ℕ) (old new : DeskView) (items : List Item) (n : ℕ) : Type 0 where
+pub record Does (asked : Option Mode) (kind : LineKind) (line : Line) (X : ℕ) (old new : DeskView)
+    (items : List Item) (n : ℕ) : Type 0 where
   pub did : Did old new items
   pub publishes : ArePublish items
-  pub lemmas : AreLemmas kind line X (added_of items)
-  pub paid : PayAll kind line X (entries new) items n
+  pub lemmas : AreLemmas asked kind line X (added_of items)
+  pub paid : PayAll asked kind line X (entries new) items n
   pub alone : old.alone ≡ true → new.seen ≡ old.seen ++ items
 
 -- each item is of an entry that was added
@@ -78,10 +80,10 @@ AreOfSet T [] = Unit {0}
 AreOfSet T (e ∷ es) = (e.set ≡ T) × AreOfSet T es
 
 -- Publishes of entries of the set T, of which at most so many were added: all, where the desk is alone.
-pub record DoesFor (kind : LineKind) (line : Line) (X : ℕ) (old new : DeskView) (T : List Bool) (most n : ℕ)
-    : Type 0 where
+pub record DoesFor (asked : Option Mode) (kind : LineKind) (line : Line) (X : ℕ) (old new : DeskView)
+    (T : List Bool) (most n : ℕ) : Type 0 where
   pub items : List Item
-  pub done : Does kind line X old new items n
+  pub done : Does asked kind line X old new items n
   pub few : length (added_of items) ≤ most
   pub of_set : AreOfSet T (added_of items)
   pub fresh : old.alone ≡ true → AllAdded items
@@ -99,32 +101,32 @@ may_swap None = 0
 may_swap (Some id) = 1
 
 -- the account of a search: what was done and the frames pay for units used, and the entries added are at most so many
-pub record Accounts (kind : LineKind) (line : Line) (X : ℕ) (old new : DeskView) (frames : List OpenFrame) (used most : ℕ)
-    : Type 0 where
+pub record Accounts (asked : Option Mode) (kind : LineKind) (line : Line) (X : ℕ) (old new : DeskView)
+    (frames : List OpenFrame) (used most : ℕ) : Type 0 where
   pub items : List Item
   pub published : ℕ
   pub listed : ℕ
-  pub done : Does kind line X old new items published
+  pub done : Does asked kind line X old new items published
   pub framed : UnitsIn line X frames listed
   pub within : published + listed ≤ used
   pub few : length (added_of items) ≤ most
 
 -- all units used are paid for, and a desk that is alone added an entry with each event
-pub record Balances (kind : LineKind) (line : Line) (X : ℕ) (old new : DeskView) (frames : List OpenFrame) (used most : ℕ)
-    : Type 0 where
+pub record Balances (asked : Option Mode) (kind : LineKind) (line : Line) (X : ℕ) (old new : DeskView)
+    (frames : List OpenFrame) (used most : ℕ) : Type 0 where
   pub items : List Item
   pub published : ℕ
   pub listed : ℕ
-  pub done : Does kind line X old new items published
+  pub done : Does asked kind line X old new items published
   pub framed : UnitsIn line X frames listed
   pub sum : published + listed ≡ used
   pub few : length (added_of items) ≤ most
   pub fresh : old.alone ≡ true → AllAdded items
 
 -- the account of an answer
-abbrev pub Ends : LineKind → Line → ℕ → DeskView → DeskView → ℕ → Decided → Type 0
-Ends kind line X old new used (decided.Refuted reason) = Balances kind line X old new [] used (used + 1)
-Ends kind line X old new used (decided.Found loads) = Accounts kind line X old new [] used used
-Ends kind line X old new used (decided.Spent frames) =
-    Balances kind line X old new frames used used × (old.alone ≡ true → AreUnanswered (entries new) X frames)
-Ends kind line X old new used (decided.NoMemory frames) = Accounts kind line X old new frames used used
+abbrev pub Ends : Option Mode → LineKind → Line → ℕ → DeskView → DeskView → ℕ → Decided → Type 0
+Ends asked kind line X old new used (decided.Refuted reason) = Balances asked kind line X old new [] used (used + 1)
+Ends asked kind line X old new used (decided.Found loads) = Accounts asked kind line X old new [] used used
+Ends asked kind line X old new used (decided.Spent frames) =
+    Balances asked kind line X old new frames used used × (old.alone ≡ true → AreUnanswered (entries new) X frames)
+Ends asked kind line X old new used (decided.NoMemory frames) = Accounts asked kind line X old new frames used used

@@ -1,7 +1,8 @@
 //! Whether a set of tasks has a balance in so many stations.
-ghost use Rattle.std.specs.Prelude.{◌≡◌, ◌+◌, ◌-◌, ◌^◌, ◌<◌, ◌≤◌, true};
+ghost use Rattle.std.specs.Prelude.{◌≡◌, ◌+◌, ◌-◌, ◌^◌, ◌<◌, ◌≤◌, true, None, IfSome};
 ghost use Rattle.line_instance.specs.Line.{IsTaskSet};
 ghost use Rattle.line_rules.specs.Bounds.{bound};
+ghost use Rattle.line_rules.specs.Loads.{Belongs};
 ghost use Rattle.line_rules.specs.Entries.{HasAnswer};
 ghost use Rattle.line_rules.specs.Ranges.{IsCycle};
 ghost use Rattle.lemma_core.specs.Desks.{entries, Keeps};
@@ -12,7 +13,7 @@ use crate::answers::{Decided, Reason, Units};
 use crate::searching::search;
 use lemma_core::{Desk, Looked};
 use line_instance::Instance;
-use line_rules::{Frames, LineKind, Loads};
+use line_rules::{Frames, LineKind, Loads, Mode};
 use lower_bounds::exceeds;
 use std::alloc::Global;
 use task_set::TaskSet;
@@ -22,7 +23,8 @@ use task_set::TaskSet;
 ///
 /// The desk is for this instance, line kind and cycle, which is 1 to 1,000,000,000,000,000,000 in the instance's time
 /// unit; `most` is at most 1,024. Each load that is listed takes a unit from those left. Where none is left and one
-/// more load is needed, the answer is `Spent`. The frames of the search stand on a stack in the heap.
+/// more load is needed, the answer is `Spent`. The frames of the search stand on a stack in the heap. Each has the mode
+/// of its set, by `choose_mode`.
 pub fn decide<D: Desk>(
     alloc: Global,
     desk: &mut D,
@@ -40,13 +42,49 @@ pub fn decide<D: Desk>(
     requires units { units.old.used + units.old.left < 2 ^ 64 }
     ensures keeps { Keeps (D.desk desk.old) (D.desk desk.new) }
     ensures units { units.new.used + units.new.left ≡ units.old.used + units.old.left }
-    ensures own { HasPublished kind inst.now cycle (D.desk desk.old) (D.desk desk.new) }
-    ensures decides { Decides kind inst.now cycle (entries (D.desk desk.new)) set.now most units.new.left result }
+    ensures own { HasPublished None kind inst.now cycle (D.desk desk.old) (D.desk desk.new) }
+    ensures decides { Decides None kind inst.now cycle (entries (D.desk desk.new)) set.now most units.new.left result }
     ensures known { bound kind inst.now cycle set.now ≤ most
         → HasAnswer (entries (D.desk desk.old)) set.now most cycle
         → IsByEntry result × (units.new.used ≡ units.old.used) }
     ensures costs { let used = units.new.used - units.old.used in
-        Costs kind inst.now cycle (D.desk desk.old) (D.desk desk.new) used result }
+        Costs None kind inst.now cycle (D.desk desk.old) (D.desk desk.new) used result }
+    ensures alone { let used = units.new.used - units.old.used in
+        (D.desk desk.old).alone ≡ true → CostsAlone inst.now cycle (D.desk desk.old) (D.desk desk.new) used result }
+    ensures few { let used = units.new.used - units.old.used in
+        FewAdded inst.now cycle (D.desk desk.old) (D.desk desk.new) used result }
+{
+    decide_in(alloc, desk, inst, kind, cycle, set, most, None, units)
+}
+
+/// The same question, with each frame of the search in the mode that is asked for, which belongs to the kind of line;
+/// `decide` asks for none, and then each frame has the mode of its set.
+pub fn decide_in<D: Desk>(
+    alloc: Global,
+    desk: &mut D,
+    inst: &Instance,
+    kind: LineKind,
+    cycle: u64,
+    set: &TaskSet,
+    most: u32,
+    mode: Option<Mode>,
+    units: &mut Units,
+) -> Decided
+    requires desk { IsFor (D.desk desk.old) inst.now kind cycle }
+    requires set { IsTaskSet inst.now set.now }
+    requires cycle { IsCycle cycle }
+    requires few { most ≤ 1024 }
+    requires mode { IfSome mode (Belongs kind) }
+    requires units { units.old.used + units.old.left < 2 ^ 64 }
+    ensures keeps { Keeps (D.desk desk.old) (D.desk desk.new) }
+    ensures units { units.new.used + units.new.left ≡ units.old.used + units.old.left }
+    ensures own { HasPublished mode kind inst.now cycle (D.desk desk.old) (D.desk desk.new) }
+    ensures decides { Decides mode kind inst.now cycle (entries (D.desk desk.new)) set.now most units.new.left result }
+    ensures known { bound kind inst.now cycle set.now ≤ most
+        → HasAnswer (entries (D.desk desk.old)) set.now most cycle
+        → IsByEntry result × (units.new.used ≡ units.old.used) }
+    ensures costs { let used = units.new.used - units.old.used in
+        Costs mode kind inst.now cycle (D.desk desk.old) (D.desk desk.new) used result }
     ensures alone { let used = units.new.used - units.old.used in
         (D.desk desk.old).alone ≡ true → CostsAlone inst.now cycle (D.desk desk.old) (D.desk desk.new) used result }
     ensures few { let used = units.new.used - units.old.used in
@@ -62,7 +100,7 @@ pub fn decide<D: Desk>(
     if set.is_empty() {
         return Decided::Found(Loads::from_vec(Vec::new(alloc)));
     }
-    match search(alloc, desk, inst, kind, cycle, set, most, units) {
+    match search(alloc, desk, inst, kind, cycle, set, most, mode, units) {
         Ok(decided) => decided,
         Err(_) => Decided::NoMemory(Frames::from_vec(Vec::new(alloc))),
     }

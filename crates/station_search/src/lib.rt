@@ -14,6 +14,6 @@ mod stacks;
 mod swaps;
 
 pub use answers::{Decided, Reason, Units};
-pub use deciding::decide;
+pub use deciding::{decide, decide_in};
 pub use modes::choose_mode;
 pub use placing::balance_of;

@@ -1,10 +1,10 @@
 //! The choice of the end from which the stations of a set are filled: the one with fewer tasks to begin with.
 //!
 //! One pass over the members, with two meets of words for each.
-ghost use Rattle.std.specs.Prelude.{◌≡◌, ◌<◌};
+ghost use Rattle.std.specs.Prelude.{◌≡◌, ◌<◌, IfSome};
 ghost use Rattle.line_instance.specs.Line.{IsTaskSet, tasks};
 ghost use Rattle.line_rules.specs.Loads.{Belongs};
-ghost use Rattle.station_search.specs.Mode.{mode_of, is_source, is_sink};
+ghost use Rattle.station_search.specs.Mode.{mode_of, frame_mode, is_source, is_sink};
 
 use line_instance::Instance;
 use line_rules::{LineKind, Mode};
@@ -48,5 +48,19 @@ pub fn choose_mode(inst: &Instance, kind: LineKind, set: &TaskSet) -> Mode
         Mode::Fore
     } else {
         Mode::Back
+    }
+}
+
+/// The mode of a frame: the one that is asked for, and where none is the mode of its set.
+#[inline]
+pub fn mode_for(inst: &Instance, kind: LineKind, set: &TaskSet, asked: Option<Mode>) -> Mode
+    requires set { IsTaskSet inst.now set.now }
+    requires asked { IfSome asked (Belongs kind) }
+    ensures mode { result ≡ frame_mode asked kind inst.now set.now }
+    ensures belongs { Belongs kind result }
+{
+    match asked {
+        Some(mode) => mode,
+        None => choose_mode(inst, kind, set),
     }
 }

@@ -3,7 +3,7 @@
 //! A frame is a question: whether its set has a balance in so many stations. Its loads are listed in order. The rest of
 //! a load that nothing refutes is the question of a frame below. A frame whose loads ended is refuted, and published.
 ghost use Rattle.std.specs.Prelude.{◌≡◌, ℕ, ◌+◌, ◌-◌, ◌^◌, ◌<◌, ◌≤◌, true, List, [], ◌∷◌, ◌++◌};
-ghost use Rattle.std.specs.Prelude.{IfOk, OnOk, OnErr, None};
+ghost use Rattle.std.specs.Prelude.{Option, IfOk, OnOk, OnErr, IfSome, None};
 ghost use Rattle.task_set.specs.Truths.{In};
 ghost use Rattle.line_instance.specs.Line.{Line, IsTaskSet};
 ghost use Rattle.line_rules.specs.Bounds.{bound};
@@ -12,21 +12,22 @@ ghost use Rattle.line_rules.specs.Order.{Counts};
 ghost use Rattle.line_rules.specs.Entries.{IsUnanswered};
 ghost use Rattle.line_rules.specs.Ranges.{IsCycle};
 ghost use Rattle.line_rules.specs.declared.types.LineKind.{LineKind as Kind};
+ghost use Rattle.line_rules.specs.declared.types.Mode.{Mode as Way};
 ghost use Rattle.lemma_core.specs.Desks.{entries, Keeps, Waits, FollowsSeen};
 ghost use Rattle.lemma_core.specs.Own.{IsStatable};
-ghost use Rattle.station_search.specs.Mode.{mode_of};
+ghost use Rattle.station_search.specs.Mode.{frame_mode};
 ghost use Rattle.station_search.specs.Decide.{IsFor, IsAnswered, Decides};
 ghost use Rattle.station_search.specs.Work.{branch_of, DoesFor, Accounts, Ends};
 
 use crate::answers::{Decided, Reason, Units};
 use crate::listings::{Listing, begin_listing, next_load};
-use crate::modes::choose_mode;
+use crate::modes::mode_for;
 use crate::ordering::loads_in_order;
 use crate::sorting::{Sorted, sort_load};
 use crate::stacks::{pop_from, push_on, take_from};
 use lemma_core::{Desk, Published};
 use line_instance::Instance;
-use line_rules::{Cites, Entry, Frames, LineKind, OpenFrame, Why};
+use line_rules::{Cites, Entry, Frames, LineKind, Mode, OpenFrame, Why};
 use std::alloc::{AllocError, Global};
 use task_set::TaskSet;
 
@@ -37,11 +38,11 @@ fn publish_branch<D: Desk>(desk: &mut D, cycle: u64, frame: OpenFrame) -> Result
     ensures keeps { Keeps (D.desk desk.old) (D.desk desk.new) }
     ensures waits { OnErr result (Waits (D.desk desk.old) (D.desk desk.new)) }
     ensures answered { IfOk result (λ id. IsAnswered (entries (D.desk desk.new)) id frame.set frame.most cycle) }
-    ensures publishes { (kind : Kind) (line : Line) (n : ℕ)
-        → frame.mode ≡ mode_of kind line frame.set
+    ensures publishes { (asked : Option Way) (kind : Kind) (line : Line) (n : ℕ)
+        → frame.mode ≡ frame_mode asked kind line frame.set
         → Counts line (IsLoad line cycle frame.mode frame.set) n
         → ((D.desk desk.old).alone ≡ true → IsUnanswered (entries (D.desk desk.old)) frame.set frame.most cycle)
-        → OnOk result (DoesFor kind line cycle (D.desk desk.old) (D.desk desk.new) frame.set 1 n) }
+        → OnOk result (DoesFor asked kind line cycle (D.desk desk.old) (D.desk desk.new) frame.set 1 n) }
 {
     let step = Entry {
         set: frame.set,
@@ -59,12 +60,20 @@ fn publish_branch<D: Desk>(desk: &mut D, cycle: u64, frame: OpenFrame) -> Result
     }
 }
 
-// A frame of which no load was listed.
-fn open_frame(alloc: Global, inst: &Instance, kind: LineKind, set: &TaskSet, most: u32) -> OpenFrame
-    requires { IsTaskSet inst.now set.now }
+// A frame of which no load was listed: in the mode asked for, or else in that of its set.
+fn open_frame(
+    alloc: Global,
+    inst: &Instance,
+    kind: LineKind,
+    set: &TaskSet,
+    most: u32,
+    mode: Option<Mode>,
+) -> OpenFrame
+    requires set { IsTaskSet inst.now set.now }
+    requires mode { IfSome mode (Belongs kind) }
     ensures set { result.set ≡ set.now }
     ensures most { result.most ≡ most }
-    ensures mode { result.mode ≡ mode_of kind inst.now set.now }
+    ensures mode { result.mode ≡ frame_mode mode kind inst.now set.now }
     ensures belongs { Belongs kind result.mode }
     ensures last { result.last ≡ None }
     ensures cites { result.cites ≡ [] }
@@ -72,7 +81,7 @@ fn open_frame(alloc: Global, inst: &Instance, kind: LineKind, set: &TaskSet, mos
     OpenFrame {
         set: *set,
         most,
-        mode: choose_mode(inst, kind, set),
+        mode: mode_for(inst, kind, set, mode),
         last: None,
         cites: Cites::from_vec(Vec::new(alloc)),
     }
@@ -87,12 +96,14 @@ pub fn search<D: Desk>(
     cycle: u64,
     set: &TaskSet,
     most: u32,
+    mode: Option<Mode>,
     units: &mut Units,
 ) -> Result<Decided, AllocError>
     requires desk { IsFor (D.desk desk.old) inst.now kind cycle }
     requires set { IsTaskSet inst.now set.now }
     requires cycle { IsCycle cycle }
     requires few { most ≤ 1024 }
+    requires mode { IfSome mode (Belongs kind) }
     requires some { (i : ℕ) × In set.now i }
     requires bound { bound kind inst.now cycle set.now ≤ most }
     requires unanswered { (D.desk desk.old).alone ≡ true → IsUnanswered (entries (D.desk desk.old)) set.now most cycle }
@@ -100,16 +111,16 @@ pub fn search<D: Desk>(
     ensures keeps { Keeps (D.desk desk.old) (D.desk desk.new) }
     ensures units { units.new.used + units.new.left ≡ units.old.used + units.old.left }
     ensures decides { IfOk result
-        (Decides kind inst.now cycle (entries (D.desk desk.new)) set.now most units.new.left) }
+        (Decides mode kind inst.now cycle (entries (D.desk desk.new)) set.now most units.new.left) }
     ensures ends { IfOk result
-        (Ends kind inst.now cycle (D.desk desk.old) (D.desk desk.new) (units.new.used - units.old.used)) }
+        (Ends mode kind inst.now cycle (D.desk desk.old) (D.desk desk.new) (units.new.used - units.old.used)) }
     ensures accounts { let used = units.new.used - units.old.used in
-        OnErr result (Accounts kind inst.now cycle (D.desk desk.old) (D.desk desk.new) [] used used) }
+        OnErr result (Accounts mode kind inst.now cycle (D.desk desk.old) (D.desk desk.new) [] used used) }
 {
     let _tasks = inst.tasks();
     let mut passed: Vec<OpenFrame> = Vec::new(alloc);
     let mut listings: Vec<Listing> = Vec::new(alloc);
-    let mut frame = open_frame(alloc, inst, kind, set, most);
+    let mut frame = open_frame(alloc, inst, kind, set, most, mode);
     let mut listing = begin_listing(inst, cycle, &frame);
     'search: loop {
         match next_load(inst, cycle, &frame, &mut listing) {
@@ -141,7 +152,7 @@ pub fn search<D: Desk>(
                         return Ok(Decided::Found(loads_in_order(alloc, &frames)?));
                     }
                     Sorted::Open(rest) => {
-                        let below = open_frame(alloc, inst, kind, &rest, frame.most - 1);
+                        let below = open_frame(alloc, inst, kind, &rest, frame.most - 1, mode);
                         push_on(&mut passed, frame)?;
                         push_on(&mut listings, listing)?;
                         listing = begin_listing(inst, cycle, &below);

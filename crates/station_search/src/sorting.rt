@@ -1,8 +1,9 @@
 //! What is to be done with a load that was listed: the tests of the load and of its rest.
-ghost use Rattle.std.specs.Prelude.{◌≡◌, ◌≤◌, Some, IfOk, OnErr};
+ghost use Rattle.std.specs.Prelude.{◌≡◌, ◌≤◌, Option, Some, IfOk, OnErr};
 ghost use Rattle.line_instance.specs.Line.{IsTaskSet};
 ghost use Rattle.line_rules.specs.Loads.{IsLoad, rest};
 ghost use Rattle.line_rules.specs.Ranges.{IsCycle};
+ghost use Rattle.line_rules.specs.declared.types.Mode.{Mode};
 ghost use Rattle.lemma_core.specs.Desks.{entries, Keeps};
 ghost use Rattle.station_search.specs.Decide.{IsFor};
 ghost use Rattle.station_search.specs.Work.{IsBeside, Sorts, DoesFor, may_add};
@@ -48,10 +49,10 @@ pub fn sort_load<D: Desk>(
     requires some { 1 ≤ frame.now.most }
     requires few { frame.now.most ≤ 1024 }
     ensures keeps { Keeps (D.desk desk.old) (D.desk desk.new) }
-    ensures publishes { let rest = rest frame.now.set load.now in
-        IfOk result (λ s. DoesFor kind inst.now cycle (D.desk desk.old) (D.desk desk.new) rest (may_add s) 0) }
-    ensures fails { let rest = rest frame.now.set load.now in
-        OnErr result (DoesFor kind inst.now cycle (D.desk desk.old) (D.desk desk.new) rest 0 0) }
+    ensures publishes { (asked : Option Mode) → let rest = rest frame.now.set load.now in
+        IfOk result (λ s. DoesFor asked kind inst.now cycle (D.desk desk.old) (D.desk desk.new) rest (may_add s) 0) }
+    ensures fails { (asked : Option Mode) → let rest = rest frame.now.set load.now in
+        OnErr result (DoesFor asked kind inst.now cycle (D.desk desk.old) (D.desk desk.new) rest 0 0) }
     ensures sorts { IfOk result
         (Sorts kind inst.now cycle (D.desk desk.old).alone (entries (D.desk desk.new)) frame.now load.now) }
 {

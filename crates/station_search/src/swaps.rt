@@ -2,11 +2,12 @@
 //! can stand in for it.
 //!
 //! At most 32 looks are made for a rest, with the kept partners of its tasks.
-ghost use Rattle.std.specs.Prelude.{◌≡◌, ◌<◌, ◌≤◌, true, IsNone, IfSome, IfOk, OnErr};
+ghost use Rattle.std.specs.Prelude.{◌≡◌, ◌<◌, ◌≤◌, true, Option, IsNone, IfSome, IfOk, OnErr};
 ghost use Rattle.task_set.specs.Truths.{In};
 ghost use Rattle.line_instance.specs.Line.{IsTaskSet};
 ghost use Rattle.line_rules.specs.Entries.{IsUnanswered, FollowsBySwap};
 ghost use Rattle.line_rules.specs.Ranges.{IsCycle};
+ghost use Rattle.line_rules.specs.declared.types.Mode.{Mode};
 ghost use Rattle.lemma_core.specs.Desks.{entries, Keeps, Waits};
 ghost use Rattle.station_search.specs.Decide.{IsFor, IsAnswered};
 ghost use Rattle.station_search.specs.Work.{DoesFor, may_swap, swap_of};
@@ -122,8 +123,8 @@ pub fn publish_swap<D: Desk>(
     requires few { most ≤ 1024 }
     requires unanswered { (D.desk desk.old).alone ≡ true → IsUnanswered (entries (D.desk desk.old)) set.now most cycle }
     ensures keeps { Keeps (D.desk desk.old) (D.desk desk.new) }
-    ensures publishes { IfOk result (λ found.
-        DoesFor kind inst.now cycle (D.desk desk.old) (D.desk desk.new) set.now (may_swap found) 0) }
+    ensures publishes { (asked : Option Mode) → IfOk result (λ found.
+        DoesFor asked kind inst.now cycle (D.desk desk.old) (D.desk desk.new) set.now (may_swap found) 0) }
     ensures fails { OnErr result (Waits (D.desk desk.old) (D.desk desk.new)) }
     ensures answered { IfOk result (λ found.
         IfSome found (λ id. IsAnswered (entries (D.desk desk.new)) id set.now most cycle)) }

@@ -1,18 +1,16 @@
 -- Old entries that were taken are answered in the book, under their numbers.
-use Rattle.std.proofs.Common.{◌≡◌, ℕ, zero, suc, ◌+◌, ◌-◌, ◌<◌, ◌≤◌, List, [], ◌∷◌, ◌++◌, length, take, refl, sym, ap, ◌∙◌, subst, inl, inr, arith, append_assoc, length-append, Option, Some, None}
+use Rattle.std.proofs.Common.{◌≡◌, ℕ, ◌+◌, ◌-◌, ◌<◌, ◌≤◌, List, [], ◌∷◌, ◌++◌, length, take, refl, sym, ap, ◌∙◌, subst, inl, inr, arith, append_assoc, length-append, Option, Some, None}
 use Rattle.std.proofs.lemmas.List.{append-nil}
-use Rattle.std.proofs.lemmas.Option.{slice_get_within}
 use Rattle.std.specs.Prelude.{slice_get, unwrap_or, ◌⊎◌, IfSome}
 use Rattle.line_rules.proofs.ListFacts.{get_longer, get_push_cases, get_last}
 use Rattle.line_instance.specs.Line.{Line}
-use Rattle.line_rules.specs.Entries.{Answers}
 use Rattle.line_rules.specs.declared.types.LineKind.{LineKind}
 use Rattle.line_rules.specs.declared.types.Entry.{Entry}
 use Rattle.lemma_core.proofs.Runs.{last_found}
 use Rattle.lemma_core.specs.declared.types.Event.TheVariants as event
 use Rattle.lemma_core.specs.Machine.{State, last_answer, with_entry}
 use Rattle.lemma_core.specs.Books.{BookView, ran}
-use Rattle.warm_book.specs.Warm.{Taking, number_at, new_number, number_of, IsKept, Takes, TakesAll, keeping, dropping, untaken, renumbered}
+use Rattle.warm_book.specs.Warm.{Taking, number_at, number_of, IsKept, Takes, TakesAll, keeping, dropping, untaken}
 use Rattle.warm_book.specs.Walked.{IsAnsweredAt, AreNumbered, AreWalked, IsWalked, IsSpared}
 use Rattle.warm_book.proofs.NumberFacts.{asks_same}
 use Rattle.warm_book.proofs.TakingFacts.{one_entry, step_adds}

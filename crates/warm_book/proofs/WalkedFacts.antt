@@ -1,9 +1,9 @@
 -- What follows from old entries follows from a list that answers each of them under its number.
-use Rattle.std.proofs.Common.{◌≡◌, ℕ, zero, suc, ◌≤◌, ◌-◌, Bool, List, [], ◌∷◌, length, refl, sym, ap, ◌∙◌, subst, arith, Option, Some, None}
+use Rattle.std.proofs.Common.{◌≡◌, ℕ, zero, suc, Bool, List, [], ◌∷◌, length, refl, sym, ap, ◌∙◌, subst, arith, Option, Some, None}
 use Rattle.std.specs.Prelude.{slice_get, IfSome}
 use Rattle.task_set.specs.Truths.{In, IsSubset}
-use Rattle.line_instance.specs.Line.{Line, Before, Apart}
-use Rattle.line_rules.specs.Entries.{Cites, Covers, Follows, FollowsBy, FollowsByBranch, FollowsBySwap, IsOpen}
+use Rattle.line_instance.specs.Line.{Line}
+use Rattle.line_rules.specs.Entries.{Cites, Covers, FollowsBy, FollowsBySwap, IsOpen}
 use Rattle.line_rules.specs.Units.{UnitsBy}
 use Rattle.line_rules.specs.declared.types.LineKind.{LineKind}
 use Rattle.line_rules.specs.declared.types.Mode.{Mode}
@@ -12,7 +12,7 @@ use Rattle.line_rules.specs.declared.types.Entry.{Entry}
 use Rattle.line_rules.specs.declared.types.Why.{Why}
 use Rattle.line_rules.specs.declared.types.Why.TheVariants as why
 use Rattle.warm_book.specs.Warm.{Taking, new_number, with_number, renumbered_cites, by_branch, by_swap, renumbered_why, with_why, renumbered}
-use Rattle.warm_book.specs.Walked.{IsAnsweredAt, AreNumbered, IsWalked, IsSpared}
+use Rattle.warm_book.specs.Walked.{IsAnsweredAt, IsWalked, IsSpared}
 
 -- a number is that of the cite at its place
 record IsCiteAt (numbers : List (Option ℕ)) (cites : List ℕ) (p number : ℕ) : Type 0 where

@@ -1,3 +1,4 @@
 pub mod Warm
 pub mod Takings
 pub mod Walked
+pub mod Counted

@@ -1,5 +1,5 @@
 -- Old entries that are walked among the old ones, side by side, and what that says of them in a book.
-use Rattle.std.specs.Prelude.{◌≡◌, ℕ, ◌+◌, ◌-◌, ◌&&◌, nat_le, Bool, true, false, not, List, length, take, slice_get, Option, Some, None}
+use Rattle.std.specs.Prelude.{◌≡◌, ℕ, ◌+◌, ◌&&◌, nat_le, Bool, true, false, not, List, length, take, slice_get, Option, Some, None}
 use Rattle.std.specs.List.{list_all}
 use Rattle.line_instance.specs.Line.{Line}
 use Rattle.line_rules.specs.Entries.{Answers, Follows}

@@ -11,4 +11,4 @@ mod warming;
 mod wide;
 
 pub use warming::{Warmed, warm};
-pub use wide::warm_wide;
+pub use wide::{Counted, warm_counted, warm_wide};

@@ -18,6 +18,7 @@ ghost use Rattle.line_rules.specs.Entries.{IsDerived, IsFresh};
 ghost use Rattle.line_rules.specs.Ranges.{AreEntries};
 ghost use Rattle.lemma_core.specs.Books.{BookView, IsReserved};
 ghost use Rattle.warm_book.specs.Warm.{TakesAll, untaken, IsWarmed, IsOneWarmed, GivesWarmer, OfBook};
+ghost use Rattle.warm_book.specs.Counted.{warmed_of, AreCounted};
 ghost use Rattle.warm_book.specs.Takings.{taking};
 ghost use Rattle.warm_book.specs.Walked.{is_dropped, has_hope, may_stand, IsWalkedAt, AreWalked};
 
@@ -247,6 +248,15 @@ impl Warming {
     }
 }
 
+/// What a book is after it took in old entries, with the units of those that were kept.
+#[derive(Drop)]
+pub enum Counted {
+    /// All old entries were gone over, and so many of them were kept, with so many units together.
+    Done { book: Book, kept: u32, units: u64 },
+    /// Out of memory: the book with what was kept before.
+    NoMemory(Book),
+}
+
 /// Takes old entries into a book as [`warm`](crate::warm) does, and answers the same, with the old entries walked side by
 /// side. More loads than `room` may be walked.
 pub fn warm_wide<R: Threads + Sync>(
@@ -266,9 +276,38 @@ pub fn warm_wide<R: Threads + Sync>(
     ensures fresh { OfBook (λ b. IsFresh b.state.entries) result }
     ensures reserved { OfBook (λ b. IsReserved book → IsReserved b) result }
 {
+    match warm_counted(rt, alloc, inst, book, old, room) {
+        Counted::Done {
+            book,
+            kept,
+            units: _,
+        } => Warmed::Done { book, kept },
+        Counted::NoMemory(book) => Warmed::NoMemory(book),
+    }
+}
+
+/// The same, with the units of the entries that were kept.
+pub fn warm_counted<R: Threads + Sync>(
+    rt: &R,
+    alloc: Global,
+    inst: &Instance,
+    book: Book,
+    old: &Entries,
+    room: u64,
+) -> Counted
+    requires same { book.about.line ≡ inst.now }
+    requires range { AreEntries (tasks inst.now) old.now }
+    ensures warmed { IsWarmed room book old.now (warmed_of result) }
+    ensures units { AreCounted room book old.now result }
+    ensures in_order { IsOneWarmed room book old.now (warmed_of result) }
+    ensures warmer { GivesWarmer room book (warmed_of result) }
+    ensures derived { OfBook (λ b. IsDerived b.about.kind b.about.line b.state.entries) (warmed_of result) }
+    ensures fresh { OfBook (λ b. IsFresh b.state.entries) (warmed_of result) }
+    ensures reserved { OfBook (λ b. IsReserved book → IsReserved b) (warmed_of result) }
+{
     let Ok(numbers) = Vec::with_capacity(alloc, old.len()) else {
         let _entries = book.entries();
-        return Warmed::NoMemory(book);
+        return Counted::NoMemory(book);
     };
     let mut warming = Warming {
         book,
@@ -281,13 +320,14 @@ pub fn warm_wide<R: Threads + Sync>(
         let to = old.len().min(from + batch_size(warming.kept));
         let Ok(()) = warming.walk_batch(rt, alloc, inst, old, from, to, room) else {
             let _entries = warming.book.entries();
-            return Warmed::NoMemory(warming.book);
+            return Counted::NoMemory(warming.book);
         };
         from = to;
     }
     let _entries = warming.book.entries();
-    Warmed::Done {
+    Counted::Done {
         book: warming.book,
         kept: warming.kept,
+        units: warming.units,
     }
 }

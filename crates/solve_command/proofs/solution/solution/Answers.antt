@@ -1,8 +1,10 @@
+use Rattle.solve_command.specs.WarmStart.{Start}
 use Rattle.solve_command.proofs.PromiseFacts.{bounded_shown}
 use Rattle.solve_command.proofs.solution.solution.Goals as goal
 
 pub returns-clause-shown : goal.returns-clause-shown
 returns-clause-shown g c =
-    let r = bounded_shown c.args.kind c.args.inst.now c.args.cycle c.args.plan.now c.args.olds c.run.result
-    (c.run.ensures.answer c.args.olds c.in_ok-begun.ensures) in
+    let start : Start = record { olds = c.args.olds; seek = c.args.limit } in
+    let r = bounded_shown c.args.kind c.args.inst.now c.args.cycle c.args.plan.now start c.run.result
+    (c.run.ensures.answer start c.in_ok-begun.ensures) in
     r.1

@@ -17,7 +17,7 @@ returns-in_err-timed-clause-ends g c = λ t.
     let apart : Option (List ℕ) = option_map (λ a. a.now) c.args.apart in
     let warm : Option (List ℕ) = option_map (λ a. a.now) c.args.warm in
     let name : Option (List ℕ) = option_map (λ a. a.now) c.args.name in
-    let P : Outcome → Type 0 = IsSolveOutcome o file apart warm c.args.word c.args.kind c.args.plan.now name in
+    let P : Outcome → Type 0 = IsSolveOutcome o file apart warm c.args.limit c.args.word c.args.kind c.args.plan.now name in
     let after : Files = g.S.Shelf.file c.said_instance.new.shelf in
     let q = err_from_is_err_and c.from_residual.result c.from_residual.ensures.1 in
     subst (λ r. Ends o P after r) (sym q.1)
@@ -37,7 +37,7 @@ returns-in_err-olds-clause-ends g c = λ t.
     let name : Option (List ℕ) = option_map (λ a. a.now) c.args.name in
     let line = c.in_ok-timed.timed.inst in
     let cycle = c.in_ok-timed.timed.cycle in
-    let P : Outcome → Type 0 = IsSolveOutcome o file apart warm c.args.word c.args.kind c.args.plan.now name in
+    let P : Outcome → Type 0 = IsSolveOutcome o file apart warm c.args.limit c.args.word c.args.kind c.args.plan.now name in
     let Q : Outcome → Type 0 = IsUnwarmed (outside mid blames) warm c.args.kind line in
     let q = err_from_is_err_and c.from_residual-in_err-olds.result c.from_residual-in_err-olds.ensures.1 in
     subst (λ r. Ends o P after r) (sym q.1)
@@ -63,7 +63,7 @@ returns-in_err-report-clause-ends g c = λ t.
     let name : Option (List ℕ) = option_map (λ a. a.now) c.args.name in
     let line = c.in_ok-timed.timed.inst in
     let cycle = c.in_ok-timed.timed.cycle in
-    let P : Outcome → Type 0 = IsSolveOutcome o file apart warm c.args.word c.args.kind c.args.plan.now name in
+    let P : Outcome → Type 0 = IsSolveOutcome o file apart warm c.args.limit c.args.word c.args.kind c.args.plan.now name in
     let Q : Outcome → Type 0 = IsCutShort c.args.kind line cycle in
     let q = err_from_is_err_and c.from_residual-in_err-report.result c.from_residual-in_err-report.ensures.1 in
     subst (λ r. Ends o P after r) (sym q.1)
@@ -90,7 +90,7 @@ returns-in-None-clause-ends g c = λ t.
     let apart : Option (List ℕ) = option_map (λ a. a.now) c.args.apart in
     let warm : Option (List ℕ) = option_map (λ a. a.now) c.args.warm in
     let line = c.in_ok-timed.timed.inst in
-    let C : Option (List ℕ) → Type 0 = λ n. Comes o (IsSolveOutcome o file apart warm c.args.word c.args.kind c.args.plan.now n) after c.in_ok-report.report in
+    let C : Option (List ℕ) → Type 0 = λ n. Comes o (IsSolveOutcome o file apart warm c.args.limit c.args.word c.args.kind c.args.plan.now n) after c.in_ok-report.report in
     subst C (sym (ap (option_map (λ a. a.now)) c.in-None.is)) (record {
       page = None;
       reached = inl (record {
@@ -115,7 +115,7 @@ returns-in-None-clause-promise g c = λ t.
     let warm : Option (List ℕ) = option_map (λ a. a.now) c.args.warm in
     let line = c.in_ok-timed.timed.inst in
     let r = c.in_ok-report.report in
-    let R : Option (List ℕ) → Type 0 = λ n. IsPromised files after file apart warm c.args.word c.args.kind c.args.plan.now n r.status r.text.items r.kept in
+    let R : Option (List ℕ) → Type 0 = λ n. IsPromised files after file apart warm c.args.limit c.args.word c.args.kind c.args.plan.now n r.status r.text.items r.kept in
     subst R (sym (ap (option_map (λ a. a.now)) c.in-None.is)) (record {
       line = line;
       c = c.in_ok-timed.timed.cycle;
@@ -129,7 +129,7 @@ returns-in-None-clause-promise g c = λ t.
 
 pub written-requires : goal.written-requires
 written-requires g c = record {
-  sayable = λ certificate kept. sayable c.args.kind c.in_ok-timed.timed.inst c.in_ok-timed.timed.cycle c.args.plan.now c.in_ok-olds.olds c.in_ok-report.report certificate kept c.in_ok-report.ensures.answer;
+  sayable = λ certificate kept. sayable c.args.kind c.in_ok-timed.timed.inst c.in_ok-timed.timed.cycle c.args.plan.now (record { olds = c.in_ok-olds.olds; seek = c.args.limit }) c.in_ok-report.report certificate kept c.in_ok-report.ensures.answer;
 }
 
 pub returns-clause-ends : goal.returns-clause-ends
@@ -144,11 +144,11 @@ returns-clause-ends g c = λ t.
     let cycle = c.in_ok-timed.timed.cycle in
     let plan = c.args.plan.now in
     let name = Some c.in-Some.name.now in
-    let E : Option (List ℕ) → Type 0 = λ n. Ends o (IsSolveOutcome o file apart warm c.args.word c.args.kind plan n) after c.written.result in
+    let E : Option (List ℕ) → Type 0 = λ n. Ends o (IsSolveOutcome o file apart warm c.args.limit c.args.word c.args.kind plan n) after c.written.result in
     subst E (sym (ap (option_map (λ a. a.now)) c.in-Some.is))
-    (ends_as o (IsSolution c.args.kind line cycle plan c.in_ok-olds.olds name) (IsSolveOutcome o file apart warm c.args.word c.args.kind plan name) after c.written.result
+    (ends_as o (IsSolution c.args.kind line cycle plan (record { olds = c.in_ok-olds.olds; seek = c.args.limit }) name) (IsSolveOutcome o file apart warm c.args.limit c.args.word c.args.kind plan name) after c.written.result
     (λ out p. inl (record { line = line; c = cycle; said = c.in_ok-timed.ensures.said t; olds = c.in_ok-olds.olds; old = old_in files (g.S.Shelf.file c.said_instance.new.shelf) warm c.args.kind line c.in_ok-olds.olds (c.in_ok-timed.ensures.files t) (c.in_ok-olds.ensures.said t); answer = inl p }))
-    (c.written.ensures.ends t files (λ q. c.in_ok-olds.ensures.files t q ∙ c.in_ok-timed.ensures.files t q) c.args.kind line cycle plan c.in_ok-olds.olds c.in_ok-report.ensures.answer))
+    (c.written.ensures.ends t files (λ q. c.in_ok-olds.ensures.files t q ∙ c.in_ok-timed.ensures.files t q) c.args.kind line cycle plan (record { olds = c.in_ok-olds.olds; seek = c.args.limit }) c.in_ok-report.ensures.answer))
 
 pub returns-clause-unwritten : goal.returns-clause-unwritten
 returns-clause-unwritten g c = λ e. (c.in-Some.name.now, ap (option_map (λ a. a.now)) c.in-Some.is)
@@ -163,6 +163,6 @@ returns-clause-promise g c = λ t.
     let line = c.in_ok-timed.timed.inst in
     let cycle = c.in_ok-timed.timed.cycle in
     let plan = c.args.plan.now in
-    let R : Option (List ℕ) → Type 0 = λ n. IfOk c.written.result (λ r. IsPromised files after file apart warm c.args.word c.args.kind plan n r.status r.text.items r.kept) in
+    let R : Option (List ℕ) → Type 0 = λ n. IfOk c.written.result (λ r. IsPromised files after file apart warm c.args.limit c.args.word c.args.kind plan n r.status r.text.items r.kept) in
     subst R (sym (ap (option_map (λ a. a.now)) c.in-Some.is))
-    (promised files after file apart warm c.args.word c.args.kind plan c.in-Some.name.now line cycle c.in_ok-olds.olds c.in_ok-report.report c.written.result (c.in_ok-timed.ensures.said t) (old_in files (g.S.Shelf.file c.said_instance.new.shelf) warm c.args.kind line c.in_ok-olds.olds (c.in_ok-timed.ensures.files t) (c.in_ok-olds.ensures.said t)) c.in_ok-report.ensures.shown c.written.ensures.same (c.written.ensures.certificate t))
+    (promised files after file apart warm c.args.limit c.args.word c.args.kind plan c.in-Some.name.now line cycle c.in_ok-olds.olds c.in_ok-report.report c.written.result (c.in_ok-timed.ensures.said t) (old_in files (g.S.Shelf.file c.said_instance.new.shelf) warm c.args.kind line c.in_ok-olds.olds (c.in_ok-timed.ensures.files t) (c.in_ok-olds.ensures.said t)) c.in_ok-report.ensures.shown c.written.ensures.same (c.written.ensures.certificate t))

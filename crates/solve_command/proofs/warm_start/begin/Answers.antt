@@ -1,22 +1,40 @@
-use Rattle.std.proofs.Common.{◌∙◌, List, Option, sym, ap, subst}
-use Rattle.std.specs.Prelude.{string_bytes}
-use Rattle.line_rules.specs.declared.types.Entry.{Entry}
-use Rattle.solve_command.specs.WarmStart.{warm_line}
-use Rattle.solve_command.specs.Begun.{IsBegun}
-use Rattle.solve_command.proofs.BegunFacts.{begun_warm}
+use Rattle.std.proofs.Common.{refl, string_bytes}
+use Rattle.solve_command.specs.WarmStart.{IsOpened}
+use Rattle.solve_command.proofs.BegunFacts.{begun_sought, begun_unsought, taken_within}
 use Rattle.solve_command.proofs.warm_start.begin.Goals as goal
 
-pub returns-in-Done : goal.returns-in-Done
-returns-in-Done g c =
-    let old : List Entry = c.in-Some.old in
-    let book = c.in_ok-book.book in
-    let new = c.in-Done.book in
-    let first = string_bytes c.in_ok-first-in-Done.first in
-    let w = c.in-Done.ensures.warmed in
-    let P : Option (List Entry) → Type 0 =
-    λ z. IsBegun c.args.kind c.args.inst.now c.args.cycle c.args.plan.now z new first in
-    subst P (sym c.in-Some.is)
-    (begun_warm c.args.kind c.args.inst.now c.args.cycle c.args.plan.now old book new c.args.best c.in-Done.kept first
-    c.requires.plan.limit c.requires.ranked c.in_ok-book.ensures.about c.in_ok-book.ensures.state w.0 w.1.0 w.1.1 w.1.2
-    c.in-Done.ensures.warmer (c.in-Done.ensures.reserved c.in_ok-book.ensures.reserved)
-    (c.in_ok-first-in-Done.ensures ∙ ap (λ z. warm_line c.in-Done.kept z) c.len.ensures))
+pub returns-then-limit-eq0 : goal.returns-then-limit-eq0
+returns-then-limit-eq0 g c =
+    let a = c.args in
+    let opened : IsOpened a.kind a.inst.now a.cycle c.in_ok-book.book = record {
+      best = a.best;
+      ranked = c.requires.ranked;
+      about = c.in_ok-book.ensures.about;
+      state = c.in_ok-book.ensures.state;
+    } in
+    begun_unsought a.kind a.inst.now a.cycle a.plan.now a.limit a.olds c.in_ok-book.book opened c.in_ok-taken.taken
+    c.in_ok-taken.ensures.taken c.requires.plan.limit c.if-limit-eq0.true c.in_ok-taken.ensures.reserved
+
+pub take_sought-requires-clause-kept : goal.take_sought-requires-clause-kept
+take_sought-requires-clause-kept g c κs within =
+    (taken_within c.args.plan.now.units c.in_ok-book.book c.args.olds c.in_ok-taken.taken
+    (string_bytes c.in_ok-taken.taken.first) c.in_ok-taken.ensures.taken).0
+
+pub take_sought-requires-clause-units : goal.take_sought-requires-clause-units
+take_sought-requires-clause-units g c κs within =
+    (taken_within c.args.plan.now.units c.in_ok-book.book c.args.olds c.in_ok-taken.taken
+    (string_bytes c.in_ok-taken.taken.first) c.in_ok-taken.ensures.taken).1
+
+pub returns : goal.returns
+returns g c =
+    let a = c.args in
+    let opened : IsOpened a.kind a.inst.now a.cycle c.in_ok-book.book = record {
+      best = a.best;
+      ranked = c.requires.ranked;
+      about = c.in_ok-book.ensures.about;
+      state = c.in_ok-book.ensures.state;
+    } in
+    let t = c.in_ok-taken.ensures.taken in
+    begun_sought a.kind a.inst.now a.cycle a.plan.now a.limit a.olds c.in_ok-book.book opened c.in_ok-taken.taken t
+    c.requires.plan.limit c.take_sought.result c.if-limit-eq0.false
+    (c.take_sought.ensures.sought t.at t.same_book t.same_kept t.same_units) c.take_sought.ensures.reserved

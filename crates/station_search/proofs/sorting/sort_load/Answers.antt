@@ -14,8 +14,8 @@ use Rattle.station_search.proofs.States.{rest_tasks}
 use Rattle.station_search.proofs.sorting.sort_load.Goals as goal
 
 pub returns-then-is_longer-clause-publishes : goal.returns-then-is_longer-clause-publishes
-returns-then-is_longer-clause-publishes g c =
-    one_none c.args.kind c.args.inst.now c.args.cycle (g.D.Desk.desk c.args.desk.now) (g.D.Desk.desk c.args.desk.now) (rest c.args.frame.now.set c.args.load.now) 0 (waits_none (g.D.Desk.desk c.args.desk.now))
+returns-then-is_longer-clause-publishes g c = λ asked.
+    one_none asked c.args.kind c.args.inst.now c.args.cycle (g.D.Desk.desk c.args.desk.now) (g.D.Desk.desk c.args.desk.now) (rest c.args.frame.now.set c.args.load.now) 0 (waits_none (g.D.Desk.desk c.args.desk.now))
 
 pub returns-then-is_longer-clause-sorts : goal.returns-then-is_longer-clause-sorts
 returns-then-is_longer-clause-sorts g c = λ o.
@@ -29,8 +29,8 @@ exceeds_with-requires-clause-times g c =
     subst P (sym (c.minus-rest.ensures.value ∙ ap (λ (z : List Bool). minus c.args.frame.now.set z) c.union.ensures.value)) c.rest_times-times.ensures
 
 pub returns-then-not-full-clause-publishes : goal.returns-then-not-full-clause-publishes
-returns-then-not-full-clause-publishes g c =
-    one_none c.args.kind c.args.inst.now c.args.cycle (g.D.Desk.desk c.args.desk.now) (g.D.Desk.desk c.args.desk.now) (rest c.args.frame.now.set c.args.load.now) 0 (waits_none (g.D.Desk.desk c.args.desk.now))
+returns-then-not-full-clause-publishes g c = λ asked.
+    one_none asked c.args.kind c.args.inst.now c.args.cycle (g.D.Desk.desk c.args.desk.now) (g.D.Desk.desk c.args.desk.now) (rest c.args.frame.now.set c.args.load.now) 0 (waits_none (g.D.Desk.desk c.args.desk.now))
 
 pub exceeds_with-requires-clause-set : goal.exceeds_with-requires-clause-set
 exceeds_with-requires-clause-set g c =
@@ -38,16 +38,16 @@ exceeds_with-requires-clause-set g c =
     subst P (sym (c.minus-rest.ensures.value ∙ ap (λ (z : List Bool). minus c.args.frame.now.set z) c.union.ensures.value)) (rest_tasks c.args.inst.now c.args.frame.now.set c.args.load.now c.requires.set)
 
 pub returns-then-exceeds_with-clause-publishes : goal.returns-then-exceeds_with-clause-publishes
-returns-then-exceeds_with-clause-publishes g c =
-    one_none c.args.kind c.args.inst.now c.args.cycle (g.D.Desk.desk c.args.desk.now) (g.D.Desk.desk c.args.desk.now) (rest c.args.frame.now.set c.args.load.now) 0 (waits_none (g.D.Desk.desk c.args.desk.now))
+returns-then-exceeds_with-clause-publishes g c = λ asked.
+    one_none asked c.args.kind c.args.inst.now c.args.cycle (g.D.Desk.desk c.args.desk.now) (g.D.Desk.desk c.args.desk.now) (rest c.args.frame.now.set c.args.load.now) 0 (waits_none (g.D.Desk.desk c.args.desk.now))
 
 pub returns-then-is_empty-clause-publishes : goal.returns-then-is_empty-clause-publishes
-returns-then-is_empty-clause-publishes g c =
-    one_none c.args.kind c.args.inst.now c.args.cycle (g.D.Desk.desk c.args.desk.now) (g.D.Desk.desk c.args.desk.now) (rest c.args.frame.now.set c.args.load.now) 0 (waits_none (g.D.Desk.desk c.args.desk.now))
+returns-then-is_empty-clause-publishes g c = λ asked.
+    one_none asked c.args.kind c.args.inst.now c.args.cycle (g.D.Desk.desk c.args.desk.now) (g.D.Desk.desk c.args.desk.now) (rest c.args.frame.now.set c.args.load.now) 0 (waits_none (g.D.Desk.desk c.args.desk.now))
 
 pub returns-in-Found-clause-publishes : goal.returns-in-Found-clause-publishes
-returns-in-Found-clause-publishes g c =
-    one_none c.args.kind c.args.inst.now c.args.cycle (g.D.Desk.desk c.args.desk.now) (g.D.Desk.desk c.look.new.self) (rest c.args.frame.now.set c.args.load.now) 1 c.look.ensures.waits
+returns-in-Found-clause-publishes g c = λ asked.
+    one_none asked c.args.kind c.args.inst.now c.args.cycle (g.D.Desk.desk c.args.desk.now) (g.D.Desk.desk c.look.new.self) (rest c.args.frame.now.set c.args.load.now) 1 c.look.ensures.waits
 
 pub publish_swap-requires-clause-set : goal.publish_swap-requires-clause-set
 publish_swap-requires-clause-set g c =
@@ -58,26 +58,26 @@ pub returns-in_err-id-clause-keeps : goal.returns-in_err-id-clause-keeps
 returns-in_err-id-clause-keeps g c = keeps_both (g.D.Desk.desk c.args.desk.now) (g.D.Desk.desk c.look.new.self) (g.D.Desk.desk c.publish_swap.new.desk) c.look.ensures.waits.keeps c.publish_swap.ensures.keeps
 
 pub returns-in_err-id-clause-fails : goal.returns-in_err-id-clause-fails
-returns-in_err-id-clause-fails g c =
-    on_err c.from_residual.result (DoesFor c.args.kind c.args.inst.now c.args.cycle (g.D.Desk.desk c.args.desk.now) (g.D.Desk.desk c.publish_swap.new.desk) (rest c.args.frame.now.set c.args.load.now) 0 0)
-    (does_for_then c.args.kind c.args.inst.now c.args.cycle (g.D.Desk.desk c.args.desk.now) (g.D.Desk.desk c.look.new.self) (g.D.Desk.desk c.publish_swap.new.desk) (rest c.args.frame.now.set c.args.load.now) 0 0 c.look.ensures.waits c.publish_swap.ensures.keeps (one_none c.args.kind c.args.inst.now c.args.cycle (g.D.Desk.desk c.look.new.self) (g.D.Desk.desk c.publish_swap.new.desk) (rest c.args.frame.now.set c.args.load.now) 0 c.in_err-id.ensures.fails))
+returns-in_err-id-clause-fails g c = λ asked.
+    on_err c.from_residual.result (DoesFor asked c.args.kind c.args.inst.now c.args.cycle (g.D.Desk.desk c.args.desk.now) (g.D.Desk.desk c.publish_swap.new.desk) (rest c.args.frame.now.set c.args.load.now) 0 0)
+    (does_for_then asked c.args.kind c.args.inst.now c.args.cycle (g.D.Desk.desk c.args.desk.now) (g.D.Desk.desk c.look.new.self) (g.D.Desk.desk c.publish_swap.new.desk) (rest c.args.frame.now.set c.args.load.now) 0 0 c.look.ensures.waits c.publish_swap.ensures.keeps (one_none asked c.args.kind c.args.inst.now c.args.cycle (g.D.Desk.desk c.look.new.self) (g.D.Desk.desk c.publish_swap.new.desk) (rest c.args.frame.now.set c.args.load.now) 0 c.in_err-id.ensures.fails))
 
 pub returns-in-Some-clause-keeps : goal.returns-in-Some-clause-keeps
 returns-in-Some-clause-keeps g c = keeps_both (g.D.Desk.desk c.args.desk.now) (g.D.Desk.desk c.look.new.self) (g.D.Desk.desk c.publish_swap.new.desk) c.look.ensures.waits.keeps c.publish_swap.ensures.keeps
 
 pub returns-in-Some-clause-publishes : goal.returns-in-Some-clause-publishes
-returns-in-Some-clause-publishes g c =
-    let P : ℕ → Type 0 = λ z. DoesFor c.args.kind c.args.inst.now c.args.cycle (g.D.Desk.desk c.look.new.self) (g.D.Desk.desk c.publish_swap.new.desk) c.minus-rest.result z 0 in
-    let Q : List Bool → Type 0 = λ z. DoesFor c.args.kind c.args.inst.now c.args.cycle (g.D.Desk.desk c.look.new.self) (g.D.Desk.desk c.publish_swap.new.desk) z 1 0 in
-    does_for_then c.args.kind c.args.inst.now c.args.cycle (g.D.Desk.desk c.args.desk.now) (g.D.Desk.desk c.look.new.self) (g.D.Desk.desk c.publish_swap.new.desk) (rest c.args.frame.now.set c.args.load.now) 1 0 c.look.ensures.waits c.publish_swap.ensures.keeps
-    (subst Q (c.minus-rest.ensures.value ∙ ap (λ (z : List Bool). minus c.args.frame.now.set z) c.union.ensures.value) (subst P (ap may_swap c.in-Some.is) c.in_ok-id.ensures.publishes))
+returns-in-Some-clause-publishes g c = λ asked.
+    let P : ℕ → Type 0 = λ z. DoesFor asked c.args.kind c.args.inst.now c.args.cycle (g.D.Desk.desk c.look.new.self) (g.D.Desk.desk c.publish_swap.new.desk) c.minus-rest.result z 0 in
+    let Q : List Bool → Type 0 = λ z. DoesFor asked c.args.kind c.args.inst.now c.args.cycle (g.D.Desk.desk c.look.new.self) (g.D.Desk.desk c.publish_swap.new.desk) z 1 0 in
+    does_for_then asked c.args.kind c.args.inst.now c.args.cycle (g.D.Desk.desk c.args.desk.now) (g.D.Desk.desk c.look.new.self) (g.D.Desk.desk c.publish_swap.new.desk) (rest c.args.frame.now.set c.args.load.now) 1 0 c.look.ensures.waits c.publish_swap.ensures.keeps
+    (subst Q (c.minus-rest.ensures.value ∙ ap (λ (z : List Bool). minus c.args.frame.now.set z) c.union.ensures.value) (subst P (ap may_swap c.in-Some.is) (c.in_ok-id.ensures.publishes asked)))
 
 pub returns-in-None-clause-keeps : goal.returns-in-None-clause-keeps
 returns-in-None-clause-keeps g c = keeps_both (g.D.Desk.desk c.args.desk.now) (g.D.Desk.desk c.look.new.self) (g.D.Desk.desk c.publish_swap.new.desk) c.look.ensures.waits.keeps c.publish_swap.ensures.keeps
 
 pub returns-in-None-clause-publishes : goal.returns-in-None-clause-publishes
-returns-in-None-clause-publishes g c =
-    let P : ℕ → Type 0 = λ z. DoesFor c.args.kind c.args.inst.now c.args.cycle (g.D.Desk.desk c.look.new.self) (g.D.Desk.desk c.publish_swap.new.desk) c.minus-rest.result z 0 in
-    let Q : List Bool → Type 0 = λ z. DoesFor c.args.kind c.args.inst.now c.args.cycle (g.D.Desk.desk c.look.new.self) (g.D.Desk.desk c.publish_swap.new.desk) z 0 0 in
-    does_for_then c.args.kind c.args.inst.now c.args.cycle (g.D.Desk.desk c.args.desk.now) (g.D.Desk.desk c.look.new.self) (g.D.Desk.desk c.publish_swap.new.desk) (rest c.args.frame.now.set c.args.load.now) 0 0 c.look.ensures.waits c.publish_swap.ensures.keeps
-    (subst Q (c.minus-rest.ensures.value ∙ ap (λ (z : List Bool). minus c.args.frame.now.set z) c.union.ensures.value) (subst P (ap may_swap c.in-None.is) c.in_ok-id.ensures.publishes))
+returns-in-None-clause-publishes g c = λ asked.
+    let P : ℕ → Type 0 = λ z. DoesFor asked c.args.kind c.args.inst.now c.args.cycle (g.D.Desk.desk c.look.new.self) (g.D.Desk.desk c.publish_swap.new.desk) c.minus-rest.result z 0 in
+    let Q : List Bool → Type 0 = λ z. DoesFor asked c.args.kind c.args.inst.now c.args.cycle (g.D.Desk.desk c.look.new.self) (g.D.Desk.desk c.publish_swap.new.desk) z 0 0 in
+    does_for_then asked c.args.kind c.args.inst.now c.args.cycle (g.D.Desk.desk c.args.desk.now) (g.D.Desk.desk c.look.new.self) (g.D.Desk.desk c.publish_swap.new.desk) (rest c.args.frame.now.set c.args.load.now) 0 0 c.look.ensures.waits c.publish_swap.ensures.keeps
+    (subst Q (c.minus-rest.ensures.value ∙ ap (λ (z : List Bool). minus c.args.frame.now.set z) c.union.ensures.value) (subst P (ap may_swap c.in-None.is) (c.in_ok-id.ensures.publishes asked)))

@@ -1,4 +1,4 @@
-use Rattle.std.proofs.Common.{◌∙◌, List, take, drop, sym, ap, subst, arith, refl}
+use Rattle.std.proofs.Common.{◌∙◌, List, take, drop, ap, subst, arith, refl}
 use Rattle.std.proofs.lemmas.List.{take_all, take-append-drop}
 use Rattle.line_rules.specs.Entries.{IsDerived, IsFresh}
 use Rattle.line_rules.specs.declared.types.Entry.{Entry}
@@ -6,7 +6,7 @@ use Rattle.warm_book.specs.Warm.{TakesAll, untaken}
 use Rattle.warm_book.specs.Takings.{taking}
 use Rattle.warm_book.proofs.TakingFacts.{all_add, warmer}
 use Rattle.warm_book.proofs.OneTaking.{one_warmed}
-use Rattle.warm_book.proofs.wide.warm_wide.Goals as goal
+use Rattle.warm_book.proofs.wide.warm_counted.Goals as goal
 
 pub returns-in_default-clause-derived : goal.returns-in_default-clause-derived
 returns-in_default-clause-derived g c =
@@ -50,6 +50,19 @@ pub returns-in_default-walk_batch-clause-fresh : goal.returns-in_default-walk_ba
 returns-in_default-walk_batch-clause-fresh g c =
     let P : List Entry → Type 0 = λ z. IsFresh z in
     subst P c.entries-entries-in_default-walk_batch.ensures.entries c.entries-entries-in_default-walk_batch.ensures.fresh
+
+pub returns-clause-units : goal.returns-clause-units
+returns-clause-units g c =
+    let P : List Entry → Type 0 = λ z. TakesAll c.args.room (untaken c.args.book) z (taking c.loop-from.warming) in (
+      taking c.loop-from.warming,
+      (
+        subst P (take_all c.loop-from.from c.args.old.now (omega (arith, c.loop-from-test.false, c.len-in-loop-from.ensures)))
+            c.loop-from.invariant.taken,
+        refl,
+        refl,
+        refl,
+      ),
+    )
 
 pub returns-clause-in_order : goal.returns-clause-in_order
 returns-clause-in_order g c =

@@ -2,7 +2,7 @@ use Rattle.std.proofs.Common.{◌≡◌, ◌≤◌, ◌-◌, length, take, vec_l
 use Rattle.lemma_core.specs.Books.{IsReserved}
 use Rattle.warm_book.specs.Warm.{TakesAll, untaken}
 use Rattle.warm_book.specs.Takings.{taking}
-use Rattle.warm_book.proofs.wide.warm_wide.Given as goal
+use Rattle.warm_book.proofs.wide.warm_counted.Given as goal
 
 abbrev pub decreases-loop-from : goal.decreases-loop-from
 decreases-loop-from g l = length l.old - l.from

@@ -1,5 +1,5 @@
 //! Beams over small lines: how many loads they list, and the balances that they find.
-use crate::{Wanted, beam};
+use beam_search::{Wanted, beam};
 use line_instance::{Instance, Made, Prec, make};
 use line_rules::{LineKind, Mode};
 use std::alloc::{AllocError, Global};

@@ -1,0 +1,3 @@
+pub mod PaidFacts
+pub mod TrimFacts
+pub mod SeekFacts

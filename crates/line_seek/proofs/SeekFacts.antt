@@ -1,0 +1,108 @@
+-- A seek on its way: how it begins, and what each try leaves of it.
+use Rattle.std.proofs.Common.{◌≡◌, ℕ, ◌+◌, ◌≤◌, refl, sym, ap, ◌∙◌, subst, arith}
+use Rattle.line_instance.specs.Line.{Line}
+use Rattle.line_rules.specs.Balance.{IsRight}
+use Rattle.line_rules.specs.Loads.{Belongs}
+use Rattle.line_rules.specs.Ranges.{IsCycle}
+use Rattle.line_rules.specs.declared.types.LineKind.{LineKind}
+use Rattle.line_rules.specs.declared.types.Balance.{Balance as Assignment}
+use Rattle.lemma_core.specs.Machine.{About}
+use Rattle.lemma_core.specs.Books.{BookView}
+use Rattle.line_seek.specs.Tries.{mode_in}
+use Rattle.line_seek.specs.Trying.{Gains, IsPaid, IsTold, may_add}
+use Rattle.line_seek.specs.Seeking.{IsSeeking}
+use Rattle.line_seek.specs.declared.trying.Told.{Told}
+use Rattle.line_seek.specs.declared.trying.Told.TheVariants as told
+use Rattle.line_seek.specs.declared.seeking.Seeker.{Seeker}
+use Rattle.line_seek.proofs.PaidFacts.{paid_as, paid_more}
+
+pub about_same : (a : About) (line : Line) (kind : LineKind) (c : ℕ) → line ≡ a.line → kind ≡ a.kind → c ≡ a.cycle
+    → record { line = line; kind = kind; cycle = c } ≡ a
+about_same a line kind c l k e = λ i. record { line = l i; kind = k i; cycle = e i }
+
+pub seeking_begins : (a : About) (b : Assignment) (s : Seeker) → IsCycle a.cycle → IsRight a.kind a.line a.cycle b
+    → s.scratch.about ≡ a → s.best ≡ b → IsPaid s.scratch 0 0 → Belongs a.kind (mode_in s.turn) → IsSeeking 0 s
+seeking_begins a b s cycle right same best paid turn =
+    let C : About → Type 0 = λ z. IsCycle z.cycle in
+    let R : About → Type 0 = λ z. IsRight z.kind z.line z.cycle s.best in
+    let B : Assignment → Type 0 = λ z. IsRight a.kind a.line a.cycle z in
+    let M : About → Type 0 = λ z. Belongs z.kind (mode_in s.turn) in
+    record {
+      cycle = subst C (sym same) cycle;
+      right = subst R (sym same) (subst B (sym best) right);
+      paid = paid_as s.scratch 0 0 s.used (s.used + 0) (omega arith) (omega arith) paid;
+      turn = subst M (sym same) turn;
+    }
+
+-- after a search
+pub seeking_on : (s t : Seeker) (listed free : ℕ) → IsSeeking 0 s → Gains s.scratch t.scratch listed (listed + free)
+    → t.best ≡ s.best → t.turn ≡ s.turn → t.used ≡ s.used + listed → IsSeeking free t
+seeking_on s t listed free k g best turn used =
+    let a : t.scratch.about ≡ s.scratch.about = g.goes_on.about in
+    let C : About → Type 0 = λ z. IsCycle z.cycle in
+    let R : About → Type 0 = λ z. IsRight z.kind z.line z.cycle t.best in
+    let B : Assignment → Type 0 = λ z. IsRight s.scratch.about.kind s.scratch.about.line s.scratch.about.cycle z in
+    let M : About → Type 0 = λ z. Belongs z.kind (mode_in t.turn) in
+    let same : mode_in t.turn ≡ mode_in s.turn = ap mode_in turn in
+    record {
+      cycle = subst C (sym a) k.cycle;
+      right = subst R (sym a) (subst B (sym best) k.right);
+      paid = paid_as t.scratch (s.used + listed) (s.used + 0 + (listed + free)) t.used (t.used + free)
+          (omega (arith, used)) (omega (arith, used))
+          (paid_more s.scratch t.scratch s.used (s.used + 0) listed (listed + free) k.paid g);
+      turn = subst M (sym a) (subst (λ m. Belongs s.scratch.about.kind m) (sym same) k.turn);
+    }
+
+-- with a better balance
+pub seeking_better : (s t : Seeker) → IsSeeking 0 s → t.scratch ≡ s.scratch → t.turn ≡ s.turn → t.used ≡ s.used
+    → IsRight s.scratch.about.kind s.scratch.about.line s.scratch.about.cycle t.best → IsSeeking 0 t
+seeking_better s t k same turn used right =
+    let C : BookView → Type 0 = λ z. IsCycle z.about.cycle in
+    let R : BookView → Type 0 = λ z. IsRight z.about.kind z.about.line z.about.cycle t.best in
+    let P : BookView → Type 0 = λ z. IsPaid z t.used (t.used + 0) in
+    let M : BookView → Type 0 = λ z. Belongs z.about.kind (mode_in t.turn) in
+    record {
+      cycle = subst C (sym same) k.cycle;
+      right = subst R (sym same) right;
+      paid = subst P (sym same) (paid_as s.scratch s.used (s.used + 0) t.used (t.used + 0)
+          (omega (arith, used)) (omega (arith, used)) k.paid);
+      turn = subst M (sym same)
+          (subst (λ m. Belongs s.scratch.about.kind m) (sym (ap mode_in turn)) k.turn);
+    }
+
+-- between two tries of a seek over a book
+pub record IsUnderWay (book : BookView) (limit : ℕ) (s : Seeker) : Type 0 where
+  pub about : s.scratch.about ≡ book.about
+  pub few : s.best.stations ≤ book.state.best.stations
+  pub within : s.used ≤ limit
+  pub seeking : IsSeeking 0 s
+
+module _ (book : BookView) (limit left : ℕ) (old mid new : Seeker) (at : IsUnderWay book limit old)
+    (about : mid.scratch.about ≡ old.scratch.about) (listed : mid.used ≤ old.used + left)
+    (room : old.used + left ≤ limit) where
+  -- a try found a better balance
+  pub under_better : (t : Told) (b : Assignment) (most : ℕ) → t ≡ told.Found b → most ≤ old.best.stations
+      → IsTold mid.scratch most t → IsSeeking (may_add t) mid
+      → new ≡ record { best = b; scratch = mid.scratch; used = mid.used; size = mid.size; turn = mid.turn }
+      → IsUnderWay book limit new
+  under_better t b most is l h k e =
+      let T : Told → Type 0 = λ z. IsTold mid.scratch most z in
+      let K : Told → Type 0 = λ z. IsSeeking (may_add z) mid in
+      let N : Seeker → Type 0 = λ z. IsUnderWay book limit z in
+      let said = subst T is h in
+      subst N (sym e) (record {
+        about = about ∙ at.about;
+        few = omega (arith, said.1, l, at.few);
+        within = omega (arith, listed, room);
+        seeking = seeking_better mid _ (subst K is k) refl refl refl said.0;
+      })
+
+  -- a try found nothing out
+  pub under_open : mid.best ≡ old.best → IsSeeking 0 new → new.scratch.about ≡ mid.scratch.about
+      → new.best ≡ mid.best → new.used ≡ mid.used → IsUnderWay book limit new
+  under_open best k same kept used = record {
+    about = same ∙ (about ∙ at.about);
+    few = omega (arith, ap (λ (z : Assignment). z.stations) (kept ∙ best), at.few);
+    within = omega (arith, used, listed, room);
+    seeking = k;
+  }

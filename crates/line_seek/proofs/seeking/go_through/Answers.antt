@@ -1,0 +1,28 @@
+use Rattle.std.proofs.Common.{◌-◌, sym, subst, arith}
+use Rattle.line_seek.specs.declared.seeking.Seeker.{Seeker}
+use Rattle.line_seek.proofs.SeekFacts.{IsUnderWay, under_better, under_open}
+use Rattle.line_seek.proofs.seeking.go_through.Goals as goal
+use Rattle.line_seek.proofs.seeking.go_through.Goals.{in-Found, in-Open}
+
+pub loop-preserved : goal.loop-preserved
+loop-preserved c =
+    let N : Seeker → Type 0 = λ z. IsUnderWay c.args.book.now c.args.limit z in
+    let left = c.args.limit - c.loop.seeker.used in
+    let at : IsUnderWay c.args.book.now c.args.limit c.loop.seeker = record {
+      about = c.loop.invariant.about;
+      few = c.loop.invariant.few;
+      within = c.loop.invariant.within;
+      seeking = c.loop.invariant.seeking;
+    } in
+    let h : IsUnderWay c.args.book.now c.args.limit c.match-branch-3.seeker = elim c.match-branch-3.branch [
+      | in-Found w ↦ under_better c.args.book.now c.args.limit left c.loop.seeker c.make_try.new.self
+          c.match-branch-3.seeker at c.in_ok-balance.ensures.about c.in_ok-balance.ensures.within
+          (omega (arith, c.loop.invariant.within)) c.in_ok-balance.field-0 w.in-Found.balance
+          (c.loop.seeker.best.stations - 1) w.in-Found.is (omega arith) c.in_ok-balance.ensures.told
+          c.in_ok-balance.ensures.seeking w.seeker-is
+      | in-Open w ↦ subst N (sym w.seeker-is) (under_open c.args.book.now c.args.limit left c.loop.seeker
+          c.make_try.new.self w.go_on.new.self at c.in_ok-balance.ensures.about c.in_ok-balance.ensures.within
+          (omega (arith, c.loop.invariant.within)) c.in_ok-balance.ensures.best w.go_on.ensures.seeking
+          w.go_on.ensures.about w.go_on.ensures.best w.go_on.ensures.used)
+    ] in
+    record { about = h.about; few = h.few; within = h.within; seeking = h.seeking }

@@ -1,0 +1,11 @@
+use Rattle.std.proofs.Common.{◌≡◌, ◌≤◌}
+use Rattle.line_seek.specs.Seeking.{IsSeeking}
+use Rattle.line_seek.proofs.seeking.go_through.Given as goal
+
+abbrev pub invariant-loop : goal.invariant-loop
+invariant-loop l = record {
+  about : l.seeker.scratch.about ≡ l.book.about;
+  few : l.seeker.best.stations ≤ l.book.state.best.stations;
+  within : l.seeker.used ≤ l.limit;
+  seeking : IsSeeking 0 l.seeker;
+}

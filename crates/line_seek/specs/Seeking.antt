@@ -1,0 +1,52 @@
+-- What a seek keeps on its way, and what it comes to.
+use Rattle.std.specs.Prelude.{◌≡◌, ◌⊎◌, ℕ, ◌+◌, ◌-◌, ◌<◌, ◌≤◌, List, [], length}
+use Rattle.line_instance.specs.Line.{Line, tasks}
+use Rattle.line_rules.specs.Balance.{IsRight, all_tasks}
+use Rattle.line_rules.specs.Entries.{HasAnswer}
+use Rattle.line_rules.specs.Loads.{Belongs}
+use Rattle.line_rules.specs.Ranges.{AreEntries, IsCycle}
+use Rattle.line_rules.specs.Units.{UnitsOf}
+use Rattle.line_rules.specs.declared.types.Balance.{Balance as Assignment}
+use Rattle.line_rules.specs.declared.types.Entry.{Entry}
+use Rattle.lemma_core.specs.Books.{BookView}
+use Rattle.round_helpers.specs.Growth.{AreAtCycle}
+use Rattle.line_seek.specs.Tries.{mode_in}
+use Rattle.line_seek.specs.Trying.{IsPaid}
+use Rattle.line_seek.specs.declared.seeking.Seeker.{Seeker}
+use Rattle.line_seek.specs.declared.seeking.Sought.{Sought}
+use Rattle.line_seek.specs.declared.seeking.Sought.TheVariants as sought
+
+-- A seek on its way: its best balance is right; the entries of its scratch book and their units are paid for by the loads
+-- that it listed, but for so many entries; and the next try has a mode of the line's kind.
+pub record IsSeeking (free : ℕ) (s : Seeker) : Type 0 where
+  pub cycle : IsCycle s.scratch.about.cycle
+  pub right : IsRight s.scratch.about.kind s.scratch.about.line s.scratch.about.cycle s.best
+  pub paid : IsPaid s.scratch s.used (s.used + free)
+  pub turn : Belongs s.scratch.about.kind (mode_in s.turn)
+
+-- what is said of a seek that was done
+abbrev pub IfDone : Sought → (Assignment → List Entry → ℕ → Type 0) → Type 0
+IfDone (sought.Done best lemmas used) P = P best lemmas used
+IfDone sought.NoMemory P = Unit {0}
+
+-- The lemmas of a seek that listed so many loads: entries of sets of the line's tasks, all at the cycle, with no more units
+-- than loads, and at most one more of them.
+pub record AreSought (line : Line) (c used : ℕ) (lemmas : List Entry) : Type 0 where
+  pub ranges : used < 20000000 → AreEntries (tasks line) lemmas
+  pub cycles : AreAtCycle c lemmas
+  pub units : ℕ
+  pub counted : UnitsOf line lemmas units
+  pub paid : units ≤ used
+  pub few : length lemmas ≤ used + 1
+
+-- the lemmas of a seek are none, or they refute that all tasks have a balance in one station less than the best one
+abbrev pub RefuteBelow : Line → ℕ → Assignment → List Entry → Type 0
+RefuteBelow line c best lemmas = (lemmas ≡ []) ⊎ HasAnswer lemmas (all_tasks line) (best.stations - 1) c
+
+-- what a seek over a book comes to, with a limit on its loads
+pub record HasSought (book : BookView) (limit : ℕ) (best : Assignment) (lemmas : List Entry) (used : ℕ) : Type 0 where
+  pub within : used ≤ limit
+  pub right : IsRight book.about.kind book.about.line book.about.cycle best
+  pub few : best.stations ≤ book.state.best.stations
+  pub sought : AreSought book.about.line book.about.cycle used lemmas
+  pub shown : RefuteBelow book.about.line book.about.cycle best lemmas

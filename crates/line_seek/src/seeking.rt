@@ -1,0 +1,248 @@
+//! A seek, from try to try.
+//!
+//! What it keeps is the best balance, the scratch book of its searches, and how many loads were listed. Each try lists a
+//! load at least, so there are no more tries than loads.
+ghost use Rattle.std.specs.Prelude.{◌≡◌, ℕ, ◌+◌, ◌^◌, ◌<◌, ◌≤◌, length, [], false, IfOk, OnOk};
+ghost use Rattle.line_instance.specs.Line.{tasks};
+ghost use Rattle.line_rules.specs.Balance.{IsRight, all_tasks};
+ghost use Rattle.line_rules.specs.Bounds.{bound};
+ghost use Rattle.line_rules.specs.Entries.{HasAnswer};
+ghost use Rattle.line_rules.specs.Ranges.{AreEntries, IsCycle};
+ghost use Rattle.line_rules.specs.Units.{UnitsOf};
+ghost use Rattle.round_helpers.specs.Growth.{AreAtCycle};
+ghost use Rattle.line_seek.specs.Trying.{IsTold, may_add};
+ghost use Rattle.line_seek.specs.Seeking.{IfDone, IsSeeking, AreSought, RefuteBelow, HasSought};
+
+use crate::tries::Try;
+use crate::trying::{Told, try_beam, try_search};
+use cert_files::trim;
+use lemma_core::{Book, Looked};
+use line_instance::Instance;
+use line_rules::{Balance, Entries};
+use lower_bounds::bound;
+use std::alloc::{AllocError, Global};
+
+/// How many loads a try of the first round may list.
+const FIRST_SIZE: u64 = 1_000;
+
+/// How many times as many a try of the next round may list.
+const GROWTH: u64 = 4;
+
+/// What a seek comes to.
+#[derive(Drop)]
+pub enum Sought {
+    /// The best balance; the entries that show that there is none in one station less, or none at all; and how many loads were
+    /// listed.
+    Done {
+        best: Balance,
+        lemmas: Entries,
+        used: u64,
+    },
+    /// Out of memory.
+    NoMemory,
+}
+
+/// A seek on its way.
+#[derive(Drop)]
+struct Seeker {
+    best: Balance,
+    /// What the searches refuted.
+    scratch: Book,
+    /// How many loads were listed.
+    used: u64,
+    /// How many loads a try of this round may list.
+    size: u64,
+    /// The next try.
+    turn: Try,
+}
+
+/// An equal balance.
+fn copy_of(balance: &Balance) -> Result<Balance, AllocError>
+    ensures { IfOk result (λ b. b ≡ balance.now) }
+{
+    Ok(Balance {
+        stations: balance.stations,
+        place: balance.place.copy()?,
+    })
+}
+
+impl Seeker {
+    /// A seek that begins with the best balance of a book, and with an empty scratch book.
+    fn begin(alloc: Global, inst: &Instance, book: &Book) -> Result<Seeker, AllocError>
+        requires same { book.now.about.line ≡ inst.now }
+        requires cycle { IsCycle book.now.about.cycle }
+        ensures about { IfOk result (λ s. s.scratch.about ≡ book.now.about) }
+        ensures best { IfOk result (λ s. s.best.stations ≡ book.now.state.best.stations) }
+        ensures used { IfOk result (λ s. s.used ≡ 0) }
+        ensures seeking { IfOk result (IsSeeking 0) }
+    {
+        let best = copy_of(book.best())?;
+        let first = copy_of(book.best())?;
+        let (kind, cycle) = (book.kind(), book.cycle());
+        Ok(Seeker {
+            best,
+            scratch: Book::make(alloc, inst.copy(alloc)?, kind, cycle, first),
+            used: 0,
+            size: FIRST_SIZE,
+            turn: Try::first(kind),
+        })
+    }
+
+    /// Whether nothing more is to be tried: the best balance has the fewest stations that the bound allows, the loads are
+    /// used, or an entry of the book refutes one station less.
+    fn is_over(&self, inst: &Instance, book: &Book, lower: u32, limit: u64) -> bool
+        ensures left { result ≡ false → self.now.used < limit }
+        ensures above { result ≡ false → lower < self.now.best.stations }
+        ensures some { result ≡ false → 1 < self.now.best.stations }
+    {
+        if self.best.stations <= lower.max(1) || self.used >= limit {
+            return true;
+        }
+        match book.look(&inst.all(), self.best.stations - 1) {
+            Looked::Found { .. } => true,
+            Looked::Absent => false,
+        }
+    }
+
+    /// Makes the next try, for a balance in `most` stations, with at most so many loads.
+    fn make_try(
+        &mut self,
+        alloc: Global,
+        inst: &Instance,
+        most: u32,
+        left: u64,
+    ) -> Result<Told, AllocError>
+        requires same { self.old.scratch.about.line ≡ inst.now }
+        requires seeking { IsSeeking 0 self.old }
+        requires few { most ≤ 1024 }
+        requires room { self.old.used + left < 2 ^ 64 }
+        requires bounded { let about = self.old.scratch.about in
+            bound about.kind inst.now about.cycle (all_tasks inst.now) ≤ most }
+        ensures about { OnOk result (self.new.scratch.about ≡ self.old.scratch.about) }
+        ensures best { OnOk result (self.new.best ≡ self.old.best) }
+        ensures told { IfOk result (IsTold self.new.scratch most) }
+        ensures seeking { IfOk result (λ t. IsSeeking (may_add t) self.new) }
+        ensures within { OnOk result (self.new.used ≤ self.old.used + left) }
+    {
+        let purse = self.size.min(left);
+        match self.turn {
+            Try::Beam(mode) => {
+                let beamed = try_beam(alloc, inst, &self.scratch, mode, most, self.size, purse)?;
+                self.used += beamed.listed;
+                Ok(beamed.told)
+            }
+            Try::Search(mode) => {
+                let tried = try_search(alloc, inst, &mut self.scratch, mode, most, purse)?;
+                self.used += tried.listed;
+                Ok(tried.told)
+            }
+        }
+    }
+
+    /// Goes to the next try of the round, or to the first one of the next round.
+    fn go_on(&mut self)
+        requires seeking { IsSeeking 0 self.old }
+        ensures about { self.new.scratch.about ≡ self.old.scratch.about }
+        ensures best { self.new.best ≡ self.old.best }
+        ensures used { self.new.used ≡ self.old.used }
+        ensures seeking { IsSeeking 0 self.new }
+    {
+        let kind = self.scratch.kind();
+        match self.turn.next(kind) {
+            Some(turn) => self.turn = turn,
+            None => {
+                self.turn = Try::first(kind);
+                self.size = self.size.saturating_mul(GROWTH);
+            }
+        }
+    }
+
+    /// The end of a seek that refuted `most` stations: with the entries of the scratch book that show it.
+    fn refuted(self, alloc: Global, inst: &Instance, most: u32) -> Result<Sought, AllocError>
+        requires same { self.scratch.about.line ≡ inst.now }
+        requires seeking { IsSeeking 1 self }
+        requires answered { let book = self.scratch in
+            HasAnswer book.state.entries (all_tasks inst.now) most book.about.cycle }
+        ensures same { IfOk result (λ r. IfDone r (λ best lemmas used. (best ≡ self.best) × (used ≡ self.used))) }
+        ensures lemmas { IfOk result (λ r. IfDone r (λ best lemmas used.
+            AreSought inst.now self.scratch.about.cycle used lemmas)) }
+        ensures answers { IfOk result (λ r. IfDone r (λ best lemmas used.
+            HasAnswer lemmas (all_tasks inst.now) most self.scratch.about.cycle)) }
+    {
+        let Seeker {
+            best,
+            scratch,
+            used,
+            ..
+        } = self;
+        let cycle = scratch.cycle();
+        let tasks = inst.tasks();
+        let (entries, _) = scratch.into_parts();
+        let lemmas = trim(alloc, entries, tasks, most, cycle)?;
+        Ok(Sought::Done { best, lemmas, used })
+    }
+
+    /// The end of a seek that refuted nothing: without lemmas.
+    fn ended(self, alloc: Global) -> Sought
+        ensures { IfDone result (λ best lemmas used. (best ≡ self.best) × (used ≡ self.used) × (lemmas ≡ [])) }
+    {
+        Sought::Done {
+            best: self.best,
+            lemmas: Entries::from_vec(Vec::new(alloc)),
+            used: self.used,
+        }
+    }
+}
+
+/// A seek over a book; an error where memory is wanting.
+fn go_through(alloc: Global, inst: &Instance, book: &Book, limit: u64) -> Result<Sought, AllocError>
+    requires same { book.now.about.line ≡ inst.now }
+    requires cycle { IsCycle book.now.about.cycle }
+    ensures { IfOk result (λ r. IfDone r (HasSought book.now limit)) }
+{
+    let _best = book.best();
+    let _tasks = inst.tasks();
+    let mut seeker = Seeker::begin(alloc, inst, book)?;
+    let lower = bound(inst, book.kind(), book.cycle(), &inst.all());
+    for _ in 0..limit {
+        if seeker.is_over(inst, book, lower, limit) {
+            return Ok(seeker.ended(alloc));
+        }
+        let most = seeker.best.stations - 1;
+        let left = limit - seeker.used;
+        match seeker.make_try(alloc, inst, most, left)? {
+            Told::Found(balance) => seeker.best = balance,
+            Told::Refuted => return seeker.refuted(alloc, inst, most),
+            Told::Open => seeker.go_on(),
+        }
+    }
+    Ok(seeker.ended(alloc))
+}
+
+/// Seeks a balance in fewer stations than the best of a book, at the book's cycle, and entries that show that there is none,
+/// listing at most so many loads. The book is about the instance, and its cycle is 1 to 10^18 in the instance's time unit.
+///
+/// Rounds follow in which a try may list 1,000, 4,000, 16,000 loads and so on. A round has a beam from the front and one from
+/// the back, and then a search from the front and one from the back; on a U-line a beam and a search from both ends. A try
+/// asks for one station less than the best balance has, and is made again where it finds one. The seek ends where the best
+/// balance has as many stations as the bound, where the loads are used, where an entry of the book refutes one station less,
+/// and where a search does; then the lemmas are the entries of the searches that show that, and in every other case there
+/// are none.
+pub fn seek(alloc: Global, inst: &Instance, book: &Book, limit: u64) -> Sought
+    requires same { book.now.about.line ≡ inst.now }
+    requires cycle { IsCycle book.now.about.cycle }
+    ensures used { IfDone result (λ best lemmas used. used ≤ limit) }
+    ensures right { let about = book.now.about in
+        IfDone result (λ best lemmas used. IsRight about.kind inst.now about.cycle best) }
+    ensures few { IfDone result (λ best lemmas used. best.stations ≤ book.now.state.best.stations) }
+    ensures ranges { limit < 20000000 → IfDone result (λ best lemmas used. AreEntries (tasks inst.now) lemmas) }
+    ensures cycles { IfDone result (λ best lemmas used. AreAtCycle book.now.about.cycle lemmas) }
+    ensures units { IfDone result (λ best lemmas used. (units : ℕ) × UnitsOf inst.now lemmas units × (units ≤ used)) }
+    ensures members { IfDone result (λ best lemmas used. length lemmas ≤ used + 1) }
+    ensures shown { IfDone result (λ best lemmas used. RefuteBelow inst.now book.now.about.cycle best lemmas) }
+{
+    match go_through(alloc, inst, book, limit) {
+        Ok(sought) => sought,
+        Err(_) => Sought::NoMemory,
+    }
+}
