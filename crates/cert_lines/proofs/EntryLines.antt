@@ -7,7 +7,7 @@ use Rattle.line_io.specs.Lines.{value_of}
 use Rattle.line_rules.specs.declared.types.Mode.{Mode}
 use Rattle.line_rules.specs.declared.types.Mode.TheVariants.{Fore, Back, Both}
 use Rattle.cert_lines.specs.Numbers.{number_text, set_text, cites_text, mode_letter}
-use Rattle.cert_lines.specs.Rows.{Row, fixed, keyed, span, seat, bound, branch, swap, trail, frame, entry, form_of, given, row_text}
+use Rattle.cert_lines.specs.Rows.{Row, fixed, keyed, span, seat, bound, branch, swap, trail, frame, state_entry, state_frame, entry, form_of, given, row_text}
 use Rattle.cert_lines.specs.Reading.{◌>>=◌, parts_at, number_in, number_first, set_in, mode_in, cites_in}
 use Rattle.cert_lines.specs.LineReading.{cycle_first, bound_in, branch_in, swap_in, entry_in}
 use Rattle.cert_lines.specs.declared.draft.Draft.{Draft}
@@ -40,6 +40,8 @@ draft_of g (span key v w) = record { cycle = 0; set = []; most = 0; why = why.Bo
 draft_of g (seat kind station side) = record { cycle = 0; set = []; most = 0; why = why.Bound }
 draft_of g (trail t) = record { cycle = 0; set = []; most = 0; why = why.Bound }
 draft_of g (frame n mode s m last cites) = record { cycle = 0; set = []; most = 0; why = why.Bound }
+draft_of g (state_entry rem starts least cites) = record { cycle = 0; set = []; most = 0; why = why.Bound }
+draft_of g (state_frame rem starts need last cites) = record { cycle = 0; set = []; most = 0; why = why.Bound }
 
 pub bound_text : (n : ℕ) (c : Option ℕ) (s : List Bool) (m : ℕ) → row_text (bound n c s m) ≡ codes "bound" ++ 32 ∷ front c (set_text n s ++ 32 ∷ number_text m)
 unfolding row_text
@@ -145,6 +147,8 @@ entry_again n g (span key v w) e = (cc)
 entry_again n g (seat kind station side) e = (cc)
 entry_again n g (trail t) e = (cc)
 entry_again n g (frame k mode s m last cites) e = (cc)
+entry_again n g (state_entry rem starts least cites) e = (cc)
+entry_again n g (state_frame rem starts need last cites) e = (cc)
 
 -- a number in front, as it is written
 pub number_first_found : (bytes : List ℕ) (x : ℕ × List ℕ) → number_first bytes ≡ Some x → (c : ℕ) × (bytes ≡ number_text c ++ 32 ∷ x.1) × (sat c ≡ x.0)

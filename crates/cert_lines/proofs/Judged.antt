@@ -13,7 +13,7 @@ use Rattle.line_rules.specs.declared.types.Ask.{Ask}
 use Rattle.line_rules.specs.declared.types.Ask.TheVariants as ask
 use Rattle.std.proofs.lemmas.Bool.{false≢true}
 use Rattle.cert_lines.specs.Numbers.{number_text}
-use Rattle.cert_lines.specs.Rows.{Row, fixed, keyed, span, seat, bound, branch, swap, trail, frame, number, text, form_of, row_text}
+use Rattle.cert_lines.specs.Rows.{Row, fixed, keyed, span, seat, bound, branch, swap, trail, frame, state_entry, state_frame, number, text, form_of, row_text}
 use Rattle.cert_lines.specs.Reading.{greatest, parts_at}
 use Rattle.cert_lines.specs.LineReading.{keyed_in}
 use Rattle.cert_lines.specs.ValueRows.{ask_row, kind_row}
@@ -44,6 +44,8 @@ keyed_only (branch n c mode s m cites) key e = (cc)
 keyed_only (swap n c s m cite out into) key e = (cc)
 keyed_only (trail t) key e = (cc)
 keyed_only (frame n mode s m last cites) key e = (cc)
+keyed_only (state_entry rem starts least cites) key e = (cc)
+keyed_only (state_frame rem starts need last cites) key e = (cc)
 
 pub keyed_none : (key line : List ℕ) (r : Row) → lacks 32 key ≡ true → keyed_in key line ≡ None → form_of r ≡ number key → row_text r ≡ line → ⊥
 keyed_none key line r l e f t =
@@ -99,6 +101,8 @@ fixed_only (branch n c mode s m cites) t e = (cc)
 fixed_only (swap n c s m cite out into) t e = (cc)
 fixed_only (trail x) t e = (cc)
 fixed_only (frame n mode s m last cites) t e = (cc)
+fixed_only (state_entry rem starts least cites) t e = (cc)
+fixed_only (state_frame rem starts need last cites) t e = (cc)
 
 pub fixed_not : (line t u : List ℕ) (r : Row) → false ≡ bytes_eq line u → u ≡ t → form_of r ≡ text t → row_text r ≡ line → ⊥
 fixed_not line t u r e s f g =
@@ -204,6 +208,8 @@ key_lacks keys.Entries = refl
 key_lacks keys.Parts = refl
 key_lacks keys.Part = refl
 key_lacks keys.Trail = refl
+key_lacks keys.Models = refl
+key_lacks keys.Units = refl
 
 -- cites below a number
 pub cites_more : (count : ℕ) (cites : List ℕ) (k : ℕ) → k < length cites → get_or cites k 0 < count → AreCites count (take k cites) → AreCites count (take (k + 1) cites)

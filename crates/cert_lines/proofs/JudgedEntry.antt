@@ -12,7 +12,7 @@ use Rattle.line_rules.specs.declared.types.Why.{Why}
 use Rattle.line_rules.specs.declared.types.Why.TheVariants as whys
 use Rattle.line_rules.specs.declared.types.OpenFrame.{OpenFrame}
 use Rattle.cert_lines.specs.Numbers.{number_text, set_text, cites_text, mode_letter}
-use Rattle.cert_lines.specs.Rows.{Row, fixed, keyed, span, seat, bound, branch, swap, trail, frame, entry, open_frame, given, form_of, row_text}
+use Rattle.cert_lines.specs.Rows.{Row, fixed, keyed, span, seat, bound, branch, swap, trail, frame, state_entry, state_frame, entry, open_frame, given, form_of, row_text}
 use Rattle.cert_lines.specs.ValueRows.{frame_row, why_row}
 use Rattle.cert_lines.specs.Reading.{greatest}
 use Rattle.cert_lines.specs.LineReading.{entry_in, frame_in}
@@ -188,6 +188,8 @@ row_said n count g (span key x y) a b e w = (cc)
 row_said n count g (seat kind station side) a b e w = (cc)
 row_said n count g (trail t) a b e w = (cc)
 row_said n count g (frame k mode s m last cites) a b e w = (cc)
+row_said n count g (state_entry rem starts least cites) a b e w = (cc)
+row_said n count g (state_frame rem starts need last cites) a b e w = (cc)
 
 pub entry_said : (n count : ℕ) (g : Option ℕ) (line : List ℕ) (d : Draft) → n ≤ 1024 → count ≤ 20000000 → entry_in n g line ≡ Some d → IsWithin n count d → IsSaid n count g (entry_of d) × (row_text (given_row n g (entry_of d)) ≡ line)
 entry_said n count g line d a b e w =
@@ -207,6 +209,8 @@ frame_only (bound k c s m) n e = (cc)
 frame_only (branch k c mode s m cites) n e = (cc)
 frame_only (swap k c s m cite out into) n e = (cc)
 frame_only (trail t) n e = (cc)
+frame_only (state_entry rem starts least cites) n e = (cc)
+frame_only (state_frame rem starts need last cites) n e = (cc)
 
 pub frame_none : (n count : ℕ) (line : List ℕ) → frame_in n line ≡ None → HasFormOf (frame_row n) (IsFrame n count) line → ⊥
 frame_none n count line e f =

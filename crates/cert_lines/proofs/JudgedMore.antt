@@ -8,7 +8,7 @@ use Rattle.line_rules.specs.declared.types.LineKind.TheVariants.{Straight, U}
 use Rattle.line_rules.specs.declared.types.Side.{Side}
 use Rattle.line_rules.specs.declared.types.Side.TheVariants.{Front}
 use Rattle.line_rules.specs.declared.types.Seatplace.{Seatplace}
-use Rattle.cert_lines.specs.Rows.{Row, fixed, keyed, span, seat, bound, branch, swap, trail, frame, place, head, form_of, row_text}
+use Rattle.cert_lines.specs.Rows.{Row, fixed, keyed, span, seat, bound, branch, swap, trail, frame, state_entry, state_frame, place, head, form_of, row_text}
 use Rattle.cert_lines.specs.ValueRows.{seat_row}
 use Rattle.cert_lines.specs.LineReading.{seat_in, trail_in}
 use Rattle.cert_lines.specs.Judging.{HasFormOf}
@@ -30,6 +30,8 @@ seat_only (branch n c mode s m cites) kind e = (cc)
 seat_only (swap n c s m cite out into) kind e = (cc)
 seat_only (trail t) kind e = (cc)
 seat_only (frame n mode s m last cites) kind e = (cc)
+seat_only (state_entry rem starts least cites) kind e = (cc)
+seat_only (state_frame rem starts need last cites) kind e = (cc)
 
 pub seat_none : (kind : LineKind) (m : ℕ) (line : List ℕ) → seat_in kind line ≡ None → HasFormOf (seat_row kind) (IsPlaced kind m) line → ⊥
 seat_none kind m line e f =
@@ -70,6 +72,8 @@ trail_only (bound n c s m) e = (cc)
 trail_only (branch n c mode s m cites) e = (cc)
 trail_only (swap n c s m cite out into) e = (cc)
 trail_only (frame n mode s m last cites) e = (cc)
+trail_only (state_entry rem starts least cites) e = (cc)
+trail_only (state_frame rem starts need last cites) e = (cc)
 
 pub trail_none : (line : List ℕ) → trail_in line ≡ None → HasFormOf trail IsHead line → ⊥
 trail_none line e f =

@@ -33,6 +33,8 @@ key_text keys.Entries = codes "entries"
 key_text keys.Parts = codes "parts"
 key_text keys.Part = codes "part"
 key_text keys.Trail = codes "trail"
+key_text keys.Models = codes "models"
+key_text keys.Units = codes "units"
 
 -- the first line of a version
 abbrev pub version_row : Version → Row

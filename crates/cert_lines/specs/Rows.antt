@@ -1,5 +1,5 @@
 -- The lines of a certificate: what may stand in a line, and how it is written.
-use Rattle.std.specs.Prelude.{ℕ, Bool, true, false, List, [], ◌∷◌, ◌++◌, Option, Some, None, codes}
+use Rattle.std.specs.Prelude.{ℕ, Bool, true, false, List, [], ◌∷◌, ◌++◌, Option, Some, None, codes, length}
 use Rattle.std.specs.List.{flat_map}
 use Rattle.line_rules.specs.declared.types.LineKind.{LineKind}
 use Rattle.line_rules.specs.declared.types.LineKind.TheVariants.{Straight, U}
@@ -11,7 +11,9 @@ use Rattle.cert_lines.specs.Numbers.{number_text, set_text, cites_text, mode_let
 
 -- What a line says, its numbers as they are written and of any size: a fixed text; a word and a number; a word and two numbers; a station,
 -- and a side on a U-line;
--- an entry over so many tasks, with its cycle or without; the head of a trail, its number of frames and its cycle where it has frames; a frame.
+-- an entry over so many tasks, with its cycle or without; the head of a trail, its number of frames and its cycle where it has frames; a frame;
+-- an entry of a state, what is left and the starts, with its least value, and its cites where it branches; a frame of a state, with its need, its
+-- last model where it has one, and its cites.
 pub data Row : Type 0 where
   fixed : List ℕ → Row
   keyed : List ℕ → ℕ → Row
@@ -22,9 +24,11 @@ pub data Row : Type 0 where
   swap : ℕ → Option ℕ → List Bool → ℕ → ℕ → ℕ → ℕ → Row
   trail : Option (ℕ × ℕ) → Row
   frame : ℕ → Mode → List Bool → ℕ → Option Load → List ℕ → Row
+  state_entry : List ℕ → List ℕ → ℕ → Option (List ℕ) → Row
+  state_frame : List ℕ → List ℕ → ℕ → Option ℕ → List ℕ → Row
 
 -- the form of a line: a fixed text, a word before a number, a word before two, a place on such a line, an entry over so many tasks, the head of a trail, a
--- frame over so many tasks
+-- frame over so many tasks, an entry or a frame of a state of so many models and so many stations
 pub data Form : Type 0 where
   text : List ℕ → Form
   number : List ℕ → Form
@@ -33,6 +37,8 @@ pub data Form : Type 0 where
   entry : ℕ → Bool → Form
   head : Form
   open_frame : ℕ → Form
+  entry_of_state : ℕ → ℕ → Form
+  frame_of_state : ℕ → ℕ → Form
 
 -- whether a cycle is given
 abbrev pub given : Option ℕ → Bool
@@ -50,6 +56,8 @@ form_of (branch n c mode s m cites) = entry n (given c)
 form_of (swap n c s m cite out into) = entry n (given c)
 form_of (trail t) = head
 form_of (frame n mode s m last cites) = open_frame n
+form_of (state_entry rem starts least cites) = entry_of_state (length rem) (length starts)
+form_of (state_frame rem starts need last cites) = frame_of_state (length rem) (length starts)
 
 -- the words with one blank between
 abbrev pub spaced : List (List ℕ) → List ℕ
@@ -73,6 +81,17 @@ abbrev pub trail_words : Option (ℕ × ℕ) → List (List ℕ)
 trail_words None = codes "trail" ∷ codes "0" ∷ []
 trail_words (Some t) = codes "trail" ∷ number_text t.0 ∷ codes "at" ∷ number_text t.1 ∷ []
 
+-- the words of an entry of a state: numbers that are joined are written as cites are
+abbrev pub state_words : List ℕ → List ℕ → ℕ → Option (List ℕ) → List (List ℕ)
+state_words rem starts least None = codes "bound" ∷ cites_text rem ∷ cites_text starts ∷ number_text least ∷ []
+state_words rem starts least (Some cites) =
+    codes "branch" ∷ cites_text rem ∷ cites_text starts ∷ number_text least ∷ cites_text cites ∷ []
+
+-- a number where there is one, else `-`
+abbrev pub number_or_none : Option ℕ → List ℕ
+number_or_none None = 45 ∷ []
+number_or_none (Some n) = number_text n
+
 -- the text of a line
 unfoldable pub row_text : Row → List ℕ
 row_text (fixed t) = t
@@ -87,6 +106,9 @@ row_text (swap n c s m cite out into) =
 row_text (trail t) = spaced (trail_words t)
 row_text (frame n mode s m last cites) =
     spaced (codes "open" ∷ (mode_letter mode ∷ []) ∷ set_text n s ∷ number_text m ∷ last_text n mode last ∷ cites_text cites ∷ [])
+row_text (state_entry rem starts least cites) = spaced (state_words rem starts least cites)
+row_text (state_frame rem starts need last cites) =
+    spaced (codes "open" ∷ cites_text rem ∷ cites_text starts ∷ number_text need ∷ number_or_none last ∷ cites_text cites ∷ [])
 
 -- the text of lines, each with an LF at its end
 abbrev pub lines_text : List (List ℕ) → List ℕ

@@ -27,6 +27,8 @@ pub enum Key {
     Parts,
     Part,
     Trail,
+    Models,
+    Units,
 }
 
 impl Key {
@@ -47,6 +49,8 @@ impl Key {
             Key::Parts => b"parts",
             Key::Part => b"part",
             Key::Trail => b"trail",
+            Key::Models => b"models",
+            Key::Units => b"units",
         }
     }
 }

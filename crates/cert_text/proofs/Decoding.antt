@@ -22,7 +22,7 @@ use Rattle.line_rules.specs.declared.types.Claim.{Claim}
 use Rattle.line_rules.specs.declared.types.Claim.TheVariants as claim
 use Rattle.line_rules.specs.declared.types.Certificate.{Certificate}
 use Rattle.cert_lines.specs.Numbers.{number_text, set_text, cites_text, mode_letter, last_text}
-use Rattle.cert_lines.specs.Rows.{Row, fixed, keyed, span, seat, bound, branch, swap, trail, frame, spaced, row_text, rows_text, lines_text}
+use Rattle.cert_lines.specs.Rows.{Row, fixed, keyed, span, seat, bound, branch, swap, trail, frame, state_entry, state_frame, spaced, number_or_none, row_text, rows_text, lines_text}
 use Rattle.cert_lines.specs.ValueRows.{kind_row, ask_row, seat_row, why_row, entry_row, frame_row}
 use Rattle.cert_text.specs.Cert.{trail_rows, list_rows, head_rows, claim_rows, cert_rows, cert_text}
 use Rattle.cert_text.specs.OldCert.{short_row, old_trail_rows, part_rows, parts_rows, counted_rows, old_claim_rows, old_rows}
@@ -81,6 +81,10 @@ last_lacks n Fore (Some l) = set_lacks n l.front
 last_lacks n Back (Some l) = set_lacks n l.back
 last_lacks n Both (Some l) = lacks_append 10 (set_text n l.front) (47 ∷ set_text n l.back) (set_lacks n l.front) (set_lacks n l.back)
 
+marked_lacks : (n : Option ℕ) → lacks 10 (number_or_none n) ≡ true
+marked_lacks None = refl
+marked_lacks (Some n) = number_lacks n
+
 -- a fixed text and a word without an LF
 abbrev pub IsPlain : Row → Type 0
 IsPlain (fixed t) = lacks 10 t ≡ true
@@ -92,6 +96,8 @@ IsPlain (branch n c mode s m cites) = Unit {0}
 IsPlain (swap n c s m cite out into) = Unit {0}
 IsPlain (trail t) = Unit {0}
 IsPlain (frame n mode s m last cites) = Unit {0}
+IsPlain (state_entry rem starts least cites) = Unit {0}
+IsPlain (state_frame rem starts need last cites) = Unit {0}
 
 -- no word has an LF
 abbrev pub AllLack : List (List ℕ) → Type 0
@@ -127,6 +133,14 @@ row_lacks (trail (Some t)) h = words_lack (codes "trail" ∷ number_text t.0 ∷
 row_lacks (frame n mode s m last cites) h =
     words_lack (codes "open" ∷ (mode_letter mode ∷ []) ∷ set_text n s ∷ number_text m ∷ last_text n mode last ∷ cites_text cites ∷ [])
     (refl, (mode_lacks mode, (set_lacks n s, (number_lacks m, (last_lacks n mode last, (cites_lacks cites, tt))))))
+row_lacks (state_entry rem starts least None) h =
+    words_lack (codes "bound" ∷ cites_text rem ∷ cites_text starts ∷ number_text least ∷ []) (refl, (cites_lacks rem, (cites_lacks starts, (number_lacks least, tt))))
+row_lacks (state_entry rem starts least (Some cites)) h =
+    words_lack (codes "branch" ∷ cites_text rem ∷ cites_text starts ∷ number_text least ∷ cites_text cites ∷ [])
+    (refl, (cites_lacks rem, (cites_lacks starts, (number_lacks least, (cites_lacks cites, tt)))))
+row_lacks (state_frame rem starts need last cites) h =
+    words_lack (codes "open" ∷ cites_text rem ∷ cites_text starts ∷ number_text need ∷ number_or_none last ∷ cites_text cites ∷ [])
+    (refl, (cites_lacks rem, (cites_lacks starts, (number_lacks need, (marked_lacks last, (cites_lacks cites, tt))))))
 
 lack_append : (a b : List (List ℕ)) → AllLack a → AllLack b → AllLack (a ++ b)
 lack_append [] b e f = f

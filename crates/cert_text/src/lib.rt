@@ -20,4 +20,4 @@ pub use reader::{CertRead, ListRead, read_cert, read_list};
 pub use reading::{EntryList, read_all, read_entries, read_seating};
 pub use slice_lines::SliceLines;
 pub use writer::{write_cert, write_list};
-pub use writing::{put_load, put_number, put_text};
+pub use writing::{put_cites, put_load, put_number, put_text};

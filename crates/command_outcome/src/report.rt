@@ -6,6 +6,7 @@ ghost use Rattle.command_outcome.specs.declared.report.Stop.TheVariants.{Memory,
 use crate::status::Status;
 use effic_cert::EfficCert;
 use line_rules::Certificate;
+use sequence_rules::SeqCert;
 use std::alloc::AllocError;
 
 /// The certificate that a run leaves in memory, beside what it prints and writes.
@@ -17,6 +18,8 @@ pub enum Kept {
     Line(Certificate),
     /// The certificate of a least product of stations and cycle.
     Product(EfficCert),
+    /// The certificate of a sequence of least utility work.
+    Sequence(SeqCert),
 }
 
 /// A status, the text that is put with it, and the certificate that is kept once it is put.

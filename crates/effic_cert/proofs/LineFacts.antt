@@ -3,7 +3,7 @@ use Rattle.std.proofs.Common.{◌≡◌, ◌≢◌, ℕ, ◌<◌, ◌≡◌, tru
 use Rattle.std.proofs.Common.{Some, None, lit≤}
 use Rattle.std.specs.Prelude.{codes, bytes_eq}
 use Rattle.std.proofs.lemmas.Option.{same_Some, none-some}
-use Rattle.cert_lines.specs.Rows.{Row, fixed, keyed, span, seat, bound, branch, swap, trail, frame, two_numbers}
+use Rattle.cert_lines.specs.Rows.{Row, fixed, keyed, span, seat, bound, branch, swap, trail, frame, state_entry, state_frame, two_numbers}
 use Rattle.cert_lines.specs.Rows.{form_of, row_text}
 use Rattle.cert_lines.specs.Judging.{HasFormOf}
 use Rattle.cert_lines.proofs.NumberWords.{lacks}
@@ -32,6 +32,8 @@ span_only (branch n c mode s m cites) key e = (cc)
 span_only (swap n c s m cite out into) key e = (cc)
 span_only (trail t) key e = (cc)
 span_only (frame n mode s m last cites) key e = (cc)
+span_only (state_entry rem starts least cites) key e = (cc)
+span_only (state_frame rem starts need last cites) key e = (cc)
 
 pub ends_none : (line : List ℕ) → span_in (codes "stations") line ≡ None → HasFormOf ends_row AreEnds line → ⊥
 ends_none line e f =

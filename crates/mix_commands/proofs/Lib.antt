@@ -1,4 +1,5 @@
 pub mod Demand
 pub mod CombineFacts
+pub mod BalancedFacts
 pub mod LaunchFacts
 pub mod UtilityFacts

@@ -5,8 +5,7 @@ ghost use Rattle.line_words.specs.Ranges.{IsBetween};
 ghost use Rattle.command_outcome.specs.Outcome.{Stops, MayStop, outside};
 ghost use Rattle.mix_commands.specs.Launch.{IsLaunch, IsUnlaunched};
 
-use crate::balance_file::balance_of;
-use crate::mix_file::combined_of;
+use crate::balanced::{Balanced, balanced_of};
 use crate::sequence_file::sequence_of;
 use combined_graph::Mix;
 use command_outcome::Stop;
@@ -44,12 +43,11 @@ pub fn launch_of<S: Shelf>(
     ensures count { S.faults shelf.old ≤ S.faults shelf.new }
     ensures files { S.tells → (q : List ℕ) → S.file shelf.new q ≡ S.file shelf.old q }
 {
-    let combined = combined_of(alloc, mix, shelf)?;
-    let cycle = interval * combined.demand;
-    let balance = balance_of(alloc, cert, &combined.line, cycle, shelf)?;
-    let units = sequence_of(alloc, seq, &combined.mix, shelf)?;
+    let balanced = balanced_of(alloc, mix, cert, interval, shelf)?;
+    let units = sequence_of(alloc, seq, &balanced.mix, shelf)?;
+    let Balanced { mix, balance, .. } = balanced;
     Ok(Launch {
-        mix: combined.mix,
+        mix,
         balance,
         units,
     })

@@ -8,15 +8,15 @@
 #![tactic(auto)]
 
 mod balance_file;
+mod balanced;
 mod combine;
 mod launch;
 mod mix_file;
 mod sequence_file;
-#[cfg(test)]
-mod tests;
 mod timeline;
 mod utility;
 
+pub use balanced::{Balanced, balanced_of};
 pub use combine::combine_report;
 pub use timeline::timeline_report;
 pub use utility::utility_report;

@@ -1,5 +1,6 @@
 pub mod TableFacts
 pub mod CoverFacts
+pub mod IndexFacts
 pub mod BookFacts
 pub mod PathFacts
 pub mod TurnFacts

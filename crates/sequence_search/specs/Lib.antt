@@ -1,4 +1,5 @@
 pub mod Tables
+pub mod Index
 pub mod Steps
 pub mod Paths
 pub mod Tries

@@ -1,15 +1,15 @@
 //! The frames of a try, and one step of a frame.
 ghost use Rattle.std.specs.Prelude.{◌≡◌, ℕ, ◌-◌, ◌<◌, ◌≤◌, length, slice_index, true, false, IsNone, IfSome, IfOk, replicate, sum, None, []};
 ghost use Rattle.sequence_rules.specs.States.{step_cost, next_starts, less_one, state_bound, root_starts};
-ghost use Rattle.sequence_rules.specs.Entries.{HasAnswer, is_left, IsCited};
+ghost use Rattle.sequence_rules.specs.Entries.{is_left};
 ghost use Rattle.sequence_rules.specs.Ranges.{AreTimes, IsState};
 ghost use Rattle.sequence_rules.specs.Trails.{up_to};
-ghost use Rattle.sequence_search.specs.Steps.{IsLastAnswer, IsNextModel, IsNoModel, StepsTo};
+ghost use Rattle.sequence_search.specs.Steps.{IsNextModel, IsNoModel, StepsTo};
 
+use crate::book::Book;
 use crate::outcome::Stepped;
 use sequence_rules::{
-    MAX_STATIONS, Numbers, SeqEntries, SeqFrame, Times, answers, launch, state_bound, step,
-    units_left,
+    MAX_STATIONS, Numbers, SeqFrame, Times, launch, state_bound, step, units_left,
 };
 use std::alloc::{AllocError, Global};
 use utility_work::MAX_MODELS;
@@ -19,26 +19,6 @@ pub(crate) fn listed(alloc: Global, items: &[u64]) -> Result<Numbers, AllocError
     ensures { IfOk result (λ v. v ≡ items.now) }
 {
     Ok(Numbers::from_vec(Vec::from_slice(alloc, items)?))
-}
-
-/// The number of the last entry that answers a state and a need.
-pub(crate) fn last_answer(
-    entries: &SeqEntries,
-    rem: &[u64],
-    starts: &[u64],
-    need: u64,
-) -> Option<u64>
-    ensures none { IsNone result → HasAnswer entries.now rem.now starts.now need → ⊥ }
-    ensures some { IfSome result (IsLastAnswer entries.now rem.now starts.now need) }
-{
-    let mut k = entries.len();
-    while k > 0 {
-        k -= 1;
-        if answers(entries.at(k), rem, starts, need) {
-            return Some(k as u64);
-        }
-    }
-    None
 }
 
 /// The first model from `from` on of which a unit is left.
@@ -88,7 +68,7 @@ pub(crate) fn step_by(
     times: &Times,
     interval: u64,
     reach: u64,
-    entries: &SeqEntries,
+    entries: &Book,
     frame: &SeqFrame,
     model: usize,
 ) -> Result<Stepped, AllocError>
@@ -116,7 +96,7 @@ pub(crate) fn step_by(
     if state_bound(times, interval, reach, left, next) >= need {
         return Ok(Stepped::Passed);
     }
-    if let Some(id) = last_answer(entries, left, next, need) {
+    if let Some(id) = entries.last_answer(left, next, need) {
         return Ok(Stepped::Answered(id));
     }
     if units_left(left) == 0 {

@@ -5,6 +5,7 @@
 //! share.
 #![tactic(auto)]
 
+mod book;
 mod frames;
 mod ordering;
 mod outcome;

@@ -7,12 +7,12 @@ ghost use Rattle.sequence_rules.specs.declared.types.SeqEntry.{SeqEntry as Step}
 ghost use Rattle.sequence_search.specs.Paths.{IsBook};
 ghost use Rattle.sequence_search.specs.Outcomes.{Orders, IsStanding, cert_of};
 
+use crate::book::Book;
 use crate::frames::root_frame;
 use crate::outcome::{Ordered, Tried};
 use crate::trying::attempt;
 use sequence_rules::{
-    Numbers, SeqCert, SeqEntries, SeqEntry, SeqFrame, SeqFrames, SeqWhy, Times, sequence_cost,
-    state_bound,
+    Numbers, SeqCert, SeqEntry, SeqFrame, SeqFrames, SeqWhy, Times, sequence_cost, state_bound,
 };
 use std::alloc::{AllocError, Global};
 
@@ -22,7 +22,7 @@ struct Standing {
     lower: u64,
     upper: u64,
     sequence: Numbers,
-    entries: SeqEntries,
+    entries: Book,
 }
 
 /// Puts so many units of a model at the end of a sequence.
@@ -53,7 +53,7 @@ fn root_entries(
     times: &Times,
     interval: u64,
     reach: u64,
-) -> Result<(u64, SeqEntries), AllocError>
+) -> Result<(u64, Book), AllocError>
     requires times { AreTimes times.now }
     requires interval { IsPlace interval }
     requires reach { IsPlace reach }
@@ -65,7 +65,7 @@ fn root_entries(
 {
     let SeqFrame { rem, starts, .. } = root_frame(alloc, times, 0)?;
     let lower = state_bound(times, interval, reach, rem.as_slice(), starts.as_slice());
-    let mut entries = SeqEntries::from_vec(Vec::new(alloc));
+    let mut entries = Book::new(alloc);
     if lower == 0 {
         return Ok((lower, entries));
     }
@@ -123,7 +123,7 @@ fn entry_units(entry: &SeqEntry) -> u64
 }
 
 /// The units of the entries.
-fn entries_units(entries: &SeqEntries) -> u64
+fn entries_units(entries: &Book) -> u64
     requires few { units_of entries.now ≤ 1000000 }
     requires each { (k : ℕ) (e : Step) → slice_get entries.now k ≡ Some e → length e.rem ≤ 16 }
     ensures { result ≡ units_of entries.now }
@@ -152,7 +152,7 @@ fn certified(times: &Times, standing: Standing, frames: SeqFrames) -> SeqCert
         lower,
         upper,
         sequence,
-        entries,
+        entries: entries.into_entries(),
         frames,
     }
 }

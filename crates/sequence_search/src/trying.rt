@@ -8,13 +8,14 @@ ghost use Rattle.sequence_rules.specs.Ranges.{AreTimes, IsPlace, IsNumber};
 ghost use Rattle.sequence_search.specs.Paths.{lasts, IsBook};
 ghost use Rattle.sequence_search.specs.Tries.{entry_of, Tries};
 
+use crate::book::Book;
 use crate::frames::{next_model, root_frame, step_by, up_to};
 use crate::outcome::{Stepped, Tried};
-use sequence_rules::{Numbers, SeqEntries, SeqEntry, SeqFrame, SeqFrames, SeqWhy, Times};
+use sequence_rules::{Numbers, SeqEntry, SeqFrame, SeqFrames, SeqWhy, Times};
 use std::alloc::{AllocError, Global};
 
 /// Publishes a frame whose models ended, and answers its entry's number.
-fn publish(entries: &mut SeqEntries, frame: SeqFrame) -> Result<u64, AllocError>
+fn publish(entries: &mut Book, frame: SeqFrame) -> Result<u64, AllocError>
     ensures number { IfOk result (λ id. id ≡ length entries.old) }
     ensures entries { OnOk result (entries.new ≡ entries.old ++ entry_of frame ∷ []) }
 {
@@ -52,7 +53,7 @@ pub(crate) fn attempt(
     times: &Times,
     interval: u64,
     reach: u64,
-    entries: &mut SeqEntries,
+    entries: &mut Book,
     need: u64,
     room: u64,
 ) -> Result<Tried, AllocError>

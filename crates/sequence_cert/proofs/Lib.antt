@@ -1,0 +1,4 @@
+pub mod StateWords
+pub mod StateLines
+pub mod PartFacts
+pub mod WholeFacts

@@ -1,0 +1,14 @@
+use Rattle.std.proofs.Common.{◌∙◌, sym}
+use Rattle.sequence_cert.proofs.StateLines.{frame_none, frame_judged}
+use Rattle.sequence_cert.proofs.lines.StateFrameLinePattern.read.Goals as goal
+
+pub returns-in-Ok-None : goal.returns-in-Ok-None
+returns-in-Ok-None c =
+    frame_none c.args.self.now.models c.args.self.now.stations c.args.line.now
+    (sym c.in-Ok-None.ensures ∙ c.in-Ok-None.field-0-is)
+
+pub returns-in-Ok-Some : goal.returns-in-Ok-Some
+returns-in-Ok-Some c =
+    frame_judged c.args.self.now.models c.args.self.now.stations c.args.line.now c.in-Ok-Some.draft
+    c.frame_within.result
+    c.requires.few (sym c.in-Ok-Some.ensures ∙ c.in-Ok-Some.field-0-is) c.frame_within.ensures

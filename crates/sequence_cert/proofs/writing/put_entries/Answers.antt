@@ -1,0 +1,21 @@
+use Rattle.std.proofs.Common.{ap, sym, ◌∙◌, map}
+use Rattle.std.specs.Prelude.{codes}
+use Rattle.cert_lines.specs.Rows.{rows_text, line_text, keyed}
+use Rattle.cert_text.proofs.Putting.{puts, puts_as, ◌▹◌}
+use Rattle.cert_text.proofs.Spelling.{next_line, all_lines}
+use Rattle.sequence_cert.specs.SequenceText.{entry_row}
+use Rattle.sequence_cert.proofs.writing.put_entries.Goals as goal
+
+pub loop-entry-preserved : goal.loop-entry-preserved
+loop-entry-preserved g c =
+    puts _ _ _ _ _ _ _ c.loop-entry.invariant c.put_entry.ensures
+    (next_line entry_row c.as_slice-entry-items.result.now c.loop-entry.entry-index c.entry-item.result
+    (entry_row c.entry-item.result) c.loop-entry-test.true
+    (ap entry_row (sym c.entry-item.is)))
+
+pub returns : goal.returns
+returns g c =
+    puts_as _ _ _ _ _ c.put_keyed.ensures (ap (λ n. line_text (keyed (codes "entries") n)) (sym c.len.ensures))
+    ▹ puts_as _ _ _ _ _ c.loop-entry.invariant
+    (ap (λ xs. rows_text (map entry_row xs)) (sym c.as_slice-entry-items.ensures)
+    ∙ all_lines entry_row c.as_slice-entry-items.result.now c.loop-entry.entry-index c.loop-entry-test.false)

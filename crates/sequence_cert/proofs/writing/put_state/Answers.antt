@@ -1,0 +1,10 @@
+use Rattle.std.proofs.Common.{ap, sym}
+use Rattle.cert_lines.specs.Numbers.{cites_text}
+use Rattle.cert_text.proofs.Putting.{puts_as, ◌▹◌}
+use Rattle.sequence_cert.proofs.writing.put_state.Goals as goal
+
+pub returns : goal.returns
+returns g c =
+    c.put.ensures ▹ puts_as _ _ _ _ _ c.put_cites.ensures (ap cites_text (sym c.as_slice.ensures))
+    ▹ c.put-2.ensures ▹ puts_as _ _ _ _ _ c.put_cites-2.ensures
+    (ap cites_text (sym c.as_slice-2.ensures)) ▹ c.put-3.ensures

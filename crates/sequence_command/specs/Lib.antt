@@ -1,0 +1,6 @@
+pub mod TimedMix
+pub mod CertificateFile
+pub mod SequenceText
+pub mod Ordered
+pub mod VerdictText
+pub mod SequenceCheck

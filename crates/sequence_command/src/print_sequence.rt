@@ -1,0 +1,85 @@
+//! The printed texts of what `sequence` found.
+ghost use Rattle.std.specs.Prelude.{◌≡◌, ◌++◌, ◌<◌, ◌≤◌, All, length, string_bytes, OnOk, IfOk, []};
+ghost use Rattle.sequence_command.specs.SequenceText.{bounds_line, cut_short_text, names_text, optimal_text, sequence_line, stopped_text};
+
+use combined_graph::Mix;
+use sequence_rules::SeqCert;
+use std::alloc::{AllocError, Global};
+
+/// More bytes than the report of a search that memory ended can have.
+const CUT_SHORT_ROOM: usize = 80;
+
+/// The line with both bounds.
+fn push_bounds(text: &mut String, lower: u64, upper: u64) -> Result<(), AllocError>
+    ensures { OnOk result (string_bytes text.new ≡ string_bytes text.old ++ bounds_line lower upper) }
+{
+    write!(text, "bounds {lower} {upper}\n")
+}
+
+/// The names of the models of units, each behind a blank.
+fn push_names(text: &mut Vec<u8>, mix: &Mix, units: &[u64]) -> Result<(), AllocError>
+    requires few { length mix.now.models ≤ 16 }
+    requires models { All (λ m. m < length mix.now.models) units.now }
+    ensures { OnOk result (text.new.items ≡ text.old.items ++ names_text mix.now.models units.now) }
+{
+    for k in 0..units.len() {
+        text.push(b' ')?;
+        text.extend_from_slice(mix.name(units[k] as u32))?;
+    }
+    Ok(())
+}
+
+/// A heading, and the line of a sequence behind it.
+fn with_sequence(heading: String, mix: &Mix, units: &[u64]) -> Result<Vec<u8>, AllocError>
+    requires few { length mix.now.models ≤ 16 }
+    requires models { All (λ m. m < length mix.now.models) units.now }
+    ensures { IfOk result (λ t. t.items ≡ string_bytes heading ++ sequence_line mix.now units.now) }
+{
+    let mut text = heading.into_bytes();
+    text.extend_from_slice(b"sequence:")?;
+    push_names(&mut text, mix, units)?;
+    text.extend_from_slice(b"\n")?;
+    Ok(text)
+}
+
+/// The report of an optimum, with its sequence.
+pub(crate) fn optimal_text(alloc: Global, mix: &Mix, cert: &SeqCert) -> Result<Vec<u8>, AllocError>
+    requires few { length mix.now.models ≤ 16 }
+    requires models { All (λ m. m < length mix.now.models) cert.now.sequence }
+    ensures { IfOk result (λ t. t.items ≡ optimal_text mix.now cert.now) }
+{
+    let least = cert.upper;
+    let mut heading = String::new(alloc);
+    write!(heading, "optimal utility {least}\n")?;
+    with_sequence(heading, mix, cert.sequence.as_slice())
+}
+
+/// The report of a search that used its units, with its best sequence.
+pub(crate) fn stopped_text(alloc: Global, mix: &Mix, cert: &SeqCert) -> Result<Vec<u8>, AllocError>
+    requires few { length mix.now.models ≤ 16 }
+    requires models { All (λ m. m < length mix.now.models) cert.now.sequence }
+    ensures { IfOk result (λ t. t.items ≡ stopped_text mix.now cert.now) }
+{
+    let mut heading = String::new(alloc);
+    heading.push_str("stopped by units\n")?;
+    push_bounds(&mut heading, cert.lower, cert.upper)?;
+    with_sequence(heading, mix, cert.sequence.as_slice())
+}
+
+/// Memory for the report of a search that memory ends, taken before the search.
+pub(crate) fn room_for_bounds(alloc: Global) -> Result<String, AllocError>
+    ensures { IfOk result (λ s. string_bytes s ≡ []) }
+{
+    String::with_capacity(alloc, CUT_SHORT_ROOM)
+}
+
+/// The report of a search that memory ended, in memory that was taken before.
+pub(crate) fn cut_short_text(room: String, lower: u64, upper: u64) -> Result<Vec<u8>, AllocError>
+    requires { string_bytes room ≡ [] }
+    ensures { IfOk result (λ t. t.items ≡ cut_short_text lower upper) }
+{
+    let mut text = room;
+    text.push_str("stopped by memory\n")?;
+    push_bounds(&mut text, lower, upper)?;
+    Ok(text.into_bytes())
+}

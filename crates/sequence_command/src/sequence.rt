@@ -1,0 +1,177 @@
+//! What `sequence` answers of a mix and a balance, and of files that say them.
+//!
+//! What the search found becomes a report with the certificate, which is kept, and written where the words name a file.
+//! The report and the text of the certificate are made before the file, so that a run without memory for them writes
+//! none.
+ghost use Rattle.std.specs.Prelude.{◌≡◌, ◌≤◌, ℕ, List, [], length, string_bytes, Some, Err, IfOk, MatchResult, option_map};
+ghost use Rattle.line_io.specs.Outside.{Rises};
+ghost use Rattle.line_words.specs.Ranges.{IsBetween};
+ghost use Rattle.sequence_rules.specs.Ranges.{AreTimes, IsInRange};
+ghost use Rattle.sequence_rules.specs.declared.types.SeqCert.{SeqCert as Proof};
+ghost use Rattle.sequence_search.specs.Outcomes.{AreBounds, IsSolved, IsStopped};
+ghost use Rattle.command_outcome.specs.Outcome.{Files, Ends, MayEnd, Stay, Stops, MayStop, outside, outcome_of};
+ghost use Rattle.command_outcome.specs.declared.report.Kept.TheVariants.{Sequence as Certified};
+ghost use Rattle.command_outcome.specs.declared.report.Stop.TheVariants.{Unwritten};
+ghost use Rattle.sequence_command.specs.Ordered.{HasCertificate, IsAnswerStatus, IsCutShort, IsFound, IsSequenceOutcome, IsSequencePromised, page_of};
+
+use crate::print_sequence::{cut_short_text, optimal_text, room_for_bounds, stopped_text};
+use crate::timed_mix::{TimedMix, timed_of};
+use combined_graph::Mix;
+use command_outcome::{Kept, Report, Status, Stop, refuse};
+use line_io::{Shelf, Written, write_whole};
+use sequence_cert::write_seq;
+use sequence_rules::{SeqCert, Times};
+use sequence_search::{Ordered, order};
+use std::alloc::{AllocError, Global};
+
+/// The report of a sequence of least utility work, with its certificate.
+fn optimal(
+    alloc: Global,
+    timed: &TimedMix,
+    interval: u64,
+    reach: u64,
+    units: u64,
+    cert: SeqCert,
+) -> Result<Report, AllocError>
+    requires models { length timed.now.times.demands ≡ length timed.now.mix.models }
+    requires solved { IsSolved timed.now.times interval reach units cert }
+    ensures { IfOk result (λ r.
+        IsFound timed.now.mix timed.now.times interval reach units r.status r.text.items r.kept) }
+{
+    let text = optimal_text(alloc, &timed.mix, &cert)?;
+    Ok(Report {
+        status: Status::Done,
+        text,
+        kept: Kept::Sequence(cert),
+    })
+}
+
+/// The report of a search whose units ended, with its certificate.
+fn stopped(
+    alloc: Global,
+    timed: &TimedMix,
+    interval: u64,
+    reach: u64,
+    units: u64,
+    cert: SeqCert,
+) -> Result<Report, AllocError>
+    requires models { length timed.now.times.demands ≡ length timed.now.mix.models }
+    requires stopped { IsStopped timed.now.times interval reach units cert }
+    ensures { IfOk result (λ r.
+        IsFound timed.now.mix timed.now.times interval reach units r.status r.text.items r.kept) }
+{
+    let text = stopped_text(alloc, &timed.mix, &cert)?;
+    Ok(Report {
+        status: Status::Stopped,
+        text,
+        kept: Kept::Sequence(cert),
+    })
+}
+
+/// The refusal of a search that memory ended, with its bounds.
+fn cut_short(
+    times: &Times,
+    interval: u64,
+    reach: u64,
+    room: String,
+    lower: u64,
+    upper: u64,
+) -> Result<Stop, AllocError>
+    requires room { string_bytes room ≡ [] }
+    requires bounds { AreBounds times.now interval reach lower upper }
+    ensures answer { IfOk result (Stops (IsCutShort times.now interval reach)) }
+    ensures fault { IfOk result (MayStop ⊥) }
+{
+    let text = cut_short_text(room, lower, upper)?;
+    Ok(refuse(Status::Memory, text))
+}
+
+/// What is reported of a mix and its table, with a certificate; or the bounds, where memory ended the search.
+fn ordered(
+    alloc: Global,
+    timed: &TimedMix,
+    interval: u64,
+    reach: u64,
+    units: u64,
+) -> Result<Report, Stop>
+    requires times { AreTimes timed.now.times }
+    requires models { length timed.now.times.demands ≡ length timed.now.mix.models }
+    requires interval { IsBetween 1 1000000000 interval }
+    requires reach { IsBetween 1 1000000000 reach }
+    requires units { IsBetween 1 1000000 units }
+    ensures answer { MatchResult result
+        (λ r. IsFound timed.now.mix timed.now.times interval reach units r.status r.text.items r.kept)
+        (Stops (IsCutShort timed.now.times interval reach)) }
+    ensures good { IfOk result (λ r. IsAnswerStatus r.status) }
+    ensures fault { MatchResult result (λ _. Unit {0}) (MayStop ⊥) }
+{
+    let room = room_for_bounds(alloc)?;
+    match order(alloc, &timed.times, interval, reach, units) {
+        Ordered::Solved(cert) => Ok(optimal(alloc, timed, interval, reach, units, cert)?),
+        Ordered::Stopped(cert) => Ok(stopped(alloc, timed, interval, reach, units, cert)?),
+        Ordered::Memory { lower, upper } => {
+            Err(cut_short(&timed.times, interval, reach, room, lower, upper)?)
+        }
+        Ordered::NoMemory => Err(Stop::Memory),
+    }
+}
+
+/// Writes the certificate of a report, where it has one, and hands the report on.
+fn written<S: Shelf>(
+    alloc: Global,
+    shelf: &mut S,
+    name: &str,
+    report: Report,
+) -> Result<Report, Stop>
+    requires range { (cert : Proof) → report.kept ≡ Certified cert → IsInRange cert }
+    ensures ends { S.tells → (files : Files) → Stay files (S.file shelf.old)
+        → Ends (outside files (S.blames shelf.new))
+        (λ out. out ≡ outcome_of report (page_of (Some name.now) report.kept)) (S.file shelf.new) result }
+    ensures same { IfOk result (λ r. r ≡ report) }
+    ensures certificate { S.tells → IfOk result (λ r. HasCertificate (Some name.now) (S.file shelf.new) r.kept) }
+    ensures fault { MatchResult result (λ _. Unit {0}) (MayEnd (Rises (S.faults shelf.old) (S.faults shelf.new))) }
+    ensures count { S.faults shelf.old ≤ S.faults shelf.new }
+{
+    let Kept::Sequence(cert) = &report.kept else {
+        return Ok(report);
+    };
+    let text = write_seq(alloc, cert)?;
+    match write_whole(shelf, name, &text) {
+        Written::Done => Ok(report),
+        Written::WriteFault => Err(Stop::Unwritten),
+    }
+}
+
+/// The report of `sequence` for the files of a mix and of the certificate whose balance the line has, a launch interval
+/// and the length of each station, both in the mix's time unit, so many units, 1 to 1,000,000, and the name of the file
+/// that the certificate is written to, where there is one.
+pub fn sequence_report<S: Shelf>(
+    alloc: Global,
+    mix: &str,
+    cert: &str,
+    interval: u64,
+    reach: u64,
+    units: u64,
+    name: Option<&str>,
+    shelf: &mut S,
+) -> Result<Report, Stop>
+    requires interval { IsBetween 1 1000000000 interval }
+    requires reach { IsBetween 1 1000000000 reach }
+    requires units { IsBetween 1 1000000 units }
+    ensures ends { S.tells → (let o = outside (S.file shelf.old) (S.blames shelf.new) in
+        Ends o (IsSequenceOutcome o mix.now cert.now interval reach units (option_map (λ a. a.now) name.entry))
+        (S.file shelf.new) result) }
+    ensures good { IfOk result (λ r. IsAnswerStatus r.status) }
+    ensures fault { MatchResult result (λ _. Unit {0}) (MayEnd (Rises (S.faults shelf.old) (S.faults shelf.new))) }
+    ensures unwritten { result ≡ Err Unwritten → (n : List ℕ) × (option_map (λ a. a.now) name.entry ≡ Some n) }
+    ensures promise { S.tells → IfOk result (λ r.
+        IsSequencePromised (S.file shelf.old) (S.file shelf.new) mix.now cert.now interval reach units
+        (option_map (λ a. a.now) name.entry) r.status r.text.items r.kept) }
+{
+    let timed = timed_of(alloc, mix, cert, interval, shelf)?;
+    let report = ordered(alloc, &timed, interval, reach, units)?;
+    match name {
+        None => Ok(report),
+        Some(name) => written(alloc, shelf, name, report),
+    }
+}
