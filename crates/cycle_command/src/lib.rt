@@ -8,8 +8,6 @@
 mod least;
 mod line_file;
 mod print_cycle;
-#[cfg(test)]
-mod tests;
 
 pub use least::cycle_report;
 pub use line_file::plain_line;

@@ -16,8 +16,6 @@ mod halving;
 mod joining;
 mod opening;
 mod searching;
-#[cfg(test)]
-mod tests;
 mod trying;
 
 pub use asking::{Asked, ask_book};

@@ -10,8 +10,6 @@ mod effic;
 mod print_effic;
 mod print_verdict;
 mod product_file;
-#[cfg(test)]
-mod tests;
 
 pub use check::effic_check_report;
 pub use effic::effic_report;

@@ -16,8 +16,6 @@ mod lowering;
 mod opening;
 mod searching;
 mod settling;
-#[cfg(test)]
-mod tests;
 mod trying;
 
 pub use searching::{EfficOutcome, Ended, least_product};

@@ -1,9 +1,9 @@
 -- The headline of a run, from what its job promises and from what is put.
-use Rattle.std.proofs.Common.{◌≡◌, ◌∙◌, ◌⊎◌, inl, inr, ℕ, List, sym, subst}
+use Rattle.std.proofs.Common.{IfOk, MatchResult, ◌≡◌, ◌∙◌, ◌⊎◌, inl, inr, ℕ, List, refl, sym, subst}
 use Rattle.std.specs.declared.result.Result.{Result}
 use Rattle.std.specs.declared.result.Result.TheVariants.{Ok, Err}
 use Rattle.line_words.specs.Words.{Text}
-use Rattle.command_outcome.specs.Outcome.{Files}
+use Rattle.command_outcome.specs.Outcome.{Files, MayEnd}
 use Rattle.command_outcome.specs.Output.{Finishes, Puts, status_of}
 use Rattle.command_outcome.specs.declared.report.Kept.{Kept}
 use Rattle.command_outcome.specs.declared.report.Report.{Report}
@@ -11,7 +11,7 @@ use Rattle.command_outcome.specs.declared.report.Stop.{Stop}
 use Rattle.command_outcome.specs.declared.report.Stop.TheVariants as stop
 use Rattle.command_outcome.specs.declared.status.Status.{Status}
 use Rattle.command_outcome.specs.declared.status.Status.TheVariants as ends
-use Rattle.line_run.specs.Headline.{IsAnswered, PromisesOf, AsksPromise, IsHeadline}
+use Rattle.line_run.specs.Headline.{IsAnswered, PromisesOf, Reports, AsksPromise, IsHeadline}
 
 -- a run that answers wasn't cut short, and isn't out of memory
 not_written : (s : Status) → IsAnswered s → s ≡ ends.WriteFault → ⊥
@@ -21,6 +21,15 @@ not_written s (inr e) f = (let h : ends.Stopped ≡ ends.WriteFault = sym e ∙ 
 not_memory : (s : Status) → IsAnswered s → s ≡ ends.Memory → ⊥
 not_memory s (inl e) f = (let h : ends.Done ≡ ends.Memory = sym e ∙ f in cc)
 not_memory s (inr e) f = (let h : ends.Stopped ≡ ends.Memory = sym e ∙ f in cc)
+
+-- a job that answers ended with a report, and what is true of its report is so
+pub reports_so : (R : Type 0) (P : Report → Type 0) (r : Result Report Stop) → IfOk r P
+    → MatchResult r (λ _. Unit {0}) (MayEnd R) → IsAnswered (status_of r) → Reports P r
+reports_so R P (Ok x) p m a = p
+reports_so R P (Err (stop.Report x)) p m (inl e) = absurd (m.done e)
+reports_so R P (Err (stop.Report x)) p m (inr e) = absurd (m.stopped e)
+reports_so R P (Err stop.Memory) p m a = absurd (not_memory ends.Memory a refl)
+reports_so R P (Err stop.Unwritten) p m a = absurd (not_written ends.WriteFault a refl)
 
 module _ (words : List Text) (files after : Files) (old new : List ℕ) (before faults : ℕ) (status : Status) (kept : Kept) where
   of_report : (r : Report) → (IsAnswered r.status → AsksPromise words files after (Ok r)) → Puts r.status r.text.items r.kept old new before faults status kept → IsAnswered status

@@ -5,7 +5,7 @@ use Rattle.std.specs.declared.result.Result.TheVariants.{Ok, Err}
 use Rattle.line_words.specs.Words.{Text}
 use Rattle.line_words.specs.Jobs.{IsJob}
 use Rattle.line_words.specs.declared.job.Job.{Job}
-use Rattle.line_words.specs.declared.job.Job.TheVariants.{Help, Version, Balance, Solve, Cycle, Check, Convert, Combine, Utility, Timeline, Try, Draw, Effic, EfficCheck}
+use Rattle.line_words.specs.declared.job.Job.TheVariants.{Help, Version, Balance, Solve, Cycle, Check, Convert, Combine, Utility, Timeline, Try, Draw, Effic, EfficCheck, Sequence, SequenceCheck}
 use Rattle.command_outcome.specs.Outcome.{Files}
 use Rattle.command_outcome.specs.declared.report.Kept.{Kept}
 use Rattle.command_outcome.specs.declared.report.Report.{Report}
@@ -20,6 +20,8 @@ use Rattle.try_command.specs.Tried.{IsTried}
 use Rattle.draw_command.specs.Draw.{IsTrulyDrawn}
 use Rattle.effic_command.specs.EfficPromise.{IsEfficPromised}
 use Rattle.effic_command.specs.EfficCheck.{IsProvedProduct}
+use Rattle.sequence_command.specs.Ordered.{IsSequencePromised}
+use Rattle.sequence_command.specs.SequenceCheck.{IsProvedSequence}
 use Rattle.line_run.specs.Run.{planned}
 
 -- the run answers the question of its words: with status 0, or with status 1 where it stopped by units
@@ -32,13 +34,16 @@ IsAnswered status = (status ≡ ends.Done) ⊎ (status ≡ ends.Stopped)
 -- spent on loads that it lists; of `cycle` the same of the least cycle time in so many stations. Of `try`: the same of the line of a
 -- seed. Of `check`: where a certificate is accepted, whoever made it, what it claims is true. Of `draw`: the picture that is
 -- written is true of the line. Of `effic`: the same as of `cycle` of the least product of stations and cycle, which may also
--- stop by the size of its book; of `effic-check` the same as of `check`.
+-- stop by the size of its book; of `effic-check` the same as of `check`. Of `sequence`: for the mix and the balance that the
+-- files say, the sequence that is printed is one of the demands, a certificate is kept and written as of `solve`, no
+-- sequence of the demands has less utility work than its lower bound, and the bounds differ only where the units were
+-- spent; of `sequence-check` the same as of `check`.
 abbrev pub PromisesOf : Files → Files → Job → Status → List ℕ → Kept → Type 0
 PromisesOf files after Help status text kept = Unit {0}
 PromisesOf files after Version status text kept = Unit {0}
 PromisesOf files after (Balance file cycle line apart) status text kept = Unit {0}
-PromisesOf files after (Solve file cycle line helpers units cert apart warm) status text kept =
-    IsPromised files after file apart warm cycle (kind_of line) (planned helpers units) cert status text kept
+PromisesOf files after (Solve file cycle line helpers units cert apart warm seek) status text kept =
+    IsPromised files after file apart warm seek cycle (kind_of line) (planned helpers units) cert status text kept
 PromisesOf files after (Cycle file stations line helpers units cert) status text kept =
     IsCyclePromised files after file (kind_of line) stations helpers units cert status text kept
 PromisesOf files after (Check file cert steps apart) status text kept = status ≡ ends.Done → IsProvedTrue files file cert apart steps
@@ -51,6 +56,10 @@ PromisesOf files after (Draw file cert name apart) status text kept = IsTrulyDra
 PromisesOf files after (Effic file least most line helpers units cert) status text kept =
     IsEfficPromised files after file (kind_of line) least most helpers units cert status text kept
 PromisesOf files after (EfficCheck file cert steps) status text kept = status ≡ ends.Done → IsProvedProduct files file cert steps
+PromisesOf files after (Sequence mix cert interval length units name) status text kept =
+    IsSequencePromised files after mix cert interval length units name status text kept
+PromisesOf files after (SequenceCheck mix cert seq interval length steps) status text kept =
+    status ≡ ends.Done → IsProvedSequence files mix cert seq interval length steps
 
 -- The headline of a run that answers: the words ask for a job, its whole text is put behind what was put before, and what
 -- the job promises holds of that text, of the status, and of the certificate that is kept.

@@ -15,7 +15,7 @@ planning_text =
     ++ codes "solve FILE    a balance of the fewest stations, and the proof that it is\n"
     ++ codes "    cycle=C (the file's)  line=straight|u (straight)  helpers=0..64 (4)\n"
     ++ codes "    units=1..3000000 (1000000)  cert=OUT (none)  apart=PAIRS (none)\n"
-    ++ codes "    warm=CERT (none)\n"
+    ++ codes "    warm=CERT (none)  seek=0..3000000 (0)\n"
     ++ codes "    line solve jackson.in2 cycle=10 cert=jackson.cert\n"
     ++ codes "cycle FILE stations=1..1024    the least cycle time, and the proof\n"
     ++ codes "    line=straight|u (straight)  helpers=0..64 (4)\n"
@@ -36,23 +36,31 @@ proof_text =
     ++ codes "    steps=1..20000000 (20000000)\n"
     ++ codes "    line effic-check jackson.in2 jackson.product\n"
 
--- what the other commands give
-abbrev pub other_text : List ℕ
-other_text =
-    codes "convert FILE OUT to=in2|alb|cert    the instance or the proof in that form\n"
-    ++ codes "    cycle=C (the file's)\n"
-    ++ codes "    line convert jackson.in2 jackson.alb to=alb cycle=10\n"
-    ++ codes "combine MIX OUT    the combined instance of a mix of models\n"
+-- what the commands for mixes of models give
+abbrev pub mix_text : List ℕ
+mix_text =
+    codes "combine MIX OUT    the combined instance of a mix of models\n"
     ++ codes "    line combine models.csv all.in2\n"
     ++ codes "utility MIX CERT SEQ interval=I length=L    utility work of a sequence\n"
     ++ codes "    line utility models.csv all.cert day.txt interval=7 length=8\n"
     ++ codes "timeline MIX CERT SEQ interval=I length=L    the same, unit by unit, as CSV\n"
     ++ codes "    line timeline models.csv all.cert day.txt interval=7 length=8\n"
+    ++ codes "sequence MIX CERT interval=I length=L    the order of least utility work\n"
+    ++ codes "    units=1..1000000 (1000000)  out=OUT (none)\n"
+    ++ codes "    line sequence models.csv all.cert interval=7 length=8 out=day.proof\n"
+    ++ codes "sequence-check MIX CERT SEQ interval=I length=L    whether that proof holds\n"
+    ++ codes "    steps=1..20000000 (20000000)\n"
+    ++ codes "    line sequence-check models.csv all.cert day.proof interval=7 length=8\n"
+
+-- what the other commands give
+abbrev pub other_text : List ℕ
+other_text =
+    codes "convert FILE OUT to=in2|alb|cert cycle=C    a line or a proof in that form\n"
+    ++ codes "    line convert jackson.in2 jackson.alb to=alb cycle=10\n"
     ++ codes "try seed=S tasks=1..1024    a generated instance, solved and checked\n"
     ++ codes "    cycle=C (200)  line=straight|u (straight)  units=1..3000000 (1000000)\n"
     ++ codes "    line try seed=1 tasks=50\n"
-    ++ codes "draw FILE CERT OUT    the balance of a proof as a picture, in SVG\n"
-    ++ codes "    apart=PAIRS (none)\n"
+    ++ codes "draw FILE CERT OUT apart=PAIRS    the balance of a proof as a picture, in SVG\n"
     ++ codes "    line draw jackson.in2 jackson.cert jackson.svg\n"
     ++ codes "--help, --version    this page, and the version\n\n"
     ++ codes "FILE has an instance as IN2 or ALB, PAIRS lines i,j of tasks that may share no\n"
@@ -60,4 +68,4 @@ other_text =
 
 -- the page with every command
 abbrev pub help_text : List ℕ
-help_text = (planning_text ++ proof_text) ++ other_text
+help_text = ((planning_text ++ proof_text) ++ mix_text) ++ other_text

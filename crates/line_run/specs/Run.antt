@@ -5,7 +5,7 @@ use Rattle.std.specs.declared.result.Result.TheVariants.{Ok, Err}
 use Rattle.line_words.specs.Words.{Text}
 use Rattle.line_words.specs.Jobs.{IsJob}
 use Rattle.line_words.specs.declared.job.Job.{Job}
-use Rattle.line_words.specs.declared.job.Job.TheVariants.{Help, Version, Balance, Solve, Cycle, Check, Convert, Combine, Utility, Timeline, Try, Draw, Effic, EfficCheck}
+use Rattle.line_words.specs.declared.job.Job.TheVariants.{Help, Version, Balance, Solve, Cycle, Check, Convert, Combine, Utility, Timeline, Try, Draw, Effic, EfficCheck, Sequence, SequenceCheck}
 use Rattle.line_rules.specs.declared.types.LineKind.{LineKind}
 use Rattle.round_run.specs.declared.plans.Plan.{Plan}
 use Rattle.command_outcome.specs.Outcome.{Files, Outside, Outcome, IsCut, IsWritten, outcome_of, told}
@@ -29,6 +29,8 @@ use Rattle.try_command.specs.Tried.{IsTried}
 use Rattle.draw_command.specs.Draw.{IsDrawOutcome}
 use Rattle.effic_command.specs.EfficFound.{IsEfficOutcome}
 use Rattle.effic_command.specs.EfficCheck.{IsEfficCheckOutcome, IsProvedProduct}
+use Rattle.sequence_command.specs.Ordered.{IsSequenceOutcome}
+use Rattle.sequence_command.specs.SequenceCheck.{IsSequenceCheckOutcome, IsProvedSequence}
 use Rattle.line_run.specs.Usage.{IsUsageOutcome}
 use Rattle.line_run.specs.Pages.{help_text, version_text}
 
@@ -46,7 +48,8 @@ abbrev pub IsJobOutcome : Outside → Job → Outcome → Type 0
 IsJobOutcome o Help out = out ≡ told ends.Done help_text
 IsJobOutcome o Version out = out ≡ told ends.Done version_text
 IsJobOutcome o (Balance file cycle line apart) out = IsBalanceOutcome o file apart cycle (kind_of line) out
-IsJobOutcome o (Solve file cycle line helpers units cert apart warm) out = IsSolveOutcome o file apart warm cycle (kind_of line) (planned helpers units) cert out
+IsJobOutcome o (Solve file cycle line helpers units cert apart warm seek) out =
+    IsSolveOutcome o file apart warm seek cycle (kind_of line) (planned helpers units) cert out
 IsJobOutcome o (Cycle file stations line helpers units cert) out = IsCycleOutcome o file (kind_of line) stations helpers units cert out
 IsJobOutcome o (Check file cert steps apart) out = IsCheckOutcome o file cert apart steps out
 IsJobOutcome o (Convert file name to cycle) out = IsConvertOutcome o file name to cycle out
@@ -57,6 +60,8 @@ IsJobOutcome o (Try seed tasks cycle line units) out = IsTryOutcome seed tasks c
 IsJobOutcome o (Draw file cert name apart) out = IsDrawOutcome o file cert name apart out
 IsJobOutcome o (Effic file least most line helpers units cert) out = IsEfficOutcome o file (kind_of line) least most helpers units cert out
 IsJobOutcome o (EfficCheck file cert steps) out = IsEfficCheckOutcome o file cert steps out
+IsJobOutcome o (Sequence mix cert interval length units name) out = IsSequenceOutcome o mix cert interval length units name out
+IsJobOutcome o (SequenceCheck mix cert seq interval length steps) out = IsSequenceCheckOutcome o mix cert seq interval length steps out
 
 -- the words ask for a job, and this is what it comes to
 pub record AsksJob (words : List Text) (o : Outside) (out : Outcome) : Type 0 where
@@ -77,7 +82,7 @@ abbrev pub IsPage : Job → Outcome → Type 0
 IsPage Help out = out ≡ told ends.Done help_text
 IsPage Version out = out ≡ told ends.Done version_text
 IsPage (Balance file cycle line apart) out = ⊥
-IsPage (Solve file cycle line helpers units cert apart warm) out = ⊥
+IsPage (Solve file cycle line helpers units cert apart warm seek) out = ⊥
 IsPage (Cycle file stations line helpers units cert) out = ⊥
 IsPage (Check file cert steps apart) out = ⊥
 IsPage (Convert file name to cycle) out = ⊥
@@ -88,13 +93,15 @@ IsPage (Try seed tasks cycle line units) out = IsTryOutcome seed tasks cycle (ki
 IsPage (Draw file cert name apart) out = ⊥
 IsPage (Effic file least most line helpers units cert) out = ⊥
 IsPage (EfficCheck file cert steps) out = ⊥
+IsPage (Sequence mix cert interval length units name) out = ⊥
+IsPage (SequenceCheck mix cert seq interval length steps) out = ⊥
 
 -- the job reads files
 abbrev pub ReadsFiles : Job → Type 0
 ReadsFiles Help = ⊥
 ReadsFiles Version = ⊥
 ReadsFiles (Balance file cycle line apart) = Unit {0}
-ReadsFiles (Solve file cycle line helpers units cert apart warm) = Unit {0}
+ReadsFiles (Solve file cycle line helpers units cert apart warm seek) = Unit {0}
 ReadsFiles (Cycle file stations line helpers units cert) = Unit {0}
 ReadsFiles (Check file cert steps apart) = Unit {0}
 ReadsFiles (Convert file name to cycle) = Unit {0}
@@ -105,6 +112,8 @@ ReadsFiles (Try seed tasks cycle line units) = ⊥
 ReadsFiles (Draw file cert name apart) = Unit {0}
 ReadsFiles (Effic file least most line helpers units cert) = Unit {0}
 ReadsFiles (EfficCheck file cert steps) = Unit {0}
+ReadsFiles (Sequence mix cert interval length units name) = Unit {0}
+ReadsFiles (SequenceCheck mix cert seq interval length steps) = Unit {0}
 
 -- the words ask for a job that reads files
 pub record AsksFiles (words : List Text) : Type 0 where
@@ -134,7 +143,7 @@ abbrev pub out_of : Job → Option Text
 out_of Help = None
 out_of Version = None
 out_of (Balance file cycle line apart) = None
-out_of (Solve file cycle line helpers units cert apart warm) = cert
+out_of (Solve file cycle line helpers units cert apart warm seek) = cert
 out_of (Cycle file stations line helpers units cert) = cert
 out_of (Check file cert steps apart) = None
 out_of (Convert file name to cycle) = Some name
@@ -145,6 +154,8 @@ out_of (Try seed tasks cycle line units) = None
 out_of (Draw file cert name apart) = Some name
 out_of (Effic file least most line helpers units cert) = cert
 out_of (EfficCheck file cert steps) = None
+out_of (Sequence mix cert interval length units name) = name
+out_of (SequenceCheck mix cert seq interval length steps) = None
 
 -- the words ask for a job that writes a file
 pub record IsWriting (words : List Text) : Type 0 where
@@ -169,7 +180,7 @@ abbrev pub IsJobTrue : Files → Job → Type 0
 IsJobTrue files Help = Unit {0}
 IsJobTrue files Version = Unit {0}
 IsJobTrue files (Balance file cycle line apart) = Unit {0}
-IsJobTrue files (Solve file cycle line helpers units cert apart warm) = Unit {0}
+IsJobTrue files (Solve file cycle line helpers units cert apart warm seek) = Unit {0}
 IsJobTrue files (Cycle file stations line helpers units cert) = Unit {0}
 IsJobTrue files (Check file cert steps apart) = IsProvedTrue files file cert apart steps
 IsJobTrue files (Convert file name to cycle) = Unit {0}
@@ -180,6 +191,8 @@ IsJobTrue files (Try seed tasks cycle line units) = Unit {0}
 IsJobTrue files (Draw file cert name apart) = Unit {0}
 IsJobTrue files (Effic file least most line helpers units cert) = Unit {0}
 IsJobTrue files (EfficCheck file cert steps) = IsProvedProduct files file cert steps
+IsJobTrue files (Sequence mix cert interval length units name) = Unit {0}
+IsJobTrue files (SequenceCheck mix cert seq interval length steps) = IsProvedSequence files mix cert seq interval length steps
 
 -- What a run that is done has proved: where its words ask for the check of a certificate, whoever made it, what the certificate claims is true.
 pub record IsTrueRun (words : List Text) (files : Files) : Type 0 where

@@ -13,7 +13,7 @@ balance FILE    a balance at once, a bound on its stations, the idle time
 solve FILE    a balance of the fewest stations, and the proof that it is
     cycle=C (the file's)  line=straight|u (straight)  helpers=0..64 (4)
     units=1..3000000 (1000000)  cert=OUT (none)  apart=PAIRS (none)
-    warm=CERT (none)
+    warm=CERT (none)  seek=0..3000000 (0)
     line solve jackson.in2 cycle=10 cert=jackson.cert
 cycle FILE stations=1..1024    the least cycle time, and the proof
     line=straight|u (straight)  helpers=0..64 (4)
@@ -34,21 +34,28 @@ effic-check FILE CERT    the same of a proof of effic
     line effic-check jackson.in2 jackson.product
 ";
 
-/// What the other commands give.
-const OTHER: &str = "convert FILE OUT to=in2|alb|cert    the instance or the proof in that form
-    cycle=C (the file's)
-    line convert jackson.in2 jackson.alb to=alb cycle=10
-combine MIX OUT    the combined instance of a mix of models
+/// What the commands for mixes of models give.
+const MIXES: &str = "combine MIX OUT    the combined instance of a mix of models
     line combine models.csv all.in2
 utility MIX CERT SEQ interval=I length=L    utility work of a sequence
     line utility models.csv all.cert day.txt interval=7 length=8
 timeline MIX CERT SEQ interval=I length=L    the same, unit by unit, as CSV
     line timeline models.csv all.cert day.txt interval=7 length=8
+sequence MIX CERT interval=I length=L    the order of least utility work
+    units=1..1000000 (1000000)  out=OUT (none)
+    line sequence models.csv all.cert interval=7 length=8 out=day.proof
+sequence-check MIX CERT SEQ interval=I length=L    whether that proof holds
+    steps=1..20000000 (20000000)
+    line sequence-check models.csv all.cert day.proof interval=7 length=8
+";
+
+/// What the other commands give.
+const OTHER: &str = "convert FILE OUT to=in2|alb|cert cycle=C    a line or a proof in that form
+    line convert jackson.in2 jackson.alb to=alb cycle=10
 try seed=S tasks=1..1024    a generated instance, solved and checked
     cycle=C (200)  line=straight|u (straight)  units=1..3000000 (1000000)
     line try seed=1 tasks=50
-draw FILE CERT OUT    the balance of a proof as a picture, in SVG
-    apart=PAIRS (none)
+draw FILE CERT OUT apart=PAIRS    the balance of a proof as a picture, in SVG
     line draw jackson.in2 jackson.cert jackson.svg
 --help, --version    this page, and the version
 
@@ -63,6 +70,7 @@ pub fn help_page(alloc: Global) -> Result<Vec<u8>, AllocError>
     let mut text = String::new(alloc);
     text.push_str(PLANNING)?;
     text.push_str(PROOFS)?;
+    text.push_str(MIXES)?;
     text.push_str(OTHER)?;
     Ok(text.into_bytes())
 }

@@ -31,6 +31,7 @@ use line_io::{Shelf, Sink};
 use line_words::{Job, JobRead, Name, job_of};
 use mix_commands::{combine_report, timeline_report, utility_report};
 use round_run::{AlwaysOpen, Gate, Plan};
+use sequence_command::{sequence_check_report, sequence_report};
 use solve_command::solve_report;
 use std::alloc::Global;
 use std::sync::Wait;
@@ -87,6 +88,7 @@ fn do_job<R: Threads + Wait + Sync, S: Shelf, G: Gate>(
             cert,
             apart,
             warm,
+            seek,
         } => {
             let kind = kind_of(*line);
             let plan = Plan {
@@ -99,6 +101,7 @@ fn do_job<R: Threads + Wait + Sync, S: Shelf, G: Gate>(
                 file.text(),
                 name_of(apart),
                 name_of(warm),
+                *seek,
                 *cycle,
                 kind,
                 &plan,
@@ -236,6 +239,40 @@ fn do_job<R: Threads + Wait + Sync, S: Shelf, G: Gate>(
         Job::EfficCheck { file, cert, steps } => {
             effic_check_report(alloc, file.text(), cert.text(), *steps, shelf)
         }
+        Job::Sequence {
+            mix,
+            cert,
+            interval,
+            length,
+            units,
+            out,
+        } => sequence_report(
+            alloc,
+            mix.text(),
+            cert.text(),
+            *interval,
+            *length,
+            *units,
+            name_of(out),
+            shelf,
+        ),
+        Job::SequenceCheck {
+            mix,
+            cert,
+            seq,
+            interval,
+            length,
+            steps,
+        } => sequence_check_report(
+            alloc,
+            mix.text(),
+            cert.text(),
+            seq.text(),
+            *interval,
+            *length,
+            *steps,
+            shelf,
+        ),
     }
 }
 
@@ -276,7 +313,9 @@ fn do_words<R: Threads + Wait + Sync, S: Shelf, G: Gate>(
 /// models combines to, `utility` puts the utility work of a sequence of units, and `timeline` puts it unit by unit.
 /// `try` draws a line from a seed, solves it, and tells the bounds of a certificate that was read again and verified.
 /// `draw` writes the picture of a certificate's balance. `effic` puts the least product of stations and cycle time, and
-/// writes its certificate, and `effic-check` puts what the check of such a certificate finds. A fault of the words is
+/// writes its certificate, and `effic-check` puts what the check of such a certificate finds. `sequence` puts the order of
+/// the units of a mix with the least utility work, and writes its certificate, and `sequence-check` puts what the check
+/// of such a certificate finds. A fault of the words is
 /// answered by the line `usage`, with the number of the word and what is wrong. Each refusal is one line, and nothing is put with it. All files stay but the one that a job writes. `kept` then holds the
 /// certificate that the run made, where its answer was put, and else nothing; what it held before is dropped.
 pub fn run_gated<R: Threads + Wait + Sync, S: Shelf, K: Sink, G: Gate>(

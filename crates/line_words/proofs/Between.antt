@@ -14,7 +14,7 @@ use Rattle.line_words.specs.declared.command.Command.{Command}
 use Rattle.line_words.specs.declared.command.Command.TheVariants as command
 use Rattle.line_words.specs.declared.fault.UsageKind.TheVariants.{UnknownKey, RepeatedKey, BadValue}
 use Rattle.line_words.specs.declared.job.Job.{Job}
-use Rattle.line_words.specs.declared.job.Job.TheVariants.{Help, Version, Balance, Solve, Cycle, Check, Convert, Combine, Utility, Timeline, Try, Draw, Effic, EfficCheck}
+use Rattle.line_words.specs.declared.job.Job.TheVariants.{Help, Version, Balance, Solve, Cycle, Check, Convert, Combine, Utility, Timeline, Try, Draw, Effic, EfficCheck, Sequence, SequenceCheck}
 use Rattle.line_words.proofs.Behind.{same_bytes}
 
 -- a setting at some place has the key and the value, which is that of the key in all words up to a place behind it
@@ -233,6 +233,7 @@ job_between command.Solve ws r = (
   set_between command.Solve ws (codes "cycle") (λ v. refl) r,
   default_between command.Solve ws (codes "helpers") 4 (λ v. refl) r (omega arith, omega arith),
   default_between command.Solve ws (codes "units") 1000000 (λ v. refl) r (omega arith, omega arith),
+  default_between command.Solve ws (codes "seek") 0 (λ v. refl) r (omega arith, omega arith),
 )
 job_between command.Cycle ws r = (
   default_between command.Cycle ws (codes "stations") 1 (λ v. refl) r (omega arith, omega arith),
@@ -265,6 +266,16 @@ job_between command.Effic ws r = (
   default_between command.Effic ws (codes "units") 1000000 (λ v. refl) r (omega arith, omega arith),
 )
 job_between command.EfficCheck ws r = default_between command.EfficCheck ws (codes "steps") 20000000 (λ v. refl) r (omega arith, omega arith)
+job_between command.Sequence ws r = (
+  default_between command.Sequence ws (codes "interval") 1 (λ v. refl) r (omega arith, omega arith),
+  default_between command.Sequence ws (codes "length") 1 (λ v. refl) r (omega arith, omega arith),
+  default_between command.Sequence ws (codes "units") 1000000 (λ v. refl) r (omega arith, omega arith),
+)
+job_between command.SequenceCheck ws r = (
+  default_between command.SequenceCheck ws (codes "interval") 1 (λ v. refl) r (omega arith, omega arith),
+  default_between command.SequenceCheck ws (codes "length") 1 (λ v. refl) r (omega arith, omega arith),
+  default_between command.SequenceCheck ws (codes "steps") 20000000 (λ v. refl) r (omega arith, omega arith),
+)
 
 commanded_between : (words : List Text) (job : Job) → IsCommanded words (λ command behind. Asks command behind job) → IsInRange job
 commanded_between [] job c = absurd c
@@ -274,7 +285,7 @@ page_between : (words : List Text) (job : Job) → IsPageJob words job → IsInR
 page_between words Help p = tt
 page_between words Version p = tt
 page_between words (Balance file cycle line apart) p = absurd p
-page_between words (Solve file cycle line helpers units cert apart warm) p = absurd p
+page_between words (Solve file cycle line helpers units cert apart warm seek) p = absurd p
 page_between words (Cycle file stations line helpers units cert) p = absurd p
 page_between words (Check file cert steps apart) p = absurd p
 page_between words (Convert file out to cycle) p = absurd p
@@ -285,6 +296,8 @@ page_between words (Try seed tasks cycle line units) p = absurd p
 page_between words (Draw file cert out apart) p = absurd p
 page_between words (Effic file least most line helpers units cert) p = absurd p
 page_between words (EfficCheck file cert steps) p = absurd p
+page_between words (Sequence mix cert interval length units out) p = absurd p
+page_between words (SequenceCheck mix cert seq interval length steps) p = absurd p
 
 -- each job that words ask for is in its ranges
 pub every_job_between : (words : List Text) (job : Job) → IsJob words job → IsInRange job

@@ -6,7 +6,7 @@ use Rattle.line_words.specs.Table.{command_named, names_wanted, keys_wanted, tak
 use Rattle.line_words.specs.declared.command.Command.{Command}
 use Rattle.line_words.specs.declared.command.Command.TheVariants as command
 use Rattle.line_words.specs.declared.job.Job.{Job}
-use Rattle.line_words.specs.declared.job.Job.TheVariants.{Help, Version, Balance, Solve, Cycle, Check, Convert, Combine, Utility, Timeline, Try, Draw, Effic, EfficCheck}
+use Rattle.line_words.specs.declared.job.Job.TheVariants.{Help, Version, Balance, Solve, Cycle, Check, Convert, Combine, Utility, Timeline, Try, Draw, Effic, EfficCheck, Sequence, SequenceCheck}
 use Rattle.line_words.specs.declared.job.LineWord.{LineWord}
 use Rattle.line_words.specs.declared.job.LineWord.TheVariants.{Straight, U}
 use Rattle.line_words.specs.declared.job.FormWord.{FormWord}
@@ -118,6 +118,7 @@ job_for command.Balance ws =
 job_for command.Solve ws =
     Solve (name_at ws 0) (number_set command.Solve ws (codes "cycle")) (line_set ws) (number_or command.Solve ws (codes "helpers") 4)
     (number_or command.Solve ws (codes "units") 1000000) (value_of ws (codes "cert")) (value_of ws (codes "apart")) (value_of ws (codes "warm"))
+    (number_or command.Solve ws (codes "seek") 0)
 job_for command.Cycle ws =
     Cycle (name_at ws 0) (number_or command.Cycle ws (codes "stations") 1) (line_set ws) (number_or command.Cycle ws (codes "helpers") 4)
     (number_or command.Cycle ws (codes "units") 1000000) (value_of ws (codes "cert"))
@@ -137,6 +138,12 @@ job_for command.Effic ws =
     Effic (name_at ws 0) (number_or command.Effic ws (codes "least") 1) (number_or command.Effic ws (codes "most") 1024) (line_set ws)
     (number_or command.Effic ws (codes "helpers") 4) (number_or command.Effic ws (codes "units") 1000000) (value_of ws (codes "cert"))
 job_for command.EfficCheck ws = EfficCheck (name_at ws 0) (name_at ws 1) (number_or command.EfficCheck ws (codes "steps") 20000000)
+job_for command.Sequence ws =
+    Sequence (name_at ws 0) (name_at ws 1) (number_or command.Sequence ws (codes "interval") 1) (number_or command.Sequence ws (codes "length") 1)
+    (number_or command.Sequence ws (codes "units") 1000000) (value_of ws (codes "out"))
+job_for command.SequenceCheck ws =
+    SequenceCheck (name_at ws 0) (name_at ws 1) (name_at ws 2) (number_or command.SequenceCheck ws (codes "interval") 1)
+    (number_or command.SequenceCheck ws (codes "length") 1) (number_or command.SequenceCheck ws (codes "steps") 20000000)
 
 -- the words behind a command ask for this job: nothing is wrong with them, nothing is missing, and it has their values or the defaults
 pub record Asks (command : Command) (words : List Text) (job : Job) : Type 0 where

@@ -1,7 +1,7 @@
 -- The ranges of the numbers of a job.
 use Rattle.std.specs.Prelude.{ℕ, ◌≤◌, Option, Some, None}
 use Rattle.line_words.specs.declared.job.Job.{Job}
-use Rattle.line_words.specs.declared.job.Job.TheVariants.{Help, Version, Balance, Solve, Cycle, Check, Convert, Combine, Utility, Timeline, Try, Draw, Effic, EfficCheck}
+use Rattle.line_words.specs.declared.job.Job.TheVariants.{Help, Version, Balance, Solve, Cycle, Check, Convert, Combine, Utility, Timeline, Try, Draw, Effic, EfficCheck, Sequence, SequenceCheck}
 use Rattle.line_words.specs.declared.reading.JobRead.{JobRead}
 use Rattle.line_words.specs.declared.reading.JobRead.TheVariants.{Good, Usage, NoMemory}
 
@@ -19,8 +19,8 @@ abbrev pub IsInRange : Job → Type 0
 IsInRange Help = Unit {0}
 IsInRange Version = Unit {0}
 IsInRange (Balance file cycle line apart) = IsSetBetween 1 1000000000000000000 cycle
-IsInRange (Solve file cycle line helpers units cert apart warm) =
-    IsSetBetween 1 1000000000000000000 cycle × IsBetween 0 64 helpers × IsBetween 1 3000000 units
+IsInRange (Solve file cycle line helpers units cert apart warm seek) =
+    IsSetBetween 1 1000000000000000000 cycle × IsBetween 0 64 helpers × IsBetween 1 3000000 units × IsBetween 0 3000000 seek
 IsInRange (Cycle file stations line helpers units cert) = IsBetween 1 1024 stations × IsBetween 0 64 helpers × IsBetween 1 1000000 units
 IsInRange (Check file cert steps apart) = IsBetween 1 20000000 steps
 IsInRange (Convert file out to cycle) = IsSetBetween 1 1000000000000000000 cycle
@@ -33,6 +33,10 @@ IsInRange (Draw file cert out apart) = Unit {0}
 IsInRange (Effic file least most line helpers units cert) =
     IsBetween 1 1024 least × IsBetween 1 1024 most × (least ≤ most) × IsBetween 0 64 helpers × IsBetween 1 1000000 units
 IsInRange (EfficCheck file cert steps) = IsBetween 1 20000000 steps
+IsInRange (Sequence mix cert interval length units out) =
+    IsBetween 1 1000000000 interval × IsBetween 1 1000000000 length × IsBetween 1 1000000 units
+IsInRange (SequenceCheck mix cert seq interval length steps) =
+    IsBetween 1 1000000000 interval × IsBetween 1 1000000000 length × IsBetween 1 20000000 steps
 
 -- the job that was read is in its ranges, where there is one
 abbrev pub HasRange : JobRead → Type 0

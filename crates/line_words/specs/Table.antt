@@ -6,7 +6,7 @@ use Rattle.line_io.specs.declared.text.Num.{Num}
 use Rattle.line_io.specs.declared.text.Num.TheVariants.{Value, NotANumber, Above}
 use Rattle.line_words.specs.Words.{Text, sets}
 use Rattle.line_words.specs.declared.command.Command.{Command}
-use Rattle.line_words.specs.declared.command.Command.TheVariants.{Balance, Solve, Cycle, Check, Convert, Combine, Utility, Timeline, Try, Draw, Effic, EfficCheck}
+use Rattle.line_words.specs.declared.command.Command.TheVariants.{Balance, Solve, Cycle, Check, Convert, Combine, Utility, Timeline, Try, Draw, Effic, EfficCheck, Sequence, SequenceCheck}
 
 -- the command that a word names
 abbrev pub command_named : Text → Option Command
@@ -22,7 +22,9 @@ command_named word =
     (cond (bytes_eq word (codes "try")) (Some Try)
     (cond (bytes_eq word (codes "draw")) (Some Draw)
     (cond (bytes_eq word (codes "effic")) (Some Effic)
-    (cond (bytes_eq word (codes "effic-check")) (Some EfficCheck) None)))))))))))
+    (cond (bytes_eq word (codes "effic-check")) (Some EfficCheck)
+    (cond (bytes_eq word (codes "sequence")) (Some Sequence)
+    (cond (bytes_eq word (codes "sequence-check")) (Some SequenceCheck) None)))))))))))))
 
 -- how many names a command wants
 abbrev pub names_wanted : Command → ℕ
@@ -38,6 +40,8 @@ names_wanted Try = 0
 names_wanted Draw = 3
 names_wanted Effic = 1
 names_wanted EfficCheck = 2
+names_wanted Sequence = 2
+names_wanted SequenceCheck = 3
 
 -- a key is one of these
 abbrev pub one_of : Text → List Text → Bool
@@ -58,12 +62,14 @@ keys_wanted Try = codes "seed" ∷ codes "tasks" ∷ []
 keys_wanted Draw = []
 keys_wanted Effic = codes "least" ∷ codes "most" ∷ []
 keys_wanted EfficCheck = []
+keys_wanted Sequence = codes "interval" ∷ codes "length" ∷ []
+keys_wanted SequenceCheck = codes "interval" ∷ codes "length" ∷ []
 
 -- the keys that a command takes
 abbrev pub keys_taken : Command → List Text
 keys_taken Balance = codes "cycle" ∷ codes "line" ∷ codes "apart" ∷ []
 keys_taken Solve =
-    codes "cycle" ∷ codes "line" ∷ codes "helpers" ∷ codes "units" ∷ codes "cert" ∷ codes "apart" ∷ codes "warm" ∷ []
+    codes "cycle" ∷ codes "line" ∷ codes "helpers" ∷ codes "units" ∷ codes "cert" ∷ codes "apart" ∷ codes "warm" ∷ codes "seek" ∷ []
 keys_taken Cycle = codes "stations" ∷ codes "line" ∷ codes "helpers" ∷ codes "units" ∷ codes "cert" ∷ []
 keys_taken Check = codes "steps" ∷ codes "apart" ∷ []
 keys_taken Convert = codes "to" ∷ codes "cycle" ∷ []
@@ -75,6 +81,8 @@ keys_taken Draw = codes "apart" ∷ []
 keys_taken Effic =
     codes "least" ∷ codes "most" ∷ codes "line" ∷ codes "helpers" ∷ codes "units" ∷ codes "cert" ∷ []
 keys_taken EfficCheck = codes "steps" ∷ []
+keys_taken Sequence = codes "interval" ∷ codes "length" ∷ codes "units" ∷ codes "out" ∷ []
+keys_taken SequenceCheck = codes "interval" ∷ codes "length" ∷ codes "steps" ∷ []
 
 -- a command takes a key
 abbrev pub takes : Command → Text → Bool
@@ -99,10 +107,12 @@ units_most Try = 3000000
 units_most Draw = 3000000
 units_most Effic = 1000000
 units_most EfficCheck = 3000000
+units_most Sequence = 1000000
+units_most SequenceCheck = 3000000
 
 -- the least number that a key takes
 abbrev pub least_of : Text → ℕ
-least_of key = cond (bytes_eq key (codes "helpers") || bytes_eq key (codes "seed")) 0 1
+least_of key = cond (bytes_eq key (codes "helpers") || bytes_eq key (codes "seed") || bytes_eq key (codes "seek")) 0 1
 
 -- the greatest number that a key takes
 abbrev pub most_of : Command → Text → ℕ
@@ -115,7 +125,8 @@ most_of command key =
     (cond (bytes_eq key (codes "steps")) 20000000
     (cond (bytes_eq key (codes "interval")) 1000000000
     (cond (bytes_eq key (codes "length")) 1000000000
-    18446744073709551615)))))))
+    (cond (bytes_eq key (codes "seek")) 3000000
+    18446744073709551615))))))))
 
 -- more than one byte, and the first is the digit 0
 abbrev pub leads_with_nought : Text → Bool
@@ -143,10 +154,15 @@ abbrev pub is_some : Text → Bool
 is_some [] = false
 is_some (b ∷ bytes) = true
 
+-- a key names a file
+abbrev pub names_file : Text → Bool
+names_file key =
+    bytes_eq key (codes "cert") || bytes_eq key (codes "apart") || bytes_eq key (codes "warm") || bytes_eq key (codes "out")
+
 -- a key of a command takes the value
 abbrev pub is_value : Command → Text → Text → Bool
 is_value command key value =
     cond (bytes_eq key (codes "line")) (bytes_eq value (codes "straight") || bytes_eq value (codes "u"))
     (cond (bytes_eq key (codes "to")) (bytes_eq value (codes "in2") || bytes_eq value (codes "alb") || bytes_eq value (codes "cert"))
-    (cond (bytes_eq key (codes "cert") || bytes_eq key (codes "apart") || bytes_eq key (codes "warm")) (is_some value)
+    (cond (names_file key) (is_some value)
     (is_least (least_of key) (number_up_to (most_of command key) value))))

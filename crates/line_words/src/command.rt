@@ -29,6 +29,10 @@ pub enum Command {
     Effic,
     /// The test of a certificate of a least product.
     EfficCheck,
+    /// The sequence of a mix with the least utility work.
+    Sequence,
+    /// The test of a certificate of such a sequence.
+    SequenceCheck,
 }
 
 /// The command that a word names.
@@ -71,6 +75,12 @@ pub(crate) fn command_named(word: &str) -> Option<Command>
     if word == "effic-check" {
         return Some(Command::EfficCheck);
     }
+    if word == "sequence" {
+        return Some(Command::Sequence);
+    }
+    if word == "sequence-check" {
+        return Some(Command::SequenceCheck);
+    }
     None
 }
 
@@ -92,6 +102,8 @@ impl Command {
             Command::Draw => 3,
             Command::Effic => 1,
             Command::EfficCheck => 2,
+            Command::Sequence => 2,
+            Command::SequenceCheck => 3,
         }
     }
 
@@ -112,6 +124,8 @@ impl Command {
             Command::Draw => &[],
             Command::Effic => &["least", "most"],
             Command::EfficCheck => &[],
+            Command::Sequence => &["interval", "length"],
+            Command::SequenceCheck => &["interval", "length"],
         }
     }
 
@@ -121,7 +135,9 @@ impl Command {
     {
         match self {
             Command::Balance => &["cycle", "line", "apart"],
-            Command::Solve => &["cycle", "line", "helpers", "units", "cert", "apart", "warm"],
+            Command::Solve => &[
+                "cycle", "line", "helpers", "units", "cert", "apart", "warm", "seek",
+            ],
             Command::Cycle => &["stations", "line", "helpers", "units", "cert"],
             Command::Check => &["steps", "apart"],
             Command::Convert => &["to", "cycle"],
@@ -132,6 +148,8 @@ impl Command {
             Command::Draw => &["apart"],
             Command::Effic => &["least", "most", "line", "helpers", "units", "cert"],
             Command::EfficCheck => &["steps"],
+            Command::Sequence => &["interval", "length", "units", "out"],
+            Command::SequenceCheck => &["interval", "length", "steps"],
         }
     }
 
@@ -140,7 +158,7 @@ impl Command {
         ensures { result ≡ units_most self.now }
     {
         match self {
-            Command::Cycle | Command::Effic => 1_000_000,
+            Command::Cycle | Command::Effic | Command::Sequence => 1_000_000,
             _ => 3_000_000,
         }
     }

@@ -45,7 +45,7 @@ pub enum Job {
         apart: Option<Name>,
     },
     /// A balance of the fewest stations, by as many helpers and at most as many work units, from what an earlier
-    /// certificate shows.
+    /// certificate shows and what as many loads find that are listed before.
     Solve {
         file: Name,
         cycle: Option<u64>,
@@ -55,6 +55,7 @@ pub enum Job {
         cert: Option<Name>,
         apart: Option<Name>,
         warm: Option<Name>,
+        seek: u64,
     },
     /// The least cycle time of a number of stations.
     Cycle {
@@ -131,6 +132,24 @@ pub enum Job {
         cert: Name,
         steps: u64,
     },
+    /// The sequence of a mix with the least utility work, at an interval and a length of the stations.
+    Sequence {
+        mix: Name,
+        cert: Name,
+        interval: u64,
+        length: u64,
+        units: u64,
+        out: Option<Name>,
+    },
+    /// The test of a certificate of such a sequence, in at most as many steps.
+    SequenceCheck {
+        mix: Name,
+        cert: Name,
+        seq: Name,
+        interval: u64,
+        length: u64,
+        steps: u64,
+    },
 }
 
 /// The name at a place among the names.
@@ -187,6 +206,9 @@ pub(crate) fn most_of(command: Command, key: &str) -> u64
     }
     if key == "length" {
         return 1_000_000_000;
+    }
+    if key == "seek" {
+        return 3_000_000;
     }
     u64::MAX
 }
@@ -294,6 +316,7 @@ fn solve_job(alloc: Global, words: &[String]) -> Result<Job, AllocError>
         cert: name_set(alloc, words, "cert")?,
         apart: name_set(alloc, words, "apart")?,
         warm: name_set(alloc, words, "warm")?,
+        seek: number_or(command, words, "seek", 0),
     })
 }
 
@@ -416,6 +439,34 @@ fn effic_check_job(alloc: Global, words: &[String]) -> Result<Job, AllocError>
     })
 }
 
+fn sequence_job(alloc: Global, words: &[String]) -> Result<Job, AllocError>
+    ensures { IfOk result (λ j. j ≡ job_for Command.Sequence (texts words.now)) }
+{
+    let command = Command::Sequence;
+    Ok(Job::Sequence {
+        mix: name_at(alloc, words, 0)?,
+        cert: name_at(alloc, words, 1)?,
+        interval: number_or(command, words, "interval", 1),
+        length: number_or(command, words, "length", 1),
+        units: number_or(command, words, "units", 1_000_000),
+        out: name_set(alloc, words, "out")?,
+    })
+}
+
+fn sequence_check_job(alloc: Global, words: &[String]) -> Result<Job, AllocError>
+    ensures { IfOk result (λ j. j ≡ job_for Command.SequenceCheck (texts words.now)) }
+{
+    let command = Command::SequenceCheck;
+    Ok(Job::SequenceCheck {
+        mix: name_at(alloc, words, 0)?,
+        cert: name_at(alloc, words, 1)?,
+        seq: name_at(alloc, words, 2)?,
+        interval: number_or(command, words, "interval", 1),
+        length: number_or(command, words, "length", 1),
+        steps: number_or(command, words, "steps", 20_000_000),
+    })
+}
+
 /// The job of a command with these words, in which nothing is wrong or missing.
 pub(crate) fn job_for(alloc: Global, command: Command, words: &[String]) -> Result<Job, AllocError>
     ensures { IfOk result (λ j. j ≡ job_for command (texts words.now)) }
@@ -436,5 +487,7 @@ pub(crate) fn job_for(alloc: Global, command: Command, words: &[String]) -> Resu
         Command::Draw => draw_job(alloc, words),
         Command::Effic => effic_job(alloc, words),
         Command::EfficCheck => effic_check_job(alloc, words),
+        Command::Sequence => sequence_job(alloc, words),
+        Command::SequenceCheck => sequence_check_job(alloc, words),
     }
 }

@@ -1,7 +1,7 @@
 //! The reading of the words as a job.
 ghost use Rattle.std.specs.Prelude.{◌≡◌, ◌<◌, Option, None, MatchOption, ℕ};
 ghost use Rattle.line_words.specs.Words.{texts};
-ghost use Rattle.line_words.specs.Table.{least_of, is_value};
+ghost use Rattle.line_words.specs.Table.{least_of, names_file, is_value};
 ghost use Rattle.line_words.specs.Ranges.{HasRange};
 ghost use Rattle.line_words.specs.Jobs.{are_ordered, ends_agree, setting_fault, name_fault, word_fault, missing, AreRight, IsFirstFault, IsBehind, IsJobRead};
 
@@ -32,10 +32,17 @@ pub enum JobRead {
 fn least_of(key: &str) -> u64
     ensures { result ≡ least_of key.now }
 {
-    if key == "helpers" || key == "seed" {
+    if key == "helpers" || key == "seed" || key == "seek" {
         return 0;
     }
     1
+}
+
+/// Whether a key names a file.
+fn names_file(key: &str) -> bool
+    ensures { result ≡ names_file key.now }
+{
+    key == "cert" || key == "apart" || key == "warm" || key == "out"
 }
 
 /// Whether a key of a command takes the value.
@@ -48,7 +55,7 @@ fn is_value(command: Command, key: &str, value: &str) -> bool
     if key == "to" {
         return value == "in2" || value == "alb" || value == "cert";
     }
-    if key == "cert" || key == "apart" || key == "warm" {
+    if names_file(key) {
         return !value.is_empty();
     }
     match number_up_to(most_of(command, key), value) {

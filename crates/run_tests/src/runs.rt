@@ -21,6 +21,8 @@ six.in2 6/7/4/4/2/2/2/-1,-1/
 seven.in2 7/7/7/4/4/2/2/2/-1,-1/
 changed.in2 7/7/7/4/4/2/2/1/-1,-1/
 jackson.in2 11/6/2/5/7/1/2/3/6/5/5/4/1,2/1,3/1,4/1,5/2,6/3,7/4,7/5,7/6,8/7,9/8,10/9,11/10,11/-1,-1/
+nine.in2 9/5/6/4/11/9/4/4/9/11/1,6/1,7/2,7/3,4/3,8/6,7/6,8/6,9/7,8/-1,-1/
+thirteen.in2 13/11/8/7/12/8/10/9/10/11/4/3/4/8/1,6/5,6/5,12/-1,-1/
 huge.in2 1/200000000000000/-1,-1/
 noted.in2 1/5/-1,-1/made by hand/
 short.in2 1/
@@ -31,7 +33,20 @@ one.apart 2,2/-1,-1/
 two.apart 1,2/-1,-1/
 three.apart 3,4/4,5/3,5/-1,-1/
 m.csv tasks,1,,/model,A,1,/model,B,1,/model,C,1,/time,A,1,6/time,B,1,9/time,C,1,4/
+one.csv tasks,1,,/model,A,3,/time,A,1,9/
+many.csv tasks,1,,/model,A,1001,/time,A,1,1/
+two.csv tasks,2,,/model,A,1,/model,B,2,/time,A,1,5/time,B,1,2/time,B,2,3/arc,B,1,2/
+returns.csv tasks,1,,\r/model,A,1,\r/\r/time,A,1,7\r/
+ring.csv tasks,3,,/model,A,1,/model,B,1,/arc,A,1,2/arc,B,2,3/arc,A,3,1/
+range.csv tasks,1,,/model,A,0,/
+quote.csv tasks,1,,/model,A,1,/time,A,1,\"5/model,B,1,/
+none.csv tasks,1,,/
+seventeen.csv tasks,1,,/model,A,1,/model,B,1,/model,C,1,/model,D,1,/model,E,1,/model,F,1,/model,G,1,/model,H,1,/model,I,1,/model,J,1,/model,K,1,/model,L,1,/model,M,1,/model,N,1,/model,O,1,/model,P,1,/model,Q,1,/
+sixteen.csv tasks,1,,/model,A,1,/model,B,1,/model,C,1,/model,D,1,/model,E,1,/model,F,1,/model,G,1,/model,H,1,/model,I,1,/model,J,1,/model,K,1,/model,L,1,/model,M,1,/model,N,1,/model,O,1,/model,P,1,/
 three.txt A/B/C/
+one.txt B/
+twice.txt B\r/\r/ B/
+pair.txt A/B/
 other.txt A/B/D/
 none.txt ";
 
@@ -56,6 +71,16 @@ least-cycle.cert line balance certificate 2/line straight/tasks 5/stations 2/low
 stopped-cycle.cert line balance certificate 2/line straight/tasks 5/stations 2/lower 7/upper 8/balance 2/1/1/2/2/2/entries 1/bound 6 f8 2/trail 1 at 7/open f f8 2 90 -/end/
 from-the-back.cert line balance certificate 2/line straight/tasks 5/cycle 7/lower 3/upper 3/balance 3/1/2/1/2/3/entries 1/branch b 7 f8 2 -/trail 0/end/
 bad.cert line balance certificate 2/line straight/tasks 5/cycle 7/lower 3/upper 3/balance 3/1/2/1/2/3/entries 1/branch f 7 f8 2 -/trail 0/END/
+mix-of-one.cert line balance certificate 2/line straight/tasks 1/cycle 21/lower 1/upper 1/balance 1/1/entries 0/trail 0/end/
+mix-as-u.cert line balance certificate 2/line u/tasks 1/cycle 21/lower 1/upper 1/balance 1/1 f/entries 0/trail 0/end/
+mix-infeasible.cert line balance certificate 2/line straight/tasks 1/cycle 3/infeasible 1/end/
+mix-of-two.cert line balance certificate 2/line straight/tasks 2/cycle 12/lower 1/upper 2/balance 2/1/2/entries 0/trail 0/end/
+mix-turned.cert line balance certificate 2/line straight/tasks 2/cycle 12/lower 1/upper 2/balance 2/2/1/entries 0/trail 0/end/
+mix-in-eleven.cert line balance certificate 2/line straight/tasks 1/cycle 21/lower 1/upper 11/balance 11/1/entries 0/trail 0/end/
+mix-in-64.cert line balance certificate 2/line straight/tasks 1/cycle 21/lower 1/upper 64/balance 64/1/entries 0/trail 0/end/
+mix-in-65.cert line balance certificate 2/line straight/tasks 1/cycle 21/lower 1/upper 65/balance 65/1/entries 0/trail 0/end/
+spare.cert utility sequence certificate 1/models 3/stations 1/lower 1/upper 1/units 3/1/2/3/entries 3/branch 0,1,1 0 1 -/branch 1,1,0 0 1 0/branch 1,1,1 0 1 0,1/trail 0/end/
+rootless.cert utility sequence certificate 1/models 3/stations 1/lower 1/upper 1/units 3/1/2/3/entries 2/branch 0,1,1 0 1 -/branch 1,1,0 0 1 -/trail 0/end/
 leading.cert line balance certificate 2/line straight/tasks 5/cycle 07/
 third.cert line balance certificate 3/";
 

@@ -42,12 +42,16 @@ solve five.in2 cycle=7 helpers=2 units=14 cert=t.cert|stopped by units/bounds 2 
 solve seven.in2 cycle=7 helpers=2 cert=t.cert|optimal 5/idle 7/||
 solve zero.in2 cycle=1 helpers=64|optimal 1/idle 1/station 1: 1/|/entries 0/|
 solve big.alb helpers=4 units=200000 cert=t.cert|optimal 20/idle 0/station 1: 1 2 3 4 5/||accepted straight cycle 1000 lower 20 upper 20 units 0/
-cycle chain.in2 stations=2 helpers=0|optimal cycle 3/idle 2/station 1: 1 2/station 2: 3/||
-cycle chain.in2 stations=2 line=u helpers=0|optimal cycle 2/idle 0/station 1: 1 back 3/station 2: 2/||
+cycle chain.in2 stations=2 helpers=0|optimal cycle 3/idle 2/station 1: 1 2/station 2: 3/|/entries 1/bound 2 e 2/trail 0/end/|
+cycle chain.in2 stations=2 line=u helpers=0|optimal cycle 2/idle 0/station 1: 1 back 3/station 2: 2/|/entries 1/bound 1 e 2/trail 0/end/|
+cycle chain.in2 stations=1 helpers=0 units=1|optimal cycle 4/|/entries 1/bound 3 e 1/trail 0/|
+cycle chain.in2 stations=5 helpers=0 units=1|optimal cycle 2/|/entries 1/bound 1 e 5/trail 0/|
 cycle chain.in2 stations=2 helpers=4|optimal cycle 3/||
 cycle nothing.in2 stations=1 helpers=0|optimal cycle 1/idle 1/station 1: 1 2/|/entries 0/|
 cycle five.in2 stations=2 helpers=0 units=15 cert=t.cert|optimal cycle 8/idle 2/station 1: 1 2/station 2: 3 4 5/|/entries 1/branch f 7 f8 2 -/|accepted straight stations 2 lower 8 upper 8 units 15/
 cycle five.in2 stations=2 helpers=0 units=14 cert=t.cert|stopped by units/bounds 7 8/idle 2/station 1: 1 2/station 2: 3 4 5/|/entries 1/bound 6 f8 2/trail 1 at 7/open f f8 2 90 -/|accepted straight stations 2 lower 7 upper 8 units 14/
+cycle five.in2 stations=2 helpers=0 units=1|stopped by units/bounds 7 8/|/entries 1/bound 6 f8 2/trail 1 at 7/|
+cycle five.in2 stations=2 helpers=1 units=15|optimal cycle 8/||
 cycle five.in2 stations=2 helpers=2 cert=t.cert|optimal cycle 8/||accepted straight stations 2 lower 8 upper 8 units 15/
 cycle five.in2 stations=0|usage: word 2 bad value/||
 cycle five.in2 stations=1025|usage: word 2 bad value/||

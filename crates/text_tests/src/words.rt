@@ -39,7 +39,16 @@ solve a cycle=0 cycle=0 -> usage: word 2 bad value\n\
 solve a cycle=7 cycle=0 -> usage: word 3 repeated key\n\
 solve a cycle=7 hat=1 b -> usage: word 3 unknown key\n\
 balance a units=3 -> usage: word 2 unknown key\n\
-sequence a -> usage: word 0 unknown command\n\
+sequences a -> usage: word 0 unknown command\n\
+sequence a -> usage: word 2 missing name\n\
+sequence a b interval=7 -> usage: word 4 missing key\n\
+sequence a b interval=7 length=8 out=o -> good\n\
+sequence a b interval=7 length=8 units=1000001 -> usage: word 5 bad value\n\
+sequence-check a b interval=7 length=8 -> usage: word 5 missing name\n\
+sequence-check a b c interval=7 length=8 steps=20000000 -> good\n\
+solve a seek=0 -> good\n\
+solve a seek=3000001 -> usage: word 2 bad value\n\
+solve a out=o -> usage: word 2 unknown key\n\
 effic a least=2 -> usage: word 3 missing key\n\
 effic a least=2 most=2 -> good\n\
 effic a least=3 most=2 -> usage: word 3 bad value\n\
@@ -101,6 +110,7 @@ fn is_solve(job: &Job) -> bool {
         cert,
         apart,
         warm,
+        seek,
     } = job
     else {
         return false;
@@ -108,12 +118,15 @@ fn is_solve(job: &Job) -> bool {
     let names = file.text() == "a.in2" && cert.as_ref().is_some_and(|cert| cert.text() == "c");
     let numbers = *cycle == Some(7) && *helpers == 4 && *units == 1_000_000;
     let old = warm.as_ref().is_some_and(|warm| warm.text() == "w");
-    names && numbers && old && *line == LineWord::U && apart.is_none()
+    names && numbers && old && *seek == 5 && *line == LineWord::U && apart.is_none()
 }
 
 #[test]
 fn jobs_have_their_values(rt: HostRuntime) -> Result<(), Fail> {
-    let words = words_of(rt.alloc(), "solve cycle=7 a.in2 line=u cert=c warm=w")?;
+    let words = words_of(
+        rt.alloc(),
+        "solve cycle=7 a.in2 line=u cert=c warm=w seek=5",
+    )?;
     let right = match job_of(rt.alloc(), &words) {
         JobRead::Good(job) => is_solve(&job),
         _ => false,

@@ -1,20 +1,27 @@
-use Rattle.std.proofs.Common.{inr, sym, subst, List, ℕ, Option, option_map}
+use Rattle.std.proofs.Common.{IfOk, inr, sym, subst, List, ℕ, Option, option_map}
+use Rattle.line_io.specs.Outside.{Rises}
 use Rattle.line_words.specs.declared.job.Job.{Job}
 use Rattle.line_rules.specs.declared.types.LineKind.{LineKind}
 use Rattle.command_outcome.specs.Outcome.{Files, Outside, Ends, outside}
+use Rattle.command_outcome.specs.declared.report.Report.{Report}
 use Rattle.input_files.specs.Kind.{kind_of}
 use Rattle.balance_command.specs.Balance.{IsBalanceOutcome}
 use Rattle.check_command.specs.Check.{IsCheckOutcome}
 use Rattle.convert_command.specs.Convert.{IsConvertOutcome}
 use Rattle.solve_command.specs.Solution.{IsSolveOutcome}
+use Rattle.solve_command.specs.Promise.{IsPromised}
 use Rattle.cycle_command.specs.Found.{IsCycleOutcome}
 use Rattle.draw_command.specs.Draw.{IsDrawOutcome}
 use Rattle.effic_command.specs.EfficFound.{IsEfficOutcome}
 use Rattle.effic_command.specs.EfficCheck.{IsEfficCheckOutcome}
+use Rattle.sequence_command.specs.Ordered.{IsSequenceOutcome}
+use Rattle.sequence_command.specs.SequenceCheck.{IsSequenceCheckOutcome}
 use Rattle.mix_commands.specs.Combine.{IsCombineOutcome}
 use Rattle.mix_commands.specs.Utility.{IsUtilityOutcome}
 use Rattle.mix_commands.specs.Timeline.{IsTimelineOutcome}
 use Rattle.line_run.specs.Run.{planned, IsTryOutcome, IsJobOutcome, IsJobPlain, IsPlainEnd}
+use Rattle.line_run.specs.Headline.{HasPromise}
+use Rattle.line_run.proofs.HeadlineFacts.{reports_so}
 use Rattle.line_run.proofs.TryFacts.{try_ends, try_plain}
 use Rattle.line_run.proofs.program.do_job.Goals as goal
 
@@ -52,7 +59,7 @@ pub returns-in-Solve-clause-ends : goal.returns-in-Solve-clause-ends
 returns-in-Solve-clause-ends g c = λ t.
     let o : Outside = outside (g.S.Shelf.file c.args.shelf.now) (g.S.Shelf.blames c.solve_report.new.shelf) in
     let after : Files = g.S.Shelf.file c.solve_report.new.shelf in
-    let E : List ℕ → Option (List ℕ) → Option (List ℕ) → LineKind → Option (List ℕ) → Type 0 = λ f a w k n. Ends o (IsSolveOutcome o f a w c.in-Solve.cycle k (planned c.in-Solve.helpers c.in-Solve.units) n) after c.solve_report.result in
+    let E : List ℕ → Option (List ℕ) → Option (List ℕ) → LineKind → Option (List ℕ) → Type 0 = λ f a w k n. Ends o (IsSolveOutcome o f a w c.in-Solve.seek c.in-Solve.cycle k (planned c.in-Solve.helpers c.in-Solve.units) n) after c.solve_report.result in
     let file : List ℕ = c.text-in-Solve.result.now in
     let apart : Option (List ℕ) = option_map (λ a. a.now) c.name_of-in-Solve.result in
     let warm : Option (List ℕ) = option_map (λ a. a.now) c.name_of-in-Solve-2.result in
@@ -65,6 +72,31 @@ returns-in-Solve-clause-ends g c = λ t.
     let N : Option (List ℕ) → Type 0 = λ n. E c.in-Solve.file c.in-Solve.apart c.in-Solve.warm (kind_of c.in-Solve.line) n in
     subst J (sym c.in-Solve.is)
     (subst N c.name_of-in-Solve-3.ensures (subst W c.name_of-in-Solve-2.ensures (subst A c.name_of-in-Solve.ensures (subst F c.text-in-Solve.ensures (subst K c.kind_of-kind-in-Solve.ensures (c.solve_report.ensures.ends t))))))
+
+pub returns-in-Solve-clause-promise : goal.returns-in-Solve-clause-promise
+returns-in-Solve-clause-promise g c = λ t answers.
+    let files : Files = g.S.Shelf.file c.args.shelf.now in
+    let after : Files = g.S.Shelf.file c.solve_report.new.shelf in
+    let job = c.in-Solve in
+    let r = c.solve_report.result in
+    let P : List ℕ → Option (List ℕ) → Option (List ℕ) → LineKind → Option (List ℕ) → Report → Type 0 = λ f a w k n x.
+    IsPromised files after f a w job.seek job.cycle k (planned job.helpers job.units) n x.status x.text.items x.kept in
+    let E : List ℕ → Option (List ℕ) → Option (List ℕ) → LineKind → Option (List ℕ) → Type 0 = λ f a w k n. IfOk r (P f a w k n) in
+    let file : List ℕ = c.text-in-Solve.result.now in
+    let apart : Option (List ℕ) = option_map (λ a. a.now) c.name_of-in-Solve.result in
+    let warm : Option (List ℕ) = option_map (λ a. a.now) c.name_of-in-Solve-2.result in
+    let name : Option (List ℕ) = option_map (λ a. a.now) c.name_of-in-Solve-3.result in
+    let J : Job → Type 0 = λ j. HasPromise files after j r in
+    let K : LineKind → Type 0 = λ k. E file apart warm k name in
+    let F : List ℕ → Type 0 = λ f. E f apart warm (kind_of job.line) name in
+    let A : Option (List ℕ) → Type 0 = λ a. E job.file a warm (kind_of job.line) name in
+    let W : Option (List ℕ) → Type 0 = λ w. E job.file job.apart w (kind_of job.line) name in
+    let N : Option (List ℕ) → Type 0 = λ n. E job.file job.apart job.warm (kind_of job.line) n in
+    subst J (sym job.is)
+    (reports_so (Rises (g.S.Shelf.faults c.args.shelf.now) (g.S.Shelf.faults c.solve_report.new.shelf)) (P job.file job.apart job.warm (kind_of job.line) job.cert) r
+    (subst N c.name_of-in-Solve-3.ensures (subst W c.name_of-in-Solve-2.ensures (subst A c.name_of-in-Solve.ensures
+    (subst F c.text-in-Solve.ensures (subst K c.kind_of-kind-in-Solve.ensures (c.solve_report.ensures.promise t))))))
+    c.solve_report.ensures.fault answers)
 
 pub returns-in-Draw-clause-ends : goal.returns-in-Draw-clause-ends
 returns-in-Draw-clause-ends g c = λ t.
@@ -140,6 +172,35 @@ returns-in-EfficCheck-clause-ends g c = λ t.
     let F : List ℕ → Type 0 = λ f. Ends o (IsEfficCheckOutcome o f c.text-in-EfficCheck-2.result.now c.in-EfficCheck.steps) after c.effic_check_report.result in
     let C : List ℕ → Type 0 = λ f. Ends o (IsEfficCheckOutcome o c.in-EfficCheck.file f c.in-EfficCheck.steps) after c.effic_check_report.result in
     subst J (sym c.in-EfficCheck.is) (subst C c.text-in-EfficCheck-2.ensures (subst F c.text-in-EfficCheck.ensures (c.effic_check_report.ensures.ends t)))
+
+pub returns-in-Sequence-clause-ends : goal.returns-in-Sequence-clause-ends
+returns-in-Sequence-clause-ends g c = λ t.
+    let o : Outside = outside (g.S.Shelf.file c.args.shelf.now) (g.S.Shelf.blames c.sequence_report.new.shelf) in
+    let job = c.in-Sequence in
+    let after : Files = g.S.Shelf.file c.sequence_report.new.shelf in
+    let E : List ℕ → List ℕ → Option (List ℕ) → Type 0 = λ m f n.
+    Ends o (IsSequenceOutcome o m f job.interval job.length job.units n) after c.sequence_report.result in
+    let name : Option (List ℕ) = option_map (λ a. a.now) c.name_of-in-Sequence.result in
+    let J : Job → Type 0 = λ j. Ends o (IsJobOutcome o j) after c.sequence_report.result in
+    let M : List ℕ → Type 0 = λ m. E m c.text-in-Sequence-2.result.now name in
+    let F : List ℕ → Type 0 = λ f. E job.mix f name in
+    let N : Option (List ℕ) → Type 0 = λ n. E job.mix job.cert n in
+    subst J (sym job.is) (subst N c.name_of-in-Sequence.ensures (subst F c.text-in-Sequence-2.ensures
+    (subst M c.text-in-Sequence.ensures (c.sequence_report.ensures.ends t))))
+
+pub returns-in-SequenceCheck-clause-ends : goal.returns-in-SequenceCheck-clause-ends
+returns-in-SequenceCheck-clause-ends g c = λ t.
+    let o : Outside = outside (g.S.Shelf.file c.args.shelf.now) (g.S.Shelf.blames c.sequence_check_report.new.shelf) in
+    let job = c.in-SequenceCheck in
+    let after : Files = g.S.Shelf.file c.sequence_check_report.new.shelf in
+    let E : List ℕ → List ℕ → List ℕ → Type 0 = λ m n s.
+    Ends o (IsSequenceCheckOutcome o m n s job.interval job.length job.steps) after c.sequence_check_report.result in
+    let J : Job → Type 0 = λ j. Ends o (IsJobOutcome o j) after c.sequence_check_report.result in
+    let M : List ℕ → Type 0 = λ m. E m c.text-in-SequenceCheck-2.result.now c.text-in-SequenceCheck-3.result.now in
+    let N : List ℕ → Type 0 = λ n. E job.mix n c.text-in-SequenceCheck-3.result.now in
+    let Q : List ℕ → Type 0 = λ s. E job.mix job.cert s in
+    subst J (sym job.is) (subst Q c.text-in-SequenceCheck-3.ensures (subst N c.text-in-SequenceCheck-2.ensures
+    (subst M c.text-in-SequenceCheck.ensures (c.sequence_check_report.ensures.ends t))))
 
 pub returns-in-Try-clause-ends : goal.returns-in-Try-clause-ends
 returns-in-Try-clause-ends g c = λ t.
