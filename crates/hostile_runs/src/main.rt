@@ -11,6 +11,7 @@
 
 mod draws;
 mod files;
+mod orders;
 mod seen;
 mod small;
 mod words;
@@ -20,6 +21,7 @@ use draws::Draws;
 use files::{Contents, contents_of, draw_files, shelf_of, spoiled};
 use line_io::MemSink;
 use line_run::run;
+use orders::least_utility;
 use seen::Seen;
 use small::Small;
 use std::alloc::{AllocError, Global};
@@ -117,6 +119,7 @@ fn one_run<R: Threads + Wait + Sync>(
         before,
         after: &after,
         may_fail: torn || !shelf_fails.is_empty() || !sink_fails.is_empty(),
+        least: least_utility(rt, alloc, before, words)?,
     };
     let wrong = seen.wrong(line);
     Ok((wrong, after))

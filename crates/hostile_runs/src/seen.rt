@@ -14,10 +14,12 @@ pub struct Seen<'a> {
     pub after: &'a [Option<Vec<u8>>],
     /// Whether calls were let fail.
     pub may_fail: bool,
+    /// The least utility work of the mix, where the words ask for it and it is known.
+    pub least: Option<u64>,
 }
 
 /// The value of a key among the words, where the words set it once.
-fn value<'a>(words: &'a [String], key: &str) -> Option<&'a str> {
+pub fn value<'a>(words: &'a [String], key: &str) -> Option<&'a str> {
     for word in words {
         if let Some((found, value)) = word.as_str().split_once('=') {
             if found == key {
@@ -29,7 +31,7 @@ fn value<'a>(words: &'a [String], key: &str) -> Option<&'a str> {
 }
 
 /// The name at a place among the words, 0 for the command.
-fn name<'a>(words: &'a [String], place: usize) -> &'a str {
+pub fn name<'a>(words: &'a [String], place: usize) -> &'a str {
     let mut left = place;
     for word in words {
         if !word.as_str().contains("=") {
@@ -60,7 +62,7 @@ fn number(word: &str) -> Option<u64> {
 }
 
 /// The number behind a word of a line.
-fn behind(line: &str, key: &str) -> Option<u64> {
+pub fn behind(line: &str, key: &str) -> Option<u64> {
     let mut words = line.split(' ');
     for _ in 0..20 {
         match words.next() {
@@ -73,6 +75,15 @@ fn behind(line: &str, key: &str) -> Option<u64> {
         }
     }
     None
+}
+
+/// The two numbers behind a word of a line.
+fn two_behind(line: &str, key: &str) -> Option<(u64, u64)> {
+    let (_, rest) = line.split_once(key)?;
+    let mut words = rest.split(' ');
+    words.next()?;
+    let one = number(words.next()?)?;
+    Some((one, number(words.next()?)?))
 }
 
 /// The first line of a text.
@@ -283,14 +294,35 @@ impl<'a> Seen<'a> {
         }
     }
 
+    /// What is wrong with a certificate of a product that is accepted, by what is true of the line.
+    fn wrong_product(&self, line: &Small) -> Option<&'static str> {
+        let verdict = first_line(self.shown);
+        let asked = Asked {
+            is_u: verdict.starts_with("accepted u "),
+            has_apart: false,
+        };
+        let (least, most) = two_behind(verdict, "product")?;
+        let right = line.least_product(asked, least.min(1024) as usize, most.min(1024) as usize);
+        if behind(verdict, "lower")? > right || behind(verdict, "upper")? < right {
+            return Some("what is accepted of a product isn't true");
+        }
+        None
+    }
+
     /// What is wrong with the answer, by what is true of the line.
     fn wrong_answer(&self, line: &Small) -> Option<&'static str> {
         if !self.answers() {
             return None;
         }
+        if let Some(least) = self.least {
+            return self.wrong_bounds(least);
+        }
         let asked = self.asked()?;
         if name(self.words, 0) == "check" {
             return self.wrong_check(line, asked);
+        }
+        if name(self.words, 0) == "effic-check" {
+            return self.wrong_product(line);
         }
         self.wrong_search(line, asked)
     }

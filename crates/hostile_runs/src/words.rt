@@ -3,12 +3,14 @@ use crate::draws::Draws;
 use std::alloc::{AllocError, Global};
 
 /// Each command with its names and its keys.
-const COMMANDS: [(&str, &[&str], &[&str]); 13] = [
+const COMMANDS: [(&str, &[&str], &[&str]); 15] = [
     ("balance", &["in2"], &["cycle", "line", "apart"]),
     (
         "solve",
         &["in2"],
-        &["cycle", "line", "helpers", "units", "cert", "apart", "warm"],
+        &[
+            "cycle", "line", "helpers", "units", "cert", "apart", "warm", "seek",
+        ],
     ),
     (
         "cycle",
@@ -28,13 +30,23 @@ const COMMANDS: [(&str, &[&str], &[&str]); 13] = [
         &["least", "most", "line", "helpers", "units", "cert"],
     ),
     ("effic-check", &["in2", "cert"], &["steps"]),
+    (
+        "sequence",
+        &["csv", "cert"],
+        &["interval", "length", "units", "out"],
+    ),
+    (
+        "sequence-check",
+        &["csv", "cert", "cert"],
+        &["interval", "length", "steps"],
+    ),
     ("--help", &[], &[]),
 ];
 
 /// Keys, those of all commands and none.
-const KEYS: [&str; 12] = [
+const KEYS: [&str; 14] = [
     "cycle", "line", "helpers", "units", "cert", "apart", "warm", "stations", "steps", "to",
-    "least", "hat",
+    "least", "seek", "out", "hat",
 ];
 
 /// Names of files that are there, or may be.
@@ -75,7 +87,7 @@ fn push_value(word: &mut String, draws: &mut Draws, key: &str) -> Result<(), All
     let text = match key {
         "line" => draws.one_of(&["straight", "straight", "u"]),
         "to" => draws.one_of(&["in2", "alb", "cert"]),
-        "cert" => draws.one_of(&["x.cert", "y.cert", "e.cert", "a.in2"]),
+        "cert" | "out" => draws.one_of(&["x.cert", "y.cert", "e.cert", "a.in2"]),
         "apart" => draws.one_of(&["p.apart", "p.apart", "q.apart", "none"]),
         "warm" => draws.one_of(&["x.cert", "y.cert", "e.cert"]),
         "helpers" => draws.one_of(&["0", "0", "0", "0", "0", "0", "0", "1", "2"]),
@@ -87,6 +99,7 @@ fn push_value(word: &mut String, draws: &mut Draws, key: &str) -> Result<(), All
     let value = match key {
         "cycle" => number(draws, 20),
         "units" => number(draws, 24),
+        "seek" => number(draws, 60),
         "stations" | "least" => number(draws, 4),
         "most" => number(draws, 5).saturating_add(2),
         "steps" => number(draws, 200),
@@ -133,7 +146,7 @@ pub fn draw_words(alloc: Global, draws: &mut Draws) -> Result<Vec<String>, Alloc
         }
     }
     for key in *keys {
-        let is_wanted = *key != "apart" && *key != "warm" && *key != "line";
+        let is_wanted = !["apart", "warm", "line", "seek"].contains(key);
         if is_wanted && !draws.one_in(8) || draws.one_in(3) {
             let word = setting(alloc, draws, key)?;
             put(draws, &mut words, word)?;
