@@ -4,5 +4,6 @@ pub mod IndexFacts
 pub mod BookFacts
 pub mod PathFacts
 pub mod TurnFacts
+pub mod WorkFacts
 pub mod EndFacts
 pub mod OrderFacts

@@ -20,6 +20,7 @@ use Rattle.sequence_rules.proofs.CostFacts.{first_is_left, left_within, rest_is_
 use Rattle.sequence_rules.proofs.Passing.{same_item}
 use Rattle.sequence_rules.proofs.Sound.{cited_holds, sound}
 use Rattle.sequence_search.specs.Paths.{IsBook}
+use Rattle.sequence_search.specs.Work.{most_units}
 use Rattle.sequence_search.specs.Tries.{AreStopped, KeepsRoots}
 use Rattle.sequence_search.specs.Outcomes.{IsCertified, IsSolved, IsStopped, IsStanding, cert_of}
 use Rattle.sequence_search.proofs.BookFacts.{book_as, last_answers}
@@ -159,8 +160,8 @@ solved t interval reach units lower upper sequence es fs times s few most done n
 
 pub stopped_at : (t : Times) (interval reach units lower upper need : ℕ) (sequence : List ℕ) (old es : List SeqEntry) (fs : List SeqFrame) → AreTimes t → IsStanding t interval reach lower upper sequence old
     → IsBook t interval reach es need → KeepsRoots t old es → AreStopped t interval reach need es fs → (0 < lower → HasAnswer es t.demands (root_starts t) lower)
-    → units_of es + units_in fs ≡ units → units ≤ 1000000 → lower < need → need ≤ upper → IsStopped t interval reach units (cert_of t lower upper sequence es fs)
-stopped_at t interval reach units lower upper need sequence old es fs times s book keeps stop shown spent most above below = record {
+    → units_of es + units_in fs ≡ units → units ≤ 1000000 → lower < need → need ≤ upper → units < most_units t → IsStopped t interval reach units (cert_of t lower upper sequence es fs)
+stopped_at t interval reach units lower upper need sequence old es fs times s book keeps stop shown spent most above below tight = record {
   certified = standing_certified t interval reach lower upper sequence es fs times
       (record { book = book_as t interval reach old es (lower + 1) need s.book book keeps; shown = shown; is = s.is; total = s.total; low = s.low; limit = s.limit })
       (omega (arith, spent, most)) (record { allowed = λ f g. (omega (arith, stop.first f g, above), omega (arith, stop.first f g, below)); right = stop.right }) stop.few stop.range;
@@ -168,4 +169,5 @@ stopped_at t interval reach units lower upper need sequence old es fs times s bo
   some = stop.some;
   further = stop.further;
   spent = spent;
+  tight = tight;
 }

@@ -10,6 +10,7 @@ use Rattle.sequence_rules.specs.declared.types.SeqCert.{SeqCert}
 use Rattle.sequence_rules.specs.declared.types.SeqEntry.{SeqEntry}
 use Rattle.sequence_rules.specs.declared.types.SeqFrame.{SeqFrame}
 use Rattle.sequence_search.specs.Paths.{IsBook}
+use Rattle.sequence_search.specs.Work.{most_units}
 use Rattle.sequence_search.specs.declared.outcome.Ordered.{Ordered}
 use Rattle.sequence_search.specs.declared.outcome.Ordered.TheVariants as ordered
 
@@ -26,13 +27,15 @@ pub record IsSolved (t : Times) (interval reach units : ℕ) (cert : SeqCert) : 
   pub closed : cert.frames ≡ []
   pub few : units_whole cert ≤ units
 
--- the units are all used and one more step is needed: the frames are open over the entries, and the bounds are apart
+-- The units are all used and one more step is needed: the frames are open over the entries, and the bounds are apart. As
+-- many as `most_units` are never all used.
 pub record IsStopped (t : Times) (interval reach units : ℕ) (cert : SeqCert) : Type 0 where
   pub certified : IsCertified t interval reach cert
   pub apart : cert.lower < cert.upper
   pub some : 1 ≤ length cert.frames
   pub further : IsOpenOver cert.entries cert.frames
   pub spent : units_whole cert ≡ units
+  pub tight : units < most_units t
 
 -- no sequence of the demands costs less than the lower bound, and one costs the upper one
 pub record AreBounds (t : Times) (interval reach lower upper : ℕ) : Type 0 where

@@ -9,6 +9,7 @@ use Rattle.sequence_rules.specs.declared.types.SeqEntry.{SeqEntry}
 use Rattle.sequence_rules.specs.declared.types.SeqFrame.{SeqFrame}
 use Rattle.sequence_rules.specs.declared.types.SeqWhy.TheVariants as why
 use Rattle.sequence_search.specs.Paths.{IsBook}
+use Rattle.sequence_search.specs.Work.{AddsFew, root_work}
 use Rattle.sequence_search.specs.declared.outcome.Tried.{Tried}
 use Rattle.sequence_search.specs.declared.outcome.Tried.TheVariants as tried
 
@@ -34,8 +35,8 @@ KeepsRoots t old new =
 -- what a try comes to, which had so many units
 abbrev pub Tries : Times → ℕ → ℕ → ℕ → ℕ → List SeqEntry → List SeqEntry → Tried → Type 0
 Tries t interval reach need room old new tried.Refuted =
-    IsBook t interval reach new (need + 1) × HasAnswer new t.demands (root_starts t) need × (units_of new ≤ units_of old + room)
+    IsBook t interval reach new (need + 1) × HasAnswer new t.demands (root_starts t) need × AddsFew t room old new
 Tries t interval reach need room old new (tried.Found sequence) =
-    IsBook t interval reach new need × KeepsRoots t old new × IsSequenceOf t.demands sequence × (cost t interval reach (root_starts t) sequence < need) × (units_of new ≤ units_of old + room)
+    IsBook t interval reach new need × KeepsRoots t old new × IsSequenceOf t.demands sequence × (cost t interval reach (root_starts t) sequence < need) × AddsFew t room old new
 Tries t interval reach need room old new (tried.Stopped frames) =
-    IsBook t interval reach new need × KeepsRoots t old new × AreStopped t interval reach need new frames × (units_of new + units_in frames ≡ units_of old + room)
+    IsBook t interval reach new need × KeepsRoots t old new × AreStopped t interval reach need new frames × (units_of new + units_in frames ≡ units_of old + room) × (room ≤ root_work t)

@@ -2,6 +2,7 @@ use Rattle.std.proofs.Common.{◌≡◌, ◌≤◌, ◌+◌, ◌-◌, ◌*◌, l
 use Rattle.sequence_rules.specs.Entries.{units_of}
 use Rattle.sequence_rules.specs.Trails.{frame_units, units_in}
 use Rattle.sequence_search.specs.Paths.{IsAlong, IsTop, IsBook}
+use Rattle.sequence_search.specs.Work.{root_work, frame_work, frames_work}
 use Rattle.sequence_search.specs.Tries.{KeepsRoots}
 use Rattle.sequence_search.proofs.trying.attempt.Given as goal
 
@@ -13,6 +14,7 @@ invariant-turns l = record {
   units : units_of l.entries + (units_in l.above + frame_units l.top) ≡ units_of l.fn.entries + l.used;
   roots : KeepsRoots l.times l.fn.entries l.entries;
   few : l.used ≤ l.room;
+  work : l.used + (frames_work (length l.times.demands) l.above + frame_work (length l.times.demands) l.top) ≤ root_work l.times;
 }
 
 abbrev pub decreases-turns : goal.decreases-turns
