@@ -9,6 +9,7 @@ use Rattle.sequence_rules.specs.Laws.{IsProved}
 use Rattle.sequence_rules.specs.declared.types.Times.{Times}
 use Rattle.sequence_rules.specs.declared.types.SeqCert.{SeqCert}
 use Rattle.sequence_search.specs.Outcomes.{AreBounds}
+use Rattle.sequence_search.specs.Work.{most_units}
 use Rattle.sequence_cert.specs.SequenceText.{sequence_text}
 use Rattle.command_outcome.specs.Outcome.{Files, Outside, Page, Outcome, told}
 use Rattle.command_outcome.specs.declared.report.Kept.{Kept}
@@ -40,7 +41,7 @@ pub record IsLeast (mix : MixedLine) (cert : SeqCert) (status : Status) (text : 
 
 -- What is found of a mix, with a certificate, which is kept: the check accepts it, with at most so many steps. Its
 -- sequence is one of the demands, and its utility work is the upper bound. No sequence of the demands has less than the
--- lower bound. The bounds differ only where the units were used.
+-- lower bound. The bounds differ only where the units were used; `most_units` always suffice.
 pub record IsFound (mix : MixedLine) (t : Times) (interval reach units : ℕ) (status : Status) (text : List ℕ)
     (kept : Kept) : Type 0 where
   pub cert : SeqCert
@@ -52,6 +53,7 @@ pub record IsFound (mix : MixedLine) (t : Times) (interval reach units : ℕ) (s
   pub order : cert.lower ≤ cert.upper
   pub differ : cert.lower < cert.upper → IsSpent mix units cert status text
   pub equal : cert.lower ≡ cert.upper → IsLeast mix cert status text
+  pub complete : most_units t ≤ units → cert.lower ≡ cert.upper
 
 -- memory ended the search: the bounds that are printed are true
 pub record IsCutShort (t : Times) (interval reach : ℕ) (out : Outcome) : Type 0 where

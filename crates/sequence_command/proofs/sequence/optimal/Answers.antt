@@ -15,4 +15,5 @@ returns c =
       order = omega (arith, found.optimal);
       differ = λ less. absurd (omega (arith, less, found.optimal));
       equal = λ same. record { done = refl; printed = c.in_ok-text.ensures };
+      complete = λ many. found.optimal;
     }

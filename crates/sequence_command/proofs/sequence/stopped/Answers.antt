@@ -22,4 +22,5 @@ returns c =
         further = found.further;
       };
       equal = λ same. absurd (omega (arith, same, found.apart));
+      complete = λ many. absurd (omega (arith, many, found.tight));
     }
