@@ -3,3 +3,7 @@ pub mod Listing
 pub mod Framing
 pub mod Posing
 pub mod Rejecting
+pub mod OneWalk
+pub mod OneRefusal
+pub mod OneFault
+pub mod OneVerdict

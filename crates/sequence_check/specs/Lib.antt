@@ -3,3 +3,4 @@ pub mod Faults
 pub mod Lists
 pub mod Frames
 pub mod Verdicts
+pub mod Laws

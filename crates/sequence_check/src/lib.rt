@@ -8,6 +8,7 @@
 mod checking;
 mod entries;
 mod frames;
+pub mod laws;
 mod types;
 mod walks;
 
