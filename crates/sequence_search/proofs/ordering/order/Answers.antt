@@ -17,27 +17,30 @@ returns-in_default-attempt c =
 
 pub sequence_cost-requires-clause-few : goal.sequence_cost-requires-clause-few
 sequence_cost-requires-clause-few c =
-    let T : Tried → Type 0 = λ v. Tries c.args.times.now c.args.interval c.args.reach ((c.tries.standing.lower + c.tries.standing.upper + 1) / 2) (c.args.units - c.entries_units.result) c.tries.standing.entries c.attempt.new.entries v in
+    let need : ℕ = _ in
+    let T : Tried → Type 0 = λ v. Tries c.args.times.now c.args.interval c.args.reach need (c.args.units - c.entries_units.result) c.tries.standing.entries c.attempt.new.entries v in
     let found = subst T c.in-Found.is c.in-Ok-attempt.ensures in
     omega (arith, ap (λ (xs : List ℕ). length xs) c.as_slice.ensures, sequence_short c.args.times.now c.in-Found.sequence c.requires.times found.2)
 
 pub sequence_cost-requires-clause-models : goal.sequence_cost-requires-clause-models
 sequence_cost-requires-clause-models c =
-    let T : Tried → Type 0 = λ v. Tries c.args.times.now c.args.interval c.args.reach ((c.tries.standing.lower + c.tries.standing.upper + 1) / 2) (c.args.units - c.entries_units.result) c.tries.standing.entries c.attempt.new.entries v in
+    let need : ℕ = _ in
+    let T : Tried → Type 0 = λ v. Tries c.args.times.now c.args.interval c.args.reach need (c.args.units - c.entries_units.result) c.tries.standing.entries c.attempt.new.entries v in
     let found = subst T c.in-Found.is c.in-Ok-attempt.ensures in
     let P : List ℕ → Type 0 = λ xs. All (λ m. m < length c.args.times.now.demands) xs in
     subst P (sym c.as_slice.ensures) (sequence_within c.args.times.now.demands c.in-Found.sequence found.2)
 
 pub tries-preserved-in-Found : goal.tries-preserved-in-Found
 tries-preserved-in-Found c =
-    let T : Tried → Type 0 = λ v. Tries c.args.times.now c.args.interval c.args.reach ((c.tries.standing.lower + c.tries.standing.upper + 1) / 2) (c.args.units - c.entries_units.result) c.tries.standing.entries c.attempt.new.entries v in
+    let need : ℕ = _ in
+    let T : Tried → Type 0 = λ v. Tries c.args.times.now c.args.interval c.args.reach need (c.args.units - c.entries_units.result) c.tries.standing.entries c.attempt.new.entries v in
     let found = subst T c.in-Found.is c.in-Ok-attempt.ensures in
     let s = c.tries.invariant.standing in
     let total : c.sequence_cost.result ≡ cost c.args.times.now c.args.interval c.args.reach (root_starts c.args.times.now) c.in-Found.sequence =
     c.sequence_cost.ensures.cost ∙ ap (λ z. cost c.args.times.now c.args.interval c.args.reach (root_starts c.args.times.now) z) c.as_slice.ensures in
     record {
       standing = record {
-        book = book_as c.args.times.now c.args.interval c.args.reach c.tries.standing.entries c.attempt.new.entries (c.tries.standing.lower + 1) ((c.tries.standing.lower + c.tries.standing.upper + 1) / 2) s.book found.0 found.1;
+        book = book_as c.args.times.now c.args.interval c.args.reach c.tries.standing.entries c.attempt.new.entries (c.tries.standing.lower + 1) need s.book found.0 found.1;
         shown = λ some. answered_still c.args.times.now c.tries.standing.entries c.attempt.new.entries c.args.times.now.demands (root_starts c.args.times.now) c.tries.standing.lower found.1 (s.shown some);
         is = found.2;
         total = sym total;
@@ -51,8 +54,8 @@ tries-preserved-in-Found c =
 
 pub returns-in-Stopped : goal.returns-in-Stopped
 returns-in-Stopped c =
-    let need : ℕ = (c.tries.standing.lower + c.tries.standing.upper + 1) / 2 in
-    let T : Tried → Type 0 = λ v. Tries c.args.times.now c.args.interval c.args.reach ((c.tries.standing.lower + c.tries.standing.upper + 1) / 2) (c.args.units - c.entries_units.result) c.tries.standing.entries c.attempt.new.entries v in
+    let need : ℕ = _ in
+    let T : Tried → Type 0 = λ v. Tries c.args.times.now c.args.interval c.args.reach need (c.args.units - c.entries_units.result) c.tries.standing.entries c.attempt.new.entries v in
     let stop = subst T c.in-Stopped.is c.in-Ok-attempt.ensures in
     let s = c.tries.invariant.standing in
     let P : SeqCert → Type 0 = λ z. IsStopped c.args.times.now c.args.interval c.args.reach c.args.units z in
@@ -74,12 +77,13 @@ tries-init c =
 
 pub tries-preserved : goal.tries-preserved
 tries-preserved c =
-    let T : Tried → Type 0 = λ v. Tries c.args.times.now c.args.interval c.args.reach ((c.tries.standing.lower + c.tries.standing.upper + 1) / 2) (c.args.units - c.entries_units.result) c.tries.standing.entries c.attempt.new.entries v in
+    let need : ℕ = _ in
+    let T : Tried → Type 0 = λ v. Tries c.args.times.now c.args.interval c.args.reach need (c.args.units - c.entries_units.result) c.tries.standing.entries c.attempt.new.entries v in
     let refuted = subst T c.in-Refuted.is c.in-Ok-attempt.ensures in
     let s = c.tries.invariant.standing in
     record {
       standing = record { book = refuted.0; shown = λ some. refuted.1; is = s.is; total = s.total; low = omega (arith, c.tries-test.true); limit = s.limit };
       few = omega (arith, refuted.2.few, c.entries_units.ensures, c.tries.invariant.few);
-      tried = tried_more c.args.times.now c.tries.standing.lower c.tries.standing.upper ((c.tries.standing.lower + c.tries.standing.upper + 1) / 2) c.tries.standing.upper c.tries.standing.entries c.attempt.new.entries c.tries.invariant.tried
+      tried = tried_more c.args.times.now c.tries.standing.lower c.tries.standing.upper need c.tries.standing.upper c.tries.standing.entries c.attempt.new.entries c.tries.invariant.tried
           (omega arith) refuted.2.work;
     }
