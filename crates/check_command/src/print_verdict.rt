@@ -5,7 +5,7 @@ ghost use Rattle.command_outcome.specs.declared.report.Kept.TheVariants.{Nothing
 ghost use Rattle.check_command.specs.VerdictText.{ask_text, entry_fault_text, entry_mode, found_text, frame_fault_text, frame_mode, frame_of, kind_text, mode_at_entry, mode_at_frame, place_text, two_text, verdict_status, verdict_text};
 
 use cert_text::{KeptText, put_load};
-use command_outcome::{Report, Status, push_number};
+use command_outcome::{Report, Status, push_number, push_one};
 use line_check::{EntryFault, FrameFault, Place, Verified};
 use line_rules::{Ask, Certificate, Claim, Entries, LineKind, Load, Mode, Trail, Why};
 use std::alloc::{AllocError, Global};
@@ -32,15 +32,6 @@ pub fn push_two(text: &mut String, front: &str, a: u64, b: u64) -> Result<(), Al
     push_number(text, a)?;
     text.push_str(" ")?;
     push_number(text, b)?;
-    Ok(())
-}
-
-/// A number behind a text.
-pub fn push_one(text: &mut String, front: &str, n: u64) -> Result<(), AllocError>
-    ensures { OnOk result (string_bytes text.new ≡ string_bytes text.old ++ (front.now ++ decimal n)) }
-{
-    text.push_str(front)?;
-    push_number(text, n)?;
     Ok(())
 }
 

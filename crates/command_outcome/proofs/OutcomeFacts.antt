@@ -1,5 +1,7 @@
 -- What a command ends with that is stopped, or that reports.
-use Rattle.std.proofs.Common.{◌≡◌, ◌∙◌, ap, ℕ, List, None}
+use Rattle.std.proofs.Common.{◌≡◌, ◌∙◌, ap, ℕ, List, None, IfOk, sym, subst, rules}
+use Rattle.std.specs.Prelude.{IsErrAnd}
+use Rattle.std.proofs.lemmas.Result.{err_from_is_err_and}
 use Rattle.std.specs.declared.result.Result.{Result}
 use Rattle.std.specs.declared.result.Result.TheVariants.{Ok, Err}
 use Rattle.command_outcome.specs.Outcome.{Files, Outside, Outcome, Ends, Stay, Stops, outcome_of, told}
@@ -22,6 +24,14 @@ stopped o P Q after (stop.Report r) f k q = record { page = None; reached = f (o
 stopped o P Q after stop.Memory f k q = k
 stopped o P Q after stop.Unwritten f k q = absurd q
 
+-- the same of a command that hands on by `?` what a step stopped with
+pub early : (o : Outside) (P Q : Outcome → Type 0) (after : Files) (s : Stop) (r : Result Report Stop)
+    → ((out : Outcome) → Q out → P out) → Stay o.files after → Stops Q s → IsErrAnd r (λ e. e ≡ s) → Ends o P after r
+early o P Q after s r f k q is =
+    let e = err_from_is_err_and r is in
+    subst (λ x. Ends o P after x) (sym e.1)
+    (subst (λ x. Ends o P after (Err x)) (sym e.2) (stopped o P Q after s f k q))
+
 -- what a report of this status and text comes to that keeps nothing
 pub told_as : (r : Report) (status : Status) (text : List ℕ) → r.status ≡ status → r.text.items ≡ text → r.kept ≡ Nothing → outcome_of r None ≡ told status text
 told_as r status text s t k =
@@ -36,3 +46,9 @@ ends_as o P Q after (Ok r) f e = record { page = e.page; reached = f (outcome_of
 ends_as o P Q after (Err (stop.Report r)) f e = record { page = e.page; reached = f (outcome_of r e.page) e.reached; written = e.written }
 ends_as o P Q after (Err stop.Memory) f e = e
 ends_as o P Q after (Err stop.Unwritten) f e = record { outcome = e.outcome; reached = f e.outcome e.reached; page = e.page; has = e.has; blamed = e.blamed; cut = e.cut; others = e.others }
+
+-- what follows for a report from what was found out of it, where it was handed on
+pub handed_on : (P Q : Report → Type 0) (report : Report) (r : Result Report Stop) → (Q report → P report)
+    → IfOk r (λ x. x ≡ report) → IfOk r Q → IfOk r P
+handed_on P Q report (Ok x) f same q = subst P (sym same) (f (subst Q same q))
+handed_on P Q report (Err e) f same q = search rules

@@ -1,5 +1,6 @@
 pub mod Codes
 pub mod Print
+pub mod Bounds
 pub mod Outcome
 pub mod Output
 pub mod Ending

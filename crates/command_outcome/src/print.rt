@@ -11,6 +11,14 @@ pub fn push_number(text: &mut String, n: u64) -> Result<(), AllocError>
     write!(text, "{n}")
 }
 
+/// A number behind a text.
+pub fn push_one(text: &mut String, front: &str, n: u64) -> Result<(), AllocError>
+    ensures { OnOk result (string_bytes text.new ≡ string_bytes text.old ++ (front.now ++ decimal n)) }
+{
+    text.push_str(front)?;
+    push_number(text, n)
+}
+
 /// A byte of a name as it is printed: `?` in place of one that could end or hide a line.
 fn printed_byte(byte: u8) -> u8
     ensures { result ≡ printed_byte byte }

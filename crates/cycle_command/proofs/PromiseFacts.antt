@@ -1,5 +1,5 @@
 -- What `cycle` answers is what it promises.
-use Rattle.std.proofs.Common.{◌≡◌, inl, inr, ℕ, Bool, true, false, cond, nat_eq, List, Option, Some, None, refl, sym}
+use Rattle.std.proofs.Common.{inl, inr, ℕ, nat_eq, List, Option, Some, None, refl, sym}
 use Rattle.std.proofs.Common.{subst, arith, rules}
 use Rattle.std.proofs.lemmas.Bool.{eqb-true}
 use Rattle.line_instance.specs.Line.{Line}
@@ -10,19 +10,11 @@ use Rattle.line_rules.specs.declared.types.Certificate.{Certificate}
 use Rattle.round_run.specs.declared.plans.Plan.{Plan}
 use Rattle.command_outcome.specs.Outcome.{Outcome}
 use Rattle.command_outcome.specs.declared.status.Status.TheVariants as ends
+use Rattle.solve_command.proofs.PromiseFacts.{chosen, not_chosen}
 use Rattle.cycle_certificates.specs.CycleCertified.{IsOptimum, IsStop}
 use Rattle.cycle_command.specs.CycleText.{optimal_text, stopped_text}
 use Rattle.cycle_command.specs.Found.{IsFound}
 use Rattle.cycle_command.specs.CyclePromise.{HasBounds, IsShown}
-
--- a choice by a test, where the answer is known
-chosen : {X : Type 0} (b : Bool) (x y : X) → b ≡ true → cond b x y ≡ x
-chosen true x y e = refl
-chosen false x y e = absurd (cc)
-
-not_chosen : {X : Type 0} (b : Bool) (x y : X) → (b ≡ true → ⊥) → cond b x y ≡ y
-not_chosen true x y f = absurd (f refl)
-not_chosen false x y f = refl
 
 module _ (kind : LineKind) (line : Line) (m : ℕ) (plan : Plan) where
   -- the bounds of an optimum

@@ -2,19 +2,13 @@
 ghost use Rattle.std.specs.Prelude.{◌≡◌, ◌≤◌, ℕ, List, [], string_bytes, Some, None, Err, IfOk, MatchResult};
 ghost use Rattle.std.specs.Prelude.{option_map};
 ghost use Rattle.line_io.specs.Outside.{Rises};
-ghost use Rattle.line_instance.specs.Line.{Line};
-ghost use Rattle.line_rules.specs.Ranges.{IsInRange};
-ghost use Rattle.line_rules.specs.declared.types.LineKind.{LineKind as Kind};
 ghost use Rattle.line_rules.specs.declared.types.Balance.{Balance as Assignment};
 ghost use Rattle.line_rules.specs.declared.types.Entry.{Entry};
 ghost use Rattle.line_rules.specs.declared.types.Trail.{Trail as Frames};
-ghost use Rattle.line_rules.specs.declared.types.Certificate.{Certificate as Proof};
-ghost use Rattle.command_outcome.specs.Outcome.{Files, Ends, MayEnd, Stay, Stops, MayStop, outside, outcome_of};
-ghost use Rattle.command_outcome.specs.declared.report.Kept.TheVariants.{Line as Certified};
+ghost use Rattle.command_outcome.specs.Outcome.{Ends, MayEnd, Stops, MayStop, outside, outcome_of};
 ghost use Rattle.command_outcome.specs.declared.report.Stop.TheVariants.{Unwritten};
 ghost use Rattle.round_run.specs.Plans.{IsPlan};
 ghost use Rattle.round_run.specs.declared.plans.Plan.{Plan as Planned};
-ghost use Rattle.solve_command.specs.Promise.{HasCertificate};
 ghost use Rattle.solve_command.specs.Solution.{IsSolveStatus};
 ghost use Rattle.cycle_search.specs.Ends.{NoneApart};
 ghost use Rattle.cycle_search.specs.Outcomes.{IsSolved, IsSpent, IsStopped as HasStopped};
@@ -22,15 +16,15 @@ ghost use Rattle.cycle_command.specs.CyclePromise.{IsCyclePromised, IsShown};
 ghost use Rattle.cycle_command.specs.Found.{IsOptimal, IsStopped, IsFound, IsCutShort, IsCycleOutcome};
 
 use crate::line_file::plain_line;
-use crate::print_cycle::{cut_short_text, optimal_text, room_for_bounds, stopped_text};
-use cert_files::{Streamed, stream_cert};
-use command_outcome::{Kept, Report, Status, Stop, refuse};
+use crate::print_cycle::{optimal_text, stopped_text};
+use command_outcome::{Kept, Report, Status, Stop, cut_short_text, refuse, room_for_bounds};
 use cycle_certificates::{certify_cycle, certify_cycle_stop};
 use cycle_search::{CycleOutcome, least_cycle};
 use line_instance::Instance;
 use line_io::Shelf;
 use line_rules::{Balance, Entries, LineKind, Trail};
 use round_run::{Cause, Gate, Plan};
+use solve_command::written;
 use station_report::idle_of;
 use std::alloc::{AllocError, Global};
 use std::sync::Wait;
@@ -111,6 +105,8 @@ fn cut_short(
     ensures fault { IfOk result (MayStop ⊥) }
 {
     let _tasks = inst.tasks();
+    let lower = u128::from(lower);
+    let upper = u128::from(upper);
     let text = cut_short_text(room, lower, upper)?;
     Ok(refuse(Status::Memory, text))
 }
@@ -158,34 +154,6 @@ fn found<R: Threads + Wait + Sync, G: Gate>(
             Cause::Memory => Err(cut_short(inst, kind, stations, room, lower, upper)?),
         },
         CycleOutcome::NoMemory => Err(Stop::Memory),
-    }
-}
-
-/// Writes the certificate of a report, and hands the report on.
-fn written<S: Shelf>(
-    alloc: Global,
-    shelf: &mut S,
-    name: &str,
-    report: Report,
-) -> Result<Report, Stop>
-    requires sayable { (certificate : Proof) → report.kept ≡ Certified certificate → IsInRange certificate }
-    ensures ends { S.tells → (files : Files) → Stay files (S.file shelf.old)
-        → (kind : Kind) (line : Line) (m : ℕ) (plan : Planned) → IsFound kind line m plan None (outcome_of report None)
-        → Ends (outside files (S.blames shelf.new)) (IsFound kind line m plan (Some name.now)) (S.file shelf.new)
-        result }
-    ensures same { IfOk result (λ r. r ≡ report) }
-    ensures certificate { S.tells → IfOk result (λ r. (cert : Proof) → r.kept ≡ Certified cert
-        → HasCertificate (Some name.now) (S.file shelf.new) cert) }
-    ensures fault { MatchResult result (λ _. Unit {0}) (MayEnd (Rises (S.faults shelf.old) (S.faults shelf.new))) }
-    ensures count { S.faults shelf.old ≤ S.faults shelf.new }
-{
-    let Kept::Line(certificate) = &report.kept else {
-        return Ok(report);
-    };
-    match stream_cert(alloc, shelf, name, certificate) {
-        Streamed::Done => Ok(report),
-        Streamed::WriteFault => Err(Stop::Unwritten),
-        Streamed::NoMemory => Err(Stop::Memory),
     }
 }
 

@@ -6,25 +6,22 @@
 ghost use Rattle.std.specs.Prelude.{◌≡◌, ◌≤◌, ℕ, List, [], string_bytes, Some, None, Err, IfOk, MatchResult};
 ghost use Rattle.std.specs.Prelude.{option_map};
 ghost use Rattle.line_io.specs.Outside.{Rises};
-ghost use Rattle.line_instance.specs.Line.{Line};
-ghost use Rattle.line_rules.specs.declared.types.LineKind.{LineKind as Kind};
 ghost use Rattle.command_outcome.specs.Outcome.{Files, Ends, MayEnd, Stay, Stops, MayStop, outside, outcome_of};
 ghost use Rattle.command_outcome.specs.declared.report.Kept.TheVariants.{Product as Certified};
 ghost use Rattle.command_outcome.specs.declared.report.Stop.TheVariants.{Unwritten};
 ghost use Rattle.command_outcome.specs.declared.status.Status.TheVariants as ends;
 ghost use Rattle.round_run.specs.Plans.{IsPlan};
-ghost use Rattle.round_run.specs.declared.plans.Plan.{Plan as Planned};
 ghost use Rattle.solve_command.specs.Solution.{IsSolveStatus};
 ghost use Rattle.effic_cert.specs.Product.{IsSayable};
 ghost use Rattle.effic_cert.specs.declared.cert.EfficCert.{EfficCert as Proof};
 ghost use Rattle.effic_check.specs.Accepted.{NoneApart};
 ghost use Rattle.effic_check.specs.Truth.{IsBetween};
 ghost use Rattle.effic_command.specs.EfficText.{optimal_text, stopped_text};
-ghost use Rattle.effic_command.specs.EfficFound.{idle_of, certified_by, IsFound, IsCutShort, IsEfficOutcome};
+ghost use Rattle.effic_command.specs.EfficFound.{idle_of, page_of, certified_by, IsFound, IsCutShort, IsEfficOutcome};
 ghost use Rattle.effic_command.specs.EfficPromise.{HasCertificate, IsEfficPromised, IsShown};
 
-use crate::print_effic::{cut_short_text, optimal_text, room_for_bounds, stopped_text};
-use command_outcome::{Kept, Report, Status, Stop, refuse};
+use crate::print_effic::{optimal_text, stopped_text};
+use command_outcome::{Kept, Report, Status, Stop, cut_short_text, refuse, room_for_bounds};
 use cycle_command::plain_line;
 use effic_cert::{EfficCert, write_effic};
 use effic_search::{EfficOutcome, Ended, least_product};
@@ -141,9 +138,8 @@ fn written<S: Shelf>(
 ) -> Result<Report, Stop>
     requires sayable { (certificate : Proof) → report.kept ≡ Certified certificate → IsSayable certificate }
     ensures ends { S.tells → (files : Files) → Stay files (S.file shelf.old)
-        → (kind : Kind) (line : Line) (least most : ℕ) (plan : Planned)
-        → IsFound kind line least most plan None (outcome_of report None)
-        → Ends (outside files (S.blames shelf.new)) (IsFound kind line least most plan (Some name.now))
+        → (cert : Proof) → report.kept ≡ Certified cert
+        → Ends (outside files (S.blames shelf.new)) (λ out. out ≡ outcome_of report (page_of (Some name.now) cert))
         (S.file shelf.new) result }
     ensures same { IfOk result (λ r. r ≡ report) }
     ensures certificate { S.tells → IfOk result (λ r. (cert : Proof) → r.kept ≡ Certified cert

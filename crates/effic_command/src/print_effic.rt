@@ -1,22 +1,12 @@
 //! The printed texts of what `effic` found.
-ghost use Rattle.std.specs.Prelude.{◌≡◌, ◌++◌, ◌<◌, ◌^◌, string_bytes, OnOk, IfOk, length, []};
-ghost use Rattle.solve_command.specs.SolutionText.{bounds_line, cut_short_text};
+ghost use Rattle.std.specs.Prelude.{◌≡◌, ◌++◌, ◌<◌, ◌^◌, string_bytes, OnOk, IfOk, length};
 ghost use Rattle.effic_command.specs.EfficText.{place_line, optimal_text, stopped_line, stopped_text};
 
+use command_outcome::push_bounds;
 use effic_cert::EfficCert;
 use effic_search::Ended;
 use station_report::balance_text;
 use std::alloc::{AllocError, Global};
-
-/// More bytes than the report of a search that memory ended can have.
-const CUT_SHORT_ROOM: usize = 128;
-
-/// The line with both bounds.
-fn push_bounds(text: &mut String, lower: u128, upper: u128) -> Result<(), AllocError>
-    ensures { OnOk result (string_bytes text.new ≡ string_bytes text.old ++ bounds_line lower upper) }
-{
-    write!(text, "bounds {lower} {upper}\n")
-}
 
 /// The line of the stations of a balance and its cycle.
 fn push_place(text: &mut String, stations: u32, cycle: u64) -> Result<(), AllocError>
@@ -67,22 +57,4 @@ pub(crate) fn stopped_text(
     push_bounds(&mut heading, cert.lower, cert.upper)?;
     push_place(&mut heading, cert.balance.stations, cert.cycle)?;
     balance_text(alloc, heading, &cert.balance, cert.kind, idle)
-}
-
-/// Memory for the report of a search that memory ends, taken before the search.
-pub(crate) fn room_for_bounds(alloc: Global) -> Result<String, AllocError>
-    ensures { IfOk result (λ s. string_bytes s ≡ []) }
-{
-    String::with_capacity(alloc, CUT_SHORT_ROOM)
-}
-
-/// The report of a search that memory ended, in memory that was taken before.
-pub(crate) fn cut_short_text(room: String, lower: u128, upper: u128) -> Result<Vec<u8>, AllocError>
-    requires { string_bytes room ≡ [] }
-    ensures { IfOk result (λ t. t.items ≡ cut_short_text lower upper) }
-{
-    let mut text = room;
-    text.push_str("stopped by memory\n")?;
-    push_bounds(&mut text, lower, upper)?;
-    Ok(text.into_bytes())
 }

@@ -1,20 +1,11 @@
 //! The printed texts of what `sequence` found.
-ghost use Rattle.std.specs.Prelude.{◌≡◌, ◌++◌, ◌<◌, ◌≤◌, All, length, string_bytes, OnOk, IfOk, []};
-ghost use Rattle.sequence_command.specs.SequenceText.{bounds_line, cut_short_text, names_text, optimal_text, sequence_line, stopped_text};
+ghost use Rattle.std.specs.Prelude.{◌≡◌, ◌++◌, ◌<◌, ◌≤◌, All, length, string_bytes, OnOk, IfOk};
+ghost use Rattle.sequence_command.specs.SequenceText.{names_text, optimal_text, sequence_line, stopped_text};
 
 use combined_graph::Mix;
+use command_outcome::push_bounds;
 use sequence_rules::SeqCert;
 use std::alloc::{AllocError, Global};
-
-/// More bytes than the report of a search that memory ended can have.
-const CUT_SHORT_ROOM: usize = 80;
-
-/// The line with both bounds.
-fn push_bounds(text: &mut String, lower: u64, upper: u64) -> Result<(), AllocError>
-    ensures { OnOk result (string_bytes text.new ≡ string_bytes text.old ++ bounds_line lower upper) }
-{
-    write!(text, "bounds {lower} {upper}\n")
-}
 
 /// The names of the models of units, each behind a blank.
 fn push_names(text: &mut Vec<u8>, mix: &Mix, units: &[u64]) -> Result<(), AllocError>
@@ -62,24 +53,6 @@ pub(crate) fn stopped_text(alloc: Global, mix: &Mix, cert: &SeqCert) -> Result<V
 {
     let mut heading = String::new(alloc);
     heading.push_str("stopped by units\n")?;
-    push_bounds(&mut heading, cert.lower, cert.upper)?;
+    push_bounds(&mut heading, u128::from(cert.lower), u128::from(cert.upper))?;
     with_sequence(heading, mix, cert.sequence.as_slice())
-}
-
-/// Memory for the report of a search that memory ends, taken before the search.
-pub(crate) fn room_for_bounds(alloc: Global) -> Result<String, AllocError>
-    ensures { IfOk result (λ s. string_bytes s ≡ []) }
-{
-    String::with_capacity(alloc, CUT_SHORT_ROOM)
-}
-
-/// The report of a search that memory ended, in memory that was taken before.
-pub(crate) fn cut_short_text(room: String, lower: u64, upper: u64) -> Result<Vec<u8>, AllocError>
-    requires { string_bytes room ≡ [] }
-    ensures { IfOk result (λ t. t.items ≡ cut_short_text lower upper) }
-{
-    let mut text = room;
-    text.push_str("stopped by memory\n")?;
-    push_bounds(&mut text, lower, upper)?;
-    Ok(text.into_bytes())
 }

@@ -4,17 +4,9 @@ ghost use Rattle.std.specs.Prelude.{◌≡◌, ◌++◌, ◌+◌, IfOk, OnOk, st
 ghost use Rattle.command_outcome.specs.declared.report.Kept.TheVariants.{Nothing};
 ghost use Rattle.sequence_command.specs.VerdictText.{accepted_text, entry_fault_text, found_text, frame_fault_text, place_text, verdict_status, verdict_text};
 
-use command_outcome::{Report, Status, push_number};
+use command_outcome::{Report, Status, push_one};
 use sequence_check::{SeqEntryFault, SeqFrameFault, SeqPlace, SeqVerified};
 use std::alloc::{AllocError, Global};
-
-/// A number behind a text.
-fn push_one(text: &mut String, front: &str, n: u64) -> Result<(), AllocError>
-    ensures { OnOk result (string_bytes text.new ≡ string_bytes text.old ++ (front.now ++ decimal n)) }
-{
-    text.push_str(front)?;
-    push_number(text, n)
-}
 
 /// A model, counted from 1, behind a text.
 fn push_model(text: &mut String, front: &str, model: u32) -> Result<(), AllocError>

@@ -14,10 +14,10 @@ ghost use Rattle.command_outcome.specs.declared.report.Kept.TheVariants.{Sequenc
 ghost use Rattle.command_outcome.specs.declared.report.Stop.TheVariants.{Unwritten};
 ghost use Rattle.sequence_command.specs.Ordered.{HasCertificate, IsAnswerStatus, IsCutShort, IsFound, IsSequenceOutcome, IsSequencePromised, page_of};
 
-use crate::print_sequence::{cut_short_text, optimal_text, room_for_bounds, stopped_text};
+use crate::print_sequence::{optimal_text, stopped_text};
 use crate::timed_mix::{TimedMix, timed_of};
 use combined_graph::Mix;
-use command_outcome::{Kept, Report, Status, Stop, refuse};
+use command_outcome::{Kept, Report, Status, Stop, cut_short_text, refuse, room_for_bounds};
 use line_io::{Shelf, Written, write_whole};
 use sequence_cert::write_seq;
 use sequence_rules::{SeqCert, Times};
@@ -82,7 +82,7 @@ fn cut_short(
     ensures answer { IfOk result (Stops (IsCutShort times.now interval reach)) }
     ensures fault { IfOk result (MayStop ⊥) }
 {
-    let text = cut_short_text(room, lower, upper)?;
+    let text = cut_short_text(room, u128::from(lower), u128::from(upper))?;
     Ok(refuse(Status::Memory, text))
 }
 

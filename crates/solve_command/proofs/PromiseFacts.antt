@@ -23,11 +23,11 @@ use Rattle.solve_command.specs.Solution.{IsInfeasible, IsBounded, IsSolution, Is
 use Rattle.solve_command.specs.Promise.{HasBounds, HasNone, IsShown, bounds_text}
 
 -- a choice by a test, where the answer is known
-chosen : {X : Type 0} (b : Bool) (x y : X) → b ≡ true → cond b x y ≡ x
+pub chosen : {X : Type 0} (b : Bool) (x y : X) → b ≡ true → cond b x y ≡ x
 chosen true x y e = refl
 chosen false x y e = absurd (cc)
 
-not_chosen : {X : Type 0} (b : Bool) (x y : X) → (b ≡ true → ⊥) → cond b x y ≡ y
+pub not_chosen : {X : Type 0} (b : Bool) (x y : X) → (b ≡ true → ⊥) → cond b x y ≡ y
 not_chosen true x y f = absurd (f refl)
 not_chosen false x y f = refl
 

@@ -3,14 +3,11 @@ use Rattle.std.specs.Prelude.{ℕ, List, ◌++◌, codes, decimal}
 use Rattle.line_rules.specs.declared.types.LineKind.{LineKind}
 use Rattle.line_rules.specs.declared.types.Balance.{Balance as Assignment}
 use Rattle.station_report.specs.BalanceLines.{balance_lines}
+pub use Rattle.command_outcome.specs.Bounds.{bounds_line, cut_short_text}
 
 -- the line of an optimum: the fewest stations
 abbrev pub optimal_line : ℕ → List ℕ
 optimal_line stations = codes "optimal " ++ decimal stations ++ codes "\n"
-
--- the line with both bounds
-abbrev pub bounds_line : ℕ → ℕ → List ℕ
-bounds_line lower upper = codes "bounds " ++ decimal lower ++ codes " " ++ decimal upper ++ codes "\n"
 
 -- the report of an optimum: the fewest stations, and the balance
 abbrev pub optimal_text : LineKind → Assignment → ℕ → List ℕ
@@ -19,7 +16,3 @@ optimal_text kind b idle = optimal_line b.stations ++ balance_lines kind b idle
 -- the report of a search that used its units: its bounds, and the best balance
 abbrev pub stopped_text : LineKind → ℕ → Assignment → ℕ → List ℕ
 stopped_text kind lower b idle = (codes "stopped by units\n" ++ bounds_line lower b.stations) ++ balance_lines kind b idle
-
--- the report of a search that memory ended: its bounds
-abbrev pub cut_short_text : ℕ → ℕ → List ℕ
-cut_short_text lower upper = codes "stopped by memory\n" ++ bounds_line lower upper

@@ -11,4 +11,4 @@ mod warm_start;
 #[cfg(test)]
 mod warm_tests;
 
-pub use solution::solve_report;
+pub use solution::{solve_report, written};

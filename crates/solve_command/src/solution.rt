@@ -2,11 +2,10 @@
 ghost use Rattle.std.specs.Prelude.{◌≡◌, ◌≢◌, ◌≤◌, ℕ, List, [], Option, string_bytes, Some, None, Err, IfOk, MatchResult, option_map};
 ghost use Rattle.std.specs.Option.{ForSome};
 ghost use Rattle.line_io.specs.Outside.{Rises};
-ghost use Rattle.line_instance.specs.Line.{Line, tasks};
+ghost use Rattle.line_instance.specs.Line.{tasks};
 ghost use Rattle.line_rules.specs.Bounds.{IsTooLong};
 ghost use Rattle.line_rules.specs.Checked.{IsLeastWhere};
 ghost use Rattle.line_rules.specs.Ranges.{AreEntries, IsCycle, IsInRange};
-ghost use Rattle.line_rules.specs.declared.types.LineKind.{LineKind as Kind};
 ghost use Rattle.line_rules.specs.declared.types.Entry.{Entry as Lemma};
 ghost use Rattle.line_rules.specs.declared.types.OpenFrame.{OpenFrame};
 ghost use Rattle.line_rules.specs.declared.types.Certificate.{Certificate as Proof};
@@ -22,12 +21,12 @@ ghost use Rattle.command_outcome.specs.declared.report.Stop.TheVariants.{Unwritt
 ghost use Rattle.solve_command.specs.Begun.{IsBegun};
 ghost use Rattle.solve_command.specs.WarmStart.{Start};
 ghost use Rattle.solve_command.specs.Promise.{HasCertificate, IsPromised, IsShown};
-ghost use Rattle.solve_command.specs.Solution.{IsOptimal, IsStopped, IsInfeasible, IsBounded, IsSolution, IsCutShort, IsSolveOutcome, IsSolveStatus};
+ghost use Rattle.solve_command.specs.Solution.{page_of, IsOptimal, IsStopped, IsInfeasible, IsBounded, IsSolution, IsCutShort, IsSolveOutcome, IsSolveStatus};
 
-use crate::print_solution::{cut_short_text, optimal_text, room_for_bounds, stopped_text};
+use crate::print_solution::{optimal_text, stopped_text};
 use crate::warm_start::{Begun, begin, old_entries};
 use cert_files::{Streamed, stream_cert};
-use command_outcome::{Kept, Report, Status, Stop, refuse};
+use command_outcome::{Kept, Report, Status, Stop, cut_short_text, refuse, room_for_bounds};
 use first_fit::{Ranked, ranked_balance};
 use input_files::said_instance;
 use lemma_core::Book;
@@ -136,7 +135,9 @@ fn cut_short(
 {
     let _tasks = inst.tasks();
     let _entries = book.entries();
-    let text = cut_short_text(room, lower, book.best().stations)?;
+    let lower = u128::from(lower);
+    let upper = u128::from(book.best().stations);
+    let text = cut_short_text(room, lower, upper)?;
     Ok(refuse(Status::Memory, text))
 }
 
@@ -216,8 +217,8 @@ fn solution<R: Threads + Wait + Sync, G: Gate>(
     run(rt, alloc, inst, kind, cycle, begun, plan, gate, room)
 }
 
-/// Writes the certificate of a report, and hands the report on.
-fn written<S: Shelf>(
+/// Writes the certificate of a report of a line, and hands the report on.
+pub fn written<S: Shelf>(
     alloc: Global,
     shelf: &mut S,
     name: &str,
@@ -225,9 +226,9 @@ fn written<S: Shelf>(
 ) -> Result<Report, Stop>
     requires sayable { (certificate : Proof) → report.kept ≡ Certified certificate → IsInRange certificate }
     ensures ends { S.tells → (files : Files) → Stay files (S.file shelf.old)
-        → (kind : Kind) (line : Line) (c : ℕ) (plan : PlanOf) (start : Start)
-        → IsSolution kind line c plan start None (outcome_of report None)
-        → Ends (outside files (S.blames shelf.new)) (IsSolution kind line c plan start (Some name.now)) (S.file shelf.new) result }
+        → (cert : Proof) → report.kept ≡ Certified cert
+        → Ends (outside files (S.blames shelf.new)) (λ out. out ≡ outcome_of report (page_of (Some name.now) cert))
+        (S.file shelf.new) result }
     ensures same { IfOk result (λ r. r ≡ report) }
     ensures certificate { S.tells → IfOk result (λ r. (cert : Proof) → r.kept ≡ Certified cert → HasCertificate (Some name.now) (S.file shelf.new) cert) }
     ensures fault { MatchResult result (λ _. Unit {0}) (MayEnd (Rises (S.faults shelf.old) (S.faults shelf.new))) }

@@ -1,8 +1,6 @@
-use Rattle.std.proofs.Common.{◌∙◌, subst, sym, inl, inr}
-use Rattle.std.specs.declared.result.Result.TheVariants.{Err}
-use Rattle.std.proofs.lemmas.Result.{err_from_is_err_and}
-use Rattle.command_outcome.specs.Outcome.{Files, Outside, Outcome, Ends, outside}
-use Rattle.command_outcome.proofs.OutcomeFacts.{stopped}
+use Rattle.std.proofs.Common.{◌∙◌, subst, inl, inr}
+use Rattle.command_outcome.specs.Outcome.{Files, Outside, Outcome, outside}
+use Rattle.command_outcome.proofs.OutcomeFacts.{early}
 use Rattle.mix_commands.proofs.BalancedFacts.{same_files}
 use Rattle.sequence_command.specs.TimedMix.{IsUntimed}
 use Rattle.sequence_command.specs.CertificateFile.{IsNoSeqCert}
@@ -15,11 +13,8 @@ returns-in_err-timed-clause-ends g c = λ t.
     let after : Files = g.S.Shelf.file c.timed_of.new.shelf in
     let o : Outside = outside (g.S.Shelf.file a.shelf.now) (g.S.Shelf.blames c.timed_of.new.shelf) in
     let P : Outcome → Type 0 = IsSequenceCheckOutcome o a.mix.now a.cert.now a.seq.now a.interval a.reach a.steps in
-    let q = err_from_is_err_and c.from_residual.result c.from_residual.ensures.1 in
-    subst (λ r. Ends o P after r) (sym q.1)
-    (subst (λ s. Ends o P after (Err s)) (sym q.2)
-    (stopped o P (IsUntimed o a.mix.now a.cert.now a.interval) after c.in_err-timed.field-0.0 (λ out x. inr (inl x))
-    (c.in_err-timed.ensures.files t) (c.in_err-timed.ensures.said t)))
+    early o P (IsUntimed o a.mix.now a.cert.now a.interval) after c.in_err-timed.field-0.0 c.from_residual.result
+    (λ out x. inr (inl x)) (c.in_err-timed.ensures.files t) (c.in_err-timed.ensures.said t) c.from_residual.ensures.1
 
 pub returns-in_err-proof-clause-ends : goal.returns-in_err-proof-clause-ends
 returns-in_err-proof-clause-ends g c = λ t.
@@ -32,10 +27,8 @@ returns-in_err-proof-clause-ends g c = λ t.
     let P : Outcome → Type 0 = IsSequenceCheckOutcome o a.mix.now a.cert.now a.seq.now a.interval a.reach a.steps in
     let timed = c.in_ok-timed.timed in
     let same = same_files mid files (c.in_ok-timed.ensures.files t) in
-    let q = err_from_is_err_and c.from_residual-in_err-proof.result c.from_residual-in_err-proof.ensures.1 in
-    subst (λ r. Ends o P after r) (sym q.1)
-    (subst (λ s. Ends o P after (Err s)) (sym q.2)
-    (stopped o P (IsNoSeqCert (outside mid blames) a.seq.now) after c.in_err-proof.field-0.0
+    early o P (IsNoSeqCert (outside mid blames) a.seq.now) after c.in_err-proof.field-0.0
+    c.from_residual-in_err-proof.result
     (λ out x.
     let F : Files → Type 0 = λ f. IsNoSeqCert (outside f blames) a.seq.now out in
     inr (inr (record {
@@ -44,4 +37,5 @@ returns-in_err-proof-clause-ends g c = λ t.
       timed = c.in_ok-timed.ensures.said t;
       unread = subst F same x;
     })))
-    (λ n. c.in_err-proof.ensures.files t n ∙ c.in_ok-timed.ensures.files t n) (c.in_err-proof.ensures.said t)))
+    (λ n. c.in_err-proof.ensures.files t n ∙ c.in_ok-timed.ensures.files t n) (c.in_err-proof.ensures.said t)
+    c.from_residual-in_err-proof.ensures.1

@@ -1,8 +1,6 @@
 use Rattle.std.proofs.Common.{◌≡◌, option_map, subst, sym, ap, inl, inr, refl, List, ℕ, Option, Some}
-use Rattle.std.specs.declared.result.Result.TheVariants.{Err}
-use Rattle.std.proofs.lemmas.Result.{err_from_is_err_and}
 use Rattle.command_outcome.specs.Outcome.{Files, Outside, Outcome, Ends, outside, outcome_of}
-use Rattle.command_outcome.proofs.OutcomeFacts.{stopped, ends_as}
+use Rattle.command_outcome.proofs.OutcomeFacts.{early, ends_as}
 use Rattle.sequence_command.specs.TimedMix.{IsUntimed}
 use Rattle.sequence_command.specs.Ordered.{IsReported, IsSequenceOutcome, page_of}
 use Rattle.sequence_command.proofs.sequence.sequence_report.Goals as goal
@@ -14,11 +12,8 @@ returns-in_err-timed-clause-ends g c = λ t.
     let after : Files = g.S.Shelf.file c.timed_of.new.shelf in
     let o : Outside = outside (g.S.Shelf.file a.shelf.now) (g.S.Shelf.blames c.timed_of.new.shelf) in
     let P : Outcome → Type 0 = IsSequenceOutcome o a.mix.now a.cert.now a.interval a.reach a.units name in
-    let q = err_from_is_err_and c.from_residual.result c.from_residual.ensures.1 in
-    subst (λ r. Ends o P after r) (sym q.1)
-    (subst (λ s. Ends o P after (Err s)) (sym q.2)
-    (stopped o P (IsUntimed o a.mix.now a.cert.now a.interval) after c.in_err-timed.field-0.0 (λ out x. inr x)
-    (c.in_err-timed.ensures.files t) (c.in_err-timed.ensures.said t)))
+    early o P (IsUntimed o a.mix.now a.cert.now a.interval) after c.in_err-timed.field-0.0 c.from_residual.result
+    (λ out x. inr x) (c.in_err-timed.ensures.files t) (c.in_err-timed.ensures.said t) c.from_residual.ensures.1
 
 pub returns-clause-ends : goal.returns-clause-ends
 returns-clause-ends g c = λ t.

@@ -1,4 +1,4 @@
-use Rattle.std.proofs.Common.{◌∙◌, sym, ap, subst}
+use Rattle.std.proofs.Common.{◌∙◌, ℕ, sym, ap, subst}
 use Rattle.line_rules.specs.declared.types.Balance.{Balance as Assignment}
 use Rattle.lemma_core.specs.Books.{MayBeBest}
 use Rattle.line_rules.specs.Entries.{IsDerived}
@@ -22,5 +22,6 @@ returns-clause-answer c =
       upper = book.state.best.stations;
       below = stopped.below;
       true_bounds = stopped_bounds c.args.kind c.args.inst.now c.args.cycle c.requires.stopped.0 c.requires.stopped.1 c.requires.stopped.2 c.args.lower book c.requires.stopped.3 c.tasks-tasks.ensures.line c.tasks-tasks.ensures.ranked derived best stopped;
-      shown = ap (told ends.Memory) (c.in_ok-text.ensures ∙ ap (λ (b : Assignment). cut_short_text c.args.lower b.stations) c.best.ensures.best);
+      shown = ap (told ends.Memory) (c.in_ok-text.ensures ∙ ap (λ (k : ℕ). cut_short_text k c.from-upper.result) c.from-lower.ensures
+          ∙ ap (cut_short_text c.args.lower) (c.from-upper.ensures ∙ ap (λ (b : Assignment). b.stations) c.best.ensures.best));
     })

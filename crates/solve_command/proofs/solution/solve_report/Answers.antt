@@ -1,13 +1,14 @@
-use Rattle.std.proofs.Common.{◌∙◌, IfOk, option_map, subst, sym, ap, inl, inr, List, ℕ, Option, Some, None}
-use Rattle.std.specs.declared.result.Result.TheVariants.{Err}
-use Rattle.std.proofs.lemmas.Result.{err_from_is_err_and}
-use Rattle.command_outcome.specs.Outcome.{Files, Outside, Outcome, Comes, Ends, outside}
-use Rattle.command_outcome.proofs.OutcomeFacts.{stopped, ends_as}
+use Rattle.std.proofs.Common.{◌≡◌, ◌∙◌, IfOk, option_map, subst, sym, ap, inl, inr, List, ℕ, Option, Some, None}
+use Rattle.line_rules.specs.declared.types.Certificate.{Certificate}
+use Rattle.command_outcome.specs.Outcome.{Files, Outside, Outcome, Comes, Ends, outcome_of, outside}
+use Rattle.command_outcome.specs.declared.report.Kept.TheVariants.{Line as Certified}
+use Rattle.command_outcome.specs.declared.report.Report.{Report}
+use Rattle.command_outcome.proofs.OutcomeFacts.{early, ends_as, handed_on}
 use Rattle.input_files.specs.Instance.{IsUnsaid}
-use Rattle.solve_command.specs.WarmStart.{IsUnwarmed}
-use Rattle.solve_command.specs.Solution.{IsSolution, IsCutShort, IsSolveOutcome}
-use Rattle.solve_command.specs.Promise.{IsPromised}
-use Rattle.solve_command.proofs.WrittenFacts.{promised, sayable, old_in, unwarmed_in}
+use Rattle.solve_command.specs.WarmStart.{Start, IsUnwarmed}
+use Rattle.solve_command.specs.Solution.{page_of, IsSolution, IsCutShort, IsSolveOutcome}
+use Rattle.solve_command.specs.Promise.{HasCertificate, IsPromised}
+use Rattle.solve_command.proofs.WrittenFacts.{in_file, sayable, old_in, unwarmed_in}
 use Rattle.solve_command.proofs.solution.solve_report.Goals as goal
 
 pub returns-in_err-timed-clause-ends : goal.returns-in_err-timed-clause-ends
@@ -19,10 +20,8 @@ returns-in_err-timed-clause-ends g c = λ t.
     let name : Option (List ℕ) = option_map (λ a. a.now) c.args.name in
     let P : Outcome → Type 0 = IsSolveOutcome o file apart warm c.args.limit c.args.word c.args.kind c.args.plan.now name in
     let after : Files = g.S.Shelf.file c.said_instance.new.shelf in
-    let q = err_from_is_err_and c.from_residual.result c.from_residual.ensures.1 in
-    subst (λ r. Ends o P after r) (sym q.1)
-    (subst (λ s. Ends o P after (Err s)) (sym q.2)
-    (stopped o P (IsUnsaid o file apart c.args.word) after c.in_err-timed.field-0.0 (λ out x. inr (inl x)) (c.in_err-timed.ensures.files t) (c.in_err-timed.ensures.said t)))
+    early o P (IsUnsaid o file apart c.args.word) after c.in_err-timed.field-0.0 c.from_residual.result (λ out x. inr (inl x))
+    (c.in_err-timed.ensures.files t) (c.in_err-timed.ensures.said t) c.from_residual.ensures.1
 
 pub returns-in_err-olds-clause-ends : goal.returns-in_err-olds-clause-ends
 returns-in_err-olds-clause-ends g c = λ t.
@@ -39,17 +38,15 @@ returns-in_err-olds-clause-ends g c = λ t.
     let cycle = c.in_ok-timed.timed.cycle in
     let P : Outcome → Type 0 = IsSolveOutcome o file apart warm c.args.limit c.args.word c.args.kind c.args.plan.now name in
     let Q : Outcome → Type 0 = IsUnwarmed (outside mid blames) warm c.args.kind line in
-    let q = err_from_is_err_and c.from_residual-in_err-olds.result c.from_residual-in_err-olds.ensures.1 in
-    subst (λ r. Ends o P after r) (sym q.1)
-    (subst (λ s. Ends o P after (Err s)) (sym q.2)
-    (stopped o P Q after c.in_err-olds.field-0.0
+    early o P Q after c.in_err-olds.field-0.0 c.from_residual-in_err-olds.result
     (λ out u. inr (inr (record {
       line = line;
       c = cycle;
       said = c.in_ok-timed.ensures.said t;
       unwarmed = unwarmed_in files mid blames warm c.args.kind line out (c.in_ok-timed.ensures.files t) u;
     })))
-    (λ x. c.in_err-olds.ensures.files t x ∙ c.in_ok-timed.ensures.files t x) (c.in_err-olds.ensures.said t)))
+    (λ x. c.in_err-olds.ensures.files t x ∙ c.in_ok-timed.ensures.files t x) (c.in_err-olds.ensures.said t)
+    c.from_residual-in_err-olds.ensures.1
 
 pub returns-in_err-report-clause-ends : goal.returns-in_err-report-clause-ends
 returns-in_err-report-clause-ends g c = λ t.
@@ -65,10 +62,7 @@ returns-in_err-report-clause-ends g c = λ t.
     let cycle = c.in_ok-timed.timed.cycle in
     let P : Outcome → Type 0 = IsSolveOutcome o file apart warm c.args.limit c.args.word c.args.kind c.args.plan.now name in
     let Q : Outcome → Type 0 = IsCutShort c.args.kind line cycle in
-    let q = err_from_is_err_and c.from_residual-in_err-report.result c.from_residual-in_err-report.ensures.1 in
-    subst (λ r. Ends o P after r) (sym q.1)
-    (subst (λ s. Ends o P after (Err s)) (sym q.2)
-    (stopped o P Q after c.in_err-report.field-0.0
+    early o P Q after c.in_err-report.field-0.0 c.from_residual-in_err-report.result
     (λ out u. inl (record {
       line = line;
       c = cycle;
@@ -78,7 +72,8 @@ returns-in_err-report-clause-ends g c = λ t.
           (c.in_ok-olds.ensures.said t);
       answer = inr u;
     }))
-    (λ x. c.in_ok-olds.ensures.files t x ∙ c.in_ok-timed.ensures.files t x) c.in_err-report.ensures.answer))
+    (λ x. c.in_ok-olds.ensures.files t x ∙ c.in_ok-timed.ensures.files t x) c.in_err-report.ensures.answer
+    c.from_residual-in_err-report.ensures.1
 
 pub returns-in-None-clause-ends : goal.returns-in-None-clause-ends
 returns-in-None-clause-ends g c = λ t.
@@ -129,7 +124,10 @@ returns-in-None-clause-promise g c = λ t.
 
 pub written-requires : goal.written-requires
 written-requires g c = record {
-  sayable = λ certificate kept. sayable c.args.kind c.in_ok-timed.timed.inst c.in_ok-timed.timed.cycle c.args.plan.now (record { olds = c.in_ok-olds.olds; seek = c.args.limit }) c.in_ok-report.report certificate kept c.in_ok-report.ensures.answer;
+  sayable = λ cert kept.
+      let start : Start = record { olds = c.in_ok-olds.olds; seek = c.args.limit } in
+      let found = in_file c.args.kind c.in_ok-timed.timed.inst c.in_ok-timed.timed.cycle c.args.plan.now start c.in-Some.name.now c.in_ok-report.report c.in_ok-report.ensures.answer in
+      sayable c.in_ok-report.report found.0 cert found.1 kept found.2;
 }
 
 pub returns-clause-ends : goal.returns-clause-ends
@@ -144,11 +142,14 @@ returns-clause-ends g c = λ t.
     let cycle = c.in_ok-timed.timed.cycle in
     let plan = c.args.plan.now in
     let name = Some c.in-Some.name.now in
+    let start : Start = record { olds = c.in_ok-olds.olds; seek = c.args.limit } in
+    let report = c.in_ok-report.report in
+    let found = in_file c.args.kind line cycle plan start c.in-Some.name.now report c.in_ok-report.ensures.answer in
     let E : Option (List ℕ) → Type 0 = λ n. Ends o (IsSolveOutcome o file apart warm c.args.limit c.args.word c.args.kind plan n) after c.written.result in
     subst E (sym (ap (option_map (λ a. a.now)) c.in-Some.is))
-    (ends_as o (IsSolution c.args.kind line cycle plan (record { olds = c.in_ok-olds.olds; seek = c.args.limit }) name) (IsSolveOutcome o file apart warm c.args.limit c.args.word c.args.kind plan name) after c.written.result
-    (λ out p. inl (record { line = line; c = cycle; said = c.in_ok-timed.ensures.said t; olds = c.in_ok-olds.olds; old = old_in files (g.S.Shelf.file c.said_instance.new.shelf) warm c.args.kind line c.in_ok-olds.olds (c.in_ok-timed.ensures.files t) (c.in_ok-olds.ensures.said t); answer = inl p }))
-    (c.written.ensures.ends t files (λ q. c.in_ok-olds.ensures.files t q ∙ c.in_ok-timed.ensures.files t q) c.args.kind line cycle plan (record { olds = c.in_ok-olds.olds; seek = c.args.limit }) c.in_ok-report.ensures.answer))
+    (ends_as o (λ out. out ≡ outcome_of report (page_of name found.0)) (IsSolveOutcome o file apart warm c.args.limit c.args.word c.args.kind plan name) after c.written.result
+    (λ out is. inl (record { line = line; c = cycle; said = c.in_ok-timed.ensures.said t; olds = c.in_ok-olds.olds; old = old_in files (g.S.Shelf.file c.said_instance.new.shelf) warm c.args.kind line c.in_ok-olds.olds (c.in_ok-timed.ensures.files t) (c.in_ok-olds.ensures.said t); answer = inl (subst (IsSolution c.args.kind line cycle plan start name) (sym is) found.3) }))
+    (c.written.ensures.ends t files (λ q. c.in_ok-olds.ensures.files t q ∙ c.in_ok-timed.ensures.files t q) found.0 found.1))
 
 pub returns-clause-unwritten : goal.returns-clause-unwritten
 returns-clause-unwritten g c = λ e. (c.in-Some.name.now, ap (option_map (λ a. a.now)) c.in-Some.is)
@@ -161,8 +162,19 @@ returns-clause-promise g c = λ t.
     let apart : Option (List ℕ) = option_map (λ a. a.now) c.args.apart in
     let warm : Option (List ℕ) = option_map (λ a. a.now) c.args.warm in
     let line = c.in_ok-timed.timed.inst in
-    let cycle = c.in_ok-timed.timed.cycle in
-    let plan = c.args.plan.now in
-    let R : Option (List ℕ) → Type 0 = λ n. IfOk c.written.result (λ r. IsPromised files after file apart warm c.args.limit c.args.word c.args.kind plan n r.status r.text.items r.kept) in
+    let shown = c.in_ok-report.ensures.shown in
+    let P : Option (List ℕ) → Report → Type 0 = λ n r. IsPromised files after file apart warm c.args.limit c.args.word c.args.kind c.args.plan.now n r.status r.text.items r.kept in
+    let Q : Report → Type 0 = λ r. (cert : Certificate) → r.kept ≡ Certified cert → HasCertificate (Some c.in-Some.name.now) after cert in
+    let R : Option (List ℕ) → Type 0 = λ n. IfOk c.written.result (P n) in
     subst R (sym (ap (option_map (λ a. a.now)) c.in-Some.is))
-    (promised files after file apart warm c.args.limit c.args.word c.args.kind plan c.in-Some.name.now line cycle c.in_ok-olds.olds c.in_ok-report.report c.written.result (c.in_ok-timed.ensures.said t) (old_in files (g.S.Shelf.file c.said_instance.new.shelf) warm c.args.kind line c.in_ok-olds.olds (c.in_ok-timed.ensures.files t) (c.in_ok-olds.ensures.said t)) c.in_ok-report.ensures.shown c.written.ensures.same (c.written.ensures.certificate t))
+    (handed_on (P (Some c.in-Some.name.now)) Q c.in_ok-report.report c.written.result
+    (λ written. record {
+      line = line;
+      c = c.in_ok-timed.timed.cycle;
+      said = c.in_ok-timed.ensures.said t;
+      olds = c.in_ok-olds.olds;
+      old = old_in files (g.S.Shelf.file c.said_instance.new.shelf) warm c.args.kind line c.in_ok-olds.olds (c.in_ok-timed.ensures.files t) (c.in_ok-olds.ensures.said t);
+      shown = shown;
+      written = written shown.certificate shown.keeps;
+    })
+    c.written.ensures.same (c.written.ensures.certificate t))

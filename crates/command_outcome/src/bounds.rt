@@ -1,0 +1,34 @@
+//! The bounds of a search, as every command prints them, and the report of a search that memory ended: its memory is taken
+//! before the search, so that the report costs none.
+ghost use Rattle.std.specs.Prelude.{◌≡◌, ◌++◌, string_bytes, OnOk, IfOk, []};
+ghost use Rattle.command_outcome.specs.Bounds.{bounds_line, cut_short_text};
+
+use std::alloc::{AllocError, Global};
+
+/// More bytes than the report of a search that memory ended can have.
+const CUT_SHORT_ROOM: usize = 128;
+
+/// The line with both bounds.
+pub fn push_bounds(text: &mut String, lower: u128, upper: u128) -> Result<(), AllocError>
+    ensures { OnOk result (string_bytes text.new ≡ string_bytes text.old ++ bounds_line lower upper) }
+{
+    write!(text, "bounds {lower} {upper}\n")
+}
+
+/// Memory for the report of a search that memory ends, taken before the search.
+pub fn room_for_bounds(alloc: Global) -> Result<String, AllocError>
+    ensures { IfOk result (λ s. string_bytes s ≡ []) }
+{
+    String::with_capacity(alloc, CUT_SHORT_ROOM)
+}
+
+/// The report of a search that memory ended, in memory that was taken before.
+pub fn cut_short_text(room: String, lower: u128, upper: u128) -> Result<Vec<u8>, AllocError>
+    requires { string_bytes room ≡ [] }
+    ensures { IfOk result (λ t. t.items ≡ cut_short_text lower upper) }
+{
+    let mut text = room;
+    text.push_str("stopped by memory\n")?;
+    push_bounds(&mut text, lower, upper)?;
+    Ok(text.into_bytes())
+}
