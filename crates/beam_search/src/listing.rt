@@ -65,8 +65,11 @@ impl Listing {
 
     /// The first of these places at which no task is apart from the load.
     fn first_of(&self, line: &Placed, places: &TaskSet) -> Option<u32> {
+        if !line.has_apart() {
+            return places.least();
+        }
         for place in places.iter() {
-            if line.apart(place).meet(&self.load).is_empty() {
+            if line.may_join(place, &self.load) {
                 return Some(place);
             }
         }

@@ -20,6 +20,8 @@ pub(crate) struct Placed {
     after: Vec<TaskSet>,
     /// The places apart from it.
     apart: Vec<TaskSet>,
+    /// Whether some tasks are apart.
+    has_apart: bool,
 }
 
 /// The tasks of a line in the order of their places.
@@ -56,6 +58,15 @@ fn set_at(sets: &[TaskSet], place: u32) -> TaskSet {
     }
 }
 
+/// Whether no place of a set is in the one at a place.
+#[inline]
+fn is_disjoint(sets: &[TaskSet], place: u32, other: &TaskSet) -> bool {
+    match sets.get(place as usize) {
+        Some(set) => set.meet(other).is_empty(),
+        None => true,
+    }
+}
+
 impl Placed {
     /// The line by places.
     pub fn of(alloc: Global, inst: &Instance) -> Result<Placed, AllocError> {
@@ -64,11 +75,13 @@ impl Placed {
         let mut before = Vec::with_capacity(alloc, tasks.len())?;
         let mut after = Vec::with_capacity(alloc, tasks.len())?;
         let mut apart = Vec::with_capacity(alloc, tasks.len())?;
+        let mut has_apart = false;
         for task in &tasks {
             if *task < inst.tasks() {
                 times.push(inst.time(*task))?;
                 before.push(places_of(&tasks, inst.before(*task)))?;
                 after.push(places_of(&tasks, inst.after(*task)))?;
+                has_apart |= !inst.apart(*task).is_empty();
                 apart.push(places_of(&tasks, inst.apart(*task)))?;
             }
         }
@@ -78,6 +91,7 @@ impl Placed {
             before,
             after,
             apart,
+            has_apart,
         })
     }
 
@@ -109,9 +123,14 @@ impl Placed {
         set_at(&self.before, place)
     }
 
-    /// The places of the tasks apart from that at a place.
-    pub fn apart(&self, place: u32) -> TaskSet {
-        set_at(&self.apart, place)
+    /// Whether some tasks of the line are apart.
+    pub fn has_apart(&self) -> bool {
+        self.has_apart
+    }
+
+    /// Whether the task at a place may share a station with all of a load.
+    pub fn may_join(&self, place: u32, load: &TaskSet) -> bool {
+        is_disjoint(&self.apart, place, load)
     }
 
     /// The places that may become ready in a mode where the task at a place is taken away.
@@ -126,23 +145,20 @@ impl Placed {
     /// Whether the task at a place may be the next of those outside a load, in a mode: none of them is before it, none is
     /// after it, or one of the two.
     pub fn is_ready(&self, place: u32, mode: Mode, outside: &TaskSet) -> bool {
-        let is_first = set_at(&self.before, place).meet(outside).is_empty();
-        let is_last = set_at(&self.after, place).meet(outside).is_empty();
         match mode {
-            Mode::Fore => is_first,
-            Mode::Back => is_last,
-            Mode::Both => is_first || is_last,
+            Mode::Fore => is_disjoint(&self.before, place, outside),
+            Mode::Back => is_disjoint(&self.after, place, outside),
+            Mode::Both => {
+                is_disjoint(&self.before, place, outside)
+                    || is_disjoint(&self.after, place, outside)
+            }
         }
     }
 
     /// The places whose tasks take longer than so much: all in front of the first one that doesn't.
     pub fn longer_than(&self, left: u64) -> TaskSet {
-        for (place, time) in self.times.iter().enumerate() {
-            if *time <= left {
-                return TaskSet::full_to(place.min(1024) as u32);
-            }
-        }
-        self.all()
+        let first = self.times.partition_point(|time: &u64| *time > left);
+        TaskSet::full_to(first.min(1024) as u32)
     }
 
     /// The tasks at these places.
