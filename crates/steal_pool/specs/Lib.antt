@@ -1,0 +1,4 @@
+pub mod Deques
+pub mod Steps
+pub mod Hands
+pub mod Inside
