@@ -1,3 +1,4 @@
 pub mod Sums
 pub mod Dealing
 pub mod Tallying
+pub mod Ports

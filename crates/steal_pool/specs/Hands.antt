@@ -1,26 +1,108 @@
 -- What contracts see of a pool and of its hands. Own.
-use Rattle.std.specs.Prelude.{◌≡◌, ℕ, ◌≤◌, List, [], ◌∷◌, ◌++◌, length}
+use Rattle.std.specs.Prelude.{◌≡◌, ℕ, suc, ◌+◌, ◌-◌, ◌*◌, ◌^◌, ◌<◌, ◌≤◌, Bool, true, false, List, [], ◌∷◌, ◌++◌, length, map, slice_get, Some}
 use Rattle.std.specs.declared.alloc.Global.{Global}
 use Rattle.atomic_table.specs.Seated.{TableId}
 use Rattle.steal_pool.specs.declared.piece.Piece.{Piece}
 use Rattle.steal_pool.specs.Deques.{Log, Tally}
-use Rattle.steal_pool.specs.Steps.{taken, reports, found_empty}
+use Rattle.steal_pool.specs.Steps.{pushed, taken, log_left, log_both, announced, reports, found_empty, tally_left, tally_both}
 
 -- which deque it is: the one that has the pieces, and its tally
 pub record DequeId : Type 0 where
   pub pieces : (ℕ × ℕ) × Global
   pub tally : TableId
 
--- what a hand knows of one deque
+-- what a hand knows of one deque, or what its owner knows
 pub record PortView : Type 0 where
   pub deque : DequeId
   pub log : Log
   pub tally : Tally
 
+-- the owner at the start, with so many parts
+abbrev pub home_with : ℕ → DequeId → PortView
+home_with n d = record {
+  deque = d;
+  log = record { parts = n; own = []; got = [] };
+  tally = record { parts = n; boss = true; put = 0; gone = 0; found = 0; mark = false };
+}
+
+-- a part goes to a hand, which knows nothing of the deque yet
+abbrev pub left_home : PortView → PortView
+left_home p = record { deque = p.deque; log = log_left p.log; tally = tally_left p.tally }
+
+abbrev pub fresh_port : DequeId → PortView
+fresh_port d = record {
+  deque = d;
+  log = record { parts = 1; own = []; got = [] };
+  tally = record { parts = 1; boss = false; put = 0; gone = 0; found = 0; mark = false };
+}
+
+-- the owner put a piece
+abbrev pub put_home : PortView → Piece → PortView
+put_home p x = record { deque = p.deque; log = pushed p.log (x ∷ []); tally = announced p.tally }
+
 -- a piece was taken from the deque
-abbrev pub took_port : PortView → Piece → PortView
-took_port p x = record { deque = p.deque; log = taken p.log (x ∷ []); tally = reports p.tally }
+abbrev pub took_port : Piece → PortView → PortView
+took_port x p = record { deque = p.deque; log = taken p.log (x ∷ []); tally = reports p.tally }
 
 -- the deque was found empty
 abbrev pub looked_port : PortView → PortView
 looked_port p = record { deque = p.deque; log = p.log; tally = found_empty p.tally }
+
+-- the owner has what a hand knew
+abbrev pub joined : PortView → PortView → PortView
+joined p q = record { deque = p.deque; log = log_both p.log q.log; tally = tally_both p.tally q.tally }
+
+-- A hand: its number in the pool, from 0; how many pieces were dealt to it; what it knows as an owner; and what it knows
+-- of each deque of the pool, in order.
+pub record HandView : Type 0 where
+  pub name : ℕ
+  pub count : ℕ
+  pub home : PortView
+  pub ports : List PortView
+
+-- the pieces that were dealt to it or put by it, in order
+abbrev pub own_of : HandView → List Piece
+own_of v = v.home.log.own
+
+-- for each deque, in order, the pieces that it took from there
+abbrev pub tooks : HandView → List (List Piece)
+tooks v = map (λ (p : PortView). p.log.got) v.ports
+
+-- for each deque, in order, how often it found it empty
+abbrev pub founds : HandView → List ℕ
+founds v = map (λ (p : PortView). p.tally.found) v.ports
+
+-- whether its mark stands: it found its own deque empty and has put nothing since
+abbrev pub mark_of : HandView → Bool
+mark_of v = v.home.tally.mark
+
+-- its next number: its number in the pool, from 1, times 2^32, and how often it has put
+abbrev pub next_number : HandView → ℕ
+next_number v = (v.name + 1) * 2 ^ 32 + (length (own_of v) - v.count)
+
+-- the numbers of the pieces rise, from `low` on and below `high`
+abbrev pub Rise : ℕ → List Piece → ℕ → Type 0
+Rise low [] high = low ≤ high
+Rise low (x ∷ xs) high = (low ≤ x.number) × Rise (suc x.number) xs high
+
+-- a port is of this deque, and has a part
+abbrev pub standing : PortView → DequeId × ℕ × ℕ
+standing p = (p.deque, p.log.parts, p.tally.parts)
+
+abbrev pub at_deque : DequeId → DequeId × ℕ × ℕ
+at_deque d = (d, 1, 1)
+
+-- The hand is one of the pool's, with a port for each deque: it owns the deque of its number, has at most 4,096 pieces
+-- of its own, and their numbers rise.
+pub record IsHandOf (pool : List DequeId) (v : HandView) : Type 0 where
+  pub ports : map standing v.ports ≡ map at_deque pool
+  pub few : length pool ≤ 64
+  pub below : v.name < length pool
+  pub deque : slice_get pool v.name ≡ Some v.home.deque
+  pub count : v.count ≤ length (own_of v)
+  pub most : length (own_of v) ≤ 4096
+  pub boss : v.home.tally.boss ≡ true
+  pub put : v.home.tally.put ≡ length (own_of v)
+  pub parts : (v.home.log.parts ≡ 1024 - length pool) × (v.home.tally.parts ≡ 1024 - length pool)
+  pub none : (v.home.log.got ≡ []) × (v.home.tally.gone ≡ 0)
+  pub numbers : Rise 0 (own_of v) (next_number v)

@@ -2,3 +2,5 @@ pub mod Deques
 pub mod Steps
 pub mod Hands
 pub mod Inside
+pub mod Calls
+pub mod Lending

@@ -1,14 +1,12 @@
-//! A deque of a pool, with the tally beside it.
+//! The steps on a deque and on its tally.
 ghost use Rattle.std.specs.Prelude.{◌≡◌, ℕ, ◌+◌, ◌-◌, ◌^◌, ◌<◌, ◌≤◌, true, List, [], ◌∷◌, length, IfOk, IfSome, IfNone, MatchBool};
-ghost use Rattle.crossbeam_deque.specs.Handles.{worker_deque, worker_view};
 ghost use Rattle.steal_pool.specs.declared.piece.Piece.{Piece};
-ghost use Rattle.steal_pool.specs.Steps.{first_tally, announced, log_left, log_right, log_both, tally_left, tally_right, tally_both, IsWhole, IsSettled};
-ghost use Rattle.steal_pool.specs.Hands.{looked_port, took_port};
-ghost use Rattle.steal_pool.specs.Inside.{HasRoom};
+ghost use Rattle.steal_pool.specs.Steps.{IsWhole, IsSettled};
+ghost use Rattle.steal_pool.specs.Hands.{home_with, left_home, fresh_port, put_home, looked_port, took_port, joined};
 
 use crate::piece::Piece;
-use crate::port::{Deque, Owner, Port, Room, Sitter};
-use crate::rules::{Announce, Cut, Halve, Look, Report, Settle, Taken, Total};
+use crate::port::{Deque, Home, Owner, Port, Room};
+use crate::rules::{Announce, Cut, Halve, Look, Pushed, Report, Settle, Taken, Total};
 use crossbeam_deque::Steal;
 use std::alloc::{AllocError, Global};
 use std::sync::Wait;
@@ -20,63 +18,69 @@ pub const MOST_PIECES: usize = 4096;
 /// The only word of a tally.
 const LEFT: usize = 0;
 
-/// A deque with room for 4,096 pieces: its worker, what all hands share of it, and the first seat at its tally.
-pub fn open(alloc: Global) -> Result<(Owner, Deque, Sitter), AllocError>
-    ensures { IfOk result (λ r. HasRoom r.0 × (worker_deque r.0 ≡ r.1.pieces) × (worker_view r.0 ≡ record { parts = 1024; own = []; got = [] }) × (r.2.table_id ≡ r.1.tally) × (r.2.me ≡ (first_tally, []))) }
+/// A deque with room for 4,096 pieces, and what its owner has of it.
+pub fn open(alloc: Global) -> Result<(Deque, Home), AllocError>
+    ensures { IfOk result (λ r. r.1 ≡ home_with 1024 r.0) }
 {
     let worker = Owner::fifo_as(alloc, MOST_PIECES)?;
     let thief = worker.stealer()?;
     let (tally, seat) = Room::of_words(alloc, &[0], &())?;
-    Ok((worker, Deque { thief, tally }, seat))
+    Ok((Deque { thief, tally }, Home { worker, seat }))
 }
 
 impl Deque {
-    /// A further port, with a part of the worker's pass and one of the seat.
-    pub fn port(&self, worker: &mut Owner, seat: &mut Sitter) -> Port
-        requires room { HasRoom worker.old }
-        requires worker { (worker_deque worker.old ≡ self.now.pieces) × (1 < (worker_view worker.old).parts) }
-        requires seat { (seat.old.table_id ≡ self.now.tally) × (1 < seat.old.me.0.parts) }
-        ensures room { HasRoom worker.new }
-        ensures worker { (worker_deque worker.new ≡ worker_deque worker.old) × (worker_view worker.new ≡ log_left (worker_view worker.old)) }
-        ensures seat { (seat.new.table_id ≡ seat.old.table_id) × (seat.new.me ≡ (tally_left seat.old.me.0, seat.old.me.1)) }
-        ensures port { result ≡ record { deque = self.now; log = log_right (worker_view worker.old); tally = tally_right seat.old.me.0 } }
+    /// A port for a hand, with a part of what the owner has.
+    pub fn port(&self, home: &mut Home) -> Port
+        requires deque { home.old.deque ≡ self.now }
+        requires parts { (1 < home.old.log.parts) × (1 < home.old.tally.parts) }
+        ensures home { home.new ≡ left_home home.old }
+        ensures port { result ≡ fresh_port self.now }
     {
-        let pass = worker.another::<Cut>();
-        let seat = self.tally.shared.split_seat::<Halve>(seat);
+        let pass = home.worker.another::<Cut>();
+        let seat = self.tally.shared.split_seat::<Halve>(&mut home.seat);
         Port { pass, seat }
     }
 
-    /// Ends a port: the worker has then what it took, and the seat what it reported.
-    pub fn join(&self, worker: &mut Owner, seat: &mut Sitter, port: Port)
-        requires room { HasRoom worker.old }
-        requires worker { (worker_deque worker.old ≡ self.now.pieces) × (0 < (worker_view worker.old).parts) }
-        requires seat { (seat.old.table_id ≡ self.now.tally) × (0 < seat.old.me.0.parts) }
-        requires port { port.deque ≡ self.now }
-        ensures room { HasRoom worker.new }
-        ensures worker { (worker_deque worker.new ≡ worker_deque worker.old) × (worker_view worker.new ≡ log_both (worker_view worker.old) port.log) }
-        ensures seat { (seat.new.table_id ≡ seat.old.table_id) × (seat.new.me ≡ (tally_both seat.old.me.0 port.tally, seat.old.me.1)) }
+    /// Ends a port: the owner has then what it took and reported.
+    pub fn join(&self, home: &mut Home, port: Port)
+        requires deque { (home.old.deque ≡ self.now) × (port.deque ≡ self.now) }
+        requires parts { (0 < home.old.log.parts) × (0 < home.old.tally.parts) }
+        ensures home { home.new ≡ joined home.old port }
         ensures gone { port.tally.gone ≡ length port.log.got }
     {
-        let Port { pass, seat: other } = port;
-        worker.absorb::<Cut>(pass);
-        self.tally.shared.join_seat::<Halve>(seat, other);
+        let Port { pass, seat } = port;
+        home.worker.absorb::<Cut>(pass);
+        self.tally.shared.join_seat::<Halve>(&mut home.seat, seat);
     }
 
-    /// Says that the owner will put a piece.
-    pub fn announce(&self, port: &mut Port)
-        requires port { port.old.deque ≡ self.now }
-        requires boss { (port.old.tally.boss ≡ true) × (0 < port.old.tally.parts) }
-        requires few { port.old.tally.put + 1 < 2 ^ 64 }
-        ensures { port.new ≡ record { deque = port.old.deque; log = port.old.log; tally = announced port.old.tally } }
+    /// Puts a piece. There is room for it.
+    pub fn put(&self, home: &mut Home, piece: Piece)
+        requires deque { home.old.deque ≡ self.now }
+        requires boss { (home.old.tally.boss ≡ true) × (home.old.tally.put ≡ length home.old.log.own) }
+        requires parts { (0 < home.old.log.parts) × (0 < home.old.tally.parts) }
+        requires room { length home.old.log.own < 4096 }
+        ensures { home.new ≡ put_home home.old piece }
     {
         self.tally
             .shared
-            .fetch_add::<Announce>(&mut port.seat, LEFT, 1);
+            .fetch_add::<Announce>(&mut home.seat, LEFT, 1);
+        match home.worker.push_as::<Pushed>(piece) {
+            Ok(()) => {}
+            Err(_) => unreachable!(),
+        }
+    }
+
+    /// Whether all pieces that were put are taken: the owner's look.
+    pub fn is_done(&self, home: &mut Home) -> bool
+        requires { home.old.deque ≡ self.now }
+        ensures { MatchBool result (home.new ≡ looked_port home.old) (home.new ≡ home.old) }
+    {
+        self.tally.shared.load::<Look>(&mut home.seat, LEFT) == 0
     }
 
     /// Whether all pieces that were put are taken.
     pub fn is_empty(&self, port: &mut Port) -> bool
-        requires port { port.old.deque ≡ self.now }
+        requires { port.old.deque ≡ self.now }
         ensures { MatchBool result (port.new ≡ looked_port port.old) (port.new ≡ port.old) }
     {
         self.tally.shared.load::<Look>(&mut port.seat, LEFT) == 0
@@ -85,7 +89,7 @@ impl Deque {
     /// Takes the first piece, where no other hand's step wins.
     pub fn try_take(&self, port: &mut Port) -> Option<Piece>
         requires port { (port.old.deque ≡ self.now) × (0 < port.old.log.parts) × (0 < port.old.tally.parts) }
-        ensures some { IfSome result (λ x. port.new ≡ took_port port.old x) }
+        ensures some { IfSome result (λ x. port.new ≡ took_port x port.old) }
         ensures none { IfNone result (port.new ≡ port.old) }
     {
         match self.thief.steal_as::<Taken>(&mut port.pass) {
@@ -100,11 +104,31 @@ impl Deque {
         }
     }
 
+    /// Takes the first piece for the owner. None says that at a moment of this call all that were put were taken: the mark
+    /// is set then. While another hand's step wins it tries again.
+    pub fn take_own<R: Wait>(&self, rt: &R, home: &mut Home, port: &mut Port) -> Option<Piece>
+        requires home { home.old.deque ≡ self.now }
+        requires port { (port.old.deque ≡ self.now) × (0 < port.old.log.parts) × (0 < port.old.tally.parts) }
+        ensures some { IfSome result (λ x. (home.new ≡ home.old) × (port.new ≡ took_port x port.old)) }
+        ensures none { IfNone result ((home.new ≡ looked_port home.old) × (port.new ≡ port.old)) }
+    {
+        for _ in rt.forever() {
+            if self.is_done(home) {
+                return None;
+            }
+            match self.try_take(port) {
+                Some(piece) => return Some(piece),
+                None => thread::yield_now(),
+            }
+        }
+        unreachable!()
+    }
+
     /// Takes the first piece. None says that at a moment of this call all that were put were taken; while another hand's
     /// step wins it tries again.
     pub fn take<R: Wait>(&self, rt: &R, port: &mut Port) -> Option<Piece>
         requires port { (port.old.deque ≡ self.now) × (0 < port.old.log.parts) × (0 < port.old.tally.parts) }
-        ensures some { IfSome result (λ x. port.new ≡ took_port port.old x) }
+        ensures some { IfSome result (λ x. port.new ≡ took_port x port.old) }
         ensures none { IfNone result (port.new ≡ looked_port port.old) }
     {
         for _ in rt.forever() {
@@ -120,13 +144,14 @@ impl Deque {
     }
 
     /// How many pieces are left, once all ports are joined.
-    pub fn left(&self, mut worker: Owner, mut seat: Sitter) -> usize
-        requires worker { (worker_view worker).parts ≡ 1024 }
-        requires seat { (seat.table_id ≡ self.now.tally) × (seat.me.1 ≡ []) }
-        ensures left { (items : List Piece) × (length items ≡ result) × IsWhole (worker_view worker) items }
-        ensures settled { IsSettled seat.me.0 }
+    pub fn left(&self, home: &mut Home) -> u64
+        requires deque { home.old.deque ≡ self.now }
+        requires parts { (home.old.log.parts ≡ 1024) × (home.old.tally.parts ≡ 1024) }
+        ensures same { home.new ≡ home.old }
+        ensures left { (items : List Piece) × (length items ≡ result) × IsWhole home.old.log items }
+        ensures mark { home.old.tally.mark ≡ true → home.old.tally.put ≤ home.old.tally.gone }
     {
-        self.tally.shared.load::<Settle>(&mut seat, LEFT);
-        worker.len_as::<Total>()
+        self.tally.shared.load::<Settle>(&mut home.seat, LEFT);
+        home.worker.len_as::<Total>() as u64
     }
 }

@@ -1,4 +1,5 @@
-//! What all hands share of a deque, and what a hand has for each deque: a pass of the deque and a seat at its tally.
+//! What all hands share of a deque; what its owner has of it, a worker and a seat at its tally; and what each hand has of
+//! it, a pass and a seat.
 use crate::piece::Piece;
 use crate::rules::{Counting, Dealing};
 use crate::views::{LogView, TallyView};
@@ -34,6 +35,25 @@ impl Model for Deque {
     ghost view = { λ d. record { pieces = stealer_deque d.thief; tally = d.tally.shared.table_id } };
 
     ghost invariant = { λ d. (stealer_flavor d.thief ≡ 0) × (d.tally.shared.table_id.words ≡ 1) };
+}
+
+/// What the owner has of its deque. Contracts see what it knows.
+#[derive(Drop)]
+pub struct Home {
+    pub worker: Owner,
+    pub seat: Sitter,
+}
+
+impl Model for Home {
+    ghost use Rattle.crossbeam_deque.specs.Handles.{worker_deque, worker_view};
+    ghost use Rattle.steal_pool.specs.Hands.{DequeId, PortView};
+    ghost use Rattle.steal_pool.specs.Inside.{HasRoom};
+
+    ghost Value = { PortView };
+
+    ghost view = { λ h. record { deque = record { pieces = worker_deque h.worker; tally = h.seat.table_id }; log = worker_view h.worker; tally = h.seat.me.0 } };
+
+    ghost invariant = { λ h. HasRoom h.worker h.seat.me };
 }
 
 /// What a hand has of a deque. It has no bytes. Contracts see what it knows.

@@ -1,0 +1,134 @@
+-- The ports of a hand, of which one changes.
+use Rattle.std.proofs.Common.{◌≡◌, ℕ, zero, suc, ◌+◌, ◌-◌, ◌*◌, ◌^◌, ◌<◌, ◌≤◌, true, List, [], ◌∷◌, ◌++◌, length, map, get_or, set, refl, sym, ap, ◌∙◌, subst, inl, inr, arith, length-append, Option, Some, None, IfSome, IfNone}
+use Rattle.std.specs.Prelude.{slice_get}
+use Rattle.std.proofs.lemmas.List.{get_or-map, length-map, set-get_or}
+use Rattle.std.proofs.lemmas.Option.{slice_get-get_or, same_Some}
+use Rattle.steal_pool.specs.declared.piece.Piece.{Piece}
+use Rattle.steal_pool.specs.Hands.{DequeId, PortView, HandView, own_of, next_number, Rise, standing, at_deque, IsHandOf, took_port, looked_port, put_home}
+use Rattle.steal_pool.specs.Calls.{change, looked_below, took_from, found_at, looked_before, found_all}
+
+pub change_at : {A : Type 0} (f : A → A) (l : List A) (k : ℕ) (x : A) → k < length l → x ≡ get_or l k x → set l k (f x) ≡ change f k l
+change_at f [] k x b e = refl
+change_at f (y ∷ ys) zero x b e = ap (λ z. f z ∷ ys) e
+change_at f (y ∷ ys) (suc k) x b e = ap (λ z. y ∷ z) (change_at f ys k x (omega arith) e)
+
+-- where the function keeps what g tells, so does the change
+pub map_change : {A B : Type 0} (g : A → B) (f : A → A) → ((x : A) → g (f x) ≡ g x) → (k : ℕ) (l : List A) → map g (change f k l) ≡ map g l
+map_change g f same k [] = refl
+map_change g f same zero (x ∷ xs) = ap (λ y. y ∷ map g xs) (same x)
+map_change g f same (suc k) (x ∷ xs) = ap (λ y. g x ∷ y) (map_change g f same k xs)
+
+pub map_looked : (k : ℕ) (ps : List PortView) → map standing (looked_below k ps) ≡ map standing ps
+map_looked zero ps = refl
+map_looked (suc k) [] = refl
+map_looked (suc k) (p ∷ ps) = ap (λ y. standing p ∷ y) (map_looked k ps)
+
+pub looked_next : (k : ℕ) (ps : List PortView) → change looked_port k (looked_below k ps) ≡ looked_below (suc k) ps
+looked_next zero [] = refl
+looked_next zero (p ∷ ps) = refl
+looked_next (suc k) [] = refl
+looked_next (suc k) (p ∷ ps) = ap (λ y. looked_port p ∷ y) (looked_next k ps)
+
+pub looked_all : (ps : List PortView) → looked_below (length ps) ps ≡ map looked_port ps
+looked_all [] = refl
+looked_all (p ∷ ps) = ap (λ y. looked_port p ∷ y) (looked_all ps)
+
+-- a port of a hand at its deque
+pub standing_at : (ps : List PortView) (ds : List DequeId) (k : ℕ) (p : PortView) (d : DequeId) → map standing ps ≡ map at_deque ds → k < length ds
+    → p ≡ get_or ps k p → d ≡ get_or ds k d → standing p ≡ at_deque d
+standing_at ps ds k p d e b at at' =
+    let n : length ps ≡ length ds = sym (length-map ps standing) ∙ ap (λ l. length l) e ∙ length-map ds at_deque in
+    ap standing at ∙ sym (get_or-map standing ps k p (at_deque d) (omega arith)) ∙ ap (λ l. get_or l k (at_deque d)) e ∙ get_or-map at_deque ds k d (at_deque d) b ∙ ap at_deque (sym at')
+
+-- so a hand may take from it
+pub may_take : (p : PortView) (d : DequeId) → standing p ≡ at_deque d → (p.deque ≡ d) × (0 < p.log.parts) × (0 < p.tally.parts)
+may_take p d e =
+    let a : p.log.parts ≡ 1 = ap (λ (x : DequeId × ℕ × ℕ). x.1) e in
+    let b : p.tally.parts ≡ 1 = ap (λ (x : DequeId × ℕ × ℕ). x.2) e in
+    (ap (λ (x : DequeId × ℕ × ℕ). x.0) e, omega arith, omega arith)
+
+pub as_many : (ps : List PortView) (ds : List DequeId) → map standing ps ≡ map at_deque ds → length ps ≡ length ds
+as_many ps ds e = sym (length-map ps standing) ∙ ap (λ l. length l) e ∙ length-map ds at_deque
+
+pub rise_more : (low a b : ℕ) (xs : List Piece) → a ≤ b → Rise low xs a → Rise low xs b
+rise_more low a b [] l r = omega arith
+rise_more low a b (x ∷ xs) l r = (r.0, rise_more (suc x.number) a b xs l r.1)
+
+pub rise_push : (low high : ℕ) (xs : List Piece) (x : Piece) → Rise low xs high → high ≤ x.number → Rise low (xs ++ x ∷ []) (suc x.number)
+rise_push low high [] x r l = (omega arith, omega arith)
+rise_push low high (y ∷ ys) x r l = (r.0, rise_push (suc y.number) high ys x r.1 l)
+
+pub takes_one : (pool : List DequeId) (v : HandView) (k : ℕ) (x : Piece) → IsHandOf pool v → IsHandOf pool (took_from k x v)
+takes_one pool v k x h = record {
+  ports = map_change standing (took_port x) (λ p. refl) k v.ports ∙ h.ports;
+  few = h.few;
+  below = h.below;
+  deque = h.deque;
+  count = h.count;
+  most = h.most;
+  boss = h.boss;
+  put = h.put;
+  parts = h.parts;
+  none = h.none;
+  numbers = h.numbers;
+}
+
+pub looks_before : (pool : List DequeId) (v : HandView) (k : ℕ) → IsHandOf pool v → IsHandOf pool (looked_before k v)
+looks_before pool v k h = record {
+  ports = map_looked k v.ports ∙ h.ports;
+  few = h.few;
+  below = h.below;
+  deque = h.deque;
+  count = h.count;
+  most = h.most;
+  boss = h.boss;
+  put = h.put;
+  parts = h.parts;
+  none = h.none;
+  numbers = h.numbers;
+}
+
+pub puts_one : (pool : List DequeId) (v : HandView) (x : Piece) → IsHandOf pool v → length (own_of v) < 4096 → x.number ≡ next_number v → IsHandOf pool (record v { home = put_home v.home x })
+puts_one pool v x h room e =
+    let n : length (own_of v ++ x ∷ []) ≡ length (own_of v) + 1 = length-append (own_of v) (x ∷ []) in
+    let c = h.count in record {
+      ports = h.ports;
+      few = h.few;
+      below = h.below;
+      deque = h.deque;
+      count = omega arith;
+      most = omega arith;
+      boss = h.boss;
+      put = omega (arith, h.put);
+      parts = h.parts;
+      none = h.none;
+      numbers = subst (λ (z : ℕ). Rise 0 (own_of v ++ x ∷ []) z) (omega arith) (rise_push 0 (next_number v) (own_of v) x h.numbers (omega arith));
+    }
+
+-- what a call on one port does to all
+pub some_at : (r : Option Piece) (ps : List PortView) (k : ℕ) (p q : PortView) → k < length ps → p ≡ get_or ps k p → IfSome r (λ x. q ≡ took_port x p) → IfSome r (λ x. set ps k q ≡ change (took_port x) k ps)
+some_at (Some x) ps k p q b at e = ap (λ z. set ps k z) e ∙ change_at (took_port x) ps k p b at
+some_at None ps k p q b at e = tt
+
+pub none_at : (r : Option Piece) (ps : List PortView) (k : ℕ) (p q : PortView) → k < length ps → p ≡ get_or ps k p → IfNone r (q ≡ looked_port p) → IfNone r (set ps k q ≡ change looked_port k ps)
+none_at (Some x) ps k p q b at e = tt
+none_at None ps k p q b at e = ap (λ z. set ps k z) e ∙ change_at looked_port ps k p b at
+
+pub some_home : (r : Option Piece) (h h' : PortView) (ps : List PortView) (k : ℕ) (p q : PortView) → k < length ps → p ≡ get_or ps k p → IfSome r (λ x. (h' ≡ h) × (q ≡ took_port x p))
+    → IfSome r (λ x. (h' ≡ h) × (set ps k q ≡ change (took_port x) k ps))
+some_home (Some x) h h' ps k p q b at e = (e.0, ap (λ z. set ps k z) e.1 ∙ change_at (took_port x) ps k p b at)
+some_home None h h' ps k p q b at e = tt
+
+pub none_home : (r : Option Piece) (h h' : PortView) (ps : List PortView) (k : ℕ) (p q : PortView) → k < length ps → p ≡ get_or ps k p → IfNone r ((h' ≡ looked_port h) × (q ≡ p))
+    → IfNone r ((h' ≡ looked_port h) × (set ps k q ≡ ps))
+none_home (Some x) h h' ps k p q b at e = tt
+none_home None h h' ps k p q b at e = (e.0, ap (λ z. set ps k z) (e.1 ∙ at) ∙ set-get_or ps k p)
+
+pub home_at : (ds : List DequeId) (k : ℕ) (d e : DequeId) → k < length ds → slice_get ds k ≡ Some d → e ≡ get_or ds k e → d ≡ e
+home_at ds k d e b at is = same_Some d (get_or ds k e) (sym at ∙ slice_get-get_or ds k e b) ∙ sym is
+
+pub looks_next : (j k : ℕ) (v : HandView) → j ≡ suc k → found_at k (looked_before k v) ≡ looked_before j v
+looks_next j k v e = ap (λ (z : List PortView). record { name = v.name; count = v.count; home = looked_port v.home; ports = z }) (looked_next k v.ports ∙ ap (λ n. looked_below n v.ports) (sym e))
+
+pub looks_all : (k : ℕ) (v : HandView) → k ≡ length v.ports → looked_before k v ≡ found_all v
+looks_all k v e = ap (λ (z : List PortView). record { name = v.name; count = v.count; home = looked_port v.home; ports = z }) (ap (λ n. looked_below n v.ports) e ∙ looked_all v.ports)

@@ -1,0 +1,50 @@
+-- What `put` and `take` do to what a hand knows. Own.
+use Rattle.std.specs.Prelude.{◌≡◌, ℕ, zero, suc, ◌<◌, ◌⊎◌, Bool, List, [], ◌∷◌, length, map}
+use Rattle.steal_pool.specs.declared.piece.Piece.{Piece}
+use Rattle.steal_pool.specs.declared.pool.PutBack.{PutBack}
+use Rattle.steal_pool.specs.declared.pool.PutBack.TheVariants as put_back
+use Rattle.steal_pool.specs.declared.pool.Took.{Took}
+use Rattle.steal_pool.specs.declared.pool.Took.TheVariants as tooks
+use Rattle.steal_pool.specs.Hands.{PortView, HandView, own_of, next_number, put_home, took_port, looked_port}
+
+-- the list with one of its items changed
+abbrev pub change : {A : Type 0} → (A → A) → ℕ → List A → List A
+change f k [] = []
+change f zero (x ∷ xs) = f x ∷ xs
+change f (suc k) (x ∷ xs) = x ∷ change f k xs
+
+-- the ports after the first k deques were found empty
+abbrev pub looked_below : ℕ → List PortView → List PortView
+looked_below zero ps = ps
+looked_below (suc k) [] = []
+looked_below (suc k) (p ∷ ps) = looked_port p ∷ looked_below k ps
+
+-- Done: the piece joins the hand's own list, with its next number. Room comes exactly where there are 4,096.
+abbrev pub Puts : HandView → ℕ → ℕ → List Bool → PutBack → HandView → Type 0
+Puts v depth most set (put_back.Done n) w =
+    (length (own_of v) < 4096) × (n ≡ next_number v)
+    × (w ≡ record v { home = put_home v.home (record { number = n; depth = depth; most = most; set = set }) })
+Puts v depth most set put_back.Room w = (length (own_of v) ≡ 4096) × (w ≡ v)
+
+-- the piece joins the list of those taken from the deque k
+abbrev pub took_from : ℕ → Piece → HandView → HandView
+took_from k x v = record v { ports = change (took_port x) k v.ports }
+
+-- the deque k was found empty
+abbrev pub found_at : ℕ → HandView → HandView
+found_at k v = record v { ports = change looked_port k v.ports }
+
+-- the hand found its own deque empty, which sets its mark, and then the first k deques, each at a step of its own
+abbrev pub looked_before : ℕ → HandView → HandView
+looked_before k v = record v { home = looked_port v.home; ports = looked_below k v.ports }
+
+-- the hand found its own deque and each deque empty, each at a step of its own
+abbrev pub found_all : HandView → HandView
+found_all v = record v { home = looked_port v.home; ports = map looked_port v.ports }
+
+-- Got: the piece was taken from the hand's own deque; or that one was found empty, and the piece was taken from the first
+-- deque in order that wasn't. Empty: all were found empty. Nothing else changes.
+abbrev pub Takes : HandView → Took → HandView → Type 0
+Takes v (tooks.Got x) w =
+    (w ≡ took_from v.name x v) ⊎ ((k : ℕ) × (k < length v.ports) × (w ≡ took_from k x (looked_before k v)))
+Takes v tooks.Empty w = w ≡ found_all v
