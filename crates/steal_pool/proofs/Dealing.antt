@@ -76,8 +76,8 @@ forks port v two items views k at =
       idle = each_last Idle vs r (λ j none. absurd (omega arith)) (each_set Idle views port l (λ none. absurd (omega arith)) (λ j u other e. k.idle j u e));
     }
 
-pub merges : (port : ℕ) (v : Log) (other : ℕ) (w : Log) → 0 < v.parts → Merges IsShared port v other w (log_both v w) nobody
-merges port v other w part items views k at apart there =
+pub merges : (port : ℕ) (v : Log) (other : ℕ) (w : Log) → Merges IsShared port v other w (log_both v w) nobody
+merges port v other w items views k at apart there =
     let b : Log = log_both v w in
     let vs : List Log = set views port b in record {
       parts = omega (arith, sum_set (λ (u : Log). u.parts) views port v b at, sum_set (λ (u : Log). u.parts) vs other w nobody there, k.parts);
@@ -91,7 +91,12 @@ merges port v other w part items views k at apart there =
         sum_by-append h v.own w.own,
         sum_by-append h v.got w.got,
       );
-      idle = each_set Idle vs other nobody (λ _. (refl, refl)) (λ j u far e. each_set Idle views port b (λ none. absurd (omega arith)) (λ i y _ f. k.idle i y f) j u e);
+      idle = each_set Idle vs other nobody (λ _. (refl, refl)) (λ j u far e. each_set Idle views port b
+          (λ none.
+          let x = k.idle port v at (omega arith) in
+          let y = k.idle other w (sym (set_else views port other b apart) ∙ there) (omega arith) in
+          ((λ i. x.0 i ++ y.0 i), (λ i. x.1 i ++ y.1 i)))
+          (λ i y _ f. k.idle i y f) j u e);
     }
 
 pub learns : (port : ℕ) (v : Log) → v.parts ≡ 1024 → Learns IsShared port v (IsWhole v)

@@ -2,3 +2,5 @@ pub mod Sums
 pub mod Dealing
 pub mod Tallying
 pub mod Ports
+pub mod Each
+pub mod OpeningFacts

@@ -5,7 +5,7 @@ use Rattle.std.proofs.lemmas.List.{get_or-map, length-map, set-get_or}
 use Rattle.std.proofs.lemmas.Option.{slice_get-get_or, same_Some}
 use Rattle.steal_pool.specs.declared.piece.Piece.{Piece}
 use Rattle.steal_pool.specs.Hands.{DequeId, PortView, HandView, own_of, next_number, Rise, standing, at_deque, IsHandOf, took_port, looked_port, put_home}
-use Rattle.steal_pool.specs.Calls.{change, looked_below, took_from, found_at, looked_before, found_all}
+use Rattle.steal_pool.specs.Calls.{change, change_below, took_from, found_at, looked_before, found_all}
 
 pub change_at : {A : Type 0} (f : A → A) (l : List A) (k : ℕ) (x : A) → k < length l → x ≡ get_or l k x → set l k (f x) ≡ change f k l
 change_at f [] k x b e = refl
@@ -18,20 +18,26 @@ map_change g f same k [] = refl
 map_change g f same zero (x ∷ xs) = ap (λ y. y ∷ map g xs) (same x)
 map_change g f same (suc k) (x ∷ xs) = ap (λ y. g x ∷ y) (map_change g f same k xs)
 
-pub map_looked : (k : ℕ) (ps : List PortView) → map standing (looked_below k ps) ≡ map standing ps
-map_looked zero ps = refl
-map_looked (suc k) [] = refl
-map_looked (suc k) (p ∷ ps) = ap (λ y. standing p ∷ y) (map_looked k ps)
+pub map_below : {A B : Type 0} (g : A → B) (f : A → A) → ((x : A) → g (f x) ≡ g x) → (k : ℕ) (l : List A) → map g (change_below f k l) ≡ map g l
+map_below g f same zero l = refl
+map_below g f same (suc k) [] = refl
+map_below g f same (suc k) (x ∷ xs) = (λ i. same x i ∷ map_below g f same k xs i)
 
-pub looked_next : (k : ℕ) (ps : List PortView) → change looked_port k (looked_below k ps) ≡ looked_below (suc k) ps
-looked_next zero [] = refl
-looked_next zero (p ∷ ps) = refl
-looked_next (suc k) [] = refl
-looked_next (suc k) (p ∷ ps) = ap (λ y. looked_port p ∷ y) (looked_next k ps)
+pub below_next : {A : Type 0} (f : A → A) (k : ℕ) (l : List A) → change f k (change_below f k l) ≡ change_below f (suc k) l
+below_next f zero [] = refl
+below_next f zero (x ∷ xs) = refl
+below_next f (suc k) [] = refl
+below_next f (suc k) (x ∷ xs) = ap (λ y. f x ∷ y) (below_next f k xs)
 
-pub looked_all : (ps : List PortView) → looked_below (length ps) ps ≡ map looked_port ps
-looked_all [] = refl
-looked_all (p ∷ ps) = ap (λ y. looked_port p ∷ y) (looked_all ps)
+pub below_all : {A : Type 0} (f : A → A) (l : List A) → change_below f (length l) l ≡ map f l
+below_all f [] = refl
+below_all f (x ∷ xs) = ap (λ y. f x ∷ y) (below_all f xs)
+
+-- the first item that isn't changed yet
+pub below_at : {A : Type 0} (f : A → A) (k : ℕ) (l : List A) (d : A) → get_or (change_below f k l) k d ≡ get_or l k d
+below_at f zero l d = refl
+below_at f (suc k) [] d = refl
+below_at f (suc k) (x ∷ xs) d = below_at f k xs d
 
 -- a port of a hand at its deque
 pub standing_at : (ps : List PortView) (ds : List DequeId) (k : ℕ) (p : PortView) (d : DequeId) → map standing ps ≡ map at_deque ds → k < length ds
@@ -75,7 +81,7 @@ takes_one pool v k x h = record {
 
 pub looks_before : (pool : List DequeId) (v : HandView) (k : ℕ) → IsHandOf pool v → IsHandOf pool (looked_before k v)
 looks_before pool v k h = record {
-  ports = map_looked k v.ports ∙ h.ports;
+  ports = map_below standing looked_port (λ p. refl) k v.ports ∙ h.ports;
   few = h.few;
   below = h.below;
   deque = h.deque;
@@ -128,7 +134,7 @@ pub home_at : (ds : List DequeId) (k : ℕ) (d e : DequeId) → k < length ds �
 home_at ds k d e b at is = same_Some d (get_or ds k e) (sym at ∙ slice_get-get_or ds k e b) ∙ sym is
 
 pub looks_next : (j k : ℕ) (v : HandView) → j ≡ suc k → found_at k (looked_before k v) ≡ looked_before j v
-looks_next j k v e = ap (λ (z : List PortView). record { name = v.name; count = v.count; home = looked_port v.home; ports = z }) (looked_next k v.ports ∙ ap (λ n. looked_below n v.ports) (sym e))
+looks_next j k v e = ap (λ (z : List PortView). record { name = v.name; count = v.count; home = looked_port v.home; ports = z }) (below_next looked_port k v.ports ∙ ap (λ n. change_below looked_port n v.ports) (sym e))
 
 pub looks_all : (k : ℕ) (v : HandView) → k ≡ length v.ports → looked_before k v ≡ found_all v
-looks_all k v e = ap (λ (z : List PortView). record { name = v.name; count = v.count; home = looked_port v.home; ports = z }) (ap (λ n. looked_below n v.ports) e ∙ looked_all v.ports)
+looks_all k v e = ap (λ (z : List PortView). record { name = v.name; count = v.count; home = looked_port v.home; ports = z }) (ap (λ n. change_below looked_port n v.ports) e ∙ below_all looked_port v.ports)

@@ -159,8 +159,8 @@ splits id v two s k at =
           (each_set (Fits k.owner k.put (reported s.views)) s.views id l (record { boss = mine.boss; mark = mine.mark; idle = λ z. absurd (omega arith) }) (λ j u other e. k.each j u e)));
     }
 
-pub joins : (id other : ℕ) (v w : Tally) → 0 < v.parts → Joins IsTallied id v other w (tally_both v w) no_tally
-joins id other v w part s k at apart there =
+pub joins : (id other : ℕ) (v w : Tally) → Joins IsTallied id v other w (tally_both v w) no_tally
+joins id other v w s k at apart there =
     let b : Tally = tally_both v w in
     let vs : List Tally = set s.views id b in
     let after : List Tally = set vs other no_tally in
@@ -175,5 +175,7 @@ joins id other v w part s k at apart there =
       each = subst (λ (z : ℕ). (j : ℕ) (u : Tally) → get_elem? after j ≡ some u → Fits k.owner k.put z j u) (sym same)
           (each_set (Fits k.owner k.put (reported s.views)) vs other no_tally
           (record { boss = λ q. absurd (true≢false (sym q)); mark = λ q. absurd (true≢false (sym q)); idle = λ _. refl })
-          (λ j u far e. each_set (Fits k.owner k.put (reported s.views)) s.views id b (record { boss = mine.boss; mark = mine.mark; idle = λ z. absurd (omega arith) }) (λ i y _ f. k.each i y f) j u e));
+          (λ j u far e. each_set (Fits k.owner k.put (reported s.views)) s.views id b
+          (record { boss = mine.boss; mark = mine.mark; idle = λ z. omega (arith, mine.idle (omega arith), (k.each other w (sym (set_else s.views id other b apart) ∙ there)).idle (omega arith)) })
+          (λ i y _ f. k.each i y f) j u e));
     }

@@ -13,11 +13,11 @@ change f k [] = []
 change f zero (x ∷ xs) = f x ∷ xs
 change f (suc k) (x ∷ xs) = x ∷ change f k xs
 
--- the ports after the first k deques were found empty
-abbrev pub looked_below : ℕ → List PortView → List PortView
-looked_below zero ps = ps
-looked_below (suc k) [] = []
-looked_below (suc k) (p ∷ ps) = looked_port p ∷ looked_below k ps
+-- the list with the first k of its items changed
+abbrev pub change_below : {A : Type 0} → (A → A) → ℕ → List A → List A
+change_below f zero xs = xs
+change_below f (suc k) [] = []
+change_below f (suc k) (x ∷ xs) = f x ∷ change_below f k xs
 
 -- Done: the piece joins the hand's own list, with its next number. Room comes exactly where there are 4,096.
 abbrev pub Puts : HandView → ℕ → ℕ → List Bool → PutBack → HandView → Type 0
@@ -36,7 +36,7 @@ found_at k v = record v { ports = change looked_port k v.ports }
 
 -- the hand found its own deque empty, which sets its mark, and then the first k deques, each at a step of its own
 abbrev pub looked_before : ℕ → HandView → HandView
-looked_before k v = record v { home = looked_port v.home; ports = looked_below k v.ports }
+looked_before k v = record v { home = looked_port v.home; ports = change_below looked_port k v.ports }
 
 -- the hand found its own deque and each deque empty, each at a step of its own
 abbrev pub found_all : HandView → HandView

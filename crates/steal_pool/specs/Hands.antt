@@ -1,10 +1,10 @@
 -- What contracts see of a pool and of its hands. Own.
-use Rattle.std.specs.Prelude.{◌≡◌, ℕ, suc, ◌+◌, ◌-◌, ◌*◌, ◌^◌, ◌<◌, ◌≤◌, Bool, true, false, List, [], ◌∷◌, ◌++◌, length, map, slice_get, Some}
+use Rattle.std.specs.Prelude.{◌≡◌, ℕ, suc, ◌+◌, ◌-◌, ◌*◌, ◌^◌, ◌<◌, ◌≤◌, Bool, true, false, List, [], ◌∷◌, ◌++◌, length, map, filter, ◌%◌, nat_eq, slice_get, Some}
 use Rattle.std.specs.declared.alloc.Global.{Global}
 use Rattle.atomic_table.specs.Seated.{TableId}
 use Rattle.steal_pool.specs.declared.piece.Piece.{Piece}
 use Rattle.steal_pool.specs.Deques.{Log, Tally}
-use Rattle.steal_pool.specs.Steps.{pushed, taken, log_left, log_both, announced, reports, found_empty, tally_left, tally_both}
+use Rattle.steal_pool.specs.Steps.{pushed, taken, log_left, announced, reports, found_empty, tally_left, tally_both}
 
 -- which deque it is: the one that has the pieces, and its tally
 pub record DequeId : Type 0 where
@@ -50,7 +50,11 @@ looked_port p = record { deque = p.deque; log = p.log; tally = found_empty p.tal
 
 -- the owner has what a hand knew
 abbrev pub joined : PortView → PortView → PortView
-joined p q = record { deque = p.deque; log = log_both p.log q.log; tally = tally_both p.tally q.tally }
+joined p q = record {
+  deque = p.deque;
+  log = record { parts = p.log.parts + q.log.parts; own = p.log.own; got = p.log.got ++ q.log.got };
+  tally = tally_both p.tally q.tally;
+}
 
 -- A hand: its number in the pool, from 0; how many pieces were dealt to it; what it knows as an owner; and what it knows
 -- of each deque of the pool, in order.
@@ -85,6 +89,40 @@ abbrev pub Rise : ℕ → List Piece → ℕ → Type 0
 Rise low [] high = low ≤ high
 Rise low (x ∷ xs) high = (low ≤ x.number) × Rise (suc x.number) xs high
 
+-- for each item its place and itself
+abbrev pub each_from : {A B : Type 0} → (ℕ → A → B) → ℕ → List A → List B
+each_from f i [] = []
+each_from f i (x ∷ xs) = f i x ∷ each_from f (suc i) xs
+
+-- the pieces of which the remainder is k are dealt to the hand k
+abbrev pub dealt_to : ℕ → ℕ → List Piece → List Piece
+dealt_to hands k pieces = filter (λ (x : Piece). nat_eq (x.number % hands) k) pieces
+
+-- the owner of a deque to which these pieces were dealt
+abbrev pub dealt_home : ℕ → DequeId → List Piece → PortView
+dealt_home parts d xs = record {
+  deque = d;
+  log = record { parts = parts; own = xs; got = [] };
+  tally = record { parts = parts; boss = true; put = length xs; gone = 0; found = 0; mark = false };
+}
+
+-- a hand of a new pool: these pieces were dealt to it, and it took none
+abbrev pub new_hand : List DequeId → ℕ → DequeId → List Piece → HandView
+new_hand pool k d xs = record {
+  name = k;
+  count = length xs;
+  home = dealt_home (1024 - length pool) d xs;
+  ports = map fresh_port pool;
+}
+
+-- the hands of a new pool, in order
+abbrev pub new_hands : List DequeId → List Piece → List HandView
+new_hands pool pieces = each_from (λ k d. new_hand pool k d (dealt_to (length pool) k pieces)) 0 pool
+
+-- each piece has the number of its place
+abbrev pub AreNumbered : List Piece → Type 0
+AreNumbered pieces = (k : ℕ) (x : Piece) → slice_get pieces k ≡ Some x → x.number ≡ k
+
 -- a port is of this deque, and has a part
 abbrev pub standing : PortView → DequeId × ℕ × ℕ
 standing p = (p.deque, p.log.parts, p.tally.parts)
@@ -106,3 +144,8 @@ pub record IsHandOf (pool : List DequeId) (v : HandView) : Type 0 where
   pub parts : (v.home.log.parts ≡ 1024 - length pool) × (v.home.tally.parts ≡ 1024 - length pool)
   pub none : (v.home.log.got ≡ []) × (v.home.tally.gone ≡ 0)
   pub numbers : Rise 0 (own_of v) (next_number v)
+
+-- the hands of a pool, in order
+pub record AreHandsOf (pool : List DequeId) (hands : List HandView) : Type 0 where
+  pub count : length hands ≡ length pool
+  pub each : (k : ℕ) (v : HandView) → slice_get hands k ≡ Some v → (v.name ≡ k) × IsHandOf pool v

@@ -4,3 +4,4 @@ pub mod Hands
 pub mod Inside
 pub mod Calls
 pub mod Lending
+pub mod Opening

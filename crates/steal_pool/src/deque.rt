@@ -43,8 +43,7 @@ impl Deque {
 
     /// Ends a port: the owner has then what it took and reported.
     pub fn join(&self, home: &mut Home, port: Port)
-        requires deque { (home.old.deque ≡ self.now) × (port.deque ≡ self.now) }
-        requires parts { (0 < home.old.log.parts) × (0 < home.old.tally.parts) }
+        requires { (home.old.deque ≡ self.now) × (port.deque ≡ self.now) }
         ensures home { home.new ≡ joined home.old port }
         ensures gone { port.tally.gone ≡ length port.log.got }
     {

@@ -12,6 +12,7 @@
 
 mod deque;
 mod hand;
+mod opening;
 mod piece;
 mod pool;
 mod port;
@@ -19,5 +20,6 @@ mod rules;
 mod views;
 
 pub use hand::{Hand, Hands};
+pub use opening::{Opened, open_pool};
 pub use piece::Piece;
 pub use pool::{Pool, PutBack, Took};
