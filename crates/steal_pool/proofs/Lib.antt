@@ -4,3 +4,4 @@ pub mod Tallying
 pub mod Ports
 pub mod Each
 pub mod OpeningFacts
+pub mod ClosingFacts

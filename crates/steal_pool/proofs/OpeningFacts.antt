@@ -163,6 +163,7 @@ rise_filter p low high (x ∷ xs) r = by (rise_filter p (suc x.number) high xs r
 pub are_hands : (pool : List DequeId) (pieces : List Piece) → AreNumbered pieces → length pieces ≤ 4096 → length pool ≤ 64 → AreHandsOf pool (new_hands pool pieces)
 are_hands pool pieces numbered few small =
     let f : ℕ → DequeId → HandView = λ n y. new_hand pool n y (dealt_to (length pool) n pieces) in record {
+      few = small;
       count = length_each f 0 pool;
       each = λ k v at.
           let x = each_there f 0 k k pool v (omega arith) at in

@@ -147,5 +147,6 @@ pub record IsHandOf (pool : List DequeId) (v : HandView) : Type 0 where
 
 -- the hands of a pool, in order
 pub record AreHandsOf (pool : List DequeId) (hands : List HandView) : Type 0 where
+  pub few : length pool ≤ 64
   pub count : length hands ≡ length pool
   pub each : (k : ℕ) (v : HandView) → slice_get hands k ≡ Some v → (v.name ≡ k) × IsHandOf pool v

@@ -5,3 +5,4 @@ pub mod Inside
 pub mod Calls
 pub mod Lending
 pub mod Opening
+pub mod Closing

@@ -10,6 +10,7 @@
 //! pieces a hand is taken when the pool is opened, and none after.
 #![tactic(auto)]
 
+mod closing;
 mod deque;
 mod hand;
 mod opening;
@@ -19,6 +20,7 @@ mod port;
 mod rules;
 mod views;
 
+pub use closing::Closed;
 pub use hand::{Hand, Hands};
 pub use opening::{Opened, open_pool};
 pub use piece::Piece;
