@@ -307,6 +307,11 @@ closes pool hs us put left a g c =
       lefts = c.lefts;
       count = c.count ∙ g.count;
       each = λ k v xs av ax h. whole k v (get_or us k v) xs av (at_us k v (slice_get_within hs k v av)) ax h;
+      taken_once = λ k n b.
+          let v = there_is hs k b in
+          let u = there_is us k (omega (arith, b, g.count)) in
+          let xs = there_is c.lefts k (omega (arith, b, g.count, c.count)) in
+          omega (arith, whole k v.0 u.0 xs.0 v.1 u.1 xs.1 (λ (x : Piece). cond (nat_eq x.number n) 1 0), rise_once 0 _ n (own_of v.0) (a.each k v.0 v.1).1.numbers);
       once = λ k v av n. rise_once 0 _ n (own_of v) (a.each k v av).1.numbers;
       put = omega (
         arith,

@@ -2,10 +2,11 @@
 use Rattle.std.proofs.Common.{◌≡◌, ℕ, zero, suc, ◌+◌, ◌-◌, ◌*◌, ◌^◌, ◌<◌, ◌≤◌, true, List, [], ◌∷◌, ◌++◌, length, map, get_or, set, refl, sym, ap, ◌∙◌, subst, inl, inr, arith, length-append, Option, Some, None, IfSome, IfNone}
 use Rattle.std.specs.Prelude.{slice_get}
 use Rattle.std.proofs.lemmas.List.{get_or-map, length-map, set-get_or}
+use Rattle.std.proofs.lemmas.Simd.{map-map}
 use Rattle.std.proofs.lemmas.Option.{slice_get-get_or, same_Some}
 use Rattle.steal_pool.specs.declared.piece.Piece.{Piece}
 use Rattle.steal_pool.specs.Hands.{DequeId, PortView, HandView, own_of, next_number, Rise, standing, at_deque, IsHandOf, took_port, looked_port, put_home}
-use Rattle.steal_pool.specs.Calls.{change, change_below, took_from, found_at, looked_before, found_all}
+use Rattle.steal_pool.specs.Calls.{change, change_below, took_from, found_at, looked_before, found_all, GetsOne, FindsNone}
 
 pub change_at : {A : Type 0} (f : A → A) (l : List A) (k : ℕ) (x : A) → k < length l → x ≡ get_or l k x → set l k (f x) ≡ change f k l
 change_at f [] k x b e = refl
@@ -138,3 +139,35 @@ looks_next j k v e = ap (λ (z : List PortView). record { name = v.name; count =
 
 pub looks_all : (k : ℕ) (v : HandView) → k ≡ length v.ports → looked_before k v ≡ found_all v
 looks_all k v e = ap (λ (z : List PortView). record { name = v.name; count = v.count; home = looked_port v.home; ports = z }) (ap (λ n. change_below looked_port n v.ports) e ∙ below_all looked_port v.ports)
+
+change_map : {A B : Type 0} (g : A → B) (f : A → A) (h : B → B) → ((x : A) → g (f x) ≡ h (g x)) → (k : ℕ) (l : List A) → map g (change f k l) ≡ change h k (map g l)
+change_map g f h same k [] = refl
+change_map g f h same zero (x ∷ xs) = ap (λ y. y ∷ map g xs) (same x)
+change_map g f h same (suc k) (x ∷ xs) = ap (λ y. g x ∷ y) (change_map g f h same k xs)
+
+-- a piece was taken from the hand's own deque
+pub gets_own : (pool : List DequeId) (v w : HandView) (x : Piece) → IsHandOf pool v → w ≡ took_from v.name x v → GetsOne x v w
+gets_own pool v w x h e = subst (λ (z : HandView). GetsOne x v z) (sym e) (record {
+  deque = v.name;
+  there = omega (arith, h.below, as_many v.ports pool h.ports);
+  lists = change_map (λ (p : PortView). p.log.got) (took_port x) (λ (l : List Piece). l ++ x ∷ []) (λ p. refl) v.name v.ports;
+  own = refl;
+})
+
+-- a piece was taken from the deque k, behind others that were found empty
+pub gets_one : (v w : HandView) (k : ℕ) (x : Piece) → k < length v.ports → w ≡ took_from k x (looked_before k v) → GetsOne x v w
+gets_one v w k x b e = subst (λ (z : HandView). GetsOne x v z) (sym e) (record {
+  deque = k;
+  there = b;
+  lists = change_map (λ (p : PortView). p.log.got) (took_port x) (λ (l : List Piece). l ++ x ∷ []) (λ p. refl) k (change_below looked_port k v.ports)
+      ∙ ap (λ (l : List (List Piece)). change (λ (y : List Piece). y ++ x ∷ []) k l) (map_below (λ (p : PortView). p.log.got) looked_port (λ p. refl) k v.ports);
+  own = refl;
+})
+
+pub finds_none : (pool : List DequeId) (v w : HandView) → IsHandOf pool v → w ≡ found_all v → FindsNone v w
+finds_none pool v w h e = subst (λ (z : HandView). FindsNone v z) (sym e) (record {
+  counts = map-map (λ (p : PortView). p.tally.found) looked_port v.ports ∙ sym (map-map suc (λ (p : PortView). p.tally.found) v.ports);
+  lists = map-map (λ (p : PortView). p.log.got) looked_port v.ports;
+  own = refl;
+  mark = h.boss;
+})

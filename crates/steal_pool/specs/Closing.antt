@@ -31,7 +31,8 @@ pub record IsClosed (hands : List HandView) (r : Closed) : Type 0 where
   -- however the pieces are weighed: so each stands exactly once among them.
   pub each : (k : ℕ) (v : HandView) (left : List Piece) → slice_get hands k ≡ Some v → slice_get lefts k ≡ Some left
       → (h : Piece → ℕ) → sum_by h (own_of v) ≡ sum_by (λ (w : HandView). sum_by h (took_at k w)) hands + sum_by h left
-  -- no number is twice among those dealt to an owner and put by it, and so none was taken twice
+  -- no number is twice among those dealt to an owner and put by it, and none was taken from its deque twice
+  pub taken_once : (k n : ℕ) → k < length hands → sum_by (λ (w : HandView). times n (took_at k w)) hands ≤ 1
   pub once : (k : ℕ) (v : HandView) → slice_get hands k ≡ Some v → (n : ℕ) → times n (own_of v) ≤ 1
   pub put : r.put ≡ sum_by (λ (v : HandView). length (own_of v)) hands
   pub left : r.left ≡ sum_by (λ (xs : List Piece). length xs) lefts

@@ -1,7 +1,7 @@
 //! Putting and taking pieces.
 ghost use Rattle.std.specs.Prelude.{◌≡◌, ◌<◌, map, length, slice_get, Some, IfSome, IfNone};
 ghost use Rattle.steal_pool.specs.Hands.{IsHandOf, took_port, looked_port, standing, at_deque};
-ghost use Rattle.steal_pool.specs.Calls.{Puts, Takes, took_from, looked_before, found_at, change};
+ghost use Rattle.steal_pool.specs.Calls.{Puts, Takes, Lists, took_from, looked_before, found_at, change};
 
 use crate::deque::MOST_PIECES;
 use crate::hand::Hand;
@@ -47,7 +47,7 @@ impl Pool {
     /// Puts a piece on the hand's own deque. It takes no memory.
     pub fn put(&self, hand: &mut Hand, depth: u32, most: u32, set: &TaskSet) -> PutBack
         requires { IsHandOf self.now hand.old }
-        ensures hand { IsHandOf self.now hand.new }
+        ensures hand { IsHandOf self.now hand.new × (hand.new.name ≡ hand.old.name) }
         ensures puts { Puts hand.old depth most set.now result hand.new }
     {
         if hand.dealt + hand.put >= MOST_PIECES as u32 {
@@ -118,8 +118,9 @@ impl Pool {
     /// while another hand's step wins.
     pub fn take<R: Wait>(&self, rt: &R, hand: &mut Hand) -> Took
         requires { IsHandOf self.now hand.old }
-        ensures hand { IsHandOf self.now hand.new }
+        ensures hand { IsHandOf self.now hand.new × (hand.new.name ≡ hand.old.name) }
         ensures takes { Takes hand.old result hand.new }
+        ensures lists { Lists hand.old result hand.new }
     {
         if let Some(piece) = self.take_own(rt, hand) {
             return Took::Got(piece);
