@@ -5,3 +5,4 @@ pub mod Ports
 pub mod Each
 pub mod OpeningFacts
 pub mod ClosingFacts
+pub mod Handing
