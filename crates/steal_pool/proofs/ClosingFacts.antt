@@ -1,14 +1,12 @@
 -- The steps of closing a pool.
-use Rattle.std.proofs.Common.{◌≡◌, ◌≢◌, ◌⊎◌, ℕ, zero, suc, ◌+◌, ◌-◌, ◌*◌, ◌<◌, ◌≤◌, Bool, true, false, cond, List, [], ◌∷◌, ◌++◌, length, map, get_or, set, take, drop, refl, sym, ap, ◌∙◌, subst, inl, inr, arith, length-append, length-set, append-nil, append_assoc, Option, Some, None}
+use Rattle.std.proofs.Common.{◌≡◌, ◌≢◌, ◌⊎◌, ℕ, zero, suc, ◌+◌, ◌-◌, ◌<◌, ◌≤◌, Bool, true, false, cond, List, [], ◌∷◌, ◌++◌, length, map, get_or, set, take, drop, refl, sym, ap, ◌∙◌, subst, inl, inr, arith, length-append, length-set, append-nil, append_assoc, Some}
 use Rattle.std.specs.Prelude.{slice_get, nat_eq, sum_by}
 use Rattle.std.proofs.lemmas.Bool.Decides.{nat_tests}
 use Rattle.std.proofs.lemmas.List.{get_or-map, length-map, take_more, take_at}
 use Rattle.std.proofs.lemmas.List.Sums.{sum_by-append, sum_by-cons}
 use Rattle.std.proofs.lemmas.Option.{slice_get_read, slice_get_within, slice_get-get_or, same_Some}
 use Rattle.steal_pool.specs.declared.piece.Piece.{Piece}
-use Rattle.steal_pool.specs.declared.closing.Closed.{Closed}
-use Rattle.steal_pool.specs.Steps.{IsWhole}
-use Rattle.steal_pool.specs.Hands.{DequeId, PortView, HandView, own_of, mark_of, standing, at_deque, joined, Rise, IsHandOf, AreHandsOf}
+use Rattle.steal_pool.specs.Hands.{DequeId, PortView, HandView, own_of, standing, at_deque, joined, Rise, AreHandsOf}
 use Rattle.steal_pool.specs.Calls.{change}
 use Rattle.steal_pool.specs.Closing.{got_at, took_at, times, IsClosed, joined_one, joined_hands, HasReported, HaveReported, AreMarked, IsGathered, AreGathered, IsLeft, AreWhole, AreCounted}
 use Rattle.steal_pool.proofs.Ports.{change_at}
@@ -299,7 +297,7 @@ own_sums (v ∷ vs) (u ∷ us) e h = omega (
 pub closes : (pool : List DequeId) (hs us : List HandView) (put left : ℕ) → AreHandsOf pool hs → AreGathered pool hs (length hs) us → AreCounted us (length us) put left → IsClosed hs (record { put = put; taken = put - left; left = left })
 closes pool hs us put left a g c =
     let whole : (k : ℕ) (v u : HandView) (xs : List Piece) → slice_get hs k ≡ Some v → slice_get us k ≡ Some u → slice_get c.lefts k ≡ Some xs
-        → (h : Piece → ℕ) → sum_by h (own_of v) ≡ sum_by (λ (w : HandView). sum_by h (took_at k w)) hs + sum_by h xs = λ k v u xs av au ax h.
+    → (h : Piece → ℕ) → sum_by h (own_of v) ≡ sum_by (λ (w : HandView). sum_by h (took_at k w)) hs + sum_by h xs = λ k v u xs av au ax h.
     let d = g.each k v u av au in
     omega (arith, (c.each k u xs au ax).whole h, ap (λ (l : List Piece). sum_by h l) d.own, d.got h, ap (λ (l : List HandView). sum_by (λ (w : HandView). sum_by h (took_at k w)) l) (take_all hs)) in
     let at_us : (k : ℕ) (d : HandView) → k < length hs → slice_get us k ≡ Some (get_or us k d) = λ k d b. slice_get-get_or us k d (omega (arith, g.count)) in

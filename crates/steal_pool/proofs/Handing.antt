@@ -1,6 +1,5 @@
 -- The hands of a pool, lent out and given back.
-use Rattle.std.proofs.Common.{◌≡◌, ◌≢◌, ℕ, ◌<◌, List, ◌++◌, length, length-set, get_or, set, take, drop, refl, sym, ap, ◌∙◌, subst, inl, inr, arith, Some}
-use Rattle.std.specs.Prelude.{slice_get}
+use Rattle.std.proofs.Common.{◌≡◌, ℕ, ◌<◌, List, ◌++◌, length, length-set, get_or, set, take, drop, refl, sym, ap, ◌∙◌, subst, inl, inr, arith}
 use Rattle.std.proofs.lemmas.List.{take_at}
 use Rattle.std.proofs.lemmas.Option.{slice_get_read, slice_get_within, slice_get-get_or, same_Some}
 use Rattle.steal_pool.specs.Hands.{DequeId, HandView, IsHandOf, AreHandsOf}

@@ -8,7 +8,7 @@ use Rattle.std.proofs.lemmas.List.Elements.{filter-append}
 use Rattle.std.proofs.lemmas.List.Sums.{length-filter, count_by-le-length}
 use Rattle.std.proofs.lemmas.Option.{slice_get_read, slice_get_within}
 use Rattle.steal_pool.specs.declared.piece.Piece.{Piece}
-use Rattle.steal_pool.specs.Hands.{DequeId, PortView, HandView, own_of, fresh_port, home_with, standing, at_deque, each_from, dealt_to, dealt_home, new_hand, new_hands, AreNumbered, Rise, IsHandOf, AreHandsOf}
+use Rattle.steal_pool.specs.Hands.{DequeId, PortView, HandView, fresh_port, standing, dealt_to, new_hand, new_hands, AreNumbered, Rise, IsHandOf, AreHandsOf}
 use Rattle.steal_pool.specs.Opening.{seated, bare_hands, seated_below, seated_hands, CanLeave, left_hand, CanDeal, dealt_one}
 use Rattle.steal_pool.specs.Calls.{change, change_below}
 use Rattle.steal_pool.proofs.Ports.{change_at, below_next, below_at, rise_more}

@@ -1,13 +1,13 @@
 -- Each kind of step keeps the rule of a tally.
-use Rattle.std.proofs.Common.{◌≡◌, ◌≢◌, ℕ, suc, ◌+◌, ◌-◌, ◌%◌, ◌^◌, ◌<◌, ◌≤◌, Bool, true, false, cond, true≢false, List, [], ◌∷◌, ◌++◌, length, set, refl, sym, ap, ◌∙◌, subst, arith}
-use Rattle.std.specs.Prelude.{sum_by, nat_eq, slice_index, slice_set}
+use Rattle.std.proofs.Common.{◌≡◌, ℕ, suc, ◌+◌, ◌-◌, ◌%◌, ◌^◌, ◌<◌, ◌≤◌, Bool, true, false, cond, true≢false, List, [], ◌∷◌, ◌++◌, set, refl, sym, ap, ◌∙◌, subst, arith}
+use Rattle.std.specs.Prelude.{nat_eq, slice_index, slice_set}
 use Rattle.std.proofs.lemmas.Bool.Decides.{nat_tests}
 use mathlib.Core.Option.{some, none}
 use lib.ListN.{get_elem?}
 use Rattle.atomic_table.specs.Table.{State, Act, Valid, stepped, carried_after, step, keeps, Allows, Splits, Joins, opening}
-use Rattle.atomic_table.proofs.Lists.{set_else, set_again}
+use Rattle.atomic_table.proofs.Lists.{set_else}
 use Rattle.steal_pool.specs.Deques.{Tally, Fits, reported, IsTallied}
-use Rattle.steal_pool.specs.Steps.{Mine, first_tally, no_tally, announced, reports, found_empty, Announces, Reports, Looks, IsSettled, Settles, tally_left, tally_right, tally_both}
+use Rattle.steal_pool.specs.Steps.{Mine, first_tally, no_tally, announced, reports, found_empty, Announces, Reports, Looks, Settles, tally_left, tally_right, tally_both}
 use Rattle.steal_pool.proofs.Sums.{sum_set, sum_last, sum_whole, each_set, each_last, each_one}
 
 abbrev Room : Type 0
@@ -109,6 +109,7 @@ looks n id v c s k wide at small = by (nat_eq (slice_index s.words 0) 0) refl
   where
     mine : Fits k.owner k.put (reported s.views) id v
     mine = k.each id v at
+
     by : (b : Bool) → nat_eq (slice_index s.words 0) 0 ≡ b → (w : Tally) × (a : Act (Unit {0})) × Valid s.homes c a × IsTallied (stepped s 0 (slice_index s.words 0) id c w a) × (◌≡◌ {A = Mine} (w, carried_after c a) (cond b (found_empty v) v, c))
     by true e =
         let zero_left : k.left ≡ 0 = sym (ap (λ (l : List ℕ). slice_index l 0) k.word) ∙ same_nat e in (
@@ -133,11 +134,14 @@ settles n id v c s k wide at small = (
   keeps,
   tt,
   loaded s k id v v at refl refl (k.each id v at),
-  (refl, λ all mark.
-      let r : reported s.views ≡ v.gone = sum_whole (λ (u : Tally). u.parts) (λ (u : Tally). u.gone) s.views id v at (k.parts ∙ sym all) (λ j u e z. (k.each j u e).idle z) in
-      let f = k.each id v at in
-      let m = f.mark mark in
-      omega (arith, m.1, (f.boss m.0).1, r)),
+  (
+    refl,
+    λ all mark.
+        let r : reported s.views ≡ v.gone = sum_whole (λ (u : Tally). u.parts) (λ (u : Tally). u.gone) s.views id v at (k.parts ∙ sym all) (λ j u e z. (k.each j u e).idle z) in
+        let f = k.each id v at in
+        let m = f.mark mark in
+        omega (arith, m.1, (f.boss m.0).1, r),
+  ),
 )
 
 pub splits : (id : ℕ) (v : Tally) → 1 < v.parts → Splits IsTallied id v (tally_left v) (tally_right v)

@@ -5,7 +5,7 @@ use Rattle.steal_pool.specs.declared.pool.PutBack.{PutBack}
 use Rattle.steal_pool.specs.declared.pool.PutBack.TheVariants as put_back
 use Rattle.steal_pool.specs.declared.pool.Took.{Took}
 use Rattle.steal_pool.specs.declared.pool.Took.TheVariants as took
-use Rattle.steal_pool.specs.Hands.{PortView, HandView, own_of, tooks, founds, mark_of, next_number, put_home, took_port, looked_port}
+use Rattle.steal_pool.specs.Hands.{HandView, own_of, tooks, founds, mark_of, next_number, put_home, took_port, looked_port}
 
 -- the list with one of its items changed
 abbrev pub change : {A : Type 0} → (A → A) → ℕ → List A → List A

@@ -1,5 +1,5 @@
 -- What closing a pool counts, and its parts. Own.
-use Rattle.std.specs.Prelude.{◌≡◌, ℕ, zero, suc, ◌+◌, ◌-◌, ◌*◌, ◌<◌, ◌≤◌, Bool, true, cond, nat_eq, List, [], ◌∷◌, length, map, take, sum_by, slice_get, Some}
+use Rattle.std.specs.Prelude.{◌≡◌, ℕ, zero, suc, ◌+◌, ◌-◌, ◌*◌, ◌<◌, ◌≤◌, true, cond, nat_eq, List, [], ◌∷◌, length, map, take, sum_by, slice_get, Some}
 use Rattle.steal_pool.specs.declared.piece.Piece.{Piece}
 use Rattle.steal_pool.specs.declared.closing.Closed.{Closed}
 use Rattle.steal_pool.specs.Hands.{DequeId, PortView, HandView, own_of, mark_of, joined}

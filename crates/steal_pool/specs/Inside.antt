@@ -1,5 +1,5 @@
 -- What is true of a worker, of a pass and of a seat between two calls.
-use Rattle.std.specs.Prelude.{◌≡◌, ℕ, ◌≤◌, List, [], length, None}
+use Rattle.std.specs.Prelude.{◌≡◌, ◌≤◌, [], length, None}
 use Rattle.std.specs.declared.alloc.Global.{Global}
 use Rattle.crossbeam_deque.specs.declared.handles.Worker.{Worker}
 use Rattle.crossbeam_deque.specs.Handles.{Pass, view, worker_flavor, worker_capacity, worker_index, worker_view}

@@ -1,5 +1,5 @@
 -- What opening a pool gives, and its parts. Own.
-use Rattle.std.specs.Prelude.{◌≡◌, ℕ, suc, ◌+◌, ◌-◌, ◌<◌, List, [], ◌∷◌, length, map, nat_lt, cond, true, slice_get, Some}
+use Rattle.std.specs.Prelude.{◌≡◌, ℕ, suc, ◌-◌, ◌<◌, List, [], length, map, nat_lt, cond, true, slice_get, Some}
 use Rattle.steal_pool.specs.declared.piece.Piece.{Piece}
 use Rattle.steal_pool.specs.declared.opening.Opened.{Opened}
 use Rattle.steal_pool.specs.declared.opening.Opened.TheVariants as opened

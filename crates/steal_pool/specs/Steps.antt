@@ -1,6 +1,6 @@
 -- The kinds of step on a deque and on its tally, and what each tells. No other step changes what a pass or a seat knows.
 -- Own.
-use Rattle.std.specs.Prelude.{◌≡◌, ℕ, suc, ◌+◌, ◌-◌, ◌≤◌, Bool, true, false, cond, nat_eq, List, [], ◌∷◌, ◌++◌, sum_by}
+use Rattle.std.specs.Prelude.{◌≡◌, ℕ, suc, ◌+◌, ◌-◌, ◌≤◌, true, false, cond, nat_eq, List, [], ◌++◌, sum_by}
 use Rattle.atomic_table.specs.Table.{Step, Me}
 use Rattle.steal_pool.specs.declared.piece.Piece.{Piece}
 use Rattle.steal_pool.specs.Deques.{Log, Tally}

@@ -55,11 +55,7 @@ fn ports_of(
 }
 
 // Gives each hand its ports.
-fn seat_hands(
-    alloc: Global,
-    deques: &Vec<Deque>,
-    hands: &mut Vec<Hand>,
-) -> Result<(), AllocError>
+fn seat_hands(alloc: Global, deques: &Vec<Deque>, hands: &mut Vec<Hand>) -> Result<(), AllocError>
     requires few { length deques.now.items ≤ 64 }
     requires bare { hands.old.items ≡ bare_hands deques.now.items }
     ensures { IfOk result (λ _. hands.new.items ≡ seated_hands deques.now.items) }

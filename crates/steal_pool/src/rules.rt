@@ -6,8 +6,8 @@ ghost use Rattle.steal_pool.specs.Steps.{newcomer, nobody, pushed, taken, log_le
 
 use crate::piece::Piece;
 use crate::views::{LogView, TallyView};
-use crossbeam_deque::protocol::{Lesson, Outcome, Protocol};
 use atomic_table::{Join, Play, Split, TableRule};
+use crossbeam_deque::protocol::{Lesson, Outcome, Protocol};
 
 /// The rule of a deque.
 pub struct Dealing;

@@ -1,6 +1,6 @@
-use Rattle.std.proofs.Common.{◌≡◌, ℕ, ◌+◌, ◌<◌, List, get_or, set, length, ap, sym, ◌∙◌, subst, arith}
+use Rattle.std.proofs.Common.{◌<◌, List, get_or, set, length, ap, ◌∙◌, arith}
 use Rattle.std.proofs.lemmas.List.{set-get_or}
-use Rattle.steal_pool.specs.Hands.{HandView, own_of}
+use Rattle.steal_pool.specs.Hands.{HandView}
 use Rattle.steal_pool.proofs.ClosingFacts.{whole_at, counts_next, whole_count}
 use Rattle.steal_pool.proofs.closing.count_all.Goals as goal
 

@@ -1,4 +1,4 @@
-use Rattle.std.proofs.Common.{◌≡◌, ◌+◌, List, ap, sym, ◌∙◌, subst, arith}
+use Rattle.std.proofs.Common.{◌+◌, List, sym, subst, arith}
 use Rattle.steal_pool.specs.Hands.{HandView}
 use Rattle.steal_pool.specs.Closing.{AreGathered}
 use Rattle.steal_pool.proofs.ClosingFacts.{gathers_none, may_join_all, gathers_one}

@@ -1,9 +1,8 @@
-use Rattle.std.proofs.Common.{◌≡◌, ℕ, ◌%◌, ◌<◌, List, [], ◌∷◌, length, sym, ap, ◌∙◌, subst, rules, arith}
+use Rattle.std.proofs.Common.{◌≡◌, ℕ, ◌%◌, ◌<◌, List, length, ap, subst, arith}
 use Rattle.std.proofs.Math.Nat.{mod-lt}
-use Rattle.std.proofs.lemmas.List.{nil_from_length}
 use Rattle.std.specs.Vec.Iter.{into_iter_items}
 use Rattle.steal_pool.specs.declared.piece.Piece.{Piece}
-use Rattle.steal_pool.proofs.OpeningFacts.{IsDealing, hands_dealing, may_deal, deals_one, deals_all}
+use Rattle.steal_pool.proofs.OpeningFacts.{IsDealing, hands_dealing, may_deal, deals_one}
 use Rattle.steal_pool.proofs.opening.deal.Goals as goal
 
 pub index_mut-hand-requires : goal.index_mut-hand-requires

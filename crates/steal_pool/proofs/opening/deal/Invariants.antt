@@ -1,7 +1,4 @@
-use Rattle.std.proofs.Common.{◌≡◌, ◌++◌, List}
 use Rattle.std.specs.Vec.Iter.{into_iter_items}
-use Rattle.steal_pool.specs.declared.piece.Piece.{Piece}
-use Rattle.steal_pool.specs.Hands.{DequeId, HandView, new_hands}
 use Rattle.steal_pool.proofs.OpeningFacts.{IsDealing}
 use Rattle.steal_pool.proofs.opening.deal.Given as goal
 

@@ -1,5 +1,5 @@
-use Rattle.std.proofs.Common.{◌≡◌, ℕ, List, [], ◌∷◌, ◌++◌, length, length-append, sym, ap, ◌∙◌, arith}
-use Rattle.steal_pool.specs.Hands.{DequeId, PortView, HandView}
+use Rattle.std.proofs.Common.{◌≡◌, List, [], ◌∷◌, ◌++◌, length, length-append, sym, ap, ◌∙◌, arith}
+use Rattle.steal_pool.specs.Hands.{DequeId, HandView}
 use Rattle.steal_pool.specs.Opening.{seated, bare_hands}
 use Rattle.steal_pool.proofs.OpeningFacts.{bare_push}
 use Rattle.steal_pool.proofs.opening.open_deques.Goals as goal

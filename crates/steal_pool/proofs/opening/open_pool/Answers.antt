@@ -1,4 +1,4 @@
-use Rattle.std.proofs.Common.{◌≡◌, List, sym, subst, rules, arith}
+use Rattle.std.proofs.Common.{List, sym, subst, arith}
 use Rattle.steal_pool.specs.Hands.{HandView, AreHandsOf}
 use Rattle.steal_pool.proofs.OpeningFacts.{are_hands}
 use Rattle.steal_pool.proofs.opening.open_pool.Goals as goal

@@ -1,4 +1,4 @@
-use Rattle.std.proofs.Common.{◌≡◌, ℕ, ◌+◌, ◌<◌, List, [], ◌∷◌, ◌++◌, length, length-append, set, get_or, sym, ap, ◌∙◌, subst, rules, arith}
+use Rattle.std.proofs.Common.{◌≡◌, ℕ, ◌<◌, List, [], ◌∷◌, ◌++◌, length, length-append, set, get_or, sym, ap, ◌∙◌, subst, arith}
 use Rattle.steal_pool.specs.Hands.{DequeId, PortView, HandView}
 use Rattle.steal_pool.specs.Calls.{change_below}
 use Rattle.steal_pool.specs.Opening.{left_hand}

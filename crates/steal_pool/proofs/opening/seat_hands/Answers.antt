@@ -1,4 +1,4 @@
-use Rattle.std.proofs.Common.{◌≡◌, ℕ, ◌<◌, List, length, map, sym, ap, ◌∙◌, subst, rules, arith}
+use Rattle.std.proofs.Common.{◌≡◌, ◌<◌, List, length, map, sym, ap, ◌∙◌, subst, arith}
 use Rattle.steal_pool.specs.Hands.{PortView, HandView, fresh_port}
 use Rattle.steal_pool.specs.Opening.{CanLeave}
 use Rattle.steal_pool.proofs.OpeningFacts.{can_leave, seats_one, seats_count, seats_all}

@@ -1,4 +1,4 @@
-use Rattle.std.proofs.Common.{◌≡◌, ◌+◌, List, length, sym, ap, ◌∙◌, subst, rules, arith}
+use Rattle.std.proofs.Common.{◌+◌, List, length, sym, ap, ◌∙◌, subst, rules, arith}
 use Rattle.steal_pool.specs.Hands.{DequeId, HandView, IsHandOf}
 use Rattle.steal_pool.specs.Calls.{took_from, found_at}
 use Rattle.steal_pool.proofs.Ports.{takes_one, looks_before, looks_next, looks_all, as_many, gets_own, gets_one, finds_none}
