@@ -6,10 +6,10 @@ use Rattle.std.proofs.lemmas.List.{get_or-map, length-map, take_more, take_at}
 use Rattle.std.proofs.lemmas.List.Sums.{sum_by-append, sum_by-cons}
 use Rattle.std.proofs.lemmas.Option.{slice_get_read, slice_get_within, slice_get-get_or, same_Some}
 use Rattle.steal_pool.specs.declared.piece.Piece.{Piece}
-use Rattle.steal_pool.specs.Hands.{DequeId, PortView, HandView, own_of, standing, at_deque, joined, Rise, AreHandsOf}
+use Rattle.steal_pool.specs.Hands.{IsNumberOf, IsHandOf, DequeId, PortView, HandView, own_of, standing, at_deque, joined, Rise, AreHandsOf}
 use Rattle.steal_pool.specs.Calls.{change}
 use Rattle.steal_pool.specs.Closing.{got_at, took_at, times, IsClosed, joined_one, joined_hands, HasReported, HaveReported, AreMarked, IsGathered, AreGathered, IsLeft, AreWhole, AreCounted}
-use Rattle.steal_pool.proofs.Ports.{change_at}
+use Rattle.steal_pool.proofs.Ports.{get_push, change_at}
 
 pub joined_none : (hs : List HandView) → joined_hands hs [] ≡ hs
 joined_none [] = refl
@@ -191,15 +191,6 @@ counts_none hs = record {
   each = λ i v xs at at'. absurd (cc);
 }
 
-get_push : {A : Type 0} (l : List A) (x y : A) (i : ℕ) → slice_get (l ++ x ∷ []) i ≡ Some y → (slice_get l i ≡ Some y) ⊎ ((i ≡ length l) × (x ≡ y))
-get_push [] x y zero at = inr (refl, same_Some x y at)
-get_push [] x y (suc i) at = absurd (cc)
-get_push (z ∷ zs) x y zero at = inl at
-get_push (z ∷ zs) x y (suc i) at = elim (get_push zs x y i at) [
-  | inl s ↦ inl s
-  | inr s ↦ inr (ap suc s.0, s.1)
-]
-
 pub whole_count : (v : HandView) (xs : List Piece) → IsLeft v xs → length xs ≤ length (own_of v)
 whole_count v xs l = omega (arith, l.whole (λ (x : Piece). 1), ones (own_of v), ones v.home.log.got, ones xs)
 
@@ -310,6 +301,7 @@ closes pool hs us put left a g c =
           let u = there_is us k (omega (arith, b, g.count)) in
           let xs = there_is c.lefts k (omega (arith, b, g.count, c.count)) in
           omega (arith, whole k v.0 u.0 xs.0 v.1 u.1 xs.1 (λ (x : Piece). cond (nat_eq x.number n) 1 0), rise_once 0 _ n (own_of v.0) (a.each k v.0 v.1).1.numbers);
+      tell = λ k v i x av ax. (λ (o : (v.name ≡ k) × IsHandOf pool v). subst (λ (z : ℕ × ℕ). IsNumberOf z.0 z.1 x.number) (λ j. (sym a.count j, o.0 j)) (o.1.tell i x ax)) (a.each k v av);
       once = λ k v av n. rise_once 0 _ n (own_of v) (a.each k v av).1.numbers;
       put = omega (
         arith,

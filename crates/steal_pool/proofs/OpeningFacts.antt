@@ -1,12 +1,12 @@
 -- The steps of opening a pool.
-use Rattle.std.proofs.Common.{◌≡◌, ◌≢◌, ℕ, zero, suc, ◌+◌, ◌-◌, ◌*◌, ◌%◌, ◌^◌, ◌<◌, ◌≤◌, Bool, true, false, cond, List, [], ◌∷◌, ◌++◌, length, map, get_or, set, take, refl, sym, ap, ◌∙◌, subst, arith, length-append, append-nil, append_assoc, Some}
+use Rattle.std.proofs.Common.{◌≡◌, ◌≢◌, ℕ, zero, suc, ◌+◌, ◌-◌, ◌*◌, ◌%◌, ◌^◌, ◌<◌, ◌≤◌, Bool, true, false, cond, List, [], ◌∷◌, ◌++◌, length, map, get_or, set, take, refl, sym, ap, ◌∙◌, subst, arith, length-append, append-nil, append_assoc, Some, inl, inr}
 use Rattle.std.specs.Prelude.{slice_get, nat_eq, nat_lt, filter}
 use Rattle.std.proofs.lemmas.Bool.Decides.{nat_tests}
 use Rattle.std.proofs.lemmas.List.{get_or-map, length-map, map-append, take_more, take_at}
 use Rattle.std.proofs.lemmas.Simd.{map-map}
 use Rattle.std.proofs.lemmas.List.Elements.{filter-append}
 use Rattle.std.proofs.lemmas.List.Sums.{length-filter, count_by-le-length}
-use Rattle.std.proofs.lemmas.Option.{slice_get_read, slice_get_within}
+use Rattle.std.proofs.lemmas.Option.{slice_get_read, slice_get_within, same_Some}
 use Rattle.steal_pool.specs.declared.piece.Piece.{Piece}
 use Rattle.steal_pool.specs.Hands.{DequeId, PortView, HandView, fresh_port, standing, dealt_to, new_hand, new_hands, AreNumbered, Rise, IsHandOf, AreHandsOf}
 use Rattle.steal_pool.specs.Opening.{seated, bare_hands, seated_below, seated_hands, CanLeave, left_hand, CanDeal, dealt_one}
@@ -160,6 +160,20 @@ rise_filter p low high (x ∷ xs) r = by (rise_filter p (suc x.number) high xs r
     by more true = (r.0, more)
     by more false = rise_lower low (suc x.number) high (filter p xs) (omega (arith, r.0)) more
 
+same_number : (a b : ℕ) → nat_eq a b ≡ true → a ≡ b
+same_number a b e = grind (arith, nat_tests)
+
+-- what passes a filter stood in the list, and passes the test
+filter_there : (p : Piece → Bool) (xs : List Piece) (i : ℕ) (x : Piece) → slice_get (filter p xs) i ≡ Some x → (p x ≡ true) × ((j : ℕ) × (slice_get xs j ≡ Some x))
+filter_there p [] i x at = absurd (cc)
+filter_there p (y ∷ ys) i x at = by (λ k e. filter_there p ys k x e) (p y) refl i at
+  where
+    by : ((k : ℕ) → slice_get (filter p ys) k ≡ Some x → (p x ≡ true) × ((j : ℕ) × (slice_get ys j ≡ Some x))) → (b : Bool) → p y ≡ b → (i : ℕ) → slice_get (cond b (y ∷ filter p ys) (filter p ys)) i ≡ Some x
+        → (p x ≡ true) × ((j : ℕ) × (slice_get (y ∷ ys) j ≡ Some x))
+    by more true e zero at = (sym (ap p (same_Some y x at)) ∙ e, (0, at))
+    by more true e (suc i) at = let r = more i at in (r.0, (suc r.1.0, r.1.1))
+    by more false e i at = let r = more i at in (r.0, (suc r.1.0, r.1.1))
+
 pub are_hands : (pool : List DequeId) (pieces : List Piece) → AreNumbered pieces → length pieces ≤ 4096 → length pool ≤ 64 → AreHandsOf pool (new_hands pool pieces)
 are_hands pool pieces numbered few small =
     let f : ℕ → DequeId → HandView = λ n y. new_hand pool n y (dealt_to (length pool) n pieces) in record {
@@ -180,6 +194,11 @@ are_hands pool pieces numbered few small =
               put = refl;
               parts = (refl, refl);
               none = (refl, refl);
+              tell = λ i y ay.
+                  let r = filter_there (λ (z : Piece). nat_eq (z.number % length pool) k) pieces i y ay in
+                  let n : y.number ≡ r.1.0 = numbered r.1.0 y r.1.1 in
+                  let e : y.number % length pool ≡ k = same_number (y.number % length pool) k r.0 in
+                  inl (omega (arith, n, slice_get_within pieces r.1.0 y r.1.1, few), e);
               numbers = rise_more 0 (0 + length pieces) ((k + 1) * 2 ^ 32 + (length xs - length xs)) xs (omega arith) (rise_filter (λ (y : Piece). nat_eq (y.number % length pool) k) 0 (0 + length pieces) pieces (rise_numbered 0 pieces (λ j y a. omega (arith, numbered j y a))));
             }),
           );

@@ -1,11 +1,11 @@
 -- The ports of a hand, of which one changes.
-use Rattle.std.proofs.Common.{◌≡◌, ℕ, zero, suc, ◌+◌, ◌<◌, ◌≤◌, List, [], ◌∷◌, ◌++◌, length, map, get_or, set, refl, sym, ap, ◌∙◌, subst, arith, length-append, Option, Some, None, IfSome, IfNone}
+use Rattle.std.proofs.Common.{◌≡◌, ℕ, zero, suc, ◌+◌, ◌<◌, ◌≤◌, List, [], ◌∷◌, ◌++◌, length, map, get_or, set, refl, sym, ap, ◌∙◌, subst, arith, length-append, Option, Some, None, IfSome, IfNone, ◌⊎◌, ◌*◌, ◌^◌, ◌-◌, inl, inr}
 use Rattle.std.specs.Prelude.{slice_get}
 use Rattle.std.proofs.lemmas.List.{get_or-map, length-map, set-get_or}
 use Rattle.std.proofs.lemmas.Simd.{map-map}
 use Rattle.std.proofs.lemmas.Option.{slice_get-get_or, same_Some}
 use Rattle.steal_pool.specs.declared.piece.Piece.{Piece}
-use Rattle.steal_pool.specs.Hands.{DequeId, PortView, HandView, own_of, next_number, Rise, standing, at_deque, IsHandOf, took_port, looked_port, put_home}
+use Rattle.steal_pool.specs.Hands.{IsNumberOf, DequeId, PortView, HandView, own_of, next_number, Rise, standing, at_deque, IsHandOf, took_port, looked_port, put_home}
 use Rattle.steal_pool.specs.Calls.{change, change_below, took_from, found_at, looked_before, found_all, GetsOne, FindsNone}
 
 pub change_at : {A : Type 0} (f : A → A) (l : List A) (k : ℕ) (x : A) → k < length l → x ≡ get_or l k x → set l k (f x) ≡ change f k l
@@ -65,6 +65,18 @@ pub rise_push : (low high : ℕ) (xs : List Piece) (x : Piece) → Rise low xs h
 rise_push low high [] x r l = (omega arith, omega arith)
 rise_push low high (y ∷ ys) x r l = (r.0, rise_push (suc y.number) high ys x r.1 l)
 
+pub get_push : {A : Type 0} (l : List A) (x y : A) (i : ℕ) → slice_get (l ++ x ∷ []) i ≡ Some y → (slice_get l i ≡ Some y) ⊎ ((i ≡ length l) × (x ≡ y))
+get_push [] x y zero at = inr (refl, same_Some x y at)
+get_push [] x y (suc i) at = absurd (cc)
+get_push (z ∷ zs) x y zero at = inl at
+get_push (z ∷ zs) x y (suc i) at = elim (get_push zs x y i at) [
+  | inl s ↦ inl s
+  | inr s ↦ inr (ap suc s.0, s.1)
+]
+
+put_tells : (hands name p n : ℕ) → n ≡ (name + 1) * 2 ^ 32 + p → p < 4096 → IsNumberOf hands name n
+put_tells hands name p n e l = inr (omega arith)
+
 pub takes_one : (pool : List DequeId) (v : HandView) (k : ℕ) (x : Piece) → IsHandOf pool v → IsHandOf pool (took_from k x v)
 takes_one pool v k x h = record {
   ports = map_change standing (took_port x) (λ p. refl) k v.ports ∙ h.ports;
@@ -78,6 +90,7 @@ takes_one pool v k x h = record {
   parts = h.parts;
   none = h.none;
   numbers = h.numbers;
+  tell = h.tell;
 }
 
 pub looks_before : (pool : List DequeId) (v : HandView) (k : ℕ) → IsHandOf pool v → IsHandOf pool (looked_before k v)
@@ -93,6 +106,7 @@ looks_before pool v k h = record {
   parts = h.parts;
   none = h.none;
   numbers = h.numbers;
+  tell = h.tell;
 }
 
 pub puts_one : (pool : List DequeId) (v : HandView) (x : Piece) → IsHandOf pool v → length (own_of v) < 4096 → x.number ≡ next_number v → IsHandOf pool (record v { home = put_home v.home x })
@@ -110,6 +124,10 @@ puts_one pool v x h room e =
       parts = h.parts;
       none = h.none;
       numbers = subst (λ (z : ℕ). Rise 0 (own_of v ++ x ∷ []) z) (omega arith) (rise_push 0 (next_number v) (own_of v) x h.numbers (omega arith));
+      tell = λ i y ay. elim (get_push (own_of v) x y i ay) [
+        | inl s ↦ h.tell i y s
+        | inr s ↦ subst (λ (z : Piece). IsNumberOf (length pool) v.name z.number) s.1 (put_tells (length pool) v.name (length (own_of v) - v.count) x.number e (omega arith))
+      ];
     }
 
 -- what a call on one port does to all

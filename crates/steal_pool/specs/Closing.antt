@@ -2,7 +2,7 @@
 use Rattle.std.specs.Prelude.{◌≡◌, ℕ, zero, suc, ◌+◌, ◌-◌, ◌*◌, ◌<◌, ◌≤◌, true, cond, nat_eq, List, [], ◌∷◌, length, map, take, sum_by, slice_get, Some}
 use Rattle.steal_pool.specs.declared.piece.Piece.{Piece}
 use Rattle.steal_pool.specs.declared.closing.Closed.{Closed}
-use Rattle.steal_pool.specs.Hands.{DequeId, PortView, HandView, own_of, mark_of, joined}
+use Rattle.steal_pool.specs.Hands.{DequeId, PortView, HandView, own_of, mark_of, joined, IsNumberOf}
 use Rattle.steal_pool.specs.Steps.{IsWhole}
 
 -- the pieces that a hand took from the deque k
@@ -34,6 +34,9 @@ pub record IsClosed (hands : List HandView) (r : Closed) : Type 0 where
   -- no number is twice among those dealt to an owner and put by it, and none was taken from its deque twice
   pub taken_once : (k n : ℕ) → k < length hands → sum_by (λ (w : HandView). times n (took_at k w)) hands ≤ 1
   pub once : (k : ℕ) (v : HandView) → slice_get hands k ≡ Some v → (n : ℕ) → times n (own_of v) ≤ 1
+  -- each number tells its deque, so no number is on two deques
+  pub tell : (k : ℕ) (v : HandView) (i : ℕ) (x : Piece) → slice_get hands k ≡ Some v → slice_get (own_of v) i ≡ Some x
+      → IsNumberOf (length hands) k x.number
   pub put : r.put ≡ sum_by (λ (v : HandView). length (own_of v)) hands
   pub left : r.left ≡ sum_by (λ (xs : List Piece). length xs) lefts
   pub total : r.put ≡ r.taken + r.left

@@ -1,5 +1,5 @@
 -- What contracts see of a pool and of its hands. Own.
-use Rattle.std.specs.Prelude.{◌≡◌, ℕ, suc, ◌+◌, ◌-◌, ◌*◌, ◌^◌, ◌<◌, ◌≤◌, Bool, true, false, List, [], ◌∷◌, ◌++◌, length, map, filter, ◌%◌, nat_eq, slice_get, Some}
+use Rattle.std.specs.Prelude.{◌≡◌, ◌⊎◌, ◌/◌, ℕ, suc, ◌+◌, ◌-◌, ◌*◌, ◌^◌, ◌<◌, ◌≤◌, Bool, true, false, List, [], ◌∷◌, ◌++◌, length, map, filter, ◌%◌, nat_eq, slice_get, Some}
 use Rattle.std.specs.declared.alloc.Global.{Global}
 use Rattle.atomic_table.specs.Seated.{TableId}
 use Rattle.steal_pool.specs.declared.piece.Piece.{Piece}
@@ -130,6 +130,10 @@ standing p = (p.deque, p.log.parts, p.tally.parts)
 abbrev pub at_deque : DequeId → DequeId × ℕ × ℕ
 at_deque d = (d, 1, 1)
 
+-- a number tells the hand that it was dealt to, by its remainder, or that put it, by what stands above 2^32
+abbrev pub IsNumberOf : ℕ → ℕ → ℕ → Type 0
+IsNumberOf hands name n = ((n < 4096) × (n % hands ≡ name)) ⊎ (n / 2 ^ 32 ≡ name + 1)
+
 -- The hand is one of the pool's, with a port for each deque: it owns the deque of its number, has at most 4,096 pieces
 -- of its own, and their numbers rise.
 pub record IsHandOf (pool : List DequeId) (v : HandView) : Type 0 where
@@ -144,6 +148,7 @@ pub record IsHandOf (pool : List DequeId) (v : HandView) : Type 0 where
   pub parts : (v.home.log.parts ≡ 1024 - length pool) × (v.home.tally.parts ≡ 1024 - length pool)
   pub none : (v.home.log.got ≡ []) × (v.home.tally.gone ≡ 0)
   pub numbers : Rise 0 (own_of v) (next_number v)
+  pub tell : (i : ℕ) (x : Piece) → slice_get (own_of v) i ≡ Some x → IsNumberOf (length pool) v.name x.number
 
 -- the hands of a pool, in order
 pub record AreHandsOf (pool : List DequeId) (hands : List HandView) : Type 0 where
