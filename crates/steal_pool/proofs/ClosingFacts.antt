@@ -106,6 +106,48 @@ take_sum f hs j v at =
     let e : get_or hs j v ≡ v = same_Some (get_or hs j v) v (sym (slice_get-get_or hs j v b) ∙ at) in
     ap (λ (l : List HandView). sum_by f l) (take_more hs j v b) ∙ sum_by-append f (take j hs) (get_or hs j v ∷ []) ∙ omega (arith, sum_by-cons f (get_or hs j v) [], ap f e)
 
+-- the owner y has what u had, and the port p of the hand j, who was v
+gathers_port : (hs : List HandView) (j k : ℕ) (x u z y v : HandView) (ps : List PortView) (p : PortView) → IsGathered hs j k x u → slice_get hs j ≡ Some v → y ≡ joined_one p z → z.home ≡ u.home → (p.log.parts ≡ 1) × (p.tally.parts ≡ 1) → ps ≡ v.ports → slice_get ps k ≡ Some p → HasReported p
+    → IsGathered hs (j + 1) k x y
+gathers_port hs j k x u z y v ps p d at is same one mine there told =
+    let e : y.home ≡ joined u.home p = ap (λ (q : HandView). q.home) is ∙ ap (λ (q : PortView). joined q p) same in
+    let got : took_at k v ≡ p.log.got = ap (λ (l : List PortView). got_at k l) (sym mine) ∙ got_there ps k p there in record {
+  own = ap (λ (q : PortView). q.log.own) e ∙ d.own;
+  put = ap (λ (q : PortView). q.tally.put) e ∙ d.put;
+  mark = ap (λ (q : PortView). q.tally.mark) e ∙ d.mark;
+  log_parts = omega (arith, ap (λ (q : PortView). q.log.parts) e, d.log_parts, one.0);
+  tally_parts = omega (arith, ap (λ (q : PortView). q.tally.parts) e, d.tally_parts, one.1);
+  got = λ h. omega (
+    arith,
+    ap (λ (q : PortView). sum_by h q.log.got) e,
+    sum_by-append h u.home.log.got p.log.got,
+    d.got h,
+    take_sum (λ (q : HandView). sum_by h (took_at k q)) hs j v at,
+    ap (λ (l : List Piece). sum_by h l) got,
+  );
+  gone = omega (
+    arith,
+    ap (λ (q : PortView). q.tally.gone) e,
+    d.gone,
+    take_sum (λ (q : HandView). length (took_at k q)) hs j v at,
+    ap (λ (l : List Piece). length l) got,
+    told,
+  );
+}
+
+-- the owner z at k, after the hand u at j gave its ports away, has what the owner there had
+home_there : (us : List HandView) (j k : ℕ) (u w z : HandView) → slice_get us j ≡ Some u → w.home ≡ u.home → slice_get (set us j w) k ≡ Some z → (q : HandView) × (slice_get us k ≡ Some q) × (z.home ≡ q.home)
+home_there us j k u w z there was at = elim (set_there us j k z w at) [
+  | inl s ↦ (u, subst (λ (i : ℕ). slice_get us i ≡ Some u) (sym s.0) there, ap (λ (q : HandView). q.home) s.1 ∙ was)
+  | inr s ↦ (z, s.1, refl)
+]
+
+ports_there : (us : List HandView) (j i : ℕ) (w z x y : HandView) (p : PortView) → j + 1 ≤ i → y ≡ joined_one p z → slice_get (set us j w) i ≡ Some z → (slice_get us i ≡ Some z → z.ports ≡ x.ports) → y.ports ≡ x.ports
+ports_there us j i w z x y p low e at old = ap (λ (q : HandView). q.ports) e ∙ elim (set_there us j i z w at) [
+  | inl s ↦ absurd (omega (arith, s.0, low))
+  | inr s ↦ old s.1
+]
+
 -- the hand j is joined: its ports, which are taken from it first
 pub gathers_next : (pool : List DequeId) (hs us : List HandView) (j : ℕ) (v u w : HandView) (ps : List PortView) → AreHandsOf pool hs → AreGathered pool hs j us → slice_get hs j ≡ Some v → u ≡ get_or us j u → j < length us
     → ps ≡ u.ports → w ≡ record u { ports = [] } → HaveReported ps → AreGathered pool hs (j + 1) (joined_hands (set us j w) ps)
@@ -121,43 +163,11 @@ gathers_next pool hs us j v u w ps a g at at' b is was told =
       deques = deques_joined (set us j w) ps ∙ map_set (λ (z : HandView). z.home.deque) us j u w at' (ap (λ (z : HandView). z.home.deque) was) ∙ g.deques;
       ports = λ i x y low ax ay.
           let z = joined_there (set us j w) ps i y all ay in
-          ap (λ (q : HandView). q.ports) z.4 ∙ elim (set_there us j i z.0 w z.2) [
-            | inl s ↦ absurd (omega (arith, s.0, low))
-            | inr s ↦ g.ports i x z.0 (omega arith) ax s.1
-          ];
+          ports_there us j i w z.0 x y z.1 low z.4 z.2 (λ k. g.ports i x z.0 (omega (arith, low)) ax k);
       each = λ k x y ax ay.
           let z = joined_there (set us j w) ps k y all ay in
-          let home : (q : HandView) × (slice_get us k ≡ Some q) × (z.0.home ≡ q.home) = elim (set_there us j k z.0 w z.2) [
-            | inl s ↦ (u, subst (λ (i : ℕ). slice_get us i ≡ Some u) (sym s.0) there, ap (λ (q : HandView). q.home) (s.1 ∙ was))
-            | inr s ↦ (z.0, s.1, refl)
-          ] in
-          let d = g.each k x home.0 ax home.1 in
-          let e : y.home ≡ joined home.0.home z.1 = ap (λ (q : HandView). q.home) z.4 ∙ ap (λ (q : PortView). joined q z.1) home.2 in
-          let p = parts_there ps pool k z.1 fits z.3 in
-          let got : took_at k v ≡ z.1.log.got = ap (λ (l : List PortView). got_at k l) (sym mine) ∙ got_there ps k z.1 z.3 in
-          record {
-            own = ap (λ (q : PortView). q.log.own) e ∙ d.own;
-            put = ap (λ (q : PortView). q.tally.put) e ∙ d.put;
-            mark = ap (λ (q : PortView). q.tally.mark) e ∙ d.mark;
-            log_parts = omega (arith, ap (λ (q : PortView). q.log.parts) e, d.log_parts, p.0);
-            tally_parts = omega (arith, ap (λ (q : PortView). q.tally.parts) e, d.tally_parts, p.1);
-            got = λ h. omega (
-              arith,
-              ap (λ (q : PortView). sum_by h q.log.got) e,
-              sum_by-append h home.0.home.log.got z.1.log.got,
-              d.got h,
-              take_sum (λ (q : HandView). sum_by h (took_at k q)) hs j v at,
-              ap (λ (l : List Piece). sum_by h l) got,
-            );
-            gone = omega (
-              arith,
-              ap (λ (q : PortView). q.tally.gone) e,
-              d.gone,
-              take_sum (λ (q : HandView). length (took_at k q)) hs j v at,
-              ap (λ (l : List Piece). length l) got,
-              told k z.1 z.3,
-            );
-          };
+          let home = home_there us j k u w z.0 there (ap (λ (q : HandView). q.home) was) z.2 in
+          gathers_port hs j k x home.0 z.0 y v ps z.1 (g.each k x home.0 ax home.1) at z.4 home.2 (parts_there ps pool k z.1 fits z.3) mine z.3 (told k z.1 z.3);
     }
 
 take_all : {A : Type 0} (l : List A) → take (length l) l ≡ l

@@ -1,6 +1,8 @@
 -- Each kind of step keeps the rule of a deque.
-use Rattle.std.proofs.Common.{◌≡◌, ℕ, ◌<◌, List, [], ◌∷◌, ◌++◌, set, refl, sym, ap, ◌∙◌, arith}
+use Rattle.std.proofs.Common.{◌≡◌, ℕ, ◌<◌, List, [], ◌∷◌, ◌++◌, set, refl, sym, ap, ◌∙◌, arith, ◌+◌}
 use Rattle.std.specs.Prelude.{sum_by}
+use mathlib.Core.Option.{some}
+use lib.ListN.{get_elem?}
 use Rattle.std.proofs.lemmas.List.Sums.{sum_by-append}
 use Rattle.crossbeam_deque.specs.Tasks.{Pushes, Takes, Forks, Merges, Learns}
 use Rattle.atomic_table.proofs.Lists.{set_else}
@@ -19,43 +21,33 @@ begins = record {
   idle = each_one Idle newcomer (λ none. absurd (omega arith));
 }
 
+-- A step of one pass, by which the deque holds `after`: where what it put and took weighs as the difference, the rule
+-- stays.
+stays : (port : ℕ) (v w : Log) (items after : List Piece) (views : List Log) → IsShared items views → get_elem? views port ≡ some v → 0 < v.parts → w.parts ≡ v.parts
+    → ((h : Piece → ℕ) → sum_by h w.own + sum_by h v.got + sum_by h items ≡ sum_by h v.own + sum_by h w.got + sum_by h after) → IsShared after (set views port w)
+stays port v w items after views k at part same weighs = record {
+  parts = omega (arith, sum_set (λ (u : Log). u.parts) views port v w at, k.parts);
+  pieces = λ h. omega (
+    arith,
+    k.pieces h,
+    sum_set (λ (u : Log). sum_by h u.own) views port v w at,
+    sum_set (λ (u : Log). sum_by h u.got) views port v w at,
+    weighs h,
+  );
+  idle = each_set Idle views port w (λ none. absurd (omega arith)) (λ j u other e. k.idle j u e);
+}
+
 pub pushes : (port : ℕ) (v : Log) (xs : List Piece) → 0 < v.parts → Pushes IsShared port v xs (λ w. w ≡ pushed v xs)
 pushes port v xs part items views k at =
-    let w : Log = pushed v xs in (
-      w,
-      record {
-        parts = omega (arith, sum_set (λ (u : Log). u.parts) views port v w at, k.parts);
-        pieces = λ h. omega (
-          arith,
-          k.pieces h,
-          sum_set (λ (u : Log). sum_by h u.own) views port v w at,
-          sum_set (λ (u : Log). sum_by h u.got) views port v w at,
-          sum_by-append h v.own xs,
-          sum_by-append h items xs,
-        );
-        idle = each_set Idle views port w (λ none. absurd (omega arith)) (λ j u other e. k.idle j u e);
-      },
-      refl,
-    )
+    let weighs : (h : Piece → ℕ) → sum_by h (v.own ++ xs) + sum_by h v.got + sum_by h items ≡ sum_by h v.own + sum_by h v.got + sum_by h (items ++ xs) = λ h.
+    omega (arith, sum_by-append h v.own xs, sum_by-append h items xs) in
+    (pushed v xs, stays port v (pushed v xs) items (items ++ xs) views k at part refl weighs, refl)
 
 pub takes : (port : ℕ) (v : Log) → 0 < v.parts → Takes IsShared port v 1 (λ xs w. w ≡ taken v xs)
 takes port v part xs items views some_task one k at =
-    let w : Log = taken v xs in (
-      w,
-      record {
-        parts = omega (arith, sum_set (λ (u : Log). u.parts) views port v w at, k.parts);
-        pieces = λ h. omega (
-          arith,
-          k.pieces h,
-          sum_set (λ (u : Log). sum_by h u.own) views port v w at,
-          sum_set (λ (u : Log). sum_by h u.got) views port v w at,
-          sum_by-append h v.got xs,
-          sum_by-append h xs items,
-        );
-        idle = each_set Idle views port w (λ none. absurd (omega arith)) (λ j u other e. k.idle j u e);
-      },
-      refl,
-    )
+    let weighs : (h : Piece → ℕ) → sum_by h v.own + sum_by h v.got + sum_by h (xs ++ items) ≡ sum_by h v.own + sum_by h (v.got ++ xs) + sum_by h items = λ h.
+    omega (arith, sum_by-append h v.got xs, sum_by-append h xs items) in
+    (taken v xs, stays port v (taken v xs) (xs ++ items) items views k at part refl weighs, refl)
 
 pub forks : (port : ℕ) (v : Log) → 1 < v.parts → Forks IsShared port v (log_left v) (log_right v)
 forks port v two items views k at =

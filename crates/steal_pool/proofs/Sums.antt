@@ -7,11 +7,6 @@ use Rattle.atomic_table.proofs.Lists.{at_set, at_snoc}
 use Rattle.std.proofs.lemmas.List.Sums.{sum_by-append, sum_by-cons}
 
 module _ {A : Type 0} where
-  pub set_at : (l : List A) (i : ℕ) (v w : A) → get_elem? l i ≡ some v → get_elem? (set l i w) i ≡ some w
-  set_at [] i v w e = absurd (some-ne-none v (sym e))
-  set_at (x ∷ xs) zero v w e = refl
-  set_at (x ∷ xs) (suc i) v w e = set_at xs i v w e
-
   pub sum_set : (f : A → ℕ) (l : List A) (i : ℕ) (v w : A) → get_elem? l i ≡ some v → sum_by f (set l i w) + f v ≡ sum_by f l + f w
   sum_set f [] i v w e = absurd (some-ne-none v (sym e))
   sum_set f (x ∷ xs) zero v w e = let p : f x ≡ f v = ap f (some-injective x v e) in omega (arith, sum_by-cons f x xs, sum_by-cons f w xs)
