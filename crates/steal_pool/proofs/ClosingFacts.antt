@@ -112,28 +112,28 @@ gathers_port : (hs : List HandView) (j k : ℕ) (x u z y v : HandView) (ps : Lis
 gathers_port hs j k x u z y v ps p d at is same one mine there told =
     let e : y.home ≡ joined u.home p = ap (λ (q : HandView). q.home) is ∙ ap (λ (q : PortView). joined q p) same in
     let got : took_at k v ≡ p.log.got = ap (λ (l : List PortView). got_at k l) (sym mine) ∙ got_there ps k p there in record {
-  own = ap (λ (q : PortView). q.log.own) e ∙ d.own;
-  put = ap (λ (q : PortView). q.tally.put) e ∙ d.put;
-  mark = ap (λ (q : PortView). q.tally.mark) e ∙ d.mark;
-  log_parts = omega (arith, ap (λ (q : PortView). q.log.parts) e, d.log_parts, one.0);
-  tally_parts = omega (arith, ap (λ (q : PortView). q.tally.parts) e, d.tally_parts, one.1);
-  got = λ h. omega (
-    arith,
-    ap (λ (q : PortView). sum_by h q.log.got) e,
-    sum_by-append h u.home.log.got p.log.got,
-    d.got h,
-    take_sum (λ (q : HandView). sum_by h (took_at k q)) hs j v at,
-    ap (λ (l : List Piece). sum_by h l) got,
-  );
-  gone = omega (
-    arith,
-    ap (λ (q : PortView). q.tally.gone) e,
-    d.gone,
-    take_sum (λ (q : HandView). length (took_at k q)) hs j v at,
-    ap (λ (l : List Piece). length l) got,
-    told,
-  );
-}
+      own = ap (λ (q : PortView). q.log.own) e ∙ d.own;
+      put = ap (λ (q : PortView). q.tally.put) e ∙ d.put;
+      mark = ap (λ (q : PortView). q.tally.mark) e ∙ d.mark;
+      log_parts = omega (arith, ap (λ (q : PortView). q.log.parts) e, d.log_parts, one.0);
+      tally_parts = omega (arith, ap (λ (q : PortView). q.tally.parts) e, d.tally_parts, one.1);
+      got = λ h. omega (
+        arith,
+        ap (λ (q : PortView). sum_by h q.log.got) e,
+        sum_by-append h u.home.log.got p.log.got,
+        d.got h,
+        take_sum (λ (q : HandView). sum_by h (took_at k q)) hs j v at,
+        ap (λ (l : List Piece). sum_by h l) got,
+      );
+      gone = omega (
+        arith,
+        ap (λ (q : PortView). q.tally.gone) e,
+        d.gone,
+        take_sum (λ (q : HandView). length (took_at k q)) hs j v at,
+        ap (λ (l : List Piece). length l) got,
+        told,
+      );
+    }
 
 -- the owner z at k, after the hand u at j gave its ports away, has what the owner there had
 home_there : (us : List HandView) (j k : ℕ) (u w z : HandView) → slice_get us j ≡ Some u → w.home ≡ u.home → slice_get (set us j w) k ≡ Some z → (q : HandView) × (slice_get us k ≡ Some q) × (z.home ≡ q.home)
