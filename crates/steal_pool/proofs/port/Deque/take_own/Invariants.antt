@@ -1,0 +1,5 @@
+use Rattle.std.proofs.Common.{◌≡◌}
+use Rattle.steal_pool.proofs.port.Deque.take_own.Given as goal
+
+abbrev pub invariant-loop : goal.invariant-loop
+invariant-loop g l = (l.port ≡ l.fn.port) × (l.home ≡ l.fn.home)
