@@ -110,11 +110,11 @@ impl Levels {
                 return Ok(false);
             };
             self.left = self.left.saturating_sub(1);
-            let rest = set.minus(&listed.load);
-            if rest.is_empty() {
-                return Ok(true);
-            }
             if listed.is_full {
+                let rest = set.minus(&listed.load);
+                if rest.is_empty() {
+                    return Ok(true);
+                }
                 let time = cycle.saturating_sub(listed.left);
                 left.push(Rest {
                     set: rest,

@@ -8,10 +8,10 @@ use line_rules::Mode;
 use std::alloc::{AllocError, Global};
 use task_set::TaskSet;
 
-/// What a listing had before a task was added.
+/// A task that was added to a load, by place, and what the listing had before.
 #[derive(Clone, Copy)]
 struct Step {
-    load: TaskSet,
+    place: u32,
     ready: TaskSet,
     passed: TaskSet,
     left: u64,
@@ -92,7 +92,7 @@ impl Listing {
     /// Adds the task at a place to the load.
     fn step_down(&mut self, line: &Placed, place: u32) -> Result<(), AllocError> {
         self.steps.push(Step {
-            load: self.load,
+            place,
             ready: self.ready,
             passed: self.passed,
             left: self.left,
@@ -113,8 +113,11 @@ impl Listing {
             is_full: self.first_of(line, joining).is_none(),
         };
         let step = self.steps.pop()?;
-        self.passed = step.passed.union(&listed.load.minus(&step.load));
-        self.load = step.load;
+        self.passed = step.passed;
+        if step.place < 1024 {
+            self.passed.insert(step.place);
+            self.load.remove(step.place);
+        }
         self.ready = step.ready;
         self.left = step.left;
         Some(listed)
@@ -123,7 +126,7 @@ impl Listing {
     /// The next load, where there is one.
     pub fn next(&mut self, line: &Placed) -> Result<Option<Listed>, AllocError> {
         for _ in 0..line.len().saturating_add(1) {
-            let fitting = self.ready.minus(&line.longer_than(self.left));
+            let fitting = line.fitting(&self.ready, self.left);
             match self.first_of(line, &fitting.minus(&self.passed)) {
                 Some(place) => self.step_down(line, place)?,
                 None => return Ok(self.step_up(&fitting, line)),

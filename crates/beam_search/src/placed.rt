@@ -22,6 +22,8 @@ pub(crate) struct Placed {
     apart: Vec<TaskSet>,
     /// Whether some tasks are apart.
     has_apart: bool,
+    /// For each place, and one behind the last, the places from there on.
+    from: Vec<TaskSet>,
 }
 
 /// The tasks of a line in the order of their places.
@@ -48,6 +50,17 @@ fn places_of(tasks: &[u32], set: &TaskSet) -> TaskSet {
         }
     }
     places
+}
+
+/// For each of so many places, and one behind the last, the places from there on.
+fn places_from(alloc: Global, count: usize) -> Result<Vec<TaskSet>, AllocError> {
+    let all = TaskSet::full_to(count.min(1024) as u32);
+    let mut from = Vec::with_capacity(alloc, count)?;
+    for place in 0..count {
+        from.push(all.minus(&TaskSet::full_to(place.min(1024) as u32)))?;
+    }
+    from.push(TaskSet::empty())?;
+    Ok(from)
 }
 
 /// The set at a place, empty where there is none.
@@ -85,6 +98,7 @@ impl Placed {
                 apart.push(places_of(&tasks, inst.apart(*task)))?;
             }
         }
+        let from = places_from(alloc, tasks.len())?;
         Ok(Placed {
             tasks,
             times,
@@ -92,6 +106,7 @@ impl Placed {
             after,
             apart,
             has_apart,
+            from,
         })
     }
 
@@ -155,10 +170,13 @@ impl Placed {
         }
     }
 
-    /// The places whose tasks take longer than so much: all in front of the first one that doesn't.
-    pub fn longer_than(&self, left: u64) -> TaskSet {
+    /// Those of some places whose tasks take no longer than so much: from the first such place on, all do.
+    pub fn fitting(&self, places: &TaskSet, left: u64) -> TaskSet {
         let first = self.times.partition_point(|time: &u64| *time > left);
-        TaskSet::full_to(first.min(1024) as u32)
+        match self.from.get(first) {
+            Some(from) => places.meet(from),
+            None => TaskSet::empty(),
+        }
     }
 
     /// The tasks at these places.
