@@ -86,6 +86,18 @@ one_more X es passed frame all un k f e = elim (get_push_cases passed frame f k 
   | inr h ↦ (let P : OpenFrame → Type 0 = λ z. IsUnanswered es z.set z.most X in subst P h.1 un)
 ]
 
+-- the account of a search that did nothing
+pub idle : (asked : Option Mode) (kind : LineKind) (line : Line) (X : ℕ) (old : DeskView) (used most : ℕ) → Accounts asked kind line X old old [] used most
+idle asked kind line X old used most = record {
+  items = [];
+  published = 0;
+  listed = 0;
+  done = does_waits asked kind line X old old (waits_none old);
+  framed = refl;
+  within = omega arith;
+  few = omega arith;
+}
+
 module _ (asked : Option Mode) (kind : LineKind) (line : Line) (ranked : IsRanked line) (X : ℕ) (old : DeskView) where
   pub tally_starts : (frame : OpenFrame) → frame.last ≡ None → (old.alone ≡ true → IsUnanswered (entries old) frame.set frame.most X) → Tally asked kind line X old old [] frame 0 0
   tally_starts frame last un = record {

@@ -27,7 +27,8 @@ pub enum Decided {
     Refuted(Reason),
     /// It has one: the loads of its stations, in order.
     Found(Loads),
-    /// The units ended before it was decided: the open frames of the search, from the question down.
+    /// The units ended before it was decided: the open frames of the search, from the question down. This answer takes
+    /// no memory: where no unit is left and one more load is needed, the search never gives `NoMemory` in its place.
     Spent(Frames),
     /// Out of memory before it was decided: open frames of the search, or none.
     NoMemory(Frames),

@@ -23,8 +23,8 @@ use task_set::TaskSet;
 ///
 /// The desk is for this instance, line kind and cycle, which is 1 to 1,000,000,000,000,000,000 in the instance's time
 /// unit; `most` is at most 1,024. Each load that is listed takes a unit from those left. Where none is left and one
-/// more load is needed, the answer is `Spent`. The frames of the search stand on a stack in the heap. Each has the mode
-/// of its set, by `choose_mode`.
+/// more load is needed, the answer is `Spent`, and takes no memory: the frames of the search stand on a stack in the
+/// heap, which has room for one more at all times. Each frame has the mode of its set, by `choose_mode`.
 pub fn decide<D: Desk>(
     alloc: Global,
     desk: &mut D,

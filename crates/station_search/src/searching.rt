@@ -24,10 +24,10 @@ use crate::listings::{Listing, begin_listing, next_load};
 use crate::modes::mode_for;
 use crate::ordering::loads_in_order;
 use crate::sorting::{Sorted, sort_load};
-use crate::stacks::{pop_from, push_on, take_from};
+use crate::stacks::{pop_from, push_on, stack_with_room, take_from, trail_to};
 use lemma_core::{Desk, Published};
 use line_instance::Instance;
-use line_rules::{Cites, Entry, Frames, LineKind, Mode, OpenFrame, Why};
+use line_rules::{Cites, Entry, LineKind, Mode, OpenFrame, Why};
 use std::alloc::{AllocError, Global};
 use task_set::TaskSet;
 
@@ -118,7 +118,7 @@ pub fn search<D: Desk>(
         OnErr result (Accounts mode kind inst.now cycle (D.desk desk.old) (D.desk desk.new) [] used used) }
 {
     let _tasks = inst.tasks();
-    let mut passed: Vec<OpenFrame> = Vec::new(alloc);
+    let mut passed: Vec<OpenFrame> = stack_with_room(alloc)?;
     let mut listings: Vec<Listing> = Vec::new(alloc);
     let mut frame = open_frame(alloc, inst, kind, set, most, mode);
     let mut listing = begin_listing(inst, cycle, &frame);
@@ -137,8 +137,7 @@ pub fn search<D: Desk>(
             }
             Some(load) => {
                 if units.left == 0 {
-                    push_on(&mut passed, frame)?;
-                    return Ok(Decided::Spent(Frames::from_vec(passed)));
+                    return Ok(Decided::Spent(trail_to(passed, frame)));
                 }
                 units.left -= 1;
                 units.used += 1;
@@ -147,8 +146,7 @@ pub fn search<D: Desk>(
                     Sorted::Closed => {}
                     Sorted::Covered(id) => frame.cites.push(id)?,
                     Sorted::Empty => {
-                        push_on(&mut passed, frame)?;
-                        let frames = Frames::from_vec(passed);
+                        let frames = trail_to(passed, frame);
                         return Ok(Decided::Found(loads_in_order(alloc, &frames)?));
                     }
                     Sorted::Open(rest) => {

@@ -1,4 +1,4 @@
-use Rattle.std.proofs.Common.{◌≡◌, ◌+◌, ◌*◌, ◌-◌, ◌≤◌, length}
+use Rattle.std.proofs.Common.{◌≡◌, ◌+◌, ◌*◌, ◌-◌, ◌<◌, ◌≤◌, length, vec_len, vec_capacity}
 use Rattle.lemma_core.specs.Desks.{entries, Keeps}
 use Rattle.station_search.specs.Work.{IsBeside}
 use Rattle.station_search.proofs.States.{IsSearching}
@@ -13,6 +13,7 @@ invariant-search g l = record {
   spent : l.fn.units.used ≤ l.units.used;
   searching : IsSearching l.mode l.kind l.inst l.cycle (entries (g.D.Desk.desk l.desk)) l.set l.most l.passed.items l.frame;
   beside : IsBeside l.inst l.cycle l.frame l.listing;
+  room : vec_len l.passed < vec_capacity l.passed;
   paired : ArePaired l.inst l.cycle l.passed.items l.listings.items;
   tally : Tally l.mode l.kind l.inst l.cycle (g.D.Desk.desk l.fn.desk) (g.D.Desk.desk l.desk) l.passed.items l.frame (l.units.used - l.fn.units.used) 0;
 }
