@@ -11,3 +11,4 @@ pub mod Standins
 pub mod Endings
 pub mod Standing
 pub mod RestTimes
+pub mod Crowding

@@ -52,4 +52,4 @@ module _ (line : Line) (X : ℕ) (fs upper : List OpenFrame) (ws above : List Li
   paired_last cites =
       let b : IsBeside line X f w = p.beside (length upper) f w (ap (λ (z : List OpenFrame). slice_get z (length upper)) e ∙ get_last upper f)
       (ap (λ (z : List Listing). slice_get z (length upper)) q ∙ (ap (λ (k : ℕ). slice_get (above ++ w ∷ []) k) longs ∙ get_last above w)) in
-      record { walk = b.walk; same_cycle = b.same_cycle; same_mode = b.same_mode; same_set = b.same_set; same_last = b.same_last; times = b.times }
+      record { walk = b.walk; same_cycle = b.same_cycle; same_mode = b.same_mode; same_set = b.same_set; same_last = b.same_last; times = b.times; halves = b.halves }

@@ -39,7 +39,7 @@ adds_few (sorted.Open set) = omega arith
 
 -- a load beside other cites
 pub beside_cites : (line : Line) (X : ℕ) (f : OpenFrame) (w : Listing) (cites : List ℕ) → IsBeside line X f w → IsBeside line X (with_cites f cites) w
-beside_cites line X f w cites b = record { walk = b.walk; same_cycle = b.same_cycle; same_mode = b.same_mode; same_set = b.same_set; same_last = b.same_last; times = b.times }
+beside_cites line X f w cites b = record { walk = b.walk; same_cycle = b.same_cycle; same_mode = b.same_mode; same_set = b.same_set; same_last = b.same_last; times = b.times; halves = b.halves }
 
 module _ (asked : Option Mode) (kind : LineKind) (line : Line) (ranked : IsRanked line) (X : ℕ) (R : List Bool) (most : ℕ) where
   -- the search's state over the entries that are there after a call

@@ -1,7 +1,7 @@
 -- What the steps of a search do: how a load is sorted, what is published, and what a walk stands for.
-use Rattle.std.specs.Prelude.{◌≡◌, ℕ, ◌+◌, ◌-◌, ◌≤◌, Bool, true, List, [], ◌∷◌, ◌++◌, length, Option, Some, None}
-use Rattle.task_set.specs.Truths.{IsEmpty}
-use Rattle.line_instance.specs.Line.{Line}
+use Rattle.std.specs.Prelude.{◌≡◌, ℕ, ◌+◌, ◌-◌, ◌*◌, ◌<◌, ◌≤◌, Bool, true, List, [], ◌∷◌, ◌++◌, length, Option, Some, None}
+use Rattle.task_set.specs.Truths.{In, IsEmpty}
+use Rattle.line_instance.specs.Line.{Line, time}
 use Rattle.line_rules.specs.Loads.{rest}
 use Rattle.line_rules.specs.Entries.{IsOpen, Cites, IsUnanswered}
 use Rattle.line_rules.specs.Units.{UnitsIn}
@@ -23,7 +23,8 @@ use Rattle.station_search.specs.declared.listings.Listing.{Listing}
 use Rattle.station_search.specs.declared.sorting.Sorted.{Sorted}
 use Rattle.station_search.specs.declared.sorting.Sorted.TheVariants as sorted
 
--- the listing goes over the loads of the frame, stands at its last one, and has the times of its set
+-- the listing goes over the loads of the frame, stands at its last one, has the times of its set, and knows tasks that
+-- take more than half a cycle
 pub record IsBeside (line : Line) (X : ℕ) (f : OpenFrame) (g : Listing) : Type 0 where
   pub walk : IsWalk line g.walk
   pub same_cycle : g.walk.cycle ≡ X
@@ -31,6 +32,7 @@ pub record IsBeside (line : Line) (X : ℕ) (f : OpenFrame) (g : Listing) : Type
   pub same_set : g.walk.set ≡ f.set
   pub same_last : g.walk.last ≡ f.last
   pub times : AreTimes line f.set g.times.total g.times.longest
+  pub halves : (i : ℕ) → In g.halves i → X < 2 * time line i
 
 -- the frame with a load as its last, and with other cites
 abbrev pub with_last : OpenFrame → Load → OpenFrame

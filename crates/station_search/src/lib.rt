@@ -4,6 +4,7 @@
 
 mod answers;
 mod deciding;
+mod halves;
 mod listings;
 mod modes;
 mod ordering;

@@ -1,4 +1,5 @@
-//! The listing of a frame's loads: the walk from load to load, beside the times of the frame's set.
+//! The listing of a frame's loads: the walk from load to load, beside the times of the frame's set and those of its
+//! tasks that take more than half a cycle.
 //!
 //! The rest of a load takes the total time of the set less the load's own, which the walk keeps. So most loads are
 //! closed by two numbers, before the tasks that they leave are looked at.
@@ -10,19 +11,23 @@ ghost use Rattle.line_rules.specs.declared.types.Load.{Load as Pair};
 ghost use Rattle.load_facts.specs.Times.{AreTimes};
 ghost use Rattle.station_search.specs.Work.{IsBeside, with_last};
 
+use crate::halves::halves_of;
 use line_instance::Instance;
 use line_rules::{Load, OpenFrame};
 use lower_bounds::{Times, times_in};
 use station_load::Walk;
 use station_load::steps::begin;
+use task_set::TaskSet;
 
-/// A walk over the loads of a set, and the times of the set.
+/// A walk over the loads of a set, the times of the set, and its tasks over half a cycle.
 #[derive(Drop)]
 pub struct Listing {
     /// The walk, which stands at the load that was listed last.
     pub walk: Walk,
     /// The times of the set.
     pub times: Times,
+    /// The tasks of the set that take more than half a cycle.
+    pub halves: TaskSet,
 }
 
 /// The listing of a frame of which no load was listed.
@@ -34,6 +39,7 @@ pub fn begin_listing(inst: &Instance, cycle: u64, frame: &OpenFrame) -> Listing
     Listing {
         walk: begin(inst, cycle, &frame.set, frame.mode),
         times: times_in(inst, &frame.set),
+        halves: halves_of(inst, cycle, &frame.set),
     }
 }
 

@@ -30,7 +30,7 @@ pub enum Sorted {
 }
 
 /// What is to be done with the last load of a frame, at which its listing stands. The total time of what it leaves
-/// is asked first, since it closes most loads.
+/// is asked first, since it closes most loads, and then how many tasks over half a cycle it leaves.
 pub fn sort_load<D: Desk>(
     desk: &mut D,
     inst: &Instance,
@@ -60,10 +60,13 @@ pub fn sort_load<D: Desk>(
     if is_longer(times.total, frame.most - 1, cycle) {
         return Ok(Sorted::Closed);
     }
+    let rest = frame.set.minus(&load.front.union(&load.back));
+    if listing.halves.meet(&rest).count() > frame.most - 1 {
+        return Ok(Sorted::Closed);
+    }
     if !listing.walk.full(inst) {
         return Ok(Sorted::Closed);
     }
-    let rest = frame.set.minus(&load.front.union(&load.back));
     if exceeds_with(inst, kind, cycle, &rest, times, frame.most - 1) {
         return Ok(Sorted::Closed);
     }

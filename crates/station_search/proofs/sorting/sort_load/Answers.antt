@@ -1,5 +1,5 @@
-use Rattle.std.proofs.Common.{ℕ, ◌-◌, ◌*◌, ◌<◌, List, Bool, ap, ◌∙◌, sym, subst, arith}
-use Rattle.task_set.specs.Truths.{minus}
+use Rattle.std.proofs.Common.{◌≡◌, ℕ, ◌-◌, ◌*◌, ◌<◌, List, Bool, ap, ◌∙◌, sym, subst, arith}
+use Rattle.task_set.specs.Truths.{minus, meet, count}
 use Rattle.line_instance.specs.Line.{IsTaskSet}
 use Rattle.line_rules.specs.Loads.{rest}
 use Rattle.load_facts.specs.Times.{AreTimes}
@@ -11,6 +11,7 @@ use Rattle.station_search.proofs.Standins.{does_for_then}
 use Rattle.station_search.proofs.Endings.{on_err}
 use Rattle.station_search.proofs.Paying.{one_none}
 use Rattle.station_search.proofs.States.{rest_tasks}
+use Rattle.station_search.proofs.Crowding.{crowded}
 use Rattle.station_search.proofs.sorting.sort_load.Goals as goal
 
 pub returns-then-is_longer-clause-publishes : goal.returns-then-is_longer-clause-publishes
@@ -27,6 +28,20 @@ pub exceeds_with-requires-clause-times : goal.exceeds_with-requires-clause-times
 exceeds_with-requires-clause-times g c =
     let P : List Bool → Type 0 = λ z. AreTimes c.args.inst.now z c.rest_times-times.result.total c.rest_times-times.result.longest in
     subst P (sym (c.minus-rest.ensures.value ∙ ap (λ (z : List Bool). minus c.args.frame.now.set z) c.union.ensures.value)) c.rest_times-times.ensures
+
+pub returns-then-count-frame-clause-publishes : goal.returns-then-count-frame-clause-publishes
+returns-then-count-frame-clause-publishes g c = λ asked.
+    one_none asked c.args.kind c.args.inst.now c.args.cycle (g.D.Desk.desk c.args.desk.now) (g.D.Desk.desk c.args.desk.now) (rest c.args.frame.now.set c.args.load.now) 0 (waits_none (g.D.Desk.desk c.args.desk.now))
+
+pub returns-then-count-frame-clause-sorts : goal.returns-then-count-frame-clause-sorts
+returns-then-count-frame-clause-sorts g c = λ o.
+    let T : List Bool = rest c.args.frame.now.set c.args.load.now in
+    let H : List Bool = c.args.listing.now.halves in
+    let same : c.minus-rest.result ≡ T = c.minus-rest.ensures.value ∙ ap (λ (z : List Bool). minus c.args.frame.now.set z) c.union.ensures.value in
+    let many : c.count.result ≡ count (meet H T) = c.count.ensures.value ∙ (ap (λ (z : List Bool). count z) c.meet.ensures.value ∙ ap (λ (z : List Bool). count (meet H z)) same) in
+    let more : c.args.frame.now.most - 1 < count (meet H T) = omega (arith, c.if-count-frame.true, many) in
+    let tasks : IsTaskSet c.args.inst.now T = rest_tasks c.args.inst.now c.args.frame.now.set c.args.load.now c.requires.set in
+    omega (arith, o.bound, c.requires.some, crowded c.args.kind c.args.inst.now c.args.cycle H T (c.args.frame.now.most - 1) tasks c.requires.beside.halves (omega (arith, c.requires.few)) more)
 
 pub returns-then-not-full-clause-publishes : goal.returns-then-not-full-clause-publishes
 returns-then-not-full-clause-publishes g c = λ asked.
