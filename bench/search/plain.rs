@@ -27,6 +27,10 @@ fn meet(a: &Set, b: &Set) -> Set {
     std::array::from_fn(|k| a[k] & b[k])
 }
 
+fn common(a: &Set, b: &Set) -> u32 {
+    (0..16).map(|k| (a[k] & b[k]).count_ones()).sum()
+}
+
 fn disjoint(a: &Set, b: &Set) -> bool {
     let mut all = 0;
     for k in 0..16 {
@@ -206,6 +210,7 @@ struct Walk {
     sum: u64,
     total: u64,
     longest: u64,
+    halves: Set,
     front: End,
     back: End,
 }
@@ -279,6 +284,7 @@ impl Walk {
             sum: 0,
             total,
             longest,
+            halves: halves_of(line, cycle, set),
             front: if mode != Mode::Back {
                 End::of(line, set, Side::Front)
             } else {
@@ -446,6 +452,16 @@ fn times_in(line: &Line, set: &Set) -> (u64, u64) {
         longest = longest.max(time);
     }
     (total, longest)
+}
+
+fn halves_of(line: &Line, cycle: u64, set: &Set) -> Set {
+    let mut halves = [0; 16];
+    for i in members(set) {
+        if 2 * line.times[i as usize] > cycle {
+            insert(&mut halves, i);
+        }
+    }
+    halves
 }
 
 fn sixths(cycle: u64, time: u64) -> u64 {
@@ -696,10 +712,13 @@ fn sort_load(
 ) -> Sorted {
     let total = frame.walk.total - frame.walk.sum;
     let most = frame.most - 1;
-    if total > u64::from(most) * cycle || !frame.walk.full(line) {
+    if total > u64::from(most) * cycle {
         return Sorted::Closed;
     }
     let rest: Set = std::array::from_fn(|k| frame.set[k] & !(load.0[k] | load.1[k]));
+    if common(&frame.walk.halves, &rest) > most || !frame.walk.full(line) {
+        return Sorted::Closed;
+    }
     if exceeds(line, u, cycle, &rest, (total, frame.walk.longest), most) {
         return Sorted::Closed;
     }
