@@ -1,6 +1,7 @@
 //! The reading of a text of version 1, behind its first line.
-ghost use Rattle.std.specs.Prelude.{◌≡◌, ℕ, ◌≤◌, IfOk, length};
+ghost use Rattle.std.specs.Prelude.{◌≡◌, ◌≤◌, IfOk, length};
 ghost use Rattle.cert_lines.specs.Judging.{IsRead};
+ghost use Rattle.cert_lines.specs.ReadingOn.{IsReadOn};
 ghost use Rattle.cert_lines.specs.Patterns.{IsOpening};
 ghost use Rattle.cert_lines.specs.OldRanges.{IsPart, AreParts, IsOldClaim, IsOldInRange};
 ghost use Rattle.cert_text.specs.Parts.{IsHeadOf};
@@ -10,7 +11,7 @@ ghost use Rattle.line_rules.specs.Ranges.{IsCycle};
 use crate::reading::{Head, Placed, read_head, read_placed};
 use cert_lines::pattern::{read_line, read_lines};
 use cert_lines::patterns::{
-    EndLine, EntryLine, FrameLine, Key, MAX_CYCLE, NumberLine, Opening, OpeningLine,
+    EndLine, EntryLine, FrameLine, Key, MAX_CYCLE, Opening, OpeningLine, read_number,
 };
 use cert_lines::version_one::{OldCertificate, OldClaim, Part, Parts};
 use cert_lines::{ReadError, Source};
@@ -40,19 +41,9 @@ fn read_frames<S: Source>(
     requires room { room ≤ 1024 }
     ensures said { IfOk result (AreFrames tasks count room) }
     ensures read { S.told → IsRead (old_trails tasks count room) (S.number source.old) (S.left source.old) (S.left source.new) (S.number source.new) result }
-    ensures base { S.base source.new ≡ S.base source.old }
-    ensures faults { S.faults source.old ≤ S.faults source.new }
-    ensures least { S.least source.old ≤ S.least source.new }
+    ensures source { IsReadOn S.base S.faults S.least source.old source.new }
 {
-    let many = read_line(
-        alloc,
-        source,
-        &NumberLine {
-            key: Key::Trail,
-            low: 0,
-            high: room,
-        },
-    )?;
+    let many = read_number(alloc, source, Key::Trail, 0, room)?;
     let frames = read_lines(alloc, source, &FrameLine { tasks, count }, many)?;
     Ok(Frames::from_vec(frames))
 }
@@ -69,28 +60,10 @@ fn read_part<S: Source>(
     requires room { room ≤ 1024 }
     ensures said { IfOk result (λ p. IsPart tasks p × (length p.frames ≤ room)) }
     ensures read { S.told → IsRead (one_part tasks room) (S.number source.old) (S.left source.old) (S.left source.new) (S.number source.new) result }
-    ensures base { S.base source.new ≡ S.base source.old }
-    ensures faults { S.faults source.old ≤ S.faults source.new }
-    ensures least { S.least source.old ≤ S.least source.new }
+    ensures source { IsReadOn S.base S.faults S.least source.old source.new }
 {
-    let cycle = read_line(
-        alloc,
-        source,
-        &NumberLine {
-            key: Key::Part,
-            low: 1,
-            high: MAX_CYCLE,
-        },
-    )?;
-    let count = read_line(
-        alloc,
-        source,
-        &NumberLine {
-            key: Key::Entries,
-            low: 0,
-            high: MAX_PART_ENTRIES,
-        },
-    )?;
+    let cycle = read_number(alloc, source, Key::Part, 1, MAX_CYCLE)?;
+    let count = read_number(alloc, source, Key::Entries, 0, MAX_PART_ENTRIES)?;
     let entries = read_lines(
         alloc,
         source,
@@ -125,9 +98,7 @@ fn read_single<S: Source>(alloc: Global, source: &mut S, tasks: u32) -> Result<P
     requires few { tasks ≤ 1024 }
     ensures said { IfOk result (AreParts tasks) }
     ensures read { S.told → IsRead (so_many tasks 1) (S.number source.old) (S.left source.old) (S.left source.new) (S.number source.new) result }
-    ensures base { S.base source.new ≡ S.base source.old }
-    ensures faults { S.faults source.old ≤ S.faults source.new }
-    ensures least { S.least source.old ≤ S.least source.new }
+    ensures source { IsReadOn S.base S.faults S.least source.old source.new }
 {
     let part = read_part(alloc, source, tasks, MAX_FRAMES)?;
     let mut parts = Vec::new(alloc);
@@ -141,9 +112,7 @@ fn read_pair<S: Source>(alloc: Global, source: &mut S, tasks: u32) -> Result<Par
     requires few { tasks ≤ 1024 }
     ensures said { IfOk result (AreParts tasks) }
     ensures read { S.told → IsRead (so_many tasks 2) (S.number source.old) (S.left source.old) (S.left source.new) (S.number source.new) result }
-    ensures base { S.base source.new ≡ S.base source.old }
-    ensures faults { S.faults source.old ≤ S.faults source.new }
-    ensures least { S.least source.old ≤ S.least source.new }
+    ensures source { IsReadOn S.base S.faults S.least source.old source.new }
 {
     let first = read_part(alloc, source, tasks, MAX_FRAMES)?;
     let second = read_part(alloc, source, tasks, room_behind(&first))?;
@@ -165,9 +134,7 @@ fn read_so_many<S: Source>(
     requires two { count ≤ 2 }
     ensures said { IfOk result (AreParts tasks) }
     ensures read { S.told → IsRead (so_many tasks count) (S.number source.old) (S.left source.old) (S.left source.new) (S.number source.new) result }
-    ensures base { S.base source.new ≡ S.base source.old }
-    ensures faults { S.faults source.old ≤ S.faults source.new }
-    ensures least { S.least source.old ≤ S.least source.new }
+    ensures source { IsReadOn S.base S.faults S.least source.old source.new }
 {
     if count == 0 {
         return Ok(Parts::from_vec(Vec::new(alloc)));
@@ -184,19 +151,9 @@ fn read_parts<S: Source>(alloc: Global, source: &mut S, tasks: u32) -> Result<Pa
     requires few { tasks ≤ 1024 }
     ensures said { IfOk result (AreParts tasks) }
     ensures read { S.told → IsRead (counted tasks) (S.number source.old) (S.left source.old) (S.left source.new) (S.number source.new) result }
-    ensures base { S.base source.new ≡ S.base source.old }
-    ensures faults { S.faults source.old ≤ S.faults source.new }
-    ensures least { S.least source.old ≤ S.least source.new }
+    ensures source { IsReadOn S.base S.faults S.least source.old source.new }
 {
-    let count = read_line(
-        alloc,
-        source,
-        &NumberLine {
-            key: Key::Parts,
-            low: 0,
-            high: MAX_PARTS,
-        },
-    )?;
+    let count = read_number(alloc, source, Key::Parts, 0, MAX_PARTS)?;
     read_so_many(alloc, source, tasks, count)
 }
 
@@ -213,9 +170,7 @@ fn read_old_bounds<S: Source>(
     requires lower { IsCycle lower }
     ensures said { IfOk result (IsOldOpened kind tasks (Opening.Lower lower)) }
     ensures read { S.told → IsRead (old_opened kind tasks (Opening.Lower lower)) (S.number source.old) (S.left source.old) (S.left source.new) (S.number source.new) result }
-    ensures base { S.base source.new ≡ S.base source.old }
-    ensures faults { S.faults source.old ≤ S.faults source.new }
-    ensures least { S.least source.old ≤ S.least source.new }
+    ensures source { IsReadOn S.base S.faults S.least source.old source.new }
 {
     let placed = read_placed(alloc, source, kind, tasks)?;
     let parts = read_parts(alloc, source, tasks)?;
@@ -240,9 +195,7 @@ fn read_old_opened<S: Source>(
     requires opening { IsOpening head.ask head.tasks opening }
     ensures said { IfOk result (IsOldOpened head.kind head.tasks opening) }
     ensures read { S.told → IsRead (old_opened head.kind head.tasks opening) (S.number source.old) (S.left source.old) (S.left source.new) (S.number source.new) result }
-    ensures base { S.base source.new ≡ S.base source.old }
-    ensures faults { S.faults source.old ≤ S.faults source.new }
-    ensures least { S.least source.old ≤ S.least source.new }
+    ensures source { IsReadOn S.base S.faults S.least source.old source.new }
 {
     match opening {
         Opening::TooLong { task } => match read_line(alloc, source, &EndLine) {
@@ -262,9 +215,7 @@ fn read_old_claim<S: Source>(
     requires { IsHeadOf head }
     ensures said { IfOk result (IsOldClaim head.kind head.tasks head.ask) }
     ensures read { S.told → IsRead (old_claims head) (S.number source.old) (S.left source.old) (S.left source.new) (S.number source.new) result }
-    ensures base { S.base source.new ≡ S.base source.old }
-    ensures faults { S.faults source.old ≤ S.faults source.new }
-    ensures least { S.least source.old ≤ S.least source.new }
+    ensures source { IsReadOn S.base S.faults S.least source.old source.new }
 {
     let opening = read_line(
         alloc,
@@ -281,9 +232,7 @@ fn read_old_claim<S: Source>(
 pub fn read_old<S: Source>(alloc: Global, source: &mut S) -> Result<OldCertificate, ReadError>
     ensures said { IfOk result IsOldInRange }
     ensures read { S.told → IsRead old_bodies (S.number source.old) (S.left source.old) (S.left source.new) (S.number source.new) result }
-    ensures base { S.base source.new ≡ S.base source.old }
-    ensures faults { S.faults source.old ≤ S.faults source.new }
-    ensures least { S.least source.old ≤ S.least source.new }
+    ensures source { IsReadOn S.base S.faults S.least source.old source.new }
 {
     let head = read_head(alloc, source)?;
     let claim = read_old_claim(alloc, source, head)?;

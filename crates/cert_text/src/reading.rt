@@ -1,6 +1,7 @@
 //! The reading of a certificate's text, line by line.
-ghost use Rattle.std.specs.Prelude.{ℕ, ◌≤◌, IfOk, length, ◌≡◌};
+ghost use Rattle.std.specs.Prelude.{◌≤◌, IfOk, length};
 ghost use Rattle.cert_lines.specs.Judging.{IsRead};
+ghost use Rattle.cert_lines.specs.ReadingOn.{IsReadOn};
 ghost use Rattle.cert_text.specs.Parts.{IsHeadOf, IsPlacedOf, IsOpened, heads, trails, lists, seatings, placings, opened, claims, bodies};
 ghost use Rattle.cert_text.specs.Answers.{IsAnyRead};
 ghost use Rattle.cert_lines.specs.Patterns.{IsOpening};
@@ -10,8 +11,8 @@ use crate::old_reading::read_old;
 use cert_lift::lift;
 use cert_lines::pattern::{read_line, read_lines};
 use cert_lines::patterns::{
-    AskLine, EndLine, EntryLine, FrameLine, Key, KindLine, MAX_CYCLE, NumberLine, Opening,
-    OpeningLine, SeatLine, TrailLine, Version, VersionLine,
+    AskLine, EndLine, EntryLine, FrameLine, Key, KindLine, MAX_CYCLE, Opening, OpeningLine,
+    SeatLine, TrailLine, Version, VersionLine, read_number,
 };
 use cert_lines::{ReadError, Source};
 use line_rules::{Ask, Balance, Certificate, Claim, Entries, Frames, LineKind, Places, Trail};
@@ -53,20 +54,10 @@ pub struct Placed {
 pub fn read_head<S: Source>(alloc: Global, source: &mut S) -> Result<Head, ReadError>
     ensures said { IfOk result IsHeadOf }
     ensures read { S.told → IsRead heads (S.number source.old) (S.left source.old) (S.left source.new) (S.number source.new) result }
-    ensures base { S.base source.new ≡ S.base source.old }
-    ensures faults { S.faults source.old ≤ S.faults source.new }
-    ensures least { S.least source.old ≤ S.least source.new }
+    ensures source { IsReadOn S.base S.faults S.least source.old source.new }
 {
     let kind = read_line(alloc, source, &KindLine)?;
-    let tasks = read_line(
-        alloc,
-        source,
-        &NumberLine {
-            key: Key::Tasks,
-            low: 1,
-            high: 1024,
-        },
-    )?;
+    let tasks = read_number(alloc, source, Key::Tasks, 1, 1024)?;
     let ask = read_line(alloc, source, &AskLine)?;
     Ok(Head {
         kind,
@@ -87,9 +78,7 @@ pub fn read_trail<S: Source>(
     requires entries { count ≤ 20000000 }
     ensures said { IfOk result (IsTrailOrNone tasks count) }
     ensures read { S.told → IsRead (trails tasks count) (S.number source.old) (S.left source.old) (S.left source.new) (S.number source.new) result }
-    ensures base { S.base source.new ≡ S.base source.old }
-    ensures faults { S.faults source.old ≤ S.faults source.new }
-    ensures least { S.least source.old ≤ S.least source.new }
+    ensures source { IsReadOn S.base S.faults S.least source.old source.new }
 {
     let head = read_line(alloc, source, &TrailLine)?;
     let Some((frames, cycle)) = head else {
@@ -112,19 +101,9 @@ pub fn read_entries<S: Source>(
     requires few { tasks ≤ 1024 }
     ensures said { IfOk result (λ x. AreEntries tasks x.entries × IsTrailOrNone tasks (length x.entries) x.trail) }
     ensures read { S.told → IsRead (lists tasks) (S.number source.old) (S.left source.old) (S.left source.new) (S.number source.new) result }
-    ensures base { S.base source.new ≡ S.base source.old }
-    ensures faults { S.faults source.old ≤ S.faults source.new }
-    ensures least { S.least source.old ≤ S.least source.new }
+    ensures source { IsReadOn S.base S.faults S.least source.old source.new }
 {
-    let count = read_line(
-        alloc,
-        source,
-        &NumberLine {
-            key: Key::Entries,
-            low: 0,
-            high: MAX_ENTRIES,
-        },
-    )?;
+    let count = read_number(alloc, source, Key::Entries, 0, MAX_ENTRIES)?;
     let entries = read_lines(
         alloc,
         source,
@@ -153,19 +132,9 @@ pub fn read_seating<S: Source>(
     requires few { tasks ≤ 1024 }
     ensures said { IfOk result (IsPlacing kind tasks) }
     ensures read { S.told → IsRead (seatings kind tasks) (S.number source.old) (S.left source.old) (S.left source.new) (S.number source.new) result }
-    ensures base { S.base source.new ≡ S.base source.old }
-    ensures faults { S.faults source.old ≤ S.faults source.new }
-    ensures least { S.least source.old ≤ S.least source.new }
+    ensures source { IsReadOn S.base S.faults S.least source.old source.new }
 {
-    let stations = read_line(
-        alloc,
-        source,
-        &NumberLine {
-            key: Key::Balance,
-            low: 1,
-            high: 1024,
-        },
-    )?;
+    let stations = read_number(alloc, source, Key::Balance, 1, 1024)?;
     let stations = stations as u32;
     let places = read_lines(
         alloc,
@@ -190,19 +159,9 @@ pub fn read_placed<S: Source>(
     requires few { tasks ≤ 1024 }
     ensures said { IfOk result (IsPlacedOf kind tasks) }
     ensures read { S.told → IsRead (placings kind tasks) (S.number source.old) (S.left source.old) (S.left source.new) (S.number source.new) result }
-    ensures base { S.base source.new ≡ S.base source.old }
-    ensures faults { S.faults source.old ≤ S.faults source.new }
-    ensures least { S.least source.old ≤ S.least source.new }
+    ensures source { IsReadOn S.base S.faults S.least source.old source.new }
 {
-    let upper = read_line(
-        alloc,
-        source,
-        &NumberLine {
-            key: Key::Upper,
-            low: 1,
-            high: MAX_CYCLE,
-        },
-    )?;
+    let upper = read_number(alloc, source, Key::Upper, 1, MAX_CYCLE)?;
     let balance = read_seating(alloc, source, kind, tasks)?;
     Ok(Placed { upper, balance })
 }
@@ -220,9 +179,7 @@ fn read_bounds<S: Source>(
     requires lower { IsCycle lower }
     ensures said { IfOk result (IsOpened kind tasks (Opening.Lower lower)) }
     ensures read { S.told → IsRead (opened kind tasks (Opening.Lower lower)) (S.number source.old) (S.left source.old) (S.left source.new) (S.number source.new) result }
-    ensures base { S.base source.new ≡ S.base source.old }
-    ensures faults { S.faults source.old ≤ S.faults source.new }
-    ensures least { S.least source.old ≤ S.least source.new }
+    ensures source { IsReadOn S.base S.faults S.least source.old source.new }
 {
     let placed = read_placed(alloc, source, kind, tasks)?;
     let list = read_entries(alloc, source, tasks)?;
@@ -249,9 +206,7 @@ fn read_opened<S: Source>(
     requires opening { IsOpening head.ask head.tasks opening }
     ensures said { IfOk result (IsOpened head.kind head.tasks opening) }
     ensures read { S.told → IsRead (opened head.kind head.tasks opening) (S.number source.old) (S.left source.old) (S.left source.new) (S.number source.new) result }
-    ensures base { S.base source.new ≡ S.base source.old }
-    ensures faults { S.faults source.old ≤ S.faults source.new }
-    ensures least { S.least source.old ≤ S.least source.new }
+    ensures source { IsReadOn S.base S.faults S.least source.old source.new }
 {
     match opening {
         Opening::TooLong { task } => match read_line(alloc, source, &EndLine) {
@@ -267,9 +222,7 @@ pub fn read_claim<S: Source>(alloc: Global, source: &mut S, head: Head) -> Resul
     requires { IsHeadOf head }
     ensures said { IfOk result (IsClaim head.kind head.tasks head.ask) }
     ensures read { S.told → IsRead (claims head) (S.number source.old) (S.left source.old) (S.left source.new) (S.number source.new) result }
-    ensures base { S.base source.new ≡ S.base source.old }
-    ensures faults { S.faults source.old ≤ S.faults source.new }
-    ensures least { S.least source.old ≤ S.least source.new }
+    ensures source { IsReadOn S.base S.faults S.least source.old source.new }
 {
     let opening = read_line(
         alloc,
@@ -286,9 +239,7 @@ pub fn read_claim<S: Source>(alloc: Global, source: &mut S, head: Head) -> Resul
 fn read_new<S: Source>(alloc: Global, source: &mut S) -> Result<Certificate, ReadError>
     ensures said { IfOk result IsInRange }
     ensures read { S.told → IsRead bodies (S.number source.old) (S.left source.old) (S.left source.new) (S.number source.new) result }
-    ensures base { S.base source.new ≡ S.base source.old }
-    ensures faults { S.faults source.old ≤ S.faults source.new }
-    ensures least { S.least source.old ≤ S.least source.new }
+    ensures source { IsReadOn S.base S.faults S.least source.old source.new }
 {
     let head = read_head(alloc, source)?;
     let claim = read_claim(alloc, source, head)?;
@@ -304,9 +255,7 @@ fn read_new<S: Source>(alloc: Global, source: &mut S) -> Result<Certificate, Rea
 pub fn read_all<S: Source>(alloc: Global, source: &mut S) -> Result<Certificate, ReadError>
     ensures said { IfOk result IsInRange }
     ensures read { S.told → IsAnyRead (S.number source.old) (S.left source.old) (S.left source.new) (S.number source.new) result }
-    ensures base { S.base source.new ≡ S.base source.old }
-    ensures faults { S.faults source.old ≤ S.faults source.new }
-    ensures least { S.least source.old ≤ S.least source.new }
+    ensures source { IsReadOn S.base S.faults S.least source.old source.new }
 {
     let version = read_line(alloc, source, &VersionLine)?;
     match version {
