@@ -29,22 +29,20 @@ use Rattle.cert_lines.specs.declared.fault.ReadError.{ReadError}
 use Rattle.cert_lines.specs.declared.fault.ReadError.TheVariants as errors
 use Rattle.cert_text.specs.Cert.{head_rows, claim_rows, cert_rows}
 use Rattle.cert_text.specs.OldCert.{old_claim_rows, old_rows}
-use Rattle.cert_text.specs.Parts.{IsHeadOf, heads, lists, IsPlacedOf, placings, any_list_rows, IsListOf, any_lists, behind_rows, IsOpened, opened, any_claim_rows, IsClaimOf, claims}
+use Rattle.cert_text.specs.Parts.{IsHeadOf, heads, lists, IsPlacedOf, placings, behind_rows, opening_of, IsOpened, opened, IsClaimOf, claims}
 use Rattle.cert_text.specs.OldParts.{counted}
 use Rattle.cert_text.specs.Versions.{AnyCertificate, newer, older, IsAnyInRange, any_rows, lifted, both, certificate_of}
 use Rattle.cert_text.specs.Answers.{IsAnyRead}
 use Rattle.cert_text.specs.declared.reading.Head.{Head}
 use Rattle.cert_text.specs.declared.reading.EntryList.{EntryList}
 use Rattle.cert_text.specs.declared.reading.Placed.{Placed}
-use Rattle.cert_text.specs.declared.reading.AnyList.{AnyList}
-use Rattle.cert_text.specs.declared.reading.AnyList.TheVariants as list
 use Rattle.cert_text.specs.declared.reading.AnyClaim.{AnyClaim}
-use Rattle.cert_text.specs.declared.reading.AnyClaim.TheVariants as claim
+use Rattle.cert_text.specs.declared.reading.AnyClaim.TheVariants as any
 use Rattle.cert_lines.proofs.CiteWords.{sat}
 use Rattle.cert_lines.proofs.Judged.{fixed_text, small_is, keyed_value, keyed_other}
 use Rattle.cert_lines.proofs.OtherLines.{keyed_again}
 use Rattle.cert_lift.proofs.LiftRanges.{lifted_in}
-use Rattle.cert_text.proofs.Failing.{Fails, same, hand}
+use Rattle.cert_text.proofs.Failing.{Fails, first, second, same, hand}
 use Rattle.cert_text.proofs.Sequencing.{unique_then, Unique, unique_one, Same, same_read, same_error, both_read, second_error}
 use Rattle.cert_text.proofs.Wholes.{unique_same, unique_placings, unique_lists, unique_heads, one_cycle, some_seating, placing_said, within}
 use Rattle.cert_text.proofs.OldWholes.{unique_counted}
@@ -56,122 +54,129 @@ end_grammar = one (λ u. fixed (codes "end")) (λ u. Unit {0})
 pub unique_end : Unique end_grammar
 unique_end = unique_one (λ u. fixed (codes "end")) (λ u. Unit {0}) (λ v w a b e. refl)
 
--- what stands between the places and the end, in a version
 abbrev no_list : EntryList
 no_list = record { entries = []; trail = None }
 
 pub some_list : (n : ℕ) → (l : EntryList) × (AreEntries n l.entries × IsTrailOrNone n (length l.entries) l.trail)
 some_list n = (no_list, (record { many = lit≤ tt; each = λ k e q. absurd (none-some e q) }, tt))
 
-pub some_any_list : (v : Version) (n : ℕ) → (l : AnyList) × IsListOf v n l
-some_any_list version.Two n = let l = some_list n in (list.Whole l.0, l.1)
-some_any_list version.One n = (list.InParts [], tt)
+-- bounds behind the lower one, which a list shows, and the end
+abbrev pub bounds_parts : {L : Type 0} → Grammar L → Head → Grammar (Placed × (L × Unit {0}))
+bounds_parts g h = then_ (placings h.kind h.tasks) (λ p. then_ g (λ l. end_grammar))
 
-list_of : AnyList → EntryList
-list_of (list.Whole l) = l
-list_of (list.InParts ps) = no_list
+unique_bounds : {L : Type 0} (g : Grammar L) (h : Head) → Unique g → Unique (bounds_parts g h)
+unique_bounds g h u = unique_then (placings h.kind h.tasks) (λ p. then_ g (λ l. end_grammar)) (unique_placings h.kind h.tasks) (λ p r. unique_then g (λ l. end_grammar) u (λ l s. unique_end))
 
-parts_of : AnyList → List Part
-parts_of (list.Whole l) = []
-parts_of (list.InParts ps) = ps
+pub list_fails : {L : Type 0} (g : Grammar L) (h : Head) (p : Placed) (passed middle : ℕ) (text left : List ℕ) {e : ReadError} → Unique g → IsRead (placings h.kind h.tasks) passed text left middle (Ok p)
+    → Fails g middle left e → Fails (bounds_parts g h) passed text e
+list_fails g h p passed middle text left u x f =
+    second (placings h.kind h.tasks) (λ p. then_ g (λ l. end_grammar)) p passed middle text left (unique_placings h.kind h.tasks) x (first g (λ l. end_grammar) u (λ l r. (tt, tt)) f)
 
-pub same_whole : (n : ℕ) → Same (lists n) (any_lists version.Two n)
-unfolding list_of
-same_whole n = record { to = λ l. list.Whole l; from = list_of; to_ranged = λ l r. r; from_ranged = from_range; to_rows = λ l r. refl; from_rows = from_row }
-  where
-    from_range : (x : AnyList) → IsListOf version.Two n x → (lists n).ranged (list_of x)
-    from_range (list.Whole l) r = r
-    from_range (list.InParts ps) r = absurd r
+pub end_fails : {L : Type 0} (g : Grammar L) (h : Head) (p : Placed) (l : L) (passed middle third : ℕ) (text left behind : List ℕ) {e : ReadError} → Unique g → IsRead (placings h.kind h.tasks) passed text left middle (Ok p)
+    → IsRead g middle left behind third (Ok l) → Fails end_grammar third behind e → Fails (bounds_parts g h) passed text e
+end_fails g h p l passed middle third text left behind u x y f =
+    second (placings h.kind h.tasks) (λ p. then_ g (λ l. end_grammar)) p passed middle text left (unique_placings h.kind h.tasks) x (second g (λ l. end_grammar) l middle third left behind u y f)
 
-    from_row : (x : AnyList) → IsListOf version.Two n x → (lists n).rows (list_of x) ≡ any_list_rows n x
-    from_row (list.Whole l) r = refl
-    from_row (list.InParts ps) r = absurd r
-
-pub same_parts : (n : ℕ) → Same (counted n) (any_lists version.One n)
-unfolding parts_of
-same_parts n = record { to = λ ps. list.InParts ps; from = parts_of; to_ranged = λ ps r. r; from_ranged = from_range; to_rows = λ ps r. refl; from_rows = from_row }
-  where
-    from_range : (x : AnyList) → IsListOf version.One n x → (counted n).ranged (parts_of x)
-    from_range (list.Whole l) r = absurd r
-    from_range (list.InParts ps) r = r
-
-    from_row : (x : AnyList) → IsListOf version.One n x → (counted n).rows (parts_of x) ≡ any_list_rows n x
-    from_row (list.Whole l) r = absurd r
-    from_row (list.InParts ps) r = refl
-
-pub unique_any_lists : (v : Version) (n : ℕ) → n ≤ 1024 → Unique (any_lists v n)
-unfolding same_whole list_of same_parts parts_of
-unique_any_lists version.Two n a = unique_same (lists n) (any_lists version.Two n) (same_whole n) (unique_lists n a) back
-  where
-    back : (x : AnyList) → IsListOf version.Two n x → list.Whole (list_of x) ≡ x
-    back (list.Whole l) r = refl
-    back (list.InParts ps) r = absurd r
-unique_any_lists version.One n a = unique_same (counted n) (any_lists version.One n) (same_parts n) (unique_counted n a) back
-  where
-    back : (x : AnyList) → IsListOf version.One n x → list.InParts (parts_of x) ≡ x
-    back (list.Whole l) r = absurd r
-    back (list.InParts ps) r = refl
-
--- what fails, and what is read, in the version that the list is of
-pub whole_fails : {v : Version} (n : ℕ) {passed : ℕ} {text : List ℕ} {e : ReadError} → v ≡ version.Two → Fails (lists n) passed text e → Fails (any_lists v n) passed text e
-whole_fails n {passed = passed} {text = text} {e = e} q f =
-    let P : Version → Type 0 = λ w. Fails (any_lists w n) passed text e in
-    subst P (sym q) (same (lists n) (any_lists version.Two n) (same_whole n) f)
-
-pub parts_fail : {v : Version} (n : ℕ) {passed : ℕ} {text : List ℕ} {e : ReadError} → v ≡ version.One → Fails (counted n) passed text e → Fails (any_lists v n) passed text e
-parts_fail n {passed = passed} {text = text} {e = e} q f =
-    let P : Version → Type 0 = λ w. Fails (any_lists w n) passed text e in
-    subst P (sym q) (same (counted n) (any_lists version.One n) (same_parts n) f)
-
-pub whole_read : (v : Version) (n : ℕ) (l : EntryList) (passed after : ℕ) (text rest : List ℕ) → v ≡ version.Two → IsRead (lists n) passed text rest after (Ok l) → IsRead (any_lists v n) passed text rest after (Ok (list.Whole l))
-unfolding same_whole
-whole_read v n l passed after text rest q x =
-    let P : Version → Type 0 = λ w. IsRead (any_lists w n) passed text rest after (Ok (list.Whole l)) in
-    subst P (sym q) (same_read (lists n) (any_lists version.Two n) passed after text rest l (same_whole n) x)
-
-pub parts_read : (v : Version) (n : ℕ) (ps : List Part) (passed after : ℕ) (text rest : List ℕ) → v ≡ version.One → IsRead (counted n) passed text rest after (Ok ps) → IsRead (any_lists v n) passed text rest after (Ok (list.InParts ps))
-unfolding same_parts
-parts_read v n ps passed after text rest q x =
-    let P : Version → Type 0 = λ w. IsRead (any_lists w n) passed text rest after (Ok (list.InParts ps)) in
-    subst P (sym q) (same_read (counted n) (any_lists version.One n) passed after text rest ps (same_parts n) x)
-
--- bounds
-abbrev pub bounds_behind : Version → ℕ → Grammar (AnyList × Unit {0})
-bounds_behind v n = then_ (any_lists v n) (λ l. end_grammar)
-
-abbrev pub bounds_parts : Version → Head → Grammar (Placed × (AnyList × Unit {0}))
-bounds_parts v h = then_ (placings h.kind h.tasks) (λ p. bounds_behind v h.tasks)
+bounds_read : {L : Type 0} (g : Grammar L) (h : Head) (p : Placed) (l : L) (passed middle third after : ℕ) (text left behind rest : List ℕ) → IsRead (placings h.kind h.tasks) passed text left middle (Ok p)
+    → IsRead g middle left behind third (Ok l) → IsRead end_grammar third behind rest after (Ok tt) → IsRead (bounds_parts g h) passed text rest after (Ok (p, (l, tt)))
+bounds_read g h p l passed middle third after text left behind rest x y z =
+    both_read (placings h.kind h.tasks) (λ p. then_ g (λ l. end_grammar)) p (l, tt) passed middle after text left rest x (both_read g (λ l. end_grammar) l tt middle third after left behind rest y z)
 
 abbrev no_places : Placed
 no_places = record { upper = 0; balance = record { stations = 0; place = [] } }
 
-from_claim : AnyClaim → Placed × (AnyList × Unit {0})
-from_claim (claim.TooLong t) = (no_places, (list.Whole no_list, tt))
-from_claim (claim.Bounds lower p l) = (p, (l, tt))
+from_new : AnyClaim → Placed × (EntryList × Unit {0})
+from_new (any.New (new.TooLong t)) = (no_places, (no_list, tt))
+from_new (any.New (new.Bounds x u b es t)) = (record { upper = u; balance = b }, (record { entries = es; trail = t }, tt))
+from_new (any.Old c) = (no_places, (no_list, tt))
 
-pub same_bounds : (v : Version) (h : Head) (lower : ℕ) → IsCycle lower → Same (bounds_parts v h) (opened v h (opening.Lower lower))
-unfolding from_claim
-same_bounds v h lower c = record {
-  to = λ x. claim.Bounds lower x.0 x.1.0;
-  from = from_claim;
-  to_ranged = λ x r. (refl, record { from = c; placed = r.0; list = r.1.0 });
+same_new : (h : Head) (x : ℕ) → IsCycle x → Same (bounds_parts (lists h.tasks) h) (opened version.Two h (opening.Lower x))
+unfolding from_new
+same_new h x c = record {
+  to = λ v. any.New (new.Bounds x v.0.upper v.0.balance v.1.0.entries v.1.0.trail);
+  from = from_new;
+  to_ranged = λ v r. ((refl, record { from = c; up_to = r.0.upper; balance = r.0.balance; entries = r.1.0.0; trail = r.1.0.1 }), refl);
   from_ranged = from_range;
-  to_rows = λ x r. refl;
+  to_rows = λ v r. refl;
   from_rows = from_row;
 }
   where
-    from_range : (w : AnyClaim) → IsOpened v h (opening.Lower lower) w → (bounds_parts v h).ranged (from_claim w)
-    from_range (claim.TooLong t) r = absurd r
-    from_range (claim.Bounds x p l) r = (r.1.placed, (r.1.list, tt))
+    from_range : (w : AnyClaim) → IsOpened version.Two h (opening.Lower x) w → (bounds_parts (lists h.tasks) h).ranged (from_new w)
+    from_range (any.New (new.TooLong t)) r = absurd (cc (r.1))
+    from_range (any.New (new.Bounds y u b es t)) r = (record { upper = r.0.1.up_to; balance = r.0.1.balance }, ((r.0.1.entries, r.0.1.trail), tt))
+    from_range (any.Old (old.TooLong t)) r = absurd r.0
+    from_range (any.Old (old.Bounds y u b ps)) r = absurd (cc (r.0.0))
 
-    from_row : (w : AnyClaim) → IsOpened v h (opening.Lower lower) w → (bounds_parts v h).rows (from_claim w) ≡ behind_rows h w
-    from_row (claim.TooLong t) r = absurd r
-    from_row (claim.Bounds x p l) r = refl
+    from_row : (w : AnyClaim) → IsOpened version.Two h (opening.Lower x) w → (bounds_parts (lists h.tasks) h).rows (from_new w) ≡ behind_rows h w
+    from_row (any.New (new.TooLong t)) r = absurd (cc (r.1))
+    from_row (any.New (new.Bounds y u b es t)) r = refl
+    from_row (any.Old (old.TooLong t)) r = absurd r.0
+    from_row (any.Old (old.Bounds y u b ps)) r = absurd (cc (r.0.0))
 
-pub bounds_read : (v : Version) (h : Head) (lower : ℕ) (p : Placed) (l : AnyList) (passed after : ℕ) (text rest : List ℕ) → IsCycle lower → IsRead (bounds_parts v h) passed text rest after (Ok (p, (l, tt)))
-    → IsRead (opened v h (opening.Lower lower)) passed text rest after (Ok (claim.Bounds lower p l))
-unfolding same_bounds
-bounds_read v h lower p l passed after text rest c x = same_read (bounds_parts v h) (opened v h (opening.Lower lower)) passed after text rest (p, (l, tt)) (same_bounds v h lower c) x
+from_old : AnyClaim → Placed × (List Part × Unit {0})
+from_old (any.New c) = (no_places, ([], tt))
+from_old (any.Old (old.TooLong t)) = (no_places, ([], tt))
+from_old (any.Old (old.Bounds x u b ps)) = (record { upper = u; balance = b }, (ps, tt))
+
+same_old : (h : Head) (x : ℕ) → IsCycle x → Same (bounds_parts (counted h.tasks) h) (opened version.One h (opening.Lower x))
+unfolding from_old
+same_old h x c = record {
+  to = λ v. any.Old (old.Bounds x v.0.upper v.0.balance v.1.0);
+  from = from_old;
+  to_ranged = λ v r. ((refl, record { from = c; up_to = r.0.upper; balance = r.0.balance; parts = r.1.0 }), refl);
+  from_ranged = from_range;
+  to_rows = λ v r. refl;
+  from_rows = from_row;
+}
+  where
+    from_range : (w : AnyClaim) → IsOpened version.One h (opening.Lower x) w → (bounds_parts (counted h.tasks) h).ranged (from_old w)
+    from_range (any.New (new.TooLong t)) r = absurd (cc (r.1))
+    from_range (any.New (new.Bounds y u b es t)) r = absurd (cc (r.0.0))
+    from_range (any.Old (old.TooLong t)) r = absurd r.0
+    from_range (any.Old (old.Bounds y u b ps)) r = (record { upper = r.0.1.up_to; balance = r.0.1.balance }, (r.0.1.parts, tt))
+
+    from_row : (w : AnyClaim) → IsOpened version.One h (opening.Lower x) w → (bounds_parts (counted h.tasks) h).rows (from_old w) ≡ behind_rows h w
+    from_row (any.New (new.TooLong t)) r = absurd (cc (r.1))
+    from_row (any.New (new.Bounds y u b es t)) r = absurd (cc (r.0.0))
+    from_row (any.Old (old.TooLong t)) r = absurd r.0
+    from_row (any.Old (old.Bounds y u b ps)) r = refl
+
+-- what fails in the bounds of a version
+pub new_fails : {v : Version} (h : Head) (x : ℕ) {passed : ℕ} {text : List ℕ} {e : ReadError} → v ≡ version.Two → IsCycle x → Fails (bounds_parts (lists h.tasks) h) passed text e → Fails (opened v h (opening.Lower x)) passed text e
+new_fails h x {passed = passed} {text = text} {e = e} q c f =
+    let P : Version → Type 0 = λ w. Fails (opened w h (opening.Lower x)) passed text e in
+    subst P (sym q) (same (bounds_parts (lists h.tasks) h) (opened version.Two h (opening.Lower x)) (same_new h x c) f)
+
+pub old_fails : {v : Version} (h : Head) (x : ℕ) {passed : ℕ} {text : List ℕ} {e : ReadError} → v ≡ version.One → IsCycle x → Fails (bounds_parts (counted h.tasks) h) passed text e → Fails (opened v h (opening.Lower x)) passed text e
+old_fails h x {passed = passed} {text = text} {e = e} q c f =
+    let P : Version → Type 0 = λ w. Fails (opened w h (opening.Lower x)) passed text e in
+    subst P (sym q) (same (bounds_parts (counted h.tasks) h) (opened version.One h (opening.Lower x)) (same_old h x c) f)
+
+-- what is read of them
+pub new_read : (v : Version) (h : Head) (x : ℕ) (p : Placed) (l : EntryList) (passed middle third after : ℕ) (text left behind rest : List ℕ) → v ≡ version.Two → IsCycle x → IsRead (placings h.kind h.tasks) passed text left middle (Ok p)
+    → IsRead (lists h.tasks) middle left behind third (Ok l) → IsRead end_grammar third behind rest after (Ok tt)
+    → IsRead (opened v h (opening.Lower x)) passed text rest after (Ok (any.New (new.Bounds x p.upper p.balance l.entries l.trail)))
+unfolding same_new
+new_read v h x p l passed middle third after text left behind rest q c a b e =
+    let P : Version → Type 0 = λ w. IsRead (opened w h (opening.Lower x)) passed text rest after (Ok (any.New (new.Bounds x p.upper p.balance l.entries l.trail))) in
+    subst P (sym q) (same_read (bounds_parts (lists h.tasks) h) (opened version.Two h (opening.Lower x)) passed after text rest (p, (l, tt)) (same_new h x c)
+    (bounds_read (lists h.tasks) h p l passed middle third after text left behind rest a b e))
+
+pub old_read : (v : Version) (h : Head) (x : ℕ) (p : Placed) (ps : List Part) (passed middle third after : ℕ) (text left behind rest : List ℕ) → v ≡ version.One → IsCycle x → IsRead (placings h.kind h.tasks) passed text left middle (Ok p)
+    → IsRead (counted h.tasks) middle left behind third (Ok ps) → IsRead end_grammar third behind rest after (Ok tt)
+    → IsRead (opened v h (opening.Lower x)) passed text rest after (Ok (any.Old (old.Bounds x p.upper p.balance ps)))
+unfolding same_old
+old_read v h x p ps passed middle third after text left behind rest q c a b e =
+    let P : Version → Type 0 = λ w. IsRead (opened w h (opening.Lower x)) passed text rest after (Ok (any.Old (old.Bounds x p.upper p.balance ps))) in
+    subst P (sym q) (same_read (bounds_parts (counted h.tasks) h) (opened version.One h (opening.Lower x)) passed after text rest (p, (ps, tt)) (same_old h x c)
+    (bounds_read (counted h.tasks) h p ps passed middle third after text left behind rest a b e))
+
+pub placed_fails : (v : Version) (h : Head) (x : ℕ) {passed : ℕ} {text : List ℕ} {e : ReadError} → IsCycle x → Fails (placings h.kind h.tasks) passed text e → Fails (opened v h (opening.Lower x)) passed text e
+placed_fails version.Two h x c f =
+    let l = some_list h.tasks in
+    new_fails h x refl c (first (placings h.kind h.tasks) (λ p. then_ (lists h.tasks) (λ l. end_grammar)) (unique_placings h.kind h.tasks) (λ p r. ((l.0, tt), (l.1, tt))) f)
+placed_fails version.One h x c f =
+    old_fails h x refl c (first (placings h.kind h.tasks) (λ p. then_ (counted h.tasks) (λ l. end_grammar)) (unique_placings h.kind h.tasks) (λ p r. (([], tt), (tt, tt))) f)
 
 -- claims
 abbrev pub openings : Ask → ℕ → Grammar Opening
@@ -189,7 +194,7 @@ cycle_opens : (a : Ask) (n l : ℕ) → IsCycle l → IsOpening a n (opening.Low
 cycle_opens (ask.Stations c) n l h = h
 cycle_opens (ask.Cycle m) n l h = h
 
-opening_task : (a : Ask) (n t : ℕ) → IsOpening a n (opening.TooLong t) → NamesCycle a × (t < n)
+pub opening_task : (a : Ask) (n t : ℕ) → IsOpening a n (opening.TooLong t) → NamesCycle a × (t < n)
 opening_task (ask.Stations c) n t h = (tt, h)
 opening_task (ask.Cycle m) n t h = absurd h
 
@@ -222,53 +227,40 @@ some_placing kind n =
     (record { upper = 1; balance = s.0 }, placing_said kind n 1 s.0 u s.1)
 
 pub some_opened : (v : Version) (h : Head) (o : Opening) → IsOpening h.ask h.tasks o → (c : AnyClaim) × IsOpened v h o c
-some_opened v h (opening.TooLong t) r = (claim.TooLong t, refl)
-some_opened v h (opening.Lower x) r =
+some_opened v h (opening.TooLong t) r = (any.New (new.TooLong t), (opening_task h.ask h.tasks t r, refl))
+some_opened version.Two h (opening.Lower x) r =
     let p = some_placing h.kind h.tasks in
-    let l = some_any_list v h.tasks in
-    (claim.Bounds x p.0 l.0, (refl, record { from = opening_cycle h.ask h.tasks x r; placed = p.1; list = l.1 }))
+    let l = some_list h.tasks in (
+      any.New (new.Bounds x p.0.upper p.0.balance l.0.entries l.0.trail),
+      ((refl, record { from = opening_cycle h.ask h.tasks x r; up_to = p.1.upper; balance = p.1.balance; entries = l.1.0; trail = l.1.1 }), refl),
+    )
+some_opened version.One h (opening.Lower x) r =
+    let p = some_placing h.kind h.tasks in (
+      any.Old (old.Bounds x p.0.upper p.0.balance []),
+      ((refl, record { from = opening_cycle h.ask h.tasks x r; up_to = p.1.upper; balance = p.1.balance; parts = tt }), refl),
+    )
 
-from_opened : AnyClaim → Opening × AnyClaim
-from_opened (claim.TooLong t) = (opening.TooLong t, claim.TooLong t)
-from_opened (claim.Bounds x p l) = (opening.Lower x, claim.Bounds x p l)
+claim_opens : (v : Version) (h : Head) (c : AnyClaim) → IsClaimOf v h c → IsOpening h.ask h.tasks (opening_of c)
+claim_opens v h (any.New (new.TooLong t)) r = task_opens h.ask h.tasks t r
+claim_opens v h (any.New (new.Bounds x u b es t)) r = cycle_opens h.ask h.tasks x r.1.from
+claim_opens v h (any.Old (old.TooLong t)) r = absurd r
+claim_opens v h (any.Old (old.Bounds x u b ps)) r = cycle_opens h.ask h.tasks x r.1.from
 
 pub same_claims : (v : Version) (h : Head) → Same (claim_parts v h) (claims v h)
-unfolding from_opened
 same_claims v h = record {
   to = λ x. x.1;
-  from = from_opened;
-  to_ranged = λ x r. to_range x.0 x.1 r.0 r.1;
-  from_ranged = from_range;
-  to_rows = λ x r. to_row x.0 x.1 r.1;
-  from_rows = λ w r. from_row w;
+  from = λ c. (opening_of c, c);
+  to_ranged = λ x r. r.1.0;
+  from_ranged = λ c r. (claim_opens v h c r, (r, refl));
+  to_rows = λ x r. ap (λ o. opening_row o ∷ behind_rows h x.1) r.1.1;
+  from_rows = λ c r. refl;
 }
-  where
-    to_range : (o : Opening) (c : AnyClaim) → IsOpening h.ask h.tasks o → IsOpened v h o c → IsClaimOf v h c
-    to_range (opening.TooLong t) (claim.TooLong task) p q = let P : ℕ → Type 0 = λ z. NamesCycle h.ask × (z < h.tasks) in subst P (sym q) (opening_task h.ask h.tasks t p)
-    to_range (opening.TooLong t) (claim.Bounds x b l) p q = absurd q
-    to_range (opening.Lower y) (claim.TooLong task) p q = absurd q
-    to_range (opening.Lower y) (claim.Bounds x b l) p q = q.1
-
-    from_range : (w : AnyClaim) → IsClaimOf v h w → IsOpening h.ask h.tasks (from_opened w).0 × IsOpened v h (from_opened w).0 (from_opened w).1
-    from_range (claim.TooLong t) r = (task_opens h.ask h.tasks t r, refl)
-    from_range (claim.Bounds x b l) r = (cycle_opens h.ask h.tasks x r.from, (refl, r))
-
-    to_row : (o : Opening) (c : AnyClaim) → IsOpened v h o c → any_claim_rows h c ≡ (claim_parts v h).rows (o, c)
-    to_row (opening.TooLong t) (claim.TooLong task) q = ap (λ z. keyed (codes "infeasible") (suc z) ∷ fixed (codes "end") ∷ []) q
-    to_row (opening.TooLong t) (claim.Bounds x b l) q = absurd q
-    to_row (opening.Lower y) (claim.TooLong task) q = absurd q
-    to_row (opening.Lower y) (claim.Bounds x b l) q = ap (λ z. keyed (codes "lower") z ∷ behind_rows h (claim.Bounds x b l)) q.0
-
-    from_row : (w : AnyClaim) → (claim_parts v h).rows (from_opened w) ≡ any_claim_rows h w
-    from_row (claim.TooLong t) = refl
-    from_row (claim.Bounds x b l) = refl
 
 pub some_claim : (v : Version) (h : Head) → (c : AnyClaim) × IsClaimOf v h c
-unfolding same_claims
 some_claim v h =
     let o = some_opening h.ask h.tasks in
     let c = some_opened v h o.0 o.1 in
-    (c.0, (same_claims v h).to_ranged (o.0, c.0) (o.1, c.1))
+    (c.0, c.1.0)
 
 -- what is read behind the first line of a claim gives what the claim is
 pub claim_result : (v : Version) (h : Head) (o : Opening) (r : Result AnyClaim ReadError) (passed middle after : ℕ) (text left rest : List ℕ) → h.tasks ≤ 1024 → IsRead (openings h.ask h.tasks) passed text left middle (Ok o)
@@ -282,38 +274,46 @@ claim_result v h o (Err (errors.Fault f)) passed middle after text left rest l x
 claim_result v h o (Err errors.Stopped) passed middle after text left rest l x y = tt
 
 -- the end of a claim that a task is too long
-pub same_end : (v : Version) (h : Head) (t : ℕ) → Same end_grammar (opened v h (opening.TooLong t))
-same_end v h t = record { to = λ u. claim.TooLong t; from = λ c. tt; to_ranged = λ u r. refl; from_ranged = λ c r. tt; to_rows = λ u r. refl; from_rows = from_row }
+pub same_end : (v : Version) (h : Head) (t : ℕ) → IsOpening h.ask h.tasks (opening.TooLong t) → Same end_grammar (opened v h (opening.TooLong t))
+same_end v h t q = record { to = λ u. any.New (new.TooLong t); from = λ c. tt; to_ranged = λ u r. (opening_task h.ask h.tasks t q, refl); from_ranged = λ c r. tt; to_rows = λ u r. refl; from_rows = from_row }
   where
     from_row : (w : AnyClaim) → IsOpened v h (opening.TooLong t) w → fixed (codes "end") ∷ [] ≡ behind_rows h w
-    from_row (claim.TooLong x) r = refl
-    from_row (claim.Bounds x p l) r = absurd r
+    from_row (any.New (new.TooLong x)) r = refl
+    from_row (any.New (new.Bounds x u b es l)) r = absurd (cc (r.1))
+    from_row (any.Old (old.TooLong x)) r = refl
+    from_row (any.Old (old.Bounds x u b ps)) r = absurd (cc (r.1))
 
 unique_opened : (v : Version) (h : Head) (o : Opening) → h.tasks ≤ 1024 → IsOpening h.ask h.tasks o → Unique (opened v h o)
-unfolding same_end same_bounds from_claim
-unique_opened v h (opening.TooLong t) m r = unique_same end_grammar (opened v h (opening.TooLong t)) (same_end v h t) unique_end back
+unfolding same_end same_new from_new same_old from_old
+unique_opened v h (opening.TooLong t) m q = unique_same end_grammar (opened v h (opening.TooLong t)) (same_end v h t q) unique_end back
   where
-    back : (w : AnyClaim) → IsOpened v h (opening.TooLong t) w → claim.TooLong t ≡ w
-    back (claim.TooLong x) r = ap (λ z. claim.TooLong z) (sym r)
-    back (claim.Bounds x p l) r = absurd r
-unique_opened v h (opening.Lower y) m r =
-    unique_same (bounds_parts v h) (opened v h (opening.Lower y)) (same_bounds v h y (opening_cycle h.ask h.tasks y r))
-    (unique_then (placings h.kind h.tasks) (λ p. bounds_behind v h.tasks) (unique_placings h.kind h.tasks)
-    (λ p q. unique_then (any_lists v h.tasks) (λ l. end_grammar) (unique_any_lists v h.tasks m) (λ l s. unique_end))) back
+    back : (w : AnyClaim) → IsOpened v h (opening.TooLong t) w → any.New (new.TooLong t) ≡ w
+    back (any.New (new.TooLong x)) r = (cc (r.1))
+    back (any.New (new.Bounds x u b es l)) r = absurd (cc (r.1))
+    back (any.Old (old.TooLong x)) r = absurd r.0
+    back (any.Old (old.Bounds x u b ps)) r = absurd (cc (r.1))
+unique_opened version.Two h (opening.Lower y) m q =
+    unique_same (bounds_parts (lists h.tasks) h) (opened version.Two h (opening.Lower y)) (same_new h y (opening_cycle h.ask h.tasks y q)) (unique_bounds (lists h.tasks) h (unique_lists h.tasks m)) back
   where
-    back : (w : AnyClaim) → IsOpened v h (opening.Lower y) w → claim.Bounds y (from_claim w).0 (from_claim w).1.0 ≡ w
-    back (claim.TooLong x) r = absurd r
-    back (claim.Bounds x p l) r = ap (λ z. claim.Bounds z p l) (sym r.0)
+    back : (w : AnyClaim) → IsOpened version.Two h (opening.Lower y) w → any.New (new.Bounds y (from_new w).0.upper (from_new w).0.balance (from_new w).1.0.entries (from_new w).1.0.trail) ≡ w
+    back (any.New (new.TooLong x)) r = absurd (cc (r.1))
+    back (any.New (new.Bounds x u b es l)) r = (cc (r.1))
+    back (any.Old (old.TooLong x)) r = absurd r.0
+    back (any.Old (old.Bounds x u b ps)) r = absurd (cc (r.0.0))
+unique_opened version.One h (opening.Lower y) m q =
+    unique_same (bounds_parts (counted h.tasks) h) (opened version.One h (opening.Lower y)) (same_old h y (opening_cycle h.ask h.tasks y q)) (unique_bounds (counted h.tasks) h (unique_counted h.tasks m)) back
+  where
+    back : (w : AnyClaim) → IsOpened version.One h (opening.Lower y) w → any.Old (old.Bounds y (from_old w).0.upper (from_old w).0.balance (from_old w).1.0) ≡ w
+    back (any.New (new.TooLong x)) r = absurd (cc (r.1))
+    back (any.New (new.Bounds x u b es l)) r = absurd (cc (r.0.0))
+    back (any.Old (old.TooLong x)) r = absurd r.0
+    back (any.Old (old.Bounds x u b ps)) r = (cc (r.1))
 
 unique_claims : (v : Version) (h : Head) → IsHeadOf h → Unique (claims v h)
-unfolding same_claims from_opened
+unfolding same_claims
 unique_claims v h r =
     unique_same (claim_parts v h) (claims v h) (same_claims v h)
-    (unique_then (openings h.ask h.tasks) (opened v h) (unique_opening h.ask h.tasks r.few) (λ o s. unique_opened v h o r.few s)) back
-  where
-    back : (w : AnyClaim) → IsClaimOf v h w → (from_opened w).1 ≡ w
-    back (claim.TooLong x) r = refl
-    back (claim.Bounds x p l) r = refl
+    (unique_then (openings h.ask h.tasks) (opened v h) (unique_opening h.ask h.tasks r.few) (λ o s. unique_opened v h o r.few s)) (λ c q. refl)
 
 -- both versions
 abbrev pub versions : Grammar Version
@@ -347,62 +347,56 @@ some_body v t = let h = some_head in let c = some_claim v h.0 in ((h.0, c.0), (h
 
 -- the certificate that a version, a head and a claim say
 abbrev any_of : AnyClaim → Head → Version → AnyCertificate
-any_of (claim.TooLong t) h version.Two = newer (record { kind = h.kind; tasks = h.tasks; ask = h.ask; claim = new.TooLong t })
-any_of (claim.TooLong t) h version.One = older (record { kind = h.kind; tasks = h.tasks; ask = h.ask; claim = old.TooLong t })
-any_of (claim.Bounds x p (list.Whole l)) h v = newer (record { kind = h.kind; tasks = h.tasks; ask = h.ask; claim = new.Bounds x p.upper p.balance l.entries l.trail })
-any_of (claim.Bounds x p (list.InParts ps)) h v = older (record { kind = h.kind; tasks = h.tasks; ask = h.ask; claim = old.Bounds x p.upper p.balance ps })
+any_of (any.New (new.TooLong t)) h version.Two = newer (record { kind = h.kind; tasks = h.tasks; ask = h.ask; claim = new.TooLong t })
+any_of (any.New (new.TooLong t)) h version.One = older (record { kind = h.kind; tasks = h.tasks; ask = h.ask; claim = old.TooLong t })
+any_of (any.New (new.Bounds x u b es t)) h v = newer (record { kind = h.kind; tasks = h.tasks; ask = h.ask; claim = new.Bounds x u b es t })
+any_of (any.Old c) h v = older (record { kind = h.kind; tasks = h.tasks; ask = h.ask; claim = c })
 
-abbrev from_new : Claim → AnyClaim
-from_new (new.TooLong t) = claim.TooLong t
-from_new (new.Bounds x u b es t) = claim.Bounds x (record { upper = u; balance = b }) (list.Whole (record { entries = es; trail = t }))
-
-abbrev from_old : OldClaim → AnyClaim
-from_old (old.TooLong t) = claim.TooLong t
-from_old (old.Bounds x u b ps) = claim.Bounds x (record { upper = u; balance = b }) (list.InParts ps)
+abbrev any_claim : OldClaim → AnyClaim
+any_claim (old.TooLong t) = any.New (new.TooLong t)
+any_claim (old.Bounds x u b ps) = any.Old (old.Bounds x u b ps)
 
 from_any : AnyCertificate → Version × (Head × AnyClaim)
-from_any (newer c) = (version.Two, (record { kind = c.kind; tasks = c.tasks; ask = c.ask }, from_new c.claim))
-from_any (older o) = (version.One, (record { kind = o.kind; tasks = o.tasks; ask = o.ask }, from_old o.claim))
+from_any (newer c) = (version.Two, (record { kind = c.kind; tasks = c.tasks; ask = c.ask }, any.New c.claim))
+from_any (older o) = (version.One, (record { kind = o.kind; tasks = o.tasks; ask = o.ask }, any_claim o.claim))
 
 any_in_range : (v : Version) (h : Head) (c : AnyClaim) → IsHeadOf h → IsClaimOf v h c → IsAnyInRange (any_of c h v)
-any_in_range version.Two h (claim.TooLong t) r s = record { some = r.some; few = r.few; ask = r.ask; claim = s }
-any_in_range version.One h (claim.TooLong t) r s = record { some = r.some; few = r.few; ask = r.ask; claim = s }
-any_in_range version.Two h (claim.Bounds x p (list.Whole l)) r s =
-    record { some = r.some; few = r.few; ask = r.ask; claim = record { from = s.from; up_to = s.placed.upper; balance = s.placed.balance; entries = s.list.0; trail = s.list.1 } }
-any_in_range version.One h (claim.Bounds x p (list.InParts ps)) r s =
-    record { some = r.some; few = r.few; ask = r.ask; claim = record { from = s.from; up_to = s.placed.upper; balance = s.placed.balance; parts = s.list } }
-any_in_range version.Two h (claim.Bounds x p (list.InParts ps)) r s = absurd s.list
-any_in_range version.One h (claim.Bounds x p (list.Whole l)) r s = absurd s.list
+any_in_range version.Two h (any.New (new.TooLong t)) r s = record { some = r.some; few = r.few; ask = r.ask; claim = s }
+any_in_range version.One h (any.New (new.TooLong t)) r s = record { some = r.some; few = r.few; ask = r.ask; claim = s }
+any_in_range v h (any.New (new.Bounds x u b es t)) r s = record { some = r.some; few = r.few; ask = r.ask; claim = s.1 }
+any_in_range v h (any.Old (old.TooLong t)) r s = absurd s
+any_in_range v h (any.Old (old.Bounds x u b ps)) r s = record { some = r.some; few = r.few; ask = r.ask; claim = s.1 }
 
 pub same_any : Same any_parts both
 unfolding from_any cert_rows old_rows
 same_any = record { to = λ x. any_of x.1.1 x.1.0 x.0; from = from_any; to_ranged = λ x r. any_in_range x.0 x.1.0 x.1.1 r.1.0 r.1.1; from_ranged = from_range; to_rows = λ x r. to_row x.0 x.1.0 x.1.1 r.1.1; from_rows = λ x r. from_row x }
   where
-    new_range : (h : Head) (c : Claim) → IsClaim h.kind h.tasks h.ask c → IsClaimOf version.Two h (from_new c)
+    new_range : (h : Head) (c : Claim) → IsClaim h.kind h.tasks h.ask c → IsClaimOf version.Two h (any.New c)
     new_range h (new.TooLong t) r = r
-    new_range h (new.Bounds x u b es t) r = record { from = r.from; placed = record { upper = r.up_to; balance = r.balance }; list = (r.entries, r.trail) }
+    new_range h (new.Bounds x u b es t) r = (refl, r)
 
-    old_range : (h : Head) (c : OldClaim) → IsOldClaim h.kind h.tasks h.ask c → IsClaimOf version.One h (from_old c)
+    old_range : (h : Head) (c : OldClaim) → IsOldClaim h.kind h.tasks h.ask c → IsClaimOf version.One h (any_claim c)
     old_range h (old.TooLong t) r = r
-    old_range h (old.Bounds x u b ps) r = record { from = r.from; placed = record { upper = r.up_to; balance = r.balance }; list = r.parts }
+    old_range h (old.Bounds x u b ps) r = (refl, r)
 
     from_range : (x : AnyCertificate) → IsAnyInRange x → any_parts.ranged (from_any x)
     from_range (newer c) r = (tt, (record { some = r.some; few = r.few; ask = r.ask }, new_range (from_any (newer c)).1.0 c.claim r.claim))
     from_range (older o) r = (tt, (record { some = r.some; few = r.few; ask = r.ask }, old_range (from_any (older o)).1.0 o.claim r.claim))
 
     to_row : (v : Version) (h : Head) (c : AnyClaim) → IsClaimOf v h c → any_rows (any_of c h v) ≡ any_parts.rows (v, (h, c))
-    to_row version.Two h (claim.TooLong t) s = refl
-    to_row version.One h (claim.TooLong t) s = refl
-    to_row version.Two h (claim.Bounds x p (list.Whole l)) s = refl
-    to_row version.One h (claim.Bounds x p (list.InParts ps)) s = refl
-    to_row version.Two h (claim.Bounds x p (list.InParts ps)) s = absurd s.list
-    to_row version.One h (claim.Bounds x p (list.Whole l)) s = absurd s.list
+    to_row version.Two h (any.New (new.TooLong t)) s = refl
+    to_row version.One h (any.New (new.TooLong t)) s = refl
+    to_row version.Two h (any.New (new.Bounds x u b es t)) s = refl
+    to_row version.One h (any.New (new.Bounds x u b es t)) s = absurd (cc (s.0))
+    to_row v h (any.Old (old.TooLong t)) s = absurd s
+    to_row version.Two h (any.Old (old.Bounds x u b ps)) s = absurd (cc (s.0))
+    to_row version.One h (any.Old (old.Bounds x u b ps)) s = refl
 
-    new_row : (h : Head) (c : Claim) → any_claim_rows h (from_new c) ≡ claim_rows h.kind h.tasks c
+    new_row : (h : Head) (c : Claim) → (claims version.Two h).rows (any.New c) ≡ claim_rows h.kind h.tasks c
     new_row h (new.TooLong t) = refl
     new_row h (new.Bounds x u b es t) = refl
 
-    old_row : (h : Head) (c : OldClaim) → any_claim_rows h (from_old c) ≡ old_claim_rows h.kind h.tasks c
+    old_row : (h : Head) (c : OldClaim) → (claims version.One h).rows (any_claim c) ≡ old_claim_rows h.kind h.tasks c
     old_row h (old.TooLong t) = refl
     old_row h (old.Bounds x u b ps) = refl
 
@@ -415,11 +409,11 @@ pub unique_both : Unique both
 unfolding same_any from_any
 unique_both = unique_same any_parts both same_any (unique_then versions body_parts unique_version (λ v t. unique_then heads (claims v) unique_heads (λ h r. unique_claims v h r))) back
   where
-    new_back : (h : Head) (c : Claim) → any_of (from_new c) h version.Two ≡ newer (record { kind = h.kind; tasks = h.tasks; ask = h.ask; claim = c })
+    new_back : (h : Head) (c : Claim) → any_of (any.New c) h version.Two ≡ newer (record { kind = h.kind; tasks = h.tasks; ask = h.ask; claim = c })
     new_back h (new.TooLong t) = refl
     new_back h (new.Bounds x u b es t) = refl
 
-    old_back : (h : Head) (c : OldClaim) → any_of (from_old c) h version.One ≡ older (record { kind = h.kind; tasks = h.tasks; ask = h.ask; claim = c })
+    old_back : (h : Head) (c : OldClaim) → any_of (any_claim c) h version.One ≡ older (record { kind = h.kind; tasks = h.tasks; ask = h.ask; claim = c })
     old_back h (old.TooLong t) = refl
     old_back h (old.Bounds x u b ps) = refl
 
@@ -429,15 +423,14 @@ unique_both = unique_same any_parts both same_any (unique_then versions body_par
 
 -- a certificate of the parts is within its ranges, and is what they say, or its lift
 certificate_is : (v : Version) (h : Head) (c : AnyClaim) → certificate_of h c ≡ lifted (any_of c h v)
-certificate_is version.Two h (claim.TooLong t) = refl
-certificate_is version.One h (claim.TooLong t) = refl
-certificate_is v h (claim.Bounds x p (list.Whole l)) = refl
-certificate_is v h (claim.Bounds x p (list.InParts ps)) = refl
+certificate_is version.Two h (any.New (new.TooLong t)) = refl
+certificate_is version.One h (any.New (new.TooLong t)) = refl
+certificate_is v h (any.New (new.Bounds x u b es t)) = refl
+certificate_is v h (any.Old c) = refl
 
-pub old_in_range : (v : Version) (h : Head) (x : ℕ) (p : Placed) (ps : List Part) → IsHeadOf h → IsClaimOf v h (claim.Bounds x p (list.InParts ps))
-    → IsOldInRange (record { kind = h.kind; tasks = h.tasks; ask = h.ask; claim = old.Bounds x p.upper p.balance ps })
-old_in_range version.One h x p ps r s = any_in_range version.One h (claim.Bounds x p (list.InParts ps)) r s
-old_in_range version.Two h x p ps r s = absurd s.list
+pub old_in_range : (v : Version) (h : Head) (c : OldClaim) → IsHeadOf h → IsClaimOf v h (any.Old c) → IsOldInRange (record { kind = h.kind; tasks = h.tasks; ask = h.ask; claim = c })
+old_in_range v h (old.TooLong t) r s = absurd s
+old_in_range v h (old.Bounds x u b ps) r s = any_in_range v h (any.Old (old.Bounds x u b ps)) r s
 
 pub all_said : (v : Version) (h : Head) (c : AnyClaim) (cert : Certificate) → IsHeadOf h → IsClaimOf v h c → cert ≡ certificate_of h c → IsInRange cert
 all_said v h c cert r s e = let P : Certificate → Type 0 = IsInRange in subst P (sym (e ∙ certificate_is v h c)) (said (any_of c h v) (any_in_range v h c r s))

@@ -1,20 +1,17 @@
 -- The certificates of both versions.
 use Rattle.std.specs.Prelude.{ℕ, List}
-use Rattle.line_rules.specs.declared.types.Claim.TheVariants as new
 use Rattle.line_rules.specs.Ranges.{IsInRange}
 use Rattle.line_rules.specs.declared.types.Certificate.{Certificate}
 use Rattle.cert_lines.specs.Rows.{Row, rows_text}
 use Rattle.cert_lines.specs.Faults.{Grammar}
 use Rattle.cert_lines.specs.Lift.{lift}
 use Rattle.cert_lines.specs.OldRanges.{IsOldInRange}
-use Rattle.cert_lines.specs.declared.version_one.OldClaim.TheVariants as old
 use Rattle.cert_lines.specs.declared.version_one.OldCertificate.{OldCertificate}
 use Rattle.cert_text.specs.Cert.{cert_rows}
 use Rattle.cert_text.specs.OldCert.{old_rows}
 use Rattle.cert_text.specs.declared.reading.Head.{Head}
-use Rattle.cert_text.specs.declared.reading.AnyList.TheVariants as list
 use Rattle.cert_text.specs.declared.reading.AnyClaim.{AnyClaim}
-use Rattle.cert_text.specs.declared.reading.AnyClaim.TheVariants as claim
+use Rattle.cert_text.specs.declared.reading.AnyClaim.TheVariants as any
 
 -- a certificate of version 2, or one of version 1
 pub data AnyCertificate : Type 0 where
@@ -44,10 +41,7 @@ lifted (older old) = lift old
 abbrev pub both : Grammar AnyCertificate
 both = record { rows = any_rows; ranged = IsAnyInRange }
 
--- the certificate of a head and a claim, whose parts, where it has some, are lifted
+-- the certificate of a head and a claim, or its lift
 abbrev pub certificate_of : Head → AnyClaim → Certificate
-certificate_of h (claim.TooLong task) = record { kind = h.kind; tasks = h.tasks; ask = h.ask; claim = new.TooLong task }
-certificate_of h (claim.Bounds lower p (list.Whole l)) =
-    record { kind = h.kind; tasks = h.tasks; ask = h.ask; claim = new.Bounds lower p.upper p.balance l.entries l.trail }
-certificate_of h (claim.Bounds lower p (list.InParts ps)) =
-    lift (record { kind = h.kind; tasks = h.tasks; ask = h.ask; claim = old.Bounds lower p.upper p.balance ps })
+certificate_of h (any.New c) = record { kind = h.kind; tasks = h.tasks; ask = h.ask; claim = c }
+certificate_of h (any.Old c) = lift (record { kind = h.kind; tasks = h.tasks; ask = h.ask; claim = c })

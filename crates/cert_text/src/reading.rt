@@ -4,7 +4,7 @@ ghost use Rattle.cert_lines.specs.Judging.{IsRead};
 ghost use Rattle.cert_lines.specs.ReadingOn.{IsReadOn};
 ghost use Rattle.cert_lines.specs.Patterns.{IsOpening};
 ghost use Rattle.cert_lines.specs.declared.patterns.Version.{Version as Release};
-ghost use Rattle.cert_text.specs.Parts.{IsHeadOf, IsPlacedOf, IsListOf, IsOpened, IsClaimOf, heads, trails, lists, seatings, placings, any_lists, opened, claims};
+ghost use Rattle.cert_text.specs.Parts.{IsHeadOf, IsPlacedOf, IsOpened, IsClaimOf, heads, trails, lists, seatings, placings, opened, claims};
 ghost use Rattle.cert_text.specs.Versions.{certificate_of};
 ghost use Rattle.cert_text.specs.Answers.{IsAnyRead};
 ghost use Rattle.line_rules.specs.Ranges.{AreEntries, IsTrailOrNone, IsCycle, IsPlacing, IsInRange};
@@ -16,7 +16,7 @@ use cert_lines::patterns::{
     AskLine, EndLine, EntryLine, FrameLine, Key, KindLine, MAX_CYCLE, Opening, OpeningLine,
     SeatLine, TrailLine, Version, VersionLine, read_number,
 };
-use cert_lines::version_one::{OldCertificate, OldClaim, Parts};
+use cert_lines::version_one::{OldCertificate, OldClaim};
 use cert_lines::{ReadError, Source};
 use line_rules::{Ask, Balance, Certificate, Claim, Entries, Frames, LineKind, Places, Trail};
 use std::alloc::{AllocError, Global};
@@ -53,31 +53,13 @@ pub struct Placed {
     pub balance: Balance,
 }
 
-/// What stands between the places and the end.
-#[derive(Drop)]
-pub enum AnyList {
-    /// Entries and a trail, in version 2.
-    Whole(EntryList),
-    /// The parts, in version 1.
-    InParts(Parts),
-}
-
-/// What is claimed, in either version.
+/// A claim of either version; that a task is too long is said alike in both.
 #[derive(Drop)]
 pub enum AnyClaim {
-    /// There is no balance, since this task, from 0, is longer than the cycle.
-    TooLong {
-        task: u32,
-    },
-    /// The answer lies within bounds.
-    Bounds {
-        /// The lower bound.
-        lower: u64,
-        /// The upper bound and the balance.
-        placed: Placed,
-        /// What shows the lower bound.
-        list: AnyList,
-    },
+    /// As version 2 says it.
+    New(Claim),
+    /// Bounds of version 1.
+    Old(OldClaim),
 }
 
 /// Reads what stands before the claim.
@@ -190,30 +172,6 @@ fn read_placed<S: Source>(alloc: Global, source: &mut S, head: Head) -> Result<P
     Ok(Placed { upper, balance })
 }
 
-/// Reads what stands between the places and the end.
-fn read_list<S: Source>(
-    alloc: Global,
-    source: &mut S,
-    version: Version,
-    head: Head,
-) -> Result<AnyList, ReadError>
-    requires { IsHeadOf head }
-    ensures said { IfOk result (IsListOf version head.tasks) }
-    ensures read { S.told → IsRead (any_lists version head.tasks) (S.number source.old) (S.left source.old) (S.left source.new) (S.number source.new) result }
-    ensures source { IsReadOn S.base S.faults S.least source.old source.new }
-{
-    match version {
-        Version::Two => {
-            let list = read_entries(alloc, source, head.tasks)?;
-            Ok(AnyList::Whole(list))
-        }
-        Version::One => {
-            let parts = read_parts(alloc, source, head.tasks)?;
-            Ok(AnyList::InParts(parts))
-        }
-    }
-}
-
 /// Reads the bounds behind the lower one, and the end.
 fn read_bounds<S: Source>(
     alloc: Global,
@@ -229,13 +187,31 @@ fn read_bounds<S: Source>(
     ensures source { IsReadOn S.base S.faults S.least source.old source.new }
 {
     let placed = read_placed(alloc, source, head)?;
-    let list = read_list(alloc, source, version, head)?;
-    read_line(alloc, source, &EndLine)?;
-    Ok(AnyClaim::Bounds {
-        lower,
-        placed,
-        list,
-    })
+    let Placed { upper, balance } = placed;
+    match version {
+        Version::Two => {
+            let list = read_entries(alloc, source, head.tasks)?;
+            read_line(alloc, source, &EndLine)?;
+            let EntryList { entries, trail } = list;
+            Ok(AnyClaim::New(Claim::Bounds {
+                lower,
+                upper,
+                balance,
+                entries,
+                trail,
+            }))
+        }
+        Version::One => {
+            let parts = read_parts(alloc, source, head.tasks)?;
+            read_line(alloc, source, &EndLine)?;
+            Ok(AnyClaim::Old(OldClaim::Bounds {
+                lower,
+                upper,
+                balance,
+                parts,
+            }))
+        }
+    }
 }
 
 /// Reads what stands behind the first line of a claim.
@@ -254,7 +230,7 @@ fn read_opened<S: Source>(
 {
     match opening {
         Opening::TooLong { task } => match read_line(alloc, source, &EndLine) {
-            Ok(()) => Ok(AnyClaim::TooLong { task }),
+            Ok(()) => Ok(AnyClaim::New(Claim::TooLong { task })),
             Err(error) => Err(error),
         },
         Opening::Lower { lower } => read_bounds(alloc, source, version, head, lower),
@@ -284,7 +260,7 @@ fn read_claim<S: Source>(
     read_opened(alloc, source, version, head, opening)
 }
 
-/// The certificate of a head and a claim, whose parts, where it has some, are lifted.
+/// The certificate of a head and a claim; one of version 1 is lifted.
 fn certified(alloc: Global, head: Head, claim: AnyClaim) -> Result<Certificate, AllocError>
     requires head { IsHeadOf head }
     requires claim { (version : Release) × IsClaimOf version head claim }
@@ -292,56 +268,20 @@ fn certified(alloc: Global, head: Head, claim: AnyClaim) -> Result<Certificate, 
 {
     let Head { kind, tasks, ask } = head;
     match claim {
-        AnyClaim::TooLong { task } => {
-            let claim = Claim::TooLong { task };
-            Ok(Certificate {
+        AnyClaim::New(claim) => Ok(Certificate {
+            kind,
+            tasks,
+            ask,
+            claim,
+        }),
+        AnyClaim::Old(claim) => {
+            let old = OldCertificate {
                 kind,
                 tasks,
                 ask,
                 claim,
-            })
-        }
-        AnyClaim::Bounds {
-            lower,
-            placed,
-            list,
-        } => {
-            let Placed { upper, balance } = placed;
-            match list {
-                AnyList::Whole(list) => {
-                    let EntryList { entries, trail } = list;
-                    let claim = Claim::Bounds {
-                        lower,
-                        upper,
-                        balance,
-                        entries,
-                        trail,
-                    };
-                    Ok(Certificate {
-                        kind,
-                        tasks,
-                        ask,
-                        claim,
-                    })
-                }
-                AnyList::InParts(parts) => {
-                    let claim = OldClaim::Bounds {
-                        lower,
-                        upper,
-                        balance,
-                        parts,
-                    };
-                    lift(
-                        alloc,
-                        OldCertificate {
-                            kind,
-                            tasks,
-                            ask,
-                            claim,
-                        },
-                    )
-                }
-            }
+            };
+            lift(alloc, old)
         }
     }
 }
