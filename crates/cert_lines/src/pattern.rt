@@ -55,7 +55,8 @@ pub fn read_line<S: Source, P: Pattern>(
     requires can { P.can_read pattern.now }
     requires some { (v : P.Value) × P.may_say pattern.now v }
     ensures said { IfOk result (λ v. P.may_say pattern.now v) }
-    ensures read { S.told → IsRead (one (P.line_of pattern.now) (P.may_say pattern.now)) (S.number source.old) (S.left source.old) (S.left source.new) (S.number source.new) result }
+    ensures read { S.told → IsRead (one (P.line_of pattern.now) (P.may_say pattern.now))
+        (S.number source.old) (S.left source.old) (S.left source.new) (S.number source.new) result }
     ensures source { IsReadOn S.base S.faults S.least source.old source.new }
 {
     match source.advance() {
@@ -87,8 +88,10 @@ where
     requires some { (v : P.Value) × P.may_say pattern.now v }
     ensures said { IfOk result (λ values. AreSaid (P.may_say pattern.now) count values.items) }
     ensures read { S.told → MatchResult result
-        (λ values. IsRead (each (P.line_of pattern.now) (P.may_say pattern.now) count) (S.number source.old) (S.left source.old) (S.left source.new) (S.number source.new) (Ok values.items))
-        (λ error. IsRead (each (P.line_of pattern.now) (P.may_say pattern.now) count) (S.number source.old) (S.left source.old) (S.left source.new) (S.number source.new) (Err error)) }
+        (λ values. IsRead (each (P.line_of pattern.now) (P.may_say pattern.now) count)
+        (S.number source.old) (S.left source.old) (S.left source.new) (S.number source.new) (Ok values.items))
+        (λ error. IsRead (each (P.line_of pattern.now) (P.may_say pattern.now) count)
+        (S.number source.old) (S.left source.old) (S.left source.new) (S.number source.new) (Err error)) }
     ensures source { IsReadOn S.base S.faults S.least source.old source.new }
 {
     let mut values = Vec::new(alloc);

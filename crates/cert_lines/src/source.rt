@@ -37,7 +37,8 @@ pub trait Source {
     /// How often the outside has failed.
     ghost faults: { Self → ℕ };
 
-    /// How often the outside has failed at least once a fetch fails: one more than now, or as often as now where one has failed.
+    /// How often the outside has failed at least once a fetch fails: one more than now, or as often as now where one
+    /// has failed.
     ghost least: { Self → ℕ };
 
     /// Takes the next line.

@@ -34,7 +34,8 @@ fn read_frames<S: Source>(
     requires entries { count ≤ 10000000 }
     requires room { room ≤ 1024 }
     ensures said { IfOk result (AreFrames tasks count room) }
-    ensures read { S.told → IsRead (old_trails tasks count room) (S.number source.old) (S.left source.old) (S.left source.new) (S.number source.new) result }
+    ensures read { S.told → IsRead (old_trails tasks count room)
+        (S.number source.old) (S.left source.old) (S.left source.new) (S.number source.new) result }
     ensures source { IsReadOn S.base S.faults S.least source.old source.new }
 {
     let many = read_number(alloc, source, Key::Trail, 0, room)?;
@@ -53,7 +54,8 @@ fn read_part<S: Source>(
     requires few { tasks ≤ 1024 }
     requires room { room ≤ 1024 }
     ensures said { IfOk result (λ p. IsPart tasks p × (length p.frames ≤ room)) }
-    ensures read { S.told → IsRead (one_part tasks room) (S.number source.old) (S.left source.old) (S.left source.new) (S.number source.new) result }
+    ensures read { S.told → IsRead (one_part tasks room)
+        (S.number source.old) (S.left source.old) (S.left source.new) (S.number source.new) result }
     ensures source { IsReadOn S.base S.faults S.least source.old source.new }
 {
     let cycle = read_number(alloc, source, Key::Part, 1, MAX_CYCLE)?;
@@ -91,7 +93,8 @@ pub fn read_parts<S: Source>(alloc: Global, source: &mut S, tasks: u32) -> Resul
     requires some { 1 ≤ tasks }
     requires few { tasks ≤ 1024 }
     ensures said { IfOk result (AreParts tasks) }
-    ensures read { S.told → IsRead (counted tasks) (S.number source.old) (S.left source.old) (S.left source.new) (S.number source.new) result }
+    ensures read { S.told → IsRead (counted tasks)
+        (S.number source.old) (S.left source.old) (S.left source.new) (S.number source.new) result }
     ensures source { IsReadOn S.base S.faults S.least source.old source.new }
 {
     let count = read_number(alloc, source, Key::Parts, 0, MAX_PARTS)?;

@@ -4,7 +4,8 @@ ghost use Rattle.cert_lines.specs.Judging.{IsRead};
 ghost use Rattle.cert_lines.specs.ReadingOn.{IsReadOn};
 ghost use Rattle.cert_lines.specs.Patterns.{IsOpening};
 ghost use Rattle.cert_lines.specs.declared.patterns.Version.{Version as Release};
-ghost use Rattle.cert_text.specs.Parts.{IsHeadOf, IsPlacedOf, IsOpened, IsClaimOf, heads, trails, lists, seatings, placings, opened, claims};
+ghost use Rattle.cert_text.specs.Parts.{IsHeadOf, IsPlacedOf, IsOpened, IsClaimOf};
+ghost use Rattle.cert_text.specs.Parts.{heads, trails, lists, seatings, placings, opened, claims};
 ghost use Rattle.cert_text.specs.Versions.{certificate_of};
 ghost use Rattle.cert_text.specs.Answers.{IsAnyRead};
 ghost use Rattle.line_rules.specs.Ranges.{AreEntries, IsTrailOrNone, IsCycle, IsPlacing, IsInRange};
@@ -65,7 +66,8 @@ pub enum AnyClaim {
 /// Reads what stands before the claim.
 fn read_head<S: Source>(alloc: Global, source: &mut S) -> Result<Head, ReadError>
     ensures said { IfOk result IsHeadOf }
-    ensures read { S.told → IsRead heads (S.number source.old) (S.left source.old) (S.left source.new) (S.number source.new) result }
+    ensures read { S.told → IsRead heads
+        (S.number source.old) (S.left source.old) (S.left source.new) (S.number source.new) result }
     ensures source { IsReadOn S.base S.faults S.least source.old source.new }
 {
     let kind = read_line(alloc, source, &KindLine)?;
@@ -89,7 +91,8 @@ fn read_trail<S: Source>(
     requires few { tasks ≤ 1024 }
     requires entries { count ≤ 20000000 }
     ensures said { IfOk result (IsTrailOrNone tasks count) }
-    ensures read { S.told → IsRead (trails tasks count) (S.number source.old) (S.left source.old) (S.left source.new) (S.number source.new) result }
+    ensures read { S.told → IsRead (trails tasks count)
+        (S.number source.old) (S.left source.old) (S.left source.new) (S.number source.new) result }
     ensures source { IsReadOn S.base S.faults S.least source.old source.new }
 {
     let head = read_line(alloc, source, &TrailLine)?;
@@ -112,7 +115,8 @@ pub fn read_entries<S: Source>(
     requires some { 1 ≤ tasks }
     requires few { tasks ≤ 1024 }
     ensures said { IfOk result (λ x. AreEntries tasks x.entries × IsTrailOrNone tasks (length x.entries) x.trail) }
-    ensures read { S.told → IsRead (lists tasks) (S.number source.old) (S.left source.old) (S.left source.new) (S.number source.new) result }
+    ensures read { S.told → IsRead (lists tasks)
+        (S.number source.old) (S.left source.old) (S.left source.new) (S.number source.new) result }
     ensures source { IsReadOn S.base S.faults S.least source.old source.new }
 {
     let count = read_number(alloc, source, Key::Entries, 0, MAX_ENTRIES)?;
@@ -143,7 +147,8 @@ pub fn read_seating<S: Source>(
     requires some { 1 ≤ tasks }
     requires few { tasks ≤ 1024 }
     ensures said { IfOk result (IsPlacing kind tasks) }
-    ensures read { S.told → IsRead (seatings kind tasks) (S.number source.old) (S.left source.old) (S.left source.new) (S.number source.new) result }
+    ensures read { S.told → IsRead (seatings kind tasks)
+        (S.number source.old) (S.left source.old) (S.left source.new) (S.number source.new) result }
     ensures source { IsReadOn S.base S.faults S.least source.old source.new }
 {
     let stations = read_number(alloc, source, Key::Balance, 1, 1024)?;
@@ -164,7 +169,8 @@ pub fn read_seating<S: Source>(
 fn read_placed<S: Source>(alloc: Global, source: &mut S, head: Head) -> Result<Placed, ReadError>
     requires { IsHeadOf head }
     ensures said { IfOk result (IsPlacedOf head.kind head.tasks) }
-    ensures read { S.told → IsRead (placings head.kind head.tasks) (S.number source.old) (S.left source.old) (S.left source.new) (S.number source.new) result }
+    ensures read { S.told → IsRead (placings head.kind head.tasks)
+        (S.number source.old) (S.left source.old) (S.left source.new) (S.number source.new) result }
     ensures source { IsReadOn S.base S.faults S.least source.old source.new }
 {
     let upper = read_number(alloc, source, Key::Upper, 1, MAX_CYCLE)?;
@@ -183,7 +189,8 @@ fn read_bounds<S: Source>(
     requires head { IsHeadOf head }
     requires lower { IsCycle lower }
     ensures said { IfOk result (IsOpened version head (Opening.Lower lower)) }
-    ensures read { S.told → IsRead (opened version head (Opening.Lower lower)) (S.number source.old) (S.left source.old) (S.left source.new) (S.number source.new) result }
+    ensures read { S.told → IsRead (opened version head (Opening.Lower lower))
+        (S.number source.old) (S.left source.old) (S.left source.new) (S.number source.new) result }
     ensures source { IsReadOn S.base S.faults S.least source.old source.new }
 {
     let placed = read_placed(alloc, source, head)?;
@@ -225,7 +232,8 @@ fn read_opened<S: Source>(
     requires head { IsHeadOf head }
     requires opening { IsOpening head.ask head.tasks opening }
     ensures said { IfOk result (IsOpened version head opening) }
-    ensures read { S.told → IsRead (opened version head opening) (S.number source.old) (S.left source.old) (S.left source.new) (S.number source.new) result }
+    ensures read { S.told → IsRead (opened version head opening)
+        (S.number source.old) (S.left source.old) (S.left source.new) (S.number source.new) result }
     ensures source { IsReadOn S.base S.faults S.least source.old source.new }
 {
     match opening {
@@ -246,7 +254,8 @@ fn read_claim<S: Source>(
 ) -> Result<AnyClaim, ReadError>
     requires { IsHeadOf head }
     ensures said { IfOk result (IsClaimOf version head) }
-    ensures read { S.told → IsRead (claims version head) (S.number source.old) (S.left source.old) (S.left source.new) (S.number source.new) result }
+    ensures read { S.told → IsRead (claims version head)
+        (S.number source.old) (S.left source.old) (S.left source.new) (S.number source.new) result }
     ensures source { IsReadOn S.base S.faults S.least source.old source.new }
 {
     let opening = read_line(
@@ -289,7 +298,8 @@ fn certified(alloc: Global, head: Head, claim: AnyClaim) -> Result<Certificate, 
 /// Reads a certificate of version 2, or one of version 1, which is lifted.
 pub fn read_all<S: Source>(alloc: Global, source: &mut S) -> Result<Certificate, ReadError>
     ensures said { IfOk result IsInRange }
-    ensures read { S.told → IsAnyRead (S.number source.old) (S.left source.old) (S.left source.new) (S.number source.new) result }
+    ensures read { S.told → IsAnyRead
+        (S.number source.old) (S.left source.old) (S.left source.new) (S.number source.new) result }
     ensures source { IsReadOn S.base S.faults S.least source.old source.new }
 {
     let version = read_line(alloc, source, &VersionLine)?;
