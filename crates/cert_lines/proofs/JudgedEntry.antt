@@ -48,7 +48,7 @@ cites_small count (c ∷ cs) (x ∷ xs) l e h =
 pub clip_text : (n : ℕ) (s : List Bool) → n ≤ 1024 → (set_text n (clip n s) ≡ set_text n s) × IsOf n (clip n s)
 clip_text n s h = set_found n (set_text n s) (clip n s) h (set_again n s)
 
-entry_is : (n : ℕ) (g : Option ℕ) (e : Entry) (w : Why) → form_of (why_row n (written g e.cycle) e w) ≡ entry n (not (given g))
+pub entry_is : (n : ℕ) (g : Option ℕ) (e : Entry) (w : Why) → form_of (why_row n (written g e.cycle) e w) ≡ entry n (not (given g))
 entry_is n None e whys.Bound = refl
 entry_is n None e (whys.Branch mode cites) = refl
 entry_is n None e (whys.Swap cite out into) = refl

@@ -5,6 +5,7 @@ pub mod Faults
 pub mod Reading
 pub mod LineReading
 pub mod Taking
+pub mod ReadingOn
 pub mod Judging
 pub mod Answering
 pub mod Patterns

@@ -1,8 +1,9 @@
 //! The reading of one line for a value, and of so many.
-ghost use Rattle.std.specs.Prelude.{ℕ, ◌≡◌, MatchResult, IfOk, Ok, Err, ◌≤◌};
+ghost use Rattle.std.specs.Prelude.{◌≡◌, MatchResult, IfOk, Ok, Err};
 ghost use Rattle.cert_lines.specs.Rows.{Row};
 ghost use Rattle.cert_lines.specs.Judging.{IsJudged, IsRead, AreSaid, one, each};
 ghost use Rattle.cert_lines.specs.Answering.{error_at};
+ghost use Rattle.cert_lines.specs.ReadingOn.{IsReadOn};
 
 use crate::fault::{CertFault, CertKind, LineError, ReadError};
 use crate::source::{Source, Taken};
@@ -54,10 +55,9 @@ pub fn read_line<S: Source, P: Pattern>(
     requires can { P.can_read pattern.now }
     requires some { (v : P.Value) × P.may_say pattern.now v }
     ensures said { IfOk result (λ v. P.may_say pattern.now v) }
-    ensures read { S.told → IsRead (one (P.line_of pattern.now) (P.may_say pattern.now)) (S.number source.old) (S.left source.old) (S.left source.new) (S.number source.new) result }
-    ensures base { S.base source.new ≡ S.base source.old }
-    ensures faults { S.faults source.old ≤ S.faults source.new }
-    ensures least { S.least source.old ≤ S.least source.new }
+    ensures read { S.told → IsRead (one (P.line_of pattern.now) (P.may_say pattern.now))
+        (S.number source.old) (S.left source.old) (S.left source.new) (S.number source.new) result }
+    ensures source { IsReadOn S.base S.faults S.least source.old source.new }
 {
     match source.advance() {
         Taken::Stopped => return Err(ReadError::Stopped),
@@ -88,11 +88,11 @@ where
     requires some { (v : P.Value) × P.may_say pattern.now v }
     ensures said { IfOk result (λ values. AreSaid (P.may_say pattern.now) count values.items) }
     ensures read { S.told → MatchResult result
-        (λ values. IsRead (each (P.line_of pattern.now) (P.may_say pattern.now) count) (S.number source.old) (S.left source.old) (S.left source.new) (S.number source.new) (Ok values.items))
-        (λ error. IsRead (each (P.line_of pattern.now) (P.may_say pattern.now) count) (S.number source.old) (S.left source.old) (S.left source.new) (S.number source.new) (Err error)) }
-    ensures base { S.base source.new ≡ S.base source.old }
-    ensures faults { S.faults source.old ≤ S.faults source.new }
-    ensures least { S.least source.old ≤ S.least source.new }
+        (λ values. IsRead (each (P.line_of pattern.now) (P.may_say pattern.now) count)
+        (S.number source.old) (S.left source.old) (S.left source.new) (S.number source.new) (Ok values.items))
+        (λ error. IsRead (each (P.line_of pattern.now) (P.may_say pattern.now) count)
+        (S.number source.old) (S.left source.old) (S.left source.new) (S.number source.new) (Err error)) }
+    ensures source { IsReadOn S.base S.faults S.least source.old source.new }
 {
     let mut values = Vec::new(alloc);
     for _ in 0..count {

@@ -1,12 +1,17 @@
 //! The kinds of lines of a certificate.
-ghost use Rattle.std.specs.Prelude.{◌≡◌, ◌≤◌, ◌<◌, ◌+◌, ◌↔◌, IsTrue, MatchResult, ℕ};
+ghost use Rattle.std.specs.Prelude.{◌≡◌, ◌≤◌, ◌<◌, ◌+◌, ◌↔◌, IsTrue, MatchResult, IfOk};
+ghost use Rattle.cert_lines.specs.Rows.{keyed as keyed_row};
+ghost use Rattle.cert_lines.specs.Reading.{greatest};
+ghost use Rattle.cert_lines.specs.ReadingOn.{IsReadOn};
+ghost use Rattle.cert_lines.specs.Judging.{IsRead, one};
 ghost use Rattle.cert_lines.specs.Patterns.{key_text, IsWhyWithin, IsWithin, entry_of, why_of, IsFrameWithin, frame_of};
 ghost use Rattle.cert_lines.specs.declared.fault.LineError.TheVariants.{Range};
 ghost use Rattle.line_rules.specs.Ranges.{IsCycle, AreCites};
 
 use crate::draft::{Draft, DraftWhy, FrameDraft, entry, frame, keyed, seat, trail};
-use crate::fault::LineError;
-use crate::pattern::Pattern;
+use crate::fault::{LineError, ReadError};
+use crate::pattern::{Pattern, read_line};
+use crate::source::Source;
 use line_rules::{Ask, Entry, LineKind, OpenFrame, Seatplace, Why};
 use std::alloc::Global;
 
@@ -92,6 +97,24 @@ impl Pattern for NumberLine {
         }
         Ok(value)
     }
+}
+
+/// Reads the line of a word and a number within its range.
+pub fn read_number<S: Source>(
+    alloc: Global,
+    source: &mut S,
+    key: Key,
+    low: u64,
+    high: u64,
+) -> Result<u64, ReadError>
+    requires some { low ≤ high }
+    requires small { high < greatest }
+    ensures said { IfOk result (λ v. (low ≤ v) × (v ≤ high)) }
+    ensures read { S.told → IsRead (one (keyed_row (key_text key)) (λ v. (low ≤ v) × (v ≤ high)))
+        (S.number source.old) (S.left source.old) (S.left source.new) (S.number source.new) result }
+    ensures source { IsReadOn S.base S.faults S.least source.old source.new }
+{
+    read_line(alloc, source, &NumberLine { key, low, high })
 }
 
 /// The version of a certificate's text.

@@ -1,6 +1,7 @@
 //! Where the lines of a text come from.
-ghost use Rattle.std.specs.Prelude.{◌≡◌, ◌+◌, ◌≤◌, ℕ, List, suc};
+ghost use Rattle.std.specs.Prelude.{◌≡◌, ℕ, List, suc};
 ghost use Rattle.cert_lines.specs.Taking.{IsTaken, IsAtEnd};
+ghost use Rattle.cert_lines.specs.ReadingOn.{IsReadOn};
 
 /// What became of the next line.
 #[derive(Clone, Copy, Debug, PartialEq, Eq)]
@@ -36,7 +37,8 @@ pub trait Source {
     /// How often the outside has failed.
     ghost faults: { Self → ℕ };
 
-    /// How often the outside has failed at least once a fetch fails: one more than now, or as often as now where one has failed.
+    /// How often the outside has failed at least once a fetch fails: one more than now, or as often as now where one
+    /// has failed.
     ghost least: { Self → ℕ };
 
     /// Takes the next line.
@@ -45,9 +47,7 @@ pub trait Source {
         ensures end { told → result ≡ Taken.End → IsAtEnd (left self.old) }
         ensures count { result ≡ Taken.Line → number self.new ≡ suc (number self.old) }
         ensures last { result ≡ Taken.End → number self.new ≡ suc (number self.old) }
-        ensures base { base self.new ≡ base self.old }
-        ensures faults { faults self.old ≤ faults self.new }
-        ensures least { least self.old ≤ least self.new };
+        ensures source { IsReadOn base faults least self.old self.new };
 
     /// The line that was taken last.
     fn line(&self) -> &[u8]

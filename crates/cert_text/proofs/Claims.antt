@@ -1,258 +1,454 @@
--- Claims and certificates as parts, and that their lines say one value at most.
-use Rattle.std.proofs.Common.{◌≡◌, ℕ, suc, ◌<◌, ◌≤◌, List, [], ◌∷◌, length, refl, sym, ◌∙◌, ap, subst, arith, Some, None, Ok, Err, Result, lit≤}
+-- Claims and certificates of both versions as parts, and that their lines say one value at most.
+use Rattle.std.proofs.Common.{◌≡◌, ℕ, suc, ◌<◌, ◌≤◌, List, [], ◌∷◌, ◌++◌, length, refl, sym, ◌∙◌, ap, subst, arith, Some, None, Ok, Err, Result, lit≤}
 use Rattle.std.specs.Prelude.{codes}
+use Rattle.std.specs.Result.{IsErrAnd}
+use Rattle.std.proofs.lemmas.Bool.{false≢true}
 use Rattle.std.proofs.lemmas.Option.{none-some}
-use Rattle.line_rules.specs.Ranges.{IsCycle, AreEntries, IsTrailOrNone, IsClaim, IsInRange}
-use Rattle.line_rules.specs.declared.types.Certificate.{Certificate}
+use Rattle.std.proofs.lemmas.Slice.Eq.{bytes_eq-Decides}
+use Rattle.line_rules.specs.Ranges.{IsCycle, NamesCycle, AreEntries, IsTrailOrNone, IsClaim, IsInRange}
 use Rattle.line_rules.specs.declared.types.LineKind.{LineKind}
 use Rattle.line_rules.specs.declared.types.LineKind.TheVariants.{Straight}
 use Rattle.line_rules.specs.declared.types.Ask.{Ask}
 use Rattle.line_rules.specs.declared.types.Ask.TheVariants as ask
 use Rattle.line_rules.specs.declared.types.Claim.{Claim}
-use Rattle.line_rules.specs.declared.types.Claim.TheVariants as claim
+use Rattle.line_rules.specs.declared.types.Claim.TheVariants as new
+use Rattle.line_rules.specs.declared.types.Certificate.{Certificate}
 use Rattle.cert_lines.specs.Rows.{fixed, keyed, row_text}
-use Rattle.cert_text.specs.Cert.{claim_rows}
 use Rattle.cert_lines.specs.Faults.{Grammar}
 use Rattle.cert_lines.specs.Judging.{one, then_, IsRead}
-use Rattle.cert_lines.specs.Patterns.{opening_row, IsOpening}
-use Rattle.cert_text.specs.Parts.{IsHeadOf, heads, lists, IsPlacedOf, placings, IsOpened, behind_rows, opened, claims, bodies}
+use Rattle.cert_lines.specs.Patterns.{opening_row, IsOpening, version_row}
+use Rattle.cert_lines.specs.OldRanges.{IsOldClaim, IsOldInRange}
 use Rattle.cert_lines.specs.declared.patterns.Opening.{Opening}
 use Rattle.cert_lines.specs.declared.patterns.Opening.TheVariants as opening
+use Rattle.cert_lines.specs.declared.patterns.Version.{Version}
+use Rattle.cert_lines.specs.declared.patterns.Version.TheVariants as version
+use Rattle.cert_lines.specs.declared.version_one.OldClaim.{OldClaim}
+use Rattle.cert_lines.specs.declared.version_one.OldClaim.TheVariants as old
+use Rattle.cert_lines.specs.declared.version_one.Part.{Part}
+use Rattle.cert_lines.specs.declared.fault.ReadError.{ReadError}
+use Rattle.cert_lines.specs.declared.fault.ReadError.TheVariants as errors
+use Rattle.cert_text.specs.Cert.{head_rows, claim_rows, cert_rows}
+use Rattle.cert_text.specs.OldCert.{old_claim_rows, old_rows}
+use Rattle.cert_text.specs.Parts.{IsHeadOf, heads, lists, IsPlacedOf, placings, behind_rows, opening_of, IsOpened, opened, IsClaimOf, claims}
+use Rattle.cert_text.specs.OldParts.{counted}
+use Rattle.cert_text.specs.Versions.{AnyCertificate, newer, older, IsAnyInRange, any_rows, lifted, both, certificate_of}
+use Rattle.cert_text.specs.Answers.{IsAnyRead}
 use Rattle.cert_text.specs.declared.reading.Head.{Head}
 use Rattle.cert_text.specs.declared.reading.EntryList.{EntryList}
 use Rattle.cert_text.specs.declared.reading.Placed.{Placed}
+use Rattle.cert_text.specs.declared.reading.AnyClaim.{AnyClaim}
+use Rattle.cert_text.specs.declared.reading.AnyClaim.TheVariants as any
 use Rattle.cert_lines.proofs.CiteWords.{sat}
-use Rattle.cert_lines.proofs.Judged.{small_is, keyed_value, keyed_other}
+use Rattle.cert_lines.proofs.Judged.{fixed_text, small_is, keyed_value, keyed_other}
 use Rattle.cert_lines.proofs.OtherLines.{keyed_again}
+use Rattle.cert_lift.proofs.LiftRanges.{lifted_in}
+use Rattle.cert_text.proofs.Failing.{Fails, first, second, same, hand}
 use Rattle.cert_text.proofs.Sequencing.{unique_then, Unique, unique_one, Same, same_read, same_error, both_read, second_error}
-use Rattle.cert_lines.specs.declared.fault.ReadError.{ReadError}
-use Rattle.cert_lines.specs.declared.fault.ReadError.TheVariants as errors
-use Rattle.cert_text.proofs.Wholes.{unique_same, unique_placings, unique_lists, unique_heads, some_seating, placing_said, within}
+use Rattle.cert_text.proofs.Wholes.{unique_same, unique_placings, unique_lists, unique_heads, one_cycle, some_seating, placing_said, within}
+use Rattle.cert_text.proofs.OldWholes.{unique_counted}
 
 -- the end
 abbrev pub end_grammar : Grammar (Unit {0})
 end_grammar = one (λ u. fixed (codes "end")) (λ u. Unit {0})
 
-abbrev pub bounds_behind : LineKind → ℕ → Grammar (EntryList × Unit {0})
-bounds_behind kind n = then_ (lists n) (λ l. end_grammar)
-
-abbrev pub bounds_parts : LineKind → ℕ → Grammar (Placed × (EntryList × Unit {0}))
-bounds_parts kind n = then_ (placings kind n) (λ p. bounds_behind kind n)
+pub unique_end : Unique end_grammar
+unique_end = unique_one (λ u. fixed (codes "end")) (λ u. Unit {0}) (λ v w a b e. refl)
 
 abbrev no_list : EntryList
 no_list = record { entries = []; trail = None }
 
-abbrev pub no_places : Placed
+pub some_list : (n : ℕ) → (l : EntryList) × (AreEntries n l.entries × IsTrailOrNone n (length l.entries) l.trail)
+some_list n = (no_list, (record { many = lit≤ tt; each = λ k e q. absurd (none-some e q) }, tt))
+
+-- bounds behind the lower one, which a list shows, and the end
+abbrev pub bounds_parts : {L : Type 0} → Grammar L → Head → Grammar (Placed × (L × Unit {0}))
+bounds_parts g h = then_ (placings h.kind h.tasks) (λ p. then_ g (λ l. end_grammar))
+
+unique_bounds : {L : Type 0} (g : Grammar L) (h : Head) → Unique g → Unique (bounds_parts g h)
+unique_bounds g h u = unique_then (placings h.kind h.tasks) (λ p. then_ g (λ l. end_grammar)) (unique_placings h.kind h.tasks) (λ p r. unique_then g (λ l. end_grammar) u (λ l s. unique_end))
+
+pub list_fails : {L : Type 0} (g : Grammar L) (h : Head) (p : Placed) (passed middle : ℕ) (text left : List ℕ) {e : ReadError} → Unique g → IsRead (placings h.kind h.tasks) passed text left middle (Ok p)
+    → Fails g middle left e → Fails (bounds_parts g h) passed text e
+list_fails g h p passed middle text left u x f =
+    second (placings h.kind h.tasks) (λ p. then_ g (λ l. end_grammar)) p passed middle text left (unique_placings h.kind h.tasks) x (first g (λ l. end_grammar) u (λ l r. (tt, tt)) f)
+
+pub end_fails : {L : Type 0} (g : Grammar L) (h : Head) (p : Placed) (l : L) (passed middle third : ℕ) (text left behind : List ℕ) {e : ReadError} → Unique g → IsRead (placings h.kind h.tasks) passed text left middle (Ok p)
+    → IsRead g middle left behind third (Ok l) → Fails end_grammar third behind e → Fails (bounds_parts g h) passed text e
+end_fails g h p l passed middle third text left behind u x y f =
+    second (placings h.kind h.tasks) (λ p. then_ g (λ l. end_grammar)) p passed middle text left (unique_placings h.kind h.tasks) x (second g (λ l. end_grammar) l middle third left behind u y f)
+
+bounds_read : {L : Type 0} (g : Grammar L) (h : Head) (p : Placed) (l : L) (passed middle third after : ℕ) (text left behind rest : List ℕ) → IsRead (placings h.kind h.tasks) passed text left middle (Ok p)
+    → IsRead g middle left behind third (Ok l) → IsRead end_grammar third behind rest after (Ok tt) → IsRead (bounds_parts g h) passed text rest after (Ok (p, (l, tt)))
+bounds_read g h p l passed middle third after text left behind rest x y z =
+    both_read (placings h.kind h.tasks) (λ p. then_ g (λ l. end_grammar)) p (l, tt) passed middle after text left rest x (both_read g (λ l. end_grammar) l tt middle third after left behind rest y z)
+
+abbrev no_places : Placed
 no_places = record { upper = 0; balance = record { stations = 0; place = [] } }
 
-from_claim : Claim → Placed × (EntryList × Unit {0})
-from_claim (claim.TooLong t) = (no_places, (no_list, tt))
-from_claim (claim.Bounds l u b es t) = (record { upper = u; balance = b }, (record { entries = es; trail = t }, tt))
+from_new : AnyClaim → Placed × (EntryList × Unit {0})
+from_new (any.New (new.TooLong t)) = (no_places, (no_list, tt))
+from_new (any.New (new.Bounds x u b es t)) = (record { upper = u; balance = b }, (record { entries = es; trail = t }, tt))
+from_new (any.Old c) = (no_places, (no_list, tt))
 
-pub same_bounds : (kind : LineKind) (n lower : ℕ) → IsCycle lower → Same (bounds_parts kind n) (opened kind n (opening.Lower lower))
-unfolding from_claim
-same_bounds kind n lower c = record {
-  to = λ v. claim.Bounds lower v.0.upper v.0.balance v.1.0.entries v.1.0.trail;
-  from = from_claim;
-  to_ranged = λ v r. (refl, record { from = c; up_to = r.0.upper; balance = r.0.balance; entries = r.1.0.0; trail = r.1.0.1 });
+same_new : (h : Head) (x : ℕ) → IsCycle x → Same (bounds_parts (lists h.tasks) h) (opened version.Two h (opening.Lower x))
+unfolding from_new
+same_new h x c = record {
+  to = λ v. any.New (new.Bounds x v.0.upper v.0.balance v.1.0.entries v.1.0.trail);
+  from = from_new;
+  to_ranged = λ v r. ((refl, record { from = c; up_to = r.0.upper; balance = r.0.balance; entries = r.1.0.0; trail = r.1.0.1 }), refl);
   from_ranged = from_range;
   to_rows = λ v r. refl;
   from_rows = from_row;
 }
   where
-    from_range : (w : Claim) → IsOpened kind n (opening.Lower lower) w → (bounds_parts kind n).ranged (from_claim w)
-    from_range (claim.TooLong t) r = absurd r
-    from_range (claim.Bounds l u b es t) r = (record { upper = r.1.up_to; balance = r.1.balance }, ((r.1.entries, r.1.trail), tt))
+    from_range : (w : AnyClaim) → IsOpened version.Two h (opening.Lower x) w → (bounds_parts (lists h.tasks) h).ranged (from_new w)
+    from_range (any.New (new.TooLong t)) r = absurd (cc (r.1))
+    from_range (any.New (new.Bounds y u b es t)) r = (record { upper = r.0.1.up_to; balance = r.0.1.balance }, ((r.0.1.entries, r.0.1.trail), tt))
+    from_range (any.Old (old.TooLong t)) r = absurd r.0
+    from_range (any.Old (old.Bounds y u b ps)) r = absurd (cc (r.0.0))
 
-    from_row : (w : Claim) → IsOpened kind n (opening.Lower lower) w → (bounds_parts kind n).rows (from_claim w) ≡ (opened kind n (opening.Lower lower)).rows w
-    from_row (claim.TooLong t) r = absurd r
-    from_row (claim.Bounds l u b es t) r = refl
+    from_row : (w : AnyClaim) → IsOpened version.Two h (opening.Lower x) w → (bounds_parts (lists h.tasks) h).rows (from_new w) ≡ behind_rows h w
+    from_row (any.New (new.TooLong t)) r = absurd (cc (r.1))
+    from_row (any.New (new.Bounds y u b es t)) r = refl
+    from_row (any.Old (old.TooLong t)) r = absurd r.0
+    from_row (any.Old (old.Bounds y u b ps)) r = absurd (cc (r.0.0))
 
-pub bounds_read : (kind : LineKind) (n lower : ℕ) (p : Placed) (l : EntryList) (passed after : ℕ) (text rest : List ℕ) → IsCycle lower → IsRead (bounds_parts kind n) passed text rest after (Ok (p, (l, tt)))
-    → IsRead (opened kind n (opening.Lower lower)) passed text rest after (Ok (claim.Bounds lower p.upper p.balance l.entries l.trail))
-unfolding same_bounds
-bounds_read kind n lower p l passed after text rest c h = same_read (bounds_parts kind n) (opened kind n (opening.Lower lower)) passed after text rest (p, (l, tt)) (same_bounds kind n lower c) h
+from_old : AnyClaim → Placed × (List Part × Unit {0})
+from_old (any.New c) = (no_places, ([], tt))
+from_old (any.Old (old.TooLong t)) = (no_places, ([], tt))
+from_old (any.Old (old.Bounds x u b ps)) = (record { upper = u; balance = b }, (ps, tt))
+
+same_old : (h : Head) (x : ℕ) → IsCycle x → Same (bounds_parts (counted h.tasks) h) (opened version.One h (opening.Lower x))
+unfolding from_old
+same_old h x c = record {
+  to = λ v. any.Old (old.Bounds x v.0.upper v.0.balance v.1.0);
+  from = from_old;
+  to_ranged = λ v r. ((refl, record { from = c; up_to = r.0.upper; balance = r.0.balance; parts = r.1.0 }), refl);
+  from_ranged = from_range;
+  to_rows = λ v r. refl;
+  from_rows = from_row;
+}
+  where
+    from_range : (w : AnyClaim) → IsOpened version.One h (opening.Lower x) w → (bounds_parts (counted h.tasks) h).ranged (from_old w)
+    from_range (any.New (new.TooLong t)) r = absurd (cc (r.1))
+    from_range (any.New (new.Bounds y u b es t)) r = absurd (cc (r.0.0))
+    from_range (any.Old (old.TooLong t)) r = absurd r.0
+    from_range (any.Old (old.Bounds y u b ps)) r = (record { upper = r.0.1.up_to; balance = r.0.1.balance }, (r.0.1.parts, tt))
+
+    from_row : (w : AnyClaim) → IsOpened version.One h (opening.Lower x) w → (bounds_parts (counted h.tasks) h).rows (from_old w) ≡ behind_rows h w
+    from_row (any.New (new.TooLong t)) r = absurd (cc (r.1))
+    from_row (any.New (new.Bounds y u b es t)) r = absurd (cc (r.0.0))
+    from_row (any.Old (old.TooLong t)) r = absurd r.0
+    from_row (any.Old (old.Bounds y u b ps)) r = refl
+
+-- what fails in the bounds of a version
+pub new_fails : {v : Version} (h : Head) (x : ℕ) {passed : ℕ} {text : List ℕ} {e : ReadError} → v ≡ version.Two → IsCycle x → Fails (bounds_parts (lists h.tasks) h) passed text e → Fails (opened v h (opening.Lower x)) passed text e
+new_fails h x {passed = passed} {text = text} {e = e} q c f =
+    let P : Version → Type 0 = λ w. Fails (opened w h (opening.Lower x)) passed text e in
+    subst P (sym q) (same (bounds_parts (lists h.tasks) h) (opened version.Two h (opening.Lower x)) (same_new h x c) f)
+
+pub old_fails : {v : Version} (h : Head) (x : ℕ) {passed : ℕ} {text : List ℕ} {e : ReadError} → v ≡ version.One → IsCycle x → Fails (bounds_parts (counted h.tasks) h) passed text e → Fails (opened v h (opening.Lower x)) passed text e
+old_fails h x {passed = passed} {text = text} {e = e} q c f =
+    let P : Version → Type 0 = λ w. Fails (opened w h (opening.Lower x)) passed text e in
+    subst P (sym q) (same (bounds_parts (counted h.tasks) h) (opened version.One h (opening.Lower x)) (same_old h x c) f)
+
+-- what is read of them
+pub new_read : (v : Version) (h : Head) (x : ℕ) (p : Placed) (l : EntryList) (passed middle third after : ℕ) (text left behind rest : List ℕ) → v ≡ version.Two → IsCycle x → IsRead (placings h.kind h.tasks) passed text left middle (Ok p)
+    → IsRead (lists h.tasks) middle left behind third (Ok l) → IsRead end_grammar third behind rest after (Ok tt)
+    → IsRead (opened v h (opening.Lower x)) passed text rest after (Ok (any.New (new.Bounds x p.upper p.balance l.entries l.trail)))
+unfolding same_new
+new_read v h x p l passed middle third after text left behind rest q c a b e =
+    let P : Version → Type 0 = λ w. IsRead (opened w h (opening.Lower x)) passed text rest after (Ok (any.New (new.Bounds x p.upper p.balance l.entries l.trail))) in
+    subst P (sym q) (same_read (bounds_parts (lists h.tasks) h) (opened version.Two h (opening.Lower x)) passed after text rest (p, (l, tt)) (same_new h x c)
+    (bounds_read (lists h.tasks) h p l passed middle third after text left behind rest a b e))
+
+pub old_read : (v : Version) (h : Head) (x : ℕ) (p : Placed) (ps : List Part) (passed middle third after : ℕ) (text left behind rest : List ℕ) → v ≡ version.One → IsCycle x → IsRead (placings h.kind h.tasks) passed text left middle (Ok p)
+    → IsRead (counted h.tasks) middle left behind third (Ok ps) → IsRead end_grammar third behind rest after (Ok tt)
+    → IsRead (opened v h (opening.Lower x)) passed text rest after (Ok (any.Old (old.Bounds x p.upper p.balance ps)))
+unfolding same_old
+old_read v h x p ps passed middle third after text left behind rest q c a b e =
+    let P : Version → Type 0 = λ w. IsRead (opened w h (opening.Lower x)) passed text rest after (Ok (any.Old (old.Bounds x p.upper p.balance ps))) in
+    subst P (sym q) (same_read (bounds_parts (counted h.tasks) h) (opened version.One h (opening.Lower x)) passed after text rest (p, (ps, tt)) (same_old h x c)
+    (bounds_read (counted h.tasks) h p ps passed middle third after text left behind rest a b e))
+
+pub placed_fails : (v : Version) (h : Head) (x : ℕ) {passed : ℕ} {text : List ℕ} {e : ReadError} → IsCycle x → Fails (placings h.kind h.tasks) passed text e → Fails (opened v h (opening.Lower x)) passed text e
+placed_fails version.Two h x c f =
+    let l = some_list h.tasks in
+    new_fails h x refl c (first (placings h.kind h.tasks) (λ p. then_ (lists h.tasks) (λ l. end_grammar)) (unique_placings h.kind h.tasks) (λ p r. ((l.0, tt), (l.1, tt))) f)
+placed_fails version.One h x c f =
+    old_fails h x refl c (first (placings h.kind h.tasks) (λ p. then_ (counted h.tasks) (λ l. end_grammar)) (unique_placings h.kind h.tasks) (λ p r. (([], tt), (tt, tt))) f)
 
 -- claims
 abbrev pub openings : Ask → ℕ → Grammar Opening
 openings a n = one opening_row (IsOpening a n)
 
-abbrev pub claim_parts : Head → Grammar (Opening × Claim)
-claim_parts h = then_ (openings h.ask h.tasks) (opened h.kind h.tasks)
+abbrev pub claim_parts : Version → Head → Grammar (Opening × AnyClaim)
+claim_parts v h = then_ (openings h.ask h.tasks) (opened v h)
+
+-- what opens a claim: a lower bound, or a task where the question names a cycle
+pub opening_cycle : (a : Ask) (n l : ℕ) → IsOpening a n (opening.Lower l) → IsCycle l
+opening_cycle (ask.Stations c) n l h = h
+opening_cycle (ask.Cycle m) n l h = h
+
+cycle_opens : (a : Ask) (n l : ℕ) → IsCycle l → IsOpening a n (opening.Lower l)
+cycle_opens (ask.Stations c) n l h = h
+cycle_opens (ask.Cycle m) n l h = h
+
+pub opening_task : (a : Ask) (n t : ℕ) → IsOpening a n (opening.TooLong t) → NamesCycle a × (t < n)
+opening_task (ask.Stations c) n t h = (tt, h)
+opening_task (ask.Cycle m) n t h = absurd h
+
+task_opens : (a : Ask) (n t : ℕ) → NamesCycle a × (t < n) → IsOpening a n (opening.TooLong t)
+task_opens (ask.Stations c) n t h = h.1
+task_opens (ask.Cycle m) n t h = absurd h.0
 
 same_opening : (a : Ask) (n : ℕ) → n ≤ 1024 → (v w : Opening) → IsOpening a n v → IsOpening a n w → row_text (opening_row v) ≡ row_text (opening_row w) → v ≡ w
 same_opening a n l (opening.TooLong x) (opening.TooLong y) p q e =
-    let f : suc x ≡ suc y = keyed_value (codes "infeasible") (row_text (keyed (codes "infeasible") (suc x))) (suc y) (suc x) refl (sym e) (omega (arith, task_small a y q))
-    (keyed_again (codes "infeasible") (suc x) refl ∙ ap (λ z. Some z) (small_is (suc x) (omega (arith, task_small a x p)))) in
+    let f : suc x ≡ suc y = keyed_value (codes "infeasible") (row_text (keyed (codes "infeasible") (suc x))) (suc y) (suc x) refl (sym e) (omega (arith, (opening_task a n y q).1))
+    (keyed_again (codes "infeasible") (suc x) refl ∙ ap (λ z. Some z) (small_is (suc x) (omega (arith, (opening_task a n x p).1)))) in
     ap (λ z. opening.TooLong z) (omega arith)
-  where
-    task_small : (a : Ask) (x : ℕ) → IsOpening a n (opening.TooLong x) → x < n
-    task_small (ask.Stations c) x h = h
-    task_small (ask.Cycle m) x h = absurd h
 same_opening a n l (opening.Lower x) (opening.Lower y) p q e =
-    ap (λ z. opening.Lower z) (keyed_value (codes "lower") (row_text (keyed (codes "lower") x)) y x refl (sym e) (omega (arith, (cycle_said a y q).limit)) (keyed_again (codes "lower") x refl ∙ ap (λ z. Some z) (small_is x (omega (arith, (cycle_said a x p).limit)))))
-  where
-    cycle_said : (a : Ask) (x : ℕ) → IsOpening a n (opening.Lower x) → IsCycle x
-    cycle_said (ask.Stations c) x h = h
-    cycle_said (ask.Cycle m) x h = h
+    ap (λ z. opening.Lower z) (keyed_value (codes "lower") (row_text (keyed (codes "lower") x)) y x refl (sym e) (omega (arith, (opening_cycle a n y q).limit)) (keyed_again (codes "lower") x refl ∙ ap (λ z. Some z) (small_is x (omega (arith, (opening_cycle a n x p).limit)))))
 same_opening a n l (opening.TooLong x) (opening.Lower y) p q e = (let w : codes "lower" ≡ codes "infeasible" = keyed_other (codes "lower") (codes "infeasible") (row_text (keyed (codes "infeasible") (suc x))) y (sat (suc x)) refl refl (sym e) (keyed_again (codes "infeasible") (suc x) refl) in (cc))
 same_opening a n l (opening.Lower x) (opening.TooLong y) p q e = (let w : codes "infeasible" ≡ codes "lower" = keyed_other (codes "infeasible") (codes "lower") (row_text (keyed (codes "lower") x)) (suc y) (sat x) refl refl (sym e) (keyed_again (codes "lower") x refl) in (cc))
 
 pub unique_opening : (a : Ask) (n : ℕ) → n ≤ 1024 → Unique (openings a n)
 unique_opening a n l = unique_one opening_row (IsOpening a n) (same_opening a n l)
 
-pub one_cycle : IsCycle 1
-one_cycle = record { some = lit≤ tt; limit = lit≤ tt }
-
 pub some_opening : (a : Ask) (n : ℕ) → (o : Opening) × IsOpening a n o
 some_opening (ask.Stations c) n = (opening.Lower 1, one_cycle)
 some_opening (ask.Cycle m) n = (opening.Lower 1, one_cycle)
 
-pub opening_cycle : (a : Ask) (n l : ℕ) → IsOpening a n (opening.Lower l) → IsCycle l
-opening_cycle (ask.Stations c) n l h = h
-opening_cycle (ask.Cycle m) n l h = h
-
 -- a claim behind what opens it
-pub some_placing : (kind : LineKind) (n : ℕ) → (p : Placed) × IsPlacedOf kind n p
+some_placing : (kind : LineKind) (n : ℕ) → (p : Placed) × IsPlacedOf kind n p
 some_placing kind n =
     let u : within 1 1000000000000000000 1 = (lit≤ tt, lit≤ tt) in
     let s = some_seating kind n in
     (record { upper = 1; balance = s.0 }, placing_said kind n 1 s.0 u s.1)
 
-no_entries : (n : ℕ) → AreEntries n []
-no_entries n = record { many = lit≤ tt; each = λ k e q. absurd (none-some e q) }
-
-pub some_list : (n : ℕ) → (l : EntryList) × (AreEntries n l.entries × IsTrailOrNone n (length l.entries) l.trail)
-some_list n = (no_list, (record { many = lit≤ tt; each = λ k e q. absurd (none-some e q) }, tt))
-
-pub some_opened : (a : Ask) (kind : LineKind) (n : ℕ) (o : Opening) → IsOpening a n o → (c : Claim) × IsOpened kind n o c
-some_opened a kind n (opening.TooLong t) h = (claim.TooLong t, refl)
-some_opened a kind n (opening.Lower l) h =
-    let p = some_placing kind n in (
-      claim.Bounds l p.0.upper p.0.balance [] None,
-      (refl, record { from = opening_cycle a n l h; up_to = p.1.upper; balance = p.1.balance; entries = no_entries n; trail = tt }),
+pub some_opened : (v : Version) (h : Head) (o : Opening) → IsOpening h.ask h.tasks o → (c : AnyClaim) × IsOpened v h o c
+some_opened v h (opening.TooLong t) r = (any.New (new.TooLong t), (opening_task h.ask h.tasks t r, refl))
+some_opened version.Two h (opening.Lower x) r =
+    let p = some_placing h.kind h.tasks in
+    let l = some_list h.tasks in (
+      any.New (new.Bounds x p.0.upper p.0.balance l.0.entries l.0.trail),
+      ((refl, record { from = opening_cycle h.ask h.tasks x r; up_to = p.1.upper; balance = p.1.balance; entries = l.1.0; trail = l.1.1 }), refl),
+    )
+some_opened version.One h (opening.Lower x) r =
+    let p = some_placing h.kind h.tasks in (
+      any.Old (old.Bounds x p.0.upper p.0.balance []),
+      ((refl, record { from = opening_cycle h.ask h.tasks x r; up_to = p.1.upper; balance = p.1.balance; parts = tt }), refl),
     )
 
-from_opened : Claim → Opening × Claim
-from_opened (claim.TooLong t) = (opening.TooLong t, claim.TooLong t)
-from_opened (claim.Bounds l u b es t) = (opening.Lower l, claim.Bounds l u b es t)
+claim_opens : (v : Version) (h : Head) (c : AnyClaim) → IsClaimOf v h c → IsOpening h.ask h.tasks (opening_of c)
+claim_opens v h (any.New (new.TooLong t)) r = task_opens h.ask h.tasks t r
+claim_opens v h (any.New (new.Bounds x u b es t)) r = cycle_opens h.ask h.tasks x r.1.from
+claim_opens v h (any.Old (old.TooLong t)) r = absurd r
+claim_opens v h (any.Old (old.Bounds x u b ps)) r = cycle_opens h.ask h.tasks x r.1.from
 
-pub same_claims : (h : Head) → Same (claim_parts h) (claims h)
-unfolding from_opened
-same_claims h = record {
-  to = λ v. v.1;
-  from = from_opened;
-  to_ranged = λ v r. to_range h.ask v.0 v.1 r.0 r.1;
-  from_ranged = from_range h.ask;
-  to_rows = λ v r. to_row v.0 v.1 r.1;
-  from_rows = λ w r. from_row w;
-}
-  where
-    to_range : (a : Ask) (o : Opening) (c : Claim) → IsOpening a h.tasks o → IsOpened h.kind h.tasks o c → IsClaim h.kind h.tasks a c
-    to_range (ask.Stations x) (opening.TooLong t) (claim.TooLong task) p q = (tt, let P : ℕ → Type 0 = λ z. z < h.tasks in subst P (sym q) p)
-    to_range (ask.Cycle x) (opening.TooLong t) (claim.TooLong task) p q = absurd p
-    to_range a (opening.TooLong t) (claim.Bounds l u b es left) p q = absurd q
-    to_range a (opening.Lower l) (claim.TooLong task) p q = absurd q
-    to_range a (opening.Lower x) (claim.Bounds l u b es left) p q = q.1
-
-    from_range : (a : Ask) (w : Claim) → IsClaim h.kind h.tasks a w → IsOpening a h.tasks (from_opened w).0 × IsOpened h.kind h.tasks (from_opened w).0 (from_opened w).1
-    from_range (ask.Stations c) (claim.TooLong t) r = (r.1, refl)
-    from_range (ask.Cycle c) (claim.TooLong t) r = absurd r.0
-    from_range (ask.Stations c) (claim.Bounds l u b es t) r = (r.from, (refl, r))
-    from_range (ask.Cycle c) (claim.Bounds l u b es t) r = (r.from, (refl, r))
-
-    to_row : (o : Opening) (c : Claim) → IsOpened h.kind h.tasks o c → claim_rows h.kind h.tasks c ≡ (claim_parts h).rows (o, c)
-    to_row (opening.TooLong t) (claim.TooLong task) q = ap (λ z. keyed (codes "infeasible") (suc z) ∷ fixed (codes "end") ∷ []) q
-    to_row (opening.TooLong t) (claim.Bounds l u b es left) q = absurd q
-    to_row (opening.Lower x) (claim.TooLong task) q = absurd q
-    to_row (opening.Lower x) (claim.Bounds l u b es left) q = ap (λ z. claim_rows h.kind h.tasks (claim.Bounds z u b es left)) q.0 ∙ ap (λ z. keyed (codes "lower") x ∷ behind_rows h.kind h.tasks (claim.Bounds l u b es left)) q.0
-
-    from_row : (w : Claim) → (claim_parts h).rows (from_opened w) ≡ claim_rows h.kind h.tasks w
-    from_row (claim.TooLong t) = refl
-    from_row (claim.Bounds l u b es t) = refl
-
-pub claim_read : (h : Head) (o : Opening) (c : Claim) (passed after : ℕ) (text rest : List ℕ) → IsRead (claim_parts h) passed text rest after (Ok (o, c)) → IsRead (claims h) passed text rest after (Ok c)
-unfolding same_claims
-claim_read h o c passed after text rest x = same_read (claim_parts h) (claims h) passed after text rest (o, c) (same_claims h) x
-
--- what stands behind the first line
-pub same_bodies : Same (then_ heads claims) bodies
-same_bodies = record {
-  to = λ v. record { kind = v.0.kind; tasks = v.0.tasks; ask = v.0.ask; claim = v.1 };
-  from = λ c. (record { kind = c.kind; tasks = c.tasks; ask = c.ask }, c.claim);
-  to_ranged = λ v r. record { some = r.0.some; few = r.0.few; ask = r.0.ask; claim = r.1 };
-  from_ranged = λ c r. (record { some = r.some; few = r.few; ask = r.ask }, r.claim);
-  to_rows = λ v r. refl;
+pub same_claims : (v : Version) (h : Head) → Same (claim_parts v h) (claims v h)
+same_claims v h = record {
+  to = λ x. x.1;
+  from = λ c. (opening_of c, c);
+  to_ranged = λ x r. r.1.0;
+  from_ranged = λ c r. (claim_opens v h c r, (r, refl));
+  to_rows = λ x r. ap (λ o. opening_row o ∷ behind_rows h x.1) r.1.1;
   from_rows = λ c r. refl;
 }
 
-pub body_read : (h : Head) (c : Claim) (passed after : ℕ) (text rest : List ℕ) → IsRead (then_ heads claims) passed text rest after (Ok (h, c))
-    → IsRead bodies passed text rest after (Ok (record { kind = h.kind; tasks = h.tasks; ask = h.ask; claim = c }))
-unfolding same_bodies
-body_read h c passed after text rest x = same_read (then_ heads claims) bodies passed after text rest (h, c) same_bodies x
-
-pub some_claim : (h : Head) → (c : Claim) × IsClaim h.kind h.tasks h.ask c
-unfolding same_claims
-some_claim h =
+pub some_claim : (v : Version) (h : Head) → (c : AnyClaim) × IsClaimOf v h c
+some_claim v h =
     let o = some_opening h.ask h.tasks in
-    let c = some_opened h.ask h.kind h.tasks o.0 o.1 in
-    (c.0, (same_claims h).to_ranged (o.0, c.0) (o.1, c.1))
-
-pub some_head : (x : Head × Claim) × (then_ heads claims).ranged x
-some_head =
-    let h : Head = record { kind = Straight; tasks = 1; ask = ask.Stations 1 } in
-    let c = some_claim h in
-    ((h, c.0), (record { some = lit≤ tt; few = lit≤ tt; ask = one_cycle }, c.1))
-
-pub a_cert : (c : Certificate) × IsInRange c
-unfolding same_bodies
-a_cert = let h = some_head in (same_bodies.to h.0, same_bodies.to_ranged h.0 h.1)
+    let c = some_opened v h o.0 o.1 in
+    (c.0, c.1.0)
 
 -- what is read behind the first line of a claim gives what the claim is
-pub claim_result : (h : Head) (o : Opening) (r : Result Claim ReadError) (passed middle after : ℕ) (text left rest : List ℕ) → h.tasks ≤ 1024 → IsRead (openings h.ask h.tasks) passed text left middle (Ok o)
-    → IsRead (opened h.kind h.tasks o) middle left rest after r → IsRead (claims h) passed text rest after r
+pub claim_result : (v : Version) (h : Head) (o : Opening) (r : Result AnyClaim ReadError) (passed middle after : ℕ) (text left rest : List ℕ) → h.tasks ≤ 1024 → IsRead (openings h.ask h.tasks) passed text left middle (Ok o)
+    → IsRead (opened v h o) middle left rest after r → IsRead (claims v h) passed text rest after r
 unfolding same_claims
-claim_result h o (Ok c) passed middle after text left rest l x y = claim_read h o c passed after text rest (both_read (openings h.ask h.tasks) (opened h.kind h.tasks) o c passed middle after text left rest x y)
-claim_result h o (Err (errors.Fault f)) passed middle after text left rest l x y =
-    same_error (claim_parts h) (claims h) passed after after text rest rest (errors.Fault f) (same_claims h)
-    (second_error (openings h.ask h.tasks) (opened h.kind h.tasks) o passed middle after after text left rest rest (errors.Fault f) (unique_opening h.ask h.tasks l) x y)
-claim_result h o (Err errors.Stopped) passed middle after text left rest l x y = tt
+claim_result v h o (Ok c) passed middle after text left rest l x y =
+    same_read (claim_parts v h) (claims v h) passed after text rest (o, c) (same_claims v h) (both_read (openings h.ask h.tasks) (opened v h) o c passed middle after text left rest x y)
+claim_result v h o (Err (errors.Fault f)) passed middle after text left rest l x y =
+    same_error (claim_parts v h) (claims v h) passed after after text rest rest (errors.Fault f) (same_claims v h)
+    (second_error (openings h.ask h.tasks) (opened v h) o passed middle after after text left rest rest (errors.Fault f) (unique_opening h.ask h.tasks l) x y)
+claim_result v h o (Err errors.Stopped) passed middle after text left rest l x y = tt
 
 -- the end of a claim that a task is too long
-pub same_end : (kind : LineKind) (n t : ℕ) → Same end_grammar (opened kind n (opening.TooLong t))
-same_end kind n t = record { to = λ u. claim.TooLong t; from = λ c. tt; to_ranged = λ u r. refl; from_ranged = λ c r. tt; to_rows = λ u r. refl; from_rows = from_row }
+pub same_end : (v : Version) (h : Head) (t : ℕ) → IsOpening h.ask h.tasks (opening.TooLong t) → Same end_grammar (opened v h (opening.TooLong t))
+same_end v h t q = record { to = λ u. any.New (new.TooLong t); from = λ c. tt; to_ranged = λ u r. (opening_task h.ask h.tasks t q, refl); from_ranged = λ c r. tt; to_rows = λ u r. refl; from_rows = from_row }
   where
-    from_row : (w : Claim) → IsOpened kind n (opening.TooLong t) w → fixed (codes "end") ∷ [] ≡ behind_rows kind n w
-    from_row (claim.TooLong x) r = refl
-    from_row (claim.Bounds l u b es left) r = absurd r
+    from_row : (w : AnyClaim) → IsOpened v h (opening.TooLong t) w → fixed (codes "end") ∷ [] ≡ behind_rows h w
+    from_row (any.New (new.TooLong x)) r = refl
+    from_row (any.New (new.Bounds x u b es l)) r = absurd (cc (r.1))
+    from_row (any.Old (old.TooLong x)) r = refl
+    from_row (any.Old (old.Bounds x u b ps)) r = absurd (cc (r.1))
 
-pub unique_end : Unique end_grammar
-unique_end = unique_one (λ u. fixed (codes "end")) (λ u. Unit {0}) (λ v w a b e. refl)
-
-unique_opened : (a : Ask) (kind : LineKind) (n : ℕ) (o : Opening) → n ≤ 1024 → IsOpening a n o → Unique (opened kind n o)
-unfolding same_end same_bounds from_claim
-unique_opened a kind n (opening.TooLong t) l h = unique_same end_grammar (opened kind n (opening.TooLong t)) (same_end kind n t) unique_end back
+unique_opened : (v : Version) (h : Head) (o : Opening) → h.tasks ≤ 1024 → IsOpening h.ask h.tasks o → Unique (opened v h o)
+unfolding same_end same_new from_new same_old from_old
+unique_opened v h (opening.TooLong t) m q = unique_same end_grammar (opened v h (opening.TooLong t)) (same_end v h t q) unique_end back
   where
-    back : (w : Claim) → IsOpened kind n (opening.TooLong t) w → claim.TooLong t ≡ w
-    back (claim.TooLong x) r = ap (λ z. claim.TooLong z) (sym r)
-    back (claim.Bounds a u b es left) r = absurd r
-unique_opened a kind n (opening.Lower l) m h =
-    unique_same (bounds_parts kind n) (opened kind n (opening.Lower l)) (same_bounds kind n l (opening_cycle a n l h))
-    (unique_then (placings kind n) (λ p. bounds_behind kind n) (unique_placings kind n) (λ p r. unique_then (lists n) (λ x. end_grammar) (unique_lists n m) (λ x s. unique_end))) back
+    back : (w : AnyClaim) → IsOpened v h (opening.TooLong t) w → any.New (new.TooLong t) ≡ w
+    back (any.New (new.TooLong x)) r = (cc (r.1))
+    back (any.New (new.Bounds x u b es l)) r = absurd (cc (r.1))
+    back (any.Old (old.TooLong x)) r = absurd r.0
+    back (any.Old (old.Bounds x u b ps)) r = absurd (cc (r.1))
+unique_opened version.Two h (opening.Lower y) m q =
+    unique_same (bounds_parts (lists h.tasks) h) (opened version.Two h (opening.Lower y)) (same_new h y (opening_cycle h.ask h.tasks y q)) (unique_bounds (lists h.tasks) h (unique_lists h.tasks m)) back
   where
-    back : (w : Claim) → IsOpened kind n (opening.Lower l) w → (same_bounds kind n l (opening_cycle a n l h)).to (from_claim w) ≡ w
-    back (claim.TooLong x) r = absurd r
-    back (claim.Bounds lower u b es left) r = ap (λ z. claim.Bounds z u b es left) (sym r.0)
-
-unique_claims : (h : Head) → IsHeadOf h → Unique (claims h)
-unfolding same_claims from_opened
-unique_claims h r = unique_same (claim_parts h) (claims h) (same_claims h) (unique_then (openings h.ask h.tasks) (opened h.kind h.tasks) (unique_opening h.ask h.tasks r.few) (λ o s. unique_opened h.ask h.kind h.tasks o r.few s)) back
+    back : (w : AnyClaim) → IsOpened version.Two h (opening.Lower y) w → any.New (new.Bounds y (from_new w).0.upper (from_new w).0.balance (from_new w).1.0.entries (from_new w).1.0.trail) ≡ w
+    back (any.New (new.TooLong x)) r = absurd (cc (r.1))
+    back (any.New (new.Bounds x u b es l)) r = (cc (r.1))
+    back (any.Old (old.TooLong x)) r = absurd r.0
+    back (any.Old (old.Bounds x u b ps)) r = absurd (cc (r.0.0))
+unique_opened version.One h (opening.Lower y) m q =
+    unique_same (bounds_parts (counted h.tasks) h) (opened version.One h (opening.Lower y)) (same_old h y (opening_cycle h.ask h.tasks y q)) (unique_bounds (counted h.tasks) h (unique_counted h.tasks m)) back
   where
-    back : (w : Claim) → IsClaim h.kind h.tasks h.ask w → (from_opened w).1 ≡ w
-    back (claim.TooLong x) r = refl
-    back (claim.Bounds l u b es left) r = refl
+    back : (w : AnyClaim) → IsOpened version.One h (opening.Lower y) w → any.Old (old.Bounds y (from_old w).0.upper (from_old w).0.balance (from_old w).1.0) ≡ w
+    back (any.New (new.TooLong x)) r = absurd (cc (r.1))
+    back (any.New (new.Bounds x u b es l)) r = absurd (cc (r.0.0))
+    back (any.Old (old.TooLong x)) r = absurd r.0
+    back (any.Old (old.Bounds x u b ps)) r = (cc (r.1))
 
--- what stands behind the first line begins no other such
-pub unique_bodies : Unique bodies
-unfolding same_bodies
-unique_bodies = unique_same (then_ heads claims) bodies same_bodies (unique_then heads claims unique_heads (λ h r. unique_claims h r)) (λ c r. refl)
+unique_claims : (v : Version) (h : Head) → IsHeadOf h → Unique (claims v h)
+unfolding same_claims
+unique_claims v h r =
+    unique_same (claim_parts v h) (claims v h) (same_claims v h)
+    (unique_then (openings h.ask h.tasks) (opened v h) (unique_opening h.ask h.tasks r.few) (λ o s. unique_opened v h o r.few s)) (λ c q. refl)
+
+-- both versions
+abbrev pub versions : Grammar Version
+versions = one version_row (λ v. Unit {0})
+
+same_version : (v w : Version) → row_text (version_row v) ≡ row_text (version_row w) → v ≡ w
+same_version version.One version.One e = refl
+same_version version.Two version.Two e = refl
+same_version version.One version.Two e =
+    let f : codes "line balance certificate 1" ≡ codes "line balance certificate 2" = sym (fixed_text (codes "line balance certificate 1")) ∙ e ∙ fixed_text (codes "line balance certificate 2") in
+    absurd (false≢true ((bytes_eq-Decides (codes "line balance certificate 1") (codes "line balance certificate 2")).1 f))
+same_version version.Two version.One e =
+    let f : codes "line balance certificate 2" ≡ codes "line balance certificate 1" = sym (fixed_text (codes "line balance certificate 2")) ∙ e ∙ fixed_text (codes "line balance certificate 1") in
+    absurd (false≢true ((bytes_eq-Decides (codes "line balance certificate 2") (codes "line balance certificate 1")).1 f))
+
+pub unique_version : Unique versions
+unique_version = unique_one version_row (λ v. Unit {0}) (λ v w a b e. same_version v w e)
+
+-- what stands behind the first line of a version
+abbrev pub body_parts : Version → Grammar (Head × AnyClaim)
+body_parts v = then_ heads (claims v)
+
+abbrev pub any_parts : Grammar (Version × (Head × AnyClaim))
+any_parts = then_ versions body_parts
+
+some_head : (h : Head) × IsHeadOf h
+some_head = (record { kind = Straight; tasks = 1; ask = ask.Stations 1 }, record { some = lit≤ tt; few = lit≤ tt; ask = one_cycle })
+
+pub some_body : (v : Version) → Unit {0} → (b : Head × AnyClaim) × (body_parts v).ranged b
+some_body v t = let h = some_head in let c = some_claim v h.0 in ((h.0, c.0), (h.1, c.1))
+
+-- the certificate that a version, a head and a claim say
+abbrev any_of : AnyClaim → Head → Version → AnyCertificate
+any_of (any.New (new.TooLong t)) h version.Two = newer (record { kind = h.kind; tasks = h.tasks; ask = h.ask; claim = new.TooLong t })
+any_of (any.New (new.TooLong t)) h version.One = older (record { kind = h.kind; tasks = h.tasks; ask = h.ask; claim = old.TooLong t })
+any_of (any.New (new.Bounds x u b es t)) h v = newer (record { kind = h.kind; tasks = h.tasks; ask = h.ask; claim = new.Bounds x u b es t })
+any_of (any.Old c) h v = older (record { kind = h.kind; tasks = h.tasks; ask = h.ask; claim = c })
+
+abbrev any_claim : OldClaim → AnyClaim
+any_claim (old.TooLong t) = any.New (new.TooLong t)
+any_claim (old.Bounds x u b ps) = any.Old (old.Bounds x u b ps)
+
+from_any : AnyCertificate → Version × (Head × AnyClaim)
+from_any (newer c) = (version.Two, (record { kind = c.kind; tasks = c.tasks; ask = c.ask }, any.New c.claim))
+from_any (older o) = (version.One, (record { kind = o.kind; tasks = o.tasks; ask = o.ask }, any_claim o.claim))
+
+any_in_range : (v : Version) (h : Head) (c : AnyClaim) → IsHeadOf h → IsClaimOf v h c → IsAnyInRange (any_of c h v)
+any_in_range version.Two h (any.New (new.TooLong t)) r s = record { some = r.some; few = r.few; ask = r.ask; claim = s }
+any_in_range version.One h (any.New (new.TooLong t)) r s = record { some = r.some; few = r.few; ask = r.ask; claim = s }
+any_in_range v h (any.New (new.Bounds x u b es t)) r s = record { some = r.some; few = r.few; ask = r.ask; claim = s.1 }
+any_in_range v h (any.Old (old.TooLong t)) r s = absurd s
+any_in_range v h (any.Old (old.Bounds x u b ps)) r s = record { some = r.some; few = r.few; ask = r.ask; claim = s.1 }
+
+pub same_any : Same any_parts both
+unfolding from_any cert_rows old_rows
+same_any = record { to = λ x. any_of x.1.1 x.1.0 x.0; from = from_any; to_ranged = λ x r. any_in_range x.0 x.1.0 x.1.1 r.1.0 r.1.1; from_ranged = from_range; to_rows = λ x r. to_row x.0 x.1.0 x.1.1 r.1.1; from_rows = λ x r. from_row x }
+  where
+    new_range : (h : Head) (c : Claim) → IsClaim h.kind h.tasks h.ask c → IsClaimOf version.Two h (any.New c)
+    new_range h (new.TooLong t) r = r
+    new_range h (new.Bounds x u b es t) r = (refl, r)
+
+    old_range : (h : Head) (c : OldClaim) → IsOldClaim h.kind h.tasks h.ask c → IsClaimOf version.One h (any_claim c)
+    old_range h (old.TooLong t) r = r
+    old_range h (old.Bounds x u b ps) r = (refl, r)
+
+    from_range : (x : AnyCertificate) → IsAnyInRange x → any_parts.ranged (from_any x)
+    from_range (newer c) r = (tt, (record { some = r.some; few = r.few; ask = r.ask }, new_range (from_any (newer c)).1.0 c.claim r.claim))
+    from_range (older o) r = (tt, (record { some = r.some; few = r.few; ask = r.ask }, old_range (from_any (older o)).1.0 o.claim r.claim))
+
+    to_row : (v : Version) (h : Head) (c : AnyClaim) → IsClaimOf v h c → any_rows (any_of c h v) ≡ any_parts.rows (v, (h, c))
+    to_row version.Two h (any.New (new.TooLong t)) s = refl
+    to_row version.One h (any.New (new.TooLong t)) s = refl
+    to_row version.Two h (any.New (new.Bounds x u b es t)) s = refl
+    to_row version.One h (any.New (new.Bounds x u b es t)) s = absurd (cc (s.0))
+    to_row v h (any.Old (old.TooLong t)) s = absurd s
+    to_row version.Two h (any.Old (old.Bounds x u b ps)) s = absurd (cc (s.0))
+    to_row version.One h (any.Old (old.Bounds x u b ps)) s = refl
+
+    new_row : (h : Head) (c : Claim) → (claims version.Two h).rows (any.New c) ≡ claim_rows h.kind h.tasks c
+    new_row h (new.TooLong t) = refl
+    new_row h (new.Bounds x u b es t) = refl
+
+    old_row : (h : Head) (c : OldClaim) → (claims version.One h).rows (any_claim c) ≡ old_claim_rows h.kind h.tasks c
+    old_row h (old.TooLong t) = refl
+    old_row h (old.Bounds x u b ps) = refl
+
+    from_row : (x : AnyCertificate) → any_parts.rows (from_any x) ≡ any_rows x
+    from_row (newer c) = ap (λ z. version_row version.Two ∷ (head_rows c.kind c.tasks c.ask ++ z)) (new_row (from_any (newer c)).1.0 c.claim)
+    from_row (older o) = ap (λ z. version_row version.One ∷ (head_rows o.kind o.tasks o.ask ++ z)) (old_row (from_any (older o)).1.0 o.claim)
+
+-- the lines of a certificate of either version begin those of no other
+pub unique_both : Unique both
+unfolding same_any from_any
+unique_both = unique_same any_parts both same_any (unique_then versions body_parts unique_version (λ v t. unique_then heads (claims v) unique_heads (λ h r. unique_claims v h r))) back
+  where
+    new_back : (h : Head) (c : Claim) → any_of (any.New c) h version.Two ≡ newer (record { kind = h.kind; tasks = h.tasks; ask = h.ask; claim = c })
+    new_back h (new.TooLong t) = refl
+    new_back h (new.Bounds x u b es t) = refl
+
+    old_back : (h : Head) (c : OldClaim) → any_of (any_claim c) h version.One ≡ older (record { kind = h.kind; tasks = h.tasks; ask = h.ask; claim = c })
+    old_back h (old.TooLong t) = refl
+    old_back h (old.Bounds x u b ps) = refl
+
+    back : (x : AnyCertificate) → IsAnyInRange x → any_of (from_any x).1.1 (from_any x).1.0 (from_any x).0 ≡ x
+    back (newer c) r = new_back (from_any (newer c)).1.0 c.claim
+    back (older o) r = old_back (from_any (older o)).1.0 o.claim
+
+-- a certificate of the parts is within its ranges, and is what they say, or its lift
+certificate_is : (v : Version) (h : Head) (c : AnyClaim) → certificate_of h c ≡ lifted (any_of c h v)
+certificate_is version.Two h (any.New (new.TooLong t)) = refl
+certificate_is version.One h (any.New (new.TooLong t)) = refl
+certificate_is v h (any.New (new.Bounds x u b es t)) = refl
+certificate_is v h (any.Old c) = refl
+
+pub old_in_range : (v : Version) (h : Head) (c : OldClaim) → IsHeadOf h → IsClaimOf v h (any.Old c) → IsOldInRange (record { kind = h.kind; tasks = h.tasks; ask = h.ask; claim = c })
+old_in_range v h (old.TooLong t) r s = absurd s
+old_in_range v h (old.Bounds x u b ps) r s = any_in_range v h (any.Old (old.Bounds x u b ps)) r s
+
+pub all_said : (v : Version) (h : Head) (c : AnyClaim) (cert : Certificate) → IsHeadOf h → IsClaimOf v h c → cert ≡ certificate_of h c → IsInRange cert
+all_said v h c cert r s e = let P : Certificate → Type 0 = IsInRange in subst P (sym (e ∙ certificate_is v h c)) (said (any_of c h v) (any_in_range v h c r s))
+  where
+    said : (x : AnyCertificate) → IsAnyInRange x → IsInRange (lifted x)
+    said (newer c) r = r
+    said (older o) r = lifted_in o (lifted (older o)) refl r
+
+pub all_read : (v : Version) (h : Head) (c : AnyClaim) (cert : Certificate) (passed second third after : ℕ) (text left behind rest : List ℕ) → IsRead versions passed text left second (Ok v)
+    → IsRead heads second left behind third (Ok h) → IsRead (claims v h) third behind rest after (Ok c) → cert ≡ certificate_of h c → IsAnyRead passed text rest after (Ok cert)
+unfolding same_any
+all_read v h c cert passed second third after text left behind rest x y z e = (
+  any_of c h v,
+  e ∙ certificate_is v h c,
+  same_read any_parts both passed after text rest (v, (h, c)) same_any (both_read versions body_parts v (h, c) passed second after text left rest x (both_read heads (claims v) h c second third after left behind rest y z)),
+)
+
+-- an error is handed on
+pub any_hand : (passed after : ℕ) (text rest : List ℕ) (r : Result Certificate ReadError) (e : ReadError) → IsErrAnd r (λ y. y ≡ e) → Fails both passed text e → IsAnyRead passed text rest after r
+any_hand passed after text rest (Ok c) e h f = absurd h
+any_hand passed after text rest (Err x) e h f = hand both passed after text rest (Err x) e h f

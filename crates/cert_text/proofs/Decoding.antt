@@ -46,7 +46,7 @@ use Rattle.cert_lines.proofs.SetText.{set_high}
 use Rattle.cert_lines.proofs.Composing.{rows_lines}
 use Rattle.cert_text.proofs.Sequencing.{texts, Unique}
 use Rattle.cert_text.proofs.Wholes.{unique_lists}
-use Rattle.cert_text.proofs.OldClaims.{unique_both}
+use Rattle.cert_text.proofs.Claims.{unique_both}
 
 lacks_append : (m : ℕ) (a b : List ℕ) → lacks m a ≡ true → lacks m b ≡ true → lacks m (a ++ b) ≡ true
 lacks_append m [] b e f = f

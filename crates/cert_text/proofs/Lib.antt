@@ -5,7 +5,6 @@ pub mod Wholes
 pub mod Failing
 pub mod Claims
 pub mod OldWholes
-pub mod OldClaims
 pub mod TakenLines
 pub mod Decoding
 pub mod ListAnswers

@@ -1,7 +1,7 @@
 -- The parts of a text of version 1, and that each part's lines say one value at most.
-use Rattle.std.proofs.Common.{◌≡◌, ℕ, zero, suc, ◌≤◌, List, [], ◌∷◌, ◌++◌, length, map, refl, sym, ap, subst, arith, Some, Ok, Err, Result, ◌⊎◌, inl, inr, lit≤, lit<}
+use Rattle.std.proofs.Common.{◌≡◌, ◌≢◌, ℕ, zero, suc, ◌≤◌, List, [], ◌∷◌, ◌++◌, length, map, refl, sym, ap, subst, arith, Some, Ok, ◌⊎◌, inl, inr, lit≤, lit<}
 use Rattle.std.specs.Prelude.{codes, slice_get}
-use Rattle.std.proofs.lemmas.Option.{same_Some, none-some}
+use Rattle.std.proofs.lemmas.Option.{none-some}
 use Rattle.std.proofs.lemmas.List.{append-nil}
 use Rattle.line_rules.specs.Ranges.{IsCycle, IsEntry, IsFrame}
 use Rattle.line_rules.specs.declared.types.Entry.{Entry}
@@ -15,44 +15,21 @@ use Rattle.cert_lines.specs.OldRanges.{IsPart, AreParts}
 use Rattle.cert_lines.specs.declared.version_one.Part.{Part}
 use Rattle.cert_text.specs.OldCert.{part_rows, parts_rows}
 use Rattle.cert_text.specs.OldParts.{AreFrames, old_trails, room_of, room_left, one_part, so_many, counted}
-use Rattle.cert_lines.proofs.JudgedEntry.{some_entry, some_frame}
+use Rattle.cert_lines.proofs.JudgedEntry.{some_entry}
 use Rattle.cert_lines.specs.declared.fault.ReadError.{ReadError}
-use Rattle.cert_lines.specs.declared.fault.ReadError.TheVariants as errors
-use Rattle.cert_text.proofs.Sequencing.{Unique, unique_each, unique_then, Same, same_read, same_error, second_error, both_read}
-use Rattle.cert_text.proofs.Wholes.{numbers, unique_number, unique_same, unique_given, same_frame}
-
--- so many equal values
-pub some_copies : {V : Type 0} (ranged : V → Type 0) (k : ℕ) (v : V) → ranged v → (vs : List V) × AreSaid ranged k vs
-some_copies {V = V} ranged k v r = (copies k, record { many = copies_length k; each = said k })
-  where
-    copies : ℕ → List V
-    copies zero = []
-    copies (suc k) = v ∷ copies k
-
-    copies_length : (k : ℕ) → length (copies k) ≡ k
-    copies_length zero = refl
-    copies_length (suc k) = omega (arith, copies_length k)
-
-    said : (k j : ℕ) (w : V) → slice_get (copies k) j ≡ Some w → ranged w
-    said zero j w q = absurd (none-some w q)
-    said (suc k) zero w q = let P : V → Type 0 = ranged in subst P (same_Some v w q) r
-    said (suc k) (suc j) w q = said k j w q
+use Rattle.cert_text.proofs.Failing.{Fails, first, second, same}
+use Rattle.cert_text.proofs.Sequencing.{Unique, unique_each, unique_then, Same, same_read, both_read}
+use Rattle.cert_text.proofs.Wholes.{numbers, some_copies, unique_number, unique_same, frames_of, unique_given, same_frame}
 
 -- frames behind their number
 abbrev pub trail_numbers : ℕ → Grammar ℕ
 trail_numbers room = numbers (codes "trail") 0 room
 
-abbrev pub so_many_frames : ℕ → ℕ → ℕ → Grammar (List OpenFrame)
-so_many_frames n count k = each (frame_row n) (IsFrame n count) k
-
 abbrev pub old_trail_parts : ℕ → ℕ → ℕ → Grammar (ℕ × List OpenFrame)
-old_trail_parts n count room = then_ (trail_numbers room) (so_many_frames n count)
+old_trail_parts n count room = then_ (trail_numbers room) (frames_of n count)
 
 pub unique_trail_number : (room : ℕ) → room ≤ 1024 → Unique (trail_numbers room)
 unique_trail_number room l = unique_number (codes "trail") 0 room refl (omega arith)
-
-pub some_old_frames : (n count k : ℕ) → (fs : List OpenFrame) × AreSaid (IsFrame n count) k fs
-some_old_frames n count k = let f = some_frame n count in some_copies (IsFrame n count) k f.0 f.1
 
 pub same_old_trails : (n count room : ℕ) → Same (old_trail_parts n count room) (old_trails n count room)
 same_old_trails n count room = record {
@@ -74,7 +51,7 @@ old_trail_said n count room k fs l a = record { few = omega (arith, a.many); eac
 pub unique_old_trails : (n count room : ℕ) → n ≤ 1024 → count ≤ 10000000 → room ≤ 1024 → Unique (old_trails n count room)
 unfolding same_old_trails
 unique_old_trails n count room a b l = unique_same (old_trail_parts n count room) (old_trails n count room) (same_old_trails n count room)
-    (unique_then (trail_numbers room) (so_many_frames n count) (unique_trail_number room l) (λ k r. unique_each (frame_row n) (IsFrame n count) k (same_frame n count a (omega arith))))
+    (unique_then (trail_numbers room) (frames_of n count) (unique_trail_number room l) (λ k r. unique_each (frame_row n) (IsFrame n count) k (same_frame n count a (omega arith))))
     (λ fs r. refl)
 
 -- a part
@@ -147,7 +124,7 @@ unfolding same_part
 unique_part n room a l = unique_same (part_parts n room) (one_part n room) (same_part n room l)
     (unique_then part_cycles (part_behind n room) unique_part_cycle
     (λ c h. unique_then part_counts (part_rest n room c) unique_part_count
-    (λ k r. unique_then (short_entries n c k) (λ es. old_trails n k room) (unique_given n k c a (omega (arith, r.1))) (λ es s. unique_old_trails n k room a r.1 l))))
+    (λ k r. unique_then (short_entries n c k) (λ es. old_trails n k room) (unique_given n k (Some c) a (omega (arith, r.1))) (λ es s. unique_old_trails n k room a r.1 l))))
     (λ p r. refl)
 
 -- one part
@@ -226,17 +203,6 @@ same_pair n = record {
     from_row (p ∷ q ∷ []) r = ap (λ z. part_rows n p ++ z) (sym (append-nil (part_rows n q)))
     from_row (p ∷ q ∷ s ∷ ps) r = absurd r.0
 
-pub single_read : (n : ℕ) (p : Part) (passed after : ℕ) (text rest : List ℕ) → IsRead (one_part n 1024) passed text rest after (Ok p) → IsRead (so_many n 1) passed text rest after (Ok (p ∷ []))
-unfolding same_single
-single_read n p passed after text rest h = same_read (one_part n 1024) (so_many n 1) passed after text rest p (same_single n) h
-
-pub pair_read : (n : ℕ) (p q : Part) (passed after : ℕ) (text rest : List ℕ) → IsRead (pair_parts n) passed text rest after (Ok (p, q)) → IsRead (so_many n 2) passed text rest after (Ok (p ∷ q ∷ []))
-unfolding same_pair
-pair_read n p q passed after text rest h = same_read (pair_parts n) (so_many n 2) passed after text rest (p, q) (same_pair n) h
-
-pub none_read : (n passed : ℕ) (text : List ℕ) → IsRead (so_many n 0) passed text text passed (Ok [])
-none_read n passed text = ((tt, refl), refl, omega arith)
-
 -- some part with room for so many frames
 pub some_part : (n room : ℕ) → room ≤ 1024 → (p : Part) × (one_part n room).ranged p
 some_part n room l =
@@ -290,10 +256,6 @@ same_counted n = record {
   from_rows = λ ps r. refl;
 }
 
-pub counted_read : (n k : ℕ) (ps : List Part) (passed after : ℕ) (text rest : List ℕ) → IsRead (counted_parts n) passed text rest after (Ok (k, ps)) → IsRead (counted n) passed text rest after (Ok ps)
-unfolding same_counted
-counted_read n k ps passed after text rest h = same_read (counted_parts n) (counted n) passed after text rest (k, ps) (same_counted n) h
-
 pub some_so_many : (n k : ℕ) → k ≤ 2 → (ps : List Part) × (so_many n k).ranged ps
 some_so_many n zero l = ([], (tt, refl))
 some_so_many n (suc zero) l = let p = some_part n 1024 (lit≤ tt) in (p.0 ∷ [], (p.1.0, refl))
@@ -304,15 +266,49 @@ pub unique_counted : (n : ℕ) → n ≤ 1024 → Unique (counted n)
 unfolding same_counted
 unique_counted n a = unique_same (counted_parts n) (counted n) (same_counted n) (unique_then part_numbers (so_many n) unique_part_number (λ k r. unique_so_many n k a r.1)) (λ ps r. refl)
 
--- what is read of so many parts is what is read of parts behind their number
-pub counted_result : (n k : ℕ) (r : Result (List Part) ReadError) (passed middle after : ℕ) (text left rest : List ℕ) → IsRead part_numbers passed text left middle (Ok k)
-    → IsRead (so_many n k) middle left rest after r → IsRead (counted n) passed text rest after r
+-- parts behind their number, as they are read
+parts_read : (n k : ℕ) (ps qs : List Part) (passed middle after : ℕ) (text left rest : List ℕ) → qs ≡ ps → IsRead part_numbers passed text left middle (Ok k)
+    → IsRead (so_many n k) middle left rest after (Ok ps) → IsRead (counted n) passed text rest after (Ok qs)
 unfolding same_counted
-counted_result n k (Ok ps) passed middle after text left rest x y = counted_read n k ps passed after text rest (both_read part_numbers (so_many n) k ps passed middle after text left rest x y)
-counted_result n k (Err (errors.Fault f)) passed middle after text left rest x y =
-    same_error (counted_parts n) (counted n) passed after after text rest rest (errors.Fault f) (same_counted n)
-    (second_error part_numbers (so_many n) k passed middle after after text left rest rest (errors.Fault f) unique_part_number x y)
-counted_result n k (Err errors.Stopped) passed middle after text left rest x y = tt
+parts_read n k ps qs passed middle after text left rest e x y =
+    let Q : List Part → Type 0 = λ z. IsRead (counted n) passed text rest after (Ok z) in
+    subst Q (sym e) (same_read (counted_parts n) (counted n) passed after text rest (k, ps) (same_counted n) (both_read part_numbers (so_many n) k ps passed middle after text left rest x y))
 
-pub top_room : 1024 ≤ 1024
-top_room = lit≤ tt
+pub none_read : (n k : ℕ) (qs : List Part) (passed after : ℕ) (text rest : List ℕ) → qs ≡ [] → k ≡ 0 → IsRead part_numbers passed text rest after (Ok k) → IsRead (counted n) passed text rest after (Ok qs)
+none_read n k qs passed after text rest e f x =
+    let P : ℕ → Type 0 = λ z. IsRead (so_many n z) after rest rest after (Ok []) in
+    parts_read n k [] qs passed after after text rest rest e x (subst P (sym f) ((tt, refl), refl, omega arith))
+
+pub single_read : (n k : ℕ) (p : Part) (qs : List Part) (passed middle after : ℕ) (text left rest : List ℕ) → qs ≡ p ∷ [] → k ≡ 1 → IsRead part_numbers passed text left middle (Ok k)
+    → IsRead (one_part n 1024) middle left rest after (Ok p) → IsRead (counted n) passed text rest after (Ok qs)
+unfolding same_single
+single_read n k p qs passed middle after text left rest e f x y =
+    let P : ℕ → Type 0 = λ z. IsRead (so_many n z) middle left rest after (Ok (p ∷ [])) in
+    parts_read n k (p ∷ []) qs passed middle after text left rest e x (subst P (sym f) (same_read (one_part n 1024) (so_many n 1) middle after left rest p (same_single n) y))
+
+pub pair_read : (n k room : ℕ) (p q : Part) (qs : List Part) (passed middle third after : ℕ) (text left behind rest : List ℕ) → qs ≡ p ∷ q ∷ [] → k ≡ 2 → room ≡ room_left p
+    → IsRead part_numbers passed text left middle (Ok k) → IsRead (one_part n 1024) middle left behind third (Ok p) → IsRead (one_part n room) third behind rest after (Ok q) → IsRead (counted n) passed text rest after (Ok qs)
+unfolding same_pair
+pair_read n k room p q qs passed middle third after text left behind rest e f g x y z =
+    let P : ℕ → Type 0 = λ z. IsRead (so_many n z) middle left rest after (Ok (p ∷ q ∷ [])) in
+    let R : ℕ → Type 0 = λ r. IsRead (one_part n r) third behind rest after (Ok q) in
+    parts_read n k (p ∷ q ∷ []) qs passed middle after text left rest e x
+    (subst P (sym f) (same_read (pair_parts n) (so_many n 2) middle after left rest (p, q) (same_pair n) (both_read (one_part n 1024) (λ p. one_part n (room_left p)) p q middle third after left behind rest y (subst R g z))))
+
+-- a fault of the first part, and one of the second
+pub first_fails : (n k passed middle : ℕ) (text left : List ℕ) {e : ReadError} → n ≤ 1024 → k ≢ 0 → k ≤ 2 → IsRead part_numbers passed text left middle (Ok k) → Fails (one_part n 1024) middle left e → Fails (counted n) passed text e
+first_fails n zero passed middle text left a b l x f = absurd (b refl)
+first_fails n (suc zero) passed middle text left a b l x f =
+    same (counted_parts n) (counted n) (same_counted n) (second part_numbers (so_many n) 1 passed middle text left unique_part_number x (same (one_part n 1024) (so_many n 1) (same_single n) f))
+first_fails n (suc (suc zero)) passed middle text left a b l x f =
+    same (counted_parts n) (counted n) (same_counted n) (second part_numbers (so_many n) 2 passed middle text left unique_part_number x (same (pair_parts n) (so_many n 2) (same_pair n)
+    (first (one_part n 1024) (λ p. one_part n (room_left p)) (unique_part n 1024 a (lit≤ tt)) (λ p r. some_part n (room_left p) (room_few p.frames)) f)))
+first_fails n (suc (suc (suc k))) passed middle text left a b l x f = absurd (omega arith)
+
+pub second_fails : (n k room : ℕ) (p : Part) (passed middle third : ℕ) (text left behind : List ℕ) {e : ReadError} → n ≤ 1024 → k ≡ 2 → room ≡ room_left p → IsRead part_numbers passed text left middle (Ok k)
+    → IsRead (one_part n 1024) middle left behind third (Ok p) → Fails (one_part n room) third behind e → Fails (counted n) passed text e
+second_fails n k room p passed middle third text left behind {e = e} a f g x y z =
+    let K : ℕ → Type 0 = λ j. IsRead part_numbers passed text left middle (Ok j) in
+    let R : ℕ → Type 0 = λ r. Fails (one_part n r) third behind e in
+    same (counted_parts n) (counted n) (same_counted n) (second part_numbers (so_many n) 2 passed middle text left unique_part_number (subst K f x) (same (pair_parts n) (so_many n 2) (same_pair n)
+    (second (one_part n 1024) (λ p. one_part n (room_left p)) p middle third left behind (unique_part n 1024 a (lit≤ tt)) y (subst R g z))))

@@ -22,22 +22,22 @@ use Rattle.line_rules.specs.declared.types.OpenFrame.{OpenFrame}
 use Rattle.line_rules.specs.declared.types.Trail.{Trail}
 use Rattle.line_rules.specs.declared.types.Ask.{Ask}
 use Rattle.line_rules.specs.declared.types.Ask.TheVariants as ask
-use Rattle.cert_lines.specs.Rows.{keyed, trail, entry, form_of, row_text}
+use Rattle.cert_lines.specs.Rows.{keyed, trail, row_text}
 use Rattle.cert_lines.specs.ValueRows.{kind_row, ask_row, seat_row, why_row, entry_row, frame_row}
 use Rattle.cert_text.specs.Cert.{trail_rows}
 use Rattle.cert_lines.specs.Reading.{greatest}
 use Rattle.cert_lines.specs.LineReading.{keyed_in, seat_in, trail_in, entry_in, frame_in}
 use Rattle.cert_lines.specs.Faults.{Grammar}
 use Rattle.cert_lines.specs.Judging.{one, AreSaid, each, then_, IsRead}
-use Rattle.cert_lines.specs.Patterns.{IsHead, IsSaid, given_row, entry_of, frame_of}
+use Rattle.cert_lines.specs.Patterns.{IsHead, IsGiven, IsSaid, written, given_row, entry_of, frame_of}
 use Rattle.cert_text.specs.Parts.{IsPlacedOf, heads, trails, lists, seatings, placings}
 use Rattle.cert_lines.proofs.NumberWords.{lacks}
 use Rattle.cert_lines.proofs.SetText.{clip, clip_same}
 use Rattle.cert_lines.proofs.CiteWords.{sat}
 use Rattle.cert_lines.proofs.Judged.{fixed_text, small_is, keyed_value, keyed_other}
-use Rattle.cert_lines.proofs.JudgedEntry.{small_cites, some_frame}
+use Rattle.cert_lines.proofs.JudgedEntry.{small_cites, entry_is, some_frame}
 use Rattle.cert_lines.proofs.OtherLines.{keyed_again, trail_again, sat_trail, seat_again, side_read}
-use Rattle.cert_lines.proofs.EntryLines.{draft_of, entry_again}
+use Rattle.cert_lines.proofs.EntryLines.{cycle_of, draft_of, entry_again}
 use Rattle.cert_lines.proofs.FrameLines.{load_read, last_read, the_frame, frame_again}
 use Rattle.cert_text.proofs.Sequencing.{Unique, unique_one, unique_each, unique_then, texts, Same, same_read}
 
@@ -47,6 +47,23 @@ within low high v = (low ≤ v) × (v ≤ high)
 
 abbrev pub numbers : List ℕ → ℕ → ℕ → Grammar ℕ
 numbers key low high = one (keyed key) (within low high)
+
+-- so many equal values
+pub some_copies : {V : Type 0} (ranged : V → Type 0) (k : ℕ) (v : V) → ranged v → (vs : List V) × AreSaid ranged k vs
+some_copies {V = V} ranged k v r = (copies k, record { many = copies_length k; each = said k })
+  where
+    copies : ℕ → List V
+    copies zero = []
+    copies (suc k) = v ∷ copies k
+
+    copies_length : (k : ℕ) → length (copies k) ≡ k
+    copies_length zero = refl
+    copies_length (suc k) = omega (arith, copies_length k)
+
+    said : (k j : ℕ) (w : V) → slice_get (copies k) j ≡ Some w → ranged w
+    said zero j w q = absurd (none-some w q)
+    said (suc k) zero w q = let P : V → Type 0 = ranged in subst P (same_Some v w q) r
+    said (suc k) (suc j) w q = said k j w q
 
 -- what is read twice is the same
 twice : {D : Type 0} (reads : List ℕ → Option D) (a b : List ℕ) (x y : D) → reads a ≡ Some x → reads b ≡ Some y → a ≡ b → x ≡ y
@@ -119,11 +136,11 @@ abbrev pub frames_said : Option (ℕ × ℕ) → ℕ
 frames_said None = 0
 frames_said (Some t) = t.0
 
-abbrev pub frames_of : ℕ → ℕ → Option (ℕ × ℕ) → Grammar (List OpenFrame)
-frames_of n count h = each (frame_row n) (IsFrame n count) (frames_said h)
+abbrev pub frames_of : ℕ → ℕ → ℕ → Grammar (List OpenFrame)
+frames_of n count k = each (frame_row n) (IsFrame n count) k
 
 abbrev pub trail_parts : ℕ → ℕ → Grammar (Option (ℕ × ℕ) × List OpenFrame)
-trail_parts n count = then_ trail_heads (frames_of n count)
+trail_parts n count = then_ trail_heads (λ h. frames_of n count (frames_said h))
 
 abbrev to_trail : Option (ℕ × ℕ) → List OpenFrame → Option Trail
 to_trail None fs = None
@@ -177,20 +194,7 @@ pub unique_count : Unique (numbers (codes "entries") 0 20000000)
 unique_count = unique_number (codes "entries") 0 20000000 refl (lit< tt)
 
 pub some_rest : (n count : ℕ) → ((e : Entry) × IsSaid n count None e) → (b : List Entry × Option Trail) × (entry_rest n count).ranged b
-some_rest n count s = ((copies count s.0, None), (record { many = copies_length count s.0; each = said count s.0 s.1 }, tt))
-  where
-    copies : ℕ → Entry → List Entry
-    copies zero e = []
-    copies (suc k) e = e ∷ copies k e
-
-    copies_length : (k : ℕ) (e : Entry) → length (copies k e) ≡ k
-    copies_length zero e = refl
-    copies_length (suc k) e = omega (arith, copies_length k e)
-
-    said : (k : ℕ) (e : Entry) → IsSaid n count None e → (j : ℕ) (v : Entry) → slice_get (copies k e) j ≡ Some v → IsSaid n count None v
-    said zero e h j v q = absurd (none-some v q)
-    said (suc k) e h zero v q = let P : Entry → Type 0 = IsSaid n count None in subst P (same_Some e v q) h
-    said (suc k) e h (suc j) v q = said k e h j v q
+some_rest n count s = let es = some_copies (IsSaid n count None) count s.0 s.1 in ((es.0, None), (es.1, tt))
 
 pub same_lists : (n : ℕ) → Same (list_parts n) (lists n)
 same_lists n = record {
@@ -208,24 +212,8 @@ same_lists n = record {
         let Q : ℕ → Type 0 = λ k. (j : ℕ) (e : Entry) → slice_get es j ≡ Some e → IsEntry n k e in
         subst P (sym b.many) (record { many = omega (arith, b.many); each = subst Q (sym b.many) (λ j e q. (b.each j e q).0) }, c)
 
-pub some_frames : (n count : ℕ) (h : Option (ℕ × ℕ)) → IsHead h → (fs : List OpenFrame) × (frames_of n count h).ranged fs
-some_frames n count h r = (copies (frames_said h) f.0, record { many = copies_length (frames_said h) f.0; each = said (frames_said h) f.0 f.1 })
-  where
-    f : (x : OpenFrame) × IsFrame n count x
-    f = some_frame n count
-
-    copies : ℕ → OpenFrame → List OpenFrame
-    copies zero e = []
-    copies (suc k) e = e ∷ copies k e
-
-    copies_length : (k : ℕ) (e : OpenFrame) → length (copies k e) ≡ k
-    copies_length zero e = refl
-    copies_length (suc k) e = omega (arith, copies_length k e)
-
-    said : (k : ℕ) (e : OpenFrame) → IsFrame n count e → (j : ℕ) (v : OpenFrame) → slice_get (copies k e) j ≡ Some v → IsFrame n count v
-    said zero e h j v q = absurd (none-some v q)
-    said (suc k) e h zero v q = let P : OpenFrame → Type 0 = IsFrame n count in subst P (same_Some e v q) h
-    said (suc k) e h (suc j) v q = said k e h j v q
+pub some_frames : (n count k : ℕ) → (fs : List OpenFrame) × AreSaid (IsFrame n count) k fs
+some_frames n count k = let f = some_frame n count in some_copies (IsFrame n count) k f.0 f.1
 
 pub trail_said : (n count : ℕ) (t : ℕ × ℕ) (fs : List OpenFrame) → IsHead (Some t) → AreSaid (IsFrame n count) t.0 fs → IsTrailOrNone n count (Some (record { cycle = t.1; frames = fs }))
 trail_said n count t fs a b = record { cycle = a.2; some = omega (arith, a.0, b.many); few = omega (arith, a.1, b.many); each = b.each }
@@ -234,72 +222,39 @@ pub list_said : (n count : ℕ) (es : List Entry) (t : Option Trail) → count �
 unfolding same_lists
 list_said n count es t a b c = (same_lists n).to_ranged (count, (es, t)) ((omega arith, a), (b, c))
 
--- an entry is read as it was
-entry_back : (n count : ℕ) (e : Entry) (w : Why) → n ≤ 1024 → count ≤ 20000000 → IsEntry n count e → IsWhy n count w → entry_of (draft_of None (why_row n (Some e.cycle) e w)) ≡ record { set = e.set; most = e.most; cycle = e.cycle; why = w }
-entry_back n count e w a b h k =
+-- an entry, whose cycle may be given, is read as it was
+said_back : (n count : ℕ) (g : Option ℕ) (e : Entry) (w : Why) → n ≤ 1024 → count ≤ 20000000 → IsSaid n count g e → IsWhy n count w
+    → entry_of (draft_of g (why_row n (written g e.cycle) e w)) ≡ record { set = e.set; most = e.most; cycle = e.cycle; why = w }
+said_back n count g e w a b h k =
     parts w k
   where
     the : List Bool → ℕ → ℕ → Why → Entry
     the s m c w = record { set = s; most = m; cycle = c; why = w }
 
-    up_to : (v w : Why) → v ≡ w → the (clip n e.set) (sat e.most) (sat e.cycle) v ≡ the e.set e.most e.cycle w
-    up_to v w q =
-        ap (λ z. the z (sat e.most) (sat e.cycle) v) (clip_same n e.set a h.set) ∙ ap (λ z. the e.set z (sat e.cycle) v) (small_is e.most (omega (arith, h.most)))
-        ∙ ap (λ z. the e.set e.most z v) (small_is e.cycle (omega (arith, h.cycle.limit))) ∙ ap (λ z. the e.set e.most e.cycle z) q
+    cycle_back : (g : Option ℕ) → IsGiven g e.cycle → cycle_of g (written g e.cycle) ≡ e.cycle
+    cycle_back None q = small_is e.cycle (omega (arith, h.0.cycle.limit))
+    cycle_back (Some c) q = sym q
 
-    parts : (w : Why) → IsWhy n count w → entry_of (draft_of None (why_row n (Some e.cycle) e w)) ≡ the e.set e.most e.cycle w
+    up_to : (v w : Why) → v ≡ w → the (clip n e.set) (sat e.most) (cycle_of g (written g e.cycle)) v ≡ the e.set e.most e.cycle w
+    up_to v w q =
+        ap (λ z. the z (sat e.most) (cycle_of g (written g e.cycle)) v) (clip_same n e.set a h.0.set)
+        ∙ ap (λ z. the e.set z (cycle_of g (written g e.cycle)) v) (small_is e.most (omega (arith, h.0.most)))
+        ∙ ap (λ z. the e.set e.most z v) (cycle_back g h.1) ∙ ap (λ z. the e.set e.most e.cycle z) q
+
+    parts : (w : Why) → IsWhy n count w → entry_of (draft_of g (why_row n (written g e.cycle) e w)) ≡ the e.set e.most e.cycle w
     parts whys.Bound k = up_to whys.Bound whys.Bound refl
     parts (whys.Branch mode cites) k = up_to (whys.Branch mode (map sat cites)) (whys.Branch mode cites) (ap (whys.Branch mode) (small_cites count cites (omega arith) k))
     parts (whys.Swap cite out into) k =
         up_to (whys.Swap (sat cite) (sat (suc out) - 1) (sat (suc into) - 1)) (whys.Swap cite out into)
         (ap (λ z. whys.Swap z (sat (suc out) - 1) (sat (suc into) - 1)) (small_is cite (omega (arith, k.0))) ∙ ap (λ z. whys.Swap cite z (sat (suc into) - 1)) (omega (arith, k.1.0)) ∙ ap (λ z. whys.Swap cite out z) (omega (arith, k.1.1)))
 
-why_form : (n : ℕ) (c : ℕ) (e : Entry) (w : Why) → form_of (why_row n (Some c) e w) ≡ entry n true
-why_form n c e whys.Bound = refl
-why_form n c e (whys.Branch mode cites) = refl
-why_form n c e (whys.Swap cite out into) = refl
-
--- an entry whose cycle is given is read as it was
-given_back : (n count c : ℕ) (e : Entry) (w : Why) → n ≤ 1024 → count ≤ 20000000 → IsSaid n count (Some c) e → IsWhy n count w
-    → entry_of (draft_of (Some c) (why_row n None e w)) ≡ record { set = e.set; most = e.most; cycle = e.cycle; why = w }
-given_back n count c e w a b h k =
-    parts w k
-  where
-    the : List Bool → ℕ → ℕ → Why → Entry
-    the s m c w = record { set = s; most = m; cycle = c; why = w }
-
-    up_to : (v w : Why) → v ≡ w → the (clip n e.set) (sat e.most) c v ≡ the e.set e.most e.cycle w
-    up_to v w q =
-        ap (λ z. the z (sat e.most) c v) (clip_same n e.set a h.0.set) ∙ ap (λ z. the e.set z c v) (small_is e.most (omega (arith, h.0.most)))
-        ∙ ap (λ z. the e.set e.most z v) (sym h.1) ∙ ap (λ z. the e.set e.most e.cycle z) q
-
-    parts : (w : Why) → IsWhy n count w → entry_of (draft_of (Some c) (why_row n None e w)) ≡ the e.set e.most e.cycle w
-    parts whys.Bound k = up_to whys.Bound whys.Bound refl
-    parts (whys.Branch mode cites) k = up_to (whys.Branch mode (map sat cites)) (whys.Branch mode cites) (ap (whys.Branch mode) (small_cites count cites (omega arith) k))
-    parts (whys.Swap cite out into) k =
-        up_to (whys.Swap (sat cite) (sat (suc out) - 1) (sat (suc into) - 1)) (whys.Swap cite out into)
-        (ap (λ z. whys.Swap z (sat (suc out) - 1) (sat (suc into) - 1)) (small_is cite (omega (arith, k.0))) ∙ ap (λ z. whys.Swap cite z (sat (suc into) - 1)) (omega (arith, k.1.0)) ∙ ap (λ z. whys.Swap cite out z) (omega (arith, k.1.1)))
-
-short_form : (n : ℕ) (e : Entry) (w : Why) → form_of (why_row n None e w) ≡ entry n false
-short_form n e whys.Bound = refl
-short_form n e (whys.Branch mode cites) = refl
-short_form n e (whys.Swap cite out into) = refl
-
-pub unique_given : (n count c : ℕ) → n ≤ 1024 → count ≤ 20000000 → Unique (each (given_row n (Some c)) (IsSaid n count (Some c)) count)
-unique_given n count c a b = unique_each (given_row n (Some c)) (IsSaid n count (Some c)) count
+pub unique_given : (n count : ℕ) (g : Option ℕ) → n ≤ 1024 → count ≤ 20000000 → Unique (each (given_row n g) (IsSaid n count g) count)
+unique_given n count g a b = unique_each (given_row n g) (IsSaid n count g) count
     (λ v w p q e.
-    sym (given_back n count c v v.why a b p p.0.why)
-    ∙ ap entry_of (twice (entry_in n (Some c)) (row_text (given_row n (Some c) v)) (row_text (given_row n (Some c) w)) (draft_of (Some c) (given_row n (Some c) v)) (draft_of (Some c) (given_row n (Some c) w))
-    (entry_again n (Some c) (given_row n (Some c) v) (short_form n v v.why)) (entry_again n (Some c) (given_row n (Some c) w) (short_form n w w.why)) e)
-    ∙ given_back n count c w w.why a b q q.0.why)
-
-pub unique_entries : (n count : ℕ) → n ≤ 1024 → count ≤ 20000000 → Unique (entries_of n count)
-unique_entries n count a b = unique_each (given_row n None) (IsSaid n count None) count
-    (λ v w p q e.
-    sym (entry_back n count v v.why a b p.0 p.0.why)
-    ∙ ap entry_of (twice (entry_in n None) (row_text (given_row n None v)) (row_text (given_row n None w)) (draft_of None (given_row n None v)) (draft_of None (given_row n None w))
-    (entry_again n None (given_row n None v) (why_form n v.cycle v v.why)) (entry_again n None (given_row n None w) (why_form n w.cycle w w.why)) e)
-    ∙ entry_back n count w w.why a b q.0 q.0.why)
+    sym (said_back n count g v v.why a b p p.0.why)
+    ∙ ap entry_of (twice (entry_in n g) (row_text (given_row n g v)) (row_text (given_row n g w)) (draft_of g (given_row n g v)) (draft_of g (given_row n g w))
+    (entry_again n g (given_row n g v) (entry_is n g v v.why)) (entry_again n g (given_row n g w) (entry_is n g w w.why)) e)
+    ∙ said_back n count g w w.why a b q q.0.why)
 
 pub list_read : (n count : ℕ) (es : List Entry) (t : Option Trail) (passed after : ℕ) (text rest : List ℕ) → IsRead (list_parts n) passed text rest after (Ok (count, (es, t))) → IsRead (lists n) passed text rest after (Ok (record { entries = es; trail = t }))
 unfolding same_lists
@@ -336,23 +291,7 @@ some_seat Straight m h = (record { station = 1; side = Front }, record { first =
 some_seat U m h = (record { station = 1; side = Front }, record { first = lit≤ tt; last = h; side = tt })
 
 pub some_seats : (kind : LineKind) (n m : ℕ) → within 1 1024 m → (b : List Seatplace) × (seats_of kind n m).ranged b
-some_seats kind n m h = (copies n f.0, record { many = copies_length n f.0; each = said n f.0 f.1 })
-  where
-    f : (x : Seatplace) × IsPlaced kind m x
-    f = some_seat kind m h.0
-
-    copies : ℕ → Seatplace → List Seatplace
-    copies zero e = []
-    copies (suc k) e = e ∷ copies k e
-
-    copies_length : (k : ℕ) (e : Seatplace) → length (copies k e) ≡ k
-    copies_length zero e = refl
-    copies_length (suc k) e = omega (arith, copies_length k e)
-
-    said : (k : ℕ) (e : Seatplace) → IsPlaced kind m e → (j : ℕ) (v : Seatplace) → slice_get (copies k e) j ≡ Some v → IsPlaced kind m v
-    said zero e h j v q = absurd (none-some v q)
-    said (suc k) e h zero v q = let P : Seatplace → Type 0 = IsPlaced kind m in subst P (same_Some e v q) h
-    said (suc k) e h (suc j) v q = said k e h j v q
+some_seats kind n m h = let s = some_seat kind m h.0 in some_copies (IsPlaced kind m) n s.0 s.1
 
 pub seating_said : (kind : LineKind) (n m : ℕ) (ps : List Seatplace) → within 1 1024 m → AreSaid (IsPlaced kind m) n ps → IsPlacing kind n (record { stations = m; place = ps })
 seating_said kind n m ps b c = record { some = b.0; few = b.1; each = c.many; placed = c.each }
@@ -469,7 +408,7 @@ same_frame n count a b v w p q e =
 pub unique_trails : (n count : ℕ) → n ≤ 1024 → count ≤ 20000000 → Unique (trails n count)
 unfolding same_trails
 unique_trails n count a b = unique_same (trail_parts n count) (trails n count) (same_trails n count)
-    (unique_then trail_heads (frames_of n count) unique_trail_head (λ h r. unique_each (frame_row n) (IsFrame n count) (frames_said h) (same_frame n count a b))) back
+    (unique_then trail_heads (λ h. frames_of n count (frames_said h)) unique_trail_head (λ h r. unique_each (frame_row n) (IsFrame n count) (frames_said h) (same_frame n count a b))) back
   where
     back : (w : Option Trail) → IsTrailOrNone n count w → to_trail (from_trail w).0 (from_trail w).1 ≡ w
     back None r = refl
@@ -478,4 +417,4 @@ unique_trails n count a b = unique_same (trail_parts n count) (trails n count) (
 pub unique_lists : (n : ℕ) → n ≤ 1024 → Unique (lists n)
 unfolding same_lists
 unique_lists n a = unique_same (list_parts n) (lists n) (same_lists n)
-    (unique_then (numbers (codes "entries") 0 20000000) (entry_rest n) unique_count (λ c r. unique_then (entries_of n c) (λ es. trails n c) (unique_entries n c a r.1) (λ es s. unique_trails n c a r.1))) (λ x r. refl)
+    (unique_then (numbers (codes "entries") 0 20000000) (entry_rest n) unique_count (λ c r. unique_then (entries_of n c) (λ es. trails n c) (unique_given n c None a r.1) (λ es s. unique_trails n c a r.1))) (λ x r. refl)

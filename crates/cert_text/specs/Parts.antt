@@ -1,21 +1,27 @@
 -- The parts of a certificate's text as grammars.
-use Rattle.std.specs.Prelude.{◌≡◌, ℕ, ◌≤◌, List, [], ◌∷◌, ◌++◌, length, map, Option, codes}
-use Rattle.line_rules.specs.Ranges.{IsCycle, IsAsked, IsPlacing, AreEntries, IsTrailOrNone, AreBounds, IsClaim, IsInRange}
+use Rattle.std.specs.Prelude.{◌≡◌, ℕ, ◌<◌, ◌≤◌, List, [], ◌∷◌, ◌++◌, length, map, Option, codes}
+use Rattle.line_rules.specs.Ranges.{IsCycle, IsAsked, NamesCycle, IsPlacing, AreEntries, IsTrailOrNone, AreBounds}
 use Rattle.line_rules.specs.declared.types.LineKind.{LineKind}
 use Rattle.line_rules.specs.declared.types.Balance.{Balance as Assignment}
 use Rattle.line_rules.specs.declared.types.Trail.{Trail}
-use Rattle.line_rules.specs.declared.types.Claim.{Claim}
 use Rattle.line_rules.specs.declared.types.Claim.TheVariants as claim
 use Rattle.cert_lines.specs.declared.patterns.Opening.{Opening}
 use Rattle.cert_lines.specs.declared.patterns.Opening.TheVariants as opening
-use Rattle.line_rules.specs.declared.types.Certificate.{Certificate}
+use Rattle.cert_lines.specs.declared.patterns.Version.{Version}
+use Rattle.cert_lines.specs.declared.patterns.Version.TheVariants as version
 use Rattle.cert_lines.specs.Rows.{Row, fixed, keyed}
 use Rattle.cert_lines.specs.ValueRows.{seat_row}
-use Rattle.cert_text.specs.Cert.{head_rows, list_rows, trail_rows, claim_rows}
+use Rattle.cert_lines.specs.Patterns.{opening_row}
+use Rattle.cert_lines.specs.OldRanges.{AreOldBounds}
+use Rattle.cert_lines.specs.declared.version_one.OldClaim.TheVariants as old
+use Rattle.cert_text.specs.Cert.{head_rows, list_rows, trail_rows}
+use Rattle.cert_text.specs.OldCert.{counted_rows}
 use Rattle.cert_lines.specs.Faults.{Grammar}
 use Rattle.cert_text.specs.declared.reading.Head.{Head}
 use Rattle.cert_text.specs.declared.reading.EntryList.{EntryList}
 use Rattle.cert_text.specs.declared.reading.Placed.{Placed}
+use Rattle.cert_text.specs.declared.reading.AnyClaim.{AnyClaim}
+use Rattle.cert_text.specs.declared.reading.AnyClaim.TheVariants as any
 
 -- the kind of line, 1 to 1,024 tasks, the question
 pub record IsHeadOf (h : Head) : Type 0 where
@@ -49,26 +55,36 @@ placings kind n = record {
   ranged = IsPlacedOf kind n;
 }
 
--- the lines of a claim behind the first one
-abbrev pub behind_rows : LineKind → ℕ → Claim → List Row
-behind_rows kind n (claim.TooLong task) = fixed (codes "end") ∷ []
-behind_rows kind n (claim.Bounds lower upper b es left) =
-    (keyed (codes "upper") upper ∷ keyed (codes "balance") b.stations ∷ map (seat_row kind) b.place) ++ (list_rows n es left ++ fixed (codes "end") ∷ [])
+-- what stands behind the first line of a claim: the end, or bounds
+abbrev pub behind_rows : Head → AnyClaim → List Row
+behind_rows h (any.New (claim.TooLong task)) = fixed (codes "end") ∷ []
+behind_rows h (any.New (claim.Bounds lower upper b es t)) =
+    (keyed (codes "upper") upper ∷ keyed (codes "balance") b.stations ∷ map (seat_row h.kind) b.place) ++ (list_rows h.tasks es t ++ fixed (codes "end") ∷ [])
+behind_rows h (any.Old (old.TooLong task)) = fixed (codes "end") ∷ []
+behind_rows h (any.Old (old.Bounds lower upper b ps)) =
+    (keyed (codes "upper") upper ∷ keyed (codes "balance") b.stations ∷ map (seat_row h.kind) b.place) ++ (counted_rows h.tasks ps ++ fixed (codes "end") ∷ [])
 
--- the claim is the one that the first line opens
-abbrev pub IsOpened : LineKind → ℕ → Opening → Claim → Type 0
-IsOpened kind n (opening.TooLong t) (claim.TooLong task) = task ≡ t
-IsOpened kind n (opening.TooLong t) (claim.Bounds lower upper b es left) = ⊥
-IsOpened kind n (opening.Lower l) (claim.TooLong task) = ⊥
-IsOpened kind n (opening.Lower l) (claim.Bounds lower upper b es left) = (lower ≡ l) × AreBounds kind n lower upper b es left
+-- the first line of a claim
+abbrev pub opening_of : AnyClaim → Opening
+opening_of (any.New (claim.TooLong task)) = opening.TooLong task
+opening_of (any.New (claim.Bounds lower upper b es t)) = opening.Lower lower
+opening_of (any.Old (old.TooLong task)) = opening.TooLong task
+opening_of (any.Old (old.Bounds lower upper b ps)) = opening.Lower lower
 
-abbrev pub opened : LineKind → ℕ → Opening → Grammar Claim
-opened kind n o = record { rows = behind_rows kind n; ranged = IsOpened kind n o }
+-- a claim of a version, behind a head: a task too long, which both versions say alike, or bounds
+abbrev pub IsClaimOf : Version → Head → AnyClaim → Type 0
+IsClaimOf v h (any.New (claim.TooLong task)) = NamesCycle h.ask × (task < h.tasks)
+IsClaimOf v h (any.New (claim.Bounds lower upper b es t)) = (v ≡ version.Two) × AreBounds h.kind h.tasks lower upper b es t
+IsClaimOf v h (any.Old (old.TooLong task)) = ⊥
+IsClaimOf v h (any.Old (old.Bounds lower upper b ps)) = (v ≡ version.One) × AreOldBounds h.kind h.tasks lower upper b ps
+
+-- the claim is one that the first line opens
+abbrev pub IsOpened : Version → Head → Opening → AnyClaim → Type 0
+IsOpened v h o c = IsClaimOf v h c × (opening_of c ≡ o)
+
+abbrev pub opened : Version → Head → Opening → Grammar AnyClaim
+opened v h o = record { rows = behind_rows h; ranged = IsOpened v h o }
 
 -- the claims behind a head
-abbrev pub claims : Head → Grammar Claim
-claims h = record { rows = claim_rows h.kind h.tasks; ranged = IsClaim h.kind h.tasks h.ask }
-
--- what stands behind the first line
-abbrev pub bodies : Grammar Certificate
-bodies = record { rows = λ cert. head_rows cert.kind cert.tasks cert.ask ++ claim_rows cert.kind cert.tasks cert.claim; ranged = IsInRange }
+abbrev pub claims : Version → Head → Grammar AnyClaim
+claims v h = record { rows = λ c. opening_row (opening_of c) ∷ behind_rows h c; ranged = IsClaimOf v h }

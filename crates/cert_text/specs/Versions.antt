@@ -9,6 +9,9 @@ use Rattle.cert_lines.specs.OldRanges.{IsOldInRange}
 use Rattle.cert_lines.specs.declared.version_one.OldCertificate.{OldCertificate}
 use Rattle.cert_text.specs.Cert.{cert_rows}
 use Rattle.cert_text.specs.OldCert.{old_rows}
+use Rattle.cert_text.specs.declared.reading.Head.{Head}
+use Rattle.cert_text.specs.declared.reading.AnyClaim.{AnyClaim}
+use Rattle.cert_text.specs.declared.reading.AnyClaim.TheVariants as any
 
 -- a certificate of version 2, or one of version 1
 pub data AnyCertificate : Type 0 where
@@ -37,3 +40,8 @@ lifted (older old) = lift old
 -- the texts of both versions
 abbrev pub both : Grammar AnyCertificate
 both = record { rows = any_rows; ranged = IsAnyInRange }
+
+-- the certificate of a head and a claim, or its lift
+abbrev pub certificate_of : Head → AnyClaim → Certificate
+certificate_of h (any.New c) = record { kind = h.kind; tasks = h.tasks; ask = h.ask; claim = c }
+certificate_of h (any.Old c) = lift (record { kind = h.kind; tasks = h.tasks; ask = h.ask; claim = c })

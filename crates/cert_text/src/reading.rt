@@ -1,21 +1,26 @@
-//! The reading of a certificate's text, line by line.
-ghost use Rattle.std.specs.Prelude.{ℕ, ◌≤◌, IfOk, length, ◌≡◌};
+//! The reading of a certificate's text, line by line, in either version.
+ghost use Rattle.std.specs.Prelude.{◌≡◌, ◌≤◌, IfOk, length};
 ghost use Rattle.cert_lines.specs.Judging.{IsRead};
-ghost use Rattle.cert_text.specs.Parts.{IsHeadOf, IsPlacedOf, IsOpened, heads, trails, lists, seatings, placings, opened, claims, bodies};
-ghost use Rattle.cert_text.specs.Answers.{IsAnyRead};
+ghost use Rattle.cert_lines.specs.ReadingOn.{IsReadOn};
 ghost use Rattle.cert_lines.specs.Patterns.{IsOpening};
-ghost use Rattle.line_rules.specs.Ranges.{AreEntries, IsTrailOrNone, IsCycle, IsPlacing, IsClaim, IsInRange};
+ghost use Rattle.cert_lines.specs.declared.patterns.Version.{Version as Release};
+ghost use Rattle.cert_text.specs.Parts.{IsHeadOf, IsPlacedOf, IsOpened, IsClaimOf};
+ghost use Rattle.cert_text.specs.Parts.{heads, trails, lists, seatings, placings, opened, claims};
+ghost use Rattle.cert_text.specs.Versions.{certificate_of};
+ghost use Rattle.cert_text.specs.Answers.{IsAnyRead};
+ghost use Rattle.line_rules.specs.Ranges.{AreEntries, IsTrailOrNone, IsCycle, IsPlacing, IsInRange};
 
-use crate::old_reading::read_old;
+use crate::old_reading::read_parts;
 use cert_lift::lift;
 use cert_lines::pattern::{read_line, read_lines};
 use cert_lines::patterns::{
-    AskLine, EndLine, EntryLine, FrameLine, Key, KindLine, MAX_CYCLE, NumberLine, Opening,
-    OpeningLine, SeatLine, TrailLine, Version, VersionLine,
+    AskLine, EndLine, EntryLine, FrameLine, Key, KindLine, MAX_CYCLE, Opening, OpeningLine,
+    SeatLine, TrailLine, Version, VersionLine, read_number,
 };
+use cert_lines::version_one::{OldCertificate, OldClaim};
 use cert_lines::{ReadError, Source};
 use line_rules::{Ask, Balance, Certificate, Claim, Entries, Frames, LineKind, Places, Trail};
-use std::alloc::Global;
+use std::alloc::{AllocError, Global};
 
 /// The most entries.
 const MAX_ENTRIES: u64 = 20_000_000;
@@ -49,24 +54,24 @@ pub struct Placed {
     pub balance: Balance,
 }
 
+/// A claim of either version; that a task is too long is said alike in both.
+#[derive(Drop)]
+pub enum AnyClaim {
+    /// As version 2 says it.
+    New(Claim),
+    /// Bounds of version 1.
+    Old(OldClaim),
+}
+
 /// Reads what stands before the claim.
-pub fn read_head<S: Source>(alloc: Global, source: &mut S) -> Result<Head, ReadError>
+fn read_head<S: Source>(alloc: Global, source: &mut S) -> Result<Head, ReadError>
     ensures said { IfOk result IsHeadOf }
-    ensures read { S.told → IsRead heads (S.number source.old) (S.left source.old) (S.left source.new) (S.number source.new) result }
-    ensures base { S.base source.new ≡ S.base source.old }
-    ensures faults { S.faults source.old ≤ S.faults source.new }
-    ensures least { S.least source.old ≤ S.least source.new }
+    ensures read { S.told → IsRead heads
+        (S.number source.old) (S.left source.old) (S.left source.new) (S.number source.new) result }
+    ensures source { IsReadOn S.base S.faults S.least source.old source.new }
 {
     let kind = read_line(alloc, source, &KindLine)?;
-    let tasks = read_line(
-        alloc,
-        source,
-        &NumberLine {
-            key: Key::Tasks,
-            low: 1,
-            high: 1024,
-        },
-    )?;
+    let tasks = read_number(alloc, source, Key::Tasks, 1, 1024)?;
     let ask = read_line(alloc, source, &AskLine)?;
     Ok(Head {
         kind,
@@ -76,7 +81,7 @@ pub fn read_head<S: Source>(alloc: Global, source: &mut S) -> Result<Head, ReadE
 }
 
 /// Reads a trail, or that there is none.
-pub fn read_trail<S: Source>(
+fn read_trail<S: Source>(
     alloc: Global,
     source: &mut S,
     tasks: u32,
@@ -86,10 +91,9 @@ pub fn read_trail<S: Source>(
     requires few { tasks ≤ 1024 }
     requires entries { count ≤ 20000000 }
     ensures said { IfOk result (IsTrailOrNone tasks count) }
-    ensures read { S.told → IsRead (trails tasks count) (S.number source.old) (S.left source.old) (S.left source.new) (S.number source.new) result }
-    ensures base { S.base source.new ≡ S.base source.old }
-    ensures faults { S.faults source.old ≤ S.faults source.new }
-    ensures least { S.least source.old ≤ S.least source.new }
+    ensures read { S.told → IsRead (trails tasks count)
+        (S.number source.old) (S.left source.old) (S.left source.new) (S.number source.new) result }
+    ensures source { IsReadOn S.base S.faults S.least source.old source.new }
 {
     let head = read_line(alloc, source, &TrailLine)?;
     let Some((frames, cycle)) = head else {
@@ -111,20 +115,11 @@ pub fn read_entries<S: Source>(
     requires some { 1 ≤ tasks }
     requires few { tasks ≤ 1024 }
     ensures said { IfOk result (λ x. AreEntries tasks x.entries × IsTrailOrNone tasks (length x.entries) x.trail) }
-    ensures read { S.told → IsRead (lists tasks) (S.number source.old) (S.left source.old) (S.left source.new) (S.number source.new) result }
-    ensures base { S.base source.new ≡ S.base source.old }
-    ensures faults { S.faults source.old ≤ S.faults source.new }
-    ensures least { S.least source.old ≤ S.least source.new }
+    ensures read { S.told → IsRead (lists tasks)
+        (S.number source.old) (S.left source.old) (S.left source.new) (S.number source.new) result }
+    ensures source { IsReadOn S.base S.faults S.least source.old source.new }
 {
-    let count = read_line(
-        alloc,
-        source,
-        &NumberLine {
-            key: Key::Entries,
-            low: 0,
-            high: MAX_ENTRIES,
-        },
-    )?;
+    let count = read_number(alloc, source, Key::Entries, 0, MAX_ENTRIES)?;
     let entries = read_lines(
         alloc,
         source,
@@ -152,20 +147,11 @@ pub fn read_seating<S: Source>(
     requires some { 1 ≤ tasks }
     requires few { tasks ≤ 1024 }
     ensures said { IfOk result (IsPlacing kind tasks) }
-    ensures read { S.told → IsRead (seatings kind tasks) (S.number source.old) (S.left source.old) (S.left source.new) (S.number source.new) result }
-    ensures base { S.base source.new ≡ S.base source.old }
-    ensures faults { S.faults source.old ≤ S.faults source.new }
-    ensures least { S.least source.old ≤ S.least source.new }
+    ensures read { S.told → IsRead (seatings kind tasks)
+        (S.number source.old) (S.left source.old) (S.left source.new) (S.number source.new) result }
+    ensures source { IsReadOn S.base S.faults S.least source.old source.new }
 {
-    let stations = read_line(
-        alloc,
-        source,
-        &NumberLine {
-            key: Key::Balance,
-            low: 1,
-            high: 1024,
-        },
-    )?;
+    let stations = read_number(alloc, source, Key::Balance, 1, 1024)?;
     let stations = stations as u32;
     let places = read_lines(
         alloc,
@@ -180,30 +166,15 @@ pub fn read_seating<S: Source>(
 }
 
 /// Reads the bounds behind the lower one, up to the places.
-pub fn read_placed<S: Source>(
-    alloc: Global,
-    source: &mut S,
-    kind: LineKind,
-    tasks: u32,
-) -> Result<Placed, ReadError>
-    requires some { 1 ≤ tasks }
-    requires few { tasks ≤ 1024 }
-    ensures said { IfOk result (IsPlacedOf kind tasks) }
-    ensures read { S.told → IsRead (placings kind tasks) (S.number source.old) (S.left source.old) (S.left source.new) (S.number source.new) result }
-    ensures base { S.base source.new ≡ S.base source.old }
-    ensures faults { S.faults source.old ≤ S.faults source.new }
-    ensures least { S.least source.old ≤ S.least source.new }
+fn read_placed<S: Source>(alloc: Global, source: &mut S, head: Head) -> Result<Placed, ReadError>
+    requires { IsHeadOf head }
+    ensures said { IfOk result (IsPlacedOf head.kind head.tasks) }
+    ensures read { S.told → IsRead (placings head.kind head.tasks)
+        (S.number source.old) (S.left source.old) (S.left source.new) (S.number source.new) result }
+    ensures source { IsReadOn S.base S.faults S.least source.old source.new }
 {
-    let upper = read_line(
-        alloc,
-        source,
-        &NumberLine {
-            key: Key::Upper,
-            low: 1,
-            high: MAX_CYCLE,
-        },
-    )?;
-    let balance = read_seating(alloc, source, kind, tasks)?;
+    let upper = read_number(alloc, source, Key::Upper, 1, MAX_CYCLE)?;
+    let balance = read_seating(alloc, source, head.kind, head.tasks)?;
     Ok(Placed { upper, balance })
 }
 
@@ -211,65 +182,81 @@ pub fn read_placed<S: Source>(
 fn read_bounds<S: Source>(
     alloc: Global,
     source: &mut S,
-    kind: LineKind,
-    tasks: u32,
+    version: Version,
+    head: Head,
     lower: u64,
-) -> Result<Claim, ReadError>
-    requires some { 1 ≤ tasks }
-    requires few { tasks ≤ 1024 }
+) -> Result<AnyClaim, ReadError>
+    requires head { IsHeadOf head }
     requires lower { IsCycle lower }
-    ensures said { IfOk result (IsOpened kind tasks (Opening.Lower lower)) }
-    ensures read { S.told → IsRead (opened kind tasks (Opening.Lower lower)) (S.number source.old) (S.left source.old) (S.left source.new) (S.number source.new) result }
-    ensures base { S.base source.new ≡ S.base source.old }
-    ensures faults { S.faults source.old ≤ S.faults source.new }
-    ensures least { S.least source.old ≤ S.least source.new }
+    ensures said { IfOk result (IsOpened version head (Opening.Lower lower)) }
+    ensures read { S.told → IsRead (opened version head (Opening.Lower lower))
+        (S.number source.old) (S.left source.old) (S.left source.new) (S.number source.new) result }
+    ensures source { IsReadOn S.base S.faults S.least source.old source.new }
 {
-    let placed = read_placed(alloc, source, kind, tasks)?;
-    let list = read_entries(alloc, source, tasks)?;
-    read_line(alloc, source, &EndLine)?;
+    let placed = read_placed(alloc, source, head)?;
     let Placed { upper, balance } = placed;
-    let EntryList { entries, trail } = list;
-    Ok(Claim::Bounds {
-        lower,
-        upper,
-        balance,
-        entries,
-        trail,
-    })
+    match version {
+        Version::Two => {
+            let list = read_entries(alloc, source, head.tasks)?;
+            read_line(alloc, source, &EndLine)?;
+            let EntryList { entries, trail } = list;
+            Ok(AnyClaim::New(Claim::Bounds {
+                lower,
+                upper,
+                balance,
+                entries,
+                trail,
+            }))
+        }
+        Version::One => {
+            let parts = read_parts(alloc, source, head.tasks)?;
+            read_line(alloc, source, &EndLine)?;
+            Ok(AnyClaim::Old(OldClaim::Bounds {
+                lower,
+                upper,
+                balance,
+                parts,
+            }))
+        }
+    }
 }
 
 /// Reads what stands behind the first line of a claim.
 fn read_opened<S: Source>(
     alloc: Global,
     source: &mut S,
+    version: Version,
     head: Head,
     opening: Opening,
-) -> Result<Claim, ReadError>
+) -> Result<AnyClaim, ReadError>
     requires head { IsHeadOf head }
     requires opening { IsOpening head.ask head.tasks opening }
-    ensures said { IfOk result (IsOpened head.kind head.tasks opening) }
-    ensures read { S.told → IsRead (opened head.kind head.tasks opening) (S.number source.old) (S.left source.old) (S.left source.new) (S.number source.new) result }
-    ensures base { S.base source.new ≡ S.base source.old }
-    ensures faults { S.faults source.old ≤ S.faults source.new }
-    ensures least { S.least source.old ≤ S.least source.new }
+    ensures said { IfOk result (IsOpened version head opening) }
+    ensures read { S.told → IsRead (opened version head opening)
+        (S.number source.old) (S.left source.old) (S.left source.new) (S.number source.new) result }
+    ensures source { IsReadOn S.base S.faults S.least source.old source.new }
 {
     match opening {
         Opening::TooLong { task } => match read_line(alloc, source, &EndLine) {
-            Ok(()) => Ok(Claim::TooLong { task }),
+            Ok(()) => Ok(AnyClaim::New(Claim::TooLong { task })),
             Err(error) => Err(error),
         },
-        Opening::Lower { lower } => read_bounds(alloc, source, head.kind, head.tasks, lower),
+        Opening::Lower { lower } => read_bounds(alloc, source, version, head, lower),
     }
 }
 
 /// Reads a claim.
-pub fn read_claim<S: Source>(alloc: Global, source: &mut S, head: Head) -> Result<Claim, ReadError>
+fn read_claim<S: Source>(
+    alloc: Global,
+    source: &mut S,
+    version: Version,
+    head: Head,
+) -> Result<AnyClaim, ReadError>
     requires { IsHeadOf head }
-    ensures said { IfOk result (IsClaim head.kind head.tasks head.ask) }
-    ensures read { S.told → IsRead (claims head) (S.number source.old) (S.left source.old) (S.left source.new) (S.number source.new) result }
-    ensures base { S.base source.new ≡ S.base source.old }
-    ensures faults { S.faults source.old ≤ S.faults source.new }
-    ensures least { S.least source.old ≤ S.least source.new }
+    ensures said { IfOk result (IsClaimOf version head) }
+    ensures read { S.told → IsRead (claims version head)
+        (S.number source.old) (S.left source.old) (S.left source.new) (S.number source.new) result }
+    ensures source { IsReadOn S.base S.faults S.least source.old source.new }
 {
     let opening = read_line(
         alloc,
@@ -279,42 +266,45 @@ pub fn read_claim<S: Source>(alloc: Global, source: &mut S, head: Head) -> Resul
             tasks: head.tasks,
         },
     )?;
-    read_opened(alloc, source, head, opening)
+    read_opened(alloc, source, version, head, opening)
 }
 
-/// Reads what stands behind the first line of a text of version 2.
-fn read_new<S: Source>(alloc: Global, source: &mut S) -> Result<Certificate, ReadError>
-    ensures said { IfOk result IsInRange }
-    ensures read { S.told → IsRead bodies (S.number source.old) (S.left source.old) (S.left source.new) (S.number source.new) result }
-    ensures base { S.base source.new ≡ S.base source.old }
-    ensures faults { S.faults source.old ≤ S.faults source.new }
-    ensures least { S.least source.old ≤ S.least source.new }
+/// The certificate of a head and a claim; one of version 1 is lifted.
+fn certified(alloc: Global, head: Head, claim: AnyClaim) -> Result<Certificate, AllocError>
+    requires head { IsHeadOf head }
+    requires claim { (version : Release) × IsClaimOf version head claim }
+    ensures { IfOk result (λ cert. cert ≡ certificate_of head claim) }
 {
-    let head = read_head(alloc, source)?;
-    let claim = read_claim(alloc, source, head)?;
-    Ok(Certificate {
-        kind: head.kind,
-        tasks: head.tasks,
-        ask: head.ask,
-        claim,
-    })
+    let Head { kind, tasks, ask } = head;
+    match claim {
+        AnyClaim::New(claim) => Ok(Certificate {
+            kind,
+            tasks,
+            ask,
+            claim,
+        }),
+        AnyClaim::Old(claim) => {
+            let old = OldCertificate {
+                kind,
+                tasks,
+                ask,
+                claim,
+            };
+            lift(alloc, old)
+        }
+    }
 }
 
 /// Reads a certificate of version 2, or one of version 1, which is lifted.
 pub fn read_all<S: Source>(alloc: Global, source: &mut S) -> Result<Certificate, ReadError>
     ensures said { IfOk result IsInRange }
-    ensures read { S.told → IsAnyRead (S.number source.old) (S.left source.old) (S.left source.new) (S.number source.new) result }
-    ensures base { S.base source.new ≡ S.base source.old }
-    ensures faults { S.faults source.old ≤ S.faults source.new }
-    ensures least { S.least source.old ≤ S.least source.new }
+    ensures read { S.told → IsAnyRead
+        (S.number source.old) (S.left source.old) (S.left source.new) (S.number source.new) result }
+    ensures source { IsReadOn S.base S.faults S.least source.old source.new }
 {
     let version = read_line(alloc, source, &VersionLine)?;
-    match version {
-        Version::Two => read_new(alloc, source),
-        Version::One => {
-            let old = read_old(alloc, source)?;
-            let cert = lift(alloc, old)?;
-            Ok(cert)
-        }
-    }
+    let head = read_head(alloc, source)?;
+    let claim = read_claim(alloc, source, version, head)?;
+    let cert = certified(alloc, head, claim)?;
+    Ok(cert)
 }

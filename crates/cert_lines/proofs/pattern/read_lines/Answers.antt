@@ -1,4 +1,4 @@
-use Rattle.std.proofs.Common.{◌∙◌, refl, sym, ap, arith, ◌+◌, []}
+use Rattle.std.proofs.Common.{◌∙◌, sym, ap, arith, rules, ◌+◌, []}
 use Rattle.std.proofs.lemmas.List.{length-map}
 use Rattle.cert_lines.proofs.Composing.{none_so_far, one_more, none_said, one_more_said, all_said, each_error, handed_on}
 use Rattle.cert_lines.proofs.pattern.read_lines.Goals as goal
@@ -8,9 +8,7 @@ loop-init g c = record {
   many = c.new-values.ensures.len;
   said = none_said (g.P.Pattern.may_say c.args.pattern.now) c.new-values.result.items c.new-values.ensures.items;
   read = λ t. none_so_far (g.P.Pattern.line_of c.args.pattern.now) (g.P.Pattern.may_say c.args.pattern.now) (g.S.Source.number c.args.source.now) (g.S.Source.left c.args.source.now) c.new-values.result.items c.new-values.ensures.items;
-  base = refl;
-  faults = omega arith;
-  least = omega arith;
+  source = search rules;
 }
 
 pub loop-preserved : goal.loop-preserved
@@ -20,9 +18,7 @@ loop-preserved g c = record {
   read = λ t.
       one_more (g.P.Pattern.line_of c.args.pattern.now) (g.P.Pattern.may_say c.args.pattern.now) (g.S.Source.number c.args.source.now) (g.S.Source.left c.args.source.now) c.loop.values.items c.push.new.self.items c.in_ok-value.value
       (g.S.Source.left c.loop.source) (g.S.Source.left c.read_line.new.source) (g.S.Source.number c.loop.source) (g.S.Source.number c.read_line.new.source) (c.loop.invariant.read t) (c.in_ok-value.ensures.read t) c.in_ok-push.ensures.items;
-  base = c.read_line.ensures.base ∙ c.loop.invariant.base;
-  faults = omega (arith, c.loop.invariant.faults, c.read_line.ensures.faults);
-  least = omega (arith, c.loop.invariant.least, c.read_line.ensures.least);
+  source = search rules;
 }
 
 pub returns-in_err-value-clause-read : goal.returns-in_err-value-clause-read

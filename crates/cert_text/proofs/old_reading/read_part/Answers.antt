@@ -36,7 +36,7 @@ returns-in_err-entries-clause-read g c t =
     (second part_cycles (part_behind c.args.tasks c.args.room) _ _ _ _ _ unique_part_cycle (c.in_ok-cycle.ensures.read t)
     (second part_counts (part_rest c.args.tasks c.args.room c.in_ok-cycle.cycle) _ _ _ _ _ unique_part_count (c.in_ok-count.ensures.read t)
     (first (short_entries c.args.tasks c.in_ok-cycle.cycle c.in_ok-count.count) (λ es. old_trails c.args.tasks c.in_ok-count.count c.args.room)
-    (unique_given c.args.tasks c.in_ok-count.count c.in_ok-cycle.cycle c.requires.few (few_entries c.in_ok-count.count c.in_ok-count.ensures.said.1)) (λ es r. ([], no_frames c.args.tasks c.in_ok-count.count c.args.room))
+    (unique_given c.args.tasks c.in_ok-count.count (Some c.in_ok-cycle.cycle) c.requires.few (few_entries c.in_ok-count.count c.in_ok-count.ensures.said.1)) (λ es r. ([], no_frames c.args.tasks c.in_ok-count.count c.args.room))
     (ends (short_entries c.args.tasks c.in_ok-cycle.cycle c.in_ok-count.count) _ 0 _ [] _ (c.in_err-entries.ensures.read t))))))
 
 pub returns-in_err-frames-clause-read : goal.returns-in_err-frames-clause-read
@@ -46,7 +46,7 @@ returns-in_err-frames-clause-read g c t =
     (second part_cycles (part_behind c.args.tasks c.args.room) _ _ _ _ _ unique_part_cycle (c.in_ok-cycle.ensures.read t)
     (second part_counts (part_rest c.args.tasks c.args.room c.in_ok-cycle.cycle) _ _ _ _ _ unique_part_count (c.in_ok-count.ensures.read t)
     (second (short_entries c.args.tasks c.in_ok-cycle.cycle c.in_ok-count.count) (λ es. old_trails c.args.tasks c.in_ok-count.count c.args.room) _ _ _ _ _
-    (unique_given c.args.tasks c.in_ok-count.count c.in_ok-cycle.cycle c.requires.few (few_entries c.in_ok-count.count c.in_ok-count.ensures.said.1)) (c.in_ok-entries.ensures.read t)
+    (unique_given c.args.tasks c.in_ok-count.count (Some c.in_ok-cycle.cycle) c.requires.few (few_entries c.in_ok-count.count c.in_ok-count.ensures.said.1)) (c.in_ok-entries.ensures.read t)
     (ends (old_trails c.args.tasks c.in_ok-count.count c.args.room) _ 0 _ [] _ (c.in_err-frames.ensures.read t))))))
 
 pub returns-clause-said : goal.returns-clause-said

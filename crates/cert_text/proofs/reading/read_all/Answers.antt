@@ -1,34 +1,30 @@
-use Rattle.std.proofs.Common.{[], subst, Ok}
-use Rattle.cert_lines.specs.Judging.{IsRead}
-use Rattle.cert_lines.specs.declared.patterns.Version.{Version}
-use Rattle.cert_lines.specs.declared.patterns.Version.TheVariants as version
-use Rattle.cert_text.specs.OldParts.{old_bodies}
+use Rattle.std.proofs.Common.{[]}
+use Rattle.cert_text.specs.Parts.{heads, claims}
 use Rattle.cert_text.specs.Versions.{both}
 use Rattle.cert_text.proofs.Failing.{ends, first, second, same}
-use Rattle.cert_text.proofs.OldClaims.{versions, unique_version, any_body, any_parts, same_any, same_old, some_body, new_result, old_lifted, any_hand}
-use Rattle.cert_lift.proofs.LiftRanges.{lifted_in}
+use Rattle.cert_text.proofs.Wholes.{unique_heads}
+use Rattle.cert_text.proofs.Claims.{versions, unique_version, body_parts, any_parts, same_any, some_body, some_claim, all_said, all_read, any_hand}
 use Rattle.cert_text.proofs.reading.read_all.Goals as goal
 
 pub returns-in_err-version-clause-read : goal.returns-in_err-version-clause-read
 returns-in_err-version-clause-read g c t =
-    any_hand _ _ _ _ c.from_residual.result c.in_err-version.field-0.0 c.from_residual.ensures.1 (same any_parts both same_any (first versions any_body unique_version some_body (ends versions _ 0 _ [] _ (c.in_err-version.ensures.read t))))
+    any_hand _ _ _ _ c.from_residual.result c.in_err-version.field-0.0 c.from_residual.ensures.1 (same any_parts both same_any (first versions body_parts unique_version some_body (ends versions _ 0 _ [] _ (c.in_err-version.ensures.read t))))
 
-pub returns-in_err-old-in-One-clause-read : goal.returns-in_err-old-in-One-clause-read
-returns-in_err-old-in-One-clause-read g c t =
-    let P : Version → Type 0 = λ v. IsRead versions (g.S.Source.number c.args.source.now) (g.S.Source.left c.args.source.now) (g.S.Source.left c.read_line.new.source) (g.S.Source.number c.read_line.new.source) (Ok v) in
-    any_hand _ _ _ _ c.from_residual-in_err-old-in-One.result c.in_err-old-in-One.field-0.0 c.from_residual-in_err-old-in-One.ensures.1
-    (same any_parts both same_any (second versions any_body version.One _ _ _ _ unique_version (subst P c.in-One.is (c.in_ok-version.ensures.read t))
-    (same old_bodies (any_body version.One) same_old (ends old_bodies _ 0 _ [] _ (c.in_err-old-in-One.ensures.read t)))))
+pub returns-in_err-head-clause-read : goal.returns-in_err-head-clause-read
+returns-in_err-head-clause-read g c t =
+    any_hand _ _ _ _ c.from_residual-in_err-head.result c.in_err-head.field-0.0 c.from_residual-in_err-head.ensures.1
+    (same any_parts both same_any (second versions body_parts _ _ _ _ _ unique_version (c.in_ok-version.ensures.read t)
+    (first heads (claims c.in_ok-version.version) unique_heads (λ h r. some_claim c.in_ok-version.version h) (ends heads _ 0 _ [] _ (c.in_err-head.ensures.read t)))))
 
-pub returns-in-Two-clause-read : goal.returns-in-Two-clause-read
-returns-in-Two-clause-read g c t =
-    let P : Version → Type 0 = λ v. IsRead versions (g.S.Source.number c.args.source.now) (g.S.Source.left c.args.source.now) (g.S.Source.left c.read_line.new.source) (g.S.Source.number c.read_line.new.source) (Ok v) in
-    new_result _ _ _ _ _ _ c.read_new.result (subst P c.in-Two.is (c.in_ok-version.ensures.read t)) (c.read_new.ensures.read t)
+pub returns-in_err-claim-clause-read : goal.returns-in_err-claim-clause-read
+returns-in_err-claim-clause-read g c t =
+    any_hand _ _ _ _ c.from_residual-in_err-claim.result c.in_err-claim.field-0.0 c.from_residual-in_err-claim.ensures.1
+    (same any_parts both same_any (second versions body_parts _ _ _ _ _ unique_version (c.in_ok-version.ensures.read t)
+    (second heads (claims c.in_ok-version.version) _ _ _ _ _ unique_heads (c.in_ok-head.ensures.read t) (ends (claims c.in_ok-version.version c.in_ok-head.head) _ 0 _ [] _ (c.in_err-claim.ensures.read t)))))
 
-pub returns-in_ok-cert-in-One-clause-said : goal.returns-in_ok-cert-in-One-clause-said
-returns-in_ok-cert-in-One-clause-said g c = lifted_in c.in_ok-old-in-One.old c.in_ok-cert-in-One.cert c.in_ok-cert-in-One.ensures c.in_ok-old-in-One.ensures.said
+pub returns-clause-said : goal.returns-clause-said
+returns-clause-said g c = all_said c.in_ok-version.version c.in_ok-head.head c.in_ok-claim.claim c.in_ok-cert.cert c.in_ok-head.ensures.said c.in_ok-claim.ensures.said c.in_ok-cert.ensures
 
-pub returns-in_ok-cert-in-One-clause-read : goal.returns-in_ok-cert-in-One-clause-read
-returns-in_ok-cert-in-One-clause-read g c t =
-    let P : Version → Type 0 = λ v. IsRead versions (g.S.Source.number c.args.source.now) (g.S.Source.left c.args.source.now) (g.S.Source.left c.read_line.new.source) (g.S.Source.number c.read_line.new.source) (Ok v) in
-    old_lifted _ _ _ _ _ _ c.in_ok-old-in-One.old c.in_ok-cert-in-One.cert (subst P c.in-One.is (c.in_ok-version.ensures.read t)) (c.in_ok-old-in-One.ensures.read t) c.in_ok-cert-in-One.ensures
+pub returns-clause-read : goal.returns-clause-read
+returns-clause-read g c t =
+    all_read c.in_ok-version.version c.in_ok-head.head c.in_ok-claim.claim c.in_ok-cert.cert _ _ _ _ _ _ _ _ (c.in_ok-version.ensures.read t) (c.in_ok-head.ensures.read t) (c.in_ok-claim.ensures.read t) c.in_ok-cert.ensures

@@ -7,7 +7,7 @@ use Rattle.cert_lines.specs.Judging.{IsRead}
 use Rattle.cert_text.proofs.Failing.{ends, first, second, same, hand}
 use Rattle.cert_lines.proofs.JudgedEntry.{some_entry}
 use Rattle.cert_text.proofs.Sequencing.{both_read}
-use Rattle.cert_text.proofs.Wholes.{numbers, unique_count, entries_of, unique_entries, entry_rest, list_parts, some_rest, same_lists, list_said, list_read}
+use Rattle.cert_text.proofs.Wholes.{numbers, unique_count, entries_of, unique_given, entry_rest, list_parts, some_rest, same_lists, list_said, list_read}
 use Rattle.cert_text.proofs.reading.read_entries.Goals as goal
 
 pub returns-in_err-count-clause-read : goal.returns-in_err-count-clause-read
@@ -24,7 +24,7 @@ returns-in_err-entries-clause-read g c t =
     hand (lists c.args.tasks) _ _ _ _ c.from_residual-in_err-entries.result c.in_err-entries.field-0.0 c.from_residual-in_err-entries.ensures.1
     (same (list_parts c.args.tasks) (lists c.args.tasks) (same_lists c.args.tasks)
     (second (numbers (codes "entries") 0 20000000) (entry_rest c.args.tasks) _ _ _ _ _ unique_count (c.in_ok-count.ensures.read t)
-    (first (entries_of c.args.tasks c.in_ok-count.count) (λ es. trails c.args.tasks c.in_ok-count.count) (unique_entries c.args.tasks c.in_ok-count.count c.requires.few c.in_ok-count.ensures.said.1) (λ es r. (None, tt))
+    (first (entries_of c.args.tasks c.in_ok-count.count) (λ es. trails c.args.tasks c.in_ok-count.count) (unique_given c.args.tasks c.in_ok-count.count None c.requires.few c.in_ok-count.ensures.said.1) (λ es r. (None, tt))
     (ends (entries_of c.args.tasks c.in_ok-count.count) _ 0 _ [] _ (c.in_err-entries.ensures.read t)))))
 
 pub returns-in_err-trail-clause-read : goal.returns-in_err-trail-clause-read
@@ -32,7 +32,7 @@ returns-in_err-trail-clause-read g c t =
     hand (lists c.args.tasks) _ _ _ _ c.from_residual-in_err-trail.result c.in_err-trail.field-0.0 c.from_residual-in_err-trail.ensures.1
     (same (list_parts c.args.tasks) (lists c.args.tasks) (same_lists c.args.tasks)
     (second (numbers (codes "entries") 0 20000000) (entry_rest c.args.tasks) _ _ _ _ _ unique_count (c.in_ok-count.ensures.read t)
-    (second (entries_of c.args.tasks c.in_ok-count.count) (λ es. trails c.args.tasks c.in_ok-count.count) _ _ _ _ _ (unique_entries c.args.tasks c.in_ok-count.count c.requires.few c.in_ok-count.ensures.said.1) (c.in_ok-entries.ensures.read t)
+    (second (entries_of c.args.tasks c.in_ok-count.count) (λ es. trails c.args.tasks c.in_ok-count.count) _ _ _ _ _ (unique_given c.args.tasks c.in_ok-count.count None c.requires.few c.in_ok-count.ensures.said.1) (c.in_ok-entries.ensures.read t)
     (ends (trails c.args.tasks c.in_ok-count.count) _ 0 _ [] _ (c.in_err-trail.ensures.read t)))))
 
 pub returns-clause-said : goal.returns-clause-said

@@ -15,8 +15,8 @@ returns-in_err-tasks-clause-read g c t =
     (same head_parts heads same_heads (second kinds tasks_ask _ _ _ _ _ unique_kind (c.in_ok-kind.ensures.read t)
     (first tasks_grammar (λ n. asks) unique_tasks (λ a r. some_ask) (ends tasks_grammar _ 0 _ [] _ (c.in_err-tasks.ensures.read t)))))
 
-pub read_line-requires-3-clause-some : goal.read_line-requires-3-clause-some
-read_line-requires-3-clause-some g c = some_ask
+pub read_line-requires-2-clause-some : goal.read_line-requires-2-clause-some
+read_line-requires-2-clause-some g c = some_ask
 
 pub returns-in_err-ask-clause-read : goal.returns-in_err-ask-clause-read
 returns-in_err-ask-clause-read g c t =

@@ -22,7 +22,7 @@ returns-in_err-places-clause-read g c t =
     hand (seatings c.args.kind c.args.tasks) _ _ _ _ c.from_residual-in_err-places.result c.in_err-places.field-0.0 c.from_residual-in_err-places.ensures.1
     (same (seats_behind c.args.kind c.args.tasks) (seatings c.args.kind c.args.tasks) (same_seatings c.args.kind c.args.tasks)
     (second station_numbers (seats_of c.args.kind c.args.tasks) _ _ _ _ _ unique_stations (c.in_ok-stations.ensures.read t)
-    (let P : ℕ → Type 0 = λ k. IsRead (seats_of c.args.kind k c.in_ok-stations.stations) (g.S.Source.number c.read_line.new.source) (g.S.Source.left c.read_line.new.source) [] 0 (Err c.in_err-places.field-0.0) in
+    (let P : ℕ → Type 0 = λ k. IsRead (seats_of c.args.kind k c.in_ok-stations.stations) (g.S.Source.number c.read_number.new.source) (g.S.Source.left c.read_number.new.source) [] 0 (Err c.in_err-places.field-0.0) in
     ends (seats_of c.args.kind c.args.tasks c.in_ok-stations.stations) _ 0 _ [] _ (subst P c.from.ensures (c.in_err-places.ensures.read t)))))
 
 pub returns-clause-said : goal.returns-clause-said
@@ -33,7 +33,7 @@ returns-clause-said g c =
 
 pub returns-clause-read : goal.returns-clause-read
 returns-clause-read g c t =
-    let P : ℕ → Type 0 = λ k. IsRead (seats_of c.args.kind k c.in_ok-stations.stations) (g.S.Source.number c.read_line.new.source) (g.S.Source.left c.read_line.new.source) (g.S.Source.left c.read_lines.new.source) (g.S.Source.number c.read_lines.new.source)
+    let P : ℕ → Type 0 = λ k. IsRead (seats_of c.args.kind k c.in_ok-stations.stations) (g.S.Source.number c.read_number.new.source) (g.S.Source.left c.read_number.new.source) (g.S.Source.left c.read_lines.new.source) (g.S.Source.number c.read_lines.new.source)
     (Ok c.in_ok-places.places.items) in
     let Q : List Seatplace → Type 0 = λ ps. IsRead (seatings c.args.kind c.args.tasks) (g.S.Source.number c.args.source.now) (g.S.Source.left c.args.source.now) (g.S.Source.left c.read_lines.new.source) (g.S.Source.number c.read_lines.new.source)
     (Ok (record { stations = c.in_ok-stations.stations; place = ps })) in
