@@ -143,7 +143,8 @@ list_ready m n h =
     end_ready))
 
 -- lines without an LF, whatever is said
-list_plain : (m n : ℕ) (v : List ℕ × (List SeqEntry × (List SeqFrame × Unit {0}))) → AllLack (texts ((lists m n).rows v))
+list_plain : (m n : ℕ) (v : List ℕ × (List SeqEntry × (List SeqFrame × Unit {0})))
+    → AllLack (texts ((lists m n).rows v))
 list_plain m n v =
     lack_both ((units m).rows v.0) ((behind_units m n).rows v.1)
     (counted_plain keys.Units unit_row v.0 (λ u. row_lacks (unit_row u) tt))

@@ -1,4 +1,5 @@
-//! The lines that certificates of other questions don't have: those of units, of entries and of frames of states. Each is read word by word, and then its numbers are held against their ranges.
+//! The lines that certificates of other questions don't have: those of units, of entries and of frames of states. Each
+//! is read word by word, and then its numbers are held against their ranges.
 ghost use Rattle.std.specs.Prelude.{◌≡◌, ◌≤◌, ◌↔◌, All, IsTrue, MatchResult};
 ghost use Rattle.cert_lines.specs.declared.fault.LineError.TheVariants.{Range};
 ghost use Rattle.sequence_rules.specs.Ranges.{IsWhy};

@@ -34,7 +34,8 @@ unique_titles title = unique_one (λ u. fixed title) (λ u. Unit {0}) (λ v w a 
 abbrev pub titled_parts : {V : Type 0} → List ℕ → Grammar V → Grammar (Unit {0} × V)
 titled_parts title g = then_ (titles title) (λ u. g)
 
-unfoldable pub same_titled : {V : Type 0} (title : List ℕ) (g : Grammar V) → Same (titled_parts title g) (titled title g)
+unfoldable pub same_titled : {V : Type 0} (title : List ℕ) (g : Grammar V)
+    → Same (titled_parts title g) (titled title g)
 same_titled title g = record {
   to = λ v. v.1;
   from = λ v. (tt, v);

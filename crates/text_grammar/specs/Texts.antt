@@ -18,8 +18,8 @@ spelled rows ranged = record { rows = rows; ranged = ranged }
 abbrev pub titled : {V : Type 0} → List ℕ → Grammar V → Grammar V
 titled title g = record { rows = λ v. fixed title ∷ g.rows v; ranged = g.ranged }
 
--- What texts need to be told apart: lines begin with those of one value at most, some value may be said, and no line has
--- an LF in it.
+-- What texts need to be told apart: lines begin with those of one value at most, some value may be said, and no line
+-- has an LF in it.
 pub record Tells {V : Type 0} (g : Grammar V) : Type 0 where
   pub unique : Unique g
   pub some : (v : V) × g.ranged v

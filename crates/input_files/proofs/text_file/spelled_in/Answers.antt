@@ -6,8 +6,8 @@ use Rattle.input_files.proofs.InputFacts.{reads}
 use Rattle.input_files.specs.TextFile.{SpellsNone, IsFaultyText}
 use Rattle.input_files.proofs.text_file.spelled_in.Goals as goal
 
-pub returns-in_ok-line-in-Fault-clause-said : goal.returns-in_ok-line-in-Fault-clause-said
-returns-in_ok-line-in-Fault-clause-said g c = λ t.
+pub returns-in-Fault-clause-said : goal.returns-in-Fault-clause-said
+returns-in-Fault-clause-said g c = λ t.
     let text = spelled g.T.Text.rows g.T.Text.may_say in
     let W : List ℕ → Type 0 = λ bytes. length bytes ≤ 2147483648 in
     subst (λ s. Stops (SpellsNone text (outside (g.S.Shelf.file c.args.shelf.now)
