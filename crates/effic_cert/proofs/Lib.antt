@@ -1,4 +1,4 @@
 pub mod WideWords
 pub mod LineFacts
+pub mod ListFacts
 pub mod PartFacts
-pub mod WholeFacts

@@ -1,25 +1,22 @@
 -- What is read of the lines that other certificates lack decides what they say.
-use Rattle.std.proofs.Common.{◌≡◌, ◌≢◌, ℕ, ◌<◌, ◌≡◌, true, false, List, min, refl, sym, ◌∙◌, ap, subst, arith}
+use Rattle.std.proofs.Common.{◌≡◌, ◌≢◌, ℕ, ◌<◌, ◌≡◌, true, List, min, refl, sym, ◌∙◌, ap, subst, arith}
 use Rattle.std.proofs.Common.{Some, None, lit≤}
-use Rattle.std.specs.Prelude.{codes, bytes_eq}
+use Rattle.std.specs.Prelude.{codes}
 use Rattle.std.proofs.lemmas.Option.{same_Some, none-some}
 use Rattle.cert_lines.specs.Rows.{Row, fixed, keyed, span, seat, bound, branch, swap, trail, frame, state_entry, state_frame, two_numbers}
 use Rattle.cert_lines.specs.Rows.{form_of, row_text}
 use Rattle.cert_lines.specs.Judging.{HasFormOf}
 use Rattle.cert_lines.proofs.NumberWords.{lacks}
 use Rattle.cert_lines.proofs.CiteWords.{sat}
-use Rattle.cert_lines.proofs.Judged.{small, small_is, keyed_only, fixed_not}
+use Rattle.cert_lines.proofs.Judged.{small, small_is, keyed_only}
+use Rattle.cert_text.proofs.Decoding.{row_lacks}
+use Rattle.text_grammar.specs.Texts.{TellsLine}
 use Rattle.effic_cert.specs.Product.{IsProduct, IsStations}
 use Rattle.effic_cert.specs.Parts.{AreEnds, ends_row, bound_text}
 use Rattle.effic_cert.specs.WideReading.{widest, wide_keyed_in, span_in}
 use Rattle.effic_cert.specs.declared.lines.Bound.{Bound}
 use Rattle.effic_cert.specs.declared.lines.Bound.TheVariants as bounds
 use Rattle.effic_cert.proofs.WideWords.{wide_keyed_again, wide_keyed_found, span_again, span_found}
-
--- the first line
-pub product_not : (line u : List ℕ) → false ≡ bytes_eq line u → u ≡ codes "line balance product 1"
-    → HasFormOf {V = Unit {0}} (λ v. fixed (codes "line balance product 1")) (λ v. Unit {0}) line → ⊥
-product_not line u e s f = fixed_not line (codes "line balance product 1") u f.2 e s f.3 f.4
 
 -- the line of the range of stations
 span_only : (r : Row) (key : List ℕ) → form_of r ≡ two_numbers key → (a : ℕ) × (b : ℕ) × (r ≡ span key a b)
@@ -67,7 +64,7 @@ ends_range line x e n =
           n (subst P (sym (w ∙ s)) r),
     )
 
-pub ends_same : (v w : ℕ × ℕ) → AreEnds v → AreEnds w → row_text (ends_row v) ≡ row_text (ends_row w) → v ≡ w
+ends_same : (v w : ℕ × ℕ) → AreEnds v → AreEnds w → row_text (ends_row v) ≡ row_text (ends_row w) → v ≡ w
 ends_same v w a b e =
     let t : (sat v.0, sat v.1) ≡ (sat w.0, sat w.1) =
     same_Some (sat v.0, sat v.1) (sat w.0, sat w.1)
@@ -121,3 +118,22 @@ module _ (key : List ℕ) (l : lacks 32 key ≡ true) where
       bound_value (row_text (keyed key w)) w v refl (omega (arith, b.limit))
       (ap (wide_keyed_in key) (sym e) ∙ wide_keyed_again key v l
       ∙ ap (λ z. Some z) (wide_is v (omega (arith, a.limit))))
+
+-- both kinds of line say one value at most
+pub stations_tell : TellsLine ends_row AreEnds
+stations_tell = record {
+  one = ends_same;
+  some = ((1, 1), (one_station, one_station));
+  plain = λ v. row_lacks (ends_row v) refl;
+}
+
+bound_plain : (b : Bound) → lacks 10 (bound_text b) ≡ true
+bound_plain bounds.Lower = refl
+bound_plain bounds.Upper = refl
+
+pub bound_tells : (b : Bound) → TellsLine (keyed (bound_text b)) IsProduct
+bound_tells b = record {
+  one = bound_same (bound_text b) (bound_lacks b);
+  some = (1, record { some = lit≤ tt; limit = lit≤ tt });
+  plain = λ v. row_lacks (keyed (bound_text b) v) (bound_plain b);
+}

@@ -46,13 +46,15 @@ bound_rows cert = keyed (codes "cycle") cert.cycle ∷ keyed (codes "lower") cer
 abbrev pub balance_rows : EfficCert → List Row
 balance_rows cert = keyed (codes "balance") cert.balance.stations ∷ map (seat_row cert.kind) cert.balance.place
 
+-- the lines behind the first one
+abbrev pub body_rows : EfficCert → List Row
+body_rows cert = asked_rows cert
+    ++ (bound_rows cert ++
+    (balance_rows cert ++ (list_rows cert.tasks cert.entries cert.trail ++ fixed (codes "end") ∷ [])))
+
 -- The lines of a certificate.
 unfoldable pub product_rows : EfficCert → List Row
-product_rows cert =
-    fixed (codes "line balance product 1")
-    ∷ (asked_rows cert ++
-    (bound_rows cert ++ (balance_rows cert
-    ++ (list_rows cert.tasks cert.entries cert.trail ++ fixed (codes "end") ∷ []))))
+product_rows cert = fixed (codes "line balance product 1") ∷ body_rows cert
 
 -- The text of a certificate.
 abbrev pub product_text : EfficCert → List ℕ

@@ -8,6 +8,7 @@
 mod cert;
 pub mod laws;
 mod lines;
+mod listed;
 mod reader;
 mod reading;
 #[cfg(test)]
@@ -16,5 +17,5 @@ mod words;
 mod writing;
 
 pub use cert::EfficCert;
-pub use reader::{EfficRead, read_effic};
+pub use reader::{EfficRead, EfficText, read_effic};
 pub use writing::write_effic;

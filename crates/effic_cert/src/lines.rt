@@ -10,30 +10,6 @@ use std::alloc::Global;
 /// The greatest product.
 const MAX_PRODUCT: u128 = 1_000_000_000_000_000_000_000_000;
 
-/// The first line.
-#[derive(Clone, Copy)]
-pub(crate) struct ProductLine;
-
-impl Pattern for ProductLine {
-    ghost use Rattle.std.specs.Prelude.{codes};
-    ghost use Rattle.cert_lines.specs.Rows.{fixed};
-
-    type Value = ();
-
-    ghost line_of = { λ p v. fixed (codes "line balance product 1") };
-
-    ghost may_say = { λ p v. Unit {0} };
-
-    ghost can_read = { λ p. Unit {0} };
-
-    fn read(&self, _alloc: Global, line: &[u8]) -> Result<(), LineError> {
-        if line == b"line balance product 1".as_slice() {
-            return Ok(());
-        }
-        Err(LineError::Form)
-    }
-}
-
 /// The line of the range of stations.
 #[derive(Clone, Copy)]
 pub(crate) struct StationsLine;

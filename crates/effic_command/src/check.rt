@@ -9,10 +9,11 @@ ghost use Rattle.check_command.specs.Check.{IsVerdictStatus};
 ghost use Rattle.effic_command.specs.EfficCheck.{IsEfficCheckOutcome, IsProvedProduct};
 
 use crate::print_verdict::verdict_report;
-use crate::product_file::product_of;
 use command_outcome::{Report, Stop};
 use cycle_command::plain_line;
+use effic_cert::EfficText;
 use effic_check::verify_effic;
+use input_files::spelled_in;
 use line_io::Shelf;
 use std::alloc::Global;
 
@@ -36,7 +37,7 @@ pub fn effic_check_report<S: Shelf>(
     ensures files { S.tells → (q : List ℕ) → S.file shelf.new q ≡ S.file shelf.old q }
 {
     let inst = plain_line(alloc, file, shelf)?;
-    let cert = product_of(alloc, proof, shelf)?;
+    let cert = spelled_in(alloc, &EfficText, proof, shelf)?;
     let verified = verify_effic(&inst, &cert, steps);
     let report = verdict_report(alloc, &cert, &verified)?;
     Ok(report)

@@ -9,7 +9,6 @@ mod check;
 mod effic;
 mod print_effic;
 mod print_verdict;
-mod product_file;
 
 pub use check::effic_check_report;
 pub use effic::effic_report;

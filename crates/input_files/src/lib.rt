@@ -10,8 +10,10 @@ mod certificate;
 mod fetch_file;
 mod instance;
 mod kind;
+mod text_file;
 
 pub use certificate::{MAX_CERTIFICATE, cert_fault_line_of, certificate_of};
 pub use fetch_file::{fetch, fetch_within};
 pub use instance::{Sheet, Timed, fault_line_of, line_of, said_instance, sheet_of};
 pub use kind::kind_of;
+pub use text_file::spelled_in;

@@ -1,4 +1,3 @@
 pub mod StateWords
 pub mod StateLines
 pub mod PartFacts
-pub mod WholeFacts

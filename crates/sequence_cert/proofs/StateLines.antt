@@ -1,8 +1,8 @@
 -- What is read of the lines of units, of entries and of frames decides what they say.
-use Rattle.std.proofs.Common.{◌≡◌, ◌≢◌, ℕ, zero, suc, ◌-◌, ◌<◌, ◌≤◌, false, List, [], ◌∷◌, length, map, get_or}
+use Rattle.std.proofs.Common.{◌≡◌, ◌≢◌, ℕ, zero, suc, ◌-◌, ◌<◌, ◌≤◌, List, [], ◌∷◌, length, map, get_or}
 use Rattle.std.proofs.Common.{replicate, refl, sym, ◌∙◌, ap, subst, arith, Some, None, Option, Ok, Err, Result, lit≤}
 use Rattle.std.proofs.Common.{lit<}
-use Rattle.std.specs.Prelude.{codes, bytes_eq, All, MatchResult}
+use Rattle.std.specs.Prelude.{All, MatchResult}
 use Rattle.std.proofs.lemmas.List.{length-map, length-replicate}
 use Rattle.std.proofs.lemmas.Option.{same_Some, none-some, slice_get-get_or, get_or_from_slice_get}
 use Rattle.line_rules.specs.Ranges.{IsPlaced}
@@ -17,8 +17,10 @@ use Rattle.cert_lines.specs.declared.fault.LineError.{LineError}
 use Rattle.cert_lines.specs.declared.fault.LineError.TheVariants as lines
 use Rattle.cert_lines.proofs.CiteWords.{sat}
 use Rattle.cert_lines.proofs.OtherLines.{seat_again}
-use Rattle.cert_lines.proofs.Judged.{small, small_is, fixed_not, out_of_range}
+use Rattle.cert_lines.proofs.Judged.{small, small_is, out_of_range}
 use Rattle.cert_lines.proofs.JudgedMore.{seat_none, seat_ok, seat_range}
+use Rattle.cert_text.proofs.Decoding.{row_lacks}
+use Rattle.text_grammar.specs.Texts.{TellsLine}
 use Rattle.sequence_rules.specs.Ranges.{IsWhy, IsEntry, IsFrame, IsLast}
 use Rattle.sequence_rules.specs.declared.types.SeqEntry.{SeqEntry}
 use Rattle.sequence_rules.specs.declared.types.SeqFrame.{SeqFrame}
@@ -30,11 +32,6 @@ use Rattle.sequence_cert.specs.Parts.{AreModels, IsEntryWithin, IsLastWithin, Is
 use Rattle.sequence_cert.specs.declared.words.FrameDraft.{FrameDraft}
 use Rattle.sequence_cert.proofs.StateWords.{the_entry, why_read, entry_again, entry_found, last_read, the_frame}
 use Rattle.sequence_cert.proofs.StateWords.{frame_again, frame_found}
-
--- the first line
-pub title_not : (line u : List ℕ) → false ≡ bytes_eq line u → u ≡ codes "utility sequence certificate 1"
-    → HasFormOf {V = Unit {0}} (λ v. fixed (codes "utility sequence certificate 1")) (λ v. Unit {0}) line → ⊥
-title_not line u e s f = fixed_not line (codes "utility sequence certificate 1") u f.2 e s f.3 f.4
 
 -- the line of a unit is that of a place on a straight line
 abbrev IsUnit : ℕ → ℕ → Type 0
@@ -75,7 +72,7 @@ unit_range m line x h e n =
 same_less : (v w : ℕ) → suc v ≡ suc w → v ≡ w
 same_less v w e = omega arith
 
-pub unit_same : (m v w : ℕ) → m ≤ 16 → IsUnit m v → IsUnit m w → row_text (unit_row v) ≡ row_text (unit_row w) → v ≡ w
+unit_same : (m v w : ℕ) → m ≤ 16 → IsUnit m v → IsUnit m w → row_text (unit_row v) ≡ row_text (unit_row w) → v ≡ w
 unit_same m v w l a b e =
     let p : suc v < greatest = omega (arith, a, l) in
     let q : suc w < greatest = omega (arith, b, l) in
@@ -188,7 +185,7 @@ entry_value m n v line h t =
     entry_reads m n v.rem v.starts v.least (cited v.why) line h.state.each h.state.wide t
     ∙ ap (λ z. Some z) (entry_same m n v h)
 
-pub entry_one : (m n : ℕ) (v w : SeqEntry) → IsEntry m n v → IsEntry m n w
+entry_one : (m n : ℕ) (v w : SeqEntry) → IsEntry m n v → IsEntry m n w
     → row_text (entry_row v) ≡ row_text (entry_row w) → v ≡ w
 entry_one m n v w a b e =
     same_Some v w
@@ -232,7 +229,7 @@ entry_said m n line e i w =
           ∙ f.text,
     )
 
-pub some_entry : (m n : ℕ) → (e : SeqEntry) × IsEntry m n e
+some_entry : (m n : ℕ) → (e : SeqEntry) × IsEntry m n e
 some_entry m n = (
   the_entry (replicate m 0) (replicate n 0) 0 why.Bound,
   record {
@@ -357,7 +354,7 @@ frame_back : (v : SeqFrame) → frame_of (drafted v) ≡ v
 frame_back v = ap (λ z. record { rem = v.rem; starts = v.starts; need = v.need; last = z; cites = v.cites })
     (indexed_counted v.last)
 
-pub frame_one : (m n : ℕ) (v w : SeqFrame) → m ≤ 16 → IsFrame m n v → IsFrame m n w
+frame_one : (m n : ℕ) (v w : SeqFrame) → m ≤ 16 → IsFrame m n v → IsFrame m n w
     → row_text (frame_row v) ≡ row_text (frame_row w) → v ≡ w
 frame_one m n v w l a b e =
     let d : drafted v ≡ drafted w = same_Some (drafted v) (drafted w)
@@ -412,7 +409,7 @@ frame_said m n line d g i w =
           ∙ f.text,
     )
 
-pub some_frame : (m n : ℕ) → (f : SeqFrame) × IsFrame m n f
+some_frame : (m n : ℕ) → (f : SeqFrame) × IsFrame m n f
 some_frame m n = (
   record { rem = replicate m 0; starts = replicate n 0; need = 0; last = None; cites = [] },
   record {
@@ -466,3 +463,25 @@ frame_judged m n line d (Ok f) g i h =
     subst P (sym h.0) (frame_said m n line d g i h.1)
 frame_judged m n line d (Err x) g i h =
     let f = frame_range m n line d g i h.1 in out_of_range frame_row (IsFrame m n) line x h.0 f.0 f.1
+
+-- each kind of line says one value at most
+pub unit_tells : (m : ℕ) → AreModels m → TellsLine unit_row (λ u. u < m)
+unit_tells m h = record {
+  one = λ v w a b e. unit_same m v w h.few a b e;
+  some = (0, h.some);
+  plain = λ u. row_lacks (unit_row u) tt;
+}
+
+pub entry_tells : (m n : ℕ) → TellsLine entry_row (IsEntry m n)
+entry_tells m n = record {
+  one = entry_one m n;
+  some = some_entry m n;
+  plain = λ e. row_lacks (entry_row e) tt;
+}
+
+pub frame_tells : (m n : ℕ) → AreModels m → TellsLine frame_row (IsFrame m n)
+frame_tells m n h = record {
+  one = λ v w a b e. frame_one m n v w h.few a b e;
+  some = some_frame m n;
+  plain = λ f. row_lacks (frame_row f) tt;
+}

@@ -1,10 +1,7 @@
 -- Laws of the texts of certificates of sequences.
-use Rattle.std.specs.Prelude.{◌≡◌, ℕ, List, [], ◌++◌}
-use Rattle.sequence_rules.specs.Ranges.{IsInRange}
-use Rattle.sequence_rules.specs.declared.types.SeqCert.{SeqCert}
-use Rattle.sequence_cert.specs.SequenceText.{sequence_text}
+use Rattle.text_grammar.specs.Texts.{NoneBegins}
+use Rattle.sequence_cert.specs.Faults.{sequences}
 
 -- no text of a certificate begins that of another
 abbrev pub NoSequenceTextBeginsAnother : Type 0
-NoSequenceTextBeginsAnother = (c d : SeqCert) (rest : List ℕ) → IsInRange c → IsInRange d
-    → sequence_text c ++ rest ≡ sequence_text d → (c ≡ d) × (rest ≡ [])
+NoSequenceTextBeginsAnother = NoneBegins sequences

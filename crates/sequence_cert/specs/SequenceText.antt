@@ -56,12 +56,14 @@ abbrev pub list_rows : List ℕ → List SeqEntry → List SeqFrame → List Row
 list_rows sequence entries frames =
     unit_rows sequence ++ (entry_rows entries ++ (frame_rows frames ++ fixed (codes "end") ∷ []))
 
+-- the lines behind the first one
+abbrev pub body_rows : SeqCert → List Row
+body_rows cert = head_rows cert.models cert.stations cert.lower cert.upper
+    ++ list_rows cert.sequence cert.entries cert.frames
+
 -- The lines of a certificate.
 unfoldable pub sequence_rows : SeqCert → List Row
-sequence_rows cert =
-    fixed (codes "utility sequence certificate 1")
-    ∷ (head_rows cert.models cert.stations cert.lower cert.upper
-    ++ list_rows cert.sequence cert.entries cert.frames)
+sequence_rows cert = fixed (codes "utility sequence certificate 1") ∷ body_rows cert
 
 -- The text of a certificate.
 abbrev pub sequence_text : SeqCert → List ℕ

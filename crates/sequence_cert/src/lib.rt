@@ -5,6 +5,7 @@
 //! one over the bytes.
 #![tactic(auto)]
 
+mod counted;
 pub mod laws;
 mod lines;
 mod reader;
@@ -14,5 +15,5 @@ mod tests;
 mod words;
 mod writing;
 
-pub use reader::{SeqCertRead, read_seq};
+pub use reader::{SeqCertRead, SeqText, read_seq};
 pub use writing::write_seq;

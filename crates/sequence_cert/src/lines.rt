@@ -1,5 +1,5 @@
-//! The lines that certificates of other questions don't have: the first line, and those of units, of entries and of
-//! frames of states. Each is read word by word, and then its numbers are held against their ranges.
+//! The lines that certificates of other questions don't have: those of units, of entries and of frames of states. Each
+//! is read word by word, and then its numbers are held against their ranges.
 ghost use Rattle.std.specs.Prelude.{◌≡◌, ◌≤◌, ◌↔◌, All, IsTrue, MatchResult};
 ghost use Rattle.cert_lines.specs.declared.fault.LineError.TheVariants.{Range};
 ghost use Rattle.sequence_rules.specs.Ranges.{IsWhy};
@@ -21,30 +21,6 @@ const MAX_UNITS: u64 = 1000;
 
 /// The greatest start.
 const MAX_START: u64 = 1_000_000_000;
-
-/// The first line.
-#[derive(Clone, Copy)]
-pub(crate) struct TitleLine;
-
-impl Pattern for TitleLine {
-    ghost use Rattle.std.specs.Prelude.{codes};
-    ghost use Rattle.cert_lines.specs.Rows.{fixed};
-
-    type Value = ();
-
-    ghost line_of = { λ p v. fixed (codes "utility sequence certificate 1") };
-
-    ghost may_say = { λ p v. Unit {0} };
-
-    ghost can_read = { λ p. Unit {0} };
-
-    fn read(&self, _alloc: Global, line: &[u8]) -> Result<(), LineError> {
-        if line == b"utility sequence certificate 1".as_slice() {
-            return Ok(());
-        }
-        Err(LineError::Form)
-    }
-}
 
 /// The line of a unit: its model, which is counted from 1 in the text and from 0 here.
 #[derive(Clone, Copy)]

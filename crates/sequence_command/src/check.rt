@@ -8,11 +8,12 @@ ghost use Rattle.command_outcome.specs.declared.status.Status.TheVariants as end
 ghost use Rattle.sequence_command.specs.SequenceCheck.{IsSequenceCheckOutcome, IsProvedSequence};
 ghost use Rattle.sequence_command.specs.VerdictText.{IsVerdictStatus};
 
-use crate::certificate_file::seq_cert_of;
 use crate::print_verdict::verdict_report;
 use crate::timed_mix::timed_of;
 use command_outcome::{Report, Stop};
+use input_files::spelled_in;
 use line_io::Shelf;
+use sequence_cert::SeqText;
 use sequence_check::verify_seq;
 use std::alloc::Global;
 
@@ -42,7 +43,7 @@ pub fn sequence_check_report<S: Shelf>(
     ensures files { S.tells → (q : List ℕ) → S.file shelf.new q ≡ S.file shelf.old q }
 {
     let timed = timed_of(alloc, mix, cert, interval, shelf)?;
-    let proof = seq_cert_of(alloc, seq, shelf)?;
+    let proof = spelled_in(alloc, &SeqText, seq, shelf)?;
     let verified = verify_seq(&timed.times, interval, reach, &proof, steps);
     let report = verdict_report(alloc, verified)?;
     Ok(report)

@@ -6,7 +6,6 @@
 //! memory, and at most the steps that the words allow.
 #![tactic(auto)]
 
-mod certificate_file;
 mod check;
 mod print_sequence;
 mod print_verdict;

@@ -2,7 +2,8 @@ use Rattle.std.proofs.Common.{◌∙◌, inl, subst, List, ℕ, Option, None}
 use Rattle.command_outcome.specs.Outcome.{Files}
 use Rattle.command_outcome.proofs.OutcomeFacts.{told_as}
 use Rattle.input_files.specs.InputFile.{Reads, max_certificate}
-use Rattle.effic_command.specs.ProductFile.{IsTextOf}
+use Rattle.text_grammar.specs.Texts.{Says}
+use Rattle.effic_cert.specs.Faults.{products}
 use Rattle.effic_command.specs.ProductText.{verdict_text, verdict_status}
 use Rattle.effic_command.proofs.check.effic_check_report.Goals as goal
 
@@ -12,7 +13,7 @@ returns-clause-ends g c = λ t.
     let proof : List ℕ = c.args.proof.now in
     let cert = c.in_ok-cert.cert in
     let found = c.verify_effic-verified.result in
-    let R : Option (List ℕ) → Type 0 = λ f. Reads max_certificate f (IsTextOf c.in_ok-cert.cert) in
+    let R : Option (List ℕ) → Type 0 = λ f. Reads max_certificate f (λ bytes. Says products bytes cert) in
     record {
       page = None;
       reached = inl (record {
