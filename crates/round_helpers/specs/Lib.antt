@@ -1,6 +1,8 @@
 pub mod Jobs
 pub mod Growth
 pub mod Works
+pub mod Pieces
+pub mod Equipment
 pub mod Seats
 pub mod Teams
 pub mod Helping

@@ -1,5 +1,5 @@
 -- A helper's desk at a shared book, and what becomes of a helper. Own.
-use Rattle.std.specs.Prelude.{◌≡◌, ℕ, ◌+◌, ◌≤◌, List, [], ◌∷◌, length, slice_get, Some}
+use Rattle.std.specs.Prelude.{◌≡◌, ℕ, ◌+◌, ◌≤◌, List, [], ◌∷◌, length, map, slice_get, Some}
 use Rattle.atomic_table.specs.Seated.{TableId}
 use Rattle.line_instance.specs.Line.{Line}
 use Rattle.line_rules.specs.Units.{UnitsOf}
@@ -10,7 +10,8 @@ use Rattle.book_share.specs.Calls.{IsPassOf}
 use Rattle.book_share.specs.Passes.{Base, PassView, PassOf, desk_by}
 use Rattle.station_search.specs.declared.answers.Units.{Units}
 use Rattle.round_helpers.specs.Growth.{AreAtCycle}
-use Rattle.round_helpers.specs.Works.{IsEnd}
+use Rattle.steal_pool.specs.Hands.{DequeId, HandView, IsHandOf}
+use Rattle.round_helpers.specs.Pieces.{HasOwn, IsEnd}
 use Rattle.round_helpers.specs.declared.job_list.Job.{Job}
 use Rattle.round_helpers.specs.declared.job_work.Question.{Question}
 use Rattle.round_helpers.specs.declared.teams.Helper.{Helper}
@@ -34,16 +35,24 @@ pub record IsBare (share : TableId) (base : Base) (seen : List Item) (parts : �
   pub history : p.view.seen ≡ seen
   pub part : p.view.parts ≡ parts
 
--- A helper before its work: its pass is bare and has one part, and it has so many units, none of them used.
-pub record IsReady (share : TableId) (base : Base) (seen : List Item) (given : ℕ) (h : Helper) : Type 0 where
+-- A helper before its work: its pass is bare and has one part, this is its hand, and it has so many units, none of them
+-- used.
+pub record IsReady (share : TableId) (base : Base) (seen : List Item) (given : ℕ) (hand : HandView)
+    (h : Helper) : Type 0 where
   pub bare : IsBare share base seen 1 h.pass
+  pub own_hand : h.hand ≡ hand
   pub left : h.units.left ≡ given
   pub used : h.units.used ≡ 0
 
--- each helper is ready, with the units that are left to it
-abbrev pub AreReady : TableId → Base → List Item → List Units → List Helper → Type 0
-AreReady share base seen us hs =
-    (k : ℕ) (h : Helper) (u : Units) → slice_get hs k ≡ Some h → slice_get us k ≡ Some u → IsReady share base seen u.left h
+-- each helper is ready, with its hand and the units that are left to it
+abbrev pub AreReady : TableId → Base → List Item → List Units → List HandView → List Helper → Type 0
+AreReady share base seen us hands hs =
+    (k : ℕ) (h : Helper) (u : Units) (v : HandView) → slice_get hs k ≡ Some h → slice_get us k ≡ Some u
+    → slice_get hands k ≡ Some v → IsReady share base seen u.left v h
+
+-- the hands of helpers
+abbrev pub hands_of : List Helper → List HandView
+hands_of hs = map (λ (h : Helper). h.hand) hs
 
 -- What the own events of a pass added, for so many units: entries of the cycle X, at most one for each unit, and with
 -- no more units than these.
@@ -56,29 +65,34 @@ pub record HasAdded (line : Line) (X : ℕ) (v : PassView) (used : ℕ) : Type 0
   pub units : UnitsOf line (added_of items) published
   pub within : published ≤ used
 
--- A helper after its work on its jobs: its pass is the same one and has seen no less, its own events paid for the units
--- used, and its work ended so. It was given so many units.
+-- A helper after its work: its pass is the same one and has seen no less, its own events paid for the units used, and its
+-- work ended so. Its hand is of the pool, has the name that it had, and keeps what was dealt to it. It was given so many
+-- units.
 pub record HasWorked (share : TableId) (base : Base) (seen : List Item) (line : Line) (question : Question)
-    (jobs : List Job) (count place given : ℕ) (h : Helper) : Type 0 where
+    (jobs : List Job) (pool : List DequeId) (hand : HandView) (given : ℕ) (h : Helper) : Type 0 where
   pub pass : IsPassOf share h.pass
   pub same : h.pass.view.base ≡ base
   pub part : h.pass.view.parts ≡ 1
   pub begins : Begins seen h.pass.view.seen
   pub added : HasAdded line question.cycle h.pass.view h.units.used
-  pub ends : IsEnd (desk_by h.pass.view) question.cycle question.most jobs place count h.units.left h.end
+  pub own_hand : IsHandOf pool h.hand × (h.hand.name ≡ hand.name)
+  pub dealt : HasOwn hand h.hand
+  pub ends : IsEnd (desk_by h.pass.view) question.cycle question.most jobs h.hand h.units.left h.end
   pub sum : h.units.used + h.units.left ≡ given
 
--- each helper has worked on its jobs, one for each as it was before
-abbrev pub HaveAllWorked : TableId → Line → Question → List Job → List Helper → List Helper → Type 0
-HaveAllWorked share line question jobs before after =
+-- each helper has worked, one for each as it was before
+abbrev pub HaveAllWorked : TableId → Line → Question → List Job → List DequeId → List Helper → List Helper → Type 0
+HaveAllWorked share line question jobs pool before after =
     (k : ℕ) (a b : Helper) → slice_get before k ≡ Some a → slice_get after k ≡ Some b
-    → HasWorked share a.pass.view.base a.pass.view.seen line question jobs (length before) k a.units.left b
+    → HasWorked share a.pass.view.base a.pass.view.seen line question jobs pool a.hand a.units.left b
 
--- each helper has worked on its jobs, with the units that were left to it
-abbrev pub HaveWorked : TableId → Base → List Item → Line → Question → List Job → List Units → List Helper → Type 0
-HaveWorked share base seen line question jobs us hs =
-    (k : ℕ) (h : Helper) (u : Units) → slice_get hs k ≡ Some h → slice_get us k ≡ Some u
-    → HasWorked share base seen line question jobs (length us) k u.left h
+-- each helper has worked, with its hand and the units that were left to it
+abbrev pub HaveWorked : TableId → Base → List Item → Line → Question → List Job → List DequeId → List Units
+    → List HandView → List Helper → Type 0
+HaveWorked share base seen line question jobs pool us hands hs =
+    (k : ℕ) (h : Helper) (u : Units) (v : HandView) → slice_get hs k ≡ Some h → slice_get us k ≡ Some u
+    → slice_get hands k ≡ Some v
+    → HasWorked share base seen line question jobs pool v u.left h
 
 -- the units that helpers have used
 abbrev pub used_by : List Helper → ℕ

@@ -7,18 +7,20 @@ use Rattle.lemma_core.specs.History.{Item, Begins}
 use Rattle.book_share.specs.Calls.{IsPassOf}
 use Rattle.book_share.specs.Passes.{Base}
 use Rattle.station_search.specs.declared.answers.Units.{Units}
+use Rattle.steal_pool.specs.declared.piece.Piece.{Piece}
+use Rattle.steal_pool.specs.Hands.{DequeId, tooks, IsHandOf}
 use Rattle.round_helpers.specs.Jobs.{AreJobs}
 use Rattle.round_helpers.specs.Seats.{IsBare, HasAdded}
 use Rattle.round_helpers.specs.declared.helping.Helped.{Helped}
 use Rattle.round_helpers.specs.declared.helping.Helped.TheVariants as helped
 use Rattle.round_helpers.specs.declared.job_list.Job.{Job}
-use Rattle.round_helpers.specs.declared.job_work.End.TheVariants as ends
+use Rattle.round_helpers.specs.declared.piece_work.End.TheVariants as ends
 use Rattle.round_helpers.specs.declared.job_work.Question.{Question}
 use Rattle.round_helpers.specs.declared.teams.Helper.{Helper}
 
--- A helper may work on its jobs: its pass is bare and about the question's line, and the jobs are those of the
--- question.
-pub record MayWork (share : TableId) (line : Line) (question : Question) (jobs : List Job) (count place : ℕ)
+-- A helper may work: its pass is bare and about the question's line, the jobs are those of the question, and its hand is of
+-- the pool and took no piece.
+pub record MayWork (share : TableId) (line : Line) (question : Question) (jobs : List Job) (pool : List DequeId)
     (h : Helper) : Type 0 where
   pub bare : IsBare share h.pass.view.base h.pass.view.seen 1 h.pass
   pub about : h.pass.view.base.about ≡ record { line = line; kind = question.kind; cycle = question.cycle }
@@ -26,14 +28,14 @@ pub record MayWork (share : TableId) (line : Line) (question : Question) (jobs :
   pub some : 1 ≤ question.most
   pub most : question.most ≤ 1024
   pub are : AreJobs question.kind line question.cycle question.most jobs
-  pub place_below : place < count
-  pub few : count ≤ 64
+  pub own_hand : IsHandOf pool h.hand
+  pub fresh : (k : ℕ) (xs : List Piece) → slice_get (tooks h.hand) k ≡ Some xs → xs ≡ []
   pub used : h.units.used ≡ 0
 
--- each helper may work on its jobs
-abbrev pub MayAllWork : TableId → Line → Question → List Job → List Helper → Type 0
-MayAllWork share line question jobs hs =
-    (k : ℕ) (h : Helper) → slice_get hs k ≡ Some h → MayWork share line question jobs (length hs) k h
+-- each helper may work
+abbrev pub MayAllWork : TableId → Line → Question → List Job → List DequeId → List Helper → Type 0
+MayAllWork share line question jobs pool hs =
+    (k : ℕ) (h : Helper) → slice_get hs k ≡ Some h → MayWork share line question jobs pool h
 
 -- each helper's pass is of the share
 abbrev pub ArePassesOf : TableId → List Helper → Type 0
@@ -63,12 +65,12 @@ abbrev pub AreSettled : List Units → List Helper → Type 0
 AreSettled us hs = (k : ℕ) (u : Units) (h : Helper) → slice_get us k ≡ Some u → slice_get hs k ≡ Some h
     → u.used + h.units.used < 2 ^ 64
 
--- What the ends of helpers tell: each one's jobs are refuted, or a balance was found; the helper of this number, from 1,
--- has no unit left; or memory ended.
+-- What the ends of helpers tell: each one found all deques empty, or a balance was found; the helper of this number, from
+-- 1, has no unit left; or memory ended.
 abbrev pub IsTold : List Helper → Helped → Type 0
 IsTold hs helped.Unneeded = ⊥
 IsTold hs helped.Whole =
-    ((k : ℕ) (h : Helper) → slice_get hs k ≡ Some h → h.end ≡ ends.Refuted)
+    ((k : ℕ) (h : Helper) → slice_get hs k ≡ Some h → h.end ≡ ends.Empty)
     ⊎ ((k : ℕ) × (h : Helper) × (slice_get hs k ≡ Some h) × (h.end ≡ ends.Found))
 IsTold hs (helped.Cut n) = (k : ℕ) × (h : Helper) × (n ≡ suc k) × (slice_get hs k ≡ Some h) × (h.end ≡ ends.Spent)
 IsTold hs helped.NoMemory = Unit {0}

@@ -1,6 +1,7 @@
-//! The help for a question, from a book to the book that comes back: the book is shared, the helpers do its jobs in
-//! threads, and the share is closed again. Every lemma of a helper enters the book through that close alone.
-ghost use Rattle.std.specs.Prelude.{◌≡◌, ℕ, ◌+◌, ◌-◌, ◌<◌, ◌≤◌, ◌⊎◌, ◌↔◌, IsTrue, [], length, vec_capacity};
+//! The help for a question, from a book to the book that comes back: the book is shared, the helpers do the pieces of the
+//! question in threads, each taking from the others where it has none left, and the share is closed again. Every lemma of a
+//! helper enters the book through that close alone.
+ghost use Rattle.std.specs.Prelude.{◌≡◌, ℕ, ◌+◌, ◌-◌, ◌<◌, ◌≤◌, ◌⊎◌, ◌↔◌, IsTrue, length};
 ghost use Rattle.line_rules.specs.Balance.{all_tasks};
 ghost use Rattle.line_rules.specs.Bounds.{bound};
 ghost use Rattle.line_rules.specs.Entries.{HasAnswer};
@@ -8,15 +9,17 @@ ghost use Rattle.line_rules.specs.Ranges.{IsCycle};
 ghost use Rattle.lemma_core.specs.Books.{BookView, IsBook, IsReserved};
 ghost use Rattle.book_share.specs.Calls.{IsPassOf};
 ghost use Rattle.book_share.specs.Rule.{newcomer};
+ghost use Rattle.round_helpers.specs.Equipment.{IsEquipped};
 ghost use Rattle.round_helpers.specs.Growth.{Helps};
 ghost use Rattle.round_helpers.specs.Helping.{IsTeam, all_used, HaveSpent, IsUnneeded, HasHelped};
 ghost use Rattle.round_helpers.specs.Jobs.{AreJobs};
 ghost use Rattle.round_helpers.specs.declared.helping.Helped.TheVariants.{Unneeded};
 
+use crate::equipment::{Equipment, equip};
 use crate::gates::Gate;
 use crate::job_list::{Job, jobs};
 use crate::job_work::Question;
-use crate::teams::{Helper, join_all, settle, split_off, tell, worked};
+use crate::teams::{join_all, settle, split_off, tell, worked};
 use book_share::{Pass, Share, Started};
 use lemma_core::{Book, Looked};
 use line_instance::Instance;
@@ -25,6 +28,7 @@ use station_search::Units;
 use std::alloc::Global;
 use std::sync::Wait;
 use std::thread::Threads;
+use steal_pool::Hands;
 
 /// What the helpers did for a question.
 #[derive(Clone, Copy, Debug, PartialEq, Eq)]
@@ -69,9 +73,9 @@ fn help_at<R: Threads + Wait + Sync, G: Gate>(
     inst: &Instance,
     question: Question,
     jobs: &[Job],
+    equipment: Equipment,
     share: Share,
     pass: Pass,
-    helpers: Vec<Helper>,
     units: &mut [Units],
     gate: &G,
 ) -> Help
@@ -84,8 +88,7 @@ fn help_at<R: Threads + Wait + Sync, G: Gate>(
     requires few { question.most ≤ 1024 }
     requires team { IsTeam units.old }
     requires helper { 0 < length units.old }
-    requires none { helpers.items ≡ [] }
-    requires room { length units.old ≤ vec_capacity helpers }
+    requires equipped { IsEquipped jobs.now question.most (length units.old) equipment }
     ensures help { (book : BookView) → IsBook book → pass.view ≡ newcomer book
         → book.about ≡ record { line = inst.now; kind = question.kind; cycle = question.cycle }
         → Helps book result.book (all_used units.new - all_used units.old)
@@ -93,12 +96,21 @@ fn help_at<R: Threads + Wait + Sync, G: Gate>(
     ensures reserved { IsReserved result.book }
     ensures spent { HaveSpent units.old units.new }
 {
+    let Equipment {
+        pool,
+        hands,
+        helpers,
+        returned,
+    } = equipment;
     let mut pass = pass;
-    let ready = split_off(&share, &mut pass, units, helpers);
-    let helpers = worked(rt, alloc, &share, inst, question, jobs, gate, ready);
+    let ready = split_off(&share, &mut pass, units, hands, helpers);
+    let helpers = worked(
+        rt, alloc, &share, inst, question, jobs, &pool, gate, ready,
+    );
     settle(&helpers, units);
     let told = tell(&helpers);
-    let pass = join_all(&share, pass, helpers);
+    let hands = join_all(&share, &mut pass, helpers, returned);
+    let _closed = pool.close(Hands::from_vec(alloc, hands));
     let book = share.close(rt, pass);
     let _len = book.len();
     let _log = book.log_len();
@@ -113,7 +125,7 @@ fn help_at<R: Threads + Wait + Sync, G: Gate>(
 
 /// Has helpers decide the jobs of the question whether all tasks have a balance in `most` stations, 1 to 1,024, at the
 /// book's cycle, which is 1 to 10^18 in the instance's time unit. There is a helper for each of the units, at most 64, and
-/// each uses its own: one for each job, and one for each load that a search lists. The book is about this instance, and
+/// each uses its own: one for each piece, and one for each load that is gone over. The book is about this instance, and
 /// `reserve_offers` was done for it. Each helper runs in a thread of its own and meets the gate before each publish.
 pub fn call_helpers<R: Threads + Wait + Sync, G: Gate>(
     rt: &R,
@@ -156,7 +168,7 @@ pub fn call_helpers<R: Threads + Wait + Sync, G: Gate>(
             helped: wanting,
         };
     };
-    let Ok(helpers) = Vec::with_capacity(alloc, units.len()) else {
+    let Ok(equipment) = equip(alloc, &jobs, most, units.len()) else {
         return Help {
             book,
             helped: wanting,
@@ -164,7 +176,7 @@ pub fn call_helpers<R: Threads + Wait + Sync, G: Gate>(
     };
     match Share::start(alloc, book) {
         Started::Good(share, pass) => help_at(
-            rt, alloc, inst, question, &jobs, share, pass, helpers, units, gate,
+            rt, alloc, inst, question, &jobs, equipment, share, pass, units, gate,
         ),
         Started::NoMemory(book) => Help {
             book,

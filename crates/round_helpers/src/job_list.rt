@@ -3,9 +3,10 @@
 //! One walk over at most 65,536 loads, with a test of fullness and of the bound for each, until 4,096 jobs are found.
 ghost use Rattle.std.specs.Prelude.{◌≡◌, ◌≤◌, IfOk, IfSome, IsNone, Some};
 ghost use Rattle.line_rules.specs.Entries.{IsOpen};
+ghost use Rattle.line_rules.specs.Loads.{rest};
 ghost use Rattle.line_rules.specs.Ranges.{IsCycle};
 ghost use Rattle.station_load.specs.Walking.{IsWalk};
-ghost use Rattle.round_helpers.specs.Jobs.{AreJobs, job_of};
+ghost use Rattle.round_helpers.specs.Jobs.{AreJobs};
 
 use line_instance::Instance;
 use line_rules::{LineKind, Load};
@@ -54,8 +55,8 @@ pub fn jobs(
         let Some(load) = walk.step(inst) else {
             return Ok(jobs);
         };
-        if let Some(job) = job_at(inst, kind, cycle, &all, most, &walk, &load) {
-            jobs.push(job)?;
+        if let Some(set) = rest_at(inst, kind, cycle, &all, most, &walk, &load) {
+            jobs.push(Job { set, load })?;
             if jobs.len() == MAX_JOBS {
                 return Ok(jobs);
             }
@@ -64,9 +65,9 @@ pub fn jobs(
     Ok(jobs)
 }
 
-// The job of the load at which a walk stands, where the load is full and the bound leaves its rest open for one
-// station less.
-fn job_at(
+/// What the load at which a walk stands leaves of the set, where the load is full and the bound leaves the rest open for
+/// one station less.
+pub fn rest_at(
     inst: &Instance,
     kind: LineKind,
     cycle: u64,
@@ -74,7 +75,7 @@ fn job_at(
     most: u32,
     walk: &Walk,
     load: &Load,
-) -> Option<Job>
+) -> Option<TaskSet>
     requires walk { IsWalk inst.now walk.now }
     requires last { walk.now.last ≡ Some load.now }
     requires same_cycle { walk.now.cycle ≡ cycle }
@@ -82,7 +83,7 @@ fn job_at(
     requires cycle { IsCycle cycle }
     requires some { 1 ≤ most }
     ensures none { IsNone result → IsOpen kind inst.now cycle walk.now.mode set.now most load.now → ⊥ }
-    ensures some { IfSome result (λ j. (j ≡ job_of set.now load.now)
+    ensures some { IfSome result (λ r. (r ≡ rest set.now load.now)
         × IsOpen kind inst.now cycle walk.now.mode set.now most load.now) }
 {
     if !walk.full(inst) {
@@ -92,8 +93,5 @@ fn job_at(
     if exceeds(inst, kind, cycle, &rest, most - 1) {
         return None;
     }
-    Some(Job {
-        set: rest,
-        load: *load,
-    })
+    Some(rest)
 }

@@ -1,18 +1,18 @@
-//! What one helper does: of each of its jobs it asks whether the rest has a balance in one station less than the question
-//! has, and it ends at the first one that has.
+//! What a helper asks of a job: whether the rest has a balance in one station less than the question has.
 //!
 //! A helper with an even number first asks for a better balance than the best one so far: with two stations less than the
 //! least published count, where that is more than it would ask with else. So half of the helpers look for balances and
-//! half for refutations. It works over any desk. A job costs a unit, and so does each load that a search lists.
-ghost use Rattle.std.specs.Prelude.{◌≡◌, ◌+◌, ◌-◌, ◌^◌, ◌<◌, ◌≤◌, true, length, Some, IfOk, OnOk};
+//! half for refutations. It works over any desk. Each load that a search lists costs a unit.
+ghost use Rattle.std.specs.Prelude.{◌≡◌, ◌+◌, ◌-◌, ◌^◌, ◌<◌, ◌≤◌, true, None, length, Some, IfOk, OnOk};
+ghost use Rattle.line_instance.specs.Line.{IsTaskSet};
 ghost use Rattle.line_rules.specs.Entries.{HasAnswer};
 ghost use Rattle.line_rules.specs.Ranges.{IsCycle};
 ghost use Rattle.line_rules.specs.Seats.{AreSeated, around};
 ghost use Rattle.lemma_core.specs.Desks.{Keeps, entries};
-ghost use Rattle.station_search.specs.Decide.{IsFor};
-ghost use Rattle.round_helpers.specs.Jobs.{AreJobs, IsJobOf};
-ghost use Rattle.round_helpers.specs.Works.{Works, IsAsked, IsEnd, fewest_seen, most_added};
-ghost use Rattle.round_helpers.specs.declared.job_work.End.TheVariants as ends;
+ghost use Rattle.station_search.specs.Decide.{IsFor, Decides};
+ghost use Rattle.round_helpers.specs.Jobs.{IsJobOf};
+ghost use Rattle.round_helpers.specs.Works.{Works, IsAnswer, fewest_seen, most_decided, most_added};
+ghost use Rattle.round_helpers.specs.declared.job_work.Answer.TheVariants as answers;
 
 use crate::job_list::Job;
 use lemma_core::{Desk, Offered};
@@ -20,9 +20,10 @@ use line_instance::Instance;
 use line_rules::{LineKind, Load, Loads, Mode};
 use station_search::{Decided, Units, balance_of, choose_mode, decide};
 use std::alloc::{AllocError, Global};
+use task_set::TaskSet;
 
 /// The most stations that a question may ask for beside a load.
-const MOST_BESIDE: u32 = 1023;
+pub const MOST_BESIDE: u32 = 1023;
 
 /// The question whether all tasks have a balance in `most` stations.
 #[derive(Clone, Copy, Debug, PartialEq, Eq)]
@@ -32,10 +33,10 @@ pub struct Question {
     pub most: u32,
 }
 
-/// How a question about a job, or the work on all jobs of a helper, ends.
+/// The answer to a question about a job.
 #[derive(Clone, Copy, Debug, PartialEq, Eq)]
-pub enum End {
-    /// The job, or each one, is refuted.
+pub enum Answer {
+    /// An entry that the desk has seen refutes it.
     Refuted,
     /// A balance was found and offered.
     Found,
@@ -43,15 +44,6 @@ pub enum End {
     Spent,
     /// Out of memory.
     NoMemory,
-}
-
-/// Which jobs a helper has: those whose number leaves `place` when divided by `count`.
-#[derive(Clone, Copy, Debug, PartialEq, Eq)]
-pub struct Deal {
-    /// The helper's place, from 0.
-    pub place: usize,
-    /// How many helpers there are.
-    pub count: usize,
 }
 
 // The loads of a rest, with the job's own load at its end of the line.
@@ -94,8 +86,51 @@ fn offer_job<D: Desk>(
     }
 }
 
+/// Whether a set has a balance in so many stations. The units of this question are taken from those of the helper.
+pub fn ask<D: Desk>(
+    alloc: Global,
+    desk: &mut D,
+    inst: &Instance,
+    question: Question,
+    set: &TaskSet,
+    most: u32,
+    units: &mut Units,
+) -> Decided
+    requires desk { IsFor (D.desk desk.old) inst.now question.kind question.cycle }
+    requires set { IsTaskSet inst.now set.now }
+    requires cycle { IsCycle question.cycle }
+    requires few { most ≤ 1024 }
+    requires units { units.old.used + units.old.left < 2 ^ 64 }
+    ensures keeps { Keeps (D.desk desk.old) (D.desk desk.new) }
+    ensures units { units.new.used + units.new.left ≡ units.old.used + units.old.left }
+    ensures spent { units.old.used ≤ units.new.used }
+    ensures works { let used = units.new.used - units.old.used in
+        Works inst.now question.cycle (D.desk desk.old) (D.desk desk.new) used (most_decided result used) }
+    ensures decides { Decides None question.kind inst.now question.cycle (entries (D.desk desk.new)) set.now most
+        units.new.left result }
+{
+    // They are counted from 0.
+    let mut own = Units {
+        left: units.left,
+        used: 0,
+    };
+    let decided = decide(
+        alloc,
+        desk,
+        inst,
+        question.kind,
+        question.cycle,
+        set,
+        most,
+        &mut own,
+    );
+    units.left = own.left;
+    units.used += own.used;
+    decided
+}
+
 // Asks whether the rest of a job has a balance in so many stations, and offers what is found.
-fn ask<D: Desk>(
+fn ask_job<D: Desk>(
     alloc: Global,
     desk: &mut D,
     inst: &Instance,
@@ -103,7 +138,7 @@ fn ask<D: Desk>(
     job: &Job,
     most: u32,
     units: &mut Units,
-) -> End
+) -> Answer
     requires desk { IsFor (D.desk desk.old) inst.now question.kind question.cycle }
     requires roomy { (D.desk desk.old).roomy ≡ true }
     requires cycle { IsCycle question.cycle }
@@ -116,25 +151,16 @@ fn ask<D: Desk>(
     ensures spent { units.old.used ≤ units.new.used }
     ensures works { let used = units.new.used - units.old.used in
         Works inst.now question.cycle (D.desk desk.old) (D.desk desk.new) used (most_added result used) }
-    ensures asked { IsAsked (D.desk desk.new) question.cycle job.now.set most units.new.left result }
+    ensures answer { IsAnswer (D.desk desk.new) question.cycle job.now.set most units.new.left result }
 {
-    // The units of this question alone are counted from 0.
-    let mut own = Units {
-        left: units.left,
-        used: 0,
-    };
-    let (kind, cycle) = (question.kind, question.cycle);
-    let decided = decide(alloc, desk, inst, kind, cycle, &job.set, most, &mut own);
-    units.left = own.left;
-    units.used += own.used;
-    match decided {
-        Decided::Refuted(_) => End::Refuted,
+    match ask(alloc, desk, inst, question, &job.set, most, units) {
+        Decided::Refuted(_) => Answer::Refuted,
         Decided::Found(loads) => match offer_job(alloc, desk, inst, question, job, loads) {
-            Ok(()) => End::Found,
-            Err(_) => End::NoMemory,
+            Ok(()) => Answer::Found,
+            Err(_) => Answer::NoMemory,
         },
-        Decided::Spent(_) => End::Spent,
-        Decided::NoMemory(_) => End::NoMemory,
+        Decided::Spent(_) => Answer::Spent,
+        Decided::NoMemory(_) => Answer::NoMemory,
     }
 }
 
@@ -148,7 +174,7 @@ fn ask_for_better<D: Desk>(
     job: &Job,
     eager: bool,
     units: &mut Units,
-) -> End
+) -> Answer
     requires desk { IsFor (D.desk desk.old) inst.now question.kind question.cycle }
     requires roomy { (D.desk desk.old).roomy ≡ true }
     requires cycle { IsCycle question.cycle }
@@ -160,23 +186,23 @@ fn ask_for_better<D: Desk>(
     ensures spent { units.old.used ≤ units.new.used }
     ensures works { let used = units.new.used - units.old.used in
         Works inst.now question.cycle (D.desk desk.old) (D.desk desk.new) used (most_added result used) }
-    ensures refuted { result ≡ ends.Refuted
+    ensures refuted { result ≡ answers.Refuted
         → HasAnswer (entries (D.desk desk.new)) job.now.set (question.most - 1) question.cycle }
-    ensures left { result ≡ ends.Spent → units.new.left ≡ 0 }
+    ensures left { result ≡ answers.Spent → units.new.left ≡ 0 }
 {
     if !eager {
-        return End::Found;
+        return Answer::Found;
     }
     let least = desk.least();
     if least <= question.most + 1 {
-        return End::Found;
+        return Answer::Found;
     }
     let most = (least - 2).min(MOST_BESIDE);
-    ask(alloc, desk, inst, question, job, most, units)
+    ask_job(alloc, desk, inst, question, job, most, units)
 }
 
-// Does a job: asks whether its rest has a balance in one station less than the question has.
-fn do_job<D: Desk>(
+/// Asks whether the rest of a job has a balance in one station less than the question has, and offers what is found.
+pub fn do_job<D: Desk>(
     alloc: Global,
     desk: &mut D,
     inst: &Instance,
@@ -184,7 +210,7 @@ fn do_job<D: Desk>(
     job: &Job,
     eager: bool,
     units: &mut Units,
-) -> End
+) -> Answer
     requires desk { IsFor (D.desk desk.old) inst.now question.kind question.cycle }
     requires roomy { (D.desk desk.old).roomy ≡ true }
     requires cycle { IsCycle question.cycle }
@@ -196,56 +222,19 @@ fn do_job<D: Desk>(
     ensures units { units.new.used + units.new.left ≡ units.old.used + units.old.left }
     ensures spent { units.old.used ≤ units.new.used }
     ensures works { let used = units.new.used - units.old.used in
-        Works inst.now question.cycle (D.desk desk.old) (D.desk desk.new) used used }
-    ensures asked { IsAsked (D.desk desk.new) question.cycle job.now.set (question.most - 1) units.new.left result }
+        Works inst.now question.cycle (D.desk desk.old) (D.desk desk.new) used (used + 1) }
+    ensures answer { IsAnswer (D.desk desk.new) question.cycle job.now.set (question.most - 1) units.new.left result }
 {
-    if units.left == 0 {
-        return End::Spent;
-    }
-    units.left -= 1;
-    units.used += 1;
     match ask_for_better(alloc, desk, inst, question, job, eager, units) {
-        End::Found => ask(alloc, desk, inst, question, job, question.most - 1, units),
-        end => end,
+        Answer::Found => ask_job(
+            alloc,
+            desk,
+            inst,
+            question,
+            job,
+            question.most - 1,
+            units,
+        ),
+        answer => answer,
     }
-}
-
-/// Does the jobs of one helper in order, until one of them has a balance, or units or memory end.
-pub fn do_jobs<D: Desk>(
-    alloc: Global,
-    desk: &mut D,
-    inst: &Instance,
-    question: Question,
-    jobs: &[Job],
-    deal: Deal,
-    units: &mut Units,
-) -> End
-    requires desk { IsFor (D.desk desk.old) inst.now question.kind question.cycle }
-    requires roomy { (D.desk desk.old).roomy ≡ true }
-    requires cycle { IsCycle question.cycle }
-    requires jobs { AreJobs question.kind inst.now question.cycle question.most jobs.now }
-    requires deal { 0 < deal.count }
-    requires some { 1 ≤ question.most }
-    requires few { question.most ≤ 1024 }
-    requires units { units.old.used + units.old.left < 2 ^ 64 }
-    ensures keeps { Keeps (D.desk desk.old) (D.desk desk.new) }
-    ensures units { units.new.used + units.new.left ≡ units.old.used + units.old.left }
-    ensures spent { units.old.used ≤ units.new.used }
-    ensures works { let used = units.new.used - units.old.used in
-        Works inst.now question.cycle (D.desk desk.old) (D.desk desk.new) used used }
-    ensures ends { IsEnd (D.desk desk.new) question.cycle question.most jobs.now deal.place deal.count units.new.left
-        result }
-{
-    // The helpers are numbered from 1: those with an even number are eager.
-    let eager = deal.place % 2 == 1;
-    'working: for k in 0..jobs.len() {
-        if k % deal.count != deal.place {
-            continue;
-        }
-        match do_job(alloc, desk, inst, question, &jobs[k], eager, units) {
-            End::Refuted => {}
-            end => return end,
-        }
-    }
-    End::Refuted
 }

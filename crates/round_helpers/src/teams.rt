@@ -1,69 +1,74 @@
-//! A team: the helpers of a question, each with a pass of the share and units of its own.
+//! A team: the helpers of a question, each with a pass of the share, a hand of the pool and units of its own.
 //!
 //! The first pass is split, once for each helper. Then the helpers work in threads, one each, and afterwards their passes
-//! are joined into the first one again, so that it has seen what any of them has and has all their places.
+//! are joined into the first one again, so that it has seen what any of them has and has all their places; the hands go
+//! back, for the pool to be closed.
 ghost use Rattle.std.specs.Prelude.{◌≡◌, ℕ, ◌+◌, ◌-◌, ◌^◌, ◌<◌, ◌≤◌, List, [], length, vec_len, vec_capacity};
 ghost use Rattle.line_instance.specs.Line.{Line};
-ghost use Rattle.line_rules.specs.Ranges.{IsCycle};
-ghost use Rattle.lemma_core.specs.History.{Item};
 ghost use Rattle.book_share.specs.Calls.{IsPassOf};
-ghost use Rattle.book_share.specs.Passes.{Base};
-ghost use Rattle.round_helpers.specs.Jobs.{AreJobs};
-ghost use Rattle.round_helpers.specs.Seats.{IsBare, AreReady, HasWorked, HaveAllWorked, HasJoined};
+ghost use Rattle.round_helpers.specs.Seats.{IsBare, AreReady, HasWorked, HaveAllWorked, HasJoined, hands_of};
 ghost use Rattle.round_helpers.specs.Teams.{MayWork, MayAllWork, ArePassesOf, AreJoinable, AreSettled, settled, IsTold};
 
 use crate::gates::Gate;
 use crate::helper_desk::HelperDesk;
 use crate::helping::Helped;
 use crate::job_list::Job;
-use crate::job_work::{Deal, End, Question, do_jobs};
+use crate::job_work::Question;
+use crate::piece_work::{End, do_pieces};
 use book_share::{Pass, Share};
 use line_instance::Instance;
 use station_search::Units;
 use std::alloc::Global;
 use std::sync::Wait;
 use std::thread::{self, Threads};
+use steal_pool::{Hand, Hands, Pool};
 
-/// A helper: its pass, its units, which count what it uses from 0, and how its work ended.
+/// A helper: its pass, its hand, its units, which count what it uses from 0, and how its work ended.
 #[derive(Drop)]
 pub struct Helper {
     pub pass: Pass,
+    pub hand: Hand,
     pub units: Units,
     pub end: End,
 }
 
-// A helper before its work, with a pass of its own and so many units.
-fn ready(pass: Pass, left: u64) -> Helper
+// A helper before its work, with a pass and a hand of its own and so many units.
+fn ready(pass: Pass, hand: Hand, left: u64) -> Helper
     ensures pass { result.pass ≡ pass }
+    ensures hand { result.hand ≡ hand }
     ensures left { result.units.left ≡ left }
     ensures used { result.units.used ≡ 0 }
 {
     Helper {
         pass,
+        hand,
         units: Units { left, used: 0 },
-        end: End::Refuted,
+        end: End::Empty,
     }
 }
 
-/// Splits a pass off for each helper, with the units that are left to it. There is room for them.
+/// Splits a pass off for each helper, with its hand and the units that are left to it. There is room for them.
 pub fn split_off(
     share: &Share,
     pass: &mut Pass,
     units: &[Units],
+    hands: Hands,
     helpers: Vec<Helper>,
 ) -> Vec<Helper>
     requires bare { IsBare share.now pass.old.view.base pass.old.view.seen 1024 pass.old }
     requires few { length units.now ≤ 64 }
+    requires hands { length hands ≡ length units.now }
     requires none { helpers.items ≡ [] }
     requires room { length units.now ≤ vec_capacity helpers }
     ensures bare { IsBare share.now pass.old.view.base pass.old.view.seen (1024 - length units.now) pass.new }
     ensures count { vec_len result ≡ length units.now }
-    ensures ready { AreReady share.now pass.old.view.base pass.old.view.seen units.now result.items }
+    ensures ready { AreReady share.now pass.old.view.base pass.old.view.seen units.now hands result.items }
 {
     let mut helpers = helpers;
-    for k in 0..units.len() {
+    for hand in hands.into_vec() {
         let own = share.split(pass);
-        helpers.push_reserved(ready(own, units[k].left));
+        let left = units[helpers.len()].left;
+        helpers.push_reserved(ready(own, hand, left));
     }
     helpers
 }
@@ -76,31 +81,38 @@ fn work<R: Wait, G: Gate>(
     inst: &Instance,
     question: Question,
     jobs: &[Job],
+    pool: &Pool,
     gate: &G,
-    deal: Deal,
+    place: usize,
     helper: &mut Helper,
 )
-    requires may { MayWork share.now inst.now question jobs.now deal.count deal.place helper.old }
+    requires may { MayWork share.now inst.now question jobs.now pool.now helper.old }
+    requires few { place < 64 }
     ensures worked { HasWorked share.now helper.old.pass.view.base helper.old.pass.view.seen inst.now question jobs.now
-        deal.count deal.place helper.old.units.left helper.new }
+        pool.now helper.old.hand helper.old.units.left helper.new }
 {
     let _left = helper.units.left;
+    // Helpers are numbered from 1: those with an even number are eager.
+    let eager = place % 2 == 1;
     helper.pass.keep_marks(alloc);
     let mut desk = HelperDesk {
         rt,
         share,
         pass: &mut helper.pass,
         gate,
-        helper: deal.place as u32 + 1,
+        helper: place as u32 + 1,
         publishes: 0,
     };
-    let end = do_jobs(
+    let end = do_pieces(
+        rt,
         alloc,
         &mut desk,
         inst,
         question,
         jobs,
-        deal,
+        pool,
+        &mut helper.hand,
+        eager,
         &mut helper.units,
     );
     helper.end = end;
@@ -114,23 +126,21 @@ fn work_in_threads<R: Threads + Wait + Sync, G: Gate>(
     inst: &Instance,
     question: Question,
     jobs: &[Job],
+    pool: &Pool,
     gate: &G,
     helpers: &mut [Helper],
 )
     requires some { 0 < length helpers.old }
     requires few { length helpers.old ≤ 64 }
-    requires each { MayAllWork share.now inst.now question jobs.now helpers.old }
+    requires each { MayAllWork share.now inst.now question jobs.now pool.now helpers.old }
     ensures count { length helpers.new ≡ length helpers.old }
-    ensures each { HaveAllWorked share.now inst.now question jobs.now helpers.old helpers.new }
+    ensures each { HaveAllWorked share.now inst.now question jobs.now pool.now helpers.old helpers.new }
 {
     let count = helpers.len();
     let shift = |place: usize, helper: &mut Helper|
-        requires { MayWork share.now inst.now question jobs.now count place helper.now }
-        ensures { HasWorked share.entry.now helper.entry.now.pass.view.base helper.entry.now.pass.view.seen inst.entry.now question jobs.entry.now count place helper.entry.now.units.left helper.exit.now }
-    {
-        let deal = Deal { place, count };
-        work(rt, alloc, share, inst, question, jobs, gate, deal, helper)
-    };
+        requires { MayWork share.now inst.now question jobs.now pool.now helper.now × (place < 64) }
+        ensures { HasWorked share.entry.now helper.entry.now.pass.view.base helper.entry.now.pass.view.seen inst.entry.now question jobs.entry.now pool.entry.now helper.entry.now.hand helper.entry.now.units.left helper.exit.now }
+    { work(rt, alloc, share, inst, question, jobs, pool, gate, place, helper) };
     thread::for_each_mut(rt, helpers, count, &shift);
 }
 
@@ -142,35 +152,56 @@ pub fn worked<R: Threads + Wait + Sync, G: Gate>(
     inst: &Instance,
     question: Question,
     jobs: &[Job],
+    pool: &Pool,
     gate: &G,
     helpers: Vec<Helper>,
 ) -> Vec<Helper>
     requires some { 0 < length helpers.items }
     requires few { length helpers.items ≤ 64 }
-    requires each { MayAllWork share.now inst.now question jobs.now helpers.items }
+    requires each { MayAllWork share.now inst.now question jobs.now pool.now helpers.items }
     ensures count { length result.items ≡ length helpers.items }
-    ensures each { HaveAllWorked share.now inst.now question jobs.now helpers.items result.items }
+    ensures each { HaveAllWorked share.now inst.now question jobs.now pool.now helpers.items result.items }
 {
     let mut helpers = helpers;
-    work_in_threads(rt, alloc, share, inst, question, jobs, gate, &mut helpers);
+    work_in_threads(
+        rt,
+        alloc,
+        share,
+        inst,
+        question,
+        jobs,
+        pool,
+        gate,
+        &mut helpers,
+    );
     helpers
 }
 
-/// Joins the passes of helpers into the first one, which has no own places.
-pub fn join_all(share: &Share, pass: Pass, helpers: Vec<Helper>) -> Pass
-    requires pass { IsPassOf share.now pass }
-    requires none { pass.view.own ≡ [] }
+/// Joins the passes of helpers into the first one, which has no own places, and gives their hands back. There is room for
+/// these.
+pub fn join_all(
+    share: &Share,
+    pass: &mut Pass,
+    helpers: Vec<Helper>,
+    returned: Vec<Hand>,
+) -> Vec<Hand>
+    requires pass { IsPassOf share.now pass.old }
+    requires none { pass.old.view.own ≡ [] }
     requires each { ArePassesOf share.now helpers.items }
-    ensures pass { IsPassOf share.now result }
-    ensures joined { (line : Line) (X : ℕ) → AreJoinable pass.view.base pass.view.seen line X helpers.items
-        → HasJoined share.now pass.view.base pass.view.seen pass.view.parts line X helpers.items result }
+    requires empty { returned.items ≡ [] }
+    requires room { length helpers.items ≤ vec_capacity returned }
+    ensures pass { IsPassOf share.now pass.new }
+    ensures joined { (line : Line) (X : ℕ) → AreJoinable pass.old.view.base pass.old.view.seen line X helpers.items
+        → HasJoined share.now pass.old.view.base pass.old.view.seen pass.old.view.parts line X helpers.items pass.new }
+    ensures hands { result.items ≡ hands_of helpers.items }
 {
-    let mut pass = pass;
+    let mut returned = returned;
     for helper in helpers {
-        let Helper { pass: other, .. } = helper;
-        share.join(&mut pass, other);
+        let Helper { pass: other, hand, .. } = helper;
+        share.join(pass, other);
+        returned.push_reserved(hand);
     }
-    pass
+    returned
 }
 
 /// Takes over what helpers have left, and counts what they used.
@@ -187,14 +218,14 @@ pub fn settle(helpers: &[Helper], units: &mut [Units])
     }
 }
 
-/// What helpers did, by how their work ended: the first one that didn't end with its last job refuted tells it.
+/// What helpers did, by how their work ended: the first one that didn't end with all deques empty tells it.
 pub fn tell(helpers: &[Helper]) -> Helped
     requires { length helpers.now ≤ 64 }
     ensures { IsTold helpers.now result }
 {
     for k in 0..helpers.len() {
         match helpers[k].end {
-            End::Refuted => {}
+            End::Empty => {}
             End::Found => return Helped::Whole,
             End::Spent => return Helped::Cut(k as u32 + 1),
             End::NoMemory => return Helped::NoMemory,

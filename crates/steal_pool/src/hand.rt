@@ -54,4 +54,19 @@ impl Hands {
     {
         self.hands.as_mut_slice()
     }
+
+    /// The hands in order, one for each worker to own.
+    pub fn into_vec(self) -> Vec<Hand>
+        ensures { result.items ≡ self }
+    {
+        let Hands { hands, .. } = self;
+        hands
+    }
+
+    /// The hands that workers owned, in the order of the pool again.
+    pub fn from_vec(alloc: Global, hands: Vec<Hand>) -> Hands
+        ensures { result ≡ hands.items }
+    {
+        Hands { hands, alloc }
+    }
 }
