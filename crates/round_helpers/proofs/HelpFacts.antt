@@ -1,8 +1,9 @@
 -- From the work of all helpers to the book that comes back.
-use Rattle.std.proofs.Common.{◌≡◌, ℕ, zero, suc, ◌+◌, ◌-◌, ◌%◌, ◌<◌, ◌≤◌, Bool, List, [], ◌∷◌, ◌++◌, length, length-append, refl, sym, ap, ◌∙◌, subst, inl, inr, arith, Some}
+use Rattle.std.proofs.Common.{◌≡◌, ℕ, ◌+◌, ◌-◌, ◌<◌, ◌≤◌, Bool, true, List, [], ◌++◌, length, length-append, refl, sym, ap, ◌∙◌, subst, inl, inr, arith, Some}
 use Rattle.std.specs.List.{range_with_len}
 use Rattle.std.specs.Prelude.{slice_get}
-use Rattle.std.proofs.Math.Nat.{mod-lt}
+use Rattle.std.proofs.lemmas.List.{length-map}
+use Rattle.std.proofs.lemmas.Option.{same_Some, slice_get_within}
 use Rattle.atomic_table.specs.Seated.{TableId}
 use Rattle.line_instance.specs.Line.{Line}
 use Rattle.line_rules.specs.Entries.{HasAnswer}
@@ -27,31 +28,26 @@ use Rattle.station_search.specs.declared.answers.Units.{Units}
 use Rattle.round_helpers.specs.Growth.{AreAtCycle, Helps}
 use Rattle.round_helpers.specs.Helping.{all_used, HaveSpent, HasAllJobs, HasHelped, IsTeam}
 use Rattle.round_helpers.specs.Jobs.{AreJobs}
-use Rattle.round_helpers.specs.Seats.{IsBare, AreReady, HasWorked, HaveAllWorked, HaveWorked, HasJoined, used_by}
+use Rattle.steal_pool.specs.declared.closing.Closed.{Closed}
+use Rattle.steal_pool.specs.declared.piece.Piece.{Piece}
+use Rattle.steal_pool.specs.Closing.{IsClosed, AreMarked}
+use Rattle.steal_pool.specs.Hands.{DequeId, HandView, IsHandOf, AreHandsOf, new_hands, mark_of, tooks}
+use Rattle.round_helpers.specs.Pieces.{KeepsOwn, IsEnd, IsRefuted, pieces_of}
+use Rattle.round_helpers.specs.Seats.{IsBare, AreReady, HasWorked, HaveAllWorked, HaveWorked, HasJoined, hands_of, used_by}
 use Rattle.round_helpers.specs.Teams.{MayAllWork, ArePassesOf, AreJoinable, AreSettled, settled, IsTold}
-use Rattle.round_helpers.specs.Works.{IsEnd}
 use Rattle.round_helpers.specs.Works as works
 use Rattle.round_helpers.specs.declared.helping.Helped.{Helped}
 use Rattle.round_helpers.specs.declared.helping.Helped.TheVariants as helped
 use Rattle.round_helpers.specs.declared.job_list.Job.{Job}
-use Rattle.round_helpers.specs.declared.job_work.End.{End}
-use Rattle.round_helpers.specs.declared.job_work.End.TheVariants as ends
+use Rattle.round_helpers.specs.declared.piece_work.End.{End}
+use Rattle.round_helpers.specs.declared.piece_work.End.TheVariants as ends
 use Rattle.round_helpers.specs.declared.job_work.Question.{Question}
 use Rattle.round_helpers.specs.declared.teams.Helper.{Helper}
 use Rattle.round_helpers.proofs.AllPlaces.{all_own}
 use Rattle.round_helpers.proofs.Growing.{has_longer}
+use Rattle.round_helpers.proofs.PieceFacts.{get_there, map_there, none_yet, taken_by}
 use Rattle.round_helpers.proofs.Ranges.{at_range}
 use Rattle.round_helpers.proofs.SettleFacts.{settled_left, settled_spent, settled_used}
-
-get_within : {X : Type 0} (xs : List X) (k : ℕ) (x : X) → slice_get xs k ≡ Some x → k < length xs
-get_within [] k x e = absurd (cc)
-get_within (y ∷ xs) zero x e = omega arith
-get_within (y ∷ xs) (suc k) x e = omega (arith, get_within xs k x e)
-
-get_there : {X : Type 0} (xs : List X) (k : ℕ) → k < length xs → (x : X) × (slice_get xs k ≡ Some x)
-get_there [] k l = absurd (omega (arith, l))
-get_there (x ∷ xs) zero l = (x, refl)
-get_there (x ∷ xs) (suc k) l = get_there xs k (omega (arith, l))
 
 -- a pass that has seen all of a book's log, and has no own places
 pub bare_first : (share : TableId) (p : PassOf) (book : BookView) → IsPassOf share p → p.view ≡ newcomer book
@@ -66,14 +62,20 @@ bare_first share p book of e = record {
 
 -- each helper that is ready may work
 pub may_work : (share : TableId) (base : Base) (seen : List Item) (line : Line) (question : Question) (jobs : List Job)
-    (us : List Units) (hs : List Helper) → length hs ≡ length us → length us ≤ 64
-    → AreReady share base seen us hs → base.about ≡ record { line = line; kind = question.kind; cycle = question.cycle }
+    (pool : List DequeId) (us : List Units) (hands : List HandView) (hs : List Helper) → length hs ≡ length us
+    → length hands ≡ length us → length us ≤ 64 → AreReady share base seen us hands hs
+    → base.about ≡ record { line = line; kind = question.kind; cycle = question.cycle }
     → IsCycle question.cycle → 1 ≤ question.most → question.most ≤ 1024
-    → AreJobs question.kind line question.cycle question.most jobs
-    → MayAllWork share line question jobs hs
-may_work share base seen line question jobs us hs long few ready about cycle some most are k h e =
-    let u = get_there us k (omega (arith, long, get_within hs k h e)) in
-    let r = ready k h u.0 e u.1 in
+    → AreJobs question.kind line question.cycle question.most jobs → AreHandsOf pool hands
+    → hands ≡ new_hands pool (pieces_of question.most jobs)
+    → MayAllWork share line question jobs pool hs
+may_work share base seen line question jobs pool us hands hs long as_many few ready about cycle some most are hands_are new k h e =
+    let u = get_there us k (omega (arith, long, slice_get_within hs k h e)) in
+    let v = get_there hands k (omega (arith, long, as_many, slice_get_within hs k h e)) in
+    let r = ready k h u.0 v.0 e u.1 v.1 in
+    let N : List HandView → Type 0 = λ z. slice_get z k ≡ Some v.0 in
+    let H : HandView → Type 0 = λ z. IsHandOf pool z in
+    let F : HandView → Type 0 = λ z. (i : ℕ) (xs : List Piece) → slice_get (tooks z) i ≡ Some xs → xs ≡ [] in
     record {
       bare = record {
         pass = r.bare.pass;
@@ -87,57 +89,88 @@ may_work share base seen line question jobs us hs long few ready about cycle som
       some = some;
       most = most;
       are = are;
-      place_below = get_within hs k h e;
-      few = omega (arith, long, few);
+      few = omega (arith, slice_get_within hs k h e, long, few);
+      own_hand = subst H (sym r.own_hand) (hands_are.each k v.0 v.1).1;
+      fresh = subst F (sym r.own_hand) (none_yet pool (pieces_of question.most jobs) k v.0 (subst N new v.1));
       used = r.used;
     }
 
 -- each helper that was ready has worked
 pub have_worked : (share : TableId) (base : Base) (seen : List Item) (line : Line) (question : Question)
-    (jobs : List Job) (us : List Units) (before after : List Helper) → length before ≡ length us
-    → AreReady share base seen us before
-    → HaveAllWorked share line question jobs before after
-    → HaveWorked share base seen line question jobs us after
-have_worked share base seen line question jobs us before after long ready worked k h u e f =
-    let a = get_there before k (omega (arith, long, get_within us k u f)) in
-    let r = ready k a.0 u a.1 f in
+    (jobs : List Job) (pool : List DequeId) (us : List Units) (hands : List HandView) (before after : List Helper)
+    → length before ≡ length us → AreReady share base seen us hands before
+    → HaveAllWorked share line question jobs pool before after
+    → HaveWorked share base seen line question jobs pool us hands after
+have_worked share base seen line question jobs pool us hands before after long ready worked k h u v e f g =
+    let a = get_there before k (omega (arith, long, slice_get_within us k u f)) in
+    let r = ready k a.0 u v a.1 f g in
     let B : Base → Type 0 =
-    λ z. HasWorked share z a.0.pass.view.seen line question jobs (length before) k a.0.units.left h in
+    λ z. HasWorked share z a.0.pass.view.seen line question jobs pool a.0.hand a.0.units.left h in
     let S : List Item → Type 0 =
-    λ z. HasWorked share base z line question jobs (length before) k a.0.units.left h in
-    let L : ℕ → Type 0 = λ z. HasWorked share base seen line question jobs z k a.0.units.left h in
-    let U : ℕ → Type 0 = λ z. HasWorked share base seen line question jobs (length us) k z h in
-    subst U r.left (subst L long (subst S r.bare.history (subst B r.bare.same (worked k a.0 h a.1 e))))
+    λ z. HasWorked share base z line question jobs pool a.0.hand a.0.units.left h in
+    let V : HandView → Type 0 = λ z. HasWorked share base seen line question jobs pool z a.0.units.left h in
+    let U : ℕ → Type 0 = λ z. HasWorked share base seen line question jobs pool v z h in
+    subst U r.left (subst V r.own_hand (subst S r.bare.history (subst B r.bare.same (worked k a.0 h a.1 e))))
 
 module _ (share : TableId) (base : Base) (seen : List Item) (line : Line) (question : Question) (jobs : List Job)
-    (us : List Units) (hs : List Helper) (long : length hs ≡ length us)
-    (all : HaveWorked share base seen line question jobs us hs) where
+    (pool : List DequeId) (us : List Units) (hands : List HandView) (hs : List Helper) (long : length hs ≡ length us)
+    (as_many : length hands ≡ length us)
+    (all : HaveWorked share base seen line question jobs pool us hands hs) where
   worked_at : (k : ℕ) (h : Helper) → slice_get hs k ≡ Some h
-      → (u : Units) × ((slice_get us k ≡ Some u) × HasWorked share base seen line question jobs (length us) k u.left h)
+      → (u : Units) × (v : HandView) × (slice_get us k ≡ Some u) × (slice_get hands k ≡ Some v)
+      × HasWorked share base seen line question jobs pool v u.left h
   worked_at k h e =
-      let u = get_there us k (omega (arith, long, get_within hs k h e)) in (u.0, (u.1, all k h u.0 e u.1))
+      let u = get_there us k (omega (arith, long, slice_get_within hs k h e)) in
+      let v = get_there hands k (omega (arith, long, as_many, slice_get_within hs k h e)) in
+      (u.0, v.0, u.1, v.1, all k h u.0 v.0 e u.1 v.1)
 
   pub passes_are : ArePassesOf share hs
-  passes_are k h e = (worked_at k h e).1.1.pass
+  passes_are k h e = (worked_at k h e).4.pass
 
   pub are_joinable : AreJoinable base seen line question.cycle hs
   are_joinable k h e =
-      let w = (worked_at k h e).1.1 in record { part = w.part; begins = w.begins; added = w.added }
+      let w = (worked_at k h e).4 in record { part = w.part; begins = w.begins; added = w.added }
 
   pub sums_given : (k : ℕ) (u : Units) (h : Helper) → slice_get us k ≡ Some u → slice_get hs k ≡ Some h
       → h.units.used + h.units.left ≡ u.left
-  sums_given k u h e f = (all k h u f e).sum
+  sums_given k u h e f =
+      let w = worked_at k h f in
+      omega (arith, w.4.sum, ap (λ (z : Units). z.left) (same_Some w.0 u (sym w.2 ∙ e)))
 
   pub are_settled : IsTeam us → AreSettled us hs
-  are_settled team k u h e f = omega (arith, team.units k u e, (all k h u f e).sum)
+  are_settled team k u h e f = omega (arith, team.units k u e, sums_given k u h e f)
 
--- The book that comes back, when all passes were joined into one with all parts.
-module _ (share : TableId) (line : Line) (question : Question) (jobs : List Job) (us : List Units) (hs : List Helper)
+  -- the hands that come back are the pool's
+  pub hands_back : AreHandsOf pool hands → AreHandsOf pool (hands_of hs)
+  hands_back are = record {
+    few = are.few;
+    count = length-map hs (λ (h : Helper). h.hand) ∙ (long ∙ (sym as_many ∙ are.count));
+    each = λ k v e.
+        let h = map_there (λ (h : Helper). h.hand) hs k v e in
+        let w = worked_at k h.0 h.1 in
+        let P : HandView → Type 0 = λ z. (z.name ≡ k) × IsHandOf pool z in
+        subst P (sym h.2) (w.4.own_hand.1 ∙ (are.each k w.1 w.3).0, w.4.own_hand.0);
+  }
+
+  -- and keep what was dealt to them
+  pub own_back : (k : ℕ) (v w : HandView) → slice_get hands k ≡ Some v → slice_get (hands_of hs) k ≡ Some w → KeepsOwn v w
+  own_back k v w e f =
+      let h = map_there (λ (h : Helper). h.hand) hs k w f in
+      let x = worked_at k h.0 h.1 in
+      let P : HandView → Type 0 = λ z. KeepsOwn v z in
+      let Q : HandView → Type 0 = λ z. KeepsOwn z h.0.hand in
+      subst P (sym h.2) (subst Q (same_Some x.1 v (sym x.3 ∙ e)) x.4.dealt)
+
+-- The book that comes back, when all passes were joined into one with all parts and the pool was closed.
+module _ (share : TableId) (line : Line) (question : Question) (jobs : List Job) (pool : List DequeId) (us : List Units)
+    (hands : List HandView) (hs : List Helper) (closed : Closed)
     (old new : BookView) (last : PassOf) (base : Base) (long : length hs ≡ length us) (some : 0 < length us)
+    (as_many : length hands ≡ length us) (deques : length pool ≡ length us)
     (base_is : base ≡ record { about = old.about; opening = old.opening; from = length old.events })
     (about : old.about ≡ record { line = line; kind = question.kind; cycle = question.cycle })
     (are : AreJobs question.kind line question.cycle question.most jobs)
-    (all : HaveWorked share base old.events line question jobs us hs)
+    (dealt : hands ≡ new_hands pool (pieces_of question.most jobs)) (ends_with : IsClosed (hands_of hs) closed)
+    (all : HaveWorked share base old.events line question jobs pool us hands hs)
     (joined : HasJoined share base old.events (1024 - length us) line question.cycle hs last)
     (few : length us ≤ 64)
     (same_about : new.about ≡ last.view.base.about) (same_opening : new.opening ≡ last.view.base.opening)
@@ -231,11 +264,20 @@ module _ (share : TableId) (line : Line) (question : Question) (jobs : List Job)
     sees : Begins h.pass.view.seen new.events
     sees = begins_trans h.pass.view.seen last.view.seen new.events (joined.each k h e) begins
 
-    its : (u : Units) × ((slice_get us k ≡ Some u) × HasWorked share base old.events line question jobs (length us) k u.left h)
-    its = worked_at share base old.events line question jobs us hs long all k h e
+    its : (u : Units) × (v : HandView) × (slice_get us k ≡ Some u) × (slice_get hands k ≡ Some v)
+        × HasWorked share base old.events line question jobs pool v u.left h
+    its = worked_at share base old.events line question jobs pool us hands hs long as_many all k h e
+
+    -- its end, as it is known
+    ends_as : (r : End) → h.end ≡ r
+        → IsEnd (desk_by h.pass.view) question.cycle question.most jobs h.hand h.units.left r
+    ends_as r f =
+        let E : End → Type 0 =
+        λ z. IsEnd (desk_by h.pass.view) question.cycle question.most jobs h.hand h.units.left z in
+        subst E f its.4.ends
 
     opening_its : h.pass.view.base.opening ≡ new.opening
-    opening_its = ap (λ (z : Base). z.opening) (its.1.1.same ∙ sym joined.same) ∙ sym same_opening
+    opening_its = ap (λ (z : Base). z.opening) (its.4.same ∙ sym joined.same) ∙ sym same_opening
 
     answered_in : (R : List Bool) (most X : ℕ) → HasAnswer (entries (desk_by h.pass.view)) R most X
         → HasAnswer new.state.entries R most X
@@ -259,39 +301,45 @@ module _ (share : TableId) (line : Line) (question : Question) (jobs : List Job)
           fewest_seen new ok,
         )
 
-  all_refuted : ((k : ℕ) (h : Helper) → slice_get hs k ≡ Some h → h.end ≡ ends.Refuted) → HasAllJobs new question.most
-  all_refuted refuted =
-      let a : new.about ≡ record { line = line; kind = question.kind; cycle = question.cycle } = about_is ∙ about in
-      let A : About → Type 0 = λ z. AreJobs z.kind z.line z.cycle question.most jobs in
-      record {
-        jobs = jobs;
-        are = subst A (sym a) are;
-        each = λ k j e.
-            let place : ℕ = k % length us in
-            let below : place < length hs = omega (arith, mod-lt k some, long) in
-            let h = get_there hs place below in
-            let w = (its place h.0 h.1).1.1 in
-            let E : End → Type 0 =
-            λ z. IsEnd (desk_by h.0.pass.view) question.cycle question.most jobs place (length us) h.0.units.left z in
-            let r : HasAnswer (entries (desk_by h.0.pass.view)) j.set (question.most - 1) question.cycle =
-            (subst E (refuted place h.0 h.1) w.ends) k j (omega (arith, get_within jobs k j e)) e refl in
-            let C : ℕ → Type 0 = λ z. HasAnswer new.state.entries j.set (question.most - 1) z in
-            subst C (sym (ap (λ (z : About). z.cycle) a))
-            (answered_in place h.0 h.1 j.set (question.most - 1) question.cycle r);
-      }
+  module _ (empty : (k : ℕ) (h : Helper) → slice_get hs k ≡ Some h → h.end ≡ ends.Empty) where
+    are_marked : AreMarked (hands_of hs)
+    are_marked k v e =
+        let h = map_there (λ (h : Helper). h.hand) hs k v e in
+        let M : HandView → Type 0 = λ z. mark_of z ≡ true in
+        subst M (sym h.2) (ends_as k h.0 h.1 ends.Empty (empty k h.0 h.1)).1
+
+    -- an entry of the book refutes each job
+    all_refuted : HasAllJobs new question.most
+    all_refuted =
+        let a : new.about ≡ record { line = line; kind = question.kind; cycle = question.cycle } = about_is ∙ about in
+        let A : About → Type 0 = λ z. AreJobs z.kind z.line z.cycle question.most jobs in
+        record {
+          jobs = jobs;
+          are = subst A (sym a) are;
+          each = λ k j e.
+              let t = taken_by pool question.most jobs hands (hands_of hs) closed dealt (as_many ∙ sym deques)
+              (length-map hs (λ (h : Helper). h.hand) ∙ (long ∙ sym as_many)) (omega (arith, some, deques))
+              (own_back share base old.events line question jobs pool us hands hs long as_many all) ends_with are_marked
+              k j e in
+              let h = map_there (λ (h : Helper). h.hand) hs t.0 t.1 t.6 in
+              let T : HandView → Type 0 = λ z. slice_get (tooks z) t.2 ≡ Some t.4 in
+              let K : ℕ → Type 0 = λ z. slice_get jobs z ≡ Some j in
+              let r : IsRefuted (desk_by h.0.pass.view) question.cycle question.most j =
+              (ends_as t.0 h.0 h.1 ends.Empty (empty t.0 h.0 h.1)).0 t.2 t.3 t.4 t.5 (subst T h.2 t.7) t.8 t.10 j
+              (subst K (sym t.9) e) in
+              let C : ℕ → Type 0 = λ z. HasAnswer new.state.entries j.set (question.most - 1) z in
+              subst C (sym (ap (λ (z : About). z.cycle) a))
+              (answered_in t.0 h.0 h.1 j.set (question.most - 1) question.cycle r);
+        }
 
   pub has_helped : (told : Helped) → IsTold hs told → HasHelped old new question.most (settled us hs) told
   has_helped helped.Unneeded t = absurd t
   has_helped helped.Whole (inl r) = inl (all_refuted r)
   has_helped helped.Whole (inr f) =
-      let E : End → Type 0 =
-      λ z. IsEnd (desk_by f.1.pass.view) question.cycle question.most jobs f.0 (length us) f.1.units.left z in
-      inr (fewest_in f.0 f.1 f.2 question.most (subst E f.3 (its f.0 f.1 f.2).1.1.ends))
+      inr (fewest_in f.0 f.1 f.2 question.most (ends_as f.0 f.1 f.2 ends.Found f.3))
   has_helped (helped.Cut n) t =
       let v = settled_left us hs t.0 t.1 long t.3 in
-      let E : End → Type 0 =
-      λ z. IsEnd (desk_by t.1.pass.view) question.cycle question.most jobs t.0 (length us) t.1.units.left z in
-      let none : t.1.units.left ≡ 0 = subst E t.4 (its t.0 t.1 t.3).1.1.ends in
+      let none : t.1.units.left ≡ 0 = ends_as t.0 t.1 t.3 ends.Spent t.4 in
       (t.0, v.0, t.2, v.1.0, v.1.1 ∙ none)
   has_helped helped.NoMemory t = tt
 
@@ -311,12 +359,14 @@ joined_as share base seen parts line X hs p q b j able =
     subst R b.part (subst Q b.history (subst P b.same (j (subst A (sym b.same) (subst B (sym b.history) able)))))
 
 -- what comes of the help of a team
-pub comes_back : (share : TableId) (line : Line) (question : Question) (jobs : List Job) (us units : List Units)
-    (hs : List Helper) (first bare last : PassOf) (old new : BookView) (told : Helped) → length hs ≡ length us
-    → 0 < length us → length us ≤ 64 → first.view ≡ newcomer old
+pub comes_back : (share : TableId) (line : Line) (question : Question) (jobs : List Job) (pool : List DequeId)
+    (us units : List Units) (hands : List HandView) (hs : List Helper) (closed : Closed) (first bare last : PassOf)
+    (old new : BookView) (told : Helped) → length hs ≡ length us
+    → 0 < length us → length us ≤ 64 → length hands ≡ length us → length pool ≡ length us → first.view ≡ newcomer old
     → old.about ≡ record { line = line; kind = question.kind; cycle = question.cycle }
     → AreJobs question.kind line question.cycle question.most jobs
-    → HaveWorked share first.view.base first.view.seen line question jobs us hs
+    → hands ≡ new_hands pool (pieces_of question.most jobs) → IsClosed (hands_of hs) closed
+    → HaveWorked share first.view.base first.view.seen line question jobs pool us hands hs
     → IsBare share first.view.base first.view.seen (1024 - length us) bare
     → ((l : Line) (X : ℕ) → AreJoinable bare.view.base bare.view.seen l X hs
     → HasJoined share bare.view.base bare.view.seen bare.view.parts l X hs last)
@@ -324,30 +374,33 @@ pub comes_back : (share : TableId) (line : Line) (question : Question) (jobs : L
     → (last.view.parts ≡ 1024 → AreAllFrom last.view.base.from (length new.events) last.view.own)
     → IsReserved new → IsBook old → IsBook new → units ≡ settled us hs → IsTold hs told
     → Helps old new (all_used units - all_used us) × HasHelped old new question.most units told
-comes_back share line question jobs us units hs first bare last old new told long some few e about are all split join
-    same_about same_opening begins whole reserved ok_old ok is t =
-    let W : PassView → Type 0 = λ z. HaveWorked share z.base z.seen line question jobs us hs in
+comes_back share line question jobs pool us units hands hs closed first bare last old new told long some few as_many deques
+    e about are dealt ends_with all split join same_about same_opening begins whole reserved ok_old ok is t =
+    let W : PassView → Type 0 = λ z. HaveWorked share z.base z.seen line question jobs pool us hands hs in
     let base : Base = record { about = old.about; opening = old.opening; from = length old.events } in
-    let worked : HaveWorked share base old.events line question jobs us hs = subst W e all in
+    let worked : HaveWorked share base old.events line question jobs pool us hands hs = subst W e all in
     let J : PassView → Type 0 = λ z. IsBare share z.base z.seen (1024 - length us) bare in
     let joined : HasJoined share base old.events (1024 - length us) line question.cycle hs last =
     joined_as share base old.events (1024 - length us) line question.cycle hs bare last (subst J e split)
-    (join line question.cycle) (are_joinable share base old.events line question jobs us hs long worked) in
+    (join line question.cycle)
+    (are_joinable share base old.events line question jobs pool us hands hs long as_many worked) in
     let n : used_by hs ≡ all_used units - all_used us =
     omega (arith, settled_used us hs long, ap (λ (z : List Units). all_used z) is) in
     let H : ℕ → Type 0 = λ z. Helps old new z in
     let U : List Units → Type 0 = λ z. HasHelped old new question.most z told in (
-      subst H n (helps share line question jobs us hs old new last base long some refl about are worked joined few
-          same_about same_opening begins whole reserved ok_old ok),
-      subst U (sym is) (has_helped share line question jobs us hs old new last base long some refl about are worked
-          joined few same_about same_opening begins whole reserved ok_old ok told t),
+      subst H n (helps share line question jobs pool us hands hs closed old new last base long some as_many deques refl
+          about are dealt ends_with worked joined few same_about same_opening begins whole reserved ok_old ok),
+      subst U (sym is) (has_helped share line question jobs pool us hands hs closed old new last base long some as_many
+          deques refl about are dealt ends_with worked joined few same_about same_opening begins whole reserved ok_old ok
+          told t),
     )
 
 pub spent_back : (share : TableId) (base : Base) (seen : List Item) (line : Line) (question : Question)
-    (jobs : List Job) (us units : List Units) (hs : List Helper) → length hs ≡ length us
-    → HaveWorked share base seen line question jobs us hs → units ≡ settled us hs
+    (jobs : List Job) (pool : List DequeId) (us units : List Units) (hands : List HandView) (hs : List Helper)
+    → length hs ≡ length us → length hands ≡ length us
+    → HaveWorked share base seen line question jobs pool us hands hs → units ≡ settled us hs
     → HaveSpent us units
-spent_back share base seen line question jobs us units hs long all is =
+spent_back share base seen line question jobs pool us units hands hs long as_many all is =
     let P : List Units → Type 0 = λ z. HaveSpent us z in
     subst P (sym is)
-    (settled_spent us hs long (sums_given share base seen line question jobs us hs long all))
+    (settled_spent us hs long (sums_given share base seen line question jobs pool us hands hs long as_many all))

@@ -309,14 +309,15 @@ module _ (kind : LineKind) (line : Line) (ok : IsLine line) (ranked : IsRanked l
             of_mode set last jobs (sym (append-nil jobs)) h.few
 
         -- a load that is one
-        pub joins : (job : Job) (more : List Job) → (job ≡ job_of R l) × IsOpen kind line c m R most l
-            → more ≡ jobs ++ job ∷ [] → length more ≤ 4096 → IsListing kind line c most (k + 1) new more
-        joins job more o e few =
+        pub joins : (r : List Bool) (more : List Job) → (r ≡ rest R l) × IsOpen kind line c m R most l
+            → more ≡ jobs ++ record { set = r; load = l } ∷ [] → length more ≤ 4096
+            → IsListing kind line c most (k + 1) new more
+        joins r more o e few =
             let P : Mode → Type 0 = λ z. IsOpen kind line c z R most l in
             let Q : List Bool → Type 0 = λ z. IsOpen kind line c mode z most l in
-            let j : job ≡ job_of (all_tasks line) l = o.0 ∙ ap (λ (z : List Bool). job_of z l) all in
+            let j : r ≡ rest (all_tasks line) l = o.0 ∙ ap (λ (z : List Bool). rest z l) all in
             goes l true (open_so l (subst Q all (subst P to_mode o.1))) (following l next) w cycle of_mode set last more
-            (e ∙ ap (λ (z : Job). jobs ++ z ∷ []) j) few
+            (e ∙ ap (λ (z : List Bool). jobs ++ record { set = z; load = l } ∷ []) j) few
 
     -- no load is left
     pub over : ((l : Load) → IsLoad line walk.cycle walk.mode walk.set l → After line walk.last l → ⊥) → h.ahead ≡ []

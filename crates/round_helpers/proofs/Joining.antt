@@ -1,8 +1,9 @@
--- Passes split off for helpers, and joined again one by one.
-use Rattle.std.proofs.Common.{◌≡◌, ℕ, ◌+◌, ◌-◌, ◌≤◌, List, [], ◌∷◌, ◌++◌, length, length-append, refl, sym, ap, ◌∙◌, subst, inl, inr, arith, append_assoc, Some, cond}
+-- Passes split off for helpers, each with its hand, and joined again one by one.
+use Rattle.std.proofs.Common.{◌≡◌, ℕ, ◌+◌, ◌-◌, ◌<◌, ◌≤◌, List, [], ◌∷◌, ◌++◌, length, length-append, refl, sym, ap, ◌∙◌, subst, inl, inr, arith, append_assoc, Some, cond}
 use Rattle.std.specs.Prelude.{slice_get, nat_lt}
 use Rattle.std.proofs.lemmas.Bool.Decides.{nat_tests}
-use Rattle.std.proofs.lemmas.List.{append-nil}
+use Rattle.std.proofs.lemmas.List.{append-nil, length-map, map-append}
+use Rattle.std.proofs.lemmas.Option.{same_Some}
 use Rattle.atomic_table.specs.Seated.{TableId}
 use Rattle.line_instance.specs.Line.{Line}
 use Rattle.line_rules.proofs.ListFacts.{get_push_cases, get_last, get_longer}
@@ -13,7 +14,8 @@ use Rattle.book_share.specs.Passes.{Base, PassView, PassOf}
 use Rattle.book_share.specs.Rule.{left_of, right_of, both_of}
 use Rattle.book_share.proofs.Lists.{begins_refl, begins_trans}
 use Rattle.station_search.specs.declared.answers.Units.{Units}
-use Rattle.round_helpers.specs.Seats.{IsBare, IsReady, AreReady, HasAdded, HasJoined, used_by}
+use Rattle.steal_pool.specs.Hands.{HandView}
+use Rattle.round_helpers.specs.Seats.{IsBare, IsReady, AreReady, HasAdded, HasJoined, hands_of, used_by}
 use Rattle.round_helpers.specs.Teams.{AreJoinable}
 use Rattle.round_helpers.specs.declared.teams.Helper.{Helper}
 use Rattle.round_helpers.proofs.MixedItems.{added_joined}
@@ -49,34 +51,39 @@ bare_right share base seen n p q l b of e = record {
 }
 
 -- one helper more is ready
-pub ready_push : (share : TableId) (base : Base) (seen : List Item) (us : List Units) (hs all : List Helper) (h : Helper)
-    → AreReady share base seen us hs → all ≡ hs ++ h ∷ []
-    → ((u : Units) → slice_get us (length hs) ≡ Some u → IsReady share base seen u.left h)
-    → AreReady share base seen us all
-ready_push share base seen us hs all h ready e last k x u g f =
+ready_push : (share : TableId) (base : Base) (seen : List Item) (us : List Units) (hands : List HandView)
+    (hs all : List Helper) (h : Helper) → AreReady share base seen us hands hs → all ≡ hs ++ h ∷ []
+    → ((u : Units) (v : HandView) → slice_get us (length hs) ≡ Some u → slice_get hands (length hs) ≡ Some v
+    → IsReady share base seen u.left v h)
+    → AreReady share base seen us hands all
+ready_push share base seen us hands hs all h ready e last k x u v g f i =
     let P : List Helper → Type 0 = λ z. slice_get z k ≡ Some x in
     elim (get_push_cases hs h x k (subst P e g)) [
-      | inl y ↦ ready k x u y.1 f
+      | inl y ↦ ready k x u v y.1 f i
       | inr y ↦
-          let R : Helper → Type 0 = λ z. IsReady share base seen u.left z in
-          subst R y.1 (last u (sym (ap (λ (z : ℕ). slice_get us z) y.0) ∙ f))
+          let R : Helper → Type 0 = λ z. IsReady share base seen u.left v z in
+          subst R y.1 (last u v (sym (ap (λ (z : ℕ). slice_get us z) y.0) ∙ f)
+          (sym (ap (λ (z : ℕ). slice_get hands z) y.0) ∙ i))
     ]
 
 used_push : (hs : List Helper) (h : Helper) → used_by (hs ++ h ∷ []) ≡ used_by hs + h.units.used
 used_push [] h = omega arith
 used_push (x ∷ hs) h = omega (arith, used_push hs h)
 
--- A pass with the passes of some helpers joined into it, and the helpers that are left.
-pub record IsJoining (share : TableId) (first : PassOf) (all left : List Helper) (now : PassOf) : Type 0 where
+-- A pass with the passes of some helpers joined into it, the helpers that are left, and the hands that were given back.
+pub record IsJoining (share : TableId) (first : PassOf) (all left : List Helper) (now : PassOf)
+    (given : List HandView) : Type 0 where
   pub done : List Helper
   pub whole : done ++ left ≡ all
   pub pass : IsPassOf share now
   pub joined : (line : Line) (X : ℕ) → AreJoinable first.view.base first.view.seen line X all
       → HasJoined share first.view.base first.view.seen first.view.parts line X done now
+  pub hands : given ≡ hands_of done
 
-pub joins_none : (share : TableId) (first : PassOf) (all : List Helper) → IsPassOf share first → first.view.own ≡ []
-    → IsJoining share first all all first
-joins_none share first all of none = record {
+pub joins_none : (share : TableId) (first : PassOf) (all : List Helper) (given : List HandView) → IsPassOf share first
+    → first.view.own ≡ [] → given ≡ []
+    → IsJoining share first all all first given
+joins_none share first all given of none empty = record {
   done = [];
   whole = refl;
   pass = of;
@@ -102,26 +109,39 @@ joins_none share first all of none = record {
     };
     each = λ k h e. absurd (cc);
   };
+  hands = empty;
 }
 
 -- the next helper is one of all
 pub joins_next : (share : TableId) (first : PassOf) (all left : List Helper) (h : Helper) (p : PassOf)
-    → IsJoining share first all (h ∷ left) p
+    (given : List HandView) → IsJoining share first all (h ∷ left) p given
     → (k : ℕ) × (slice_get all k ≡ Some h)
-joins_next share first all left h p j =
+joins_next share first all left h p given j =
     let whole : (j.done ++ h ∷ []) ++ left ≡ all = append_assoc j.done (h ∷ []) left ∙ j.whole in (
       length j.done,
       sym (ap (λ (z : List Helper). slice_get z (length j.done)) whole)
           ∙ get_longer (j.done ++ h ∷ []) left (length j.done) h (get_last j.done h),
     )
 
+-- there is room for its hand
+pub joins_room : (share : TableId) (first : PassOf) (all left : List Helper) (h : Helper) (p : PassOf)
+    (given : List HandView) → IsJoining share first all (h ∷ left) p given → length given < length all
+joins_room share first all left h p given j = omega (
+  arith,
+  ap (λ (z : List HandView). length z) j.hands,
+  length-map j.done (λ (x : Helper). x.hand),
+  ap (λ (z : List Helper). length z) j.whole,
+  length-append j.done (h ∷ left),
+)
+
 pub joins_one : (share : TableId) (first : PassOf) (all left : List Helper) (h : Helper) (p q : PassOf)
-    → IsJoining share first all (h ∷ left) p → IsPassOf share q → q.view ≡ both_of p.view h.pass.view
+    (given more : List HandView) → IsJoining share first all (h ∷ left) p given → IsPassOf share q
+    → q.view ≡ both_of p.view h.pass.view
     → Begins p.view.seen q.view.seen → Begins h.pass.view.seen q.view.seen → IsSound q.view
-    → IsJoining share first all left q
-joins_one share first all left h p q j of e from_p from_h sound =
+    → more ≡ given ++ h.hand ∷ [] → IsJoining share first all left q more
+joins_one share first all left h p q given more j of e from_p from_h sound grown =
     let whole : (j.done ++ h ∷ []) ++ left ≡ all = append_assoc j.done (h ∷ []) left ∙ j.whole in
-    let here : (k : ℕ) × (slice_get all k ≡ Some h) = joins_next share first all left h p j in
+    let here : (k : ℕ) × (slice_get all k ≡ Some h) = joins_next share first all left h p given j in
     record {
       done = j.done ++ h ∷ [];
       whole = whole;
@@ -150,13 +170,84 @@ joins_one share first all left h p q j of e from_p from_h sound =
               | inr y ↦ (let P : Helper → Type 0 = λ z. Begins z.pass.view.seen q.view.seen in subst P y.1 from_h)
             ];
           };
+      hands = grown ∙ (ap (λ (z : List HandView). z ++ h.hand ∷ []) j.hands
+          ∙ sym (map-append (λ (x : Helper). x.hand) j.done (h ∷ [])));
     }
 
-pub joins_all : (share : TableId) (first : PassOf) (all : List Helper) (p : PassOf) → IsJoining share first all [] p
-    → (line : Line) (X : ℕ) → AreJoinable first.view.base first.view.seen line X all
-    → HasJoined share first.view.base first.view.seen first.view.parts line X all p
-joins_all share first all p j line X able =
-    let e : j.done ≡ all = sym (append-nil j.done) ∙ j.whole in
-    let P : List Helper → Type 0 =
-    λ z. HasJoined share first.view.base first.view.seen first.view.parts line X z p in
-    subst P e (j.joined line X able)
+pub joins_all : (share : TableId) (first : PassOf) (all : List Helper) (p : PassOf) (given : List HandView)
+    → IsJoining share first all [] p given
+    → ((line : Line) (X : ℕ) → AreJoinable first.view.base first.view.seen line X all
+    → HasJoined share first.view.base first.view.seen first.view.parts line X all p) × (given ≡ hands_of all)
+joins_all share first all p given j =
+    let e : j.done ≡ all = sym (append-nil j.done) ∙ j.whole in (
+      λ line X able.
+          let P : List Helper → Type 0 =
+          λ z. HasJoined share first.view.base first.view.seen first.view.parts line X z p in
+          subst P e (j.joined line X able),
+      j.hands ∙ ap (λ (z : List Helper). hands_of z) e,
+    )
+
+-- Passes split off for some hands, and the hands that are left.
+pub record IsSplitting (share : TableId) (base : Base) (seen : List Item) (us : List Units) (hands left : List HandView)
+    (hs : List Helper) (p : PassOf) : Type 0 where
+  pub done : List HandView
+  pub whole : done ++ left ≡ hands
+  pub count : length hs ≡ length done
+  pub bare : IsBare share base seen (1024 - length hs) p
+  pub ready : AreReady share base seen us hands hs
+
+pub splits_none : (share : TableId) (base : Base) (seen : List Item) (us : List Units) (hands : List HandView)
+    (hs : List Helper) (p : PassOf) → hs ≡ [] → IsBare share base seen 1024 p
+    → IsSplitting share base seen us hands hands hs p
+splits_none share base seen us hands hs p none b =
+    let P : List Helper → Type 0 = λ z. IsSplitting share base seen us hands hands z p in
+    subst P (sym none) (record {
+      done = [];
+      whole = refl;
+      count = refl;
+      bare = b;
+      ready = λ k h u v e. absurd (cc);
+    })
+
+pub splits_below : (share : TableId) (base : Base) (seen : List Item) (us : List Units) (hands left : List HandView)
+    (v : HandView) (hs : List Helper) (p : PassOf) → IsSplitting share base seen us hands (v ∷ left) hs p
+    → length hs < length hands
+splits_below share base seen us hands left v hs p s =
+    omega (arith, s.count, ap (λ (z : List HandView). length z) s.whole, length-append s.done (v ∷ left))
+
+pub splits_one : (share : TableId) (base : Base) (seen : List Item) (us : List Units) (hands left : List HandView)
+    (v : HandView) (hs all : List Helper) (h : Helper) (p q own : PassOf) (u : Units)
+    → IsSplitting share base seen us hands (v ∷ left) hs p
+    → length hands ≤ 64 → IsPassOf share q → IsPassOf share own → q.view ≡ left_of p.view → own.view ≡ right_of p.view
+    → all ≡ hs ++ h ∷ [] → h.pass ≡ own → h.hand ≡ v → slice_get us (length hs) ≡ Some u → h.units.left ≡ u.left
+    → h.units.used ≡ 0 → IsSplitting share base seen us hands left all q
+splits_one share base seen us hands left v hs all h p q own u s few of_q of_own e_left e_right grown is_own is_v at given none =
+    let whole : (s.done ++ v ∷ []) ++ left ≡ hands = append_assoc s.done (v ∷ []) left ∙ s.whole in
+    let below = splits_below share base seen us hands left v hs p s in
+    let long : length all ≡ length hs + 1 =
+    omega (arith, ap (λ (z : List Helper). length z) grown, length-append hs (h ∷ [])) in
+    let two : 2 ≤ 1024 - length hs = omega (arith, below, few) in
+    let n : 1024 - length hs - 1 ≡ 1024 - length all = omega (arith, long) in
+    let B : ℕ → Type 0 = λ z. IsBare share base seen z q in
+    let P : PassOf → Type 0 = λ z. IsBare share base seen 1 z in
+    let here : slice_get hands (length hs) ≡ Some v =
+    sym (ap (λ (z : List HandView). slice_get z (length hs)) whole)
+    ∙ (ap (λ (z : ℕ). slice_get ((s.done ++ v ∷ []) ++ left) z) s.count
+    ∙ get_longer (s.done ++ v ∷ []) left (length s.done) v (get_last s.done v)) in
+    record {
+      done = s.done ++ v ∷ [];
+      whole = whole;
+      count = omega (arith, long, s.count, length-append s.done (v ∷ []));
+      bare = subst B n (bare_left share base seen (1024 - length hs) p q two s.bare of_q e_left);
+      ready = ready_push share base seen us hands hs all h s.ready grown (λ w x f g. record {
+        bare = subst P (sym is_own) (bare_right share base seen (1024 - length hs) p own two s.bare of_own e_right);
+        own_hand = is_v ∙ same_Some v x (sym here ∙ g);
+        left = given ∙ ap (λ (z : Units). z.left) (same_Some u w (sym at ∙ f));
+        used = none;
+      });
+    }
+
+pub splits_all : (share : TableId) (base : Base) (seen : List Item) (us : List Units) (hands : List HandView)
+    (hs : List Helper) (p : PassOf) → IsSplitting share base seen us hands [] hs p → length hs ≡ length hands
+splits_all share base seen us hands hs p s =
+    omega (arith, s.count, ap (λ (z : List HandView). length z) s.whole, length-append s.done [])

@@ -1,6 +1,7 @@
 pub mod Growing
 pub mod Lookups
 pub mod WorkFacts
+pub mod PieceFacts
 pub mod JobEnds
 pub mod OfferFacts
 pub mod MixedItems

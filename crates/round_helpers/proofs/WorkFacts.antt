@@ -1,5 +1,5 @@
 -- What is done on a desk, step by step, and what stays true of a desk that sees more.
-use Rattle.std.proofs.Common.{◌≡◌, ℕ, ◌+◌, ◌≤◌, Bool, List, [], ◌∷◌, ◌++◌, length, length-append, refl, sym, ap, ◌∙◌, subst, arith, Option}
+use Rattle.std.proofs.Common.{◌≡◌, ℕ, ◌+◌, ◌-◌, ◌≤◌, Bool, List, [], ◌∷◌, ◌++◌, length, length-append, refl, sym, ap, ◌∙◌, subst, arith, Option}
 use Rattle.std.proofs.lemmas.List.{append_cancel_left}
 use Rattle.line_instance.specs.Line.{Line}
 use Rattle.line_rules.specs.Entries.{HasAnswer}
@@ -13,10 +13,12 @@ use Rattle.lemma_core.specs.Desks.{DeskView, entries, Keeps, Waits}
 use Rattle.lemma_core.specs.Own.{AreAt, Did, added_of}
 use Rattle.lemma_core.proofs.HistoryGrows.{stations_go_on}
 use Rattle.lemma_core.proofs.OwnFacts.{did_none, did_both, did_waits, entries_more}
-use Rattle.station_search.specs.Costs.{HasPublished, AddsFew}
+use Rattle.station_search.specs.Costs.{HasPublished, AddsFew, FewAdded}
+use Rattle.station_search.specs.declared.answers.Decided.{Decided}
+use Rattle.station_search.specs.declared.answers.Decided.TheVariants as decided
 use Rattle.station_search.proofs.Events.{added_both}
 use Rattle.round_helpers.specs.Growth.{AreAtCycle}
-use Rattle.round_helpers.specs.Works.{Works, fewest_seen}
+use Rattle.round_helpers.specs.Works.{Works, fewest_seen, most_decided}
 use Rattle.round_helpers.proofs.Growing.{units_both, cycles_both, has_longer, lemmas_at}
 
 -- the items at places are one list, and so are the own events since a call began
@@ -101,6 +103,24 @@ works_as line X a b u v m n l k w = record {
   within = omega (arith, w.within, l);
 }
 
+-- the numbers of units before, between and after
+pub works_more : (line : Line) (X : ℕ) (a b c : DeskView) (u v w : ℕ) → u ≤ v → v ≤ w → Keeps a b → Keeps b c
+    → Works line X a b (v - u) (v - u) → Works line X b c (w - v) (w - v) → Works line X a c (w - u) (w - u)
+works_more line X a b c u v w l m k n x y =
+    works_as line X a c ((v - u) + (w - v)) (w - u) ((v - u) + (w - v)) (w - u) (omega (arith, l, m)) (omega (arith, l, m))
+    (works_both line X a b c (v - u) (w - v) (v - u) (w - v) k n x y)
+
+-- a balance was offered after it
+pub works_offered : (line : Line) (X : ℕ) (a b c : DeskView) (n : ℕ) → Keeps a b → Keeps b c → Works line X a b n n
+    → Works line X b c 0 0 → Works line X a c n n
+works_offered line X a b c n k l w o =
+    works_as line X a c (n + 0) n (n + 0) n (omega arith) (omega arith) (works_both line X a b c n 0 n 0 k l w o)
+
+-- a unit more was paid
+pub works_paid : (line : Line) (X : ℕ) (a b : DeskView) (u v : ℕ) → u + 1 ≤ v → Works line X a b u (u + 1)
+    → Works line X a b v v
+works_paid line X a b u v l w = works_as line X a b u v (u + 1) v (omega (arith, l)) l w
+
 -- what a search does
 module _ {asked : Option Mode} (kind : LineKind) (line : Line) (X : ℕ) (old new : DeskView) (used : ℕ)
     (h : HasPublished asked kind line X old new) where
@@ -117,6 +137,13 @@ module _ {asked : Option Mode} (kind : LineKind) (line : Line) (X : ℕ) (old ne
         units = f.entry_units;
         within = omega (arith, f.sum);
       }
+
+  -- whatever the answer
+  pub works_decided : (r : Decided) → FewAdded line X old new used r → Works line X old new used (most_decided r used)
+  works_decided (decided.Refuted reason) f = works_few [] (used + 1) f
+  works_decided (decided.Found loads) f = works_few [] used f
+  works_decided (decided.Spent frames) f = works_few frames used f
+  works_decided (decided.NoMemory frames) f = works_few frames used f
 
 -- what was answered stays answered
 pub answered_on : (old new : DeskView) (R : List Bool) (most X : ℕ) → Keeps old new → HasAnswer (entries old) R most X

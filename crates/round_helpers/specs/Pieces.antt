@@ -50,8 +50,8 @@ pub record Splits (kind : LineKind) (line : Line) (c : ℕ) (R : List Bool) (dep
   pub parts : (k : ℕ) (x : Piece) → slice_get more k ≡ Some x → IsPart kind line c R depth most x
 
 -- what was dealt to the hand and put by it stays
-abbrev pub HasOwn : HandView → HandView → Type 0
-HasOwn old new = (more : List Piece) × (own_of new ≡ own_of old ++ more)
+abbrev pub KeepsOwn : HandView → HandView → Type 0
+KeepsOwn old new = (more : List Piece) × (own_of new ≡ own_of old ++ more)
 
 -- an entry seen refutes the job in one station less
 abbrev pub IsRefuted : DeskView → ℕ → ℕ → Job → Type 0

@@ -11,7 +11,7 @@ use Rattle.book_share.specs.Passes.{Base, PassView, PassOf, desk_by}
 use Rattle.station_search.specs.declared.answers.Units.{Units}
 use Rattle.round_helpers.specs.Growth.{AreAtCycle}
 use Rattle.steal_pool.specs.Hands.{DequeId, HandView, IsHandOf}
-use Rattle.round_helpers.specs.Pieces.{HasOwn, IsEnd}
+use Rattle.round_helpers.specs.Pieces.{KeepsOwn, IsEnd}
 use Rattle.round_helpers.specs.declared.job_list.Job.{Job}
 use Rattle.round_helpers.specs.declared.job_work.Question.{Question}
 use Rattle.round_helpers.specs.declared.teams.Helper.{Helper}
@@ -76,7 +76,7 @@ pub record HasWorked (share : TableId) (base : Base) (seen : List Item) (line : 
   pub begins : Begins seen h.pass.view.seen
   pub added : HasAdded line question.cycle h.pass.view h.units.used
   pub own_hand : IsHandOf pool h.hand × (h.hand.name ≡ hand.name)
-  pub dealt : HasOwn hand h.hand
+  pub dealt : KeepsOwn hand h.hand
   pub ends : IsEnd (desk_by h.pass.view) question.cycle question.most jobs h.hand h.units.left h.end
   pub sum : h.units.used + h.units.left ≡ given
 

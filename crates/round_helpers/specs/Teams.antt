@@ -1,5 +1,5 @@
 -- What the parts of a team's work need and tell. Own.
-use Rattle.std.specs.Prelude.{◌≡◌, ℕ, suc, ◌+◌, ◌^◌, ◌<◌, ◌≤◌, ◌⊎◌, List, [], ◌∷◌, length, slice_get, Some}
+use Rattle.std.specs.Prelude.{◌≡◌, ℕ, suc, ◌+◌, ◌^◌, ◌<◌, ◌≤◌, ◌⊎◌, List, [], ◌∷◌, slice_get, Some}
 use Rattle.atomic_table.specs.Seated.{TableId}
 use Rattle.line_instance.specs.Line.{Line}
 use Rattle.line_rules.specs.Ranges.{IsCycle}
@@ -18,16 +18,17 @@ use Rattle.round_helpers.specs.declared.piece_work.End.TheVariants as ends
 use Rattle.round_helpers.specs.declared.job_work.Question.{Question}
 use Rattle.round_helpers.specs.declared.teams.Helper.{Helper}
 
--- A helper may work: its pass is bare and about the question's line, the jobs are those of the question, and its hand is of
--- the pool and took no piece.
+-- The helper at a place may work: its pass is bare and about the question's line, the jobs are those of the question, and
+-- its hand is of the pool and took no piece.
 pub record MayWork (share : TableId) (line : Line) (question : Question) (jobs : List Job) (pool : List DequeId)
-    (h : Helper) : Type 0 where
+    (place : ℕ) (h : Helper) : Type 0 where
   pub bare : IsBare share h.pass.view.base h.pass.view.seen 1 h.pass
   pub about : h.pass.view.base.about ≡ record { line = line; kind = question.kind; cycle = question.cycle }
   pub cycle : IsCycle question.cycle
   pub some : 1 ≤ question.most
   pub most : question.most ≤ 1024
   pub are : AreJobs question.kind line question.cycle question.most jobs
+  pub few : place < 64
   pub own_hand : IsHandOf pool h.hand
   pub fresh : (k : ℕ) (xs : List Piece) → slice_get (tooks h.hand) k ≡ Some xs → xs ≡ []
   pub used : h.units.used ≡ 0
@@ -35,7 +36,7 @@ pub record MayWork (share : TableId) (line : Line) (question : Question) (jobs :
 -- each helper may work
 abbrev pub MayAllWork : TableId → Line → Question → List Job → List DequeId → List Helper → Type 0
 MayAllWork share line question jobs pool hs =
-    (k : ℕ) (h : Helper) → slice_get hs k ≡ Some h → MayWork share line question jobs pool h
+    (k : ℕ) (h : Helper) → slice_get hs k ≡ Some h → MayWork share line question jobs pool k h
 
 -- each helper's pass is of the share
 abbrev pub ArePassesOf : TableId → List Helper → Type 0

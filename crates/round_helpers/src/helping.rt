@@ -104,9 +104,7 @@ fn help_at<R: Threads + Wait + Sync, G: Gate>(
     } = equipment;
     let mut pass = pass;
     let ready = split_off(&share, &mut pass, units, hands, helpers);
-    let helpers = worked(
-        rt, alloc, &share, inst, question, jobs, &pool, gate, ready,
-    );
+    let helpers = worked(rt, alloc, &share, inst, question, jobs, &pool, gate, ready);
     settle(&helpers, units);
     let told = tell(&helpers);
     let hands = join_all(&share, &mut pass, helpers, returned);

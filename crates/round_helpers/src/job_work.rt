@@ -226,15 +226,7 @@ pub fn do_job<D: Desk>(
     ensures answer { IsAnswer (D.desk desk.new) question.cycle job.now.set (question.most - 1) units.new.left result }
 {
     match ask_for_better(alloc, desk, inst, question, job, eager, units) {
-        Answer::Found => ask_job(
-            alloc,
-            desk,
-            inst,
-            question,
-            job,
-            question.most - 1,
-            units,
-        ),
+        Answer::Found => ask_job(alloc, desk, inst, question, job, question.most - 1, units),
         answer => answer,
     }
 }

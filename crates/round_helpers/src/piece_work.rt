@@ -11,7 +11,7 @@ ghost use Rattle.lemma_core.specs.Desks.{Keeps};
 ghost use Rattle.station_search.specs.Decide.{IsFor};
 ghost use Rattle.steal_pool.specs.Hands.{IsHandOf};
 ghost use Rattle.round_helpers.specs.Jobs.{AreJobs, IsJobOf};
-ghost use Rattle.round_helpers.specs.Pieces.{Puts, HasOwn, IsRefuted, IsDone, AreDone, IsEarly, IsEnd};
+ghost use Rattle.round_helpers.specs.Pieces.{Puts, KeepsOwn, IsRefuted, IsDone, AreDone, IsEarly, IsEnd};
 ghost use Rattle.round_helpers.specs.Works.{Works};
 
 use crate::job_list::Job;
@@ -146,10 +146,12 @@ fn do_piece<D: Desk>(
     if piece.depth > 0 {
         return ask_put(alloc, desk, inst, question, &set, most, units);
     }
-    match jobs.get(piece.number as usize) {
-        Some(job) => do_dealt(alloc, desk, inst, question, job, eager, units),
-        None => None,
+    // The number of a piece that was dealt is its job's.
+    let k = piece.number as usize;
+    if k >= jobs.len() {
+        return None;
     }
+    do_dealt(alloc, desk, inst, question, &jobs[k], eager, units)
 }
 
 /// Takes and does pieces, until all deques are empty, a job has a balance, or units or memory end.
@@ -180,7 +182,7 @@ pub fn do_pieces<R: Wait, D: Desk>(
     ensures works { let used = units.new.used - units.old.used in
         Works inst.now question.cycle (D.desk desk.old) (D.desk desk.new) used used }
     ensures hand { IsHandOf pool.now hand.new × (hand.new.name ≡ hand.old.name) }
-    ensures own { HasOwn hand.old hand.new }
+    ensures own { KeepsOwn hand.old hand.new }
     ensures ends { IsEnd (D.desk desk.new) question.cycle question.most jobs.now hand.new units.new.left result }
 {
     'working: for _ in rt.forever() {

@@ -63,7 +63,8 @@ pub fn split_piece(
         }
         units.left -= 1;
         units.used += 1;
-        let Some(rest) = rest_at(inst, question.kind, question.cycle, set, most, &walk, &load) else {
+        let Some(rest) = rest_at(inst, question.kind, question.cycle, set, most, &walk, &load)
+        else {
             continue;
         };
         match pool.put(hand, depth + 1, most - 1, &rest) {

@@ -86,8 +86,7 @@ fn work<R: Wait, G: Gate>(
     place: usize,
     helper: &mut Helper,
 )
-    requires may { MayWork share.now inst.now question jobs.now pool.now helper.old }
-    requires few { place < 64 }
+    requires may { MayWork share.now inst.now question jobs.now pool.now place helper.old }
     ensures worked { HasWorked share.now helper.old.pass.view.base helper.old.pass.view.seen inst.now question jobs.now
         pool.now helper.old.hand helper.old.units.left helper.new }
 {
@@ -138,9 +137,13 @@ fn work_in_threads<R: Threads + Wait + Sync, G: Gate>(
 {
     let count = helpers.len();
     let shift = |place: usize, helper: &mut Helper|
-        requires { MayWork share.now inst.now question jobs.now pool.now helper.now × (place < 64) }
+        requires { MayWork share.now inst.now question jobs.now pool.now place helper.now }
         ensures { HasWorked share.entry.now helper.entry.now.pass.view.base helper.entry.now.pass.view.seen inst.entry.now question jobs.entry.now pool.entry.now helper.entry.now.hand helper.entry.now.units.left helper.exit.now }
-    { work(rt, alloc, share, inst, question, jobs, pool, gate, place, helper) };
+    {
+        work(
+            rt, alloc, share, inst, question, jobs, pool, gate, place, helper,
+        )
+    };
     thread::for_each_mut(rt, helpers, count, &shift);
 }
 
@@ -197,7 +200,11 @@ pub fn join_all(
 {
     let mut returned = returned;
     for helper in helpers {
-        let Helper { pass: other, hand, .. } = helper;
+        let Helper {
+            pass: other,
+            hand,
+            ..
+        } = helper;
         share.join(pass, other);
         returned.push_reserved(hand);
     }

@@ -238,7 +238,7 @@ const SEVEN: &str =
 // The same after a helper did both jobs of the question.
 const A_ROUND: &str =
     "Whole refuted from 3 used 17 7|branch {2, 3, 4, 5, 6} 2|branch {0, 2, 3, 4, 5, 6} 3|\
-    branch {1, 2, 3, 4, 5, 6} 3|branch {0, 1, 2, 3, 4, 5, 6} 4| helper 49";
+    branch {1, 2, 3, 4, 5, 6} 3|branch {0, 1, 2, 3, 4, 5, 6} 4| helper 113";
 
 #[test]
 fn decides_questions_over_an_empty_book(rt: HostRuntime) -> Result<(), Fail> {

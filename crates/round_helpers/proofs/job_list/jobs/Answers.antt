@@ -4,7 +4,7 @@ use Rattle.line_rules.specs.declared.types.Mode.{Mode}
 use Rattle.station_search.specs.Mode.{mode_of}
 use Rattle.round_helpers.specs.declared.job_list.Job.{Job}
 use Rattle.round_helpers.proofs.JobFacts.{IsListing, starts, passes, joins, over, all_jobs}
-use Rattle.round_helpers.proofs.job_list.jobs.Goals.{in-Some-job_at+in_ok-push+else-len-eq-MAX_JOBS, in_default-job_at}
+use Rattle.round_helpers.proofs.job_list.jobs.Goals.{in-Some-rest_at+in_ok-push+else-len-eq-MAX_JOBS, in_default-rest_at}
 use Rattle.round_helpers.proofs.job_list.jobs.Goals as goal
 
 pub listing-init : goal.listing-init
@@ -40,23 +40,22 @@ returns-then-len-eq-MAX_JOBS c =
     (joins c.args.kind c.args.inst.now c.tasks-tasks.ensures.line c.tasks-tasks.ensures.ranked c.args.cycle c.args.most
     c.listing._step c.listing.walk c.step.new.self c.listing.jobs.items c.listing.invariant.listing c.in-Some.load
     c.in-Some.ensures.next c.in-Some.ensures.walk c.in-Some.ensures.cycle c.in-Some.ensures.mode c.in-Some.ensures.set
-    c.in-Some.ensures.given c.step.new.self.mode c.all-all.result refl c.listing.invariant.all c.in-Some-job_at.job
-    c.push.new.self.items c.in-Some-job_at.ensures.some c.in_ok-push.ensures.items (omega (arith, long)))
+    c.in-Some.ensures.given c.step.new.self.mode c.all-all.result refl c.listing.invariant.all c.in-Some-rest_at.set
+    c.push.new.self.items c.in-Some-rest_at.ensures.some c.in_ok-push.ensures.items (omega (arith, long)))
     (omega arith) (inr long)
 
 pub listing-preserved : goal.listing-preserved
-listing-preserved c = elim c.match-job_at.branch [
-  | in-Some-job_at+in_ok-push+else-len-eq-MAX_JOBS w ↦
-      let same : c.match-job_at.jobs.items ≡ w.push.new.self.items =
+listing-preserved c = elim c.match-rest_at.branch [
+  | in-Some-rest_at+in_ok-push+else-len-eq-MAX_JOBS w ↦
+      let same : c.match-rest_at.jobs.items ≡ w.push.new.self.items =
       ap (λ (z : Vec Job Global). z.items) w.jobs-is in
-      let items : w.push.new.self.items ≡ c.listing.jobs.items ++ w.in-Some-job_at.job ∷ [] =
+      let items : w.push.new.self.items ≡ c.listing.jobs.items ++ record { set = w.in-Some-rest_at.set; load = c.in-Some.load } ∷ [] =
       w.in_ok-push.ensures.items in
       let long : length w.push.new.self.items ≡ length c.listing.jobs.items + 1 =
       omega (
         arith,
         ap (λ (z : List Job). length z) items,
-        length-append c.listing.jobs.items
-            (w.in-Some-job_at.job ∷ []),
+        length-append c.listing.jobs.items (record { set = w.in-Some-rest_at.set; load = c.in-Some.load } ∷ []),
       ) in
       let P : List Job → Type 0 =
       λ z. IsListing c.args.kind c.args.inst.now c.args.cycle c.args.most (c.listing._step + 1) c.step.new.self z in
@@ -66,9 +65,9 @@ listing-preserved c = elim c.match-job_at.branch [
             c.listing.jobs.items c.listing.invariant.listing c.in-Some.load c.in-Some.ensures.next
             c.in-Some.ensures.walk
             c.in-Some.ensures.cycle c.in-Some.ensures.mode c.in-Some.ensures.set c.in-Some.ensures.given
-            c.step.new.self.mode c.all-all.result refl c.listing.invariant.all w.in-Some-job_at.job
+            c.step.new.self.mode c.all-all.result refl c.listing.invariant.all w.in-Some-rest_at.set
             w.push.new.self.items
-            w.in-Some-job_at.ensures.some items (omega (arith, long, c.listing.invariant.few)));
+            w.in-Some-rest_at.ensures.some items (omega (arith, long, c.listing.invariant.few)));
         all = c.listing.invariant.all;
         few = omega (
           arith,
@@ -80,8 +79,8 @@ listing-preserved c = elim c.match-job_at.branch [
           w.if-len-eq-MAX_JOBS.false,
         );
       }
-  | in_default-job_at w ↦
-      let same : c.match-job_at.jobs.items ≡ c.listing.jobs.items = ap (λ (z : Vec Job Global). z.items) w.jobs-is in
+  | in_default-rest_at w ↦
+      let same : c.match-rest_at.jobs.items ≡ c.listing.jobs.items = ap (λ (z : Vec Job Global). z.items) w.jobs-is in
       let P : List Job → Type 0 =
       λ z. IsListing c.args.kind c.args.inst.now c.args.cycle c.args.most (c.listing._step + 1) c.step.new.self z in
       record {
@@ -90,7 +89,7 @@ listing-preserved c = elim c.match-job_at.branch [
             c.listing.jobs.items c.listing.invariant.listing c.in-Some.load c.in-Some.ensures.next
             c.in-Some.ensures.walk
             c.in-Some.ensures.cycle c.in-Some.ensures.mode c.in-Some.ensures.set c.in-Some.ensures.given
-            c.step.new.self.mode c.all-all.result refl c.listing.invariant.all (w.in_default-job_at.ensures.none refl));
+            c.step.new.self.mode c.all-all.result refl c.listing.invariant.all (w.in_default-rest_at.ensures.none refl));
         all = c.listing.invariant.all;
         few = omega (arith, ap (λ (z : List Job). length z) same, c.listing.invariant.few);
       }

@@ -15,17 +15,17 @@ returns-then-least-question-clause-works g c =
 
 pub returns-clause-keeps : goal.returns-clause-keeps
 returns-clause-keeps g c =
-    keeps_both (g.D.Desk.desk c.args.desk.now) (g.D.Desk.desk c.least-least.new.self) (g.D.Desk.desk c.ask.new.desk)
-    c.least-least.ensures.tells.waits.keeps c.ask.ensures.keeps
+    keeps_both (g.D.Desk.desk c.args.desk.now) (g.D.Desk.desk c.least-least.new.self) (g.D.Desk.desk c.ask_job.new.desk)
+    c.least-least.ensures.tells.waits.keeps c.ask_job.ensures.keeps
 
 pub returns-clause-works : goal.returns-clause-works
 returns-clause-works g c =
-    let n : ℕ = c.ask.new.units.used - c.args.units.now.used in
-    let m : ℕ = most_added c.ask.result n in
-    works_as c.args.inst.now c.args.question.cycle (g.D.Desk.desk c.args.desk.now) (g.D.Desk.desk c.ask.new.desk)
+    let n : ℕ = c.ask_job.new.units.used - c.args.units.now.used in
+    let m : ℕ = most_added c.ask_job.result n in
+    works_as c.args.inst.now c.args.question.cycle (g.D.Desk.desk c.args.desk.now) (g.D.Desk.desk c.ask_job.new.desk)
     (0 + n) n (0 + m) m (omega arith) (omega arith)
     (works_both c.args.inst.now c.args.question.cycle (g.D.Desk.desk c.args.desk.now)
-    (g.D.Desk.desk c.least-least.new.self) (g.D.Desk.desk c.ask.new.desk) 0 n 0 m
-    c.least-least.ensures.tells.waits.keeps c.ask.ensures.keeps
+    (g.D.Desk.desk c.least-least.new.self) (g.D.Desk.desk c.ask_job.new.desk) 0 n 0 m
+    c.least-least.ensures.tells.waits.keeps c.ask_job.ensures.keeps
     (works_waits c.args.inst.now c.args.question.cycle (g.D.Desk.desk c.args.desk.now)
-    (g.D.Desk.desk c.least-least.new.self) c.least-least.ensures.tells.waits) c.ask.ensures.works)
+    (g.D.Desk.desk c.least-least.new.self) c.least-least.ensures.tells.waits) c.ask_job.ensures.works)

@@ -1,44 +1,46 @@
-use Rattle.std.proofs.Common.{◌≡◌, ◌-◌, ◌+◌, ◌≤◌, ℕ, length, length-append, sym, ap, ◌∙◌, subst, arith, [], ◌∷◌}
-use Rattle.std.specs.Prelude.{slice_get, slice_index_or}
-use Rattle.std.proofs.lemmas.Option.{get_or_from_slice_get}
-use Rattle.book_share.specs.Passes.{PassOf}
+use Rattle.std.proofs.Common.{◌≡◌, ◌<◌, ℕ, List, length, ◌∙◌, sym, subst, arith}
+use Rattle.std.specs.Prelude.{slice_get, slice_index_or, Some}
+use Rattle.std.proofs.lemmas.Option.{slice_get-get_or}
+use Rattle.std.specs.Vec.Iter.{into_iter_items}
+use Rattle.steal_pool.specs.Hands.{HandView}
 use Rattle.station_search.specs.declared.answers.Units.{Units}
-use Rattle.round_helpers.specs.Seats.{IsBare}
-use Rattle.round_helpers.proofs.Joining.{bare_left, bare_right, ready_push}
+use Rattle.round_helpers.proofs.Joining.{IsSplitting, splits_none, splits_below, splits_one}
 use Rattle.round_helpers.proofs.teams.split_off.Goals as goal
 
-pub loop-k-preserved : goal.loop-k-preserved
-loop-k-preserved c =
-    let more : 2 ≤ 1024 - c.loop-k.k = omega (arith, c.loop-k-test.true, c.requires.few) in
-    let n : 1024 - c.loop-k.k - 1 ≡ 1024 - (c.loop-k.k + 1) = omega arith in
-    let B : ℕ → Type 0 =
-    λ z. IsBare c.args.share.now c.args.pass.now.view.base c.args.pass.now.view.seen z c.split-own.new.pass in
-    let right = bare_right c.args.share.now c.args.pass.now.view.base c.args.pass.now.view.seen (1024 - c.loop-k.k)
-    c.loop-k.pass c.split-own.result more c.loop-k.invariant.bare c.split-own.ensures.passes.1
-    c.split-own.ensures.right in
+pub loop-hand-init : goal.loop-hand-init
+loop-hand-init c =
+    let P : List HandView → Type 0 =
+    λ z. IsSplitting c.args.share.now c.args.pass.now.view.base c.args.pass.now.view.seen c.args.units.now c.args.hands z
+    c.args.helpers.items c.args.pass.now in
     record {
-      some = omega (arith, c.loop-k-test.true);
-      bare = subst B n (bare_left c.args.share.now c.args.pass.now.view.base c.args.pass.now.view.seen
-          (1024 - c.loop-k.k) c.loop-k.pass c.split-own.new.pass more c.loop-k.invariant.bare
-          c.split-own.ensures.passes.0 c.split-own.ensures.left);
-      count = omega (
-        arith,
-        ap (λ z. length z) c.push_reserved.ensures.items,
-        length-append c.loop-k.helpers.items (c.ready.result ∷ []),
-        c.loop-k.invariant.count,
-      );
-      room = omega (arith, c.loop-k.invariant.room, c.push_reserved.ensures.capacity);
-      ready = ready_push c.args.share.now c.args.pass.now.view.base c.args.pass.now.view.seen c.args.units.now
-          c.loop-k.helpers.items c.push_reserved.new.self.items c.ready.result c.loop-k.invariant.ready
-          c.push_reserved.ensures.items (λ u e.
-          let at : (slice_index_or c.args.units.now c.loop-k.k (record { left = 0; used = 0 })) ≡ u =
-          get_or_from_slice_get c.args.units.now c.loop-k.k u (record { left = 0; used = 0 })
-          (sym (ap (λ (z : ℕ). slice_get c.args.units.now z) c.loop-k.invariant.count) ∙ e) in
-          let P : PassOf → Type 0 =
-          λ z. IsBare c.args.share.now c.args.pass.now.view.base c.args.pass.now.view.seen 1 z in
-          record {
-            bare = subst P (sym c.ready.ensures.pass) right;
-            left = c.ready.ensures.left ∙ ap (λ (z : Units). z.left) at;
-            used = c.ready.ensures.used;
-          });
+      splitting = subst P (sym (c.into_iter-hand-iterator.ensures.into_iter_gives.0 ∙ c.into_vec-hand-items.ensures))
+          (splits_none c.args.share.now c.args.pass.now.view.base c.args.pass.now.view.seen c.args.units.now c.args.hands
+          c.args.helpers.items c.args.pass.now c.requires.none c.requires.bare);
+      room = c.requires.room;
+    }
+
+pub loop-hand-preserved : goal.loop-hand-preserved
+loop-hand-preserved c =
+    let P : List HandView → Type 0 =
+    λ z. IsSplitting c.args.share.now c.args.pass.now.view.base c.args.pass.now.view.seen c.args.units.now c.args.hands z
+    c.loop-hand.helpers.items c.loop-hand.pass in
+    let s = subst P c.in-Some.ensures.steps.0 c.loop-hand.invariant.splitting in
+    let below : length c.loop-hand.helpers.items < length c.args.hands =
+    splits_below c.args.share.now c.args.pass.now.view.base c.args.pass.now.view.seen c.args.units.now c.args.hands
+    (into_iter_items c.next.new.self) c.in-Some.hand c.loop-hand.helpers.items c.loop-hand.pass s in
+    let d : Units = record { left = 0; used = 0 } in
+    let n : length c.loop-hand.helpers.items ≡ c.len.result = omega (arith, c.len.ensures, c.loop-hand.helpers.ok.0) in
+    let at : slice_get c.args.units.now (length c.loop-hand.helpers.items) ≡ Some
+    (slice_index_or c.args.units.now c.len.result d) =
+    subst (λ (z : ℕ). slice_get c.args.units.now z ≡ Some (slice_index_or c.args.units.now c.len.result d)) (sym n)
+    (slice_get-get_or c.args.units.now c.len.result d (omega (arith, below, n, c.requires.hands))) in
+    record {
+      splitting = splits_one c.args.share.now c.args.pass.now.view.base c.args.pass.now.view.seen c.args.units.now
+          c.args.hands (into_iter_items c.next.new.self) c.in-Some.hand c.loop-hand.helpers.items
+          c.push_reserved.new.self.items c.ready.result c.loop-hand.pass c.split-own.new.pass c.split-own.result
+          (slice_index_or c.args.units.now c.len.result d) s (omega (arith, c.requires.hands, c.requires.few))
+          c.split-own.ensures.passes.0 c.split-own.ensures.passes.1 c.split-own.ensures.left c.split-own.ensures.right
+          c.push_reserved.ensures.items c.ready.ensures.pass c.ready.ensures.hand at c.ready.ensures.left
+          c.ready.ensures.used;
+      room = omega (arith, c.loop-hand.invariant.room, c.push_reserved.ensures.capacity);
     }

@@ -3,7 +3,7 @@ use Rattle.task_set.specs.Truths.{minus}
 use Rattle.line_instance.specs.Line.{IsTaskSet}
 use Rattle.line_rules.specs.Loads.{rest}
 use Rattle.station_search.proofs.States.{rest_tasks}
-use Rattle.round_helpers.proofs.job_list.job_at.Goals as goal
+use Rattle.round_helpers.proofs.job_list.rest_at.Goals as goal
 
 pub exceeds-requires-clause-set : goal.exceeds-requires-clause-set
 exceeds-requires-clause-set c =

@@ -1,0 +1,19 @@
+use Rattle.std.proofs.Common.{◌≡◌, ◌+◌, ◌-◌, ◌≤◌}
+use Rattle.lemma_core.specs.Desks.{Keeps}
+use Rattle.steal_pool.specs.Hands.{IsHandOf}
+use Rattle.round_helpers.specs.Pieces.{KeepsOwn, AreDone}
+use Rattle.round_helpers.specs.Works.{Works}
+use Rattle.round_helpers.proofs.piece_work.do_pieces.Given as goal
+
+abbrev pub invariant-working : goal.invariant-working
+invariant-working g l = record {
+  keeps : Keeps (g.D.Desk.desk l.fn.desk) (g.D.Desk.desk l.desk);
+  sum : l.units.used + l.units.left ≡ l.fn.units.used + l.fn.units.left;
+  spent : l.fn.units.used ≤ l.units.used;
+  works : Works l.inst l.question.cycle (g.D.Desk.desk l.fn.desk) (g.D.Desk.desk l.desk)
+      (l.units.used - l.fn.units.used) (l.units.used - l.fn.units.used);
+  hand : IsHandOf l.pool l.hand;
+  name : l.hand.name ≡ l.fn.hand.name;
+  own : KeepsOwn l.fn.hand l.hand;
+  done : AreDone (g.D.Desk.desk l.desk) l.question.cycle l.question.most l.jobs l.hand;
+}
