@@ -5,6 +5,7 @@ use Rattle.std.proofs.lemmas.List.{append-nil}
 use Rattle.line_io.specs.Lines.{is_digit, all_digits, value_after, value_of}
 use Rattle.cert_lines.specs.Numbers.{number_text}
 use Rattle.cert_lines.specs.Reading.{◌>>=◌, parts_at, onto_part, number_in, number_first, is_unplain, greatest}
+pub use Rattle.cert_lines.specs.Telling.{lacks}
 use Rattle.cert_lines.proofs.Digits.{number_small, number_more}
 use Rattle.cert_lines.proofs.Parts.{value_push}
 
@@ -112,11 +113,6 @@ number_found word v e = I (is_unplain word) (all_digits word) refl refl e
 abbrev pub all_high : List ℕ → Bool
 all_high [] = true
 all_high (b ∷ bytes) = nat_le 48 b && all_high bytes
-
--- no byte is the mark
-abbrev pub lacks : ℕ → List ℕ → Bool
-lacks mark [] = true
-lacks mark (b ∷ bytes) = not (nat_eq b mark) && lacks mark bytes
 
 digits_high : (ds : List ℕ) → all_digits ds ≡ true → all_high ds ≡ true
 digits_high [] e = refl

@@ -2,6 +2,7 @@ pub mod Numbers
 pub mod Rows
 pub mod ValueRows
 pub mod Faults
+pub mod Telling
 pub mod Reading
 pub mod LineReading
 pub mod Taking

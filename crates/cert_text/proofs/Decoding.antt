@@ -21,6 +21,7 @@ use Rattle.line_rules.specs.declared.types.Ask.TheVariants as ask
 use Rattle.line_rules.specs.declared.types.Claim.{Claim}
 use Rattle.line_rules.specs.declared.types.Claim.TheVariants as claim
 use Rattle.line_rules.specs.declared.types.Certificate.{Certificate}
+pub use Rattle.cert_lines.specs.Telling.{AllLack}
 use Rattle.cert_lines.specs.Numbers.{number_text, set_text, cites_text, mode_letter, last_text}
 use Rattle.cert_lines.specs.Rows.{Row, fixed, keyed, span, seat, bound, branch, swap, trail, frame, state_entry, state_frame, spaced, number_or_none, row_text, rows_text, lines_text}
 use Rattle.cert_lines.specs.ValueRows.{kind_row, ask_row, seat_row, why_row, entry_row, frame_row}
@@ -98,11 +99,6 @@ IsPlain (trail t) = Unit {0}
 IsPlain (frame n mode s m last cites) = Unit {0}
 IsPlain (state_entry rem starts least cites) = Unit {0}
 IsPlain (state_frame rem starts need last cites) = Unit {0}
-
--- no word has an LF
-abbrev pub AllLack : List (List ℕ) → Type 0
-AllLack [] = Unit {0}
-AllLack (l ∷ ls) = (lacks 10 l ≡ true) × AllLack ls
 
 words_lack : (ws : List (List ℕ)) → AllLack ws → lacks 10 (spaced ws) ≡ true
 words_lack [] h = refl

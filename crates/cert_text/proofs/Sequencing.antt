@@ -7,15 +7,8 @@ use Rattle.cert_lines.specs.Faults.{Grammar, Next}
 use Rattle.cert_lines.specs.Judging.{one, each, IsRead, then_}
 use Rattle.cert_lines.specs.declared.fault.ReadError.{ReadError}
 use Rattle.cert_lines.specs.declared.fault.ReadError.TheVariants as errors
+pub use Rattle.cert_lines.specs.Telling.{texts, Unique}
 use Rattle.cert_lines.proofs.Composing.{Continues, fault_behind, rows_lines, rows_append}
-
--- the lines of rows
-abbrev pub texts : List Row → List (List ℕ)
-texts rows = map row_text rows
-
--- lines begin with those of one value at most
-abbrev pub Unique : {V : Type 0} → Grammar V → Type 0
-Unique {V} g = (v w : V) → g.ranged v → g.ranged w → (x y : List (List ℕ)) → texts (g.rows v) ++ x ≡ texts (g.rows w) ++ y → (v ≡ w) × (x ≡ y)
 
 pub unique_one : {V : Type 0} (row : V → Row) (ranged : V → Type 0) → ((v w : V) → ranged v → ranged w → row_text (row v) ≡ row_text (row w) → v ≡ w) → Unique (one row ranged)
 unique_one row ranged h v w a b x y e =

@@ -4,9 +4,7 @@ use Rattle.cert_lines.specs.Rows.{Row, fixed, row_text, rows_text}
 use Rattle.cert_lines.specs.Faults.{Grammar, IsFault}
 use Rattle.cert_lines.specs.declared.fault.CertFault.{CertFault}
 use Rattle.cert_lines.specs.declared.fault.CertKind.TheVariants.{Trailing}
-use Rattle.cert_lines.proofs.NumberWords.{lacks}
-use Rattle.cert_text.proofs.Sequencing.{Unique, texts}
-use Rattle.cert_text.proofs.Decoding.{AllLack}
+use Rattle.cert_lines.specs.Telling.{lacks, AllLack, texts, Unique}
 use Rattle.text_grammar.specs.declared.reader.TextRead.{TextRead}
 use Rattle.text_grammar.specs.declared.reader.TextRead.TheVariants.{Good, Fault, NoMemory}
 

@@ -1,8 +1,8 @@
 //! The reading of a text from memory.
 ghost use Rattle.std.specs.Prelude.{◌≡◌, ◌≢◌, true, List};
 ghost use Rattle.cert_lines.specs.declared.fault.CertFault.{CertFault as Fault};
-ghost use Rattle.cert_lines.proofs.NumberWords.{lacks};
 ghost use Rattle.cert_lines.specs.Rows.{Row};
+ghost use Rattle.cert_lines.specs.Telling.{lacks};
 ghost use Rattle.text_grammar.specs.Texts.{spelled, titled, Tells, text_of, IsTextRead, IsEnded};
 
 use crate::part::Part;
