@@ -11,7 +11,7 @@ use Rattle.alb_reader.specs.declared.fault.LineError.{LineError}
 use Rattle.alb_reader.specs.declared.fault.LineError.TheVariants.{Fault}
 use Rattle.alb_reader.specs.declared.fault.AlbKind.TheVariants.{RepeatedHeading}
 use Rattle.alb_reader.specs.Answers.{first_number}
-use Rattle.alb_reader.specs.Drafts.{IsDraft, heading_seen, is_some, time_line, pair_line, opened, IsWrong}
+use Rattle.alb_reader.specs.inner.Drafts.{IsDraft, heading_seen, is_some, time_line, pair_line, opened, IsWrong}
 use Rattle.alb_reader.specs.declared.draft.Draft.{Draft}
 use Rattle.alb_reader.specs.declared.draft.Headings.{Headings}
 use Rattle.alb_reader.specs.declared.mark.Section.{Section}

@@ -17,8 +17,8 @@ use Rattle.std.specs.declared.vec.Vec.{Vec}
 use Rattle.std.specs.declared.alloc.Global.{Global}
 use Rattle.alb_reader.specs.declared.fault.AlbError.{AlbError}
 use Rattle.alb_reader.specs.declared.fault.AlbError.TheVariants as errors
-use Rattle.alb_reader.specs.Fillings.{given_of, AreGiven, IsThere, IsFirstNone, named_arc, GivesWhole, IsTimesRead}
-use Rattle.alb_reader.specs.Drafts.{time_line, pair_line, arc_of}
+use Rattle.alb_reader.specs.inner.Fillings.{given_of, AreGiven, IsThere, IsFirstNone, named_arc, GivesWhole, IsTimesRead}
+use Rattle.alb_reader.specs.inner.Drafts.{time_line, pair_line, arc_of}
 use Rattle.alb_reader.specs.declared.draft.TimeLine.{TimeLine}
 use Rattle.alb_reader.specs.declared.draft.PairLine.{PairLine}
 use Rattle.alb_reader.specs.declared.fault.AlbKind.{AlbKind}

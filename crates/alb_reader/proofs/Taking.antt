@@ -11,7 +11,7 @@ use Rattle.in2_reader.specs.Pairs.{pair_in}
 use Rattle.alb_reader.specs.Sections.{mark_of, section_after, under}
 use Rattle.alb_reader.specs.Faults.{line_fault, mark_fault, body_fault, single, some_fault, timed, timed_fault, pair_fault}
 use Rattle.alb_reader.specs.Answers.{value, first_number}
-use Rattle.alb_reader.specs.Drafts.{IsDraft, is_some, time_line, pair_line}
+use Rattle.alb_reader.specs.inner.Drafts.{IsDraft, is_some, time_line, pair_line}
 use Rattle.alb_reader.specs.declared.draft.Draft.{Draft}
 use Rattle.alb_reader.specs.declared.mark.Section.{Section}
 use Rattle.alb_reader.specs.declared.mark.Section.TheVariants.{Tasks, Cycle, Strength, Times, Pairs}

@@ -5,7 +5,7 @@ use Rattle.alb_reader.specs.Sections.{mark_of, before_end, end_line, is_end, is_
 use Rattle.alb_reader.specs.Faults.{AreRightFrom, AreRight, line_fault}
 use Rattle.std.specs.Prelude.{Err}
 use Rattle.alb_reader.specs.Answers.{IsFormFault}
-use Rattle.alb_reader.specs.Drafts.{IsDraft, IsDrafted, IsWhole, IsAmid, IsWrong, error_at}
+use Rattle.alb_reader.specs.inner.Drafts.{IsDraft, IsDrafted, IsWhole, IsAmid, IsWrong, error_at}
 use Rattle.alb_reader.specs.declared.draft.Draft.{Draft}
 use Rattle.alb_reader.specs.declared.fault.LineError.{LineError}
 use Rattle.alb_reader.specs.declared.fault.LineError.TheVariants.{Memory, Fault}

@@ -19,12 +19,12 @@ use Rattle.in2_reader.proofs.Ranges.{number_most}
 use Rattle.alb_reader.specs.Sections.{under, before_end}
 use Rattle.alb_reader.specs.Faults.{timed_by, value_or_0, gap_split, task_named, time_said, task_fault, arc_fault, members_fault, AreRight, AreRightFrom}
 use Rattle.alb_reader.specs.Answers.{value, first_number, times_of, times_said, time_of, arcs_of, arcs_said, with_pair, AllNamed, IsFormed, IsFormFault, IsFilled, IsFillFault, IsAlbRead}
-use Rattle.alb_reader.specs.Drafts.{IsDraft, IsWhole, IsDrafted, is_some, time_line, pair_line}
+use Rattle.alb_reader.specs.inner.Drafts.{IsDraft, IsWhole, IsDrafted, is_some, time_line, pair_line}
 use Rattle.std.specs.Prelude.{Ok, Err}
 use Rattle.std.specs.declared.vec.Vec.{Vec}
 use Rattle.std.specs.declared.alloc.Global.{Global}
-use Rattle.alb_reader.specs.Fillings.{IsTimesRead, IsArcsRead}
-use Rattle.alb_reader.specs.Making.{IsOfTasks, IsMadeOf, IsFillRead, IsFormRead, refusal}
+use Rattle.alb_reader.specs.inner.Fillings.{IsTimesRead, IsArcsRead}
+use Rattle.alb_reader.specs.inner.Making.{IsOfTasks, IsMadeOf, IsFillRead, IsFormRead, refusal}
 use Rattle.alb_reader.specs.declared.fault.AlbError.{AlbError}
 use Rattle.alb_reader.specs.declared.fault.AlbError.TheVariants as errors
 use Rattle.alb_reader.specs.declared.draft.PairLine.{PairLine}

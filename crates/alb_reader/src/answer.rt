@@ -5,8 +5,8 @@ ghost use Rattle.line_instance.specs.Line.{Line};
 ghost use Rattle.line_instance.specs.Made.{AreTimes};
 ghost use Rattle.line_instance.specs.Walks.{AreArcs};
 ghost use Rattle.alb_reader.specs.Answers.{IsAlbRead, IsAlbReading};
-ghost use Rattle.alb_reader.specs.Drafts.{IsWhole, IsDraft};
-ghost use Rattle.alb_reader.specs.Making.{IsFormRead, IsFillRead, IsMadeOf, IsOfTasks, refusal};
+ghost use Rattle.alb_reader.specs.inner.Drafts.{IsWhole, IsDraft};
+ghost use Rattle.alb_reader.specs.inner.Making.{IsFormRead, IsFillRead, IsMadeOf, IsOfTasks, refusal};
 ghost use Rattle.alb_reader.specs.declared.fault.AlbFault.{AlbFault};
 
 use crate::draft::Draft;

@@ -6,7 +6,7 @@ ghost use Rattle.in2_reader.specs.Contents.{Lines};
 ghost use Rattle.in2_reader.specs.Pairs.{pair_in};
 ghost use Rattle.alb_reader.specs.Sections.{mark_of, is_same};
 ghost use Rattle.alb_reader.specs.Faults.{some_fault, timed, timed_fault, pair_fault, gap_split, value_or_0};
-ghost use Rattle.alb_reader.specs.Drafts.{IsDraft, IsWrong, Takes, heading_seen, opened, time_line, pair_line};
+ghost use Rattle.alb_reader.specs.inner.Drafts.{IsDraft, IsWrong, Takes, heading_seen, opened, time_line, pair_line};
 ghost use Rattle.alb_reader.specs.declared.mark.Mark.TheVariants.{Body};
 
 use crate::fault::{AlbKind, LineError};

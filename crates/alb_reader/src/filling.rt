@@ -1,8 +1,8 @@
 //! What the lines of a text say of its tasks: their times, and their pairs.
 ghost use Rattle.std.specs.Prelude.{◌≡◌, ◌≤◌, ◌<◌, ◌^◌, ◌&&◌, nat_le, ℕ, None, List, length, map, replicate, IfOk, IsTrue};
 ghost use Rattle.in2_reader.specs.Contents.{Lines};
-ghost use Rattle.alb_reader.specs.Drafts.{time_line, pair_line};
-ghost use Rattle.alb_reader.specs.Fillings.{GivesTimes, GivesWhole, IsTimesRead, IsArcsRead, named_arc};
+ghost use Rattle.alb_reader.specs.inner.Drafts.{time_line, pair_line};
+ghost use Rattle.alb_reader.specs.inner.Fillings.{GivesTimes, GivesWhole, IsTimesRead, IsArcsRead, named_arc};
 
 use crate::draft::{PairLine, TimeLine};
 use crate::fault::{AlbError, AlbKind, fault};

@@ -1,7 +1,7 @@
 //! The reading of an ALB text line by line, up to its end mark.
 ghost use Rattle.std.specs.Prelude.{◌≡◌, ◌<◌, ◌^◌, length};
 ghost use Rattle.in2_reader.specs.Contents.{contents_from, lines_in};
-ghost use Rattle.alb_reader.specs.Drafts.{IsDrafted, error_at};
+ghost use Rattle.alb_reader.specs.inner.Drafts.{IsDrafted, error_at};
 
 use crate::draft::Draft;
 use crate::fault::{AlbError, AlbKind, LineError, fault};

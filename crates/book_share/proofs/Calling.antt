@@ -7,8 +7,8 @@ use Rattle.lemma_core.specs.Desks.{FollowsSeen, Waits}
 use Rattle.book_share.specs.Passes.{PassView, desk_by}
 use Rattle.book_share.specs.Rule.{OwnRises, right_of}
 use Rattle.book_share.specs.Steps.{Mine, missed, taken, given, loaded, IsHad}
-use Rattle.book_share.specs.Turning.{Holds}
-use Rattle.book_share.specs.Inside.{IsResting}
+use Rattle.book_share.specs.inner.Turning.{Holds}
+use Rattle.book_share.specs.inner.Inside.{IsResting}
 use Rattle.book_share.specs.Calls.{IsSound}
 use Rattle.book_share.proofs.Hands.{waits_by, follows_by}
 use Rattle.book_share.proofs.Lists.{begins_length, rises_wider, rises_le, rises_at, are_own}

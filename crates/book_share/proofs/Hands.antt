@@ -21,7 +21,7 @@ use Rattle.book_share.specs.Passes.{Base, PassView, desk_by}
 use Rattle.book_share.specs.Places.{Rises}
 use Rattle.book_share.specs.Rule.{IsFor, IsReached, OwnRises, fewest}
 use Rattle.book_share.specs.Steps.{Mine}
-use Rattle.book_share.specs.Turning.{Holds, HasNew, IsQuiet, Ends, noted}
+use Rattle.book_share.specs.inner.Turning.{Holds, HasNew, IsQuiet, Ends, noted}
 use Rattle.book_share.proofs.Lists.{begins_trans, rises_push}
 
 -- what is true of a book's matter, opening and log is true of the share's and the history

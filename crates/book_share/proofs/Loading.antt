@@ -16,7 +16,7 @@ use Rattle.book_share.specs.Passes.{Phase, Idle, Holding, Recorded, Lowered, Spe
 use Rattle.book_share.specs.Places.{but_last, once_from}
 use Rattle.book_share.specs.Rule.{turn_of, shown, counted, fewest, spent, IsReached, Stands, Home, IsIdle, Kept}
 use Rattle.book_share.specs.Steps.{lowered, loaded, IsLeastCount, IsEventCount, Lowers, LoadsBest, LoadsCount, Settles}
-use Rattle.book_share.specs.Turning.{IsQuiet}
+use Rattle.book_share.specs.inner.Turning.{IsQuiet}
 use Rattle.book_share.proofs.Lists.{begins_refl, begins_trans, but_last_push, begins_but_last}
 use Rattle.book_share.proofs.Sums.{at_same, set_there, all_set}
 use Rattle.book_share.proofs.Moves.{Room, idle_in, idle_spent, places_set, parts_set, each_set, rises_set, heard_set, home_out, shown_prefix, my_words, my_home, my_stands, next}

@@ -8,7 +8,7 @@ use Rattle.std.proofs.lemmas.Option.{slice_get-map, slice_get_within, get_or_fro
 use Rattle.std.proofs.Math.Seq.{take-suc}
 use Rattle.line_rules.specs.Entries.{Answers, IsUnanswered, IsDerived}
 use Rattle.line_rules.specs.declared.types.Entry.{Entry}
-use Rattle.lemma_core.specs.Chains.{tag_of, tags_of, IsSieve, word_in, mark_of}
+use Rattle.lemma_core.specs.inner.Chains.{tag_of, tags_of, IsSieve, word_in, mark_of}
 use Rattle.lemma_core.proofs.ChainFacts.{sieve_push}
 use Rattle.lemma_core.specs.Machine.{About}
 use Rattle.lemma_core.specs.History.{Item, Standing, standing, replay}
@@ -21,11 +21,11 @@ use Rattle.lemma_core.specs.declared.types.Offered.TheVariants as offered
 use Rattle.lemma_core.proofs.HistoryGrows.{entries_go_on}
 use Rattle.book_share.specs.declared.marks.Marks.{Marks}
 use Rattle.book_share.specs.declared.marks.Marks.TheVariants as marks
-use Rattle.book_share.specs.Marking.{AreMarksOf, AreMarked, AreMarkedBy, WereMarked}
+use Rattle.book_share.specs.inner.Marking.{AreMarksOf, AreMarked, AreMarkedBy, WereMarked}
 use Rattle.book_share.specs.Passes.{PassView, desk_by}
 use Rattle.book_share.specs.Rule.{IsFor}
 use Rattle.book_share.specs.Steps.{Mine, given}
-use Rattle.book_share.specs.Turning.{Holds, noted}
+use Rattle.book_share.specs.inner.Turning.{Holds, noted}
 use Rattle.lemma_core.proofs.BookAsDesk.{is_roomy}
 use Rattle.book_share.proofs.Hands.{roomy_of}
 

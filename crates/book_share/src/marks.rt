@@ -11,8 +11,8 @@ ghost use Rattle.std.specs.Hash.FoldHasher as folding;
 ghost use Rattle.task_set.specs.Truths.{words_of};
 ghost use Rattle.line_rules.specs.Entries.{IsDerived, IsUnanswered};
 ghost use Rattle.line_rules.specs.declared.types.Entry.{Entry};
-ghost use Rattle.lemma_core.specs.Chains.{tag_of, word_in, mark_of};
-ghost use Rattle.book_share.specs.Marking.{AreMarksOf, AreMarked, IsBehind, AreKept};
+ghost use Rattle.lemma_core.specs.inner.Chains.{tag_of, word_in, mark_of};
+ghost use Rattle.book_share.specs.inner.Marking.{AreMarksOf, AreMarked, IsBehind, AreKept};
 ghost use Rattle.book_share.specs.declared.marks.Marks.TheVariants.{Off};
 
 use lemma_core::Book;

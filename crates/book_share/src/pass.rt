@@ -39,11 +39,11 @@ pub struct Pass {
 
 impl Model for Pass {
     ghost use Rattle.book_share.specs.Passes.{PassOf, desk_by};
-    ghost use Rattle.book_share.specs.Marking.{AreMarkedBy};
+    ghost use Rattle.book_share.specs.inner.Marking.{AreMarkedBy};
 
     ghost Value = { PassOf };
 
-    ghost use Rattle.book_share.specs.Inside.{IsResting};
+    ghost use Rattle.book_share.specs.inner.Inside.{IsResting};
 
     ghost view = { λ p. record { share = p.seat.table_id; view = p.seat.me.0 } };
 

@@ -8,11 +8,11 @@ ghost use Rattle.lemma_core.specs.History.{Item, AreExact, better};
 ghost use Rattle.lemma_core.specs.Desks.{entries, HasDerived, FollowsSeen, Finds, Publishes, Offers};
 ghost use Rattle.lemma_core.specs.Books.{IsReserved};
 ghost use Rattle.lemma_core.specs.Own.{IsStatable};
-ghost use Rattle.book_share.specs.Marking.{AreMarkedBy, WereMarked};
+ghost use Rattle.book_share.specs.inner.Marking.{AreMarkedBy, WereMarked};
 ghost use Rattle.book_share.specs.Passes.{desk_by};
 ghost use Rattle.book_share.specs.Rule.{OwnRises};
 ghost use Rattle.book_share.specs.Steps.{missed, taken, given, IsHad};
-ghost use Rattle.book_share.specs.Turning.{Holds, HasNew, HasWaited, IsQuiet, Ends, noted};
+ghost use Rattle.book_share.specs.inner.Turning.{Holds, HasNew, HasWaited, IsQuiet, Ends, noted};
 
 use crate::marks::Marks;
 use crate::rule::{Give, Lower, Record, Take, Turns};

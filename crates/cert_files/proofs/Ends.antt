@@ -16,8 +16,8 @@ use Rattle.cert_text.specs.declared.reader.CertRead.{CertRead}
 use Rattle.cert_text.specs.declared.reader.CertRead.TheVariants as reads
 use Rattle.cert_text.proofs.Decoding.{ended_read, no_text, fault_whole}
 use Rattle.cert_files.specs.From.{IsReadWithin, IsLonger, IsCertFrom, stopped_from, fault_from, IsGoodFrom}
-use Rattle.cert_files.specs.Pieces.{bytes_of}
-use Rattle.cert_files.specs.Rest.{Reading, bytes_from, IsWithin}
+use Rattle.cert_files.specs.inner.Pieces.{bytes_of}
+use Rattle.cert_files.specs.inner.Rest.{Reading, bytes_from, IsWithin}
 use Rattle.cert_files.specs.declared.stop.Stop.{Stop}
 use Rattle.cert_files.specs.declared.stop.Stop.TheVariants as stops
 use Rattle.cert_files.specs.declared.stop.Rest.{Rest}

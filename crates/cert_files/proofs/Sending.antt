@@ -9,7 +9,7 @@ use Rattle.line_io.specs.Outside.{Rises, Grows, GrowsWhole}
 use Rattle.cert_lines.proofs.EntryLines.{same_word}
 use Rattle.cert_text.specs.Sent.{IsFront, Puts}
 use Rattle.cert_text.proofs.Putting.{front_of_more}
-use Rattle.cert_files.specs.Pieces.{bytes_of, emptied, beside, Staying, sent_into}
+use Rattle.cert_files.specs.inner.Pieces.{bytes_of, emptied, beside, Staying, sent_into}
 
 module _ (tells : Type 0) (reference : ℕ) (name : List ℕ) where
   -- a byte that the buffer has room for

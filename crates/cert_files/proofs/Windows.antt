@@ -9,8 +9,8 @@ use Rattle.line_io.specs.Outside.{Fetches}
 use Rattle.line_io.specs.declared.outside.Fetched.TheVariants.{Got}
 use Rattle.cert_lines.specs.Faults.{IsLine}
 use Rattle.cert_lines.specs.Taking.{IsTaken, IsAtEnd}
-use Rattle.cert_files.specs.Pieces.{bytes_of}
-use Rattle.cert_files.specs.Rest.{bytes_from, IsNext, IsEnd}
+use Rattle.cert_files.specs.inner.Pieces.{bytes_of}
+use Rattle.cert_files.specs.inner.Rest.{bytes_from, IsNext, IsEnd}
 
 front_of : (new : List ℕ) (n : ℕ) → slice_range new 0 n ≡ take n new
 front_of new n = let e : n - 0 ≡ n = omega arith in ap (λ k. take k new) e

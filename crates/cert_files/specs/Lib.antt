@@ -1,5 +1,4 @@
 pub mod From
 pub mod Trim
 pub mod Laws
-pub mod Pieces
-pub mod Rest
+pub mod inner

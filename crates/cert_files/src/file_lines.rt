@@ -2,8 +2,8 @@
 ghost use Rattle.std.specs.Prelude.{◌≡◌, ◌≢◌, ◌⊎◌, ◌+◌, ◌<◌, ◌≤◌, ◌++◌, [], ℕ, true, List, length, slice_range};
 ghost use Rattle.line_io.specs.Outside.{Rises};
 ghost use Rattle.cert_lines.specs.Taking.{IsTaken, IsAtEnd};
-ghost use Rattle.cert_files.specs.Pieces.{bytes_of};
-ghost use Rattle.cert_files.specs.Rest.{bytes_from, IsWithin};
+ghost use Rattle.cert_files.specs.inner.Pieces.{bytes_of};
+ghost use Rattle.cert_files.specs.inner.Rest.{bytes_from, IsWithin};
 ghost use Rattle.cert_files.specs.declared.stop.Next.{Next};
 ghost use Rattle.cert_files.specs.declared.stop.Rest.{Rest};
 ghost use Rattle.cert_files.specs.declared.stop.Stop.{Stop};
@@ -67,7 +67,7 @@ fn next_line<S: Shelf>(
 
 impl<'a, 'b, S: Shelf> Source for FileLines<'a, 'b, S> {
     ghost use Rattle.std.specs.Prelude.{◌++◌, slice_range};
-    ghost use Rattle.cert_files.specs.Rest.{Reading, bytes_from, least_of};
+    ghost use Rattle.cert_files.specs.inner.Rest.{Reading, bytes_from, least_of};
 
     ghost told = { S.tells };
 

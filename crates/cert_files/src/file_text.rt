@@ -17,7 +17,7 @@ pub(crate) struct FileText<'a, 'b, S: Shelf> {
 }
 
 impl<'a, 'b, S: Shelf> Output for FileText<'a, 'b, S> {
-    ghost use Rattle.cert_files.specs.Pieces.{Staying, sent_into};
+    ghost use Rattle.cert_files.specs.inner.Pieces.{Staying, sent_into};
 
     ghost told = { S.tells };
 

@@ -2,8 +2,8 @@
 ghost use Rattle.std.specs.Prelude.{◌≡◌, ◌≢◌, ◌+◌, ◌<◌, ◌≤◌, ◌∷◌, ◌++◌, [], ℕ, true, List, length, slice_range, vec_len};
 ghost use Rattle.line_io.specs.Outside.{Rises};
 ghost use Rattle.cert_lines.specs.Faults.{IsLine};
-ghost use Rattle.cert_files.specs.Pieces.{bytes_of};
-ghost use Rattle.cert_files.specs.Rest.{IsNext, IsEnd};
+ghost use Rattle.cert_files.specs.inner.Pieces.{bytes_of};
+ghost use Rattle.cert_files.specs.inner.Rest.{IsNext, IsEnd};
 ghost use Rattle.cert_files.specs.declared.stop.Refill.{Refill};
 ghost use Rattle.cert_files.specs.declared.stop.Part.{Part};
 

@@ -7,7 +7,7 @@ use Rattle.std.proofs.lemmas.Option.{same_Some, none-some}
 use Rattle.cert_lines.specs.Rows.{Row, form_of, row_text, line_text, rows_text, lines_text}
 use Rattle.cert_lines.specs.Faults.{IsLine, Grammar, Next, HasForm, IsWrong, IsFault}
 use Rattle.cert_lines.specs.Judging.{HasFormOf, IsJudged, one, AreSaid, each, IsRead}
-use Rattle.cert_lines.specs.Answering.{error_at}
+use Rattle.cert_lines.specs.inner.Answering.{error_at}
 use Rattle.cert_lines.specs.declared.fault.LineError.{LineError}
 use Rattle.cert_lines.specs.declared.fault.LineError.TheVariants as lines
 use Rattle.cert_lines.specs.declared.fault.ReadError.{ReadError}

@@ -15,7 +15,7 @@ use Rattle.std.proofs.lemmas.Bool.{false≢true}
 use Rattle.cert_lines.specs.Numbers.{number_text}
 use Rattle.cert_lines.specs.Rows.{Row, fixed, keyed, span, seat, bound, branch, swap, trail, frame, state_entry, state_frame, number, text, form_of, row_text}
 use Rattle.cert_lines.specs.Reading.{greatest, parts_at}
-use Rattle.cert_lines.specs.LineReading.{keyed_in}
+use Rattle.cert_lines.specs.inner.LineReading.{keyed_in}
 use Rattle.cert_lines.specs.ValueRows.{ask_row, kind_row}
 use Rattle.cert_lines.specs.Judging.{HasFormOf, IsJudged}
 use Rattle.cert_lines.specs.Patterns.{key_text, version_row, opening_row, IsOpening}

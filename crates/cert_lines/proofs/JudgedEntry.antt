@@ -15,7 +15,7 @@ use Rattle.cert_lines.specs.Numbers.{number_text, set_text, cites_text, mode_let
 use Rattle.cert_lines.specs.Rows.{Row, fixed, keyed, span, seat, bound, branch, swap, trail, frame, state_entry, state_frame, entry, open_frame, given, form_of, row_text}
 use Rattle.cert_lines.specs.ValueRows.{frame_row, why_row}
 use Rattle.cert_lines.specs.Reading.{greatest}
-use Rattle.cert_lines.specs.LineReading.{entry_in, frame_in}
+use Rattle.cert_lines.specs.inner.LineReading.{entry_in, frame_in}
 use Rattle.cert_lines.specs.Judging.{HasFormOf}
 use Rattle.cert_lines.specs.Patterns.{IsWithin, entry_of, IsFrameWithin, frame_of, written, IsGiven, IsSaid, given_row, IsGivenCycle}
 use Rattle.cert_lines.specs.declared.draft.Draft.{Draft}

@@ -10,7 +10,7 @@ use Rattle.line_rules.specs.declared.types.Side.TheVariants.{Front}
 use Rattle.line_rules.specs.declared.types.Seatplace.{Seatplace}
 use Rattle.cert_lines.specs.Rows.{Row, fixed, keyed, span, seat, bound, branch, swap, trail, frame, state_entry, state_frame, place, head, form_of, row_text}
 use Rattle.cert_lines.specs.ValueRows.{seat_row}
-use Rattle.cert_lines.specs.LineReading.{seat_in, trail_in}
+use Rattle.cert_lines.specs.inner.LineReading.{seat_in, trail_in}
 use Rattle.cert_lines.specs.Judging.{HasFormOf}
 use Rattle.cert_lines.specs.Patterns.{IsHead}
 use Rattle.cert_lines.proofs.CiteWords.{sat}

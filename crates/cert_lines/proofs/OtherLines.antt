@@ -12,7 +12,7 @@ use Rattle.line_rules.specs.declared.types.Side.TheVariants.{Front, Back as AtBa
 use Rattle.cert_lines.specs.Numbers.{number_text}
 use Rattle.cert_lines.specs.Rows.{keyed, seat, trail, row_text}
 use Rattle.cert_lines.specs.Reading.{◌>>=◌, parts_at, number_in, number_first}
-use Rattle.cert_lines.specs.LineReading.{keyed_in, seat_in, side_in, trail_in, trail_numbers}
+use Rattle.cert_lines.specs.inner.LineReading.{keyed_in, seat_in, side_in, trail_in, trail_numbers}
 use Rattle.cert_lines.proofs.NumberWords.{number_again, number_found, number_first_again, split_again, split_none, high_lacks, lacks, bind_some, number_high}
 use Rattle.cert_lines.proofs.CiteWords.{sat}
 use Rattle.cert_lines.proofs.EntryLines.{number_first_found, same_word}

@@ -4,11 +4,10 @@ pub mod ValueRows
 pub mod Faults
 pub mod Telling
 pub mod Reading
-pub mod LineReading
 pub mod Taking
 pub mod ReadingOn
 pub mod Judging
-pub mod Answering
 pub mod Patterns
 pub mod OldRanges
 pub mod Lift
+pub mod inner

@@ -2,7 +2,7 @@
 ghost use Rattle.std.specs.Prelude.{◌≡◌, MatchResult, IfOk, Ok, Err};
 ghost use Rattle.cert_lines.specs.Rows.{Row};
 ghost use Rattle.cert_lines.specs.Judging.{IsJudged, IsRead, AreSaid, one, each};
-ghost use Rattle.cert_lines.specs.Answering.{error_at};
+ghost use Rattle.cert_lines.specs.inner.Answering.{error_at};
 ghost use Rattle.cert_lines.specs.ReadingOn.{IsReadOn};
 
 use crate::fault::{CertFault, CertKind, LineError, ReadError};

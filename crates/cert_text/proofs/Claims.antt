@@ -30,7 +30,7 @@ use Rattle.cert_lines.specs.declared.fault.ReadError.TheVariants as errors
 use Rattle.cert_text.specs.Cert.{head_rows, claim_rows, cert_rows}
 use Rattle.cert_text.specs.OldCert.{old_claim_rows, old_rows}
 use Rattle.cert_text.specs.Parts.{IsHeadOf, heads, lists, IsPlacedOf, placings, behind_rows, opening_of, IsOpened, opened, IsClaimOf, claims}
-use Rattle.cert_text.specs.OldParts.{counted}
+use Rattle.cert_text.specs.inner.OldParts.{counted}
 use Rattle.cert_text.specs.Versions.{AnyCertificate, newer, older, IsAnyInRange, any_rows, lifted, both, certificate_of}
 use Rattle.cert_text.specs.Answers.{IsAnyRead}
 use Rattle.cert_text.specs.declared.reading.Head.{Head}

@@ -14,7 +14,7 @@ use Rattle.cert_lines.specs.Patterns.{IsSaid, given_row}
 use Rattle.cert_lines.specs.OldRanges.{IsPart, AreParts}
 use Rattle.cert_lines.specs.declared.version_one.Part.{Part}
 use Rattle.cert_text.specs.OldCert.{part_rows, parts_rows}
-use Rattle.cert_text.specs.OldParts.{AreFrames, old_trails, room_of, room_left, one_part, so_many, counted}
+use Rattle.cert_text.specs.inner.OldParts.{AreFrames, old_trails, room_of, room_left, one_part, so_many, counted}
 use Rattle.cert_lines.proofs.JudgedEntry.{some_entry}
 use Rattle.cert_lines.specs.declared.fault.ReadError.{ReadError}
 use Rattle.cert_text.proofs.Failing.{Fails, first, second, same}

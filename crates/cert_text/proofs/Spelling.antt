@@ -6,7 +6,7 @@ use Rattle.line_rules.specs.declared.types.Entry.{Entry}
 use Rattle.line_rules.specs.declared.types.Mode.{Mode}
 use Rattle.line_rules.specs.declared.types.OpenFrame.{OpenFrame}
 use Rattle.cert_lines.specs.Numbers.{number_text, set_text, cites_text, mode_letter, last_text}
-use Rattle.cert_text.specs.Pieces.{question_text, swap_text}
+use Rattle.cert_text.specs.inner.Pieces.{question_text, swap_text}
 use Rattle.cert_lines.specs.Rows.{Row, row_text, line_text, rows_text, bound, branch, swap, trail}
 use Rattle.cert_lines.specs.ValueRows.{frame_row}
 

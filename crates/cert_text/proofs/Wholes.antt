@@ -26,7 +26,7 @@ use Rattle.cert_lines.specs.Rows.{keyed, trail, row_text}
 use Rattle.cert_lines.specs.ValueRows.{kind_row, ask_row, seat_row, why_row, entry_row, frame_row}
 use Rattle.cert_text.specs.Cert.{trail_rows}
 use Rattle.cert_lines.specs.Reading.{greatest}
-use Rattle.cert_lines.specs.LineReading.{keyed_in, seat_in, trail_in, entry_in, frame_in}
+use Rattle.cert_lines.specs.inner.LineReading.{keyed_in, seat_in, trail_in, entry_in, frame_in}
 use Rattle.cert_lines.specs.Faults.{Grammar}
 use Rattle.cert_lines.specs.Judging.{one, AreSaid, each, then_, IsRead}
 use Rattle.cert_lines.specs.Patterns.{IsHead, IsGiven, IsSaid, written, given_row, entry_of, frame_of}

@@ -2,8 +2,7 @@ pub mod Cert
 pub mod OldCert
 pub mod Versions
 pub mod Sent
-pub mod Pieces
 pub mod Parts
-pub mod OldParts
 pub mod Answers
 pub mod Laws
+pub mod inner

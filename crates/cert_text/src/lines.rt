@@ -2,7 +2,7 @@
 ghost use Rattle.std.specs.Prelude.{◌≡◌, ◌≤◌, ◌<◌, ◌∷◌, ◌++◌, [], map};
 ghost use Rattle.cert_lines.specs.ValueRows.{kind_row, ask_row, seat_row, entry_row, frame_row};
 ghost use Rattle.cert_text.specs.Cert.{trail_rows, list_rows, bounds_rows, claim_rows, cert_text};
-ghost use Rattle.cert_text.specs.Pieces.{question_text, swap_text};
+ghost use Rattle.cert_text.specs.inner.Pieces.{question_text, swap_text};
 ghost use Rattle.cert_lines.specs.Rows.{keyed, line_text, rows_text};
 ghost use Rattle.cert_text.specs.Sent.{Puts};
 

@@ -3,7 +3,7 @@ ghost use Rattle.std.specs.Prelude.{◌≡◌, ◌≤◌, IfOk, length};
 ghost use Rattle.cert_lines.specs.Judging.{IsRead};
 ghost use Rattle.cert_lines.specs.ReadingOn.{IsReadOn};
 ghost use Rattle.cert_lines.specs.OldRanges.{IsPart, AreParts};
-ghost use Rattle.cert_text.specs.OldParts.{AreFrames, room_left, old_trails, one_part, counted};
+ghost use Rattle.cert_text.specs.inner.OldParts.{AreFrames, room_left, old_trails, one_part, counted};
 
 use cert_lines::pattern::read_lines;
 use cert_lines::patterns::{EntryLine, FrameLine, Key, MAX_CYCLE, read_number};

@@ -6,7 +6,7 @@ use Rattle.line_rules.specs.Order.{IsNext, IsFollowing, After}
 use Rattle.load_facts.specs.Sides.{nothing_yet}
 use Rattle.line_rules.specs.declared.types.Mode.{Mode}
 use Rattle.line_rules.specs.declared.types.Load.{Load}
-use Rattle.load_facts.specs.Scan.{Scan}
+use Rattle.load_facts.specs.inner.Scan.{Scan}
 use Rattle.load_facts.proofs.ScanFacts.{IsBase, scan_start, rescan, base_none, base_some, follows, none_follows, none_above}
 use Rattle.check_loads.specs.Standing.{IsWalk, stand, last_of}
 use Rattle.check_loads.specs.declared.loads.Walk.{Walk}

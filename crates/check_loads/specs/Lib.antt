@@ -1,2 +1,2 @@
-pub mod Posed
 pub mod Standing
+pub mod inner

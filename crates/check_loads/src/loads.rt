@@ -8,7 +8,7 @@ ghost use Rattle.line_rules.specs.Loads.{IsLoad, IsFull, taken};
 ghost use Rattle.line_rules.specs.Order.{After, IsNext, IsFollowing};
 ghost use Rattle.load_facts.specs.Sides.{MayJoin, fills, spot};
 ghost use Rattle.line_rules.specs.declared.types.Load.{Load as Pair};
-ghost use Rattle.load_facts.specs.Scan.{Scan};
+ghost use Rattle.load_facts.specs.inner.Scan.{Scan};
 ghost use Rattle.load_facts.specs.Ends.{IsEnd};
 ghost use Rattle.load_facts.specs.Sides.{HasRoom, pair_at};
 ghost use Rattle.check_loads.specs.Standing.{IsWalk, stand, last_of};

@@ -17,7 +17,7 @@ use Rattle.round_run.specs.declared.plans.Purse.{Purse}
 use Rattle.round_run.specs.declared.rounds.Round.{Round}
 use Rattle.round_run.proofs.PurseFacts.{spent_sum}
 use Rattle.cycle_search.specs.Asking.{HasAskedBook, ListsAll}
-use Rattle.cycle_search.specs.Searching.{HasAsked}
+use Rattle.cycle_search.specs.inner.Searching.{HasAsked}
 use Rattle.cycle_search.specs.declared.asking.Asked.{Asked}
 use Rattle.cycle_search.specs.declared.halving.Halving.{Halving}
 

@@ -24,7 +24,7 @@ use Rattle.line_rules.proofs.ListFacts.{get_longer}
 use Rattle.lemma_core.specs.Own.{AreStatable}
 use Rattle.round_helpers.proofs.Growing.{units_both}
 use Rattle.cert_lines.specs.Lift.{raised, lifted_why, lifted_frame}
-use Rattle.cycle_search.specs.Joined.{raised_entry, behind, HaveCites, HaveFrameCites}
+use Rattle.cycle_search.specs.inner.Joined.{raised_entry, behind, HaveCites, HaveFrameCites}
 
 -- places in lists
 get_map : {X Y : Type 0} (f : X → Y) (xs : List X) (k : ℕ) (x : X) → slice_get xs k ≡ Some x

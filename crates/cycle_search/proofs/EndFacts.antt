@@ -29,7 +29,7 @@ use Rattle.lemma_core.specs.Books.{MayBeBest}
 use Rattle.round_run.specs.Rounds.{by_bound}
 use Rattle.cycle_search.specs.Ends.{NoneApart, first_lower, first_upper, at_first}
 use Rattle.cycle_search.specs.Outcomes.{IsRightIn, IsBelow}
-use Rattle.cycle_search.specs.Searching.{AreOutside, IsKept, IsBetween, IsFirstBook}
+use Rattle.cycle_search.specs.inner.Searching.{AreOutside, IsKept, IsBetween, IsFirstBook}
 use Rattle.cycle_search.specs.declared.halving.Halving.{Halving}
 
 -- no task is longer than a cycle from the first lower end on

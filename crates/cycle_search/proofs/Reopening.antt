@@ -22,9 +22,9 @@ use Rattle.round_run.specs.declared.plans.Plan.{Plan}
 use Rattle.round_run.specs.declared.solving.Cause.{Cause}
 use Rattle.round_run.specs.declared.solving.Cause.TheVariants as cause
 use Rattle.run_certificates.proofs.Sayable.{entries_ok, trail_ok, all_are_tasks}
-use Rattle.cycle_search.specs.Joined.{HaveCites, HaveFrameCites}
+use Rattle.cycle_search.specs.inner.Joined.{HaveCites, HaveFrameCites}
 use Rattle.cycle_search.specs.Outcomes.{IsBelow}
-use Rattle.cycle_search.specs.Searching.{AreOutside, IsKept, IsBetween, IsAsking, IsStuck}
+use Rattle.cycle_search.specs.inner.Searching.{AreOutside, IsKept, IsBetween, IsAsking, IsStuck}
 use Rattle.cycle_search.specs.declared.halving.Halving.{Halving}
 
 -- entries that follow from each other cite entries of their list

@@ -23,9 +23,9 @@ use Rattle.round_run.specs.declared.plans.Plan.{Plan}
 use Rattle.round_run.specs.declared.solving.Cause.{Cause}
 use Rattle.round_run.specs.declared.solving.Cause.TheVariants as cause
 use Rattle.cert_lines.specs.Lift.{lifted_frame}
-use Rattle.cycle_search.specs.Joined.{behind}
+use Rattle.cycle_search.specs.inner.Joined.{behind}
 use Rattle.cycle_search.specs.Outcomes.{IsRightIn, AreSome, ShowsLower, IsStopped, IsSpent, Searches}
-use Rattle.cycle_search.specs.Searching.{HasEnds, IsBetween, IsStuck}
+use Rattle.cycle_search.specs.inner.Searching.{HasEnds, IsBetween, IsStuck}
 use Rattle.cycle_search.specs.declared.halving.Halving.{Halving}
 use Rattle.cycle_search.specs.declared.searching.CycleOutcome.TheVariants as outcome
 use Rattle.cycle_search.proofs.BehindFacts.{derived_up, trail_up, length_behind, statable_behind, answer_before}

@@ -1,5 +1,4 @@
 pub mod Asking
 pub mod Ends
-pub mod Joined
 pub mod Outcomes
-pub mod Searching
+pub mod inner

@@ -6,7 +6,7 @@ ghost use Rattle.line_rules.specs.Ranges.{IsCycle};
 ghost use Rattle.lemma_core.specs.Books.{IsReserved, MayBeBest};
 ghost use Rattle.round_run.specs.Rounds.{by_bound};
 ghost use Rattle.cycle_search.specs.Ends.{NoneApart, first_lower, first_upper};
-ghost use Rattle.cycle_search.specs.Searching.{IsBetween, IsFirstBook};
+ghost use Rattle.cycle_search.specs.inner.Searching.{IsBetween, IsFirstBook};
 
 use crate::ends::{Ends, all_at_first, first_ends};
 use crate::halving::Halving;

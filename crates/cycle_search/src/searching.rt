@@ -4,9 +4,9 @@ ghost use Rattle.line_rules.specs.declared.types.Entry.{Entry};
 ghost use Rattle.round_run.specs.Plans.{IsPlan};
 ghost use Rattle.round_run.specs.declared.plans.Plan.{Plan as Planned};
 ghost use Rattle.cycle_search.specs.Ends.{NoneApart};
-ghost use Rattle.cycle_search.specs.Joined.{behind, HaveCites, HaveFrameCites};
+ghost use Rattle.cycle_search.specs.inner.Joined.{behind, HaveCites, HaveFrameCites};
 ghost use Rattle.cycle_search.specs.Outcomes.{Searches};
-ghost use Rattle.cycle_search.specs.Searching.{IsBetween, IsStuck};
+ghost use Rattle.cycle_search.specs.inner.Searching.{IsBetween, IsStuck};
 
 use crate::halving::Halving;
 use crate::joining::{joined, raise_frames};

@@ -12,7 +12,7 @@ ghost use Rattle.line_rules.specs.declared.types.LineKind.{LineKind as Kind};
 ghost use Rattle.lemma_core.specs.Books.{IsReserved, MayBeBest};
 ghost use Rattle.cert_files.specs.Trim.{CitesEarlier};
 ghost use Rattle.round_run.specs.Plans.{IsPlan};
-ghost use Rattle.cycle_search.specs.Searching.{IsBetween, IsAsking, HasAsked, IsTried, IsKept};
+ghost use Rattle.cycle_search.specs.inner.Searching.{IsBetween, IsAsking, HasAsked, IsTried, IsKept};
 
 use crate::asking::ask_book;
 use crate::halving::Halving;

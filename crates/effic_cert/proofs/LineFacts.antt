@@ -12,8 +12,8 @@ use Rattle.cert_lines.proofs.Judged.{small, small_is, keyed_only}
 use Rattle.cert_text.proofs.Decoding.{row_lacks}
 use Rattle.text_grammar.specs.Texts.{TellsLine}
 use Rattle.effic_cert.specs.Product.{IsProduct, IsStations}
-use Rattle.effic_cert.specs.Parts.{AreEnds, ends_row, bound_text}
-use Rattle.effic_cert.specs.WideReading.{widest, wide_keyed_in, span_in}
+use Rattle.effic_cert.specs.inner.Parts.{AreEnds, ends_row, bound_text}
+use Rattle.effic_cert.specs.inner.WideReading.{widest, wide_keyed_in, span_in}
 use Rattle.effic_cert.specs.declared.lines.Bound.{Bound}
 use Rattle.effic_cert.specs.declared.lines.Bound.TheVariants as bounds
 use Rattle.effic_cert.proofs.WideWords.{wide_keyed_again, wide_keyed_found, span_again, span_found}

@@ -15,7 +15,7 @@ use Rattle.cert_lines.proofs.CiteWords.{sat}
 use Rattle.cert_lines.proofs.EntryLines.{number_first_found, same_word}
 use Rattle.cert_lines.proofs.Lists.{split_parts, chosen}
 use Rattle.cert_lines.proofs.Parts.{value_push}
-use Rattle.effic_cert.specs.WideReading.{widest, wide_in, wide_keyed_in, two_in, span_in}
+use Rattle.effic_cert.specs.inner.WideReading.{widest, wide_in, wide_keyed_in, two_in, span_in}
 
 same_words : (a : List ℕ) → bytes_eq a a ≡ true
 same_words a = (bytes_eq-Decides a a).1 refl

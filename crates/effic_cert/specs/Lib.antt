@@ -1,5 +1,4 @@
 pub mod Product
 pub mod Faults
 pub mod Laws
-pub mod WideReading
-pub mod Parts
+pub mod inner

@@ -1,6 +1,6 @@
 //! The lines that certificates of other questions don't have.
 ghost use Rattle.std.specs.Prelude.{◌≡◌};
-ghost use Rattle.effic_cert.specs.Parts.{bound_text};
+ghost use Rattle.effic_cert.specs.inner.Parts.{bound_text};
 
 use crate::words::{span, wide_keyed};
 use cert_lines::LineError;
@@ -15,7 +15,7 @@ const MAX_PRODUCT: u128 = 1_000_000_000_000_000_000_000_000;
 pub(crate) struct StationsLine;
 
 impl Pattern for StationsLine {
-    ghost use Rattle.effic_cert.specs.Parts.{ends_row, AreEnds};
+    ghost use Rattle.effic_cert.specs.inner.Parts.{ends_row, AreEnds};
 
     type Value = (u32, u32);
 
@@ -74,7 +74,7 @@ pub(crate) struct BoundLine {
 impl Pattern for BoundLine {
     ghost use Rattle.cert_lines.specs.Rows.{keyed};
     ghost use Rattle.effic_cert.specs.Product.{IsProduct};
-    ghost use Rattle.effic_cert.specs.Parts.{bound_text};
+    ghost use Rattle.effic_cert.specs.inner.Parts.{bound_text};
 
     type Value = u128;
 

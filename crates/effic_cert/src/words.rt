@@ -1,7 +1,7 @@
 //! The reading of wide numbers, and of lines of a word and two numbers.
 ghost use Rattle.std.specs.Prelude.{◌≡◌, min};
 ghost use Rattle.line_io.specs.Lines.{value_of};
-ghost use Rattle.effic_cert.specs.WideReading.{widest, wide_in, wide_keyed_in, two_in, span_in};
+ghost use Rattle.effic_cert.specs.inner.WideReading.{widest, wide_in, wide_keyed_in, two_in, span_in};
 
 use cert_lines::words::{first_number, number, split_at};
 

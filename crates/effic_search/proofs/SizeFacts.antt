@@ -30,7 +30,7 @@ use Rattle.budget_law.proofs.DistinctNumbers.{Has, Differ, few_below}
 use Rattle.budget_law.proofs.TripleCodes.{low, code, code_same, code_lt}
 use Rattle.budget_law.proofs.FewUnits.{units_few}
 use Rattle.effic_search.specs.Counted.{other, others}
-use Rattle.effic_search.specs.Going.{HaveCycles}
+use Rattle.effic_search.specs.inner.Going.{HaveCycles}
 use Rattle.effic_search.proofs.CycleSums.{SumOf, sum_few}
 
 bit : Bool → ℕ

@@ -34,8 +34,8 @@ use Rattle.round_helpers.proofs.Growing.{units_both, has_longer}
 use Rattle.cycle_search.specs.Ends.{NoneApart, first_lower, first_upper, at_first}
 use Rattle.cycle_search.proofs.EndFacts.{first_right}
 use Rattle.effic_search.specs.Counted.{other, others, IsCounted}
-use Rattle.effic_search.specs.Going.{IsFloored, IsTight, IsLowering, IsGoing}
-use Rattle.effic_search.specs.Opening.{IsGoalByBound, AddsGoal, IsFirstBook}
+use Rattle.effic_search.specs.inner.Going.{IsFloored, IsTight, IsLowering, IsGoing}
+use Rattle.effic_search.specs.inner.Opening.{IsGoalByBound, AddsGoal, IsFirstBook}
 use Rattle.effic_search.specs.Since.{IsSinceGoal}
 use Rattle.effic_search.specs.declared.counting.Listed.{Listed}
 use Rattle.effic_search.specs.declared.lowering.Lowering.{Lowering}

@@ -36,9 +36,9 @@ use Rattle.cycle_search.proofs.Tries.{widened_right}
 use Rattle.effic_check.specs.Accepted.{IsClosed, cycle_below}
 use Rattle.effic_check.proofs.Proved.{below_cycle}
 use Rattle.effic_search.specs.Counted.{IsCounted, AreFew, others}
-use Rattle.effic_search.specs.Going.{IsFloored, HaveCycles, IsLowering, IsGoing, IsLeftAt, IsStuck, HasAsked}
-use Rattle.effic_search.specs.Going.{IsTight, IsImproved}
-use Rattle.effic_search.specs.Going.{EndsWith, IsSettled, product_of, entries_of}
+use Rattle.effic_search.specs.inner.Going.{IsFloored, HaveCycles, IsLowering, IsGoing, IsLeftAt, IsStuck, HasAsked}
+use Rattle.effic_search.specs.inner.Going.{IsTight, IsImproved}
+use Rattle.effic_search.specs.inner.Going.{EndsWith, IsSettled, product_of, entries_of}
 use Rattle.effic_search.specs.declared.settling.Settled.{Settled}
 use Rattle.effic_search.specs.declared.settling.Settled.TheVariants as settled
 use Rattle.effic_search.specs.Since.{IsSinceGoal}

@@ -1,6 +1,5 @@
 pub mod Counted
 pub mod Since
 pub mod Lowest
-pub mod Going
-pub mod Opening
 pub mod Outcomes
+pub mod inner

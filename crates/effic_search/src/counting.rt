@@ -10,7 +10,7 @@ ghost use Rattle.line_rules.specs.Units.{UnitsBy, UnitsOf};
 ghost use Rattle.line_rules.specs.declared.types.Entry.{Entry as Said};
 ghost use Rattle.lemma_core.specs.Own.{AreStatable};
 ghost use Rattle.effic_search.specs.Counted.{IsCounted, other};
-ghost use Rattle.effic_search.specs.Going.{EndsWith};
+ghost use Rattle.effic_search.specs.inner.Going.{EndsWith};
 ghost use Rattle.effic_search.specs.Lowest.{IsGreatestRefuted, IsLowest};
 
 use line_check::{EntryChecked, has_answer, verify_entry};

@@ -1,7 +1,7 @@
 //! What is asked for, and the search between two tries: its balance, its book, and what the entries of the book are.
 ghost use Rattle.std.specs.Prelude.{◌≡◌, ◌≤◌, ◌<◌, ◌^◌};
 ghost use Rattle.effic_check.specs.Accepted.{cycle_below};
-ghost use Rattle.effic_search.specs.Going.{product_of};
+ghost use Rattle.effic_search.specs.inner.Going.{product_of};
 
 use crate::counting::Listed;
 use lemma_core::Book;

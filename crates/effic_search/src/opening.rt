@@ -2,8 +2,8 @@
 ghost use Rattle.std.specs.Prelude.{◌≡◌, ◌≤◌, IfOk, OnOk};
 ghost use Rattle.lemma_core.specs.Books.{IsReserved};
 ghost use Rattle.effic_check.specs.Accepted.{NoneApart};
-ghost use Rattle.effic_search.specs.Going.{IsFloored, IsGoing};
-ghost use Rattle.effic_search.specs.Opening.{AddsGoal};
+ghost use Rattle.effic_search.specs.inner.Going.{IsFloored, IsGoing};
+ghost use Rattle.effic_search.specs.inner.Opening.{AddsGoal};
 
 use crate::counting::Listed;
 use crate::lowering::{Lowering, Wanted};

@@ -5,8 +5,8 @@ ghost use Rattle.round_run.specs.Plans.{IsPlan};
 ghost use Rattle.round_run.specs.declared.plans.Plan.{Plan as Planned};
 ghost use Rattle.effic_check.specs.Accepted.{NoneApart};
 ghost use Rattle.effic_check.specs.Truth.{IsBetween};
-ghost use Rattle.effic_search.specs.Going.{IsLowering, IsGoing, IsSettled, HasTrailBy, HasFewUnits};
-ghost use Rattle.effic_search.specs.Going.{product_of, entries_of};
+ghost use Rattle.effic_search.specs.inner.Going.{IsLowering, IsGoing, IsSettled, HasTrailBy, HasFewUnits};
+ghost use Rattle.effic_search.specs.inner.Going.{product_of, entries_of};
 ghost use Rattle.effic_search.specs.Lowest.{IsLowest};
 ghost use Rattle.effic_search.specs.Outcomes.{IsCertified, Lowers};
 

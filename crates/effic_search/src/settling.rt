@@ -1,7 +1,7 @@
 //! All tries at one number of stations, until no smaller product is left open there.
 ghost use Rattle.std.specs.Prelude.{◌≡◌, ◌≤◌, ◌<◌, ◌⊎◌, true, false, IfOk};
 ghost use Rattle.round_run.specs.Plans.{IsPlan};
-ghost use Rattle.effic_search.specs.Going.{IsGoing, IsSettled};
+ghost use Rattle.effic_search.specs.inner.Going.{IsGoing, IsSettled};
 
 use crate::counting::{Listed, is_closed};
 use crate::lowering::{Lowering, Wanted};

@@ -18,8 +18,8 @@ use Rattle.line_rules.specs.declared.types.Balance.{Balance as Assignment}
 use Rattle.line_rules.proofs.Ranks.{station_last, stations_few, placed_fits, back_closed, side_right}
 use Rattle.first_fit.specs.declared.filling.Choice.{Choice as Pick}
 use Rattle.first_fit.specs.declared.filling.Filling.{Filling as Filled}
-use Rattle.first_fit.specs.Filling.{MayStand, MayJoin, with_front, with_back, joined, started, next_station}
-use Rattle.first_fit.specs.Picked.{IsFirst}
+use Rattle.first_fit.specs.inner.Filling.{MayStand, MayJoin, with_front, with_back, joined, started, next_station}
+use Rattle.first_fit.specs.inner.Picked.{IsFirst}
 
 -- The sets, the station, the time that is left of it and the places are those of ranked placements.
 pub record IsFilling (kind : LineKind) (line : Line) (c : ℕ) (f : Filled) (place : List Seatplace) : Type 0 where

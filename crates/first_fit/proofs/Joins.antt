@@ -13,8 +13,8 @@ use Rattle.line_rules.specs.declared.types.Side.{Side}
 use Rattle.line_rules.specs.declared.types.Side.TheVariants.{Front, Back}
 use Rattle.first_fit.specs.declared.filling.Choice.{Choice as Pick}
 use Rattle.first_fit.specs.declared.filling.Filling.{Filling as Filled}
-use Rattle.first_fit.specs.Filling.{MayStand, MayJoin}
-use Rattle.first_fit.specs.Picked.{IsFirst, heavier, IsBetter}
+use Rattle.first_fit.specs.inner.Filling.{MayStand, MayJoin}
+use Rattle.first_fit.specs.inner.Picked.{IsFirst, heavier, IsBetter}
 
 other : Back ≡ Front → ⊥
 other e = cc

@@ -17,7 +17,7 @@ use Rattle.line_rules.specs.declared.types.Balance.{Balance as Assignment}
 use Rattle.line_rules.proofs.Ranks.{station_last, stations_few, back_closed}
 use Rattle.first_fit.specs.declared.filling.Choice.{Choice as Pick}
 use Rattle.first_fit.specs.declared.filling.Filling.{Filling as Filled}
-use Rattle.first_fit.specs.Filling.{MayJoin, with_front, with_back, joined, started, next_station}
+use Rattle.first_fit.specs.inner.Filling.{MayJoin, with_front, with_back, joined, started, next_station}
 use Rattle.first_fit.proofs.Fills.{IsFilling, closed_of, length-with_front, length-with_back}
 use Rattle.first_fit.proofs.Joins.{side_front}
 

@@ -1,4 +1,2 @@
-pub mod Filling
-pub mod Weights
-pub mod Picked
 pub mod Answers
+pub mod inner

@@ -1,7 +1,7 @@
 //! A line that is being filled.
 ghost use Rattle.std.specs.Prelude.{◌≡◌, ◌≤◌, ◌<◌, ◌^◌, ◌↔◌, IsTrue, length};
 ghost use Rattle.line_instance.specs.Line.{tasks, time};
-ghost use Rattle.first_fit.specs.Filling.{MayJoin, joined, next_station, started};
+ghost use Rattle.first_fit.specs.inner.Filling.{MayJoin, joined, next_station, started};
 
 use line_instance::Instance;
 use line_rules::{LineKind, Side};

@@ -1,9 +1,9 @@
 //! The choice of the next task.
 ghost use Rattle.std.specs.Prelude.{◌≡◌, ◌<◌, IsNone, IfSome};
 ghost use Rattle.line_instance.specs.Line.{tasks};
-ghost use Rattle.first_fit.specs.Filling.{MayJoin};
-ghost use Rattle.first_fit.specs.Weights.{AreWeights};
-ghost use Rattle.first_fit.specs.Picked.{IsFirst, IsBetter};
+ghost use Rattle.first_fit.specs.inner.Filling.{MayJoin};
+ghost use Rattle.first_fit.specs.inner.Weights.{AreWeights};
+ghost use Rattle.first_fit.specs.inner.Picked.{IsFirst, IsBetter};
 ghost use Rattle.first_fit.specs.declared.filling.Choice.{Choice as Pick};
 
 use crate::filling::{Choice, Filling};

@@ -2,7 +2,7 @@
 ghost use Rattle.std.specs.Prelude.{◌≡◌, ◌<◌, ◌≤◌, IfOk, length};
 ghost use Rattle.line_instance.specs.Line.{Line, tasks};
 ghost use Rattle.line_rules.specs.Ranked.{weight};
-ghost use Rattle.first_fit.specs.Weights.{AreWeights, weight_in};
+ghost use Rattle.first_fit.specs.inner.Weights.{AreWeights, weight_in};
 ghost use Rattle.line_rules.specs.declared.types.Side.TheVariants.{Front, Back};
 
 use crate::filling::Choice;

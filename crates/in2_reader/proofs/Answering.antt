@@ -3,7 +3,7 @@ use Rattle.std.proofs.Common.{◌≡◌, ℕ, List, length, Ok, inl, inr, subst,
 use Rattle.line_instance.specs.Walks.{AreArcs}
 use Rattle.line_instance.specs.Made.{AreTimes}
 use Rattle.in2_reader.specs.Contents.{contents_from, lines_in}
-use Rattle.in2_reader.specs.Reading.{text_said, Fails}
+use Rattle.in2_reader.specs.inner.Reading.{text_said, Fails}
 use Rattle.in2_reader.specs.Grammar.{In2, IsIn2}
 use Rattle.in2_reader.specs.Answers.{IsIn2Read, IsReadingOf, refusal}
 use Rattle.in2_reader.specs.declared.fault.ReadError.{ReadError}

@@ -7,7 +7,7 @@ use Rattle.in2_reader.specs.Contents.{Lines, contents_from, lines_in}
 use Rattle.in2_reader.specs.Pairs.{pair_in, of_two}
 use Rattle.in2_reader.specs.Faults.{IsBeginning}
 use Rattle.in2_reader.specs.ApartFile.{ArePaired, SpellsApart, IsApartFile, IsApartRead, IsApartFault, IsApartAnswer, apart_refusal}
-use Rattle.in2_reader.specs.Reading.{pairs_in, apart_said, Fails}
+use Rattle.in2_reader.specs.inner.Reading.{pairs_in, apart_said, Fails}
 use Rattle.in2_reader.specs.declared.pair.Meaning.TheVariants.{Apart}
 use Rattle.in2_reader.specs.declared.pair.Pair.{Pair}
 use Rattle.in2_reader.specs.declared.pair.Pair.TheVariants.{Arc, BadArc, End, Other}

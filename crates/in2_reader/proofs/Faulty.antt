@@ -14,7 +14,7 @@ use Rattle.in2_reader.specs.declared.pair.Pair.{Pair}
 use Rattle.in2_reader.specs.declared.pair.Pair.TheVariants.{Arc, BadArc as NoTasks, End, Other}
 use Rattle.in2_reader.specs.declared.fault.In2Fault.{In2Fault}
 use Rattle.in2_reader.specs.declared.fault.In2Kind.TheVariants.{NotANumber, Range, MissingTimes, MissingEnd, BadArc, TooManyArcs}
-use Rattle.in2_reader.specs.Reading.{times_in, pairs_in, timed, paired, with_time, with_arc, with_times, then_pairs, counted, lines_said}
+use Rattle.in2_reader.specs.inner.Reading.{times_in, pairs_in, timed, paired, with_time, with_arc, with_times, then_pairs, counted, lines_said}
 use Rattle.in2_reader.specs.Grammar.{In2, Spells}
 use Rattle.in2_reader.specs.Faults.{IsBeginning, IsRead, Begins, count_fault, time_fault, pair_fault, IsWrong, count, time, pair, IsMissing, all, times, mark, IsLineFault, IsEndFault, IsFormFault}
 use Rattle.in2_reader.proofs.Spelled.{time_at, pair_at, times_read, times_spelled, spelled_is_read}

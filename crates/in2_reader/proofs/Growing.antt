@@ -1,7 +1,7 @@
 -- What is read so far, before what is read from what is left.
 use Rattle.std.proofs.Common.{◌≡◌, ℕ, suc, ◌+◌, ◌-◌, ◌<◌, List, [], ◌∷◌, ◌++◌, refl, sym, ◌∙◌, ap, subst, arith, Ok, Err, Result, append_assoc}
 use Rattle.in2_reader.specs.Contents.{Lines}
-use Rattle.in2_reader.specs.Reading.{times_in, timed, with_time, with_arc, Fails}
+use Rattle.in2_reader.specs.inner.Reading.{times_in, timed, with_time, with_arc, Fails}
 use Rattle.in2_reader.specs.declared.fault.In2Fault.{In2Fault}
 use Rattle.line_instance.specs.declared.arcs.Prec.{Prec}
 use Rattle.in2_reader.specs.declared.fault.In2Kind.{In2Kind}

@@ -14,7 +14,7 @@ use Rattle.in2_reader.specs.declared.pair.Pair.TheVariants.{Arc, BadArc as NoTas
 use Rattle.in2_reader.specs.declared.fault.In2Fault.{In2Fault}
 use Rattle.in2_reader.specs.declared.fault.In2Kind.TheVariants.{Range, MissingEnd}
 use Rattle.in2_reader.specs.Contents.{Lines}
-use Rattle.in2_reader.specs.Reading.{times_in, pairs_in, timed, paired, with_time, with_arc, with_times, then_pairs, counted, lines_said}
+use Rattle.in2_reader.specs.inner.Reading.{times_in, pairs_in, timed, paired, with_time, with_arc, with_times, then_pairs, counted, lines_said}
 use Rattle.in2_reader.specs.Grammar.{In2, Spells}
 
 -- what a line is where a time is wanted, and where a pair is

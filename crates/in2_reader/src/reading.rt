@@ -4,7 +4,7 @@ ghost use Rattle.line_io.specs.Lines.{number_in};
 ghost use Rattle.in2_reader.specs.Contents.{contents_from, lines_in};
 ghost use Rattle.line_io.specs.declared.text.Num.TheVariants.{Value};
 ghost use Rattle.in2_reader.specs.declared.fault.ReadError.TheVariants as errors;
-ghost use Rattle.in2_reader.specs.Reading.{Gives, times_in, pairs_in, counted, text_said};
+ghost use Rattle.in2_reader.specs.inner.Reading.{Gives, times_in, pairs_in, counted, text_said};
 
 use crate::fault::{In2Fault, In2Kind, ReadError};
 use crate::line::next_content;

@@ -12,7 +12,7 @@ use Rattle.std.proofs.lemmas.Option.{slice_get_within, slice_get_read, slice_get
 use Rattle.line_rules.specs.Entries.{Answers, IsUnanswered}
 use Rattle.line_rules.specs.declared.types.Entry.{Entry}
 use Rattle.line_rules.proofs.Grown.{get_longer, get_push_cases}
-use Rattle.lemma_core.specs.Chains.{tag_of, tags_of, place, IsLast, IsChained, IsSieve, bucket_in, word_in, mark_of, tags, links, IsIndex, IsIndexOf}
+use Rattle.lemma_core.specs.inner.Chains.{tag_of, tags_of, place, IsLast, IsChained, IsSieve, bucket_in, word_in, mark_of, tags, links, IsIndex, IsIndexOf}
 use Rattle.lemma_core.specs.declared.index.Link.{Link}
 use Rattle.lemma_core.proofs.Logs.{get-end}
 

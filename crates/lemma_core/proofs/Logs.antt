@@ -20,7 +20,7 @@ use Rattle.lemma_core.specs.Own.{IsStatable}
 use Rattle.lemma_core.specs.Books.{BookView, IsBook, IsReserved, ran, DoesPublish}
 use Rattle.lemma_core.specs.declared.types.Published.{Published}
 use Rattle.lemma_core.specs.declared.types.Published.TheVariants as published
-use Rattle.lemma_core.specs.Inside.{Below, AllBelow, book_of, IsLogged}
+use Rattle.lemma_core.specs.inner.Inside.{Below, AllBelow, book_of, IsLogged}
 use Rattle.lemma_core.proofs.ExactItems.{exact_append, history_exact}
 use Rattle.lemma_core.proofs.Runs.{replay-append, history_replayed, run_keeps}
 

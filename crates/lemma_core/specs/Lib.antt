@@ -4,5 +4,4 @@ pub mod Laws
 pub mod Desks
 pub mod Own
 pub mod Books
-pub mod Inside
-pub mod Chains
+pub mod inner

@@ -45,9 +45,9 @@ pub struct Book {
 
 impl Model for Book {
     ghost use Rattle.std.specs.Prelude.{◌+◌, ◌≤◌, vec_len, vec_capacity};
-    ghost use Rattle.lemma_core.specs.Chains.{IsIndexOf};
+    ghost use Rattle.lemma_core.specs.inner.Chains.{IsIndexOf};
     ghost use Rattle.lemma_core.specs.Books.{BookView, IsBook};
-    ghost use Rattle.lemma_core.specs.Inside.{book_of, IsLogged};
+    ghost use Rattle.lemma_core.specs.inner.Inside.{book_of, IsLogged};
 
     ghost Value = { BookView };
 

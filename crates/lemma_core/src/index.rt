@@ -12,7 +12,7 @@ ghost use Rattle.std.specs.Hash as fed;
 ghost use Rattle.std.specs.Hash.FoldHasher as folding;
 ghost use Rattle.task_set.specs.Truths.{words_of};
 ghost use Rattle.lemma_core.specs.Machine.{last_answer};
-ghost use Rattle.lemma_core.specs.Chains.{tag_of, tags, bucket_in, word_in, mark_of, IsIndex, IsIndexOf};
+ghost use Rattle.lemma_core.specs.inner.Chains.{tag_of, tags, bucket_in, word_in, mark_of, IsIndex, IsIndexOf};
 
 use crate::plain_lookup::is_answer;
 use line_rules::Entries;

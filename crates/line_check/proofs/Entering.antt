@@ -15,7 +15,7 @@ use Rattle.line_rules.proofs.Nonempty.{member_or_empty}
 use Rattle.line_rules.proofs.Sound.{get_within, get_some}
 use Rattle.line_check.specs.Walks.{IsFirstLate, AreBelow}
 use Rattle.line_check.specs.Faults.{Fails, IsReady}
-use Rattle.line_check.specs.Swaps.{IsSwapped}
+use Rattle.line_check.specs.inner.Swaps.{IsSwapped}
 use Rattle.line_check.specs.declared.types.EntryFault.{EntryFault}
 use Rattle.line_check.specs.declared.types.EntryFault.TheVariants as fault
 use Rattle.line_check.proofs.Exact.{not_uncovered, not_spare}

@@ -15,7 +15,7 @@ use Rattle.line_rules.proofs.Unique.{precedes_trans}
 use Rattle.line_check.specs.Walks.{IsUncovered, IsPast, CountsTo, Tells}
 use Rattle.line_check.specs.Reaches.{IsMatched, TellsTo, HasEnded}
 use Rattle.line_check.specs.Frames.{WalksTo, NeedsTo, EndsWell}
-use Rattle.line_check.specs.Steps.{IsLacking, Takes}
+use Rattle.line_check.specs.inner.Steps.{IsLacking, Takes}
 use Rattle.line_check.specs.declared.types.Walked.{Walked}
 use Rattle.line_check.proofs.Walking.{IsWalking, walk_takes, walk_fails, walk_past, walk_before, walk_counts, finish}
 

@@ -17,7 +17,7 @@ use Rattle.std.proofs.lemmas.List.{take_all}
 use Rattle.line_check.specs.Walks.{IsUncovered, IsPast, CountsTo, CoversBefore, Tells}
 use Rattle.line_check.specs.Reaches.{HasEnded}
 use Rattle.line_check.specs.declared.types.Walked.{Walked}
-use Rattle.line_check.specs.Steps.{IsLacking, Takes}
+use Rattle.line_check.specs.inner.Steps.{IsLacking, Takes}
 
 pub record IsWalking (kind : LineKind) (line : Line) (c : ℕ) (mode : Mode) (R : List Bool) (most : ℕ) (earlier : List Entry) (cites : List ℕ) (last : Option Load) (units taken : ℕ) : Type 0 where
   pub is_load : LastIsLoad line c mode R last

@@ -1,12 +1,10 @@
 pub mod Walks
-pub mod Steps
 pub mod Reaches
 pub mod Faults
-pub mod Swaps
 pub mod Lists
-pub mod Pairs
 pub mod Frames
 pub mod Verdicts
 pub mod Certificates
 pub mod VersionOne
 pub mod Laws
+pub mod inner

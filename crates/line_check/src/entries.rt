@@ -8,7 +8,7 @@ ghost use Rattle.line_rules.specs.declared.types.Why.TheVariants as why;
 ghost use Rattle.line_rules.specs.declared.types.Entry.{Entry as Step};
 ghost use Rattle.line_rules.specs.declared.types.LineKind.{LineKind as Kind};
 ghost use Rattle.line_check.specs.Faults.{IsFound, IsChecked};
-ghost use Rattle.line_check.specs.Swaps.{StandsFor, IsSwapped};
+ghost use Rattle.line_check.specs.inner.Swaps.{StandsFor, IsSwapped};
 
 use crate::types::{EntryChecked, EntryFault, Found, Walked};
 use crate::walks::{first_late, walk_all};

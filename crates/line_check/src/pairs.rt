@@ -4,7 +4,7 @@ ghost use Rattle.task_set.specs.Truths.{In};
 ghost use Rattle.line_instance.specs.Line.{tasks};
 ghost use Rattle.line_rules.specs.Loads.{IsLoad, taken};
 ghost use Rattle.line_rules.specs.Ranges.{IsLoadLike};
-ghost use Rattle.line_check.specs.Pairs.{IsClosedAt};
+ghost use Rattle.line_check.specs.inner.Pairs.{IsClosedAt};
 
 use crate::entries::is_met;
 use line_instance::Instance;

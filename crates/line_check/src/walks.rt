@@ -4,9 +4,9 @@ ghost use Rattle.line_rules.specs.Loads.{IsLoad, rest};
 ghost use Rattle.line_rules.specs.Bounds.{bound};
 ghost use Rattle.line_rules.specs.Entries.{IsOpen, Cites as Refutes};
 ghost use Rattle.line_check.specs.Walks.{IsFirstLate, AreBelow, Tells};
-ghost use Rattle.line_check.specs.Steps.{IsLacking, Takes};
+ghost use Rattle.line_check.specs.inner.Steps.{IsLacking, Takes};
 ghost use Rattle.line_check.specs.Reaches.{TellsTo, HasEnded};
-ghost use Rattle.check_loads.specs.Posed.{IsPosed};
+ghost use Rattle.check_loads.specs.inner.Posed.{IsPosed};
 ghost use Rattle.check_loads.specs.Standing.{IsWalk, stand};
 
 use crate::entries::is_same;

@@ -11,7 +11,7 @@ use Rattle.std.specs.Prelude.{ltb}
 use Rattle.task_set.specs.Truths.{In, union, IsGreatestBelow, full_to}
 use Rattle.task_set.proofs.Members.{In-set_same, In-set_kept, In-set_cases, In-union_left, In-union_right, In-union_cases}
 use Rattle.line_instance.specs.Walks.{at}
-use Rattle.line_instance.specs.Inside.{AreRows, AreEmpty, AreDirect, IsJoined, AreJoined, IsWhole}
+use Rattle.line_instance.specs.inner.Inside.{AreRows, AreEmpty, AreDirect, IsJoined, AreJoined, IsWhole}
 use Rattle.line_instance.specs.declared.arcs.Prec.{Prec}
 
 -- nothing is in the empty set

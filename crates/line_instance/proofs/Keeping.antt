@@ -9,7 +9,7 @@ use Rattle.task_set.specs.Truths.{In}
 use Rattle.line_instance.specs.Line.{Line, tasks}
 use Rattle.line_instance.specs.Walks.{at}
 use Rattle.line_instance.specs.Partners.{IsPartner, AreKept}
-use Rattle.line_instance.specs.Inside.{kept_of, ArePartners, of_rows}
+use Rattle.line_instance.specs.inner.Inside.{kept_of, ArePartners, of_rows}
 use Rattle.line_instance.specs.declared.partners.Kept.{Kept}
 
 -- a set without one member

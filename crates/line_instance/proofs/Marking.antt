@@ -7,7 +7,7 @@ use Rattle.std.proofs.lemmas.List.Elements.{Contains-append_left, Contains-appen
 use Rattle.std.proofs.lemmas.Bool.{cases_eq, cases_lt}
 use Rattle.task_set.specs.Truths.{In, IsGreatestBelow}
 use Rattle.line_instance.specs.Walks.{Leads, at, arc_at, ArePairs}
-use Rattle.line_instance.specs.Inside.{AreRows, AreEmpty, AreMarked, AreTurned, ArePaired, IsPermutation, AreRanksOf, StandsBelow, LeadsIn, IsWhole}
+use Rattle.line_instance.specs.inner.Inside.{AreRows, AreEmpty, AreMarked, AreTurned, ArePaired, IsPermutation, AreRanksOf, StandsBelow, LeadsIn, IsWhole}
 use Rattle.line_instance.specs.declared.arcs.Prec.{Prec}
 use Rattle.line_instance.proofs.Joining.{marked, marked_kept, marked_here, marked_cases, marked_length, marked_rows, only_one}
 

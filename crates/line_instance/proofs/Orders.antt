@@ -6,7 +6,7 @@ use Rattle.std.proofs.lemmas.Bool.{cases_eq, cases_lt, cases_Bool, false≢true}
 use Rattle.task_set.specs.Truths.{In}
 use Rattle.task_set.proofs.Members.{In-set_same, In-set_kept, In-set_cases}
 use Rattle.line_instance.specs.Walks.{at}
-use Rattle.line_instance.specs.Inside.{MayCome, IsLeastFree, IsOrdering, IsWhole, IsStuck, StandsBelow}
+use Rattle.line_instance.specs.inner.Inside.{MayCome, IsLeastFree, IsOrdering, IsWhole, IsStuck, StandsBelow}
 use Rattle.line_instance.proofs.Joining.{nothing_in}
 
 -- how many are in s

@@ -7,7 +7,7 @@ use Rattle.line_instance.specs.Line.{Line, IsLine, IsRanked, IsTaskSet}
 use Rattle.line_instance.specs.Walks.{Leads, Walk, arc, on, IsRow, IsRing, IsRingOf, ArePairs, at, AreArcs}
 use Rattle.line_instance.specs.Ranks.{AreRanks}
 use Rattle.line_instance.specs.Made.{AreTimes, IsInstanceOf}
-use Rattle.line_instance.specs.Inside.{AreDirect, IsJoined, AreJoined, IsWhole, StandsBelow, LeadsIn, IsSound, AreEmpty, AreRows, AreTurned, AreRanksOf, ArePartners, ArePaired, of_rows}
+use Rattle.line_instance.specs.inner.Inside.{AreDirect, IsJoined, AreJoined, IsWhole, StandsBelow, LeadsIn, IsSound, AreEmpty, AreRows, AreTurned, AreRanksOf, ArePartners, ArePaired, of_rows}
 use Rattle.line_instance.proofs.Marking.{both_ways, of_two}
 use Rattle.line_instance.specs.declared.partners.Kept.{Kept}
 use Rattle.line_instance.proofs.Keeping.{partners_along}

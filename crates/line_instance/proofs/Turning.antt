@@ -6,7 +6,7 @@ use Rattle.std.proofs.lemmas.Bool.{cases_eq, cases_lt, cases_Bool, false≢true}
 use Rattle.task_set.specs.Truths.{In, IsSubset, minus}
 use Rattle.task_set.proofs.Members.{In-set_same, In-set_kept, In-set_cases, In-minus}
 use Rattle.line_instance.specs.Walks.{at, IsRingOf}
-use Rattle.line_instance.specs.Inside.{LeadsIn, IsBackWalk, IsAppended}
+use Rattle.line_instance.specs.inner.Inside.{LeadsIn, IsBackWalk, IsAppended}
 use Rattle.line_instance.proofs.Joining.{nothing_in}
 use Rattle.line_instance.proofs.Orders.{size, size-set, size-most}
 

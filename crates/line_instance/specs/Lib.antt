@@ -5,5 +5,4 @@ pub mod Ranks
 pub mod Partners
 pub mod Made
 pub mod Laws
-pub mod Inside
-pub mod Ordered
+pub mod inner

@@ -33,7 +33,7 @@ pub struct Instance {
 
 impl Model for Instance {
     ghost use Rattle.line_instance.specs.Line.{Line};
-    ghost use Rattle.line_instance.specs.Inside.{IsSound};
+    ghost use Rattle.line_instance.specs.inner.Inside.{IsSound};
 
     ghost Value = { Line };
 

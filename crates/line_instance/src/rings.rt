@@ -1,7 +1,7 @@
 //! Rings: closed walks of arcs, found where no task is free.
 ghost use Rattle.std.specs.Prelude.{◌≡◌, ℕ, ◌+◌, ◌<◌, ◌≤◌, ◌++◌, ◌∷◌, List, [], false, length, slice_index, slice_index_or, IfOk, OnOk, OnErr};
 ghost use Rattle.line_instance.specs.Walks.{IsRingOf, at as at_place};
-ghost use Rattle.line_instance.specs.Inside.{AreRows, IsStuck, LeadsIn, IsBackWalk, IsAppended};
+ghost use Rattle.line_instance.specs.inner.Inside.{AreRows, IsStuck, LeadsIn, IsBackWalk, IsAppended};
 ghost use Rattle.task_set.specs.Truths.{In};
 
 use std::alloc::{AllocError, Global};

@@ -2,7 +2,7 @@
 use Rattle.std.proofs.Common.{◌≡◌, ℕ, zero, suc, ◌<◌, Bool, true, false, cond, List, [], ◌∷◌, ◌++◌, length, get_or, set, Some, None, refl, sym, ◌∙◌, ap, arith, bytes_eq}
 use Rattle.std.proofs.lemmas.Slice.Eq.{bytes_eq-Decides}
 use Rattle.line_io.specs.Kept.{NamedFile, file_in, name_at}
-use Rattle.line_io.specs.Places.{IsPlace}
+use Rattle.line_io.specs.inner.Places.{IsPlace}
 
 alike : (a b : List ℕ) → a ≡ b → bytes_eq a b ≡ true
 alike a b e = (bytes_eq-Decides a b).1 e

@@ -3,7 +3,7 @@ ghost use Rattle.std.specs.Prelude.{◌≡◌, ◌≢◌, ℕ, true, Some, None,
 ghost use Rattle.line_io.specs.Kept.{file_in, blames};
 ghost use Rattle.line_io.specs.declared.kept_files.Blame.TheVariants.{File};
 ghost use Rattle.line_io.specs.Outside.{Grows, GrowsWhole};
-ghost use Rattle.line_io.specs.Places.{IsPlace};
+ghost use Rattle.line_io.specs.inner.Places.{IsPlace};
 
 use std::alloc::{AllocError, Global};
 use std::marker::Model;

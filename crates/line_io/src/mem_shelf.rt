@@ -2,7 +2,7 @@
 //! first one on: they are for the tests, which have few.
 ghost use Rattle.std.specs.Prelude.{◌≡◌, ◌≢◌, ◌≤◌, ◌-◌, ℕ, true, Some, None, IsSome, length, min, take, List, [], option_map, OnOk, OnErr};
 ghost use Rattle.line_io.specs.Outside.{up, Copies, Fetches, Gives, Grows, GrowsWhole};
-ghost use Rattle.line_io.specs.Places.{IsPlace};
+ghost use Rattle.line_io.specs.inner.Places.{IsPlace};
 ghost use Rattle.line_io.specs.Kept.{file_in, fetched, given_after, unused, counted, failed, IsToFail, blames, next_keep, torn, after_fetch, after_write, KeepsTorn};
 ghost use Rattle.line_io.specs.declared.kept_files.Blame.TheVariants.{Nothing, File};
 ghost use Rattle.line_io.specs.declared.outside.Fetched.TheVariants.{Failed as FetchFailed};
@@ -137,7 +137,7 @@ fn copy_piece(bytes: &[u8], at: u64, piece: &mut [u8]) -> usize
 }
 
 impl Shelf for MemShelf {
-    ghost use Rattle.line_io.specs.Places.{IsPlace};
+    ghost use Rattle.line_io.specs.inner.Places.{IsPlace};
     ghost use Rattle.line_io.specs.Kept.{file_in, blames};
 
     ghost tells = { Unit {0} };

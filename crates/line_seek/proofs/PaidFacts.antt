@@ -15,7 +15,7 @@ use Rattle.station_search.specs.Costs.{HasPublished, AddsFew}
 use Rattle.round_helpers.specs.Growth.{AreAtCycle}
 use Rattle.round_helpers.proofs.Growing.{units_both, cycles_both}
 use Rattle.round_run.proofs.Going.{goes_on}
-use Rattle.line_seek.specs.Trying.{Gains, IsPaid}
+use Rattle.line_seek.specs.inner.Trying.{Gains, IsPaid}
 
 -- a book that was opened has no entries
 pub paid_none : (about : About) (best : Assignment) (book : BookView) → book ≡ opened about best → IsPaid book 0 0

@@ -8,8 +8,8 @@ use Rattle.line_rules.specs.declared.types.LineKind.{LineKind}
 use Rattle.line_rules.specs.declared.types.Balance.{Balance as Assignment}
 use Rattle.lemma_core.specs.Machine.{About}
 use Rattle.lemma_core.specs.Books.{BookView}
-use Rattle.line_seek.specs.Tries.{mode_in}
-use Rattle.line_seek.specs.Trying.{Gains, IsPaid, IsTold, may_add}
+use Rattle.line_seek.specs.inner.Tries.{mode_in}
+use Rattle.line_seek.specs.inner.Trying.{Gains, IsPaid, IsTold, may_add}
 use Rattle.line_seek.specs.Seeking.{IsSeeking}
 use Rattle.line_seek.specs.declared.trying.Told.{Told}
 use Rattle.line_seek.specs.declared.trying.Told.TheVariants as told

@@ -13,7 +13,7 @@ use Rattle.lemma_core.specs.Books.{BookView}
 use Rattle.cert_files.specs.Trim.{IsTrimmed}
 use Rattle.run_certificates.proofs.Sayable.{entries_ok}
 use Rattle.run_certificates.proofs.Certifying.{trimmed_cycles}
-use Rattle.line_seek.specs.Trying.{IsPaid}
+use Rattle.line_seek.specs.inner.Trying.{IsPaid}
 use Rattle.line_seek.specs.Seeking.{AreSought}
 
 -- ascending numbers are at least their places

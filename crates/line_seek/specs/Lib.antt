@@ -1,3 +1,2 @@
-pub mod Tries
-pub mod Trying
 pub mod Seeking
+pub mod inner

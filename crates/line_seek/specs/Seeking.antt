@@ -10,8 +10,8 @@ use Rattle.line_rules.specs.declared.types.Balance.{Balance as Assignment}
 use Rattle.line_rules.specs.declared.types.Entry.{Entry}
 use Rattle.lemma_core.specs.Books.{BookView}
 use Rattle.round_helpers.specs.Growth.{AreAtCycle}
-use Rattle.line_seek.specs.Tries.{mode_in}
-use Rattle.line_seek.specs.Trying.{IsPaid}
+use Rattle.line_seek.specs.inner.Tries.{mode_in}
+use Rattle.line_seek.specs.inner.Trying.{IsPaid}
 use Rattle.line_seek.specs.declared.seeking.Seeker.{Seeker}
 use Rattle.line_seek.specs.declared.seeking.Sought.{Sought}
 use Rattle.line_seek.specs.declared.seeking.Sought.TheVariants as sought

@@ -10,7 +10,7 @@ ghost use Rattle.line_rules.specs.Entries.{HasAnswer};
 ghost use Rattle.line_rules.specs.Ranges.{AreEntries, IsCycle};
 ghost use Rattle.line_rules.specs.Units.{UnitsOf};
 ghost use Rattle.round_helpers.specs.Growth.{AreAtCycle};
-ghost use Rattle.line_seek.specs.Trying.{IsTold, may_add};
+ghost use Rattle.line_seek.specs.inner.Trying.{IsTold, may_add};
 ghost use Rattle.line_seek.specs.Seeking.{IfDone, IsSeeking, AreSought, RefuteBelow, HasSought};
 
 use crate::tries::Try;

@@ -1,7 +1,7 @@
 //! The tries of a round, in their turns.
 ghost use Rattle.std.specs.Prelude.{IfSome};
 ghost use Rattle.line_rules.specs.Loads.{Belongs};
-ghost use Rattle.line_seek.specs.Tries.{mode_in};
+ghost use Rattle.line_seek.specs.inner.Tries.{mode_in};
 
 use line_rules::{LineKind, Mode};
 

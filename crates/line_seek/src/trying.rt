@@ -7,7 +7,7 @@ ghost use Rattle.line_rules.specs.Balance.{all_tasks};
 ghost use Rattle.line_rules.specs.Bounds.{bound};
 ghost use Rattle.line_rules.specs.Loads.{Belongs};
 ghost use Rattle.line_rules.specs.Ranges.{IsCycle};
-ghost use Rattle.line_seek.specs.Trying.{IsTold, Gains, may_add};
+ghost use Rattle.line_seek.specs.inner.Trying.{IsTold, Gains, may_add};
 
 use beam_search::{Wanted, beam};
 use lemma_core::Book;

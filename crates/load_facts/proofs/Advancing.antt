@@ -9,7 +9,7 @@ use Rattle.line_rules.specs.declared.types.Mode.{Mode}
 use Rattle.line_rules.specs.declared.types.Side.{Side}
 use Rattle.line_rules.specs.declared.types.Load.{Load}
 use Rattle.load_facts.specs.Sides.{Ahead, AreReady, HasRoom, MayJoin, fills, pair_at, spot, task_at}
-use Rattle.load_facts.specs.Scan.{IsPart, Scan}
+use Rattle.load_facts.specs.inner.Scan.{IsPart, Scan}
 use Rattle.load_facts.specs.Ends.{AreMarked, IsEnd}
 use Rattle.load_facts.proofs.SideFacts.{set_less, task_within}
 use Rattle.load_facts.proofs.JoinFacts.{closed, pair_of}

@@ -11,7 +11,7 @@ use Rattle.line_rules.specs.declared.types.Mode.{Mode}
 use Rattle.line_rules.specs.declared.types.Side.{Side}
 use Rattle.line_rules.specs.declared.types.Side.TheVariants.{Front, Back}
 use Rattle.line_rules.specs.declared.types.Load.{Load}
-use Rattle.load_facts.specs.Scan.{IsPart}
+use Rattle.load_facts.specs.inner.Scan.{IsPart}
 use Rattle.load_facts.proofs.NextLoad.{whole, front_in, back_in, taken_in}
 use Rattle.load_facts.specs.Sides.{part, changed, Ahead, fills, spot, task_at, MayJoin}
 use Rattle.load_facts.specs.Sides.{AreSets}

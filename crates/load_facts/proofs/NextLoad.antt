@@ -4,7 +4,7 @@ use Rattle.task_set.specs.Truths.{In, IsSubset}
 use Rattle.task_set.proofs.Members.{In-union_left, In-union_right, In-union_cases}
 use Rattle.line_instance.specs.Line.{Line, IsTaskSet, IsRanked, tasks, has, at_rank}
 use Rattle.line_rules.proofs.Compare.{in_front, in_back}
-use Rattle.load_facts.specs.Scan.{IsPart}
+use Rattle.load_facts.specs.inner.Scan.{IsPart}
 use Rattle.line_rules.specs.Loads.{IsLoad, Suits, taken}
 use Rattle.line_rules.specs.Order.{truth, IsNext}
 use Rattle.line_rules.specs.declared.types.Mode.{Mode}

@@ -2,13 +2,13 @@
 use Rattle.std.proofs.Common.{◌≡◌, ◌≢◌, ℕ, zero, suc, ◌+◌, ◌*◌, ◌<◌, ◌≤◌, Bool, true, false, List, length, set, refl, sym, ap, ◌∙◌, subst, ◌⊎◌, inl, inr, Option, Some, None, arith}
 use Rattle.task_set.specs.Truths.{In}
 use Rattle.line_instance.specs.Line.{Line, IsLine, IsTaskSet, IsRanked, tasks, has}
-use Rattle.load_facts.specs.Scan.{Scan}
+use Rattle.load_facts.specs.inner.Scan.{Scan}
 use Rattle.line_rules.specs.Loads.{IsLoad, Suits, taken}
 use Rattle.line_rules.specs.Order.{truth, Precedes, IsNext, After, IsFollowing}
 use Rattle.line_rules.specs.declared.types.Mode.{Mode}
 use Rattle.line_rules.specs.declared.types.Side.{Side}
 use Rattle.line_rules.specs.declared.types.Load.{Load}
-use Rattle.load_facts.specs.Scan.{IsPart}
+use Rattle.load_facts.specs.inner.Scan.{IsPart}
 use Rattle.load_facts.proofs.NextLoad.{whole, cut, next_is}
 use Rattle.line_instance.specs.Sums.{sum_where}
 use Rattle.line_instance.proofs.Sums.{weigh-none}

@@ -11,11 +11,11 @@ use Rattle.line_rules.specs.declared.types.Mode.{Mode}
 use Rattle.line_rules.specs.declared.types.Side.{Side}
 use Rattle.line_rules.specs.declared.types.Side.TheVariants.{Front, Back}
 use Rattle.line_rules.specs.declared.types.Load.{Load}
-use Rattle.load_facts.specs.Scan.{IsPart}
+use Rattle.load_facts.specs.inner.Scan.{IsPart}
 use Rattle.load_facts.specs.Sides.{AreSets}
 use Rattle.load_facts.proofs.SideFacts.{other_taken}
 use Rattle.load_facts.proofs.JoinFacts.{sum_joined, sum_more}
-use Rattle.load_facts.specs.Scan.{Scan}
+use Rattle.load_facts.specs.inner.Scan.{Scan}
 use Rattle.load_facts.proofs.ScanFacts.{rescan, gives_up, passes, joined, drops}
 use Rattle.std.proofs.lemmas.Bool.{false≢true, false_from_ne_true}
 use Rattle.load_facts.specs.Ends.{IsEnd}

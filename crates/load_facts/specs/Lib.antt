@@ -1,4 +1,4 @@
 pub mod Times
 pub mod Sides
-pub mod Scan
 pub mod Ends
+pub mod inner

@@ -6,8 +6,8 @@ use Rattle.line_instance.specs.Line.{Line}
 use Rattle.lemma_core.specs.Desks.{Keeps}
 use Rattle.lemma_core.specs.Own.{AreAt}
 use Rattle.book_share.specs.Passes.{PassView}
-use Rattle.round_helpers.specs.Seats.{helper_desk, HasAdded}
-use Rattle.round_helpers.specs.Works.{Works}
+use Rattle.round_helpers.specs.inner.Seats.{helper_desk, HasAdded}
+use Rattle.round_helpers.specs.inner.Works.{Works}
 
 -- what a desk that kept its numbers is about, of which share its pass is, and which loan it holds
 module _ (l m : ℕ) (s t : TableId) (v w : PassView) (k : Keeps (helper_desk l s v) (helper_desk m t w)) where

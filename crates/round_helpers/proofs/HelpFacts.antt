@@ -32,10 +32,10 @@ use Rattle.steal_pool.specs.declared.closing.Closed.{Closed}
 use Rattle.steal_pool.specs.declared.piece.Piece.{Piece}
 use Rattle.steal_pool.specs.Closing.{IsClosed, AreMarked}
 use Rattle.steal_pool.specs.Hands.{DequeId, HandView, IsHandOf, AreHandsOf, new_hands, mark_of, tooks}
-use Rattle.round_helpers.specs.Pieces.{KeepsOwn, IsEnd, IsRefuted, pieces_of}
-use Rattle.round_helpers.specs.Seats.{IsBare, AreReady, HasWorked, HaveAllWorked, HaveWorked, HasJoined, hands_of, used_by}
-use Rattle.round_helpers.specs.Teams.{MayAllWork, ArePassesOf, AreJoinable, AreSettled, settled, IsTold}
-use Rattle.round_helpers.specs.Works as works
+use Rattle.round_helpers.specs.inner.Pieces.{KeepsOwn, IsEnd, IsRefuted, pieces_of}
+use Rattle.round_helpers.specs.inner.Seats.{IsBare, AreReady, HasWorked, HaveAllWorked, HaveWorked, HasJoined, hands_of, used_by}
+use Rattle.round_helpers.specs.inner.Teams.{MayAllWork, ArePassesOf, AreJoinable, AreSettled, settled, IsTold}
+use Rattle.round_helpers.specs.inner.Works as works
 use Rattle.round_helpers.specs.declared.helping.Helped.{Helped}
 use Rattle.round_helpers.specs.declared.helping.Helped.TheVariants as helped
 use Rattle.round_helpers.specs.declared.job_list.Job.{Job}

@@ -11,8 +11,8 @@ use Rattle.round_helpers.specs.Jobs.{AreJobs, IsJobOf, job_of, max_jobs}
 use Rattle.station_search.specs.declared.answers.Decided.{Decided}
 use Rattle.station_search.specs.declared.answers.Decided.TheVariants as decided
 use Rattle.steal_pool.specs.Hands.{HandView}
-use Rattle.round_helpers.specs.Pieces.{IsEarly, IsEnd}
-use Rattle.round_helpers.specs.Works.{most_added, most_decided}
+use Rattle.round_helpers.specs.inner.Pieces.{IsEarly, IsEnd}
+use Rattle.round_helpers.specs.inner.Works.{most_added, most_decided}
 use Rattle.round_helpers.specs.declared.job_list.Job.{Job}
 use Rattle.round_helpers.specs.declared.job_work.Answer.{Answer}
 use Rattle.round_helpers.specs.declared.job_work.Answer.TheVariants as answers

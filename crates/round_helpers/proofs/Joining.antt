@@ -15,8 +15,8 @@ use Rattle.book_share.specs.Rule.{left_of, right_of, both_of}
 use Rattle.book_share.proofs.Lists.{begins_refl, begins_trans}
 use Rattle.station_search.specs.declared.answers.Units.{Units}
 use Rattle.steal_pool.specs.Hands.{HandView}
-use Rattle.round_helpers.specs.Seats.{IsBare, IsReady, AreReady, HasAdded, HasJoined, hands_of, used_by}
-use Rattle.round_helpers.specs.Teams.{AreJoinable}
+use Rattle.round_helpers.specs.inner.Seats.{IsBare, IsReady, AreReady, HasAdded, HasJoined, hands_of, used_by}
+use Rattle.round_helpers.specs.inner.Teams.{AreJoinable}
 use Rattle.round_helpers.specs.declared.teams.Helper.{Helper}
 use Rattle.round_helpers.proofs.MixedItems.{added_joined}
 

@@ -13,7 +13,7 @@ use Rattle.station_search.proofs.Events.{added_both}
 use Rattle.book_share.specs.Passes.{PassView}
 use Rattle.book_share.specs.Places.{put_in, merged}
 use Rattle.round_helpers.specs.Growth.{AreAtCycle}
-use Rattle.round_helpers.specs.Seats.{HasAdded}
+use Rattle.round_helpers.specs.inner.Seats.{HasAdded}
 use Rattle.round_helpers.proofs.Growing.{units_both, cycles_both}
 
 units_apart : (line : Line) (xs ys : List Entry) (n : ℕ) → UnitsOf line (xs ++ ys) n

@@ -22,7 +22,7 @@ use Rattle.station_search.specs.Decide.{IsFor}
 use Rattle.station_search.specs.Mode.{mode_of}
 use Rattle.round_helpers.specs.Jobs.{IsJobOf}
 use Rattle.round_helpers.specs.declared.job_list.Job.{Job}
-use Rattle.round_helpers.specs.Works.{Works, fewest_seen}
+use Rattle.round_helpers.specs.inner.Works.{Works, fewest_seen}
 use Rattle.round_helpers.proofs.WorkFacts.{works_waits, works_item}
 
 -- a load beside seated loads of its rest

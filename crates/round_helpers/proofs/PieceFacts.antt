@@ -27,7 +27,7 @@ use Rattle.steal_pool.proofs.Each.{length_each, each_push, each_there}
 use Rattle.steal_pool.proofs.Ports.{get_push}
 use Rattle.line_rules.specs.Balance.{all_tasks}
 use Rattle.round_helpers.specs.Jobs.{AreJobs, job_of, max_jobs}
-use Rattle.round_helpers.specs.Pieces.{IsPart, Splits, Puts, KeepsOwn, IsDone, AreDone, piece_of, pieces_of}
+use Rattle.round_helpers.specs.inner.Pieces.{IsPart, Splits, Puts, KeepsOwn, IsDone, AreDone, piece_of, pieces_of}
 use Rattle.round_helpers.specs.declared.job_list.Job.{Job}
 use Rattle.round_helpers.proofs.WorkFacts.{answered_on}
 

@@ -4,8 +4,8 @@ use Rattle.std.proofs.lemmas.Option.{slice_get-get_or, get_or_from_slice_get}
 use Rattle.std.specs.Prelude.{slice_get, slice_index_or, slice_set, ◌^◌}
 use Rattle.station_search.specs.declared.answers.Units.{Units}
 use Rattle.round_helpers.specs.Helping.{all_used, HaveSpent}
-use Rattle.round_helpers.specs.Seats.{used_by}
-use Rattle.round_helpers.specs.Teams.{settled, settled_one, AreSettled}
+use Rattle.round_helpers.specs.inner.Seats.{used_by}
+use Rattle.round_helpers.specs.inner.Teams.{settled, settled_one, AreSettled}
 use Rattle.round_helpers.specs.declared.teams.Helper.{Helper}
 
 settled_none : (us : List Units) → settled us [] ≡ us

@@ -1,8 +1,4 @@
 pub mod Jobs
 pub mod Growth
-pub mod Works
-pub mod Pieces
-pub mod Equipment
-pub mod Seats
-pub mod Teams
 pub mod Helping
+pub mod inner

@@ -3,8 +3,8 @@
 //! Each job becomes a piece, which is its rest for one station less, and the pieces are dealt to the hands of a pool in
 //! turn. It costs a copy of each job's set, and the pool's room for 4,096 pieces a helper.
 ghost use Rattle.std.specs.Prelude.{◌≡◌, ◌<◌, ◌≤◌, length, IfOk};
-ghost use Rattle.round_helpers.specs.Equipment.{IsEquipped};
-ghost use Rattle.round_helpers.specs.Pieces.{pieces_of};
+ghost use Rattle.round_helpers.specs.inner.Equipment.{IsEquipped};
+ghost use Rattle.round_helpers.specs.inner.Pieces.{pieces_of};
 
 use crate::job_list::Job;
 use crate::teams::Helper;

@@ -5,7 +5,7 @@
 //! seen at the next turn. The desk keeps numbers by which the helper's pass is known again after a search.
 ghost use Rattle.std.specs.Prelude.{◌≡◌};
 ghost use Rattle.book_share.specs.Calls.{IsPassOf};
-ghost use Rattle.round_helpers.specs.Seats.{helper_desk};
+ghost use Rattle.round_helpers.specs.inner.Seats.{helper_desk};
 
 use crate::gates::Gate;
 use book_share::{Pass, Share};

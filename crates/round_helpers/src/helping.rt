@@ -9,7 +9,7 @@ ghost use Rattle.line_rules.specs.Ranges.{IsCycle};
 ghost use Rattle.lemma_core.specs.Books.{BookView, IsBook, IsReserved};
 ghost use Rattle.book_share.specs.Calls.{IsPassOf};
 ghost use Rattle.book_share.specs.Rule.{newcomer};
-ghost use Rattle.round_helpers.specs.Equipment.{IsEquipped};
+ghost use Rattle.round_helpers.specs.inner.Equipment.{IsEquipped};
 ghost use Rattle.round_helpers.specs.Growth.{Helps};
 ghost use Rattle.round_helpers.specs.Helping.{IsTeam, all_used, HaveSpent, IsUnneeded, HasHelped};
 ghost use Rattle.round_helpers.specs.Jobs.{AreJobs};

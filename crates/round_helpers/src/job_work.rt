@@ -11,7 +11,7 @@ ghost use Rattle.line_rules.specs.Seats.{AreSeated, around};
 ghost use Rattle.lemma_core.specs.Desks.{Keeps, entries};
 ghost use Rattle.station_search.specs.Decide.{IsFor, Decides};
 ghost use Rattle.round_helpers.specs.Jobs.{IsJobOf};
-ghost use Rattle.round_helpers.specs.Works.{Works, IsAnswer, fewest_seen, most_decided, most_added};
+ghost use Rattle.round_helpers.specs.inner.Works.{Works, IsAnswer, fewest_seen, most_decided, most_added};
 ghost use Rattle.round_helpers.specs.declared.job_work.Answer.TheVariants as answers;
 
 use crate::job_list::Job;

@@ -11,8 +11,8 @@ ghost use Rattle.lemma_core.specs.Desks.{Keeps};
 ghost use Rattle.station_search.specs.Decide.{IsFor};
 ghost use Rattle.steal_pool.specs.Hands.{IsHandOf};
 ghost use Rattle.round_helpers.specs.Jobs.{AreJobs, IsJobOf};
-ghost use Rattle.round_helpers.specs.Pieces.{Puts, KeepsOwn, IsRefuted, IsDone, AreDone, IsEarly, IsEnd};
-ghost use Rattle.round_helpers.specs.Works.{Works};
+ghost use Rattle.round_helpers.specs.inner.Pieces.{Puts, KeepsOwn, IsRefuted, IsDone, AreDone, IsEarly, IsEnd};
+ghost use Rattle.round_helpers.specs.inner.Works.{Works};
 
 use crate::job_list::Job;
 use crate::job_work::{Answer, MOST_BESIDE, Question, ask, do_job};

@@ -6,7 +6,7 @@ ghost use Rattle.std.specs.Prelude.{◌≡◌, ◌+◌, ◌<◌, ◌≤◌, ◌^
 ghost use Rattle.line_instance.specs.Line.{IsTaskSet};
 ghost use Rattle.line_rules.specs.Ranges.{IsCycle};
 ghost use Rattle.steal_pool.specs.Hands.{IsHandOf};
-ghost use Rattle.round_helpers.specs.Pieces.{Splits};
+ghost use Rattle.round_helpers.specs.inner.Pieces.{Splits};
 
 use crate::job_list::rest_at;
 use crate::job_work::Question;

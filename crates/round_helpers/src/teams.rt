@@ -6,8 +6,8 @@
 ghost use Rattle.std.specs.Prelude.{◌≡◌, ℕ, ◌+◌, ◌-◌, ◌^◌, ◌<◌, ◌≤◌, List, [], length, vec_len, vec_capacity};
 ghost use Rattle.line_instance.specs.Line.{Line};
 ghost use Rattle.book_share.specs.Calls.{IsPassOf};
-ghost use Rattle.round_helpers.specs.Seats.{IsBare, AreReady, HasWorked, HaveAllWorked, HasJoined, hands_of};
-ghost use Rattle.round_helpers.specs.Teams.{MayWork, MayAllWork, ArePassesOf, AreJoinable, AreSettled, settled, IsTold};
+ghost use Rattle.round_helpers.specs.inner.Seats.{IsBare, AreReady, HasWorked, HaveAllWorked, HasJoined, hands_of};
+ghost use Rattle.round_helpers.specs.inner.Teams.{MayWork, MayAllWork, ArePassesOf, AreJoinable, AreSettled, settled, IsTold};
 
 use crate::gates::Gate;
 use crate::helper_desk::HelperDesk;

@@ -32,7 +32,7 @@ use Rattle.budget_law.proofs.FewUnits.{units_few}
 use Rattle.round_helpers.specs.Growth.{AreAtCycle}
 use Rattle.round_helpers.proofs.Growing.{units_both}
 use Rattle.round_run.specs.Rounds.{AddsBound, by_bound}
-use Rattle.round_run.specs.Questions.{IsRun, HasAsked, trail_of, stop_by}
+use Rattle.round_run.specs.inner.Questions.{IsRun, HasAsked, trail_of, stop_by}
 use Rattle.round_run.specs.Solving.{IsRunBook, IsBelow, IsSolvedFrom, IsStoppedFrom, IsSpentFrom, FitsAll, SolvesFrom, Solves}
 use Rattle.round_run.specs.declared.questions.Stop.{Stop}
 use Rattle.round_run.specs.declared.plans.Plan.{Plan}

@@ -16,7 +16,7 @@ use Rattle.station_search.proofs.Events.{get_append_cases}
 use Rattle.round_helpers.specs.Growth.{AreAtCycle, GoesOn, Helps}
 use Rattle.round_helpers.proofs.Growing.{units_both, cycles_both, has_longer}
 use Rattle.round_run.specs.Rounds.{Gains, IsAnswer, StaysAbove, frames_of}
-use Rattle.round_run.specs.Questions.{IsRun, IsPaid, HasAsked, EndsBy, trail_of, stop_by, stop_of}
+use Rattle.round_run.specs.inner.Questions.{IsRun, IsPaid, HasAsked, EndsBy, trail_of, stop_by, stop_of}
 use Rattle.round_run.specs.declared.questions.Stop.{Stop}
 use Rattle.station_search.specs.declared.answers.Units.{Units}
 use Rattle.round_run.specs.declared.solving.Cause.TheVariants as cause

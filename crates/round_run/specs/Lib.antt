@@ -1,4 +1,4 @@
 pub mod Plans
-pub mod Questions
 pub mod Rounds
 pub mod Solving
+pub mod inner

@@ -5,7 +5,7 @@ ghost use Rattle.std.specs.Prelude.{◌≡◌, []};
 ghost use Rattle.line_rules.specs.Ranges.{IsCycle};
 ghost use Rattle.round_helpers.specs.Helping.{IsTeam, all_used};
 ghost use Rattle.round_run.specs.Plans.{all_left};
-ghost use Rattle.round_run.specs.Questions.{IsRun, HasAsked, stop_of};
+ghost use Rattle.round_run.specs.inner.Questions.{IsRun, HasAsked, stop_of};
 
 use crate::closing::Verdict;
 use crate::plans::Purse;

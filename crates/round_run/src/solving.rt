@@ -14,7 +14,7 @@ ghost use Rattle.line_rules.specs.declared.types.Entry.{Entry as EntryOf};
 ghost use Rattle.lemma_core.specs.Books.{IsReserved, MayBeBest};
 ghost use Rattle.round_run.specs.Plans.{IsPlan};
 ghost use Rattle.round_run.specs.declared.plans.Plan.{Plan as PlanOf};
-ghost use Rattle.round_run.specs.Questions.{IsRun, HasAsked};
+ghost use Rattle.round_run.specs.inner.Questions.{IsRun, HasAsked};
 ghost use Rattle.round_run.specs.Rounds.{AddsBound};
 ghost use Rattle.round_run.specs.Solving.{FitsAll, IsBelow, SolvesFrom, Solves};
 

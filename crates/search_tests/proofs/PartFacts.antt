@@ -13,7 +13,7 @@ use Rattle.lemma_core.specs.declared.types.Published.TheVariants as published
 use Rattle.lemma_core.specs.declared.types.Offered.{Offered}
 use Rattle.lemma_core.specs.declared.types.Offered.TheVariants as offered
 use Rattle.lemma_core.proofs.HistoryGrows.{keeps_none, keeps_both}
-use Rattle.search_tests.specs.Shared.{own_of, part_of}
+use Rattle.search_tests.specs.inner.Shared.{own_of, part_of}
 
 -- the places of a range, and of the own events
 range_at : (a n k x : ℕ) → slice_get (range_with_len a n) k ≡ Some x → (x ≡ a + k) × (k < n)

@@ -22,7 +22,7 @@ use Rattle.sequence_rules.specs.Ranges.{IsEntry, IsFrame}
 use Rattle.sequence_rules.specs.declared.types.SeqEntry.{SeqEntry}
 use Rattle.sequence_rules.specs.declared.types.SeqFrame.{SeqFrame}
 use Rattle.sequence_cert.specs.SequenceText.{counted_rows, unit_row, entry_row, frame_row, sequence_rows}
-use Rattle.sequence_cert.specs.Parts.{AreModels, IsCounted, counteds, bodies}
+use Rattle.sequence_cert.specs.inner.Parts.{AreModels, IsCounted, counteds, bodies}
 use Rattle.sequence_cert.specs.Laws.{NoSequenceTextBeginsAnother}
 use Rattle.sequence_cert.proofs.StateLines.{unit_tells, entry_tells, frame_tells}
 

@@ -11,7 +11,7 @@ use Rattle.line_rules.specs.declared.types.Side.TheVariants.{Front}
 use Rattle.cert_lines.specs.Rows.{Row, fixed, keyed, span, seat, bound, branch, swap, trail, frame, state_entry}
 use Rattle.cert_lines.specs.Rows.{state_frame, entry_of_state, frame_of_state, form_of, row_text}
 use Rattle.cert_lines.specs.Reading.{◌>>=◌, greatest, number_in}
-use Rattle.cert_lines.specs.LineReading.{seat_in}
+use Rattle.cert_lines.specs.inner.LineReading.{seat_in}
 use Rattle.cert_lines.specs.Judging.{HasFormOf, IsJudged}
 use Rattle.cert_lines.specs.declared.fault.LineError.{LineError}
 use Rattle.cert_lines.specs.declared.fault.LineError.TheVariants as lines
@@ -27,8 +27,8 @@ use Rattle.sequence_rules.specs.declared.types.SeqFrame.{SeqFrame}
 use Rattle.sequence_rules.specs.declared.types.SeqWhy.{SeqWhy}
 use Rattle.sequence_rules.specs.declared.types.SeqWhy.TheVariants as why
 use Rattle.sequence_cert.specs.SequenceText.{unit_row, cited, entry_row, counted, frame_row}
-use Rattle.sequence_cert.specs.StateReading.{entry_in, frame_in, indexed, frame_of}
-use Rattle.sequence_cert.specs.Parts.{AreModels, IsEntryWithin, IsLastWithin, IsFrameWithin}
+use Rattle.sequence_cert.specs.inner.StateReading.{entry_in, frame_in, indexed, frame_of}
+use Rattle.sequence_cert.specs.inner.Parts.{AreModels, IsEntryWithin, IsLastWithin, IsFrameWithin}
 use Rattle.sequence_cert.specs.declared.words.FrameDraft.{FrameDraft}
 use Rattle.sequence_cert.proofs.StateWords.{the_entry, why_read, entry_again, entry_found, last_read, the_frame}
 use Rattle.sequence_cert.proofs.StateWords.{frame_again, frame_found}

@@ -18,8 +18,8 @@ use Rattle.cert_lines.proofs.Lists.{split_parts, chosen}
 use Rattle.sequence_rules.specs.declared.types.SeqEntry.{SeqEntry}
 use Rattle.sequence_rules.specs.declared.types.SeqWhy.{SeqWhy}
 use Rattle.sequence_rules.specs.declared.types.SeqWhy.TheVariants as why
-use Rattle.sequence_cert.specs.StateReading.{many_in, state_in, bound_in, branch_in, entry_in, last_in, open_in}
-use Rattle.sequence_cert.specs.StateReading.{frame_in}
+use Rattle.sequence_cert.specs.inner.StateReading.{many_in, state_in, bound_in, branch_in, entry_in, last_in, open_in}
+use Rattle.sequence_cert.specs.inner.StateReading.{frame_in}
 use Rattle.sequence_cert.specs.declared.words.FrameDraft.{FrameDraft}
 
 -- words without a blank

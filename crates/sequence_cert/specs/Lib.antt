@@ -1,6 +1,4 @@
 pub mod SequenceText
-pub mod StateReading
-pub mod Parts
 pub mod Faults
 pub mod Laws
-pub mod Pieces
+pub mod inner

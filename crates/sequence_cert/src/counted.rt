@@ -23,7 +23,7 @@ where
     ghost use Rattle.cert_lines.specs.Reading.{greatest};
     ghost use Rattle.cert_lines.specs.Patterns.{key_text};
     ghost use Rattle.sequence_cert.specs.SequenceText.{counted_rows};
-    ghost use Rattle.sequence_cert.specs.Parts.{IsCounted};
+    ghost use Rattle.sequence_cert.specs.inner.Parts.{IsCounted};
 
     type Value = Listed<P::Value>;
 

@@ -3,8 +3,8 @@
 ghost use Rattle.std.specs.Prelude.{◌≡◌, ◌≤◌, ◌↔◌, All, IsTrue, MatchResult};
 ghost use Rattle.cert_lines.specs.declared.fault.LineError.TheVariants.{Range};
 ghost use Rattle.sequence_rules.specs.Ranges.{IsWhy};
-ghost use Rattle.sequence_cert.specs.StateReading.{indexed, frame_of};
-ghost use Rattle.sequence_cert.specs.Parts.{IsEntryWithin, IsLastWithin, IsFrameWithin};
+ghost use Rattle.sequence_cert.specs.inner.StateReading.{indexed, frame_of};
+ghost use Rattle.sequence_cert.specs.inner.Parts.{IsEntryWithin, IsLastWithin, IsFrameWithin};
 
 use crate::words::{FrameDraft, entry, frame};
 use cert_lines::LineError;
@@ -32,7 +32,7 @@ pub(crate) struct UnitLine {
 impl Pattern for UnitLine {
     ghost use Rattle.std.specs.Prelude.{◌<◌};
     ghost use Rattle.sequence_cert.specs.SequenceText.{unit_row};
-    ghost use Rattle.sequence_cert.specs.Parts.{AreModels};
+    ghost use Rattle.sequence_cert.specs.inner.Parts.{AreModels};
 
     type Value = u64;
 
@@ -196,7 +196,7 @@ pub(crate) struct StateFrameLine {
 impl Pattern for StateFrameLine {
     ghost use Rattle.sequence_rules.specs.Ranges.{IsFrame};
     ghost use Rattle.sequence_cert.specs.SequenceText.{frame_row};
-    ghost use Rattle.sequence_cert.specs.Parts.{AreModels};
+    ghost use Rattle.sequence_cert.specs.inner.Parts.{AreModels};
 
     type Value = SeqFrame;
 

@@ -5,7 +5,7 @@ ghost use Rattle.cert_text.specs.Sent.{Puts};
 ghost use Rattle.sequence_rules.specs.Ranges.{IsInRange};
 ghost use Rattle.sequence_cert.specs.SequenceText.{unit_row, entry_row, counted, frame_row, head_rows, unit_rows};
 ghost use Rattle.sequence_cert.specs.SequenceText.{entry_rows, frame_rows, sequence_text};
-ghost use Rattle.sequence_cert.specs.Pieces.{state_text};
+ghost use Rattle.sequence_cert.specs.inner.Pieces.{state_text};
 
 use cert_text::{KeptText, Output, put_cites, put_keyed, put_number, put_text};
 use sequence_rules::{Numbers, SeqCert, SeqEntries, SeqEntry, SeqFrame, SeqFrames, SeqWhy};

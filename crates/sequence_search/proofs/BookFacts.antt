@@ -8,8 +8,8 @@ use Rattle.sequence_rules.specs.declared.types.Times.{Times}
 use Rattle.sequence_rules.specs.declared.types.SeqEntry.{SeqEntry}
 use Rattle.sequence_rules.specs.Entries.{Answers, IsCited, Follows, HasAnswer, entry_units}
 use Rattle.sequence_rules.specs.Ranges.{IsEntry}
-use Rattle.sequence_search.specs.Paths.{IsBook}
-use Rattle.sequence_search.specs.Tries.{KeepsRoots}
+use Rattle.sequence_search.specs.inner.Paths.{IsBook}
+use Rattle.sequence_search.specs.inner.Tries.{KeepsRoots}
 
 -- all but the last item of a list
 pub take_front : {X : Type 0} (xs : List X) (x : X) → take (length xs) (xs ++ x ∷ []) ≡ xs

@@ -15,8 +15,8 @@ use Rattle.sequence_rules.specs.Ranges.{AreTimes, IsState, IsLast, IsFrame}
 use Rattle.sequence_rules.proofs.CostFacts.{left_within}
 use Rattle.sequence_rules.proofs.Counting.{noughts}
 use Rattle.sequence_search.specs.Steps.{IsNextModel}
-use Rattle.sequence_search.specs.Paths.{IsPassed, IsAlong, IsTop, IsBook}
-use Rattle.sequence_search.specs.Tries.{AreStopped}
+use Rattle.sequence_search.specs.inner.Paths.{IsPassed, IsAlong, IsTop, IsBook}
+use Rattle.sequence_search.specs.inner.Tries.{AreStopped}
 use Rattle.sequence_search.proofs.CoverFacts.{covers_none, cites_within}
 use Rattle.sequence_search.proofs.PathFacts.{some_left}
 

@@ -19,9 +19,9 @@ use Rattle.sequence_rules.specs.Ranges.{AreTimes, IsEntry, IsFrame}
 use Rattle.sequence_rules.proofs.CostFacts.{first_is_left, left_within, rest_is_sequence, as_many_left, bound_holds}
 use Rattle.sequence_rules.proofs.Passing.{same_item}
 use Rattle.sequence_rules.proofs.Sound.{cited_holds, sound}
-use Rattle.sequence_search.specs.Paths.{IsBook}
+use Rattle.sequence_search.specs.inner.Paths.{IsBook}
 use Rattle.sequence_search.specs.Work.{most_units}
-use Rattle.sequence_search.specs.Tries.{AreStopped, KeepsRoots}
+use Rattle.sequence_search.specs.inner.Tries.{AreStopped, KeepsRoots}
 use Rattle.sequence_search.specs.Outcomes.{IsCertified, IsSolved, IsStopped, IsStanding, cert_of}
 use Rattle.sequence_search.proofs.BookFacts.{book_as, last_answers}
 use Rattle.sequence_search.proofs.EndFacts.{root_state}

@@ -19,7 +19,7 @@ use Rattle.sequence_rules.proofs.SumFacts.{length-value_at_each}
 use Rattle.sequence_rules.proofs.CostFacts.{cost_steps, left_within}
 use Rattle.sequence_rules.proofs.Passing.{same_item}
 use Rattle.sequence_search.specs.Steps.{IsNextState}
-use Rattle.sequence_search.specs.Paths.{lasts, IsOn, IsWorked, IsPassed, IsAlong}
+use Rattle.sequence_search.specs.inner.Paths.{lasts, IsOn, IsWorked, IsPassed, IsAlong}
 use Rattle.sequence_search.proofs.BookFacts.{take_front, unanswered_more}
 use Rattle.sequence_search.proofs.CoverFacts.{covers_grow}
 

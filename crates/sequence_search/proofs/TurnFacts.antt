@@ -12,8 +12,8 @@ use Rattle.sequence_rules.specs.Trails.{IsRoot, IsLeftBy, IsAskedAt, EndsWell, u
 use Rattle.sequence_rules.proofs.CostFacts.{cost_steps, left_within}
 use Rattle.sequence_rules.proofs.Passing.{same_item}
 use Rattle.sequence_search.specs.Steps.{IsNextModel, IsNoModel, IsNextState}
-use Rattle.sequence_search.specs.Paths.{lasts, IsWorked, IsPassed, IsAlong, IsTop, IsBook}
-use Rattle.sequence_search.specs.Tries.{entry_of}
+use Rattle.sequence_search.specs.inner.Paths.{lasts, IsWorked, IsPassed, IsAlong, IsTop, IsBook}
+use Rattle.sequence_search.specs.inner.Tries.{entry_of}
 use Rattle.sequence_search.proofs.BookFacts.{last_answers, book_more}
 use Rattle.sequence_search.proofs.CoverFacts.{covers_skip, covers_no, covers_yes, covers_none, cites_within, units_step, units_end, none_sum}
 use Rattle.sequence_search.proofs.PathFacts.{along_rest, along_last, along_grow, worked_grow, asked_last, sum_less, some_left, sequence_cons, none_is_sequence, lasts_push, needs_parts, next_on}

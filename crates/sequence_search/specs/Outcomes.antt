@@ -9,7 +9,7 @@ use Rattle.sequence_rules.specs.declared.types.Times.{Times}
 use Rattle.sequence_rules.specs.declared.types.SeqCert.{SeqCert}
 use Rattle.sequence_rules.specs.declared.types.SeqEntry.{SeqEntry}
 use Rattle.sequence_rules.specs.declared.types.SeqFrame.{SeqFrame}
-use Rattle.sequence_search.specs.Paths.{IsBook}
+use Rattle.sequence_search.specs.inner.Paths.{IsBook}
 use Rattle.sequence_search.specs.Work.{most_units}
 use Rattle.sequence_search.specs.declared.outcome.Ordered.{Ordered}
 use Rattle.sequence_search.specs.declared.outcome.Ordered.TheVariants as ordered

@@ -4,7 +4,7 @@ ghost use Rattle.sequence_rules.specs.States.{IsSequenceOf, state_bound, root_st
 ghost use Rattle.sequence_rules.specs.Entries.{HasAnswer, units_of, entry_units, models_left};
 ghost use Rattle.sequence_rules.specs.Ranges.{AreTimes, IsPlace};
 ghost use Rattle.sequence_rules.specs.declared.types.SeqEntry.{SeqEntry as Step};
-ghost use Rattle.sequence_search.specs.Paths.{IsBook};
+ghost use Rattle.sequence_search.specs.inner.Paths.{IsBook};
 ghost use Rattle.sequence_search.specs.Outcomes.{Orders, IsStanding, cert_of};
 
 use crate::book::Book;

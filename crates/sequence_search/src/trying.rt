@@ -5,8 +5,8 @@
 ghost use Rattle.std.specs.Prelude.{◌≡◌, ℕ, ◌+◌, ◌≤◌, ◌∷◌, ◌++◌, [], length, IfOk, OnOk};
 ghost use Rattle.sequence_rules.specs.Entries.{units_of};
 ghost use Rattle.sequence_rules.specs.Ranges.{AreTimes, IsPlace, IsNumber};
-ghost use Rattle.sequence_search.specs.Paths.{lasts, IsBook};
-ghost use Rattle.sequence_search.specs.Tries.{entry_of, Tries};
+ghost use Rattle.sequence_search.specs.inner.Paths.{lasts, IsBook};
+ghost use Rattle.sequence_search.specs.inner.Tries.{entry_of, Tries};
 
 use crate::book::Book;
 use crate::frames::{next_model, root_frame, step_by, up_to};

@@ -28,7 +28,7 @@ use Rattle.round_run.specs.declared.solving.Outcome.{Outcome}
 use Rattle.run_certificates.specs.Certified.{LeaveRoom}
 use Rattle.run_certificates.proofs.Certifying.{room_alone}
 use Rattle.solve_command.specs.WarmStart.{Start, IsOpened, TakesOld, TakesSought, Seeks, BeginsWith, entries_of, old_room, seek_room, seek_line}
-use Rattle.solve_command.specs.Begun.{IsBegun, IsTaken, HasSoughtBehind}
+use Rattle.solve_command.specs.inner.Begun.{IsBegun, IsTaken, HasSoughtBehind}
 use Rattle.solve_command.specs.declared.warm_start.Begun.{Begun}
 use Rattle.solve_command.specs.declared.warm_start.Taken.{Taken}
 

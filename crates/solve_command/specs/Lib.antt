@@ -1,5 +1,5 @@
 pub mod SolutionText
 pub mod WarmStart
-pub mod Begun
 pub mod Solution
 pub mod Promise
+pub mod inner

@@ -18,7 +18,7 @@ ghost use Rattle.run_certificates.specs.Certified.{LeaveRoom};
 ghost use Rattle.command_outcome.specs.Outcome.{Files, Ends, MayEnd, Stay, Stops, MayStop, outside, outcome_of};
 ghost use Rattle.command_outcome.specs.declared.status.Status.TheVariants as ends;
 ghost use Rattle.command_outcome.specs.declared.report.Stop.TheVariants.{Unwritten};
-ghost use Rattle.solve_command.specs.Begun.{IsBegun};
+ghost use Rattle.solve_command.specs.inner.Begun.{IsBegun};
 ghost use Rattle.solve_command.specs.WarmStart.{Start};
 ghost use Rattle.solve_command.specs.Promise.{HasCertificate, IsPromised, IsShown};
 ghost use Rattle.solve_command.specs.Solution.{page_of, IsOptimal, IsStopped, IsInfeasible, IsBounded, IsSolution, IsCutShort, IsSolveOutcome, IsSolveStatus};

@@ -18,7 +18,7 @@ ghost use Rattle.round_run.specs.Plans.{IsPlan};
 ghost use Rattle.solve_command.specs.WarmStart.{AreOld, IsOldOf, IsOther, IsUnwarmed, entries_of, tasks_line, warm_line};
 ghost use Rattle.solve_command.specs.WarmStart.{Start, old_room, seek_line};
 ghost use Rattle.warm_book.specs.Warm.{Taking};
-ghost use Rattle.solve_command.specs.Begun.{IsBegun, IsTaken, HasSoughtBehind};
+ghost use Rattle.solve_command.specs.inner.Begun.{IsBegun, IsTaken, HasSoughtBehind};
 
 use command_outcome::{Status, Stop, refuse};
 use input_files::certificate_of;

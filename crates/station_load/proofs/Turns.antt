@@ -7,7 +7,7 @@ use Rattle.line_rules.specs.declared.types.Side.{Side}
 use Rattle.line_rules.specs.declared.types.Load.{Load}
 use Rattle.load_facts.specs.Sides.{part, fills, spot, task_at, changed}
 use Rattle.load_facts.specs.Sides.{MayJoin}
-use Rattle.load_facts.specs.Scan.{Scan}
+use Rattle.load_facts.specs.inner.Scan.{Scan}
 use Rattle.load_facts.proofs.ScanFacts.{rescan, gives_up, passes, joined}
 
 module _ (line : Line) (c : ℕ) (mode : Mode) (R : List Bool) (s : Side) (base now : Load) (k : ℕ) (more : 0 < k) (low : k ≤ tasks line) (t : ℕ) (is : t ≡ task_at line s (k - 1))

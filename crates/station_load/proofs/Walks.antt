@@ -13,7 +13,7 @@ use Rattle.line_rules.specs.declared.types.Load.{Load}
 use Rattle.load_facts.specs.Sides.{AreSets}
 use Rattle.load_facts.proofs.SideFacts.{each_side}
 use Rattle.load_facts.proofs.JoinFacts.{full_of, full_none}
-use Rattle.load_facts.specs.Scan.{Scan}
+use Rattle.load_facts.specs.inner.Scan.{Scan}
 use Rattle.load_facts.proofs.ScanFacts.{IsBase, scan_start, rescan, base_none, base_some, follows, none_follows, none_above}
 use Rattle.station_load.specs.declared.ends.End.{End}
 use Rattle.station_load.specs.declared.shorts.Shorts.{Shorts}

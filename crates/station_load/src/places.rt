@@ -9,10 +9,10 @@ ghost use Rattle.line_instance.specs.Line.{IsTaskSet, tasks};
 ghost use Rattle.line_rules.specs.Loads.{IsLoad, IsFull};
 ghost use Rattle.line_rules.specs.Order.{Precedes, IsNext, IsFollowing};
 ghost use Rattle.line_rules.specs.declared.types.Load.{Load as Pair};
-ghost use Rattle.load_facts.specs.Scan.{IsPart};
+ghost use Rattle.load_facts.specs.inner.Scan.{IsPart};
 ghost use Rattle.load_facts.specs.Sides.{MayJoin, fills, spot};
 ghost use Rattle.load_facts.specs.Sides.{AreSets};
-ghost use Rattle.load_facts.specs.Scan.{Scan};
+ghost use Rattle.load_facts.specs.inner.Scan.{Scan};
 
 use crate::sides::{ahead, fills, nothing, part, put, stands, take, task_at};
 use line_instance::Instance;

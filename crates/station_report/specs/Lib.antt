@@ -2,4 +2,4 @@ pub mod StationsText
 pub mod BalanceLines
 pub mod InfeasibleText
 pub mod TimelineText
-pub mod Table
+pub mod inner

@@ -6,7 +6,7 @@
 ghost use Rattle.std.specs.Prelude.{◌≡◌, ◌≤◌, ◌<◌, ◌++◌, ℕ, true, Some, IfOk, OnOk, All, length, map, slice_index_or};
 ghost use Rattle.csv.specs.Writing.{default_writer, row_text};
 ghost use Rattle.combined_graph.specs.Mixes.{is_name};
-ghost use Rattle.station_report.specs.Table.{IsTable, table_text};
+ghost use Rattle.station_report.specs.inner.Table.{IsTable, table_text};
 ghost use Rattle.station_report.specs.TimelineText.{IsTimelineRead, rows_from, station_rows, timeline_heading, timeline_row, unit_rows};
 
 use combined_graph::Mix;

@@ -20,7 +20,7 @@ use Rattle.lemma_core.specs.Desks.{DeskView, entries, Keeps, Waits}
 use Rattle.lemma_core.specs.Own.{added_of}
 use Rattle.station_search.specs.Decide.{Decides, IsFor}
 use Rattle.station_search.specs.Costs.{HasPublished, PaysExactly, PaysWithin, Costs, Spends, CostsAlone, AddsFew, FewAdded}
-use Rattle.station_search.specs.Work.{Does, Accounts, Balances, Ends}
+use Rattle.station_search.specs.inner.Work.{Does, Accounts, Balances, Ends}
 use Rattle.station_search.specs.declared.answers.Decided.{Decided}
 use Rattle.station_search.specs.declared.answers.Decided.TheVariants as decided
 use Rattle.lemma_core.proofs.OwnFacts.{did_none, did_waits, entries_more}

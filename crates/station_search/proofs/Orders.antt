@@ -7,7 +7,7 @@ use Rattle.line_rules.specs.declared.types.Mode.{Mode}
 use Rattle.line_rules.specs.declared.types.Mode.TheVariants as mode
 use Rattle.line_rules.specs.declared.types.Load.{Load}
 use Rattle.line_rules.specs.declared.types.OpenFrame.{OpenFrame}
-use Rattle.station_search.specs.Order.{fore_load, back_load, one, fores, backs}
+use Rattle.station_search.specs.inner.Order.{fore_load, back_load, one, fores, backs}
 
 around_is : (m : Mode) (last : Option Load) (ls : List Load) → around m last ls ≡ one (fore_load m last) ++ (ls ++ one (back_load m last))
 around_is mode.Fore None ls = sym (append-nil ls)

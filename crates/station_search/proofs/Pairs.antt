@@ -5,7 +5,7 @@ use Rattle.line_instance.specs.Line.{Line}
 use Rattle.line_rules.specs.declared.types.OpenFrame.{OpenFrame}
 use Rattle.line_rules.proofs.ListFacts.{get_longer, get_push_cases, get_last}
 use Rattle.station_search.specs.declared.listings.Listing.{Listing}
-use Rattle.station_search.specs.Work.{IsBeside, with_cites}
+use Rattle.station_search.specs.inner.Work.{IsBeside, with_cites}
 
 -- there are as many listings as frames, and each goes over the loads of its frame
 pub record ArePaired (line : Line) (X : ℕ) (fs : List OpenFrame) (ws : List Listing) : Type 0 where

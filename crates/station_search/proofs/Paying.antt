@@ -15,7 +15,7 @@ use Rattle.lemma_core.specs.Desks.{DeskView, entries, entries_after, Keeps, Wait
 use Rattle.lemma_core.specs.Own.{added_of}
 use Rattle.station_search.specs.Mode.{frame_mode}
 use Rattle.station_search.specs.Costs.{HasMode, AreLemmas, HasLoads, Pays, PayAll}
-use Rattle.station_search.specs.Work.{Does, AllAdded, AreOfSet, DoesFor}
+use Rattle.station_search.specs.inner.Work.{Does, AllAdded, AreOfSet, DoesFor}
 use Rattle.lemma_core.proofs.HistoryGrows.{keeps_none}
 use Rattle.lemma_core.proofs.OwnFacts.{did_none, did_waits, did_adds, did_both, saw_none, saw_waits, saw_adds, saw_both, entries_more, entries_added}
 use Rattle.station_search.proofs.Events.{get_append_cases, publish_both, added_both, known_answers}

@@ -10,7 +10,7 @@ use Rattle.load_facts.specs.Times.{AreTimes}
 use Rattle.load_facts.proofs.Rest.{rest_sum}
 use Rattle.station_load.specs.Walking.{last_load}
 use Rattle.station_search.specs.declared.listings.Listing.{Listing}
-use Rattle.station_search.specs.Work.{IsBeside}
+use Rattle.station_search.specs.inner.Work.{IsBeside}
 
 module _ (line : Line) (X : ℕ) (f : OpenFrame) (g : Listing) (l : Load) (b : IsBeside line X f g) (load : IsLoad line X f.mode f.set l) (last : f.last ≡ Some l) where
   -- the total of the set is that of the load and that of the rest

@@ -12,7 +12,7 @@ use Rattle.line_rules.specs.declared.types.LineKind.{LineKind}
 use Rattle.line_rules.specs.declared.types.Mode.{Mode}
 use Rattle.line_rules.specs.declared.types.Entry.{Entry}
 use Rattle.lemma_core.specs.Desks.{DeskView, entries, Keeps, Waits}
-use Rattle.station_search.specs.Work.{DoesFor, swap_of}
+use Rattle.station_search.specs.inner.Work.{DoesFor, swap_of}
 use Rattle.station_search.proofs.Events.{entries_same}
 use Rattle.station_search.proofs.Paying.{does_then}
 

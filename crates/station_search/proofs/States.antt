@@ -19,7 +19,7 @@ use Rattle.line_rules.proofs.ListFacts.{get_longer, get_push_cases, get_last}
 use Rattle.line_rules.proofs.Paths.{all_up_to, covers_pass, covers_skip, covers_cite, leads_push, leads_pop, leads_longer, deep_longer, rest_inside}
 use Rattle.station_search.specs.Mode.{frame_mode}
 use Rattle.station_search.specs.Decide.{IsAnswered}
-use Rattle.station_search.specs.Work.{branch_of, with_last, with_cites}
+use Rattle.station_search.specs.inner.Work.{branch_of, with_last, with_cites}
 
 -- of a frame that waits for the one below it: its set is one of tasks, it has the mode of its set, and the bound leaves
 -- the rest of its last load open

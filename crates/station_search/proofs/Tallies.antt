@@ -20,7 +20,7 @@ use Rattle.lemma_core.specs.History.{Item}
 use Rattle.lemma_core.specs.Desks.{DeskView, entries, Keeps}
 use Rattle.lemma_core.specs.Own.{added_of}
 use Rattle.station_search.specs.Costs.{AreUnanswered}
-use Rattle.station_search.specs.Work.{with_last, with_cites, Does, AllAdded, DoesFor, Accounts, Balances}
+use Rattle.station_search.specs.inner.Work.{with_last, with_cites, Does, AllAdded, DoesFor, Accounts, Balances}
 use Rattle.station_search.proofs.Events.{waits_none}
 use Rattle.station_search.proofs.Paying.{does_waits, does_both, all_added_both, added_length, unanswered_still}
 

@@ -23,7 +23,7 @@ use Rattle.lemma_core.specs.Desks.{DeskView, entries, Keeps}
 use Rattle.station_search.specs.Mode.{frame_mode}
 use Rattle.station_search.specs.Decide.{Stops, HaveModes}
 use Rattle.station_search.specs.Costs.{AreUnanswered}
-use Rattle.station_search.specs.Work.{IsBeside, with_last, with_cites, may_add, DoesFor, Accounts, Balances}
+use Rattle.station_search.specs.inner.Work.{IsBeside, with_last, with_cites, may_add, DoesFor, Accounts, Balances}
 use Rattle.station_search.specs.declared.listings.Listing.{Listing}
 use Rattle.station_search.specs.declared.sorting.Sorted.{Sorted}
 use Rattle.station_search.specs.declared.sorting.Sorted.TheVariants as sorted

@@ -9,7 +9,7 @@ ghost use Rattle.line_rules.specs.Loads.{IsLoad, rest};
 ghost use Rattle.line_rules.specs.Order.{After, IsFollowing};
 ghost use Rattle.line_rules.specs.declared.types.Load.{Load as Pair};
 ghost use Rattle.load_facts.specs.Times.{AreTimes};
-ghost use Rattle.station_search.specs.Work.{IsBeside, with_last};
+ghost use Rattle.station_search.specs.inner.Work.{IsBeside, with_last};
 
 use crate::halves::halves_of;
 use line_instance::Instance;

@@ -1,7 +1,7 @@
 //! The loads that a search found, in the order of their stations.
 ghost use Rattle.std.specs.Prelude.{◌≡◌, ◌+◌, ◌<◌, ◌≤◌, List, [], ◌++◌, IfOk};
 ghost use Rattle.line_rules.specs.Seats.{seated};
-ghost use Rattle.station_search.specs.Order.{fore_load, back_load};
+ghost use Rattle.station_search.specs.inner.Order.{fore_load, back_load};
 
 use line_rules::{Frames, Load, Loads, Mode, OpenFrame};
 use std::alloc::{AllocError, Global};

@@ -17,7 +17,7 @@ ghost use Rattle.lemma_core.specs.Desks.{entries, Keeps, Waits, FollowsSeen};
 ghost use Rattle.lemma_core.specs.Own.{IsStatable};
 ghost use Rattle.station_search.specs.Mode.{frame_mode};
 ghost use Rattle.station_search.specs.Decide.{IsFor, IsAnswered, Decides};
-ghost use Rattle.station_search.specs.Work.{branch_of, DoesFor, Accounts, Ends};
+ghost use Rattle.station_search.specs.inner.Work.{branch_of, DoesFor, Accounts, Ends};
 
 use crate::answers::{Decided, Reason, Units};
 use crate::listings::{Listing, begin_listing, next_load};

@@ -6,7 +6,7 @@ ghost use Rattle.line_rules.specs.Ranges.{IsCycle};
 ghost use Rattle.line_rules.specs.declared.types.Mode.{Mode};
 ghost use Rattle.lemma_core.specs.Desks.{entries, Keeps};
 ghost use Rattle.station_search.specs.Decide.{IsFor};
-ghost use Rattle.station_search.specs.Work.{IsBeside, Sorts, DoesFor, may_add};
+ghost use Rattle.station_search.specs.inner.Work.{IsBeside, Sorts, DoesFor, may_add};
 
 use crate::listings::{Listing, is_longer, rest_times};
 use crate::swaps::publish_swap;

@@ -10,7 +10,7 @@ ghost use Rattle.line_rules.specs.Ranges.{IsCycle};
 ghost use Rattle.line_rules.specs.declared.types.Mode.{Mode};
 ghost use Rattle.lemma_core.specs.Desks.{entries, Keeps, Waits};
 ghost use Rattle.station_search.specs.Decide.{IsFor, IsAnswered};
-ghost use Rattle.station_search.specs.Work.{DoesFor, may_swap, swap_of};
+ghost use Rattle.station_search.specs.inner.Work.{DoesFor, may_swap, swap_of};
 
 use lemma_core::{Desk, Looked, Published};
 use line_instance::Instance;

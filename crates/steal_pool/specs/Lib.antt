@@ -1,8 +1,8 @@
 pub mod Deques
 pub mod Steps
 pub mod Hands
-pub mod Inside
 pub mod Calls
 pub mod Lending
 pub mod Opening
 pub mod Closing
+pub mod inner

@@ -47,7 +47,7 @@ pub struct Home {
 impl Model for Home {
     ghost use Rattle.crossbeam_deque.specs.Handles.{worker_deque, worker_view};
     ghost use Rattle.steal_pool.specs.Hands.{DequeId, PortView};
-    ghost use Rattle.steal_pool.specs.Inside.{HasRoom};
+    ghost use Rattle.steal_pool.specs.inner.Inside.{HasRoom};
 
     ghost Value = { PortView };
 
@@ -65,7 +65,7 @@ pub struct Port {
 
 impl Model for Port {
     ghost use Rattle.steal_pool.specs.Hands.{DequeId, PortView};
-    ghost use Rattle.steal_pool.specs.Inside.{IsResting};
+    ghost use Rattle.steal_pool.specs.inner.Inside.{IsResting};
 
     ghost Value = { PortView };
 

@@ -1,7 +1,7 @@
 -- The members that are ahead of a loop, word by word.
 use Rattle.std.proofs.Common.{◌≡◌, ◌≢◌, ℕ, zero, suc, ◌+◌, ◌-◌, ◌*◌, ◌^◌, ◌/◌, ◌%◌, ◌<◌, ◌≤◌, Bool, true, false, eqb, List, [], ◌∷◌, ◌++◌, length, get_or, set, take, drop, refl, sym, ap, ◌∙◌, inl, inr, arith, bit_and, w64, get_or-take, get_or-drop}
 use Rattle.task_set.specs.Truths.{IsEmpty, IsLeast, truths_of, members_from, members_of}
-use Rattle.task_set.specs.Words.{bits_of, members_left, get_or-truths, part_length}
+use Rattle.task_set.specs.inner.Words.{bits_of, members_left, get_or-truths, part_length}
 use Rattle.task_set.proofs.Listed.{least_first, none_from}
 use Rattle.task_set.proofs.Members.{In-below}
 use Rattle.std.specs.Int.{bit_at, trailing_zeros}

@@ -23,7 +23,7 @@ pub struct Tasks<'a> {
 
 impl<'a> Model for Tasks<'a> {
     ghost use Rattle.std.specs.Prelude.{ℕ, ◌≤◌, List};
-    ghost use Rattle.task_set.specs.Words.{members_left};
+    ghost use Rattle.task_set.specs.inner.Words.{members_left};
 
     ghost Value = { List ℕ };
 

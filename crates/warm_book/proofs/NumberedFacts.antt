@@ -11,7 +11,7 @@ use Rattle.lemma_core.specs.declared.types.Event.TheVariants as event
 use Rattle.lemma_core.specs.Machine.{State, last_answer, with_entry}
 use Rattle.lemma_core.specs.Books.{BookView, ran}
 use Rattle.warm_book.specs.Warm.{Taking, number_at, number_of, IsKept, Takes, TakesAll, keeping, dropping, untaken}
-use Rattle.warm_book.specs.Walked.{IsAnsweredAt, AreNumbered, AreWalked, IsWalked, IsSpared}
+use Rattle.warm_book.specs.inner.Walked.{IsAnsweredAt, AreNumbered, AreWalked, IsWalked, IsSpared}
 use Rattle.warm_book.proofs.NumberFacts.{asks_same}
 use Rattle.warm_book.proofs.TakingFacts.{one_entry, step_adds}
 

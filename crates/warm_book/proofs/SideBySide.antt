@@ -9,7 +9,7 @@ use Rattle.std.specs.List.{AllZip, range_with_len}
 use Rattle.line_instance.specs.Line.{Line}
 use Rattle.line_rules.specs.declared.types.LineKind.{LineKind}
 use Rattle.line_rules.specs.declared.types.Entry.{Entry}
-use Rattle.warm_book.specs.Walked.{IsWalkedAt, AreWalked}
+use Rattle.warm_book.specs.inner.Walked.{IsWalkedAt, AreWalked}
 
 module _ (kind : LineKind) (line : Line) (olds : List Entry) (from many : ℕ) where
   at_place : (j units : ℕ) (o : Option ℕ) → slice_get (range_with_len from many) j ≡ o

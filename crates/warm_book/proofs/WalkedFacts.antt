@@ -12,7 +12,7 @@ use Rattle.line_rules.specs.declared.types.Entry.{Entry}
 use Rattle.line_rules.specs.declared.types.Why.{Why}
 use Rattle.line_rules.specs.declared.types.Why.TheVariants as why
 use Rattle.warm_book.specs.Warm.{Taking, new_number, with_number, renumbered_cites, by_branch, by_swap, renumbered_why, with_why, renumbered}
-use Rattle.warm_book.specs.Walked.{IsAnsweredAt, IsWalked, IsSpared}
+use Rattle.warm_book.specs.inner.Walked.{IsAnsweredAt, IsWalked, IsSpared}
 
 -- a number is that of the cite at its place
 record IsCiteAt (numbers : List (Option ℕ)) (cites : List ℕ) (p number : ℕ) : Type 0 where

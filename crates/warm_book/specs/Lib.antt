@@ -1,4 +1,3 @@
 pub mod Warm
-pub mod Takings
-pub mod Walked
 pub mod Counted
+pub mod inner

@@ -11,8 +11,8 @@ ghost use Rattle.lemma_core.specs.Own.{IsStatable};
 ghost use Rattle.lemma_core.specs.Books.{IsReserved, ran};
 ghost use Rattle.warm_book.specs.Warm.{number_of, Takes, IsWarmed, GivesWarmer, OfBook};
 ghost use Rattle.line_check.specs.Faults.{IsChecked};
-ghost use Rattle.warm_book.specs.Takings.{taking, IsJudged};
-ghost use Rattle.warm_book.specs.Walked.{IsWalked, IsSpared};
+ghost use Rattle.warm_book.specs.inner.Takings.{taking, IsJudged};
+ghost use Rattle.warm_book.specs.inner.Walked.{IsWalked, IsSpared};
 
 use crate::numbers::renumbered;
 use lemma_core::{Book, Published};

@@ -19,8 +19,8 @@ ghost use Rattle.line_rules.specs.Ranges.{AreEntries};
 ghost use Rattle.lemma_core.specs.Books.{BookView, IsReserved};
 ghost use Rattle.warm_book.specs.Warm.{TakesAll, untaken, IsWarmed, IsOneWarmed, GivesWarmer, OfBook};
 ghost use Rattle.warm_book.specs.Counted.{warmed_of, AreCounted};
-ghost use Rattle.warm_book.specs.Takings.{taking};
-ghost use Rattle.warm_book.specs.Walked.{is_dropped, has_hope, may_stand, IsWalkedAt, AreWalked};
+ghost use Rattle.warm_book.specs.inner.Takings.{taking};
+ghost use Rattle.warm_book.specs.inner.Walked.{is_dropped, has_hope, may_stand, IsWalkedAt, AreWalked};
 
 use crate::warming::{Warmed, Warming};
 use lemma_core::Book;

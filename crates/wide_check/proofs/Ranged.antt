@@ -6,7 +6,7 @@ use Rattle.line_instance.specs.Line.{Line}
 use Rattle.line_rules.specs.declared.types.LineKind.{LineKind}
 use Rattle.line_rules.specs.declared.types.Entry.{Entry}
 use Rattle.line_check.specs.declared.types.Found.{Found}
-use Rattle.wide_check.specs.Batches.{IsFoundAt, AreChecked}
+use Rattle.wide_check.specs.inner.Batches.{IsFoundAt, AreChecked}
 
 zip_length : {X Y : Type 0} (R : X → Y → Type 0) (xs : List X) (ys : List Y) → AllZip R xs ys → length ys ≡ length xs
 zip_length R [] [] z = refl

@@ -3,7 +3,7 @@ ghost use Rattle.std.specs.Prelude.{◌≡◌, ◌<◌, ◌≤◌, ◌-◌, ◌+
 ghost use Rattle.line_instance.specs.Line.{tasks};
 ghost use Rattle.line_rules.specs.Ranges.{AreEntries};
 ghost use Rattle.line_check.specs.Lists.{AreFound, AreRightBelow};
-ghost use Rattle.wide_check.specs.Batches.{IsFoundAt, AreChecked, AreFoundTo};
+ghost use Rattle.wide_check.specs.inner.Batches.{IsFoundAt, AreChecked, AreFoundTo};
 
 use line_check::{Found, ListFound, check_entry};
 use line_instance::Instance;

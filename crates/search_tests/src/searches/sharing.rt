@@ -5,7 +5,7 @@ ghost use Rattle.line_rules.specs.declared.types.LineKind.TheVariants.{Straight}
 ghost use Rattle.lemma_core.specs.Books.{desk_of};
 ghost use Rattle.lemma_core.specs.Desks.{Keeps, Waits};
 ghost use Rattle.station_search.specs.Decide.{IsFor};
-ghost use Rattle.search_tests.specs.Shared.{part_of};
+ghost use Rattle.search_tests.specs.inner.Shared.{part_of};
 
 use super::{CYCLE, answer_text, book_of, entries_text, five, seven, six};
 use lemma_core::{Book, Desk, Looked, Offered, Published};
@@ -87,7 +87,7 @@ impl Part {
 }
 
 impl Desk for Part {
-    ghost use Rattle.search_tests.specs.Shared.{part_of};
+    ghost use Rattle.search_tests.specs.inner.Shared.{part_of};
 
     ghost desk = { λ s. part_of s.book s.from s.to };
 

@@ -2,7 +2,7 @@ use Rattle.std.proofs.Common.{◌∙◌, sym, subst}
 use Rattle.line_instance.specs.Made.{AreTimes}
 use Rattle.line_instance.specs.Walks.{AreArcs}
 use Rattle.alb_reader.specs.Sections.{under}
-use Rattle.alb_reader.specs.Making.{IsFillRead}
+use Rattle.alb_reader.specs.inner.Making.{IsFillRead}
 use Rattle.alb_reader.specs.declared.mark.Section.TheVariants.{Times, Pairs}
 use Rattle.alb_reader.proofs.Whole.{times_refused, times_read, arcs_read, times_many, times_right, arcs_right, tasks_some, made_is}
 use Rattle.alb_reader.proofs.answer.filled.Goals as goal

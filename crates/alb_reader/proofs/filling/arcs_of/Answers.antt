@@ -1,5 +1,5 @@
 use Rattle.std.proofs.Common.{◌∙◌, Err, None, sym, subst}
-use Rattle.alb_reader.specs.Fillings.{IsArcsRead}
+use Rattle.alb_reader.specs.inner.Fillings.{IsArcsRead}
 use Rattle.alb_reader.specs.declared.draft.PairLine.{PairLine}
 use Rattle.alb_reader.proofs.Stated.{arcs_on, arcs_stop}
 use Rattle.alb_reader.proofs.filling.arcs_of.Goals as goal

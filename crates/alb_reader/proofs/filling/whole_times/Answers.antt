@@ -1,5 +1,5 @@
 use Rattle.std.proofs.Common.{Err, sym, subst, refl}
-use Rattle.alb_reader.specs.Fillings.{GivesWhole, IsThere}
+use Rattle.alb_reader.specs.inner.Fillings.{GivesWhole, IsThere}
 use Rattle.alb_reader.proofs.filling.whole_times.Goals as goal
 
 pub returns-in-None : goal.returns-in-None

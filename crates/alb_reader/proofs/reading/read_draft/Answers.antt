@@ -1,6 +1,6 @@
 use Rattle.std.proofs.Common.{◌∙◌, ◌+◌, sym, subst, Err, arith}
 use Rattle.in2_reader.specs.Contents.{contents_from, lines_in}
-use Rattle.alb_reader.specs.Drafts.{IsDrafted}
+use Rattle.alb_reader.specs.inner.Drafts.{IsDrafted}
 use Rattle.alb_reader.proofs.Upto.{amid_marked, amid_wrong, amid_on}
 use Rattle.alb_reader.proofs.reading.read_draft.Goals as goal
 

@@ -1,6 +1,6 @@
 use Rattle.std.proofs.Common.{◌≡◌, ◌<◌, ◌+◌, ◌^◌, length}
 use Rattle.in2_reader.specs.Contents.{contents_from, lines_in}
-use Rattle.alb_reader.specs.Drafts.{IsAmid}
+use Rattle.alb_reader.specs.inner.Drafts.{IsAmid}
 use Rattle.alb_reader.proofs.reading.read_draft.Given as goal
 
 abbrev pub invariant-lines : goal.invariant-lines

@@ -1,5 +1,5 @@
 use Rattle.std.proofs.Common.{take}
-use Rattle.book_share.specs.Marking.{AreMarksOf}
+use Rattle.book_share.specs.inner.Marking.{AreMarksOf}
 use Rattle.book_share.proofs.marks.marked.Given as goal
 
 abbrev pub invariant-loop-id : goal.invariant-loop-id

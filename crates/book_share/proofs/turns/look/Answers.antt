@@ -7,7 +7,7 @@ use Rattle.book_share.specs.Steps.{Mine, given}
 use Rattle.book_share.proofs.Hands.{finds_by, derived_by}
 use Rattle.lemma_core.specs.Books.{desk_of}
 use Rattle.lemma_core.proofs.HistoryGrows.{keeps_none}
-use Rattle.book_share.specs.Turning.{Holds}
+use Rattle.book_share.specs.inner.Turning.{Holds}
 use Rattle.book_share.proofs.MarkFacts.{behind, marked_still}
 use Rattle.book_share.proofs.turns.look.Goals as goal
 

@@ -4,7 +4,7 @@ use Rattle.book_share.proofs.MarkFacts.{behind, keeps_publish, marked_after, mar
 use Rattle.lemma_core.specs.Desks.{HasDerived}
 use Rattle.book_share.specs.Passes.{desk_by}
 use Rattle.book_share.specs.Steps.{Mine, given}
-use Rattle.book_share.specs.Turning.{Holds}
+use Rattle.book_share.specs.inner.Turning.{Holds}
 use Rattle.book_share.proofs.Hands.{published_new, turn_publishes, has_same, derived_by}
 use Rattle.book_share.proofs.turns.publish.Goals as goal
 

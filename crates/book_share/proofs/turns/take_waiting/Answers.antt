@@ -1,7 +1,7 @@
 use Rattle.std.proofs.Common.{◌≡◌, suc, [], ◌∷◌, None, refl, sym, ap, ◌∙◌, subst, arith}
 use Rattle.book_share.specs.Passes.{PassView}
 use Rattle.book_share.specs.Steps.{Mine, missed, taken, given, IsHad}
-use Rattle.book_share.specs.Turning.{waited}
+use Rattle.book_share.specs.inner.Turning.{waited}
 use Rattle.book_share.proofs.turns.take_waiting.Goals as goal
 
 pub loop-init : goal.loop-init

@@ -1,5 +1,5 @@
 use Rattle.std.proofs.Common.{◌≡◌, ◌≤◌, []}
-use Rattle.book_share.specs.Turning.{waited}
+use Rattle.book_share.specs.inner.Turning.{waited}
 use Rattle.book_share.proofs.turns.take_waiting.Given as goal
 
 abbrev pub invariant-loop : goal.invariant-loop

@@ -1,7 +1,7 @@
 use Rattle.std.proofs.Common.{◌≡◌, ◌≤◌, ◌-◌, suc, List, ℕ, ◌++◌}
 use Rattle.std.specs.Prelude.{slice_range}
 use Rattle.cert_lines.specs.Faults.{IsLine}
-use Rattle.cert_files.specs.Rest.{bytes_from}
+use Rattle.cert_files.specs.inner.Rest.{bytes_from}
 use Rattle.cert_files.proofs.file_lines.next_line.Given as goal
 
 abbrev pub decreases-pieces : goal.decreases-pieces

@@ -1,5 +1,5 @@
 use Rattle.std.proofs.Common.{◌≡◌, ◌<◌, ◌≤◌, ◌-◌, suc, List, ℕ, length}
-use Rattle.cert_files.specs.Pieces.{bytes_of}
+use Rattle.cert_files.specs.inner.Pieces.{bytes_of}
 use Rattle.cert_files.proofs.file_lines.read_on.Given as goal
 
 abbrev pub decreases-pieces : goal.decreases-pieces

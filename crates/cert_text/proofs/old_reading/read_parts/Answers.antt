@@ -1,5 +1,5 @@
 use Rattle.std.proofs.Common.{[], ◌∷◌, ◌++◌, ◌∙◌, ap, arith}
-use Rattle.cert_text.specs.OldParts.{one_part, so_many, counted}
+use Rattle.cert_text.specs.inner.OldParts.{one_part, so_many, counted}
 use Rattle.cert_text.proofs.Failing.{ends, first, same, hand}
 use Rattle.cert_text.proofs.OldWholes.{part_numbers, counted_parts, unique_part_number, same_counted, some_so_many, none_read, single_read, pair_read, first_fails, second_fails}
 use Rattle.cert_text.proofs.old_reading.read_parts.Goals as goal

@@ -1,5 +1,5 @@
 use Rattle.std.proofs.Common.{◌≡◌, ◌++◌, take, map}
-use Rattle.cycle_search.specs.Joined.{raised_entry}
+use Rattle.cycle_search.specs.inner.Joined.{raised_entry}
 use Rattle.cycle_search.proofs.joining.joined.Given as goal
 
 abbrev pub invariant-loop-entry : goal.invariant-loop-entry

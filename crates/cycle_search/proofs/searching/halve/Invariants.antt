@@ -1,5 +1,5 @@
 use Rattle.std.proofs.Common.{◌-◌}
-use Rattle.cycle_search.specs.Searching.{IsBetween}
+use Rattle.cycle_search.specs.inner.Searching.{IsBetween}
 use Rattle.cycle_search.proofs.searching.halve.Given as goal
 
 abbrev pub invariant-halving : goal.invariant-halving

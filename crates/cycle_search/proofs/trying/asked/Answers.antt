@@ -1,7 +1,7 @@
 use Rattle.std.proofs.Common.{sym, ◌∙◌, subst, List}
 use Rattle.line_rules.specs.declared.types.OpenFrame.{OpenFrame}
 use Rattle.round_run.specs.declared.solving.Cause.TheVariants as cause
-use Rattle.cycle_search.specs.Searching.{IsBetween, IsCloser, IsStuck}
+use Rattle.cycle_search.specs.inner.Searching.{IsBetween, IsCloser, IsStuck}
 use Rattle.cycle_search.specs.declared.halving.Halving.{Halving}
 use Rattle.cycle_search.proofs.Tries.{refuted, found, spent, wanting}
 use Rattle.cycle_search.proofs.trying.asked.Goals as goal

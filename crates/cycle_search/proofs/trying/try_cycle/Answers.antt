@@ -1,6 +1,6 @@
 use Rattle.std.proofs.Common.{ℕ, IfOk, sym, subst, arith}
 use Rattle.line_rules.specs.declared.types.LineKind.{LineKind}
-use Rattle.cycle_search.specs.Searching.{IsBetween, IsAsking, IsCloser, IsTried}
+use Rattle.cycle_search.specs.inner.Searching.{IsBetween, IsAsking, IsCloser, IsTried}
 use Rattle.cycle_search.specs.declared.halving.Halving.{Halving}
 use Rattle.cycle_search.proofs.EndFacts.{none_long}
 use Rattle.cycle_search.proofs.Tries.{ranked_closer}

@@ -1,7 +1,7 @@
 use Rattle.std.proofs.Common.{◌∙◌, ap, min}
 use Rattle.std.proofs.lemmas.List.{take_all}
 use Rattle.line_io.specs.Lines.{value_of}
-use Rattle.effic_cert.specs.WideReading.{widest}
+use Rattle.effic_cert.specs.inner.WideReading.{widest}
 use Rattle.effic_cert.proofs.WideWords.{wide_next}
 use Rattle.effic_cert.proofs.words.value.Goals as goal
 

@@ -1,5 +1,5 @@
 use Rattle.std.proofs.Common.{◌-◌, ◌∙◌, sym, arith}
-use Rattle.task_set.specs.Words.{equal_sets}
+use Rattle.task_set.specs.inner.Words.{equal_sets}
 use Rattle.effic_search.proofs.counting.ends_with_all.Goals as goal
 
 pub returns : goal.returns

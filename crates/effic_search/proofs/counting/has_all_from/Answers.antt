@@ -3,7 +3,7 @@ use Rattle.std.specs.Prelude.{slice_get}
 use Rattle.std.proofs.lemmas.Bool.{cases_eq, false≢true}
 use Rattle.line_rules.specs.declared.types.Entry.{Entry}
 use Rattle.line_rules.proofs.Sound.{get_within}
-use Rattle.task_set.specs.Words.{equal_sets}
+use Rattle.task_set.specs.inner.Words.{equal_sets}
 use Rattle.effic_search.proofs.counting.has_all_from.Goals as goal
 
 one_entry : (x y : Entry) → Some x ≡ Some y → x ≡ y

@@ -1,6 +1,6 @@
 use Rattle.std.proofs.Common.{◌≡◌, ℕ, ◌+◌, refl, sym, ap, ◌∙◌, subst, arith}
 use Rattle.cycle_search.proofs.EndFacts.{first_best}
-use Rattle.effic_search.specs.Opening.{IsFirstBook}
+use Rattle.effic_search.specs.inner.Opening.{IsFirstBook}
 use Rattle.effic_search.proofs.StartFacts.{first_none, first_next, going_begins}
 use Rattle.effic_search.proofs.opening.begin.Goals as goal
 

@@ -1,4 +1,4 @@
-use Rattle.effic_search.specs.Opening.{IsFirstBook}
+use Rattle.effic_search.specs.inner.Opening.{IsFirstBook}
 use Rattle.effic_search.proofs.opening.begin.Given as goal
 
 abbrev pub invariant-loop-stations : goal.invariant-loop-stations

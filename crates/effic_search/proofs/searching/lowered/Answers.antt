@@ -1,5 +1,5 @@
 use Rattle.std.proofs.Common.{◌≡◌, ℕ, ◌+◌, subst, arith}
-use Rattle.effic_search.specs.Going.{IsGoing}
+use Rattle.effic_search.specs.inner.Going.{IsGoing}
 use Rattle.effic_search.proofs.TryFacts.{settled_last}
 use Rattle.effic_search.proofs.searching.lowered.Goals as goal
 

@@ -1,4 +1,4 @@
-use Rattle.effic_search.specs.Going.{IsGoing}
+use Rattle.effic_search.specs.inner.Going.{IsGoing}
 use Rattle.effic_search.proofs.searching.lowered.Given as goal
 
 abbrev pub invariant-loop-stations : goal.invariant-loop-stations

@@ -3,7 +3,7 @@ use Rattle.line_rules.specs.declared.types.Entry.{Entry}
 use Rattle.lemma_core.specs.Own.{AreStatable}
 use Rattle.effic_check.specs.Truth.{IsBetween}
 use Rattle.effic_search.specs.Lowest.{IsLowest}
-use Rattle.effic_search.specs.Going.{entries_of, product_of}
+use Rattle.effic_search.specs.inner.Going.{entries_of, product_of}
 use Rattle.effic_search.proofs.CertFacts.{bounds_true, derived_of}
 use Rattle.effic_search.proofs.searching.shown.Goals as goal
 

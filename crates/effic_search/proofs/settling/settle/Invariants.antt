@@ -1,4 +1,4 @@
-use Rattle.effic_search.specs.Going.{IsGoing, product_of}
+use Rattle.effic_search.specs.inner.Going.{IsGoing, product_of}
 use Rattle.effic_search.proofs.settling.settle.Given as goal
 
 abbrev pub invariant-tries : goal.invariant-tries

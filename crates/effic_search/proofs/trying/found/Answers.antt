@@ -1,7 +1,7 @@
 use Rattle.std.proofs.Common.{◌≡◌, ℕ, ◌∙◌, sym, ap, subst, arith}
 use Rattle.line_rules.specs.Balance.{IsRight}
 use Rattle.line_rules.specs.declared.types.Balance.{Balance as Assignment}
-use Rattle.effic_search.specs.Going.{IsTight}
+use Rattle.effic_search.specs.inner.Going.{IsTight}
 use Rattle.effic_search.proofs.TryFacts.{best_right}
 use Rattle.effic_search.proofs.trying.found.Goals as goal
 

@@ -4,7 +4,7 @@ use Rattle.line_rules.specs.Balance.{IsRight, all_tasks}
 use Rattle.line_rules.specs.declared.types.Balance.{Balance as Assignment}
 use Rattle.line_rules.specs.declared.types.Entry.{Entry}
 use Rattle.cycle_search.proofs.Tries.{widened_right}
-use Rattle.effic_search.specs.Going.{EndsWith, IsTight}
+use Rattle.effic_search.specs.inner.Going.{EndsWith, IsTight}
 use Rattle.effic_search.proofs.TryFacts.{left_at, none_too_long, below_upper, ranked_going, found_after, refuted_going}
 use Rattle.effic_search.proofs.TryFacts.{spent_stuck, asked_lowering}
 use Rattle.effic_search.proofs.trying.try_cycle.Goals as goal

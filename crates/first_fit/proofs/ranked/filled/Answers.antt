@@ -5,7 +5,7 @@ use Rattle.line_instance.specs.Line.{tasks}
 use Rattle.line_rules.specs.Ranked.{IsRankedBalance}
 use Rattle.line_rules.specs.declared.types.Seatplace.{Seatplace}
 use Rattle.first_fit.specs.declared.filling.Filling.{Filling as Filled}
-use Rattle.first_fit.specs.Filling.{joined, next_station}
+use Rattle.first_fit.specs.inner.Filling.{joined, next_station}
 use Rattle.first_fit.proofs.Fills.{IsFilling, one_more}
 use Rattle.first_fit.proofs.Steps.{at_start, station_small, used, further, flag_falls, finished, work, work_joins, work_goes_on}
 use Rattle.first_fit.proofs.ranked.filled.Goals as goal

@@ -1,5 +1,5 @@
 use Rattle.std.proofs.Common.{ℕ, ◌%◌, ap}
-use Rattle.lemma_core.specs.Chains.{tag_of}
+use Rattle.lemma_core.specs.inner.Chains.{tag_of}
 use Rattle.lemma_core.proofs.index.tag.Goals as goal
 
 pub returns : goal.returns

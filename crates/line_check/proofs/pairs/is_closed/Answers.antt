@@ -1,6 +1,6 @@
 use Rattle.std.proofs.Common.{ℕ, ◌≡◌, subst, inl, inr, arith}
 use Rattle.std.proofs.lemmas.Bool.{cases_lt}
-use Rattle.line_check.specs.Pairs.{IsClosedAt}
+use Rattle.line_check.specs.inner.Pairs.{IsClosedAt}
 use Rattle.line_check.proofs.pairs.is_closed.Goals as goal
 
 pub loop-i-preserved : goal.loop-i-preserved

@@ -1,5 +1,5 @@
 use Rattle.std.proofs.Common.{◌<◌, ℕ}
-use Rattle.line_check.specs.Pairs.{IsClosedAt}
+use Rattle.line_check.specs.inner.Pairs.{IsClosedAt}
 use Rattle.line_check.proofs.pairs.is_closed.Given as goal
 
 abbrev pub invariant-loop-i : goal.invariant-loop-i

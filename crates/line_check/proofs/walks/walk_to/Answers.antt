@@ -8,7 +8,7 @@ use Rattle.line_rules.specs.declared.types.Entry.{Entry}
 use Rattle.line_rules.specs.declared.types.Load.{Load}
 use Rattle.line_check.specs.Walks.{IsUncovered, CountsTo}
 use Rattle.line_check.specs.Reaches.{IsMatched}
-use Rattle.line_check.specs.Steps.{IsLacking, Takes}
+use Rattle.line_check.specs.inner.Steps.{IsLacking, Takes}
 use Rattle.check_loads.specs.Standing.{stand, last_of}
 use Rattle.check_loads.proofs.Stepping.{last_given, none_given}
 use Rattle.line_check.proofs.Walking.{IsWalking, walk_starts, walk_takes}

@@ -1,5 +1,5 @@
 use Rattle.std.proofs.Common.{arith, ℕ, List, Bool, length, sym, subst}
-use Rattle.line_instance.specs.Inside.{AreRows, AreJoined, AreTurned, AreRanksOf, ArePartners, IsWhole, IsPermutation, LeadsIn, of_rows}
+use Rattle.line_instance.specs.inner.Inside.{AreRows, AreJoined, AreTurned, AreRanksOf, ArePartners, IsWhole, IsPermutation, LeadsIn, of_rows}
 use Rattle.line_instance.specs.Walks.{IsRingOf}
 use Rattle.line_instance.specs.declared.partners.Kept.{Kept}
 use Rattle.line_instance.proofs.Joining.{empty_ones}

@@ -1,6 +1,6 @@
 use Rattle.std.proofs.Common.{◌≡◌, ◌+◌, ◌∙◌, ℕ, arith, subst, sym, length}
 use Rattle.std.proofs.lemmas.Bool.{false≢true}
-use Rattle.line_instance.specs.Inside.{of_rows}
+use Rattle.line_instance.specs.inner.Inside.{of_rows}
 use Rattle.line_instance.specs.declared.partners.Kept.{Kept}
 use Rattle.line_instance.proofs.Keeping.{IsKeeping, one_kept, same_kept, all_kept}
 use Rattle.line_instance.proofs.partners.first_partners.Goals as goal

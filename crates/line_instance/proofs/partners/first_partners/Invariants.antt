@@ -1,4 +1,4 @@
-use Rattle.line_instance.specs.Inside.{of_rows}
+use Rattle.line_instance.specs.inner.Inside.{of_rows}
 use Rattle.line_instance.proofs.Keeping.{IsKeeping}
 use Rattle.line_instance.proofs.partners.first_partners.Given as goal
 

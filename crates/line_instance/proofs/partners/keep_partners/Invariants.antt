@@ -1,4 +1,4 @@
-use Rattle.line_instance.specs.Inside.{of_rows}
+use Rattle.line_instance.specs.inner.Inside.{of_rows}
 use Rattle.line_instance.proofs.Keeping.{IsTabling}
 use Rattle.line_instance.proofs.partners.keep_partners.Given as goal
 

@@ -1,5 +1,5 @@
 use Rattle.std.proofs.Common.{◌≡◌, ℕ, arith, subst}
-use Rattle.line_instance.specs.Inside.{IsAppended}
+use Rattle.line_instance.specs.inner.Inside.{IsAppended}
 use Rattle.line_instance.proofs.rings.append_back.Goals as goal
 
 pub returns : goal.returns

@@ -1,5 +1,5 @@
 use Rattle.std.proofs.Common.{◌≤◌}
-use Rattle.line_instance.specs.Inside.{IsAppended}
+use Rattle.line_instance.specs.inner.Inside.{IsAppended}
 use Rattle.line_instance.proofs.rings.append_back.Given as goal
 
 abbrev pub invariant-loop-i : goal.invariant-loop-i

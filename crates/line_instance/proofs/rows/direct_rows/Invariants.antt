@@ -1,5 +1,5 @@
 use Rattle.std.proofs.Common.{take}
-use Rattle.line_instance.specs.Inside.{AreDirect}
+use Rattle.line_instance.specs.inner.Inside.{AreDirect}
 use Rattle.line_instance.proofs.rows.direct_rows.Given as goal
 
 abbrev pub invariant-loop-arc : goal.invariant-loop-arc

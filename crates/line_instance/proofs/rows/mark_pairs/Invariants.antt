@@ -1,5 +1,5 @@
 use Rattle.std.proofs.Common.{take, length}
-use Rattle.line_instance.specs.Inside.{ArePaired}
+use Rattle.line_instance.specs.inner.Inside.{ArePaired}
 use Rattle.line_instance.proofs.rows.mark_pairs.Given as goal
 
 abbrev pub invariant-loop-pair : goal.invariant-loop-pair

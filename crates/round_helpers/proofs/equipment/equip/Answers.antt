@@ -1,7 +1,7 @@
 use Rattle.std.proofs.Common.{List, length, ap, arith}
 use Rattle.steal_pool.specs.declared.piece.Piece.{Piece}
 use Rattle.steal_pool.proofs.Each.{length_each}
-use Rattle.round_helpers.specs.Pieces.{piece_of}
+use Rattle.round_helpers.specs.inner.Pieces.{piece_of}
 use Rattle.round_helpers.proofs.PieceFacts.{pieces_numbered}
 use Rattle.round_helpers.proofs.equipment.equip.Goals as goal
 

@@ -1,5 +1,5 @@
 use Rattle.std.proofs.Common.{◌≡◌, ◌≤◌, length, take, vec_capacity}
-use Rattle.round_helpers.specs.Pieces.{pieces_of}
+use Rattle.round_helpers.specs.inner.Pieces.{pieces_of}
 use Rattle.round_helpers.proofs.equipment.pieces_of.Given as goal
 
 abbrev pub invariant-loop-k : goal.invariant-loop-k

@@ -2,7 +2,7 @@ use Rattle.std.proofs.Common.{◌≡◌, List, length, sym, ap, ◌∙◌, subst
 use Rattle.book_share.specs.Passes.{PassView}
 use Rattle.steal_pool.specs.Hands.{HandView, AreHandsOf}
 use Rattle.steal_pool.specs.Closing.{IsClosed}
-use Rattle.round_helpers.specs.Teams.{AreSettled, IsTold, settled}
+use Rattle.round_helpers.specs.inner.Teams.{AreSettled, IsTold, settled}
 use Rattle.round_helpers.specs.declared.teams.Helper.{Helper}
 use Rattle.round_helpers.proofs.HelpFacts.{bare_first, may_work, have_worked, passes_are, are_settled, hands_back, comes_back, spent_back}
 use Rattle.round_helpers.proofs.helping.help_at.Goals as goal

@@ -1,5 +1,5 @@
 use Rattle.std.proofs.Common.{◌≡◌, ◌+◌, ◌-◌, ℕ, subst, arith}
-use Rattle.round_helpers.specs.Works.{Works, most_decided}
+use Rattle.round_helpers.specs.inner.Works.{Works, most_decided}
 use Rattle.round_helpers.proofs.WorkFacts.{works_decided}
 use Rattle.round_helpers.proofs.job_work.ask.Goals as goal
 

@@ -1,6 +1,6 @@
 use Rattle.std.proofs.Common.{◌-◌, ◌+◌, ℕ, arith}
 use Rattle.lemma_core.proofs.HistoryGrows.{keeps_both}
-use Rattle.round_helpers.specs.Works.{most_added}
+use Rattle.round_helpers.specs.inner.Works.{most_added}
 use Rattle.round_helpers.proofs.WorkFacts.{works_as, works_both, works_waits}
 use Rattle.round_helpers.proofs.job_work.ask_for_better.Goals as goal
 

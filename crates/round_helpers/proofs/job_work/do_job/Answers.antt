@@ -1,5 +1,5 @@
 use Rattle.std.proofs.Common.{◌-◌, ◌+◌, ℕ, arith}
-use Rattle.round_helpers.specs.Works.{most_added}
+use Rattle.round_helpers.specs.inner.Works.{most_added}
 use Rattle.round_helpers.proofs.JobEnds.{added_few}
 use Rattle.round_helpers.proofs.WorkFacts.{works_as, works_both}
 use Rattle.round_helpers.proofs.job_work.do_job.Goals as goal

@@ -1,7 +1,7 @@
 use Rattle.std.proofs.Common.{◌≡◌, length, refl, sym, ◌∙◌, subst, arith, Some}
 use Rattle.std.specs.Prelude.{slice_get}
 use Rattle.std.proofs.lemmas.Option.{slice_get_read, slice_get_within, same_Some}
-use Rattle.round_helpers.specs.Pieces.{IsRefuted}
+use Rattle.round_helpers.specs.inner.Pieces.{IsRefuted}
 use Rattle.round_helpers.specs.declared.job_list.Job.{Job}
 use Rattle.round_helpers.proofs.JobEnds.{job_is}
 use Rattle.round_helpers.proofs.PieceFacts.{meet_tasks}

@@ -1,8 +1,8 @@
 use Rattle.std.proofs.Common.{◌≡◌, ◌+◌, ◌-◌, ◌≤◌}
 use Rattle.lemma_core.specs.Desks.{Keeps}
 use Rattle.steal_pool.specs.Hands.{IsHandOf}
-use Rattle.round_helpers.specs.Pieces.{KeepsOwn, AreDone}
-use Rattle.round_helpers.specs.Works.{Works}
+use Rattle.round_helpers.specs.inner.Pieces.{KeepsOwn, AreDone}
+use Rattle.round_helpers.specs.inner.Works.{Works}
 use Rattle.round_helpers.proofs.piece_work.do_pieces.Given as goal
 
 abbrev pub invariant-working : goal.invariant-working

@@ -1,5 +1,5 @@
 use Rattle.std.proofs.Common.{◌≡◌, ◌≤◌, length, take}
-use Rattle.round_helpers.specs.Teams.{settled}
+use Rattle.round_helpers.specs.inner.Teams.{settled}
 use Rattle.round_helpers.proofs.teams.settle.Given as goal
 
 abbrev pub invariant-loop-k : goal.invariant-loop-k

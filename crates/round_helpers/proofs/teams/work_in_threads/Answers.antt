@@ -1,7 +1,7 @@
 use Rattle.std.proofs.Common.{◌≡◌, length, refl, ◌∙◌, subst, rules}
 use Rattle.std.specs.Prelude.{slice_index_or}
 use Rattle.std.proofs.lemmas.Option.{slice_get_read, slice_get_within, get_or_from_slice_get}
-use Rattle.round_helpers.specs.Seats.{HasWorked}
+use Rattle.round_helpers.specs.inner.Seats.{HasWorked}
 use Rattle.round_helpers.specs.declared.teams.Helper.{Helper}
 use Rattle.round_helpers.proofs.teams.work_in_threads.Goals as goal
 

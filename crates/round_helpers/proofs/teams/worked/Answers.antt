@@ -1,7 +1,7 @@
 use Rattle.std.proofs.Common.{List, length, drop, ap, sym, subst, arith}
 use Rattle.std.proofs.lemmas.List.{take_at}
-use Rattle.round_helpers.specs.Seats.{HaveAllWorked}
-use Rattle.round_helpers.specs.Teams.{MayAllWork}
+use Rattle.round_helpers.specs.inner.Seats.{HaveAllWorked}
+use Rattle.round_helpers.specs.inner.Teams.{MayAllWork}
 use Rattle.round_helpers.specs.declared.teams.Helper.{Helper}
 use Rattle.round_helpers.proofs.teams.worked.Goals as goal
 

@@ -4,7 +4,7 @@ use Rattle.line_rules.specs.declared.types.Balance.{Balance as Assignment}
 use Rattle.lemma_core.specs.Machine.{About}
 use Rattle.round_helpers.specs.Helping.{all_used}
 use Rattle.round_run.specs.Plans.{all_left}
-use Rattle.round_run.specs.Questions.{HasAsked}
+use Rattle.round_run.specs.inner.Questions.{HasAsked}
 use Rattle.round_run.specs.declared.questions.Stop.{Stop}
 use Rattle.round_run.proofs.PurseFacts.{spent_more, spent_sum, spent_team}
 use Rattle.round_run.proofs.Turns.{turns, stops}

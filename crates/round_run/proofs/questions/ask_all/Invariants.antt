@@ -1,7 +1,7 @@
 use Rattle.std.proofs.Common.{◌≡◌, ◌+◌, ◌-◌}
 use Rattle.round_helpers.specs.Helping.{IsTeam, all_used}
 use Rattle.round_run.specs.Plans.{all_left}
-use Rattle.round_run.specs.Questions.{IsPaid}
+use Rattle.round_run.specs.inner.Questions.{IsPaid}
 use Rattle.round_run.proofs.questions.ask_all.Given as goal
 
 abbrev pub invariant-asking : goal.invariant-asking

@@ -1,5 +1,5 @@
 use Rattle.std.proofs.Common.{Option, refl, subst}
-use Rattle.round_run.specs.Questions.{HasAsked}
+use Rattle.round_run.specs.inner.Questions.{HasAsked}
 use Rattle.round_run.specs.declared.questions.Stop.{Stop}
 use Rattle.round_run.proofs.Endings.{solves, stops_by}
 use Rattle.round_run.proofs.solving.concluded.Goals as goal

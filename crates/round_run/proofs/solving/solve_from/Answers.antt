@@ -5,7 +5,7 @@ use Rattle.line_rules.specs.declared.types.Balance.{Balance as Assignment}
 use Rattle.lemma_core.specs.Machine.{About}
 use Rattle.lemma_core.specs.Books.{MayBeBest}
 use Rattle.round_run.specs.Plans.{all_left}
-use Rattle.round_run.specs.Questions.{HasAsked}
+use Rattle.round_run.specs.inner.Questions.{HasAsked}
 use Rattle.round_run.specs.Solving.{SolvesFrom}
 use Rattle.round_run.proofs.Endings.{begins}
 use Rattle.round_run.proofs.solving.solve_from.Goals as goal

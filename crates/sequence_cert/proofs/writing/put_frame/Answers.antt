@@ -4,7 +4,7 @@ use Rattle.cert_lines.specs.Numbers.{number_text, cites_text}
 use Rattle.cert_lines.specs.Rows.{line_text, state_frame, number_or_none, row_text}
 use Rattle.cert_text.proofs.Putting.{puts_as, ◌▹◌}
 use Rattle.sequence_cert.specs.SequenceText.{counted}
-use Rattle.sequence_cert.specs.Pieces.{state_text}
+use Rattle.sequence_cert.specs.inner.Pieces.{state_text}
 use Rattle.sequence_cert.proofs.writing.put_frame.Goals as goal
 
 frame_spelled : (rem starts : List ℕ) (need : ℕ) (last : Option ℕ) (cites : List ℕ)

@@ -4,7 +4,7 @@ use Rattle.sequence_rules.specs.States.{cost, root_starts}
 use Rattle.sequence_rules.specs.declared.types.SeqCert.{SeqCert}
 use Rattle.sequence_search.specs.declared.outcome.Tried.{Tried}
 use Rattle.sequence_search.specs.Outcomes.{IsSolved, IsStopped}
-use Rattle.sequence_search.specs.Tries.{Tries}
+use Rattle.sequence_search.specs.inner.Tries.{Tries}
 use Rattle.sequence_search.proofs.BookFacts.{book_as, answered_still}
 use Rattle.sequence_search.proofs.WorkFacts.{tried_more, tight}
 use Rattle.sequence_search.proofs.OrderFacts.{sequence_short, sequence_within, shown_holds, solved, stopped_at}

@@ -6,9 +6,9 @@ use Rattle.sequence_rules.specs.declared.types.SeqEntry.{SeqEntry}
 use Rattle.sequence_rules.specs.declared.types.SeqFrame.{SeqFrame}
 use Rattle.sequence_search.specs.declared.outcome.Stepped.{Stepped}
 use Rattle.sequence_search.specs.Steps.{IsNextModel, IsNoModel, IsNextState, StepsTo}
-use Rattle.sequence_search.specs.Paths.{lasts, IsBook, IsTop}
+use Rattle.sequence_search.specs.inner.Paths.{lasts, IsBook, IsTop}
 use Rattle.sequence_search.specs.Work.{root_work, frame_work, frames_work, AddsFew}
-use Rattle.sequence_search.specs.Tries.{entry_of, AreStopped, KeepsRoots}
+use Rattle.sequence_search.specs.inner.Tries.{entry_of, AreStopped, KeepsRoots}
 use Rattle.sequence_search.proofs.TurnFacts.{with_last, IsBack, steps_on, top_passes, top_answers, passed_on, opened, found, refuted, units_on, units_ended, turns_back, units_push}
 use Rattle.sequence_search.proofs.PathFacts.{along_push}
 use Rattle.sequence_search.proofs.WorkFacts.{work_begun, work_push, step_works, open_works}

@@ -1,9 +1,9 @@
 use Rattle.std.proofs.Common.{◌≡◌, ◌≤◌, ◌+◌, ◌-◌, ◌*◌, length}
 use Rattle.sequence_rules.specs.Entries.{units_of}
 use Rattle.sequence_rules.specs.Trails.{frame_units, units_in}
-use Rattle.sequence_search.specs.Paths.{IsAlong, IsTop, IsBook}
+use Rattle.sequence_search.specs.inner.Paths.{IsAlong, IsTop, IsBook}
 use Rattle.sequence_search.specs.Work.{root_work, frame_work, frames_work}
-use Rattle.sequence_search.specs.Tries.{KeepsRoots}
+use Rattle.sequence_search.specs.inner.Tries.{KeepsRoots}
 use Rattle.sequence_search.proofs.trying.attempt.Given as goal
 
 abbrev pub invariant-turns : goal.invariant-turns

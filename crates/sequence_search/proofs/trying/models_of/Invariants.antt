@@ -1,5 +1,5 @@
 use Rattle.std.proofs.Common.{◌≡◌, take}
-use Rattle.sequence_search.specs.Paths.{lasts}
+use Rattle.sequence_search.specs.inner.Paths.{lasts}
 use Rattle.sequence_search.proofs.trying.models_of.Given as goal
 
 abbrev pub invariant-loop-k : goal.invariant-loop-k

@@ -1,7 +1,7 @@
 use Rattle.std.proofs.Common.{◌≤◌}
 use Rattle.line_instance.specs.Line.{tasks}
 use Rattle.load_facts.specs.Sides.{spot}
-use Rattle.load_facts.specs.Scan.{Scan}
+use Rattle.load_facts.specs.inner.Scan.{Scan}
 use Rattle.station_load.proofs.places.climb.Given as goal
 
 abbrev pub decreases-loop-place : goal.decreases-loop-place

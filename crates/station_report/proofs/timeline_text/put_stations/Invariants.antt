@@ -1,5 +1,5 @@
 use Rattle.std.proofs.Common.{◌≡◌, ◌+◌, ◌-◌, ◌++◌, Some}
-use Rattle.station_report.specs.Table.{IsTable, table_text}
+use Rattle.station_report.specs.inner.Table.{IsTable, table_text}
 use Rattle.station_report.specs.TimelineText.{rows_from}
 use Rattle.station_report.proofs.timeline_text.put_stations.Given as goal
 

@@ -1,5 +1,5 @@
 use Rattle.std.proofs.Common.{◌≡◌, ◌≤◌, ◌+◌, ◌++◌, Some, drop, get_or}
-use Rattle.station_report.specs.Table.{IsTable, table_text}
+use Rattle.station_report.specs.inner.Table.{IsTable, table_text}
 use Rattle.station_report.specs.TimelineText.{unit_rows}
 use Rattle.station_report.proofs.timeline_text.put_units.Given as goal
 

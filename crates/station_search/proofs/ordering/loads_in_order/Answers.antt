@@ -3,7 +3,7 @@ use Rattle.std.specs.Prelude.{slice_get}
 use Rattle.std.proofs.lemmas.List.{append_assoc, append-nil}
 use Rattle.line_rules.specs.declared.types.Load.{Load}
 use Rattle.line_rules.specs.declared.types.OpenFrame.{OpenFrame}
-use Rattle.station_search.specs.Order.{fore_load, back_load, one, fores, backs}
+use Rattle.station_search.specs.inner.Order.{fore_load, back_load, one, fores, backs}
 use Rattle.station_search.proofs.Orders.{in_order, fores_push, backs_push}
 use Rattle.station_search.proofs.ordering.loads_in_order.Goals as goal
 use Rattle.station_search.proofs.ordering.loads_in_order.Goals.{in-Some+in_ok-push, in_default}

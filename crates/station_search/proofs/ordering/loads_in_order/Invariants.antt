@@ -1,5 +1,5 @@
 use Rattle.std.proofs.Common.{◌≡◌, ◌≤◌, ◌++◌, length, take, drop}
-use Rattle.station_search.specs.Order.{fores, backs}
+use Rattle.station_search.specs.inner.Order.{fores, backs}
 use Rattle.station_search.proofs.ordering.loads_in_order.Given as goal
 
 abbrev pub invariant-loop-k : goal.invariant-loop-k

@@ -7,7 +7,7 @@ use Rattle.line_rules.specs.declared.types.OpenFrame.{OpenFrame}
 use Rattle.lemma_core.specs.Desks.{DeskView, entries}
 use Rattle.lemma_core.proofs.HistoryGrows.{keeps_none, keeps_both}
 use Rattle.station_search.specs.Decide.{IsFor}
-use Rattle.station_search.specs.Work.{branch_of, with_last, may_add, Sorts, Accounts}
+use Rattle.station_search.specs.inner.Work.{branch_of, with_last, may_add, Sorts, Accounts}
 use Rattle.station_search.specs.declared.sorting.Sorted.{Sorted}
 use Rattle.station_search.proofs.Events.{for_still}
 use Rattle.station_search.proofs.Paying.{one_none}

@@ -1,6 +1,6 @@
 use Rattle.std.proofs.Common.{◌≡◌, ◌+◌, ◌*◌, ◌-◌, ◌<◌, ◌≤◌, length, vec_len, vec_capacity}
 use Rattle.lemma_core.specs.Desks.{entries, Keeps}
-use Rattle.station_search.specs.Work.{IsBeside}
+use Rattle.station_search.specs.inner.Work.{IsBeside}
 use Rattle.station_search.proofs.States.{IsSearching}
 use Rattle.station_search.proofs.Pairs.{ArePaired}
 use Rattle.station_search.proofs.Tallies.{Tally}

@@ -5,7 +5,7 @@ use Rattle.line_rules.specs.Loads.{rest}
 use Rattle.load_facts.specs.Times.{AreTimes}
 use Rattle.load_facts.proofs.Rest.{long_rest}
 use Rattle.lemma_core.proofs.HistoryGrows.{keeps_both}
-use Rattle.station_search.specs.Work.{DoesFor, may_swap}
+use Rattle.station_search.specs.inner.Work.{DoesFor, may_swap}
 use Rattle.station_search.proofs.Events.{waits_none}
 use Rattle.station_search.proofs.Standins.{does_for_then}
 use Rattle.station_search.proofs.Endings.{on_err}

@@ -1,7 +1,7 @@
 use Rattle.std.proofs.Common.{◌∙◌, sym, refl}
 use Rattle.lemma_core.specs.History.{known}
 use Rattle.station_search.specs.Mode.{frame_mode}
-use Rattle.station_search.specs.Work.{swap_of}
+use Rattle.station_search.specs.inner.Work.{swap_of}
 use Rattle.station_search.proofs.Events.{known_answers, added_answers}
 use Rattle.station_search.proofs.Paying.{no_loads, one_none, one_added, one_known}
 use Rattle.station_search.proofs.Standins.{does_for_then, unanswered_through}

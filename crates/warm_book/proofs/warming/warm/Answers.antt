@@ -4,7 +4,7 @@ use Rattle.line_rules.specs.Entries.{IsDerived, IsFresh}
 use Rattle.line_rules.specs.declared.types.Entry.{Entry}
 use Rattle.lemma_core.specs.Books.{BookView}
 use Rattle.warm_book.specs.Warm.{TakesAll, IsWarmer, untaken}
-use Rattle.warm_book.specs.Takings.{taking}
+use Rattle.warm_book.specs.inner.Takings.{taking}
 use Rattle.warm_book.proofs.TakingFacts.{takes_next, step_adds, one_kept, warmer}
 use Rattle.warm_book.proofs.warming.warm.Goals as goal
 

@@ -3,7 +3,7 @@ use Rattle.std.proofs.lemmas.List.{take_all, take-append-drop}
 use Rattle.line_rules.specs.Entries.{IsDerived, IsFresh}
 use Rattle.line_rules.specs.declared.types.Entry.{Entry}
 use Rattle.warm_book.specs.Warm.{TakesAll, untaken}
-use Rattle.warm_book.specs.Takings.{taking}
+use Rattle.warm_book.specs.inner.Takings.{taking}
 use Rattle.warm_book.proofs.TakingFacts.{all_add, warmer}
 use Rattle.warm_book.proofs.OneTaking.{one_warmed}
 use Rattle.warm_book.proofs.wide.warm_counted.Goals as goal

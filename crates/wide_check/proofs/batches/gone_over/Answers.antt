@@ -2,7 +2,7 @@ use Rattle.std.proofs.Common.{◌≡◌, ◌+◌, ◌-◌, ℕ, length, refl, su
 use Rattle.std.proofs.lemmas.Option.{slice_get_read}
 use Rattle.line_check.specs.Lists.{AreRightBelow}
 use Rattle.line_check.proofs.Listed.{right_more}
-use Rattle.wide_check.specs.Batches.{IsFoundAt}
+use Rattle.wide_check.specs.inner.Batches.{IsFoundAt}
 use Rattle.wide_check.proofs.batches.gone_over.Goals as goal
 
 pub settled-requires-clause-quick : goal.settled-requires-clause-quick

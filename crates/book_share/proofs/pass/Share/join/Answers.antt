@@ -3,13 +3,13 @@ use Rattle.lemma_core.specs.History.{AreExact}
 use Rattle.book_share.specs.Places.{times}
 use Rattle.book_share.specs.Rule.{both_of, OwnRises}
 use Rattle.book_share.specs.Steps.{Mine, IsJoined}
-use Rattle.book_share.specs.Inside.{IsResting}
+use Rattle.book_share.specs.inner.Inside.{IsResting}
 use Rattle.book_share.proofs.Halving.{joins}
 use Rattle.book_share.proofs.Loading.{settles}
 use Rattle.book_share.proofs.Lists.{rises_once, times_merged}
 use Rattle.book_share.proofs.Calling.{sound_of}
 use Rattle.book_share.specs.declared.marks.Marks.{Marks}
-use Rattle.book_share.specs.Marking.{AreMarkedBy}
+use Rattle.book_share.specs.inner.Marking.{AreMarkedBy}
 use Rattle.book_share.specs.Passes.{PassView, PassOf, desk_by}
 use Rattle.book_share.proofs.MarkFacts.{unmarked}
 use Rattle.book_share.proofs.pass.Share.join.Goals as goal

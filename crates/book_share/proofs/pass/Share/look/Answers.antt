@@ -1,8 +1,8 @@
 use Rattle.std.proofs.Common.{subst, sym}
-use Rattle.book_share.specs.Marking.{AreMarkedBy}
+use Rattle.book_share.specs.inner.Marking.{AreMarkedBy}
 use Rattle.book_share.specs.Passes.{PassOf, desk_by}
-use Rattle.book_share.specs.Turning.{waited}
-use Rattle.book_share.specs.Inside.{IsResting}
+use Rattle.book_share.specs.inner.Turning.{waited}
+use Rattle.book_share.specs.inner.Inside.{IsResting}
 use Rattle.book_share.proofs.Calling.{sound_of, after_look, waits_in}
 use Rattle.book_share.proofs.MarkFacts.{were_marked}
 use Rattle.book_share.proofs.pass.Share.look.Goals as goal

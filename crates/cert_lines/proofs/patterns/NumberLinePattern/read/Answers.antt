@@ -1,5 +1,5 @@
 use Rattle.std.proofs.Common.{◌∙◌, ◌<◌, sym, ap, arith}
-use Rattle.cert_lines.specs.LineReading.{keyed_in}
+use Rattle.cert_lines.specs.inner.LineReading.{keyed_in}
 use Rattle.cert_lines.specs.Reading.{greatest}
 use Rattle.cert_lines.specs.Patterns.{key_text}
 use Rattle.cert_lines.proofs.Judged.{number_form, number_range, keyed_line, key_lacks}

@@ -1,7 +1,7 @@
 use Rattle.std.proofs.Common.{◌∙◌, sym, ap, arith}
 use Rattle.effic_cert.specs.Product.{IsProduct}
-use Rattle.effic_cert.specs.Parts.{bound_text}
-use Rattle.effic_cert.specs.WideReading.{wide_keyed_in}
+use Rattle.effic_cert.specs.inner.Parts.{bound_text}
+use Rattle.effic_cert.specs.inner.WideReading.{wide_keyed_in}
 use Rattle.effic_cert.proofs.LineFacts.{bound_lacks, bound_none, bound_ok, bound_range}
 use Rattle.effic_cert.proofs.lines.BoundLinePattern.read.Goals as goal
 

@@ -1,6 +1,6 @@
 use Rattle.std.proofs.Common.{sym, arith}
 use Rattle.effic_cert.proofs.LineFacts.{ends_none, ends_ok, ends_range}
-use Rattle.effic_cert.specs.Parts.{AreEnds}
+use Rattle.effic_cert.specs.inner.Parts.{AreEnds}
 use Rattle.effic_cert.proofs.lines.StationsLinePattern.read.Goals as goal
 
 pub returns-in_default : goal.returns-in_default

@@ -1,7 +1,7 @@
 use Rattle.std.proofs.Common.{[]}
 use Rattle.cert_text.proofs.Failing.{ends, first, second, same, hand}
 use Rattle.cert_text.proofs.Sequencing.{both_read, same_read}
-use Rattle.effic_cert.specs.Parts.{bodies}
+use Rattle.effic_cert.specs.inner.Parts.{bodies}
 use Rattle.effic_cert.proofs.PartFacts.{heads, head_ready, shown_ready, behind, behind_tells, body_parts, same_bodies}
 use Rattle.effic_cert.proofs.reading.ProductBodyPart.read.Goals as goal
 

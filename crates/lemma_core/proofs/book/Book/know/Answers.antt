@@ -5,7 +5,7 @@ use Rattle.lemma_core.specs.declared.types.LogItem.TheVariants as log
 use Rattle.lemma_core.specs.declared.types.Event.TheVariants as event
 use Rattle.lemma_core.specs.Machine.{last_answer, published}
 use Rattle.lemma_core.specs.Books.{BookView, IsBook, ran}
-use Rattle.lemma_core.specs.Inside.{book_of, IsLogged}
+use Rattle.lemma_core.specs.inner.Inside.{book_of, IsLogged}
 use Rattle.lemma_core.proofs.Logs.{known_is, known_logged, book_published}
 use Rattle.lemma_core.proofs.book.Book.know.Goals as goal
 

@@ -4,7 +4,7 @@ use Rattle.lemma_core.specs.declared.types.LogItem.{LogItem}
 use Rattle.lemma_core.specs.declared.types.LogItem.TheVariants as log
 use Rattle.lemma_core.specs.declared.types.Event.TheVariants as event
 use Rattle.lemma_core.specs.Books.{BookView, IsBook, IsReserved, ran}
-use Rattle.lemma_core.specs.Inside.{book_of, IsLogged}
+use Rattle.lemma_core.specs.inner.Inside.{book_of, IsLogged}
 use Rattle.lemma_core.proofs.Logs.{better_is, offered_logged, reserved_ran, book_offered}
 use Rattle.lemma_core.proofs.book.Book.offer.Goals as goal
 

@@ -1,5 +1,5 @@
 use Rattle.std.proofs.Common.{length}
-use Rattle.lemma_core.specs.Chains.{place, bucket_in}
+use Rattle.lemma_core.specs.inner.Chains.{place, bucket_in}
 use Rattle.lemma_core.proofs.ChainFacts.{IsWalk}
 use Rattle.lemma_core.proofs.index.Index.find.Given as goal
 

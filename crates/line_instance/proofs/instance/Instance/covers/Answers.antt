@@ -4,7 +4,7 @@ use Rattle.std.proofs.lemmas.List.{get_or_read}
 use Rattle.task_set.specs.Truths.{In, meet, IsEmpty}
 use Rattle.task_set.proofs.Members.{In-meet, In-meet_parts}
 use Rattle.line_instance.specs.Line.{Line, Covers, tasks, IsLine}
-use Rattle.line_instance.specs.Inside.{AreTurned}
+use Rattle.line_instance.specs.inner.Inside.{AreTurned}
 use Rattle.line_instance.proofs.instance.Instance.covers.Goals as goal
 
 -- nothing is after i and before j

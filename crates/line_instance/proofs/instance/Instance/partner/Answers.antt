@@ -3,7 +3,7 @@ use Rattle.std.specs.List.{slice_get}
 use Rattle.std.proofs.lemmas.Option.{slice_get_read}
 use Rattle.line_instance.specs.Line.{Line, tasks}
 use Rattle.line_instance.specs.Partners.{AreKept}
-use Rattle.line_instance.specs.Inside.{ArePartners, kept_of}
+use Rattle.line_instance.specs.inner.Inside.{ArePartners, kept_of}
 use Rattle.line_instance.specs.declared.partners.Kept.{Kept}
 use Rattle.line_instance.proofs.instance.Instance.partner.Goals as goal
 

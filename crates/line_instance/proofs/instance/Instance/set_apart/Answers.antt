@@ -4,7 +4,7 @@ use Rattle.std.proofs.lemmas.List.{take_at}
 use Rattle.task_set.specs.Truths.{In}
 use Rattle.line_instance.specs.Line.{Line, tasks}
 use Rattle.line_instance.specs.Walks.{AreArcs, ArePairs, IsGiven}
-use Rattle.line_instance.specs.Inside.{IsSound, ArePaired, ArePartners, of_rows}
+use Rattle.line_instance.specs.inner.Inside.{IsSound, ArePaired, ArePartners, of_rows}
 use Rattle.line_instance.specs.declared.partners.Kept.{Kept}
 use Rattle.line_instance.proofs.Sound.{parted}
 use Rattle.line_instance.proofs.instance.Instance.set_apart.Goals as goal

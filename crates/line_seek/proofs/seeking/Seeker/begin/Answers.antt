@@ -3,7 +3,7 @@ use Rattle.line_rules.specs.Balance.{IsRight}
 use Rattle.line_rules.specs.Loads.{Belongs}
 use Rattle.line_rules.specs.declared.types.LineKind.{LineKind}
 use Rattle.lemma_core.specs.Books.{BookView}
-use Rattle.line_seek.specs.Tries.{mode_in}
+use Rattle.line_seek.specs.inner.Tries.{mode_in}
 use Rattle.line_seek.proofs.PaidFacts.{paid_none}
 use Rattle.line_seek.proofs.SeekFacts.{about_same, seeking_begins}
 use Rattle.line_seek.proofs.seeking.Seeker.begin.Goals as goal

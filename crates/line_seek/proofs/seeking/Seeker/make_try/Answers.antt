@@ -1,5 +1,5 @@
 use Rattle.std.proofs.Common.{refl}
-use Rattle.line_seek.specs.Trying.{may_add}
+use Rattle.line_seek.specs.inner.Trying.{may_add}
 use Rattle.line_seek.proofs.SeekFacts.{seeking_on}
 use Rattle.line_seek.proofs.seeking.Seeker.make_try.Goals as goal
 

@@ -5,7 +5,7 @@ use Rattle.cert_lines.proofs.Judged.{key_lacks}
 use Rattle.cert_text.proofs.Failing.{ends, first, second, same, hand}
 use Rattle.cert_text.proofs.Sequencing.{both_read, same_read}
 use Rattle.cert_text.proofs.Wholes.{numbers, unique_number}
-use Rattle.sequence_cert.specs.Parts.{counteds, IsCounted}
+use Rattle.sequence_cert.specs.inner.Parts.{counteds, IsCounted}
 use Rattle.sequence_cert.proofs.PartFacts.{counted_parts, count_said, same_counted, some_each}
 use Rattle.sequence_cert.proofs.counted.CountedPart.read.Goals as goal
 

@@ -1,7 +1,7 @@
 use Rattle.std.proofs.Common.{[]}
 use Rattle.cert_text.proofs.Failing.{ends, first, second, same, hand}
 use Rattle.cert_text.proofs.Sequencing.{both_read, same_read}
-use Rattle.sequence_cert.specs.Parts.{bodies}
+use Rattle.sequence_cert.specs.inner.Parts.{bodies}
 use Rattle.sequence_cert.proofs.PartFacts.{heads, head_ready, behind, behind_tells, list_ready, body_parts, same_bodies}
 use Rattle.sequence_cert.proofs.reading.SequenceBodyPart.read.Goals as goal
 

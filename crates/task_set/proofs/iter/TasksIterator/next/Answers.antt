@@ -1,6 +1,6 @@
 use Rattle.std.proofs.Common.{◌≡◌, [], ◌∷◌, ◌∙◌, ◌+◌, ◌-◌, ◌*◌, bit_and, sym, ap, List, ℕ, Option, subst, arith, length, refl}
 use lib.Count.{count_trailing_zeros}
-use Rattle.task_set.specs.Words.{members_left}
+use Rattle.task_set.specs.inner.Words.{members_left}
 use Rattle.task_set.specs.declared.iter.Tasks.TheInside.{Inside}
 use Rattle.std.specs.Iterator.{YieldsFirst}
 use Rattle.task_set.proofs.Ahead.{next_member, left_of_none}

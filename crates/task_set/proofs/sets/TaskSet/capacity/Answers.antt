@@ -1,5 +1,5 @@
 use Rattle.std.proofs.Common.{◌∙◌, sym, ap, length}
-use Rattle.task_set.specs.Words.{length-truths}
+use Rattle.task_set.specs.inner.Words.{length-truths}
 use Rattle.task_set.proofs.sets.TaskSet.capacity.Goals as goal
 
 pub returns-clause-truths : goal.returns-clause-truths

@@ -1,6 +1,6 @@
 use Rattle.std.proofs.Common.{◌∙◌, ap, arith}
 use Rattle.std.specs.Prelude.{ltb}
-use Rattle.task_set.specs.Words.{length-truths}
+use Rattle.task_set.specs.inner.Words.{length-truths}
 use Rattle.task_set.proofs.Bits.{fits_set, zero_words}
 use Rattle.task_set.proofs.Fills.{fill, filled}
 use Rattle.task_set.proofs.sets.TaskSet.full_to.Goals as goal

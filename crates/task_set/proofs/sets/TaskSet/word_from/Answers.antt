@@ -1,6 +1,6 @@
 use Rattle.std.proofs.Common.{◌≡◌, ◌∙◌, ◌*◌, ◌+◌, List, [], Bool, drop, get_or, subst, arith}
 use Rattle.task_set.specs.Truths.{members_from, truths_of}
-use Rattle.task_set.specs.Words.{members_left, length-truths}
+use Rattle.task_set.specs.inner.Words.{members_left, length-truths}
 use Rattle.task_set.proofs.Ahead.{word_first, left_of_none, past_last}
 use Rattle.task_set.proofs.sets.TaskSet.word_from.Goals as goal
 

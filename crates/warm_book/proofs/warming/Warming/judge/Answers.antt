@@ -1,6 +1,6 @@
 use Rattle.std.proofs.Common.{◌∙◌, refl, sym, ap}
 use Rattle.warm_book.specs.Warm.{renumbered}
-use Rattle.warm_book.specs.Takings.{taking}
+use Rattle.warm_book.specs.inner.Takings.{taking}
 use Rattle.warm_book.proofs.TakingFacts.{fails_so, ends_so}
 use Rattle.warm_book.proofs.WalkedFacts.{spared_walks}
 use Rattle.warm_book.proofs.warming.Warming.judge.Goals as goal

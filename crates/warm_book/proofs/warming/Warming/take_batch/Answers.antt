@@ -1,7 +1,7 @@
 use Rattle.std.proofs.Common.{◌∙◌, ap, arith, take}
 use Rattle.std.proofs.lemmas.List.{length-take-le}
 use Rattle.warm_book.specs.Warm.{untaken}
-use Rattle.warm_book.specs.Takings.{taking}
+use Rattle.warm_book.specs.inner.Takings.{taking}
 use Rattle.warm_book.proofs.TakingFacts.{takes_next, step_adds, all_add, all_kept}
 use Rattle.warm_book.proofs.NumberedFacts.{spared_next}
 use Rattle.warm_book.proofs.warming.Warming.take_batch.Goals as goal

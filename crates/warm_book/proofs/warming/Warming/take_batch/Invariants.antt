@@ -1,7 +1,7 @@
 use Rattle.std.proofs.Common.{◌≡◌, ◌≤◌, length, take, vec_len, vec_capacity}
 use Rattle.lemma_core.specs.Books.{BookView, IsReserved}
 use Rattle.warm_book.specs.Warm.{TakesAll, untaken}
-use Rattle.warm_book.specs.Takings.{taking}
+use Rattle.warm_book.specs.inner.Takings.{taking}
 use Rattle.warm_book.proofs.warming.Warming.take_batch.Given as goal
 
 abbrev pub invariant-loop-k : goal.invariant-loop-k

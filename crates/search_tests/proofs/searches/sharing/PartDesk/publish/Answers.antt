@@ -1,5 +1,5 @@
 use Rattle.lemma_core.proofs.HistoryGrows.{follows_still}
-use Rattle.search_tests.specs.Shared.{part_of}
+use Rattle.search_tests.specs.inner.Shared.{part_of}
 use Rattle.search_tests.proofs.PartFacts.{publishes_too, own_published}
 use Rattle.search_tests.proofs.searches.sharing.PartDesk.publish.Goals as goal
 

@@ -10,7 +10,7 @@ use Rattle.station_search.specs.declared.answers.Units.{Units}
 use Rattle.steal_pool.specs.declared.piece.Piece.{Piece}
 use Rattle.steal_pool.specs.Hands.{DequeId, tooks, IsHandOf}
 use Rattle.round_helpers.specs.Jobs.{AreJobs}
-use Rattle.round_helpers.specs.Seats.{IsBare, HasAdded}
+use Rattle.round_helpers.specs.inner.Seats.{IsBare, HasAdded}
 use Rattle.round_helpers.specs.declared.helping.Helped.{Helped}
 use Rattle.round_helpers.specs.declared.helping.Helped.TheVariants as helped
 use Rattle.round_helpers.specs.declared.job_list.Job.{Job}

@@ -5,7 +5,7 @@ use Rattle.lemma_core.specs.Books.{BookView}
 use Rattle.book_share.specs.Passes.{Holding, Idle, PassView}
 use Rattle.book_share.specs.Rule.{IsFor}
 use Rattle.book_share.specs.Steps.{Mine, taken, IsHad}
-use Rattle.book_share.specs.Inside.{IsResting}
+use Rattle.book_share.specs.inner.Inside.{IsResting}
 
 -- the seat holds the turn and the slot, and the book from it, which is as it was
 pub record Holds (m : Mine) (b : BookView) : Type 0 where

@@ -5,7 +5,7 @@ use Rattle.line_rules.specs.Ranked.{weight, RanksFirst}
 use Rattle.line_rules.specs.declared.types.LineKind.{LineKind}
 use Rattle.first_fit.specs.declared.filling.Choice.{Choice as Pick}
 use Rattle.first_fit.specs.declared.filling.Filling.{Filling as Filled}
-use Rattle.first_fit.specs.Filling.{MayJoin}
+use Rattle.first_fit.specs.inner.Filling.{MayJoin}
 
 -- it may join, and ranks first of all that may
 pub record IsFirst (kind : LineKind) (line : Line) (f : Filled) (a : Pick) : Type 0 where

@@ -11,7 +11,7 @@ use Rattle.book_share.specs.Passes.{Base, PassView, PassOf, desk_by}
 use Rattle.station_search.specs.declared.answers.Units.{Units}
 use Rattle.round_helpers.specs.Growth.{AreAtCycle}
 use Rattle.steal_pool.specs.Hands.{DequeId, HandView, IsHandOf}
-use Rattle.round_helpers.specs.Pieces.{KeepsOwn, IsEnd}
+use Rattle.round_helpers.specs.inner.Pieces.{KeepsOwn, IsEnd}
 use Rattle.round_helpers.specs.declared.job_list.Job.{Job}
 use Rattle.round_helpers.specs.declared.job_work.Question.{Question}
 use Rattle.round_helpers.specs.declared.teams.Helper.{Helper}

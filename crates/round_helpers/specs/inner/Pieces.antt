@@ -10,7 +10,7 @@ use Rattle.lemma_core.specs.Desks.{DeskView, entries}
 use Rattle.station_search.specs.Mode.{mode_of}
 use Rattle.steal_pool.specs.declared.piece.Piece.{Piece}
 use Rattle.steal_pool.specs.Hands.{HandView, own_of, tooks, mark_of, each_from}
-use Rattle.round_helpers.specs.Works.{fewest_seen}
+use Rattle.round_helpers.specs.inner.Works.{fewest_seen}
 use Rattle.round_helpers.specs.declared.job_list.Job.{Job}
 use Rattle.round_helpers.specs.declared.piece_work.End.{End}
 use Rattle.round_helpers.specs.declared.piece_work.End.TheVariants as ends

@@ -9,7 +9,7 @@ use Rattle.line_rules.specs.declared.types.Why.TheVariants as why
 use Rattle.lemma_core.specs.Books.{BookView, IsReserved}
 use Rattle.cycle_search.specs.Ends.{first_upper}
 use Rattle.effic_search.specs.Counted.{others}
-use Rattle.effic_search.specs.Going.{IsFloored}
+use Rattle.effic_search.specs.inner.Going.{IsFloored}
 use Rattle.effic_search.specs.Since.{IsSinceGoal}
 
 -- an entry by Bound of all tasks

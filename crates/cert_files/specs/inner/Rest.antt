@@ -1,7 +1,7 @@
 -- What is left of a file that is read line by line, and why that stops.
 use Rattle.std.specs.Prelude.{◌≡◌, ℕ, ◌+◌, ◌<◌, ◌≤◌, List, ◌++◌, length, drop, Option, Some}
 use Rattle.line_io.specs.Outside.{up}
-use Rattle.cert_files.specs.Pieces.{bytes_of}
+use Rattle.cert_files.specs.inner.Pieces.{bytes_of}
 use Rattle.cert_files.specs.declared.stop.Stop.{Stop}
 use Rattle.cert_files.specs.declared.stop.Stop.TheVariants.{Going, Failed, TooLong, Memory}
 

@@ -1,7 +1,7 @@
 -- What a team is equipped with. Own.
 use Rattle.std.specs.Prelude.{◌≡◌, ℕ, ◌≤◌, List, [], length, vec_capacity}
 use Rattle.steal_pool.specs.Hands.{new_hands, AreHandsOf}
-use Rattle.round_helpers.specs.Pieces.{pieces_of}
+use Rattle.round_helpers.specs.inner.Pieces.{pieces_of}
 use Rattle.round_helpers.specs.declared.equipment.Equipment.{Equipment}
 use Rattle.round_helpers.specs.declared.job_list.Job.{Job}
 

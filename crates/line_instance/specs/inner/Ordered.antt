@@ -1,6 +1,6 @@
 -- What ordering the tasks answers.
 use Rattle.std.specs.Prelude.{List, Bool}
-use Rattle.line_instance.specs.Inside.{IsWhole, IsStuck}
+use Rattle.line_instance.specs.inner.Inside.{IsWhole, IsStuck}
 use Rattle.line_instance.specs.declared.order.Ordered.{Ordered}
 use Rattle.line_instance.specs.declared.order.Ordered.TheVariants.{Whole, Stuck}
 

@@ -8,7 +8,7 @@ use Rattle.sequence_rules.specs.declared.types.Times.{Times}
 use Rattle.sequence_rules.specs.declared.types.SeqEntry.{SeqEntry}
 use Rattle.sequence_rules.specs.declared.types.SeqFrame.{SeqFrame}
 use Rattle.sequence_rules.specs.declared.types.SeqWhy.TheVariants as why
-use Rattle.sequence_search.specs.Paths.{IsBook}
+use Rattle.sequence_search.specs.inner.Paths.{IsBook}
 use Rattle.sequence_search.specs.Work.{AddsFew, root_work}
 use Rattle.sequence_search.specs.declared.outcome.Tried.{Tried}
 use Rattle.sequence_search.specs.declared.outcome.Tried.TheVariants as tried

@@ -1,0 +1,3 @@
+pub mod Drafts
+pub mod Fillings
+pub mod Making

@@ -1,0 +1,2 @@
+pub mod WideReading
+pub mod Parts

@@ -1,0 +1,3 @@
+pub mod Filling
+pub mod Weights
+pub mod Picked

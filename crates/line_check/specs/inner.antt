@@ -1,0 +1,3 @@
+pub mod Steps
+pub mod Swaps
+pub mod Pairs

@@ -1,0 +1,5 @@
+pub mod Works
+pub mod Pieces
+pub mod Equipment
+pub mod Seats
+pub mod Teams

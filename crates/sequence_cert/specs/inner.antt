@@ -1,0 +1,3 @@
+pub mod StateReading
+pub mod Parts
+pub mod Pieces
