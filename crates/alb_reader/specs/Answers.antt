@@ -1,5 +1,6 @@
 -- What an ALB text says, and what reading it answers.
-use Rattle.std.specs.Prelude.{◌≡◌, ◌⊎◌, ℕ, suc, ◌<◌, true, false, cond, nat_eq, List, [], ◌∷◌, length, map, Option, Some, None}
+use Rattle.std.specs.Prelude.{◌≡◌, ◌⊎◌, ℕ, suc, ◌<◌, true, false, cond, nat_eq, List, [], ◌∷◌, length, map, Option}
+use Rattle.std.specs.Prelude.{Some, None}
 use Rattle.std.specs.List.{range_with_len}
 use Rattle.line_io.specs.Lines.{number_in}
 use Rattle.line_io.specs.declared.text.Num.{Num}
@@ -13,12 +14,14 @@ use Rattle.in2_reader.specs.Pairs.{pair_in}
 use Rattle.in2_reader.specs.declared.pair.Pair.{Pair}
 use Rattle.in2_reader.specs.declared.pair.Pair.TheVariants.{Arc, BadArc as NoTasks, End as MinusOnes, Other}
 use Rattle.alb_reader.specs.Sections.{under, before_end, end_line}
-use Rattle.alb_reader.specs.Faults.{line_fault, task_fault, arc_fault, task_named, time_said, names, AreRight, IsFirstWrong}
+use Rattle.alb_reader.specs.Faults.{line_fault, task_fault, arc_fault, task_named, time_said, names, AreRight}
+use Rattle.alb_reader.specs.Faults.{IsFirstWrong}
 use Rattle.alb_reader.specs.declared.mark.Section.TheVariants.{Tasks, Cycle, Times, Pairs}
 use Rattle.alb_reader.specs.declared.fault.AlbFault.{AlbFault}
 use Rattle.alb_reader.specs.declared.answer.AlbRead.{AlbRead}
 use Rattle.alb_reader.specs.declared.answer.AlbRead.TheVariants.{Good, Fault, NoMemory}
-use Rattle.alb_reader.specs.declared.fault.AlbKind.TheVariants.{MissingEnd, MissingSection, MissingTask, Cycle as HasCycle}
+use Rattle.alb_reader.specs.declared.fault.AlbKind.TheVariants.{MissingEnd, MissingSection, MissingTask}
+use Rattle.alb_reader.specs.declared.fault.AlbKind.TheVariants.{Cycle as HasCycle}
 
 -- a number, where it is one
 abbrev pub value : Num → Option ℕ
@@ -75,8 +78,8 @@ pub record IsLeastUnnamed (n : ℕ) (timed : Lines) (i : ℕ) : Type 0 where
   pub unnamed : names (suc i) timed ≡ false
   pub least : (j : ℕ) → j < i → names (suc j) timed ≡ true
 
--- The form of a text is right: it has an end mark, nothing is wrong with the lines before it, and they say a number of tasks and the times
--- of some.
+-- The form of a text is right: it has an end mark, nothing is wrong with the lines before it, and they say a number of
+-- tasks and the times of some.
 pub record IsFormed (lines : Lines) (end n : ℕ) : Type 0 where
   pub marked : end_line lines ≡ Some end
   pub right : AreRight line_fault (before_end lines)
@@ -95,29 +98,37 @@ pub record IsAlbReading (bytes : List ℕ) (line : Line) (cycle : Option ℕ) : 
   pub n : ℕ
   pub formed : IsFormed (contents_from 1 bytes) end n
   pub filled : IsFilled (before_end (contents_from 1 bytes)) n
-  pub is : IsInstanceOf (times_said n (before_end (contents_from 1 bytes))) (arcs_said (before_end (contents_from 1 bytes))) line
+  pub is : IsInstanceOf (times_said n (before_end (contents_from 1 bytes)))
+      (arcs_said (before_end (contents_from 1 bytes))) line
   pub timed : cycle ≡ cycle_said (before_end (contents_from 1 bytes))
 
--- The faults of the form: of the first line before the end mark with which something is wrong; or there is no end mark; or the number of
--- tasks or all times are missing.
+-- The faults of the form: of the first line before the end mark with which something is wrong; or there is no end mark;
+-- or the number of tasks or all times are missing.
 pub data IsFormFault (lines : Lines) (last : ℕ) (f : AlbFault) : Type 0 where
   at_line : IsFirstWrong line_fault (before_end lines) f.line f.kind → IsFormFault lines last f
-  open_ended : AreRight line_fault lines → end_line lines ≡ None → f.line ≡ last → f.kind ≡ MissingEnd → IsFormFault lines last f
+  open_ended : AreRight line_fault lines → end_line lines ≡ None → f.line ≡ last → f.kind ≡ MissingEnd
+      → IsFormFault lines last f
   no_section : AreRight line_fault (before_end lines) → end_line lines ≡ Some f.line → f.kind ≡ MissingSection
-      → (length (under Tasks (before_end lines)) ≡ 0) ⊎ (length (under Times (before_end lines)) ≡ 0) → IsFormFault lines last f
+      → (length (under Tasks (before_end lines)) ≡ 0) ⊎ (length (under Times (before_end lines)) ≡ 0)
+      → IsFormFault lines last f
 
--- The faults of what a formed text says of n tasks, in this order: a line of task times; a task without a time; a pair; a cycle.
+-- The faults of what a formed text says of n tasks, in this order: a line of task times; a task without a time; a pair;
+-- a cycle.
 pub data IsFillFault (head : Lines) (end n : ℕ) (f : AlbFault) : Type 0 where
   at_task : IsFirstWrong (task_fault n) (under Times head) f.line f.kind → IsFillFault head end n f
-  unnamed : (i : ℕ) → AreRight (task_fault n) (under Times head) → IsLeastUnnamed n (under Times head) i → f.line ≡ end → f.kind ≡ MissingTask i → IsFillFault head end n f
-  at_pair : AreRight (task_fault n) (under Times head) → AllNamed n (under Times head) → IsFirstWrong (arc_fault n) (under Pairs head) f.line f.kind → IsFillFault head end n f
-  closed : (ring : List ℕ) → IsFilled head n → IsRing (arcs_said head) ring → f.line ≡ end → f.kind ≡ HasCycle ring → IsFillFault head end n f
+  unnamed : (i : ℕ) → AreRight (task_fault n) (under Times head) → IsLeastUnnamed n (under Times head) i → f.line ≡ end
+      → f.kind ≡ MissingTask i → IsFillFault head end n f
+  at_pair : AreRight (task_fault n) (under Times head) → AllNamed n (under Times head)
+      → IsFirstWrong (arc_fault n) (under Pairs head) f.line f.kind → IsFillFault head end n f
+  closed : (ring : List ℕ) → IsFilled head n → IsRing (arcs_said head) ring → f.line ≡ end → f.kind ≡ HasCycle ring
+      → IsFillFault head end n f
 
 -- the first fault of a text: of its form, or else of what it says
 abbrev pub IsAlbFault : List ℕ → AlbFault → Type 0
 IsAlbFault bytes f =
     IsFormFault (contents_from 1 bytes) (lines_in 1 bytes) f
-    ⊎ ((end : ℕ) × (n : ℕ) × IsFormed (contents_from 1 bytes) end n × IsFillFault (before_end (contents_from 1 bytes)) end n f)
+    ⊎ ((end : ℕ) × (n : ℕ) × IsFormed (contents_from 1 bytes) end n
+    × IsFillFault (before_end (contents_from 1 bytes)) end n f)
 
 -- Each answer with its cause: what the text says, or its first fault.
 abbrev pub IsAlbRead : List ℕ → AlbRead → Type 0

@@ -1,5 +1,6 @@
 -- What is wrong with the lines of an ALB text.
-use Rattle.std.specs.Prelude.{◌≡◌, ℕ, Bool, false, ◌&&◌, ◌||◌, cond, nat_eq, nat_le, nat_lt, List, [], ◌∷◌, ◌++◌, length, Option, Some, None}
+use Rattle.std.specs.Prelude.{◌≡◌, ℕ, Bool, false, ◌&&◌, ◌||◌, cond, nat_eq, nat_le, nat_lt, List, [], ◌∷◌, ◌++◌}
+use Rattle.std.specs.Prelude.{length, Option, Some, None}
 use Rattle.line_io.specs.Lines.{number_in}
 use Rattle.line_io.specs.declared.text.Num.{Num}
 use Rattle.line_io.specs.declared.text.Num.TheVariants.{Value, NotANumber as NoNumber, Above}
@@ -13,7 +14,9 @@ use Rattle.alb_reader.specs.declared.mark.Section.TheVariants.{Tasks, Cycle, Str
 use Rattle.alb_reader.specs.declared.mark.Mark.{Mark}
 use Rattle.alb_reader.specs.declared.mark.Mark.TheVariants.{Heading, End, Unknown, Body}
 use Rattle.alb_reader.specs.declared.fault.AlbKind.{AlbKind}
-use Rattle.alb_reader.specs.declared.fault.AlbKind.TheVariants.{NotANumber, Range, Stray, UnknownHeading, RepeatedHeading, BadTask, RepeatedTask, BadArc, TooManyArcs}
+use Rattle.alb_reader.specs.declared.fault.AlbKind.TheVariants.{NotANumber, Range, Stray, UnknownHeading}
+use Rattle.alb_reader.specs.declared.fault.AlbKind.TheVariants.{RepeatedHeading, BadTask, RepeatedTask, BadArc}
+use Rattle.alb_reader.specs.declared.fault.AlbKind.TheVariants.{TooManyArcs}
 
 -- what stands before the first blank or tab, and behind it
 abbrev pub gap_split : List ℕ → Option (List ℕ × List ℕ)
@@ -60,13 +63,14 @@ single (l ∷ lines) fault = Some Stray
 abbrev pub body_fault : Lines → List ℕ → Option Section → Option AlbKind
 body_fault before content None = Some Stray
 body_fault before content (Some Tasks) = single (under Tasks before) (some_fault (number_in 1024 content))
-body_fault before content (Some Cycle) = single (under Cycle before) (some_fault (number_in 1000000000000000000 content))
+body_fault before content (Some Cycle) = single (under Cycle before)
+    (some_fault (number_in 1000000000000000000 content))
 body_fault before content (Some Strength) = single (under Strength before) None
 body_fault before content (Some Times) = timed_fault (timed content).0 (timed content).1
 body_fault before content (Some Pairs) = pair_fault (nat_eq (length (under Pairs before)) 524288) (pair_in 1024 content)
 
--- what is wrong with a line, by the lines before it: a heading of no section, a heading that stood before, a line before the first heading,
--- a second line of a section of one line, or a line that its section can't have
+-- what is wrong with a line, by the lines before it: a heading of no section, a heading that stood before, a line
+-- before the first heading, a second line of a section of one line, or a line that its section can't have
 abbrev pub mark_fault : Lines → List ℕ → Mark → Option AlbKind
 mark_fault before content (Heading s) = cond (has_heading s before) (Some RepeatedHeading) None
 mark_fault before content End = None
@@ -94,10 +98,12 @@ abbrev pub names : ℕ → Lines → Bool
 names v [] = false
 names v (l ∷ lines) = nat_eq (task_named l.1) v || names v lines
 
--- what is wrong with a line of task times, of n tasks, by such lines before it: it names none of them, or one that was named before
+-- what is wrong with a line of task times, of n tasks, by such lines before it: it names none of them, or one that was
+-- named before
 abbrev pub task_fault : ℕ → Lines → List ℕ → Option AlbKind
 task_fault n before content =
-    cond (nat_le 1 (task_named content) && nat_le (task_named content) n) (cond (names (task_named content) before) (Some RepeatedTask) None) (Some BadTask)
+    cond (nat_le 1 (task_named content) && nat_le (task_named content) n)
+    (cond (names (task_named content) before) (Some RepeatedTask) None) (Some BadTask)
 
 -- what is wrong with a pair of n tasks: one of its members is none of them
 abbrev pub members_fault : ℕ → Pair → Option AlbKind
@@ -119,7 +125,8 @@ abbrev pub AreRight : (Lines → List ℕ → Option AlbKind) → Lines → Type
 AreRight fault lines = AreRightFrom fault [] lines
 
 -- the first of the lines with which something is wrong: nothing is with those before it
-pub record IsFirstWrong (fault : Lines → List ℕ → Option AlbKind) (lines : Lines) (number : ℕ) (kind : AlbKind) : Type 0 where
+pub record IsFirstWrong (fault : Lines → List ℕ → Option AlbKind) (lines : Lines) (number : ℕ)
+    (kind : AlbKind) : Type 0 where
   pub before : Lines
   pub at : ℕ × List ℕ
   pub after : Lines

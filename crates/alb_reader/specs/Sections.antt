@@ -47,7 +47,8 @@ section_by now End = now
 section_by now Unknown = now
 section_by now Body = now
 
--- the section in which a line behind these lines stands, where the first of them stands in `now`: that of the last heading
+-- the section in which a line behind these lines stands, where the first of them stands in `now`: that of the last
+-- heading
 abbrev pub section_after : Option Section → Lines → Option Section
 section_after now [] = now
 section_after now (l ∷ lines) = section_after (section_by now (mark_of l.1)) lines

@@ -3,7 +3,9 @@ use Rattle.std.specs.Prelude.{ℕ, ◌+◌, List, ◌++◌, codes, decimal}
 use Rattle.in2_reader.specs.Texts.{ring_text}
 use Rattle.alb_reader.specs.declared.fault.AlbFault.{AlbFault}
 use Rattle.alb_reader.specs.declared.fault.AlbKind.{AlbKind}
-use Rattle.alb_reader.specs.declared.fault.AlbKind.TheVariants.{NotANumber, Range, Stray, UnknownHeading, RepeatedHeading, MissingEnd, MissingSection, BadTask, RepeatedTask, MissingTask, BadArc, TooManyArcs, Cycle}
+use Rattle.alb_reader.specs.declared.fault.AlbKind.TheVariants.{NotANumber, Range, Stray, UnknownHeading}
+use Rattle.alb_reader.specs.declared.fault.AlbKind.TheVariants.{RepeatedHeading, MissingEnd, MissingSection, BadTask}
+use Rattle.alb_reader.specs.declared.fault.AlbKind.TheVariants.{RepeatedTask, MissingTask, BadArc, TooManyArcs, Cycle}
 
 -- what is wrong, in words; a missing task with its number, from 1, and a cycle with its tasks
 abbrev pub kind_text : AlbKind → List ℕ

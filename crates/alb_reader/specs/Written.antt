@@ -31,7 +31,8 @@ pairs_section ps = codes "<precedence relations>\n" ++ flat_map pair_line ps ++ 
 
 -- the sections in their order, each followed by an empty line, and the end mark; the tasks and the pairs ascend
 abbrev pub alb_text : Line → List Prec → Option ℕ → List ℕ
-alb_text line ps cycle = tasks_section (tasks line) ++ cycle_section cycle ++ times_section line ++ pairs_section ps ++ codes "<end>\n"
+alb_text line ps cycle = tasks_section (tasks line) ++ cycle_section cycle ++ times_section line ++ pairs_section ps
+    ++ codes "<end>\n"
 
 -- the canonical text of a line has its times, its covering pairs, and the cycle time where there is one
 pub record IsAlbText (line : Line) (cycle : Option ℕ) (bytes : List ℕ) : Type 0 where
@@ -39,9 +40,11 @@ pub record IsAlbText (line : Line) (cycle : Option ℕ) (bytes : List ℕ) : Typ
   pub covers : AreCovers line ps
   pub text : bytes ≡ alb_text line ps cycle
 
--- the answer is an instance of the line's times, in which the same tasks are before others, with the same cycle time; or memory is wanting
+-- the answer is an instance of the line's times, in which the same tasks are before others, with the same cycle time;
+-- or memory is wanting
 abbrev pub IsReadBack : Line → Option ℕ → AlbRead → Type 0
-IsReadBack line cycle (Good l c) = (l.times ≡ line.times) × ((i j : ℕ) → j < tasks line → Before l i j ↔ Before line i j) × (c ≡ cycle)
+IsReadBack line cycle (Good l c) = (l.times ≡ line.times) × ((i j : ℕ) → j < tasks line → Before l i j
+    ↔ Before line i j) × (c ≡ cycle)
 IsReadBack line cycle (Fault f) = ⊥
 IsReadBack line cycle NoMemory = Unit {0}
 
@@ -53,4 +56,5 @@ IsGivenCycle (Some c) = (1 ≤ c) × (c ≤ 1000000000000000000)
 -- Whatever reading the canonical text of a line answers is that line again, with its cycle time.
 abbrev pub EveryWrittenTextIsRead : Type 0
 EveryWrittenTextIsRead =
-    (line : Line) (cycle : Option ℕ) (bytes : List ℕ) (answer : AlbRead) → IsLine line → IsRanked line → IsGivenCycle cycle → IsAlbText line cycle bytes → IsAlbRead bytes answer → IsReadBack line cycle answer
+    (line : Line) (cycle : Option ℕ) (bytes : List ℕ) (answer : AlbRead) → IsLine line → IsRanked line
+    → IsGivenCycle cycle → IsAlbText line cycle bytes → IsAlbRead bytes answer → IsReadBack line cycle answer

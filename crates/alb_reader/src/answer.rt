@@ -31,7 +31,8 @@ pub enum AlbRead {
 pub fn read_alb(alloc: Global, bytes: &[u8]) -> AlbRead
     requires { length bytes.now < 2 ^ 63 }
     ensures read { IsAlbRead bytes.now result }
-    ensures none { (f : AlbFault) → result ≡ AlbRead.Fault f → (line : Line) (c : Option ℕ) → ¬ IsAlbReading bytes.now line c }
+    ensures none { (f : AlbFault) → result ≡ AlbRead.Fault f → (line : Line) (c : Option ℕ)
+        → ¬ IsAlbReading bytes.now line c }
     ensures limit { (line : Line) (c : ℕ) → result ≡ AlbRead.Good line (Some c) → (1 ≤ c) × (c ≤ 1000000000000000000) }
 {
     let (draft, end) = match read_draft(alloc, bytes) {

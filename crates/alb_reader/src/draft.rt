@@ -1,5 +1,6 @@
 //! What is kept of the lines of an ALB text.
-ghost use Rattle.std.specs.Prelude.{◌≡◌, ◌++◌, ◌∷◌, ◌||◌, [], ℕ, None, Some, Option, true, false, nat_eq, MatchResult, OnOk, OnErr, IfErr, IfSome, IsNone, length};
+ghost use Rattle.std.specs.Prelude.{◌≡◌, ◌++◌, ◌∷◌, ◌||◌, [], ℕ, None, Some, Option, true, false, nat_eq, MatchResult};
+ghost use Rattle.std.specs.Prelude.{OnOk, OnErr, IfErr, IfSome, IsNone, length};
 ghost use Rattle.line_io.specs.Lines.{number_in};
 ghost use Rattle.line_io.specs.declared.text.Num.TheVariants.{Value};
 ghost use Rattle.in2_reader.specs.Contents.{Lines};
@@ -100,7 +101,8 @@ fn whole(bytes: &[u8], max: u64) -> Num
 
 // The number of a line that has one, from 1 to a greatest one, or what is wrong with the line.
 fn some_number(content: &[u8], max: u64) -> Result<u64, LineError>
-    ensures { MatchResult result (λ v. (number_in max content.now ≡ Value v) × (some_fault (number_in max content.now) ≡ None)) (IsWrong (some_fault (number_in max content.now))) }
+    ensures { MatchResult result (λ v. (number_in max content.now ≡ Value v)
+        × (some_fault (number_in max content.now) ≡ None)) (IsWrong (some_fault (number_in max content.now))) }
 {
     match whole(content, max) {
         Num::NotANumber => Err(LineError::Fault(AlbKind::NotANumber)),
@@ -135,7 +137,9 @@ fn task_number(num: Num) -> u64
 
 // The task and the time of a line, or what is wrong with it.
 fn timed_line(line: u64, content: &[u8]) -> Result<TimeLine, LineError>
-    ensures { MatchResult result (λ t. (t ≡ time_line (line, content.now)) × (timed_fault (timed content.now).0 (timed content.now).1 ≡ None)) (IsWrong (timed_fault (timed content.now).0 (timed content.now).1)) }
+    ensures { MatchResult result (λ t. (t ≡ time_line (line, content.now))
+        × (timed_fault (timed content.now).0 (timed content.now).1 ≡ None))
+        (IsWrong (timed_fault (timed content.now).0 (timed content.now).1)) }
 {
     let Some((front, back)) = split_gap(content) else {
         return Err(LineError::Fault(AlbKind::NotANumber));
@@ -156,7 +160,9 @@ fn timed_line(line: u64, content: &[u8]) -> Result<TimeLine, LineError>
 
 // The pair of a line behind so many pairs, or what is wrong with it.
 fn paired_line(line: u64, content: &[u8], pairs: usize) -> Result<PairLine, LineError>
-    ensures { MatchResult result (λ p. (p ≡ pair_line (line, content.now)) × (pair_fault (nat_eq pairs 524288) (pair_in 1024 content.now) ≡ None)) (IsWrong (pair_fault (nat_eq pairs 524288) (pair_in 1024 content.now))) }
+    ensures { MatchResult result (λ p. (p ≡ pair_line (line, content.now))
+        × (pair_fault (nat_eq pairs 524288) (pair_in 1024 content.now) ≡ None))
+        (IsWrong (pair_fault (nat_eq pairs 524288) (pair_in 1024 content.now))) }
 {
     let is_full = pairs == MAX_PAIRS;
     let pair = pair_of(content, 1024, Meaning::Before);
@@ -223,8 +229,10 @@ impl Draft {
 
     // Begins a section.
     fn open(&mut self, section: Section) -> Result<(), LineError>
-        ensures opened { OnOk result ((heading_seen self.old.seen section ≡ false) × (self.new ≡ opened self.old section self.new.seen)) }
-        ensures seen { OnOk result ((s : Section) → heading_seen self.new.seen s ≡ (is_same s section || heading_seen self.old.seen s)) }
+        ensures opened { OnOk result ((heading_seen self.old.seen section ≡ false)
+            × (self.new ≡ opened self.old section self.new.seen)) }
+        ensures seen { OnOk result ((s : Section) → heading_seen self.new.seen s
+            ≡ (is_same s section || heading_seen self.old.seen s)) }
         ensures wrong { OnErr result (heading_seen self.old.seen section ≡ true) }
         ensures kind { IfErr result (λ e. e ≡ LineError.Fault AlbKind.RepeatedHeading) }
     {
@@ -238,7 +246,8 @@ impl Draft {
 
     // Takes a line of the present section.
     fn take_body(&mut self, line: u64, content: &[u8]) -> Result<(), LineError>
-        ensures { (before : Lines) → IsDraft before self.old → mark_of content.now ≡ Body → Takes before line content.now self.new result }
+        ensures { (before : Lines) → IsDraft before self.old → mark_of content.now ≡ Body
+            → Takes before line content.now self.new result }
     {
         match self.section {
             None => Err(LineError::Fault(AlbKind::Stray)),

@@ -39,8 +39,8 @@ pub enum AlbKind {
 /// The first fault of a text.
 #[derive(Drop)]
 pub struct AlbFault {
-    /// The number of the line at fault, counted from 1: that of the end mark where something is missing or the arcs have a cycle, and the
-    /// number of lines plus 1 where the end mark is missing.
+    /// The number of the line at fault, counted from 1: that of the end mark where something is missing or the arcs
+    /// have a cycle, and the number of lines plus 1 where the end mark is missing.
     pub line: u64,
     /// What is wrong.
     pub kind: AlbKind,

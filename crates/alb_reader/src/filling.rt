@@ -1,5 +1,6 @@
 //! What the lines of a text say of its tasks: their times, and their pairs.
-ghost use Rattle.std.specs.Prelude.{◌≡◌, ◌≤◌, ◌<◌, ◌^◌, ◌&&◌, nat_le, ℕ, None, List, length, map, replicate, IfOk, IsTrue};
+ghost use Rattle.std.specs.Prelude.{◌≡◌, ◌≤◌, ◌<◌, ◌^◌, ◌&&◌, nat_le, ℕ, None, List, length, map, replicate, IfOk};
+ghost use Rattle.std.specs.Prelude.{IsTrue};
 ghost use Rattle.in2_reader.specs.Contents.{Lines};
 ghost use Rattle.alb_reader.specs.inner.Drafts.{time_line, pair_line};
 ghost use Rattle.alb_reader.specs.inner.Fillings.{GivesTimes, GivesWhole, IsTimesRead, IsArcsRead, named_arc};
@@ -24,7 +25,8 @@ fn is_task(number: u64, tasks: usize) -> bool
     number >= 1 && number <= tasks as u64
 }
 
-// The time that is given to each task, or the first line of task times that names none of them, or one that was named before.
+// The time that is given to each task, or the first line of task times that names none of them, or one that was named
+// before.
 fn given_times(
     alloc: Global,
     tasks: usize,

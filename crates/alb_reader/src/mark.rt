@@ -67,7 +67,8 @@ fn named(heading: &[u8]) -> Mark
     Mark::Unknown
 }
 
-/// What a content is: a heading, whose letters A to Z are read as a to z, or a line of a section. An error where memory is wanting.
+/// What a content is: a heading, whose letters A to Z are read as a to z, or a line of a section. An error where memory
+/// is wanting.
 pub fn mark_of(alloc: Global, content: &[u8]) -> Result<Mark, AllocError>
     ensures { IfOk result (λ m. m ≡ mark_of content.now) }
 {

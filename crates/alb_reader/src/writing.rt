@@ -2,14 +2,15 @@
 ghost use Rattle.std.specs.Prelude.{◌≡◌, ◌++◌, ◌+◌, codes, decimal, string_bytes, OnOk, IfOk};
 ghost use Rattle.std.specs.List.{flat_map, range_with_len};
 ghost use Rattle.line_instance.specs.Line.{tasks};
-ghost use Rattle.alb_reader.specs.Written.{IsAlbText, tasks_section, cycle_section, times_section, pairs_section, timed_line};
+ghost use Rattle.alb_reader.specs.Written.{IsAlbText, tasks_section, cycle_section, times_section, pairs_section};
+ghost use Rattle.alb_reader.specs.Written.{timed_line};
 
 use in2_reader::{covers_of, push_pairs};
 use line_instance::{Instance, Prec};
 use std::alloc::{AllocError, Global};
 
-/// The canonical text of an instance, with a cycle time or none: the number of tasks, the cycle time, the times and the covering
-/// pairs, each section with its heading. An error where memory is wanting.
+/// The canonical text of an instance, with a cycle time or none: the number of tasks, the cycle time, the times and the
+/// covering pairs, each section with its heading. An error where memory is wanting.
 pub fn write_alb(alloc: Global, inst: &Instance, cycle: Option<u64>) -> Result<Vec<u8>, AllocError>
     ensures { IfOk result (λ text. IsAlbText inst.now cycle text.items) }
 {
@@ -58,7 +59,8 @@ fn push_times(text: &mut String, inst: &Instance) -> Result<(), AllocError>
 
 // Appends a line for each task.
 fn push_time_lines(text: &mut String, inst: &Instance) -> Result<(), AllocError>
-    ensures { OnOk result (string_bytes text.new ≡ string_bytes text.old ++ flat_map (timed_line inst.now) (range_with_len 0 (tasks inst.now))) }
+    ensures { OnOk result (string_bytes text.new ≡ string_bytes text.old
+        ++ flat_map (timed_line inst.now) (range_with_len 0 (tasks inst.now))) }
 {
     for i in 0..inst.tasks() {
         push_time(text, u64::from(i) + 1, inst.time(i))?;
@@ -68,7 +70,8 @@ fn push_time_lines(text: &mut String, inst: &Instance) -> Result<(), AllocError>
 
 // Appends the line of a task.
 fn push_time(text: &mut String, number: u64, time: u64) -> Result<(), AllocError>
-    ensures { OnOk result (string_bytes text.new ≡ string_bytes text.old ++ (decimal number ++ codes " " ++ decimal time ++ codes "\n")) }
+    ensures { OnOk result (string_bytes text.new ≡ string_bytes text.old
+        ++ (decimal number ++ codes " " ++ decimal time ++ codes "\n")) }
 {
     write!(text, "{number}")?;
     text.push_str(" ")?;

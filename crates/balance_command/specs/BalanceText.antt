@@ -7,4 +7,5 @@ use Rattle.station_report.specs.BalanceLines.{balance_lines}
 -- the report of a balance: its stations, the bound by total time, the idle time, and a line for each station
 abbrev pub balance_text : LineKind → Assignment → ℕ → ℕ → List ℕ
 balance_text kind b bound idle =
-    (codes "balance " ++ decimal b.stations ++ codes "\ntotal bound " ++ decimal bound ++ codes "\n") ++ balance_lines kind b idle
+    (codes "balance " ++ decimal b.stations ++ codes "\ntotal bound " ++ decimal bound ++ codes "\n")
+    ++ balance_lines kind b idle

@@ -47,7 +47,9 @@ pub fn balance_report<S: Shelf>(
     shelf: &mut S,
 ) -> Result<Report, Stop>
     requires word { IsSetBetween 1 1000000000000000000 word }
-    ensures ends { S.tells → Ends (outside (S.file shelf.old) (S.blames shelf.new)) (IsBalanceOutcome (outside (S.file shelf.old) (S.blames shelf.new)) file.now (option_map (λ a. a.now) apart.entry) word kind) (S.file shelf.new) result }
+    ensures ends { S.tells → Ends (outside (S.file shelf.old) (S.blames shelf.new))
+        (IsBalanceOutcome (outside (S.file shelf.old) (S.blames shelf.new)) file.now
+        (option_map (λ a. a.now) apart.entry) word kind) (S.file shelf.new) result }
     ensures good { IfOk result (λ r. r.status ≡ ends.Done) }
     ensures kept { IfOk result (λ r. r.kept ≡ Nothing) }
     ensures fault { MatchResult result (λ _. Unit {0}) (MayStop (Rises (S.faults shelf.old) (S.faults shelf.new))) }

@@ -1,9 +1,9 @@
 //! A beam from level to level.
 //!
-//! Level 0 is the set of all tasks. Of each rest of a level the first loads are listed; the rests that the full ones leave
-//! are sorted by their total time, and the first ones that the bound lets have a balance in the stations that are left are
-//! the next level. Where a rest is itself a load, the loads on the way to it are a balance. A level takes as many bytes as
-//! its full loads, some 150 each.
+//! Level 0 is the set of all tasks. Of each rest of a level the first loads are listed; the rests that the full ones
+//! leave are sorted by their total time, and the first ones that the bound lets have a balance in the stations that are
+//! left are the next level. Where a rest is itself a load, the loads on the way to it are a balance. A level takes as
+//! many bytes as its full loads, some 150 each.
 ghost use Rattle.std.specs.Prelude.{◌≡◌, ◌≤◌, ◌+◌, IfOk, IfSome, length};
 ghost use Rattle.line_instance.specs.Line.{IsTaskSet, tasks};
 ghost use Rattle.line_rules.specs.Balance.{IsRight};

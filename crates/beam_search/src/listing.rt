@@ -1,8 +1,9 @@
 //! The loads of a set, one after the other, and each once.
 //!
-//! From the empty load down: to the load at hand the first task is added, by place, that joins it and wasn't passed. Where
-//! none is left, the load at hand is listed, its last task is taken away and passed, and the listing goes on from there. A
-//! load takes a few operations on sets of words, and no memory but a step for each of its tasks, on a stack in the heap.
+//! From the empty load down: to the load at hand the first task is added, by place, that joins it and wasn't passed.
+//! Where none is left, the load at hand is listed, its last task is taken away and passed, and the listing goes on from
+//! there. A load takes a few operations on sets of words, and no memory but a step for each of its tasks, on a stack in
+//! the heap.
 use crate::placed::Placed;
 use line_rules::Mode;
 use std::alloc::{AllocError, Global};

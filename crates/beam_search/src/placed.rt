@@ -157,8 +157,8 @@ impl Placed {
         }
     }
 
-    /// Whether the task at a place may be the next of those outside a load, in a mode: none of them is before it, none is
-    /// after it, or one of the two.
+    /// Whether the task at a place may be the next of those outside a load, in a mode: none of them is before it, none
+    /// is after it, or one of the two.
     pub fn is_ready(&self, place: u32, mode: Mode, outside: &TaskSet) -> bool {
         match mode {
             Mode::Fore => is_disjoint(&self.before, place, outside),

@@ -1,9 +1,9 @@
 //! Marks of the sets that the entries seen by a pass have. With them most looks can end without a turn.
 //!
-//! What a pass has seen changes in its turns alone. So it can be marked: one bit for a set, at a place that a hash of the
-//! set tells. Where the bit of a set isn't there, no entry that was seen has the set. In each turn the marks catch up
-//! with the book in hand, at the price of one hash for each entry that the pass hadn't seen. They take 512 KiB, and with
-//! many more than a million entries they tell less, but never anything wrong.
+//! What a pass has seen changes in its turns alone. So it can be marked: one bit for a set, at a place that a hash of
+//! the set tells. Where the bit of a set isn't there, no entry that was seen has the set. In each turn the marks catch
+//! up with the book in hand, at the price of one hash for each entry that the pass hadn't seen. They take 512 KiB, and
+//! with many more than a million entries they tell less, but never anything wrong.
 ghost use Rattle.std.specs.Prelude.{◌≡◌, ◌<◌, ◌≤◌, ℕ, false, true, List, ◌++◌, length, slice_index, slice_set, bit_or};
 ghost use Rattle.std.specs.Prelude.{IsTrue, fold};
 ghost use Rattle.std.specs.Hash as fed;
@@ -135,7 +135,8 @@ impl Marks {
 
     // Marks what a book has more than what was marked.
     pub(crate) fn catch_up(&mut self, book: &Book)
-        requires { (old : List Entry) × (more : List Entry) × (book.now.state.entries ≡ old ++ more) × AreMarked self.old old }
+        requires { (old : List Entry) × (more : List Entry) × (book.now.state.entries ≡ old ++ more)
+            × AreMarked self.old old }
         ensures marked { AreMarked self.new book.now.state.entries }
         ensures derived { IsDerived book.now.about.kind book.now.about.line book.now.state.entries }
     {

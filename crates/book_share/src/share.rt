@@ -1,8 +1,8 @@
 //! The calls of a share.
 //!
 //! Each but `least`, `glance`, `split` and `join` is one turn (turns.rt): what it answers is the book's answer at that
-//! point of the one history, and the pass has then seen the history up to there. A turn costs what the book's call costs
-//! and three or four atomic steps; the other calls cost one or two.
+//! point of the one history, and the pass has then seen the history up to there. A turn costs what the book's call
+//! costs and three or four atomic steps; the other calls cost one or two.
 ghost use Rattle.std.specs.Prelude.{◌≡◌, ◌≤◌, ℕ, length, IfSome, IfNone, IsTrue};
 ghost use Rattle.line_rules.specs.Balance.{IsRight};
 ghost use Rattle.lemma_core.specs.History.{Begins};
@@ -14,7 +14,8 @@ ghost use Rattle.book_share.specs.Passes.{desk_by};
 ghost use Rattle.book_share.specs.Places.{AreApart, AreAllFrom};
 ghost use Rattle.book_share.specs.Rule.{left_of, right_of, both_of};
 ghost use Rattle.book_share.specs.Steps.{missed, loaded, IsLeastCount, IsEventCount};
-ghost use Rattle.book_share.specs.Calls.{IsPassOf, Starts, IsSound, Rests, TriedOnce, Waited, found_by, published_by, GivesBack};
+ghost use Rattle.book_share.specs.Calls.{IsPassOf, Starts, IsSound, Rests, TriedOnce, Waited, found_by, published_by};
+ghost use Rattle.book_share.specs.Calls.{GivesBack};
 
 use crate::marks::Marks;
 use crate::pass::{Pass, Share, Started, TryLooked, TryPublished};
@@ -160,7 +161,8 @@ impl Share {
     #[inline]
     pub fn lacks(&self, pass: &Pass, set: &TaskSet) -> bool
         requires { IsPassOf self.now pass.now }
-        ensures none { IsTrue result → (most cycle : ℕ) → IsUnanswered (entries (desk_by pass.now.view)) set.now most cycle }
+        ensures none { IsTrue result → (most cycle : ℕ) → IsUnanswered (entries (desk_by pass.now.view)) set.now most
+            cycle }
         ensures derived { IsTrue result → HasDerived (desk_by pass.now.view) }
         ensures sound { IsSound pass.now.view }
     {

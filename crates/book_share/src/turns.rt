@@ -1,7 +1,8 @@
 //! A turn, on a seat at the table: the turn and the book are taken, the book is asked, and both are given back.
 //!
 //! An event is counted when the book is home in its slot already, and before the turn is free, so its place is its
-//! number in the one history. Before the book goes home, marks of its entries catch up with it. Who finds the turn held spins for a while, and then yields the processor between tries.
+//! number in the one history. Before the book goes home, marks of its entries catch up with it. Who finds the turn held
+//! spins for a while, and then yields the processor between tries.
 ghost use Rattle.std.specs.Prelude.{◌≡◌, [], ◌∷◌, IfSome, IfNone, None};
 ghost use Rattle.line_rules.specs.Balance.{IsRight};
 ghost use Rattle.lemma_core.specs.History.{Item, AreExact, better};
@@ -51,7 +52,8 @@ pub fn take(room: &Room, seat: &mut Sitter) -> Option<Book>
     requires seat { (seat.old.table_id ≡ room.now.shared.table_id) × (seat.old.me ≡ (given seat.old.me.0, [])) }
     ensures seat { seat.new.table_id ≡ seat.old.table_id }
     ensures none { IfNone result (seat.new.me ≡ (missed seat.old.me.0, [])) }
-    ensures some { IfSome result (λ b. (seat.new.me ≡ (taken seat.old.me.0 b.events, (0, None) ∷ [])) × IsHad seat.old.me.0 b) }
+    ensures some { IfSome result (λ b. (seat.new.me ≡ (taken seat.old.me.0 b.events, (0, None) ∷ []))
+        × IsHad seat.old.me.0 b) }
 {
     let found = room.shared.compare_exchange::<Take>(seat, TURN, 0, 1);
     if found != 0 {

@@ -27,7 +27,8 @@ pub record IsLonger (file : Option (List ℕ)) (limit : ℕ) : Type 0 where
   pub there : file ≡ Some bytes
   pub longer : limit < length bytes
 
--- Of a file that is told: a certificate or a fault is that of its bytes, which are within the limit; TooLong comes where it has more.
+-- Of a file that is told: a certificate or a fault is that of its bytes, which are within the limit; TooLong comes
+-- where it has more.
 abbrev pub IsCertFrom : Option (List ℕ) → ℕ → CertFrom → Type 0
 IsCertFrom file limit (Good cert) = IsReadWithin file limit (reads.Good cert)
 IsCertFrom file limit (Fault fault) = IsReadWithin file limit (reads.Fault fault)
@@ -60,6 +61,7 @@ fault_from rests.Failed f = ReadFault
 -- the answer where a certificate of so many lines was read, by what stands behind it
 abbrev pub IsGoodFrom : Rest → Certificate → ℕ → CertFrom → Type 0
 IsGoodFrom rests.Nothing cert lines answer = answer ≡ Good cert
-IsGoodFrom rests.More cert lines answer = (answer ≡ Fault (record { line = suc lines; kind = Trailing })) ⊎ (answer ≡ NoMemory)
+IsGoodFrom rests.More cert lines answer = (answer ≡ Fault (record { line = suc lines; kind = Trailing }))
+    ⊎ (answer ≡ NoMemory)
 IsGoodFrom rests.TooLong cert lines answer = answer ≡ TooLong
 IsGoodFrom rests.Failed cert lines answer = answer ≡ ReadFault

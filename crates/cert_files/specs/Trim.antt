@@ -1,5 +1,7 @@
--- What is left of a list of entries that is trimmed: the first entry that answers a question, and all that it stands on.
-use Rattle.std.specs.Prelude.{◌≡◌, ◌↔◌, ◌⊎◌, ℕ, ◌<◌, ◌≤◌, Bool, List, [], ◌∷◌, length, map, slice_get, slice_index, Some}
+-- What is left of a list of entries that is trimmed: the first entry that answers a question, and all that it stands
+-- on.
+use Rattle.std.specs.Prelude.{◌≡◌, ◌↔◌, ◌⊎◌, ℕ, ◌<◌, ◌≤◌, Bool, List, [], ◌∷◌, length, map, slice_get, slice_index}
+use Rattle.std.specs.Prelude.{Some}
 use Rattle.std.specs.List.{Contains}
 use Rattle.task_set.specs.Truths.{In}
 use Rattle.line_rules.specs.Entries.{Answers}
@@ -27,7 +29,8 @@ pub record IsFirstAnswer (es : List Entry) (set : List Bool) (most cycle id : �
 -- what an entry stands on: the entry itself, and each one that is cited by one that it stands on
 pub data StandsOn (es : List Entry) (goal : ℕ) : ℕ → Type 0 where
   itself : StandsOn es goal goal
-  cited : (k : ℕ) (e : Entry) (cite : ℕ) → StandsOn es goal k → slice_get es k ≡ Some e → Contains (cited_by e.why) cite → StandsOn es goal cite
+  cited : (k : ℕ) (e : Entry) (cite : ℕ) → StandsOn es goal k → slice_get es k ≡ Some e → Contains (cited_by e.why) cite
+      → StandsOn es goal cite
 
 -- the numbers of the entries that an entry stands on, ascending
 pub record AreKept (es : List Entry) (goal : ℕ) (numbers : List ℕ) : Type 0 where
@@ -41,8 +44,10 @@ ArePlaces numbers cites places = map (slice_get numbers) places ≡ map Some cit
 -- the same reason, each cite replaced by its place among the kept numbers
 abbrev pub IsRenumbered : List ℕ → Why → Why → Type 0
 IsRenumbered numbers why.Bound new = new ≡ why.Bound
-IsRenumbered numbers (why.Branch mode cites) new = (places : List ℕ) × (new ≡ why.Branch mode places) × ArePlaces numbers cites places
-IsRenumbered numbers (why.Swap cite out into) new = (place : ℕ) × (new ≡ why.Swap place out into) × (slice_get numbers place ≡ Some cite)
+IsRenumbered numbers (why.Branch mode cites) new = (places : List ℕ) × (new ≡ why.Branch mode places)
+    × ArePlaces numbers cites places
+IsRenumbered numbers (why.Swap cite out into) new = (place : ℕ) × (new ≡ why.Swap place out into)
+    × (slice_get numbers place ≡ Some cite)
 
 -- the same question, and the same reason with its cites renumbered
 pub record IsKeptAs (numbers : List ℕ) (e new : Entry) : Type 0 where
@@ -87,7 +92,8 @@ pub record AreMarks (es : List Entry) (goal : ℕ) (marks : List Bool) : Type 0 
 -- what is marked is there, and what a marked entry cites is marked and comes before it
 pub record AreClosed (es : List Entry) (marks : List Bool) : Type 0 where
   pub there : length marks ≤ length es
-  pub closed : (k : ℕ) (e : Entry) (cite : ℕ) → In marks k → slice_get es k ≡ Some e → Contains (cited_by e.why) cite → In marks cite × (cite < k)
+  pub closed : (k : ℕ) (e : Entry) (cite : ℕ) → In marks k → slice_get es k ≡ Some e → Contains (cited_by e.why) cite
+      → In marks cite × (cite < k)
 
 -- a reason whose cites are looked up in a list of places
 abbrev pub why_at : List ℕ → Why → Why

@@ -34,15 +34,18 @@ pub enum CertFrom {
     NoMemory,
 }
 
-/// Reads a certificate from a file of at most `limit` bytes, in pieces of 65,536 bytes and line by line. After a fault it reads on to the end: a
-/// longer file is TooLong whatever its text is. A line of more than 2^28 bytes is answered as out of memory. The files stay.
+/// Reads a certificate from a file of at most `limit` bytes, in pieces of 65,536 bytes and line by line. After a fault
+/// it reads on to the end: a longer file is TooLong whatever its text is. A line of more than 2^28 bytes is answered as
+/// out of memory. The files stay.
 pub fn cert_from<S: Shelf>(alloc: Global, shelf: &mut S, name: &str, limit: u64) -> CertFrom
     ensures count { S.faults shelf.old ≤ S.faults shelf.new }
     ensures fault { result ≡ ReadFault → Rises (S.faults shelf.old) (S.faults shelf.new) }
     ensures blame { S.tells → result ≡ ReadFault → S.blames shelf.new name.now ≡ true }
     ensures read { S.tells → IsCertFrom (S.file shelf.old name.now) limit result }
-    ensures none { S.tells → (fault : CertFault) → result ≡ Fault fault → (cert : Certificate) → IsInRange cert → S.file shelf.old name.now ≢ Some (cert_text cert) }
-    ensures none_old { S.tells → (fault : CertFault) → result ≡ Fault fault → (old : OldCertificate) → IsOldInRange old → S.file shelf.old name.now ≢ Some (old_text old) }
+    ensures none { S.tells → (fault : CertFault) → result ≡ Fault fault → (cert : Certificate) → IsInRange cert
+        → S.file shelf.old name.now ≢ Some (cert_text cert) }
+    ensures none_old { S.tells → (fault : CertFault) → result ≡ Fault fault → (old : OldCertificate) → IsOldInRange old
+        → S.file shelf.old name.now ≢ Some (old_text old) }
     ensures range { IsGoodInRange result }
     ensures files { S.tells → (q : List ℕ) → S.file shelf.new q ≡ S.file shelf.old q }
 {

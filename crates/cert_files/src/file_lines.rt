@@ -45,8 +45,12 @@ fn next_line<S: Shelf>(
     ensures blame { S.tells → result ≡ Next.Failed → S.blames shelf.new name.now ≡ true }
     ensures files { S.tells → (q : List ℕ) → S.file shelf.new q ≡ S.file shelf.old q }
     ensures within { at.new ≤ limit }
-    ensures line { S.tells → result ≡ Next.Line → IsTaken (slice_range window.old.piece.items window.old.from window.old.to ++ bytes_from at.old (S.file shelf.old name.now)) line.new.items (slice_range window.new.piece.items window.new.from window.new.to ++ bytes_from at.new (S.file shelf.old name.now)) }
-    ensures end { S.tells → result ≡ Next.End → IsAtEnd (slice_range window.old.piece.items window.old.from window.old.to ++ bytes_from at.old (S.file shelf.old name.now)) }
+    ensures line { S.tells → result ≡ Next.Line → IsTaken (slice_range window.old.piece.items window.old.from
+        window.old.to ++ bytes_from at.old (S.file shelf.old name.now)) line.new.items
+        (slice_range window.new.piece.items window.new.from window.new.to
+        ++ bytes_from at.new (S.file shelf.old name.now)) }
+    ensures end { S.tells → result ≡ Next.End → IsAtEnd (slice_range window.old.piece.items window.old.from
+        window.old.to ++ bytes_from at.old (S.file shelf.old name.now)) }
     ensures long { S.tells → result ≡ Next.TooLong → limit < length (bytes_of (S.file shelf.old name.now)) }
 {
     'pieces: loop {
@@ -71,7 +75,8 @@ impl<'a, 'b, S: Shelf> Source for FileLines<'a, 'b, S> {
 
     ghost told = { S.tells };
 
-    ghost left = { λ s. slice_range s.window.piece.items s.window.from s.window.to ++ bytes_from s.at (S.file s.shelf.now s.name.now) };
+    ghost left = { λ s. slice_range s.window.piece.items s.window.from s.window.to
+        ++ bytes_from s.at (S.file s.shelf.now s.name.now) };
 
     ghost line = { λ s. s.line.items };
 
@@ -143,8 +148,10 @@ pub(crate) fn read_on<S: Shelf>(
     ensures fault { result ≡ Rest.Failed → Rises (S.faults shelf.old) (S.faults shelf.new) }
     ensures blame { S.tells → result ≡ Rest.Failed → S.blames shelf.new name.now ≡ true }
     ensures files { S.tells → (q : List ℕ) → S.file shelf.new q ≡ S.file shelf.old q }
-    ensures nothing { S.tells → result ≡ Rest.Nothing → slice_range window.piece.items window.from window.to ++ bytes_from from (S.file shelf.old name.now) ≡ [] }
-    ensures more { S.tells → result ≡ Rest.More → 0 < length (slice_range window.piece.items window.from window.to ++ bytes_from from (S.file shelf.old name.now)) }
+    ensures nothing { S.tells → result ≡ Rest.Nothing → slice_range window.piece.items window.from window.to
+        ++ bytes_from from (S.file shelf.old name.now) ≡ [] }
+    ensures more { S.tells → result ≡ Rest.More → 0 < length
+        (slice_range window.piece.items window.from window.to ++ bytes_from from (S.file shelf.old name.now)) }
     ensures whole { S.tells → result ≡ Rest.Nothing → IsWithin (S.file shelf.old name.now) limit }
     ensures within { S.tells → result ≡ Rest.More → IsWithin (S.file shelf.old name.now) limit }
     ensures long { S.tells → result ≡ Rest.TooLong → limit < length (bytes_of (S.file shelf.old name.now)) }

@@ -4,7 +4,8 @@ ghost use Rattle.std.specs.Prelude.{◌≡◌, ◌≤◌, true, vec_len, vec_cap
 use cert_text::Output;
 use line_io::{PIECE, Shelf, Stored};
 
-/// A text that is put into the file of a name: its bytes wait in a buffer until that is full. It remembers its first failure.
+/// A text that is put into the file of a name: its bytes wait in a buffer until that is full. It remembers its first
+/// failure.
 #[derive(Drop)]
 pub(crate) struct FileText<'a, 'b, S: Shelf> {
     pub(crate) shelf: &'a mut S,
@@ -23,7 +24,8 @@ impl<'a, 'b, S: Shelf> Output for FileText<'a, 'b, S> {
 
     ghost Base = { Staying S.tells };
 
-    ghost sent = { λ s. sent_into S.tells s.failed s.buffer.items s.shelf.ghost_name s.name.now (S.file s.shelf.now) (S.faults s.shelf.now) };
+    ghost sent = { λ s. sent_into S.tells s.failed s.buffer.items s.shelf.ghost_name s.name.now (S.file s.shelf.now)
+        (S.faults s.shelf.now) };
 
     #[inline]
     fn put(&mut self, byte: u8) {

@@ -23,8 +23,8 @@ pub enum Streamed {
     NoMemory,
 }
 
-/// Makes a file of the text of a certificate within its ranges, in version 2: takes its memory, makes the file empty, and then writes pieces of
-/// 65,536 bytes behind it, the last one shorter. The other files stay.
+/// Makes a file of the text of a certificate within its ranges, in version 2: takes its memory, makes the file empty,
+/// and then writes pieces of 65,536 bytes behind it, the last one shorter. The other files stay.
 pub fn stream_cert<S: Shelf>(
     alloc: Global,
     shelf: &mut S,
@@ -36,7 +36,8 @@ pub fn stream_cert<S: Shelf>(
     ensures fault { result ≡ WriteFault → Rises (S.faults shelf.old) (S.faults shelf.new) }
     ensures blame { S.tells → result ≡ WriteFault → S.blames shelf.new name.now ≡ true }
     ensures done { S.tells → result ≡ Done → S.file shelf.new name.now ≡ Some (cert_text cert.now) }
-    ensures prefix { S.tells → IsPrefixWritten (S.file shelf.old name.now) (cert_text cert.now) (S.file shelf.new name.now) }
+    ensures prefix { S.tells → IsPrefixWritten (S.file shelf.old name.now) (cert_text cert.now)
+        (S.file shelf.new name.now) }
     ensures others { S.tells → (q : List ℕ) → q ≢ name.now → S.file shelf.new q ≡ S.file shelf.old q }
     ensures nothing { result ≡ NoMemory → shelf.new ≡ shelf.old }
 {
@@ -57,8 +58,10 @@ fn fill<S: Shelf>(shelf: &mut S, name: &str, cert: &Certificate, buffer: Vec<u8>
     ensures count { S.faults shelf.old ≤ S.faults shelf.new }
     ensures fault { result ≡ WriteFault → Rises (S.faults shelf.old) (S.faults shelf.new) }
     ensures blame { S.tells → result ≡ WriteFault → S.blames shelf.new name.now ≡ true }
-    ensures done { S.tells → S.file shelf.old name.now ≡ Some [] → result ≡ Done → S.file shelf.new name.now ≡ Some (cert_text cert.now) }
-    ensures prefix { S.tells → S.file shelf.old name.now ≡ Some [] → (k : ℕ) × (S.file shelf.new name.now ≡ Some (take k (cert_text cert.now))) }
+    ensures done { S.tells → S.file shelf.old name.now ≡ Some [] → result ≡ Done
+        → S.file shelf.new name.now ≡ Some (cert_text cert.now) }
+    ensures prefix { S.tells → S.file shelf.old name.now ≡ Some []
+        → (k : ℕ) × (S.file shelf.new name.now ≡ Some (take k (cert_text cert.now))) }
     ensures others { S.tells → (q : List ℕ) → q ≢ name.now → S.file shelf.new q ≡ S.file shelf.old q }
     ensures memory { result ≢ NoMemory }
 {

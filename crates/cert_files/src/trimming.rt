@@ -1,5 +1,6 @@
 //! The trimming of lists of entries.
-ghost use Rattle.std.specs.Prelude.{◌≡◌, ◌↔◌, ℕ, ◌+◌, ◌<◌, ◌≤◌, false, length, map, slice_index, slice_get, replicate, Some, IfOk, IsTrue};
+ghost use Rattle.std.specs.Prelude.{◌≡◌, ◌↔◌, ℕ, ◌+◌, ◌<◌, ◌≤◌, false, length, map, slice_index, slice_get, replicate};
+ghost use Rattle.std.specs.Prelude.{Some, IfOk, IsTrue};
 ghost use Rattle.std.specs.List.{Contains};
 ghost use Rattle.task_set.specs.Truths.{full_to, members_of};
 ghost use Rattle.line_instance.specs.Line.{Line};
@@ -7,15 +8,16 @@ ghost use Rattle.line_rules.specs.Entries.{Answers, HasAnswer, IsDerived, IsFres
 ghost use Rattle.line_rules.specs.Ranges.{AreEntries};
 ghost use Rattle.line_rules.specs.Units.{UnitsOf};
 ghost use Rattle.line_rules.specs.declared.types.LineKind.{LineKind};
-ghost use Rattle.cert_files.specs.Trim.{cited_by, CitesEarlier, IsFirstAnswer, IsTrimmed, AreKeptEntries, AreMarked, AreMarks, AreClosed, entry_at, why_at};
+ghost use Rattle.cert_files.specs.Trim.{cited_by, CitesEarlier, IsFirstAnswer, IsTrimmed, AreKeptEntries, AreMarked};
+ghost use Rattle.cert_files.specs.Trim.{AreMarks, AreClosed, entry_at, why_at};
 
 use line_rules::{Cites, Entries, Entry, Why};
 use std::alloc::{AllocError, Global};
 use task_set::TaskSet;
 
-/// The first entry of all tasks with at least so many stations and at least such a cycle, and all the entries that it cites, directly or
-/// through others, in order and with their cites renumbered. There is such an entry, and each entry cites entries before it alone, as in
-/// every derived list. An error where memory is wanting.
+/// The first entry of all tasks with at least so many stations and at least such a cycle, and all the entries that it
+/// cites, directly or through others, in order and with their cites renumbered. There is such an entry, and each entry
+/// cites entries before it alone, as in every derived list. An error where memory is wanting.
 pub fn trim(
     alloc: Global,
     entries: Entries,
@@ -27,10 +29,12 @@ pub fn trim(
     requires answered { HasAnswer entries (full_to tasks) most cycle }
     requires earlier { CitesEarlier entries }
     ensures trimmed { IfOk result (λ new. IsTrimmed entries (full_to tasks) most cycle new) }
-    ensures derived { IfOk result (λ new. (kind : LineKind) (line : Line) → IsDerived kind line entries → IsDerived kind line new) }
+    ensures derived { IfOk result (λ new. (kind : LineKind) (line : Line) → IsDerived kind line entries
+        → IsDerived kind line new) }
     ensures fresh { IfOk result (λ new. IsFresh entries → IsFresh new) }
     ensures answers { IfOk result (λ new. HasAnswer new (full_to tasks) most cycle) }
-    ensures units { IfOk result (λ new. (line : Line) (old : ℕ) → UnitsOf line entries old → (units : ℕ) × UnitsOf line new units × (units ≤ old)) }
+    ensures units { IfOk result (λ new. (line : Line) (old : ℕ) → UnitsOf line entries old
+        → (units : ℕ) × UnitsOf line new units × (units ≤ old)) }
     ensures ranges { IfOk result (λ new. (n : ℕ) → AreEntries n entries → AreEntries n new) }
 {
     let all = TaskSet::full_to(tasks);
@@ -39,8 +43,8 @@ pub fn trim(
     kept(alloc, &entries, &marks)
 }
 
-/// Whether an entry answers the question, whether a set has a balance in `most` stations at a cycle: it is of that set, for
-/// as many stations or more, at that cycle or a greater one.
+/// Whether an entry answers the question, whether a set has a balance in `most` stations at a cycle: it is of that set,
+/// for as many stations or more, at that cycle or a greater one.
 #[inline]
 pub fn answers(entry: &Entry, set: &TaskSet, most: u32, cycle: u64) -> bool
     ensures { IsTrue result ↔ Answers entry.now set.now most cycle }
@@ -76,7 +80,8 @@ fn no_marks(alloc: Global, n: usize) -> Result<Vec<bool>, AllocError>
     vec![in alloc; false; n]
 }
 
-// Marks of what the entry of number `goal` stands on: cites lead to entries before, so one pass from the last entry down is enough.
+// Marks of what the entry of number `goal` stands on: cites lead to entries before, so one pass from the last entry
+// down is enough.
 fn marks_of(alloc: Global, entries: &Entries, goal: usize) -> Result<Vec<bool>, AllocError>
     requires there { goal < length entries.now }
     requires earlier { CitesEarlier entries.now }

@@ -1,5 +1,6 @@
 //! The bytes of a file that were fetched and wait to be read.
-ghost use Rattle.std.specs.Prelude.{◌≡◌, ◌≢◌, ◌+◌, ◌<◌, ◌≤◌, ◌∷◌, ◌++◌, [], ℕ, true, List, length, slice_range, vec_len};
+ghost use Rattle.std.specs.Prelude.{◌≡◌, ◌≢◌, ◌+◌, ◌<◌, ◌≤◌, ◌∷◌, ◌++◌, [], ℕ, true, List, length, slice_range};
+ghost use Rattle.std.specs.Prelude.{vec_len};
 ghost use Rattle.line_io.specs.Outside.{Rises};
 ghost use Rattle.cert_lines.specs.Faults.{IsLine};
 ghost use Rattle.cert_files.specs.inner.Pieces.{bytes_of};
@@ -34,8 +35,12 @@ impl Window {
 
     /// Takes the bytes that wait up to the next LF behind a line's, and the LF out, or all where there is none.
     pub(crate) fn take_line(&mut self, line: &mut Vec<u8>) -> Part
-        ensures line { result ≡ Part.Line → (part : List ℕ) × (slice_range self.old.piece.items self.old.from self.old.to ≡ part ++ 10 ∷ slice_range self.new.piece.items self.new.from self.new.to) × (line.new.items ≡ line.old.items ++ part) × IsLine part }
-        ensures open { result ≡ Part.Open → line.new.items ≡ line.old.items ++ slice_range self.old.piece.items self.old.from self.old.to }
+        ensures line { result ≡ Part.Line → (part : List ℕ)
+            × (slice_range self.old.piece.items self.old.from self.old.to ≡ part
+            ++ 10 ∷ slice_range self.new.piece.items self.new.from self.new.to)
+            × (line.new.items ≡ line.old.items ++ part) × IsLine part }
+        ensures open { result ≡ Part.Open → line.new.items ≡ line.old.items
+            ++ slice_range self.old.piece.items self.old.from self.old.to }
         ensures none { result ≡ Part.Open → IsLine (slice_range self.old.piece.items self.old.from self.old.to) }
     {
         let rest = &self.piece[self.from..self.to];
@@ -66,9 +71,11 @@ impl Window {
         ensures fault { result ≡ Refill.Failed → Rises (S.faults shelf.old) (S.faults shelf.new) }
         ensures blame { S.tells → result ≡ Refill.Failed → S.blames shelf.new name.now ≡ true }
         ensures files { S.tells → (q : List ℕ) → S.file shelf.new q ≡ S.file shelf.old q }
-        ensures within { result ≡ Refill.More → at + length (slice_range self.new.piece.items self.new.from self.new.to) ≤ limit }
+        ensures within { result ≡ Refill.More → at + length (slice_range self.new.piece.items self.new.from self.new.to)
+            ≤ limit }
         ensures some { result ≡ Refill.More → 0 < length (slice_range self.new.piece.items self.new.from self.new.to) }
-        ensures next { S.tells → result ≡ Refill.More → IsNext (S.file shelf.old name.now) at (slice_range self.new.piece.items self.new.from self.new.to) }
+        ensures next { S.tells → result ≡ Refill.More → IsNext (S.file shelf.old name.now) at
+            (slice_range self.new.piece.items self.new.from self.new.to) }
         ensures end { S.tells → result ≡ Refill.End → IsEnd (S.file shelf.old name.now) at }
         ensures long { S.tells → result ≡ Refill.TooLong → limit < length (bytes_of (S.file shelf.old name.now)) }
     {

@@ -1,6 +1,7 @@
 //! The lift of a certificate of version 1.
 ghost use Rattle.std.specs.Prelude.{◌≡◌, ◌≤◌, ◌++◌, ◌∷◌, [], ℕ, length, map, IfOk, OnOk};
-ghost use Rattle.cert_lines.specs.Lift.{raised, lifted_why, lifted_entry, lifted_frame, lifted_entries, trail_at as the_trail, trail_or, lifted_trail, lifted_claim, lift as lifted};
+ghost use Rattle.cert_lines.specs.Lift.{raised, lifted_why, lifted_entry, lifted_frame, lifted_entries};
+ghost use Rattle.cert_lines.specs.Lift.{trail_at as the_trail, trail_or, lifted_trail, lifted_claim, lift as lifted};
 ghost use Rattle.cert_lines.specs.OldRanges.{IsPart, AreParts, IsOldClaim, IsOldInRange};
 ghost use Rattle.line_rules.specs.Ranges.{AreCites, IsWhy, IsEntry, IsFrame};
 ghost use Rattle.line_rules.specs.declared.types.Ask.{Ask};
@@ -230,7 +231,8 @@ fn lift_claim(alloc: Global, claim: OldClaim) -> Result<Claim, AllocError>
     }
 }
 
-/// The lift of a certificate of version 1: its parts as one list of entries, with one trail. An error where memory is wanting.
+/// The lift of a certificate of version 1: its parts as one list of entries, with one trail. An error where memory is
+/// wanting.
 pub fn lift(alloc: Global, old: OldCertificate) -> Result<Certificate, AllocError>
     requires { IsOldInRange old }
     ensures { IfOk result (λ cert. cert ≡ lifted old) }

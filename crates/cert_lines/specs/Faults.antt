@@ -25,16 +25,19 @@ pub record Next {V : Type 0} (g : Grammar V) (before : List (List ℕ)) (r : Row
 
 -- a line has a form that may stand behind these lines, whatever its numbers are
 abbrev pub HasForm : {V : Type 0} → Grammar V → List (List ℕ) → List ℕ → Type 0
-HasForm g before line = (r : Row) × Next g before r × (other : Row) × (form_of other ≡ form_of r) × (row_text other ≡ line)
+HasForm g before line = (r : Row) × Next g before r × (other : Row) × (form_of other ≡ form_of r)
+    × (row_text other ≡ line)
 
--- what is wrong with a line behind these lines: it hasn't the form of what may stand there, or it has, and a number is out of its range
+-- what is wrong with a line behind these lines: it hasn't the form of what may stand there, or it has, and a number is
+-- out of its range
 abbrev pub IsWrong : {V : Type 0} → Grammar V → List (List ℕ) → List ℕ → CertKind → Type 0
 IsWrong g before line NoForm = ¬ HasForm g before line
 IsWrong g before line Range = HasForm g before line
 IsWrong g before line Ended = ⊥
 IsWrong g before line Trailing = ⊥
 
--- The fault is of the first line that no value passes: some value's text begins with the lines before it, and with it none does.
+-- The fault is of the first line that no value passes: some value's text begins with the lines before it, and with it
+-- none does.
 pub record IsLineFault {V : Type 0} (g : Grammar V) (passed : ℕ) (text : List ℕ) (f : CertFault) : Type 0 where
   pub before : List (List ℕ)
   pub at : List ℕ
@@ -46,7 +49,8 @@ pub record IsLineFault {V : Type 0} (g : Grammar V) (passed : ℕ) (text : List 
   pub stops : (r : Row) → Next g before r → row_text r ≢ at
   pub kind : IsWrong g before at f.kind
 
--- The fault is of the text's end: some value's text begins with the lines of the text and goes on, and the next line has no LF.
+-- The fault is of the text's end: some value's text begins with the lines of the text and goes on, and the next line
+-- has no LF.
 pub record IsEndFault {V : Type 0} (g : Grammar V) (passed : ℕ) (text : List ℕ) (f : CertFault) : Type 0 where
   pub before : List (List ℕ)
   pub rest : List ℕ

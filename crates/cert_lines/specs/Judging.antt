@@ -15,7 +15,8 @@ HasFormOf {V} row ranged line = (v : V) × ranged v × (r : Row) × (form_of r �
 abbrev pub IsJudged : {V : Type 0} → (V → Row) → (V → Type 0) → List ℕ → Result V LineError → Type 0
 IsJudged row ranged line (Ok v) = ranged v × (row_text (row v) ≡ line)
 IsJudged row ranged line (Err lines.Form) = ¬ HasFormOf row ranged line
-IsJudged {V} row ranged line (Err lines.Range) = HasFormOf row ranged line × ((v : V) → ranged v → row_text (row v) ≢ line)
+IsJudged {V} row ranged line (Err lines.Range) = HasFormOf row ranged line
+    × ((v : V) → ranged v → row_text (row v) ≢ line)
 IsJudged row ranged line (Err lines.Memory) = Unit {0}
 
 -- one line for a value
@@ -33,7 +34,8 @@ each row ranged count = record { rows = map row; ranged = AreSaid ranged count }
 
 -- A part of a text is read: its lines are those of a value that may be said; or it has a fault.
 abbrev pub IsRead : {V : Type 0} → Grammar V → ℕ → List ℕ → List ℕ → ℕ → Result V ReadError → Type 0
-IsRead g passed text rest after (Ok v) = g.ranged v × (text ≡ rows_text (g.rows v) ++ rest) × (after ≡ passed + length (g.rows v))
+IsRead g passed text rest after (Ok v) = g.ranged v × (text ≡ rows_text (g.rows v) ++ rest)
+    × (after ≡ passed + length (g.rows v))
 IsRead g passed text rest after (Err (errors.Fault f)) = IsFault g passed text f
 IsRead g passed text rest after (Err errors.Stopped) = Unit {0}
 

@@ -29,12 +29,19 @@ lifted_entry cycle earlier e = record { set = e.set; most = e.most; cycle = cycl
 
 -- a frame of a part, its cites raised
 abbrev pub lifted_frame : ℕ → OpenFrame → OpenFrame
-lifted_frame earlier f = record { set = f.set; most = f.most; mode = f.mode; last = f.last; cites = raised earlier f.cites }
+lifted_frame earlier f = record {
+  set = f.set;
+  most = f.most;
+  mode = f.mode;
+  last = f.last;
+  cites = raised earlier f.cites;
+}
 
 -- the entries of the parts in order, each at its part's cycle, cites raised by the number of entries of earlier parts
 abbrev pub lifted_entries : ℕ → List Part → List Entry
 lifted_entries earlier [] = []
-lifted_entries earlier (p ∷ ps) = map (lifted_entry p.cycle earlier) p.entries ++ lifted_entries (earlier + length p.entries) ps
+lifted_entries earlier (p ∷ ps) = map (lifted_entry p.cycle earlier) p.entries
+    ++ lifted_entries (earlier + length p.entries) ps
 
 -- frames at a cycle, or none
 abbrev pub trail_at : ℕ → List OpenFrame → Option Trail
@@ -46,10 +53,12 @@ abbrev pub trail_or : Option Trail → Option Trail → Option Trail
 trail_or None other = other
 trail_or (Some t) other = Some t
 
--- the trail of the first part that has one, at that part's cycle, cites raised by the number of entries of earlier parts
+-- the trail of the first part that has one, at that part's cycle, cites raised by the number of entries of earlier
+-- parts
 abbrev pub lifted_trail : ℕ → List Part → Option Trail
 lifted_trail earlier [] = None
-lifted_trail earlier (p ∷ ps) = trail_or (trail_at p.cycle (map (lifted_frame earlier) p.frames)) (lifted_trail (earlier + length p.entries) ps)
+lifted_trail earlier (p ∷ ps) = trail_or (trail_at p.cycle (map (lifted_frame earlier) p.frames))
+    (lifted_trail (earlier + length p.entries) ps)
 
 -- what is claimed, the parts as one list of entries with one trail
 abbrev pub lifted_claim : OldClaim → Claim

@@ -11,7 +11,8 @@ use Rattle.cert_lines.specs.declared.version_one.OldClaim.{OldClaim}
 use Rattle.cert_lines.specs.declared.version_one.OldClaim.TheVariants as claim
 use Rattle.cert_lines.specs.declared.version_one.OldCertificate.{OldCertificate}
 
--- a part: a cycle, at most 10,000,000 entries at that cycle, at most 1,024 frames; all cites are of the part's own entries
+-- a part: a cycle, at most 10,000,000 entries at that cycle, at most 1,024 frames; all cites are of the part's own
+-- entries
 pub record IsPart (n : ℕ) (p : Part) : Type 0 where
   pub cycle : IsCycle p.cycle
   pub many : length p.entries ≤ 10000000

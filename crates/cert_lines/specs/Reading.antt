@@ -1,5 +1,6 @@
 -- How words and lines are read. Numbers are read up to 2^64 - 1, which is above each range.
-use Rattle.std.specs.Prelude.{ℕ, zero, suc, ◌+◌, ◌-◌, ◌*◌, ◌/◌, ◌%◌, ◌^◌, min, Bool, true, false, cond, ◌&&◌, ◌||◌, not, nat_eq, nat_le, nat_lt, List, [], ◌∷◌, length, slice_set, Option, Some, None, replicate}
+use Rattle.std.specs.Prelude.{ℕ, zero, suc, ◌+◌, ◌-◌, ◌*◌, ◌/◌, ◌%◌, ◌^◌, min, Bool, true, false, cond, ◌&&◌, ◌||◌, not}
+use Rattle.std.specs.Prelude.{nat_eq, nat_le, nat_lt, List, [], ◌∷◌, length, slice_set, Option, Some, None, replicate}
 use Rattle.line_io.specs.Lines.{is_digit, all_digits, value_of, onto_first}
 use Rattle.line_rules.specs.declared.types.Mode.{Mode}
 use Rattle.line_rules.specs.declared.types.Mode.TheVariants.{Fore, Back, Both}
@@ -42,7 +43,8 @@ number_first bytes = do
 
 -- the mode of a letter
 abbrev pub mode_of_letter : ℕ → Option Mode
-mode_of_letter b = cond (nat_eq b 102) (Some Fore) (cond (nat_eq b 98) (Some Back) (cond (nat_eq b 117) (Some Both) None))
+mode_of_letter b = cond (nat_eq b 102) (Some Fore) (cond (nat_eq b 98) (Some Back)
+    (cond (nat_eq b 117) (Some Both) None))
 
 -- the mode that a word is
 unfoldable pub mode_in : List ℕ → Option Mode
@@ -100,7 +102,8 @@ with_task s i is_there = cond is_there (slice_set s i true) s
 
 -- the set with the tasks of a digit
 abbrev pub with_digit : List Bool → ℕ → ℕ → List Bool
-with_digit s k d = with_task (with_task (with_task (with_task s (4 * k) (bit_of d 0)) (4 * k + 1) (bit_of d 1)) (4 * k + 2) (bit_of d 2)) (4 * k + 3) (bit_of d 3)
+with_digit s k d = with_task (with_task (with_task (with_task s (4 * k) (bit_of d 0)) (4 * k + 1) (bit_of d 1))
+    (4 * k + 2) (bit_of d 2)) (4 * k + 3) (bit_of d 3)
 
 -- from the digit of number k on, each one is a digit and has no task past the n tasks
 unfoldable pub are_digits : ℕ → ℕ → List ℕ → Bool
@@ -114,4 +117,5 @@ with_digits s k (b ∷ word) = with_digits (with_digit s k (hex_value b)) (suc k
 
 -- the set of n tasks that a word is
 unfoldable pub set_in : ℕ → List ℕ → Option (List Bool)
-set_in n word = cond (nat_eq (length word) ((n + 3) / 4) && are_digits n 0 word) (Some (with_digits (replicate 1024 false) 0 word)) None
+set_in n word = cond (nat_eq (length word) ((n + 3) / 4) && are_digits n 0 word)
+    (Some (with_digits (replicate 1024 false) 0 word)) None

@@ -9,11 +9,11 @@ use Rattle.line_rules.specs.declared.types.Mode.{Mode}
 use Rattle.line_rules.specs.declared.types.Load.{Load}
 use Rattle.cert_lines.specs.Numbers.{number_text, set_text, cites_text, mode_letter, last_text}
 
--- What a line says, its numbers as they are written and of any size: a fixed text; a word and a number; a word and two numbers; a station,
--- and a side on a U-line;
--- an entry over so many tasks, with its cycle or without; the head of a trail, its number of frames and its cycle where it has frames; a frame;
--- an entry of a state, what is left and the starts, with its least value, and its cites where it branches; a frame of a state, with its need, its
--- last model where it has one, and its cites.
+-- What a line says, its numbers as they are written and of any size: a fixed text; a word and a number; a word and two
+-- numbers; a station, and a side on a U-line; an entry over so many tasks, with its cycle or without; the head of a
+-- trail, its number of frames and its cycle where it has frames; a frame; an entry of a state, what is left and the
+-- starts, with its least value, and its cites where it branches; a frame of a state, with its need, its last model
+-- where it has one, and its cites.
 pub data Row : Type 0 where
   fixed : List ℕ → Row
   keyed : List ℕ → ℕ → Row
@@ -27,8 +27,9 @@ pub data Row : Type 0 where
   state_entry : List ℕ → List ℕ → ℕ → Option (List ℕ) → Row
   state_frame : List ℕ → List ℕ → ℕ → Option ℕ → List ℕ → Row
 
--- the form of a line: a fixed text, a word before a number, a word before two, a place on such a line, an entry over so many tasks, the head of a trail, a
--- frame over so many tasks, an entry or a frame of a state of so many models and so many stations
+-- the form of a line: a fixed text, a word before a number, a word before two, a place on such a line, an entry over so
+-- many tasks, the head of a trail, a frame over so many tasks, an entry or a frame of a state of so many models and so
+-- many stations
 pub data Form : Type 0 where
   text : List ℕ → Form
   number : List ℕ → Form
@@ -100,15 +101,19 @@ row_text (span key v w) = spaced (key ∷ number_text v ∷ number_text w ∷ []
 row_text (seat kind station side) = spaced (seat_words kind station side)
 row_text (bound n c s m) = spaced (codes "bound" ∷ cycle_word c ++ (set_text n s ∷ number_text m ∷ []))
 row_text (branch n c mode s m cites) =
-    spaced (codes "branch" ∷ (mode_letter mode ∷ []) ∷ cycle_word c ++ (set_text n s ∷ number_text m ∷ cites_text cites ∷ []))
+    spaced (codes "branch" ∷ (mode_letter mode ∷ []) ∷ cycle_word c
+    ++ (set_text n s ∷ number_text m ∷ cites_text cites ∷ []))
 row_text (swap n c s m cite out into) =
-    spaced (codes "swap" ∷ cycle_word c ++ (set_text n s ∷ number_text m ∷ number_text cite ∷ number_text out ∷ number_text into ∷ []))
+    spaced (codes "swap" ∷ cycle_word c ++ (set_text n s ∷ number_text m ∷ number_text cite ∷ number_text
+    out ∷ number_text into ∷ []))
 row_text (trail t) = spaced (trail_words t)
 row_text (frame n mode s m last cites) =
-    spaced (codes "open" ∷ (mode_letter mode ∷ []) ∷ set_text n s ∷ number_text m ∷ last_text n mode last ∷ cites_text cites ∷ [])
+    spaced (codes "open" ∷ (mode_letter mode ∷ []) ∷ set_text n s ∷ number_text m ∷ last_text n mode last ∷ cites_text
+    cites ∷ [])
 row_text (state_entry rem starts least cites) = spaced (state_words rem starts least cites)
 row_text (state_frame rem starts need last cites) =
-    spaced (codes "open" ∷ cites_text rem ∷ cites_text starts ∷ number_text need ∷ number_or_none last ∷ cites_text cites ∷ [])
+    spaced (codes "open" ∷ cites_text rem ∷ cites_text starts ∷ number_text need ∷ number_or_none last ∷ cites_text
+    cites ∷ [])
 
 -- the text of lines, each with an LF at its end
 abbrev pub lines_text : List (List ℕ) → List ℕ

@@ -19,4 +19,5 @@ texts rows = map row_text rows
 
 -- lines begin with those of one value at most
 abbrev pub Unique : {V : Type 0} → Grammar V → Type 0
-Unique {V} g = (v w : V) → g.ranged v → g.ranged w → (x y : List (List ℕ)) → texts (g.rows v) ++ x ≡ texts (g.rows w) ++ y → (v ≡ w) × (x ≡ y)
+Unique {V} g = (v w : V) → g.ranged v → g.ranged w → (x y : List (List ℕ))
+    → texts (g.rows v) ++ x ≡ texts (g.rows w) ++ y → (v ≡ w) × (x ≡ y)

@@ -243,7 +243,8 @@ fn cycle_within(cycle: u64) -> Result<u64, LineError>
 
 // A number of stations within its range.
 fn stations_within(stations: u64) -> Result<u32, LineError>
-    ensures { MatchResult result (λ m. (m ≡ stations) × ((1 ≤ stations) × (stations ≤ 1024))) (λ e. (e ≡ Range) × ¬ ((1 ≤ stations) × (stations ≤ 1024))) }
+    ensures { MatchResult result (λ m. (m ≡ stations) × ((1 ≤ stations) × (stations ≤ 1024)))
+        (λ e. (e ≡ Range) × ¬ ((1 ≤ stations) × (stations ≤ 1024))) }
 {
     if stations < 1 {
         return Err(LineError::Range);
@@ -256,7 +257,8 @@ fn stations_within(stations: u64) -> Result<u32, LineError>
 
 // A task, counted from 1, within its range, as a task from 0.
 fn task_within(task: u64, tasks: u32) -> Result<u32, LineError>
-    ensures { MatchResult result (λ t. (t + 1 ≡ task) × (t < tasks)) (λ e. (e ≡ Range) × ¬ ((1 ≤ task) × (task ≤ tasks))) }
+    ensures { MatchResult result (λ t. (t + 1 ≡ task) × (t < tasks))
+        (λ e. (e ≡ Range) × ¬ ((1 ≤ task) × (task ≤ tasks))) }
 {
     if task < 1 {
         return Err(LineError::Range);
@@ -459,7 +461,8 @@ fn why_from(why: DraftWhy, tasks: u32, count: u64) -> Why
 
 // The entry of a line, where its numbers are within their ranges.
 fn entry_within(draft: Draft, tasks: u32, count: u64) -> Result<Entry, LineError>
-    ensures { MatchResult result (λ e. (e ≡ entry_of draft) × IsWithin tasks count draft) (λ e. (e ≡ Range) × ¬ IsWithin tasks count draft) }
+    ensures { MatchResult result (λ e. (e ≡ entry_of draft) × IsWithin tasks count draft)
+        (λ e. (e ≡ Range) × ¬ IsWithin tasks count draft) }
 {
     if !is_cycle(draft.cycle) {
         return Err(LineError::Range);
@@ -518,7 +521,8 @@ impl Pattern for EntryLine {
 
 // The frame of a line, where its numbers are within their ranges.
 fn frame_within(draft: FrameDraft, count: u64) -> Result<OpenFrame, LineError>
-    ensures { MatchResult result (λ f. (f ≡ frame_of draft) × IsFrameWithin count draft) (λ e. (e ≡ Range) × ¬ IsFrameWithin count draft) }
+    ensures { MatchResult result (λ f. (f ≡ frame_of draft) × IsFrameWithin count draft)
+        (λ e. (e ≡ Range) × ¬ IsFrameWithin count draft) }
 {
     if draft.most > 1024 {
         return Err(LineError::Range);

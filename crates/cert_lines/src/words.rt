@@ -1,6 +1,8 @@
 //! The reading of words: numbers, modes, cites and sets.
 ghost use Rattle.std.specs.Prelude.{◌≡◌, ◌≤◌, ◌<◌, ◌||◌, IfOk, option_map, true, cond, slice_set, nat_lt, not};
-ghost use Rattle.cert_lines.specs.Reading.{parts_at, number_in, number_first, mode_in, cites_in, numbers_in, pieces_at, set_in, is_hex as hex, hex_value as value, is_spare, with_digit, is_unplain as unplain, is_none as none};
+ghost use Rattle.cert_lines.specs.Reading.{parts_at, number_in, number_first, mode_in, cites_in, numbers_in, pieces_at};
+ghost use Rattle.cert_lines.specs.Reading.{set_in, is_hex as hex, hex_value as value, is_spare, with_digit};
+ghost use Rattle.cert_lines.specs.Reading.{is_unplain as unplain, is_none as none};
 
 use line_rules::{Cites, Mode};
 use std::alloc::{AllocError, Global};

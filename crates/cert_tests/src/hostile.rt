@@ -1,6 +1,6 @@
-//! Lines that no text has, one by one: each member missing, doubled, one past its range, with a leading zero, with a blank more, with a
-//! capital digit of a set, with a bit past the tasks; each with the fault that the format gives it. A row is the number of lines before the
-//! line, the line, and the kind of its fault.
+//! Lines that no text has, one by one: each member missing, doubled, one past its range, with a leading zero, with a
+//! blank more, with a capital digit of a set, with a bit past the tasks; each with the fault that the format gives it.
+//! A row is the number of lines before the line, the line, and the kind of its fault.
 use crate::texts::{V5, V6, answer, text_with};
 use crate::versions::V1;
 use std::alloc::{AllocError, Global};

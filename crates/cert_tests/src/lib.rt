@@ -1,5 +1,5 @@
-//! Tests of certificates: their ranges, their lines and texts of both versions, what is read from memory and from a file, and
-//! the fault that each spoilt line has.
+//! Tests of certificates: their ranges, their lines and texts of both versions, what is read from memory and from a
+//! file, and the fault that each spoilt line has.
 #![tactic(auto)]
 
 #[cfg(test)]

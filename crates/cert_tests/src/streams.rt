@@ -1,4 +1,5 @@
-//! What no clause says: that texts are written and read where there is memory and no call fails, and how many calls are made.
+//! What no clause says: that texts are written and read where there is memory and no call fails, and how many calls are
+//! made.
 ghost use Rattle.std.specs.Prelude.{◌<◌, ℕ, IsTrue};
 ghost use Rattle.std.specs.List.{Contains};
 ghost use Rattle.line_rules.specs.Entries.{HasAnswer};
@@ -109,8 +110,8 @@ fn a_text_is_too_long_before_it_is_at_fault(rt: HostRuntime) -> Result<(), Fail>
     Ok(())
 }
 
-/// How the file `f`, which has this text, is written into the file `g` where a call fails and keeps so many bytes, how many
-/// `g` has then, and whether the text begins with them.
+/// How the file `f`, which has this text, is written into the file `g` where a call fails and keeps so many bytes, how
+/// many `g` has then, and whether the text begins with them.
 fn copied_torn(
     alloc: Global,
     shelf: &mut MemShelf,

@@ -1,5 +1,6 @@
 -- What reading a certificate's text answers.
-use Rattle.std.specs.Prelude.{◌≡◌, ◌⊎◌, ℕ, suc, ◌<◌, ◌≤◌, ◌+◌, ◌-◌, List, [], ◌++◌, length, drop, Option, Result, Ok, Err}
+use Rattle.std.specs.Prelude.{◌≡◌, ◌⊎◌, ℕ, suc, ◌<◌, ◌≤◌, ◌+◌, ◌-◌, List, [], ◌++◌, length, drop, Option, Result, Ok}
+use Rattle.std.specs.Prelude.{Err}
 use Rattle.line_rules.specs.Ranges.{IsInRange, AreEntries, IsTrailOrNone}
 use Rattle.line_rules.specs.declared.types.Certificate.{Certificate}
 use Rattle.cert_lines.specs.Lift.{lift}
@@ -23,9 +24,11 @@ use Rattle.cert_text.specs.declared.reader.ListRead.TheVariants as lists
 use Rattle.cert_text.specs.declared.reader.CertRead.{CertRead}
 use Rattle.cert_text.specs.declared.reader.CertRead.TheVariants.{Good, Fault, NoMemory}
 
--- The lines of a certificate of either version are read: it is the one that they say, or its lift; or they have a fault.
+-- The lines of a certificate of either version are read: it is the one that they say, or its lift; or they have a
+-- fault.
 abbrev pub IsAnyRead : ℕ → List ℕ → List ℕ → ℕ → Result Certificate ReadError → Type 0
-IsAnyRead passed text rest after (Ok cert) = (x : AnyCertificate) × (cert ≡ lifted x) × IsRead both passed text rest after (Ok x)
+IsAnyRead passed text rest after (Ok cert) = (x : AnyCertificate) × (cert ≡ lifted x)
+    × IsRead both passed text rest after (Ok x)
 IsAnyRead passed text rest after (Err error) = IsRead both passed text rest after (Err error)
 
 -- a whole text of a certificate of either version, and a byte behind it: the fault is of that byte's line
@@ -38,13 +41,16 @@ pub record IsTrailing (bytes : List ℕ) (f : CertFault) : Type 0 where
   pub line : f.line ≡ suc (length (any_rows whole))
   pub kind : f.kind ≡ Trailing
 
--- the fault of a text: its first line that no certificate's text passes, of either version, or its end, or a byte behind the last line
+-- the fault of a text: its first line that no certificate's text passes, of either version, or its end, or a byte
+-- behind the last line
 abbrev pub IsCertFault : List ℕ → CertFault → Type 0
 IsCertFault bytes f = IsFault both 0 bytes f ⊎ IsTrailing bytes f
 
--- the certificate within its ranges whose one text the bytes are, or the lift of one of version 1 whose one text they are
+-- the certificate within its ranges whose one text the bytes are, or the lift of one of version 1 whose one text they
+-- are
 abbrev pub IsSaidBy : List ℕ → Certificate → Type 0
-IsSaidBy bytes cert = (IsInRange cert × (bytes ≡ cert_text cert)) ⊎ ((old : OldCertificate) × IsOldInRange old × (bytes ≡ old_text old) × (cert ≡ lift old))
+IsSaidBy bytes cert = (IsInRange cert × (bytes ≡ cert_text cert))
+    ⊎ ((old : OldCertificate) × IsOldInRange old × (bytes ≡ old_text old) × (cert ≡ lift old))
 
 -- Each answer with its cause: the certificate that the bytes say, or the text's first fault.
 abbrev pub IsCertRead : List ℕ → CertRead → Type 0
@@ -58,8 +64,10 @@ IsEnded cert left number (Good c) = (c ≡ cert) × (left ≡ [])
 IsEnded cert left number (Fault f) = (0 < length left) × (f ≡ record { line = suc number; kind = Trailing })
 IsEnded cert left number NoMemory = Unit {0}
 
--- entries and a trail that were read from a place of a text on, whose first line has this number: where the text goes on, and the number of the line there
-pub record IsListGood (bytes : List ℕ) (from line n : ℕ) (es : List Entry) (left : Option Trail) (next after : ℕ) : Type 0 where
+-- entries and a trail that were read from a place of a text on, whose first line has this number: where the text goes
+-- on, and the number of the line there
+pub record IsListGood (bytes : List ℕ) (from line n : ℕ) (es : List Entry) (left : Option Trail)
+    (next after : ℕ) : Type 0 where
   pub entries : AreEntries n es
   pub trail : IsTrailOrNone n (length es) left
   pub within : next ≤ length bytes
@@ -74,6 +82,7 @@ IsListRead bytes from line n lists.NoMemory = Unit {0}
 
 -- what was read, and what is left, decide the answer
 abbrev pub IsListed : EntryList → List ℕ → List ℕ → ℕ → ListRead → Type 0
-IsListed list bytes left number (lists.Good es t next after) = (es ≡ list.entries) × (t ≡ list.trail) × (next ≡ length bytes - length left) × (after ≡ number + 1)
+IsListed list bytes left number (lists.Good es t next after) = (es ≡ list.entries) × (t ≡ list.trail)
+    × (next ≡ length bytes - length left) × (after ≡ number + 1)
 IsListed list bytes left number (lists.Fault f) = ⊥
 IsListed list bytes left number lists.NoMemory = Unit {0}

@@ -23,7 +23,8 @@ list_rows n es left = keyed (codes "entries") (length es) ∷ (map (entry_row n)
 -- the lines of bounds, up to the places
 abbrev pub bounds_rows : LineKind → ℕ → ℕ → Assignment → List Row
 bounds_rows kind lower upper b =
-    keyed (codes "lower") lower ∷ keyed (codes "upper") upper ∷ keyed (codes "balance") b.stations ∷ map (seat_row kind) b.place
+    keyed (codes "lower") lower ∷ keyed (codes "upper") upper ∷ keyed (codes "balance") b.stations ∷ map (seat_row kind)
+    b.place
 
 -- the lines of a claim that a task is too long
 abbrev pub infeasible_rows : ℕ → List Row
@@ -32,7 +33,8 @@ infeasible_rows task = keyed (codes "infeasible") (suc task) ∷ fixed (codes "e
 -- the lines of a claim
 abbrev pub claim_rows : LineKind → ℕ → Claim → List Row
 claim_rows kind n (claim.TooLong task) = infeasible_rows task
-claim_rows kind n (claim.Bounds lower upper b es left) = bounds_rows kind lower upper b ++ (list_rows n es left ++ fixed (codes "end") ∷ [])
+claim_rows kind n (claim.Bounds lower upper b es left) = bounds_rows kind lower upper b
+    ++ (list_rows n es left ++ fixed (codes "end") ∷ [])
 
 -- the lines of the kind of line, the number of tasks and the question
 abbrev pub head_rows : LineKind → ℕ → Ask → List Row
@@ -40,7 +42,8 @@ head_rows kind n a = kind_row kind ∷ keyed (codes "tasks") n ∷ ask_row a ∷
 
 -- The lines of a certificate in version 2.
 unfoldable pub cert_rows : Certificate → List Row
-cert_rows cert = fixed (codes "line balance certificate 2") ∷ (head_rows cert.kind cert.tasks cert.ask ++ claim_rows cert.kind cert.tasks cert.claim)
+cert_rows cert = fixed (codes "line balance certificate 2") ∷ (head_rows cert.kind cert.tasks cert.ask
+    ++ claim_rows cert.kind cert.tasks cert.claim)
 
 -- The text of a certificate.
 abbrev pub cert_text : Certificate → List ℕ

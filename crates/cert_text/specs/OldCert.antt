@@ -21,7 +21,8 @@ old_trail_rows n fs = keyed (codes "trail") (length fs) ∷ map (frame_row n) fs
 
 -- the lines of a part: its cycle, its entries, its frames
 abbrev pub part_rows : ℕ → Part → List Row
-part_rows n p = keyed (codes "part") p.cycle ∷ keyed (codes "entries") (length p.entries) ∷ (map (short_row n) p.entries ++ old_trail_rows n p.frames)
+part_rows n p = keyed (codes "part") p.cycle ∷ keyed (codes "entries")
+    (length p.entries) ∷ (map (short_row n) p.entries ++ old_trail_rows n p.frames)
 
 -- the lines of parts, one behind the other
 abbrev pub parts_rows : ℕ → List Part → List Row
@@ -35,11 +36,13 @@ counted_rows n ps = keyed (codes "parts") (length ps) ∷ parts_rows n ps
 -- the lines of a claim
 abbrev pub old_claim_rows : LineKind → ℕ → OldClaim → List Row
 old_claim_rows kind n (claim.TooLong task) = infeasible_rows task
-old_claim_rows kind n (claim.Bounds lower upper b ps) = bounds_rows kind lower upper b ++ (counted_rows n ps ++ fixed (codes "end") ∷ [])
+old_claim_rows kind n (claim.Bounds lower upper b ps) = bounds_rows kind lower upper b
+    ++ (counted_rows n ps ++ fixed (codes "end") ∷ [])
 
 -- The lines of a certificate in version 1.
 unfoldable pub old_rows : OldCertificate → List Row
-old_rows old = fixed (codes "line balance certificate 1") ∷ (head_rows old.kind old.tasks old.ask ++ old_claim_rows old.kind old.tasks old.claim)
+old_rows old = fixed (codes "line balance certificate 1") ∷ (head_rows old.kind old.tasks old.ask
+    ++ old_claim_rows old.kind old.tasks old.claim)
 
 -- The text of a certificate of version 1.
 abbrev pub old_text : OldCertificate → List ℕ

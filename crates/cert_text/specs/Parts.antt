@@ -38,11 +38,17 @@ trails n count = record { rows = trail_rows n; ranged = IsTrailOrNone n count }
 
 -- entries and a trail
 abbrev pub lists : ℕ → Grammar EntryList
-lists n = record { rows = λ x. list_rows n x.entries x.trail; ranged = λ x. AreEntries n x.entries × IsTrailOrNone n (length x.entries) x.trail }
+lists n = record {
+  rows = λ x. list_rows n x.entries x.trail;
+  ranged = λ x. AreEntries n x.entries × IsTrailOrNone n (length x.entries) x.trail;
+}
 
 -- a balance: its stations, and a place for each of n tasks
 abbrev pub seatings : LineKind → ℕ → Grammar Assignment
-seatings kind n = record { rows = λ b. keyed (codes "balance") b.stations ∷ map (seat_row kind) b.place; ranged = IsPlacing kind n }
+seatings kind n = record {
+  rows = λ b. keyed (codes "balance") b.stations ∷ map (seat_row kind) b.place;
+  ranged = IsPlacing kind n;
+}
 
 -- the bounds behind the lower one, up to the places
 pub record IsPlacedOf (kind : LineKind) (n : ℕ) (p : Placed) : Type 0 where
@@ -51,7 +57,8 @@ pub record IsPlacedOf (kind : LineKind) (n : ℕ) (p : Placed) : Type 0 where
 
 abbrev pub placings : LineKind → ℕ → Grammar Placed
 placings kind n = record {
-  rows = λ p. keyed (codes "upper") p.upper ∷ keyed (codes "balance") p.balance.stations ∷ map (seat_row kind) p.balance.place;
+  rows = λ p. keyed (codes "upper") p.upper ∷ keyed (codes "balance") p.balance.stations ∷ map (seat_row kind)
+      p.balance.place;
   ranged = IsPlacedOf kind n;
 }
 
@@ -59,10 +66,12 @@ placings kind n = record {
 abbrev pub behind_rows : Head → AnyClaim → List Row
 behind_rows h (any.New (claim.TooLong task)) = fixed (codes "end") ∷ []
 behind_rows h (any.New (claim.Bounds lower upper b es t)) =
-    (keyed (codes "upper") upper ∷ keyed (codes "balance") b.stations ∷ map (seat_row h.kind) b.place) ++ (list_rows h.tasks es t ++ fixed (codes "end") ∷ [])
+    (keyed (codes "upper") upper ∷ keyed (codes "balance") b.stations ∷ map (seat_row h.kind) b.place)
+    ++ (list_rows h.tasks es t ++ fixed (codes "end") ∷ [])
 behind_rows h (any.Old (old.TooLong task)) = fixed (codes "end") ∷ []
 behind_rows h (any.Old (old.Bounds lower upper b ps)) =
-    (keyed (codes "upper") upper ∷ keyed (codes "balance") b.stations ∷ map (seat_row h.kind) b.place) ++ (counted_rows h.tasks ps ++ fixed (codes "end") ∷ [])
+    (keyed (codes "upper") upper ∷ keyed (codes "balance") b.stations ∷ map (seat_row h.kind) b.place)
+    ++ (counted_rows h.tasks ps ++ fixed (codes "end") ∷ [])
 
 -- the first line of a claim
 abbrev pub opening_of : AnyClaim → Opening
@@ -74,7 +83,8 @@ opening_of (any.Old (old.Bounds lower upper b ps)) = opening.Lower lower
 -- a claim of a version, behind a head: a task too long, which both versions say alike, or bounds
 abbrev pub IsClaimOf : Version → Head → AnyClaim → Type 0
 IsClaimOf v h (any.New (claim.TooLong task)) = NamesCycle h.ask × (task < h.tasks)
-IsClaimOf v h (any.New (claim.Bounds lower upper b es t)) = (v ≡ version.Two) × AreBounds h.kind h.tasks lower upper b es t
+IsClaimOf v h (any.New (claim.Bounds lower upper b es t)) = (v ≡ version.Two)
+    × AreBounds h.kind h.tasks lower upper b es t
 IsClaimOf v h (any.Old (old.TooLong task)) = ⊥
 IsClaimOf v h (any.Old (old.Bounds lower upper b ps)) = (v ≡ version.One) × AreOldBounds h.kind h.tasks lower upper b ps
 

@@ -43,7 +43,13 @@ impl Output for KeptText {
     ghost Base = { Unit {0} };
 
     // There is no outside; its count stands where it can't rise.
-    ghost sent = { λ s. record { good = not s.failed; shown = s.bytes.items; kept = []; faults = 2 ^ 64 - 1; base = tt } };
+    ghost sent = { λ s. record {
+      good = not s.failed;
+      shown = s.bytes.items;
+      kept = [];
+      faults = 2 ^ 64 - 1;
+      base = tt;
+    } };
 
     #[inline]
     fn put(&mut self, byte: u8) {

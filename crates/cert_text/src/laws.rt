@@ -1,7 +1,8 @@
 //! What is true of all texts of certificates, for the crates above to cite.
 ghost use Rattle.cert_text.specs.Laws.{NoTextBeginsAnother};
 
-/// No text of a certificate, of either version, begins that of another: two certificates within their ranges whose texts are equal are equal.
+/// No text of a certificate, of either version, begins that of another: two certificates within their ranges whose
+/// texts are equal are equal.
 pub fn no_text_begins_another()
     ensures { NoTextBeginsAnother }
 {}

@@ -33,8 +33,10 @@ pub enum CertRead {
 pub fn read_cert(alloc: Global, bytes: &[u8]) -> CertRead
     ensures read { IsCertRead bytes.now result }
     ensures within { (cert : Certificate) → result ≡ CertRead.Good cert → IsInRange cert }
-    ensures none { (fault : CertFault) → result ≡ CertRead.Fault fault → (cert : Certificate) → IsInRange cert → bytes.now ≢ cert_text cert }
-    ensures none_old { (fault : CertFault) → result ≡ CertRead.Fault fault → (old : OldCertificate) → IsOldInRange old → bytes.now ≢ old_text old }
+    ensures none { (fault : CertFault) → result ≡ CertRead.Fault fault → (cert : Certificate) → IsInRange cert
+        → bytes.now ≢ cert_text cert }
+    ensures none_old { (fault : CertFault) → result ≡ CertRead.Fault fault → (old : OldCertificate) → IsOldInRange old
+        → bytes.now ≢ old_text old }
 {
     let mut lines = SliceLines::new(bytes);
     match read_all(alloc, &mut lines) {
@@ -81,15 +83,17 @@ pub enum ListRead {
     NoMemory,
 }
 
-/// Reads entries and a trail over so many tasks, from the line of the number of entries to the last frame. They begin at the place `from` of
-/// the bytes, where the line of number `line` begins.
+/// Reads entries and a trail over so many tasks, from the line of the number of entries to the last frame. They begin
+/// at the place `from` of the bytes, where the line of number `line` begins.
 pub fn read_list(alloc: Global, bytes: &[u8], from: usize, line: u64, tasks: u32) -> ListRead
     requires within { from ≤ length bytes.now }
     requires first { 1 ≤ line }
     requires some { 1 ≤ tasks }
     requires few { tasks ≤ 1024 }
     ensures read { IsListRead bytes.now from line tasks result }
-    ensures none { (fault : CertFault) → result ≡ ListRead.Fault fault → (es : List Entry) (t : Option Trail) (rest : List ℕ) → AreEntries tasks es → IsTrailOrNone tasks (length es) t → drop from bytes.now ≢ rows_text (list_rows tasks es t) ++ rest }
+    ensures none { (fault : CertFault) → result ≡ ListRead.Fault fault
+        → (es : List Entry) (t : Option Trail) (rest : List ℕ) → AreEntries tasks es → IsTrailOrNone tasks (length es) t
+        → drop from bytes.now ≢ rows_text (list_rows tasks es t) ++ rest }
 {
     let mut lines = SliceLines::behind(&bytes[from..], line - 1);
     match read_entries(alloc, &mut lines, tasks) {

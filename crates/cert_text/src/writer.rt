@@ -19,7 +19,8 @@ pub fn write_cert(alloc: Global, cert: &Certificate) -> Result<Vec<u8>, AllocErr
     text.finish()
 }
 
-/// The text of entries and a trail over so many tasks, from the number of entries to the last frame. An error where memory is wanting.
+/// The text of entries and a trail over so many tasks, from the number of entries to the last frame. An error where
+/// memory is wanting.
 pub fn write_list(
     alloc: Global,
     entries: &Entries,

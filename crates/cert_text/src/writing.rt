@@ -1,6 +1,7 @@
 //! The writing of numbers, sets, cites and loads.
 ghost use Rattle.std.specs.Prelude.{◌≡◌, ◌≤◌, ◌<◌, ◌∷◌, []};
-ghost use Rattle.cert_lines.specs.Numbers.{number_text, set_text, cites_text, mode_letter, load_text, last_text, four, member, hex_digit};
+ghost use Rattle.cert_lines.specs.Numbers.{number_text, set_text, cites_text, mode_letter, load_text, last_text, four};
+ghost use Rattle.cert_lines.specs.Numbers.{member, hex_digit};
 ghost use Rattle.cert_text.specs.Sent.{Puts};
 
 use crate::output::Output;

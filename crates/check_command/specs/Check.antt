@@ -11,9 +11,10 @@ use Rattle.input_files.specs.Instance.{IsLineOf, IsNoLine}
 use Rattle.input_files.specs.Certificate.{IsCertificateOf, IsNoCertificate}
 use Rattle.check_command.specs.VerdictText.{verdict_text, verdict_status}
 
--- The certificate that one file says is checked for the line that the other files say: the verdict is exact, what is accepted is true, and the
--- outcome tells the verdict.
-pub record IsChecked (files : Files) (name proof : List ℕ) (apart : Option (List ℕ)) (steps : ℕ) (out : Outcome) : Type 0 where
+-- The certificate that one file says is checked for the line that the other files say: the verdict is exact, what is
+-- accepted is true, and the outcome tells the verdict.
+pub record IsChecked (files : Files) (name proof : List ℕ) (apart : Option (List ℕ)) (steps : ℕ)
+    (out : Outcome) : Type 0 where
   pub line : Line
   pub cert : Certificate
   pub found : Verified
@@ -31,12 +32,14 @@ pub record IsUnproved (o : Outside) (name proof : List ℕ) (apart : Option (Lis
   pub said : IsLineOf o.files name apart line
   pub unread : IsNoCertificate o proof out
 
--- What `check` comes to: a verdict, or why the files say no line, or no certificate. A later file is named only where the earlier ones were read.
+-- What `check` comes to: a verdict, or why the files say no line, or no certificate. A later file is named only where
+-- the earlier ones were read.
 abbrev pub IsCheckOutcome : Outside → List ℕ → List ℕ → Option (List ℕ) → ℕ → Outcome → Type 0
-IsCheckOutcome o name proof apart steps out = IsChecked o.files name proof apart steps out ⊎ IsNoLine o name apart out ⊎ IsUnproved o name proof apart out
+IsCheckOutcome o name proof apart steps out = IsChecked o.files name proof apart steps out ⊎ IsNoLine o name apart out
+    ⊎ IsUnproved o name proof apart out
 
--- The certificate of one file is accepted for the line that the other files say, and what it claims is true: there is a balance at its upper
--- bound and none below the lower one, or there is none in any number of stations.
+-- The certificate of one file is accepted for the line that the other files say, and what it claims is true: there is a
+-- balance at its upper bound and none below the lower one, or there is none in any number of stations.
 pub record IsProvedTrue (files : Files) (name proof : List ℕ) (apart : Option (List ℕ)) (steps : ℕ) : Type 0 where
   pub line : Line
   pub cert : Certificate

@@ -90,23 +90,29 @@ two_text a b = decimal a ++ codes " " ++ decimal b
 -- where a certificate is refused, with the values; tasks are counted from 1, entries and frames from 0
 abbrev pub place_text : Certificate → Place → List ℕ
 place_text cert (place.Tasks said real) = codes "tasks " ++ two_text said real
-place_text cert (place.Infeasible task time) = codes "infeasible " ++ decimal (task + 1) ++ codes " time " ++ decimal time
-place_text cert (place.Earlier task least) = codes "infeasible " ++ decimal (task + 1) ++ codes " earlier " ++ decimal (least + 1)
+place_text cert (place.Infeasible task time) = codes "infeasible " ++ decimal (task + 1) ++ codes " time "
+    ++ decimal time
+place_text cert (place.Earlier task least) = codes "infeasible " ++ decimal (task + 1) ++ codes " earlier "
+    ++ decimal (least + 1)
 place_text cert (place.Stations stations) = codes "balance stations " ++ decimal stations
 place_text cert (place.Station task) = codes "balance station " ++ decimal (task + 1)
 place_text cert (place.Side task) = codes "balance side " ++ decimal (task + 1)
 place_text cert (place.Overfull station time) = codes "balance overfull " ++ two_text station time
 place_text cert (place.Broken i j) = codes "balance broken " ++ two_text (i + 1) (j + 1)
 place_text cert (place.Together i j) = codes "balance together " ++ two_text (i + 1) (j + 1)
-place_text cert (place.Entry k why) = codes "entry " ++ decimal k ++ entry_fault_text cert.tasks (mode_at_entry cert.claim k) why
+place_text cert (place.Entry k why) = codes "entry " ++ decimal k
+    ++ entry_fault_text cert.tasks (mode_at_entry cert.claim k) why
 place_text cert place.Goal = codes "goal"
-place_text cert (place.Frame j why) = codes "frame " ++ decimal j ++ frame_fault_text cert.tasks (mode_at_frame cert.claim j) why
+place_text cert (place.Frame j why) = codes "frame " ++ decimal j
+    ++ frame_fault_text cert.tasks (mode_at_frame cert.claim j) why
 
 -- what was found of a certificate
 abbrev pub found_text : Certificate → Verified → List ℕ
 found_text cert (verified.Accepted lower upper units) =
-    codes "accepted " ++ kind_text cert.kind ++ codes " " ++ ask_text cert.ask ++ codes " lower " ++ decimal lower ++ codes " upper " ++ decimal upper ++ codes " units " ++ decimal units
-found_text cert (verified.TooLong task) = codes "accepted " ++ kind_text cert.kind ++ codes " " ++ ask_text cert.ask ++ codes " infeasible " ++ decimal (task + 1)
+    codes "accepted " ++ kind_text cert.kind ++ codes " " ++ ask_text cert.ask ++ codes " lower " ++ decimal lower
+    ++ codes " upper " ++ decimal upper ++ codes " units " ++ decimal units
+found_text cert (verified.TooLong task) = codes "accepted " ++ kind_text cert.kind ++ codes " " ++ ask_text cert.ask
+    ++ codes " infeasible " ++ decimal (task + 1)
 found_text cert (verified.Refused at) = codes "refused: " ++ place_text cert at
 found_text cert (verified.StepsEnded steps) = codes "steps ended at " ++ decimal steps
 

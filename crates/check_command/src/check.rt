@@ -20,7 +20,8 @@ use std::alloc::Global;
 use std::thread::Threads;
 use wide_check::{Wide, verify_wide};
 
-/// What the check of a certificate finds: with its entries side by side or, where there is no memory for that, in order.
+/// What the check of a certificate finds: with its entries side by side or, where there is no memory for that, in
+/// order.
 fn verdict_of<R: Threads + Sync>(
     rt: &R,
     alloc: Global,
@@ -41,8 +42,8 @@ fn verdict_of<R: Threads + Sync>(
     }
 }
 
-/// The report of `check` for the file of an instance, that of a certificate, and that of the tasks that are apart, where there is one, in
-/// at most so many steps.
+/// The report of `check` for the file of an instance, that of a certificate, and that of the tasks that are apart,
+/// where there is one, in at most so many steps.
 pub fn check_report<R: Threads + Sync, S: Shelf>(
     rt: &R,
     alloc: Global,
@@ -53,10 +54,13 @@ pub fn check_report<R: Threads + Sync, S: Shelf>(
     shelf: &mut S,
 ) -> Result<Report, Stop>
     requires { IsBetween 1 20000000 steps }
-    ensures ends { S.tells → Ends (outside (S.file shelf.old) (S.blames shelf.new)) (IsCheckOutcome (outside (S.file shelf.old) (S.blames shelf.new)) file.now proof.now (option_map (λ a. a.now) apart.entry) steps) (S.file shelf.new) result }
+    ensures ends { S.tells → Ends (outside (S.file shelf.old) (S.blames shelf.new))
+        (IsCheckOutcome (outside (S.file shelf.old) (S.blames shelf.new)) file.now proof.now
+        (option_map (λ a. a.now) apart.entry) steps) (S.file shelf.new) result }
     ensures good { IfOk result (λ r. IsVerdictStatus r.status) }
     ensures kept { IfOk result (λ r. r.kept ≡ Nothing) }
-    ensures true_bounds { S.tells → IfOk result (λ r. r.status ≡ ends.Done → IsProvedTrue (S.file shelf.old) file.now proof.now (option_map (λ a. a.now) apart.entry) steps) }
+    ensures true_bounds { S.tells → IfOk result (λ r. r.status ≡ ends.Done
+        → IsProvedTrue (S.file shelf.old) file.now proof.now (option_map (λ a. a.now) apart.entry) steps) }
     ensures fault { MatchResult result (λ _. Unit {0}) (MayStop (Rises (S.faults shelf.old) (S.faults shelf.new))) }
     ensures files { S.tells → (q : List ℕ) → S.file shelf.new q ≡ S.file shelf.old q }
 {

@@ -1,8 +1,11 @@
-//! The line that is printed of the check of a certificate: what is accepted, or the first check that fails with its values.
+//! The line that is printed of the check of a certificate: what is accepted, or the first check that fails with its
+//! values.
 ghost use Rattle.std.specs.Prelude.{◌≡◌, ◌++◌, ◌+◌, ◌≤◌, ◌<◌, ◌^◌, IfOk, OnOk, slice_get, string_bytes, codes, decimal};
 ghost use Rattle.cert_lines.specs.Numbers.{load_text};
 ghost use Rattle.command_outcome.specs.declared.report.Kept.TheVariants.{Nothing};
-ghost use Rattle.check_command.specs.VerdictText.{ask_text, entry_fault_text, entry_mode, found_text, frame_fault_text, frame_mode, frame_of, kind_text, mode_at_entry, mode_at_frame, place_text, two_text, verdict_status, verdict_text};
+ghost use Rattle.check_command.specs.VerdictText.{ask_text, entry_fault_text, entry_mode, found_text, frame_fault_text};
+ghost use Rattle.check_command.specs.VerdictText.{frame_mode, frame_of, kind_text, mode_at_entry, mode_at_frame};
+ghost use Rattle.check_command.specs.VerdictText.{place_text, two_text, verdict_status, verdict_text};
 
 use cert_text::{KeptText, put_load};
 use command_outcome::{Report, Status, push_number, push_one};
@@ -51,7 +54,8 @@ pub fn push_pair(text: &mut String, front: &str, i: u32, j: u32) -> Result<(), A
 
 /// A task that is said to be too long, and a number behind a word.
 fn push_infeasible(text: &mut String, task: u32, word: &str, n: u64) -> Result<(), AllocError>
-    ensures { OnOk result (string_bytes text.new ≡ string_bytes text.old ++ (codes "infeasible " ++ decimal (task + 1) ++ word.now ++ decimal n)) }
+    ensures { OnOk result (string_bytes text.new ≡ string_bytes text.old
+        ++ (codes "infeasible " ++ decimal (task + 1) ++ word.now ++ decimal n)) }
 {
     push_task(text, "infeasible ", task)?;
     push_one(text, word, n)?;
@@ -67,7 +71,8 @@ fn push_uncovered(
     load: &Load,
 ) -> Result<(), AllocError>
     requires { tasks ≤ 1024 }
-    ensures { OnOk result (string_bytes text.new ≡ string_bytes text.old ++ (codes " uncovered " ++ load_text tasks mode load.now)) }
+    ensures { OnOk result (string_bytes text.new ≡ string_bytes text.old
+        ++ (codes " uncovered " ++ load_text tasks mode load.now)) }
 {
     let load = load_text(alloc, tasks, mode, load)?;
     text.push_str(" uncovered ")?;
@@ -217,7 +222,8 @@ fn push_place(
 
 /// The kind of line and the question of a certificate.
 fn push_question(text: &mut String, kind: LineKind, ask: Ask) -> Result<(), AllocError>
-    ensures { OnOk result (string_bytes text.new ≡ string_bytes text.old ++ (codes "accepted " ++ kind_text kind ++ codes " " ++ ask_text ask)) }
+    ensures { OnOk result (string_bytes text.new ≡ string_bytes text.old
+        ++ (codes "accepted " ++ kind_text kind ++ codes " " ++ ask_text ask)) }
 {
     text.push_str("accepted ")?;
     match kind {
@@ -238,7 +244,9 @@ fn push_accepted(
     upper: u64,
     units: u64,
 ) -> Result<(), AllocError>
-    ensures { OnOk result (string_bytes text.new ≡ string_bytes text.old ++ (codes "accepted " ++ kind_text cert.now.kind ++ codes " " ++ ask_text cert.now.ask ++ codes " lower " ++ decimal lower ++ codes " upper " ++ decimal upper ++ codes " units " ++ decimal units)) }
+    ensures { OnOk result (string_bytes text.new ≡ string_bytes text.old
+        ++ (codes "accepted " ++ kind_text cert.now.kind ++ codes " " ++ ask_text cert.now.ask ++ codes " lower "
+        ++ decimal lower ++ codes " upper " ++ decimal upper ++ codes " units " ++ decimal units)) }
 {
     push_question(text, cert.kind, cert.ask)?;
     push_one(text, " lower ", lower)?;
@@ -249,7 +257,9 @@ fn push_accepted(
 
 /// A task that is accepted as too long.
 fn push_too_long(text: &mut String, cert: &Certificate, task: u32) -> Result<(), AllocError>
-    ensures { OnOk result (string_bytes text.new ≡ string_bytes text.old ++ (codes "accepted " ++ kind_text cert.now.kind ++ codes " " ++ ask_text cert.now.ask ++ codes " infeasible " ++ decimal (task + 1))) }
+    ensures { OnOk result (string_bytes text.new ≡ string_bytes text.old
+        ++ (codes "accepted " ++ kind_text cert.now.kind ++ codes " " ++ ask_text cert.now.ask ++ codes " infeasible "
+        ++ decimal (task + 1))) }
 {
     push_question(text, cert.kind, cert.ask)?;
     push_task(text, " infeasible ", task)?;
@@ -264,7 +274,8 @@ fn push_refused(
     place: &Place,
 ) -> Result<(), AllocError>
     requires { cert.now.tasks ≤ 1024 }
-    ensures { OnOk result (string_bytes text.new ≡ string_bytes text.old ++ (codes "refused: " ++ place_text cert.now place.now)) }
+    ensures { OnOk result (string_bytes text.new ≡ string_bytes text.old
+        ++ (codes "refused: " ++ place_text cert.now place.now)) }
 {
     text.push_str("refused: ")?;
     push_place(alloc, text, cert, place)?;

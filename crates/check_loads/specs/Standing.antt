@@ -25,8 +25,8 @@ end_of Back w = w.back
 abbrev pub last_of : Walk → Option Load
 last_of w = cond w.given (Some (stand w)) None
 
--- A walk over the loads of R: it has come to one of them, or is before the first; the sum is that load's total time; and with the tasks of
--- each side stand those that are free to join it, for each side that the loads fill.
+-- A walk over the loads of R: it has come to one of them, or is before the first; the sum is that load's total time;
+-- and with the tasks of each side stand those that are free to join it, for each side that the loads fill.
 pub record IsWalk (line : Line) (c : ℕ) (mode : Mode) (R : List Bool) (w : Walk) : Type 0 where
   pub load : w.given ≡ true → IsLoad line c mode R (stand w)
   pub nothing : w.given ≡ false → stand w ≡ nothing_yet

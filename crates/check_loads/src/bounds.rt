@@ -13,10 +13,11 @@ use task_set::TaskSet;
 /// The bound of a set with a task longer than the cycle: more stations than any line has tasks.
 pub const TOO_LONG: u32 = 1025;
 
-/// Whether the bound of a set of tasks exceeds `most`, settled as soon as may be. The bound is 0 for the empty set, 1,025 where a task is
-/// longer than the cycle, and otherwise the greatest of 1, the set's total time in cycles (Scholl's LM1), which is looked at first, what its
-/// tasks of half a cycle or more need (LM2), what its tasks of a third or more need (LM3), and, on a straight line, what the head and the
-/// tail of a task need, which is looked at last. The cycle is in the instance's time unit.
+/// Whether the bound of a set of tasks exceeds `most`, settled as soon as may be. The bound is 0 for the empty set,
+/// 1,025 where a task is longer than the cycle, and otherwise the greatest of 1, the set's total time in cycles
+/// (Scholl's LM1), which is looked at first, what its tasks of half a cycle or more need (LM2), what its tasks of a
+/// third or more need (LM3), and, on a straight line, what the head and the tail of a task need, which is looked at
+/// last. The cycle is in the instance's time unit.
 pub fn exceeds(
     inst: &Instance,
     kind: LineKind,

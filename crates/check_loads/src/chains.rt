@@ -64,7 +64,8 @@ fn elsewhere(inst: &Instance, set: &TaskSet, j: u32) -> TaskSet
 }
 
 /// Whether the head and the tail of task `j` of a set need more than `stations`: not where all tasks with `j`
-/// once more take too little time, or those that are neither before nor after it too much. The set's total time is `total`.
+/// once more take too little time, or those that are neither before nor after it too much. The set's total time is
+/// `total`.
 fn needs_more(inst: &Instance, cycle: u64, set: &TaskSet, total: u64, stations: u64, j: u32) -> bool
     requires set { IsTaskSet inst.now set.now }
     requires some { 1 ≤ cycle }

@@ -40,7 +40,8 @@ fn may_grow(inst: &Instance, cycle: u64, set: &TaskSet, mode: Mode, load: &Load,
     requires set { IsTaskSet inst.now set.now }
     requires sets { AreSets inst.now load.now }
     ensures some { IsTrue result → (i : ℕ) × (fills mode side ≡ true) × MayJoin inst.now cycle set.now side load.now i }
-    ensures none { result ≡ false → (i : ℕ) → fills mode side ≡ true → MayJoin inst.now cycle set.now side load.now i → ⊥ }
+    ensures none { result ≡ false → (i : ℕ) → fills mode side ≡ true → MayJoin inst.now cycle set.now side load.now i
+        → ⊥ }
 {
     if !fills(mode, side) {
         return false;

@@ -1,5 +1,5 @@
-//! The walk over the loads of a set in their order, for all modes: it keeps the sum of times and the tasks that are free to join, and
-//! changes them with each task that comes or goes.
+//! The walk over the loads of a set in their order, for all modes: it keeps the sum of times and the tasks that are
+//! free to join, and changes them with each task that comes or goes.
 ghost use Rattle.std.specs.Prelude.{◌≡◌, ℕ, ◌<◌, ◌≤◌, ◌↔◌, IsTrue, true, false};
 ghost use Rattle.task_set.specs.Truths.{union};
 ghost use Rattle.line_instance.specs.Line.{IsTaskSet, tasks, has};
@@ -47,8 +47,8 @@ fn fits(inst: &Instance, left: u64, here: &TaskSet, other: &TaskSet, task: u32) 
     here.union(other).meet(apart).is_empty()
 }
 
-/// Goes over the places of a side from the last one down: gives up what stands there, up to the first place where a task may join.
-/// Whether one has joined. The load given last tells contracts where the scan began.
+/// Goes over the places of a side from the last one down: gives up what stands there, up to the first place where a
+/// task may join. Whether one has joined. The load given last tells contracts where the scan began.
 fn advance(
     inst: &Instance,
     cycle: u64,
@@ -61,11 +61,14 @@ fn advance(
     sum: &mut u64,
 ) -> bool
     requires set { IsTaskSet inst.now set.now }
-    requires scan { Scan inst.now cycle mode set.now last.now (pair_at side end.old.tasks other.now) (spot inst.now side (tasks inst.now)) }
+    requires scan { Scan inst.now cycle mode set.now last.now (pair_at side end.old.tasks other.now)
+        (spot inst.now side (tasks inst.now)) }
     requires kept { fills mode side ≡ true → IsEnd inst.now side set.now end.old.tasks end.old.free end.old.places }
     requires sum { sum.old ≡ sum_where (has (taken (pair_at side end.old.tasks other.now))) inst.now.times }
-    ensures joined { IsTrue result → IsNext inst.now cycle mode set.now last.now (pair_at side end.new.tasks other.now) }
-    ensures passed { result ≡ false → Scan inst.now cycle mode set.now last.now (pair_at side end.new.tasks other.now) (spot inst.now side 0) }
+    ensures joined { IsTrue result → IsNext inst.now cycle mode set.now last.now
+        (pair_at side end.new.tasks other.now) }
+    ensures passed { result ≡ false → Scan inst.now cycle mode set.now last.now (pair_at side end.new.tasks other.now)
+        (spot inst.now side 0) }
     ensures kept { fills mode side ≡ true → IsEnd inst.now side set.now end.new.tasks end.new.free end.new.places }
     ensures sum { sum.new ≡ sum_where (has (taken (pair_at side end.new.tasks other.now))) inst.now.times }
 {
@@ -103,8 +106,10 @@ fn grows(
     requires kept { fills mode side ≡ true → IsEnd inst.now side set.now end.now.tasks end.now.free end.now.places }
     requires sum { sum ≡ sum_where (has (taken (pair_at side end.now.tasks other.now))) inst.now.times }
     requires fits { sum ≤ cycle }
-    ensures some { IsTrue result → (i : ℕ) × (fills mode side ≡ true) × MayJoin inst.now cycle set.now side (pair_at side end.now.tasks other.now) i }
-    ensures none { result ≡ false → (i : ℕ) → fills mode side ≡ true → MayJoin inst.now cycle set.now side (pair_at side end.now.tasks other.now) i → ⊥ }
+    ensures some { IsTrue result → (i : ℕ) × (fills mode side ≡ true)
+        × MayJoin inst.now cycle set.now side (pair_at side end.now.tasks other.now) i }
+    ensures none { result ≡ false → (i : ℕ) → fills mode side ≡ true
+        → MayJoin inst.now cycle set.now side (pair_at side end.now.tasks other.now) i → ⊥ }
 {
     if !fills(mode, side) {
         return false;
@@ -150,8 +155,10 @@ impl Walk {
     pub fn step(&mut self, inst: &Instance, q: &Question) -> bool
         requires set { IsTaskSet inst.now q.now.set }
         requires walk { IsWalk inst.now q.now.cycle q.now.mode q.now.set self.old }
-        ensures none { result ≡ false → (l : Pair) → IsLoad inst.now q.now.cycle q.now.mode q.now.set l → After inst.now (last_of self.old) l → ⊥ }
-        ensures next { IsTrue result → IsFollowing inst.now q.now.cycle q.now.mode q.now.set (last_of self.old) (stand self.new) }
+        ensures none { result ≡ false → (l : Pair) → IsLoad inst.now q.now.cycle q.now.mode q.now.set l
+            → After inst.now (last_of self.old) l → ⊥ }
+        ensures next { IsTrue result → IsFollowing inst.now q.now.cycle q.now.mode q.now.set (last_of self.old)
+            (stand self.new) }
         ensures given { IsTrue result → self.new.given ≡ true }
         ensures walk { IsTrue result → IsWalk inst.now q.now.cycle q.now.mode q.now.set self.new }
     {

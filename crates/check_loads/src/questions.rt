@@ -6,7 +6,8 @@ use crate::sizes::Times;
 use line_rules::{LineKind, Load, Mode};
 use task_set::TaskSet;
 
-/// Whether a set has a balance in `most` stations at a cycle, on a line of that kind, of which an end station is filled in that mode.
+/// Whether a set has a balance in `most` stations at a cycle, on a line of that kind, of which an end station is filled
+/// in that mode.
 #[derive(Clone, Copy)]
 pub struct Question {
     pub kind: LineKind,

@@ -48,7 +48,8 @@ pub struct SizeCounts {
     pub sixths: u32,
 }
 
-/// The counts of a set of tasks, of which none takes more than `longest`: all 0 where that is less than a third of the cycle.
+/// The counts of a set of tasks, of which none takes more than `longest`: all 0 where that is less than a third of the
+/// cycle.
 #[tactic(auto, using(load_facts::proofs::SizeClasses::one_more))]
 pub fn counts_of(inst: &Instance, cycle: u64, set: &TaskSet, longest: u64) -> SizeCounts
     requires set { IsTaskSet inst.now set.now }

@@ -1,5 +1,6 @@
 -- What a mix has, told by the records of its text alone.
-use Rattle.std.specs.Prelude.{◌≡◌, ◌&&◌, ℕ, ◌+◌, ◌-◌, ◌<◌, nat_eq, bytes_eq, cond, codes, List, [], ◌∷◌, length, map, filter_map, Option, Some, None}
+use Rattle.std.specs.Prelude.{◌≡◌, ◌&&◌, ℕ, ◌+◌, ◌-◌, ◌<◌, nat_eq, bytes_eq, cond, codes, List, [], ◌∷◌, length, map}
+use Rattle.std.specs.Prelude.{filter_map, Option, Some, None}
 use Rattle.std.specs.Option.{option_to_list}
 use Rattle.line_io.specs.Lines.{value_of}
 use Rattle.line_instance.specs.declared.arcs.Prec.{Prec}
@@ -14,13 +15,15 @@ model_in fields = None
 -- the time, where a record is that of this task of the model of this name; records count tasks from 1
 abbrev pub time_in : List ℕ → ℕ → Fields → Option ℕ
 time_in name t (word ∷ model ∷ task ∷ time ∷ []) =
-    cond (bytes_eq word (codes "time") && (bytes_eq model name && nat_eq (value_of task) (t + 1))) (Some (value_of time)) None
+    cond (bytes_eq word (codes "time") && (bytes_eq model name && nat_eq (value_of task) (t + 1)))
+    (Some (value_of time)) None
 time_in name t fields = None
 
 -- the arc, where a record is that of one of the model of this name
 abbrev pub arc_in : List ℕ → Fields → Option Prec
 arc_in name (word ∷ model ∷ i ∷ j ∷ []) =
-    cond (bytes_eq word (codes "arc") && bytes_eq model name) (Some (record { first = value_of i - 1; «then» = value_of j - 1 })) None
+    cond (bytes_eq word (codes "arc") && bytes_eq model name)
+    (Some (record { first = value_of i - 1; «then» = value_of j - 1 })) None
 arc_in name fields = None
 
 -- Records tell a mix: the first one the number of tasks; its models, each with a name of its own, are those of the

@@ -1,6 +1,7 @@
 -- Mixes: several models of a product that are built on one line, each with a demand, with times and with arcs of its
 -- own.
-use Rattle.std.specs.Prelude.{◌≡◌, ◌||◌, ◌&&◌, ℕ, ◌<◌, ◌≤◌, Bool, true, nat_eq, nat_lt, nat_le, bytes_eq, List, [], length, slice_index_or, replicate, Option, None, unwrap_or, sum_by, position}
+use Rattle.std.specs.Prelude.{◌≡◌, ◌||◌, ◌&&◌, ℕ, ◌<◌, ◌≤◌, Bool, true, nat_eq, nat_lt, nat_le, bytes_eq, List, []}
+use Rattle.std.specs.Prelude.{length, slice_index_or, replicate, Option, None, unwrap_or, sum_by, position}
 use Rattle.std.specs.Char.{is_ascii_alphanumeric}
 use Rattle.std.specs.List.{All, list_all}
 use Rattle.line_instance.specs.Walks.{AreArcs}

@@ -1,5 +1,6 @@
 -- The reading of a mix, record by record.
-use Rattle.std.specs.Prelude.{ℕ, zero, suc, ◌+◌, cond, nat_lt, bytes_eq, codes, List, [], ◌∷◌, ◌++◌, length, slice_set, Option, Some, None, is_some, Result, Ok, Err}
+use Rattle.std.specs.Prelude.{ℕ, zero, suc, ◌+◌, cond, nat_lt, bytes_eq, codes, List, [], ◌∷◌, ◌++◌, length, slice_set}
+use Rattle.std.specs.Prelude.{Option, Some, None, is_some, Result, Ok, Err}
 use Rattle.line_io.specs.Lines.{number_in}
 use Rattle.line_io.specs.declared.text.Num.{Num}
 use Rattle.line_io.specs.declared.text.Num.TheVariants.{Value, NotANumber, Above}
@@ -7,7 +8,9 @@ use Rattle.combined_graph.specs.Mixes.{MixedLine, new_model, model_at, model_nam
 use Rattle.combined_graph.specs.Records.{Fields}
 use Rattle.combined_graph.specs.declared.fault.MixFault.{MixFault}
 use Rattle.combined_graph.specs.declared.fault.MixKind.{MixKind}
-use Rattle.combined_graph.specs.declared.fault.MixKind.TheVariants.{Form, Range, RepeatedModel, UnknownModel, TooManyModels, BadTask, RepeatedTime, TooManyArcs, NoModel}
+use Rattle.combined_graph.specs.declared.fault.MixKind.TheVariants.{Form, Range, RepeatedModel, UnknownModel}
+use Rattle.combined_graph.specs.declared.fault.MixKind.TheVariants.{TooManyModels, BadTask, RepeatedTime, TooManyArcs}
+use Rattle.combined_graph.specs.declared.fault.MixKind.TheVariants.{NoModel}
 
 -- a value, or what is wrong with a record
 abbrev pub Said : Type 0 → Type 0
@@ -64,37 +67,46 @@ with_time mix m t time =
 abbrev pub with_arc : MixedLine → ℕ → ℕ → ℕ → MixedLine
 with_arc mix m i j =
     let model = model_at mix.models m in
-    record mix { models = slice_set mix.models m (record model { arcs = model.arcs ++ record { first = i; «then» = j } ∷ [] }) }
+    record mix {
+      models = slice_set mix.models m (record model
+          { arcs = model.arcs ++ record { first = i; «then» = j } ∷ [] });
+    }
 
 -- a model, whose name is new and one of at most 16
 abbrev pub model_for : MixedLine → Option ℕ → List ℕ → ℕ → Said MixedLine
 model_for mix (Some m) name demand = Err RepeatedModel
-model_for mix None name demand = cond (nat_lt (length mix.models) 16) (Ok (with_model mix name demand)) (Err TooManyModels)
+model_for mix None name demand = cond (nat_lt (length mix.models) 16) (Ok (with_model mix name demand))
+    (Err TooManyModels)
 
 abbrev pub model_said : MixedLine → List ℕ → List ℕ → List ℕ → Said MixedLine
 model_said mix name demand fourth =
-    named name (if_empty fourth (next (positive (number_in 10000 demand)) (λ d. model_for mix (model_named mix.models name) name d)))
+    named name (if_empty fourth (next (positive (number_in 10000 demand))
+    (λ d. model_for mix (model_named mix.models name) name d)))
 
 -- a time, of a model with a record above, of one of the tasks, and the first of that model and task
 abbrev pub time_for : MixedLine → Option ℕ → Option ℕ → ℕ → Said MixedLine
 time_for mix None t time = Err UnknownModel
 time_for mix (Some m) None time = Err BadTask
-time_for mix (Some m) (Some t) time = cond (is_some (given_time (model_at mix.models m) t)) (Err RepeatedTime) (Ok (with_time mix m t time))
+time_for mix (Some m) (Some t) time = cond (is_some (given_time (model_at mix.models m) t)) (Err RepeatedTime)
+    (Ok (with_time mix m t time))
 
 abbrev pub time_said : MixedLine → List ℕ → List ℕ → List ℕ → Said MixedLine
 time_said mix name task time =
-    named name (next (task_in mix.tasks task) (λ t. next (bounded (number_in 1000000000 time)) (λ v. time_for mix (model_named mix.models name) t v)))
+    named name (next (task_in mix.tasks task) (λ t. next (bounded (number_in 1000000000 time))
+    (λ v. time_for mix (model_named mix.models name) t v)))
 
 -- an arc, of a model with a record above, of two of the tasks or of one and itself, and one of at most 524,288
 abbrev pub arc_for : MixedLine → Option ℕ → Option ℕ → Option ℕ → Said MixedLine
 arc_for mix None i j = Err UnknownModel
 arc_for mix (Some m) None j = Err BadTask
 arc_for mix (Some m) (Some i) None = Err BadTask
-arc_for mix (Some m) (Some i) (Some j) = cond (nat_lt (arc_count mix.models) 524288) (Ok (with_arc mix m i j)) (Err TooManyArcs)
+arc_for mix (Some m) (Some i) (Some j) = cond (nat_lt (arc_count mix.models) 524288) (Ok (with_arc mix m i j))
+    (Err TooManyArcs)
 
 abbrev pub arc_said : MixedLine → List ℕ → List ℕ → List ℕ → Said MixedLine
 arc_said mix name first then_ =
-    named name (next (task_in mix.tasks first) (λ i. next (task_in mix.tasks then_) (λ j. arc_for mix (model_named mix.models name) i j)))
+    named name (next (task_in mix.tasks first) (λ i. next (task_in mix.tasks then_)
+    (λ j. arc_for mix (model_named mix.models name) i j)))
 
 -- what the four fields of a record behind the first one make of the mix so far
 abbrev pub fields_said : MixedLine → List ℕ → List ℕ → List ℕ → List ℕ → Said MixedLine
@@ -110,7 +122,8 @@ empty_mix tasks = record { tasks = tasks; models = [] }
 -- what the four fields of the first record say
 abbrev pub tasks_said : List ℕ → List ℕ → List ℕ → List ℕ → Said MixedLine
 tasks_said word tasks third fourth =
-    cond (bytes_eq word (codes "tasks")) (if_empty third (if_empty fourth (next (positive (number_in 1024 tasks)) (λ n. Ok (empty_mix n))))) (Err Form)
+    cond (bytes_eq word (codes "tasks")) (if_empty third (if_empty fourth
+    (next (positive (number_in 1024 tasks)) (λ n. Ok (empty_mix n))))) (Err Form)
 
 -- a record of four fields
 abbrev pub with_four : {A : Type 0} → Fields → (List ℕ → List ℕ → List ℕ → List ℕ → Said A) → Said A

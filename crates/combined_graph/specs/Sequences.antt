@@ -1,5 +1,6 @@
 -- Sequences: texts with the name of a model on each line that isn't empty, one for each unit.
-use Rattle.std.specs.Prelude.{◌≡◌, ℕ, ◌-◌, ◌<◌, ◌≤◌, List, [], length, take, map, slice_index_or, Some, None, IsSome, All}
+use Rattle.std.specs.Prelude.{◌≡◌, ℕ, ◌-◌, ◌<◌, ◌≤◌, List, [], length, take, map, slice_index_or, Some, None, IsSome}
+use Rattle.std.specs.Prelude.{All}
 use Rattle.in2_reader.specs.Contents.{contents_from}
 use Rattle.combined_graph.specs.Mixes.{LineModel, model_named}
 use Rattle.combined_graph.specs.declared.sequence.SeqRead.{SeqRead}
@@ -23,9 +24,11 @@ pub record IsFirstUnknown (models : List LineModel) (names : List (List ℕ)) (k
 -- Each answer with its cause: the model of each of at most 100,000 units; the first unit without a model, which is none
 -- behind the 100,000th; or there are more units, and the first 100,000 are known.
 abbrev pub IsSequenceRead : List LineModel → List ℕ → SeqRead → Type 0
-IsSequenceRead models text (Good units) = (map (model_named models) (unit_names text) ≡ map Some units.items) × (length (unit_names text) ≤ 100000)
+IsSequenceRead models text (Good units) = (map (model_named models) (unit_names text) ≡ map Some units.items)
+    × (length (unit_names text) ≤ 100000)
 IsSequenceRead models text (UnknownModel k) = IsFirstUnknown models (unit_names text) k × (k ≤ 100000)
-IsSequenceRead models text TooManyUnits = (100000 < length (unit_names text)) × All (IsNamed models) (take 100000 (unit_names text))
+IsSequenceRead models text TooManyUnits = (100000 < length (unit_names text))
+    × All (IsNamed models) (take 100000 (unit_names text))
 IsSequenceRead models text NoMemory = Unit {0}
 
 -- the units that are read are of models of the mix

@@ -3,8 +3,8 @@
 //!
 //! A mix is read in one pass over its records, and each record adds what it says to a draft. A model is looked up by
 //! its name among those before it, which are at most 16, so the time is proportional to the bytes of the text. The
-//! times are a table with a place for each model and task. Combining takes time proportional to models times tasks and to the
-//! arcs, besides that of making the instance.
+//! times are a table with a place for each model and task. Combining takes time proportional to models times tasks and
+//! to the arcs, besides that of making the instance.
 #![tactic(auto)]
 
 mod combining;

@@ -1,5 +1,6 @@
 //! One model of a mix.
-ghost use Rattle.std.specs.Prelude.{◌≡◌, ◌≤◌, ◌<◌, ◌*◌, ◌∷◌, ◌++◌, [], Some, length, slice_set, true, IfOk, OnOk, OnErr, is_some};
+ghost use Rattle.std.specs.Prelude.{◌≡◌, ◌≤◌, ◌<◌, ◌*◌, ◌∷◌, ◌++◌, [], Some, length, slice_set, true, IfOk, OnOk};
+ghost use Rattle.std.specs.Prelude.{OnErr, is_some};
 ghost use Rattle.combined_graph.specs.Mixes.{IsModel, is_name, given_time, time_of, new_model};
 ghost use Rattle.line_instance.specs.Walks.{Names};
 

@@ -20,7 +20,8 @@ pub fn reader_of(alloc: Global, bytes: &[u8]) -> Reader<&[u8]>
         .from_reader(alloc, bytes)
 }
 
-/// Takes the next record, and answers whether there is one. Over a text in memory the only error is that memory ran out.
+/// Takes the next record, and answers whether there is one. Over a text in memory the only error is that memory ran
+/// out.
 pub fn next_record(reader: &mut Reader<&[u8]>, row: &mut ByteRecord) -> Result<bool, AllocError>
     requires { IsReading reader.old }
     ensures { IfOk result (λ found. TakesRecord (records_of reader.old) reader.new found (fields_of row.new)) }

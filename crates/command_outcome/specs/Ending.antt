@@ -19,8 +19,8 @@ pub record Ending : Type 0 where
   pub faults_before : ℕ
   pub faults : ℕ
 
--- The run came to an outcome that P is true of: the status is that of the outcome, its whole text is put behind what was
--- put before, its page is written, and its certificate is kept.
+-- The run came to an outcome that P is true of: the status is that of the outcome, its whole text is put behind what
+-- was put before, its page is written, and its certificate is kept.
 pub record IsDone (o : Outside) (P : Outcome → Type 0) (e : Ending) : Type 0 where
   pub outcome : Outcome
   pub reached : P outcome
@@ -40,8 +40,8 @@ pub record IsTorn (o : Outside) (P : Outcome → Type 0) (e : Ending) : Type 0 w
   pub written : IsWritten o.files outcome.page e.files
   pub kept : e.kept ≡ Nothing
 
--- The page could not be written: the last call that failed was on its file, which is as before or has a prefix of the page's bytes; the other
--- files stay, nothing is put, and nothing is kept.
+-- The page could not be written: the last call that failed was on its file, which is as before or has a prefix of the
+-- page's bytes; the other files stay, nothing is put, and nothing is kept.
 pub record IsUnwritten (o : Outside) (P : Outcome → Type 0) (e : Ending) : Type 0 where
   pub outcome : Outcome
   pub reached : P outcome

@@ -15,7 +15,8 @@ use Rattle.command_outcome.specs.declared.status.Status.TheVariants as ends
 abbrev pub Files : Type 0
 Files = List ℕ → Option (List ℕ)
 
--- The outside of a run: the files as they stood before it; and of each name, whether the last call that failed was on its file.
+-- The outside of a run: the files as they stood before it; and of each name, whether the last call that failed was on
+-- its file.
 pub record Outside : Type 0 where
   pub files : Files
   pub blames : List ℕ → Bool
@@ -48,7 +49,8 @@ Stay files after = (q : List ℕ) → after q ≡ files q
 -- the file of the page has its bytes, and the other files stay
 abbrev pub IsWritten : Files → Option Page → Files → Type 0
 IsWritten files None after = Stay files after
-IsWritten files (Some page) after = (after page.name ≡ Some page.bytes) × ((q : List ℕ) → q ≢ page.name → after q ≡ files q)
+IsWritten files (Some page) after = (after page.name ≡ Some page.bytes)
+    × ((q : List ℕ) → q ≢ page.name → after q ≡ files q)
 
 -- A command that P is true of comes to this report, and the page is written.
 pub record Comes (o : Outside) (P : Outcome → Type 0) (after : Files) (r : Report) : Type 0 where
@@ -56,8 +58,8 @@ pub record Comes (o : Outside) (P : Outcome → Type 0) (after : Files) (r : Rep
   pub reached : P (outcome_of r page)
   pub written : IsWritten o.files page after
 
--- A command that P is true of could not write its page: the last call that failed was on that file, which is as before or has a prefix of the
--- page's bytes, and the other files stay.
+-- A command that P is true of could not write its page: the last call that failed was on that file, which is as before
+-- or has a prefix of the page's bytes, and the other files stay.
 pub record IsCut (o : Outside) (P : Outcome → Type 0) (after : Files) : Type 0 where
   pub outcome : Outcome
   pub reached : P outcome
@@ -67,7 +69,8 @@ pub record IsCut (o : Outside) (P : Outcome → Type 0) (after : Files) : Type 0
   pub cut : IsPrefixWritten (o.files page.name) page.bytes (after page.name)
   pub others : (q : List ℕ) → q ≢ page.name → after q ≡ o.files q
 
--- What a command ended with: a report that P is true of; its page could not be written; or out of memory, and all files stay.
+-- What a command ended with: a report that P is true of; its page could not be written; or out of memory, and all files
+-- stay.
 abbrev pub Ends : Outside → (Outcome → Type 0) → Files → Result Report Stop → Type 0
 Ends o P after (Ok r) = Comes o P after r
 Ends o P after (Err (stop.Report r)) = Comes o P after r

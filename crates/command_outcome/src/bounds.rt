@@ -1,5 +1,5 @@
-//! The bounds of a search, as every command prints them, and the report of a search that memory ended: its memory is taken
-//! before the search, so that the report costs none.
+//! The bounds of a search, as every command prints them, and the report of a search that memory ended: its memory is
+//! taken before the search, so that the report costs none.
 ghost use Rattle.std.specs.Prelude.{◌≡◌, ◌++◌, string_bytes, OnOk, IfOk, []};
 ghost use Rattle.command_outcome.specs.Bounds.{bounds_line, cut_short_text};
 

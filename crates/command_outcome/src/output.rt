@@ -23,7 +23,8 @@ fn give_up(kept: &mut Kept) -> Status
 /// kept.
 fn put<K: Sink>(out: &mut K, text: &[u8], status: Status, made: Kept, kept: &mut Kept) -> Status
     requires { status ≢ ends.WriteFault }
-    ensures puts { K.tells → Puts status text.now made (K.shown out.old) (K.shown out.new) (K.faults out.old) (K.faults out.new) result kept.new }
+    ensures puts { K.tells → Puts status text.now made (K.shown out.old) (K.shown out.new) (K.faults out.old)
+        (K.faults out.new) result kept.new }
     ensures one_put { IsOnePut (K.puts out.old) (K.puts out.new) }
     ensures write { result ≡ ends.WriteFault → Rises (K.faults out.old) (K.faults out.new) }
     ensures status { result ≢ ends.WriteFault → result ≡ status }
@@ -42,7 +43,8 @@ fn put<K: Sink>(out: &mut K, text: &[u8], status: Status, made: Kept, kept: &mut
 /// Puts a report and keeps its certificate.
 fn put_report<K: Sink>(out: &mut K, report: Report, kept: &mut Kept) -> Status
     requires { report.status ≢ ends.WriteFault }
-    ensures puts { K.tells → Puts report.status report.text.items report.kept (K.shown out.old) (K.shown out.new) (K.faults out.old) (K.faults out.new) result kept.new }
+    ensures puts { K.tells → Puts report.status report.text.items report.kept (K.shown out.old) (K.shown out.new)
+        (K.faults out.old) (K.faults out.new) result kept.new }
     ensures one_put { IsOnePut (K.puts out.old) (K.puts out.new) }
     ensures write { result ≡ ends.WriteFault → Rises (K.faults out.old) (K.faults out.new) }
     ensures status { result ≢ ends.WriteFault → result ≡ report.status }
@@ -58,11 +60,12 @@ fn put_report<K: Sink>(out: &mut K, report: Report, kept: &mut Kept) -> Status
 }
 
 /// Puts what a run ended with: a report, in one put; the line `memory`; or nothing, where a file could not be written.
-/// It answers the status, or that the put failed. `kept` then holds the certificate of the report, where it was put, and
-/// else nothing.
+/// It answers the status, or that the put failed. `kept` then holds the certificate of the report, where it was put,
+/// and else nothing.
 pub fn finish<K: Sink>(out: &mut K, ended: Result<Report, Stop>, kept: &mut Kept) -> Status
     requires { status_of ended ≡ ends.WriteFault → ended ≡ Err Unwritten }
-    ensures finishes { K.tells → Finishes ended (K.shown out.old) (K.shown out.new) (K.faults out.old) (K.faults out.new) result kept.new }
+    ensures finishes { K.tells → Finishes ended (K.shown out.old) (K.shown out.new) (K.faults out.old)
+        (K.faults out.new) result kept.new }
     ensures one_put { IsOnePut (K.puts out.old) (K.puts out.new) }
     ensures write { result ≡ ends.WriteFault → ended ≢ Err Unwritten → Rises (K.faults out.old) (K.faults out.new) }
     ensures status { result ≢ ends.WriteFault → result ≡ status_of ended }

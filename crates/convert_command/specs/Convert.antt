@@ -27,10 +27,17 @@ written_line name = codes "written " ++ printed name ++ codes "\n"
 -- done, with a page of this name and these bytes, and nothing kept
 abbrev pub wrote : List ℕ → List ℕ → Outcome
 wrote name bytes =
-    record { status = ends.Done; text = written_line name; page = Some (record { name = name; bytes = bytes }); kept = Nothing }
+    record {
+      status = ends.Done;
+      text = written_line name;
+      page = Some (record { name = name; bytes = bytes });
+      kept = Nothing;
+    }
 
--- A file says an instance, and what is written is its canonical text in the form, with the cycle time of the words, or else of the file.
-pub record IsLineConverted (files : Files) (name to_name : List ℕ) (to : FormWord) (word : Option ℕ) (out : Outcome) : Type 0 where
+-- A file says an instance, and what is written is its canonical text in the form, with the cycle time of the words, or
+-- else of the file.
+pub record IsLineConverted (files : Files) (name to_name : List ℕ) (to : FormWord) (word : Option ℕ)
+    (out : Outcome) : Type 0 where
   pub line : Line
   pub given : Option ℕ
   pub said : IsInstance files name line given
@@ -44,7 +51,8 @@ pub record IsCertConverted (files : Files) (name to_name : List ℕ) (out : Outc
   pub said : IsCertificateOf files name cert
   pub shown : out ≡ wrote to_name (cert_text cert)
 
--- What `convert` comes to: an instance in another form, or why the file says none; or a certificate anew, or why the file says none.
+-- What `convert` comes to: an instance in another form, or why the file says none; or a certificate anew, or why the
+-- file says none.
 abbrev pub IsConvertOutcome : Outside → List ℕ → List ℕ → FormWord → Option ℕ → Outcome → Type 0
 IsConvertOutcome o name to_name to word out =
     ((to ≢ Cert) × (IsLineConverted o.files name to_name to word out ⊎ IsNoInstance o name out))

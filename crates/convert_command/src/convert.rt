@@ -65,7 +65,9 @@ fn convert_line<S: Shelf>(
     shelf: &mut S,
 ) -> Result<Report, Stop>
     requires { to ≢ Cert }
-    ensures ends { S.tells → Ends (outside (S.file shelf.old) (S.blames shelf.new)) (IsConvertOutcome (outside (S.file shelf.old) (S.blames shelf.new)) file.now name.now to word) (S.file shelf.new) result }
+    ensures ends { S.tells → Ends (outside (S.file shelf.old) (S.blames shelf.new))
+        (IsConvertOutcome (outside (S.file shelf.old) (S.blames shelf.new)) file.now name.now to word)
+        (S.file shelf.new) result }
     ensures good { IfOk result (λ r. r.status ≡ ends.Done) }
     ensures kept { IfOk result (λ r. r.kept ≡ Nothing) }
     ensures fault { MatchResult result (λ _. Unit {0}) (MayEnd (Rises (S.faults shelf.old) (S.faults shelf.new))) }
@@ -87,7 +89,9 @@ fn convert_cert<S: Shelf>(
     word: Option<u64>,
     shelf: &mut S,
 ) -> Result<Report, Stop>
-    ensures ends { S.tells → Ends (outside (S.file shelf.old) (S.blames shelf.new)) (IsConvertOutcome (outside (S.file shelf.old) (S.blames shelf.new)) file.now name.now Cert word) (S.file shelf.new) result }
+    ensures ends { S.tells → Ends (outside (S.file shelf.old) (S.blames shelf.new))
+        (IsConvertOutcome (outside (S.file shelf.old) (S.blames shelf.new)) file.now name.now Cert word)
+        (S.file shelf.new) result }
     ensures good { IfOk result (λ r. r.status ≡ ends.Done) }
     ensures kept { IfOk result (λ r. r.kept ≡ Nothing) }
     ensures fault { MatchResult result (λ _. Unit {0}) (MayEnd (Rises (S.faults shelf.old) (S.faults shelf.new))) }
@@ -101,8 +105,8 @@ fn convert_cert<S: Shelf>(
     }
 }
 
-/// The report of `convert` for a file and the name of the one that is written, in a form, with the cycle time of the words, where they
-/// have one.
+/// The report of `convert` for a file and the name of the one that is written, in a form, with the cycle time of the
+/// words, where they have one.
 pub fn convert_report<S: Shelf>(
     alloc: Global,
     file: &str,
@@ -111,7 +115,9 @@ pub fn convert_report<S: Shelf>(
     word: Option<u64>,
     shelf: &mut S,
 ) -> Result<Report, Stop>
-    ensures ends { S.tells → Ends (outside (S.file shelf.old) (S.blames shelf.new)) (IsConvertOutcome (outside (S.file shelf.old) (S.blames shelf.new)) file.now name.now to word) (S.file shelf.new) result }
+    ensures ends { S.tells → Ends (outside (S.file shelf.old) (S.blames shelf.new))
+        (IsConvertOutcome (outside (S.file shelf.old) (S.blames shelf.new)) file.now name.now to word)
+        (S.file shelf.new) result }
     ensures good { IfOk result (λ r. r.status ≡ ends.Done) }
     ensures kept { IfOk result (λ r. r.kept ≡ Nothing) }
     ensures fault { MatchResult result (λ _. Unit {0}) (MayEnd (Rises (S.faults shelf.old) (S.faults shelf.new))) }

@@ -61,7 +61,8 @@ abbrev pub IsUndrawable : Line → Certificate → Outcome → Type 0
 IsUndrawable line cert out = IsOfOthers line cert out ⊎ HasNoBalance line cert out ⊎ HasWrongBalance line cert out
 
 -- The files say a line and a certificate that can be drawn for it, and what is written is its picture.
-pub record IsDrawn (files : Files) (name proof to_name : List ℕ) (apart : Option (List ℕ)) (out : Outcome) : Type 0 where
+pub record IsDrawn (files : Files) (name proof to_name : List ℕ) (apart : Option (List ℕ))
+    (out : Outcome) : Type 0 where
   pub line : Line
   pub cert : Certificate
   pub said : IsLineOf files name apart line
@@ -87,7 +88,8 @@ pub record IsRefused (files : Files) (name proof : List ℕ) (apart : Option (Li
 -- A later file is named only where the earlier ones were read.
 abbrev pub IsDrawOutcome : Outside → List ℕ → List ℕ → List ℕ → Option (List ℕ) → Outcome → Type 0
 IsDrawOutcome o name proof to_name apart out =
-    IsDrawn o.files name proof to_name apart out ⊎ IsNoLine o name apart out ⊎ IsUnread o name proof apart out ⊎ IsRefused o.files name proof apart out
+    IsDrawn o.files name proof to_name apart out ⊎ IsNoLine o name apart out ⊎ IsUnread o name proof apart out
+    ⊎ IsRefused o.files name proof apart out
 
 -- What a run that is done has done: its files said a line and a certificate whose balance is right and shows the
 -- upper bound; the picture of it is true of the line and stands whole in the file that was to be written; the other

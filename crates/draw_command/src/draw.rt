@@ -76,11 +76,14 @@ pub fn draw_report<S: Shelf>(
     apart: Option<&str>,
     shelf: &mut S,
 ) -> Result<Report, Stop>
-    ensures ends { S.tells → Ends (outside (S.file shelf.old) (S.blames shelf.new)) (IsDrawOutcome (outside (S.file shelf.old) (S.blames shelf.new)) file.now proof.now name.now (option_map (λ a. a.now) apart.entry)) (S.file shelf.new) result }
+    ensures ends { S.tells → Ends (outside (S.file shelf.old) (S.blames shelf.new))
+        (IsDrawOutcome (outside (S.file shelf.old) (S.blames shelf.new)) file.now proof.now name.now
+        (option_map (λ a. a.now) apart.entry)) (S.file shelf.new) result }
     ensures good { IfOk result (λ r. r.status ≡ ends.Done) }
     ensures kept { IfOk result (λ r. r.kept ≡ Nothing) }
     ensures fault { MatchResult result (λ _. Unit {0}) (MayEnd (Rises (S.faults shelf.old) (S.faults shelf.new))) }
-    ensures promise { S.tells → IfOk result (λ _. IsTrulyDrawn (S.file shelf.old) (S.file shelf.new) file.now proof.now name.now (option_map (λ a. a.now) apart.entry)) }
+    ensures promise { S.tells → IfOk result (λ _. IsTrulyDrawn (S.file shelf.old) (S.file shelf.new) file.now proof.now
+        name.now (option_map (λ a. a.now) apart.entry)) }
 {
     let inst = line_of(alloc, file, apart, shelf)?;
     let cert = certificate_of(alloc, proof, shelf)?;

@@ -27,8 +27,8 @@ use Rattle.effic_search.specs.declared.searching.EfficOutcome.{EfficOutcome}
 use Rattle.effic_search.specs.declared.searching.EfficOutcome.TheVariants as outcome
 
 -- A certificate of the question: of this kind and this range of stations, within the ranges of its text, and accepted
--- with so many units, which are few enough for the default steps of the check; its bounds are true, the lower one is the
--- one that its entries show, and at no cycle from 1 on below its own its balance is right.
+-- with so many units, which are few enough for the default steps of the check; its bounds are true, the lower one is
+-- the one that its entries show, and at no cycle from 1 on below its own its balance is right.
 pub record IsCertified (kind : LineKind) (line : Line) (least most : ℕ) (cert : EfficCert) : Type 0 where
   pub kind_is : cert.kind ≡ kind
   pub least_is : cert.least_m ≡ least
@@ -49,9 +49,9 @@ pub record IsSolved (kind : LineKind) (line : Line) (least most : ℕ) (cert : E
   pub least_one : IsLeastProduct kind line least most cert.upper
 
 -- The N units of a try ended, and one more load was needed: the bounds differ, and the trail is at the tried cycle X,
--- open over the entries, which are fresh at X; it and the entries of cycle X behind the last one of all tasks at X, which
--- are those of the try, have at least N units, and exactly so many where there are no helpers; the entries before the
--- try were few enough for it; and N is below what the budget law allows.
+-- open over the entries, which are fresh at X; it and the entries of cycle X behind the last one of all tasks at X,
+-- which are those of the try, have at least N units, and exactly so many where there are no helpers; the entries before
+-- the try were few enough for it; and N is below what the budget law allows.
 pub record IsSpent (kind : LineKind) (line : Line) (least most : ℕ) (plan : Plan) (cert : EfficCert) : Type 0 where
   pub certified : IsCertified kind line least most cert
   pub below : cert.lower < cert.upper

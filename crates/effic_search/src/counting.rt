@@ -1,7 +1,7 @@
 //! What the entries of a book are: how many of them aren't by Bound, their units, and how far they refute all tasks.
 //!
-//! Entries are counted once, as the book gains them. The loads of an entry by Branch are listed once more for its units.
-//! The lower bound takes one pass over the entries for each number of stations, and is made once.
+//! Entries are counted once, as the book gains them. The loads of an entry by Branch are listed once more for its
+//! units. The lower bound takes one pass over the entries for each number of stations, and is made once.
 ghost use Rattle.std.specs.Prelude.{◌≡◌, ◌+◌, ◌*◌, ◌≤◌, ◌<◌, ◌^◌, ℕ, length, drop, true, false, slice_get, Some};
 ghost use Rattle.line_rules.specs.Balance.{all_tasks};
 ghost use Rattle.line_rules.specs.Entries.{Follows, IsDerived, HasAnswer};
@@ -53,8 +53,8 @@ fn units_of(inst: &Instance, kind: LineKind, entries: &Entries, entry: &Entry, m
     }
 }
 
-/// What the entries of a derived list are, where the first `from` of them are counted, and the further ones have at most
-/// `most` units.
+/// What the entries of a derived list are, where the first `from` of them are counted, and the further ones have at
+/// most `most` units.
 pub(crate) fn counted(
     inst: &Instance,
     kind: LineKind,

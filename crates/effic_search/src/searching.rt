@@ -163,10 +163,10 @@ fn lowered<R: Threads + Wait + Sync, G: Gate>(
 }
 
 /// The least product of stations and cycle, in `least_m` to `most_m` stations, 1 to 1,024, and at a cycle from 1 on in
-/// the instance's time unit, of which a line of this kind has a balance; or bounds on it, where the units of a try ended
-/// first, or the book grew too large for a try. Of the instance no pair is apart. Each cycle that is tried has the units
-/// of the plan anew, and so has each helper its part of them. Helpers run in threads, in any order; they meet the gate
-/// before each publish.
+/// the instance's time unit, of which a line of this kind has a balance; or bounds on it, where the units of a try
+/// ended first, or the book grew too large for a try. Of the instance no pair is apart. Each cycle that is tried has
+/// the units of the plan anew, and so has each helper its part of them. Helpers run in threads, in any order; they meet
+/// the gate before each publish.
 pub fn least_product<R: Threads + Wait + Sync, G: Gate>(
     rt: &R,
     alloc: Global,

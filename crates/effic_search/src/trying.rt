@@ -10,7 +10,8 @@ ghost use Rattle.lemma_core.specs.Books.{IsReserved, MayBeBest};
 ghost use Rattle.round_run.specs.Plans.{IsPlan};
 ghost use Rattle.effic_check.specs.Accepted.{cycle_below};
 ghost use Rattle.effic_search.specs.Counted.{IsCounted};
-ghost use Rattle.effic_search.specs.inner.Going.{IsGoing, IsTight, IsImproved, IsTried, HasAsked, product_of, entries_of};
+ghost use Rattle.effic_search.specs.inner.Going.{IsGoing, IsTight, IsImproved, IsTried, HasAsked, product_of};
+ghost use Rattle.effic_search.specs.inner.Going.{entries_of};
 
 use crate::counting::{counted, ends_with_all, has_all_from};
 use crate::lowering::{Lowering, Wanted};

@@ -14,8 +14,8 @@ pub struct Choice {
     pub side: Side,
 }
 
-/// The tasks placed in front and at the back, those of the station that is being filled, that station, from 1, and the time that is
-/// left of it.
+/// The tasks placed in front and at the back, those of the station that is being filled, that station, from 1, and the
+/// time that is left of it.
 #[derive(Clone, Copy)]
 pub struct Filling {
     pub front: TaskSet,

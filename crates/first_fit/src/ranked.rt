@@ -61,8 +61,9 @@ fn filled(alloc: Global, inst: &Instance, kind: LineKind, cycle: u64) -> Result<
     })
 }
 
-/// The ranked balance at a cycle time: stations are filled one after the other, each time with the task of the greatest weight that
-/// may join the station, of equal weights the least task, in front before the back. A station ends only where no task may join it.
+/// The ranked balance at a cycle time: stations are filled one after the other, each time with the task of the greatest
+/// weight that may join the station, of equal weights the least task, in front before the back. A station ends only
+/// where no task may join it.
 pub fn ranked_balance(alloc: Global, inst: &Instance, kind: LineKind, cycle: u64) -> Ranked
     ensures { IsRanked kind inst.now cycle result }
 {

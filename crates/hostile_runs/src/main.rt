@@ -1,12 +1,12 @@
 //! Random runs of the program over files in memory, and what is seen of them tested from outside.
 //!
-//! A case is a line of at most seven tasks, which is known by heart, with files of it and near them. Some runs over these
-//! files follow, with words of the grammar and near it, with calls that fail and writes that are torn; a certificate that a
-//! run wrote is spoiled before a later one reads it. After each run the status, the text, the files and the numbers are
-//! tested: what is printed as true is true of the line, as all its sets of tasks show.
+//! A case is a line of at most seven tasks, which is known by heart, with files of it and near them. Some runs over
+//! these files follow, with words of the grammar and near it, with calls that fail and writes that are torn; a
+//! certificate that a run wrote is spoiled before a later one reads it. After each run the status, the text, the files
+//! and the numbers are tested: what is printed as true is true of the line, as all its sets of tasks show.
 //!
-//! The words are `runs=N seed=S`, and `tally=1` for how many runs ended with each exit code. The first run that is wrong is
-//! told, with its seed and number, and the program ends with status 1.
+//! The words are `runs=N seed=S`, and `tally=1` for how many runs ended with each exit code. The first run that is
+//! wrong is told, with its seed and number, and the program ends with status 1.
 #![tactic(auto)]
 
 mod draws;

@@ -45,7 +45,8 @@ pub record IsWrongPair (tasks : ℕ) (before : Lines) (content : List ℕ) (kind
 
 -- the fault of a text: of the first line that no reading passes, or of its end, where the end mark is missing
 abbrev pub IsApartFault : ℕ → List ℕ → In2Fault → Type 0
-IsApartFault tasks bytes f = IsLineFault (IsApartRead tasks) (IsWrongPair tasks) (contents_from 1 bytes) f ⊎ IsEndFault (IsApartRead tasks) (λ lines kind. kind ≡ MissingEnd) (lines_in 1 bytes) (contents_from 1 bytes) f
+IsApartFault tasks bytes f = IsLineFault (IsApartRead tasks) (IsWrongPair tasks) (contents_from 1 bytes) f
+    ⊎ IsEndFault (IsApartRead tasks) (λ lines kind. kind ≡ MissingEnd) (lines_in 1 bytes) (contents_from 1 bytes) f
 
 -- Each answer with its cause: the pairs that the text says, each of two tasks, or the text's first fault.
 abbrev pub IsApartAnswer : ℕ → List ℕ → ApartRead → Type 0

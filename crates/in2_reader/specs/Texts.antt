@@ -3,7 +3,8 @@ use Rattle.std.specs.Prelude.{ℕ, ◌+◌, List, ◌++◌, codes, decimal}
 use Rattle.std.specs.List.{flat_map}
 use Rattle.in2_reader.specs.declared.fault.In2Fault.{In2Fault}
 use Rattle.in2_reader.specs.declared.fault.In2Kind.{In2Kind}
-use Rattle.in2_reader.specs.declared.fault.In2Kind.TheVariants.{NotANumber, Range, MissingTimes, MissingEnd, BadArc, TooManyArcs, Cycle}
+use Rattle.in2_reader.specs.declared.fault.In2Kind.TheVariants.{NotANumber, Range, MissingTimes, MissingEnd, BadArc}
+use Rattle.in2_reader.specs.declared.fault.In2Kind.TheVariants.{TooManyArcs, Cycle}
 
 -- a task, counted from 1, behind a blank
 abbrev pub task_text : ℕ → List ℕ

@@ -49,14 +49,17 @@ IsReadBack line (Good l) = (l.times ≡ line.times) × ((i j : ℕ) → j < task
 IsReadBack line (Fault f) = ⊥
 IsReadBack line NoMemory = Unit {0}
 
--- The canonical text of each line says its times and what is before what; so whatever reading it answers is that line again.
+-- The canonical text of each line says its times and what is before what; so whatever reading it answers is that line
+-- again.
 pub record EveryWrittenTextIsRead : Type 0 where
   pub says : (line : Line) (bytes : List ℕ) → IsLine line → IsRanked line → IsIn2Text line bytes → IsReread line bytes
-  pub again : (line : Line) (bytes : List ℕ) (answer : In2Read) → IsLine line → IsRanked line → IsIn2Text line bytes → IsIn2Read bytes answer → IsReadBack line answer
+  pub again : (line : Line) (bytes : List ℕ) (answer : In2Read) → IsLine line → IsRanked line → IsIn2Text line bytes
+      → IsIn2Read bytes answer → IsReadBack line answer
 
 -- of the covering pairs, those that stand before the pair of i and j
 pub record AreCoversTo (line : Line) (ps : List Prec) (i j : ℕ) : Type 0 where
   pub rises : (k : ℕ) → k + 1 < length ps → StandsBefore (arc_at ps k) (arc_at ps (k + 1))
   pub right : (k : ℕ) → k < length ps → Covers line (arc_at ps k).first (arc_at ps k).«then»
   pub low : (k : ℕ) → k < length ps → StandsBefore (arc_at ps k) (record { first = i; «then» = j })
-  pub all : (a b : ℕ) → Covers line a b → StandsBefore (record { first = a; «then» = b }) (record { first = i; «then» = j }) → Leads ps a b
+  pub all : (a b : ℕ) → Covers line a b → StandsBefore (record { first = a; «then» = b })
+      (record { first = i; «then» = j }) → Leads ps a b

@@ -1,6 +1,8 @@
 //! Pairs of tasks, and the end mark.
-ghost use Rattle.std.specs.Prelude.{◌≡◌, ◌≢◌, ◌≤◌, ◌<◌, ◌^◌, ℕ, MatchOption, length, take, drop, IfSome, IsNone, None, Some};
-ghost use Rattle.in2_reader.specs.Pairs.{pair_in, pair_for, comma_split, without_gaps_front, without_gaps_back, is_gap as gap, arc_in, is_minus_one as minus_one};
+ghost use Rattle.std.specs.Prelude.{◌≡◌, ◌≢◌, ◌≤◌, ◌<◌, ◌^◌, ℕ, MatchOption, length, take, drop, IfSome, IsNone, None};
+ghost use Rattle.std.specs.Prelude.{Some};
+ghost use Rattle.in2_reader.specs.Pairs.{pair_in, pair_for, comma_split, without_gaps_front, without_gaps_back};
+ghost use Rattle.in2_reader.specs.Pairs.{is_gap as gap, arc_in, is_minus_one as minus_one};
 ghost use Rattle.line_io.specs.declared.text.Num.TheVariants.{Value};
 ghost use Rattle.line_io.specs.Lines.{number_in};
 

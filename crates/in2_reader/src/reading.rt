@@ -70,7 +70,8 @@ fn read_times(
     line: u64,
 ) -> Result<(Vec<u64>, Left<'_>), ReadError>
     requires { line + length text.now < 2 ^ 64 }
-    ensures exact { Gives (λ x. (x.0.items, contents_from x.1.line x.1.text.now)) result (times_in (lines_in line text.now) tasks (contents_from line text.now)) }
+    ensures exact { Gives (λ x. (x.0.items, contents_from x.1.line x.1.text.now)) result
+        (times_in (lines_in line text.now) tasks (contents_from line text.now)) }
     ensures same { IfOk result (λ x. lines_in x.1.line x.1.text.now ≡ lines_in line text.now) }
     ensures room { IfOk result (λ x. x.1.line + length x.1.text.now < 2 ^ 64) }
 {
@@ -110,7 +111,8 @@ pub fn read_pairs(
     line: u64,
 ) -> Result<(Vec<Prec>, u64), ReadError>
     requires { line + length text.now < 2 ^ 64 }
-    ensures { Gives (λ x. (x.0.items, x.1)) result (pairs_in (lines_in line text.now) meaning tasks most (contents_from line text.now)) }
+    ensures { Gives (λ x. (x.0.items, x.1)) result (pairs_in (lines_in line text.now) meaning tasks most
+        (contents_from line text.now)) }
 {
     let mut arcs = Vec::new(alloc);
     let mut left = text;
@@ -148,7 +150,8 @@ pub fn read_pairs(
 /// Reads an IN2 text, but for cycles.
 pub fn read_draft(alloc: Global, bytes: &[u8]) -> Result<Draft, ReadError>
     requires { length bytes.now < 2 ^ 63 }
-    ensures exact { Gives (λ d. record { times = d.times.items; arcs = d.arcs.items; last = d.last }) result (text_said bytes.now) }
+    ensures exact { Gives (λ d. record { times = d.times.items; arcs = d.arcs.items; last = d.last }) result
+        (text_said bytes.now) }
 {
     match next_content(bytes, 1) {
         Err(end) => Err(fault(end, In2Kind::MissingTimes)),

@@ -7,8 +7,8 @@ ghost use Rattle.in2_reader.specs.Written.{IsIn2Text, AreCovers, AreCoversTo, nu
 use line_instance::{Instance, Prec};
 use std::alloc::{AllocError, Global};
 
-/// The canonical text of an instance: the number of tasks, the times, the covering pairs, ascending and counted from 1, and the end
-/// mark, a line for each. An error where memory is wanting.
+/// The canonical text of an instance: the number of tasks, the times, the covering pairs, ascending and counted from 1,
+/// and the end mark, a line for each. An error where memory is wanting.
 pub fn write_in2(alloc: Global, inst: &Instance) -> Result<Vec<u8>, AllocError>
     ensures { IfOk result (λ text. IsIn2Text inst.now text.items) }
 {

@@ -18,7 +18,8 @@ cert_kind_text Trailing = codes "trailing"
 
 -- the line about the fault of a certificate's text
 abbrev pub cert_fault_line : CertFault → List ℕ
-cert_fault_line fault = codes "certificate: line " ++ decimal fault.line ++ codes " " ++ cert_kind_text fault.kind ++ codes "\n"
+cert_fault_line fault = codes "certificate: line " ++ decimal fault.line ++ codes " " ++ cert_kind_text fault.kind
+    ++ codes "\n"
 
 -- the bytes say the certificate: they are its text, or that of a certificate of version 1 whose lift it is
 abbrev pub IsTextOf : Certificate → List ℕ → Type 0
@@ -37,4 +38,5 @@ IsCertificateOf files name cert = Reads max_certificate (files name) (IsTextOf c
 
 -- the file says no certificate: it isn't taken in, or is no certificate's text
 abbrev pub IsNoCertificate : Outside → List ℕ → Outcome → Type 0
-IsNoCertificate o name out = IsUntaken o max_certificate name out ⊎ Reads max_certificate (o.files name) (λ bytes. IsFaultyCertificate bytes out)
+IsNoCertificate o name out = IsUntaken o max_certificate name out
+    ⊎ Reads max_certificate (o.files name) (λ bytes. IsFaultyCertificate bytes out)

@@ -34,7 +34,8 @@ too_long_line name = codes "input: " ++ printed name ++ codes " too long\n"
 
 -- the file has more bytes than its limit
 abbrev pub IsTooLong : Files → ℕ → List ℕ → Outcome → Type 0
-IsTooLong files limit name out = Has (files name) (λ bytes. (limit < length bytes) × (out ≡ told ends.Input (too_long_line name)))
+IsTooLong files limit name out = Has (files name) (λ bytes. (limit < length bytes)
+    × (out ≡ told ends.Input (too_long_line name)))
 
 -- the file isn't taken in: it can't be read, or it has more bytes than its limit
 abbrev pub IsUntaken : Outside → ℕ → List ℕ → Outcome → Type 0

@@ -65,7 +65,8 @@ IsInstance files name line given = Reads max_file (files name) (λ bytes. Says b
 
 -- the file says no line: it isn't taken in, or has no reading
 abbrev pub IsNoInstance : Outside → List ℕ → Outcome → Type 0
-IsNoInstance o name out = IsUntaken o max_file name out ⊎ Reads max_file (o.files name) (λ bytes. IsFaulty name bytes out)
+IsNoInstance o name out = IsUntaken o max_file name out ⊎ Reads max_file (o.files name)
+    (λ bytes. IsFaulty name bytes out)
 
 -- the cycle time of the words, and else that of the file
 abbrev pub cycle_of : Option ℕ → Option ℕ → Option ℕ
@@ -119,20 +120,24 @@ pub record IsFaultyApart (name : List ℕ) (n : ℕ) (bytes : List ℕ) (out : O
 
 -- the file with the tasks that are apart, of so many, says none: it isn't taken in, or has no reading
 abbrev pub IsNoPairs : Outside → List ℕ → ℕ → Outcome → Type 0
-IsNoPairs o name n out = IsUntaken o max_file name out ⊎ Reads max_file (o.files name) (λ bytes. IsFaultyApart name n bytes out)
+IsNoPairs o name n out = IsUntaken o max_file name out ⊎ Reads max_file (o.files name)
+    (λ bytes. IsFaultyApart name n bytes out)
 
 abbrev pub IsUnparted : Outside → Option (List ℕ) → Line → Outcome → Type 0
 IsUnparted o None whole out = ⊥
 IsUnparted o (Some apart) whole out = IsNoPairs o apart (tasks whole) out
 
--- the line is the instance that the first file says, with the tasks apart that the second file says, where there is one; c is the cycle time
-pub record IsSaid (files : Files) (name : List ℕ) (apart : Option (List ℕ)) (word : Option ℕ) (line : Line) (c : ℕ) : Type 0 where
+-- the line is the instance that the first file says, with the tasks apart that the second file says, where there is
+-- one; c is the cycle time
+pub record IsSaid (files : Files) (name : List ℕ) (apart : Option (List ℕ)) (word : Option ℕ) (line : Line)
+    (c : ℕ) : Type 0 where
   pub whole : Line
   pub timed : IsTimed files name word whole c
   pub parted : IsPartedBy files apart whole line
 
 -- the first file says a line and there is a cycle time, and the file with the tasks that are apart says none
-pub record IsTimedUnparted (o : Outside) (name : List ℕ) (apart : Option (List ℕ)) (word : Option ℕ) (out : Outcome) : Type 0 where
+pub record IsTimedUnparted (o : Outside) (name : List ℕ) (apart : Option (List ℕ)) (word : Option ℕ)
+    (out : Outcome) : Type 0 where
   pub whole : Line
   pub c : ℕ
   pub timed : IsTimed o.files name word whole c
@@ -142,7 +147,8 @@ pub record IsTimedUnparted (o : Outside) (name : List ℕ) (apart : Option (List
 abbrev pub IsUnsaid : Outside → List ℕ → Option (List ℕ) → Option ℕ → Outcome → Type 0
 IsUnsaid o name apart word out = IsUntimedOrNone o name word out ⊎ IsTimedUnparted o name apart word out
 
--- the line is the instance that the first file says, with the tasks apart that the second file says, whatever the cycle time
+-- the line is the instance that the first file says, with the tasks apart that the second file says, whatever the cycle
+-- time
 pub record IsLineOf (files : Files) (name : List ℕ) (apart : Option (List ℕ)) (line : Line) : Type 0 where
   pub whole : Line
   pub given : Option ℕ

@@ -24,7 +24,9 @@ pub(crate) fn pairs_of<S: Shelf>(
 ) -> Result<Vec<Prec>, Stop>
     requires some { 1 ≤ tasks }
     requires few { tasks ≤ 1024 }
-    ensures said { S.tells → MatchResult result (λ v. Reads max_file (S.file shelf.old file.now) (λ bytes. IsApartFile tasks bytes v.items)) (Stops (IsNoPairs (outside (S.file shelf.old) (S.blames shelf.new)) file.now tasks)) }
+    ensures said { S.tells → MatchResult result (λ v. Reads max_file (S.file shelf.old file.now)
+        (λ bytes. IsApartFile tasks bytes v.items)) (Stops (IsNoPairs (outside (S.file shelf.old) (S.blames shelf.new))
+        file.now tasks)) }
     ensures pairs { MatchResult result (λ v. ArePairs tasks v.items) (λ _. Unit {0}) }
     ensures fault { MatchResult result (λ _. Unit {0}) (MayStop (Rises (S.faults shelf.old) (S.faults shelf.new))) }
     ensures count { S.faults shelf.old ≤ S.faults shelf.new }

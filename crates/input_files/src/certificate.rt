@@ -45,7 +45,8 @@ pub fn certificate_of<S: Shelf>(
     file: &str,
     shelf: &mut S,
 ) -> Result<Certificate, Stop>
-    ensures said { S.tells → MatchResult result (IsCertificateOf (S.file shelf.old) file.now) (Stops (IsNoCertificate (outside (S.file shelf.old) (S.blames shelf.new)) file.now)) }
+    ensures said { S.tells → MatchResult result (IsCertificateOf (S.file shelf.old) file.now)
+        (Stops (IsNoCertificate (outside (S.file shelf.old) (S.blames shelf.new)) file.now)) }
     ensures range { IfOk result IsInRange }
     ensures fault { MatchResult result (λ _. Unit {0}) (MayStop (Rises (S.faults shelf.old) (S.faults shelf.new))) }
     ensures count { S.faults shelf.old ≤ S.faults shelf.new }

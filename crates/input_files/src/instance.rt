@@ -1,5 +1,6 @@
 //! Instances: read in either form, with the cycle time of the file and the tasks that are apart.
-ghost use Rattle.std.specs.Prelude.{◌≡◌, ◌≤◌, ◌<◌, ◌^◌, ℕ, true, false, List, Some, None, length, IfOk, MatchResult, option_map};
+ghost use Rattle.std.specs.Prelude.{◌≡◌, ◌≤◌, ◌<◌, ◌^◌, ℕ, true, false, List, Some, None, length, IfOk, MatchResult};
+ghost use Rattle.std.specs.Prelude.{option_map};
 ghost use Rattle.line_io.specs.Outside.{Rises};
 ghost use Rattle.line_instance.specs.Line.{tasks};
 ghost use Rattle.line_words.specs.Ranges.{IsBetween, IsSetBetween};
@@ -8,7 +9,9 @@ ghost use Rattle.command_outcome.specs.declared.status.Status.TheVariants as end
 ghost use Rattle.in2_reader.specs.Texts.{fault_text};
 ghost use Rattle.alb_reader.specs.Texts.{fault_text as alb_fault_text};
 ghost use Rattle.input_files.specs.InputFile.{fault_line};
-ghost use Rattle.input_files.specs.Instance.{Says, IsFaulty, IsInstance, IsNoInstance, IsTimed, IsUntimedOrNone, IsPartedBy, IsUnparted, IsSaid, IsUnsaid, IsLineOf, IsNoLine, cycle_of, is_alb, no_cycle_line};
+ghost use Rattle.input_files.specs.Instance.{Says, IsFaulty, IsInstance, IsNoInstance, IsTimed, IsUntimedOrNone};
+ghost use Rattle.input_files.specs.Instance.{IsPartedBy, IsUnparted, IsSaid, IsUnsaid, IsLineOf, IsNoLine, cycle_of};
+ghost use Rattle.input_files.specs.Instance.{is_alb, no_cycle_line};
 
 use crate::apart_pairs::pairs_of;
 use crate::fetch_file::fetch;
@@ -127,7 +130,8 @@ fn sheet_in(alloc: Global, file: &str, bytes: &[u8]) -> Result<Sheet, Stop>
 
 /// What a file with an instance says: the instance and, where it has one, the cycle time.
 pub fn sheet_of<S: Shelf>(alloc: Global, file: &str, shelf: &mut S) -> Result<Sheet, Stop>
-    ensures said { S.tells → MatchResult result (λ s. IsInstance (S.file shelf.old) file.now s.inst s.cycle) (Stops (IsNoInstance (outside (S.file shelf.old) (S.blames shelf.new)) file.now)) }
+    ensures said { S.tells → MatchResult result (λ s. IsInstance (S.file shelf.old) file.now s.inst s.cycle)
+        (Stops (IsNoInstance (outside (S.file shelf.old) (S.blames shelf.new)) file.now)) }
     ensures limit { IfOk result (λ s. IsSetBetween 1 1000000000000000000 s.cycle) }
     ensures fault { MatchResult result (λ _. Unit {0}) (MayStop (Rises (S.faults shelf.old) (S.faults shelf.new))) }
     ensures count { S.faults shelf.old ≤ S.faults shelf.new }
@@ -142,7 +146,8 @@ pub fn sheet_of<S: Shelf>(alloc: Global, file: &str, shelf: &mut S) -> Result<Sh
 fn cycle_for(alloc: Global, file: &str, word: Option<u64>, given: Option<u64>) -> Result<u64, Stop>
     requires word { IsSetBetween 1 1000000000000000000 word }
     requires given { IsSetBetween 1 1000000000000000000 given }
-    ensures cycle { MatchResult result (λ c. cycle_of word given ≡ Some c) (Stops (λ out. (cycle_of word given ≡ None) × (out ≡ told ends.Input (no_cycle_line file.now)))) }
+    ensures cycle { MatchResult result (λ c. cycle_of word given ≡ Some c)
+        (Stops (λ out. (cycle_of word given ≡ None) × (out ≡ told ends.Input (no_cycle_line file.now)))) }
     ensures limit { IfOk result (λ c. IsBetween 1 1000000000000000000 c) }
     ensures status { MatchResult result (λ _. Unit {0}) (MayStop ⊥) }
 {
@@ -164,7 +169,8 @@ fn timed_of<S: Shelf>(
     shelf: &mut S,
 ) -> Result<Timed, Stop>
     requires word { IsSetBetween 1 1000000000000000000 word }
-    ensures said { S.tells → MatchResult result (λ t. IsTimed (S.file shelf.old) file.now word t.inst t.cycle) (Stops (IsUntimedOrNone (outside (S.file shelf.old) (S.blames shelf.new)) file.now word)) }
+    ensures said { S.tells → MatchResult result (λ t. IsTimed (S.file shelf.old) file.now word t.inst t.cycle)
+        (Stops (IsUntimedOrNone (outside (S.file shelf.old) (S.blames shelf.new)) file.now word)) }
     ensures limit { IfOk result (λ t. IsBetween 1 1000000000000000000 t.cycle) }
     ensures fault { MatchResult result (λ _. Unit {0}) (MayStop (Rises (S.faults shelf.old) (S.faults shelf.new))) }
     ensures count { S.faults shelf.old ≤ S.faults shelf.new }
@@ -185,7 +191,9 @@ fn part<S: Shelf>(
     apart: Option<&str>,
     shelf: &mut S,
 ) -> Result<Instance, Stop>
-    ensures said { S.tells → MatchResult result (IsPartedBy (S.file shelf.old) (option_map (λ a. a.now) apart.entry) inst) (Stops (IsUnparted (outside (S.file shelf.old) (S.blames shelf.new)) (option_map (λ a. a.now) apart.entry) inst)) }
+    ensures said { S.tells → MatchResult result (IsPartedBy (S.file shelf.old) (option_map (λ a. a.now) apart.entry)
+        inst) (Stops (IsUnparted (outside (S.file shelf.old) (S.blames shelf.new)) (option_map (λ a. a.now) apart.entry)
+        inst)) }
     ensures fault { MatchResult result (λ _. Unit {0}) (MayStop (Rises (S.faults shelf.old) (S.faults shelf.new))) }
     ensures count { S.faults shelf.old ≤ S.faults shelf.new }
     ensures files { S.tells → (q : List ℕ) → S.file shelf.new q ≡ S.file shelf.old q }
@@ -208,7 +216,10 @@ pub fn said_instance<S: Shelf>(
     shelf: &mut S,
 ) -> Result<Timed, Stop>
     requires word { IsSetBetween 1 1000000000000000000 word }
-    ensures said { S.tells → MatchResult result (λ t. IsSaid (S.file shelf.old) file.now (option_map (λ a. a.now) apart.entry) word t.inst t.cycle) (Stops (IsUnsaid (outside (S.file shelf.old) (S.blames shelf.new)) file.now (option_map (λ a. a.now) apart.entry) word)) }
+    ensures said { S.tells → MatchResult result (λ t. IsSaid (S.file shelf.old) file.now
+        (option_map (λ a. a.now) apart.entry) word t.inst t.cycle)
+        (Stops (IsUnsaid (outside (S.file shelf.old) (S.blames shelf.new)) file.now
+        (option_map (λ a. a.now) apart.entry) word)) }
     ensures limit { IfOk result (λ t. IsBetween 1 1000000000000000000 t.cycle) }
     ensures fault { MatchResult result (λ _. Unit {0}) (MayStop (Rises (S.faults shelf.old) (S.faults shelf.new))) }
     ensures count { S.faults shelf.old ≤ S.faults shelf.new }
@@ -226,7 +237,9 @@ pub fn line_of<S: Shelf>(
     apart: Option<&str>,
     shelf: &mut S,
 ) -> Result<Instance, Stop>
-    ensures said { S.tells → MatchResult result (IsLineOf (S.file shelf.old) file.now (option_map (λ a. a.now) apart.entry)) (Stops (IsNoLine (outside (S.file shelf.old) (S.blames shelf.new)) file.now (option_map (λ a. a.now) apart.entry))) }
+    ensures said { S.tells → MatchResult result (IsLineOf (S.file shelf.old) file.now
+        (option_map (λ a. a.now) apart.entry)) (Stops (IsNoLine (outside (S.file shelf.old) (S.blames shelf.new))
+        file.now (option_map (λ a. a.now) apart.entry))) }
     ensures fault { MatchResult result (λ _. Unit {0}) (MayStop (Rises (S.faults shelf.old) (S.faults shelf.new))) }
     ensures count { S.faults shelf.old ≤ S.faults shelf.new }
     ensures files { S.tells → (q : List ℕ) → S.file shelf.new q ≡ S.file shelf.old q }

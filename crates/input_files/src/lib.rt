@@ -1,8 +1,8 @@
 //! The files that a command reads: instances in either form, pairs of tasks that are apart, and certificates.
 //!
-//! Each file is fetched whole and then read, one after the other in the order of the words. What can't be taken in stops the command
-//! with its report: the file can't be read, it is too long, or it has no reading, with the first fault in it. A certificate is read
-//! piece by piece, so that its text never stands in memory as a whole.
+//! Each file is fetched whole and then read, one after the other in the order of the words. What can't be taken in
+//! stops the command with its report: the file can't be read, it is too long, or it has no reading, with the first
+//! fault in it. A certificate is read piece by piece, so that its text never stands in memory as a whole.
 #![tactic(auto)]
 
 mod apart_pairs;

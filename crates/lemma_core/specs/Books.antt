@@ -83,12 +83,15 @@ with_room b room = record { about = b.about; opening = b.opening; state = b.stat
 
 -- what publishing does to a book: the core machine answers, and the event is done; or, out of memory, nothing is
 abbrev pub DoesPublish : BookView → Entry → Published → BookView → Type 0
-DoesPublish old e (published.Known id) new = (answer old.about.cycle old.state (event.Publish e) ≡ reply.Known id) × (new ≡ ran old (event.Publish e ∷ []))
-DoesPublish old e (published.Added id) new = (answer old.about.cycle old.state (event.Publish e) ≡ reply.Added id) × (new ≡ ran old (event.Publish e ∷ []))
+DoesPublish old e (published.Known id) new = (answer old.about.cycle old.state (event.Publish e) ≡ reply.Known id)
+    × (new ≡ ran old (event.Publish e ∷ []))
+DoesPublish old e (published.Added id) new = (answer old.about.cycle old.state (event.Publish e) ≡ reply.Added id)
+    × (new ≡ ran old (event.Publish e ∷ []))
 DoesPublish old e published.NoMemory new = new ≡ old
 
 -- Some of the events were done, from the first on, and no other: the answers to these were appended.
-pub record DidSome (old : BookView) (vs : List Event) (rs : List Reply) (new : BookView) (all : List Reply) : Type 0 where
+pub record DidSome (old : BookView) (vs : List Event) (rs : List Reply) (new : BookView)
+    (all : List Reply) : Type 0 where
   pub done : List Event
   pub left : List Event
   pub events : done ++ left ≡ vs

@@ -82,9 +82,11 @@ Finds es set most cycle looked.Absent = IsUnanswered es set most cycle
 -- entries before; and out of memory no event is added
 abbrev pub Publishes : DeskView → DeskView → Entry → Published → Type 0
 Publishes old new e (published.Known id) =
-    (before : List Item) × Adds old new before (known id e.most) × IsLastAnswer (entries_after old before) e.set e.most e.cycle id
+    (before : List Item) × Adds old new before (known id e.most)
+    × IsLastAnswer (entries_after old before) e.set e.most e.cycle id
 Publishes old new e (published.Added id) =
-    (before : List Item) × Adds old new before (added id e) × IsUnanswered (entries_after old before) e.set e.most e.cycle
+    (before : List Item) × Adds old new before (added id e)
+    × IsUnanswered (entries_after old before) e.set e.most e.cycle
     × (id ≡ length (entries_after old before))
 Publishes old new e published.NoMemory = Waits old new
 

@@ -1,5 +1,6 @@
 -- The history of a machine: what its log keeps, and the state that replays from it.
-use Rattle.std.specs.Prelude.{◌≡◌, ℕ, suc, ◌<◌, min, cond, Bool, List, [], ◌∷◌, ◌++◌, length, slice_get, Option, Some, None}
+use Rattle.std.specs.Prelude.{◌≡◌, ℕ, suc, ◌<◌, min, cond, Bool, List, [], ◌∷◌, ◌++◌, length, slice_get, Option, Some}
+use Rattle.std.specs.Prelude.{None}
 use Rattle.line_rules.specs.Entries.{IsUnanswered, IsLastAnswer}
 use Rattle.line_rules.specs.declared.types.Entry.{Entry}
 use Rattle.lemma_core.specs.declared.types.LogItem.{LogItem}

@@ -12,8 +12,10 @@ use Rattle.lemma_core.specs.Own.{IsStatable, AreStatable, named, added_of, AreAt
 
 -- the search from end to end finds the last entry that answers a question, and None exactly where none does
 pub record LastAnswerIsLast : Type 0 where
-  pub found : (es : List Entry) (set : List Bool) (most cycle id : ℕ) → last_answer es set most cycle ≡ Some id → IsLastAnswer es set most cycle id
-  pub absent : (es : List Entry) (set : List Bool) (most cycle : ℕ) → last_answer es set most cycle ≡ None → IsUnanswered es set most cycle
+  pub found : (es : List Entry) (set : List Bool) (most cycle id : ℕ) → last_answer es set most cycle ≡ Some id
+      → IsLastAnswer es set most cycle id
+  pub absent : (es : List Entry) (set : List Bool) (most cycle : ℕ) → last_answer es set most cycle ≡ None
+      → IsUnanswered es set most cycle
 
 -- a run's history replays from the state at its start to the entries and the best's stations at its end
 abbrev pub HistoryReplays : Type 0
@@ -45,12 +47,14 @@ pub record IsKept (about : About) (s : State) : Type 0 where
 
 -- a run of events that may come keeps that
 abbrev pub RunsKeep : Type 0
-RunsKeep = (about : About) (s : State) (vs : List Event) → IsKept about s → AllMayCome about s vs → IsKept about (run s vs)
+RunsKeep = (about : About) (s : State) (vs : List Event) → IsKept about s → AllMayCome about s vs
+    → IsKept about (run s vs)
 
 -- a history that goes on only adds entries, and its fewest stations only fall; and what an exact history begins with
 -- is exact
 pub record HistoryGoesOn : Type 0 where
-  pub entries : (s : Standing) (xs ys : List Item) → Begins xs ys → (more : List Entry) × ((replay s ys).entries ≡ (replay s xs).entries ++ more)
+  pub entries : (s : Standing) (xs ys : List Item) → Begins xs ys
+      → (more : List Entry) × ((replay s ys).entries ≡ (replay s xs).entries ++ more)
   pub stations : (s : Standing) (xs ys : List Item) → Begins xs ys → (replay s ys).stations ≤ (replay s xs).stations
   pub exact : (s : Standing) (xs ys : List Item) → Begins xs ys → AreExact s ys → AreExact s xs
 
@@ -66,19 +70,25 @@ pub record DesksGoOn : Type 0 where
 pub record OwnEventsGoOn : Type 0 where
   pub none : (d : DeskView) → Did d d []
   pub waits : (a b c : DeskView) (is : List Item) → Did a b is → Waits b c → Did a c is
-  pub adds : (a b c : DeskView) (is before : List Item) (item : Item) → Keeps a b → Did a b is → Adds b c before item → Did a c (is ++ item ∷ [])
-  pub both : (a b c : DeskView) (is js : List Item) → Keeps a b → Keeps b c → Did a b is → Did b c js → Did a c (is ++ js)
+  pub adds : (a b c : DeskView) (is before : List Item) (item : Item) → Keeps a b → Did a b is → Adds b c before item
+      → Did a c (is ++ item ∷ [])
+  pub both : (a b c : DeskView) (is js : List Item) → Keeps a b → Keeps b c → Did a b is → Did b c js
+      → Did a c (is ++ js)
   pub there : (h g : List Item) (places : List ℕ) (is : List Item) → Begins h g → AreAt h places is → AreAt g places is
 
 -- what a desk has seen since it was `a`, where it is alone: its own items, by the same steps
 pub record AloneSeesItsOwn : Type 0 where
   pub none : (d : DeskView) → SawOnly d d []
   pub waits : (a b c : DeskView) (is : List Item) → Keeps a b → SawOnly a b is → Waits b c → SawOnly a c is
-  pub adds : (a b c : DeskView) (is before : List Item) (item : Item) → Keeps a b → SawOnly a b is → Adds b c before item → SawOnly a c (is ++ item ∷ [])
-  pub both : (a b c : DeskView) (is js : List Item) → Keeps a b → SawOnly a b is → SawOnly b c js → SawOnly a c (is ++ js)
+  pub adds : (a b c : DeskView) (is before : List Item) (item : Item) → Keeps a b → SawOnly a b is
+      → Adds b c before item → SawOnly a c (is ++ item ∷ [])
+  pub both : (a b c : DeskView) (is js : List Item) → Keeps a b → SawOnly a b is → SawOnly b c js
+      → SawOnly a c (is ++ js)
 
 -- the entries that a desk has seen go on with those that it saw added, and an item names the same entry among them
 pub record EntriesGoOn : Type 0 where
   pub more : (a b : DeskView) → Keeps a b → (es : List Entry) × (entries b ≡ entries a ++ es)
-  pub added : (a b : DeskView) (is : List Item) → Keeps a b → b.seen ≡ a.seen ++ is → entries b ≡ entries a ++ added_of is
-  pub named : (es more : List Entry) (item : Item) (e : Entry) → named es item ≡ Some e → named (es ++ more) item ≡ Some e
+  pub added : (a b : DeskView) (is : List Item) → Keeps a b → b.seen ≡ a.seen ++ is
+      → entries b ≡ entries a ++ added_of is
+  pub named : (es more : List Entry) (item : Item) (e : Entry) → named es item ≡ Some e
+      → named (es ++ more) item ≡ Some e

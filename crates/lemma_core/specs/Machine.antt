@@ -1,5 +1,6 @@
 -- The core machine: its state, what each event answers and does, and a run of events.
-use Rattle.std.specs.Prelude.{ℕ, suc, Bool, cond, ◌&&◌, nat_le, nat_lt, List, [], ◌∷◌, ◌++◌, length, slice_get, Option, Some, None}
+use Rattle.std.specs.Prelude.{ℕ, suc, Bool, cond, ◌&&◌, nat_le, nat_lt, List, [], ◌∷◌, ◌++◌, length, slice_get, Option}
+use Rattle.std.specs.Prelude.{Some, None}
 use Rattle.std.specs.Bool.{beq}
 use lib.Pointwise.{pointwise}
 use Rattle.line_instance.specs.Line.{Line}
@@ -37,7 +38,8 @@ later None o = o
 -- the number of the last entry that answers the question, the first entry having the number k; None where no entry does
 abbrev pub last_from : ℕ → List Entry → List Bool → ℕ → ℕ → Option ℕ
 last_from k [] set most cycle = None
-last_from k (e ∷ es) set most cycle = later (last_from (suc k) es set most cycle) (cond (answers e set most cycle) (Some k) None)
+last_from k (e ∷ es) set most cycle = later (last_from (suc k) es set most cycle)
+    (cond (answers e set most cycle) (Some k) None)
 
 -- the same, numbered from 0
 abbrev pub last_answer : List Entry → List Bool → ℕ → ℕ → Option ℕ

@@ -36,7 +36,8 @@ IsShown kind line a upper b = (b.stations ≡ upper_stations a upper) × IsRight
 
 -- it is in as many stations as it should be, and this is the first thing wrong with it
 abbrev pub IsWrong : LineKind → Line → Ask → ℕ → Assignment → BalanceCheck → Type 0
-IsWrong kind line a upper b check = (b.stations ≡ upper_stations a upper) × IsChecked kind line (upper_cycle a upper) b check
+IsWrong kind line a upper b check = (b.stations ≡ upper_stations a upper)
+    × IsChecked kind line (upper_cycle a upper) b check
 
 -- the first thing that is wrong with the balance
 abbrev pub BalanceFails : LineKind → Line → Ask → ℕ → Assignment → Place → Type 0
@@ -61,12 +62,14 @@ IsAllowed a lower upper t = (f : OpenFrame) × ((slice_get t.frames 0 ≡ Some f
 abbrev pub TrailFails : LineKind → Line → Ask → ℕ → ℕ → List Entry → Option Trail → ℕ → ℕ → FrameFault → Type 0
 TrailFails kind line a lower upper es None steps j why = ⊥
 TrailFails kind line a lower upper es (Some t) steps j why =
-    ((IsAllowed a lower upper t → ⊥) × (j ≡ 0) × (why ≡ fault.Allowed)) ⊎ (IsAllowed a lower upper t × IsFrameRefused kind line t.cycle es t.frames steps j why)
+    ((IsAllowed a lower upper t → ⊥) × (j ≡ 0) × (why ≡ fault.Allowed))
+    ⊎ (IsAllowed a lower upper t × IsFrameRefused kind line t.cycle es t.frames steps j why)
 
 -- some load of the trail is walked as one more than `steps`, and every check up to it held
 abbrev pub TrailEnds : LineKind → Line → Ask → ℕ → ℕ → List Entry → Option Trail → ℕ → Type 0
 TrailEnds kind line a lower upper es None steps = ⊥
-TrailEnds kind line a lower upper es (Some t) steps = IsAllowed a lower upper t × AreFramesEnded kind line t.cycle es t.frames steps
+TrailEnds kind line a lower upper es (Some t) steps = IsAllowed a lower upper t
+    × AreFramesEnded kind line t.cycle es t.frames steps
 
 -- The first check of bounds that fails, when the balance shows the upper one: an entry, the lower bound, or a frame.
 abbrev pub ProofFails : LineKind → Line → Ask → ℕ → ℕ → List Entry → Option Trail → ℕ → Place → Type 0
@@ -83,21 +86,26 @@ ProofFails kind line a lower upper es trail steps (place.Entry entry why) = IsRe
 ProofFails kind line a lower upper es trail steps place.Goal =
     (units : ℕ) × (AreDone kind line es steps units × (1 < lower) × (Refutes line es a lower → ⊥))
 ProofFails kind line a lower upper es trail steps (place.Frame frame why) =
-    (units : ℕ) × (AreDone kind line es steps units × (1 < lower → Refutes line es a lower) × TrailFails kind line a lower upper es trail (steps - units) frame why)
+    (units : ℕ) × (AreDone kind line es steps units × (1 < lower → Refutes line es a lower)
+    × TrailFails kind line a lower upper es trail (steps - units) frame why)
 
 -- some load of an entry, or, where all checks of the entries hold, of a frame is walked as one more than `steps`
 abbrev pub ProofEnds : LineKind → Line → Ask → ℕ → ℕ → List Entry → Option Trail → ℕ → Type 0
 ProofEnds kind line a lower upper es trail steps =
     AreStepsEnded kind line es steps
-    ⊎ ((units : ℕ) × (AreDone kind line es steps units × (1 < lower → Refutes line es a lower) × TrailEnds kind line a lower upper es trail (steps - units)))
+    ⊎ ((units : ℕ) × (AreDone kind line es steps units × (1 < lower → Refutes line es a lower)
+    × TrailEnds kind line a lower upper es trail (steps - units)))
 
 -- what is found of bounds
-abbrev pub IsBoundsVerdict : LineKind → Line → Ask → ℕ → ℕ → Assignment → List Entry → Option Trail → ℕ → Verified → Type 0
+abbrev pub IsBoundsVerdict : LineKind → Line → Ask → ℕ → ℕ → Assignment → List Entry → Option Trail → ℕ → Verified
+    → Type 0
 IsBoundsVerdict kind line a lower upper b es trail steps (verified.Accepted l u units) =
-    (l ≡ lower) × (u ≡ upper) × IsProof kind line a lower upper b es trail × UnitsWhole line es trail units × (units ≤ steps)
+    (l ≡ lower) × (u ≡ upper) × IsProof kind line a lower upper b es trail × UnitsWhole line es trail units
+    × (units ≤ steps)
 IsBoundsVerdict kind line a lower upper b es trail steps (verified.TooLong i) = ⊥
 IsBoundsVerdict kind line a lower upper b es trail steps (verified.Refused place) =
-    BalanceFails kind line a upper b place ⊎ (IsShown kind line a upper b × ProofFails kind line a lower upper es trail steps place)
+    BalanceFails kind line a upper b place ⊎ (IsShown kind line a upper b
+    × ProofFails kind line a lower upper es trail steps place)
 IsBoundsVerdict kind line a lower upper b es trail steps (verified.StepsEnded s) =
     (s ≡ steps) × IsShown kind line a upper b × ProofEnds kind line a lower upper es trail steps
 
@@ -122,7 +130,8 @@ AreFoundOf line cert steps found = ClaimFound cert.kind line cert.claim steps fo
 abbrev pub TaskFails : Line → ℕ → ℕ → Place → Type 0
 TaskFails line c task p =
     ((t : ℕ) × ((p ≡ place.Infeasible task t) × (t ≡ time line task) × (t ≤ c)))
-    ⊎ ((least : ℕ) × ((p ≡ place.Earlier task least) × (c < time line task) × IsLeastWhere (IsTooLong line c) least × (least < task)))
+    ⊎ ((least : ℕ) × ((p ≡ place.Earlier task least) × (c < time line task) × IsLeastWhere (IsTooLong line c) least
+    × (least < task)))
 
 -- what is found of the claim that a task is too long
 abbrev pub IsTaskVerdict : Line → ℕ → ℕ → Verified → Type 0
@@ -140,8 +149,9 @@ abbrev pub IsClaimVerdict : LineKind → Line → Ask → Claim → ℕ → Veri
 IsClaimVerdict kind line a (claim.TooLong task) steps v = IsTooLongVerdict line a task v
 IsClaimVerdict kind line a (claim.Bounds l u b es trail) steps v = IsBoundsVerdict kind line a l u b es trail steps v
 
--- What is found of a certificate: that it is of another number of tasks, or what is found of its claim. So Accepted and TooLong come where
--- the certificate is accepted, Refused at the first check that fails, and StepsEnded where more loads than `steps` had to be walked.
+-- What is found of a certificate: that it is of another number of tasks, or what is found of its claim. So Accepted and
+-- TooLong come where the certificate is accepted, Refused at the first check that fails, and StepsEnded where more
+-- loads than `steps` had to be walked.
 abbrev pub IsVerdict : Line → Certificate → ℕ → Verified → Type 0
 IsVerdict line cert steps v =
     ((v ≡ verified.Refused (place.Tasks cert.tasks (tasks line))) × (cert.tasks ≡ tasks line → ⊥))
@@ -154,16 +164,20 @@ IsAcceptedSo line cert steps (verified.TooLong i) = IsInfeasible line cert i
 IsAcceptedSo line cert steps (verified.Refused place) = Unit {0}
 IsAcceptedSo line cert steps (verified.StepsEnded s) = Unit {0}
 
--- What is accepted is true: there is a balance at the upper bound, and none below the lower one; or there is none in any number of stations.
+-- What is accepted is true: there is a balance at the upper bound, and none below the lower one; or there is none in
+-- any number of stations.
 abbrev pub IsTrueOf : Line → Certificate → Verified → Type 0
 IsTrueOf line cert (verified.Accepted l u units) = IsProved cert.kind line cert.ask l u
 IsTrueOf line cert (verified.TooLong i) = NoBalanceIsLeft cert.ask cert.kind line
 IsTrueOf line cert (verified.Refused place) = Unit {0}
 IsTrueOf line cert (verified.StepsEnded s) = Unit {0}
 
--- What isn't accepted: no bounds and no task of a certificate that is refused, and, where the steps ended, no bounds with so few units.
+-- What isn't accepted: no bounds and no task of a certificate that is refused, and, where the steps ended, no bounds
+-- with so few units.
 abbrev pub IsRejectedSo : Line → Certificate → ℕ → Verified → Type 0
 IsRejectedSo line cert steps (verified.Accepted l u units) = Unit {0}
 IsRejectedSo line cert steps (verified.TooLong i) = Unit {0}
-IsRejectedSo line cert steps (verified.Refused place) = ((l u units : ℕ) → IsAccepted line cert l u units → ⊥) × ((i : ℕ) → IsInfeasible line cert i → ⊥)
-IsRejectedSo line cert steps (verified.StepsEnded s) = ((l u units : ℕ) → IsAccepted line cert l u units → steps < units) × ((i : ℕ) → IsInfeasible line cert i → ⊥)
+IsRejectedSo line cert steps (verified.Refused place) = ((l u units : ℕ) → IsAccepted line cert l u units → ⊥)
+    × ((i : ℕ) → IsInfeasible line cert i → ⊥)
+IsRejectedSo line cert steps (verified.StepsEnded s) = ((l u units : ℕ) → IsAccepted line cert l u units
+    → steps < units) × ((i : ℕ) → IsInfeasible line cert i → ⊥)

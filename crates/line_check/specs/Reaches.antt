@@ -12,17 +12,21 @@ use Rattle.line_check.specs.Walks.{Tells}
 use Rattle.line_check.specs.declared.types.Walked.{Walked}
 use Rattle.line_check.specs.declared.types.Walked.TheVariants as walked
 
--- the loads that a frame's cites are matched with, of those that need one: up to the last, and above the deepest frame those before it
+-- the loads that a frame's cites are matched with, of those that need one: up to the last, and above the deepest frame
+-- those before it
 abbrev pub IsMatched : Bool → Line → Option Load → Load → Type 0
 IsMatched true line last k = UpTo line last k
 IsMatched false line None k = ⊥
 IsMatched false line (Some end) k = Precedes line k end
 
 -- what is told of a walk up to a last load
-abbrev pub TellsTo : LineKind → Line → ℕ → Mode → List Bool → ℕ → List Entry → List ℕ → Load → Bool → ℕ → Walked → Type 0
+abbrev pub TellsTo : LineKind → Line → ℕ → Mode → List Bool → ℕ → List Entry → List ℕ → Load → Bool → ℕ → Walked
+    → Type 0
 TellsTo kind line c mode R most es cites end deepest steps r =
-    Tells line (λ k. IsLoad line c mode R k × UpTo line (Some end) k) (λ k. IsOpen kind line c mode R most k × IsMatched deepest line (Some end) k) es R most c cites steps r
+    Tells line (λ k. IsLoad line c mode R k × UpTo line (Some end) k)
+    (λ k. IsOpen kind line c mode R most k × IsMatched deepest line (Some end) k) es R most c cites steps r
 
 -- at the end of a walk, cites are left or all are taken
 abbrev pub HasEnded : List ℕ → ℕ → ℕ → Walked → Type 0
-HasEnded cites taken units r = ((taken < length cites) × (r ≡ walked.Spare units)) ⊎ ((length cites ≤ taken) × (r ≡ walked.Right units))
+HasEnded cites taken units r = ((taken < length cites) × (r ≡ walked.Spare units))
+    ⊎ ((length cites ≤ taken) × (r ≡ walked.Right units))

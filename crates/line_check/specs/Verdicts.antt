@@ -46,21 +46,28 @@ IsListRefused kind line es trail steps (place.Broken i j) = ⊥
 IsListRefused kind line es trail steps (place.Together i j) = ⊥
 IsListRefused kind line es trail steps (place.Entry entry why) = IsRefusedAt kind line es steps entry why
 IsListRefused kind line es trail steps place.Goal = ⊥
-IsListRefused kind line es trail steps (place.Frame frame why) = (units : ℕ) × AreDone kind line es steps units × IsTrailRefused kind line es trail (steps - units) frame why
+IsListRefused kind line es trail steps (place.Frame frame why) = (units : ℕ) × AreDone kind line es steps units
+    × IsTrailRefused kind line es trail (steps - units) frame why
 
--- some load of an entry, or, where all of them follow, of a frame is walked as one more than `steps`, and every check up to it held
+-- some load of an entry, or, where all of them follow, of a frame is walked as one more than `steps`, and every check
+-- up to it held
 abbrev pub IsListEnded : LineKind → Line → List Entry → Option Trail → ℕ → Type 0
 IsListEnded kind line es trail steps =
-    AreStepsEnded kind line es steps ⊎ ((units : ℕ) × AreDone kind line es steps units × IsTrailEnded kind line es trail (steps - units))
+    AreStepsEnded kind line es steps ⊎ ((units : ℕ) × AreDone kind line es steps units
+    × IsTrailEnded kind line es trail (steps - units))
 
 -- what is found of a list and a trail
 abbrev pub IsListChecked : LineKind → Line → List Entry → Option Trail → ℕ → ListChecked → Type 0
-IsListChecked kind line es trail steps (checked.Right units) = IsDerived kind line es × IsTrailOrNothing kind line es trail × UnitsWhole line es trail units × (units ≤ steps)
+IsListChecked kind line es trail steps (checked.Right units) = IsDerived kind line es
+    × IsTrailOrNothing kind line es trail × UnitsWhole line es trail units × (units ≤ steps)
 IsListChecked kind line es trail steps (checked.Refused place) = IsListRefused kind line es trail steps place
 IsListChecked kind line es trail steps (checked.StepsEnded s) = (s ≡ steps) × IsListEnded kind line es trail steps
 
--- What isn't right: a list that is refused isn't derived with a valid trail, and where the steps ended it has more units.
+-- What isn't right: a list that is refused isn't derived with a valid trail, and where the steps ended it has more
+-- units.
 abbrev pub IsListRejected : LineKind → Line → List Entry → Option Trail → ℕ → ListChecked → Type 0
 IsListRejected kind line es trail steps (checked.Right units) = Unit {0}
-IsListRejected kind line es trail steps (checked.Refused place) = IsDerived kind line es → IsTrailOrNothing kind line es trail → ⊥
-IsListRejected kind line es trail steps (checked.StepsEnded s) = (units : ℕ) → UnitsWhole line es trail units → steps < units
+IsListRejected kind line es trail steps (checked.Refused place) = IsDerived kind line es
+    → IsTrailOrNothing kind line es trail → ⊥
+IsListRejected kind line es trail steps (checked.StepsEnded s) = (units : ℕ) → UnitsWhole line es trail units
+    → steps < units

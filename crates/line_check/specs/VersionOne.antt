@@ -54,9 +54,11 @@ IsOneOrNone P ps = (ps ≡ []) ⊎ ((p : Part) × (ps ≡ p ∷ []) × P p)
 
 -- the parts that show the lower bound: one where it is above 1, and else none
 abbrev pub AreLower : LineKind → Line → ℕ → ℕ → List Part → Type 0
-AreLower kind line m lower ps = ((lower ≤ 1) × (ps ≡ [])) ⊎ ((1 < lower) × ((p : Part) × (ps ≡ p ∷ []) × ShowsLower kind line m lower p))
+AreLower kind line m lower ps = ((lower ≤ 1) × (ps ≡ [])) ⊎ ((1 < lower)
+    × ((p : Part) × (ps ≡ p ∷ []) × ShowsLower kind line m lower p))
 
--- Asked for m stations: where the lower bound is above 1 the first part shows it; one further part may stand, and no other.
+-- Asked for m stations: where the lower bound is above 1 the first part shows it; one further part may stand, and no
+-- other.
 pub record PassesForStations (kind : LineKind) (line : Line) (m lower upper : ℕ) (ps : List Part) : Type 0 where
   pub first : List Part
   pub further : List Part
@@ -72,10 +74,12 @@ ArePassing kind line (ask.Cycle m) lower upper ps = PassesForStations kind line 
 -- the units of the parts
 abbrev pub PartUnits : Line → List Part → ℕ → Type 0
 PartUnits line [] units = units ≡ 0
-PartUnits line (p ∷ ps) units = (a : ℕ) × (b : ℕ) × (UnitsWhole line p.entries (trail_at p.cycle p.frames) a × PartUnits line ps b × (units ≡ a + b))
+PartUnits line (p ∷ ps) units = (a : ℕ) × (b : ℕ) × (UnitsWhole line p.entries (trail_at p.cycle p.frames) a
+    × PartUnits line ps b × (units ≡ a + b))
 
 -- bounds pass: the balance is right and shows the upper one, the parts pass, and have these units
-pub record ArePassingBounds (kind : LineKind) (line : Line) (a : Ask) (lower upper : ℕ) (b : Assignment) (ps : List Part) (walked : ℕ) : Type 0 where
+pub record ArePassingBounds (kind : LineKind) (line : Line) (a : Ask) (lower upper : ℕ) (b : Assignment)
+    (ps : List Part) (walked : ℕ) : Type 0 where
   pub balance : IsRight kind line (upper_cycle a upper) b
   pub stations : b.stations ≡ upper_stations a upper
   pub parts : ArePassing kind line a lower upper ps
@@ -84,7 +88,8 @@ pub record ArePassingBounds (kind : LineKind) (line : Line) (a : Ask) (lower upp
 -- the claim of bounds passes
 abbrev pub ClaimPasses : LineKind → Line → Ask → OldClaim → ℕ → ℕ → ℕ → Type 0
 ClaimPasses kind line a (claim.TooLong i) lower upper units = ⊥
-ClaimPasses kind line a (claim.Bounds l u b ps) lower upper units = (lower ≡ l) × (upper ≡ u) × ArePassingBounds kind line a l u b ps units
+ClaimPasses kind line a (claim.Bounds l u b ps) lower upper units = (lower ≡ l) × (upper ≡ u)
+    × ArePassingBounds kind line a l u b ps units
 
 -- A certificate of version 1 passes, with these bounds and units.
 pub record Passes (line : Line) (old : OldCertificate) (lower upper units : ℕ) : Type 0 where
@@ -103,8 +108,10 @@ pub record PassesTooLong (line : Line) (old : OldCertificate) (i : ℕ) : Type 0
 -- The lift of a certificate of version 1 that passes is accepted, with the same bounds and units.
 abbrev pub EveryPassingLiftIsAccepted : Type 0
 EveryPassingLiftIsAccepted =
-    (line : Line) (old : OldCertificate) (lower upper units : ℕ) → Passes line old lower upper units → IsAccepted line (lift old) lower upper units
+    (line : Line) (old : OldCertificate) (lower upper units : ℕ) → Passes line old lower upper units
+    → IsAccepted line (lift old) lower upper units
 
 -- the same of one that says that a task is too long
 abbrev pub EveryPassingTooLongIsAccepted : Type 0
-EveryPassingTooLongIsAccepted = (line : Line) (old : OldCertificate) (i : ℕ) → PassesTooLong line old i → IsInfeasible line (lift old) i
+EveryPassingTooLongIsAccepted = (line : Line) (old : OldCertificate) (i : ℕ) → PassesTooLong line old i
+    → IsInfeasible line (lift old) i

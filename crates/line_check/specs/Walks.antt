@@ -20,7 +20,8 @@ pub record IsFirstLate (cites : List ℕ) (k x : ℕ) : Type 0 where
 abbrev pub AreBelow : List ℕ → ℕ → Type 0
 AreBelow cites k = (p x : ℕ) → slice_get cites p ≡ Some x → x < k
 
--- the loads that pass W are walked, and those that pass P need a cite of an entry that refutes the rest of R with one station less
+-- the loads that pass W are walked, and those that pass P need a cite of an entry that refutes the rest of R with one
+-- station less
 module _ (line : Line) (W P : Load → Type 0) (earlier : List Entry) (R : List Bool) (most c : ℕ) (cites : List ℕ) where
   -- so many loads are walked up to and including this one
   abbrev pub CountsTo : Load → ℕ → Type 0
@@ -28,7 +29,8 @@ module _ (line : Line) (W P : Load → Type 0) (earlier : List Entry) (R : List 
 
   -- the first cites cover the loads before this one
   abbrev pub CoversBefore : Load → ℕ → Type 0
-  CoversBefore load taken = (taken ≤ length cites) × Covers line (λ k. P k × Precedes line k load) earlier R most c (take taken cites)
+  CoversBefore load taken = (taken ≤ length cites) × Covers line (λ k. P k × Precedes line k load) earlier R most c
+      (take taken cites)
 
   -- the load is the first that needs a cite and has none left, or isn't covered by it
   pub record IsUncovered (load : Load) : Type 0 where

@@ -3,8 +3,11 @@ ghost use Rattle.std.specs.Prelude.{◌≡◌, ℕ, ◌<◌, ◌≤◌, ◌↔�
 ghost use Rattle.line_instance.specs.Line.{tasks};
 ghost use Rattle.line_rules.specs.Accepted.{Refutes, MayBegin, upper_stations, upper_cycle};
 ghost use Rattle.line_rules.specs.Entries.{Answers, HasAnswer};
-ghost use Rattle.line_rules.specs.Ranges.{IsInRange, IsCycle, IsPlacing, AreBounds, AreEntries, IsTrailLike, IsTrailOrNone};
-ghost use Rattle.line_check.specs.Certificates.{IsShown, BalanceFails, IsAllowed, IsBoundsVerdict, IsTaskVerdict, IsVerdict, IsAcceptedSo, IsRejectedSo, IsTrueOf, NeedsEntries, AreFoundOf};
+ghost use Rattle.line_rules.specs.Ranges.{IsInRange, IsCycle, IsPlacing, AreBounds, AreEntries, IsTrailLike};
+ghost use Rattle.line_rules.specs.Ranges.{IsTrailOrNone};
+ghost use Rattle.line_check.specs.Certificates.{IsShown, BalanceFails, IsAllowed, IsBoundsVerdict, IsTaskVerdict};
+ghost use Rattle.line_check.specs.Certificates.{IsVerdict, IsAcceptedSo, IsRejectedSo, IsTrueOf, NeedsEntries};
+ghost use Rattle.line_check.specs.Certificates.{AreFoundOf};
 ghost use Rattle.line_check.specs.Verdicts.{IsListChecked, IsListRejected};
 ghost use Rattle.line_check.specs.Lists.{AreFound};
 
@@ -18,8 +21,9 @@ use line_rules::{
 };
 use task_set::TaskSet;
 
-/// Checks a list of entries and a trail beside it: that each entry follows from those before it, and that the trail is a valid one. That the
-/// first frame lies within the bounds of a certificate isn't asked. At most `steps` loads are walked. Takes no memory.
+/// Checks a list of entries and a trail beside it: that each entry follows from those before it, and that the trail is
+/// a valid one. That the first frame lies within the bounds of a certificate isn't asked. At most `steps` loads are
+/// walked. Takes no memory.
 pub fn verify_list(
     inst: &Instance,
     kind: LineKind,
@@ -36,8 +40,9 @@ pub fn verify_list(
     verify_list_found(inst, kind, entries, trail, steps, found)
 }
 
-/// Checks a list as [`verify_list`] does, where its entries were checked before, as by [`check_entry`](crate::check_entry) side by side:
-/// `found` is what the check of the entries in their order, with so many steps, finds.
+/// Checks a list as [`verify_list`] does, where its entries were checked before, as by
+/// [`check_entry`](crate::check_entry) side by side: `found` is what the check of the entries in their order, with so
+/// many steps, finds.
 pub fn verify_list_found(
     inst: &Instance,
     kind: LineKind,
@@ -102,8 +107,8 @@ fn answers(entry: &Entry, set: &TaskSet, most: u64, cycle: u64) -> bool
     entry.cycle >= cycle
 }
 
-/// Whether an entry of a list answers a question: whether it is of that set, for as many stations or more, at that cycle or a greater one.
-/// One pass over the entries.
+/// Whether an entry of a list answers a question: whether it is of that set, for as many stations or more, at that
+/// cycle or a greater one. One pass over the entries.
 pub fn has_answer(entries: &Entries, set: &TaskSet, most: u64, cycle: u64) -> bool
     ensures some { IsTrue result → HasAnswer entries.now set.now most cycle }
     ensures none { HasAnswer entries.now set.now most cycle → IsTrue result }
@@ -167,8 +172,8 @@ fn upper_cycle(ask: Ask, upper: u64) -> u64
     }
 }
 
-/// The first thing that is wrong with the balance of a certificate, if it doesn't show the upper bound; the upper bound is tested alone, and
-/// nothing else of the certificate. Takes no memory.
+/// The first thing that is wrong with the balance of a certificate, if it doesn't show the upper bound; the upper bound
+/// is tested alone, and nothing else of the certificate. Takes no memory.
 pub fn balance_fault(
     inst: &Instance,
     kind: LineKind,
@@ -309,8 +314,8 @@ fn judge(inst: &Instance, cert: &Certificate, steps: u64, found: ListFound) -> V
     }
 }
 
-/// Whether the check of a certificate comes to its entries: it is of as many tasks as the line has, and claims bounds of which its balance
-/// shows the upper one.
+/// Whether the check of a certificate comes to its entries: it is of as many tasks as the line has, and claims bounds
+/// of which its balance shows the upper one.
 pub fn needs_entries(inst: &Instance, cert: &Certificate) -> bool
     requires range { IsInRange cert.now }
     ensures { IsTrue result ↔ NeedsEntries inst.now cert.now }
@@ -341,8 +346,9 @@ fn entries_found(inst: &Instance, cert: &Certificate, steps: u64) -> ListFound
     }
 }
 
-/// Checks a certificate against a line: its balance, its entries, its lower bound and its trail, in this order, up to the first check that
-/// fails. At most `steps` loads are walked, 1 to 20,000,000. What is accepted is true of the line. Takes no memory.
+/// Checks a certificate against a line: its balance, its entries, its lower bound and its trail, in this order, up to
+/// the first check that fails. At most `steps` loads are walked, 1 to 20,000,000. What is accepted is true of the line.
+/// Takes no memory.
 pub fn verify(inst: &Instance, cert: &Certificate, steps: u64) -> Verified
     requires range { IsInRange cert.now }
     requires some { 1 ≤ steps }
@@ -355,8 +361,9 @@ pub fn verify(inst: &Instance, cert: &Certificate, steps: u64) -> Verified
     verify_found(inst, cert, steps, entries_found(inst, cert, steps))
 }
 
-/// Checks a certificate as [`verify`] does, where its entries were checked before, as by [`check_entry`](crate::check_entry) side by side:
-/// `found` is what the check of the entries in their order, with so many steps, finds. Where [`needs_entries`] is false, it may be anything.
+/// Checks a certificate as [`verify`] does, where its entries were checked before, as by
+/// [`check_entry`](crate::check_entry) side by side: `found` is what the check of the entries in their order, with so
+/// many steps, finds. Where [`needs_entries`] is false, it may be anything.
 pub fn verify_found(inst: &Instance, cert: &Certificate, steps: u64, found: ListFound) -> Verified
     requires range { IsInRange cert.now }
     requires some { 1 ≤ steps }

@@ -190,8 +190,9 @@ fn check_swap(
     }
 }
 
-/// Checks an entry after the first `k` entries of a list: whether it follows from them, or the first thing that is wrong with it, with the
-/// number of loads that were walked; or that more than `steps` loads had to be walked. Takes no memory.
+/// Checks an entry after the first `k` entries of a list: whether it follows from them, or the first thing that is
+/// wrong with it, with the number of loads that were walked; or that more than `steps` loads had to be walked. Takes no
+/// memory.
 pub fn check_entry(
     inst: &Instance,
     kind: LineKind,
@@ -218,8 +219,8 @@ pub fn check_entry(
     }
 }
 
-/// Checks one entry after a list of entries, as if it stood at their end: whether it follows from them, with the number of loads that were
-/// walked, or that more than `steps` loads had to be walked. Takes no memory.
+/// Checks one entry after a list of entries, as if it stood at their end: whether it follows from them, with the number
+/// of loads that were walked, or that more than `steps` loads had to be walked. Takes no memory.
 pub fn verify_entry(
     inst: &Instance,
     kind: LineKind,

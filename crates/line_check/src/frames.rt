@@ -3,7 +3,8 @@ ghost use Rattle.std.specs.Prelude.{◌≡◌, ◌<◌, ◌≤◌, ◌+◌, ◌�
 ghost use Rattle.line_instance.specs.Line.{IsTaskSet, tasks};
 ghost use Rattle.line_rules.specs.Ranges.{IsCycle, IsFrame, IsTrailLike};
 ghost use Rattle.line_rules.specs.declared.types.OpenFrame.{OpenFrame as Open};
-ghost use Rattle.line_check.specs.Frames.{IsLeftBy, IsAskedAt, EndsWell, IsReadyAt, WalksTo, NeedsTo, IsFoundAt, AreFramesFound, is_deepest};
+ghost use Rattle.line_check.specs.Frames.{IsLeftBy, IsAskedAt, EndsWell, IsReadyAt, WalksTo, NeedsTo, IsFoundAt};
+ghost use Rattle.line_check.specs.Frames.{AreFramesFound, is_deepest};
 ghost use Rattle.line_check.specs.Walks.{AreBelow, Tells};
 
 use crate::entries::{belongs, is_same};
@@ -80,7 +81,8 @@ fn walk_frame(
     requires cycle { IsCycle cycle }
     requires cites { AreBelow frame.now.cites (length entries.now) }
     requires last { EndsWell deepest inst.now cycle frame.now.mode frame.now.set frame.now.last }
-    ensures { Tells inst.now (WalksTo inst.now cycle frame.now) (NeedsTo kind inst.now cycle deepest frame.now) entries.now frame.now.set frame.now.most cycle frame.now.cites steps result }
+    ensures { Tells inst.now (WalksTo inst.now cycle frame.now) (NeedsTo kind inst.now cycle deepest frame.now)
+        entries.now frame.now.set frame.now.most cycle frame.now.cites steps result }
 {
     match &frame.last {
         None => ended(&frame.cites, 0, 0),
@@ -155,8 +157,8 @@ fn check_frame(
     }
 }
 
-/// Checks the frames of a trail in order, up to the first that isn't what it should be. Which question the first frame may ask isn't tested.
-/// At most `steps` loads are walked. Takes no memory.
+/// Checks the frames of a trail in order, up to the first that isn't what it should be. Which question the first frame
+/// may ask isn't tested. At most `steps` loads are walked. Takes no memory.
 pub fn check_frames(
     inst: &Instance,
     kind: LineKind,

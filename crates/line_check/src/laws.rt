@@ -7,7 +7,8 @@ pub fn verdict_is_one()
     ensures { VerdictIsOne }
 {}
 
-/// A certificate of version 1 that passes the rules of its version has an accepted lift, with the same bounds and units.
+/// A certificate of version 1 that passes the rules of its version has an accepted lift, with the same bounds and
+/// units.
 pub fn every_passing_lift_is_accepted()
     ensures bounds { EveryPassingLiftIsAccepted }
     ensures too_long { EveryPassingTooLongIsAccepted }

@@ -8,7 +8,8 @@ use crate::types::{Found, ListFound};
 use line_instance::Instance;
 use line_rules::{Entries, LineKind};
 
-/// Checks entries in order, each after those before it, up to the first that doesn't follow. At most `steps` loads are walked. Takes no memory.
+/// Checks entries in order, each after those before it, up to the first that doesn't follow. At most `steps` loads are
+/// walked. Takes no memory.
 pub fn check_entries(inst: &Instance, kind: LineKind, entries: &Entries, steps: u64) -> ListFound
     requires range { AreEntries (tasks inst.now) entries.now }
     ensures { AreFound kind inst.now entries.now steps result }

@@ -11,7 +11,8 @@ pub enum EntryFault {
     Most,
     /// The first cite that isn't of an earlier entry, from 0.
     Cite(u64),
-    /// By Branch: the first full load, of those whose rest the bound leaves open, that no cite is left for or whose cite doesn't refute the rest.
+    /// By Branch: the first full load, of those whose rest the bound leaves open, that no cite is left for or whose
+    /// cite doesn't refute the rest.
     Uncovered(Load),
     /// By Branch: cites are left when all loads are covered.
     Spare,
@@ -83,8 +84,8 @@ pub(crate) enum Walked {
     StepsEnded,
 }
 
-/// Where the check of a certificate fails first, with the values that it speaks of. Tasks, stations and numbers as the certificate has them;
-/// tasks, entries and frames are counted from 0.
+/// Where the check of a certificate fails first, with the values that it speaks of. Tasks, stations and numbers as the
+/// certificate has them; tasks, entries and frames are counted from 0.
 #[derive(Clone, Copy)]
 pub enum Place {
     /// The certificate is of another number of tasks than the line has.

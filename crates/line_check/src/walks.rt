@@ -1,5 +1,6 @@
 //! The walk over the loads of a set, which takes a cite for each load that needs one.
-ghost use Rattle.std.specs.Prelude.{◌≡◌, ℕ, ◌-◌, ◌<◌, ◌≤◌, ◌↔◌, length, take, slice_get, Some, IsTrue, IsNone, IfSome, true, false};
+ghost use Rattle.std.specs.Prelude.{◌≡◌, ℕ, ◌-◌, ◌<◌, ◌≤◌, ◌↔◌, length, take, slice_get, Some, IsTrue, IsNone, IfSome};
+ghost use Rattle.std.specs.Prelude.{true, false};
 ghost use Rattle.line_rules.specs.Loads.{IsLoad, rest};
 ghost use Rattle.line_rules.specs.Bounds.{bound};
 ghost use Rattle.line_rules.specs.Entries.{IsOpen, Cites as Refutes};
@@ -33,13 +34,15 @@ pub(crate) fn first_late(cites: &Cites, k: u64) -> Option<u64>
     None
 }
 
-/// Whether the total time of the rest of the load alone shows that the bound of the rest is at least as many stations as are asked for.
+/// Whether the total time of the rest of the load alone shows that the bound of the rest is at least as many stations
+/// as are asked for.
 #[inline]
 fn is_closed_by_time(inst: &Instance, q: &Question, walk: &Walk) -> bool
     requires posed { IsPosed inst.now q.now }
     requires walk { IsWalk inst.now q.now.cycle q.now.mode q.now.set walk.now }
     requires given { walk.now.given ≡ true }
-    ensures closed { IsTrue result → q.now.most ≤ bound q.now.kind inst.now q.now.cycle (rest q.now.set (stand walk.now)) }
+    ensures closed { IsTrue result → q.now.most ≤ bound q.now.kind inst.now q.now.cycle
+        (rest q.now.set (stand walk.now)) }
     ensures some { result ≡ false → 1 ≤ q.now.most }
 {
     let _tasks = inst.tasks();
@@ -104,8 +107,8 @@ fn refutes(entries: &Entries, k: usize, cite: u64, rest: &TaskSet, most: u32, cy
     entry.cycle >= cycle
 }
 
-/// How many cites are taken with a load, of which `taken` are taken before it. None where the load needs a cite and none is left, or where
-/// its cite doesn't refute its rest.
+/// How many cites are taken with a load, of which `taken` are taken before it. None where the load needs a cite and
+/// none is left, or where its cite doesn't refute its rest.
 fn taken_with(
     inst: &Instance,
     q: &Question,
@@ -121,9 +124,12 @@ fn taken_with(
     requires taken { taken ≤ length cites.now }
     requires walk { IsWalk inst.now q.now.cycle q.now.mode q.now.set walk.now }
     requires given { walk.now.given ≡ true }
-    ensures open { IsNone result → IsOpen q.now.kind inst.now q.now.cycle q.now.mode q.now.set q.now.most (stand walk.now) }
-    ensures lacking { IsNone result → IsLacking q.now.kind inst.now q.now.cycle q.now.mode q.now.set q.now.most (take k entries.now) cites.now (stand walk.now) taken }
-    ensures some { IfSome result (Takes q.now.kind inst.now q.now.cycle q.now.mode q.now.set q.now.most (take k entries.now) cites.now (stand walk.now) taken) }
+    ensures open { IsNone result → IsOpen q.now.kind inst.now q.now.cycle q.now.mode q.now.set q.now.most
+        (stand walk.now) }
+    ensures lacking { IsNone result → IsLacking q.now.kind inst.now q.now.cycle q.now.mode q.now.set q.now.most
+        (take k entries.now) cites.now (stand walk.now) taken }
+    ensures some { IfSome result (Takes q.now.kind inst.now q.now.cycle q.now.mode q.now.set q.now.most
+        (take k entries.now) cites.now (stand walk.now) taken) }
 {
     if !is_open(inst, q, walk) {
         return Some(taken);
@@ -160,7 +166,9 @@ pub(crate) fn walk_all(
     requires posed { IsPosed inst.now q.now }
     requires k { k ≤ length entries.now }
     requires cites { AreBelow cites.now k }
-    ensures { Tells inst.now (IsLoad inst.now q.now.cycle q.now.mode q.now.set) (IsOpen q.now.kind inst.now q.now.cycle q.now.mode q.now.set q.now.most) (take k entries.now) q.now.set q.now.most q.now.cycle cites.now steps result }
+    ensures { Tells inst.now (IsLoad inst.now q.now.cycle q.now.mode q.now.set)
+        (IsOpen q.now.kind inst.now q.now.cycle q.now.mode q.now.set q.now.most) (take k entries.now) q.now.set
+        q.now.most q.now.cycle cites.now steps result }
 {
     let _tasks = inst.tasks();
     let mut walk = Walk::begin(inst, q);
@@ -197,8 +205,8 @@ fn is_at(walk: &Walk, load: &Load) -> bool
     is_same(&walk.back.tasks, &load.back)
 }
 
-/// Walks over the loads of a question's set up to and including `end`, and takes a cite for each that needs one: of the deepest frame of a
-/// trail for the end too, and above it for those before the end alone.
+/// Walks over the loads of a question's set up to and including `end`, and takes a cite for each that needs one: of the
+/// deepest frame of a trail for the end too, and above it for those before the end alone.
 pub(crate) fn walk_to(
     inst: &Instance,
     q: &Question,
@@ -211,7 +219,8 @@ pub(crate) fn walk_to(
     requires posed { IsPosed inst.now q.now }
     requires cites { AreBelow cites.now (length entries.now) }
     requires end { IsLoad inst.now q.now.cycle q.now.mode q.now.set end.now }
-    ensures { TellsTo q.now.kind inst.now q.now.cycle q.now.mode q.now.set q.now.most entries.now cites.now end.now deepest steps result }
+    ensures { TellsTo q.now.kind inst.now q.now.cycle q.now.mode q.now.set q.now.most entries.now cites.now end.now
+        deepest steps result }
 {
     let _tasks = inst.tasks();
     let mut walk = Walk::begin(inst, q);

@@ -39,12 +39,14 @@ ask_word (Cycle stations) = codes "Cycle time: "
 abbrev pub bounds_text : Ask → ℕ → ℕ → List ℕ
 bounds_text a lower upper =
     ask_word a
-    ++ cond (nat_eq lower upper) (codes "optimal") (codes "at least " ++ decimal lower ++ codes ", at most " ++ decimal upper)
+    ++ cond (nat_eq lower upper) (codes "optimal") (codes "at least " ++ decimal lower ++ codes ", at most "
+    ++ decimal upper)
 
 -- the first lines: the size, and the title
 abbrev pub size_parts : Figures → List (List ℕ)
 size_parts f =
-    codes "<svg xmlns=\"http://www.w3.org/2000/svg\" version=\"1.1\" width=\"" ∷ decimal (width_of f) ∷ codes "\" height=\"" ∷ decimal (height_of f)
+    codes "<svg xmlns=\"http://www.w3.org/2000/svg\" version=\"1.1\" width=\"" ∷ decimal (width_of f) ∷ codes
+    "\" height=\"" ∷ decimal (height_of f)
     ∷ codes "\" viewBox=\"0 0 " ∷ decimal (width_of f) ∷ codes " " ∷ decimal (height_of f)
     ∷ codes "\" role=\"img\" font-family=\"Arial,sans-serif\" font-size=\"12\" shape-rendering=\"crispEdges\">\n<title>" ∷ []
 
@@ -65,7 +67,8 @@ top_text f = size_text f ++ head_text f ++ ground_text f ++ head_text f ++ codes
 -- the line of the totals
 abbrev pub totals_parts : Figures → List (List ℕ)
 totals_parts f =
-    codes " (by the certificate)</text>\n<text x=\"64\" y=\"66\">Efficiency " ∷ decimal (efficiency_of f / 10) ∷ codes "." ∷ decimal (efficiency_of f % 10)
+    codes " (by the certificate)</text>\n<text x=\"64\" y=\"66\">Efficiency " ∷ decimal (efficiency_of f / 10) ∷ codes
+    "." ∷ decimal (efficiency_of f % 10)
     ∷ codes " %, total time " ∷ decimal f.total ∷ codes ", idle time " ∷ decimal (idle_of f)
     ∷ codes ", longest station time " ∷ decimal f.longest ∷ codes "</text>\n" ∷ []
 
@@ -88,7 +91,8 @@ notes_text f = cond (nat_eq f.notes 0) [] (text_of (notes_parts f))
 abbrev pub headings_parts : Figures → List (List ℕ)
 headings_parts f =
     codes "<g text-anchor=\"end\">\n<text x=\"56\" y=\"88\">station</text><text x=\"864\" y=\"88\">cycle time " ∷ decimal f.cycle
-    ∷ codes "</text><text x=\"" ∷ decimal (864 + f.column) ∷ codes "\" y=\"88\">time</text><text x=\"" ∷ decimal (864 + 2 * f.column)
+    ∷ codes "</text><text x=\"" ∷ decimal (864 + f.column) ∷ codes "\" y=\"88\">time</text><text x=\"" ∷ decimal
+    (864 + 2 * f.column)
     ∷ codes "\" y=\"88\">idle</text>\n" ∷ []
 
 abbrev pub headings_text : Figures → List ℕ
@@ -108,14 +112,16 @@ rows_from line f places k (suc n) = station_text line f places k ++ rows_from li
 -- the line where the cycle ends, and the end
 abbrev pub end_parts : Figures → List (List ℕ)
 end_parts f =
-    codes "<path stroke=\"#000\" stroke-width=\"3\" d=\"M864 92v" ∷ decimal (24 * f.stations + 6) ∷ codes "\"/>\n</g>\n</svg>\n" ∷ []
+    codes "<path stroke=\"#000\" stroke-width=\"3\" d=\"M864 92v" ∷ decimal (24 * f.stations + 6) ∷ codes
+    "\"/>\n</g>\n</svg>\n" ∷ []
 
 abbrev pub end_text : Figures → List ℕ
 end_text f = text_of (end_parts f)
 
 -- what stands above the rows
 abbrev pub above_text : Figures → Ask → ℕ → ℕ → List ℕ
-above_text f a lower upper = top_text f ++ bounds_text a lower upper ++ totals_text f ++ legend_text f.kind ++ notes_text f ++ headings_text f
+above_text f a lower upper = top_text f ++ bounds_text a lower upper ++ totals_text f ++ legend_text f.kind
+    ++ notes_text f ++ headings_text f
 
 -- The picture of a balance, with the bounds that are claimed.
 abbrev pub picture_text : Line → Figures → Ask → ℕ → ℕ → Assignment → List ℕ
@@ -124,7 +130,8 @@ picture_text line f a lower upper b = above_text f a lower upper ++ rows_from li
 -- the picture of what is claimed; there is none of a task that is too long
 abbrev pub claim_text : Line → LineKind → Ask → Claim → List ℕ
 claim_text line kind a (TooLong task) = []
-claim_text line kind a (Bounds lower upper b es trail) = picture_text line (figures_of line kind (upper_cycle a upper) b) a lower upper b
+claim_text line kind a (Bounds lower upper b es trail) = picture_text line
+    (figures_of line kind (upper_cycle a upper) b) a lower upper b
 
 -- The picture of a certificate.
 abbrev pub drawing_text : Line → Certificate → List ℕ

@@ -44,23 +44,30 @@ pub record IsTrueLength (cycle : ℕ) (s : Segment) : Type 0 where
 
 -- each segment ends where the next one begins
 abbrev pub Meet : List Segment → Type 0
-Meet segments = (p : ℕ) (s r : Segment) → slice_get segments p ≡ Some s → slice_get segments (p + 1) ≡ Some r → end_of s ≡ r.x
+Meet segments = (p : ℕ) (s r : Segment) → slice_get segments p ≡ Some s → slice_get segments (p + 1) ≡ Some r
+    → end_of s ≡ r.x
 
 -- The segments of a station: one of each of its tasks, on its side. Those in front begin at 0 and meet, those at the
 -- back meet and end at 800, and none overlap. Each is nearly as long as its time. Of two tasks of which one is before
 -- the other, the earlier one's segment ends where or before the later one's begins.
-pub record AreTrue (line : Line) (cycle : ℕ) (places : List Seatplace) (station : ℕ) (segments : List Segment) : Type 0 where
+pub record AreTrue (line : Line) (cycle : ℕ) (places : List Seatplace) (station : ℕ)
+    (segments : List Segment) : Type 0 where
   pub each : (p : ℕ) (s : Segment) → slice_get segments p ≡ Some s → IsOfTask line places station s
-  pub all : (i : ℕ) → i < tasks line → (seat places i).station ≡ station → (p : ℕ) × ((s : Segment) × (slice_get segments p ≡ Some s) × (s.task ≡ i))
-  pub once : (p q : ℕ) (s r : Segment) → slice_get segments p ≡ Some s → slice_get segments q ≡ Some r → s.task ≡ r.task → p ≡ q
+  pub all : (i : ℕ) → i < tasks line → (seat places i).station ≡ station
+      → (p : ℕ) × ((s : Segment) × (slice_get segments p ≡ Some s) × (s.task ≡ i))
+  pub once : (p q : ℕ) (s r : Segment) → slice_get segments p ≡ Some s → slice_get segments q ≡ Some r → s.task ≡ r.task
+      → p ≡ q
   pub front_begins : (s : Segment) → slice_get (on Front segments) 0 ≡ Some s → s.x ≡ 0
   pub front_meets : Meet (on Front segments)
   pub back_meets : Meet (on Back segments)
-  pub back_ends : (p : ℕ) (s : Segment) → slice_get (on Back segments) p ≡ Some s → p + 1 ≡ length (on Back segments) → end_of s ≡ 800
+  pub back_ends : (p : ℕ) (s : Segment) → slice_get (on Back segments) p ≡ Some s → p + 1 ≡ length (on Back segments)
+      → end_of s ≡ 800
   pub within : (p : ℕ) (s : Segment) → slice_get segments p ≡ Some s → end_of s ≤ 800
-  pub clear : (p q : ℕ) (s r : Segment) → slice_get segments p ≡ Some s → slice_get segments q ≡ Some r → p < q → end_of s ≤ r.x
+  pub clear : (p q : ℕ) (s r : Segment) → slice_get segments p ≡ Some s → slice_get segments q ≡ Some r → p < q
+      → end_of s ≤ r.x
   pub lengths : (p : ℕ) (s : Segment) → slice_get segments p ≡ Some s → IsTrueLength cycle s
-  pub ordered : (p q : ℕ) (s r : Segment) → slice_get segments p ≡ Some s → slice_get segments q ≡ Some r → Before line s.task r.task → end_of s ≤ r.x
+  pub ordered : (p q : ℕ) (s r : Segment) → slice_get segments p ≡ Some s → slice_get segments q ≡ Some r
+      → Before line s.task r.task → end_of s ≤ r.x
 
 -- the idle times of the first n stations together
 abbrev pub idle_to : Line → ℕ → List Seatplace → ℕ → ℕ

@@ -24,7 +24,8 @@ room_for longest = cond (nat_eq longest 0) 0 (max 12 longest)
 
 -- the length of the longest note of so many stations
 abbrev pub longest_note : Line → ℕ → List Seatplace → ℕ → ℕ
-longest_note line cycle places stations = greatest_below stations (λ k. length (note_of (segments_at line cycle places (k + 1))))
+longest_note line cycle places stations = greatest_below stations
+    (λ k. length (note_of (segments_at line cycle places (k + 1))))
 
 -- how wide a column of times is: for 4 digits, or as many as the cycle has, whichever is more
 abbrev pub column_of : ℕ → ℕ

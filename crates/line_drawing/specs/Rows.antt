@@ -1,5 +1,6 @@
 -- The row of a station, line by line.
-use Rattle.std.specs.Prelude.{ℕ, ◌+◌, ◌-◌, ◌*◌, ◌/◌, Bool, not, nat_eq, cond, List, [], ◌∷◌, ◌++◌, length, codes, decimal}
+use Rattle.std.specs.Prelude.{ℕ, ◌+◌, ◌-◌, ◌*◌, ◌/◌, Bool, not, nat_eq, cond, List, [], ◌∷◌, ◌++◌, length, codes}
+use Rattle.std.specs.Prelude.{decimal}
 use Rattle.std.specs.List.{list_any}
 use Rattle.line_rules.specs.declared.types.LineKind.{LineKind}
 use Rattle.line_rules.specs.declared.types.LineKind.TheVariants.{Straight, U}
@@ -43,7 +44,8 @@ tasks_text segments = numbers_text Front segments ++ backs_text segments
 -- the heading of a row: what its station does, in words
 abbrev pub place_parts : ℕ → List (List ℕ)
 place_parts station =
-    codes "<g transform=\"translate(64 " ∷ decimal (88 + 24 * station) ∷ codes ")\"><title>station " ∷ decimal station ∷ codes ":" ∷ []
+    codes "<g transform=\"translate(64 " ∷ decimal (88 + 24 * station) ∷ codes ")\"><title>station " ∷ decimal
+    station ∷ codes ":" ∷ []
 
 abbrev pub place_text : ℕ → List ℕ
 place_text station = text_of (place_parts station)
@@ -100,8 +102,10 @@ labels_text segments =
 -- the station, the sum of its times, and what is left of the cycle
 abbrev pub columns_parts : Figures → ℕ → ℕ → List (List ℕ)
 columns_parts f station sum =
-    codes "<text x=\"-8\">" ∷ decimal station ∷ codes "</text><text x=\"" ∷ decimal (800 + f.column) ∷ codes "\">" ∷ decimal sum
-    ∷ codes "</text><text x=\"" ∷ decimal (800 + 2 * f.column) ∷ codes "\">" ∷ decimal (f.cycle - sum) ∷ codes "</text>\n" ∷ []
+    codes "<text x=\"-8\">" ∷ decimal station ∷ codes "</text><text x=\"" ∷ decimal (800 + f.column) ∷ codes
+    "\">" ∷ decimal sum
+    ∷ codes "</text><text x=\"" ∷ decimal (800 + 2 * f.column) ∷ codes "\">" ∷ decimal (f.cycle - sum) ∷ codes
+    "</text>\n" ∷ []
 
 abbrev pub columns_text : Figures → ℕ → ℕ → List ℕ
 columns_text f station sum = text_of (columns_parts f station sum)
@@ -116,7 +120,8 @@ slowest_text f sum = cond (nat_eq sum f.longest) (text_of (slowest_parts f)) []
 -- the note, where there is one
 abbrev pub margin_parts : Figures → List ℕ → List (List ℕ)
 margin_parts f note =
-    codes "<text x=\"" ∷ decimal (872 + 2 * f.column) ∷ codes "\" text-anchor=\"start\">" ∷ note ∷ codes "</text>\n" ∷ []
+    codes "<text x=\"" ∷ decimal (872 + 2 * f.column) ∷ codes "\" text-anchor=\"start\">" ∷ note ∷ codes
+    "</text>\n" ∷ []
 
 abbrev pub margin_text : Figures → List ℕ → List ℕ
 margin_text f note = cond (nat_eq (length note) 0) [] (text_of (margin_parts f note))

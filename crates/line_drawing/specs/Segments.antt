@@ -65,4 +65,5 @@ backs_of line cycle (i ∷ is) =
 -- the segments of a station: those of its tasks in front, and then those at the back
 abbrev pub segments_at : Line → ℕ → List Seatplace → ℕ → List Segment
 segments_at line cycle places station =
-    fronts_from line cycle 0 (tasks_at line places Front station) ++ backs_of line cycle (tasks_at line places Back station)
+    fronts_from line cycle 0 (tasks_at line places Front station)
+    ++ backs_of line cycle (tasks_at line places Back station)

@@ -5,7 +5,9 @@ ghost use Rattle.line_rules.specs.Accepted.{upper_cycle};
 ghost use Rattle.line_rules.specs.Ranges.{IsInRange};
 ghost use Rattle.line_drawing.specs.Figures.{AreFigures, sum_at};
 ghost use Rattle.line_drawing.specs.Facts.{HasRightBalance, IsTrueDrawing, stations_of};
-ghost use Rattle.line_drawing.specs.Drawing.{above_text, bounds_text, drawing_text, end_text, ground_text, head_text, headings_text, kind_word, ask_word, size_text, station_word, legend_text, notes_text, picture_text, rows_from, station_text, top_text, totals_text};
+ghost use Rattle.line_drawing.specs.Drawing.{above_text, bounds_text, drawing_text, end_text, ground_text, head_text};
+ghost use Rattle.line_drawing.specs.Drawing.{headings_text, kind_word, ask_word, size_text, station_word, legend_text};
+ghost use Rattle.line_drawing.specs.Drawing.{notes_text, picture_text, rows_from, station_text, top_text, totals_text};
 
 use crate::figures::{Figures, figures_of, sum_at};
 use crate::notes::note_of;
@@ -203,7 +205,8 @@ fn push_station(
     requires each { length places.now ≡ tasks inst.now }
     requires figures { AreFigures figures.now }
     requires fits { sum_at inst.now places.now station ≤ figures.now.cycle }
-    ensures { OnOk result (string_bytes text.new ≡ string_bytes text.old ++ station_text inst.now figures.now places.now station) }
+    ensures { OnOk result (string_bytes text.new ≡ string_bytes text.old
+        ++ station_text inst.now figures.now places.now station) }
 {
     let _tasks = inst.tasks();
     let segments = segments_at(alloc, inst, figures.cycle, places, station)?;
@@ -225,7 +228,8 @@ fn push_rows(
     requires few { balance.now.stations ≤ 1024 }
     requires figures { AreFigures figures.now }
     requires fits { (k : ℕ) → sum_at inst.now balance.now.place k ≤ figures.now.cycle }
-    ensures { OnOk result (string_bytes text.new ≡ string_bytes text.old ++ rows_from inst.now figures.now balance.now.place 1 balance.now.stations) }
+    ensures { OnOk result (string_bytes text.new ≡ string_bytes text.old
+        ++ rows_from inst.now figures.now balance.now.place 1 balance.now.stations) }
 {
     for station in 1..balance.stations + 1 {
         push_station(alloc, text, inst, figures, &balance.place, station)?;

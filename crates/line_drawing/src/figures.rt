@@ -3,7 +3,8 @@ ghost use Rattle.std.specs.Prelude.{◌≡◌, ◌≤◌, ◌<◌, ◌^◌, ◌+
 ghost use Rattle.line_instance.specs.Line.{tasks, time};
 ghost use Rattle.line_rules.specs.Balance.{IsRight, seat};
 ghost use Rattle.line_rules.specs.Ranges.{IsCycle, IsPlacing};
-ghost use Rattle.line_drawing.specs.Figures.{AreFigures, column_of, efficiency_of, figures_of, height_of, idle_of, longest_note, longest_of, room_for, sum_at, width_of};
+ghost use Rattle.line_drawing.specs.Figures.{AreFigures, column_of, efficiency_of, figures_of, height_of, idle_of};
+ghost use Rattle.line_drawing.specs.Figures.{longest_note, longest_of, room_for, sum_at, width_of};
 
 use crate::notes::{digits, note_of};
 use crate::segments::segments_at;

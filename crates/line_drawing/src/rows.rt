@@ -1,6 +1,10 @@
 //! The row of a station, line by line.
-ghost use Rattle.std.specs.Prelude.{◌≡◌, ◌≤◌, ◌<◌, ◌^◌, ◌+◌, ◌-◌, ◌*◌, ◌++◌, All, codes, decimal, IfOk, OnOk, length, string_bytes};
-ghost use Rattle.line_drawing.specs.Rows.{back_text, backs_text, columns_text, each_where, front_text, has_side, is_of, label_text, labels_text, margin_text, number_text, numbers_text, opening_text, path_text, place_text, row_text, slowest_text, tasks_text, times_text};
+ghost use Rattle.std.specs.Prelude.{◌≡◌, ◌≤◌, ◌<◌, ◌^◌, ◌+◌, ◌-◌, ◌*◌, ◌++◌, All, codes, decimal, IfOk, OnOk, length};
+ghost use Rattle.std.specs.Prelude.{string_bytes};
+ghost use Rattle.line_drawing.specs.Rows.{back_text, backs_text, columns_text, each_where, front_text, has_side, is_of};
+ghost use Rattle.line_drawing.specs.Rows.{label_text, labels_text, margin_text, number_text, numbers_text};
+ghost use Rattle.line_drawing.specs.Rows.{opening_text, path_text, place_text, row_text, slowest_text, tasks_text};
+ghost use Rattle.line_drawing.specs.Rows.{times_text};
 ghost use Rattle.line_drawing.specs.Figures.{AreFigures};
 ghost use Rattle.line_drawing.specs.Notes.{is_narrow};
 ghost use Rattle.line_drawing.specs.Segments.{end_of};
@@ -81,7 +85,8 @@ fn push_opening(
     segments: &[Segment],
 ) -> Result<(), AllocError>
     requires { sum ≤ figures.now.cycle }
-    ensures { OnOk result (string_bytes text.new ≡ string_bytes text.old ++ opening_text figures.now station sum segments.now) }
+    ensures { OnOk result (string_bytes text.new ≡ string_bytes text.old
+        ++ opening_text figures.now station sum segments.now) }
 {
     push_place(text, station)?;
     push_tasks(text, segments)?;
@@ -103,7 +108,8 @@ fn push_path(text: &mut String, segment: &Segment) -> Result<(), AllocError>
 
 /// The segments of a side.
 fn push_paths(text: &mut String, side: Side, segments: &[Segment]) -> Result<(), AllocError>
-    ensures { OnOk result (string_bytes text.new ≡ string_bytes text.old ++ each_where (is_of side) path_text segments.now) }
+    ensures { OnOk result (string_bytes text.new ≡ string_bytes text.old
+        ++ each_where (is_of side) path_text segments.now) }
 {
     for segment in segments {
         if segment.side == side {
@@ -228,7 +234,8 @@ pub(crate) fn push_row(
     requires figures { AreFigures figures.now }
     requires fits { sum ≤ figures.now.cycle }
     requires within { All (λ s. end_of s ≤ 800) segments.now }
-    ensures { OnOk result (string_bytes text.new ≡ string_bytes text.old ++ row_text figures.now station sum segments.now note.now) }
+    ensures { OnOk result (string_bytes text.new ≡ string_bytes text.old
+        ++ row_text figures.now station sum segments.now note.now) }
 {
     push_opening(text, figures, station, sum, segments)?;
     push_front(text, segments)?;

@@ -1,5 +1,5 @@
--- The line of a seed (own): times and arcs that are drawn from the words of a generator, task by task. Tasks are counted from
--- 0 here. The generator is PCG's XSH RR 64/32 (O'Neill), as the crate rand_pcg states it.
+-- The line of a seed (own): times and arcs that are drawn from the words of a generator, task by task. Tasks are
+-- counted from 0 here. The generator is PCG's XSH RR 64/32 (O'Neill), as the crate rand_pcg states it.
 use Rattle.std.specs.Prelude.{⊤, ℕ, zero, suc, ◌+◌, ◌/◌, ◌%◌, cond, nat_eq, List, [], ◌∷◌, ◌++◌}
 use Rattle.rand_core.specs.Pcg32Seed.{pcg32_seed}
 use Rattle.rand_pcg.specs.Lcg.{Lcg}
@@ -17,7 +17,8 @@ word g = (pcg32 g).0
 abbrev pub next : Lcg → Lcg
 next g = (pcg32 g).1
 
--- The generator in front of task t. The first task takes one word, and each other task two: for its time, and for its arc.
+-- The generator in front of task t. The first task takes one word, and each other task two: for its time, and for its
+-- arc.
 unfoldable pub in_front : ℕ → ℕ → Lcg
 in_front seed zero = pcg32_of_seed (pcg32_seed 16 seed)
 in_front seed (suc zero) = next (in_front seed zero)

@@ -1,5 +1,5 @@
-//! Lines of four seeds, as a model in another language gives them: PCG's XSH RR 64/32, begun with the 16 bytes that the crate
-//! rand makes of a number. Two of the seeds differ in their highest bit alone.
+//! Lines of four seeds, as a model in another language gives them: PCG's XSH RR 64/32, begun with the 16 bytes that the
+//! crate rand makes of a number. Two of the seeds differ in their highest bit alone.
 use crate::{Generated, generate};
 use in2_reader::write_in2;
 use std::alloc::Global;

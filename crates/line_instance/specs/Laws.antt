@@ -38,11 +38,13 @@ RanksArePermutation = (line : Line) → IsLine line → AreRanks line → IsRank
 
 -- times and arcs have one instance
 abbrev pub InstanceIsOne : Type 0
-InstanceIsOne = (times : List ℕ) (arcs : List Prec) (a b : Line) → IsInstanceOf times arcs a → IsInstanceOf times arcs b → a ≡ b
+InstanceIsOne = (times : List ℕ) (arcs : List Prec) (a b : Line) → IsInstanceOf times arcs a → IsInstanceOf times arcs b
+    → a ≡ b
 
 -- the arcs of an instance have no ring
 abbrev pub NoRing : Type 0
-NoRing = (times : List ℕ) (arcs : List Prec) (line : Line) (ring : List ℕ) → IsInstanceOf times arcs line → IsRing arcs ring → ⊥
+NoRing = (times : List ℕ) (arcs : List Prec) (line : Line) (ring : List ℕ) → IsInstanceOf times arcs line
+    → IsRing arcs ring → ⊥
 
 -- two answers of making an instance agree: they are the same, up to the ring that is shown, or memory was wanting
 abbrev pub Agree : Made → Made → Type 0

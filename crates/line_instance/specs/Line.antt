@@ -2,7 +2,8 @@
 use Rattle.std.specs.Prelude.{◌≡◌, ℕ, ◌<◌, ◌≤◌, Bool, false, List, [], length, slice_index_or}
 use Rattle.task_set.specs.Truths.{In}
 
--- row j of before has the tasks before j, row j of apart those apart from j, and order has the task of each rank (Scholl)
+-- row j of before has the tasks before j, row j of apart those apart from j, and order has the task of each rank
+-- (Scholl)
 pub record Line : Type 0 where
   pub times : List ℕ
   pub before : List (List Bool)
@@ -50,8 +51,8 @@ time line i = slice_index_or line.times i 0
 abbrev pub at_rank : Line → ℕ → ℕ
 at_rank line k = slice_index_or line.order k 0
 
--- What is true of each instance: 1 to 1,024 tasks; times within the limit; before is of tasks, leads on, and leads from no task to
--- itself; apart is of tasks, goes both ways, and is of two tasks.
+-- What is true of each instance: 1 to 1,024 tasks; times within the limit; before is of tasks, leads on, and leads from
+-- no task to itself; apart is of tasks, goes both ways, and is of two tasks.
 pub record IsLine (line : Line) : Type 0 where
   pub some : 0 < tasks line
   pub small : tasks line ≤ 1024

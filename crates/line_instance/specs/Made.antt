@@ -5,7 +5,8 @@ use Rattle.line_instance.specs.Walks.{IsRow, arc_at, Names, AreArcs, IsRing}
 use Rattle.line_instance.specs.Ranks.{AreRanks}
 use Rattle.line_instance.specs.declared.arcs.Prec.{Prec}
 use Rattle.line_instance.specs.declared.making.Made.{Made}
-use Rattle.line_instance.specs.declared.making.Made.TheVariants.{Good, NoTasks, TooManyTasks, BadTime, BadArc, Cycle, NoMemory}
+use Rattle.line_instance.specs.declared.making.Made.TheVariants.{Good, NoTasks, TooManyTasks, BadTime, BadArc, Cycle}
+use Rattle.line_instance.specs.declared.making.Made.TheVariants.{NoMemory}
 
 -- 1 to 1,024 times, each within the limit
 pub record AreTimes (times : List ℕ) : Type 0 where
@@ -25,7 +26,8 @@ pub record IsFirstBad (n : ℕ) (arcs : List Prec) (k : ℕ) : Type 0 where
   pub bad : Names n (arc_at arcs k) → ⊥
   pub first : (m : ℕ) → m < k → Names n (arc_at arcs m)
 
--- the instance of these times and arcs: a task is before another where a walk of arcs leads from it to the other, and no tasks are apart
+-- the instance of these times and arcs: a task is before another where a walk of arcs leads from it to the other, and
+-- no tasks are apart
 pub record IsInstanceOf (given : List ℕ) (arcs : List Prec) (line : Line) : Type 0 where
   pub right : AreTimes given
   pub named : AreArcs (length given) arcs
@@ -35,8 +37,8 @@ pub record IsInstanceOf (given : List ℕ) (arcs : List Prec) (line : Line) : Ty
   pub ranks : AreRanks line
   pub line_is : IsLine line
 
--- Each answer with its cause. The refusals come in this order: no time, too many, a time above the limit, an arc that names no task,
--- a cycle. Out of memory comes where none of the first four does.
+-- Each answer with its cause. The refusals come in this order: no time, too many, a time above the limit, an arc that
+-- names no task, a cycle. Out of memory comes where none of the first four does.
 abbrev pub IsMade : List ℕ → List Prec → Made → Type 0
 IsMade times arcs (Good line) = IsInstanceOf times arcs line
 IsMade times arcs NoTasks = times ≡ []

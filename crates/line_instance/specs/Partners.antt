@@ -3,8 +3,8 @@ use Rattle.std.specs.Prelude.{◌≡◌, ℕ, ◌+◌, ◌<◌, ◌≤◌, ◌�
 use Rattle.line_instance.specs.Line.{Line, tasks, time, Before, Apart}
 use Rattle.line_instance.specs.Walks.{at}
 
--- j is a partner of i: another task, of no greater time, with all tasks before it but i before i, all after it but i after i, and all
--- apart from it but i apart from i
+-- j is a partner of i: another task, of no greater time, with all tasks before it but i before i, all after it but i
+-- after i, and all apart from it but i apart from i
 pub record IsPartner (line : Line) (i j : ℕ) : Type 0 where
   pub task : j < tasks line
   pub other : i ≡ j → ⊥
@@ -22,7 +22,8 @@ pub record AreKept (line : Line) (i : ℕ) (kept : List ℕ) : Type 0 where
   pub few : length kept ≤ 8
   pub rises : (k : ℕ) → k + 1 < length kept → at kept k < at kept (k + 1)
   pub right : (k : ℕ) → k < length kept → IsPartner line i (at kept k)
-  pub first : (j : ℕ) → IsPartner line i j → IsAmong kept j ⊎ ((length kept ≡ 8) × ((k : ℕ) → k < length kept → at kept k < j))
+  pub first : (j : ℕ) → IsPartner line i j → IsAmong kept j
+      ⊎ ((length kept ≡ 8) × ((k : ℕ) → k < length kept → at kept k < j))
 
 -- the answer is the k-th kept partner of i, and None where fewer are kept
 abbrev pub IsKeptAt : Line → ℕ → ℕ → Option ℕ → Type 0

@@ -32,7 +32,8 @@ AreArcs n arcs = (k : ℕ) → k < length arcs → Names n (arc_at arcs k)
 
 -- the pairs that are given to be apart: each of two tasks
 abbrev pub ArePairs : ℕ → List Prec → Type 0
-ArePairs n pairs = (k : ℕ) → k < length pairs → Names n (arc_at pairs k) × ((arc_at pairs k).first ≡ (arc_at pairs k).«then» → ⊥)
+ArePairs n pairs = (k : ℕ) → k < length pairs → Names n (arc_at pairs k)
+    × ((arc_at pairs k).first ≡ (arc_at pairs k).«then» → ⊥)
 
 -- one of the pairs is of i and j, in either order
 abbrev pub IsGiven : List Prec → ℕ → ℕ → Type 0
@@ -42,8 +43,8 @@ IsGiven pairs i j = Leads pairs i j ⊎ Leads pairs j i
 abbrev pub at : List ℕ → ℕ → ℕ
 at ring k = slice_index_or ring k 0
 
--- A closed list for a relation: each member is so related to the next and the last to the first, none stands twice, and the
--- first is the least.
+-- A closed list for a relation: each member is so related to the next and the last to the first, none stands twice, and
+-- the first is the least.
 pub record IsRingOf (R : ℕ → ℕ → Type 0) (ring : List ℕ) : Type 0 where
   pub some : 0 < length ring
   pub leads : (k : ℕ) → k + 1 < length ring → R (at ring k) (at ring (k + 1))

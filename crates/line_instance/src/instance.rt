@@ -2,7 +2,8 @@
 ghost use Rattle.std.specs.Prelude.{◌≡◌, ◌≤◌, ◌<◌, ◌↔◌, ℕ, List, [], length, slice_index_or, IsTrue, IfOk};
 ghost use Rattle.line_instance.specs.Walks.{ArePairs, IsGiven};
 ghost use Rattle.line_instance.specs.Partners.{IsKeptAt};
-ghost use Rattle.line_instance.specs.Line.{Line, IsLine, IsRanked, IsTaskSet, Before, Apart, Covers, tasks, time, at_rank, has};
+ghost use Rattle.line_instance.specs.Line.{Line, IsLine, IsRanked, IsTaskSet, Before, Apart, Covers, tasks, time};
+ghost use Rattle.line_instance.specs.Line.{at_rank, has};
 ghost use Rattle.line_instance.specs.Sums.{sum_where};
 ghost use Rattle.task_set.specs.Truths.{In, full_to};
 
@@ -18,8 +19,8 @@ pub const MAX_TASKS: usize = 1024;
 /// The greatest time of a task, in the instance's time unit.
 pub const MAX_TIME: u64 = 200_000_000_000_000;
 
-/// Tasks with times, the set of tasks before each one, the set of tasks apart from each one, and the order of the tasks by rank.
-/// Tasks are counted from 0.
+/// Tasks with times, the set of tasks before each one, the set of tasks apart from each one, and the order of the tasks
+/// by rank. Tasks are counted from 0.
 #[derive(Drop)]
 pub struct Instance {
     pub(crate) times: Vec<u64>,
@@ -37,9 +38,15 @@ impl Model for Instance {
 
     ghost Value = { Line };
 
-    ghost view = { λ s. record { times = s.times.items; before = s.before.items; apart = s.apart.items; order = s.order.items } };
+    ghost view = { λ s. record {
+      times = s.times.items;
+      before = s.before.items;
+      apart = s.apart.items;
+      order = s.order.items;
+    } };
 
-    ghost invariant = { λ s. IsSound s.after.items s.ranks.items s.partners.items (record { times = s.times.items; before = s.before.items; apart = s.apart.items; order = s.order.items }) };
+    ghost invariant = { λ s. IsSound s.after.items s.ranks.items s.partners.items
+        (record { times = s.times.items; before = s.before.items; apart = s.apart.items; order = s.order.items }) };
 }
 
 impl Instance {

@@ -21,7 +21,8 @@ pub fn after_is_the_converse()
 
 /// A task's rank is above those of the tasks before it.
 pub fn ranks_rise(inst: &Instance)
-    ensures { (k m : ℕ) → k < tasks inst.now → m < tasks inst.now → Before inst.now (at_rank inst.now k) (at_rank inst.now m) → k < m }
+    ensures { (k m : ℕ) → k < tasks inst.now → m < tasks inst.now
+        → Before inst.now (at_rank inst.now k) (at_rank inst.now m) → k < m }
 {
     let _tasks = inst.tasks();
 }

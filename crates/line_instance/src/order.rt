@@ -1,6 +1,7 @@
 //! The order of the tasks by rank.
 ghost use Rattle.std.specs.Prelude.{◌≡◌, ℕ, ◌≤◌, ◌<◌, length, IsNone, IfOk, IfSome};
-ghost use Rattle.line_instance.specs.inner.Inside.{AreRows, MayCome, IsLeastFree, IsWhole, IsStuck, IsPermutation, AreRanksOf};
+ghost use Rattle.line_instance.specs.inner.Inside.{AreRows, MayCome, IsLeastFree, IsWhole, IsStuck, IsPermutation};
+ghost use Rattle.line_instance.specs.inner.Inside.{AreRanksOf};
 ghost use Rattle.line_instance.specs.inner.Ordered.{IsOrdered};
 
 use std::alloc::{AllocError, Global};

@@ -1,6 +1,8 @@
 //! Partners: the tasks that may stand in for a task.
-ghost use Rattle.std.specs.Prelude.{◌≡◌, ◌≤◌, ◌<◌, ◌↔◌, ℕ, List, [], length, IsTrue, IfOk, slice_get, slice_index_or, Some};
-ghost use Rattle.line_instance.specs.inner.Inside.{AreRows, AreTurned, ArePaired, ArePartners, LeadsIn, of_rows, kept_of};
+ghost use Rattle.std.specs.Prelude.{◌≡◌, ◌≤◌, ◌<◌, ◌↔◌, ℕ, List, [], length, IsTrue, IfOk, slice_get, slice_index_or};
+ghost use Rattle.std.specs.Prelude.{Some};
+ghost use Rattle.line_instance.specs.inner.Inside.{AreRows, AreTurned, ArePaired, ArePartners, LeadsIn, of_rows};
+ghost use Rattle.line_instance.specs.inner.Inside.{kept_of};
 ghost use Rattle.line_instance.specs.Walks.{AreArcs};
 ghost use Rattle.line_instance.specs.Partners.{IsPartner, AreKept};
 

@@ -1,5 +1,6 @@
 //! Rings: closed walks of arcs, found where no task is free.
-ghost use Rattle.std.specs.Prelude.{◌≡◌, ℕ, ◌+◌, ◌<◌, ◌≤◌, ◌++◌, ◌∷◌, List, [], false, length, slice_index, slice_index_or, IfOk, OnOk, OnErr};
+ghost use Rattle.std.specs.Prelude.{◌≡◌, ℕ, ◌+◌, ◌<◌, ◌≤◌, ◌++◌, ◌∷◌, List, [], false, length, slice_index};
+ghost use Rattle.std.specs.Prelude.{slice_index_or, IfOk, OnOk, OnErr};
 ghost use Rattle.line_instance.specs.Walks.{IsRingOf, at as at_place};
 ghost use Rattle.line_instance.specs.inner.Inside.{AreRows, IsStuck, LeadsIn, IsBackWalk, IsAppended};
 ghost use Rattle.task_set.specs.Truths.{In};

@@ -1,7 +1,8 @@
 //! The tasks before each task, as rows of sets.
 ghost use Rattle.std.specs.Prelude.{◌≡◌, ◌≤◌, ◌<◌, ℕ, List, [], length, IfOk, slice_index_or, replicate, false};
 ghost use Rattle.line_instance.specs.Walks.{AreArcs};
-ghost use Rattle.line_instance.specs.inner.Inside.{AreRows, AreEmpty, AreDirect, IsJoined, AreJoined, IsWhole, AreMarked, AreTurned, ArePaired};
+ghost use Rattle.line_instance.specs.inner.Inside.{AreRows, AreEmpty, AreDirect, IsJoined, AreJoined, IsWhole};
+ghost use Rattle.line_instance.specs.inner.Inside.{AreMarked, AreTurned, ArePaired};
 ghost use Rattle.task_set.specs.Truths.{In};
 
 use crate::arcs::Prec;

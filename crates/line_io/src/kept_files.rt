@@ -84,7 +84,8 @@ pub fn extend_by_prefix(
     keep: u64,
 ) -> Result<(), AllocError>
     requires { IsPlace files.old name.now k }
-    ensures done { OnOk result (GrowsWhole (file_in files.old name.now) (take keep bytes.now) (file_in files.new name.now)) }
+    ensures done { OnOk result (GrowsWhole (file_in files.old name.now) (take keep bytes.now)
+        (file_in files.new name.now)) }
     ensures same { OnErr result (file_in files.new name.now ≡ file_in files.old name.now) }
     ensures blame { blames files.new (File k) name.now ≡ true }
     ensures grows { Grows (file_in files.old name.now) bytes.now (file_in files.new name.now) }

@@ -1,9 +1,11 @@
 //! Files in memory, which tell what they hold, and fail at chosen calls. Each call looks for its file by name from the
 //! first one on: they are for the tests, which have few.
-ghost use Rattle.std.specs.Prelude.{◌≡◌, ◌≢◌, ◌≤◌, ◌-◌, ℕ, true, Some, None, IsSome, length, min, take, List, [], option_map, OnOk, OnErr};
+ghost use Rattle.std.specs.Prelude.{◌≡◌, ◌≢◌, ◌≤◌, ◌-◌, ℕ, true, Some, None, IsSome, length, min, take, List, []};
+ghost use Rattle.std.specs.Prelude.{option_map, OnOk, OnErr};
 ghost use Rattle.line_io.specs.Outside.{up, Copies, Fetches, Gives, Grows, GrowsWhole};
 ghost use Rattle.line_io.specs.inner.Places.{IsPlace};
-ghost use Rattle.line_io.specs.Kept.{file_in, fetched, given_after, unused, counted, failed, IsToFail, blames, next_keep, torn, after_fetch, after_write, KeepsTorn};
+ghost use Rattle.line_io.specs.Kept.{file_in, fetched, given_after, unused, counted, failed, IsToFail, blames};
+ghost use Rattle.line_io.specs.Kept.{next_keep, torn, after_fetch, after_write, KeepsTorn};
 ghost use Rattle.line_io.specs.declared.kept_files.Blame.TheVariants.{Nothing, File};
 ghost use Rattle.line_io.specs.declared.outside.Fetched.TheVariants.{Failed as FetchFailed};
 ghost use Rattle.line_io.specs.declared.outside.Stored.TheVariants.{Failed, Done};
@@ -16,8 +18,8 @@ use crate::outside::{Fetched, Shelf, Stored};
 use std::alloc::{AllocError, Global};
 use std::marker::Model;
 
-/// Files in memory. Its calls are `fetch`, `fresh` and `append`, numbered from 0 up to 2^64 - 1, where the number stays;
-/// those of chosen numbers fail, each with a fault.
+/// Files in memory. Its calls are `fetch`, `fresh` and `append`, numbered from 0 up to 2^64 - 1, where the number
+/// stays; those of chosen numbers fail, each with a fault.
 #[derive(Drop)]
 pub struct MemShelf {
     alloc: Global,
@@ -53,7 +55,8 @@ impl MemShelf {
     /// changes.
     pub fn put_file(&mut self, name: &str, bytes: &[u8]) -> Result<(), AllocError>
         ensures done { OnOk result (file_in self.new.files name.now ≡ Some bytes.now) }
-        ensures others { OnOk result ((q : List ℕ) → q ≢ name.now → file_in self.new.files q ≡ file_in self.old.files q) }
+        ensures others { OnOk result ((q : List ℕ) → q ≢ name.now
+            → file_in self.new.files q ≡ file_in self.old.files q) }
         ensures calls { self.new.calls ≡ self.old.calls }
         ensures err { OnErr result (self.new ≡ self.old) }
     {
@@ -109,7 +112,8 @@ fn extend_torn(
     keep: u64,
 )
     requires { IsPlace files.old name.now k }
-    ensures torn { KeepsTorn (file_in files.old name.now) (take keep bytes.now) calls.old (file_in files.new name.now) calls.new }
+    ensures torn { KeepsTorn (file_in files.old name.now) (take keep bytes.now) calls.old (file_in files.new name.now)
+        calls.new }
     ensures grows { Grows (file_in files.old name.now) bytes.now (file_in files.new name.now) }
     ensures others { (q : List ℕ) → q ≢ name.now → file_in files.new q ≡ file_in files.old q }
     ensures blame { blames files.new (File k) name.now ≡ true }
@@ -158,7 +162,8 @@ impl Shelf for MemShelf {
         ensures given { self.new.given ≡ given_after self.old.given result }
         ensures got { Fetches (file_in self.old.files name.now) at piece.new result }
         ensures fails { IsToFail self.old.calls → result ≡ FetchFailed }
-        ensures works { ¬ IsToFail self.old.calls → result ≡ fetched (file_in self.old.files name.now) at (length piece.old) }
+        ensures works { ¬ IsToFail self.old.calls → result ≡ fetched (file_in self.old.files name.now) at
+            (length piece.old) }
         ensures files { self.new.files ≡ self.old.files }
         ensures calls { self.new.calls ≡ after_fetch self.old.calls result }
     {
@@ -218,10 +223,15 @@ impl Shelf for MemShelf {
         ensures blame { result ≡ Failed → blames self.new.files self.new.blame name.now ≡ true }
         ensures fails { IsToFail self.old.calls → result ≡ Failed }
         ensures missing { file_in self.old.files name.now ≡ None → result ≡ Failed }
-        ensures done { result ≡ Done → GrowsWhole (file_in self.old.files name.now) bytes.now (file_in self.new.files name.now) }
-        ensures failed { result ≡ Failed → Grows (file_in self.old.files name.now) bytes.now (file_in self.new.files name.now) }
-        ensures refused { result ≡ Failed → ¬ IsToFail self.old.calls → file_in self.new.files name.now ≡ file_in self.old.files name.now }
-        ensures torn { IsToFail self.old.calls → KeepsTorn (file_in self.old.files name.now) (take (next_keep self.old.calls) bytes.now) (counted self.old.calls) (file_in self.new.files name.now) self.new.calls }
+        ensures done { result ≡ Done → GrowsWhole (file_in self.old.files name.now) bytes.now
+            (file_in self.new.files name.now) }
+        ensures failed { result ≡ Failed → Grows (file_in self.old.files name.now) bytes.now
+            (file_in self.new.files name.now) }
+        ensures refused { result ≡ Failed → ¬ IsToFail self.old.calls
+            → file_in self.new.files name.now ≡ file_in self.old.files name.now }
+        ensures torn { IsToFail self.old.calls → KeepsTorn (file_in self.old.files name.now)
+            (take (next_keep self.old.calls) bytes.now) (counted self.old.calls) (file_in self.new.files name.now)
+            self.new.calls }
         ensures others { (q : List ℕ) → q ≢ name.now → file_in self.new.files q ≡ file_in self.old.files q }
         ensures calls { ¬ IsToFail self.old.calls → self.new.calls ≡ after_write self.old.calls result }
     {

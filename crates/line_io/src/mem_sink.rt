@@ -43,8 +43,8 @@ impl MemSink {
         self.bytes.as_slice()
     }
 
-    /// Lets the call of a number fail after the first `keep` bytes of its piece are kept, or all where it has fewer. The
-    /// first tear of a number counts. It is no call. Out of memory, nothing changes.
+    /// Lets the call of a number fail after the first `keep` bytes of its piece are kept, or all where it has fewer.
+    /// The first tear of a number counts. It is no call. Out of memory, nothing changes.
     pub fn tear(&mut self, call: u64, keep: u64) -> Result<(), AllocError>
         ensures ok { OnOk result (self.new ≡ record self.old { calls = torn self.old.calls call keep }) }
         ensures err { OnErr result (self.new ≡ self.old) }
@@ -62,8 +62,8 @@ impl Sink for MemSink {
 
     ghost puts = { λ s. s.calls.made };
 
-    /// Fails where the call is one of those that fail, or there is no memory. A torn call keeps as many bytes as its tear
-    /// says; where memory refuses them it keeps none, and a second fault is counted.
+    /// Fails where the call is one of those that fail, or there is no memory. A torn call keeps as many bytes as its
+    /// tear says; where memory refuses them it keeps none, and a second fault is counted.
     fn put(&mut self, bytes: &[u8]) -> Stored
         ensures puts { self.new.calls.made ≡ up self.old.calls.made }
         ensures count { self.old.calls.faults ≤ self.new.calls.faults }
@@ -71,7 +71,8 @@ impl Sink for MemSink {
         ensures done { result ≡ Done → self.new.bytes ≡ self.old.bytes ++ bytes.now }
         ensures failed { result ≡ Failed → Grows (Some self.old.bytes) bytes.now (Some self.new.bytes) }
         ensures refused { result ≡ Failed → ¬ IsToFail self.old.calls → self.new.bytes ≡ self.old.bytes }
-        ensures torn { IsToFail self.old.calls → KeepsTorn (Some self.old.bytes) (take (next_keep self.old.calls) bytes.now) (counted self.old.calls) (Some self.new.bytes) self.new.calls }
+        ensures torn { IsToFail self.old.calls → KeepsTorn (Some self.old.bytes)
+            (take (next_keep self.old.calls) bytes.now) (counted self.old.calls) (Some self.new.bytes) self.new.calls }
         ensures calls { ¬ IsToFail self.old.calls → self.new.calls ≡ after_write self.old.calls result }
     {
         if let Some(keep) = self.calls.begin() {

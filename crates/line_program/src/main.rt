@@ -1,6 +1,7 @@
 //! Balances of assembly lines, and a proved check of their certificates.
 //!
-//! `main` makes the files and the standard output, and hands them with the words to `run`, whose contract says what is printed.
+//! `main` makes the files and the standard output, and hands them with the words to `run`, whose contract says what is
+//! printed.
 #![tactic(auto)]
 
 use command_outcome::{Kept, Stop, finish};

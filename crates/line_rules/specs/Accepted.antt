@@ -51,7 +51,8 @@ abbrev pub Refutes : Line → List Entry → Ask → ℕ → Type 0
 Refutes line es (ask.Stations cycle) lower = HasAnswer es (all_tasks line) (lower - 1) cycle
 Refutes line es (ask.Cycle stations) lower = HasAnswer es (all_tasks line) stations (lower - 1)
 
--- the question that a trail of the certificate may begin with, and its cycle, lie from the lower bound up to below the upper one
+-- the question that a trail of the certificate may begin with, and its cycle, lie from the lower bound up to below the
+-- upper one
 abbrev pub MayBegin : Ask → ℕ → ℕ → ℕ → ℕ → Type 0
 MayBegin (ask.Stations cycle) lower upper X most = (X ≡ cycle) × (lower ≤ most) × (most < upper)
 MayBegin (ask.Cycle stations) lower upper X most = (most ≡ stations) × (lower ≤ X) × (X < upper)
@@ -60,11 +61,13 @@ MayBegin (ask.Cycle stations) lower upper X most = (most ≡ stations) × (lower
 abbrev pub HasTrail : LineKind → Line → Ask → ℕ → ℕ → List Entry → Option Trail → Type 0
 HasTrail kind line a lower upper es None = Unit {0}
 HasTrail kind line a lower upper es (Some trail) =
-    (most : ℕ) × MayBegin a lower upper trail.cycle most × IsTrail kind line trail.cycle es (all_tasks line) most trail.frames
+    (most : ℕ) × MayBegin a lower upper trail.cycle most × IsTrail kind line trail.cycle es (all_tasks line) most
+    trail.frames
 
--- Bounds with their proof: the entries are derived, the balance is right and shows the upper bound, an entry shows the lower bound where
--- that is above 1, and the trail is a valid one.
-pub record IsProof (kind : LineKind) (line : Line) (a : Ask) (lower upper : ℕ) (b : Assignment) (es : List Entry) (left : Option Trail) : Type 0 where
+-- Bounds with their proof: the entries are derived, the balance is right and shows the upper bound, an entry shows the
+-- lower bound where that is above 1, and the trail is a valid one.
+pub record IsProof (kind : LineKind) (line : Line) (a : Ask) (lower upper : ℕ) (b : Assignment) (es : List Entry)
+    (left : Option Trail) : Type 0 where
   pub balance : IsRight kind line (upper_cycle a upper) b
   pub stations : b.stations ≡ upper_stations a upper
   pub derived : IsDerived kind line es
@@ -92,7 +95,8 @@ abbrev pub ClaimIsInfeasible : Line → Ask → Claim → ℕ → Type 0
 ClaimIsInfeasible line a (claim.TooLong task) i = (i ≡ task) × IsLeastTooLong line a task
 ClaimIsInfeasible line a (claim.Bounds l u b es trail) i = ⊥
 
--- A certificate of the line that says that there is no balance is accepted, since its task i is the least that is too long.
+-- A certificate of the line that says that there is no balance is accepted, since its task i is the least that is too
+-- long.
 pub record IsInfeasible (line : Line) (cert : Certificate) (i : ℕ) : Type 0 where
   pub tasks : cert.tasks ≡ tasks line
   pub claim : ClaimIsInfeasible line cert.ask cert.claim i

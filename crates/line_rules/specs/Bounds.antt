@@ -31,15 +31,17 @@ IsTooLong line c i = (i < tasks line) × (c < time line i)
 unfoldable pub lm1 : Line → ℕ → List Bool → ℕ
 lm1 line c R = up (sum_where (has R) line.times) c
 
--- LM2 of R: the tasks longer than half a cycle, of which no two fit one station, and half of those of just half a cycle, rounded up
--- (Scholl)
+-- LM2 of R: the tasks longer than half a cycle, of which no two fit one station, and half of those of just half a
+-- cycle, rounded up (Scholl)
 unfoldable pub lm2 : Line → ℕ → List Bool → ℕ
-lm2 line c R = count_where (λ t. nat_lt c (2 * t)) (has R) line.times + up (count_where (λ t. nat_eq (2 * t) c) (has R) line.times) 2
+lm2 line c R = count_where (λ t. nat_lt c (2 * t)) (has R) line.times + up
+    (count_where (λ t. nat_eq (2 * t) c) (has R) line.times) 2
 
--- the sixths of a station that a time t counts for: 6 above two thirds of the cycle, 4 at two thirds, 3 between, 2 at one third, and
--- none below it (Scholl's LM3, with sixths)
+-- the sixths of a station that a time t counts for: 6 above two thirds of the cycle, 4 at two thirds, 3 between, 2 at
+-- one third, and none below it (Scholl's LM3, with sixths)
 unfoldable pub sixths : ℕ → ℕ → ℕ
-sixths c t = cond (nat_lt (2 * c) (3 * t)) 6 (cond (nat_eq (3 * t) (2 * c)) 4 (cond (nat_lt c (3 * t)) 3 (cond (nat_eq (3 * t) c) 2 0)))
+sixths c t = cond (nat_lt (2 * c) (3 * t)) 6 (cond (nat_eq (3 * t) (2 * c)) 4
+    (cond (nat_lt c (3 * t)) 3 (cond (nat_eq (3 * t) c) 2 0)))
 
 -- LM3 of R: the sixths of its tasks, in stations, rounded up (Scholl)
 unfoldable pub lm3 : Line → ℕ → List Bool → ℕ
@@ -58,14 +60,14 @@ abbrev pub greatest_below : ℕ → (ℕ → ℕ) → ℕ
 greatest_below zero f = 0
 greatest_below (suc n) f = max (f n) (greatest_below n f)
 
--- on a straight line, the most stations that the head and the tail of a task of R need, its own station counted once (Scholl); a U-line
--- has no such bound
+-- on a straight line, the most stations that the head and the tail of a task of R need, its own station counted once
+-- (Scholl); a U-line has no such bound
 unfoldable pub chained : LineKind → Line → ℕ → List Bool → ℕ
 chained Straight line c R = greatest_below (tasks line) (λ j. cond (has R j) (head line c R j + tail line c R j - 1) 0)
 chained U line c R = 0
 
--- The bound of R at cycle c: 0 for the empty set; 1,025 where a time of R exceeds c; otherwise the greatest of 1 and the bounds above
--- (Scholl).
+-- The bound of R at cycle c: 0 for the empty set; 1,025 where a time of R exceeds c; otherwise the greatest of 1 and
+-- the bounds above (Scholl).
 unfoldable pub bound : LineKind → Line → ℕ → List Bool → ℕ
 bound kind line c R =
     cond (nat_eq (count R) 0) 0

@@ -6,7 +6,8 @@ use Rattle.line_rules.specs.Balance.{IsRight, IsSide, Keeps, all_tasks, seat, ti
 use Rattle.line_rules.specs.declared.types.LineKind.{LineKind}
 use Rattle.line_rules.specs.declared.types.Balance.{Balance as Assignment}
 use Rattle.line_rules.specs.declared.types.BalanceCheck.{BalanceCheck}
-use Rattle.line_rules.specs.declared.types.BalanceCheck.TheVariants.{Right, Unplaced, StationRange, SideWrong, Overfull, Broken, Together}
+use Rattle.line_rules.specs.declared.types.BalanceCheck.TheVariants.{Right, Unplaced, StationRange, SideWrong, Overfull}
+use Rattle.line_rules.specs.declared.types.BalanceCheck.TheVariants.{Broken, Together}
 
 -- i passes P, and nothing below it does
 pub record IsLeastWhere (P : ℕ → Type 0) (i : ℕ) : Type 0 where
@@ -21,7 +22,8 @@ pub record IsLeastPair (P : ℕ → ℕ → Type 0) (i j : ℕ) : Type 0 where
 
 -- each task has a station of the line
 abbrev pub HasStations : Line → Assignment → Type 0
-HasStations line b = (i : ℕ) → In (all_tasks line) i → (1 ≤ (seat b.place i).station) × ((seat b.place i).station ≤ b.stations)
+HasStations line b = (i : ℕ) → In (all_tasks line) i → (1 ≤ (seat b.place i).station)
+    × ((seat b.place i).station ≤ b.stations)
 
 -- each task is at a side that the line has
 abbrev pub HasSides : LineKind → Line → Assignment → Type 0
@@ -33,7 +35,8 @@ HasRoom line c b = (s : ℕ) → time_at line (all_tasks line) (seat b.place) s 
 
 -- the places keep each precedence
 abbrev pub KeepsAll : LineKind → Line → Assignment → Type 0
-KeepsAll kind line b = (i j : ℕ) → In (all_tasks line) i → In (all_tasks line) j → Before line i j → Keeps kind (seat b.place i) (seat b.place j)
+KeepsAll kind line b = (i j : ℕ) → In (all_tasks line) i → In (all_tasks line) j → Before line i j
+    → Keeps kind (seat b.place i) (seat b.place j)
 
 -- i is before j, and their places break that
 pub record Breaks (kind : LineKind) (line : Line) (b : Assignment) (i j : ℕ) : Type 0 where
@@ -55,7 +58,8 @@ IsChecked kind line c b Right = IsRight kind line c b
 IsChecked kind line c b (Unplaced n) = (n ≡ length b.place) × (n < tasks line)
 IsChecked kind line c b (StationRange i) =
     (length b.place ≡ tasks line)
-    × IsLeastWhere (λ j. In (all_tasks line) j × ((1 ≤ (seat b.place j).station) × ((seat b.place j).station ≤ b.stations) → ⊥)) i
+    × IsLeastWhere (λ j. In (all_tasks line) j × ((1 ≤ (seat b.place j).station)
+    × ((seat b.place j).station ≤ b.stations) → ⊥)) i
 IsChecked kind line c b (SideWrong i) =
     (length b.place ≡ tasks line) × HasStations line b
     × IsLeastWhere (λ j. In (all_tasks line) j × (IsSide kind (seat b.place j).side → ⊥)) i

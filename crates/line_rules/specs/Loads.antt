@@ -32,8 +32,9 @@ Suits Fore l = IsEmpty l.back
 Suits Back l = IsEmpty l.front
 Suits Both l = Unit {0}
 
--- A load of R: disjoint parts of R, front and back, not both empty, with total time at most c and no two tasks apart. What is in R and
--- before a task of the front is in the front, and what is in R and after a task of the back is in the back.
+-- A load of R: disjoint parts of R, front and back, not both empty, with total time at most c and no two tasks apart.
+-- What is in R and before a task of the front is in the front, and what is in R and after a task of the back is in the
+-- back.
 pub record IsLoad (line : Line) (c : ℕ) (mode : Mode) (R : List Bool) (l : Load) : Type 0 where
   pub front : IsTaskSet line l.front
   pub back : IsTaskSet line l.back

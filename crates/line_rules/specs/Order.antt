@@ -1,13 +1,16 @@
 -- The order of loads, and lists of loads in that order.
-use Rattle.std.specs.Prelude.{◌≡◌, ℕ, suc, ◌-◌, ◌*◌, ◌<◌, ◌⊎◌, Bool, true, false, cond, nat_lt, List, length, slice_get, Option, Some, None}
+use Rattle.std.specs.Prelude.{◌≡◌, ℕ, suc, ◌-◌, ◌*◌, ◌<◌, ◌⊎◌, Bool, true, false, cond, nat_lt, List, length, slice_get}
+use Rattle.std.specs.Prelude.{Option, Some, None}
 use Rattle.line_instance.specs.Line.{Line, tasks, has, at_rank}
 use Rattle.line_rules.specs.Loads.{IsLoad}
 use Rattle.line_rules.specs.declared.types.Mode.{Mode}
 use Rattle.line_rules.specs.declared.types.Load.{Load}
 
--- the truths of a load: those of the front rank by rank from the first rank, then those of the back rank by rank from the last
+-- the truths of a load: those of the front rank by rank from the first rank, then those of the back rank by rank from
+-- the last
 abbrev pub truth : Line → Load → ℕ → Bool
-truth line l k = cond (nat_lt k (tasks line)) (has l.front (at_rank line k)) (has l.back (at_rank line (2 * tasks line - 1 - k)))
+truth line l k = cond (nat_lt k (tasks line)) (has l.front (at_rank line k))
+    (has l.back (at_rank line (2 * tasks line - 1 - k)))
 
 -- a stands before b: they agree up to some truth, which is absent in a and present in b
 pub record Precedes (line : Line) (a b : Load) : Type 0 where
@@ -46,7 +49,8 @@ After line None l = Unit {0}
 After line (Some last) l = Precedes line last l
 
 -- b is the least load after the last; the least of all where there is no last
-pub record IsFollowing (line : Line) (c : ℕ) (mode : Mode) (R : List Bool) (last : Option Load) (b : Load) : Type 0 where
+pub record IsFollowing (line : Line) (c : ℕ) (mode : Mode) (R : List Bool) (last : Option Load)
+    (b : Load) : Type 0 where
   pub load : IsLoad line c mode R b
   pub above : After line last b
   pub least : (l : Load) → IsLoad line c mode R l → After line last l → Precedes line l b → ⊥

@@ -105,7 +105,8 @@ NamesCycle (ask.Stations cycle) = Unit {0}
 NamesCycle (ask.Cycle stations) = ⊥
 
 -- bounds within the range of cycles, a balance with a place for each task, entries, and a trail or none
-pub record AreBounds (kind : LineKind) (n lower upper : ℕ) (b : Assignment) (es : List Entry) (left : Option Trail) : Type 0 where
+pub record AreBounds (kind : LineKind) (n lower upper : ℕ) (b : Assignment) (es : List Entry)
+    (left : Option Trail) : Type 0 where
   pub from : IsCycle lower
   pub up_to : IsCycle upper
   pub balance : IsPlacing kind n b
@@ -117,7 +118,8 @@ abbrev pub IsClaim : LineKind → ℕ → Ask → Claim → Type 0
 IsClaim kind n a (claim.TooLong task) = NamesCycle a × (task < n)
 IsClaim kind n a (claim.Bounds lower upper b es left) = AreBounds kind n lower upper b es left
 
--- A certificate within its ranges: 1 to 1,024 tasks, a question, and a claim about them. Nothing is said of what follows from what.
+-- A certificate within its ranges: 1 to 1,024 tasks, a question, and a claim about them. Nothing is said of what
+-- follows from what.
 pub record IsInRange (cert : Certificate) : Type 0 where
   pub some : 1 ≤ cert.tasks
   pub few : cert.tasks ≤ 1024

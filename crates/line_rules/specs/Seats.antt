@@ -21,13 +21,16 @@ side_of U l i = cond (has l.front i) side.Front side.Back
 
 -- each task of a load has the load's number, counted from 1, as its station, and the side of its part
 abbrev pub IsPlacement : LineKind → List Load → (ℕ → Seatplace) → Type 0
-IsPlacement kind loads place = (k : ℕ) (l : Load) (i : ℕ) → slice_get loads k ≡ Some l → In (taken l) i → place i ≡ record { station = suc k; side = side_of kind l i }
+IsPlacement kind loads place = (k : ℕ) (l : Load) (i : ℕ) → slice_get loads k ≡ Some l → In (taken l) i
+    → place i ≡ record { station = suc k; side = side_of kind l i }
 
--- The loads part R: each task of R is in a load, tasks of loads are in R, and no task is in two. Their placement is a balance.
+-- The loads part R: each task of R is in a load, tasks of loads are in R, and no task is in two. Their placement is a
+-- balance.
 pub record AreSeated (kind : LineKind) (line : Line) (c : ℕ) (R : List Bool) (loads : List Load) : Type 0 where
   pub each : (i : ℕ) → In R i → (k : ℕ) × (l : Load) × ((slice_get loads k ≡ Some l) × In (taken l) i)
   pub within : (k : ℕ) (l : Load) (i : ℕ) → slice_get loads k ≡ Some l → In (taken l) i → In R i
-  pub once : (j k : ℕ) (a b : Load) (i : ℕ) → slice_get loads j ≡ Some a → slice_get loads k ≡ Some b → In (taken a) i → In (taken b) i → j ≡ k
+  pub once : (j k : ℕ) (a b : Load) (i : ℕ) → slice_get loads j ≡ Some a → slice_get loads k ≡ Some b → In (taken a) i
+      → In (taken b) i → j ≡ k
   pub balance : (place : ℕ → Seatplace) → IsPlacement kind loads place → IsBalance kind line c R (length loads) place
 
 -- a load of the front or of both parts stands before the others, and a load of the back after them

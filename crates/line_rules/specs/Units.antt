@@ -50,4 +50,5 @@ TrailUnitsAt line X (Some trail) units = cond (nat_eq trail.cycle X) (UnitsIn li
 
 -- the units at X: those of the entries of cycle X and of a trail at X
 abbrev pub UnitsAt : Line → ℕ → List Entry → Option Trail → ℕ → Type 0
-UnitsAt line X es trail units = (a : ℕ) × (b : ℕ) × (UnitsOf line (entries_at X es) a × TrailUnitsAt line X trail b × (units ≡ a + b))
+UnitsAt line X es trail units = (a : ℕ) × (b : ℕ) × (UnitsOf line (entries_at X es) a × TrailUnitsAt line X trail b
+    × (units ≡ a + b))

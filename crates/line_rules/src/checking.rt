@@ -22,8 +22,10 @@ const STATIONS: usize = 1025;
 /// The least task whose station isn't 1..`stations`.
 fn out_of_range(tasks: u32, stations: u32, place: &Places) -> Option<u32>
     requires { tasks ≤ length place.now }
-    ensures none { IsNone result → (i : ℕ) → i < tasks → (1 ≤ (seat place.now i).station) × ((seat place.now i).station ≤ stations) }
-    ensures some { IfSome result (IsLeastWhere (λ j. (j < tasks) × ((1 ≤ (seat place.now j).station) × ((seat place.now j).station ≤ stations) → ⊥))) }
+    ensures none { IsNone result → (i : ℕ) → i < tasks → (1 ≤ (seat place.now i).station)
+        × ((seat place.now i).station ≤ stations) }
+    ensures some { IfSome result (IsLeastWhere (λ j. (j < tasks)
+        × ((1 ≤ (seat place.now j).station) × ((seat place.now j).station ≤ stations) → ⊥))) }
 {
     for i in 0..tasks {
         let station = place.at(i as usize).station;
@@ -85,7 +87,8 @@ fn station_times(inst: &Instance, place: &Places) -> [u64; STATIONS]
     requires each { tasks inst.now ≤ length place.now }
     requires few { (i : ℕ) → i < tasks inst.now → (seat place.now i).station ≤ 1024 }
     ensures long { length result ≡ 1025 }
-    ensures times { (s : ℕ) → s < 1025 → slice_index result s ≡ time_at inst.now (all_tasks inst.now) (seat place.now) s }
+    ensures times { (s : ℕ) → s < 1025 → slice_index result s
+        ≡ time_at inst.now (all_tasks inst.now) (seat place.now) s }
 {
     let mut times = no_times();
     for i in 0..inst.tasks() {
@@ -112,7 +115,8 @@ fn overfull(times: &[u64], cycle: u64) -> Option<u32>
 fn broken_after(inst: &Instance, kind: LineKind, balance: &Balance, i: u32) -> Option<u32>
     requires each { tasks inst.now ≤ length balance.now.place }
     requires task { i < tasks inst.now }
-    ensures none { IsNone result → (j : ℕ) → In (all_tasks inst.now) j → Before inst.now i j → Keeps kind (seat balance.now.place i) (seat balance.now.place j) }
+    ensures none { IsNone result → (j : ℕ) → In (all_tasks inst.now) j → Before inst.now i j
+        → Keeps kind (seat balance.now.place i) (seat balance.now.place j) }
     ensures some { IfSome result (IsLeastWhere (Breaks kind inst.now balance.now i)) }
 {
     let _tasks = inst.tasks();
@@ -174,10 +178,11 @@ fn first_together(inst: &Instance, balance: &Balance) -> Option<(u32, u32)>
     None
 }
 
-/// Whether a balance is one of all tasks, by the rules of its kind of line; if not, the first thing that is wrong with it.
+/// Whether a balance is one of all tasks, by the rules of its kind of line; if not, the first thing that is wrong with
+/// it.
 ///
-/// The answers are tested in the order of `BalanceCheck`, and each says that everything before it is right. Takes no memory, and
-/// time proportional to the tasks and the pairs of tasks that are before one another or apart.
+/// The answers are tested in the order of `BalanceCheck`, and each says that everything before it is right. Takes no
+/// memory, and time proportional to the tasks and the pairs of tasks that are before one another or apart.
 pub fn check_balance(inst: &Instance, kind: LineKind, cycle: u64, balance: &Balance) -> BalanceCheck
     requires places { length balance.now.place ≤ tasks inst.now }
     requires stations { balance.now.stations ≤ 1024 }

@@ -5,7 +5,8 @@
 //! items are. `from_vec`, `into_vec`, `len`, `at`, `as_slice` and `pop` take constant time and no memory. `push` may
 //! move the items to a greater room, and leaves the list as it was where that takes more memory than there is. `copy`
 //! takes memory for the items and for what they hold.
-ghost use Rattle.std.specs.Prelude.{◌≡◌, ◌==◌, ◌<◌, [], ◌∷◌, ◌++◌, length, slice_get, Some, OnOk, OnErr, IfOk, IsNone, IfSome};
+ghost use Rattle.std.specs.Prelude.{◌≡◌, ◌==◌, ◌<◌, [], ◌∷◌, ◌++◌, length, slice_get, Some, OnOk, OnErr, IfOk, IsNone};
+ghost use Rattle.std.specs.Prelude.{IfSome};
 
 use crate::types::{Entry, Load, OpenFrame, Seatplace};
 use std::alloc::AllocError;

@@ -77,7 +77,8 @@ pub enum Why {
         /// The entries that refute the rests which the bound leaves open, in the order of the loads.
         cites: Cites,
     },
-    /// An entry refutes a set that is no harder: one task is taken out, and another one that can stand in for it is put in.
+    /// An entry refutes a set that is no harder: one task is taken out, and another one that can stand in for it is put
+    /// in.
     Swap {
         /// The number of that entry.
         cite: u64,
@@ -202,7 +203,8 @@ pub enum Claim {
         upper: u64,
         /// A balance of all tasks.
         balance: Balance,
-        /// Entries, each of which follows from those before it; one of them shows the lower bound where that is above 1.
+        /// Entries, each of which follows from those before it; one of them shows the lower bound where that is above
+        /// 1.
         entries: Entries,
         /// Where the search was when it stopped, if it did.
         trail: Option<Trail>,

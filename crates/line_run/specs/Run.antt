@@ -5,7 +5,9 @@ use Rattle.std.specs.declared.result.Result.TheVariants.{Ok, Err}
 use Rattle.line_words.specs.Words.{Text}
 use Rattle.line_words.specs.Jobs.{IsJob}
 use Rattle.line_words.specs.declared.job.Job.{Job}
-use Rattle.line_words.specs.declared.job.Job.TheVariants.{Help, Version, Balance, Solve, Cycle, Check, Convert, Combine, Utility, Timeline, Try, Draw, Effic, EfficCheck, Sequence, SequenceCheck}
+use Rattle.line_words.specs.declared.job.Job.TheVariants.{Help, Version, Balance, Solve, Cycle, Check, Convert, Combine}
+use Rattle.line_words.specs.declared.job.Job.TheVariants.{Utility, Timeline, Try, Draw, Effic, EfficCheck, Sequence}
+use Rattle.line_words.specs.declared.job.Job.TheVariants.{SequenceCheck}
 use Rattle.line_rules.specs.declared.types.LineKind.{LineKind}
 use Rattle.round_run.specs.declared.plans.Plan.{Plan}
 use Rattle.command_outcome.specs.Outcome.{Files, Outside, Outcome, IsCut, IsWritten, outcome_of, told}
@@ -50,7 +52,8 @@ IsJobOutcome o Version out = out ≡ told ends.Done version_text
 IsJobOutcome o (Balance file cycle line apart) out = IsBalanceOutcome o file apart cycle (kind_of line) out
 IsJobOutcome o (Solve file cycle line helpers units cert apart warm seek) out =
     IsSolveOutcome o file apart warm seek cycle (kind_of line) (planned helpers units) cert out
-IsJobOutcome o (Cycle file stations line helpers units cert) out = IsCycleOutcome o file (kind_of line) stations helpers units cert out
+IsJobOutcome o (Cycle file stations line helpers units cert) out =
+    IsCycleOutcome o file (kind_of line) stations helpers units cert out
 IsJobOutcome o (Check file cert steps apart) out = IsCheckOutcome o file cert apart steps out
 IsJobOutcome o (Convert file name to cycle) out = IsConvertOutcome o file name to cycle out
 IsJobOutcome o (Combine mix name) out = IsCombineOutcome o mix name out
@@ -58,10 +61,13 @@ IsJobOutcome o (Utility mix cert seq interval length) out = IsUtilityOutcome o m
 IsJobOutcome o (Timeline mix cert seq interval length) out = IsTimelineOutcome o mix cert seq interval length out
 IsJobOutcome o (Try seed tasks cycle line units) out = IsTryOutcome seed tasks cycle (kind_of line) units out
 IsJobOutcome o (Draw file cert name apart) out = IsDrawOutcome o file cert name apart out
-IsJobOutcome o (Effic file least most line helpers units cert) out = IsEfficOutcome o file (kind_of line) least most helpers units cert out
+IsJobOutcome o (Effic file least most line helpers units cert) out =
+    IsEfficOutcome o file (kind_of line) least most helpers units cert out
 IsJobOutcome o (EfficCheck file cert steps) out = IsEfficCheckOutcome o file cert steps out
-IsJobOutcome o (Sequence mix cert interval length units name) out = IsSequenceOutcome o mix cert interval length units name out
-IsJobOutcome o (SequenceCheck mix cert seq interval length steps) out = IsSequenceCheckOutcome o mix cert seq interval length steps out
+IsJobOutcome o (Sequence mix cert interval length units name) out =
+    IsSequenceOutcome o mix cert interval length units name out
+IsJobOutcome o (SequenceCheck mix cert seq interval length steps) out =
+    IsSequenceCheckOutcome o mix cert seq interval length steps out
 
 -- the words ask for a job, and this is what it comes to
 pub record AsksJob (words : List Text) (o : Outside) (out : Outcome) : Type 0 where
@@ -171,7 +177,8 @@ pub record HasWritten (o : Outside) (P : Outcome → Type 0) (status : Status) (
   pub ended : (status ≡ outcome.status) ⊎ (status ≡ ends.WriteFault)
   pub written : IsWritten o.files outcome.page after
 
--- What is left of the files: the page of the outcome is written and the others stay; or it could not be written, and status 5 says so.
+-- What is left of the files: the page of the outcome is written and the others stay; or it could not be written, and
+-- status 5 says so.
 abbrev pub IsLeft : Outside → (Outcome → Type 0) → Status → Files → Type 0
 IsLeft o P status after = HasWritten o P status after ⊎ ((status ≡ ends.WriteFault) × IsCut o P after)
 
@@ -192,9 +199,11 @@ IsJobTrue files (Draw file cert name apart) = Unit {0}
 IsJobTrue files (Effic file least most line helpers units cert) = Unit {0}
 IsJobTrue files (EfficCheck file cert steps) = IsProvedProduct files file cert steps
 IsJobTrue files (Sequence mix cert interval length units name) = Unit {0}
-IsJobTrue files (SequenceCheck mix cert seq interval length steps) = IsProvedSequence files mix cert seq interval length steps
+IsJobTrue files (SequenceCheck mix cert seq interval length steps) =
+    IsProvedSequence files mix cert seq interval length steps
 
--- What a run that is done has proved: where its words ask for the check of a certificate, whoever made it, what the certificate claims is true.
+-- What a run that is done has proved: where its words ask for the check of a certificate, whoever made it, what the
+-- certificate claims is true.
 pub record IsTrueRun (words : List Text) (files : Files) : Type 0 where
   pub job : Job
   pub asked : IsJob words job

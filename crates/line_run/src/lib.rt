@@ -1,7 +1,8 @@
-//! A run of the program, from the words of the command line to the exit code: the contract of the call that `main` makes.
+//! A run of the program, from the words of the command line to the exit code: the contract of the call that `main`
+//! makes.
 //!
-//! `program` joins the commands; `pages` has what is printed of the program itself, and `usage` the line that a fault of the
-//! words is answered by.
+//! `program` joins the commands; `pages` has what is printed of the program itself, and `usage` the line that a fault
+//! of the words is answered by.
 #![tactic(auto)]
 
 mod pages;

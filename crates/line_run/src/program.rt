@@ -1,8 +1,8 @@
 //! A run of the program: the words are read, the job that they ask for is done over the files, and one report is put.
 //!
-//! Each command is a crate of its own, whose contract says what it comes to; here they are only joined. A run goes in this order: the
-//! words; each named file, fetched and read in turn; the job; the file that it writes; one put of the whole report. The first refusal
-//! ends it.
+//! Each command is a crate of its own, whose contract says what it comes to; here they are only joined. A run goes in
+//! this order: the words; each named file, fetched and read in turn; the job; the file that it writes; one put of the
+//! whole report. The first refusal ends it.
 ghost use Rattle.std.specs.Prelude.{◌≡◌, ◌≢◌, ◌⊎◌, ℕ, List, Ok, Err, None, MatchResult, option_map};
 ghost use Rattle.line_io.specs.Outside.{Rises};
 ghost use Rattle.line_words.specs.Words.{texts};
@@ -15,7 +15,8 @@ ghost use Rattle.command_outcome.specs.declared.report.Stop.TheVariants.{Unwritt
 ghost use Rattle.command_outcome.specs.declared.status.Status.TheVariants as ends;
 ghost use Rattle.line_run.specs.Usage.{HasFault};
 ghost use Rattle.line_run.specs.Headline.{IsAnswered, AsksPromise, HasPromise, IsHeadline};
-ghost use Rattle.line_run.specs.Run.{IsJobOutcome, IsAnswer, IsOutcome, IsPlainEnd, IsJobPlain, AsksFiles, IsPlainOutcome, IsPut, IsWriting, IsLeft, IsJobTrue, IsTrueRun, WritesFile};
+ghost use Rattle.line_run.specs.Run.{IsJobOutcome, IsAnswer, IsOutcome, IsPlainEnd, IsJobPlain, AsksFiles};
+ghost use Rattle.line_run.specs.Run.{IsPlainOutcome, IsPut, IsWriting, IsLeft, IsJobTrue, IsTrueRun, WritesFile};
 
 use crate::pages::{help_page, version_page};
 use crate::usage::usage_report;
@@ -57,7 +58,8 @@ fn do_job<R: Threads + Wait + Sync, S: Shelf, G: Gate>(
     gate: &G,
 ) -> Result<Report, Stop>
     requires range { IsInRange job.now }
-    ensures ends { S.tells → Ends (outside (S.file shelf.old) (S.blames shelf.new)) (IsJobOutcome (outside (S.file shelf.old) (S.blames shelf.new)) job.now) (S.file shelf.new) result }
+    ensures ends { S.tells → Ends (outside (S.file shelf.old) (S.blames shelf.new))
+        (IsJobOutcome (outside (S.file shelf.old) (S.blames shelf.new)) job.now) (S.file shelf.new) result }
     ensures plain { IsJobPlain job.now result }
     ensures usage { status_of result ≢ ends.Usage }
     ensures read { status_of result ≡ ends.ReadFault → Rises (S.faults shelf.old) (S.faults shelf.new) }
@@ -65,7 +67,8 @@ fn do_job<R: Threads + Wait + Sync, S: Shelf, G: Gate>(
     ensures unwritten { result ≡ Err Unwritten → WritesFile job.now × Rises (S.faults shelf.old) (S.faults shelf.new) }
     ensures kept { status_of result ≢ ends.Done → status_of result ≢ ends.Stopped → kept_of result ≡ Nothing }
     ensures true_bounds { S.tells → status_of result ≡ ends.Done → IsJobTrue (S.file shelf.old) job.now }
-    ensures promise { S.tells → IsAnswered (status_of result) → HasPromise (S.file shelf.old) (S.file shelf.new) job.now result }
+    ensures promise { S.tells → IsAnswered (status_of result)
+        → HasPromise (S.file shelf.old) (S.file shelf.new) job.now result }
 {
     match job {
         Job::Help => Ok(Report::told(Status::Done, help_page(alloc)?)),
@@ -284,15 +287,18 @@ fn do_words<R: Threads + Wait + Sync, S: Shelf, G: Gate>(
     shelf: &mut S,
     gate: &G,
 ) -> Result<Report, Stop>
-    ensures ends { S.tells → Ends (outside (S.file shelf.old) (S.blames shelf.new)) (IsAnswer (texts words.now) (outside (S.file shelf.old) (S.blames shelf.new))) (S.file shelf.new) result }
+    ensures ends { S.tells → Ends (outside (S.file shelf.old) (S.blames shelf.new))
+        (IsAnswer (texts words.now) (outside (S.file shelf.old) (S.blames shelf.new))) (S.file shelf.new) result }
     ensures plain { AsksFiles (texts words.now) ⊎ IsPlainEnd (IsPlainOutcome (texts words.now)) result }
     ensures usage { status_of result ≡ ends.Usage → HasFault (texts words.now) }
     ensures read { status_of result ≡ ends.ReadFault → Rises (S.faults shelf.old) (S.faults shelf.new) }
     ensures write { status_of result ≡ ends.WriteFault → result ≡ Err Unwritten }
-    ensures unwritten { result ≡ Err Unwritten → IsWriting (texts words.now) × Rises (S.faults shelf.old) (S.faults shelf.new) }
+    ensures unwritten { result ≡ Err Unwritten → IsWriting (texts words.now)
+        × Rises (S.faults shelf.old) (S.faults shelf.new) }
     ensures kept { status_of result ≢ ends.Done → status_of result ≢ ends.Stopped → kept_of result ≡ Nothing }
     ensures true_bounds { S.tells → status_of result ≡ ends.Done → IsTrueRun (texts words.now) (S.file shelf.old) }
-    ensures promise { S.tells → IsAnswered (status_of result) → AsksPromise (texts words.now) (S.file shelf.old) (S.file shelf.new) result }
+    ensures promise { S.tells → IsAnswered (status_of result)
+        → AsksPromise (texts words.now) (S.file shelf.old) (S.file shelf.new) result }
 {
     match job_of(alloc, words) {
         JobRead::Good(job) => do_job(rt, alloc, &job, shelf, gate),
@@ -301,8 +307,8 @@ fn do_words<R: Threads + Wait + Sync, S: Shelf, G: Gate>(
     }
 }
 
-/// Runs the program: reads the words, fetches the files that they name, writes the one that the job writes, and puts one report. Helpers meet
-/// the gate before each publish; it has no effect on any answer.
+/// Runs the program: reads the words, fetches the files that they name, writes the one that the job writes, and puts
+/// one report. Helpers meet the gate before each publish; it has no effect on any answer.
 ///
 /// `--help` puts the page with all commands. `balance` puts the ranked balance of an instance, as a straight line or a
 /// U-line, at a cycle time, with the bound by total time and the idle time, or the least task that is longer than the
@@ -313,11 +319,12 @@ fn do_words<R: Threads + Wait + Sync, S: Shelf, G: Gate>(
 /// models combines to, `utility` puts the utility work of a sequence of units, and `timeline` puts it unit by unit.
 /// `try` draws a line from a seed, solves it, and tells the bounds of a certificate that was read again and verified.
 /// `draw` writes the picture of a certificate's balance. `effic` puts the least product of stations and cycle time, and
-/// writes its certificate, and `effic-check` puts what the check of such a certificate finds. `sequence` puts the order of
-/// the units of a mix with the least utility work, and writes its certificate, and `sequence-check` puts what the check
-/// of such a certificate finds. A fault of the words is
-/// answered by the line `usage`, with the number of the word and what is wrong. Each refusal is one line, and nothing is put with it. All files stay but the one that a job writes. `kept` then holds the
-/// certificate that the run made, where its answer was put, and else nothing; what it held before is dropped.
+/// writes its certificate, and `effic-check` puts what the check of such a certificate finds. `sequence` puts the order
+/// of the units of a mix with the least utility work, and writes its certificate, and `sequence-check` puts what the
+/// check of such a certificate finds. A fault of the words is answered by the line `usage`, with the number of the word
+/// and what is wrong. Each refusal is one line, and nothing is put with it. All files stay but the one that a job
+/// writes. `kept` then holds the certificate that the run made, where its answer was put, and else nothing; what it
+/// held before is dropped.
 pub fn run_gated<R: Threads + Wait + Sync, S: Shelf, K: Sink, G: Gate>(
     rt: &R,
     alloc: Global,
@@ -327,14 +334,28 @@ pub fn run_gated<R: Threads + Wait + Sync, S: Shelf, K: Sink, G: Gate>(
     gate: &G,
     kept: &mut Kept,
 ) -> Status
-    ensures headline { S.tells → K.tells → IsAnswered result → IsHeadline (texts words.now) (S.file shelf.old) (S.file shelf.new) (K.shown out.old) (K.shown out.new) result kept.new }
-    ensures ends { S.tells → K.tells → (let o = outside (S.file shelf.old) (S.blames shelf.new) in IsEnding o (IsOutcome (texts words.now) o) (record { status = result; files = S.file shelf.new; kept = kept.new; shown_before = K.shown out.old; shown = K.shown out.new; faults_before = K.faults out.old; faults = K.faults out.new })) }
-    ensures plain { K.tells → AsksFiles (texts words.now) ⊎ IsPut (IsPlainOutcome (texts words.now)) (K.shown out.old) (K.shown out.new) (K.faults out.old) (K.faults out.new) result kept.new }
+    ensures headline { S.tells → K.tells → IsAnswered result
+        → IsHeadline (texts words.now) (S.file shelf.old) (S.file shelf.new) (K.shown out.old) (K.shown out.new) result
+        kept.new }
+    ensures ends { S.tells → K.tells → (let o = outside (S.file shelf.old) (S.blames shelf.new) in
+        IsEnding o (IsOutcome (texts words.now) o) (record {
+          status = result;
+          files = S.file shelf.new;
+          kept = kept.new;
+          shown_before = K.shown out.old;
+          shown = K.shown out.new;
+          faults_before = K.faults out.old;
+          faults = K.faults out.new;
+        })) }
+    ensures plain { K.tells → AsksFiles (texts words.now) ⊎ IsPut (IsPlainOutcome (texts words.now)) (K.shown out.old)
+        (K.shown out.new) (K.faults out.old) (K.faults out.new) result kept.new }
     ensures one_put { IsOnePut (K.puts out.old) (K.puts out.new) }
     ensures usage { result ≡ ends.Usage → HasFault (texts words.now) }
     ensures read { result ≡ ends.ReadFault → Rises (S.faults shelf.old) (S.faults shelf.new) }
-    ensures write { result ≡ ends.WriteFault → Rises (K.faults out.old) (K.faults out.new) ⊎ (IsWriting (texts words.now) × Rises (S.faults shelf.old) (S.faults shelf.new)) }
-    ensures files { S.tells → (let o = outside (S.file shelf.old) (S.blames shelf.new) in IsLeft o (IsOutcome (texts words.now) o) result (S.file shelf.new)) }
+    ensures write { result ≡ ends.WriteFault → Rises (K.faults out.old) (K.faults out.new)
+        ⊎ (IsWriting (texts words.now) × Rises (S.faults shelf.old) (S.faults shelf.new)) }
+    ensures files { S.tells → (let o = outside (S.file shelf.old) (S.blames shelf.new) in
+        IsLeft o (IsOutcome (texts words.now) o) result (S.file shelf.new)) }
     ensures kept { result ≢ ends.Done → result ≢ ends.Stopped → kept.new ≡ Nothing }
     ensures true_bounds { S.tells → result ≡ ends.Done → IsTrueRun (texts words.now) (S.file shelf.old) }
 {
@@ -351,14 +372,28 @@ pub fn run<R: Threads + Wait + Sync, S: Shelf, K: Sink>(
     out: &mut K,
     kept: &mut Kept,
 ) -> Status
-    ensures headline { S.tells → K.tells → IsAnswered result → IsHeadline (texts words.now) (S.file shelf.old) (S.file shelf.new) (K.shown out.old) (K.shown out.new) result kept.new }
-    ensures ends { S.tells → K.tells → (let o = outside (S.file shelf.old) (S.blames shelf.new) in IsEnding o (IsOutcome (texts words.now) o) (record { status = result; files = S.file shelf.new; kept = kept.new; shown_before = K.shown out.old; shown = K.shown out.new; faults_before = K.faults out.old; faults = K.faults out.new })) }
-    ensures plain { K.tells → AsksFiles (texts words.now) ⊎ IsPut (IsPlainOutcome (texts words.now)) (K.shown out.old) (K.shown out.new) (K.faults out.old) (K.faults out.new) result kept.new }
+    ensures headline { S.tells → K.tells → IsAnswered result
+        → IsHeadline (texts words.now) (S.file shelf.old) (S.file shelf.new) (K.shown out.old) (K.shown out.new) result
+        kept.new }
+    ensures ends { S.tells → K.tells → (let o = outside (S.file shelf.old) (S.blames shelf.new) in
+        IsEnding o (IsOutcome (texts words.now) o) (record {
+          status = result;
+          files = S.file shelf.new;
+          kept = kept.new;
+          shown_before = K.shown out.old;
+          shown = K.shown out.new;
+          faults_before = K.faults out.old;
+          faults = K.faults out.new;
+        })) }
+    ensures plain { K.tells → AsksFiles (texts words.now) ⊎ IsPut (IsPlainOutcome (texts words.now)) (K.shown out.old)
+        (K.shown out.new) (K.faults out.old) (K.faults out.new) result kept.new }
     ensures one_put { IsOnePut (K.puts out.old) (K.puts out.new) }
     ensures usage { result ≡ ends.Usage → HasFault (texts words.now) }
     ensures read { result ≡ ends.ReadFault → Rises (S.faults shelf.old) (S.faults shelf.new) }
-    ensures write { result ≡ ends.WriteFault → Rises (K.faults out.old) (K.faults out.new) ⊎ (IsWriting (texts words.now) × Rises (S.faults shelf.old) (S.faults shelf.new)) }
-    ensures files { S.tells → (let o = outside (S.file shelf.old) (S.blames shelf.new) in IsLeft o (IsOutcome (texts words.now) o) result (S.file shelf.new)) }
+    ensures write { result ≡ ends.WriteFault → Rises (K.faults out.old) (K.faults out.new)
+        ⊎ (IsWriting (texts words.now) × Rises (S.faults shelf.old) (S.faults shelf.new)) }
+    ensures files { S.tells → (let o = outside (S.file shelf.old) (S.blames shelf.new) in
+        IsLeft o (IsOutcome (texts words.now) o) result (S.file shelf.new)) }
     ensures kept { result ≢ ends.Done → result ≢ ends.Stopped → kept.new ≡ Nothing }
     ensures true_bounds { S.tells → result ≡ ends.Done → IsTrueRun (texts words.now) (S.file shelf.old) }
 {

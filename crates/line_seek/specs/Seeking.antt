@@ -16,8 +16,8 @@ use Rattle.line_seek.specs.declared.seeking.Seeker.{Seeker}
 use Rattle.line_seek.specs.declared.seeking.Sought.{Sought}
 use Rattle.line_seek.specs.declared.seeking.Sought.TheVariants as sought
 
--- A seek on its way: its best balance is right; the entries of its scratch book and their units are paid for by the loads
--- that it listed, but for so many entries; and the next try has a mode of the line's kind.
+-- A seek on its way: its best balance is right; the entries of its scratch book and their units are paid for by the
+-- loads that it listed, but for so many entries; and the next try has a mode of the line's kind.
 pub record IsSeeking (free : ℕ) (s : Seeker) : Type 0 where
   pub cycle : IsCycle s.scratch.about.cycle
   pub right : IsRight s.scratch.about.kind s.scratch.about.line s.scratch.about.cycle s.best
@@ -29,8 +29,8 @@ abbrev pub IfDone : Sought → (Assignment → List Entry → ℕ → Type 0) �
 IfDone (sought.Done best lemmas used) P = P best lemmas used
 IfDone sought.NoMemory P = Unit {0}
 
--- The lemmas of a seek that listed so many loads: entries of sets of the line's tasks, all at the cycle, with no more units
--- than loads, and at most one more of them.
+-- The lemmas of a seek that listed so many loads: entries of sets of the line's tasks, all at the cycle, with no more
+-- units than loads, and at most one more of them.
 pub record AreSought (line : Line) (c used : ℕ) (lemmas : List Entry) : Type 0 where
   pub ranges : used < 20000000 → AreEntries (tasks line) lemmas
   pub cycles : AreAtCycle c lemmas

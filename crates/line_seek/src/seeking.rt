@@ -1,7 +1,7 @@
 //! A seek, from try to try.
 //!
-//! What it keeps is the best balance, the scratch book of its searches, and how many loads were listed. Each try lists a
-//! load at least, so there are no more tries than loads.
+//! What it keeps is the best balance, the scratch book of its searches, and how many loads were listed. Each try lists
+//! a load at least, so there are no more tries than loads.
 ghost use Rattle.std.specs.Prelude.{◌≡◌, ℕ, ◌+◌, ◌^◌, ◌<◌, ◌≤◌, length, [], false, IfOk, OnOk};
 ghost use Rattle.line_instance.specs.Line.{tasks};
 ghost use Rattle.line_rules.specs.Balance.{IsRight, all_tasks};
@@ -31,8 +31,8 @@ const GROWTH: u64 = 4;
 /// What a seek comes to.
 #[derive(Drop)]
 pub enum Sought {
-    /// The best balance; the entries that show that there is none in one station less, or none at all; and how many loads were
-    /// listed.
+    /// The best balance; the entries that show that there is none in one station less, or none at all; and how many
+    /// loads were listed.
     Done {
         best: Balance,
         lemmas: Entries,
@@ -88,8 +88,8 @@ impl Seeker {
         })
     }
 
-    /// Whether nothing more is to be tried: the best balance has the fewest stations that the bound allows, the loads are
-    /// used, or an entry of the book refutes one station less.
+    /// Whether nothing more is to be tried: the best balance has the fewest stations that the bound allows, the loads
+    /// are used, or an entry of the book refutes one station less.
     fn is_over(&self, inst: &Instance, book: &Book, lower: u32, limit: u64) -> bool
         ensures left { result ≡ false → self.now.used < limit }
         ensures above { result ≡ false → lower < self.now.best.stations }
@@ -219,15 +219,16 @@ fn go_through(alloc: Global, inst: &Instance, book: &Book, limit: u64) -> Result
     Ok(seeker.ended(alloc))
 }
 
-/// Seeks a balance in fewer stations than the best of a book, at the book's cycle, and entries that show that there is none,
-/// listing at most so many loads. The book is about the instance, and its cycle is 1 to 10^18 in the instance's time unit.
+/// Seeks a balance in fewer stations than the best of a book, at the book's cycle, and entries that show that there is
+/// none, listing at most so many loads. The book is about the instance, and its cycle is 1 to 10^18 in the instance's
+/// time unit.
 ///
-/// Rounds follow in which a try may list 1,000, 4,000, 16,000 loads and so on. A round has a beam from the front and one from
-/// the back, and then a search from the front and one from the back; on a U-line a beam and a search from both ends. A try
-/// asks for one station less than the best balance has, and is made again where it finds one. The seek ends where the best
-/// balance has as many stations as the bound, where the loads are used, where an entry of the book refutes one station less,
-/// and where a search does; then the lemmas are the entries of the searches that show that, and in every other case there
-/// are none.
+/// Rounds follow in which a try may list 1,000, 4,000, 16,000 loads and so on. A round has a beam from the front and
+/// one from the back, and then a search from the front and one from the back; on a U-line a beam and a search from both
+/// ends. A try asks for one station less than the best balance has, and is made again where it finds one. The seek ends
+/// where the best balance has as many stations as the bound, where the loads are used, where an entry of the book
+/// refutes one station less, and where a search does; then the lemmas are the entries of the searches that show that,
+/// and in every other case there are none.
 pub fn seek(alloc: Global, inst: &Instance, book: &Book, limit: u64) -> Sought
     requires same { book.now.about.line ≡ inst.now }
     requires cycle { IsCycle book.now.about.cycle }

@@ -1,18 +1,23 @@
 -- What the words ask for, and the first fault in them.
-use Rattle.std.specs.Prelude.{◌≡◌, ◌⊎◌, ℕ, suc, ◌<◌, cond, nat_lt, nat_le, ◌&&◌, Bool, true, List, [], ◌∷◌, length, take, slice_index_or, Option, Some, None, codes}
+use Rattle.std.specs.Prelude.{◌≡◌, ◌⊎◌, ℕ, suc, ◌<◌, cond, nat_lt, nat_le, ◌&&◌, Bool, true, List, [], ◌∷◌, length}
+use Rattle.std.specs.Prelude.{take, slice_index_or, Option, Some, None, codes}
 use Rattle.std.specs.Str.{bytes_eq}
 use Rattle.line_words.specs.Words.{Text, setting, names_of, value_of, sets}
-use Rattle.line_words.specs.Table.{command_named, names_wanted, keys_wanted, takes, sets_all, is_value, is_some, most_of, number_up_to}
+use Rattle.line_words.specs.Table.{command_named, names_wanted, keys_wanted, takes, sets_all, is_value, is_some}
+use Rattle.line_words.specs.Table.{most_of, number_up_to}
 use Rattle.line_words.specs.declared.command.Command.{Command}
 use Rattle.line_words.specs.declared.command.Command.TheVariants as command
 use Rattle.line_words.specs.declared.job.Job.{Job}
-use Rattle.line_words.specs.declared.job.Job.TheVariants.{Help, Version, Balance, Solve, Cycle, Check, Convert, Combine, Utility, Timeline, Try, Draw, Effic, EfficCheck, Sequence, SequenceCheck}
+use Rattle.line_words.specs.declared.job.Job.TheVariants.{Help, Version, Balance, Solve, Cycle, Check, Convert, Combine}
+use Rattle.line_words.specs.declared.job.Job.TheVariants.{Utility, Timeline, Try, Draw, Effic, EfficCheck, Sequence}
+use Rattle.line_words.specs.declared.job.Job.TheVariants.{SequenceCheck}
 use Rattle.line_words.specs.declared.job.LineWord.{LineWord}
 use Rattle.line_words.specs.declared.job.LineWord.TheVariants.{Straight, U}
 use Rattle.line_words.specs.declared.job.FormWord.{FormWord}
 use Rattle.line_words.specs.declared.job.FormWord.TheVariants.{In2, Alb, Cert}
 use Rattle.line_words.specs.declared.fault.UsageKind.{UsageKind}
-use Rattle.line_words.specs.declared.fault.UsageKind.TheVariants.{NoCommand, UnknownCommand, UnknownKey, RepeatedKey, BadValue, ExtraName, MissingName, MissingKey}
+use Rattle.line_words.specs.declared.fault.UsageKind.TheVariants.{NoCommand, UnknownCommand, UnknownKey, RepeatedKey}
+use Rattle.line_words.specs.declared.fault.UsageKind.TheVariants.{BadValue, ExtraName, MissingName, MissingKey}
 use Rattle.line_words.specs.declared.reading.JobRead.{JobRead}
 use Rattle.line_words.specs.declared.reading.JobRead.TheVariants.{Good, Usage, NoMemory}
 
@@ -34,22 +39,26 @@ are_ordered (Some least) (Some most) = nat_le least most
 -- the least number of stations isn't above the most, where one of them is set here and the other by the words before
 abbrev pub ends_agree : Command → List Text → Text × Text → Bool
 ends_agree command before p =
-    cond (bytes_eq p.0 (codes "least")) (are_ordered (number_up_to (most_of command p.0) p.1) (number_set command before (codes "most")))
-    (cond (bytes_eq p.0 (codes "most")) (are_ordered (number_set command before (codes "least")) (number_up_to (most_of command p.0) p.1))
+    cond (bytes_eq p.0 (codes "least")) (are_ordered (number_up_to (most_of command p.0) p.1)
+    (number_set command before (codes "most")))
+    (cond (bytes_eq p.0 (codes "most")) (are_ordered (number_set command before (codes "least"))
+    (number_up_to (most_of command p.0) p.1))
     true)
 
--- what is wrong with a setting, by the words before it: its key is none of the command, or stands before, or its value is wrong, or the
--- least number of stations is above the most
+-- what is wrong with a setting, by the words before it: its key is none of the command, or stands before, or its value
+-- is wrong, or the least number of stations is above the most
 abbrev pub setting_fault : Command → List Text → Text × Text → Option UsageKind
 setting_fault command before p =
     cond (takes command p.0)
-    (cond (sets before p.0) (Some RepeatedKey) (cond (is_value command p.0 p.1 && ends_agree command before p) None (Some BadValue)))
+    (cond (sets before p.0) (Some RepeatedKey) (cond (is_value command p.0 p.1 && ends_agree command before p) None
+    (Some BadValue)))
     (Some UnknownKey)
 
 -- what is wrong with a name, by the words before it: it is empty, or one too many
 abbrev pub name_fault : Command → List Text → Text → Option UsageKind
 name_fault command before word =
-    cond (is_some word) (cond (nat_lt (length (names_of before)) (names_wanted command)) None (Some ExtraName)) (Some ExtraName)
+    cond (is_some word) (cond (nat_lt (length (names_of before)) (names_wanted command)) None (Some ExtraName))
+    (Some ExtraName)
 
 -- what is wrong with a word that is a setting, or a name
 abbrev pub fault_by : Command → List Text → Text → Option (Text × Text) → Option UsageKind
@@ -116,46 +125,61 @@ abbrev pub job_for : Command → List Text → Job
 job_for command.Balance ws =
     Balance (name_at ws 0) (number_set command.Balance ws (codes "cycle")) (line_set ws) (value_of ws (codes "apart"))
 job_for command.Solve ws =
-    Solve (name_at ws 0) (number_set command.Solve ws (codes "cycle")) (line_set ws) (number_or command.Solve ws (codes "helpers") 4)
-    (number_or command.Solve ws (codes "units") 1000000) (value_of ws (codes "cert")) (value_of ws (codes "apart")) (value_of ws (codes "warm"))
+    Solve (name_at ws 0) (number_set command.Solve ws (codes "cycle")) (line_set ws)
+    (number_or command.Solve ws (codes "helpers") 4)
+    (number_or command.Solve ws (codes "units") 1000000) (value_of ws (codes "cert")) (value_of ws (codes "apart"))
+    (value_of ws (codes "warm"))
     (number_or command.Solve ws (codes "seek") 0)
 job_for command.Cycle ws =
-    Cycle (name_at ws 0) (number_or command.Cycle ws (codes "stations") 1) (line_set ws) (number_or command.Cycle ws (codes "helpers") 4)
+    Cycle (name_at ws 0) (number_or command.Cycle ws (codes "stations") 1) (line_set ws)
+    (number_or command.Cycle ws (codes "helpers") 4)
     (number_or command.Cycle ws (codes "units") 1000000) (value_of ws (codes "cert"))
 job_for command.Check ws =
-    Check (name_at ws 0) (name_at ws 1) (number_or command.Check ws (codes "steps") 20000000) (value_of ws (codes "apart"))
-job_for command.Convert ws = Convert (name_at ws 0) (name_at ws 1) (form_set ws) (number_set command.Convert ws (codes "cycle"))
+    Check (name_at ws 0) (name_at ws 1) (number_or command.Check ws (codes "steps") 20000000)
+    (value_of ws (codes "apart"))
+job_for command.Convert ws = Convert (name_at ws 0) (name_at ws 1) (form_set ws)
+    (number_set command.Convert ws (codes "cycle"))
 job_for command.Combine ws = Combine (name_at ws 0) (name_at ws 1)
 job_for command.Utility ws =
-    Utility (name_at ws 0) (name_at ws 1) (name_at ws 2) (number_or command.Utility ws (codes "interval") 1) (number_or command.Utility ws (codes "length") 1)
+    Utility (name_at ws 0) (name_at ws 1) (name_at ws 2) (number_or command.Utility ws (codes "interval") 1)
+    (number_or command.Utility ws (codes "length") 1)
 job_for command.Timeline ws =
-    Timeline (name_at ws 0) (name_at ws 1) (name_at ws 2) (number_or command.Timeline ws (codes "interval") 1) (number_or command.Timeline ws (codes "length") 1)
+    Timeline (name_at ws 0) (name_at ws 1) (name_at ws 2) (number_or command.Timeline ws (codes "interval") 1)
+    (number_or command.Timeline ws (codes "length") 1)
 job_for command.Try ws =
-    Try (number_or command.Try ws (codes "seed") 0) (number_or command.Try ws (codes "tasks") 1) (number_or command.Try ws (codes "cycle") 200) (line_set ws)
+    Try (number_or command.Try ws (codes "seed") 0) (number_or command.Try ws (codes "tasks") 1)
+    (number_or command.Try ws (codes "cycle") 200) (line_set ws)
     (number_or command.Try ws (codes "units") 1000000)
 job_for command.Draw ws = Draw (name_at ws 0) (name_at ws 1) (name_at ws 2) (value_of ws (codes "apart"))
 job_for command.Effic ws =
-    Effic (name_at ws 0) (number_or command.Effic ws (codes "least") 1) (number_or command.Effic ws (codes "most") 1024) (line_set ws)
-    (number_or command.Effic ws (codes "helpers") 4) (number_or command.Effic ws (codes "units") 1000000) (value_of ws (codes "cert"))
-job_for command.EfficCheck ws = EfficCheck (name_at ws 0) (name_at ws 1) (number_or command.EfficCheck ws (codes "steps") 20000000)
+    Effic (name_at ws 0) (number_or command.Effic ws (codes "least") 1) (number_or command.Effic ws (codes "most") 1024)
+    (line_set ws)
+    (number_or command.Effic ws (codes "helpers") 4) (number_or command.Effic ws (codes "units") 1000000)
+    (value_of ws (codes "cert"))
+job_for command.EfficCheck ws = EfficCheck (name_at ws 0) (name_at ws 1)
+    (number_or command.EfficCheck ws (codes "steps") 20000000)
 job_for command.Sequence ws =
-    Sequence (name_at ws 0) (name_at ws 1) (number_or command.Sequence ws (codes "interval") 1) (number_or command.Sequence ws (codes "length") 1)
+    Sequence (name_at ws 0) (name_at ws 1) (number_or command.Sequence ws (codes "interval") 1)
+    (number_or command.Sequence ws (codes "length") 1)
     (number_or command.Sequence ws (codes "units") 1000000) (value_of ws (codes "out"))
 job_for command.SequenceCheck ws =
     SequenceCheck (name_at ws 0) (name_at ws 1) (name_at ws 2) (number_or command.SequenceCheck ws (codes "interval") 1)
-    (number_or command.SequenceCheck ws (codes "length") 1) (number_or command.SequenceCheck ws (codes "steps") 20000000)
+    (number_or command.SequenceCheck ws (codes "length") 1)
+    (number_or command.SequenceCheck ws (codes "steps") 20000000)
 
--- the words behind a command ask for this job: nothing is wrong with them, nothing is missing, and it has their values or the defaults
+-- the words behind a command ask for this job: nothing is wrong with them, nothing is missing, and it has their values
+-- or the defaults
 pub record Asks (command : Command) (words : List Text) (job : Job) : Type 0 where
   pub right : AreRight command words
   pub whole : missing command words ≡ None
   pub is : job ≡ job_for command words
 
--- the fault of the words behind a command: the first word with which something is wrong, or else what is missing, which counts as of the
--- place behind the words
+-- the fault of the words behind a command: the first word with which something is wrong, or else what is missing, which
+-- counts as of the place behind the words
 abbrev pub IsCommandFault : Command → List Text → ℕ → UsageKind → Type 0
 IsCommandFault command words at kind =
-    IsFirstFault command words at kind ⊎ (AreRight command words × (at ≡ length words) × (missing command words ≡ Some kind))
+    IsFirstFault command words at kind ⊎ (AreRight command words × (at ≡ length words)
+    × (missing command words ≡ Some kind))
 
 -- the first word is a command, and this is true of it and of the words behind it
 abbrev pub IsCommanded : List Text → (Command → List Text → Type 0) → Type 0

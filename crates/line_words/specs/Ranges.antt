@@ -1,7 +1,9 @@
 -- The ranges of the numbers of a job.
 use Rattle.std.specs.Prelude.{ℕ, ◌≤◌, Option, Some, None}
 use Rattle.line_words.specs.declared.job.Job.{Job}
-use Rattle.line_words.specs.declared.job.Job.TheVariants.{Help, Version, Balance, Solve, Cycle, Check, Convert, Combine, Utility, Timeline, Try, Draw, Effic, EfficCheck, Sequence, SequenceCheck}
+use Rattle.line_words.specs.declared.job.Job.TheVariants.{Help, Version, Balance, Solve, Cycle, Check, Convert, Combine}
+use Rattle.line_words.specs.declared.job.Job.TheVariants.{Utility, Timeline, Try, Draw, Effic, EfficCheck, Sequence}
+use Rattle.line_words.specs.declared.job.Job.TheVariants.{SequenceCheck}
 use Rattle.line_words.specs.declared.reading.JobRead.{JobRead}
 use Rattle.line_words.specs.declared.reading.JobRead.TheVariants.{Good, Usage, NoMemory}
 
@@ -20,15 +22,18 @@ IsInRange Help = Unit {0}
 IsInRange Version = Unit {0}
 IsInRange (Balance file cycle line apart) = IsSetBetween 1 1000000000000000000 cycle
 IsInRange (Solve file cycle line helpers units cert apart warm seek) =
-    IsSetBetween 1 1000000000000000000 cycle × IsBetween 0 64 helpers × IsBetween 1 3000000 units × IsBetween 0 3000000 seek
-IsInRange (Cycle file stations line helpers units cert) = IsBetween 1 1024 stations × IsBetween 0 64 helpers × IsBetween 1 1000000 units
+    IsSetBetween 1 1000000000000000000 cycle × IsBetween 0 64 helpers × IsBetween 1 3000000 units
+    × IsBetween 0 3000000 seek
+IsInRange (Cycle file stations line helpers units cert) = IsBetween 1 1024 stations × IsBetween 0 64 helpers
+    × IsBetween 1 1000000 units
 IsInRange (Check file cert steps apart) = IsBetween 1 20000000 steps
 IsInRange (Convert file out to cycle) = IsSetBetween 1 1000000000000000000 cycle
 IsInRange (Combine mix out) = Unit {0}
 IsInRange (Utility mix cert seq interval length) = IsBetween 1 1000000000 interval × IsBetween 1 1000000000 length
 IsInRange (Timeline mix cert seq interval length) = IsBetween 1 1000000000 interval × IsBetween 1 1000000000 length
 IsInRange (Try seed tasks cycle line units) =
-    IsBetween 0 18446744073709551615 seed × IsBetween 1 1024 tasks × IsBetween 1 1000000000000000000 cycle × IsBetween 1 3000000 units
+    IsBetween 0 18446744073709551615 seed × IsBetween 1 1024 tasks × IsBetween 1 1000000000000000000 cycle
+    × IsBetween 1 3000000 units
 IsInRange (Draw file cert out apart) = Unit {0}
 IsInRange (Effic file least most line helpers units cert) =
     IsBetween 1 1024 least × IsBetween 1 1024 most × (least ≤ most) × IsBetween 0 64 helpers × IsBetween 1 1000000 units

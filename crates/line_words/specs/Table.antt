@@ -1,12 +1,15 @@
 -- The table of the commands: their names, their keys, and the values that a key takes.
-use Rattle.std.specs.Prelude.{ℕ, Bool, true, false, ◌&&◌, ◌||◌, cond, nat_eq, nat_le, List, [], ◌∷◌, Option, Some, None, codes}
+use Rattle.std.specs.Prelude.{ℕ, Bool, true, false, ◌&&◌, ◌||◌, cond, nat_eq, nat_le, List, [], ◌∷◌, Option, Some, None}
+use Rattle.std.specs.Prelude.{codes}
 use Rattle.std.specs.Str.{bytes_eq}
 use Rattle.line_io.specs.Lines.{number_in}
 use Rattle.line_io.specs.declared.text.Num.{Num}
 use Rattle.line_io.specs.declared.text.Num.TheVariants.{Value, NotANumber, Above}
 use Rattle.line_words.specs.Words.{Text, sets}
 use Rattle.line_words.specs.declared.command.Command.{Command}
-use Rattle.line_words.specs.declared.command.Command.TheVariants.{Balance, Solve, Cycle, Check, Convert, Combine, Utility, Timeline, Try, Draw, Effic, EfficCheck, Sequence, SequenceCheck}
+use Rattle.line_words.specs.declared.command.Command.TheVariants.{Balance, Solve, Cycle, Check, Convert, Combine}
+use Rattle.line_words.specs.declared.command.Command.TheVariants.{Utility, Timeline, Try, Draw, Effic, EfficCheck}
+use Rattle.line_words.specs.declared.command.Command.TheVariants.{Sequence, SequenceCheck}
 
 -- the command that a word names
 abbrev pub command_named : Text → Option Command
@@ -69,7 +72,8 @@ keys_wanted SequenceCheck = codes "interval" ∷ codes "length" ∷ []
 abbrev pub keys_taken : Command → List Text
 keys_taken Balance = codes "cycle" ∷ codes "line" ∷ codes "apart" ∷ []
 keys_taken Solve =
-    codes "cycle" ∷ codes "line" ∷ codes "helpers" ∷ codes "units" ∷ codes "cert" ∷ codes "apart" ∷ codes "warm" ∷ codes "seek" ∷ []
+    codes "cycle" ∷ codes "line" ∷ codes "helpers" ∷ codes "units" ∷ codes "cert" ∷ codes "apart" ∷ codes "warm" ∷ codes
+    "seek" ∷ []
 keys_taken Cycle = codes "stations" ∷ codes "line" ∷ codes "helpers" ∷ codes "units" ∷ codes "cert" ∷ []
 keys_taken Check = codes "steps" ∷ codes "apart" ∷ []
 keys_taken Convert = codes "to" ∷ codes "cycle" ∷ []
@@ -157,12 +161,14 @@ is_some (b ∷ bytes) = true
 -- a key names a file
 abbrev pub names_file : Text → Bool
 names_file key =
-    bytes_eq key (codes "cert") || bytes_eq key (codes "apart") || bytes_eq key (codes "warm") || bytes_eq key (codes "out")
+    bytes_eq key (codes "cert") || bytes_eq key (codes "apart") || bytes_eq key (codes "warm")
+    || bytes_eq key (codes "out")
 
 -- a key of a command takes the value
 abbrev pub is_value : Command → Text → Text → Bool
 is_value command key value =
     cond (bytes_eq key (codes "line")) (bytes_eq value (codes "straight") || bytes_eq value (codes "u"))
-    (cond (bytes_eq key (codes "to")) (bytes_eq value (codes "in2") || bytes_eq value (codes "alb") || bytes_eq value (codes "cert"))
+    (cond (bytes_eq key (codes "to")) (bytes_eq value (codes "in2") || bytes_eq value (codes "alb")
+    || bytes_eq value (codes "cert"))
     (cond (names_file key) (is_some value)
     (is_least (least_of key) (number_up_to (most_of command key) value))))

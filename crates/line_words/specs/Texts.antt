@@ -1,7 +1,8 @@
 -- The printed text of a fault.
 use Rattle.std.specs.Prelude.{ℕ, List, ◌++◌, codes, decimal}
 use Rattle.line_words.specs.declared.fault.UsageKind.{UsageKind}
-use Rattle.line_words.specs.declared.fault.UsageKind.TheVariants.{NoCommand, UnknownCommand, UnknownKey, RepeatedKey, BadValue, ExtraName, MissingName, MissingKey}
+use Rattle.line_words.specs.declared.fault.UsageKind.TheVariants.{NoCommand, UnknownCommand, UnknownKey, RepeatedKey}
+use Rattle.line_words.specs.declared.fault.UsageKind.TheVariants.{BadValue, ExtraName, MissingName, MissingKey}
 
 -- what is wrong, in words
 abbrev pub kind_text : UsageKind → List ℕ

@@ -3,7 +3,8 @@ ghost use Rattle.std.specs.Prelude.{◌≡◌, ◌<◌, Option, None, MatchOptio
 ghost use Rattle.line_words.specs.Words.{texts};
 ghost use Rattle.line_words.specs.Table.{least_of, names_file, is_value};
 ghost use Rattle.line_words.specs.Ranges.{HasRange};
-ghost use Rattle.line_words.specs.Jobs.{are_ordered, ends_agree, setting_fault, name_fault, word_fault, missing, AreRight, IsFirstFault, IsBehind, IsJobRead};
+ghost use Rattle.line_words.specs.Jobs.{are_ordered, ends_agree, setting_fault, name_fault, word_fault, missing};
+ghost use Rattle.line_words.specs.Jobs.{AreRight, IsFirstFault, IsBehind, IsJobRead};
 
 use crate::command::{Command, command_named};
 use crate::fault::UsageKind;
@@ -129,7 +130,8 @@ fn word_fault(command: Command, before: &[String], word: &str) -> Option<UsageKi
 
 /// The place of the first word with which something is wrong, and what.
 fn first_fault(command: Command, words: &[String]) -> Option<(usize, UsageKind)>
-    ensures { MatchOption result (AreRight command (texts words.now)) (λ p. IsFirstFault command (texts words.now) p.0 p.1) }
+    ensures { MatchOption result (AreRight command (texts words.now))
+        (λ p. IsFirstFault command (texts words.now) p.0 p.1) }
 {
     for i in 0..words.len() {
         match word_fault(command, &words[..i], words[i].as_str()) {
@@ -176,8 +178,9 @@ fn behind(alloc: Global, command: Command, words: &[String]) -> JobRead
     }
 }
 
-/// The job that the words ask for, or their first fault: at word 0 there is no command or an unknown one; then the words from
-/// left to right, each for what is wrong with it; then a missing name, and then a missing key, at the number of words.
+/// The job that the words ask for, or their first fault: at word 0 there is no command or an unknown one; then the
+/// words from left to right, each for what is wrong with it; then a missing name, and then a missing key, at the number
+/// of words.
 pub fn job_of(alloc: Global, words: &[String]) -> JobRead
     ensures read { IsJobRead (texts words.now) result }
     ensures range { HasRange result }

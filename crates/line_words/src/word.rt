@@ -1,6 +1,7 @@
 //! Settings and names among the words.
 ghost use Rattle.std.specs.Prelude.{◌≡◌, ◌≤◌, Option, None, Some, length, map, option_map};
-ghost use Rattle.line_words.specs.Words.{all_letters, equals_split, setting, names_of, is_name, value_by, value_of, sets, texts};
+ghost use Rattle.line_words.specs.Words.{all_letters, equals_split, setting, names_of, is_name, value_by, value_of};
+ghost use Rattle.line_words.specs.Words.{sets, texts};
 ghost use Rattle.line_words.specs.Table.{one_of, sets_all};
 
 /// Whether each byte is one of the letters a to z.

@@ -50,8 +50,8 @@ abbrev pub task_at : Line → Side → ℕ → ℕ
 task_at line Front p = at_rank line p
 task_at line Back p = at_rank line (tasks line - 1 - p)
 
--- A task may join a side of a load of R: it is in R and not in the load, its time fits, nothing of the load is apart from it, and what
--- is ahead of it in R stands at that side.
+-- A task may join a side of a load of R: it is in R and not in the load, its time fits, nothing of the load is apart
+-- from it, and what is ahead of it in R stands at that side.
 pub record MayJoin (line : Line) (c : ℕ) (R : List Bool) (s : Side) (l : Load) (i : ℕ) : Type 0 where
   pub within : In R i
   pub new : has (taken l) i ≡ false

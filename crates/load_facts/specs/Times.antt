@@ -11,7 +11,8 @@ longest_of line R = greatest_below (tasks line) (λ i. cond (has R i) (time line
 
 -- the times of the tasks of R that are neither before nor after j, without j
 unfoldable pub time_elsewhere : Line → List Bool → ℕ → ℕ
-time_elsewhere line R j = sum_where (λ i. has R i && not (nat_eq i j || (is_before line i j || is_before line j i))) line.times
+time_elsewhere line R j = sum_where (λ i. has R i && not (nat_eq i j || (is_before line i j || is_before line j i)))
+    line.times
 
 -- a number that is the total time of R, and one that no task of R exceeds by its time, within the limits of times
 pub record AreTimes (line : Line) (R : List Bool) (sum most : ℕ) : Type 0 where

@@ -14,10 +14,11 @@ use task_set::TaskSet;
 /// The bound of a set with a task longer than the cycle: more stations than any line has tasks.
 const TOO_LONG: u32 = 1025;
 
-/// A number of stations that a balance of the set needs at least, on a line of that kind at that cycle: 0 for the empty set, 1,025
-/// where a task is longer than the cycle, and otherwise the greatest of 1, the set's total time in cycles (Scholl's LM1), what its
-/// tasks of half a cycle or more need (LM2), what its tasks of a third or more need (LM3), and, on a straight line, what the head and
-/// the tail of a task need. The cycle is 1 to 1,000,000,000,000,000,000, in the instance's time unit. Takes no memory.
+/// A number of stations that a balance of the set needs at least, on a line of that kind at that cycle: 0 for the empty
+/// set, 1,025 where a task is longer than the cycle, and otherwise the greatest of 1, the set's total time in cycles
+/// (Scholl's LM1), what its tasks of half a cycle or more need (LM2), what its tasks of a third or more need (LM3),
+/// and, on a straight line, what the head and the tail of a task need. The cycle is 1 to 1,000,000,000,000,000,000, in
+/// the instance's time unit. Takes no memory.
 pub fn bound(inst: &Instance, kind: LineKind, cycle: u64, set: &TaskSet) -> u32
     requires set { IsTaskSet inst.now set.now }
     requires some { 1 ≤ cycle }
@@ -38,9 +39,9 @@ pub fn bound(inst: &Instance, kind: LineKind, cycle: u64, set: &TaskSet) -> u32
     longest_chain(inst, kind, cycle, set, times, least) as u32
 }
 
-/// Whether the bound of a set exceeds `most`, given up as soon as that is settled: by the total time first, then by the tasks of a third
-/// of a cycle or more, and last by what is before and after a task. The cycle is 1 to 1,000,000,000,000,000,000, in the instance's time
-/// unit. Takes no memory.
+/// Whether the bound of a set exceeds `most`, given up as soon as that is settled: by the total time first, then by the
+/// tasks of a third of a cycle or more, and last by what is before and after a task. The cycle is 1 to
+/// 1,000,000,000,000,000,000, in the instance's time unit. Takes no memory.
 pub fn exceeds(inst: &Instance, kind: LineKind, cycle: u64, set: &TaskSet, most: u32) -> bool
     requires set { IsTaskSet inst.now set.now }
     requires some { 1 ≤ cycle }
@@ -50,8 +51,9 @@ pub fn exceeds(inst: &Instance, kind: LineKind, cycle: u64, set: &TaskSet, most:
     exceeds_with(inst, kind, cycle, set, times_in(inst, set), most)
 }
 
-/// The same, with the times of the set, which a caller may keep: so the set isn't summed anew. For a set that a load leaves, the total is
-/// the total of the whole less that of the load, and no task of it takes longer than the longest of the whole.
+/// The same, with the times of the set, which a caller may keep: so the set isn't summed anew. For a set that a load
+/// leaves, the total is the total of the whole less that of the load, and no task of it takes longer than the longest
+/// of the whole.
 pub fn exceeds_with(
     inst: &Instance,
     kind: LineKind,

@@ -38,8 +38,8 @@ fn sum_up_to(inst: &Instance, set: &TaskSet, limit: u64) -> Result<u64, u32>
     Ok(sum)
 }
 
-/// The times of the tasks of a set that are neither before nor after task `j`, without `j`, where they are at most `limit` together.
-/// The `witness` is a task that is tried first, and becomes one that may serve the next time.
+/// The times of the tasks of a set that are neither before nor after task `j`, without `j`, where they are at most
+/// `limit` together. The `witness` is a task that is tried first, and becomes one that may serve the next time.
 fn time_elsewhere(
     inst: &Instance,
     set: &TaskSet,
@@ -86,8 +86,8 @@ fn enough(cycle: u64, most: u64) -> u128
     u128::from(most) * u128::from(cycle) + 2
 }
 
-/// The stations that the head and the tail of task `j` of a set need, its own counted once, where they are more than `least`. The
-/// set's total time is `total`; the `witness` is a task that is tried first to show that they aren't more.
+/// The stations that the head and the tail of task `j` of a set need, its own counted once, where they are more than
+/// `least`. The set's total time is `total`; the `witness` is a task that is tried first to show that they aren't more.
 fn around(
     inst: &Instance,
     cycle: u64,
@@ -127,8 +127,8 @@ fn around(
     }
 }
 
-/// The greater of `least` and the most stations that the head and the tail of a task of a set need, which is `least` on a U-line. The
-/// times are those of the set.
+/// The greater of `least` and the most stations that the head and the tail of a task of a set need, which is `least` on
+/// a U-line. The times are those of the set.
 pub(crate) fn longest_chain(
     inst: &Instance,
     kind: LineKind,
@@ -161,8 +161,8 @@ pub(crate) fn longest_chain(
     longest
 }
 
-/// Whether the head and the tail of a task of a set need more than `most` stations, which no task does on a U-line. The times are those
-/// of the set.
+/// Whether the head and the tail of a task of a set need more than `most` stations, which no task does on a U-line. The
+/// times are those of the set.
 pub(crate) fn has_longer_chain(
     inst: &Instance,
     kind: LineKind,

@@ -65,7 +65,8 @@ impl SizeCounts {
     }
 }
 
-/// The counts of a set of tasks, of which none takes more than `longest`: all 0 where that is less than a third of the cycle.
+/// The counts of a set of tasks, of which none takes more than `longest`: all 0 where that is less than a third of the
+/// cycle.
 #[tactic(auto, using(load_facts::proofs::SizeClasses::one_more))]
 pub(crate) fn counts_of(inst: &Instance, cycle: u64, set: &TaskSet, longest: u64) -> SizeCounts
     requires set { IsTaskSet inst.now set.now }

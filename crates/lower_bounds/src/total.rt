@@ -19,8 +19,8 @@ pub fn total_time(inst: &Instance) -> u64
     inst.sum(&inst.all())
 }
 
-/// The greater of 1 and the total time divided by the cycle, rounded up (Scholl's LM1): no balance of either kind has fewer
-/// stations. The cycle is at least 1.
+/// The greater of 1 and the total time divided by the cycle, rounded up (Scholl's LM1): no balance of either kind has
+/// fewer stations. The cycle is at least 1.
 pub fn total_bound(inst: &Instance, cycle: u64) -> u64
     requires { 1 ≤ cycle }
     ensures value { result ≡ total_bound inst.now cycle }

@@ -6,7 +6,8 @@ use Rattle.line_rules.specs.Checked.{IsChecked}
 use Rattle.line_rules.specs.declared.types.LineKind.TheVariants.{Straight, U}
 use Rattle.line_rules.specs.declared.types.Balance.{Balance as Assignment}
 use Rattle.line_rules.specs.declared.types.BalanceCheck.{BalanceCheck}
-use Rattle.line_rules.specs.declared.types.BalanceCheck.TheVariants.{Right, Unplaced, StationRange, SideWrong, Overfull, Broken, Together}
+use Rattle.line_rules.specs.declared.types.BalanceCheck.TheVariants.{Right, Unplaced, StationRange, SideWrong, Overfull}
+use Rattle.line_rules.specs.declared.types.BalanceCheck.TheVariants.{Broken, Together}
 use Rattle.line_rules.specs.declared.types.Claim.{Claim}
 use Rattle.line_rules.specs.declared.types.Claim.TheVariants.{TooLong, Bounds}
 use Rattle.line_rules.specs.declared.types.Certificate.{Certificate}
@@ -83,7 +84,8 @@ pub record HasWrongBalance (line : Line) (c : ℕ) (cert : Certificate) (out : O
   pub is : IsWrong line c balance out
 
 abbrev pub IsRefused : Line → ℕ → Certificate → Outcome → Type 0
-IsRefused line c cert out = IsOfOthers line cert out ⊎ IsOfU line cert out ⊎ HasNoBalance line cert out ⊎ HasWrongBalance line c cert out
+IsRefused line c cert out = IsOfOthers line cert out ⊎ IsOfU line cert out ⊎ HasNoBalance line cert out
+    ⊎ HasWrongBalance line c cert out
 
 -- the file says a certificate whose balance is right
 pub record IsBalanceFile (files : Files) (name : List ℕ) (line : Line) (c : ℕ) (b : Assignment) : Type 0 where

@@ -11,12 +11,18 @@ use Rattle.mix_commands.specs.MixFile.{IsCombinedFile, IsUncombined}
 
 -- the line about what a mix combines to: the number of tasks, and the demand of all models together
 abbrev pub combined_line : MixedLine → List ℕ
-combined_line mix = codes "combined tasks " ++ decimal mix.tasks ++ codes " demand " ++ decimal (total_demand mix.models) ++ codes "\n"
+combined_line mix = codes "combined tasks " ++ decimal mix.tasks ++ codes " demand "
+    ++ decimal (total_demand mix.models) ++ codes "\n"
 
 -- done, with a page of this name and these bytes, and nothing kept
 abbrev pub wrote : MixedLine → List ℕ → List ℕ → Outcome
 wrote mix name bytes =
-    record { status = ends.Done; text = combined_line mix; page = Some (record { name = name; bytes = bytes }); kept = Nothing }
+    record {
+      status = ends.Done;
+      text = combined_line mix;
+      page = Some (record { name = name; bytes = bytes });
+      kept = Nothing;
+    }
 
 -- The file says a mix, and what is written is the canonical IN2 text of the line that it combines to.
 pub record IsCombinedTold (files : Files) (name to_name : List ℕ) (out : Outcome) : Type 0 where

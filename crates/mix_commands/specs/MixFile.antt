@@ -11,7 +11,9 @@ use Rattle.combined_graph.specs.Faults.{IsFirstFault}
 use Rattle.combined_graph.specs.Combined.{IsCombined, all_arcs}
 use Rattle.combined_graph.specs.declared.fault.MixFault.{MixFault}
 use Rattle.combined_graph.specs.declared.fault.MixKind.{MixKind}
-use Rattle.combined_graph.specs.declared.fault.MixKind.TheVariants.{Form, Range, RepeatedModel, UnknownModel, TooManyModels, BadTask, RepeatedTime, TooManyArcs, NoModel}
+use Rattle.combined_graph.specs.declared.fault.MixKind.TheVariants.{Form, Range, RepeatedModel, UnknownModel}
+use Rattle.combined_graph.specs.declared.fault.MixKind.TheVariants.{TooManyModels, BadTask, RepeatedTime, TooManyArcs}
+use Rattle.combined_graph.specs.declared.fault.MixKind.TheVariants.{NoModel}
 use Rattle.command_outcome.specs.Outcome.{Files, Outside, Outcome, told}
 use Rattle.command_outcome.specs.declared.status.Status.TheVariants as ends
 use Rattle.input_files.specs.InputFile.{Reads, IsUntaken, fault_line, max_file}

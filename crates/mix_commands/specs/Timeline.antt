@@ -35,4 +35,5 @@ pub record IsTooLarge (files : Files) (names : Names) (interval : ℕ) (out : Ou
 abbrev pub IsTimelineOutcome : Outside → List ℕ → List ℕ → List ℕ → ℕ → ℕ → Outcome → Type 0
 IsTimelineOutcome o mix cert seq interval reach out =
     let names : Names = record { mix = mix; cert = cert; seq = seq } in
-    IsTimelineTold o.files names interval reach out ⊎ IsTooLarge o.files names interval out ⊎ IsUnlaunched o names interval out
+    IsTimelineTold o.files names interval reach out ⊎ IsTooLarge o.files names interval out
+    ⊎ IsUnlaunched o names interval out

@@ -17,7 +17,8 @@ utilities mix places units interval length k (suc n) =
 -- a line for each station, from station k on
 abbrev pub utility_lines : ℕ → List ℕ → List ℕ
 utility_lines k [] = []
-utility_lines k (u ∷ us) = codes "station " ++ decimal k ++ codes " utility " ++ decimal u ++ codes "\n" ++ utility_lines (suc k) us
+utility_lines k (u ∷ us) = codes "station " ++ decimal k ++ codes " utility " ++ decimal u ++ codes "\n"
+    ++ utility_lines (suc k) us
 
 -- the line of each station, and the line of all of them together
 abbrev pub lines_text : List ℕ → List ℕ
@@ -26,8 +27,8 @@ lines_text us = utility_lines 1 us ++ codes "total utility " ++ decimal (sum us)
 abbrev pub utility_text : MixedLine → Assignment → List ℕ → ℕ → ℕ → List ℕ
 utility_text mix b units interval length = lines_text (utilities mix b.place units interval length 1 b.stations)
 
--- The files say a mix, a right straight balance and units, and the outcome tells the utility work of these units on this
--- balance.
+-- The files say a mix, a right straight balance and units, and the outcome tells the utility work of these units on
+-- this balance.
 pub record IsUtilityTold (files : Files) (names : Names) (interval length : ℕ) (out : Outcome) : Type 0 where
   pub mix : MixedLine
   pub balance : Assignment

@@ -1,7 +1,8 @@
 //! Straight balances of certificates, tested on a line.
 //!
 //! Of the certificate only the number of tasks, the kind of line and the balance count; its entries aren't looked at.
-ghost use Rattle.std.specs.Prelude.{◌≡◌, ◌≤◌, ◌++◌, ◌+◌, ℕ, List, length, string_bytes, codes, decimal, IfOk, OnOk, MatchResult};
+ghost use Rattle.std.specs.Prelude.{◌≡◌, ◌≤◌, ◌++◌, ◌+◌, ℕ, List, length, string_bytes, codes, decimal, IfOk, OnOk};
+ghost use Rattle.std.specs.Prelude.{MatchResult};
 ghost use Rattle.line_io.specs.Outside.{Rises};
 ghost use Rattle.line_instance.specs.Line.{tasks};
 ghost use Rattle.line_rules.specs.Balance.{IsRight};
@@ -9,7 +10,8 @@ ghost use Rattle.line_rules.specs.Ranges.{IsInRange};
 ghost use Rattle.line_rules.specs.declared.types.LineKind.TheVariants.{Straight};
 ghost use Rattle.command_outcome.specs.Outcome.{Stops, MayStop, outside, told};
 ghost use Rattle.command_outcome.specs.declared.status.Status.TheVariants as ends;
-ghost use Rattle.mix_commands.specs.BalanceFile.{IsBalanceFile, IsNoBalance, IsTested, IsRefused, IsWrong, check_text, refused_line, tasks_text};
+ghost use Rattle.mix_commands.specs.BalanceFile.{IsBalanceFile, IsNoBalance, IsTested, IsRefused, IsWrong, check_text};
+ghost use Rattle.mix_commands.specs.BalanceFile.{refused_line, tasks_text};
 
 use command_outcome::{Status, Stop, push_number, refuse};
 use input_files::certificate_of;
@@ -29,7 +31,8 @@ fn push_task(text: &mut String, front: &str, task: u32) -> Result<(), AllocError
 
 /// Two numbers behind a text, with a blank between.
 fn push_two(text: &mut String, front: &str, a: u64, b: u64) -> Result<(), AllocError>
-    ensures { OnOk result (string_bytes text.new ≡ string_bytes text.old ++ (front.now ++ decimal a ++ codes " " ++ decimal b)) }
+    ensures { OnOk result (string_bytes text.new ≡ string_bytes text.old
+        ++ (front.now ++ decimal a ++ codes " " ++ decimal b)) }
 {
     text.push_str(front)?;
     push_number(text, a)?;
@@ -40,7 +43,8 @@ fn push_two(text: &mut String, front: &str, a: u64, b: u64) -> Result<(), AllocE
 
 /// Two tasks, counted from 1, behind a text.
 fn push_pair(text: &mut String, front: &str, i: u32, j: u32) -> Result<(), AllocError>
-    ensures { OnOk result (string_bytes text.new ≡ string_bytes text.old ++ (front.now ++ decimal (i + 1) ++ codes " " ++ decimal (j + 1))) }
+    ensures { OnOk result (string_bytes text.new ≡ string_bytes text.old
+        ++ (front.now ++ decimal (i + 1) ++ codes " " ++ decimal (j + 1))) }
 {
     push_two(text, front, u64::from(i) + 1, u64::from(j) + 1)
 }
@@ -87,7 +91,8 @@ fn tasks_text(alloc: Global, said: u32, real: u32) -> Result<String, AllocError>
 fn right(alloc: Global, line: &Instance, cycle: u64, balance: Balance) -> Result<Balance, Stop>
     requires places { length balance.place ≡ tasks line.now }
     requires stations { balance.stations ≤ 1024 }
-    ensures said { MatchResult result (λ b. (b ≡ balance) × IsRight Straight line.now cycle b) (Stops (IsWrong line.now cycle balance)) }
+    ensures said { MatchResult result (λ b. (b ≡ balance) × IsRight Straight line.now cycle b)
+        (Stops (IsWrong line.now cycle balance)) }
     ensures status { MatchResult result (λ _. Unit {0}) (MayStop ⊥) }
 {
     let found = check_balance(line, LineKind::Straight, cycle, &balance);
@@ -129,7 +134,8 @@ pub fn balance_of<S: Shelf>(
     cycle: u64,
     shelf: &mut S,
 ) -> Result<Balance, Stop>
-    ensures said { S.tells → MatchResult result (IsBalanceFile (S.file shelf.old) file.now line.now cycle) (Stops (IsNoBalance (outside (S.file shelf.old) (S.blames shelf.new)) file.now line.now cycle)) }
+    ensures said { S.tells → MatchResult result (IsBalanceFile (S.file shelf.old) file.now line.now cycle)
+        (Stops (IsNoBalance (outside (S.file shelf.old) (S.blames shelf.new)) file.now line.now cycle)) }
     ensures right { IfOk result (IsRight Straight line.now cycle) }
     ensures few { IfOk result (λ b. b.stations ≤ 1024) }
     ensures fault { MatchResult result (λ _. Unit {0}) (MayStop (Rises (S.faults shelf.old) (S.faults shelf.new))) }

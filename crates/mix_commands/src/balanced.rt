@@ -1,4 +1,5 @@
-//! What the files of a mix and of a certificate say together: the models, and a balance of the line that they combine to.
+//! What the files of a mix and of a certificate say together: the models, and a balance of the line that they combine
+//! to.
 ghost use Rattle.std.specs.Prelude.{◌≡◌, ◌≤◌, ℕ, List, length, IfOk, MatchResult};
 ghost use Rattle.line_io.specs.Outside.{Rises};
 ghost use Rattle.line_words.specs.Ranges.{IsBetween};

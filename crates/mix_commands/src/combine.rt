@@ -27,16 +27,18 @@ fn combined_report(alloc: Global, mix: &Mix, demand: u64) -> Result<Report, Allo
     Ok(Report::told(Status::Done, text.into_bytes()))
 }
 
-/// The report of `combine` for the file of a mix and the name of the one that is written: the line that the mix combines
-/// to, as a canonical IN2 text. The report is made before the file is written, so that a run that is out of memory
-/// writes nothing.
+/// The report of `combine` for the file of a mix and the name of the one that is written: the line that the mix
+/// combines to, as a canonical IN2 text. The report is made before the file is written, so that a run that is out of
+/// memory writes nothing.
 pub fn combine_report<S: Shelf>(
     alloc: Global,
     mix: &str,
     name: &str,
     shelf: &mut S,
 ) -> Result<Report, Stop>
-    ensures ends { S.tells → Ends (outside (S.file shelf.old) (S.blames shelf.new)) (IsCombineOutcome (outside (S.file shelf.old) (S.blames shelf.new)) mix.now name.now) (S.file shelf.new) result }
+    ensures ends { S.tells → Ends (outside (S.file shelf.old) (S.blames shelf.new))
+        (IsCombineOutcome (outside (S.file shelf.old) (S.blames shelf.new)) mix.now name.now) (S.file shelf.new)
+        result }
     ensures good { IfOk result (λ r. r.status ≡ ends.Done) }
     ensures kept { IfOk result (λ r. r.kept ≡ Nothing) }
     ensures fault { MatchResult result (λ _. Unit {0}) (MayEnd (Rises (S.faults shelf.old) (S.faults shelf.new))) }

@@ -6,7 +6,8 @@ ghost use Rattle.line_io.specs.Outside.{Rises};
 ghost use Rattle.combined_graph.specs.Combined.{IsCombined, total_demand};
 ghost use Rattle.command_outcome.specs.Outcome.{Stops, MayStop, outside};
 ghost use Rattle.input_files.specs.InputFile.{fault_line};
-ghost use Rattle.mix_commands.specs.MixFile.{IsMixFile, IsNoMix, IsCombinedFile, IsUncombined, IsCyclic, kind_text, fault_text, cycle_text};
+ghost use Rattle.mix_commands.specs.MixFile.{IsMixFile, IsNoMix, IsCombinedFile, IsUncombined, IsCyclic, kind_text};
+ghost use Rattle.mix_commands.specs.MixFile.{fault_text, cycle_text};
 
 use combined_graph::{Combined, Mix, MixFault, MixKind, MixRead, combine, read_mix};
 use command_outcome::{Status, Stop, refuse};
@@ -65,7 +66,8 @@ fn cycle_line(alloc: Global, file: &str, ring: &Ring) -> Result<Vec<u8>, AllocEr
 
 /// The mix of a file.
 pub fn mix_of<S: Shelf>(alloc: Global, file: &str, shelf: &mut S) -> Result<Mix, Stop>
-    ensures said { S.tells → MatchResult result (IsMixFile (S.file shelf.old) file.now) (Stops (IsNoMix (outside (S.file shelf.old) (S.blames shelf.new)) file.now)) }
+    ensures said { S.tells → MatchResult result (IsMixFile (S.file shelf.old) file.now)
+        (Stops (IsNoMix (outside (S.file shelf.old) (S.blames shelf.new)) file.now)) }
     ensures fault { MatchResult result (λ _. Unit {0}) (MayStop (Rises (S.faults shelf.old) (S.faults shelf.new))) }
     ensures count { S.faults shelf.old ≤ S.faults shelf.new }
     ensures files { S.tells → (q : List ℕ) → S.file shelf.new q ≡ S.file shelf.old q }
@@ -101,7 +103,8 @@ fn combine_models(alloc: Global, file: &str, mix: Mix) -> Result<CombinedMix, St
 
 /// The mix of a file, and the line that it combines to.
 pub fn combined_of<S: Shelf>(alloc: Global, file: &str, shelf: &mut S) -> Result<CombinedMix, Stop>
-    ensures said { S.tells → MatchResult result (λ j. IsCombinedFile (S.file shelf.old) file.now j.mix j.line) (Stops (IsUncombined (outside (S.file shelf.old) (S.blames shelf.new)) file.now)) }
+    ensures said { S.tells → MatchResult result (λ j. IsCombinedFile (S.file shelf.old) file.now j.mix j.line)
+        (Stops (IsUncombined (outside (S.file shelf.old) (S.blames shelf.new)) file.now)) }
     ensures combined { IfOk result (λ j. IsCombined j.mix j.line) }
     ensures demand { IfOk result (λ j. j.demand ≡ total_demand j.mix.models) }
     ensures limit { IfOk result (λ j. j.demand ≤ 160000) }

@@ -29,7 +29,8 @@ pub fn sequence_of<S: Shelf>(
     mix: &Mix,
     shelf: &mut S,
 ) -> Result<Vec<u32>, Stop>
-    ensures said { S.tells → MatchResult result (λ v. IsSequenceFile (S.file shelf.old) file.now mix.now.models v.items) (Stops (IsNoSequence (outside (S.file shelf.old) (S.blames shelf.new)) file.now mix.now.models)) }
+    ensures said { S.tells → MatchResult result (λ v. IsSequenceFile (S.file shelf.old) file.now mix.now.models v.items)
+        (Stops (IsNoSequence (outside (S.file shelf.old) (S.blames shelf.new)) file.now mix.now.models)) }
     ensures few { IfOk result (λ v. length v.items ≤ 100000) }
     ensures models { IfOk result (λ v. All (λ m. m < length mix.now.models) v.items) }
     ensures fault { MatchResult result (λ _. Unit {0}) (MayStop (Rises (S.faults shelf.old) (S.faults shelf.new))) }

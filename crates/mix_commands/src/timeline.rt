@@ -16,7 +16,8 @@ use line_io::Shelf;
 use station_report::{TimelineRead, timeline};
 use std::alloc::Global;
 
-/// The text of the timeline of a launch, where each station has this length; it is too large for more than 1,000,000 rows.
+/// The text of the timeline of a launch, where each station has this length; it is too large for more than 1,000,000
+/// rows.
 fn text_of(
     alloc: Global,
     seq: &str,
@@ -64,7 +65,9 @@ pub fn timeline_report<S: Shelf>(
 ) -> Result<Report, Stop>
     requires interval { IsBetween 1 1000000000 interval }
     requires reach { IsBetween 1 1000000000 reach }
-    ensures ends { S.tells → Ends (outside (S.file shelf.old) (S.blames shelf.new)) (IsTimelineOutcome (outside (S.file shelf.old) (S.blames shelf.new)) mix.now cert.now seq.now interval reach) (S.file shelf.new) result }
+    ensures ends { S.tells → Ends (outside (S.file shelf.old) (S.blames shelf.new))
+        (IsTimelineOutcome (outside (S.file shelf.old) (S.blames shelf.new)) mix.now cert.now seq.now interval reach)
+        (S.file shelf.new) result }
     ensures good { IfOk result (λ r. r.status ≡ ends.Done) }
     ensures kept { IfOk result (λ r. r.kept ≡ Nothing) }
     ensures fault { MatchResult result (λ _. Unit {0}) (MayStop (Rises (S.faults shelf.old) (S.faults shelf.new))) }

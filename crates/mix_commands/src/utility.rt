@@ -1,5 +1,6 @@
 //! The utility work that `utility` tells.
-ghost use Rattle.std.specs.Prelude.{◌≡◌, ◌≤◌, ◌<◌, ◌++◌, ℕ, List, All, length, sum, string_bytes, IfOk, OnOk, MatchResult};
+ghost use Rattle.std.specs.Prelude.{◌≡◌, ◌≤◌, ◌<◌, ◌++◌, ℕ, List, All, length, sum, string_bytes, IfOk, OnOk};
+ghost use Rattle.std.specs.Prelude.{MatchResult};
 ghost use Rattle.line_io.specs.Outside.{Rises};
 ghost use Rattle.line_words.specs.Ranges.{IsBetween};
 ghost use Rattle.command_outcome.specs.Outcome.{Ends, MayStop, outside};
@@ -63,8 +64,8 @@ fn text_of(
     lines_text(alloc, &per, total)
 }
 
-/// The report of `utility` for the files of a mix, a certificate and a sequence, a launch interval and the length of each
-/// station, both in the mix's time unit.
+/// The report of `utility` for the files of a mix, a certificate and a sequence, a launch interval and the length of
+/// each station, both in the mix's time unit.
 pub fn utility_report<S: Shelf>(
     alloc: Global,
     mix: &str,
@@ -76,7 +77,9 @@ pub fn utility_report<S: Shelf>(
 ) -> Result<Report, Stop>
     requires interval { IsBetween 1 1000000000 interval }
     requires reach { IsBetween 1 1000000000 reach }
-    ensures ends { S.tells → Ends (outside (S.file shelf.old) (S.blames shelf.new)) (IsUtilityOutcome (outside (S.file shelf.old) (S.blames shelf.new)) mix.now cert.now seq.now interval reach) (S.file shelf.new) result }
+    ensures ends { S.tells → Ends (outside (S.file shelf.old) (S.blames shelf.new))
+        (IsUtilityOutcome (outside (S.file shelf.old) (S.blames shelf.new)) mix.now cert.now seq.now interval reach)
+        (S.file shelf.new) result }
     ensures good { IfOk result (λ r. r.status ≡ ends.Done) }
     ensures kept { IfOk result (λ r. r.kept ≡ Nothing) }
     ensures fault { MatchResult result (λ _. Unit {0}) (MayStop (Rises (S.faults shelf.old) (S.faults shelf.new))) }

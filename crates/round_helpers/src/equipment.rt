@@ -11,8 +11,8 @@ use crate::teams::Helper;
 use std::alloc::{AllocError, Global};
 use steal_pool::{Hand, Hands, Opened, Piece, Pool, open_pool};
 
-/// The pool of a question's pieces with a hand for each helper, and room for the helpers and for the hands that they give
-/// back.
+/// The pool of a question's pieces with a hand for each helper, and room for the helpers and for the hands that they
+/// give back.
 #[derive(Drop)]
 pub struct Equipment {
     pub pool: Pool,

@@ -1,6 +1,6 @@
-//! The help for a question, from a book to the book that comes back: the book is shared, the helpers do the pieces of the
-//! question in threads, each taking from the others where it has none left, and the share is closed again. Every lemma of a
-//! helper enters the book through that close alone.
+//! The help for a question, from a book to the book that comes back: the book is shared, the helpers do the pieces of
+//! the question in threads, each taking from the others where it has none left, and the share is closed again. Every
+//! lemma of a helper enters the book through that close alone.
 ghost use Rattle.std.specs.Prelude.{◌≡◌, ℕ, ◌+◌, ◌-◌, ◌<◌, ◌≤◌, ◌⊎◌, ◌↔◌, IsTrue, length};
 ghost use Rattle.line_rules.specs.Balance.{all_tasks};
 ghost use Rattle.line_rules.specs.Bounds.{bound};
@@ -54,7 +54,9 @@ pub struct Help {
 fn is_refuted(inst: &Instance, book: &Book, most: u32) -> bool
     requires same { book.now.about.line ≡ inst.now }
     requires cycle { IsCycle book.now.about.cycle }
-    ensures { IsTrue result ↔ ((most < bound book.now.about.kind book.now.about.line book.now.about.cycle (all_tasks book.now.about.line)) ⊎ HasAnswer book.now.state.entries (all_tasks book.now.about.line) most book.now.about.cycle) }
+    ensures { IsTrue result ↔ ((most < bound book.now.about.kind book.now.about.line book.now.about.cycle
+        (all_tasks book.now.about.line)) ⊎ HasAnswer book.now.state.entries (all_tasks book.now.about.line) most
+        book.now.about.cycle) }
 {
     let all = inst.all();
     if exceeds(inst, book.kind(), book.cycle(), &all, most) {
@@ -122,9 +124,10 @@ fn help_at<R: Threads + Wait + Sync, G: Gate>(
 }
 
 /// Has helpers decide the jobs of the question whether all tasks have a balance in `most` stations, 1 to 1,024, at the
-/// book's cycle, which is 1 to 10^18 in the instance's time unit. There is a helper for each of the units, at most 64, and
-/// each uses its own: one for each piece, and one for each load that is gone over. The book is about this instance, and
-/// `reserve_offers` was done for it. Each helper runs in a thread of its own and meets the gate before each publish.
+/// book's cycle, which is 1 to 10^18 in the instance's time unit. There is a helper for each of the units, at most 64,
+/// and each uses its own: one for each piece, and one for each load that is gone over. The book is about this instance,
+/// and `reserve_offers` was done for it. Each helper runs in a thread of its own and meets the gate before each
+/// publish.
 pub fn call_helpers<R: Threads + Wait + Sync, G: Gate>(
     rt: &R,
     alloc: Global,

@@ -65,8 +65,8 @@ pub fn jobs(
     Ok(jobs)
 }
 
-/// What the load at which a walk stands leaves of the set, where the load is full and the bound leaves the rest open for
-/// one station less.
+/// What the load at which a walk stands leaves of the set, where the load is full and the bound leaves the rest open
+/// for one station less.
 pub fn rest_at(
     inst: &Instance,
     kind: LineKind,

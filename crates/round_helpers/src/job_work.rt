@@ -1,8 +1,8 @@
 //! What a helper asks of a job: whether the rest has a balance in one station less than the question has.
 //!
-//! A helper with an even number first asks for a better balance than the best one so far: with two stations less than the
-//! least published count, where that is more than it would ask with else. So half of the helpers look for balances and
-//! half for refutations. It works over any desk. Each load that a search lists costs a unit.
+//! A helper with an even number first asks for a better balance than the best one so far: with two stations less than
+//! the least published count, where that is more than it would ask with else. So half of the helpers look for balances
+//! and half for refutations. It works over any desk. Each load that a search lists costs a unit.
 ghost use Rattle.std.specs.Prelude.{◌≡◌, ◌+◌, ◌-◌, ◌^◌, ◌<◌, ◌≤◌, true, None, length, Some, IfOk, OnOk};
 ghost use Rattle.line_instance.specs.Line.{IsTaskSet};
 ghost use Rattle.line_rules.specs.Entries.{HasAnswer};
@@ -164,8 +164,9 @@ fn ask_job<D: Desk>(
     }
 }
 
-// What an eager helper asks first: for a balance better than the best so far, with two stations less than the least count
-// for the rest, where that is more than the question itself leaves for it. Else nothing is asked, as if it was found.
+// What an eager helper asks first: for a balance better than the best so far, with two stations less than the least
+// count for the rest, where that is more than the question itself leaves for it. Else nothing is asked, as if it was
+// found.
 fn ask_for_better<D: Desk>(
     alloc: Global,
     desk: &mut D,

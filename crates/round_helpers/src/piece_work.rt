@@ -1,9 +1,9 @@
 //! What one helper does: it takes one piece after the other, splits it, and asks its question.
 //!
-//! A piece that was dealt is a job, and the balance that its question gives is offered. A piece that a helper put is asked
-//! for the sake of the lemmas that are published on the way: they close loads of the job above. The helper ends where all
-//! deques are empty, where a job has a balance, or where units or memory end. A piece costs a unit, and so does each load
-//! that is gone over or listed. It works over any desk.
+//! A piece that was dealt is a job, and the balance that its question gives is offered. A piece that a helper put is
+//! asked for the sake of the lemmas that are published on the way: they close loads of the job above. The helper ends
+//! where all deques are empty, where a job has a balance, or where units or memory end. A piece costs a unit, and so
+//! does each load that is gone over or listed. It works over any desk.
 ghost use Rattle.std.specs.Prelude.{◌≡◌, ◌+◌, ◌-◌, ◌^◌, ◌<◌, ◌≤◌, true, IfSome, IsNone};
 ghost use Rattle.line_instance.specs.Line.{IsTaskSet};
 ghost use Rattle.line_rules.specs.Ranges.{IsCycle};

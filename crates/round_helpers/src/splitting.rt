@@ -1,7 +1,7 @@
 //! Splitting a piece: the first rests of its set are put into the pool, for helpers that have nothing to do.
 //!
-//! One walk over at most 1,024 loads, with a test of fullness and of the bound for each, until 8 pieces are put. A piece at
-//! a depth of 2 isn't split further, so a job becomes at most 72 pieces more.
+//! One walk over at most 1,024 loads, with a test of fullness and of the bound for each, until 8 pieces are put. A
+//! piece at a depth of 2 isn't split further, so a job becomes at most 72 pieces more.
 ghost use Rattle.std.specs.Prelude.{◌≡◌, ◌+◌, ◌<◌, ◌≤◌, ◌^◌, false};
 ghost use Rattle.line_instance.specs.Line.{IsTaskSet};
 ghost use Rattle.line_rules.specs.Ranges.{IsCycle};
@@ -25,9 +25,9 @@ const MAX_LISTED: u32 = 1024;
 /// How many pieces are put for a piece at most.
 const MAX_PUT: u32 = 8;
 
-/// Puts the rests of the first loads of a piece's set as pieces, a depth more and a station less: of the first 1,024 loads
-/// the first 8 that are full and whose rest the bound leaves open. It stops where the hand has no room. Each load that is
-/// gone over costs a unit; false says that the units ended.
+/// Puts the rests of the first loads of a piece's set as pieces, a depth more and a station less: of the first 1,024
+/// loads the first 8 that are full and whose rest the bound leaves open. It stops where the hand has no room. Each load
+/// that is gone over costs a unit; false says that the units ended.
 pub fn split_piece(
     inst: &Instance,
     question: Question,

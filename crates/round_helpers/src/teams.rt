@@ -1,13 +1,14 @@
 //! A team: the helpers of a question, each with a pass of the share, a hand of the pool and units of its own.
 //!
-//! The first pass is split, once for each helper. Then the helpers work in threads, one each, and afterwards their passes
-//! are joined into the first one again, so that it has seen what any of them has and has all their places; the hands go
-//! back, for the pool to be closed.
+//! The first pass is split, once for each helper. Then the helpers work in threads, one each, and afterwards their
+//! passes are joined into the first one again, so that it has seen what any of them has and has all their places; the
+//! hands go back, for the pool to be closed.
 ghost use Rattle.std.specs.Prelude.{◌≡◌, ℕ, ◌+◌, ◌-◌, ◌^◌, ◌<◌, ◌≤◌, List, [], length, vec_len, vec_capacity};
 ghost use Rattle.line_instance.specs.Line.{Line};
 ghost use Rattle.book_share.specs.Calls.{IsPassOf};
 ghost use Rattle.round_helpers.specs.inner.Seats.{IsBare, AreReady, HasWorked, HaveAllWorked, HasJoined, hands_of};
-ghost use Rattle.round_helpers.specs.inner.Teams.{MayWork, MayAllWork, ArePassesOf, AreJoinable, AreSettled, settled, IsTold};
+ghost use Rattle.round_helpers.specs.inner.Teams.{MayWork, MayAllWork, ArePassesOf, AreJoinable, AreSettled, settled};
+ghost use Rattle.round_helpers.specs.inner.Teams.{IsTold};
 
 use crate::gates::Gate;
 use crate::helper_desk::HelperDesk;
@@ -138,7 +139,9 @@ fn work_in_threads<R: Threads + Wait + Sync, G: Gate>(
     let count = helpers.len();
     let shift = |place: usize, helper: &mut Helper|
         requires { MayWork share.now inst.now question jobs.now pool.now place helper.now }
-        ensures { HasWorked share.entry.now helper.entry.now.pass.view.base helper.entry.now.pass.view.seen inst.entry.now question jobs.entry.now pool.entry.now helper.entry.now.hand helper.entry.now.units.left helper.exit.now }
+        ensures { HasWorked share.entry.now helper.entry.now.pass.view.base helper.entry.now.pass.view.seen
+            inst.entry.now question jobs.entry.now pool.entry.now helper.entry.now.hand helper.entry.now.units.left
+            helper.exit.now }
     {
         work(
             rt, alloc, share, inst, question, jobs, pool, gate, place, helper,
@@ -180,8 +183,8 @@ pub fn worked<R: Threads + Wait + Sync, G: Gate>(
     helpers
 }
 
-/// Joins the passes of helpers into the first one, which has no own places, and gives their hands back. There is room for
-/// these.
+/// Joins the passes of helpers into the first one, which has no own places, and gives their hands back. There is room
+/// for these.
 pub fn join_all(
     share: &Share,
     pass: &mut Pass,

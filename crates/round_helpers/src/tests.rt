@@ -1,5 +1,5 @@
-//! What no clause says: the jobs of a question as they were worked out outside. Runs of helpers stand in the crate above,
-//! which has the books that they need.
+//! What no clause says: the jobs of a question as they were worked out outside. Runs of helpers stand in the crate
+//! above, which has the books that they need.
 use crate::jobs;
 use line_instance::{Instance, Made, make};
 use line_rules::LineKind;

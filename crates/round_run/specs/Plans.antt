@@ -16,8 +16,8 @@ abbrev pub all_left : List Units → ℕ
 all_left [] = 0
 all_left (u ∷ us) = u.left + all_left us
 
--- A purse as a plan has it: nothing is used, the closing passes have the plan's units, and the helpers no more than these
--- together, and none where there are no helpers.
+-- A purse as a plan has it: nothing is used, the closing passes have the plan's units, and the helpers no more than
+-- these together, and none where there are no helpers.
 pub record IsFilled (plan : Plan) (purse : Purse) : Type 0 where
   pub team : IsTeam purse.helper.items
   pub used : purse.closing.used ≡ 0

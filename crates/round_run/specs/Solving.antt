@@ -21,9 +21,9 @@ use Rattle.round_run.specs.declared.solving.Cause.TheVariants as cause
 use Rattle.round_run.specs.declared.solving.Outcome.{Outcome}
 use Rattle.round_run.specs.declared.solving.Outcome.TheVariants as outcome
 
--- The book of a run of N units at cycle c that began with some entries: it is about the line; it begins with these entries,
--- and then has those that the run added, each at the cycle; these are at most 2N + 1,025, and they and the open frames have
--- together at most 2N units.
+-- The book of a run of N units at cycle c that began with some entries: it is about the line; it begins with these
+-- entries, and then has those that the run added, each at the cycle; these are at most 2N + 1,025, and they and the
+-- open frames have together at most 2N units.
 pub record IsRunBook (kind : LineKind) (line : Line) (c N : ℕ) (before added : List Entry) (frames : List OpenFrame)
     (book : BookView) : Type 0 where
   pub about : book.about ≡ record { line = line; kind = kind; cycle = c }
@@ -56,10 +56,10 @@ pub record IsStoppedFrom (kind : LineKind) (line : Line) (c N : ℕ) (before add
   pub below : lower < book.state.best.stations
   pub goal : IsBelow line c book lower
 
--- The units of the closing passes ended: the lower bound is at least the bound of all tasks, and the best balance has no
--- more stations than the one that the run began with; the trail is valid from all tasks in `lower` stations, and open over
--- the book; the entries that the run added and the trail have at least the units of the plan, exactly so many without
--- helpers, and these are fewer than the budget law allows.
+-- The units of the closing passes ended: the lower bound is at least the bound of all tasks, and the best balance has
+-- no more stations than the one that the run began with; the trail is valid from all tasks in `lower` stations, and
+-- open over the book; the entries that the run added and the trail have at least the units of the plan, exactly so many
+-- without helpers, and these are fewer than the budget law allows.
 pub record IsSpentFrom (kind : LineKind) (line : Line) (c : ℕ) (plan : Plan) (before : List Entry) (top lower : ℕ)
     (book : BookView) (trail : List OpenFrame) : Type 0 where
   pub added : List Entry

@@ -1,9 +1,9 @@
 //! Rounds: the questions of a run, asked one after the other over one book until the least number of stations is known.
 //!
 //! `solving` starts from the bound and the ranked balance, and says what a run comes to; `questions` raises the lower
-//! bound question by question; `rounds` decides one question over a book, by the helpers of the crate below and then by a
-//! closing pass, which stands in `closing`, and `bounding` publishes what the bound refutes. `plans` has what a run may
-//! spend. A run without helpers spends its units in its closing passes alone.
+//! bound question by question; `rounds` decides one question over a book, by the helpers of the crate below and then by
+//! a closing pass, which stands in `closing`, and `bounding` publishes what the bound refutes. `plans` has what a run
+//! may spend. A run without helpers spends its units in its closing passes alone.
 #![tactic(auto)]
 
 mod bounding;

@@ -23,8 +23,8 @@ pub struct Purse {
     pub helper: Vec<Units>,
 }
 
-/// A purse as a plan has it, of which nothing is used: each helper has the plan's units, divided by the number of helpers
-/// and rounded down. An error where memory is out.
+/// A purse as a plan has it, of which nothing is used: each helper has the plan's units, divided by the number of
+/// helpers and rounded down. An error where memory is out.
 pub fn fill(alloc: Global, plan: &Plan) -> Result<Purse, AllocError>
     requires { IsPlan plan.now }
     ensures { IfOk result (IsFilled plan.now) }

@@ -58,9 +58,10 @@ fn help<R: Threads + Wait + Sync, G: Gate>(
 }
 
 /// Decides whether all tasks have a balance in `most` stations, 1 to 1,024, at the cycle of the book, which is 1 to
-/// 10^18 in the instance's time unit. The book is about this instance, and `reserve_offers` was done for it. The purse has
-/// the units of the closing pass, and those of each helper, of which there are at most 64: a load that is listed takes one
-/// from who lists it, and a helper's job one from the helper. Helpers run in threads and meet the gate before each publish.
+/// 10^18 in the instance's time unit. The book is about this instance, and `reserve_offers` was done for it. The purse
+/// has the units of the closing pass, and those of each helper, of which there are at most 64: a load that is listed
+/// takes one from who lists it, and a helper's job one from the helper. Helpers run in threads and meet the gate before
+/// each publish.
 pub fn decide_round<R: Threads + Wait + Sync, G: Gate>(
     rt: &R,
     alloc: Global,

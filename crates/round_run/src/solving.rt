@@ -3,8 +3,8 @@
 //! The bound of all tasks is the first lower bound and the ranked balance the first best one. While the lower bound is
 //! below the best balance, the question is decided whether all tasks have a balance in so many stations: a refuted one
 //! raises the lower bound by one, and a balance ends the run. All questions share one book, so what one refuted the
-//! next one cites. The cost is that of the searches: a unit for each load that is listed, of which a plan has so many for
-//! its closing passes and as many again for all its helpers.
+//! next one cites. The cost is that of the searches: a unit for each load that is listed, of which a plan has so many
+//! for its closing passes and as many again for all its helpers.
 ghost use Rattle.std.specs.Prelude.{◌≡◌, ◌-◌, ◌<◌, ◌≤◌, ℕ, List, [], IfOk, OnOk};
 ghost use Rattle.line_rules.specs.Balance.{all_tasks};
 ghost use Rattle.line_rules.specs.Bounds.{bound};
@@ -62,8 +62,8 @@ pub enum Outcome {
 }
 
 /// The least number of stations in which a line of this kind has a balance at a cycle of 1 to 10^18, in the instance's
-/// time unit; or bounds on it, where the units of the plan ended first. Helpers run in threads, in any order; they meet the
-/// gate before each publish. Without helpers the same plan gives the same answer each time.
+/// time unit; or bounds on it, where the units of the plan ended first. Helpers run in threads, in any order; they meet
+/// the gate before each publish. Without helpers the same plan gives the same answer each time.
 pub fn solve<R: Threads + Wait + Sync, G: Gate>(
     rt: &R,
     alloc: Global,
@@ -87,8 +87,8 @@ pub fn solve<R: Threads + Wait + Sync, G: Gate>(
     }
 }
 
-/// An empty book about the instance, with its first best balance, and with room for the better ones. An error where memory
-/// is out.
+/// An empty book about the instance, with its first best balance, and with room for the better ones. An error where
+/// memory is out.
 pub fn open_book(
     alloc: Global,
     inst: &Instance,
@@ -106,10 +106,10 @@ pub fn open_book(
     Ok(book)
 }
 
-/// The same over a book that may have entries: the least number of stations at the book's cycle, or bounds on it. The book is
-/// about the instance, no task is longer than its cycle, and `reserve_offers` was done. The entries that the run adds stand
-/// behind those of the book, and are all at its cycle; its units are counted from here on. The first best balance is the
-/// book's.
+/// The same over a book that may have entries: the least number of stations at the book's cycle, or bounds on it. The
+/// book is about the instance, no task is longer than its cycle, and `reserve_offers` was done. The entries that the
+/// run adds stand behind those of the book, and are all at its cycle; its units are counted from here on. The first
+/// best balance is the book's.
 pub fn solve_from<R: Threads + Wait + Sync, G: Gate>(
     rt: &R,
     alloc: Global,

@@ -1,5 +1,6 @@
 -- Certificates that runs for the least number of stations make of a line at a cycle.
-use Rattle.std.specs.Prelude.{◌≡◌, ◌⊎◌, ℕ, ◌+◌, ◌*◌, ◌^◌, ◌<◌, ◌≤◌, List, [], ◌++◌, length, slice_get, Option, Some, None}
+use Rattle.std.specs.Prelude.{◌≡◌, ◌⊎◌, ℕ, ◌+◌, ◌*◌, ◌^◌, ◌<◌, ◌≤◌, List, [], ◌++◌, length, slice_get, Option, Some}
+use Rattle.std.specs.Prelude.{None}
 use Rattle.line_instance.specs.Line.{Line, tasks}
 use Rattle.line_rules.specs.Accepted.{IsAccepted, IsInfeasible, IsLeastStations}
 use Rattle.line_rules.specs.Balance.{IsRight}
@@ -29,10 +30,11 @@ max_units = 20000000
 abbrev pub about_stations : LineKind → Line → ℕ → Claim → Certificate
 about_stations kind line c said = record { kind = kind; tasks = tasks line; ask = ask.Stations c; claim = said }
 
--- A certificate of bounds: it claims `lower`, the stations of the balance as the upper bound, the balance, these entries and
--- this trail. A text can say it; its balance is right; the check accepts it, with so many units, which are few enough for
--- the default steps; and its bounds are true.
-pub record IsCertified (kind : LineKind) (line : Line) (c lower : ℕ) (b : Assignment) (es : List Entry) (trail : Option Trail)
+-- A certificate of bounds: it claims `lower`, the stations of the balance as the upper bound, the balance, these
+-- entries and this trail. A text can say it; its balance is right; the check accepts it, with so many units, which are
+-- few enough for the default steps; and its bounds are true.
+pub record IsCertified (kind : LineKind) (line : Line) (c lower : ℕ) (b : Assignment) (es : List Entry)
+    (trail : Option Trail)
     (units : ℕ) (cert : Certificate) : Type 0 where
   pub said : cert ≡ about_stations kind line c (claim.Bounds lower b.stations b es trail)
   pub sayable : IsInRange cert
@@ -53,16 +55,16 @@ HaveCyclesOf es new =
     (k : ℕ) (e : Entry) → slice_get new k ≡ Some e
     → (j : ℕ) × (x : Entry) × ((slice_get es j ≡ Some x) × (e.cycle ≡ x.cycle))
 
--- The entries with which a run of N units began: a certificate has room for them beside those of the run, and so have the
--- default steps for their units.
+-- The entries with which a run of N units began: a certificate has room for them beside those of the run, and so have
+-- the default steps for their units.
 pub record LeaveRoom (line : Line) (N : ℕ) (before : List Entry) : Type 0 where
   pub units : ℕ
   pub counted : UnitsOf line before units
   pub paid : units + 2 * N ≤ max_units
   pub few : length before + 2 * N + 1025 ≤ 20000000
 
--- The certificate of an optimum, of a run that began with some entries: both its bounds are the least number of stations,
--- and it has no trail; its entries are at cycle c, or at cycles of those with which the run began.
+-- The certificate of an optimum, of a run that began with some entries: both its bounds are the least number of
+-- stations, and it has no trail; its entries are at cycle c, or at cycles of those with which the run began.
 pub record IsOptimumFrom (kind : LineKind) (line : Line) (c : ℕ) (before : List Entry) (b : Assignment)
     (cert : Certificate) : Type 0 where
   pub entries : List Entry
@@ -71,10 +73,10 @@ pub record IsOptimumFrom (kind : LineKind) (line : Line) (c : ℕ) (before : Lis
   pub least : IsLeastStations kind line c b.stations
   pub cycles : AreAtOrAs c before entries
 
--- The certificate of a search that began with some entries and used the units of its plan: its bounds differ; its entries,
--- of which none is answered by an earlier one, begin with those, and the others are at cycle c; these others and its trail
--- have at least the units of the plan, exactly so many without helpers; the trail is open over the entries; and the units
--- of the plan are below what the budget law allows.
+-- The certificate of a search that began with some entries and used the units of its plan: its bounds differ; its
+-- entries, of which none is answered by an earlier one, begin with those, and the others are at cycle c; these others
+-- and its trail have at least the units of the plan, exactly so many without helpers; the trail is open over the
+-- entries; and the units of the plan are below what the budget law allows.
 pub record IsStopFrom (kind : LineKind) (line : Line) (c : ℕ) (plan : Plan) (before : List Entry) (lower : ℕ)
     (b : Assignment) (cert : Certificate) : Type 0 where
   pub entries : List Entry

@@ -12,7 +12,8 @@ ghost use Rattle.line_rules.specs.declared.types.LineKind.{LineKind as Kind};
 ghost use Rattle.cert_files.specs.Trim.{CitesEarlier};
 ghost use Rattle.round_run.specs.Solving.{IsSolved, IsSolvedFrom, IsSpent, IsSpentFrom};
 ghost use Rattle.round_run.specs.declared.plans.Plan.{Plan};
-ghost use Rattle.run_certificates.specs.Certified.{about_stations, HaveCyclesOf, LeaveRoom, IsOptimum, IsOptimumFrom, IsStop, IsStopFrom, IsNoBalance};
+ghost use Rattle.run_certificates.specs.Certified.{about_stations, HaveCyclesOf, LeaveRoom, IsOptimum, IsOptimumFrom};
+ghost use Rattle.run_certificates.specs.Certified.{IsStop, IsStopFrom, IsNoBalance};
 
 use cert_files::trim;
 use lemma_core::Book;
@@ -33,8 +34,8 @@ fn about_stations(inst: &Instance, kind: LineKind, cycle: u64, claim: Claim) -> 
     }
 }
 
-/// The entries that show a lower bound on the stations: none are needed for 1, and above it the first entry that refutes one
-/// station less, with all that it stands on.
+/// The entries that show a lower bound on the stations: none are needed for 1, and above it the first entry that
+/// refutes one station less, with all that it stands on.
 fn proof_of(
     alloc: Global,
     entries: Entries,
@@ -45,7 +46,8 @@ fn proof_of(
     requires few { tasks ≤ 1024 }
     requires goal { 1 < lower → HasAnswer entries (full_to tasks) (lower - 1) cycle }
     requires earlier { CitesEarlier entries }
-    ensures derived { IfOk result (λ new. (kind : Kind) (line : Line) → IsDerived kind line entries → IsDerived kind line new) }
+    ensures derived { IfOk result (λ new. (kind : Kind) (line : Line) → IsDerived kind line entries
+        → IsDerived kind line new) }
     ensures goal { IfOk result (λ new. 1 < lower → HasAnswer new (full_to tasks) (lower - 1) cycle) }
     ensures units { IfOk result (λ new. (line : Line) (old : ℕ)
         → UnitsOf line entries old → (units : ℕ) × UnitsOf line new units × (units ≤ old)) }
@@ -58,8 +60,8 @@ fn proof_of(
     trim(alloc, entries, tasks, lower - 1, cycle)
 }
 
-/// The certificate of a run that was solved, at a cycle of 1 to 10^18 in the instance's time unit: the best balance of the
-/// book, and the proof that there is none in fewer stations. An error where memory is wanting.
+/// The certificate of a run that was solved, at a cycle of 1 to 10^18 in the instance's time unit: the best balance of
+/// the book, and the proof that there is none in fewer stations. An error where memory is wanting.
 pub fn certify_optimum(
     alloc: Global,
     inst: &Instance,
@@ -103,8 +105,8 @@ pub fn certify_warm_optimum(
     Ok(about_stations(inst, kind, cycle, claim))
 }
 
-/// The certificate of a run whose units ended, at a cycle of 1 to 10^18 in the instance's time unit: the bounds, the best
-/// balance and all entries of the book, and the trail.
+/// The certificate of a run whose units ended, at a cycle of 1 to 10^18 in the instance's time unit: the bounds, the
+/// best balance and all entries of the book, and the trail.
 pub fn certify_stop(
     inst: &Instance,
     kind: LineKind,
@@ -147,8 +149,8 @@ pub fn certify_warm_stop(
     about_stations(inst, kind, cycle, claim)
 }
 
-/// The certificate that a line has no balance at a cycle of 1 to 10^18, since the task, from 0, is the first one that is
-/// longer.
+/// The certificate that a line has no balance at a cycle of 1 to 10^18, since the task, from 0, is the first one that
+/// is longer.
 pub fn certify_too_long(inst: &Instance, kind: LineKind, cycle: u64, task: u32) -> Certificate
     requires cycle { IsCycle cycle }
     requires long { IsLeastWhere (IsTooLong inst.now cycle) task }

@@ -1,5 +1,5 @@
-//! Tests of runs over files in memory: the worked rows of all commands, certificates that are cut, changed or torn, calls
-//! that fail, and helpers that meet at a gate.
+//! Tests of runs over files in memory: the worked rows of all commands, certificates that are cut, changed or torn,
+//! calls that fail, and helpers that meet at a gate.
 #![tactic(auto)]
 
 #[cfg(test)]

@@ -190,8 +190,9 @@ fn wrong_with<R: Threads + Wait + Sync>(
     format!(in alloc; "{words}: {ended} {found}")
 }
 
-/// The first of some steps over the same files that doesn't come to what it should, with what it comes to; nothing where each
-/// does. A step has its words, the exit code, and what is put, or, where a fourth field follows, what that begins with.
+/// The first of some steps over the same files that doesn't come to what it should, with what it comes to; nothing
+/// where each does. A step has its words, the exit code, and what is put, or, where a fourth field follows, what that
+/// begins with.
 pub fn first_wrong<R: Threads + Wait + Sync>(
     rt: &R,
     alloc: Global,

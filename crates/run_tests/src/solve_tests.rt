@@ -15,9 +15,9 @@ const FIVE_SHOWN: &str = "optimal 3\nidle 7\nstation 1: 1 3\nstation 2: 2 4\nsta
 const FIVE_PROVED: &str =
     "line balance certificate 2\nline straight\ntasks 5\ncycle 7\nlower 3\nupper 3\nbalance 3\n1\n2\n1\n2\n3\nentries 1\nbranch f 7 f8 2 -\ntrail 0\nend\n";
 
-/// The worked rows, a line each: the words of a run, what it prints or begins to print, a part of the certificate that it
-/// keeps, and what `check` prints of the file that it wrote, where it wrote one; `/` stands for the end of a line. Where 16
-/// units are spent on six tasks, the search has just gone down to a second question: its trail has two frames.
+/// The worked rows, a line each: the words of a run, what it prints or begins to print, a part of the certificate that
+/// it keeps, and what `check` prints of the file that it wrote, where it wrote one; `/` stands for the end of a line.
+/// Where 16 units are spent on six tasks, the search has just gone down to a second question: its trail has two frames.
 const ROWS: &str = "solve zero.in2 cycle=1 helpers=0|optimal 1/idle 1/station 1: 1/|/entries 0/|
 solve chain.in2 cycle=2 helpers=0|optimal 3/idle 2/station 1: 1/station 2: 2/station 3: 3/|/entries 1/bound 2 e 2/trail 0/|
 solve chain.in2 cycle=2 line=u helpers=0|optimal 2/idle 0/station 1: 1 back 3/station 2: 2/|/entries 1/|
@@ -181,8 +181,8 @@ fn what_is_written_is_kept(rt: HostRuntime) -> Result<(), Fail> {
     Ok(())
 }
 
-/// Whether the optimum of five tasks ends with a failed write where its certificate is torn behind so many bytes, and the
-/// check of what is left says that its text ended.
+/// Whether the optimum of five tasks ends with a failed write where its certificate is torn behind so many bytes, and
+/// the check of what is left says that its text ended.
 fn torn_at<R: Threads + Wait + Sync>(rt: &R, alloc: Global, keep: u64) -> Result<bool, AllocError> {
     let mut shelf = files(alloc, &[])?;
     shelf.tear(3, keep)?;

@@ -1,5 +1,5 @@
-//! Runs one after another, where a later one reads what an earlier one wrote: the worked rows of mixes, of warm starts, of
-//! seeks, of pictures, of least products and of sequences.
+//! Runs one after another, where a later one reads what an earlier one wrote: the worked rows of mixes, of warm starts,
+//! of seeks, of pictures, of least products and of sequences.
 use crate::runs::{files, first_wrong, run_words, slashed, unslashed};
 use command_outcome::Status;
 use line_io::MemSink;
@@ -179,9 +179,10 @@ const TEN: &str = "10\n4\n4\n4\n4\n4\n4\n4\n4\n4\n4\n-1,-1\n";
 const TEN_IN_FOUR: &str =
     "line balance certificate 2\nline straight\ntasks 10\ncycle 15\nlower 4\nupper 4\nbalance 4\n1\n1\n1\n2\n2\n2\n3\n3\n3\n4\n";
 
-/// The certificate whose last entry says that the ten don't fit into three stations. A full load is any three tasks, and the seven that
-/// it leaves are by their time not too many for two stations; so each of the 120 full loads cites an entry of its own. Together they
-/// have 120 times 63 units, and the last one 175: the sets of one to three out of seven tasks, and out of ten.
+/// The certificate whose last entry says that the ten don't fit into three stations. A full load is any three tasks,
+/// and the seven that it leaves are by their time not too many for two stations; so each of the 120 full loads cites an
+/// entry of its own. Together they have 120 times 63 units, and the last one 175: the sets of one to three out of seven
+/// tasks, and out of ten.
 fn hundreds(alloc: Global) -> Result<String, AllocError> {
     let mut lines = String::new(alloc);
     let mut cites = String::new(alloc);

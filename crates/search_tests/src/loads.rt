@@ -1,5 +1,5 @@
-//! What no clause says: the loads of small lines that were listed outside, and that the walk, the plain form and a listing by the
-//! definition agree on lines drawn at random.
+//! What no clause says: the loads of small lines that were listed outside, and that the walk, the plain form and a
+//! listing by the definition agree on lines drawn at random.
 ghost use Rattle.std.specs.Prelude.{◌<◌};
 ghost use Rattle.line_instance.specs.Line.{IsTaskSet};
 
@@ -107,7 +107,8 @@ fn times_of(alloc: Global, tasks: u32, seed: u64) -> Result<Vec<u64>, AllocError
     Ok(times)
 }
 
-// About a quarter of the arcs that lead from a lower place to a higher one, where the places aren't in the order of the tasks.
+// About a quarter of the arcs that lead from a lower place to a higher one, where the places aren't in the order of the
+// tasks.
 fn arcs_of(alloc: Global, tasks: u32, seed: u64) -> Result<Vec<Prec>, AllocError> {
     let mut arcs = Vec::new(alloc);
     let mut state = seed;

@@ -1,5 +1,5 @@
-//! Rows that were worked out outside: how many loads are listed, how many lemmas there are, and the stations of the best
-//! balance.
+//! Rows that were worked out outside: how many loads are listed, how many lemmas there are, and the stations of the
+//! best balance.
 use first_fit::{Ranked, ranked_balance};
 use line_instance::{Instance, Made, Prec, make};
 use line_rules::LineKind;

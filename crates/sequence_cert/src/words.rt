@@ -2,7 +2,8 @@
 //!
 //! A line is split at its blanks, one word after the other. Reading takes memory for the numbers of its words alone.
 ghost use Rattle.std.specs.Prelude.{◌≡◌, IfOk};
-ghost use Rattle.sequence_cert.specs.inner.StateReading.{many_in, bound_in, branch_in, entry_in, last_in, open_in, frame_in};
+ghost use Rattle.sequence_cert.specs.inner.StateReading.{many_in, bound_in, branch_in, entry_in, last_in, open_in};
+ghost use Rattle.sequence_cert.specs.inner.StateReading.{frame_in};
 
 use cert_lines::words::{cites_of, first_number, is_none, number, split_at};
 use sequence_rules::{Numbers, SeqEntry, SeqWhy};

@@ -25,21 +25,26 @@ abbrev pub Fails : Times → ℕ → ℕ → List SeqEntry → SeqEntry → SeqE
 Fails t interval reach earlier e (fault.Bound b) units =
     (e.why ≡ why.Bound) × (b ≡ state_bound t interval reach e.rem e.starts) × (b < e.least) × (units ≡ 0)
 Fails t interval reach earlier e fault.Empty units = Branches e (λ cites. sum e.rem ≡ 0) × (units ≡ 0)
-Fails t interval reach earlier e (fault.Cite x) units = Branches e (λ cites. (0 < sum e.rem) × IsFirstLate cites (length earlier) x) × (units ≡ 0)
+Fails t interval reach earlier e (fault.Cite x) units = Branches e
+    (λ cites. (0 < sum e.rem) × IsFirstLate cites (length earlier) x) × (units ≡ 0)
 Fails t interval reach earlier e (fault.Uncovered model) units =
     Branches e (λ cites. IsReady earlier e cites × (model < length e.rem)
     × IsUncovered t interval reach earlier e.rem e.starts e.least cites model × (units ≡ models_left e.rem (suc model)))
 Fails t interval reach earlier e fault.Spare units =
     Branches e (λ cites. IsReady earlier e cites
-    × IsSpare t interval reach earlier e.rem e.starts e.least cites (length e.rem) × (units ≡ models_left e.rem (length e.rem)))
+    × IsSpare t interval reach earlier e.rem e.starts e.least cites (length e.rem)
+    × (units ≡ models_left e.rem (length e.rem)))
 
 -- some step of the entry is walked as one more than `steps`, and every check up to it held
 abbrev pub Ends : Times → ℕ → ℕ → List SeqEntry → SeqEntry → ℕ → Type 0
 Ends t interval reach earlier e steps =
-    Branches e (λ cites. IsReady earlier e cites × IsPast t interval reach earlier e.rem e.starts e.least cites (length e.rem) steps)
+    Branches e (λ cites. IsReady earlier e cites × IsPast t interval reach earlier e.rem e.starts e.least cites
+    (length e.rem) steps)
 
 -- what is found of an entry
 abbrev pub IsFound : Times → ℕ → ℕ → List SeqEntry → SeqEntry → ℕ → EntryFound → Type 0
-IsFound t interval reach earlier e steps (found.Right units) = Follows t interval reach earlier e × (units ≡ entry_units e) × (units ≤ steps)
-IsFound t interval reach earlier e steps (found.Fails why units) = Fails t interval reach earlier e why units × (units ≤ steps)
+IsFound t interval reach earlier e steps (found.Right units) = Follows t interval reach earlier e
+    × (units ≡ entry_units e) × (units ≤ steps)
+IsFound t interval reach earlier e steps (found.Fails why units) = Fails t interval reach earlier e why units
+    × (units ≤ steps)
 IsFound t interval reach earlier e steps found.StepsEnded = Ends t interval reach earlier e steps

@@ -1,7 +1,8 @@
 -- What the check of the frames of a trail finds.
 use Rattle.std.specs.Prelude.{◌≡◌, ℕ, suc, ◌+◌, ◌-◌, ◌<◌, ◌≤◌, List, length, take, slice_get, Some}
 use Rattle.sequence_rules.specs.Entries.{models_left}
-use Rattle.sequence_rules.specs.Trails.{IsAskedAt, is_deepest, EndsWell, up_to, matched_to, IsRightAt, frame_units, units_in}
+use Rattle.sequence_rules.specs.Trails.{IsAskedAt, is_deepest, EndsWell, up_to, matched_to, IsRightAt, frame_units}
+use Rattle.sequence_rules.specs.Trails.{units_in}
 use Rattle.sequence_rules.specs.declared.types.Times.{Times}
 use Rattle.sequence_rules.specs.declared.types.SeqEntry.{SeqEntry}
 use Rattle.sequence_rules.specs.declared.types.SeqFrame.{SeqFrame}
@@ -21,7 +22,8 @@ pub record IsPosedFrame (t : Times) (interval reach : ℕ) (f : SeqFrame) : Type
   pub last : IsLast (length f.rem) f.last
 
 -- a frame may be walked: it has the question that it should have, a right last model, and cites of entries of the list
-pub record IsReadyAt (t : Times) (interval reach : ℕ) (es : List SeqEntry) (fs : List SeqFrame) (j : ℕ) (f : SeqFrame) : Type 0 where
+pub record IsReadyAt (t : Times) (interval reach : ℕ) (es : List SeqEntry) (fs : List SeqFrame) (j : ℕ)
+    (f : SeqFrame) : Type 0 where
   pub asked : IsAskedAt t interval reach fs j f
   pub last : EndsWell (is_deepest fs j) f.rem f.last
   pub below : AreBelow f.cites (length es)
@@ -34,13 +36,15 @@ FailsAt t interval reach es fs j f fault.Set units = (IsAskedAt t interval reach
 FailsAt t interval reach es fs j f fault.Last units =
     IsAskedAt t interval reach fs j f × (EndsWell (is_deepest fs j) f.rem f.last → ⊥) × (units ≡ 0)
 FailsAt t interval reach es fs j f (fault.Cite x) units =
-    IsAskedAt t interval reach fs j f × EndsWell (is_deepest fs j) f.rem f.last × IsFirstLate f.cites (length es) x × (units ≡ 0)
+    IsAskedAt t interval reach fs j f × EndsWell (is_deepest fs j) f.rem f.last × IsFirstLate f.cites (length es) x
+    × (units ≡ 0)
 FailsAt t interval reach es fs j f (fault.Uncovered model) units =
     IsReadyAt t interval reach es fs j f × (model < matched_to (is_deepest fs j) f.last)
     × IsUncovered t interval reach es f.rem f.starts f.need f.cites model × (units ≡ models_left f.rem (suc model))
 FailsAt t interval reach es fs j f fault.Spare units =
     IsReadyAt t interval reach es fs j f
-    × IsSpare t interval reach es f.rem f.starts f.need f.cites (matched_to (is_deepest fs j) f.last) × (units ≡ frame_units f)
+    × IsSpare t interval reach es f.rem f.starts f.need f.cites (matched_to (is_deepest fs j) f.last)
+    × (units ≡ frame_units f)
 
 -- some step of the frame is walked as one more than `steps`, and every check up to it held
 abbrev pub EndsAt : Times → ℕ → ℕ → List SeqEntry → List SeqFrame → ℕ → SeqFrame → ℕ → Type 0
@@ -49,17 +53,21 @@ EndsAt t interval reach es fs j f steps =
 
 -- what is found of a frame
 abbrev pub IsFoundAt : Times → ℕ → ℕ → List SeqEntry → List SeqFrame → ℕ → SeqFrame → ℕ → FrameFound → Type 0
-IsFoundAt t interval reach es fs j f steps (found.Right units) = IsRightAt t interval reach es fs j f × (units ≡ frame_units f) × (units ≤ steps)
-IsFoundAt t interval reach es fs j f steps (found.Fails why units) = FailsAt t interval reach es fs j f why units × (units ≤ steps)
+IsFoundAt t interval reach es fs j f steps (found.Right units) = IsRightAt t interval reach es fs j f
+    × (units ≡ frame_units f) × (units ≤ steps)
+IsFoundAt t interval reach es fs j f steps (found.Fails why units) = FailsAt t interval reach es fs j f why units
+    × (units ≤ steps)
 IsFoundAt t interval reach es fs j f steps found.StepsEnded = EndsAt t interval reach es fs j f steps
 
 -- the frames below j are right, and have so many units
-pub record AreRightTo (t : Times) (interval reach : ℕ) (es : List SeqEntry) (fs : List SeqFrame) (j units : ℕ) : Type 0 where
+pub record AreRightTo (t : Times) (interval reach : ℕ) (es : List SeqEntry) (fs : List SeqFrame)
+    (j units : ℕ) : Type 0 where
   pub right : (i : ℕ) (f : SeqFrame) → i < j → slice_get fs i ≡ Some f → IsRightAt t interval reach es fs i f
   pub total : units ≡ units_in (take j fs)
 
 -- The frame j is the first that is refused, for this reason, and the steps walked up to it are at most `steps`.
-pub record IsFrameRefused (t : Times) (interval reach : ℕ) (es : List SeqEntry) (fs : List SeqFrame) (steps j : ℕ) (why : SeqFrameFault) : Type 0 where
+pub record IsFrameRefused (t : Times) (interval reach : ℕ) (es : List SeqEntry) (fs : List SeqFrame) (steps j : ℕ)
+    (why : SeqFrameFault) : Type 0 where
   pub units : ℕ
   pub below : AreRightTo t interval reach es fs j units
   pub frame : SeqFrame
@@ -69,7 +77,8 @@ pub record IsFrameRefused (t : Times) (interval reach : ℕ) (es : List SeqEntry
   pub few : units + more ≤ steps
 
 -- Some step of a frame is walked as one more than `steps`, and every check up to it held.
-pub record AreFramesEnded (t : Times) (interval reach : ℕ) (es : List SeqEntry) (fs : List SeqFrame) (steps : ℕ) : Type 0 where
+pub record AreFramesEnded (t : Times) (interval reach : ℕ) (es : List SeqEntry) (fs : List SeqFrame)
+    (steps : ℕ) : Type 0 where
   pub at : ℕ
   pub units : ℕ
   pub below : AreRightTo t interval reach es fs at units
@@ -80,10 +89,13 @@ pub record AreFramesEnded (t : Times) (interval reach : ℕ) (es : List SeqEntry
 
 -- each frame is right
 abbrev pub AreRight : Times → ℕ → ℕ → List SeqEntry → List SeqFrame → Type 0
-AreRight t interval reach es fs = (j : ℕ) (f : SeqFrame) → slice_get fs j ≡ Some f → IsRightAt t interval reach es fs j f
+AreRight t interval reach es fs = (j : ℕ) (f : SeqFrame) → slice_get fs j ≡ Some f
+    → IsRightAt t interval reach es fs j f
 
 -- what is found of the frames
 abbrev pub AreFramesFound : Times → ℕ → ℕ → List SeqEntry → List SeqFrame → ℕ → FramesFound → Type 0
-AreFramesFound t interval reach es fs steps (all_found.Right units) = AreRight t interval reach es fs × (units ≡ units_in fs) × (units ≤ steps)
-AreFramesFound t interval reach es fs steps (all_found.Refused frame why) = IsFrameRefused t interval reach es fs steps frame why
+AreFramesFound t interval reach es fs steps (all_found.Right units) = AreRight t interval reach es fs
+    × (units ≡ units_in fs) × (units ≤ steps)
+AreFramesFound t interval reach es fs steps (all_found.Refused frame why) =
+    IsFrameRefused t interval reach es fs steps frame why
 AreFramesFound t interval reach es fs steps all_found.StepsEnded = AreFramesEnded t interval reach es fs steps

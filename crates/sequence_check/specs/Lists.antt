@@ -14,7 +14,8 @@ pub record AreRightBelow (t : Times) (interval reach : ℕ) (es : List SeqEntry)
   pub total : units ≡ units_of (take k es)
 
 -- The entry k is the first that is refused, for this reason, and the steps walked up to it are at most `steps`.
-pub record IsRefusedAt (t : Times) (interval reach : ℕ) (es : List SeqEntry) (steps k : ℕ) (why : SeqEntryFault) : Type 0 where
+pub record IsRefusedAt (t : Times) (interval reach : ℕ) (es : List SeqEntry) (steps k : ℕ)
+    (why : SeqEntryFault) : Type 0 where
   pub units : ℕ
   pub below : AreRightBelow t interval reach es k units
   pub entry : SeqEntry
@@ -35,6 +36,7 @@ pub record AreStepsEnded (t : Times) (interval reach : ℕ) (es : List SeqEntry)
 
 -- what is found of a list of entries
 abbrev pub AreFound : Times → ℕ → ℕ → List SeqEntry → ℕ → EntriesFound → Type 0
-AreFound t interval reach es steps (found.Right units) = IsDerived t interval reach es × (units ≡ units_of es) × (units ≤ steps)
+AreFound t interval reach es steps (found.Right units) = IsDerived t interval reach es × (units ≡ units_of es)
+    × (units ≤ steps)
 AreFound t interval reach es steps (found.Refused entry why) = IsRefusedAt t interval reach es steps entry why
 AreFound t interval reach es steps found.StepsEnded = AreStepsEnded t interval reach es steps

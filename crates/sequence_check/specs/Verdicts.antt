@@ -37,12 +37,14 @@ pub record AreDone (t : Times) (interval reach : ℕ) (cert : SeqCert) (units : 
 abbrev pub TrailFails : Times → ℕ → ℕ → SeqCert → ℕ → ℕ → SeqFrameFault → Type 0
 TrailFails t interval reach cert steps j why =
     ((IsAllowed cert.lower cert.upper cert.frames → ⊥) × (j ≡ 0) × (why ≡ fault.Allowed))
-    ⊎ (IsAllowed cert.lower cert.upper cert.frames × IsFrameRefused t interval reach cert.entries cert.frames steps j why)
+    ⊎ (IsAllowed cert.lower cert.upper cert.frames × IsFrameRefused t interval reach cert.entries cert.frames steps j
+    why)
 
 -- the first check that fails, where the steps walked up to it are at most `steps`
 abbrev pub FailsFirst : Times → ℕ → ℕ → SeqCert → ℕ → SeqPlace → Type 0
 FailsFirst t interval reach cert steps (place.Models said) = (said ≡ cert.models) × (cert.models ≡ length t.demands → ⊥)
-FailsFirst t interval reach cert steps (place.Stations said) = (cert.models ≡ length t.demands) × (said ≡ cert.stations) × (cert.stations ≡ t.stations → ⊥)
+FailsFirst t interval reach cert steps (place.Stations said) = (cert.models ≡ length t.demands) × (said ≡ cert.stations)
+    × (cert.stations ≡ t.stations → ⊥)
 FailsFirst t interval reach cert steps place.Sequence = IsOfLine t cert × (IsSequenceOf t.demands cert.sequence → ⊥)
 FailsFirst t interval reach cert steps (place.Total total) =
     IsOfLine t cert × IsSequenceOf t.demands cert.sequence
@@ -53,25 +55,29 @@ FailsFirst t interval reach cert steps place.Goal =
     IsShown t interval reach cert × IsDerived t interval reach cert.entries × (units_of cert.entries ≤ steps)
     × (0 < cert.lower) × (HasAnswer cert.entries t.demands (root_starts t) cert.lower → ⊥)
 FailsFirst t interval reach cert steps (place.Frame frame why) =
-    (units : ℕ) × (IsShown t interval reach cert × AreDone t interval reach cert units × (units ≤ steps) × TrailFails t interval reach cert (steps - units) frame why)
+    (units : ℕ) × (IsShown t interval reach cert × AreDone t interval reach cert units × (units ≤ steps)
+    × TrailFails t interval reach cert (steps - units) frame why)
 
 -- some step of an entry or of a frame is walked as one more than `steps`, and every check up to it held
 abbrev pub EndsEarly : Times → ℕ → ℕ → SeqCert → ℕ → Type 0
 EndsEarly t interval reach cert steps =
     AreStepsEnded t interval reach cert.entries steps
     ⊎ ((units : ℕ) × (AreDone t interval reach cert units × (units ≤ steps)
-    × IsAllowed cert.lower cert.upper cert.frames × AreFramesEnded t interval reach cert.entries cert.frames (steps - units)))
+    × IsAllowed cert.lower cert.upper cert.frames × AreFramesEnded t interval reach cert.entries cert.frames
+    (steps - units)))
 
--- What is found of a certificate: Accepted where it is accepted and its units are at most `steps`, Refused at the first check
--- that fails, and StepsEnded where more steps had to be walked.
+-- What is found of a certificate: Accepted where it is accepted and its units are at most `steps`, Refused at the first
+-- check that fails, and StepsEnded where more steps had to be walked.
 abbrev pub IsVerdict : Times → ℕ → ℕ → SeqCert → ℕ → SeqVerified → Type 0
 IsVerdict t interval reach cert steps (verified.Accepted lower upper units) =
-    (lower ≡ cert.lower) × (upper ≡ cert.upper) × IsAccepted t interval reach cert × (units ≡ units_whole cert) × (units ≤ steps)
+    (lower ≡ cert.lower) × (upper ≡ cert.upper) × IsAccepted t interval reach cert × (units ≡ units_whole cert)
+    × (units ≤ steps)
 IsVerdict t interval reach cert steps (verified.Refused place) = FailsFirst t interval reach cert steps place
-IsVerdict t interval reach cert steps (verified.StepsEnded s) = (s ≡ steps) × IsShown t interval reach cert × EndsEarly t interval reach cert steps
+IsVerdict t interval reach cert steps (verified.StepsEnded s) = (s ≡ steps) × IsShown t interval reach cert
+    × EndsEarly t interval reach cert steps
 
--- What is accepted is true: the sequence is one of the demands that costs the upper bound, and none costs less than the lower
--- one.
+-- What is accepted is true: the sequence is one of the demands that costs the upper bound, and none costs less than the
+-- lower one.
 abbrev pub IsTrueOf : Times → ℕ → ℕ → SeqCert → SeqVerified → Type 0
 IsTrueOf t interval reach cert (verified.Accepted lower upper units) = IsProved t interval reach cert
 IsTrueOf t interval reach cert (verified.Refused place) = Unit {0}
@@ -81,4 +87,5 @@ IsTrueOf t interval reach cert (verified.StepsEnded s) = Unit {0}
 abbrev pub IsRejectedSo : Times → ℕ → ℕ → SeqCert → ℕ → SeqVerified → Type 0
 IsRejectedSo t interval reach cert steps (verified.Accepted lower upper units) = Unit {0}
 IsRejectedSo t interval reach cert steps (verified.Refused place) = IsAccepted t interval reach cert → ⊥
-IsRejectedSo t interval reach cert steps (verified.StepsEnded s) = IsAccepted t interval reach cert → steps < units_whole cert
+IsRejectedSo t interval reach cert steps (verified.StepsEnded s) = IsAccepted t interval reach cert
+    → steps < units_whole cert

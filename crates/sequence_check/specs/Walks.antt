@@ -1,5 +1,6 @@
 -- What a walk over the steps of a state finds, which takes a cite for each step that needs one.
-use Rattle.std.specs.Prelude.{◌≡◌, ℕ, suc, ◌+◌, ◌-◌, ◌<◌, ◌≤◌, ◌⊎◌, true, false, List, length, slice_get, Some, sum, All}
+use Rattle.std.specs.Prelude.{◌≡◌, ℕ, suc, ◌+◌, ◌-◌, ◌<◌, ◌≤◌, ◌⊎◌, true, false, List, length, slice_get, Some, sum}
+use Rattle.std.specs.Prelude.{All}
 use Rattle.sequence_rules.specs.States.{step_cost, next_starts, less_one}
 use Rattle.sequence_rules.specs.Entries.{IsCited, is_left, needs_cite, passing, models_left}
 use Rattle.sequence_rules.specs.Ranges.{AreTimes}
@@ -33,7 +34,8 @@ pub record IsPosed (t : Times) (interval reach : ℕ) (rem starts : List ℕ) : 
 module _ (t : Times) (interval reach : ℕ) (es : List SeqEntry) (rem starts : List ℕ) (need : ℕ) (cites : List ℕ) where
   -- the entry of this number answers the state after the step by a model, and what the step leaves of the need
   abbrev pub AnswersStep : ℕ → ℕ → Type 0
-  AnswersStep model cite = IsCited es cite (less_one rem model) (next_starts t interval reach model starts) (need - step_cost t reach model starts)
+  AnswersStep model cite = IsCited es cite (less_one rem model) (next_starts t interval reach model starts)
+      (need - step_cost t reach model starts)
 
   -- how many steps below n need a cite
   abbrev pub needed : ℕ → ℕ
@@ -42,7 +44,8 @@ module _ (t : Times) (interval reach : ℕ) (es : List SeqEntry) (rem starts : L
   -- the first cites cover the steps below n that need one
   pub record CoversBelow (n : ℕ) : Type 0 where
     pub enough : needed n ≤ length cites
-    pub cited : (p model cite : ℕ) → slice_get (passing (needs_cite t interval reach rem starts need) n) p ≡ Some model → slice_get cites p ≡ Some cite → AnswersStep model cite
+    pub cited : (p model cite : ℕ) → slice_get (passing (needs_cite t interval reach rem starts need) n) p ≡ Some model
+        → slice_get cites p ≡ Some cite → AnswersStep model cite
 
   -- the step by this model is the first that needs a cite and has none left, or isn't answered by it
   pub record IsUncovered (model : ℕ) : Type 0 where
@@ -67,10 +70,13 @@ module _ (t : Times) (interval reach : ℕ) (es : List SeqEntry) (rem starts : L
   abbrev pub Takes : ℕ → ℕ → ℕ → Type 0
   Takes model taken more =
       ((needs_cite t interval reach rem starts need model ≡ false) × (more ≡ taken))
-      ⊎ ((needs_cite t interval reach rem starts need model ≡ true) × (more ≡ taken + 1) × (cite : ℕ) × ((slice_get cites taken ≡ Some cite) × AnswersStep model cite))
+      ⊎ ((needs_cite t interval reach rem starts need model ≡ true) × (more ≡ taken + 1) × (cite : ℕ)
+      × ((slice_get cites taken ≡ Some cite) × AnswersStep model cite))
 
   -- what is found of the steps below n, and how many steps are walked
   abbrev pub Tells : ℕ → ℕ → Walked → Type 0
-  Tells n steps (walked.Through units taken) = CoversBelow n × (taken ≡ needed n) × (units ≡ models_left rem n) × (units ≤ steps)
-  Tells n steps (walked.Uncovered model units) = (model < n) × IsUncovered model × (units ≡ models_left rem (suc model)) × (units ≤ steps)
+  Tells n steps (walked.Through units taken) = CoversBelow n × (taken ≡ needed n) × (units ≡ models_left rem n)
+      × (units ≤ steps)
+  Tells n steps (walked.Uncovered model units) = (model < n) × IsUncovered model × (units ≡ models_left rem (suc model))
+      × (units ≤ steps)
   Tells n steps walked.StepsEnded = IsPast n steps

@@ -13,8 +13,8 @@ use sequence_rules::{
     MAX_STATIONS, SeqCert, SeqEntries, SeqFrames, Times, answers, is_sequence_of, sequence_cost,
 };
 
-/// The first thing that is wrong with the sequence of a certificate, if it isn't one of the demands that costs the upper
-/// bound.
+/// The first thing that is wrong with the sequence of a certificate, if it isn't one of the demands that costs the
+/// upper bound.
 fn sequence_fault(times: &Times, interval: u64, reach: u64, cert: &SeqCert) -> Option<SeqPlace>
     requires times { AreTimes times.now }
     requires reach { IsPlace reach }
@@ -123,13 +123,14 @@ fn judge(times: &Times, interval: u64, reach: u64, cert: &SeqCert, steps: u64) -
     }
 }
 
-/// Checks a certificate: that its sequence is one of the demands that costs the upper bound, that each entry follows from
-/// those before it, that an entry shows the lower bound, and that the frames of a search that stopped are a valid trail.
+/// Checks a certificate: that its sequence is one of the demands that costs the upper bound, that each entry follows
+/// from those before it, that an entry shows the lower bound, and that the frames of a search that stopped are a valid
+/// trail.
 ///
 /// `interval` is the launch interval and `reach` the length of each station, in the mix's time unit, 1 to 10^9. At most
-/// `steps` steps are walked. Whatever is accepted is true: the sequence has this utility work, and no sequence of the demands
-/// has less than the lower bound. Takes no memory, and time proportional to the steps times stations times models, besides
-/// one pass over the entries and one over the sequence for each station and each model.
+/// `steps` steps are walked. Whatever is accepted is true: the sequence has this utility work, and no sequence of the
+/// demands has less than the lower bound. Takes no memory, and time proportional to the steps times stations times
+/// models, besides one pass over the entries and one over the sequence for each station and each model.
 pub fn verify_seq(
     times: &Times,
     interval: u64,

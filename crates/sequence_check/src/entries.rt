@@ -123,7 +123,8 @@ pub(crate) fn check_entries(
     entries: &SeqEntries,
     steps: u64,
 ) -> EntriesFound
-    requires posed { (k : ℕ) (e : Step) → slice_get entries.now k ≡ Some e → IsPosed times.now interval reach e.rem e.starts }
+    requires posed { (k : ℕ) (e : Step) → slice_get entries.now k ≡ Some e
+        → IsPosed times.now interval reach e.rem e.starts }
     ensures { AreFound times.now interval reach entries.now steps result }
 {
     let mut units: u64 = 0;

@@ -206,8 +206,8 @@ fn check_frame(
     )
 }
 
-/// Checks the frames of a trail in order, up to the first that isn't what it should be. Which need the first frame may have
-/// isn't tested. At most `steps` steps are walked.
+/// Checks the frames of a trail in order, up to the first that isn't what it should be. Which need the first frame may
+/// have isn't tested. At most `steps` steps are walked.
 pub(crate) fn check_frames(
     times: &Times,
     interval: u64,

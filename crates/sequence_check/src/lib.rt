@@ -1,8 +1,8 @@
 //! An independent check of certificates of sequences of least utility work.
 //!
-//! The sequence is tested first, then each entry in order, then that an entry shows the lower bound, and then the frames of
-//! a search that stopped. Each step that is walked is counted, and its bound takes time proportional to stations times
-//! models. No call takes memory.
+//! The sequence is tested first, then each entry in order, then that an entry shows the lower bound, and then the
+//! frames of a search that stopped. Each step that is walked is counted, and its bound takes time proportional to
+//! stations times models. No call takes memory.
 #![tactic(auto)]
 
 mod checking;

@@ -26,8 +26,8 @@ pub enum SeqFrameFault {
     Last,
     /// The first cite that isn't of an entry of the list.
     Cite(u64),
-    /// The model of the first step, of those that are matched, that needs a cite and has none left, or isn't answered by
-    /// it.
+    /// The model of the first step, of those that are matched, that needs a cite and has none left, or isn't answered
+    /// by it.
     Uncovered(u32),
     /// Cites are left when all steps are covered.
     Spare,

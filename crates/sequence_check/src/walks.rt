@@ -1,5 +1,6 @@
 //! The walk over the steps of a state, which takes a cite for each step that needs one.
-ghost use Rattle.std.specs.Prelude.{◌≡◌, ◌-◌, ◌<◌, ◌≤◌, length, take, slice_index, slice_get, Some, true, false, IsNone, IfSome, ℕ};
+ghost use Rattle.std.specs.Prelude.{◌≡◌, ◌-◌, ◌<◌, ◌≤◌, length, take, slice_index, slice_get, Some, true, false};
+ghost use Rattle.std.specs.Prelude.{IsNone, IfSome, ℕ};
 ghost use Rattle.sequence_rules.specs.States.{step_cost, next_starts, less_one};
 ghost use Rattle.sequence_rules.specs.Entries.{needs_cite};
 ghost use Rattle.sequence_check.specs.Walks.{IsFirstLate, AreBelow, IsPosed, AnswersStep, Takes, Tells};
@@ -59,8 +60,8 @@ fn open_need(
     Some(rest)
 }
 
-/// How many cites are taken with the step by a model, of which `taken` are taken before it; the entries below `k` may be
-/// cited. None where the step needs a cite and none is left, or where its cite doesn't answer it.
+/// How many cites are taken with the step by a model, of which `taken` are taken before it; the entries below `k` may
+/// be cited. None where the step needs a cite and none is left, or where its cite doesn't answer it.
 fn taken_with(
     times: &Times,
     interval: u64,
@@ -83,7 +84,8 @@ fn taken_with(
     ensures open { IsNone result → needs_cite times.now interval reach rem.now starts.now need model ≡ true }
     ensures lacking { IsNone result → (cite : ℕ) → slice_get cites.now taken ≡ Some cite
         → AnswersStep times.now interval reach (take k entries.now) rem.now starts.now need cites.now model cite → ⊥ }
-    ensures some { IfSome result (Takes times.now interval reach (take k entries.now) rem.now starts.now need cites.now model taken) }
+    ensures some { IfSome result (Takes times.now interval reach (take k entries.now) rem.now starts.now need cites.now
+        model taken) }
 {
     let mut lefts = [0; MAX_MODELS];
     let mut nexts = [0; MAX_STATIONS];

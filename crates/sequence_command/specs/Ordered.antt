@@ -95,8 +95,8 @@ abbrev pub HasCertificate : Option (List ℕ) → Files → Kept → Type 0
 HasCertificate None after kept = Unit {0}
 HasCertificate (Some name) after kept = (cert : SeqCert) → kept ≡ Sequence cert → after name ≡ Some (sequence_text cert)
 
--- The promise of `sequence` with status 0 or 1, for the mix and the balance that the files say: what is printed is shown
--- by a certificate, which is kept, and written where the words name a file.
+-- The promise of `sequence` with status 0 or 1, for the mix and the balance that the files say: what is printed is
+-- shown by a certificate, which is kept, and written where the words name a file.
 pub record IsSequencePromised (files after : Files) (mix_name cert_name : List ℕ) (interval reach units : ℕ)
     (name : Option (List ℕ)) (status : Status) (text : List ℕ) (kept : Kept) : Type 0 where
   pub mix : MixedLine

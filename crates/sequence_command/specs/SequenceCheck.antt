@@ -33,8 +33,8 @@ pub record IsUnproved (o : Outside) (names : Names) (interval : ℕ) (out : Outc
   pub timed : IsTimed o.files names.mix names.cert interval mix times
   pub unread : IsNoSeqCert o names.seq out
 
--- What `sequence-check` comes to: a verdict, or why the files say no table, or no certificate. A later file is named only
--- where the earlier ones were read.
+-- What `sequence-check` comes to: a verdict, or why the files say no table, or no certificate. A later file is named
+-- only where the earlier ones were read.
 abbrev pub IsSequenceCheckOutcome : Outside → List ℕ → List ℕ → List ℕ → ℕ → ℕ → ℕ → Outcome → Type 0
 IsSequenceCheckOutcome o mix cert seq interval reach steps out =
     let names : Names = record { mix = mix; cert = cert; seq = seq } in
@@ -42,8 +42,8 @@ IsSequenceCheckOutcome o mix cert seq interval reach steps out =
     ⊎ IsUnproved o names interval out
 
 -- The promise of `sequence-check` with status 0: the certificate of the third file is accepted for the mix and the
--- balance that the other files say, and what it claims is true: its sequence has each model as often as it is wanted, its
--- utility work is the upper bound, and no such sequence has less than the lower bound.
+-- balance that the other files say, and what it claims is true: its sequence has each model as often as it is wanted,
+-- its utility work is the upper bound, and no such sequence has less than the lower bound.
 pub record IsProvedSequence (files : Files) (mix_name cert_name seq_name : List ℕ) (interval reach steps : ℕ)
     : Type 0 where
   pub mix : MixedLine

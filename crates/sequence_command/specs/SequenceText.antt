@@ -15,7 +15,8 @@ sequence_line mix units = codes "sequence:" ++ names_text mix.models units ++ co
 
 -- the report of an optimum: the least utility work, and the sequence
 abbrev pub optimal_text : MixedLine → SeqCert → List ℕ
-optimal_text mix cert = (codes "optimal utility " ++ decimal cert.upper ++ codes "\n") ++ sequence_line mix cert.sequence
+optimal_text mix cert = (codes "optimal utility " ++ decimal cert.upper ++ codes "\n")
+    ++ sequence_line mix cert.sequence
 
 -- the report of a search that used its units: its bounds, and the best sequence
 abbrev pub stopped_text : MixedLine → SeqCert → List ℕ

@@ -1,8 +1,9 @@
-//! The line that is printed of the check of a certificate of a sequence: what is accepted, or the first check that fails
-//! with its values.
+//! The line that is printed of the check of a certificate of a sequence: what is accepted, or the first check that
+//! fails with its values.
 ghost use Rattle.std.specs.Prelude.{◌≡◌, ◌++◌, ◌+◌, IfOk, OnOk, string_bytes, decimal};
 ghost use Rattle.command_outcome.specs.declared.report.Kept.TheVariants.{Nothing};
-ghost use Rattle.sequence_command.specs.VerdictText.{accepted_text, entry_fault_text, found_text, frame_fault_text, place_text, verdict_status, verdict_text};
+ghost use Rattle.sequence_command.specs.VerdictText.{accepted_text, entry_fault_text, found_text, frame_fault_text};
+ghost use Rattle.sequence_command.specs.VerdictText.{place_text, verdict_status, verdict_text};
 
 use command_outcome::{Report, Status, push_one};
 use sequence_check::{SeqEntryFault, SeqFrameFault, SeqPlace, SeqVerified};

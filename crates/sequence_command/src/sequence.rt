@@ -3,7 +3,8 @@
 //! What the search found becomes a report with the certificate, which is kept, and written where the words name a file.
 //! The report and the text of the certificate are made before the file, so that a run without memory for them writes
 //! none.
-ghost use Rattle.std.specs.Prelude.{◌≡◌, ◌≤◌, ℕ, List, [], length, string_bytes, Some, Err, IfOk, MatchResult, option_map};
+ghost use Rattle.std.specs.Prelude.{◌≡◌, ◌≤◌, ℕ, List, [], length, string_bytes, Some, Err, IfOk, MatchResult};
+ghost use Rattle.std.specs.Prelude.{option_map};
 ghost use Rattle.line_io.specs.Outside.{Rises};
 ghost use Rattle.line_words.specs.Ranges.{IsBetween};
 ghost use Rattle.sequence_rules.specs.Ranges.{AreTimes, IsInRange};
@@ -12,7 +13,8 @@ ghost use Rattle.sequence_search.specs.Outcomes.{AreBounds, IsSolved, IsStopped}
 ghost use Rattle.command_outcome.specs.Outcome.{Files, Ends, MayEnd, Stay, Stops, MayStop, outside, outcome_of};
 ghost use Rattle.command_outcome.specs.declared.report.Kept.TheVariants.{Sequence as Certified};
 ghost use Rattle.command_outcome.specs.declared.report.Stop.TheVariants.{Unwritten};
-ghost use Rattle.sequence_command.specs.Ordered.{HasCertificate, IsAnswerStatus, IsCutShort, IsFound, IsSequenceOutcome, IsSequencePromised, page_of};
+ghost use Rattle.sequence_command.specs.Ordered.{HasCertificate, IsAnswerStatus, IsCutShort, IsFound};
+ghost use Rattle.sequence_command.specs.Ordered.{IsSequenceOutcome, IsSequencePromised, page_of};
 
 use crate::print_sequence::{optimal_text, stopped_text};
 use crate::timed_mix::{TimedMix, timed_of};

@@ -52,8 +52,8 @@ fn times_of(alloc: Global, file: &str, balanced: Balanced) -> Result<TimedMix, S
     Ok(TimedMix { mix, times })
 }
 
-/// The mix of one file, with the works that it brings to the stations of the balance of the other, for a launch interval
-/// in the mix's time unit.
+/// The mix of one file, with the works that it brings to the stations of the balance of the other, for a launch
+/// interval in the mix's time unit.
 pub(crate) fn timed_of<S: Shelf>(
     alloc: Global,
     mix: &str,

@@ -14,8 +14,8 @@ units_whole cert = units_of cert.entries + units_in cert.frames
 abbrev pub IsShownLower : Times → SeqCert → Type 0
 IsShownLower t cert = 0 < cert.lower → HasAnswer cert.entries t.demands (root_starts t) cert.lower
 
--- The certificate is accepted: it is of these models and stations, its sequence has each model as often as it is wanted and
--- costs the upper bound, its entries are derived and show the lower bound, and its frames are a valid trail.
+-- The certificate is accepted: it is of these models and stations, its sequence has each model as often as it is wanted
+-- and costs the upper bound, its entries are derived and show the lower bound, and its frames are a valid trail.
 pub record IsAccepted (t : Times) (interval reach : ℕ) (cert : SeqCert) : Type 0 where
   pub models : cert.models ≡ length t.demands
   pub stations : cert.stations ≡ t.stations

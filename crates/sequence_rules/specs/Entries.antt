@@ -1,6 +1,7 @@
 -- When an entry, which says that every sequence from a state costs at least so much, follows from earlier entries;
 -- derived and fresh lists of entries; and the units of an entry.
-use Rattle.std.specs.Prelude.{◌≡◌, ℕ, zero, suc, ◌-◌, ◌<◌, ◌≤◌, ◌&&◌, Bool, nat_lt, cond, List, [], ◌∷◌, ◌++◌, length, take, slice_get, slice_index_or, Some, sum, sum_by}
+use Rattle.std.specs.Prelude.{◌≡◌, ℕ, zero, suc, ◌-◌, ◌<◌, ◌≤◌, ◌&&◌, Bool, nat_lt, cond, List, [], ◌∷◌, ◌++◌, length}
+use Rattle.std.specs.Prelude.{take, slice_get, slice_index_or, Some, sum, sum_by}
 use Rattle.std.specs.List.{AllZip}
 use Rattle.sequence_rules.specs.States.{step_cost, next_starts, less_one, state_bound}
 use Rattle.sequence_rules.specs.declared.types.Times.{Times}
@@ -31,7 +32,8 @@ abbrev pub needs_cite : Times → ℕ → ℕ → List ℕ → List ℕ → ℕ 
 needs_cite t interval reach rem starts need model =
     is_left rem model
     && (nat_lt (step_cost t reach model starts) need
-    && nat_lt (state_bound t interval reach (less_one rem model) (next_starts t interval reach model starts)) (need - step_cost t reach model starts))
+    && nat_lt (state_bound t interval reach (less_one rem model) (next_starts t interval reach model starts))
+    (need - step_cost t reach model starts))
 
 -- the numbers below n that pass a test, in order
 abbrev pub passing : (ℕ → Bool) → ℕ → List ℕ
@@ -40,14 +42,18 @@ passing test (suc n) = passing test n ++ cond (test n) (n ∷ []) []
 
 -- The models below n whose step needs a cite are as many as the cites, and each of them goes, in order, with a cite of
 -- an entry that answers its next state and what is left of the need.
-pub record Covers (t : Times) (interval reach : ℕ) (es : List SeqEntry) (rem starts : List ℕ) (need n : ℕ) (cites : List ℕ) : Type 0 where
+pub record Covers (t : Times) (interval reach : ℕ) (es : List SeqEntry) (rem starts : List ℕ) (need n : ℕ)
+    (cites : List ℕ) : Type 0 where
   pub as_many : length cites ≡ length (passing (needs_cite t interval reach rem starts need) n)
   pub cited : (p model cite : ℕ)
-      → slice_get (passing (needs_cite t interval reach rem starts need) n) p ≡ Some model → slice_get cites p ≡ Some cite
-      → IsCited es cite (less_one rem model) (next_starts t interval reach model starts) (need - step_cost t reach model starts)
+      → slice_get (passing (needs_cite t interval reach rem starts need) n) p ≡ Some model
+      → slice_get cites p ≡ Some cite
+      → IsCited es cite (less_one rem model) (next_starts t interval reach model starts)
+      (need - step_cost t reach model starts)
 
 -- Branch: a unit is left, and each step that needs a cite goes with one of an earlier entry
-pub record FollowsByBranch (t : Times) (interval reach : ℕ) (earlier : List SeqEntry) (e : SeqEntry) (cites : List ℕ) : Type 0 where
+pub record FollowsByBranch (t : Times) (interval reach : ℕ) (earlier : List SeqEntry) (e : SeqEntry)
+    (cites : List ℕ) : Type 0 where
   pub some : 0 < sum e.rem
   pub covers : Covers t interval reach earlier e.rem e.starts e.least (length e.rem) cites
 
@@ -62,11 +68,13 @@ Follows t interval reach earlier e = FollowsBy t interval reach earlier e e.why
 
 -- a derived list: each entry follows from those before it
 abbrev pub IsDerived : Times → ℕ → ℕ → List SeqEntry → Type 0
-IsDerived t interval reach es = (k : ℕ) (e : SeqEntry) → slice_get es k ≡ Some e → Follows t interval reach (take k es) e
+IsDerived t interval reach es = (k : ℕ) (e : SeqEntry) → slice_get es k ≡ Some e
+    → Follows t interval reach (take k es) e
 
 -- a fresh list: no entry's own state and value are answered by an earlier entry
 abbrev pub IsFresh : List SeqEntry → Type 0
-IsFresh es = (j k : ℕ) (a b : SeqEntry) → j < k → slice_get es j ≡ Some a → slice_get es k ≡ Some b → Answers a b.rem b.starts b.least → ⊥
+IsFresh es = (j k : ℕ) (a b : SeqEntry) → j < k → slice_get es j ≡ Some a → slice_get es k ≡ Some b
+    → Answers a b.rem b.starts b.least → ⊥
 
 -- an entry of the list answers a state and a need
 abbrev pub HasAnswer : List SeqEntry → List ℕ → List ℕ → ℕ → Type 0

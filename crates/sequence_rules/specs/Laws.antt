@@ -12,11 +12,13 @@ use Rattle.sequence_rules.specs.declared.types.SeqCert.{SeqCert}
 abbrev pub EveryCostIsOfSteps : Type 0
 EveryCostIsOfSteps =
     (t : Times) (interval reach : ℕ) (starts : List ℕ) (model : ℕ) (units : List ℕ)
-    → cost t interval reach starts (model ∷ units) ≡ step_cost t reach model starts + cost t interval reach (next_starts t interval reach model starts) units
+    → cost t interval reach starts (model ∷ units) ≡ step_cost t reach model starts + cost t interval reach
+    (next_starts t interval reach model starts) units
 
 -- every sequence from a state costs at least the bound of the state
 abbrev pub EveryBoundHolds : Type 0
-EveryBoundHolds = (t : Times) (interval reach : ℕ) (rem starts : List ℕ) → Holds t interval reach rem starts (state_bound t interval reach rem starts)
+EveryBoundHolds = (t : Times) (interval reach : ℕ) (rem starts : List ℕ)
+    → Holds t interval reach rem starts (state_bound t interval reach rem starts)
 
 -- from later starts no sequence costs less
 abbrev pub LaterStartsCostNoLess : Type 0
@@ -30,12 +32,13 @@ EveryEntryHolds =
     (t : Times) (interval reach : ℕ) (es : List SeqEntry) → IsDerived t interval reach es
     → (k : ℕ) (e : SeqEntry) → slice_get es k ≡ Some e → Holds t interval reach e.rem e.starts e.least
 
--- What an accepted certificate proves: its sequence is one of the demands that costs the upper bound, and none of them costs
--- less than the lower bound.
+-- What an accepted certificate proves: its sequence is one of the demands that costs the upper bound, and none of them
+-- costs less than the lower bound.
 pub record IsProved (t : Times) (interval reach : ℕ) (cert : SeqCert) : Type 0 where
   pub sequence : IsSequenceOf t.demands cert.sequence
   pub total : cost t interval reach (root_starts t) cert.sequence ≡ cert.upper
   pub least : Holds t interval reach t.demands (root_starts t) cert.lower
 
 abbrev pub EveryAcceptedBoundIsTrue : Type 0
-EveryAcceptedBoundIsTrue = (t : Times) (interval reach : ℕ) (cert : SeqCert) → IsAccepted t interval reach cert → IsProved t interval reach cert
+EveryAcceptedBoundIsTrue = (t : Times) (interval reach : ℕ) (cert : SeqCert) → IsAccepted t interval reach cert
+    → IsProved t interval reach cert

@@ -59,8 +59,8 @@ pub record IsFrame (models stations : ℕ) (f : SeqFrame) : Type 0 where
   pub last : IsLast models f.last
   pub cites : All IsNumber f.cites
 
--- A certificate within the ranges of its text: 1 to 16 models, 1 to 64 stations, 1 to 1,000 units, at most 2,000,000 entries
--- and 1,001 frames. Nothing is said of what follows from what.
+-- A certificate within the ranges of its text: 1 to 16 models, 1 to 64 stations, 1 to 1,000 units, at most 2,000,000
+-- entries and 1,001 frames. Nothing is said of what follows from what.
 pub record IsInRange (cert : SeqCert) : Type 0 where
   pub modeled : 1 ≤ cert.models
   pub models : cert.models ≤ 16

@@ -1,7 +1,8 @@
 -- The states that a sequence of units passes through (Scholl): a state is how many units of each model are left, and
 -- where the next unit is begun at each station. A step launches a unit of one model, and its cost is the utility work
 -- of that unit. Models and stations are counted from 0, `reach` is the length of each station, and `-` stops at 0.
-use Rattle.std.specs.Prelude.{◌≡◌, ℕ, suc, ◌+◌, ◌-◌, ◌*◌, ◌≤◌, nat_eq, cond, List, [], ◌∷◌, slice_index_or, slice_set, replicate, sum, count_by}
+use Rattle.std.specs.Prelude.{◌≡◌, ℕ, suc, ◌+◌, ◌-◌, ◌*◌, ◌≤◌, nat_eq, cond, List, [], ◌∷◌, slice_index_or, slice_set}
+use Rattle.std.specs.Prelude.{replicate, sum, count_by}
 use Rattle.utility_work.specs.Utility.{utility_of, next_start, utility_from}
 use Rattle.sequence_rules.specs.declared.types.Times.{Times}
 
@@ -25,7 +26,8 @@ step_cost t reach model starts = sum_over (λ k s. utility_of s (unit_work t mod
 
 -- where the unit after it is begun
 abbrev pub next_starts : Times → ℕ → ℕ → ℕ → List ℕ → List ℕ
-next_starts t interval reach model starts = value_at_each (λ k s. next_start s (unit_work t model k) reach interval) starts
+next_starts t interval reach model starts = value_at_each (λ k s. next_start s (unit_work t model k) reach interval)
+    starts
 
 -- what is left when a unit of a model is launched
 abbrev pub less_one : List ℕ → ℕ → List ℕ
@@ -51,7 +53,8 @@ cost t interval reach starts units = sum_over (λ k s. utility_from reach interv
 
 -- every sequence of what is left, from these starts on, costs at least so much
 abbrev pub Holds : Times → ℕ → ℕ → List ℕ → List ℕ → ℕ → Type 0
-Holds t interval reach rem starts least = (units : List ℕ) → IsSequenceOf rem units → least ≤ cost t interval reach starts units
+Holds t interval reach rem starts least = (units : List ℕ) → IsSequenceOf rem units
+    → least ≤ cost t interval reach starts units
 
 -- the first unit is begun at the beginning of each station
 abbrev pub root_starts : Times → List ℕ

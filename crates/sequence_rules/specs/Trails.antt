@@ -1,5 +1,6 @@
 -- The open frames of a search that stopped: valid trails, trails that are open over a list of entries, and their units.
-use Rattle.std.specs.Prelude.{◌≡◌, ℕ, zero, suc, ◌+◌, ◌<◌, ◌≤◌, Bool, true, false, nat_eq, List, length, slice_get, Option, Some, None, sum_by}
+use Rattle.std.specs.Prelude.{◌≡◌, ℕ, zero, suc, ◌+◌, ◌<◌, ◌≤◌, Bool, true, false, nat_eq, List, length, slice_get}
+use Rattle.std.specs.Prelude.{Option, Some, None, sum_by}
 use Rattle.sequence_rules.specs.States.{step_cost, next_starts, less_one, root_starts}
 use Rattle.sequence_rules.specs.Entries.{Answers, Covers, is_left, models_left}
 use Rattle.sequence_rules.specs.declared.types.Times.{Times}
@@ -22,7 +23,8 @@ pub record IsLeftBy (t : Times) (interval reach : ℕ) (above f : SeqFrame) : Ty
 -- the first frame has the root, and each further one what the frame above it leaves
 abbrev pub IsAskedAt : Times → ℕ → ℕ → List SeqFrame → ℕ → SeqFrame → Type 0
 IsAskedAt t interval reach fs zero f = IsRoot t f
-IsAskedAt t interval reach fs (suc i) f = (above : SeqFrame) × ((slice_get fs i ≡ Some above) × IsLeftBy t interval reach above f)
+IsAskedAt t interval reach fs (suc i) f = (above : SeqFrame)
+    × ((slice_get fs i ≡ Some above) × IsLeftBy t interval reach above f)
 
 -- whether the frame j is the deepest
 abbrev pub is_deepest : List SeqFrame → ℕ → Bool
@@ -46,7 +48,8 @@ matched_to true (Some model) = suc model
 matched_to false (Some model) = model
 
 -- a right frame of a trail
-pub record IsRightAt (t : Times) (interval reach : ℕ) (es : List SeqEntry) (fs : List SeqFrame) (j : ℕ) (f : SeqFrame) : Type 0 where
+pub record IsRightAt (t : Times) (interval reach : ℕ) (es : List SeqEntry) (fs : List SeqFrame) (j : ℕ)
+    (f : SeqFrame) : Type 0 where
   pub asked : IsAskedAt t interval reach fs j f
   pub last : EndsWell (is_deepest fs j) f.rem f.last
   pub covers : Covers t interval reach es f.rem f.starts f.need (matched_to (is_deepest fs j) f.last) f.cites
@@ -56,7 +59,8 @@ abbrev pub IsAllowed : ℕ → ℕ → List SeqFrame → Type 0
 IsAllowed lower upper fs = (f : SeqFrame) → slice_get fs 0 ≡ Some f → (lower < f.need) × (f.need ≤ upper)
 
 -- A valid trail over a list of entries, between a lower and an upper bound. No frame at all is one too.
-pub record IsTrail (t : Times) (interval reach : ℕ) (es : List SeqEntry) (lower upper : ℕ) (fs : List SeqFrame) : Type 0 where
+pub record IsTrail (t : Times) (interval reach : ℕ) (es : List SeqEntry) (lower upper : ℕ)
+    (fs : List SeqFrame) : Type 0 where
   pub allowed : IsAllowed lower upper fs
   pub right : (j : ℕ) (f : SeqFrame) → slice_get fs j ≡ Some f → IsRightAt t interval reach es fs j f
 
@@ -67,7 +71,8 @@ IsUnanswered es f = (k : ℕ) (e : SeqEntry) → slice_get es k ≡ Some e → A
 -- The trail is open over the entries: no entry answers a frame, and the deepest frame has a further step.
 pub record IsOpenOver (es : List SeqEntry) (fs : List SeqFrame) : Type 0 where
   pub unanswered : (k : ℕ) (f : SeqFrame) → slice_get fs k ≡ Some f → IsUnanswered es f
-  pub further : (k : ℕ) (f : SeqFrame) → slice_get fs k ≡ Some f → length fs ≡ suc k → (model : ℕ) × ((up_to f.last ≤ model) × (is_left f.rem model ≡ true))
+  pub further : (k : ℕ) (f : SeqFrame) → slice_get fs k ≡ Some f → length fs ≡ suc k
+      → (model : ℕ) × ((up_to f.last ≤ model) × (is_left f.rem model ≡ true))
 
 -- the units of a frame: one for each model up to its last of which a unit is left
 abbrev pub frame_units : SeqFrame → ℕ

@@ -27,8 +27,8 @@ pub fn is_no_later(starts: &[u64], other: &[u64]) -> bool
     true
 }
 
-/// Whether an entry answers a state and a need: whether it has the same units left, starts that are no later at any station, and
-/// a value of at least the need.
+/// Whether an entry answers a state and a need: whether it has the same units left, starts that are no later at any
+/// station, and a value of at least the need.
 pub fn answers(entry: &SeqEntry, rem: &[u64], starts: &[u64], need: u64) -> bool
     ensures { IsTrue result ↔ Answers entry.now rem.now starts.now need }
 {

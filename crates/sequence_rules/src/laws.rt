@@ -1,5 +1,6 @@
 //! What is true of all works, intervals and lengths, for the crates above to cite.
-ghost use Rattle.sequence_rules.specs.Laws.{EveryCostIsOfSteps, EveryBoundHolds, LaterStartsCostNoLess, EveryEntryHolds, EveryAcceptedBoundIsTrue};
+ghost use Rattle.sequence_rules.specs.Laws.{EveryCostIsOfSteps, EveryBoundHolds, LaterStartsCostNoLess};
+ghost use Rattle.sequence_rules.specs.Laws.{EveryEntryHolds, EveryAcceptedBoundIsTrue};
 
 /// A sequence costs what its first step costs, and what the rest costs from the next starts on.
 pub fn every_cost_is_of_steps()
@@ -21,8 +22,8 @@ pub fn every_entry_holds()
     ensures { EveryEntryHolds }
 {}
 
-/// Where a certificate is accepted, its sequence is one of the demands that costs the upper bound, and no sequence of the
-/// demands costs less than the lower bound.
+/// Where a certificate is accepted, its sequence is one of the demands that costs the upper bound, and no sequence of
+/// the demands costs less than the lower bound.
 pub fn every_accepted_bound_is_true()
     ensures { EveryAcceptedBoundIsTrue }
 {}

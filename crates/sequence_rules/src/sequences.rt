@@ -59,8 +59,8 @@ fn station_cost(times: &Times, interval: u64, reach: u64, sequence: &[u64], stat
 
 /// The cost of a sequence that begins at the root: its utility work at all stations, at most 65,536,000,000,000,000.
 ///
-/// `interval` is the launch interval and `reach` the length of each station, in the mix's time unit. Takes time proportional
-/// to stations times units.
+/// `interval` is the launch interval and `reach` the length of each station, in the mix's time unit. Takes time
+/// proportional to stations times units.
 pub fn sequence_cost(times: &Times, interval: u64, reach: u64, sequence: &[u64]) -> u64
     requires times { AreTimes times.now }
     requires reach { reach ≤ 1000000000 }

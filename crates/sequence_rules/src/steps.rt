@@ -87,8 +87,8 @@ fn work_left(times: &Times, rem: &[u64], station: usize) -> u64
 /// The bound of a state: no sequence of the units that are left, `rem` of each model, begun at `starts`, has less
 /// utility work. At most 1,048,640,000,000,000,000.
 ///
-/// `interval` is the launch interval and `reach` the length of each station, in the mix's time unit. Takes no memory, and
-/// time proportional to stations times models.
+/// `interval` is the launch interval and `reach` the length of each station, in the mix's time unit. Takes no memory,
+/// and time proportional to stations times models.
 pub fn state_bound(times: &Times, interval: u64, reach: u64, rem: &[u64], starts: &[u64]) -> u64
     requires times { AreTimes times.now }
     requires interval { interval ≤ 1000000000 }

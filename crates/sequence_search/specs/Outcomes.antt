@@ -27,8 +27,8 @@ pub record IsSolved (t : Times) (interval reach units : ℕ) (cert : SeqCert) : 
   pub closed : cert.frames ≡ []
   pub few : units_whole cert ≤ units
 
--- The units are all used and one more step is needed: the frames are open over the entries, and the bounds are apart. As
--- many as `most_units` are never all used.
+-- The units are all used and one more step is needed: the frames are open over the entries, and the bounds are apart.
+-- As many as `most_units` are never all used.
 pub record IsStopped (t : Times) (interval reach units : ℕ) (cert : SeqCert) : Type 0 where
   pub certified : IsCertified t interval reach cert
   pub apart : cert.lower < cert.upper
@@ -52,7 +52,8 @@ Orders t interval reach units (ordered.Memory lower upper) = AreBounds t interva
 Orders t interval reach units ordered.NoMemory = Unit {0}
 
 -- where a search is between two tries
-pub record IsStanding (t : Times) (interval reach lower upper : ℕ) (sequence : List ℕ) (es : List SeqEntry) : Type 0 where
+pub record IsStanding (t : Times) (interval reach lower upper : ℕ) (sequence : List ℕ)
+    (es : List SeqEntry) : Type 0 where
   pub book : IsBook t interval reach es (lower + 1)
   pub shown : 0 < lower → HasAnswer es t.demands (root_starts t) lower
   pub is : IsSequenceOf t.demands sequence
@@ -62,4 +63,12 @@ pub record IsStanding (t : Times) (interval reach lower upper : ℕ) (sequence :
 
 -- the certificate of a search that stands so
 abbrev pub cert_of : Times → ℕ → ℕ → List ℕ → List SeqEntry → List SeqFrame → SeqCert
-cert_of t lower upper sequence es fs = record { models = length t.demands; stations = t.stations; lower = lower; upper = upper; sequence = sequence; entries = es; frames = fs }
+cert_of t lower upper sequence es fs = record {
+  models = length t.demands;
+  stations = t.stations;
+  lower = lower;
+  upper = upper;
+  sequence = sequence;
+  entries = es;
+  frames = fs;
+}

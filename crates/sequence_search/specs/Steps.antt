@@ -30,13 +30,14 @@ pub record IsNextState (t : Times) (interval reach : ℕ) (f : SeqFrame) (model 
   pub starts : g.starts ≡ next_starts t interval reach model f.starts
   pub need : g.need ≡ f.need - step_cost t reach model f.starts
 
--- what the step of a frame by a model comes to: it needs no cite; or it needs one, and the last entry that answers its next state
--- gives it; or none does, and nothing is left, or the next state is asked about
+-- what the step of a frame by a model comes to: it needs no cite; or it needs one, and the last entry that answers its
+-- next state gives it; or none does, and nothing is left, or the next state is asked about
 abbrev pub StepsTo : Times → ℕ → ℕ → List SeqEntry → SeqFrame → ℕ → Stepped → Type 0
 StepsTo t interval reach es f model stepped.Passed = needs_cite t interval reach f.rem f.starts f.need model ≡ false
 StepsTo t interval reach es f model (stepped.Answered id) =
     (needs_cite t interval reach f.rem f.starts f.need model ≡ true)
-    × IsLastAnswer es (less_one f.rem model) (next_starts t interval reach model f.starts) (f.need - step_cost t reach model f.starts) id
+    × IsLastAnswer es (less_one f.rem model) (next_starts t interval reach model f.starts)
+    (f.need - step_cost t reach model f.starts) id
 StepsTo t interval reach es f model stepped.Ends =
     (needs_cite t interval reach f.rem f.starts f.need model ≡ true) × (sum (less_one f.rem model) ≡ 0)
 StepsTo t interval reach es f model (stepped.Opens g) =

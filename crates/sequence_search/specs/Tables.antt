@@ -11,6 +11,7 @@ demand_of model = model.demand
 -- a row of works for each of the first n stations: of each model, at most 1,024,000,000,000
 pub record AreRows (mix : MixedLine) (places : List Seatplace) (rows : List (List ℕ)) (n : ℕ) : Type 0 where
   pub each : length rows ≡ n
-  pub work : (s m : ℕ) → s < n → m < length mix.models → slice_index_or (slice_index_or rows s []) m 0 ≡ work_at places (s + 1) (model_at mix.models m)
+  pub work : (s m : ℕ) → s < n → m < length mix.models → slice_index_or (slice_index_or rows s []) m 0
+      ≡ work_at places (s + 1) (model_at mix.models m)
   pub limit : (s m : ℕ) → s < n → slice_index_or (slice_index_or rows s []) m 0 ≤ 1024000000000
   pub wide : (s : ℕ) → s < n → length (slice_index_or rows s []) ≡ 16

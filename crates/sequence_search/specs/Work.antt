@@ -29,14 +29,14 @@ pub record AddsFew (t : Times) (room : ℕ) (old new : List SeqEntry) : Type 0 w
   pub few : units_of new ≤ units_of old + room
   pub work : units_of new ≤ units_of old + root_work t
 
--- So many tries were made: each of them brought the bounds to half as far from one another, or nearer, and added at most
--- what the root takes.
+-- So many tries were made: each of them brought the bounds to half as far from one another, or nearer, and added at
+-- most what the root takes.
 pub record AreTried (t : Times) (lower upper : ℕ) (es : List SeqEntry) : Type 0 where
   pub tries : ℕ
   pub near : (upper - lower) * 2 ^ tries ≤ 65536000000000000
   pub work : units_of es ≤ tries * root_work t
 
--- Units that are never all used: 64 times K times M to the power of K, for M models with K units together. Fewer than 64
--- tries are made, and each takes at most K times M to the power of K steps.
+-- Units that are never all used: 64 times K times M to the power of K, for M models with K units together. Fewer than
+-- 64 tries are made, and each takes at most K times M to the power of K steps.
 abbrev pub most_units : Times → ℕ
 most_units t = 64 * sum t.demands * length t.demands ^ sum t.demands

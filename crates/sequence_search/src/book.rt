@@ -1,7 +1,7 @@
 //! The entries of a search, and an index of them by what is left of each model.
 //!
-//! A map has the last entry of each key, which is made of the units left, and a list leads from each entry to the one of its
-//! key before it. So a look goes over the entries of one key alone, from the last on. It takes no memory.
+//! A map has the last entry of each key, which is made of the units left, and a list leads from each entry to the one
+//! of its key before it. So a look goes over the entries of one key alone, from the last on. It takes no memory.
 ghost use Rattle.std.specs.Prelude.{◌≡◌, ◌<◌, ◌∷◌, ◌++◌, [], length, slice_get, Some, IsNone, IfSome, OnOk};
 ghost use Rattle.sequence_rules.specs.Entries.{HasAnswer};
 ghost use Rattle.sequence_search.specs.Index.{key_of};

@@ -1,5 +1,6 @@
 //! The frames of a try, and one step of a frame.
-ghost use Rattle.std.specs.Prelude.{◌≡◌, ℕ, ◌-◌, ◌<◌, ◌≤◌, length, slice_index, true, false, IsNone, IfSome, IfOk, replicate, sum, None, []};
+ghost use Rattle.std.specs.Prelude.{◌≡◌, ℕ, ◌-◌, ◌<◌, ◌≤◌, length, slice_index, true, false, IsNone, IfSome, IfOk};
+ghost use Rattle.std.specs.Prelude.{replicate, sum, None, []};
 ghost use Rattle.sequence_rules.specs.States.{step_cost, next_starts, less_one, state_bound, root_starts};
 ghost use Rattle.sequence_rules.specs.Entries.{is_left};
 ghost use Rattle.sequence_rules.specs.Ranges.{AreTimes, IsState};

@@ -1,5 +1,6 @@
 //! The search for a sequence of least utility work, try by try.
-ghost use Rattle.std.specs.Prelude.{◌≡◌, ℕ, ◌+◌, ◌≤◌, ◌<◌, ◌++◌, length, replicate, sum, All, IfOk, OnOk, slice_get, Some};
+ghost use Rattle.std.specs.Prelude.{◌≡◌, ℕ, ◌+◌, ◌≤◌, ◌<◌, ◌++◌, length, replicate, sum, All, IfOk, OnOk, slice_get};
+ghost use Rattle.std.specs.Prelude.{Some};
 ghost use Rattle.sequence_rules.specs.States.{IsSequenceOf, state_bound, root_starts};
 ghost use Rattle.sequence_rules.specs.Entries.{HasAnswer, units_of, entry_units, models_left};
 ghost use Rattle.sequence_rules.specs.Ranges.{AreTimes, IsPlace};
@@ -57,8 +58,10 @@ fn root_entries(
     requires times { AreTimes times.now }
     requires interval { IsPlace interval }
     requires reach { IsPlace reach }
-    requires limit { state_bound times.now interval reach times.now.demands (root_starts times.now) ≤ 65536000000000000 }
-    ensures lower { IfOk result (λ p. p.0 ≡ state_bound times.now interval reach times.now.demands (root_starts times.now)) }
+    requires limit { state_bound times.now interval reach times.now.demands (root_starts times.now)
+        ≤ 65536000000000000 }
+    ensures lower { IfOk result (λ p. p.0 ≡ state_bound times.now interval reach times.now.demands
+        (root_starts times.now)) }
     ensures book { IfOk result (λ p. IsBook times.now interval reach p.1 (p.0 + 1)) }
     ensures shown { IfOk result (λ p. 0 < p.0 → HasAnswer p.1 times.now.demands (root_starts times.now) p.0) }
     ensures none { IfOk result (λ p. units_of p.1 ≡ 0) }
@@ -159,8 +162,8 @@ fn certified(times: &Times, standing: Standing, frames: SeqFrames) -> SeqCert
 
 /// Finds a sequence of least utility work, in at most `units` steps, 1 to 1,000,000.
 ///
-/// `interval` is the launch interval and `reach` the length of each station, in the mix's time unit, 1 to 10^9. Each step takes
-/// time proportional to stations times models, and to the entries that are gone over for an answer.
+/// `interval` is the launch interval and `reach` the length of each station, in the mix's time unit, 1 to 10^9. Each
+/// step takes time proportional to stations times models, and to the entries that are gone over for an answer.
 pub fn order(alloc: Global, times: &Times, interval: u64, reach: u64, units: u64) -> Ordered
     requires times { AreTimes times.now }
     requires interval { IsPlace interval }

@@ -41,8 +41,8 @@ fn station_rows(
 
 /// The works of a mix on a line that is balanced straight: of each model at each station.
 ///
-/// The time is proportional to stations times models times tasks. The balance has 1 to 64 stations, and the demands are 1,000
-/// units at most together. An error where memory is wanting.
+/// The time is proportional to stations times models times tasks. The balance has 1 to 64 stations, and the demands are
+/// 1,000 units at most together. An error where memory is wanting.
 pub fn station_times(alloc: Global, mix: &Mix, balance: &Balance) -> Result<Times, AllocError>
     requires places { length balance.now.place ≡ mix.now.tasks }
     requires some { 1 ≤ balance.now.stations }

@@ -1,7 +1,7 @@
 //! One try: whether some sequence costs less than a need.
 //!
-//! The frames are kept as those above and the deepest one. Each turn either takes a step of the deepest frame, which is a unit,
-//! or publishes it, so that there are at most twice as many turns as units.
+//! The frames are kept as those above and the deepest one. Each turn either takes a step of the deepest frame, which is
+//! a unit, or publishes it, so that there are at most twice as many turns as units.
 ghost use Rattle.std.specs.Prelude.{◌≡◌, ℕ, ◌+◌, ◌≤◌, ◌∷◌, ◌++◌, [], length, IfOk, OnOk};
 ghost use Rattle.sequence_rules.specs.Entries.{units_of};
 ghost use Rattle.sequence_rules.specs.Ranges.{AreTimes, IsPlace, IsNumber};

@@ -33,12 +33,14 @@ use Rattle.solve_command.specs.SolutionText.{optimal_text, stopped_text}
 
 -- the printed text of bounds: the optimum where they are equal, and both where they differ
 abbrev pub bounds_text : LineKind → ℕ → Assignment → ℕ → List ℕ
-bounds_text kind lower b idle = cond (nat_eq lower b.stations) (optimal_text kind b idle) (stopped_text kind lower b idle)
+bounds_text kind lower b idle = cond (nat_eq lower b.stations) (optimal_text kind b idle)
+    (stopped_text kind lower b idle)
 
 -- The units of the plan were spent on loads that the certificate lists: its entries begin with those that the run began
 -- with; the entries after these and its trail have at least so many units, exactly so many without helpers; no entry is
 -- answered by an earlier one; and the trail, which is valid since the certificate is accepted, has a further load.
-pub record AreSpent (line : Line) (c : ℕ) (plan : Plan) (before es : List Entry) (trail : Option Trail) (units : ℕ) : Type 0 where
+pub record AreSpent (line : Line) (c : ℕ) (plan : Plan) (before es : List Entry) (trail : Option Trail)
+    (units : ℕ) : Type 0 where
   pub added : List Entry
   pub begins : es ≡ before ++ added
   pub frames : List OpenFrame
@@ -53,13 +55,14 @@ pub record AreSpent (line : Line) (c : ℕ) (plan : Plan) (before es : List Entr
   pub fresh : IsFresh es
   pub opens : IsOpenOver line c es frames
 
--- What is promised of bounds: the printed balance keeps every precedence and the cycle; the certificate is accepted by the
--- check with its default steps; no balance of that kind has fewer stations than the lower bound; what is printed are the
--- certificate's bounds and balance, behind the line on the old entries, where there are any; the bounds differ only where
--- the units of the plan were spent on loads that the certificate lists, and status 1 says so; where they are equal they are
--- the least number of stations; and they are equal where the units are at least (n + 1) x 3^n for n tasks, and on a U-line
--- (n + 1) x 4^n.
-pub record HasBounds (kind : LineKind) (line : Line) (c : ℕ) (plan : Plan) (start : Start) (certificate : Certificate) (status : Status) (text : List ℕ)
+-- What is promised of bounds: the printed balance keeps every precedence and the cycle; the certificate is accepted by
+-- the check with its default steps; no balance of that kind has fewer stations than the lower bound; what is printed
+-- are the certificate's bounds and balance, behind the line on the old entries, where there are any; the bounds differ
+-- only where the units of the plan were spent on loads that the certificate lists, and status 1 says so; where they are
+-- equal they are the least number of stations; and they are equal where the units are at least (n + 1) x 3^n for n
+-- tasks, and on a U-line (n + 1) x 4^n.
+pub record HasBounds (kind : LineKind) (line : Line) (c : ℕ) (plan : Plan) (start : Start) (certificate : Certificate)
+    (status : Status) (text : List ℕ)
     : Type 0 where
   pub before : List Entry
   pub first : List ℕ
@@ -79,9 +82,10 @@ pub record HasBounds (kind : LineKind) (line : Line) (c : ℕ) (plan : Plan) (st
   pub equal : lower ≡ balance.stations → (status ≡ ends.Done) × IsLeastStations kind line c lower
   pub complete : (tasks line + 1) * states kind ^ tasks line ≤ plan.units → lower ≡ balance.stations
 
--- What is promised where a task is longer than the cycle: the least such task is printed, the certificate names it and is
--- accepted, and no number of stations is enough.
-pub record HasNone (kind : LineKind) (line : Line) (c : ℕ) (certificate : Certificate) (status : Status) (text : List ℕ) : Type 0 where
+-- What is promised where a task is longer than the cycle: the least such task is printed, the certificate names it and
+-- is accepted, and no number of stations is enough.
+pub record HasNone (kind : LineKind) (line : Line) (c : ℕ) (certificate : Certificate) (status : Status)
+    (text : List ℕ) : Type 0 where
   pub task : ℕ
   pub least : IsLeastWhere (IsTooLong line c) task
   pub said : certificate ≡ about_stations kind line c (claim.TooLong task)
@@ -96,7 +100,8 @@ HasCertificate None after certificate = Unit {0}
 HasCertificate (Some name) after certificate = after name ≡ Some (cert_text certificate)
 
 -- what is printed is shown by a certificate, which is kept
-pub record IsShown (kind : LineKind) (line : Line) (c : ℕ) (plan : Plan) (start : Start) (status : Status) (text : List ℕ) (kept : Kept) : Type 0 where
+pub record IsShown (kind : LineKind) (line : Line) (c : ℕ) (plan : Plan) (start : Start) (status : Status)
+    (text : List ℕ) (kept : Kept) : Type 0 where
   pub certificate : Certificate
   pub keeps : kept ≡ Certified certificate
   pub shows : HasBounds kind line c plan start certificate status text ⊎ HasNone kind line c certificate status text
@@ -104,7 +109,8 @@ pub record IsShown (kind : LineKind) (line : Line) (c : ℕ) (plan : Plan) (star
 -- The promise of `solve` for the line, the cycle and the old entries that the files say: what is printed is shown by a
 -- certificate, which is kept, and written where the words name a file.
 pub record IsPromised (files after : Files) (file : List ℕ) (apart warm : Option (List ℕ)) (seek : ℕ)
-    (word : Option ℕ) (kind : LineKind) (plan : Plan) (name : Option (List ℕ)) (status : Status) (text : List ℕ) (kept : Kept) : Type 0 where
+    (word : Option ℕ) (kind : LineKind) (plan : Plan) (name : Option (List ℕ)) (status : Status) (text : List ℕ)
+    (kept : Kept) : Type 0 where
   pub line : Line
   pub c : ℕ
   pub said : IsSaid files file apart word line c

@@ -28,26 +28,34 @@ page_of (Some name) cert = Some (record { name = name; bytes = cert_text cert })
 
 -- an outcome with a certificate, which is kept, and written where the words name a file
 abbrev pub certified_by : Option (List ℕ) → Certificate → Status → List ℕ → Outcome
-certified_by name cert status text = record { status = status; text = text; page = page_of name cert; kept = Certified cert }
+certified_by name cert status text = record {
+  status = status;
+  text = text;
+  page = page_of name cert;
+  kept = Certified cert;
+}
 
--- The optimum, of a run that began with some entries: the balance that is printed has the least number of stations, and the
--- certificate proves it.
-pub record IsOptimal (kind : LineKind) (line : Line) (c : ℕ) (before : List Entry) (first : List ℕ) (name : Option (List ℕ))
+-- The optimum, of a run that began with some entries: the balance that is printed has the least number of stations, and
+-- the certificate proves it.
+pub record IsOptimal (kind : LineKind) (line : Line) (c : ℕ) (before : List Entry) (first : List ℕ)
+    (name : Option (List ℕ))
     (out : Outcome) : Type 0 where
   pub balance : Assignment
   pub certificate : Certificate
   pub proved : IsOptimumFrom kind line c before balance certificate
-  pub shown : out ≡ certified_by name certificate ends.Done (first ++ optimal_text kind balance (idle_time line c balance.stations))
+  pub shown : out ≡ certified_by name certificate ends.Done
+      (first ++ optimal_text kind balance (idle_time line c balance.stations))
 
--- The units of the plan were used, of a run that began with some entries: the bounds and the balance that are printed are
--- those of the certificate, which lists the units.
+-- The units of the plan were used, of a run that began with some entries: the bounds and the balance that are printed
+-- are those of the certificate, which lists the units.
 pub record IsStopped (kind : LineKind) (line : Line) (c : ℕ) (plan : Plan) (before : List Entry) (first : List ℕ)
     (name : Option (List ℕ)) (out : Outcome) : Type 0 where
   pub lower : ℕ
   pub balance : Assignment
   pub certificate : Certificate
   pub proved : IsStopFrom kind line c plan before lower balance certificate
-  pub shown : out ≡ certified_by name certificate ends.Stopped (first ++ stopped_text kind lower balance (idle_time line c balance.stations))
+  pub shown : out ≡ certified_by name certificate ends.Stopped
+      (first ++ stopped_text kind lower balance (idle_time line c balance.stations))
 
 -- There is no balance: the least task that is longer than the cycle is printed, and the certificate names it.
 pub record IsInfeasible (kind : LineKind) (line : Line) (c : ℕ) (name : Option (List ℕ)) (out : Outcome) : Type 0 where
@@ -57,8 +65,8 @@ pub record IsInfeasible (kind : LineKind) (line : Line) (c : ℕ) (name : Option
   pub proved : IsNoBalance kind line c task certificate
   pub shown : out ≡ certified_by name certificate ends.Done (infeasible_text task (time line task))
 
--- A run was made: it began with these entries, and its text with this line, where there are old entries; and it found the
--- optimum, or its units ended.
+-- A run was made: it began with these entries, and its text with this line, where there are old entries; and it found
+-- the optimum, or its units ended.
 pub record IsBounded (kind : LineKind) (line : Line) (c : ℕ) (plan : Plan) (start : Start)
     (name : Option (List ℕ)) (out : Outcome) : Type 0 where
   pub before : List Entry
@@ -68,7 +76,8 @@ pub record IsBounded (kind : LineKind) (line : Line) (c : ℕ) (plan : Plan) (st
 
 -- what is found with a certificate
 abbrev pub IsSolution : LineKind → Line → ℕ → Plan → Start → Option (List ℕ) → Outcome → Type 0
-IsSolution kind line c plan start name out = IsBounded kind line c plan start name out ⊎ IsInfeasible kind line c name out
+IsSolution kind line c plan start name out = IsBounded kind line c plan start name out
+    ⊎ IsInfeasible kind line c name out
 
 -- a run with a certificate is done, or its units ended
 abbrev pub IsSolveStatus : Status → Type 0
@@ -93,15 +102,17 @@ pub record IsAnswered (files : Files) (file : List ℕ) (apart warm : Option (Li
   pub answer : IsSolution kind line c plan (record { olds = olds; seek = seek }) name out ⊎ IsCutShort kind line c out
 
 -- the files say the line and the cycle time, and the file of the old certificate says none to begin with
-pub record IsSaidUnwarmed (o : Outside) (file : List ℕ) (apart warm : Option (List ℕ)) (word : Option ℕ) (kind : LineKind) (out : Outcome) : Type 0 where
+pub record IsSaidUnwarmed (o : Outside) (file : List ℕ) (apart warm : Option (List ℕ)) (word : Option ℕ)
+    (kind : LineKind) (out : Outcome) : Type 0 where
   pub line : Line
   pub c : ℕ
   pub said : IsSaid o.files file apart word line c
   pub unwarmed : IsUnwarmed o warm kind line out
 
--- What `solve` comes to with so many helpers and units: an answer; why the files say no line with a cycle time; or why the
--- old certificate is refused. A later file is named only where the earlier ones were read.
-abbrev pub IsSolveOutcome : Outside → List ℕ → Option (List ℕ) → Option (List ℕ) → ℕ → Option ℕ → LineKind → Plan → Option (List ℕ) → Outcome → Type 0
+-- What `solve` comes to with so many helpers and units: an answer; why the files say no line with a cycle time; or why
+-- the old certificate is refused. A later file is named only where the earlier ones were read.
+abbrev pub IsSolveOutcome : Outside → List ℕ → Option (List ℕ) → Option (List ℕ) → ℕ → Option ℕ → LineKind → Plan
+    → Option (List ℕ) → Outcome → Type 0
 IsSolveOutcome o file apart warm seek word kind plan name out =
     IsAnswered o.files file apart warm seek word kind plan name out ⊎ IsUnsaid o file apart word out
     ⊎ IsSaidUnwarmed o file apart warm word kind out

@@ -15,4 +15,5 @@ optimal_text kind b idle = optimal_line b.stations ++ balance_lines kind b idle
 
 -- the report of a search that used its units: its bounds, and the best balance
 abbrev pub stopped_text : LineKind → ℕ → Assignment → ℕ → List ℕ
-stopped_text kind lower b idle = (codes "stopped by units\n" ++ bounds_line lower b.stations) ++ balance_lines kind b idle
+stopped_text kind lower b idle = (codes "stopped by units\n" ++ bounds_line lower b.stations)
+    ++ balance_lines kind b idle

@@ -1,5 +1,6 @@
 -- What a run begins with: the old entries that a file says, why it says none, and which of them the run keeps.
-use Rattle.std.specs.Prelude.{◌≡◌, ◌≢◌, ◌⊎◌, ℕ, zero, suc, max, ◌-◌, ◌*◌, List, [], length, ◌++◌, Option, Some, None, codes, decimal}
+use Rattle.std.specs.Prelude.{◌≡◌, ◌≢◌, ◌⊎◌, ℕ, zero, suc, max, ◌-◌, ◌*◌, List, [], length, ◌++◌, Option, Some, None}
+use Rattle.std.specs.Prelude.{codes, decimal}
 use Rattle.line_instance.specs.Line.{Line, tasks}
 use Rattle.line_rules.specs.Ranked.{IsRankedBalance}
 use Rattle.line_rules.specs.declared.types.LineKind.{LineKind}
@@ -21,7 +22,8 @@ abbrev pub entries_of : Claim → List Entry
 entries_of (claim.TooLong task) = []
 entries_of (claim.Bounds lower upper b es trail) = es
 
--- a certificate that a run over the line may begin with: it is of as many tasks, and of the kind; the old entries are its
+-- a certificate that a run over the line may begin with: it is of as many tasks, and of the kind; the old entries are
+-- its
 pub record IsOldOf (kind : LineKind) (line : Line) (cert : Certificate) (old : List Entry) : Type 0 where
   pub as_many : cert.tasks ≡ tasks line
   pub same_kind : cert.kind ≡ kind
@@ -104,8 +106,8 @@ abbrev pub Seeks : ℕ → ℕ → Taking → Taking → List ℕ → Type 0
 Seeks N zero at end said = (end ≡ at) × (said ≡ [])
 Seeks N (suc loads) at end said = TakesSought N (suc loads) at end said
 
--- The entries with which a run begins, and the first lines of its text: those that an empty book with the ranked balance has
--- after it took in the old entries and the lemmas of a seek.
+-- The entries with which a run begins, and the first lines of its text: those that an empty book with the ranked
+-- balance has after it took in the old entries and the lemmas of a seek.
 pub record BeginsWith (kind : LineKind) (line : Line) (c : ℕ) (plan : Plan) (start : Start) (before : List Entry)
     (first : List ℕ) : Type 0 where
   pub book : BookView

@@ -1,8 +1,8 @@
 //! The command `solve`: the fewest stations of the line that its files say, at a cycle time, with a certificate of it.
 //!
-//! The search takes up to the units that the words allow. What it proved becomes a certificate, which is kept, and written
-//! where the words name a file. The report is made before the file, so that a run without memory for it writes none. Where
-//! the words name an old certificate, the run begins with those of its entries that hold on the line.
+//! The search takes up to the units that the words allow. What it proved becomes a certificate, which is kept, and
+//! written where the words name a file. The report is made before the file, so that a run without memory for it writes
+//! none. Where the words name an old certificate, the run begins with those of its entries that hold on the line.
 #![tactic(auto)]
 
 mod print_solution;

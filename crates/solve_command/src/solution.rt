@@ -1,5 +1,6 @@
 //! What `solve` answers of a line, and of files that say one.
-ghost use Rattle.std.specs.Prelude.{◌≡◌, ◌≢◌, ◌≤◌, ℕ, List, [], Option, string_bytes, Some, None, Err, IfOk, MatchResult, option_map};
+ghost use Rattle.std.specs.Prelude.{◌≡◌, ◌≢◌, ◌≤◌, ℕ, List, [], Option, string_bytes, Some, None, Err, IfOk};
+ghost use Rattle.std.specs.Prelude.{MatchResult, option_map};
 ghost use Rattle.std.specs.Option.{ForSome};
 ghost use Rattle.line_io.specs.Outside.{Rises};
 ghost use Rattle.line_instance.specs.Line.{tasks};
@@ -21,7 +22,8 @@ ghost use Rattle.command_outcome.specs.declared.report.Stop.TheVariants.{Unwritt
 ghost use Rattle.solve_command.specs.inner.Begun.{IsBegun};
 ghost use Rattle.solve_command.specs.WarmStart.{Start};
 ghost use Rattle.solve_command.specs.Promise.{HasCertificate, IsPromised, IsShown};
-ghost use Rattle.solve_command.specs.Solution.{page_of, IsOptimal, IsStopped, IsInfeasible, IsBounded, IsSolution, IsCutShort, IsSolveOutcome, IsSolveStatus};
+ghost use Rattle.solve_command.specs.Solution.{page_of, IsOptimal, IsStopped, IsInfeasible, IsBounded, IsSolution};
+ghost use Rattle.solve_command.specs.Solution.{IsCutShort, IsSolveOutcome, IsSolveStatus};
 
 use crate::print_solution::{optimal_text, stopped_text};
 use crate::warm_start::{Begun, begin, old_entries};
@@ -183,7 +185,8 @@ fn run<R: Threads + Wait + Sync, G: Gate>(
     }
 }
 
-/// What is reported of a line of this kind at a cycle time, with a certificate; or the bounds, where memory ended the search.
+/// What is reported of a line of this kind at a cycle time, with a certificate; or the bounds, where memory ended the
+/// search.
 fn solution<R: Threads + Wait + Sync, G: Gate>(
     rt: &R,
     alloc: Global,
@@ -230,7 +233,8 @@ pub fn written<S: Shelf>(
         → Ends (outside files (S.blames shelf.new)) (λ out. out ≡ outcome_of report (page_of (Some name.now) cert))
         (S.file shelf.new) result }
     ensures same { IfOk result (λ r. r ≡ report) }
-    ensures certificate { S.tells → IfOk result (λ r. (cert : Proof) → r.kept ≡ Certified cert → HasCertificate (Some name.now) (S.file shelf.new) cert) }
+    ensures certificate { S.tells → IfOk result (λ r. (cert : Proof) → r.kept ≡ Certified cert
+        → HasCertificate (Some name.now) (S.file shelf.new) cert) }
     ensures fault { MatchResult result (λ _. Unit {0}) (MayEnd (Rises (S.faults shelf.old) (S.faults shelf.new))) }
     ensures count { S.faults shelf.old ≤ S.faults shelf.new }
 {
@@ -244,9 +248,10 @@ pub fn written<S: Shelf>(
     }
 }
 
-/// The report of `solve` for the file of an instance, the file of the tasks that are apart, where there is one, the file of an
-/// old certificate with whose entries the run begins, where there is one, the loads of a seek before the run, 0 for none, the
-/// cycle time of the words, where they have one, the kind of line, the plan, and the name of the file that the certificate is written to, where there is one.
+/// The report of `solve` for the file of an instance, the file of the tasks that are apart, where there is one, the
+/// file of an old certificate with whose entries the run begins, where there is one, the loads of a seek before the
+/// run, 0 for none, the cycle time of the words, where they have one, the kind of line, the plan, and the name of the
+/// file that the certificate is written to, where there is one.
 pub fn solve_report<R: Threads + Wait + Sync, S: Shelf, G: Gate>(
     rt: &R,
     alloc: Global,

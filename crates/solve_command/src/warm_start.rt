@@ -1,10 +1,11 @@
-//! What a run begins with: the entries of an old certificate, where the words name one, and the lemmas and the balance of a
-//! seek, where they ask for one; and the book that takes them in.
+//! What a run begins with: the entries of an old certificate, where the words name one, and the lemmas and the balance
+//! of a seek, where they ask for one; and the book that takes them in.
 //!
 //! The old entries are read whole, checked side by side on the line as it is, and given up before the search. A run
-//! with N units takes at most 6,000,000 - 2N of them, with as many units, so that its certificate stays within the default
-//! steps of the check.
-ghost use Rattle.std.specs.Prelude.{◌≡◌, ◌≤◌, ◌↔◌, ℕ, List, ◌++◌, [], Some, None, IfOk, IsTrue, MatchResult, string_bytes, option_map};
+//! with N units takes at most 6,000,000 - 2N of them, with as many units, so that its certificate stays within the
+//! default steps of the check.
+ghost use Rattle.std.specs.Prelude.{◌≡◌, ◌≤◌, ◌↔◌, ℕ, List, ◌++◌, [], Some, None, IfOk, IsTrue, MatchResult};
+ghost use Rattle.std.specs.Prelude.{string_bytes, option_map};
 ghost use Rattle.std.specs.Option.{ForSome};
 ghost use Rattle.line_io.specs.Outside.{Rises};
 ghost use Rattle.line_instance.specs.Line.{tasks};
@@ -15,7 +16,8 @@ ghost use Rattle.lemma_core.specs.Books.{IsReserved, MayBeBest};
 ghost use Rattle.command_outcome.specs.Outcome.{Stops, MayStop, outside};
 ghost use Rattle.input_files.specs.Certificate.{IsCertificateOf};
 ghost use Rattle.round_run.specs.Plans.{IsPlan};
-ghost use Rattle.solve_command.specs.WarmStart.{AreOld, IsOldOf, IsOther, IsUnwarmed, entries_of, tasks_line, warm_line};
+ghost use Rattle.solve_command.specs.WarmStart.{AreOld, IsOldOf, IsOther, IsUnwarmed, entries_of, tasks_line};
+ghost use Rattle.solve_command.specs.WarmStart.{warm_line};
 ghost use Rattle.solve_command.specs.WarmStart.{Start, old_room, seek_line};
 ghost use Rattle.warm_book.specs.Warm.{Taking};
 ghost use Rattle.solve_command.specs.inner.Begun.{IsBegun, IsTaken, HasSoughtBehind};
@@ -42,7 +44,8 @@ pub(crate) struct Begun {
     pub first: String,
 }
 
-/// A book that took in old entries: how many it kept, with so many units, and the line that says so, where there were any.
+/// A book that took in old entries: how many it kept, with so many units, and the line that says so, where there were
+/// any.
 #[derive(Drop)]
 struct Taken {
     book: Book,
@@ -248,8 +251,8 @@ fn with_seek_line(text: String, used: u64, limit: u64, kept: u32) -> Result<Stri
     Ok(text)
 }
 
-/// The book with which a run begins: empty but for the old entries that it takes in and, where the words ask for a seek of
-/// some loads, for its lemmas; with the ranked balance, or a better one of the seek.
+/// The book with which a run begins: empty but for the old entries that it takes in and, where the words ask for a seek
+/// of some loads, for its lemmas; with the ranked balance, or a better one of the seek.
 pub(crate) fn begin<R: Threads + Sync>(
     rt: &R,
     alloc: Global,

@@ -32,9 +32,9 @@ fn is_bad(round: u64, every: u64) -> bool {
     round.checked_rem(every) == Some(0)
 }
 
-/// A certificate with so many rounds of lemmas: that the last five tasks don't fit into two stations, with 15 loads, and that all
-/// six don't fit into three, with 16 and a cite of the first. A bad round has two more: that the five don't fit into three,
-/// which is false, and that all six don't fit into three, with a cite of that.
+/// A certificate with so many rounds of lemmas: that the last five tasks don't fit into two stations, with 15 loads,
+/// and that all six don't fit into three, with 16 and a cite of the first. A bad round has two more: that the five
+/// don't fit into three, which is false, and that all six don't fit into three, with a cite of that.
 fn rounds_text(alloc: Global, rounds: u32, every: u32) -> Result<String, AllocError> {
     let mut lines = String::new(alloc);
     let mut count: u32 = 0;

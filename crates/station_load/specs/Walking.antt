@@ -14,8 +14,8 @@ use Rattle.station_load.specs.Shorts.{AreShort}
 use Rattle.station_load.specs.declared.shorts.Shorts.{Shorts}
 use Rattle.station_load.specs.declared.ends.End.{End}
 
--- the cycle, the mode and the set of a walk, the load that it gave last, whether it has found that none comes after it, the sum of that load's
--- times, what it keeps of each side, and the short tasks of the set
+-- the cycle, the mode and the set of a walk, the load that it gave last, whether it has found that none comes after it,
+-- the sum of that load's times, what it keeps of each side, and the short tasks of the set
 pub record Walking : Type 0 where
   pub cycle : ℕ
   pub mode : Mode
@@ -37,15 +37,17 @@ abbrev pub end_of : Side → Walking → End
 end_of Front w = w.front
 end_of Back w = w.back
 
--- A walk over the loads of a line: it stands at a load of its set, or before the first; the sum is that load's total time, and 0 before the
--- first; at each side stand the tasks of that load, with those beside them that are ready, for each side that its loads fill; its short tasks are those of the set; and once it has
--- ended, no load comes after that one.
+-- A walk over the loads of a line: it stands at a load of its set, or before the first; the sum is that load's total
+-- time, and 0 before the first; at each side stand the tasks of that load, with those beside them that are ready, for
+-- each side that its loads fill; its short tasks are those of the set; and once it has ended, no load comes after that
+-- one.
 pub record IsWalk (line : Line) (w : Walking) : Type 0 where
   pub set : IsTaskSet line w.set
   pub load : (l : Load) → w.last ≡ Some l → IsLoad line w.cycle w.mode w.set l
   pub sum : w.sum ≡ sum_where (has (taken (last_load w.last))) line.times
   pub stands : (s : Side) → (end_of s w).tasks ≡ part s (last_load w.last)
-  pub ready : w.ended ≡ false → (s : Side) → fills w.mode s ≡ true → IsEnd line s w.set (end_of s w).tasks (end_of s w).free (end_of s w).places
+  pub ready : w.ended ≡ false → (s : Side) → fills w.mode s ≡ true
+      → IsEnd line s w.set (end_of s w).tasks (end_of s w).free (end_of s w).places
   pub short : AreShort line w.cycle w.set w.shorts
   pub over : w.ended ≡ true → (l : Load) → IsLoad line w.cycle w.mode w.set l → After line w.last l → ⊥
 

@@ -10,8 +10,8 @@ use line_instance::Instance;
 use line_rules::{Mode, Side};
 use task_set::TaskSet;
 
-/// The tasks of a side; the tasks that are free to join it by precedence alone: in the walk's set, not at the side, with all that is ahead
-/// of them in the set at the side; and the places of both.
+/// The tasks of a side; the tasks that are free to join it by precedence alone: in the walk's set, not at the side,
+/// with all that is ahead of them in the set at the side; and the places of both.
 #[derive(Clone, Copy)]
 pub struct End {
     pub tasks: TaskSet,
@@ -20,7 +20,8 @@ pub struct End {
 }
 
 impl End {
-    /// A side with these tasks, and where loads of the mode fill the side, with the tasks of the set that are free to join them.
+    /// A side with these tasks, and where loads of the mode fill the side, with the tasks of the set that are free to
+    /// join them.
     pub(crate) fn start(
         inst: &Instance,
         set: &TaskSet,
@@ -45,13 +46,15 @@ impl End {
         end
     }
 
-    // Makes those of the candidates free that are ready. What waits for a candidate isn't ready, so it is no candidate any more.
+    // Makes those of the candidates free that are ready. What waits for a candidate isn't ready, so it is no candidate
+    // any more.
     fn add_ready(&mut self, inst: &Instance, set: &TaskSet, side: Side, candidates: TaskSet)
         requires set { IsTaskSet inst.now set.now }
         requires candidates { (i : ℕ) → In candidates i → In set.now i × (has self.old.tasks i ≡ false) }
         requires marked { AreMarked inst.now side self.old.tasks self.old.free self.old.places }
         ensures tasks { self.new.tasks ≡ self.old.tasks }
-        ensures free { (i : ℕ) → In self.new.free i ↔ In self.old.free i ⊎ (In candidates i × IsReady inst.now side set.now self.old.tasks i) }
+        ensures free { (i : ℕ) → In self.new.free i ↔ In self.old.free i
+            ⊎ (In candidates i × IsReady inst.now side set.now self.old.tasks i) }
         ensures marked { AreMarked inst.now side self.new.tasks self.new.free self.new.places }
     {
         let _tasks = inst.tasks();
@@ -77,7 +80,8 @@ impl End {
         requires apart { (i : ℕ) → In self.old.free i → has self.old.tasks i ≡ false }
         requires marked { AreMarked inst.now side self.old.tasks self.old.free self.old.places }
         ensures tasks { self.new.tasks ≡ slice_set self.old.tasks task false }
-        ensures free { (i : ℕ) → In self.new.free i ↔ (In self.old.free i ⊎ (i ≡ task)) × (Ahead inst.now side task i → ⊥) }
+        ensures free { (i : ℕ) → In self.new.free i ↔ (In self.old.free i ⊎ (i ≡ task))
+            × (Ahead inst.now side task i → ⊥) }
         ensures marked { AreMarked inst.now side self.new.tasks self.new.free self.new.places }
     {
         let _tasks = inst.tasks();
@@ -97,7 +101,8 @@ impl End {
         requires set { IsTaskSet inst.now set.now }
         requires free { In self.old.free task }
         requires end { IsEnd inst.now side set.now self.old.tasks self.old.free self.old.places }
-        requires closed { (i j : ℕ) → In set.now i → In self.old.tasks j → Ahead inst.now side i j → In self.old.tasks i }
+        requires closed { (i j : ℕ) → In set.now i → In self.old.tasks j → Ahead inst.now side i j
+            → In self.old.tasks i }
         ensures tasks { self.new.tasks ≡ slice_set self.old.tasks task true }
         ensures end { IsEnd inst.now side set.now self.new.tasks self.new.free self.new.places }
     {

@@ -1,4 +1,5 @@
-//! The loads of a set in their order, none left out: the first, the one after a load, and a walk from the first to the last.
+//! The loads of a set in their order, none left out: the first, the one after a load, and a walk from the first to the
+//! last.
 #![tactic(auto)]
 
 mod ends;

@@ -16,8 +16,8 @@ use task_set::TaskSet;
 
 /// The first load of a set of tasks, or None where the set has none.
 ///
-/// The cycle is in the instance's time unit. The mode is one of a straight line: `Fore` fills the front, compared by rank from the first
-/// rank on, and `Back` the back, compared from the last rank on (Scholl).
+/// The cycle is in the instance's time unit. The mode is one of a straight line: `Fore` fills the front, compared by
+/// rank from the first rank on, and `Back` the back, compared from the last rank on (Scholl).
 pub fn first_load(inst: &Instance, cycle: u64, set: &TaskSet, mode: Mode) -> Option<Load>
     requires set { IsTaskSet inst.now set.now }
     requires mode { Belongs Straight mode }
@@ -38,7 +38,8 @@ pub fn next_load(
     requires set { IsTaskSet inst.now set.now }
     requires mode { Belongs Straight mode }
     requires load { IsLoad inst.now cycle mode set.now last.now }
-    ensures none { IsNone result → (l : Pair) → IsLoad inst.now cycle mode set.now l → Precedes inst.now last.now l → ⊥ }
+    ensures none { IsNone result → (l : Pair) → IsLoad inst.now cycle mode set.now l → Precedes inst.now last.now l
+        → ⊥ }
     ensures next { IfSome result (IsFollowing inst.now cycle mode set.now (Some last.now)) }
 {
     places::next(inst, cycle, set, mode, last)

@@ -44,8 +44,8 @@ fn may_join(inst: &Instance, cycle: u64, set: &TaskSet, load: &Load, side: Side,
         .is_subset(part(load, side))
 }
 
-/// Goes over the places of a side from the last one down: gives up what stands there, up to the first place where a task may join.
-/// Whether one has joined.
+/// Goes over the places of a side from the last one down: gives up what stands there, up to the first place where a
+/// task may join. Whether one has joined.
 fn climb(
     inst: &Instance,
     cycle: u64,
@@ -79,7 +79,8 @@ fn climb(
 /// The least load above a load or above nothing.
 fn above(inst: &Instance, cycle: u64, set: &TaskSet, mode: Mode, base: &Load) -> Option<Load>
     requires { IsPart inst.now cycle mode set.now base.now }
-    ensures none { IsNone result → (l : Pair) → IsLoad inst.now cycle mode set.now l → Precedes inst.now base.now l → ⊥ }
+    ensures none { IsNone result → (l : Pair) → IsLoad inst.now cycle mode set.now l → Precedes inst.now base.now l
+        → ⊥ }
     ensures next { IfSome result (IsNext inst.now cycle mode set.now base.now) }
 {
     let _tasks = inst.tasks();
@@ -105,7 +106,8 @@ pub fn first(inst: &Instance, cycle: u64, set: &TaskSet, mode: Mode) -> Option<L
 /// The load after a load of the set; None after the last.
 pub fn next(inst: &Instance, cycle: u64, set: &TaskSet, mode: Mode, last: &Load) -> Option<Load>
     requires load { IsLoad inst.now cycle mode set.now last.now }
-    ensures none { IsNone result → (l : Pair) → IsLoad inst.now cycle mode set.now l → Precedes inst.now last.now l → ⊥ }
+    ensures none { IsNone result → (l : Pair) → IsLoad inst.now cycle mode set.now l → Precedes inst.now last.now l
+        → ⊥ }
     ensures next { IfSome result (IsFollowing inst.now cycle mode set.now (Some last.now)) }
 {
     let _tasks = inst.tasks();
@@ -117,7 +119,8 @@ fn grows(inst: &Instance, cycle: u64, set: &TaskSet, mode: Mode, load: &Load, si
     requires set { IsTaskSet inst.now set.now }
     requires sets { AreSets inst.now load.now }
     ensures some { IsTrue result → (i : ℕ) × (fills mode side ≡ true) × MayJoin inst.now cycle set.now side load.now i }
-    ensures none { result ≡ false → (i : ℕ) → fills mode side ≡ true → MayJoin inst.now cycle set.now side load.now i → ⊥ }
+    ensures none { result ≡ false → (i : ℕ) → fills mode side ≡ true → MayJoin inst.now cycle set.now side load.now i
+        → ⊥ }
 {
     if !fills(mode, side) {
         return false;

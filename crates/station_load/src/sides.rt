@@ -85,8 +85,8 @@ pub(crate) fn places_of(inst: &Instance, side: Side, part: &TaskSet) -> TaskSet
     places
 }
 
-/// The member of a set that is first looked at for the side: the least in front, the greatest at the back. Where tasks are numbered along their
-/// precedences, nothing else of the set is ahead of it.
+/// The member of a set that is first looked at for the side: the least in front, the greatest at the back. Where tasks
+/// are numbered along their precedences, nothing else of the set is ahead of it.
 #[inline]
 pub(crate) fn nearest(set: &TaskSet, side: Side) -> Option<u32>
     ensures none { IsNone result → IsEmpty set.now }

@@ -8,7 +8,8 @@
 //! place nothing stands and nothing may join. A task that is given up becomes ready and shuts what waits for it; one
 //! that joins opens those that waited for it alone. So a turn costs a few operations on sets, and a step as many
 //! turns as places are given up.
-ghost use Rattle.std.specs.Prelude.{◌≡◌, ℕ, ◌<◌, ◌≤◌, ◌↔◌, ◌+◌, ◌-◌, IsTrue, IsNone, IfSome, IsSome, Some, None, true, false, cond};
+ghost use Rattle.std.specs.Prelude.{◌≡◌, ℕ, ◌<◌, ◌≤◌, ◌↔◌, ◌+◌, ◌-◌, IsTrue, IsNone, IfSome, IsSome, Some, None, true};
+ghost use Rattle.std.specs.Prelude.{false, cond};
 ghost use Rattle.task_set.specs.Truths.{meet, union};
 ghost use Rattle.line_instance.specs.Line.{IsTaskSet, tasks, time, has};
 ghost use Rattle.line_instance.specs.Sums.{sum_where};
@@ -33,8 +34,8 @@ use task_set::TaskSet;
 
 /// A walk over the loads of a set of tasks at a cycle in a mode, in their order.
 ///
-/// It is begun by `walk` or [`begin`] and is a value of about 1,300 bytes that needs no memory. A contract sees it as the cycle, the mode, the
-/// set, the load given last, and what it keeps of that load from step to step.
+/// It is begun by `walk` or [`begin`] and is a value of about 1,300 bytes that needs no memory. A contract sees it as
+/// the cycle, the mode, the set, the load given last, and what it keeps of that load from step to step.
 #[derive(Drop)]
 pub struct Walk {
     cycle: u64,
@@ -55,7 +56,17 @@ impl Model for Walk {
 
     ghost Value = { Walking };
 
-    ghost view = { λ w. record { cycle = w.cycle; mode = w.mode; set = w.set; last = cond w.given (Some (record { front = w.front.tasks; back = w.back.tasks })) None; ended = w.ended; sum = w.sum; front = w.front; back = w.back; shorts = w.shorts } };
+    ghost view = { λ w. record {
+      cycle = w.cycle;
+      mode = w.mode;
+      set = w.set;
+      last = cond w.given (Some (record { front = w.front.tasks; back = w.back.tasks })) None;
+      ended = w.ended;
+      sum = w.sum;
+      front = w.front;
+      back = w.back;
+      shorts = w.shorts;
+    } };
 }
 
 // Whether a task's time is left, and nothing of a load with these tasks at its sides is apart from it.
@@ -74,8 +85,8 @@ fn fits(inst: &Instance, left: u64, here: &TaskSet, other: &TaskSet, task: u32) 
     here.union(other).meet(apart).is_empty()
 }
 
-// Goes over the places of a side from the last one down: gives up what stands there, up to the first place where a task may join.
-// Whether one has joined. The load given last tells contracts where the scan began.
+// Goes over the places of a side from the last one down: gives up what stands there, up to the first place where a task
+// may join. Whether one has joined. The load given last tells contracts where the scan began.
 fn advance(
     inst: &Instance,
     cycle: u64,
@@ -88,11 +99,14 @@ fn advance(
     sum: &mut u64,
 ) -> bool
     requires set { IsTaskSet inst.now set.now }
-    requires scan { Scan inst.now cycle mode set.now last.now (pair_at side end.old.tasks other.now) (spot inst.now side (tasks inst.now)) }
+    requires scan { Scan inst.now cycle mode set.now last.now (pair_at side end.old.tasks other.now)
+        (spot inst.now side (tasks inst.now)) }
     requires kept { fills mode side ≡ true → IsEnd inst.now side set.now end.old.tasks end.old.free end.old.places }
     requires sum { sum.old ≡ sum_where (has (taken (pair_at side end.old.tasks other.now))) inst.now.times }
-    ensures joined { IsTrue result → IsNext inst.now cycle mode set.now last.now (pair_at side end.new.tasks other.now) }
-    ensures passed { result ≡ false → Scan inst.now cycle mode set.now last.now (pair_at side end.new.tasks other.now) (spot inst.now side 0) }
+    ensures joined { IsTrue result → IsNext inst.now cycle mode set.now last.now
+        (pair_at side end.new.tasks other.now) }
+    ensures passed { result ≡ false → Scan inst.now cycle mode set.now last.now (pair_at side end.new.tasks other.now)
+        (spot inst.now side 0) }
     ensures kept { fills mode side ≡ true → IsEnd inst.now side set.now end.new.tasks end.new.free end.new.places }
     ensures sum { sum.new ≡ sum_where (has (taken (pair_at side end.new.tasks other.now))) inst.now.times }
 {
@@ -132,8 +146,10 @@ fn grows(
     requires kept { fills mode side ≡ true → IsEnd inst.now side set.now end.now.tasks end.now.free end.now.places }
     requires sum { sum ≡ sum_where (has (taken (pair_at side end.now.tasks other.now))) inst.now.times }
     requires fits { sum ≤ cycle }
-    ensures some { IsTrue result → (i : ℕ) × (fills mode side ≡ true) × MayJoin inst.now cycle set.now side (pair_at side end.now.tasks other.now) i }
-    ensures none { result ≡ false → (i : ℕ) → fills mode side ≡ true → MayJoin inst.now cycle set.now side (pair_at side end.now.tasks other.now) i → ⊥ }
+    ensures some { IsTrue result → (i : ℕ) × (fills mode side ≡ true)
+        × MayJoin inst.now cycle set.now side (pair_at side end.now.tasks other.now) i }
+    ensures none { result ≡ false → (i : ℕ) → fills mode side ≡ true
+        → MayJoin inst.now cycle set.now side (pair_at side end.now.tasks other.now) i → ⊥ }
 {
     if !fills(mode, side) {
         return false;
@@ -198,8 +214,8 @@ pub fn begin(inst: &Instance, cycle: u64, set: &TaskSet, mode: Mode) -> Walk
     stand_at(inst, cycle, set, mode, false, &nothing(), 0)
 }
 
-/// A walk over the loads of a set of tasks that goes on after a load of the set, as if it had given that load last. The cycle is in the
-/// instance's time unit.
+/// A walk over the loads of a set of tasks that goes on after a load of the set, as if it had given that load last. The
+/// cycle is in the instance's time unit.
 pub fn resume(inst: &Instance, cycle: u64, set: &TaskSet, mode: Mode, last: &Load) -> Walk
     requires set { IsTaskSet inst.now set.now }
     requires load { IsLoad inst.now cycle mode set.now last.now }
@@ -219,7 +235,8 @@ impl Walk {
     /// The next load; None after the last one, where the walk stays.
     pub fn step(&mut self, inst: &Instance) -> Option<Load>
         requires { IsWalk inst.now self.old }
-        ensures none { IsNone result → (l : Pair) → IsLoad inst.now self.old.cycle self.old.mode self.old.set l → After inst.now self.old.last l → ⊥ }
+        ensures none { IsNone result → (l : Pair) → IsLoad inst.now self.old.cycle self.old.mode self.old.set l
+            → After inst.now self.old.last l → ⊥ }
         ensures next { IfSome result (IsFollowing inst.now self.old.cycle self.old.mode self.old.set self.old.last) }
         ensures given { self.new.last ≡ last_given self.old.last result }
         ensures cycle { self.new.cycle ≡ self.old.cycle }
@@ -299,7 +316,8 @@ impl Walk {
     pub fn full(&self, inst: &Instance) -> bool
         requires walk { IsWalk inst.now self.now }
         requires given { IsSome self.now.last }
-        ensures { IfSome self.now.last (λ l. IsTrue result ↔ IsFull inst.now self.now.cycle self.now.mode self.now.set l) }
+        ensures { IfSome self.now.last (λ l. IsTrue result ↔ IsFull inst.now self.now.cycle self.now.mode self.now.set
+            l) }
     {
         let _tasks = inst.tasks();
         if self.ended {

@@ -15,7 +15,8 @@ timeline_heading = codes "station,unit,model,start,work,utility\n"
 -- a row: the numbers of the station and of the unit, the name of the unit's model, and three times
 abbrev pub timeline_row : ℕ → ℕ → List ℕ → ℕ → ℕ → ℕ → List ℕ
 timeline_row station unit name start work utility =
-    decimal station ++ codes "," ++ decimal unit ++ codes "," ++ name ++ codes "," ++ decimal start ++ codes "," ++ decimal work ++ codes ","
+    decimal station ++ codes "," ++ decimal unit ++ codes "," ++ name ++ codes "," ++ decimal start ++ codes ","
+    ++ decimal work ++ codes ","
     ++ decimal utility ++ codes "\n"
 
 -- the rows of units at a station: the first unit has number k and is begun at `start`, and a unit of model m brings so
@@ -43,6 +44,7 @@ timeline_text mix b units interval length = timeline_heading ++ rows_from mix b.
 
 -- Each answer with its cause: the whole text, of at most 1,000,000 rows; or there are more.
 abbrev pub IsTimelineRead : MixedLine → Assignment → List ℕ → ℕ → ℕ → TimelineRead → Type 0
-IsTimelineRead mix b units interval reach (Text bytes) = (bytes.items ≡ timeline_text mix b units interval reach) × (length units * b.stations ≤ 1000000)
+IsTimelineRead mix b units interval reach (Text bytes) = (bytes.items ≡ timeline_text mix b units interval reach)
+    × (length units * b.stations ≤ 1000000)
 IsTimelineRead mix b units interval reach TooLarge = 1000000 < length units * b.stations
 IsTimelineRead mix b units interval reach NoMemory = Unit {0}

@@ -18,8 +18,8 @@ pub fn idle_of(inst: &Instance, cycle: u64, stations: u32) -> u128
     room.saturating_sub(u128::from(total_time(inst)))
 }
 
-/// A heading, and behind it the idle time and the station lines of a balance on a line of this kind. The one error is that
-/// memory is out.
+/// A heading, and behind it the idle time and the station lines of a balance on a line of this kind. The one error is
+/// that memory is out.
 pub fn balance_text(
     alloc: Global,
     heading: String,

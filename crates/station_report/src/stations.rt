@@ -1,6 +1,7 @@
 //! The printed lines of stations.
 ghost use Rattle.std.specs.Prelude.{◌≡◌, ◌++◌, ◌+◌, ◌<◌, ◌^◌, string_bytes, OnOk, IfOk, length};
-ghost use Rattle.station_report.specs.StationsText.{is_at, has_task, numbers_at, back_part, station_line, stations_text};
+ghost use Rattle.station_report.specs.StationsText.{is_at, has_task, numbers_at, back_part, station_line};
+ghost use Rattle.station_report.specs.StationsText.{stations_text};
 
 use line_rules::{Balance, LineKind, Seatplace, Side};
 use std::alloc::{AllocError, Global};

@@ -1,13 +1,14 @@
 //! The timeline of a sequence of units: a table of comma-separated values with a row for each station and unit.
 //!
 //! Stations are gone over one after the other, and at each one the units in their order, as utility work tells them. So
-//! the time is proportional to the rows, at most 1,000,000, and to stations times models times tasks. The memory is that
-//! of the text.
+//! the time is proportional to the rows, at most 1,000,000, and to stations times models times tasks. The memory is
+//! that of the text.
 ghost use Rattle.std.specs.Prelude.{◌≡◌, ◌≤◌, ◌<◌, ◌++◌, ℕ, true, Some, IfOk, OnOk, All, length, map, slice_index_or};
 ghost use Rattle.csv.specs.Writing.{default_writer, row_text};
 ghost use Rattle.combined_graph.specs.Mixes.{is_name};
 ghost use Rattle.station_report.specs.inner.Table.{IsTable, table_text};
-ghost use Rattle.station_report.specs.TimelineText.{IsTimelineRead, rows_from, station_rows, timeline_heading, timeline_row, unit_rows};
+ghost use Rattle.station_report.specs.TimelineText.{IsTimelineRead, rows_from, station_rows, timeline_heading};
+ghost use Rattle.station_report.specs.TimelineText.{timeline_row, unit_rows};
 
 use combined_graph::Mix;
 use csv::Writer;
@@ -45,7 +46,8 @@ struct Visit {
 fn put_fields(table: &mut Writer<Vec<u8>>, fields: &[&[u8]]) -> Result<(), AllocError>
     requires { IsTable (λ v. Some v.items) table.old }
     ensures table { OnOk result (IsTable (λ v. Some v.items) table.new) }
-    ensures text { OnOk result (table_text (λ v. Some v.items) table.new ≡ table_text (λ v. Some v.items) table.old ++ row_text default_writer (map (λ f. f.now) fields.now)) }
+    ensures text { OnOk result (table_text (λ v. Some v.items) table.new ≡ table_text (λ v. Some v.items) table.old
+        ++ row_text default_writer (map (λ f. f.now) fields.now)) }
 {
     if table.write_fields(fields).is_err() {
         return Err(AllocError);
@@ -78,7 +80,8 @@ fn put_row(table: &mut Writer<Vec<u8>>, name: &[u8], visit: Visit) -> Result<(),
     requires table { IsTable (λ v. Some v.items) table.old }
     requires name { is_name name.now ≡ true }
     ensures table { OnOk result (IsTable (λ v. Some v.items) table.new) }
-    ensures text { OnOk result (table_text (λ v. Some v.items) table.new ≡ table_text (λ v. Some v.items) table.old ++ timeline_row visit.station visit.unit name.now visit.start visit.work visit.utility) }
+    ensures text { OnOk result (table_text (λ v. Some v.items) table.new ≡ table_text (λ v. Some v.items) table.old
+        ++ timeline_row visit.station visit.unit name.now visit.start visit.work visit.utility) }
 {
     let mut station = Buffer::new();
     let mut unit = Buffer::new();
@@ -152,7 +155,8 @@ fn put_stations(
     requires models { All (λ m. m < length mix.now.models) sequence.now }
     requires reach { reach ≤ 1000000000 }
     ensures table { OnOk result (IsTable (λ v. Some v.items) table.new) }
-    ensures text { OnOk result (table_text (λ v. Some v.items) table.new ≡ table_text (λ v. Some v.items) table.old ++ rows_from mix.now balance.now.place sequence.now interval reach 1 balance.now.stations) }
+    ensures text { OnOk result (table_text (λ v. Some v.items) table.new ≡ table_text (λ v. Some v.items) table.old
+        ++ rows_from mix.now balance.now.place sequence.now interval reach 1 balance.now.stations) }
 {
     for k in 0..balance.stations {
         let works = works_at(mix, balance, k + 1);
@@ -175,7 +179,8 @@ fn text_of(
     requires few { length sequence.now ≤ 100000 }
     requires models { All (λ m. m < length mix.now.models) sequence.now }
     requires reach { reach ≤ 1000000000 }
-    ensures { IfOk result (λ t. t.items ≡ timeline_heading ++ rows_from mix.now balance.now.place sequence.now interval reach 1 balance.now.stations) }
+    ensures { IfOk result (λ t. t.items ≡ timeline_heading ++ rows_from mix.now balance.now.place sequence.now interval
+        reach 1 balance.now.stations) }
 {
     let mut table = started(alloc)?;
     put_stations(&mut table, mix, balance, sequence, interval, reach)?;
@@ -186,10 +191,10 @@ fn text_of(
 }
 
 /// The timeline of a sequence of units on a balanced line, each unit a model of the mix, where each station has this
-/// reach, its length: comma-separated values with the heading `station,unit,model,start,work,utility` and a row for each
-/// station and unit, by station and then unit, both counted from 1. The start is where the unit is begun, counted from
-/// the station's beginning; the work is what it brings to the station; and the utility is what of that would be done
-/// behind the station's end. Interval, length and the three of a row are in the mix's time unit.
+/// reach, its length: comma-separated values with the heading `station,unit,model,start,work,utility` and a row for
+/// each station and unit, by station and then unit, both counted from 1. The start is where the unit is begun, counted
+/// from the station's beginning; the work is what it brings to the station; and the utility is what of that would be
+/// done behind the station's end. Interval, length and the three of a row are in the mix's time unit.
 pub fn timeline(
     alloc: Global,
     mix: &Mix,

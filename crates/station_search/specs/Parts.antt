@@ -12,7 +12,8 @@ use Rattle.line_rules.specs.declared.types.Seatplace.{Seatplace}
 -- no task is in two of the loads
 abbrev pub IsOnce : List Load → Type 0
 IsOnce loads =
-    (j k : ℕ) (a b : Load) (i : ℕ) → slice_get loads j ≡ Some a → slice_get loads k ≡ Some b → In (taken a) i → In (taken b) i
+    (j k : ℕ) (a b : Load) (i : ℕ) → slice_get loads j ≡ Some a → slice_get loads k ≡ Some b → In (taken a) i
+    → In (taken b) i
     → j ≡ k
 
 -- The loads part all tasks: each task is in a load, what is in a load is a task, and no task is in two.
@@ -25,4 +26,5 @@ pub record AreParts (line : Line) (loads : List Load) : Type 0 where
 -- task's part
 abbrev pub IsPlaceOf : LineKind → List Load → ℕ → Seatplace → Type 0
 IsPlaceOf kind loads i place =
-    (k : ℕ) (l : Load) → slice_get loads k ≡ Some l → In (taken l) i → place ≡ record { station = suc k; side = side_of kind l i }
+    (k : ℕ) (l : Load) → slice_get loads k ≡ Some l → In (taken l) i
+    → place ≡ record { station = suc k; side = side_of kind l i }

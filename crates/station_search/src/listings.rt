@@ -51,7 +51,8 @@ pub fn next_load(
     listing: &mut Listing,
 ) -> Option<Load>
     requires { IsBeside inst.now cycle frame.now listing.old }
-    ensures none { IsNone result → (l : Pair) → IsLoad inst.now cycle frame.now.mode frame.now.set l → After inst.now frame.now.last l → ⊥ }
+    ensures none { IsNone result → (l : Pair) → IsLoad inst.now cycle frame.now.mode frame.now.set l
+        → After inst.now frame.now.last l → ⊥ }
     ensures next { IfSome result (IsFollowing inst.now cycle frame.now.mode frame.now.set frame.now.last) }
     ensures beside { IfSome result (λ l. IsBeside inst.now cycle (with_last frame.now l) listing.new) }
 {

@@ -5,7 +5,8 @@ use Rattle.steal_pool.specs.declared.pool.PutBack.{PutBack}
 use Rattle.steal_pool.specs.declared.pool.PutBack.TheVariants as put_back
 use Rattle.steal_pool.specs.declared.pool.Took.{Took}
 use Rattle.steal_pool.specs.declared.pool.Took.TheVariants as took
-use Rattle.steal_pool.specs.Hands.{HandView, own_of, tooks, founds, mark_of, next_number, put_home, took_port, looked_port}
+use Rattle.steal_pool.specs.Hands.{HandView, own_of, tooks, founds, mark_of, next_number, put_home, took_port}
+use Rattle.steal_pool.specs.Hands.{looked_port}
 
 -- the list with one of its items changed
 abbrev pub change : {A : Type 0} → (A → A) → ℕ → List A → List A
@@ -42,23 +43,23 @@ looked_before k v = record v { home = looked_port v.home; ports = change_below l
 abbrev pub found_all : HandView → HandView
 found_all v = record v { home = looked_port v.home; ports = map looked_port v.ports }
 
--- Got: the piece was taken from the hand's own deque; or that one was found empty, and the piece was taken from the first
--- deque in order that wasn't. Empty: all were found empty. Nothing else changes.
+-- Got: the piece was taken from the hand's own deque; or that one was found empty, and the piece was taken from the
+-- first deque in order that wasn't. Empty: all were found empty. Nothing else changes.
 abbrev pub Takes : HandView → Took → HandView → Type 0
 Takes v (took.Got x) w =
     (w ≡ took_from v.name x v) ⊎ ((k : ℕ) × (k < length v.ports) × (w ≡ took_from k x (looked_before k v)))
 Takes v took.Empty w = w ≡ found_all v
 
--- What a hand's lists are after Got: the piece joined the list of those that the hand took from one deque. No other list
--- changed.
+-- What a hand's lists are after Got: the piece joined the list of those that the hand took from one deque. No other
+-- list changed.
 pub record GetsOne (x : Piece) (v w : HandView) : Type 0 where
   pub deque : ℕ
   pub there : deque < length v.ports
   pub lists : tooks w ≡ change (λ (l : List Piece). l ++ x ∷ []) deque (tooks v)
   pub own : own_of w ≡ own_of v
 
--- What a hand knows after Empty: of each deque the count rose, so it found each empty at a step of its own in this call.
--- No list changed, and its mark stands.
+-- What a hand knows after Empty: of each deque the count rose, so it found each empty at a step of its own in this
+-- call. No list changed, and its mark stands.
 pub record FindsNone (v w : HandView) : Type 0 where
   pub counts : founds w ≡ map suc (founds v)
   pub lists : tooks w ≡ tooks v

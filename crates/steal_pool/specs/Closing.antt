@@ -1,5 +1,6 @@
 -- What closing a pool counts, and its parts. Own.
-use Rattle.std.specs.Prelude.{◌≡◌, ℕ, zero, suc, ◌+◌, ◌-◌, ◌*◌, ◌<◌, ◌≤◌, true, cond, nat_eq, List, [], ◌∷◌, length, map, take, sum_by, slice_get, Some}
+use Rattle.std.specs.Prelude.{◌≡◌, ℕ, zero, suc, ◌+◌, ◌-◌, ◌*◌, ◌<◌, ◌≤◌, true, cond, nat_eq, List, [], ◌∷◌, length}
+use Rattle.std.specs.Prelude.{map, take, sum_by, slice_get, Some}
 use Rattle.steal_pool.specs.declared.piece.Piece.{Piece}
 use Rattle.steal_pool.specs.declared.closing.Closed.{Closed}
 use Rattle.steal_pool.specs.Hands.{DequeId, PortView, HandView, own_of, mark_of, joined, IsNumberOf}
@@ -18,8 +19,8 @@ took_at k v = got_at k v.ports
 abbrev pub times : ℕ → List Piece → ℕ
 times n xs = sum_by (λ (x : Piece). cond (nat_eq x.number n) 1 0) xs
 
--- the mark of each hand stands: its last call was a take that answered Empty, or it found its own deque empty on the way
--- to another and has put nothing since
+-- the mark of each hand stands: its last call was a take that answered Empty, or it found its own deque empty on the
+-- way to another and has put nothing since
 abbrev pub AreMarked : List HandView → Type 0
 AreMarked hands = (k : ℕ) (v : HandView) → slice_get hands k ≡ Some v → mark_of v ≡ true
 

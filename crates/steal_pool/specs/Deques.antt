@@ -42,8 +42,8 @@ pub record Fits (owner put gone seat : ℕ) (v : Tally) : Type 0 where
 abbrev pub reported : List Tally → ℕ
 reported views = sum_by (λ (v : Tally). v.gone) views
 
--- The one word of a tally is what was put less what was reported as taken, as a number of 64 bits. Where the owner's mark
--- stands, all that was put is reported.
+-- The one word of a tally is what was put less what was reported as taken, as a number of 64 bits. Where the owner's
+-- mark stands, all that was put is reported.
 pub record IsTallied (s : State (Unit {0}) Tally) : Type 0 where
   pub left : ℕ
   pub put : ℕ

@@ -1,5 +1,6 @@
 -- What contracts see of a pool and of its hands. Own.
-use Rattle.std.specs.Prelude.{◌≡◌, ◌⊎◌, ◌/◌, ℕ, suc, ◌+◌, ◌-◌, ◌*◌, ◌^◌, ◌<◌, ◌≤◌, Bool, true, false, List, [], ◌∷◌, ◌++◌, length, map, filter, ◌%◌, nat_eq, slice_get, Some}
+use Rattle.std.specs.Prelude.{◌≡◌, ◌⊎◌, ◌/◌, ℕ, suc, ◌+◌, ◌-◌, ◌*◌, ◌^◌, ◌<◌, ◌≤◌, Bool, true, false, List, [], ◌∷◌}
+use Rattle.std.specs.Prelude.{◌++◌, length, map, filter, ◌%◌, nat_eq, slice_get, Some}
 use Rattle.std.specs.declared.alloc.Global.{Global}
 use Rattle.atomic_table.specs.Seated.{TableId}
 use Rattle.steal_pool.specs.declared.piece.Piece.{Piece}
@@ -56,8 +57,8 @@ joined p q = record {
   tally = tally_both p.tally q.tally;
 }
 
--- A hand: its number in the pool, from 0; how many pieces were dealt to it; what it knows as an owner; and what it knows
--- of each deque of the pool, in order.
+-- A hand: its number in the pool, from 0; how many pieces were dealt to it; what it knows as an owner; and what it
+-- knows of each deque of the pool, in order.
 pub record HandView : Type 0 where
   pub name : ℕ
   pub count : ℕ

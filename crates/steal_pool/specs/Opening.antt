@@ -3,7 +3,8 @@ use Rattle.std.specs.Prelude.{◌≡◌, ℕ, suc, ◌-◌, ◌<◌, List, [], l
 use Rattle.steal_pool.specs.declared.piece.Piece.{Piece}
 use Rattle.steal_pool.specs.declared.opening.Opened.{Opened}
 use Rattle.steal_pool.specs.declared.opening.Opened.TheVariants as opened
-use Rattle.steal_pool.specs.Hands.{DequeId, PortView, HandView, own_of, home_with, left_home, fresh_port, put_home, each_from, new_hands, AreHandsOf}
+use Rattle.steal_pool.specs.Hands.{DequeId, PortView, HandView, own_of, home_with, left_home, fresh_port, put_home}
+use Rattle.steal_pool.specs.Hands.{each_from, new_hands, AreHandsOf}
 
 -- a pool with so many deques, and its hands: each was dealt its pieces, and took none
 abbrev pub Opens : List Piece → ℕ → Opened → Type 0

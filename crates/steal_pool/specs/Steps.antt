@@ -1,5 +1,5 @@
--- The kinds of step on a deque and on its tally, and what each tells. No other step changes what a pass or a seat knows.
--- Own.
+-- The kinds of step on a deque and on its tally, and what each tells. No other step changes what a pass or a seat
+-- knows. Own.
 use Rattle.std.specs.Prelude.{◌≡◌, ℕ, suc, ◌+◌, ◌-◌, ◌≤◌, true, false, cond, nat_eq, List, [], ◌++◌, sum_by}
 use Rattle.atomic_table.specs.Table.{Step, Me}
 use Rattle.steal_pool.specs.declared.piece.Piece.{Piece}
@@ -55,7 +55,14 @@ reports v = record { parts = v.parts; boss = v.boss; put = v.put; gone = suc v.g
 
 -- all that was put was reported as taken: the count rises, and the owner's mark is set
 abbrev pub found_empty : Tally → Tally
-found_empty v = record { parts = v.parts; boss = v.boss; put = v.put; gone = v.gone; found = suc v.found; mark = v.boss }
+found_empty v = record {
+  parts = v.parts;
+  boss = v.boss;
+  put = v.put;
+  gone = v.gone;
+  found = suc v.found;
+  mark = v.boss;
+}
 
 abbrev pub Announces : Step (Unit {0}) → Mine → ℕ → Mine → Type 0
 Announces st m found n = n ≡ (announced m.0, m.1)

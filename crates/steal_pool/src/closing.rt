@@ -2,7 +2,8 @@
 ghost use Rattle.std.specs.Prelude.{◌≡◌, List, [], ◌≤◌, length, map};
 ghost use Rattle.steal_pool.specs.declared.piece.Piece.{Piece};
 ghost use Rattle.steal_pool.specs.Hands.{AreHandsOf, HandView, own_of, standing, at_deque};
-ghost use Rattle.steal_pool.specs.Closing.{IsClosed, joined_one, joined_hands, HasReported, HaveReported, AreGathered, IsLeft, AreWhole, AreCounted};
+ghost use Rattle.steal_pool.specs.Closing.{IsClosed, joined_one, joined_hands, HasReported, HaveReported, AreGathered};
+ghost use Rattle.steal_pool.specs.Closing.{IsLeft, AreWhole, AreCounted};
 
 use crate::hand::{Hand, Hands};
 use crate::pool::Pool;

@@ -1,5 +1,6 @@
 //! The steps on a deque and on its tally.
-ghost use Rattle.std.specs.Prelude.{◌≡◌, ℕ, ◌+◌, ◌-◌, ◌^◌, ◌<◌, ◌≤◌, true, List, [], ◌∷◌, length, IfOk, IfSome, IfNone, MatchBool};
+ghost use Rattle.std.specs.Prelude.{◌≡◌, ℕ, ◌+◌, ◌-◌, ◌^◌, ◌<◌, ◌≤◌, true, List, [], ◌∷◌, length, IfOk, IfSome, IfNone};
+ghost use Rattle.std.specs.Prelude.{MatchBool};
 ghost use Rattle.steal_pool.specs.declared.piece.Piece.{Piece};
 ghost use Rattle.steal_pool.specs.Steps.{IsWhole, IsSettled};
 ghost use Rattle.steal_pool.specs.Hands.{home_with, left_home, fresh_port, put_home, looked_port, took_port, joined};
@@ -103,8 +104,8 @@ impl Deque {
         }
     }
 
-    /// Takes the first piece for the owner. None says that at a moment of this call all that were put were taken: the mark
-    /// is set then. While another hand's step wins it tries again.
+    /// Takes the first piece for the owner. None says that at a moment of this call all that were put were taken: the
+    /// mark is set then. While another hand's step wins it tries again.
     pub fn take_own<R: Wait>(&self, rt: &R, home: &mut Home, port: &mut Port) -> Option<Piece>
         requires home { home.old.deque ≡ self.now }
         requires port { (port.old.deque ≡ self.now) × (0 < port.old.log.parts) × (0 < port.old.tally.parts) }
@@ -123,8 +124,8 @@ impl Deque {
         unreachable!()
     }
 
-    /// Takes the first piece. None says that at a moment of this call all that were put were taken; while another hand's
-    /// step wins it tries again.
+    /// Takes the first piece. None says that at a moment of this call all that were put were taken; while another
+    /// hand's step wins it tries again.
     pub fn take<R: Wait>(&self, rt: &R, port: &mut Port) -> Option<Piece>
         requires port { (port.old.deque ≡ self.now) × (0 < port.old.log.parts) × (0 < port.old.tally.parts) }
         ensures some { IfSome result (λ x. port.new ≡ took_port x port.old) }

@@ -2,9 +2,9 @@
 //!
 //! A hand puts pieces on the deque that it owns (the crate `crossbeam_deque`, first in, first out) and takes them from
 //! any deque. Beside each deque is a tally (the crate `atomic_table`), one word that counts the pieces put and not yet
-//! taken: a hand finds a deque empty where it finds 0 there, and tries again while another hand's step wins. What was put
-//! on a deque and what was taken from it is known to the rules of the two alone (specs/Deques.antt), and the promises
-//! of the calls are in terms of what a hand knows before and after (specs/Hands.antt, specs/Calls.antt).
+//! taken: a hand finds a deque empty where it finds 0 there, and tries again while another hand's step wins. What was
+//! put on a deque and what was taken from it is known to the rules of the two alone (specs/Deques.antt), and the
+//! promises of the calls are in terms of what a hand knows before and after (specs/Hands.antt, specs/Calls.antt).
 //!
 //! A put costs two atomic steps, a take three and two looks at most for each deque that it finds empty. Room for 4,096
 //! pieces a hand is taken when the pool is opened, and none after.

@@ -44,7 +44,8 @@ fn ports_of(
     hands: &mut Vec<Hand>,
 ) -> Result<Vec<Port>, AllocError>
     requires { CanLeave deques.now.items hands.old.items }
-    ensures { IfOk result (λ r. (r.items ≡ map fresh_port deques.now.items) × (hands.new.items ≡ map left_hand hands.old.items)) }
+    ensures { IfOk result (λ r. (r.items ≡ map fresh_port deques.now.items)
+        × (hands.new.items ≡ map left_hand hands.old.items)) }
 {
     let mut ports = Vec::with_capacity(alloc, deques.len())?;
     for k in 0..deques.len() {

@@ -76,7 +76,8 @@ impl Pool {
         requires below { k < length self.now }
         requires home { slice_get self.now k ≡ Some home.old.deque }
         requires ports { map standing ports.old.items ≡ map at_deque self.now }
-        ensures some { IfSome result (λ x. (home.new ≡ home.old) × (ports.new.items ≡ change (took_port x) k ports.old.items)) }
+        ensures some { IfSome result (λ x. (home.new ≡ home.old)
+            × (ports.new.items ≡ change (took_port x) k ports.old.items)) }
         ensures none { IfNone result ((home.new ≡ looked_port home.old) × (ports.new.items ≡ ports.old.items)) }
     {
         let port = &mut ports[k];
@@ -114,8 +115,8 @@ impl Pool {
         self.take_at(rt, &mut hand.ports, k)
     }
 
-    /// Takes a piece from the hand's own deque, else from the first of all deques that has one. It may wait, trying again
-    /// while another hand's step wins.
+    /// Takes a piece from the hand's own deque, else from the first of all deques that has one. It may wait, trying
+    /// again while another hand's step wins.
     pub fn take<R: Wait>(&self, rt: &R, hand: &mut Hand) -> Took
         requires { IsHandOf self.now hand.old }
         ensures hand { IsHandOf self.now hand.new × (hand.new.name ≡ hand.old.name) }

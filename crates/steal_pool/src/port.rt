@@ -1,5 +1,5 @@
-//! What all hands share of a deque; what its owner has of it, a worker and a seat at its tally; and what each hand has of
-//! it, a pass and a seat.
+//! What all hands share of a deque; what its owner has of it, a worker and a seat at its tally; and what each hand has
+//! of it, a pass and a seat.
 use crate::piece::Piece;
 use crate::rules::{Counting, Dealing};
 use crate::views::{LogView, TallyView};
@@ -51,7 +51,11 @@ impl Model for Home {
 
     ghost Value = { PortView };
 
-    ghost view = { λ h. record { deque = record { pieces = worker_deque h.worker; tally = h.seat.table_id }; log = worker_view h.worker; tally = h.seat.me.0 } };
+    ghost view = { λ h. record {
+      deque = record { pieces = worker_deque h.worker; tally = h.seat.table_id };
+      log = worker_view h.worker;
+      tally = h.seat.me.0;
+    } };
 
     ghost invariant = { λ h. HasRoom h.worker h.seat.me };
 }
@@ -69,7 +73,11 @@ impl Model for Port {
 
     ghost Value = { PortView };
 
-    ghost view = { λ p. record { deque = record { pieces = (p.pass.rows, p.pass.heap); tally = p.seat.table_id }; log = p.pass.me.view.client; tally = p.seat.me.0 } };
+    ghost view = { λ p. record {
+      deque = record { pieces = (p.pass.rows, p.pass.heap); tally = p.seat.table_id };
+      log = p.pass.me.view.client;
+      tally = p.seat.me.0;
+    } };
 
     ghost invariant = { λ p. IsResting p.pass p.seat.me };
 }

@@ -1,8 +1,10 @@
-//! The rules of a deque and of its tally (specs/Deques.antt), and a type for each kind of step, which says what the step
-//! tells (specs/Steps.antt). They have no bytes.
+//! The rules of a deque and of its tally (specs/Deques.antt), and a type for each kind of step, which says what the
+//! step tells (specs/Steps.antt). They have no bytes.
 ghost use Rattle.std.specs.Prelude.{◌≡◌};
 ghost use Rattle.steal_pool.specs.Deques.{IsShared, IsTallied};
-ghost use Rattle.steal_pool.specs.Steps.{newcomer, nobody, pushed, taken, log_left, log_right, log_both, IsWhole, first_tally, no_tally, Announces, Reports, Looks, Settles, tally_left, tally_right, tally_both};
+ghost use Rattle.steal_pool.specs.Steps.{newcomer, nobody, pushed, taken, log_left, log_right, log_both, IsWhole};
+ghost use Rattle.steal_pool.specs.Steps.{first_tally, no_tally, Announces, Reports, Looks, Settles, tally_left};
+ghost use Rattle.steal_pool.specs.Steps.{tally_right, tally_both};
 
 use crate::piece::Piece;
 use crate::views::{LogView, TallyView};

@@ -32,7 +32,8 @@ MembersAreListed = (s : List Bool) (i : ℕ) → In s i ↔ Contains (members_of
 
 -- each number in the list of the members is less than the next
 abbrev pub MembersRise : Type 0
-MembersRise = (s : List Bool) (k : ℕ) → k + 1 < length (members_of s) → slice_index_or (members_of s) k 0 < slice_index_or (members_of s) (k + 1) 0
+MembersRise = (s : List Bool) (k : ℕ) → k + 1 < length (members_of s)
+    → slice_index_or (members_of s) k 0 < slice_index_or (members_of s) (k + 1) 0
 
 -- the list of the members is as long as the set has members
 abbrev pub CountIsLength : Type 0

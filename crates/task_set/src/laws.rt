@@ -1,6 +1,7 @@
 //! Laws of the sets. Each function does nothing: its contract is the law, over the lists of truths that contracts see.
 
-ghost use Rattle.task_set.specs.Laws.{SubsetIsTransitive, MinusIsSubset, MeetIsSubset, DisjointCountsAdd, CountFalls, SameMembersAreEqual, MembersAreListed, MembersRise, CountIsLength};
+ghost use Rattle.task_set.specs.Laws.{SubsetIsTransitive, MinusIsSubset, MeetIsSubset, DisjointCountsAdd, CountFalls};
+ghost use Rattle.task_set.specs.Laws.{SameMembersAreEqual, MembersAreListed, MembersRise, CountIsLength};
 
 /// A subset of a subset is a subset.
 pub fn subset_is_transitive()

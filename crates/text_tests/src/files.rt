@@ -83,8 +83,8 @@ fn a_missing_name_is_a_read_fault(rt: HostRuntime) -> Result<(), Fail> {
     Ok(())
 }
 
-/// How a text is written over a file of five bytes, where a call fails and keeps so many bytes, and how many the file has
-/// then.
+/// How a text is written over a file of five bytes, where a call fails and keeps so many bytes, and how many the file
+/// has then.
 fn written_over(alloc: Global, bytes: &[u8], call: u64, keep: u64) -> Result<(Written, usize), Fail>
     requires { length bytes.now ≡ 131073 }
 {

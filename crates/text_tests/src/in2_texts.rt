@@ -1,5 +1,5 @@
-//! What no clause says: that texts are read where there is memory, and printed faults. The counts come from a reader in another
-//! language.
+//! What no clause says: that texts are read where there is memory, and printed faults. The counts come from a reader in
+//! another language.
 ghost use Rattle.std.specs.Prelude.{◌≡◌, ◌≤◌, ◌<◌, ◌^◌, length};
 
 use crate::rows::bytes_of;

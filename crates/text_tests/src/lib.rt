@@ -1,5 +1,5 @@
-//! Tests of what comes from outside and goes there: files and output in memory and on disk, the two formats of instances, the
-//! words of the command line, and what a command leaves.
+//! Tests of what comes from outside and goes there: files and output in memory and on disk, the two formats of
+//! instances, the words of the command line, and what a command leaves.
 #![tactic(auto)]
 
 #[cfg(test)]

@@ -1,5 +1,5 @@
--- What `try` comes to: the line of a seed, what was proved of it within N units and no helpers, and a certificate that was
--- written, read again and verified.
+-- What `try` comes to: the line of a seed, what was proved of it within N units and no helpers, and a certificate that
+-- was written, read again and verified.
 use Rattle.std.specs.Prelude.{◌≡◌, ◌⊎◌, ◌≤◌, ℕ, List}
 use Rattle.line_instance.specs.Line.{Line, tasks}
 use Rattle.line_rules.specs.Accepted.{IsAccepted}
@@ -36,7 +36,8 @@ pub record IsReadAndVerified (line : Line) (certificate : Certificate) (lower up
   pub verified : IsVerdict line certificate max_units (Accepted lower upper units)
 
 -- The optimum was found: the balance has the least number of stations, and the certificate proves it.
-pub record IsOptimumTried (kind : LineKind) (line : Line) (seed n c : ℕ) (certificate : Certificate) (status : Status) (text : List ℕ) : Type 0 where
+pub record IsOptimumTried (kind : LineKind) (line : Line) (seed n c : ℕ) (certificate : Certificate) (status : Status)
+    (text : List ℕ) : Type 0 where
   pub balance : Assignment
   pub proved : IsOptimum kind line c balance certificate
   pub done : status ≡ ends.Done
@@ -44,7 +45,8 @@ pub record IsOptimumTried (kind : LineKind) (line : Line) (seed n c : ℕ) (cert
   pub printed : text ≡ bounds_line seed n 0 balance.stations balance.stations
 
 -- The N units were used: the certificate has the bounds and the best balance, and lists the units.
-pub record IsStopTried (kind : LineKind) (line : Line) (seed n c N : ℕ) (certificate : Certificate) (status : Status) (text : List ℕ) : Type 0 where
+pub record IsStopTried (kind : LineKind) (line : Line) (seed n c N : ℕ) (certificate : Certificate) (status : Status)
+    (text : List ℕ) : Type 0 where
   pub lower : ℕ
   pub balance : Assignment
   pub proved : IsStop kind line c (alone N) lower balance certificate
@@ -53,7 +55,8 @@ pub record IsStopTried (kind : LineKind) (line : Line) (seed n c N : ℕ) (certi
   pub printed : text ≡ bounds_line seed n 1 lower balance.stations
 
 -- A task is longer than the cycle: the certificate names the least such task.
-pub record IsNoneTried (kind : LineKind) (line : Line) (seed n c : ℕ) (certificate : Certificate) (status : Status) (text : List ℕ) : Type 0 where
+pub record IsNoneTried (kind : LineKind) (line : Line) (seed n c : ℕ) (certificate : Certificate) (status : Status)
+    (text : List ℕ) : Type 0 where
   pub task : ℕ
   pub least : IsLeastWhere (IsTooLong line c) task
   pub proved : IsNoBalance kind line c task certificate
@@ -61,13 +64,17 @@ pub record IsNoneTried (kind : LineKind) (line : Line) (seed n c : ℕ) (certifi
   pub printed : text ≡ none_line seed n
 
 -- what is told of a line, with a certificate, which is kept
-pub record IsShown (kind : LineKind) (line : Line) (seed n c N : ℕ) (status : Status) (text : List ℕ) (kept : Kept) : Type 0 where
+pub record IsShown (kind : LineKind) (line : Line) (seed n c N : ℕ) (status : Status) (text : List ℕ)
+    (kept : Kept) : Type 0 where
   pub certificate : Certificate
   pub keeps : kept ≡ Certified certificate
-  pub shows : IsOptimumTried kind line seed n c certificate status text ⊎ IsStopTried kind line seed n c N certificate status text ⊎ IsNoneTried kind line seed n c certificate status text
+  pub shows : IsOptimumTried kind line seed n c certificate status text
+      ⊎ IsStopTried kind line seed n c N certificate status text
+      ⊎ IsNoneTried kind line seed n c certificate status text
 
 -- what is told of the line of a seed
-pub record IsTried (seed n c : ℕ) (kind : LineKind) (N : ℕ) (status : Status) (text : List ℕ) (kept : Kept) : Type 0 where
+pub record IsTried (seed n c : ℕ) (kind : LineKind) (N : ℕ) (status : Status) (text : List ℕ)
+    (kept : Kept) : Type 0 where
   pub line : Line
   pub drawn : IsGenerated seed n line
   pub shown : IsShown kind line seed n c N status text kept

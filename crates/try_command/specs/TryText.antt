@@ -3,7 +3,8 @@ use Rattle.std.specs.Prelude.{ℕ, List, ◌++◌, codes, decimal}
 
 -- the line and its status
 abbrev pub status_words : ℕ → ℕ → ℕ → List ℕ
-status_words seed n code = codes "try seed " ++ decimal seed ++ codes " tasks " ++ decimal n ++ codes " status " ++ decimal code
+status_words seed n code = codes "try seed " ++ decimal seed ++ codes " tasks " ++ decimal n ++ codes " status "
+    ++ decimal code
 
 -- the bounds, which are accepted
 abbrev pub bounds_words : ℕ → ℕ → List ℕ

@@ -1,5 +1,5 @@
-//! What `try` tells of three seeds: two times that fit one station, a line that needs a search, and a cycle that a task is longer
-//! than.
+//! What `try` tells of three seeds: two times that fit one station, a line that needs a search, and a cycle that a task
+//! is longer than.
 use crate::try_report;
 use line_rules::LineKind;
 use std::alloc::Global;

@@ -46,7 +46,8 @@ fn read_back(alloc: Global, cert: &Certificate) -> Result<Certificate, AllocErro
     }
 }
 
-/// What the check of a certificate finds: with its entries side by side or, where there is no memory for that, in order.
+/// What the check of a certificate finds: with its entries side by side or, where there is no memory for that, in
+/// order.
 fn verdict_of<R: Threads + Sync>(
     rt: &R,
     alloc: Global,
@@ -101,7 +102,8 @@ fn optimal<R: Threads + Sync>(
 ) -> Result<Report, AllocError>
     requires cycle { IsCycle cycle }
     requires solved { (N : ℕ) × (N ≤ 3000000) × IsSolved kind inst.now cycle N book }
-    ensures { IfOk result (λ r. (N : ℕ) → IsShown kind inst.now seed (tasks inst.now) cycle N r.status r.text.items r.kept) }
+    ensures { IfOk result (λ r. (N : ℕ) → IsShown kind inst.now seed (tasks inst.now) cycle N r.status r.text.items
+        r.kept) }
 {
     let cert = certify_optimum(alloc, inst, kind, cycle, book)?;
     told(rt, alloc, inst, seed, Status::Done, cert)
@@ -160,7 +162,8 @@ fn infeasible(
 ) -> Result<Report, AllocError>
     requires cycle { IsCycle cycle }
     requires long { IsLeastWhere (IsTooLong inst.now cycle) task }
-    ensures { IfOk result (λ r. (N : ℕ) → IsShown kind inst.now seed (tasks inst.now) cycle N r.status r.text.items r.kept) }
+    ensures { IfOk result (λ r. (N : ℕ) → IsShown kind inst.now seed (tasks inst.now) cycle N r.status r.text.items
+        r.kept) }
 {
     let text = none_text(alloc, seed, inst.tasks())?;
     Ok(Report {
@@ -202,8 +205,8 @@ fn report_of<R: Threads + Wait + Sync>(
     }
 }
 
-/// The report of `try` for a seed, 1 to 1,024 tasks, a cycle of 1 to 10^18 in the times' unit, the kind of line, and 1 to
-/// 3,000,000 units. The search has no helpers. It stops only where memory is wanting.
+/// The report of `try` for a seed, 1 to 1,024 tasks, a cycle of 1 to 10^18 in the times' unit, the kind of line, and 1
+/// to 3,000,000 units. The search has no helpers. It stops only where memory is wanting.
 pub fn try_report<R: Threads + Wait + Sync>(
     rt: &R,
     alloc: Global,

@@ -9,7 +9,8 @@ use Rattle.line_rules.specs.declared.types.Seatplace.{Seatplace}
 
 -- the times of a model's tasks at a station
 abbrev pub work_at : List Seatplace → ℕ → LineModel → ℕ
-work_at places station model = sum_where (λ t. nat_eq (seat places t).station station) (map (λ time. unwrap_or time 0) model.times)
+work_at places station model = sum_where (λ t. nat_eq (seat places t).station station)
+    (map (λ time. unwrap_or time 0) model.times)
 
 -- the utility work of a unit: what of its work would be done behind the station's end
 abbrev pub utility_of : ℕ → ℕ → ℕ → ℕ
@@ -23,8 +24,10 @@ next_start start work length interval = start + work - utility_of start work len
 abbrev pub utility_from : ℕ → ℕ → (ℕ → ℕ) → ℕ → List ℕ → ℕ
 utility_from length interval work start [] = 0
 utility_from length interval work start (m ∷ units) =
-    utility_of start (work m) length + utility_from length interval work (next_start start (work m) length interval) units
+    utility_of start (work m) length + utility_from length interval work (next_start start (work m) length interval)
+    units
 
 -- the utility work at a station, of which the first unit is begun at the station's beginning
 abbrev pub station_utility : MixedLine → List Seatplace → List ℕ → ℕ → ℕ → ℕ → ℕ
-station_utility mix places units interval length station = utility_from length interval (λ m. work_at places station (model_at mix.models m)) 0 units
+station_utility mix places units interval length station = utility_from length interval
+    (λ m. work_at places station (model_at mix.models m)) 0 units

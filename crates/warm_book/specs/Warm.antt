@@ -1,5 +1,6 @@
 -- Which entries of an old list a book takes in, and what the book is then.
-use Rattle.std.specs.Prelude.{◌≡◌, ◌⊎◌, ℕ, ◌+◌, ◌≤◌, List, [], ◌∷◌, ◌++◌, length, slice_get, Option, Some, None, unwrap_or}
+use Rattle.std.specs.Prelude.{◌≡◌, ◌⊎◌, ℕ, ◌+◌, ◌≤◌, List, [], ◌∷◌, ◌++◌, length, slice_get, Option, Some, None}
+use Rattle.std.specs.Prelude.{unwrap_or}
 use Rattle.line_rules.specs.Entries.{Follows}
 use Rattle.line_rules.specs.Units.{UnitsBy, UnitsOf}
 use Rattle.line_rules.specs.declared.types.Entry.{Entry}
@@ -12,8 +13,8 @@ use Rattle.lemma_core.specs.Books.{BookView, ran}
 use Rattle.warm_book.specs.declared.warming.Warmed.{Warmed}
 use Rattle.warm_book.specs.declared.warming.Warmed.TheVariants as warmed
 
--- A book that takes in old entries: the book; for each old entry gone over, its number in the book where it was kept; how
--- many were kept; and the sum of the units of these.
+-- A book that takes in old entries: the book; for each old entry gone over, its number in the book where it was kept;
+-- how many were kept; and the sum of the units of these.
 pub record Taking : Type 0 where
   pub book : BookView
   pub numbers : List (Option ℕ)
@@ -62,9 +63,9 @@ with_why e (Some w) = Some (record { set = e.set; most = e.most; cycle = e.cycle
 abbrev pub renumbered : List (Option ℕ) → Entry → Option Entry
 renumbered numbers e = with_why e (renumbered_why numbers e.why)
 
--- An old entry is kept, as this entry, with so many units: its cycle is at least the book's; each of its cites names an old
--- entry before it that was kept; with its cites renumbered it follows from the book's entries; and with it, the kept entries
--- are at most `room`, and so is the sum of their units.
+-- An old entry is kept, as this entry, with so many units: its cycle is at least the book's; each of its cites names an
+-- old entry before it that was kept; with its cites renumbered it follows from the book's entries; and with it, the
+-- kept entries are at most `room`, and so is the sum of their units.
 pub record IsKept (room : ℕ) (t : Taking) (old new : Entry) (units : ℕ) : Type 0 where
   pub cycle : t.book.about.cycle ≤ old.cycle
   pub cites : renumbered t.numbers old ≡ Some new
@@ -73,8 +74,8 @@ pub record IsKept (room : ℕ) (t : Taking) (old new : Entry) (units : ℕ) : Ty
   pub counted : UnitsBy t.book.about.line new new.why units
   pub sum : t.units + units ≤ room
 
--- the number under which a book has an entry that was published: that of the last entry that answers it, else the number
--- of entries before
+-- the number under which a book has an entry that was published: that of the last entry that answers it, else the
+-- number of entries before
 abbrev pub number_of : State → Entry → ℕ
 number_of s e = unwrap_or (last_answer s.entries e.set e.most e.cycle) (length s.entries)
 
@@ -123,7 +124,8 @@ pub record IsWarmer (room : ℕ) (old new : BookView) (kept : ℕ) : Type 0 wher
   pub counted : UnitsOf old.about.line added units
   pub paid : units ≤ room
 
--- What warming comes to: all old entries were taken, and so many of them were kept; or memory ended behind some of them.
+-- What warming comes to: all old entries were taken, and so many of them were kept; or memory ended behind some of
+-- them.
 abbrev pub IsWarmed : ℕ → BookView → List Entry → Warmed → Type 0
 IsWarmed room book old (warmed.Done new kept) =
     (t : Taking) × (TakesAll room (untaken book) old t × (t.book ≡ new) × (t.kept ≡ kept))

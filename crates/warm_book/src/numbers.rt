@@ -59,8 +59,8 @@ fn renumbered_why(
     }
 }
 
-/// The same entry with its cites renumbered, where each is of an old entry that was kept. `numbers` has, for each old entry
-/// gone over, its number in the book where it was kept. An error where memory is wanting.
+/// The same entry with its cites renumbered, where each is of an old entry that was kept. `numbers` has, for each old
+/// entry gone over, its number in the book where it was kept. An error where memory is wanting.
 pub(crate) fn renumbered(
     alloc: Global,
     numbers: &[Option<u64>],

@@ -1,8 +1,9 @@
 //! One pass over old entries, with the book that takes them in.
 //!
-//! For each old entry gone over, its number in the book is kept, which takes 16 bytes: so cites are renumbered without a
-//! search. The room for these numbers is taken at the start.
-ghost use Rattle.std.specs.Prelude.{◌≡◌, ◌+◌, ◌-◌, ◌^◌, ◌<◌, ◌≤◌, ◌∷◌, [], length, vec_len, vec_capacity, OnOk, OnErr, IfOk, IfSome};
+//! For each old entry gone over, its number in the book is kept, which takes 16 bytes: so cites are renumbered without
+//! a search. The room for these numbers is taken at the start.
+ghost use Rattle.std.specs.Prelude.{◌≡◌, ◌+◌, ◌-◌, ◌^◌, ◌<◌, ◌≤◌, ◌∷◌, [], length, vec_len, vec_capacity, OnOk, OnErr};
+ghost use Rattle.std.specs.Prelude.{IfOk, IfSome};
 ghost use Rattle.line_instance.specs.Line.{IsTaskSet, tasks};
 ghost use Rattle.line_rules.specs.Entries.{Follows, IsDerived, IsFresh};
 ghost use Rattle.line_rules.specs.Ranges.{AreEntries, IsCycle};
@@ -50,8 +51,8 @@ struct Judged {
 }
 
 impl Warming {
-    // What is found of an entry after those of the book. It is walked, unless a walk is known to find it right with so many
-    // units.
+    // What is found of an entry after those of the book. It is walked, unless a walk is known to find it right with so
+    // many units.
     fn check(&self, inst: &Instance, entry: &Entry, walked: Option<u64>, steps: u64) -> EntryChecked
         requires set { IsTaskSet inst.now entry.now.set }
         requires cycle { IsCycle entry.now.cycle }
@@ -66,8 +67,8 @@ impl Warming {
         }
     }
 
-    // Whether an old entry is kept, and as which entry. `walked` are its units, where a walk among the old entries found it
-    // right.
+    // Whether an old entry is kept, and as which entry. `walked` are its units, where a walk among the old entries
+    // found it right.
     fn judge(
         &self,
         alloc: Global,
@@ -114,8 +115,8 @@ impl Warming {
         }
     }
 
-    // Takes an old entry in, or passes it over. `walked` are its units, where a walk among the old entries found it right.
-    // Out of memory, the book stays as it was.
+    // Takes an old entry in, or passes it over. `walked` are its units, where a walk among the old entries found it
+    // right. Out of memory, the book stays as it was.
     pub(crate) fn take(
         &mut self,
         alloc: Global,

@@ -1,16 +1,17 @@
 //! The same pass over old entries in threads, as many as there are processors.
 //!
-//! An old list is gone over in batches. The entries of a batch are first walked side by side, each among the old entries
-//! before it, for a few loads. What follows there follows in the book too, and with as many units: where the book has an old
-//! entry, it has one under its number that says at least as much. So when the batch is then gone over in order, as in the
-//! plain form, such an entry is kept without a further walk, and the others are walked there.
+//! An old list is gone over in batches. The entries of a batch are first walked side by side, each among the old
+//! entries before it, for a few loads. What follows there follows in the book too, and with as many units: where the
+//! book has an old entry, it has one under its number that says at least as much. So when the batch is then gone over
+//! in order, as in the plain form, such an entry is kept without a further walk, and the others are walked there.
 //!
 //! A walk beside the others is spared where the entry's cycle is too small, or where it cites one that an earlier batch
-//! passed over. It is in vain where the entry cites one that is passed over in its own batch, and where it doesn't follow: an
-//! entry costs up to so many loads more than in the plain form. So a batch has at most half as many entries as were kept
-//! before it, and once more than one in seventeen was passed over, batches are gone over as in the plain form alone. A batch
-//! takes 16 bytes an entry.
-ghost use Rattle.std.specs.Prelude.{◌≡◌, ◌↔◌, ◌-◌, ◌/◌, ◌<◌, ◌≤◌, ℕ, IsTrue, Some, not, length, take, slice_get, vec_len, vec_capacity};
+//! passed over. It is in vain where the entry cites one that is passed over in its own batch, and where it doesn't
+//! follow: an entry costs up to so many loads more than in the plain form. So a batch has at most half as many entries
+//! as were kept before it, and once more than one in seventeen was passed over, batches are gone over as in the plain
+//! form alone. A batch takes 16 bytes an entry.
+ghost use Rattle.std.specs.Prelude.{◌≡◌, ◌↔◌, ◌-◌, ◌/◌, ◌<◌, ◌≤◌, ℕ, IsTrue, Some, not, length, take, slice_get};
+ghost use Rattle.std.specs.Prelude.{vec_len, vec_capacity};
 ghost use Rattle.std.specs.Prelude.{OnOk, OnErr, IfOk, IfSome};
 ghost use Rattle.std.specs.List.{list_all};
 ghost use Rattle.line_instance.specs.Line.{tasks};
@@ -90,8 +91,8 @@ fn may_stand(numbers: &[Option<u64>], cycle: u64, old: &Entry) -> bool
     cycle <= old.cycle && has_hope(numbers, &old.why)
 }
 
-/// The units of the old entry of number `k`, where it may still be kept, and a walk of a few loads finds that it follows from
-/// the old entries before it.
+/// The units of the old entry of number `k`, where it may still be kept, and a walk of a few loads finds that it
+/// follows from the old entries before it.
 fn units_walked(
     inst: &Instance,
     kind: LineKind,
@@ -154,8 +155,8 @@ fn units_at(walked: &[Option<u64>], place: usize) -> Option<u64>
 }
 
 impl Warming {
-    // The units of the old entries from number `from` up to below `to`, where walks side by side found them right; none where
-    // such walks aren't worth it, or where there is no memory for them.
+    // The units of the old entries from number `from` up to below `to`, where walks side by side found them right; none
+    // where such walks aren't worth it, or where there is no memory for them.
     fn batch_walks<R: Threads + Sync>(
         &self,
         rt: &R,
@@ -181,8 +182,8 @@ impl Warming {
         }
     }
 
-    // Takes the old entries from number `from` up to below `to`, whose units `walked` has where a walk found them right. Out
-    // of memory, those before some of them were taken.
+    // Takes the old entries from number `from` up to below `to`, whose units `walked` has where a walk found them
+    // right. Out of memory, those before some of them were taken.
     fn take_batch(
         &mut self,
         alloc: Global,
@@ -216,8 +217,8 @@ impl Warming {
         Ok(())
     }
 
-    // Walks the old entries from number `from` up to below `to` side by side, and takes them. Out of memory, those before some
-    // of them were taken.
+    // Walks the old entries from number `from` up to below `to` side by side, and takes them. Out of memory, those
+    // before some of them were taken.
     fn walk_batch<R: Threads + Sync>(
         &mut self,
         rt: &R,
@@ -257,8 +258,8 @@ pub enum Counted {
     NoMemory(Book),
 }
 
-/// Takes old entries into a book as [`warm`](crate::warm) does, and answers the same, with the old entries walked side by
-/// side. More loads than `room` may be walked.
+/// Takes old entries into a book as [`warm`](crate::warm) does, and answers the same, with the old entries walked side
+/// by side. More loads than `room` may be walked.
 pub fn warm_wide<R: Threads + Sync>(
     rt: &R,
     alloc: Global,

@@ -54,7 +54,8 @@ fn batch_found<R: Threads + Sync>(
         .collect(rt, alloc)
 }
 
-/// What is found of an entry with so many loads left, from what was found of it in a few loads: where these don't decide, it is walked again.
+/// What is found of an entry with so many loads left, from what was found of it in a few loads: where these don't
+/// decide, it is walked again.
 fn settled(
     inst: &Instance,
     kind: LineKind,

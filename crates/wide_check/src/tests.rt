@@ -1,4 +1,5 @@
-//! What no clause says: the certificates that were worked by hand, of many entries, and of an entry that is walked long.
+//! What no clause says: the certificates that were worked by hand, of many entries, and of an entry that is walked
+//! long.
 ghost use Rattle.std.specs.Prelude.{IfOk};
 ghost use Rattle.line_rules.specs.Ranges.{IsInRange};
 

@@ -40,8 +40,8 @@ fn found_of<R: Threads + Sync>(
     }
 }
 
-/// Checks a certificate against a line as [`verify`](line_check::verify) does, and answers the same, with the entries checked side by
-/// side. At most `steps` loads are counted, 1 to 20,000,000; more may be walked.
+/// Checks a certificate against a line as [`verify`](line_check::verify) does, and answers the same, with the entries
+/// checked side by side. At most `steps` loads are counted, 1 to 20,000,000; more may be walked.
 pub fn verify_wide<R: Threads + Sync>(
     rt: &R,
     alloc: Global,

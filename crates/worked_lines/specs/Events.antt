@@ -19,11 +19,19 @@ empty_book = record { entries = []; best = record { stations = 3; place = at 1 �
 -- a balance of three
 abbrev pub five_events : List Event
 five_events =
-    event.Publish (record { set = all_tasks five_free; most = 1; cycle = 7; why = why.Bound }) ∷ event.Look (all_tasks five_free) 1 ∷ event.Look (all_tasks five_free) 2
-    ∷ event.Publish (record { set = all_tasks five_free; most = 1; cycle = 7; why = why.Bound }) ∷ event.Offer (record { stations = 3; place = [] }) ∷ []
+    event.Publish (record { set = all_tasks five_free; most = 1; cycle = 7; why = why.Bound }) ∷ event.Look
+    (all_tasks five_free) 1 ∷ event.Look (all_tasks five_free) 2
+    ∷ event.Publish (record { set = all_tasks five_free; most = 1; cycle = 7; why = why.Bound }) ∷ event.Offer
+    (record { stations = 3; place = [] }) ∷ []
 
 -- It is added with the number 0, found, not found, known, and not better; the history has two items.
 pub record EventsOfTheRows : Type 0 where
   pub answers : answers_of 7 empty_book five_events
-      ≡ reply.Added 0 ∷ reply.Looked (looked.Found 0 1) ∷ reply.Looked looked.Absent ∷ reply.Known 0 ∷ reply.Offered offered.NotBetter ∷ []
-  pub items : history empty_book five_events ≡ added 0 (record { set = all_tasks five_free; most = 1; cycle = 7; why = why.Bound }) ∷ known 0 1 ∷ []
+      ≡ reply.Added 0 ∷ reply.Looked (looked.Found 0 1) ∷ reply.Looked looked.Absent ∷ reply.Known 0 ∷ reply.Offered
+      offered.NotBetter ∷ []
+  pub items : history empty_book five_events ≡ added 0 (record {
+    set = all_tasks five_free;
+    most = 1;
+    cycle = 7;
+    why = why.Bound;
+  }) ∷ known 0 1 ∷ []

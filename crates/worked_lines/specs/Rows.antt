@@ -39,7 +39,12 @@ chain_of_three = record {
 
 -- tasks with these times, no one before or apart from another
 abbrev pub free : List ℕ → Line
-free times = record { times = times; before = map (λ t. full_to 0) times; apart = map (λ t. full_to 0) times; order = range_with_len 0 (length times) }
+free times = record {
+  times = times;
+  before = map (λ t. full_to 0) times;
+  apart = map (λ t. full_to 0) times;
+  order = range_with_len 0 (length times);
+}
 
 -- five free tasks with times 4, 4, 2, 2, 2
 abbrev pub five_free : Line
@@ -49,18 +54,23 @@ five_free = free (4 ∷ 4 ∷ 2 ∷ 2 ∷ 2 ∷ [])
 abbrev pub jackson : Line
 jackson = record {
   times = 6 ∷ 2 ∷ 5 ∷ 7 ∷ 1 ∷ 2 ∷ 3 ∷ 6 ∷ 5 ∷ 5 ∷ 4 ∷ [];
-  before = set_of [] ∷ set_of (0 ∷ []) ∷ set_of (0 ∷ []) ∷ set_of (0 ∷ []) ∷ set_of (0 ∷ []) ∷ set_of (0 ∷ 1 ∷ []) ∷ set_of (0 ∷ 2 ∷ 3 ∷ 4 ∷ [])
-      ∷ set_of (0 ∷ 1 ∷ 5 ∷ []) ∷ set_of (0 ∷ 2 ∷ 3 ∷ 4 ∷ 6 ∷ []) ∷ set_of (0 ∷ 1 ∷ 5 ∷ 7 ∷ []) ∷ set_of (0 ∷ 1 ∷ 2 ∷ 3 ∷ 4 ∷ 5 ∷ 6 ∷ 7 ∷ 8 ∷ 9 ∷ []) ∷ [];
-  apart = set_of [] ∷ set_of [] ∷ set_of [] ∷ set_of [] ∷ set_of [] ∷ set_of [] ∷ set_of [] ∷ set_of [] ∷ set_of [] ∷ set_of [] ∷ set_of [] ∷ [];
+  before = set_of [] ∷ set_of (0 ∷ []) ∷ set_of (0 ∷ []) ∷ set_of (0 ∷ []) ∷ set_of (0 ∷ []) ∷ set_of
+      (0 ∷ 1 ∷ []) ∷ set_of (0 ∷ 2 ∷ 3 ∷ 4 ∷ [])
+      ∷ set_of (0 ∷ 1 ∷ 5 ∷ []) ∷ set_of (0 ∷ 2 ∷ 3 ∷ 4 ∷ 6 ∷ []) ∷ set_of (0 ∷ 1 ∷ 5 ∷ 7 ∷ []) ∷ set_of
+      (0 ∷ 1 ∷ 2 ∷ 3 ∷ 4 ∷ 5 ∷ 6 ∷ 7 ∷ 8 ∷ 9 ∷ []) ∷ [];
+  apart = set_of [] ∷ set_of [] ∷ set_of [] ∷ set_of [] ∷ set_of [] ∷ set_of [] ∷ set_of [] ∷ set_of [] ∷ set_of
+      [] ∷ set_of [] ∷ set_of [] ∷ [];
   order = 0 ∷ 1 ∷ 2 ∷ 3 ∷ 4 ∷ 5 ∷ 6 ∷ 7 ∷ 8 ∷ 9 ∷ 10 ∷ [];
 }
 
--- The bounds of the rows: the chain at cycle 2, the five tasks at cycles 8, 7, 6 and 3, Jackson's graph at cycles 10 and 7, and no task.
+-- The bounds of the rows: the chain at cycle 2, the five tasks at cycles 8, 7, 6 and 3, Jackson's graph at cycles 10
+-- and 7, and no task.
 pub record BoundsOfTheRows : Type 0 where
   pub chain_lm1 : lm1 chain_of_three 2 (all_tasks chain_of_three) ≡ 2
   pub chain_lm2 : lm2 chain_of_three 2 (all_tasks chain_of_three) ≡ 2
   pub chain_lm3 : lm3 chain_of_three 2 (all_tasks chain_of_three) ≡ 2
-  pub chain_second : head chain_of_three 2 (all_tasks chain_of_three) 1 + tail chain_of_three 2 (all_tasks chain_of_three) 1 - 1 ≡ 3
+  pub chain_second : head chain_of_three 2 (all_tasks chain_of_three) 1 + tail chain_of_three 2
+      (all_tasks chain_of_three) 1 - 1 ≡ 3
   pub chain_straight : bound Straight chain_of_three 2 (all_tasks chain_of_three) ≡ 3
   pub chain_u : bound U chain_of_three 2 (all_tasks chain_of_three) ≡ 2
   pub five_at_8 : bound Straight five_free 8 (all_tasks five_free) ≡ 2
@@ -78,7 +88,8 @@ load_of is = record { front = set_of is; back = full_to 0 }
 -- the loads of the five tasks at cycle 7, in order
 abbrev pub fifteen_loads : List Load
 fifteen_loads =
-    load_of (4 ∷ []) ∷ load_of (3 ∷ []) ∷ load_of (3 ∷ 4 ∷ []) ∷ load_of (2 ∷ []) ∷ load_of (2 ∷ 4 ∷ []) ∷ load_of (2 ∷ 3 ∷ []) ∷ load_of (2 ∷ 3 ∷ 4 ∷ [])
+    load_of (4 ∷ []) ∷ load_of (3 ∷ []) ∷ load_of (3 ∷ 4 ∷ []) ∷ load_of (2 ∷ []) ∷ load_of (2 ∷ 4 ∷ []) ∷ load_of
+    (2 ∷ 3 ∷ []) ∷ load_of (2 ∷ 3 ∷ 4 ∷ [])
     ∷ load_of (1 ∷ []) ∷ load_of (1 ∷ 4 ∷ []) ∷ load_of (1 ∷ 3 ∷ []) ∷ load_of (1 ∷ 2 ∷ [])
     ∷ load_of (0 ∷ []) ∷ load_of (0 ∷ 4 ∷ []) ∷ load_of (0 ∷ 3 ∷ []) ∷ load_of (0 ∷ 2 ∷ []) ∷ []
 
@@ -103,11 +114,12 @@ five_certificate c = record {
   kind = Straight;
   tasks = 5;
   ask = ask.Stations c;
-  claim = claim.Bounds 3 3 (record { stations = 3; place = at 1 ∷ at 2 ∷ at 1 ∷ at 2 ∷ at 3 ∷ [] }) (five_entry ∷ []) None;
+  claim = claim.Bounds 3 3 (record { stations = 3; place = at 1 ∷ at 2 ∷ at 1 ∷ at 2 ∷ at 3 ∷ [] }) (five_entry ∷ [])
+      None;
 }
 
--- the search that stopped one load short: the tasks have no balance in one station, and of the question of two stations the loads up to
--- that of tasks 0 and 3 are tried
+-- the search that stopped one load short: the tasks have no balance in one station, and of the question of two stations
+-- the loads up to that of tasks 0 and 3 are tried
 abbrev pub five_bound : Entry
 five_bound = record { set = all_tasks five_free; most = 1; cycle = 7; why = why.Bound }
 
@@ -119,15 +131,18 @@ five_stopped = record {
   kind = Straight;
   tasks = 5;
   ask = ask.Stations 7;
-  claim = claim.Bounds 2 3 (record { stations = 3; place = at 1 ∷ at 2 ∷ at 1 ∷ at 2 ∷ at 3 ∷ [] }) (five_bound ∷ []) (Some (record { cycle = 7; frames = five_frame ∷ [] }));
+  claim = claim.Bounds 2 3 (record { stations = 3; place = at 1 ∷ at 2 ∷ at 1 ∷ at 2 ∷ at 3 ∷ [] }) (five_bound ∷ [])
+      (Some (record { cycle = 7; frames = five_frame ∷ [] }));
 }
 
--- The loads and the certificates of the five tasks: the fifteen loads in order, and the seven full ones; the certificate is accepted at cycle 7, with 15 units, and
--- at cycle 6, which its entry answers too; at cycle 8 it isn't. The search that stopped one load short has 14 units, and its trail is open;
--- with the entry of the whole search beside it, it would not be.
+-- The loads and the certificates of the five tasks: the fifteen loads in order, and the seven full ones; the
+-- certificate is accepted at cycle 7, with 15 units, and at cycle 6, which its entry answers too; at cycle 8 it isn't.
+-- The search that stopped one load short has 14 units, and its trail is open; with the entry of the whole search beside
+-- it, it would not be.
 pub record CertificateOfTheRows : Type 0 where
   pub loads : Lists five_free (IsLoad five_free 7 Fore (all_tasks five_free)) fifteen_loads
-  pub full : Lists five_free (λ l. IsLoad five_free 7 Fore (all_tasks five_free) l × IsFull five_free 7 Fore (all_tasks five_free) l) seven_full_loads
+  pub full : Lists five_free (λ l. IsLoad five_free 7 Fore (all_tasks five_free) l
+      × IsFull five_free 7 Fore (all_tasks five_free) l) seven_full_loads
   pub at_7 : IsAccepted five_free (five_certificate 7) 3 3 15
   pub at_6 : IsAccepted five_free (five_certificate 6) 3 3 15
   pub at_8 : (lower upper units : ℕ) → IsAccepted five_free (five_certificate 8) lower upper units → ⊥
@@ -140,8 +155,8 @@ pub record CertificateOfTheRows : Type 0 where
 abbrev pub six_free : Line
 six_free = free (7 ∷ 4 ∷ 4 ∷ 2 ∷ 2 ∷ 2 ∷ [])
 
--- the tasks but the first have no balance in two stations, and so all have none in three: in the first full load, that of the first task
--- alone, the entry `cite` is to refute the rest
+-- the tasks but the first have no balance in two stations, and so all have none in three: in the first full load, that
+-- of the first task alone, the entry `cite` is to refute the rest
 abbrev pub six_below : Entry
 six_below = record { set = set_of (1 ∷ 2 ∷ 3 ∷ 4 ∷ 5 ∷ []); most = 2; cycle = 7; why = why.Branch Fore [] }
 
@@ -156,8 +171,8 @@ six_bound = record { set = all_tasks six_free; most = 2; cycle = 7; why = why.Bo
 abbrev pub six_empty : Entry
 six_empty = record { set = set_of []; most = 2; cycle = 7; why = why.Branch Fore [] }
 
--- Two branches: the list is derived, with 31 units. An entry that cites itself doesn't follow, and neither does one whose cite isn't of a
--- subset of the rest, or one of an empty set.
+-- Two branches: the list is derived, with 31 units. An entry that cites itself doesn't follow, and neither does one
+-- whose cite isn't of a subset of the rest, or one of an empty set.
 pub record BranchesOfTheRows : Type 0 where
   pub derived : IsDerived Straight six_free (six_below ∷ six_above 0 ∷ [])
   pub units : UnitsOf six_free (six_below ∷ six_above 0 ∷ []) 31
@@ -170,8 +185,8 @@ pub record BranchesOfTheRows : Type 0 where
 abbrev pub seven_free : Line
 seven_free = free (7 ∷ 7 ∷ 4 ∷ 4 ∷ 2 ∷ 2 ∷ 2 ∷ [])
 
--- the tasks but the first two have no balance in two stations; with the first task, none in three; so with the second in its place, none
--- in three; and so all have none in four
+-- the tasks but the first two have no balance in two stations; with the first task, none in three; so with the second
+-- in its place, none in three; and so all have none in four
 abbrev pub seven_entries : List Entry
 seven_entries =
     record { set = set_of (2 ∷ 3 ∷ 4 ∷ 5 ∷ 6 ∷ []); most = 2; cycle = 7; why = why.Branch Fore [] }

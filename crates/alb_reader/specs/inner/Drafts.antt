@@ -1,5 +1,6 @@
 -- What the reader keeps of the lines that it has read.
-use Rattle.std.specs.Prelude.{◌≡◌, ℕ, ◌<◌, Bool, true, false, List, [], ◌∷◌, ◌++◌, map, Option, Some, None, Result, MatchResult, Ok, Err}
+use Rattle.std.specs.Prelude.{◌≡◌, ℕ, ◌<◌, Bool, true, false, List, [], ◌∷◌, ◌++◌, map, Option, Some, None, Result}
+use Rattle.std.specs.Prelude.{MatchResult, Ok, Err}
 use Rattle.std.specs.Option.{is_some as is_there}
 use Rattle.in2_reader.specs.Contents.{Lines}
 use Rattle.in2_reader.specs.Pairs.{pair_in}
@@ -68,11 +69,20 @@ IsWrong fault (Fault kind) = fault ≡ Some kind
 
 -- a line behind these was taken, and nothing is wrong with it; or this is wrong with it
 abbrev pub Takes : Lines → ℕ → List ℕ → Draft → Result (Unit {0}) LineError → Type 0
-Takes before line content d r = MatchResult r (λ _. (line_fault before content ≡ None) × IsDraft (before ++ (line, content) ∷ []) d) (IsWrong (line_fault before content))
+Takes before line content d r = MatchResult r (λ _. (line_fault before content ≡ None)
+    × IsDraft (before ++ (line, content) ∷ []) d) (IsWrong (line_fault before content))
 
 -- the draft with another section, and these headings
 abbrev pub opened : Draft → Section → Headings → Draft
-opened d s seen = record { section = Some s; seen = seen; tasks = d.tasks; cycle = d.cycle; strength = d.strength; times = d.times; pairs = d.pairs }
+opened d s seen = record {
+  section = Some s;
+  seen = seen;
+  tasks = d.tasks;
+  cycle = d.cycle;
+  strength = d.strength;
+  times = d.times;
+  pairs = d.pairs;
+}
 
 -- a fault of a line, or out of memory
 abbrev pub error_at : ℕ → LineError → AlbError

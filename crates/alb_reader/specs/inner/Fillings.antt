@@ -1,5 +1,6 @@
 -- What the reader makes of the lines of task times and of pairs.
-use Rattle.std.specs.Prelude.{◌≡◌, ◌⊎◌, ℕ, suc, ◌<◌, ◌&&◌, cond, nat_eq, nat_lt, List, [], ◌∷◌, length, slice_index_or, Option, Some, None, Result, Ok, Err}
+use Rattle.std.specs.Prelude.{◌≡◌, ◌⊎◌, ℕ, suc, ◌<◌, ◌&&◌, cond, nat_eq, nat_lt, List, [], ◌∷◌, length, slice_index_or}
+use Rattle.std.specs.Prelude.{Option, Some, None, Result, Ok, Err}
 use Rattle.std.specs.declared.vec.Vec.{Vec}
 use Rattle.std.specs.declared.alloc.Global.{Global}
 use Rattle.line_instance.specs.declared.arcs.Prec.{Prec}
@@ -39,7 +40,8 @@ pub record IsFirstNone (given : List (Option ℕ)) (i : ℕ) : Type 0 where
 
 -- all times, or the first task that has none
 abbrev pub GivesWhole : List (Option ℕ) → ℕ → Result (Vec ℕ Global) AlbError → Type 0
-GivesWhole given end (Ok v) = (length v.items ≡ length given) × ((i : ℕ) → i < length given → slice_index_or given i None ≡ Some (slice_index_or v.items i 0))
+GivesWhole given end (Ok v) = (length v.items ≡ length given)
+    × ((i : ℕ) → i < length given → slice_index_or given i None ≡ Some (slice_index_or v.items i 0))
 GivesWhole given end (Err errors.Memory) = Unit {0}
 GivesWhole given end (Err (errors.Fault f)) = (i : ℕ) × IsFirstNone given i × (f.line ≡ end) × (f.kind ≡ MissingTask i)
 

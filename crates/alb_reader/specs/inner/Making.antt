@@ -5,7 +5,8 @@ use Rattle.line_instance.specs.Made.{IsInstanceOf}
 use Rattle.line_instance.specs.Walks.{IsRing}
 use Rattle.in2_reader.specs.Contents.{Lines}
 use Rattle.alb_reader.specs.Faults.{line_fault, AreRight}
-use Rattle.alb_reader.specs.Answers.{IsFormed, IsFormFault, IsFilled, IsFillFault, tasks_said, times_said, arcs_said, cycle_said}
+use Rattle.alb_reader.specs.Answers.{IsFormed, IsFormFault, IsFilled, IsFillFault, tasks_said, times_said, arcs_said}
+use Rattle.alb_reader.specs.Answers.{cycle_said}
 use Rattle.alb_reader.specs.declared.answer.AlbRead.{AlbRead}
 use Rattle.alb_reader.specs.declared.answer.AlbRead.TheVariants as reads
 use Rattle.alb_reader.specs.declared.fault.AlbError.{AlbError}
@@ -31,11 +32,13 @@ pub record IsOfTasks (head : Lines) (n : ℕ) : Type 0 where
 -- the instance of these times and arcs, or the cycle of the arcs
 abbrev pub IsMadeOf : List ℕ → List Prec → Option ℕ → ℕ → AlbRead → Type 0
 IsMadeOf times arcs cycle end (reads.Good line c) = IsInstanceOf times arcs line × (c ≡ cycle)
-IsMadeOf times arcs cycle end (reads.Fault f) = (f.line ≡ end) × (ring : List ℕ) × (f.kind ≡ Cycle ring) × IsRing arcs ring
+IsMadeOf times arcs cycle end (reads.Fault f) = (f.line ≡ end) × (ring : List ℕ) × (f.kind ≡ Cycle ring)
+    × IsRing arcs ring
 IsMadeOf times arcs cycle end reads.NoMemory = Unit {0}
 
 -- what right lines of n tasks say, or its first fault
 abbrev pub IsFillRead : Lines → ℕ → ℕ → AlbRead → Type 0
-IsFillRead head end n (reads.Good line c) = IsFilled head n × IsInstanceOf (times_said n head) (arcs_said head) line × (c ≡ cycle_said head)
+IsFillRead head end n (reads.Good line c) = IsFilled head n × IsInstanceOf (times_said n head) (arcs_said head) line
+    × (c ≡ cycle_said head)
 IsFillRead head end n (reads.Fault f) = IsFillFault head end n f
 IsFillRead head end n reads.NoMemory = Unit {0}

@@ -139,11 +139,14 @@ fn in_threads<R: Threads + Wait + Sync>(
     let ((mut one, mut calls), (two, mut more)) = join(
         rt,
         || -> (Pass, Vec<Called>)
-            requires { IsSync R.row × IsPassOf share.now pass × (pass.view.base.about ≡ record { line = inst.now; kind = Straight; cycle = 7 }) × (first + half ≤ 8) }
+            requires { IsSync R.row × IsPassOf share.now pass
+                × (pass.view.base.about ≡ record { line = inst.now; kind = Straight; cycle = 7 }) × (first + half ≤ 8) }
             ensures { IsPassOf share.entry.now result.0 }
         { in_threads(rt, alloc, share, pass, inst, first, half, seed) },
         || -> (Pass, Vec<Called>)
-            requires { IsSync R.row × IsPassOf share.now other × (other.view.base.about ≡ record { line = inst.now; kind = Straight; cycle = 7 }) × (first + count ≤ 8) × (half < count) }
+            requires { IsSync R.row × IsPassOf share.now other
+                × (other.view.base.about ≡ record { line = inst.now; kind = Straight; cycle = 7 }) × (first + count ≤ 8)
+                × (half < count) }
             ensures { IsPassOf share.entry.now result.0 }
         {
             in_threads(

@@ -21,7 +21,8 @@ abbrev pub Staying : Type 0 → Type 0
 Staying tells = ℕ × List ℕ × (tells → List ℕ → Option (List ℕ))
 
 -- what is put stands in the file of this name and behind its bytes in the buffer; what is kept of it is in the file
-abbrev pub sent_into : (tells : Type 0) → Bool → List ℕ → ℕ → List ℕ → (List ℕ → Option (List ℕ)) → ℕ → Sent (Staying tells)
+abbrev pub sent_into : (tells : Type 0) → Bool → List ℕ → ℕ → List ℕ → (List ℕ → Option (List ℕ)) → ℕ
+    → Sent (Staying tells)
 sent_into tells failed buffer reference name files faults = record {
   good = not failed;
   shown = bytes_of (files name) ++ buffer;

@@ -26,7 +26,8 @@ pub record IsEnd (file : Option (List ℕ)) (at : ℕ) : Type 0 where
   pub there : file ≡ Some (bytes_of file)
   pub ends : length (bytes_of file) ≤ at
 
--- what taking lines doesn't change: the reference to the shelf, the name of the file, the limit, and the files, where they are told
+-- what taking lines doesn't change: the reference to the shelf, the name of the file, the limit, and the files, where
+-- they are told
 abbrev pub Reading : Type 0 → Type 0
 Reading tells = ℕ × List ℕ × ℕ × (tells → List ℕ → Option (List ℕ))
 

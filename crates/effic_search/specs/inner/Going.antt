@@ -52,9 +52,9 @@ HaveCycles line es = (k : ℕ) (e : Entry) → slice_get es k ≡ Some e → e.w
 abbrev pub IsTight : LineKind → Line → Assignment → ℕ → Type 0
 IsTight kind line b cycle = (c : ℕ) → 1 ≤ c → IsRight kind line c b → cycle ≤ c
 
--- A search: its balance is right at its cycle, and at no lesser one, in a number of stations that is asked for, and of no greater product
--- than
--- the first one; its entries are counted, and refute each number of stations below the first lower end.
+-- A search: its balance is right at its cycle, and at no lesser one, in a number of stations that is asked for, and of
+-- no greater product than the first one; its entries are counted, and refute each number of stations below the first
+-- lower end.
 pub record IsLowering (kind : LineKind) (line : Line) (least most : ℕ) (h : Lowering) : Type 0 where
   pub line_is : h.book.about.line ≡ line
   pub kind_is : h.book.about.kind ≡ kind
@@ -98,8 +98,8 @@ pub record IsDue (kind : LineKind) (line : Line) (least most : ℕ) (h : Lowerin
   pub large : (4000000 < h.listed.units) ⊎ (4000000 < h.listed.entries)
 
 -- The units of a try in m stations at the cycle of the book ended: its frames are a trail from the question, open over
--- the entries; the book before it was small enough for a try; and what the frames and the entries since, which are those
--- since the last one of all tasks, list is all units of the plan.
+-- the entries; the book before it was small enough for a try; and what the frames and the entries since, which are
+-- those since the last one of all tasks, list is all units of the plan.
 pub record IsStuck (kind : LineKind) (line : Line) (least most : ℕ) (plan : Plan) (h : Lowering)
     (frames : List OpenFrame) : Type 0 where
   pub lowering : IsLowering kind line least most h
@@ -150,7 +150,8 @@ pub record HasAsked (m : ℕ) (plan : Plan) (X : ℕ) (old new : Lowering) (v : 
   pub counted : IsCounted old.book.about.line (entries_of new) (length (entries_of new)) new.listed
   pub units : new.listed.units ≤ old.listed.units + 2 * plan.units
 
--- A search with another balance, which is right at its cycle and at no lesser one, in m stations; the cycle is 1 to X. The rest stays.
+-- A search with another balance, which is right at its cycle and at no lesser one, in m stations; the cycle is 1 to X.
+-- The rest stays.
 pub record IsImproved (kind : LineKind) (line : Line) (m X : ℕ) (old new : Lowering) : Type 0 where
   pub book : new.book ≡ old.book
   pub listed : new.listed ≡ old.listed

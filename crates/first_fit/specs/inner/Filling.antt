@@ -14,7 +14,8 @@ abbrev pub MayStand : Line → Filled → ℕ → Side → Type 0
 MayStand line f i Front = (j : ℕ) → Before line j i → In f.front j
 MayStand line f i Back = (j : ℕ) → Before line i j → In f.back j
 
--- the task isn't placed, the line has the side, what must be in place is, its time is left, and nothing of the station is apart from it
+-- the task isn't placed, the line has the side, what must be in place is, its time is left, and nothing of the station
+-- is apart from it
 pub record MayJoin (kind : LineKind) (line : Line) (f : Filled) (a : Pick) : Type 0 where
   pub task : a.task < tasks line
   pub front : In f.front a.task → ⊥
@@ -45,8 +46,20 @@ joined f a t = record {
 
 -- nothing is placed, and the first station has the whole cycle
 abbrev pub started : ℕ → Filled
-started c = record { front = replicate 1024 false; back = replicate 1024 false; here = replicate 1024 false; station = 1; left = c }
+started c = record {
+  front = replicate 1024 false;
+  back = replicate 1024 false;
+  here = replicate 1024 false;
+  station = 1;
+  left = c;
+}
 
 -- the next station is empty, and has the whole cycle
 abbrev pub next_station : Filled → ℕ → Filled
-next_station f c = record { front = f.front; back = f.back; here = replicate 1024 false; station = f.station + 1; left = c }
+next_station f c = record {
+  front = f.front;
+  back = f.back;
+  here = replicate 1024 false;
+  station = f.station + 1;
+  left = c;
+}

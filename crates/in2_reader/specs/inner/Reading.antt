@@ -13,7 +13,8 @@ use Rattle.in2_reader.specs.declared.pair.Pair.{Pair}
 use Rattle.in2_reader.specs.declared.pair.Pair.TheVariants.{Arc, BadArc as NoTasks, End, Other}
 use Rattle.in2_reader.specs.declared.fault.In2Fault.{In2Fault}
 use Rattle.in2_reader.specs.declared.fault.In2Kind.{In2Kind}
-use Rattle.in2_reader.specs.declared.fault.In2Kind.TheVariants.{NotANumber, Range, MissingTimes, MissingEnd, BadArc, TooManyArcs}
+use Rattle.in2_reader.specs.declared.fault.In2Kind.TheVariants.{NotANumber, Range, MissingTimes, MissingEnd, BadArc}
+use Rattle.in2_reader.specs.declared.fault.In2Kind.TheVariants.{TooManyArcs}
 use Rattle.in2_reader.specs.declared.fault.ReadError.{ReadError}
 use Rattle.in2_reader.specs.declared.fault.ReadError.TheVariants as errors
 
@@ -53,7 +54,8 @@ paired line full (Arc a) more = cond full (fault line TooManyArcs) (with_arc a m
 abbrev pub pairs_in : ℕ → Meaning → ℕ → ℕ → Lines → Result (List Prec × ℕ) In2Fault
 pairs_in end meaning tasks room [] = fault end MissingEnd
 pairs_in end meaning tasks zero (l ∷ lines) = paired l.0 true (pair_for meaning tasks l.1) (fault end MissingEnd)
-pairs_in end meaning tasks (suc room) (l ∷ lines) = paired l.0 false (pair_for meaning tasks l.1) (pairs_in end meaning tasks room lines)
+pairs_in end meaning tasks (suc room) (l ∷ lines) = paired l.0 false (pair_for meaning tasks l.1)
+    (pairs_in end meaning tasks room lines)
 
 -- the times before what the pairs say
 abbrev pub with_times : List ℕ → Result (List Prec × ℕ) In2Fault → Result In2 In2Fault

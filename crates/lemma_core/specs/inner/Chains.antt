@@ -1,7 +1,8 @@
 -- How entries are found by their sets. Each set has a tag, which is a part of a hash of it. The tags of the entries
 -- fall into buckets, and those of one bucket stand in a chain, the last one first. A sieve has a mark for each of
 -- them, and lets few other tags through.
-use Rattle.std.specs.Prelude.{◌≡◌, ℕ, zero, suc, ◌-◌, ◌/◌, ◌%◌, ◌^◌, ◌<◌, Bool, List, length, slice_get, slice_index, map, fold, bit_and, Option, Some, None}
+use Rattle.std.specs.Prelude.{◌≡◌, ℕ, zero, suc, ◌-◌, ◌/◌, ◌%◌, ◌^◌, ◌<◌, Bool, List, length, slice_get, slice_index}
+use Rattle.std.specs.Prelude.{map, fold, bit_and, Option, Some, None}
 use Rattle.std.specs.Hash as fed
 use Rattle.std.specs.Hash.FoldHasher as folding
 use Rattle.task_set.specs.Truths.{words_of}
@@ -45,7 +46,8 @@ pub record IsChained (bucket : ℕ → ℕ) (ts hs bs : List ℕ) : Type 0 where
 
 -- the mark of each tag is in its word
 abbrev pub IsSieve : (ℕ → ℕ) → (ℕ → ℕ) → List ℕ → List ℕ → Type 0
-IsSieve word mark ts words = (k t : ℕ) → slice_get ts k ≡ Some t → bit_and (slice_index words (word t)) (mark t) ≡ mark t
+IsSieve word mark ts words = (k t : ℕ) → slice_get ts k ≡ Some t
+    → bit_and (slice_index words (word t)) (mark t) ≡ mark t
 
 -- the bucket, out of so many, into which a tag falls
 abbrev pub bucket_in : ℕ → ℕ → ℕ

@@ -4,7 +4,8 @@ use Rattle.task_set.specs.Truths.{In}
 use Rattle.line_instance.specs.Line.{Line, has, Before, Apart}
 use Rattle.line_rules.specs.declared.types.Load.{Load}
 
--- i is apart from no task of the load T, what is before it in R is in front where i is, and what is after it in R is at the back where i is
+-- i is apart from no task of the load T, what is before it in R is in front where i is, and what is after it in R is at
+-- the back where i is
 pub record IsClosedAt (line : Line) (R : List Bool) (l : Load) (T : List Bool) (i : ℕ) : Type 0 where
   pub parted : has T i ≡ true → (j : ℕ) → In T j → Apart line j i → ⊥
   pub before : has l.front i ≡ true → (j : ℕ) → In R j → Before line j i → In l.front j

@@ -4,7 +4,8 @@ use Rattle.task_set.specs.Truths.{In}
 use Rattle.line_instance.specs.Line.{Line, tasks, time, has, Before, Apart}
 use Rattle.line_rules.specs.declared.types.Entry.{Entry}
 
--- the task `into` can stand for `out` in S: it is no longer, and what is before, after or apart from it in S is so to `out` too
+-- the task `into` can stand for `out` in S: it is no longer, and what is before, after or apart from it in S is so to
+-- `out` too
 pub record StandsFor (line : Line) (S : List Bool) (out into : ℕ) : Type 0 where
   pub time : time line into ≤ time line out
   pub before : (i : ℕ) → In S i → Before line i into → Before line i out

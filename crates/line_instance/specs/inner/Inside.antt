@@ -1,5 +1,6 @@
 -- What the steps of making an instance say of rows of sets.
-use Rattle.std.specs.Prelude.{◌≡◌, ℕ, ◌+◌, ◌<◌, ◌≤◌, ◌⊎◌, ◌↔◌, Bool, false, List, [], length, slice_index_or, slice_get, Some, take}
+use Rattle.std.specs.Prelude.{◌≡◌, ℕ, ◌+◌, ◌<◌, ◌≤◌, ◌⊎◌, ◌↔◌, Bool, false, List, [], length, slice_index_or, slice_get}
+use Rattle.std.specs.Prelude.{Some, take}
 use Rattle.task_set.specs.Truths.{In, IsSubset}
 use Rattle.line_instance.specs.Line.{Line, IsLine, IsRanked, tasks}
 use Rattle.line_instance.specs.Walks.{Leads, IsGiven, at}
@@ -39,7 +40,8 @@ pub record IsOrder (direct : List (List Bool)) (order : List ℕ) : Type 0 where
   pub small : (k : ℕ) → k < length order → at order k < length direct
   pub once : (k m : ℕ) → k < length order → m < length order → at order k ≡ at order m → k ≡ m
   pub ready : (k i : ℕ) → k < length order → In (slice_index_or direct (at order k) []) i → StandsBelow order k i
-  pub least : (k t : ℕ) → k < length order → t < length direct → (StandsBelow order k t → ⊥) → ((i : ℕ) → In (slice_index_or direct t []) i → StandsBelow order k i) → at order k ≤ t
+  pub least : (k t : ℕ) → k < length order → t < length direct → (StandsBelow order k t → ⊥)
+      → ((i : ℕ) → In (slice_index_or direct t []) i → StandsBelow order k i) → at order k ≤ t
 
 -- an order so far, and the set of its tasks
 pub record IsOrdering (direct : List (List Bool)) (placed : List Bool) (order : List ℕ) : Type 0 where
@@ -63,8 +65,8 @@ pub record IsStuck (direct : List (List Bool)) (placed : List Bool) : Type 0 whe
 abbrev pub LeadsIn : List (List Bool) → ℕ → ℕ → Type 0
 LeadsIn direct i j = In (slice_index_or direct j []) i
 
--- An arc leads to each member of the path from the next one, no member stands twice, and an arc leads to the last one from a task
--- that stands on the path.
+-- An arc leads to each member of the path from the next one, no member stands twice, and an arc leads to the last one
+-- from a task that stands on the path.
 pub record IsBackWalk (direct : List (List Bool)) (path : List ℕ) (again : ℕ) : Type 0 where
   pub leads : (k : ℕ) → k + 1 < length path → LeadsIn direct (at path (k + 1)) (at path k)
   pub last : (k : ℕ) → k + 1 ≡ length path → LeadsIn direct again (at path k)

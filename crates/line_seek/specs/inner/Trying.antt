@@ -9,8 +9,8 @@ use Rattle.round_helpers.specs.Growth.{AreAtCycle, GoesOn}
 use Rattle.line_seek.specs.declared.trying.Told.{Told}
 use Rattle.line_seek.specs.declared.trying.Told.TheVariants as told
 
--- What is told of the question whether all tasks have a balance in `most` stations, with the scratch book after the try:
--- a right balance in no more stations; or that an entry of the book refutes it; or nothing.
+-- What is told of the question whether all tasks have a balance in `most` stations, with the scratch book after the
+-- try: a right balance in no more stations; or that an entry of the book refutes it; or nothing.
 abbrev pub IsTold : BookView → ℕ → Told → Type 0
 IsTold book most (told.Found b) = IsRight book.about.kind book.about.line book.about.cycle b × (b.stations ≤ most)
 IsTold book most told.Refuted = HasAnswer book.state.entries (all_tasks book.about.line) most book.about.cycle

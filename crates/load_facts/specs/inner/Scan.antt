@@ -21,8 +21,8 @@ pub record IsPart (line : Line) (c : ℕ) (mode : Mode) (R : List Bool) (l : Loa
   pub before : (i j : ℕ) → In R i → In l.front j → Before line i j → In l.front i
   pub after : (i j : ℕ) → In l.back i → In R j → Before line i j → In l.back j
 
--- What is left to go over are the places below k. Now agrees with base there and has nothing from k on, and no load above base agrees
--- with it up to a place from k on.
+-- What is left to go over are the places below k. Now agrees with base there and has nothing from k on, and no load
+-- above base agrees with it up to a place from k on.
 pub record Scan (line : Line) (c : ℕ) (mode : Mode) (R : List Bool) (base now : Load) (k : ℕ) : Type 0 where
   pub within : k ≤ 2 * tasks line
   pub sizes : IsLine line
@@ -31,5 +31,6 @@ pub record Scan (line : Line) (c : ℕ) (mode : Mode) (R : List Bool) (base now 
   pub sets : AreSets line now
   pub same : (j : ℕ) → j < k → truth line now j ≡ truth line base j
   pub absent : (j : ℕ) → k ≤ j → j < 2 * tasks line → truth line now j ≡ false
-  pub none : (j : ℕ) → k ≤ j → j < 2 * tasks line → (b : Load) → IsLoad line c mode R b → ((i : ℕ) → i < j → truth line base i ≡ truth line b i)
+  pub none : (j : ℕ) → k ≤ j → j < 2 * tasks line → (b : Load) → IsLoad line c mode R b
+      → ((i : ℕ) → i < j → truth line base i ≡ truth line b i)
       → truth line base j ≡ false → truth line b j ≡ true → ⊥

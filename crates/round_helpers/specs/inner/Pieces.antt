@@ -1,5 +1,5 @@
--- The pieces of a question: those that are dealt, a piece for each job, and those that a helper puts; and how a helper's
--- work on them ends. Own.
+-- The pieces of a question: those that are dealt, a piece for each job, and those that a helper puts; and how a
+-- helper's work on them ends. Own.
 use Rattle.std.specs.Prelude.{◌≡◌, ℕ, suc, ◌-◌, ◌<◌, ◌≤◌, Bool, true, List, ◌++◌, length, slice_get, Some}
 use Rattle.line_instance.specs.Line.{Line}
 use Rattle.line_rules.specs.Entries.{IsOpen, HasAnswer}
@@ -23,8 +23,8 @@ piece_of most k job = record { number = k; depth = 0; most = most - 1; set = job
 abbrev pub pieces_of : ℕ → List Job → List Piece
 pieces_of most jobs = each_from (piece_of most) 0 jobs
 
--- A piece that is put for a set R at a depth below 2, asked for `most` stations, at least 2: it is a depth deeper, has a
--- station less, and its set is what a load leaves that is full and whose rest the bound leaves open.
+-- A piece that is put for a set R at a depth below 2, asked for `most` stations, at least 2: it is a depth deeper, has
+-- a station less, and its set is what a load leaves that is full and whose rest the bound leaves open.
 pub record IsPart (kind : LineKind) (line : Line) (c : ℕ) (R : List Bool) (depth most : ℕ) (x : Piece) : Type 0 where
   pub shallow : depth < 2
   pub some : 2 ≤ most
@@ -67,8 +67,8 @@ AreDone desk X most jobs hand =
     (k i : ℕ) (xs : List Piece) (x : Piece) → slice_get (tooks hand) k ≡ Some xs → slice_get xs i ≡ Some x
     → IsDone desk X most jobs x
 
--- Why a helper's work on the question of `most` stations ends before all deques are empty: a balance of the question was
--- seen; no unit is left; or memory ended.
+-- Why a helper's work on the question of `most` stations ends before all deques are empty: a balance of the question
+-- was seen; no unit is left; or memory ended.
 abbrev pub IsEarly : DeskView → ℕ → ℕ → End → Type 0
 IsEarly desk most left ends.Empty = ⊥
 IsEarly desk most left ends.Found = fewest_seen desk ≤ most

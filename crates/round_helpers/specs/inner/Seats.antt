@@ -16,8 +16,8 @@ use Rattle.round_helpers.specs.declared.job_list.Job.{Job}
 use Rattle.round_helpers.specs.declared.job_work.Question.{Question}
 use Rattle.round_helpers.specs.declared.teams.Helper.{Helper}
 
--- the numbers by which a helper knows its pass again: the name of the loan of it, the length of the log at the start, its
--- parts, and its share
+-- the numbers by which a helper knows its pass again: the name of the loan of it, the length of the log at the start,
+-- its parts, and its share
 abbrev pub numbers_of : ℕ → TableId → PassView → List ℕ
 numbers_of loan share v =
     loan ∷ v.base.from ∷ v.parts ∷ share.words ∷ share.slots ∷ share.views_name ∷ share.atom ∷ share.block
@@ -65,9 +65,9 @@ pub record HasAdded (line : Line) (X : ℕ) (v : PassView) (used : ℕ) : Type 0
   pub units : UnitsOf line (added_of items) published
   pub within : published ≤ used
 
--- A helper after its work: its pass is the same one and has seen no less, its own events paid for the units used, and its
--- work ended so. Its hand is of the pool, has the name that it had, and keeps what was dealt to it. It was given so many
--- units.
+-- A helper after its work: its pass is the same one and has seen no less, its own events paid for the units used, and
+-- its work ended so. Its hand is of the pool, has the name that it had, and keeps what was dealt to it. It was given so
+-- many units.
 pub record HasWorked (share : TableId) (base : Base) (seen : List Item) (line : Line) (question : Question)
     (jobs : List Job) (pool : List DequeId) (hand : HandView) (given : ℕ) (h : Helper) : Type 0 where
   pub pass : IsPassOf share h.pass

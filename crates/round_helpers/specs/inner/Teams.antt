@@ -18,8 +18,8 @@ use Rattle.round_helpers.specs.declared.piece_work.End.TheVariants as ends
 use Rattle.round_helpers.specs.declared.job_work.Question.{Question}
 use Rattle.round_helpers.specs.declared.teams.Helper.{Helper}
 
--- The helper at a place may work: its pass is bare and about the question's line, the jobs are those of the question, and
--- its hand is of the pool and took no piece.
+-- The helper at a place may work: its pass is bare and about the question's line, the jobs are those of the question,
+-- and its hand is of the pool and took no piece.
 pub record MayWork (share : TableId) (line : Line) (question : Question) (jobs : List Job) (pool : List DequeId)
     (place : ℕ) (h : Helper) : Type 0 where
   pub bare : IsBare share h.pass.view.base h.pass.view.seen 1 h.pass
@@ -42,8 +42,8 @@ MayAllWork share line question jobs pool hs =
 abbrev pub ArePassesOf : TableId → List Helper → Type 0
 ArePassesOf share hs = (k : ℕ) (h : Helper) → slice_get hs k ≡ Some h → IsPassOf share h.pass
 
--- passes of helpers that may be joined: each has one part, has seen no less than all had, and its own events paid for its
--- units
+-- passes of helpers that may be joined: each has one part, has seen no less than all had, and its own events paid for
+-- its units
 pub record IsJoinable (base : Base) (seen : List Item) (line : Line) (X : ℕ) (h : Helper) : Type 0 where
   pub part : h.pass.view.parts ≡ 1
   pub begins : Begins seen h.pass.view.seen
@@ -66,8 +66,8 @@ abbrev pub AreSettled : List Units → List Helper → Type 0
 AreSettled us hs = (k : ℕ) (u : Units) (h : Helper) → slice_get us k ≡ Some u → slice_get hs k ≡ Some h
     → u.used + h.units.used < 2 ^ 64
 
--- What the ends of helpers tell: each one found all deques empty, or a balance was found; the helper of this number, from
--- 1, has no unit left; or memory ended.
+-- What the ends of helpers tell: each one found all deques empty, or a balance was found; the helper of this number,
+-- from 1, has no unit left; or memory ended.
 abbrev pub IsTold : List Helper → Helped → Type 0
 IsTold hs helped.Unneeded = ⊥
 IsTold hs helped.Whole =

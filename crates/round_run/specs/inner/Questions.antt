@@ -17,9 +17,9 @@ use Rattle.round_run.specs.declared.questions.Stop.{Stop}
 use Rattle.round_run.specs.declared.closing.Verdict.{Verdict}
 use Rattle.round_run.specs.declared.closing.Verdict.TheVariants as verdict
 
--- A run from the question `first` on, whose next question is `lower`: behind the entries with which it began, the book has
--- those that the run added, each at the cycle; an entry refutes the question before the next one, where there is one; and
--- the best balance has at most `top` stations, as many as the run began with.
+-- A run from the question `first` on, whose next question is `lower`: behind the entries with which it began, the book
+-- has those that the run added, each at the cycle; an entry refutes the question before the next one, where there is
+-- one; and the best balance has at most `top` stations, as many as the run began with.
 pub record IsRun (kind : LineKind) (line : Line) (c : ℕ) (before added : List Entry) (top first lower : ℕ)
     (book : BookView) : Type 0 where
   pub about : book.about ≡ record { line = line; kind = kind; cycle = c }
@@ -32,8 +32,9 @@ pub record IsRun (kind : LineKind) (line : Line) (c : ℕ) (before added : List 
   pub best : book.state.best.stations ≤ top
   pub reserved : IsReserved book
 
--- A run with what it paid: the entries that it added have at least as many units as the closing passes used, and at most as
--- many as these and the helpers together. They are at most as many, with one more for each question that was refuted.
+-- A run with what it paid: the entries that it added have at least as many units as the closing passes used, and at
+-- most as many as these and the helpers together. They are at most as many, with one more for each question that was
+-- refuted.
 pub record IsPaid (kind : LineKind) (line : Line) (c : ℕ) (before : List Entry) (top first lower used helped : ℕ)
     (book : BookView) : Type 0 where
   pub added : List Entry
@@ -60,7 +61,8 @@ stop_of verdict.Found = None
 stop_of (verdict.Spent frames) = stop_by cause.Units frames
 stop_of (verdict.NoMemory frames) = stop_by cause.Memory frames
 
--- Units ended: at least N are listed, and the trail of the search is valid from the next question and open over the book.
+-- Units ended: at least N are listed, and the trail of the search is valid from the next question and open over the
+-- book.
 abbrev pub StopsBy : LineKind → Line → ℕ → ℕ → ℕ → BookView → ℕ → Cause → List OpenFrame → Type 0
 StopsBy kind line c N lower book listed cause.Units trail =
     (N ≤ listed) × IsTrail kind line c book.state.entries (all_tasks line) lower trail
@@ -73,8 +75,8 @@ EndsBy kind line c N lower book listed None = book.state.best.stations ≤ lower
 EndsBy kind line c N lower book listed (Some stop) =
     (lower < book.state.best.stations) × StopsBy kind line c N lower book listed stop.cause stop.trail
 
--- A run whose questions ended, with N units for its closing passes and `helpers` for all its helpers: the entries that it
--- added and the open frames have no more units than these together.
+-- A run whose questions ended, with N units for its closing passes and `helpers` for all its helpers: the entries that
+-- it added and the open frames have no more units than these together.
 pub record HasAsked (kind : LineKind) (line : Line) (c : ℕ) (before : List Entry) (top N helpers first : ℕ)
     (asked : Asked) : Type 0 where
   pub added : List Entry

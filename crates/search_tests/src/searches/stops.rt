@@ -22,7 +22,8 @@ fn are_unanswered(book: &mut Book, frames: &Frames) -> bool {
     true
 }
 
-/// Whether a frame has a load after its last one, or any load where it has no last, as a walk from the first load shows.
+/// Whether a frame has a load after its last one, or any load where it has no last, as a walk from the first load
+/// shows.
 fn has_further(inst: &Instance, frame: &OpenFrame) -> bool {
     let set = frame.set;
     let _truths = set.capacity();
@@ -55,8 +56,8 @@ fn are_open(book: &mut Book, inst: &Instance, frames: &Frames) -> bool {
     further && are_unanswered(book, frames)
 }
 
-/// The stops of a search for all tasks in so many stations, from no unit on, until it is decided; an error where one isn't
-/// open.
+/// The stops of a search for all tasks in so many stations, from no unit on, until it is decided; an error where one
+/// isn't open.
 fn open_stops(alloc: Global, inst: &Instance, kind: LineKind, most: u32) -> Result<u64, Fail>
     requires { most ≤ 1024 }
 {

@@ -17,7 +17,8 @@ use Rattle.sequence_search.specs.declared.outcome.Tried.TheVariants as tried
 abbrev pub entry_of : SeqFrame → SeqEntry
 entry_of f = record { rem = f.rem; starts = f.starts; least = f.need; why = why.Branch f.cites }
 
--- The frames of a stopped try: right ones from the root's need down, which are open over the entries, and in their ranges.
+-- The frames of a stopped try: right ones from the root's need down, which are open over the entries, and in their
+-- ranges.
 pub record AreStopped (t : Times) (interval reach need : ℕ) (es : List SeqEntry) (fs : List SeqFrame) : Type 0 where
   pub some : 1 ≤ length fs
   pub few : length fs ≤ 1001
@@ -37,6 +38,8 @@ abbrev pub Tries : Times → ℕ → ℕ → ℕ → ℕ → List SeqEntry → L
 Tries t interval reach need room old new tried.Refuted =
     IsBook t interval reach new (need + 1) × HasAnswer new t.demands (root_starts t) need × AddsFew t room old new
 Tries t interval reach need room old new (tried.Found sequence) =
-    IsBook t interval reach new need × KeepsRoots t old new × IsSequenceOf t.demands sequence × (cost t interval reach (root_starts t) sequence < need) × AddsFew t room old new
+    IsBook t interval reach new need × KeepsRoots t old new × IsSequenceOf t.demands sequence
+    × (cost t interval reach (root_starts t) sequence < need) × AddsFew t room old new
 Tries t interval reach need room old new (tried.Stopped frames) =
-    IsBook t interval reach new need × KeepsRoots t old new × AreStopped t interval reach need new frames × (units_of new + units_in frames ≡ units_of old + room) × (room ≤ root_work t)
+    IsBook t interval reach new need × KeepsRoots t old new × AreStopped t interval reach need new frames
+    × (units_of new + units_in frames ≡ units_of old + room) × (room ≤ root_work t)

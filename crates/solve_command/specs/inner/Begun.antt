@@ -26,7 +26,8 @@ pub record IsTaken (N : ℕ) (book : BookView) (olds : Option (List Entry)) (tak
   pub same_kept : at.kept ≡ taken.kept
   pub same_units : at.units ≡ taken.units
 
--- a book that took in old entries took in the lemmas of a seek, and this is the text with the line of the seek behind it
+-- a book that took in old entries took in the lemmas of a seek, and this is the text with the line of the seek behind
+-- it
 pub record HasSoughtBehind (N limit : ℕ) (at : Taking) (book : BookView) (before first : List ℕ) : Type 0 where
   pub end : Taking
   pub said : List ℕ

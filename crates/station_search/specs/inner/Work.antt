@@ -1,5 +1,6 @@
 -- What the steps of a search do: how a load is sorted, what is published, and what a walk stands for.
-use Rattle.std.specs.Prelude.{◌≡◌, ℕ, ◌+◌, ◌-◌, ◌*◌, ◌<◌, ◌≤◌, Bool, true, List, [], ◌∷◌, ◌++◌, length, Option, Some, None}
+use Rattle.std.specs.Prelude.{◌≡◌, ℕ, ◌+◌, ◌-◌, ◌*◌, ◌<◌, ◌≤◌, Bool, true, List, [], ◌∷◌, ◌++◌, length, Option, Some}
+use Rattle.std.specs.Prelude.{None}
 use Rattle.task_set.specs.Truths.{In, IsEmpty}
 use Rattle.line_instance.specs.Line.{Line, time}
 use Rattle.line_rules.specs.Loads.{rest}

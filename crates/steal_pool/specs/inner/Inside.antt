@@ -8,7 +8,8 @@ use Rattle.steal_pool.specs.declared.rules.Dealing.{Dealing}
 use Rattle.steal_pool.specs.Deques.{Log}
 use Rattle.steal_pool.specs.Steps.{Mine}
 
--- the worker's deque is first in, first out, has room for 4,096 pieces, and so many were put on it; the seat has no slot
+-- the worker's deque is first in, first out, has room for 4,096 pieces, and so many were put on it; the seat has no
+-- slot
 pub record HasRoom (w : Worker Piece Global Log Dealing) (me : Mine) : Type 0 where
   pub fifo : worker_flavor w ≡ 0
   pub room : 4096 ≤ worker_capacity w

@@ -1,5 +1,6 @@
 -- Old entries that are walked among the old ones, side by side, and what that says of them in a book.
-use Rattle.std.specs.Prelude.{◌≡◌, ℕ, ◌+◌, ◌&&◌, nat_le, Bool, true, false, not, List, length, take, slice_get, Option, Some, None}
+use Rattle.std.specs.Prelude.{◌≡◌, ℕ, ◌+◌, ◌&&◌, nat_le, Bool, true, false, not, List, length, take, slice_get, Option}
+use Rattle.std.specs.Prelude.{Some, None}
 use Rattle.std.specs.List.{list_all}
 use Rattle.line_instance.specs.Line.{Line}
 use Rattle.line_rules.specs.Entries.{Answers, Follows}
@@ -26,8 +27,8 @@ has_hope numbers why.Bound = true
 has_hope numbers (why.Branch mode cites) = list_all (λ cite. not (is_dropped numbers cite)) cites
 has_hope numbers (why.Swap cite out into) = not (is_dropped numbers cite)
 
--- an old entry may still be kept, by what is known of those gone over: its cycle is at least the book's, and it cites none
--- that was passed over
+-- an old entry may still be kept, by what is known of those gone over: its cycle is at least the book's, and it cites
+-- none that was passed over
 abbrev pub may_stand : List (Option ℕ) → ℕ → Entry → Bool
 may_stand numbers cycle old = nat_le cycle old.cycle && has_hope numbers old.why
 
@@ -43,11 +44,12 @@ pub record IsWalkedAt (kind : LineKind) (line : Line) (olds : List Entry) (k uni
   pub walked : IsWalked kind line (take k olds) entry units
 
 -- of old entries from one number on: the units of those that a walk among the old entries showed to follow
-pub record AreWalked (kind : LineKind) (line : Line) (olds : List Entry) (from : ℕ) (walked : List (Option ℕ)) : Type 0 where
+pub record AreWalked (kind : LineKind) (line : Line) (olds : List Entry) (from : ℕ)
+    (walked : List (Option ℕ)) : Type 0 where
   pub each : (j units : ℕ) → slice_get walked j ≡ Some (Some units) → IsWalkedAt kind line olds (from + j) units
 
--- a list has under this number an entry that answers the old one: of the same set, in as many stations or more, at as long
--- a cycle or a longer one
+-- a list has under this number an entry that answers the old one: of the same set, in as many stations or more, at as
+-- long a cycle or a longer one
 pub record IsAnsweredAt (es : List Entry) (number : ℕ) (old : Entry) : Type 0 where
   pub entry : Entry
   pub there : slice_get es number ≡ Some entry
@@ -59,8 +61,8 @@ pub record AreNumbered (t : Taking) (olds : List Entry) : Type 0 where
   pub each : (k number : ℕ) (old : Entry) → slice_get olds k ≡ Some old → new_number t.numbers k ≡ Some number
       → IsAnsweredAt t.book.state.entries number old
 
--- the units of an old entry that needs no further walk: it follows so from old entries, of which those that were kept are
--- answered in the book; nothing is said where there are none
+-- the units of an old entry that needs no further walk: it follows so from old entries, of which those that were kept
+-- are answered in the book; nothing is said where there are none
 abbrev pub IsSpared : Taking → Entry → Option ℕ → Type 0
 IsSpared t old None = Unit {0}
 IsSpared t old (Some units) =

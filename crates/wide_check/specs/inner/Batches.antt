@@ -16,7 +16,8 @@ pub record IsFoundAt (kind : LineKind) (line : Line) (es : List Entry) (k steps 
   pub found : IsFound kind line (take k es) entry steps f
 
 -- what is found of each of the entries from one number up to below another, with so many steps for each
-pub record AreChecked (kind : LineKind) (line : Line) (es : List Entry) (from to steps : ℕ) (fs : List Found) : Type 0 where
+pub record AreChecked (kind : LineKind) (line : Line) (es : List Entry) (from to steps : ℕ)
+    (fs : List Found) : Type 0 where
   pub many : length fs ≡ to - from
   pub each : (j : ℕ) (f : Found) → slice_get fs j ≡ Some f → IsFoundAt kind line es (from + j) steps f
 
