@@ -1,5 +1,7 @@
 -- Lists of events of which one begins another, and places that rise.
-use Rattle.std.proofs.Common.{◌≡◌, ◌≢◌, ℕ, zero, suc, ◌+◌, ◌<◌, ◌≤◌, Bool, true, false, cond, ◌&&◌, List, [], ◌∷◌, ◌++◌, length, refl, sym, ap, ◌∙◌, inl, inr, arith, length-append, append_assoc, append-nil, Some}
+use Rattle.std.proofs.Common.{◌≡◌, ◌≢◌, ℕ, zero, suc, ◌+◌, ◌<◌, ◌≤◌, Bool, true, false, cond, ◌&&◌, List, [], ◌∷◌, ◌++◌}
+use Rattle.std.proofs.Common.{length, refl, sym, ap, ◌∙◌, inl, inr, arith, length-append, append_assoc, append-nil}
+use Rattle.std.proofs.Common.{Some}
 use Rattle.std.specs.Prelude.{nat_eq, nat_lt, nat_le, slice_get}
 use Rattle.std.proofs.lemmas.Bool.Decides.{nat_tests}
 use Rattle.std.proofs.lemmas.Bool.{cases_lt}
@@ -86,7 +88,8 @@ pub times_put : (x y : ℕ) (ys : List ℕ) → times x (put_in y ys) ≡ cond (
 times_put x y [] = refl
 times_put x y (z ∷ zs) = by (times_put x y zs) (nat_lt y z)
   where
-    by : times x (put_in y zs) ≡ cond (nat_eq x y) 1 0 + times x zs → (b : Bool) → times x (cond b (y ∷ z ∷ zs) (z ∷ put_in y zs)) ≡ cond (nat_eq x y) 1 0 + (cond (nat_eq x z) 1 0 + times x zs)
+    by : times x (put_in y zs) ≡ cond (nat_eq x y) 1 0 + times x zs → (b : Bool)
+        → times x (cond b (y ∷ z ∷ zs) (z ∷ put_in y zs)) ≡ cond (nat_eq x y) 1 0 + (cond (nat_eq x z) 1 0 + times x zs)
     by ih true = refl
     by ih false = omega (arith, ih)
 
@@ -94,24 +97,32 @@ pub times_merged : (x : ℕ) (xs ys : List ℕ) → times x (merged xs ys) ≡ t
 times_merged x xs [] = omega arith
 times_merged x xs (y ∷ ys) = omega (arith, times_put x y (merged xs ys), times_merged x xs ys)
 
-pub rises_put : (low x : ℕ) (xs : List ℕ) (high : ℕ) → low ≤ x → x < high → times x xs ≡ 0 → Rises low xs high → Rises low (put_in x xs) high
+pub rises_put : (low x : ℕ) (xs : List ℕ) (high : ℕ) → low ≤ x → x < high → times x xs ≡ 0 → Rises low xs high
+    → Rises low (put_in x xs) high
 rises_put low x [] high l h none r = (l, omega arith)
-rises_put low x (y ∷ ys) high l h none r = by (λ m n. rises_put (suc y) x ys high m h n r.1) (nat_lt x y) refl (nat_eq x y) refl
+rises_put low x (y ∷ ys) high l h none r = by (λ m n. rises_put (suc y) x ys high m h n r.1) (nat_lt x y) refl
+    (nat_eq x y) refl
   where
-    by : (suc y ≤ x → times x ys ≡ 0 → Rises (suc y) (put_in x ys) high) → (b : Bool) → nat_lt x y ≡ b → (c : Bool) → nat_eq x y ≡ c → Rises low (cond b (x ∷ y ∷ ys) (y ∷ put_in x ys)) high
+    by : (suc y ≤ x → times x ys ≡ 0 → Rises (suc y) (put_in x ys) high) → (b : Bool) → nat_lt x y ≡ b → (c : Bool)
+        → nat_eq x y ≡ c → Rises low (cond b (x ∷ y ∷ ys) (y ∷ put_in x ys)) high
     by ih true e c f = let less : x < y = grind (arith, nat_tests) in (l, (omega arith, r.1))
-    by ih false e true f = let one : cond {A = ℕ} (nat_eq x y) 1 0 ≡ 1 = ap {B = ℕ} (λ (b : Bool). cond b 1 0) f in absurd (omega (arith, one, none))
-    by ih false e false f = let more : y ≤ x = grind (arith, nat_tests) in let other : x ≢ y = grind (arith, nat_tests) in (r.0, ih (omega arith) (omega arith))
+    by ih false e true f = let one : cond {A = ℕ} (nat_eq x y) 1 0 ≡ 1 = ap {B = ℕ} (λ (b : Bool). cond b 1 0) f in
+        absurd (omega (arith, one, none))
+    by ih false e false f = let more : y ≤ x = grind (arith, nat_tests) in
+        let other : x ≢ y = grind (arith, nat_tests) in (r.0, ih (omega arith) (omega arith))
 
 pub member_rises : (low : ℕ) (xs : List ℕ) (high x : ℕ) → Rises low xs high → 0 < times x xs → (low ≤ x) × (x < high)
 member_rises low [] high x r m = absurd (omega arith)
 member_rises low (y ∷ ys) high x r m = by (λ n. member_rises (suc y) ys high x r.1 n) (nat_eq x y) refl
   where
     by : (0 < times x ys → (suc y ≤ x) × (x < high)) → (b : Bool) → nat_eq x y ≡ b → (low ≤ x) × (x < high)
-    by ih true e = let same : x ≡ y = grind (arith, nat_tests) in let over = rises_le (suc y) ys high r.1 in let l = r.0 in (omega arith, omega arith)
-    by ih false e = let zero_is : cond {A = ℕ} (nat_eq x y) 1 0 ≡ 0 = ap {B = ℕ} (λ (b : Bool). cond b 1 0) e in let p = ih (omega (arith, zero_is, m)) in let l = r.0 in (omega (arith, p.0, l), p.1)
+    by ih true e = let same : x ≡ y = grind (arith, nat_tests) in let over = rises_le (suc y) ys high r.1 in
+        let l = r.0 in (omega arith, omega arith)
+    by ih false e = let zero_is : cond {A = ℕ} (nat_eq x y) 1 0 ≡ 0 = ap {B = ℕ} (λ (b : Bool). cond b 1 0) e in
+        let p = ih (omega (arith, zero_is, m)) in let l = r.0 in (omega (arith, p.0, l), p.1)
 
-pub rises_merged : (low : ℕ) (xs ys : List ℕ) (high : ℕ) → Rises low xs high → Rises low ys high → ((x : ℕ) → times x xs + times x ys ≤ 1) → Rises low (merged xs ys) high
+pub rises_merged : (low : ℕ) (xs ys : List ℕ) (high : ℕ) → Rises low xs high → Rises low ys high
+    → ((x : ℕ) → times x xs + times x ys ≤ 1) → Rises low (merged xs ys) high
 rises_merged low xs [] high r q once = r
 rises_merged low xs (y ∷ ys) high r q once =
     let mine : cond {A = ℕ} (nat_eq y y) 1 0 ≡ 1 = grind (arith, nat_tests) in
@@ -150,7 +161,8 @@ begins_shorter xs ys h p q = by (nat_lt (length xs) (length ys)) refl
     by false e = begins_two ys xs h q p (grind (arith, nat_tests))
 
 -- both begin the longer one, where the shorter does
-pub begins_both : (xs ys : List Item) → Begins (shorter xs ys) (longer xs ys) → Begins xs (longer xs ys) × Begins ys (longer xs ys)
+pub begins_both : (xs ys : List Item) → Begins (shorter xs ys) (longer xs ys)
+    → Begins xs (longer xs ys) × Begins ys (longer xs ys)
 begins_both xs ys p = by (nat_lt (length xs) (length ys)) p
   where
     by : (b : Bool) → Begins (cond b xs ys) (cond b ys xs) → Begins xs (cond b ys xs) × Begins ys (cond b ys xs)
@@ -159,21 +171,29 @@ begins_both xs ys p = by (nat_lt (length xs) (length ys)) p
 
 pub rises_once : (low : ℕ) (xs : List ℕ) (high x : ℕ) → Rises low xs high → times x xs ≤ 1
 rises_once low [] high x r = omega arith
-rises_once low (y ∷ ys) high x r = by (rises_once (suc y) ys high x r.1) (λ m. member_rises (suc y) ys high x r.1 m) (nat_eq x y) refl
+rises_once low (y ∷ ys) high x r = by (rises_once (suc y) ys high x r.1) (λ m. member_rises (suc y) ys high x r.1 m)
+    (nat_eq x y) refl
   where
-    by : times x ys ≤ 1 → (0 < times x ys → (suc y ≤ x) × (x < high)) → (b : Bool) → nat_eq x y ≡ b → cond b 1 0 + times x ys ≤ 1
-    by ih member true e = let same : x ≡ y = grind (arith, nat_tests) in elim (cases_lt 0 (times x ys)) [ inl m ↦ let p = (member m).0 in absurd (omega arith) | inr z ↦ omega arith ]
+    by : times x ys ≤ 1 → (0 < times x ys → (suc y ≤ x) × (x < high)) → (b : Bool) → nat_eq x y ≡ b
+        → cond b 1 0 + times x ys ≤ 1
+    by ih member true e = let same : x ≡ y = grind (arith, nat_tests) in
+        elim (cases_lt 0 (times x ys)) [ inl m ↦ let p = (member m).0 in absurd (omega arith) | inr z ↦ omega arith ]
     by ih member false e = omega arith
 
 -- places that rise as a recursion rise as a list, within their bounds
-pub rises_at : (low : ℕ) (xs : List ℕ) (high k x : ℕ) → Rises low xs high → slice_get xs k ≡ Some x → (low ≤ x) × (x < high)
+pub rises_at : (low : ℕ) (xs : List ℕ) (high k x : ℕ) → Rises low xs high → slice_get xs k ≡ Some x
+    → (low ≤ x) × (x < high)
 rises_at low [] high k x r e = absurd (cc)
-rises_at low (y ∷ ys) high zero x r e = let same : y ≡ x = same_Some y x e in let l = rises_le (suc y) ys high r.1 in let m = r.0 in (omega arith, omega arith)
-rises_at low (y ∷ ys) high (suc k) x r e = let p = rises_at (suc y) ys high k x r.1 e in let m = r.0 in let q = p.0 in (omega arith, p.1)
+rises_at low (y ∷ ys) high zero x r e = let same : y ≡ x = same_Some y x e in let l = rises_le (suc y) ys high r.1 in
+    let m = r.0 in (omega arith, omega arith)
+rises_at low (y ∷ ys) high (suc k) x r e = let p = rises_at (suc y) ys high k x r.1 e in let m = r.0 in let q = p.0 in
+    (omega arith, p.1)
 
-rises_next : (low : ℕ) (xs : List ℕ) (high k a b : ℕ) → Rises low xs high → slice_get xs k ≡ Some a → slice_get xs (suc k) ≡ Some b → a < b
+rises_next : (low : ℕ) (xs : List ℕ) (high k a b : ℕ) → Rises low xs high → slice_get xs k ≡ Some a
+    → slice_get xs (suc k) ≡ Some b → a < b
 rises_next low [] high k a b r e f = absurd (cc)
-rises_next low (y ∷ ys) high zero a b r e f = let same : y ≡ a = same_Some y a e in let p = (rises_at (suc y) ys high 0 b r.1 f).0 in omega arith
+rises_next low (y ∷ ys) high zero a b r e f = let same : y ≡ a = same_Some y a e in
+    let p = (rises_at (suc y) ys high 0 b r.1 f).0 in omega arith
 rises_next low (y ∷ ys) high (suc k) a b r e f = rises_next (suc y) ys high k a b r.1 e f
 
 pub are_own : (low : ℕ) (h : List Item) (own : List ℕ) → Rises low own (length h) → AreOwn h own

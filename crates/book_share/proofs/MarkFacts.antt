@@ -1,5 +1,7 @@
 -- Marks of entries: with those of one entry more, and what a mark that isn't there tells.
-use Rattle.std.proofs.Common.{◌≡◌, ◌≢◌, ℕ, suc, zero, ◌+◌, ◌-◌, ◌/◌, ◌<◌, ◌≤◌, List, [], ◌∷◌, ◌++◌, Bool, length, take, length-append, length-set, append_assoc, refl, sym, ap, ◌∙◌, subst, arith, Some, Option, bit_and, bit_or}
+use Rattle.std.proofs.Common.{◌≡◌, ◌≢◌, ℕ, suc, zero, ◌+◌, ◌-◌, ◌/◌, ◌<◌, ◌≤◌, List, [], ◌∷◌, ◌++◌, Bool, length, take}
+use Rattle.std.proofs.Common.{length-append, length-set, append_assoc, refl, sym, ap, ◌∙◌, subst, arith, Some, Option}
+use Rattle.std.proofs.Common.{bit_and, bit_or}
 use Rattle.std.specs.Prelude.{slice_get, slice_index, slice_set}
 use Rattle.std.specs.Option.{option_map}
 use Rattle.std.proofs.lemmas.List.{length-map, map-append, length-take-le}
@@ -29,8 +31,10 @@ use Rattle.book_share.specs.inner.Turning.{Holds, noted}
 use Rattle.lemma_core.proofs.BookAsDesk.{is_roomy}
 use Rattle.book_share.proofs.Hands.{roomy_of}
 
-tag_at : (es : List Entry) (j : ℕ) (e : Entry) → slice_get es j ≡ Some e → slice_get (tags_of es) j ≡ Some (tag_of e.set)
-tag_at es j e g = slice_get-map (λ (x : Entry). tag_of x.set) es j ∙ ap (λ (o : Option Entry). option_map (λ (x : Entry). tag_of x.set) o) g
+tag_at : (es : List Entry) (j : ℕ) (e : Entry) → slice_get es j ≡ Some e
+    → slice_get (tags_of es) j ≡ Some (tag_of e.set)
+tag_at es j e g = slice_get-map (λ (x : Entry). tag_of x.set) es j
+    ∙ ap (λ (o : Option Entry). option_map (λ (x : Entry). tag_of x.set) o) g
 
 -- the word of a tag is one of the words
 pub word_within : (count tag : ℕ) → 0 < count → word_in count tag < count
@@ -38,7 +42,8 @@ word_within count tag some = omega (arith, some, and_le_r (tag / 64) (count - 1)
 
 -- where the mark of a set isn't there, no entry has the set
 pub lacks : (words : List ℕ) (count : ℕ) (es : List Entry) (set : List Bool) → AreMarksOf words count es
-    → (bit_and (slice_index words (word_in (length words) (tag_of set))) (mark_of (tag_of set)) ≡ mark_of (tag_of set) → ⊥)
+    → (bit_and (slice_index words (word_in (length words) (tag_of set))) (mark_of (tag_of set)) ≡ mark_of (tag_of set)
+    → ⊥)
     → (most cycle : ℕ) → IsUnanswered es set most cycle
 lacks words count es set h not most cycle k e g a =
     let t : tag_of e.set ≡ tag_of set = ap (λ (s : List Bool). tag_of s) a.same in
@@ -46,19 +51,24 @@ lacks words count es set h not most cycle k e g a =
     not (subst P t (h.sieve k (tag_of e.set) (tag_at es k e g)))
 
 -- the marks of the first entries, with that of the next one
-pub one_more : (words now : List ℕ) (es : List Entry) (k : ℕ) (e : Entry) → AreMarksOf words k (take k es) → slice_get es k ≡ Some e
-    → now ≡ slice_set words (word_in (length words) (tag_of e.set)) (bit_or (slice_index words (word_in (length words) (tag_of e.set))) (mark_of (tag_of e.set)))
+pub one_more : (words now : List ℕ) (es : List Entry) (k : ℕ) (e : Entry) → AreMarksOf words k (take k es)
+    → slice_get es k ≡ Some e
+    → now ≡ slice_set words (word_in (length words) (tag_of e.set))
+    (bit_or (slice_index words (word_in (length words) (tag_of e.set))) (mark_of (tag_of e.set)))
     → AreMarksOf now (k + 1) (take (k + 1) es)
 one_more words now es k e h there is =
     let w : ℕ = word_in (length words) (tag_of e.set) in
-    let same : length now ≡ length words = ap (λ (xs : List ℕ). length xs) is ∙ length-set words w (bit_or (slice_index words w) (mark_of (tag_of e.set))) in
+    let same : length now ≡ length words = ap (λ (xs : List ℕ). length xs) is
+    ∙ length-set words w (bit_or (slice_index words w) (mark_of (tag_of e.set))) in
     let up : k + 1 ≡ suc k = omega arith in
     let next : take (k + 1) es ≡ take k es ++ e ∷ [] =
-    ap (λ (n : ℕ). take n es) up ∙ (take-suc es k e (slice_get_within es k e there) ∙ ap (λ (x : Entry). take k es ++ x ∷ []) (get_or_from_slice_get es k e e there)) in
+    ap (λ (n : ℕ). take n es) up ∙ (take-suc es k e (slice_get_within es k e there)
+    ∙ ap (λ (x : Entry). take k es ++ x ∷ []) (get_or_from_slice_get es k e e there)) in
     let tags : tags_of (take (k + 1) es) ≡ tags_of (take k es) ++ tag_of e.set ∷ [] =
     ap (λ (xs : List Entry). tags_of xs) next ∙ map-append (λ (x : Entry). tag_of x.set) (take k es) (e ∷ []) in
     let pushed : IsSieve (word_in (length words)) mark_of (tags_of (take k es) ++ tag_of e.set ∷ []) now =
-    sieve_push (word_in (length words)) mark_of (tags_of (take k es)) (tag_of e.set) words now (word_within (length words) (tag_of e.set) h.some) is h.sieve in
+    sieve_push (word_in (length words)) mark_of (tags_of (take k es)) (tag_of e.set) words now
+    (word_within (length words) (tag_of e.set) h.some) is h.sieve in
     let P : ℕ → Type 0 = λ n. IsSieve (word_in n) mark_of (tags_of (take k es) ++ tag_of e.set ∷ []) now in
     let Q : List ℕ → Type 0 = λ ts. IsSieve (word_in (length now)) mark_of ts now in
     record {
@@ -76,10 +86,12 @@ abbrev pub Replays : BookView → Type 0
 Replays b = replay b.opening b.events ≡ standing b.state
 
 -- marks of a book's entries are those of a pass that has seen its log
-pub marked_by : (m : Marks) (v : PassView) (b : BookView) → IsFor v.base v.seen b → Replays b → AreMarked m b.state.entries
+pub marked_by : (m : Marks) (v : PassView) (b : BookView) → IsFor v.base v.seen b → Replays b
+    → AreMarked m b.state.entries
     → IsDerived b.about.kind b.about.line b.state.entries → AreMarkedBy m (desk_by v)
 marked_by m v b is replays made derived =
-    let e : b.state.entries ≡ entries (desk_by v) = ap (λ (s : Standing). s.entries) (sym replays) ∙ (λ i. (replay (is.opening i) (is.events i)).entries) in
+    let e : b.state.entries ≡ entries (desk_by v) = ap (λ (s : Standing). s.entries) (sym replays)
+    ∙ (λ i. (replay (is.opening i) (is.events i)).entries) in
     record {
       marks = subst (λ (es : List Entry). AreMarked m es) e made;
       derived = λ k. subst (λ (es : List Entry). IsDerived v.base.about.kind v.base.about.line es) e
@@ -89,16 +101,22 @@ marked_by m v b is replays made derived =
 -- marks of what a desk had seen are marks of what a later one had seen
 pub were_marked : (m : Marks) (d e : DeskView) → Keeps d e → AreMarkedBy m d → WereMarked m e
 were_marked m d e k h =
-    let g : (more : List Entry) × ((replay d.opening e.seen).entries ≡ (replay d.opening d.seen).entries ++ more) = entries_go_on d.opening d.seen e.seen k.seen in
+    let g : (more : List Entry) × ((replay d.opening e.seen).entries ≡ (replay d.opening d.seen).entries ++ more) =
+    entries_go_on d.opening d.seen e.seen k.seen in
     (entries d, g.0, ap (λ (s : Standing). (replay s e.seen).entries) k.opening ∙ g.1, h.marks)
 
 -- marks of what a pass had seen are behind the book in hand, also after an event
-pub behind : (m : Marks) (v : PassView) (b b' : BookView) → IsFor v.base v.seen b → Keeps (desk_of b) (desk_of b') → Replays b' → WereMarked m (desk_by v)
+pub behind : (m : Marks) (v : PassView) (b b' : BookView) → IsFor v.base v.seen b → Keeps (desk_of b) (desk_of b')
+    → Replays b' → WereMarked m (desk_by v)
     → (old : List Entry) × (more : List Entry) × (b'.state.entries ≡ old ++ more) × AreMarked m old
 behind m v b b' is k replays w =
-    let g : (more : List Entry) × ((replay b.opening b'.events).entries ≡ (replay b.opening b.events).entries ++ more) = entries_go_on b.opening b.events b'.events k.seen in
-    let now : b'.state.entries ≡ (replay b.opening b'.events).entries = ap (λ (s : Standing). s.entries) (sym replays) ∙ ap (λ (s : Standing). (replay s b'.events).entries) k.opening in
-    let was : (replay b.opening b.events).entries ≡ w.0 ++ w.1 = (λ i. (replay (is.opening i) (is.events i)).entries) ∙ w.2 in
+    let g : (more : List Entry) × ((replay b.opening b'.events).entries ≡ (replay b.opening b.events).entries ++ more) =
+    entries_go_on b.opening b.events b'.events k.seen in
+    let now : b'.state.entries ≡ (replay b.opening b'.events).entries =
+    ap (λ (s : Standing). s.entries) (sym replays) ∙ ap (λ (s : Standing). (replay s b'.events).entries)
+    k.opening in
+    let was : (replay b.opening b.events).entries ≡ w.0 ++ w.1 =
+    (λ i. (replay (is.opening i) (is.events i)).entries) ∙ w.2 in
     (w.0, w.1 ++ g.0, now ∙ (g.1 ∙ (ap (λ (es : List Entry). es ++ g.0) was ∙ append_assoc w.0 w.1 g.0)), w.3)
 
 -- what a publish and an offer keep
@@ -112,7 +130,8 @@ keeps_offer old new n offered.Better p = p.1.keeps
 keeps_offer old new n offered.NotBetter p = p.0.keeps
 
 -- the book after a call, with the log that it has then
-for_next : (v : PassView) (b b' : BookView) → IsFor v.base v.seen b → Keeps (desk_of b) (desk_of b') → IsFor v.base b'.events b'
+for_next : (v : PassView) (b b' : BookView) → IsFor v.base v.seen b → Keeps (desk_of b) (desk_of b')
+    → IsFor v.base b'.events b'
 for_next v b b' is k = record {
   about = k.about ∙ is.about;
   opening = k.opening ∙ is.opening;
@@ -121,10 +140,13 @@ for_next v b b' is k = record {
 }
 
 -- the turn is over: the pass has seen the log of the book, whose marks were made
-pub marked_after : (m : Marks) (x w : Mine) (b b' : BookView) → Holds x b → Keeps (desk_of b) (desk_of b') → Replays b' → AreMarked m b'.state.entries
-    → IsDerived b'.about.kind b'.about.line b'.state.entries → w ≡ (noted x.0 b'.events, []) → AreMarkedBy m (desk_by w.0)
+pub marked_after : (m : Marks) (x w : Mine) (b b' : BookView) → Holds x b → Keeps (desk_of b) (desk_of b') → Replays b'
+    → AreMarked m b'.state.entries
+    → IsDerived b'.about.kind b'.about.line b'.state.entries → w ≡ (noted x.0 b'.events, [])
+    → AreMarkedBy m (desk_by w.0)
 marked_after m x w b b' h k replays marks derived is =
-    subst (λ (y : Mine). AreMarkedBy m (desk_by y.0)) (sym is) (marked_by m (noted x.0 b'.events) b' (for_next x.0 b b' h.book k) replays marks derived)
+    subst (λ (y : Mine). AreMarkedBy m (desk_by y.0)) (sym is)
+    (marked_by m (noted x.0 b'.events) b' (for_next x.0 b b' h.book k) replays marks derived)
 
 -- the same where nothing was recorded
 pub marked_still : (m : Marks) (x w : Mine) (b : BookView) → Holds x b → Replays b → AreMarked m b.state.entries

@@ -1,5 +1,7 @@
 -- Marks of what is cited.
-use Rattle.std.proofs.Common.{◌≡◌, ◌⊎◌, ℕ, zero, suc, ◌+◌, ◌<◌, ◌≤◌, Bool, true, false, List, [], ◌∷◌, ◌++◌, length, get_or, set, take, drop, append-nil, replicate, Some, refl, sym, ap, ◌∙◌, subst, inl, inr, arith, length-set}
+use Rattle.std.proofs.Common.{◌≡◌, ◌⊎◌, ℕ, zero, suc, ◌+◌, ◌<◌, ◌≤◌, Bool, true, false, List, [], ◌∷◌, ◌++◌, length}
+use Rattle.std.proofs.Common.{get_or, set, take, drop, append-nil, replicate, Some, refl, sym, ap, ◌∙◌, subst, inl, inr}
+use Rattle.std.proofs.Common.{arith, length-set}
 use Rattle.std.specs.Prelude.{slice_get}
 use Rattle.std.specs.List.{Contains}
 use Rattle.std.proofs.lemmas.Bool.{cases_eq, false≢true}
@@ -21,9 +23,16 @@ contains_at xs k x d l e = (k, l, inside xs k x d l e)
     inside (y ∷ ys) (suc k) x d l e = inside ys k x d (omega arith) e
 
 pub marked_none : (m : List Bool) → AreMarked m [] m
-marked_none m = record { as_many = refl; each = λ i. (λ a. inl a, λ a. elim a [ inl b ↦ b | inr c ↦ absurd (omega (arith, c.1)) ]) }
+marked_none m = record {
+  as_many = refl;
+  each = λ i. (
+    λ a. inl a,
+    λ a. elim a [ inl b ↦ b | inr c ↦ absurd (omega (arith, c.1)) ],
+  );
+}
 
-pub marked_more : (old new : List Bool) (cites : List ℕ) (k : ℕ) → k < length cites → get_or cites k 0 < length old → AreMarked old (take k cites) new → AreMarked old (take (k + 1) cites) (set new (get_or cites k 0) true)
+pub marked_more : (old new : List Bool) (cites : List ℕ) (k : ℕ) → k < length cites → get_or cites k 0 < length old
+    → AreMarked old (take k cites) new → AreMarked old (take (k + 1) cites) (set new (get_or cites k 0) true)
 marked_more old new cites k l b h = record {
   as_many = length-set new (get_or cites k 0) true ∙ h.as_many;
   each = λ i. (into i, back i);
@@ -39,18 +48,23 @@ marked_more old new cites k l b h = record {
     into i m = elim (In-set_cases new (get_or cites k 0) i m) [
       | inl a ↦ elim ((h.each i).0 a) [
         | inl o ↦ inl o
-        | inr c ↦ inr (let P : List ℕ → Type 0 = λ ys. Contains ys i in subst P (sym more) (Contains-append_left (take k cites) (get_or cites k 0 ∷ []) i c))
+        | inr c ↦ inr (let P : List ℕ → Type 0 = λ ys. Contains ys i in
+            subst P (sym more) (Contains-append_left (take k cites) (get_or cites k 0 ∷ []) i c))
       ]
-      | inr e ↦ inr (let P : List ℕ → Type 0 = λ ys. Contains ys i in let Q : ℕ → Type 0 = λ y. Contains (take k cites ++ get_or cites k 0 ∷ []) y in subst P (sym more) (subst Q (sym e) (Contains-push (take k cites) (get_or cites k 0))))
+      | inr e ↦ inr (let P : List ℕ → Type 0 = λ ys. Contains ys i in let Q : ℕ
+          → Type 0 = λ y. Contains (take k cites ++ get_or cites k 0 ∷ []) y in
+          subst P (sym more) (subst Q (sym e) (Contains-push (take k cites) (get_or cites k 0))))
     ]
 
     back : (i : ℕ) → (In old i ⊎ Contains (take (k + 1) cites) i) → In (set new (get_or cites k 0) true) i
     back i a = elim a [
       | inl o ↦ In-set_kept new (get_or cites k 0) i ((h.each i).1 (inl o))
-      | inr c ↦ (let P : List ℕ → Type 0 = λ ys. Contains ys i in elim (Contains-push_cases (take k cites) (get_or cites k 0) i (subst P more c)) [
-        | inl before ↦ In-set_kept new (get_or cites k 0) i ((h.each i).1 (inr before))
-        | inr e ↦ (let Q : ℕ → Type 0 = λ y. In (set new (get_or cites k 0) true) y in subst Q e (In-set_same new (get_or cites k 0) (omega (arith, h.as_many))))
-      ])
+      | inr c ↦ (let P : List ℕ → Type 0 = λ ys. Contains ys i in
+          elim (Contains-push_cases (take k cites) (get_or cites k 0) i (subst P more c)) [
+            | inl before ↦ In-set_kept new (get_or cites k 0) i ((h.each i).1 (inr before))
+            | inr e ↦ (let Q : ℕ → Type 0 = λ y. In (set new (get_or cites k 0) true) y in
+                subst Q e (In-set_same new (get_or cites k 0) (omega (arith, h.as_many))))
+          ])
     ]
 
 -- one number marked
@@ -62,9 +76,11 @@ pub record IsPassed (es : List Entry) (goal from : ℕ) (marks : List Bool) : Ty
   pub as_many : length marks ≡ length es
   pub here : In marks goal
   pub sound : (i : ℕ) → In marks i → StandsOn es goal i
-  pub closed : (k : ℕ) (e : Entry) (cite : ℕ) → from ≤ k → In marks k → slice_get es k ≡ Some e → Contains (cited_by e.why) cite → In marks cite
+  pub closed : (k : ℕ) (e : Entry) (cite : ℕ) → from ≤ k → In marks k → slice_get es k ≡ Some e
+      → Contains (cited_by e.why) cite → In marks cite
 
-pub pass_begins : (es : List Entry) (goal from : ℕ) (m : List Bool) → m ≡ replicate (length es) false → from ≡ length es → goal < length es → IsPassed es goal from (set m goal true)
+pub pass_begins : (es : List Entry) (goal from : ℕ) (m : List Bool) → m ≡ replicate (length es) false → from ≡ length es
+    → goal < length es → IsPassed es goal from (set m goal true)
 pass_begins es goal from m e f l =
     let long : length m ≡ length es = ap length e ∙ length-replicate (length es) false in
     record {
@@ -78,7 +94,8 @@ pass_begins es goal from m e f l =
     }
 
 -- an entry that isn't marked
-pub pass_leaves : (es : List Entry) (goal k from : ℕ) (m : List Bool) → from ≡ k + 1 → get_or m k false ≡ false → IsPassed es goal from m → IsPassed es goal k m
+pub pass_leaves : (es : List Entry) (goal k from : ℕ) (m : List Bool) → from ≡ k + 1 → get_or m k false ≡ false
+    → IsPassed es goal from m → IsPassed es goal k m
 pass_leaves es goal k from m f n h = record {
   as_many = h.as_many;
   here = h.here;
@@ -90,7 +107,9 @@ pass_leaves es goal k from m f n h = record {
 }
 
 -- a marked entry, with what it cites
-pub pass_marks : (es : List Entry) (goal k from : ℕ) (m new : List Bool) (e : Entry) → from ≡ k + 1 → In m k → slice_get es k ≡ Some e → CitesEarlier es → AreMarked m (cited_by e.why) new → IsPassed es goal from m → IsPassed es goal k new
+pub pass_marks : (es : List Entry) (goal k from : ℕ) (m new : List Bool) (e : Entry) → from ≡ k + 1 → In m k
+    → slice_get es k ≡ Some e → CitesEarlier es → AreMarked m (cited_by e.why) new → IsPassed es goal from m
+    → IsPassed es goal k new
 pass_marks es goal k from m new e f here there earlier marked h = record {
   as_many = marked.as_many ∙ h.as_many;
   here = (marked.each goal).1 (inl h.here);
@@ -116,7 +135,8 @@ pass_marks es goal k from m new e f here there earlier marked h = record {
     one x y e = cc
 
 -- a pass that went over all
-pub pass_ends : (es : List Entry) (goal from : ℕ) (m : List Bool) → from ≡ 0 → IsPassed es goal from m → AreMarks es goal m
+pub pass_ends : (es : List Entry) (goal from : ℕ) (m : List Bool) → from ≡ 0 → IsPassed es goal from m
+    → AreMarks es goal m
 pass_ends es goal from m f h = record { as_many = h.as_many; each = λ i. (h.sound i, reached i) }
   where
     reached : (i : ℕ) → StandsOn es goal i → In m i
@@ -126,17 +146,20 @@ pass_ends es goal from m f h = record { as_many = h.as_many; each = λ i. (h.sou
 -- what an entry of the goal stands on comes before it, or is the goal
 pub stands_within : (es : List Entry) (goal : ℕ) → CitesEarlier es → (i : ℕ) → StandsOn es goal i → i ≤ goal
 stands_within es goal earlier i itself = omega arith
-stands_within es goal earlier i (cited k e cite s there c) = omega (arith, stands_within es goal earlier k s, earlier k e there cite c)
+stands_within es goal earlier i (cited k e cite s there c) =
+    omega (arith, stands_within es goal earlier k s, earlier k e there cite c)
 
 -- marks of what the goal stands on are closed
-pub marks_closed : (es : List Entry) (goal : ℕ) (m : List Bool) → goal < length es → CitesEarlier es → AreMarks es goal m → AreClosed es m
+pub marks_closed : (es : List Entry) (goal : ℕ) (m : List Bool) → goal < length es → CitesEarlier es
+    → AreMarks es goal m → AreClosed es m
 marks_closed es goal m l earlier h = record {
   there = omega (arith, h.as_many);
   closed = λ k e cite a at c. ((h.each cite).1 (cited k e cite ((h.each k).0 a) at c), earlier k e at cite c);
 }
 
 -- a list that was handed on and comes back whole
-pub come_back : {X : Type 0} (len : ℕ) (new old before : List X) → length new ≡ length old → old ≡ before → length old ≡ len → take len (new ++ drop (length new) before) ≡ new
+pub come_back : {X : Type 0} (len : ℕ) (new old before : List X) → length new ≡ length old → old ≡ before
+    → length old ≡ len → take len (new ++ drop (length new) before) ≡ new
 come_back len new old before e f g =
     let none : drop (length new) before ≡ [] = drop_past (length new) before (omega (arith, ap length f)) in
     ap (λ t. take len (new ++ t)) none ∙ ap (take len) (append-nil new) ∙ take_all len new (omega arith)

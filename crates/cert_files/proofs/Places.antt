@@ -1,5 +1,6 @@
 -- The places of kept entries.
-use Rattle.std.proofs.Common.{◌≡◌, ℕ, zero, suc, ◌+◌, ◌<◌, ◌≤◌, Bool, true, false, List, [], ◌∷◌, ◌++◌, length, get_or, take, map, Some, refl, sym, ap, ◌∙◌, subst, inl, inr, arith}
+use Rattle.std.proofs.Common.{◌≡◌, ℕ, zero, suc, ◌+◌, ◌<◌, ◌≤◌, Bool, true, false, List, [], ◌∷◌, ◌++◌, length, get_or}
+use Rattle.std.proofs.Common.{take, map, Some, refl, sym, ap, ◌∙◌, subst, inl, inr, arith}
 use Rattle.std.specs.Prelude.{slice_get, slice_index}
 use Rattle.std.specs.List.{Contains}
 use Rattle.std.proofs.lemmas.Bool.{cases_lt, false≢true}
@@ -15,7 +16,8 @@ use Rattle.line_rules.proofs.Grown.{get_longer}
 use Rattle.cert_files.specs.Trim.{cited_by, IsRenumbered, IsKeptAt, AreKeptEntries, AreClosed, why_at, entry_at}
 
 -- a member of marks stands in their list of members at the number of members before it
-pub place_from : (base : ℕ) (s : List Bool) (k : ℕ) → In s k → slice_get (members_from base s) (count (take k s)) ≡ Some (base + k)
+pub place_from : (base : ℕ) (s : List Bool) (k : ℕ) → In s k
+    → slice_get (members_from base s) (count (take k s)) ≡ Some (base + k)
 unfolding members_from
 place_from base [] k m = absurd (false≢true m)
 place_from base (true ∷ s) zero m = let f : base ≡ base + 0 = omega arith in ap Some f
@@ -43,11 +45,13 @@ above_from base (true ∷ s) zero a e = let h : base ≡ a = one_number base a e
 above_from base (true ∷ s) (suc j) a e = omega (arith, above_from (suc base) s j a e)
 above_from base (false ∷ s) j a e = omega (arith, above_from (suc base) s j a e)
 
-pub ascending_from : (base : ℕ) (s : List Bool) (j k a b : ℕ) → j < k → slice_get (members_from base s) j ≡ Some a → slice_get (members_from base s) k ≡ Some b → a < b
+pub ascending_from : (base : ℕ) (s : List Bool) (j k a b : ℕ) → j < k → slice_get (members_from base s) j ≡ Some a
+    → slice_get (members_from base s) k ≡ Some b → a < b
 unfolding members_from
 ascending_from base [] j k a b l e f = absurd (cc)
 ascending_from base (true ∷ s) j zero a b l e f = absurd (omega arith)
-ascending_from base (true ∷ s) zero (suc k) a b l e f = let h : base ≡ a = one_number base a e in omega (arith, above_from (suc base) s k b f)
+ascending_from base (true ∷ s) zero (suc k) a b l e f = let h : base ≡ a = one_number base a e in
+    omega (arith, above_from (suc base) s k b f)
   where
     one_number : (x y : ℕ) → Some x ≡ Some y → x ≡ y
     one_number x y e = cc
@@ -55,18 +59,26 @@ ascending_from base (true ∷ s) (suc j) (suc k) a b l e f = ascending_from (suc
 ascending_from base (false ∷ s) j k a b l e f = ascending_from (suc base) s j k a b l e f
 
 -- cites looked up in a list of places that lead back to them
-pub led_back : (numbers places cites : List ℕ) → ((cite : ℕ) → Contains cites cite → slice_get numbers (slice_index places cite) ≡ Some cite) → map (slice_get numbers) (map (slice_index places) cites) ≡ map Some cites
+pub led_back : (numbers places cites : List ℕ) → ((cite : ℕ) → Contains cites cite
+    → slice_get numbers (slice_index places cite) ≡ Some cite)
+    → map (slice_get numbers) (map (slice_index places) cites) ≡ map Some cites
 led_back numbers places [] h = refl
 led_back numbers places (c ∷ cites) h =
     ap (λ x. x ∷ map (slice_get numbers) (map (slice_index places) cites)) (h c (0, omega arith, refl))
     ∙ ap (λ xs. Some c ∷ xs) (led_back numbers places cites (λ d m. h d (suc m.0, omega (arith, m.1), m.2)))
 
-pub renumbered : (numbers places : List ℕ) (w : Why) → ((cite : ℕ) → Contains (cited_by w) cite → slice_get numbers (slice_index places cite) ≡ Some cite) → IsRenumbered numbers w (why_at places w)
+pub renumbered : (numbers places : List ℕ) (w : Why) → ((cite : ℕ) → Contains (cited_by w) cite
+    → slice_get numbers (slice_index places cite) ≡ Some cite) → IsRenumbered numbers w (why_at places w)
 renumbered numbers places why.Bound h = refl
-renumbered numbers places (why.Branch mode cites) h = (map (slice_index places) cites, refl, led_back numbers places cites h)
+renumbered numbers places (why.Branch mode cites) h = (
+  map (slice_index places) cites,
+  refl,
+  led_back numbers places cites h,
+)
 renumbered numbers places (why.Swap cite out into) h = (slice_index places cite, refl, h cite (0, omega arith, refl))
 
--- Entries of the marks below k are placed: the list of places has the number of marked ones before each, and the items are the marked entries.
+-- Entries of the marks below k are placed: the list of places has the number of marked ones before each, and the items
+-- are the marked entries.
 pub record IsPlacing (es : List Entry) (marks : List Bool) (k : ℕ) (places : List ℕ) (items : List Entry) : Type 0 where
   pub long : length places ≡ k
   pub within : k ≤ length marks
@@ -74,7 +86,8 @@ pub record IsPlacing (es : List Entry) (marks : List Bool) (k : ℕ) (places : L
   pub as_many : length items ≡ count (take k marks)
   pub each : (place : ℕ) → place < length items → IsKeptAt es (members_of marks) items place
 
-pub none_placed : (es : List Entry) (marks : List Bool) (places : List ℕ) (items : List Entry) → length places ≡ 0 → length items ≡ 0 → IsPlacing es marks 0 places items
+pub none_placed : (es : List Entry) (marks : List Bool) (places : List ℕ) (items : List Entry) → length places ≡ 0
+    → length items ≡ 0 → IsPlacing es marks 0 places items
 none_placed es marks places items e f = record {
   long = e;
   within = omega arith;
@@ -84,7 +97,9 @@ none_placed es marks places items e f = record {
 }
 
 -- one more place in the list of places
-count_pushed : (marks : List Bool) (k n : ℕ) (places : List ℕ) → length places ≡ k → ((i : ℕ) → i < k → slice_index places i ≡ count (take i marks)) → n ≡ count (take k marks) → (i : ℕ) → i < k + 1 → slice_index (places ++ n ∷ []) i ≡ count (take i marks)
+count_pushed : (marks : List Bool) (k n : ℕ) (places : List ℕ) → length places ≡ k
+    → ((i : ℕ) → i < k → slice_index places i ≡ count (take i marks)) → n ≡ count (take k marks) → (i : ℕ) → i < k + 1
+    → slice_index (places ++ n ∷ []) i ≡ count (take i marks)
 count_pushed marks k n places long h e i l = elim (cases_lt i k) [
   | inl b ↦ front places (n ∷ []) i (omega arith) ∙ h i b
   | inr g ↦
@@ -103,7 +118,9 @@ count_pushed marks k n places long h e i l = elim (cases_lt i k) [
     last (x ∷ xs) n = last xs n
 
 -- an entry that isn't kept
-pub passed_over : (es : List Entry) (marks : List Bool) (k n : ℕ) (places : List ℕ) (items : List Entry) → k < length marks → get_or marks k false ≡ false → n ≡ length items → IsPlacing es marks k places items → IsPlacing es marks (k + 1) (places ++ n ∷ []) items
+pub passed_over : (es : List Entry) (marks : List Bool) (k n : ℕ) (places : List ℕ) (items : List Entry)
+    → k < length marks → get_or marks k false ≡ false → n ≡ length items → IsPlacing es marks k places items
+    → IsPlacing es marks (k + 1) (places ++ n ∷ []) items
 passed_over es marks k n places items l m e h = record {
   long = omega (arith, length-append places (n ∷ []), h.long);
   within = omega arith;
@@ -112,7 +129,8 @@ passed_over es marks k n places items l m e h = record {
   each = h.each;
 }
 
-kept_longer : (es : List Entry) (numbers : List ℕ) (items more : List Entry) (place : ℕ) → IsKeptAt es numbers items place → IsKeptAt es numbers (items ++ more) place
+kept_longer : (es : List Entry) (numbers : List ℕ) (items more : List Entry) (place : ℕ)
+    → IsKeptAt es numbers items place → IsKeptAt es numbers (items ++ more) place
 kept_longer es numbers items more place h = record {
   number = h.number;
   old = h.old;
@@ -124,16 +142,27 @@ kept_longer es numbers items more place h = record {
 }
 
 -- a kept entry, moved by the list of places
-pub placed : (es : List Entry) (marks : List Bool) (k n : ℕ) (places : List ℕ) (items : List Entry) (e : Entry) → k < length marks → In marks k → slice_get es k ≡ Some e → n ≡ length items → AreClosed es marks → IsPlacing es marks k places items
+pub placed : (es : List Entry) (marks : List Bool) (k n : ℕ) (places : List ℕ) (items : List Entry) (e : Entry)
+    → k < length marks → In marks k → slice_get es k ≡ Some e → n ≡ length items → AreClosed es marks
+    → IsPlacing es marks k places items
     → IsPlacing es marks (k + 1) (places ++ n ∷ []) (items ++ entry_at (places ++ n ∷ []) e ∷ [])
 placed es marks k n places items e l m there f closed h = record {
   long = omega (arith, length-append places (n ∷ []), h.long);
   within = omega arith;
   counts = counted;
-  as_many = omega (arith, length-append items (entry_at (places ++ n ∷ []) e ∷ []), count_by_more_yes (λ t. t) marks k false l m, h.as_many);
+  as_many = omega (
+    arith,
+    length-append items (entry_at (places ++ n ∷ []) e ∷ []),
+    count_by_more_yes (λ t. t) marks k false l m,
+    h.as_many,
+  );
   each = λ place b. elim (cases_lt place (length items)) [
-    | inl front ↦ kept_longer es (members_of marks) items (entry_at (places ++ n ∷ []) e ∷ []) place (h.each place front)
-    | inr g ↦ (let same : place ≡ length items = omega (arith, length-append items (entry_at (places ++ n ∷ []) e ∷ [])) in
+    | inl front ↦ kept_longer es (members_of marks) items (entry_at (places ++ n ∷ []) e ∷ []) place
+        (h.each place front)
+    | inr g ↦ (let same : place ≡ length items = omega (
+      arith,
+      length-append items (entry_at (places ++ n ∷ []) e ∷ []),
+    ) in
         let P : ℕ → Type 0 = IsKeptAt es (members_of marks) (items ++ entry_at (places ++ n ∷ []) e ∷ []) in
         subst P (sym same) new)
   ];
@@ -165,7 +194,8 @@ placed es marks k n places items e l m there f closed h = record {
     }
 
 -- all are gone over
-pub all_placed : (es : List Entry) (marks : List Bool) (k : ℕ) (places : List ℕ) (items : List Entry) → length marks ≤ k → IsPlacing es marks k places items → AreKeptEntries es (members_of marks) items
+pub all_placed : (es : List Entry) (marks : List Bool) (k : ℕ) (places : List ℕ) (items : List Entry) → length marks ≤ k
+    → IsPlacing es marks k places items → AreKeptEntries es (members_of marks) items
 all_placed es marks k places items l h = record {
   as_many = h.as_many ∙ ap count (take_all k marks l) ∙ count_listed 0 marks;
   each = h.each;

@@ -1,5 +1,6 @@
 -- The digits of numbers.
-use Rattle.std.proofs.Common.{◌≡◌, ℕ, zero, suc, ◌+◌, ◌/◌, ◌%◌, ◌<◌, ◌≤◌, Bool, true, false, cond, nat_lt, [], ◌∷◌, ◌++◌, refl, ◌∙◌, ap, arith}
+use Rattle.std.proofs.Common.{◌≡◌, ℕ, zero, suc, ◌+◌, ◌/◌, ◌%◌, ◌<◌, ◌≤◌, Bool, true, false, cond, nat_lt, [], ◌∷◌}
+use Rattle.std.proofs.Common.{◌++◌, refl, ◌∙◌, ap, arith}
 use Rattle.std.proofs.lemmas.Bool.Decides.{nat_tests}
 use Rattle.cert_lines.specs.Numbers.{digits_within, number_text}
 
@@ -12,10 +13,12 @@ unfolding digits_within
 room zero q n h k = absurd (omega arith)
 room (suc r) zero n h k = absurd (omega arith)
 room (suc r) (suc q) n h k =
-    let P : Bool → Type 0 = λ b. cond b ((48 + n) ∷ []) (digits_within r (n / 10) ++ (48 + n % 10) ∷ []) ≡ cond b ((48 + n) ∷ []) (digits_within q (n / 10) ++ (48 + n % 10) ∷ []) in
+    let P : Bool → Type 0 = λ b. cond b ((48 + n) ∷ []) (digits_within r (n / 10) ++ (48 + n % 10) ∷ [])
+    ≡ cond b ((48 + n) ∷ []) (digits_within q (n / 10) ++ (48 + n % 10) ∷ []) in
     let I : (b : Bool) → nat_lt n 10 ≡ b → P b = elim [
       | true ↦ (λ e. refl)
-      | false ↦ (λ e. let t : 10 ≤ n = tens n e in ap (λ ds. ds ++ (48 + n % 10) ∷ []) (room r q (n / 10) (omega arith) (omega arith)))
+      | false ↦ (λ e. let t : 10 ≤ n = tens n e in ap (λ ds. ds ++ (48 + n % 10) ∷ [])
+          (room r q (n / 10) (omega arith) (omega arith)))
     ] in
     I (nat_lt n 10) refl
 

@@ -15,7 +15,8 @@ pub one_more : {X : Type 0} (P : X → Type 0) (xs : List X) (n : ℕ) (x : X) �
     → EachBelow P xs n → EachBelow P xs (n + 1)
 one_more P xs n x there p before k y h e = elim (cases_lt k n) [
   | inl l ↦ before k y l e
-  | inr g ↦ let s : n ≡ k = omega arith in subst P (one_item x y (let q : slice_get xs k ≡ Some x = subst (λ i. slice_get xs i ≡ Some x) s there in cc)) p
+  | inr g ↦ let s : n ≡ k = omega arith in subst P (one_item x y
+      (let q : slice_get xs k ≡ Some x = subst (λ i. slice_get xs i ≡ Some x) s there in cc)) p
 ]
 
 pub each_item : {X : Type 0} (P : X → Type 0) (xs : List X) (n : ℕ) → length xs ≤ n → EachBelow P xs n → (k : ℕ) (x : X)

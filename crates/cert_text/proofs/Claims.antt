@@ -1,5 +1,6 @@
 -- Claims and certificates of both versions as parts, and that their lines say one value at most.
-use Rattle.std.proofs.Common.{◌≡◌, ℕ, suc, ◌<◌, ◌≤◌, List, [], ◌∷◌, ◌++◌, length, refl, sym, ◌∙◌, ap, subst, arith, Some, None, Ok, Err, Result, lit≤}
+use Rattle.std.proofs.Common.{◌≡◌, ℕ, suc, ◌<◌, ◌≤◌, List, [], ◌∷◌, ◌++◌, length, refl, sym, ◌∙◌, ap, subst, arith}
+use Rattle.std.proofs.Common.{Some, None, Ok, Err, Result, lit≤}
 use Rattle.std.specs.Prelude.{codes}
 use Rattle.std.specs.Result.{IsErrAnd}
 use Rattle.std.proofs.lemmas.Bool.{false≢true}
@@ -29,7 +30,8 @@ use Rattle.cert_lines.specs.declared.fault.ReadError.{ReadError}
 use Rattle.cert_lines.specs.declared.fault.ReadError.TheVariants as errors
 use Rattle.cert_text.specs.Cert.{head_rows, claim_rows, cert_rows}
 use Rattle.cert_text.specs.OldCert.{old_claim_rows, old_rows}
-use Rattle.cert_text.specs.Parts.{IsHeadOf, heads, lists, IsPlacedOf, placings, behind_rows, opening_of, IsOpened, opened, IsClaimOf, claims}
+use Rattle.cert_text.specs.Parts.{IsHeadOf, heads, lists, IsPlacedOf, placings, behind_rows, opening_of, IsOpened}
+use Rattle.cert_text.specs.Parts.{opened, IsClaimOf, claims}
 use Rattle.cert_text.specs.inner.OldParts.{counted}
 use Rattle.cert_text.specs.Versions.{AnyCertificate, newer, older, IsAnyInRange, any_rows, lifted, both, certificate_of}
 use Rattle.cert_text.specs.Answers.{IsAnyRead}
@@ -43,8 +45,10 @@ use Rattle.cert_lines.proofs.Judged.{fixed_text, small_is, keyed_value, keyed_ot
 use Rattle.cert_lines.proofs.OtherLines.{keyed_again}
 use Rattle.cert_lift.proofs.LiftRanges.{lifted_in}
 use Rattle.cert_text.proofs.Failing.{Fails, first, second, same, hand}
-use Rattle.cert_text.proofs.Sequencing.{unique_then, Unique, unique_one, Same, same_read, same_error, both_read, second_error}
-use Rattle.cert_text.proofs.Wholes.{unique_same, unique_placings, unique_lists, unique_heads, one_cycle, some_seating, placing_said, within}
+use Rattle.cert_text.proofs.Sequencing.{unique_then, Unique, unique_one, Same, same_read, same_error, both_read}
+use Rattle.cert_text.proofs.Sequencing.{second_error}
+use Rattle.cert_text.proofs.Wholes.{unique_same, unique_placings, unique_lists, unique_heads, one_cycle, some_seating}
+use Rattle.cert_text.proofs.Wholes.{placing_said, within}
 use Rattle.cert_text.proofs.OldWholes.{unique_counted}
 
 -- the end
@@ -65,49 +69,80 @@ abbrev pub bounds_parts : {L : Type 0} → Grammar L → Head → Grammar (Place
 bounds_parts g h = then_ (placings h.kind h.tasks) (λ p. then_ g (λ l. end_grammar))
 
 unique_bounds : {L : Type 0} (g : Grammar L) (h : Head) → Unique g → Unique (bounds_parts g h)
-unique_bounds g h u = unique_then (placings h.kind h.tasks) (λ p. then_ g (λ l. end_grammar)) (unique_placings h.kind h.tasks) (λ p r. unique_then g (λ l. end_grammar) u (λ l s. unique_end))
+unique_bounds g h u = unique_then (placings h.kind h.tasks) (λ p. then_ g (λ l. end_grammar))
+    (unique_placings h.kind h.tasks) (λ p r. unique_then g (λ l. end_grammar) u (λ l s. unique_end))
 
-pub list_fails : {L : Type 0} (g : Grammar L) (h : Head) (p : Placed) (passed middle : ℕ) (text left : List ℕ) {e : ReadError} → Unique g → IsRead (placings h.kind h.tasks) passed text left middle (Ok p)
+pub list_fails : {L : Type 0} (g : Grammar L) (h : Head) (p : Placed) (passed middle : ℕ) (text left : List ℕ)
+    {e : ReadError} → Unique g → IsRead (placings h.kind h.tasks) passed text left middle (Ok p)
     → Fails g middle left e → Fails (bounds_parts g h) passed text e
 list_fails g h p passed middle text left u x f =
-    second (placings h.kind h.tasks) (λ p. then_ g (λ l. end_grammar)) p passed middle text left (unique_placings h.kind h.tasks) x (first g (λ l. end_grammar) u (λ l r. (tt, tt)) f)
+    second (placings h.kind h.tasks) (λ p. then_ g (λ l. end_grammar)) p passed middle text left
+    (unique_placings h.kind h.tasks) x (first g (λ l. end_grammar) u (λ l r. (tt, tt)) f)
 
-pub end_fails : {L : Type 0} (g : Grammar L) (h : Head) (p : Placed) (l : L) (passed middle third : ℕ) (text left behind : List ℕ) {e : ReadError} → Unique g → IsRead (placings h.kind h.tasks) passed text left middle (Ok p)
-    → IsRead g middle left behind third (Ok l) → Fails end_grammar third behind e → Fails (bounds_parts g h) passed text e
+pub end_fails : {L : Type 0} (g : Grammar L) (h : Head) (p : Placed) (l : L) (passed middle third : ℕ)
+    (text left behind : List ℕ) {e : ReadError} → Unique g → IsRead (placings h.kind h.tasks) passed text left middle
+    (Ok p)
+    → IsRead g middle left behind third (Ok l) → Fails end_grammar third behind e
+    → Fails (bounds_parts g h) passed text e
 end_fails g h p l passed middle third text left behind u x y f =
-    second (placings h.kind h.tasks) (λ p. then_ g (λ l. end_grammar)) p passed middle text left (unique_placings h.kind h.tasks) x (second g (λ l. end_grammar) l middle third left behind u y f)
+    second (placings h.kind h.tasks) (λ p. then_ g (λ l. end_grammar)) p passed middle text left
+    (unique_placings h.kind h.tasks) x (second g (λ l. end_grammar) l middle third left behind u y f)
 
-bounds_read : {L : Type 0} (g : Grammar L) (h : Head) (p : Placed) (l : L) (passed middle third after : ℕ) (text left behind rest : List ℕ) → IsRead (placings h.kind h.tasks) passed text left middle (Ok p)
-    → IsRead g middle left behind third (Ok l) → IsRead end_grammar third behind rest after (Ok tt) → IsRead (bounds_parts g h) passed text rest after (Ok (p, (l, tt)))
+bounds_read : {L : Type 0} (g : Grammar L) (h : Head) (p : Placed) (l : L) (passed middle third after : ℕ)
+    (text left behind rest : List ℕ) → IsRead (placings h.kind h.tasks) passed text left middle (Ok p)
+    → IsRead g middle left behind third (Ok l) → IsRead end_grammar third behind rest after (Ok tt)
+    → IsRead (bounds_parts g h) passed text rest after (Ok (p, (l, tt)))
 bounds_read g h p l passed middle third after text left behind rest x y z =
-    both_read (placings h.kind h.tasks) (λ p. then_ g (λ l. end_grammar)) p (l, tt) passed middle after text left rest x (both_read g (λ l. end_grammar) l tt middle third after left behind rest y z)
+    both_read (placings h.kind h.tasks) (λ p. then_ g (λ l. end_grammar)) p (l, tt) passed middle after text left rest x
+    (both_read g (λ l. end_grammar) l tt middle third after left behind rest y z)
 
 abbrev no_places : Placed
 no_places = record { upper = 0; balance = record { stations = 0; place = [] } }
 
 from_new : AnyClaim → Placed × (EntryList × Unit {0})
 from_new (any.New (new.TooLong t)) = (no_places, (no_list, tt))
-from_new (any.New (new.Bounds x u b es t)) = (record { upper = u; balance = b }, (record { entries = es; trail = t }, tt))
+from_new (any.New (new.Bounds x u b es t)) = (
+  record { upper = u; balance = b },
+  (record { entries = es; trail = t }, tt),
+)
 from_new (any.Old c) = (no_places, (no_list, tt))
 
-same_new : (h : Head) (x : ℕ) → IsCycle x → Same (bounds_parts (lists h.tasks) h) (opened version.Two h (opening.Lower x))
+same_new : (h : Head) (x : ℕ) → IsCycle x → Same (bounds_parts (lists h.tasks) h)
+    (opened version.Two h (opening.Lower x))
 unfolding from_new
 same_new h x c = record {
   to = λ v. any.New (new.Bounds x v.0.upper v.0.balance v.1.0.entries v.1.0.trail);
   from = from_new;
-  to_ranged = λ v r. ((refl, record { from = c; up_to = r.0.upper; balance = r.0.balance; entries = r.1.0.0; trail = r.1.0.1 }), refl);
+  to_ranged = λ v r. (
+    (
+      refl,
+      record {
+        from = c;
+        up_to = r.0.upper;
+        balance = r.0.balance;
+        entries = r.1.0.0;
+        trail = r.1.0.1;
+      },
+    ),
+    refl,
+  );
   from_ranged = from_range;
   to_rows = λ v r. refl;
   from_rows = from_row;
 }
   where
-    from_range : (w : AnyClaim) → IsOpened version.Two h (opening.Lower x) w → (bounds_parts (lists h.tasks) h).ranged (from_new w)
+    from_range : (w : AnyClaim) → IsOpened version.Two h (opening.Lower x) w
+        → (bounds_parts (lists h.tasks) h).ranged (from_new w)
     from_range (any.New (new.TooLong t)) r = absurd (cc (r.1))
-    from_range (any.New (new.Bounds y u b es t)) r = (record { upper = r.0.1.up_to; balance = r.0.1.balance }, ((r.0.1.entries, r.0.1.trail), tt))
+    from_range (any.New (new.Bounds y u b es t)) r = (
+      record { upper = r.0.1.up_to; balance = r.0.1.balance },
+      ((r.0.1.entries, r.0.1.trail), tt),
+    )
     from_range (any.Old (old.TooLong t)) r = absurd r.0
     from_range (any.Old (old.Bounds y u b ps)) r = absurd (cc (r.0.0))
 
-    from_row : (w : AnyClaim) → IsOpened version.Two h (opening.Lower x) w → (bounds_parts (lists h.tasks) h).rows (from_new w) ≡ behind_rows h w
+    from_row : (w : AnyClaim) → IsOpened version.Two h (opening.Lower x) w
+        → (bounds_parts (lists h.tasks) h).rows (from_new w) ≡ behind_rows h w
     from_row (any.New (new.TooLong t)) r = absurd (cc (r.1))
     from_row (any.New (new.Bounds y u b es t)) r = refl
     from_row (any.Old (old.TooLong t)) r = absurd r.0
@@ -118,7 +153,8 @@ from_old (any.New c) = (no_places, ([], tt))
 from_old (any.Old (old.TooLong t)) = (no_places, ([], tt))
 from_old (any.Old (old.Bounds x u b ps)) = (record { upper = u; balance = b }, (ps, tt))
 
-same_old : (h : Head) (x : ℕ) → IsCycle x → Same (bounds_parts (counted h.tasks) h) (opened version.One h (opening.Lower x))
+same_old : (h : Head) (x : ℕ) → IsCycle x → Same (bounds_parts (counted h.tasks) h)
+    (opened version.One h (opening.Lower x))
 unfolding from_old
 same_old h x c = record {
   to = λ v. any.Old (old.Bounds x v.0.upper v.0.balance v.1.0);
@@ -129,54 +165,76 @@ same_old h x c = record {
   from_rows = from_row;
 }
   where
-    from_range : (w : AnyClaim) → IsOpened version.One h (opening.Lower x) w → (bounds_parts (counted h.tasks) h).ranged (from_old w)
+    from_range : (w : AnyClaim) → IsOpened version.One h (opening.Lower x) w
+        → (bounds_parts (counted h.tasks) h).ranged (from_old w)
     from_range (any.New (new.TooLong t)) r = absurd (cc (r.1))
     from_range (any.New (new.Bounds y u b es t)) r = absurd (cc (r.0.0))
     from_range (any.Old (old.TooLong t)) r = absurd r.0
-    from_range (any.Old (old.Bounds y u b ps)) r = (record { upper = r.0.1.up_to; balance = r.0.1.balance }, (r.0.1.parts, tt))
+    from_range (any.Old (old.Bounds y u b ps)) r = (
+      record { upper = r.0.1.up_to; balance = r.0.1.balance },
+      (r.0.1.parts, tt),
+    )
 
-    from_row : (w : AnyClaim) → IsOpened version.One h (opening.Lower x) w → (bounds_parts (counted h.tasks) h).rows (from_old w) ≡ behind_rows h w
+    from_row : (w : AnyClaim) → IsOpened version.One h (opening.Lower x) w
+        → (bounds_parts (counted h.tasks) h).rows (from_old w) ≡ behind_rows h w
     from_row (any.New (new.TooLong t)) r = absurd (cc (r.1))
     from_row (any.New (new.Bounds y u b es t)) r = absurd (cc (r.0.0))
     from_row (any.Old (old.TooLong t)) r = absurd r.0
     from_row (any.Old (old.Bounds y u b ps)) r = refl
 
 -- what fails in the bounds of a version
-pub new_fails : {v : Version} (h : Head) (x : ℕ) {passed : ℕ} {text : List ℕ} {e : ReadError} → v ≡ version.Two → IsCycle x → Fails (bounds_parts (lists h.tasks) h) passed text e → Fails (opened v h (opening.Lower x)) passed text e
+pub new_fails : {v : Version} (h : Head) (x : ℕ) {passed : ℕ} {text : List ℕ} {e : ReadError} → v ≡ version.Two
+    → IsCycle x → Fails (bounds_parts (lists h.tasks) h) passed text e
+    → Fails (opened v h (opening.Lower x)) passed text e
 new_fails h x {passed = passed} {text = text} {e = e} q c f =
     let P : Version → Type 0 = λ w. Fails (opened w h (opening.Lower x)) passed text e in
     subst P (sym q) (same (bounds_parts (lists h.tasks) h) (opened version.Two h (opening.Lower x)) (same_new h x c) f)
 
-pub old_fails : {v : Version} (h : Head) (x : ℕ) {passed : ℕ} {text : List ℕ} {e : ReadError} → v ≡ version.One → IsCycle x → Fails (bounds_parts (counted h.tasks) h) passed text e → Fails (opened v h (opening.Lower x)) passed text e
+pub old_fails : {v : Version} (h : Head) (x : ℕ) {passed : ℕ} {text : List ℕ} {e : ReadError} → v ≡ version.One
+    → IsCycle x → Fails (bounds_parts (counted h.tasks) h) passed text e
+    → Fails (opened v h (opening.Lower x)) passed text e
 old_fails h x {passed = passed} {text = text} {e = e} q c f =
     let P : Version → Type 0 = λ w. Fails (opened w h (opening.Lower x)) passed text e in
-    subst P (sym q) (same (bounds_parts (counted h.tasks) h) (opened version.One h (opening.Lower x)) (same_old h x c) f)
+    subst P (sym q) (same (bounds_parts (counted h.tasks) h) (opened version.One h (opening.Lower x)) (same_old h x c)
+    f)
 
 -- what is read of them
-pub new_read : (v : Version) (h : Head) (x : ℕ) (p : Placed) (l : EntryList) (passed middle third after : ℕ) (text left behind rest : List ℕ) → v ≡ version.Two → IsCycle x → IsRead (placings h.kind h.tasks) passed text left middle (Ok p)
+pub new_read : (v : Version) (h : Head) (x : ℕ) (p : Placed) (l : EntryList) (passed middle third after : ℕ)
+    (text left behind rest : List ℕ) → v ≡ version.Two → IsCycle x
+    → IsRead (placings h.kind h.tasks) passed text left middle (Ok p)
     → IsRead (lists h.tasks) middle left behind third (Ok l) → IsRead end_grammar third behind rest after (Ok tt)
-    → IsRead (opened v h (opening.Lower x)) passed text rest after (Ok (any.New (new.Bounds x p.upper p.balance l.entries l.trail)))
+    → IsRead (opened v h (opening.Lower x)) passed text rest after
+    (Ok (any.New (new.Bounds x p.upper p.balance l.entries l.trail)))
 unfolding same_new
 new_read v h x p l passed middle third after text left behind rest q c a b e =
-    let P : Version → Type 0 = λ w. IsRead (opened w h (opening.Lower x)) passed text rest after (Ok (any.New (new.Bounds x p.upper p.balance l.entries l.trail))) in
-    subst P (sym q) (same_read (bounds_parts (lists h.tasks) h) (opened version.Two h (opening.Lower x)) passed after text rest (p, (l, tt)) (same_new h x c)
+    let P : Version → Type 0 = λ w. IsRead (opened w h (opening.Lower x)) passed text rest after
+    (Ok (any.New (new.Bounds x p.upper p.balance l.entries l.trail))) in
+    subst P (sym q) (same_read (bounds_parts (lists h.tasks) h) (opened version.Two h (opening.Lower x)) passed after
+    text rest (p, (l, tt)) (same_new h x c)
     (bounds_read (lists h.tasks) h p l passed middle third after text left behind rest a b e))
 
-pub old_read : (v : Version) (h : Head) (x : ℕ) (p : Placed) (ps : List Part) (passed middle third after : ℕ) (text left behind rest : List ℕ) → v ≡ version.One → IsCycle x → IsRead (placings h.kind h.tasks) passed text left middle (Ok p)
+pub old_read : (v : Version) (h : Head) (x : ℕ) (p : Placed) (ps : List Part) (passed middle third after : ℕ)
+    (text left behind rest : List ℕ) → v ≡ version.One → IsCycle x
+    → IsRead (placings h.kind h.tasks) passed text left middle (Ok p)
     → IsRead (counted h.tasks) middle left behind third (Ok ps) → IsRead end_grammar third behind rest after (Ok tt)
     → IsRead (opened v h (opening.Lower x)) passed text rest after (Ok (any.Old (old.Bounds x p.upper p.balance ps)))
 unfolding same_old
 old_read v h x p ps passed middle third after text left behind rest q c a b e =
-    let P : Version → Type 0 = λ w. IsRead (opened w h (opening.Lower x)) passed text rest after (Ok (any.Old (old.Bounds x p.upper p.balance ps))) in
-    subst P (sym q) (same_read (bounds_parts (counted h.tasks) h) (opened version.One h (opening.Lower x)) passed after text rest (p, (ps, tt)) (same_old h x c)
+    let P : Version → Type 0 = λ w. IsRead (opened w h (opening.Lower x)) passed text rest after
+    (Ok (any.Old (old.Bounds x p.upper p.balance ps))) in
+    subst P (sym q) (same_read (bounds_parts (counted h.tasks) h) (opened version.One h (opening.Lower x)) passed after
+    text rest (p, (ps, tt)) (same_old h x c)
     (bounds_read (counted h.tasks) h p ps passed middle third after text left behind rest a b e))
 
-pub placed_fails : (v : Version) (h : Head) (x : ℕ) {passed : ℕ} {text : List ℕ} {e : ReadError} → IsCycle x → Fails (placings h.kind h.tasks) passed text e → Fails (opened v h (opening.Lower x)) passed text e
+pub placed_fails : (v : Version) (h : Head) (x : ℕ) {passed : ℕ} {text : List ℕ} {e : ReadError} → IsCycle x
+    → Fails (placings h.kind h.tasks) passed text e → Fails (opened v h (opening.Lower x)) passed text e
 placed_fails version.Two h x c f =
     let l = some_list h.tasks in
-    new_fails h x refl c (first (placings h.kind h.tasks) (λ p. then_ (lists h.tasks) (λ l. end_grammar)) (unique_placings h.kind h.tasks) (λ p r. ((l.0, tt), (l.1, tt))) f)
+    new_fails h x refl c (first (placings h.kind h.tasks) (λ p. then_ (lists h.tasks) (λ l. end_grammar))
+    (unique_placings h.kind h.tasks) (λ p r. ((l.0, tt), (l.1, tt))) f)
 placed_fails version.One h x c f =
-    old_fails h x refl c (first (placings h.kind h.tasks) (λ p. then_ (counted h.tasks) (λ l. end_grammar)) (unique_placings h.kind h.tasks) (λ p r. (([], tt), (tt, tt))) f)
+    old_fails h x refl c (first (placings h.kind h.tasks) (λ p. then_ (counted h.tasks) (λ l. end_grammar))
+    (unique_placings h.kind h.tasks) (λ p r. (([], tt), (tt, tt))) f)
 
 -- claims
 abbrev pub openings : Ask → ℕ → Grammar Opening
@@ -202,15 +260,25 @@ task_opens : (a : Ask) (n t : ℕ) → NamesCycle a × (t < n) → IsOpening a n
 task_opens (ask.Stations c) n t h = h.1
 task_opens (ask.Cycle m) n t h = absurd h.0
 
-same_opening : (a : Ask) (n : ℕ) → n ≤ 1024 → (v w : Opening) → IsOpening a n v → IsOpening a n w → row_text (opening_row v) ≡ row_text (opening_row w) → v ≡ w
+same_opening : (a : Ask) (n : ℕ) → n ≤ 1024 → (v w : Opening) → IsOpening a n v → IsOpening a n w
+    → row_text (opening_row v) ≡ row_text (opening_row w) → v ≡ w
 same_opening a n l (opening.TooLong x) (opening.TooLong y) p q e =
-    let f : suc x ≡ suc y = keyed_value (codes "infeasible") (row_text (keyed (codes "infeasible") (suc x))) (suc y) (suc x) refl (sym e) (omega (arith, (opening_task a n y q).1))
-    (keyed_again (codes "infeasible") (suc x) refl ∙ ap (λ z. Some z) (small_is (suc x) (omega (arith, (opening_task a n x p).1)))) in
+    let f : suc x ≡ suc y = keyed_value (codes "infeasible") (row_text (keyed (codes "infeasible") (suc x))) (suc y)
+    (suc x) refl (sym e) (omega (arith, (opening_task a n y q).1))
+    (keyed_again (codes "infeasible") (suc x) refl ∙ ap (λ z. Some z)
+    (small_is (suc x) (omega (arith, (opening_task a n x p).1)))) in
     ap (λ z. opening.TooLong z) (omega arith)
 same_opening a n l (opening.Lower x) (opening.Lower y) p q e =
-    ap (λ z. opening.Lower z) (keyed_value (codes "lower") (row_text (keyed (codes "lower") x)) y x refl (sym e) (omega (arith, (opening_cycle a n y q).limit)) (keyed_again (codes "lower") x refl ∙ ap (λ z. Some z) (small_is x (omega (arith, (opening_cycle a n x p).limit)))))
-same_opening a n l (opening.TooLong x) (opening.Lower y) p q e = (let w : codes "lower" ≡ codes "infeasible" = keyed_other (codes "lower") (codes "infeasible") (row_text (keyed (codes "infeasible") (suc x))) y (sat (suc x)) refl refl (sym e) (keyed_again (codes "infeasible") (suc x) refl) in (cc))
-same_opening a n l (opening.Lower x) (opening.TooLong y) p q e = (let w : codes "infeasible" ≡ codes "lower" = keyed_other (codes "infeasible") (codes "lower") (row_text (keyed (codes "lower") x)) (suc y) (sat x) refl refl (sym e) (keyed_again (codes "lower") x refl) in (cc))
+    ap (λ z. opening.Lower z) (keyed_value (codes "lower") (row_text (keyed (codes "lower") x)) y x refl (sym e)
+    (omega (arith, (opening_cycle a n y q).limit)) (keyed_again (codes "lower") x refl
+    ∙ ap (λ z. Some z) (small_is x (omega (arith, (opening_cycle a n x p).limit)))))
+same_opening a n l (opening.TooLong x) (opening.Lower y) p q e =
+    (let w : codes "lower" ≡ codes "infeasible" = keyed_other (codes "lower") (codes "infeasible")
+    (row_text (keyed (codes "infeasible") (suc x))) y (sat (suc x)) refl refl (sym e)
+    (keyed_again (codes "infeasible") (suc x) refl) in (cc))
+same_opening a n l (opening.Lower x) (opening.TooLong y) p q e =
+    (let w : codes "infeasible" ≡ codes "lower" = keyed_other (codes "infeasible") (codes "lower")
+    (row_text (keyed (codes "lower") x)) (suc y) (sat x) refl refl (sym e) (keyed_again (codes "lower") x refl) in (cc))
 
 pub unique_opening : (a : Ask) (n : ℕ) → n ≤ 1024 → Unique (openings a n)
 unique_opening a n l = unique_one opening_row (IsOpening a n) (same_opening a n l)
@@ -232,12 +300,27 @@ some_opened version.Two h (opening.Lower x) r =
     let p = some_placing h.kind h.tasks in
     let l = some_list h.tasks in (
       any.New (new.Bounds x p.0.upper p.0.balance l.0.entries l.0.trail),
-      ((refl, record { from = opening_cycle h.ask h.tasks x r; up_to = p.1.upper; balance = p.1.balance; entries = l.1.0; trail = l.1.1 }), refl),
+      (
+        (
+          refl,
+          record {
+            from = opening_cycle h.ask h.tasks x r;
+            up_to = p.1.upper;
+            balance = p.1.balance;
+            entries = l.1.0;
+            trail = l.1.1;
+          },
+        ),
+        refl,
+      ),
     )
 some_opened version.One h (opening.Lower x) r =
     let p = some_placing h.kind h.tasks in (
       any.Old (old.Bounds x p.0.upper p.0.balance []),
-      ((refl, record { from = opening_cycle h.ask h.tasks x r; up_to = p.1.upper; balance = p.1.balance; parts = tt }), refl),
+      (
+        (refl, record { from = opening_cycle h.ask h.tasks x r; up_to = p.1.upper; balance = p.1.balance; parts = tt }),
+        refl,
+      ),
     )
 
 claim_opens : (v : Version) (h : Head) (c : AnyClaim) → IsClaimOf v h c → IsOpening h.ask h.tasks (opening_of c)
@@ -263,19 +346,30 @@ some_claim v h =
     (c.0, c.1.0)
 
 -- what is read behind the first line of a claim gives what the claim is
-pub claim_result : (v : Version) (h : Head) (o : Opening) (r : Result AnyClaim ReadError) (passed middle after : ℕ) (text left rest : List ℕ) → h.tasks ≤ 1024 → IsRead (openings h.ask h.tasks) passed text left middle (Ok o)
+pub claim_result : (v : Version) (h : Head) (o : Opening) (r : Result AnyClaim ReadError) (passed middle after : ℕ)
+    (text left rest : List ℕ) → h.tasks ≤ 1024 → IsRead (openings h.ask h.tasks) passed text left middle (Ok o)
     → IsRead (opened v h o) middle left rest after r → IsRead (claims v h) passed text rest after r
 unfolding same_claims
 claim_result v h o (Ok c) passed middle after text left rest l x y =
-    same_read (claim_parts v h) (claims v h) passed after text rest (o, c) (same_claims v h) (both_read (openings h.ask h.tasks) (opened v h) o c passed middle after text left rest x y)
+    same_read (claim_parts v h) (claims v h) passed after text rest (o, c) (same_claims v h)
+    (both_read (openings h.ask h.tasks) (opened v h) o c passed middle after text left rest x y)
 claim_result v h o (Err (errors.Fault f)) passed middle after text left rest l x y =
     same_error (claim_parts v h) (claims v h) passed after after text rest rest (errors.Fault f) (same_claims v h)
-    (second_error (openings h.ask h.tasks) (opened v h) o passed middle after after text left rest rest (errors.Fault f) (unique_opening h.ask h.tasks l) x y)
+    (second_error (openings h.ask h.tasks) (opened v h) o passed middle after after text left rest rest (errors.Fault f)
+    (unique_opening h.ask h.tasks l) x y)
 claim_result v h o (Err errors.Stopped) passed middle after text left rest l x y = tt
 
 -- the end of a claim that a task is too long
-pub same_end : (v : Version) (h : Head) (t : ℕ) → IsOpening h.ask h.tasks (opening.TooLong t) → Same end_grammar (opened v h (opening.TooLong t))
-same_end v h t q = record { to = λ u. any.New (new.TooLong t); from = λ c. tt; to_ranged = λ u r. (opening_task h.ask h.tasks t q, refl); from_ranged = λ c r. tt; to_rows = λ u r. refl; from_rows = from_row }
+pub same_end : (v : Version) (h : Head) (t : ℕ) → IsOpening h.ask h.tasks (opening.TooLong t)
+    → Same end_grammar (opened v h (opening.TooLong t))
+same_end v h t q = record {
+  to = λ u. any.New (new.TooLong t);
+  from = λ c. tt;
+  to_ranged = λ u r. (opening_task h.ask h.tasks t q, refl);
+  from_ranged = λ c r. tt;
+  to_rows = λ u r. refl;
+  from_rows = from_row;
+}
   where
     from_row : (w : AnyClaim) → IsOpened v h (opening.TooLong t) w → fixed (codes "end") ∷ [] ≡ behind_rows h w
     from_row (any.New (new.TooLong x)) r = refl
@@ -283,9 +377,11 @@ same_end v h t q = record { to = λ u. any.New (new.TooLong t); from = λ c. tt;
     from_row (any.Old (old.TooLong x)) r = refl
     from_row (any.Old (old.Bounds x u b ps)) r = absurd (cc (r.1))
 
-unique_opened : (v : Version) (h : Head) (o : Opening) → h.tasks ≤ 1024 → IsOpening h.ask h.tasks o → Unique (opened v h o)
+unique_opened : (v : Version) (h : Head) (o : Opening) → h.tasks ≤ 1024 → IsOpening h.ask h.tasks o
+    → Unique (opened v h o)
 unfolding same_end same_new from_new same_old from_old
-unique_opened v h (opening.TooLong t) m q = unique_same end_grammar (opened v h (opening.TooLong t)) (same_end v h t q) unique_end back
+unique_opened v h (opening.TooLong t) m q = unique_same end_grammar (opened v h (opening.TooLong t)) (same_end v h t q)
+    unique_end back
   where
     back : (w : AnyClaim) → IsOpened v h (opening.TooLong t) w → any.New (new.TooLong t) ≡ w
     back (any.New (new.TooLong x)) r = (cc (r.1))
@@ -293,17 +389,23 @@ unique_opened v h (opening.TooLong t) m q = unique_same end_grammar (opened v h 
     back (any.Old (old.TooLong x)) r = absurd r.0
     back (any.Old (old.Bounds x u b ps)) r = absurd (cc (r.1))
 unique_opened version.Two h (opening.Lower y) m q =
-    unique_same (bounds_parts (lists h.tasks) h) (opened version.Two h (opening.Lower y)) (same_new h y (opening_cycle h.ask h.tasks y q)) (unique_bounds (lists h.tasks) h (unique_lists h.tasks m)) back
+    unique_same (bounds_parts (lists h.tasks) h) (opened version.Two h (opening.Lower y))
+    (same_new h y (opening_cycle h.ask h.tasks y q)) (unique_bounds (lists h.tasks) h (unique_lists h.tasks m)) back
   where
-    back : (w : AnyClaim) → IsOpened version.Two h (opening.Lower y) w → any.New (new.Bounds y (from_new w).0.upper (from_new w).0.balance (from_new w).1.0.entries (from_new w).1.0.trail) ≡ w
+    back : (w : AnyClaim) → IsOpened version.Two h (opening.Lower y) w
+        → any.New (new.Bounds y (from_new w).0.upper (from_new w).0.balance (from_new w).1.0.entries
+        (from_new w).1.0.trail) ≡ w
     back (any.New (new.TooLong x)) r = absurd (cc (r.1))
     back (any.New (new.Bounds x u b es l)) r = (cc (r.1))
     back (any.Old (old.TooLong x)) r = absurd r.0
     back (any.Old (old.Bounds x u b ps)) r = absurd (cc (r.0.0))
 unique_opened version.One h (opening.Lower y) m q =
-    unique_same (bounds_parts (counted h.tasks) h) (opened version.One h (opening.Lower y)) (same_old h y (opening_cycle h.ask h.tasks y q)) (unique_bounds (counted h.tasks) h (unique_counted h.tasks m)) back
+    unique_same (bounds_parts (counted h.tasks) h) (opened version.One h (opening.Lower y))
+    (same_old h y (opening_cycle h.ask h.tasks y q)) (unique_bounds (counted h.tasks) h (unique_counted h.tasks m))
+    back
   where
-    back : (w : AnyClaim) → IsOpened version.One h (opening.Lower y) w → any.Old (old.Bounds y (from_old w).0.upper (from_old w).0.balance (from_old w).1.0) ≡ w
+    back : (w : AnyClaim) → IsOpened version.One h (opening.Lower y) w
+        → any.Old (old.Bounds y (from_old w).0.upper (from_old w).0.balance (from_old w).1.0) ≡ w
     back (any.New (new.TooLong x)) r = absurd (cc (r.1))
     back (any.New (new.Bounds x u b es l)) r = absurd (cc (r.0.0))
     back (any.Old (old.TooLong x)) r = absurd r.0
@@ -313,7 +415,8 @@ unique_claims : (v : Version) (h : Head) → IsHeadOf h → Unique (claims v h)
 unfolding same_claims
 unique_claims v h r =
     unique_same (claim_parts v h) (claims v h) (same_claims v h)
-    (unique_then (openings h.ask h.tasks) (opened v h) (unique_opening h.ask h.tasks r.few) (λ o s. unique_opened v h o r.few s)) (λ c q. refl)
+    (unique_then (openings h.ask h.tasks) (opened v h) (unique_opening h.ask h.tasks r.few)
+    (λ o s. unique_opened v h o r.few s)) (λ c q. refl)
 
 -- both versions
 abbrev pub versions : Grammar Version
@@ -323,11 +426,15 @@ same_version : (v w : Version) → row_text (version_row v) ≡ row_text (versio
 same_version version.One version.One e = refl
 same_version version.Two version.Two e = refl
 same_version version.One version.Two e =
-    let f : codes "line balance certificate 1" ≡ codes "line balance certificate 2" = sym (fixed_text (codes "line balance certificate 1")) ∙ e ∙ fixed_text (codes "line balance certificate 2") in
-    absurd (false≢true ((bytes_eq-Decides (codes "line balance certificate 1") (codes "line balance certificate 2")).1 f))
+    let f : codes "line balance certificate 1" ≡ codes "line balance certificate 2" =
+    sym (fixed_text (codes "line balance certificate 1")) ∙ e ∙ fixed_text (codes "line balance certificate 2") in
+    absurd (false≢true ((bytes_eq-Decides (codes "line balance certificate 1") (codes "line balance certificate 2")).1
+    f))
 same_version version.Two version.One e =
-    let f : codes "line balance certificate 2" ≡ codes "line balance certificate 1" = sym (fixed_text (codes "line balance certificate 2")) ∙ e ∙ fixed_text (codes "line balance certificate 1") in
-    absurd (false≢true ((bytes_eq-Decides (codes "line balance certificate 2") (codes "line balance certificate 1")).1 f))
+    let f : codes "line balance certificate 2" ≡ codes "line balance certificate 1" =
+    sym (fixed_text (codes "line balance certificate 2")) ∙ e ∙ fixed_text (codes "line balance certificate 1") in
+    absurd (false≢true ((bytes_eq-Decides (codes "line balance certificate 2") (codes "line balance certificate 1")).1
+    f))
 
 pub unique_version : Unique versions
 unique_version = unique_one version_row (λ v. Unit {0}) (λ v w a b e. same_version v w e)
@@ -340,16 +447,34 @@ abbrev pub any_parts : Grammar (Version × (Head × AnyClaim))
 any_parts = then_ versions body_parts
 
 some_head : (h : Head) × IsHeadOf h
-some_head = (record { kind = Straight; tasks = 1; ask = ask.Stations 1 }, record { some = lit≤ tt; few = lit≤ tt; ask = one_cycle })
+some_head = (
+  record { kind = Straight; tasks = 1; ask = ask.Stations 1 },
+  record { some = lit≤ tt; few = lit≤ tt; ask = one_cycle },
+)
 
 pub some_body : (v : Version) → Unit {0} → (b : Head × AnyClaim) × (body_parts v).ranged b
 some_body v t = let h = some_head in let c = some_claim v h.0 in ((h.0, c.0), (h.1, c.1))
 
 -- the certificate that a version, a head and a claim say
 abbrev any_of : AnyClaim → Head → Version → AnyCertificate
-any_of (any.New (new.TooLong t)) h version.Two = newer (record { kind = h.kind; tasks = h.tasks; ask = h.ask; claim = new.TooLong t })
-any_of (any.New (new.TooLong t)) h version.One = older (record { kind = h.kind; tasks = h.tasks; ask = h.ask; claim = old.TooLong t })
-any_of (any.New (new.Bounds x u b es t)) h v = newer (record { kind = h.kind; tasks = h.tasks; ask = h.ask; claim = new.Bounds x u b es t })
+any_of (any.New (new.TooLong t)) h version.Two = newer (record {
+  kind = h.kind;
+  tasks = h.tasks;
+  ask = h.ask;
+  claim = new.TooLong t;
+})
+any_of (any.New (new.TooLong t)) h version.One = older (record {
+  kind = h.kind;
+  tasks = h.tasks;
+  ask = h.ask;
+  claim = old.TooLong t;
+})
+any_of (any.New (new.Bounds x u b es t)) h v = newer (record {
+  kind = h.kind;
+  tasks = h.tasks;
+  ask = h.ask;
+  claim = new.Bounds x u b es t;
+})
 any_of (any.Old c) h v = older (record { kind = h.kind; tasks = h.tasks; ask = h.ask; claim = c })
 
 abbrev any_claim : OldClaim → AnyClaim
@@ -369,7 +494,14 @@ any_in_range v h (any.Old (old.Bounds x u b ps)) r s = record { some = r.some; f
 
 pub same_any : Same any_parts both
 unfolding from_any cert_rows old_rows
-same_any = record { to = λ x. any_of x.1.1 x.1.0 x.0; from = from_any; to_ranged = λ x r. any_in_range x.0 x.1.0 x.1.1 r.1.0 r.1.1; from_ranged = from_range; to_rows = λ x r. to_row x.0 x.1.0 x.1.1 r.1.1; from_rows = λ x r. from_row x }
+same_any = record {
+  to = λ x. any_of x.1.1 x.1.0 x.0;
+  from = from_any;
+  to_ranged = λ x r. any_in_range x.0 x.1.0 x.1.1 r.1.0 r.1.1;
+  from_ranged = from_range;
+  to_rows = λ x r. to_row x.0 x.1.0 x.1.1 r.1.1;
+  from_rows = λ x r. from_row x;
+}
   where
     new_range : (h : Head) (c : Claim) → IsClaim h.kind h.tasks h.ask c → IsClaimOf version.Two h (any.New c)
     new_range h (new.TooLong t) r = r
@@ -380,10 +512,23 @@ same_any = record { to = λ x. any_of x.1.1 x.1.0 x.0; from = from_any; to_range
     old_range h (old.Bounds x u b ps) r = (refl, r)
 
     from_range : (x : AnyCertificate) → IsAnyInRange x → any_parts.ranged (from_any x)
-    from_range (newer c) r = (tt, (record { some = r.some; few = r.few; ask = r.ask }, new_range (from_any (newer c)).1.0 c.claim r.claim))
-    from_range (older o) r = (tt, (record { some = r.some; few = r.few; ask = r.ask }, old_range (from_any (older o)).1.0 o.claim r.claim))
+    from_range (newer c) r = (
+      tt,
+      (
+        record { some = r.some; few = r.few; ask = r.ask },
+        new_range (from_any (newer c)).1.0 c.claim r.claim,
+      ),
+    )
+    from_range (older o) r = (
+      tt,
+      (
+        record { some = r.some; few = r.few; ask = r.ask },
+        old_range (from_any (older o)).1.0 o.claim r.claim,
+      ),
+    )
 
-    to_row : (v : Version) (h : Head) (c : AnyClaim) → IsClaimOf v h c → any_rows (any_of c h v) ≡ any_parts.rows (v, (h, c))
+    to_row : (v : Version) (h : Head) (c : AnyClaim) → IsClaimOf v h c
+        → any_rows (any_of c h v) ≡ any_parts.rows (v, (h, c))
     to_row version.Two h (any.New (new.TooLong t)) s = refl
     to_row version.One h (any.New (new.TooLong t)) s = refl
     to_row version.Two h (any.New (new.Bounds x u b es t)) s = refl
@@ -401,19 +546,24 @@ same_any = record { to = λ x. any_of x.1.1 x.1.0 x.0; from = from_any; to_range
     old_row h (old.Bounds x u b ps) = refl
 
     from_row : (x : AnyCertificate) → any_parts.rows (from_any x) ≡ any_rows x
-    from_row (newer c) = ap (λ z. version_row version.Two ∷ (head_rows c.kind c.tasks c.ask ++ z)) (new_row (from_any (newer c)).1.0 c.claim)
-    from_row (older o) = ap (λ z. version_row version.One ∷ (head_rows o.kind o.tasks o.ask ++ z)) (old_row (from_any (older o)).1.0 o.claim)
+    from_row (newer c) = ap (λ z. version_row version.Two ∷ (head_rows c.kind c.tasks c.ask ++ z))
+        (new_row (from_any (newer c)).1.0 c.claim)
+    from_row (older o) = ap (λ z. version_row version.One ∷ (head_rows o.kind o.tasks o.ask ++ z))
+        (old_row (from_any (older o)).1.0 o.claim)
 
 -- the lines of a certificate of either version begin those of no other
 pub unique_both : Unique both
 unfolding same_any from_any
-unique_both = unique_same any_parts both same_any (unique_then versions body_parts unique_version (λ v t. unique_then heads (claims v) unique_heads (λ h r. unique_claims v h r))) back
+unique_both = unique_same any_parts both same_any (unique_then versions body_parts unique_version
+    (λ v t. unique_then heads (claims v) unique_heads (λ h r. unique_claims v h r))) back
   where
-    new_back : (h : Head) (c : Claim) → any_of (any.New c) h version.Two ≡ newer (record { kind = h.kind; tasks = h.tasks; ask = h.ask; claim = c })
+    new_back : (h : Head) (c : Claim) → any_of (any.New c) h version.Two
+        ≡ newer (record { kind = h.kind; tasks = h.tasks; ask = h.ask; claim = c })
     new_back h (new.TooLong t) = refl
     new_back h (new.Bounds x u b es t) = refl
 
-    old_back : (h : Head) (c : OldClaim) → any_of (any_claim c) h version.One ≡ older (record { kind = h.kind; tasks = h.tasks; ask = h.ask; claim = c })
+    old_back : (h : Head) (c : OldClaim) → any_of (any_claim c) h version.One
+        ≡ older (record { kind = h.kind; tasks = h.tasks; ask = h.ask; claim = c })
     old_back h (old.TooLong t) = refl
     old_back h (old.Bounds x u b ps) = refl
 
@@ -428,27 +578,35 @@ certificate_is version.One h (any.New (new.TooLong t)) = refl
 certificate_is v h (any.New (new.Bounds x u b es t)) = refl
 certificate_is v h (any.Old c) = refl
 
-pub old_in_range : (v : Version) (h : Head) (c : OldClaim) → IsHeadOf h → IsClaimOf v h (any.Old c) → IsOldInRange (record { kind = h.kind; tasks = h.tasks; ask = h.ask; claim = c })
+pub old_in_range : (v : Version) (h : Head) (c : OldClaim) → IsHeadOf h → IsClaimOf v h (any.Old c)
+    → IsOldInRange (record { kind = h.kind; tasks = h.tasks; ask = h.ask; claim = c })
 old_in_range v h (old.TooLong t) r s = absurd s
 old_in_range v h (old.Bounds x u b ps) r s = any_in_range v h (any.Old (old.Bounds x u b ps)) r s
 
-pub all_said : (v : Version) (h : Head) (c : AnyClaim) (cert : Certificate) → IsHeadOf h → IsClaimOf v h c → cert ≡ certificate_of h c → IsInRange cert
-all_said v h c cert r s e = let P : Certificate → Type 0 = IsInRange in subst P (sym (e ∙ certificate_is v h c)) (said (any_of c h v) (any_in_range v h c r s))
+pub all_said : (v : Version) (h : Head) (c : AnyClaim) (cert : Certificate) → IsHeadOf h → IsClaimOf v h c
+    → cert ≡ certificate_of h c → IsInRange cert
+all_said v h c cert r s e = let P : Certificate → Type 0 = IsInRange in
+    subst P (sym (e ∙ certificate_is v h c)) (said (any_of c h v) (any_in_range v h c r s))
   where
     said : (x : AnyCertificate) → IsAnyInRange x → IsInRange (lifted x)
     said (newer c) r = r
     said (older o) r = lifted_in o (lifted (older o)) refl r
 
-pub all_read : (v : Version) (h : Head) (c : AnyClaim) (cert : Certificate) (passed second third after : ℕ) (text left behind rest : List ℕ) → IsRead versions passed text left second (Ok v)
-    → IsRead heads second left behind third (Ok h) → IsRead (claims v h) third behind rest after (Ok c) → cert ≡ certificate_of h c → IsAnyRead passed text rest after (Ok cert)
+pub all_read : (v : Version) (h : Head) (c : AnyClaim) (cert : Certificate) (passed second third after : ℕ)
+    (text left behind rest : List ℕ) → IsRead versions passed text left second (Ok v)
+    → IsRead heads second left behind third (Ok h) → IsRead (claims v h) third behind rest after (Ok c)
+    → cert ≡ certificate_of h c → IsAnyRead passed text rest after (Ok cert)
 unfolding same_any
 all_read v h c cert passed second third after text left behind rest x y z e = (
   any_of c h v,
   e ∙ certificate_is v h c,
-  same_read any_parts both passed after text rest (v, (h, c)) same_any (both_read versions body_parts v (h, c) passed second after text left rest x (both_read heads (claims v) h c second third after left behind rest y z)),
+  same_read any_parts both passed after text rest (v, (h, c)) same_any
+      (both_read versions body_parts v (h, c) passed second after text left rest x
+      (both_read heads (claims v) h c second third after left behind rest y z)),
 )
 
 -- an error is handed on
-pub any_hand : (passed after : ℕ) (text rest : List ℕ) (r : Result Certificate ReadError) (e : ReadError) → IsErrAnd r (λ y. y ≡ e) → Fails both passed text e → IsAnyRead passed text rest after r
+pub any_hand : (passed after : ℕ) (text rest : List ℕ) (r : Result Certificate ReadError) (e : ReadError)
+    → IsErrAnd r (λ y. y ≡ e) → Fails both passed text e → IsAnyRead passed text rest after r
 any_hand passed after text rest (Ok c) e h f = absurd h
 any_hand passed after text rest (Err x) e h f = hand both passed after text rest (Err x) e h f

@@ -1,5 +1,6 @@
 -- Texts that are put one behind the other.
-use Rattle.std.proofs.Common.{◌≡◌, ℕ, Bool, true, false, List, [], ◌++◌, take, length, refl, sym, ◌∙◌, ap, subst, arith, append_assoc, ◌<◌, ◌+◌, min, get_or}
+use Rattle.std.proofs.Common.{◌≡◌, ℕ, Bool, true, false, List, [], ◌++◌, take, length, refl, sym, ◌∙◌, ap, subst, arith}
+use Rattle.std.proofs.Common.{append_assoc, ◌<◌, ◌+◌, min, get_or}
 use Rattle.std.proofs.lemmas.List.{append-nil, take-append-le, take_all, take_more, flat_map_more}
 use Rattle.std.specs.List.{flat_map}
 use Rattle.std.proofs.lemmas.Bool.{false≢true}
@@ -9,7 +10,11 @@ use Rattle.cert_text.specs.Sent.{Sent, IsFront, Adds, Puts}
 
 -- a prefix of a text is a prefix of a longer one
 pub front_of_more : (front a b : List ℕ) → IsFront front a → IsFront front (a ++ b)
-front_of_more front a b f = (min f.0 (length a), f.1 ∙ clipped f.0 a ∙ sym (take-append-le (min f.0 (length a)) a b (omega arith)))
+front_of_more front a b f = (
+  min f.0 (length a),
+  f.1 ∙ clipped f.0 a
+      ∙ sym (take-append-le (min f.0 (length a)) a b (omega arith)),
+)
   where
     clipped : (k : ℕ) (a : List ℕ) → take k a ≡ take (min k (length a)) a
     clipped k a = grind (arith, take_all)
@@ -33,7 +38,8 @@ puts_both a b c s t p q = record {
     middle false e g f =
         let P : List ℕ → Type 0 = λ w. IsFront w (a.shown ++ (s ++ t)) in
         let Q : List ℕ → Type 0 = λ w. IsFront b.kept w in
-        subst P (sym (q.stays e)) (subst Q (append_assoc a.shown s t) (front_of_more b.kept (a.shown ++ s) t (p.front g e)))
+        subst P (sym (q.stays e)) (subst Q (append_assoc a.shown s t)
+        (front_of_more b.kept (a.shown ++ s) t (p.front g e)))
 
 pub puts_none : {B : Type 0} (a : Sent B) → Adds a [] a
 puts_none a = record {
@@ -54,10 +60,16 @@ nothing told a s e = record {
 
 -- the same text, written otherwise
 pub puts_as : {B : Type 0} (told : Type 0) (a b : Sent B) (s t : List ℕ) → Puts told a s b → t ≡ s → Puts told a t b
-puts_as told a b s t p e = record { base = p.base; count = p.count; fault = p.fault; adds = λ k. let P : List ℕ → Type 0 = λ x. Adds a x b in subst P (sym e) (p.adds k) }
+puts_as told a b s t p e = record {
+  base = p.base;
+  count = p.count;
+  fault = p.fault;
+  adds = λ k. let P : List ℕ → Type 0 = λ x. Adds a x b in subst P (sym e) (p.adds k);
+}
 
 -- a text is put behind one that was put
-pub behind : {B : Type 0} (told : Type 0) (a b c : Sent B) (s t : List ℕ) → Puts told a s b → Puts told b t c → Puts told a (s ++ t) c
+pub behind : {B : Type 0} (told : Type 0) (a b c : Sent B) (s t : List ℕ) → Puts told a s b → Puts told b t c
+    → Puts told a (s ++ t) c
 behind told a b c s t p q = record {
   base = q.base ∙ p.base;
   count = omega (arith, p.count, q.count);
@@ -69,19 +81,24 @@ behind told a b c s t p q = record {
     risen true e g f = omega (arith, p.count, q.fault e f)
     risen false e g f = omega (arith, p.fault g e, q.count)
 
-pub puts : {B : Type 0} (told : Type 0) (a b c : Sent B) (s t u : List ℕ) → Puts told a s b → Puts told b t c → u ≡ s ++ t → Puts told a u c
+pub puts : {B : Type 0} (told : Type 0) (a b c : Sent B) (s t u : List ℕ) → Puts told a s b → Puts told b t c
+    → u ≡ s ++ t → Puts told a u c
 puts told a b c s t u p q e = puts_as told a c (s ++ t) u (behind told a b c s t p q) e
 
 -- a text of a list's members, with one member more
-pub next_text : {X : Type 0} (f : X → List ℕ) (xs : List X) (k : ℕ) (d : X) (part : List ℕ) → k < length xs → f (get_or xs k d) ≡ part → flat_map f (take k xs) ++ part ≡ flat_map f (take (k + 1) xs)
+pub next_text : {X : Type 0} (f : X → List ℕ) (xs : List X) (k : ℕ) (d : X) (part : List ℕ) → k < length xs
+    → f (get_or xs k d) ≡ part → flat_map f (take k xs) ++ part ≡ flat_map f (take (k + 1) xs)
 next_text f xs k d part h p =
-    ap (λ r. flat_map f (take k xs) ++ r) (sym p) ∙ flat_map_more f [] (take k xs) (get_or xs k d) ∙ ap (flat_map f) (sym (take_more xs k d h))
+    ap (λ r. flat_map f (take k xs) ++ r) (sym p) ∙ flat_map_more f [] (take k xs) (get_or xs k d)
+    ∙ ap (flat_map f) (sym (take_more xs k d h))
 
 -- a text behind a text
 infixr 5 ◌▹◌
-pub ◌▹◌ : {B : Type 0} {told : Type 0} {a b c : Sent B} {s t : List ℕ} → Puts told a s b → Puts told b t c → Puts told a (s ++ t) c
+pub ◌▹◌ : {B : Type 0} {told : Type 0} {a b c : Sent B} {s t : List ℕ} → Puts told a s b → Puts told b t c
+    → Puts told a (s ++ t) c
 p ▹ q = behind _ _ _ _ _ _ p q
 
 -- a number that is another number
-pub number_as : {B : Type 0} {told : Type 0} {a b : Sent B} {m : ℕ} (n : ℕ) → Puts told a (number_text m) b → m ≡ n → Puts told a (number_text n) b
+pub number_as : {B : Type 0} {told : Type 0} {a b : Sent B} {m : ℕ} (n : ℕ) → Puts told a (number_text m) b → m ≡ n
+    → Puts told a (number_text n) b
 number_as n p e = puts_as _ _ _ _ _ p (ap number_text (sym e))

@@ -6,22 +6,26 @@ use Rattle.line_instance.specs.Made.{AreTimes, IsMade}
 use Rattle.line_instance.specs.Walks.{AreArcs}
 use Rattle.line_instance.specs.declared.arcs.Prec.{Prec}
 use Rattle.line_instance.specs.declared.making.Made.{Made}
-use Rattle.line_instance.specs.declared.making.Made.TheVariants.{Good, NoTasks, TooManyTasks, BadTime, BadArc, Cycle, NoMemory}
+use Rattle.line_instance.specs.declared.making.Made.TheVariants.{Good, NoTasks, TooManyTasks, BadTime, BadArc, Cycle}
+use Rattle.line_instance.specs.declared.making.Made.TheVariants.{NoMemory}
 use Rattle.combined_graph.specs.Mixes.{LineModel, MixedLine, IsModel, IsMix}
 use Rattle.combined_graph.specs.Combined.{all_arcs}
 
 arcs_append : (n : ℕ) (xs ys : List Prec) → AreArcs n xs → AreArcs n ys → AreArcs n (xs ++ ys)
 arcs_append n [] ys a b k h = b k h
 arcs_append n (x ∷ xs) ys a b zero h = a zero (omega arith)
-arcs_append n (x ∷ xs) ys a b (suc k) h = arcs_append n xs ys (λ j g. a (suc j) (omega (arith, g))) b k (omega (arith, h))
+arcs_append n (x ∷ xs) ys a b (suc k) h = arcs_append n xs ys (λ j g. a (suc j) (omega (arith, g))) b k
+    (omega (arith, h))
 
 all_named : (n : ℕ) (models : List LineModel) → All (IsModel n) models → AreArcs n (all_arcs models)
 all_named n [] h = λ k less. absurd (omega (arith, less))
 all_named n (m ∷ ms) h =
-    arcs_append n m.arcs (all_arcs ms) (h zero m (omega arith)).arcs (all_named n ms (λ k d less. h (suc k) d (omega (arith, less))))
+    arcs_append n m.arcs (all_arcs ms) (h zero m (omega arith)).arcs
+    (all_named n ms (λ k d less. h (suc k) d (omega (arith, less))))
 
 -- the arcs that a mix combines to are of its tasks
-pub combined_arcs : (mix : MixedLine) (models : List LineModel) (arcs given : List Prec) (n : ℕ) → IsMix mix → models ≡ mix.models → n ≡ mix.tasks
+pub combined_arcs : (mix : MixedLine) (models : List LineModel) (arcs given : List Prec) (n : ℕ) → IsMix mix
+    → models ≡ mix.models → n ≡ mix.tasks
     → arcs ≡ all_arcs models → given ≡ arcs → AreArcs n given
 combined_arcs mix models arcs given n d m t a g =
     let P : List Prec → Type 0 = AreArcs n in
@@ -29,7 +33,8 @@ combined_arcs mix models arcs given n d m t a g =
     subst P (sym (g ∙ a ∙ ap all_arcs m)) (subst Q (sym t) (all_named mix.tasks mix.models d.draft.each))
 
 -- right times and arcs make an instance, or they have a cycle, or memory ran out
-pub nothing_else : (times : List ℕ) (arcs : List Prec) (made : Made) → AreTimes times → AreArcs (length times) arcs → IsMade times arcs made
+pub nothing_else : (times : List ℕ) (arcs : List Prec) (made : Made) → AreTimes times → AreArcs (length times) arcs
+    → IsMade times arcs made
     → ((x : Line) → made ≡ Good x → ⊥) → ((x : List ℕ) → made ≡ Cycle x → ⊥) → (made ≡ NoMemory → ⊥) → ⊥
 nothing_else times arcs (Good line) a b h good cycle memory = good line refl
 nothing_else times arcs (Cycle ring) a b h good cycle memory = cycle ring refl

@@ -11,7 +11,8 @@ no_field (f ∷ fs) zero h = cc h
 no_field (f ∷ fs) (suc i) h = omega (arith, no_field fs i h)
 
 -- four fields at four places
-pub four_fields : (fields : Fields) (a b c d : List ℕ) → length fields ≡ 4 → field_at fields 0 ≡ Some a → field_at fields 1 ≡ Some b → field_at fields 2 ≡ Some c → field_at fields 3 ≡ Some d → fields ≡ a ∷ b ∷ c ∷ d ∷ []
+pub four_fields : (fields : Fields) (a b c d : List ℕ) → length fields ≡ 4 → field_at fields 0 ≡ Some a
+    → field_at fields 1 ≡ Some b → field_at fields 2 ≡ Some c → field_at fields 3 ≡ Some d → fields ≡ a ∷ b ∷ c ∷ d ∷ []
 unfolding field_at
 four_fields [] a b c d n p q r s = absurd (omega arith)
 four_fields (w ∷ []) a b c d n p q r s = absurd (omega arith)

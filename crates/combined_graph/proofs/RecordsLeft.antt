@@ -1,15 +1,20 @@
--- One record of a text more: what stands behind it is shorter, and the records of a text are the first one and those behind it.
-use Rattle.std.proofs.Common.{◌≡◌, ◌≤◌, ◌<◌, ◌+◌, ℕ, zero, suc, Bool, true, false, List, [], ◌∷◌, ◌++◌, length, Option, Some, None, refl, sym, ◌∙◌, ap, subst, arith, add-one, inl}
+-- One record of a text more: what stands behind it is shorter, and the records of a text are the first one and those
+-- behind it.
+use Rattle.std.proofs.Common.{◌≡◌, ◌≤◌, ◌<◌, ◌+◌, ℕ, zero, suc, Bool, true, false, List, [], ◌∷◌, ◌++◌, length, Option}
+use Rattle.std.proofs.Common.{Some, None, refl, sym, ◌∙◌, ap, subst, arith, add-one, inl}
 use Rattle.std.proofs.lemmas.Bool.{false≢true}
 use Rattle.std.specs.Prelude.{if◌then◌else◌, ◌==◌, ◌||◌, unwrap_or}
 use Rattle.std.specs.Borrow.{Bor}
-use Rattle.csv.specs.Machine.{Read, next_record, ends_at_end, step, in_field, start_field, start_record, is_end, fields_after, field_after}
-use Rattle.csv.specs.Reading.{records_from, records_next, default_config, ReadRecord, ReadsNext, NextIs, pending_of, took_first}
+use Rattle.csv.specs.Machine.{Read, next_record, ends_at_end, step, in_field, start_field, start_record, is_end}
+use Rattle.csv.specs.Machine.{fields_after, field_after}
+use Rattle.csv.specs.Reading.{records_from, records_next, default_config, ReadRecord, ReadsNext, NextIs, pending_of}
+use Rattle.csv.specs.Reading.{took_first}
 use Rattle.csv.specs.declared.parser.Action.{Action}
 use Rattle.csv.specs.declared.parser.State.{State}
 use Rattle.csv.specs.declared.parser.State.TheVariants as st
 use Rattle.csv.specs.declared.reader.Reader.{Reader}
-use Rattle.combined_graph.specs.Records.{Fields, records_behind, known_left, left_of, records_of, IsReading, TakesRecord}
+use Rattle.combined_graph.specs.Records.{Fields, records_behind, known_left, left_of, records_of, IsReading}
+use Rattle.combined_graph.specs.Records.{TakesRecord}
 
 -- where the machine ends a record, the next one begins
 abbrev pub Begins : State × Action → Type 0
@@ -48,7 +53,8 @@ begins st.AfterCr c = either (c == 10) _ _ (λ h. absurd (false≢true h)) (star
 abbrev pub IsBehind : List ℕ → Read → Type 0
 IsBehind xs p = (length p.2 ≤ length xs) × (ends_at_end p.1 ≡ false)
 
-behind : (s : State) (fields : List (List ℕ)) (field xs : List ℕ) (p : Read) → next_record default_config s fields field xs ≡ Some p → IsBehind xs p
+behind : (s : State) (fields : List (List ℕ)) (field xs : List ℕ) (p : Read)
+    → next_record default_config s fields field xs ≡ Some p → IsBehind xs p
 unfolding next_record
 behind s fields field [] p h = last (ends_at_end s) h
   where
@@ -56,11 +62,17 @@ behind s fields field [] p h = last (ends_at_end s) h
     last true h = let e : (fields ++ (field ∷ []), st.StartRecord, []) ≡ p = cc in
         let P : Read → Type 0 = IsBehind [] in subst P e (omega arith, refl)
     last false h = cc h
-behind s fields field (c ∷ rest) p h = by (is_end (step default_config s c).1) refl h (behind (step default_config s c).0 _ _ rest p)
+behind s fields field (c ∷ rest) p h = by (is_end (step default_config s c).1) refl h
+    (behind (step default_config s c).0 _ _ rest p)
   where
     by : (b : Bool) → is_end (step default_config s c).1 ≡ b
-        → (if b then Some (fields_after (step default_config s c).1 fields field, (step default_config s c).0, rest) else next_record default_config (step default_config s c).0 (fields_after (step default_config s c).1 fields field) (field_after (step default_config s c).1 c field) rest) ≡ Some p
-        → (next_record default_config (step default_config s c).0 (fields_after (step default_config s c).1 fields field) (field_after (step default_config s c).1 c field) rest ≡ Some p → IsBehind rest p)
+        → (if b then Some (fields_after (step default_config s c).1 fields field, (step default_config s c).0, rest)
+        else next_record default_config (step default_config s c).0
+        (fields_after (step default_config s c).1 fields field) (field_after (step default_config s c).1 c field)
+        rest) ≡ Some p
+        → (next_record default_config (step default_config s c).0
+        (fields_after (step default_config s c).1 fields field) (field_after (step default_config s c).1 c field)
+        rest ≡ Some p → IsBehind rest p)
         → IsBehind (c ∷ rest) p
     by true e h more =
         let q : (fields_after (step default_config s c).1 fields field, (step default_config s c).0, rest) ≡ p = cc in
@@ -68,13 +80,16 @@ behind s fields field (c ∷ rest) p h = by (is_end (step default_config s c).1)
     by false e h more = let m = more h in (omega (arith, m.0), m.1)
 
 -- where a record begins, one that is read takes a byte
-shorter : (s : State) (xs : List ℕ) (p : Read) → ends_at_end s ≡ false → next_record default_config s [] [] xs ≡ Some p → length p.2 < length xs
+shorter : (s : State) (xs : List ℕ) (p : Read) → ends_at_end s ≡ false → next_record default_config s [] [] xs ≡ Some p
+    → length p.2 < length xs
 unfolding next_record
 shorter s [] p e h = cc (rw e at h)
 shorter s (c ∷ rest) p e h = by (is_end (step default_config s c).1) h
   where
     by : (b : Bool)
-        → (if b then Some (fields_after (step default_config s c).1 [] [], (step default_config s c).0, rest) else next_record default_config (step default_config s c).0 (fields_after (step default_config s c).1 [] []) (field_after (step default_config s c).1 c []) rest) ≡ Some p
+        → (if b then Some (fields_after (step default_config s c).1 [] [], (step default_config s c).0, rest) else
+        next_record default_config (step default_config s c).0 (fields_after (step default_config s c).1 [] [])
+        (field_after (step default_config s c).1 c []) rest) ≡ Some p
         → length p.2 < length (c ∷ rest)
     by true h =
         let q : (fields_after (step default_config s c).1 [] [], (step default_config s c).0, rest) ≡ p = cc in
@@ -82,14 +97,16 @@ shorter s (c ∷ rest) p e h = by (is_end (step default_config s c).1) h
     by false h = let m = behind _ _ _ rest p h in omega (arith, m.0)
 
 -- where enough records are asked for, how many makes no difference
-enough : (n m : ℕ) (s : State) (xs : List ℕ) → length xs < n → length xs < m → ends_at_end s ≡ false → records_from default_config n s xs ≡ records_from default_config m s xs
+enough : (n m : ℕ) (s : State) (xs : List ℕ) → length xs < n → length xs < m → ends_at_end s ≡ false
+    → records_from default_config n s xs ≡ records_from default_config m s xs
 unfolding records_from
 enough zero m s xs a b e = absurd (omega (arith, a))
 enough (suc n) zero s xs a b e = absurd (omega (arith, b))
 enough (suc n) (suc m) s xs a b e = by (next_record default_config s [] [] xs) refl (enough n m)
   where
     by : (o : Option Read) → next_record default_config s [] [] xs ≡ o
-        → ((s : State) (xs : List ℕ) → length xs < n → length xs < m → ends_at_end s ≡ false → records_from default_config n s xs ≡ records_from default_config m s xs)
+        → ((s : State) (xs : List ℕ) → length xs < n → length xs < m → ends_at_end s ≡ false
+        → records_from default_config n s xs ≡ records_from default_config m s xs)
         → records_next (records_from default_config n) o ≡ records_next (records_from default_config m) o
     by None q more = refl
     by (Some p) q more =
@@ -97,7 +114,8 @@ enough (suc n) (suc m) s xs a b e = by (next_record default_config s [] [] xs) r
         ap (λ rs. p.0 ∷ rs) (more p.1 p.2 (omega (arith, less, a)) (omega (arith, less, b)) (behind s [] [] xs p q).1)
 
 -- the first record, and those behind it
-pub one_more : (s : State) (xs : List ℕ) (p : Read) → ends_at_end s ≡ false → next_record default_config s [] [] xs ≡ Some p → records_behind s xs ≡ p.0 ∷ records_behind p.1 p.2
+pub one_more : (s : State) (xs : List ℕ) (p : Read) → ends_at_end s ≡ false
+    → next_record default_config s [] [] xs ≡ Some p → records_behind s xs ≡ p.0 ∷ records_behind p.1 p.2
 unfolding records_from
 one_more s xs p e h =
     let less = shorter s xs p e h in
@@ -107,10 +125,12 @@ one_more s xs p e h =
 
 pub none_more : (s : State) (xs : List ℕ) → next_record default_config s [] [] xs ≡ None → records_behind s xs ≡ []
 unfolding records_from
-none_more s xs h = ap (λ k. records_from default_config k s xs) (add-one (length xs)) ∙ ap (records_next (records_from default_config (length xs))) h
+none_more s xs h = ap (λ k. records_from default_config k s xs) (add-one (length xs))
+    ∙ ap (records_next (records_from default_config (length xs))) h
 
 -- a read that found a record, and one that found none
-taken : (o : Option Read) (fields : Fields) (s : State) (rest : List ℕ) → NextIs o true fields s rest → o ≡ Some (fields, s, rest)
+taken : (o : Option Read) (fields : Fields) (s : State) (rest : List ℕ) → NextIs o true fields s rest
+    → o ≡ Some (fields, s, rest)
 taken None fields s rest h = absurd (false≢true (sym h))
 taken (Some p) fields s rest h = rw (h.1, h.2, h.3) refl
 
@@ -118,7 +138,8 @@ ended : (o : Option Read) (fields : Fields) (s : State) (rest : List ℕ) → Ne
 ended None fields s rest h = refl
 ended (Some p) fields s rest h = absurd (false≢true h.0)
 
-reads_one : (state s : State) (left : List ℕ) (source after : Option (List ℕ)) (fields : Fields) → source ≡ Some left → ReadsNext default_config state source after true fields s
+reads_one : (state s : State) (left : List ℕ) (source after : Option (List ℕ)) (fields : Fields) → source ≡ Some left
+    → ReadsNext default_config state source after true fields s
     → (rest : List ℕ) × (after ≡ Some rest) × (next_record default_config state [] [] left ≡ Some (fields, s, rest))
 reads_one state s left None after fields e h = cc e
 reads_one state s left (Some xs) None fields e h = absurd h
@@ -126,7 +147,8 @@ reads_one state s left (Some xs) (Some rest) fields e h =
     let same : xs ≡ left = cc in
     (rest, refl, ap (next_record default_config state [] []) (sym same) ∙ taken _ fields s rest h)
 
-reads_none : (state s : State) (left : List ℕ) (source after : Option (List ℕ)) (fields : Fields) → source ≡ Some left → ReadsNext default_config state source after false fields s
+reads_none : (state s : State) (left : List ℕ) (source after : Option (List ℕ)) (fields : Fields) → source ≡ Some left
+    → ReadsNext default_config state source after false fields s
     → next_record default_config state [] [] left ≡ None
 reads_none state s left None after fields e h = cc e
 reads_none state s left (Some xs) None fields e h = absurd h
@@ -135,12 +157,15 @@ reads_none state s left (Some xs) (Some rest) fields e h =
     ap (next_record default_config state [] []) (sym same) ∙ ended _ fields s rest h
 
 -- a read of a reader between two records takes the first record that was left, or there was none
-pub takes : (old new : Reader (Bor (List ℕ))) (found : Bool) (fields : Fields) → IsReading old → ReadRecord (λ s. Some s.now) old new found fields
+pub takes : (old new : Reader (Bor (List ℕ))) (found : Bool) (fields : Fields) → IsReading old
+    → ReadRecord (λ s. Some s.now) old new found fields
     → new.flexible ≡ old.flexible → took_first new ≡ true → TakesRecord (records_of old) new found fields
 takes old new false fields d r f t =
-    none_more old.state (left_of old) (reads_none old.state new.state (left_of old) (known_left old) (pending_of (Some new.rdr.now) new) fields d.source (rw d.config at r.0))
+    none_more old.state (left_of old) (reads_none old.state new.state (left_of old) (known_left old)
+    (pending_of (Some new.rdr.now) new) fields d.source (rw d.config at r.0))
 takes old new true fields d r f t =
-    let n = reads_one old.state new.state (left_of old) (known_left old) (pending_of (Some new.rdr.now) new) fields d.source (rw d.config at r.0) in
+    let n = reads_one old.state new.state (left_of old) (known_left old) (pending_of (Some new.rdr.now) new) fields
+    d.source (rw d.config at r.0) in
     let left : known_left new ≡ Some n.0 = rw r.1 n.1 in
     let same : left_of new ≡ n.0 = ap (λ o. unwrap_or o []) left in (
       record {
@@ -151,5 +176,6 @@ takes old new true fields d r f t =
         begins = (behind old.state [] [] (left_of old) (fields, new.state, n.0) n.2).1;
         source = left ∙ ap (λ x. Some x) (sym same);
       },
-      one_more old.state (left_of old) (fields, new.state, n.0) d.begins n.2 ∙ ap (λ x. fields ∷ records_behind new.state x) (sym same),
+      one_more old.state (left_of old) (fields, new.state, n.0) d.begins n.2
+          ∙ ap (λ x. fields ∷ records_behind new.state x) (sym same),
     )

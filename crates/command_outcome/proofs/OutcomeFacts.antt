@@ -19,7 +19,8 @@ stops_as P Q stop.Memory f p = p
 stops_as P Q stop.Unwritten f p = p
 
 -- a command that is stopped before it writes anything
-pub stopped : (o : Outside) (P Q : Outcome → Type 0) (after : Files) (s : Stop) → ((out : Outcome) → Q out → P out) → Stay o.files after → Stops Q s → Ends o P after (Err s)
+pub stopped : (o : Outside) (P Q : Outcome → Type 0) (after : Files) (s : Stop) → ((out : Outcome) → Q out → P out)
+    → Stay o.files after → Stops Q s → Ends o P after (Err s)
 stopped o P Q after (stop.Report r) f k q = record { page = None; reached = f (outcome_of r None) q; written = k }
 stopped o P Q after stop.Memory f k q = k
 stopped o P Q after stop.Unwritten f k q = absurd q
@@ -33,7 +34,8 @@ early o P Q after s r f k q is =
     (subst (λ x. Ends o P after (Err x)) (sym e.2) (stopped o P Q after s f k q))
 
 -- what a report of this status and text comes to that keeps nothing
-pub told_as : (r : Report) (status : Status) (text : List ℕ) → r.status ≡ status → r.text.items ≡ text → r.kept ≡ Nothing → outcome_of r None ≡ told status text
+pub told_as : (r : Report) (status : Status) (text : List ℕ) → r.status ≡ status → r.text.items ≡ text
+    → r.kept ≡ Nothing → outcome_of r None ≡ told status text
 told_as r status text s t k =
     let with_status : Status → Outcome = λ x. record { status = x; text = r.text.items; page = None; kept = r.kept } in
     let with_text : List ℕ → Outcome = λ x. record { status = status; text = x; page = None; kept = r.kept } in
@@ -41,11 +43,28 @@ told_as r status text s t k =
     ap with_status s ∙ ap with_text t ∙ ap with_kept k
 
 -- an end of which P is true is one of which Q is true, where P implies Q
-pub ends_as : (o : Outside) (P Q : Outcome → Type 0) (after : Files) (r : Result Report Stop) → ((out : Outcome) → P out → Q out) → Ends o P after r → Ends o Q after r
-ends_as o P Q after (Ok r) f e = record { page = e.page; reached = f (outcome_of r e.page) e.reached; written = e.written }
-ends_as o P Q after (Err (stop.Report r)) f e = record { page = e.page; reached = f (outcome_of r e.page) e.reached; written = e.written }
+pub ends_as : (o : Outside) (P Q : Outcome → Type 0) (after : Files) (r : Result Report Stop)
+    → ((out : Outcome) → P out → Q out) → Ends o P after r → Ends o Q after r
+ends_as o P Q after (Ok r) f e = record {
+  page = e.page;
+  reached = f (outcome_of r e.page) e.reached;
+  written = e.written;
+}
+ends_as o P Q after (Err (stop.Report r)) f e = record {
+  page = e.page;
+  reached = f (outcome_of r e.page) e.reached;
+  written = e.written;
+}
 ends_as o P Q after (Err stop.Memory) f e = e
-ends_as o P Q after (Err stop.Unwritten) f e = record { outcome = e.outcome; reached = f e.outcome e.reached; page = e.page; has = e.has; blamed = e.blamed; cut = e.cut; others = e.others }
+ends_as o P Q after (Err stop.Unwritten) f e = record {
+  outcome = e.outcome;
+  reached = f e.outcome e.reached;
+  page = e.page;
+  has = e.has;
+  blamed = e.blamed;
+  cut = e.cut;
+  others = e.others;
+}
 
 -- what follows for a report from what was found out of it, where it was handed on
 pub handed_on : (P Q : Report → Type 0) (report : Report) (r : Result Report Stop) → (Q report → P report)

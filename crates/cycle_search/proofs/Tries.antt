@@ -24,7 +24,8 @@ use Rattle.round_run.specs.declared.closing.Verdict.TheVariants as verdict
 use Rattle.round_run.specs.declared.solving.Cause.TheVariants as cause
 use Rattle.round_helpers.proofs.Growing.{units_both, has_longer}
 use Rattle.cycle_search.specs.Outcomes.{IsRightIn, IsBelow}
-use Rattle.cycle_search.specs.inner.Searching.{AreOutside, IsKept, HasEnds, IsBetween, IsAsking, HasAsked, IsStuck, IsCloser}
+use Rattle.cycle_search.specs.inner.Searching.{AreOutside, IsKept, HasEnds, IsBetween, IsAsking, HasAsked, IsStuck}
+use Rattle.cycle_search.specs.inner.Searching.{IsCloser}
 use Rattle.cycle_search.specs.declared.halving.Halving.{Halving}
 use Rattle.cycle_search.proofs.BehindFacts.{at_both, none_at}
 

@@ -9,7 +9,8 @@ use Rattle.line_check.specs.Certificates.{ClaimNeeds}
 use Rattle.line_drawing.specs.Facts.{ClaimIsRight, HasRightBalance}
 use Rattle.draw_command.specs.Draw.{IsDrawable}
 
-claim_right : (kind : LineKind) (line : Line) (a : Ask) (claim : Claim) → ClaimNeeds kind line a claim → ClaimIsRight kind line a claim
+claim_right : (kind : LineKind) (line : Line) (a : Ask) (claim : Claim) → ClaimNeeds kind line a claim
+    → ClaimIsRight kind line a claim
 claim_right kind line a (TooLong task) h = h
 claim_right kind line a (Bounds lower upper b es trail) h = h.1
 

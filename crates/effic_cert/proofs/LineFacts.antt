@@ -3,7 +3,8 @@ use Rattle.std.proofs.Common.{◌≡◌, ◌≢◌, ℕ, ◌<◌, ◌≡◌, tru
 use Rattle.std.proofs.Common.{Some, None, lit≤}
 use Rattle.std.specs.Prelude.{codes}
 use Rattle.std.proofs.lemmas.Option.{same_Some, none-some}
-use Rattle.cert_lines.specs.Rows.{Row, fixed, keyed, span, seat, bound, branch, swap, trail, frame, state_entry, state_frame, two_numbers}
+use Rattle.cert_lines.specs.Rows.{Row, fixed, keyed, span, seat, bound, branch, swap, trail, frame, state_entry}
+use Rattle.cert_lines.specs.Rows.{state_frame, two_numbers}
 use Rattle.cert_lines.specs.Rows.{form_of, row_text}
 use Rattle.cert_lines.specs.Judging.{HasFormOf}
 use Rattle.cert_lines.proofs.NumberWords.{lacks}

@@ -7,7 +7,8 @@ use Rattle.line_rules.specs.declared.types.Entry.{Entry}
 use Rattle.effic_search.specs.Counted.{IsCounted, others}
 use Rattle.effic_search.specs.declared.counting.Listed.{Listed}
 
-module _ (line : Line) (old es gained : List Entry) (from : ℕ) (is : es ≡ old ++ gained) (count : from ≡ length old) where
+module _ (line : Line) (old es gained : List Entry) (from : ℕ) (is : es ≡ old ++ gained)
+    (count : from ≡ length old) where
   -- what was counted is counted
   pub counted_before : (l : Listed) → IsCounted line old (length old) l → IsCounted line es from l
   counted_before l c =

@@ -34,7 +34,8 @@ use Rattle.effic_check.specs.Truth.{IsBetween, NoneBelow}
 use Rattle.effic_check.proofs.Proved.{between}
 use Rattle.effic_search.specs.Counted.{others}
 use Rattle.effic_search.specs.Since.{IsSinceGoal}
-use Rattle.effic_search.specs.inner.Going.{HaveCycles, IsLowering, IsGoing, IsLeftAt, IsDue, IsStuck, HasTrailBy, HasFewUnits}
+use Rattle.effic_search.specs.inner.Going.{HaveCycles, IsLowering, IsGoing, IsLeftAt, IsDue, IsStuck, HasTrailBy}
+use Rattle.effic_search.specs.inner.Going.{HasFewUnits}
 use Rattle.effic_search.specs.inner.Going.{product_of, entries_of}
 use Rattle.effic_search.specs.Lowest.{IsLowest}
 use Rattle.effic_search.specs.Outcomes.{IsCertified, IsSolved, IsSpent, IsLarge, StoppedBy}

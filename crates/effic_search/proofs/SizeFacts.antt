@@ -1,5 +1,6 @@
 -- How large a book can become: at each cycle its units are fewer than (n + 1) x 4^n, and so are its entries.
-use Rattle.std.proofs.Common.{◌≡◌, ℕ, zero, suc, ◌+◌, ◌*◌, ◌^◌, ◌<◌, ◌≤◌, ◌⊎◌, Bool, true, false, cond, max, List, [], ◌∷◌}
+use Rattle.std.proofs.Common.{◌≡◌, ℕ, zero, suc, ◌+◌, ◌*◌, ◌^◌, ◌<◌, ◌≤◌, ◌⊎◌, Bool, true, false, cond, max, List, []}
+use Rattle.std.proofs.Common.{◌∷◌}
 use Rattle.std.proofs.Common.{length, refl, sym, ap, ◌∙◌, subst, inl, inr, arith, Some, None}
 use Rattle.std.specs.Prelude.{◌≢◌, nat_eq, slice_get}
 use Rattle.std.proofs.lemmas.Bool.{cases_lt, cases_Bool, eqb-true}

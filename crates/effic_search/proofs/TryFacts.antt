@@ -226,7 +226,8 @@ module _ (kind : LineKind) (line : Line) (least most m X : ℕ) (plan : Plan) (o
     (limit : plan.units ≤ 3000000) (going : IsGoing kind line least most m old)
     (left : IsLeftAt line least most m X old)
     (is : X ≡ cycle_below (product_of old) m) (small : old.listed.units ≤ 4000000)
-    (short : old.listed.entries ≤ 4000000) (room : length (entries_of old) ≤ 13999999) (v : Verdict) (h : HasAsked m plan X old new v) where
+    (short : old.listed.entries ≤ 4000000) (room : length (entries_of old) ≤ 13999999) (v : Verdict)
+    (h : HasAsked m plan X old new v) where
   l : IsLowering kind line least most old
   l = going.lowering
 

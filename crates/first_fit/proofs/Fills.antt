@@ -1,5 +1,7 @@
 -- The line that is being filled holds ranked placements.
-use Rattle.std.proofs.Common.{◌≡◌, ◌≢◌, ℕ, zero, suc, ◌+◌, ◌-◌, ◌*◌, ◌<◌, ◌≤◌, Bool, true, false, cond, ◌&&◌, ◌||◌, not, nat_eq, List, [], ◌∷◌, length, get_or, set, replicate, refl, sym, ap, ◌∙◌, subst, ◌⊎◌, inl, inr, arith}
+use Rattle.std.proofs.Common.{◌≡◌, ◌≢◌, ℕ, zero, suc, ◌+◌, ◌-◌, ◌*◌, ◌<◌, ◌≤◌, Bool, true, false, cond, ◌&&◌, ◌||◌, not}
+use Rattle.std.proofs.Common.{nat_eq, List, [], ◌∷◌, length, get_or, set, replicate, refl, sym, ap, ◌∙◌, subst, ◌⊎◌}
+use Rattle.std.proofs.Common.{inl, inr, arith}
 use Rattle.std.proofs.lemmas.Bool.{false≢true, cases_eq, cases_lt, cases_Bool}
 use Rattle.std.proofs.lemmas.Bool.Decides.{nat_tests}
 use Rattle.std.proofs.lemmas.List.{get_or-set_same, get_or-set_other, length-set, length-replicate}
@@ -8,7 +10,8 @@ use Rattle.task_set.proofs.Members.{In-set_same, In-set_kept, In-set_cases, In-e
 use Rattle.line_instance.specs.Line.{Line, IsLine, IsRanked, Before, Apart, tasks, time, at_rank}
 use Rattle.line_rules.specs.Balance.{IsSide, seat}
 use Rattle.line_rules.specs.Bounds.{IsTooLong}
-use Rattle.line_rules.specs.Ranked.{Placement, Has, IsAt, time_placed, IsReady, MayBePlaced, RanksFirst, station_of, IsClosed, ComesNext, AreRanked, IsRankedBalance}
+use Rattle.line_rules.specs.Ranked.{Placement, Has, IsAt, time_placed, IsReady, MayBePlaced, RanksFirst, station_of}
+use Rattle.line_rules.specs.Ranked.{IsClosed, ComesNext, AreRanked, IsRankedBalance}
 use Rattle.line_rules.specs.declared.types.LineKind.{LineKind}
 use Rattle.line_rules.specs.declared.types.LineKind.TheVariants.{Straight, U}
 use Rattle.line_rules.specs.declared.types.Side.{Side}
@@ -25,7 +28,8 @@ use Rattle.first_fit.specs.inner.Picked.{IsFirst}
 pub record IsFilling (kind : LineKind) (line : Line) (c : ℕ) (f : Filled) (place : List Seatplace) : Type 0 where
   pub placed : List Placement
   pub ranked : AreRanked kind line c placed
-  pub opened : (f.station ≡ station_of placed) ⊎ ((f.station ≡ suc (station_of placed)) × IsClosed kind line c placed (station_of placed))
+  pub opened : (f.station ≡ station_of placed) ⊎ ((f.station ≡ suc (station_of placed))
+      × IsClosed kind line c placed (station_of placed))
   -- a new station is opened only where something isn't placed
   pub waits : f.station ≡ suc (station_of placed) → ((i : ℕ) → i < tasks line → In (union f.front f.back) i) → ⊥
   pub front_truths : length f.front ≡ 1024
@@ -56,7 +60,8 @@ side_cases ps p h = elim (sides p.place.side) [
   | inr e ↦ inr (p, h, refl, e)
 ]
 
-module _ (kind : LineKind) (line : Line) (c : ℕ) (f : Filled) (place : List Seatplace) (is : IsLine line) (h : IsFilling kind line c f place) where
+module _ (kind : LineKind) (line : Line) (c : ℕ) (f : Filled) (place : List Seatplace) (is : IsLine line)
+    (h : IsFilling kind line c f place) where
   ready_of : (side : Side) (i : ℕ) → MayStand line f i side → IsReady line h.placed i side
   ready_of Front i r = λ j b. h.front j (r j b)
   ready_of Back i r = λ j b. h.back j (r j b)
@@ -80,14 +85,16 @@ module _ (kind : LineKind) (line : Line) (c : ℕ) (f : Filled) (place : List Se
   }
 
   -- and what may be placed at the station may join
-  pub place_may : (q : Placement) → q.place.station ≡ f.station → MayBePlaced kind line c h.placed q → MayJoin kind line f (record { task = q.task; side = q.place.side })
+  pub place_may : (q : Placement) → q.place.station ≡ f.station → MayBePlaced kind line c h.placed q
+      → MayJoin kind line f (record { task = q.task; side = q.place.side })
   place_may q e m = record {
     task = m.task;
     front = λ x. (let a = h.front q.task x in m.new a.0 a.1 a.2);
     back = λ x. (let a = h.back q.task x in m.new a.0 a.1 a.2);
     side = m.side;
     ready = stand_of q.place.side q.task m.ready;
-    fits = (let P : ℕ → Type 0 = λ s. time_placed line h.placed s + time line q.task ≤ c in omega (arith, h.room, subst P e m.fits));
+    fits = (let P : ℕ → Type 0 = λ s. time_placed line h.placed s + time line q.task ≤ c in
+        omega (arith, h.room, subst P e m.fits));
     parted = λ j x a. (let p = h.here j x in
         let P : ℕ → Type 0 = λ k. Apart line k q.task in
         m.parted p.0 p.1 (p.3 ∙ sym e) (subst P (sym p.2) a));
@@ -112,27 +119,31 @@ other e = cc
 
 -- the front after a task has joined is that of the placements
 module _ (ps : List Placement) (p : Placement) (s : List Bool) (long : length s ≡ 1024) (small : p.task < 1024) where
-  front_joins : (side : Side) → p.place.side ≡ side → ((i : ℕ) → In s i → IsAt ps Front i) → (i : ℕ) → In (with_front side s p.task) i → IsAt (p ∷ ps) Front i
+  front_joins : (side : Side) → p.place.side ≡ side → ((i : ℕ) → In s i → IsAt ps Front i) → (i : ℕ)
+      → In (with_front side s p.task) i → IsAt (p ∷ ps) Front i
   front_joins Front e from i m = elim (In-set_cases s p.task i m) [
     | inl o ↦ (let a = from i o in (a.0, inr a.1, a.2, a.3))
     | inr q ↦ (p, inl refl, sym q, e)
   ]
   front_joins Back e from i m = (let a = from i m in (a.0, inr a.1, a.2, a.3))
 
-  front_joins_all : (side : Side) → p.place.side ≡ side → ((i : ℕ) → IsAt ps Front i → In s i) → (i : ℕ) → IsAt (p ∷ ps) Front i → In (with_front side s p.task) i
+  front_joins_all : (side : Side) → p.place.side ≡ side → ((i : ℕ) → IsAt ps Front i → In s i) → (i : ℕ)
+      → IsAt (p ∷ ps) Front i → In (with_front side s p.task) i
   front_joins_all Front e to i (q, inl u, t, d) = in_set s p.task i long small (sym t ∙ ap (λ x. x.task) u)
   front_joins_all Front e to i (q, inr k, t, d) = In-set_kept s p.task i (to i (q, k, t, d))
   front_joins_all Back e to i (q, inl u, t, d) = absurd (other (sym d ∙ ap (λ x. x.place.side) u ∙ e))
   front_joins_all Back e to i (q, inr k, t, d) = to i (q, k, t, d)
 
-  back_joins : (side : Side) → p.place.side ≡ side → ((i : ℕ) → In s i → IsAt ps Back i) → (i : ℕ) → In (with_back side s p.task) i → IsAt (p ∷ ps) Back i
+  back_joins : (side : Side) → p.place.side ≡ side → ((i : ℕ) → In s i → IsAt ps Back i) → (i : ℕ)
+      → In (with_back side s p.task) i → IsAt (p ∷ ps) Back i
   back_joins Back e from i m = elim (In-set_cases s p.task i m) [
     | inl o ↦ (let a = from i o in (a.0, inr a.1, a.2, a.3))
     | inr q ↦ (p, inl refl, sym q, e)
   ]
   back_joins Front e from i m = (let a = from i m in (a.0, inr a.1, a.2, a.3))
 
-  back_joins_all : (side : Side) → p.place.side ≡ side → ((i : ℕ) → IsAt ps Back i → In s i) → (i : ℕ) → IsAt (p ∷ ps) Back i → In (with_back side s p.task) i
+  back_joins_all : (side : Side) → p.place.side ≡ side → ((i : ℕ) → IsAt ps Back i → In s i) → (i : ℕ)
+      → IsAt (p ∷ ps) Back i → In (with_back side s p.task) i
   back_joins_all Back e to i (q, inl u, t, d) = in_set s p.task i long small (sym t ∙ ap (λ x. x.task) u)
   back_joins_all Back e to i (q, inr k, t, d) = In-set_kept s p.task i (to i (q, k, t, d))
   back_joins_all Front e to i (q, inl u, t, d) = absurd (other (sym e ∙ ap (λ x. x.place.side) (sym u) ∙ d))
@@ -149,7 +160,8 @@ length-with_back Back s t = length-set s t true
 stands_at : (s : ℕ) → nat_eq s s ≡ true
 stands_at s = grind (arith, nat_tests)
 
-module _ (kind : LineKind) (line : Line) (c : ℕ) (f : Filled) (place : List Seatplace) (is : IsLine line) (h : IsFilling kind line c f place) (a : Pick) (first : IsFirst kind line f a) where
+module _ (kind : LineKind) (line : Line) (c : ℕ) (f : Filled) (place : List Seatplace) (is : IsLine line)
+    (h : IsFilling kind line c f place) (a : Pick) (first : IsFirst kind line f a) where
   abbrev pub now : Placement
   now = placement_of a f.station
 
@@ -157,15 +169,19 @@ module _ (kind : LineKind) (line : Line) (c : ℕ) (f : Filled) (place : List Se
   small = omega (arith, first.may.task, is.small)
 
   time_here : time_placed line (now ∷ h.placed) f.station ≡ time line a.task + time_placed line h.placed f.station
-  time_here = (let e : cond (nat_eq f.station f.station) (time line a.task) 0 ≡ time line a.task = ap (λ b. cond b (time line a.task) 0) (stands_at f.station) in omega (arith, e))
+  time_here = (let e : cond (nat_eq f.station f.station) (time line a.task) 0 ≡ time line a.task =
+      ap (λ b. cond b (time line a.task) 0) (stands_at f.station) in omega (arith, e))
 
   seats_kept : (p : Placement) → Has (now ∷ h.placed) p → seat (set place a.task now.place) p.task ≡ p.place
   seats_kept p (inl e) =
       let P : Placement → Type 0 = λ x. seat (set place a.task now.place) x.task ≡ x.place in
-      subst P (sym e) (get_or-set_same place a.task now.place (record { station = 0; side = Front }) (omega (arith, h.each, first.may.task)))
-  seats_kept p (inr k) = get_or-set_other place a.task p.task now.place (record { station = 0; side = Front }) (λ e. (may_place kind line c f place is h a first.may).new p k e) ∙ h.seats p k
+      subst P (sym e) (get_or-set_same place a.task now.place (record { station = 0; side = Front })
+      (omega (arith, h.each, first.may.task)))
+  seats_kept p (inr k) = get_or-set_other place a.task p.task now.place (record { station = 0; side = Front })
+      (λ e. (may_place kind line c f place is h a first.may).new p k e) ∙ h.seats p k
 
-  here_joins : (p : Placement) → Has (now ∷ h.placed) p → p.place.station ≡ f.station → In (set f.here a.task true) p.task
+  here_joins : (p : Placement) → Has (now ∷ h.placed) p → p.place.station ≡ f.station
+      → In (set f.here a.task true) p.task
   here_joins p (inl u) e = in_set f.here a.task p.task h.here_truths small (ap (λ x. x.task) u)
   here_joins p (inr k) e = In-set_kept f.here a.task p.task (h.here_all p k e)
 

@@ -1,5 +1,6 @@
 -- What the test of a choice finds out, and the best of several choices.
-use Rattle.std.proofs.Common.{◌≡◌, ◌≢◌, ℕ, suc, ◌+◌, ◌<◌, ◌≤◌, Bool, true, false, cond, nat_lt, nat_eq, List, length, get_or, Option, Some, None, refl, sym, ap, ◌∙◌, subst, ◌⊎◌, inl, inr, arith}
+use Rattle.std.proofs.Common.{◌≡◌, ◌≢◌, ℕ, suc, ◌+◌, ◌<◌, ◌≤◌, Bool, true, false, cond, nat_lt, nat_eq, List, length}
+use Rattle.std.proofs.Common.{get_or, Option, Some, None, refl, sym, ap, ◌∙◌, subst, ◌⊎◌, inl, inr, arith}
 use Rattle.std.proofs.lemmas.Bool.{false≢true, cases_eq, cases_lt, cases_Bool}
 use Rattle.std.proofs.lemmas.Bool.Decides.{nat_tests}
 use Rattle.task_set.specs.Truths.{In, meet, IsEmpty}
@@ -25,11 +26,14 @@ less a b l = grind (arith, nat_tests, l)
 not_less : (a b : ℕ) → b ≤ a → nat_lt a b ≡ false
 not_less a b l = grind (arith, nat_tests, l)
 
-pub meet_empty : (here row both : List Bool) → both ≡ meet here row → ((j : ℕ) → In here j → In row j → ⊥) → IsEmpty both
-meet_empty here row both e none i m = (let P : List Bool → Type 0 = λ s. In s i in let q = In-meet_parts here row i (subst P e m) in none i q.0 q.1)
+pub meet_empty : (here row both : List Bool) → both ≡ meet here row → ((j : ℕ) → In here j → In row j → ⊥)
+    → IsEmpty both
+meet_empty here row both e none i m = (let P : List Bool → Type 0 = λ s. In s i in
+    let q = In-meet_parts here row i (subst P e m) in none i q.0 q.1)
 
 pub empty_meet : (here row both : List Bool) → both ≡ meet here row → IsEmpty both → (j : ℕ) → In here j → In row j → ⊥
-empty_meet here row both e none j h r = (let P : List Bool → Type 0 = λ s. In s j in none j (subst P (sym e) (In-meet here row j h r)))
+empty_meet here row both e none j h r = (let P : List Bool → Type 0 = λ s. In s j in
+    none j (subst P (sym e) (In-meet here row j h r)))
 
 pub side_front : (kind : LineKind) (s : Side) → s ≡ Front → IsSide kind s
 side_front Straight s e = e
@@ -45,17 +49,23 @@ side_straight kind s k b h =
     let e : Back ≡ Front = sym b ∙ f in
     other e
 
-pub stand_front : (line : Line) (f : Filled) (i : ℕ) (s : Side) → s ≡ Front → ((j : ℕ) → Before line j i → In f.front j) → MayStand line f i s
+pub stand_front : (line : Line) (f : Filled) (i : ℕ) (s : Side) → s ≡ Front → ((j : ℕ) → Before line j i → In f.front j)
+    → MayStand line f i s
 stand_front line f i s e h = (let P : Side → Type 0 = λ x. MayStand line f i x in subst P (sym e) h)
 
-pub front_stand : (line : Line) (f : Filled) (i : ℕ) (s : Side) → s ≡ Front → MayStand line f i s → (j : ℕ) → Before line j i → In f.front j
-front_stand line f i s e h = (let P : Side → Type 0 = λ x. MayStand line f i x in let k : (j : ℕ) → Before line j i → In f.front j = subst P e h in k)
+pub front_stand : (line : Line) (f : Filled) (i : ℕ) (s : Side) → s ≡ Front → MayStand line f i s → (j : ℕ)
+    → Before line j i → In f.front j
+front_stand line f i s e h = (let P : Side → Type 0 = λ x. MayStand line f i x in let k : (j : ℕ) → Before line j i
+    → In f.front j = subst P e h in k)
 
-pub stand_back : (line : Line) (f : Filled) (i : ℕ) (s : Side) → s ≡ Back → ((j : ℕ) → Before line i j → In f.back j) → MayStand line f i s
+pub stand_back : (line : Line) (f : Filled) (i : ℕ) (s : Side) → s ≡ Back → ((j : ℕ) → Before line i j → In f.back j)
+    → MayStand line f i s
 stand_back line f i s e h = (let P : Side → Type 0 = λ x. MayStand line f i x in subst P (sym e) h)
 
-pub back_stand : (line : Line) (f : Filled) (i : ℕ) (s : Side) → s ≡ Back → MayStand line f i s → (j : ℕ) → Before line i j → In f.back j
-back_stand line f i s e h = (let P : Side → Type 0 = λ x. MayStand line f i x in let k : (j : ℕ) → Before line i j → In f.back j = subst P e h in k)
+pub back_stand : (line : Line) (f : Filled) (i : ℕ) (s : Side) → s ≡ Back → MayStand line f i s → (j : ℕ)
+    → Before line i j → In f.back j
+back_stand line f i s e h = (let P : Side → Type 0 = λ x. MayStand line f i x in let k : (j : ℕ) → Before line i j
+    → In f.back j = subst P e h in k)
 
 -- a was gone over before the choice of this task and side came
 abbrev pub IsOver : ℕ → Side → Pick → Type 0
@@ -64,7 +74,8 @@ IsOver task side a = (a.task < task) ⊎ ((a.task ≡ task) × (side ≡ Back) �
 -- the best of the choices that may join and pass S, None where there is none
 abbrev pub IsBestOf : LineKind → Line → Filled → (Pick → Type 0) → Option Pick → Type 0
 IsBestOf kind line f S None = (a : Pick) → S a → MayJoin kind line f a → ⊥
-IsBestOf kind line f S (Some b) = MayJoin kind line f b × S b × ((a : Pick) → S a → MayJoin kind line f a → RanksFirst line b.task b.side a.task a.side)
+IsBestOf kind line f S (Some b) = MayJoin kind line f b × S b
+    × ((a : Pick) → S a → MayJoin kind line f a → RanksFirst line b.task b.side a.task a.side)
 
 module _ (kind : LineKind) (line : Line) (f : Filled) (task : ℕ) (side : Side) where
   abbrev pub here : Pick
@@ -78,16 +89,19 @@ module _ (kind : LineKind) (line : Line) (f : Filled) (task : ℕ) (side : Side)
   itself = inr (refl, inr (refl, inr refl))
 
   -- one that was gone over, and is no lighter, ranks first
-  former : (b : Pick) → IsOver task side b → weight line task side ≤ weight line b.task b.side → RanksFirst line b.task b.side task side
+  former : (b : Pick) → IsOver task side b → weight line task side ≤ weight line b.task b.side
+      → RanksFirst line b.task b.side task side
   former b over l = elim (cases_lt (weight line task side) (weight line b.task b.side)) [
     | inl less ↦ inl less
     | inr more ↦ inr (omega arith, elim over [ inl s ↦ inl s | inr q ↦ inr (q.0, inl q.2) ])
   ]
 
-  ranks_here : (b a : Pick) → a ≡ here → RanksFirst line b.task b.side task side → RanksFirst line b.task b.side a.task a.side
+  ranks_here : (b a : Pick) → a ≡ here → RanksFirst line b.task b.side task side
+      → RanksFirst line b.task b.side a.task a.side
   ranks_here b a e r = (let P : Pick → Type 0 = λ x. RanksFirst line b.task b.side x.task x.side in subst P (sym e) r)
 
-  pub kept : (best : Option Pick) → (MayJoin kind line f here → ⊥) → IsBestOf kind line f (IsOver task side) best → IsBestOf kind line f OrHere best
+  pub kept : (best : Option Pick) → (MayJoin kind line f here → ⊥) → IsBestOf kind line f (IsOver task side) best
+      → IsBestOf kind line f OrHere best
   kept None n h = λ a s m. elim s [
     | inl o ↦ h a o m
     | inr e ↦ (let P : Pick → Type 0 = MayJoin kind line f in n (subst P e m))
@@ -101,11 +115,13 @@ module _ (kind : LineKind) (line : Line) (f : Filled) (task : ℕ) (side : Side)
     ],
   )
 
-  weights_less : (b a : Pick) → weight line b.task b.side < weight line task side → RanksFirst line b.task b.side a.task a.side → RanksFirst line task side a.task a.side
+  weights_less : (b a : Pick) → weight line b.task b.side < weight line task side
+      → RanksFirst line b.task b.side a.task a.side → RanksFirst line task side a.task a.side
   weights_less b a l (inl s) = inl (omega (arith, l, s))
   weights_less b a l (inr q) = inl (omega (arith, l, q.0))
 
-  pub joins : (best : Option Pick) → MayJoin kind line f here → IsBestOf kind line f (IsOver task side) best → IsBestOf kind line f OrHere (heavier line best here)
+  pub joins : (best : Option Pick) → MayJoin kind line f here → IsBestOf kind line f (IsOver task side) best
+      → IsBestOf kind line f OrHere (heavier line best here)
   joins None m h = (
     m,
     inr refl,
@@ -135,12 +151,16 @@ module _ (kind : LineKind) (line : Line) (f : Filled) (task : ℕ) (side : Side)
         ))
   ]
 
-  pub better_of : (best found : Option Pick) → IsBetter kind line f best here found → IsBestOf kind line f (IsOver task side) best → IsBestOf kind line f OrHere found
-  better_of best found (inl y) h = (let P : Option Pick → Type 0 = IsBestOf kind line f OrHere in subst P (sym y.1) (joins best y.0 h))
-  better_of best found (inr n) h = (let P : Option Pick → Type 0 = IsBestOf kind line f OrHere in subst P (sym n.1) (kept best n.0 h))
+  pub better_of : (best found : Option Pick) → IsBetter kind line f best here found
+      → IsBestOf kind line f (IsOver task side) best → IsBestOf kind line f OrHere found
+  better_of best found (inl y) h = (let P : Option Pick → Type 0 = IsBestOf kind line f OrHere in
+      subst P (sym y.1) (joins best y.0 h))
+  better_of best found (inr n) h = (let P : Option Pick → Type 0 = IsBestOf kind line f OrHere in
+      subst P (sym n.1) (kept best n.0 h))
 
 -- the same choices, said otherwise
-pub said_so : (kind : LineKind) (line : Line) (f : Filled) (S T : Pick → Type 0) → ((a : Pick) → S a → T a) → ((a : Pick) → T a → S a) → (best : Option Pick) → IsBestOf kind line f S best → IsBestOf kind line f T best
+pub said_so : (kind : LineKind) (line : Line) (f : Filled) (S T : Pick → Type 0) → ((a : Pick) → S a → T a)
+    → ((a : Pick) → T a → S a) → (best : Option Pick) → IsBestOf kind line f S best → IsBestOf kind line f T best
 said_so kind line f S T to from None h = λ a t m. h a (from a t) m
 said_so kind line f S T to from (Some b) h = (h.0, to b h.1, λ a t m. h.2 a (from a t) m)
 
@@ -182,8 +202,13 @@ module _ (kind : LineKind) (line : Line) (f : Filled) (k : ℕ) (best one two : 
     ]
   ]
 
-  pub turn : IsBestOf kind line f (λ a. a.task < k) best → IsBetter kind line f best (record { task = k; side = Front }) one → IsBetter kind line f one (record { task = k; side = Back }) two → IsBestOf kind line f (λ a. a.task < k + 1) two
+  pub turn : IsBestOf kind line f (λ a. a.task < k) best → IsBetter kind line f best (record { task = k; side = Front })
+      one → IsBetter kind line f one (record { task = k; side = Back }) two
+      → IsBestOf kind line f (λ a. a.task < k + 1) two
   turn h x y =
-      let a : IsBestOf kind line f (IsOver k Front) best = said_so kind line f (λ a. a.task < k) (IsOver k Front) (λ a l. inl l) front_first best h in
-      let b : IsBestOf kind line f (IsOver k Back) one = said_so kind line f (OrHere kind line f k Front) (IsOver k Back) then_back back_then one (better_of kind line f k Front best one x a) in
-      said_so kind line f (OrHere kind line f k Back) (λ a. a.task < k + 1) over_both both_over two (better_of kind line f k Back one two y b)
+      let a : IsBestOf kind line f (IsOver k Front) best = said_so kind line f (λ a. a.task < k) (IsOver k Front)
+      (λ a l. inl l) front_first best h in
+      let b : IsBestOf kind line f (IsOver k Back) one = said_so kind line f (OrHere kind line f k Front)
+      (IsOver k Back) then_back back_then one (better_of kind line f k Front best one x a) in
+      said_so kind line f (OrHere kind line f k Back) (λ a. a.task < k + 1) over_both both_over two
+      (better_of kind line f k Back one two y b)

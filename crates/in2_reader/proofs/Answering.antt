@@ -25,9 +25,18 @@ arcs_right bytes x e = arcs_in_range (contents_from 1 bytes) x (said_is_spelled 
 
 pub answered : (bytes : List ℕ) (x : In2) (r : In2Read) → text_said bytes ≡ Ok x → IsReadingOf x r → IsIn2Read bytes r
 answered bytes x (Good line) e h = record { x = x; reads = said_is_spelled bytes x e; is = h }
-answered bytes x (Fault f) e h = inr (record { x = x; reads = said_is_spelled bytes x e; line = h.0; ring = h.1; kind = h.2; is_ring = h.3 })
+answered bytes x (Fault f) e h = inr (record {
+  x = x;
+  reads = said_is_spelled bytes x e;
+  line = h.0;
+  ring = h.1;
+  kind = h.2;
+  is_ring = h.3;
+})
 answered bytes x NoMemory e h = tt
 
-pub not_read : (bytes : List ℕ) (e : ReadError) (r : In2Read) → Fails e (text_said bytes) → r ≡ refusal e → IsIn2Read bytes r
+pub not_read : (bytes : List ℕ) (e : ReadError) (r : In2Read) → Fails e (text_said bytes) → r ≡ refusal e
+    → IsIn2Read bytes r
 not_read bytes errors.Memory r h w = subst (IsIn2Read bytes) (sym w) tt
-not_read bytes (errors.Fault f) r h w = subst (IsIn2Read bytes) (sym w) (inl (fault_is_first (lines_in 1 bytes) (contents_from 1 bytes) f h))
+not_read bytes (errors.Fault f) r h w = subst (IsIn2Read bytes) (sym w)
+    (inl (fault_is_first (lines_in 1 bytes) (contents_from 1 bytes) f h))

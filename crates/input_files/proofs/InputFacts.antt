@@ -1,5 +1,6 @@
 -- What is read in the bytes of a file, and files that are the same.
-use Rattle.std.proofs.Common.{◌≡◌, ◌≢◌, ◌∙◌, ℕ, ◌≤◌, List, length, Option, Some, None, Bor, sym, subst, ap, ◌↔◌, inl, inr}
+use Rattle.std.proofs.Common.{◌≡◌, ◌≢◌, ◌∙◌, ℕ, ◌≤◌, List, length, Option, Some, None, Bor, sym, subst, ap, ◌↔◌, inl}
+use Rattle.std.proofs.Common.{inr}
 use Rattle.line_instance.specs.Line.{Line, Apart, tasks}
 use Rattle.line_instance.specs.Walks.{IsGiven}
 use Rattle.line_instance.specs.declared.arcs.Prec.{Prec}
@@ -20,17 +21,21 @@ use Rattle.input_files.specs.Instance.{Parts}
 use Rattle.input_files.specs.Certificate.{IsFaultyCertificate, IsTextOf, cert_fault_line}
 
 -- a file of these bytes reads as they do
-pub reads : (limit : ℕ) (file : Option (List ℕ)) (bytes : List ℕ) (P : List ℕ → Type 0) → file ≡ Some bytes → length bytes ≤ limit → P bytes → Reads limit file P
+pub reads : (limit : ℕ) (file : Option (List ℕ)) (bytes : List ℕ) (P : List ℕ → Type 0) → file ≡ Some bytes
+    → length bytes ≤ limit → P bytes → Reads limit file P
 reads limit file bytes P e w p = (let Q : Option (List ℕ) → Type 0 = λ f. Reads limit f P in subst Q (sym e) (w, p))
 
-pub reads_as : (limit : ℕ) (file : Option (List ℕ)) (P Q : List ℕ → Type 0) → ((bytes : List ℕ) → P bytes → Q bytes) → Reads limit file P → Reads limit file Q
+pub reads_as : (limit : ℕ) (file : Option (List ℕ)) (P Q : List ℕ → Type 0) → ((bytes : List ℕ) → P bytes → Q bytes)
+    → Reads limit file P → Reads limit file Q
 reads_as limit None P Q f r = r
 reads_as limit (Some bytes) P Q f r = (r.0, f bytes r.1)
 
 -- the file says the pairs that part the line
-pub parted_by : (limit : ℕ) (files : Files) (apart : Option (Bor (List ℕ))) (a : Bor (List ℕ)) (whole line : Line) (n : ℕ) (pairs given : List Prec)
+pub parted_by : (limit : ℕ) (files : Files) (apart : Option (Bor (List ℕ))) (a : Bor (List ℕ)) (whole line : Line)
+    (n : ℕ) (pairs given : List Prec)
     → apart ≡ Some a → Reads limit (files a.now) (λ bytes. IsApartFile n bytes pairs) → n ≡ tasks whole → given ≡ pairs
-    → line.times ≡ whole.times → line.before ≡ whole.before → line.order ≡ whole.order → ((i j : ℕ) → Apart line i j ↔ IsGiven given i j)
+    → line.times ≡ whole.times → line.before ≡ whole.before → line.order ≡ whole.order
+    → ((i j : ℕ) → Apart line i j ↔ IsGiven given i j)
     → Reads limit (files a.now) (Parts whole line)
 parted_by limit files apart a whole line n pairs given e s k g t b o parted =
     let N : (bytes : List ℕ) → ℕ → Type 0 = λ bytes x. IsApartFile x bytes pairs in
@@ -39,8 +44,10 @@ parted_by limit files apart a whole line n pairs given e s k g t b o parted =
     (λ bytes x. (pairs, subst (N bytes) k x, record { times = t; before = b; order = o; apart = subst G g parted })) s
 
 -- the file's bytes have a fault, and no certificate says them
-pub faulty_certificate : (file : Option (List ℕ)) (limit : ℕ) (fault : CertFault) (text : List ℕ) → IsCertFrom file limit (Fault fault)
-    → ((cert : Certificate) → IsInRange cert → file ≢ Some (cert_text cert)) → ((old : OldCertificate) → IsOldInRange old → file ≢ Some (old_text old))
+pub faulty_certificate : (file : Option (List ℕ)) (limit : ℕ) (fault : CertFault) (text : List ℕ)
+    → IsCertFrom file limit (Fault fault)
+    → ((cert : Certificate) → IsInRange cert → file ≢ Some (cert_text cert))
+    → ((old : OldCertificate) → IsOldInRange old → file ≢ Some (old_text old))
     → text ≡ cert_fault_line fault → Reads limit file (λ bytes. IsFaultyCertificate bytes (told ends.Refused text))
 faulty_certificate file limit fault text r none none_old shown =
     reads limit file r.bytes (λ bytes. IsFaultyCertificate bytes (told ends.Refused text)) r.there r.within

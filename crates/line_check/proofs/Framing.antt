@@ -1,5 +1,6 @@
 -- Frames that are right one by one are a valid trail, and what a fault of a frame rules out.
-use Rattle.std.proofs.Common.{◌≡◌, ℕ, zero, suc, ◌+◌, ◌≤◌, Bool, true, false, nat_eq, List, [], ◌∷◌, ◌++◌, length, take, refl, sym, ap, ◌∙◌, subst, inl, inr, arith, Option, Some, None}
+use Rattle.std.proofs.Common.{◌≡◌, ℕ, zero, suc, ◌+◌, ◌≤◌, Bool, true, false, nat_eq, List, [], ◌∷◌, ◌++◌, length, take}
+use Rattle.std.proofs.Common.{refl, sym, ap, ◌∙◌, subst, inl, inr, arith, Option, Some, None}
 use Rattle.std.specs.Prelude.{slice_get}
 use Rattle.std.proofs.lemmas.Bool.{cases_eq, eq-eqb, ne_eqb}
 use Rattle.std.proofs.lemmas.List.{take_all}
@@ -24,13 +25,15 @@ one_frame x y e = cc
 some_load : (x y : Load) → Some x ≡ Some y → x ≡ y
 some_load x y e = cc
 
-take_push : (fs : List OpenFrame) (k : ℕ) (f : OpenFrame) → slice_get fs k ≡ Some f → take (suc k) fs ≡ take k fs ++ f ∷ []
+take_push : (fs : List OpenFrame) (k : ℕ) (f : OpenFrame) → slice_get fs k ≡ Some f
+    → take (suc k) fs ≡ take k fs ++ f ∷ []
 take_push [] k f h = absurd (cc)
 take_push (x ∷ fs) zero f h = let q : x ≡ f = cc in ap (λ (z : OpenFrame). z ∷ []) q
 take_push (x ∷ fs) (suc k) f h = ap (λ (z : List OpenFrame). x ∷ z) (take_push fs k f h)
 
 module _ (kind : LineKind) (line : Line) (X : ℕ) (es : List Entry) where
-  pub frames_more : (fs : List OpenFrame) (k units more : ℕ) (f : OpenFrame) → slice_get fs k ≡ Some f → AreRightTo kind line X es fs k units → IsRightAt kind line X es fs k f → FrameUnits line X f more
+  pub frames_more : (fs : List OpenFrame) (k units more : ℕ) (f : OpenFrame) → slice_get fs k ≡ Some f
+      → AreRightTo kind line X es fs k units → IsRightAt kind line X es fs k f → FrameUnits line X f more
       → AreRightTo kind line X es fs (k + 1) (units + more)
   frames_more fs k units more f there r right u = record {
     right = λ i g l h. elim (cases_eq i k) [
@@ -64,12 +67,14 @@ module _ (kind : LineKind) (line : Line) (X : ℕ) (es : List Entry) where
   AreAll above (f ∷ []) = Asks above f × IsRight true f
   AreAll above (f ∷ (g ∷ fs)) = Asks above f × IsRight false f × AreAll (Some f) (g ∷ fs)
 
-  passed_of : (f : OpenFrame) (last : Option Load) → f.last ≡ last → IsRight false f → (l : Load) → last ≡ Some l → 1 ≤ f.most → IsPassed kind line X es f l
+  passed_of : (f : OpenFrame) (last : Option Load) → f.last ≡ last → IsRight false f → (l : Load) → last ≡ Some l
+      → 1 ≤ f.most → IsPassed kind line X es f l
   passed_of f None e r l q some = absurd (cc)
   passed_of f (Some k) e r l q some =
       let s : f.last ≡ Some l = e ∙ q in
       let E : Option Load → Type 0 = λ z. EndsWell false line X f.mode f.set z in
-      let C : Option Load → Type 0 = λ z. Covers line (λ k. IsOpen kind line X f.mode f.set f.most k × IsMatched false line z k) es f.set f.most X f.cites in
+      let C : Option Load → Type 0 = λ z. Covers line (λ k. IsOpen kind line X f.mode f.set f.most k
+      × IsMatched false line z k) es f.set f.most X f.cites in
       let w : IsLoad line X f.mode f.set l × IsFull line X f.mode f.set l = subst E s r.last in
       record { belongs = r.belongs; stations = some; last = s; load = w.0; full = w.1; covers = subst C s r.covers }
 
@@ -78,8 +83,15 @@ module _ (kind : LineKind) (line : Line) (X : ℕ) (es : List Entry) where
   first_asks g (h ∷ fs) f a = a.0
 
   -- so the frames lead from the first question to the deepest
-  pub leads_of : (f : OpenFrame) (fs : List OpenFrame) (above : Option OpenFrame) → AreAll above (f ∷ fs) → IsTrail kind line X es f.set f.most (f ∷ fs)
-  leads_of f [] above a = record { passed = []; deepest = f; all = refl; leads = (refl, refl); deep = record { belongs = a.1.belongs; last = a.1.last; covers = a.1.covers } }
+  pub leads_of : (f : OpenFrame) (fs : List OpenFrame) (above : Option OpenFrame) → AreAll above (f ∷ fs)
+      → IsTrail kind line X es f.set f.most (f ∷ fs)
+  leads_of f [] above a = record {
+    passed = [];
+    deepest = f;
+    all = refl;
+    leads = (refl, refl);
+    deep = record { belongs = a.1.belongs; last = a.1.last; covers = a.1.covers };
+  }
   leads_of f (g ∷ fs) above a =
       let t : IsTrail kind line X es g.set g.most (g ∷ fs) = leads_of g fs (Some f) a.2 in
       let q : IsLeftBy f g = first_asks g fs f a.2 in
@@ -109,18 +121,21 @@ module _ (kind : LineKind) (line : Line) (X : ℕ) (es : List Entry) where
   ]
 
   all_from : (p : Option OpenFrame) (fs : List OpenFrame) (f : OpenFrame)
-      → ((j : ℕ) (g : OpenFrame) → slice_get (f ∷ fs) j ≡ Some g → Asks (prevs p (f ∷ fs) j) g × IsRight (nat_eq (j + 1) (length (f ∷ fs))) g) → AreAll p (f ∷ fs)
+      → ((j : ℕ) (g : OpenFrame) → slice_get (f ∷ fs) j ≡ Some g
+      → Asks (prevs p (f ∷ fs) j) g × IsRight (nat_eq (j + 1) (length (f ∷ fs))) g) → AreAll p (f ∷ fs)
   all_from p [] f h =
       let P : Bool → Type 0 = λ b. IsRight b f in
       let e : nat_eq (0 + 1) (length (f ∷ [])) ≡ true = eq-eqb (0 + 1) (length (f ∷ [])) (omega arith) in
       ((h 0 f refl).0, subst P e (h 0 f refl).1)
   all_from p (g ∷ fs) f h =
       let P : Bool → Type 0 = λ b. IsRight b f in
-      let e : nat_eq (0 + 1) (length (f ∷ (g ∷ fs))) ≡ false = ne_eqb (0 + 1) (length (f ∷ (g ∷ fs))) (λ q. omega (arith, q)) in (
+      let e : nat_eq (0 + 1) (length (f ∷ (g ∷ fs))) ≡ false =
+      ne_eqb (0 + 1) (length (f ∷ (g ∷ fs))) (λ q. omega (arith, q)) in (
         (h 0 f refl).0,
         subst P e (h 0 f refl).1,
         all_from (Some f) fs g (λ j x q.
-            let r : Asks (slice_get (f ∷ (g ∷ fs)) j) x × IsRight (nat_eq (suc j + 1) (length (f ∷ (g ∷ fs)))) x = h (suc j) x q in
+            let r : Asks (slice_get (f ∷ (g ∷ fs)) j) x × IsRight (nat_eq (suc j + 1) (length (f ∷ (g ∷ fs)))) x =
+            h (suc j) x q in
             let A : Option OpenFrame → Type 0 = λ o. Asks o x in
             let B : Bool → Type 0 = λ b. IsRight b x in
             (subst A (prev_shift f (g ∷ fs) j) r.0, subst B (same_place j (length (g ∷ fs))) r.1)),
@@ -140,16 +155,22 @@ module _ (kind : LineKind) (line : Line) (X : ℕ) (es : List Entry) where
   first_set [] f a = a.0
   first_set (g ∷ fs) f a = a.0
 
-  trail_of : (fs : List OpenFrame) → 1 ≤ length fs → ((j : ℕ) (g : OpenFrame) → slice_get fs j ≡ Some g → IsRightAt kind line X es fs j g) → IsTrailOf kind line X es fs
+  trail_of : (fs : List OpenFrame) → 1 ≤ length fs → ((j : ℕ) (g : OpenFrame) → slice_get fs j ≡ Some g
+      → IsRightAt kind line X es fs j g) → IsTrailOf kind line X es fs
   trail_of [] l h = absurd (omega (arith, l))
   trail_of (f ∷ fs) l h =
       let a : AreAll None (f ∷ fs) = all_from None fs f (λ j g e.
-      let r : IsRightAt kind line X es (f ∷ fs) j g = h j g e in (asks_of (f ∷ fs) j g r.asked, record { belongs = r.belongs; last = r.last; covers = r.covers })) in
+      let r : IsRightAt kind line X es (f ∷ fs) j g = h j g e in
+      (asks_of (f ∷ fs) j g r.asked, record { belongs = r.belongs; last = r.last; covers = r.covers })) in
       let P : List Bool → Type 0 = λ z. IsTrail kind line X es z f.most (f ∷ fs) in
       (f.most, subst P (first_set fs f a) (leads_of f fs None a))
 
-  pub all_frames : (fs : List OpenFrame) (k units steps : ℕ) → 1 ≤ length fs → length fs ≤ k → units ≤ steps → AreRightTo kind line X es fs k units
+  pub all_frames : (fs : List OpenFrame) (k units steps : ℕ) → 1 ≤ length fs → length fs ≤ k → units ≤ steps
+      → AreRightTo kind line X es fs k units
       → IsTrailOf kind line X es fs × UnitsIn line X fs units × (units ≤ steps)
   all_frames fs k units steps some l few r =
-      let P : List OpenFrame → Type 0 = λ z. UnitsIn line X z units in
-      (trail_of fs some (λ j f g. r.right j f (omega (arith, l, get_within fs j f g)) g), subst P (take_all k fs l) r.sum, few)
+      let P : List OpenFrame → Type 0 = λ z. UnitsIn line X z units in (
+        trail_of fs some (λ j f g. r.right j f (omega (arith, l, get_within fs j f g)) g),
+        subst P (take_all k fs l) r.sum,
+        few,
+      )

@@ -56,10 +56,13 @@ module _ (kind : LineKind) (line : Line) (a : Ask) (upper : ℕ) (b : Assignment
       ⊎ (HasStations line b
       × (((HasSides kind line b → ⊥) × ((i : ℕ) × ((p ≡ place.Side i) × IsLeastWhere Aside i)))
       ⊎ (HasSides kind line b
-      × (((HasRoom line (upper_cycle a upper) b → ⊥) × ((s : ℕ) × ((p ≡ place.Overfull s (time_at line (all_tasks line) (seat b.place) s)) × IsLeastWhere Full s)))
+      × (((HasRoom line (upper_cycle a upper) b → ⊥) × ((s : ℕ)
+      × ((p ≡ place.Overfull s (time_at line (all_tasks line) (seat b.place) s)) × IsLeastWhere Full s)))
       ⊎ (HasRoom line (upper_cycle a upper) b
-      × (((KeepsAll kind line b → ⊥) × ((i : ℕ) × (j : ℕ) × ((p ≡ place.Broken i j) × IsLeastPair (Breaks kind line b) i j)))
-      ⊎ (KeepsAll kind line b × ((i : ℕ) × (j : ℕ) × ((p ≡ place.Together i j) × IsLeastPair (Meets line b) i j)))))))))))
+      × (((KeepsAll kind line b → ⊥) × ((i : ℕ) × (j : ℕ) × ((p ≡ place.Broken i j)
+      × IsLeastPair (Breaks kind line b) i j)))
+      ⊎ (KeepsAll kind line b × ((i : ℕ) × (j : ℕ) × ((p ≡ place.Together i j)
+      × IsLeastPair (Meets line b) i j)))))))))))
 
   tests_of : (p : Place) → BalanceFails kind line a upper b p → Tests p
   unfolding Tests Shown Off Aside Full
@@ -68,12 +71,48 @@ module _ (kind : LineKind) (line : Line) (a : Ask) (upper : ℕ) (b : Assignment
   tests_of (place.Earlier task least) h = absurd h
   tests_of (place.Stations s) h = inl (h.1, ap (λ (n : ℕ). place.Stations n) h.0)
   tests_of (place.Station i) h = inr (h.0, inl (λ all. h.1.1.passes.1 (all i h.1.1.passes.0), (i, (refl, h.1.1))))
-  tests_of (place.Side i) h = inr (h.0, inr (h.1.1, inl (λ all. h.1.2.passes.1 (all i h.1.2.passes.0), (i, (refl, h.1.2)))))
+  tests_of (place.Side i) h = inr (
+    h.0,
+    inr (
+      h.1.1,
+      inl (
+        λ all. h.1.2.passes.1 (all i h.1.2.passes.0),
+        (i, (refl, h.1.2)),
+      ),
+    ),
+  )
   tests_of (place.Overfull s t) h =
-      inr (h.0, inr (h.1.1, inr (h.1.2, inl (λ room. omega (arith, room s, h.1.4.passes), (s, (ap (λ (n : ℕ). place.Overfull s n) h.1.3, h.1.4))))))
+      inr (
+        h.0,
+        inr (
+          h.1.1,
+          inr (
+            h.1.2,
+            inl (
+              λ room. omega (arith, room s, h.1.4.passes),
+              (s, (ap (λ (n : ℕ). place.Overfull s n) h.1.3, h.1.4)),
+            ),
+          ),
+        ),
+      )
   tests_of (place.Broken i j) h =
       let x : Breaks kind line b i j = h.1.4.passes in
-      inr (h.0, inr (h.1.1, inr (h.1.2, inr (h.1.3, inl (λ keeps. x.broken (keeps i j x.first x.second x.before), (i, j, (refl, h.1.4)))))))
+      inr (
+        h.0,
+        inr (
+          h.1.1,
+          inr (
+            h.1.2,
+            inr (
+              h.1.3,
+              inl (
+                λ keeps. x.broken (keeps i j x.first x.second x.before),
+                (i, j, (refl, h.1.4)),
+              ),
+            ),
+          ),
+        ),
+      )
   tests_of (place.Together i j) h = inr (h.0, inr (h.1.1, inr (h.1.2, inr (h.1.3, inr (h.1.4, (i, j, (refl, h.1.5)))))))
   tests_of (place.Entry entry why) h = absurd h
   tests_of place.Goal h = absurd h
@@ -95,8 +134,10 @@ module _ (kind : LineKind) (line : Line) (a : Ask) (upper : ℕ) (b : Assignment
   tests_one p q x y = same_end x y (λ u v. u ∙ sym v) (λ x1 y1.
       same_end x1 y1 (at_one Off (λ i. place.Station i) p q) (λ x2 y2.
       same_end x2 y2 (at_one Aside (λ i. place.Side i) p q) (λ x3 y3.
-      same_end x3 y3 (at_one Full (λ s. place.Overfull s (time_at line (all_tasks line) (seat b.place) s)) p q) (λ x4 y4.
-      same_end x4 y4 (at_pair (Breaks kind line b) (λ i j. place.Broken i j) p q) (at_pair (Meets line b) (λ i j. place.Together i j) p q)))))
+      same_end x3 y3 (at_one Full (λ s. place.Overfull s (time_at line (all_tasks line) (seat b.place) s)) p q)
+      (λ x4 y4.
+      same_end x4 y4 (at_pair (Breaks kind line b) (λ i j. place.Broken i j) p q)
+      (at_pair (Meets line b) (λ i j. place.Together i j) p q)))))
 
   -- a balance has one fault
   pub balance_one : (p q : Place) → BalanceFails kind line a upper b p → BalanceFails kind line a upper b q → p ≡ q

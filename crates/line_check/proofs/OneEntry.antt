@@ -1,5 +1,6 @@
 -- The check of an entry, and of a list of entries, has one answer.
-use Rattle.std.proofs.Common.{◌≡◌, ℕ, ◌+◌, ◌-◌, ◌<◌, ◌≤◌, List, [], ◌∷◌, length, take, refl, sym, ap, ◌∙◌, subst, ◌⊎◌, inl, inr, arith, Option, Some, None}
+use Rattle.std.proofs.Common.{◌≡◌, ℕ, ◌+◌, ◌-◌, ◌<◌, ◌≤◌, List, [], ◌∷◌, length, take, refl, sym, ap, ◌∙◌, subst, ◌⊎◌}
+use Rattle.std.proofs.Common.{inl, inr, arith, Option, Some, None}
 use Rattle.std.specs.Prelude.{slice_get}
 use Rattle.std.proofs.lemmas.Bool.{cases_order}
 use Rattle.std.proofs.lemmas.List.{take-take}
@@ -51,7 +52,8 @@ module _ (kind : LineKind) (line : Line) (ranked : IsRanked line) (earlier : Lis
 
   -- the walk over the loads of a Branch fails so
   abbrev pub FailsBy : Mode → List ℕ → Option Load → ℕ → Type 0
-  FailsBy mode cites = FailsWalk line (IsLoad line e.cycle mode e.set) (IsOpen kind line e.cycle mode e.set e.most) (λ k p. p.load) (three_ways line ranked e.cycle mode e.set) earlier e.set e.most e.cycle cites
+  FailsBy mode cites = FailsWalk line (IsLoad line e.cycle mode e.set) (IsOpen kind line e.cycle mode e.set e.most)
+      (λ k p. p.load) (three_ways line ranked e.cycle mode e.set) earlier e.set e.most e.cycle cites
 
   abbrev pub HasTasks : Type 0
   HasTasks = (1 ≤ e.most) × ((i : ℕ) × In e.set i)
@@ -63,7 +65,8 @@ module _ (kind : LineKind) (line : Line) (ranked : IsRanked line) (earlier : Lis
       ⊎ (Belongs kind mode
       × (((HasTasks → ⊥) × Is fault.Most 0 why units)
       ⊎ (HasTasks
-      × (((AreBelow cites (length earlier) → ⊥) × ((x : ℕ) × (IsFirstLate cites (length earlier) x × Is (fault.Cite x) 0 why units)))
+      × (((AreBelow cites (length earlier) → ⊥) × ((x : ℕ) × (IsFirstLate cites (length earlier) x
+      × Is (fault.Cite x) 0 why units)))
       ⊎ (AreBelow cites (length earlier) × ((o : Option Load) × ((why ≡ fault_of o) × FailsBy mode cites o units)))))))
 
   branch_is : (P : Mode → List ℕ → Type 0) (mode : Mode) (cites : List ℕ) → e.why ≡ why.Branch mode cites → Branches e P
@@ -93,20 +96,24 @@ module _ (kind : LineKind) (line : Line) (ranked : IsRanked line) (earlier : Lis
   tests_of mode cites is (fault.Bound b) units h = let q : e.why ≡ why.Bound = h.0 in absurd (cc)
   tests_of mode cites is fault.Mode units h = inl (branch_is (λ m c. Belongs kind m → ⊥) mode cites is h.0, (refl, h.1))
   tests_of mode cites is fault.Most units h =
-      let p : Belongs kind mode × ((e.most ≡ 0) ⊎ ((i : ℕ) → In e.set i → ⊥)) = branch_is (λ m c. Belongs kind m × ((e.most ≡ 0) ⊎ ((i : ℕ) → In e.set i → ⊥))) mode cites is h.0 in
+      let p : Belongs kind mode × ((e.most ≡ 0) ⊎ ((i : ℕ) → In e.set i → ⊥)) =
+      branch_is (λ m c. Belongs kind m × ((e.most ≡ 0) ⊎ ((i : ℕ) → In e.set i → ⊥))) mode cites is h.0 in
       inr (p.0, inl (λ t. elim p.1 [ inl z ↦ omega (arith, z, t.0) | inr n ↦ n t.1.0 t.1.1 ], (refl, h.1)))
   tests_of mode cites is (fault.Cite x) units h = elim h.0 [
     | inl b ↦ (
-        let p = branch_is (λ m c. Belongs kind m × (1 ≤ e.most) × ((i : ℕ) × In e.set i) × IsFirstLate c (length earlier) x) mode cites is b in
+        let p = branch_is (λ m c. Belongs kind m × (1 ≤ e.most) × ((i : ℕ) × In e.set i)
+        × IsFirstLate c (length earlier) x) mode cites is b in
         inr (p.0, inr ((p.1, p.2), inl (late_is cites x p.3, (x, (p.3, (refl, h.1))))))
         )
     | inr s ↦ (let q : e.why ≡ why.Swap s.0 s.1 s.2 = s.3.0 in absurd (cc))
   ]
   tests_of mode cites is (fault.Uncovered load) units h =
-      let p = branch_is (λ m c. IsReady kind earlier e m c × FailsBy m c (Some load) units) mode cites is (h.0, h.1, (h.2.0, (h.2.1.0, (h.2.1.1, h.2.1.2)))) in
+      let p = branch_is (λ m c. IsReady kind earlier e m c × FailsBy m c (Some load) units) mode cites is
+      (h.0, h.1, (h.2.0, (h.2.1.0, (h.2.1.1, h.2.1.2)))) in
       inr (p.0.belongs, inr ((p.0.stations, p.0.some), inr (p.0.below, (Some load, (refl, p.1)))))
   tests_of mode cites is fault.Spare units h =
-      let p = branch_is (λ m c. IsReady kind earlier e m c × FailsBy m c None units) mode cites is (h.0, h.1, (h.2.0, (h.2.1.0, (h.2.1.1, h.2.1.2)))) in
+      let p = branch_is (λ m c. IsReady kind earlier e m c × FailsBy m c None units) mode cites is
+      (h.0, h.1, (h.2.0, (h.2.1.0, (h.2.1.1, h.2.1.2)))) in
       inr (p.0.belongs, inr ((p.0.stations, p.0.some), inr (p.0.below, (None, (refl, p.1)))))
   tests_of mode cites is fault.Swap units h = let q : e.why ≡ why.Swap h.0.0 h.0.1 h.0.2 = h.0.3.0 in absurd (cc)
 
@@ -122,7 +129,9 @@ module _ (kind : LineKind) (line : Line) (ranked : IsRanked line) (earlier : Lis
       → ((o : Option Load) × ((a ≡ fault_of o) × FailsBy mode cites o m))
       → ((o : Option Load) × ((b ≡ fault_of o) × FailsBy mode cites o n)) → (a ≡ b) × (m ≡ n)
   walk_one mode cites a b m n p q =
-      let e : (p.0 ≡ q.0) × (m ≡ n) = one_failure line (IsLoad line e.cycle mode e.set) (IsOpen kind line e.cycle mode e.set e.most) (λ k p. p.load) (three_ways line ranked e.cycle mode e.set) earlier e.set e.most e.cycle cites p.0 q.0 m n p.1.1 q.1.1 in
+      let e : (p.0 ≡ q.0) × (m ≡ n) = one_failure line (IsLoad line e.cycle mode e.set)
+      (IsOpen kind line e.cycle mode e.set e.most) (λ k p. p.load) (three_ways line ranked e.cycle mode e.set)
+      earlier e.set e.most e.cycle cites p.0 q.0 m n p.1.1 q.1.1 in
       (p.1.0 ∙ (ap (λ (o : Option Load). fault_of o) e.0 ∙ sym q.1.0), e.1)
 
   -- one Branch has one fault
@@ -148,14 +157,16 @@ module _ (kind : LineKind) (line : Line) (ranked : IsRanked line) (earlier : Lis
   -- the test of a Swap
   swap_of : (cite out into : ℕ) → e.why ≡ why.Swap cite out into → (why : EntryFault) (units : ℕ)
       → Fails kind line earlier e why units
-      → ((cite < length earlier → ⊥) × Is (fault.Cite cite) 0 why units) ⊎ ((cite < length earlier) × Is fault.Swap 0 why units)
+      → ((cite < length earlier → ⊥) × Is (fault.Cite cite) 0 why units)
+      ⊎ ((cite < length earlier) × Is fault.Swap 0 why units)
   swap_of cite out into is (fault.Bound b) units h = let q : e.why ≡ why.Bound = h.0 in absurd (cc)
   swap_of cite out into is fault.Mode units h = let q : e.why ≡ why.Branch h.0.0 h.0.1 = h.0.2.0 in absurd (cc)
   swap_of cite out into is fault.Most units h = let q : e.why ≡ why.Branch h.0.0 h.0.1 = h.0.2.0 in absurd (cc)
   swap_of cite out into is (fault.Cite x) units h = elim h.0 [
     | inl b ↦ (let q : e.why ≡ why.Branch b.0 b.1 = b.2.0 in absurd (cc))
     | inr s ↦ (
-        let p : (cite ≡ x) × (length earlier ≤ x) = swap_is (λ c o i. (c ≡ x) × (length earlier ≤ x)) cite out into is s in
+        let p : (cite ≡ x) × (length earlier ≤ x) = swap_is (λ c o i. (c ≡ x) × (length earlier ≤ x)) cite out into is
+        s in
         inl (λ l. omega (arith, l, p.0, p.1), (ap (λ (n : ℕ). fault.Cite n) (sym p.0), h.1))
         )
   ]
@@ -168,10 +179,13 @@ module _ (kind : LineKind) (line : Line) (ranked : IsRanked line) (earlier : Lis
   -- one entry has one fault
   fault_one : (w : Why) → e.why ≡ w → (a b : EntryFault) (m n : ℕ) → Fails kind line earlier e a m
       → Fails kind line earlier e b n → (a ≡ b) × (m ≡ n)
-  fault_one why.Bound is a b m n p q = is_one (fault.Bound (bound kind line e.cycle e.set)) 0 a b m n (bound_of is a m p) (bound_of is b n q)
-  fault_one (why.Branch mode cites) is a b m n p q = tests_one mode cites a b m n (tests_of mode cites is a m p) (tests_of mode cites is b n q)
+  fault_one why.Bound is a b m n p q = is_one (fault.Bound (bound kind line e.cycle e.set)) 0 a b m n
+      (bound_of is a m p) (bound_of is b n q)
+  fault_one (why.Branch mode cites) is a b m n p q = tests_one mode cites a b m n (tests_of mode cites is a m p)
+      (tests_of mode cites is b n q)
   fault_one (why.Swap cite out into) is a b m n p q =
-      same_end (swap_of cite out into is a m p) (swap_of cite out into is b n q) (is_one (fault.Cite cite) 0 a b m n) (is_one fault.Swap 0 a b m n)
+      same_end (swap_of cite out into is a m p) (swap_of cite out into is b n q) (is_one (fault.Cite cite) 0 a b m n)
+      (is_one fault.Swap 0 a b m n)
 
   pub one_fault : (a b : EntryFault) (m n : ℕ) → Fails kind line earlier e a m → Fails kind line earlier e b n
       → (a ≡ b) × (m ≡ n)
@@ -190,7 +204,8 @@ module _ (kind : LineKind) (line : Line) (ranked : IsRanked line) (earlier : Lis
           | inl x ↦ x.0 (r.stations, r.some)
           | inr z ↦ elim z.1 [
             | inl x ↦ x.0 r.below
-            | inr w ↦ fails_in_time line (IsLoad line e.cycle mode e.set) (IsOpen kind line e.cycle mode e.set e.most) (λ k p. p.load) (three_ways line ranked e.cycle mode e.set) earlier e.set e.most e.cycle cites
+            | inr w ↦ fails_in_time line (IsLoad line e.cycle mode e.set) (IsOpen kind line e.cycle mode e.set e.most)
+                (λ k p. p.load) (three_ways line ranked e.cycle mode e.set) earlier e.set e.most e.cycle cites
                 w.1.0 m steps w.1.1.1 few h.2.1.1
           ]
         ]
@@ -203,7 +218,8 @@ module _ (kind : LineKind) (line : Line) (ranked : IsRanked line) (earlier : Lis
       → v ≡ w
   found_one steps (found.Right m) (found.Right n) p q = ap (λ (z : ℕ). found.Right z) (units_one m n p.1 q.1)
   found_one steps (found.Right m) (found.Fails b n) p q = absurd (not_follows kind line earlier e b n q.0 p.0)
-  found_one steps (found.Right m) found.StepsEnded p q = absurd (omega (arith, p.2, ends_more kind line earlier e steps m q p.1))
+  found_one steps (found.Right m) found.StepsEnded p q = absurd
+      (omega (arith, p.2, ends_more kind line earlier e steps m q p.1))
   found_one steps (found.Fails a m) (found.Right n) p q = absurd (not_follows kind line earlier e a m p.0 q.0)
   found_one steps (found.Fails a m) (found.Fails b n) p q =
       let s : (a ≡ b) × (m ≡ n) = one_fault a b m n p.0 q.0 in
@@ -211,7 +227,8 @@ module _ (kind : LineKind) (line : Line) (ranked : IsRanked line) (earlier : Lis
       let y : m ≡ n = s.1 in
       cc
   found_one steps (found.Fails a m) found.StepsEnded p q = absurd (fault_in_time a m steps p.0 p.1 q)
-  found_one steps found.StepsEnded (found.Right n) p q = absurd (omega (arith, q.2, ends_more kind line earlier e steps n p q.1))
+  found_one steps found.StepsEnded (found.Right n) p q = absurd
+      (omega (arith, q.2, ends_more kind line earlier e steps n p q.1))
   found_one steps found.StepsEnded (found.Fails b n) p q = absurd (fault_in_time b n steps q.0 q.1 p)
   found_one steps found.StepsEnded found.StepsEnded p q = refl
 
@@ -219,11 +236,14 @@ module _ (kind : LineKind) (line : Line) (ranked : IsRanked line) (earlier : Lis
       → IsChecked kind line earlier e steps w → v ≡ w
   checked_one steps (checked.Right m) (checked.Right n) p q = ap (λ (z : ℕ). checked.Right z) (units_one m n p.1 q.1)
   checked_one steps (checked.Right m) (checked.Fails n) p q = absurd (q.0 p.0)
-  checked_one steps (checked.Right m) checked.StepsEnded p q = absurd (omega (arith, p.2, ends_more kind line earlier e steps m q p.1))
+  checked_one steps (checked.Right m) checked.StepsEnded p q =
+      absurd (omega (arith, p.2, ends_more kind line earlier e steps m q p.1))
   checked_one steps (checked.Fails m) (checked.Right n) p q = absurd (p.0 q.0)
-  checked_one steps (checked.Fails m) (checked.Fails n) p q = ap (λ (z : ℕ). checked.Fails z) (one_fault p.1 q.1 m n p.2 q.2).1
+  checked_one steps (checked.Fails m) (checked.Fails n) p q =
+      ap (λ (z : ℕ). checked.Fails z) (one_fault p.1 q.1 m n p.2 q.2).1
   checked_one steps (checked.Fails m) checked.StepsEnded p q = absurd (fault_in_time p.1 m steps p.2 p.3 q)
-  checked_one steps checked.StepsEnded (checked.Right n) p q = absurd (omega (arith, q.2, ends_more kind line earlier e steps n p q.1))
+  checked_one steps checked.StepsEnded (checked.Right n) p q =
+      absurd (omega (arith, q.2, ends_more kind line earlier e steps n p q.1))
   checked_one steps checked.StepsEnded (checked.Fails n) p q = absurd (fault_in_time q.1 n steps q.2 q.3 p)
   checked_one steps checked.StepsEnded checked.StepsEnded p q = refl
 
@@ -231,13 +251,15 @@ module _ (kind : LineKind) (line : Line) (ranked : IsRanked line) (es : List Ent
   -- an entry below one that is refused, or that the steps end at, follows
   follows_below : (k at units : ℕ) (e : Entry) (why : EntryFault) (m : ℕ) → k < at → AreRightBelow kind line es at units
       → slice_get es k ≡ Some e → Fails kind line (take k es) e why m → ⊥
-  follows_below k at units e why m less b there f = not_follows kind line (take k es) e why m f (b.follow k e less there)
+  follows_below k at units e why m less b there f = not_follows kind line (take k es) e why m f
+      (b.follow k e less there)
 
   refused_here : (k : ℕ) (a b : EntryFault) → IsRefusedAt kind line es steps k a → IsRefusedAt kind line es steps k b
       → a ≡ b
   refused_here k a b p q =
       let P : Entry → Type 0 = λ z. Fails kind line (take k es) z a p.more in
-      (one_fault kind line ranked (take k es) q.entry a b p.more q.more (subst P (one_entry p.entry q.entry (sym p.there ∙ q.there)) p.fails) q.fails).0
+      (one_fault kind line ranked (take k es) q.entry a b p.more q.more
+      (subst P (one_entry p.entry q.entry (sym p.there ∙ q.there)) p.fails) q.fails).0
 
   pub one_refused : (j k : ℕ) (a b : EntryFault) → IsRefusedAt kind line es steps j a
       → IsRefusedAt kind line es steps k b → (j ≡ k) × (a ≡ b)
@@ -255,7 +277,8 @@ module _ (kind : LineKind) (line : Line) (ranked : IsRanked line) (es : List Ent
   ends_here k a p units e sum there h =
       let P : Entry → Type 0 = λ z. Fails kind line (take k es) z a p.more in
       let same : p.units ≡ units = one_sum line (take k es) p.units units p.below.sum sum in
-      fault_in_time kind line ranked (take k es) e a p.more (steps - units) (subst P (one_entry p.entry e (sym p.there ∙ there)) p.fails) (omega (arith, p.few, same)) h
+      fault_in_time kind line ranked (take k es) e a p.more (steps - units)
+      (subst P (one_entry p.entry e (sym p.there ∙ there)) p.fails) (omega (arith, p.few, same)) h
 
   pub refused_in_time : (k : ℕ) (a : EntryFault) → IsRefusedAt kind line es steps k a → AreStepsEnded kind line es steps
       → ⊥
@@ -269,8 +292,16 @@ module _ (kind : LineKind) (line : Line) (ranked : IsRanked line) (es : List Ent
       | inr more ↦ (
           let U : List Entry → Type 0 = λ z. UnitsOf line z h.units in
           let r : (b : ℕ) × (UnitsBy line h.entry h.entry.why b × (h.units + b ≤ p.units)) =
-          units_at line (take k es) h.at h.entry h.units p.units (get_taken_of es k h.at h.entry more h.there) (subst U (sym (take-take h.at k es (omega (arith, more)))) h.below.sum) p.below.sum in
-          omega (arith, r.1.1, h.few, p.few, ends_more kind line (take h.at es) h.entry (steps - h.units) r.0 h.ends r.1.0)
+          units_at line (take k es) h.at h.entry h.units p.units (get_taken_of es k h.at h.entry more h.there)
+          (subst U (sym (take-take h.at k es (omega (arith, more)))) h.below.sum) p.below.sum in
+          omega (
+            arith,
+            r.1.1,
+            h.few,
+            p.few,
+            ends_more kind line (take h.at es) h.entry (steps - h.units) r.0 h.ends
+                r.1.0,
+          )
           )
     ]
   ]

@@ -1,5 +1,6 @@
 -- The check of the frames of a trail has one answer.
-use Rattle.std.proofs.Common.{◌≡◌, ℕ, ◌+◌, ◌-◌, ◌<◌, ◌≤◌, ◌⊎◌, Bool, true, false, List, [], length, take, refl, sym, ap, ◌∙◌, subst, inl, inr, arith, Option, Some, None}
+use Rattle.std.proofs.Common.{◌≡◌, ℕ, ◌+◌, ◌-◌, ◌<◌, ◌≤◌, ◌⊎◌, Bool, true, false, List, [], length, take, refl, sym, ap}
+use Rattle.std.proofs.Common.{◌∙◌, subst, inl, inr, arith, Option, Some, None}
 use Rattle.std.specs.Prelude.{slice_get}
 use Rattle.std.proofs.lemmas.Bool.{cases_order}
 use Rattle.std.proofs.lemmas.List.{take-take}
@@ -17,7 +18,8 @@ use Rattle.line_rules.proofs.Carried.{units_same}
 use Rattle.line_rules.proofs.Places.{three_ways}
 use Rattle.line_check.specs.Walks.{IsFirstLate, AreBelow}
 use Rattle.line_check.specs.Reaches.{IsMatched}
-use Rattle.line_check.specs.Frames.{IsAskedAt, EndsWell, WalksTo, NeedsTo, is_deepest, FailsAt, EndsAt, AreRightTo, IsFrameRefused, AreFramesEnded}
+use Rattle.line_check.specs.Frames.{IsAskedAt, EndsWell, WalksTo, NeedsTo, is_deepest, FailsAt, EndsAt, AreRightTo}
+use Rattle.line_check.specs.Frames.{IsFrameRefused, AreFramesEnded}
 use Rattle.line_check.specs.Certificates.{TrailFails, TrailEnds}
 use Rattle.line_check.specs.declared.types.FrameFault.{FrameFault}
 use Rattle.line_check.specs.declared.types.FrameFault.TheVariants as fault
@@ -57,7 +59,8 @@ module _ (kind : LineKind) (line : Line) (ranked : IsRanked line) (X : ℕ) (es 
 
     -- the walk over the loads of the frame fails so
     FailsBy : Option Load → ℕ → Type 0
-    FailsBy = FailsWalk line (WalksTo line X f) (NeedsTo kind line X (is_deepest fs j) f) needed ways es f.set f.most X f.cites
+    FailsBy = FailsWalk line (WalksTo line X f) (NeedsTo kind line X (is_deepest fs j) f) needed ways es f.set f.most X
+        f.cites
 
     -- this fault was found, and so many loads walked
     Is : FrameFault → FrameFault → ℕ → Type 0
@@ -76,7 +79,8 @@ module _ (kind : LineKind) (line : Line) (ranked : IsRanked line) (X : ℕ) (es 
         ⊎ (Belongs kind f.mode
         × (((EndsWell (is_deepest fs j) line X f.mode f.set f.last → ⊥) × Is fault.Last why units)
         ⊎ (EndsWell (is_deepest fs j) line X f.mode f.set f.last
-        × (((AreBelow f.cites (length es) → ⊥) × ((x : ℕ) × (IsFirstLate f.cites (length es) x × Is (fault.Cite x) why units)))
+        × (((AreBelow f.cites (length es) → ⊥) × ((x : ℕ) × (IsFirstLate f.cites (length es) x
+        × Is (fault.Cite x) why units)))
         ⊎ (AreBelow f.cites (length es) × ((o : Option Load) × ((why ≡ fault_of o) × FailsBy o units)))))))))
 
     late_is : (x : ℕ) → IsFirstLate f.cites (length es) x → AreBelow f.cites (length es) → ⊥
@@ -89,8 +93,17 @@ module _ (kind : LineKind) (line : Line) (ranked : IsRanked line) (X : ℕ) (es 
     tests_of fault.Mode units h = inr (h.0, inl (h.1, (refl, h.2)))
     tests_of fault.Last units h = inr (h.0, inr (h.1, inl (h.2, (refl, h.3))))
     tests_of (fault.Cite x) units h = inr (h.0, inr (h.1, inr (h.2, inl (late_is x h.3, (x, (h.3, (refl, h.4)))))))
-    tests_of (fault.Uncovered load) units h = inr (h.0.asked, inr (h.0.belongs, inr (h.0.last, inr (h.0.below, (Some load, (refl, (h.1, h.2)))))))
-    tests_of fault.Spare units h = inr (h.0.asked, inr (h.0.belongs, inr (h.0.last, inr (h.0.below, (None, (refl, (h.1, h.2)))))))
+    tests_of (fault.Uncovered load) units h = inr (
+      h.0.asked,
+      inr (h.0.belongs, inr (h.0.last, inr (h.0.below, (Some load, (refl, (h.1, h.2)))))),
+    )
+    tests_of fault.Spare units h = inr (
+      h.0.asked,
+      inr (
+        h.0.belongs,
+        inr (h.0.last, inr (h.0.below, (None, (refl, (h.1, h.2))))),
+      ),
+    )
 
     late_one : (a b : FrameFault) (m n : ℕ) → ((x : ℕ) × (IsFirstLate f.cites (length es) x × Is (fault.Cite x) a m))
         → ((x : ℕ) × (IsFirstLate f.cites (length es) x × Is (fault.Cite x) b n)) → (a ≡ b) × (m ≡ n)
@@ -103,7 +116,8 @@ module _ (kind : LineKind) (line : Line) (ranked : IsRanked line) (X : ℕ) (es 
         → ((o : Option Load) × ((b ≡ fault_of o) × FailsBy o n)) → (a ≡ b) × (m ≡ n)
     unfolding FailsBy
     walk_one a b m n p q =
-        let e : (p.0 ≡ q.0) × (m ≡ n) = one_failure line (WalksTo line X f) (NeedsTo kind line X (is_deepest fs j) f) needed ways es f.set f.most X f.cites p.0 q.0 m n p.1.1 q.1.1 in
+        let e : (p.0 ≡ q.0) × (m ≡ n) = one_failure line (WalksTo line X f) (NeedsTo kind line X (is_deepest fs j) f)
+        needed ways es f.set f.most X f.cites p.0 q.0 m n p.1.1 q.1.1 in
         (p.1.0 ∙ (ap (λ (o : Option Load). fault_of o) e.0 ∙ sym q.1.0), e.1)
 
     -- one frame has one fault
@@ -129,7 +143,8 @@ module _ (kind : LineKind) (line : Line) (ranked : IsRanked line) (X : ℕ) (es 
           | inl x ↦ x.0 h.0.last
           | inr w ↦ elim w.1 [
             | inl x ↦ x.0 h.0.below
-            | inr v ↦ fails_in_time line (WalksTo line X f) (NeedsTo kind line X (is_deepest fs j) f) needed ways es f.set f.most X f.cites v.1.0 m steps v.1.1.1 few h.1
+            | inr v ↦ fails_in_time line (WalksTo line X f) (NeedsTo kind line X (is_deepest fs j) f) needed ways es
+                f.set f.most X f.cites v.1.0 m steps v.1.1.1 few h.1
           ]
         ]
       ]
@@ -149,12 +164,14 @@ module _ (kind : LineKind) (line : Line) (ranked : IsRanked line) (X : ℕ) (es 
         → IsFrameRefused kind line X es fs steps j b → a ≡ b
     refused_here j a b p q =
         let P : OpenFrame → Type 0 = λ z. FailsAt kind line X es fs j z a p.more in
-        (one_fault j q.frame a b p.more q.more (subst P (one_frame p.frame q.frame (sym p.there ∙ q.there)) p.fails) q.fails).0
+        (one_fault j q.frame a b p.more q.more (subst P (one_frame p.frame q.frame (sym p.there ∙ q.there)) p.fails)
+        q.fails).0
 
     pub one_refused : (j k : ℕ) (a b : FrameFault) → IsFrameRefused kind line X es fs steps j a
         → IsFrameRefused kind line X es fs steps k b → (j ≡ k) × (a ≡ b)
     one_refused j k a b p q = elim (cases_order j k) [
-      | inl s ↦ (let P : ℕ → Type 0 = λ z. IsFrameRefused kind line X es fs steps z a in (s, refused_here k a b (subst P s p) q))
+      | inl s ↦ (let P : ℕ → Type 0 = λ z. IsFrameRefused kind line X es fs steps z a in
+          (s, refused_here k a b (subst P s p) q))
       | inr d ↦ elim d [
         | inl less ↦ absurd (right_below j k q.units p.frame a p.more less q.below p.there p.fails)
         | inr more ↦ absurd (right_below k j p.units q.frame b q.more more p.below q.there q.fails)
@@ -167,7 +184,8 @@ module _ (kind : LineKind) (line : Line) (ranked : IsRanked line) (X : ℕ) (es 
     ends_here k a p units f sum there h =
         let P : OpenFrame → Type 0 = λ z. FailsAt kind line X es fs k z a p.more in
         let same : p.units ≡ units = frames_units line X (take k fs) p.units units p.below.sum sum in
-        fault_in_time k f a p.more (steps - units) (subst P (one_frame p.frame f (sym p.there ∙ there)) p.fails) (omega (arith, p.few, same)) h
+        fault_in_time k f a p.more (steps - units) (subst P (one_frame p.frame f (sym p.there ∙ there)) p.fails)
+        (omega (arith, p.few, same)) h
 
     -- a frame that is refused within the steps comes before the one that the steps end at
     pub refused_in_time : (k : ℕ) (a : FrameFault) → IsFrameRefused kind line X es fs steps k a
@@ -182,8 +200,11 @@ module _ (kind : LineKind) (line : Line) (ranked : IsRanked line) (X : ℕ) (es 
         | inr more ↦ (
             let U : List OpenFrame → Type 0 = λ z. UnitsIn line X z h.units in
             let r : (b : ℕ) × (FrameUnits line X h.frame b × (h.units + b ≤ p.units)) =
-            frame_units_at line X (take k fs) h.at h.frame h.units p.units (get_taken_of fs k h.at h.frame more h.there) (subst U (sym (take-take h.at k fs (omega (arith, more)))) h.below.sum) p.below.sum in
-            let past : steps - h.units < r.0 = not_past line (WalksTo line X h.frame) (NeedsTo kind line X (is_deepest fs h.at) h.frame) es h.frame.set h.frame.most X h.frame.cites (steps - h.units) r.0 h.ends.1 r.1.0 in
+            frame_units_at line X (take k fs) h.at h.frame h.units p.units (get_taken_of fs k h.at h.frame more h.there)
+            (subst U (sym (take-take h.at k fs (omega (arith, more)))) h.below.sum) p.below.sum in
+            let past : steps - h.units < r.0 = not_past line (WalksTo line X h.frame)
+            (NeedsTo kind line X (is_deepest fs h.at) h.frame) es h.frame.set h.frame.most X h.frame.cites
+            (steps - h.units) r.0 h.ends.1 r.1.0 in
             omega (arith, r.1.1, h.few, p.few, past)
             )
       ]
@@ -197,7 +218,11 @@ module _ (kind : LineKind) (line : Line) (ranked : IsRanked line) (a : Ask) (low
   trail_one None steps j k x y p q = absurd p
   trail_one (Some t) steps j k x y p q = elim p [
     | inl u ↦ elim q [ inl v ↦ (u.1 ∙ sym v.1, u.2 ∙ sym v.2) | inr v ↦ absurd (u.0 v.0) ]
-    | inr u ↦ elim q [ inl v ↦ absurd (v.0 u.0) | inr v ↦ one_refused kind line ranked t.cycle es t.frames steps j k x y u.1 v.1 ]
+    | inr u ↦ elim q [
+      | inl v ↦ absurd (v.0 u.0)
+      | inr v ↦ one_refused kind line ranked t.cycle es t.frames steps j k x y
+          u.1 v.1
+    ]
   ]
 
   pub trail_in_time : (left : Option Trail) (steps j : ℕ) (x : FrameFault)

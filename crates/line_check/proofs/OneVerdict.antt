@@ -1,5 +1,6 @@
 -- The check of a certificate, and of a list with a trail, has one answer.
-use Rattle.std.proofs.Common.{◌≡◌, ℕ, ◌-◌, ◌<◌, ◌⊎◌, List, refl, sym, ap, ◌∙◌, subst, inl, inr, arith, Option, Some, None}
+use Rattle.std.proofs.Common.{◌≡◌, ℕ, ◌-◌, ◌<◌, ◌⊎◌, List, refl, sym, ap, ◌∙◌, subst, inl, inr, arith, Option, Some}
+use Rattle.std.proofs.Common.{None}
 use Rattle.line_instance.specs.Line.{Line, IsLine, IsRanked}
 use Rattle.line_rules.specs.Accepted.{Refutes, IsProof}
 use Rattle.line_rules.specs.Bounds.{IsTooLong}
@@ -15,7 +16,9 @@ use Rattle.line_rules.specs.declared.types.Claim.TheVariants as claim
 use Rattle.line_rules.specs.declared.types.Certificate.{Certificate}
 use Rattle.line_rules.proofs.Carried.{units_same}
 use Rattle.line_check.specs.Lists.{IsRefusedAt}
-use Rattle.line_check.specs.Certificates.{IsShown, BalanceFails, TrailFails, TrailEnds, ProofFails, ProofEnds, IsBoundsVerdict, TaskFails, IsTaskVerdict, IsTooLongVerdict, IsClaimVerdict, IsVerdict}
+use Rattle.line_check.specs.Certificates.{IsShown, BalanceFails, TrailFails, TrailEnds, ProofFails, ProofEnds}
+use Rattle.line_check.specs.Certificates.{IsBoundsVerdict, TaskFails, IsTaskVerdict, IsTooLongVerdict, IsClaimVerdict}
+use Rattle.line_check.specs.Certificates.{IsVerdict}
 use Rattle.line_check.specs.Verdicts.{AreDone, IsTrailRefused, IsTrailEnded, IsListRefused, IsListEnded, IsListChecked}
 use Rattle.line_check.specs.declared.types.EntryFault.{EntryFault}
 use Rattle.line_check.specs.declared.types.FrameFault.{FrameFault}
@@ -34,7 +37,8 @@ use Rattle.line_check.proofs.OneBalance.{one_least, balance_one}
 use Rattle.line_check.proofs.OneEntry as entry
 use Rattle.line_check.proofs.OneTrail as frame
 
-module _ (kind : LineKind) (line : Line) (ok : IsLine line) (ranked : IsRanked line) (a : Ask) (lower upper : ℕ) (b : Assignment) (es : List Entry) (left : Option Trail) (steps : ℕ) where
+module _ (kind : LineKind) (line : Line) (ok : IsLine line) (ranked : IsRanked line) (a : Ask) (lower upper : ℕ)
+    (b : Assignment) (es : List Entry) (left : Option Trail) (steps : ℕ) where
   Goal : Type 0
   Goal = 1 < lower → Refutes line es a lower
 
@@ -43,7 +47,8 @@ module _ (kind : LineKind) (line : Line) (ok : IsLine line) (ranked : IsRanked l
   AtEntry p = (k : ℕ) × (why : EntryFault) × ((p ≡ place.Entry k why) × IsRefusedAt kind line es steps k why)
 
   AtFrame : ℕ → Place → Type 0
-  AtFrame units p = (j : ℕ) × (why : FrameFault) × ((p ≡ place.Frame j why) × TrailFails kind line a lower upper es left (steps - units) j why)
+  AtFrame units p = (j : ℕ) × (why : FrameFault) × ((p ≡ place.Frame j why)
+      × TrailFails kind line a lower upper es left (steps - units) j why)
 
   Behind : ℕ → Place → Type 0
   Behind units p = ((Goal → ⊥) × (p ≡ place.Goal)) ⊎ (Goal × AtFrame units p)
@@ -69,7 +74,8 @@ module _ (kind : LineKind) (line : Line) (ok : IsLine line) (ranked : IsRanked l
   frame_one : (m : ℕ) (p q : Place) → AtFrame m p → AtFrame m q → p ≡ q
   unfolding AtFrame
   frame_one m p q x y =
-      let s : (x.0 ≡ y.0) × (x.1 ≡ y.1) = frame.trail_one kind line ranked a lower upper es left (steps - m) x.0 y.0 x.1 y.1 x.2.1 y.2.1 in
+      let s : (x.0 ≡ y.0) × (x.1 ≡ y.1) = frame.trail_one kind line ranked a lower upper es left (steps - m) x.0 y.0 x.1
+      y.1 x.2.1 y.2.1 in
       x.2.0 ∙ (ap (λ (j : ℕ). place.Frame j x.1) s.0 ∙ (ap (λ (w : FrameFault). place.Frame y.0 w) s.1 ∙ sym y.2.0))
 
   behind_one : (m : ℕ) (p q : Place) → Behind m p → Behind m q → p ≡ q
@@ -92,7 +98,8 @@ module _ (kind : LineKind) (line : Line) (ok : IsLine line) (ranked : IsRanked l
     | inl u ↦ elim y [ inl v ↦ entry_one p q u v | inr v ↦ absurd (entry_not p u v.0 v.1.0) ]
     | inr u ↦ elim y [
       | inl v ↦ absurd (entry_not q v u.0 u.1.0)
-      | inr v ↦ (let P : ℕ → Type 0 = λ z. Behind z p in behind_one v.0 p q (subst P (one_sum line es u.0 v.0 u.1.0.1 v.1.0.1) u.1.1) v.1.1)
+      | inr v ↦ (let P : ℕ → Type 0 = λ z. Behind z p in behind_one v.0 p q
+          (subst P (one_sum line es u.0 v.0 u.1.0.1 v.1.0.1) u.1.1) v.1.1)
     ]
   ]
 
@@ -111,10 +118,15 @@ module _ (kind : LineKind) (line : Line) (ok : IsLine line) (ranked : IsRanked l
   tests_in_time : (p : Place) → Tests p → ProofEnds kind line a lower upper es left steps → ⊥
   unfolding Tests AtEntry Goal
   tests_in_time p x h = elim x [
-    | inl u ↦ elim h [ inl v ↦ entry.refused_in_time kind line ranked es steps u.0 u.1 u.2.1 v | inr v ↦ refused_not kind line es steps u.0 u.1 u.2.1 v.1.0.0 ]
+    | inl u ↦ elim h [
+      | inl v ↦ entry.refused_in_time kind line ranked es steps u.0 u.1 u.2.1 v
+      | inr v ↦
+          refused_not kind line es steps u.0 u.1 u.2.1 v.1.0.0
+    ]
     | inr u ↦ elim h [
       | inl v ↦ omega (arith, u.1.0.2, entries_more kind line es steps u.0 v u.1.0.1)
-      | inr v ↦ (let P : ℕ → Type 0 = λ z. Behind z p in behind_in_time v.0 p (subst P (one_sum line es u.0 v.0 u.1.0.1 v.1.0.1) u.1.1) v.1.1 v.1.2)
+      | inr v ↦ (let P : ℕ → Type 0 = λ z. Behind z p in behind_in_time v.0 p
+          (subst P (one_sum line es u.0 v.0 u.1.0.1 v.1.0.1) u.1.1) v.1.1 v.1.2)
     ]
   ]
 
@@ -124,15 +136,22 @@ module _ (kind : LineKind) (line : Line) (ok : IsLine line) (ranked : IsRanked l
   proof_in_time p x h = tests_in_time p (tests_of p x) h
 
   refused_one : (p q : Place)
-      → BalanceFails kind line a upper b p ⊎ (IsShown kind line a upper b × ProofFails kind line a lower upper es left steps p)
-      → BalanceFails kind line a upper b q ⊎ (IsShown kind line a upper b × ProofFails kind line a lower upper es left steps q) → p ≡ q
+      → BalanceFails kind line a upper b p ⊎ (IsShown kind line a upper b
+      × ProofFails kind line a lower upper es left steps p)
+      → BalanceFails kind line a upper b q ⊎ (IsShown kind line a upper b
+      × ProofFails kind line a lower upper es left steps q) → p ≡ q
   refused_one p q x y = elim x [
-    | inl u ↦ elim y [ inl v ↦ balance_one kind line a upper b p q u v | inr v ↦ absurd (balance_not kind line ok a upper b p u v.0) ]
+    | inl u ↦ elim y [
+      | inl v ↦ balance_one kind line a upper b p q u v
+      | inr v ↦
+          absurd (balance_not kind line ok a upper b p u v.0)
+    ]
     | inr u ↦ elim y [ inl v ↦ absurd (balance_not kind line ok a upper b q v u.0) | inr v ↦ proof_one p q u.1 v.1 ]
   ]
 
   refused_not_right : (p : Place)
-      → BalanceFails kind line a upper b p ⊎ (IsShown kind line a upper b × ProofFails kind line a lower upper es left steps p)
+      → BalanceFails kind line a upper b p ⊎ (IsShown kind line a upper b
+      × ProofFails kind line a lower upper es left steps p)
       → IsProof kind line a lower upper b es left → ⊥
   refused_not_right p x r = elim x [
     | inl u ↦ balance_not kind line ok a upper b p u (r.stations, r.balance)
@@ -140,26 +159,35 @@ module _ (kind : LineKind) (line : Line) (ok : IsLine line) (ranked : IsRanked l
   ]
 
   refused_not_ended : (p : Place)
-      → BalanceFails kind line a upper b p ⊎ (IsShown kind line a upper b × ProofFails kind line a lower upper es left steps p)
+      → BalanceFails kind line a upper b p ⊎ (IsShown kind line a upper b
+      × ProofFails kind line a lower upper es left steps p)
       → IsShown kind line a upper b
       → ProofEnds kind line a lower upper es left steps → ⊥
-  refused_not_ended p x s h = elim x [ inl u ↦ balance_not kind line ok a upper b p u s | inr u ↦ proof_in_time p u.1 h ]
+  refused_not_ended p x s h = elim x [
+    | inl u ↦ balance_not kind line ok a upper b p u s
+    | inr u ↦
+        proof_in_time p u.1 h
+  ]
 
   accepted_one : (l u m k v n : ℕ) → l ≡ k → u ≡ v → m ≡ n → verified.Accepted l u m ≡ verified.Accepted k v n
   accepted_one l u m k v n p q r = cc
 
   pub bounds_one : (v w : Verified) → IsBoundsVerdict kind line a lower upper b es left steps v
       → IsBoundsVerdict kind line a lower upper b es left steps w → v ≡ w
-  bounds_one (verified.Accepted l u m) (verified.Accepted k v n) p q = accepted_one l u m k v n (p.0 ∙ sym q.0) (p.1 ∙ sym q.1) (units_same line es left m n p.3 q.3)
+  bounds_one (verified.Accepted l u m) (verified.Accepted k v n) p q =
+      accepted_one l u m k v n (p.0 ∙ sym q.0) (p.1 ∙ sym q.1) (units_same line es left m n p.3 q.3)
   bounds_one (verified.Accepted l u m) (verified.TooLong i) p q = absurd q
   bounds_one (verified.Accepted l u m) (verified.Refused y) p q = absurd (refused_not_right y q p.2)
-  bounds_one (verified.Accepted l u m) (verified.StepsEnded s) p q = absurd (omega (arith, p.4, ends_spend kind line ok a lower upper b es left steps m q.2 p.3))
+  bounds_one (verified.Accepted l u m) (verified.StepsEnded s) p q =
+      absurd (omega (arith, p.4, ends_spend kind line ok a lower upper b es left steps m q.2 p.3))
   bounds_one (verified.TooLong i) w p q = absurd p
   bounds_one (verified.Refused x) (verified.Accepted k v n) p q = absurd (refused_not_right x p q.2)
   bounds_one (verified.Refused x) (verified.TooLong i) p q = absurd q
-  bounds_one (verified.Refused x) (verified.Refused y) p q = ap (λ (z : Place). verified.Refused z) (refused_one x y p q)
+  bounds_one (verified.Refused x) (verified.Refused y) p q =
+      ap (λ (z : Place). verified.Refused z) (refused_one x y p q)
   bounds_one (verified.Refused x) (verified.StepsEnded s) p q = absurd (refused_not_ended x p q.1 q.2)
-  bounds_one (verified.StepsEnded s) (verified.Accepted k v n) p q = absurd (omega (arith, q.4, ends_spend kind line ok a lower upper b es left steps n p.2 q.3))
+  bounds_one (verified.StepsEnded s) (verified.Accepted k v n) p q =
+      absurd (omega (arith, q.4, ends_spend kind line ok a lower upper b es left steps n p.2 q.3))
   bounds_one (verified.StepsEnded s) (verified.TooLong i) p q = absurd q
   bounds_one (verified.StepsEnded s) (verified.Refused y) p q = absurd (refused_not_ended y q p.1 p.2)
   bounds_one (verified.StepsEnded s) (verified.StepsEnded t) p q = ap (λ (z : ℕ). verified.StepsEnded z) (p.0 ∙ sym q.0)
@@ -174,7 +202,8 @@ module _ (line : Line) (c task : ℕ) where
     ]
     | inr u ↦ elim y [
       | inl v ↦ absurd (omega (arith, v.1.1, v.1.2, u.1.1))
-      | inr v ↦ u.1.0 ∙ (ap (λ (t : ℕ). place.Earlier task t) (one_least (IsTooLong line c) u.0 v.0 u.1.2 v.1.2) ∙ sym v.1.0)
+      | inr v ↦ u.1.0 ∙ (ap (λ (t : ℕ). place.Earlier task t) (one_least (IsTooLong line c) u.0 v.0 u.1.2 v.1.2)
+          ∙ sym v.1.0)
     ]
   ]
 
@@ -189,7 +218,8 @@ module _ (line : Line) (c task : ℕ) where
   task_one (verified.TooLong i) (verified.StepsEnded s) p q = absurd q
   task_one (verified.Refused x) (verified.Accepted l u m) p q = absurd q
   task_one (verified.Refused x) (verified.TooLong j) p q = absurd (task_not x p q.1)
-  task_one (verified.Refused x) (verified.Refused y) p q = ap (λ (z : Place). verified.Refused z) (task_fails_one x y p q)
+  task_one (verified.Refused x) (verified.Refused y) p q = ap (λ (z : Place). verified.Refused z)
+      (task_fails_one x y p q)
   task_one (verified.Refused x) (verified.StepsEnded s) p q = absurd q
   task_one (verified.StepsEnded s) w p q = absurd p
 
@@ -208,7 +238,11 @@ pub certificate_one : (line : Line) → IsLine line → IsRanked line → (cert 
     → IsVerdict line cert steps v → IsVerdict line cert steps w → v ≡ w
 certificate_one line ok ranked cert steps v w p q = elim p [
   | inl x ↦ elim q [ inl y ↦ x.0 ∙ sym y.0 | inr y ↦ absurd (x.1 y.0) ]
-  | inr x ↦ elim q [ inl y ↦ absurd (y.1 x.0) | inr y ↦ claim_one cert.kind line ok ranked steps cert.ask cert.claim v w x.1 y.1 ]
+  | inr x ↦ elim q [
+    | inl y ↦ absurd (y.1 x.0)
+    | inr y ↦ claim_one cert.kind line ok ranked steps cert.ask cert.claim v w
+        x.1 y.1
+  ]
 ]
 
 -- a list with a trail beside it, without the bounds of a certificate
@@ -217,7 +251,8 @@ module _ (kind : LineKind) (line : Line) (ranked : IsRanked line) (es : List Ent
   Refused : Option Trail → Place → Type 0
   Refused trail p =
       ((k : ℕ) × (why : EntryFault) × ((p ≡ place.Entry k why) × IsRefusedAt kind line es steps k why))
-      ⊎ ((units : ℕ) × (AreDone kind line es steps units × ((j : ℕ) × (why : FrameFault) × ((p ≡ place.Frame j why) × IsTrailRefused kind line es trail (steps - units) j why))))
+      ⊎ ((units : ℕ) × (AreDone kind line es steps units × ((j : ℕ) × (why : FrameFault)
+      × ((p ≡ place.Frame j why) × IsTrailRefused kind line es trail (steps - units) j why))))
 
   refused_of : (trail : Option Trail) (p : Place) → IsListRefused kind line es trail steps p → Refused trail p
   unfolding Refused
@@ -258,9 +293,12 @@ module _ (kind : LineKind) (line : Line) (ranked : IsRanked line) (es : List Ent
       | inl v ↦ absurd (refused_not kind line es steps v.0 v.1 v.2.1 u.1.0.0)
       | inr v ↦ (
           let P : ℕ → Type 0 = λ z. IsTrailRefused kind line es trail (steps - z) u.1.1.0 u.1.1.1 in
-          let there : IsTrailRefused kind line es trail (steps - v.0) u.1.1.0 u.1.1.1 = subst P (one_sum line es u.0 v.0 u.1.0.1 v.1.0.1) u.1.1.2.1 in
-          let s : (u.1.1.0 ≡ v.1.1.0) × (u.1.1.1 ≡ v.1.1.1) = frame_refused_one trail (steps - v.0) u.1.1.0 v.1.1.0 u.1.1.1 v.1.1.1 there v.1.1.2.1 in
-          u.1.1.2.0 ∙ (ap (λ (j : ℕ). place.Frame j u.1.1.1) s.0 ∙ (ap (λ (w : FrameFault). place.Frame v.1.1.0 w) s.1 ∙ sym v.1.1.2.0))
+          let there : IsTrailRefused kind line es trail (steps - v.0) u.1.1.0 u.1.1.1 =
+          subst P (one_sum line es u.0 v.0 u.1.0.1 v.1.0.1) u.1.1.2.1 in
+          let s : (u.1.1.0 ≡ v.1.1.0) × (u.1.1.1 ≡ v.1.1.1) =
+          frame_refused_one trail (steps - v.0) u.1.1.0 v.1.1.0 u.1.1.1 v.1.1.1 there v.1.1.2.1 in
+          u.1.1.2.0 ∙ (ap (λ (j : ℕ). place.Frame j u.1.1.1) s.0
+          ∙ (ap (λ (w : FrameFault). place.Frame v.1.1.0 w) s.1 ∙ sym v.1.1.2.0))
           )
     ]
   ]
@@ -268,24 +306,36 @@ module _ (kind : LineKind) (line : Line) (ranked : IsRanked line) (es : List Ent
   list_in_time : (trail : Option Trail) (p : Place) → Refused trail p → IsListEnded kind line es trail steps → ⊥
   unfolding Refused
   list_in_time trail p x h = elim x [
-    | inl u ↦ elim h [ inl v ↦ entry.refused_in_time kind line ranked es steps u.0 u.1 u.2.1 v | inr v ↦ refused_not kind line es steps u.0 u.1 u.2.1 v.1.0 ]
+    | inl u ↦ elim h [
+      | inl v ↦ entry.refused_in_time kind line ranked es steps u.0 u.1 u.2.1 v
+      | inr v ↦
+          refused_not kind line es steps u.0 u.1 u.2.1 v.1.0
+    ]
     | inr u ↦ elim h [
       | inl v ↦ omega (arith, u.1.0.2, entries_more kind line es steps u.0 v u.1.0.1)
       | inr v ↦ (
           let P : ℕ → Type 0 = λ z. IsTrailRefused kind line es trail (steps - z) u.1.1.0 u.1.1.1 in
-          frame_refused_in_time trail (steps - v.0) u.1.1.0 u.1.1.1 (subst P (one_sum line es u.0 v.0 u.1.0.1 v.1.1) u.1.1.2.1) v.2
+          frame_refused_in_time trail (steps - v.0) u.1.1.0 u.1.1.1
+          (subst P (one_sum line es u.0 v.0 u.1.0.1 v.1.1) u.1.1.2.1) v.2
           )
     ]
   ]
 
   pub listed_one : (trail : Option Trail) (v w : ListChecked) → IsListChecked kind line es trail steps v
       → IsListChecked kind line es trail steps w → v ≡ w
-  listed_one trail (checked.Right m) (checked.Right n) p q = ap (λ (z : ℕ). checked.Right z) (units_same line es trail m n p.2 q.2)
+  listed_one trail (checked.Right m) (checked.Right n) p q =
+      ap (λ (z : ℕ). checked.Right z) (units_same line es trail m n p.2 q.2)
   listed_one trail (checked.Right m) (checked.Refused y) p q = absurd (list_not kind line es trail steps y q p.0 p.1)
-  listed_one trail (checked.Right m) (checked.StepsEnded s) p q = absurd (omega (arith, p.3, list_spends kind line es trail steps m q.1 p.2))
+  listed_one trail (checked.Right m) (checked.StepsEnded s) p q =
+      absurd (omega (arith, p.3, list_spends kind line es trail steps m q.1 p.2))
   listed_one trail (checked.Refused x) (checked.Right n) p q = absurd (list_not kind line es trail steps x p q.0 q.1)
-  listed_one trail (checked.Refused x) (checked.Refused y) p q = ap (λ (z : Place). checked.Refused z) (list_refused_one trail x y (refused_of trail x p) (refused_of trail y q))
-  listed_one trail (checked.Refused x) (checked.StepsEnded s) p q = absurd (list_in_time trail x (refused_of trail x p) q.1)
-  listed_one trail (checked.StepsEnded s) (checked.Right n) p q = absurd (omega (arith, q.3, list_spends kind line es trail steps n p.1 q.2))
-  listed_one trail (checked.StepsEnded s) (checked.Refused y) p q = absurd (list_in_time trail y (refused_of trail y q) p.1)
-  listed_one trail (checked.StepsEnded s) (checked.StepsEnded t) p q = ap (λ (z : ℕ). checked.StepsEnded z) (p.0 ∙ sym q.0)
+  listed_one trail (checked.Refused x) (checked.Refused y) p q =
+      ap (λ (z : Place). checked.Refused z) (list_refused_one trail x y (refused_of trail x p) (refused_of trail y q))
+  listed_one trail (checked.Refused x) (checked.StepsEnded s) p q =
+      absurd (list_in_time trail x (refused_of trail x p) q.1)
+  listed_one trail (checked.StepsEnded s) (checked.Right n) p q =
+      absurd (omega (arith, q.3, list_spends kind line es trail steps n p.1 q.2))
+  listed_one trail (checked.StepsEnded s) (checked.Refused y) p q =
+      absurd (list_in_time trail y (refused_of trail y q) p.1)
+  listed_one trail (checked.StepsEnded s) (checked.StepsEnded t) p q =
+      ap (λ (z : ℕ). checked.StepsEnded z) (p.0 ∙ sym q.0)

@@ -1,5 +1,6 @@
 -- A walk over loads has one answer: its first failure, if it has one, comes before what the steps end at.
-use Rattle.std.proofs.Common.{◌≡◌, ℕ, ◌+◌, ◌<◌, ◌≤◌, Bool, List, length, take, refl, sym, ap, subst, ◌⊎◌, inl, inr, arith, Option, Some, None, length-take}
+use Rattle.std.proofs.Common.{◌≡◌, ℕ, ◌+◌, ◌<◌, ◌≤◌, Bool, List, length, take, refl, sym, ap, subst, ◌⊎◌, inl, inr}
+use Rattle.std.proofs.Common.{arith, Option, Some, None, length-take}
 use Rattle.std.specs.Prelude.{slice_get}
 use Rattle.std.proofs.lemmas.Bool.{cases_order}
 use Rattle.line_instance.specs.Line.{Line}
@@ -24,7 +25,9 @@ same_end p q f g = elim p [
 -- there is one first cite that is late
 pub one_late : (cites : List ℕ) (k x y : ℕ) → IsFirstLate cites k x → IsFirstLate cites k y → x ≡ y
 one_late cites k x y p q = elim (cases_order p.place q.place) [
-  | inl s ↦ (let P : ℕ → Type 0 = λ z. slice_get cites z ≡ Some y in let e : slice_get cites p.place ≡ Some y = subst P (sym s) q.there in let t : slice_get cites p.place ≡ Some x = p.there in cc)
+  | inl s ↦ (let P : ℕ → Type 0 = λ z. slice_get cites z ≡ Some y in
+      let e : slice_get cites p.place ≡ Some y = subst P (sym s) q.there in
+      let t : slice_get cites p.place ≡ Some x = p.there in cc)
   | inr d ↦ elim d [
     | inl less ↦ absurd (omega (arith, p.late, q.earlier p.place x less p.there))
     | inr more ↦ absurd (omega (arith, q.late, p.earlier q.place y more q.there))
@@ -33,9 +36,15 @@ one_late cites k x y p q = elim (cases_order p.place q.place) [
 
 lists_same : (line : Line) (P Q : Load → Type 0) (ls : List Load) → ((l : Load) → P l → Q l) → ((l : Load) → Q l → P l)
     → Lists line P ls → Lists line Q ls
-lists_same line P Q ls f g h = record { rises = h.rises; sound = λ k a e. f a (h.sound k a e); complete = λ a q. h.complete a (g a q) }
+lists_same line P Q ls f g h = record {
+  rises = h.rises;
+  sound = λ k a e. f a (h.sound k a e);
+  complete = λ a q. h.complete a (g a q);
+}
 
-module _ (line : Line) (W P : Load → Type 0) (walked : (k : Load) → P k → W k) (ways : (a b : Load) → W a → W b → (a ≡ b) ⊎ (Precedes line a b ⊎ Precedes line b a)) (earlier : List Entry) (R : List Bool) (most c : ℕ)
+module _ (line : Line) (W P : Load → Type 0) (walked : (k : Load) → P k → W k)
+    (ways : (a b : Load) → W a → W b → (a ≡ b) ⊎ (Precedes line a b ⊎ Precedes line b a)) (earlier : List Entry)
+    (R : List Bool) (most c : ℕ)
     (cites : List ℕ) where
   -- no load is uncovered of which the first cites cover all before it and itself
   not_among : (Q : Load → Type 0) (n : ℕ) → Covers line Q earlier R most c (take n cites) → (load : Load) → Q load
@@ -44,11 +53,22 @@ module _ (line : Line) (W P : Load → Type 0) (walked : (k : Load) → P k → 
   not_among Q n h load m into out u =
       let q : (k : ℕ) × (slice_get h.loads k ≡ Some load) = h.listed.complete load m in
       let mine : Lists line (λ k. P k × Precedes line k load) (take q.0 h.loads) =
-      lists_same line (λ k. Q k × Precedes line k load) (λ k. P k × Precedes line k load) (take q.0 h.loads) (λ k p. (out k p.0, p.1)) (λ k p. (into k p.1 p.0, p.1)) (firsts line Q h.loads h.listed q.0 load q.1) in
-      let same : take q.0 h.loads ≡ u.before.1.loads = unique line (take q.0 h.loads) u.before.1.loads (λ k. P k × Precedes line k load) mine u.before.1.listed in
+      lists_same line (λ k. Q k × Precedes line k load) (λ k. P k × Precedes line k load) (take q.0 h.loads)
+      (λ k p. (out k p.0, p.1)) (λ k p. (into k p.1 p.0, p.1)) (firsts line Q h.loads h.listed q.0 load q.1) in
+      let same : take q.0 h.loads ≡ u.before.1.loads = unique line (take q.0 h.loads) u.before.1.loads
+      (λ k. P k × Precedes line k load) mine u.before.1.listed in
       let within : q.0 < length h.loads = get_within h.loads q.0 load q.1 in
-      let long : q.0 ≡ u.taken = omega (arith, ap (λ (z : List Load). length z) same, u.before.1.as_many, length-take u.taken cites, length-take q.0 h.loads, u.before.0, within) in
-      let x : (x : ℕ) × (slice_get (take n cites) q.0 ≡ Some x) = get_some (take n cites) q.0 (omega (arith, h.as_many, within)) in
+      let long : q.0 ≡ u.taken = omega (
+        arith,
+        ap (λ (z : List Load). length z) same,
+        u.before.1.as_many,
+        length-take u.taken cites,
+        length-take q.0 h.loads,
+        u.before.0,
+        within,
+      ) in
+      let x : (x : ℕ) × (slice_get (take n cites) q.0 ≡ Some x) =
+      get_some (take n cites) q.0 (omega (arith, h.as_many, within)) in
       let A : ℕ → Type 0 = λ z. slice_get cites z ≡ Some x.0 in
       u.fails x.0 (subst A long (get_take cites n q.0 x.0 x.1).1) (h.cited q.0 x.0 load x.1 q.1)
 
@@ -71,7 +91,8 @@ module _ (line : Line) (W P : Load → Type 0) (walked : (k : Load) → P k → 
       let up : Counts line (λ k. B k × UpTo line (Some a) k) m = record {
         loads = to_a.loads;
         listed =
-            lists_same line (λ k. W k × UpTo line (Some a) k) (λ k. B k × UpTo line (Some a) k) to_a.loads (λ k p. (((p.0, inr (near k p.1)), near k p.1), p.1)) (λ k p. (p.0.0.0, p.1)) to_a.listed;
+            lists_same line (λ k. W k × UpTo line (Some a) k) (λ k. B k × UpTo line (Some a) k) to_a.loads
+            (λ k p. (((p.0, inr (near k p.1)), near k p.1), p.1)) (λ k p. (p.0.0.0, p.1)) to_a.listed;
         long = to_a.long;
       } in
       omega (arith, counts_up line B P earlier R most c cites a m q.0 ((wa, inr less), less) up all, within, to_b.long)
@@ -81,8 +102,10 @@ module _ (line : Line) (W P : Load → Type 0) (walked : (k : Load) → P k → 
   one_uncovered a b u v = elim (ways a b (walked a u.needs) (walked b v.needs)) [
     | inl same ↦ same
     | inr d ↦ elim d [
-      | inl less ↦ absurd (not_among (λ k. P k × Precedes line k b) v.taken v.before.1 a (u.needs, less) (λ k p m. (m, precedes_trans line k a b p less)) (λ k m. m.0) u)
-      | inr more ↦ absurd (not_among (λ k. P k × Precedes line k a) u.taken u.before.1 b (v.needs, more) (λ k p m. (m, precedes_trans line k b a p more)) (λ k m. m.0) v)
+      | inl less ↦ absurd (not_among (λ k. P k × Precedes line k b) v.taken v.before.1 a (u.needs, less)
+          (λ k p m. (m, precedes_trans line k a b p less)) (λ k m. m.0) u)
+      | inr more ↦ absurd (not_among (λ k. P k × Precedes line k a) u.taken u.before.1 b (v.needs, more)
+          (λ k p m. (m, precedes_trans line k b a p more)) (λ k m. m.0) v)
     ]
   ]
 
@@ -97,18 +120,30 @@ module _ (line : Line) (W P : Load → Type 0) (walked : (k : Load) → P k → 
   not_before load units steps u to few p = elim (ways load p.load (walked load u.needs) p.walked) [
     | inl same ↦ (
         let S : Load → Type 0 = λ z. CountsTo line W P earlier R most c cites z units in
-        omega (arith, few, one_count line (λ k. W k × UpTo line (Some p.load) k) units (steps + 1) (subst S same to) p.counts)
+        omega (
+          arith,
+          few,
+          one_count line (λ k. W k × UpTo line (Some p.load) k) units (steps + 1) (subst S same to)
+              p.counts,
+        )
         )
     | inr d ↦ elim d [
-      | inl less ↦ not_among (λ k. P k × Precedes line k p.load) p.taken p.before.1 load (u.needs, less) (λ k q m. (m, precedes_trans line k load p.load q less)) (λ k m. m.0) u
-      | inr more ↦ omega (arith, few, counts_rise p.load load (steps + 1) units p.walked (walked load u.needs) more p.counts to)
+      | inl less ↦ not_among (λ k. P k × Precedes line k p.load) p.taken p.before.1 load (u.needs, less)
+          (λ k q m. (m, precedes_trans line k load p.load q less)) (λ k m. m.0) u
+      | inr more ↦ omega (
+        arith,
+        few,
+        counts_rise p.load load (steps + 1) units p.walked (walked load u.needs) more
+            p.counts to,
+      )
     ]
   ]
 
   -- a failure of a walk: an uncovered load, or, where there is none, spare cites, and the loads that were walked
   abbrev pub FailsWalk : Option Load → ℕ → Type 0
   FailsWalk None units = IsSpare line W P earlier R most c cites × Counts line W units
-  FailsWalk (Some load) units = IsUncovered line W P earlier R most c cites load × CountsTo line W P earlier R most c cites load units
+  FailsWalk (Some load) units = IsUncovered line W P earlier R most c cites load
+      × CountsTo line W P earlier R most c cites load units
 
   pub one_failure : (o p : Option Load) (m n : ℕ) → FailsWalk o m → FailsWalk p n → (o ≡ p) × (m ≡ n)
   one_failure None None m n f g = (refl, one_count line W m n f.1 g.1)

@@ -1,5 +1,6 @@
 -- The numbers of a picture: the sums of the stations, and what is idle.
-use Rattle.std.proofs.Common.{◌≡◌, ℕ, zero, suc, ◌+◌, ◌*◌, ◌/◌, ◌≤◌, Bool, true, false, ◌&&◌, not, nat_eq, nat_le, List, refl, sym, ap, ◌∙◌, arith}
+use Rattle.std.proofs.Common.{◌≡◌, ℕ, zero, suc, ◌+◌, ◌*◌, ◌/◌, ◌≤◌, Bool, true, false, ◌&&◌, not, nat_eq, nat_le, List}
+use Rattle.std.proofs.Common.{refl, sym, ap, ◌∙◌, arith}
 use Rattle.std.proofs.Math.Nat.{mul-div-le, div-le_of_le-mul}
 use Rattle.std.proofs.lemmas.Bool.{and_parts, and_from, false≢true}
 use Rattle.std.proofs.lemmas.Bool.Decides.{nat_tests}
@@ -39,13 +40,15 @@ below_it : (a : Bool) (m n : ℕ) → ((a && nat_le m (suc n)) && not (nat_eq m 
 below_it true m n = grind (arith, nat_tests)
 below_it false m n = refl
 
-module _ (line : Line) (places : List Seatplace) (first : (i : ℕ) → In (all_tasks line) i → 1 ≤ (seat places i).station) where
+module _ (line : Line) (places : List Seatplace) (first : (i : ℕ) → In (all_tasks line) i
+    → 1 ≤ (seat places i).station) where
   sums_within : (n : ℕ) → sums_to line places n ≡ sum_where (within line places n) line.times
   sums_within zero = sym (weigh-none (λ t. t) (within line places 0) none line.times)
     where
       none : (i : ℕ) → within line places 0 i ≡ false
       none i = same_truth (within line places 0 i) false
-          (λ e. let q : (has (all_tasks line) i ≡ true) × (nat_le (seat places i).station 0 ≡ true) = and_parts (has (all_tasks line) i) (nat_le (seat places i).station 0) e in
+          (λ e. let q : (has (all_tasks line) i ≡ true) × (nat_le (seat places i).station 0 ≡ true) =
+          and_parts (has (all_tasks line) i) (nat_le (seat places i).station 0) e in
           absurd (omega (arith, first i q.0, le_from (seat places i).station 0 q.1)))
           (λ e. absurd (false≢true e))
   sums_within (suc n) =
@@ -54,21 +57,26 @@ module _ (line : Line) (places : List Seatplace) (first : (i : ℕ) → In (all_
         arith,
         sums_within n,
         weigh-split (λ t. t) (within line places (suc n)) last line.times,
-        weigh-same (λ t. t) (λ i. within line places (suc n) i && last i) (λ i. has (all_tasks line) i && last i) (λ i. last_one (has (all_tasks line) i) (seat places i).station n) line.times,
-        weigh-same (λ t. t) (λ i. within line places (suc n) i && not (last i)) (within line places n) (λ i. below_it (has (all_tasks line) i) (seat places i).station n) line.times,
+        weigh-same (λ t. t) (λ i. within line places (suc n) i && last i) (λ i. has (all_tasks line) i && last i)
+            (λ i. last_one (has (all_tasks line) i) (seat places i).station n) line.times,
+        weigh-same (λ t. t) (λ i. within line places (suc n) i && not (last i)) (within line places n)
+            (λ i. below_it (has (all_tasks line) i) (seat places i).station n) line.times,
       )
 
   -- the sums of all stations are the total time
-  pub sums_all : (n : ℕ) → ((i : ℕ) → In (all_tasks line) i → (seat places i).station ≤ n) → sums_to line places n ≡ total_time line
+  pub sums_all : (n : ℕ) → ((i : ℕ) → In (all_tasks line) i → (seat places i).station ≤ n)
+      → sums_to line places n ≡ total_time line
   sums_all n last = sums_within n ∙ weigh-same (λ t. t) (within line places n) (has (all_tasks line)) each line.times
     where
       each : (i : ℕ) → within line places n i ≡ has (all_tasks line) i
       each i = same_truth (within line places n i) (has (all_tasks line) i)
           (λ e. (and_parts (has (all_tasks line) i) (nat_le (seat places i).station n) e).0)
-          (λ m. and_from (has (all_tasks line) i) (nat_le (seat places i).station n) m (from_le (seat places i).station n (last i m)))
+          (λ m. and_from (has (all_tasks line) i) (nat_le (seat places i).station n) m
+          (from_le (seat places i).station n (last i m)))
 
 -- what is idle, and the sums, fill the stations
-idle_and_sums : (line : Line) (c : ℕ) (places : List Seatplace) → ((k : ℕ) → sum_at line places k ≤ c) → (n : ℕ) → idle_to line c places n + sums_to line places n ≡ n * c
+idle_and_sums : (line : Line) (c : ℕ) (places : List Seatplace) → ((k : ℕ) → sum_at line places k ≤ c) → (n : ℕ)
+    → idle_to line c places n + sums_to line places n ≡ n * c
 idle_and_sums line c places fits zero = omega arith
 idle_and_sums line c places fits (suc n) = omega (arith, fits (suc n), idle_and_sums line c places fits n)
 

@@ -1,5 +1,6 @@
 -- Where the segments of listed tasks stand, by their places in the lists.
-use Rattle.std.proofs.Common.{◌≡◌, ℕ, zero, suc, ◌+◌, ◌-◌, ◌<◌, ◌≤◌, List, [], ◌∷◌, ◌++◌, length, get_or, take, drop, Some, refl, sym, ap, ◌∙◌, subst, ◌⊎◌, inl, inr, arith, add-one}
+use Rattle.std.proofs.Common.{◌≡◌, ℕ, zero, suc, ◌+◌, ◌-◌, ◌<◌, ◌≤◌, List, [], ◌∷◌, ◌++◌, length, get_or, take, drop}
+use Rattle.std.proofs.Common.{Some, refl, sym, ap, ◌∙◌, subst, ◌⊎◌, inl, inr, arith, add-one}
 use Rattle.std.specs.Prelude.{All, filter, slice_get}
 use Rattle.line_instance.specs.Line.{Line, time}
 use Rattle.line_rules.specs.declared.types.Side.TheVariants.{Front, Back}
@@ -28,9 +29,12 @@ get_cases (z ∷ xs) ys (suc p) x e = elim (get_cases xs ys p x e) [
   | inr b ↦ inr (b.0, omega (arith, b.1), b.2)
 ]
 
-pub get_behind : {X : Type 0} (xs ys : List X) (q : ℕ) (x : X) → slice_get ys q ≡ Some x → slice_get (xs ++ ys) (length xs + q) ≡ Some x
-get_behind [] ys q x e = let P : ℕ → Type 0 = λ k. slice_get ys k ≡ Some x in let same : q ≡ 0 + q = omega arith in subst P same e
-get_behind (z ∷ xs) ys q x e = let P : ℕ → Type 0 = λ k. slice_get (z ∷ (xs ++ ys)) k ≡ Some x in let same : suc (length xs + q) ≡ suc (length xs) + q = omega arith in subst P same (get_behind xs ys q x e)
+pub get_behind : {X : Type 0} (xs ys : List X) (q : ℕ) (x : X) → slice_get ys q ≡ Some x
+    → slice_get (xs ++ ys) (length xs + q) ≡ Some x
+get_behind [] ys q x e = let P : ℕ → Type 0 = λ k. slice_get ys k ≡ Some x in let same : q ≡ 0 + q = omega arith in
+    subst P same e
+get_behind (z ∷ xs) ys q x e = let P : ℕ → Type 0 = λ k. slice_get (z ∷ (xs ++ ys)) k ≡ Some x in
+    let same : suc (length xs + q) ≡ suc (length xs) + q = omega arith in subst P same (get_behind xs ys q x e)
 
 module _ (line : Line) where
   times_split : (is : List ℕ) (p : ℕ) → times_of line (take p is) + times_of line (drop p is) ≡ times_of line is
@@ -70,16 +74,40 @@ module _ (line : Line) (c : ℕ) where
     pub x : s.x ≡ position c from
     pub width : s.width ≡ position c to - position c from
 
-  pub front_at : (sum : ℕ) (is : List ℕ) (p : ℕ) (s : Segment) → slice_get (fronts_from line c sum is) p ≡ Some s → IsFrontAt sum is p s
+  pub front_at : (sum : ℕ) (is : List ℕ) (p : ℕ) (s : Segment) → slice_get (fronts_from line c sum is) p ≡ Some s
+      → IsFrontAt sum is p s
   front_at sum [] p s e = absurd (cc)
   front_at sum (i ∷ is) zero s e =
       subst (λ r. IsFrontAt sum (i ∷ is) zero r) (some_same _ s e)
-      (record { from = sum; to = sum + time line i; task = refl; side = refl; lasts = refl; begins = omega arith; after = omega arith; ends = refl; x = refl; width = refl })
+      (record {
+        from = sum;
+        to = sum + time line i;
+        task = refl;
+        side = refl;
+        lasts = refl;
+        begins = omega arith;
+        after = omega arith;
+        ends = refl;
+        x = refl;
+        width = refl;
+      })
   front_at sum (i ∷ is) (suc p) s e =
       let h = front_at (sum + time line i) is p s e in
-      record { from = h.from; to = h.to; task = h.task; side = h.side; lasts = h.lasts; begins = omega (arith, h.begins); after = omega (arith, h.after); ends = h.ends; x = h.x; width = h.width }
+      record {
+        from = h.from;
+        to = h.to;
+        task = h.task;
+        side = h.side;
+        lasts = h.lasts;
+        begins = omega (arith, h.begins);
+        after = omega (arith, h.after);
+        ends = h.ends;
+        x = h.x;
+        width = h.width;
+      }
 
-  pub front_has : (sum : ℕ) (is : List ℕ) (p i : ℕ) → slice_get is p ≡ Some i → (s : Segment) × ((slice_get (fronts_from line c sum is) p ≡ Some s) × (s.task ≡ i))
+  pub front_has : (sum : ℕ) (is : List ℕ) (p i : ℕ) → slice_get is p ≡ Some i
+      → (s : Segment) × ((slice_get (fronts_from line c sum is) p ≡ Some s) × (s.task ≡ i))
   front_has sum [] p i e = absurd (cc)
   front_has sum (j ∷ is) zero i e = (_, (refl, some_same j i e))
   front_has sum (j ∷ is) (suc p) i e = front_has (sum + time line j) is p i e
@@ -105,12 +133,35 @@ module _ (line : Line) (c : ℕ) where
   back_at [] p s e = absurd (cc)
   back_at (i ∷ is) zero s e =
       subst (λ r. IsBackAt (i ∷ is) zero r) (some_same _ s e)
-      (record { from = time line i + times_of line is; to = times_of line is; task = refl; side = refl; lasts = refl; begins = refl; after = refl; ends = omega arith; x = refl; width = refl })
+      (record {
+        from = time line i + times_of line is;
+        to = times_of line is;
+        task = refl;
+        side = refl;
+        lasts = refl;
+        begins = refl;
+        after = refl;
+        ends = omega arith;
+        x = refl;
+        width = refl;
+      })
   back_at (i ∷ is) (suc p) s e =
       let h = back_at is p s e in
-      record { from = h.from; to = h.to; task = h.task; side = h.side; lasts = h.lasts; begins = h.begins; after = h.after; ends = h.ends; x = h.x; width = h.width }
+      record {
+        from = h.from;
+        to = h.to;
+        task = h.task;
+        side = h.side;
+        lasts = h.lasts;
+        begins = h.begins;
+        after = h.after;
+        ends = h.ends;
+        x = h.x;
+        width = h.width;
+      }
 
-  pub back_has : (is : List ℕ) (p i : ℕ) → slice_get is p ≡ Some i → (s : Segment) × ((slice_get (backs_of line c is) p ≡ Some s) × (s.task ≡ i))
+  pub back_has : (is : List ℕ) (p i : ℕ) → slice_get is p ≡ Some i
+      → (s : Segment) × ((slice_get (backs_of line c is) p ≡ Some s) × (s.task ≡ i))
   back_has [] p i e = absurd (cc)
   back_has (j ∷ is) zero i e = (_, (refl, some_same j i e))
   back_has (j ∷ is) (suc p) i e = back_has is p i e
@@ -120,10 +171,17 @@ module _ (line : Line) (c : ℕ) where
   length-backs (i ∷ is) = ap suc (length-backs is)
 
   -- the segments of a side are those of its tasks
-  pub front_fronts : (sum : ℕ) (is : List ℕ) → filter (is_of Front) (fronts_from line c sum is) ≡ fronts_from line c sum is
+  pub front_fronts : (sum : ℕ) (is : List ℕ) → filter (is_of Front) (fronts_from line c sum is)
+      ≡ fronts_from line c sum is
   front_fronts sum [] = refl
   front_fronts sum (i ∷ is) =
-      ap (λ (t : List Segment). record { task = i; side = Front; time = time line i; x = position c sum; width = position c (sum + time line i) - position c sum } ∷ t) (front_fronts (sum + time line i) is)
+      ap (λ (t : List Segment). record {
+        task = i;
+        side = Front;
+        time = time line i;
+        x = position c sum;
+        width = position c (sum + time line i) - position c sum;
+      } ∷ t) (front_fronts (sum + time line i) is)
 
   pub back_fronts : (sum : ℕ) (is : List ℕ) → filter (is_of Back) (fronts_from line c sum is) ≡ []
   back_fronts sum [] = refl
@@ -136,7 +194,13 @@ module _ (line : Line) (c : ℕ) where
   pub back_backs : (is : List ℕ) → filter (is_of Back) (backs_of line c is) ≡ backs_of line c is
   back_backs [] = refl
   back_backs (i ∷ is) =
-      ap (λ (t : List Segment). record { task = i; side = Back; time = time line i; x = 800 - position c (time line i + times_of line is); width = position c (time line i + times_of line is) - position c (times_of line is) } ∷ t) (back_backs is)
+      ap (λ (t : List Segment). record {
+        task = i;
+        side = Back;
+        time = time line i;
+        x = 800 - position c (time line i + times_of line is);
+        width = position c (time line i + times_of line is) - position c (times_of line is);
+      } ∷ t) (back_backs is)
 
   module _ (some : 1 ≤ c) (fs bs : List ℕ) (fit : times_of line fs + times_of line bs ≤ c) where
     front_end : (p : ℕ) (s : Segment) (h : IsFrontAt 0 fs p s) → end_of s ≡ position c h.to
@@ -219,17 +283,24 @@ module _ (line : Line) (c : ℕ) where
         let same : h.from + s.time ≡ h.to = omega (arith, h.ends, h.lasts) in
         let there : position c (h.from + s.time) ≡ position c h.from + s.width =
         ap (position c) same ∙ omega (arith, h.width, rises c some h.from h.to (omega (arith, h.ends))) in
-        record { above = between_above c some h.from s.time s.width there; below = between_below c some h.from s.time s.width there }
+        record {
+          above = between_above c some h.from s.time s.width there;
+          below = between_below c some h.from s.time s.width there;
+        }
 
     pub back_length : (p : ℕ) (s : Segment) → IsBackAt bs p s → IsTrueLength c s
     back_length p s h =
         let same : h.to + s.time ≡ h.from = omega (arith, h.ends, h.lasts) in
         let there : position c (h.to + s.time) ≡ position c h.to + s.width =
         ap (position c) same ∙ omega (arith, h.width, rises c some h.to h.from (omega (arith, h.ends))) in
-        record { above = between_above c some h.to s.time s.width there; below = between_below c some h.to s.time s.width there }
+        record {
+          above = between_above c some h.to s.time s.width there;
+          below = between_below c some h.to s.time s.width there;
+        }
 
     -- each segment ends within the row
-    pub within_at : (p : ℕ) (s : Segment) → slice_get (fronts_from line c 0 fs ++ backs_of line c bs) p ≡ Some s → end_of s ≤ 800
+    pub within_at : (p : ℕ) (s : Segment) → slice_get (fronts_from line c 0 fs ++ backs_of line c bs) p ≡ Some s
+        → end_of s ≤ 800
     within_at p s e = elim (get_cases (fronts_from line c 0 fs) (backs_of line c bs) p s e) [
       | inl h ↦ front_within p s (front_at 0 fs p s h)
       | inr h ↦ back_within h.0 s (back_at bs h.0 s h.2)

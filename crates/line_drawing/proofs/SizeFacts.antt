@@ -1,5 +1,7 @@
 -- How long the text of a picture is: at most 1,000 bytes, 500 for each station and 120 for each task.
-use Rattle.std.proofs.Common.{◌≡◌, ℕ, suc, ◌+◌, ◌-◌, ◌*◌, ◌/◌, ◌%◌, ◌^◌, ◌<◌, ◌≤◌, Bool, true, false, cond, not, nat_eq, nat_lt, List, [], ◌∷◌, ◌++◌, length, length-append, refl, ap, ◌∙◌, ◌⊎◌, inl, inr, arith, codes, decimal}
+use Rattle.std.proofs.Common.{◌≡◌, ℕ, suc, ◌+◌, ◌-◌, ◌*◌, ◌/◌, ◌%◌, ◌^◌, ◌<◌, ◌≤◌, Bool, true, false, cond, not, nat_eq}
+use Rattle.std.proofs.Common.{nat_lt, List, [], ◌∷◌, ◌++◌, length, length-append, refl, ap, ◌∙◌, ◌⊎◌, inl, inr, arith}
+use Rattle.std.proofs.Common.{codes, decimal}
 use Rattle.std.specs.Prelude.{filter, map}
 use Rattle.std.proofs.Math.Nat.{div-le_of_le-mul, div-le_self, mod-lt, mul-le-mul_right}
 use Rattle.std.proofs.lemmas.Bool.{cases_lt}
@@ -17,8 +19,15 @@ use Rattle.line_drawing.specs.Parts.{text_of}
 use Rattle.line_drawing.specs.Segments.{end_of, is_side}
 use Rattle.line_drawing.specs.Notes.{blanked, is_narrow, joined, narrow_numbers, note_of, number_of}
 use Rattle.line_drawing.specs.Figures.{AreFigures, efficiency_of, height_of, idle_of, width_of}
-use Rattle.line_drawing.specs.Rows.{back_text, backs_text, columns_parts, columns_text, each_where, front_text, has_side, is_of, label_parts, label_text, labels_text, margin_parts, margin_text, number_text, numbers_text, opening_text, path_parts, path_text, place_parts, place_text, row_text, slowest_parts, slowest_text, tasks_text, times_parts, times_text}
-use Rattle.line_drawing.specs.Drawing.{above_text, ask_word, bounds_text, end_parts, end_text, ground_parts, ground_text, head_text, headings_parts, headings_text, kind_word, legend_text, notes_parts, notes_text, size_parts, size_text, station_word, top_text, totals_parts, totals_text}
+use Rattle.line_drawing.specs.Rows.{back_text, backs_text, columns_parts, columns_text, each_where, front_text}
+use Rattle.line_drawing.specs.Rows.{has_side, is_of, label_parts, label_text, labels_text, margin_parts, margin_text}
+use Rattle.line_drawing.specs.Rows.{number_text, numbers_text, opening_text, path_parts, path_text, place_parts}
+use Rattle.line_drawing.specs.Rows.{place_text, row_text, slowest_parts, slowest_text, tasks_text, times_parts}
+use Rattle.line_drawing.specs.Rows.{times_text}
+use Rattle.line_drawing.specs.Drawing.{above_text, ask_word, bounds_text, end_parts, end_text, ground_parts}
+use Rattle.line_drawing.specs.Drawing.{ground_text, head_text, headings_parts, headings_text, kind_word, legend_text}
+use Rattle.line_drawing.specs.Drawing.{notes_parts, notes_text, size_parts, size_text, station_word, top_text}
+use Rattle.line_drawing.specs.Drawing.{totals_parts, totals_text}
 use Rattle.line_drawing.proofs.NoteFacts.{count_short}
 
 -- the lengths of parts together
@@ -36,10 +45,12 @@ len3 a b c = omega (arith, length-append (a ++ b) c, length-append a b)
 len5 : (a b c d e : List ℕ) → length (a ++ b ++ c ++ d ++ e) ≡ length a + length b + length c + length d + length e
 len5 a b c d e = omega (arith, len3 (a ++ b ++ c) d e, len3 a b c)
 
-len6 : (a b c d e f : List ℕ) → length (a ++ b ++ c ++ d ++ e ++ f) ≡ length a + length b + length c + length d + length e + length f
+len6 : (a b c d e f : List ℕ) → length (a ++ b ++ c ++ d ++ e ++ f)
+    ≡ length a + length b + length c + length d + length e + length f
 len6 a b c d e f = omega (arith, len3 (a ++ b ++ c ++ d) e f, len3 (a ++ b) c d, length-append a b)
 
-len8 : (a b c d e f g h : List ℕ) → length (a ++ b ++ c ++ d ++ e ++ f ++ g ++ h) ≡ length a + length b + length c + length d + length e + length f + length g + length h
+len8 : (a b c d e f g h : List ℕ) → length (a ++ b ++ c ++ d ++ e ++ f ++ g ++ h)
+    ≡ length a + length b + length c + length d + length e + length f + length g + length h
 len8 a b c d e f g h = omega (arith, len3 (a ++ b ++ c ++ d ++ e ++ f) g h, len6 a b c d e f)
 
 -- a number below a power of ten has as few digits
@@ -76,7 +87,8 @@ cond_most false x y m h k = k
 
 -- what stands above the rows and below them
 word_most : (n : ℕ) → length (station_word n) ≤ 22
-word_most n = cond_most (nat_eq n 1) (codes " station, cycle time ") (codes " stations, cycle time ") 22 (omega arith) (omega arith)
+word_most n = cond_most (nat_eq n 1) (codes " station, cycle time ") (codes " stations, cycle time ") 22 (omega arith)
+    (omega arith)
 
 -- the name of the kind, twice, and the legend
 kind_most : (k : LineKind) → length (kind_word k) + length (kind_word k) + length (legend_text k) ≤ 81
@@ -87,7 +99,8 @@ ask_most : (a : Ask) → length (ask_word a) ≤ 12
 ask_most (Stations cycle) = omega arith
 ask_most (Cycle stations) = omega arith
 
-bounds_most : (a : Ask) (lower upper : ℕ) → lower ≤ 1000000000000000000 → upper ≤ 1000000000000000000 → length (bounds_text a lower upper) ≤ 69
+bounds_most : (a : Ask) (lower upper : ℕ) → lower ≤ 1000000000000000000 → upper ≤ 1000000000000000000
+    → length (bounds_text a lower upper) ≤ 69
 bounds_most a lower upper l u =
     let wide : List ℕ = codes "at least " ++ decimal lower ++ codes ", at most " ++ decimal upper in
     let wide_most : length wide ≤ 57 = omega (
@@ -104,7 +117,8 @@ bounds_most a lower upper l u =
       ask_most a,
     )
 
-module _ (f : Figures) (ok : AreFigures f) (total : f.total < 1000000000000000000) (longest : f.longest < 1000000000000000000) (percent : efficiency_of f ≤ 1000) where
+module _ (f : Figures) (ok : AreFigures f) (total : f.total < 1000000000000000000)
+    (longest : f.longest < 1000000000000000000) (percent : efficiency_of f ≤ 1000) where
   wide : length (decimal (width_of f)) ≤ 4
   wide = four_digits (width_of f) (omega (arith, ok.column, ok.notes))
 
@@ -124,7 +138,8 @@ module _ (f : Figures) (ok : AreFigures f) (total : f.total < 100000000000000000
       )
 
   percent_most : length (decimal (efficiency_of f / 10)) ≤ 3
-  percent_most = three_digits (efficiency_of f / 10) (omega (arith, div-le_of_le-mul 10 {m = efficiency_of f} {n = 100} (omega (arith, percent))))
+  percent_most = three_digits (efficiency_of f / 10) (omega
+      (arith, div-le_of_le-mul 10 {m = efficiency_of f} {n = 100} (omega (arith, percent))))
 
   tenths_most : length (decimal (efficiency_of f % 10)) ≤ 1
   tenths_most = one_digit (efficiency_of f % 10) (mod-lt (efficiency_of f) (omega arith))
@@ -164,7 +179,8 @@ module _ (f : Figures) (ok : AreFigures f) (total : f.total < 100000000000000000
   -- all of it, but for the digits of numbers that few stations keep small
   around_most : (a : Ask) (lower upper : ℕ) → lower ≤ 1000000000000000000 → upper ≤ 1000000000000000000
       → length (above_text f a lower upper) + length (end_text f)
-      ≤ 984 + 2 * length (decimal f.stations) + 3 * length (decimal (height_of f)) + length (decimal (idle_of f)) + length (decimal (24 * f.stations + 6))
+      ≤ 984 + 2 * length (decimal f.stations) + 3 * length (decimal (height_of f)) + length
+      (decimal (idle_of f)) + length (decimal (24 * f.stations + 6))
   around_most a lower upper l u = omega (
     arith,
     len6 (top_text f) (bounds_text a lower upper) (totals_text f) (legend_text f.kind) (notes_text f) (headings_text f),
@@ -186,7 +202,8 @@ module _ (f : Figures) (ok : AreFigures f) (total : f.total < 100000000000000000
   idle_most : length (decimal (idle_of f)) ≤ 22
   idle_most = digits_22 (idle_of f) (omega (arith, mul-le-mul_right f.cycle ok.few, ok.limit))
 
-  around_small : (a : Ask) (lower upper : ℕ) → lower ≤ 1000000000000000000 → upper ≤ 1000000000000000000 → f.stations ≤ 9
+  around_small : (a : Ask) (lower upper : ℕ) → lower ≤ 1000000000000000000 → upper ≤ 1000000000000000000
+      → f.stations ≤ 9
       → length (above_text f a lower upper) + length (end_text f) ≤ 1017
   around_small a lower upper l u h = omega (
     arith,
@@ -254,17 +271,25 @@ named_most : (s : Segment) → IsSmall s → length (number_text s) ≤ 5
 named_most s h = omega (arith, length-append (codes " ") (decimal (number_of s)), number_most s h)
 
 -- a text that stands on one of two sides
-one_side : (side : Side) (x : List ℕ) → length (cond (is_side side Front) x []) + length (cond (is_side side Back) x []) ≡ length x
+one_side : (side : Side) (x : List ℕ) → length (cond (is_side side Front) x []) + length (cond (is_side side Back) x [])
+    ≡ length x
 one_side Front x = omega arith
 one_side Back x = omega arith
 
 -- a number stands in its segment or in the note
 noted_or : (b : Bool) (s : Segment) (rest : List Segment) → IsSmall s
-    → length (cond (not b) (label_text s) []) + length (blanked (map number_of (cond b (s ∷ rest) rest))) ≤ 26 + length (blanked (map number_of rest))
-noted_or true s rest h = omega (arith, length-append (codes " " ++ decimal (number_of s)) (blanked (map number_of rest)), named_most s h)
+    → length (cond (not b) (label_text s) []) + length (blanked (map number_of (cond b (s ∷ rest) rest)))
+    ≤ 26 + length (blanked (map number_of rest))
+noted_or true s rest h = omega (
+  arith,
+  length-append (codes " " ++ decimal (number_of s))
+      (blanked (map number_of rest)),
+  named_most s h,
+)
 noted_or false s rest h = omega (arith, label_most s h)
 
-each_first : (p : Segment → Bool) (t : Segment → List ℕ) (s : Segment) (ss : List Segment) → length (each_where p t (s ∷ ss)) ≡ length (cond (p s) (t s) []) + length (each_where p t ss)
+each_first : (p : Segment → Bool) (t : Segment → List ℕ) (s : Segment) (ss : List Segment)
+    → length (each_where p t (s ∷ ss)) ≡ length (cond (p s) (t s) []) + length (each_where p t ss)
 each_first p t s ss = length-append (cond (p s) (t s) []) (each_where p t ss)
 
 -- what stands of segments in a row, with the numbers of the narrow ones
@@ -300,7 +325,8 @@ joined_most (n ∷ ns) = omega (
 
 -- a note is no longer than the numbers that it stands for, and at most 40 bytes
 note_cases : (b : Bool) (ns : List ℕ) → nat_lt 40 (length (joined ns)) ≡ b → length ns < 2 ^ 64
-    → (length (cond b (decimal (length ns) ++ codes " tasks") (joined ns)) ≤ length (blanked ns)) × (length (cond b (decimal (length ns) ++ codes " tasks") (joined ns)) ≤ 40)
+    → (length (cond b (decimal (length ns) ++ codes " tasks") (joined ns)) ≤ length (blanked ns))
+    × (length (cond b (decimal (length ns) ++ codes " tasks") (joined ns)) ≤ 40)
 note_cases true ns e h =
     let long : 40 < length (joined ns) = grind (arith, nat_tests, e) in
     (omega (arith, long, joined_most ns, count_short (length ns) h), count_short (length ns) h)
@@ -312,18 +338,27 @@ few_narrow : (ss : List Segment) → length (narrow_numbers ss) ≤ length ss
 few_narrow [] = omega arith
 few_narrow (s ∷ ss) = by (is_narrow s) (few_narrow ss)
   where
-    by : (b : Bool) → length (map number_of (filter is_narrow ss)) ≤ length ss → length (map number_of (cond b (s ∷ filter is_narrow ss) (filter is_narrow ss))) ≤ suc (length ss)
+    by : (b : Bool) → length (map number_of (filter is_narrow ss)) ≤ length ss
+        → length (map number_of (cond b (s ∷ filter is_narrow ss) (filter is_narrow ss))) ≤ suc (length ss)
     by true h = omega (arith, h)
     by false h = omega (arith, h)
 
-pub note_most : (ss : List Segment) → length ss ≤ 1024 → (length (note_of ss) ≤ length (blanked (narrow_numbers ss))) × (length (note_of ss) ≤ 40)
-note_most ss few = note_cases (nat_lt 40 (length (joined (narrow_numbers ss)))) (narrow_numbers ss) refl (omega (arith, few_narrow ss, few))
+pub note_most : (ss : List Segment) → length ss ≤ 1024 → (length (note_of ss) ≤ length (blanked (narrow_numbers ss)))
+    × (length (note_of ss) ≤ 40)
+note_most ss few = note_cases (nat_lt 40 (length (joined (narrow_numbers ss)))) (narrow_numbers ss) refl
+    (omega (arith, few_narrow ss, few))
 
-back_most : (kind : LineKind) (ss : List Segment) → length (back_text kind ss) ≤ 38 + length (each_where (is_of Back) path_text ss)
+back_most : (kind : LineKind) (ss : List Segment) → length (back_text kind ss)
+    ≤ 38 + length (each_where (is_of Back) path_text ss)
 back_most Straight ss = omega arith
-back_most U ss = omega (arith, len3 (codes "<g fill=\"#76a5d8\" stroke=\"#000\">\n") (each_where (is_of Back) path_text ss) (codes "</g>\n"))
+back_most U ss = omega (
+  arith,
+  len3 (codes "<g fill=\"#76a5d8\" stroke=\"#000\">\n")
+      (each_where (is_of Back) path_text ss) (codes "</g>\n"),
+)
 
-module _ (f : Figures) (ok : AreFigures f) (k sum : ℕ) (one : k ≤ 1024) (below : sum < 1000000000000000000) (ss : List Segment) (few : length ss ≤ 1024) (small : AreSmall ss) where
+module _ (f : Figures) (ok : AreFigures f) (k sum : ℕ) (one : k ≤ 1024) (below : sum < 1000000000000000000)
+    (ss : List Segment) (few : length ss ≤ 1024) (small : AreSmall ss) where
   left : length (decimal (f.cycle - sum)) ≤ 19
   left = nineteen_digits (f.cycle - sum) (omega (arith, ok.limit))
 
@@ -335,7 +370,8 @@ module _ (f : Figures) (ok : AreFigures f) (k sum : ℕ) (one : k ≤ 1024) (bel
     five_digits (88 + 24 * k) (omega (arith, one)),
     four_digits k (omega (arith, one)),
     length-append (numbers_text Front ss) (backs_text ss),
-    cond_most (has_side Back ss) (codes " back" ++ numbers_text Back ss) [] (5 + length (numbers_text Back ss)) (omega (arith, length-append (codes " back") (numbers_text Back ss))) (omega arith),
+    cond_most (has_side Back ss) (codes " back" ++ numbers_text Back ss) [] (5 + length (numbers_text Back ss))
+        (omega (arith, length-append (codes " back") (numbers_text Back ss))) (omega arith),
     length-text_of (times_parts f sum),
     eighteen_digits sum below,
     left,
@@ -344,13 +380,15 @@ module _ (f : Figures) (ok : AreFigures f) (k sum : ℕ) (one : k ≤ 1024) (bel
   front_most : length (front_text ss) ≤ 94 + length (each_where (is_of Front) path_text ss)
   front_most = omega (
     arith,
-    len3 (codes "<path fill=\"#fff\" stroke=\"#888\" d=\"M0-14v20h800v-20z\"/>\n<g fill=\"#cfe2f6\" stroke=\"#467\">\n") (each_where (is_of Front) path_text ss) (codes "</g>\n"),
+    len3 (codes "<path fill=\"#fff\" stroke=\"#888\" d=\"M0-14v20h800v-20z\"/>\n<g fill=\"#cfe2f6\" stroke=\"#467\">\n")
+        (each_where (is_of Front) path_text ss) (codes "</g>\n"),
   )
 
   labels_most : length (labels_text ss) ≤ 52 + length (each_where (λ s. not (is_narrow s)) label_text ss)
   labels_most = omega (
     arith,
-    len3 (codes "<g text-anchor=\"middle\" pointer-events=\"none\">\n") (each_where (λ s. not (is_narrow s)) label_text ss) (codes "</g>\n"),
+    len3 (codes "<g text-anchor=\"middle\" pointer-events=\"none\">\n")
+        (each_where (λ s. not (is_narrow s)) label_text ss) (codes "</g>\n"),
   )
 
   columns_most : length (columns_text f k sum) ≤ 106
@@ -366,17 +404,24 @@ module _ (f : Figures) (ok : AreFigures f) (k sum : ℕ) (one : k ≤ 1024) (bel
 
   slowest_most : length (slowest_text f sum) ≤ 30
   slowest_most = cond_most (nat_eq sum f.longest) (text_of (slowest_parts f)) [] 30
-      (omega (arith, length-text_of (slowest_parts f), four_digits (860 + 2 * f.column) (omega (arith, ok.column)))) (omega arith)
+      (omega (arith, length-text_of (slowest_parts f), four_digits (860 + 2 * f.column) (omega (arith, ok.column))))
+      (omega arith)
 
   margin_most : length (margin_text f (note_of ss)) ≤ 43 + length (note_of ss)
-  margin_most = cond_most (nat_eq (length (note_of ss)) 0) [] (text_of (margin_parts f (note_of ss))) (43 + length (note_of ss)) (omega arith)
-      (omega (arith, length-text_of (margin_parts f (note_of ss)), four_digits (872 + 2 * f.column) (omega (arith, ok.column))))
+  margin_most = cond_most (nat_eq (length (note_of ss)) 0) [] (text_of (margin_parts f (note_of ss)))
+      (43 + length (note_of ss)) (omega arith)
+      (omega (
+        arith,
+        length-text_of (margin_parts f (note_of ss)),
+        four_digits (872 + 2 * f.column) (omega (arith, ok.column)),
+      ))
 
   -- a row has room for itself and for its tasks
   pub row_most : length (row_text f k sum ss (note_of ss)) ≤ 488 + 115 * length ss
   row_most = omega (
     arith,
-    len8 (opening_text f k sum ss) (front_text ss) (back_text f.kind ss) (labels_text ss) (columns_text f k sum) (slowest_text f sum) (margin_text f (note_of ss)) (codes "</g>\n"),
+    len8 (opening_text f k sum ss) (front_text ss) (back_text f.kind ss) (labels_text ss) (columns_text f k sum)
+        (slowest_text f sum) (margin_text f (note_of ss)) (codes "</g>\n"),
     opening_most,
     front_most,
     back_most f.kind ss,

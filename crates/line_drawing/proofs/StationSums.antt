@@ -14,7 +14,15 @@ pub one_more : (line : Line) (ps : List Seatplace) (station k sum t : ℕ) → t
     → t ≡ cond (nat_eq (seat ps k).station station) (time line k) 0
     → sum + t ≡ sum_where (at_station line ps station) (take (k + 1) line.times)
 one_more line ps station k sum t small within so_far this =
-    let there : cond (at_station line ps station k) (time line k) 0 ≡ cond (nat_eq (seat ps k).station station) (time line k) 0 =
+    let there : cond (at_station line ps station k) (time line k) 0
+    ≡ cond (nat_eq (seat ps k).station station) (time line k) 0 =
     ap (λ b. cond (b && nat_eq (seat ps k).station station) (time line k) 0) (In-all line k small within) in
     let step = weigh-take (λ w. w) (at_station line ps station) k line.times within in
-    omega (arith, so_far, this, there, ap (λ n. sum_where (at_station line ps station) (take n line.times)) (add-one k), step)
+    omega (
+      arith,
+      so_far,
+      this,
+      there,
+      ap (λ n. sum_where (at_station line ps station) (take n line.times)) (add-one k),
+      step,
+    )

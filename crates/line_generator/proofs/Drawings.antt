@@ -1,5 +1,6 @@
 -- What is drawn makes a line: so many times within the limit, and arcs that lead on and so in no ring.
-use Rattle.std.proofs.Common.{◌≡◌, ℕ, zero, suc, ◌+◌, ◌-◌, ◌/◌, ◌%◌, ◌<◌, ◌≤◌, Bool, true, false, cond, List, [], ◌∷◌, ◌++◌, length, get_or, refl, sym, ap, arith, inl, inr, length-append}
+use Rattle.std.proofs.Common.{◌≡◌, ℕ, zero, suc, ◌+◌, ◌-◌, ◌/◌, ◌%◌, ◌<◌, ◌≤◌, Bool, true, false, cond, List, [], ◌∷◌}
+use Rattle.std.proofs.Common.{◌++◌, length, get_or, refl, sym, ap, arith, inl, inr, length-append}
 use Rattle.std.specs.Prelude.{nat_eq}
 use Rattle.std.specs.List.{Contains}
 use Rattle.std.proofs.lemmas.Nat.{mod_below}
@@ -69,7 +70,8 @@ are_times seed n some few = record {
 }
 
 -- an arc to a task comes from an earlier one
-one_on : (b : Bool) (v t : ℕ) (p : Prec) → 0 < t → Contains (cond b (record { first = v / 2 % t; «then» = t } ∷ []) []) p → (p.first < p.«then») × (p.«then» ≡ t)
+one_on : (b : Bool) (v t : ℕ) (p : Prec) → 0 < t → Contains (cond b (record { first = v / 2 % t; «then» = t } ∷ []) [])
+    p → (p.first < p.«then») × (p.«then» ≡ t)
 one_on true v t p o (zero, l, e) =
     let f : v / 2 % t ≡ p.first = ap (λ (q : Prec). q.first) e in
     let s : t ≡ p.«then» = ap (λ (q : Prec). q.«then») e in
@@ -83,12 +85,14 @@ lead_on seed zero p (k, l, e) = omega (arith, l)
 lead_on seed (suc zero) p (k, l, e) = omega (arith, l)
 lead_on seed (suc (suc n)) p m = elim (Contains-append_cases (arcs_of seed (suc n)) (arc_of seed (suc n)) p m) [
   | inl before ↦ (let h = lead_on seed (suc n) p before in (h.0, omega (arith, h.1)))
-  | inr here ↦ (let v = word (next (in_front seed (suc n))) in let h = one_on (nat_eq (v % 2) 0) v (suc n) p (omega arith) here in (h.0, omega (arith, h.1)))
+  | inr here ↦ (let v = word (next (in_front seed (suc n))) in
+      let h = one_on (nat_eq (v % 2) 0) v (suc n) p (omega arith) here in (h.0, omega (arith, h.1)))
 ]
 
 pub are_arcs : (seed n : ℕ) → AreArcs n (arcs_of seed n)
 are_arcs seed n = λ k l.
-    let h = lead_on seed n (arc_at (arcs_of seed n) k) (Contains-get_or (arcs_of seed n) k (record { first = 0; «then» = 0 }) l) in
+    let h = lead_on seed n (arc_at (arcs_of seed n) k) (Contains-get_or (arcs_of seed n) k
+    (record { first = 0; «then» = 0 }) l) in
     (omega (arith, h.0, h.1), h.1)
 
 -- the last arc of a ring leads to its least task
@@ -96,5 +100,6 @@ pub no_ring : (seed n : ℕ) (ring : List ℕ) → IsRing (arcs_of seed n) ring 
 no_ring seed n ring r =
     let last : ℕ = length ring - 1 in
     let some = r.some in
-    let lead = lead_on seed n (record { first = at ring last; «then» = at ring 0 }) (r.closes last (omega (arith, some))) in
+    let lead = lead_on seed n (record { first = at ring last; «then» = at ring 0 })
+    (r.closes last (omega (arith, some))) in
     omega (arith, lead.0, r.least last (omega (arith, some)))

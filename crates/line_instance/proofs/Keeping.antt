@@ -1,5 +1,6 @@
 -- The kept partners of a task, one task after the other.
-use Rattle.std.proofs.Common.{◌≡◌, ℕ, zero, suc, ◌+◌, ◌<◌, ◌≤◌, Bool, false, Some, List, [], ◌∷◌, length, set, take, refl, sym, ap, ◌∙◌, subst, ◌⊎◌, inl, inr, arith}
+use Rattle.std.proofs.Common.{◌≡◌, ℕ, zero, suc, ◌+◌, ◌<◌, ◌≤◌, Bool, false, Some, List, [], ◌∷◌, length, set, take}
+use Rattle.std.proofs.Common.{refl, sym, ap, ◌∙◌, subst, ◌⊎◌, inl, inr, arith}
 use Rattle.std.specs.List.{slice_get}
 use Rattle.std.proofs.Math.ListN.{length-set}
 use Rattle.std.proofs.lemmas.List.{get_or-set_same, get_or-set_other, get_or-take, get_or_past, length-take-le}
@@ -20,7 +21,8 @@ pub In-without_parts : (s : List Bool) (i k : ℕ) → In (set s i false) k → 
 In-without_parts s i k m =
     let gone : k ≡ i → ⊥ = λ e. (let P : ℕ → Type 0 = λ x. In (set s i false) x in elim (cases_lt i (length s)) [
       | inl l ↦ false≢true (sym (get_or-set_same s i false false l) ∙ subst P e m)
-      | inr g ↦ false≢true (sym (get_or_past (set s i false) i false (omega (arith, length-set s i false))) ∙ subst P e m)
+      | inr g ↦ false≢true (sym (get_or_past (set s i false) i false (omega (arith, length-set s i false)))
+          ∙ subst P e m)
     ]) in
     (sym (get_or-set_other s i k false false gone) ∙ m, gone)
 
@@ -31,7 +33,8 @@ pub record IsKeeping (line : Line) (i : ℕ) (kept : Kept) (j : ℕ) : Type 0 wh
   pub rises : (k : ℕ) → k + 1 < kept.many → at kept.tasks k < at kept.tasks (k + 1)
   pub right : (k : ℕ) → k < kept.many → IsPartner line i (at kept.tasks k)
   pub below : (k : ℕ) → k < kept.many → at kept.tasks k < j
-  pub first : (p : ℕ) → p < j → IsPartner line i p → ((k : ℕ) × (k < kept.many) × (at kept.tasks k ≡ p)) ⊎ ((kept.many ≡ 8) × ((k : ℕ) → k < kept.many → at kept.tasks k < p))
+  pub first : (p : ℕ) → p < j → IsPartner line i p → ((k : ℕ) × (k < kept.many) × (at kept.tasks k ≡ p))
+      ⊎ ((kept.many ≡ 8) × ((k : ℕ) → k < kept.many → at kept.tasks k < p))
 
 pub none_kept : (line : Line) (i : ℕ) (kept : Kept) → length kept.tasks ≡ 8 → kept.many ≡ 0 → IsKeeping line i kept 0
 none_kept line i kept l e = record {
@@ -43,11 +46,14 @@ none_kept line i kept l e = record {
   first = λ p h q. absurd (omega arith);
 }
 
-pub one_kept : (line : Line) (i : ℕ) (kept : Kept) (j : ℕ) → kept.many < 8 → IsPartner line i j → IsKeeping line i kept j → IsKeeping line i (record { tasks = set kept.tasks kept.many j; many = kept.many + 1 }) (j + 1)
+pub one_kept : (line : Line) (i : ℕ) (kept : Kept) (j : ℕ) → kept.many < 8 → IsPartner line i j
+    → IsKeeping line i kept j → IsKeeping line i (record { tasks = set kept.tasks kept.many j; many = kept.many + 1 })
+    (j + 1)
 one_kept line i kept j room p f =
     let new : List ℕ = set kept.tasks kept.many j in
     let here : at new kept.many ≡ j = get_or-set_same kept.tasks kept.many j 0 (omega (arith, f.room)) in
-    let there : (k : ℕ) → k < kept.many → at new k ≡ at kept.tasks k = λ k l. get_or-set_other kept.tasks kept.many k j 0 (λ e. omega arith) in
+    let there : (k : ℕ) → k < kept.many → at new k ≡ at kept.tasks k =
+    λ k l. get_or-set_other kept.tasks kept.many k j 0 (λ e. omega arith) in
     let last : (k : ℕ) → k ≡ kept.many → at new k ≡ j = λ k e. ap (at new) e ∙ here in
     record {
       room = length-set kept.tasks kept.many j ∙ f.room;
@@ -73,7 +79,8 @@ one_kept line i kept j room p f =
       ];
     }
 
-pub same_kept : (line : Line) (i : ℕ) (kept : Kept) (j : ℕ) → (IsPartner line i j → 8 ≤ kept.many) → IsKeeping line i kept j → IsKeeping line i kept (j + 1)
+pub same_kept : (line : Line) (i : ℕ) (kept : Kept) (j : ℕ) → (IsPartner line i j → 8 ≤ kept.many)
+    → IsKeeping line i kept j → IsKeeping line i kept (j + 1)
 same_kept line i kept j n f = record {
   room = f.room;
   few = f.few;
@@ -81,22 +88,40 @@ same_kept line i kept j n f = record {
   right = f.right;
   below = λ k l. omega (arith, f.below k l);
   first = λ q l r. elim (cases_eq q j) [
-    | inl e ↦ (let P : ℕ → Type 0 = λ x. IsPartner line i x in inr (omega (arith, n (subst P e r), f.few), λ k h. omega (arith, e, f.below k h)))
+    | inl e ↦ (let P : ℕ → Type 0 = λ x. IsPartner line i x in
+        inr (omega (arith, n (subst P e r), f.few), λ k h. omega (arith, e, f.below k h)))
     | inr d ↦ f.first q (omega arith) r
   ];
 }
 
 pub all_kept : (line : Line) (i : ℕ) (kept : Kept) → IsKeeping line i kept (tasks line) → AreKept line i (kept_of kept)
 all_kept line i kept f =
-    let long : length (take kept.many kept.tasks) ≡ kept.many = length-take-le kept.many kept.tasks (omega (arith, f.room, f.few)) in
-    let same : (k : ℕ) → k < kept.many → at (take kept.many kept.tasks) k ≡ at kept.tasks k = λ k l. get_or-take kept.many kept.tasks k 0 l in
+    let long : length (take kept.many kept.tasks) ≡ kept.many =
+    length-take-le kept.many kept.tasks (omega (arith, f.room, f.few)) in
+    let same : (k : ℕ) → k < kept.many → at (take kept.many kept.tasks) k ≡ at kept.tasks k =
+    λ k l. get_or-take kept.many kept.tasks k 0 l in
     record {
       few = omega (arith, long, f.few);
-      rises = λ k l. omega (arith, long, same k (omega (arith, long)), same (k + 1) (omega (arith, long)), f.rises k (omega (arith, long)));
-      right = λ k l. (let P : ℕ → Type 0 = λ x. IsPartner line i x in subst P (sym (same k (omega (arith, long)))) (f.right k (omega (arith, long))));
+      rises = λ k l. omega (
+        arith,
+        long,
+        same k (omega (arith, long)),
+        same (k + 1) (omega (arith, long)),
+        f.rises k (omega (arith, long)),
+      );
+      right = λ k l. (let P : ℕ → Type 0 = λ x. IsPartner line i x in
+          subst P (sym (same k (omega (arith, long)))) (f.right k (omega (arith, long))));
       first = λ q r. elim (f.first q r.task r) [
         | inl s ↦ inl (s.0, omega (arith, long, s.1), same s.0 s.1 ∙ s.2)
-        | inr s ↦ inr (long ∙ s.0, λ k l. omega (arith, long, same k (omega (arith, long)), s.1 k (omega (arith, long))))
+        | inr s ↦ inr (
+          long ∙ s.0,
+          λ k l. omega (
+            arith,
+            long,
+            same k (omega (arith, long)),
+            s.1 k (omega (arith, long)),
+          ),
+        )
       ];
     }
 
@@ -106,7 +131,8 @@ written_at [] i v x e = absurd (cc)
 written_at (y ∷ ys) zero v x e = cc
 written_at (y ∷ ys) (suc i) v x e = written_at ys i v x e
 
-unwritten_at : (xs : List Kept) (i k : ℕ) (v x : Kept) → (k ≡ i → ⊥) → slice_get (set xs i v) k ≡ Some x → slice_get xs k ≡ Some x
+unwritten_at : (xs : List Kept) (i k : ℕ) (v x : Kept) → (k ≡ i → ⊥) → slice_get (set xs i v) k ≡ Some x
+    → slice_get xs k ≡ Some x
 unwritten_at [] i k v x n e = e
 unwritten_at (y ∷ ys) zero zero v x n e = absurd (n refl)
 unwritten_at (y ∷ ys) zero (suc k) v x n e = e
@@ -116,7 +142,8 @@ unwritten_at (y ∷ ys) (suc i) (suc k) v x n e = unwritten_at ys i k v x (λ h.
 -- the partners of the tasks below i are kept
 pub record IsTabling (line : Line) (partners : List Kept) (i : ℕ) : Type 0 where
   pub many : length partners ≡ tasks line
-  pub room : (k : ℕ) (kept : Kept) → k < i → slice_get partners k ≡ Some kept → (length kept.tasks ≡ 8) × (kept.many ≤ 8)
+  pub room : (k : ℕ) (kept : Kept) → k < i → slice_get partners k ≡ Some kept
+      → (length kept.tasks ≡ 8) × (kept.many ≤ 8)
   pub right : (k : ℕ) (kept : Kept) → k < i → slice_get partners k ≡ Some kept → AreKept line k (kept_of kept)
 
 pub none_tabled : (line : Line) (partners : List Kept) → length partners ≡ tasks line → IsTabling line partners 0
@@ -126,17 +153,21 @@ none_tabled line partners e = record {
   right = λ k kept l s. absurd (omega arith);
 }
 
-pub one_tabled : (line : Line) (partners : List Kept) (i : ℕ) (new : Kept) → length new.tasks ≡ 8 → new.many ≤ 8 → AreKept line i (kept_of new) → IsTabling line partners i → IsTabling line (set partners i new) (i + 1)
+pub one_tabled : (line : Line) (partners : List Kept) (i : ℕ) (new : Kept) → length new.tasks ≡ 8 → new.many ≤ 8
+    → AreKept line i (kept_of new) → IsTabling line partners i → IsTabling line (set partners i new) (i + 1)
 one_tabled line partners i new long few h f = record {
   many = length-set partners i new ∙ f.many;
   room = λ k kept l s. let P : Kept → Type 0 = λ x. (length x.tasks ≡ 8) × (x.many ≤ 8) in elim (cases_eq k i) [
-    | inl e ↦ subst P (written_at partners i new kept (let S : ℕ → Type 0 = λ x. slice_get (set partners i new) x ≡ Some kept in subst S e s)) (long, few)
+    | inl e ↦ subst P (written_at partners i new kept (let S : ℕ
+        → Type 0 = λ x. slice_get (set partners i new) x ≡ Some kept in subst S e s)) (long, few)
     | inr n ↦ f.room k kept (omega arith) (unwritten_at partners i k new kept n s)
   ];
-  right = λ k kept l s. let P : Kept → Type 0 = λ x. AreKept line k (kept_of x) in let Q : ℕ → Type 0 = λ x. AreKept line x (kept_of new) in elim (cases_eq k i) [
-    | inl e ↦ subst P (written_at partners i new kept (let S : ℕ → Type 0 = λ x. slice_get (set partners i new) x ≡ Some kept in subst S e s)) (subst Q (sym e) h)
-    | inr n ↦ f.right k kept (omega arith) (unwritten_at partners i k new kept n s)
-  ];
+  right = λ k kept l s. let P : Kept → Type 0 = λ x. AreKept line k (kept_of x) in let Q : ℕ
+      → Type 0 = λ x. AreKept line x (kept_of new) in elim (cases_eq k i) [
+        | inl e ↦ subst P (written_at partners i new kept (let S : ℕ
+            → Type 0 = λ x. slice_get (set partners i new) x ≡ Some kept in subst S e s)) (subst Q (sym e) h)
+        | inr n ↦ f.right k kept (omega arith) (unwritten_at partners i k new kept n s)
+      ];
 }
 
 pub all_tabled : (line : Line) (partners : List Kept) → IsTabling line partners (tasks line) → ArePartners line partners
@@ -148,16 +179,36 @@ all_tabled line partners f = record {
 
 -- partners don't ask for ranks
 partner_along : (line : Line) (i j : ℕ) → IsPartner (of_rows line.times line.before line.apart) i j → IsPartner line i j
-partner_along line i j p = record { task = p.task; other = p.other; no_longer = p.no_longer; before = p.before; after = p.after; apart = p.apart }
+partner_along line i j p = record {
+  task = p.task;
+  other = p.other;
+  no_longer = p.no_longer;
+  before = p.before;
+  after = p.after;
+  apart = p.apart;
+}
 
 partner_back : (line : Line) (i j : ℕ) → IsPartner line i j → IsPartner (of_rows line.times line.before line.apart) i j
-partner_back line i j p = record { task = p.task; other = p.other; no_longer = p.no_longer; before = p.before; after = p.after; apart = p.apart }
+partner_back line i j p = record {
+  task = p.task;
+  other = p.other;
+  no_longer = p.no_longer;
+  before = p.before;
+  after = p.after;
+  apart = p.apart;
+}
 
-pub partners_along : (line : Line) (partners : List Kept) → ArePartners (of_rows line.times line.before line.apart) partners → ArePartners line partners
+pub partners_along : (line : Line) (partners : List Kept) → ArePartners (of_rows line.times line.before line.apart)
+    partners → ArePartners line partners
 partners_along line partners f = record {
   many = f.many;
   room = f.room;
   right = λ i kept s.
       let a : AreKept (of_rows line.times line.before line.apart) i (kept_of kept) = f.right i kept s in
-      record { few = a.few; rises = a.rises; right = λ k l. partner_along line i (at (kept_of kept) k) (a.right k l); first = λ j p. a.first j (partner_back line i j p) };
+      record {
+        few = a.few;
+        rises = a.rises;
+        right = λ k l. partner_along line i (at (kept_of kept) k) (a.right k l);
+        first = λ j p. a.first j (partner_back line i j p);
+      };
 }

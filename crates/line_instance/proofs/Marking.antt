@@ -1,5 +1,6 @@
 -- Rows with more members: rows turned round, and rows of pairs. The rank of each task.
-use Rattle.std.proofs.Common.{◌≡◌, ℕ, ◌+◌, ◌<◌, ◌≤◌, Bool, true, List, [], ◌∷◌, ◌++◌, length, get_or, set, refl, sym, ap, ◌∙◌, subst, ◌⊎◌, inl, inr, arith}
+use Rattle.std.proofs.Common.{◌≡◌, ℕ, ◌+◌, ◌<◌, ◌≤◌, Bool, true, List, [], ◌∷◌, ◌++◌, length, get_or, set, refl, sym}
+use Rattle.std.proofs.Common.{ap, ◌∙◌, subst, ◌⊎◌, inl, inr, arith}
 use Rattle.std.specs.List.{Contains}
 use Rattle.std.proofs.Math.ListN.{length-set}
 use Rattle.std.proofs.lemmas.List.{get_or-set_same, get_or-set_other, get_or_read}
@@ -7,12 +8,15 @@ use Rattle.std.proofs.lemmas.List.Elements.{Contains-append_left, Contains-appen
 use Rattle.std.proofs.lemmas.Bool.{cases_eq, cases_lt}
 use Rattle.task_set.specs.Truths.{In, IsGreatestBelow}
 use Rattle.line_instance.specs.Walks.{Leads, at, arc_at, ArePairs}
-use Rattle.line_instance.specs.inner.Inside.{AreRows, AreEmpty, AreMarked, AreTurned, ArePaired, IsPermutation, AreRanksOf, StandsBelow, LeadsIn, IsWhole}
+use Rattle.line_instance.specs.inner.Inside.{AreRows, AreEmpty, AreMarked, AreTurned, ArePaired, IsPermutation}
+use Rattle.line_instance.specs.inner.Inside.{AreRanksOf, StandsBelow, LeadsIn, IsWhole}
 use Rattle.line_instance.specs.declared.arcs.Prec.{Prec}
-use Rattle.line_instance.proofs.Joining.{marked, marked_kept, marked_here, marked_cases, marked_length, marked_rows, only_one}
+use Rattle.line_instance.proofs.Joining.{marked, marked_kept, marked_here, marked_cases, marked_length, marked_rows}
+use Rattle.line_instance.proofs.Joining.{only_one}
 
 -- the rows of the members from b on have the mark
-pub record IsMarking (old : List (List Bool)) (chosen : List Bool) (mark : ℕ) (new : List (List Bool)) (b : ℕ) : Type 0 where
+pub record IsMarking (old : List (List Bool)) (chosen : List Bool) (mark : ℕ) (new : List (List Bool))
+    (b : ℕ) : Type 0 where
   pub few : b ≤ 1024
   pub many : length new ≡ length old
   pub truths : (t : ℕ) → length (get_or new t []) ≡ length (get_or old t [])
@@ -20,7 +24,8 @@ pub record IsMarking (old : List (List Bool)) (chosen : List Bool) (mark : ℕ) 
   pub kept : (i t : ℕ) → In (get_or old t []) i → In (get_or new t []) i
   pub here : (t : ℕ) → b ≤ t → In chosen t → In (get_or new t []) mark
 
-pub none_marked : (old : List (List Bool)) (chosen : List Bool) (mark : ℕ) → length old ≤ 1024 → ((t : ℕ) → In chosen t → t < length old) → IsMarking old chosen mark old 1024
+pub none_marked : (old : List (List Bool)) (chosen : List Bool) (mark : ℕ) → length old ≤ 1024
+    → ((t : ℕ) → In chosen t → t < length old) → IsMarking old chosen mark old 1024
 none_marked old chosen mark few h = record {
   few = omega arith;
   many = refl;
@@ -30,7 +35,9 @@ none_marked old chosen mark few h = record {
   here = λ t l m. absurd (omega (arith, h t m));
 }
 
-pub one_marked : (old : List (List Bool)) (chosen : List Bool) (mark : ℕ) (new : List (List Bool)) (b t : ℕ) → mark < 1024 → ((u : ℕ) → u < length old → length (get_or old u []) ≡ 1024) → ((u : ℕ) → In chosen u → u < length old)
+pub one_marked : (old : List (List Bool)) (chosen : List Bool) (mark : ℕ) (new : List (List Bool)) (b t : ℕ)
+    → mark < 1024 → ((u : ℕ) → u < length old → length (get_or old u []) ≡ 1024)
+    → ((u : ℕ) → In chosen u → u < length old)
     → IsGreatestBelow chosen b t → IsMarking old chosen mark new b → IsMarking old chosen mark (marked new t mark) t
 one_marked old chosen mark new b t small wide tasks g f =
     let within : t < length new = omega (arith, f.many, tasks t g.member) in
@@ -45,7 +52,8 @@ one_marked old chosen mark new b t small wide tasks g f =
       kept = λ i u m. marked_kept new t mark within u i (f.kept i u m);
       here = λ u l m. elim (cases_eq u t) [
         | inl e ↦ (let P : ℕ → Type 0 = λ x. In (get_or (marked new t mark) x []) mark in
-            subst P (sym e) (marked_here new t mark within (omega (arith, small, f.truths t, wide t (tasks t g.member)))))
+            subst P (sym e) (marked_here new t mark within (omega
+            (arith, small, f.truths t, wide t (tasks t g.member)))))
         | inr n ↦ marked_kept new t mark within u mark (f.here u (elim (cases_lt u b) [
           | inl s ↦ absurd (n (omega (arith, g.greatest u m s)))
           | inr s ↦ s
@@ -53,7 +61,8 @@ one_marked old chosen mark new b t small wide tasks g f =
       ];
     }
 
-pub all_marked : (old : List (List Bool)) (chosen : List Bool) (mark : ℕ) (new : List (List Bool)) (b : ℕ) → ((t : ℕ) → In chosen t → b ≤ t) → IsMarking old chosen mark new b → AreMarked old chosen mark new
+pub all_marked : (old : List (List Bool)) (chosen : List Bool) (mark : ℕ) (new : List (List Bool)) (b : ℕ)
+    → ((t : ℕ) → In chosen t → b ≤ t) → IsMarking old chosen mark new b → AreMarked old chosen mark new
 all_marked old chosen mark new b h f = record {
   many = f.many;
   truths = f.truths;
@@ -77,7 +86,8 @@ none_turned rows turned e = record {
   all = λ i t l m. absurd (omega arith);
 }
 
-pub one_turned : (rows turned new : List (List Bool)) (j : ℕ) → AreMarked turned (get_or rows j []) j new → IsTurning rows turned j → IsTurning rows new (j + 1)
+pub one_turned : (rows turned new : List (List Bool)) (j : ℕ) → AreMarked turned (get_or rows j []) j new
+    → IsTurning rows turned j → IsTurning rows new (j + 1)
 one_turned rows turned new j a f = record {
   many = a.many ∙ f.many;
   truths = λ t l. a.truths t ∙ f.truths t l;
@@ -93,7 +103,8 @@ one_turned rows turned new j a f = record {
   ];
 }
 
-pub all_turned : (rows turned : List (List Bool)) → AreRows (length rows) rows → IsTurning rows turned (length rows) → AreTurned rows turned
+pub all_turned : (rows turned : List (List Bool)) → AreRows (length rows) rows → IsTurning rows turned (length rows)
+    → AreTurned rows turned
 all_turned rows turned r f = record {
   sets = record {
     many = f.many;
@@ -111,10 +122,12 @@ no_pairs n rows e = record {
 }
 
 -- a pair that stands in the longer list stands in the list, or is the last
-pair_cases : (pairs : List Prec) (a : Prec) (i j : ℕ) → Leads (pairs ++ a ∷ []) i j → Leads pairs i j ⊎ ((i ≡ a.first) × (j ≡ a.«then»))
+pair_cases : (pairs : List Prec) (a : Prec) (i j : ℕ) → Leads (pairs ++ a ∷ []) i j
+    → Leads pairs i j ⊎ ((i ≡ a.first) × (j ≡ a.«then»))
 pair_cases pairs a i j l = elim (Contains-append_cases pairs (a ∷ []) (record { first = i; «then» = j }) l) [
   | inl old ↦ inl old
-  | inr new ↦ (let e : a ≡ record { first = i; «then» = j } = only_one a (record { first = i; «then» = j }) new in inr (ap (λ p. p.first) (sym e), ap (λ p. p.«then») (sym e)))
+  | inr new ↦ (let e : a ≡ record { first = i; «then» = j } = only_one a (record { first = i; «then» = j }) new in
+      inr (ap (λ p. p.first) (sym e), ap (λ p. p.«then») (sym e)))
 ]
 
 pair_kept : (pairs : List Prec) (a : Prec) (i j : ℕ) → Leads pairs i j → Leads (pairs ++ a ∷ []) i j
@@ -123,22 +136,29 @@ pair_kept pairs a i j l = Contains-append_left pairs (a ∷ []) (record { first 
 pair_last : (pairs : List Prec) (a : Prec) (i j : ℕ) → i ≡ a.first → j ≡ a.«then» → Leads (pairs ++ a ∷ []) i j
 pair_last pairs a i j e f =
     let Q : Prec → Type 0 = λ p. Contains (pairs ++ a ∷ []) p in
-    let is : a ≡ record { first = i; «then» = j } = ap (λ x. record { first = x; «then» = a.«then» }) (sym e) ∙ ap (λ x. record { first = i; «then» = x }) (sym f) in
+    let is : a ≡ record { first = i; «then» = j } = ap (λ x. record { first = x; «then» = a.«then» }) (sym e)
+    ∙ ap (λ x. record { first = i; «then» = x }) (sym f) in
     subst Q is (Contains-append_right pairs (a ∷ []) a (0, omega arith, refl))
 
-pub one_pair : (n : ℕ) (pairs : List Prec) (rows : List (List Bool)) (a : Prec) → n ≤ 1024 → ArePaired n pairs rows → a.first < n → a.«then» < n → ArePaired n (pairs ++ a ∷ []) (marked (marked rows a.«then» a.first) a.first a.«then»)
+pub one_pair : (n : ℕ) (pairs : List Prec) (rows : List (List Bool)) (a : Prec) → n ≤ 1024 → ArePaired n pairs rows
+    → a.first < n → a.«then» < n → ArePaired n (pairs ++ a ∷ [])
+    (marked (marked rows a.«then» a.first) a.first a.«then»)
 one_pair n pairs rows a m d f h =
     let half : List (List Bool) = marked rows a.«then» a.first in
     let new : List (List Bool) = marked half a.first a.«then» in
     let first : AreRows n half = marked_rows n rows a.«then» a.first d.sets h f in
     let in_rows : a.«then» < length rows = omega (arith, d.sets.many) in
     let in_half : a.first < length half = omega (arith, first.many) in
-    let kept : (i t : ℕ) → In (get_or rows t []) i → In (get_or new t []) i = λ i t x. marked_kept half a.first a.«then» in_half t i (marked_kept rows a.«then» a.first in_rows t i x) in
+    let kept : (i t : ℕ) → In (get_or rows t []) i → In (get_or new t []) i =
+    λ i t x. marked_kept half a.first a.«then» in_half t i (marked_kept rows a.«then» a.first in_rows t i x) in
     let Place : ℕ → ℕ → Type 0 = λ t i. In (get_or new t []) i in
-    let one : In (get_or new a.«then» []) a.first = marked_kept half a.first a.«then» in_half a.«then» a.first (marked_here rows a.«then» a.first in_rows (omega (arith, d.sets.truths a.«then» h))) in
-    let two : In (get_or new a.first []) a.«then» = marked_here half a.first a.«then» in_half (omega (arith, first.truths a.first f)) in
+    let one : In (get_or new a.«then» []) a.first = marked_kept half a.first a.«then» in_half a.«then» a.first
+    (marked_here rows a.«then» a.first in_rows (omega (arith, d.sets.truths a.«then» h))) in
+    let two : In (get_or new a.first []) a.«then» = marked_here half a.first a.«then» in_half
+    (omega (arith, first.truths a.first f)) in
     let moved : (i t x y : ℕ) → In (get_or new y []) x → i ≡ x → t ≡ y → In (get_or new t []) i = λ i t x y w e g.
-    (let P : ℕ → Type 0 = λ z. In (get_or new z []) i in let Q : ℕ → Type 0 = λ z. In (get_or new y []) z in subst P (sym g) (subst Q (sym e) w)) in
+    (let P : ℕ → Type 0 = λ z. In (get_or new z []) i in let Q : ℕ → Type 0 = λ z. In (get_or new y []) z in
+    subst P (sym g) (subst Q (sym e) w)) in
     record {
       sets = marked_rows n half a.first a.«then» first f h;
       there = λ i t g. elim g [
@@ -166,13 +186,20 @@ one_pair n pairs rows a m d f h =
 -- the place of a pair that leads on
 pair_at : (n : ℕ) (pairs : List Prec) (i j : ℕ) → ArePairs n pairs → Leads pairs i j → i ≡ j → ⊥
 pair_at n pairs i j h l e =
-    let is : record { first = i; «then» = j } ≡ arc_at pairs l.0 = get_or_read pairs l.0 (record { first = i; «then» = j }) l.1 (sym l.2) (record { first = 0; «then» = 0 }) in
+    let is : record { first = i; «then» = j } ≡ arc_at pairs l.0 =
+    get_or_read pairs l.0 (record { first = i; «then» = j }) l.1 (sym l.2) (record { first = 0; «then» = 0 }) in
     (h l.0 l.1).1 (ap (λ p. p.first) (sym is) ∙ e ∙ ap (λ p. p.«then») is)
 
-pub of_two : (n : ℕ) (pairs : List Prec) (rows : List (List Bool)) → ArePairs n pairs → ArePaired n pairs rows → (i : ℕ) → In (get_or rows i []) i → ⊥
-of_two n pairs rows h p i m = elim (p.only i i m) [ inl l ↦ pair_at n pairs i i h l refl | inr l ↦ pair_at n pairs i i h l refl ]
+pub of_two : (n : ℕ) (pairs : List Prec) (rows : List (List Bool)) → ArePairs n pairs → ArePaired n pairs rows → (i : ℕ)
+    → In (get_or rows i []) i → ⊥
+of_two n pairs rows h p i m = elim (p.only i i m) [
+  | inl l ↦ pair_at n pairs i i h l refl
+  | inr l ↦
+      pair_at n pairs i i h l refl
+]
 
-pub both_ways : (n : ℕ) (pairs : List Prec) (rows : List (List Bool)) → ArePaired n pairs rows → (i j : ℕ) → In (get_or rows j []) i → In (get_or rows i []) j
+pub both_ways : (n : ℕ) (pairs : List Prec) (rows : List (List Bool)) → ArePaired n pairs rows → (i j : ℕ)
+    → In (get_or rows j []) i → In (get_or rows i []) j
 both_ways n pairs rows p i j m = p.there j i (elim (p.only i j m) [ inl l ↦ inr l | inr l ↦ inl l ])
 
 -- the ranks below k are written
@@ -180,16 +207,20 @@ pub record IsRanking (order ranks : List ℕ) (k : ℕ) : Type 0 where
   pub many : length ranks ≡ length order
   pub written : (m : ℕ) → m < k → at ranks (at order m) ≡ m
 
-pub one_ranked : (order ranks : List ℕ) (k : ℕ) → IsPermutation order → k < length order → IsRanking order ranks k → IsRanking order (set ranks (at order k) k) (k + 1)
+pub one_ranked : (order ranks : List ℕ) (k : ℕ) → IsPermutation order → k < length order → IsRanking order ranks k
+    → IsRanking order (set ranks (at order k) k) (k + 1)
 one_ranked order ranks k o l f = record {
   many = length-set ranks (at order k) k ∙ f.many;
   written = λ m h. elim (cases_eq m k) [
-    | inl e ↦ ap (λ x. at (set ranks (at order k) k) (at order x)) e ∙ get_or-set_same ranks (at order k) k 0 (omega (arith, f.many, o.small k l)) ∙ sym e
-    | inr n ↦ get_or-set_other ranks (at order k) (at order m) k 0 (λ e. n (o.once m k (omega arith) l e)) ∙ f.written m (omega arith)
+    | inl e ↦ ap (λ x. at (set ranks (at order k) k) (at order x)) e
+        ∙ get_or-set_same ranks (at order k) k 0 (omega (arith, f.many, o.small k l)) ∙ sym e
+    | inr n ↦ get_or-set_other ranks (at order k) (at order m) k 0 (λ e. n (o.once m k (omega arith) l e))
+        ∙ f.written m (omega arith)
   ];
 }
 
-pub all_ranked : (order ranks : List ℕ) → IsPermutation order → IsRanking order ranks (length order) → AreRanksOf order ranks
+pub all_ranked : (order ranks : List ℕ) → IsPermutation order → IsRanking order ranks (length order)
+    → AreRanksOf order ranks
 all_ranked order ranks o f = record {
   many = f.many;
   small = λ i l.

@@ -1,5 +1,6 @@
 -- One more task in the order, and an order of all tasks.
-use Rattle.std.proofs.Common.{◌≡◌, ℕ, zero, suc, ◌+◌, ◌<◌, ◌≤◌, Bool, true, false, cond, List, [], ◌∷◌, ◌++◌, length, get_or, set, replicate, refl, sym, ap, ◌∙◌, subst, ◌⊎◌, inl, inr, arith, length-append}
+use Rattle.std.proofs.Common.{◌≡◌, ℕ, zero, suc, ◌+◌, ◌<◌, ◌≤◌, Bool, true, false, cond, List, [], ◌∷◌, ◌++◌, length}
+use Rattle.std.proofs.Common.{get_or, set, replicate, refl, sym, ap, ◌∙◌, subst, ◌⊎◌, inl, inr, arith, length-append}
 use Rattle.std.proofs.Math.ListN.{get_or-append, length-set}
 use Rattle.std.proofs.lemmas.List.{get_or_push, length-replicate}
 use Rattle.std.proofs.lemmas.Bool.{cases_eq, cases_lt, cases_Bool, false≢true}
@@ -84,7 +85,8 @@ none_ordered direct = record {
   count = size-none 1024;
 }
 
-module _ (direct : List (List Bool)) (placed : List Bool) (order : List ℕ) (t : ℕ) (o : IsOrdering direct placed order) (f : IsLeastFree direct placed t) (few : length direct ≤ 1024) where
+module _ (direct : List (List Bool)) (placed : List Bool) (order : List ℕ) (t : ℕ) (o : IsOrdering direct placed order)
+    (f : IsLeastFree direct placed t) (few : length direct ≤ 1024) where
   long : length (order ++ t ∷ []) ≡ length order + 1
   long = length-append order (t ∷ [])
 
@@ -103,7 +105,8 @@ module _ (direct : List (List Bool)) (placed : List Bool) (order : List ℕ) (t 
   fresh : (k : ℕ) → k < length order → at order k ≡ t → ⊥
   fresh k l e = let P : ℕ → Type 0 = λ x. In placed x in false≢true (sym f.may.new ∙ subst P e (o.holds k l))
 
-  once : (k m : ℕ) → k < length (order ++ t ∷ []) → m < length (order ++ t ∷ []) → at (order ++ t ∷ []) k ≡ at (order ++ t ∷ []) m → k ≡ m
+  once : (k m : ℕ) → k < length (order ++ t ∷ []) → m < length (order ++ t ∷ [])
+      → at (order ++ t ∷ []) k ≡ at (order ++ t ∷ []) m → k ≡ m
   once k m l h e = elim (cases_lt k (length order)) [
     | inl b ↦ elim (cases_lt m (length order)) [
       | inl d ↦ o.order_is.once k m b d (sym (front k b) ∙ e ∙ front m d)
@@ -115,7 +118,8 @@ module _ (direct : List (List Bool)) (placed : List Bool) (order : List ℕ) (t 
     ]
   ]
 
-  ready : (k i : ℕ) → k < length (order ++ t ∷ []) → In (get_or direct (at (order ++ t ∷ []) k) []) i → StandsBelow (order ++ t ∷ []) k i
+  ready : (k i : ℕ) → k < length (order ++ t ∷ []) → In (get_or direct (at (order ++ t ∷ []) k) []) i
+      → StandsBelow (order ++ t ∷ []) k i
   ready k i l m = let P : ℕ → Type 0 = λ x. In (get_or direct x []) i in elim (cases_lt k (length order)) [
     | inl b ↦ kept k i (omega arith) (o.order_is.ready k i b (subst P (front k b) m))
     | inr b ↦ (let e : length order ≡ k = omega (arith, long) in
@@ -123,14 +127,21 @@ module _ (direct : List (List Bool)) (placed : List Bool) (order : List ℕ) (t 
         kept k i (omega arith) (s.0, omega (arith, s.1), s.2))
   ]
 
-  least : (k x : ℕ) → k < length (order ++ t ∷ []) → x < length direct → (StandsBelow (order ++ t ∷ []) k x → ⊥) → ((i : ℕ) → In (get_or direct x []) i → StandsBelow (order ++ t ∷ []) k i) → at (order ++ t ∷ []) k ≤ x
+  least : (k x : ℕ) → k < length (order ++ t ∷ []) → x < length direct → (StandsBelow (order ++ t ∷ []) k x → ⊥)
+      → ((i : ℕ) → In (get_or direct x []) i → StandsBelow (order ++ t ∷ []) k i) → at (order ++ t ∷ []) k ≤ x
   least k x l h n r = elim (cases_lt k (length order)) [
-    | inl b ↦ omega (arith, front k b, o.order_is.least k x b h (λ s. n (kept k x (omega arith) s)) (λ i m. back k i (omega arith) (r i m)))
+    | inl b ↦ omega (
+      arith,
+      front k b,
+      o.order_is.least k x b h (λ s. n (kept k x (omega arith) s))
+          (λ i m. back k i (omega arith) (r i m)),
+    )
     | inr b ↦ (let e : length order ≡ k = omega (arith, long) in elim (cases_lt x t) [
       | inl c ↦ absurd (f.least x c record {
         task = h;
         new = elim (cases_Bool (get_or placed x false)) [
-          | inl y ↦ (let s : StandsBelow order (length order) x = o.stands x y in absurd (n (kept k x (omega arith) (s.0, omega (arith, s.1), s.2))))
+          | inl y ↦ (let s : StandsBelow order (length order) x = o.stands x y in
+              absurd (n (kept k x (omega arith) (s.0, omega (arith, s.1), s.2))))
           | inr z ↦ z
         ];
         ready = λ i m.
@@ -155,17 +166,21 @@ module _ (direct : List (List Bool)) (placed : List Bool) (order : List ℕ) (t 
       least = least;
     };
     stands = λ x m. elim (In-set_cases placed t x m) [
-      | inl p ↦ (let s : StandsBelow order (length order) x = o.stands x p in (s.0, omega (arith, s.1, long), front s.0 s.1 ∙ s.2))
+      | inl p ↦ (let s : StandsBelow order (length order) x = o.stands x p in
+          (s.0, omega (arith, s.1, long), front s.0 s.1 ∙ s.2))
       | inr e ↦ (length order, omega (arith, long), last (length order) refl ∙ sym e)
     ];
     holds = λ k l. elim (cases_lt k (length order)) [
-      | inl b ↦ (let P : ℕ → Type 0 = λ x. In (set placed t true) x in subst P (sym (front k b)) (In-set_kept placed t (at order k) (o.holds k b)))
+      | inl b ↦ (let P : ℕ → Type 0 = λ x. In (set placed t true) x in
+          subst P (sym (front k b)) (In-set_kept placed t (at order k) (o.holds k b)))
       | inr b ↦ (let P : ℕ → Type 0 = λ x. In (set placed t true) x in
           subst P (sym (last k (omega (arith, long)))) (In-set_same placed t (omega (arith, f.may.task, o.truths))))
     ];
   }
 
-pub one_counted : (direct : List (List Bool)) (placed : List Bool) (order : List ℕ) (t k : ℕ) → length direct ≤ 1024 → IsCounted direct placed order k → IsLeastFree direct placed t → IsCounted direct (set placed t true) (order ++ t ∷ []) (k + 1)
+pub one_counted : (direct : List (List Bool)) (placed : List Bool) (order : List ℕ) (t k : ℕ) → length direct ≤ 1024
+    → IsCounted direct placed order k → IsLeastFree direct placed t
+    → IsCounted direct (set placed t true) (order ++ t ∷ []) (k + 1)
 one_counted direct placed order t k few o f = record {
   long = length-append order (t ∷ []) ∙ ap (λ n. n + 1) o.long;
   ordering = one_ordered direct placed order t o.ordering f few;
@@ -173,12 +188,14 @@ one_counted direct placed order t k few o f = record {
 }
 
 -- the placed tasks are tasks
-placed_small : (direct : List (List Bool)) (placed : List Bool) (order : List ℕ) → IsOrdering direct placed order → (t : ℕ) → In placed t → t < length direct
+placed_small : (direct : List (List Bool)) (placed : List Bool) (order : List ℕ) → IsOrdering direct placed order
+    → (t : ℕ) → In placed t → t < length direct
 placed_small direct placed order o t m =
     let s : StandsBelow order (length order) t = o.stands t m in
     omega (arith, o.order_is.small s.0 s.1, s.2)
 
-pub is_stuck : (direct : List (List Bool)) (placed : List Bool) (order : List ℕ) (k : ℕ) → k < length direct → IsCounted direct placed order k → ((t : ℕ) → MayCome direct placed t → ⊥) → IsStuck direct placed
+pub is_stuck : (direct : List (List Bool)) (placed : List Bool) (order : List ℕ) (k : ℕ) → k < length direct
+    → IsCounted direct placed order k → ((t : ℕ) → MayCome direct placed t → ⊥) → IsStuck direct placed
 is_stuck direct placed order k l o n = record {
   some = elim (find_left placed (length direct)) [
     | inl f ↦ f
@@ -187,7 +204,8 @@ is_stuck direct placed order k l o n = record {
   none = n;
 }
 
-pub is_whole : (direct : List (List Bool)) (placed : List Bool) (order : List ℕ) → length direct ≤ 1024 → IsCounted direct placed order (length direct) → IsWhole direct order
+pub is_whole : (direct : List (List Bool)) (placed : List Bool) (order : List ℕ) → length direct ≤ 1024
+    → IsCounted direct placed order (length direct) → IsWhole direct order
 is_whole direct placed order few o = record {
   order_is = o.ordering.order_is;
   many = o.long;

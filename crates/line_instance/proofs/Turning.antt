@@ -1,5 +1,6 @@
 -- A way back along arcs, and the ring that is cut out of it and turned to its least task.
-use Rattle.std.proofs.Common.{◌≡◌, ℕ, ◌+◌, ◌-◌, ◌<◌, ◌≤◌, Bool, true, false, List, [], ◌∷◌, ◌++◌, length, get_or, set, replicate, refl, sym, ap, ◌∙◌, subst, ◌⊎◌, inl, inr, arith, length-append}
+use Rattle.std.proofs.Common.{◌≡◌, ℕ, ◌+◌, ◌-◌, ◌<◌, ◌≤◌, Bool, true, false, List, [], ◌∷◌, ◌++◌, length, get_or, set}
+use Rattle.std.proofs.Common.{replicate, refl, sym, ap, ◌∙◌, subst, ◌⊎◌, inl, inr, arith, length-append}
 use Rattle.std.proofs.Math.ListN.{get_or-append, length-set}
 use Rattle.std.proofs.lemmas.List.{get_or_push, length-replicate}
 use Rattle.std.proofs.lemmas.Bool.{cases_eq, cases_lt, cases_Bool, false≢true}
@@ -18,7 +19,8 @@ none_left row placed n i m = elim (cases_Bool (get_or placed i false)) [
 ]
 
 -- the way back so far, and the task that comes next
-pub record IsWalking (direct : List (List Bool)) (placed : List Bool) (path : List ℕ) (seen : List Bool) (task : ℕ) : Type 0 where
+pub record IsWalking (direct : List (List Bool)) (placed : List Bool) (path : List ℕ) (seen : List Bool)
+    (task : ℕ) : Type 0 where
   pub truths : length seen ≡ 1024
   pub within : task < length direct
   pub left : get_or placed task false ≡ false
@@ -28,7 +30,8 @@ pub record IsWalking (direct : List (List Bool)) (placed : List Bool) (path : Li
   pub stands : (t : ℕ) → In seen t → (k : ℕ) × (k < length path) × (at path k ≡ t)
   pub holds : (k : ℕ) → k < length path → In seen (at path k)
 
-pub none_walked : (direct : List (List Bool)) (placed : List Bool) (task : ℕ) → task < length direct → get_or placed task false ≡ false → IsWalking direct placed [] (replicate 1024 false) task
+pub none_walked : (direct : List (List Bool)) (placed : List Bool) (task : ℕ) → task < length direct
+    → get_or placed task false ≡ false → IsWalking direct placed [] (replicate 1024 false) task
 none_walked direct placed task l n = record {
   truths = length-replicate 1024 false;
   within = l;
@@ -40,7 +43,9 @@ none_walked direct placed task l n = record {
   holds = λ k h. absurd (omega arith);
 }
 
-module _ (direct : List (List Bool)) (placed : List Bool) (path : List ℕ) (seen : List Bool) (task : ℕ) (w : IsWalking direct placed path seen task) (few : length direct ≤ 1024) (new : get_or seen task false ≡ false) where
+module _ (direct : List (List Bool)) (placed : List Bool) (path : List ℕ) (seen : List Bool) (task : ℕ)
+    (w : IsWalking direct placed path seen task) (few : length direct ≤ 1024)
+    (new : get_or seen task false ≡ false) where
   long : length (path ++ task ∷ []) ≡ length path + 1
   long = length-append path (task ∷ [])
 
@@ -53,7 +58,8 @@ module _ (direct : List (List Bool)) (placed : List Bool) (path : List ℕ) (see
   fresh : (k : ℕ) → k < length path → at path k ≡ task → ⊥
   fresh k l e = let P : ℕ → Type 0 = λ x. In seen x in false≢true (sym new ∙ subst P e (w.holds k l))
 
-  pub one_walked : (next : ℕ) → next < length direct → get_or placed next false ≡ false → LeadsIn direct next task → IsWalking direct placed (path ++ task ∷ []) (set seen task true) next
+  pub one_walked : (next : ℕ) → next < length direct → get_or placed next false ≡ false → LeadsIn direct next task
+      → IsWalking direct placed (path ++ task ∷ []) (set seen task true) next
   one_walked next l n d = record {
     truths = length-set seen task true ∙ w.truths;
     within = l;
@@ -64,7 +70,8 @@ module _ (direct : List (List Bool)) (placed : List Bool) (path : List ℕ) (see
         let S : ℕ → Type 0 = λ y. LeadsIn direct task y in
         elim (cases_lt (k + 1) (length path)) [
           | inl b ↦ subst Q (sym (front (k + 1) b)) (subst R (sym (front k (omega arith))) (w.leads k b))
-          | inr b ↦ (let e : k + 1 ≡ length path = omega (arith, long) in subst Q (sym (last (k + 1) (sym e))) (subst S (sym (front k (omega arith))) (w.last k e)))
+          | inr b ↦ (let e : k + 1 ≡ length path = omega (arith, long) in
+              subst Q (sym (last (k + 1) (sym e))) (subst S (sym (front k (omega arith))) (w.last k e)))
         ];
     last = λ k h. (let S : ℕ → Type 0 = λ y. LeadsIn direct next y in subst S (sym (last k (omega (arith, long)))) d);
     once = λ k m h j e. elim (cases_lt k (length path)) [
@@ -78,7 +85,8 @@ module _ (direct : List (List Bool)) (placed : List Bool) (path : List ℕ) (see
       ]
     ];
     stands = λ t m. elim (In-set_cases seen task t m) [
-      | inl p ↦ (let s : (k : ℕ) × (k < length path) × (at path k ≡ t) = w.stands t p in (s.0, omega (arith, s.1, long), front s.0 s.1 ∙ s.2))
+      | inl p ↦ (let s : (k : ℕ) × (k < length path) × (at path k ≡ t) = w.stands t p in
+          (s.0, omega (arith, s.1, long), front s.0 s.1 ∙ s.2))
       | inr e ↦ (length path, omega (arith, long), last (length path) refl ∙ sym e)
     ];
     holds = λ k h. let P : ℕ → Type 0 = λ x. In (set seen task true) x in elim (cases_lt k (length path)) [
@@ -88,10 +96,23 @@ module _ (direct : List (List Bool)) (placed : List Bool) (path : List ℕ) (see
   }
 
   pub one_seen : (more : List Bool) → more ≡ set seen task true → 1024 - size more < 1024 - size seen
-  one_seen more e = omega (arith, ap size e, size-set seen task (omega (arith, w.within, w.truths)) new, size-most (set seen task true), length-set seen task true, w.truths)
+  one_seen more e = omega (
+    arith,
+    ap size e,
+    size-set seen task (omega (arith, w.within, w.truths)) new,
+    size-most (set seen task true),
+    length-set seen task true,
+    w.truths,
+  )
 
-pub back_walk : (direct : List (List Bool)) (placed : List Bool) (path : List ℕ) (seen : List Bool) (task : ℕ) → IsWalking direct placed path seen task → In seen task → IsBackWalk direct path task
-back_walk direct placed path seen task w m = record { leads = w.leads; last = w.last; once = w.once; stands = w.stands task m }
+pub back_walk : (direct : List (List Bool)) (placed : List Bool) (path : List ℕ) (seen : List Bool) (task : ℕ)
+    → IsWalking direct placed path seen task → In seen task → IsBackWalk direct path task
+back_walk direct placed path seen task w m = record {
+  leads = w.leads;
+  last = w.last;
+  once = w.once;
+  stands = w.stands task m;
+}
 
 pub none_appended : (old path : List ℕ) (to : ℕ) → IsAppended old path to to old
 none_appended old path to = record {
@@ -101,10 +122,12 @@ none_appended old path to = record {
 }
 
 -- one member more
-pub one_appended : (old path new : List ℕ) (from to : ℕ) → from + 1 ≤ to → IsAppended old path (from + 1) to new → IsAppended old path from to (new ++ at path from ∷ [])
+pub one_appended : (old path new : List ℕ) (from to : ℕ) → from + 1 ≤ to → IsAppended old path (from + 1) to new
+    → IsAppended old path from to (new ++ at path from ∷ [])
 one_appended old path new from to h a =
     let long : length (new ++ at path from ∷ []) ≡ length new + 1 = length-append new (at path from ∷ []) in
-    let front : (k : ℕ) → k < length new → at (new ++ at path from ∷ []) k ≡ at new k = λ k l. get_or-append new (at path from ∷ []) 0 k l in
+    let front : (k : ℕ) → k < length new → at (new ++ at path from ∷ []) k ≡ at new k =
+    λ k l. get_or-append new (at path from ∷ []) 0 k l in
     record {
       long = omega (arith, long, a.long);
       kept = λ k l. front k (omega (arith, a.long)) ∙ a.kept k l;
@@ -114,18 +137,33 @@ one_appended old path new from to h a =
       ];
     }
 
-module _ (direct : List (List Bool)) (path : List ℕ) (again from cut : ℕ) (first ring : List ℕ) (w : IsBackWalk direct path again) (low : from ≤ cut) (high : cut < length path) (start : at path from ≡ again)
-    (least : (k : ℕ) → from ≤ k → k < length path → at path cut ≤ at path k) (a : IsAppended [] path from (cut + 1) first) (b : IsAppended first path (cut + 1) (length path) ring) where
+module _ (direct : List (List Bool)) (path : List ℕ) (again from cut : ℕ) (first ring : List ℕ)
+    (w : IsBackWalk direct path again) (low : from ≤ cut) (high : cut < length path) (start : at path from ≡ again)
+    (least : (k : ℕ) → from ≤ k → k < length path → at path cut ≤ at path k)
+    (a : IsAppended [] path from (cut + 1) first) (b : IsAppended first path (cut + 1) (length path) ring) where
   whole : length ring + from ≡ length path
   whole = omega (arith, a.long, b.long)
 
   -- where the member of the ring stands on the path
-  place : (k : ℕ) → k < length ring → (i : ℕ) × (from ≤ i) × (i < length path) × (at ring k ≡ at path i) × ((k + i ≡ cut) ⊎ ((cut < i) × (k + i + from ≡ cut + length path)))
+  place : (k : ℕ) → k < length ring → (i : ℕ) × (from ≤ i) × (i < length path) × (at ring k ≡ at path i)
+      × ((k + i ≡ cut) ⊎ ((cut < i) × (k + i + from ≡ cut + length path)))
   place k l = elim (cases_lt cut (k + from)) [
-    | inl h ↦ (let i : ℕ = cut + length path - from - k in
-        (i, omega (arith, whole), omega arith, b.added k i (omega (arith, whole)) (omega arith) (omega (arith, whole, a.long)), inr (omega (arith, whole), omega (arith, whole))))
-    | inr h ↦ (let i : ℕ = cut - k in
-        (i, omega arith, omega arith, b.kept k (omega (arith, a.long)) ∙ a.added k i (omega arith) (omega arith) (omega arith), inl (omega arith)))
+    | inl h ↦ (let i : ℕ = cut + length path - from - k in (
+      i,
+      omega (arith, whole),
+      omega arith,
+      b.added k i (omega (arith, whole)) (omega arith)
+          (omega (arith, whole, a.long)),
+      inr (omega (arith, whole), omega (arith, whole)),
+    ))
+    | inr h ↦ (let i : ℕ = cut - k in (
+      i,
+      omega arith,
+      omega arith,
+      b.kept k (omega (arith, a.long))
+          ∙ a.added k i (omega arith) (omega arith) (omega arith),
+      inl (omega arith),
+    ))
   ]
 
   moved : (x y u v : ℕ) → LeadsIn direct u v → x ≡ u → y ≡ v → LeadsIn direct x y
@@ -135,9 +173,11 @@ module _ (direct : List (List Bool)) (path : List ℕ) (again from cut : ℕ) (f
       subst P (sym e) (subst Q (sym f) d)
 
   -- an arc leads from the one place to the other
-  along : (i j : ℕ) → j < length path → (i ≡ j + 1) ⊎ ((i ≡ from) × (j + 1 ≡ length path)) → i < length path → LeadsIn direct (at path i) (at path j)
+  along : (i j : ℕ) → j < length path → (i ≡ j + 1) ⊎ ((i ≡ from) × (j + 1 ≡ length path)) → i < length path
+      → LeadsIn direct (at path i) (at path j)
   along i j l e h = elim e [
-    | inl s ↦ moved (at path i) (at path j) (at path (j + 1)) (at path j) (w.leads j (omega arith)) (ap (at path) s) refl
+    | inl s ↦ moved (at path i) (at path j) (at path (j + 1)) (at path j) (w.leads j (omega arith)) (ap (at path) s)
+        refl
     | inr s ↦ moved (at path i) (at path j) again (at path j) (w.last j s.1) (ap (at path) s.0 ∙ start) refl
   ]
 

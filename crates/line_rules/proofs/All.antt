@@ -17,5 +17,7 @@ pub length-all : (line : Line) → length (all_tasks line) ≡ 1024
 length-all line = length-full_to (tasks line)
 
 -- a set of tasks that has every task is the set of all
-pub all_is : (line : Line) (s : List Bool) → tasks line ≤ 1024 → IsTaskSet line s → ((i : ℕ) → i < tasks line → In s i) → s ≡ all_tasks line
-all_is line s small set each = same_members s (all_tasks line) set.truths (length-all line) (λ i. (λ m. In-all line i small (set.tasks i m), λ m. each i (In-all_lt line i m)))
+pub all_is : (line : Line) (s : List Bool) → tasks line ≤ 1024 → IsTaskSet line s → ((i : ℕ) → i < tasks line → In s i)
+    → s ≡ all_tasks line
+all_is line s small set each = same_members s (all_tasks line) set.truths (length-all line)
+    (λ i. (λ m. In-all line i small (set.tasks i m), λ m. each i (In-all_lt line i m)))

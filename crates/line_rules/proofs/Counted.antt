@@ -15,16 +15,22 @@ module _ (line : Line) (ok : IsLine line) (ranked : IsRanked line) where
   by_counted e why.Bound set = (0, refl)
   by_counted e (why.Branch mode cites) set = (
     length (loads_of line ok.small ranked e.cycle e.set set mode),
-    record { loads = loads_of line ok.small ranked e.cycle e.set set mode; listed = loads_listed line ok.small ranked e.cycle e.set set mode; long = refl },
+    record {
+      loads = loads_of line ok.small ranked e.cycle e.set set mode;
+      listed = loads_listed line ok.small ranked e.cycle e.set set mode;
+      long = refl;
+    },
   )
   by_counted e (why.Swap cite out into) set = (0, refl)
 
-  counted : (es : List Entry) → ((k : ℕ) (e : Entry) → slice_get es k ≡ Some e → IsTaskSet line e.set) → (units : ℕ) × UnitsOf line es units
+  counted : (es : List Entry) → ((k : ℕ) (e : Entry) → slice_get es k ≡ Some e → IsTaskSet line e.set)
+      → (units : ℕ) × UnitsOf line es units
   counted [] sets = (0, refl)
   counted (e ∷ es) sets =
       let a : (units : ℕ) × UnitsBy line e e.why units = by_counted e e.why (sets 0 e refl) in
       let b : (units : ℕ) × UnitsOf line es units = counted es (λ k x h. sets (suc k) x h) in
       (a.0 + b.0, (a.0, b.0, (a.1, b.1, refl)))
 
-  pub derived_counted : (kind : LineKind) (es : List Entry) → IsDerived kind line es → (units : ℕ) × UnitsOf line es units
+  pub derived_counted : (kind : LineKind) (es : List Entry) → IsDerived kind line es
+      → (units : ℕ) × UnitsOf line es units
   derived_counted kind es d = counted es (λ k e h. (d k e h).set)

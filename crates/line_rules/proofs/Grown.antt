@@ -11,10 +11,18 @@ use Rattle.line_rules.specs.declared.types.Why.{Why}
 use Rattle.line_rules.specs.declared.types.Why.TheVariants as why
 use Rattle.std.proofs.lemmas.List.{take-append-le, take_all}
 
-pub cites_longer : (es more : List Entry) (cite : ℕ) (T : List Bool) (r c : ℕ) → Cites es cite T r c → Cites (es ++ more) cite T r c
-cites_longer es more cite T r c h = record { entry = h.entry; there = get_longer es more cite h.entry h.there; part = h.part; stations = h.stations; cycle = h.cycle }
+pub cites_longer : (es more : List Entry) (cite : ℕ) (T : List Bool) (r c : ℕ) → Cites es cite T r c
+    → Cites (es ++ more) cite T r c
+cites_longer es more cite T r c h = record {
+  entry = h.entry;
+  there = get_longer es more cite h.entry h.there;
+  part = h.part;
+  stations = h.stations;
+  cycle = h.cycle;
+}
 
-pub covers_longer : (line : Line) (P : Load → Type 0) (es more : List Entry) (R : List Bool) (most c : ℕ) (cites : List ℕ) → Covers line P es R most c cites → Covers line P (es ++ more) R most c cites
+pub covers_longer : (line : Line) (P : Load → Type 0) (es more : List Entry) (R : List Bool) (most c : ℕ)
+    (cites : List ℕ) → Covers line P es R most c cites → Covers line P (es ++ more) R most c cites
 covers_longer line P es more R most c cites h = record {
   loads = h.loads;
   listed = h.listed;
@@ -22,7 +30,8 @@ covers_longer line P es more R most c cites h = record {
   cited = λ p cite l a b. cites_longer es more cite (rest R l) (most - 1) c (h.cited p cite l a b);
 }
 
-by_longer : (kind : LineKind) (line : Line) (es more : List Entry) (e : Entry) (w : Why) → FollowsBy kind line es e w → FollowsBy kind line (es ++ more) e w
+by_longer : (kind : LineKind) (line : Line) (es more : List Entry) (e : Entry) (w : Why) → FollowsBy kind line es e w
+    → FollowsBy kind line (es ++ more) e w
 by_longer kind line es more e why.Bound f = f
 by_longer kind line es more e (why.Branch mode cites) f = record {
   some = f.some;
@@ -46,15 +55,23 @@ by_longer kind line es more e (why.Swap cite out into) f = record {
 }
 
 -- what follows from a list follows from each longer one
-pub follows_longer : (kind : LineKind) (line : Line) (es more : List Entry) (e : Entry) → Follows kind line es e → Follows kind line (es ++ more) e
-follows_longer kind line es more e f = record { set = f.set; cycle = f.cycle; by = by_longer kind line es more e e.why f.by }
+pub follows_longer : (kind : LineKind) (line : Line) (es more : List Entry) (e : Entry) → Follows kind line es e
+    → Follows kind line (es ++ more) e
+follows_longer kind line es more e f = record {
+  set = f.set;
+  cycle = f.cycle;
+  by = by_longer kind line es more e e.why f.by;
+}
 
 -- a derived list with a further entry that follows from it
-pub derived_push : (kind : LineKind) (line : Line) (es : List Entry) (e : Entry) → IsDerived kind line es → Follows kind line es e → IsDerived kind line (es ++ e ∷ [])
+pub derived_push : (kind : LineKind) (line : Line) (es : List Entry) (e : Entry) → IsDerived kind line es
+    → Follows kind line es e → IsDerived kind line (es ++ e ∷ [])
 derived_push kind line es e d f k x g = elim (get_push_cases es e x k g) [
-  | inl p ↦ (let P : List Entry → Type 0 = λ before. Follows kind line before x in subst P (sym (take-append-le k es (e ∷ []) (omega (arith, p.0)))) (d k x p.1))
+  | inl p ↦ (let P : List Entry → Type 0 = λ before. Follows kind line before x in
+      subst P (sym (take-append-le k es (e ∷ []) (omega (arith, p.0)))) (d k x p.1))
   | inr q ↦
-      let t : take k (es ++ e ∷ []) ≡ es = take-append-le k es (e ∷ []) (omega (arith, q.0)) ∙ take_all k es (omega (arith, q.0)) in
+      let t : take k (es ++ e ∷ []) ≡ es = take-append-le k es (e ∷ []) (omega (arith, q.0))
+      ∙ take_all k es (omega (arith, q.0)) in
       let P : List Entry → Type 0 = λ before. Follows kind line before x in
       let Q : Entry → Type 0 = λ y. Follows kind line es y in
       subst P (sym t) (subst Q q.1 f)

@@ -1,5 +1,6 @@
 -- Going over the members of a set from the least on.
-use Rattle.std.proofs.Common.{◌≡◌, ℕ, zero, suc, ◌<◌, Bool, true, false, List, [], ◌∷◌, length, set, sym, ◌∙◌, subst, ◌⊎◌, inl, inr, arith, ◌↔◌}
+use Rattle.std.proofs.Common.{◌≡◌, ℕ, zero, suc, ◌<◌, Bool, true, false, List, [], ◌∷◌, length, set, sym, ◌∙◌, subst}
+use Rattle.std.proofs.Common.{◌⊎◌, inl, inr, arith, ◌↔◌}
 use Rattle.std.proofs.lemmas.Bool.{false≢true, cases_eq}
 use Rattle.std.proofs.lemmas.List.{length-set}
 use Rattle.task_set.specs.Truths.{In, IsEmpty, IsLeast}

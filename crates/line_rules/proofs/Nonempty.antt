@@ -1,5 +1,6 @@
 -- A set that isn't empty has a bound of at least 1.
-use Rattle.std.proofs.Common.{◌≡◌, ℕ, zero, suc, ◌<◌, ◌≤◌, Bool, true, false, cond, max, List, [], ◌∷◌, refl, sym, ◌⊎◌, inl, inr, arith}
+use Rattle.std.proofs.Common.{◌≡◌, ℕ, zero, suc, ◌<◌, ◌≤◌, Bool, true, false, cond, max, List, [], ◌∷◌, refl, sym, ◌⊎◌}
+use Rattle.std.proofs.Common.{inl, inr, arith}
 use Rattle.std.specs.Prelude.{nat_eq}
 use Rattle.task_set.specs.Truths.{In, IsEmpty, count}
 use Rattle.line_instance.specs.Line.{Line}
@@ -21,7 +22,8 @@ at_least_one false false x e = omega arith
 
 pub bound_some : (kind : LineKind) (line : Line) (c : ℕ) (R : List Bool) (i : ℕ) → In R i → 1 ≤ bound kind line c R
 unfolding bound
-bound_some kind line c R i m = at_least_one _ _ _ (elim (cases_Bool (nat_eq (count R) 0)) [ inl t ↦ absurd (omega (arith, eqb-true (count R) 0 t, member_counts R i m)) | inr f ↦ f ])
+bound_some kind line c R i m = at_least_one _ _ _ (elim (cases_Bool (nat_eq (count R) 0))
+    [ inl t ↦ absurd (omega (arith, eqb-true (count R) 0 t, member_counts R i m)) | inr f ↦ f ])
 
 empty_more : (s : List Bool) → IsEmpty s → (i : ℕ) → In (false ∷ s) i → ⊥
 empty_more s n zero m = false≢true m

@@ -16,7 +16,8 @@ use Rattle.line_rules.proofs.All.{In-all}
 pub seat_read : (ps : List Seatplace) (i : ℕ) (p : Seatplace) → slice_get ps i ≡ Some p → p ≡ seat ps i
 seat_read ps i p e = sym (get_or_from_slice_get ps i p (record { station = 0; side = Front }) e)
 
-module _ (kind : LineKind) (line : Line) (b : Assignment) (small : tasks line ≤ 1024) (i j : ℕ) (p q : Seatplace) (pi : slice_get b.place i ≡ Some p) (qj : slice_get b.place j ≡ Some q) where
+module _ (kind : LineKind) (line : Line) (b : Assignment) (small : tasks line ≤ 1024) (i j : ℕ) (p q : Seatplace)
+    (pi : slice_get b.place i ≡ Some p) (qj : slice_get b.place j ≡ Some q) where
   kept : Keeps kind (seat b.place i) (seat b.place j) → Keeps kind p q
   kept k =
       let P : Seatplace → Type 0 = λ s. Keeps kind s (seat b.place j) in
@@ -24,7 +25,12 @@ module _ (kind : LineKind) (line : Line) (b : Assignment) (small : tasks line �
       subst Q (sym (seat_read b.place j q qj)) (subst P (sym (seat_read b.place i p pi)) k)
 
   pub breaks : i < tasks line → j < tasks line → Before line i j → (Keeps kind p q → ⊥) → Breaks kind line b i j
-  breaks li lj before n = record { first = In-all line i small li; second = In-all line j small lj; before = before; broken = λ k. n (kept k) }
+  breaks li lj before n = record {
+    first = In-all line i small li;
+    second = In-all line j small lj;
+    before = before;
+    broken = λ k. n (kept k);
+  }
 
   pub keeps : Keeps kind p q → Keeps kind (seat b.place i) (seat b.place j)
   keeps k =

@@ -1,6 +1,7 @@
--- Tasks that are no longer than the cycle have a balance with one task per station, in rank order, in as many stations as there
--- are of them.
-use Rattle.std.proofs.Common.{◌≡◌, ℕ, zero, suc, ◌+◌, ◌<◌, ◌≤◌, true, false, Bool, cond, ◌&&◌, nat_eq, List, [], ◌∷◌, length, get_or, set, replicate, refl, sym, ap, ◌∙◌, subst, ◌⊎◌, inl, inr, arith}
+-- Tasks that are no longer than the cycle have a balance with one task per station, in rank order, in as many stations
+-- as there are of them.
+use Rattle.std.proofs.Common.{◌≡◌, ℕ, zero, suc, ◌+◌, ◌<◌, ◌≤◌, true, false, Bool, cond, ◌&&◌, nat_eq, List, [], ◌∷◌}
+use Rattle.std.proofs.Common.{length, get_or, set, replicate, refl, sym, ap, ◌∙◌, subst, ◌⊎◌, inl, inr, arith}
 use Rattle.std.proofs.Math.ListN.{length-set}
 use Rattle.std.proofs.lemmas.Bool.{cases_lt, cases_Bool, and_parts, eqb-true}
 use Rattle.std.proofs.lemmas.List.{length-replicate}
@@ -31,11 +32,13 @@ one_picked : (X : ℕ) (p : ℕ → Bool) (ts : List ℕ) → ((i j : ℕ) → p
 one_picked X p [] once most = omega arith
 one_picked X p (t ∷ ts) once most = elim (cases_Bool (p 0)) [
   | inl y ↦ (
-      let others : (i : ℕ) → p (suc i) ≡ false = λ i. elim (cases_Bool (p (suc i))) [ inl z ↦ absurd (omega (arith, once 0 (suc i) y z)) | inr n ↦ n ] in
+      let others : (i : ℕ) → p (suc i) ≡ false = λ i. elim (cases_Bool (p (suc i)))
+      [ inl z ↦ absurd (omega (arith, once 0 (suc i) y z)) | inr n ↦ n ] in
       omega (arith, cond_le (p 0) t X (most 0), weigh-none (λ z. z) (λ i. p (suc i)) others ts)
       )
   | inr n ↦ (
-      let same : (i j : ℕ) → p (suc i) ≡ true → p (suc j) ≡ true → i ≡ j = λ i j u v. omega (arith, once (suc i) (suc j) u v) in
+      let same : (i j : ℕ) → p (suc i) ≡ true → p (suc j) ≡ true
+      → i ≡ j = λ i j u v. omega (arith, once (suc i) (suc j) u v) in
       omega (arith, cond_none (p 0) t n, one_picked X (λ i. p (suc i)) ts same (λ i u. most (suc i) u))
       )
 ]
@@ -57,16 +60,18 @@ with_wanted : Bool → List Bool → ℕ → List Bool
 with_wanted true s t = set s t true
 with_wanted false s t = s
 
-module _ (kind : LineKind) (line : Line) (ok : IsLine line) (ranked : IsRanked line) (X : ℕ) (R : List Bool) (all : IsTaskSet line R) (short : (i : ℕ) → In R i → time line i ≤ X) where
+module _ (kind : LineKind) (line : Line) (ok : IsLine line) (ranked : IsRanked line) (X : ℕ) (R : List Bool)
+    (all : IsTaskSet line R) (short : (i : ℕ) → In R i → time line i ≤ X) where
   rank_of : ℕ → ℕ
   rank_of i = elim (cases_lt i (tasks line)) [ inl l ↦ (ranked.rank i l).0 | inr g ↦ 0 ]
 
   rank_is : (i : ℕ) → i < tasks line → (rank_of i < tasks line) × (at_rank line (rank_of i) ≡ i)
   unfolding rank_of
-  rank_is i less = elim (cases_lt i (tasks line)) as (λ (d : (i < tasks line) ⊎ (tasks line ≤ i)). let r : ℕ = elim d [ inl l ↦ (ranked.rank i l).0 | inr g ↦ 0 ] in (r < tasks line) × (at_rank line r ≡ i)) [
-    | inl l ↦ ((ranked.rank i l).1, (ranked.rank i l).2)
-    | inr g ↦ absurd (omega (arith, less, g))
-  ]
+  rank_is i less = elim (cases_lt i (tasks line)) as (λ (d : (i < tasks line) ⊎ (tasks line ≤ i)). let r : ℕ =
+      elim d [ inl l ↦ (ranked.rank i l).0 | inr g ↦ 0 ] in (r < tasks line) × (at_rank line r ≡ i)) [
+        | inl l ↦ ((ranked.rank i l).1, (ranked.rank i l).2)
+        | inr g ↦ absurd (omega (arith, less, g))
+      ]
 
   -- the tasks of R at the ranks below k
   below : ℕ → List Bool
@@ -85,7 +90,11 @@ module _ (kind : LineKind) (line : Line) (ok : IsLine line) (ranked : IsRanked l
   unfolding with_wanted
   next_below k s t true e w small h = record {
     truths = length-set s t true ∙ h.truths;
-    wanted = λ i m. elim (In-set_cases s t i m) [ inl old ↦ h.wanted i old | inr new ↦ (let P : ℕ → Type 0 = In R in subst P (sym new) (sym w)) ];
+    wanted = λ i m. elim (In-set_cases s t i m) [
+      | inl old ↦ h.wanted i old
+      | inr new ↦
+          (let P : ℕ → Type 0 = In R in subst P (sym new) (sym w))
+    ];
     ranks = λ i m. elim (In-set_cases s t i m) [
       | inl old ↦ (let r : (m : ℕ) × (m < k) × (at_rank line m ≡ i) = h.ranks i old in (r.0, omega (arith, r.1), r.2))
       | inr new ↦ (k, omega arith, sym e ∙ sym new)
@@ -125,7 +134,8 @@ module _ (kind : LineKind) (line : Line) (ok : IsLine line) (ranked : IsRanked l
     ranks = λ i m. absurd (In-empty 1024 i m);
     holds = λ m h. absurd (omega (arith, h));
   }
-  below_is (suc k) l = next_below k (below k) (at_rank line k) (has R (at_rank line k)) refl refl (rank_small k (omega (arith, l))) (below_is k (omega (arith, l)))
+  below_is (suc k) l = next_below k (below k) (at_rank line k) (has R (at_rank line k)) refl refl
+      (rank_small k (omega (arith, l))) (below_is k (omega (arith, l)))
 
   -- a rank more adds its task, where that is one of R
   counts_more : (k : ℕ) → k < tasks line → In R (at_rank line k) → count (below (suc k)) ≡ count (below k) + 1
@@ -134,7 +144,8 @@ module _ (kind : LineKind) (line : Line) (ok : IsLine line) (ranked : IsRanked l
       let t : ℕ = at_rank line k in
       let h : IsBelow k (below k) = below_is k (omega (arith, l)) in
       let new : get_or (below k) t false ≡ false = elim (cases_Bool (get_or (below k) t false)) [
-        | inl y ↦ (let q : (m : ℕ) × (m < k) × (at_rank line m ≡ t) = h.ranks t y in absurd (omega (arith, q.1, ranked.once q.0 k (omega (arith, q.1, l)) l q.2)))
+        | inl y ↦ (let q : (m : ℕ) × (m < k) × (at_rank line m ≡ t) = h.ranks t y in
+            absurd (omega (arith, q.1, ranked.once q.0 k (omega (arith, q.1, l)) l q.2)))
         | inr n ↦ n
       ] in
       let P : Bool → Type 0 = λ b. count (with_wanted b (below k) t) ≡ count (below k) + 1 in
@@ -152,10 +163,12 @@ module _ (kind : LineKind) (line : Line) (ok : IsLine line) (ranked : IsRanked l
   ]
 
   grows : (k m : ℕ) → k ≤ m → m ≤ tasks line → count (below k) ≤ count (below m)
-  grows k zero h l = let e : k ≡ 0 = omega (arith, h) in let P : ℕ → Type 0 = λ z. count (below k) ≤ count (below z) in subst P e (omega arith)
+  grows k zero h l = let e : k ≡ 0 = omega (arith, h) in let P : ℕ → Type 0 = λ z. count (below k) ≤ count (below z) in
+      subst P e (omega arith)
   grows k (suc m) h l = elim (cases_lt k (suc m)) [
     | inl less ↦ omega (arith, grows k m (omega (arith, less)) (omega (arith, l)), counts_grow m (omega (arith, l)))
-    | inr most ↦ (let e : k ≡ suc m = omega (arith, h, most) in let P : ℕ → Type 0 = λ z. count (below k) ≤ count (below z) in subst P e (omega arith))
+    | inr most ↦ (let e : k ≡ suc m = omega (arith, h, most) in let P : ℕ
+        → Type 0 = λ z. count (below k) ≤ count (below z) in subst P e (omega arith))
   ]
 
   -- fewer tasks of R stand below a task of R than below one of a higher rank
@@ -168,7 +181,8 @@ module _ (kind : LineKind) (line : Line) (ok : IsLine line) (ranked : IsRanked l
       same_members (below (tasks line)) R h.truths all.truths (λ i. (
         λ m. h.wanted i m,
         λ m. let r : (rank_of i < tasks line) × (at_rank line (rank_of i) ≡ i) = rank_is i (all.tasks i m) in
-            subst (λ (z : ℕ). In (below (tasks line)) z) r.1 (h.holds (rank_of i) r.0 (subst (λ (z : ℕ). In R z) (sym r.1) m)),
+            subst (λ (z : ℕ). In (below (tasks line)) z) r.1
+            (h.holds (rank_of i) r.0 (subst (λ (z : ℕ). In R z) (sym r.1) m)),
       ))
 
   -- the station of a task: one more than the tasks of R at lower ranks
@@ -199,7 +213,8 @@ module _ (kind : LineKind) (line : Line) (ok : IsLine line) (ranked : IsRanked l
   keeps U i j m n b = record { front = λ e. (refl, omega (arith, earlier i j m n b)); back = λ e. absurd (cc) }
 
   same_task : (i j : ℕ) → In R i → In R j → rank_of i ≡ rank_of j → i ≡ j
-  same_task i j m n e = sym (rank_is i (all.tasks i m)).1 ∙ (ap (λ (z : ℕ). at_rank line z) e ∙ (rank_is j (all.tasks j n)).1)
+  same_task i j m n e = sym (rank_is i (all.tasks i m)).1 ∙ (ap (λ (z : ℕ). at_rank line z) e
+      ∙ (rank_is j (all.tasks j n)).1)
 
   -- no station has two tasks
   alone : (i j : ℕ) → In R i → In R j → (seat i).station ≡ (seat j).station → i ≡ j
@@ -215,14 +230,20 @@ module _ (kind : LineKind) (line : Line) (ok : IsLine line) (ranked : IsRanked l
   at_station : (s : ℕ) → sum_where (λ i. has R i && nat_eq (seat i).station s) line.times ≤ X
   at_station s =
       let at : (i : ℕ) → (has R i && nat_eq (seat i).station s) ≡ true → In R i × ((seat i).station ≡ s) =
-      λ i e. let q : In R i × (nat_eq (seat i).station s ≡ true) = and_parts (has R i) (nat_eq (seat i).station s) e in (q.0, eqb-true (seat i).station s q.1) in
-      one_picked X (λ i. has R i && nat_eq (seat i).station s) line.times (λ i j p q. alone i j (at i p).0 (at j q).0 ((at i p).1 ∙ sym (at j q).1)) (λ i p. short i (at i p).0)
+      λ i e. let q : In R i × (nat_eq (seat i).station s ≡ true) = and_parts (has R i) (nat_eq (seat i).station s) e in
+      (q.0, eqb-true (seat i).station s q.1) in
+      one_picked X (λ i. has R i && nat_eq (seat i).station s) line.times
+      (λ i j p q. alone i j (at i p).0 (at j q).0 ((at i p).1 ∙ sym (at j q).1)) (λ i p. short i (at i p).0)
 
   within : (i : ℕ) → In R i → (seat i).station ≤ count R
   unfolding seat
   within i m =
       let r : (rank_of i < tasks line) × (at_rank line (rank_of i) ≡ i) = rank_is i (all.tasks i m) in
-      omega (arith, rises (rank_of i) (tasks line) r.0 (omega arith) (ranked_in i m), ap (λ (s : List Bool). count s) all_below)
+      omega (
+        arith,
+        rises (rank_of i) (tasks line) r.0 (omega arith) (ranked_in i m),
+        ap (λ (s : List Bool). count s) all_below,
+      )
 
   spread : IsBalance kind line X R (count R) seat
   spread = record {
@@ -233,5 +254,6 @@ module _ (kind : LineKind) (line : Line) (ok : IsLine line) (ranked : IsRanked l
     fits = at_station;
   }
 
-  pub each_alone : (place : ℕ → Seatplace) × IsBalance kind line X R (count R) place × ((i j : ℕ) → In R i → In R j → (place i).station ≡ (place j).station → i ≡ j)
+  pub each_alone : (place : ℕ → Seatplace) × IsBalance kind line X R (count R) place
+      × ((i j : ℕ) → In R i → In R j → (place i).station ≡ (place j).station → i ≡ j)
   each_alone = (seat, spread, alone)

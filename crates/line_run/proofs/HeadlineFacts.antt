@@ -31,18 +31,27 @@ reports_so R P (Err (stop.Report x)) p m (inr e) = absurd (m.stopped e)
 reports_so R P (Err stop.Memory) p m a = absurd (not_memory ends.Memory a refl)
 reports_so R P (Err stop.Unwritten) p m a = absurd (not_written ends.WriteFault a refl)
 
-module _ (words : List Text) (files after : Files) (old new : List ℕ) (before faults : ℕ) (status : Status) (kept : Kept) where
-  of_report : (r : Report) → (IsAnswered r.status → AsksPromise words files after (Ok r)) → Puts r.status r.text.items r.kept old new before faults status kept → IsAnswered status
+module _ (words : List Text) (files after : Files) (old new : List ℕ) (before faults : ℕ) (status : Status)
+    (kept : Kept) where
+  of_report : (r : Report) → (IsAnswered r.status → AsksPromise words files after (Ok r))
+      → Puts r.status r.text.items r.kept old new before faults status kept → IsAnswered status
       → IsHeadline words files after old new status kept
   of_report r p (inl q) a =
       let h = p (subst IsAnswered q.0 a) in
       let S : Status → Type 0 = λ s. PromisesOf files after h.job s r.text.items kept in
       let K : Kept → Type 0 = λ k. PromisesOf files after h.job r.status r.text.items k in
-      record { job = h.job; asked = h.asked; text = r.text.items; shown = q.1; promise = subst S (sym q.0) (subst K (sym q.2) h.promise) }
+      record {
+        job = h.job;
+        asked = h.asked;
+        text = r.text.items;
+        shown = q.1;
+        promise = subst S (sym q.0) (subst K (sym q.2) h.promise);
+      }
   of_report r p (inr q) a = absurd (not_written status a q.0)
 
   -- a run that answers has what its job promises
-  pub headlined : (r : Result Report Stop) → (IsAnswered (status_of r) → AsksPromise words files after r) → Finishes r old new before faults status kept → IsAnswered status
+  pub headlined : (r : Result Report Stop) → (IsAnswered (status_of r) → AsksPromise words files after r)
+      → Finishes r old new before faults status kept → IsAnswered status
       → IsHeadline words files after old new status kept
   headlined (Ok r) p f a = of_report r p f a
   headlined (Err (stop.Report r)) p (inl q) a = absurd ((p (subst IsAnswered q.0 a)).promise)

@@ -20,14 +20,16 @@ Tries seed tasks cycle kind units r = IfOk r (λ x. IsTried seed tasks cycle kin
 
 module _ (o : Outside) (seed tasks cycle : ℕ) (kind : LineKind) (units : ℕ) where
   -- it ends with that, and the files stay
-  pub try_ends : (r : Result Report Stop) → Tries seed tasks cycle kind units r → OnlyMemory r → Ends o (IsTryOutcome seed tasks cycle kind units) o.files r
+  pub try_ends : (r : Result Report Stop) → Tries seed tasks cycle kind units r → OnlyMemory r
+      → Ends o (IsTryOutcome seed tasks cycle kind units) o.files r
   try_ends (Ok r) t m = record { page = None; reached = record { tried = t; bare = refl }; written = λ q. refl }
   try_ends (Err (stop.Report r)) t m = absurd (cc)
   try_ends (Err stop.Memory) t m = λ q. refl
   try_ends (Err stop.Unwritten) t m = absurd (cc)
 
 module _ (seed tasks cycle : ℕ) (kind : LineKind) (units : ℕ) where
-  pub try_plain : (r : Result Report Stop) → Tries seed tasks cycle kind units r → OnlyMemory r → IsPlainEnd (IsTryOutcome seed tasks cycle kind units) r
+  pub try_plain : (r : Result Report Stop) → Tries seed tasks cycle kind units r → OnlyMemory r
+      → IsPlainEnd (IsTryOutcome seed tasks cycle kind units) r
   try_plain (Ok r) t m = record { tried = t; bare = refl }
   try_plain (Err (stop.Report r)) t m = absurd (cc)
   try_plain (Err stop.Memory) t m = tt

@@ -21,7 +21,13 @@ use Rattle.line_seek.specs.inner.Trying.{Gains, IsPaid}
 pub paid_none : (about : About) (best : Assignment) (book : BookView) → book ≡ opened about best → IsPaid book 0 0
 paid_none about best book e =
     let P : BookView → Type 0 = λ z. IsPaid z 0 0 in
-    subst P (sym e) (record { cycles = λ k x g. absurd (cc); few = omega arith; units = 0; counted = refl; within = omega arith })
+    subst P (sym e) (record {
+      cycles = λ k x g. absurd (cc);
+      few = omega arith;
+      units = 0;
+      counted = refl;
+      within = omega arith;
+    })
 
 -- what a book gained is paid for beside what it had
 pub paid_more : (old new : BookView) (a m b n : ℕ) → IsPaid old a m → Gains old new b n → IsPaid new (a + b) (m + n)

@@ -1,5 +1,6 @@
 -- The numbers of a job lie in the ranges of their keys.
-use Rattle.std.proofs.Common.{◌≡◌, ◌⊎◌, ◌∙◌, ℕ, zero, suc, ◌<◌, ◌≤◌, Bool, true, false, ◌&&◌, cond, List, [], ◌∷◌, length, take, refl, sym, ap, subst, arith, Option, Some, None, codes, inl, inr}
+use Rattle.std.proofs.Common.{◌≡◌, ◌⊎◌, ◌∙◌, ℕ, zero, suc, ◌<◌, ◌≤◌, Bool, true, false, ◌&&◌, cond, List, [], ◌∷◌}
+use Rattle.std.proofs.Common.{length, take, refl, sym, ap, subst, arith, Option, Some, None, codes, inl, inr}
 use Rattle.std.specs.Prelude.{slice_index_or, nat_le}
 use Rattle.std.specs.Str.{bytes_eq}
 use Rattle.std.proofs.lemmas.Bool.{and_parts}
@@ -7,14 +8,18 @@ use Rattle.std.proofs.lemmas.Bool.Decides.{nat_tests}
 use Rattle.line_io.specs.Lines.{number_in, is_number, value_of as digits_value}
 use Rattle.line_io.specs.declared.text.Num.TheVariants.{Value, NotANumber, Above}
 use Rattle.line_words.specs.Words.{Text, setting, value_by, value_of, or_else, sets}
-use Rattle.line_words.specs.Table.{takes, is_value, is_least, least_of, most_of, number_up_to, as_value, leads_with_nought}
-use Rattle.line_words.specs.Jobs.{setting_fault, fault_by, AreRight, Asks, IsJob, IsPageJob, IsCommanded, job_for, number_in_value, number_set, number_or, or_default, are_ordered, ends_agree}
+use Rattle.line_words.specs.Table.{takes, is_value, is_least, least_of, most_of, number_up_to, as_value}
+use Rattle.line_words.specs.Table.{leads_with_nought}
+use Rattle.line_words.specs.Jobs.{setting_fault, fault_by, AreRight, Asks, IsJob, IsPageJob, IsCommanded, job_for}
+use Rattle.line_words.specs.Jobs.{number_in_value, number_set, number_or, or_default, are_ordered, ends_agree}
 use Rattle.line_words.specs.Ranges.{IsBetween, IsSetBetween, IsInRange}
 use Rattle.line_words.specs.declared.command.Command.{Command}
 use Rattle.line_words.specs.declared.command.Command.TheVariants as command
 use Rattle.line_words.specs.declared.fault.UsageKind.TheVariants.{UnknownKey, RepeatedKey, BadValue}
 use Rattle.line_words.specs.declared.job.Job.{Job}
-use Rattle.line_words.specs.declared.job.Job.TheVariants.{Help, Version, Balance, Solve, Cycle, Check, Convert, Combine, Utility, Timeline, Try, Draw, Effic, EfficCheck, Sequence, SequenceCheck}
+use Rattle.line_words.specs.declared.job.Job.TheVariants.{Help, Version, Balance, Solve, Cycle, Check, Convert, Combine}
+use Rattle.line_words.specs.declared.job.Job.TheVariants.{Utility, Timeline, Try, Draw, Effic, EfficCheck, Sequence}
+use Rattle.line_words.specs.declared.job.Job.TheVariants.{SequenceCheck}
 use Rattle.line_words.proofs.Behind.{same_bytes}
 
 -- a setting at some place has the key and the value, which is that of the key in all words up to a place behind it
@@ -45,7 +50,12 @@ set_at (word ∷ words) key value e = by_setting (set_at words key value) (setti
 
     later : (value_of words key ≡ Some value → IsSetAt words key value) → value_by key (setting word) ≡ None
         → or_else None (value_of words key) ≡ Some value → IsSetAt (word ∷ words) key value
-    later f n e = (let s = f e in record { place = suc s.place; within = omega (arith, s.within); is = s.is; behind = goes_on s n })
+    later f n e = (let s = f e in record {
+      place = suc s.place;
+      within = omega (arith, s.within);
+      is = s.is;
+      behind = goes_on s n;
+    })
 
     here : (p : Text × Text) → setting word ≡ Some p → bytes_eq p.0 key ≡ true → p.1 ≡ value → (j : ℕ) → 0 < j
         → value_of (take j (word ∷ words)) key ≡ Some value
@@ -54,7 +64,8 @@ set_at (word ∷ words) key value e = by_setting (set_at words key value) (setti
         ap (λ o. or_else (value_by key o) (value_of (take j words) key)) s
         ∙ ap (λ t. or_else (cond t (Some p.1) None) (value_of (take j words) key)) b ∙ ap Some v
 
-    by_key : (value_of words key ≡ Some value → IsSetAt words key value) → (p : Text × Text) → setting word ≡ Some p → (b : Bool) → bytes_eq p.0 key ≡ b
+    by_key : (value_of words key ≡ Some value → IsSetAt words key value) → (p : Text × Text) → setting word ≡ Some p
+        → (b : Bool) → bytes_eq p.0 key ≡ b
         → or_else (cond b (Some p.1) None) (value_of words key) ≡ Some value → IsSetAt (word ∷ words) key value
     by_key f p s true b e = record {
       place = 0;
@@ -64,9 +75,12 @@ set_at (word ∷ words) key value e = by_setting (set_at words key value) (setti
     }
     by_key f p s false b e = later f (ap (value_by key) s ∙ ap (λ t. cond t (Some p.1) None) b) e
 
-    by_setting : (value_of words key ≡ Some value → IsSetAt words key value) → (o : Option (Text × Text)) → setting word ≡ o → IsSetAt (word ∷ words) key value
-    by_setting f None s = later f (ap (value_by key) s) (sym (ap (λ o. or_else (value_by key o) (value_of words key)) s) ∙ e)
-    by_setting f (Some p) s = by_key f p s (bytes_eq p.0 key) refl (sym (ap (λ o. or_else (value_by key o) (value_of words key)) s) ∙ e)
+    by_setting : (value_of words key ≡ Some value → IsSetAt words key value) → (o : Option (Text × Text))
+        → setting word ≡ o → IsSetAt (word ∷ words) key value
+    by_setting f None s = later f (ap (value_by key) s) (sym (ap (λ o. or_else (value_by key o) (value_of words key)) s)
+        ∙ e)
+    by_setting f (Some p) s = by_key f p s (bytes_eq p.0 key) refl
+        (sym (ap (λ o. or_else (value_by key o) (value_of words key)) s) ∙ e)
 
 -- a setting with which nothing is wrong has a value of its key, and the ends of a range of stations agree
 setting_right : (command : Command) (before : List Text) (p : Text × Text) → setting_fault command before p ≡ None
@@ -84,33 +98,40 @@ setting_right command before p e = by_key (takes command p.0) e
     by_before true e = absurd (none_some RepeatedKey (sym e))
     by_before false e = by_right right e
 
-    by_key : (b : Bool) → cond b (cond (sets before p.0) (Some RepeatedKey) (cond right None (Some BadValue))) (Some UnknownKey) ≡ None
+    by_key : (b : Bool) → cond b (cond (sets before p.0) (Some RepeatedKey) (cond right None (Some BadValue)))
+        (Some UnknownKey) ≡ None
         → right ≡ true
     by_key true e = by_before (sets before p.0) e
     by_key false e = absurd (none_some UnknownKey (sym e))
 
 -- where nothing is wrong with the words, what is set at a place is right by the words before it
-right_at : (command : Command) (words : List Text) (key value : Text) → AreRight command words → (s : IsSetAt words key value)
+right_at : (command : Command) (words : List Text) (key value : Text) → AreRight command words
+    → (s : IsSetAt words key value)
     → (is_value command key value && ends_agree command (take s.place words) (key, value)) ≡ true
 right_at command words key value right s =
     setting_right command (take s.place words) (key, value)
     (sym (ap (fault_by command (take s.place words) (slice_index_or words s.place [])) s.is) ∙ right s.place s.within)
 
 -- where nothing is wrong with the words, the value of a key is one that it takes
-pub value_right : (command : Command) (words : List Text) (key value : Text) → AreRight command words → value_of words key ≡ Some value → is_value command key value ≡ true
+pub value_right : (command : Command) (words : List Text) (key value : Text) → AreRight command words
+    → value_of words key ≡ Some value → is_value command key value ≡ true
 value_right command words key value right e =
     let s = set_at words key value e in
-    (and_parts (is_value command key value) (ends_agree command (take s.place words) (key, value)) (right_at command words key value right s)).0
+    (and_parts (is_value command key value) (ends_agree command (take s.place words) (key, value))
+    (right_at command words key value right s)).0
 
 -- a number that a key takes lies in the key's range
 number_most : (most n : ℕ) (text : Text) → number_up_to most text ≡ Some n → n ≤ most
 number_most most n text e = by_nought (leads_with_nought text) e
   where
-    by_le : (b : Bool) → nat_le (digits_value text) most ≡ b → as_value (cond b (Value (digits_value text)) Above) ≡ Some n → n ≤ most
-    by_le true l e = (let s : digits_value text ≡ n = some_same (digits_value text) n e in subst (λ k. k ≤ most) s (grind (arith, nat_tests, l)))
+    by_le : (b : Bool) → nat_le (digits_value text) most ≡ b
+        → as_value (cond b (Value (digits_value text)) Above) ≡ Some n → n ≤ most
+    by_le true l e = (let s : digits_value text ≡ n = some_same (digits_value text) n e in
+        subst (λ k. k ≤ most) s (grind (arith, nat_tests, l)))
     by_le false l e = absurd (none_some n e)
 
-    by_number : (b : Bool) → as_value (cond b (cond (nat_le (digits_value text) most) (Value (digits_value text)) Above) NotANumber) ≡ Some n → n ≤ most
+    by_number : (b : Bool) → as_value (cond b (cond (nat_le (digits_value text) most) (Value (digits_value text)) Above)
+        NotANumber) ≡ Some n → n ≤ most
     by_number true e = by_le (nat_le (digits_value text) most) refl e
     by_number false e = absurd (none_some n e)
 
@@ -118,29 +139,37 @@ number_most most n text e = by_nought (leads_with_nought text) e
     by_nought true e = absurd (none_some n e)
     by_nought false e = by_number (is_number text) e
 
-by_value : (least most : ℕ) (text : Text) (o : Option ℕ) → number_up_to most text ≡ o → is_least least o ≡ true → IsSetBetween least most o
+by_value : (least most : ℕ) (text : Text) (o : Option ℕ) → number_up_to most text ≡ o → is_least least o ≡ true
+    → IsSetBetween least most o
 by_value least most text None e h = tt
 by_value least most text (Some n) e h = (grind (arith, nat_tests, h), number_most most n text e)
 
 -- where a key of numbers takes a value, the number that the words set it to lies in its range
 abbrev pub TakesNumbers : Command → Text → Type 0
-TakesNumbers command key = (value : Text) → is_value command key value ≡ is_least (least_of key) (number_up_to (most_of command key) value)
+TakesNumbers command key = (value : Text) → is_value command key value
+    ≡ is_least (least_of key) (number_up_to (most_of command key) value)
 
-pub set_between : (command : Command) (words : List Text) (key : Text) → TakesNumbers command key → AreRight command words → IsSetBetween (least_of key) (most_of command key) (number_set command words key)
+pub set_between : (command : Command) (words : List Text) (key : Text) → TakesNumbers command key
+    → AreRight command words → IsSetBetween (least_of key) (most_of command key) (number_set command words key)
 set_between command words key numbers right = go (value_of words key) refl
   where
-    go : (o : Option Text) → value_of words key ≡ o → IsSetBetween (least_of key) (most_of command key) (number_in_value command key o)
+    go : (o : Option Text) → value_of words key ≡ o → IsSetBetween (least_of key) (most_of command key)
+        (number_in_value command key o)
     go None e = tt
-    go (Some value) e = by_value (least_of key) (most_of command key) value (number_up_to (most_of command key) value) refl (sym (numbers value) ∙ value_right command words key value right e)
+    go (Some value) e = by_value (least_of key) (most_of command key) value (number_up_to (most_of command key) value)
+        refl (sym (numbers value) ∙ value_right command words key value right e)
 
-or_between : (least most d : ℕ) (o : Option ℕ) → IsBetween least most d → IsSetBetween least most o → IsBetween least most (or_default d o)
+or_between : (least most d : ℕ) (o : Option ℕ) → IsBetween least most d → IsSetBetween least most o
+    → IsBetween least most (or_default d o)
 or_between least most d None b s = b
 or_between least most d (Some n) b s = s
 
 -- the same with a default in the range
-pub default_between : (command : Command) (words : List Text) (key : Text) (d : ℕ) → TakesNumbers command key → AreRight command words → IsBetween (least_of key) (most_of command key) d
+pub default_between : (command : Command) (words : List Text) (key : Text) (d : ℕ) → TakesNumbers command key
+    → AreRight command words → IsBetween (least_of key) (most_of command key) d
     → IsBetween (least_of key) (most_of command key) (number_or command words key d)
-default_between command words key d numbers right b = or_between (least_of key) (most_of command key) d (number_set command words key) b (set_between command words key numbers right)
+default_between command words key d numbers right b = or_between (least_of key) (most_of command key) d
+    (number_set command words key) b (set_between command words key numbers right)
 
 -- two numbers are in order where the test says so
 ordered : (least most : ℕ) → are_ordered (Some least) (Some most) ≡ true → least ≤ most
@@ -157,7 +186,8 @@ ends_are (suc k) (suc i) = elim (ends_are k i) [
 ]
 
 -- where nothing is wrong with the words, the least number of stations that they set isn't above the most
-set_in_order : (words : List Text) → AreRight command.Effic words → (v w : Text) → value_of words (codes "least") ≡ Some v → value_of words (codes "most") ≡ Some w
+set_in_order : (words : List Text) → AreRight command.Effic words → (v w : Text)
+    → value_of words (codes "least") ≡ Some v → value_of words (codes "most") ≡ Some w
     → are_ordered (number_up_to 1024 v) (number_up_to 1024 w) ≡ true
 set_in_order words right v w e f = by_places (ends_are s.place t.place)
   where
@@ -168,20 +198,26 @@ set_in_order words right v w e f = by_places (ends_are s.place t.place)
     t = set_at words (codes "most") w f
 
     same_place : s.place ≡ t.place → ⊥
-    same_place p = other (some_same (codes "least", v) (codes "most", w) (sym s.is ∙ ap (λ k. setting (slice_index_or words k [])) p ∙ t.is))
+    same_place p = other (some_same (codes "least", v) (codes "most", w)
+        (sym s.is ∙ ap (λ k. setting (slice_index_or words k [])) p ∙ t.is))
       where
         other : ◌≡◌ {A = Text × Text} (codes "least", v) (codes "most", w) → ⊥
         other q = true_false (ap (λ p. bytes_eq p.0 (codes "least")) q)
 
-    by_places : (s.place < t.place) ⊎ (s.place ≡ t.place) ⊎ (t.place < s.place) → are_ordered (number_up_to 1024 v) (number_up_to 1024 w) ≡ true
+    by_places : (s.place < t.place) ⊎ (s.place ≡ t.place) ⊎ (t.place < s.place)
+        → are_ordered (number_up_to 1024 v) (number_up_to 1024 w) ≡ true
     by_places (inl l) =
-        sym (ap (λ o. are_ordered (number_in_value command.Effic (codes "least") o) (number_up_to 1024 w)) (s.behind t.place l))
-        ∙ (and_parts (is_value command.Effic (codes "most") w) (ends_agree command.Effic (take t.place words) (codes "most", w))
+        sym (ap (λ o. are_ordered (number_in_value command.Effic (codes "least") o) (number_up_to 1024 w))
+        (s.behind t.place l))
+        ∙ (and_parts (is_value command.Effic (codes "most") w)
+        (ends_agree command.Effic (take t.place words) (codes "most", w))
         (right_at command.Effic words (codes "most") w right t)).1
     by_places (inr (inl p)) = absurd (same_place p)
     by_places (inr (inr l)) =
-        sym (ap (λ o. are_ordered (number_up_to 1024 v) (number_in_value command.Effic (codes "most") o)) (t.behind s.place l))
-        ∙ (and_parts (is_value command.Effic (codes "least") v) (ends_agree command.Effic (take s.place words) (codes "least", v))
+        sym (ap (λ o. are_ordered (number_up_to 1024 v) (number_in_value command.Effic (codes "most") o))
+        (t.behind s.place l))
+        ∙ (and_parts (is_value command.Effic (codes "least") v)
+        (ends_agree command.Effic (take s.place words) (codes "least", v))
         (right_at command.Effic words (codes "least") v right s)).1
 
 -- where nothing is wrong with the words, the numbers of stations are in order
@@ -195,7 +231,8 @@ ends_in_order words right = by_least (value_of words (codes "least")) refl
     most : Option Text → ℕ
     most o = or_default 1024 (number_in_value command.Effic (codes "most") o)
 
-    by_numbers : (n m : Option ℕ) → IsSetBetween 1 1024 n → IsSetBetween 1 1024 m → are_ordered n m ≡ true → or_default 1 n ≤ or_default 1024 m
+    by_numbers : (n m : Option ℕ) → IsSetBetween 1 1024 n → IsSetBetween 1 1024 m → are_ordered n m ≡ true
+        → or_default 1 n ≤ or_default 1024 m
     by_numbers None None h k o = omega arith
     by_numbers None (Some m) h k o = k.0
     by_numbers (Some n) None h k o = h.1
@@ -211,7 +248,8 @@ ends_in_order words right = by_least (value_of words (codes "least")) refl
     without None = refl
     without (Some n) = refl
 
-    by_most : (v : Text) → value_of words (codes "least") ≡ Some v → (o : Option Text) → value_of words (codes "most") ≡ o
+    by_most : (v : Text) → value_of words (codes "least") ≡ Some v → (o : Option Text)
+        → value_of words (codes "most") ≡ o
         → are_ordered (number_up_to 1024 v) (number_in_value command.Effic (codes "most") o) ≡ true
     by_most v e None f = without (number_up_to 1024 v)
     by_most v e (Some w) f = set_in_order words right v w e f
@@ -219,11 +257,15 @@ ends_in_order words right = by_least (value_of words (codes "least")) refl
     by_least : (o : Option Text) → value_of words (codes "least") ≡ o
         → number_or command.Effic words (codes "least") 1 ≤ number_or command.Effic words (codes "most") 1024
     by_least None e =
-        by_numbers (number_set command.Effic words (codes "least")) (number_set command.Effic words (codes "most")) of_least of_most
-        (ap (λ o. are_ordered (number_in_value command.Effic (codes "least") o) (number_set command.Effic words (codes "most"))) e)
+        by_numbers (number_set command.Effic words (codes "least")) (number_set command.Effic words (codes "most"))
+        of_least of_most
+        (ap (λ o. are_ordered (number_in_value command.Effic (codes "least") o)
+        (number_set command.Effic words (codes "most"))) e)
     by_least (Some v) e =
-        by_numbers (number_set command.Effic words (codes "least")) (number_set command.Effic words (codes "most")) of_least of_most
-        (ap (λ o. are_ordered (number_in_value command.Effic (codes "least") o) (number_set command.Effic words (codes "most"))) e
+        by_numbers (number_set command.Effic words (codes "least")) (number_set command.Effic words (codes "most"))
+        of_least of_most
+        (ap (λ o. are_ordered (number_in_value command.Effic (codes "least") o)
+        (number_set command.Effic words (codes "most"))) e
         ∙ by_most v e (value_of words (codes "most")) refl)
 
 -- the job of right words is in its ranges
@@ -240,7 +282,8 @@ job_between command.Cycle ws r = (
   default_between command.Cycle ws (codes "helpers") 4 (λ v. refl) r (omega arith, omega arith),
   default_between command.Cycle ws (codes "units") 1000000 (λ v. refl) r (omega arith, omega arith),
 )
-job_between command.Check ws r = default_between command.Check ws (codes "steps") 20000000 (λ v. refl) r (omega arith, omega arith)
+job_between command.Check ws r = default_between command.Check ws (codes "steps") 20000000 (λ v. refl) r
+    (omega arith, omega arith)
 job_between command.Convert ws r = set_between command.Convert ws (codes "cycle") (λ v. refl) r
 job_between command.Combine ws r = tt
 job_between command.Utility ws r = (
@@ -265,7 +308,8 @@ job_between command.Effic ws r = (
   default_between command.Effic ws (codes "helpers") 4 (λ v. refl) r (omega arith, omega arith),
   default_between command.Effic ws (codes "units") 1000000 (λ v. refl) r (omega arith, omega arith),
 )
-job_between command.EfficCheck ws r = default_between command.EfficCheck ws (codes "steps") 20000000 (λ v. refl) r (omega arith, omega arith)
+job_between command.EfficCheck ws r = default_between command.EfficCheck ws (codes "steps") 20000000 (λ v. refl) r
+    (omega arith, omega arith)
 job_between command.Sequence ws r = (
   default_between command.Sequence ws (codes "interval") 1 (λ v. refl) r (omega arith, omega arith),
   default_between command.Sequence ws (codes "length") 1 (λ v. refl) r (omega arith, omega arith),
@@ -277,7 +321,8 @@ job_between command.SequenceCheck ws r = (
   default_between command.SequenceCheck ws (codes "steps") 20000000 (λ v. refl) r (omega arith, omega arith),
 )
 
-commanded_between : (words : List Text) (job : Job) → IsCommanded words (λ command behind. Asks command behind job) → IsInRange job
+commanded_between : (words : List Text) (job : Job) → IsCommanded words (λ command behind. Asks command behind job)
+    → IsInRange job
 commanded_between [] job c = absurd c
 commanded_between (word ∷ words) job c = subst IsInRange (sym c.2.is) (job_between c.0 words c.2.right)
 

@@ -1,5 +1,6 @@
 -- The places of the tasks at a side and of those that are free to join it.
-use Rattle.std.proofs.Common.{◌≡◌, ◌≢◌, ℕ, ◌<◌, ◌↔◌, Bool, true, false, List, length, set, sym, ap, ◌∙◌, ◌⊎◌, inl, inr, subst, arith}
+use Rattle.std.proofs.Common.{◌≡◌, ◌≢◌, ℕ, ◌<◌, ◌↔◌, Bool, true, false, List, length, set, sym, ap, ◌∙◌, ◌⊎◌, inl, inr}
+use Rattle.std.proofs.Common.{subst, arith}
 use Rattle.task_set.specs.Truths.{In, IsEmpty}
 use Rattle.line_instance.specs.Line.{Line, IsRanked, tasks, has}
 use Rattle.load_facts.specs.Sides.{task_at}
@@ -16,10 +17,15 @@ pub record Placing (line : Line) (s : Side) (part left places : List Bool) : Typ
   pub within : (i : ℕ) → In left i → In part i
   pub is : (p : ℕ) → In places p ↔ (p < tasks line) × In part (task_at line s p) × (In left (task_at line s p) → ⊥)
 
-pub place_start : (line : Line) (s : Side) (part places : List Bool) → ((p : ℕ) → In places p → ⊥) → Placing line s part part places
-place_start line s part places none = record { within = λ i m. m; is = λ p. (λ m. absurd (none p m), λ m. absurd (m.2 m.1)) }
+pub place_start : (line : Line) (s : Side) (part places : List Bool) → ((p : ℕ) → In places p → ⊥)
+    → Placing line s part part places
+place_start line s part places none = record {
+  within = λ i m. m;
+  is = λ p. (λ m. absurd (none p m), λ m. absurd (m.2 m.1));
+}
 
-pub place_turn : (line : Line) → IsRanked line → (s : Side) (part left places : List Bool) → Placing line s part left places → (K Q : List Bool) (q i : ℕ) → q < tasks line → task_at line s q ≡ i → In left i
+pub place_turn : (line : Line) → IsRanked line → (s : Side) (part left places : List Bool)
+    → Placing line s part left places → (K Q : List Bool) (q i : ℕ) → q < tasks line → task_at line s q ≡ i → In left i
     → ((j : ℕ) → In K j ↔ In left j × (j ≢ i)) → ((j : ℕ) → In Q j ↔ In places j ⊎ (j ≡ q)) → Placing line s part K Q
 place_turn line ranked s part left places h K Q q i w at mine inK inQ = record {
   within = λ j m. h.within j ((inK j).0 m).0;
@@ -37,15 +43,24 @@ place_turn line ranked s part left places h K Q q i w at mine inK inQ = record {
   );
 }
 
-pub place_end : (line : Line) (s : Side) (part left places : List Bool) → Placing line s part left places → IsEmpty left → (p : ℕ) → In places p ↔ (p < tasks line) × In part (task_at line s p)
-place_end line s part left places h none p = (λ m. (((h.is p).0 m).0, ((h.is p).0 m).1), λ m. (h.is p).1 (m.0, m.1, none (task_at line s p)))
+pub place_end : (line : Line) (s : Side) (part left places : List Bool) → Placing line s part left places → IsEmpty left
+    → (p : ℕ) → In places p ↔ (p < tasks line) × In part (task_at line s p)
+place_end line s part left places h none p = (
+  λ m. (((h.is p).0 m).0, ((h.is p).0 m).1),
+  λ m. (h.is p).1 (m.0, m.1, none (task_at line s p)),
+)
 
 -- a set with one member more, and with one less
-pub set_in : (a b : List Bool) (i : ℕ) → b ≡ set a i true → length b ≡ 1024 → i < 1024 → (j : ℕ) → In b j ↔ In a j ⊎ (j ≡ i)
+pub set_in : (a b : List Bool) (i : ℕ) → b ≡ set a i true → length b ≡ 1024 → i < 1024 → (j : ℕ) → In b j
+    ↔ In a j ⊎ (j ≡ i)
 set_in a b i e long l j =
     let short : length a ≡ 1024 = sym (length-set a i true) ∙ (sym (ap (λ x. length x) e) ∙ long) in (
       λ m. In-set_cases a i j (ap (λ x. has x j) (sym e) ∙ m),
-      λ m. ap (λ x. has x j) e ∙ elim m [ inl h ↦ In-set_kept a i j h | inr q ↦ ap (λ k. has (set a i true) k) q ∙ In-set_same a i (omega (arith, short, l)) ],
+      λ m. ap (λ x. has x j) e ∙ elim m [
+        | inl h ↦ In-set_kept a i j h
+        | inr q ↦
+            ap (λ k. has (set a i true) k) q ∙ In-set_same a i (omega (arith, short, l))
+      ],
     )
 
 pub clear_in : (a b : List Bool) (i : ℕ) → b ≡ set a i false → (j : ℕ) → In b j ↔ In a j × (j ≢ i)
@@ -57,8 +72,10 @@ clear_in a b i e j = (
 )
 
 -- sets with the same members are one
-pub same_set : (a b : List Bool) → length a ≡ 1024 → length b ≡ 1024 → ((i : ℕ) → In a i → In b i) → ((i : ℕ) → In b i → In a i) → a ≡ b
-same_set a b long also from to = ext_get_or false a b (long ∙ sym also) (λ i l. same_truth (has a i) (has b i) (from i) (to i))
+pub same_set : (a b : List Bool) → length a ≡ 1024 → length b ≡ 1024 → ((i : ℕ) → In a i → In b i)
+    → ((i : ℕ) → In b i → In a i) → a ≡ b
+same_set a b long also from to = ext_get_or false a b (long ∙ sym also)
+    (λ i l. same_truth (has a i) (has b i) (from i) (to i))
 
 pub swap : (line : Line) (s : Side) (T F P : List Bool) → AreMarked line s T F P → AreMarked line s F T P
 swap line s T F P m = record {
@@ -69,11 +86,20 @@ swap line s T F P m = record {
 }
 
 -- a task is free from now on
-pub mark_free : (line : Line) → IsRanked line → (s : Side) (T F P : List Bool) → AreMarked line s T F P → (G Q : List Bool) (q i : ℕ) → q < tasks line → task_at line s q ≡ i → ((j : ℕ) → In G j ↔ In F j ⊎ (j ≡ i)) → ((j : ℕ) → In Q j ↔ In P j ⊎ (j ≡ q)) → AreMarked line s T G Q
+pub mark_free : (line : Line) → IsRanked line → (s : Side) (T F P : List Bool) → AreMarked line s T F P
+    → (G Q : List Bool) (q i : ℕ) → q < tasks line → task_at line s q ≡ i → ((j : ℕ) → In G j ↔ In F j ⊎ (j ≡ i))
+    → ((j : ℕ) → In Q j ↔ In P j ⊎ (j ≡ q)) → AreMarked line s T G Q
 mark_free line ranked s T F P m G Q q i w at inG inQ = record {
   is = λ p. (
     λ x. elim ((inQ p).0 x) [
-      | inl y ↦ (((m.is p).0 y).0, elim ((m.is p).0 y).1 [ inl a ↦ inl a | inr f ↦ inr ((inG (task_at line s p)).1 (inl f)) ])
+      | inl y ↦ (
+        ((m.is p).0 y).0,
+        elim ((m.is p).0 y).1 [
+          | inl a ↦ inl a
+          | inr f ↦
+              inr ((inG (task_at line s p)).1 (inl f))
+        ],
+      )
       | inr e ↦ (omega (arith, w, e), inr ((inG (task_at line s p)).1 (inr (ap (λ k. task_at line s k) e ∙ at))))
     ],
     λ x. (inQ p).1 (elim x.1 [
@@ -88,11 +114,14 @@ mark_free line ranked s T F P m G Q q i w at inG inQ = record {
 
 module _ (line : Line) (ranked : IsRanked line) (s : Side) (T F P : List Bool) (m : AreMarked line s T F P) where
   -- a task stands at the side from now on
-  pub mark_task : (S Q : List Bool) (q i : ℕ) → q < tasks line → task_at line s q ≡ i → ((j : ℕ) → In S j ↔ In T j ⊎ (j ≡ i)) → ((j : ℕ) → In Q j ↔ In P j ⊎ (j ≡ q)) → AreMarked line s S F Q
-  mark_task S Q q i w at inS inQ = swap line s F S Q (mark_free line ranked s F T P (swap line s T F P m) S Q q i w at inS inQ)
+  pub mark_task : (S Q : List Bool) (q i : ℕ) → q < tasks line → task_at line s q ≡ i
+      → ((j : ℕ) → In S j ↔ In T j ⊎ (j ≡ i)) → ((j : ℕ) → In Q j ↔ In P j ⊎ (j ≡ q)) → AreMarked line s S F Q
+  mark_task S Q q i w at inS inQ = swap line s F S Q (mark_free line ranked s F T P (swap line s T F P m) S Q q i w at
+      inS inQ)
 
   -- a free task is free no more
-  pub unmark : (G Q : List Bool) (q i : ℕ) → q < tasks line → task_at line s q ≡ i → (In T i → ⊥) → ((j : ℕ) → In G j ↔ In F j × (j ≢ i)) → ((j : ℕ) → In Q j ↔ In P j × (j ≢ q)) → AreMarked line s T G Q
+  pub unmark : (G Q : List Bool) (q i : ℕ) → q < tasks line → task_at line s q ≡ i → (In T i → ⊥)
+      → ((j : ℕ) → In G j ↔ In F j × (j ≢ i)) → ((j : ℕ) → In Q j ↔ In P j × (j ≢ q)) → AreMarked line s T G Q
   unmark G Q q i w at gone inG inQ = record {
     is = λ p. (
       λ x.
@@ -100,7 +129,10 @@ module _ (line : Line) (ranked : IsRanked line) (s : Side) (T F P : List Bool) (
             ((m.is p).0 y.0).0,
             elim ((m.is p).0 y.0).1 [
               | inl a ↦ inl a
-              | inr f ↦ inr ((inG (task_at line s p)).1 (f, λ e. y.1 (task_once line ranked s p q ((m.is p).0 y.0).0 w (e ∙ sym at))))
+              | inr f ↦ inr ((inG (task_at line s p)).1 (
+                f,
+                λ e. y.1 (task_once line ranked s p q ((m.is p).0 y.0).0 w (e ∙ sym at)),
+              ))
             ],
           ),
       λ x. (inQ p).1 (elim x.1 [
@@ -113,7 +145,8 @@ module _ (line : Line) (ranked : IsRanked line) (s : Side) (T F P : List Bool) (
   }
 
   -- a free task comes to stand at the side
-  pub move_in : (S G : List Bool) (i : ℕ) → In F i → ((j : ℕ) → In S j ↔ In T j ⊎ (j ≡ i)) → ((j : ℕ) → In G j ↔ In F j × (j ≢ i)) → AreMarked line s S G P
+  pub move_in : (S G : List Bool) (i : ℕ) → In F i → ((j : ℕ) → In S j ↔ In T j ⊎ (j ≡ i))
+      → ((j : ℕ) → In G j ↔ In F j × (j ≢ i)) → AreMarked line s S G P
   move_in S G i mine inS inG = record {
     is = λ p. (
       λ x. (

@@ -14,7 +14,8 @@ use Rattle.mix_commands.specs.BalanceFile.{IsBalanceFile, IsNoBalance}
 use Rattle.mix_commands.specs.Balanced.{IsBalanced, IsUnbalanced}
 
 -- a right balance has a station, since there is a task
-pub some_station : (kind : LineKind) (line : Line) (c : ℕ) (b : Assignment) → IsLine line → IsRight kind line c b → 1 ≤ b.stations
+pub some_station : (kind : LineKind) (line : Line) (c : ℕ) (b : Assignment) → IsLine line → IsRight kind line c b
+    → 1 ≤ b.stations
 some_station kind line c b ok right =
     let first : In (all_tasks line) 0 = In-full_to (tasks line) 0 ok.small ok.some in
     omega (arith, right.balance.first 0 first, right.balance.last 0 first)

@@ -10,15 +10,33 @@ use Rattle.command_outcome.specs.declared.status.Status.{Status}
 use Rattle.command_outcome.specs.declared.status.Status.TheVariants as ends
 use Rattle.mix_commands.specs.Combine.{wrote, combined_line}
 
-module _ (files mid after : Files) (blames : List ℕ → Bool) (P : Outcome → Type 0) (mix : MixedLine) (name bytes : List ℕ)
-    (same : (q : List ℕ) → mid q ≡ files q) (others : (q : List ℕ) → q ≢ name → after q ≡ mid q) (reached : P (wrote mix name bytes)) where
+module _ (files mid after : Files) (blames : List ℕ → Bool) (P : Outcome → Type 0) (mix : MixedLine)
+    (name bytes : List ℕ)
+    (same : (q : List ℕ) → mid q ≡ files q) (others : (q : List ℕ) → q ≢ name → after q ≡ mid q)
+    (reached : P (wrote mix name bytes)) where
   -- the page is written
-  pub comes : (r : Report) → r.status ≡ ends.Done → r.text.items ≡ combined_line mix → r.kept ≡ Nothing → after name ≡ Some bytes → Comes (outside files blames) P after r
+  pub comes : (r : Report) → r.status ≡ ends.Done → r.text.items ≡ combined_line mix → r.kept ≡ Nothing
+      → after name ≡ Some bytes → Comes (outside files blames) P after r
   comes r s t k w =
       let page : Page = record { name = name; bytes = bytes } in
-      let with_status : Status → Type 0 = λ x. P (record { status = x; text = r.text.items; page = Some page; kept = r.kept }) in
-      let with_text : List ℕ → Type 0 = λ x. P (record { status = ends.Done; text = x; page = Some page; kept = r.kept }) in
-      let with_kept : Kept → Type 0 = λ x. P (record { status = ends.Done; text = combined_line mix; page = Some page; kept = x }) in
+      let with_status : Status → Type 0 = λ x. P (record {
+        status = x;
+        text = r.text.items;
+        page = Some page;
+        kept = r.kept;
+      }) in
+      let with_text : List ℕ → Type 0 = λ x. P (record {
+        status = ends.Done;
+        text = x;
+        page = Some page;
+        kept = r.kept;
+      }) in
+      let with_kept : Kept → Type 0 = λ x. P (record {
+        status = ends.Done;
+        text = combined_line mix;
+        page = Some page;
+        kept = x;
+      }) in
       record {
         page = Some page;
         reached = subst with_status (sym s) (subst with_text (sym t) (subst with_kept (sym k) reached));

@@ -6,7 +6,8 @@ use Rattle.combined_graph.specs.Mixes.{LineModel, IsModel}
 use Rattle.combined_graph.specs.Combined.{total_demand}
 
 -- each model has a demand of at most 10,000
-pub demand_below : (tasks : ℕ) (models : List LineModel) → All (IsModel tasks) models → total_demand models ≤ 10000 * length models
+pub demand_below : (tasks : ℕ) (models : List LineModel) → All (IsModel tasks) models
+    → total_demand models ≤ 10000 * length models
 demand_below tasks [] h = omega arith
 demand_below tasks (m ∷ ms) h =
     let one : IsModel tasks m = h zero m (omega arith) in

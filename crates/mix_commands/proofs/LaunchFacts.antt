@@ -9,13 +9,20 @@ use Rattle.mix_commands.specs.Launch.{Names, IsLaunch, IsUnlaunched}
 use Rattle.mix_commands.proofs.BalancedFacts.{same_files}
 
 module _ (files late : Files) (names : Names) (interval : ℕ) (mix : MixedLine) (balance : Assignment)
-    (same : (q : List ℕ) → late q ≡ files q) (balanced : IsBalanced files names.mix names.cert interval mix balance) where
+    (same : (q : List ℕ) → late q ≡ files q) (balanced : IsBalanced files names.mix names.cert interval mix
+    balance) where
   -- the third file says no units
-  pub unsequenced : (blames : List ℕ → Bool) (out : Outcome) → IsNoSequence (outside late blames) names.seq mix.models out
+  pub unsequenced : (blames : List ℕ → Bool) (out : Outcome)
+      → IsNoSequence (outside late blames) names.seq mix.models out
       → IsUnlaunched (outside files blames) names interval out
   unsequenced blames out none =
       let F : Files → Type 0 = λ f. IsNoSequence (outside f blames) names.seq mix.models out in
-      inr (record { mix = mix; balance = balance; balanced = balanced; unsequenced = subst F (same_files late files same) none })
+      inr (record {
+        mix = mix;
+        balance = balance;
+        balanced = balanced;
+        unsequenced = subst F (same_files late files same) none;
+      })
 
   -- the third file says units
   pub launched : (units : List ℕ) → IsSequenceFile late names.seq mix.models units

@@ -1,5 +1,6 @@
 -- Entries that are added to entries: their units, their cycles, and the questions that they answer.
-use Rattle.std.proofs.Common.{◌≡◌, ℕ, zero, suc, ◌+◌, ◌≤◌, Bool, List, [], ◌∷◌, ◌++◌, sym, ap, ◌∙◌, subst, inl, inr, arith, Option}
+use Rattle.std.proofs.Common.{◌≡◌, ℕ, zero, suc, ◌+◌, ◌≤◌, Bool, List, [], ◌∷◌, ◌++◌, sym, ap, ◌∙◌, subst, inl, inr}
+use Rattle.std.proofs.Common.{arith, Option}
 use Rattle.line_instance.specs.Line.{Line}
 use Rattle.line_rules.specs.Bounds.{bound}
 use Rattle.line_rules.specs.Entries.{HasAnswer}
@@ -39,7 +40,8 @@ pub has_fewer : (es : List Entry) (set : List Bool) (most fewer X : ℕ) → few
 has_fewer es set most fewer X l h =
     (h.0, h.1, (h.2.0, record { same = h.2.1.same; stations = omega (arith, l, h.2.1.stations); long = h.2.1.long }))
 
-pub lemmas_at : (asked : Option Mode) (kind : LineKind) (line : Line) (X : ℕ) (es : List Entry) → AreLemmas asked kind line X es → AreAtCycle X es
+pub lemmas_at : (asked : Option Mode) (kind : LineKind) (line : Line) (X : ℕ) (es : List Entry)
+    → AreLemmas asked kind line X es → AreAtCycle X es
 lemmas_at asked kind line X [] h k e g = absurd (cc)
 lemmas_at asked kind line X (x ∷ es) h zero e g =
     let same : x ≡ e = cc in
@@ -47,7 +49,8 @@ lemmas_at asked kind line X (x ∷ es) h zero e g =
 lemmas_at asked kind line X (x ∷ es) h (suc k) e g = lemmas_at asked kind line X es h.2 k e g
 
 -- a question that was refuted, and not by the bound, has an entry
-pub refuted_has : (asked : Option Mode) (kind : LineKind) (line : Line) (X : ℕ) (es : List Entry) (R : List Bool) (most left : ℕ) (r : Reason)
+pub refuted_has : (asked : Option Mode) (kind : LineKind) (line : Line) (X : ℕ) (es : List Entry) (R : List Bool)
+    (most left : ℕ) (r : Reason)
     → bound kind line X R ≤ most → Decides asked kind line X es R most left (decided.Refuted r) → HasAnswer es R most X
 refuted_has asked kind line X es R most left reason.ByBound b d = absurd (omega (arith, b, d))
 refuted_has asked kind line X es R most left (reason.ByEntry id) b d = (id, d.1.entry, (d.1.there, d.1.answers))

@@ -1,5 +1,6 @@
 -- From the work of all helpers to the book that comes back.
-use Rattle.std.proofs.Common.{◌≡◌, ℕ, ◌+◌, ◌-◌, ◌<◌, ◌≤◌, Bool, true, List, [], ◌++◌, length, length-append, refl, sym, ap, ◌∙◌, subst, inl, inr, arith, Some}
+use Rattle.std.proofs.Common.{◌≡◌, ℕ, ◌+◌, ◌-◌, ◌<◌, ◌≤◌, Bool, true, List, [], ◌++◌, length, length-append, refl, sym}
+use Rattle.std.proofs.Common.{ap, ◌∙◌, subst, inl, inr, arith, Some}
 use Rattle.std.specs.List.{range_with_len}
 use Rattle.std.specs.Prelude.{slice_get}
 use Rattle.std.proofs.lemmas.List.{length-map}
@@ -33,7 +34,8 @@ use Rattle.steal_pool.specs.declared.piece.Piece.{Piece}
 use Rattle.steal_pool.specs.Closing.{IsClosed, AreMarked}
 use Rattle.steal_pool.specs.Hands.{DequeId, HandView, IsHandOf, AreHandsOf, new_hands, mark_of, tooks}
 use Rattle.round_helpers.specs.inner.Pieces.{KeepsOwn, IsEnd, IsRefuted, pieces_of}
-use Rattle.round_helpers.specs.inner.Seats.{IsBare, AreReady, HasWorked, HaveAllWorked, HaveWorked, HasJoined, hands_of, used_by}
+use Rattle.round_helpers.specs.inner.Seats.{IsBare, AreReady, HasWorked, HaveAllWorked, HaveWorked, HasJoined, hands_of}
+use Rattle.round_helpers.specs.inner.Seats.{used_by}
 use Rattle.round_helpers.specs.inner.Teams.{MayAllWork, ArePassesOf, AreJoinable, AreSettled, settled, IsTold}
 use Rattle.round_helpers.specs.inner.Works as works
 use Rattle.round_helpers.specs.declared.helping.Helped.{Helped}
@@ -69,7 +71,8 @@ pub may_work : (share : TableId) (base : Base) (seen : List Item) (line : Line) 
     → AreJobs question.kind line question.cycle question.most jobs → AreHandsOf pool hands
     → hands ≡ new_hands pool (pieces_of question.most jobs)
     → MayAllWork share line question jobs pool hs
-may_work share base seen line question jobs pool us hands hs long as_many few ready about cycle some most are hands_are new k h e =
+may_work share base seen line question jobs pool us hands hs long as_many few ready about cycle some most are hands_are
+    new k h e =
     let u = get_there us k (omega (arith, long, slice_get_within hs k h e)) in
     let v = get_there hands k (omega (arith, long, as_many, slice_get_within hs k h e)) in
     let r = ready k h u.0 v.0 e u.1 v.1 in
@@ -153,7 +156,8 @@ module _ (share : TableId) (base : Base) (seen : List Item) (line : Line) (quest
   }
 
   -- and keep what was dealt to them
-  pub own_back : (k : ℕ) (v w : HandView) → slice_get hands k ≡ Some v → slice_get (hands_of hs) k ≡ Some w → KeepsOwn v w
+  pub own_back : (k : ℕ) (v w : HandView) → slice_get hands k ≡ Some v → slice_get (hands_of hs) k ≡ Some w
+      → KeepsOwn v w
   own_back k v w e f =
       let h = map_there (λ (h : Helper). h.hand) hs k w f in
       let x = worked_at k h.0 h.1 in
@@ -374,7 +378,8 @@ pub comes_back : (share : TableId) (line : Line) (question : Question) (jobs : L
     → (last.view.parts ≡ 1024 → AreAllFrom last.view.base.from (length new.events) last.view.own)
     → IsReserved new → IsBook old → IsBook new → units ≡ settled us hs → IsTold hs told
     → Helps old new (all_used units - all_used us) × HasHelped old new question.most units told
-comes_back share line question jobs pool us units hands hs closed first bare last old new told long some few as_many deques
+comes_back share line question jobs pool us units hands hs closed first bare last old new told long some few as_many
+    deques
     e about are dealt ends_with all split join same_about same_opening begins whole reserved ok_old ok is t =
     let W : PassView → Type 0 = λ z. HaveWorked share z.base z.seen line question jobs pool us hands hs in
     let base : Base = record { about = old.about; opening = old.opening; from = length old.events } in
@@ -391,7 +396,8 @@ comes_back share line question jobs pool us units hands hs closed first bare las
       subst H n (helps share line question jobs pool us hands hs closed old new last base long some as_many deques refl
           about are dealt ends_with worked joined few same_about same_opening begins whole reserved ok_old ok),
       subst U (sym is) (has_helped share line question jobs pool us hands hs closed old new last base long some as_many
-          deques refl about are dealt ends_with worked joined few same_about same_opening begins whole reserved ok_old ok
+          deques refl about are dealt ends_with worked joined few same_about same_opening begins whole reserved ok_old
+          ok
           told t),
     )
 

@@ -1,5 +1,6 @@
 -- Passes split off for helpers, each with its hand, and joined again one by one.
-use Rattle.std.proofs.Common.{◌≡◌, ℕ, ◌+◌, ◌-◌, ◌<◌, ◌≤◌, List, [], ◌∷◌, ◌++◌, length, length-append, refl, sym, ap, ◌∙◌, subst, inl, inr, arith, append_assoc, Some, cond}
+use Rattle.std.proofs.Common.{◌≡◌, ℕ, ◌+◌, ◌-◌, ◌<◌, ◌≤◌, List, [], ◌∷◌, ◌++◌, length, length-append, refl, sym, ap}
+use Rattle.std.proofs.Common.{◌∙◌, subst, inl, inr, arith, append_assoc, Some, cond}
 use Rattle.std.specs.Prelude.{slice_get, nat_lt}
 use Rattle.std.proofs.lemmas.Bool.Decides.{nat_tests}
 use Rattle.std.proofs.lemmas.List.{append-nil, length-map, map-append}
@@ -221,7 +222,8 @@ pub splits_one : (share : TableId) (base : Base) (seen : List Item) (us : List U
     → length hands ≤ 64 → IsPassOf share q → IsPassOf share own → q.view ≡ left_of p.view → own.view ≡ right_of p.view
     → all ≡ hs ++ h ∷ [] → h.pass ≡ own → h.hand ≡ v → slice_get us (length hs) ≡ Some u → h.units.left ≡ u.left
     → h.units.used ≡ 0 → IsSplitting share base seen us hands left all q
-splits_one share base seen us hands left v hs all h p q own u s few of_q of_own e_left e_right grown is_own is_v at given none =
+splits_one share base seen us hands left v hs all h p q own u s few of_q of_own e_left e_right grown is_own is_v at
+    given none =
     let whole : (s.done ++ v ∷ []) ++ left ≡ hands = append_assoc s.done (v ∷ []) left ∙ s.whole in
     let below = splits_below share base seen us hands left v hs p s in
     let long : length all ≡ length hs + 1 =

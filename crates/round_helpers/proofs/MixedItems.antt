@@ -1,5 +1,6 @@
 -- The items at two lists of places that are merged: they are those of both, in another order.
-use Rattle.std.proofs.Common.{◌≡◌, ℕ, suc, ◌+◌, Bool, true, false, cond, List, [], ◌∷◌, ◌++◌, length, length-append, refl, sym, ap, ◌∙◌, subst, arith, Some}
+use Rattle.std.proofs.Common.{◌≡◌, ℕ, suc, ◌+◌, Bool, true, false, cond, List, [], ◌∷◌, ◌++◌, length, length-append}
+use Rattle.std.proofs.Common.{refl, sym, ap, ◌∙◌, subst, arith, Some}
 use Rattle.std.proofs.lemmas.List.{append-nil}
 use Rattle.std.specs.Prelude.{slice_get, nat_lt}
 use Rattle.line_instance.specs.Line.{Line}

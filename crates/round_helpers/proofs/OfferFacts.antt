@@ -1,5 +1,6 @@
 -- What an offer of a balance does on a desk, and which balance the loads of a job give.
-use Rattle.std.proofs.Common.{◌≡◌, ℕ, ◌+◌, ◌≤◌, Bool, List, [], ◌∷◌, length, length-append, refl, sym, ap, ◌∙◌, subst, arith, Some}
+use Rattle.std.proofs.Common.{◌≡◌, ℕ, ◌+◌, ◌≤◌, Bool, List, [], ◌∷◌, length, length-append, refl, sym, ap, ◌∙◌, subst}
+use Rattle.std.proofs.Common.{arith, Some}
 use Rattle.line_instance.specs.Line.{Line}
 use Rattle.line_rules.specs.Balance.{IsRight, all_tasks}
 use Rattle.line_rules.specs.Loads.{IsLoad, Belongs, rest}
@@ -30,7 +31,8 @@ pub around_seated : (kind : LineKind) (line : Line) (c : ℕ) (m : Mode) (R : Li
     → IsLoad line c m R l
     → (ls : List Load) → AreSeated kind line c (rest R l) ls
     → AreSeated kind line c R (around m (Some l) ls)
-around_seated Straight line c mode.Fore R l b load ls s = seated_first Straight line c mode.Fore R l load ls s b (λ e. cc)
+around_seated Straight line c mode.Fore R l b load ls s = seated_first Straight line c mode.Fore R l load ls s b
+    (λ e. cc)
 around_seated Straight line c mode.Back R l b load ls s = seated_last line c R l load ls s
 around_seated Straight line c mode.Both R l b load ls s = absurd b
 around_seated U line c mode.Fore R l b load ls s = absurd b
@@ -68,7 +70,8 @@ right_for desk line kind c b f r =
 pub works_offer : (line : Line) (X : ℕ) (old new : DeskView) (n : ℕ) (r : Offered) → Offers old new n r
     → Works line X old new 0 0
 works_offer line X old new n offered.Better o =
-    works_item line X old new (better n) refl (did_adds old old new [] o.0 (better n) (keeps_none old) (did_none old) o.1)
+    works_item line X old new (better n) refl (did_adds old old new [] o.0 (better n) (keeps_none old) (did_none old)
+    o.1)
 works_offer line X old new n offered.NotBetter o = works_waits line X old new o.0
 
 pub offer_keeps : (old new : DeskView) (n : ℕ) (r : Offered) → Offers old new n r → Keeps old new

@@ -1,5 +1,7 @@
 -- The pieces that hands took, and the jobs that are done once a pool is closed.
-use Rattle.std.proofs.Common.{◌≡◌, ℕ, zero, suc, ◌+◌, ◌-◌, ◌%◌, ◌<◌, ◌≤◌, ◌⊎◌, Bool, true, false, cond, List, [], ◌∷◌, ◌++◌, length, map, take, get_or, refl, sym, ap, ◌∙◌, subst, inl, inr, arith, append_assoc, length-append, Some}
+use Rattle.std.proofs.Common.{◌≡◌, ℕ, zero, suc, ◌+◌, ◌-◌, ◌%◌, ◌<◌, ◌≤◌, ◌⊎◌, Bool, true, false, cond, List, [], ◌∷◌}
+use Rattle.std.proofs.Common.{◌++◌, length, map, take, get_or, refl, sym, ap, ◌∙◌, subst, inl, inr, arith, append_assoc}
+use Rattle.std.proofs.Common.{length-append, Some}
 use Rattle.std.specs.Prelude.{slice_get, nat_eq, sum_by, filter}
 use Rattle.std.proofs.Math.Nat.{mod-lt}
 use Rattle.std.proofs.lemmas.Bool.{cases_Bool, cases_lt}
@@ -20,7 +22,8 @@ use Rattle.lemma_core.specs.Desks.{DeskView, Keeps}
 use Rattle.station_search.specs.Mode.{mode_of}
 use Rattle.steal_pool.specs.declared.piece.Piece.{Piece}
 use Rattle.steal_pool.specs.declared.closing.Closed.{Closed}
-use Rattle.steal_pool.specs.Hands.{DequeId, PortView, HandView, own_of, tooks, AreNumbered, each_from, fresh_port, dealt_to, new_hand, new_hands, put_home}
+use Rattle.steal_pool.specs.Hands.{DequeId, PortView, HandView, own_of, tooks, AreNumbered, each_from, fresh_port}
+use Rattle.steal_pool.specs.Hands.{dealt_to, new_hand, new_hands, put_home}
 use Rattle.steal_pool.specs.Calls.{change, GetsOne, FindsNone}
 use Rattle.steal_pool.specs.Closing.{IsClosed, AreMarked, got_at, took_at}
 use Rattle.steal_pool.proofs.Each.{length_each, each_push, each_there}
@@ -224,7 +227,12 @@ none_left : (lefts : List (List Piece)) (k : ℕ) (xs : List Piece) → sum_by (
     → slice_get lefts k ≡ Some xs → xs ≡ []
 none_left [] k xs e at = absurd (cc)
 none_left (l ∷ ls) zero xs e at =
-    nil_from_length xs (omega (arith, ap (λ (z : List Piece). length z) (same_Some l xs at), e, sum_by-cons (λ (z : List Piece). length z) l ls))
+    nil_from_length xs (omega (
+      arith,
+      ap (λ (z : List Piece). length z) (same_Some l xs at),
+      e,
+      sum_by-cons (λ (z : List Piece). length z) l ls,
+    ))
 none_left (l ∷ ls) (suc k) xs e at =
     none_left ls k xs (omega (arith, e, sum_by-cons (λ (z : List Piece). length z) l ls)) at
 
@@ -247,7 +255,8 @@ weight k x = cond (nat_eq x.number k) (cond (nat_eq x.depth 0) 1 0) 0
 weighs : (k : ℕ) (x : Piece) → 1 ≤ weight k x → (x.number ≡ k) × (x.depth ≡ 0)
 weighs k x l = by (nat_eq x.number k) (nat_eq x.depth 0) refl refl l
   where
-    by : (b c : Bool) → nat_eq x.number k ≡ b → nat_eq x.depth 0 ≡ c → 1 ≤ cond {A = ℕ} b (cond c 1 0) 0 → (x.number ≡ k) × (x.depth ≡ 0)
+    by : (b c : Bool) → nat_eq x.number k ≡ b → nat_eq x.depth 0 ≡ c → 1 ≤ cond {A = ℕ} b (cond c 1 0) 0
+        → (x.number ≡ k) × (x.depth ≡ 0)
     by true true e f l = (grind (arith, nat_tests, e), grind (arith, nat_tests, f))
     by true false e f l = absurd (omega (arith, l))
     by false c e f l = absurd (omega (arith, l))
@@ -273,7 +282,8 @@ module _ (pool : List DequeId) (most : ℕ) (jobs : List Job) (before after : Li
       let w = get_there after m (omega (arith, below, count, many)) in
       let left = get_there closed.lefts m (omega (arith, below, count, many, closed.count)) in
       let o = own m v.0 w.0 v.1 w.1 in
-      let here : slice_get (pieces_of most jobs) k ≡ Some (piece_of most k j) = piece_at most 0 k k jobs j (omega arith) at in
+      let here : slice_get (pieces_of most jobs) k ≡ Some (piece_of most k j) =
+      piece_at most 0 k k jobs j (omega arith) at in
       let test : nat_eq (k % length pool) m ≡ true = grind (arith, nat_tests) in
       let dealt : own_of v.0 ≡ dealt_to (length pool) m (pieces_of most jobs) =
       dealt_own pool (pieces_of most jobs) m v.0 (subst (λ (z : List HandView). slice_get z m ≡ Some v.0) new v.1) in
@@ -281,7 +291,8 @@ module _ (pool : List DequeId) (most : ℕ) (jobs : List Job) (before after : Li
       omega (
         arith,
         weight_one most k j,
-        kept (weight k) (λ (x : Piece). nat_eq (x.number % length pool) m) (pieces_of most jobs) k (piece_of most k j) here test,
+        kept (weight k) (λ (x : Piece). nat_eq (x.number % length pool) m) (pieces_of most jobs) k (piece_of most k j)
+            here test,
         ap (sum_by (weight k)) dealt,
       ) in
       let empty : left.0 ≡ [] =
@@ -313,7 +324,13 @@ pub record IsSplit (kind : LineKind) (line : Line) (c : ℕ) (R : List Bool) (de
 
 pub splits_of : {kind : LineKind} {line : Line} {c : ℕ} {R : List Bool} {depth most count : ℕ} {old new : HandView}
     → IsSplit kind line c R depth most count old new → count ≤ 8 → Splits kind line c R depth most old new
-splits_of s few = record { more = s.more; own = s.own; took = s.took; few = omega (arith, s.many, few); parts = s.parts }
+splits_of s few = record {
+  more = s.more;
+  own = s.own;
+  took = s.took;
+  few = omega (arith, s.many, few);
+  parts = s.parts;
+}
 
 pub split_none : (kind : LineKind) (line : Line) (c : ℕ) (R : List Bool) (depth most : ℕ) (v : HandView)
     → IsSplit kind line c R depth most 0 v v

@@ -1,5 +1,6 @@
 -- What is done on a desk, step by step, and what stays true of a desk that sees more.
-use Rattle.std.proofs.Common.{◌≡◌, ℕ, ◌+◌, ◌-◌, ◌≤◌, Bool, List, [], ◌∷◌, ◌++◌, length, length-append, refl, sym, ap, ◌∙◌, subst, arith, Option}
+use Rattle.std.proofs.Common.{◌≡◌, ℕ, ◌+◌, ◌-◌, ◌≤◌, Bool, List, [], ◌∷◌, ◌++◌, length, length-append, refl, sym, ap}
+use Rattle.std.proofs.Common.{◌∙◌, subst, arith, Option}
 use Rattle.std.proofs.lemmas.List.{append_cancel_left}
 use Rattle.line_instance.specs.Line.{Line}
 use Rattle.line_rules.specs.Entries.{HasAnswer}
@@ -107,7 +108,8 @@ works_as line X a b u v m n l k w = record {
 pub works_more : (line : Line) (X : ℕ) (a b c : DeskView) (u v w : ℕ) → u ≤ v → v ≤ w → Keeps a b → Keeps b c
     → Works line X a b (v - u) (v - u) → Works line X b c (w - v) (w - v) → Works line X a c (w - u) (w - u)
 works_more line X a b c u v w l m k n x y =
-    works_as line X a c ((v - u) + (w - v)) (w - u) ((v - u) + (w - v)) (w - u) (omega (arith, l, m)) (omega (arith, l, m))
+    works_as line X a c ((v - u) + (w - v)) (w - u) ((v - u) + (w - v)) (w - u) (omega (arith, l, m))
+    (omega (arith, l, m))
     (works_both line X a b c (v - u) (w - v) (v - u) (w - v) k n x y)
 
 -- a balance was offered after it
@@ -131,7 +133,8 @@ module _ {asked : Option Mode} (kind : LineKind) (line : Line) (X : ℕ) (old ne
       record {
         items = f.items;
         did = f.did;
-        cycles = subst P (did_once old new h.items f.items h.did f.did) (lemmas_at asked kind line X (added_of h.items) h.lemmas);
+        cycles = subst P (did_once old new h.items f.items h.did f.did)
+            (lemmas_at asked kind line X (added_of h.items) h.lemmas);
         few = f.few;
         published = f.published;
         units = f.entry_units;

@@ -1,5 +1,6 @@
 -- What a run comes to whose questions ended: the least number of stations, or bounds.
-use Rattle.std.proofs.Common.{◌≡◌, ℕ, zero, suc, ◌+◌, ◌-◌, ◌*◌, ◌^◌, ◌<◌, ◌≤◌, Bool, true, false, cond, List, [], ◌∷◌, ◌++◌, length}
+use Rattle.std.proofs.Common.{◌≡◌, ℕ, zero, suc, ◌+◌, ◌-◌, ◌*◌, ◌^◌, ◌<◌, ◌≤◌, Bool, true, false, cond, List, [], ◌∷◌}
+use Rattle.std.proofs.Common.{◌++◌, length}
 use Rattle.std.proofs.Common.{refl, sym, ap, ◌∙◌, subst, inl, inr, arith, length-append, Option, Some, None}
 use Rattle.std.proofs.lemmas.List.{append-nil}
 use Rattle.std.proofs.lemmas.Bool.{cases_lt, eq-eqb}
@@ -33,7 +34,8 @@ use Rattle.round_helpers.specs.Growth.{AreAtCycle}
 use Rattle.round_helpers.proofs.Growing.{units_both}
 use Rattle.round_run.specs.Rounds.{AddsBound, by_bound}
 use Rattle.round_run.specs.inner.Questions.{IsRun, HasAsked, trail_of, stop_by}
-use Rattle.round_run.specs.Solving.{IsRunBook, IsBelow, IsSolvedFrom, IsStoppedFrom, IsSpentFrom, FitsAll, SolvesFrom, Solves}
+use Rattle.round_run.specs.Solving.{IsRunBook, IsBelow, IsSolvedFrom, IsStoppedFrom, IsSpentFrom, FitsAll, SolvesFrom}
+use Rattle.round_run.specs.Solving.{Solves}
 use Rattle.round_run.specs.declared.questions.Stop.{Stop}
 use Rattle.round_run.specs.declared.plans.Plan.{Plan}
 use Rattle.round_run.specs.declared.solving.Cause.{Cause}

@@ -88,7 +88,8 @@ goes_same a = record {
   best = omega arith;
 }
 
-module _ {asked : Option Mode} (old new : BookView) (ok : IsBook old) (okn : IsBook new) (k : Keeps (desk_of old) (desk_of new))
+module _ {asked : Option Mode} (old new : BookView) (ok : IsBook old) (okn : IsBook new)
+    (k : Keeps (desk_of old) (desk_of new))
     (kind : LineKind) (line : Line) (X : ℕ) (of_line : line ≡ old.about.line) (of_cycle : X ≡ old.about.cycle)
     (h : HasPublished asked kind line X (desk_of old) (desk_of new)) where
   same_items : (is : List Item) → Did (desk_of old) (desk_of new) is → h.items ≡ is

@@ -1,5 +1,6 @@
 -- The units of helpers: what a purse has of them, and what is left when some are used.
-use Rattle.std.proofs.Common.{◌≡◌, ℕ, zero, suc, ◌+◌, ◌*◌, ◌/◌, ◌<◌, ◌≤◌, List, [], ◌∷◌, ◌++◌, length, length-append, refl, sym, ap, ◌∙◌, subst, inl, inr, arith, Some}
+use Rattle.std.proofs.Common.{◌≡◌, ℕ, zero, suc, ◌+◌, ◌*◌, ◌/◌, ◌<◌, ◌≤◌, List, [], ◌∷◌, ◌++◌, length, length-append}
+use Rattle.std.proofs.Common.{refl, sym, ap, ◌∙◌, subst, inl, inr, arith, Some}
 use Rattle.std.proofs.Common.{Vec, Global}
 use Rattle.std.proofs.Math.Nat.{add-mul, mul-div-le, div-le_self, zero-mul}
 use Rattle.std.specs.Prelude.{slice_get, ◌^◌}
@@ -86,7 +87,8 @@ filling_push part k us all l f e =
     })
 
 pub small_part : (plan : Plan) → plan.units ≤ 3000000 → plan.units / plan.helpers < 2 ^ 64
-small_part plan l = let e : plan.units / plan.helpers ≤ plan.units = div-le_self plan.units plan.helpers in omega (arith, e, l)
+small_part plan l = let e : plan.units / plan.helpers ≤ plan.units = div-le_self plan.units plan.helpers in
+    omega (arith, e, l)
 
 -- a purse that is filled
 pub filled : (plan : Plan) (helper : Vec Units Global) (k : ℕ) → k ≡ plan.helpers
@@ -101,5 +103,6 @@ filled plan helper k e f few =
       left = refl;
       none_used = f.used;
       few = omega (arith, left, mul-div-le plan.units plan.helpers);
-      alone = λ none. left ∙ (ap (λ (z : ℕ). z * (plan.units / plan.helpers)) none ∙ zero-mul (plan.units / plan.helpers));
+      alone = λ none. left ∙ (ap (λ (z : ℕ). z * (plan.units / plan.helpers)) none
+          ∙ zero-mul (plan.units / plan.helpers));
     }

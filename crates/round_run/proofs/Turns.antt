@@ -68,8 +68,8 @@ goes_both a b c xs ys g h =
       best = omega (arith, g.best, h.best);
     }
 
--- A round of a run whose closing passes have N units and whose helpers have G: the book before it, between the helpers and
--- the closing pass, and after it; the units; what the helpers have used by then; and its answer.
+-- A round of a run whose closing passes have N units and whose helpers have G: the book before it, between the helpers
+-- and the closing pass, and after it; the units; what the helpers have used by then; and its answer.
 pub record IsTurn (kind : LineKind) (line : Line) (c : ℕ) (before : List Entry) (top N G first lower : ℕ)
     (b mid new : BookView) (old_units units : Units) (old_helped helped : ℕ) (v : Verdict) : Type 0 where
   pub paid : IsPaid kind line c before top first lower old_units.used old_helped b

@@ -1,6 +1,7 @@
--- What a run has can be said by a certificate: entries that follow from each other, the frames of a trail, and a right balance are within
--- their ranges.
-use Rattle.std.proofs.Common.{◌≡◌, ℕ, zero, suc, ◌+◌, ◌-◌, ◌<◌, ◌≤◌, ◌⊎◌, inl, inr, Bool, List, [], ◌∷◌, length, take, Option, Some, None, sym, subst, arith, length-append}
+-- What a run has can be said by a certificate: entries that follow from each other, the frames of a trail, and a right
+-- balance are within their ranges.
+use Rattle.std.proofs.Common.{◌≡◌, ℕ, zero, suc, ◌+◌, ◌-◌, ◌<◌, ◌≤◌, ◌⊎◌, inl, inr, Bool, List, [], ◌∷◌, length, take}
+use Rattle.std.proofs.Common.{Option, Some, None, sym, subst, arith, length-append}
 use Rattle.std.specs.Prelude.{slice_get}
 use Rattle.std.proofs.lemmas.Option.{slice_get_within}
 use Rattle.task_set.specs.Truths.{In}
@@ -10,7 +11,8 @@ use Rattle.line_instance.specs.Line.{Line, IsLine, IsTaskSet, tasks}
 use Rattle.line_rules.specs.Balance.{IsRight, all_tasks}
 use Rattle.line_rules.specs.Loads.{rest}
 use Rattle.line_rules.specs.Entries.{Covers, FollowsBy, IsDerived}
-use Rattle.line_rules.specs.Ranges.{IsOf, IsCycle, IsPlaced, IsPlacing, AreCites, IsWhy, AreEntries, IsLast, IsFrame, IsTrailLike}
+use Rattle.line_rules.specs.Ranges.{IsOf, IsCycle, IsPlaced, IsPlacing, AreCites, IsWhy, AreEntries, IsLast, IsFrame}
+use Rattle.line_rules.specs.Ranges.{IsTrailLike}
 use Rattle.line_rules.specs.Trails.{IsPassed, IsDeepest, LastIsLoad, Leads, IsTrail}
 use Rattle.line_rules.specs.declared.types.LineKind.{LineKind}
 use Rattle.line_rules.specs.declared.types.Mode.{Mode}
@@ -32,14 +34,16 @@ is_of : (line : Line) (s : List Bool) → IsTaskSet line s → IsOf (tasks line)
 is_of line s t = record { truths = t.truths; tasks = t.tasks }
 
 -- cites that cover loads are of entries of the list
-covered : (line : Line) (P : Load → Type 0) (es : List Entry) (R : List Bool) (most c : ℕ) (cites : List ℕ) → Covers line P es R most c cites → AreCites (length es) cites
+covered : (line : Line) (P : Load → Type 0) (es : List Entry) (R : List Bool) (most c : ℕ) (cites : List ℕ)
+    → Covers line P es R most c cites → AreCites (length es) cites
 covered line P es R most c cites v p cite there =
     let l = get_some v.loads p (omega (arith, slice_get_within cites p cite there, v.as_many)) in
     let at = v.cited p cite l.0 there l.1 in
     slice_get_within es cite at.entry at.there
 
 -- why an entry holds that follows from earlier ones
-why_ok : (kind : LineKind) (line : Line) (es : List Entry) (k : ℕ) (e : Entry) (w : Why) → k < length es → IsTaskSet line e.set → FollowsBy kind line (take k es) e w → IsWhy (tasks line) (length es) w
+why_ok : (kind : LineKind) (line : Line) (es : List Entry) (k : ℕ) (e : Entry) (w : Why) → k < length es
+    → IsTaskSet line e.set → FollowsBy kind line (take k es) e w → IsWhy (tasks line) (length es) w
 why_ok kind line es k e why.Bound h s f = tt
 why_ok kind line es k e (why.Branch mode cites) h s f = λ p cite there.
     let l = get_some f.covers.loads p (omega (arith, slice_get_within cites p cite there, f.covers.as_many)) in
@@ -49,7 +53,8 @@ why_ok kind line es k e (why.Swap cite out into) h s f =
     (omega (arith, (get_take es k cite f.entry f.there).0), (s.tasks out f.out_in, f.task))
 
 -- derived entries that a certificate can say
-pub entries_ok : (kind : LineKind) (line : Line) (es : List Entry) → IsDerived kind line es → AreStatable es → length es ≤ 20000000 → AreEntries (tasks line) es
+pub entries_ok : (kind : LineKind) (line : Line) (es : List Entry) → IsDerived kind line es → AreStatable es
+    → length es ≤ 20000000 → AreEntries (tasks line) es
 entries_ok kind line es d s many = record {
   many = many;
   each = λ k e there.
@@ -63,13 +68,19 @@ entries_ok kind line es d s many = record {
 }
 
 -- the last load of a frame
-last_ok : (line : Line) (X : ℕ) (mode : Mode) (R : List Bool) (last : Option Load) → LastIsLoad line X mode R last → IsLast (tasks line) mode last
+last_ok : (line : Line) (X : ℕ) (mode : Mode) (R : List Bool) (last : Option Load) → LastIsLoad line X mode R last
+    → IsLast (tasks line) mode last
 last_ok line X mode R None p = tt
-last_ok line X mode R (Some l) p = record { front = is_of line l.front p.front; back = is_of line l.back p.back; suits = p.suits }
+last_ok line X mode R (Some l) p = record {
+  front = is_of line l.front p.front;
+  back = is_of line l.back p.back;
+  suits = p.suits;
+}
 
 module _ (kind : LineKind) (line : Line) (X : ℕ) (es : List Entry) where
   -- a frame that has a further one below it, and the deepest one
-  passed_ok : (f : OpenFrame) (l : Load) → IsTaskSet line f.set → f.most ≤ 1024 → IsPassed kind line X es f l → IsFrame (tasks line) (length es) f
+  passed_ok : (f : OpenFrame) (l : Load) → IsTaskSet line f.set → f.most ≤ 1024 → IsPassed kind line X es f l
+      → IsFrame (tasks line) (length es) f
   passed_ok f l s m p =
       let L : Option Load → Type 0 = IsLast (tasks line) f.mode in
       record {
@@ -79,7 +90,8 @@ module _ (kind : LineKind) (line : Line) (X : ℕ) (es : List Entry) where
         cites = covered line _ es f.set f.most X f.cites p.covers;
       }
 
-  deepest_ok : (f : OpenFrame) → IsTaskSet line f.set → f.most ≤ 1024 → IsDeepest kind line X es f → IsFrame (tasks line) (length es) f
+  deepest_ok : (f : OpenFrame) → IsTaskSet line f.set → f.most ≤ 1024 → IsDeepest kind line X es f
+      → IsFrame (tasks line) (length es) f
   deepest_ok f s m d = record {
     set = is_of line f.set s;
     most = m;
@@ -96,17 +108,24 @@ module _ (kind : LineKind) (line : Line) (X : ℕ) (es : List Entry) where
   led_each : (f : OpenFrame) (fs : List OpenFrame) → IsFrame (tasks line) (length es) f
       → ((k : ℕ) (g : OpenFrame) → slice_get fs k ≡ Some g → IsFrame (tasks line) (length es) g)
       → (k : ℕ) (g : OpenFrame) → slice_get (f ∷ fs) k ≡ Some g → IsFrame (tasks line) (length es) g
-  led_each f fs p q zero g e = (let P : OpenFrame → Type 0 = IsFrame (tasks line) (length es) in subst P (let h : f ≡ g = cc in h) p)
+  led_each f fs p q zero g e = (let P : OpenFrame → Type 0 = IsFrame (tasks line) (length es) in
+      subst P (let h : f ≡ g = cc in h) p)
   led_each f fs p q (suc k) g e = q k g e
 
-  led : (R : List Bool) (most : ℕ) (fs : List OpenFrame) (R' : List Bool) (most' : ℕ) → IsTaskSet line R → most ≤ 1024 → Leads kind line X es R most fs R' most' → AreLed fs R' most most'
+  led : (R : List Bool) (most : ℕ) (fs : List OpenFrame) (R' : List Bool) (most' : ℕ) → IsTaskSet line R → most ≤ 1024
+      → Leads kind line X es R most fs R' most' → AreLed fs R' most most'
   led R most [] R' most' s m p =
       let T : List Bool → Type 0 = IsTaskSet line in
-      record { set = subst T (sym p.0) s; depth = omega (arith, p.1); each = λ k f e. absurd (omega (arith, slice_get_within [] k f e)) }
+      record {
+        set = subst T (sym p.0) s;
+        depth = omega (arith, p.1);
+        each = λ k f e. absurd (omega (arith, slice_get_within [] k f e));
+      }
   led R most (f ∷ fs) R' most' s m (l, (e, g, p, q)) =
       let T : List Bool → Type 0 = IsTaskSet line in
       let t : IsTaskSet line f.set = subst T (sym e) s in
-      let below = led (rest f.set l) (f.most - 1) fs R' most' (rest_smaller line X f.mode f.set l t p.load).tasks (omega (arith, g)) q in
+      let below = led (rest f.set l) (f.most - 1) fs R' most' (rest_smaller line X f.mode f.set l t p.load).tasks
+      (omega (arith, g)) q in
       record {
         set = below.set;
         depth = omega (arith, below.depth, p.stations, g);
@@ -114,12 +133,14 @@ module _ (kind : LineKind) (line : Line) (X : ℕ) (es : List Entry) where
       }
 
   -- a valid trail from all tasks in at most 1,024 stations
-  pub trail_ok : (R : List Bool) (most : ℕ) (frames : List OpenFrame) → IsCycle X → IsTaskSet line R → most < 1024 → IsTrail kind line X es R most frames
+  pub trail_ok : (R : List Bool) (most : ℕ) (frames : List OpenFrame) → IsCycle X → IsTaskSet line R → most < 1024
+      → IsTrail kind line X es R most frames
       → IsTrailLike (tasks line) (length es) (record { cycle = X; frames = frames })
   trail_ok R most frames c s m t =
       let on = led R most t.passed t.deepest.set t.deepest.most s (omega arith) t.leads in
       let last = deepest_ok t.deepest on.set (omega (arith, on.depth)) t.deep in
-      let T : List OpenFrame → Type 0 = λ fs. IsTrailLike (tasks line) (length es) (record { cycle = X; frames = fs }) in
+      let T : List OpenFrame → Type 0 = λ fs. IsTrailLike (tasks line) (length es)
+      (record { cycle = X; frames = fs }) in
       subst T (sym t.all) (record {
         cycle = c;
         some = omega (arith, length-append t.passed (t.deepest ∷ []));
@@ -127,13 +148,16 @@ module _ (kind : LineKind) (line : Line) (X : ℕ) (es : List Entry) where
         each = λ k f e. each_of t.passed t.deepest on.each last k f (get_push_cases t.passed t.deepest f k e);
       })
     where
-      each_of : (fs : List OpenFrame) (d : OpenFrame) → ((k : ℕ) (f : OpenFrame) → slice_get fs k ≡ Some f → IsFrame (tasks line) (length es) f) → IsFrame (tasks line) (length es) d
-          → (k : ℕ) (f : OpenFrame) → ((k < length fs) × (slice_get fs k ≡ Some f)) ⊎ ((k ≡ length fs) × (d ≡ f)) → IsFrame (tasks line) (length es) f
+      each_of : (fs : List OpenFrame) (d : OpenFrame) → ((k : ℕ) (f : OpenFrame) → slice_get fs k ≡ Some f
+          → IsFrame (tasks line) (length es) f) → IsFrame (tasks line) (length es) d
+          → (k : ℕ) (f : OpenFrame) → ((k < length fs) × (slice_get fs k ≡ Some f)) ⊎ ((k ≡ length fs) × (d ≡ f))
+          → IsFrame (tasks line) (length es) f
       each_of fs d p q k f (inl x) = p k f x.1
       each_of fs d p q k f (inr x) = (let P : OpenFrame → Type 0 = IsFrame (tasks line) (length es) in subst P x.1 q)
 
 -- a right balance in at most as many stations as there are tasks
-pub balance_ok : (kind : LineKind) (line : Line) (c : ℕ) (b : Assignment) → IsLine line → IsRight kind line c b → b.stations ≤ tasks line → IsPlacing kind (tasks line) b
+pub balance_ok : (kind : LineKind) (line : Line) (c : ℕ) (b : Assignment) → IsLine line → IsRight kind line c b
+    → b.stations ≤ tasks line → IsPlacing kind (tasks line) b
 balance_ok kind line c b ok r few =
     let all : (i : ℕ) → i < tasks line → In (all_tasks line) i = λ i h. In-full_to (tasks line) i ok.small h in
     let zeroth = all 0 ok.some in
@@ -144,7 +168,11 @@ balance_ok kind line c b ok r few =
       placed = λ i p there.
           let P : Seatplace → Type 0 = IsPlaced kind b.stations in
           let here = all i (omega (arith, slice_get_within b.place i p there, r.each)) in
-          subst P (sym (seat_read b.place i p there)) (record { first = r.balance.first i here; last = r.balance.last i here; side = r.sides i here });
+          subst P (sym (seat_read b.place i p there)) (record {
+            first = r.balance.first i here;
+            last = r.balance.last i here;
+            side = r.sides i here;
+          });
     }
 
 -- all tasks are a set of tasks

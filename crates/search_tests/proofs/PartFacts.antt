@@ -1,5 +1,6 @@
 -- What the calls of a book do, seen as those of a desk that isn't alone.
-use Rattle.std.proofs.Common.{◌≡◌, ℕ, zero, suc, ◌+◌, ◌-◌, ◌<◌, ◌≤◌, List, [], ◌∷◌, ◌++◌, length, refl, sym, ap, ◌∙◌, subst, ◌⊎◌, inl, inr, arith, Some, append_assoc, length-append}
+use Rattle.std.proofs.Common.{◌≡◌, ℕ, zero, suc, ◌+◌, ◌-◌, ◌<◌, ◌≤◌, List, [], ◌∷◌, ◌++◌, length, refl, sym, ap, ◌∙◌}
+use Rattle.std.proofs.Common.{subst, ◌⊎◌, inl, inr, arith, Some, append_assoc, length-append}
 use Rattle.std.proofs.lemmas.Option.{same_Some}
 use Rattle.std.specs.List.{range_with_len}
 use Rattle.std.specs.Prelude.{slice_get}
@@ -19,11 +20,13 @@ use Rattle.search_tests.specs.inner.Shared.{own_of, part_of}
 range_at : (a n k x : ℕ) → slice_get (range_with_len a n) k ≡ Some x → (x ≡ a + k) × (k < n)
 range_at a zero k x e = absurd (cc)
 range_at a (suc n) zero x e = let same : a ≡ x = same_Some a x e in (omega (arith, same), omega arith)
-range_at a (suc n) (suc k) x e = let h : (x ≡ a + 1 + k) × (k < n) = range_at (a + 1) n k x e in (omega (arith, h.0), omega (arith, h.1))
+range_at a (suc n) (suc k) x e = let h : (x ≡ a + 1 + k) × (k < n) = range_at (a + 1) n k x e in
+    (omega (arith, h.0), omega (arith, h.1))
 
 range_push : (a n : ℕ) → range_with_len a (suc n) ≡ range_with_len a n ++ (a + n) ∷ []
 range_push a zero = let e : a ≡ a + 0 = omega arith in ap (λ (x : ℕ). x ∷ []) e
-range_push a (suc n) = let e : a + 1 + n ≡ a + suc n = omega arith in ap (λ (xs : List ℕ). a ∷ xs) (range_push (a + 1) n ∙ ap (λ (x : ℕ). range_with_len (a + 1) n ++ x ∷ []) e)
+range_push a (suc n) = let e : a + 1 + n ≡ a + suc n = omega arith in
+    ap (λ (xs : List ℕ). a ∷ xs) (range_push (a + 1) n ∙ ap (λ (x : ℕ). range_with_len (a + 1) n ++ x ∷ []) e)
 
 after_range : (ys : List ℕ) (a from k x : ℕ) → slice_get (range_with_len a from ++ ys) k ≡ Some x
     → ((x ≡ a + k) × (k < from)) ⊎ ((j : ℕ) × (k ≡ from + j) × (slice_get ys j ≡ Some x))
@@ -38,16 +41,20 @@ own_at : (from to n k x : ℕ) → slice_get (own_of from to n) k ≡ Some x
     → ((x ≡ k) × (k < from)) ⊎ ((from ≤ k) × (x + from ≡ to + k) × (x < n))
 own_at from to n k x e = elim (after_range (range_with_len to (n - to)) 0 from k x e) [
   | inl p ↦ inl (omega (arith, p.0), p.1)
-  | inr q ↦ (let h : (x ≡ to + q.0) × (q.0 < n - to) = range_at to (n - to) q.0 x q.2 in inr (omega (arith, q.1), omega (arith, h.0, q.1), omega (arith, h.0, h.1)))
+  | inr q ↦ (let h : (x ≡ to + q.0) × (q.0 < n - to) = range_at to (n - to) q.0 x q.2 in
+      inr (omega (arith, q.1), omega (arith, h.0, q.1), omega (arith, h.0, h.1)))
 ]
 
 has_own : (b : BookView) (from to : ℕ) → from ≤ to → to ≤ length b.events → HasOwn (part_of b from to)
 has_own b from to f t = record {
   rises = λ k x y e g. elim (own_at from to (length b.events) k x e) [
-    | inl p ↦ elim (own_at from to (length b.events) (suc k) y g) [ inl q ↦ omega (arith, p.0, q.0) | inr q ↦ omega (arith, p.0, p.1, q.0, q.1, f) ]
-    | inr p ↦ elim (own_at from to (length b.events) (suc k) y g) [ inl q ↦ omega (arith, p.0, q.1) | inr q ↦ omega (arith, p.1, q.1) ]
+    | inl p ↦ elim (own_at from to (length b.events) (suc k) y g)
+        [ inl q ↦ omega (arith, p.0, q.0) | inr q ↦ omega (arith, p.0, p.1, q.0, q.1, f) ]
+    | inr p ↦ elim (own_at from to (length b.events) (suc k) y g)
+        [ inl q ↦ omega (arith, p.0, q.1) | inr q ↦ omega (arith, p.1, q.1) ]
   ];
-  within = λ k x e. elim (own_at from to (length b.events) k x e) [ inl p ↦ omega (arith, p.0, p.1, f, t) | inr p ↦ p.2 ];
+  within = λ k x e. elim (own_at from to (length b.events) k x e)
+      [ inl p ↦ omega (arith, p.0, p.1, f, t) | inr p ↦ p.2 ];
 }
 
 own_push : (from to n : ℕ) → to ≤ n → own_of from to (suc n) ≡ own_of from to n ++ n ∷ []
@@ -55,12 +62,20 @@ own_push from to n h =
     let m : suc n - to ≡ suc (n - to) = omega (arith, h) in
     let e : to + (n - to) ≡ n = omega (arith, h) in
     ap (λ (k : ℕ). range_with_len 0 from ++ range_with_len to k) m
-    ∙ (ap (λ (xs : List ℕ). range_with_len 0 from ++ xs) (range_push to (n - to) ∙ ap (λ (x : ℕ). range_with_len to (n - to) ++ x ∷ []) e)
+    ∙ (ap (λ (xs : List ℕ). range_with_len 0 from ++ xs) (range_push to (n - to)
+    ∙ ap (λ (x : ℕ). range_with_len to (n - to) ++ x ∷ []) e)
     ∙ sym (append_assoc (range_with_len 0 from) (range_with_len to (n - to)) (n ∷ [])))
 
 -- what a book keeps, a part in it keeps
 keeps_too : (a b : BookView) (f t g u : ℕ) → Keeps (desk_of a) (desk_of b) → Keeps (part_of a f t) (part_of b g u)
-keeps_too a b f t g u k = record { about = k.about; opening = k.opening; alone = refl; roomy = k.roomy; kept = refl; seen = k.seen }
+keeps_too a b f t g u k = record {
+  about = k.about;
+  opening = k.opening;
+  alone = refl;
+  roomy = k.roomy;
+  kept = refl;
+  seen = k.seen;
+}
 
 -- no call, no event
 part_waits : (b : BookView) (from to : ℕ) → Waits (part_of b from to) (part_of b from to)
@@ -72,10 +87,12 @@ adds_too : (a b n : BookView) (f t from to : ℕ) (before : List Item) (item : I
     → Adds (desk_of b) (desk_of n) before item → Adds (part_of a f t) (part_of n from to) before item
 adds_too a b n f t from to before item w h d =
     let same : before ≡ b.events = d.still refl in
-    let long : length n.events ≡ suc (length before) = omega (arith, ap (λ (xs : List Item). length xs) d.last, length-append before (item ∷ [])) in
+    let long : length n.events ≡ suc (length before) = omega
+    (arith, ap (λ (xs : List Item). length xs) d.last, length-append before (item ∷ [])) in
     let at : length before ≡ length b.events = ap (λ (xs : List Item). length xs) same in
     record {
-      keeps = keeps_both (part_of a f t) (part_of b from to) (part_of n from to) w.keeps (keeps_too b n from to from to d.keeps);
+      keeps = keeps_both (part_of a f t) (part_of b from to) (part_of n from to) w.keeps
+          (keeps_too b n from to from to d.keeps);
       last = d.last;
       since = let P : List Item → Type 0 = λ xs. Begins a.events xs in subst P (sym same) w.keeps.seen;
       own =
@@ -89,7 +106,8 @@ adds_too a b n f t from to before item w h d =
 waits_too : (a b n : BookView) (f t from to : ℕ) → Waits (part_of a f t) (part_of b from to)
     → Waits (desk_of b) (desk_of n) → Waits (part_of a f t) (part_of n from to)
 waits_too a b n f t from to w d = record {
-  keeps = keeps_both (part_of a f t) (part_of b from to) (part_of n from to) w.keeps (keeps_too b n from to from to d.keeps);
+  keeps = keeps_both (part_of a f t) (part_of b from to) (part_of n from to) w.keeps
+      (keeps_too b n from to from to d.keeps);
   own = ap (λ (xs : List Item). own_of from to (length xs)) (d.still refl) ∙ w.own;
   still = λ e. absurd (cc);
 }
@@ -108,7 +126,12 @@ publishes_too a b n f t from to e published.NoMemory w h p = waits_too a b n f t
 
 pub offers_too : (b n : BookView) (from to m : ℕ) (r : Offered) → to ≤ length b.events
     → Offers (desk_of b) (desk_of n) m r → Offers (part_of b from to) (part_of n from to) m r
-offers_too b n from to m offered.Better h p = (p.0, adds_too b b n from to from to p.0 (better m) (part_waits b from to) h p.1, p.2)
+offers_too b n from to m offered.Better h p = (
+  p.0,
+  adds_too b b n from to from to p.0 (better m) (part_waits b from to)
+      h p.1,
+  p.2,
+)
 offers_too b n from to m offered.NotBetter h p = (waits_too b b n from to from to (part_waits b from to) p.0, p.1)
 
 pub tells_too : (b n : BookView) (from to m : ℕ) → Tells (desk_of b) (desk_of n) m
@@ -136,7 +159,12 @@ offer_keeps b n m offered.NotBetter p = p.0.keeps.seen
 
 own_since : (b n : BookView) (from to : ℕ) → from ≤ to → to ≤ length b.events → Begins b.events n.events
     → HasOwn (part_of n from to)
-own_since b n from to f t g = has_own n from to f (omega (arith, t, length-append b.events g.0, ap (λ (xs : List Item). length xs) g.1))
+own_since b n from to f t g = has_own n from to f (omega (
+  arith,
+  t,
+  length-append b.events g.0,
+  ap (λ (xs : List Item). length xs) g.1,
+))
 
 pub own_kept : (b n : BookView) (from to : ℕ) → from ≤ to → to ≤ length b.events → Waits (desk_of b) (desk_of n)
     → HasOwn (part_of n from to)

@@ -1,5 +1,6 @@
 -- Frames that are checked one after the other.
-use Rattle.std.proofs.Common.{◌≡◌, ℕ, zero, suc, ◌+◌, ◌-◌, ◌<◌, ◌≤◌, List, length, refl, sym, ap, ◌∙◌, subst, arith, Some}
+use Rattle.std.proofs.Common.{◌≡◌, ℕ, zero, suc, ◌+◌, ◌-◌, ◌<◌, ◌≤◌, List, length, refl, sym, ap, ◌∙◌, subst, arith}
+use Rattle.std.proofs.Common.{Some}
 use Rattle.std.specs.Prelude.{slice_get}
 use Rattle.std.proofs.lemmas.List.{take_all}
 use Rattle.line_rules.proofs.Sound.{get_within}
@@ -11,18 +12,23 @@ use Rattle.sequence_check.specs.Frames.{AreRightTo, AreRight}
 use Rattle.sequence_check.proofs.Listing.{sum_next, below_next}
 use Rattle.sequence_check.proofs.Walking.{same_item}
 
-pub frames_none : (t : Times) (interval reach : ℕ) (es : List SeqEntry) (fs : List SeqFrame) → AreRightTo t interval reach es fs 0 0
+pub frames_none : (t : Times) (interval reach : ℕ) (es : List SeqEntry) (fs : List SeqFrame)
+    → AreRightTo t interval reach es fs 0 0
 frames_none t interval reach es fs = record { right = λ j f l g. absurd (omega (arith, l)); total = refl }
 
-pub frames_more : (t : Times) (interval reach : ℕ) (es : List SeqEntry) (fs : List SeqFrame) (j units more : ℕ) (f : SeqFrame) → slice_get fs j ≡ Some f
-    → AreRightTo t interval reach es fs j units → IsRightAt t interval reach es fs j f → more ≡ frame_units f → AreRightTo t interval reach es fs (j + 1) (units + more)
+pub frames_more : (t : Times) (interval reach : ℕ) (es : List SeqEntry) (fs : List SeqFrame) (j units more : ℕ)
+    (f : SeqFrame) → slice_get fs j ≡ Some f
+    → AreRightTo t interval reach es fs j units → IsRightAt t interval reach es fs j f → more ≡ frame_units f
+    → AreRightTo t interval reach es fs (j + 1) (units + more)
 frames_more t interval reach es fs j units more f there below right own = record {
   right = below_next (λ i x. IsRightAt t interval reach es fs i x) fs j f there below.right right;
   total = omega (arith, below.total, own, sum_next frame_units fs j f there);
 }
 
-pub all_frames : (t : Times) (interval reach : ℕ) (es : List SeqEntry) (fs : List SeqFrame) (j units steps : ℕ) → length fs ≤ j → units ≤ steps
-    → AreRightTo t interval reach es fs j units → AreRight t interval reach es fs × (units ≡ units_in fs) × (units ≤ steps)
+pub all_frames : (t : Times) (interval reach : ℕ) (es : List SeqEntry) (fs : List SeqFrame) (j units steps : ℕ)
+    → length fs ≤ j → units ≤ steps
+    → AreRightTo t interval reach es fs j units → AreRight t interval reach es fs × (units ≡ units_in fs)
+    × (units ≤ steps)
 all_frames t interval reach es fs j units steps long few below = (
   λ i f g. below.right i f (omega (arith, long, get_within fs i f g)) g,
   below.total ∙ ap (λ xs. units_in xs) (take_all j fs long),
@@ -36,8 +42,10 @@ asked_first t interval reach fs zero f e = (λ h. h, λ h. h)
 asked_first t interval reach fs (suc j) f e = absurd (omega (arith, e))
 
 -- a further frame is asked for what the one above it leaves
-pub asked_further : (t : Times) (interval reach : ℕ) (fs : List SeqFrame) (j : ℕ) (above f : SeqFrame) → 0 < j → slice_get fs (j - 1) ≡ Some above
-    → (IsLeftBy t interval reach above f → IsAskedAt t interval reach fs j f) × (IsAskedAt t interval reach fs j f → IsLeftBy t interval reach above f)
+pub asked_further : (t : Times) (interval reach : ℕ) (fs : List SeqFrame) (j : ℕ) (above f : SeqFrame) → 0 < j
+    → slice_get fs (j - 1) ≡ Some above
+    → (IsLeftBy t interval reach above f → IsAskedAt t interval reach fs j f)
+    × (IsAskedAt t interval reach fs j f → IsLeftBy t interval reach above f)
 asked_further t interval reach fs zero above f l g = absurd (omega (arith, l))
 asked_further t interval reach fs (suc j) above f l g =
     let place : suc j - 1 ≡ j = omega arith in

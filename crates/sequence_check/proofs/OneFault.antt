@@ -1,5 +1,6 @@
 -- An entry, or a frame, has one first fault, and so has a list of them.
-use Rattle.std.proofs.Common.{◌≡◌, ℕ, ◌-◌, ◌<◌, ◌≤◌, List, length, take, refl, sym, ap, ◌∙◌, subst, inl, inr, arith, Option, Some, None, sum}
+use Rattle.std.proofs.Common.{◌≡◌, ℕ, ◌-◌, ◌<◌, ◌≤◌, List, length, take, refl, sym, ap, ◌∙◌, subst, inl, inr, arith}
+use Rattle.std.proofs.Common.{Option, Some, None, sum}
 use Rattle.sequence_rules.specs.declared.types.Times.{Times}
 use Rattle.sequence_rules.specs.declared.types.SeqEntry.{SeqEntry}
 use Rattle.sequence_rules.specs.declared.types.SeqFrame.{SeqFrame}
@@ -17,7 +18,8 @@ use Rattle.sequence_check.specs.declared.types.SeqEntryFault.TheVariants as entr
 use Rattle.sequence_check.specs.declared.types.SeqFrameFault.{SeqFrameFault}
 use Rattle.sequence_check.specs.declared.types.SeqFrameFault.TheVariants as frame_fault
 use Rattle.sequence_check.proofs.Rejecting.{fails_not, fails_at_not, entry_spends, frame_spends}
-use Rattle.sequence_check.proofs.OneWalk.{Test, same_end, past_test, FailsWalk, AtCites, at_late, one_at_cites, cites_in_time}
+use Rattle.sequence_check.proofs.OneWalk.{Test, same_end, past_test, FailsWalk, AtCites, at_late, one_at_cites}
+use Rattle.sequence_check.proofs.OneWalk.{cites_in_time}
 use Rattle.sequence_check.proofs.OneRefusal.{IsFirstRefused, AreEndedAt, one_refused, refused_in_time}
 
 -- the fault of a walk: an uncovered step, or spare cites
@@ -34,7 +36,8 @@ module _ (t : Times) (interval reach : ℕ) (earlier : List SeqEntry) (e : SeqEn
   abbrev AtBranch : List ℕ → SeqEntryFault → ℕ → Type 0
   AtBranch cites fault units =
       Test (0 < sum e.rem) (fault ≡ entry_fault.Empty)
-      (AtCites t interval reach earlier e.rem e.starts e.least cites SeqEntryFault (λ x. entry_fault.Cite x) entry_walked (length e.rem) (length e.rem) fault units)
+      (AtCites t interval reach earlier e.rem e.starts e.least cites SeqEntryFault (λ x. entry_fault.Cite x)
+      entry_walked (length e.rem) (length e.rem) fault units)
 
   branch_is : (P : List ℕ → Type 0) (cites : List ℕ) → e.why ≡ why.Branch cites → Branches e P → P cites
   branch_is P cites is b =
@@ -48,12 +51,19 @@ module _ (t : Times) (interval reach : ℕ) (earlier : List SeqEntry) (e : SeqEn
   at_branch cites is entry_fault.Empty units h = inl (λ s. omega (arith, s, h.0.1.1), refl)
   at_branch cites is (entry_fault.Cite x) units h =
       let p = branch_is (λ c. (0 < sum e.rem) × IsFirstLate c (length earlier) x) cites is h.0 in
-      inr (p.0, at_late t interval reach earlier e.rem e.starts e.least cites SeqEntryFault (λ y. entry_fault.Cite y) entry_walked (length e.rem) (length e.rem) x units p.1)
+      inr (
+        p.0,
+        at_late t interval reach earlier e.rem e.starts e.least cites SeqEntryFault (λ y. entry_fault.Cite y)
+            entry_walked (length e.rem) (length e.rem) x units p.1,
+      )
   at_branch cites is (entry_fault.Uncovered m) units h =
-      let p = branch_is (λ c. IsReady earlier e c × FailsWalk t interval reach earlier e.rem e.starts e.least c (length e.rem) (length e.rem) (Some m) units) cites is (h.0, (h.1.0, (h.1.1.0, (h.1.1.1, h.1.1.2, h.1.1.3)))) in
+      let p = branch_is (λ c. IsReady earlier e c × FailsWalk t interval reach earlier e.rem e.starts e.least c
+      (length e.rem) (length e.rem) (Some m) units) cites is
+      (h.0, (h.1.0, (h.1.1.0, (h.1.1.1, h.1.1.2, h.1.1.3)))) in
       inr (p.0.some, inr (p.0.below, (Some m, (refl, p.1))))
   at_branch cites is entry_fault.Spare units h =
-      let p = branch_is (λ c. IsReady earlier e c × FailsWalk t interval reach earlier e.rem e.starts e.least c (length e.rem) (length e.rem) None units) cites is (h.0, (h.1.0, (h.1.1.0, (h.1.1.1, h.1.1.2)))) in
+      let p = branch_is (λ c. IsReady earlier e c × FailsWalk t interval reach earlier e.rem e.starts e.least c
+      (length e.rem) (length e.rem) None units) cites is (h.0, (h.1.0, (h.1.1.0, (h.1.1.1, h.1.1.2)))) in
       inr (p.0.some, inr (p.0.below, (None, (refl, p.1))))
 
   at_bound : e.why ≡ why.Bound → (fault : SeqEntryFault) (units : ℕ) → Fails t interval reach earlier e fault units
@@ -67,14 +77,17 @@ module _ (t : Times) (interval reach : ℕ) (earlier : List SeqEntry) (e : SeqEn
   entry_one_by : (w : SeqWhy) → e.why ≡ w → (a b : SeqEntryFault) (m n : ℕ) → Fails t interval reach earlier e a m
       → Fails t interval reach earlier e b n → a ≡ b
   entry_one_by why.Bound is a b m n p q = at_bound is a m p ∙ sym (at_bound is b n q)
-  entry_one_by (why.Branch cites) is a b m n p q = same_end (at_branch cites is a m p) (at_branch cites is b n q) (λ x y. x ∙ sym y)
-      (one_at_cites t interval reach earlier e.rem e.starts e.least cites SeqEntryFault (λ x. entry_fault.Cite x) entry_walked (length e.rem) (length e.rem) a b m n)
+  entry_one_by (why.Branch cites) is a b m n p q = same_end (at_branch cites is a m p) (at_branch cites is b n q)
+      (λ x y. x ∙ sym y)
+      (one_at_cites t interval reach earlier e.rem e.starts e.least cites SeqEntryFault (λ x. entry_fault.Cite x)
+      entry_walked (length e.rem) (length e.rem) a b m n)
 
   entry_in_time : (a : SeqEntryFault) (m steps : ℕ) → Fails t interval reach earlier e a m → m ≤ steps
       → Ends t interval reach earlier e steps → ⊥
   entry_in_time a m steps p few h =
       past_test (at_branch h.0 h.1.0 a m p) h.1.1.0.some (λ w.
-      cites_in_time t interval reach earlier e.rem e.starts e.least h.0 SeqEntryFault (λ x. entry_fault.Cite x) entry_walked (length e.rem) (length e.rem) a m steps w few h.1.1.0.below h.1.1.1)
+      cites_in_time t interval reach earlier e.rem e.starts e.least h.0 SeqEntryFault (λ x. entry_fault.Cite x)
+      entry_walked (length e.rem) (length e.rem) a m steps w few h.1.1.0.below h.1.1.1)
 
 -- the entries of a list
 module _ (t : Times) (interval reach : ℕ) (es : List SeqEntry) (steps : ℕ) where
@@ -89,9 +102,17 @@ module _ (t : Times) (interval reach : ℕ) (es : List SeqEntry) (steps : ℕ) w
 
   first_entry : (k : ℕ) (fault : SeqEntryFault) → IsRefusedAt t interval reach es steps k fault
       → IsFirstRefused SeqEntry SeqEntryFault es entry_units RightEntry FailsEntry EndsEntry steps k fault
-  first_entry k fault h = record { item = h.entry; there = h.there; before = h.below.follow; more = h.more; fails = h.fails; few = omega (arith, h.few, h.below.total) }
+  first_entry k fault h = record {
+    item = h.entry;
+    there = h.there;
+    before = h.below.follow;
+    more = h.more;
+    fails = h.fails;
+    few = omega (arith, h.few, h.below.total);
+  }
 
-  ended_entry : (h : AreStepsEnded t interval reach es steps) → AreEndedAt SeqEntry SeqEntryFault es entry_units RightEntry FailsEntry EndsEntry steps h.at
+  ended_entry : (h : AreStepsEnded t interval reach es steps)
+      → AreEndedAt SeqEntry SeqEntryFault es entry_units RightEntry FailsEntry EndsEntry steps h.at
   ended_entry h = record {
     item = h.entry;
     there = h.there;
@@ -109,13 +130,15 @@ module _ (t : Times) (interval reach : ℕ) (es : List SeqEntry) (steps : ℕ) w
   pub one_entry_refused : (j k : ℕ) (a b : SeqEntryFault) → IsRefusedAt t interval reach es steps j a
       → IsRefusedAt t interval reach es steps k b → (j ≡ k) × (a ≡ b)
   one_entry_refused j k a b p q =
-      one_refused SeqEntry SeqEntryFault es entry_units RightEntry FailsEntry EndsEntry steps entry_not entry_one j k a b (first_entry j a p) (first_entry k b q)
+      one_refused SeqEntry SeqEntryFault es entry_units RightEntry FailsEntry EndsEntry steps entry_not entry_one j k a
+      b (first_entry j a p) (first_entry k b q)
 
   pub entry_refused_in_time : (j : ℕ) (a : SeqEntryFault) → IsRefusedAt t interval reach es steps j a
       → AreStepsEnded t interval reach es steps → ⊥
   entry_refused_in_time j a p h =
       refused_in_time SeqEntry SeqEntryFault es entry_units RightEntry FailsEntry EndsEntry steps entry_not entry_one
-      (λ k e b m s f few x. entry_in_time t interval reach (take k es) e b m s f few x) (λ k e s x. entry_spends t interval reach (take k es) e s x) j h.at a (first_entry j a p) (ended_entry h)
+      (λ k e b m s f few x. entry_in_time t interval reach (take k es) e b m s f few x)
+      (λ k e s x. entry_spends t interval reach (take k es) e s x) j h.at a (first_entry j a p) (ended_entry h)
 
 module _ (t : Times) (interval reach : ℕ) (es : List SeqEntry) (fs : List SeqFrame) where
   -- the tests of a frame in order
@@ -123,26 +146,43 @@ module _ (t : Times) (interval reach : ℕ) (es : List SeqEntry) (fs : List SeqF
   AtFrame j f fault units =
       Test (IsAskedAt t interval reach fs j f) (fault ≡ frame_fault.Set)
       (Test (EndsWell (is_deepest fs j) f.rem f.last) (fault ≡ frame_fault.Last)
-      (AtCites t interval reach es f.rem f.starts f.need f.cites SeqFrameFault (λ x. frame_fault.Cite x) frame_walked (matched_to (is_deepest fs j) f.last) (up_to f.last) fault units))
+      (AtCites t interval reach es f.rem f.starts f.need f.cites SeqFrameFault (λ x. frame_fault.Cite x) frame_walked
+      (matched_to (is_deepest fs j) f.last) (up_to f.last) fault units))
 
-  at_frame : (j : ℕ) (f : SeqFrame) (fault : SeqFrameFault) (units : ℕ) → FailsAt t interval reach es fs j f fault units → AtFrame j f fault units
+  at_frame : (j : ℕ) (f : SeqFrame) (fault : SeqFrameFault) (units : ℕ) → FailsAt t interval reach es fs j f fault units
+      → AtFrame j f fault units
   at_frame j f frame_fault.Allowed units h = absurd h
   at_frame j f frame_fault.Set units h = inl (h.0, refl)
   at_frame j f frame_fault.Last units h = inr (h.0, inl (h.1, refl))
   at_frame j f (frame_fault.Cite x) units h =
-      inr (h.0, inr (h.1, at_late t interval reach es f.rem f.starts f.need f.cites SeqFrameFault (λ y. frame_fault.Cite y) frame_walked (matched_to (is_deepest fs j) f.last) (up_to f.last) x units h.2))
-  at_frame j f (frame_fault.Uncovered m) units h = inr (h.0.asked, inr (h.0.last, inr (h.0.below, (Some m, (refl, (h.1, h.2, h.3))))))
+      inr (
+        h.0,
+        inr (
+          h.1,
+          at_late t interval reach es f.rem f.starts f.need f.cites SeqFrameFault
+              (λ y. frame_fault.Cite y) frame_walked (matched_to (is_deepest fs j) f.last) (up_to f.last) x units h.2,
+        ),
+      )
+  at_frame j f (frame_fault.Uncovered m) units h = inr (
+    h.0.asked,
+    inr (h.0.last, inr (h.0.below, (Some m, (refl, (h.1, h.2, h.3))))),
+  )
   at_frame j f frame_fault.Spare units h = inr (h.0.asked, inr (h.0.last, inr (h.0.below, (None, (refl, (h.1, h.2))))))
 
-  frame_one : (j : ℕ) (f : SeqFrame) (a b : SeqFrameFault) (m n : ℕ) → FailsAt t interval reach es fs j f a m → FailsAt t interval reach es fs j f b n → a ≡ b
-  frame_one j f a b m n p q = same_end (at_frame j f a m p) (at_frame j f b n q) (λ x y. x ∙ sym y) (λ p2 q2. same_end p2 q2 (λ x y. x ∙ sym y)
-      (one_at_cites t interval reach es f.rem f.starts f.need f.cites SeqFrameFault (λ x. frame_fault.Cite x) frame_walked (matched_to (is_deepest fs j) f.last) (up_to f.last) a b m n))
+  frame_one : (j : ℕ) (f : SeqFrame) (a b : SeqFrameFault) (m n : ℕ) → FailsAt t interval reach es fs j f a m
+      → FailsAt t interval reach es fs j f b n → a ≡ b
+  frame_one j f a b m n p q = same_end (at_frame j f a m p) (at_frame j f b n q) (λ x y. x ∙ sym y)
+      (λ p2 q2. same_end p2 q2 (λ x y. x ∙ sym y)
+      (one_at_cites t interval reach es f.rem f.starts f.need f.cites SeqFrameFault (λ x. frame_fault.Cite x)
+      frame_walked (matched_to (is_deepest fs j) f.last) (up_to f.last) a b m n))
 
-  frame_in_time : (j : ℕ) (f : SeqFrame) (a : SeqFrameFault) (m steps : ℕ) → FailsAt t interval reach es fs j f a m → m ≤ steps
+  frame_in_time : (j : ℕ) (f : SeqFrame) (a : SeqFrameFault) (m steps : ℕ) → FailsAt t interval reach es fs j f a m
+      → m ≤ steps
       → EndsAt t interval reach es fs j f steps → ⊥
   frame_in_time j f a m steps p few h =
       past_test (at_frame j f a m p) h.0.asked (λ v. past_test v h.0.last (λ w.
-      cites_in_time t interval reach es f.rem f.starts f.need f.cites SeqFrameFault (λ x. frame_fault.Cite x) frame_walked (matched_to (is_deepest fs j) f.last) (up_to f.last) a m steps w few h.0.below h.1))
+      cites_in_time t interval reach es f.rem f.starts f.need f.cites SeqFrameFault (λ x. frame_fault.Cite x)
+      frame_walked (matched_to (is_deepest fs j) f.last) (up_to f.last) a m steps w few h.0.below h.1))
 
   -- the frames of a trail
   module _ (steps : ℕ) where
@@ -157,7 +197,14 @@ module _ (t : Times) (interval reach : ℕ) (es : List SeqEntry) (fs : List SeqF
 
     first_frame : (j : ℕ) (fault : SeqFrameFault) → IsFrameRefused t interval reach es fs steps j fault
         → IsFirstRefused SeqFrame SeqFrameFault fs frame_units RightFrame FailsFrame EndsFrame steps j fault
-    first_frame j fault h = record { item = h.frame; there = h.there; before = h.below.right; more = h.more; fails = h.fails; few = omega (arith, h.few, h.below.total) }
+    first_frame j fault h = record {
+      item = h.frame;
+      there = h.there;
+      before = h.below.right;
+      more = h.more;
+      fails = h.fails;
+      few = omega (arith, h.few, h.below.total);
+    }
 
     frame_not : (j : ℕ) (f : SeqFrame) (fault : SeqFrameFault) (m : ℕ) → FailsFrame j f fault m → RightFrame j f → ⊥
     frame_not j f fault m h r = fails_at_not t interval reach es fs j f fault m h r
@@ -165,17 +212,20 @@ module _ (t : Times) (interval reach : ℕ) (es : List SeqEntry) (fs : List SeqF
     pub one_frame_refused : (j k : ℕ) (a b : SeqFrameFault) → IsFrameRefused t interval reach es fs steps j a
         → IsFrameRefused t interval reach es fs steps k b → (j ≡ k) × (a ≡ b)
     one_frame_refused j k a b p q =
-        one_refused SeqFrame SeqFrameFault fs frame_units RightFrame FailsFrame EndsFrame steps frame_not frame_one j k a b (first_frame j a p) (first_frame k b q)
+        one_refused SeqFrame SeqFrameFault fs frame_units RightFrame FailsFrame EndsFrame steps frame_not frame_one j k
+        a b (first_frame j a p) (first_frame k b q)
 
     pub frame_refused_in_time : (j : ℕ) (a : SeqFrameFault) → IsFrameRefused t interval reach es fs steps j a
         → AreFramesEnded t interval reach es fs steps → ⊥
     frame_refused_in_time j a p h =
-        let ended : AreEndedAt SeqFrame SeqFrameFault fs frame_units RightFrame FailsFrame EndsFrame steps h.at = record {
+        let ended : AreEndedAt SeqFrame SeqFrameFault fs frame_units RightFrame FailsFrame EndsFrame steps h.at =
+        record {
           item = h.frame;
           there = h.there;
           before = h.below.right;
           few = omega (arith, h.few, h.below.total);
           ends = subst (λ (n : ℕ). EndsAt t interval reach es fs h.at h.frame (steps - n)) h.below.total h.ends;
         } in
-        refused_in_time SeqFrame SeqFrameFault fs frame_units RightFrame FailsFrame EndsFrame steps frame_not frame_one frame_in_time
+        refused_in_time SeqFrame SeqFrameFault fs frame_units RightFrame FailsFrame EndsFrame steps frame_not frame_one
+        frame_in_time
         (λ k f s x. frame_spends t interval reach es fs k f s x) j h.at a (first_frame j a p) ended

@@ -18,15 +18,18 @@ use Rattle.sequence_check.specs.Laws.{VerdictIsOne}
 use Rattle.sequence_check.specs.Verdicts.{IsShown, FailsFirst, EndsEarly}
 use Rattle.sequence_check.proofs.Rejecting.{fails_not, refused_not, entries_end, ended_more}
 use Rattle.sequence_check.proofs.OneWalk.{Test, same_end, past_test}
-use Rattle.sequence_check.proofs.OneFault.{one_entry_refused, entry_refused_in_time, one_frame_refused, frame_refused_in_time}
+use Rattle.sequence_check.proofs.OneFault.{one_entry_refused, entry_refused_in_time, one_frame_refused}
+use Rattle.sequence_check.proofs.OneFault.{frame_refused_in_time}
 
 module _ (t : Times) (interval reach : ℕ) (cert : SeqCert) (steps : ℕ) where
   -- the checks in order, up to the first that fails
   abbrev AtEntry : SeqPlace → Type 0
-  AtEntry p = (k : ℕ) × (why : SeqEntryFault) × ((p ≡ place.Entry k why) × IsRefusedAt t interval reach cert.entries steps k why)
+  AtEntry p = (k : ℕ) × (why : SeqEntryFault) × ((p ≡ place.Entry k why)
+      × IsRefusedAt t interval reach cert.entries steps k why)
 
   abbrev AtFrame : SeqPlace → Type 0
-  AtFrame p = (j : ℕ) × (why : SeqFrameFault) × ((p ≡ place.Frame j why) × IsFrameRefused t interval reach cert.entries cert.frames (steps - units_of cert.entries) j why)
+  AtFrame p = (j : ℕ) × (why : SeqFrameFault) × ((p ≡ place.Frame j why)
+      × IsFrameRefused t interval reach cert.entries cert.frames (steps - units_of cert.entries) j why)
 
   abbrev AtProof : SeqPlace → Type 0
   AtProof p =
@@ -39,7 +42,8 @@ module _ (t : Times) (interval reach : ℕ) (cert : SeqCert) (steps : ℕ) where
       Test (cert.models ≡ length t.demands) (p ≡ place.Models cert.models)
       (Test (cert.stations ≡ t.stations) (p ≡ place.Stations cert.stations)
       (Test (IsSequenceOf t.demands cert.sequence) (p ≡ place.Sequence)
-      (Test (cost t interval reach (root_starts t) cert.sequence ≡ cert.upper) (p ≡ place.Total (cost t interval reach (root_starts t) cert.sequence)) (AtProof p))))
+      (Test (cost t interval reach (root_starts t) cert.sequence ≡ cert.upper)
+      (p ≡ place.Total (cost t interval reach (root_starts t) cert.sequence)) (AtProof p))))
 
   shown : (p : SeqPlace) → IsShown t interval reach cert → AtProof p → AtCheck p
   shown p s rest = inr (s.line.models, inr (s.line.stations, inr (s.sequence, inr (s.total, rest))))
@@ -48,9 +52,19 @@ module _ (t : Times) (interval reach : ℕ) (cert : SeqCert) (steps : ℕ) where
   at_check (place.Models said) h = inl (h.1, ap (λ n. place.Models n) h.0)
   at_check (place.Stations said) h = inr (h.0, inl (h.2, ap (λ n. place.Stations n) h.1))
   at_check place.Sequence h = inr (h.0.models, inr (h.0.stations, inl (h.1, refl)))
-  at_check (place.Total total) h = inr (h.0.models, inr (h.0.stations, inr (h.1, inl (λ e. h.3 (h.2 ∙ e), ap (λ n. place.Total n) h.2))))
+  at_check (place.Total total) h = inr (
+    h.0.models,
+    inr (
+      h.0.stations,
+      inr (h.1, inl (λ e. h.3 (h.2 ∙ e), ap (λ n. place.Total n) h.2)),
+    ),
+  )
   at_check (place.Entry k why) h =
-      shown (place.Entry k why) h.0 (inl (λ d. fails_not t interval reach (take k cert.entries) h.1.entry why h.1.more h.1.fails (d.0 k h.1.entry h.1.there), (k, why, (refl, h.1))))
+      shown (place.Entry k why) h.0 (inl (
+        λ d. fails_not t interval reach (take k cert.entries) h.1.entry why h.1.more
+            h.1.fails (d.0 k h.1.entry h.1.there),
+        (k, why, (refl, h.1)),
+      ))
   at_check place.Goal h = shown place.Goal h.0 (inr ((h.1, h.2), inl (λ s. h.4 (s h.3), refl)))
   at_check (place.Frame j why) h =
       let few : units_of cert.entries ≤ steps = omega (arith, h.1.1.total, h.1.2) in
@@ -60,19 +74,34 @@ module _ (t : Times) (interval reach : ℕ) (cert : SeqCert) (steps : ℕ) where
           h.1.1.goal,
           elim h.1.3 [
             | inl first ↦ inl (first.0, ap (λ i. place.Frame i why) first.1 ∙ ap (λ w. place.Frame 0 w) first.2)
-            | inr later ↦ inr (later.0, (j, why, (refl, subst (λ (n : ℕ). IsFrameRefused t interval reach cert.entries cert.frames (steps - n) j why) h.1.1.total later.1)))
+            | inr later ↦ inr (
+              later.0,
+              (
+                j,
+                why,
+                (
+                  refl,
+                  subst
+                      (λ (n : ℕ). IsFrameRefused t interval reach cert.entries cert.frames (steps - n) j why)
+                          h.1.1.total
+                      later.1,
+                ),
+              ),
+            )
           ],
         ),
       ))
 
   entry_one : (p q : SeqPlace) → AtEntry p → AtEntry q → p ≡ q
   entry_one p q x y =
-      let s : (x.0 ≡ y.0) × (x.1 ≡ y.1) = one_entry_refused t interval reach cert.entries steps x.0 y.0 x.1 y.1 x.2.1 y.2.1 in
+      let s : (x.0 ≡ y.0) × (x.1 ≡ y.1) = one_entry_refused t interval reach cert.entries steps x.0 y.0 x.1 y.1 x.2.1
+      y.2.1 in
       x.2.0 ∙ (ap (λ (k : ℕ). place.Entry k x.1) s.0 ∙ (ap (λ (w : SeqEntryFault). place.Entry y.0 w) s.1 ∙ sym y.2.0))
 
   frame_one : (p q : SeqPlace) → AtFrame p → AtFrame q → p ≡ q
   frame_one p q x y =
-      let s : (x.0 ≡ y.0) × (x.1 ≡ y.1) = one_frame_refused t interval reach cert.entries cert.frames (steps - units_of cert.entries) x.0 y.0 x.1 y.1 x.2.1 y.2.1 in
+      let s : (x.0 ≡ y.0) × (x.1 ≡ y.1) = one_frame_refused t interval reach cert.entries cert.frames
+      (steps - units_of cert.entries) x.0 y.0 x.1 y.1 x.2.1 y.2.1 in
       x.2.0 ∙ (ap (λ (j : ℕ). place.Frame j x.1) s.0 ∙ (ap (λ (w : SeqFrameFault). place.Frame y.0 w) s.1 ∙ sym y.2.0))
 
   -- two checks that fail first are one
@@ -98,21 +127,32 @@ module _ (t : Times) (interval reach : ℕ) (cert : SeqCert) (steps : ℕ) where
       frame_refused_in_time t interval reach cert.entries cert.frames (steps - units_of cert.entries) x4.0 x4.1 x4.2.1
       (subst (λ (n : ℕ). AreFramesEnded t interval reach cert.entries cert.frames (steps - n)) h.1.0.total h.1.3))))
 
-  in_time : (p : SeqPlace) → FailsFirst t interval reach cert steps p → IsShown t interval reach cert → EndsEarly t interval reach cert steps → ⊥
+  in_time : (p : SeqPlace) → FailsFirst t interval reach cert steps p → IsShown t interval reach cert
+      → EndsEarly t interval reach cert steps → ⊥
   in_time p f s h =
-      past_test (at_check p f) s.line.models (λ x2. past_test x2 s.line.stations (λ x3. past_test x3 s.sequence (λ x4. past_test x4 s.total (λ x5. proof_in_time p x5 h))))
+      past_test (at_check p f) s.line.models (λ x2. past_test x2 s.line.stations
+      (λ x3. past_test x3 s.sequence (λ x4. past_test x4 s.total (λ x5. proof_in_time p x5 h))))
 
 accepted_one : (l u m k v n : ℕ) → l ≡ k → u ≡ v → m ≡ n → verified.Accepted l u m ≡ verified.Accepted k v n
 accepted_one l u m k v n p q r = cc
 
 pub verdict_one : VerdictIsOne
-verdict_one t interval reach cert steps (verified.Accepted l u m) (verified.Accepted k v n) p q = accepted_one l u m k v n (p.0 ∙ sym q.0) (p.1 ∙ sym q.1) (p.3 ∙ sym q.3)
-verdict_one t interval reach cert steps (verified.Accepted l u m) (verified.Refused y) p q = absurd (refused_not t interval reach cert steps y q p.2)
-verdict_one t interval reach cert steps (verified.Accepted l u m) (verified.StepsEnded s) p q = absurd (omega (arith, p.3, p.4, ended_more t interval reach cert steps q.2))
-verdict_one t interval reach cert steps (verified.Refused x) (verified.Accepted k v n) p q = absurd (refused_not t interval reach cert steps x p q.2)
+verdict_one t interval reach cert steps (verified.Accepted l u m) (verified.Accepted k v n) p q =
+    accepted_one l u m k v n (p.0 ∙ sym q.0) (p.1 ∙ sym q.1) (p.3 ∙ sym q.3)
+verdict_one t interval reach cert steps (verified.Accepted l u m) (verified.Refused y) p q =
+    absurd (refused_not t interval reach cert steps y q p.2)
+verdict_one t interval reach cert steps (verified.Accepted l u m) (verified.StepsEnded s) p q =
+    absurd (omega (arith, p.3, p.4, ended_more t interval reach cert steps q.2))
+verdict_one t interval reach cert steps (verified.Refused x) (verified.Accepted k v n) p q =
+    absurd (refused_not t interval reach cert steps x p q.2)
 verdict_one t interval reach cert steps (verified.Refused x) (verified.Refused y) p q =
-    ap (λ (z : SeqPlace). verified.Refused z) (check_one t interval reach cert steps x y (at_check t interval reach cert steps x p) (at_check t interval reach cert steps y q))
-verdict_one t interval reach cert steps (verified.Refused x) (verified.StepsEnded s) p q = absurd (in_time t interval reach cert steps x p q.1 q.2)
-verdict_one t interval reach cert steps (verified.StepsEnded s) (verified.Accepted k v n) p q = absurd (omega (arith, q.3, q.4, ended_more t interval reach cert steps p.2))
-verdict_one t interval reach cert steps (verified.StepsEnded s) (verified.Refused y) p q = absurd (in_time t interval reach cert steps y q p.1 p.2)
-verdict_one t interval reach cert steps (verified.StepsEnded s) (verified.StepsEnded r) p q = ap (λ (z : ℕ). verified.StepsEnded z) (p.0 ∙ sym q.0)
+    ap (λ (z : SeqPlace). verified.Refused z) (check_one t interval reach cert steps x y
+    (at_check t interval reach cert steps x p) (at_check t interval reach cert steps y q))
+verdict_one t interval reach cert steps (verified.Refused x) (verified.StepsEnded s) p q =
+    absurd (in_time t interval reach cert steps x p q.1 q.2)
+verdict_one t interval reach cert steps (verified.StepsEnded s) (verified.Accepted k v n) p q =
+    absurd (omega (arith, q.3, q.4, ended_more t interval reach cert steps p.2))
+verdict_one t interval reach cert steps (verified.StepsEnded s) (verified.Refused y) p q =
+    absurd (in_time t interval reach cert steps y q p.1 p.2)
+verdict_one t interval reach cert steps (verified.StepsEnded s) (verified.StepsEnded r) p q =
+    ap (λ (z : ℕ). verified.StepsEnded z) (p.0 ∙ sym q.0)

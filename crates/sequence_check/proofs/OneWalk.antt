@@ -1,6 +1,7 @@
 -- The tests of cites and the walk over the steps of a state have one answer: the first failure, if there is one, comes
 -- before what the steps end at.
-use Rattle.std.proofs.Common.{◌≡◌, ℕ, suc, ◌+◌, ◌<◌, ◌≤◌, ◌⊎◌, List, length, refl, sym, ap, ◌∙◌, subst, inl, inr, arith, Option, Some, None}
+use Rattle.std.proofs.Common.{◌≡◌, ℕ, suc, ◌+◌, ◌<◌, ◌≤◌, ◌⊎◌, List, length, refl, sym, ap, ◌∙◌, subst, inl, inr, arith}
+use Rattle.std.proofs.Common.{Option, Some, None}
 use Rattle.std.specs.Prelude.{slice_get}
 use Rattle.std.proofs.lemmas.Bool.{cases_order, cases_lt}
 use Rattle.sequence_rules.specs.declared.types.Times.{Times}
@@ -28,7 +29,9 @@ past_test p a f = elim p [ inl x ↦ absurd (x.0 a) | inr y ↦ f y.1 ]
 -- there is one first cite that is late
 one_late : (cites : List ℕ) (k x y : ℕ) → IsFirstLate cites k x → IsFirstLate cites k y → x ≡ y
 one_late cites k x y p q = elim (cases_order p.place q.place) [
-  | inl s ↦ (let P : ℕ → Type 0 = λ z. slice_get cites z ≡ Some y in let e : slice_get cites p.place ≡ Some y = subst P (sym s) q.there in let t : slice_get cites p.place ≡ Some x = p.there in cc)
+  | inl s ↦ (let P : ℕ → Type 0 = λ z. slice_get cites z ≡ Some y in
+      let e : slice_get cites p.place ≡ Some y = subst P (sym s) q.there in
+      let t : slice_get cites p.place ≡ Some x = p.there in cc)
   | inr d ↦ elim d [
     | inl less ↦ absurd (omega (arith, p.late, q.earlier p.place x less p.there))
     | inr more ↦ absurd (omega (arith, q.late, p.earlier q.place y more q.there))
@@ -40,7 +43,8 @@ module _ (t : Times) (interval reach : ℕ) (es : List SeqEntry) (rem starts : L
   -- there is none, spare cites; and how many steps were walked.
   abbrev pub FailsWalk : ℕ → ℕ → Option ℕ → ℕ → Type 0
   FailsWalk n k None units = IsSpare t interval reach es rem starts need cites n × (units ≡ models_left rem k)
-  FailsWalk n k (Some m) units = (m < n) × IsUncovered t interval reach es rem starts need cites m × (units ≡ models_left rem (suc m))
+  FailsWalk n k (Some m) units = (m < n) × IsUncovered t interval reach es rem starts need cites m
+      × (units ≡ models_left rem (suc m))
 
   one_uncovered : (a b : ℕ) → IsUncovered t interval reach es rem starts need cites a
       → IsUncovered t interval reach es rem starts need cites b → a ≡ b
@@ -52,7 +56,8 @@ module _ (t : Times) (interval reach : ℕ) (es : List SeqEntry) (rem starts : L
     ]
   ]
 
-  not_spared : (n k a units : ℕ) → FailsWalk n k (Some a) units → IsSpare t interval reach es rem starts need cites n → ⊥
+  not_spared : (n k a units : ℕ) → FailsWalk n k (Some a) units → IsSpare t interval reach es rem starts need cites n
+      → ⊥
   not_spared n k a units f s = not_uncovered t interval reach es rem starts need n cites a s.covers f.0 f.1
 
   one_failure : (n k : ℕ) (o p : Option ℕ) (m u : ℕ) → FailsWalk n k o m → FailsWalk n k p u → o ≡ p
@@ -64,10 +69,22 @@ module _ (t : Times) (interval reach : ℕ) (es : List SeqEntry) (rem starts : L
   -- a failure that is found within the steps comes before the step that is walked past them
   walk_in_time : (n k : ℕ) (o : Option ℕ) (m steps : ℕ) → FailsWalk n k o m → m ≤ steps
       → IsPast t interval reach es rem starts need cites k steps → ⊥
-  walk_in_time n k None m steps f few p = omega (arith, few, f.1, past_counts t interval reach es rem starts need k cites steps p)
+  walk_in_time n k None m steps f few p = omega (
+    arith,
+    few,
+    f.1,
+    past_counts t interval reach es rem starts need k cites steps p,
+  )
   walk_in_time n k (Some a) m steps f few p = elim (cases_lt a p.model) [
     | inl less ↦ not_uncovered t interval reach es rem starts need p.model cites a p.before less f.1
-    | inr more ↦ omega (arith, few, f.2, p.counts, count_yes (is_left rem) p.model p.walked, passing_grows (is_left rem) (p.model + 1) (suc a) (omega (arith, more)))
+    | inr more ↦ omega (
+      arith,
+      few,
+      f.2,
+      p.counts,
+      count_yes (is_left rem) p.model p.walked,
+      passing_grows (is_left rem) (p.model + 1) (suc a) (omega (arith, more)),
+    )
   ]
 
   -- the cites are tested, and then the steps walked, of which the failure is named so

@@ -1,5 +1,7 @@
 -- How a try begins, and what it leaves where it is stopped.
-use Rattle.std.proofs.Common.{◌≡◌, ℕ, zero, suc, ◌+◌, ◌<◌, ◌≤◌, Bool, true, false, nat_eq, List, [], ◌∷◌, ◌++◌, length, take, get_or, refl, sym, ap, ◌∙◌, subst, inl, inr, add-one, arith, Some, None, Option, length-append, sum}
+use Rattle.std.proofs.Common.{◌≡◌, ℕ, zero, suc, ◌+◌, ◌<◌, ◌≤◌, Bool, true, false, nat_eq, List, [], ◌∷◌, ◌++◌, length}
+use Rattle.std.proofs.Common.{take, get_or, refl, sym, ap, ◌∙◌, subst, inl, inr, add-one, arith, Some, None, Option}
+use Rattle.std.proofs.Common.{length-append, sum}
 use Rattle.std.specs.Prelude.{slice_get}
 use Rattle.std.proofs.lemmas.Bool.Decides.{nat_tests}
 use Rattle.std.proofs.lemmas.List.{length-take-le, length-replicate, get_or_default}
@@ -36,8 +38,10 @@ root_state t times = record {
 }
 
 -- a try begins at the root
-pub root_top : (t : Times) (interval reach goal : ℕ) (es : List SeqEntry) (f : SeqFrame) → AreTimes t → IsBook t interval reach es goal
-    → f.rem ≡ t.demands → f.starts ≡ root_starts t → f.need ≡ goal → f.last ≡ None → f.cites ≡ [] → IsTop t interval reach goal es [] f
+pub root_top : (t : Times) (interval reach goal : ℕ) (es : List SeqEntry) (f : SeqFrame) → AreTimes t
+    → IsBook t interval reach es goal
+    → f.rem ≡ t.demands → f.starts ≡ root_starts t → f.need ≡ goal → f.last ≡ None → f.cites ≡ []
+    → IsTop t interval reach goal es [] f
 root_top t interval reach goal es f times book r s n l c =
     let E : Option ℕ → Type 0 = λ o. EndsWell true f.rem o in
     let C : ℕ → List ℕ → Type 0 = λ k cs. Covers t interval reach es f.rem f.starts f.need k cs in
@@ -48,7 +52,8 @@ root_top t interval reach goal es f times book r s n l c =
       worked = record {
         on = record {
           asked = λ x er es en. record { rem = er ∙ r; starts = es ∙ s };
-          state = subst (λ (a : List ℕ). S a f.starts) (sym r) (subst (λ (b : List ℕ). S t.demands b) (sym s) (root_state t times));
+          state = subst (λ (a : List ℕ). S a f.starts) (sym r)
+              (subst (λ (b : List ℕ). S t.demands b) (sym s) (root_state t times));
           low = omega (arith, n);
           first = λ z. n;
           bound = λ z. absurd (omega (arith, z));
@@ -60,42 +65,52 @@ root_top t interval reach goal es f times book r s n l c =
           );
         };
         unanswered = λ h. omega (arith, n, h.1.answers.least, book.root h.0 h.1.entry h.1.there (h.1.answers.same ∙ r));
-        covers = subst (λ (k : ℕ). C k f.cites) (sym none) (subst (λ (cs : List ℕ). C 0 cs) (sym c) (covers_none t interval reach es f.rem f.starts f.need));
+        covers = subst (λ (k : ℕ). C k f.cites) (sym none) (subst (λ (cs : List ℕ). C 0 cs) (sym c)
+            (covers_none t interval reach es f.rem f.starts f.need));
       };
     }
 
 -- what is asked of a frame below some frames is asked of it in a longer list
-asked_in : (t : Times) (interval reach : ℕ) (before fs : List SeqFrame) (j : ℕ) (x : SeqFrame) → ((i : ℕ) (y : SeqFrame) → slice_get before i ≡ Some y → slice_get fs i ≡ Some y)
+asked_in : (t : Times) (interval reach : ℕ) (before fs : List SeqFrame) (j : ℕ) (x : SeqFrame)
+    → ((i : ℕ) (y : SeqFrame) → slice_get before i ≡ Some y → slice_get fs i ≡ Some y)
     → length before ≡ j → IsAskedAt t interval reach before (length before) x → IsAskedAt t interval reach fs j x
 asked_in t interval reach before fs zero x more n h =
     let P : ℕ → Type 0 = λ k. IsAskedAt t interval reach before k x in
     subst P n h
 asked_in t interval reach before fs (suc i) x more n h =
     let P : ℕ → Type 0 = λ k. IsAskedAt t interval reach before k x in
-    let own : (above : SeqFrame) × ((slice_get before i ≡ Some above) × IsLeftBy t interval reach above x) = subst P n h in
+    let own : (above : SeqFrame) × ((slice_get before i ≡ Some above) × IsLeftBy t interval reach above x) =
+    subst P n h in
     (own.0, (more i own.0 own.1.0, own.1.1))
 
 matched_all : (last : Option ℕ) → matched_to true last ≡ up_to last
 matched_all None = refl
 matched_all (Some m) = refl
 
-last_in : (models : ℕ) (rem : List ℕ) (last : Option ℕ) → length rem ≡ models → EndsWell true rem last → IsLast models last
+last_in : (models : ℕ) (rem : List ℕ) (last : Option ℕ) → length rem ≡ models → EndsWell true rem last
+    → IsLast models last
 last_in models rem None e h = tt
 last_in models rem (Some m) e h = omega (arith, e, left_within rem m (some_left rem m h))
 
-module _ (t : Times) (interval reach goal : ℕ) (es : List SeqEntry) (above : List SeqFrame) (f : SeqFrame) (along : IsAlong t interval reach goal es above) (top : IsTop t interval reach goal es above f) where
+module _ (t : Times) (interval reach goal : ℕ) (es : List SeqEntry) (above : List SeqFrame) (f : SeqFrame)
+    (along : IsAlong t interval reach goal es above) (top : IsTop t interval reach goal es above f) where
   frames : List SeqFrame
   frames = above ++ f ∷ []
 
-  right_above : (j : ℕ) (x : SeqFrame) → j < length above → slice_get above j ≡ Some x → IsRightAt t interval reach es (above ++ f ∷ []) j x
+  right_above : (j : ℕ) (x : SeqFrame) → j < length above → slice_get above j ≡ Some x
+      → IsRightAt t interval reach es (above ++ f ∷ []) j x
   right_above j x l g =
       let p : IsPassed t interval reach goal es (take j above) x = along j x g in
-      let no : is_deepest (above ++ f ∷ []) j ≡ false = deep j (length above) (length (above ++ f ∷ [])) l (length-append above (f ∷ [])) in
+      let no : is_deepest (above ++ f ∷ []) j ≡ false = deep j (length above) (length (above ++ f ∷ [])) l
+      (length-append above (f ∷ [])) in
       let E : Option ℕ → Type 0 = λ o. EndsWell (is_deepest (above ++ f ∷ []) j) x.rem o in
       let C : ℕ → Type 0 = λ n. Covers t interval reach es x.rem x.starts x.need n x.cites in
-      let reached : matched_to (is_deepest (above ++ f ∷ []) j) x.last ≡ p.model = ap (λ b. matched_to b x.last) no ∙ ap (λ o. matched_to false o) p.last in
+      let reached : matched_to (is_deepest (above ++ f ∷ []) j) x.last ≡ p.model =
+      ap (λ b. matched_to b x.last) no ∙ ap (λ o. matched_to false o) p.last in
       record {
-        asked = asked_in t interval reach (take j above) (above ++ f ∷ []) j x (λ i y h. get_longer above (f ∷ []) i y (get_take above j i y h).1) (length-take-le j above (omega (arith, l))) (p.worked.on.asked x refl refl refl);
+        asked = asked_in t interval reach (take j above) (above ++ f ∷ []) j x
+            (λ i y h. get_longer above (f ∷ []) i y (get_take above j i y h).1)
+            (length-take-le j above (omega (arith, l))) (p.worked.on.asked x refl refl refl);
         last = subst E (sym p.last) p.left;
         covers = subst C (sym reached) p.worked.covers;
       }
@@ -105,12 +120,15 @@ module _ (t : Times) (interval reach goal : ℕ) (es : List SeqEntry) (above : L
 
   right_top : (j : ℕ) → j ≡ length above → IsRightAt t interval reach es (above ++ f ∷ []) j f
   right_top j e =
-      let yes : is_deepest (above ++ f ∷ []) j ≡ true = deep j (length above) (length (above ++ f ∷ [])) e (length-append above (f ∷ [])) in
+      let yes : is_deepest (above ++ f ∷ []) j ≡ true = deep j (length above) (length (above ++ f ∷ [])) e
+      (length-append above (f ∷ [])) in
       let E : Bool → Type 0 = λ b. EndsWell b f.rem f.last in
       let C : ℕ → Type 0 = λ n. Covers t interval reach es f.rem f.starts f.need n f.cites in
-      let reached : matched_to (is_deepest (above ++ f ∷ []) j) f.last ≡ up_to f.last = ap (λ b. matched_to b f.last) yes ∙ matched_all f.last in
+      let reached : matched_to (is_deepest (above ++ f ∷ []) j) f.last ≡ up_to f.last =
+      ap (λ b. matched_to b f.last) yes ∙ matched_all f.last in
       record {
-        asked = asked_in t interval reach above (above ++ f ∷ []) j f (λ i y h. get_longer above (f ∷ []) i y h) (sym e) (top.worked.on.asked f refl refl refl);
+        asked = asked_in t interval reach above (above ++ f ∷ []) j f (λ i y h. get_longer above (f ∷ []) i y h) (sym e)
+            (top.worked.on.asked f refl refl refl);
         last = subst E (sym yes) top.last;
         covers = subst C (sym reached) top.worked.covers;
       }
@@ -118,7 +136,8 @@ module _ (t : Times) (interval reach goal : ℕ) (es : List SeqEntry) (above : L
       deep : (j n k : ℕ) → j ≡ n → k ≡ n + 1 → nat_eq (j + 1) k ≡ true
       deep j n k e s = grind (arith, nat_tests)
 
-  pub stopped : (m : ℕ) → AreTimes t → IsNextModel f.rem (up_to f.last) m → goal ≤ 1000000000000000000 → length es ≤ 1000000000000000000 → AreStopped t interval reach goal es (above ++ f ∷ [])
+  pub stopped : (m : ℕ) → AreTimes t → IsNextModel f.rem (up_to f.last) m → goal ≤ 1000000000000000000
+      → length es ≤ 1000000000000000000 → AreStopped t interval reach goal es (above ++ f ∷ [])
   stopped m times next low few = record {
     some = omega (arith, length-append above (f ∷ []));
     few = omega (arith, length-append above (f ∷ []), top.worked.on.depth, times.units);
@@ -128,7 +147,8 @@ module _ (t : Times) (interval reach goal : ℕ) (es : List SeqEntry) (above : L
     ];
     right = λ j x g. elim (get_push_cases above f x j g) [
       | inl u ↦ right_above j x u.0 u.1
-      | inr u ↦ let P : SeqFrame → Type 0 = λ z. IsRightAt t interval reach es (above ++ f ∷ []) j z in subst P u.1 (right_top j u.0)
+      | inr u ↦ let P : SeqFrame → Type 0 = λ z. IsRightAt t interval reach es (above ++ f ∷ []) j z in
+          subst P u.1 (right_top j u.0)
     ];
     range = λ j x g. elim (get_push_cases above f x j g) [
       | inl u ↦
@@ -137,8 +157,17 @@ module _ (t : Times) (interval reach goal : ℕ) (es : List SeqEntry) (above : L
           record {
             state = p.worked.on.state;
             need = omega (arith, p.worked.on.low, low);
-            last = subst L (sym p.last) (omega (arith, p.worked.on.state.each, left_within x.rem p.model (some_left x.rem p.model p.left)));
-            cites = λ k d h. omega (arith, few, cites_within t interval reach es x.rem x.starts x.need p.model x.cites p.worked.covers k d h);
+            last = subst L (sym p.last) (omega (
+              arith,
+              p.worked.on.state.each,
+              left_within x.rem p.model (some_left x.rem p.model p.left),
+            ));
+            cites = λ k d h. omega (
+              arith,
+              few,
+              cites_within t interval reach es x.rem x.starts x.need p.model x.cites
+                  p.worked.covers k d h,
+            );
           }
       | inr u ↦
           let P : SeqFrame → Type 0 = λ z. IsFrame (length t.demands) t.stations z in
@@ -146,7 +175,12 @@ module _ (t : Times) (interval reach goal : ℕ) (es : List SeqEntry) (above : L
             state = top.worked.on.state;
             need = omega (arith, top.worked.on.low, low);
             last = last_in (length t.demands) f.rem f.last top.worked.on.state.each top.last;
-            cites = λ k d h. omega (arith, few, cites_within t interval reach es f.rem f.starts f.need (up_to f.last) f.cites top.worked.covers k d h);
+            cites = λ k d h. omega (
+              arith,
+              few,
+              cites_within t interval reach es f.rem f.starts f.need (up_to f.last)
+                  f.cites top.worked.covers k d h,
+            );
           })
     ];
     further = record {
@@ -166,7 +200,8 @@ module _ (t : Times) (interval reach goal : ℕ) (es : List SeqEntry) (above : L
   }
 
 -- what is taken of a list, with its next item
-pub take_next : {X : Type 0} (xs : List X) (k : ℕ) (x : X) → slice_get xs k ≡ Some x → take (k + 1) xs ≡ take k xs ++ x ∷ []
+pub take_next : {X : Type 0} (xs : List X) (k : ℕ) (x : X) → slice_get xs k ≡ Some x
+    → take (k + 1) xs ≡ take k xs ++ x ∷ []
 take_next xs k x e = ap (λ n. take n xs) (add-one k) ∙ next xs k x e
   where
     next : {X : Type 0} (xs : List X) (k : ℕ) (x : X) → slice_get xs k ≡ Some x → take (suc k) xs ≡ take k xs ++ x ∷ []

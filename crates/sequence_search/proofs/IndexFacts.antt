@@ -1,5 +1,6 @@
 -- An index is kept when an entry comes to the end, and a look by it passes over no entry that answers.
-use Rattle.std.proofs.Common.{◌≡◌, ◌≢◌, ◌∙◌, ℕ, suc, ◌+◌, ◌<◌, ◌≤◌, cond, nat_eq, List, [], ◌∷◌, ◌++◌, length, length-append, Option, Some, None, refl, sym, ap, subst, inl, inr, arith}
+use Rattle.std.proofs.Common.{◌≡◌, ◌≢◌, ◌∙◌, ℕ, suc, ◌+◌, ◌<◌, ◌≤◌, cond, nat_eq, List, [], ◌∷◌, ◌++◌, length}
+use Rattle.std.proofs.Common.{length-append, Option, Some, None, refl, sym, ap, subst, inl, inr, arith}
 use Rattle.std.specs.Prelude.{slice_get}
 use Rattle.std.specs.HashMap.{get, Updates}
 use Rattle.std.proofs.lemmas.Bool.{cases_eq, cases_lt, eq-eqb, ne_eqb}
@@ -59,8 +60,10 @@ module _ (es : List SeqEntry) (e : SeqEntry) where
   )
 
   -- an index with that entry
-  pub indexed : (latest new : Numbered) (before : List (Option ℕ)) (old : Option ℕ) (number : ℕ) → IsIndexed latest before es
-      → number ≡ length es → old ≡ get nat_eq latest (key_of e.rem) → Updates nat_eq latest new (key_of e.rem) (Some number)
+  pub indexed : (latest new : Numbered) (before : List (Option ℕ)) (old : Option ℕ) (number : ℕ)
+      → IsIndexed latest before es
+      → number ≡ length es → old ≡ get nat_eq latest (key_of e.rem)
+      → Updates nat_eq latest new (key_of e.rem) (Some number)
       → IsIndexed new (before ++ old ∷ []) (es ++ e ∷ [])
   indexed latest new before old number index is_number is_old updates = record {
     long = omega (arith, index.long, length-append before (old ∷ []), length-append es (e ∷ []));
@@ -70,12 +73,14 @@ module _ (es : List SeqEntry) (e : SeqEntry) where
         subst L more (elim (cases_eq (key_of e.rem) key) [
           | inl same ↦
               let found : get nat_eq new key ≡ Some (length es) =
-              updates.0 key ∙ ap (λ b. cond b (Some number) (get nat_eq latest key)) (eq-eqb (key_of e.rem) key same) ∙ ap Some is_number in
+              updates.0 key ∙ ap (λ b. cond b (Some number) (get nat_eq latest key)) (eq-eqb (key_of e.rem) key same)
+              ∙ ap Some is_number in
               let K : ℕ → Type 0 = λ k. IsLastOfKey (es ++ e ∷ []) (length es + 1) k (Some (length es)) in
               subst (IsLastOfKey (es ++ e ∷ []) (length es + 1) key) (sym found) (subst K same own_key)
           | inr other ↦
               let kept : get nat_eq new key ≡ get nat_eq latest key =
-              updates.0 key ∙ ap (λ b. cond b (Some number) (get nat_eq latest key)) (ne_eqb (key_of e.rem) key other) in
+              updates.0 key ∙ ap (λ b. cond b (Some number) (get nat_eq latest key))
+              (ne_eqb (key_of e.rem) key other) in
               subst (IsLastOfKey (es ++ e ∷ []) (length es + 1) key) (sym kept)
               (passed_over key (get nat_eq latest key) other (index.last key))
         ]);
@@ -127,21 +132,24 @@ module _ (es : List SeqEntry) (rem starts : List ℕ) (need : ℕ) where
       one a b e = cc
 
   -- the entry that is looked at doesn't answer: the one of its key before it is looked at next, and is one of fewer
-  pub looks_on : (latest : Numbered) (before : List (Option ℕ)) (j : ℕ) (e : SeqEntry) (o : Option ℕ) → IsIndexed latest before es
+  pub looks_on : (latest : Numbered) (before : List (Option ℕ)) (j : ℕ) (e : SeqEntry) (o : Option ℕ)
+      → IsIndexed latest before es
       → IsLooking es rem starts need (Some j) → slice_get es j ≡ Some e → slice_get before j ≡ Some o
       → (Answers e rem starts need → ⊥) → IsLooking es rem starts need o
   looks_on latest before j e o index look there led isnt =
       looking j o (omega (arith, look.within j refl))
       (subst (λ key. IsLastOfKey es j key o) (look.keyed j e refl there) (index.chain j e o there led))
       (λ k x more here a. elim (cases_eq k j) [
-        | inl same ↦ isnt (subst (λ y. Answers y rem starts need) (one x e (sym here ∙ ap (slice_get es) same ∙ there)) a)
+        | inl same ↦ isnt (subst (λ y. Answers y rem starts need) (one x e (sym here ∙ ap (slice_get es) same ∙ there))
+            a)
         | inr other ↦ look.passed k x (omega (arith, more, other)) here a
       ])
     where
       one : (a b : SeqEntry) → Some a ≡ Some b → a ≡ b
       one a b e = cc
 
-  pub one_of_fewer : (latest : Numbered) (before : List (Option ℕ)) (j : ℕ) (e : SeqEntry) (o : Option ℕ) → IsIndexed latest before es
+  pub one_of_fewer : (latest : Numbered) (before : List (Option ℕ)) (j : ℕ) (e : SeqEntry) (o : Option ℕ)
+      → IsIndexed latest before es
       → slice_get es j ≡ Some e → slice_get before j ≡ Some o → left_of o < left_of (Some j)
   one_of_fewer latest before j e o index there led = below o (index.chain j e o there led)
     where

@@ -1,5 +1,6 @@
 -- Sequences of the demands, and where a search is between two tries.
-use Rattle.std.proofs.Common.{◌≡◌, ℕ, zero, suc, ◌+◌, ◌-◌, ◌*◌, ◌<◌, ◌≤◌, cond, nat_eq, List, [], ◌∷◌, ◌++◌, length, take, get_or, replicate, refl, sym, ap, subst, inl, inr, arith, Some}
+use Rattle.std.proofs.Common.{◌≡◌, ℕ, zero, suc, ◌+◌, ◌-◌, ◌*◌, ◌<◌, ◌≤◌, cond, nat_eq, List, [], ◌∷◌, ◌++◌, length}
+use Rattle.std.proofs.Common.{take, get_or, replicate, refl, sym, ap, subst, inl, inr, arith, Some}
 use Rattle.std.specs.Prelude.{slice_get, count_by, All}
 use Rattle.std.proofs.lemmas.Bool.{cases_eq, cases_lt, eq-eqb}
 use Rattle.std.proofs.lemmas.Bool.Decides.{nat_tests}
@@ -31,20 +32,33 @@ pub sequence_within : (rem units : List ℕ) → IsSequenceOf rem units → All 
 sequence_within rem [] h k d l = absurd (omega (arith, l))
 sequence_within rem (m ∷ units) h zero d l = left_within rem m (first_is_left rem m units h)
 sequence_within rem (m ∷ units) h (suc k) d l =
-    omega (arith, length-set rem m (get_or rem m 0 - 1), sequence_within (less_one rem m) units (rest_is_sequence rem m units h) k d (omega (arith, l)))
+    omega (
+      arith,
+      length-set rem m (get_or rem m 0 - 1),
+      sequence_within (less_one rem m) units
+          (rest_is_sequence rem m units h) k d (omega (arith, l)),
+    )
 
 pub sequence_short : (t : Times) (units : List ℕ) → AreTimes t → IsSequenceOf t.demands units → length units ≤ 1000
 sequence_short t units times h = omega (arith, as_many_left t.demands units h, times.units)
 
 -- one model more, as often as it is wanted
-counted : (items : List ℕ) (m d j : ℕ) → count_by (λ u. nat_eq u j) (items ++ replicate d m) ≡ count_by (λ u. nat_eq u j) items + d * cond (nat_eq m j) 1 0
-counted items m d j = omega (arith, sum_by-append (λ u. cond (nat_eq u j) 1 0) items (replicate d m), sum_by-replicate (λ u. cond (nat_eq u j) 1 0) d m)
+counted : (items : List ℕ) (m d j : ℕ) → count_by (λ u. nat_eq u j) (items ++ replicate d m)
+    ≡ count_by (λ u. nat_eq u j) items + d * cond (nat_eq m j) 1 0
+counted items m d j = omega (
+  arith,
+  sum_by-append (λ u. cond (nat_eq u j) 1 0) items (replicate d m),
+  sum_by-replicate (λ u. cond (nat_eq u j) 1 0) d m,
+)
 
 pub order_more : (demands items new : List ℕ) (m d : ℕ) → d ≡ get_or demands m 0 → new ≡ items ++ replicate d m
-    → ((j : ℕ) → j < m → count_by (λ u. nat_eq u j) items ≡ get_or demands j 0) → ((j : ℕ) → m ≤ j → count_by (λ u. nat_eq u j) items ≡ 0)
-    → ((j : ℕ) → j < m + 1 → count_by (λ u. nat_eq u j) new ≡ get_or demands j 0) × ((j : ℕ) → m + 1 ≤ j → count_by (λ u. nat_eq u j) new ≡ 0)
+    → ((j : ℕ) → j < m → count_by (λ u. nat_eq u j) items ≡ get_or demands j 0)
+    → ((j : ℕ) → m ≤ j → count_by (λ u. nat_eq u j) items ≡ 0)
+    → ((j : ℕ) → j < m + 1 → count_by (λ u. nat_eq u j) new ≡ get_or demands j 0)
+    × ((j : ℕ) → m + 1 ≤ j → count_by (λ u. nat_eq u j) new ≡ 0)
 order_more demands items new m d is e before after =
-    let P : List ℕ → Type 0 = λ xs. ((j : ℕ) → j < m + 1 → count_by (λ u. nat_eq u j) xs ≡ get_or demands j 0) × ((j : ℕ) → m + 1 ≤ j → count_by (λ u. nat_eq u j) xs ≡ 0) in
+    let P : List ℕ → Type 0 = λ xs. ((j : ℕ) → j < m + 1 → count_by (λ u. nat_eq u j) xs ≡ get_or demands j 0)
+    × ((j : ℕ) → m + 1 ≤ j → count_by (λ u. nat_eq u j) xs ≡ 0) in
     subst P (sym e) (
       λ j l. elim (cases_eq j m) [
         | inl s ↦
@@ -62,7 +76,8 @@ order_more demands items new m d is e before after =
     differ : (m j : ℕ) → m + 1 ≤ j → ◌≡◌ {A = ℕ} (cond (nat_eq m j) 1 0) 0
     differ m j l = grind (arith, nat_tests)
 
-pub order_whole : (demands items : List ℕ) (m : ℕ) → length demands ≤ m → ((j : ℕ) → j < m → count_by (λ u. nat_eq u j) items ≡ get_or demands j 0)
+pub order_whole : (demands items : List ℕ) (m : ℕ) → length demands ≤ m
+    → ((j : ℕ) → j < m → count_by (λ u. nat_eq u j) items ≡ get_or demands j 0)
     → ((j : ℕ) → m ≤ j → count_by (λ u. nat_eq u j) items ≡ 0) → IsSequenceOf demands items
 order_whole demands items m l before after j = elim (cases_lt j m) [
   | inl low ↦ before j low
@@ -70,11 +85,21 @@ order_whole demands items m l before after j = elim (cases_lt j m) [
 ]
 
 -- the units so far and those of the next entry
-pub units_fit : (es : List SeqEntry) (k : ℕ) (e : SeqEntry) → slice_get es k ≡ Some e → units_of (take k es) + entry_units e ≤ units_of es
-units_fit es k e g = omega (arith, sum_by_more_le entry_units es k e (get_within es k e g), ap entry_units (get_or_from_slice_get es k e e g))
+pub units_fit : (es : List SeqEntry) (k : ℕ) (e : SeqEntry) → slice_get es k ≡ Some e
+    → units_of (take k es) + entry_units e ≤ units_of es
+units_fit es k e g = omega (
+  arith,
+  sum_by_more_le entry_units es k e (get_within es k e g),
+  ap entry_units (get_or_from_slice_get es k e e g),
+)
 
-pub units_more : (es : List SeqEntry) (k : ℕ) (e : SeqEntry) → slice_get es k ≡ Some e → units_of (take (k + 1) es) ≡ units_of (take k es) + entry_units e
-units_more es k e g = omega (arith, sum_by_more entry_units es k e (get_within es k e g), ap entry_units (get_or_from_slice_get es k e e g))
+pub units_more : (es : List SeqEntry) (k : ℕ) (e : SeqEntry) → slice_get es k ≡ Some e
+    → units_of (take (k + 1) es) ≡ units_of (take k es) + entry_units e
+units_more es k e g = omega (
+  arith,
+  sum_by_more entry_units es k e (get_within es k e g),
+  ap entry_units (get_or_from_slice_get es k e e g),
+)
 
 -- the bound of the root is a lower one
 pub root_low : (t : Times) (interval reach : ℕ) (units : List ℕ) → IsSequenceOf t.demands units
@@ -85,13 +110,16 @@ root_low t interval reach units h = bound_holds t interval reach t.demands (root
 abbrev pub root_entry : List ℕ → List ℕ → ℕ → SeqEntry
 root_entry rem starts lower = record { rem = rem; starts = starts; least = lower; why = why.Bound }
 
-pub root_shown : (t : Times) (lower : ℕ) (rem starts : List ℕ) (es : List SeqEntry) → rem ≡ t.demands → starts ≡ root_starts t → es ≡ root_entry rem starts lower ∷ [] → HasAnswer es t.demands (root_starts t) lower
+pub root_shown : (t : Times) (lower : ℕ) (rem starts : List ℕ) (es : List SeqEntry) → rem ≡ t.demands
+    → starts ≡ root_starts t → es ≡ root_entry rem starts lower ∷ [] → HasAnswer es t.demands (root_starts t) lower
 root_shown t lower rem starts es r s e =
     let P : List SeqEntry → Type 0 = λ z. HasAnswer z t.demands (root_starts t) lower in
     subst P (sym e) (0, last_answers [] (root_entry rem starts lower) t.demands (root_starts t) lower r s (omega arith))
 
-pub root_book : (t : Times) (interval reach lower : ℕ) (rem starts : List ℕ) (es : List SeqEntry) → AreTimes t → rem ≡ t.demands → starts ≡ root_starts t
-    → lower ≡ state_bound t interval reach rem starts → lower ≤ 65536000000000000 → es ≡ root_entry rem starts lower ∷ [] → IsBook t interval reach es (lower + 1)
+pub root_book : (t : Times) (interval reach lower : ℕ) (rem starts : List ℕ) (es : List SeqEntry) → AreTimes t
+    → rem ≡ t.demands → starts ≡ root_starts t
+    → lower ≡ state_bound t interval reach rem starts → lower ≤ 65536000000000000
+    → es ≡ root_entry rem starts lower ∷ [] → IsBook t interval reach es (lower + 1)
 root_book t interval reach lower rem starts es times r s is low e =
     let P : List SeqEntry → Type 0 = λ z. IsBook t interval reach z (lower + 1) in
     let S : List ℕ → List ℕ → Type 0 = λ a b. IsEntry (length t.demands) t.stations (root_entry a b lower) in
@@ -99,16 +127,23 @@ root_book t interval reach lower rem starts es times r s is low e =
       derived = λ k x g. first k x g (omega (arith, is));
       fresh = λ j k a b l g h. absurd (omega (arith, l, get_within (root_entry rem starts lower ∷ []) k b h));
       root = λ k x g d. least k x g;
-      range = λ k x g. only (λ (z : SeqEntry). IsEntry (length t.demands) t.stations z) k x g (subst (λ (a : List ℕ). S a starts) (sym r) (subst (λ (b : List ℕ). S t.demands b) (sym s) (record { state = root_state t times; least = omega (arith, low); why = tt })));
+      range = λ k x g. only (λ (z : SeqEntry). IsEntry (length t.demands) t.stations z) k x g
+          (subst (λ (a : List ℕ). S a starts) (sym r) (subst (λ (b : List ℕ). S t.demands b) (sym s)
+          (record { state = root_state t times; least = omega (arith, low); why = tt })));
       few = omega arith;
     })
   where
-    only : (P : SeqEntry → Type 0) (k : ℕ) (x : SeqEntry) → slice_get (root_entry rem starts lower ∷ []) k ≡ Some x → P (root_entry rem starts lower) → P x
-    only P zero x g h = let same : root_entry rem starts lower ≡ x = same_item (root_entry rem starts lower) x g in subst P same h
+    only : (P : SeqEntry → Type 0) (k : ℕ) (x : SeqEntry) → slice_get (root_entry rem starts lower ∷ []) k ≡ Some x
+        → P (root_entry rem starts lower) → P x
+    only P zero x g h = let same : root_entry rem starts lower ≡ x = same_item (root_entry rem starts lower) x g in
+        subst P same h
     only P (suc k) x g h = absurd (cc)
 
-    first : (k : ℕ) (x : SeqEntry) → slice_get (root_entry rem starts lower ∷ []) k ≡ Some x → lower ≤ state_bound t interval reach rem starts → Follows t interval reach (take k (root_entry rem starts lower ∷ [])) x
-    first zero x g l = let same : root_entry rem starts lower ≡ x = same_item (root_entry rem starts lower) x g in subst (λ (z : SeqEntry). Follows t interval reach [] z) same l
+    first : (k : ℕ) (x : SeqEntry) → slice_get (root_entry rem starts lower ∷ []) k ≡ Some x
+        → lower ≤ state_bound t interval reach rem starts → Follows t interval reach
+        (take k (root_entry rem starts lower ∷ [])) x
+    first zero x g l = let same : root_entry rem starts lower ≡ x = same_item (root_entry rem starts lower) x g in
+        subst (λ (z : SeqEntry). Follows t interval reach [] z) same l
     first (suc k) x g l = absurd (cc)
 
     least : (k : ℕ) (x : SeqEntry) → slice_get (root_entry rem starts lower ∷ []) k ≡ Some x → x.least < lower + 1
@@ -116,18 +151,31 @@ root_book t interval reach lower rem starts es times r s is low e =
     least (suc k) x g = absurd (cc)
 
 -- a lower bound that is shown is true
-pub shown_holds : (t : Times) (interval reach lower : ℕ) (es : List SeqEntry) → IsBook t interval reach es (lower + 1) → (0 < lower → HasAnswer es t.demands (root_starts t) lower) → Holds t interval reach t.demands (root_starts t) lower
+pub shown_holds : (t : Times) (interval reach lower : ℕ) (es : List SeqEntry) → IsBook t interval reach es (lower + 1)
+    → (0 < lower → HasAnswer es t.demands (root_starts t) lower)
+    → Holds t interval reach t.demands (root_starts t) lower
 shown_holds t interval reach lower es book shown units s = elim (cases_lt 0 lower) [
   | inr none ↦ omega (arith, none)
-  | inl some ↦ cited_holds t interval reach es (shown some).0 t.demands (root_starts t) lower (sound t interval reach es book.derived) (shown some).1 units s
+  | inl some ↦ cited_holds t interval reach es (shown some).0 t.demands (root_starts t) lower
+      (sound t interval reach es book.derived) (shown some).1 units s
 ]
 
 -- the certificate of a search that stands so is accepted, and in the ranges of its text
-pub standing_certified : (t : Times) (interval reach lower upper : ℕ) (sequence : List ℕ) (es : List SeqEntry) (fs : List SeqFrame) → AreTimes t → IsStanding t interval reach lower upper sequence es
-    → units_of es ≤ 1000000 → IsTrail t interval reach es lower upper fs → length fs ≤ 1001 → ((j : ℕ) (f : SeqFrame) → slice_get fs j ≡ Some f → IsFrame (length t.demands) t.stations f)
+pub standing_certified : (t : Times) (interval reach lower upper : ℕ) (sequence : List ℕ) (es : List SeqEntry)
+    (fs : List SeqFrame) → AreTimes t → IsStanding t interval reach lower upper sequence es
+    → units_of es ≤ 1000000 → IsTrail t interval reach es lower upper fs → length fs ≤ 1001
+    → ((j : ℕ) (f : SeqFrame) → slice_get fs j ≡ Some f → IsFrame (length t.demands) t.stations f)
     → IsCertified t interval reach (cert_of t lower upper sequence es fs)
 standing_certified t interval reach lower upper sequence es fs times s few trail short frames = record {
-  accepted = record { models = refl; stations = refl; sequence = s.is; total = s.total; derived = s.book.derived; goal = s.shown; trail = trail };
+  accepted = record {
+    models = refl;
+    stations = refl;
+    sequence = s.is;
+    total = s.total;
+    derived = s.book.derived;
+    goal = s.shown;
+    trail = trail;
+  };
   fresh = s.book.fresh;
   range = record {
     modeled = times.modeled;
@@ -147,27 +195,46 @@ standing_certified t interval reach lower upper sequence es fs times s few trail
 }
 
 -- a search that ended, and one that was stopped
-pub solved : (t : Times) (interval reach units lower upper : ℕ) (sequence : List ℕ) (es : List SeqEntry) (fs : List SeqFrame) → AreTimes t → IsStanding t interval reach lower upper sequence es
-    → units_of es ≤ units → units ≤ 1000000 → upper ≤ lower → fs ≡ [] → IsSolved t interval reach units (cert_of t lower upper sequence es fs)
+pub solved : (t : Times) (interval reach units lower upper : ℕ) (sequence : List ℕ) (es : List SeqEntry)
+    (fs : List SeqFrame) → AreTimes t → IsStanding t interval reach lower upper sequence es
+    → units_of es ≤ units → units ≤ 1000000 → upper ≤ lower → fs ≡ []
+    → IsSolved t interval reach units (cert_of t lower upper sequence es fs)
 solved t interval reach units lower upper sequence es fs times s few most done none =
     let P : List SeqFrame → Type 0 = λ z. IsSolved t interval reach units (cert_of t lower upper sequence es z) in
     subst P (sym none) (record {
-      certified = standing_certified t interval reach lower upper sequence es [] times s (omega (arith, few, most)) (record { allowed = λ f g. absurd (cc); right = λ j f g. absurd (cc) }) (omega arith) (λ j f g. absurd (cc));
+      certified = standing_certified t interval reach lower upper sequence es [] times s (omega (arith, few, most))
+          (record { allowed = λ f g. absurd (cc); right = λ j f g. absurd (cc) }) (omega arith) (λ j f g. absurd (cc));
       optimal = omega (arith, done, s.low);
       closed = refl;
       few = omega (arith, few);
     })
 
-pub stopped_at : (t : Times) (interval reach units lower upper need : ℕ) (sequence : List ℕ) (old es : List SeqEntry) (fs : List SeqFrame) → AreTimes t → IsStanding t interval reach lower upper sequence old
-    → IsBook t interval reach es need → KeepsRoots t old es → AreStopped t interval reach need es fs → (0 < lower → HasAnswer es t.demands (root_starts t) lower)
-    → units_of es + units_in fs ≡ units → units ≤ 1000000 → lower < need → need ≤ upper → units < most_units t → IsStopped t interval reach units (cert_of t lower upper sequence es fs)
-stopped_at t interval reach units lower upper need sequence old es fs times s book keeps stop shown spent most above below tight = record {
-  certified = standing_certified t interval reach lower upper sequence es fs times
-      (record { book = book_as t interval reach old es (lower + 1) need s.book book keeps; shown = shown; is = s.is; total = s.total; low = s.low; limit = s.limit })
-      (omega (arith, spent, most)) (record { allowed = λ f g. (omega (arith, stop.first f g, above), omega (arith, stop.first f g, below)); right = stop.right }) stop.few stop.range;
-  apart = omega (arith, above, below);
-  some = stop.some;
-  further = stop.further;
-  spent = spent;
-  tight = tight;
-}
+pub stopped_at : (t : Times) (interval reach units lower upper need : ℕ) (sequence : List ℕ) (old es : List SeqEntry)
+    (fs : List SeqFrame) → AreTimes t → IsStanding t interval reach lower upper sequence old
+    → IsBook t interval reach es need → KeepsRoots t old es → AreStopped t interval reach need es fs
+    → (0 < lower → HasAnswer es t.demands (root_starts t) lower)
+    → units_of es + units_in fs ≡ units → units ≤ 1000000 → lower < need → need ≤ upper → units < most_units t
+    → IsStopped t interval reach units (cert_of t lower upper sequence es fs)
+stopped_at t interval reach units lower upper need sequence old es fs times s book keeps stop shown spent most above
+    below tight = record {
+      certified = standing_certified t interval reach lower upper sequence es fs times
+          (record {
+            book = book_as t interval reach old es (lower + 1) need s.book book keeps;
+            shown = shown;
+            is = s.is;
+            total = s.total;
+            low = s.low;
+            limit = s.limit;
+          })
+          (omega (arith, spent, most)) (record {
+            allowed = λ f g.
+                (omega (arith, stop.first f g, above), omega (arith, stop.first f g, below));
+            right = stop.right;
+          }) stop.few
+          stop.range;
+      apart = omega (arith, above, below);
+      some = stop.some;
+      further = stop.further;
+      spent = spent;
+      tight = tight;
+    }

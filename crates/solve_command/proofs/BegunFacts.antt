@@ -1,7 +1,9 @@
 -- A run that began with some entries, and what it comes to.
 use Rattle.std.specs.declared.result.Result.{Result}
 use Rattle.std.specs.declared.result.Result.TheVariants.{Ok, Err}
-use Rattle.std.proofs.Common.{IfOk, rules, string_bytes, Bool, true, false, cond, ◌∷◌, ◌≡◌, ◌∙◌, ℕ, zero, suc, max, ◌+◌, ◌-◌, ◌*◌, ◌≤◌, List, [], ◌++◌, length, length-append, Option, Some, None, refl, sym, ap, subst, arith}
+use Rattle.std.proofs.Common.{IfOk, rules, string_bytes, Bool, true, false, cond, ◌∷◌, ◌≡◌, ◌∙◌, ℕ, zero, suc, max, ◌+◌}
+use Rattle.std.proofs.Common.{◌-◌, ◌*◌, ◌≤◌, List, [], ◌++◌, length, length-append, Option, Some, None, refl, sym, ap}
+use Rattle.std.proofs.Common.{subst, arith}
 use Rattle.std.proofs.lemmas.List.{append-nil}
 use Rattle.line_instance.specs.Line.{Line, tasks}
 use Rattle.line_rules.specs.Balance.{IsRight}
@@ -27,13 +29,15 @@ use Rattle.round_run.specs.declared.plans.Plan.{Plan}
 use Rattle.round_run.specs.declared.solving.Outcome.{Outcome}
 use Rattle.run_certificates.specs.Certified.{LeaveRoom}
 use Rattle.run_certificates.proofs.Certifying.{room_alone}
-use Rattle.solve_command.specs.WarmStart.{Start, IsOpened, TakesOld, TakesSought, Seeks, BeginsWith, entries_of, old_room, seek_room, seek_line}
+use Rattle.solve_command.specs.WarmStart.{Start, IsOpened, TakesOld, TakesSought, Seeks, BeginsWith, entries_of}
+use Rattle.solve_command.specs.WarmStart.{old_room, seek_room, seek_line}
 use Rattle.solve_command.specs.inner.Begun.{IsBegun, IsTaken, HasSoughtBehind}
 use Rattle.solve_command.specs.declared.warm_start.Begun.{Begun}
 use Rattle.solve_command.specs.declared.warm_start.Taken.{Taken}
 
 -- the entries of a claim that is within its ranges
-pub entries_range : (kind : LineKind) (n : ℕ) (a : Ask) (said : Claim) → IsClaim kind n a said → AreEntries n (entries_of said)
+pub entries_range : (kind : LineKind) (n : ℕ) (a : Ask) (said : Claim) → IsClaim kind n a said
+    → AreEntries n (entries_of said)
 entries_range kind n a (claim.TooLong task) h = record { many = omega arith; each = λ k e g. absurd (cc) }
 entries_range kind n a (claim.Bounds lower upper b es trail) h = h.entries
 
@@ -185,7 +189,8 @@ module _ (kind : LineKind) (line : Line) (c : ℕ) (plan : Plan) where
           };
         }
 
-  module _ (limit : ℕ) (olds : Option (List Entry)) (book : BookView) (opened : IsOpened kind line c book) (taken : Taken)
+  module _ (limit : ℕ) (olds : Option (List Entry)) (book : BookView) (opened : IsOpened kind line c book)
+      (taken : Taken)
       (t : IsTaken plan.units book olds taken (string_bytes taken.first)) (small : plan.units ≤ 3000000) where
     -- a run without a seek begins with the book that took in the old entries
     pub begun_unsought : limit ≡ 0 → IsReserved taken.book
@@ -209,7 +214,8 @@ module _ (kind : LineKind) (line : Line) (c : ℕ) (plan : Plan) where
     begun_sought (Err e) some h reserved = search rules
 
 -- an offer leaves the entries as they are
-kept_by : (better : Bool) (s : State) (b : Assignment) → (cond better (record { entries = s.entries; best = b }) s).entries ≡ s.entries
+kept_by : (better : Bool) (s : State) (b : Assignment) → (cond better (record { entries = s.entries; best = b })
+    s).entries ≡ s.entries
 kept_by true s b = refl
 kept_by false s b = refl
 
@@ -246,13 +252,15 @@ pub sought_behind : (N limit room : ℕ) (at : Taking) (book : BookView) (kept u
     → (t : Taking) × (TakesAll room (untaken book) lemmas t × (t.book ≡ warmed) × (t.kept ≡ k))
     → final ≡ ran warmed (event.Offer best ∷ []) → first ≡ before ++ seek_line used limit k
     → HasSoughtBehind N limit at final before first
-sought_behind N limit room at book kept units used k best lemmas warmed final before first same_book same_kept same_units
+sought_behind N limit room at book kept units used k best lemmas warmed final before first same_book same_kept
+    same_units
     is_room sought t offered said =
     let T : ℕ → Type 0 = λ r. TakesAll r (untaken book) lemmas t.0 in
     let B : BookView → Type 0 = λ b. TakesAll (seek_room N at) (untaken b) lemmas t.0 in
     let H : BookView → Type 0 = λ b. HasSought b limit best lemmas used in
     let is_seek_room : room ≡ seek_room N at =
-    is_room ∙ sym (ap (λ z. 6000000 - 2 * N - max z at.units) same_kept ∙ ap (λ z. 6000000 - 2 * N - max kept z) same_units) in
+    is_room ∙ sym (ap (λ z. 6000000 - 2 * N - max z at.units) same_kept
+    ∙ ap (λ z. 6000000 - 2 * N - max kept z) same_units) in
     record {
       end = t.0;
       said = seek_line used limit k;

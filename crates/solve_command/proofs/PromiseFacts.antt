@@ -2,7 +2,8 @@
 use Rattle.std.specs.declared.result.Result.{Result}
 use Rattle.std.specs.declared.result.Result.TheVariants.{Ok, Err}
 use Rattle.std.specs.Prelude.{IfOk, MatchResult}
-use Rattle.std.proofs.Common.{◌≡◌, ◌<◌, inl, inr, ℕ, Bool, true, false, cond, nat_eq, List, ◌++◌, Option, Some, None, refl, sym, ap, subst, arith, rules}
+use Rattle.std.proofs.Common.{◌≡◌, ◌<◌, inl, inr, ℕ, Bool, true, false, cond, nat_eq, List, ◌++◌, Option, Some, None}
+use Rattle.std.proofs.Common.{refl, sym, ap, subst, arith, rules}
 use Rattle.std.proofs.lemmas.Bool.{eqb-true}
 use Rattle.line_instance.specs.Line.{Line, time}
 use Rattle.line_rules.specs.Bounds.{idle_time}
@@ -35,12 +36,14 @@ not_chosen false x y f = refl
 optimum_behind : (first : List ℕ) (kind : LineKind) (b : Assignment) (idle : ℕ)
     → first ++ optimal_text kind b idle ≡ first ++ bounds_text kind b.stations b idle
 optimum_behind first kind b idle =
-    ap (λ (z : List ℕ). first ++ z) (sym (chosen (nat_eq b.stations b.stations) (optimal_text kind b idle) (stopped_text kind b.stations b idle) (search rules)))
+    ap (λ (z : List ℕ). first ++ z) (sym (chosen (nat_eq b.stations b.stations) (optimal_text kind b idle)
+    (stopped_text kind b.stations b idle) (search rules)))
 
 stop_behind : (first : List ℕ) (kind : LineKind) (lower : ℕ) (b : Assignment) (idle : ℕ) → lower < b.stations
     → first ++ stopped_text kind lower b idle ≡ first ++ bounds_text kind lower b idle
 stop_behind first kind lower b idle l =
-    ap (λ (z : List ℕ). first ++ z) (sym (not_chosen (nat_eq lower b.stations) (optimal_text kind b idle) (stopped_text kind lower b idle) (λ e. omega (arith, l, eqb-true lower b.stations e))))
+    ap (λ (z : List ℕ). first ++ z) (sym (not_chosen (nat_eq lower b.stations) (optimal_text kind b idle)
+    (stopped_text kind lower b idle) (λ e. omega (arith, l, eqb-true lower b.stations e))))
 
 module _ (kind : LineKind) (line : Line) (c : ℕ) (plan : Plan) (start : Start) where
   module _ (before : List Entry) (first : List ℕ) (begins : BeginsWith kind line c plan start before first) where
@@ -69,7 +72,8 @@ module _ (kind : LineKind) (line : Line) (c : ℕ) (plan : Plan) (start : Start)
 
     -- the bounds of a search that used its units
     of_stop : (lower : ℕ) (b : Assignment) (cert : Certificate) → IsStopFrom kind line c plan before lower b cert
-        → HasBounds kind line c plan start cert ends.Stopped (first ++ stopped_text kind lower b (idle_time line c b.stations))
+        → HasBounds kind line c plan start cert ends.Stopped
+        (first ++ stopped_text kind lower b (idle_time line c b.stations))
     of_stop lower b cert p = record {
       before = before;
       first = first;
@@ -108,7 +112,8 @@ module _ (kind : LineKind) (line : Line) (c : ℕ) (plan : Plan) (start : Start)
     }
 
   -- a line without a balance
-  of_refusal : (name : Option (List ℕ)) (out : Outcome) (p : IsInfeasible kind line c name out) → HasNone kind line c p.certificate ends.Done (infeasible_text p.task (time line p.task))
+  of_refusal : (name : Option (List ℕ)) (out : Outcome) (p : IsInfeasible kind line c name out)
+      → HasNone kind line c p.certificate ends.Done (infeasible_text p.task (time line p.task))
   of_refusal name out p = record {
     task = p.task;
     least = p.least;
@@ -138,7 +143,8 @@ module _ (kind : LineKind) (line : Line) (c : ℕ) (plan : Plan) (start : Start)
       ]
 
   -- what is answered with a certificate is shown by it
-  pub shown_of : (name : Option (List ℕ)) (out : Outcome) → IsSolution kind line c plan start name out → IsShown kind line c plan start out.status out.text out.kept
+  pub shown_of : (name : Option (List ℕ)) (out : Outcome) → IsSolution kind line c plan start name out
+      → IsShown kind line c plan start out.status out.text out.kept
   shown_of name out (inl b) = bounds_shown name out b
   shown_of name out (inr p) =
       let S : Outcome → Type 0 = λ o. IsShown kind line c plan start o.status o.text o.kept in

@@ -38,7 +38,9 @@ sayable r a b is kept ok = (let R : Certificate → Type 0 = IsInRange in subst 
 
 module _ (kind : LineKind) (line : Line) (c : ℕ) (plan : Plan) (start : Start) (name : List ℕ) (r : Report) where
   -- what is found has a certificate, which a text can say, and is the same with its page
-  pub in_file : IsSolution kind line c plan start None (outcome_of r None) → (cert : Certificate) × (r.kept ≡ Certified cert) × IsInRange cert × IsSolution kind line c plan start (Some name) (outcome_of r (page_of (Some name) cert))
+  pub in_file : IsSolution kind line c plan start None (outcome_of r None)
+      → (cert : Certificate) × (r.kept ≡ Certified cert) × IsInRange cert
+      × IsSolution kind line c plan start (Some name) (outcome_of r (page_of (Some name) cert))
   in_file (inl b) = elim b.found [
     | inl p ↦ (
       p.certificate,
@@ -48,7 +50,12 @@ module _ (kind : LineKind) (line : Line) (c : ℕ) (plan : Plan) (start : Start)
         before = b.before;
         first = b.first;
         begins = b.begins;
-        found = inl (record { balance = p.balance; certificate = p.certificate; proved = p.proved; shown = ap (paged (page_of (Some name) p.certificate)) p.shown });
+        found = inl (record {
+          balance = p.balance;
+          certificate = p.certificate;
+          proved = p.proved;
+          shown = ap (paged (page_of (Some name) p.certificate)) p.shown;
+        });
       }),
     )
     | inr p ↦ (
@@ -59,7 +66,13 @@ module _ (kind : LineKind) (line : Line) (c : ℕ) (plan : Plan) (start : Start)
         before = b.before;
         first = b.first;
         begins = b.begins;
-        found = inr (record { lower = p.lower; balance = p.balance; certificate = p.certificate; proved = p.proved; shown = ap (paged (page_of (Some name) p.certificate)) p.shown });
+        found = inr (record {
+          lower = p.lower;
+          balance = p.balance;
+          certificate = p.certificate;
+          proved = p.proved;
+          shown = ap (paged (page_of (Some name) p.certificate)) p.shown;
+        });
       }),
     )
   ]
@@ -93,7 +106,8 @@ optimal_as text first kind line c b best idle e f g =
     ∙ ap (λ (x : Assignment). first ++ optimal_text kind x (idle_time line c x.stations)) f
 
 -- what is said of a run whose units ended, or memory
-pub spent_of : (kind : LineKind) (line : Line) (c : ℕ) (plan : Plan) (before : List Entry) (top : ℕ) (cause : Cause) (lower : ℕ)
+pub spent_of : (kind : LineKind) (line : Line) (c : ℕ) (plan : Plan) (before : List Entry) (top : ℕ) (cause : Cause)
+    (lower : ℕ)
     (book : BookView) (trail : List OpenFrame) → cause ≡ causes.Units
     → SolvesFrom kind line c plan before top (outcomes.Stopped cause lower book trail)
     → IsSpentFrom kind line c plan before top lower book trail
@@ -101,7 +115,8 @@ spent_of kind line c plan before top cause lower book trail e s =
     let S : Cause → Type 0 = λ x. SolvesFrom kind line c plan before top (outcomes.Stopped x lower book trail) in
     subst S e s
 
-pub wanting_of : (kind : LineKind) (line : Line) (c : ℕ) (plan : Plan) (before : List Entry) (top : ℕ) (cause : Cause) (lower : ℕ)
+pub wanting_of : (kind : LineKind) (line : Line) (c : ℕ) (plan : Plan) (before : List Entry) (top : ℕ) (cause : Cause)
+    (lower : ℕ)
     (book : BookView) (trail : List OpenFrame) → cause ≡ causes.Memory
     → SolvesFrom kind line c plan before top (outcomes.Stopped cause lower book trail)
     → (added : List Entry) × IsStoppedFrom kind line c plan.units before added lower book trail
@@ -114,7 +129,8 @@ pub optimal_status : (kind : LineKind) (line : Line) (c : ℕ) (before : List En
     → IsOptimal kind line c before first None (outcome_of r None) → IsSolveStatus r.status
 optimal_status kind line c before first r p = inl (ap (λ (o : Outcome). o.status) p.shown)
 
-pub stopped_status : (kind : LineKind) (line : Line) (c : ℕ) (plan : Plan) (before : List Entry) (first : List ℕ) (r : Report)
+pub stopped_status : (kind : LineKind) (line : Line) (c : ℕ) (plan : Plan) (before : List Entry) (first : List ℕ)
+    (r : Report)
     → IsStopped kind line c plan before first None (outcome_of r None) → IsSolveStatus r.status
 stopped_status kind line c plan before first r p = inr (ap (λ (o : Outcome). o.status) p.shown)
 

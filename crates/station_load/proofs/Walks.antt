@@ -1,5 +1,6 @@
 -- A walk and the load that it gave last.
-use Rattle.std.proofs.Common.{◌≡◌, ℕ, ◌+◌, ◌*◌, Bool, true, false, cond, List, refl, sym, ap, ◌∙◌, subst, Option, Some, None, IfSome, arith}
+use Rattle.std.proofs.Common.{◌≡◌, ℕ, ◌+◌, ◌*◌, Bool, true, false, cond, List, refl, sym, ap, ◌∙◌, subst, Option, Some}
+use Rattle.std.proofs.Common.{None, IfSome, arith}
 use Rattle.std.proofs.lemmas.Option.{same_Some}
 use Rattle.line_instance.specs.Line.{Line, IsLine, IsRanked, IsTaskSet, tasks, has}
 use Rattle.line_instance.specs.Sums.{sum_where}
@@ -14,7 +15,8 @@ use Rattle.load_facts.specs.Sides.{AreSets}
 use Rattle.load_facts.proofs.SideFacts.{each_side}
 use Rattle.load_facts.proofs.JoinFacts.{full_of, full_none}
 use Rattle.load_facts.specs.inner.Scan.{Scan}
-use Rattle.load_facts.proofs.ScanFacts.{IsBase, scan_start, rescan, base_none, base_some, follows, none_follows, none_above}
+use Rattle.load_facts.proofs.ScanFacts.{IsBase, scan_start, rescan, base_none, base_some, follows, none_follows}
+use Rattle.load_facts.proofs.ScanFacts.{none_above}
 use Rattle.station_load.specs.declared.ends.End.{End}
 use Rattle.station_load.specs.declared.shorts.Shorts.{Shorts}
 use Rattle.load_facts.specs.Ends.{IsEnd}
@@ -22,7 +24,8 @@ use Rattle.station_load.specs.Shorts.{AreShort}
 use Rattle.station_load.specs.Walking.{Walking, IsWalk, end_of, last_load}
 use Rattle.load_facts.proofs.NextLoad.{same_pair}
 
-base_of : (line : Line) (c : ℕ) (mode : Mode) (R : List Bool) (last : Option Load) → ((l : Load) → last ≡ Some l → IsLoad line c mode R l) → IsBase line c mode R last (last_load last)
+base_of : (line : Line) (c : ℕ) (mode : Mode) (R : List Bool) (last : Option Load)
+    → ((l : Load) → last ≡ Some l → IsLoad line c mode R l) → IsBase line c mode R last (last_load last)
 base_of line c mode R None f = base_none line c mode R
 base_of line c mode R (Some l) f = base_some line c mode R l (f l refl)
 
@@ -32,7 +35,8 @@ stand w = record { front = w.front.tasks; back = w.back.tasks }
 
 module _ (line : Line) (ok : IsLine line) (ranked : IsRanked line) (w : Walking) (is : IsWalk line w) where
   pub stand_is : stand w ≡ last_load w.last
-  stand_is = same_pair w.front.tasks (last_load w.last).front w.back.tasks (last_load w.last).back (is.stands Front) (is.stands Back)
+  stand_is = same_pair w.front.tasks (last_load w.last).front w.back.tasks (last_load w.last).back (is.stands Front)
+      (is.stands Back)
 
   pub stand_sum : w.sum ≡ sum_where (has (taken (stand w))) line.times
   stand_sum = is.sum ∙ ap (λ l. sum_where (has (taken l)) line.times) (sym stand_is)
@@ -41,11 +45,16 @@ module _ (line : Line) (ok : IsLine line) (ranked : IsRanked line) (w : Walking)
   stand_last l e = sym (stand_is ∙ ap last_load e)
 
   -- the load given last is full where no task may join it
-  pub full_yes : ((s : Side) (i : ℕ) → fills w.mode s ≡ true → MayJoin line w.cycle w.set s (stand w) i → ⊥) → (l : Load) → w.last ≡ Some l → IsFull line w.cycle w.mode w.set l
-  full_yes none l e = full_of line ok w.cycle w.mode w.set is.set l (is.load l e) (λ s i f may. none s i f (let P : Load → Type 0 = λ k. MayJoin line w.cycle w.set s k i in subst P (stand_last l e) may))
+  pub full_yes : ((s : Side) (i : ℕ) → fills w.mode s ≡ true → MayJoin line w.cycle w.set s (stand w) i → ⊥)
+      → (l : Load) → w.last ≡ Some l → IsFull line w.cycle w.mode w.set l
+  full_yes none l e = full_of line ok w.cycle w.mode w.set is.set l (is.load l e)
+      (λ s i f may. none s i f (let P : Load → Type 0 = λ k. MayJoin line w.cycle w.set s k i in
+      subst P (stand_last l e) may))
 
-  pub full_no : (s : Side) (i : ℕ) → fills w.mode s ≡ true → MayJoin line w.cycle w.set s (stand w) i → (l : Load) → w.last ≡ Some l → IsFull line w.cycle w.mode w.set l → ⊥
-  full_no s i f may l e full = full_none line ok w.cycle w.mode w.set is.set l (is.load l e) full s i f (let P : Load → Type 0 = λ k. MayJoin line w.cycle w.set s k i in subst P (sym (stand_last l e)) may)
+  pub full_no : (s : Side) (i : ℕ) → fills w.mode s ≡ true → MayJoin line w.cycle w.set s (stand w) i → (l : Load)
+      → w.last ≡ Some l → IsFull line w.cycle w.mode w.set l → ⊥
+  full_no s i f may l e full = full_none line ok w.cycle w.mode w.set is.set l (is.load l e) full s i f
+      (let P : Load → Type 0 = λ k. MayJoin line w.cycle w.set s k i in subst P (sym (stand_last l e)) may)
 
   module _ (last : Load) (same : last ≡ stand w) where
     pub base : IsBase line w.cycle w.mode w.set w.last last
@@ -57,15 +66,19 @@ module _ (line : Line) (ok : IsLine line) (ranked : IsRanked line) (w : Walking)
     start =
         let P : Load → Type 0 = λ l. Scan line w.cycle w.mode w.set last l (2 * tasks line) in
         let b : IsBase line w.cycle w.mode w.set w.last last = base in
-        rescan line w.cycle w.mode w.set last (stand w) (2 * tasks line) (tasks line + tasks line) (omega arith) (subst P same (scan_start line ok ranked w.cycle w.mode w.set last b.is_part))
+        rescan line w.cycle w.mode w.set last (stand w) (2 * tasks line) (tasks line + tasks line) (omega arith)
+        (subst P same (scan_start line ok ranked w.cycle w.mode w.set last b.is_part))
 
-    pub goes_on : (b given : Load) → given ≡ b → IsNext line w.cycle w.mode w.set last b → IsFollowing line w.cycle w.mode w.set w.last given
+    pub goes_on : (b given : Load) → given ≡ b → IsNext line w.cycle w.mode w.set last b
+        → IsFollowing line w.cycle w.mode w.set w.last given
     goes_on b given e n =
         let P : Load → Type 0 = λ l. IsFollowing line w.cycle w.mode w.set w.last l in
         subst P (sym e) (follows line w.cycle w.mode w.set ranked last w.last base b n)
 
-    pub ends : (now : Load) → Scan line w.cycle w.mode w.set last now 0 → (l : Load) → IsLoad line w.cycle w.mode w.set l → After line w.last l → ⊥
-    ends now s = none_follows line w.cycle w.mode w.set ranked last w.last base (none_above line w.cycle w.mode w.set last now s)
+    pub ends : (now : Load) → Scan line w.cycle w.mode w.set last now 0 → (l : Load)
+        → IsLoad line w.cycle w.mode w.set l → After line w.last l → ⊥
+    ends now s = none_follows line w.cycle w.mode w.set ranked last w.last base
+        (none_above line w.cycle w.mode w.set last now s)
 
 pub of_some : {P : Load → Type 0} (o : Option Load) → ((l : Load) → o ≡ Some l → P l) → IfSome o P
 of_some None f = tt
@@ -80,12 +93,36 @@ given_is true l k e = (refl, same_Some l k e)
 given_is false l k e = absurd (cc)
 
 -- a walk that stands at a load given last, or before the first one
-pub stands_at : (line : Line) (c : ℕ) (mode : Mode) (R : List Bool) → IsTaskSet line R → (given : Bool) (load : Load) (sum : ℕ) (front back : End) (shorts : Shorts) → (given ≡ true → IsLoad line c mode R load) → (given ≡ false → load ≡ nothing_yet)
-    → sum ≡ sum_where (has (taken load)) line.times → front.tasks ≡ load.front → back.tasks ≡ load.back → (fills mode Front ≡ true → IsEnd line Front R front.tasks front.free front.places) → (fills mode Back ≡ true → IsEnd line Back R back.tasks back.free back.places) → AreShort line c R shorts
-    → IsWalk line (record { cycle = c; mode = mode; set = R; last = cond given (Some (record { front = front.tasks; back = back.tasks })) None; ended = false; sum = sum; front = front; back = back; shorts = shorts })
+pub stands_at : (line : Line) (c : ℕ) (mode : Mode) (R : List Bool) → IsTaskSet line R
+    → (given : Bool) (load : Load) (sum : ℕ) (front back : End) (shorts : Shorts)
+    → (given ≡ true → IsLoad line c mode R load) → (given ≡ false → load ≡ nothing_yet)
+    → sum ≡ sum_where (has (taken load)) line.times → front.tasks ≡ load.front → back.tasks ≡ load.back
+    → (fills mode Front ≡ true → IsEnd line Front R front.tasks front.free front.places)
+    → (fills mode Back ≡ true → IsEnd line Back R back.tasks back.free back.places) → AreShort line c R shorts
+    → IsWalk line (record {
+      cycle = c;
+      mode = mode;
+      set = R;
+      last = cond given (Some (record { front = front.tasks; back = back.tasks })) None;
+      ended = false;
+      sum = sum;
+      front = front;
+      back = back;
+      shorts = shorts;
+    })
 stands_at line c mode R set given load sum front back shorts is nothing total f b ready_front ready_back short =
     let pair : Load = record { front = front.tasks; back = back.tasks } in
-    let new : Walking = record { cycle = c; mode = mode; set = R; last = cond given (Some pair) None; ended = false; sum = sum; front = front; back = back; shorts = shorts } in
+    let new : Walking = record {
+      cycle = c;
+      mode = mode;
+      set = R;
+      last = cond given (Some pair) None;
+      ended = false;
+      sum = sum;
+      front = front;
+      back = back;
+      shorts = shorts;
+    } in
     let same : pair ≡ load = same_pair front.tasks load.front back.tasks load.back f b in
     let at : last_load (cond given (Some pair) None) ≡ pair = last_is given pair (λ e. same ∙ nothing e) in
     let P : Load → Type 0 = λ l. IsLoad line c mode R l in
@@ -93,14 +130,17 @@ stands_at line c mode R set given load sum front back shorts is nothing total f 
       set = set;
       load = λ l e. let q : (given ≡ true) × (pair ≡ l) = given_is given pair l e in subst P (sym same ∙ q.1) (is q.0);
       sum = total ∙ ap (λ l. sum_where (has (taken l)) line.times) (sym (at ∙ same));
-      stands = each_side (λ (s : Side). (end_of s new).tasks ≡ part s (last_load new.last)) (ap (λ (l : Load). l.front) (sym at)) (ap (λ (l : Load). l.back) (sym at));
-      ready = λ o. each_side (λ (s : Side). fills mode s ≡ true → IsEnd line s R (end_of s new).tasks (end_of s new).free (end_of s new).places) ready_front ready_back;
+      stands = each_side (λ (s : Side). (end_of s new).tasks ≡ part s (last_load new.last))
+          (ap (λ (l : Load). l.front) (sym at)) (ap (λ (l : Load). l.back) (sym at));
+      ready = λ o. each_side (λ (s : Side). fills mode s ≡ true
+          → IsEnd line s R (end_of s new).tasks (end_of s new).free (end_of s new).places) ready_front ready_back;
       short = short;
       over = λ e. absurd (cc);
     }
 
 -- both sides of it are sets of tasks
-pub stand_sets : (line : Line) (c : ℕ) (mode : Mode) (R : List Bool) (given : Bool) (load : Load) → (given ≡ true → IsLoad line c mode R load) → (given ≡ false → load ≡ nothing_yet) → AreSets line load
+pub stand_sets : (line : Line) (c : ℕ) (mode : Mode) (R : List Bool) (given : Bool) (load : Load)
+    → (given ≡ true → IsLoad line c mode R load) → (given ≡ false → load ≡ nothing_yet) → AreSets line load
 stand_sets line c mode R true load is nothing = record { front = (is refl).front; back = (is refl).back }
 stand_sets line c mode R false load is nothing =
     let b : IsBase line c mode R None nothing_yet = base_none line c mode R in

@@ -1,5 +1,6 @@
 -- Names and numbers are fields that need no quotes, so a record of six of them is written with commas between.
-use Rattle.std.proofs.Common.{◌≡◌, ◌<◌, ◌^◌, ℕ, Bool, true, false, List, [], ◌∷◌, ◌++◌, codes, decimal, refl, append_assoc, arith}
+use Rattle.std.proofs.Common.{◌≡◌, ◌<◌, ◌^◌, ℕ, Bool, true, false, List, [], ◌∷◌, ◌++◌, codes, decimal, refl}
+use Rattle.std.proofs.Common.{append_assoc, arith}
 use Rattle.std.specs.Prelude.{◌&&◌}
 use Rattle.std.specs.List.{list_all}
 use Rattle.std.proofs.lemmas.Bool.Decides.{nat_tests}
@@ -21,7 +22,8 @@ plain_bytes : (field : List ℕ) → list_all is_name_byte field ≡ true → Is
 plain_bytes [] h = refl
 plain_bytes (b ∷ field) h = by (is_name_byte b) refl h (plain_bytes field)
   where
-    by : (t : Bool) → is_name_byte b ≡ t → (t && list_all is_name_byte field) ≡ true → (list_all is_name_byte field ≡ true → IsPlain field) → IsPlain (b ∷ field)
+    by : (t : Bool) → is_name_byte b ≡ t → (t && list_all is_name_byte field) ≡ true
+        → (list_all is_name_byte field ≡ true → IsPlain field) → IsPlain (b ∷ field)
     by true e rest go = rw (name_byte b e) (go rest)
     by false e rest go = cc rest
 
@@ -60,4 +62,5 @@ pub row_is : (station unit start work utility : ℕ) (name a b d e f : List ℕ)
 row_is station unit start work utility name a b d e f named hs hu hb hw ho ea eb ed ee ef =
     rw (ea, eb, ed, ee, ef)
     (six_plain (decimal station) (decimal unit) name (decimal start) (decimal work) (decimal utility)
-    (plain_number station hs) (plain_number unit hu) (plain_name name named) (plain_number start hb) (plain_number work hw) (plain_number utility ho))
+    (plain_number station hs) (plain_number unit hu) (plain_name name named) (plain_number start hb)
+    (plain_number work hw) (plain_number utility ho))

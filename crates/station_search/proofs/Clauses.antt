@@ -1,5 +1,6 @@
 -- From the account of a search to what is said of its costs, clause by clause.
-use Rattle.std.proofs.Common.{◌≡◌, ℕ, ◌+◌, ◌<◌, ◌≤◌, Bool, true, false, inl, inr, List, [], ◌++◌, length, sym, ap, ◌∙◌, subst, arith, Option, Some, refl}
+use Rattle.std.proofs.Common.{◌≡◌, ℕ, ◌+◌, ◌<◌, ◌≤◌, Bool, true, false, inl, inr, List, [], ◌++◌, length, sym, ap, ◌∙◌}
+use Rattle.std.proofs.Common.{subst, arith, Option, Some, refl}
 use Rattle.std.specs.Prelude.{slice_get, IsTrue, ◌↔◌}
 use Rattle.std.proofs.lemmas.Bool.{cases_lt, false≢true}
 use Rattle.task_set.specs.Truths.{IsEmpty}
@@ -19,7 +20,8 @@ use Rattle.lemma_core.specs.History.{Item}
 use Rattle.lemma_core.specs.Desks.{DeskView, entries, Keeps, Waits}
 use Rattle.lemma_core.specs.Own.{added_of}
 use Rattle.station_search.specs.Decide.{Decides, IsFor}
-use Rattle.station_search.specs.Costs.{HasPublished, PaysExactly, PaysWithin, Costs, Spends, CostsAlone, AddsFew, FewAdded}
+use Rattle.station_search.specs.Costs.{HasPublished, PaysExactly, PaysWithin, Costs, Spends, CostsAlone, AddsFew}
+use Rattle.station_search.specs.Costs.{FewAdded}
 use Rattle.station_search.specs.inner.Work.{Does, Accounts, Balances, Ends}
 use Rattle.station_search.specs.declared.answers.Decided.{Decided}
 use Rattle.station_search.specs.declared.answers.Decided.TheVariants as decided
@@ -28,7 +30,8 @@ use Rattle.station_search.proofs.Events.{for_still}
 use Rattle.station_search.proofs.Paying.{does_then, units_among, units_paid}
 
 module _ (asked : Option Mode) (kind : LineKind) (line : Line) (X : ℕ) where
-  own_does : (old new : DeskView) (items : List Item) (n : ℕ) → Does asked kind line X old new items n → HasPublished asked kind line X old new
+  own_does : (old new : DeskView) (items : List Item) (n : ℕ) → Does asked kind line X old new items n
+      → HasPublished asked kind line X old new
   own_does old new items n d = record { items = items; did = d.did; publishes = d.publishes; lemmas = d.lemmas }
 
   module _ (old new : DeskView) (frames : List OpenFrame) (used most : ℕ) where
@@ -38,13 +41,32 @@ module _ (asked : Option Mode) (kind : LineKind) (line : Line) (X : ℕ) where
     own_balances : Balances asked kind line X old new frames used most → HasPublished asked kind line X old new
     own_balances a = own_does old new a.items a.published a.done
 
-    pub within_accounts : Accounts asked kind line X old new frames used most → PaysWithin asked kind line X old new frames used
-    within_accounts a = record { items = a.items; did = a.done.did; published = a.published; listed = a.listed; paid = a.done.paid; framed = a.framed; sum = a.within }
+    pub within_accounts : Accounts asked kind line X old new frames used most
+        → PaysWithin asked kind line X old new frames used
+    within_accounts a = record {
+      items = a.items;
+      did = a.done.did;
+      published = a.published;
+      listed = a.listed;
+      paid = a.done.paid;
+      framed = a.framed;
+      sum = a.within;
+    }
 
-    exactly_balances : Balances asked kind line X old new frames used most → PaysExactly asked kind line X old new frames used
-    exactly_balances a = record { items = a.items; did = a.done.did; published = a.published; listed = a.listed; paid = a.done.paid; framed = a.framed; sum = a.sum }
+    exactly_balances : Balances asked kind line X old new frames used most
+        → PaysExactly asked kind line X old new frames used
+    exactly_balances a = record {
+      items = a.items;
+      did = a.done.did;
+      published = a.published;
+      listed = a.listed;
+      paid = a.done.paid;
+      framed = a.framed;
+      sum = a.sum;
+    }
 
-    spends_balances : old.alone ≡ true → Balances asked kind line X old new frames used most → Spends line X old new frames used
+    spends_balances : old.alone ≡ true → Balances asked kind line X old new frames used most
+        → Spends line X old new frames used
     spends_balances alone a = record {
       items = a.items;
       did = a.done.did;
@@ -58,18 +80,47 @@ module _ (asked : Option Mode) (kind : LineKind) (line : Line) (X : ℕ) where
 
     pub few_accounts : Accounts asked kind line X old new frames used most → AddsFew line X old new frames used most
     few_accounts a =
-        let r : (n : ℕ) × (UnitsOf line (added_of a.items) n × (n ≤ a.published)) = units_among asked kind line X (entries new) a.items a.published a.done.paid in
-        record { items = a.items; did = a.done.did; few = a.few; published = r.0; listed = a.listed; entry_units = r.1.0; framed = a.framed; sum = omega (arith, r.1.1, a.within) }
+        let r : (n : ℕ) × (UnitsOf line (added_of a.items) n × (n ≤ a.published)) =
+        units_among asked kind line X (entries new) a.items a.published a.done.paid in
+        record {
+          items = a.items;
+          did = a.done.did;
+          few = a.few;
+          published = r.0;
+          listed = a.listed;
+          entry_units = r.1.0;
+          framed = a.framed;
+          sum = omega (arith, r.1.1, a.within);
+        }
 
     few_balances : Balances asked kind line X old new frames used most → AddsFew line X old new frames used most
-    few_balances a = few_accounts (record { items = a.items; published = a.published; listed = a.listed; done = a.done; framed = a.framed; within = omega (arith, a.sum); few = a.few })
+    few_balances a = few_accounts (record {
+      items = a.items;
+      published = a.published;
+      listed = a.listed;
+      done = a.done;
+      framed = a.framed;
+      within = omega (arith, a.sum);
+      few = a.few;
+    })
 
-  module _ (old mid new : DeskView) (w : Waits old mid) (k : Keeps mid new) (frames : List OpenFrame) (used most : ℕ) where
+  module _ (old mid new : DeskView) (w : Waits old mid) (k : Keeps mid new) (frames : List OpenFrame)
+      (used most : ℕ) where
     -- the account from before a call that added no event
-    pub accounts_then : Accounts asked kind line X mid new frames used most → Accounts asked kind line X old new frames used most
-    accounts_then a = record { items = a.items; published = a.published; listed = a.listed; done = does_then asked kind line X old mid new a.items a.published w k a.done; framed = a.framed; within = a.within; few = a.few }
+    pub accounts_then : Accounts asked kind line X mid new frames used most
+        → Accounts asked kind line X old new frames used most
+    accounts_then a = record {
+      items = a.items;
+      published = a.published;
+      listed = a.listed;
+      done = does_then asked kind line X old mid new a.items a.published w k a.done;
+      framed = a.framed;
+      within = a.within;
+      few = a.few;
+    }
 
-    balances_then : Balances asked kind line X mid new frames used most → Balances asked kind line X old new frames used most
+    balances_then : Balances asked kind line X mid new frames used most
+        → Balances asked kind line X old new frames used most
     balances_then a = record {
       items = a.items;
       published = a.published;
@@ -82,10 +133,12 @@ module _ (asked : Option Mode) (kind : LineKind) (line : Line) (X : ℕ) where
     }
 
   -- the account of an answer from before a call that added no event
-  pub ends_then : (old mid new : DeskView) (used : ℕ) (d : Decided) → Waits old mid → Keeps mid new → Ends asked kind line X mid new used d → Ends asked kind line X old new used d
+  pub ends_then : (old mid new : DeskView) (used : ℕ) (d : Decided) → Waits old mid → Keeps mid new
+      → Ends asked kind line X mid new used d → Ends asked kind line X old new used d
   ends_then old mid new used (decided.Refuted r) w k e = balances_then old mid new w k [] used (used + 1) e
   ends_then old mid new used (decided.Found loads) w k e = accounts_then old mid new w k [] used used e
-  ends_then old mid new used (decided.Spent frames) w k e = (balances_then old mid new w k frames used used e.0, λ t. e.1 (w.keeps.alone ∙ t))
+  ends_then old mid new used (decided.Spent frames) w k e =
+      (balances_then old mid new w k frames used used e.0, λ t. e.1 (w.keeps.alone ∙ t))
   ends_then old mid new used (decided.NoMemory frames) w k e = accounts_then old mid new w k frames used used e
 
   module _ (old new : DeskView) (used : ℕ) where
@@ -107,7 +160,9 @@ module _ (asked : Option Mode) (kind : LineKind) (line : Line) (X : ℕ) where
     ends_few (decided.Spent frames) e = few_balances old new frames used used e.0
     ends_few (decided.NoMemory frames) e = few_accounts old new frames used used e
 
-    pub ends_alone : (R : List Bool) (most left : ℕ) (d : Decided) → old.alone ≡ true → Decides asked kind line X (entries new) R most left d → Ends asked kind line X old new used d → CostsAlone line X old new used d
+    pub ends_alone : (R : List Bool) (most left : ℕ) (d : Decided) → old.alone ≡ true
+        → Decides asked kind line X (entries new) R most left d → Ends asked kind line X old new used d
+        → CostsAlone line X old new used d
     ends_alone R most left (decided.Refuted r) alone h e = spends_balances old new [] used (used + 1) alone e
     ends_alone R most left (decided.Found loads) alone h e = tt
     ends_alone R most left (decided.Spent frames) alone h e = (
@@ -118,11 +173,23 @@ module _ (asked : Option Mode) (kind : LineKind) (line : Line) (X : ℕ) where
     ends_alone R most left (decided.NoMemory frames) alone h e = tt
 
 -- a call that adds no event adds no entry
-pub few_none : (line : Line) (X : ℕ) (old new : DeskView) (used most : ℕ) → Waits old new → AddsFew line X old new [] used most
-few_none line X old new used most w = record { items = []; did = did_waits old old new [] (did_none old) w; few = omega arith; published = 0; listed = 0; entry_units = refl; framed = refl; sum = omega arith }
+pub few_none : (line : Line) (X : ℕ) (old new : DeskView) (used most : ℕ) → Waits old new
+    → AddsFew line X old new [] used most
+few_none line X old new used most w = record {
+  items = [];
+  did = did_waits old old new [] (did_none old) w;
+  few = omega arith;
+  published = 0;
+  listed = 0;
+  entry_units = refl;
+  framed = refl;
+  sum = omega arith;
+}
 
 -- an entry seen before a call is seen after it
-pub not_known : (old new : DeskView) (line : Line) (kind : LineKind) (R : List Bool) (most X : ℕ) → IsFor old line kind X → Keeps old new → IsUnanswered (entries new) R most new.about.cycle → HasAnswer (entries old) R most X → ⊥
+pub not_known : (old new : DeskView) (line : Line) (kind : LineKind) (R : List Bool) (most X : ℕ)
+    → IsFor old line kind X → Keeps old new → IsUnanswered (entries new) R most new.about.cycle
+    → HasAnswer (entries old) R most X → ⊥
 not_known old new line kind R most X f k u h =
     let C : ℕ → Type 0 = λ z. IsUnanswered (entries new) R most z in
     let un : IsUnanswered (entries new) R most X = subst C (for_still old new line kind X f k).same_cycle u in
@@ -130,7 +197,9 @@ not_known old new line kind R most X f k u h =
     let P : List Entry → Type 0 = λ z. slice_get z h.0 ≡ Some h.1 in
     un h.0 h.1 (subst P (sym m.1) (get_longer (entries old) m.0 h.0 h.1 h.2.0)) h.2.1
 
-pub empty_found : (kind : LineKind) (line : Line) (X : ℕ) (R : List Bool) (most : ℕ) (loads : List Load) → bound kind line X R ≤ most → loads ≡ [] → IsEmpty R → (bound kind line X R ≤ most) × (length loads ≤ most) × AreSeated kind line X R loads
+pub empty_found : (kind : LineKind) (line : Line) (X : ℕ) (R : List Bool) (most : ℕ) (loads : List Load)
+    → bound kind line X R ≤ most → loads ≡ [] → IsEmpty R → (bound kind line X R ≤ most) × (length loads ≤ most)
+    × AreSeated kind line X R loads
 empty_found kind line X R most loads b e none =
     let A : List Load → Type 0 = λ z. AreSeated kind line X R z in
     (b, omega (arith, ap (λ (z : List Load). length z) e), subst A (sym e) (seated_none kind line X R none))

@@ -1,5 +1,6 @@
 -- A desk's own events over several calls, and the entries that they add.
-use Rattle.std.proofs.Common.{◌≡◌, ℕ, zero, suc, Bool, List, [], ◌∷◌, ◌++◌, length, refl, sym, ap, ◌∙◌, subst, ◌⊎◌, inl, inr, arith, Some}
+use Rattle.std.proofs.Common.{◌≡◌, ℕ, zero, suc, Bool, List, [], ◌∷◌, ◌++◌, length, refl, sym, ap, ◌∙◌, subst, ◌⊎◌, inl}
+use Rattle.std.proofs.Common.{inr, arith, Some}
 use Rattle.std.proofs.lemmas.List.{append-nil}
 use Rattle.std.specs.Prelude.{slice_get}
 use Rattle.line_instance.specs.Line.{Line}
@@ -16,7 +17,8 @@ use Rattle.lemma_core.proofs.HistoryGrows.{keeps_none}
 use Rattle.lemma_core.proofs.OwnFacts.{entries_more}
 use Rattle.station_search.specs.Decide.{IsFor, IsAnswered}
 
-pub get_append_cases : {X : Type 0} (xs ys : List X) (k : ℕ) (x : X) → slice_get (xs ++ ys) k ≡ Some x → (slice_get xs k ≡ Some x) ⊎ ((j : ℕ) × (slice_get ys j ≡ Some x))
+pub get_append_cases : {X : Type 0} (xs ys : List X) (k : ℕ) (x : X) → slice_get (xs ++ ys) k ≡ Some x
+    → (slice_get xs k ≡ Some x) ⊎ ((j : ℕ) × (slice_get ys j ≡ Some x))
 get_append_cases [] ys k x e = inr (k, e)
 get_append_cases (y ∷ xs) ys zero x e = inl e
 get_append_cases (y ∷ xs) ys (suc k) x e = get_append_cases xs ys k x e
@@ -43,14 +45,16 @@ entry_behind s (added id e) = refl
 entry_behind s (known id most) = sym (append-nil s.entries)
 entry_behind s (better n) = sym (append-nil s.entries)
 
-entries_behind : (old new : DeskView) (before : List Item) (item : Item) → Adds old new before item → entries new ≡ entries_after old before ++ added_of (item ∷ [])
+entries_behind : (old new : DeskView) (before : List Item) (item : Item) → Adds old new before item
+    → entries new ≡ entries_after old before ++ added_of (item ∷ [])
 entries_behind old new before item a =
     entries_of old new a.keeps
     ∙ (ap (λ (z : List Item). (replay old.opening z).entries) a.last
     ∙ (ap (λ (z : Standing). z.entries) (replay-append old.opening before (item ∷ []))
     ∙ entry_behind (replay old.opening before) item))
 
-pub known_answers : (old new : DeskView) (before : List Item) (item : Item) (set : List Bool) (most cycle id : ℕ) → Adds old new before item → IsLastAnswer (entries_after old before) set most cycle id
+pub known_answers : (old new : DeskView) (before : List Item) (item : Item) (set : List Bool) (most cycle id : ℕ)
+    → Adds old new before item → IsLastAnswer (entries_after old before) set most cycle id
     → IsAnswered (entries new) id set most cycle
 known_answers old new before item set most cycle id a last =
     let P : List Entry → Type 0 = λ z. IsAnswered z id set most cycle in
@@ -60,7 +64,9 @@ known_answers old new before item set most cycle id a last =
       answers = last.answers;
     })
 
-pub added_answers : (old new : DeskView) (before : List Item) (step : Entry) (id : ℕ) → Adds old new before (added id step) → id ≡ length (entries_after old before) → IsAnswered (entries new) id step.set step.most step.cycle
+pub added_answers : (old new : DeskView) (before : List Item) (step : Entry) (id : ℕ)
+    → Adds old new before (added id step) → id ≡ length (entries_after old before)
+    → IsAnswered (entries new) id step.set step.most step.cycle
 added_answers old new before step id a e =
     let P : List Entry → Type 0 = λ z. IsAnswered z id step.set step.most step.cycle in
     let Q : ℕ → Type 0 = λ z. IsAnswered (entries_after old before ++ step ∷ []) z step.set step.most step.cycle in
@@ -71,13 +77,19 @@ added_answers old new before step id a e =
     }))
 
 -- an entry seen is seen after a call
-pub answered_still : (old new : DeskView) (id : ℕ) (set : List Bool) (most cycle : ℕ) → Keeps old new → IsAnswered (entries old) id set most cycle → IsAnswered (entries new) id set most cycle
+pub answered_still : (old new : DeskView) (id : ℕ) (set : List Bool) (most cycle : ℕ) → Keeps old new
+    → IsAnswered (entries old) id set most cycle → IsAnswered (entries new) id set most cycle
 answered_still old new id set most cycle k a =
     let h : (more : List Entry) × (entries new ≡ entries old ++ more) = entries_more old new k in
     let P : List Entry → Type 0 = λ z. IsAnswered z id set most cycle in
-    subst P (sym h.1) (record { entry = a.entry; there = get_longer (entries old) h.0 id a.entry a.there; answers = a.answers })
+    subst P (sym h.1) (record {
+      entry = a.entry;
+      there = get_longer (entries old) h.0 id a.entry a.there;
+      answers = a.answers;
+    })
 
-pub for_still : (old new : DeskView) (line : Line) (kind : LineKind) (cycle : ℕ) → IsFor old line kind cycle → Keeps old new → IsFor new line kind cycle
+pub for_still : (old new : DeskView) (line : Line) (kind : LineKind) (cycle : ℕ) → IsFor old line kind cycle
+    → Keeps old new → IsFor new line kind cycle
 for_still old new line kind cycle f k = record {
   same_line = ap (λ (z : About). z.line) k.about ∙ f.same_line;
   same_kind = ap (λ (z : About). z.kind) k.about ∙ f.same_kind;

@@ -12,11 +12,14 @@ use Rattle.station_load.specs.Walking.{last_load}
 use Rattle.station_search.specs.declared.listings.Listing.{Listing}
 use Rattle.station_search.specs.inner.Work.{IsBeside}
 
-module _ (line : Line) (X : ℕ) (f : OpenFrame) (g : Listing) (l : Load) (b : IsBeside line X f g) (load : IsLoad line X f.mode f.set l) (last : f.last ≡ Some l) where
+module _ (line : Line) (X : ℕ) (f : OpenFrame) (g : Listing) (l : Load) (b : IsBeside line X f g)
+    (load : IsLoad line X f.mode f.set l) (last : f.last ≡ Some l) where
   -- the total of the set is that of the load and that of the rest
   pub rest_total : g.times.total ≡ g.walk.sum + sum_where (has (rest f.set l)) line.times
   rest_total =
-      let sum : g.walk.sum ≡ sum_where (has (taken l)) line.times = b.walk.sum ∙ ap (λ (z : Option Load). sum_where (has (taken (last_load z))) line.times) (b.same_last ∙ last) in
+      let sum : g.walk.sum ≡ sum_where (has (taken l)) line.times =
+      b.walk.sum ∙ ap (λ (z : Option Load). sum_where (has (taken (last_load z))) line.times)
+      (b.same_last ∙ last) in
       omega (arith, sum, b.times.total, rest_sum line f.set l load.within)
 
   pub times_of_rest : AreTimes line (rest f.set l) (g.times.total - g.walk.sum) g.times.longest

@@ -1,5 +1,6 @@
 -- The places of tasks that loads have.
-use Rattle.std.proofs.Common.{◌≡◌, ℕ, zero, suc, ◌+◌, ◌<◌, ◌≤◌, Bool, true, false, List, [], ◌∷◌, ◌++◌, length, refl, sym, ap, ◌∙◌, subst, inl, inr, arith, Some}
+use Rattle.std.proofs.Common.{◌≡◌, ℕ, zero, suc, ◌+◌, ◌<◌, ◌≤◌, Bool, true, false, List, [], ◌∷◌, ◌++◌, length, refl}
+use Rattle.std.proofs.Common.{sym, ap, ◌∙◌, subst, inl, inr, arith, Some}
 use Rattle.std.specs.Prelude.{slice_get, IsTrue, ◌↔◌}
 use Rattle.std.proofs.lemmas.Bool.{cases_lt, cases_eq, false≢true}
 use Rattle.task_set.specs.Truths.{In}
@@ -18,7 +19,9 @@ use Rattle.line_rules.proofs.Restrict.{restricted}
 use Rattle.station_search.specs.Parts.{AreParts, IsOnce, IsPlaceOf}
 
 -- the load that has the task is the only one
-pub place_found : (kind : LineKind) (loads : List Load) (i k : ℕ) (l : Load) (place : Seatplace) → IsOnce loads → slice_get loads k ≡ Some l → In (taken l) i → place ≡ record { station = k + 1; side = side_of kind l i } → IsPlaceOf kind loads i place
+pub place_found : (kind : LineKind) (loads : List Load) (i k : ℕ) (l : Load) (place : Seatplace) → IsOnce loads
+    → slice_get loads k ≡ Some l → In (taken l) i → place ≡ record { station = k + 1; side = side_of kind l i }
+    → IsPlaceOf kind loads i place
 place_found kind loads i k l place once e m p j a f n =
     let q : k ≡ j = once k j l a i e f m n in
     let s : Some l ≡ Some a = sym e ∙ (ap (λ (z : ℕ). slice_get loads z) q ∙ f) in
@@ -27,7 +30,8 @@ place_found kind loads i k l place once e m p j a f n =
     p ∙ (λ x. record { station = u x; side = side_of kind (t x) i })
 
 -- no load before k has the task, and that at k hasn't
-pub none_more : (loads : List Load) (i k : ℕ) (l : Load) → slice_get loads k ≡ Some l → (In (taken l) i → ⊥) → ((j : ℕ) (a : Load) → j < k → slice_get loads j ≡ Some a → In (taken a) i → ⊥)
+pub none_more : (loads : List Load) (i k : ℕ) (l : Load) → slice_get loads k ≡ Some l → (In (taken l) i → ⊥)
+    → ((j : ℕ) (a : Load) → j < k → slice_get loads j ≡ Some a → In (taken a) i → ⊥)
     → (j : ℕ) (a : Load) → j < k + 1 → slice_get loads j ≡ Some a → In (taken a) i → ⊥
 none_more loads i k l e without before j a less f m = elim (cases_eq j k) [
   | inl q ↦
@@ -48,7 +52,9 @@ seat_last [] p = refl
 seat_last (q ∷ ps) p = seat_last ps p
 
 -- one place more
-pub placed_push : (kind : LineKind) (loads : List Load) (ps all : List Seatplace) (p : Seatplace) (n : ℕ) → all ≡ ps ++ p ∷ [] → length ps ≡ n → ((i : ℕ) → i < n → IsPlaceOf kind loads i (seat ps i)) → IsPlaceOf kind loads n p
+pub placed_push : (kind : LineKind) (loads : List Load) (ps all : List Seatplace) (p : Seatplace) (n : ℕ)
+    → all ≡ ps ++ p ∷ [] → length ps ≡ n → ((i : ℕ) → i < n → IsPlaceOf kind loads i (seat ps i))
+    → IsPlaceOf kind loads n p
     → (i : ℕ) → i < n + 1 → IsPlaceOf kind loads i (seat all i)
 placed_push kind loads ps all p n e l before last i less =
     let A : List Seatplace → Type 0 = λ z. IsPlaceOf kind loads i (seat z i) in
@@ -63,28 +69,35 @@ placed_push kind loads ps all p n e l before last i less =
     ])
 
 -- all tasks have their places
-pub placement : (kind : LineKind) (line : Line) (loads : List Load) (ps : List Seatplace) (n : ℕ) → tasks line ≤ n → AreParts line loads → ((i : ℕ) → i < n → IsPlaceOf kind loads i (seat ps i)) → IsPlacement kind loads (seat ps)
-placement kind line loads ps n all parts placed k l i e m = placed i (omega (arith, In-all_lt line i (parts.within k l i e m), all)) k l e m
+pub placement : (kind : LineKind) (line : Line) (loads : List Load) (ps : List Seatplace) (n : ℕ) → tasks line ≤ n
+    → AreParts line loads → ((i : ℕ) → i < n → IsPlaceOf kind loads i (seat ps i)) → IsPlacement kind loads (seat ps)
+placement kind line loads ps n all parts placed k l i e m =
+    placed i (omega (arith, In-all_lt line i (parts.within k l i e m), all)) k l e m
 
-side_is : (kind : LineKind) (l : Load) (i : ℕ) (p : Seatplace) (k : ℕ) → p ≡ record { station = k; side = side_of kind l i } → IsSide kind p.side
+side_is : (kind : LineKind) (l : Load) (i : ℕ) (p : Seatplace) (k : ℕ)
+    → p ≡ record { station = k; side = side_of kind l i } → IsSide kind p.side
 side_is Straight l i p k e = ap (λ (z : Seatplace). z.side) e
 side_is U l i p k e = tt
 
 -- loads that are seated give a right balance
-pub right_of : (kind : LineKind) (line : Line) (c : ℕ) (loads : List Load) (b : Assignment) → length b.place ≡ tasks line → length loads ≤ b.stations → IsPlacement kind loads (seat b.place) → AreSeated kind line c (all_tasks line) loads → IsRight kind line c b
+pub right_of : (kind : LineKind) (line : Line) (c : ℕ) (loads : List Load) (b : Assignment)
+    → length b.place ≡ tasks line → length loads ≤ b.stations → IsPlacement kind loads (seat b.place)
+    → AreSeated kind line c (all_tasks line) loads → IsRight kind line c b
 right_of kind line c loads b each long placed s = record {
   each = each;
   sides = λ i m.
       let h = s.each i m in
       side_is kind h.1 i (seat b.place i) (suc h.0) (placed h.0 h.1 i h.2.0 h.2.1);
-  balance = restricted kind line c c (all_tasks line) (all_tasks line) (length loads) b.stations (seat b.place) (omega arith) long (λ i m. m) (s.balance (seat b.place) placed);
+  balance = restricted kind line c c (all_tasks line) (all_tasks line) (length loads) b.stations (seat b.place)
+      (omega arith) long (λ i m. m) (s.balance (seat b.place) placed);
 }
 
 -- a load has a task in front or at the back
 pub in_front : (l : Load) (i : ℕ) (f : Bool) → f ≡ has l.front i → f ≡ true → (IsTrue f ↔ In (taken l) i)
 in_front l i f e t = (λ x. In-union_left l.front l.back i (sym e ∙ t), λ m. t)
 
-pub in_back : (l : Load) (i : ℕ) (f b : Bool) → f ≡ has l.front i → f ≡ false → b ≡ has l.back i → (IsTrue b ↔ In (taken l) i)
+pub in_back : (l : Load) (i : ℕ) (f b : Bool) → f ≡ has l.front i → f ≡ false → b ≡ has l.back i
+    → (IsTrue b ↔ In (taken l) i)
 in_back l i f b e n g = (
   λ t. In-union_right l.front l.back i (sym g ∙ t),
   λ m. elim (In-union_cases l.front l.back i m) [

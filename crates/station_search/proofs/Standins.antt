@@ -1,5 +1,6 @@
 -- A partner stands in for a task.
-use Rattle.std.proofs.Common.{◌≡◌, ℕ, zero, suc, Bool, true, false, List, [], ◌∷◌, sym, ◌∙◌, subst, inl, inr, arith, Some, Option}
+use Rattle.std.proofs.Common.{◌≡◌, ℕ, zero, suc, Bool, true, false, List, [], ◌∷◌, sym, ◌∙◌, subst, inl, inr, arith}
+use Rattle.std.proofs.Common.{Some, Option}
 use Rattle.std.specs.Prelude.{slice_get, slice_set}
 use Rattle.std.proofs.lemmas.Option.{slice_get_within}
 use Rattle.task_set.specs.Truths.{In}
@@ -22,25 +23,30 @@ value_at (x ∷ xs) zero j e = cc
 value_at (x ∷ xs) (suc k) j e = value_at xs k j e
 
 -- a kept partner is one
-pub kept_partner : (line : Line) (i k j : ℕ) (answer : Option ℕ) → answer ≡ Some j → IsKeptAt line i k answer → IsPartner line i j
+pub kept_partner : (line : Line) (i k j : ℕ) (answer : Option ℕ) → answer ≡ Some j → IsKeptAt line i k answer
+    → IsPartner line i j
 kept_partner line i k j answer e h =
     let g : slice_get h.0 k ≡ Some j = sym h.2 ∙ e in
     let P : ℕ → Type 0 = λ z. IsPartner line i z in
     subst P (value_at h.0 k j g) (h.1.right k (slice_get_within h.0 k j g))
 
 -- the task that gives way is no member of the set in which another one stands in for it
-gone : (set : List Bool) (out into i : ℕ) → (out ≡ into → ⊥) → In (slice_set (slice_set set out false) into true) i → i ≡ out → ⊥
+gone : (set : List Bool) (out into i : ℕ) → (out ≡ into → ⊥) → In (slice_set (slice_set set out false) into true) i
+    → i ≡ out → ⊥
 gone set out into i other m e = elim (In-set_cases (slice_set set out false) into i m) [
   | inl h ↦ (let P : ℕ → Type 0 = λ z. In (slice_set set out false) z in In-clear_gone set out (subst P e h))
   | inr q ↦ other (sym e ∙ q)
 ]
 
 -- an entry that answers the set with the partner refutes the set
-pub stands_in : (line : Line) (es : List Entry) (set swapped : List Bool) (most X c out into id : ℕ) → IsPartner line out into → In set out → has set into ≡ false → swapped ≡ slice_set (slice_set set out false) into true → c ≡ X
+pub stands_in : (line : Line) (es : List Entry) (set swapped : List Bool) (most X c out into id : ℕ)
+    → IsPartner line out into → In set out → has set into ≡ false
+    → swapped ≡ slice_set (slice_set set out false) into true → c ≡ X
     → IsLastAnswer es swapped most c id → FollowsBySwap line es (swap_of X set most id out into) id out into
 stands_in line es set swapped most X c out into id p m absent e same a =
     let set_is : a.entry.set ≡ slice_set (slice_set set out false) into true = a.answers.same ∙ e in
-    let left : (i : ℕ) → In a.entry.set i → i ≡ out → ⊥ = λ i n. (let P : List Bool → Type 0 = λ z. In z i in gone set out into i p.other (subst P set_is n)) in
+    let left : (i : ℕ) → In a.entry.set i → i ≡ out → ⊥ = λ i n.
+    (let P : List Bool → Type 0 = λ z. In z i in gone set out into i p.other (subst P set_is n)) in
     record {
       entry = a.entry;
       there = a.there;
@@ -57,7 +63,8 @@ stands_in line es set swapped most X c out into id p m absent e same a =
     }
 
 -- what is published after a call that added no event
-pub does_for_then : (asked : Option Mode) (kind : LineKind) (line : Line) (X : ℕ) (a b c : DeskView) (T : List Bool) (m n : ℕ) → Waits a b → Keeps b c → DoesFor asked kind line X b c T m n → DoesFor asked kind line X a c T m n
+pub does_for_then : (asked : Option Mode) (kind : LineKind) (line : Line) (X : ℕ) (a b c : DeskView) (T : List Bool)
+    (m n : ℕ) → Waits a b → Keeps b c → DoesFor asked kind line X b c T m n → DoesFor asked kind line X a c T m n
 does_for_then asked kind line X a b c T m n w k d = record {
   items = d.items;
   done = does_then asked kind line X a b c d.items n w k d.done;
@@ -67,5 +74,7 @@ does_for_then asked kind line X a b c T m n w k d = record {
 }
 
 -- where the desk is alone, a question stays unanswered through a call that added no event
-pub unanswered_through : (a b : DeskView) (set : List Bool) (most X : ℕ) → Waits a b → (a.alone ≡ true → IsUnanswered (entries a) set most X) → a.alone ≡ true → IsUnanswered (entries b) set most X
-unanswered_through a b set most X w un t = let P : List Entry → Type 0 = λ z. IsUnanswered z set most X in subst P (sym (entries_same a b w.keeps (w.still t))) (un t)
+pub unanswered_through : (a b : DeskView) (set : List Bool) (most X : ℕ) → Waits a b
+    → (a.alone ≡ true → IsUnanswered (entries a) set most X) → a.alone ≡ true → IsUnanswered (entries b) set most X
+unanswered_through a b set most X w un t = let P : List Entry → Type 0 = λ z. IsUnanswered z set most X in
+    subst P (sym (entries_same a b w.keeps (w.still t))) (un t)

@@ -1,5 +1,6 @@
 -- The state of a search, and its steps.
-use Rattle.std.proofs.Common.{◌≡◌, ℕ, ◌-◌, ◌<◌, ◌≤◌, List, [], ◌∷◌, ◌++◌, length, refl, sym, ap, ◌∙◌, subst, inl, inr, arith, Option, Some, None, Bool}
+use Rattle.std.proofs.Common.{◌≡◌, ℕ, ◌-◌, ◌<◌, ◌≤◌, List, [], ◌∷◌, ◌++◌, length, refl, sym, ap, ◌∙◌, subst, inl, inr}
+use Rattle.std.proofs.Common.{arith, Option, Some, None, Bool}
 use Rattle.std.specs.Prelude.{slice_get}
 use Rattle.task_set.specs.Truths.{In, IsSubset}
 use Rattle.task_set.specs.Truths.{minus}
@@ -16,7 +17,8 @@ use Rattle.line_rules.specs.declared.types.Entry.{Entry}
 use Rattle.line_rules.specs.declared.types.OpenFrame.{OpenFrame}
 use Rattle.line_rules.proofs.Covering.{covers_same, covers_none}
 use Rattle.line_rules.proofs.ListFacts.{get_longer, get_push_cases, get_last}
-use Rattle.line_rules.proofs.Paths.{all_up_to, covers_pass, covers_skip, covers_cite, leads_push, leads_pop, leads_longer, deep_longer, rest_inside}
+use Rattle.line_rules.proofs.Paths.{all_up_to, covers_pass, covers_skip, covers_cite, leads_push, leads_pop}
+use Rattle.line_rules.proofs.Paths.{leads_longer, deep_longer, rest_inside}
 use Rattle.station_search.specs.Mode.{frame_mode}
 use Rattle.station_search.specs.Decide.{IsAnswered}
 use Rattle.station_search.specs.inner.Work.{branch_of, with_last, with_cites}
@@ -30,7 +32,8 @@ pub record IsHeld (asked : Option Mode) (kind : LineKind) (line : Line) (X : ℕ
 
 -- The frames lead from the question to the frame in hand, which is as a deepest frame is, of a set of tasks that isn't
 -- empty.
-pub record IsSearching (asked : Option Mode) (kind : LineKind) (line : Line) (X : ℕ) (es : List Entry) (R : List Bool) (most : ℕ) (passed : List OpenFrame) (frame : OpenFrame) : Type 0 where
+pub record IsSearching (asked : Option Mode) (kind : LineKind) (line : Line) (X : ℕ) (es : List Entry) (R : List Bool)
+    (most : ℕ) (passed : List OpenFrame) (frame : OpenFrame) : Type 0 where
   pub leads : Leads kind line X es R most passed frame.set frame.most
   pub deep : IsDeepest kind line X es frame
   pub some : (i : ℕ) × In frame.set i
@@ -46,18 +49,40 @@ length-minus (x ∷ xs) (y ∷ ys) = omega (arith, length-minus xs ys)
 
 -- the rest of a set of tasks is one
 pub rest_tasks : (line : Line) (R : List Bool) (l : Load) → IsTaskSet line R → IsTaskSet line (rest R l)
-rest_tasks line R l t = record { truths = length-minus R (taken l) ∙ t.truths; tasks = λ i n. t.tasks i (rest_inside R l i n) }
+rest_tasks line R l t = record {
+  truths = length-minus R (taken l) ∙ t.truths;
+  tasks = λ i n. t.tasks i (rest_inside R l i n);
+}
 
-module _ (asked : Option Mode) (kind : LineKind) (line : Line) (ranked : IsRanked line) (X : ℕ) (R : List Bool) (most : ℕ) where
+module _ (asked : Option Mode) (kind : LineKind) (line : Line) (ranked : IsRanked line) (X : ℕ) (R : List Bool)
+    (most : ℕ) where
   -- a frame of which no load was listed
-  pub starts : (es : List Entry) (passed : List OpenFrame) (frame : OpenFrame) → Leads kind line X es R most passed frame.set frame.most → Belongs kind frame.mode → frame.last ≡ None → frame.cites ≡ [] → ((i : ℕ) × In frame.set i)
-      → IsTaskSet line frame.set → frame.mode ≡ frame_mode asked kind line frame.set → 1 ≤ frame.most → ((k : ℕ) (f : OpenFrame) → slice_get passed k ≡ Some f → IsHeld asked kind line X f) → IsSearching asked kind line X es R most passed frame
+  pub starts : (es : List Entry) (passed : List OpenFrame) (frame : OpenFrame)
+      → Leads kind line X es R most passed frame.set frame.most → Belongs kind frame.mode → frame.last ≡ None
+      → frame.cites ≡ [] → ((i : ℕ) × In frame.set i)
+      → IsTaskSet line frame.set → frame.mode ≡ frame_mode asked kind line frame.set → 1 ≤ frame.most
+      → ((k : ℕ) (f : OpenFrame) → slice_get passed k ≡ Some f → IsHeld asked kind line X f)
+      → IsSearching asked kind line X es R most passed frame
   starts es passed frame leads belongs last cites some tasks has_mode stations held =
       let P : OpenFrame → Type 0 = λ z. IsSearching asked kind line X es R most passed z in
-      let e : record { set = frame.set; most = frame.most; mode = frame.mode; last = None; cites = [] } ≡ frame = λ i. record { set = frame.set; most = frame.most; mode = frame.mode; last = sym last i; cites = sym cites i } in
+      let e : record { set = frame.set; most = frame.most; mode = frame.mode; last = None; cites = [] } ≡ frame =
+      λ i. record {
+        set = frame.set;
+        most = frame.most;
+        mode = frame.mode;
+        last = sym last i;
+        cites = sym cites i;
+      } in
       subst P e (record {
         leads = leads;
-        deep = record { belongs = belongs; last = tt; covers = covers_none line (λ k. IsOpen kind line X frame.mode frame.set frame.most k × UpTo line None k) es frame.set frame.most X (λ l p. p.1) };
+        deep = record {
+          belongs = belongs;
+          last = tt;
+          covers =
+              covers_none line (λ k. IsOpen kind line X frame.mode frame.set frame.most k × UpTo line None k) es
+                  frame.set
+              frame.most X (λ l p. p.1);
+        };
         some = some;
         tasks = tasks;
         has_mode = has_mode;
@@ -65,7 +90,9 @@ module _ (asked : Option Mode) (kind : LineKind) (line : Line) (ranked : IsRanke
         held = held;
       })
 
-  pub longer : (es more : List Entry) (passed : List OpenFrame) (frame : OpenFrame) → IsSearching asked kind line X es R most passed frame → IsSearching asked kind line X (es ++ more) R most passed frame
+  pub longer : (es more : List Entry) (passed : List OpenFrame) (frame : OpenFrame)
+      → IsSearching asked kind line X es R most passed frame
+      → IsSearching asked kind line X (es ++ more) R most passed frame
   longer es more passed frame s = record {
     leads = leads_longer kind line X es more passed R most frame.set frame.most s.leads;
     deep = deep_longer kind line X es more frame s.deep;
@@ -76,13 +103,20 @@ module _ (asked : Option Mode) (kind : LineKind) (line : Line) (ranked : IsRanke
     held = s.held;
   }
 
-  module _ (es : List Entry) (passed : List OpenFrame) (frame : OpenFrame) (s : IsSearching asked kind line X es R most passed frame) where
+  module _ (es : List Entry) (passed : List OpenFrame) (frame : OpenFrame)
+      (s : IsSearching asked kind line X es R most passed frame) where
     module _ (l : Load) (next : IsFollowing line X frame.mode frame.set frame.last l) where
       -- a load that needs no cite
-      pub closed : (IsOpen kind line X frame.mode frame.set frame.most l → ⊥) → IsSearching asked kind line X es R most passed (with_last frame l)
+      pub closed : (IsOpen kind line X frame.mode frame.set frame.most l → ⊥)
+          → IsSearching asked kind line X es R most passed (with_last frame l)
       closed shut = record {
         leads = s.leads;
-        deep = record { belongs = s.deep.belongs; last = next.load; covers = covers_skip line ranked X frame.mode frame.set frame.last s.deep.last l next kind es frame.most frame.cites s.deep.covers shut };
+        deep = record {
+          belongs = s.deep.belongs;
+          last = next.load;
+          covers = covers_skip line ranked X frame.mode frame.set frame.last s.deep.last l next kind es frame.most
+              frame.cites s.deep.covers shut;
+        };
         some = s.some;
         tasks = s.tasks;
         has_mode = s.has_mode;
@@ -90,17 +124,23 @@ module _ (asked : Option Mode) (kind : LineKind) (line : Line) (ranked : IsRanke
         held = s.held;
       }
 
-      before : Covers line (λ k. IsOpen kind line X frame.mode frame.set frame.most k × Precedes line k l) es frame.set frame.most X frame.cites
-      before = covers_pass line ranked X frame.mode frame.set frame.last s.deep.last l next kind es frame.most frame.cites s.deep.covers
+      before : Covers line (λ k. IsOpen kind line X frame.mode frame.set frame.most k × Precedes line k l) es frame.set
+          frame.most X frame.cites
+      before = covers_pass line ranked X frame.mode frame.set frame.last s.deep.last l next kind es frame.most
+          frame.cites s.deep.covers
 
       -- a load whose rest an entry refutes
-      pub covered : (id : ℕ) (cites : List ℕ) → cites ≡ frame.cites ++ id ∷ [] → IsOpen kind line X frame.mode frame.set frame.most l → Cites es id (rest frame.set l) (frame.most - 1) X → IsSearching asked kind line X es R most passed (with_cites (with_last frame l) cites)
+      pub covered : (id : ℕ) (cites : List ℕ) → cites ≡ frame.cites ++ id ∷ []
+          → IsOpen kind line X frame.mode frame.set frame.most l → Cites es id (rest frame.set l) (frame.most - 1) X
+          → IsSearching asked kind line X es R most passed (with_cites (with_last frame l) cites)
       covered id cites e o y = record {
         leads = s.leads;
         deep = record {
           belongs = s.deep.belongs;
           last = next.load;
-          covers = let P : List ℕ → Type 0 = λ z. Covers line (λ k. IsOpen kind line X frame.mode frame.set frame.most k × UpTo line (Some l) k) es frame.set frame.most X z in
+          covers = let P : List ℕ → Type 0 = λ z. Covers line
+              (λ k. IsOpen kind line X frame.mode frame.set frame.most k × UpTo line (Some l) k) es frame.set frame.most
+              X z in
               subst P (sym e) (covers_cite kind line X frame.mode frame.set es frame.most frame.cites l id o y before);
         };
         some = s.some;
@@ -111,24 +151,35 @@ module _ (asked : Option Mode) (kind : LineKind) (line : Line) (ranked : IsRanke
       }
 
       passes : IsOpen kind line X frame.mode frame.set frame.most l → IsPassed kind line X es (with_last frame l) l
-      passes o = record { belongs = s.deep.belongs; stations = s.stations; last = refl; load = next.load; full = o.full; covers = before }
+      passes o = record {
+        belongs = s.deep.belongs;
+        stations = s.stations;
+        last = refl;
+        load = next.load;
+        full = o.full;
+        covers = before;
+      }
 
       -- a load whose rest is searched
-      pub goes_down : IsOpen kind line X frame.mode frame.set frame.most l → Leads kind line X es R most (passed ++ with_last frame l ∷ []) (rest frame.set l) (frame.most - 1)
+      pub goes_down : IsOpen kind line X frame.mode frame.set frame.most l
+          → Leads kind line X es R most (passed ++ with_last frame l ∷ []) (rest frame.set l) (frame.most - 1)
       goes_down o = leads_push kind line X es passed R most (with_last frame l) l s.leads (passes o)
 
-      pub holds_on : IsOpen kind line X frame.mode frame.set frame.most l → (k : ℕ) (f : OpenFrame) → slice_get (passed ++ with_last frame l ∷ []) k ≡ Some f → IsHeld asked kind line X f
+      pub holds_on : IsOpen kind line X frame.mode frame.set frame.most l → (k : ℕ) (f : OpenFrame)
+          → slice_get (passed ++ with_last frame l ∷ []) k ≡ Some f → IsHeld asked kind line X f
       holds_on o k f e = elim (get_push_cases passed (with_last frame l) f k e) [
         | inl h ↦ s.held k f h.1
         | inr h ↦ (let P : OpenFrame → Type 0 = λ z. IsHeld asked kind line X z in subst P h.1 (record {
           tasks = s.tasks;
           has_mode = s.has_mode;
-          open_rest = λ m q. let B : Load → Type 0 = λ z. bound kind line X (rest frame.set z) < frame.most in let w : l ≡ m = cc in subst B w o.bound;
+          open_rest = λ m q. let B : Load → Type 0 = λ z. bound kind line X (rest frame.set z) < frame.most in
+              let w : l ≡ m = cc in subst B w o.bound;
         }))
       ]
 
     -- the loads ended
-    pub follows : 1 ≤ X → ((l : Load) → IsLoad line X frame.mode frame.set l → After line frame.last l → ⊥) → Follows kind line es (branch_of X frame)
+    pub follows : 1 ≤ X → ((l : Load) → IsLoad line X frame.mode frame.set l → After line frame.last l → ⊥)
+        → Follows kind line es (branch_of X frame)
     follows cycle none = record {
       set = s.tasks;
       cycle = cycle;
@@ -136,8 +187,10 @@ module _ (asked : Option Mode) (kind : LineKind) (line : Line) (ranked : IsRanke
         some = s.some;
         stations = s.stations;
         belongs = s.deep.belongs;
-        covers = covers_same line (λ k. IsOpen kind line X frame.mode frame.set frame.most k × UpTo line frame.last k) (IsOpen kind line X frame.mode frame.set frame.most) es frame.set frame.most X frame.cites
-            (λ l p. p.0) (λ l o. (o, all_up_to line ranked X frame.mode frame.set frame.last s.deep.last none l o.load)) s.deep.covers;
+        covers = covers_same line (λ k. IsOpen kind line X frame.mode frame.set frame.most k × UpTo line frame.last k)
+            (IsOpen kind line X frame.mode frame.set frame.most) es frame.set frame.most X frame.cites
+            (λ l p. p.0) (λ l o. (o, all_up_to line ranked X frame.mode frame.set frame.last s.deep.last none l o.load))
+            s.deep.covers;
       };
     }
 
@@ -146,37 +199,47 @@ module _ (asked : Option Mode) (kind : LineKind) (line : Line) (ranked : IsRanke
     trail = record { passed = passed; deepest = frame; all = refl; leads = s.leads; deep = s.deep }
 
   -- the frame is refuted, and the one above it goes on
-  pub goes_up : (es : List Entry) (passed upper : List OpenFrame) (frame parent : OpenFrame) (id : ℕ) (cites : List ℕ) → passed ≡ upper ++ parent ∷ [] → cites ≡ parent.cites ++ id ∷ [] → IsTaskSet line R
-      → IsSearching asked kind line X es R most passed frame → IsAnswered es id frame.set frame.most X → IsSearching asked kind line X es R most upper (with_cites parent cites)
+  pub goes_up : (es : List Entry) (passed upper : List OpenFrame) (frame parent : OpenFrame) (id : ℕ) (cites : List ℕ)
+      → passed ≡ upper ++ parent ∷ [] → cites ≡ parent.cites ++ id ∷ [] → IsTaskSet line R
+      → IsSearching asked kind line X es R most passed frame → IsAnswered es id frame.set frame.most X
+      → IsSearching asked kind line X es R most upper (with_cites parent cites)
   goes_up es passed upper frame parent id cites e f tasks s a =
       let D : List OpenFrame → Type 0 = λ z. Leads kind line X es R most z frame.set frame.most in
-      let r : (l : Load) × (Leads kind line X es R most upper parent.set parent.most × IsPassed kind line X es parent l × (frame.set ≡ rest parent.set l) × (frame.most ≡ parent.most - 1)) =
+      let r : (l : Load) × (Leads kind line X es R most upper parent.set parent.most × IsPassed kind line X es parent l
+      × (frame.set ≡ rest parent.set l) × (frame.most ≡ parent.most - 1)) =
       leads_pop kind line X es upper R most parent frame.set frame.most (subst D e s.leads) in
       let l : Load = r.0 in
       let p : IsPassed kind line X es parent l = r.1.1 in
-      let here : slice_get passed (length upper) ≡ Some parent = ap (λ (z : List OpenFrame). slice_get z (length upper)) e ∙ get_last upper parent in
+      let here : slice_get passed (length upper) ≡ Some parent =
+      ap (λ (z : List OpenFrame). slice_get z (length upper)) e ∙ get_last upper parent in
       let h : IsHeld asked kind line X parent = s.held (length upper) parent here in
-      let o : IsOpen kind line X parent.mode parent.set parent.most l = record { load = p.load; full = p.full; bound = h.open_rest l p.last } in
+      let o : IsOpen kind line X parent.mode parent.set parent.most l =
+      record { load = p.load; full = p.full; bound = h.open_rest l p.last } in
       let y : Cites es id (rest parent.set l) (parent.most - 1) X = record {
         entry = a.entry;
         there = a.there;
-        part = let S : List Bool → Type 0 = λ z. IsSubset z (rest parent.set l) in subst S (sym (a.answers.same ∙ r.1.2)) (λ i m. m);
+        part = let S : List Bool → Type 0 = λ z. IsSubset z (rest parent.set l) in
+            subst S (sym (a.answers.same ∙ r.1.2)) (λ i m. m);
         stations = omega (arith, a.answers.stations, r.1.3);
         cycle = a.answers.long;
       } in
-      let U : Option Load → Type 0 = λ z. Covers line (λ k. IsOpen kind line X parent.mode parent.set parent.most k × UpTo line z k) es parent.set parent.most X cites in
-      let V : List ℕ → Type 0 = λ z. Covers line (λ k. IsOpen kind line X parent.mode parent.set parent.most k × UpTo line (Some l) k) es parent.set parent.most X z in
+      let U : Option Load → Type 0 = λ z. Covers line (λ k. IsOpen kind line X parent.mode parent.set parent.most k
+      × UpTo line z k) es parent.set parent.most X cites in
+      let V : List ℕ → Type 0 = λ z. Covers line (λ k. IsOpen kind line X parent.mode parent.set parent.most k
+      × UpTo line (Some l) k) es parent.set parent.most X z in
       let L : Option Load → Type 0 = λ z. LastIsLoad line X parent.mode parent.set z in
       record {
         leads = r.1.0;
         deep = record {
           belongs = p.belongs;
           last = subst L (sym p.last) p.load;
-          covers = subst U (sym p.last) (subst V (sym f) (covers_cite kind line X parent.mode parent.set es parent.most parent.cites l id o y p.covers));
+          covers = subst U (sym p.last) (subst V (sym f) (covers_cite kind line X parent.mode parent.set es parent.most
+              parent.cites l id o y p.covers));
         };
         some = (p.load.some.0, p.load.within p.load.some.0 p.load.some.1);
         tasks = h.tasks;
         has_mode = h.has_mode;
         stations = p.stations;
-        held = λ k g q. s.held k g (ap (λ (z : List OpenFrame). slice_get z k) e ∙ get_longer upper (parent ∷ []) k g q);
+        held = λ k g q. s.held k g (ap (λ (z : List OpenFrame). slice_get z k) e
+            ∙ get_longer upper (parent ∷ []) k g q);
       }

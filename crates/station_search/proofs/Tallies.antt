@@ -1,5 +1,6 @@
 -- What a search has published and spent so far, and how each of its steps changes that.
-use Rattle.std.proofs.Common.{◌≡◌, ℕ, zero, suc, ◌+◌, ◌-◌, ◌≤◌, Bool, true, List, [], ◌∷◌, ◌++◌, length, refl, sym, ap, ◌∙◌, subst, inl, inr, arith, Option, Some, None, length-append}
+use Rattle.std.proofs.Common.{◌≡◌, ℕ, zero, suc, ◌+◌, ◌-◌, ◌≤◌, Bool, true, List, [], ◌∷◌, ◌++◌, length, refl, sym, ap}
+use Rattle.std.proofs.Common.{◌∙◌, subst, inl, inr, arith, Option, Some, None, length-append}
 use Rattle.std.specs.Prelude.{slice_get}
 use Rattle.task_set.specs.Truths.{In}
 use Rattle.line_instance.specs.Line.{Line, IsRanked}
@@ -15,7 +16,8 @@ use Rattle.line_rules.specs.declared.types.Entry.{Entry}
 use Rattle.line_rules.specs.declared.types.OpenFrame.{OpenFrame}
 use Rattle.line_rules.proofs.Covering.{counts_none, counts_same}
 use Rattle.line_rules.proofs.ListFacts.{get_longer, get_push_cases, get_last}
-use Rattle.line_rules.proofs.Paths.{units_push, units_push_frame, units_pop_frame, all_up_to, rest_inside, rest_without, leads_inside}
+use Rattle.line_rules.proofs.Paths.{units_push, units_push_frame, units_pop_frame, all_up_to, rest_inside, rest_without}
+use Rattle.line_rules.proofs.Paths.{leads_inside}
 use Rattle.lemma_core.specs.History.{Item}
 use Rattle.lemma_core.specs.Desks.{DeskView, entries, Keeps}
 use Rattle.lemma_core.specs.Own.{added_of}
@@ -27,7 +29,8 @@ use Rattle.station_search.proofs.Paying.{does_waits, does_both, all_added_both, 
 -- What the steps so far did on the desk, and the units of the frames, come to what was spent; the entries added, the
 -- frames that wait and some room are no more. Where the desk is alone, each event added an entry, and no entry answers
 -- a frame.
-pub record Tally (asked : Option Mode) (kind : LineKind) (line : Line) (X : ℕ) (old new : DeskView) (passed : List OpenFrame) (frame : OpenFrame) (spent room : ℕ) : Type 0 where
+pub record Tally (asked : Option Mode) (kind : LineKind) (line : Line) (X : ℕ) (old new : DeskView)
+    (passed : List OpenFrame) (frame : OpenFrame) (spent room : ℕ) : Type 0 where
   pub items : List Item
   pub published : ℕ
   pub above : ℕ
@@ -41,22 +44,33 @@ pub record Tally (asked : Option Mode) (kind : LineKind) (line : Line) (X : ℕ)
   pub unanswered : old.alone ≡ true → AreUnanswered (entries new) X (passed ++ frame ∷ [])
 
 -- each frame that waits has a task that the set at the end hasn't
-leads_strict : (kind : LineKind) (line : Line) (X : ℕ) (es : List Entry) (fs : List OpenFrame) (R : List Bool) (most : ℕ) (R' : List Bool) (most' : ℕ) → Leads kind line X es R most fs R' most'
+leads_strict : (kind : LineKind) (line : Line) (X : ℕ) (es : List Entry) (fs : List OpenFrame) (R : List Bool)
+    (most : ℕ) (R' : List Bool) (most' : ℕ) → Leads kind line X es R most fs R' most'
     → (k : ℕ) (f : OpenFrame) → slice_get fs k ≡ Some f → (i : ℕ) × (In f.set i × (In R' i → ⊥))
 leads_strict kind line X es [] R most R' most' h k f e = absurd (cc)
 leads_strict kind line X es (g ∷ fs) R most R' most' h zero f e =
     let same : g ≡ f = cc in
     let i : (i : ℕ) × In (taken h.0) i = h.1.2.load.some in
-    let P : OpenFrame → Type 0 = λ z. In z.set i.0 in
-    (i.0, (subst P same (h.1.2.load.within i.0 i.1), λ m. rest_without g.set h.0 i.0 i.1 (leads_inside kind line X es fs (rest g.set h.0) (g.most - 1) R' most' h.1.3 i.0 m)))
-leads_strict kind line X es (g ∷ fs) R most R' most' h (suc k) f e = leads_strict kind line X es fs (rest g.set h.0) (g.most - 1) R' most' h.1.3 k f e
+    let P : OpenFrame → Type 0 = λ z. In z.set i.0 in (
+      i.0,
+      (
+        subst P same (h.1.2.load.within i.0 i.1),
+        λ m. rest_without g.set h.0 i.0 i.1
+            (leads_inside kind line X es fs (rest g.set h.0) (g.most - 1) R' most' h.1.3 i.0 m),
+      ),
+    )
+leads_strict kind line X es (g ∷ fs) R most R' most' h (suc k) f e =
+    leads_strict kind line X es fs (rest g.set h.0) (g.most - 1) R' most' h.1.3 k f e
 
 -- no frame has the set of the rest of a load of the last frame
-rest_differs : (kind : LineKind) (line : Line) (X : ℕ) (es : List Entry) (R : List Bool) (most : ℕ) (passed : List OpenFrame) (frame : OpenFrame) (l : Load) → Leads kind line X es R most passed frame.set frame.most
-    → IsLoad line X frame.mode frame.set l → (k : ℕ) (f : OpenFrame) → slice_get (passed ++ frame ∷ []) k ≡ Some f → f.set ≡ rest frame.set l → ⊥
+rest_differs : (kind : LineKind) (line : Line) (X : ℕ) (es : List Entry) (R : List Bool) (most : ℕ)
+    (passed : List OpenFrame) (frame : OpenFrame) (l : Load) → Leads kind line X es R most passed frame.set frame.most
+    → IsLoad line X frame.mode frame.set l → (k : ℕ) (f : OpenFrame) → slice_get (passed ++ frame ∷ []) k ≡ Some f
+    → f.set ≡ rest frame.set l → ⊥
 rest_differs kind line X es R most passed frame l leads load k f e q = elim (get_push_cases passed frame f k e) [
   | inl h ↦
-      let s : (i : ℕ) × (In f.set i × (In frame.set i → ⊥)) = leads_strict kind line X es passed R most frame.set frame.most leads k f h.1 in
+      let s : (i : ℕ) × (In f.set i × (In frame.set i → ⊥)) =
+      leads_strict kind line X es passed R most frame.set frame.most leads k f h.1 in
       let P : List Bool → Type 0 = λ z. In z s.0 in
       s.1.1 (rest_inside frame.set l s.0 (subst P q s.1.0))
   | inr h ↦
@@ -66,7 +80,8 @@ rest_differs kind line X es R most passed frame l leads load k f e q = elim (get
 ]
 
 -- the questions of the frames stay the same where the last one gets another last load and other cites
-same_questions : (X : ℕ) (es : List Entry) (passed : List OpenFrame) (frame new : OpenFrame) → new.set ≡ frame.set → new.most ≡ frame.most → AreUnanswered es X (passed ++ frame ∷ []) → AreUnanswered es X (passed ++ new ∷ [])
+same_questions : (X : ℕ) (es : List Entry) (passed : List OpenFrame) (frame new : OpenFrame) → new.set ≡ frame.set
+    → new.most ≡ frame.most → AreUnanswered es X (passed ++ frame ∷ []) → AreUnanswered es X (passed ++ new ∷ [])
 same_questions X es passed frame new s m un k f e = elim (get_push_cases passed new f k e) [
   | inl h ↦ un k f (get_longer passed (frame ∷ []) k f h.1)
   | inr h ↦
@@ -77,17 +92,22 @@ same_questions X es passed frame new s m un k f e = elim (get_push_cases passed 
 ]
 
 none_counts : (line : Line) (X : ℕ) (frame : OpenFrame) → frame.last ≡ None → FrameUnits line X frame 0
-none_counts line X frame e = let P : Option Load → Type 0 = λ z. Counts line (λ l. IsLoad line X frame.mode frame.set l × UpTo line z l) 0 in subst P (sym e) (counts_none line (λ l. IsLoad line X frame.mode frame.set l × UpTo line None l) (λ l p. p.1))
+none_counts line X frame e = let P : Option Load → Type 0 =
+    λ z. Counts line (λ l. IsLoad line X frame.mode frame.set l × UpTo line z l) 0 in
+    subst P (sym e) (counts_none line (λ l. IsLoad line X frame.mode frame.set l × UpTo line None l) (λ l p. p.1))
 
 -- a further frame that no entry answers
-one_more : (X : ℕ) (es : List Entry) (passed : List OpenFrame) (frame : OpenFrame) → ((k : ℕ) (f : OpenFrame) → slice_get passed k ≡ Some f → IsUnanswered es f.set f.most X) → IsUnanswered es frame.set frame.most X → AreUnanswered es X (passed ++ frame ∷ [])
+one_more : (X : ℕ) (es : List Entry) (passed : List OpenFrame) (frame : OpenFrame)
+    → ((k : ℕ) (f : OpenFrame) → slice_get passed k ≡ Some f → IsUnanswered es f.set f.most X)
+    → IsUnanswered es frame.set frame.most X → AreUnanswered es X (passed ++ frame ∷ [])
 one_more X es passed frame all un k f e = elim (get_push_cases passed frame f k e) [
   | inl h ↦ all k f h.1
   | inr h ↦ (let P : OpenFrame → Type 0 = λ z. IsUnanswered es z.set z.most X in subst P h.1 un)
 ]
 
 -- the account of a search that did nothing
-pub idle : (asked : Option Mode) (kind : LineKind) (line : Line) (X : ℕ) (old : DeskView) (used most : ℕ) → Accounts asked kind line X old old [] used most
+pub idle : (asked : Option Mode) (kind : LineKind) (line : Line) (X : ℕ) (old : DeskView) (used most : ℕ)
+    → Accounts asked kind line X old old [] used most
 idle asked kind line X old used most = record {
   items = [];
   published = 0;
@@ -99,7 +119,9 @@ idle asked kind line X old used most = record {
 }
 
 module _ (asked : Option Mode) (kind : LineKind) (line : Line) (ranked : IsRanked line) (X : ℕ) (old : DeskView) where
-  pub tally_starts : (frame : OpenFrame) → frame.last ≡ None → (old.alone ≡ true → IsUnanswered (entries old) frame.set frame.most X) → Tally asked kind line X old old [] frame 0 0
+  pub tally_starts : (frame : OpenFrame) → frame.last ≡ None
+      → (old.alone ≡ true → IsUnanswered (entries old) frame.set frame.most X)
+      → Tally asked kind line X old old [] frame 0 0
   tally_starts frame last un = record {
     items = [];
     published = 0;
@@ -115,7 +137,9 @@ module _ (asked : Option Mode) (kind : LineKind) (line : Line) (ranked : IsRanke
   }
 
   -- the frame waits, and a new one is opened
-  pub tally_down : (new : DeskView) (passed : List OpenFrame) (frame below : OpenFrame) (spent : ℕ) → below.last ≡ None → (old.alone ≡ true → IsUnanswered (entries new) below.set below.most X) → Tally asked kind line X old new passed frame spent 1
+  pub tally_down : (new : DeskView) (passed : List OpenFrame) (frame below : OpenFrame) (spent : ℕ) → below.last ≡ None
+      → (old.alone ≡ true → IsUnanswered (entries new) below.set below.most X)
+      → Tally asked kind line X old new passed frame spent 1
       → Tally asked kind line X old new (passed ++ frame ∷ []) below spent 0
   tally_down new passed frame below spent last un t = record {
     items = t.items;
@@ -132,7 +156,9 @@ module _ (asked : Option Mode) (kind : LineKind) (line : Line) (ranked : IsRanke
   }
 
   -- the units ended
-  pub tally_stops : (new : DeskView) (passed : List OpenFrame) (frame : OpenFrame) (spent : ℕ) → Tally asked kind line X old new passed frame spent 0 → Balances asked kind line X old new (passed ++ frame ∷ []) spent spent
+  pub tally_stops : (new : DeskView) (passed : List OpenFrame) (frame : OpenFrame) (spent : ℕ)
+      → Tally asked kind line X old new passed frame spent 0
+      → Balances asked kind line X old new (passed ++ frame ∷ []) spent spent
   tally_stops new passed frame spent t = record {
     items = t.items;
     published = t.published;
@@ -144,9 +170,11 @@ module _ (asked : Option Mode) (kind : LineKind) (line : Line) (ranked : IsRanke
     fresh = t.fresh;
   }
 
-  module _ (mid new : DeskView) (passed : List OpenFrame) (frame : OpenFrame) (spent : ℕ) (before : Keeps old mid) (k : Keeps mid new) (t : Tally asked kind line X old mid passed frame spent 0) where
+  module _ (mid new : DeskView) (passed : List OpenFrame) (frame : OpenFrame) (spent : ℕ) (before : Keeps old mid)
+      (k : Keeps mid new) (t : Tally asked kind line X old mid passed frame spent 0) where
     -- the account after a further step, for a search that gives its frames up
-    pub accounts : (T : List Bool) (m n spent' : ℕ) → DoesFor asked kind line X mid new T m n → n ≤ t.here → spent ≤ spent' → m + spent ≤ length passed + spent' → Accounts asked kind line X old new [] spent' spent'
+    pub accounts : (T : List Bool) (m n spent' : ℕ) → DoesFor asked kind line X mid new T m n → n ≤ t.here
+        → spent ≤ spent' → m + spent ≤ length passed + spent' → Accounts asked kind line X old new [] spent' spent'
     accounts T m n spent' d l more room = record {
       items = t.items ++ d.items;
       published = t.published + n;
@@ -158,8 +186,11 @@ module _ (asked : Option Mode) (kind : LineKind) (line : Line) (ranked : IsRanke
     }
 
     -- a load is listed, and its rest may be published
-    pub tally_lists : (es : List Entry) (R : List Bool) (most : ℕ) (l : Load) (cites : List ℕ) (m room spent' : ℕ) → Leads kind line X es R most passed frame.set frame.most → IsFollowing line X frame.mode frame.set frame.last l
-        → LastIsLoad line X frame.mode frame.set frame.last → DoesFor asked kind line X mid new (rest frame.set l) m 0 → m + room ≤ 1 → spent' ≡ spent + 1 → Tally asked kind line X old new passed (with_cites (with_last frame l) cites) spent' room
+    pub tally_lists : (es : List Entry) (R : List Bool) (most : ℕ) (l : Load) (cites : List ℕ) (m room spent' : ℕ)
+        → Leads kind line X es R most passed frame.set frame.most → IsFollowing line X frame.mode frame.set frame.last l
+        → LastIsLoad line X frame.mode frame.set frame.last → DoesFor asked kind line X mid new (rest frame.set l) m 0
+        → m + room ≤ 1 → spent' ≡ spent + 1 → Tally asked kind line X old new passed
+        (with_cites (with_last frame l) cites) spent' room
     tally_lists es R most l cites m room spent' leads following is_load d less more = record {
       items = t.items ++ d.items;
       published = t.published + 0;
@@ -171,35 +202,44 @@ module _ (asked : Option Mode) (kind : LineKind) (line : Line) (ranked : IsRanke
       sum = omega (arith, more, t.sum);
       few = omega (arith, added_length t.items d.items, d.few, t.few, less, more);
       fresh = λ a. all_added_both t.items d.items (t.fresh a) (d.fresh (before.alone ∙ a));
-      unanswered = λ a. same_questions X (entries new) passed frame (with_cites (with_last frame l) cites) refl refl (λ j f e.
-          unanswered_still asked kind line X mid new (rest frame.set l) m 0 f.set f.most (before.alone ∙ a) k d (rest_differs kind line X es R most passed frame l leads following.load j f e) (t.unanswered a j f e));
+      unanswered = λ a. same_questions X (entries new) passed frame (with_cites (with_last frame l) cites) refl refl
+          (λ j f e.
+          unanswered_still asked kind line X mid new (rest frame.set l) m 0 f.set f.most (before.alone ∙ a) k d
+          (rest_differs kind line X es R most passed frame l leads following.load j f e) (t.unanswered a j f e));
     }
 
-    module _ (is_load : LastIsLoad line X frame.mode frame.set frame.last) (none : (l : Load) → IsLoad line X frame.mode frame.set l → After line frame.last l → ⊥) where
+    module _ (is_load : LastIsLoad line X frame.mode frame.set frame.last)
+        (none : (l : Load) → IsLoad line X frame.mode frame.set l → After line frame.last l → ⊥) where
       -- the frame's loads are all of its set
       pub all_listed : Counts line (IsLoad line X frame.mode frame.set) t.here
-      all_listed = counts_same line (λ l. IsLoad line X frame.mode frame.set l × UpTo line frame.last l) (IsLoad line X frame.mode frame.set) t.here (λ l p. p.0)
+      all_listed = counts_same line (λ l. IsLoad line X frame.mode frame.set l × UpTo line frame.last l)
+          (IsLoad line X frame.mode frame.set) t.here (λ l p. p.0)
           (λ l g. (g, all_up_to line ranked X frame.mode frame.set frame.last is_load none l g)) t.frame_units
 
     -- the question is refuted
-    pub tally_ends : DoesFor asked kind line X mid new frame.set 1 t.here → passed ≡ [] → Balances asked kind line X old new [] spent (spent + 1)
+    pub tally_ends : DoesFor asked kind line X mid new frame.set 1 t.here → passed ≡ []
+        → Balances asked kind line X old new [] spent (spent + 1)
     tally_ends d e = record {
       items = t.items ++ d.items;
       published = t.published + t.here;
       listed = 0;
       done = does_both asked kind line X old mid new t.items d.items t.published t.here before k t.done d.done;
       framed = refl;
-      sum = let P : List OpenFrame → Type 0 = λ z. UnitsIn line X z t.above in let z : t.above ≡ 0 = subst P e t.passed_units in omega (arith, t.sum, z);
+      sum = let P : List OpenFrame → Type 0 = λ z. UnitsIn line X z t.above in
+          let z : t.above ≡ 0 = subst P e t.passed_units in omega (arith, t.sum, z);
       few = omega (arith, added_length t.items d.items, d.few, t.few);
       fresh = λ a. all_added_both t.items d.items (t.fresh a) (d.fresh (before.alone ∙ a));
     }
 
     -- the frame is refuted, and the one above it goes on
-    pub tally_up : (upper : List OpenFrame) (parent : OpenFrame) (cites : List ℕ) (es : List Entry) (R : List Bool) (most : ℕ) → DoesFor asked kind line X mid new frame.set 1 t.here → passed ≡ upper ++ parent ∷ []
-        → Leads kind line X es R most passed frame.set frame.most → Tally asked kind line X old new upper (with_cites parent cites) spent 0
+    pub tally_up : (upper : List OpenFrame) (parent : OpenFrame) (cites : List ℕ) (es : List Entry) (R : List Bool)
+        (most : ℕ) → DoesFor asked kind line X mid new frame.set 1 t.here → passed ≡ upper ++ parent ∷ []
+        → Leads kind line X es R most passed frame.set frame.most
+        → Tally asked kind line X old new upper (with_cites parent cites) spent 0
     tally_up upper parent cites es R most d e leads =
         let U : List OpenFrame → Type 0 = λ z. UnitsIn line X z t.above in
-        let r : (a : ℕ) × (b : ℕ) × (UnitsIn line X upper a × FrameUnits line X parent b × (t.above ≡ a + b)) = units_pop_frame line X upper parent t.above (subst U e t.passed_units) in
+        let r : (a : ℕ) × (b : ℕ) × (UnitsIn line X upper a × FrameUnits line X parent b × (t.above ≡ a + b)) =
+        units_pop_frame line X upper parent t.above (subst U e t.passed_units) in
         record {
           items = t.items ++ d.items;
           published = t.published + t.here;
@@ -209,11 +249,20 @@ module _ (asked : Option Mode) (kind : LineKind) (line : Line) (ranked : IsRanke
           passed_units = r.2.0;
           frame_units = r.2.1;
           sum = omega (arith, t.sum, r.2.2);
-          few = omega (arith, added_length t.items d.items, d.few, t.few, ap (λ (z : List OpenFrame). length z) e, length-append upper (parent ∷ []));
+          few = omega (
+            arith,
+            added_length t.items d.items,
+            d.few,
+            t.few,
+            ap (λ (z : List OpenFrame). length z) e,
+            length-append upper (parent ∷ []),
+          );
           fresh = λ a. all_added_both t.items d.items (t.fresh a) (d.fresh (before.alone ∙ a));
           unanswered = λ a. same_questions X (entries new) upper parent (with_cites parent cites) refl refl (λ j f g.
               let there : slice_get passed j ≡ Some f = ap (λ (z : List OpenFrame). slice_get z j) e ∙ g in
-              let s : (i : ℕ) × (In f.set i × (In frame.set i → ⊥)) = leads_strict kind line X es passed R most frame.set frame.most leads j f there in
-              unanswered_still asked kind line X mid new frame.set 1 t.here f.set f.most (before.alone ∙ a) k d (λ q. let P : List Bool → Type 0 = λ z. In z s.0 in s.1.1 (subst P q s.1.0))
+              let s : (i : ℕ) × (In f.set i × (In frame.set i → ⊥)) =
+              leads_strict kind line X es passed R most frame.set frame.most leads j f there in
+              unanswered_still asked kind line X mid new frame.set 1 t.here f.set f.most (before.alone ∙ a) k d
+              (λ q. let P : List Bool → Type 0 = λ z. In z s.0 in s.1.1 (subst P q s.1.0))
               (t.unanswered a j f (get_longer passed (frame ∷ []) j f there)));
         }

@@ -23,8 +23,10 @@ begins = record {
 
 -- A step of one pass, by which the deque holds `after`: where what it put and took weighs as the difference, the rule
 -- stays.
-stays : (port : ℕ) (v w : Log) (items after : List Piece) (views : List Log) → IsShared items views → get_elem? views port ≡ some v → 0 < v.parts → w.parts ≡ v.parts
-    → ((h : Piece → ℕ) → sum_by h w.own + sum_by h v.got + sum_by h items ≡ sum_by h v.own + sum_by h w.got + sum_by h after) → IsShared after (set views port w)
+stays : (port : ℕ) (v w : Log) (items after : List Piece) (views : List Log) → IsShared items views
+    → get_elem? views port ≡ some v → 0 < v.parts → w.parts ≡ v.parts
+    → ((h : Piece → ℕ) → sum_by h w.own + sum_by h v.got + sum_by h items
+    ≡ sum_by h v.own + sum_by h w.got + sum_by h after) → IsShared after (set views port w)
 stays port v w items after views k at part same weighs = record {
   parts = omega (arith, sum_set (λ (u : Log). u.parts) views port v w at, k.parts);
   pieces = λ h. omega (
@@ -39,13 +41,15 @@ stays port v w items after views k at part same weighs = record {
 
 pub pushes : (port : ℕ) (v : Log) (xs : List Piece) → 0 < v.parts → Pushes IsShared port v xs (λ w. w ≡ pushed v xs)
 pushes port v xs part items views k at =
-    let weighs : (h : Piece → ℕ) → sum_by h (v.own ++ xs) + sum_by h v.got + sum_by h items ≡ sum_by h v.own + sum_by h v.got + sum_by h (items ++ xs) = λ h.
+    let weighs : (h : Piece → ℕ) → sum_by h (v.own ++ xs) + sum_by h v.got + sum_by h items
+    ≡ sum_by h v.own + sum_by h v.got + sum_by h (items ++ xs) = λ h.
     omega (arith, sum_by-append h v.own xs, sum_by-append h items xs) in
     (pushed v xs, stays port v (pushed v xs) items (items ++ xs) views k at part refl weighs, refl)
 
 pub takes : (port : ℕ) (v : Log) → 0 < v.parts → Takes IsShared port v 1 (λ xs w. w ≡ taken v xs)
 takes port v part xs items views some_task one k at =
-    let weighs : (h : Piece → ℕ) → sum_by h v.own + sum_by h v.got + sum_by h (xs ++ items) ≡ sum_by h v.own + sum_by h (v.got ++ xs) + sum_by h items = λ h.
+    let weighs : (h : Piece → ℕ) → sum_by h v.own + sum_by h v.got + sum_by h (xs ++ items)
+    ≡ sum_by h v.own + sum_by h (v.got ++ xs) + sum_by h items = λ h.
     omega (arith, sum_by-append h v.got xs, sum_by-append h xs items) in
     (taken v xs, stays port v (taken v xs) (xs ++ items) items views k at part refl weighs, refl)
 
@@ -54,7 +58,12 @@ forks port v two items views k at =
     let l : Log = log_left v in
     let r : Log = log_right v in
     let vs : List Log = set views port l in record {
-      parts = omega (arith, sum_last (λ (u : Log). u.parts) vs r, sum_set (λ (u : Log). u.parts) views port v l at, k.parts);
+      parts = omega (
+        arith,
+        sum_last (λ (u : Log). u.parts) vs r,
+        sum_set (λ (u : Log). u.parts) views port v l at,
+        k.parts,
+      );
       pieces = λ h. omega (
         arith,
         k.pieces h,
@@ -63,14 +72,20 @@ forks port v two items views k at =
         sum_set (λ (u : Log). sum_by h u.own) views port v l at,
         sum_set (λ (u : Log). sum_by h u.got) views port v l at,
       );
-      idle = each_last Idle vs r (λ j none. absurd (omega arith)) (each_set Idle views port l (λ none. absurd (omega arith)) (λ j u other e. k.idle j u e));
+      idle = each_last Idle vs r (λ j none. absurd (omega arith))
+          (each_set Idle views port l (λ none. absurd (omega arith)) (λ j u other e. k.idle j u e));
     }
 
 pub merges : (port : ℕ) (v : Log) (other : ℕ) (w : Log) → Merges IsShared port v other w (log_both v w) nobody
 merges port v other w items views k at apart there =
     let b : Log = log_both v w in
     let vs : List Log = set views port b in record {
-      parts = omega (arith, sum_set (λ (u : Log). u.parts) views port v b at, sum_set (λ (u : Log). u.parts) vs other w nobody there, k.parts);
+      parts = omega (
+        arith,
+        sum_set (λ (u : Log). u.parts) views port v b at,
+        sum_set (λ (u : Log). u.parts) vs other w nobody there,
+        k.parts,
+      );
       pieces = λ h. omega (
         arith,
         k.pieces h,
@@ -95,6 +110,8 @@ learns port v all items views k at = λ h.
     omega (
       arith,
       k.pieces h,
-      sum_whole (λ (u : Log). u.parts) (λ (u : Log). sum_by h u.own) views port v at full (λ j u e none. ap (λ l. sum_by h l) (k.idle j u e none).0),
-      sum_whole (λ (u : Log). u.parts) (λ (u : Log). sum_by h u.got) views port v at full (λ j u e none. ap (λ l. sum_by h l) (k.idle j u e none).1),
+      sum_whole (λ (u : Log). u.parts) (λ (u : Log). sum_by h u.own) views port v at full
+          (λ j u e none. ap (λ l. sum_by h l) (k.idle j u e none).0),
+      sum_whole (λ (u : Log). u.parts) (λ (u : Log). sum_by h u.got) views port v at full
+          (λ j u e none. ap (λ l. sum_by h l) (k.idle j u e none).1),
     )

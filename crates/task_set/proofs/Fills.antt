@@ -1,5 +1,6 @@
 -- The words of the set of the numbers below n, filled in from the first.
-use Rattle.std.proofs.Common.{◌≡◌, ℕ, ◌+◌, ◌-◌, ◌*◌, ◌^◌, ◌/◌, ◌%◌, ◌<◌, ◌≤◌, false, eqb, List, length, get_or, set, sym, ap, ◌∙◌, inl, inr, arith}
+use Rattle.std.proofs.Common.{◌≡◌, ℕ, ◌+◌, ◌-◌, ◌*◌, ◌^◌, ◌/◌, ◌%◌, ◌<◌, ◌≤◌, false, eqb, List, length, get_or, set}
+use Rattle.std.proofs.Common.{sym, ap, ◌∙◌, inl, inr, arith}
 use Rattle.std.specs.Prelude.{ltb}
 use Rattle.task_set.specs.Truths.{truth_at, truths_of, full_to, AreWords}
 use Rattle.task_set.proofs.Bits.{truths_same}
@@ -28,14 +29,16 @@ pub all_bits : (n i : ℕ) → 64 ≤ n → i < 64 → eqb (bit_at (2 ^ 64 - 1) 
 all_bits n i g l = ap (λ b. eqb b 1) (bit_at_ones 64 i l) ∙ sym (lt-ltb i n (omega arith))
 
 -- a word more
-pub fill : (ws : List ℕ) → AreWords ws → (k n w : ℕ) → k < 16 → ((j : ℕ) → j < 64 → eqb (bit_at w j) 1 ≡ ltb j (n - 64 * k))
+pub fill : (ws : List ℕ) → AreWords ws → (k n w : ℕ) → k < 16
+    → ((j : ℕ) → j < 64 → eqb (bit_at w j) 1 ≡ ltb j (n - 64 * k))
     → ((j : ℕ) → j < 64 * k → truth_at ws j ≡ ltb j n) → (j : ℕ) → j < 64 * (k + 1) → truth_at (set ws k w) j ≡ ltb j n
 fill ws h k n w l bits below j b = elim (cases_eq (j / 64) k) [
   | inl e ↦
       let q : k < length ws = omega (arith, h.sixteen) in
       let r : j % 64 < 64 = omega arith in
       let s : ltb (j % 64) (n - 64 * k) ≡ ltb j n = grind (arith, nat_tests, e) in
-      ap (λ i. eqb (bit_at (get_or (set ws k w) i 0) (j % 64)) 1) e ∙ ap (λ v. eqb (bit_at v (j % 64)) 1) (get_or-set_same ws k w 0 q) ∙ bits (j % 64) r ∙ s
+      ap (λ i. eqb (bit_at (get_or (set ws k w) i 0) (j % 64)) 1) e
+      ∙ ap (λ v. eqb (bit_at v (j % 64)) 1) (get_or-set_same ws k w 0 q) ∙ bits (j % 64) r ∙ s
   | inr d ↦ ap (λ v. eqb (bit_at v (j % 64)) 1) (get_or-set_other ws k (j / 64) w 0 d) ∙ below j (omega arith)
 ]
 

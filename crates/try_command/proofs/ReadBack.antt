@@ -33,14 +33,17 @@ claims_differ : (line : Line) (cert : Certificate) (said : Claim) (l u units i :
 claims_differ line cert (claim.TooLong task) l u units i a b = a
 claims_differ line cert (claim.Bounds lower upper balance es trail) l u units i a b = b
 
-pub not_both : (line : Line) (cert : Certificate) (l u units i : ℕ) → IsAccepted line cert l u units → IsInfeasible line cert i → ⊥
+pub not_both : (line : Line) (cert : Certificate) (l u units i : ℕ) → IsAccepted line cert l u units
+    → IsInfeasible line cert i → ⊥
 not_both line cert l u units i a b = claims_differ line cert cert.claim l u units i a.claim b.claim
 
 -- the bounds with which a certificate is accepted are its own
 claim_once : (line : Line) (cert : Certificate) (said : Claim) (l u units m v more : ℕ)
-    → ClaimIsAccepted cert.kind line cert.ask said l u units → ClaimIsAccepted cert.kind line cert.ask said m v more → (l ≡ m) × (u ≡ v)
+    → ClaimIsAccepted cert.kind line cert.ask said l u units → ClaimIsAccepted cert.kind line cert.ask said m v more
+    → (l ≡ m) × (u ≡ v)
 claim_once line cert (claim.TooLong task) l u units m v more a b = absurd a
 claim_once line cert (claim.Bounds lower upper balance es trail) l u units m v more a b = (a.0 ∙ sym b.0, a.1 ∙ sym b.1)
 
-pub bounds_once : (line : Line) (cert : Certificate) (l u units m v more : ℕ) → IsAccepted line cert l u units → IsAccepted line cert m v more → (l ≡ m) × (u ≡ v)
+pub bounds_once : (line : Line) (cert : Certificate) (l u units m v more : ℕ) → IsAccepted line cert l u units
+    → IsAccepted line cert m v more → (l ≡ m) × (u ≡ v)
 bounds_once line cert l u units m v more a b = claim_once line cert cert.claim l u units m v more a.claim b.claim

@@ -11,7 +11,8 @@ use Rattle.try_command.specs.TryText.{bounds_line}
 use Rattle.try_command.specs.Tried.{alone, IsAcceptable, IsReadAndVerified, IsTold, IsShown}
 use Rattle.try_command.proofs.ReadBack.{bounds_once}
 
-pub acceptable_optimum : (kind : LineKind) (line : Line) (c : ℕ) (b : Assignment) (cert : Certificate) → IsOptimum kind line c b cert → IsAcceptable line cert
+pub acceptable_optimum : (kind : LineKind) (line : Line) (c : ℕ) (b : Assignment) (cert : Certificate)
+    → IsOptimum kind line c b cert → IsAcceptable line cert
 acceptable_optimum kind line c b cert o = record {
   sayable = o.certified.sayable;
   lower = b.stations;
@@ -21,7 +22,8 @@ acceptable_optimum kind line c b cert o = record {
   few = o.certified.few;
 }
 
-pub acceptable_stop : (kind : LineKind) (line : Line) (c N lower : ℕ) (b : Assignment) (cert : Certificate) → IsStop kind line c (alone N) lower b cert → IsAcceptable line cert
+pub acceptable_stop : (kind : LineKind) (line : Line) (c N lower : ℕ) (b : Assignment) (cert : Certificate)
+    → IsStop kind line c (alone N) lower b cert → IsAcceptable line cert
 acceptable_stop kind line c N lower b cert s = record {
   sayable = s.certified.sayable;
   lower = lower;
@@ -32,7 +34,8 @@ acceptable_stop kind line c N lower b cert s = record {
 }
 
 -- the bounds that were found and printed are those of the certificate
-found_as : (line : Line) (cert : Certificate) (l u m v : ℕ) → l ≡ m → u ≡ v → IsReadAndVerified line cert l u → IsReadAndVerified line cert m v
+found_as : (line : Line) (cert : Certificate) (l u m v : ℕ) → l ≡ m → u ≡ v → IsReadAndVerified line cert l u
+    → IsReadAndVerified line cert m v
 found_as line cert l u m v e f r =
     let P : ℕ → Type 0 = λ x. IsReadAndVerified line cert x u in
     let Q : ℕ → Type 0 = λ y. IsReadAndVerified line cert m y in
@@ -42,9 +45,11 @@ line_as : (seed n code l u m v : ℕ) → l ≡ m → u ≡ v → bounds_line se
 line_as seed n code l u m v e f = ap (λ x. bounds_line seed n code x u) e ∙ ap (λ y. bounds_line seed n code m y) f
 
 pub shown_optimum : (kind : LineKind) (line : Line) (seed c : ℕ) (b : Assignment) (cert : Certificate) (r : Report)
-    → IsOptimum kind line c b cert → IsTold line seed ends.Done cert r → (N : ℕ) → IsShown kind line seed (tasks line) c N r.status r.text.items r.kept
+    → IsOptimum kind line c b cert → IsTold line seed ends.Done cert r → (N : ℕ)
+    → IsShown kind line seed (tasks line) c N r.status r.text.items r.kept
 shown_optimum kind line seed c b cert r o t N =
-    let same = bounds_once line cert t.lower t.upper t.units b.stations b.stations o.units t.accepted o.certified.accepted in
+    let same = bounds_once line cert t.lower t.upper t.units b.stations b.stations o.units t.accepted
+    o.certified.accepted in
     record {
       certificate = cert;
       keeps = t.keeps;
@@ -58,7 +63,8 @@ shown_optimum kind line seed c b cert r o t N =
     }
 
 pub shown_stop : (kind : LineKind) (line : Line) (seed c N lower : ℕ) (b : Assignment) (cert : Certificate) (r : Report)
-    → IsStop kind line c (alone N) lower b cert → IsTold line seed ends.Stopped cert r → IsShown kind line seed (tasks line) c N r.status r.text.items r.kept
+    → IsStop kind line c (alone N) lower b cert → IsTold line seed ends.Stopped cert r
+    → IsShown kind line seed (tasks line) c N r.status r.text.items r.kept
 shown_stop kind line seed c N lower b cert r s t =
     let same = bounds_once line cert t.lower t.upper t.units lower b.stations s.units t.accepted s.certified.accepted in
     record {
@@ -85,7 +91,8 @@ status_shown kind line seed n c N r s = elim s.shows [
 
 -- the same said of a number of tasks
 pub shown_of : (kind : LineKind) (line : Line) (seed n c N : ℕ) (r : Report) → tasks line ≡ n
-    → IsShown kind line seed (tasks line) c N r.status r.text.items r.kept → IsShown kind line seed n c N r.status r.text.items r.kept
+    → IsShown kind line seed (tasks line) c N r.status r.text.items r.kept
+    → IsShown kind line seed n c N r.status r.text.items r.kept
 shown_of kind line seed n c N r e s =
     let P : ℕ → Type 0 = λ x. IsShown kind line seed x c N r.status r.text.items r.kept in
     subst P e s

@@ -1,5 +1,6 @@
 -- Cites that are renumbered one after the other, and what an entry keeps whose cites are renumbered.
-use Rattle.std.proofs.Common.{◌≡◌, ℕ, suc, ◌<◌, List, [], ◌∷◌, ◌++◌, length, drop, refl, sym, ap, ◌∙◌, append_assoc, Option, Some, None, get_or}
+use Rattle.std.proofs.Common.{◌≡◌, ℕ, suc, ◌<◌, List, [], ◌∷◌, ◌++◌, length, drop, refl, sym, ap, ◌∙◌, append_assoc}
+use Rattle.std.proofs.Common.{Option, Some, None, get_or}
 use Rattle.std.proofs.Math.Seq.{drop-cons}
 use Rattle.line_rules.specs.declared.types.Entry.{Entry}
 use Rattle.line_rules.specs.declared.types.Why.{Why}
@@ -14,7 +15,8 @@ pub behind_none : (o : Option (List ℕ)) → o ≡ behind [] o
 behind_none None = refl
 behind_none (Some ns) = refl
 
-behind_one : (made : List ℕ) (n : ℕ) (o : Option (List ℕ)) → behind made (with_number (Some n) o) ≡ behind (made ++ n ∷ []) o
+behind_one : (made : List ℕ) (n : ℕ) (o : Option (List ℕ)) → behind made (with_number (Some n) o)
+    ≡ behind (made ++ n ∷ []) o
 behind_one made n None = refl
 behind_one made n (Some ns) = ap (λ (z : List ℕ). Some z) (sym (append_assoc made (n ∷ []) ns))
 

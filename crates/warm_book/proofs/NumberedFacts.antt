@@ -1,5 +1,6 @@
 -- Old entries that were taken are answered in the book, under their numbers.
-use Rattle.std.proofs.Common.{◌≡◌, ℕ, ◌+◌, ◌-◌, ◌<◌, ◌≤◌, List, [], ◌∷◌, ◌++◌, length, take, refl, sym, ap, ◌∙◌, subst, inl, inr, arith, append_assoc, length-append, Option, Some, None}
+use Rattle.std.proofs.Common.{◌≡◌, ℕ, ◌+◌, ◌-◌, ◌<◌, ◌≤◌, List, [], ◌∷◌, ◌++◌, length, take, refl, sym, ap, ◌∙◌, subst}
+use Rattle.std.proofs.Common.{inl, inr, arith, append_assoc, length-append, Option, Some, None}
 use Rattle.std.proofs.lemmas.List.{append-nil}
 use Rattle.std.specs.Prelude.{slice_get, unwrap_or, ◌⊎◌, IfSome}
 use Rattle.line_rules.proofs.ListFacts.{get_longer, get_push_cases, get_last}
@@ -31,27 +32,31 @@ published_answers s e None is = record {
   answers = record { same = refl; stations = omega arith; long = omega arith };
 }
 
-answered_longer : (es more : List Entry) (number : ℕ) (old : Entry) → IsAnsweredAt es number old → IsAnsweredAt (es ++ more) number old
+answered_longer : (es more : List Entry) (number : ℕ) (old : Entry) → IsAnsweredAt es number old
+    → IsAnsweredAt (es ++ more) number old
 answered_longer es more number old h = record {
   entry = h.entry;
   there = get_longer es more number h.entry h.there;
   answers = h.answers;
 }
 
-module _ (room : ℕ) (t next : Taking) (olds : List Entry) (old : Entry) (s : Takes room t old next) (n : AreNumbered t olds) where
+module _ (room : ℕ) (t next : Taking) (olds : List Entry) (old : Entry) (s : Takes room t old next)
+    (n : AreNumbered t olds) where
   earlier_answered : (k number : ℕ) (o : Entry) → slice_get olds k ≡ Some o → slice_get t.numbers k ≡ Some (Some number)
       → IsAnsweredAt next.book.state.entries number o
   earlier_answered k number o there is =
       let a = step_adds room t next old s in
       let P : List Entry → Type 0 = λ z. IsAnsweredAt z number o in
-      subst P (sym a.entries) (answered_longer t.book.state.entries a.added number o (n.each k number o there (ap number_at is)))
+      subst P (sym a.entries) (answered_longer t.book.state.entries a.added number o
+      (n.each k number o there (ap number_at is)))
 
   -- one old entry more, with this number in the book or none
   module _ (last : Option ℕ) (numbers_are : next.numbers ≡ t.numbers ++ last ∷ [])
       (answered : (number : ℕ) → last ≡ Some number → IsAnsweredAt next.book.state.entries number old) where
     each_by : (k number : ℕ) (o : Entry)
         → ((k < length olds) × (slice_get olds k ≡ Some o)) ⊎ ((k ≡ length olds) × (old ≡ o))
-        → ((k < length t.numbers) × (slice_get t.numbers k ≡ Some (Some number))) ⊎ ((k ≡ length t.numbers) × (last ≡ Some number))
+        → ((k < length t.numbers) × (slice_get t.numbers k ≡ Some (Some number)))
+        ⊎ ((k ≡ length t.numbers) × (last ≡ Some number))
         → IsAnsweredAt next.book.state.entries number o
     each_by k number o (inl a) (inl b) = earlier_answered k number o a.1 b.1
     each_by k number o (inl a) (inr b) = absurd (omega (arith, a.0, b.0, n.many))
@@ -67,20 +72,25 @@ module _ (room : ℕ) (t next : Taking) (olds : List Entry) (old : Entry) (s : T
       each = λ k number o there is.
           let P : List (Option ℕ) → Type 0 = λ z. slice_get z k ≡ Some (Some number) in
           each_by k number o (get_push_cases olds old o k there)
-          (get_push_cases t.numbers last (Some number) k (subst P numbers_are (number_is (slice_get next.numbers k) number is)));
+          (get_push_cases t.numbers last (Some number) k (subst P numbers_are
+          (number_is (slice_get next.numbers k) number is)));
     }
 
-kept_numbered : (room : ℕ) (t next : Taking) (olds : List Entry) (old new : Entry) (units : ℕ) → IsKept room t old new units
+kept_numbered : (room : ℕ) (t next : Taking) (olds : List Entry) (old new : Entry) (units : ℕ)
+    → IsKept room t old new units
     → next ≡ keeping t new units → Takes room t old next → AreNumbered t olds → AreNumbered next (olds ++ old ∷ [])
 kept_numbered room t next olds old new units k is s n =
-    numbered_more room t next olds old s n (Some (number_of t.book.state new)) (ap (λ (z : Taking). z.numbers) is) answered
+    numbered_more room t next olds old s n (Some (number_of t.book.state new)) (ap (λ (z : Taking). z.numbers) is)
+    answered
   where
-    answered : (number : ℕ) → Some (number_of t.book.state new) ≡ Some number → IsAnsweredAt next.book.state.entries number old
+    answered : (number : ℕ) → Some (number_of t.book.state new) ≡ Some number
+        → IsAnsweredAt next.book.state.entries number old
     answered number same =
         let q : number_of t.book.state new ≡ number = cc in
         let h = published_answers t.book.state new (last_answer t.book.state.entries new.set new.most new.cycle) refl in
         let asks = asks_same t.numbers old new k.cites in
-        let e : next.book.state.entries ≡ (ran t.book (event.Publish new ∷ [])).state.entries = ap (λ (z : Taking). z.book.state.entries) is in
+        let e : next.book.state.entries ≡ (ran t.book (event.Publish new ∷ [])).state.entries =
+        ap (λ (z : Taking). z.book.state.entries) is in
         let P : List Entry → Type 0 = λ z. IsAnsweredAt z number old in
         let Q : ℕ → Type 0 = λ z. IsAnsweredAt (ran t.book (event.Publish new ∷ [])).state.entries z old in
         subst P (sym e) (subst Q q (record {
@@ -93,19 +103,22 @@ kept_numbered room t next olds old new units k is s n =
           };
         }))
 
-dropped_numbered : (room : ℕ) (t next : Taking) (olds : List Entry) (old : Entry) → next ≡ dropping t → Takes room t old next
+dropped_numbered : (room : ℕ) (t next : Taking) (olds : List Entry) (old : Entry) → next ≡ dropping t
+    → Takes room t old next
     → AreNumbered t olds → AreNumbered next (olds ++ old ∷ [])
 dropped_numbered room t next olds old is s n =
     numbered_more room t next olds old s n None (ap (λ (z : Taking). z.numbers) is) (λ number same. absurd (cc))
 
-one_numbered : (room : ℕ) (t next : Taking) (olds : List Entry) (old : Entry) → Takes room t old next → AreNumbered t olds
+one_numbered : (room : ℕ) (t next : Taking) (olds : List Entry) (old : Entry) → Takes room t old next
+    → AreNumbered t olds
     → AreNumbered next (olds ++ old ∷ [])
 one_numbered room t next olds old s n = elim s [
   | inl k ↦ kept_numbered room t next olds old k.0 k.1 k.2.0 k.2.1 (inl k) n
   | inr d ↦ dropped_numbered room t next olds old d.1 (inr d) n
 ]
 
-all_numbered : (room : ℕ) (t : Taking) (before olds : List Entry) (end : Taking) → TakesAll room t olds end → AreNumbered t before
+all_numbered : (room : ℕ) (t : Taking) (before olds : List Entry) (end : Taking) → TakesAll room t olds end
+    → AreNumbered t before
     → AreNumbered end (before ++ olds)
 all_numbered room t before [] end h n =
     let P : Taking → Type 0 = λ z. AreNumbered z (before ++ []) in
@@ -117,15 +130,18 @@ all_numbered room t before (old ∷ olds) end h n =
     (all_numbered room h.0 (before ++ old ∷ []) olds end h.1.1 (one_numbered room t h.0 before old h.1.0 n))
 
 -- the old entries that a book took in have their numbers there
-pub numbered : (room : ℕ) (b : BookView) (olds : List Entry) (end : Taking) → TakesAll room (untaken b) olds end → AreNumbered end olds
+pub numbered : (room : ℕ) (b : BookView) (olds : List Entry) (end : Taking) → TakesAll room (untaken b) olds end
+    → AreNumbered end olds
 numbered room b olds end h = all_numbered room (untaken b) [] olds end h (record {
   many = refl;
   each = λ k number o there is. absurd (cc);
 })
 
 -- what a walk among the old entries found of the next one is spared in the book
-pub spared_next : (room : ℕ) (b : BookView) (t : Taking) (olds : List Entry) (old : Entry) (from k : ℕ) (kind : LineKind) (line : Line)
-    (walked : List (Option ℕ)) → TakesAll room (untaken b) (take k olds) t → AreWalked kind line olds from walked → from ≤ k
+pub spared_next : (room : ℕ) (b : BookView) (t : Taking) (olds : List Entry) (old : Entry) (from k : ℕ)
+    (kind : LineKind) (line : Line)
+    (walked : List (Option ℕ)) → TakesAll room (untaken b) (take k olds) t → AreWalked kind line olds from walked
+    → from ≤ k
     → slice_get olds k ≡ Some old → t.book.about.kind ≡ kind → t.book.about.line ≡ line
     → (w : Option ℕ) → IfSome w (λ units. slice_get walked (k - from) ≡ Some (Some units)) → IsSpared t old w
 spared_next room b t olds old from k kind line walked h a within there kind_is line_is None g = tt

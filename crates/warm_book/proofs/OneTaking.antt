@@ -28,7 +28,8 @@ taken_once room t old a b (inl k) (inr d) = absurd (d.0 k.0 k.1 k.2.0)
 taken_once room t old a b (inr d) (inl k) = absurd (d.0 k.0 k.1 k.2.0)
 taken_once room t old a b (inr d) (inr e) = d.1 ∙ sym e.1
 
-all_once : (room : ℕ) (t : Taking) (olds : List Entry) (a b : Taking) → TakesAll room t olds a → TakesAll room t olds b → a ≡ b
+all_once : (room : ℕ) (t : Taking) (olds : List Entry) (a b : Taking) → TakesAll room t olds a → TakesAll room t olds b
+    → a ≡ b
 all_once room t [] a b h g = sym h ∙ g
 all_once room t (old ∷ olds) a b h g =
     let P : Taking → Type 0 = λ z. TakesAll room z olds a in

@@ -34,5 +34,6 @@ module _ (kind : LineKind) (line : Line) (olds : List Entry) (from many : ℕ) w
         each = λ j units g.
             let M : Option (Option ℕ) → Type 0 =
             λ o. MatchOption o (Unit {0}) (λ w. IsSomeAnd (slice_get (range_with_len from many) j) (λ k. R k w)) in
-            at_place j units (slice_get (range_with_len from many) j) refl (subst M g (AllZip-right R (range_with_len from many) ws zipped j));
+            at_place j units (slice_get (range_with_len from many) j) refl
+            (subst M g (AllZip-right R (range_with_len from many) ws zipped j));
       })

@@ -1,5 +1,6 @@
 -- What taking in old entries does to a book.
-use Rattle.std.proofs.Common.{◌≡◌, ℕ, zero, suc, ◌+◌, ◌-◌, ◌≤◌, List, [], ◌∷◌, ◌++◌, length, take, refl, sym, ap, ◌∙◌, subst, inl, inr, arith, append_assoc, Option, Some, None}
+use Rattle.std.proofs.Common.{◌≡◌, ℕ, zero, suc, ◌+◌, ◌-◌, ◌≤◌, List, [], ◌∷◌, ◌++◌, length, take, refl, sym, ap, ◌∙◌}
+use Rattle.std.proofs.Common.{subst, inl, inr, arith, append_assoc, Option, Some, None}
 use Rattle.std.proofs.lemmas.List.{append-nil}
 use Rattle.std.specs.Prelude.{slice_get}
 use Rattle.line_rules.specs.Entries.{Follows}
@@ -209,13 +210,15 @@ one_kept room t next old s = elim s [
   | inr d ↦ omega (arith, ap (λ (z : Taking). z.kept) d.1)
 ]
 
-kept_from : (room : ℕ) (t : Taking) (olds : List Entry) (end : Taking) → TakesAll room t olds end → end.kept ≤ t.kept + length olds
+kept_from : (room : ℕ) (t : Taking) (olds : List Entry) (end : Taking) → TakesAll room t olds end
+    → end.kept ≤ t.kept + length olds
 kept_from room t [] end h = omega (arith, ap (λ (z : Taking). z.kept) h)
 kept_from room t (old ∷ olds) end h =
     omega (arith, one_kept room t h.0 old h.1.0, kept_from room h.0 olds end h.1.1)
 
 -- at most so many are kept as there are
-pub all_kept : (room : ℕ) (b : BookView) (olds : List Entry) (end : Taking) → TakesAll room (untaken b) olds end → end.kept ≤ length olds
+pub all_kept : (room : ℕ) (b : BookView) (olds : List Entry) (end : Taking) → TakesAll room (untaken b) olds end
+    → end.kept ≤ length olds
 all_kept room b olds end h = omega (arith, kept_from room (untaken b) olds end h)
 
 -- a book that took in old entries is warmer

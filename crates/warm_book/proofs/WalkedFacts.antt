@@ -1,5 +1,6 @@
 -- What follows from old entries follows from a list that answers each of them under its number.
-use Rattle.std.proofs.Common.{◌≡◌, ℕ, zero, suc, Bool, List, [], ◌∷◌, length, refl, sym, ap, ◌∙◌, subst, arith, Option, Some, None}
+use Rattle.std.proofs.Common.{◌≡◌, ℕ, zero, suc, Bool, List, [], ◌∷◌, length, refl, sym, ap, ◌∙◌, subst, arith, Option}
+use Rattle.std.proofs.Common.{Some, None}
 use Rattle.std.specs.Prelude.{slice_get, IfSome}
 use Rattle.task_set.specs.Truths.{In, IsSubset}
 use Rattle.line_instance.specs.Line.{Line}
@@ -11,7 +12,8 @@ use Rattle.line_rules.specs.declared.types.Load.{Load}
 use Rattle.line_rules.specs.declared.types.Entry.{Entry}
 use Rattle.line_rules.specs.declared.types.Why.{Why}
 use Rattle.line_rules.specs.declared.types.Why.TheVariants as why
-use Rattle.warm_book.specs.Warm.{Taking, new_number, with_number, renumbered_cites, by_branch, by_swap, renumbered_why, with_why, renumbered}
+use Rattle.warm_book.specs.Warm.{Taking, new_number, with_number, renumbered_cites, by_branch, by_swap, renumbered_why}
+use Rattle.warm_book.specs.Warm.{with_why, renumbered}
 use Rattle.warm_book.specs.inner.Walked.{IsAnsweredAt, IsWalked, IsSpared}
 
 -- a number is that of the cite at its place
@@ -26,7 +28,8 @@ with_number_parts None r ns e = absurd (cc)
 with_number_parts (Some n) None ns e = absurd (cc)
 with_number_parts (Some n) (Some rest) ns e = (n, rest, (refl, refl, cc))
 
-numbers_as_many : (numbers : List (Option ℕ)) (cites ns : List ℕ) → renumbered_cites numbers cites ≡ Some ns → length ns ≡ length cites
+numbers_as_many : (numbers : List (Option ℕ)) (cites ns : List ℕ) → renumbered_cites numbers cites ≡ Some ns
+    → length ns ≡ length cites
 numbers_as_many numbers [] ns e =
     let s : [] ≡ ns = cc in
     ap (λ (z : List ℕ). length z) (sym s)
@@ -34,7 +37,8 @@ numbers_as_many numbers (cite ∷ cites) ns e =
     let s = with_number_parts (new_number numbers cite) (renumbered_cites numbers cites) ns e in
     ap (λ (z : List ℕ). length z) (sym s.2.2) ∙ ap suc (numbers_as_many numbers cites s.1 s.2.1)
 
-cite_in_front : (numbers : List (Option ℕ)) (cite : ℕ) (cites : List ℕ) (n : ℕ) (rest : List ℕ) → new_number numbers cite ≡ Some n
+cite_in_front : (numbers : List (Option ℕ)) (cite : ℕ) (cites : List ℕ) (n : ℕ) (rest : List ℕ)
+    → new_number numbers cite ≡ Some n
     → ((p number : ℕ) → slice_get rest p ≡ Some number → IsCiteAt numbers cites p number)
     → (p number : ℕ) → slice_get (n ∷ rest) p ≡ Some number → IsCiteAt numbers (cite ∷ cites) p number
 cite_in_front numbers cite cites n rest is behind zero number g = record { cite = cite; there = refl; is = is ∙ g }
@@ -68,13 +72,16 @@ by_swap_parts out into (Some n) v e = (n, (refl, cc))
 abbrev because : Entry → Why → Entry
 because e w = record { set = e.set; most = e.most; cycle = e.cycle; why = w }
 
-with_why_parts : (e new : Entry) (o : Option Why) → with_why e o ≡ Some new → (w : Why) × ((o ≡ Some w) × (because e w ≡ new))
+with_why_parts : (e new : Entry) (o : Option Why) → with_why e o ≡ Some new
+    → (w : Why) × ((o ≡ Some w) × (because e w ≡ new))
 with_why_parts e new None h = absurd (cc)
 with_why_parts e new (Some w) h = (w, (refl, cc))
 
 module _ (kind : LineKind) (line : Line) (numbers : List (Option ℕ)) (olds es : List Entry)
-    (answered : (k number : ℕ) (old : Entry) → slice_get olds k ≡ Some old → new_number numbers k ≡ Some number → IsAnsweredAt es number old) where
-  refutes_there : (cite number : ℕ) (T : List Bool) (r c : ℕ) → new_number numbers cite ≡ Some number → Cites olds cite T r c → Cites es number T r c
+    (answered : (k number : ℕ) (old : Entry) → slice_get olds k ≡ Some old → new_number numbers k ≡ Some number
+    → IsAnsweredAt es number old) where
+  refutes_there : (cite number : ℕ) (T : List Bool) (r c : ℕ) → new_number numbers cite ≡ Some number
+      → Cites olds cite T r c → Cites es number T r c
   refutes_there cite number T r c is h =
       let a = answered cite number h.entry h.there is in
       let P : List Bool → Type 0 = λ z. IsSubset z T in
@@ -86,7 +93,8 @@ module _ (kind : LineKind) (line : Line) (numbers : List (Option ℕ)) (olds es 
         cycle = omega (arith, h.cycle, a.answers.long);
       }
 
-  covers_there : (P : Load → Type 0) (R : List Bool) (most c : ℕ) (cites ns : List ℕ) → renumbered_cites numbers cites ≡ Some ns
+  covers_there : (P : Load → Type 0) (R : List Bool) (most c : ℕ) (cites ns : List ℕ)
+      → renumbered_cites numbers cites ≡ Some ns
       → Covers line P olds R most c cites → Covers line P es R most c ns
   covers_there P R most c cites ns is h = record {
     loads = h.loads;
@@ -130,7 +138,8 @@ module _ (kind : LineKind) (line : Line) (numbers : List (Option ℕ)) (olds es 
         some = h.some;
         stations = h.stations;
         belongs = h.belongs;
-        covers = covers_there (IsOpen kind line e.cycle mode e.set e.most) e.set e.most e.cycle cites s.0 s.1.0 h.covers;
+        covers = covers_there (IsOpen kind line e.cycle mode e.set e.most) e.set e.most e.cycle cites s.0 s.1.0
+            h.covers;
       })
   follows_there_by e x (why.Swap cite out into) v is h =
       let s = by_swap_parts out into (new_number numbers cite) v is in
@@ -168,11 +177,13 @@ module _ (kind : LineKind) (line : Line) (numbers : List (Option ℕ)) (olds es 
       })
 
 -- what is spared of an old entry is known of the entry with its cites renumbered
-pub spared_walks : (t : Taking) (old new : Entry) (line : Line) → t.book.about.line ≡ line → renumbered t.numbers old ≡ Some new
+pub spared_walks : (t : Taking) (old new : Entry) (line : Line) → t.book.about.line ≡ line
+    → renumbered t.numbers old ≡ Some new
     → (walked : Option ℕ) → IsSpared t old walked
     → IfSome walked (λ units. IsWalked t.book.about.kind line t.book.state.entries new units)
 spared_walks t old new line line_is is None spared = tt
 spared_walks t old new line line_is is (Some units) spared =
     let L : Line → Type 0 = λ z. IsWalked t.book.about.kind z t.book.state.entries new units in
-    subst L line_is (walked_there t.book.about.kind t.book.about.line t.numbers spared.0 t.book.state.entries spared.1.0.each
+    subst L line_is (walked_there t.book.about.kind t.book.about.line t.numbers spared.0 t.book.state.entries
+    spared.1.0.each
     old new units is spared.1.1)

@@ -22,7 +22,8 @@ AreCited es R most c [] (l ∷ ls) = ⊥
 AreCited es R most c (k ∷ ks) [] = ⊥
 AreCited es R most c (k ∷ ks) (l ∷ ls) = Cites es k (rest R l) (most - 1) c × AreCited es R most c ks ls
 
-as_many : (es : List Entry) (R : List Bool) (most c : ℕ) (ks : List ℕ) (ls : List Load) → AreCited es R most c ks ls → length ks ≡ length ls
+as_many : (es : List Entry) (R : List Bool) (most c : ℕ) (ks : List ℕ) (ls : List Load) → AreCited es R most c ks ls
+    → length ks ≡ length ls
 as_many es R most c [] [] h = refl
 as_many es R most c [] (l ∷ ls) h = absurd h
 as_many es R most c (k ∷ ks) [] h = absurd h
@@ -39,8 +40,10 @@ cited_at es R most c (x ∷ xs) (y ∷ ys) h zero k l e f =
     subst P (same_Some x k e) (subst Q (same_Some y l f) h.0)
 cited_at es R most c (x ∷ xs) (y ∷ ys) h (suc p) k l e f = cited_at es R most c xs ys h.1 p k l e f
 
-pub branch_follows : (kind : LineKind) (line : Line) (small : tasks line ≤ 1024) (ranked : IsRanked line) (es : List Entry) (R : List Bool) (set : IsTaskSet line R) (most c : ℕ) (mode : Mode)
-    → ((i : ℕ) × In R i) → 1 ≤ most → 1 ≤ c → Belongs kind mode → (ks : List ℕ) (ls : List Load) → open_of line small ranked c R set kind mode most ≡ ls → AreCited es R most c ks ls
+pub branch_follows : (kind : LineKind) (line : Line) (small : tasks line ≤ 1024) (ranked : IsRanked line)
+    (es : List Entry) (R : List Bool) (set : IsTaskSet line R) (most c : ℕ) (mode : Mode)
+    → ((i : ℕ) × In R i) → 1 ≤ most → 1 ≤ c → Belongs kind mode → (ks : List ℕ) (ls : List Load)
+    → open_of line small ranked c R set kind mode most ≡ ls → AreCited es R most c ks ls
     → Follows kind line es (record { set = R; most = most; cycle = c; why = why.Branch mode ks })
 branch_follows kind line small ranked es R set most c mode some one cycle belongs ks ls computed h =
     let P : List Load → Type 0 = λ z. Lists line (IsOpen kind line c mode R most) z in
@@ -51,6 +54,11 @@ branch_follows kind line small ranked es R set most c mode some one cycle belong
         some = some;
         stations = one;
         belongs = belongs;
-        covers = record { loads = ls; listed = subst P computed (open_listed line small ranked c R set kind mode most); as_many = as_many es R most c ks ls h; cited = cited_at es R most c ks ls h };
+        covers = record {
+          loads = ls;
+          listed = subst P computed (open_listed line small ranked c R set kind mode most);
+          as_many = as_many es R most c ks ls h;
+          cited = cited_at es R most c ks ls h;
+        };
       };
     }

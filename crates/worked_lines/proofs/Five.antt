@@ -1,5 +1,6 @@
 -- The five tasks of the worked rows: their loads, and their certificate.
-use Rattle.std.proofs.Common.{◌≡◌, ℕ, zero, suc, ◌<◌, ◌≤◌, true, ◌&&◌, nat_eq, List, [], ◌∷◌, ◌++◌, length, refl, sym, subst, inl, inr, Some, arith}
+use Rattle.std.proofs.Common.{◌≡◌, ℕ, zero, suc, ◌<◌, ◌≤◌, true, ◌&&◌, nat_eq, List, [], ◌∷◌, ◌++◌, length, refl, sym}
+use Rattle.std.proofs.Common.{subst, inl, inr, Some, arith}
 use Rattle.std.specs.Prelude.{slice_get, slice_index_or}
 use Rattle.std.proofs.lemmas.Bool.{cases_lt, cases_Bool, and_parts}
 use Rattle.std.proofs.lemmas.Bool.Decides.{nat_tests}
@@ -14,7 +15,8 @@ use Rattle.line_rules.specs.Entries.{IsOpen, Follows, IsDerived, Answers, HasAns
 use Rattle.line_rules.specs.Units.{UnitsOf, FrameUnits}
 use Rattle.line_rules.specs.Trails.{IsDeepest, IsUnansweredAt, IsOpenOver}
 use Rattle.line_rules.specs.Accepted.{IsAccepted}
-use Rattle.worked_lines.specs.Rows.{five_free, fifteen_loads, seven_full_loads, load_of, five_bound, five_frame, five_stopped, at, five_entry, five_certificate, CertificateOfTheRows}
+use Rattle.worked_lines.specs.Rows.{five_free, fifteen_loads, seven_full_loads, load_of, five_bound, five_frame}
+use Rattle.worked_lines.specs.Rows.{five_stopped, at, five_entry, five_certificate, CertificateOfTheRows}
 use Rattle.line_rules.specs.declared.types.LineKind.TheVariants.{Straight}
 use Rattle.line_rules.specs.declared.types.Side.TheVariants.{Front}
 use Rattle.line_rules.specs.declared.types.Mode.TheVariants.{Fore, Both}
@@ -60,14 +62,17 @@ five_loads =
     let P : List Load → Type 0 = λ ls. Lists five_free (IsLoad five_free 7 Fore (all_tasks five_free)) ls in
     subst P loads_are (loads_listed five_free five_few five_ranked 7 (all_tasks five_free) five_all Fore)
 
-five_full : Lists five_free (λ l. IsLoad five_free 7 Fore (all_tasks five_free) l × IsFull five_free 7 Fore (all_tasks five_free) l) seven_full_loads
+five_full : Lists five_free (λ l. IsLoad five_free 7 Fore (all_tasks five_free) l
+    × IsFull five_free 7 Fore (all_tasks five_free) l) seven_full_loads
 five_full =
-    let P : List Load → Type 0 = λ ls. Lists five_free (λ l. IsLoad five_free 7 Fore (all_tasks five_free) l × IsFull five_free 7 Fore (all_tasks five_free) l) ls in
+    let P : List Load → Type 0 = λ ls. Lists five_free (λ l. IsLoad five_free 7 Fore (all_tasks five_free) l
+    × IsFull five_free 7 Fore (all_tasks five_free) l) ls in
     subst P full_are (full_listed five_free five_few five_ranked 7 (all_tasks five_free) five_all Fore)
 
 five_follows : Follows Straight five_free [] five_entry
 five_follows =
-    branch_follows Straight five_free five_few five_ranked [] (all_tasks five_free) five_all 2 7 Fore (0, In-all five_free 0 five_few (omega arith)) (omega arith) (omega arith) tt [] [] none_open tt
+    branch_follows Straight five_free five_few five_ranked [] (all_tasks five_free) five_all 2 7 Fore
+    (0, In-all five_free 0 five_few (omega arith)) (omega arith) (omega arith) tt [] [] none_open tt
 
 five_derived : IsDerived Straight five_free (five_entry ∷ [])
 five_derived = derived_push Straight five_free [] five_entry (λ k e h. absurd (get_none k e h)) five_follows
@@ -104,7 +109,8 @@ times_at (suc (suc (suc (suc s)))) l = absurd (omega arith)
 none_past : (s : ℕ) → 4 ≤ s → time_at five_free (all_tasks five_free) (seat five_places) s ≡ 0
 none_past s g = weigh-none (λ t. t) (λ i. has (all_tasks five_free) i && nat_eq (seat five_places i).station s)
     (λ i. elim (cases_Bool (has (all_tasks five_free) i && nat_eq (seat five_places i).station s)) [
-      | inl y ↦ (let q : (has (all_tasks five_free) i ≡ true) × (nat_eq (seat five_places i).station s ≡ true) = and_parts (has (all_tasks five_free) i) (nat_eq (seat five_places i).station s) y in
+      | inl y ↦ (let q : (has (all_tasks five_free) i ≡ true) × (nat_eq (seat five_places i).station s ≡ true) =
+          and_parts (has (all_tasks five_free) i) (nat_eq (seat five_places i).station s) y in
           let e : (seat five_places i).station ≡ s = grind (arith, nat_tests, q.1) in
           absurd (omega (arith, e, g, (seated i q.0).1)))
       | inr n ↦ n
@@ -113,7 +119,8 @@ none_past s g = weigh-none (λ t. t) (λ i. has (all_tasks five_free) i && nat_e
 fits_six : (s : ℕ) → time_at five_free (all_tasks five_free) (seat five_places) s ≤ 6
 fits_six s = elim (cases_lt s 4) [ inl l ↦ times_at s l | inr g ↦ omega (arith, none_past s g) ]
 
-five_right : (c : ℕ) → 6 ≤ c → IsRight Straight five_free c (record { stations = 3; place = at 1 ∷ at 2 ∷ at 1 ∷ at 2 ∷ at 3 ∷ [] })
+five_right : (c : ℕ) → 6 ≤ c → IsRight Straight five_free c
+    (record { stations = 3; place = at 1 ∷ at 2 ∷ at 1 ∷ at 2 ∷ at 3 ∷ [] })
 unfolding five_places
 five_right c six = record {
   each = refl;
@@ -160,7 +167,8 @@ no_answer h =
 
 first_thirteen : List Load
 first_thirteen =
-    load_of (4 ∷ []) ∷ load_of (3 ∷ []) ∷ load_of (3 ∷ 4 ∷ []) ∷ load_of (2 ∷ []) ∷ load_of (2 ∷ 4 ∷ []) ∷ load_of (2 ∷ 3 ∷ []) ∷ load_of (2 ∷ 3 ∷ 4 ∷ [])
+    load_of (4 ∷ []) ∷ load_of (3 ∷ []) ∷ load_of (3 ∷ 4 ∷ []) ∷ load_of (2 ∷ []) ∷ load_of (2 ∷ 4 ∷ []) ∷ load_of
+    (2 ∷ 3 ∷ []) ∷ load_of (2 ∷ 3 ∷ 4 ∷ [])
     ∷ load_of (1 ∷ []) ∷ load_of (1 ∷ 4 ∷ []) ∷ load_of (1 ∷ 3 ∷ []) ∷ load_of (1 ∷ 2 ∷ [])
     ∷ load_of (0 ∷ []) ∷ load_of (0 ∷ 4 ∷ []) ∷ []
 
@@ -168,14 +176,17 @@ frame_units : FrameUnits five_free 7 five_frame 14
 unfolding first_thirteen
 frame_units = record {
   loads = first_thirteen ++ load_of (0 ∷ 3 ∷ []) ∷ [];
-  listed = up_to_listed five_free (IsLoad five_free 7 Fore (all_tasks five_free)) first_thirteen (load_of (0 ∷ 3 ∷ [])) (load_of (0 ∷ 2 ∷ []) ∷ []) five_loads;
+  listed = up_to_listed five_free (IsLoad five_free 7 Fore (all_tasks five_free)) first_thirteen (load_of (0 ∷ 3 ∷ []))
+      (load_of (0 ∷ 2 ∷ []) ∷ []) five_loads;
   long = refl;
 }
 
 frame_deepest : (es : List Entry) → IsDeepest Straight five_free 7 es five_frame
 frame_deepest es =
     let P : List Load → Type 0 = λ ls. Lists five_free (IsOpen Straight five_free 7 Fore (all_tasks five_free) 2) ls in
-    let none : Lists five_free (IsOpen Straight five_free 7 Fore (all_tasks five_free) 2) [] = subst P none_open (open_listed five_free five_few five_ranked 7 (all_tasks five_free) five_all Straight Fore 2) in
+    let none : Lists five_free (IsOpen Straight five_free 7 Fore (all_tasks five_free) 2) [] =
+    subst P none_open (open_listed five_free five_few five_ranked 7 (all_tasks five_free) five_all Straight Fore
+    2) in
     record {
       belongs = tt;
       last = five_loads.sound 13 (load_of (0 ∷ 3 ∷ [])) refl;
@@ -196,7 +207,8 @@ unfolding full_to bound lm1 lm2 lm3 sixths head tail chained
 bound_is_two = refl
 
 five_bound_derived : IsDerived Straight five_free (five_bound ∷ [])
-five_bound_derived = derived_push Straight five_free [] five_bound (λ k e h. absurd (get_none k e h)) (record { set = five_all; cycle = omega arith; by = omega (arith, bound_is_two) })
+five_bound_derived = derived_push Straight five_free [] five_bound (λ k e h. absurd (get_none k e h))
+    (record { set = five_all; cycle = omega arith; by = omega (arith, bound_is_two) })
 
 stopped_accepted : IsAccepted five_free five_stopped 2 3 14
 stopped_accepted = record {
@@ -209,7 +221,17 @@ stopped_accepted = record {
       stations = refl;
       derived = five_bound_derived;
       goal = λ more. (0, five_bound, (refl, record { same = refl; stations = omega arith; long = omega arith }));
-      trail = (2, (refl, omega arith, omega arith), record { passed = []; deepest = five_frame; all = refl; leads = (refl, refl); deep = frame_deepest (five_bound ∷ []) });
+      trail = (
+        2,
+        (refl, omega arith, omega arith),
+        record {
+          passed = [];
+          deepest = five_frame;
+          all = refl;
+          leads = (refl, refl);
+          deep = frame_deepest (five_bound ∷ []);
+        },
+      );
     },
     (0, 14, ((0, 0, (refl, refl, refl)), (14, 0, (frame_units, refl, refl)), refl)),
   );
@@ -230,10 +252,15 @@ bound_is_short e same a =
     omega (arith, stations)
 
 -- the load that the search was about to try
-further_load : (f : OpenFrame) → f ≡ five_frame → (l : Load) × IsLoad five_free 7 f.mode f.set l × After five_free f.last l
+further_load : (f : OpenFrame) → f ≡ five_frame → (l : Load) × IsLoad five_free 7 f.mode f.set l
+    × After five_free f.last l
 further_load f same =
     let P : OpenFrame → Type 0 = λ g. (l : Load) × IsLoad five_free 7 g.mode g.set l × After five_free g.last l in
-    subst P (sym same) (load_of (0 ∷ 2 ∷ []), five_loads.sound 14 (load_of (0 ∷ 2 ∷ [])) refl, five_loads.rises 13 (load_of (0 ∷ 3 ∷ [])) (load_of (0 ∷ 2 ∷ [])) refl refl)
+    subst P (sym same) (
+      load_of (0 ∷ 2 ∷ []),
+      five_loads.sound 14 (load_of (0 ∷ 2 ∷ [])) refl,
+      five_loads.rises 13 (load_of (0 ∷ 3 ∷ [])) (load_of (0 ∷ 2 ∷ [])) refl refl,
+    )
 
 frame_unanswered : (f : OpenFrame) → f ≡ five_frame → IsUnansweredAt 7 (five_bound ∷ []) f
 frame_unanswered f same =

@@ -43,8 +43,11 @@ second_set = set_of (1 ∷ 2 ∷ 3 ∷ 4 ∷ 5 ∷ 6 ∷ [])
 five_tasks : IsTaskSet seven_free five_set
 unfolding five_set
 five_tasks =
-    with_task seven_free few ranked (set_of (3 ∷ 4 ∷ 5 ∷ 6 ∷ [])) 2 (omega arith) (with_task seven_free few ranked (set_of (4 ∷ 5 ∷ 6 ∷ [])) 3 (omega arith) (with_task seven_free few ranked (set_of (5 ∷ 6 ∷ [])) 4 (omega arith)
-    (with_task seven_free few ranked (set_of (6 ∷ [])) 5 (omega arith) (with_task seven_free few ranked (set_of []) 6 (omega arith) (no_tasks seven_free few ranked)))))
+    with_task seven_free few ranked (set_of (3 ∷ 4 ∷ 5 ∷ 6 ∷ [])) 2 (omega arith)
+    (with_task seven_free few ranked (set_of (4 ∷ 5 ∷ 6 ∷ [])) 3 (omega arith)
+    (with_task seven_free few ranked (set_of (5 ∷ 6 ∷ [])) 4 (omega arith)
+    (with_task seven_free few ranked (set_of (6 ∷ [])) 5 (omega arith)
+    (with_task seven_free few ranked (set_of []) 6 (omega arith) (no_tasks seven_free few ranked)))))
 
 first_tasks : IsTaskSet seven_free first_set
 unfolding first_set five_set
@@ -62,7 +65,8 @@ first_open : open_of seven_free few ranked 7 first_set first_tasks Straight Fore
 unfolding full_to first_set bound lm1 lm2 lm3 sixths head tail chained
 first_open = refl
 
-all_open : open_of seven_free few ranked 7 (all_tasks seven_free) all Straight Fore 4 ≡ load_of (1 ∷ []) ∷ load_of (0 ∷ []) ∷ []
+all_open : open_of seven_free few ranked 7 (all_tasks seven_free) all Straight Fore 4
+    ≡ load_of (1 ∷ []) ∷ load_of (0 ∷ []) ∷ []
 unfolding full_to bound lm1 lm2 lm3 sixths head tail chained
 all_open = refl
 
@@ -124,13 +128,23 @@ all_entry = record { set = all_tasks seven_free; most = 4; cycle = 7; why = why.
 
 five_follows : Follows Straight seven_free [] five_entry
 unfolding five_entry
-five_follows = branch_follows Straight seven_free few ranked [] five_set five_tasks 2 7 Fore (2, two_in) (omega arith) (omega arith) tt [] [] five_open tt
+five_follows = branch_follows Straight seven_free few ranked [] five_set five_tasks 2 7 Fore (2, two_in) (omega arith)
+    (omega arith) tt [] [] five_open tt
 
 first_follows : Follows Straight seven_free (five_entry ∷ []) first_entry
 unfolding five_entry first_entry
 first_follows =
-    branch_follows Straight seven_free few ranked (five_entry ∷ []) first_set first_tasks 3 7 Fore (2, two_in_first) (omega arith) (omega arith) tt (0 ∷ []) (load_of (0 ∷ []) ∷ []) first_open
-    (record { entry = five_entry; there = refl; part = λ i m. ap (λ (s : List Bool). has s i) first_rest ∙ m; stations = omega arith; cycle = omega arith }, tt)
+    branch_follows Straight seven_free few ranked (five_entry ∷ []) first_set first_tasks 3 7 Fore (2, two_in_first)
+    (omega arith) (omega arith) tt (0 ∷ []) (load_of (0 ∷ []) ∷ []) first_open (
+      record {
+        entry = five_entry;
+        there = refl;
+        part = λ i m. ap (λ (s : List Bool). has s i) first_rest ∙ m;
+        stations = omega arith;
+        cycle = omega arith;
+      },
+      tt,
+    )
 
 second_follows : Follows Straight seven_free (five_entry ∷ first_entry ∷ []) second_entry
 unfolding first_entry second_entry
@@ -156,17 +170,35 @@ second_follows = record {
 all_follows : Follows Straight seven_free (five_entry ∷ first_entry ∷ second_entry ∷ []) all_entry
 unfolding first_entry second_entry all_entry
 all_follows =
-    branch_follows Straight seven_free few ranked (five_entry ∷ first_entry ∷ second_entry ∷ []) (all_tasks seven_free) all 4 7 Fore (0, In-all seven_free 0 few (omega arith)) (omega arith) (omega arith) tt
+    branch_follows Straight seven_free few ranked (five_entry ∷ first_entry ∷ second_entry ∷ []) (all_tasks seven_free)
+    all 4 7 Fore (0, In-all seven_free 0 few (omega arith)) (omega arith) (omega arith) tt
     (1 ∷ 2 ∷ []) (load_of (1 ∷ []) ∷ load_of (0 ∷ []) ∷ []) all_open (
-      record { entry = first_entry; there = refl; part = λ i m. ap (λ (s : List Bool). has s i) all_rest_first ∙ m; stations = omega arith; cycle = omega arith },
-      (record { entry = second_entry; there = refl; part = λ i m. ap (λ (s : List Bool). has s i) all_rest_second ∙ m; stations = omega arith; cycle = omega arith }, tt),
+      record {
+        entry = first_entry;
+        there = refl;
+        part = λ i m. ap (λ (s : List Bool). has s i) all_rest_first ∙ m;
+        stations = omega arith;
+        cycle = omega arith;
+      },
+      (
+        record {
+          entry = second_entry;
+          there = refl;
+          part = λ i m. ap (λ (s : List Bool). has s i) all_rest_second ∙ m;
+          stations = omega arith;
+          cycle = omega arith;
+        },
+        tt,
+      ),
     )
 
 derived : IsDerived Straight seven_free (five_entry ∷ first_entry ∷ second_entry ∷ all_entry ∷ [])
 derived =
     derived_push Straight seven_free (five_entry ∷ first_entry ∷ second_entry ∷ []) all_entry
     (derived_push Straight seven_free (five_entry ∷ first_entry ∷ []) second_entry
-    (derived_push Straight seven_free (five_entry ∷ []) first_entry (derived_push Straight seven_free [] five_entry (λ k e h. absurd (get_none k e h)) five_follows) first_follows) second_follows) all_follows
+    (derived_push Straight seven_free (five_entry ∷ []) first_entry
+    (derived_push Straight seven_free [] five_entry (λ k e h. absurd (get_none k e h)) five_follows) first_follows)
+    second_follows) all_follows
 
 units : UnitsOf seven_free (five_entry ∷ first_entry ∷ second_entry ∷ all_entry ∷ []) 48
 unfolding five_entry first_entry second_entry all_entry
@@ -174,18 +206,38 @@ units = (
   15,
   33,
   (
-    record { loads = loads_of seven_free few ranked 7 five_set five_tasks Fore; listed = loads_listed seven_free few ranked 7 five_set five_tasks Fore; long = five_many },
+    record {
+      loads = loads_of seven_free few ranked 7 five_set five_tasks Fore;
+      listed = loads_listed seven_free few ranked 7 five_set five_tasks Fore;
+      long = five_many;
+    },
     (
       16,
       17,
       (
-        record { loads = loads_of seven_free few ranked 7 first_set first_tasks Fore; listed = loads_listed seven_free few ranked 7 first_set first_tasks Fore; long = first_many },
+        record {
+          loads = loads_of seven_free few ranked 7 first_set first_tasks Fore;
+          listed = loads_listed seven_free few ranked 7 first_set first_tasks Fore;
+          long = first_many;
+        },
         (
           0,
           17,
           (
             refl,
-            (17, 0, (record { loads = loads_of seven_free few ranked 7 (all_tasks seven_free) all Fore; listed = loads_listed seven_free few ranked 7 (all_tasks seven_free) all Fore; long = all_many }, refl, refl)),
+            (
+              17,
+              0,
+              (
+                record {
+                  loads = loads_of seven_free few ranked 7 (all_tasks seven_free) all Fore;
+                  listed = loads_listed seven_free few ranked 7 (all_tasks seven_free) all Fore;
+                  long = all_many;
+                },
+                refl,
+                refl,
+              ),
+            ),
             refl,
           ),
         ),

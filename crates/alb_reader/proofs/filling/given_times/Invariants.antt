@@ -8,5 +8,6 @@ use Rattle.alb_reader.proofs.filling.given_times.Given as goal
 abbrev pub invariant-loop-k : goal.invariant-loop-k
 invariant-loop-k l = record {
   many : length l.times.items ≡ l.tasks;
-  each : (under : Lines) → l.lines ≡ map time_line under → AreRight (task_fault l.tasks) (take l.k under) × AreGiven l.tasks (take l.k under) l.times.items;
+  each : (under : Lines) → l.lines ≡ map time_line under → AreRight (task_fault l.tasks) (take l.k under)
+      × AreGiven l.tasks (take l.k under) l.times.items;
 }

@@ -5,4 +5,5 @@ use Rattle.alb_reader.specs.Written.{timed_line}
 use Rattle.alb_reader.proofs.writing.push_time_lines.Given as goal
 
 abbrev pub invariant-loop-i : goal.invariant-loop-i
-invariant-loop-i l = string_bytes l.text ≡ string_bytes l.initial.text ++ flat_map (timed_line l.inst) (take l.i (range_with_len 0 (tasks l.inst)))
+invariant-loop-i l = string_bytes l.text ≡ string_bytes l.initial.text
+    ++ flat_map (timed_line l.inst) (take l.i (range_with_len 0 (tasks l.inst)))

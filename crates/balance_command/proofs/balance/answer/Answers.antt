@@ -15,11 +15,14 @@ returns-in-Good c =
     let line = c.args.inst.now in
     let cycle : ℕ = c.args.cycle in
     let balance = c.in-Good.balance in
-    IfOk-weaker c.balance_report_text.result (λ t. t.items ≡ balance_text kind balance c.total_bound-bound.result c.idle_of-idle.result) (λ t. IsAnswer kind line cycle (told ends.Done t.items))
+    IfOk-weaker c.balance_report_text.result (λ t. t.items ≡ balance_text kind balance c.total_bound-bound.result
+    c.idle_of-idle.result) (λ t. IsAnswer kind line cycle (told ends.Done t.items))
     (λ t e. inl (record {
       balance = balance;
       right = c.in-Good.ensures.right;
       ranked = c.in-Good.ensures.ranked;
       bound = subst (IsBelowAll line cycle) c.total_bound-bound.ensures.value c.total_bound-bound.ensures.below_all;
-      shown = ap (told ends.Done) (e ∙ (ap (λ b. balance_text kind balance b c.idle_of-idle.result) c.total_bound-bound.ensures.value ∙ ap (λ i. balance_text kind balance (total_bound line cycle) i) c.idle_of-idle.ensures));
+      shown = ap (told ends.Done) (e ∙ (ap (λ b. balance_text kind balance b c.idle_of-idle.result)
+          c.total_bound-bound.ensures.value ∙ ap (λ i. balance_text kind balance (total_bound line cycle) i)
+          c.idle_of-idle.ensures));
     })) c.balance_report_text.ensures

@@ -17,4 +17,5 @@ returns-in_err-timed-clause-ends g c = λ t.
     let q = err_from_is_err_and c.from_residual.result c.from_residual.ensures.1 in
     subst (λ r. Ends o P after r) (sym q.1)
     (subst (λ s. Ends o P after (Err s)) (sym q.2)
-    (stopped o P (IsUnsaid o name apart c.args.word) after c.in_err-timed.field-0.0 (λ out x. inr x) (c.in_err-timed.ensures.files t) (c.in_err-timed.ensures.said t)))
+    (stopped o P (IsUnsaid o name apart c.args.word) after c.in_err-timed.field-0.0 (λ out x. inr x)
+    (c.in_err-timed.ensures.files t) (c.in_err-timed.ensures.said t)))

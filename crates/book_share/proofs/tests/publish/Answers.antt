@@ -8,4 +8,5 @@ use Rattle.book_share.proofs.tests.publish.Goals as goal
 pub publish-requires-clause-follows : goal.publish-requires-clause-follows
 publish-requires-clause-follows g c =
     let es = entries (desk_by c.args.pass.now.view) in
-    subst (λ (a : About). Follows a.kind a.line es c.in_ok-step.step) (sym c.requires.about) (c.in_ok-step.ensures.follows es)
+    subst (λ (a : About). Follows a.kind a.line es c.in_ok-step.step) (sym c.requires.about)
+    (c.in_ok-step.ensures.follows es)

@@ -16,6 +16,7 @@ store-requires c =
       search rules,
       search rules,
       subst (λ (m : Mine). Allows Kept n id m 0 (λ _. 0) (λ _. Gives (step n 0 0 0 none) m 0)) (sym c.put.ensures.me)
-          (gives_turn n id v c.args.book (λ e. (let f : Holding ≡ Idle = sym h.phase ∙ e in absurd (cc))) (λ e. (let f : Holding ≡ Spent = sym h.phase ∙ e in absurd (cc))) h.book
+          (gives_turn n id v c.args.book (λ e. (let f : Holding ≡ Idle = sym h.phase ∙ e in absurd (cc)))
+          (λ e. (let f : Holding ≡ Spent = sym h.phase ∙ e in absurd (cc))) h.book
           (ap (λ (p : Phase). fewest v.base (counted p v.seen)) h.phase)),
     )

@@ -17,8 +17,14 @@ returns-in-Some-take-clause-had g c =
     let v = c.args.seat.now.me.0 in
     let u : PassView = c.loop.seat.me.0 in
     let w : u ≡ waited v u.tries u.met = ap (λ (m : Mine). m.0) c.loop.invariant.waits in
-    let t = c.in-Some-take.ensures.some in
-    (u.tries, u.met, c.loop.invariant.tries, t.0 ∙ ap (λ (x : PassView). (taken x c.in-Some-take.book.events, (0, None) ∷ [])) w, subst (λ (x : PassView). IsHad x c.in-Some-take.book) w t.1)
+    let t = c.in-Some-take.ensures.some in (
+      u.tries,
+      u.met,
+      c.loop.invariant.tries,
+      t.0 ∙ ap (λ (x : PassView).
+          (taken x c.in-Some-take.book.events, (0, None) ∷ [])) w,
+      subst (λ (x : PassView). IsHad x c.in-Some-take.book) w t.1,
+    )
 
 pub loop-preserved : goal.loop-preserved
 loop-preserved g c =

@@ -12,6 +12,9 @@ invariant-pieces g l = record {
   within : l.at ≤ l.limit;
   count : g.S.Shelf.faults l.fn.shelf ≤ g.S.Shelf.faults l.shelf;
   files : g.S.Shelf.tells → (q : List ℕ) → g.S.Shelf.file l.shelf q ≡ g.S.Shelf.file l.fn.shelf q;
-  left : g.S.Shelf.tells → slice_range l.fn.window.piece.items l.fn.window.from l.fn.window.to ++ bytes_from l.fn.at (g.S.Shelf.file l.fn.shelf l.name) ≡ l.line.items ++ (slice_range l.window.piece.items l.window.from l.window.to ++ bytes_from l.at (g.S.Shelf.file l.fn.shelf l.name));
+  left : g.S.Shelf.tells → slice_range l.fn.window.piece.items l.fn.window.from l.fn.window.to
+      ++ bytes_from l.fn.at (g.S.Shelf.file l.fn.shelf l.name) ≡ l.line.items
+      ++ (slice_range l.window.piece.items l.window.from l.window.to
+      ++ bytes_from l.at (g.S.Shelf.file l.fn.shelf l.name));
   line : IsLine l.line.items;
 }

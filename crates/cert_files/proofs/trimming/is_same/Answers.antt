@@ -3,4 +3,8 @@ use Rattle.task_set.specs.inner.Words.{equal_sets}
 use Rattle.cert_files.proofs.trimming.is_same.Goals as goal
 
 pub returns : goal.returns
-returns c = (λ t. (equal_sets c.args.set.now c.args.other.now).0 (sym c.eq.ensures ∙ t), λ h. c.eq.ensures ∙ (equal_sets c.args.set.now c.args.other.now).1 h)
+returns c = (
+  λ t. (equal_sets c.args.set.now c.args.other.now).0 (sym c.eq.ensures ∙ t),
+  λ h. c.eq.ensures
+      ∙ (equal_sets c.args.set.now c.args.other.now).1 h,
+)

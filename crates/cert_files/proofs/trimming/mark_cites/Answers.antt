@@ -6,10 +6,12 @@ use Rattle.cert_files.proofs.Marks.{marked_one}
 use Rattle.cert_files.proofs.trimming.mark_cites.Goals as goal
 
 pub mark_all-requires : goal.mark_all-requires
-mark_all-requires c = λ cite m. c.requires cite (let P : List _ → Type 0 = λ xs. Contains xs cite in subst P (c.as_slice.ensures ∙ sym (ap cited_by c.in-Branch.is)) m)
+mark_all-requires c = λ cite m. c.requires cite (let P : List _ → Type 0 = λ xs. Contains xs cite in
+    subst P (c.as_slice.ensures ∙ sym (ap cited_by c.in-Branch.is)) m)
 
 pub bounds-marks-cite : goal.bounds-marks-cite
-bounds-marks-cite c = c.requires c.in-Swap.cite (let P : Why → Type 0 = λ w. Contains (cited_by w) c.in-Swap.cite in subst P (sym c.in-Swap.is) (0, omega arith, refl))
+bounds-marks-cite c = c.requires c.in-Swap.cite (let P : Why → Type 0 = λ w. Contains (cited_by w) c.in-Swap.cite in
+    subst P (sym c.in-Swap.is) (0, omega arith, refl))
 
 pub returns-in-Swap : goal.returns-in-Swap
 returns-in-Swap c =

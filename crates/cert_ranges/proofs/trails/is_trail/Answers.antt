@@ -10,7 +10,8 @@ returns-then-not-is_frame c = (
 )
 
 pub loop-k-preserved : goal.loop-k-preserved
-loop-k-preserved c = one_more (IsFrame c.args.tasks c.args.count) c.args.trail.now.frames c.loop-k.k c.at.result.now c.at.ensures (c.is_frame.ensures.0 c.if-not-is_frame.false) c.loop-k.invariant
+loop-k-preserved c = one_more (IsFrame c.args.tasks c.args.count) c.args.trail.now.frames c.loop-k.k c.at.result.now
+    c.at.ensures (c.is_frame.ensures.0 c.if-not-is_frame.false) c.loop-k.invariant
 
 pub returns : goal.returns
 returns c = (
@@ -18,7 +19,8 @@ returns c = (
     cycle = c.is_cycle.ensures.0 c.if-not-is_cycle.false;
     some = omega (arith, c.if-many-lt1.false, c.len-many.ensures);
     few = omega (arith, c.if-many-gt-MAX_FRAMES.false, c.len-many.ensures);
-    each = each_item (IsFrame c.args.tasks c.args.count) c.args.trail.now.frames c.loop-k.k (omega (arith, c.loop-k-test.false, c.len-many.ensures)) c.loop-k.invariant;
+    each = each_item (IsFrame c.args.tasks c.args.count) c.args.trail.now.frames c.loop-k.k
+        (omega (arith, c.loop-k-test.false, c.len-many.ensures)) c.loop-k.invariant;
   },
   λ r. refl,
 )

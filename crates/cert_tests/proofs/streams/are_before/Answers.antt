@@ -4,4 +4,5 @@ use Rattle.cert_files.specs.Trim.{cited_by}
 use Rattle.cert_tests.proofs.streams.are_before.Goals as goal
 
 pub returns-in-Branch : goal.returns-in-Branch
-returns-in-Branch c = λ t cite m. let P : List ℕ → Type 0 = λ xs. Contains xs cite in c.are_below.ensures t cite (subst P (ap cited_by c.in-Branch.is ∙ sym c.as_slice.ensures) m)
+returns-in-Branch c = λ t cite m. let P : List ℕ → Type 0 = λ xs. Contains xs cite in
+    c.are_below.ensures t cite (subst P (ap cited_by c.in-Branch.is ∙ sym c.as_slice.ensures) m)

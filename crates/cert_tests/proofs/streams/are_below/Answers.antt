@@ -7,7 +7,9 @@ use Rattle.cert_tests.proofs.streams.are_below.Goals as goal
 pub loop-cite-preserved : goal.loop-cite-preserved
 loop-cite-preserved c = λ cite m.
     let P : List ℕ → Type 0 = λ xs. Contains xs cite in
-    elim (Contains-push_cases (take c.loop-cite.cite-index c.args.cites.now) (get_or c.args.cites.now c.loop-cite.cite-index 0) cite (subst P (take_more c.args.cites.now c.loop-cite.cite-index 0 c.loop-cite-test.true) m)) [
+    elim (Contains-push_cases (take c.loop-cite.cite-index c.args.cites.now)
+    (get_or c.args.cites.now c.loop-cite.cite-index 0) cite
+    (subst P (take_more c.args.cites.now c.loop-cite.cite-index 0 c.loop-cite-test.true) m)) [
       | inl before ↦ c.loop-cite.invariant cite before
       | inr e ↦ omega (arith, e, c.if-cite-k.false)
     ]
@@ -15,4 +17,5 @@ loop-cite-preserved c = λ cite m.
 pub returns : goal.returns
 returns c = λ t cite m.
     let P : List ℕ → Type 0 = λ xs. Contains xs cite in
-    c.loop-cite.invariant cite (subst P (sym (take_all c.loop-cite.cite-index c.args.cites.now c.loop-cite-test.false)) m)
+    c.loop-cite.invariant cite (subst P (sym (take_all c.loop-cite.cite-index c.args.cites.now c.loop-cite-test.false))
+    m)

@@ -6,4 +6,5 @@ use Rattle.cert_files.specs.Trim.{cited_by}
 use Rattle.cert_tests.proofs.streams.cite_earlier.Given as goal
 
 abbrev pub invariant-loop-k : goal.invariant-loop-k
-invariant-loop-k l = (j : ℕ) (e : Entry) → j < l.k → slice_get l.entries j ≡ Some e → (cite : ℕ) → Contains (cited_by e.why) cite → cite < j
+invariant-loop-k l = (j : ℕ) (e : Entry) → j < l.k → slice_get l.entries j ≡ Some e → (cite : ℕ)
+    → Contains (cited_by e.why) cite → cite < j

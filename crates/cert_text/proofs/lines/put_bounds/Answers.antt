@@ -7,5 +7,7 @@ use Rattle.cert_text.proofs.lines.put_bounds.Goals as goal
 
 pub returns : goal.returns
 returns g c =
-    c.put_keyed.ensures ▹ c.put_keyed-2.ensures ▹ puts_as _ _ _ _ _ c.put_keyed-3.ensures (ap (λ n. line_text (keyed (codes "balance") n)) (sym c.from.ensures))
-    ▹ puts_as _ _ _ _ _ c.put_seats.ensures (ap (λ ps. rows_text (map (seat_row c.args.kind) ps)) (sym c.as_slice.ensures))
+    c.put_keyed.ensures ▹ c.put_keyed-2.ensures ▹ puts_as _ _ _ _ _ c.put_keyed-3.ensures
+    (ap (λ n. line_text (keyed (codes "balance") n)) (sym c.from.ensures))
+    ▹ puts_as _ _ _ _ _ c.put_seats.ensures (ap (λ ps. rows_text (map (seat_row c.args.kind) ps))
+    (sym c.as_slice.ensures))

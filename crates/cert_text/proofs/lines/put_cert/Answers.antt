@@ -8,4 +8,5 @@ use Rattle.cert_text.proofs.lines.put_cert.Goals as goal
 pub returns : goal.returns
 unfolding row_text cert_rows
 returns g c =
-    c.put_text.ensures ▹ c.put_kind.ensures ▹ puts_as _ _ _ _ _ c.put_keyed.ensures (ap (λ n. line_text (keyed (codes "tasks") n)) (sym c.from.ensures)) ▹ c.put_ask.ensures ▹ c.put_claim.ensures
+    c.put_text.ensures ▹ c.put_kind.ensures ▹ puts_as _ _ _ _ _ c.put_keyed.ensures
+    (ap (λ n. line_text (keyed (codes "tasks") n)) (sym c.from.ensures)) ▹ c.put_ask.ensures ▹ c.put_claim.ensures

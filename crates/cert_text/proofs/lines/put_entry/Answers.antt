@@ -10,15 +10,20 @@ use Rattle.cert_text.proofs.lines.put_entry.Goals as goal
 pub returns-in-Bound : goal.returns-in-Bound
 returns-in-Bound g c =
     puts_as _ _ _ _ _ (c.put_text.ensures ▹ c.put_question.ensures ▹ c.put.ensures)
-    (ap (λ w. line_text (why_row c.args.tasks (Some c.args.entry.now.cycle) c.args.entry.now w)) c.in-Bound.is ∙ bound_spelled c.args.tasks c.args.entry.now)
+    (ap (λ w. line_text (why_row c.args.tasks (Some c.args.entry.now.cycle) c.args.entry.now w)) c.in-Bound.is
+    ∙ bound_spelled c.args.tasks c.args.entry.now)
 
 pub returns-in-Branch : goal.returns-in-Branch
 returns-in-Branch g c =
-    puts_as _ _ _ _ _ (c.put_text-in-Branch.ensures ▹ c.put_mode.ensures ▹ c.put_question-in-Branch.ensures ▹ c.put-in-Branch.ensures
+    puts_as _ _ _ _ _ (c.put_text-in-Branch.ensures ▹ c.put_mode.ensures ▹ c.put_question-in-Branch.ensures ▹
+    c.put-in-Branch.ensures
     ▹ puts_as _ _ _ _ _ c.put_cites.ensures (ap cites_text (sym c.as_slice.ensures)) ▹ c.put-in-Branch-2.ensures)
-    (ap (λ w. line_text (why_row c.args.tasks (Some c.args.entry.now.cycle) c.args.entry.now w)) c.in-Branch.is ∙ branch_spelled c.args.tasks c.args.entry.now c.in-Branch.mode c.in-Branch.cites)
+    (ap (λ w. line_text (why_row c.args.tasks (Some c.args.entry.now.cycle) c.args.entry.now w)) c.in-Branch.is
+    ∙ branch_spelled c.args.tasks c.args.entry.now c.in-Branch.mode c.in-Branch.cites)
 
 pub returns-in-Swap : goal.returns-in-Swap
 returns-in-Swap g c =
-    puts_as _ _ _ _ _ (c.put_text-in-Swap.ensures ▹ c.put_question-in-Swap.ensures ▹ c.put_swap.ensures ▹ c.put-in-Swap.ensures)
-    (ap (λ w. line_text (why_row c.args.tasks (Some c.args.entry.now.cycle) c.args.entry.now w)) c.in-Swap.is ∙ swap_spelled c.args.tasks c.args.entry.now c.in-Swap.cite c.in-Swap.out_task c.in-Swap.in_task)
+    puts_as _ _ _ _ _ (c.put_text-in-Swap.ensures ▹ c.put_question-in-Swap.ensures ▹ c.put_swap.ensures ▹
+    c.put-in-Swap.ensures)
+    (ap (λ w. line_text (why_row c.args.tasks (Some c.args.entry.now.cycle) c.args.entry.now w)) c.in-Swap.is
+    ∙ swap_spelled c.args.tasks c.args.entry.now c.in-Swap.cite c.in-Swap.out_task c.in-Swap.in_task)

@@ -6,4 +6,5 @@ use Rattle.cert_text.proofs.lines.put_keyed.Goals as goal
 pub returns : goal.returns
 unfolding row_text
 returns g c =
-    puts _ _ _ _ _ _ _ c.put_text.ensures (puts _ _ _ _ _ _ _ c.put.ensures (puts _ _ _ _ _ _ _ c.put_number.ensures c.put-2.ensures refl) refl) (simp append_assoc)
+    puts _ _ _ _ _ _ _ c.put_text.ensures (puts _ _ _ _ _ _ _ c.put.ensures
+    (puts _ _ _ _ _ _ _ c.put_number.ensures c.put-2.ensures refl) refl) (simp append_assoc)

@@ -5,4 +5,5 @@ use Rattle.cert_text.specs.Sent.{Puts}
 use Rattle.cert_text.proofs.lines.put_list.Given as goal
 
 abbrev pub invariant-loop-entry : goal.invariant-loop-entry
-invariant-loop-entry g l = Puts g.O.Output.told (g.O.Output.sent l.initial.out) (rows_text (map (entry_row l.tasks) (take l.entry-index l.entry-items))) (g.O.Output.sent l.out)
+invariant-loop-entry g l = Puts g.O.Output.told (g.O.Output.sent l.initial.out)
+    (rows_text (map (entry_row l.tasks) (take l.entry-index l.entry-items))) (g.O.Output.sent l.out)

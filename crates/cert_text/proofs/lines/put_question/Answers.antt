@@ -5,6 +5,8 @@ use Rattle.cert_text.proofs.lines.put_question.Goals as goal
 
 pub returns : goal.returns
 returns g c =
-    puts _ _ _ _ _ _ _ c.put.ensures (puts _ _ _ _ _ _ _ c.put_number.ensures (puts _ _ _ _ _ _ _ c.put-2.ensures (puts _ _ _ _ _ _ _ c.put_set.ensures
-    (puts _ _ _ _ _ _ _ c.put-3.ensures (puts_as _ _ _ _ _ c.put_number-2.ensures (ap number_text (sym c.from.ensures))) refl) refl) refl) refl)
+    puts _ _ _ _ _ _ _ c.put.ensures (puts _ _ _ _ _ _ _ c.put_number.ensures
+    (puts _ _ _ _ _ _ _ c.put-2.ensures (puts _ _ _ _ _ _ _ c.put_set.ensures
+    (puts _ _ _ _ _ _ _ c.put-3.ensures (puts_as _ _ _ _ _ c.put_number-2.ensures (ap number_text (sym c.from.ensures)))
+    refl) refl) refl) refl)
     (simp append_assoc)

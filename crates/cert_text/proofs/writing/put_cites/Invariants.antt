@@ -5,4 +5,5 @@ use Rattle.cert_text.specs.Sent.{Puts}
 use Rattle.cert_text.proofs.writing.put_cites.Given as goal
 
 abbrev pub invariant-loop-cite : goal.invariant-loop-cite
-invariant-loop-cite g l = Puts g.O.Output.told (g.O.Output.sent l.initial.out) (flat_map (λ d. 44 ∷ number_text d) (take l.cite-index l.cite-items)) (g.O.Output.sent l.out)
+invariant-loop-cite g l = Puts g.O.Output.told (g.O.Output.sent l.initial.out)
+    (flat_map (λ d. 44 ∷ number_text d) (take l.cite-index l.cite-items)) (g.O.Output.sent l.out)

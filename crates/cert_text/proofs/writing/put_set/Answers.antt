@@ -11,11 +11,14 @@ loop-k-init g c = nothing _ _ _ refl
 pub loop-k-preserved : goal.loop-k-preserved
 loop-k-preserved g c =
     let f : ℕ → ℕ = λ k. hex_digit (four c.args.tasks c.args.set.now k) in
-    puts _ _ _ _ (map f (range_with_len 0 c.loop-k.k)) (f c.loop-k.k ∷ []) (map f (range_with_len 0 (c.loop-k.k + 1))) c.loop-k.invariant
-    (puts_as _ _ _ _ _ c.put.ensures (ap (λ d. d ∷ []) (sym c.digit_of.ensures))) (map-range_with_len_more f 0 c.loop-k.k c.loop-k.k (omega arith))
+    puts _ _ _ _ (map f (range_with_len 0 c.loop-k.k)) (f c.loop-k.k ∷ []) (map f (range_with_len 0 (c.loop-k.k + 1)))
+    c.loop-k.invariant
+    (puts_as _ _ _ _ _ c.put.ensures (ap (λ d. d ∷ []) (sym c.digit_of.ensures)))
+    (map-range_with_len_more f 0 c.loop-k.k c.loop-k.k (omega arith))
 
 pub returns : goal.returns
 unfolding set_text
 returns g c =
     let e : (c.args.tasks + 3) / 4 ≡ c.loop-k.k = omega (arith, c.loop-k-test.false, c.loop-k.auto.k-end) in
-    puts_as _ _ _ _ _ c.loop-k.invariant (ap (λ n. map (λ k. hex_digit (four c.args.tasks c.args.set.now k)) (range_with_len 0 n)) e)
+    puts_as _ _ _ _ _ c.loop-k.invariant (ap (λ n. map (λ k. hex_digit (four c.args.tasks c.args.set.now k))
+    (range_with_len 0 n)) e)

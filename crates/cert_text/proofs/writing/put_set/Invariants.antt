@@ -5,4 +5,5 @@ use Rattle.cert_text.specs.Sent.{Puts}
 use Rattle.cert_text.proofs.writing.put_set.Given as goal
 
 abbrev pub invariant-loop-k : goal.invariant-loop-k
-invariant-loop-k g l = Puts g.O.Output.told (g.O.Output.sent l.initial.out) (map (λ k. hex_digit (four l.tasks l.set k)) (range_with_len 0 l.k)) (g.O.Output.sent l.out)
+invariant-loop-k g l = Puts g.O.Output.told (g.O.Output.sent l.initial.out)
+    (map (λ k. hex_digit (four l.tasks l.set k)) (range_with_len 0 l.k)) (g.O.Output.sent l.out)

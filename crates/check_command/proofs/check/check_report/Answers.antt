@@ -24,7 +24,9 @@ returns-clause-ends g c = λ t.
         accepted = c.verdict_of-verified.ensures.accepted;
         rejected = c.verdict_of-verified.ensures.rejected;
         true_bounds = c.verdict_of-verified.ensures.true_bounds;
-        shown = told_as c.in_ok-report.report (verdict_status c.verdict_of-verified.result) (verdict_text c.in_ok-cert.cert c.verdict_of-verified.result) c.in_ok-report.ensures.status c.in_ok-report.ensures.text c.in_ok-report.ensures.kept;
+        shown = told_as c.in_ok-report.report (verdict_status c.verdict_of-verified.result)
+            (verdict_text c.in_ok-cert.cert c.verdict_of-verified.result) c.in_ok-report.ensures.status
+            c.in_ok-report.ensures.text c.in_ok-report.ensures.kept;
       });
       written = λ q. c.in_ok-cert.ensures.files t q ∙ c.in_ok-inst.ensures.files t q;
     }

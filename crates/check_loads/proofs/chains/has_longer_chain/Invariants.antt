@@ -8,5 +8,6 @@ invariant-loop-j l = record {
   can_next : (goal.iterator-loop-j).can_next l.j-iterator;
   finite : (goal.iterator-loop-j).is_finite l.j-iterator;
   members : AllIn l.set l.j-iterator;
-  so_far : max l.stations (greatest_of (λ j. head l.inst l.cycle l.set j + tail l.inst l.cycle l.set j - 1) l.j-iterator) ≡ max l.stations (chained l.fn.kind l.inst l.cycle l.set);
+  so_far : max l.stations (greatest_of (λ j. head l.inst l.cycle l.set j + tail l.inst l.cycle l.set j - 1)
+      l.j-iterator) ≡ max l.stations (chained l.fn.kind l.inst l.cycle l.set);
 }

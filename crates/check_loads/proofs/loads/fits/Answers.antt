@@ -5,7 +5,10 @@ use Rattle.check_loads.proofs.loads.fits.Goals as goal
 
 pub returns : goal.returns
 returns c =
-    let met = c.meet.ensures.value ∙ ap (λ b. Rattle.task_set.specs.Truths.meet b c.apart-apart.result.now) c.union.ensures.value in (
-      λ e. room_by_tests (union c.args.here.now c.args.other.now) c.apart-apart.result.now c.args.task c.apart-apart.ensures.members met (omega (arith, c.time.ensures.time, c.if-time-left.false)) (c.is_empty-2.ensures.0 e),
+    let met = c.meet.ensures.value ∙ ap (λ b. Rattle.task_set.specs.Truths.meet b c.apart-apart.result.now)
+    c.union.ensures.value in (
+      λ e. room_by_tests (union c.args.here.now c.args.other.now) c.apart-apart.result.now c.args.task
+          c.apart-apart.ensures.members met (omega (arith, c.time.ensures.time, c.if-time-left.false))
+          (c.is_empty-2.ensures.0 e),
       λ room. c.is_empty-2.ensures.1 (room_is_empty c.apart-apart.result.now c.apart-apart.ensures.members met room),
     )

@@ -6,10 +6,22 @@ use Rattle.check_loads.proofs.sizes.times_in.Goals as goal
 pub loop-i-init : goal.loop-i-init
 loop-i-init c =
     let e = c.into_iter-i-iterator.ensures.into_iter_gives in
-    record { can_next = tt; finite = tt; members = all_in_start _ _ e; total = weight_start _ _ _ _ c.requires.tasks e; longest = longest_start _ _ _ c.requires.tasks e }
+    record {
+      can_next = tt;
+      finite = tt;
+      members = all_in_start _ _ e;
+      total = weight_start _ _ _ _ c.requires.tasks e;
+      longest = longest_start _ _ _ c.requires.tasks e;
+    }
 
 pub overflow_add-times : goal.overflow_add-times
-overflow_add-times c = omega (arith, c.time-time.ensures.time, next_fits c.args.set.now c.loop-i.times.total c.tasks-tasks.ensures.line c.in-Some.ensures.steps c.loop-i.invariant.total)
+overflow_add-times c = omega (
+  arith,
+  c.time-time.ensures.time,
+  next_fits c.args.set.now c.loop-i.times.total c.tasks-tasks.ensures.line c.in-Some.ensures.steps
+      c.loop-i.invariant.total,
+)
 
 pub returns : goal.returns
-returns c = times_end c.tasks-tasks.ensures.line c.requires c.in-None.ensures.steps.0 c.loop-i.invariant.total c.loop-i.invariant.longest
+returns c = times_end c.tasks-tasks.ensures.line c.requires c.in-None.ensures.steps.0 c.loop-i.invariant.total
+    c.loop-i.invariant.longest

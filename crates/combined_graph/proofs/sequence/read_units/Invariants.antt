@@ -13,6 +13,7 @@ invariant-units l = record {
   few : vec_len l.units ≤ 100000;
   room : l.line + length l.left < 2 ^ 64;
   left : drop (vec_len l.units) (unit_names l.bytes) ≡ map (λ (x : ℕ × List ℕ). x.1) (contents_from l.line l.left);
-  said : map (model_named l.models) (take (vec_len l.units) (unit_names l.bytes)) ≡ map (λ (m : ℕ). Some m) l.units.items;
+  said : map (model_named l.models) (take (vec_len l.units) (unit_names l.bytes))
+      ≡ map (λ (m : ℕ). Some m) l.units.items;
   models : All (λ m. m < length l.models) l.units.items;
 }

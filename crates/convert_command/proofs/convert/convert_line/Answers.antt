@@ -9,10 +9,24 @@ pub returns-in-Done-clause-ends : goal.returns-in-Done-clause-ends
 returns-in-Done-clause-ends g c = λ t.
     let blames = g.S.Shelf.blames c.write_whole.new.shelf in
     let files = g.S.Shelf.file c.args.shelf.now in
-    let P : Outcome → Type 0 = IsConvertOutcome (outside files blames) c.args.file.now c.args.name.now c.args.to c.args.word in
-    comes files (g.S.Shelf.file c.sheet_of.new.shelf) (g.S.Shelf.file c.write_whole.new.shelf) blames P c.args.name.now c.in_ok-bytes.bytes.items (c.in_ok-sheet.ensures.files t) (c.in-Done.ensures.others t)
-    (inl (c.requires, inl (record { line = c.in_ok-sheet.sheet.inst; given = c.in_ok-sheet.sheet.cycle; said = c.in_ok-sheet.ensures.said t; bytes = c.in_ok-bytes.bytes.items; written = subst (λ k. IsTextIn c.args.to c.in_ok-sheet.sheet.inst k c.in_ok-bytes.bytes.items) c.cycle_of.ensures c.in_ok-bytes.ensures; shown = refl })))
-    c.in_ok-report.report c.in_ok-report.ensures.status c.in_ok-report.ensures.text c.in_ok-report.ensures.kept (c.in-Done.ensures.done t refl ∙ ap Some c.deref.ensures.value)
+    let P : Outcome → Type 0 = IsConvertOutcome (outside files blames) c.args.file.now c.args.name.now c.args.to
+    c.args.word in
+    comes files (g.S.Shelf.file c.sheet_of.new.shelf) (g.S.Shelf.file c.write_whole.new.shelf) blames P c.args.name.now
+    c.in_ok-bytes.bytes.items (c.in_ok-sheet.ensures.files t) (c.in-Done.ensures.others t)
+    (inl (
+      c.requires,
+      inl (record {
+        line = c.in_ok-sheet.sheet.inst;
+        given = c.in_ok-sheet.sheet.cycle;
+        said = c.in_ok-sheet.ensures.said t;
+        bytes = c.in_ok-bytes.bytes.items;
+        written = subst (λ k. IsTextIn c.args.to c.in_ok-sheet.sheet.inst k c.in_ok-bytes.bytes.items)
+            c.cycle_of.ensures c.in_ok-bytes.ensures;
+        shown = refl;
+      }),
+    ))
+    c.in_ok-report.report c.in_ok-report.ensures.status c.in_ok-report.ensures.text c.in_ok-report.ensures.kept
+    (c.in-Done.ensures.done t refl ∙ ap Some c.deref.ensures.value)
 
 pub returns-clause-ends : goal.returns-clause-ends
 returns-clause-ends g c = λ t.
@@ -20,8 +34,21 @@ returns-clause-ends g c = λ t.
     let files = g.S.Shelf.file c.args.shelf.now in
     let mid = g.S.Shelf.file c.sheet_of.new.shelf in
     let after = g.S.Shelf.file c.write_whole.new.shelf in
-    let P : Outcome → Type 0 = IsConvertOutcome (outside files blames) c.args.file.now c.args.name.now c.args.to c.args.word in
+    let P : Outcome → Type 0 = IsConvertOutcome (outside files blames) c.args.file.now c.args.name.now c.args.to
+    c.args.word in
     let B : List ℕ → Type 0 = λ b. IsPrefixWritten (mid c.args.name.now) b (after c.args.name.now) in
-    cut files mid after blames P c.args.name.now c.in_ok-bytes.bytes.items (c.in_ok-sheet.ensures.files t) (c.in-WriteFault.ensures.others t)
-    (inl (c.requires, inl (record { line = c.in_ok-sheet.sheet.inst; given = c.in_ok-sheet.sheet.cycle; said = c.in_ok-sheet.ensures.said t; bytes = c.in_ok-bytes.bytes.items; written = subst (λ k. IsTextIn c.args.to c.in_ok-sheet.sheet.inst k c.in_ok-bytes.bytes.items) c.cycle_of.ensures c.in_ok-bytes.ensures; shown = refl })))
+    cut files mid after blames P c.args.name.now c.in_ok-bytes.bytes.items (c.in_ok-sheet.ensures.files t)
+    (c.in-WriteFault.ensures.others t)
+    (inl (
+      c.requires,
+      inl (record {
+        line = c.in_ok-sheet.sheet.inst;
+        given = c.in_ok-sheet.sheet.cycle;
+        said = c.in_ok-sheet.ensures.said t;
+        bytes = c.in_ok-bytes.bytes.items;
+        written = subst (λ k. IsTextIn c.args.to c.in_ok-sheet.sheet.inst k c.in_ok-bytes.bytes.items)
+            c.cycle_of.ensures c.in_ok-bytes.ensures;
+        shown = refl;
+      }),
+    ))
     (c.in-WriteFault.ensures.blame t refl) (subst B c.deref.ensures.value (c.in-WriteFault.ensures.prefix t))

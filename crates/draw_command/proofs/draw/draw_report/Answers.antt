@@ -66,7 +66,8 @@ returns-clause-ends g c = λ t.
     let same : (q : List ℕ) → mid q ≡ files q = λ q. c.in_ok-cert.ensures.files t q ∙ c.in_ok-inst.ensures.files t q in
     let B : List ℕ → Type 0 = λ b. IsPrefixWritten (mid to_name) b (after to_name) in
     cut files mid after blames P to_name (drawing_text line cert) same (c.in-WriteFault.ensures.others t) reached
-    (c.in-WriteFault.ensures.blame t refl) (subst B (c.deref.ensures.value ∙ c.in_ok-text.ensures.text) (c.in-WriteFault.ensures.prefix t))
+    (c.in-WriteFault.ensures.blame t refl) (subst B (c.deref.ensures.value ∙ c.in_ok-text.ensures.text)
+    (c.in-WriteFault.ensures.prefix t))
 
 pub returns-in_err-test-clause-ends : goal.returns-in_err-test-clause-ends
 returns-in_err-test-clause-ends g c = λ t.
@@ -84,5 +85,11 @@ returns-in_err-test-clause-ends g c = λ t.
     subst (λ r. Ends (outside files blames) P after r) (sym q.1)
     (subst (λ s. Ends (outside files blames) P after (Err s)) (sym q.2)
     (stopped (outside files blames) P (IsUndrawable line cert) after c.in_err-test.field-0.0
-    (λ out u. inr (inr (inr (record { line = line; cert = cert; said = c.in_ok-inst.ensures.said t; read = read; refused = u }))))
+    (λ out u. inr (inr (inr (record {
+      line = line;
+      cert = cert;
+      said = c.in_ok-inst.ensures.said t;
+      read = read;
+      refused = u;
+    }))))
     (λ f. c.in_ok-cert.ensures.files t f ∙ c.in_ok-inst.ensures.files t f) c.in_err-test.ensures.said))

@@ -22,7 +22,8 @@ loop-k-preserved c =
     λ j e q g. one_entry e x (sym g ∙ (ap (λ (z : ℕ). slice_get es z) q ∙ c.at-entry.ensures)) in
     elim c.if-eq.branch [
       | then-eq w ↦
-          let same = (equal_sets x.set c.all-all.result).0 (sym c.eq.ensures ∙ w.if-eq.true) ∙ c.all-all.ensures.value in (
+          let same = (equal_sets x.set c.all-all.result).0 (sym c.eq.ensures ∙ w.if-eq.true)
+          ∙ c.all-all.ensures.value in (
             λ one. (
               k,
               x,

@@ -84,7 +84,8 @@ returns-in-Found g c =
     c.requires.some c.requires.from c.requires.to c.requires.going c.requires.one c.requires.cycle c.requires.left in
     found_after w.kind c.args.inst.now w.least w.most c.args.stations c.args.cycle c.args.plan.now c.args.search
     c.in_ok-search.search c.requires.some c.requires.plan.limit c.requires.going left c.requires.cycle
-    c.requires.small c.requires.short c.requires.room c.in_ok-search.verdict c.in_ok-search.ensures _ c.in_ok-found-in-Found.ensures
+    c.requires.small c.requires.short c.requires.room c.in_ok-search.verdict c.in_ok-search.ensures _
+    c.in_ok-found-in-Found.ensures
 
 pub returns-then-has_all_from : goal.returns-then-has_all_from
 returns-then-has_all_from g c =
@@ -102,7 +103,8 @@ returns-in-Spent g c =
     c.requires.some c.requires.from c.requires.to c.requires.going c.requires.one c.requires.cycle c.requires.left in
     spent_stuck w.kind c.args.inst.now w.least w.most c.args.stations c.args.cycle c.args.plan.now c.args.search
     c.in_ok-search.search c.requires.some c.requires.plan.limit c.requires.going left c.requires.cycle
-    c.requires.small c.requires.short c.requires.room c.in_ok-search.verdict c.in_ok-search.ensures c.in-Spent.frames c.in-Spent.is
+    c.requires.small c.requires.short c.requires.room c.in_ok-search.verdict c.in_ok-search.ensures c.in-Spent.frames
+    c.in-Spent.is
     (λ k e from there same.
     let G : List Entry → Type 0 = λ z. slice_get z k ≡ Some e in
     c.has_all_from.ensures c.if-has_all_from.false k e (omega (arith, from, c.len-from.ensures.len))

@@ -6,7 +6,10 @@ use Rattle.input_files.proofs.instance.part.Goals as goal
 
 pub returns-clause-said : goal.returns-clause-said
 returns-clause-said g c = λ t.
-    let P : Option (Bor (List ℕ)) → Type 0 = λ x. IsPartedBy (g.S.Shelf.file c.args.shelf.now) (option_map (λ y. y.now) x) c.args.inst c.set_apart.new.self in
+    let P : Option (Bor (List ℕ)) → Type 0 = λ x. IsPartedBy (g.S.Shelf.file c.args.shelf.now)
+    (option_map (λ y. y.now) x) c.args.inst c.set_apart.new.self in
     subst P (sym c.in-Some.is)
-    (parted_by max_file (g.S.Shelf.file c.args.shelf.now) c.args.apart c.in-Some.apart c.args.inst c.set_apart.new.self c.tasks.result c.in_ok-pairs.pairs.items c.deref.result.now
-    c.in-Some.is (c.in_ok-pairs.ensures.said t) c.tasks.ensures.tasks c.deref.ensures.value c.set_apart.ensures.times c.set_apart.ensures.before c.set_apart.ensures.order c.set_apart.ensures.apart)
+    (parted_by max_file (g.S.Shelf.file c.args.shelf.now) c.args.apart c.in-Some.apart c.args.inst c.set_apart.new.self
+    c.tasks.result c.in_ok-pairs.pairs.items c.deref.result.now
+    c.in-Some.is (c.in_ok-pairs.ensures.said t) c.tasks.ensures.tasks c.deref.ensures.value c.set_apart.ensures.times
+    c.set_apart.ensures.before c.set_apart.ensures.order c.set_apart.ensures.apart)

@@ -22,6 +22,8 @@ loop-k-preserved c =
       same = hung_tags ls k heads now sieve marked l b within there i.heads i.sieve ∙ i.same;
       heads = omega (arith, i.heads, c.hang-before.auto.heads);
       sieve = omega (arith, i.sieve, c.hang-before.auto.sieve);
-      chained = hung_chains ls k heads now sieve marked l b within there i.heads i.sieve c.hang-before.ensures.before c.hang-before.ensures.heads i.chained;
-      sieved = hung_sieve ls k heads now sieve marked l b within there i.heads i.sieve c.hang-before.ensures.sieve i.sieved;
+      chained = hung_chains ls k heads now sieve marked l b within there i.heads i.sieve c.hang-before.ensures.before
+          c.hang-before.ensures.heads i.chained;
+      sieved = hung_sieve ls k heads now sieve marked l b within there i.heads i.sieve c.hang-before.ensures.sieve
+          i.sieved;
     }

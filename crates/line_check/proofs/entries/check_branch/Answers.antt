@@ -31,13 +31,21 @@ returns-in-Some c = (
 pub returns-in-Right : goal.returns-in-Right
 returns-in-Right c =
     let P : Why → Type 0 = λ z. UnitsBy c.args.inst.now c.args.entry.now z c.in-Right.units in
-    let Q : Why → Type 0 = λ z. FollowsBy c.args.kind c.args.inst.now (take c.args.k c.args.entries.now) c.args.entry.now z in
+    let Q : Why → Type 0 = λ z. FollowsBy c.args.kind c.args.inst.now (take c.args.k c.args.entries.now)
+    c.args.entry.now z in
     let r : IsReady c.args.kind (take c.args.k c.args.entries.now) c.args.entry.now c.args.mode c.args.cites.now =
-    (ready_of c.args.kind c.args.entries.now c.args.k c.args.entry.now c.args.mode c.args.cites.now c.requires.k (c.belongs.ensures.0 c.if-not-belongs.false) (omega (arith, c.if-entry-eq0.false)) (λ h. false≢true (sym c.if-is_empty.false ∙ c.is_empty.ensures.1 h)) (c.in_default.ensures.none refl)) in (
+    (ready_of c.args.kind c.args.entries.now c.args.k c.args.entry.now c.args.mode c.args.cites.now c.requires.k
+    (c.belongs.ensures.0 c.if-not-belongs.false) (omega (arith, c.if-entry-eq0.false))
+    (λ h. false≢true (sym c.if-is_empty.false ∙ c.is_empty.ensures.1 h)) (c.in_default.ensures.none refl)) in (
       record {
         set = c.requires.set;
         cycle = c.requires.cycle.some;
-        by = subst Q (sym c.requires.way) (record { some = r.some; stations = r.stations; belongs = r.belongs; covers = c.in-Right.ensures.0 });
+        by = subst Q (sym c.requires.way) (record {
+          some = r.some;
+          stations = r.stations;
+          belongs = r.belongs;
+          covers = c.in-Right.ensures.0;
+        });
       },
       subst P (sym c.requires.way) c.in-Right.ensures.1,
       c.in-Right.ensures.2,
@@ -51,7 +59,9 @@ returns-in-Uncovered c = (
     (
       c.requires.way,
       (
-        (ready_of c.args.kind c.args.entries.now c.args.k c.args.entry.now c.args.mode c.args.cites.now c.requires.k (c.belongs.ensures.0 c.if-not-belongs.false) (omega (arith, c.if-entry-eq0.false)) (λ h. false≢true (sym c.if-is_empty.false ∙ c.is_empty.ensures.1 h)) (c.in_default.ensures.none refl)),
+        (ready_of c.args.kind c.args.entries.now c.args.k c.args.entry.now c.args.mode c.args.cites.now c.requires.k
+            (c.belongs.ensures.0 c.if-not-belongs.false) (omega (arith, c.if-entry-eq0.false))
+            (λ h. false≢true (sym c.if-is_empty.false ∙ c.is_empty.ensures.1 h)) (c.in_default.ensures.none refl)),
         c.in-Uncovered.ensures.0,
         c.in-Uncovered.ensures.1,
       ),
@@ -68,7 +78,9 @@ returns-in-Spare c = (
     (
       c.requires.way,
       (
-        (ready_of c.args.kind c.args.entries.now c.args.k c.args.entry.now c.args.mode c.args.cites.now c.requires.k (c.belongs.ensures.0 c.if-not-belongs.false) (omega (arith, c.if-entry-eq0.false)) (λ h. false≢true (sym c.if-is_empty.false ∙ c.is_empty.ensures.1 h)) (c.in_default.ensures.none refl)),
+        (ready_of c.args.kind c.args.entries.now c.args.k c.args.entry.now c.args.mode c.args.cites.now c.requires.k
+            (c.belongs.ensures.0 c.if-not-belongs.false) (omega (arith, c.if-entry-eq0.false))
+            (λ h. false≢true (sym c.if-is_empty.false ∙ c.is_empty.ensures.1 h)) (c.in_default.ensures.none refl)),
         c.in-Spare.ensures.0,
         c.in-Spare.ensures.1,
       ),
@@ -84,7 +96,9 @@ returns-in-StepsEnded c = (
   (
     c.requires.way,
     (
-      (ready_of c.args.kind c.args.entries.now c.args.k c.args.entry.now c.args.mode c.args.cites.now c.requires.k (c.belongs.ensures.0 c.if-not-belongs.false) (omega (arith, c.if-entry-eq0.false)) (λ h. false≢true (sym c.if-is_empty.false ∙ c.is_empty.ensures.1 h)) (c.in_default.ensures.none refl)),
+      (ready_of c.args.kind c.args.entries.now c.args.k c.args.entry.now c.args.mode c.args.cites.now c.requires.k
+          (c.belongs.ensures.0 c.if-not-belongs.false) (omega (arith, c.if-entry-eq0.false))
+          (λ h. false≢true (sym c.if-is_empty.false ∙ c.is_empty.ensures.1 h)) (c.in_default.ensures.none refl)),
       c.in-StepsEnded.ensures,
     ),
   ),

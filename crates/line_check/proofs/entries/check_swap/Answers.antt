@@ -9,18 +9,33 @@ use Rattle.line_check.proofs.entries.check_swap.Goals as goal
 
 pub returns-then-cite-k : goal.returns-then-cite-k
 returns-then-cite-k c = λ kind steps. (
-  (inr (c.args.cite, c.args.out_task, c.args.in_task, (c.requires.way, (refl, omega (arith, c.if-cite-k.true, length-take c.args.k c.args.entries.now, c.requires.k)))), refl),
+  (
+    inr (
+      c.args.cite,
+      c.args.out_task,
+      c.args.in_task,
+      (
+        c.requires.way,
+        (refl, omega (arith, c.if-cite-k.true, length-take c.args.k c.args.entries.now, c.requires.k)),
+      ),
+    ),
+    refl,
+  ),
   omega arith,
 )
 
 pub returns-then-is_swapped : goal.returns-then-is_swapped
 returns-then-is_swapped c = λ kind steps.
     let P : Why → Type 0 = λ z. UnitsBy c.args.inst.now c.args.entry.now z 0 in
-    let Q : Why → Type 0 = λ z. FollowsBy kind c.args.inst.now (take c.args.k c.args.entries.now) c.args.entry.now z in (
+    let Q : Why → Type 0 = λ z. FollowsBy kind c.args.inst.now (take c.args.k c.args.entries.now) c.args.entry.now z in
+        (
       record {
         set = c.requires.set;
         cycle = c.requires.cycle.some;
-        by = subst Q (sym c.requires.way) (swapped c.args.inst.now (take c.args.k c.args.entries.now) c.args.entry.now c.at.result.now c.args.cite c.args.out_task c.args.in_task (get_taken_of c.args.entries.now c.args.k c.args.cite c.at.result.now (omega (arith, c.if-cite-k.false)) c.at.ensures) (c.is_swapped.ensures.0 c.if-is_swapped.true));
+        by = subst Q (sym c.requires.way) (swapped c.args.inst.now (take c.args.k c.args.entries.now) c.args.entry.now
+            c.at.result.now c.args.cite c.args.out_task c.args.in_task
+            (get_taken_of c.args.entries.now c.args.k c.args.cite c.at.result.now (omega (arith, c.if-cite-k.false))
+            c.at.ensures) (c.is_swapped.ensures.0 c.if-is_swapped.true));
       },
       subst P (sym c.requires.way) refl,
       omega arith,
@@ -37,7 +52,10 @@ returns c = λ kind steps. (
         c.requires.way,
         (
           omega (arith, length-take c.args.k c.args.entries.now, c.requires.k, c.if-cite-k.false),
-          λ f. false≢true (sym c.if-is_swapped.false ∙ c.is_swapped.ensures.1 (swap_of c.args.inst.now (take c.args.k c.args.entries.now) c.args.entry.now c.at.result.now c.args.cite c.args.out_task c.args.in_task (get_taken_of c.args.entries.now c.args.k c.args.cite c.at.result.now (omega (arith, c.if-cite-k.false)) c.at.ensures) f)),
+          λ f. false≢true (sym c.if-is_swapped.false ∙ c.is_swapped.ensures.1
+              (swap_of c.args.inst.now (take c.args.k c.args.entries.now) c.args.entry.now c.at.result.now c.args.cite
+              c.args.out_task c.args.in_task (get_taken_of c.args.entries.now c.args.k c.args.cite c.at.result.now
+              (omega (arith, c.if-cite-k.false)) c.at.ensures) f)),
         ),
       ),
     ),

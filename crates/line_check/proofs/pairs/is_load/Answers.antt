@@ -28,16 +28,21 @@ returns c =
     let S : ℕ → List Bool → Type 0 = λ j b. In b j in
     let Q : List Bool → Type 0 = λ b. IsSubset b c.args.set.now in
     let E : List Bool → Type 0 = λ b. IsEmpty b in
-    let sum : sum_where (has c.union-taken.result) c.args.inst.now.times ≡ sum_where (has (taken c.args.load.now)) c.args.inst.now.times = ap (λ (b : List Bool). sum_where (has b) c.args.inst.now.times) both in (
+    let sum : sum_where (has c.union-taken.result) c.args.inst.now.times
+    ≡ sum_where (has (taken c.args.load.now)) c.args.inst.now.times =
+    ap (λ (b : List Bool). sum_where (has b) c.args.inst.now.times) both in (
       λ e. record {
         front = record { truths = c.requires.like.front.truths; tasks = c.requires.like.front.tasks };
         back = record { truths = c.requires.like.back.truths; tasks = c.requires.like.back.tasks };
         suits = c.requires.like.suits;
         within = subst Q both (c.is_subset.ensures.0 c.if-not-is_subset.false);
-        disjoint = λ i f b. In-empty 1024 i (subst (S i) c.empty.ensures.value (c.is_met.ensures.0 c.if-not-is_met.false i f b));
-        some = some_task (taken c.args.load.now) (λ h. false≢true (sym c.if-is_empty.false ∙ c.is_empty.ensures.1 (subst E (sym both) h)));
+        disjoint = λ i f b. In-empty 1024 i (subst (S i) c.empty.ensures.value
+            (c.is_met.ensures.0 c.if-not-is_met.false i f b));
+        some = some_task (taken c.args.load.now) (λ h. false≢true
+            (sym c.if-is_empty.false ∙ c.is_empty.ensures.1 (subst E (sym both) h)));
         fits = omega (arith, c.if-sum-cycle.false, c.sum.ensures.sum, sum);
-        parted = λ i j a b p. let w = c.is_closed.ensures.0 e j (tasks_of.tasks j b) in w.parted (subst (S j) (sym both) b) i (subst (S i) (sym both) a) p;
+        parted = λ i j a b p. let w = c.is_closed.ensures.0 e j (tasks_of.tasks j b) in
+            w.parted (subst (S j) (sym both) b) i (subst (S i) (sym both) a) p;
         before = λ i j a b p. let w = c.is_closed.ensures.0 e j (c.requires.like.front.tasks j b) in w.before b i a p;
         after = λ i j a b p. let w = c.is_closed.ensures.0 e i (c.requires.like.back.tasks i a) in w.after a j b p;
       },

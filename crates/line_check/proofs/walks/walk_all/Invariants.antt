@@ -6,7 +6,8 @@ use Rattle.line_check.proofs.walks.walk_all.Given as goal
 abbrev pub invariant-loads : goal.invariant-loads
 invariant-loads l = record {
   is : IsWalk l.inst l.q.cycle l.q.mode l.q.set l.walk;
-  walking : IsWalking l.q.kind l.inst l.q.cycle l.q.mode l.q.set l.q.most (take l.k l.entries) l.cites (last_of l.walk) l.units l.taken;
+  walking : IsWalking l.q.kind l.inst l.q.cycle l.q.mode l.q.set l.q.most (take l.k l.entries) l.cites (last_of l.walk)
+      l.units l.taken;
   less : l.units ≤ l.steps;
 }
 

@@ -7,7 +7,8 @@ use Rattle.line_check.proofs.walks.walk_to.Given as goal
 abbrev pub invariant-loads : goal.invariant-loads
 invariant-loads l = record {
   is : IsWalk l.inst l.q.cycle l.q.mode l.q.set l.walk;
-  walking : IsWalking l.q.kind l.inst l.q.cycle l.q.mode l.q.set l.q.most l.entries l.cites (last_of l.walk) l.units l.taken;
+  walking : IsWalking l.q.kind l.inst l.q.cycle l.q.mode l.q.set l.q.most l.entries l.cites (last_of l.walk) l.units
+      l.taken;
   ahead : After l.inst (last_of l.walk) l.end;
   less : l.units ≤ l.steps;
 }

@@ -1,4 +1,5 @@
-use Rattle.std.proofs.Common.{◌≡◌, ◌∙◌, ◌+◌, ◌-◌, ◌++◌, List, ap, sym, arith, suc, add-one, append_assoc, string_bytes, ℕ}
+use Rattle.std.proofs.Common.{◌≡◌, ◌∙◌, ◌+◌, ◌-◌, ◌++◌, List, ap, sym, arith, suc, add-one, append_assoc, string_bytes}
+use Rattle.std.proofs.Common.{ℕ}
 use Rattle.line_rules.specs.declared.types.Seatplace.{Seatplace}
 use Rattle.line_drawing.specs.Drawing.{rows_from, station_text}
 use Rattle.line_drawing.proofs.drawing.push_rows.Goals as goal

@@ -17,7 +17,8 @@ push_row-requires-clause-within c =
     let k : ℕ = c.args.station in
     let P : List Segment → Type 0 = λ ss. All (λ s. end_of s ≤ 800) ss in
     subst P (sym (c.deref-2.ensures.value ∙ c.in_ok-segments.ensures))
-    (all_within line c.args.figures.now.cycle c.requires.figures.cycle (tasks_at line places Front k) (tasks_at line places Back k)
+    (all_within line c.args.figures.now.cycle c.requires.figures.cycle (tasks_at line places Front k)
+    (tasks_at line places Back k)
     (omega (arith, both_sides line c.tasks-tasks.ensures.line c.tasks-tasks.ensures.ranked places k, c.requires.fits)))
 
 pub returns : goal.returns

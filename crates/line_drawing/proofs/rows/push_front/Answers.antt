@@ -6,6 +6,7 @@ use Rattle.line_drawing.proofs.rows.push_front.Goals as goal
 
 pub returns : goal.returns
 returns c =
-    three (string_bytes c.args.text.now) (codes "<path fill=\"#fff\" stroke=\"#888\" d=\"M0-14v20h800v-20z\"/>\n<g fill=\"#cfe2f6\" stroke=\"#467\">\n")
+    three (string_bytes c.args.text.now)
+    (codes "<path fill=\"#fff\" stroke=\"#888\" d=\"M0-14v20h800v-20z\"/>\n<g fill=\"#cfe2f6\" stroke=\"#467\">\n")
     (each_where (is_of Front) path_text c.args.segments.now) (codes "</g>\n")
     c.in_ok-push_str.ensures.bytes c.in_ok-push_paths.ensures c.in_ok-push_str-2.ensures.bytes

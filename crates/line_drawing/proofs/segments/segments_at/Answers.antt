@@ -7,10 +7,12 @@ pub push_fronts-requires-clause-fits : goal.push_fronts-requires-clause-fits
 push_fronts-requires-clause-fits c =
     let P : List ℕ → Type 0 = λ is. times_of c.args.inst.now is ≤ c.args.cycle in
     subst P (sym (c.deref.ensures.value ∙ c.in_ok-front.ensures.tasks))
-    (front_fits c.args.inst.now c.tasks-tasks.ensures.line c.tasks-tasks.ensures.ranked c.args.places.now c.args.station c.args.cycle c.requires.fits)
+    (front_fits c.args.inst.now c.tasks-tasks.ensures.line c.tasks-tasks.ensures.ranked c.args.places.now c.args.station
+    c.args.cycle c.requires.fits)
 
 pub push_backs-requires-clause-fits : goal.push_backs-requires-clause-fits
 push_backs-requires-clause-fits c =
     let P : List ℕ → Type 0 = λ is. times_of c.args.inst.now is ≤ c.args.cycle in
     subst P (sym (c.deref-2.ensures.value ∙ c.in_ok-back.ensures.tasks))
-    (back_fits c.args.inst.now c.tasks-tasks.ensures.line c.tasks-tasks.ensures.ranked c.args.places.now c.args.station c.args.cycle c.requires.fits)
+    (back_fits c.args.inst.now c.tasks-tasks.ensures.line c.tasks-tasks.ensures.ranked c.args.places.now c.args.station
+    c.args.cycle c.requires.fits)

@@ -4,7 +4,9 @@ use Rattle.line_instance.proofs.Keeping.{IsTabling, one_tabled, all_tabled}
 use Rattle.line_instance.proofs.partners.keep_partners.Goals as goal
 
 pub loop-i-preserved : goal.loop-i-preserved
-loop-i-preserved c = one_tabled (of_rows c.args.times.now c.args.before.now c.args.apart.now) c.loop-i.partners c.loop-i.i c.first_partners.result c.first_partners.ensures.room c.first_partners.ensures.many c.first_partners.ensures.kept c.loop-i.invariant
+loop-i-preserved c = one_tabled (of_rows c.args.times.now c.args.before.now c.args.apart.now) c.loop-i.partners
+    c.loop-i.i c.first_partners.result c.first_partners.ensures.room c.first_partners.ensures.many
+    c.first_partners.ensures.kept c.loop-i.invariant
 
 pub returns : goal.returns
 returns c =

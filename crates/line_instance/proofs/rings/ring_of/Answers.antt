@@ -19,9 +19,12 @@ returns c =
     let H : List ℕ → Type 0 = λ p. cut < length p in
     let A : List ℕ → Type 0 = λ p. IsAppended c.new-items.result.items p from (cut + 1) c.append_back.new.list.items in
     let O : List ℕ → Type 0 = λ o. IsAppended o path from (cut + 1) c.append_back.new.list.items in
-    let B : List ℕ → Type 0 = λ p. IsAppended c.append_back.new.list.items p (cut + 1) c.len.result c.append_back-2.new.list.items in
+    let B : List ℕ → Type 0 = λ p. IsAppended c.append_back.new.list.items p (cut + 1) c.len.result
+    c.append_back-2.new.list.items in
     let T : ℕ → Type 0 = λ t. IsAppended c.append_back.new.list.items path (cut + 1) t c.append_back-2.new.list.items in
-    ring_is direct path c.in_ok-back.back.again from cut c.append_back.new.list.items c.append_back-2.new.list.items c.in_ok-back.ensures
-    c.least_from-least.ensures.low (subst H two c.least_from-least.ensures.high) (subst S one c.place_of-from.ensures.task) (subst L two c.least_from-least.ensures.least)
+    ring_is direct path c.in_ok-back.back.again from cut c.append_back.new.list.items c.append_back-2.new.list.items
+    c.in_ok-back.ensures
+    c.least_from-least.ensures.low (subst H two c.least_from-least.ensures.high)
+    (subst S one c.place_of-from.ensures.task) (subst L two c.least_from-least.ensures.least)
     (subst O c.new-items.ensures.items (subst A three c.in_ok-append_back.ensures))
     (subst T (omega arith) (subst B four c.in_ok-append_back-2.ensures))

@@ -8,10 +8,12 @@ pub loop-k-preserved : goal.loop-k-preserved
 loop-k-preserved c =
     let task : ℕ = get_or c.args.order.now c.loop-k.k 0 in
     let small : task < length c.args.direct.now = c.requires.order.order_is.small c.loop-k.k c.loop-k-test.true in
-    let row : c.index-direct-task.result ≡ get_or c.args.direct.now task [] = get_or_read c.args.direct.now task c.index-direct-task.result small c.index-direct-task.is [] in
+    let row : c.index-direct-task.result ≡ get_or c.args.direct.now task [] =
+    get_or_read c.args.direct.now task c.index-direct-task.result small c.index-direct-task.is [] in
     let P : List Bool → Type 0 = λ d. IsJoined d c.loop-k.rows.items c.joined_row.result in
     let Q : List (List Bool) → Type 0 = λ rs. IsJoined c.index-direct-task.result rs c.joined_row.result in
-    one_filled c.args.direct.now c.args.order.now c.loop-k.rows.items c.loop-k.k c.joined_row.result c.requires.order c.loop-k-test.true (subst P row (subst Q c.deref.ensures.value c.joined_row.ensures)) c.loop-k.invariant
+    one_filled c.args.direct.now c.args.order.now c.loop-k.rows.items c.loop-k.k c.joined_row.result c.requires.order
+    c.loop-k-test.true (subst P row (subst Q c.deref.ensures.value c.joined_row.ensures)) c.loop-k.invariant
 
 pub returns : goal.returns
 returns c =

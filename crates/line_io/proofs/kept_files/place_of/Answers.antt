@@ -11,5 +11,8 @@ returns-clause-none c =
 
 pub returns-then-eq-clause-some : goal.returns-then-eq-clause-some
 returns-then-eq-clause-some c =
-    let same : c.as_slice.result.now ≡ c.args.name.now = (bytes_eq-Decides c.as_slice.result.now c.args.name.now).0 (sym c.eq.ensures ∙ c.if-eq.true) in
-    place c.args.files.now c.args.name.now c.loop-k.k c.index-files-k.result c.loop-k-test.true c.loop-k.invariant (sym (ap (λ f. f.name) c.file.view_is ∙ ap (λ f. f.name) c.index-files-k.is) ∙ (sym c.as_slice.ensures.value ∙ same))
+    let same : c.as_slice.result.now ≡ c.args.name.now = (bytes_eq-Decides c.as_slice.result.now c.args.name.now).0
+    (sym c.eq.ensures ∙ c.if-eq.true) in
+    place c.args.files.now c.args.name.now c.loop-k.k c.index-files-k.result c.loop-k-test.true c.loop-k.invariant
+    (sym (ap (λ f. f.name) c.file.view_is ∙ ap (λ f. f.name) c.index-files-k.is)
+    ∙ (sym c.as_slice.ensures.value ∙ same))

@@ -8,4 +8,5 @@ abbrev pub decreases-later : goal.decreases-later
 decreases-later l = members l.left
 
 abbrev pub invariant-later : goal.invariant-later
-invariant-later l = IsLeft (λ j. Before l.inst l.i j) (λ j. Keeps l.kind (seat l.balance.place l.i) (seat l.balance.place j)) l.left
+invariant-later l = IsLeft (λ j. Before l.inst l.i j) (λ j.
+    Keeps l.kind (seat l.balance.place l.i) (seat l.balance.place j)) l.left

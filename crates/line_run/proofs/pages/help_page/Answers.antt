@@ -7,4 +7,5 @@ returns c =
     ap (λ v. v.items) c.into_bytes.ensures.value ∙ c.in_ok-push_str-4.ensures.bytes
     ∙ ap (λ t. t ++ other_text) (c.in_ok-push_str-3.ensures.bytes
     ∙ ap (λ t. t ++ mix_text) (c.in_ok-push_str-2.ensures.bytes
-    ∙ ap (λ t. t ++ proof_text) (c.in_ok-push_str.ensures.bytes ∙ ap (λ t. t ++ planning_text) c.new-text.ensures.bytes)))
+    ∙ ap (λ t. t ++ proof_text) (c.in_ok-push_str.ensures.bytes
+    ∙ ap (λ t. t ++ planning_text) c.new-text.ensures.bytes)))

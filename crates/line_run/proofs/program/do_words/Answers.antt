@@ -18,7 +18,8 @@ returns-in-Good-clause-ends g c = λ t.
 pub returns-in-Good-clause-plain : goal.returns-in-Good-clause-plain
 returns-in-Good-clause-plain g c = elim c.do_job.ensures.plain [
   | inl f ↦ inl (record { job = c.in-Good.job; asked = c.in-Good.ensures.read; reads = f })
-  | inr p ↦ inr (plain_as (IsPage c.in-Good.job) (IsPlainOutcome _) c.do_job.result (λ out x. inr (inl (record { job = c.in-Good.job; asked = c.in-Good.ensures.read; page = x }))) p)
+  | inr p ↦ inr (plain_as (IsPage c.in-Good.job) (IsPlainOutcome _) c.do_job.result
+      (λ out x. inr (inl (record { job = c.in-Good.job; asked = c.in-Good.ensures.read; page = x }))) p)
 ]
 
 pub returns-in_ok-usage_report-in-Usage-clause-ends : goal.returns-in_ok-usage_report-in-Usage-clause-ends
@@ -26,7 +27,9 @@ returns-in_ok-usage_report-in-Usage-clause-ends g c = λ t. record {
   page = None;
   reached = inl ((
     record { index = c.in-Usage.index; kind = c.in-Usage.kind; fault = c.in-Usage.ensures.read },
-    told_as c.in_ok-usage_report-in-Usage.field-0 ends.Usage (usage_text c.in-Usage.index c.in-Usage.kind) c.in_ok-usage_report-in-Usage.ensures.status c.in_ok-usage_report-in-Usage.ensures.text c.in_ok-usage_report-in-Usage.ensures.kept,
+    told_as c.in_ok-usage_report-in-Usage.field-0 ends.Usage (usage_text c.in-Usage.index c.in-Usage.kind)
+        c.in_ok-usage_report-in-Usage.ensures.status c.in_ok-usage_report-in-Usage.ensures.text
+        c.in_ok-usage_report-in-Usage.ensures.kept,
   ));
   written = λ q. refl;
 }
@@ -34,8 +37,14 @@ returns-in_ok-usage_report-in-Usage-clause-ends g c = λ t. record {
 pub returns-in_ok-usage_report-in-Usage-clause-plain : goal.returns-in_ok-usage_report-in-Usage-clause-plain
 returns-in_ok-usage_report-in-Usage-clause-plain g c = inr (inl ((
   record { index = c.in-Usage.index; kind = c.in-Usage.kind; fault = c.in-Usage.ensures.read },
-  told_as c.in_ok-usage_report-in-Usage.field-0 ends.Usage (usage_text c.in-Usage.index c.in-Usage.kind) c.in_ok-usage_report-in-Usage.ensures.status c.in_ok-usage_report-in-Usage.ensures.text c.in_ok-usage_report-in-Usage.ensures.kept,
+  told_as c.in_ok-usage_report-in-Usage.field-0 ends.Usage (usage_text c.in-Usage.index c.in-Usage.kind)
+      c.in_ok-usage_report-in-Usage.ensures.status c.in_ok-usage_report-in-Usage.ensures.text
+      c.in_ok-usage_report-in-Usage.ensures.kept,
 )))
 
 pub returns-in-Good-clause-promise : goal.returns-in-Good-clause-promise
-returns-in-Good-clause-promise g c = λ t a. record { job = c.in-Good.job; asked = c.in-Good.ensures.read; promise = c.do_job.ensures.promise t a }
+returns-in-Good-clause-promise g c = λ t a. record {
+  job = c.in-Good.job;
+  asked = c.in-Good.ensures.read;
+  promise = c.do_job.ensures.promise t a;
+}

@@ -23,5 +23,6 @@ returns-in-Spent-clause-gains c =
     let n = c.decide_in-decided.new.units.used in
     gains_few c.args.scratch.now c.decide_in-decided.new.desk c.len-before.ensures.kept c.len-after.ensures.kept
     c.decide_in-decided.ensures.keeps c.kind-kind.result c.args.inst.now c.cycle-cycle.result (sym c.requires.same)
-    c.cycle-cycle.ensures c.decide_in-decided.ensures.own c.in-Spent.field-0 (n - 0) (n - 0) n (n + 0) (omega arith) (omega arith)
+    c.cycle-cycle.ensures c.decide_in-decided.ensures.own c.in-Spent.field-0 (n - 0) (n - 0) n (n + 0) (omega arith)
+    (omega arith)
     c.in-Spent.ensures.few

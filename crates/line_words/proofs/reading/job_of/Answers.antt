@@ -9,7 +9,8 @@ returns-then-eq-clause-read c =
     let ws = c.args.words.now in
     let one = one_word ws c.is_empty.result c.is_empty.ensures c.if-is_empty.true c.in-len1-up.len_at_least in
     inl (alone ws c.first-item.result one c.first-item.is
-    ∙ ap (λ t. t ∷ []) (sym c.as_str.ensures.value ∙ same_bytes c.as_str.result.now (codes "--help") (sym c.eq.ensures ∙ c.if-eq.true)))
+    ∙ ap (λ t. t ∷ []) (sym c.as_str.ensures.value ∙ same_bytes c.as_str.result.now (codes "--help")
+    (sym c.eq.ensures ∙ c.if-eq.true)))
 
 pub returns-then-eq-2-clause-read : goal.returns-then-eq-2-clause-read
 returns-then-eq-2-clause-read c =
@@ -17,7 +18,8 @@ returns-then-eq-2-clause-read c =
     let one = one_word ws c.is_empty-2.result c.is_empty-2.ensures c.if-is_empty-2.true c.in-len1-up.len_at_least in
     inl (alone ws c.first-item.result one c.first-item.is
     ∙ ap (λ t. t ∷ []) (sym c.as_str-then-is_empty-2.ensures.value
-    ∙ same_bytes c.as_str-then-is_empty-2.result.now (codes "--version") (sym c.eq-then-is_empty-2.ensures ∙ c.if-eq-2.true)))
+    ∙ same_bytes c.as_str-then-is_empty-2.result.now (codes "--version")
+    (sym c.eq-then-is_empty-2.ensures ∙ c.if-eq-2.true)))
 
 pub returns-in-Some-clause-read : goal.returns-in-Some-clause-read
 returns-in-Some-clause-read c =

@@ -14,9 +14,11 @@ loop-i-preserved c =
     let inv = c.loop-i.invariant in
     elim c.if-is_name.branch [
       | then-is_name b ↦
-          let n = one_counted (string_bytes w) (drop i (texts ws)) (drop (i + 1) (texts ws)) e c.loop-i.names (length (names_of (texts ws))) inv.0 (is ∙ b.if-is_name.true) in
+          let n = one_counted (string_bytes w) (drop i (texts ws)) (drop (i + 1) (texts ws)) e c.loop-i.names
+          (length (names_of (texts ws))) inv.0 (is ∙ b.if-is_name.true) in
           (omega (arith, n, b.names-is), omega (arith, inv.1, b.names-is))
       | else-is_name b ↦
-          let n = none_counted (string_bytes w) (drop i (texts ws)) (drop (i + 1) (texts ws)) e c.loop-i.names (length (names_of (texts ws))) inv.0 (is ∙ b.if-is_name.false) in
+          let n = none_counted (string_bytes w) (drop i (texts ws)) (drop (i + 1) (texts ws)) e c.loop-i.names
+          (length (names_of (texts ws))) inv.0 (is ∙ b.if-is_name.false) in
           (omega (arith, n, b.names-is), omega (arith, inv.1, b.names-is))
     ]

@@ -10,7 +10,8 @@ returns-then-not-sets c =
     let i = c.loop-i.i in
     let keys = map (λ k. k.now) ks in
     let words = texts c.args.words.now in
-    set_none words (get_or ks i record { ref_ptr = (0, 0); now = [] }).now (drop i keys) (drop (i + 1) keys) (key_at ks i _ c.loop-i-test.true) (sets_all words keys) c.loop-i.invariant
+    set_none words (get_or ks i record { ref_ptr = (0, 0); now = [] }).now (drop i keys) (drop (i + 1) keys)
+    (key_at ks i _ c.loop-i-test.true) (sets_all words keys) c.loop-i.invariant
     (sym c.sets.ensures ∙ c.if-not-sets.true)
 
 pub loop-i-preserved : goal.loop-i-preserved
@@ -19,5 +20,6 @@ loop-i-preserved c =
     let i = c.loop-i.i in
     let keys = map (λ k. k.now) ks in
     let words = texts c.args.words.now in
-    set_one words (get_or ks i record { ref_ptr = (0, 0); now = [] }).now (drop i keys) (drop (i + 1) keys) (key_at ks i _ c.loop-i-test.true) (sets_all words keys) c.loop-i.invariant
+    set_one words (get_or ks i record { ref_ptr = (0, 0); now = [] }).now (drop i keys) (drop (i + 1) keys)
+    (key_at ks i _ c.loop-i-test.true) (sets_all words keys) c.loop-i.invariant
     (sym c.sets.ensures ∙ c.if-not-sets.false)

@@ -8,15 +8,19 @@ returns-in-Some c =
     let ws = c.args.words.now in
     let i = c.loop-i.i in
     let w = c.index-words-i.result in
-    value_hit c.args.key.now (string_bytes w) (drop i (texts ws)) (drop (i + 1) (texts ws)) (text_at ws i w c.loop-i-test.true c.index-words-i.is)
+    value_hit c.args.key.now (string_bytes w) (drop i (texts ws)) (drop (i + 1) (texts ws))
+    (text_at ws i w c.loop-i-test.true c.index-words-i.is)
     (value_of (texts ws) c.args.key.now) c.loop-i.invariant c.in-Some.value.now
-    (ap (λ t. value_by c.args.key.now (setting t)) (sym c.as_str.ensures.value) ∙ sym c.value_by.ensures ∙ ap (option_map (λ v. v.now)) c.in-Some.is)
+    (ap (λ t. value_by c.args.key.now (setting t)) (sym c.as_str.ensures.value) ∙ sym c.value_by.ensures
+    ∙ ap (option_map (λ v. v.now)) c.in-Some.is)
 
 pub loop-i-preserved : goal.loop-i-preserved
 loop-i-preserved c =
     let ws = c.args.words.now in
     let i = c.loop-i.i in
     let w = c.index-words-i.result in
-    value_miss c.args.key.now (string_bytes w) (drop i (texts ws)) (drop (i + 1) (texts ws)) (text_at ws i w c.loop-i-test.true c.index-words-i.is)
+    value_miss c.args.key.now (string_bytes w) (drop i (texts ws)) (drop (i + 1) (texts ws))
+    (text_at ws i w c.loop-i-test.true c.index-words-i.is)
     (value_of (texts ws) c.args.key.now) c.loop-i.invariant
-    (ap (λ t. value_by c.args.key.now (setting t)) (sym c.as_str.ensures.value) ∙ sym c.value_by.ensures ∙ ap (option_map (λ v. v.now)) c.in-None.is)
+    (ap (λ t. value_by c.args.key.now (setting t)) (sym c.as_str.ensures.value) ∙ sym c.value_by.ensures
+    ∙ ap (option_map (λ v. v.now)) c.in-None.is)

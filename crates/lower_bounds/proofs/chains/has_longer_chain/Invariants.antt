@@ -10,5 +10,6 @@ invariant-loop-j l = record {
   finite : (goal.iterator-loop-j).is_finite l.j-iterator;
   witness : l.witness < tasks l.inst;
   members : AllIn l.set l.j-iterator;
-  so_far : max l.most (greatest_of (λ j. head l.inst l.cycle l.set j + tail l.inst l.cycle l.set j - 1) l.j-iterator) ≡ max l.most (chained l.fn.kind l.inst l.cycle l.set);
+  so_far : max l.most (greatest_of (λ j. head l.inst l.cycle l.set j + tail l.inst l.cycle l.set j - 1) l.j-iterator)
+      ≡ max l.most (chained l.fn.kind l.inst l.cycle l.set);
 }

@@ -9,8 +9,19 @@ returns-in-U c = omega (arith, no_chain c.args.kind c.in-U.is c.args.inst.now c.
 pub loop-j-init : goal.loop-j-init
 loop-j-init c =
     let e = c.into_iter-j-iterator.ensures.into_iter_gives in
-    record { can_next = tt; finite = tt; witness = c.tasks-tasks.ensures.line.some; members = all_in_start _ _ e; so_far = chain_start c.args.kind c.in-Straight.is _ _ _ _ _ c.requires.set e }
+    record {
+      can_next = tt;
+      finite = tt;
+      witness = c.tasks-tasks.ensures.line.some;
+      members = all_in_start _ _ e;
+      so_far = chain_start c.args.kind c.in-Straight.is _ _ _ _ _ c.requires.set e;
+    }
 
 pub returns-then-from-enough : goal.returns-then-from-enough
 returns-then-from-enough c =
-    omega (arith, few_chained c.args.kind c.args.inst.now c.tasks-tasks.ensures.line c.args.cycle c.requires.some c.args.set.now c.requires.set c.args.least c.args.times.total c.args.times.longest c.requires.times.total c.requires.times.longest (omega (arith, c.enough.ensures, c.from.ensures, c.if-from-enough.true)))
+    omega (
+      arith,
+      few_chained c.args.kind c.args.inst.now c.tasks-tasks.ensures.line c.args.cycle c.requires.some
+          c.args.set.now c.requires.set c.args.least c.args.times.total c.args.times.longest c.requires.times.total
+          c.requires.times.longest (omega (arith, c.enough.ensures, c.from.ensures, c.if-from-enough.true)),
+    )

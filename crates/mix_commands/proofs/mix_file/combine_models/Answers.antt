@@ -5,4 +5,9 @@ use Rattle.mix_commands.proofs.mix_file.combine_models.Goals as goal
 pub returns-in-Good-clause-limit : goal.returns-in-Good-clause-limit
 returns-in-Good-clause-limit c =
     let draft = c.tasks-tasks.ensures.mix.draft in
-    omega (arith, demand_below c.args.mix.tasks c.args.mix.models draft.each, draft.models, c.in-Good.ensures.combined.1)
+    omega (
+      arith,
+      demand_below c.args.mix.tasks c.args.mix.models draft.each,
+      draft.models,
+      c.in-Good.ensures.combined.1,
+    )

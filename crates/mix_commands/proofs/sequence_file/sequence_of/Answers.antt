@@ -12,9 +12,12 @@ returns-in-TooManyUnits-clause-said g c = λ t.
     let models = c.args.mix.now.models in
     let out = told ends.Input c.in_ok-text-in-TooManyUnits.text.items in
     let W : List ℕ → Type 0 = λ bytes. length bytes ≤ max_file in
-    subst (λ s. Stops (IsNoSequence (outside (g.S.Shelf.file c.args.shelf.now) (g.S.Shelf.blames c.fetch.new.shelf)) name models) s) (sym c.refuse-in-TooManyUnits.ensures)
-    (inr (reads max_file (g.S.Shelf.file c.args.shelf.now name) c.deref.result.now (λ bytes. IsUnknownUnit name models bytes out ⊎ AreManyUnits name models bytes out)
-    ((c.in_ok-bytes.ensures.source t).0 ∙ ap Some (sym c.deref.ensures.value)) (subst W (sym c.deref.ensures.value) (c.in_ok-bytes.ensures.source t).1)
+    subst (λ s. Stops (IsNoSequence (outside (g.S.Shelf.file c.args.shelf.now) (g.S.Shelf.blames c.fetch.new.shelf))
+    name models) s) (sym c.refuse-in-TooManyUnits.ensures)
+    (inr (reads max_file (g.S.Shelf.file c.args.shelf.now name) c.deref.result.now
+    (λ bytes. IsUnknownUnit name models bytes out ⊎ AreManyUnits name models bytes out)
+    ((c.in_ok-bytes.ensures.source t).0 ∙ ap Some (sym c.deref.ensures.value))
+    (subst W (sym c.deref.ensures.value) (c.in_ok-bytes.ensures.source t).1)
     (inr (record {
       many = c.in-TooManyUnits.ensures.read.0;
       known = c.in-TooManyUnits.ensures.read.1;

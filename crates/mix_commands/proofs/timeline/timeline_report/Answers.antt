@@ -18,18 +18,28 @@ returns-in_err-launch-clause-ends g c = λ t.
     let q = err_from_is_err_and c.from_residual.result c.from_residual.ensures.1 in
     subst (λ r. Ends o P after r) (sym q.1)
     (subst (λ s. Ends o P after (Err s)) (sym q.2)
-    (stopped o P (IsUnlaunched o names c.args.interval) after c.in_err-launch.field-0.0 (λ out x. inr (inr x)) (c.in_err-launch.ensures.files t) (c.in_err-launch.ensures.said t)))
+    (stopped o P (IsUnlaunched o names c.args.interval) after c.in_err-launch.field-0.0 (λ out x. inr (inr x))
+    (c.in_err-launch.ensures.files t) (c.in_err-launch.ensures.said t)))
 
 pub returns-in_err-text-clause-ends : goal.returns-in_err-text-clause-ends
 returns-in_err-text-clause-ends g c = λ t.
     let after : Files = g.S.Shelf.file c.launch_of.new.shelf in
     let o : Outside = outside (g.S.Shelf.file c.args.shelf.now) (g.S.Shelf.blames c.launch_of.new.shelf) in
-    let P : Outcome → Type 0 = IsTimelineOutcome o c.args.mix.now c.args.cert.now c.args.seq.now c.args.interval c.args.reach in
+    let P : Outcome → Type 0 = IsTimelineOutcome o c.args.mix.now c.args.cert.now c.args.seq.now c.args.interval
+    c.args.reach in
     let launch = c.in_ok-launch.launch in
-    let Q : Outcome → Type 0 = λ out. (1000000 < length launch.units.items * launch.balance.stations) × (out ≡ told ends.Input (fault_line c.args.seq.now large_text)) in
+    let Q : Outcome → Type 0 = λ out. (1000000 < length launch.units.items * launch.balance.stations)
+    × (out ≡ told ends.Input (fault_line c.args.seq.now large_text)) in
     let q = err_from_is_err_and c.from_residual-in_err-text.result c.from_residual-in_err-text.ensures.1 in
     subst (λ r. Ends o P after r) (sym q.1)
     (subst (λ s. Ends o P after (Err s)) (sym q.2)
     (stopped o P Q after c.in_err-text.field-0.0
-    (λ out x. inr (inl (record { mix = launch.mix; balance = launch.balance; units = launch.units.items; launch = c.in_ok-launch.ensures.said t; many = x.0; shown = x.1 })))
+    (λ out x. inr (inl (record {
+      mix = launch.mix;
+      balance = launch.balance;
+      units = launch.units.items;
+      launch = c.in_ok-launch.ensures.said t;
+      many = x.0;
+      shown = x.1;
+    })))
     (c.in_ok-launch.ensures.files t) c.in_err-text.ensures.said))

@@ -16,4 +16,5 @@ returns-in_err-launch-clause-ends g c = λ t.
     let q = err_from_is_err_and c.from_residual.result c.from_residual.ensures.1 in
     subst (λ r. Ends o P after r) (sym q.1)
     (subst (λ s. Ends o P after (Err s)) (sym q.2)
-    (stopped o P (IsUnlaunched o names c.args.interval) after c.in_err-launch.field-0.0 (λ out x. inr x) (c.in_err-launch.ensures.files t) (c.in_err-launch.ensures.said t)))
+    (stopped o P (IsUnlaunched o names c.args.interval) after c.in_err-launch.field-0.0 (λ out x. inr x)
+    (c.in_err-launch.ensures.files t) (c.in_err-launch.ensures.said t)))

@@ -4,7 +4,8 @@ use Rattle.steal_pool.specs.Hands.{HandView, AreHandsOf}
 use Rattle.steal_pool.specs.Closing.{IsClosed}
 use Rattle.round_helpers.specs.inner.Teams.{AreSettled, IsTold, settled}
 use Rattle.round_helpers.specs.declared.teams.Helper.{Helper}
-use Rattle.round_helpers.proofs.HelpFacts.{bare_first, may_work, have_worked, passes_are, are_settled, hands_back, comes_back, spent_back}
+use Rattle.round_helpers.proofs.HelpFacts.{bare_first, may_work, have_worked, passes_are, are_settled, hands_back}
+use Rattle.round_helpers.proofs.HelpFacts.{comes_back, spent_back}
 use Rattle.round_helpers.proofs.helping.help_at.Goals as goal
 
 pub split_off-ready-requires-clause-bare : goal.split_off-ready-requires-clause-bare
@@ -103,7 +104,8 @@ returns-then-least-question-clause-spent g c =
     c.worked-helpers.result.items before c.split_off-ready.ensures.ready c.worked-helpers.ensures.each in
     let units = c.settle.ensures ∙ ap (λ (z : List Helper). settled c.args.units.now z) c.deref.ensures.value in
     spent_back c.args.share c.args.pass.view.base c.args.pass.view.seen c.args.inst.now c.args.question
-    c.args.jobs.now c.args.equipment.pool c.args.units.now c.settle.new.units c.args.equipment.hands c.worked-helpers.result.items
+    c.args.jobs.now c.args.equipment.pool c.args.units.now c.settle.new.units c.args.equipment.hands
+    c.worked-helpers.result.items
     (c.worked-helpers.ensures.count ∙ before) as_many all units
 
 pub returns-clause-help : goal.returns-clause-help
@@ -140,5 +142,6 @@ returns-clause-spent g c =
     c.worked-helpers.result.items before c.split_off-ready.ensures.ready c.worked-helpers.ensures.each in
     let units = c.settle.ensures ∙ ap (λ (z : List Helper). settled c.args.units.now z) c.deref.ensures.value in
     spent_back c.args.share c.args.pass.view.base c.args.pass.view.seen c.args.inst.now c.args.question
-    c.args.jobs.now c.args.equipment.pool c.args.units.now c.settle.new.units c.args.equipment.hands c.worked-helpers.result.items
+    c.args.jobs.now c.args.equipment.pool c.args.units.now c.settle.new.units c.args.equipment.hands
+    c.worked-helpers.result.items
     (c.worked-helpers.ensures.count ∙ before) as_many all units

@@ -4,7 +4,8 @@ use Rattle.line_rules.specs.declared.types.Mode.{Mode}
 use Rattle.station_search.specs.Mode.{mode_of}
 use Rattle.round_helpers.specs.declared.job_list.Job.{Job}
 use Rattle.round_helpers.proofs.JobFacts.{IsListing, starts, passes, joins, over, all_jobs}
-use Rattle.round_helpers.proofs.job_list.jobs.Goals.{in-Some-rest_at+in_ok-push+else-len-eq-MAX_JOBS, in_default-rest_at}
+use Rattle.round_helpers.proofs.job_list.jobs.Goals.{in-Some-rest_at+in_ok-push+else-len-eq-MAX_JOBS}
+use Rattle.round_helpers.proofs.job_list.jobs.Goals.{in_default-rest_at}
 use Rattle.round_helpers.proofs.job_list.jobs.Goals as goal
 
 pub listing-init : goal.listing-init
@@ -49,7 +50,8 @@ listing-preserved c = elim c.match-rest_at.branch [
   | in-Some-rest_at+in_ok-push+else-len-eq-MAX_JOBS w ↦
       let same : c.match-rest_at.jobs.items ≡ w.push.new.self.items =
       ap (λ (z : Vec Job Global). z.items) w.jobs-is in
-      let items : w.push.new.self.items ≡ c.listing.jobs.items ++ record { set = w.in-Some-rest_at.set; load = c.in-Some.load } ∷ [] =
+      let items : w.push.new.self.items ≡ c.listing.jobs.items
+      ++ record { set = w.in-Some-rest_at.set; load = c.in-Some.load } ∷ [] =
       w.in_ok-push.ensures.items in
       let long : length w.push.new.self.items ≡ length c.listing.jobs.items + 1 =
       omega (
@@ -89,7 +91,8 @@ listing-preserved c = elim c.match-rest_at.branch [
             c.listing.jobs.items c.listing.invariant.listing c.in-Some.load c.in-Some.ensures.next
             c.in-Some.ensures.walk
             c.in-Some.ensures.cycle c.in-Some.ensures.mode c.in-Some.ensures.set c.in-Some.ensures.given
-            c.step.new.self.mode c.all-all.result refl c.listing.invariant.all (w.in_default-rest_at.ensures.none refl));
+            c.step.new.self.mode c.all-all.result refl c.listing.invariant.all
+            (w.in_default-rest_at.ensures.none refl));
         all = c.listing.invariant.all;
         few = omega (arith, ap (λ (z : List Job). length z) same, c.listing.invariant.few);
       }

@@ -10,11 +10,13 @@ use Rattle.round_helpers.proofs.teams.split_off.Goals as goal
 pub loop-hand-init : goal.loop-hand-init
 loop-hand-init c =
     let P : List HandView → Type 0 =
-    λ z. IsSplitting c.args.share.now c.args.pass.now.view.base c.args.pass.now.view.seen c.args.units.now c.args.hands z
+    λ z. IsSplitting c.args.share.now c.args.pass.now.view.base c.args.pass.now.view.seen c.args.units.now c.args.hands
+    z
     c.args.helpers.items c.args.pass.now in
     record {
       splitting = subst P (sym (c.into_iter-hand-iterator.ensures.into_iter_gives.0 ∙ c.into_vec-hand-items.ensures))
-          (splits_none c.args.share.now c.args.pass.now.view.base c.args.pass.now.view.seen c.args.units.now c.args.hands
+          (splits_none c.args.share.now c.args.pass.now.view.base c.args.pass.now.view.seen c.args.units.now
+          c.args.hands
           c.args.helpers.items c.args.pass.now c.requires.none c.requires.bare);
       room = c.requires.room;
     }
@@ -22,7 +24,8 @@ loop-hand-init c =
 pub loop-hand-preserved : goal.loop-hand-preserved
 loop-hand-preserved c =
     let P : List HandView → Type 0 =
-    λ z. IsSplitting c.args.share.now c.args.pass.now.view.base c.args.pass.now.view.seen c.args.units.now c.args.hands z
+    λ z. IsSplitting c.args.share.now c.args.pass.now.view.base c.args.pass.now.view.seen c.args.units.now c.args.hands
+    z
     c.loop-hand.helpers.items c.loop-hand.pass in
     let s = subst P c.in-Some.ensures.steps.0 c.loop-hand.invariant.splitting in
     let below : length c.loop-hand.helpers.items < length c.args.hands =

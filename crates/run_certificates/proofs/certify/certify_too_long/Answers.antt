@@ -7,4 +7,5 @@ use Rattle.run_certificates.proofs.certify.certify_too_long.Goals as goal
 pub returns : goal.returns
 returns c =
     let R : Certificate → Type 0 = IsNoBalance c.args.kind c.args.inst.now c.args.cycle c.args.task in
-    subst R (sym c.about_stations.ensures.said) (refusal c.args.kind c.args.inst.now c.args.cycle c.args.task c.about_stations.ensures.line c.requires.cycle c.requires.long)
+    subst R (sym c.about_stations.ensures.said) (refusal c.args.kind c.args.inst.now c.args.cycle c.args.task
+    c.about_stations.ensures.line c.requires.cycle c.requires.long)

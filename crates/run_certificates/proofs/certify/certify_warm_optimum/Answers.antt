@@ -23,8 +23,10 @@ pub returns : goal.returns
 returns c = λ before N room solved.
     let b = c.into_parts-entries.result.1 in
     let new = c.in_ok-entries.entries in
-    let P : Certificate → Type 0 = IsOptimumFrom c.args.kind c.args.inst.now c.args.cycle before c.args.book.state.best in
-    let C : ℕ → ℕ → Certificate = λ l u. about_stations c.args.kind c.args.inst.now c.args.cycle (claim.Bounds l u b new None) in
+    let P : Certificate → Type 0 = IsOptimumFrom c.args.kind c.args.inst.now c.args.cycle before
+    c.args.book.state.best in
+    let C : ℕ → ℕ → Certificate = λ l u. about_stations c.args.kind c.args.inst.now c.args.cycle
+    (claim.Bounds l u b new None) in
     let L : ℕ → Type 0 = λ x. P (C x c.from-2.result) in
     let U : ℕ → Type 0 = λ x. P (C b.stations x) in
     let G : ℕ → Type 0 = λ m. 1 < b.stations → HasAnswer new (full_to m) (b.stations - 1) c.args.cycle in

@@ -9,5 +9,6 @@ use Rattle.run_certificates.proofs.certify.proof_of.Goals as goal
 pub returns-clause-cycles : goal.returns-clause-cycles
 returns-clause-cycles c =
     let set = full_to c.args.tasks in
-    IfOk-weaker c.trim.result (IsTrimmed c.args.entries set (c.args.lower - 1) c.args.cycle) (HaveCyclesOf c.args.entries)
+    IfOk-weaker c.trim.result (IsTrimmed c.args.entries set (c.args.lower - 1) c.args.cycle)
+    (HaveCyclesOf c.args.entries)
     (λ new t. trimmed_cycles c.args.entries set (c.args.lower - 1) c.args.cycle new t) c.trim.ensures.trimmed

@@ -11,4 +11,11 @@ returns c =
     let state = c.args.book.now.state in
     let P : List Event → Type 0 = λ z. AllMayCome about state z in
     let Q : Line → Type 0 = λ l. Follows about.kind l state.entries c.in-Some.step in
-    subst P (sym c.in_ok-vec.ensures.items) ((subst Q c.instance-2.ensures (c.in-Some.ensures.follows about.kind state.entries), c.in-Some.ensures.range), (tt, (tt, tt)))
+    subst P (sym c.in_ok-vec.ensures.items) (
+      (
+        subst Q c.instance-2.ensures
+            (c.in-Some.ensures.follows about.kind state.entries),
+        c.in-Some.ensures.range,
+      ),
+      (tt, (tt, tt)),
+    )

@@ -10,10 +10,12 @@ is_left_by-requires-clause-need c = (c.requires.posed c.args.j c.args.frame.now 
 
 pub returns-then-j-eq0 : goal.returns-then-j-eq0
 returns-then-j-eq0 c =
-    let p = asked_first c.args.times.now c.args.interval c.args.reach c.args.frames.now c.args.j c.args.frame.now c.if-j-eq0.true in
+    let p = asked_first c.args.times.now c.args.interval c.args.reach c.args.frames.now c.args.j c.args.frame.now
+    c.if-j-eq0.true in
     (λ e. p.0 (c.is_root.ensures.0 e), λ h. c.is_root.ensures.1 (p.1 h))
 
 pub returns : goal.returns
 returns c =
-    let p = asked_further c.args.times.now c.args.interval c.args.reach c.args.frames.now c.args.j c.at.result.now c.args.frame.now (omega (arith, c.if-j-eq0.false)) c.at.ensures in
+    let p = asked_further c.args.times.now c.args.interval c.args.reach c.args.frames.now c.args.j c.at.result.now
+    c.args.frame.now (omega (arith, c.if-j-eq0.false)) c.at.ensures in
     (λ e. p.0 (c.is_left_by.ensures.0 e), λ h. c.is_left_by.ensures.1 (p.1 h))

@@ -6,7 +6,8 @@ use Rattle.sequence_search.proofs.ordering.order.Given as goal
 
 abbrev pub invariant-tries : goal.invariant-tries
 invariant-tries l = record {
-  standing : IsStanding l.times l.interval l.reach l.standing.lower l.standing.upper l.standing.sequence l.standing.entries;
+  standing : IsStanding l.times l.interval l.reach l.standing.lower l.standing.upper l.standing.sequence
+      l.standing.entries;
   few : units_of l.standing.entries ≤ l.units;
   tried : AreTried l.times l.standing.lower l.standing.upper l.standing.entries;
 }

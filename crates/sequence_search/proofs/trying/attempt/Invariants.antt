@@ -14,7 +14,8 @@ invariant-turns l = record {
   units : units_of l.entries + (units_in l.above + frame_units l.top) ≡ units_of l.fn.entries + l.used;
   roots : KeepsRoots l.times l.fn.entries l.entries;
   few : l.used ≤ l.room;
-  work : l.used + (frames_work (length l.times.demands) l.above + frame_work (length l.times.demands) l.top) ≤ root_work l.times;
+  work : l.used + (frames_work (length l.times.demands) l.above + frame_work (length l.times.demands) l.top)
+      ≤ root_work l.times;
 }
 
 abbrev pub decreases-turns : goal.decreases-turns

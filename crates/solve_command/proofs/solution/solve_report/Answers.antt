@@ -18,9 +18,11 @@ returns-in_err-timed-clause-ends g c = λ t.
     let apart : Option (List ℕ) = option_map (λ a. a.now) c.args.apart in
     let warm : Option (List ℕ) = option_map (λ a. a.now) c.args.warm in
     let name : Option (List ℕ) = option_map (λ a. a.now) c.args.name in
-    let P : Outcome → Type 0 = IsSolveOutcome o file apart warm c.args.limit c.args.word c.args.kind c.args.plan.now name in
+    let P : Outcome → Type 0 = IsSolveOutcome o file apart warm c.args.limit c.args.word c.args.kind c.args.plan.now
+    name in
     let after : Files = g.S.Shelf.file c.said_instance.new.shelf in
-    early o P (IsUnsaid o file apart c.args.word) after c.in_err-timed.field-0.0 c.from_residual.result (λ out x. inr (inl x))
+    early o P (IsUnsaid o file apart c.args.word) after c.in_err-timed.field-0.0 c.from_residual.result
+    (λ out x. inr (inl x))
     (c.in_err-timed.ensures.files t) (c.in_err-timed.ensures.said t) c.from_residual.ensures.1
 
 pub returns-in_err-olds-clause-ends : goal.returns-in_err-olds-clause-ends
@@ -36,7 +38,8 @@ returns-in_err-olds-clause-ends g c = λ t.
     let name : Option (List ℕ) = option_map (λ a. a.now) c.args.name in
     let line = c.in_ok-timed.timed.inst in
     let cycle = c.in_ok-timed.timed.cycle in
-    let P : Outcome → Type 0 = IsSolveOutcome o file apart warm c.args.limit c.args.word c.args.kind c.args.plan.now name in
+    let P : Outcome → Type 0 = IsSolveOutcome o file apart warm c.args.limit c.args.word c.args.kind c.args.plan.now
+    name in
     let Q : Outcome → Type 0 = IsUnwarmed (outside mid blames) warm c.args.kind line in
     early o P Q after c.in_err-olds.field-0.0 c.from_residual-in_err-olds.result
     (λ out u. inr (inr (record {
@@ -60,7 +63,8 @@ returns-in_err-report-clause-ends g c = λ t.
     let name : Option (List ℕ) = option_map (λ a. a.now) c.args.name in
     let line = c.in_ok-timed.timed.inst in
     let cycle = c.in_ok-timed.timed.cycle in
-    let P : Outcome → Type 0 = IsSolveOutcome o file apart warm c.args.limit c.args.word c.args.kind c.args.plan.now name in
+    let P : Outcome → Type 0 = IsSolveOutcome o file apart warm c.args.limit c.args.word c.args.kind c.args.plan.now
+    name in
     let Q : Outcome → Type 0 = IsCutShort c.args.kind line cycle in
     early o P Q after c.in_err-report.field-0.0 c.from_residual-in_err-report.result
     (λ out u. inl (record {
@@ -85,7 +89,8 @@ returns-in-None-clause-ends g c = λ t.
     let apart : Option (List ℕ) = option_map (λ a. a.now) c.args.apart in
     let warm : Option (List ℕ) = option_map (λ a. a.now) c.args.warm in
     let line = c.in_ok-timed.timed.inst in
-    let C : Option (List ℕ) → Type 0 = λ n. Comes o (IsSolveOutcome o file apart warm c.args.limit c.args.word c.args.kind c.args.plan.now n) after c.in_ok-report.report in
+    let C : Option (List ℕ) → Type 0 = λ n. Comes o (IsSolveOutcome o file apart warm c.args.limit c.args.word
+    c.args.kind c.args.plan.now n) after c.in_ok-report.report in
     subst C (sym (ap (option_map (λ a. a.now)) c.in-None.is)) (record {
       page = None;
       reached = inl (record {
@@ -110,7 +115,8 @@ returns-in-None-clause-promise g c = λ t.
     let warm : Option (List ℕ) = option_map (λ a. a.now) c.args.warm in
     let line = c.in_ok-timed.timed.inst in
     let r = c.in_ok-report.report in
-    let R : Option (List ℕ) → Type 0 = λ n. IsPromised files after file apart warm c.args.limit c.args.word c.args.kind c.args.plan.now n r.status r.text.items r.kept in
+    let R : Option (List ℕ) → Type 0 = λ n. IsPromised files after file apart warm c.args.limit c.args.word c.args.kind
+    c.args.plan.now n r.status r.text.items r.kept in
     subst R (sym (ap (option_map (λ a. a.now)) c.in-None.is)) (record {
       line = line;
       c = c.in_ok-timed.timed.cycle;
@@ -126,7 +132,8 @@ pub written-requires : goal.written-requires
 written-requires g c = record {
   sayable = λ cert kept.
       let start : Start = record { olds = c.in_ok-olds.olds; seek = c.args.limit } in
-      let found = in_file c.args.kind c.in_ok-timed.timed.inst c.in_ok-timed.timed.cycle c.args.plan.now start c.in-Some.name.now c.in_ok-report.report c.in_ok-report.ensures.answer in
+      let found = in_file c.args.kind c.in_ok-timed.timed.inst c.in_ok-timed.timed.cycle c.args.plan.now start
+      c.in-Some.name.now c.in_ok-report.report c.in_ok-report.ensures.answer in
       sayable c.in_ok-report.report found.0 cert found.1 kept found.2;
 }
 
@@ -145,11 +152,22 @@ returns-clause-ends g c = λ t.
     let start : Start = record { olds = c.in_ok-olds.olds; seek = c.args.limit } in
     let report = c.in_ok-report.report in
     let found = in_file c.args.kind line cycle plan start c.in-Some.name.now report c.in_ok-report.ensures.answer in
-    let E : Option (List ℕ) → Type 0 = λ n. Ends o (IsSolveOutcome o file apart warm c.args.limit c.args.word c.args.kind plan n) after c.written.result in
+    let E : Option (List ℕ) → Type 0 = λ n. Ends o (IsSolveOutcome o file apart warm c.args.limit c.args.word
+    c.args.kind plan n) after c.written.result in
     subst E (sym (ap (option_map (λ a. a.now)) c.in-Some.is))
-    (ends_as o (λ out. out ≡ outcome_of report (page_of name found.0)) (IsSolveOutcome o file apart warm c.args.limit c.args.word c.args.kind plan name) after c.written.result
-    (λ out is. inl (record { line = line; c = cycle; said = c.in_ok-timed.ensures.said t; olds = c.in_ok-olds.olds; old = old_in files (g.S.Shelf.file c.said_instance.new.shelf) warm c.args.kind line c.in_ok-olds.olds (c.in_ok-timed.ensures.files t) (c.in_ok-olds.ensures.said t); answer = inl (subst (IsSolution c.args.kind line cycle plan start name) (sym is) found.3) }))
-    (c.written.ensures.ends t files (λ q. c.in_ok-olds.ensures.files t q ∙ c.in_ok-timed.ensures.files t q) found.0 found.1))
+    (ends_as o (λ out. out ≡ outcome_of report (page_of name found.0))
+    (IsSolveOutcome o file apart warm c.args.limit c.args.word c.args.kind plan name) after c.written.result
+    (λ out is. inl (record {
+      line = line;
+      c = cycle;
+      said = c.in_ok-timed.ensures.said t;
+      olds = c.in_ok-olds.olds;
+      old = old_in files (g.S.Shelf.file c.said_instance.new.shelf) warm c.args.kind line c.in_ok-olds.olds
+          (c.in_ok-timed.ensures.files t) (c.in_ok-olds.ensures.said t);
+      answer = inl (subst (IsSolution c.args.kind line cycle plan start name) (sym is) found.3);
+    }))
+    (c.written.ensures.ends t files (λ q. c.in_ok-olds.ensures.files t q ∙ c.in_ok-timed.ensures.files t q) found.0
+    found.1))
 
 pub returns-clause-unwritten : goal.returns-clause-unwritten
 returns-clause-unwritten g c = λ e. (c.in-Some.name.now, ap (option_map (λ a. a.now)) c.in-Some.is)
@@ -163,8 +181,10 @@ returns-clause-promise g c = λ t.
     let warm : Option (List ℕ) = option_map (λ a. a.now) c.args.warm in
     let line = c.in_ok-timed.timed.inst in
     let shown = c.in_ok-report.ensures.shown in
-    let P : Option (List ℕ) → Report → Type 0 = λ n r. IsPromised files after file apart warm c.args.limit c.args.word c.args.kind c.args.plan.now n r.status r.text.items r.kept in
-    let Q : Report → Type 0 = λ r. (cert : Certificate) → r.kept ≡ Certified cert → HasCertificate (Some c.in-Some.name.now) after cert in
+    let P : Option (List ℕ) → Report → Type 0 = λ n r. IsPromised files after file apart warm c.args.limit c.args.word
+    c.args.kind c.args.plan.now n r.status r.text.items r.kept in
+    let Q : Report → Type 0 = λ r. (cert : Certificate) → r.kept ≡ Certified cert
+    → HasCertificate (Some c.in-Some.name.now) after cert in
     let R : Option (List ℕ) → Type 0 = λ n. IfOk c.written.result (P n) in
     subst R (sym (ap (option_map (λ a. a.now)) c.in-Some.is))
     (handed_on (P (Some c.in-Some.name.now)) Q c.in_ok-report.report c.written.result
@@ -173,7 +193,8 @@ returns-clause-promise g c = λ t.
       c = c.in_ok-timed.timed.cycle;
       said = c.in_ok-timed.ensures.said t;
       olds = c.in_ok-olds.olds;
-      old = old_in files (g.S.Shelf.file c.said_instance.new.shelf) warm c.args.kind line c.in_ok-olds.olds (c.in_ok-timed.ensures.files t) (c.in_ok-olds.ensures.said t);
+      old = old_in files (g.S.Shelf.file c.said_instance.new.shelf) warm c.args.kind line c.in_ok-olds.olds
+          (c.in_ok-timed.ensures.files t) (c.in_ok-olds.ensures.said t);
       shown = shown;
       written = written shown.certificate shown.keeps;
     })

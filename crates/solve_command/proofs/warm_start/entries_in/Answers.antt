@@ -7,7 +7,8 @@ use Rattle.solve_command.proofs.warm_start.entries_in.Goals as goal
 
 pub returns-clause-range : goal.returns-clause-range
 returns-clause-range c =
-    let n : c.args.cert.tasks ≡ tasks c.args.inst.now = omega (arith, c.if-cert-tasks.false, c.tasks-tasks.ensures.tasks) in
+    let n : c.args.cert.tasks ≡ tasks c.args.inst.now = omega
+    (arith, c.if-cert-tasks.false, c.tasks-tasks.ensures.tasks) in
     let N : ℕ → Type 0 = λ z. AreEntries z c.entries_of.result in
     let E : List Entry → Type 0 = λ z. AreEntries c.args.cert.tasks z in
     subst N n (subst E (sym c.entries_of.ensures)

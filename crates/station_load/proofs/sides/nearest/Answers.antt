@@ -3,4 +3,9 @@ use Rattle.task_set.proofs.Members.{In-below}
 use Rattle.station_load.proofs.sides.nearest.Goals as goal
 
 pub returns-in-Back-clause-none : goal.returns-in-Back-clause-none
-returns-in-Back-clause-none c = λ n i m. omega (arith, c.greatest_below.ensures.none.0 n i m, In-below c.args.set.now i m, c.capacity-most.ensures.truths)
+returns-in-Back-clause-none c = λ n i m. omega (
+  arith,
+  c.greatest_below.ensures.none.0 n i m,
+  In-below c.args.set.now i m,
+  c.capacity-most.ensures.truths,
+)

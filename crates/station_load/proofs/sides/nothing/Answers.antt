@@ -3,4 +3,5 @@ use Rattle.load_facts.proofs.NextLoad.{same_pair}
 use Rattle.station_load.proofs.sides.nothing.Goals as goal
 
 pub returns : goal.returns
-returns c = same_pair c.empty.result nothing_yet.front c.empty-2.result nothing_yet.back c.empty.ensures.value c.empty-2.ensures.value
+returns c = same_pair c.empty.result nothing_yet.front c.empty-2.result nothing_yet.back c.empty.ensures.value
+    c.empty-2.ensures.value

@@ -2,7 +2,8 @@ use Rattle.load_facts.proofs.Advancing.{Advancing}
 use Rattle.station_load.proofs.steps.advance.Given as goal
 
 abbrev pub invariant-loop-place : goal.invariant-loop-place
-invariant-loop-place l = Advancing l.inst l.cycle l.fn.mode l.set l.side l.last l.end.tasks l.end.free l.end.places l.other l.below l.sum
+invariant-loop-place l = Advancing l.inst l.cycle l.fn.mode l.set l.side l.last l.end.tasks l.end.free l.end.places
+    l.other l.below l.sum
 
 abbrev pub decreases-loop-place : goal.decreases-loop-place
 decreases-loop-place l = l.below

@@ -4,7 +4,8 @@ use Rattle.task_set.proofs.Members.{In-meet, In-meet_parts}
 use Rattle.line_instance.specs.Line.{has}
 use Rattle.load_facts.proofs.JoinTests.{none_start, none_turn, none_end, free_where_may, may_where_room, room_where_may}
 use Rattle.station_load.proofs.steps.grows.Goals as goal
-use Rattle.station_load.proofs.steps.grows.Goals.{else-not-has-via-then-not-has+else-fits, else-not-has-via-else-not-has}
+use Rattle.station_load.proofs.steps.grows.Goals.{else-not-has-via-then-not-has+else-fits}
+use Rattle.station_load.proofs.steps.grows.Goals.{else-not-has-via-else-not-has}
 
 pub loop-task-init : goal.loop-task-init
 loop-task-init c = none_start c.requires.set c.tasks-below.ensures.tasks
@@ -16,16 +17,23 @@ pub returns-then-fits-clause-some : goal.returns-then-fits-clause-some
 returns-then-fits-clause-some c = λ e. (
   c.in-Some.task,
   sym c.fills.ensures ∙ c.if-not-fills.false,
-  may_where_room (c.requires.kept (sym c.fills.ensures ∙ c.if-not-fills.false)) c.args.cycle c.args.other.now c.requires.sum c.in-Some.task c.requires.fits
-      ((In-meet_parts c.args.end.now.free c.args.short.now c.in-Some.task (ap (λ b. has b c.in-Some.task) (sym c.meet-candidates.ensures.value) ∙ c.in-Some.ensures.some.member)).0) (sym c.has.ensures ∙ c.if-not-has.true) (c.fits.ensures.0 c.if-fits.true),
+  may_where_room (c.requires.kept (sym c.fills.ensures ∙ c.if-not-fills.false)) c.args.cycle c.args.other.now
+      c.requires.sum c.in-Some.task c.requires.fits
+      ((In-meet_parts c.args.end.now.free c.args.short.now c.in-Some.task
+      (ap (λ b. has b c.in-Some.task) (sym c.meet-candidates.ensures.value) ∙ c.in-Some.ensures.some.member)).0)
+      (sym c.has.ensures ∙ c.if-not-has.true) (c.fits.ensures.0 c.if-fits.true),
 )
 
 pub loop-task-preserved : goal.loop-task-preserved
 loop-task-preserved c =
     none_turn c.meet-candidates.result c.loop-task.invariant (λ i may.
-    let r = room_where_may (c.requires.kept (sym c.fills.ensures ∙ c.if-not-fills.false)) c.args.cycle c.args.other.now c.requires.sum i may in
-    ap (λ b. has b i) c.meet-candidates.ensures.value ∙ In-meet c.args.end.now.free c.args.short.now i (free_where_may (c.requires.kept (sym c.fills.ensures ∙ c.if-not-fills.false)) c.args.cycle c.args.other.now i may) (c.requires.short i may.within r.1.time)) c.in-Some.ensures.some (λ may.
-    let r = room_where_may (c.requires.kept (sym c.fills.ensures ∙ c.if-not-fills.false)) c.args.cycle c.args.other.now c.requires.sum c.in-Some.task may in
+    let r = room_where_may (c.requires.kept (sym c.fills.ensures ∙ c.if-not-fills.false)) c.args.cycle c.args.other.now
+    c.requires.sum i may in
+    ap (λ b. has b i) c.meet-candidates.ensures.value ∙ In-meet c.args.end.now.free c.args.short.now i
+    (free_where_may (c.requires.kept (sym c.fills.ensures ∙ c.if-not-fills.false)) c.args.cycle c.args.other.now i
+    may) (c.requires.short i may.within r.1.time)) c.in-Some.ensures.some (λ may.
+    let r = room_where_may (c.requires.kept (sym c.fills.ensures ∙ c.if-not-fills.false)) c.args.cycle c.args.other.now
+    c.requires.sum c.in-Some.task may in
     elim c.else-not-has.branch [
       | else-not-has-via-then-not-has+else-fits w ↦ false≢true (sym w.if-fits.false ∙ w.fits.ensures.1 r.1)
       | else-not-has-via-else-not-has w ↦ false≢true (sym r.0 ∙ (sym c.has.ensures ∙ w.if-not-has.false))
@@ -34,5 +42,8 @@ loop-task-preserved c =
 pub returns-clause-none : goal.returns-clause-none
 returns-clause-none c = λ e i f may.
     none_end c.meet-candidates.result c.loop-task.invariant (λ i may.
-    let r = room_where_may (c.requires.kept (sym c.fills.ensures ∙ c.if-not-fills.false)) c.args.cycle c.args.other.now c.requires.sum i may in
-    ap (λ b. has b i) c.meet-candidates.ensures.value ∙ In-meet c.args.end.now.free c.args.short.now i (free_where_may (c.requires.kept (sym c.fills.ensures ∙ c.if-not-fills.false)) c.args.cycle c.args.other.now i may) (c.requires.short i may.within r.1.time)) (c.in_default.ensures.none.0 refl) i may
+    let r = room_where_may (c.requires.kept (sym c.fills.ensures ∙ c.if-not-fills.false)) c.args.cycle c.args.other.now
+    c.requires.sum i may in
+    ap (λ b. has b i) c.meet-candidates.ensures.value ∙ In-meet c.args.end.now.free c.args.short.now i
+    (free_where_may (c.requires.kept (sym c.fills.ensures ∙ c.if-not-fills.false)) c.args.cycle c.args.other.now i
+    may) (c.requires.short i may.within r.1.time)) (c.in_default.ensures.none.0 refl) i may

@@ -12,8 +12,10 @@ returns-clause-text c =
     let hw : c.args.visit.work < 2 ^ 64 = omega arith in
     let ho : c.args.visit.utility < 2 ^ 64 = omega arith in
     let row =
-    row_is c.args.visit.station c.args.visit.unit c.args.visit.start c.args.visit.work c.args.visit.utility c.args.name.now c.as_bytes.result.now
-    c.as_bytes-2.result.now c.as_bytes-3.result.now c.as_bytes-4.result.now c.as_bytes-5.result.now c.requires.name hs hu hb hw ho
+    row_is c.args.visit.station c.args.visit.unit c.args.visit.start c.args.visit.work c.args.visit.utility
+    c.args.name.now c.as_bytes.result.now
+    c.as_bytes-2.result.now c.as_bytes-3.result.now c.as_bytes-4.result.now c.as_bytes-5.result.now c.requires.name hs
+    hu hb hw ho
     (c.as_bytes.ensures.value ∙ c.format.ensures.text) (c.as_bytes-2.ensures.value ∙ c.format-2.ensures.text)
     (c.as_bytes-3.ensures.value ∙ c.format-3.ensures.text) (c.as_bytes-4.ensures.value ∙ c.format-4.ensures.text)
     (c.as_bytes-5.ensures.value ∙ c.format-5.ensures.text) in

@@ -18,7 +18,8 @@ loop-k-preserved c =
     let one : c.args.balance.now.stations - c.loop-k.k ≡ suc n = omega (arith, c.loop-k-test.true) in
     let rows : List ℕ = station_rows mix places units interval reach k in
     let told = c.in_ok-put_units.ensures.text ∙ ap (λ (t : List ℕ). old ++ t)
-    (same_rows mix.models (λ m. get_or c.works_at-works.result m 0) (λ m. work_at places k (model_at mix.models m)) k interval reach c.works_at-works.ensures.each 1 0 units c.requires.models) in
+    (same_rows mix.models (λ m. get_or c.works_at-works.result m 0) (λ m. work_at places k (model_at mix.models m)) k
+    interval reach c.works_at-works.ensures.each 1 0 units c.requires.models) in
     record {
       table = c.in_ok-put_units.ensures.table;
       text =

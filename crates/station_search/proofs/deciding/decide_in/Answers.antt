@@ -4,49 +4,102 @@ use Rattle.line_rules.proofs.Nonempty.{member_or_empty}
 use Rattle.line_rules.specs.Bounds.{bound}
 use Rattle.line_rules.specs.declared.types.OpenFrame.{OpenFrame}
 use Rattle.station_search.specs.Costs.{PaysWithin, AddsFew}
-use Rattle.station_search.proofs.Clauses.{not_exceeds, own_accounts, within_accounts, few_accounts, accounts_then, ends_then, ends_own, ends_costs, ends_few, ends_alone, not_known, few_none, empty_found}
+use Rattle.station_search.proofs.Clauses.{not_exceeds, own_accounts, within_accounts, few_accounts, accounts_then}
+use Rattle.station_search.proofs.Clauses.{ends_then, ends_own, ends_costs, ends_few, ends_alone, not_known, few_none}
+use Rattle.station_search.proofs.Clauses.{empty_found}
 use Rattle.station_search.proofs.deciding.decide_in.Goals as goal
 
 pub returns-then-is_empty-clause-decides : goal.returns-then-is_empty-clause-decides
 returns-then-is_empty-clause-decides g c =
-    empty_found c.args.kind c.args.inst.now c.args.cycle c.args.set.now c.args.most c.from_vec.result (not_exceeds c.exceeds.result c.args.most (bound c.args.kind c.args.inst.now c.args.cycle c.args.set.now) c.if-exceeds.false c.exceeds.ensures) (c.from_vec.ensures ∙ c.new.ensures.items) (c.is_empty.ensures.0 c.if-is_empty.true)
+    empty_found c.args.kind c.args.inst.now c.args.cycle c.args.set.now c.args.most c.from_vec.result
+    (not_exceeds c.exceeds.result c.args.most (bound c.args.kind c.args.inst.now c.args.cycle c.args.set.now)
+    c.if-exceeds.false c.exceeds.ensures) (c.from_vec.ensures ∙ c.new.ensures.items)
+    (c.is_empty.ensures.0 c.if-is_empty.true)
 
 pub returns-then-is_empty-clause-known : goal.returns-then-is_empty-clause-known
-returns-then-is_empty-clause-known g c = λ b h. absurd (not_known (g.D.Desk.desk c.args.desk.now) (g.D.Desk.desk c.look.new.self) c.args.inst.now c.args.kind c.args.set.now c.args.most c.args.cycle c.requires.desk c.look.ensures.waits.keeps c.in-Absent.ensures.finds h)
+returns-then-is_empty-clause-known g c = λ b h. absurd (not_known (g.D.Desk.desk c.args.desk.now)
+    (g.D.Desk.desk c.look.new.self) c.args.inst.now c.args.kind c.args.set.now c.args.most c.args.cycle c.requires.desk
+    c.look.ensures.waits.keeps c.in-Absent.ensures.finds h)
 
 pub returns-then-is_empty-clause-few : goal.returns-then-is_empty-clause-few
-returns-then-is_empty-clause-few g c = few_none c.args.inst.now c.args.cycle (g.D.Desk.desk c.args.desk.now) (g.D.Desk.desk c.look.new.self) (c.args.units.now.used - c.args.units.now.used) (c.args.units.now.used - c.args.units.now.used) c.look.ensures.waits
+returns-then-is_empty-clause-few g c = few_none c.args.inst.now c.args.cycle (g.D.Desk.desk c.args.desk.now)
+    (g.D.Desk.desk c.look.new.self) (c.args.units.now.used - c.args.units.now.used)
+    (c.args.units.now.used - c.args.units.now.used) c.look.ensures.waits
 
 pub search-requires-clause-some : goal.search-requires-clause-some
-search-requires-clause-some g c = elim (member_or_empty c.args.set.now) [ inl p ↦ p | inr n ↦ absurd (false≢true (sym c.if-is_empty.false ∙ c.is_empty.ensures.1 n)) ]
+search-requires-clause-some g c = elim (member_or_empty c.args.set.now)
+    [ inl p ↦ p | inr n ↦ absurd (false≢true (sym c.if-is_empty.false ∙ c.is_empty.ensures.1 n)) ]
 
 pub returns-in-Ok-clause-own : goal.returns-in-Ok-clause-own
-returns-in-Ok-clause-own g c = ends_own c.args.mode c.args.kind c.args.inst.now c.args.cycle (g.D.Desk.desk c.args.desk.now) (g.D.Desk.desk c.search.new.desk) (c.search.new.units.used - c.args.units.now.used) c.in-Ok.decided (ends_then c.args.mode c.args.kind c.args.inst.now c.args.cycle (g.D.Desk.desk c.args.desk.now) (g.D.Desk.desk c.look.new.self) (g.D.Desk.desk c.search.new.desk) (c.search.new.units.used - c.args.units.now.used) c.in-Ok.decided c.look.ensures.waits c.search.ensures.keeps c.in-Ok.ensures.ends)
+returns-in-Ok-clause-own g c = ends_own c.args.mode c.args.kind c.args.inst.now c.args.cycle
+    (g.D.Desk.desk c.args.desk.now) (g.D.Desk.desk c.search.new.desk) (c.search.new.units.used - c.args.units.now.used)
+    c.in-Ok.decided (ends_then c.args.mode c.args.kind c.args.inst.now c.args.cycle (g.D.Desk.desk c.args.desk.now)
+    (g.D.Desk.desk c.look.new.self) (g.D.Desk.desk c.search.new.desk) (c.search.new.units.used - c.args.units.now.used)
+    c.in-Ok.decided c.look.ensures.waits c.search.ensures.keeps c.in-Ok.ensures.ends)
 
 pub returns-in-Ok-clause-known : goal.returns-in-Ok-clause-known
-returns-in-Ok-clause-known g c = λ b h. absurd (not_known (g.D.Desk.desk c.args.desk.now) (g.D.Desk.desk c.look.new.self) c.args.inst.now c.args.kind c.args.set.now c.args.most c.args.cycle c.requires.desk c.look.ensures.waits.keeps c.in-Absent.ensures.finds h)
+returns-in-Ok-clause-known g c = λ b h. absurd (not_known (g.D.Desk.desk c.args.desk.now)
+    (g.D.Desk.desk c.look.new.self) c.args.inst.now c.args.kind c.args.set.now c.args.most c.args.cycle c.requires.desk
+    c.look.ensures.waits.keeps c.in-Absent.ensures.finds h)
 
 pub returns-in-Ok-clause-costs : goal.returns-in-Ok-clause-costs
-returns-in-Ok-clause-costs g c = ends_costs c.args.mode c.args.kind c.args.inst.now c.args.cycle (g.D.Desk.desk c.args.desk.now) (g.D.Desk.desk c.search.new.desk) (c.search.new.units.used - c.args.units.now.used) c.in-Ok.decided (ends_then c.args.mode c.args.kind c.args.inst.now c.args.cycle (g.D.Desk.desk c.args.desk.now) (g.D.Desk.desk c.look.new.self) (g.D.Desk.desk c.search.new.desk) (c.search.new.units.used - c.args.units.now.used) c.in-Ok.decided c.look.ensures.waits c.search.ensures.keeps c.in-Ok.ensures.ends)
+returns-in-Ok-clause-costs g c = ends_costs c.args.mode c.args.kind c.args.inst.now c.args.cycle
+    (g.D.Desk.desk c.args.desk.now) (g.D.Desk.desk c.search.new.desk) (c.search.new.units.used - c.args.units.now.used)
+    c.in-Ok.decided (ends_then c.args.mode c.args.kind c.args.inst.now c.args.cycle (g.D.Desk.desk c.args.desk.now)
+    (g.D.Desk.desk c.look.new.self) (g.D.Desk.desk c.search.new.desk) (c.search.new.units.used - c.args.units.now.used)
+    c.in-Ok.decided c.look.ensures.waits c.search.ensures.keeps c.in-Ok.ensures.ends)
 
 pub returns-in-Ok-clause-alone : goal.returns-in-Ok-clause-alone
-returns-in-Ok-clause-alone g c = λ alone. ends_alone c.args.mode c.args.kind c.args.inst.now c.args.cycle (g.D.Desk.desk c.args.desk.now) (g.D.Desk.desk c.search.new.desk) (c.search.new.units.used - c.args.units.now.used) c.args.set.now c.args.most c.search.new.units.left c.in-Ok.decided alone c.in-Ok.ensures.decides (ends_then c.args.mode c.args.kind c.args.inst.now c.args.cycle (g.D.Desk.desk c.args.desk.now) (g.D.Desk.desk c.look.new.self) (g.D.Desk.desk c.search.new.desk) (c.search.new.units.used - c.args.units.now.used) c.in-Ok.decided c.look.ensures.waits c.search.ensures.keeps c.in-Ok.ensures.ends)
+returns-in-Ok-clause-alone g c = λ alone. ends_alone c.args.mode c.args.kind c.args.inst.now c.args.cycle
+    (g.D.Desk.desk c.args.desk.now) (g.D.Desk.desk c.search.new.desk) (c.search.new.units.used - c.args.units.now.used)
+    c.args.set.now c.args.most c.search.new.units.left c.in-Ok.decided alone c.in-Ok.ensures.decides
+    (ends_then c.args.mode c.args.kind c.args.inst.now c.args.cycle (g.D.Desk.desk c.args.desk.now)
+    (g.D.Desk.desk c.look.new.self) (g.D.Desk.desk c.search.new.desk) (c.search.new.units.used - c.args.units.now.used)
+    c.in-Ok.decided c.look.ensures.waits c.search.ensures.keeps c.in-Ok.ensures.ends)
 
 pub returns-in-Ok-clause-few : goal.returns-in-Ok-clause-few
-returns-in-Ok-clause-few g c = ends_few c.args.mode c.args.kind c.args.inst.now c.args.cycle (g.D.Desk.desk c.args.desk.now) (g.D.Desk.desk c.search.new.desk) (c.search.new.units.used - c.args.units.now.used) c.in-Ok.decided (ends_then c.args.mode c.args.kind c.args.inst.now c.args.cycle (g.D.Desk.desk c.args.desk.now) (g.D.Desk.desk c.look.new.self) (g.D.Desk.desk c.search.new.desk) (c.search.new.units.used - c.args.units.now.used) c.in-Ok.decided c.look.ensures.waits c.search.ensures.keeps c.in-Ok.ensures.ends)
+returns-in-Ok-clause-few g c = ends_few c.args.mode c.args.kind c.args.inst.now c.args.cycle
+    (g.D.Desk.desk c.args.desk.now) (g.D.Desk.desk c.search.new.desk) (c.search.new.units.used - c.args.units.now.used)
+    c.in-Ok.decided (ends_then c.args.mode c.args.kind c.args.inst.now c.args.cycle (g.D.Desk.desk c.args.desk.now)
+    (g.D.Desk.desk c.look.new.self) (g.D.Desk.desk c.search.new.desk) (c.search.new.units.used - c.args.units.now.used)
+    c.in-Ok.decided c.look.ensures.waits c.search.ensures.keeps c.in-Ok.ensures.ends)
 
 pub returns-in-Err-clause-own : goal.returns-in-Err-clause-own
-returns-in-Err-clause-own g c = own_accounts c.args.mode c.args.kind c.args.inst.now c.args.cycle (g.D.Desk.desk c.args.desk.now) (g.D.Desk.desk c.search.new.desk) [] (c.search.new.units.used - c.args.units.now.used) (c.search.new.units.used - c.args.units.now.used) (accounts_then c.args.mode c.args.kind c.args.inst.now c.args.cycle (g.D.Desk.desk c.args.desk.now) (g.D.Desk.desk c.look.new.self) (g.D.Desk.desk c.search.new.desk) c.look.ensures.waits c.search.ensures.keeps [] (c.search.new.units.used - c.args.units.now.used) (c.search.new.units.used - c.args.units.now.used) c.in-Err.ensures.accounts)
+returns-in-Err-clause-own g c = own_accounts c.args.mode c.args.kind c.args.inst.now c.args.cycle
+    (g.D.Desk.desk c.args.desk.now) (g.D.Desk.desk c.search.new.desk) []
+    (c.search.new.units.used - c.args.units.now.used) (c.search.new.units.used - c.args.units.now.used)
+    (accounts_then c.args.mode c.args.kind c.args.inst.now c.args.cycle (g.D.Desk.desk c.args.desk.now)
+    (g.D.Desk.desk c.look.new.self) (g.D.Desk.desk c.search.new.desk) c.look.ensures.waits c.search.ensures.keeps []
+    (c.search.new.units.used - c.args.units.now.used) (c.search.new.units.used - c.args.units.now.used)
+    c.in-Err.ensures.accounts)
 
 pub returns-in-Err-clause-known : goal.returns-in-Err-clause-known
-returns-in-Err-clause-known g c = λ b h. absurd (not_known (g.D.Desk.desk c.args.desk.now) (g.D.Desk.desk c.look.new.self) c.args.inst.now c.args.kind c.args.set.now c.args.most c.args.cycle c.requires.desk c.look.ensures.waits.keeps c.in-Absent.ensures.finds h)
+returns-in-Err-clause-known g c = λ b h. absurd (not_known (g.D.Desk.desk c.args.desk.now)
+    (g.D.Desk.desk c.look.new.self) c.args.inst.now c.args.kind c.args.set.now c.args.most c.args.cycle c.requires.desk
+    c.look.ensures.waits.keeps c.in-Absent.ensures.finds h)
 
 pub returns-in-Err-clause-costs : goal.returns-in-Err-clause-costs
 returns-in-Err-clause-costs g c =
-    let P : List OpenFrame → Type 0 = λ z. PaysWithin c.args.mode c.args.kind c.args.inst.now c.args.cycle (g.D.Desk.desk c.args.desk.now) (g.D.Desk.desk c.search.new.desk) z (c.search.new.units.used - c.args.units.now.used) in
-    subst P (sym (c.from_vec-in-Err.ensures ∙ c.new-in-Err.ensures.items)) (within_accounts c.args.mode c.args.kind c.args.inst.now c.args.cycle (g.D.Desk.desk c.args.desk.now) (g.D.Desk.desk c.search.new.desk) [] (c.search.new.units.used - c.args.units.now.used) (c.search.new.units.used - c.args.units.now.used) (accounts_then c.args.mode c.args.kind c.args.inst.now c.args.cycle (g.D.Desk.desk c.args.desk.now) (g.D.Desk.desk c.look.new.self) (g.D.Desk.desk c.search.new.desk) c.look.ensures.waits c.search.ensures.keeps [] (c.search.new.units.used - c.args.units.now.used) (c.search.new.units.used - c.args.units.now.used) c.in-Err.ensures.accounts))
+    let P : List OpenFrame → Type 0 = λ z. PaysWithin c.args.mode c.args.kind c.args.inst.now c.args.cycle
+    (g.D.Desk.desk c.args.desk.now) (g.D.Desk.desk c.search.new.desk) z
+    (c.search.new.units.used - c.args.units.now.used) in
+    subst P (sym (c.from_vec-in-Err.ensures ∙ c.new-in-Err.ensures.items))
+    (within_accounts c.args.mode c.args.kind c.args.inst.now c.args.cycle (g.D.Desk.desk c.args.desk.now)
+    (g.D.Desk.desk c.search.new.desk) [] (c.search.new.units.used - c.args.units.now.used)
+    (c.search.new.units.used - c.args.units.now.used) (accounts_then c.args.mode c.args.kind c.args.inst.now
+    c.args.cycle (g.D.Desk.desk c.args.desk.now) (g.D.Desk.desk c.look.new.self) (g.D.Desk.desk c.search.new.desk)
+    c.look.ensures.waits c.search.ensures.keeps [] (c.search.new.units.used - c.args.units.now.used)
+    (c.search.new.units.used - c.args.units.now.used) c.in-Err.ensures.accounts))
 
 pub returns-in-Err-clause-few : goal.returns-in-Err-clause-few
 returns-in-Err-clause-few g c =
-    let P : List OpenFrame → Type 0 = λ z. AddsFew c.args.inst.now c.args.cycle (g.D.Desk.desk c.args.desk.now) (g.D.Desk.desk c.search.new.desk) z (c.search.new.units.used - c.args.units.now.used) (c.search.new.units.used - c.args.units.now.used) in
-    subst P (sym (c.from_vec-in-Err.ensures ∙ c.new-in-Err.ensures.items)) (few_accounts c.args.mode c.args.kind c.args.inst.now c.args.cycle (g.D.Desk.desk c.args.desk.now) (g.D.Desk.desk c.search.new.desk) [] (c.search.new.units.used - c.args.units.now.used) (c.search.new.units.used - c.args.units.now.used) (accounts_then c.args.mode c.args.kind c.args.inst.now c.args.cycle (g.D.Desk.desk c.args.desk.now) (g.D.Desk.desk c.look.new.self) (g.D.Desk.desk c.search.new.desk) c.look.ensures.waits c.search.ensures.keeps [] (c.search.new.units.used - c.args.units.now.used) (c.search.new.units.used - c.args.units.now.used) c.in-Err.ensures.accounts))
+    let P : List OpenFrame → Type 0 = λ z. AddsFew c.args.inst.now c.args.cycle (g.D.Desk.desk c.args.desk.now)
+    (g.D.Desk.desk c.search.new.desk) z (c.search.new.units.used - c.args.units.now.used)
+    (c.search.new.units.used - c.args.units.now.used) in
+    subst P (sym (c.from_vec-in-Err.ensures ∙ c.new-in-Err.ensures.items))
+    (few_accounts c.args.mode c.args.kind c.args.inst.now c.args.cycle (g.D.Desk.desk c.args.desk.now)
+    (g.D.Desk.desk c.search.new.desk) [] (c.search.new.units.used - c.args.units.now.used)
+    (c.search.new.units.used - c.args.units.now.used) (accounts_then c.args.mode c.args.kind c.args.inst.now
+    c.args.cycle (g.D.Desk.desk c.args.desk.now) (g.D.Desk.desk c.look.new.self) (g.D.Desk.desk c.search.new.desk)
+    c.look.ensures.waits c.search.ensures.keeps [] (c.search.new.units.used - c.args.units.now.used)
+    (c.search.new.units.used - c.args.units.now.used) c.in-Err.ensures.accounts))

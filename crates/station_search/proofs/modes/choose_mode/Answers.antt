@@ -9,13 +9,31 @@ use Rattle.station_search.proofs.modes.choose_mode.Goals as goal
 pub loop-task-init : goal.loop-task-init
 loop-task-init c =
     let e = c.into_iter-task-iterator.ensures.into_iter_gives in
-    record { can_next = tt; finite = tt; members = all_in_start _ _ e; sources = count_start (is_source c.args.inst.now c.args.set.now) _ _ e; sinks = count_start (is_sink c.args.inst.now c.args.set.now) _ _ e }
+    record {
+      can_next = tt;
+      finite = tt;
+      members = all_in_start _ _ e;
+      sources = count_start (is_source c.args.inst.now c.args.set.now) _ _ e;
+      sinks = count_start (is_sink c.args.inst.now c.args.set.now) _ _ e;
+    }
 
 pub overflow_add-sources : goal.overflow_add-sources
-overflow_add-sources c = omega (arith, one_more c.is_source.result, count_few (is_source c.args.inst.now c.args.set.now) c.args.set.now c.requires.truths, c.loop-task.invariant.sources, c.from-sources.ensures)
+overflow_add-sources c = omega (
+  arith,
+  one_more c.is_source.result,
+  count_few (is_source c.args.inst.now c.args.set.now) c.args.set.now c.requires.truths,
+  c.loop-task.invariant.sources,
+  c.from-sources.ensures,
+)
 
 pub overflow_add-sinks : goal.overflow_add-sinks
-overflow_add-sinks c = omega (arith, one_more c.is_sink.result, count_few (is_sink c.args.inst.now c.args.set.now) c.args.set.now c.requires.truths, c.loop-task.invariant.sinks, c.from-sinks.ensures)
+overflow_add-sinks c = omega (
+  arith,
+  one_more c.is_sink.result,
+  count_few (is_sink c.args.inst.now c.args.set.now) c.args.set.now c.requires.truths,
+  c.loop-task.invariant.sinks,
+  c.from-sinks.ensures,
+)
 
 pub returns-in-U-clause-mode : goal.returns-in-U-clause-mode
 returns-in-U-clause-mode c = both_mode c.args.kind c.args.inst.now c.args.set.now c.in-U.is
@@ -25,11 +43,13 @@ returns-then-sources-sinks-clause-mode c =
     let line : Line = c.args.inst.now in
     fore_mode c.args.kind line c.args.set.now c.loop-task.sources c.loop-task.sinks c.in-Straight.is
     (count_end (is_source line c.args.set.now) _ _ _ c.in-None.ensures.steps.0 c.loop-task.invariant.sources)
-    (count_end (is_sink line c.args.set.now) _ _ _ c.in-None.ensures.steps.0 c.loop-task.invariant.sinks) c.if-sources-sinks.true
+    (count_end (is_sink line c.args.set.now) _ _ _ c.in-None.ensures.steps.0 c.loop-task.invariant.sinks)
+    c.if-sources-sinks.true
 
 pub returns-else-sources-sinks-clause-mode : goal.returns-else-sources-sinks-clause-mode
 returns-else-sources-sinks-clause-mode c =
     let line : Line = c.args.inst.now in
     back_mode c.args.kind line c.args.set.now c.loop-task.sources c.loop-task.sinks c.in-Straight.is
     (count_end (is_source line c.args.set.now) _ _ _ c.in-None.ensures.steps.0 c.loop-task.invariant.sources)
-    (count_end (is_sink line c.args.set.now) _ _ _ c.in-None.ensures.steps.0 c.loop-task.invariant.sinks) c.if-sources-sinks.false
+    (count_end (is_sink line c.args.set.now) _ _ _ c.in-None.ensures.steps.0 c.loop-task.invariant.sinks)
+    c.if-sources-sinks.false

@@ -10,6 +10,8 @@ invariant-loop-task l = record {
   can_next : (goal.iterator-loop-task).can_next l.task-iterator;
   finite : (goal.iterator-loop-task).is_finite l.task-iterator;
   members : AllIn l.set l.task-iterator;
-  sources : l.sources + count_by (is_source l.inst l.set) l.task-iterator ≡ count_by (is_source l.inst l.set) (members_of l.set);
-  sinks : l.sinks + count_by (is_sink l.inst l.set) l.task-iterator ≡ count_by (is_sink l.inst l.set) (members_of l.set);
+  sources : l.sources + count_by (is_source l.inst l.set) l.task-iterator
+      ≡ count_by (is_source l.inst l.set) (members_of l.set);
+  sinks : l.sinks + count_by (is_sink l.inst l.set) l.task-iterator
+      ≡ count_by (is_sink l.inst l.set) (members_of l.set);
 }

@@ -9,4 +9,5 @@ pub returns : goal.returns
 returns c =
     let P : List Bool → Type 0 = λ z. IsTrue c.is_empty.result ↔ IsEmpty z in
     none_common (λ i. is_before c.args.inst.now i c.args.task) c.before-2.result.now c.args.set.now c.is_empty.result
-    (λ i m. (c.before-2.ensures.members i).0 m) (λ i m. (c.before-2.ensures.members i).1 m) (subst P c.meet.ensures.value c.is_empty.ensures)
+    (λ i m. (c.before-2.ensures.members i).0 m) (λ i m. (c.before-2.ensures.members i).1 m)
+    (subst P c.meet.ensures.value c.is_empty.ensures)

@@ -5,4 +5,5 @@ pub returns-then-has : goal.returns-then-has
 returns-then-has c = in_front c.args.load.now c.args.task c.has.result c.has.ensures c.if-has.true
 
 pub returns-else-has : goal.returns-else-has
-returns-else-has c = in_back c.args.load.now c.args.task c.has.result c.has-else-has.result c.has.ensures c.if-has.false c.has-else-has.ensures
+returns-else-has c = in_back c.args.load.now c.args.task c.has.result c.has-else-has.result c.has.ensures c.if-has.false
+    c.has-else-has.ensures

@@ -9,20 +9,26 @@ use Rattle.station_search.proofs.searching.publish_branch.Goals as goal
 
 pub returns-in-Known-clause-answered : goal.returns-in-Known-clause-answered
 returns-in-Known-clause-answered g c =
-    known_answers (g.D.Desk.desk c.args.desk.now) (g.D.Desk.desk c.publish.new.self) c.in-Known.ensures.publishes.0 (known c.in-Known.id c.args.frame.most) c.args.frame.set c.args.frame.most c.args.cycle c.in-Known.id
+    known_answers (g.D.Desk.desk c.args.desk.now) (g.D.Desk.desk c.publish.new.self) c.in-Known.ensures.publishes.0
+    (known c.in-Known.id c.args.frame.most) c.args.frame.set c.args.frame.most c.args.cycle c.in-Known.id
     c.in-Known.ensures.publishes.1 c.in-Known.ensures.publishes.2
 
 pub returns-in-Added-clause-answered : goal.returns-in-Added-clause-answered
 returns-in-Added-clause-answered g c =
-    added_answers (g.D.Desk.desk c.args.desk.now) (g.D.Desk.desk c.publish.new.self) c.in-Added.ensures.publishes.0 (branch_of c.args.cycle c.args.frame) c.in-Added.id c.in-Added.ensures.publishes.1 c.in-Added.ensures.publishes.3
+    added_answers (g.D.Desk.desk c.args.desk.now) (g.D.Desk.desk c.publish.new.self) c.in-Added.ensures.publishes.0
+    (branch_of c.args.cycle c.args.frame) c.in-Added.id c.in-Added.ensures.publishes.1
+    c.in-Added.ensures.publishes.3
 
 pub returns-in-Known-clause-publishes : goal.returns-in-Known-clause-publishes
 returns-in-Known-clause-publishes g c = λ asked kind line n mode counts un.
     let P : Mode → Type 0 = λ z. HasLoads line c.args.cycle z c.args.frame.set n in
-    one_known asked kind line c.args.cycle (g.D.Desk.desk c.args.desk.now) (g.D.Desk.desk c.publish.new.self) c.in-Known.ensures.publishes.0 c.in-Known.id c.args.frame.most c.args.frame.set c.args.frame.most n
-    c.in-Known.ensures.publishes.1 c.in-Known.ensures.publishes.2 (subst P mode (counts_has line c.args.cycle c.args.frame.mode c.args.frame.set n counts)) un
+    one_known asked kind line c.args.cycle (g.D.Desk.desk c.args.desk.now) (g.D.Desk.desk c.publish.new.self)
+    c.in-Known.ensures.publishes.0 c.in-Known.id c.args.frame.most c.args.frame.set c.args.frame.most n
+    c.in-Known.ensures.publishes.1 c.in-Known.ensures.publishes.2
+    (subst P mode (counts_has line c.args.cycle c.args.frame.mode c.args.frame.set n counts)) un
 
 pub returns-in-Added-clause-publishes : goal.returns-in-Added-clause-publishes
 returns-in-Added-clause-publishes g c = λ asked kind line n mode counts un.
-    one_added asked kind line c.args.cycle (g.D.Desk.desk c.args.desk.now) (g.D.Desk.desk c.publish.new.self) c.in-Added.ensures.publishes.0 c.in-Added.id (branch_of c.args.cycle c.args.frame) c.args.frame.set n
+    one_added asked kind line c.args.cycle (g.D.Desk.desk c.args.desk.now) (g.D.Desk.desk c.publish.new.self)
+    c.in-Added.ensures.publishes.0 c.in-Added.id (branch_of c.args.cycle c.args.frame) c.args.frame.set n
     c.in-Added.ensures.publishes.1 refl mode counts refl

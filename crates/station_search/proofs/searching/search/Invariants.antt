@@ -11,11 +11,13 @@ invariant-search g l = record {
   keeps : Keeps (g.D.Desk.desk l.fn.desk) (g.D.Desk.desk l.desk);
   units : l.units.used + l.units.left ≡ l.fn.units.used + l.fn.units.left;
   spent : l.fn.units.used ≤ l.units.used;
-  searching : IsSearching l.mode l.kind l.inst l.cycle (entries (g.D.Desk.desk l.desk)) l.set l.most l.passed.items l.frame;
+  searching : IsSearching l.mode l.kind l.inst l.cycle (entries (g.D.Desk.desk l.desk)) l.set l.most l.passed.items
+      l.frame;
   beside : IsBeside l.inst l.cycle l.frame l.listing;
   room : vec_len l.passed < vec_capacity l.passed;
   paired : ArePaired l.inst l.cycle l.passed.items l.listings.items;
-  tally : Tally l.mode l.kind l.inst l.cycle (g.D.Desk.desk l.fn.desk) (g.D.Desk.desk l.desk) l.passed.items l.frame (l.units.used - l.fn.units.used) 0;
+  tally : Tally l.mode l.kind l.inst l.cycle (g.D.Desk.desk l.fn.desk) (g.D.Desk.desk l.desk) l.passed.items l.frame
+      (l.units.used - l.fn.units.used) 0;
 }
 
 abbrev pub decreases-search : goal.decreases-search

@@ -16,83 +16,134 @@ use Rattle.station_search.proofs.sorting.sort_load.Goals as goal
 
 pub returns-then-is_longer-clause-publishes : goal.returns-then-is_longer-clause-publishes
 returns-then-is_longer-clause-publishes g c = λ asked.
-    one_none asked c.args.kind c.args.inst.now c.args.cycle (g.D.Desk.desk c.args.desk.now) (g.D.Desk.desk c.args.desk.now) (rest c.args.frame.now.set c.args.load.now) 0 (waits_none (g.D.Desk.desk c.args.desk.now))
+    one_none asked c.args.kind c.args.inst.now c.args.cycle (g.D.Desk.desk c.args.desk.now)
+    (g.D.Desk.desk c.args.desk.now) (rest c.args.frame.now.set c.args.load.now) 0
+    (waits_none (g.D.Desk.desk c.args.desk.now))
 
 pub returns-then-is_longer-clause-sorts : goal.returns-then-is_longer-clause-sorts
 returns-then-is_longer-clause-sorts g c = λ o.
     let T : List Bool = rest c.args.frame.now.set c.args.load.now in
-    let more : (c.args.frame.now.most - 1) * c.args.cycle < c.rest_times-times.result.total = c.is_longer.ensures.0 c.if-is_longer.true in
-    omega (arith, o.bound, long_rest c.args.kind c.args.inst.now c.args.cycle T c.args.frame.now.most c.requires.cycle.some c.requires.some (omega (arith, c.requires.few)) (omega (arith, more, c.rest_times-times.ensures.total)))
+    let more : (c.args.frame.now.most - 1) * c.args.cycle < c.rest_times-times.result.total =
+    c.is_longer.ensures.0 c.if-is_longer.true in
+    omega (
+      arith,
+      o.bound,
+      long_rest c.args.kind c.args.inst.now c.args.cycle T c.args.frame.now.most
+          c.requires.cycle.some c.requires.some (omega (arith, c.requires.few))
+          (omega (arith, more, c.rest_times-times.ensures.total)),
+    )
 
 pub exceeds_with-requires-clause-times : goal.exceeds_with-requires-clause-times
 exceeds_with-requires-clause-times g c =
-    let P : List Bool → Type 0 = λ z. AreTimes c.args.inst.now z c.rest_times-times.result.total c.rest_times-times.result.longest in
-    subst P (sym (c.minus-rest.ensures.value ∙ ap (λ (z : List Bool). minus c.args.frame.now.set z) c.union.ensures.value)) c.rest_times-times.ensures
+    let P : List Bool → Type 0 = λ z. AreTimes c.args.inst.now z c.rest_times-times.result.total
+    c.rest_times-times.result.longest in
+    subst P (sym (c.minus-rest.ensures.value ∙ ap (λ (z : List Bool). minus c.args.frame.now.set z)
+    c.union.ensures.value)) c.rest_times-times.ensures
 
 pub returns-then-count-frame-clause-publishes : goal.returns-then-count-frame-clause-publishes
 returns-then-count-frame-clause-publishes g c = λ asked.
-    one_none asked c.args.kind c.args.inst.now c.args.cycle (g.D.Desk.desk c.args.desk.now) (g.D.Desk.desk c.args.desk.now) (rest c.args.frame.now.set c.args.load.now) 0 (waits_none (g.D.Desk.desk c.args.desk.now))
+    one_none asked c.args.kind c.args.inst.now c.args.cycle (g.D.Desk.desk c.args.desk.now)
+    (g.D.Desk.desk c.args.desk.now) (rest c.args.frame.now.set c.args.load.now) 0
+    (waits_none (g.D.Desk.desk c.args.desk.now))
 
 pub returns-then-count-frame-clause-sorts : goal.returns-then-count-frame-clause-sorts
 returns-then-count-frame-clause-sorts g c = λ o.
     let T : List Bool = rest c.args.frame.now.set c.args.load.now in
     let H : List Bool = c.args.listing.now.halves in
-    let same : c.minus-rest.result ≡ T = c.minus-rest.ensures.value ∙ ap (λ (z : List Bool). minus c.args.frame.now.set z) c.union.ensures.value in
-    let many : c.count.result ≡ count (meet H T) = c.count.ensures.value ∙ (ap (λ (z : List Bool). count z) c.meet.ensures.value ∙ ap (λ (z : List Bool). count (meet H z)) same) in
+    let same : c.minus-rest.result ≡ T = c.minus-rest.ensures.value
+    ∙ ap (λ (z : List Bool). minus c.args.frame.now.set z) c.union.ensures.value in
+    let many : c.count.result ≡ count (meet H T) = c.count.ensures.value
+    ∙ (ap (λ (z : List Bool). count z) c.meet.ensures.value ∙ ap (λ (z : List Bool). count (meet H z)) same) in
     let more : c.args.frame.now.most - 1 < count (meet H T) = omega (arith, c.if-count-frame.true, many) in
-    let tasks : IsTaskSet c.args.inst.now T = rest_tasks c.args.inst.now c.args.frame.now.set c.args.load.now c.requires.set in
-    omega (arith, o.bound, c.requires.some, crowded c.args.kind c.args.inst.now c.args.cycle H T (c.args.frame.now.most - 1) tasks c.requires.beside.halves (omega (arith, c.requires.few)) more)
+    let tasks : IsTaskSet c.args.inst.now T = rest_tasks c.args.inst.now c.args.frame.now.set c.args.load.now
+    c.requires.set in
+    omega (
+      arith,
+      o.bound,
+      c.requires.some,
+      crowded c.args.kind c.args.inst.now c.args.cycle H T
+          (c.args.frame.now.most - 1) tasks c.requires.beside.halves (omega (arith, c.requires.few)) more,
+    )
 
 pub returns-then-not-full-clause-publishes : goal.returns-then-not-full-clause-publishes
 returns-then-not-full-clause-publishes g c = λ asked.
-    one_none asked c.args.kind c.args.inst.now c.args.cycle (g.D.Desk.desk c.args.desk.now) (g.D.Desk.desk c.args.desk.now) (rest c.args.frame.now.set c.args.load.now) 0 (waits_none (g.D.Desk.desk c.args.desk.now))
+    one_none asked c.args.kind c.args.inst.now c.args.cycle (g.D.Desk.desk c.args.desk.now)
+    (g.D.Desk.desk c.args.desk.now) (rest c.args.frame.now.set c.args.load.now) 0
+    (waits_none (g.D.Desk.desk c.args.desk.now))
 
 pub exceeds_with-requires-clause-set : goal.exceeds_with-requires-clause-set
 exceeds_with-requires-clause-set g c =
     let P : List Bool → Type 0 = λ z. IsTaskSet c.args.inst.now z in
-    subst P (sym (c.minus-rest.ensures.value ∙ ap (λ (z : List Bool). minus c.args.frame.now.set z) c.union.ensures.value)) (rest_tasks c.args.inst.now c.args.frame.now.set c.args.load.now c.requires.set)
+    subst P (sym (c.minus-rest.ensures.value ∙ ap (λ (z : List Bool). minus c.args.frame.now.set z)
+    c.union.ensures.value)) (rest_tasks c.args.inst.now c.args.frame.now.set c.args.load.now c.requires.set)
 
 pub returns-then-exceeds_with-clause-publishes : goal.returns-then-exceeds_with-clause-publishes
 returns-then-exceeds_with-clause-publishes g c = λ asked.
-    one_none asked c.args.kind c.args.inst.now c.args.cycle (g.D.Desk.desk c.args.desk.now) (g.D.Desk.desk c.args.desk.now) (rest c.args.frame.now.set c.args.load.now) 0 (waits_none (g.D.Desk.desk c.args.desk.now))
+    one_none asked c.args.kind c.args.inst.now c.args.cycle (g.D.Desk.desk c.args.desk.now)
+    (g.D.Desk.desk c.args.desk.now) (rest c.args.frame.now.set c.args.load.now) 0
+    (waits_none (g.D.Desk.desk c.args.desk.now))
 
 pub returns-then-is_empty-clause-publishes : goal.returns-then-is_empty-clause-publishes
 returns-then-is_empty-clause-publishes g c = λ asked.
-    one_none asked c.args.kind c.args.inst.now c.args.cycle (g.D.Desk.desk c.args.desk.now) (g.D.Desk.desk c.args.desk.now) (rest c.args.frame.now.set c.args.load.now) 0 (waits_none (g.D.Desk.desk c.args.desk.now))
+    one_none asked c.args.kind c.args.inst.now c.args.cycle (g.D.Desk.desk c.args.desk.now)
+    (g.D.Desk.desk c.args.desk.now) (rest c.args.frame.now.set c.args.load.now) 0
+    (waits_none (g.D.Desk.desk c.args.desk.now))
 
 pub returns-in-Found-clause-publishes : goal.returns-in-Found-clause-publishes
 returns-in-Found-clause-publishes g c = λ asked.
-    one_none asked c.args.kind c.args.inst.now c.args.cycle (g.D.Desk.desk c.args.desk.now) (g.D.Desk.desk c.look.new.self) (rest c.args.frame.now.set c.args.load.now) 1 c.look.ensures.waits
+    one_none asked c.args.kind c.args.inst.now c.args.cycle (g.D.Desk.desk c.args.desk.now)
+    (g.D.Desk.desk c.look.new.self) (rest c.args.frame.now.set c.args.load.now) 1 c.look.ensures.waits
 
 pub publish_swap-requires-clause-set : goal.publish_swap-requires-clause-set
 publish_swap-requires-clause-set g c =
     let P : List Bool → Type 0 = λ z. IsTaskSet c.args.inst.now z in
-    subst P (sym (c.minus-rest.ensures.value ∙ ap (λ (z : List Bool). minus c.args.frame.now.set z) c.union.ensures.value)) (rest_tasks c.args.inst.now c.args.frame.now.set c.args.load.now c.requires.set)
+    subst P (sym (c.minus-rest.ensures.value ∙ ap (λ (z : List Bool). minus c.args.frame.now.set z)
+    c.union.ensures.value)) (rest_tasks c.args.inst.now c.args.frame.now.set c.args.load.now c.requires.set)
 
 pub returns-in_err-id-clause-keeps : goal.returns-in_err-id-clause-keeps
-returns-in_err-id-clause-keeps g c = keeps_both (g.D.Desk.desk c.args.desk.now) (g.D.Desk.desk c.look.new.self) (g.D.Desk.desk c.publish_swap.new.desk) c.look.ensures.waits.keeps c.publish_swap.ensures.keeps
+returns-in_err-id-clause-keeps g c = keeps_both (g.D.Desk.desk c.args.desk.now) (g.D.Desk.desk c.look.new.self)
+    (g.D.Desk.desk c.publish_swap.new.desk) c.look.ensures.waits.keeps c.publish_swap.ensures.keeps
 
 pub returns-in_err-id-clause-fails : goal.returns-in_err-id-clause-fails
 returns-in_err-id-clause-fails g c = λ asked.
-    on_err c.from_residual.result (DoesFor asked c.args.kind c.args.inst.now c.args.cycle (g.D.Desk.desk c.args.desk.now) (g.D.Desk.desk c.publish_swap.new.desk) (rest c.args.frame.now.set c.args.load.now) 0 0)
-    (does_for_then asked c.args.kind c.args.inst.now c.args.cycle (g.D.Desk.desk c.args.desk.now) (g.D.Desk.desk c.look.new.self) (g.D.Desk.desk c.publish_swap.new.desk) (rest c.args.frame.now.set c.args.load.now) 0 0 c.look.ensures.waits c.publish_swap.ensures.keeps (one_none asked c.args.kind c.args.inst.now c.args.cycle (g.D.Desk.desk c.look.new.self) (g.D.Desk.desk c.publish_swap.new.desk) (rest c.args.frame.now.set c.args.load.now) 0 c.in_err-id.ensures.fails))
+    on_err c.from_residual.result (DoesFor asked c.args.kind c.args.inst.now c.args.cycle
+    (g.D.Desk.desk c.args.desk.now) (g.D.Desk.desk c.publish_swap.new.desk)
+    (rest c.args.frame.now.set c.args.load.now) 0 0)
+    (does_for_then asked c.args.kind c.args.inst.now c.args.cycle (g.D.Desk.desk c.args.desk.now)
+    (g.D.Desk.desk c.look.new.self) (g.D.Desk.desk c.publish_swap.new.desk)
+    (rest c.args.frame.now.set c.args.load.now) 0 0 c.look.ensures.waits c.publish_swap.ensures.keeps
+    (one_none asked c.args.kind c.args.inst.now c.args.cycle (g.D.Desk.desk c.look.new.self)
+    (g.D.Desk.desk c.publish_swap.new.desk) (rest c.args.frame.now.set c.args.load.now) 0
+    c.in_err-id.ensures.fails))
 
 pub returns-in-Some-clause-keeps : goal.returns-in-Some-clause-keeps
-returns-in-Some-clause-keeps g c = keeps_both (g.D.Desk.desk c.args.desk.now) (g.D.Desk.desk c.look.new.self) (g.D.Desk.desk c.publish_swap.new.desk) c.look.ensures.waits.keeps c.publish_swap.ensures.keeps
+returns-in-Some-clause-keeps g c = keeps_both (g.D.Desk.desk c.args.desk.now) (g.D.Desk.desk c.look.new.self)
+    (g.D.Desk.desk c.publish_swap.new.desk) c.look.ensures.waits.keeps c.publish_swap.ensures.keeps
 
 pub returns-in-Some-clause-publishes : goal.returns-in-Some-clause-publishes
 returns-in-Some-clause-publishes g c = λ asked.
-    let P : ℕ → Type 0 = λ z. DoesFor asked c.args.kind c.args.inst.now c.args.cycle (g.D.Desk.desk c.look.new.self) (g.D.Desk.desk c.publish_swap.new.desk) c.minus-rest.result z 0 in
-    let Q : List Bool → Type 0 = λ z. DoesFor asked c.args.kind c.args.inst.now c.args.cycle (g.D.Desk.desk c.look.new.self) (g.D.Desk.desk c.publish_swap.new.desk) z 1 0 in
-    does_for_then asked c.args.kind c.args.inst.now c.args.cycle (g.D.Desk.desk c.args.desk.now) (g.D.Desk.desk c.look.new.self) (g.D.Desk.desk c.publish_swap.new.desk) (rest c.args.frame.now.set c.args.load.now) 1 0 c.look.ensures.waits c.publish_swap.ensures.keeps
-    (subst Q (c.minus-rest.ensures.value ∙ ap (λ (z : List Bool). minus c.args.frame.now.set z) c.union.ensures.value) (subst P (ap may_swap c.in-Some.is) (c.in_ok-id.ensures.publishes asked)))
+    let P : ℕ → Type 0 = λ z. DoesFor asked c.args.kind c.args.inst.now c.args.cycle (g.D.Desk.desk c.look.new.self)
+    (g.D.Desk.desk c.publish_swap.new.desk) c.minus-rest.result z 0 in
+    let Q : List Bool → Type 0 = λ z. DoesFor asked c.args.kind c.args.inst.now c.args.cycle
+    (g.D.Desk.desk c.look.new.self) (g.D.Desk.desk c.publish_swap.new.desk) z 1 0 in
+    does_for_then asked c.args.kind c.args.inst.now c.args.cycle (g.D.Desk.desk c.args.desk.now)
+    (g.D.Desk.desk c.look.new.self) (g.D.Desk.desk c.publish_swap.new.desk)
+    (rest c.args.frame.now.set c.args.load.now) 1 0 c.look.ensures.waits c.publish_swap.ensures.keeps
+    (subst Q (c.minus-rest.ensures.value ∙ ap (λ (z : List Bool). minus c.args.frame.now.set z) c.union.ensures.value)
+    (subst P (ap may_swap c.in-Some.is) (c.in_ok-id.ensures.publishes asked)))
 
 pub returns-in-None-clause-keeps : goal.returns-in-None-clause-keeps
-returns-in-None-clause-keeps g c = keeps_both (g.D.Desk.desk c.args.desk.now) (g.D.Desk.desk c.look.new.self) (g.D.Desk.desk c.publish_swap.new.desk) c.look.ensures.waits.keeps c.publish_swap.ensures.keeps
+returns-in-None-clause-keeps g c = keeps_both (g.D.Desk.desk c.args.desk.now) (g.D.Desk.desk c.look.new.self)
+    (g.D.Desk.desk c.publish_swap.new.desk) c.look.ensures.waits.keeps c.publish_swap.ensures.keeps
 
 pub returns-in-None-clause-publishes : goal.returns-in-None-clause-publishes
 returns-in-None-clause-publishes g c = λ asked.
-    let P : ℕ → Type 0 = λ z. DoesFor asked c.args.kind c.args.inst.now c.args.cycle (g.D.Desk.desk c.look.new.self) (g.D.Desk.desk c.publish_swap.new.desk) c.minus-rest.result z 0 in
-    let Q : List Bool → Type 0 = λ z. DoesFor asked c.args.kind c.args.inst.now c.args.cycle (g.D.Desk.desk c.look.new.self) (g.D.Desk.desk c.publish_swap.new.desk) z 0 0 in
-    does_for_then asked c.args.kind c.args.inst.now c.args.cycle (g.D.Desk.desk c.args.desk.now) (g.D.Desk.desk c.look.new.self) (g.D.Desk.desk c.publish_swap.new.desk) (rest c.args.frame.now.set c.args.load.now) 0 0 c.look.ensures.waits c.publish_swap.ensures.keeps
-    (subst Q (c.minus-rest.ensures.value ∙ ap (λ (z : List Bool). minus c.args.frame.now.set z) c.union.ensures.value) (subst P (ap may_swap c.in-None.is) (c.in_ok-id.ensures.publishes asked)))
+    let P : ℕ → Type 0 = λ z. DoesFor asked c.args.kind c.args.inst.now c.args.cycle (g.D.Desk.desk c.look.new.self)
+    (g.D.Desk.desk c.publish_swap.new.desk) c.minus-rest.result z 0 in
+    let Q : List Bool → Type 0 = λ z. DoesFor asked c.args.kind c.args.inst.now c.args.cycle
+    (g.D.Desk.desk c.look.new.self) (g.D.Desk.desk c.publish_swap.new.desk) z 0 0 in
+    does_for_then asked c.args.kind c.args.inst.now c.args.cycle (g.D.Desk.desk c.args.desk.now)
+    (g.D.Desk.desk c.look.new.self) (g.D.Desk.desk c.publish_swap.new.desk)
+    (rest c.args.frame.now.set c.args.load.now) 0 0 c.look.ensures.waits c.publish_swap.ensures.keeps
+    (subst Q (c.minus-rest.ensures.value ∙ ap (λ (z : List Bool). minus c.args.frame.now.set z) c.union.ensures.value)
+    (subst P (ap may_swap c.in-None.is) (c.in_ok-id.ensures.publishes asked)))

@@ -3,4 +3,10 @@ use Rattle.station_search.proofs.Events.{waits_none}
 use Rattle.station_search.proofs.swaps.find_swap.Goals as goal
 
 pub loop-task-init : goal.loop-task-init
-loop-task-init g c = record { can_next = tt; finite = tt; members = all_in_start _ _ c.into_iter-task-iterator.ensures.into_iter_gives; waits = waits_none (g.D.Desk.desk c.args.desk.now) }
+loop-task-init g c = record {
+  can_next = tt;
+  finite = tt;
+  members =
+      all_in_start _ _ c.into_iter-task-iterator.ensures.into_iter_gives;
+  waits = waits_none (g.D.Desk.desk c.args.desk.now);
+}

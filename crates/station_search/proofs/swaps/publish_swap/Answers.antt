@@ -9,21 +9,40 @@ use Rattle.station_search.proofs.swaps.publish_swap.Goals as goal
 
 pub returns-in_default-clause-publishes : goal.returns-in_default-clause-publishes
 returns-in_default-clause-publishes g c = λ asked.
-    one_none asked c.args.kind c.args.inst.now c.args.cycle (g.D.Desk.desk c.args.desk.now) (g.D.Desk.desk c.find_swap.new.desk) c.args.set.now 0 c.find_swap.ensures.waits
+    one_none asked c.args.kind c.args.inst.now c.args.cycle (g.D.Desk.desk c.args.desk.now)
+    (g.D.Desk.desk c.find_swap.new.desk) c.args.set.now 0 c.find_swap.ensures.waits
 
 pub returns-in-Known-clause-publishes : goal.returns-in-Known-clause-publishes
 returns-in-Known-clause-publishes g c = λ asked.
-    does_for_then asked c.args.kind c.args.inst.now c.args.cycle (g.D.Desk.desk c.args.desk.now) (g.D.Desk.desk c.find_swap.new.desk) (g.D.Desk.desk c.publish.new.self) c.args.set.now 1 0 c.find_swap.ensures.waits c.in-Known.ensures.publishes.1.keeps
-    (one_known asked c.args.kind c.args.inst.now c.args.cycle (g.D.Desk.desk c.find_swap.new.desk) (g.D.Desk.desk c.publish.new.self) c.in-Known.ensures.publishes.0 c.in-Known.id c.args.most c.args.set.now c.args.most 0 c.in-Known.ensures.publishes.1 c.in-Known.ensures.publishes.2 (no_loads c.args.inst.now c.args.cycle (frame_mode asked c.args.kind c.args.inst.now c.args.set.now) c.args.set.now)
-    (λ t. (unanswered_through (g.D.Desk.desk c.args.desk.now) (g.D.Desk.desk c.find_swap.new.desk) c.args.set.now c.args.most c.args.cycle c.find_swap.ensures.waits c.requires.unanswered) (sym c.find_swap.ensures.waits.keeps.alone ∙ t)))
+    does_for_then asked c.args.kind c.args.inst.now c.args.cycle (g.D.Desk.desk c.args.desk.now)
+    (g.D.Desk.desk c.find_swap.new.desk) (g.D.Desk.desk c.publish.new.self) c.args.set.now 1 0
+    c.find_swap.ensures.waits c.in-Known.ensures.publishes.1.keeps
+    (one_known asked c.args.kind c.args.inst.now c.args.cycle (g.D.Desk.desk c.find_swap.new.desk)
+    (g.D.Desk.desk c.publish.new.self) c.in-Known.ensures.publishes.0 c.in-Known.id c.args.most c.args.set.now
+    c.args.most 0 c.in-Known.ensures.publishes.1 c.in-Known.ensures.publishes.2
+    (no_loads c.args.inst.now c.args.cycle (frame_mode asked c.args.kind c.args.inst.now c.args.set.now)
+    c.args.set.now)
+    (λ t. (unanswered_through (g.D.Desk.desk c.args.desk.now) (g.D.Desk.desk c.find_swap.new.desk) c.args.set.now
+    c.args.most c.args.cycle c.find_swap.ensures.waits c.requires.unanswered)
+    (sym c.find_swap.ensures.waits.keeps.alone ∙ t)))
 
 pub returns-in-Known-clause-answered : goal.returns-in-Known-clause-answered
-returns-in-Known-clause-answered g c = known_answers (g.D.Desk.desk c.find_swap.new.desk) (g.D.Desk.desk c.publish.new.self) c.in-Known.ensures.publishes.0 (known c.in-Known.id c.args.most) c.args.set.now c.args.most c.args.cycle c.in-Known.id c.in-Known.ensures.publishes.1 c.in-Known.ensures.publishes.2
+returns-in-Known-clause-answered g c = known_answers (g.D.Desk.desk c.find_swap.new.desk)
+    (g.D.Desk.desk c.publish.new.self) c.in-Known.ensures.publishes.0 (known c.in-Known.id c.args.most) c.args.set.now
+    c.args.most c.args.cycle c.in-Known.id c.in-Known.ensures.publishes.1 c.in-Known.ensures.publishes.2
 
 pub returns-in-Added-clause-publishes : goal.returns-in-Added-clause-publishes
 returns-in-Added-clause-publishes g c = λ asked.
-    does_for_then asked c.args.kind c.args.inst.now c.args.cycle (g.D.Desk.desk c.args.desk.now) (g.D.Desk.desk c.find_swap.new.desk) (g.D.Desk.desk c.publish.new.self) c.args.set.now 1 0 c.find_swap.ensures.waits c.in-Added.ensures.publishes.1.keeps
-    (one_added asked c.args.kind c.args.inst.now c.args.cycle (g.D.Desk.desk c.find_swap.new.desk) (g.D.Desk.desk c.publish.new.self) c.in-Added.ensures.publishes.0 c.in-Added.id (swap_of c.args.cycle c.args.set.now c.args.most c.in-Some.swap.cite c.in-Some.swap.out_task c.in-Some.swap.in_task) c.args.set.now 0 c.in-Added.ensures.publishes.1 refl tt refl refl)
+    does_for_then asked c.args.kind c.args.inst.now c.args.cycle (g.D.Desk.desk c.args.desk.now)
+    (g.D.Desk.desk c.find_swap.new.desk) (g.D.Desk.desk c.publish.new.self) c.args.set.now 1 0
+    c.find_swap.ensures.waits c.in-Added.ensures.publishes.1.keeps
+    (one_added asked c.args.kind c.args.inst.now c.args.cycle (g.D.Desk.desk c.find_swap.new.desk)
+    (g.D.Desk.desk c.publish.new.self) c.in-Added.ensures.publishes.0 c.in-Added.id
+    (swap_of c.args.cycle c.args.set.now c.args.most c.in-Some.swap.cite c.in-Some.swap.out_task
+    c.in-Some.swap.in_task) c.args.set.now 0 c.in-Added.ensures.publishes.1 refl tt refl refl)
 
 pub returns-in-Added-clause-answered : goal.returns-in-Added-clause-answered
-returns-in-Added-clause-answered g c = added_answers (g.D.Desk.desk c.find_swap.new.desk) (g.D.Desk.desk c.publish.new.self) c.in-Added.ensures.publishes.0 (swap_of c.args.cycle c.args.set.now c.args.most c.in-Some.swap.cite c.in-Some.swap.out_task c.in-Some.swap.in_task) c.in-Added.id c.in-Added.ensures.publishes.1 c.in-Added.ensures.publishes.3
+returns-in-Added-clause-answered g c = added_answers (g.D.Desk.desk c.find_swap.new.desk)
+    (g.D.Desk.desk c.publish.new.self) c.in-Added.ensures.publishes.0
+    (swap_of c.args.cycle c.args.set.now c.args.most c.in-Some.swap.cite c.in-Some.swap.out_task c.in-Some.swap.in_task)
+    c.in-Added.id c.in-Added.ensures.publishes.1 c.in-Added.ensures.publishes.3

@@ -9,8 +9,12 @@ use Rattle.station_search.proofs.swaps.swap_out.Goals as goal
 pub returns-in-Found-clause-found : goal.returns-in-Found-clause-found
 returns-in-Found-clause-found g c =
     let k : Keeps (g.D.Desk.desk c.args.desk.now) (g.D.Desk.desk c.look.new.self) =
-    keeps_both (g.D.Desk.desk c.args.desk.now) (g.D.Desk.desk c.loop-k.desk) (g.D.Desk.desk c.look.new.self) c.loop-k.invariant.keeps c.look.ensures.waits.keeps in
-    stands_in c.args.inst.now (entries (g.D.Desk.desk c.look.new.self)) c.args.set.now c.with-swapped.result c.args.most c.args.cycle (g.D.Desk.desk c.look.new.self).about.cycle c.args.out_task c.in-Some.in_task c.in-Found.id
-    (kept_partner c.args.inst.now c.args.out_task c.loop-k.k c.in-Some.in_task c.partner.result c.in-Some.is c.partner.ensures) c.requires.task (sym c.has.ensures ∙ c.if-has.false)
+    keeps_both (g.D.Desk.desk c.args.desk.now) (g.D.Desk.desk c.loop-k.desk) (g.D.Desk.desk c.look.new.self)
+    c.loop-k.invariant.keeps c.look.ensures.waits.keeps in
+    stands_in c.args.inst.now (entries (g.D.Desk.desk c.look.new.self)) c.args.set.now c.with-swapped.result c.args.most
+    c.args.cycle (g.D.Desk.desk c.look.new.self).about.cycle c.args.out_task c.in-Some.in_task c.in-Found.id
+    (kept_partner c.args.inst.now c.args.out_task c.loop-k.k c.in-Some.in_task c.partner.result c.in-Some.is
+    c.partner.ensures) c.requires.task (sym c.has.ensures ∙ c.if-has.false)
     (c.with-swapped.ensures.value ∙ ap (λ (z : List Bool). slice_set z c.in-Some.in_task true) c.without.ensures.value)
-    (for_still (g.D.Desk.desk c.args.desk.now) (g.D.Desk.desk c.look.new.self) c.args.inst.now c.args.kind c.args.cycle c.requires.desk k).same_cycle c.in-Found.ensures.finds.0
+    (for_still (g.D.Desk.desk c.args.desk.now) (g.D.Desk.desk c.look.new.self) c.args.inst.now c.args.kind c.args.cycle
+    c.requires.desk k).same_cycle c.in-Found.ensures.finds.0

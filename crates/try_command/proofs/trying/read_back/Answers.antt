@@ -6,4 +6,5 @@ use Rattle.try_command.proofs.trying.read_back.Goals as goal
 pub returns-in-Good-clause-same : goal.returns-in-Good-clause-same
 returns-in-Good-clause-same c =
     let P : List ℕ → Type 0 = λ bytes. IsSaidBy bytes c.in-Good.again in
-    read_same c.args.cert.now c.in-Good.again c.requires (subst P (c.deref.ensures.value ∙ c.in_ok-bytes.ensures) c.in-Good.ensures.read)
+    read_same c.args.cert.now c.in-Good.again c.requires (subst P (c.deref.ensures.value ∙ c.in_ok-bytes.ensures)
+    c.in-Good.ensures.read)

@@ -7,6 +7,7 @@ use Rattle.utility_work.proofs.work.work_of.Given as goal
 
 abbrev pub invariant-loop-task : goal.invariant-loop-task
 invariant-loop-task l = record {
-  sum : l.work ≡ sum_where (λ t. nat_eq (seat l.balance.place t).station l.station) (take l.task (map (λ time. unwrap_or time 0) (model_at l.mix.models l.model).times));
+  sum : l.work ≡ sum_where (λ t. nat_eq (seat l.balance.place t).station l.station)
+      (take l.task (map (λ time. unwrap_or time 0) (model_at l.mix.models l.model).times));
   limit : l.work ≤ 1000000000 * l.task;
 }

@@ -21,5 +21,6 @@ returns g c =
     IfOk-then c.collect.result _ _ c.collect.ensures (λ v h.
     let chain = rw (c.map.ensures.base, c.map.ensures.f, c.with_min_len.ensures.base) at h.1 in
     let places = chain.1 ∙ (λ i. nat_range (ends.0 i) (ends.1 i)) in
-    walked_range c.args.kind c.args.inst.now c.args.old.now c.args.from (c.args.to - c.args.from) chain.0 h.0 v.items h.2
+    walked_range c.args.kind c.args.inst.now c.args.old.now c.args.from (c.args.to - c.args.from) chain.0 h.0 v.items
+    h.2
     places chain.2)

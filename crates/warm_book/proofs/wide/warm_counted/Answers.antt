@@ -20,7 +20,8 @@ returns-in_default-clause-fresh g c =
 
 pub walk_batch-requires-clause-same : goal.walk_batch-requires-clause-same
 walk_batch-requires-clause-same g c κs within =
-    let a = all_add c.args.room (untaken c.args.book) (take c.loop-from.from c.args.old.now) (taking c.loop-from.warming)
+    let a = all_add c.args.room (untaken c.args.book) (take c.loop-from.from c.args.old.now)
+    (taking c.loop-from.warming)
     c.loop-from.invariant.taken in
     ap (λ z. z.line) a.about ∙ c.requires.same
 
@@ -44,19 +45,22 @@ pub returns-in_default-walk_batch-clause-derived : goal.returns-in_default-walk_
 returns-in_default-walk_batch-clause-derived g c =
     let b = c.walk_batch.new.self.book in
     let P : List Entry → Type 0 = λ z. IsDerived b.about.kind b.about.line z in
-    subst P c.entries-entries-in_default-walk_batch.ensures.entries c.entries-entries-in_default-walk_batch.ensures.derived
+    subst P c.entries-entries-in_default-walk_batch.ensures.entries
+    c.entries-entries-in_default-walk_batch.ensures.derived
 
 pub returns-in_default-walk_batch-clause-fresh : goal.returns-in_default-walk_batch-clause-fresh
 returns-in_default-walk_batch-clause-fresh g c =
     let P : List Entry → Type 0 = λ z. IsFresh z in
-    subst P c.entries-entries-in_default-walk_batch.ensures.entries c.entries-entries-in_default-walk_batch.ensures.fresh
+    subst P c.entries-entries-in_default-walk_batch.ensures.entries
+    c.entries-entries-in_default-walk_batch.ensures.fresh
 
 pub returns-clause-units : goal.returns-clause-units
 returns-clause-units g c =
     let P : List Entry → Type 0 = λ z. TakesAll c.args.room (untaken c.args.book) z (taking c.loop-from.warming) in (
       taking c.loop-from.warming,
       (
-        subst P (take_all c.loop-from.from c.args.old.now (omega (arith, c.loop-from-test.false, c.len-in-loop-from.ensures)))
+        subst P (take_all c.loop-from.from c.args.old.now (omega
+            (arith, c.loop-from-test.false, c.len-in-loop-from.ensures)))
             c.loop-from.invariant.taken,
         refl,
         refl,
@@ -69,14 +73,16 @@ returns-clause-in_order g c =
     let P : List Entry → Type 0 = λ z. TakesAll c.args.room (untaken c.args.book) z (taking c.loop-from.warming) in
     λ other k w.
     one_warmed c.args.room c.args.book c.args.old.now (taking c.loop-from.warming)
-    (subst P (take_all c.loop-from.from c.args.old.now (omega (arith, c.loop-from-test.false, c.len-in-loop-from.ensures)))
+    (subst P (take_all c.loop-from.from c.args.old.now (omega
+    (arith, c.loop-from-test.false, c.len-in-loop-from.ensures)))
     c.loop-from.invariant.taken) other k w
 
 pub returns-clause-warmer : goal.returns-clause-warmer
 returns-clause-warmer g c =
     let P : List Entry → Type 0 = λ z. TakesAll c.args.room (untaken c.args.book) z (taking c.loop-from.warming) in
     warmer c.args.room c.args.book c.args.old.now (taking c.loop-from.warming)
-    (subst P (take_all c.loop-from.from c.args.old.now (omega (arith, c.loop-from-test.false, c.len-in-loop-from.ensures)))
+    (subst P (take_all c.loop-from.from c.args.old.now (omega
+    (arith, c.loop-from-test.false, c.len-in-loop-from.ensures)))
     c.loop-from.invariant.taken)
 
 pub returns-clause-derived : goal.returns-clause-derived

@@ -10,11 +10,14 @@ settled-requires-clause-quick c =
     let s : c.args.from + (c.loop-k.k - c.args.from) ≡ c.loop-k.k = omega (arith, c.loop-k.auto.k) in
     let P : ℕ → Type 0 = λ n. IsFoundAt c.args.kind c.args.inst.now c.args.entries.now n 65536 c.index-quick-k.result in
     subst P s (c.requires.quick.each (c.loop-k.k - c.args.from) c.index-quick-k.result
-    (slice_get_read c.args.quick.now (length c.args.quick.now) (c.loop-k.k - c.args.from) c.index-quick-k.result refl (omega (arith, c.requires.quick.many, c.loop-k-test.true, c.loop-k.auto.k)) c.index-quick-k.is))
+    (slice_get_read c.args.quick.now (length c.args.quick.now) (c.loop-k.k - c.args.from) c.index-quick-k.result refl
+    (omega (arith, c.requires.quick.many, c.loop-k-test.true, c.loop-k.auto.k)) c.index-quick-k.is))
 
 pub loop-k-preserved : goal.loop-k-preserved
 loop-k-preserved c = record {
-  below = right_more c.args.kind c.args.inst.now c.args.entries.now c.loop-k.k c.loop-k.units c.in-Right.more c.in-Right.ensures.entry c.in-Right.ensures.there c.loop-k.invariant.below c.in-Right.ensures.found.0 c.in-Right.ensures.found.1;
+  below = right_more c.args.kind c.args.inst.now c.args.entries.now c.loop-k.k c.loop-k.units c.in-Right.more
+      c.in-Right.ensures.entry c.in-Right.ensures.there c.loop-k.invariant.below c.in-Right.ensures.found.0
+      c.in-Right.ensures.found.1;
   few = omega (arith, c.loop-k.invariant.few, c.in-Right.ensures.found.2);
 }
 

@@ -6,4 +6,5 @@ use Rattle.book_share.proofs.marks.Marks.catch_up.Goals as goal
 pub returns-clause-derived : goal.returns-clause-derived
 returns-clause-derived c =
     let about = c.args.book.now.about in
-    subst (λ (es : List Entry). IsDerived about.kind about.line es) c.entries-derived.ensures.entries c.entries-derived.ensures.derived
+    subst (λ (es : List Entry). IsDerived about.kind about.line es) c.entries-derived.ensures.entries
+    c.entries-derived.ensures.derived

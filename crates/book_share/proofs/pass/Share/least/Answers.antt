@@ -10,8 +10,14 @@ use Rattle.book_share.proofs.pass.Share.least.Goals as goal
 pub load-requires : goal.load-requires
 load-requires c =
     let n = c.self.inside.table.shared.table_id.slots in
-    let seat = c.pass.inside.seat in
-    (search rules, search rules, subst (λ (m : Mine). Allows Kept n seat.id m 2 (λ k. k) (LoadsBest (step n 2 0 0 none) m)) (sym c.pass.invariant.0.me) (loads_best n seat.id (given seat.me.0) [] refl))
+    let seat = c.pass.inside.seat in (
+      search rules,
+      search rules,
+      subst (λ (m : Mine). Allows Kept n seat.id m 2 (λ k. k)
+          (LoadsBest (step n 2 0 0 none) m)) (sym c.pass.invariant.0.me)
+              (loads_best n seat.id (given seat.me.0) [] refl),
+    )
 
 pub returns-clause-sound : goal.returns-clause-sound
-returns-clause-sound c = sound_of c.load.new.seat.me (after_load c.pass.inside.seat.me c.load.new.seat.me c.load.result c.pass.invariant.0 c.load.ensures.2.0)
+returns-clause-sound c = sound_of c.load.new.seat.me (after_load c.pass.inside.seat.me c.load.new.seat.me c.load.result
+    c.pass.invariant.0 c.load.ensures.2.0)

@@ -10,7 +10,8 @@ use Rattle.book_share.proofs.pass.Share.look.Goals as goal
 rests : (g : _) (c : goal.After-look g) → IsResting c.look.new.seat.me
 rests g c =
     let h = c.take_waiting-book.ensures.had in
-    after_look (waited c.pass.inside.seat.me.0 h.0 h.1) c.take_waiting-book.new.seat.me c.take_waiting-book.result h.4 h.3 c.look.new.seat.me c.pass.invariant.0.rises c.look.ensures.me c.look.ensures.exact
+    after_look (waited c.pass.inside.seat.me.0 h.0 h.1) c.take_waiting-book.new.seat.me c.take_waiting-book.result h.4
+    h.3 c.look.new.seat.me c.pass.invariant.0.rises c.look.ensures.me c.look.ensures.exact
 
 pub invariant_of-pass : goal.invariant_of-pass
 invariant_of-pass g c = (rests g c, c.look.ensures.marks)
@@ -23,4 +24,5 @@ look-requires-clause-marks g c =
     let h = c.take_waiting-book.ensures.had in
     let v = waited c.pass.inside.seat.me.0 h.0 h.1 in
     let m = c.take_waiting-book.new.seat.me in
-    were_marked c.pass.inside.marks (desk_by v) (desk_by m.0) (waits_in v m c.take_waiting-book.result h.4 h.3).keeps c.pass.invariant.1
+    were_marked c.pass.inside.marks (desk_by v) (desk_by m.0) (waits_in v m c.take_waiting-book.result h.4 h.3).keeps
+    c.pass.invariant.1

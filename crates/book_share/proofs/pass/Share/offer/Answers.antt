@@ -23,7 +23,8 @@ returns-clause-offers g c =
     let m = c.take_waiting-book.new.seat.me in
     let w = c.offer.new.seat.me.0 in
     subst (λ (p : PassOf). Offers (desk_by p.view) (desk_by w) c.args.balance.stations c.offer.result) c.pass.view_is
-    (offers_from v m.0 w c.args.balance.stations c.offer.result (waits_in v m c.take_waiting-book.result h.4 h.3) c.offer.ensures.offers)
+    (offers_from v m.0 w c.args.balance.stations c.offer.result (waits_in v m c.take_waiting-book.result h.4 h.3)
+    c.offer.ensures.offers)
 
 pub returns-clause-sound : goal.returns-clause-sound
 returns-clause-sound g c = sound_of c.offer.new.seat.me c.offer.ensures.ends.resting
@@ -33,4 +34,5 @@ offer-requires-clause-marks g c =
     let h = c.take_waiting-book.ensures.had in
     let v = waited c.pass.inside.seat.me.0 h.0 h.1 in
     let m = c.take_waiting-book.new.seat.me in
-    were_marked c.pass.inside.marks (desk_by v) (desk_by m.0) (waits_in v m c.take_waiting-book.result h.4 h.3).keeps c.pass.invariant.1
+    were_marked c.pass.inside.marks (desk_by v) (desk_by m.0) (waits_in v m c.take_waiting-book.result h.4 h.3).keeps
+    c.pass.invariant.1

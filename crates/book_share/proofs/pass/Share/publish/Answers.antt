@@ -30,7 +30,8 @@ returns-clause-publishes g c =
     let m = c.take_waiting-book.new.seat.me in
     let w = c.publish.new.seat.me.0 in
     subst (λ (p : PassOf). Publishes (desk_by p.view) (desk_by w) c.args.step c.publish.result) c.pass.view_is
-    (publishes_from v m.0 w c.args.step c.publish.result (waits_in v m c.take_waiting-book.result h.4 h.3) c.publish.ensures.publishes)
+    (publishes_from v m.0 w c.args.step c.publish.result (waits_in v m c.take_waiting-book.result h.4 h.3)
+    c.publish.ensures.publishes)
 
 pub returns-clause-sound : goal.returns-clause-sound
 returns-clause-sound g c = sound_of c.publish.new.seat.me c.publish.ensures.ends.resting
@@ -40,4 +41,5 @@ publish-requires-clause-marks g c =
     let h = c.take_waiting-book.ensures.had in
     let v = waited c.pass.inside.seat.me.0 h.0 h.1 in
     let m = c.take_waiting-book.new.seat.me in
-    were_marked c.pass.inside.marks (desk_by v) (desk_by m.0) (waits_in v m c.take_waiting-book.result h.4 h.3).keeps c.pass.invariant.1
+    were_marked c.pass.inside.marks (desk_by v) (desk_by m.0) (waits_in v m c.take_waiting-book.result h.4 h.3).keeps
+    c.pass.invariant.1

@@ -12,10 +12,15 @@ split_seat-seat-requires c =
     (search rules, search rules, splits seat.id seat.me.0 (ap (λ (m : Mine). m.0.phase) c.pass.invariant.0.me))
 
 pub invariant_of-result : goal.invariant_of-result
-invariant_of-result c = (cut_off c.pass.inside.seat.me c.split_seat-seat.result.me c.pass.invariant.0 c.split_seat-seat.ensures.4, unmarked (desk_by c.split_seat-seat.result.me.0))
+invariant_of-result c = (
+  cut_off c.pass.inside.seat.me c.split_seat-seat.result.me c.pass.invariant.0
+      c.split_seat-seat.ensures.4,
+  unmarked (desk_by c.split_seat-seat.result.me.0),
+)
 
 pub returns-clause-sound : goal.returns-clause-sound
 returns-clause-sound c = (
   sound_of c.split_seat-seat.new.seat.me (search rules),
-  sound_of c.split_seat-seat.result.me (cut_off c.pass.inside.seat.me c.split_seat-seat.result.me c.pass.invariant.0 c.split_seat-seat.ensures.4),
+  sound_of c.split_seat-seat.result.me (cut_off c.pass.inside.seat.me c.split_seat-seat.result.me c.pass.invariant.0
+      c.split_seat-seat.ensures.4),
 )

@@ -5,21 +5,27 @@ use Rattle.book_share.proofs.MarkFacts.{were_marked}
 use Rattle.book_share.proofs.pass.Share.try_look.Goals as goal
 
 pub returns-in_default-clause-sound : goal.returns-in_default-clause-sound
-returns-in_default-clause-sound c = sound_of c.take.new.seat.me (after_miss c.pass.inside.seat.me c.take.new.seat.me c.pass.invariant.0 c.in_default.ensures.none)
+returns-in_default-clause-sound c = sound_of c.take.new.seat.me
+    (after_miss c.pass.inside.seat.me c.take.new.seat.me c.pass.invariant.0 c.in_default.ensures.none)
 
 pub invariant_of-pass-2 : goal.invariant_of-pass-2
 invariant_of-pass-2 c =
-    let t = c.in-Some.ensures.some in
-    (after_look c.pass.inside.seat.me.0 c.take.new.seat.me c.in-Some.book t.1 t.0 c.look.new.seat.me c.pass.invariant.0.rises c.look.ensures.me c.look.ensures.exact, c.look.ensures.marks)
+    let t = c.in-Some.ensures.some in (
+      after_look c.pass.inside.seat.me.0 c.take.new.seat.me c.in-Some.book t.1 t.0 c.look.new.seat.me
+          c.pass.invariant.0.rises c.look.ensures.me c.look.ensures.exact,
+      c.look.ensures.marks,
+    )
 
 pub returns-clause-sound : goal.returns-clause-sound
 returns-clause-sound c =
     let t = c.in-Some.ensures.some in
-    sound_of c.look.new.seat.me (after_look c.pass.inside.seat.me.0 c.take.new.seat.me c.in-Some.book t.1 t.0 c.look.new.seat.me c.pass.invariant.0.rises c.look.ensures.me c.look.ensures.exact)
+    sound_of c.look.new.seat.me (after_look c.pass.inside.seat.me.0 c.take.new.seat.me c.in-Some.book t.1 t.0
+    c.look.new.seat.me c.pass.invariant.0.rises c.look.ensures.me c.look.ensures.exact)
 
 pub look-requires-clause-marks : goal.look-requires-clause-marks
 look-requires-clause-marks c =
     let t = c.in-Some.ensures.some in
     let v = c.pass.inside.seat.me.0 in
     let m = c.take.new.seat.me in
-    were_marked c.pass.inside.marks (desk_by v) (desk_by m.0) (waits_in v m c.in-Some.book t.1 t.0).keeps c.pass.invariant.1
+    were_marked c.pass.inside.marks (desk_by v) (desk_by m.0) (waits_in v m c.in-Some.book t.1 t.0).keeps
+    c.pass.invariant.1

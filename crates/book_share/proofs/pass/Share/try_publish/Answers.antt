@@ -9,7 +9,8 @@ use Rattle.book_share.proofs.MarkFacts.{were_marked}
 use Rattle.book_share.proofs.pass.Share.try_publish.Goals as goal
 
 pub returns-in_default-clause-sound : goal.returns-in_default-clause-sound
-returns-in_default-clause-sound c = sound_of c.take.new.seat.me (after_miss c.pass.inside.seat.me c.take.new.seat.me c.pass.invariant.0 c.in_default.ensures.none)
+returns-in_default-clause-sound c = sound_of c.take.new.seat.me
+    (after_miss c.pass.inside.seat.me c.take.new.seat.me c.pass.invariant.0 c.in_default.ensures.none)
 
 pub publish-requires-clause-seat : goal.publish-requires-clause-seat
 publish-requires-clause-seat c =
@@ -30,9 +31,11 @@ returns-clause-publishes c =
     let v = c.pass.inside.seat.me.0 in
     let m = c.take.new.seat.me in
     let w = c.publish.new.seat.me.0 in
-    subst (λ (o : Option Published). IfSome o (λ r. Publishes (desk_by c.args.pass.now.view) (desk_by w) c.args.step r)) (sym c.of.ensures)
+    subst (λ (o : Option Published). IfSome o (λ r. Publishes (desk_by c.args.pass.now.view) (desk_by w) c.args.step r))
+    (sym c.of.ensures)
     (subst (λ (p : PassOf). Publishes (desk_by p.view) (desk_by w) c.args.step c.publish.result) c.pass.view_is
-    (publishes_from v m.0 w c.args.step c.publish.result (waits_in v m c.in-Some.book t.1 t.0) c.publish.ensures.publishes))
+    (publishes_from v m.0 w c.args.step c.publish.result (waits_in v m c.in-Some.book t.1 t.0)
+    c.publish.ensures.publishes))
 
 pub returns-clause-sound : goal.returns-clause-sound
 returns-clause-sound c = sound_of c.publish.new.seat.me c.publish.ensures.ends.resting
@@ -42,4 +45,5 @@ publish-requires-clause-marks c =
     let t = c.in-Some.ensures.some in
     let v = c.pass.inside.seat.me.0 in
     let m = c.take.new.seat.me in
-    were_marked c.pass.inside.marks (desk_by v) (desk_by m.0) (waits_in v m c.in-Some.book t.1 t.0).keeps c.pass.invariant.1
+    were_marked c.pass.inside.marks (desk_by v) (desk_by m.0) (waits_in v m c.in-Some.book t.1 t.0).keeps
+    c.pass.invariant.1

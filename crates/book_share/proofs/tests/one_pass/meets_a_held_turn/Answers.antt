@@ -8,9 +8,13 @@ look-requires-clause-marks c =
     let t = c.in-Some.ensures.some in
     let v = c.other.inside.seat.me.0 in
     let m = c.take.new.seat.me in
-    were_marked c.other.inside.marks (desk_by v) (desk_by m.0) (waits_in v m c.in-Some.book t.1 t.0).keeps c.other.invariant.1
+    were_marked c.other.inside.marks (desk_by v) (desk_by m.0) (waits_in v m c.in-Some.book t.1 t.0).keeps
+    c.other.invariant.1
 
 pub invariant_of-other-2 : goal.invariant_of-other-2
 invariant_of-other-2 c =
-    let t = c.in-Some.ensures.some in
-    (after_look c.other.inside.seat.me.0 c.take.new.seat.me c.in-Some.book t.1 t.0 c.look.new.seat.me c.other.invariant.0.rises c.look.ensures.me c.look.ensures.exact, c.look.ensures.marks)
+    let t = c.in-Some.ensures.some in (
+      after_look c.other.inside.seat.me.0 c.take.new.seat.me c.in-Some.book t.1 t.0 c.look.new.seat.me
+          c.other.invariant.0.rises c.look.ensures.me c.look.ensures.exact,
+      c.look.ensures.marks,
+    )

@@ -9,7 +9,11 @@ use Rattle.cert_lines.proofs.patterns.AskLinePattern.read.Goals as goal
 pub returns-in-Ok : goal.returns-in-Ok
 returns-in-Ok c =
     let P : ℕ → Type 0 = λ x. IsCycle x × (row_text (ask_row (ask.Stations x)) ≡ c.args.line.now) in
-    subst P (sym c.in-Ok.ensures.0) (c.in-Ok.ensures.1, ask_cycle c.args.line.now c.in-Some.cycle (sym c.in-Some.ensures) c.in-Ok.ensures.1)
+    subst P (sym c.in-Ok.ensures.0) (
+      c.in-Ok.ensures.1,
+      ask_cycle c.args.line.now c.in-Some.cycle
+          (sym c.in-Some.ensures) c.in-Ok.ensures.1,
+    )
 
 pub returns-in-Err : goal.returns-in-Err
 returns-in-Err c =
@@ -24,8 +28,10 @@ returns-in-Ok-stations_within c =
 
 pub returns-in-Err-stations_within : goal.returns-in-Err-stations_within
 returns-in-Err-stations_within c =
-    let f = no_stations c.args.line.now c.in-Some-keyed.stations (sym c.in-Some-keyed.ensures) c.in-Err-stations_within.ensures.1 in
-    out_of_range ask_row IsAsked c.args.line.now c.in-Err-stations_within.error c.in-Err-stations_within.ensures.0 f.0 f.1
+    let f = no_stations c.args.line.now c.in-Some-keyed.stations (sym c.in-Some-keyed.ensures)
+    c.in-Err-stations_within.ensures.1 in
+    out_of_range ask_row IsAsked c.args.line.now c.in-Err-stations_within.error c.in-Err-stations_within.ensures.0 f.0
+    f.1
 
 pub returns : goal.returns
 returns c = no_ask c.args.line.now (sym c.in_default.ensures) (sym c.in_default-keyed.ensures)

@@ -4,15 +4,18 @@ use Rattle.check_loads.proofs.ends.End.give_up.Goals as goal
 
 pub loop-other-init : goal.loop-other-init
 loop-other-init c =
-    shut_start c.tasks-tasks.ensures.line c.tasks-tasks.ensures.ranked c.requires.marked c.requires.apart c.requires.task c.requires.within c.remove.ensures.value c.insert.ensures.value c.insert.ensures.truths
+    shut_start c.tasks-tasks.ensures.line c.tasks-tasks.ensures.ranked c.requires.marked c.requires.apart
+    c.requires.task c.requires.within c.remove.ensures.value c.insert.ensures.value c.insert.ensures.truths
     c.waiting.ensures.members c.waiting.ensures.set c.meet-shut.ensures.value
 
 pub loop-other-smaller : goal.loop-other-smaller
-loop-other-smaller c = fewer_shut c.loop-other.shut c.in-Some.other c.in-Some.ensures.some.member c.remove-in-Some.ensures.value
+loop-other-smaller c = fewer_shut c.loop-other.shut c.in-Some.other c.in-Some.ensures.some.member
+    c.remove-in-Some.ensures.value
 
 pub loop-other-preserved : goal.loop-other-preserved
 loop-other-preserved c =
-    shut_turn c.loop-other.invariant c.tasks-tasks.ensures.ranked c.in-Some.ensures.some.member c.place_of.ensures.within c.place_of.ensures.task
+    shut_turn c.loop-other.invariant c.tasks-tasks.ensures.ranked c.in-Some.ensures.some.member
+    c.place_of.ensures.within c.place_of.ensures.task
     c.remove-in-Some.ensures.value c.remove-in-Some-2.ensures.value c.remove-in-Some-3.ensures.value
 
 pub returns-clause-free : goal.returns-clause-free

@@ -3,7 +3,8 @@ use Rattle.load_facts.proofs.SideTurns.{Shutting}
 use Rattle.check_loads.proofs.ends.End.give_up.Given as goal
 
 abbrev pub invariant-loop-other : goal.invariant-loop-other
-invariant-loop-other l = Shutting l.inst l.side l.task l.fn.self.tasks l.fn.self.free l.shut l.self.tasks l.self.free l.self.places
+invariant-loop-other l = Shutting l.inst l.side l.task l.fn.self.tasks l.fn.self.free l.shut l.self.tasks l.self.free
+    l.self.places
 
 abbrev pub decreases-loop-other : goal.decreases-loop-other
 decreases-loop-other l = members l.shut

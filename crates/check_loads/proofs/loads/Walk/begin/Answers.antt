@@ -17,10 +17,13 @@ use Rattle.check_loads.proofs.loads.Walk.begin.Goals as goal
 pub returns-clause-walk : goal.returns-clause-walk
 returns-clause-walk c =
     let new : Walk = record { given = false; sum = 0; front = c.start.result; back = c.start-2.result } in
-    let none : stand new ≡ nothing_yet = same_pair c.start.result.tasks nothing_yet.front c.start-2.result.tasks nothing_yet.back c.start.ensures.tasks c.start-2.ensures.tasks in
+    let none : stand new ≡ nothing_yet = same_pair c.start.result.tasks nothing_yet.front c.start-2.result.tasks
+    nothing_yet.back c.start.ensures.tasks c.start-2.ensures.tasks in
     record {
       load = λ e. absurd (false≢true e);
       nothing = λ e. none;
       sum = sym (ap (λ (l : Load). sum_where (has (taken l)) c.args.inst.now.times) none ∙ nothing_sum c.args.inst.now);
-      kept = each_side (λ (s : Side). fills c.args.q.now.mode s ≡ true → IsEnd c.args.inst.now s c.args.q.now.set (end_of s new).tasks (end_of s new).free (end_of s new).places) c.start.ensures.kept c.start-2.ensures.kept;
+      kept = each_side (λ (s : Side). fills c.args.q.now.mode s ≡ true
+          → IsEnd c.args.inst.now s c.args.q.now.set (end_of s new).tasks (end_of s new).free (end_of s new).places)
+          c.start.ensures.kept c.start-2.ensures.kept;
     }

@@ -5,4 +5,5 @@ pub returns-clause-own : goal.returns-clause-own
 returns-clause-own c = has_own c.offer.new.self
 
 pub returns-clause-offers : goal.returns-clause-offers
-returns-clause-offers c = offers_so c.args.self.now c.offer.new.self c.args.balance c.offer.result c.len-len.ensures.kept c.offer.ensures.answer c.offer.ensures.ran
+returns-clause-offers c = offers_so c.args.self.now c.offer.new.self c.args.balance c.offer.result
+    c.len-len.ensures.kept c.offer.ensures.answer c.offer.ensures.ran

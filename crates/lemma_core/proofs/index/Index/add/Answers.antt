@@ -19,13 +19,31 @@ returns-clause-index c =
     c.hang-before.ensures.before ∙ ap (λ (xs : List ℕ). slice_index xs (bucket_in (length xs) c.args.tag)) h in
     let heads : now ≡ slice_set s.heads.items (bucket_in (length s.heads.items) c.args.tag) (length s.links.items + 1) =
     c.hang-before.ensures.heads ∙ (λ i. slice_set (h i) (bucket_in (length (h i)) c.args.tag) (n i + 1)) in
-    let sieve : marked ≡ slice_set s.sieve.items (word_in (length s.sieve.items) c.args.tag) (bit_or (slice_index s.sieve.items (word_in (length s.sieve.items) c.args.tag)) (mark_of c.args.tag)) =
-    c.hang-before.ensures.sieve ∙ ap (λ (xs : List ℕ). slice_set xs (word_in (length xs) c.args.tag) (bit_or (slice_index xs (word_in (length xs) c.args.tag)) (mark_of c.args.tag))) v in
+    let sieve : marked ≡ slice_set s.sieve.items (word_in (length s.sieve.items) c.args.tag)
+    (bit_or (slice_index s.sieve.items (word_in (length s.sieve.items) c.args.tag)) (mark_of c.args.tag)) =
+    c.hang-before.ensures.sieve ∙ ap (λ (xs : List ℕ). slice_set xs (word_in (length xs) c.args.tag)
+    (bit_or (slice_index xs (word_in (length xs) c.args.tag)) (mark_of c.args.tag))) v in
     let k : IsIndex now (s.links.items ++ record { tag = c.args.tag; before = c.hang-before.result } ∷ []) marked =
-    index_push s.heads.items s.links.items s.sieve.items c.args.tag c.hang-before.result now marked c.requires.index some before heads sieve in
-    let P : List ℕ → Type 0 = λ xs. IsIndex xs (s.links.items ++ record { tag = c.args.tag; before = c.hang-before.result } ∷ []) marked in
-    let Q : List ℕ → Type 0 = λ xs. IsIndex (take s.heads.len (now ++ drop (length now) s.heads.items)) (s.links.items ++ record { tag = c.args.tag; before = c.hang-before.result } ∷ []) xs in
-    let R : List Link → Type 0 = λ ls. IsIndex (take s.heads.len (now ++ drop (length now) s.heads.items)) ls (take s.sieve.len (marked ++ drop (length marked) s.sieve.items)) in
-    let a : length now ≡ s.heads.len = omega (arith, c.hang-before.auto.heads, ap (λ (xs : List ℕ). length xs) h, s.heads.ok.0) in
-    let b : length marked ≡ s.sieve.len = omega (arith, c.hang-before.auto.sieve, ap (λ (xs : List ℕ). length xs) v, s.sieve.ok.0) in
-    subst R (sym c.push_reserved.ensures.items) (subst Q (sym (take_at marked (drop (length marked) s.sieve.items) s.sieve.len b)) (subst P (sym (take_at now (drop (length now) s.heads.items) s.heads.len a)) k))
+    index_push s.heads.items s.links.items s.sieve.items c.args.tag c.hang-before.result now marked c.requires.index
+    some before heads sieve in
+    let P : List ℕ → Type 0 = λ xs. IsIndex xs (s.links.items
+    ++ record { tag = c.args.tag; before = c.hang-before.result } ∷ []) marked in
+    let Q : List ℕ → Type 0 = λ xs. IsIndex (take s.heads.len (now ++ drop (length now) s.heads.items))
+    (s.links.items ++ record { tag = c.args.tag; before = c.hang-before.result } ∷ []) xs in
+    let R : List Link → Type 0 = λ ls. IsIndex (take s.heads.len (now ++ drop (length now) s.heads.items)) ls
+    (take s.sieve.len (marked ++ drop (length marked) s.sieve.items)) in
+    let a : length now ≡ s.heads.len = omega (
+      arith,
+      c.hang-before.auto.heads,
+      ap (λ (xs : List ℕ). length xs) h,
+      s.heads.ok.0,
+    ) in
+    let b : length marked ≡ s.sieve.len = omega (
+      arith,
+      c.hang-before.auto.sieve,
+      ap (λ (xs : List ℕ). length xs) v,
+      s.sieve.ok.0,
+    ) in
+    subst R (sym c.push_reserved.ensures.items) (subst Q (sym
+    (take_at marked (drop (length marked) s.sieve.items) s.sieve.len b))
+    (subst P (sym (take_at now (drop (length now) s.heads.items) s.heads.len a)) k))

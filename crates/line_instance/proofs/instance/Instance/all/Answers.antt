@@ -4,7 +4,8 @@ use Rattle.line_instance.specs.Line.{Line, tasks}
 use Rattle.line_instance.proofs.Joining.{full_members}
 use Rattle.line_instance.proofs.instance.Instance.all.Goals as goal
 
-within : (line : Line) (n : ℕ) (s : List Bool) → n ≡ tasks line → tasks line ≤ 1024 → s ≡ full_to n → (i : ℕ) → (In s i → i < tasks line) × (i < tasks line → In s i)
+within : (line : Line) (n : ℕ) (s : List Bool) → n ≡ tasks line → tasks line ≤ 1024 → s ≡ full_to n → (i : ℕ)
+    → (In s i → i < tasks line) × (i < tasks line → In s i)
 within line n s e few f i =
     let P : List Bool → Type 0 = λ x. In x i in
     let m = full_members n i (omega arith) in
@@ -14,7 +15,8 @@ pub returns-clause-members : goal.returns-clause-members
 returns-clause-members c =
     let F : Line → Type 0 = λ line. tasks line ≤ 1024 in
     let N : Line → Type 0 = λ line. c.len.result ≡ tasks line in
-    within c.args.self.now c.len.result c.full_to.result (subst N c.self.view_is (omega arith)) (subst F c.self.view_is c.self.invariant.line_is.small) c.full_to.ensures.value
+    within c.args.self.now c.len.result c.full_to.result (subst N c.self.view_is (omega arith))
+    (subst F c.self.view_is c.self.invariant.line_is.small) c.full_to.ensures.value
 
 pub returns-clause-set : goal.returns-clause-set
 returns-clause-set c =
@@ -22,5 +24,6 @@ returns-clause-set c =
     let N : Line → Type 0 = λ line. c.len.result ≡ tasks line in
     record {
       truths = c.full_to.ensures.truths;
-      tasks = λ i m. (within c.args.self.now c.len.result c.full_to.result (subst N c.self.view_is (omega arith)) (subst F c.self.view_is c.self.invariant.line_is.small) c.full_to.ensures.value i).0 m;
+      tasks = λ i m. (within c.args.self.now c.len.result c.full_to.result (subst N c.self.view_is (omega arith))
+          (subst F c.self.view_is c.self.invariant.line_is.small) c.full_to.ensures.value i).0 m;
     }

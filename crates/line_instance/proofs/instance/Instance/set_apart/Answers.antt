@@ -26,16 +26,24 @@ invariant_of-self c =
     let T : List ℕ → Type 0 = λ ts. ArePaired (length ts) c.args.pairs.now apart in
     let A : List ℕ → Type 0 = λ ts. ArePartners (of_rows ts c.deref-2.result.now apart) partners in
     let B : List (List Bool) → Type 0 = λ rows. ArePartners (of_rows times rows apart) partners in
-    let S : List Kept → Type 0 = λ ps. IsSound c.self.inside.after.items c.self.inside.ranks.items ps (record { times = times; before = before; apart = apart; order = c.self.inside.order.items }) in
+    let S : List Kept → Type 0 = λ ps. IsSound c.self.inside.after.items c.self.inside.ranks.items ps
+    (record { times = times; before = before; apart = apart; order = c.self.inside.order.items }) in
     let R : List (List Bool) → Type 0 = λ rows. IsSound c.self.inside.after.items c.self.inside.ranks.items
-    (take c.self.inside.partners.len (partners ++ drop (length partners) c.self.inside.partners.items)) (record { times = times; before = before; apart = rows; order = c.self.inside.order.items }) in
-    subst R (sym (take_at apart (drop (length apart) c.self.inside.apart.items) c.self.inside.apart.len (omega (arith, c.part.auto.apart, c.deref_mut.ensures.len))))
-    (subst S (sym (take_at partners (drop (length partners) c.self.inside.partners.items) c.self.inside.partners.len (omega (arith, c.part.auto.partners, c.deref_mut-2.ensures.len))))
-    (parted c.self.inside.after.items c.self.inside.ranks.items c.self.inside.partners.items partners times before c.self.inside.apart.items apart c.self.inside.order.items c.args.pairs.now
-    (subst P (sym c.self.view_is) c.requires) c.self.invariant (subst T c.deref.ensures.value c.part.ensures.apart) (subst B c.deref-2.ensures.value (subst A c.deref.ensures.value c.part.ensures.partners))))
+    (take c.self.inside.partners.len (partners ++ drop (length partners) c.self.inside.partners.items))
+    (record { times = times; before = before; apart = rows; order = c.self.inside.order.items }) in
+    subst R (sym (take_at apart (drop (length apart) c.self.inside.apart.items) c.self.inside.apart.len
+    (omega (arith, c.part.auto.apart, c.deref_mut.ensures.len))))
+    (subst S (sym (take_at partners (drop (length partners) c.self.inside.partners.items) c.self.inside.partners.len
+    (omega (arith, c.part.auto.partners, c.deref_mut-2.ensures.len))))
+    (parted c.self.inside.after.items c.self.inside.ranks.items c.self.inside.partners.items partners times before
+    c.self.inside.apart.items apart c.self.inside.order.items c.args.pairs.now
+    (subst P (sym c.self.view_is) c.requires) c.self.invariant (subst T c.deref.ensures.value c.part.ensures.apart)
+    (subst B c.deref-2.ensures.value (subst A c.deref.ensures.value c.part.ensures.partners))))
 
 pub returns-clause-apart : goal.returns-clause-apart
 returns-clause-apart c = λ i j.
     let apart : List (List Bool) = c.part.new.apart in
     let R : List (List Bool) → Type 0 = λ rows. In (get_or rows j []) i ↔ IsGiven c.args.pairs.now i j in
-    subst R (sym (take_at apart (drop (length apart) c.self.inside.apart.items) c.self.inside.apart.len (omega (arith, c.part.auto.apart, c.deref_mut.ensures.len)))) (c.part.ensures.apart.only i j, c.part.ensures.apart.there i j)
+    subst R (sym (take_at apart (drop (length apart) c.self.inside.apart.items) c.self.inside.apart.len
+    (omega (arith, c.part.auto.apart, c.deref_mut.ensures.len))))
+    (c.part.ensures.apart.only i j, c.part.ensures.apart.there i j)

@@ -12,7 +12,8 @@ pub returns-clause-seeking : goal.returns-clause-seeking
 returns-clause-seeking c =
     let M : LineKind → Type 0 = λ z. Belongs z (mode_in c.first.result) in
     seeking_begins c.args.book.now.about c.args.book.now.state.best _ c.requires.cycle
-    (subst (λ b. IsRight c.args.book.now.about.kind c.args.book.now.about.line c.args.book.now.about.cycle b) c.best.ensures.best c.best.ensures.right.right)
+    (subst (λ b. IsRight c.args.book.now.about.kind c.args.book.now.about.line c.args.book.now.about.cycle b)
+    c.best.ensures.best c.best.ensures.right.right)
     (ap (λ (z : BookView). z.about) c.make.ensures
     ∙ about_same c.args.book.now.about c.in_ok-copy.field-0 c.kind-kind.result c.cycle-cycle.result
     (c.in_ok-copy.ensures ∙ sym c.requires.same) c.kind-kind.ensures c.cycle-cycle.ensures)

@@ -37,7 +37,8 @@ loop-next-smaller c =
     let there : slice_get es j ≡ Some c.index.result.now =
     slice_get_read es (length es) j c.index.result.now refl (look.within j refl) c.index.ensures in
     let led : slice_get book.before.items j ≡ Some c.index-next.result.now =
-    slice_get_read book.before.items (length es) j c.index-next.result.now (sym c.self.invariant.long) (look.within j refl)
+    slice_get_read book.before.items (length es) j c.index-next.result.now (sym c.self.invariant.long)
+    (look.within j refl)
     c.index-next.ensures in
     let F : Option ℕ → Type 0 = λ o. left_of c.index-next.result.now < left_of o in
     subst F (sym c.in-Some.is)
@@ -57,7 +58,8 @@ loop-next-preserved c =
     let there : slice_get es j ≡ Some c.index.result.now =
     slice_get_read es (length es) j c.index.result.now refl (look.within j refl) c.index.ensures in
     let led : slice_get book.before.items j ≡ Some c.index-next.result.now =
-    slice_get_read book.before.items (length es) j c.index-next.result.now (sym c.self.invariant.long) (look.within j refl)
+    slice_get_read book.before.items (length es) j c.index-next.result.now (sym c.self.invariant.long)
+    (look.within j refl)
     c.index-next.ensures in
     let K : List SeqEntry → Type 0 = λ xs. IsLooking xs rem starts c.args.need c.index-next.result.now in
     subst K c.self.view_is
@@ -67,4 +69,5 @@ loop-next-preserved c =
 pub returns-clause-none : goal.returns-clause-none
 returns-clause-none c = λ _ h.
     let L : Option ℕ → Type 0 = IsLooking c.args.self.now c.args.rem.now c.args.starts.now c.args.need in
-    none_answers c.args.self.now c.args.rem.now c.args.starts.now c.args.need (subst L c.in_default.is c.loop-next.invariant) h
+    none_answers c.args.self.now c.args.rem.now c.args.starts.now c.args.need
+    (subst L c.in_default.is c.loop-next.invariant) h

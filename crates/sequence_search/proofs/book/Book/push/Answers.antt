@@ -16,8 +16,10 @@ invariant_of-self-2 c =
     let U : ℕ → Type 0 = λ k. Updates nat_eq book.latest new k (Some c.len-number.result) in
     let kept =
     indexed es c.args.entry book.latest new book.before.items c.in_ok-last.last c.len-number.result c.self.invariant
-    number (c.in_ok-last.ensures.old ∙ ap (λ k. get nat_eq book.latest k) key) (subst U key c.in_ok-last.ensures.updates) in
+    number (c.in_ok-last.ensures.old ∙ ap (λ k. get nat_eq book.latest k) key)
+    (subst U key c.in_ok-last.ensures.updates) in
     let B : List (Option ℕ) → Type 0 = λ xs. IsIndexed new xs (es ++ c.args.entry ∷ []) in
     let E : List SeqEntry → Type 0 = λ xs. IsIndexed new c.push_reserved.new.self.items xs in
     subst E (sym (c.push_reserved-2.ensures.items ∙ ap (λ xs. xs ++ c.args.entry ∷ []) c.reserve.ensures.items))
-    (subst B (sym (c.push_reserved.ensures.items ∙ ap (λ xs. xs ++ c.in_ok-last.last ∷ []) c.reserve-2.ensures.items)) kept)
+    (subst B (sym (c.push_reserved.ensures.items ∙ ap (λ xs. xs ++ c.in_ok-last.last ∷ []) c.reserve-2.ensures.items))
+    kept)

@@ -8,5 +8,9 @@ steal_as-requires-clause-takes c = takes _ _ (search rules)
 
 pub fetch_sub-requires : goal.fetch_sub-requires
 fetch_sub-requires c =
-    let seat = c.port.inside.seat in
-    (search rules, search rules, reports_one c.self.inside.tally.shared.table_id.slots seat.id seat.me.0 seat.me.1 (search rules))
+    let seat = c.port.inside.seat in (
+      search rules,
+      search rules,
+      reports_one c.self.inside.tally.shared.table_id.slots seat.id seat.me.0 seat.me.1
+          (search rules),
+    )

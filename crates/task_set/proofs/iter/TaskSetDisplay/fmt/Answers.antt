@@ -24,5 +24,7 @@ pub returns-clause-writes : goal.returns-clause-writes
 returns-clause-writes g c = λ plain ok.
     let start : HasWritten g.W.Write.write_str_gives c.args.f.now (codes "{") c.write_str.new.self = search rules in
     let so_far = c.loop-i.invariant.3 start.plain in
-    let whole : so_far.0 ≡ list_text [] (members_of c.args.self.now) = text_end so_far.0 c.loop-i.mark.now _ _ c.in-None.ensures.steps.0 so_far.2 in
-    has_written_of_eq _ _ _ _ _ (ap (λ t. codes "{" ++ t ++ codes "}") whole) (has_written_append _ _ _ _ _ _ start (has_written_append _ _ _ _ _ _ so_far.1 (search rules)))
+    let whole : so_far.0 ≡ list_text [] (members_of c.args.self.now) =
+    text_end so_far.0 c.loop-i.mark.now _ _ c.in-None.ensures.steps.0 so_far.2 in
+    has_written_of_eq _ _ _ _ _ (ap (λ t. codes "{" ++ t ++ codes "}") whole)
+    (has_written_append _ _ _ _ _ _ start (has_written_append _ _ _ _ _ _ so_far.1 (search rules)))

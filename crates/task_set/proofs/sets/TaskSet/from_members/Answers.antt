@@ -17,7 +17,8 @@ loop-i-preserved c =
     record {
       truths = c.insert.ensures.truths;
       listed = subst P (sym c.insert.ensures.value)
-          (listed_more c.loop-i.set c.args.members.now c.loop-i.i-index c.loop-i.invariant.truths c.loop-i-test.true (c.requires c.loop-i.i-index 0 c.loop-i-test.true) c.loop-i.invariant.listed);
+          (listed_more c.loop-i.set c.args.members.now c.loop-i.i-index c.loop-i.invariant.truths c.loop-i-test.true
+          (c.requires c.loop-i.i-index 0 c.loop-i-test.true) c.loop-i.invariant.listed);
     }
 
 pub returns-clause-members : goal.returns-clause-members

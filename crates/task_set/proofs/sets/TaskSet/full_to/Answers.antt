@@ -14,7 +14,8 @@ loop-k-init c = record {
 pub loop-k-preserved : goal.loop-k-preserved
 loop-k-preserved c = record {
   words = fits_set c.loop-k.words c.loop-k.invariant.words c.loop-k.k c.ones_below.result c.ones_below.ensures.fits;
-  below = fill c.loop-k.words c.loop-k.invariant.words c.loop-k.k c.args.n c.ones_below.result (omega arith) (λ j l. c.ones_below.ensures.bits j l ∙ ap (λ m. ltb j m) c.saturating_sub.ensures) c.loop-k.invariant.below;
+  below = fill c.loop-k.words c.loop-k.invariant.words c.loop-k.k c.args.n c.ones_below.result (omega arith)
+      (λ j l. c.ones_below.ensures.bits j l ∙ ap (λ m. ltb j m) c.saturating_sub.ensures) c.loop-k.invariant.below;
 }
 
 pub returns-clause-value : goal.returns-clause-value
