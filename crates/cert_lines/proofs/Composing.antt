@@ -7,7 +7,7 @@ use Rattle.std.proofs.lemmas.List.{append-nil, map-append, length-map, length-re
 use Rattle.std.proofs.lemmas.Option.{same_Some, none-some}
 use Rattle.cert_lines.specs.Rows.{Row, form_of, row_text, line_text, rows_text, lines_text}
 use Rattle.cert_lines.specs.Faults.{IsLine, Grammar, Next, HasForm, IsWrong, IsFault}
-use Rattle.cert_lines.specs.Judging.{HasFormOf, IsJudged, one, AreSaid, each, IsRead}
+use Rattle.cert_lines.specs.Pattern.{HasFormOf, IsJudged, one, AreSaid, each, IsRead}
 use Rattle.cert_lines.specs.inner.Answering.{error_at}
 use Rattle.cert_lines.specs.declared.fault.LineError.{LineError}
 use Rattle.cert_lines.specs.declared.fault.LineError.TheVariants as lines

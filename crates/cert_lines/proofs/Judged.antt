@@ -6,8 +6,8 @@ use Rattle.std.proofs.lemmas.Slice.Eq.{bytes_eq-Decides}
 use Rattle.std.proofs.lemmas.Option.{same_Some, none-some, slice_get-get_or}
 use Rattle.std.proofs.lemmas.List.{take_more, take_all}
 use Rattle.cert_lines.proofs.Composing.{said_more}
-use Rattle.cert_lines.specs.declared.patterns.Key.{Key}
-use Rattle.cert_lines.specs.declared.patterns.Key.TheVariants as keys
+use Rattle.cert_lines.specs.declared.line_forms.Key.{Key}
+use Rattle.cert_lines.specs.declared.line_forms.Key.TheVariants as keys
 use Rattle.line_rules.specs.Ranges.{IsCycle, IsAsked, AreCites}
 use Rattle.line_rules.specs.declared.types.LineKind.TheVariants.{Straight, U}
 use Rattle.line_rules.specs.declared.types.Ask.{Ask}
@@ -19,11 +19,11 @@ use Rattle.cert_lines.specs.Rows.{state_frame, number, text, form_of, row_text}
 use Rattle.cert_lines.specs.Reading.{greatest, parts_at}
 use Rattle.cert_lines.specs.inner.LineReading.{keyed_in}
 use Rattle.cert_lines.specs.ValueRows.{ask_row, kind_row}
-use Rattle.cert_lines.specs.Judging.{HasFormOf, IsJudged}
-use Rattle.cert_lines.specs.Patterns.{key_text, version_row, opening_row, IsOpening}
-use Rattle.cert_lines.specs.declared.patterns.Version.TheVariants as versions
-use Rattle.cert_lines.specs.declared.patterns.Opening.{Opening}
-use Rattle.cert_lines.specs.declared.patterns.Opening.TheVariants as opening
+use Rattle.cert_lines.specs.Pattern.{HasFormOf, IsJudged}
+use Rattle.cert_lines.specs.LineForms.{key_text, version_row, opening_row, IsOpening}
+use Rattle.cert_lines.specs.declared.line_forms.Version.TheVariants as versions
+use Rattle.cert_lines.specs.declared.line_forms.Opening.{Opening}
+use Rattle.cert_lines.specs.declared.line_forms.Opening.TheVariants as opening
 use Rattle.cert_lines.specs.declared.fault.LineError.{LineError}
 use Rattle.cert_lines.specs.declared.fault.LineError.TheVariants as lines
 use Rattle.cert_lines.proofs.NumberWords.{lacks, split_again}

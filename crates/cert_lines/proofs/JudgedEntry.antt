@@ -18,9 +18,9 @@ use Rattle.cert_lines.specs.Rows.{state_frame, entry, open_frame, given, form_of
 use Rattle.cert_lines.specs.ValueRows.{frame_row, why_row}
 use Rattle.cert_lines.specs.Reading.{greatest}
 use Rattle.cert_lines.specs.inner.LineReading.{entry_in, frame_in}
-use Rattle.cert_lines.specs.Judging.{HasFormOf}
-use Rattle.cert_lines.specs.Patterns.{IsWithin, entry_of, IsFrameWithin, frame_of, written, IsGiven, IsSaid, given_row}
-use Rattle.cert_lines.specs.Patterns.{IsGivenCycle}
+use Rattle.cert_lines.specs.Pattern.{HasFormOf}
+use Rattle.cert_lines.specs.LineForms.{IsWithin, entry_of, IsFrameWithin, frame_of, written, IsGiven, IsSaid, given_row}
+use Rattle.cert_lines.specs.LineForms.{IsGivenCycle}
 use Rattle.cert_lines.specs.declared.draft.Draft.{Draft}
 use Rattle.cert_lines.specs.declared.draft.FrameDraft.{FrameDraft}
 use Rattle.cert_lines.proofs.SetText.{clip, set_again, set_found}

@@ -12,8 +12,8 @@ use Rattle.cert_lines.specs.Rows.{Row, fixed, keyed, span, seat, bound, branch, 
 use Rattle.cert_lines.specs.Rows.{state_frame, place, head, form_of, row_text}
 use Rattle.cert_lines.specs.ValueRows.{seat_row}
 use Rattle.cert_lines.specs.inner.LineReading.{seat_in, trail_in}
-use Rattle.cert_lines.specs.Judging.{HasFormOf}
-use Rattle.cert_lines.specs.Patterns.{IsHead}
+use Rattle.cert_lines.specs.Pattern.{HasFormOf}
+use Rattle.cert_lines.specs.LineForms.{IsHead}
 use Rattle.cert_lines.proofs.CiteWords.{sat}
 use Rattle.cert_lines.proofs.Judged.{small, small_is}
 use Rattle.cert_lines.proofs.OtherLines.{seat_again, seat_found, side_read, sat_trail, trail_again, trail_found}

@@ -7,8 +7,8 @@ use Rattle.line_rules.specs.Ranges.{IsFrame}
 use Rattle.cert_lines.specs.Rows.{row_text}
 use Rattle.cert_lines.specs.ValueRows.{frame_row}
 use Rattle.cert_lines.specs.inner.LineReading.{entry_in, frame_in}
-use Rattle.cert_lines.specs.Judging.{IsJudged}
-use Rattle.cert_lines.specs.Patterns.{IsWithin, entry_of, IsFrameWithin, frame_of, IsSaid, given_row, IsGivenCycle}
+use Rattle.cert_lines.specs.Pattern.{IsJudged}
+use Rattle.cert_lines.specs.LineForms.{IsWithin, entry_of, IsFrameWithin, frame_of, IsSaid, given_row, IsGivenCycle}
 use Rattle.cert_lines.specs.declared.draft.Draft.{Draft}
 use Rattle.cert_lines.specs.declared.draft.FrameDraft.{FrameDraft}
 use Rattle.cert_lines.specs.declared.fault.LineError.{LineError}

@@ -6,8 +6,8 @@ pub mod Telling
 pub mod Reading
 pub mod Taking
 pub mod ReadingOn
-pub mod Judging
-pub mod Patterns
+pub mod Pattern
+pub mod LineForms
 pub mod OldRanges
 pub mod Lift
 pub mod inner

@@ -3,8 +3,8 @@
 
 mod draft;
 mod fault;
+pub mod line_forms;
 pub mod pattern;
-pub mod patterns;
 mod source;
 pub mod version_one;
 pub mod words;

@@ -1,7 +1,7 @@
 //! The reading of one line for a value, and of so many.
 ghost use Rattle.std.specs.Prelude.{◌≡◌, MatchResult, IfOk, Ok, Err};
 ghost use Rattle.cert_lines.specs.Rows.{Row};
-ghost use Rattle.cert_lines.specs.Judging.{IsJudged, IsRead, AreSaid, one, each};
+ghost use Rattle.cert_lines.specs.Pattern.{IsJudged, IsRead, AreSaid, one, each};
 ghost use Rattle.cert_lines.specs.inner.Answering.{error_at};
 ghost use Rattle.cert_lines.specs.ReadingOn.{IsReadOn};
 

@@ -1,9 +1,9 @@
 //! What no clause says: that lines are read where there is memory, over a source that tells nothing.
-use cert_lines::pattern::{Pattern, read_line, read_lines};
-use cert_lines::patterns::{
+use cert_lines::line_forms::{
     EndLine, EntryLine, FrameLine, Key, KindLine, NumberLine, SeatLine, TrailLine, Version,
     VersionLine,
 };
+use cert_lines::pattern::{Pattern, read_line, read_lines};
 use cert_lines::words::{number, set_of, split_at};
 use cert_lines::{Source, Taken};
 use line_rules::{LineKind, Side};

@@ -16,13 +16,13 @@ use Rattle.line_rules.specs.declared.types.Claim.TheVariants as new
 use Rattle.line_rules.specs.declared.types.Certificate.{Certificate}
 use Rattle.cert_lines.specs.Rows.{fixed, keyed, row_text}
 use Rattle.cert_lines.specs.Faults.{Grammar}
-use Rattle.cert_lines.specs.Judging.{one, then_, IsRead}
-use Rattle.cert_lines.specs.Patterns.{opening_row, IsOpening, version_row}
+use Rattle.cert_lines.specs.Pattern.{one, then_, IsRead}
+use Rattle.cert_lines.specs.LineForms.{opening_row, IsOpening, version_row}
 use Rattle.cert_lines.specs.OldRanges.{IsOldClaim, IsOldInRange}
-use Rattle.cert_lines.specs.declared.patterns.Opening.{Opening}
-use Rattle.cert_lines.specs.declared.patterns.Opening.TheVariants as opening
-use Rattle.cert_lines.specs.declared.patterns.Version.{Version}
-use Rattle.cert_lines.specs.declared.patterns.Version.TheVariants as version
+use Rattle.cert_lines.specs.declared.line_forms.Opening.{Opening}
+use Rattle.cert_lines.specs.declared.line_forms.Opening.TheVariants as opening
+use Rattle.cert_lines.specs.declared.line_forms.Version.{Version}
+use Rattle.cert_lines.specs.declared.line_forms.Version.TheVariants as version
 use Rattle.cert_lines.specs.declared.version_one.OldClaim.{OldClaim}
 use Rattle.cert_lines.specs.declared.version_one.OldClaim.TheVariants as old
 use Rattle.cert_lines.specs.declared.version_one.Part.{Part}

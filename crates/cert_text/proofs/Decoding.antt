@@ -39,7 +39,7 @@ use Rattle.cert_lines.specs.declared.version_one.OldClaim.TheVariants as old_cla
 use Rattle.cert_lines.specs.Faults.{IsLine, Grammar, Next, IsFault}
 use Rattle.cert_text.specs.Parts.{lists}
 use Rattle.cert_text.specs.Answers.{IsAnyRead, IsCertFault, IsSaidBy, IsCertRead, IsEnded}
-use Rattle.cert_lines.specs.Judging.{IsRead}
+use Rattle.cert_lines.specs.Pattern.{IsRead}
 use Rattle.cert_text.specs.Laws.{NoTextBeginsAnother}
 use Rattle.cert_lines.specs.declared.fault.ReadError.{ReadError}
 use Rattle.cert_lines.specs.declared.fault.ReadError.TheVariants as errors

@@ -2,7 +2,7 @@
 use Rattle.std.proofs.Common.{◌≡◌, ℕ, List, [], Ok, Err, Result}
 use Rattle.std.specs.Result.{IsErrAnd}
 use Rattle.cert_lines.specs.Faults.{Grammar}
-use Rattle.cert_lines.specs.Judging.{IsRead, then_}
+use Rattle.cert_lines.specs.Pattern.{IsRead, then_}
 use Rattle.cert_lines.specs.declared.fault.ReadError.{ReadError}
 use Rattle.cert_lines.specs.declared.fault.ReadError.TheVariants as errors
 use Rattle.cert_lines.proofs.Composing.{read_error}

@@ -8,7 +8,7 @@ use Rattle.line_rules.specs.declared.types.Trail.{Trail}
 use Rattle.cert_lines.specs.Rows.{rows_text}
 use Rattle.cert_text.specs.Cert.{list_rows}
 use Rattle.cert_text.specs.Parts.{lists}
-use Rattle.cert_lines.specs.Judging.{IsRead}
+use Rattle.cert_lines.specs.Pattern.{IsRead}
 use Rattle.cert_lines.specs.Faults.{IsFault}
 use Rattle.cert_text.specs.Answers.{IsListGood, IsListRead, IsListed}
 use Rattle.cert_text.specs.declared.reading.EntryList.{EntryList}

@@ -10,8 +10,8 @@ use Rattle.line_rules.specs.declared.types.OpenFrame.{OpenFrame}
 use Rattle.cert_lines.specs.Rows.{keyed}
 use Rattle.cert_lines.specs.ValueRows.{frame_row}
 use Rattle.cert_lines.specs.Faults.{Grammar}
-use Rattle.cert_lines.specs.Judging.{AreSaid, each, then_, IsRead}
-use Rattle.cert_lines.specs.Patterns.{IsSaid, given_row}
+use Rattle.cert_lines.specs.Pattern.{AreSaid, each, then_, IsRead}
+use Rattle.cert_lines.specs.LineForms.{IsSaid, given_row}
 use Rattle.cert_lines.specs.OldRanges.{IsPart, AreParts}
 use Rattle.cert_lines.specs.declared.version_one.Part.{Part}
 use Rattle.cert_text.specs.OldCert.{part_rows, parts_rows}

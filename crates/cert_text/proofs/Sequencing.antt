@@ -5,7 +5,7 @@ use Rattle.std.specs.Prelude.{slice_get}
 use Rattle.std.proofs.lemmas.List.{append-nil, map-append, length-map, append_cancel_left}
 use Rattle.cert_lines.specs.Rows.{Row, row_text, rows_text}
 use Rattle.cert_lines.specs.Faults.{Grammar, Next}
-use Rattle.cert_lines.specs.Judging.{one, each, IsRead, then_}
+use Rattle.cert_lines.specs.Pattern.{one, each, IsRead, then_}
 use Rattle.cert_lines.specs.declared.fault.ReadError.{ReadError}
 use Rattle.cert_lines.specs.declared.fault.ReadError.TheVariants as errors
 pub use Rattle.cert_lines.specs.Telling.{texts, Unique}

@@ -21,7 +21,7 @@ front_free mark (b ∷ bytes) p e k d h t = elim (chosen (nat_eq b mark) (Some (
       | inr x ↦ (let q = onto_some b (parts_at mark bytes) p x.1 in
           let P : List ℕ → Type 0 = λ w. (k : ℕ) → k < length w → get_or w k d ≡ mark → ⊥ in
           subst P (ap (λ z. z.0) q.2) (behind q.0 (not_mark b mark x.0)
-              (λ j l u. front_free mark bytes q.0 q.1 j d l u)) k
+          (λ j l u. front_free mark bytes q.0 q.1 j d l u)) k
           h t)
     ]
   where

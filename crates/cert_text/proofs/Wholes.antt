@@ -30,8 +30,8 @@ use Rattle.cert_text.specs.Cert.{trail_rows}
 use Rattle.cert_lines.specs.Reading.{greatest}
 use Rattle.cert_lines.specs.inner.LineReading.{keyed_in, seat_in, trail_in, entry_in, frame_in}
 use Rattle.cert_lines.specs.Faults.{Grammar}
-use Rattle.cert_lines.specs.Judging.{one, AreSaid, each, then_, IsRead}
-use Rattle.cert_lines.specs.Patterns.{IsHead, IsGiven, IsSaid, written, given_row, entry_of, frame_of}
+use Rattle.cert_lines.specs.Pattern.{one, AreSaid, each, then_, IsRead}
+use Rattle.cert_lines.specs.LineForms.{IsHead, IsGiven, IsSaid, written, given_row, entry_of, frame_of}
 use Rattle.cert_text.specs.Parts.{IsPlacedOf, heads, trails, lists, seatings, placings}
 use Rattle.cert_lines.proofs.NumberWords.{lacks}
 use Rattle.cert_lines.proofs.SetText.{clip, clip_same}

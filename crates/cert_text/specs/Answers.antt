@@ -10,7 +10,7 @@ use Rattle.cert_text.specs.Cert.{cert_text, list_rows}
 use Rattle.cert_text.specs.OldCert.{old_text}
 use Rattle.cert_text.specs.Versions.{AnyCertificate, IsAnyInRange, any_rows, any_text, lifted, both}
 use Rattle.cert_lines.specs.Faults.{IsFault}
-use Rattle.cert_lines.specs.Judging.{IsRead}
+use Rattle.cert_lines.specs.Pattern.{IsRead}
 use Rattle.cert_text.specs.Parts.{lists as list_grammar}
 use Rattle.cert_lines.specs.declared.fault.CertFault.{CertFault}
 use Rattle.cert_lines.specs.declared.fault.CertKind.TheVariants.{Trailing}

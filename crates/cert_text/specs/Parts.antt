@@ -5,13 +5,13 @@ use Rattle.line_rules.specs.declared.types.LineKind.{LineKind}
 use Rattle.line_rules.specs.declared.types.Balance.{Balance as Assignment}
 use Rattle.line_rules.specs.declared.types.Trail.{Trail}
 use Rattle.line_rules.specs.declared.types.Claim.TheVariants as claim
-use Rattle.cert_lines.specs.declared.patterns.Opening.{Opening}
-use Rattle.cert_lines.specs.declared.patterns.Opening.TheVariants as opening
-use Rattle.cert_lines.specs.declared.patterns.Version.{Version}
-use Rattle.cert_lines.specs.declared.patterns.Version.TheVariants as version
+use Rattle.cert_lines.specs.declared.line_forms.Opening.{Opening}
+use Rattle.cert_lines.specs.declared.line_forms.Opening.TheVariants as opening
+use Rattle.cert_lines.specs.declared.line_forms.Version.{Version}
+use Rattle.cert_lines.specs.declared.line_forms.Version.TheVariants as version
 use Rattle.cert_lines.specs.Rows.{Row, fixed, keyed}
 use Rattle.cert_lines.specs.ValueRows.{seat_row}
-use Rattle.cert_lines.specs.Patterns.{opening_row}
+use Rattle.cert_lines.specs.LineForms.{opening_row}
 use Rattle.cert_lines.specs.OldRanges.{AreOldBounds}
 use Rattle.cert_lines.specs.declared.version_one.OldClaim.TheVariants as old
 use Rattle.cert_text.specs.Cert.{head_rows, list_rows, trail_rows}

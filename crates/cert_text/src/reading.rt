@@ -1,9 +1,9 @@
 //! The reading of a certificate's text, line by line, in either version.
 ghost use Rattle.std.specs.Prelude.{◌≡◌, ◌≤◌, IfOk, length};
-ghost use Rattle.cert_lines.specs.Judging.{IsRead};
+ghost use Rattle.cert_lines.specs.Pattern.{IsRead};
 ghost use Rattle.cert_lines.specs.ReadingOn.{IsReadOn};
-ghost use Rattle.cert_lines.specs.Patterns.{IsOpening};
-ghost use Rattle.cert_lines.specs.declared.patterns.Version.{Version as Release};
+ghost use Rattle.cert_lines.specs.LineForms.{IsOpening};
+ghost use Rattle.cert_lines.specs.declared.line_forms.Version.{Version as Release};
 ghost use Rattle.cert_text.specs.Parts.{IsHeadOf, IsPlacedOf, IsOpened, IsClaimOf};
 ghost use Rattle.cert_text.specs.Parts.{heads, trails, lists, seatings, placings, opened, claims};
 ghost use Rattle.cert_text.specs.Versions.{certificate_of};
@@ -12,11 +12,11 @@ ghost use Rattle.line_rules.specs.Ranges.{AreEntries, IsTrailOrNone, IsCycle, Is
 
 use crate::old_reading::read_parts;
 use cert_lift::lift;
-use cert_lines::pattern::{read_line, read_lines};
-use cert_lines::patterns::{
+use cert_lines::line_forms::{
     AskLine, EndLine, EntryLine, FrameLine, Key, KindLine, MAX_CYCLE, Opening, OpeningLine,
     SeatLine, TrailLine, Version, VersionLine, read_number,
 };
+use cert_lines::pattern::{read_line, read_lines};
 use cert_lines::version_one::{OldCertificate, OldClaim};
 use cert_lines::{ReadError, Source};
 use line_rules::{Ask, Balance, Certificate, Claim, Entries, Frames, LineKind, Places, Trail};

@@ -6,7 +6,7 @@ use Rattle.std.proofs.lemmas.Option.{same_Some, none-some}
 use Rattle.cert_lines.specs.Rows.{Row, fixed, keyed, span, seat, bound, branch, swap, trail, frame, state_entry}
 use Rattle.cert_lines.specs.Rows.{state_frame, two_numbers}
 use Rattle.cert_lines.specs.Rows.{form_of, row_text}
-use Rattle.cert_lines.specs.Judging.{HasFormOf}
+use Rattle.cert_lines.specs.Pattern.{HasFormOf}
 use Rattle.cert_lines.proofs.NumberWords.{lacks}
 use Rattle.cert_lines.proofs.CiteWords.{sat}
 use Rattle.cert_lines.proofs.Judged.{small, small_is, keyed_only}

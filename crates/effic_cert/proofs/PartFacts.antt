@@ -4,9 +4,9 @@ use Rattle.std.specs.Prelude.{codes}
 use Rattle.line_rules.specs.declared.types.LineKind.{LineKind}
 use Rattle.line_rules.specs.declared.types.Balance.{Balance as Assignment}
 use Rattle.cert_lines.specs.Faults.{Grammar}
-use Rattle.cert_lines.specs.Judging.{one, then_}
+use Rattle.cert_lines.specs.Pattern.{one, then_}
 use Rattle.cert_lines.specs.Rows.{keyed}
-use Rattle.cert_lines.specs.declared.patterns.Key.TheVariants as keys
+use Rattle.cert_lines.specs.declared.line_forms.Key.TheVariants as keys
 use Rattle.cert_text.specs.Parts.{seatings, lists}
 use Rattle.cert_text.specs.declared.reading.EntryList.{EntryList}
 use Rattle.cert_text.proofs.Sequencing.{Same, texts}

@@ -2,7 +2,7 @@
 use crate::cert::EfficCert;
 use crate::lines::{Bound, BoundLine, StationsLine};
 use crate::listed::{EntryLines, SeatLines};
-use cert_lines::patterns::{EndLine, Key, KindLine, MAX_CYCLE, NumberLine};
+use cert_lines::line_forms::{EndLine, Key, KindLine, MAX_CYCLE, NumberLine};
 use cert_lines::{ReadError, Source};
 use cert_text::EntryList;
 use std::alloc::Global;

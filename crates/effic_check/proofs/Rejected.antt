@@ -7,7 +7,7 @@ use Rattle.line_rules.specs.Balance.{all_tasks}
 use Rattle.line_rules.specs.Units.{TrailUnits}
 use Rattle.line_rules.specs.declared.types.OpenFrame.{OpenFrame}
 use Rattle.line_rules.specs.declared.types.Trail.{Trail}
-use Rattle.line_check.proofs.Judging.{head_most}
+use Rattle.line_check.proofs.VerdictFacts.{head_most}
 use Rattle.line_check.proofs.Listed.{refused_not}
 use Rattle.line_check.proofs.Rejecting.{frame_not}
 use Rattle.line_check.proofs.Spending.{one_sum, entries_more, frames_spend}

@@ -4,7 +4,7 @@ pub mod Entering
 pub mod Listed
 pub mod Reaching
 pub mod Framing
-pub mod Judging
+pub mod VerdictFacts
 pub mod Rejecting
 pub mod Spending
 pub mod Excluding

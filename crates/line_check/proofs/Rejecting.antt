@@ -30,7 +30,7 @@ use Rattle.line_check.specs.declared.types.Place.{Place}
 use Rattle.line_check.specs.declared.types.Place.TheVariants as place
 use Rattle.line_check.proofs.Exact.{not_uncovered, not_spare}
 use Rattle.line_check.proofs.Framing.{Asks, IsRight, AreAll, prevs, prev_shift, same_place}
-use Rattle.line_check.proofs.Judging.{head_most}
+use Rattle.line_check.proofs.VerdictFacts.{head_most}
 
 -- a balance with a fault doesn't show the upper bound
 pub balance_not : (kind : LineKind) (line : Line) → IsLine line → (a : Ask) (upper : ℕ) (b : Assignment) (p : Place)

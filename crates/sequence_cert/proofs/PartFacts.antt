@@ -6,10 +6,10 @@ use Rattle.std.proofs.lemmas.Option.{same_Some, none-some, slice_get-get_or}
 use Rattle.cert_lines.specs.Rows.{Row, keyed, row_text}
 use Rattle.cert_lines.specs.Reading.{greatest}
 use Rattle.cert_lines.specs.Faults.{Grammar}
-use Rattle.cert_lines.specs.Judging.{each, AreSaid, then_}
-use Rattle.cert_lines.specs.Patterns.{key_text}
-use Rattle.cert_lines.specs.declared.patterns.Key.{Key}
-use Rattle.cert_lines.specs.declared.patterns.Key.TheVariants as keys
+use Rattle.cert_lines.specs.Pattern.{each, AreSaid, then_}
+use Rattle.cert_lines.specs.LineForms.{key_text}
+use Rattle.cert_lines.specs.declared.line_forms.Key.{Key}
+use Rattle.cert_lines.specs.declared.line_forms.Key.TheVariants as keys
 use Rattle.cert_lines.proofs.NumberWords.{lacks}
 use Rattle.cert_text.proofs.Sequencing.{unique_each, texts, Same}
 use Rattle.cert_text.proofs.Decoding.{AllLack, row_lacks, lack_both, lack_map}

@@ -12,7 +12,7 @@ use Rattle.cert_lines.specs.Rows.{Row, fixed, keyed, span, seat, bound, branch, 
 use Rattle.cert_lines.specs.Rows.{state_frame, entry_of_state, frame_of_state, form_of, row_text}
 use Rattle.cert_lines.specs.Reading.{◌>>=◌, greatest, number_in}
 use Rattle.cert_lines.specs.inner.LineReading.{seat_in}
-use Rattle.cert_lines.specs.Judging.{HasFormOf, IsJudged}
+use Rattle.cert_lines.specs.Pattern.{HasFormOf, IsJudged}
 use Rattle.cert_lines.specs.declared.fault.LineError.{LineError}
 use Rattle.cert_lines.specs.declared.fault.LineError.TheVariants as lines
 use Rattle.cert_lines.proofs.CiteWords.{sat}

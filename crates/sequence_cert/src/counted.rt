@@ -1,6 +1,6 @@
 //! So many values, a line for each of them behind the line of their number, as a part of a text.
+use cert_lines::line_forms::NumberLine;
 use cert_lines::pattern::{Pattern, read_line, read_lines};
-use cert_lines::patterns::NumberLine;
 use cert_lines::{ReadError, Source};
 use line_rules::Listed;
 use std::alloc::Global;
@@ -21,7 +21,7 @@ where
 {
     ghost use Rattle.std.specs.Prelude.{◌≤◌, ◌<◌};
     ghost use Rattle.cert_lines.specs.Reading.{greatest};
-    ghost use Rattle.cert_lines.specs.Patterns.{key_text};
+    ghost use Rattle.cert_lines.specs.LineForms.{key_text};
     ghost use Rattle.sequence_cert.specs.SequenceText.{counted_rows};
     ghost use Rattle.sequence_cert.specs.inner.Parts.{IsCounted};
 

@@ -1,7 +1,7 @@
 //! The reading of what stands behind the first line of a certificate's text.
 use crate::counted::Counted;
 use crate::lines::{MAX_NUMBER, StateEntryLine, StateFrameLine, UnitLine};
-use cert_lines::patterns::{EndLine, Key, NumberLine};
+use cert_lines::line_forms::{EndLine, Key, NumberLine};
 use cert_lines::{ReadError, Source};
 use sequence_rules::SeqCert;
 use std::alloc::Global;

@@ -7,10 +7,10 @@ use Rattle.cert_lines.specs.Rows.{Row, fixed, keyed, row_text}
 use Rattle.cert_lines.specs.ValueRows.{kind_row}
 use Rattle.cert_lines.specs.Reading.{greatest}
 use Rattle.cert_lines.specs.Faults.{Grammar}
-use Rattle.cert_lines.specs.Judging.{one, then_}
-use Rattle.cert_lines.specs.Patterns.{key_text}
-use Rattle.cert_lines.specs.declared.patterns.Key.{Key}
-use Rattle.cert_lines.specs.declared.patterns.Key.TheVariants as keys
+use Rattle.cert_lines.specs.Pattern.{one, then_}
+use Rattle.cert_lines.specs.LineForms.{key_text}
+use Rattle.cert_lines.specs.declared.line_forms.Key.{Key}
+use Rattle.cert_lines.specs.declared.line_forms.Key.TheVariants as keys
 use Rattle.cert_lines.proofs.NumberWords.{lacks}
 use Rattle.cert_lines.proofs.Judged.{key_lacks}
 use Rattle.cert_text.proofs.Sequencing.{Unique}

@@ -5,7 +5,7 @@ use Rattle.std.specs.Prelude.{bytes_eq}
 use Rattle.std.proofs.lemmas.List.{append-nil}
 use Rattle.cert_lines.specs.Rows.{Row, fixed}
 use Rattle.cert_lines.specs.Faults.{Grammar, IsFault}
-use Rattle.cert_lines.specs.Judging.{one, then_, HasFormOf, IsRead}
+use Rattle.cert_lines.specs.Pattern.{one, then_, HasFormOf, IsRead}
 use Rattle.cert_lines.specs.declared.fault.CertFault.{CertFault}
 use Rattle.cert_lines.specs.declared.fault.ReadError.{ReadError}
 use Rattle.cert_lines.specs.declared.fault.ReadError.TheVariants as errors

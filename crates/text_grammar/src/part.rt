@@ -1,7 +1,7 @@
 //! A part of a text, which says a value.
 ghost use Rattle.std.specs.Prelude.{ℕ, List, IfOk};
 ghost use Rattle.cert_lines.specs.Rows.{Row};
-ghost use Rattle.cert_lines.specs.Judging.{IsRead};
+ghost use Rattle.cert_lines.specs.Pattern.{IsRead};
 ghost use Rattle.text_grammar.specs.Texts.{spelled, Tells};
 
 use cert_lines::{ReadError, Source};

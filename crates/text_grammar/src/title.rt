@@ -1,6 +1,6 @@
 //! The first line of a text, and a part behind it.
 ghost use Rattle.std.specs.Prelude.{IfOk};
-ghost use Rattle.cert_lines.specs.Judging.{IsRead};
+ghost use Rattle.cert_lines.specs.Pattern.{IsRead};
 ghost use Rattle.text_grammar.specs.Texts.{spelled, titled, Tells};
 
 use crate::part::Part;

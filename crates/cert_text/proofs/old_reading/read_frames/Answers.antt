@@ -1,6 +1,6 @@
 use Rattle.std.proofs.Common.{sym, subst, List, [], Ok}
 use Rattle.line_rules.specs.declared.types.OpenFrame.{OpenFrame}
-use Rattle.cert_lines.specs.Judging.{IsRead}
+use Rattle.cert_lines.specs.Pattern.{IsRead}
 use Rattle.cert_text.specs.inner.OldParts.{AreFrames, old_trails}
 use Rattle.cert_text.proofs.Failing.{ends, first, second, same, hand}
 use Rattle.cert_lines.proofs.JudgedEntry.{some_frame}

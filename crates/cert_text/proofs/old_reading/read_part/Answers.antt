@@ -1,6 +1,6 @@
 use Rattle.std.proofs.Common.{sym, subst, List, [], Ok, Some}
 use Rattle.line_rules.specs.declared.types.Entry.{Entry}
-use Rattle.cert_lines.specs.Judging.{IsRead}
+use Rattle.cert_lines.specs.Pattern.{IsRead}
 use Rattle.cert_text.specs.inner.OldParts.{old_trails, one_part}
 use Rattle.cert_text.proofs.Failing.{ends, first, second, same, hand}
 use Rattle.cert_lines.proofs.JudgedEntry.{some_entry}

@@ -1,7 +1,7 @@
 use Rattle.std.proofs.Common.{[]}
 use Rattle.cert_text.specs.Parts.{placings, lists, opened}
 use Rattle.cert_text.specs.inner.OldParts.{counted}
-use Rattle.cert_lines.specs.declared.patterns.Opening.TheVariants as opening
+use Rattle.cert_lines.specs.declared.line_forms.Opening.TheVariants as opening
 use Rattle.cert_text.proofs.Failing.{ends, hand}
 use Rattle.cert_text.proofs.Wholes.{unique_lists}
 use Rattle.cert_text.proofs.OldWholes.{unique_counted}

@@ -3,7 +3,7 @@ use Rattle.std.specs.Prelude.{codes}
 use Rattle.line_rules.specs.Ranges.{AreEntries, IsTrailOrNone}
 use Rattle.line_rules.specs.declared.types.Entry.{Entry}
 use Rattle.cert_text.specs.Parts.{trails, lists}
-use Rattle.cert_lines.specs.Judging.{IsRead}
+use Rattle.cert_lines.specs.Pattern.{IsRead}
 use Rattle.cert_text.proofs.Failing.{ends, first, second, same, hand}
 use Rattle.cert_lines.proofs.JudgedEntry.{some_entry}
 use Rattle.cert_text.proofs.Sequencing.{both_read}

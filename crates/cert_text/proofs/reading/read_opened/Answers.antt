@@ -1,9 +1,9 @@
 use Rattle.std.proofs.Common.{sym, subst, [], Err}
 use Rattle.cert_text.specs.Parts.{opened}
-use Rattle.cert_lines.specs.Judging.{IsRead}
-use Rattle.cert_lines.specs.Patterns.{IsOpening}
-use Rattle.cert_lines.specs.declared.patterns.Opening.{Opening}
-use Rattle.cert_lines.specs.declared.patterns.Opening.TheVariants as opening
+use Rattle.cert_lines.specs.Pattern.{IsRead}
+use Rattle.cert_lines.specs.LineForms.{IsOpening}
+use Rattle.cert_lines.specs.declared.line_forms.Opening.{Opening}
+use Rattle.cert_lines.specs.declared.line_forms.Opening.TheVariants as opening
 use Rattle.cert_text.proofs.Failing.{Fails, ends, same}
 use Rattle.cert_text.proofs.Claims.{end_grammar, opening_task, same_end}
 use Rattle.cert_text.proofs.reading.read_opened.Goals as goal

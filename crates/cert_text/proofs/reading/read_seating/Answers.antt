@@ -2,7 +2,7 @@ use Rattle.std.proofs.Common.{sym, subst, List, [], ℕ, Ok, Err}
 use Rattle.line_rules.specs.declared.types.Seatplace.{Seatplace}
 use Rattle.line_rules.specs.Ranges.{IsPlaced, IsPlacing}
 use Rattle.cert_text.specs.Parts.{seatings}
-use Rattle.cert_lines.specs.Judging.{IsRead, AreSaid}
+use Rattle.cert_lines.specs.Pattern.{IsRead, AreSaid}
 use Rattle.cert_text.proofs.Failing.{ends, first, second, same, hand}
 use Rattle.cert_text.proofs.Sequencing.{both_read}
 use Rattle.cert_text.proofs.Wholes.{station_numbers, unique_stations, seats_of, seats_behind, some_seat, some_seats}

@@ -1,9 +1,9 @@
 use Rattle.std.proofs.Common.{sym, subst, Some, ℕ, List, [], Option, Ok}
 use Rattle.line_rules.specs.Ranges.{IsTrailOrNone}
 use Rattle.line_rules.specs.declared.types.OpenFrame.{OpenFrame}
-use Rattle.cert_lines.specs.Patterns.{IsHead}
+use Rattle.cert_lines.specs.LineForms.{IsHead}
 use Rattle.cert_text.specs.Parts.{trails}
-use Rattle.cert_lines.specs.Judging.{IsRead}
+use Rattle.cert_lines.specs.Pattern.{IsRead}
 use Rattle.cert_text.proofs.Failing.{ends, first, second, same, hand}
 use Rattle.cert_lines.proofs.JudgedEntry.{some_frame}
 use Rattle.cert_text.proofs.Sequencing.{both_read}

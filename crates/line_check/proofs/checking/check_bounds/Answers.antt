@@ -7,7 +7,7 @@ use Rattle.line_check.specs.Certificates.{TrailFails}
 use Rattle.line_check.specs.Lists.{AreFound}
 use Rattle.line_check.specs.declared.types.ListFound.{ListFound}
 use Rattle.line_check.specs.declared.types.FrameFault.TheVariants as fault
-use Rattle.line_check.proofs.Judging.{trail_begins}
+use Rattle.line_check.proofs.VerdictFacts.{trail_begins}
 use Rattle.line_check.proofs.checking.check_bounds.Goals as goal
 use Rattle.line_check.proofs.checking.check_bounds.Goals.{else-lower-gt1-via-then-lower-gt1+else-not-refutes_below}
 use Rattle.line_check.proofs.checking.check_bounds.Goals.{else-lower-gt1-via-else-lower-gt1}

@@ -1,4 +1,4 @@
-use Rattle.line_check.proofs.Judging.{accepted_so, true_of}
+use Rattle.line_check.proofs.VerdictFacts.{accepted_so, true_of}
 use Rattle.line_check.proofs.Excluding.{rejected_so}
 use Rattle.line_check.proofs.checking.verify_found.Goals as goal
 

@@ -17,7 +17,7 @@ loads-init c =
       walking = subst W
           (sym (none_given c.begin-walk.result c.begin-walk.ensures.given))
           (walk_starts c.args.q.now.kind c.args.inst.now c.tasks-tasks.ensures.ranked c.args.q.now.cycle
-              c.args.q.now.mode
+          c.args.q.now.mode
           c.args.q.now.set c.args.q.now.most (take c.args.k c.args.entries.now) c.args.cites.now);
       less = omega arith;
     }

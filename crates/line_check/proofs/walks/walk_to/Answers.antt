@@ -26,7 +26,7 @@ loads-init c =
       is = c.begin-walk.ensures.walk;
       walking = subst W (sym none)
           (walk_starts c.args.q.now.kind c.args.inst.now c.tasks-tasks.ensures.ranked c.args.q.now.cycle
-              c.args.q.now.mode
+          c.args.q.now.mode
           c.args.q.now.set c.args.q.now.most c.args.entries.now c.args.cites.now);
       ahead = subst A (sym none) tt;
       less = omega arith;

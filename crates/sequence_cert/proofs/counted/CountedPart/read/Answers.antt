@@ -1,6 +1,6 @@
 use Rattle.std.proofs.Common.{List, [], Ok, sym, subst}
-use Rattle.cert_lines.specs.Judging.{each, IsRead}
-use Rattle.cert_lines.specs.Patterns.{key_text}
+use Rattle.cert_lines.specs.Pattern.{each, IsRead}
+use Rattle.cert_lines.specs.LineForms.{key_text}
 use Rattle.cert_lines.proofs.Judged.{key_lacks}
 use Rattle.cert_text.proofs.Failing.{ends, first, second, same, hand}
 use Rattle.cert_text.proofs.Sequencing.{both_read, same_read}

@@ -1,5 +1,5 @@
 use Rattle.std.proofs.Common.{[]}
-use Rattle.cert_lines.specs.Judging.{then_}
+use Rattle.cert_lines.specs.Pattern.{then_}
 use Rattle.cert_text.proofs.Failing.{ends, first, second, hand}
 use Rattle.cert_text.proofs.Sequencing.{both_read}
 use Rattle.text_grammar.specs.Texts.{spelled}
