@@ -142,7 +142,7 @@ fore_stack line c R l load r place b = first_stack line c Straight Fore R l load
     (λ i j m n w. elim (parts line c Straight Fore R l load r place b j n) [
       | inl y ↦
           let f : In l.front j = elim (In-union_cases l.front l.back j y)
-              [ inl a ↦ a | inr z ↦ absurd (load.suits j z) ] in
+          [ inl a ↦ a | inr z ↦ absurd (load.suits j z) ] in
           let g : In (taken l) i = In-union_left l.front l.back i (load.before i j m f w) in
           omega (
             arith,

@@ -83,7 +83,7 @@ module _ (t : Times) (interval reach : ℕ) (cert : SeqCert) (steps : ℕ) where
                   refl,
                   subst
                       (λ (n : ℕ). IsFrameRefused t interval reach cert.entries cert.frames (steps - n) j why)
-                          h.1.1.total
+                      h.1.1.total
                       later.1,
                 ),
               ),

@@ -80,7 +80,7 @@ module _ (asked : Option Mode) (kind : LineKind) (line : Line) (ranked : IsRanke
           last = tt;
           covers =
               covers_none line (λ k. IsOpen kind line X frame.mode frame.set frame.most k × UpTo line None k) es
-                  frame.set
+              frame.set
               frame.most X (λ l p. p.1);
         };
         some = some;

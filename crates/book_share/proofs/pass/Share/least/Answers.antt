@@ -15,7 +15,7 @@ load-requires c =
       search rules,
       subst (λ (m : Mine). Allows Kept n seat.id m 2 (λ k. k)
           (LoadsBest (step n 2 0 0 none) m)) (sym c.pass.invariant.0.me)
-              (loads_best n seat.id (given seat.me.0) [] refl),
+          (loads_best n seat.id (given seat.me.0) [] refl),
     )
 
 pub returns-clause-sound : goal.returns-clause-sound

@@ -22,4 +22,4 @@ loop-k-preserved c = λ j l. elim (cases_eq j (c.loop-k.k - 1)) [
 pub returns : goal.returns
 returns c =
     used_none c.self.inside.words c.self.invariant (λ j. c.loop-k.invariant j (omega arith))
-        ∙ ap used_words c.self.view_is
+    ∙ ap used_words c.self.view_is
