@@ -25,7 +25,7 @@ pub(crate) struct FrameDraft {
 }
 
 // So many numbers with a comma between. An error where memory is wanting.
-#[tactic(auto, unfolding(crate::specs::StateReading::many_in))]
+#[tactic(auto, unfolding(crate::specs::inner::StateReading::many_in))]
 fn many(alloc: Global, word: &[u8], count: u32) -> Result<Option<Numbers>, AllocError>
     ensures { IfOk result (λ ns. ns ≡ many_in count word.now) }
 {
@@ -39,7 +39,7 @@ fn many(alloc: Global, word: &[u8], count: u32) -> Result<Option<Numbers>, Alloc
 }
 
 // What an entry by the bound says behind its first word.
-#[tactic(auto, unfolding(crate::specs::StateReading::bound_in, crate::specs::StateReading::state_in))]
+#[tactic(auto, unfolding(crate::specs::inner::StateReading::bound_in, crate::specs::inner::StateReading::state_in))]
 fn bound(
     alloc: Global,
     bytes: &[u8],
@@ -72,7 +72,7 @@ fn bound(
 }
 
 // What an entry that branches says behind its first word.
-#[tactic(auto, unfolding(crate::specs::StateReading::branch_in, crate::specs::StateReading::state_in))]
+#[tactic(auto, unfolding(crate::specs::inner::StateReading::branch_in, crate::specs::inner::StateReading::state_in))]
 fn branch(
     alloc: Global,
     bytes: &[u8],
@@ -108,7 +108,7 @@ fn branch(
 }
 
 /// What the line of an entry says. An error where memory is wanting.
-#[tactic(auto, unfolding(crate::specs::StateReading::entry_in))]
+#[tactic(auto, unfolding(crate::specs::inner::StateReading::entry_in))]
 pub(crate) fn entry(
     alloc: Global,
     line: &[u8],
@@ -130,7 +130,7 @@ pub(crate) fn entry(
 }
 
 // The last model that a word is, counted from 1, or the mark of none.
-#[tactic(auto, unfolding(crate::specs::StateReading::last_in))]
+#[tactic(auto, unfolding(crate::specs::inner::StateReading::last_in))]
 fn last(word: &[u8]) -> Option<Option<u64>>
     ensures { result ≡ last_in word.now }
 {
@@ -142,7 +142,7 @@ fn last(word: &[u8]) -> Option<Option<u64>>
 }
 
 // What a frame says behind its first word.
-#[tactic(auto, unfolding(crate::specs::StateReading::open_in, crate::specs::StateReading::state_in))]
+#[tactic(auto, unfolding(crate::specs::inner::StateReading::open_in, crate::specs::inner::StateReading::state_in))]
 fn open(
     alloc: Global,
     bytes: &[u8],
@@ -185,7 +185,7 @@ fn open(
 }
 
 /// What the line of a frame says. An error where memory is wanting.
-#[tactic(auto, unfolding(crate::specs::StateReading::frame_in))]
+#[tactic(auto, unfolding(crate::specs::inner::StateReading::frame_in))]
 pub(crate) fn frame(
     alloc: Global,
     line: &[u8],
