@@ -1,21 +1,21 @@
 -- Marks of entries: with those of one entry more, and what a mark that isn't there tells.
-use Rattle.std.proofs.Common.{◌≡◌, ◌≢◌, ℕ, suc, zero, ◌+◌, ◌-◌, ◌/◌, ◌<◌, ◌≤◌, List, [], ◌∷◌, ◌++◌, Bool, length, take}
+use Rattle.std.proofs.Common.{◌≡◌, ℕ, suc, ◌+◌, ◌-◌, ◌/◌, ◌<◌, List, [], ◌∷◌, ◌++◌, Bool, length, take}
 use Rattle.std.proofs.Common.{length-append, length-set, append_assoc, refl, sym, ap, ◌∙◌, subst, arith, Some, Option}
 use Rattle.std.proofs.Common.{bit_and, bit_or}
 use Rattle.std.specs.Prelude.{slice_get, slice_index, slice_set}
 use Rattle.std.specs.Option.{option_map}
-use Rattle.std.proofs.lemmas.List.{length-map, map-append, length-take-le}
+use Rattle.std.proofs.lemmas.List.{map-append}
 use Rattle.std.proofs.lemmas.Nat.{and_le_r}
 use Rattle.std.proofs.lemmas.Option.{slice_get-map, slice_get_within, get_or_from_slice_get}
 use Rattle.std.proofs.Math.Seq.{take-suc}
-use Rattle.line_rules.specs.Entries.{Answers, IsUnanswered, IsDerived}
+use Rattle.line_rules.specs.Entries.{IsUnanswered, IsDerived}
 use Rattle.line_rules.specs.declared.types.Entry.{Entry}
 use Rattle.lemma_core.specs.inner.Chains.{tag_of, tags_of, IsSieve, word_in, mark_of}
 use Rattle.lemma_core.proofs.ChainFacts.{sieve_push}
 use Rattle.lemma_core.specs.Machine.{About}
-use Rattle.lemma_core.specs.History.{Item, Standing, standing, replay}
+use Rattle.lemma_core.specs.History.{Standing, standing, replay}
 use Rattle.lemma_core.specs.Books.{BookView, desk_of}
-use Rattle.lemma_core.specs.Desks.{DeskView, entries, HasDerived, Keeps, Publishes, Offers}
+use Rattle.lemma_core.specs.Desks.{DeskView, entries, Keeps, Publishes, Offers}
 use Rattle.lemma_core.specs.declared.types.Published.{Published}
 use Rattle.lemma_core.specs.declared.types.Published.TheVariants as published
 use Rattle.lemma_core.specs.declared.types.Offered.{Offered}

@@ -1,16 +1,14 @@
 -- The certificate of a search for the least cycle is within its ranges and accepted.
-use Rattle.std.proofs.Common.{◌≡◌, ◌∙◌, ℕ, ◌+◌, ◌-◌, ◌*◌, ◌<◌, ◌≤◌, Bool, List, [], length, Option, Some, None, refl}
-use Rattle.std.proofs.Common.{sym, ap, subst, arith}
-use Rattle.std.specs.Prelude.{slice_get}
+use Rattle.std.proofs.Common.{◌≡◌, ℕ, ◌-◌, ◌<◌, ◌≤◌, List, [], length, Option, Some, None, refl}
+use Rattle.std.proofs.Common.{sym, subst, arith}
 use Rattle.std.proofs.lemmas.Option.{slice_get_within}
 use Rattle.task_set.specs.Truths.{In, full_to}
 use Rattle.task_set.proofs.Members.{In-full_to}
 use Rattle.line_instance.specs.Line.{Line, IsLine, tasks}
-use Rattle.line_rules.specs.Accepted.{HasTrail, IsAccepted, IsLeastCycle}
+use Rattle.line_rules.specs.Accepted.{HasTrail, IsAccepted}
 use Rattle.line_rules.specs.Balance.{all_tasks}
 use Rattle.line_rules.specs.Entries.{HasAnswer, IsDerived}
-use Rattle.line_rules.specs.Laws.{IsProved}
-use Rattle.line_rules.specs.Ranges.{IsCycle, IsPlaced, IsPlacing, AreEntries, IsTrailOrNone}
+use Rattle.line_rules.specs.Ranges.{IsPlaced, IsPlacing, AreEntries, IsTrailOrNone}
 use Rattle.line_rules.specs.Units.{UnitsOf, UnitsWhole}
 use Rattle.line_rules.specs.declared.types.LineKind.{LineKind}
 use Rattle.line_rules.specs.declared.types.Seatplace.{Seatplace}
@@ -25,7 +23,7 @@ use Rattle.line_rules.proofs.Reading.{seat_read}
 use Rattle.round_run.specs.declared.plans.Plan.{Plan}
 use Rattle.run_certificates.specs.Certified.{max_units}
 use Rattle.run_certificates.proofs.Sayable.{entries_ok, trail_ok, all_are_tasks}
-use Rattle.cycle_search.specs.Outcomes.{IsRightIn, IsBelow, IsSolved, IsStopped, IsSpent}
+use Rattle.cycle_search.specs.Outcomes.{IsRightIn, IsBelow, IsSolved, IsSpent}
 use Rattle.cycle_certificates.specs.CycleCertified.{about_cycle, IsCertified, IsOptimum, IsStop}
 
 -- a right balance in at most 1,024 stations

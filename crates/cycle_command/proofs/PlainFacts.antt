@@ -1,12 +1,11 @@
 -- A line of which no two tasks are apart: it is the same after it was made so once more.
-use Rattle.std.proofs.Common.{◌≡◌, ◌∙◌, ℕ, ◌<◌, ◌≤◌, ◌↔◌, Bool, true, false, List, [], length, get_or, Option, Some}
-use Rattle.std.proofs.Common.{None, refl, sym, ap, subst, inl, inr, arith}
+use Rattle.std.proofs.Common.{◌≡◌, ◌∙◌, ℕ, Bool, false, List, [], length, get_or, Option, Some}
+use Rattle.std.proofs.Common.{None, sym, ap, subst, inl, inr, arith}
 use Rattle.std.specs.Prelude.{slice_index_or}
-use Rattle.std.specs.declared.result.Result.{Result}
 use Rattle.std.proofs.lemmas.Bool.{cases_Bool}
 use Rattle.std.proofs.lemmas.List.{ext_get_or}
 use Rattle.task_set.specs.Truths.{In}
-use Rattle.line_instance.specs.Line.{Line, IsLine, Apart, tasks}
+use Rattle.line_instance.specs.Line.{Line, IsLine, tasks}
 use Rattle.line_instance.specs.Walks.{IsGiven}
 use Rattle.command_outcome.specs.Outcome.{Files}
 use Rattle.input_files.specs.InputFile.{Reads, max_file}

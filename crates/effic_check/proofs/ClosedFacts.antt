@@ -1,5 +1,5 @@
 -- Which numbers of stations the entries close below a bound.
-use Rattle.std.proofs.Common.{◌≡◌, ℕ, ◌-◌, ◌/◌, ◌<◌, ◌≤◌, Bool, true, List, sym, subst, arith, ◌↔◌, IsTrue}
+use Rattle.std.proofs.Common.{◌≡◌, ℕ, ◌<◌, List, arith}
 use Rattle.line_instance.specs.Line.{Line}
 use Rattle.line_rules.specs.Balance.{all_tasks}
 use Rattle.line_rules.specs.Entries.{HasAnswer}

@@ -1,16 +1,14 @@
 -- The least number of stations that is left open, and the frame that a trail begins with.
-use Rattle.std.proofs.Common.{◌≡◌, ◌∙◌, ℕ, ◌+◌, ◌<◌, ◌≤◌, sym, ap, subst, inl, inr, arith, Some, Option}
-use Rattle.std.specs.Prelude.{slice_get}
+use Rattle.std.proofs.Common.{ℕ, ◌+◌, ◌<◌, ◌≤◌, sym, subst, inl, inr, arith, Some}
 use Rattle.std.proofs.lemmas.Bool.{cases_eq}
 use Rattle.line_instance.specs.Line.{Line}
 use Rattle.line_rules.specs.Balance.{all_tasks}
-use Rattle.line_rules.specs.declared.types.OpenFrame.{OpenFrame}
 use Rattle.line_rules.specs.declared.types.Trail.{Trail}
 use Rattle.line_check.specs.Frames.{IsTrailOf}
 use Rattle.line_check.proofs.VerdictFacts.{head_most}
 use Rattle.effic_cert.specs.declared.cert.EfficCert.{EfficCert}
-use Rattle.effic_check.specs.Accepted.{IsAsked, IsClosed, MayBegin, HasTrail}
-use Rattle.effic_check.specs.Verdict.{IsAllowed, AreClosed}
+use Rattle.effic_check.specs.Accepted.{IsClosed, MayBegin, HasTrail}
+use Rattle.effic_check.specs.Verdict.{IsAllowed}
 
 -- a trail that is allowed and valid is one of the certificate
 pub trail_begins : (line : Line) (cert : EfficCert) (t : Trail) → IsAllowed cert t

@@ -1,5 +1,5 @@
 -- What the check of a certificate of a product finds: its first failing check, or that all hold.
-use Rattle.std.specs.Prelude.{◌≡◌, ℕ, ◌-◌, ◌*◌, ◌<◌, ◌≤◌, ◌⊎◌, List, slice_get, Option, Some, None}
+use Rattle.std.specs.Prelude.{◌≡◌, ℕ, ◌-◌, ◌*◌, ◌<◌, ◌≤◌, ◌⊎◌, slice_get, Option, Some, None}
 use Rattle.line_instance.specs.Line.{Line, tasks}
 use Rattle.line_rules.specs.Balance.{IsRight}
 use Rattle.line_rules.specs.Checked.{IsChecked, IsLeastWhere}

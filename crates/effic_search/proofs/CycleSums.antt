@@ -1,8 +1,8 @@
 -- Sums over entries, cycle by cycle: where those at each cycle are few, and the cycles are, the whole sum is small.
 use Rattle.std.proofs.Common.{◌≡◌, ℕ, zero, suc, ◌+◌, ◌*◌, ◌<◌, ◌≤◌, ◌⊎◌, Bool, true, false, cond, List, [], ◌∷◌, refl}
-use Rattle.std.proofs.Common.{sym, ap, subst, inl, inr, arith, Some}
+use Rattle.std.proofs.Common.{sym, subst, inl, inr, arith, Some}
 use Rattle.std.specs.Prelude.{nat_eq, nat_lt, slice_get}
-use Rattle.std.proofs.lemmas.Bool.{cases_lt, ltb-true, ltb-false, eqb-true, eqb-false}
+use Rattle.std.proofs.lemmas.Bool.{ltb-true, ltb-false, eqb-true, eqb-false}
 use Rattle.line_rules.specs.Units.{entries_at}
 use Rattle.line_rules.specs.declared.types.Entry.{Entry}
 

@@ -1,5 +1,5 @@
 -- The lower bound on a product, from the greatest cycles that entries refute.
-use Rattle.std.proofs.Common.{◌≡◌, ℕ, zero, ◌+◌, ◌-◌, ◌*◌, ◌/◌, ◌<◌, ◌≤◌, min, List, refl, sym, subst, inl, inr, arith}
+use Rattle.std.proofs.Common.{◌≡◌, ℕ, ◌+◌, ◌-◌, ◌*◌, ◌<◌, ◌≤◌, min, List, refl, sym, subst, inl, inr, arith}
 use Rattle.std.proofs.lemmas.Bool.{cases_lt, cases_eq}
 use Rattle.std.proofs.Math.Nat.{mul-le-mul_left, mul-div-le, lt-mul-div-succ}
 use Rattle.std.proofs.lemmas.Nat.{le-div}
@@ -9,7 +9,6 @@ use Rattle.line_rules.specs.Balance.{all_tasks}
 use Rattle.line_rules.specs.Entries.{HasAnswer}
 use Rattle.line_rules.specs.declared.types.Entry.{Entry}
 use Rattle.effic_check.specs.Accepted.{IsClosed, cycle_below}
-use Rattle.effic_check.proofs.Proved.{below_cycle}
 use Rattle.effic_search.specs.Lowest.{IsGreatestRefuted, IsLowest}
 use Rattle.effic_search.proofs.ListFacts.{has_shorter}
 

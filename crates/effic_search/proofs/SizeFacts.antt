@@ -1,17 +1,17 @@
 -- How large a book can become: at each cycle its units are fewer than (n + 1) x 4^n, and so are its entries.
-use Rattle.std.proofs.Common.{◌≡◌, ℕ, zero, suc, ◌+◌, ◌*◌, ◌^◌, ◌<◌, ◌≤◌, ◌⊎◌, Bool, true, false, cond, max, List, []}
+use Rattle.std.proofs.Common.{◌≡◌, ℕ, suc, ◌+◌, ◌*◌, ◌^◌, ◌<◌, ◌≤◌, ◌⊎◌, Bool, true, false, cond, max, List, []}
 use Rattle.std.proofs.Common.{◌∷◌}
-use Rattle.std.proofs.Common.{length, refl, sym, ap, ◌∙◌, subst, inl, inr, arith, Some, None}
+use Rattle.std.proofs.Common.{length, refl, sym, ◌∙◌, subst, inl, inr, arith, Some, None}
 use Rattle.std.specs.Prelude.{◌≢◌, nat_eq, slice_get}
 use Rattle.std.proofs.lemmas.Bool.{cases_lt, cases_Bool, eqb-true}
 use Rattle.std.proofs.lemmas.List.{ext_get_or}
-use Rattle.std.proofs.Math.Nat.{mul-le-mul, mul-le-mul_left, mul-le-mul_right, pow-le-pow_left}
+use Rattle.std.proofs.Math.Nat.{mul-le-mul_left, mul-le-mul_right, pow-le-pow_left}
 use Rattle.task_set.specs.Truths.{In, count}
 use Rattle.task_set.proofs.Members.{In-full_to}
 use Rattle.line_instance.specs.Line.{Line, IsLine, IsRanked, IsTaskSet, tasks, time, has}
 use Rattle.line_rules.specs.Balance.{IsBalance, Holds, all_tasks}
 use Rattle.line_rules.specs.Bounds.{IsTooLong, total_time}
-use Rattle.line_rules.specs.Entries.{IsDerived, IsFresh, IsFreshAt, Follows}
+use Rattle.line_rules.specs.Entries.{IsDerived, IsFresh}
 use Rattle.line_rules.specs.Units.{UnitsBy, UnitsOf, entries_at}
 use Rattle.line_rules.specs.declared.types.LineKind.{LineKind}
 use Rattle.line_rules.specs.declared.types.LineKind.TheVariants.{Straight, U}

@@ -5,7 +5,7 @@ use Rattle.std.proofs.Common.{◌∙◌}
 use Rattle.std.proofs.Common.{subst, inl, inr, arith, Bool, true, false, Option, Some, None, length-append, replicate}
 use Rattle.std.specs.Prelude.{slice_get, nat_eq, ◌&&◌}
 use Rattle.std.proofs.lemmas.Bool.{cases_eq}
-use Rattle.std.proofs.lemmas.List.{append-nil, get_or-replicate}
+use Rattle.std.proofs.lemmas.List.{get_or-replicate}
 use Rattle.std.proofs.Math.Seq.{take-length}
 use Rattle.task_set.specs.Truths.{In}
 use Rattle.task_set.proofs.Members.{In-full_to_below}
@@ -34,7 +34,7 @@ use Rattle.round_helpers.proofs.Growing.{units_both, has_longer}
 use Rattle.cycle_search.specs.Ends.{NoneApart, first_lower, first_upper, at_first}
 use Rattle.cycle_search.proofs.EndFacts.{first_right}
 use Rattle.effic_search.specs.Counted.{other, others, IsCounted}
-use Rattle.effic_search.specs.inner.Going.{IsFloored, IsTight, IsLowering, IsGoing}
+use Rattle.effic_search.specs.inner.Going.{IsFloored, IsTight, IsGoing}
 use Rattle.effic_search.specs.inner.Opening.{IsGoalByBound, AddsGoal, IsFirstBook}
 use Rattle.effic_search.specs.Since.{IsSinceGoal}
 use Rattle.effic_search.specs.declared.counting.Listed.{Listed}

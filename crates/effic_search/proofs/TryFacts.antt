@@ -1,5 +1,5 @@
 -- What a try does to a search: it goes on, its units ended, or memory did.
-use Rattle.std.proofs.Common.{◌≡◌, ℕ, suc, ◌+◌, ◌-◌, ◌*◌, ◌<◌, ◌≤◌, ◌⊎◌, Bool, List, [], ◌∷◌, ◌++◌, length, take, drop}
+use Rattle.std.proofs.Common.{◌≡◌, ℕ, suc, ◌+◌, ◌-◌, ◌*◌, ◌<◌, ◌≤◌, Bool, List, [], ◌∷◌, ◌++◌, length, take}
 use Rattle.std.proofs.Common.{refl}
 use Rattle.std.proofs.Common.{sym, ap, ◌∙◌, subst, inl, inr, arith, Some, length-append}
 use Rattle.std.specs.Prelude.{slice_get}
@@ -11,7 +11,7 @@ use Rattle.std.proofs.Math.Seq.{take-length}
 use Rattle.line_instance.specs.Line.{Line, IsLine, tasks}
 use Rattle.line_rules.specs.Balance.{IsRight, all_tasks, seat}
 use Rattle.line_rules.specs.Bounds.{IsTooLong}
-use Rattle.line_rules.specs.Entries.{Answers, HasAnswer}
+use Rattle.line_rules.specs.Entries.{HasAnswer}
 use Rattle.line_rules.specs.Trails.{Leads, IsTrail, IsOpenOver}
 use Rattle.line_rules.specs.Units.{UnitsOf, UnitsIn}
 use Rattle.line_rules.specs.declared.types.LineKind.{LineKind}
@@ -30,11 +30,9 @@ use Rattle.round_run.specs.declared.closing.Verdict.TheVariants as verdict
 use Rattle.round_run.specs.declared.plans.Plan.{Plan}
 use Rattle.cycle_search.specs.Asking.{ListsAll}
 use Rattle.cycle_search.specs.Ends.{first_lower, first_upper}
-use Rattle.cycle_search.specs.declared.asking.Asked.{Asked}
 use Rattle.cycle_search.proofs.EndFacts.{none_long}
 use Rattle.cycle_search.proofs.Tries.{widened_right}
 use Rattle.effic_check.specs.Accepted.{IsClosed, cycle_below}
-use Rattle.effic_check.proofs.Proved.{below_cycle}
 use Rattle.effic_search.specs.Counted.{IsCounted, AreFew, others}
 use Rattle.effic_search.specs.inner.Going.{IsFloored, HaveCycles, IsLowering, IsGoing, IsLeftAt, IsStuck, HasAsked}
 use Rattle.effic_search.specs.inner.Going.{IsTight, IsImproved}

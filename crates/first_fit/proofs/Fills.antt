@@ -1,27 +1,22 @@
 -- The line that is being filled holds ranked placements.
-use Rattle.std.proofs.Common.{◌≡◌, ◌≢◌, ℕ, zero, suc, ◌+◌, ◌-◌, ◌*◌, ◌<◌, ◌≤◌, Bool, true, false, cond, ◌&&◌, ◌||◌, not}
-use Rattle.std.proofs.Common.{nat_eq, List, [], ◌∷◌, length, get_or, set, replicate, refl, sym, ap, ◌∙◌, subst, ◌⊎◌}
+use Rattle.std.proofs.Common.{◌≡◌, ℕ, suc, ◌+◌, ◌-◌, ◌<◌, ◌≤◌, Bool, true, cond}
+use Rattle.std.proofs.Common.{nat_eq, List, ◌∷◌, length, set, refl, sym, ap, ◌∙◌, subst, ◌⊎◌}
 use Rattle.std.proofs.Common.{inl, inr, arith}
-use Rattle.std.proofs.lemmas.Bool.{false≢true, cases_eq, cases_lt, cases_Bool}
 use Rattle.std.proofs.lemmas.Bool.Decides.{nat_tests}
-use Rattle.std.proofs.lemmas.List.{get_or-set_same, get_or-set_other, length-set, length-replicate}
+use Rattle.std.proofs.lemmas.List.{get_or-set_same, get_or-set_other, length-set}
 use Rattle.task_set.specs.Truths.{In, union}
-use Rattle.task_set.proofs.Members.{In-set_same, In-set_kept, In-set_cases, In-empty, members, members-set, members-le}
-use Rattle.line_instance.specs.Line.{Line, IsLine, IsRanked, Before, Apart, tasks, time, at_rank}
-use Rattle.line_rules.specs.Balance.{IsSide, seat}
-use Rattle.line_rules.specs.Bounds.{IsTooLong}
-use Rattle.line_rules.specs.Ranked.{Placement, Has, IsAt, time_placed, IsReady, MayBePlaced, RanksFirst, station_of}
-use Rattle.line_rules.specs.Ranked.{IsClosed, ComesNext, AreRanked, IsRankedBalance}
+use Rattle.task_set.proofs.Members.{In-set_same, In-set_kept, In-set_cases}
+use Rattle.line_instance.specs.Line.{Line, IsLine, Apart, tasks, time}
+use Rattle.line_rules.specs.Balance.{seat}
+use Rattle.line_rules.specs.Ranked.{Placement, Has, IsAt, time_placed, IsReady, MayBePlaced, station_of}
+use Rattle.line_rules.specs.Ranked.{IsClosed, ComesNext, AreRanked}
 use Rattle.line_rules.specs.declared.types.LineKind.{LineKind}
-use Rattle.line_rules.specs.declared.types.LineKind.TheVariants.{Straight, U}
 use Rattle.line_rules.specs.declared.types.Side.{Side}
 use Rattle.line_rules.specs.declared.types.Side.TheVariants.{Front, Back}
 use Rattle.line_rules.specs.declared.types.Seatplace.{Seatplace}
-use Rattle.line_rules.specs.declared.types.Balance.{Balance as Assignment}
-use Rattle.line_rules.proofs.Ranks.{station_last, stations_few, placed_fits, back_closed, side_right}
 use Rattle.first_fit.specs.declared.filling.Choice.{Choice as Pick}
 use Rattle.first_fit.specs.declared.filling.Filling.{Filling as Filled}
-use Rattle.first_fit.specs.inner.Filling.{MayStand, MayJoin, with_front, with_back, joined, started, next_station}
+use Rattle.first_fit.specs.inner.Filling.{MayStand, MayJoin, with_front, with_back, joined}
 use Rattle.first_fit.specs.inner.Picked.{IsFirst}
 
 -- The sets, the station, the time that is left of it and the places are those of ranked placements.

@@ -1,11 +1,11 @@
 -- What the test of a choice finds out, and the best of several choices.
-use Rattle.std.proofs.Common.{◌≡◌, ◌≢◌, ℕ, suc, ◌+◌, ◌<◌, ◌≤◌, Bool, true, false, cond, nat_lt, nat_eq, List, length}
-use Rattle.std.proofs.Common.{get_or, Option, Some, None, refl, sym, ap, ◌∙◌, subst, ◌⊎◌, inl, inr, arith}
-use Rattle.std.proofs.lemmas.Bool.{false≢true, cases_eq, cases_lt, cases_Bool}
+use Rattle.std.proofs.Common.{◌≡◌, ℕ, ◌+◌, ◌<◌, ◌≤◌, Bool, true, false, cond, nat_lt, List}
+use Rattle.std.proofs.Common.{Option, Some, None, refl, sym, ap, ◌∙◌, subst, ◌⊎◌, inl, inr, arith}
+use Rattle.std.proofs.lemmas.Bool.{cases_lt}
 use Rattle.std.proofs.lemmas.Bool.Decides.{nat_tests}
 use Rattle.task_set.specs.Truths.{In, meet, IsEmpty}
 use Rattle.task_set.proofs.Members.{In-meet, In-meet_parts}
-use Rattle.line_instance.specs.Line.{Line, Before, Apart, tasks, time}
+use Rattle.line_instance.specs.Line.{Line, Before}
 use Rattle.line_rules.specs.Balance.{IsSide}
 use Rattle.line_rules.specs.Ranked.{weight, RanksFirst}
 use Rattle.line_rules.specs.declared.types.LineKind.{LineKind}
@@ -15,7 +15,7 @@ use Rattle.line_rules.specs.declared.types.Side.TheVariants.{Front, Back}
 use Rattle.first_fit.specs.declared.filling.Choice.{Choice as Pick}
 use Rattle.first_fit.specs.declared.filling.Filling.{Filling as Filled}
 use Rattle.first_fit.specs.inner.Filling.{MayStand, MayJoin}
-use Rattle.first_fit.specs.inner.Picked.{IsFirst, heavier, IsBetter}
+use Rattle.first_fit.specs.inner.Picked.{heavier, IsBetter}
 
 other : Back ≡ Front → ⊥
 other e = cc

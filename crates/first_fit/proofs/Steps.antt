@@ -4,18 +4,16 @@ use Rattle.std.proofs.Common.{[], ◌∷◌, length, get_or, set, replicate, ref
 use Rattle.std.proofs.lemmas.Bool.{false≢true, cases_eq, cases_lt, cases_Bool}
 use Rattle.std.proofs.lemmas.Bool.Decides.{nat_tests}
 use Rattle.std.proofs.lemmas.List.{length-replicate}
-use Rattle.task_set.specs.Truths.{In, IsSubset, union}
+use Rattle.task_set.specs.Truths.{In, union}
 use Rattle.task_set.proofs.Members.{In-empty, In-union_left, In-union_right, In-union_cases, members, members-set}
 use Rattle.task_set.proofs.Members.{members-le}
 use Rattle.line_instance.specs.Line.{Line, IsLine, IsRanked, Before, tasks, time, at_rank, has}
-use Rattle.line_rules.specs.Balance.{seat}
 use Rattle.line_rules.specs.Bounds.{IsTooLong}
-use Rattle.line_rules.specs.Ranked.{Placement, Has, IsAt, time_placed, station_of, IsClosed, AreRanked, IsRankedBalance}
+use Rattle.line_rules.specs.Ranked.{Placement, Has, time_placed, station_of, IsClosed, IsRankedBalance}
 use Rattle.line_rules.specs.declared.types.LineKind.{LineKind}
 use Rattle.line_rules.specs.declared.types.Side.{Side}
 use Rattle.line_rules.specs.declared.types.Side.TheVariants.{Front, Back}
 use Rattle.line_rules.specs.declared.types.Seatplace.{Seatplace}
-use Rattle.line_rules.specs.declared.types.Balance.{Balance as Assignment}
 use Rattle.line_rules.proofs.Ranks.{station_last, stations_few, back_closed}
 use Rattle.first_fit.specs.declared.filling.Choice.{Choice as Pick}
 use Rattle.first_fit.specs.declared.filling.Filling.{Filling as Filled}

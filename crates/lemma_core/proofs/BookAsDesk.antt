@@ -19,7 +19,7 @@ use Rattle.lemma_core.specs.declared.types.Published.TheVariants as published
 use Rattle.lemma_core.specs.declared.types.Offered.{Offered}
 use Rattle.lemma_core.specs.declared.types.Offered.TheVariants as offered
 use Rattle.lemma_core.specs.declared.types.Reply.TheVariants as reply
-use Rattle.lemma_core.specs.Machine.{State, last_answer, found, answer, is_better}
+use Rattle.lemma_core.specs.Machine.{last_answer, found, answer, is_better}
 use Rattle.lemma_core.specs.Machine as machine
 use Rattle.lemma_core.specs.History.{Item, added, known, better, published_item, Standing}
 use Rattle.lemma_core.specs.Books.{BookView, IsBook, IsReserved, ran, DoesPublish, desk_of}

@@ -1,5 +1,5 @@
 -- The headline of a run, from what its job promises and from what is put.
-use Rattle.std.proofs.Common.{IfOk, MatchResult, ◌≡◌, ◌∙◌, ◌⊎◌, inl, inr, ℕ, List, refl, sym, subst}
+use Rattle.std.proofs.Common.{IfOk, MatchResult, ◌≡◌, ◌∙◌, inl, inr, ℕ, List, refl, sym, subst}
 use Rattle.std.specs.declared.result.Result.{Result}
 use Rattle.std.specs.declared.result.Result.TheVariants.{Ok, Err}
 use Rattle.line_words.specs.Words.{Text}

@@ -1,8 +1,8 @@
 -- What a run comes to, from what its job or its words come to.
-use Rattle.std.proofs.Common.{◌≡◌, ◌≢◌, ◌∙◌, ◌⊎◌, ℕ, List, Option, Some, None, inl, inr, refl, sym, ap, subst}
+use Rattle.std.proofs.Common.{◌≡◌, ◌≢◌, ◌⊎◌, ℕ, List, None, inl, inr, refl}
 use Rattle.std.specs.declared.result.Result.{Result}
 use Rattle.std.specs.declared.result.Result.TheVariants.{Ok, Err}
-use Rattle.command_outcome.specs.Outcome.{Files, Outside, Outcome, Comes, IsCut, Ends, Stay, outcome_of, told}
+use Rattle.command_outcome.specs.Outcome.{Files, Outside, Outcome, Comes, Ends, Stay, outcome_of, told}
 use Rattle.command_outcome.specs.Output.{Finishes, Puts, memory_line, status_of}
 use Rattle.command_outcome.specs.Ending.{Ending, IsEnding}
 use Rattle.command_outcome.specs.declared.report.Kept.{Kept}

@@ -18,7 +18,7 @@ use Rattle.task_set.proofs.Members.{In-union_cases, In-empty}
 use Rattle.std.proofs.Common.{replicate}
 use Rattle.std.proofs.lemmas.List.{length-replicate}
 use Rattle.line_rules.specs.declared.types.Mode.TheVariants as mode
-use Rattle.load_facts.specs.Sides.{part, with_part, changed, nothing_yet, fills, spot, task_at, MayJoin}
+use Rattle.load_facts.specs.Sides.{part, changed, nothing_yet, fills, spot, task_at, MayJoin}
 use Rattle.load_facts.specs.Sides.{AreSets}
 use Rattle.load_facts.proofs.SideFacts.{set_of, sets_with, set_less, part_taken, taken_part, unfilled, spot_suc}
 use Rattle.load_facts.proofs.SideFacts.{spot_within, spot_of, truth_at, task_within, task_placed, truth_other}

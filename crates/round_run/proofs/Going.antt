@@ -1,12 +1,9 @@
 -- What was done on a book as a desk is how the book goes on, and what it gains for the units used.
-use Rattle.std.proofs.Common.{◌≡◌, ℕ, zero, suc, ◌+◌, ◌≤◌, Bool, List, [], ◌∷◌, ◌++◌, length, refl, sym, ap, ◌∙◌, subst}
-use Rattle.std.proofs.Common.{arith, append_assoc, length-append, Option, Some}
+use Rattle.std.proofs.Common.{◌≡◌, ℕ, zero, suc, ◌+◌, ◌≤◌, List, [], ◌∷◌, ◌++◌, length, refl, sym, ap, ◌∙◌, subst}
+use Rattle.std.proofs.Common.{arith, length-append, Option}
 use Rattle.std.proofs.lemmas.List.{append-nil, append_cancel_left}
 use Rattle.std.specs.List.{range_with_len}
-use Rattle.std.specs.Prelude.{slice_get}
 use Rattle.line_instance.specs.Line.{Line}
-use Rattle.line_rules.specs.Bounds.{bound}
-use Rattle.line_rules.specs.Entries.{HasAnswer}
 use Rattle.line_rules.specs.Units.{UnitsOf, UnitsIn}
 use Rattle.line_rules.specs.declared.types.LineKind.{LineKind}
 use Rattle.line_rules.specs.declared.types.Mode.{Mode}
@@ -19,11 +16,7 @@ use Rattle.lemma_core.specs.Books.{BookView, IsBook, desk_of}
 use Rattle.lemma_core.proofs.BookAsDesk.{entries_seen, fewest_seen}
 use Rattle.lemma_core.proofs.OwnFacts.{entries_added}
 use Rattle.lemma_core.proofs.Runs.{replay-append}
-use Rattle.station_search.specs.Costs.{AreLemmas, HasPublished, Spends, AddsFew}
-use Rattle.station_search.specs.Decide.{Decides}
-use Rattle.station_search.specs.declared.answers.Reason.{Reason}
-use Rattle.station_search.specs.declared.answers.Reason.TheVariants as reason
-use Rattle.station_search.specs.declared.answers.Decided.TheVariants as decided
+use Rattle.station_search.specs.Costs.{HasPublished, Spends, AddsFew}
 use Rattle.round_helpers.specs.Growth.{AreAtCycle, GoesOn}
 use Rattle.round_helpers.proofs.Growing.{lemmas_at}
 use Rattle.round_helpers.proofs.Ranges.{at_range}

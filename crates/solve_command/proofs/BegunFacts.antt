@@ -7,7 +7,6 @@ use Rattle.std.proofs.Common.{subst, arith}
 use Rattle.std.proofs.lemmas.List.{append-nil}
 use Rattle.line_instance.specs.Line.{Line, tasks}
 use Rattle.line_rules.specs.Balance.{IsRight}
-use Rattle.line_rules.specs.Ranked.{IsRankedBalance}
 use Rattle.line_rules.specs.Ranges.{IsCycle, IsClaim, AreEntries}
 use Rattle.line_rules.specs.Units.{UnitsOf}
 use Rattle.line_rules.specs.declared.types.LineKind.{LineKind}
@@ -27,8 +26,6 @@ use Rattle.round_helpers.proofs.Growing.{units_both}
 use Rattle.round_run.specs.Solving.{FitsAll, SolvesFrom}
 use Rattle.round_run.specs.declared.plans.Plan.{Plan}
 use Rattle.round_run.specs.declared.solving.Outcome.{Outcome}
-use Rattle.run_certificates.specs.Certified.{LeaveRoom}
-use Rattle.run_certificates.proofs.Certifying.{room_alone}
 use Rattle.solve_command.specs.WarmStart.{Start, IsOpened, TakesOld, TakesSought, Seeks, BeginsWith, entries_of}
 use Rattle.solve_command.specs.WarmStart.{old_room, seek_room, seek_line}
 use Rattle.solve_command.specs.inner.Begun.{IsBegun, IsTaken, HasSoughtBehind}

@@ -1,6 +1,5 @@
 -- Marks of the sets that entries have: a bit for each, at the place that a tag of the set tells. Own.
 use Rattle.std.specs.Prelude.{◌≡◌, ℕ, ◌<◌, List, ◌++◌, length}
-use Rattle.line_rules.specs.Entries.{IsDerived}
 use Rattle.line_rules.specs.declared.types.Entry.{Entry}
 use Rattle.lemma_core.specs.inner.Chains.{tags_of, IsSieve, word_in, mark_of}
 use Rattle.lemma_core.specs.Desks.{DeskView, entries, HasDerived}

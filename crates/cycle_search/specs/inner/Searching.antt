@@ -14,7 +14,6 @@ use Rattle.round_helpers.specs.Growth.{AreAtCycle}
 use Rattle.round_run.specs.Rounds.{IsAnswer, frames_of, by_bound}
 use Rattle.round_run.specs.declared.plans.Plan.{Plan}
 use Rattle.round_run.specs.declared.closing.Verdict.{Verdict}
-use Rattle.round_run.specs.declared.closing.Verdict.TheVariants as verdict
 use Rattle.round_run.specs.declared.solving.Cause.{Cause}
 use Rattle.round_run.specs.declared.solving.Cause.TheVariants as cause
 use Rattle.cycle_search.specs.Asking.{ListsAll}

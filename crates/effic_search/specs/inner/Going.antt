@@ -1,5 +1,5 @@
 -- The search between two tries, and what a try comes to.
-use Rattle.std.specs.Prelude.{◌≡◌, ◌≢◌, ◌⊎◌, ℕ, ◌+◌, ◌-◌, ◌*◌, ◌<◌, ◌≤◌, max, List, [], ◌∷◌, ◌++◌, length, slice_get}
+use Rattle.std.specs.Prelude.{◌≡◌, ◌≢◌, ◌⊎◌, ℕ, ◌+◌, ◌-◌, ◌*◌, ◌<◌, ◌≤◌, max, List, [], ◌++◌, length, slice_get}
 use Rattle.std.specs.Prelude.{suc, Bool, Option, Some, None}
 use Rattle.line_instance.specs.Line.{Line, tasks}
 use Rattle.line_rules.specs.Balance.{IsRight, all_tasks}
@@ -14,7 +14,6 @@ use Rattle.line_rules.specs.declared.types.Balance.{Balance as Assignment}
 use Rattle.line_rules.specs.declared.types.Trail.{Trail}
 use Rattle.line_rules.specs.declared.types.Why.TheVariants as why
 use Rattle.load_facts.specs.Times.{longest_of}
-use Rattle.lemma_core.specs.Machine.{About}
 use Rattle.lemma_core.specs.Books.{BookView, IsReserved}
 use Rattle.round_run.specs.declared.closing.Verdict.{Verdict}
 use Rattle.round_run.specs.declared.plans.Plan.{Plan}
@@ -25,7 +24,6 @@ use Rattle.effic_check.specs.Accepted.{IsClosed}
 use Rattle.effic_search.specs.Counted.{IsCounted, AreFew}
 use Rattle.effic_search.specs.Since.{IsSinceGoal}
 use Rattle.effic_search.specs.declared.lowering.Lowering.{Lowering}
-use Rattle.effic_search.specs.declared.counting.Listed.{Listed}
 use Rattle.effic_search.specs.declared.trying.Tried.{Tried}
 use Rattle.effic_search.specs.declared.trying.Tried.TheVariants as tried
 use Rattle.effic_search.specs.declared.settling.Settled.{Settled}

@@ -1,5 +1,5 @@
 -- The choice of the next task.
-use Rattle.std.specs.Prelude.{◌≡◌, ◌⊎◌, ℕ, ◌<◌, Option, Some, None, cond, nat_lt}
+use Rattle.std.specs.Prelude.{◌≡◌, ◌⊎◌, Option, Some, None, cond, nat_lt}
 use Rattle.line_instance.specs.Line.{Line}
 use Rattle.line_rules.specs.Ranked.{weight, RanksFirst}
 use Rattle.line_rules.specs.declared.types.LineKind.{LineKind}

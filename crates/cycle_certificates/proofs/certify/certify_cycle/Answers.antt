@@ -1,4 +1,4 @@
-use Rattle.std.proofs.Common.{ℕ, ◌-◌, ◌<◌, None, sym, subst}
+use Rattle.std.proofs.Common.{ℕ, ◌-◌, ◌<◌, sym, subst}
 use Rattle.task_set.specs.Truths.{full_to}
 use Rattle.line_rules.specs.Entries.{HasAnswer}
 use Rattle.line_rules.specs.declared.types.Certificate.{Certificate}

@@ -1,7 +1,7 @@
 use Rattle.std.proofs.Common.{None, inl, inr}
 use Rattle.command_outcome.specs.Outcome.{outcome_of}
 use Rattle.cycle_command.proofs.PromiseFacts.{shown_of}
-use Rattle.cycle_command.proofs.WrittenFacts.{spent_of, memory_of, stopped_status}
+use Rattle.cycle_command.proofs.WrittenFacts.{spent_of, stopped_status}
 use Rattle.cycle_command.proofs.least.found.Goals as goal
 
 pub returns-in_ok-optimal-in-Solved-clause-shown : goal.returns-in_ok-optimal-in-Solved-clause-shown

@@ -1,4 +1,3 @@
-use Rattle.std.proofs.Common.{◌≡◌, ℕ, inl, inr}
 use Rattle.cycle_command.proofs.PlainFacts.{said_plain, none_given}
 use Rattle.cycle_command.proofs.line_file.plain_line.Goals as goal
 

@@ -1,4 +1,4 @@
-use Rattle.std.proofs.Common.{◌∙◌, ◌-◌, ◌+◌, refl, sym, subst, inl, inr, arith, Option}
+use Rattle.std.proofs.Common.{◌∙◌, ◌-◌, refl, sym, subst, inl, inr, arith, Option}
 use Rattle.std.proofs.lemmas.Bool.{false≢true}
 use Rattle.line_rules.specs.Units.{TrailUnits}
 use Rattle.line_rules.specs.declared.types.Trail.{Trail}

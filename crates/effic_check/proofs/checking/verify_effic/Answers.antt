@@ -1,7 +1,6 @@
 use Rattle.effic_check.proofs.Rejected.{accepted_so, rejected_so}
 use Rattle.effic_check.proofs.Proved.{true_of}
 use Rattle.std.proofs.Common.{inr, arith}
-use Rattle.effic_check.specs.Verdict.{IsVerdict}
 use Rattle.effic_check.proofs.checking.verify_effic.Goals as goal
 
 pub returns-clause-accepted : goal.returns-clause-accepted

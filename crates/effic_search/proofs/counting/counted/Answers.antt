@@ -1,4 +1,4 @@
-use Rattle.std.proofs.Common.{ℕ, suc, ◌+◌, List, take, drop, subst, arith}
+use Rattle.std.proofs.Common.{◌+◌, List, take, drop, subst, arith}
 use Rattle.std.proofs.lemmas.List.{take-append-drop, length-take}
 use Rattle.line_rules.specs.Entries.{Follows}
 use Rattle.line_rules.specs.declared.types.Entry.{Entry}

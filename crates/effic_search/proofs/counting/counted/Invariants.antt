@@ -1,4 +1,4 @@
-use Rattle.std.proofs.Common.{◌≡◌, ℕ, ◌+◌, ◌≤◌, length, drop}
+use Rattle.std.proofs.Common.{ℕ, ◌+◌, ◌≤◌, drop}
 use Rattle.line_rules.specs.Units.{UnitsOf}
 use Rattle.effic_search.specs.Counted.{IsCounted}
 use Rattle.effic_search.proofs.counting.counted.Given as goal

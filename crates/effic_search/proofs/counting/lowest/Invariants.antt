@@ -1,4 +1,3 @@
-use Rattle.std.proofs.Common.{◌≤◌}
 use Rattle.effic_search.specs.Lowest.{IsLowest}
 use Rattle.effic_search.proofs.counting.lowest.Given as goal
 

@@ -1,4 +1,4 @@
-use Rattle.std.proofs.Common.{◌≡◌, ℕ, ◌+◌, refl, sym, ap, ◌∙◌, subst, arith}
+use Rattle.std.proofs.Common.{◌≡◌, ℕ, ◌+◌, refl, ap, ◌∙◌, subst, arith}
 use Rattle.cycle_search.proofs.EndFacts.{first_best}
 use Rattle.effic_search.specs.inner.Opening.{IsFirstBook}
 use Rattle.effic_search.proofs.StartFacts.{first_none, first_next, going_begins}

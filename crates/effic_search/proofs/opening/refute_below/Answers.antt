@@ -1,11 +1,10 @@
-use Rattle.std.proofs.Common.{◌≡◌, ℕ, ◌-◌, ◌<◌, Bool, List, refl, sym, subst, inl, inr, arith}
+use Rattle.std.proofs.Common.{ℕ, ◌-◌, ◌<◌, Bool, List, refl, sym, subst, inl, inr, arith}
 use Rattle.line_instance.specs.Line.{Line}
 use Rattle.line_rules.specs.Balance.{all_tasks}
 use Rattle.line_rules.specs.Bounds.{bound}
 use Rattle.line_rules.specs.Entries.{Follows, HasAnswer}
 use Rattle.line_rules.specs.declared.types.Entry.{Entry}
 use Rattle.line_rules.specs.declared.types.Why.TheVariants as why
-use Rattle.cycle_search.specs.Ends.{first_lower}
 use Rattle.cycle_search.proofs.EndFacts.{first_met, first_refuted}
 use Rattle.effic_search.proofs.StartFacts.{adds_goal, stays_about, has_one}
 use Rattle.effic_search.proofs.opening.refute_below.Goals as goal

@@ -1,8 +1,5 @@
-use Rattle.std.proofs.Common.{◌≡◌, ℕ, refl, sym, subst}
-use Rattle.line_rules.specs.Units.{UnitsIn}
-use Rattle.line_rules.specs.declared.types.OpenFrame.{OpenFrame}
-use Rattle.round_run.specs.declared.plans.Plan.{Plan}
-use Rattle.effic_search.specs.inner.Going.{IsSettled, IsStuck, HasTrailBy}
+use Rattle.std.proofs.Common.{subst}
+use Rattle.effic_search.specs.inner.Going.{IsSettled}
 use Rattle.effic_search.specs.declared.settling.Settled.{Settled}
 use Rattle.effic_search.proofs.CertFacts.{solved_is, large_is, spent_is, trail_by, few_by}
 use Rattle.effic_search.proofs.searching.come_to.Goals as goal

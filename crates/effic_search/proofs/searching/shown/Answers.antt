@@ -1,9 +1,8 @@
-use Rattle.std.proofs.Common.{ℕ, ◌+◌, List, sym, subst}
+use Rattle.std.proofs.Common.{ℕ, ◌+◌, List, subst}
 use Rattle.line_rules.specs.declared.types.Entry.{Entry}
 use Rattle.lemma_core.specs.Own.{AreStatable}
-use Rattle.effic_check.specs.Truth.{IsBetween}
 use Rattle.effic_search.specs.Lowest.{IsLowest}
-use Rattle.effic_search.specs.inner.Going.{entries_of, product_of}
+use Rattle.effic_search.specs.inner.Going.{product_of}
 use Rattle.effic_search.proofs.CertFacts.{bounds_true, derived_of}
 use Rattle.effic_search.proofs.searching.shown.Goals as goal
 

@@ -1,4 +1,4 @@
-use Rattle.std.proofs.Common.{◌≡◌, ℕ, ◌∙◌, sym, ap, subst, arith}
+use Rattle.std.proofs.Common.{ℕ, ◌∙◌, sym, ap, subst, arith}
 use Rattle.line_rules.specs.Balance.{IsRight}
 use Rattle.line_rules.specs.declared.types.Balance.{Balance as Assignment}
 use Rattle.effic_search.specs.inner.Going.{IsTight}

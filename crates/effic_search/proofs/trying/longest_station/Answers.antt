@@ -1,5 +1,5 @@
-use Rattle.std.proofs.Common.{ℕ, ◌≤◌, arith}
-use Rattle.effic_search.proofs.LookFacts.{looked_over, looked_right}
+use Rattle.std.proofs.Common.{arith}
+use Rattle.effic_search.proofs.LookFacts.{looked_over}
 use Rattle.effic_search.proofs.trying.longest_station.Goals as goal
 
 pub looks-preserved : goal.looks-preserved

@@ -1,11 +1,11 @@
-use Rattle.std.proofs.Common.{◌≡◌, ◌∙◌, ◌<◌, ℕ, List, Bool, refl, ap, sym, subst, arith, set}
+use Rattle.std.proofs.Common.{◌∙◌, ◌<◌, ℕ, List, Bool, refl, sym, subst, arith, set}
 use Rattle.std.proofs.lemmas.Bool.{false≢true}
 use Rattle.task_set.specs.Truths.{In, union}
 use Rattle.line_instance.specs.Line.{tasks}
 use Rattle.line_rules.specs.Ranked.{IsRankedBalance}
 use Rattle.line_rules.specs.declared.types.Seatplace.{Seatplace}
 use Rattle.first_fit.specs.declared.filling.Filling.{Filling as Filled}
-use Rattle.first_fit.specs.inner.Filling.{joined, next_station}
+use Rattle.first_fit.specs.inner.Filling.{joined}
 use Rattle.first_fit.proofs.Fills.{IsFilling, one_more}
 use Rattle.first_fit.proofs.Steps.{at_start, station_small, used, further, flag_falls, finished, work, work_joins}
 use Rattle.first_fit.proofs.Steps.{work_goes_on}

@@ -1,4 +1,4 @@
-use Rattle.std.proofs.Common.{rules, ℕ, ◌≡◌, ◌∙◌, Option, Some, None, List, [], ◌++◌, take, refl, sym, ap, inr}
+use Rattle.std.proofs.Common.{ℕ, ◌≡◌, ◌∙◌, Option, Some, None, List, [], take, ap, inr}
 use Rattle.line_io.specs.Kept.{Tally, NamedFile, KeepsTorn, failed, file_in}
 use Rattle.line_io.proofs.mem_shelf.extend_torn.Goals as goal
 

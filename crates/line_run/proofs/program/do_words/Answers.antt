@@ -1,6 +1,6 @@
-use Rattle.std.proofs.Common.{◌≡◌, ◌∙◌, inl, inr, sym, ap, refl, None, ℕ, List}
+use Rattle.std.proofs.Common.{inl, inr, refl, None}
 use Rattle.line_words.specs.Texts.{usage_text}
-use Rattle.command_outcome.specs.Outcome.{Outside, Outcome, outside}
+use Rattle.command_outcome.specs.Outcome.{Outside, outside}
 use Rattle.command_outcome.specs.declared.status.Status.TheVariants as ends
 use Rattle.line_run.specs.Run.{IsJobOutcome, IsAnswer, IsPage, IsPlainOutcome}
 use Rattle.command_outcome.proofs.OutcomeFacts.{told_as}

@@ -1,10 +1,10 @@
 use Rattle.std.proofs.Common.{◌≡◌, ◌⊎◌, ◌∙◌, inl, inr, refl}
 use Rattle.line_words.specs.Words.{texts}
-use Rattle.command_outcome.specs.Outcome.{Outside, Outcome, outside}
+use Rattle.command_outcome.specs.Outcome.{Outside, outside}
 use Rattle.command_outcome.specs.Output.{status_of}
 use Rattle.command_outcome.specs.declared.status.Status.TheVariants as ends
 use Rattle.line_run.specs.Run.{IsAnswer, IsPlainOutcome}
-use Rattle.line_run.proofs.RunFacts.{run_ends, run_leaves, plain_put, write_or, unwritten_or}
+use Rattle.line_run.proofs.RunFacts.{run_ends, run_leaves, plain_put, write_or}
 use Rattle.line_run.proofs.HeadlineFacts.{headlined}
 use Rattle.line_run.proofs.program.run_gated.Goals as goal
 

@@ -1,5 +1,4 @@
-use Rattle.std.proofs.Common.{◌≡◌, ◌/◌, ◌++◌, ◌∷◌, [], ◌≤◌, ℕ, List, sym, ap, ◌∙◌, arith}
-use Rattle.station_search.specs.declared.answers.Units.{Units}
+use Rattle.std.proofs.Common.{◌/◌, ◌++◌, ◌∷◌, [], ℕ, ap, ◌∙◌, arith}
 use Rattle.round_run.proofs.PurseFacts.{filling_none, filling_push, filled, small_part}
 use Rattle.round_run.proofs.plans.fill.Goals as goal
 

@@ -1,4 +1,4 @@
-use Rattle.std.proofs.Common.{◌≡◌, ◌/◌, ◌≤◌, vec_capacity}
+use Rattle.std.proofs.Common.{◌/◌, ◌≤◌, vec_capacity}
 use Rattle.round_run.proofs.PurseFacts.{IsFilling}
 use Rattle.round_run.proofs.plans.fill.Given as goal
 

@@ -1,4 +1,4 @@
-use Rattle.std.proofs.Common.{◌≡◌, ◌+◌, ◌≤◌, [], refl, ap, sym, subst, arith, Option}
+use Rattle.std.proofs.Common.{◌≡◌, [], refl, ap, sym, subst, arith, Option}
 use Rattle.line_instance.specs.Line.{tasks}
 use Rattle.line_rules.specs.declared.types.Balance.{Balance as Assignment}
 use Rattle.lemma_core.specs.Machine.{About}

@@ -1,4 +1,4 @@
-use Rattle.std.proofs.Common.{List, length, drop, ap, sym, ◌∙◌, subst, arith}
+use Rattle.std.proofs.Common.{List, length, drop, ap, sym, subst, arith}
 use Rattle.std.proofs.lemmas.List.{take_at}
 use Rattle.station_search.specs.declared.answers.Units.{Units}
 use Rattle.round_helpers.specs.Helping.{HasHelped}

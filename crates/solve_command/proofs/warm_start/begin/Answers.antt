@@ -1,4 +1,4 @@
-use Rattle.std.proofs.Common.{refl, string_bytes}
+use Rattle.std.proofs.Common.{string_bytes}
 use Rattle.solve_command.specs.WarmStart.{IsOpened}
 use Rattle.solve_command.proofs.BegunFacts.{begun_sought, begun_unsought, taken_within}
 use Rattle.solve_command.proofs.warm_start.begin.Goals as goal

@@ -1,4 +1,4 @@
-use Rattle.std.proofs.Common.{Option, List, None, refl, string_bytes, subst, sym}
+use Rattle.std.proofs.Common.{Option, List, refl, string_bytes, subst, sym}
 use Rattle.line_rules.specs.declared.types.Entry.{Entry}
 use Rattle.warm_book.specs.Warm.{untaken}
 use Rattle.solve_command.specs.WarmStart.{TakesOld}

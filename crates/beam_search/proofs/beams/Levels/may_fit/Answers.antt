@@ -1,7 +1,6 @@
-use Rattle.std.proofs.Common.{◌≡◌, subst, sym, ◌∙◌, ap, length}
-use Rattle.task_set.specs.Truths.{meet, In}
+use Rattle.std.proofs.Common.{subst}
+use Rattle.task_set.specs.Truths.{In}
 use Rattle.task_set.proofs.Members.{In-meet_parts}
-use Rattle.line_instance.specs.Line.{IsTaskSet}
 use Rattle.beam_search.proofs.beams.Levels.may_fit.Goals as goal
 
 pub exceeds-requires-clause-set : goal.exceeds-requires-clause-set

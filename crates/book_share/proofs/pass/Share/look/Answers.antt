@@ -1,6 +1,4 @@
-use Rattle.std.proofs.Common.{subst, sym}
-use Rattle.book_share.specs.inner.Marking.{AreMarkedBy}
-use Rattle.book_share.specs.Passes.{PassOf, desk_by}
+use Rattle.book_share.specs.Passes.{desk_by}
 use Rattle.book_share.specs.inner.Turning.{waited}
 use Rattle.book_share.specs.inner.Inside.{IsResting}
 use Rattle.book_share.proofs.Calling.{sound_of, after_look, waits_in}

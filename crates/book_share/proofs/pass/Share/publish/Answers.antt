@@ -1,7 +1,6 @@
 use Rattle.std.proofs.Common.{subst, sym, rules}
 use Rattle.lemma_core.specs.Desks.{FollowsSeen, Publishes}
 use Rattle.book_share.specs.Passes.{PassOf, desk_by}
-use Rattle.book_share.specs.inner.Marking.{AreMarkedBy}
 use Rattle.book_share.specs.inner.Turning.{waited}
 use Rattle.book_share.proofs.Hands.{publishes_from}
 use Rattle.book_share.proofs.Calling.{sound_of, holds, rises_in, waits_in, follows_in_turn}

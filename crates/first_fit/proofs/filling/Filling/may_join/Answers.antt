@@ -1,8 +1,7 @@
-use Rattle.std.proofs.Common.{◌≡◌, ◌∙◌, ℕ, Bool, true, false, List, get_or, IsTrue, sym, ap, arith}
+use Rattle.std.proofs.Common.{◌∙◌, true, false, sym, arith}
 use Rattle.std.proofs.lemmas.Bool.{false≢true}
-use Rattle.task_set.specs.Truths.{In, IsEmpty}
-use Rattle.first_fit.specs.inner.Filling.{MayJoin}
-use Rattle.first_fit.proofs.Joins.{meet_empty, empty_meet, side_front, side_u, side_straight, stand_front, front_stand}
+use Rattle.task_set.specs.Truths.{IsEmpty}
+use Rattle.first_fit.proofs.Joins.{meet_empty, empty_meet, side_front, side_u, stand_front, front_stand}
 use Rattle.first_fit.proofs.Joins.{stand_back, back_stand}
 use Rattle.first_fit.proofs.filling.Filling.may_join.Goals as goal
 use Rattle.first_fit.proofs.filling.Filling.may_join.Goals.{then-time-self-via-then-time-self}
