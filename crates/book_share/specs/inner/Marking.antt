@@ -2,7 +2,8 @@
 use Rattle.std.specs.Prelude.{◌≡◌, ℕ, ◌<◌, List, ◌++◌, length}
 use Rattle.line_rules.specs.Entries.{IsDerived}
 use Rattle.line_rules.specs.declared.types.Entry.{Entry}
-use Rattle.lemma_core.specs.inner.Chains.{tags_of, IsSieve, word_in, mark_of}
+use Rattle.lemma_core.specs.Sieves.{IsSieve, word_in, mark_of}
+use Rattle.lemma_core.specs.inner.Chains.{tags_of}
 use Rattle.lemma_core.specs.Desks.{DeskView, entries, HasDerived}
 use Rattle.book_share.specs.declared.marks.Marks.{Marks}
 use Rattle.book_share.specs.declared.marks.Marks.TheVariants as marks

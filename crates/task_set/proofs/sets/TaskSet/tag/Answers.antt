@@ -1,4 +1,3 @@
-use Rattle.std.proofs.Common.{◌≡◌}
 use Rattle.task_set.specs.Tags.{tag_of}
 use Rattle.task_set.proofs.sets.TaskSet.tag.Goals as goal
 
