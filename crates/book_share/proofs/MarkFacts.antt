@@ -10,7 +10,9 @@ use Rattle.std.proofs.lemmas.Option.{slice_get-map, slice_get_within, get_or_fro
 use Rattle.std.proofs.Math.Seq.{take-suc}
 use Rattle.line_rules.specs.Entries.{IsUnanswered, IsDerived}
 use Rattle.line_rules.specs.declared.types.Entry.{Entry}
-use Rattle.lemma_core.specs.inner.Chains.{tag_of, tags_of, IsSieve, word_in, mark_of}
+use Rattle.task_set.specs.Tags.{tag_of}
+use Rattle.lemma_core.specs.Sieves.{IsSieve, word_in, mark_of}
+use Rattle.lemma_core.specs.inner.Chains.{tags_of}
 use Rattle.lemma_core.proofs.ChainFacts.{sieve_push}
 use Rattle.lemma_core.specs.Machine.{About}
 use Rattle.lemma_core.specs.History.{Standing, standing, replay}

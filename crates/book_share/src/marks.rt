@@ -5,19 +5,16 @@
 //! up with the book in hand, at the price of one hash for each entry that the pass hadn't seen. They take 512 KiB, and
 //! with many more than a million entries they tell less, but never anything wrong.
 ghost use Rattle.std.specs.Prelude.{◌≡◌, ◌<◌, ◌≤◌, ℕ, false, true, List, ◌++◌, length, slice_index, slice_set, bit_or};
-ghost use Rattle.std.specs.Prelude.{IsTrue, fold};
-ghost use Rattle.std.specs.Hash as fed;
-ghost use Rattle.std.specs.Hash.FoldHasher as folding;
-ghost use Rattle.task_set.specs.Truths.{words_of};
+ghost use Rattle.std.specs.Prelude.{IsTrue};
 ghost use Rattle.line_rules.specs.Entries.{IsDerived, IsUnanswered};
 ghost use Rattle.line_rules.specs.declared.types.Entry.{Entry};
-ghost use Rattle.lemma_core.specs.inner.Chains.{tag_of, word_in, mark_of};
+ghost use Rattle.lemma_core.specs.Sieves.{word_in, mark_of};
 ghost use Rattle.book_share.specs.inner.Marking.{AreMarksOf, AreMarked, IsBehind, AreKept};
 ghost use Rattle.book_share.specs.declared.marks.Marks.TheVariants.{Off};
 
 use lemma_core::Book;
+use lemma_core::sieve::{mark, word};
 use std::alloc::Global;
-use std::hash::{FoldHasher, Hash, Hasher};
 use std::mem;
 use task_set::TaskSet;
 
@@ -33,42 +30,6 @@ pub enum Marks {
     Blank(Vec<u64>),
     /// Those of the first so many entries.
     Kept { words: Vec<u64>, count: u64 },
-}
-
-// A hash of a set.
-#[inline]
-fn hash_of(set: &TaskSet) -> u64
-    ensures { result ≡ folding.finish (fold folding.write folding.initial (fed.slice fed.u64 (words_of set.now))) }
-{
-    let mut state = FoldHasher::default();
-    set.hash(&mut state);
-    state.finish()
-}
-
-// The tag of a set: 32 bits of the hash.
-#[inline]
-fn tag(set: &TaskSet) -> u32
-    ensures { result ≡ tag_of set.now }
-{
-    (hash_of(set) % 4_294_967_296) as u32
-}
-
-// The word in which the mark of a tag is, out of so many.
-#[inline]
-fn word(tag: u32, count: usize) -> usize
-    requires { 0 < count }
-    ensures value { result ≡ word_in count tag }
-    ensures within { result < count }
-{
-    (tag / 64) as usize & (count - 1)
-}
-
-// The mark of a tag in its word.
-#[inline]
-fn mark(tag: u32) -> u64
-    ensures { result ≡ mark_of tag }
-{
-    1 << (tag % 64)
 }
 
 // Puts the mark of a tag into its word.
@@ -90,7 +51,7 @@ fn marked(words: Vec<u64>, count: u64, book: &Book) -> Marks
     let mut words = words;
     let len = book.len();
     for id in count..len {
-        put_mark(&mut words, tag(&book.entry(id).set));
+        put_mark(&mut words, book.entry(id).set.tag());
     }
     Marks::Kept { words, count: len }
 }
@@ -126,7 +87,7 @@ impl Marks {
             Marks::Off => false,
             Marks::Blank(_) => false,
             Marks::Kept { words, .. } => {
-                let tag = tag(set);
+                let tag = set.tag();
                 let mark = mark(tag);
                 words[word(tag, words.len())] & mark != mark
             }

@@ -16,8 +16,9 @@ use Rattle.std.proofs.lemmas.Option.{slice_get_within, slice_get_read, slice_get
 use Rattle.line_rules.specs.Entries.{Answers, IsUnanswered}
 use Rattle.line_rules.specs.declared.types.Entry.{Entry}
 use Rattle.line_rules.proofs.Grown.{get_longer, get_push_cases}
-use Rattle.lemma_core.specs.inner.Chains.{tag_of, tags_of, place, IsLast, IsChained, IsSieve, bucket_in, word_in}
-use Rattle.lemma_core.specs.inner.Chains.{mark_of, tags, links, IsIndex, IsIndexOf}
+use Rattle.task_set.specs.Tags.{tag_of}
+use Rattle.lemma_core.specs.Sieves.{IsSieve, word_in, mark_of}
+use Rattle.lemma_core.specs.inner.Chains.{tags_of, place, IsLast, IsChained, bucket_in, tags, links, IsIndex, IsIndexOf}
 use Rattle.lemma_core.specs.declared.index.Link.{Link}
 use Rattle.lemma_core.proofs.Logs.{get-end}
 

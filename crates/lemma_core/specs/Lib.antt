@@ -4,4 +4,5 @@ pub mod Laws
 pub mod Desks
 pub mod Own
 pub mod Books
+pub mod Sieves
 pub mod inner

@@ -18,7 +18,7 @@ ghost use Rattle.lemma_core.specs.Own.{IsStatable, AreStatable};
 ghost use Rattle.lemma_core.specs.Books.{BookView, IsBook, IsReserved, MayBeBest, opened, reopened, ran, with_room};
 ghost use Rattle.lemma_core.specs.Books.{DoesPublish};
 
-use crate::index::{Index, tag};
+use crate::index::Index;
 use crate::plain_lookup::{find_plain, looked};
 use crate::types::{LogItem, Looked, Offered, Published};
 use line_instance::Instance;
@@ -251,7 +251,7 @@ impl Book {
         requires unanswered { last_answer self.old.state.entries step.set step.most step.cycle ≡ None }
         ensures { DoesPublish self.old step result self.new }
     {
-        let tag = tag(&step.set);
+        let tag = step.set.tag();
         let Ok(()) = self.log.reserve(self.room as usize + 1) else {
             return Published::NoMemory;
         };

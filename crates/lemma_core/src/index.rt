@@ -6,18 +6,16 @@
 //! memory, and one that finds an entry about four. An entry takes 13 bytes, or up to twice that right after the
 //! tables grew; they grow by two, from the tags alone.
 ghost use Rattle.std.specs.Prelude.{◌≡◌, ℕ, ◌+◌, ◌-◌, ◌<◌, ◌≤◌, ◌^◌, ◌/◌, ◌%◌, true, false, List, [], ◌∷◌, ◌++◌};
-ghost use Rattle.std.specs.Prelude.{length, slice_get, slice_index, slice_set, replicate, fold, bit_or, vec_len};
+ghost use Rattle.std.specs.Prelude.{length, slice_get, slice_index, slice_set, replicate, bit_or, vec_len};
 ghost use Rattle.std.specs.Prelude.{vec_capacity, Some, OnOk};
-ghost use Rattle.std.specs.Hash as fed;
-ghost use Rattle.std.specs.Hash.FoldHasher as folding;
-ghost use Rattle.task_set.specs.Truths.{words_of};
 ghost use Rattle.lemma_core.specs.Machine.{last_answer};
-ghost use Rattle.lemma_core.specs.inner.Chains.{tag_of, tags, bucket_in, word_in, mark_of, IsIndex, IsIndexOf};
+ghost use Rattle.lemma_core.specs.Sieves.{word_in, mark_of};
+ghost use Rattle.lemma_core.specs.inner.Chains.{tags, bucket_in, IsIndex, IsIndexOf};
 
 use crate::plain_lookup::is_answer;
+use crate::sieve::{mark, word};
 use line_rules::Entries;
 use std::alloc::{AllocError, Global};
-use std::hash::{FoldHasher, Hash, Hasher};
 use task_set::TaskSet;
 
 // What the index keeps of an entry: the tag of its set, and one more than the place before it in its chain, or 0.
@@ -36,24 +34,6 @@ pub(crate) struct Index {
     pub(crate) sieve: Vec<u64>,
 }
 
-// A hash of the set.
-#[inline]
-fn hash_of(set: &TaskSet) -> u64
-    ensures { result ≡ folding.finish (fold folding.write folding.initial (fed.slice fed.u64 (words_of set.now))) }
-{
-    let mut state = FoldHasher::default();
-    set.hash(&mut state);
-    state.finish()
-}
-
-// The tag of the set.
-#[inline]
-pub(crate) fn tag(set: &TaskSet) -> u32
-    ensures { result ≡ tag_of set.now }
-{
-    (hash_of(set) % 4_294_967_296) as u32
-}
-
 // The bucket of a tag.
 #[inline]
 fn bucket(tag: u32, count: usize) -> usize
@@ -62,24 +42,6 @@ fn bucket(tag: u32, count: usize) -> usize
     ensures within { result < count }
 {
     tag as usize & (count - 1)
-}
-
-// The word of the sieve in which the mark of a tag is.
-#[inline]
-fn word(tag: u32, count: usize) -> usize
-    requires { 0 < count }
-    ensures value { result ≡ word_in count tag }
-    ensures within { result < count }
-{
-    (tag / 64) as usize & (count - 1)
-}
-
-// The mark of a tag.
-#[inline]
-fn mark(tag: u32) -> u64
-    ensures { result ≡ mark_of tag }
-{
-    1 << (tag % 64)
 }
 
 // Puts the tag of an entry into the sieve and at the head of its bucket, and returns what headed that.
@@ -154,7 +116,7 @@ impl Index {
         requires { IsIndexOf entries.now self.now.heads.items self.now.links.items self.now.sieve.items }
         ensures { result ≡ last_answer entries.now set.now most cycle }
     {
-        let tag = tag(set);
+        let tag = set.tag();
         if !self.may_have(tag) {
             return None;
         }

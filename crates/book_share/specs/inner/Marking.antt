@@ -1,7 +1,8 @@
 -- Marks of the sets that entries have: a bit for each, at the place that a tag of the set tells. Own.
 use Rattle.std.specs.Prelude.{◌≡◌, ℕ, ◌<◌, List, ◌++◌, length}
 use Rattle.line_rules.specs.declared.types.Entry.{Entry}
-use Rattle.lemma_core.specs.inner.Chains.{tags_of, IsSieve, word_in, mark_of}
+use Rattle.lemma_core.specs.Sieves.{IsSieve, word_in, mark_of}
+use Rattle.lemma_core.specs.inner.Chains.{tags_of}
 use Rattle.lemma_core.specs.Desks.{DeskView, entries, HasDerived}
 use Rattle.book_share.specs.declared.marks.Marks.{Marks}
 use Rattle.book_share.specs.declared.marks.Marks.TheVariants as marks

@@ -1,17 +1,11 @@
--- How entries are found by their sets. Each set has a tag, which is a part of a hash of it. The tags of the entries
--- fall into buckets, and those of one bucket stand in a chain, the last one first. A sieve has a mark for each of
--- them, and lets few other tags through.
-use Rattle.std.specs.Prelude.{◌≡◌, ℕ, zero, suc, ◌-◌, ◌/◌, ◌%◌, ◌^◌, ◌<◌, Bool, List, length, slice_get, slice_index}
-use Rattle.std.specs.Prelude.{map, fold, bit_and, Option, Some, None}
-use Rattle.std.specs.Hash as fed
-use Rattle.std.specs.Hash.FoldHasher as folding
-use Rattle.task_set.specs.Truths.{words_of}
+-- How entries are found by the tags of their sets. The tags fall into buckets, and those of one bucket stand in a
+-- chain, the last one first. A sieve has a mark for each of them, and lets few other tags through.
+use Rattle.std.specs.Prelude.{◌≡◌, ℕ, zero, suc, ◌-◌, ◌<◌, List, length, slice_get, slice_index, map, bit_and}
+use Rattle.std.specs.Prelude.{Option, Some, None}
+use Rattle.task_set.specs.Tags.{tag_of}
 use Rattle.line_rules.specs.declared.types.Entry.{Entry}
+use Rattle.lemma_core.specs.Sieves.{word_in, mark_of, IsSieve}
 use Rattle.lemma_core.specs.declared.index.Link.{Link}
-
--- the tag of a set: 32 bits of a hash of its words. Sets that differ may have one tag.
-unfoldable pub tag_of : List Bool → ℕ
-tag_of set = folding.finish (fold folding.write folding.initial (fed.slice fed.u64 (words_of set))) % 4294967296
 
 -- the tags of the entries' sets
 abbrev pub tags_of : List Entry → List ℕ
@@ -44,21 +38,9 @@ pub record IsChained (bucket : ℕ → ℕ) (ts hs bs : List ℕ) : Type 0 where
   pub heads : (b : ℕ) → b < length hs → IsLast bucket ts b (length ts) (place (slice_index hs b))
   pub links : (n t : ℕ) → slice_get ts n ≡ Some t → IsLast bucket ts (bucket t) n (place (slice_index bs n))
 
--- the mark of each tag is in its word
-abbrev pub IsSieve : (ℕ → ℕ) → (ℕ → ℕ) → List ℕ → List ℕ → Type 0
-IsSieve word mark ts words = (k t : ℕ) → slice_get ts k ≡ Some t
-    → bit_and (slice_index words (word t)) (mark t) ≡ mark t
-
 -- the bucket, out of so many, into which a tag falls
 abbrev pub bucket_in : ℕ → ℕ → ℕ
 bucket_in count t = bit_and t (count - 1)
-
--- the word of a sieve of so many, and the mark in it, for a tag
-abbrev pub word_in : ℕ → ℕ → ℕ
-word_in count t = bit_and (t / 64) (count - 1)
-
-abbrev pub mark_of : ℕ → ℕ
-mark_of t = 2 ^ (t % 64)
 
 -- the tags and the links of what an index keeps of each entry
 abbrev pub tags : List Link → List ℕ

@@ -1,6 +1,6 @@
 use Rattle.std.proofs.Common.{◌≡◌, ℕ, subst}
 use Rattle.std.specs.Prelude.{slice_index, slice_set, bit_or, length}
-use Rattle.lemma_core.specs.inner.Chains.{word_in, mark_of}
+use Rattle.lemma_core.specs.Sieves.{word_in, mark_of}
 use Rattle.book_share.proofs.MarkFacts.{one_more}
 use Rattle.book_share.proofs.marks.marked.Goals as goal
 

@@ -1,5 +1,6 @@
 use Rattle.std.proofs.Common.{◌≡◌, ◌<◌, length, take}
-use Rattle.lemma_core.specs.inner.Chains.{tags, links, IsChained, IsSieve, bucket_in, word_in, mark_of}
+use Rattle.lemma_core.specs.Sieves.{IsSieve, word_in, mark_of}
+use Rattle.lemma_core.specs.inner.Chains.{tags, links, IsChained, bucket_in}
 use Rattle.lemma_core.proofs.index.hang_all.Given as goal
 
 abbrev pub invariant-loop-k : goal.invariant-loop-k

@@ -1,7 +1,8 @@
 use Rattle.std.proofs.Common.{◌≡◌, ℕ, ◌<◌, Bool, List, length, sym, ap, ◌∙◌, subst, arith, bit_and}
 use Rattle.std.specs.Prelude.{slice_index}
 use Rattle.std.proofs.lemmas.Bool.Decides.{nat_tests}
-use Rattle.lemma_core.specs.inner.Chains.{tag_of, word_in, mark_of}
+use Rattle.task_set.specs.Tags.{tag_of}
+use Rattle.lemma_core.specs.Sieves.{word_in, mark_of}
 use Rattle.lemma_core.proofs.ChainFacts.{read_at}
 use Rattle.book_share.specs.declared.marks.Marks.{Marks}
 use Rattle.book_share.specs.inner.Marking.{AreMarksOf, AreMarked}

@@ -2,7 +2,8 @@ use Rattle.std.proofs.Common.{◌≡◌, ℕ, ◌+◌, ◌<◌, List, [], ◌∷
 use Rattle.std.proofs.lemmas.List.{take_at}
 use Rattle.std.specs.Prelude.{slice_index, slice_set, bit_or}
 use Rattle.lemma_core.specs.declared.index.Link.{Link}
-use Rattle.lemma_core.specs.inner.Chains.{bucket_in, word_in, mark_of, IsIndex}
+use Rattle.lemma_core.specs.Sieves.{word_in, mark_of}
+use Rattle.lemma_core.specs.inner.Chains.{bucket_in, IsIndex}
 use Rattle.lemma_core.proofs.ChainFacts.{index_push}
 use Rattle.lemma_core.proofs.index.Index.add.Goals as goal
 
