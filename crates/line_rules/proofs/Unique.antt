@@ -64,8 +64,7 @@ heads : (line : Line) (P : Load → Type 0) (x y : Load) (xs ys : List Load) →
 heads line P x y xs ys f g = elim (place_of line P x xs f y (f.complete y (g.sound 0 y refl)).0
     (f.complete y (g.sound 0 y refl)).1) [
       | inl e ↦ e
-      | inr up ↦ elim (place_of line P y ys g x (g.complete x (f.sound 0 x refl)).0 (g.complete x (f.sound 0 x refl)).1)
-          [
+      | inr up ↦ elim (place_of line P y ys g x (g.complete x (f.sound 0 x refl)).0 (g.complete x (f.sound 0 x refl)).1) [
         | inl e ↦ sym e
         | inr down ↦ absurd (precedes_itself line x (precedes_trans line x y x up down))
       ]

@@ -27,8 +27,7 @@ returns-then-cite-k c = λ kind steps. (
 pub returns-then-is_swapped : goal.returns-then-is_swapped
 returns-then-is_swapped c = λ kind steps.
     let P : Why → Type 0 = λ z. UnitsBy c.args.inst.now c.args.entry.now z 0 in
-    let Q : Why → Type 0 = λ z. FollowsBy kind c.args.inst.now (take c.args.k c.args.entries.now) c.args.entry.now z in
-        (
+    let Q : Why → Type 0 = λ z. FollowsBy kind c.args.inst.now (take c.args.k c.args.entries.now) c.args.entry.now z in (
       record {
         set = c.requires.set;
         cycle = c.requires.cycle.some;
