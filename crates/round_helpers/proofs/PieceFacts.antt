@@ -30,7 +30,7 @@ use Rattle.steal_pool.proofs.Each.{length_each, each_push, each_there}
 use Rattle.steal_pool.proofs.Ports.{get_push}
 use Rattle.line_rules.specs.Balance.{all_tasks}
 use Rattle.round_helpers.specs.Jobs.{AreJobs, job_of, max_jobs}
-use Rattle.round_helpers.specs.inner.Pieces.{IsPart, Splits, Puts, KeepsOwn, IsDone, AreDone, piece_of, pieces_of}
+use Rattle.round_helpers.specs.inner.Pieces.{Puts, KeepsOwn, IsDone, AreDone, piece_of, pieces_of}
 use Rattle.round_helpers.specs.declared.job_list.Job.{Job}
 use Rattle.round_helpers.proofs.WorkFacts.{answered_on}
 
@@ -149,9 +149,10 @@ pub few_jobs : (kind : LineKind) (line : Line) (c most : ℕ) (jobs : List Job) 
 unfolding max_jobs
 few_jobs kind line c most jobs are = omega (
   arith,
-  ap (λ (z : List Job). length z) are.first,
-  length-map (take max_jobs are.left) (job_of (all_tasks line)),
-  length-take 4096 are.left,
+  ap (λ (z : List Job). length z) are.each,
+  length-map are.firsts (job_of (all_tasks line)),
+  ap (λ (z : List Load). length z) are.are.first,
+  length-take 4096 are.are.left,
 )
 
 pub pieces_all : (most k : ℕ) (jobs : List Job) (pieces : List Piece) → pieces ≡ pieces_of most (take k jobs)
@@ -227,12 +228,8 @@ none_left : (lefts : List (List Piece)) (k : ℕ) (xs : List Piece) → sum_by (
     → slice_get lefts k ≡ Some xs → xs ≡ []
 none_left [] k xs e at = absurd (cc)
 none_left (l ∷ ls) zero xs e at =
-    nil_from_length xs (omega (
-      arith,
-      ap (λ (z : List Piece). length z) (same_Some l xs at),
-      e,
-      sum_by-cons (λ (z : List Piece). length z) l ls,
-    ))
+    nil_from_length xs (omega (arith, ap (λ (z : List Piece). length z) (same_Some l xs at), e,
+        sum_by-cons (λ (z : List Piece). length z) l ls))
 none_left (l ∷ ls) (suc k) xs e at =
     none_left ls k xs (omega (arith, e, sum_by-cons (λ (z : List Piece). length z) l ls)) at
 
@@ -283,7 +280,7 @@ module _ (pool : List DequeId) (most : ℕ) (jobs : List Job) (before after : Li
       let left = get_there closed.lefts m (omega (arith, below, count, many, closed.count)) in
       let o = own m v.0 w.0 v.1 w.1 in
       let here : slice_get (pieces_of most jobs) k ≡ Some (piece_of most k j) =
-      piece_at most 0 k k jobs j (omega arith) at in
+          piece_at most 0 k k jobs j (omega arith) at in
       let test : nat_eq (k % length pool) m ≡ true = grind (arith, nat_tests) in
       let dealt : own_of v.0 ≡ dealt_to (length pool) m (pieces_of most jobs) =
       dealt_own pool (pieces_of most jobs) m v.0 (subst (λ (z : List HandView). slice_get z m ≡ Some v.0) new v.1) in
@@ -312,65 +309,3 @@ module _ (pool : List DequeId) (most : ℕ) (jobs : List Job) (before after : Li
       let t = took_there a.1.ports m b.0 b.1 b.2 in
       let q = weighs k b.1 b.3 in
       (a.0, a.1, m, b.0, t.0, b.1, a.2, t.1, t.2, q.0, q.1)
-
--- A hand that put so many parts of a set, and took none.
-pub record IsSplit (kind : LineKind) (line : Line) (c : ℕ) (R : List Bool) (depth most count : ℕ)
-    (old new : HandView) : Type 0 where
-  pub more : List Piece
-  pub own : own_of new ≡ own_of old ++ more
-  pub took : tooks new ≡ tooks old
-  pub many : length more ≡ count
-  pub parts : (k : ℕ) (x : Piece) → slice_get more k ≡ Some x → IsPart kind line c R depth most x
-
-pub splits_of : {kind : LineKind} {line : Line} {c : ℕ} {R : List Bool} {depth most count : ℕ} {old new : HandView}
-    → IsSplit kind line c R depth most count old new → count ≤ 8 → Splits kind line c R depth most old new
-splits_of s few = record {
-  more = s.more;
-  own = s.own;
-  took = s.took;
-  few = omega (arith, s.many, few);
-  parts = s.parts;
-}
-
-pub split_none : (kind : LineKind) (line : Line) (c : ℕ) (R : List Bool) (depth most : ℕ) (v : HandView)
-    → IsSplit kind line c R depth most 0 v v
-split_none kind line c R depth most v = record {
-  more = [];
-  own = sym (append-nil (own_of v));
-  took = refl;
-  many = refl;
-  parts = λ k x e. absurd (cc);
-}
-
--- one part more was put
-pub split_one : (kind : LineKind) (line : Line) (c : ℕ) (R : List Bool) (depth most count n : ℕ) (a v w : HandView)
-    (x : Piece) → IsSplit kind line c R depth most count a v → n ≡ count + 1 → IsPart kind line c R depth most x
-    → w ≡ record v { home = put_home v.home x } → IsSplit kind line c R depth most n a w
-split_one kind line c R depth most count n a v w x s is part e =
-    let P : HandView → Type 0 = λ z. IsSplit kind line c R depth most n a z in
-    subst P (sym e) (record {
-      more = s.more ++ x ∷ [];
-      own = ap (λ (z : List Piece). z ++ x ∷ []) s.own ∙ append_assoc (own_of a) s.more (x ∷ []);
-      took = s.took;
-      many = omega (arith, s.many, is, length-append s.more (x ∷ []));
-      parts = λ k y at. elim (get_push s.more x y k at) [
-        | inl before ↦ s.parts k y before
-        | inr last ↦ subst (λ (z : Piece). IsPart kind line c R depth most z) last.1 part
-      ];
-    })
-
--- a load that is open leaves a part
-pub part_of : (kind : LineKind) (line : Line) (c : ℕ) (R r : List Bool) (depth most number : ℕ) (m : Mode) (l : Load)
-    → depth < 2 → 2 ≤ most → m ≡ mode_of kind line R → (r ≡ rest R l) × IsOpen kind line c m R most l
-    → IsPart kind line c R depth most (record { number = number; depth = depth + 1; most = most - 1; set = r })
-part_of kind line c R r depth most number m l shallow some same o =
-    let P : Mode → Type 0 = λ z. IsOpen kind line c z R most l in
-    record {
-      shallow = shallow;
-      some = some;
-      deeper = omega arith;
-      less = refl;
-      load = l;
-      opens = subst P same o.1;
-      set = o.0;
-    }
