@@ -200,8 +200,8 @@ pub record IsJobListing (kind : LineKind) (line : Line) (c : ℕ) (R : List Bool
   pub listing : IsListing kind line c R 4096 most k walk firsts
   pub each : jobs ≡ map (job_of R) firsts
 
-module _ (kind : LineKind) (line : Line) (ok : IsLine line) (ranked : IsRanked line) (c : ℕ) (R : List Bool)
-    (of_tasks : IsTaskSet line R) (most : ℕ) where
+module _ {kind : LineKind} {line : Line} (ok : IsLine line) (ranked : IsRanked line) {c : ℕ} {R : List Bool}
+    (of_tasks : IsTaskSet line R) {most : ℕ} where
   abbrev pub mode : Mode
   mode = mode_of kind line R
 
@@ -259,7 +259,7 @@ module _ (kind : LineKind) (line : Line) (ok : IsLine line) (ranked : IsRanked l
         few = omega arith;
       }
 
-  module _ (m k : ℕ) (walk new : Walking) (firsts : List Load)
+  module _ {m k : ℕ} {walk new : Walking} {firsts : List Load}
       (h : IsListing kind line c R m most k walk firsts) where
     following : (l : Load) → IsFollowing line walk.cycle walk.mode walk.set walk.last l
         → IsFollowing line c mode R walk.last l
@@ -314,17 +314,18 @@ module _ (kind : LineKind) (line : Line) (ok : IsLine line) (ranked : IsRanked l
               last
           (firsts ++ l ∷ []) refl (omega (arith, few, length-append firsts (l ∷ [])))
 
-    -- no load is left
-    pub over : ((l : Load) → IsLoad line walk.cycle walk.mode walk.set l → After line walk.last l → ⊥) → h.ahead ≡ []
-    over none =
-        let P : ℕ → Type 0 = λ z. (l : Load) → IsLoad line z walk.mode walk.set l → After line walk.last l → ⊥ in
-        let Q : Mode → Type 0 = λ z. (l : Load) → IsLoad line c z walk.set l → After line walk.last l → ⊥ in
-        let S : List Bool → Type 0 = λ z. (l : Load) → IsLoad line c mode z l → After line walk.last l → ⊥ in
-        none_ahead line c mode R walk.last h.ahead h.further
-        (subst S h.same_set (subst Q h.same_mode (subst P h.same_cycle none)))
+  -- no load is left
+  pub over : {m k : ℕ} {walk : Walking} {firsts : List Load} (h : IsListing kind line c R m most k walk firsts)
+      → ((l : Load) → IsLoad line walk.cycle walk.mode walk.set l → After line walk.last l → ⊥) → h.ahead ≡ []
+  over {walk = walk} h none =
+      let P : ℕ → Type 0 = λ z. (l : Load) → IsLoad line z walk.mode walk.set l → After line walk.last l → ⊥ in
+      let Q : Mode → Type 0 = λ z. (l : Load) → IsLoad line c z walk.set l → After line walk.last l → ⊥ in
+      let S : List Bool → Type 0 = λ z. (l : Load) → IsLoad line c mode z l → After line walk.last l → ⊥ in
+      none_ahead line c mode R walk.last h.ahead h.further
+      (subst S h.same_set (subst Q h.same_mode (subst P h.same_cycle none)))
 
-  module _ (n m k : ℕ) (walk : Walking) (firsts : List Load) (h : IsListing kind line c R m most k walk firsts)
-      (within : k ≤ n) where
+  module _ (n : ℕ) {m k : ℕ} {walk : Walking} {firsts : List Load}
+      (h : IsListing kind line c R m most k walk firsts) (within : k ≤ n) where
     -- the first m of those that are open among the first n loads
     abbrev firsts_all : List Load
     firsts_all = take m (pick wanted (take n (h.done ++ h.ahead)))
@@ -383,26 +384,26 @@ module _ (kind : LineKind) (line : Line) (ok : IsLine line) (ranked : IsRanked l
         ∙ sym h.found) are_first
 
   -- a job more
-  pub job_joins : (k : ℕ) (walk new : Walking) (jobs more : List Job)
+  pub job_joins : {k : ℕ} {walk new : Walking} {jobs : List Job} (more : List Job)
       (h : IsJobListing kind line c R most k walk jobs) (l : Load) (r : List Bool)
       → IsFollowing line walk.cycle walk.mode walk.set walk.last l → IsWalk line new → new.cycle ≡ walk.cycle
       → new.mode ≡ walk.mode → new.set ≡ walk.set → new.last ≡ Some l
       → (r ≡ rest R l) × IsOpen kind line c new.mode R most l → more ≡ jobs ++ record { set = r; load = l } ∷ []
       → length jobs < 4096 → IsJobListing kind line c R most (k + 1) new more
-  job_joins k walk new jobs more h l r next w cycle of_mode set last o e few = record {
+  job_joins {jobs = jobs} more h l r next w cycle of_mode set last o e few = record {
     firsts = h.firsts ++ l ∷ [];
-    listing = joins 4096 k walk new h.firsts h.listing l next w cycle of_mode set last o.1
+    listing = joins h.listing l next w cycle of_mode set last o.1
         (omega (arith, few, ap (λ (z : List Job). length z) h.each, length-map h.firsts (job_of R)));
     each = e ∙ (ap (λ (z : List Bool). jobs ++ record { set = z; load = l } ∷ []) o.0
         ∙ (ap (λ (z : List Job). z ++ job_of R l ∷ []) h.each ∙ sym (map_push (job_of R) h.firsts l)));
   }
 
   -- the jobs, where so many loads were gone over, or all, or so many jobs were found
-  pub all_jobs : (k : ℕ) (walk : Walking) (jobs : List Job) (h : IsJobListing kind line c R most k walk jobs)
+  pub all_jobs : {k : ℕ} {walk : Walking} {jobs : List Job} (h : IsJobListing kind line c R most k walk jobs)
       → R ≡ all_tasks line → k ≤ 65536 → ((k ≡ 65536) ⊎ (h.listing.ahead ≡ [])) ⊎ (length jobs ≡ 4096)
       → AreJobs kind line c most jobs
   unfolding max_loads max_jobs
-  all_jobs k walk jobs h all l ends =
+  all_jobs {k = k} {jobs = jobs} h all l ends =
       let long : length jobs ≡ length h.firsts =
       ap (λ (z : List Job). length z) h.each ∙ length-map h.firsts (job_of R) in
       let these : ((k ≡ 65536) ⊎ (h.listing.ahead ≡ [])) ⊎ (length h.firsts ≡ 4096) =
@@ -410,6 +411,6 @@ module _ (kind : LineKind) (line : Line) (ok : IsLine line) (ranked : IsRanked l
       let P : List Bool → Type 0 = λ z. AreFirst kind line c z 65536 4096 most h.firsts in
       record {
         firsts = h.firsts;
-        are = subst P all (all_firsts 65536 4096 k walk h.firsts h.listing l these);
+        are = subst P all (all_firsts 65536 h.listing l these);
         each = h.each ∙ ap (λ (z : List Bool). map (job_of z) h.firsts) all;
       }

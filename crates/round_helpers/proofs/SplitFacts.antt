@@ -51,10 +51,23 @@ split_none kind line c R depth most walk v h = record {
   next = omega arith;
 }
 
-module _ (kind : LineKind) (line : Line) (ok : IsLine line) (ranked : IsRanked line) (c : ℕ) (R : List Bool)
-    (of_tasks : IsTaskSet line R) (depth most k : ℕ) where
+-- a load was passed over
+pub split_same : {kind : LineKind} {line : Line} {c : ℕ} {R : List Bool} {depth most k : ℕ} {walk new : Walking}
+    {count : ℕ} {a v : HandView} (h : IsSplit kind line c R depth most k walk count a v)
+    → IsListing kind line c R 8 most (k + 1) new h.firsts → IsSplit kind line c R depth most (k + 1) new count a v
+split_same h listing = record {
+  firsts = h.firsts;
+  listing = listing;
+  many = h.many;
+  own = h.own;
+  took = h.took;
+  next = h.next;
+}
+
+module _ {kind : LineKind} {line : Line} (ok : IsLine line) (ranked : IsRanked line) {c : ℕ} {R : List Bool}
+    (of_tasks : IsTaskSet line R) {depth most k : ℕ} where
   -- one piece more was put
-  pub split_one : (walk new : Walking) (count : ℕ) (a v w : HandView) (pool : List DequeId)
+  pub split_one : {walk new : Walking} {count : ℕ} {a v : HandView} (w : HandView) {pool : List DequeId}
       (h : IsSplit kind line c R depth most k walk count a v) (l : Load) (r : List Bool) (number : ℕ)
       → IsFollowing line walk.cycle walk.mode walk.set walk.last l → IsWalk line new → new.cycle ≡ walk.cycle
       → new.mode ≡ walk.mode → new.set ≡ walk.set → new.last ≡ Some l
@@ -62,7 +75,7 @@ module _ (kind : LineKind) (line : Line) (ok : IsLine line) (ranked : IsRanked l
       → w ≡ record v { home = put_home v.home (record { number = number; depth = depth + 1; most = most - 1;
           set = r }) }
       → IsSplit kind line c R depth most (k + 1) new (count + 1) a w
-  split_one walk new count a v w pool h l r number next is_walk cycle of_mode set last o few hand is e =
+  split_one {new = new} {count = count} {a = a} {v = v} w h l r number next is_walk cycle of_mode set last o few hand is e =
       let P : HandView → Type 0 = λ z. IsSplit kind line c R depth most (k + 1) new (count + 1) a z in
       let x : Piece = record { number = number; depth = depth + 1; most = most - 1; set = r } in
       let f : ℕ → Load → Piece = part_of R depth most in
@@ -72,7 +85,7 @@ module _ (kind : LineKind) (line : Line) (ok : IsLine line) (ranked : IsRanked l
       let put : List Piece = each_from f n h.firsts in
       subst P (sym e) (record {
         firsts = h.firsts ++ l ∷ [];
-        listing = joins kind line ok ranked c R of_tasks most 8 k walk new h.firsts h.listing l next is_walk cycle
+        listing = joins ok ranked of_tasks h.listing l next is_walk cycle
             of_mode set last o.1 (omega (arith, few, h.many));
         many = omega (arith, h.many, length-append h.firsts (l ∷ []));
         own = ap (λ (z : List Piece). z ++ x ∷ []) h.own
@@ -89,7 +102,7 @@ module _ (kind : LineKind) (line : Line) (ok : IsLine line) (ranked : IsRanked l
         );
       })
 
-  module _ (walk : Walking) (count : ℕ) (a v : HandView) (h : IsSplit kind line c R depth most k walk count a v)
+  module _ {walk : Walking} {count : ℕ} {a v : HandView} (h : IsSplit kind line c R depth most k walk count a v)
       (shallow : depth < 2) (some : 2 ≤ most) (within : k ≤ 1024) where
     -- the pieces so far are those of the first ones of all loads to be put, and of all where the answer is so
     splits_as : (answer : Bool) (all : List Load) → AreFirst kind line c R max_listed max_put most all
@@ -127,7 +140,7 @@ module _ (kind : LineKind) (line : Line) (ok : IsLine line) (ranked : IsRanked l
     splits_some answer stopped =
         let s : (all : List Load) × AreFirst kind line c R 1024 8 most all
         × ((more : List Load) × (all ≡ h.firsts ++ more)) =
-        some_firsts kind line ok ranked c R of_tasks most 1024 8 k walk h.firsts h.listing within in
+        some_firsts ok ranked of_tasks 1024 h.listing within in
         splits_as answer s.0 s.1 s.2.0 s.2.1 (λ yes room. absurd (stopped yes room))
 
     -- so many loads were gone over, or all, or so many pieces were put
@@ -138,5 +151,5 @@ module _ (kind : LineKind) (line : Line) (ok : IsLine line) (ranked : IsRanked l
         let these : ((k ≡ 1024) ⊎ (h.listing.ahead ≡ [])) ⊎ (length h.firsts ≡ 8) =
         elim ends [ inl x ↦ inl x | inr e ↦ inr (omega (arith, e, h.many)) ] in
         splits_as answer h.firsts
-        (all_firsts kind line ok ranked c R of_tasks most 1024 8 k walk h.firsts h.listing within these)
+        (all_firsts ok ranked of_tasks 1024 h.listing within these)
         [] (sym (append-nil h.firsts)) (λ yes room. refl)
