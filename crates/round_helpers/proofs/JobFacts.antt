@@ -200,54 +200,60 @@ pub record IsJobListing (kind : LineKind) (line : Line) (c : ℕ) (R : List Bool
   pub listing : IsListing kind line c R 4096 most k walk firsts
   pub each : jobs ≡ map (job_of R) firsts
 
+-- the test of a load: it is full, and the bound leaves its rest open
+abbrev pub wanted : LineKind → Line → ℕ → List Bool → ℕ → Load → Bool
+wanted kind line c R most l = is_open kind line c (mode_of kind line R) R most l
+
 module _ {kind : LineKind} {line : Line} (ok : IsLine line) (ranked : IsRanked line) {c : ℕ} {R : List Bool}
     (of_tasks : IsTaskSet line R) {most : ℕ} where
-  abbrev pub mode : Mode
-  mode = mode_of kind line R
-
-  abbrev pub wanted : Load → Bool
-  wanted l = is_open kind line c mode R most l
-
   -- the test of a load
-  open_so : (l : Load) → IsOpen kind line c mode R most l → wanted l ≡ true
+  open_so : (l : Load) → IsOpen kind line c (mode_of kind line R) R most l → wanted kind line c R most l ≡ true
   open_so l o =
-      and_from (is_load line c mode R l) (is_full line c mode R l && nat_lt (bound kind line c (rest R l)) most)
-      (load_so line ok.small ranked c R of_tasks mode l o.load)
-      (and_from (is_full line c mode R l) (nat_lt (bound kind line c (rest R l)) most)
-      (full_so line ok.small ranked c R of_tasks mode l (record { front = o.load.front; back = o.load.back }) o.full)
+      and_from (is_load line c (mode_of kind line R) R l) (is_full line c (mode_of kind line R) R l
+          && nat_lt (bound kind line c (rest R l)) most)
+      (load_so line ok.small ranked c R of_tasks (mode_of kind line R) l o.load)
+      (and_from (is_full line c (mode_of kind line R) R l) (nat_lt (bound kind line c (rest R l)) most)
+      (full_so line ok.small ranked c R of_tasks (mode_of kind line R) l
+          (record { front = o.load.front; back = o.load.back }) o.full)
       (lt-ltb (bound kind line c (rest R l)) most o.bound))
 
-  open_is : (l : Load) → IsLoad line c mode R l → wanted l ≡ true → IsOpen kind line c mode R most l
+  open_is : (l : Load) → IsLoad line c (mode_of kind line R) R l → wanted kind line c R most l ≡ true
+      → IsOpen kind line c (mode_of kind line R) R most l
   open_is l g t =
-      let q : (is_full line c mode R l && nat_lt (bound kind line c (rest R l)) most) ≡ true =
-      (and_parts (is_load line c mode R l)
-      (is_full line c mode R l && nat_lt (bound kind line c (rest R l)) most) t).1 in
-      let r : (is_full line c mode R l ≡ true) × (nat_lt (bound kind line c (rest R l)) most ≡ true) =
-      and_parts (is_full line c mode R l) (nat_lt (bound kind line c (rest R l)) most) q in
+      let q : (is_full line c (mode_of kind line R) R l && nat_lt (bound kind line c (rest R l)) most) ≡ true =
+      (and_parts (is_load line c (mode_of kind line R) R l)
+      (is_full line c (mode_of kind line R) R l && nat_lt (bound kind line c (rest R l)) most) t).1 in
+      let r : (is_full line c (mode_of kind line R) R l ≡ true) × (nat_lt (bound kind line c (rest R l)) most ≡ true) =
+      and_parts (is_full line c (mode_of kind line R) R l) (nat_lt (bound kind line c (rest R l)) most) q in
       record {
         load = g;
-        full = full_is line ok.small ranked c R of_tasks mode l r.0;
+        full = full_is line ok.small ranked c R of_tasks (mode_of kind line R) l r.0;
         bound = ltb-true (bound kind line c (rest R l)) most r.1;
       }
 
-  shut_so : (l : Load) → IsLoad line c mode R l → (IsOpen kind line c mode R most l → ⊥) → wanted l ≡ false
-  shut_so l g shut = elim (cases_Bool (wanted l)) [ inl t ↦ absurd (shut (open_is l g t)) | inr f ↦ f ]
+  shut_so : (l : Load) → IsLoad line c (mode_of kind line R) R l
+      → (IsOpen kind line c (mode_of kind line R) R most l → ⊥) → wanted kind line c R most l ≡ false
+  shut_so l g shut = elim (cases_Bool (wanted kind line c R most l))
+      [ inl t ↦ absurd (shut (open_is l g t)) | inr f ↦ f ]
 
   -- a walk that has given no load
-  pub starts : (m : ℕ) (walk : Walking) → IsWalk line walk → walk.cycle ≡ c → walk.mode ≡ mode → walk.set ≡ R
+  pub starts : (m : ℕ) (walk : Walking) → IsWalk line walk → walk.cycle ≡ c → walk.mode ≡ mode_of kind line R
+      → walk.set ≡ R
       → walk.last ≡ None → IsListing kind line c R m most 0 walk []
   starts m walk w cycle of_mode set last =
       let P : Option Load → Type 0 =
-      λ z. Lists line (Further line c mode R z) (loads_of line ok.small ranked c R of_tasks mode) in
-      let h : Lists line (IsLoad line c mode R) (loads_of line ok.small ranked c R of_tasks mode) =
-      loads_listed line ok.small ranked c R of_tasks mode in
+      λ z. Lists line (Further line c (mode_of kind line R) R z)
+          (loads_of line ok.small ranked c R of_tasks (mode_of kind line R)) in
+      let h : Lists line (IsLoad line c (mode_of kind line R) R)
+          (loads_of line ok.small ranked c R of_tasks (mode_of kind line R)) =
+      loads_listed line ok.small ranked c R of_tasks (mode_of kind line R) in
       record {
         is_walk = w;
         same_cycle = cycle;
         same_mode = of_mode;
         same_set = set;
         done = [];
-        ahead = loads_of line ok.small ranked c R of_tasks mode;
+        ahead = loads_of line ok.small ranked c R of_tasks (mode_of kind line R);
         listed = h;
         further = subst P (sym last) (record {
           rises = h.rises;
@@ -259,101 +265,105 @@ module _ {kind : LineKind} {line : Line} (ok : IsLine line) (ranked : IsRanked l
         few = omega arith;
       }
 
-  module _ {m k : ℕ} {walk new : Walking} {firsts : List Load}
+  module _ {m k : ℕ} {walk : Walking} {firsts : List Load}
       (h : IsListing kind line c R m most k walk firsts) where
     following : (l : Load) → IsFollowing line walk.cycle walk.mode walk.set walk.last l
-        → IsFollowing line c mode R walk.last l
+        → IsFollowing line c (mode_of kind line R) R walk.last l
     following l next =
         let P : ℕ → Type 0 = λ z. IsFollowing line z walk.mode walk.set walk.last l in
         let Q : Mode → Type 0 = λ z. IsFollowing line c z walk.set walk.last l in
-        let S : List Bool → Type 0 = λ z. IsFollowing line c mode z walk.last l in
+        let S : List Bool → Type 0 = λ z. IsFollowing line c (mode_of kind line R) z walk.last l in
         subst S h.same_set (subst Q h.same_mode (subst P h.same_cycle next))
 
-    goes : (l : Load) (b : Bool) → wanted l ≡ b → IsFollowing line c mode R walk.last l → IsWalk line new
-        → new.cycle ≡ walk.cycle → new.mode ≡ walk.mode → new.set ≡ walk.set → new.last ≡ Some l → (more : List Load)
-        → more ≡ firsts ++ cond b (l ∷ []) [] → length more ≤ m → IsListing kind line c R m most (k + 1) new more
-    goes l b t next w cycle of_mode set last more e few =
-        let r : (rest : List Load) × ((h.ahead ≡ l ∷ rest) × Lists line (Further line c mode R (Some l)) rest) =
-        next_first line c mode R walk.last h.ahead l h.further next in
-        let s : h.done ++ h.ahead ≡ (h.done ++ l ∷ []) ++ r.0 =
-        ap (λ (z : List Load). h.done ++ z) r.1.0 ∙ sym (append_assoc h.done (l ∷ []) r.0) in
-        let P : List Load → Type 0 = λ z. Lists line (IsLoad line c mode R) z in
-        let Q : Option Load → Type 0 = λ z. Lists line (Further line c mode R z) r.0 in
-        record {
-          is_walk = w;
-          same_cycle = cycle ∙ h.same_cycle;
-          same_mode = of_mode ∙ h.same_mode;
-          same_set = set ∙ h.same_set;
-          done = h.done ++ l ∷ [];
-          ahead = r.0;
-          listed = subst P s h.listed;
-          further = subst Q (sym last) r.1.1;
-          many = omega (arith, h.many, length-append h.done (l ∷ []));
-          found = e ∙ (ap (λ (z : List Load). z ++ cond b (l ∷ []) []) h.found
-              ∙ (ap (λ (z : Bool). pick wanted h.done ++ cond z (l ∷ []) []) (sym t)
-              ∙ sym (pick_push wanted h.done l)));
-          few = few;
-        }
+    -- no load is left
+    pub over : ((l : Load) → IsLoad line walk.cycle walk.mode walk.set l → After line walk.last l → ⊥) → h.ahead ≡ []
+    over none =
+        let P : ℕ → Type 0 = λ z. (l : Load) → IsLoad line z walk.mode walk.set l → After line walk.last l → ⊥ in
+        let Q : Mode → Type 0 = λ z. (l : Load) → IsLoad line c z walk.set l → After line walk.last l → ⊥ in
+        let S : List Bool → Type 0 =
+        λ z. (l : Load) → IsLoad line c (mode_of kind line R) z l → After line walk.last l → ⊥ in
+        none_ahead line c (mode_of kind line R) R walk.last h.ahead h.further
+        (subst S h.same_set (subst Q h.same_mode (subst P h.same_cycle none)))
 
-    module _ (l : Load) (next : IsFollowing line walk.cycle walk.mode walk.set walk.last l) (w : IsWalk line new)
-        (cycle : new.cycle ≡ walk.cycle) (of_mode : new.mode ≡ walk.mode) (set : new.set ≡ walk.set)
-        (last : new.last ≡ Some l) where
-      -- a load that is not open
-      pub passes : (IsOpen kind line c new.mode R most l → ⊥) → IsListing kind line c R m most (k + 1) new firsts
-      passes shut =
-          let P : Mode → Type 0 = λ z. IsOpen kind line c z R most l → ⊥ in
-          goes l false (shut_so l (following l next).load (subst P (of_mode ∙ h.same_mode) shut)) (following l next) w
-          cycle of_mode set last firsts (sym (append-nil firsts)) h.few
+    module _ {new : Walking} where
+      goes : (l : Load) (b : Bool) → wanted kind line c R most l ≡ b
+          → IsFollowing line c (mode_of kind line R) R walk.last l → IsWalk line new
+          → new.cycle ≡ walk.cycle → new.mode ≡ walk.mode → new.set ≡ walk.set → new.last ≡ Some l → (more : List Load)
+          → more ≡ firsts ++ cond b (l ∷ []) [] → length more ≤ m → IsListing kind line c R m most (k + 1) new more
+      goes l b t next w cycle of_mode set last more e few =
+          let r : (rest : List Load) × ((h.ahead ≡ l ∷ rest)
+              × Lists line (Further line c (mode_of kind line R) R (Some l)) rest) =
+          next_first line c (mode_of kind line R) R walk.last h.ahead l h.further next in
+          let s : h.done ++ h.ahead ≡ (h.done ++ l ∷ []) ++ r.0 =
+          ap (λ (z : List Load). h.done ++ z) r.1.0 ∙ sym (append_assoc h.done (l ∷ []) r.0) in
+          let P : List Load → Type 0 = λ z. Lists line (IsLoad line c (mode_of kind line R) R) z in
+          let Q : Option Load → Type 0 = λ z. Lists line (Further line c (mode_of kind line R) R z) r.0 in
+          record {
+            is_walk = w;
+            same_cycle = cycle ∙ h.same_cycle;
+            same_mode = of_mode ∙ h.same_mode;
+            same_set = set ∙ h.same_set;
+            done = h.done ++ l ∷ [];
+            ahead = r.0;
+            listed = subst P s h.listed;
+            further = subst Q (sym last) r.1.1;
+            many = omega (arith, h.many, length-append h.done (l ∷ []));
+            found = e ∙ (ap (λ (z : List Load). z ++ cond b (l ∷ []) []) h.found
+                ∙ (ap (λ (z : Bool). pick (wanted kind line c R most) h.done ++ cond z (l ∷ []) []) (sym t)
+                ∙ sym (pick_push (wanted kind line c R most) h.done l)));
+            few = few;
+          }
 
-      -- a load that is
-      pub joins : IsOpen kind line c new.mode R most l → length firsts < m
-          → IsListing kind line c R m most (k + 1) new (firsts ++ l ∷ [])
-      joins open_here few =
-          let P : Mode → Type 0 = λ z. IsOpen kind line c z R most l in
-          goes l true (open_so l (subst P (of_mode ∙ h.same_mode) open_here)) (following l next) w cycle of_mode set
-              last
-          (firsts ++ l ∷ []) refl (omega (arith, few, length-append firsts (l ∷ [])))
+      module _ (l : Load) (next : IsFollowing line walk.cycle walk.mode walk.set walk.last l) (w : IsWalk line new)
+          (cycle : new.cycle ≡ walk.cycle) (of_mode : new.mode ≡ walk.mode) (set : new.set ≡ walk.set)
+          (last : new.last ≡ Some l) where
+        -- a load that is not open
+        pub passes : (IsOpen kind line c new.mode R most l → ⊥) → IsListing kind line c R m most (k + 1) new firsts
+        passes shut =
+            let P : Mode → Type 0 = λ z. IsOpen kind line c z R most l → ⊥ in
+            goes l false (shut_so l (following l next).load (subst P (of_mode ∙ h.same_mode) shut)) (following l next) w
+            cycle of_mode set last firsts (sym (append-nil firsts)) h.few
 
-  -- no load is left
-  pub over : {m k : ℕ} {walk : Walking} {firsts : List Load} (h : IsListing kind line c R m most k walk firsts)
-      → ((l : Load) → IsLoad line walk.cycle walk.mode walk.set l → After line walk.last l → ⊥) → h.ahead ≡ []
-  over {walk = walk} h none =
-      let P : ℕ → Type 0 = λ z. (l : Load) → IsLoad line z walk.mode walk.set l → After line walk.last l → ⊥ in
-      let Q : Mode → Type 0 = λ z. (l : Load) → IsLoad line c z walk.set l → After line walk.last l → ⊥ in
-      let S : List Bool → Type 0 = λ z. (l : Load) → IsLoad line c mode z l → After line walk.last l → ⊥ in
-      none_ahead line c mode R walk.last h.ahead h.further
-      (subst S h.same_set (subst Q h.same_mode (subst P h.same_cycle none)))
+        -- a load that is
+        pub joins : IsOpen kind line c new.mode R most l → length firsts < m
+            → IsListing kind line c R m most (k + 1) new (firsts ++ l ∷ [])
+        joins open_here few =
+            let P : Mode → Type 0 = λ z. IsOpen kind line c z R most l in
+            goes l true (open_so l (subst P (of_mode ∙ h.same_mode) open_here)) (following l next) w cycle of_mode set
+                last
+            (firsts ++ l ∷ []) refl (omega (arith, few, length-append firsts (l ∷ [])))
 
   module _ (n : ℕ) {m k : ℕ} {walk : Walking} {firsts : List Load}
       (h : IsListing kind line c R m most k walk firsts) (within : k ≤ n) where
     -- the first m of those that are open among the first n loads
     abbrev firsts_all : List Load
-    firsts_all = take m (pick wanted (take n (h.done ++ h.ahead)))
+    firsts_all = take m (pick (wanted kind line c R most) (take n (h.done ++ h.ahead)))
 
     are_first : AreFirst kind line c R n m most firsts_all
     are_first =
         let r : Rises line (take n (h.done ++ h.ahead)) =
         rises_take line n (h.done ++ h.ahead)
-        (rises_of line (h.done ++ h.ahead) (IsLoad line c mode R) h.listed) in
+        (rises_of line (h.done ++ h.ahead) (IsLoad line c (mode_of kind line R) R) h.listed) in
         record {
           loads = h.done ++ h.ahead;
           listed = h.listed;
-          left = pick wanted (take n (h.done ++ h.ahead));
+          left = pick (wanted kind line c R most) (take n (h.done ++ h.ahead));
           picked = lists_of line
-              (λ a. IsOpen kind line c mode R most a × Contains (take n (h.done ++ h.ahead)) a)
-              (pick wanted (take n (h.done ++ h.ahead))) (picked_rise line wanted (take n (h.done ++ h.ahead)) r)
+              (λ a. IsOpen kind line c (mode_of kind line R) R most a × Contains (take n (h.done ++ h.ahead)) a)
+              (pick (wanted kind line c R most) (take n (h.done ++ h.ahead)))
+                  (picked_rise line (wanted kind line c R most) (take n (h.done ++ h.ahead)) r)
               (λ a x.
-              let s : Amid a (take n (h.done ++ h.ahead)) × (wanted a ≡ true) =
-              picked wanted a (take n (h.done ++ h.ahead)) x in
+              let s : Amid a (take n (h.done ++ h.ahead)) × (wanted kind line c R most a ≡ true) =
+              picked (wanted kind line c R most) a (take n (h.done ++ h.ahead)) x in
               let t : (j : ℕ) × (slice_get (h.done ++ h.ahead) j ≡ Some a) =
               amid_some (h.done ++ h.ahead) a (amid_take n (h.done ++ h.ahead) a s.0) in
               (open_is a (h.listed.sound t.0 a t.1) s.1, contains_so (take n (h.done ++ h.ahead)) a s.0))
-              (λ a q. picks wanted a (take n (h.done ++ h.ahead))
+              (λ a q. picks (wanted kind line c R most) a (take n (h.done ++ h.ahead))
               (amid_from (take n (h.done ++ h.ahead)) a q.1.0 q.1.1 q.1.2) (open_so a q.0));
           first = refl;
         }
 
-    long : length firsts ≡ length (pick wanted h.done)
+    long : length firsts ≡ length (pick (wanted kind line c R most) h.done)
     long = ap (λ (z : List Load). length z) h.found
 
     -- those found so far are the first ones of these
@@ -361,12 +371,14 @@ module _ {kind : LineKind} {line : Line} (ok : IsLine line) (ranked : IsRanked l
         × ((more : List Load) × (all ≡ firsts ++ more))
     some_firsts =
         let more : List Load =
-        take (m - length (pick wanted h.done)) (pick wanted (take (n - length h.done) h.ahead)) in (
+        take (m - length (pick (wanted kind line c R most) h.done))
+            (pick (wanted kind line c R most) (take (n - length h.done) h.ahead)) in (
           firsts_all,
           are_first,
           (
             more,
-            first_some wanted n m h.done h.ahead (omega (arith, h.many, within)) (omega (arith, long, h.few))
+            first_some (wanted kind line c R most) n m h.done h.ahead (omega (arith, h.many, within))
+                (omega (arith, long, h.few))
                 ∙ ap (λ (z : List Load). z ++ more) (sym h.found),
           ),
         )
@@ -374,13 +386,14 @@ module _ {kind : LineKind} {line : Line} (ok : IsLine line) (ranked : IsRanked l
     -- and all of them, where n loads were gone over, or all, or m were found
     pub all_firsts : ((k ≡ n) ⊎ (h.ahead ≡ [])) ⊎ (length firsts ≡ m) → AreFirst kind line c R n m most firsts
     all_firsts ends =
-        let these : ((length h.done ≡ n) ⊎ (h.ahead ≡ [])) ⊎ (length (pick wanted h.done) ≡ m) =
+        let these : ((length h.done ≡ n) ⊎ (h.ahead ≡ [])) ⊎ (length (pick (wanted kind line c R most) h.done) ≡ m) =
         elim ends [
           | inl x ↦ inl (elim x [ inl e ↦ inl (omega (arith, e, h.many)) | inr e ↦ inr e ])
           | inr e ↦ inr (omega (arith, e, long))
         ] in
         let P : List Load → Type 0 = λ z. AreFirst kind line c R n m most z in
-        subst P (first_ones wanted n m h.done h.ahead (omega (arith, h.many, within)) (omega (arith, long, h.few)) these
+        subst P (first_ones (wanted kind line c R most) n m h.done h.ahead (omega (arith, h.many, within))
+            (omega (arith, long, h.few)) these
         ∙ sym h.found) are_first
 
   -- a job more

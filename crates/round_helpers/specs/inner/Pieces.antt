@@ -1,8 +1,10 @@
 -- The pieces of a question: those that are dealt, a piece for each job, and those that a helper puts; and how a
 -- helper's work on them ends. Own.
-use Rattle.std.specs.Prelude.{◌≡◌, ℕ, ◌+◌, ◌-◌, ◌<◌, ◌≤◌, ◌⊎◌, Bool, true, List, [], ◌++◌, length, take, slice_get}
+use Rattle.std.specs.Prelude.{◌≡◌, ℕ, ◌+◌, ◌-◌, ◌<◌, ◌≤◌, ◌⊎◌, min, Bool, true, List, [], ◌++◌, length, take, slice_get}
 use Rattle.std.specs.Prelude.{Some}
+use Rattle.task_set.specs.Truths.{meet}
 use Rattle.line_instance.specs.Line.{Line}
+use Rattle.line_rules.specs.Balance.{all_tasks}
 use Rattle.line_rules.specs.Entries.{HasAnswer}
 use Rattle.line_rules.specs.Loads.{rest}
 use Rattle.line_rules.specs.declared.types.LineKind.{LineKind}
@@ -63,6 +65,12 @@ pub record Splits (kind : LineKind) (line : Line) (c : ℕ) (R : List Bool) (dep
   pub took : tooks new ≡ tooks old
   pub none : (2 ≤ depth) ⊎ (most < 2) → (more ≡ []) × (answer ≡ true)
   pub parts : depth < 2 → 2 ≤ most → AreParts kind line c R depth most answer old new more
+
+-- The hand put what is to be put for a piece, for its tasks of the line and at most 1,023 stations: all of it, or as
+-- much as it had room for.
+abbrev pub HasSplit : LineKind → Line → ℕ → Piece → HandView → HandView → Type 0
+HasSplit kind line c x old new =
+    Splits kind line c (meet x.set (all_tasks line)) x.depth (min x.most 1023) true old new
 
 -- what was dealt to the hand and put by it stays
 abbrev pub KeepsOwn : HandView → HandView → Type 0

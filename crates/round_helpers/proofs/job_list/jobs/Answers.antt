@@ -10,7 +10,8 @@ pub listing-init : goal.listing-init
 listing-init c = record {
   listing = record {
     firsts = [];
-    listing = starts c.tasks-tasks.ensures.line c.tasks-tasks.ensures.ranked c.all-all.ensures.set 4096 c.begin-walk.result
+    listing = starts c.tasks-tasks.ensures.line c.tasks-tasks.ensures.ranked c.all-all.ensures.set 4096
+        c.begin-walk.result
         c.begin-walk.ensures.walk c.begin-walk.ensures.cycle
         (c.begin-walk.ensures.mode ∙ c.choose_mode.ensures.mode) c.begin-walk.ensures.set c.begin-walk.ensures.last;
     each = c.new-jobs.ensures.items;
@@ -20,12 +21,16 @@ listing-init c = record {
 
 pub returns-in_default : goal.returns-in_default
 returns-in_default c =
-    all_jobs c.tasks-tasks.ensures.line c.tasks-tasks.ensures.ranked c.all-all.ensures.set c.listing.invariant.listing c.all-all.ensures.value (omega arith)
-    (inl (inr (over c.tasks-tasks.ensures.line c.tasks-tasks.ensures.ranked c.all-all.ensures.set c.listing.invariant.listing.listing (c.in_default.ensures.none refl))))
+    all_jobs c.tasks-tasks.ensures.line c.tasks-tasks.ensures.ranked c.all-all.ensures.set c.listing.invariant.listing
+        c.all-all.ensures.value (omega arith)
+    (inl (inr (over c.tasks-tasks.ensures.line c.tasks-tasks.ensures.ranked c.all-all.ensures.set
+        c.listing.invariant.listing.listing (c.in_default.ensures.none refl))))
 
 pub returns-then-len-eq-MAX_JOBS : goal.returns-then-len-eq-MAX_JOBS
 returns-then-len-eq-MAX_JOBS c =
-    all_jobs c.tasks-tasks.ensures.line c.tasks-tasks.ensures.ranked c.all-all.ensures.set (job_joins c.tasks-tasks.ensures.line c.tasks-tasks.ensures.ranked c.all-all.ensures.set c.push.new.self.items c.listing.invariant.listing c.in-Some.load c.in-Some-rest_at.set
+    all_jobs c.tasks-tasks.ensures.line c.tasks-tasks.ensures.ranked c.all-all.ensures.set
+        (job_joins c.tasks-tasks.ensures.line c.tasks-tasks.ensures.ranked c.all-all.ensures.set c.push.new.self.items
+        c.listing.invariant.listing c.in-Some.load c.in-Some-rest_at.set
     c.in-Some.ensures.next c.in-Some.ensures.walk c.in-Some.ensures.cycle c.in-Some.ensures.mode c.in-Some.ensures.set
     c.in-Some.ensures.given c.in-Some-rest_at.ensures.some c.in_ok-push.ensures.items c.listing.invariant.few)
     c.all-all.ensures.value (omega arith) (inr (omega (arith, c.len.ensures, c.if-len-eq-MAX_JOBS.true)))
@@ -42,7 +47,8 @@ listing-preserved c =
           let one : List Job = record { set = w.in-Some-rest_at.set; load = c.in-Some.load } ∷ [] in
           let items : w.push.new.self.items ≡ c.listing.jobs.items ++ one = w.in_ok-push.ensures.items in
           record {
-            listing = subst P (sym same) (job_joins c.tasks-tasks.ensures.line c.tasks-tasks.ensures.ranked c.all-all.ensures.set w.push.new.self.items
+            listing = subst P (sym same) (job_joins c.tasks-tasks.ensures.line c.tasks-tasks.ensures.ranked
+                c.all-all.ensures.set w.push.new.self.items
                 c.listing.invariant.listing c.in-Some.load w.in-Some-rest_at.set c.in-Some.ensures.next
                 c.in-Some.ensures.walk c.in-Some.ensures.cycle c.in-Some.ensures.mode c.in-Some.ensures.set
                 c.in-Some.ensures.given w.in-Some-rest_at.ensures.some items c.listing.invariant.few);
@@ -63,7 +69,8 @@ listing-preserved c =
           record {
             listing = subst P (sym same) (record {
               firsts = before.firsts;
-              listing = passes c.tasks-tasks.ensures.line c.tasks-tasks.ensures.ranked c.all-all.ensures.set before.listing c.in-Some.load c.in-Some.ensures.next
+              listing = passes c.tasks-tasks.ensures.line c.tasks-tasks.ensures.ranked c.all-all.ensures.set
+                  before.listing c.in-Some.load c.in-Some.ensures.next
                   c.in-Some.ensures.walk c.in-Some.ensures.cycle c.in-Some.ensures.mode c.in-Some.ensures.set
                   c.in-Some.ensures.given (w.in_default-rest_at.ensures.none refl);
               each = before.each;
@@ -74,4 +81,5 @@ listing-preserved c =
 
 pub returns : goal.returns
 returns c =
-    all_jobs c.tasks-tasks.ensures.line c.tasks-tasks.ensures.ranked c.all-all.ensures.set c.listing.invariant.listing c.all-all.ensures.value (omega arith) (inl (inl (omega arith)))
+    all_jobs c.tasks-tasks.ensures.line c.tasks-tasks.ensures.ranked c.all-all.ensures.set c.listing.invariant.listing
+        c.all-all.ensures.value (omega arith) (inl (inl (omega arith)))
