@@ -210,11 +210,11 @@ module _ {kind : LineKind} {line : Line} (ok : IsLine line) (ranked : IsRanked l
   open_so : (l : Load) → IsOpen kind line c (mode_of kind line R) R most l → wanted kind line c R most l ≡ true
   open_so l o =
       and_from (is_load line c (mode_of kind line R) R l) (is_full line c (mode_of kind line R) R l
-          && nat_lt (bound kind line c (rest R l)) most)
+      && nat_lt (bound kind line c (rest R l)) most)
       (load_so line ok.small ranked c R of_tasks (mode_of kind line R) l o.load)
       (and_from (is_full line c (mode_of kind line R) R l) (nat_lt (bound kind line c (rest R l)) most)
       (full_so line ok.small ranked c R of_tasks (mode_of kind line R) l
-          (record { front = o.load.front; back = o.load.back }) o.full)
+      (record { front = o.load.front; back = o.load.back }) o.full)
       (lt-ltb (bound kind line c (rest R l)) most o.bound))
 
   open_is : (l : Load) → IsLoad line c (mode_of kind line R) R l → wanted kind line c R most l ≡ true
@@ -243,9 +243,9 @@ module _ {kind : LineKind} {line : Line} (ok : IsLine line) (ranked : IsRanked l
   starts m walk w cycle of_mode set last =
       let P : Option Load → Type 0 =
       λ z. Lists line (Further line c (mode_of kind line R) R z)
-          (loads_of line ok.small ranked c R of_tasks (mode_of kind line R)) in
+      (loads_of line ok.small ranked c R of_tasks (mode_of kind line R)) in
       let h : Lists line (IsLoad line c (mode_of kind line R) R)
-          (loads_of line ok.small ranked c R of_tasks (mode_of kind line R)) =
+      (loads_of line ok.small ranked c R of_tasks (mode_of kind line R)) =
       loads_listed line ok.small ranked c R of_tasks (mode_of kind line R) in
       record {
         is_walk = w;
@@ -292,7 +292,7 @@ module _ {kind : LineKind} {line : Line} (ok : IsLine line) (ranked : IsRanked l
           → more ≡ firsts ++ cond b (l ∷ []) [] → length more ≤ m → IsListing kind line c R m most (k + 1) new more
       goes l b t next w cycle of_mode set last more e few =
           let r : (rest : List Load) × ((h.ahead ≡ l ∷ rest)
-              × Lists line (Further line c (mode_of kind line R) R (Some l)) rest) =
+          × Lists line (Further line c (mode_of kind line R) R (Some l)) rest) =
           next_first line c (mode_of kind line R) R walk.last h.ahead l h.further next in
           let s : h.done ++ h.ahead ≡ (h.done ++ l ∷ []) ++ r.0 =
           ap (λ (z : List Load). h.done ++ z) r.1.0 ∙ sym (append_assoc h.done (l ∷ []) r.0) in
@@ -330,7 +330,7 @@ module _ {kind : LineKind} {line : Line} (ok : IsLine line) (ranked : IsRanked l
         joins open_here few =
             let P : Mode → Type 0 = λ z. IsOpen kind line c z R most l in
             goes l true (open_so l (subst P (of_mode ∙ h.same_mode) open_here)) (following l next) w cycle of_mode set
-                last
+            last
             (firsts ++ l ∷ []) refl (omega (arith, few, length-append firsts (l ∷ [])))
 
   module _ (n : ℕ) {m k : ℕ} {walk : Walking} {firsts : List Load}
@@ -351,7 +351,7 @@ module _ {kind : LineKind} {line : Line} (ok : IsLine line) (ranked : IsRanked l
           picked = lists_of line
               (λ a. IsOpen kind line c (mode_of kind line R) R most a × Contains (take n (h.done ++ h.ahead)) a)
               (pick (wanted kind line c R most) (take n (h.done ++ h.ahead)))
-                  (picked_rise line (wanted kind line c R most) (take n (h.done ++ h.ahead)) r)
+              (picked_rise line (wanted kind line c R most) (take n (h.done ++ h.ahead)) r)
               (λ a x.
               let s : Amid a (take n (h.done ++ h.ahead)) × (wanted kind line c R most a ≡ true) =
               picked (wanted kind line c R most) a (take n (h.done ++ h.ahead)) x in
@@ -372,7 +372,7 @@ module _ {kind : LineKind} {line : Line} (ok : IsLine line) (ranked : IsRanked l
     some_firsts =
         let more : List Load =
         take (m - length (pick (wanted kind line c R most) h.done))
-            (pick (wanted kind line c R most) (take (n - length h.done) h.ahead)) in (
+        (pick (wanted kind line c R most) (take (n - length h.done) h.ahead)) in (
           firsts_all,
           are_first,
           (
@@ -393,7 +393,7 @@ module _ {kind : LineKind} {line : Line} (ok : IsLine line) (ranked : IsRanked l
         ] in
         let P : List Load → Type 0 = λ z. AreFirst kind line c R n m most z in
         subst P (first_ones (wanted kind line c R most) n m h.done h.ahead (omega (arith, h.many, within))
-            (omega (arith, long, h.few)) these
+        (omega (arith, long, h.few)) these
         ∙ sym h.found) are_first
 
   -- a job more

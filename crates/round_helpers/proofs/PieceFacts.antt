@@ -1,7 +1,7 @@
 -- The pieces that hands took, and the jobs that are done once a pool is closed.
 use Rattle.std.proofs.Common.{◌≡◌, ℕ, zero, suc, ◌+◌, ◌-◌, ◌%◌, ◌<◌, ◌≤◌, ◌⊎◌, Bool, true, false, cond, List, [], ◌∷◌}
 use Rattle.std.proofs.Common.{◌++◌, length, map, take, get_or, refl, sym, ap, ◌∙◌, subst, inl, inr, arith, append_assoc}
-use Rattle.std.proofs.Common.{length-append, Some}
+use Rattle.std.proofs.Common.{Some}
 use Rattle.std.specs.Prelude.{slice_get, nat_eq, sum_by, filter}
 use Rattle.std.proofs.Math.Nat.{mod-lt}
 use Rattle.std.proofs.lemmas.Bool.{cases_Bool, cases_lt}
@@ -13,17 +13,13 @@ use Rattle.std.proofs.lemmas.Option.{same_Some}
 use Rattle.task_set.specs.Truths.{In, meet}
 use Rattle.task_set.proofs.Members.{In-meet_parts}
 use Rattle.line_instance.specs.Line.{Line, IsTaskSet}
-use Rattle.line_rules.specs.Entries.{IsOpen}
-use Rattle.line_rules.specs.Loads.{rest}
 use Rattle.line_rules.specs.declared.types.LineKind.{LineKind}
 use Rattle.line_rules.specs.declared.types.Load.{Load}
-use Rattle.line_rules.specs.declared.types.Mode.{Mode}
 use Rattle.lemma_core.specs.Desks.{DeskView, Keeps}
-use Rattle.station_search.specs.Mode.{mode_of}
 use Rattle.steal_pool.specs.declared.piece.Piece.{Piece}
 use Rattle.steal_pool.specs.declared.closing.Closed.{Closed}
 use Rattle.steal_pool.specs.Hands.{DequeId, PortView, HandView, own_of, tooks, AreNumbered, each_from, fresh_port}
-use Rattle.steal_pool.specs.Hands.{dealt_to, new_hand, new_hands, put_home}
+use Rattle.steal_pool.specs.Hands.{dealt_to, new_hand, new_hands}
 use Rattle.steal_pool.specs.Calls.{change, GetsOne, FindsNone}
 use Rattle.steal_pool.specs.Closing.{IsClosed, AreMarked, got_at, took_at}
 use Rattle.steal_pool.proofs.Each.{length_each, each_push, each_there}
@@ -228,8 +224,12 @@ none_left : (lefts : List (List Piece)) (k : ℕ) (xs : List Piece) → sum_by (
     → slice_get lefts k ≡ Some xs → xs ≡ []
 none_left [] k xs e at = absurd (cc)
 none_left (l ∷ ls) zero xs e at =
-    nil_from_length xs (omega (arith, ap (λ (z : List Piece). length z) (same_Some l xs at), e,
-        sum_by-cons (λ (z : List Piece). length z) l ls))
+    nil_from_length xs (omega (
+      arith,
+      ap (λ (z : List Piece). length z) (same_Some l xs at),
+      e,
+      sum_by-cons (λ (z : List Piece). length z) l ls,
+    ))
 none_left (l ∷ ls) (suc k) xs e at =
     none_left ls k xs (omega (arith, e, sum_by-cons (λ (z : List Piece). length z) l ls)) at
 
@@ -280,7 +280,7 @@ module _ (pool : List DequeId) (most : ℕ) (jobs : List Job) (before after : Li
       let left = get_there closed.lefts m (omega (arith, below, count, many, closed.count)) in
       let o = own m v.0 w.0 v.1 w.1 in
       let here : slice_get (pieces_of most jobs) k ≡ Some (piece_of most k j) =
-          piece_at most 0 k k jobs j (omega arith) at in
+      piece_at most 0 k k jobs j (omega arith) at in
       let test : nat_eq (k % length pool) m ≡ true = grind (arith, nat_tests) in
       let dealt : own_of v.0 ≡ dealt_to (length pool) m (pieces_of most jobs) =
       dealt_own pool (pieces_of most jobs) m v.0 (subst (λ (z : List HandView). slice_get z m ≡ Some v.0) new v.1) in

@@ -1,11 +1,9 @@
 -- The pieces that a hand puts for a set: those of the open loads found so far on a walk over the set's loads.
-use Rattle.std.proofs.Common.{◌≡◌, ℕ, ◌+◌, ◌-◌, ◌*◌, ◌^◌, ◌<◌, ◌≤◌, ◌⊎◌, Bool, true, List, [], ◌∷◌, ◌++◌, length, take}
-use Rattle.std.proofs.Common.{min, refl, sym, ap, ◌∙◌, subst, inl, inr, arith, append_assoc, length-append, Some}
+use Rattle.std.proofs.Common.{◌≡◌, ℕ, ◌+◌, ◌-◌, ◌<◌, ◌≤◌, ◌⊎◌, Bool, true, List, [], ◌∷◌, ◌++◌, length, take}
+use Rattle.std.proofs.Common.{refl, sym, ap, ◌∙◌, subst, inl, inr, arith, append_assoc, length-append, Some}
 use Rattle.std.proofs.lemmas.List.{append-nil}
 use Rattle.std.proofs.Math.Seq.{take-append_seam}
-use Rattle.task_set.specs.Truths.{meet}
 use Rattle.line_instance.specs.Line.{Line, IsLine, IsRanked, IsTaskSet}
-use Rattle.line_rules.specs.Balance.{all_tasks}
 use Rattle.line_rules.specs.Entries.{IsOpen}
 use Rattle.line_rules.specs.Loads.{rest}
 use Rattle.line_rules.specs.Order.{IsFollowing}
@@ -16,7 +14,7 @@ use Rattle.steal_pool.specs.declared.piece.Piece.{Piece}
 use Rattle.steal_pool.specs.Hands.{DequeId, HandView, own_of, tooks, next_number, each_from, put_home, IsHandOf}
 use Rattle.steal_pool.proofs.Each.{length_each, each_push}
 use Rattle.round_helpers.specs.Jobs.{AreFirst}
-use Rattle.round_helpers.specs.inner.Pieces.{AreParts, Splits, HasSplit, part_of, max_listed, max_put}
+use Rattle.round_helpers.specs.inner.Pieces.{Splits, part_of, max_listed, max_put}
 use Rattle.round_helpers.proofs.JobFacts.{IsListing, joins, some_firsts, all_firsts}
 
 -- nothing is put from a depth of 2 on, and for less than 2 stations
@@ -27,8 +25,11 @@ splits_none kind line c R depth most v deep = record {
   own = sym (append-nil (own_of v));
   took = refl;
   none = λ d. (refl, refl);
-  parts = λ shallow some. elim deep [ inl d ↦ absurd (omega (arith, d, shallow)) | inr f ↦
-      absurd (omega (arith, f, some)) ];
+  parts = λ shallow some. elim deep [
+    | inl d ↦ absurd (omega (arith, d, shallow))
+    | inr f ↦
+        absurd (omega (arith, f, some))
+  ];
 }
 
 -- A walk over a set that has gone over k loads, and a hand that put the pieces of the open ones among them.
@@ -74,8 +75,14 @@ module _ {kind : LineKind} {line : Line} (ok : IsLine line) (ranked : IsRanked l
       → IsFollowing line walk.cycle walk.mode walk.set walk.last l → IsWalk line new → new.cycle ≡ walk.cycle
       → new.mode ≡ walk.mode → new.set ≡ walk.set → new.last ≡ Some l
       → (r ≡ rest R l) × IsOpen kind line c new.mode R most l → count < 8 → IsHandOf pool v → number ≡ next_number v
-      → w ≡ record v { home = put_home v.home (record { number = number; depth = depth + 1; most = most - 1;
-          set = r }) }
+      → w ≡ record v {
+        home = put_home v.home (record {
+          number = number;
+          depth = depth + 1;
+          most = most - 1;
+          set = r;
+        });
+      }
       → IsSplit kind line c R depth most (k + 1) new (count + 1) a w
   split_one {new = new} {count = count} {a = a} {v = v} w h l r number next is_walk cycle of_mode set last o few hand is
       e =
@@ -83,8 +90,12 @@ module _ {kind : LineKind} {line : Line} (ok : IsLine line) (ranked : IsRanked l
       let x : Piece = record { number = number; depth = depth + 1; most = most - 1; set = r } in
       let f : ℕ → Load → Piece = part_of R depth most in
       let n : ℕ = next_number a in
-      let same : x ≡ f number l = ap (λ (z : List Bool). record { number = number; depth = depth + 1; most = most - 1;
-          set = z }) o.0 in
+      let same : x ≡ f number l = ap (λ (z : List Bool). record {
+        number = number;
+        depth = depth + 1;
+        most = most - 1;
+        set = z;
+      }) o.0 in
       let put : List Piece = each_from f n h.firsts in
       subst P (sym e) (record {
         firsts = h.firsts ++ l ∷ [];
@@ -124,8 +135,11 @@ module _ {kind : LineKind} {line : Line} (ok : IsLine line) (ranked : IsRanked l
           more = put;
           own = h.own;
           took = h.took;
-          none = λ deep. elim deep [ inl d ↦ absurd (omega (arith, d, shallow)) | inr f ↦
-              absurd (omega (arith, f, some)) ];
+          none = λ deep. elim deep [
+            | inl d ↦ absurd (omega (arith, d, shallow))
+            | inr f ↦
+                absurd (omega (arith, f, some))
+          ];
           parts = λ s m. record {
             firsts = all;
             are = are;
@@ -156,16 +170,3 @@ module _ {kind : LineKind} {line : Line} (ok : IsLine line) (ranked : IsRanked l
         splits_as answer h.firsts
         (all_firsts ok ranked of_tasks 1024 h.listing within these)
         [] (sym (append-nil h.firsts)) (λ yes room. refl)
-
--- what is split is the piece
-pub has_split : {kind : LineKind} {line : Line} {c : ℕ} {R : List Bool} {most : ℕ} {answer : Bool}
-    {old new : HandView} (x : Piece) (all : List Bool) → Splits kind line c R x.depth most answer old new
-    → R ≡ meet x.set all → all ≡ all_tasks line → most ≡ min x.most 1023 → answer ≡ true
-    → HasSplit kind line c x old new
-has_split {kind = kind} {line = line} {c = c} {R = R} {most = most} {answer = answer} {old = old} {new = new} x all h
-    set_is all_is most_is yes =
-    let S : List Bool → Type 0 = λ z. Splits kind line c z x.depth most answer old new in
-    let M : ℕ → Type 0 = λ z. Splits kind line c (meet x.set (all_tasks line)) x.depth z answer old new in
-    let A : Bool → Type 0 =
-    λ z. Splits kind line c (meet x.set (all_tasks line)) x.depth (min x.most 1023) z old new in
-    subst A yes (subst M most_is (subst S (set_is ∙ ap (λ (z : List Bool). meet x.set z) all_is) h))

@@ -29,6 +29,7 @@ const MAX_PUT: u32 = 8;
 /// loads the first 8 that are full and whose rest the bound leaves open. From a depth of 2 on, and for less than 2
 /// stations, it puts nothing. It stops early only where the hand has no room or the units end. Each load that is gone
 /// over costs a unit; false says that the units ended.
+#[tactic(auto, unfolding(crate::specs::inner::Pieces::max_listed))]
 pub fn split_piece(
     inst: &Instance,
     question: Question,

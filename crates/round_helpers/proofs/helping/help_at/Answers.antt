@@ -1,4 +1,4 @@
-use Rattle.std.proofs.Common.{◌≡◌, List, length, sym, ap, ◌∙◌, subst, inr, arith}
+use Rattle.std.proofs.Common.{List, sym, ap, ◌∙◌, subst, inr, arith}
 use Rattle.book_share.specs.Passes.{PassView}
 use Rattle.steal_pool.specs.Hands.{HandView, AreHandsOf}
 use Rattle.steal_pool.specs.Closing.{IsClosed}

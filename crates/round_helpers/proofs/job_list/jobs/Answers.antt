@@ -1,4 +1,4 @@
-use Rattle.std.proofs.Common.{◌≡◌, ◌+◌, Bool, List, [], ◌∷◌, ◌++◌, length, refl, sym, ap, ◌∙◌, subst, inl, inr, arith}
+use Rattle.std.proofs.Common.{◌≡◌, ◌+◌, List, [], ◌∷◌, ◌++◌, length, refl, sym, ap, ◌∙◌, subst, inl, inr, arith}
 use Rattle.std.proofs.Common.{length-append, Vec, Global}
 use Rattle.round_helpers.specs.declared.job_list.Job.{Job}
 use Rattle.round_helpers.proofs.JobFacts.{IsJobListing, starts, passes, job_joins, over, all_jobs}
@@ -22,15 +22,15 @@ listing-init c = record {
 pub returns-in_default : goal.returns-in_default
 returns-in_default c =
     all_jobs c.tasks-tasks.ensures.line c.tasks-tasks.ensures.ranked c.all-all.ensures.set c.listing.invariant.listing
-        c.all-all.ensures.value (omega arith)
+    c.all-all.ensures.value (omega arith)
     (inl (inr (over c.tasks-tasks.ensures.line c.tasks-tasks.ensures.ranked c.all-all.ensures.set
-        c.listing.invariant.listing.listing (c.in_default.ensures.none refl))))
+    c.listing.invariant.listing.listing (c.in_default.ensures.none refl))))
 
 pub returns-then-len-eq-MAX_JOBS : goal.returns-then-len-eq-MAX_JOBS
 returns-then-len-eq-MAX_JOBS c =
     all_jobs c.tasks-tasks.ensures.line c.tasks-tasks.ensures.ranked c.all-all.ensures.set
-        (job_joins c.tasks-tasks.ensures.line c.tasks-tasks.ensures.ranked c.all-all.ensures.set c.push.new.self.items
-        c.listing.invariant.listing c.in-Some.load c.in-Some-rest_at.set
+    (job_joins c.tasks-tasks.ensures.line c.tasks-tasks.ensures.ranked c.all-all.ensures.set c.push.new.self.items
+    c.listing.invariant.listing c.in-Some.load c.in-Some-rest_at.set
     c.in-Some.ensures.next c.in-Some.ensures.walk c.in-Some.ensures.cycle c.in-Some.ensures.mode c.in-Some.ensures.set
     c.in-Some.ensures.given c.in-Some-rest_at.ensures.some c.in_ok-push.ensures.items c.listing.invariant.few)
     c.all-all.ensures.value (omega arith) (inr (omega (arith, c.len.ensures, c.if-len-eq-MAX_JOBS.true)))
@@ -82,4 +82,4 @@ listing-preserved c =
 pub returns : goal.returns
 returns c =
     all_jobs c.tasks-tasks.ensures.line c.tasks-tasks.ensures.ranked c.all-all.ensures.set c.listing.invariant.listing
-        c.all-all.ensures.value (omega arith) (inl (inl (omega arith)))
+    c.all-all.ensures.value (omega arith) (inl (inl (omega arith)))
