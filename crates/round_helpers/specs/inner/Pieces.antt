@@ -1,6 +1,7 @@
 -- The pieces of a question: those that are dealt, a piece for each job, and those that a helper puts; and how a
 -- helper's work on them ends. Own.
-use Rattle.std.specs.Prelude.{◌≡◌, ℕ, ◌+◌, ◌-◌, ◌<◌, ◌≤◌, ◌⊎◌, min, Bool, true, List, [], ◌++◌, length, take, slice_get}
+use Rattle.std.specs.Prelude.{◌≡◌, ℕ, ◌+◌, ◌-◌, ◌<◌, ◌≤◌, ◌⊎◌, min, Bool, true, List, [], ◌∷◌, ◌++◌, length, take}
+use Rattle.std.specs.Prelude.{slice_get}
 use Rattle.std.specs.Prelude.{Some}
 use Rattle.task_set.specs.Truths.{meet}
 use Rattle.line_instance.specs.Line.{Line}
@@ -12,6 +13,7 @@ use Rattle.line_rules.specs.declared.types.Load.{Load}
 use Rattle.lemma_core.specs.Desks.{DeskView, entries}
 use Rattle.steal_pool.specs.declared.piece.Piece.{Piece}
 use Rattle.steal_pool.specs.Hands.{HandView, own_of, tooks, mark_of, next_number, each_from}
+use Rattle.steal_pool.specs.Calls.{GetsOne, FindsNone}
 use Rattle.round_helpers.specs.Jobs.{AreFirst}
 use Rattle.round_helpers.specs.inner.Works.{fewest_seen}
 use Rattle.round_helpers.specs.declared.job_list.Job.{Job}
@@ -71,6 +73,18 @@ pub record Splits (kind : LineKind) (line : Line) (c : ℕ) (R : List Bool) (dep
 abbrev pub HasSplit : LineKind → Line → ℕ → Piece → HandView → HandView → Type 0
 HasSplit kind line c x old new =
     Splits kind line c (meet x.set (all_tasks line)) x.depth (min x.most 1023) true old new
+
+-- What a hand did that took these pieces one after the other, and split each of them. The last one stands first.
+abbrev pub HaveSplit : LineKind → Line → ℕ → List Piece → HandView → HandView → Type 0
+HaveSplit kind line c [] old new = new ≡ old
+HaveSplit kind line c (x ∷ taken) old new =
+    (before : HandView) × (got : HandView) × HaveSplit kind line c taken old before × GetsOne x before got
+    × HasSplit kind line c x got new
+
+-- what a hand did that took pieces until it found all deques empty, and split each of them
+abbrev pub SplitsAll : LineKind → Line → ℕ → HandView → HandView → Type 0
+SplitsAll kind line c old new =
+    (taken : List Piece) × (last : HandView) × HaveSplit kind line c taken old last × FindsNone last new
 
 -- what was dealt to the hand and put by it stays
 abbrev pub KeepsOwn : HandView → HandView → Type 0
