@@ -1,6 +1,7 @@
 -- From the work of all helpers to the book that comes back.
 use Rattle.std.proofs.Common.{◌≡◌, ℕ, ◌+◌, ◌-◌, ◌<◌, ◌≤◌, Bool, true, List, [], ◌++◌, length, length-append, refl, sym}
 use Rattle.std.proofs.Common.{ap, ◌∙◌, subst, inl, inr, arith, Some}
+use Rattle.std.proofs.Common.{Vec, Global, vec_len}
 use Rattle.std.specs.List.{range_with_len}
 use Rattle.std.specs.Prelude.{slice_get}
 use Rattle.std.proofs.lemmas.List.{length-map}
@@ -26,6 +27,7 @@ use Rattle.book_share.specs.Rule.{newcomer}
 use Rattle.book_share.proofs.Hands.{roomy_of}
 use Rattle.book_share.proofs.Lists.{begins_length, begins_trans}
 use Rattle.station_search.specs.declared.answers.Units.{Units}
+use Rattle.round_helpers.specs.inner.Equipment.{IsEquipped}
 use Rattle.round_helpers.specs.Growth.{AreAtCycle, Helps}
 use Rattle.round_helpers.specs.Helping.{all_used, HaveSpent, HasAllJobs, HasHelped, IsTeam}
 use Rattle.round_helpers.specs.Jobs.{AreJobs}
@@ -38,6 +40,7 @@ use Rattle.round_helpers.specs.inner.Seats.{IsBare, AreReady, HasWorked, HaveAll
 use Rattle.round_helpers.specs.inner.Seats.{used_by}
 use Rattle.round_helpers.specs.inner.Teams.{MayAllWork, ArePassesOf, AreJoinable, AreSettled, settled, IsTold}
 use Rattle.round_helpers.specs.inner.Works as works
+use Rattle.round_helpers.specs.declared.equipment.Equipment.{Equipment}
 use Rattle.round_helpers.specs.declared.helping.Helped.{Helped}
 use Rattle.round_helpers.specs.declared.helping.Helped.TheVariants as helped
 use Rattle.round_helpers.specs.declared.job_list.Job.{Job}
@@ -99,7 +102,7 @@ may_work share base seen line question jobs pool us hands hs long as_many few re
     }
 
 -- each helper that was ready has worked
-pub have_worked : (share : TableId) (base : Base) (seen : List Item) (line : Line) (question : Question)
+have_worked : (share : TableId) (base : Base) (seen : List Item) (line : Line) (question : Question)
     (jobs : List Job) (pool : List DequeId) (us : List Units) (hands : List HandView) (before after : List Helper)
     → length before ≡ length us → AreReady share base seen us hands before
     → HaveAllWorked share line question jobs pool before after
@@ -115,17 +118,38 @@ have_worked share base seen line question jobs pool us hands before after long r
     let U : ℕ → Type 0 = λ z. HasWorked share base seen line question jobs pool v z h in
     subst U r.left (subst V r.own_hand (subst S r.bare.history (subst B r.bare.same (worked k a.0 h a.1 e))))
 
-module _ (share : TableId) (base : Base) (seen : List Item) (line : Line) (question : Question) (jobs : List Job)
-    (pool : List DequeId) (us : List Units) (hands : List HandView) (hs : List Helper) (long : length hs ≡ length us)
-    (as_many : length hands ≡ length us)
-    (all : HaveWorked share base seen line question jobs pool us hands hs) where
+-- A team after its work: there is a helper and a hand for each of the units, and each helper has worked.
+pub record AreBack (share : TableId) (base : Base) (seen : List Item) (line : Line) (question : Question)
+    (jobs : List Job) (pool : List DequeId) (us : List Units) (hands : List HandView) (hs : List Helper) : Type 0 where
+  pub long : length hs ≡ length us
+  pub as_many : length hands ≡ length us
+  pub all : HaveWorked share base seen line question jobs pool us hands hs
+
+pub are_back : (share : TableId) (pass : PassOf) (line : Line) (question : Question) (jobs : List Job) (us : List Units)
+    (equipment : Equipment) (ready worked : Vec Helper Global) → IsEquipped jobs question.most (length us) equipment
+    → vec_len ready ≡ length us → AreReady share pass.view.base pass.view.seen us equipment.hands ready.items
+    → length worked.items ≡ length ready.items
+    → HaveAllWorked share line question jobs equipment.pool ready.items worked.items
+    → AreBack share pass.view.base pass.view.seen line question jobs equipment.pool us equipment.hands worked.items
+are_back share pass line question jobs us equipment ready worked equipped count are as_long each =
+    let before : length ready.items ≡ length us = sym ready.ok.0 ∙ count in
+    record {
+      long = as_long ∙ before;
+      as_many = equipped.are.count ∙ equipped.count_is;
+      all = have_worked share pass.view.base pass.view.seen line question jobs equipment.pool us equipment.hands
+          ready.items worked.items before are each;
+    }
+
+module _ {share : TableId} {base : Base} {seen : List Item} {line : Line} {question : Question} {jobs : List Job}
+    {pool : List DequeId} {us : List Units} {hands : List HandView} {hs : List Helper}
+    (t : AreBack share base seen line question jobs pool us hands hs) where
   worked_at : (k : ℕ) (h : Helper) → slice_get hs k ≡ Some h
       → (u : Units) × (v : HandView) × (slice_get us k ≡ Some u) × (slice_get hands k ≡ Some v)
       × HasWorked share base seen line question jobs pool v u.left h
   worked_at k h e =
-      let u = get_there us k (omega (arith, long, slice_get_within hs k h e)) in
-      let v = get_there hands k (omega (arith, long, as_many, slice_get_within hs k h e)) in
-      (u.0, v.0, u.1, v.1, all k h u.0 v.0 e u.1 v.1)
+      let u = get_there us k (omega (arith, t.long, slice_get_within hs k h e)) in
+      let v = get_there hands k (omega (arith, t.long, t.as_many, slice_get_within hs k h e)) in
+      (u.0, v.0, u.1, v.1, t.all k h u.0 v.0 e u.1 v.1)
 
   pub passes_are : ArePassesOf share hs
   passes_are k h e = (worked_at k h e).4.pass
@@ -147,7 +171,7 @@ module _ (share : TableId) (base : Base) (seen : List Item) (line : Line) (quest
   pub hands_back : AreHandsOf pool hands → AreHandsOf pool (hands_of hs)
   hands_back are = record {
     few = are.few;
-    count = length-map hs (λ (h : Helper). h.hand) ∙ (long ∙ (sym as_many ∙ are.count));
+    count = length-map hs (λ (h : Helper). h.hand) ∙ (t.long ∙ (sym t.as_many ∙ are.count));
     each = λ k v e.
         let h = map_there (λ (h : Helper). h.hand) hs k v e in
         let w = worked_at k h.0 h.1 in
@@ -166,15 +190,14 @@ module _ (share : TableId) (base : Base) (seen : List Item) (line : Line) (quest
       subst P (sym h.2) (subst Q (same_Some x.1 v (sym x.3 ∙ e)) x.4.dealt)
 
 -- The book that comes back, when all passes were joined into one with all parts and the pool was closed.
-module _ (share : TableId) (line : Line) (question : Question) (jobs : List Job) (pool : List DequeId) (us : List Units)
-    (hands : List HandView) (hs : List Helper) (closed : Closed)
-    (old new : BookView) (last : PassOf) (base : Base) (long : length hs ≡ length us) (some : 0 < length us)
-    (as_many : length hands ≡ length us) (deques : length pool ≡ length us)
+module _ {share : TableId} {line : Line} {question : Question} {jobs : List Job} {pool : List DequeId}
+    {us : List Units} {hands : List HandView} {hs : List Helper} {closed : Closed} (old new : BookView) (last : PassOf)
+    (base : Base) (t : AreBack share base old.events line question jobs pool us hands hs) (some : 0 < length us)
+    (deques : length pool ≡ length us)
     (base_is : base ≡ record { about = old.about; opening = old.opening; from = length old.events })
     (about : old.about ≡ record { line = line; kind = question.kind; cycle = question.cycle })
     (are : AreJobs question.kind line question.cycle question.most jobs)
     (dealt : hands ≡ new_hands pool (pieces_of question.most jobs)) (ends_with : IsClosed (hands_of hs) closed)
-    (all : HaveWorked share base old.events line question jobs pool us hands hs)
     (joined : HasJoined share base old.events (1024 - length us) line question.cycle hs last)
     (few : length us ≤ 64)
     (same_about : new.about ≡ last.view.base.about) (same_opening : new.opening ≡ last.view.base.opening)
@@ -207,7 +230,7 @@ module _ (share : TableId) (line : Line) (question : Question) (jobs : List Job)
             omega (arith, joined.own.within k x e, begins_length last.view.seen new.events begins);
       })
       (λ k x e. omega (arith, joined.behind k x e, from))
-      (subst F from_is (whole (omega (arith, joined.part, long, few))))
+      (subst F from_is (whole (omega (arith, joined.part, t.long, few))))
 
   abbrev items : List Item
   items = joined.added.items
@@ -270,7 +293,7 @@ module _ (share : TableId) (line : Line) (question : Question) (jobs : List Job)
 
     its : (u : Units) × (v : HandView) × (slice_get us k ≡ Some u) × (slice_get hands k ≡ Some v)
         × HasWorked share base old.events line question jobs pool v u.left h
-    its = worked_at share base old.events line question jobs pool us hands hs long as_many all k h e
+    its = worked_at t k h e
 
     -- its end, as it is known
     ends_as : (r : End) → h.end ≡ r
@@ -321,31 +344,30 @@ module _ (share : TableId) (line : Line) (question : Question) (jobs : List Job)
           jobs = jobs;
           are = subst A (sym a) are;
           each = λ k j e.
-              let t = taken_by pool question.most jobs hands (hands_of hs) closed dealt (as_many ∙ sym deques)
-              (length-map hs (λ (h : Helper). h.hand) ∙ (long ∙ sym as_many)) (omega (arith, some, deques))
-              (own_back share base old.events line question jobs pool us hands hs long as_many all) ends_with are_marked
-              k j e in
-              let h = map_there (λ (h : Helper). h.hand) hs t.0 t.1 t.6 in
-              let T : HandView → Type 0 = λ z. slice_get (tooks z) t.2 ≡ Some t.4 in
+              let x = taken_by pool question.most jobs hands (hands_of hs) closed dealt (t.as_many ∙ sym deques)
+              (length-map hs (λ (h : Helper). h.hand) ∙ (t.long ∙ sym t.as_many)) (omega (arith, some, deques))
+              (own_back t) ends_with are_marked k j e in
+              let h = map_there (λ (h : Helper). h.hand) hs x.0 x.1 x.6 in
+              let T : HandView → Type 0 = λ z. slice_get (tooks z) x.2 ≡ Some x.4 in
               let K : ℕ → Type 0 = λ z. slice_get jobs z ≡ Some j in
               let r : IsRefuted (desk_by h.0.pass.view) question.cycle question.most j =
-              (ends_as t.0 h.0 h.1 ends.Empty (empty t.0 h.0 h.1)).0 t.2 t.3 t.4 t.5 (subst T h.2 t.7) t.8 t.10 j
-              (subst K (sym t.9) e) in
+              (ends_as x.0 h.0 h.1 ends.Empty (empty x.0 h.0 h.1)).0 x.2 x.3 x.4 x.5 (subst T h.2 x.7) x.8 x.10 j
+              (subst K (sym x.9) e) in
               let C : ℕ → Type 0 = λ z. HasAnswer new.state.entries j.set (question.most - 1) z in
               subst C (sym (ap (λ (z : About). z.cycle) a))
-              (answered_in t.0 h.0 h.1 j.set (question.most - 1) question.cycle r);
+              (answered_in x.0 h.0 h.1 j.set (question.most - 1) question.cycle r);
         }
 
   pub has_helped : (told : Helped) → IsTold hs told → HasHelped old new question.most (settled us hs) told
-  has_helped helped.Unneeded t = absurd t
+  has_helped helped.Unneeded is = absurd is
   has_helped helped.Whole (inl r) = inl (all_refuted r)
   has_helped helped.Whole (inr f) =
       inr (fewest_in f.0 f.1 f.2 question.most (ends_as f.0 f.1 f.2 ends.Found f.3))
-  has_helped (helped.Cut n) t =
-      let v = settled_left us hs t.0 t.1 long t.3 in
-      let none : t.1.units.left ≡ 0 = ends_as t.0 t.1 t.3 ends.Spent t.4 in
-      (t.0, v.0, t.2, v.1.0, v.1.1 ∙ none)
-  has_helped helped.NoMemory t = tt
+  has_helped (helped.Cut n) is =
+      let v = settled_left us hs is.0 is.1 t.long is.3 in
+      let none : is.1.units.left ≡ 0 = ends_as is.0 is.1 is.3 ends.Spent is.4 in
+      (is.0, v.0, is.2, v.1.0, v.1.1 ∙ none)
+  has_helped helped.NoMemory is = tt
 
 -- the pass from which others were split off, and what was joined into it, as the first pass knew it
 joined_as : (share : TableId) (base : Base) (seen : List Item) (parts : ℕ) (line : Line) (X : ℕ) (hs : List Helper)
@@ -363,14 +385,14 @@ joined_as share base seen parts line X hs p q b j able =
     subst R b.part (subst Q b.history (subst P b.same (j (subst A (sym b.same) (subst B (sym b.history) able)))))
 
 -- what comes of the help of a team
-pub comes_back : (share : TableId) (line : Line) (question : Question) (jobs : List Job) (pool : List DequeId)
-    (us units : List Units) (hands : List HandView) (hs : List Helper) (closed : Closed) (first bare last : PassOf)
-    (old new : BookView) (told : Helped) → length hs ≡ length us
-    → 0 < length us → length us ≤ 64 → length hands ≡ length us → length pool ≡ length us → first.view ≡ newcomer old
+pub comes_back : {share : TableId} {line : Line} {question : Question} {jobs : List Job} {pool : List DequeId}
+    {us : List Units} {hands : List HandView} {hs : List Helper} {closed : Closed} (units : List Units)
+    (first bare last : PassOf) (old new : BookView) (told : Helped)
+    → AreBack share first.view.base first.view.seen line question jobs pool us hands hs
+    → 0 < length us → length us ≤ 64 → length pool ≡ length us → first.view ≡ newcomer old
     → old.about ≡ record { line = line; kind = question.kind; cycle = question.cycle }
     → AreJobs question.kind line question.cycle question.most jobs
     → hands ≡ new_hands pool (pieces_of question.most jobs) → IsClosed (hands_of hs) closed
-    → HaveWorked share first.view.base first.view.seen line question jobs pool us hands hs
     → IsBare share first.view.base first.view.seen (1024 - length us) bare
     → ((l : Line) (X : ℕ) → AreJoinable bare.view.base bare.view.seen l X hs
     → HasJoined share bare.view.base bare.view.seen bare.view.parts l X hs last)
@@ -378,35 +400,30 @@ pub comes_back : (share : TableId) (line : Line) (question : Question) (jobs : L
     → (last.view.parts ≡ 1024 → AreAllFrom last.view.base.from (length new.events) last.view.own)
     → IsReserved new → IsBook old → IsBook new → units ≡ settled us hs → IsTold hs told
     → Helps old new (all_used units - all_used us) × HasHelped old new question.most units told
-comes_back share line question jobs pool us units hands hs closed first bare last old new told long some few as_many
-    deques
-    e about are dealt ends_with all split join same_about same_opening begins whole reserved ok_old ok is t =
-    let W : PassView → Type 0 = λ z. HaveWorked share z.base z.seen line question jobs pool us hands hs in
+comes_back {share = share} {line = line} {question = question} {jobs = jobs} {pool = pool} {us = us} {hands = hands}
+    {hs = hs} units first bare last old new told back some few deques e about are dealt ends_with split join same_about
+    same_opening begins whole reserved ok_old ok is as_told =
+    let W : PassView → Type 0 = λ z. AreBack share z.base z.seen line question jobs pool us hands hs in
     let base : Base = record { about = old.about; opening = old.opening; from = length old.events } in
-    let worked : HaveWorked share base old.events line question jobs pool us hands hs = subst W e all in
+    let t : AreBack share base old.events line question jobs pool us hands hs = subst W e back in
     let J : PassView → Type 0 = λ z. IsBare share z.base z.seen (1024 - length us) bare in
     let joined : HasJoined share base old.events (1024 - length us) line question.cycle hs last =
     joined_as share base old.events (1024 - length us) line question.cycle hs bare last (subst J e split)
-    (join line question.cycle)
-    (are_joinable share base old.events line question jobs pool us hands hs long as_many worked) in
+    (join line question.cycle) (are_joinable t) in
     let n : used_by hs ≡ all_used units - all_used us =
-    omega (arith, settled_used us hs long, ap (λ (z : List Units). all_used z) is) in
+    omega (arith, settled_used us hs t.long, ap (λ (z : List Units). all_used z) is) in
     let H : ℕ → Type 0 = λ z. Helps old new z in
     let U : List Units → Type 0 = λ z. HasHelped old new question.most z told in (
-      subst H n (helps share line question jobs pool us hands hs closed old new last base long some as_many deques refl
-          about are dealt ends_with worked joined few same_about same_opening begins whole reserved ok_old ok),
-      subst U (sym is) (has_helped share line question jobs pool us hands hs closed old new last base long some as_many
-          deques refl about are dealt ends_with worked joined few same_about same_opening begins whole reserved ok_old
-          ok
-          told t),
+      subst H n (helps old new last base t some deques refl about are dealt ends_with joined few same_about same_opening
+          begins whole reserved ok_old ok),
+      subst U (sym is) (has_helped old new last base t some deques refl about are dealt ends_with joined few same_about
+          same_opening begins whole reserved ok_old ok told as_told),
     )
 
-pub spent_back : (share : TableId) (base : Base) (seen : List Item) (line : Line) (question : Question)
-    (jobs : List Job) (pool : List DequeId) (us units : List Units) (hands : List HandView) (hs : List Helper)
-    → length hs ≡ length us → length hands ≡ length us
-    → HaveWorked share base seen line question jobs pool us hands hs → units ≡ settled us hs
+pub spent_back : {share : TableId} {base : Base} {seen : List Item} {line : Line} {question : Question}
+    {jobs : List Job} {pool : List DequeId} {us : List Units} {hands : List HandView} {hs : List Helper}
+    (units : List Units) → AreBack share base seen line question jobs pool us hands hs → units ≡ settled us hs
     → HaveSpent us units
-spent_back share base seen line question jobs pool us units hands hs long as_many all is =
+spent_back {us = us} {hs = hs} units t is =
     let P : List Units → Type 0 = λ z. HaveSpent us z in
-    subst P (sym is)
-    (settled_spent us hs long (sums_given share base seen line question jobs pool us hands hs long as_many all))
+    subst P (sym is) (settled_spent us hs t.long (sums_given t))

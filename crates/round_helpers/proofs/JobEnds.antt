@@ -1,5 +1,5 @@
 -- How questions and the work of a helper end, and which job of a list is one of the question.
-use Rattle.std.proofs.Common.{◌≡◌, ℕ, ◌+◌, ◌≤◌, List, take, refl, sym, subst, arith, Some}
+use Rattle.std.proofs.Common.{◌≡◌, ℕ, ◌+◌, ◌≤◌, List, refl, sym, subst, arith, Some}
 use Rattle.std.specs.Prelude.{slice_get}
 use Rattle.line_instance.specs.Line.{Line}
 use Rattle.line_rules.specs.Balance.{all_tasks}
@@ -46,11 +46,11 @@ pub job_is : (kind : LineKind) (line : Line) (c most : ℕ) (jobs : List Job) (k
     → AreJobs kind line c most jobs → slice_get jobs k ≡ Some j
     → IsJobOf kind line c most j
 job_is kind line c most jobs k j are e =
-    let P : List Job → Type 0 = λ z. slice_get z k ≡ Some j in
-    let m : (l : Load) × (slice_get (take max_jobs are.left) k ≡ Some l) × (j ≡ job_of (all_tasks line) l) =
-    map_there (job_of (all_tasks line)) (take max_jobs are.left) k j (subst P are.first e) in
+    let m : (l : Load) × (slice_get are.firsts k ≡ Some l) × (j ≡ job_of (all_tasks line) l) =
+    map_there (job_of (all_tasks line)) are.firsts k j (subst (λ (z : List Job). slice_get z k ≡ Some j) are.each e) in
+    let P : List Load → Type 0 = λ z. slice_get z k ≡ Some m.0 in
     let Q : Job → Type 0 = λ z. IsJobOf kind line c most z in
     subst Q (sym m.2) (record {
-      opens = (are.picked.sound k m.0 (get_take are.left max_jobs k m.0 m.1).1).0;
+      opens = (are.are.picked.sound k m.0 (get_take are.are.left max_jobs k m.0 (subst P are.are.first m.1)).1).0;
       set = refl;
     })

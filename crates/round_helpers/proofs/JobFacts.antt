@@ -1,13 +1,13 @@
--- The loads gone over so far, those still ahead, and the jobs found.
+-- The loads gone over so far, those still ahead, and the open ones found.
 use Rattle.std.proofs.Common.{◌≡◌, ℕ, zero, suc, ◌+◌, ◌-◌, ◌<◌, ◌≤◌, ◌⊎◌, Bool, true, false, cond, ◌&&◌, List, [], ◌∷◌}
 use Rattle.std.proofs.Common.{◌++◌, length, take, map, refl, sym, ap, ◌∙◌, subst, inl, inr, arith, append_assoc}
 use Rattle.std.proofs.Common.{length-append, Option, Some, None}
 use Rattle.std.specs.Prelude.{slice_get, slice_index_or, nat_lt}
 use Rattle.std.specs.List.{Contains}
 use Rattle.std.proofs.lemmas.Bool.{and_parts, and_from, lt-ltb, ltb-true, cases_Bool}
-use Rattle.std.proofs.lemmas.List.{append-nil, take_all}
-use Rattle.std.proofs.Math.Seq.{take-append_seam, take-append-add}
-use Rattle.line_instance.specs.Line.{Line, IsLine, IsRanked}
+use Rattle.std.proofs.lemmas.List.{append-nil, take_all, length-map}
+use Rattle.std.proofs.Math.Seq.{take-append-add}
+use Rattle.line_instance.specs.Line.{Line, IsLine, IsRanked, IsTaskSet}
 use Rattle.line_rules.specs.Bounds.{bound}
 use Rattle.line_rules.specs.Balance.{all_tasks}
 use Rattle.line_rules.specs.Loads.{IsLoad, rest}
@@ -17,12 +17,11 @@ use Rattle.line_rules.specs.declared.types.LineKind.{LineKind}
 use Rattle.line_rules.specs.declared.types.Mode.{Mode}
 use Rattle.line_rules.specs.declared.types.Load.{Load}
 use Rattle.line_rules.proofs.Deciding.{is_open, is_full, is_load, load_so, full_is, full_so, loads_of, loads_listed}
-use Rattle.line_rules.proofs.Free.{all_of}
 use Rattle.line_rules.proofs.Listing.{Amid, Rises, lists_of, pick, picked, picks, picked_rise}
 use Rattle.line_rules.proofs.Unique.{precedes_trans, first_less, tail_lists}
 use Rattle.station_load.specs.Walking.{Walking, IsWalk}
 use Rattle.station_search.specs.Mode.{mode_of}
-use Rattle.round_helpers.specs.Jobs.{AreJobs, job_of, max_loads, max_jobs}
+use Rattle.round_helpers.specs.Jobs.{AreFirst, AreJobs, job_of, max_loads, max_jobs}
 use Rattle.round_helpers.specs.declared.job_list.Job.{Job}
 
 -- a member by its place, and by the list
@@ -91,19 +90,33 @@ take_no : (xs : List Load) → take 0 xs ≡ []
 take_no [] = refl
 take_no (x ∷ xs) = refl
 
--- The first m that pass of the first n loads are those of the loads gone over, where these are n, or all, or m of them
--- pass.
+-- what passes of the first n loads, where no more than n were gone over
+picked_on : (p : Load → Bool) (n : ℕ) (done ahead : List Load) → length done ≤ n
+    → pick p (take n (done ++ ahead)) ≡ pick p done ++ pick p (take (n - length done) ahead)
+picked_on p n done ahead l =
+    let k : length done + (n - length done) ≡ n = omega (arith, l) in
+    let t : take n (done ++ ahead) ≡ done ++ take (n - length done) ahead =
+    ap (λ (z : ℕ). take z (done ++ ahead)) (sym k) ∙ take-append-add done ahead (n - length done) in
+    ap (λ (z : List Load). pick p z) t ∙ pick_both p done (take (n - length done) ahead)
+
+-- The first m that pass of the first n loads begin with those of the loads gone over.
+first_some : (p : Load → Bool) (n m : ℕ) (done ahead : List Load) → length done ≤ n → length (pick p done) ≤ m
+    → take m (pick p (take n (done ++ ahead)))
+    ≡ pick p done ++ take (m - length (pick p done)) (pick p (take (n - length done) ahead))
+first_some p n m done ahead l few =
+    let rest : List Load = pick p (take (n - length done) ahead) in
+    let k : length (pick p done) + (m - length (pick p done)) ≡ m = omega (arith, few) in
+    ap (λ (z : List Load). take m z) (picked_on p n done ahead l)
+    ∙ (ap (λ (z : ℕ). take z (pick p done ++ rest)) (sym k)
+    ∙ take-append-add (pick p done) rest (m - length (pick p done)))
+
+-- They are those of the loads gone over, where these are n, or all, or m of them pass.
 first_ones : (p : Load → Bool) (n m : ℕ) (done ahead : List Load) → length done ≤ n → length (pick p done) ≤ m
     → ((length done ≡ n) ⊎ (ahead ≡ [])) ⊎ (length (pick p done) ≡ m)
     → take m (pick p (take n (done ++ ahead))) ≡ pick p done
 first_ones p n m done ahead l few ends =
-    let k : length done + (n - length done) ≡ n = omega (arith, l) in
-    let t : take n (done ++ ahead) ≡ done ++ take (n - length done) ahead =
-    ap (λ (z : ℕ). take z (done ++ ahead)) (sym k) ∙ take-append-add done ahead (n - length done) in
-    let q : pick p (take n (done ++ ahead)) ≡ pick p done ++ pick p (take (n - length done) ahead) =
-    ap (λ (z : List Load). pick p z) t ∙ pick_both p done (take (n - length done) ahead) in
     let none : take (n - length done) ahead ≡ [] → take m (pick p (take n (done ++ ahead))) ≡ pick p done = λ e.
-    ap (λ (z : List Load). take m z) (q
+    ap (λ (z : List Load). take m z) (picked_on p n done ahead l
     ∙ (ap (λ (z : List Load). pick p done ++ pick p z) e ∙ append-nil (pick p done)))
     ∙ take_all m (pick p done) few in
     elim ends [
@@ -114,9 +127,11 @@ first_ones p n m done ahead l few ends =
         | inr e ↦ none (ap (λ (y : List Load). take (n - length done) y) e ∙ take_none (n - length done))
       ])
       | inr e ↦
-          ap (λ (z : List Load). take m z) q
-          ∙ (ap (λ (y : ℕ). take y (pick p done ++ pick p (take (n - length done) ahead))) (sym e)
-          ∙ take-append_seam (pick p done) (pick p (take (n - length done) ahead)))
+          let z : m - length (pick p done) ≡ 0 = omega (arith, e) in
+          first_some p n m done ahead l few
+          ∙ (ap (λ (y : ℕ). pick p done ++ take y (pick p (take (n - length done) ahead))) z
+          ∙ (ap (λ (y : List Load). pick p done ++ y) (take_no (pick p (take (n - length done) ahead)))
+          ∙ append-nil (pick p done)))
     ]
 
 module _ (line : Line) (c : ℕ) (mode : Mode) (R : List Bool) where
@@ -162,87 +177,83 @@ module _ (line : Line) (c : ℕ) (mode : Mode) (R : List Bool) where
   none_ahead last [] h none = refl
   none_ahead last (x ∷ xs) h none = absurd (none x (h.sound 0 x refl).0 (h.sound 0 x refl).1)
 
-map_pick : (f : Load → Job) (l : Load) (b : Bool) (xs : List Load)
-    → map f (xs ++ cond b (l ∷ []) []) ≡ map f xs ++ cond b (f l ∷ []) []
-map_pick f l true xs = map_push f xs l
-map_pick f l false xs =
-    ap (λ (z : List Load). map f z) (append-nil xs) ∙ sym (append-nil (map f xs))
-
-length_mapped : (f : Load → Job) (xs : List Load) → length (map f xs) ≡ length xs
-length_mapped f [] = refl
-length_mapped f (x ∷ xs) = ap {B = ℕ} suc (length_mapped f xs)
-
--- A walk over all tasks that has gone over k loads, and the jobs among them.
-pub record IsListing (kind : LineKind) (line : Line) (c most k : ℕ) (walk : Walking) (jobs : List Job) : Type 0 where
+-- A walk over a set that has gone over k loads, and those among them that are full and whose rest the bound leaves
+-- open, at most m.
+pub record IsListing (kind : LineKind) (line : Line) (c : ℕ) (R : List Bool) (m most k : ℕ) (walk : Walking)
+    (firsts : List Load) : Type 0 where
   pub is_walk : IsWalk line walk
   pub same_cycle : walk.cycle ≡ c
-  pub same_mode : walk.mode ≡ mode_of kind line (all_tasks line)
-  pub same_set : walk.set ≡ all_tasks line
+  pub same_mode : walk.mode ≡ mode_of kind line R
+  pub same_set : walk.set ≡ R
   pub done : List Load
   pub ahead : List Load
-  pub listed : Lists line (IsLoad line c (mode_of kind line (all_tasks line)) (all_tasks line)) (done ++ ahead)
-  pub further : Lists line (Further line c (mode_of kind line (all_tasks line)) (all_tasks line) walk.last) ahead
+  pub listed : Lists line (IsLoad line c (mode_of kind line R) R) (done ++ ahead)
+  pub further : Lists line (Further line c (mode_of kind line R) R walk.last) ahead
   pub many : length done ≡ k
-  pub found : jobs ≡ map (job_of (all_tasks line))
-      (pick (λ l. is_open kind line c (mode_of kind line (all_tasks line)) (all_tasks line) most l) done)
-  pub few : length jobs ≤ 4096
+  pub found : firsts ≡ pick (λ l. is_open kind line c (mode_of kind line R) R most l) done
+  pub few : length firsts ≤ m
 
-module _ (kind : LineKind) (line : Line) (ok : IsLine line) (ranked : IsRanked line) (c most : ℕ) where
-  abbrev pub mode : Mode
-  mode = mode_of kind line (all_tasks line)
+-- The same walk, with the jobs of the loads that were found.
+pub record IsJobListing (kind : LineKind) (line : Line) (c : ℕ) (R : List Bool) (most k : ℕ) (walk : Walking)
+    (jobs : List Job) : Type 0 where
+  pub firsts : List Load
+  pub listing : IsListing kind line c R 4096 most k walk firsts
+  pub each : jobs ≡ map (job_of R) firsts
 
-  abbrev pub wanted : Load → Bool
-  wanted l = is_open kind line c mode (all_tasks line) most l
+-- the test of a load: it is full, and the bound leaves its rest open
+abbrev pub wanted : LineKind → Line → ℕ → List Bool → ℕ → Load → Bool
+wanted kind line c R most l = is_open kind line c (mode_of kind line R) R most l
 
+module _ {kind : LineKind} {line : Line} (ok : IsLine line) (ranked : IsRanked line) {c : ℕ} {R : List Bool}
+    (of_tasks : IsTaskSet line R) {most : ℕ} where
   -- the test of a load
-  pub open_so : (l : Load) → IsOpen kind line c mode (all_tasks line) most l → wanted l ≡ true
+  open_so : (l : Load) → IsOpen kind line c (mode_of kind line R) R most l → wanted kind line c R most l ≡ true
   open_so l o =
-      and_from (is_load line c mode (all_tasks line) l)
-      (is_full line c mode (all_tasks line) l && nat_lt (bound kind line c (rest (all_tasks line) l)) most)
-      (load_so line ok.small ranked c (all_tasks line) (all_of line) mode l o.load)
-      (and_from (is_full line c mode (all_tasks line) l) (nat_lt (bound kind line c (rest (all_tasks line) l)) most)
-      (full_so line ok.small ranked c (all_tasks line) (all_of line) mode l
+      and_from (is_load line c (mode_of kind line R) R l) (is_full line c (mode_of kind line R) R l
+      && nat_lt (bound kind line c (rest R l)) most)
+      (load_so line ok.small ranked c R of_tasks (mode_of kind line R) l o.load)
+      (and_from (is_full line c (mode_of kind line R) R l) (nat_lt (bound kind line c (rest R l)) most)
+      (full_so line ok.small ranked c R of_tasks (mode_of kind line R) l
       (record { front = o.load.front; back = o.load.back }) o.full)
-      (lt-ltb (bound kind line c (rest (all_tasks line) l)) most o.bound))
+      (lt-ltb (bound kind line c (rest R l)) most o.bound))
 
-  open_is : (l : Load) → IsLoad line c mode (all_tasks line) l → wanted l ≡ true
-      → IsOpen kind line c mode (all_tasks line) most l
+  open_is : (l : Load) → IsLoad line c (mode_of kind line R) R l → wanted kind line c R most l ≡ true
+      → IsOpen kind line c (mode_of kind line R) R most l
   open_is l g t =
-      let q : (is_full line c mode (all_tasks line) l && nat_lt
-      (bound kind line c (rest (all_tasks line) l)) most) ≡ true =
-      (and_parts (is_load line c mode (all_tasks line) l)
-      (is_full line c mode (all_tasks line) l && nat_lt (bound kind line c (rest (all_tasks line) l)) most) t).1 in
-      let r : (is_full line c mode (all_tasks line) l ≡ true)
-      × (nat_lt (bound kind line c (rest (all_tasks line) l)) most ≡ true) =
-      and_parts (is_full line c mode (all_tasks line) l)
-      (nat_lt (bound kind line c (rest (all_tasks line) l)) most) q in
+      let q : (is_full line c (mode_of kind line R) R l && nat_lt (bound kind line c (rest R l)) most) ≡ true =
+      (and_parts (is_load line c (mode_of kind line R) R l)
+      (is_full line c (mode_of kind line R) R l && nat_lt (bound kind line c (rest R l)) most) t).1 in
+      let r : (is_full line c (mode_of kind line R) R l ≡ true) × (nat_lt (bound kind line c (rest R l)) most ≡ true) =
+      and_parts (is_full line c (mode_of kind line R) R l) (nat_lt (bound kind line c (rest R l)) most) q in
       record {
         load = g;
-        full = full_is line ok.small ranked c (all_tasks line) (all_of line) mode l r.0;
-        bound = ltb-true (bound kind line c (rest (all_tasks line) l)) most r.1;
+        full = full_is line ok.small ranked c R of_tasks (mode_of kind line R) l r.0;
+        bound = ltb-true (bound kind line c (rest R l)) most r.1;
       }
 
-  shut_so : (l : Load) → IsLoad line c mode (all_tasks line) l → (IsOpen kind line c mode (all_tasks line) most l → ⊥)
-      → wanted l ≡ false
-  shut_so l g shut = elim (cases_Bool (wanted l)) [ inl t ↦ absurd (shut (open_is l g t)) | inr f ↦ f ]
+  shut_so : (l : Load) → IsLoad line c (mode_of kind line R) R l
+      → (IsOpen kind line c (mode_of kind line R) R most l → ⊥) → wanted kind line c R most l ≡ false
+  shut_so l g shut = elim (cases_Bool (wanted kind line c R most l))
+      [ inl t ↦ absurd (shut (open_is l g t)) | inr f ↦ f ]
 
   -- a walk that has given no load
-  pub starts : (walk : Walking) → IsWalk line walk → walk.cycle ≡ c → walk.mode ≡ mode → walk.set ≡ all_tasks line
-      → walk.last ≡ None → IsListing kind line c most 0 walk []
-  starts walk w cycle of_mode set last =
+  pub starts : (m : ℕ) (walk : Walking) → IsWalk line walk → walk.cycle ≡ c → walk.mode ≡ mode_of kind line R
+      → walk.set ≡ R
+      → walk.last ≡ None → IsListing kind line c R m most 0 walk []
+  starts m walk w cycle of_mode set last =
       let P : Option Load → Type 0 =
-      λ z. Lists line (Further line c mode (all_tasks line) z)
-      (loads_of line ok.small ranked c (all_tasks line) (all_of line) mode) in
-      let h : Lists line (IsLoad line c mode (all_tasks line))
-      (loads_of line ok.small ranked c (all_tasks line) (all_of line) mode) =
-      loads_listed line ok.small ranked c (all_tasks line) (all_of line) mode in
+      λ z. Lists line (Further line c (mode_of kind line R) R z)
+      (loads_of line ok.small ranked c R of_tasks (mode_of kind line R)) in
+      let h : Lists line (IsLoad line c (mode_of kind line R) R)
+      (loads_of line ok.small ranked c R of_tasks (mode_of kind line R)) =
+      loads_listed line ok.small ranked c R of_tasks (mode_of kind line R) in
       record {
         is_walk = w;
         same_cycle = cycle;
         same_mode = of_mode;
         same_set = set;
         done = [];
-        ahead = loads_of line ok.small ranked c (all_tasks line) (all_of line) mode;
+        ahead = loads_of line ok.small ranked c R of_tasks (mode_of kind line R);
         listed = h;
         further = subst P (sym last) (record {
           rises = h.rises;
@@ -254,112 +265,165 @@ module _ (kind : LineKind) (line : Line) (ok : IsLine line) (ranked : IsRanked l
         few = omega arith;
       }
 
-  module _ (k : ℕ) (walk new : Walking) (jobs : List Job) (h : IsListing kind line c most k walk jobs) where
+  module _ {m k : ℕ} {walk : Walking} {firsts : List Load}
+      (h : IsListing kind line c R m most k walk firsts) where
     following : (l : Load) → IsFollowing line walk.cycle walk.mode walk.set walk.last l
-        → IsFollowing line c mode (all_tasks line) walk.last l
+        → IsFollowing line c (mode_of kind line R) R walk.last l
     following l next =
         let P : ℕ → Type 0 = λ z. IsFollowing line z walk.mode walk.set walk.last l in
         let Q : Mode → Type 0 = λ z. IsFollowing line c z walk.set walk.last l in
-        let R : List Bool → Type 0 = λ z. IsFollowing line c mode z walk.last l in
-        subst R h.same_set (subst Q h.same_mode (subst P h.same_cycle next))
-
-    goes : (l : Load) (b : Bool) → wanted l ≡ b → IsFollowing line c mode (all_tasks line) walk.last l → IsWalk line new
-        → new.cycle ≡ walk.cycle → new.mode ≡ walk.mode → new.set ≡ walk.set → new.last ≡ Some l → (more : List Job)
-        → more ≡ jobs ++ cond b (job_of (all_tasks line) l ∷ []) [] → length more ≤ 4096
-        → IsListing kind line c most (k + 1) new more
-    goes l b t next w cycle of_mode set last more e few =
-        let r : (rest : List Load)
-        × ((h.ahead ≡ l ∷ rest) × Lists line (Further line c mode (all_tasks line) (Some l)) rest) =
-        next_first line c mode (all_tasks line) walk.last h.ahead l h.further next in
-        let s : h.done ++ h.ahead ≡ (h.done ++ l ∷ []) ++ r.0 =
-        ap (λ (z : List Load). h.done ++ z) r.1.0 ∙ sym (append_assoc h.done (l ∷ []) r.0) in
-        let P : List Load → Type 0 = λ z. Lists line (IsLoad line c mode (all_tasks line)) z in
-        let Q : Option Load → Type 0 = λ z. Lists line (Further line c mode (all_tasks line) z) r.0 in
-        record {
-          is_walk = w;
-          same_cycle = cycle ∙ h.same_cycle;
-          same_mode = of_mode ∙ h.same_mode;
-          same_set = set ∙ h.same_set;
-          done = h.done ++ l ∷ [];
-          ahead = r.0;
-          listed = subst P s h.listed;
-          further = subst Q (sym last) r.1.1;
-          many = omega (arith, h.many, length-append h.done (l ∷ []));
-          found = e ∙ (ap (λ (z : List Job). z ++ cond b (job_of (all_tasks line) l ∷ []) []) h.found
-              ∙ (sym (map_pick (job_of (all_tasks line)) l b (pick wanted h.done))
-              ∙ ap (λ (z : List Load). map (job_of (all_tasks line)) z)
-              (ap (λ (z : Bool). pick wanted h.done ++ cond z (l ∷ []) []) (sym t) ∙ sym (pick_push wanted h.done l))));
-          few = few;
-        }
-
-    module _ (l : Load) (next : IsFollowing line walk.cycle walk.mode walk.set walk.last l) (w : IsWalk line new)
-        (cycle : new.cycle ≡ walk.cycle) (of_mode : new.mode ≡ walk.mode) (set : new.set ≡ walk.set)
-        (last : new.last ≡ Some l) where
-      module _ (m : Mode) (R : List Bool) (of_walk : m ≡ new.mode) (all : R ≡ all_tasks line) where
-        to_mode : m ≡ mode
-        to_mode = of_walk ∙ (of_mode ∙ h.same_mode)
-
-        -- a load that is no job
-        pub passes : (IsOpen kind line c m R most l → ⊥) → IsListing kind line c most (k + 1) new jobs
-        passes shut =
-            let P : Mode → Type 0 = λ z. IsOpen kind line c z R most l → ⊥ in
-            let Q : List Bool → Type 0 = λ z. IsOpen kind line c mode z most l → ⊥ in
-            goes l false (shut_so l (following l next).load (subst Q all (subst P to_mode shut)))
-            (following l next) w cycle
-            of_mode set last jobs (sym (append-nil jobs)) h.few
-
-        -- a load that is one
-        pub joins : (r : List Bool) (more : List Job) → (r ≡ rest R l) × IsOpen kind line c m R most l
-            → more ≡ jobs ++ record { set = r; load = l } ∷ [] → length more ≤ 4096
-            → IsListing kind line c most (k + 1) new more
-        joins r more o e few =
-            let P : Mode → Type 0 = λ z. IsOpen kind line c z R most l in
-            let Q : List Bool → Type 0 = λ z. IsOpen kind line c mode z most l in
-            let j : r ≡ rest (all_tasks line) l = o.0 ∙ ap (λ (z : List Bool). rest z l) all in
-            goes l true (open_so l (subst Q all (subst P to_mode o.1))) (following l next) w cycle of_mode set last more
-            (e ∙ ap (λ (z : List Bool). jobs ++ record { set = z; load = l } ∷ []) j) few
+        let S : List Bool → Type 0 = λ z. IsFollowing line c (mode_of kind line R) z walk.last l in
+        subst S h.same_set (subst Q h.same_mode (subst P h.same_cycle next))
 
     -- no load is left
     pub over : ((l : Load) → IsLoad line walk.cycle walk.mode walk.set l → After line walk.last l → ⊥) → h.ahead ≡ []
     over none =
         let P : ℕ → Type 0 = λ z. (l : Load) → IsLoad line z walk.mode walk.set l → After line walk.last l → ⊥ in
         let Q : Mode → Type 0 = λ z. (l : Load) → IsLoad line c z walk.set l → After line walk.last l → ⊥ in
-        let R : List Bool → Type 0 = λ z. (l : Load) → IsLoad line c mode z l → After line walk.last l → ⊥ in
-        none_ahead line c mode (all_tasks line) walk.last h.ahead h.further
-        (subst R h.same_set (subst Q h.same_mode (subst P h.same_cycle none)))
+        let S : List Bool → Type 0 =
+        λ z. (l : Load) → IsLoad line c (mode_of kind line R) z l → After line walk.last l → ⊥ in
+        none_ahead line c (mode_of kind line R) R walk.last h.ahead h.further
+        (subst S h.same_set (subst Q h.same_mode (subst P h.same_cycle none)))
+
+    module _ {new : Walking} where
+      goes : (l : Load) (b : Bool) → wanted kind line c R most l ≡ b
+          → IsFollowing line c (mode_of kind line R) R walk.last l → IsWalk line new
+          → new.cycle ≡ walk.cycle → new.mode ≡ walk.mode → new.set ≡ walk.set → new.last ≡ Some l → (more : List Load)
+          → more ≡ firsts ++ cond b (l ∷ []) [] → length more ≤ m → IsListing kind line c R m most (k + 1) new more
+      goes l b t next w cycle of_mode set last more e few =
+          let r : (rest : List Load) × ((h.ahead ≡ l ∷ rest)
+          × Lists line (Further line c (mode_of kind line R) R (Some l)) rest) =
+          next_first line c (mode_of kind line R) R walk.last h.ahead l h.further next in
+          let s : h.done ++ h.ahead ≡ (h.done ++ l ∷ []) ++ r.0 =
+          ap (λ (z : List Load). h.done ++ z) r.1.0 ∙ sym (append_assoc h.done (l ∷ []) r.0) in
+          let P : List Load → Type 0 = λ z. Lists line (IsLoad line c (mode_of kind line R) R) z in
+          let Q : Option Load → Type 0 = λ z. Lists line (Further line c (mode_of kind line R) R z) r.0 in
+          record {
+            is_walk = w;
+            same_cycle = cycle ∙ h.same_cycle;
+            same_mode = of_mode ∙ h.same_mode;
+            same_set = set ∙ h.same_set;
+            done = h.done ++ l ∷ [];
+            ahead = r.0;
+            listed = subst P s h.listed;
+            further = subst Q (sym last) r.1.1;
+            many = omega (arith, h.many, length-append h.done (l ∷ []));
+            found = e ∙ (ap (λ (z : List Load). z ++ cond b (l ∷ []) []) h.found
+                ∙ (ap (λ (z : Bool). pick (wanted kind line c R most) h.done ++ cond z (l ∷ []) []) (sym t)
+                ∙ sym (pick_push (wanted kind line c R most) h.done l)));
+            few = few;
+          }
+
+      module _ (l : Load) (next : IsFollowing line walk.cycle walk.mode walk.set walk.last l) (w : IsWalk line new)
+          (cycle : new.cycle ≡ walk.cycle) (of_mode : new.mode ≡ walk.mode) (set : new.set ≡ walk.set)
+          (last : new.last ≡ Some l) where
+        -- a load that is not open
+        pub passes : (IsOpen kind line c new.mode R most l → ⊥) → IsListing kind line c R m most (k + 1) new firsts
+        passes shut =
+            let P : Mode → Type 0 = λ z. IsOpen kind line c z R most l → ⊥ in
+            goes l false (shut_so l (following l next).load (subst P (of_mode ∙ h.same_mode) shut)) (following l next) w
+            cycle of_mode set last firsts (sym (append-nil firsts)) h.few
+
+        -- a load that is
+        pub joins : IsOpen kind line c new.mode R most l → length firsts < m
+            → IsListing kind line c R m most (k + 1) new (firsts ++ l ∷ [])
+        joins open_here few =
+            let P : Mode → Type 0 = λ z. IsOpen kind line c z R most l in
+            goes l true (open_so l (subst P (of_mode ∙ h.same_mode) open_here)) (following l next) w cycle of_mode set
+            last
+            (firsts ++ l ∷ []) refl (omega (arith, few, length-append firsts (l ∷ [])))
+
+  module _ (n : ℕ) {m k : ℕ} {walk : Walking} {firsts : List Load}
+      (h : IsListing kind line c R m most k walk firsts) (within : k ≤ n) where
+    -- the first m of those that are open among the first n loads
+    abbrev firsts_all : List Load
+    firsts_all = take m (pick (wanted kind line c R most) (take n (h.done ++ h.ahead)))
+
+    are_first : AreFirst kind line c R n m most firsts_all
+    are_first =
+        let r : Rises line (take n (h.done ++ h.ahead)) =
+        rises_take line n (h.done ++ h.ahead)
+        (rises_of line (h.done ++ h.ahead) (IsLoad line c (mode_of kind line R) R) h.listed) in
+        record {
+          loads = h.done ++ h.ahead;
+          listed = h.listed;
+          left = pick (wanted kind line c R most) (take n (h.done ++ h.ahead));
+          picked = lists_of line
+              (λ a. IsOpen kind line c (mode_of kind line R) R most a × Contains (take n (h.done ++ h.ahead)) a)
+              (pick (wanted kind line c R most) (take n (h.done ++ h.ahead)))
+              (picked_rise line (wanted kind line c R most) (take n (h.done ++ h.ahead)) r)
+              (λ a x.
+              let s : Amid a (take n (h.done ++ h.ahead)) × (wanted kind line c R most a ≡ true) =
+              picked (wanted kind line c R most) a (take n (h.done ++ h.ahead)) x in
+              let t : (j : ℕ) × (slice_get (h.done ++ h.ahead) j ≡ Some a) =
+              amid_some (h.done ++ h.ahead) a (amid_take n (h.done ++ h.ahead) a s.0) in
+              (open_is a (h.listed.sound t.0 a t.1) s.1, contains_so (take n (h.done ++ h.ahead)) a s.0))
+              (λ a q. picks (wanted kind line c R most) a (take n (h.done ++ h.ahead))
+              (amid_from (take n (h.done ++ h.ahead)) a q.1.0 q.1.1 q.1.2) (open_so a q.0));
+          first = refl;
+        }
+
+    long : length firsts ≡ length (pick (wanted kind line c R most) h.done)
+    long = ap (λ (z : List Load). length z) h.found
+
+    -- those found so far are the first ones of these
+    pub some_firsts : (all : List Load) × AreFirst kind line c R n m most all
+        × ((more : List Load) × (all ≡ firsts ++ more))
+    some_firsts =
+        let more : List Load =
+        take (m - length (pick (wanted kind line c R most) h.done))
+        (pick (wanted kind line c R most) (take (n - length h.done) h.ahead)) in (
+          firsts_all,
+          are_first,
+          (
+            more,
+            first_some (wanted kind line c R most) n m h.done h.ahead (omega (arith, h.many, within))
+                (omega (arith, long, h.few))
+                ∙ ap (λ (z : List Load). z ++ more) (sym h.found),
+          ),
+        )
+
+    -- and all of them, where n loads were gone over, or all, or m were found
+    pub all_firsts : ((k ≡ n) ⊎ (h.ahead ≡ [])) ⊎ (length firsts ≡ m) → AreFirst kind line c R n m most firsts
+    all_firsts ends =
+        let these : ((length h.done ≡ n) ⊎ (h.ahead ≡ [])) ⊎ (length (pick (wanted kind line c R most) h.done) ≡ m) =
+        elim ends [
+          | inl x ↦ inl (elim x [ inl e ↦ inl (omega (arith, e, h.many)) | inr e ↦ inr e ])
+          | inr e ↦ inr (omega (arith, e, long))
+        ] in
+        let P : List Load → Type 0 = λ z. AreFirst kind line c R n m most z in
+        subst P (first_ones (wanted kind line c R most) n m h.done h.ahead (omega (arith, h.many, within))
+        (omega (arith, long, h.few)) these
+        ∙ sym h.found) are_first
+
+  -- a job more
+  pub job_joins : {k : ℕ} {walk new : Walking} {jobs : List Job} (more : List Job)
+      (h : IsJobListing kind line c R most k walk jobs) (l : Load) (r : List Bool)
+      → IsFollowing line walk.cycle walk.mode walk.set walk.last l → IsWalk line new → new.cycle ≡ walk.cycle
+      → new.mode ≡ walk.mode → new.set ≡ walk.set → new.last ≡ Some l
+      → (r ≡ rest R l) × IsOpen kind line c new.mode R most l → more ≡ jobs ++ record { set = r; load = l } ∷ []
+      → length jobs < 4096 → IsJobListing kind line c R most (k + 1) new more
+  job_joins {jobs = jobs} more h l r next w cycle of_mode set last o e few = record {
+    firsts = h.firsts ++ l ∷ [];
+    listing = joins h.listing l next w cycle of_mode set last o.1
+        (omega (arith, few, ap (λ (z : List Job). length z) h.each, length-map h.firsts (job_of R)));
+    each = e ∙ (ap (λ (z : List Bool). jobs ++ record { set = z; load = l } ∷ []) o.0
+        ∙ (ap (λ (z : List Job). z ++ job_of R l ∷ []) h.each ∙ sym (map_push (job_of R) h.firsts l)));
+  }
 
   -- the jobs, where so many loads were gone over, or all, or so many jobs were found
-  pub all_jobs : (k : ℕ) (walk : Walking) (jobs : List Job) (h : IsListing kind line c most k walk jobs) → k ≤ 65536
-      → ((k ≡ 65536) ⊎ (h.ahead ≡ [])) ⊎ (length jobs ≡ 4096) → AreJobs kind line c most jobs
+  pub all_jobs : {k : ℕ} {walk : Walking} {jobs : List Job} (h : IsJobListing kind line c R most k walk jobs)
+      → R ≡ all_tasks line → k ≤ 65536 → ((k ≡ 65536) ⊎ (h.listing.ahead ≡ [])) ⊎ (length jobs ≡ 4096)
+      → AreJobs kind line c most jobs
   unfolding max_loads max_jobs
-  all_jobs k walk jobs h l ends =
-      let long : length jobs ≡ length (pick wanted h.done) =
-      ap (λ (z : List Job). length z) h.found ∙ length_mapped (job_of (all_tasks line)) (pick wanted h.done) in
-      let these : ((length h.done ≡ 65536) ⊎ (h.ahead ≡ [])) ⊎ (length (pick wanted h.done) ≡ 4096) =
-      elim ends [
-        | inl x ↦ inl (elim x [ inl e ↦ inl (omega (arith, e, h.many)) | inr e ↦ inr e ])
-        | inr e ↦ inr (omega (arith, e, long))
-      ] in
-      let r : Rises line (take 65536 (h.done ++ h.ahead)) =
-      rises_take line 65536 (h.done ++ h.ahead)
-      (rises_of line (h.done ++ h.ahead) (IsLoad line c mode (all_tasks line)) h.listed) in
+  all_jobs {k = k} {jobs = jobs} h all l ends =
+      let long : length jobs ≡ length h.firsts =
+      ap (λ (z : List Job). length z) h.each ∙ length-map h.firsts (job_of R) in
+      let these : ((k ≡ 65536) ⊎ (h.listing.ahead ≡ [])) ⊎ (length h.firsts ≡ 4096) =
+      elim ends [ inl x ↦ inl x | inr e ↦ inr (omega (arith, e, long)) ] in
+      let P : List Bool → Type 0 = λ z. AreFirst kind line c z 65536 4096 most h.firsts in
       record {
-        loads = h.done ++ h.ahead;
-        listed = h.listed;
-        left = pick wanted (take 65536 (h.done ++ h.ahead));
-        picked = lists_of line
-            (λ a. IsOpen kind line c mode (all_tasks line) most a × Contains (take 65536 (h.done ++ h.ahead)) a)
-            (pick wanted (take 65536 (h.done ++ h.ahead))) (picked_rise line wanted (take 65536 (h.done ++ h.ahead)) r)
-            (λ a m.
-            let s : Amid a (take 65536 (h.done ++ h.ahead)) × (wanted a ≡ true) =
-            picked wanted a (take 65536 (h.done ++ h.ahead)) m in
-            let t : (j : ℕ) × (slice_get (h.done ++ h.ahead) j ≡ Some a) =
-            amid_some (h.done ++ h.ahead) a (amid_take 65536 (h.done ++ h.ahead) a s.0) in
-            (open_is a (h.listed.sound t.0 a t.1) s.1, contains_so (take 65536 (h.done ++ h.ahead)) a s.0))
-            (λ a q. picks wanted a (take 65536 (h.done ++ h.ahead))
-            (amid_from (take 65536 (h.done ++ h.ahead)) a q.1.0 q.1.1 q.1.2) (open_so a q.0));
-        first = h.found
-            ∙ ap (λ (z : List Load). map (job_of (all_tasks line)) z)
-            (sym (first_ones wanted 65536 4096 h.done h.ahead (omega (arith, h.many, l))
-            (omega (arith, long, h.few)) these));
+        firsts = h.firsts;
+        are = subst P all (all_firsts 65536 h.listing l these);
+        each = h.each ∙ ap (λ (z : List Bool). map (job_of z) h.firsts) all;
       }

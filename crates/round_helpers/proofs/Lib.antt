@@ -12,3 +12,4 @@ pub mod Joining
 pub mod Ranges
 pub mod HelpFacts
 pub mod JobFacts
+pub mod SplitFacts

@@ -1,7 +1,7 @@
 -- The pieces that hands took, and the jobs that are done once a pool is closed.
 use Rattle.std.proofs.Common.{◌≡◌, ℕ, zero, suc, ◌+◌, ◌-◌, ◌%◌, ◌<◌, ◌≤◌, ◌⊎◌, Bool, true, false, cond, List, [], ◌∷◌}
 use Rattle.std.proofs.Common.{◌++◌, length, map, take, get_or, refl, sym, ap, ◌∙◌, subst, inl, inr, arith, append_assoc}
-use Rattle.std.proofs.Common.{length-append, Some}
+use Rattle.std.proofs.Common.{Some}
 use Rattle.std.specs.Prelude.{slice_get, nat_eq, sum_by, filter}
 use Rattle.std.proofs.Math.Nat.{mod-lt}
 use Rattle.std.proofs.lemmas.Bool.{cases_Bool, cases_lt}
@@ -13,24 +13,20 @@ use Rattle.std.proofs.lemmas.Option.{same_Some}
 use Rattle.task_set.specs.Truths.{In, meet}
 use Rattle.task_set.proofs.Members.{In-meet_parts}
 use Rattle.line_instance.specs.Line.{Line, IsTaskSet}
-use Rattle.line_rules.specs.Entries.{IsOpen}
-use Rattle.line_rules.specs.Loads.{rest}
 use Rattle.line_rules.specs.declared.types.LineKind.{LineKind}
 use Rattle.line_rules.specs.declared.types.Load.{Load}
-use Rattle.line_rules.specs.declared.types.Mode.{Mode}
 use Rattle.lemma_core.specs.Desks.{DeskView, Keeps}
-use Rattle.station_search.specs.Mode.{mode_of}
 use Rattle.steal_pool.specs.declared.piece.Piece.{Piece}
 use Rattle.steal_pool.specs.declared.closing.Closed.{Closed}
 use Rattle.steal_pool.specs.Hands.{DequeId, PortView, HandView, own_of, tooks, AreNumbered, each_from, fresh_port}
-use Rattle.steal_pool.specs.Hands.{dealt_to, new_hand, new_hands, put_home}
+use Rattle.steal_pool.specs.Hands.{dealt_to, new_hand, new_hands}
 use Rattle.steal_pool.specs.Calls.{change, GetsOne, FindsNone}
 use Rattle.steal_pool.specs.Closing.{IsClosed, AreMarked, got_at, took_at}
 use Rattle.steal_pool.proofs.Each.{length_each, each_push, each_there}
 use Rattle.steal_pool.proofs.Ports.{get_push}
 use Rattle.line_rules.specs.Balance.{all_tasks}
 use Rattle.round_helpers.specs.Jobs.{AreJobs, job_of, max_jobs}
-use Rattle.round_helpers.specs.inner.Pieces.{IsPart, Splits, Puts, KeepsOwn, IsDone, AreDone, piece_of, pieces_of}
+use Rattle.round_helpers.specs.inner.Pieces.{Puts, KeepsOwn, IsDone, AreDone, piece_of, pieces_of}
 use Rattle.round_helpers.specs.declared.job_list.Job.{Job}
 use Rattle.round_helpers.proofs.WorkFacts.{answered_on}
 
@@ -149,9 +145,10 @@ pub few_jobs : (kind : LineKind) (line : Line) (c most : ℕ) (jobs : List Job) 
 unfolding max_jobs
 few_jobs kind line c most jobs are = omega (
   arith,
-  ap (λ (z : List Job). length z) are.first,
-  length-map (take max_jobs are.left) (job_of (all_tasks line)),
-  length-take 4096 are.left,
+  ap (λ (z : List Job). length z) are.each,
+  length-map are.firsts (job_of (all_tasks line)),
+  ap (λ (z : List Load). length z) are.are.first,
+  length-take 4096 are.are.left,
 )
 
 pub pieces_all : (most k : ℕ) (jobs : List Job) (pieces : List Piece) → pieces ≡ pieces_of most (take k jobs)
@@ -312,65 +309,3 @@ module _ (pool : List DequeId) (most : ℕ) (jobs : List Job) (before after : Li
       let t = took_there a.1.ports m b.0 b.1 b.2 in
       let q = weighs k b.1 b.3 in
       (a.0, a.1, m, b.0, t.0, b.1, a.2, t.1, t.2, q.0, q.1)
-
--- A hand that put so many parts of a set, and took none.
-pub record IsSplit (kind : LineKind) (line : Line) (c : ℕ) (R : List Bool) (depth most count : ℕ)
-    (old new : HandView) : Type 0 where
-  pub more : List Piece
-  pub own : own_of new ≡ own_of old ++ more
-  pub took : tooks new ≡ tooks old
-  pub many : length more ≡ count
-  pub parts : (k : ℕ) (x : Piece) → slice_get more k ≡ Some x → IsPart kind line c R depth most x
-
-pub splits_of : {kind : LineKind} {line : Line} {c : ℕ} {R : List Bool} {depth most count : ℕ} {old new : HandView}
-    → IsSplit kind line c R depth most count old new → count ≤ 8 → Splits kind line c R depth most old new
-splits_of s few = record {
-  more = s.more;
-  own = s.own;
-  took = s.took;
-  few = omega (arith, s.many, few);
-  parts = s.parts;
-}
-
-pub split_none : (kind : LineKind) (line : Line) (c : ℕ) (R : List Bool) (depth most : ℕ) (v : HandView)
-    → IsSplit kind line c R depth most 0 v v
-split_none kind line c R depth most v = record {
-  more = [];
-  own = sym (append-nil (own_of v));
-  took = refl;
-  many = refl;
-  parts = λ k x e. absurd (cc);
-}
-
--- one part more was put
-pub split_one : (kind : LineKind) (line : Line) (c : ℕ) (R : List Bool) (depth most count n : ℕ) (a v w : HandView)
-    (x : Piece) → IsSplit kind line c R depth most count a v → n ≡ count + 1 → IsPart kind line c R depth most x
-    → w ≡ record v { home = put_home v.home x } → IsSplit kind line c R depth most n a w
-split_one kind line c R depth most count n a v w x s is part e =
-    let P : HandView → Type 0 = λ z. IsSplit kind line c R depth most n a z in
-    subst P (sym e) (record {
-      more = s.more ++ x ∷ [];
-      own = ap (λ (z : List Piece). z ++ x ∷ []) s.own ∙ append_assoc (own_of a) s.more (x ∷ []);
-      took = s.took;
-      many = omega (arith, s.many, is, length-append s.more (x ∷ []));
-      parts = λ k y at. elim (get_push s.more x y k at) [
-        | inl before ↦ s.parts k y before
-        | inr last ↦ subst (λ (z : Piece). IsPart kind line c R depth most z) last.1 part
-      ];
-    })
-
--- a load that is open leaves a part
-pub part_of : (kind : LineKind) (line : Line) (c : ℕ) (R r : List Bool) (depth most number : ℕ) (m : Mode) (l : Load)
-    → depth < 2 → 2 ≤ most → m ≡ mode_of kind line R → (r ≡ rest R l) × IsOpen kind line c m R most l
-    → IsPart kind line c R depth most (record { number = number; depth = depth + 1; most = most - 1; set = r })
-part_of kind line c R r depth most number m l shallow some same o =
-    let P : Mode → Type 0 = λ z. IsOpen kind line c z R most l in
-    record {
-      shallow = shallow;
-      some = some;
-      deeper = omega arith;
-      less = refl;
-      load = l;
-      opens = subst P same o.1;
-      set = o.0;
-    }

@@ -1,4 +1,5 @@
--- The jobs of a question: the first loads of all tasks that a search would have to go into.
+-- The first loads of a set that a search would have to go into, and the jobs of a question, which are those of all
+-- tasks.
 use Rattle.std.specs.Prelude.{◌≡◌, ℕ, Bool, List, map, take}
 use Rattle.std.specs.List.{Contains}
 use Rattle.line_instance.specs.Line.{Line}
@@ -18,6 +19,16 @@ max_loads = 65536
 unfoldable pub max_jobs : ℕ
 max_jobs = 4096
 
+-- The first m loads of a set R, in their order, of those among its first n loads that are full and whose rest the bound
+-- leaves open for one station less than `most`. (Own.)
+pub record AreFirst (kind : LineKind) (line : Line) (c : ℕ) (R : List Bool) (n m most : ℕ)
+    (firsts : List Load) : Type 0 where
+  pub loads : List Load
+  pub listed : Lists line (IsLoad line c (mode_of kind line R) R) loads
+  pub left : List Load
+  pub picked : Lists line (λ l. IsOpen kind line c (mode_of kind line R) R most l × Contains (take n loads) l) left
+  pub first : firsts ≡ take m left
+
 -- the job of a load of R: the load, and the rest that it leaves
 abbrev pub job_of : List Bool → Load → Job
 job_of R l = record { set = rest R l; load = l }
@@ -25,13 +36,9 @@ job_of R l = record { set = rest R l; load = l }
 -- The jobs of the question whether all tasks have a balance in `most` stations, in their order: the first 4,096 of the
 -- loads among the first 65,536 that are full and whose rest the bound leaves open for one station less. (Own.)
 pub record AreJobs (kind : LineKind) (line : Line) (c most : ℕ) (jobs : List Job) : Type 0 where
-  pub loads : List Load
-  pub listed : Lists line (IsLoad line c (mode_of kind line (all_tasks line)) (all_tasks line)) loads
-  pub left : List Load
-  pub picked :
-      let mode = mode_of kind line (all_tasks line) in
-      Lists line (λ l. IsOpen kind line c mode (all_tasks line) most l × Contains (take max_loads loads) l) left
-  pub first : jobs ≡ map (job_of (all_tasks line)) (take max_jobs left)
+  pub firsts : List Load
+  pub are : AreFirst kind line c (all_tasks line) max_loads max_jobs most firsts
+  pub each : jobs ≡ map (job_of (all_tasks line)) firsts
 
 -- a job of the question of `most` stations: a load that the bound leaves open, and its rest
 pub record IsJobOf (kind : LineKind) (line : Line) (c most : ℕ) (job : Job) : Type 0 where

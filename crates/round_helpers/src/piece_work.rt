@@ -11,8 +11,11 @@ ghost use Rattle.lemma_core.specs.Desks.{Keeps};
 ghost use Rattle.station_search.specs.Decide.{IsFor};
 ghost use Rattle.steal_pool.specs.Hands.{IsHandOf};
 ghost use Rattle.round_helpers.specs.Jobs.{AreJobs, IsJobOf};
-ghost use Rattle.round_helpers.specs.inner.Pieces.{Puts, KeepsOwn, IsRefuted, IsDone, AreDone, IsEarly, IsEnd};
+ghost use Rattle.round_helpers.specs.inner.Pieces.{Puts, HasSplit, SplitsAll, KeepsOwn, IsRefuted, IsDone, AreDone};
+ghost use Rattle.round_helpers.specs.inner.Pieces.{IsEarly};
+ghost use Rattle.round_helpers.specs.inner.Pieces.{IsEnd};
 ghost use Rattle.round_helpers.specs.inner.Works.{Works};
+ghost use Rattle.round_helpers.specs.declared.piece_work.End.TheVariants.{Empty};
 
 use crate::job_list::Job;
 use crate::job_work::{Answer, MOST_BESIDE, Question, ask, do_job};
@@ -129,6 +132,7 @@ fn do_piece<D: Desk>(
         Works inst.now question.cycle (D.desk desk.old) (D.desk desk.new) used used }
     ensures hand { IsHandOf pool.now hand.new × (hand.new.name ≡ hand.old.name) }
     ensures puts { Puts hand.old hand.new }
+    ensures splits { IsNone result → HasSplit question.kind inst.now question.cycle piece.now hand.old hand.new }
     ensures done { IsNone result → IsDone (D.desk desk.new) question.cycle question.most jobs.now piece.now }
     ensures early { IfSome result (IsEarly (D.desk desk.new) question.most units.new.left) }
 {
@@ -183,6 +187,7 @@ pub fn do_pieces<R: Wait, D: Desk>(
         Works inst.now question.cycle (D.desk desk.old) (D.desk desk.new) used used }
     ensures hand { IsHandOf pool.now hand.new × (hand.new.name ≡ hand.old.name) }
     ensures own { KeepsOwn hand.old hand.new }
+    ensures splits { result ≡ Empty → SplitsAll question.kind inst.now question.cycle hand.old hand.new }
     ensures ends { IsEnd (D.desk desk.new) question.cycle question.most jobs.now hand.new units.new.left result }
 {
     'working: for _ in rt.forever() {

@@ -6,7 +6,7 @@ ghost use Rattle.std.specs.Prelude.{◌≡◌, ◌+◌, ◌<◌, ◌≤◌, ◌^
 ghost use Rattle.line_instance.specs.Line.{IsTaskSet};
 ghost use Rattle.line_rules.specs.Ranges.{IsCycle};
 ghost use Rattle.steal_pool.specs.Hands.{IsHandOf};
-ghost use Rattle.round_helpers.specs.inner.Pieces.{Splits};
+ghost use Rattle.round_helpers.specs.inner.Pieces.{Splits, max_listed};
 
 use crate::job_list::rest_at;
 use crate::job_work::Question;
@@ -26,8 +26,10 @@ const MAX_LISTED: u32 = 1024;
 const MAX_PUT: u32 = 8;
 
 /// Puts the rests of the first loads of a piece's set as pieces, a depth more and a station less: of the first 1,024
-/// loads the first 8 that are full and whose rest the bound leaves open. It stops where the hand has no room. Each load
-/// that is gone over costs a unit; false says that the units ended.
+/// loads the first 8 that are full and whose rest the bound leaves open. From a depth of 2 on, and for less than 2
+/// stations, it puts nothing. It stops early only where the hand has no room or the units end. Each load that is gone
+/// over costs a unit; false says that the units ended.
+#[tactic(auto, unfolding(crate::specs::inner::Pieces::max_listed))]
 pub fn split_piece(
     inst: &Instance,
     question: Question,
@@ -43,14 +45,16 @@ pub fn split_piece(
     requires hand { IsHandOf pool.now hand.old }
     requires units { units.old.used + units.old.left < 2 ^ 64 }
     ensures hand { IsHandOf pool.now hand.new × (hand.new.name ≡ hand.old.name) }
-    ensures splits { Splits question.kind inst.now question.cycle set.now depth most hand.old hand.new }
+    ensures splits { Splits question.kind inst.now question.cycle set.now depth most result hand.old hand.new }
     ensures units { units.new.used + units.new.left ≡ units.old.used + units.old.left }
     ensures spent { units.old.used ≤ units.new.used }
+    ensures few { units.new.used ≤ units.old.used + max_listed }
     ensures ended { result ≡ false → units.new.left ≡ 0 }
 {
     if depth >= MAX_DEPTH || most < 2 {
         return true;
     }
+    let _tasks = inst.tasks();
     let mode = choose_mode(inst, question.kind, set);
     let mut walk = begin(inst, question.cycle, set, mode);
     let mut count = 0;

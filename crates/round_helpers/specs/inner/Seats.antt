@@ -11,9 +11,10 @@ use Rattle.book_share.specs.Passes.{Base, PassView, PassOf, desk_by}
 use Rattle.station_search.specs.declared.answers.Units.{Units}
 use Rattle.round_helpers.specs.Growth.{AreAtCycle}
 use Rattle.steal_pool.specs.Hands.{DequeId, HandView, IsHandOf}
-use Rattle.round_helpers.specs.inner.Pieces.{KeepsOwn, IsEnd}
+use Rattle.round_helpers.specs.inner.Pieces.{KeepsOwn, SplitsAll, IsEnd}
 use Rattle.round_helpers.specs.declared.job_list.Job.{Job}
 use Rattle.round_helpers.specs.declared.job_work.Question.{Question}
+use Rattle.round_helpers.specs.declared.piece_work.End.TheVariants.{Empty}
 use Rattle.round_helpers.specs.declared.teams.Helper.{Helper}
 
 -- the numbers by which a helper knows its pass again: the name of the loan of it, the length of the log at the start,
@@ -66,8 +67,8 @@ pub record HasAdded (line : Line) (X : ℕ) (v : PassView) (used : ℕ) : Type 0
   pub within : published ≤ used
 
 -- A helper after its work: its pass is the same one and has seen no less, its own events paid for the units used, and
--- its work ended so. Its hand is of the pool, has the name that it had, and keeps what was dealt to it. It was given so
--- many units.
+-- its work ended so. Its hand is of the pool, has the name that it had, and keeps what was dealt to it; where the work
+-- ended with all deques empty, it split each piece that it took. It was given so many units.
 pub record HasWorked (share : TableId) (base : Base) (seen : List Item) (line : Line) (question : Question)
     (jobs : List Job) (pool : List DequeId) (hand : HandView) (given : ℕ) (h : Helper) : Type 0 where
   pub pass : IsPassOf share h.pass
@@ -77,6 +78,7 @@ pub record HasWorked (share : TableId) (base : Base) (seen : List Item) (line : 
   pub added : HasAdded line question.cycle h.pass.view h.units.used
   pub own_hand : IsHandOf pool h.hand × (h.hand.name ≡ hand.name)
   pub dealt : KeepsOwn hand h.hand
+  pub splits : h.end ≡ Empty → SplitsAll question.kind line question.cycle hand h.hand
   pub ends : IsEnd (desk_by h.pass.view) question.cycle question.most jobs h.hand h.units.left h.end
   pub sum : h.units.used + h.units.left ≡ given
 

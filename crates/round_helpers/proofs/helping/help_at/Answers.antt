@@ -1,10 +1,10 @@
-use Rattle.std.proofs.Common.{◌≡◌, List, length, sym, ap, ◌∙◌, subst, inr, arith}
+use Rattle.std.proofs.Common.{List, sym, ap, ◌∙◌, subst, inr, arith}
 use Rattle.book_share.specs.Passes.{PassView}
 use Rattle.steal_pool.specs.Hands.{HandView, AreHandsOf}
 use Rattle.steal_pool.specs.Closing.{IsClosed}
 use Rattle.round_helpers.specs.inner.Teams.{AreSettled, IsTold, settled}
 use Rattle.round_helpers.specs.declared.teams.Helper.{Helper}
-use Rattle.round_helpers.proofs.HelpFacts.{bare_first, may_work, have_worked, passes_are, are_settled, hands_back}
+use Rattle.round_helpers.proofs.HelpFacts.{bare_first, may_work, are_back, passes_are, are_settled, hands_back}
 use Rattle.round_helpers.proofs.HelpFacts.{comes_back, spent_back}
 use Rattle.round_helpers.proofs.helping.help_at.Goals as goal
 
@@ -28,65 +28,45 @@ worked-helpers-requires-clause-each g c κs within =
 
 pub settle-requires-clause-sums : goal.settle-requires-clause-sums
 settle-requires-clause-sums g c =
-    let before : length c.split_off-ready.result.items ≡ length c.args.units.now =
-    sym c.split_off-ready.result.ok.0 ∙ c.split_off-ready.ensures.count in
-    let as_many : length c.args.equipment.hands ≡ length c.args.units.now =
-    c.requires.equipped.are.count ∙ c.requires.equipped.count_is in
-    let all = have_worked c.args.share c.args.pass.view.base c.args.pass.view.seen c.args.inst.now c.args.question
-    c.args.jobs.now c.args.equipment.pool c.args.units.now c.args.equipment.hands c.split_off-ready.result.items
-    c.worked-helpers.result.items before c.split_off-ready.ensures.ready c.worked-helpers.ensures.each in
+    let t = are_back c.args.share c.args.pass c.args.inst.now c.args.question c.args.jobs.now c.args.units.now
+    c.args.equipment c.split_off-ready.result c.worked-helpers.result c.requires.equipped
+    c.split_off-ready.ensures.count c.split_off-ready.ensures.ready c.worked-helpers.ensures.count
+    c.worked-helpers.ensures.each in
     let P : List Helper → Type 0 = λ z. AreSettled c.args.units.now z in
     subst P (sym c.deref.ensures.value)
-    (are_settled c.args.share c.args.pass.view.base c.args.pass.view.seen c.args.inst.now c.args.question
-    c.args.jobs.now c.args.equipment.pool c.args.units.now c.args.equipment.hands c.worked-helpers.result.items
-    (c.worked-helpers.ensures.count ∙ before) as_many all c.requires.team)
+    (are_settled t c.requires.team)
 
 pub join_all-hands-requires-clause-each : goal.join_all-hands-requires-clause-each
 join_all-hands-requires-clause-each g c =
-    let before : length c.split_off-ready.result.items ≡ length c.args.units.now =
-    sym c.split_off-ready.result.ok.0 ∙ c.split_off-ready.ensures.count in
-    let as_many : length c.args.equipment.hands ≡ length c.args.units.now =
-    c.requires.equipped.are.count ∙ c.requires.equipped.count_is in
-    let all = have_worked c.args.share c.args.pass.view.base c.args.pass.view.seen c.args.inst.now c.args.question
-    c.args.jobs.now c.args.equipment.pool c.args.units.now c.args.equipment.hands c.split_off-ready.result.items
-    c.worked-helpers.result.items before c.split_off-ready.ensures.ready c.worked-helpers.ensures.each in
-    passes_are c.args.share c.args.pass.view.base c.args.pass.view.seen c.args.inst.now c.args.question
-    c.args.jobs.now c.args.equipment.pool c.args.units.now c.args.equipment.hands c.worked-helpers.result.items
-    (c.worked-helpers.ensures.count ∙ before) as_many all
+    let t = are_back c.args.share c.args.pass c.args.inst.now c.args.question c.args.jobs.now c.args.units.now
+    c.args.equipment c.split_off-ready.result c.worked-helpers.result c.requires.equipped
+    c.split_off-ready.ensures.count c.split_off-ready.ensures.ready c.worked-helpers.ensures.count
+    c.worked-helpers.ensures.each in
+    passes_are t
 
 pub close-closed-requires : goal.close-closed-requires
 close-closed-requires g c =
-    let before : length c.split_off-ready.result.items ≡ length c.args.units.now =
-    sym c.split_off-ready.result.ok.0 ∙ c.split_off-ready.ensures.count in
-    let as_many : length c.args.equipment.hands ≡ length c.args.units.now =
-    c.requires.equipped.are.count ∙ c.requires.equipped.count_is in
-    let all = have_worked c.args.share c.args.pass.view.base c.args.pass.view.seen c.args.inst.now c.args.question
-    c.args.jobs.now c.args.equipment.pool c.args.units.now c.args.equipment.hands c.split_off-ready.result.items
-    c.worked-helpers.result.items before c.split_off-ready.ensures.ready c.worked-helpers.ensures.each in
+    let t = are_back c.args.share c.args.pass c.args.inst.now c.args.question c.args.jobs.now c.args.units.now
+    c.args.equipment c.split_off-ready.result c.worked-helpers.result c.requires.equipped
+    c.split_off-ready.ensures.count c.split_off-ready.ensures.ready c.worked-helpers.ensures.count
+    c.worked-helpers.ensures.each in
     let P : List HandView → Type 0 = λ z. AreHandsOf c.args.equipment.pool z in
     subst P (sym (c.from_vec.ensures ∙ c.join_all-hands.ensures.hands))
-    (hands_back c.args.share c.args.pass.view.base c.args.pass.view.seen c.args.inst.now c.args.question
-    c.args.jobs.now c.args.equipment.pool c.args.units.now c.args.equipment.hands c.worked-helpers.result.items
-    (c.worked-helpers.ensures.count ∙ before) as_many all c.requires.equipped.are)
+    (hands_back t c.requires.equipped.are)
 
 pub returns-then-least-question-clause-help : goal.returns-then-least-question-clause-help
 returns-then-least-question-clause-help g c = λ book ok e about.
-    let before : length c.split_off-ready.result.items ≡ length c.args.units.now =
-    sym c.split_off-ready.result.ok.0 ∙ c.split_off-ready.ensures.count in
-    let as_many : length c.args.equipment.hands ≡ length c.args.units.now =
-    c.requires.equipped.are.count ∙ c.requires.equipped.count_is in
-    let all = have_worked c.args.share c.args.pass.view.base c.args.pass.view.seen c.args.inst.now c.args.question
-    c.args.jobs.now c.args.equipment.pool c.args.units.now c.args.equipment.hands c.split_off-ready.result.items
-    c.worked-helpers.result.items before c.split_off-ready.ensures.ready c.worked-helpers.ensures.each in
+    let t = are_back c.args.share c.args.pass c.args.inst.now c.args.question c.args.jobs.now c.args.units.now
+    c.args.equipment c.split_off-ready.result c.worked-helpers.result c.requires.equipped
+    c.split_off-ready.ensures.count c.split_off-ready.ensures.ready c.worked-helpers.ensures.count
+    c.worked-helpers.ensures.each in
     let T : List Helper → Type 0 = λ z. IsTold z c.tell-told.result in
     let C : List HandView → Type 0 = λ z. IsClosed z c.close-closed.result in
     let units = c.settle.ensures ∙ ap (λ (z : List Helper). settled c.args.units.now z) c.deref.ensures.value in
-    let back = comes_back c.args.share c.args.inst.now c.args.question c.args.jobs.now c.args.equipment.pool
-    c.args.units.now c.settle.new.units c.args.equipment.hands c.worked-helpers.result.items c.close-closed.result
-    c.args.pass c.split_off-ready.new.pass c.join_all-hands.new.pass book c.close-book.result c.tell-told.result
-    (c.worked-helpers.ensures.count ∙ before) c.requires.helper c.requires.team.few as_many
-    c.requires.equipped.count_is e about c.requires.are c.requires.equipped.hands
-    (subst C (c.from_vec.ensures ∙ c.join_all-hands.ensures.hands) c.close-closed.ensures) all
+    let back = comes_back c.settle.new.units c.args.pass c.split_off-ready.new.pass c.join_all-hands.new.pass book
+    c.close-book.result c.tell-told.result t c.requires.helper c.requires.team.few c.requires.equipped.count_is e about
+    c.requires.are c.requires.equipped.hands
+    (subst C (c.from_vec.ensures ∙ c.join_all-hands.ensures.hands) c.close-closed.ensures)
     c.split_off-ready.ensures.bare c.join_all-hands.ensures.joined
     c.close-book.ensures.about c.close-book.ensures.opening c.close-book.ensures.seen c.close-book.ensures.all
     c.close-book.ensures.reserved ok c.len-len.ensures.kept units
@@ -95,37 +75,26 @@ returns-then-least-question-clause-help g c = λ book ok e about.
 
 pub returns-then-least-question-clause-spent : goal.returns-then-least-question-clause-spent
 returns-then-least-question-clause-spent g c =
-    let before : length c.split_off-ready.result.items ≡ length c.args.units.now =
-    sym c.split_off-ready.result.ok.0 ∙ c.split_off-ready.ensures.count in
-    let as_many : length c.args.equipment.hands ≡ length c.args.units.now =
-    c.requires.equipped.are.count ∙ c.requires.equipped.count_is in
-    let all = have_worked c.args.share c.args.pass.view.base c.args.pass.view.seen c.args.inst.now c.args.question
-    c.args.jobs.now c.args.equipment.pool c.args.units.now c.args.equipment.hands c.split_off-ready.result.items
-    c.worked-helpers.result.items before c.split_off-ready.ensures.ready c.worked-helpers.ensures.each in
+    let t = are_back c.args.share c.args.pass c.args.inst.now c.args.question c.args.jobs.now c.args.units.now
+    c.args.equipment c.split_off-ready.result c.worked-helpers.result c.requires.equipped
+    c.split_off-ready.ensures.count c.split_off-ready.ensures.ready c.worked-helpers.ensures.count
+    c.worked-helpers.ensures.each in
     let units = c.settle.ensures ∙ ap (λ (z : List Helper). settled c.args.units.now z) c.deref.ensures.value in
-    spent_back c.args.share c.args.pass.view.base c.args.pass.view.seen c.args.inst.now c.args.question
-    c.args.jobs.now c.args.equipment.pool c.args.units.now c.settle.new.units c.args.equipment.hands
-    c.worked-helpers.result.items
-    (c.worked-helpers.ensures.count ∙ before) as_many all units
+    spent_back c.settle.new.units t units
 
 pub returns-clause-help : goal.returns-clause-help
 returns-clause-help g c = λ book ok e about.
-    let before : length c.split_off-ready.result.items ≡ length c.args.units.now =
-    sym c.split_off-ready.result.ok.0 ∙ c.split_off-ready.ensures.count in
-    let as_many : length c.args.equipment.hands ≡ length c.args.units.now =
-    c.requires.equipped.are.count ∙ c.requires.equipped.count_is in
-    let all = have_worked c.args.share c.args.pass.view.base c.args.pass.view.seen c.args.inst.now c.args.question
-    c.args.jobs.now c.args.equipment.pool c.args.units.now c.args.equipment.hands c.split_off-ready.result.items
-    c.worked-helpers.result.items before c.split_off-ready.ensures.ready c.worked-helpers.ensures.each in
+    let t = are_back c.args.share c.args.pass c.args.inst.now c.args.question c.args.jobs.now c.args.units.now
+    c.args.equipment c.split_off-ready.result c.worked-helpers.result c.requires.equipped
+    c.split_off-ready.ensures.count c.split_off-ready.ensures.ready c.worked-helpers.ensures.count
+    c.worked-helpers.ensures.each in
     let T : List Helper → Type 0 = λ z. IsTold z c.tell-told.result in
     let C : List HandView → Type 0 = λ z. IsClosed z c.close-closed.result in
     let units = c.settle.ensures ∙ ap (λ (z : List Helper). settled c.args.units.now z) c.deref.ensures.value in
-    comes_back c.args.share c.args.inst.now c.args.question c.args.jobs.now c.args.equipment.pool
-    c.args.units.now c.settle.new.units c.args.equipment.hands c.worked-helpers.result.items c.close-closed.result
-    c.args.pass c.split_off-ready.new.pass c.join_all-hands.new.pass book c.close-book.result c.tell-told.result
-    (c.worked-helpers.ensures.count ∙ before) c.requires.helper c.requires.team.few as_many
-    c.requires.equipped.count_is e about c.requires.are c.requires.equipped.hands
-    (subst C (c.from_vec.ensures ∙ c.join_all-hands.ensures.hands) c.close-closed.ensures) all
+    comes_back c.settle.new.units c.args.pass c.split_off-ready.new.pass c.join_all-hands.new.pass book
+    c.close-book.result c.tell-told.result t c.requires.helper c.requires.team.few c.requires.equipped.count_is e about
+    c.requires.are c.requires.equipped.hands
+    (subst C (c.from_vec.ensures ∙ c.join_all-hands.ensures.hands) c.close-closed.ensures)
     c.split_off-ready.ensures.bare c.join_all-hands.ensures.joined
     c.close-book.ensures.about c.close-book.ensures.opening c.close-book.ensures.seen c.close-book.ensures.all
     c.close-book.ensures.reserved ok c.len-len.ensures.kept units
@@ -133,15 +102,9 @@ returns-clause-help g c = λ book ok e about.
 
 pub returns-clause-spent : goal.returns-clause-spent
 returns-clause-spent g c =
-    let before : length c.split_off-ready.result.items ≡ length c.args.units.now =
-    sym c.split_off-ready.result.ok.0 ∙ c.split_off-ready.ensures.count in
-    let as_many : length c.args.equipment.hands ≡ length c.args.units.now =
-    c.requires.equipped.are.count ∙ c.requires.equipped.count_is in
-    let all = have_worked c.args.share c.args.pass.view.base c.args.pass.view.seen c.args.inst.now c.args.question
-    c.args.jobs.now c.args.equipment.pool c.args.units.now c.args.equipment.hands c.split_off-ready.result.items
-    c.worked-helpers.result.items before c.split_off-ready.ensures.ready c.worked-helpers.ensures.each in
+    let t = are_back c.args.share c.args.pass c.args.inst.now c.args.question c.args.jobs.now c.args.units.now
+    c.args.equipment c.split_off-ready.result c.worked-helpers.result c.requires.equipped
+    c.split_off-ready.ensures.count c.split_off-ready.ensures.ready c.worked-helpers.ensures.count
+    c.worked-helpers.ensures.each in
     let units = c.settle.ensures ∙ ap (λ (z : List Helper). settled c.args.units.now z) c.deref.ensures.value in
-    spent_back c.args.share c.args.pass.view.base c.args.pass.view.seen c.args.inst.now c.args.question
-    c.args.jobs.now c.args.equipment.pool c.args.units.now c.settle.new.units c.args.equipment.hands
-    c.worked-helpers.result.items
-    (c.worked-helpers.ensures.count ∙ before) as_many all units
+    spent_back c.settle.new.units t units

@@ -1,4 +1,4 @@
-use Rattle.std.proofs.Common.{refl, ◌∙◌, arith}
+use Rattle.std.proofs.Common.{◌∷◌, refl, ◌∙◌, arith}
 use Rattle.lemma_core.proofs.HistoryGrows.{keeps_both}
 use Rattle.round_helpers.proofs.PieceFacts.{done_more, own_more}
 use Rattle.round_helpers.proofs.WorkFacts.{works_more}
@@ -26,6 +26,16 @@ working-preserved g c = record {
   name = c.do_piece-early.ensures.hand.1 ∙ (c.take.ensures.hand.1 ∙ c.working.invariant.name);
   own = own_more c.args.hand.now c.working.hand c.take.new.hand c.do_piece-early.new.hand c.in-Got.piece
       c.working.invariant.own c.in-Got.ensures.lists c.do_piece-early.ensures.puts;
+  split = (
+    c.in-Got.piece ∷ c.working.invariant.split.0,
+    (
+      c.working.hand,
+      c.take.new.hand,
+      c.working.invariant.split.1,
+      c.in-Got.ensures.lists,
+      c.in_default.ensures.splits refl,
+    ),
+  );
   done = done_more (g.D.Desk.desk c.working.desk) (g.D.Desk.desk c.do_piece-early.new.desk) c.args.question.cycle
       c.args.question.most c.args.jobs.now c.working.hand c.take.new.hand c.do_piece-early.new.hand c.in-Got.piece
       c.do_piece-early.ensures.keeps c.in-Got.ensures.lists c.do_piece-early.ensures.puts c.working.invariant.done
