@@ -1,49 +1,62 @@
--- The words of a set up to the last that isn't 0.
-use Rattle.std.proofs.Common.{◌≡◌, ℕ, zero, suc, ◌+◌, ◌-◌, ◌<◌, ◌≤◌, false, cond, ◌&&◌, eqb, List, [], ◌∷◌, length, get_or, take}
-use Rattle.std.proofs.Common.{refl, sym, ap, ◌∙◌, arith}
+-- The pairs of words of a set up to the last that isn't 0.
+use Rattle.std.proofs.Common.{◌≡◌, ℕ, zero, suc, ◌+◌, ◌*◌, ◌^◌, ◌<◌, ◌≤◌, Bool, false, cond, ◌&&◌, eqb, List, [], ◌∷◌}
+use Rattle.std.proofs.Common.{length, get_or, refl, sym, ap, ◌∙◌, arith, bit_or, ◌%◌}
 use Rattle.std.proofs.lemmas.Bool.Decides.{nat_tests}
-use Rattle.task_set.specs.Truths.{truths_of, AreWords}
-use Rattle.task_set.specs.Tags.{without_last_zeros, used_words}
+use Rattle.std.proofs.lemmas.Grind.{common_steps}
+use Rattle.std.proofs.lemmas.List.{get_or_past}
+use Rattle.std.proofs.lemmas.List.FromFn.{length-map-range_with_len, get_or-map-range_with_len}
+use Rattle.task_set.specs.Truths.{truths_of, words_of, AreWords}
+use Rattle.task_set.specs.Tags.{pair_at, pairs_of, used_count}
 use Rattle.task_set.specs.inner.Words.{words_of_truths}
 
-not_zero : (w : ℕ) → (w ≡ 0 → ⊥) → eqb w 0 ≡ false
-not_zero w h = grind (arith, nat_tests)
-
--- of zeros alone nothing is left
-none_left : (ws : List ℕ) → ((j : ℕ) → get_or ws j 0 ≡ 0) → without_last_zeros ws ≡ []
-none_left [] h = refl
-none_left (w ∷ ws) h =
-    let first : w ≡ 0 = h 0 in
-    let rest : without_last_zeros ws ≡ [] = none_left ws (λ j. h (suc j)) in
+-- of numbers that are all 0 none is used
+pub none_used : (xs : List ℕ) → ((j : ℕ) → get_or xs j 0 ≡ 0) → used_count xs ≡ 0
+none_used [] h = refl
+none_used (x ∷ xs) h =
+    let first : x ≡ 0 = h 0 in
+    let rest : used_count xs ≡ 0 = none_used xs (λ j. h (suc j)) in
     rw (first, rest) refl
 
--- a number stays before one that is left
-kept : (w v : ℕ) (xs ys : List ℕ) → xs ≡ v ∷ ys → cond (eqb (length xs) 0 && eqb w 0) [] (w ∷ xs) ≡ w ∷ v ∷ ys
-kept w v xs ys e =
-    let some : eqb (length xs) 0 ≡ false = not_zero (length xs) (λ z. omega (arith, ap (λ zs. length zs) e)) in
-    rw some (ap (λ zs. w ∷ zs) e)
+-- a number is counted where one behind it is, or where it is not 0
+counted : (n x : ℕ) → (n ≡ 0 → x ≡ 0 → ⊥) → cond (eqb n 0 && eqb x 0) 0 (suc n) ≡ suc n
+counted zero x h =
+    let some : eqb x 0 ≡ false = (let no : x ≡ 0 → ⊥ = h refl in grind (arith, nat_tests)) in
+    rw some refl
+counted (suc n) x h =
+    let some : eqb (suc n) 0 ≡ false = grind (arith, nat_tests) in
+    rw some refl
 
--- a number that isn't 0, with zeros alone behind it, is the last that is left
-last_left : (ws : List ℕ) (n : ℕ) → (get_or ws n 0 ≡ 0 → ⊥) → ((j : ℕ) → n < j → get_or ws j 0 ≡ 0)
-    → without_last_zeros ws ≡ take (suc n) ws
-last_left [] n some none = absurd (some refl)
-last_left (w ∷ ws) zero some none =
-    let test : eqb w 0 ≡ false = not_zero w some in
-    let rest : without_last_zeros ws ≡ [] = none_left ws (λ j. none (suc j) (omega arith)) in
-    rw (test, rest) refl
-last_left (w ∷ []) (suc n) some none = absurd (some refl)
-last_left (w ∷ v ∷ vs) (suc n) some none =
-    kept w v (without_last_zeros (v ∷ vs)) (take n vs) (last_left (v ∷ vs) n some (λ j l. none (suc j) (omega arith)))
+-- a number that is not 0, with zeros alone behind it, is the last that is used
+pub last_used : (xs : List ℕ) (n : ℕ) → (get_or xs n 0 ≡ 0 → ⊥) → ((j : ℕ) → n < j → get_or xs j 0 ≡ 0)
+    → used_count xs ≡ n + 1
+last_used [] n some none = absurd (some refl)
+last_used (x ∷ xs) zero some none =
+    let rest : used_count xs ≡ 0 = none_used xs (λ j. none (suc j) (omega arith)) in
+    counted (used_count xs) x (λ _ e. some e) ∙ ap suc rest
+last_used (x ∷ xs) (suc n) some none =
+    let rest : used_count xs ≡ n + 1 = last_used xs n some (λ j l. none (suc j) (omega arith)) in
+    counted (used_count xs) x (λ e _. omega arith) ∙ omega arith
 
-used : (ws : List ℕ) → AreWords ws → used_words (truths_of ws) ≡ without_last_zeros ws
-unfolding used_words
-used ws h = ap without_last_zeros (words_of_truths ws h)
+length-pairs : (set : List Bool) → length (pairs_of set) ≡ 8
+unfolding pairs_of
+length-pairs set = length-map-range_with_len (pair_at (words_of set)) 0 8
 
-pub used_none : (ws : List ℕ) → AreWords ws → ((j : ℕ) → get_or ws j 0 ≡ 0) → [] ≡ used_words (truths_of ws)
-used_none ws h none = sym (used ws h ∙ none_left ws none)
+-- a pair of the words of a set
+pair : (ws : List ℕ) → AreWords ws → (k : ℕ) → k < 8 → get_or (pairs_of (truths_of ws)) k 0 ≡ pair_at ws k
+unfolding pairs_of
+pair ws h k l =
+    get_or-map-range_with_len (pair_at (words_of (truths_of ws))) 0 8 k k 0 l (omega arith)
+    ∙ ap (λ vs. pair_at vs k) (words_of_truths ws h)
 
-pub used_to : (ws : List ℕ) → AreWords ws → (k : ℕ) → 0 < k → (get_or ws (k - 1) 0 ≡ 0 → ⊥)
-    → ((j : ℕ) → k ≤ j → get_or ws j 0 ≡ 0) → take (k - 1 + 1) ws ≡ used_words (truths_of ws)
-used_to ws h k within some none =
-    let next : k - 1 + 1 ≡ suc (k - 1) = omega arith in
-    ap (λ n. take n ws) next ∙ sym (used ws h ∙ last_left ws (k - 1) some (λ j l. none j (omega arith)))
+-- a pair by its two words
+pub joined : (ws : List ℕ) → AreWords ws → (k high low : ℕ) → k < 8 → high ≡ get_or ws (2 * k + 1) 0
+    → low ≡ get_or ws (2 * k) 0 → bit_or (high * 2 ^ 64 % 2 ^ 128) low ≡ get_or (pairs_of (truths_of ws)) k 0
+joined ws h k high low within p q =
+    let high_fits : high < 2 ^ 64 = omega (arith, p, h.fit (2 * k + 1)) in
+    let low_fits : low < 2 ^ 64 = omega (arith, q, h.fit (2 * k)) in
+    let sum : bit_or (high * 2 ^ 64 % 2 ^ 128) low ≡ high * 2 ^ 64 + low = grind (arith, common_steps) in
+    sum ∙ (λ i. p i * 2 ^ 64 + q i) ∙ sym (pair ws h k within)
+
+-- there are eight pairs
+pub past_pairs : (set : List Bool) (j : ℕ) → 8 ≤ j → get_or (pairs_of set) j 0 ≡ 0
+past_pairs set j past = get_or_past (pairs_of set) j 0 (omega (arith, length-pairs set))

@@ -1,19 +1,27 @@
 -- The tag of a set: a part of a hash of its words. Own; the hash is that of std's `FoldHasher`.
-use Rattle.std.specs.Prelude.{ℕ, ◌%◌, ◌^◌, Bool, ◌&&◌, ◌==◌, cond, List, [], ◌∷◌, length, flat_map, fold}
+use Rattle.std.specs.Prelude.{ℕ, suc, ◌+◌, ◌*◌, ◌%◌, ◌^◌, Bool, ◌&&◌, ◌==◌, cond, List, [], ◌∷◌, slice_index, map, take}
+use Rattle.std.specs.Prelude.{flat_map, fold}
+use Rattle.std.specs.List.{range_with_len}
 use Rattle.std.specs.Hash as fed
 use Rattle.std.specs.Hash.FoldHasher as folding
 use Rattle.task_set.specs.Truths.{words_of}
 
--- numbers without the zeros at their end
-abbrev pub without_last_zeros : List ℕ → List ℕ
-without_last_zeros [] = []
-without_last_zeros (w ∷ ws) = cond (length (without_last_zeros ws) == 0 && w == 0) [] (w ∷ without_last_zeros ws)
+-- the words at 2 k and 2 k + 1 as one number of 128 bits
+abbrev pub pair_at : List ℕ → ℕ → ℕ
+pair_at ws k = slice_index ws (2 * k + 1) * 2 ^ 64 + slice_index ws (2 * k)
 
--- the words of a set up to the last that isn't 0
-unfoldable pub used_words : List Bool → List ℕ
-used_words set = without_last_zeros (words_of set)
+-- the sixteen words of a set, two by two
+unfoldable pub pairs_of : List Bool → List ℕ
+pairs_of set = map (pair_at (words_of set)) (range_with_len 0 8)
 
--- the tag of a set: the low 32 bits of a hash of its used words, each fed as its eight bytes. Sets that differ may have
--- one tag.
+-- how many numbers there are up to the last that isn't 0
+abbrev pub used_count : List ℕ → ℕ
+used_count [] = 0
+used_count (x ∷ xs) = cond (used_count xs == 0 && x == 0) 0 (suc (used_count xs))
+
+-- the tag of a set: the low 32 bits of a hash of its pairs of words up to the last that isn't 0, each fed as sixteen
+-- bytes. Sets that differ may have one tag.
 unfoldable pub tag_of : List Bool → ℕ
-tag_of set = folding.finish (fold folding.write folding.initial (flat_map fed.u64 (used_words set))) % 2 ^ 32
+tag_of set =
+    let pairs = pairs_of set in
+    folding.finish (fold folding.write folding.initial (flat_map fed.u128 (take (used_count pairs) pairs))) % 2 ^ 32
