@@ -56,7 +56,7 @@ pub struct FrameDraft {
 }
 
 /// The number behind a word.
-#[tactic(auto, unfolding(crate::specs::LineReading::keyed_in))]
+#[tactic(auto, unfolding(crate::specs::inner::LineReading::keyed_in))]
 pub fn keyed(line: &[u8], key: &[u8]) -> Option<u64>
     ensures { result ≡ keyed_in key.now line.now }
 {
@@ -68,7 +68,7 @@ pub fn keyed(line: &[u8], key: &[u8]) -> Option<u64>
 }
 
 /// The station and the side of a place.
-#[tactic(auto, unfolding(crate::specs::LineReading::seat_in))]
+#[tactic(auto, unfolding(crate::specs::inner::LineReading::seat_in))]
 pub fn seat(line: &[u8], kind: LineKind) -> Option<(u64, Side)>
     ensures { result ≡ seat_in kind line.now }
 {
@@ -92,7 +92,7 @@ pub fn seat(line: &[u8], kind: LineKind) -> Option<(u64, Side)>
 }
 
 // The cycle that is given, or the one in front, and what stands behind it.
-#[tactic(auto, unfolding(crate::specs::LineReading::cycle_first))]
+#[tactic(auto, unfolding(crate::specs::inner::LineReading::cycle_first))]
 fn first_cycle(bytes: &[u8], given: Option<u64>) -> Option<(u64, &[u8])>
     ensures { cycle_first given bytes.now ≡ option_map (λ p. (p.0, p.1.now)) result }
 {
@@ -103,7 +103,7 @@ fn first_cycle(bytes: &[u8], given: Option<u64>) -> Option<(u64, &[u8])>
 }
 
 // What the line of a bound says behind its first word.
-#[tactic(auto, unfolding(crate::specs::LineReading::bound_in))]
+#[tactic(auto, unfolding(crate::specs::inner::LineReading::bound_in))]
 fn bound(bytes: &[u8], tasks: u32, given: Option<u64>) -> Option<Draft>
     requires { tasks ≤ 1024 }
     ensures { result ≡ bound_in tasks given bytes.now }
@@ -121,7 +121,7 @@ fn bound(bytes: &[u8], tasks: u32, given: Option<u64>) -> Option<Draft>
 }
 
 // What the line of a swap says behind its first word.
-#[tactic(auto, unfolding(crate::specs::LineReading::swap_in))]
+#[tactic(auto, unfolding(crate::specs::inner::LineReading::swap_in))]
 fn swap(bytes: &[u8], tasks: u32, given: Option<u64>) -> Option<Draft>
     requires { tasks ≤ 1024 }
     ensures { result ≡ swap_in tasks given bytes.now }
@@ -146,7 +146,7 @@ fn swap(bytes: &[u8], tasks: u32, given: Option<u64>) -> Option<Draft>
 }
 
 // What the line of a branch says behind its first word.
-#[tactic(auto, unfolding(crate::specs::LineReading::branch_in))]
+#[tactic(auto, unfolding(crate::specs::inner::LineReading::branch_in))]
 fn branch(
     alloc: Global,
     bytes: &[u8],
@@ -186,7 +186,7 @@ fn branch(
 }
 
 /// What the line of an entry says, whose cycle may be given. An error where memory is wanting.
-#[tactic(auto, unfolding(crate::specs::LineReading::entry_in))]
+#[tactic(auto, unfolding(crate::specs::inner::LineReading::entry_in))]
 pub fn entry(
     alloc: Global,
     line: &[u8],
@@ -212,7 +212,7 @@ pub fn entry(
 }
 
 // The load of a mode that a word is.
-#[tactic(auto, unfolding(crate::specs::LineReading::load_in))]
+#[tactic(auto, unfolding(crate::specs::inner::LineReading::load_in))]
 fn load(word: &[u8], tasks: u32, mode: Mode) -> Option<Load>
     requires { tasks ≤ 1024 }
     ensures { result ≡ load_in tasks mode word.now }
@@ -242,7 +242,7 @@ fn load(word: &[u8], tasks: u32, mode: Mode) -> Option<Load>
 }
 
 // The last load that a word is, or the mark of none.
-#[tactic(auto, unfolding(crate::specs::LineReading::last_in))]
+#[tactic(auto, unfolding(crate::specs::inner::LineReading::last_in))]
 fn last(word: &[u8], tasks: u32, mode: Mode) -> Option<Option<Load>>
     requires { tasks ≤ 1024 }
     ensures { result ≡ last_in tasks mode word.now }
@@ -255,7 +255,7 @@ fn last(word: &[u8], tasks: u32, mode: Mode) -> Option<Option<Load>>
 }
 
 /// What the line of a frame says. An error where memory is wanting.
-#[tactic(auto, unfolding(crate::specs::LineReading::frame_in, crate::specs::LineReading::frame_rest_in))]
+#[tactic(auto, unfolding(crate::specs::inner::LineReading::frame_in, crate::specs::inner::LineReading::frame_rest_in))]
 pub fn frame(alloc: Global, line: &[u8], tasks: u32) -> Result<Option<FrameDraft>, AllocError>
     requires { tasks ≤ 1024 }
     ensures { IfOk result (λ f. f ≡ frame_in tasks line.now) }
@@ -300,7 +300,7 @@ pub fn frame(alloc: Global, line: &[u8], tasks: u32) -> Result<Option<FrameDraft
 }
 
 // The number of frames and the cycle of a trail.
-#[tactic(auto, unfolding(crate::specs::LineReading::trail_numbers))]
+#[tactic(auto, unfolding(crate::specs::inner::LineReading::trail_numbers))]
 fn numbers_of_trail(bytes: &[u8]) -> Option<Option<(u64, u64)>>
     ensures { result ≡ trail_numbers bytes.now }
 {
@@ -314,7 +314,7 @@ fn numbers_of_trail(bytes: &[u8]) -> Option<Option<(u64, u64)>>
 }
 
 /// The head of a trail: its number of frames and its cycle, where it has frames.
-#[tactic(auto, unfolding(crate::specs::LineReading::trail_in))]
+#[tactic(auto, unfolding(crate::specs::inner::LineReading::trail_in))]
 pub fn trail(line: &[u8]) -> Option<Option<(u64, u64)>>
     ensures { result ≡ trail_in line.now }
 {

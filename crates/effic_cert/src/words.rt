@@ -18,7 +18,7 @@ fn value(digits: &[u8]) -> u128
 }
 
 /// The number that a word is, without a needless 0 in front. A number past 128 bits is the greatest of 128 bits.
-#[tactic(auto, unfolding(crate::specs::WideReading::wide_in))]
+#[tactic(auto, unfolding(crate::specs::inner::WideReading::wide_in))]
 pub(crate) fn wide(word: &[u8]) -> Option<u128>
     ensures { result ≡ wide_in word.now }
 {
@@ -27,7 +27,7 @@ pub(crate) fn wide(word: &[u8]) -> Option<u128>
 }
 
 /// The wide number behind a word.
-#[tactic(auto, unfolding(crate::specs::WideReading::wide_keyed_in))]
+#[tactic(auto, unfolding(crate::specs::inner::WideReading::wide_keyed_in))]
 pub(crate) fn wide_keyed(line: &[u8], key: &[u8]) -> Option<u128>
     ensures { result ≡ wide_keyed_in key.now line.now }
 {
@@ -39,7 +39,7 @@ pub(crate) fn wide_keyed(line: &[u8], key: &[u8]) -> Option<u128>
 }
 
 // Two numbers with a blank between.
-#[tactic(auto, unfolding(crate::specs::WideReading::two_in))]
+#[tactic(auto, unfolding(crate::specs::inner::WideReading::two_in))]
 fn two(bytes: &[u8]) -> Option<(u64, u64)>
     ensures { result ≡ two_in bytes.now }
 {
@@ -49,7 +49,7 @@ fn two(bytes: &[u8]) -> Option<(u64, u64)>
 }
 
 /// The two numbers behind a word.
-#[tactic(auto, unfolding(crate::specs::WideReading::span_in))]
+#[tactic(auto, unfolding(crate::specs::inner::WideReading::span_in))]
 pub(crate) fn span(line: &[u8], key: &[u8]) -> Option<(u64, u64)>
     ensures { result ≡ span_in key.now line.now }
 {
