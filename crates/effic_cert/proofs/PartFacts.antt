@@ -16,6 +16,7 @@ use Rattle.cert_text.proofs.Claims.{end_grammar}
 use Rattle.text_grammar.specs.Texts.{Tells}
 use Rattle.text_grammar.proofs.TextFacts.{led_tells, same_tells, titled_tells, none_begins}
 use Rattle.text_grammar.proofs.LineFacts.{Ready, line_ready, kind_ready, number_ready, end_ready, both_ready, end_tells}
+use Rattle.text_grammar.proofs.TwoParts.{TwoParts, parted}
 use Rattle.effic_cert.specs.Product.{IsProduct, product_rows}
 use Rattle.effic_cert.specs.inner.Parts.{bound_text, AreEnds, ends_row, bodies}
 use Rattle.effic_cert.specs.Laws.{NoProductTextBeginsAnother}
@@ -135,6 +136,10 @@ behind_plain h v =
     lack_both ((seatings h.0.0 h.0.1.0).rows v.0) ((list_end h.0.1.0).rows v.1) (seats_plain h.0.0 v.0)
     (lack_both ((lists h.0.1.0).rows v.1.0) (end_grammar.rows v.1.1) (list_lacks h.0.1.0 v.1.0.entries v.1.0.trail)
     (end_tells.plain v.1.1, tt))
+
+-- both parts of what stands behind the first line
+abbrev pub body : TwoParts heads behind bodies
+body = parted head_ready.tells behind_tells same_bodies
 
 pub bodies_tell : Tells bodies
 unfolding same_bodies

@@ -11,13 +11,15 @@ use Rattle.cert_lines.specs.LineForms.{key_text}
 use Rattle.cert_lines.specs.declared.line_forms.Key.{Key}
 use Rattle.cert_lines.specs.declared.line_forms.Key.TheVariants as keys
 use Rattle.cert_lines.proofs.NumberWords.{lacks}
+use Rattle.cert_lines.proofs.Judged.{key_lacks}
 use Rattle.cert_text.proofs.Sequencing.{unique_each, texts, Same}
 use Rattle.cert_text.proofs.Decoding.{AllLack, row_lacks, lack_both, lack_map}
-use Rattle.cert_text.proofs.Wholes.{within, numbers}
+use Rattle.cert_text.proofs.Wholes.{within, numbers, unique_number}
 use Rattle.cert_text.proofs.Claims.{end_grammar}
 use Rattle.text_grammar.specs.Texts.{Tells, TellsLine}
 use Rattle.text_grammar.proofs.TextFacts.{led_tells, same_tells, titled_tells, none_begins}
 use Rattle.text_grammar.proofs.LineFacts.{Ready, number_ready, end_ready, both_ready, key_plain, end_tells}
+use Rattle.text_grammar.proofs.TwoParts.{TwoParts, parted}
 use Rattle.sequence_rules.specs.Ranges.{IsEntry, IsFrame}
 use Rattle.sequence_rules.specs.declared.types.SeqEntry.{SeqEntry}
 use Rattle.sequence_rules.specs.declared.types.SeqFrame.{SeqFrame}
@@ -35,8 +37,7 @@ pub count_said : {V : Type 0} (low high : ℕ) (ranged : V → Type 0) (many : �
     → IsCounted low high ranged vs
 count_said low high ranged many vs r s = record {
   least = omega (arith, r.0, s.many);
-  most = omega
-      (arith, r.1, s.many);
+  most = omega (arith, r.1, s.many);
   each = s.each;
 }
 
@@ -64,6 +65,16 @@ some_each ranged v h zero = ([], record { many = refl; each = λ k u e. absurd (
 some_each ranged v h (suc many) =
     let i = some_each ranged v h many in
     (v ∷ i.0, record { many = ap suc i.1.many; each = said_first ranged v i.0 h i.1.each })
+
+-- the number of values, and the line of each
+abbrev pub counted : {V : Type 0} (key : Key) (low high : ℕ) (row : V → Row) (ranged : V → Type 0) → high < greatest
+    → (v : V) × ranged v
+    → TwoParts (numbers (key_text key) low high) (each row ranged) (counteds (key_text key) low high row ranged)
+counted key low high row ranged h s = record {
+  unique = unique_number (key_text key) low high (key_lacks key) h;
+  some = λ n r. some_each ranged s.0 s.1 n;
+  same = same_counted (key_text key) low high row ranged;
+}
 
 each_tells : {V : Type 0} (row : V → Row) (ranged : V → Type 0) (many : ℕ) → TellsLine row ranged
     → Tells (each row ranged many)
@@ -215,6 +226,10 @@ same_bodies = record {
   to_rows = λ v r. refl;
   from_rows = λ c r. refl;
 }
+
+-- both parts of what stands behind the first line
+abbrev pub body : TwoParts heads behind bodies
+body = parted head_ready.tells behind_tells same_bodies
 
 pub bodies_tell : Tells bodies
 unfolding same_bodies

@@ -1,9 +1,9 @@
 //! The reading of the lines of entries and of frames, before their numbers are held against their ranges.
 //!
 //! A line is split at its blanks, one word after the other. Reading takes memory for the numbers of its words alone.
-ghost use Rattle.std.specs.Prelude.{◌≡◌, IfOk};
+ghost use Rattle.std.specs.Prelude.{◌≡◌, IfOk, option_map};
 ghost use Rattle.sequence_cert.specs.inner.StateReading.{many_in, bound_in, branch_in, entry_in, last_in, open_in};
-ghost use Rattle.sequence_cert.specs.inner.StateReading.{frame_in};
+ghost use Rattle.sequence_cert.specs.inner.StateReading.{state_in, frame_in};
 
 use cert_lines::words::{cites_of, first_number, is_none, number, split_at};
 use sequence_rules::{Numbers, SeqEntry, SeqWhy};
@@ -38,15 +38,27 @@ fn many(alloc: Global, word: &[u8], count: u32) -> Result<Option<Numbers>, Alloc
     Ok(Some(numbers))
 }
 
-// What an entry by the bound says behind its first word.
-#[tactic(auto, unfolding(crate::specs::inner::StateReading::bound_in, crate::specs::inner::StateReading::state_in))]
-fn bound(
+/// The numbers of a state, and what stands behind them.
+#[derive(Drop)]
+struct StateFront<'a> {
+    /// The units left of each model.
+    rem: Numbers,
+    /// Where the next unit is begun at each station.
+    starts: Numbers,
+    /// What stands behind both.
+    rest: &'a [u8],
+}
+
+// The state of so many models and stations in front. An error where memory is wanting.
+#[tactic(auto, unfolding(crate::specs::inner::StateReading::state_in))]
+fn state<'a>(
     alloc: Global,
-    bytes: &[u8],
+    bytes: &'a [u8],
     models: u32,
     stations: u32,
-) -> Result<Option<SeqEntry>, AllocError>
-    ensures { IfOk result (λ e. e ≡ bound_in models stations bytes.now) }
+) -> Result<Option<StateFront<'a>>, AllocError>
+    ensures { IfOk result (λ s. state_in models stations bytes.now
+        ≡ option_map (λ p. ((p.rem, p.starts), p.rest.now)) s) }
 {
     let Some((word, rest)) = split_at(bytes, b' ') else {
         return Ok(None);
@@ -58,6 +70,22 @@ fn bound(
         return Ok(None);
     };
     let Some(starts) = many(alloc, word, stations)? else {
+        return Ok(None);
+    };
+    Ok(Some(StateFront { rem, starts, rest }))
+}
+
+// What an entry by the bound says behind its first word.
+#[tactic(auto, unfolding(crate::specs::inner::StateReading::bound_in))]
+fn bound(
+    alloc: Global,
+    bytes: &[u8],
+    models: u32,
+    stations: u32,
+) -> Result<Option<SeqEntry>, AllocError>
+    ensures { IfOk result (λ e. e ≡ bound_in models stations bytes.now) }
+{
+    let Some(StateFront { rem, starts, rest }) = state(alloc, bytes, models, stations)? else {
         return Ok(None);
     };
     let Some(least) = number(rest) else {
@@ -72,7 +100,7 @@ fn bound(
 }
 
 // What an entry that branches says behind its first word.
-#[tactic(auto, unfolding(crate::specs::inner::StateReading::branch_in, crate::specs::inner::StateReading::state_in))]
+#[tactic(auto, unfolding(crate::specs::inner::StateReading::branch_in))]
 fn branch(
     alloc: Global,
     bytes: &[u8],
@@ -81,16 +109,7 @@ fn branch(
 ) -> Result<Option<SeqEntry>, AllocError>
     ensures { IfOk result (λ e. e ≡ branch_in models stations bytes.now) }
 {
-    let Some((word, rest)) = split_at(bytes, b' ') else {
-        return Ok(None);
-    };
-    let Some(rem) = many(alloc, word, models)? else {
-        return Ok(None);
-    };
-    let Some((word, rest)) = split_at(rest, b' ') else {
-        return Ok(None);
-    };
-    let Some(starts) = many(alloc, word, stations)? else {
+    let Some(StateFront { rem, starts, rest }) = state(alloc, bytes, models, stations)? else {
         return Ok(None);
     };
     let Some((least, rest)) = first_number(rest) else {
@@ -142,7 +161,7 @@ fn last(word: &[u8]) -> Option<Option<u64>>
 }
 
 // What a frame says behind its first word.
-#[tactic(auto, unfolding(crate::specs::inner::StateReading::open_in, crate::specs::inner::StateReading::state_in))]
+#[tactic(auto, unfolding(crate::specs::inner::StateReading::open_in))]
 fn open(
     alloc: Global,
     bytes: &[u8],
@@ -151,16 +170,7 @@ fn open(
 ) -> Result<Option<FrameDraft>, AllocError>
     ensures { IfOk result (λ f. f ≡ open_in models stations bytes.now) }
 {
-    let Some((word, rest)) = split_at(bytes, b' ') else {
-        return Ok(None);
-    };
-    let Some(rem) = many(alloc, word, models)? else {
-        return Ok(None);
-    };
-    let Some((word, rest)) = split_at(rest, b' ') else {
-        return Ok(None);
-    };
-    let Some(starts) = many(alloc, word, stations)? else {
+    let Some(StateFront { rem, starts, rest }) = state(alloc, bytes, models, stations)? else {
         return Ok(None);
     };
     let Some((need, rest)) = first_number(rest) else {

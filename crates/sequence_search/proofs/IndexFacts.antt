@@ -1,9 +1,11 @@
 -- An index is kept when an entry comes to the end, and a look by it passes over no entry that answers.
-use Rattle.std.proofs.Common.{◌≡◌, ◌≢◌, ◌∙◌, ℕ, suc, ◌+◌, ◌<◌, ◌≤◌, cond, nat_eq, List, [], ◌∷◌, ◌++◌, length}
+use Rattle.std.proofs.Common.{◌≡◌, ◌≢◌, ◌∙◌, ℕ, suc, ◌+◌, ◌<◌, ◌≤◌, cond, nat_eq, get_or, List, [], ◌∷◌, ◌++◌, length}
 use Rattle.std.proofs.Common.{length-append, Option, Some, None, refl, sym, ap, subst, inl, inr, arith}
+use Rattle.std.proofs.Math.Path.{subst⁻¹}
 use Rattle.std.specs.Prelude.{slice_get}
 use Rattle.std.specs.HashMap.{get, Updates}
 use Rattle.std.proofs.lemmas.Bool.{cases_eq, cases_lt, eq-eqb, ne_eqb}
+use Rattle.std.proofs.lemmas.Option.{slice_get_read}
 use Rattle.line_rules.proofs.ListFacts.{get_push_cases}
 use Rattle.sequence_rules.specs.Entries.{Answers, HasAnswer}
 use Rattle.sequence_rules.specs.declared.types.SeqEntry.{SeqEntry}
@@ -132,7 +134,7 @@ module _ (es : List SeqEntry) (rem starts : List ℕ) (need : ℕ) where
       one a b e = cc
 
   -- the entry that is looked at doesn't answer: the one of its key before it is looked at next, and is one of fewer
-  pub looks_on : (latest : Numbered) (before : List (Option ℕ)) (j : ℕ) (e : SeqEntry) (o : Option ℕ)
+  looks_on : (latest : Numbered) (before : List (Option ℕ)) (j : ℕ) (e : SeqEntry) (o : Option ℕ)
       → IsIndexed latest before es
       → IsLooking es rem starts need (Some j) → slice_get es j ≡ Some e → slice_get before j ≡ Some o
       → (Answers e rem starts need → ⊥) → IsLooking es rem starts need o
@@ -148,7 +150,7 @@ module _ (es : List SeqEntry) (rem starts : List ℕ) (need : ℕ) where
       one : (a b : SeqEntry) → Some a ≡ Some b → a ≡ b
       one a b e = cc
 
-  pub one_of_fewer : (latest : Numbered) (before : List (Option ℕ)) (j : ℕ) (e : SeqEntry) (o : Option ℕ)
+  one_of_fewer : (latest : Numbered) (before : List (Option ℕ)) (j : ℕ) (e : SeqEntry) (o : Option ℕ)
       → IsIndexed latest before es
       → slice_get es j ≡ Some e → slice_get before j ≡ Some o → left_of o < left_of (Some j)
   one_of_fewer latest before j e o index there led = below o (index.chain j e o there led)
@@ -158,7 +160,7 @@ module _ (es : List SeqEntry) (rem starts : List ℕ) (need : ℕ) where
       below (Some i) l = omega (arith, l.0)
 
   -- the entry that is looked at answers, and is the last one
-  pub answers_last : (j : ℕ) (e : SeqEntry) → IsLooking es rem starts need (Some j) → slice_get es j ≡ Some e
+  answers_last : (j : ℕ) (e : SeqEntry) → IsLooking es rem starts need (Some j) → slice_get es j ≡ Some e
       → Answers e rem starts need → IsLastAnswer es rem starts need j
   answers_last j e look there a = record {
     cited = record { entry = e; there = there; answers = a };
@@ -168,3 +170,37 @@ module _ (es : List SeqEntry) (rem starts : List ℕ) (need : ℕ) where
   -- nothing is left to look at
   pub none_answers : IsLooking es rem starts need None → HasAnswer es rem starts need → ⊥
   none_answers look h = look.passed h.0 h.1.entry tt h.1.there h.1.answers
+
+-- A turn of a look in a book that is seen as its entries: the entry of the number that is next.
+module _ {es view : List SeqEntry} {rem starts : List ℕ} {need : ℕ} {next : Option ℕ} {j : ℕ} {x : SeqEntry}
+    (same : es ≡ view) (look : IsLooking view rem starts need next) (is : next ≡ Some j) (at : x ≡ get_or es j x) where
+  here : IsLooking es rem starts need (Some j)
+  here =
+      let L : Option ℕ → Type 0 = IsLooking es rem starts need in
+      subst L is (subst⁻¹ (λ (xs : List SeqEntry). IsLooking xs rem starts need next) same look)
+
+  there : slice_get es j ≡ Some x
+  there = slice_get_read es (length es) j x refl (here.within j refl) at
+
+  -- it answers
+  pub found_last : Answers x rem starts need → IsLastAnswer view rem starts need j
+  found_last a =
+      subst (λ (xs : List SeqEntry). IsLastAnswer xs rem starts need j) same
+      (answers_last es rem starts need j x here there a)
+
+  module _ {latest : Numbered} {before : List (Option ℕ)} {o : Option ℕ} (index : IsIndexed latest before es)
+      (led : o ≡ get_or before j o) where
+    led_by : slice_get before j ≡ Some o
+    led_by = slice_get_read before (length es) j o (sym index.long) (here.within j refl) led
+
+    -- it doesn't answer: the last one of its key before it is next
+    pub turns_on : (Answers x rem starts need → ⊥) → IsLooking view rem starts need o
+    turns_on isnt =
+        subst (λ (xs : List SeqEntry). IsLooking xs rem starts need o) same
+        (looks_on es rem starts need latest before j x o index here there led_by isnt)
+
+    -- and that is one of fewer
+    pub turns_down : left_of o < left_of next
+    turns_down =
+        subst⁻¹ (λ (n : Option ℕ). left_of o < left_of n) is
+        (one_of_fewer es rem starts need latest before j x o index there led_by)

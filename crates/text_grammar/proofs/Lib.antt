@@ -1,2 +1,3 @@
 pub mod TextFacts
 pub mod LineFacts
+pub mod TwoParts

@@ -45,11 +45,6 @@ same_titled title g = record {
   from_rows = λ v r. refl;
 }
 
-unique_titled : {V : Type 0} (title : List ℕ) (g : Grammar V) → Unique g → Unique (titled title g)
-unfolding same_titled
-unique_titled title g u = unique_same (titled_parts title g) (titled title g) (same_titled title g)
-    (unique_then (titles title) (λ u. g) (unique_titles title) (λ t r. u)) (λ v r. refl)
-
 -- a text behind a first line is told by its lines
 pub titled_unique : {V : Type 0} (title : List ℕ) (g : Grammar V) → Unique g → Unique (titled title g)
 unfolding same_titled
