@@ -1,6 +1,6 @@
 -- What a command ends with that is stopped, or that reports.
 use Rattle.std.proofs.Common.{◌≡◌, ◌∙◌, ap, ℕ, List, None, IfOk, sym, subst, rules}
-use Rattle.std.specs.Prelude.{IsErrAnd}
+use Rattle.std.specs.Prelude.{IsErrAnd, MatchResult}
 use Rattle.std.proofs.lemmas.Result.{err_from_is_err_and}
 use Rattle.std.specs.declared.result.Result.{Result}
 use Rattle.std.specs.declared.result.Result.TheVariants.{Ok, Err}
@@ -32,6 +32,14 @@ early o P Q after s r f k q is =
     let e = err_from_is_err_and r is in
     subst (λ x. Ends o P after x) (sym e.1)
     (subst (λ x. Ends o P after (Err x)) (sym e.2) (stopped o P Q after s f k q))
+
+-- the same of a step
+pub step_early : {T : Type 0} (P Q : Outcome → Type 0) (good : T → Type 0) (s : Stop) (r : Result T Stop)
+    → ((out : Outcome) → Q out → P out) → Stops Q s → IsErrAnd r (λ e. e ≡ s) → MatchResult r good (Stops P)
+step_early {T = T} P Q good s r f q is =
+    let e = err_from_is_err_and r is in
+    subst (λ (x : Result T Stop). MatchResult x good (Stops P)) (sym e.1)
+    (subst (λ (x : Stop). Stops P x) (sym e.2) (stops_as Q P s f q))
 
 -- what a report of this status and text comes to that keeps nothing
 pub told_as : (r : Report) (status : Status) (text : List ℕ) → r.status ≡ status → r.text.items ≡ text

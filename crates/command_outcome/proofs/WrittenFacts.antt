@@ -1,12 +1,20 @@
 -- The certificate of a report is written to a file.
 use Rattle.std.proofs.Common.{◌≡◌, ◌≢◌, ◌∙◌, ℕ, Bool, true, List, Option, Some, refl, ap, subst}
 use Rattle.line_io.specs.Whole.{IsPrefixWritten}
-use Rattle.command_outcome.specs.Outcome.{Files, Page, Outcome, Comes, IsCut, Stay, outcome_of, outside}
+use Rattle.command_outcome.specs.Outcome.{Files, Page, Outcome, Comes, IsCut, Stay, outcome_of, outside, told}
+use Rattle.command_outcome.specs.declared.report.Kept.TheVariants.{Nothing}
 use Rattle.command_outcome.specs.declared.report.Report.{Report}
+use Rattle.command_outcome.specs.declared.status.Status.{Status}
+use Rattle.command_outcome.proofs.OutcomeFacts.{told_as}
 
 -- an outcome, with this page in place of its own
 abbrev pub paged : Option Page → Outcome → Outcome
 paged page out = record { status = out.status; text = out.text; page = page; kept = out.kept }
+
+-- what a report of this status and text comes to with a page, where it keeps nothing
+pub told_with : (page : Page) (r : Report) (status : Status) (text : List ℕ) → r.status ≡ status
+    → r.text.items ≡ text → r.kept ≡ Nothing → outcome_of r (Some page) ≡ paged (Some page) (told status text)
+told_with page r status text s t k = ap (paged (Some page)) (told_as r status text s t k)
 
 -- A report that comes to P with a page of these bytes, of which as many are put into its file as could be.
 module _ (P : Outcome → Type 0) (r : Report) (name bytes put : List ℕ) (files mid after : Files)

@@ -10,11 +10,11 @@ ghost use Rattle.convert_command.specs.Convert.{IsConvertOutcome, IsTextIn, writ
 
 use alb_reader::write_alb;
 use cert_files::{Streamed, stream_cert};
-use command_outcome::{Report, Status, Stop, line_about};
+use command_outcome::{Report, Status, Stop, line_about, write_page};
 use in2_reader::write_in2;
 use input_files::{certificate_of, sheet_of};
 use line_instance::Instance;
-use line_io::{Shelf, Written, write_whole};
+use line_io::Shelf;
 use line_words::FormWord;
 use std::alloc::{AllocError, Global};
 
@@ -75,10 +75,7 @@ fn convert_line<S: Shelf>(
     let sheet = sheet_of(alloc, file, shelf)?;
     let bytes = text_in(alloc, &sheet.inst, to, cycle_of(word, sheet.cycle))?;
     let report = written(alloc, name)?;
-    match write_whole(shelf, name, &bytes) {
-        Written::Done => Ok(report),
-        Written::WriteFault => Err(Stop::Unwritten),
-    }
+    write_page(shelf, name, &bytes, report)
 }
 
 /// Writes a certificate anew.

@@ -9,9 +9,9 @@ ghost use Rattle.mix_commands.specs.Combine.{IsCombineOutcome, combined_line};
 
 use crate::mix_file::combined_of;
 use combined_graph::Mix;
-use command_outcome::{Report, Status, Stop};
+use command_outcome::{Report, Status, Stop, write_page};
 use in2_reader::write_in2;
-use line_io::{Shelf, Written, write_whole};
+use line_io::Shelf;
 use std::alloc::{AllocError, Global};
 
 /// The report about what a mix combines to.
@@ -46,8 +46,5 @@ pub fn combine_report<S: Shelf>(
     let combined = combined_of(alloc, mix, shelf)?;
     let bytes = write_in2(alloc, &combined.line)?;
     let report = combined_report(alloc, &combined.mix, combined.demand)?;
-    match write_whole(shelf, name, &bytes) {
-        Written::Done => Ok(report),
-        Written::WriteFault => Err(Stop::Unwritten),
-    }
+    write_page(shelf, name, &bytes, report)
 }

@@ -1,30 +1,45 @@
-use Rattle.std.proofs.Common.{inl, inr, refl}
+use Rattle.std.proofs.Common.{◌≡◌, inl, inr, refl, ℕ, List, Option, Some}
+use Rattle.line_rules.specs.declared.types.Certificate.{Certificate}
 use Rattle.cert_text.specs.Cert.{cert_text}
 use Rattle.line_words.specs.declared.job.FormWord.TheVariants.{Cert}
-use Rattle.command_outcome.specs.Outcome.{Outcome, outside}
-use Rattle.convert_command.specs.Convert.{IsConvertOutcome}
-use Rattle.convert_command.proofs.ConvertFacts.{comes, cut}
+use Rattle.command_outcome.specs.Outcome.{Outside, Outcome, outcome_of, outside}
+use Rattle.command_outcome.specs.declared.report.Kept.TheVariants.{Nothing}
+use Rattle.command_outcome.specs.declared.report.Report.{Report}
+use Rattle.command_outcome.specs.declared.status.Status.TheVariants as ends
+use Rattle.command_outcome.proofs.WrittenFacts.{comes, cut}
+use Rattle.input_files.specs.Certificate.{IsCertificateOf}
+use Rattle.convert_command.specs.Convert.{IsConvertOutcome, written_line}
+use Rattle.convert_command.proofs.ConvertFacts.{wrote_as}
 use Rattle.convert_command.proofs.convert.convert_cert.Goals as goal
+
+-- a certificate that is written anew
+anew : (o : Outside) (file name : List ℕ) (word : Option ℕ) (r : Report) (cert : Certificate)
+    → IsCertificateOf o.files file cert → r.status ≡ ends.Done → r.text.items ≡ written_line name → r.kept ≡ Nothing
+    → IsConvertOutcome o file name Cert word (outcome_of r (Some (record { name = name; bytes = cert_text cert })))
+anew o file name word r cert said s t k =
+    inr (refl, inl (record { cert = cert; said = said; shown = wrote_as r name (cert_text cert) s t k }))
 
 pub returns-in-Done-clause-ends : goal.returns-in-Done-clause-ends
 returns-in-Done-clause-ends g c = λ t.
-    let blames = g.S.Shelf.blames c.stream_cert.new.shelf in
-    let files = g.S.Shelf.file c.args.shelf.now in
-    let P : Outcome → Type 0 = IsConvertOutcome (outside files blames) c.args.file.now c.args.name.now Cert
-    c.args.word in
-    comes files (g.S.Shelf.file c.certificate_of.new.shelf) (g.S.Shelf.file c.stream_cert.new.shelf) blames P
-    c.args.name.now (cert_text c.in_ok-cert.cert) (c.in_ok-cert.ensures.files t) (c.in-Done.ensures.others t)
-    (inr (refl, inl (record { cert = c.in_ok-cert.cert; said = c.in_ok-cert.ensures.said t; shown = refl })))
-    c.in_ok-report.report c.in_ok-report.ensures.status c.in_ok-report.ensures.text c.in_ok-report.ensures.kept
-    (c.in-Done.ensures.done t refl)
+    let a = c.args in
+    let o : Outside = outside (g.S.Shelf.file a.shelf.now) (g.S.Shelf.blames c.stream_cert.new.shelf) in
+    let text : List ℕ = cert_text c.in_ok-cert.cert in
+    let r = c.in_ok-report in
+    comes (IsConvertOutcome o a.file.now a.name.now Cert a.word) r.report a.name.now text text o.files
+    (g.S.Shelf.file c.certificate_of.new.shelf) (g.S.Shelf.file c.stream_cert.new.shelf) o.blames
+    (anew o a.file.now a.name.now a.word r.report c.in_ok-cert.cert (c.in_ok-cert.ensures.said t) r.ensures.status
+    r.ensures.text r.ensures.kept)
+    refl (c.in_ok-cert.ensures.files t) (c.in-Done.ensures.done t refl) (c.in-Done.ensures.others t)
 
 pub returns-in-WriteFault-clause-ends : goal.returns-in-WriteFault-clause-ends
 returns-in-WriteFault-clause-ends g c = λ t.
-    let blames = g.S.Shelf.blames c.stream_cert.new.shelf in
-    let files = g.S.Shelf.file c.args.shelf.now in
-    let P : Outcome → Type 0 = IsConvertOutcome (outside files blames) c.args.file.now c.args.name.now Cert
-    c.args.word in
-    cut files (g.S.Shelf.file c.certificate_of.new.shelf) (g.S.Shelf.file c.stream_cert.new.shelf) blames P
-    c.args.name.now (cert_text c.in_ok-cert.cert) (c.in_ok-cert.ensures.files t) (c.in-WriteFault.ensures.others t)
-    (inr (refl, inl (record { cert = c.in_ok-cert.cert; said = c.in_ok-cert.ensures.said t; shown = refl })))
-    (c.in-WriteFault.ensures.blame t refl) (c.in-WriteFault.ensures.prefix t)
+    let a = c.args in
+    let o : Outside = outside (g.S.Shelf.file a.shelf.now) (g.S.Shelf.blames c.stream_cert.new.shelf) in
+    let text : List ℕ = cert_text c.in_ok-cert.cert in
+    let r = c.in_ok-report in
+    cut (IsConvertOutcome o a.file.now a.name.now Cert a.word) r.report a.name.now text text o.files
+    (g.S.Shelf.file c.certificate_of.new.shelf) (g.S.Shelf.file c.stream_cert.new.shelf) o.blames
+    (anew o a.file.now a.name.now a.word r.report c.in_ok-cert.cert (c.in_ok-cert.ensures.said t) r.ensures.status
+    r.ensures.text r.ensures.kept)
+    refl (c.in_ok-cert.ensures.files t) (c.in-WriteFault.ensures.blame t refl) (c.in-WriteFault.ensures.prefix t)
+    (c.in-WriteFault.ensures.others t)

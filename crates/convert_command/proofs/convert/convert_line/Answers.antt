@@ -1,54 +1,32 @@
-use Rattle.std.proofs.Common.{◌∙◌, ap, inl, refl, subst, List, ℕ, Some}
-use Rattle.line_io.specs.Whole.{IsPrefixWritten}
-use Rattle.command_outcome.specs.Outcome.{Outcome, outside}
-use Rattle.convert_command.specs.Convert.{IsConvertOutcome, IsTextIn}
-use Rattle.convert_command.proofs.ConvertFacts.{comes, cut}
+use Rattle.std.proofs.Common.{◌≡◌, ◌∙◌, ap, inl, subst, Option, ℕ, Some}
+use Rattle.command_outcome.specs.Outcome.{Files, Outside, Outcome, outcome_of, outside}
+use Rattle.command_outcome.proofs.OutcomeFacts.{ends_as}
+use Rattle.convert_command.specs.Convert.{IsConvertOutcome, IsTextIn, wrote}
+use Rattle.convert_command.proofs.ConvertFacts.{wrote_as}
 use Rattle.convert_command.proofs.convert.convert_line.Goals as goal
-
-pub returns-in-Done-clause-ends : goal.returns-in-Done-clause-ends
-returns-in-Done-clause-ends g c = λ t.
-    let blames = g.S.Shelf.blames c.write_whole.new.shelf in
-    let files = g.S.Shelf.file c.args.shelf.now in
-    let P : Outcome → Type 0 = IsConvertOutcome (outside files blames) c.args.file.now c.args.name.now c.args.to
-    c.args.word in
-    comes files (g.S.Shelf.file c.sheet_of.new.shelf) (g.S.Shelf.file c.write_whole.new.shelf) blames P c.args.name.now
-    c.in_ok-bytes.bytes.items (c.in_ok-sheet.ensures.files t) (c.in-Done.ensures.others t)
-    (inl (
-      c.requires,
-      inl (record {
-        line = c.in_ok-sheet.sheet.inst;
-        given = c.in_ok-sheet.sheet.cycle;
-        said = c.in_ok-sheet.ensures.said t;
-        bytes = c.in_ok-bytes.bytes.items;
-        written = subst (λ k. IsTextIn c.args.to c.in_ok-sheet.sheet.inst k c.in_ok-bytes.bytes.items)
-            c.cycle_of.ensures c.in_ok-bytes.ensures;
-        shown = refl;
-      }),
-    ))
-    c.in_ok-report.report c.in_ok-report.ensures.status c.in_ok-report.ensures.text c.in_ok-report.ensures.kept
-    (c.in-Done.ensures.done t refl ∙ ap Some c.deref.ensures.value)
 
 pub returns-clause-ends : goal.returns-clause-ends
 returns-clause-ends g c = λ t.
-    let blames = g.S.Shelf.blames c.write_whole.new.shelf in
-    let files = g.S.Shelf.file c.args.shelf.now in
-    let mid = g.S.Shelf.file c.sheet_of.new.shelf in
-    let after = g.S.Shelf.file c.write_whole.new.shelf in
-    let P : Outcome → Type 0 = IsConvertOutcome (outside files blames) c.args.file.now c.args.name.now c.args.to
-    c.args.word in
-    let B : List ℕ → Type 0 = λ b. IsPrefixWritten (mid c.args.name.now) b (after c.args.name.now) in
-    cut files mid after blames P c.args.name.now c.in_ok-bytes.bytes.items (c.in_ok-sheet.ensures.files t)
-    (c.in-WriteFault.ensures.others t)
-    (inl (
+    let a = c.args in
+    let files : Files = g.S.Shelf.file a.shelf.now in
+    let after : Files = g.S.Shelf.file c.write_page.new.shelf in
+    let o : Outside = outside files (g.S.Shelf.blames c.write_page.new.shelf) in
+    let r = c.in_ok-report.report in
+    let put = c.deref.result.now in
+    let bytes = c.in_ok-bytes.bytes.items in
+    let line = c.in_ok-sheet.sheet.inst in
+    ends_as o (λ out. out ≡ outcome_of r (Some (record { name = a.name.now; bytes = put })))
+    (IsConvertOutcome o a.file.now a.name.now a.to a.word) after c.write_page.result
+    (λ out is. inl (
       c.requires,
       inl (record {
-        line = c.in_ok-sheet.sheet.inst;
+        line = line;
         given = c.in_ok-sheet.sheet.cycle;
         said = c.in_ok-sheet.ensures.said t;
-        bytes = c.in_ok-bytes.bytes.items;
-        written = subst (λ k. IsTextIn c.args.to c.in_ok-sheet.sheet.inst k c.in_ok-bytes.bytes.items)
-            c.cycle_of.ensures c.in_ok-bytes.ensures;
-        shown = refl;
+        bytes = bytes;
+        written = subst (λ (k : Option ℕ). IsTextIn a.to line k bytes) c.cycle_of.ensures c.in_ok-bytes.ensures;
+        shown = is ∙ wrote_as r a.name.now put c.in_ok-report.ensures.status c.in_ok-report.ensures.text
+            c.in_ok-report.ensures.kept ∙ ap (wrote a.name.now) c.deref.ensures.value;
       }),
     ))
-    (c.in-WriteFault.ensures.blame t refl) (subst B c.deref.ensures.value (c.in-WriteFault.ensures.prefix t))
+    (c.write_page.ensures.ends t files (c.in_ok-sheet.ensures.files t))

@@ -1,45 +1,29 @@
-use Rattle.std.proofs.Common.{◌∙◌, ap, inl, refl, subst, List, ℕ, Some}
-use Rattle.line_io.specs.Whole.{IsPrefixWritten}
-use Rattle.command_outcome.specs.Outcome.{Outcome, outside}
-use Rattle.mix_commands.specs.Combine.{IsCombineOutcome}
-use Rattle.mix_commands.proofs.CombineFacts.{comes, cut}
+use Rattle.std.proofs.Common.{◌≡◌, ◌∙◌, ap, inl, Some}
+use Rattle.command_outcome.specs.Outcome.{Files, Outside, Page, outcome_of, outside}
+use Rattle.command_outcome.specs.declared.status.Status.TheVariants as ends
+use Rattle.command_outcome.proofs.OutcomeFacts.{ends_as}
+use Rattle.command_outcome.proofs.WrittenFacts.{told_with}
+use Rattle.mix_commands.specs.Combine.{IsCombineOutcome, combined_line, wrote}
 use Rattle.mix_commands.proofs.combine.combine_report.Goals as goal
-
-pub returns-in-Done-clause-ends : goal.returns-in-Done-clause-ends
-returns-in-Done-clause-ends g c = λ t.
-    let blames = g.S.Shelf.blames c.write_whole.new.shelf in
-    let files = g.S.Shelf.file c.args.shelf.now in
-    let P : Outcome → Type 0 = IsCombineOutcome (outside files blames) c.args.mix.now c.args.name.now in
-    comes files (g.S.Shelf.file c.combined_of.new.shelf) (g.S.Shelf.file c.write_whole.new.shelf) blames P
-    c.in_ok-combined.combined.mix c.args.name.now c.in_ok-bytes.bytes.items
-    (c.in_ok-combined.ensures.files t) (c.in-Done.ensures.others t)
-    (inl (record {
-      mix = c.in_ok-combined.combined.mix;
-      line = c.in_ok-combined.combined.line;
-      said = c.in_ok-combined.ensures.said t;
-      bytes = c.in_ok-bytes.bytes.items;
-      written = c.in_ok-bytes.ensures;
-      shown = refl;
-    }))
-    c.in_ok-report.report c.in_ok-report.ensures.status c.in_ok-report.ensures.text c.in_ok-report.ensures.kept
-    (c.in-Done.ensures.done t refl ∙ ap Some c.deref.ensures.value)
 
 pub returns-clause-ends : goal.returns-clause-ends
 returns-clause-ends g c = λ t.
-    let blames = g.S.Shelf.blames c.write_whole.new.shelf in
-    let files = g.S.Shelf.file c.args.shelf.now in
-    let mid = g.S.Shelf.file c.combined_of.new.shelf in
-    let after = g.S.Shelf.file c.write_whole.new.shelf in
-    let P : Outcome → Type 0 = IsCombineOutcome (outside files blames) c.args.mix.now c.args.name.now in
-    let B : List ℕ → Type 0 = λ b. IsPrefixWritten (mid c.args.name.now) b (after c.args.name.now) in
-    cut files mid after blames P c.in_ok-combined.combined.mix c.args.name.now c.in_ok-bytes.bytes.items
-    (c.in_ok-combined.ensures.files t) (c.in-WriteFault.ensures.others t)
-    (inl (record {
-      mix = c.in_ok-combined.combined.mix;
+    let a = c.args in
+    let files : Files = g.S.Shelf.file a.shelf.now in
+    let after : Files = g.S.Shelf.file c.write_page.new.shelf in
+    let o : Outside = outside files (g.S.Shelf.blames c.write_page.new.shelf) in
+    let mix = c.in_ok-combined.combined.mix in
+    let told = c.in_ok-report in
+    let page : Page = record { name = a.name.now; bytes = c.deref.result.now } in
+    ends_as o (λ out. out ≡ outcome_of told.report (Some page)) (IsCombineOutcome o a.mix.now a.name.now) after
+    c.write_page.result
+    (λ out is. inl (record {
+      mix = mix;
       line = c.in_ok-combined.combined.line;
       said = c.in_ok-combined.ensures.said t;
       bytes = c.in_ok-bytes.bytes.items;
       written = c.in_ok-bytes.ensures;
-      shown = refl;
+      shown = is ∙ told_with page told.report ends.Done (combined_line mix) told.ensures.status told.ensures.text
+          told.ensures.kept ∙ ap (wrote mix a.name.now) c.deref.ensures.value;
     }))
-    (c.in-WriteFault.ensures.blame t refl) (subst B c.deref.ensures.value (c.in-WriteFault.ensures.prefix t))
+    (c.write_page.ensures.ends t files (c.in_ok-combined.ensures.files t))

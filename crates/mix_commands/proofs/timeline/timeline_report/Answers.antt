@@ -1,9 +1,7 @@
-use Rattle.std.proofs.Common.{◌≡◌, ◌<◌, ◌*◌, length, subst, sym, inl, inr}
-use Rattle.std.specs.declared.result.Result.TheVariants.{Err}
-use Rattle.std.proofs.lemmas.Result.{err_from_is_err_and}
-use Rattle.command_outcome.specs.Outcome.{Files, Outside, Outcome, Ends, outside, told}
+use Rattle.std.proofs.Common.{◌≡◌, ◌<◌, ◌*◌, length, inl, inr}
+use Rattle.command_outcome.specs.Outcome.{Files, Outside, Outcome, outside, told}
 use Rattle.command_outcome.specs.declared.status.Status.TheVariants as ends
-use Rattle.command_outcome.proofs.OutcomeFacts.{stopped}
+use Rattle.command_outcome.proofs.OutcomeFacts.{early}
 use Rattle.input_files.specs.InputFile.{fault_line}
 use Rattle.mix_commands.specs.Launch.{Names, IsUnlaunched}
 use Rattle.mix_commands.specs.Timeline.{IsTimelineOutcome, large_text}
@@ -11,29 +9,24 @@ use Rattle.mix_commands.proofs.timeline.timeline_report.Goals as goal
 
 pub returns-in_err-launch-clause-ends : goal.returns-in_err-launch-clause-ends
 returns-in_err-launch-clause-ends g c = λ t.
+    let a = c.args in
     let after : Files = g.S.Shelf.file c.launch_of.new.shelf in
-    let o : Outside = outside (g.S.Shelf.file c.args.shelf.now) (g.S.Shelf.blames c.launch_of.new.shelf) in
-    let names : Names = record { mix = c.args.mix.now; cert = c.args.cert.now; seq = c.args.seq.now } in
-    let P : Outcome → Type 0 = IsTimelineOutcome o names.mix names.cert names.seq c.args.interval c.args.reach in
-    let q = err_from_is_err_and c.from_residual.result c.from_residual.ensures.1 in
-    subst (λ r. Ends o P after r) (sym q.1)
-    (subst (λ s. Ends o P after (Err s)) (sym q.2)
-    (stopped o P (IsUnlaunched o names c.args.interval) after c.in_err-launch.field-0.0 (λ out x. inr (inr x))
-    (c.in_err-launch.ensures.files t) (c.in_err-launch.ensures.said t)))
+    let o : Outside = outside (g.S.Shelf.file a.shelf.now) (g.S.Shelf.blames c.launch_of.new.shelf) in
+    let names : Names = record { mix = a.mix.now; cert = a.cert.now; seq = a.seq.now } in
+    early o (IsTimelineOutcome o names.mix names.cert names.seq a.interval a.reach) (IsUnlaunched o names a.interval)
+    after c.in_err-launch.field-0.0 c.from_residual.result (λ out x. inr (inr x)) (c.in_err-launch.ensures.files t)
+    (c.in_err-launch.ensures.said t) c.from_residual.ensures.1
 
 pub returns-in_err-text-clause-ends : goal.returns-in_err-text-clause-ends
 returns-in_err-text-clause-ends g c = λ t.
+    let a = c.args in
     let after : Files = g.S.Shelf.file c.launch_of.new.shelf in
-    let o : Outside = outside (g.S.Shelf.file c.args.shelf.now) (g.S.Shelf.blames c.launch_of.new.shelf) in
-    let P : Outcome → Type 0 = IsTimelineOutcome o c.args.mix.now c.args.cert.now c.args.seq.now c.args.interval
-    c.args.reach in
+    let o : Outside = outside (g.S.Shelf.file a.shelf.now) (g.S.Shelf.blames c.launch_of.new.shelf) in
     let launch = c.in_ok-launch.launch in
     let Q : Outcome → Type 0 = λ out. (1000000 < length launch.units.items * launch.balance.stations)
-    × (out ≡ told ends.Input (fault_line c.args.seq.now large_text)) in
-    let q = err_from_is_err_and c.from_residual-in_err-text.result c.from_residual-in_err-text.ensures.1 in
-    subst (λ r. Ends o P after r) (sym q.1)
-    (subst (λ s. Ends o P after (Err s)) (sym q.2)
-    (stopped o P Q after c.in_err-text.field-0.0
+    × (out ≡ told ends.Input (fault_line a.seq.now large_text)) in
+    early o (IsTimelineOutcome o a.mix.now a.cert.now a.seq.now a.interval a.reach) Q after c.in_err-text.field-0.0
+    c.from_residual-in_err-text.result
     (λ out x. inr (inl (record {
       mix = launch.mix;
       balance = launch.balance;
@@ -42,4 +35,4 @@ returns-in_err-text-clause-ends g c = λ t.
       many = x.0;
       shown = x.1;
     })))
-    (c.in_ok-launch.ensures.files t) c.in_err-text.ensures.said))
+    (c.in_ok-launch.ensures.files t) c.in_err-text.ensures.said c.from_residual-in_err-text.ensures.1

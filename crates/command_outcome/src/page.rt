@@ -1,0 +1,30 @@
+//! The page of a report: the file that a command writes before its report is put.
+ghost use Rattle.std.specs.Prelude.{◌≡◌, ◌≢◌, ◌≤◌, ℕ, List, Some, IfOk, MatchResult};
+ghost use Rattle.line_io.specs.Outside.{Rises};
+ghost use Rattle.command_outcome.specs.Outcome.{Files, Ends, MayEnd, Stay, outside, outcome_of};
+
+use crate::report::{Report, Stop};
+use line_io::{Shelf, Written, write_whole};
+
+/// Writes the page of a report, and hands the report on.
+pub fn write_page<S: Shelf>(
+    shelf: &mut S,
+    name: &str,
+    bytes: &[u8],
+    report: Report,
+) -> Result<Report, Stop>
+    ensures ends { S.tells → (files : Files) → Stay files (S.file shelf.old)
+        → Ends (outside files (S.blames shelf.new))
+        (λ out. out ≡ outcome_of report (Some (record { name = name.now; bytes = bytes.now }))) (S.file shelf.new)
+        result }
+    ensures same { IfOk result (λ r. r ≡ report) }
+    ensures done { S.tells → IfOk result (λ _. S.file shelf.new name.now ≡ Some bytes.now) }
+    ensures others { S.tells → (q : List ℕ) → q ≢ name.now → S.file shelf.new q ≡ S.file shelf.old q }
+    ensures fault { MatchResult result (λ _. Unit {0}) (MayEnd (Rises (S.faults shelf.old) (S.faults shelf.new))) }
+    ensures count { S.faults shelf.old ≤ S.faults shelf.new }
+{
+    match write_whole(shelf, name, bytes) {
+        Written::Done => Ok(report),
+        Written::WriteFault => Err(Stop::Unwritten),
+    }
+}
