@@ -33,8 +33,10 @@ pub fn launch_of<S: Shelf>(
 ) -> Result<Launch, Stop>
     requires { IsBetween 1 1000000000 interval }
     ensures said { S.tells → MatchResult result
-        (λ p. IsLaunch (S.file shelf.old) (record { mix = mix.now; cert = cert.now; seq = seq.now }) interval p.mix p.balance p.units.items)
-        (Stops (IsUnlaunched (outside (S.file shelf.old) (S.blames shelf.new)) (record { mix = mix.now; cert = cert.now; seq = seq.now }) interval)) }
+        (λ p. IsLaunch (S.file shelf.old) (record { mix = mix.now; cert = cert.now; seq = seq.now }) interval
+        p.mix p.balance p.units.items)
+        (Stops (IsUnlaunched (outside (S.file shelf.old) (S.blames shelf.new))
+        (record { mix = mix.now; cert = cert.now; seq = seq.now }) interval)) }
     ensures places { IfOk result (λ p. length p.balance.place ≡ p.mix.tasks) }
     ensures stations { IfOk result (λ p. p.balance.stations ≤ 1024) }
     ensures few { IfOk result (λ p. length p.units.items ≤ 100000) }

@@ -31,8 +31,10 @@ fn text_of(
     requires models { All (λ m. m < length launch.now.mix.models) launch.now.units.items }
     requires reach { reach ≤ 1000000000 }
     ensures said { MatchResult result
-        (λ t. (t.items ≡ timeline_text launch.now.mix launch.now.balance launch.now.units.items interval reach) × (length launch.now.units.items * launch.now.balance.stations ≤ 1000000))
-        (Stops (λ out. (1000000 < length launch.now.units.items * launch.now.balance.stations) × (out ≡ told ends.Input (fault_line seq.now large_text)))) }
+        (λ t. (t.items ≡ timeline_text launch.now.mix launch.now.balance launch.now.units.items interval reach)
+        × (length launch.now.units.items * launch.now.balance.stations ≤ 1000000))
+        (Stops (λ out. (1000000 < length launch.now.units.items * launch.now.balance.stations)
+        × (out ≡ told ends.Input (fault_line seq.now large_text)))) }
     ensures status { MatchResult result (λ _. Unit {0}) (MayStop ⊥) }
 {
     match timeline(

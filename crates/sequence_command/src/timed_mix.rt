@@ -34,7 +34,8 @@ fn times_of(alloc: Global, file: &str, balanced: Balanced) -> Result<TimedMix, S
     requires some { 1 ≤ balanced.balance.stations }
     requires demand { balanced.demand ≡ total_demand balanced.mix.models }
     ensures said { MatchResult result
-        (λ p. (p.mix ≡ balanced.mix) × IsSmall balanced.mix balanced.balance × IsTimesOf balanced.mix balanced.balance p.times)
+        (λ p. (p.mix ≡ balanced.mix) × IsSmall balanced.mix balanced.balance
+        × IsTimesOf balanced.mix balanced.balance p.times)
         (Stops (IsLarge file.now balanced.mix balanced.balance)) }
     ensures range { IfOk result (λ p. AreTimes p.times) }
     ensures fault { MatchResult result (λ _. Unit {0}) (MayStop ⊥) }

@@ -148,7 +148,8 @@ pub(crate) fn old_entries<S: Shelf>(
 ) -> Result<Option<Entries>, Stop>
     ensures said { S.tells → MatchResult result
         (AreOld (S.file shelf.old) (option_map (λ a. a.now) warm.entry) kind inst.now)
-        (Stops (IsUnwarmed (outside (S.file shelf.old) (S.blames shelf.new)) (option_map (λ a. a.now) warm.entry) kind inst.now)) }
+        (Stops (IsUnwarmed (outside (S.file shelf.old) (S.blames shelf.new)) (option_map (λ a. a.now) warm.entry)
+        kind inst.now)) }
     ensures range { IfOk result (λ olds. ForSome olds (AreEntries (tasks inst.now))) }
     ensures fault { MatchResult result (λ _. Unit {0}) (MayStop (Rises (S.faults shelf.old) (S.faults shelf.new))) }
     ensures count { S.faults shelf.old ≤ S.faults shelf.new }
@@ -218,7 +219,8 @@ fn take_sought<R: Threads + Sync>(
     requires kept { taken.kept ≤ old_room plan.now.units }
     requires units { taken.units ≤ old_room plan.now.units }
     ensures sought { (at : Taking) → at.book ≡ taken.book → at.kept ≡ taken.kept → at.units ≡ taken.units
-        → IfOk result (λ b. HasSoughtBehind plan.now.units limit at b.book (string_bytes taken.first) (string_bytes b.first)) }
+        → IfOk result (λ b. HasSoughtBehind plan.now.units limit at b.book (string_bytes taken.first)
+        (string_bytes b.first)) }
     ensures about { IfOk result (λ b. b.book.about ≡ taken.book.about) }
     ensures reserved { IfOk result (λ b. IsReserved b.book) }
 {

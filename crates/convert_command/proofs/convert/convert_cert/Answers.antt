@@ -2,7 +2,7 @@ use Rattle.std.proofs.Common.{◌≡◌, inl, inr, refl, ℕ, List, Option, Some
 use Rattle.line_rules.specs.declared.types.Certificate.{Certificate}
 use Rattle.cert_text.specs.Cert.{cert_text}
 use Rattle.line_words.specs.declared.job.FormWord.TheVariants.{Cert}
-use Rattle.command_outcome.specs.Outcome.{Outside, Outcome, outcome_of, outside}
+use Rattle.command_outcome.specs.Outcome.{Outside, outcome_of, outside}
 use Rattle.command_outcome.specs.declared.report.Kept.TheVariants.{Nothing}
 use Rattle.command_outcome.specs.declared.report.Report.{Report}
 use Rattle.command_outcome.specs.declared.status.Status.TheVariants as ends

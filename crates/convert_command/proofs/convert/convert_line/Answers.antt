@@ -1,5 +1,5 @@
 use Rattle.std.proofs.Common.{◌≡◌, ◌∙◌, ap, inl, subst, Option, ℕ, Some}
-use Rattle.command_outcome.specs.Outcome.{Files, Outside, Outcome, outcome_of, outside}
+use Rattle.command_outcome.specs.Outcome.{Files, Outside, outcome_of, outside}
 use Rattle.command_outcome.proofs.OutcomeFacts.{ends_as}
 use Rattle.convert_command.specs.Convert.{IsConvertOutcome, IsTextIn, wrote}
 use Rattle.convert_command.proofs.ConvertFacts.{wrote_as}

@@ -1,6 +1,6 @@
 use Rattle.std.proofs.Common.{◌≡◌, ◌∙◌, ap, inl, inr, subst, List, ℕ, Option, Some}
 use Rattle.std.specs.Prelude.{option_map}
-use Rattle.command_outcome.specs.Outcome.{Files, Outside, Outcome, outcome_of, outside}
+use Rattle.command_outcome.specs.Outcome.{Files, Outside, outcome_of, outside}
 use Rattle.command_outcome.proofs.OutcomeFacts.{early, ends_as}
 use Rattle.input_files.specs.InputFile.{Reads, max_certificate}
 use Rattle.input_files.specs.Certificate.{IsTextOf}

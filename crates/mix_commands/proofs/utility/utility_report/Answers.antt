@@ -1,5 +1,5 @@
 use Rattle.std.proofs.Common.{inr}
-use Rattle.command_outcome.specs.Outcome.{Files, Outside, Outcome, outside}
+use Rattle.command_outcome.specs.Outcome.{Files, Outside, outside}
 use Rattle.command_outcome.proofs.OutcomeFacts.{early}
 use Rattle.mix_commands.specs.Launch.{Names, IsUnlaunched}
 use Rattle.mix_commands.specs.Utility.{IsUtilityOutcome}

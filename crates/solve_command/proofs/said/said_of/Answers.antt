@@ -1,5 +1,5 @@
 use Rattle.std.proofs.Common.{inl, inr, List, ℕ, Option, option_map}
-use Rattle.command_outcome.specs.Outcome.{Files, Outside, Outcome, outside}
+use Rattle.command_outcome.specs.Outcome.{Files, Outside, outside}
 use Rattle.command_outcome.proofs.OutcomeFacts.{step_early}
 use Rattle.input_files.specs.Instance.{IsUnsaid}
 use Rattle.solve_command.specs.WarmStart.{IsUnwarmed}
