@@ -1,1 +1,2 @@
+pub mod PageFacts
 pub mod DrawFacts

@@ -1,2 +1,1 @@
 pub mod WrittenFacts
-pub mod FoundFacts

@@ -6,7 +6,6 @@
 #![tactic(auto)]
 
 mod print_solution;
-mod said;
 mod solution;
 mod warm_start;
 #[cfg(test)]
