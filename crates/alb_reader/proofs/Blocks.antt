@@ -14,8 +14,8 @@ use Rattle.alb_reader.specs.declared.mark.Section.TheVariants.{Times, Pairs}
 use Rattle.alb_reader.specs.declared.mark.Mark.TheVariants.{Heading, Body}
 use Rattle.alb_reader.specs.declared.fault.AlbKind.{AlbKind}
 use Rattle.alb_reader.specs.declared.fault.AlbKind.TheVariants.{RepeatedHeading}
-use Rattle.alb_reader.proofs.Filing.{append_nil, kept_front, or_assoc, section_snoc, filed_snoc}
-use Rattle.alb_reader.proofs.Upto.{append_assoc, NoEnd, before_append, end_append}
+use Rattle.alb_reader.proofs.SectionFacts.{append_nil, kept_front, or_assoc, section_snoc, filed_snoc}
+use Rattle.alb_reader.proofs.UpToEnd.{append_assoc, NoEnd, before_append, end_append}
 
 pub section_append : (now : Option Section) (xs ys : Lines)
     → section_after now (xs ++ ys) ≡ section_after (section_after now xs) ys

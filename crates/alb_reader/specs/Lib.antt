@@ -1,6 +1,6 @@
 pub mod Sections
 pub mod Faults
-pub mod Answers
+pub mod Instance
 pub mod Texts
 pub mod Written
 pub mod inner

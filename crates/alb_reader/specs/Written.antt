@@ -4,9 +4,9 @@ use Rattle.std.specs.List.{flat_map, range_with_len}
 use Rattle.line_instance.specs.declared.arcs.Prec.{Prec}
 use Rattle.line_instance.specs.Line.{Line, IsLine, IsRanked, Before, tasks, time}
 use Rattle.in2_reader.specs.Written.{AreCovers, pair_line}
-use Rattle.alb_reader.specs.Answers.{IsAlbRead}
-use Rattle.alb_reader.specs.declared.answer.AlbRead.{AlbRead}
-use Rattle.alb_reader.specs.declared.answer.AlbRead.TheVariants.{Good, Fault, NoMemory}
+use Rattle.alb_reader.specs.Instance.{IsAlbRead}
+use Rattle.alb_reader.specs.declared.instance.AlbRead.{AlbRead}
+use Rattle.alb_reader.specs.declared.instance.AlbRead.TheVariants.{Good, Fault, NoMemory}
 
 -- the section of the number of tasks
 abbrev pub tasks_section : ℕ → List ℕ

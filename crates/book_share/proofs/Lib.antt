@@ -1,8 +1,8 @@
 pub mod Lists
 pub mod Sums
-pub mod Moves
-pub mod Loading
-pub mod Halving
+pub mod TurnSteps
+pub mod LoadSteps
+pub mod SplitFacts
 pub mod Hands
-pub mod Calling
+pub mod CallFacts
 pub mod MarkFacts

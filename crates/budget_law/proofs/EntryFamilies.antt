@@ -16,10 +16,10 @@ use Rattle.line_rules.specs.declared.types.Seatplace.{Seatplace}
 use Rattle.line_rules.specs.declared.types.Entry.{Entry}
 use Rattle.line_rules.specs.declared.types.Why.{Why}
 use Rattle.line_rules.specs.declared.types.Why.TheVariants as why
-use Rattle.line_rules.proofs.Carried.{stands_alone}
-use Rattle.line_rules.proofs.Spread.{count_below}
-use Rattle.line_rules.proofs.Restrict.{restricted}
-use Rattle.line_rules.proofs.Sound.{sound}
+use Rattle.line_rules.proofs.Monotone.{stands_alone}
+use Rattle.line_rules.proofs.OneTaskPerStation.{count_below}
+use Rattle.line_rules.proofs.SubBalance.{restricted}
+use Rattle.line_rules.proofs.LemmasHold.{sound}
 use Rattle.budget_law.proofs.Families.{Family, IsFamily, AreDifferent, triples_of, listed_rise}
 
 -- the mode of an entry by Branch belongs to the kind of line

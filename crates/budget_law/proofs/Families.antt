@@ -9,7 +9,7 @@ use Rattle.line_rules.specs.Order.{Precedes, Lists}
 use Rattle.line_rules.specs.declared.types.LineKind.{LineKind}
 use Rattle.line_rules.specs.declared.types.Mode.{Mode}
 use Rattle.line_rules.specs.declared.types.Load.{Load}
-use Rattle.line_rules.proofs.Sound.{get_within}
+use Rattle.line_rules.proofs.LemmasHold.{get_within}
 use Rattle.line_rules.proofs.Unique.{first_less, tail_lists}
 
 pub record Family : Type 0 where

@@ -11,7 +11,7 @@ use Rattle.line_rules.specs.declared.types.LineKind.{LineKind}
 use Rattle.line_rules.specs.declared.types.Entry.{Entry}
 use Rattle.line_rules.specs.declared.types.OpenFrame.{OpenFrame}
 use Rattle.line_rules.specs.declared.types.Trail.{Trail}
-use Rattle.line_rules.proofs.Free.{all_of}
+use Rattle.line_rules.proofs.FreeSets.{all_of}
 use Rattle.budget_law.specs.Budget.{states, HasTrailAt, UnitsAreFew}
 use Rattle.budget_law.proofs.Families.{get_append_cases, different_append, triples_append}
 use Rattle.budget_law.proofs.DistinctTriples.{few_triples}

@@ -13,7 +13,7 @@ use Rattle.line_rules.specs.declared.types.Load.{Load}
 use Rattle.line_rules.specs.declared.types.Entry.{Entry}
 use Rattle.line_rules.specs.declared.types.OpenFrame.{OpenFrame}
 use Rattle.line_rules.proofs.Paths.{rest_inside, rest_without}
-use Rattle.line_rules.proofs.Carried.{rest_smaller}
+use Rattle.line_rules.proofs.Monotone.{rest_smaller}
 use Rattle.budget_law.proofs.Families.{Family, IsFamily, AreDifferent, triples_of, listed_rise}
 
 -- a frame of a trail from a question of R

@@ -1,7 +1,7 @@
-pub mod Marks
-pub mod Places
-pub mod Thinned
-pub mod Trimmed
-pub mod Sending
+pub mod MarkFacts
+pub mod KeptPlaces
+pub mod ThinnedLists
+pub mod TrimFacts
+pub mod SentBytes
 pub mod Windows
-pub mod Ends
+pub mod FileEnds

@@ -1,9 +1,9 @@
 -- What reading a certificate from a file answers.
 use Rattle.std.specs.Prelude.{◌≡◌, ◌⊎◌, ℕ, suc, ◌<◌, ◌≤◌, List, length, Option, Some}
 use Rattle.line_rules.specs.Ranges.{IsInRange}
-use Rattle.cert_text.specs.Answers.{IsCertRead}
-use Rattle.cert_text.specs.declared.reader.CertRead.{CertRead}
-use Rattle.cert_text.specs.declared.reader.CertRead.TheVariants as reads
+use Rattle.cert_text.specs.WholeText.{IsCertRead}
+use Rattle.cert_text.specs.declared.whole_text.CertRead.{CertRead}
+use Rattle.cert_text.specs.declared.whole_text.CertRead.TheVariants as reads
 use Rattle.line_rules.specs.declared.types.Certificate.{Certificate}
 use Rattle.cert_lines.specs.declared.fault.CertFault.{CertFault}
 use Rattle.cert_lines.specs.declared.fault.CertKind.TheVariants.{Trailing}

@@ -1,2 +1,2 @@
-pub mod Lifted
+pub mod LiftFacts
 pub mod LiftRanges

@@ -8,7 +8,7 @@ use Rattle.line_io.specs.Lines.{onto_first, value_of}
 use Rattle.line_rules.specs.declared.types.Mode.{Mode}
 use Rattle.line_rules.specs.declared.types.Mode.TheVariants.{Fore, Back, Both}
 use Rattle.cert_lines.specs.Numbers.{number_text, cites_text, mode_letter}
-use Rattle.cert_lines.specs.Reading.{◌>>=◌, pieces_at, number_in, numbers_in, cites_in, is_none, mode_in, greatest}
+use Rattle.cert_lines.specs.Words.{◌>>=◌, pieces_at, number_in, numbers_in, cites_in, is_none, mode_in, greatest}
 use Rattle.cert_lines.proofs.NumberWords.{left, lacks, all_high, high_lacks, number_high, number_again, number_found}
 use Rattle.cert_lines.proofs.NumberWords.{split_again, split_none, bind_some}
 use Rattle.cert_lines.proofs.Lists.{chosen, one_piece, more_pieces}

@@ -10,7 +10,7 @@ use Rattle.line_rules.specs.declared.types.Mode.TheVariants.{Fore, Back, Both}
 use Rattle.cert_lines.specs.Numbers.{number_text, set_text, cites_text, mode_letter}
 use Rattle.cert_lines.specs.Rows.{Row, fixed, keyed, span, seat, bound, branch, swap, trail, frame, state_entry}
 use Rattle.cert_lines.specs.Rows.{state_frame, entry, form_of, given, row_text}
-use Rattle.cert_lines.specs.Reading.{◌>>=◌, parts_at, number_in, number_first, set_in, mode_in, cites_in}
+use Rattle.cert_lines.specs.Words.{◌>>=◌, parts_at, number_in, number_first, set_in, mode_in, cites_in}
 use Rattle.cert_lines.specs.inner.LineReading.{cycle_first, bound_in, branch_in, swap_in, entry_in}
 use Rattle.cert_lines.specs.declared.draft.Draft.{Draft}
 use Rattle.cert_lines.specs.declared.draft.DraftWhy.{DraftWhy as Why}

@@ -10,7 +10,7 @@ use Rattle.line_rules.specs.declared.types.Mode.TheVariants.{Fore, Back, Both}
 use Rattle.line_rules.specs.declared.types.Load.{Load}
 use Rattle.cert_lines.specs.Numbers.{number_text, set_text, cites_text, mode_letter, load_text, last_text}
 use Rattle.cert_lines.specs.Rows.{frame, row_text}
-use Rattle.cert_lines.specs.Reading.{◌>>=◌, parts_at, number_first, set_in, mode_in, cites_in, is_none}
+use Rattle.cert_lines.specs.Words.{◌>>=◌, parts_at, number_first, set_in, mode_in, cites_in, is_none}
 use Rattle.cert_lines.specs.inner.LineReading.{load_in, last_in, frame_in, frame_rest_in}
 use Rattle.cert_lines.specs.declared.draft.FrameDraft.{FrameDraft}
 use Rattle.cert_lines.proofs.NumberWords.{number_first_again, split_again, high_lacks, all_high, lacks, bind_some, both}

@@ -16,7 +16,7 @@ use Rattle.cert_lines.specs.Numbers.{number_text, set_text, cites_text, mode_let
 use Rattle.cert_lines.specs.Rows.{Row, fixed, keyed, span, seat, bound, branch, swap, trail, frame, state_entry}
 use Rattle.cert_lines.specs.Rows.{state_frame, entry, open_frame, given, form_of, row_text}
 use Rattle.cert_lines.specs.ValueRows.{frame_row, why_row}
-use Rattle.cert_lines.specs.Reading.{greatest}
+use Rattle.cert_lines.specs.Words.{greatest}
 use Rattle.cert_lines.specs.inner.LineReading.{entry_in, frame_in}
 use Rattle.cert_lines.specs.Pattern.{HasFormOf}
 use Rattle.cert_lines.specs.LineForms.{IsWithin, entry_of, IsFrameWithin, frame_of, written, IsGiven, IsSaid, given_row}
@@ -25,7 +25,7 @@ use Rattle.cert_lines.specs.declared.draft.Draft.{Draft}
 use Rattle.cert_lines.specs.declared.draft.FrameDraft.{FrameDraft}
 use Rattle.cert_lines.proofs.SetText.{clip, set_again, set_found}
 use Rattle.cert_lines.proofs.CiteWords.{sat}
-use Rattle.cert_lines.proofs.Judged.{small, small_is}
+use Rattle.cert_lines.proofs.JudgedLine.{small, small_is}
 use Rattle.cert_lines.proofs.EntryLines.{cycle_of, front, draft_of, bound_text, branch_text, swap_text, same_entry}
 use Rattle.cert_lines.proofs.EntryLines.{entry_again, entry_found}
 use Rattle.cert_lines.proofs.FrameLines.{load_read, last_read, the_frame, frame_again, frame_found}

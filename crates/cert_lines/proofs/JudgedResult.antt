@@ -13,7 +13,7 @@ use Rattle.cert_lines.specs.declared.draft.Draft.{Draft}
 use Rattle.cert_lines.specs.declared.draft.FrameDraft.{FrameDraft}
 use Rattle.cert_lines.specs.declared.fault.LineError.{LineError}
 use Rattle.cert_lines.specs.declared.fault.LineError.TheVariants as lines
-use Rattle.cert_lines.proofs.Judged.{out_of_range}
+use Rattle.cert_lines.proofs.JudgedLine.{out_of_range}
 use Rattle.cert_lines.proofs.JudgedEntry.{entry_range, entry_said, frame_range, frame_said}
 
 pub entry_judged : (n count : ℕ) (g : Option ℕ) (line : List ℕ) (d : Draft) (r : Result Entry LineError) → n ≤ 1024

@@ -6,10 +6,10 @@ pub mod NumberWords
 pub mod SetText
 pub mod CiteWords
 pub mod EntryLines
-pub mod OtherLines
+pub mod PlainLines
 pub mod FrameLines
-pub mod Composing
-pub mod Judged
-pub mod JudgedMore
+pub mod TextParts
+pub mod JudgedLine
+pub mod JudgedSeat
 pub mod JudgedEntry
 pub mod JudgedResult

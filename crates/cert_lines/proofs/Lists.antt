@@ -3,7 +3,7 @@ use Rattle.std.proofs.Common.{◌≡◌, ℕ, ◌<◌, Bool, true, false, cond, 
 use Rattle.std.proofs.Common.{ap, arith, ◌⊎◌, inl, inr, length-append, Some, None, Option, append_assoc}
 use Rattle.std.proofs.lemmas.Bool.Decides.{nat_tests}
 use Rattle.line_io.specs.Lines.{onto_first}
-use Rattle.cert_lines.specs.Reading.{◌>>=◌, parts_at, onto_part, pieces_at, numbers_in, number_in}
+use Rattle.cert_lines.specs.Words.{◌>>=◌, parts_at, onto_part, pieces_at, numbers_in, number_in}
 
 -- numbers in front of those that are read
 abbrev pub behind : List ℕ → Option (List ℕ) → Option (List ℕ)

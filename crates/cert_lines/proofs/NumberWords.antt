@@ -6,7 +6,7 @@ use Rattle.std.proofs.lemmas.Bool.Decides.{nat_tests}
 use Rattle.std.proofs.lemmas.List.{append-nil}
 use Rattle.line_io.specs.Lines.{is_digit, all_digits, value_after, value_of}
 use Rattle.cert_lines.specs.Numbers.{number_text}
-use Rattle.cert_lines.specs.Reading.{◌>>=◌, parts_at, onto_part, number_in, number_first, is_unplain, greatest}
+use Rattle.cert_lines.specs.Words.{◌>>=◌, parts_at, onto_part, number_in, number_first, is_unplain, greatest}
 pub use Rattle.cert_lines.specs.Telling.{lacks}
 use Rattle.cert_lines.proofs.Digits.{number_small, number_more}
 use Rattle.cert_lines.proofs.Parts.{value_push}

@@ -6,7 +6,7 @@ use Rattle.std.proofs.lemmas.Bool.Decides.{nat_tests}
 use Rattle.std.proofs.lemmas.List.{take_all, take_more, drop_more}
 use Rattle.std.proofs.Common.{length-drop}
 use Rattle.line_io.specs.Lines.{is_digit, all_digits, value_after, value_of}
-use Rattle.cert_lines.specs.Reading.{parts_at, onto_part, number_in, is_unplain, greatest}
+use Rattle.cert_lines.specs.Words.{parts_at, onto_part, number_in, is_unplain, greatest}
 
 pub not_equal : (a b : ℕ) → (a ≡ b → ⊥) → nat_eq a b ≡ false
 not_equal a b n = grind (arith, nat_tests, n)

@@ -9,8 +9,8 @@ use Rattle.std.proofs.lemmas.List.{get_or-append_right}
 use Rattle.std.proofs.lemmas.List.FromFn.{length-map-range_with_len}
 use Rattle.line_rules.specs.Ranges.{IsOf}
 use Rattle.cert_lines.specs.Numbers.{member, four, hex_digit, set_text}
-use Rattle.cert_lines.specs.Reading.{is_hex, hex_value, bit_of, is_spare, are_digits, with_task, with_digit}
-use Rattle.cert_lines.specs.Reading.{with_digits, set_in}
+use Rattle.cert_lines.specs.Words.{is_hex, hex_value, bit_of, is_spare, are_digits, with_task, with_digit}
+use Rattle.cert_lines.specs.Words.{with_digits, set_in}
 use Rattle.cert_lines.proofs.NumberWords.{both, left, right, all_high}
 use Rattle.cert_lines.proofs.SetWords.{set_is}
 

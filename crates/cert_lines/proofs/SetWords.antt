@@ -2,7 +2,7 @@
 use Rattle.std.proofs.Common.{◌≡◌, ℕ, suc, ◌+◌, ◌/◌, ◌<◌, Bool, true, false, cond, ◌&&◌, nat_eq, List, [], length}
 use Rattle.std.proofs.Common.{get_or, drop, replicate, refl, sym, ◌∙◌, ap, Some, None, add-one}
 use Rattle.std.proofs.lemmas.List.{drop_more}
-use Rattle.cert_lines.specs.Reading.{are_digits, with_digits, with_digit, set_in, is_hex, is_spare, hex_value}
+use Rattle.cert_lines.specs.Words.{are_digits, with_digits, with_digit, set_in, is_hex, is_spare, hex_value}
 
 both_false : (a : Bool) → (a && false) ≡ false
 both_false true = refl

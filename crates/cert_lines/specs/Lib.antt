@@ -3,7 +3,7 @@ pub mod Rows
 pub mod ValueRows
 pub mod Faults
 pub mod Telling
-pub mod Reading
+pub mod Words
 pub mod Taking
 pub mod ReadingOn
 pub mod Pattern

@@ -1,6 +1,6 @@
 //! What a line says, before its numbers are held against their ranges.
 ghost use Rattle.std.specs.Prelude.{◌≡◌, ◌≤◌, IfOk, option_map};
-ghost use Rattle.cert_lines.specs.Reading.{parts_at, number_in};
+ghost use Rattle.cert_lines.specs.Words.{parts_at, number_in};
 ghost use Rattle.cert_lines.specs.inner.LineReading.{keyed_in, seat_in, cycle_first, bound_in, branch_in, swap_in};
 ghost use Rattle.cert_lines.specs.inner.LineReading.{entry_in, load_in, last_in, frame_in, trail_numbers, trail_in};
 

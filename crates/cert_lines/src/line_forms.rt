@@ -1,7 +1,7 @@
 //! The kinds of lines of a certificate.
 ghost use Rattle.std.specs.Prelude.{◌≡◌, ◌≤◌, ◌<◌, ◌+◌, ◌↔◌, IsTrue, MatchResult, IfOk};
 ghost use Rattle.cert_lines.specs.Rows.{keyed as keyed_row};
-ghost use Rattle.cert_lines.specs.Reading.{greatest};
+ghost use Rattle.cert_lines.specs.Words.{greatest};
 ghost use Rattle.cert_lines.specs.ReadingOn.{IsReadOn};
 ghost use Rattle.cert_lines.specs.Pattern.{IsRead, one};
 ghost use Rattle.cert_lines.specs.LineForms.{key_text, IsWhyWithin, IsWithin, entry_of, why_of, IsFrameWithin};
@@ -76,7 +76,7 @@ impl Pattern for NumberLine {
     ghost use Rattle.std.specs.Prelude.{◌≤◌, ◌<◌};
     ghost use Rattle.cert_lines.specs.Rows.{keyed as keyed_row};
     ghost use Rattle.cert_lines.specs.LineForms.{key_text};
-    ghost use Rattle.cert_lines.specs.Reading.{greatest};
+    ghost use Rattle.cert_lines.specs.Words.{greatest};
 
     type Value = u64;
 

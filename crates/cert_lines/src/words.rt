@@ -1,8 +1,8 @@
 //! The reading of words: numbers, modes, cites and sets.
 ghost use Rattle.std.specs.Prelude.{◌≡◌, ◌≤◌, ◌<◌, ◌||◌, IfOk, option_map, true, cond, slice_set, nat_lt, not};
-ghost use Rattle.cert_lines.specs.Reading.{parts_at, number_in, number_first, mode_in, cites_in, numbers_in, pieces_at};
-ghost use Rattle.cert_lines.specs.Reading.{set_in, is_hex as hex, hex_value as value, is_spare, with_digit};
-ghost use Rattle.cert_lines.specs.Reading.{is_unplain as unplain, is_none as none};
+ghost use Rattle.cert_lines.specs.Words.{parts_at, number_in, number_first, mode_in, cites_in, numbers_in, pieces_at};
+ghost use Rattle.cert_lines.specs.Words.{set_in, is_hex as hex, hex_value as value, is_spare, with_digit};
+ghost use Rattle.cert_lines.specs.Words.{is_unplain as unplain, is_none as none};
 
 use line_rules::{Cites, Mode};
 use std::alloc::{AllocError, Global};
@@ -50,7 +50,7 @@ pub fn number(word: &[u8]) -> Option<u64>
 }
 
 /// The number in front of a blank, and what stands behind it.
-#[tactic(auto, unfolding(crate::specs::Reading::number_first))]
+#[tactic(auto, unfolding(crate::specs::Words::number_first))]
 pub fn first_number(bytes: &[u8]) -> Option<(u64, &[u8])>
     ensures { number_first bytes.now ≡ option_map (λ p. (p.0, p.1.now)) result }
 {
@@ -60,7 +60,7 @@ pub fn first_number(bytes: &[u8]) -> Option<(u64, &[u8])>
 }
 
 /// The mode that a word is.
-#[tactic(auto, unfolding(crate::specs::Reading::mode_in))]
+#[tactic(auto, unfolding(crate::specs::Words::mode_in))]
 pub fn mode_of(word: &[u8]) -> Option<Mode>
     ensures { result ≡ mode_in word.now }
 {
@@ -86,7 +86,7 @@ pub fn is_none(word: &[u8]) -> bool
 }
 
 /// The cites that a word is: `-` for none, or numbers with a comma between. An error where memory is wanting.
-#[tactic(auto, unfolding(crate::specs::Reading::cites_in))]
+#[tactic(auto, unfolding(crate::specs::Words::cites_in))]
 pub fn cites_of(alloc: Global, word: &[u8]) -> Result<Option<Cites>, AllocError>
     ensures { IfOk result (λ cites. cites ≡ cites_in word.now) }
 {

@@ -34,22 +34,23 @@ use Rattle.cert_text.specs.Parts.{IsHeadOf, heads, lists, IsPlacedOf, placings, 
 use Rattle.cert_text.specs.Parts.{opened, IsClaimOf, claims}
 use Rattle.cert_text.specs.inner.OldParts.{counted}
 use Rattle.cert_text.specs.Versions.{AnyCertificate, newer, older, IsAnyInRange, any_rows, lifted, both, certificate_of}
-use Rattle.cert_text.specs.Answers.{IsAnyRead}
-use Rattle.cert_text.specs.declared.reading.Head.{Head}
-use Rattle.cert_text.specs.declared.reading.EntryList.{EntryList}
-use Rattle.cert_text.specs.declared.reading.Placed.{Placed}
-use Rattle.cert_text.specs.declared.reading.AnyClaim.{AnyClaim}
-use Rattle.cert_text.specs.declared.reading.AnyClaim.TheVariants as any
+use Rattle.cert_text.specs.WholeText.{IsAnyRead}
+use Rattle.cert_text.specs.declared.parts.Head.{Head}
+use Rattle.cert_text.specs.declared.parts.EntryList.{EntryList}
+use Rattle.cert_text.specs.declared.parts.Placed.{Placed}
+use Rattle.cert_text.specs.declared.parts.AnyClaim.{AnyClaim}
+use Rattle.cert_text.specs.declared.parts.AnyClaim.TheVariants as any
 use Rattle.cert_lines.proofs.CiteWords.{sat}
-use Rattle.cert_lines.proofs.Judged.{fixed_text, small_is, keyed_value, keyed_other}
-use Rattle.cert_lines.proofs.OtherLines.{keyed_again}
+use Rattle.cert_lines.proofs.JudgedLine.{fixed_text, small_is, keyed_value, keyed_other}
+use Rattle.cert_lines.proofs.PlainLines.{keyed_again}
 use Rattle.cert_lift.proofs.LiftRanges.{lifted_in}
-use Rattle.cert_text.proofs.Failing.{Fails, first, second, same, hand}
-use Rattle.cert_text.proofs.Sequencing.{unique_then, Unique, unique_one, Same, same_read, same_error, both_read}
-use Rattle.cert_text.proofs.Sequencing.{second_error}
-use Rattle.cert_text.proofs.Wholes.{unique_same, unique_placings, unique_lists, unique_heads, one_cycle, some_seating}
-use Rattle.cert_text.proofs.Wholes.{placing_said, within}
-use Rattle.cert_text.proofs.OldWholes.{unique_counted}
+use Rattle.cert_text.proofs.PartErrors.{Fails, first, second, same, hand}
+use Rattle.cert_text.proofs.PartSequences.{unique_then, Unique, unique_one, Same, same_read, same_error, both_read}
+use Rattle.cert_text.proofs.PartSequences.{second_error}
+use Rattle.cert_text.proofs.CertificateParts.{unique_same, unique_placings, unique_lists, unique_heads, one_cycle}
+use Rattle.cert_text.proofs.CertificateParts.{some_seating}
+use Rattle.cert_text.proofs.CertificateParts.{placing_said, within}
+use Rattle.cert_text.proofs.VersionOneParts.{unique_counted}
 
 -- the end
 abbrev pub end_grammar : Grammar (Unit {0})

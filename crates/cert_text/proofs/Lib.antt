@@ -1,10 +1,10 @@
-pub mod Putting
-pub mod Spelling
-pub mod Sequencing
-pub mod Wholes
-pub mod Failing
+pub mod PutTexts
+pub mod PutLines
+pub mod PartSequences
+pub mod CertificateParts
+pub mod PartErrors
 pub mod Claims
-pub mod OldWholes
+pub mod VersionOneParts
 pub mod TakenLines
-pub mod Decoding
+pub mod LineTexts
 pub mod ListAnswers

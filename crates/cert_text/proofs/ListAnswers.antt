@@ -10,12 +10,12 @@ use Rattle.cert_text.specs.Cert.{list_rows}
 use Rattle.cert_text.specs.Parts.{lists}
 use Rattle.cert_lines.specs.Pattern.{IsRead}
 use Rattle.cert_lines.specs.Faults.{IsFault}
-use Rattle.cert_text.specs.Answers.{IsListGood, IsListRead, IsListed}
-use Rattle.cert_text.specs.declared.reading.EntryList.{EntryList}
-use Rattle.cert_text.specs.declared.reader.ListRead.{ListRead}
-use Rattle.cert_text.specs.declared.reader.ListRead.TheVariants as answers
+use Rattle.cert_text.specs.WholeText.{IsListGood, IsListRead, IsListed}
+use Rattle.cert_text.specs.declared.parts.EntryList.{EntryList}
+use Rattle.cert_text.specs.declared.whole_text.ListRead.{ListRead}
+use Rattle.cert_text.specs.declared.whole_text.ListRead.TheVariants as answers
 use Rattle.cert_lines.specs.declared.fault.CertFault.{CertFault}
-use Rattle.cert_text.proofs.Decoding.{list_has_none}
+use Rattle.cert_text.proofs.LineTexts.{list_has_none}
 use Rattle.cert_lines.specs.declared.fault.ReadError.{ReadError}
 use Rattle.cert_lines.specs.declared.fault.ReadError.TheVariants as errors
 

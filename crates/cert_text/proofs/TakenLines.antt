@@ -2,7 +2,7 @@
 use Rattle.std.proofs.Common.{◌≡◌, ℕ, zero, suc, ◌<◌, true, false, nat_eq, List, [], ◌∷◌, length, get_or, sym, ◌∙◌, ap}
 use Rattle.std.proofs.Common.{subst, arith, Some, None, inl, inr}
 use Rattle.std.proofs.lemmas.Bool.Decides.{nat_tests}
-use Rattle.cert_lines.specs.Reading.{parts_at, onto_part}
+use Rattle.cert_lines.specs.Words.{parts_at, onto_part}
 use Rattle.cert_lines.specs.Taking.{IsTaken}
 use Rattle.cert_lines.specs.Faults.{IsLine}
 use Rattle.cert_lines.proofs.Lists.{chosen, onto_some, onto_none, split_parts}

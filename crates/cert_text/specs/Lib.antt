@@ -3,6 +3,6 @@ pub mod OldCert
 pub mod Versions
 pub mod Sent
 pub mod Parts
-pub mod Answers
+pub mod WholeText
 pub mod Laws
 pub mod inner

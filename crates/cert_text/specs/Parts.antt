@@ -17,11 +17,11 @@ use Rattle.cert_lines.specs.declared.version_one.OldClaim.TheVariants as old
 use Rattle.cert_text.specs.Cert.{head_rows, list_rows, trail_rows}
 use Rattle.cert_text.specs.OldCert.{counted_rows}
 use Rattle.cert_lines.specs.Faults.{Grammar}
-use Rattle.cert_text.specs.declared.reading.Head.{Head}
-use Rattle.cert_text.specs.declared.reading.EntryList.{EntryList}
-use Rattle.cert_text.specs.declared.reading.Placed.{Placed}
-use Rattle.cert_text.specs.declared.reading.AnyClaim.{AnyClaim}
-use Rattle.cert_text.specs.declared.reading.AnyClaim.TheVariants as any
+use Rattle.cert_text.specs.declared.parts.Head.{Head}
+use Rattle.cert_text.specs.declared.parts.EntryList.{EntryList}
+use Rattle.cert_text.specs.declared.parts.Placed.{Placed}
+use Rattle.cert_text.specs.declared.parts.AnyClaim.{AnyClaim}
+use Rattle.cert_text.specs.declared.parts.AnyClaim.TheVariants as any
 
 -- the kind of line, 1 to 1,024 tasks, the question
 pub record IsHeadOf (h : Head) : Type 0 where

@@ -9,9 +9,9 @@ use Rattle.cert_lines.specs.OldRanges.{IsOldInRange}
 use Rattle.cert_lines.specs.declared.version_one.OldCertificate.{OldCertificate}
 use Rattle.cert_text.specs.Cert.{cert_rows}
 use Rattle.cert_text.specs.OldCert.{old_rows}
-use Rattle.cert_text.specs.declared.reading.Head.{Head}
-use Rattle.cert_text.specs.declared.reading.AnyClaim.{AnyClaim}
-use Rattle.cert_text.specs.declared.reading.AnyClaim.TheVariants as any
+use Rattle.cert_text.specs.declared.parts.Head.{Head}
+use Rattle.cert_text.specs.declared.parts.AnyClaim.{AnyClaim}
+use Rattle.cert_text.specs.declared.parts.AnyClaim.TheVariants as any
 
 -- a certificate of version 2, or one of version 1
 pub data AnyCertificate : Type 0 where

@@ -5,10 +5,10 @@ use Rattle.std.specs.Prelude.{◌⊎◌, codes, cond, nat_lt, Bool, true, false}
 use Rattle.std.proofs.lemmas.Bool.Decides.{nat_tests}
 use Rattle.combined_graph.specs.Mixes.{LineModel, MixedLine}
 use Rattle.combined_graph.specs.Records.{Fields, mix_records}
-use Rattle.combined_graph.specs.Answers.{IsMixRead}
-use Rattle.combined_graph.specs.declared.reading.MixRead.{MixRead}
-use Rattle.combined_graph.specs.declared.reading.MixRead.TheVariants.{Fault}
-use Rattle.combined_graph.specs.Reading.{Said, at_record, record_said, first_said, rest_said, records_said}
+use Rattle.combined_graph.specs.MixText.{IsMixRead}
+use Rattle.combined_graph.specs.declared.mix_text.MixRead.{MixRead}
+use Rattle.combined_graph.specs.declared.mix_text.MixRead.TheVariants.{Fault}
+use Rattle.combined_graph.specs.MixRecords.{Said, at_record, record_said, first_said, rest_said, records_said}
 use Rattle.combined_graph.specs.Faults.{AreBeginning, IsFirstFault}
 use Rattle.combined_graph.specs.declared.fault.MixFault.{MixFault}
 use Rattle.combined_graph.specs.declared.fault.MixKind.{MixKind}

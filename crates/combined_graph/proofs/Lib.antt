@@ -3,4 +3,4 @@ pub mod FirstFault
 pub mod FourFields
 pub mod RecordsLeft
 pub mod UnitNames
-pub mod Told
+pub mod MixFacts

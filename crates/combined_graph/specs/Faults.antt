@@ -2,7 +2,7 @@
 use Rattle.std.specs.Prelude.{◌≡◌, ◌⊎◌, ◌+◌, List, [], ◌∷◌, ◌++◌, length, Ok}
 use Rattle.combined_graph.specs.Mixes.{MixedLine}
 use Rattle.combined_graph.specs.Records.{Fields}
-use Rattle.combined_graph.specs.Reading.{records_said}
+use Rattle.combined_graph.specs.MixRecords.{records_said}
 use Rattle.combined_graph.specs.declared.fault.MixFault.{MixFault}
 
 -- the records say a mix

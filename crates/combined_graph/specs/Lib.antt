@@ -1,7 +1,7 @@
 pub mod Mixes
 pub mod Records
-pub mod Reading
-pub mod Answers
+pub mod MixRecords
+pub mod MixText
 pub mod Contents
 pub mod Faults
 pub mod Combined

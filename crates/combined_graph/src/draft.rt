@@ -4,10 +4,10 @@
 //! what was read. Where memory ends, what was added before stays, and the reading ends.
 ghost use Rattle.std.specs.Prelude.{◌≡◌, ◌≤◌, ◌<◌, length, true, IfSome};
 ghost use Rattle.csv.specs.Records.{fields_of};
-ghost use Rattle.combined_graph.specs.Answers.{Makes};
+ghost use Rattle.combined_graph.specs.MixText.{Makes};
 ghost use Rattle.combined_graph.specs.Mixes.{model_named, is_name as is_name_of};
-ghost use Rattle.combined_graph.specs.Reading.{model_for, time_for, arc_for, model_said, time_said, arc_said};
-ghost use Rattle.combined_graph.specs.Reading.{first_said, record_said, empty_mix};
+ghost use Rattle.combined_graph.specs.MixRecords.{model_for, time_for, arc_for, model_said, time_said, arc_said};
+ghost use Rattle.combined_graph.specs.MixRecords.{first_said, record_said, empty_mix};
 ghost use Rattle.combined_graph.specs.declared.draft.Stop.TheVariants as stop;
 
 use crate::fault::MixKind;

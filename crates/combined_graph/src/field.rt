@@ -4,7 +4,7 @@ ghost use Rattle.std.specs.List.{list_all};
 ghost use Rattle.line_io.specs.Lines.{number_in};
 ghost use Rattle.line_io.specs.declared.text.Num.TheVariants.{Value};
 ghost use Rattle.combined_graph.specs.Mixes.{is_name as name_test, is_name_byte as name_byte};
-ghost use Rattle.combined_graph.specs.Reading.{bounded, positive, task_in};
+ghost use Rattle.combined_graph.specs.MixRecords.{bounded, positive, task_in};
 
 use crate::fault::MixKind;
 use line_io::{Num, Span, number};

@@ -12,13 +12,13 @@ mod draft;
 mod fault;
 mod field;
 mod mix;
+mod mix_text;
 mod model;
-mod reading;
 mod records;
 mod sequence;
 
 pub use combining::{Combined, combine};
 pub use fault::{MixFault, MixKind};
 pub use mix::Mix;
-pub use reading::{MixRead, read_mix};
+pub use mix_text::{MixRead, read_mix};
 pub use sequence::{SeqRead, read_sequence};

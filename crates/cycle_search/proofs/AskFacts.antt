@@ -7,7 +7,7 @@ use Rattle.lemma_core.specs.Machine.{About}
 use Rattle.lemma_core.specs.Books.{BookView, IsReserved}
 use Rattle.round_helpers.specs.Growth.{AreAtCycle}
 use Rattle.round_helpers.specs.Helping.{all_used, HaveSpent}
-use Rattle.round_helpers.proofs.Growing.{units_both, cycles_both}
+use Rattle.round_helpers.proofs.AddedEntries.{units_both, cycles_both}
 use Rattle.round_run.specs.Plans.{IsFilled}
 use Rattle.round_run.specs.Rounds.{IsAnswer, IsListed, IsRound, frames_of}
 use Rattle.round_run.specs.declared.closing.Verdict.{Verdict}

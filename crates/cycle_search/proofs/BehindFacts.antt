@@ -22,7 +22,7 @@ use Rattle.line_rules.specs.declared.types.Why.TheVariants as why
 use Rattle.line_rules.specs.declared.types.OpenFrame.{OpenFrame}
 use Rattle.line_rules.proofs.ListFacts.{get_longer}
 use Rattle.lemma_core.specs.Own.{AreStatable}
-use Rattle.round_helpers.proofs.Growing.{units_both}
+use Rattle.round_helpers.proofs.AddedEntries.{units_both}
 use Rattle.cert_lines.specs.Lift.{raised, lifted_why, lifted_frame}
 use Rattle.cycle_search.specs.inner.Joined.{raised_entry, behind, HaveCites, HaveFrameCites}
 

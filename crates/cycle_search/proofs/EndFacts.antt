@@ -21,7 +21,7 @@ use Rattle.line_rules.specs.declared.types.Seatplace.{Seatplace}
 use Rattle.line_rules.specs.declared.types.Balance.{Balance as Assignment}
 use Rattle.line_rules.specs.declared.types.Entry.{Entry}
 use Rattle.line_rules.proofs.All.{In-all}
-use Rattle.line_rules.proofs.Law.{up_le}
+use Rattle.line_rules.proofs.BoundIsTrue.{up_le}
 use Rattle.load_facts.specs.Times.{longest_of}
 use Rattle.load_facts.proofs.SumsOverMembers.{below_least, below_at, picked_le}
 use Rattle.load_facts.proofs.BoundCases.{long_ones, below_bound}

@@ -3,4 +3,4 @@ pub mod EndFacts
 pub mod Tries
 pub mod AskFacts
 pub mod Results
-pub mod Reopening
+pub mod ReopenFacts

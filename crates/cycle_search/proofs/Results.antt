@@ -14,8 +14,8 @@ use Rattle.line_rules.specs.declared.types.Balance.{Balance as Assignment}
 use Rattle.line_rules.specs.declared.types.Entry.{Entry}
 use Rattle.line_rules.specs.declared.types.OpenFrame.{OpenFrame}
 use Rattle.line_rules.specs.declared.types.Trail.{Trail}
-use Rattle.line_rules.proofs.Proved.{answer_holds}
-use Rattle.line_rules.proofs.Restrict.{holds_more}
+use Rattle.line_rules.proofs.AcceptedIsTrue.{answer_holds}
+use Rattle.line_rules.proofs.SubBalance.{holds_more}
 use Rattle.lemma_core.specs.Own.{AreStatable}
 use Rattle.budget_law.specs.Budget.{states}
 use Rattle.budget_law.proofs.FewUnits.{units_few}

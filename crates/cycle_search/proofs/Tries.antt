@@ -12,7 +12,7 @@ use Rattle.line_rules.specs.declared.types.LineKind.{LineKind}
 use Rattle.line_rules.specs.declared.types.Balance.{Balance as Assignment}
 use Rattle.line_rules.specs.declared.types.Entry.{Entry}
 use Rattle.line_rules.specs.declared.types.OpenFrame.{OpenFrame}
-use Rattle.line_rules.proofs.Restrict.{restricted}
+use Rattle.line_rules.proofs.SubBalance.{restricted}
 use Rattle.lemma_core.specs.Machine.{About}
 use Rattle.lemma_core.specs.Books.{MayBeBest}
 use Rattle.station_search.proofs.Events.{get_append_cases}
@@ -22,7 +22,7 @@ use Rattle.round_run.specs.declared.plans.Plan.{Plan}
 use Rattle.round_run.specs.declared.closing.Verdict.{Verdict}
 use Rattle.round_run.specs.declared.closing.Verdict.TheVariants as verdict
 use Rattle.round_run.specs.declared.solving.Cause.TheVariants as cause
-use Rattle.round_helpers.proofs.Growing.{units_both, has_longer}
+use Rattle.round_helpers.proofs.AddedEntries.{units_both, has_longer}
 use Rattle.cycle_search.specs.Outcomes.{IsRightIn, IsBelow}
 use Rattle.cycle_search.specs.inner.Searching.{AreOutside, IsKept, HasEnds, IsBetween, IsAsking, HasAsked, IsStuck}
 use Rattle.cycle_search.specs.inner.Searching.{IsCloser}

@@ -9,8 +9,8 @@ use Rattle.cert_lines.specs.Rows.{form_of, row_text}
 use Rattle.cert_lines.specs.Pattern.{HasFormOf}
 use Rattle.cert_lines.proofs.NumberWords.{lacks}
 use Rattle.cert_lines.proofs.CiteWords.{sat}
-use Rattle.cert_lines.proofs.Judged.{small, small_is, keyed_only}
-use Rattle.cert_text.proofs.Decoding.{row_lacks}
+use Rattle.cert_lines.proofs.JudgedLine.{small, small_is, keyed_only}
+use Rattle.cert_text.proofs.LineTexts.{row_lacks}
 use Rattle.text_grammar.specs.Texts.{TellsLine}
 use Rattle.effic_cert.specs.Product.{IsProduct, IsStations}
 use Rattle.effic_cert.specs.inner.Parts.{AreEnds, ends_row, bound_text}

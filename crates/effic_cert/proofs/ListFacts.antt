@@ -6,10 +6,10 @@ use Rattle.line_rules.specs.declared.types.Balance.{Balance as Assignment}
 use Rattle.cert_lines.specs.Rows.{keyed}
 use Rattle.cert_lines.specs.ValueRows.{seat_row}
 use Rattle.cert_text.specs.Parts.{seatings, lists}
-use Rattle.cert_text.proofs.Sequencing.{texts}
-use Rattle.cert_text.proofs.Wholes.{some_seating, unique_seatings, unique_lists}
+use Rattle.cert_text.proofs.PartSequences.{texts}
+use Rattle.cert_text.proofs.CertificateParts.{some_seating, unique_seatings, unique_lists}
 use Rattle.cert_text.proofs.Claims.{some_list}
-use Rattle.cert_text.proofs.Decoding.{AllLack, row_lacks, lack_map, list_lacks}
+use Rattle.cert_text.proofs.LineTexts.{AllLack, row_lacks, lack_map, list_lacks}
 use Rattle.text_grammar.proofs.LineFacts.{Ready}
 
 pub seats_plain : (kind : LineKind) (b : Assignment) → AllLack (texts (keyed (codes "balance") b.stations

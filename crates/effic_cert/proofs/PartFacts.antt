@@ -8,10 +8,10 @@ use Rattle.cert_lines.specs.Pattern.{one, then_}
 use Rattle.cert_lines.specs.Rows.{keyed}
 use Rattle.cert_lines.specs.declared.line_forms.Key.TheVariants as keys
 use Rattle.cert_text.specs.Parts.{seatings, lists}
-use Rattle.cert_text.specs.declared.reading.EntryList.{EntryList}
-use Rattle.cert_text.proofs.Sequencing.{Same, texts}
-use Rattle.cert_text.proofs.Decoding.{AllLack, lack_both, list_lacks}
-use Rattle.cert_text.proofs.Wholes.{numbers, kinds, tasks_grammar}
+use Rattle.cert_text.specs.declared.parts.EntryList.{EntryList}
+use Rattle.cert_text.proofs.PartSequences.{Same, texts}
+use Rattle.cert_text.proofs.LineTexts.{AllLack, lack_both, list_lacks}
+use Rattle.cert_text.proofs.CertificateParts.{numbers, kinds, tasks_grammar}
 use Rattle.cert_text.proofs.Claims.{end_grammar}
 use Rattle.text_grammar.specs.Texts.{Tells}
 use Rattle.text_grammar.proofs.TextFacts.{led_tells, same_tells, titled_tells, none_begins}

@@ -8,7 +8,7 @@ use Rattle.std.proofs.lemmas.List.{take_more}
 use Rattle.line_io.specs.Lines.{value_of}
 use Rattle.cert_lines.specs.Numbers.{number_text}
 use Rattle.cert_lines.specs.Rows.{keyed, span, row_text}
-use Rattle.cert_lines.specs.Reading.{◌>>=◌, parts_at, number_in, number_first}
+use Rattle.cert_lines.specs.Words.{◌>>=◌, parts_at, number_in, number_first}
 use Rattle.cert_lines.proofs.NumberWords.{lacks, spelled, number_again, number_found, number_first_again, split_again}
 use Rattle.cert_lines.proofs.NumberWords.{bind_some}
 use Rattle.cert_lines.proofs.CiteWords.{sat}

@@ -3,7 +3,7 @@ use Rattle.std.specs.Prelude.{ℕ, List}
 use Rattle.cert_lines.specs.Faults.{Grammar}
 use Rattle.cert_lines.specs.declared.fault.CertFault.{CertFault}
 use Rattle.text_grammar.specs.Texts.{IsTextFault, IsTextRead}
-use Rattle.text_grammar.specs.declared.reader.TextRead.{TextRead}
+use Rattle.text_grammar.specs.declared.text.TextRead.{TextRead}
 use Rattle.effic_cert.specs.Product.{IsSayable, product_rows}
 use Rattle.effic_cert.specs.declared.cert.EfficCert.{EfficCert}
 

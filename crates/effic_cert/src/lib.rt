@@ -5,17 +5,17 @@
 //! one over the bytes.
 #![tactic(auto)]
 
+mod body;
 mod cert;
 pub mod laws;
 mod lines;
 mod listed;
-mod reader;
-mod reading;
 #[cfg(test)]
 mod tests;
+mod whole_text;
 mod words;
 mod writing;
 
 pub use cert::EfficCert;
-pub use reader::{EfficRead, EfficText, read_effic};
+pub use whole_text::{EfficRead, EfficText, read_effic};
 pub use writing::write_effic;

@@ -1,4 +1,4 @@
 pub mod ClosedFacts
 pub mod FoundFacts
-pub mod Rejected
-pub mod Proved
+pub mod RefusalFacts
+pub mod AcceptedIsTrue

@@ -21,7 +21,7 @@ use Rattle.line_rules.specs.declared.types.OpenFrame.{OpenFrame}
 use Rattle.line_rules.specs.declared.types.Seatplace.{Seatplace}
 use Rattle.line_rules.specs.declared.types.Balance.{Balance as Assignment}
 use Rattle.line_rules.specs.declared.types.Trail.{Trail}
-use Rattle.line_rules.proofs.Reading.{seat_read}
+use Rattle.line_rules.proofs.ReadPlaces.{seat_read}
 use Rattle.lemma_core.specs.Own.{AreStatable}
 use Rattle.budget_law.specs.Budget.{states}
 use Rattle.budget_law.proofs.FewUnits.{units_few}
@@ -31,7 +31,7 @@ use Rattle.effic_cert.specs.Product.{IsSayable}
 use Rattle.effic_cert.specs.declared.cert.EfficCert.{EfficCert}
 use Rattle.effic_check.specs.Accepted.{IsAccepted, HasTrail}
 use Rattle.effic_check.specs.Truth.{IsBetween, NoneBelow}
-use Rattle.effic_check.proofs.Proved.{between}
+use Rattle.effic_check.proofs.AcceptedIsTrue.{between}
 use Rattle.effic_search.specs.Counted.{others}
 use Rattle.effic_search.specs.Since.{IsSinceGoal}
 use Rattle.effic_search.specs.inner.Going.{HaveCycles, IsLowering, IsGoing, IsLeftAt, IsDue, IsStuck, HasTrailBy}

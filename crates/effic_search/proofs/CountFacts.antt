@@ -8,8 +8,8 @@ use Rattle.line_rules.specs.Units.{UnitsBy, UnitsOf}
 use Rattle.line_rules.specs.declared.types.Entry.{Entry}
 use Rattle.line_rules.specs.declared.types.Why.{Why}
 use Rattle.line_rules.specs.declared.types.Why.TheVariants as why
-use Rattle.line_check.proofs.Spending.{one_sum}
-use Rattle.round_helpers.proofs.Growing.{units_both}
+use Rattle.line_check.proofs.UnitFacts.{one_sum}
+use Rattle.round_helpers.proofs.AddedEntries.{units_both}
 use Rattle.effic_search.specs.Counted.{other, others, IsCounted}
 use Rattle.effic_search.specs.declared.counting.Listed.{Listed}
 use Rattle.effic_search.proofs.ListFacts.{take_next, drop_next}

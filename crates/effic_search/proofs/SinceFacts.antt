@@ -10,7 +10,7 @@ use Rattle.line_rules.specs.Units.{UnitsOf, entries_at}
 use Rattle.line_rules.specs.declared.types.Entry.{Entry}
 use Rattle.station_search.proofs.Events.{get_append_cases}
 use Rattle.round_helpers.specs.Growth.{AreAtCycle}
-use Rattle.round_helpers.proofs.Growing.{units_both}
+use Rattle.round_helpers.proofs.AddedEntries.{units_both}
 use Rattle.cycle_search.proofs.BehindFacts.{at_both, none_at}
 use Rattle.cycle_search.proofs.Tries.{all_at}
 use Rattle.effic_search.specs.Since.{IsSinceGoal}

@@ -19,11 +19,11 @@ use Rattle.line_rules.specs.declared.types.Seatplace.{Seatplace}
 use Rattle.line_rules.specs.declared.types.Entry.{Entry}
 use Rattle.line_rules.specs.declared.types.Why.{Why}
 use Rattle.line_rules.specs.declared.types.Why.TheVariants as why
-use Rattle.line_rules.proofs.Carried.{stands_alone}
-use Rattle.line_rules.proofs.Free.{all_of}
-use Rattle.line_rules.proofs.Spread.{count_below}
-use Rattle.line_rules.proofs.Restrict.{restricted}
-use Rattle.line_rules.proofs.Sound.{sound}
+use Rattle.line_rules.proofs.Monotone.{stands_alone}
+use Rattle.line_rules.proofs.FreeSets.{all_of}
+use Rattle.line_rules.proofs.OneTaskPerStation.{count_below}
+use Rattle.line_rules.proofs.SubBalance.{restricted}
+use Rattle.line_rules.proofs.LemmasHold.{sound}
 use Rattle.load_facts.specs.Times.{longest_of}
 use Rattle.load_facts.proofs.SizeClasses.{longest_least}
 use Rattle.budget_law.specs.Budget.{states}

@@ -30,7 +30,7 @@ use Rattle.lemma_core.specs.declared.types.Published.{Published}
 use Rattle.lemma_core.specs.declared.types.Published.TheVariants as published
 use Rattle.lemma_core.proofs.Runs.{last_found}
 use Rattle.station_search.proofs.Events.{get_append_cases}
-use Rattle.round_helpers.proofs.Growing.{units_both, has_longer}
+use Rattle.round_helpers.proofs.AddedEntries.{units_both, has_longer}
 use Rattle.cycle_search.specs.Ends.{NoneApart, first_lower, first_upper, at_first}
 use Rattle.cycle_search.proofs.EndFacts.{first_right}
 use Rattle.effic_search.specs.Counted.{other, others, IsCounted}

@@ -18,12 +18,12 @@ use Rattle.line_rules.specs.declared.types.LineKind.{LineKind}
 use Rattle.line_rules.specs.declared.types.Entry.{Entry}
 use Rattle.line_rules.specs.declared.types.OpenFrame.{OpenFrame}
 use Rattle.line_rules.specs.declared.types.Balance.{Balance as Assignment}
-use Rattle.line_rules.proofs.Restrict.{restricted}
+use Rattle.line_rules.proofs.SubBalance.{restricted}
 use Rattle.lemma_core.specs.Machine.{About}
 use Rattle.lemma_core.specs.Books.{BookView, IsReserved, MayBeBest}
 use Rattle.station_search.proofs.Events.{get_append_cases}
 use Rattle.round_helpers.specs.Growth.{AreAtCycle}
-use Rattle.round_helpers.proofs.Growing.{has_longer}
+use Rattle.round_helpers.proofs.AddedEntries.{has_longer}
 use Rattle.round_run.specs.Rounds.{IsAnswer, frames_of}
 use Rattle.round_run.specs.declared.closing.Verdict.{Verdict}
 use Rattle.round_run.specs.declared.closing.Verdict.TheVariants as verdict

@@ -1,3 +1,3 @@
 pub mod Fills
 pub mod Joins
-pub mod Steps
+pub mod StationSteps

@@ -2,7 +2,7 @@
 ghost use Rattle.std.specs.Prelude.{◌≡◌, ℕ, IfOk, length};
 ghost use Rattle.line_rules.specs.Bounds.{IsTooLong};
 ghost use Rattle.line_rules.specs.Ranked.{IsRankedBalance};
-ghost use Rattle.first_fit.specs.Answers.{IsRanked};
+ghost use Rattle.first_fit.specs.RankedBalance.{IsRanked};
 
 use crate::filling::Filling;
 use crate::pick::pick;

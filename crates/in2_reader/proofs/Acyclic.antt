@@ -15,11 +15,11 @@ use Rattle.line_instance.specs.Made.{IsInstanceOf}
 use Rattle.in2_reader.specs.Contents.{Lines, contents_from, lines_in}
 use Rattle.in2_reader.specs.Grammar.{In2, Spells, IsIn2}
 use Rattle.in2_reader.specs.Faults.{IsFormFault, IsIn2Fault}
-use Rattle.in2_reader.specs.Answers.{IsReading, IsIn2Read}
+use Rattle.in2_reader.specs.Instance.{IsReading, IsIn2Read}
 use Rattle.in2_reader.specs.declared.fault.In2Fault.{In2Fault}
-use Rattle.in2_reader.specs.declared.answer.In2Read.{In2Read}
-use Rattle.in2_reader.specs.declared.answer.In2Read.TheVariants.{Fault}
-use Rattle.in2_reader.proofs.Spelled.{spelled_is_read}
+use Rattle.in2_reader.specs.declared.instance.In2Read.{In2Read}
+use Rattle.in2_reader.specs.declared.instance.In2Read.TheVariants.{Fault}
+use Rattle.in2_reader.proofs.GrammarFacts.{spelled_is_read}
 
 pub any_below : (xs : List ℕ) (n : ℕ) → ((k : ℕ) → k < length xs → get_or xs k 0 < n) → (q : ℕ)
     → list_any (eqb q) xs ≡ true → q < n

@@ -14,7 +14,7 @@ use Rattle.in2_reader.specs.Pairs.{without_gaps_back}
 use Rattle.in2_reader.specs.declared.pair.Meaning.TheVariants.{Before}
 use Rattle.in2_reader.specs.declared.pair.Pair.TheVariants.{Arc, BadArc, End}
 use Rattle.in2_reader.specs.Grammar.{In2, Spells}
-use Rattle.in2_reader.proofs.Spelled.{time_at, pair_at}
+use Rattle.in2_reader.proofs.GrammarFacts.{time_at, pair_at}
 
 at_most : (number : Bool) (v most w : ℕ) → cond number (cond (nat_le v most) (Value v) Above) NoNumber ≡ Value w
     → w ≤ most

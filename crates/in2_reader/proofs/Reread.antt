@@ -9,18 +9,18 @@ use Rattle.line_instance.specs.Line.{Line, IsLine, IsRanked, tasks, Before}
 use Rattle.line_instance.specs.Walks.{Walk, AreArcs, Names, arc_at}
 use Rattle.in2_reader.specs.Contents.{Lines, contents_from}
 use Rattle.in2_reader.specs.Grammar.{In2}
-use Rattle.in2_reader.specs.Answers.{IsIn2Read}
+use Rattle.in2_reader.specs.Instance.{IsIn2Read}
 use Rattle.in2_reader.specs.Written.{number_line, pair_line, in2_text, IsIn2Text, IsReread, IsReadBack}
 use Rattle.in2_reader.specs.declared.pair.Meaning.TheVariants.{Before as Ordered}
 use Rattle.in2_reader.specs.declared.pair.Pair.TheVariants.{Arc}
-use Rattle.in2_reader.specs.declared.answer.In2Read.{In2Read}
-use Rattle.in2_reader.specs.declared.answer.In2Read.TheVariants.{Good, Fault, NoMemory}
+use Rattle.in2_reader.specs.declared.instance.In2Read.{In2Read}
+use Rattle.in2_reader.specs.declared.instance.In2Read.TheVariants.{Good, Fault, NoMemory}
 use Rattle.in2_reader.proofs.Lines.{pair_parts}
-use Rattle.in2_reader.proofs.Spelled.{time_at, pair_at}
+use Rattle.in2_reader.proofs.GrammarFacts.{time_at, pair_at}
 use Rattle.in2_reader.proofs.Digits.{decimal_spells, digits_solid, solid_append, content_read, number_read, pair_read}
-use Rattle.in2_reader.proofs.Collecting.{first_task, last_task}
-use Rattle.in2_reader.proofs.Counting.{few_covers}
-use Rattle.in2_reader.proofs.Walking.{walk_of, before_of}
+use Rattle.in2_reader.proofs.CollectedPairs.{first_task, last_task}
+use Rattle.in2_reader.proofs.PairCounts.{few_covers}
+use Rattle.in2_reader.proofs.CoverWalks.{walk_of, before_of}
 use Rattle.in2_reader.proofs.Acyclic.{one_reading, round, form_fault_has_none}
 
 -- the contents of the lines of numbers, and of pairs, from a line number on

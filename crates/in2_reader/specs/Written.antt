@@ -5,9 +5,9 @@ use Rattle.line_instance.specs.declared.arcs.Prec.{Prec}
 use Rattle.line_instance.specs.Line.{Line, IsLine, IsRanked, tasks, Before, Covers}
 use Rattle.line_instance.specs.Walks.{Leads, Walk, arc_at}
 use Rattle.in2_reader.specs.Grammar.{In2, IsIn2}
-use Rattle.in2_reader.specs.Answers.{IsIn2Read}
-use Rattle.in2_reader.specs.declared.answer.In2Read.{In2Read}
-use Rattle.in2_reader.specs.declared.answer.In2Read.TheVariants.{Good, Fault, NoMemory}
+use Rattle.in2_reader.specs.Instance.{IsIn2Read}
+use Rattle.in2_reader.specs.declared.instance.In2Read.{In2Read}
+use Rattle.in2_reader.specs.declared.instance.In2Read.TheVariants.{Good, Fault, NoMemory}
 
 -- the pair a stands before the pair b: its first task is less, or is the same with a lesser second one
 abbrev pub StandsBefore : Prec → Prec → Type 0

@@ -4,9 +4,9 @@ ghost use Rattle.in2_reader.specs.ApartFile.{IsApartFile, IsApartAnswer, apart_r
 ghost use Rattle.in2_reader.specs.declared.fault.In2Fault.{In2Fault};
 ghost use Rattle.line_instance.specs.declared.arcs.Prec.{Prec};
 
+use crate::draft::{MAX_ARCS, read_pairs};
 use crate::fault::{In2Fault, ReadError};
 use crate::pair::Meaning;
-use crate::reading::{MAX_ARCS, read_pairs};
 use line_instance::Prec;
 use std::alloc::Global;
 

@@ -69,7 +69,7 @@ fn push_covers(pairs: &mut Vec<Prec>, inst: &Instance, i: u32) -> Result<(), All
 }
 
 // Appends the pair of `i` and `j` where it is a covering pair.
-#[tactic(auto, using(crate::proofs::Collecting::one_collected, crate::proofs::Collecting::one_passed))]
+#[tactic(auto, using(crate::proofs::CollectedPairs::one_collected, crate::proofs::CollectedPairs::one_passed))]
 fn push_cover(pairs: &mut Vec<Prec>, inst: &Instance, i: u32, j: u32) -> Result<(), AllocError>
     requires first { i < tasks inst.now }
     requires then { j < tasks inst.now }

@@ -1,7 +1,7 @@
 -- What a file says of a certificate, and why it says none.
 use Rattle.std.specs.Prelude.{◌≡◌, ◌⊎◌, ℕ, List, ◌++◌, codes, decimal}
 use Rattle.line_rules.specs.declared.types.Certificate.{Certificate}
-use Rattle.cert_text.specs.Answers.{IsCertFault, IsSaidBy}
+use Rattle.cert_text.specs.WholeText.{IsCertFault, IsSaidBy}
 use Rattle.cert_lines.specs.declared.fault.CertFault.{CertFault}
 use Rattle.cert_lines.specs.declared.fault.CertKind.{CertKind}
 use Rattle.cert_lines.specs.declared.fault.CertKind.TheVariants.{Ended, Form, Range, Trailing}

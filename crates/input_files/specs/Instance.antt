@@ -3,14 +3,14 @@ use Rattle.std.specs.Prelude.{◌≡◌, ℕ, ◌⊎◌, ◌↔◌, Bool, true, 
 use Rattle.line_instance.specs.Line.{Line, Apart, tasks}
 use Rattle.line_instance.specs.Walks.{IsGiven}
 use Rattle.line_instance.specs.declared.arcs.Prec.{Prec}
-use Rattle.in2_reader.specs.Answers.{IsReading}
+use Rattle.in2_reader.specs.Instance.{IsReading}
 use Rattle.in2_reader.specs.Faults.{IsIn2Fault}
 use Rattle.in2_reader.specs.ApartFile.{IsApartFile, IsApartFault}
 use Rattle.in2_reader.specs.Texts.{fault_text}
 use Rattle.in2_reader.specs.declared.fault.In2Fault.{In2Fault}
 use Rattle.in2_reader.specs.Contents.{Lines, contents_from}
 use Rattle.alb_reader.specs.Sections.{begins_heading}
-use Rattle.alb_reader.specs.Answers.{IsAlbReading, IsAlbFault}
+use Rattle.alb_reader.specs.Instance.{IsAlbReading, IsAlbFault}
 use Rattle.alb_reader.specs.Texts.{fault_text as alb_fault_text}
 use Rattle.alb_reader.specs.declared.fault.AlbFault.{AlbFault}
 use Rattle.command_outcome.specs.Outcome.{Files, Outside, Outcome, told}

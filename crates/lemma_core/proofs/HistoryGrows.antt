@@ -3,7 +3,7 @@ use Rattle.std.proofs.Common.{◌≡◌, ◌≤◌, List, [], ◌∷◌, ◌++�
 use Rattle.std.proofs.lemmas.List.{append-nil}
 use Rattle.line_rules.specs.Entries.{Follows}
 use Rattle.line_rules.specs.declared.types.Entry.{Entry}
-use Rattle.line_rules.proofs.Grown.{follows_longer}
+use Rattle.line_rules.proofs.LongerLists.{follows_longer}
 use Rattle.lemma_core.specs.Machine.{About}
 use Rattle.lemma_core.specs.History.{Item, added, known, better, Standing, after, replay, Begins}
 use Rattle.lemma_core.specs.Desks.{DeskView, entries, FollowsSeen, Keeps}

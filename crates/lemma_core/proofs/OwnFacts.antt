@@ -4,7 +4,7 @@ use Rattle.std.proofs.Common.{append_assoc, length-append, Some}
 use Rattle.std.proofs.lemmas.List.{append-nil}
 use Rattle.std.specs.Prelude.{slice_get}
 use Rattle.line_rules.specs.declared.types.Entry.{Entry}
-use Rattle.line_rules.proofs.Grown.{get_longer}
+use Rattle.line_rules.proofs.LongerLists.{get_longer}
 use Rattle.lemma_core.specs.History.{Item, added, known, better, Standing, after, replay, Begins}
 use Rattle.lemma_core.specs.Desks.{DeskView, entries, Keeps, Waits, Adds}
 use Rattle.lemma_core.specs.Own.{named, added_of, AreAt, Did, SawOnly}

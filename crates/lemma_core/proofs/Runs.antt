@@ -12,8 +12,8 @@ use Rattle.line_rules.specs.Entries.{Answers, Follows, IsFresh, IsUnanswered, Is
 use Rattle.line_rules.specs.declared.types.Entry.{Entry}
 use Rattle.line_rules.specs.declared.types.Balance.{Balance as Assignment}
 use Rattle.line_rules.specs.Balance.{IsRight}
-use Rattle.line_rules.proofs.Covering.{get_none}
-use Rattle.line_rules.proofs.Grown.{derived_push, get_push_cases}
+use Rattle.line_rules.proofs.CoverFacts.{get_none}
+use Rattle.line_rules.proofs.LongerLists.{derived_push, get_push_cases}
 use Rattle.lemma_core.specs.declared.types.Event.{Event}
 use Rattle.lemma_core.specs.declared.types.Event.TheVariants as event
 use Rattle.lemma_core.specs.Machine.{About, State, answers, later, last_from, last_answer, is_better, with_entry, step}

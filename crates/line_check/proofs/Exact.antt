@@ -7,9 +7,9 @@ use Rattle.line_rules.specs.Order.{Precedes, UpTo, Lists, Counts}
 use Rattle.line_rules.specs.Entries.{Covers}
 use Rattle.line_rules.specs.declared.types.Load.{Load}
 use Rattle.line_rules.specs.declared.types.Entry.{Entry}
-use Rattle.line_rules.proofs.Covering.{counts_push}
+use Rattle.line_rules.proofs.CoverFacts.{counts_push}
 use Rattle.line_rules.proofs.Unique.{unique, precedes_trans, precedes_itself}
-use Rattle.line_rules.proofs.Sound.{get_take, get_within, get_some}
+use Rattle.line_rules.proofs.LemmasHold.{get_take, get_within, get_some}
 use Rattle.std.proofs.lemmas.Bool.{cases_order}
 use Rattle.line_check.specs.Walks.{IsUncovered, IsSpare, IsPast, CountsTo}
 

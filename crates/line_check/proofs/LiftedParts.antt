@@ -14,7 +14,7 @@ use Rattle.line_rules.specs.declared.types.Ask.TheVariants as ask
 use Rattle.line_rules.specs.declared.types.Entry.{Entry}
 use Rattle.line_rules.specs.declared.types.OpenFrame.{OpenFrame}
 use Rattle.line_rules.specs.declared.types.Trail.{Trail}
-use Rattle.line_rules.proofs.Grown.{get_longer}
+use Rattle.line_rules.proofs.LongerLists.{get_longer}
 use Rattle.cert_lines.specs.Lift.{lifted_entry, lifted_frame, lifted_entries, lifted_trail, lifted_claim, trail_at}
 use Rattle.cert_lines.specs.Lift.{trail_or}
 use Rattle.cert_lines.specs.declared.version_one.Part.{Part}
@@ -23,7 +23,8 @@ use Rattle.cert_lines.specs.declared.version_one.OldClaim.TheVariants as claim
 use Rattle.line_check.specs.VersionOne.{IsPartRight, HasPartTrail, PassesAtCycle, ShowsLower, IsFurther}
 use Rattle.line_check.specs.VersionOne.{PassesForStations, AreLower, IsOneOrNone, PartUnits, ClaimPasses, TooLongPasses}
 use Rattle.line_check.specs.VersionOne.{EveryPassingLiftIsAccepted, EveryPassingTooLongIsAccepted}
-use Rattle.line_check.proofs.Lifting.{behind, derived_up, answer_up, has_trail_up, units_same, frames_same, units_both}
+use Rattle.line_check.proofs.LiftFacts.{behind, derived_up, answer_up, has_trail_up, units_same, frames_same}
+use Rattle.line_check.proofs.LiftFacts.{units_both}
 
 -- the parts stand by themselves, and no part but the last has a trail
 abbrev pub AreRight : LineKind → Line → List Part → Type 0

@@ -16,7 +16,7 @@ use Rattle.line_rules.specs.declared.types.Load.{Load}
 use Rattle.line_rules.specs.declared.types.Entry.{Entry}
 use Rattle.line_rules.specs.declared.types.Why.{Why}
 use Rattle.line_rules.specs.declared.types.Why.TheVariants as why
-use Rattle.line_rules.proofs.Places.{three_ways}
+use Rattle.line_rules.proofs.LoadPlaces.{three_ways}
 use Rattle.line_check.specs.Walks.{IsFirstLate, AreBelow}
 use Rattle.line_check.specs.Faults.{Branches, Swaps, IsReady, Fails, Ends, IsFound, IsChecked}
 use Rattle.line_check.specs.Lists.{AreRightBelow, IsRefusedAt, AreStepsEnded, AreFound}
@@ -28,11 +28,11 @@ use Rattle.line_check.specs.declared.types.Found.{Found}
 use Rattle.line_check.specs.declared.types.Found.TheVariants as found
 use Rattle.line_check.specs.declared.types.ListFound.{ListFound}
 use Rattle.line_check.specs.declared.types.ListFound.TheVariants as list
-use Rattle.line_check.proofs.Entering.{not_follows}
+use Rattle.line_check.proofs.EntryFaults.{not_follows}
 use Rattle.line_check.proofs.Exact.{get_taken_of}
-use Rattle.line_check.proofs.Listed.{refused_not}
+use Rattle.line_check.proofs.ListFacts.{refused_not}
 use Rattle.line_check.proofs.OneWalk.{same_end, one_late, FailsWalk, one_failure, fails_in_time}
-use Rattle.line_check.proofs.Spending.{one_sum, units_at, ends_more, entries_more}
+use Rattle.line_check.proofs.UnitFacts.{one_sum, units_at, ends_more, entries_more}
 
 one_entry : (x y : Entry) → Some x ≡ Some y → x ≡ y
 one_entry x y e = cc

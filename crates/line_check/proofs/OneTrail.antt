@@ -14,8 +14,8 @@ use Rattle.line_rules.specs.declared.types.Entry.{Entry}
 use Rattle.line_rules.specs.declared.types.OpenFrame.{OpenFrame}
 use Rattle.line_rules.specs.declared.types.Trail.{Trail}
 use Rattle.line_rules.specs.declared.types.Ask.{Ask}
-use Rattle.line_rules.proofs.Carried.{units_same}
-use Rattle.line_rules.proofs.Places.{three_ways}
+use Rattle.line_rules.proofs.Monotone.{units_same}
+use Rattle.line_rules.proofs.LoadPlaces.{three_ways}
 use Rattle.line_check.specs.Walks.{IsFirstLate, AreBelow}
 use Rattle.line_check.specs.Reaches.{IsMatched}
 use Rattle.line_check.specs.Frames.{IsAskedAt, EndsWell, WalksTo, NeedsTo, is_deepest, FailsAt, EndsAt, AreRightTo}
@@ -24,8 +24,8 @@ use Rattle.line_check.specs.Certificates.{TrailFails, TrailEnds}
 use Rattle.line_check.specs.declared.types.FrameFault.{FrameFault}
 use Rattle.line_check.specs.declared.types.FrameFault.TheVariants as fault
 use Rattle.line_check.proofs.Exact.{get_taken_of, not_past}
-use Rattle.line_check.proofs.Rejecting.{not_right}
-use Rattle.line_check.proofs.Spending.{frame_units_at}
+use Rattle.line_check.proofs.RefusalFacts.{not_right}
+use Rattle.line_check.proofs.UnitFacts.{frame_units_at}
 use Rattle.line_check.proofs.OneWalk.{same_end, one_late, FailsWalk, one_failure, fails_in_time}
 
 one_frame : (x y : OpenFrame) → Some x ≡ Some y → x ≡ y

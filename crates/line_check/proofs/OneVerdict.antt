@@ -14,7 +14,7 @@ use Rattle.line_rules.specs.declared.types.Ask.TheVariants as ask
 use Rattle.line_rules.specs.declared.types.Claim.{Claim}
 use Rattle.line_rules.specs.declared.types.Claim.TheVariants as claim
 use Rattle.line_rules.specs.declared.types.Certificate.{Certificate}
-use Rattle.line_rules.proofs.Carried.{units_same}
+use Rattle.line_rules.proofs.Monotone.{units_same}
 use Rattle.line_check.specs.Lists.{IsRefusedAt}
 use Rattle.line_check.specs.Certificates.{IsShown, BalanceFails, TrailFails, TrailEnds, ProofFails, ProofEnds}
 use Rattle.line_check.specs.Certificates.{IsBoundsVerdict, TaskFails, IsTaskVerdict, IsTooLongVerdict, IsClaimVerdict}
@@ -28,10 +28,10 @@ use Rattle.line_check.specs.declared.types.Place.{Place}
 use Rattle.line_check.specs.declared.types.Place.TheVariants as place
 use Rattle.line_check.specs.declared.types.Verified.{Verified}
 use Rattle.line_check.specs.declared.types.Verified.TheVariants as verified
-use Rattle.line_check.proofs.Excluding.{proof_not, ends_spend, list_not, list_spends}
-use Rattle.line_check.proofs.Listed.{refused_not}
-use Rattle.line_check.proofs.Rejecting.{balance_not}
-use Rattle.line_check.proofs.Spending.{one_sum, entries_more}
+use Rattle.line_check.proofs.RuledOut.{proof_not, ends_spend, list_not, list_spends}
+use Rattle.line_check.proofs.ListFacts.{refused_not}
+use Rattle.line_check.proofs.RefusalFacts.{balance_not}
+use Rattle.line_check.proofs.UnitFacts.{one_sum, entries_more}
 use Rattle.line_check.proofs.OneWalk.{same_end}
 use Rattle.line_check.proofs.OneBalance.{one_least, balance_one}
 use Rattle.line_check.proofs.OneEntry as entry

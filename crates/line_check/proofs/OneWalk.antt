@@ -8,9 +8,9 @@ use Rattle.line_rules.specs.Order.{Precedes, UpTo, Lists, Counts}
 use Rattle.line_rules.specs.Entries.{Covers}
 use Rattle.line_rules.specs.declared.types.Load.{Load}
 use Rattle.line_rules.specs.declared.types.Entry.{Entry}
-use Rattle.line_rules.proofs.Carried.{one_count}
+use Rattle.line_rules.proofs.Monotone.{one_count}
 use Rattle.line_rules.proofs.Unique.{unique, precedes_trans}
-use Rattle.line_rules.proofs.Sound.{get_take, get_within, get_some}
+use Rattle.line_rules.proofs.LemmasHold.{get_take, get_within, get_some}
 use Rattle.line_check.specs.Walks.{IsFirstLate, IsUncovered, IsSpare, IsPast, CountsTo}
 use Rattle.line_check.proofs.Exact.{firsts, counts_up, not_past}
 

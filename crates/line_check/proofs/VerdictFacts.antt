@@ -14,7 +14,7 @@ use Rattle.line_rules.specs.declared.types.Ask.TheVariants as ask
 use Rattle.line_rules.specs.declared.types.Claim.{Claim}
 use Rattle.line_rules.specs.declared.types.Claim.TheVariants as claim
 use Rattle.line_rules.specs.declared.types.Certificate.{Certificate}
-use Rattle.line_rules.proofs.Proved.{accepted_true, infeasible_true}
+use Rattle.line_rules.proofs.AcceptedIsTrue.{accepted_true, infeasible_true}
 use Rattle.line_check.specs.Frames.{IsTrailOf}
 use Rattle.line_check.specs.Certificates.{IsAllowed, IsClaimVerdict, IsVerdict, IsAcceptedSo, IsTrueOf}
 use Rattle.line_check.specs.declared.types.Place.TheVariants as place

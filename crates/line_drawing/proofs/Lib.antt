@@ -1,5 +1,5 @@
 pub mod Chains
-pub mod Listed
+pub mod ListedTasks
 pub mod Positions
 pub mod SegmentFacts
 pub mod StationFacts

@@ -23,7 +23,7 @@ use Rattle.line_drawing.specs.declared.segments.Segment.{Segment}
 use Rattle.line_drawing.specs.Segments.{backs_of, end_of, fronts_from, is_side, segments_at, stands, tasks_at, times_of}
 use Rattle.line_drawing.specs.Rows.{is_of}
 use Rattle.line_drawing.specs.Facts.{AreTrue, IsOfTask, on}
-use Rattle.line_drawing.proofs.Listed.{same_item, both_sides, order_differs, tasks_within}
+use Rattle.line_drawing.proofs.ListedTasks.{same_item, both_sides, order_differs, tasks_within}
 use Rattle.line_drawing.proofs.SegmentFacts.{IsBackAt, IsFrontAt, back_at, back_backs, back_clear, back_fronts}
 use Rattle.line_drawing.proofs.SegmentFacts.{back_has, back_last, back_length, back_meet, back_within, both_clear}
 use Rattle.line_drawing.proofs.SegmentFacts.{front_at, front_backs, front_clear, front_first, front_fronts, front_has}

@@ -1,8 +1,8 @@
 pub mod Sums
-pub mod Joining
-pub mod Marking
+pub mod JoinedRows
+pub mod MarkedRows
 pub mod Orders
-pub mod Turning
-pub mod Sound
-pub mod Keeping
+pub mod RingFacts
+pub mod InstanceFacts
+pub mod KeptPartners
 pub mod Unique

@@ -8,7 +8,7 @@ use Rattle.task_set.specs.Truths.{In}
 use Rattle.task_set.proofs.Members.{In-set_same, In-set_kept, In-set_cases}
 use Rattle.line_instance.specs.Walks.{at}
 use Rattle.line_instance.specs.inner.Inside.{MayCome, IsLeastFree, IsOrdering, IsWhole, IsStuck, StandsBelow}
-use Rattle.line_instance.proofs.Joining.{nothing_in}
+use Rattle.line_instance.proofs.JoinedRows.{nothing_in}
 
 -- how many are in s
 unfoldable pub size : List Bool → ℕ

@@ -18,7 +18,7 @@ use Rattle.line_instance.specs.declared.arcs.Prec.{Prec}
 use Rattle.line_instance.specs.declared.making.Made.TheVariants.{Good, NoTasks, TooManyTasks, BadTime, BadArc, Cycle}
 use Rattle.line_instance.specs.declared.making.Made.TheVariants.{NoMemory}
 use Rattle.line_instance.proofs.Sums.{same_truth}
-use Rattle.line_instance.proofs.Joining.{nothing_in}
+use Rattle.line_instance.proofs.JoinedRows.{nothing_in}
 use Rattle.line_instance.proofs.Orders.{size, size-set, size-below, size-none, find_left}
 
 not_in : (s : List Bool) (i : ℕ) → (In s i → ⊥) → get_or s i false ≡ false

@@ -15,9 +15,9 @@ use Rattle.line_rules.specs.declared.types.Mode.{Mode}
 use Rattle.line_rules.specs.declared.types.Load.{Load}
 use Rattle.line_rules.specs.declared.types.Entry.{Entry}
 use Rattle.line_rules.specs.declared.types.OpenFrame.{OpenFrame}
-use Rattle.line_rules.proofs.Grown.{covers_longer}
-use Rattle.line_rules.proofs.Covering.{counts_push, covers_same, covers_push}
-use Rattle.line_rules.proofs.Places.{either_side, up_to_after}
+use Rattle.line_rules.proofs.LongerLists.{covers_longer}
+use Rattle.line_rules.proofs.CoverFacts.{counts_push, covers_same, covers_push}
+use Rattle.line_rules.proofs.LoadPlaces.{either_side, up_to_after}
 use Rattle.std.proofs.lemmas.Bool.{false≢true}
 
 module _ (line : Line) (ranked : IsRanked line) (c : ℕ) (mode : Mode) (R : List Bool) (last : Option Load)

@@ -12,7 +12,7 @@ use Rattle.line_instance.proofs.Sums.{weigh-take}
 use Rattle.line_rules.specs.Balance.{all_tasks, seat}
 use Rattle.line_rules.specs.declared.types.Seatplace.{Seatplace}
 use Rattle.line_rules.proofs.All.{In-all}
-use Rattle.line_rules.proofs.Reading.{seat_read}
+use Rattle.line_rules.proofs.ReadPlaces.{seat_read}
 
 pub none_at : (n s : ℕ) → ◌≡◌ {A = ℕ} (get_or (replicate n 0) s 0) 0
 none_at n s = elim (cases_lt s n) [

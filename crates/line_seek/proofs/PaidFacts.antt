@@ -13,8 +13,8 @@ use Rattle.lemma_core.specs.Own.{added_of}
 use Rattle.lemma_core.specs.Books.{BookView, IsBook, desk_of, opened}
 use Rattle.station_search.specs.Costs.{HasPublished, AddsFew}
 use Rattle.round_helpers.specs.Growth.{AreAtCycle}
-use Rattle.round_helpers.proofs.Growing.{units_both, cycles_both}
-use Rattle.round_run.proofs.Going.{goes_on}
+use Rattle.round_helpers.proofs.AddedEntries.{units_both, cycles_both}
+use Rattle.round_run.proofs.BookGain.{goes_on}
 use Rattle.line_seek.specs.inner.Trying.{Gains, IsPaid}
 
 -- a book that was opened has no entries

@@ -7,12 +7,12 @@ use Rattle.line_rules.specs.Entries.{IsDerived}
 use Rattle.line_rules.specs.Ranges.{AreEntries}
 use Rattle.line_rules.specs.Units.{UnitsOf}
 use Rattle.line_rules.specs.declared.types.Entry.{Entry}
-use Rattle.line_rules.proofs.Sound.{get_some}
+use Rattle.line_rules.proofs.LemmasHold.{get_some}
 use Rattle.lemma_core.specs.Own.{AreStatable}
 use Rattle.lemma_core.specs.Books.{BookView}
 use Rattle.cert_files.specs.Trim.{IsTrimmed}
 use Rattle.run_certificates.proofs.Sayable.{entries_ok}
-use Rattle.run_certificates.proofs.Certifying.{trimmed_cycles}
+use Rattle.run_certificates.proofs.CertificateFacts.{trimmed_cycles}
 use Rattle.line_seek.specs.inner.Trying.{IsPaid}
 use Rattle.line_seek.specs.Seeking.{AreSought}
 

@@ -13,9 +13,9 @@ use Rattle.line_rules.specs.Balance.{IsBalance}
 use Rattle.line_rules.specs.Bounds.{up, sixths, lm1, lm2, lm3, chained, bound}
 use Rattle.line_rules.specs.declared.types.LineKind.{LineKind}
 use Rattle.line_rules.specs.declared.types.Seatplace.{Seatplace}
-use Rattle.line_rules.proofs.Carried.{stands_alone}
-use Rattle.line_rules.proofs.Spread.{count_below}
-use Rattle.line_rules.proofs.Law.{bound_le, some_member}
+use Rattle.line_rules.proofs.Monotone.{stands_alone}
+use Rattle.line_rules.proofs.OneTaskPerStation.{count_below}
+use Rattle.line_rules.proofs.BoundIsTrue.{bound_le, some_member}
 use Rattle.line_rules.proofs.Nonempty.{bound_some, member_or_empty}
 use Rattle.load_facts.specs.Times.{AreCounts}
 use Rattle.load_facts.proofs.HeadTail.{up_ceil}

@@ -10,6 +10,6 @@ pub mod ScanFacts
 pub mod ReadyFacts
 pub mod SidePlaces
 pub mod WalkTurns
-pub mod Advancing
+pub mod QuickWalk
 pub mod SideTurns
 pub mod JoinTests

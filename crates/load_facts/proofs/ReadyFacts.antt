@@ -8,7 +8,7 @@ use Rattle.line_instance.specs.Line.{Line, IsLine, has}
 use Rattle.line_rules.specs.declared.types.Side.{Side}
 use Rattle.load_facts.specs.Sides.{Ahead, IsReady, AreReady}
 use Rattle.load_facts.proofs.JoinFacts.{not_ahead}
-use Rattle.line_rules.proofs.Leaving.{members_less}
+use Rattle.line_rules.proofs.MembersInOrder.{members_less}
 use Rattle.std.proofs.lemmas.Bool.{cases_Bool, cases_eq, false≢true, false_from_ne_true}
 
 absent_from : (a : List Bool) (i : ℕ) → (In a i → ⊥) → has a i ≡ false

@@ -6,7 +6,7 @@ use Rattle.task_set.specs.Truths.{In, IsEmpty, meet, minus}
 use Rattle.task_set.proofs.Members.{In-meet, In-meet_parts, members}
 use Rattle.line_instance.specs.Line.{Line, IsLine, IsRanked, IsTaskSet, tasks, has}
 use Rattle.line_rules.specs.declared.types.Side.{Side}
-use Rattle.line_rules.proofs.Leaving.{members_less}
+use Rattle.line_rules.proofs.MembersInOrder.{members_less}
 use Rattle.load_facts.specs.Sides.{Ahead, AreReady, IsReady, task_at}
 use Rattle.load_facts.specs.Ends.{AreMarked, IsEnd}
 use Rattle.load_facts.proofs.SideFacts.{set_more}

@@ -3,7 +3,7 @@ use Rattle.std.proofs.Common.{◌≡◌, ℕ, zero, suc, ◌+◌, ◌<◌, ◌�
 use Rattle.std.proofs.Common.{get_or, refl, sym, ap, ◌∙◌, subst, inl, inr, arith}
 use Rattle.std.proofs.lemmas.Bool.{false≢true, cases_lt}
 use Rattle.task_set.specs.Truths.{In, members_from, members_of}
-use Rattle.task_set.proofs.Listed.{none_from}
+use Rattle.task_set.proofs.ListedMembers.{none_from}
 use Rattle.line_instance.specs.Line.{has}
 use Rattle.line_instance.specs.Sums.{weigh}
 use Rattle.line_instance.proofs.Sums.{weigh-none}

@@ -5,7 +5,7 @@ use Rattle.line_instance.specs.Walks.{IsRing}
 use Rattle.in2_reader.specs.Texts.{ring_text}
 use Rattle.combined_graph.specs.Mixes.{MixedLine}
 use Rattle.combined_graph.specs.Records.{mix_records}
-use Rattle.combined_graph.specs.Answers.{text_said}
+use Rattle.combined_graph.specs.MixText.{text_said}
 use Rattle.combined_graph.specs.Contents.{IsMixOf}
 use Rattle.combined_graph.specs.Faults.{IsFirstFault}
 use Rattle.combined_graph.specs.Combined.{IsCombined, all_arcs}

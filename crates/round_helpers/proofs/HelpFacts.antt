@@ -49,7 +49,7 @@ use Rattle.round_helpers.specs.declared.piece_work.End.TheVariants as ends
 use Rattle.round_helpers.specs.declared.job_work.Question.{Question}
 use Rattle.round_helpers.specs.declared.teams.Helper.{Helper}
 use Rattle.round_helpers.proofs.AllPlaces.{all_own}
-use Rattle.round_helpers.proofs.Growing.{has_longer}
+use Rattle.round_helpers.proofs.AddedEntries.{has_longer}
 use Rattle.round_helpers.proofs.PieceFacts.{get_there, map_there, none_yet, taken_by}
 use Rattle.round_helpers.proofs.Ranges.{at_range}
 use Rattle.round_helpers.proofs.SettleFacts.{settled_left, settled_spent, settled_used}

@@ -16,8 +16,8 @@ use Rattle.line_rules.specs.Entries.{IsOpen}
 use Rattle.line_rules.specs.declared.types.LineKind.{LineKind}
 use Rattle.line_rules.specs.declared.types.Mode.{Mode}
 use Rattle.line_rules.specs.declared.types.Load.{Load}
-use Rattle.line_rules.proofs.Deciding.{is_open, is_full, is_load, load_so, full_is, full_so, loads_of, loads_listed}
-use Rattle.line_rules.proofs.Listing.{Amid, Rises, lists_of, pick, picked, picks, picked_rise}
+use Rattle.line_rules.proofs.LoadTests.{is_open, is_full, is_load, load_so, full_is, full_so, loads_of, loads_listed}
+use Rattle.line_rules.proofs.LoadLists.{Amid, Rises, lists_of, pick, picked, picks, picked_rise}
 use Rattle.line_rules.proofs.Unique.{precedes_trans, first_less, tail_lists}
 use Rattle.station_load.specs.Walking.{Walking, IsWalk}
 use Rattle.station_search.specs.Mode.{mode_of}

@@ -1,4 +1,4 @@
-pub mod Growing
+pub mod AddedEntries
 pub mod Lookups
 pub mod WorkFacts
 pub mod PieceFacts
@@ -8,7 +8,7 @@ pub mod MixedItems
 pub mod AllPlaces
 pub mod DeskFacts
 pub mod SettleFacts
-pub mod Joining
+pub mod PassFacts
 pub mod Ranges
 pub mod HelpFacts
 pub mod JobFacts

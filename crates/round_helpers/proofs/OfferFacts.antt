@@ -11,7 +11,7 @@ use Rattle.line_rules.specs.declared.types.LineKind.TheVariants.{Straight, U}
 use Rattle.line_rules.specs.declared.types.Mode.{Mode}
 use Rattle.line_rules.specs.declared.types.Mode.TheVariants as mode
 use Rattle.line_rules.specs.declared.types.Load.{Load}
-use Rattle.line_rules.proofs.Seated.{seated_first, seated_last}
+use Rattle.line_rules.proofs.SeatedLoads.{seated_first, seated_last}
 use Rattle.lemma_core.specs.History.{Item, better, Standing, replay}
 use Rattle.lemma_core.specs.Desks.{DeskView, fewest_after, Keeps, Adds, Offers}
 use Rattle.lemma_core.specs.declared.types.Offered.{Offered}

@@ -14,7 +14,7 @@ use Rattle.lemma_core.specs.declared.types.Published.TheVariants as published
 use Rattle.lemma_core.proofs.Runs.{last_found}
 use Rattle.round_helpers.specs.Growth.{AreAtCycle}
 use Rattle.round_run.specs.Rounds.{AddsBound, by_bound}
-use Rattle.round_run.proofs.Going.{goes_same}
+use Rattle.round_run.proofs.BookGain.{goes_same}
 
 one_at : (X : ℕ) (e : Entry) → e.cycle ≡ X → AreAtCycle X (e ∷ [])
 one_at X e c zero x g = let same : e ≡ x = cc in sym (ap (λ (z : Entry). z.cycle) same) ∙ c

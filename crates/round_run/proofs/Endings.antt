@@ -19,19 +19,19 @@ use Rattle.line_rules.specs.declared.types.Entry.{Entry}
 use Rattle.line_rules.specs.declared.types.OpenFrame.{OpenFrame}
 use Rattle.line_rules.specs.declared.types.Balance.{Balance as Assignment}
 use Rattle.line_rules.proofs.All.{In-all}
-use Rattle.line_rules.proofs.Carried.{bound_holds}
-use Rattle.line_rules.proofs.Counted.{derived_counted}
+use Rattle.line_rules.proofs.Monotone.{bound_holds}
+use Rattle.line_rules.proofs.ListUnits.{derived_counted}
 use Rattle.line_rules.proofs.Nonempty.{bound_some}
 use Rattle.line_rules.proofs.Paths.{rest_inside, rest_without, leads_longer, deep_longer}
-use Rattle.line_rules.proofs.Proved.{answer_holds}
-use Rattle.line_rules.proofs.Restrict.{holds_more}
+use Rattle.line_rules.proofs.AcceptedIsTrue.{answer_holds}
+use Rattle.line_rules.proofs.SubBalance.{holds_more}
 use Rattle.lemma_core.specs.Machine.{About}
 use Rattle.lemma_core.specs.Books.{BookView, IsBook, IsReserved, MayBeBest}
 use Rattle.station_search.proofs.Events.{get_append_cases}
 use Rattle.budget_law.specs.Budget.{states}
 use Rattle.budget_law.proofs.FewUnits.{units_few}
 use Rattle.round_helpers.specs.Growth.{AreAtCycle}
-use Rattle.round_helpers.proofs.Growing.{units_both}
+use Rattle.round_helpers.proofs.AddedEntries.{units_both}
 use Rattle.round_run.specs.Rounds.{AddsBound, by_bound}
 use Rattle.round_run.specs.inner.Questions.{IsRun, HasAsked, trail_of, stop_by}
 use Rattle.round_run.specs.Solving.{IsRunBook, IsBelow, IsSolvedFrom, IsStoppedFrom, IsSpentFrom, FitsAll, SolvesFrom}
@@ -43,7 +43,7 @@ use Rattle.round_run.specs.declared.solving.Cause.TheVariants as cause
 use Rattle.round_run.specs.declared.solving.Outcome.{Outcome}
 use Rattle.round_run.specs.declared.solving.Outcome.TheVariants as outcome
 use Rattle.round_run.proofs.RankedOnce.{same_stations}
-use Rattle.round_run.proofs.Turns.{cycles_on, entries_on}
+use Rattle.round_run.proofs.TurnFacts.{cycles_on, entries_on}
 
 -- a trail is valid over more entries
 trail_longer : (kind : LineKind) (line : Line) (X : ℕ) (es more : List Entry) (R : List Bool) (most : ℕ)

@@ -1,6 +1,6 @@
 pub mod BoundEntries
-pub mod Going
+pub mod BookGain
 pub mod RankedOnce
-pub mod Turns
+pub mod TurnFacts
 pub mod Endings
 pub mod PurseFacts

@@ -1,2 +1,2 @@
 pub mod Sayable
-pub mod Certifying
+pub mod CertificateFacts

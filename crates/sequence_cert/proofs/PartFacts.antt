@@ -4,17 +4,17 @@ use Rattle.std.proofs.Common.{arith, Some, lit≤, lit<}
 use Rattle.std.specs.Prelude.{codes, slice_get, All}
 use Rattle.std.proofs.lemmas.Option.{same_Some, none-some, slice_get-get_or}
 use Rattle.cert_lines.specs.Rows.{Row, keyed, row_text}
-use Rattle.cert_lines.specs.Reading.{greatest}
+use Rattle.cert_lines.specs.Words.{greatest}
 use Rattle.cert_lines.specs.Faults.{Grammar}
 use Rattle.cert_lines.specs.Pattern.{each, AreSaid, then_}
 use Rattle.cert_lines.specs.LineForms.{key_text}
 use Rattle.cert_lines.specs.declared.line_forms.Key.{Key}
 use Rattle.cert_lines.specs.declared.line_forms.Key.TheVariants as keys
 use Rattle.cert_lines.proofs.NumberWords.{lacks}
-use Rattle.cert_lines.proofs.Judged.{key_lacks}
-use Rattle.cert_text.proofs.Sequencing.{unique_each, texts, Same}
-use Rattle.cert_text.proofs.Decoding.{AllLack, row_lacks, lack_both, lack_map}
-use Rattle.cert_text.proofs.Wholes.{within, numbers, unique_number}
+use Rattle.cert_lines.proofs.JudgedLine.{key_lacks}
+use Rattle.cert_text.proofs.PartSequences.{unique_each, texts, Same}
+use Rattle.cert_text.proofs.LineTexts.{AllLack, row_lacks, lack_both, lack_map}
+use Rattle.cert_text.proofs.CertificateParts.{within, numbers, unique_number}
 use Rattle.cert_text.proofs.Claims.{end_grammar}
 use Rattle.text_grammar.specs.Texts.{Tells, TellsLine}
 use Rattle.text_grammar.proofs.TextFacts.{led_tells, same_tells, titled_tells, none_begins}

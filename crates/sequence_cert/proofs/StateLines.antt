@@ -10,16 +10,16 @@ use Rattle.line_rules.specs.declared.types.LineKind.TheVariants.{Straight}
 use Rattle.line_rules.specs.declared.types.Side.TheVariants.{Front}
 use Rattle.cert_lines.specs.Rows.{Row, fixed, keyed, span, seat, bound, branch, swap, trail, frame, state_entry}
 use Rattle.cert_lines.specs.Rows.{state_frame, entry_of_state, frame_of_state, form_of, row_text}
-use Rattle.cert_lines.specs.Reading.{◌>>=◌, greatest, number_in}
+use Rattle.cert_lines.specs.Words.{◌>>=◌, greatest, number_in}
 use Rattle.cert_lines.specs.inner.LineReading.{seat_in}
 use Rattle.cert_lines.specs.Pattern.{HasFormOf, IsJudged}
 use Rattle.cert_lines.specs.declared.fault.LineError.{LineError}
 use Rattle.cert_lines.specs.declared.fault.LineError.TheVariants as lines
 use Rattle.cert_lines.proofs.CiteWords.{sat}
-use Rattle.cert_lines.proofs.OtherLines.{seat_again}
-use Rattle.cert_lines.proofs.Judged.{small, small_is, out_of_range}
-use Rattle.cert_lines.proofs.JudgedMore.{seat_none, seat_ok, seat_range}
-use Rattle.cert_text.proofs.Decoding.{row_lacks}
+use Rattle.cert_lines.proofs.PlainLines.{seat_again}
+use Rattle.cert_lines.proofs.JudgedLine.{small, small_is, out_of_range}
+use Rattle.cert_lines.proofs.JudgedSeat.{seat_none, seat_ok, seat_range}
+use Rattle.cert_text.proofs.LineTexts.{row_lacks}
 use Rattle.text_grammar.specs.Texts.{TellsLine}
 use Rattle.sequence_rules.specs.Ranges.{IsWhy, IsEntry, IsFrame, IsLast}
 use Rattle.sequence_rules.specs.declared.types.SeqEntry.{SeqEntry}

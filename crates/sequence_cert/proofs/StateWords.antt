@@ -9,7 +9,7 @@ use Rattle.std.proofs.lemmas.Option.{same_Some, none-some}
 use Rattle.line_io.specs.Lines.{value_of}
 use Rattle.cert_lines.specs.Numbers.{number_text, cites_text}
 use Rattle.cert_lines.specs.Rows.{state_entry, state_frame, number_or_none, row_text}
-use Rattle.cert_lines.specs.Reading.{◌>>=◌, parts_at, number_in, number_first, cites_in, is_none}
+use Rattle.cert_lines.specs.Words.{◌>>=◌, parts_at, number_in, number_first, cites_in, is_none}
 use Rattle.cert_lines.proofs.NumberWords.{both, left, right, lacks, all_high, high_lacks, number_high, number_again}
 use Rattle.cert_lines.proofs.NumberWords.{number_found, number_first_again, split_again, bind_some}
 use Rattle.cert_lines.proofs.CiteWords.{sat, cites_again, cites_found}

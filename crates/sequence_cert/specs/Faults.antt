@@ -5,7 +5,7 @@ use Rattle.cert_lines.specs.declared.fault.CertFault.{CertFault}
 use Rattle.sequence_rules.specs.Ranges.{IsInRange}
 use Rattle.sequence_rules.specs.declared.types.SeqCert.{SeqCert}
 use Rattle.text_grammar.specs.Texts.{IsTextFault, IsTextRead}
-use Rattle.text_grammar.specs.declared.reader.TextRead.{TextRead}
+use Rattle.text_grammar.specs.declared.text.TextRead.{TextRead}
 use Rattle.sequence_cert.specs.SequenceText.{sequence_rows}
 
 -- the texts of certificates within their ranges

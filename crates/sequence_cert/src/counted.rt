@@ -20,7 +20,7 @@ where
     P::Value: Drop,
 {
     ghost use Rattle.std.specs.Prelude.{◌≤◌, ◌<◌};
-    ghost use Rattle.cert_lines.specs.Reading.{greatest};
+    ghost use Rattle.cert_lines.specs.Words.{greatest};
     ghost use Rattle.cert_lines.specs.LineForms.{key_text};
     ghost use Rattle.sequence_cert.specs.SequenceText.{counted_rows};
     ghost use Rattle.sequence_cert.specs.inner.Parts.{IsCounted};

@@ -5,15 +5,15 @@
 //! one over the bytes.
 #![tactic(auto)]
 
+mod body;
 mod counted;
 pub mod laws;
 mod lines;
-mod reader;
-mod reading;
 #[cfg(test)]
 mod tests;
+mod whole_text;
 mod words;
 mod writing;
 
-pub use reader::{SeqCertRead, SeqText, read_seq};
+pub use whole_text::{SeqCertRead, SeqText, read_seq};
 pub use writing::write_seq;

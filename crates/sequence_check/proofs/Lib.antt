@@ -1,8 +1,8 @@
-pub mod Walking
-pub mod Listing
-pub mod Framing
-pub mod Posing
-pub mod Rejecting
+pub mod WalkFacts
+pub mod EntryFacts
+pub mod FrameFacts
+pub mod RangeFacts
+pub mod RefusalFacts
 pub mod OneWalk
 pub mod OneRefusal
 pub mod OneFault

@@ -17,7 +17,7 @@ use Rattle.sequence_check.specs.declared.types.SeqEntryFault.{SeqEntryFault}
 use Rattle.sequence_check.specs.declared.types.SeqEntryFault.TheVariants as entry_fault
 use Rattle.sequence_check.specs.declared.types.SeqFrameFault.{SeqFrameFault}
 use Rattle.sequence_check.specs.declared.types.SeqFrameFault.TheVariants as frame_fault
-use Rattle.sequence_check.proofs.Rejecting.{fails_not, fails_at_not, entry_spends, frame_spends}
+use Rattle.sequence_check.proofs.RefusalFacts.{fails_not, fails_at_not, entry_spends, frame_spends}
 use Rattle.sequence_check.proofs.OneWalk.{Test, same_end, past_test, FailsWalk, AtCites, at_late, one_at_cites}
 use Rattle.sequence_check.proofs.OneWalk.{cites_in_time}
 use Rattle.sequence_check.proofs.OneRefusal.{IsFirstRefused, AreEndedAt, one_refused, refused_in_time}

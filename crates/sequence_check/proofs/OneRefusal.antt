@@ -5,8 +5,8 @@ use Rattle.std.specs.Prelude.{slice_get, sum_by}
 use Rattle.std.proofs.lemmas.Bool.{cases_order}
 use Rattle.std.proofs.lemmas.List.{take-take}
 use Rattle.std.proofs.lemmas.List.Sums.{sum_by-take-le}
-use Rattle.sequence_check.proofs.Walking.{same_item}
-use Rattle.sequence_check.proofs.Listing.{sum_next}
+use Rattle.sequence_check.proofs.WalkFacts.{same_item}
+use Rattle.sequence_check.proofs.EntryFacts.{sum_next}
 
 -- items and why one is refused, each with its units, what is right at its place, what fails there with so many steps,
 -- and where so many steps end

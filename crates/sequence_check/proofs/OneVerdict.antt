@@ -16,7 +16,7 @@ use Rattle.sequence_check.specs.Lists.{IsRefusedAt}
 use Rattle.sequence_check.specs.Frames.{IsFrameRefused, AreFramesEnded}
 use Rattle.sequence_check.specs.Laws.{VerdictIsOne}
 use Rattle.sequence_check.specs.Verdicts.{IsShown, FailsFirst, EndsEarly}
-use Rattle.sequence_check.proofs.Rejecting.{fails_not, refused_not, entries_end, ended_more}
+use Rattle.sequence_check.proofs.RefusalFacts.{fails_not, refused_not, entries_end, ended_more}
 use Rattle.sequence_check.proofs.OneWalk.{Test, same_end, past_test}
 use Rattle.sequence_check.proofs.OneFault.{one_entry_refused, entry_refused_in_time, one_frame_refused}
 use Rattle.sequence_check.proofs.OneFault.{frame_refused_in_time}

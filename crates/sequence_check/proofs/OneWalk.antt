@@ -8,8 +8,8 @@ use Rattle.sequence_rules.specs.declared.types.Times.{Times}
 use Rattle.sequence_rules.specs.declared.types.SeqEntry.{SeqEntry}
 use Rattle.sequence_rules.specs.Entries.{is_left, models_left}
 use Rattle.sequence_check.specs.Walks.{IsFirstLate, AreBelow, IsUncovered, IsSpare, IsPast}
-use Rattle.sequence_check.proofs.Walking.{count_yes}
-use Rattle.sequence_check.proofs.Rejecting.{not_uncovered, passing_grows, past_counts}
+use Rattle.sequence_check.proofs.WalkFacts.{count_yes}
+use Rattle.sequence_check.proofs.RefusalFacts.{not_uncovered, passing_grows, past_counts}
 
 -- a test that fails, with what is so then; or one that holds, with what comes behind it
 abbrev pub Test : Type 0 → Type 0 → Type 0 → Type 0

@@ -1,6 +1,6 @@
 pub mod SumFacts
 pub mod CostFacts
-pub mod Sound
+pub mod LemmasHold
 pub mod Starts
-pub mod Counting
-pub mod Passing
+pub mod UnitCounts
+pub mod PassingNumbers

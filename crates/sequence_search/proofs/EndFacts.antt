@@ -15,7 +15,7 @@ use Rattle.sequence_rules.specs.Entries.{Covers, HasAnswer, is_left}
 use Rattle.sequence_rules.specs.Trails.{IsLeftBy, IsAskedAt, EndsWell, up_to, matched_to, is_deepest, IsRightAt}
 use Rattle.sequence_rules.specs.Ranges.{AreTimes, IsState, IsLast, IsFrame}
 use Rattle.sequence_rules.proofs.CostFacts.{left_within}
-use Rattle.sequence_rules.proofs.Counting.{noughts}
+use Rattle.sequence_rules.proofs.UnitCounts.{noughts}
 use Rattle.sequence_search.specs.Steps.{IsNextModel}
 use Rattle.sequence_search.specs.inner.Paths.{IsPassed, IsAlong, IsTop, IsBook}
 use Rattle.sequence_search.specs.inner.Tries.{AreStopped}

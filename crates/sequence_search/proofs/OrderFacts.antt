@@ -8,7 +8,7 @@ use Rattle.std.proofs.lemmas.List.{length-set, get_or_past}
 use Rattle.std.proofs.lemmas.List.Sums.{sum_by-append, sum_by_more_le, sum_by_more}
 use Rattle.std.proofs.lemmas.List.Folds.{sum_by-replicate}
 use Rattle.std.proofs.lemmas.Option.{get_or_from_slice_get}
-use Rattle.line_rules.proofs.Sound.{get_within}
+use Rattle.line_rules.proofs.LemmasHold.{get_within}
 use Rattle.sequence_rules.specs.declared.types.Times.{Times}
 use Rattle.sequence_rules.specs.declared.types.SeqEntry.{SeqEntry}
 use Rattle.sequence_rules.specs.declared.types.SeqFrame.{SeqFrame}
@@ -18,8 +18,8 @@ use Rattle.sequence_rules.specs.Entries.{HasAnswer, Follows, entry_units, units_
 use Rattle.sequence_rules.specs.Trails.{IsTrail, units_in}
 use Rattle.sequence_rules.specs.Ranges.{AreTimes, IsEntry, IsFrame}
 use Rattle.sequence_rules.proofs.CostFacts.{first_is_left, left_within, rest_is_sequence, as_many_left, bound_holds}
-use Rattle.sequence_rules.proofs.Passing.{same_item}
-use Rattle.sequence_rules.proofs.Sound.{cited_holds, sound}
+use Rattle.sequence_rules.proofs.PassingNumbers.{same_item}
+use Rattle.sequence_rules.proofs.LemmasHold.{cited_holds, sound}
 use Rattle.sequence_search.specs.inner.Paths.{IsBook}
 use Rattle.sequence_search.specs.Work.{most_units}
 use Rattle.sequence_search.specs.inner.Tries.{AreStopped, KeepsRoots}

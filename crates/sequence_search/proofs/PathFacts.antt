@@ -9,7 +9,7 @@ use Rattle.std.proofs.lemmas.List.{take-append-le, length-take-le, length-set, m
 use Rattle.std.proofs.lemmas.List.{get_or-set_other, get_or_default}
 use Rattle.std.proofs.lemmas.List.Sums.{sum_by-cons}
 use Rattle.line_rules.proofs.ListFacts.{get_push_cases, get_last}
-use Rattle.line_rules.proofs.Sound.{get_within}
+use Rattle.line_rules.proofs.LemmasHold.{get_within}
 use Rattle.utility_work.specs.Utility.{next_start}
 use Rattle.sequence_rules.specs.declared.types.Times.{Times}
 use Rattle.sequence_rules.specs.declared.types.SeqEntry.{SeqEntry}
@@ -21,7 +21,7 @@ use Rattle.sequence_rules.specs.Trails.{IsLeftBy, IsAskedAt}
 use Rattle.sequence_rules.specs.Ranges.{IsState}
 use Rattle.sequence_rules.proofs.SumFacts.{length-value_at_each}
 use Rattle.sequence_rules.proofs.CostFacts.{cost_steps, left_within}
-use Rattle.sequence_rules.proofs.Passing.{same_item}
+use Rattle.sequence_rules.proofs.PassingNumbers.{same_item}
 use Rattle.sequence_search.specs.Steps.{IsNextState}
 use Rattle.sequence_search.specs.inner.Paths.{lasts, IsOn, IsWorked, IsPassed, IsAlong}
 use Rattle.sequence_search.proofs.BookFacts.{take_front, unanswered_more}

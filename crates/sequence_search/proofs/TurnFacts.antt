@@ -12,7 +12,7 @@ use Rattle.sequence_rules.specs.Entries.{IsCited, Covers, HasAnswer, Follows, is
 use Rattle.sequence_rules.specs.Entries.{entry_units, units_of}
 use Rattle.sequence_rules.specs.Trails.{IsRoot, IsLeftBy, IsAskedAt, EndsWell, up_to, frame_units, units_in}
 use Rattle.sequence_rules.proofs.CostFacts.{cost_steps, left_within}
-use Rattle.sequence_rules.proofs.Passing.{same_item}
+use Rattle.sequence_rules.proofs.PassingNumbers.{same_item}
 use Rattle.sequence_search.specs.Steps.{IsNextModel, IsNoModel, IsNextState}
 use Rattle.sequence_search.specs.inner.Paths.{lasts, IsWorked, IsPassed, IsAlong, IsTop, IsBook}
 use Rattle.sequence_search.specs.inner.Tries.{entry_of}

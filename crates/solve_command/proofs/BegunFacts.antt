@@ -22,7 +22,7 @@ use Rattle.round_helpers.specs.Growth.{AreAtCycle}
 use Rattle.line_seek.specs.Seeking.{HasSought, RefuteBelow}
 use Rattle.warm_book.specs.Warm.{Taking, TakesAll, untaken}
 use Rattle.warm_book.proofs.TakingFacts.{Adds, all_add}
-use Rattle.round_helpers.proofs.Growing.{units_both}
+use Rattle.round_helpers.proofs.AddedEntries.{units_both}
 use Rattle.round_run.specs.Solving.{FitsAll, SolvesFrom}
 use Rattle.round_run.specs.declared.plans.Plan.{Plan}
 use Rattle.round_run.specs.declared.solving.Outcome.{Outcome}

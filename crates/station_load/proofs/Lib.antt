@@ -1,3 +1,3 @@
-pub mod Turns
+pub mod ScanTurns
 pub mod Walks
-pub mod Given
+pub mod AllLoadsGiven

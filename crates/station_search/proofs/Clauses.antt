@@ -14,8 +14,8 @@ use Rattle.line_rules.specs.declared.types.Mode.{Mode}
 use Rattle.line_rules.specs.declared.types.Load.{Load}
 use Rattle.line_rules.specs.declared.types.Entry.{Entry}
 use Rattle.line_rules.specs.declared.types.OpenFrame.{OpenFrame}
-use Rattle.line_rules.proofs.Grown.{get_longer}
-use Rattle.line_rules.proofs.Seated.{seated_none}
+use Rattle.line_rules.proofs.LongerLists.{get_longer}
+use Rattle.line_rules.proofs.SeatedLoads.{seated_none}
 use Rattle.lemma_core.specs.History.{Item}
 use Rattle.lemma_core.specs.Desks.{DeskView, entries, Keeps, Waits}
 use Rattle.lemma_core.specs.Own.{added_of}
@@ -27,7 +27,7 @@ use Rattle.station_search.specs.declared.answers.Decided.{Decided}
 use Rattle.station_search.specs.declared.answers.Decided.TheVariants as decided
 use Rattle.lemma_core.proofs.OwnFacts.{did_none, did_waits, entries_more}
 use Rattle.station_search.proofs.Events.{for_still}
-use Rattle.station_search.proofs.Paying.{does_then, units_among, units_paid}
+use Rattle.station_search.proofs.PaidSteps.{does_then, units_among, units_paid}
 
 module _ (asked : Option Mode) (kind : LineKind) (line : Line) (X : ℕ) where
   own_does : (old new : DeskView) (items : List Item) (n : ℕ) → Does asked kind line X old new items n

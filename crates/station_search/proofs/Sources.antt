@@ -8,7 +8,7 @@ use Rattle.std.proofs.lemmas.Bool.{cases_Bool, false≢true}
 use Rattle.std.proofs.lemmas.Bool.Decides.{nat_tests}
 use Rattle.task_set.specs.Truths.{In, IsEmpty, meet, members_from, members_of}
 use Rattle.task_set.proofs.Members.{In-meet, In-meet_parts}
-use Rattle.task_set.proofs.Listed.{count_listed}
+use Rattle.task_set.proofs.ListedMembers.{count_listed}
 use Rattle.load_facts.proofs.SumsOverMembers.{AllIn, all_in}
 use Rattle.line_instance.specs.Line.{Line}
 use Rattle.line_rules.specs.declared.types.LineKind.{LineKind}

@@ -15,7 +15,7 @@ use Rattle.line_rules.specs.declared.types.Entry.{Entry}
 use Rattle.lemma_core.specs.Desks.{DeskView, entries, Keeps, Waits}
 use Rattle.station_search.specs.inner.Work.{DoesFor, swap_of}
 use Rattle.station_search.proofs.Events.{entries_same}
-use Rattle.station_search.proofs.Paying.{does_then}
+use Rattle.station_search.proofs.PaidSteps.{does_then}
 
 value_at : (xs : List ℕ) (k j : ℕ) → slice_get xs k ≡ Some j → at xs k ≡ j
 value_at [] k j e = absurd (cc)

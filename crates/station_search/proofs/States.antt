@@ -15,7 +15,7 @@ use Rattle.line_rules.specs.declared.types.Mode.{Mode}
 use Rattle.line_rules.specs.declared.types.Load.{Load}
 use Rattle.line_rules.specs.declared.types.Entry.{Entry}
 use Rattle.line_rules.specs.declared.types.OpenFrame.{OpenFrame}
-use Rattle.line_rules.proofs.Covering.{covers_same, covers_none}
+use Rattle.line_rules.proofs.CoverFacts.{covers_same, covers_none}
 use Rattle.line_rules.proofs.ListFacts.{get_longer, get_push_cases, get_last}
 use Rattle.line_rules.proofs.Paths.{all_up_to, covers_pass, covers_skip, covers_cite, leads_push, leads_pop}
 use Rattle.line_rules.proofs.Paths.{leads_longer, deep_longer, rest_inside}

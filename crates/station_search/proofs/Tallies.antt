@@ -14,7 +14,7 @@ use Rattle.line_rules.specs.declared.types.Mode.{Mode}
 use Rattle.line_rules.specs.declared.types.Load.{Load}
 use Rattle.line_rules.specs.declared.types.Entry.{Entry}
 use Rattle.line_rules.specs.declared.types.OpenFrame.{OpenFrame}
-use Rattle.line_rules.proofs.Covering.{counts_none, counts_same}
+use Rattle.line_rules.proofs.CoverFacts.{counts_none, counts_same}
 use Rattle.line_rules.proofs.ListFacts.{get_longer, get_push_cases, get_last}
 use Rattle.line_rules.proofs.Paths.{units_push, units_push_frame, units_pop_frame, all_up_to, rest_inside, rest_without}
 use Rattle.line_rules.proofs.Paths.{leads_inside}
@@ -24,7 +24,7 @@ use Rattle.lemma_core.specs.Own.{added_of}
 use Rattle.station_search.specs.Costs.{AreUnanswered}
 use Rattle.station_search.specs.inner.Work.{with_last, with_cites, Does, AllAdded, DoesFor, Accounts, Balances}
 use Rattle.station_search.proofs.Events.{waits_none}
-use Rattle.station_search.proofs.Paying.{does_waits, does_both, all_added_both, added_length, unanswered_still}
+use Rattle.station_search.proofs.PaidSteps.{does_waits, does_both, all_added_both, added_length, unanswered_still}
 
 -- What the steps so far did on the desk, and the units of the frames, come to what was spent; the entries added, the
 -- frames that wait and some room are no more. Where the desk is alone, each event added an entry, and no entry answers

@@ -1,8 +1,8 @@
 pub mod Sums
-pub mod Dealing
-pub mod Tallying
+pub mod DequeSteps
+pub mod TallySteps
 pub mod Ports
 pub mod Each
 pub mod OpeningFacts
 pub mod ClosingFacts
-pub mod Handing
+pub mod HandFacts

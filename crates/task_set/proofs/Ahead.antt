@@ -4,7 +4,7 @@ use Rattle.std.proofs.Common.{List, [], ◌∷◌, ◌++◌, length, get_or, set
 use Rattle.std.proofs.Common.{bit_and, w64, get_or-take, get_or-drop}
 use Rattle.task_set.specs.Truths.{IsEmpty, IsLeast, truths_of, members_from, members_of}
 use Rattle.task_set.specs.inner.Words.{bits_of, members_left, get_or-truths, part_length}
-use Rattle.task_set.proofs.Listed.{least_first, none_from}
+use Rattle.task_set.proofs.ListedMembers.{least_first, none_from}
 use Rattle.task_set.proofs.Members.{In-below}
 use Rattle.std.specs.Int.{bit_at, trailing_zeros}
 use Rattle.std.proofs.lemmas.Bool.{cases_eq, cases_lt, eqb-true, false≢true}

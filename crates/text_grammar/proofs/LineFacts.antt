@@ -5,17 +5,17 @@ use Rattle.line_rules.specs.declared.types.LineKind.{LineKind}
 use Rattle.line_rules.specs.declared.types.LineKind.TheVariants.{Straight, U}
 use Rattle.cert_lines.specs.Rows.{Row, fixed, keyed, row_text}
 use Rattle.cert_lines.specs.ValueRows.{kind_row}
-use Rattle.cert_lines.specs.Reading.{greatest}
+use Rattle.cert_lines.specs.Words.{greatest}
 use Rattle.cert_lines.specs.Faults.{Grammar}
 use Rattle.cert_lines.specs.Pattern.{one, then_}
 use Rattle.cert_lines.specs.LineForms.{key_text}
 use Rattle.cert_lines.specs.declared.line_forms.Key.{Key}
 use Rattle.cert_lines.specs.declared.line_forms.Key.TheVariants as keys
 use Rattle.cert_lines.proofs.NumberWords.{lacks}
-use Rattle.cert_lines.proofs.Judged.{key_lacks}
-use Rattle.cert_text.proofs.Sequencing.{Unique}
-use Rattle.cert_text.proofs.Decoding.{row_lacks}
-use Rattle.cert_text.proofs.Wholes.{within, numbers, kinds, unique_number, unique_kind}
+use Rattle.cert_lines.proofs.JudgedLine.{key_lacks}
+use Rattle.cert_text.proofs.PartSequences.{Unique}
+use Rattle.cert_text.proofs.LineTexts.{row_lacks}
+use Rattle.cert_text.proofs.CertificateParts.{within, numbers, kinds, unique_number, unique_kind}
 use Rattle.cert_text.proofs.Claims.{end_grammar}
 use Rattle.text_grammar.specs.Texts.{Tells, TellsLine}
 use Rattle.text_grammar.proofs.TextFacts.{one_tells, then_tells}

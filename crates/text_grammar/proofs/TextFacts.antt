@@ -10,14 +10,14 @@ use Rattle.cert_lines.specs.declared.fault.CertFault.{CertFault}
 use Rattle.cert_lines.specs.declared.fault.ReadError.{ReadError}
 use Rattle.cert_lines.specs.declared.fault.ReadError.TheVariants as errors
 use Rattle.cert_lines.proofs.NumberWords.{lacks}
-use Rattle.cert_lines.proofs.Judged.{fixed_not}
-use Rattle.cert_text.proofs.Sequencing.{Unique, unique_one, unique_then, texts, Same}
-use Rattle.cert_text.proofs.Wholes.{unique_same}
-use Rattle.cert_text.proofs.Decoding.{AllLack, row_lacks, lack_both, fault_has_none, begins_one}
+use Rattle.cert_lines.proofs.JudgedLine.{fixed_not}
+use Rattle.cert_text.proofs.PartSequences.{Unique, unique_one, unique_then, texts, Same}
+use Rattle.cert_text.proofs.CertificateParts.{unique_same}
+use Rattle.cert_text.proofs.LineTexts.{AllLack, row_lacks, lack_both, fault_has_none, begins_one}
 use Rattle.text_grammar.specs.Texts.{titled, Tells, TellsLine, text_of, Says, IsTextFault, IsTextRead, IsEnded}
 use Rattle.text_grammar.specs.Texts.{NoneBegins}
-use Rattle.text_grammar.specs.declared.reader.TextRead.{TextRead}
-use Rattle.text_grammar.specs.declared.reader.TextRead.TheVariants.{Good, Fault, NoMemory}
+use Rattle.text_grammar.specs.declared.text.TextRead.{TextRead}
+use Rattle.text_grammar.specs.declared.text.TextRead.TheVariants.{Good, Fault, NoMemory}
 
 -- the first line
 abbrev pub titles : List ℕ → Grammar (Unit {0})

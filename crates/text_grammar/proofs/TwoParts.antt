@@ -5,8 +5,8 @@ use Rattle.std.specs.Result.{IsErrAnd}
 use Rattle.cert_lines.specs.Faults.{Grammar}
 use Rattle.cert_lines.specs.Pattern.{IsRead, then_}
 use Rattle.cert_lines.specs.declared.fault.ReadError.{ReadError}
-use Rattle.cert_text.proofs.Failing.{ends, first, second, same, hand}
-use Rattle.cert_text.proofs.Sequencing.{Unique, Same, both_read, same_read}
+use Rattle.cert_text.proofs.PartErrors.{ends, first, second, same, hand}
+use Rattle.cert_text.proofs.PartSequences.{Unique, Same, both_read, same_read}
 use Rattle.text_grammar.specs.Texts.{Tells}
 
 -- two parts, and the value that they say together

@@ -5,8 +5,8 @@ use Rattle.cert_lines.specs.Faults.{Grammar, IsFault}
 use Rattle.cert_lines.specs.declared.fault.CertFault.{CertFault}
 use Rattle.cert_lines.specs.declared.fault.CertKind.TheVariants.{Trailing}
 use Rattle.cert_lines.specs.Telling.{lacks, AllLack, texts, Unique}
-use Rattle.text_grammar.specs.declared.reader.TextRead.{TextRead}
-use Rattle.text_grammar.specs.declared.reader.TextRead.TheVariants.{Good, Fault, NoMemory}
+use Rattle.text_grammar.specs.declared.text.TextRead.{TextRead}
+use Rattle.text_grammar.specs.declared.text.TextRead.TheVariants.{Good, Fault, NoMemory}
 
 -- the lines of each value, and which values may be said
 abbrev pub spelled : {V : Type 0} → (V → List Row) → (V → Type 0) → Grammar V

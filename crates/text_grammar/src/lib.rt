@@ -6,10 +6,10 @@
 #![tactic(auto)]
 
 mod part;
-mod reader;
 mod sequence;
+mod text;
 mod title;
 
 pub use part::Part;
-pub use reader::{Text, TextRead, read_text};
 pub use sequence::OneLine;
+pub use text::{Text, TextRead, read_text};

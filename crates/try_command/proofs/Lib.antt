@@ -1,2 +1,2 @@
 pub mod ReadBack
-pub mod Showing
+pub mod ShownFacts

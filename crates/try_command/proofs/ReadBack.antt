@@ -9,9 +9,9 @@ use Rattle.line_rules.specs.declared.types.Claim.TheVariants as claim
 use Rattle.line_rules.specs.declared.types.Certificate.{Certificate}
 use Rattle.cert_lines.specs.declared.version_one.OldCertificate.{OldCertificate}
 use Rattle.cert_text.specs.Cert.{cert_text}
-use Rattle.cert_text.specs.Answers.{IsSaidBy}
+use Rattle.cert_text.specs.WholeText.{IsSaidBy}
 use Rattle.cert_text.specs.Versions.{newer, older}
-use Rattle.cert_text.proofs.Decoding.{begins_none}
+use Rattle.cert_text.proofs.LineTexts.{begins_none}
 
 same_newer : (c d : Certificate) → newer c ≡ newer d → c ≡ d
 same_newer c d e = cc

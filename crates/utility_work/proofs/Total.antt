@@ -9,7 +9,7 @@ use Rattle.line_rules.specs.Balance.{seat}
 use Rattle.line_rules.specs.declared.types.Seatplace.{Seatplace}
 use Rattle.combined_graph.specs.Mixes.{LineModel, MixedLine, IsMix, IsModel, model_at}
 use Rattle.utility_work.specs.Utility.{work_at, next_start, utility_from, station_utility}
-use Rattle.utility_work.proofs.Steps.{time_is, as_many}
+use Rattle.utility_work.proofs.WorkSteps.{time_is, as_many}
 
 -- the sum of f over the numbers below n
 abbrev pub all : (ℕ → ℕ) → ℕ → ℕ

@@ -1,7 +1,7 @@
 -- Old entries are taken in one way.
 use Rattle.std.proofs.Common.{◌≡◌, ℕ, ◌+◌, List, [], ◌∷◌, refl, sym, ap, ◌∙◌, subst, inl, inr, arith}
 use Rattle.line_instance.specs.Line.{Line}
-use Rattle.line_rules.proofs.Carried.{entries_same}
+use Rattle.line_rules.proofs.Monotone.{entries_same}
 use Rattle.line_rules.specs.Units.{UnitsBy}
 use Rattle.line_rules.specs.declared.types.Entry.{Entry}
 use Rattle.lemma_core.specs.Books.{BookView}

@@ -13,7 +13,7 @@ use Rattle.lemma_core.specs.History.{published_item, offers}
 use Rattle.lemma_core.specs.Machine.{State, last_answer, with_entry}
 use Rattle.lemma_core.specs.Books.{BookView, ran}
 use Rattle.line_check.specs.Faults.{Ends}
-use Rattle.line_check.proofs.Spending.{ends_more}
+use Rattle.line_check.proofs.UnitFacts.{ends_more}
 use Rattle.warm_book.specs.Warm.{Taking, IsKept, Takes, TakesAll, keeping, dropping, untaken, renumbered, IsWarmer}
 use Rattle.warm_book.proofs.NumberFacts.{asks_same}
 

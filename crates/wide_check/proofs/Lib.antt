@@ -1,1 +1,1 @@
-pub mod Ranged
+pub mod RangeFacts

@@ -1,8 +1,8 @@
-pub mod Free
-pub mod Beginning
+pub mod FreeTasks
+pub mod FirstLoads
 pub mod Branches
-pub mod Rows
-pub mod Five
-pub mod Six
-pub mod Seven
+pub mod WorkedRows
+pub mod FiveTasks
+pub mod SixTasks
+pub mod SevenTasks
 pub mod Events

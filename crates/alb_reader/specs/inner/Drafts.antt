@@ -9,7 +9,7 @@ use Rattle.in2_reader.specs.declared.pair.Pair.TheVariants.{Arc, BadArc as NoTas
 use Rattle.line_instance.specs.declared.arcs.Prec.{Prec}
 use Rattle.alb_reader.specs.Sections.{under, has_heading, section_after, before_end, end_line}
 use Rattle.alb_reader.specs.Faults.{task_named, time_said, line_fault, AreRight}
-use Rattle.alb_reader.specs.Answers.{tasks_said, cycle_said, IsFormFault}
+use Rattle.alb_reader.specs.Instance.{tasks_said, cycle_said, IsFormFault}
 use Rattle.alb_reader.specs.declared.draft.Draft.{Draft}
 use Rattle.alb_reader.specs.declared.draft.Headings.{Headings}
 use Rattle.alb_reader.specs.declared.draft.TimeLine.{TimeLine}

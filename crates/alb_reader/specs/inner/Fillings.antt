@@ -6,7 +6,7 @@ use Rattle.std.specs.declared.alloc.Global.{Global}
 use Rattle.line_instance.specs.declared.arcs.Prec.{Prec}
 use Rattle.in2_reader.specs.Contents.{Lines}
 use Rattle.alb_reader.specs.Faults.{task_named, time_said, task_fault, arc_fault, AreRight, IsFirstWrong}
-use Rattle.alb_reader.specs.Answers.{AllNamed, IsLeastUnnamed, times_of, arcs_of}
+use Rattle.alb_reader.specs.Instance.{AllNamed, IsLeastUnnamed, times_of, arcs_of}
 use Rattle.alb_reader.specs.declared.fault.AlbError.{AlbError}
 use Rattle.alb_reader.specs.declared.fault.AlbError.TheVariants as errors
 use Rattle.alb_reader.specs.declared.fault.AlbKind.TheVariants.{MissingTask}

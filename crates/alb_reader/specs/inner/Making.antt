@@ -5,10 +5,10 @@ use Rattle.line_instance.specs.Made.{IsInstanceOf}
 use Rattle.line_instance.specs.Walks.{IsRing}
 use Rattle.in2_reader.specs.Contents.{Lines}
 use Rattle.alb_reader.specs.Faults.{line_fault, AreRight}
-use Rattle.alb_reader.specs.Answers.{IsFormed, IsFormFault, IsFilled, IsFillFault, tasks_said, times_said, arcs_said}
-use Rattle.alb_reader.specs.Answers.{cycle_said}
-use Rattle.alb_reader.specs.declared.answer.AlbRead.{AlbRead}
-use Rattle.alb_reader.specs.declared.answer.AlbRead.TheVariants as reads
+use Rattle.alb_reader.specs.Instance.{IsFormed, IsFormFault, IsFilled, IsFillFault, tasks_said, times_said, arcs_said}
+use Rattle.alb_reader.specs.Instance.{cycle_said}
+use Rattle.alb_reader.specs.declared.instance.AlbRead.{AlbRead}
+use Rattle.alb_reader.specs.declared.instance.AlbRead.TheVariants as reads
 use Rattle.alb_reader.specs.declared.fault.AlbError.{AlbError}
 use Rattle.alb_reader.specs.declared.fault.AlbError.TheVariants as errors
 use Rattle.alb_reader.specs.declared.fault.AlbKind.TheVariants.{Cycle}

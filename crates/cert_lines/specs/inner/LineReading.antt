@@ -11,7 +11,7 @@ use Rattle.line_rules.specs.declared.types.Load.{Load}
 use Rattle.cert_lines.specs.declared.draft.Draft.{Draft}
 use Rattle.cert_lines.specs.declared.draft.DraftWhy.TheVariants as why
 use Rattle.cert_lines.specs.declared.draft.FrameDraft.{FrameDraft}
-use Rattle.cert_lines.specs.Reading.{◌>>=◌, parts_at, number_in, number_first, set_in, mode_in, cites_in, is_none}
+use Rattle.cert_lines.specs.Words.{◌>>=◌, parts_at, number_in, number_first, set_in, mode_in, cites_in, is_none}
 
 -- the number behind a word
 unfoldable pub keyed_in : List ℕ → List ℕ → Option ℕ

@@ -2,7 +2,7 @@
 -- above each range.
 use Rattle.std.specs.Prelude.{ℕ, ◌-◌, ◌^◌, min, cond, bytes_eq, List, Option, Some, None}
 use Rattle.line_io.specs.Lines.{value_of}
-use Rattle.cert_lines.specs.Reading.{◌>>=◌, parts_at, number_in, number_first}
+use Rattle.cert_lines.specs.Words.{◌>>=◌, parts_at, number_in, number_first}
 
 -- the greatest number that is told apart from greater ones
 abbrev pub widest : ℕ

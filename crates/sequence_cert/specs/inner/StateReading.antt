@@ -1,7 +1,7 @@
 -- How the lines of units, of entries and of frames are read. Numbers are read up to 2^64 - 1, which is above each
 -- range.
 use Rattle.std.specs.Prelude.{ℕ, ◌-◌, cond, nat_eq, bytes_eq, List, length, Option, Some, None, codes}
-use Rattle.cert_lines.specs.Reading.{◌>>=◌, parts_at, number_in, number_first, cites_in, is_none}
+use Rattle.cert_lines.specs.Words.{◌>>=◌, parts_at, number_in, number_first, cites_in, is_none}
 use Rattle.sequence_rules.specs.declared.types.SeqEntry.{SeqEntry}
 use Rattle.sequence_rules.specs.declared.types.SeqWhy.TheVariants as why
 use Rattle.sequence_rules.specs.declared.types.SeqFrame.{SeqFrame}

@@ -1,7 +1,7 @@
 use Rattle.std.proofs.Common.{◌∙◌, Err, None, sym, subst}
 use Rattle.alb_reader.specs.inner.Fillings.{IsArcsRead}
 use Rattle.alb_reader.specs.declared.draft.PairLine.{PairLine}
-use Rattle.alb_reader.proofs.Stated.{arcs_on, arcs_stop}
+use Rattle.alb_reader.proofs.StatedLines.{arcs_on, arcs_stop}
 use Rattle.alb_reader.proofs.filling.arcs_of.Goals as goal
 
 none : PairLine

@@ -1,7 +1,7 @@
 use Rattle.std.proofs.Common.{◌≡◌, map, take}
 use Rattle.in2_reader.specs.Contents.{Lines}
 use Rattle.alb_reader.specs.Faults.{AreRight, arc_fault}
-use Rattle.alb_reader.specs.Answers.{arcs_of}
+use Rattle.alb_reader.specs.Instance.{arcs_of}
 use Rattle.alb_reader.specs.inner.Drafts.{pair_line}
 use Rattle.alb_reader.proofs.filling.arcs_of.Given as goal
 

@@ -3,7 +3,7 @@ use Rattle.std.specs.Option.{is_some as is_there}
 use Rattle.std.proofs.lemmas.List.{length-set, get_or_read}
 use Rattle.alb_reader.specs.inner.Fillings.{GivesTimes}
 use Rattle.alb_reader.specs.declared.draft.TimeLine.{TimeLine}
-use Rattle.alb_reader.proofs.Stated.{times_on, times_bad, times_again}
+use Rattle.alb_reader.proofs.StatedLines.{times_on, times_bad, times_again}
 use Rattle.alb_reader.proofs.filling.given_times.Goals as goal
 
 none : TimeLine

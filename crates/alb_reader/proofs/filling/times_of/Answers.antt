@@ -1,4 +1,4 @@
-use Rattle.alb_reader.proofs.Stated.{times_whole}
+use Rattle.alb_reader.proofs.StatedLines.{times_whole}
 use Rattle.alb_reader.proofs.filling.times_of.Goals as goal
 
 pub returns : goal.returns

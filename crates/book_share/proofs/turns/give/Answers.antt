@@ -4,7 +4,7 @@ use Rattle.atomic_table.specs.Table.{Allows, step}
 use Rattle.book_share.specs.Passes.{Phase, Idle, Holding, Spent}
 use Rattle.book_share.specs.Rule.{Kept, counted, fewest}
 use Rattle.book_share.specs.Steps.{Mine, Gives}
-use Rattle.book_share.proofs.Moves.{gives_turn}
+use Rattle.book_share.proofs.TurnSteps.{gives_turn}
 use Rattle.book_share.proofs.turns.give.Goals as goal
 
 pub store-requires : goal.store-requires

@@ -5,8 +5,8 @@ use Rattle.lemma_core.specs.Books.{BookView}
 use Rattle.lemma_core.specs.History.{better}
 use Rattle.book_share.specs.Rule.{Kept}
 use Rattle.book_share.specs.Steps.{Mine, Gives, Records, Lowers, recorded, lowered, given, log_in}
-use Rattle.book_share.proofs.Moves.{gives_turn, records_item}
-use Rattle.book_share.proofs.Loading.{lowers_best}
+use Rattle.book_share.proofs.TurnSteps.{gives_turn, records_item}
+use Rattle.book_share.proofs.LoadSteps.{lowers_best}
 use Rattle.book_share.proofs.Hands.{exact_for, reached_for}
 use Rattle.book_share.proofs.turns.give_offered.Goals as goal
 

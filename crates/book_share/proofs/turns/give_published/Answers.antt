@@ -4,8 +4,8 @@ use Rattle.atomic_table.specs.Table.{Allows, step}
 use Rattle.lemma_core.specs.Books.{BookView}
 use Rattle.book_share.specs.Rule.{Kept}
 use Rattle.book_share.specs.Steps.{Mine, Gives, Records, recorded, given, log_in}
-use Rattle.book_share.proofs.Moves.{gives_turn, records_item}
-use Rattle.book_share.proofs.Loading.{same_quiet}
+use Rattle.book_share.proofs.TurnSteps.{gives_turn, records_item}
+use Rattle.book_share.proofs.LoadSteps.{same_quiet}
 use Rattle.book_share.proofs.Hands.{exact_for}
 use Rattle.book_share.proofs.turns.give_published.Goals as goal
 

@@ -5,7 +5,7 @@ use Rattle.atomic_table.specs.Table.{Allows, step, rest}
 use Rattle.lemma_core.specs.Books.{BookView}
 use Rattle.book_share.specs.Rule.{Kept}
 use Rattle.book_share.specs.Steps.{Mine, given, Takes}
-use Rattle.book_share.proofs.Moves.{takes_turn}
+use Rattle.book_share.proofs.TurnSteps.{takes_turn}
 use Rattle.book_share.proofs.turns.take.Goals as goal
 
 pub compare_exchange-found-requires : goal.compare_exchange-found-requires

@@ -1,5 +1,5 @@
 use Rattle.std.proofs.Common.{rules, ◌≡◌, ◌∙◌, Ok}
-use Rattle.cert_files.proofs.Ends.{same_files, stopped_read, fault_read, good_read, none_of, none_of_old}
+use Rattle.cert_files.proofs.FileEnds.{same_files, stopped_read, fault_read, good_read, none_of, none_of_old}
 use Rattle.cert_files.proofs.fetching.cert_from.Goals as goal
 
 pub returns-in-Stopped-clause-read : goal.returns-in-Stopped-clause-read

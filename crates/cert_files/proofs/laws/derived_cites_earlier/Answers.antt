@@ -1,4 +1,4 @@
-use Rattle.cert_files.proofs.Trimmed.{derived_earlier}
+use Rattle.cert_files.proofs.TrimFacts.{derived_earlier}
 use Rattle.cert_files.proofs.laws.derived_cites_earlier.Goals as goal
 
 pub returns : goal.returns

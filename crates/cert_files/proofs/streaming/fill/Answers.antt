@@ -1,8 +1,8 @@
 use Rattle.std.proofs.Common.{rules, ◌≡◌, ◌∙◌, ℕ, false, List, Some, take, subst}
 use Rattle.line_io.specs.Outside.{Grows, GrowsWhole}
 use Rattle.cert_text.specs.Cert.{cert_text}
-use Rattle.cert_files.proofs.Sending.{others_stay, front_kept, all_put, same_front, front_grown, whole_grown}
-use Rattle.cert_files.proofs.Sending.{whole_front}
+use Rattle.cert_files.proofs.SentBytes.{others_stay, front_kept, all_put, same_front, front_grown, whole_grown}
+use Rattle.cert_files.proofs.SentBytes.{whole_front}
 use Rattle.cert_files.proofs.streaming.fill.Goals as goal
 
 pub returns-then-failed-clause-prefix : goal.returns-then-failed-clause-prefix

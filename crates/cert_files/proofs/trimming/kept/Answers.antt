@@ -2,7 +2,7 @@ use Rattle.std.proofs.Common.{◌+◌, ◌++◌, ◌∷◌, [], List, ℕ, lengt
 use Rattle.task_set.specs.Truths.{members_of}
 use Rattle.line_rules.specs.declared.types.Entry.{Entry}
 use Rattle.cert_files.specs.Trim.{AreKeptEntries, entry_at}
-use Rattle.cert_files.proofs.Places.{IsPlacing, placed, passed_over, all_placed}
+use Rattle.cert_files.proofs.KeptPlaces.{IsPlacing, placed, passed_over, all_placed}
 use Rattle.cert_files.proofs.trimming.kept.Goals as goal
 use Rattle.cert_files.proofs.trimming.kept.Goals.{then-marks-k+in_ok-moved+in_ok-push-2, else-marks-k}
 

@@ -1,4 +1,4 @@
-use Rattle.cert_files.proofs.Places.{IsPlacing}
+use Rattle.cert_files.proofs.KeptPlaces.{IsPlacing}
 use Rattle.cert_files.proofs.trimming.kept.Given as goal
 
 abbrev pub invariant-loop-k : goal.invariant-loop-k

@@ -1,5 +1,5 @@
 use Rattle.std.proofs.Common.{get_or, refl, arith}
-use Rattle.cert_files.proofs.Marks.{contains_at, marked_more}
+use Rattle.cert_files.proofs.MarkFacts.{contains_at, marked_more}
 use Rattle.cert_files.proofs.trimming.mark_all.Goals as goal
 
 pub bounds-marks-cite : goal.bounds-marks-cite

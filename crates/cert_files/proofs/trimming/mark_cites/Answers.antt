@@ -2,7 +2,7 @@ use Rattle.std.proofs.Common.{List, true, set, ap, sym, ◌∙◌, subst, refl, 
 use Rattle.std.specs.List.{Contains}
 use Rattle.line_rules.specs.declared.types.Why.{Why}
 use Rattle.cert_files.specs.Trim.{cited_by, AreMarked}
-use Rattle.cert_files.proofs.Marks.{marked_one}
+use Rattle.cert_files.proofs.MarkFacts.{marked_one}
 use Rattle.cert_files.proofs.trimming.mark_cites.Goals as goal
 
 pub mark_all-requires : goal.mark_all-requires

@@ -1,4 +1,4 @@
-use Rattle.cert_files.proofs.Marks.{IsPassed}
+use Rattle.cert_files.proofs.MarkFacts.{IsPassed}
 use Rattle.cert_files.proofs.trimming.marks_of.Given as goal
 
 abbrev pub invariant-loop-k : goal.invariant-loop-k

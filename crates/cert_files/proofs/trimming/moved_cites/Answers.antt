@@ -1,5 +1,5 @@
 use Rattle.std.proofs.Common.{rules, length, ◌<◌, get_or, refl}
-use Rattle.cert_files.proofs.Marks.{contains_at}
+use Rattle.cert_files.proofs.MarkFacts.{contains_at}
 use Rattle.cert_files.proofs.trimming.moved_cites.Goals as goal
 
 pub bounds-places-cite : goal.bounds-places-cite

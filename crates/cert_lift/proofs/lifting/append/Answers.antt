@@ -1,4 +1,4 @@
-use Rattle.cert_lift.proofs.Lifted.{entry_of_part}
+use Rattle.cert_lift.proofs.LiftFacts.{entry_of_part}
 use Rattle.cert_lift.proofs.lifting.append.Goals as goal
 
 pub lift_entry-requires-clause-entry : goal.lift_entry-requires-clause-entry

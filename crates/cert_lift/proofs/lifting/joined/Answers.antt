@@ -1,6 +1,6 @@
 use Rattle.std.proofs.Common.{◌≡◌, ℕ, ◌++◌, map, subst}
 use Rattle.cert_lines.specs.Lift.{lifted_entry, lifted_frame}
-use Rattle.cert_lift.proofs.Lifted.{joined_entries, joined_trail}
+use Rattle.cert_lift.proofs.LiftFacts.{joined_entries, joined_trail}
 use Rattle.cert_lift.proofs.lifting.joined.Goals as goal
 
 pub returns-clause-entries : goal.returns-clause-entries

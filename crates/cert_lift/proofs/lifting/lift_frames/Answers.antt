@@ -1,4 +1,4 @@
-use Rattle.cert_lift.proofs.Lifted.{frame_of_part}
+use Rattle.cert_lift.proofs.LiftFacts.{frame_of_part}
 use Rattle.cert_lift.proofs.lifting.lift_frames.Goals as goal
 
 pub lift_frame-requires-clause-frame : goal.lift_frame-requires-clause-frame

@@ -1,4 +1,4 @@
-use Rattle.cert_lift.proofs.Lifted.{single_entries, single_trail}
+use Rattle.cert_lift.proofs.LiftFacts.{single_entries, single_trail}
 use Rattle.cert_lift.proofs.lifting.single.Goals as goal
 
 pub returns-clause-entries : goal.returns-clause-entries

@@ -1,6 +1,6 @@
 use Rattle.std.proofs.Common.{refl}
 use Rattle.std.proofs.lemmas.Bool.{false≢true}
-use Rattle.cert_lines.proofs.Judged.{cites_more, cites_all, cites_fail}
+use Rattle.cert_lines.proofs.JudgedLine.{cites_more, cites_all, cites_fail}
 use Rattle.cert_lines.proofs.line_forms.are_cites.Goals as goal
 
 pub loop-cite-preserved : goal.loop-cite-preserved

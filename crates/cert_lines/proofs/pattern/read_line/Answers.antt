@@ -1,6 +1,6 @@
 use Rattle.std.proofs.Common.{◌∙◌, sym, refl, arith, subst, []}
 use Rattle.cert_lines.specs.Taking.{IsTaken}
-use Rattle.cert_lines.proofs.Composing.{one_ends, line_error, error_is, one_said}
+use Rattle.cert_lines.proofs.TextParts.{one_ends, line_error, error_is, one_said}
 use Rattle.cert_lines.proofs.pattern.read_line.Goals as goal
 
 pub returns-in-End-clause-read : goal.returns-in-End-clause-read

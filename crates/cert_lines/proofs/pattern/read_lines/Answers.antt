@@ -1,7 +1,7 @@
 use Rattle.std.proofs.Common.{◌∙◌, sym, ap, arith, rules, ◌+◌, []}
 use Rattle.std.proofs.lemmas.List.{length-map}
-use Rattle.cert_lines.proofs.Composing.{none_so_far, one_more, none_said, one_more_said, all_said, each_error}
-use Rattle.cert_lines.proofs.Composing.{handed_on}
+use Rattle.cert_lines.proofs.TextParts.{none_so_far, one_more, none_said, one_more_said, all_said, each_error}
+use Rattle.cert_lines.proofs.TextParts.{handed_on}
 use Rattle.cert_lines.proofs.pattern.read_lines.Goals as goal
 
 pub loop-init : goal.loop-init

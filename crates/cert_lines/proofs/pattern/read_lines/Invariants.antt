@@ -1,7 +1,7 @@
 use Rattle.std.proofs.Common.{◌≡◌, vec_len}
 use Rattle.cert_lines.specs.Pattern.{AreSaid}
 use Rattle.cert_lines.specs.ReadingOn.{IsReadOn}
-use Rattle.cert_lines.proofs.Composing.{SoFar}
+use Rattle.cert_lines.proofs.TextParts.{SoFar}
 use Rattle.cert_lines.proofs.pattern.read_lines.Given as goal
 
 abbrev pub invariant-loop : goal.invariant-loop

@@ -2,7 +2,7 @@ use Rattle.std.proofs.Common.{◌≡◌, ◌∙◌, sym, ap, arith, get_or, true
 use Rattle.std.proofs.lemmas.Bool.Decides.{nat_tests}
 use Rattle.std.proofs.lemmas.List.{take_all, drop_all}
 use Rattle.line_io.specs.Lines.{is_digit, all_digits, value_of}
-use Rattle.cert_lines.specs.Reading.{greatest}
+use Rattle.cert_lines.specs.Words.{greatest}
 use Rattle.cert_lines.proofs.Parts.{digits_next, digits_stop, value_next, number_is, number_none, number_unplain}
 use Rattle.cert_lines.proofs.Parts.{digit_low, digit_high}
 use Rattle.cert_lines.proofs.words.number.Goals as goal

@@ -1,6 +1,6 @@
 use Rattle.std.proofs.Common.{◌≡◌, drop, take, min}
 use Rattle.line_io.specs.Lines.{all_digits, value_of}
-use Rattle.cert_lines.specs.Reading.{greatest}
+use Rattle.cert_lines.specs.Words.{greatest}
 use Rattle.cert_lines.proofs.words.number.Given as goal
 
 abbrev pub invariant-loop-b : goal.invariant-loop-b

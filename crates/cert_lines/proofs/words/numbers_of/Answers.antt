@@ -1,5 +1,5 @@
 use Rattle.std.proofs.Common.{◌∙◌, sym, ap, Some}
-use Rattle.cert_lines.specs.Reading.{numbers_in, pieces_at}
+use Rattle.cert_lines.specs.Words.{numbers_in, pieces_at}
 use Rattle.cert_lines.proofs.Lists.{behind, behind_none, split_shorter, piece_read, piece_fails, last_read, last_fails}
 use Rattle.cert_lines.proofs.words.numbers_of.Goals as goal
 

@@ -1,5 +1,5 @@
 use Rattle.std.proofs.Common.{◌≡◌, length}
-use Rattle.cert_lines.specs.Reading.{numbers_in, pieces_at}
+use Rattle.cert_lines.specs.Words.{numbers_in, pieces_at}
 use Rattle.cert_lines.proofs.Lists.{behind}
 use Rattle.cert_lines.proofs.words.numbers_of.Given as goal
 

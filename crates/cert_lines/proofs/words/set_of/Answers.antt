@@ -1,6 +1,6 @@
 use Rattle.std.proofs.Common.{◌≡◌, ◌∙◌, sym, ap, [], drop, ◌+◌, ◌/◌, length, eq-eqb}
 use Rattle.std.proofs.lemmas.List.{drop_all}
-use Rattle.cert_lines.specs.Reading.{are_digits, with_digits, with_digit, is_spare}
+use Rattle.cert_lines.specs.Words.{are_digits, with_digits, with_digit, is_spare}
 use Rattle.cert_lines.proofs.Parts.{not_equal}
 use Rattle.cert_lines.proofs.SetWords.{digits_more, digits_no_hex, digits_no_spare, digits_end, set_end, set_more}
 use Rattle.cert_lines.proofs.SetWords.{set_short, set_none, set_is}

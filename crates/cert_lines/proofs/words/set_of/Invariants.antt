@@ -1,5 +1,5 @@
 use Rattle.std.proofs.Common.{◌≡◌, drop, replicate, false}
-use Rattle.cert_lines.specs.Reading.{are_digits, with_digits}
+use Rattle.cert_lines.specs.Words.{are_digits, with_digits}
 use Rattle.cert_lines.proofs.words.set_of.Given as goal
 
 abbrev pub invariant-loop-k : goal.invariant-loop-k

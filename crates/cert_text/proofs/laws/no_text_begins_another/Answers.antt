@@ -1,4 +1,4 @@
-use Rattle.cert_text.proofs.Decoding.{begins_none}
+use Rattle.cert_text.proofs.LineTexts.{begins_none}
 use Rattle.cert_text.proofs.laws.no_text_begins_another.Goals as goal
 
 pub returns : goal.returns

@@ -2,7 +2,7 @@ use Rattle.std.proofs.Common.{ap, sym, map}
 use Rattle.std.specs.Prelude.{codes}
 use Rattle.cert_lines.specs.Rows.{line_text, rows_text, keyed}
 use Rattle.cert_lines.specs.ValueRows.{seat_row}
-use Rattle.cert_text.proofs.Putting.{puts_as, ◌▹◌}
+use Rattle.cert_text.proofs.PutTexts.{puts_as, ◌▹◌}
 use Rattle.cert_text.proofs.lines.put_bounds.Goals as goal
 
 pub returns : goal.returns

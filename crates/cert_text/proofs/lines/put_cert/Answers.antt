@@ -2,7 +2,7 @@ use Rattle.std.proofs.Common.{ap, sym}
 use Rattle.std.specs.Prelude.{codes}
 use Rattle.cert_lines.specs.Rows.{line_text, keyed, row_text}
 use Rattle.cert_text.specs.Cert.{cert_rows}
-use Rattle.cert_text.proofs.Putting.{puts_as, ◌▹◌}
+use Rattle.cert_text.proofs.PutTexts.{puts_as, ◌▹◌}
 use Rattle.cert_text.proofs.lines.put_cert.Goals as goal
 
 pub returns : goal.returns

@@ -3,8 +3,8 @@ use Rattle.cert_lines.specs.Numbers.{cites_text}
 use Rattle.cert_lines.specs.Rows.{line_text}
 use Rattle.cert_lines.specs.ValueRows.{why_row}
 use Rattle.std.proofs.Common.{Some}
-use Rattle.cert_text.proofs.Putting.{puts_as, ◌▹◌}
-use Rattle.cert_text.proofs.Spelling.{bound_spelled, branch_spelled, swap_spelled}
+use Rattle.cert_text.proofs.PutTexts.{puts_as, ◌▹◌}
+use Rattle.cert_text.proofs.PutLines.{bound_spelled, branch_spelled, swap_spelled}
 use Rattle.cert_text.proofs.lines.put_entry.Goals as goal
 
 pub returns-in-Bound : goal.returns-in-Bound

@@ -1,7 +1,7 @@
 use Rattle.std.proofs.Common.{ap, sym}
 use Rattle.cert_lines.specs.Numbers.{cites_text}
-use Rattle.cert_text.proofs.Putting.{puts_as, ◌▹◌, number_as}
-use Rattle.cert_text.proofs.Spelling.{frame_spelled}
+use Rattle.cert_text.proofs.PutTexts.{puts_as, ◌▹◌, number_as}
+use Rattle.cert_text.proofs.PutLines.{frame_spelled}
 use Rattle.cert_text.proofs.lines.put_frame.Goals as goal
 
 pub returns : goal.returns

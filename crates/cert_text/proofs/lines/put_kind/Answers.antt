@@ -1,7 +1,7 @@
 use Rattle.std.proofs.Common.{ap}
 use Rattle.cert_lines.specs.Rows.{row_text, line_text}
 use Rattle.cert_lines.specs.ValueRows.{kind_row}
-use Rattle.cert_text.proofs.Putting.{puts_as}
+use Rattle.cert_text.proofs.PutTexts.{puts_as}
 use Rattle.cert_text.proofs.lines.put_kind.Goals as goal
 
 pub returns-in-Straight : goal.returns-in-Straight

@@ -1,6 +1,6 @@
 use Rattle.std.proofs.Common.{refl, append_assoc, ap, sym}
 use Rattle.cert_lines.specs.Numbers.{number_text}
-use Rattle.cert_text.proofs.Putting.{puts, puts_as}
+use Rattle.cert_text.proofs.PutTexts.{puts, puts_as}
 use Rattle.cert_text.proofs.lines.put_question.Goals as goal
 
 pub returns : goal.returns

@@ -4,7 +4,7 @@ use Rattle.cert_lines.specs.Numbers.{number_text}
 use Rattle.cert_lines.specs.Rows.{row_text, line_text, seat}
 use Rattle.cert_lines.specs.ValueRows.{seat_row}
 use Rattle.line_rules.specs.declared.types.LineKind.TheVariants.{U}
-use Rattle.cert_text.proofs.Putting.{puts, puts_as}
+use Rattle.cert_text.proofs.PutTexts.{puts, puts_as}
 use Rattle.cert_text.proofs.lines.put_seat.Goals as goal
 
 pub returns-in-Straight : goal.returns-in-Straight

@@ -1,7 +1,7 @@
 use Rattle.std.proofs.Common.{refl}
 use Rattle.cert_lines.specs.ValueRows.{seat_row}
-use Rattle.cert_text.proofs.Putting.{puts, puts_as}
-use Rattle.cert_text.proofs.Spelling.{next_line, all_lines}
+use Rattle.cert_text.proofs.PutTexts.{puts, puts_as}
+use Rattle.cert_text.proofs.PutLines.{next_line, all_lines}
 use Rattle.cert_text.proofs.lines.put_seats.Goals as goal
 
 pub loop-place-preserved : goal.loop-place-preserved

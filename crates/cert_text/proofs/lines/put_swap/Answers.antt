@@ -1,5 +1,5 @@
 use Rattle.std.proofs.Common.{suc, arith, append_assoc}
-use Rattle.cert_text.proofs.Putting.{puts_as, ◌▹◌, number_as}
+use Rattle.cert_text.proofs.PutTexts.{puts_as, ◌▹◌, number_as}
 use Rattle.cert_text.proofs.lines.put_swap.Goals as goal
 
 pub returns : goal.returns

@@ -2,8 +2,8 @@ use Rattle.std.proofs.Common.{ap, sym, ◌∙◌, ◌++◌, [], length, map}
 use Rattle.cert_lines.specs.Rows.{rows_text}
 use Rattle.cert_lines.specs.ValueRows.{frame_row}
 use Rattle.cert_text.specs.Cert.{trail_rows}
-use Rattle.cert_text.proofs.Putting.{puts, puts_as, ◌▹◌, number_as}
-use Rattle.cert_text.proofs.Spelling.{next_line, all_lines, no_trail_spelled, trail_spelled}
+use Rattle.cert_text.proofs.PutTexts.{puts, puts_as, ◌▹◌, number_as}
+use Rattle.cert_text.proofs.PutLines.{next_line, all_lines, no_trail_spelled, trail_spelled}
 use Rattle.cert_text.proofs.lines.put_trail.Goals as goal
 
 pub returns-in_default : goal.returns-in_default

@@ -1,5 +1,5 @@
 use Rattle.cert_lines.proofs.Digits.{number_small, number_more}
-use Rattle.cert_text.proofs.Putting.{puts, puts_as}
+use Rattle.cert_text.proofs.PutTexts.{puts, puts_as}
 use Rattle.cert_text.proofs.writing.+put_number.Goals as goal
 
 pub returns-then-n-lt10 : goal.returns-then-n-lt10

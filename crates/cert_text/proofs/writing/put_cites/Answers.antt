@@ -3,7 +3,7 @@ use Rattle.std.specs.List.{flat_map}
 use Rattle.std.specs.Prelude.{slice_get, Some}
 use Rattle.std.proofs.lemmas.List.{take_all}
 use Rattle.cert_lines.specs.Numbers.{number_text, cites_text}
-use Rattle.cert_text.proofs.Putting.{nothing, puts, next_text}
+use Rattle.cert_text.proofs.PutTexts.{nothing, puts, next_text}
 use Rattle.cert_text.proofs.writing.put_cites.Goals as goal
 
 pub loop-cite-init : goal.loop-cite-init

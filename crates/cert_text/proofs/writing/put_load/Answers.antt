@@ -1,6 +1,6 @@
 use Rattle.std.proofs.Common.{refl, ap}
 use Rattle.cert_lines.specs.Numbers.{load_text}
-use Rattle.cert_text.proofs.Putting.{puts, puts_as}
+use Rattle.cert_text.proofs.PutTexts.{puts, puts_as}
 use Rattle.cert_text.proofs.writing.put_load.Goals as goal
 
 pub returns-in-Both : goal.returns-in-Both

@@ -2,7 +2,7 @@ use Rattle.std.proofs.Common.{◌≡◌, ℕ, ◌+◌, ◌/◌, [], ◌∷◌, a
 use Rattle.std.specs.List.{range_with_len}
 use Rattle.std.proofs.lemmas.List.FromFn.{map-range_with_len_more}
 use Rattle.cert_lines.specs.Numbers.{set_text, hex_digit, four}
-use Rattle.cert_text.proofs.Putting.{nothing, puts, puts_as}
+use Rattle.cert_text.proofs.PutTexts.{nothing, puts, puts_as}
 use Rattle.cert_text.proofs.writing.put_set.Goals as goal
 
 pub loop-k-init : goal.loop-k-init

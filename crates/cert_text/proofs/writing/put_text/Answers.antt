@@ -1,6 +1,6 @@
 use Rattle.std.proofs.Common.{arith, sym}
 use Rattle.std.proofs.lemmas.List.{take_more, take_all}
-use Rattle.cert_text.proofs.Putting.{nothing, puts, puts_as}
+use Rattle.cert_text.proofs.PutTexts.{nothing, puts, puts_as}
 use Rattle.cert_text.proofs.writing.put_text.Goals as goal
 
 pub loop-byte-init : goal.loop-byte-init

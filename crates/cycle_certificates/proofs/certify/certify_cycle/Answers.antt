@@ -2,9 +2,9 @@ use Rattle.std.proofs.Common.{ℕ, ◌-◌, ◌<◌, sym, subst}
 use Rattle.task_set.specs.Truths.{full_to}
 use Rattle.line_rules.specs.Entries.{HasAnswer}
 use Rattle.line_rules.specs.declared.types.Certificate.{Certificate}
-use Rattle.cert_files.proofs.Trimmed.{derived_earlier}
+use Rattle.cert_files.proofs.TrimFacts.{derived_earlier}
 use Rattle.cycle_certificates.specs.CycleCertified.{IsOptimum}
-use Rattle.cycle_certificates.proofs.Certifying.{optimum, shown_goal}
+use Rattle.cycle_certificates.proofs.CertificateFacts.{optimum, shown_goal}
 use Rattle.cycle_certificates.proofs.certify.certify_cycle.Goals as goal
 
 pub proof_of-requires-clause-goal : goal.proof_of-requires-clause-goal

@@ -1,7 +1,7 @@
 use Rattle.std.proofs.Common.{sym, subst}
 use Rattle.line_rules.specs.declared.types.Certificate.{Certificate}
 use Rattle.cycle_certificates.specs.CycleCertified.{IsStop}
-use Rattle.cycle_certificates.proofs.Certifying.{stop}
+use Rattle.cycle_certificates.proofs.CertificateFacts.{stop}
 use Rattle.cycle_certificates.proofs.certify.certify_cycle_stop.Goals as goal
 
 pub returns : goal.returns

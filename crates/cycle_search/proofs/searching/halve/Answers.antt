@@ -1,6 +1,6 @@
 use Rattle.cycle_search.specs.inner.Searching.{IsTried, IsStuck}
 use Rattle.cycle_search.specs.declared.trying.Tried.{Tried}
-use Rattle.cycle_search.proofs.Reopening.{stuck_cites}
+use Rattle.cycle_search.proofs.ReopenFacts.{stuck_cites}
 use Rattle.cycle_search.proofs.searching.halve.Goals as goal
 use Rattle.std.proofs.Common.{subst}
 

@@ -1,6 +1,6 @@
 use Rattle.std.proofs.Common.{length, List, ap, arith}
 use Rattle.line_rules.specs.declared.types.Entry.{Entry}
-use Rattle.cycle_search.proofs.Reopening.{have_cites}
+use Rattle.cycle_search.proofs.ReopenFacts.{have_cites}
 use Rattle.cycle_search.proofs.Results.{solved_is}
 use Rattle.cycle_search.proofs.searching.solved.Goals as goal
 

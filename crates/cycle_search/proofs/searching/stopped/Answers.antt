@@ -5,7 +5,7 @@ use Rattle.cert_lines.specs.Lift.{lifted_frame}
 use Rattle.cycle_search.specs.inner.Joined.{behind, HaveFrameCites}
 use Rattle.cycle_search.specs.Outcomes.{Searches}
 use Rattle.cycle_search.specs.declared.searching.CycleOutcome.TheVariants as outcome
-use Rattle.cycle_search.proofs.Reopening.{have_cites}
+use Rattle.cycle_search.proofs.ReopenFacts.{have_cites}
 use Rattle.cycle_search.proofs.Results.{searches}
 use Rattle.cycle_search.proofs.searching.stopped.Goals as goal
 

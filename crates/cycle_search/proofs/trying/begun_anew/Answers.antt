@@ -1,6 +1,6 @@
 use Rattle.std.proofs.Common.{arith}
-use Rattle.cert_files.proofs.Trimmed.{derived_earlier}
-use Rattle.cycle_search.proofs.Reopening.{anew_asking, book_kept}
+use Rattle.cert_files.proofs.TrimFacts.{derived_earlier}
+use Rattle.cycle_search.proofs.ReopenFacts.{anew_asking, book_kept}
 use Rattle.cycle_search.proofs.trying.begun_anew.Goals as goal
 
 pub kept_proof-requires-clause-earlier : goal.kept_proof-requires-clause-earlier

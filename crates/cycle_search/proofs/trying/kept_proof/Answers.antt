@@ -1,6 +1,6 @@
 use Rattle.std.proofs.Common.{length, sym, ◌∙◌, arith}
 use Rattle.std.proofs.lemmas.Bool.{eqb-true}
-use Rattle.cycle_search.proofs.Reopening.{kept_trimmed}
+use Rattle.cycle_search.proofs.ReopenFacts.{kept_trimmed}
 use Rattle.cycle_search.proofs.trying.kept_proof.Goals as goal
 
 pub returns : goal.returns

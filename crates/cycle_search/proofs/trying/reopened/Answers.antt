@@ -1,5 +1,5 @@
 use Rattle.std.proofs.Common.{arith}
-use Rattle.cycle_search.proofs.Reopening.{again_asking}
+use Rattle.cycle_search.proofs.ReopenFacts.{again_asking}
 use Rattle.cycle_search.proofs.trying.reopened.Goals as goal
 
 pub returns-clause-asking : goal.returns-clause-asking

@@ -1,6 +1,6 @@
 use Rattle.std.proofs.Common.{refl, append_assoc}
 use Rattle.cert_lines.specs.Rows.{row_text}
-use Rattle.cert_text.proofs.Putting.{puts}
+use Rattle.cert_text.proofs.PutTexts.{puts}
 use Rattle.effic_cert.proofs.writing.put_bound.Goals as goal
 
 pub returns : goal.returns

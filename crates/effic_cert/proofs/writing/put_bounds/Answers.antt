@@ -1,4 +1,4 @@
-use Rattle.cert_text.proofs.Putting.{puts_as, ◌▹◌}
+use Rattle.cert_text.proofs.PutTexts.{puts_as, ◌▹◌}
 use Rattle.std.proofs.lemmas.List.{append-nil}
 use Rattle.effic_cert.proofs.writing.put_bounds.Goals as goal
 

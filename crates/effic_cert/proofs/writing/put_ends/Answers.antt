@@ -1,7 +1,7 @@
 use Rattle.std.proofs.Common.{append_assoc}
 use Rattle.cert_lines.specs.Rows.{row_text}
-use Rattle.cert_text.proofs.Putting.{number_as, ◌▹◌}
-use Rattle.cert_text.proofs.Putting.{puts_as}
+use Rattle.cert_text.proofs.PutTexts.{number_as, ◌▹◌}
+use Rattle.cert_text.proofs.PutTexts.{puts_as}
 use Rattle.effic_cert.proofs.writing.put_ends.Goals as goal
 
 pub returns : goal.returns

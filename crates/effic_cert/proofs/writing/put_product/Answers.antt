@@ -2,8 +2,8 @@ use Rattle.std.proofs.Common.{◌∙◌, ◌++◌, ◌∷◌, [], ap}
 use Rattle.std.specs.Prelude.{codes}
 use Rattle.cert_lines.specs.Rows.{rows_text, fixed, row_text}
 use Rattle.cert_text.specs.Cert.{list_rows}
-use Rattle.cert_text.proofs.Putting.{puts_as, ◌▹◌}
-use Rattle.cert_text.proofs.Spelling.{rows_append}
+use Rattle.cert_text.proofs.PutTexts.{puts_as, ◌▹◌}
+use Rattle.cert_text.proofs.PutLines.{rows_append}
 use Rattle.effic_cert.specs.Product.{asked_rows, bound_rows, balance_rows, product_rows}
 use Rattle.effic_cert.proofs.writing.put_product.Goals as goal
 

@@ -1,5 +1,5 @@
-use Rattle.effic_check.proofs.Rejected.{accepted_so, rejected_so}
-use Rattle.effic_check.proofs.Proved.{true_of}
+use Rattle.effic_check.proofs.RefusalFacts.{accepted_so, rejected_so}
+use Rattle.effic_check.proofs.AcceptedIsTrue.{true_of}
 use Rattle.std.proofs.Common.{inr, arith}
 use Rattle.effic_check.proofs.checking.verify_effic.Goals as goal
 

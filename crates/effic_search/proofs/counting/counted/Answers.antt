@@ -2,7 +2,7 @@ use Rattle.std.proofs.Common.{◌+◌, List, take, drop, subst, arith}
 use Rattle.std.proofs.lemmas.List.{take-append-drop, length-take}
 use Rattle.line_rules.specs.Entries.{Follows}
 use Rattle.line_rules.specs.declared.types.Entry.{Entry}
-use Rattle.line_rules.proofs.Grown.{follows_longer}
+use Rattle.line_rules.proofs.LongerLists.{follows_longer}
 use Rattle.effic_search.proofs.CountFacts.{other_few, others_few, counted_next, left_next, some_units}
 use Rattle.effic_search.proofs.counting.counted.Goals as goal
 

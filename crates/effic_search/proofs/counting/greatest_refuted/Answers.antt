@@ -4,7 +4,7 @@ use Rattle.std.proofs.lemmas.Bool.{cases_eq, false≢true}
 use Rattle.line_rules.specs.Balance.{all_tasks}
 use Rattle.line_rules.specs.Entries.{HasAnswer}
 use Rattle.line_rules.specs.declared.types.Entry.{Entry}
-use Rattle.line_rules.proofs.Sound.{get_within}
+use Rattle.line_rules.proofs.LemmasHold.{get_within}
 use Rattle.task_set.specs.inner.Words.{equal_sets}
 use Rattle.effic_search.proofs.counting.greatest_refuted.Goals as goal
 use Rattle.effic_search.proofs.counting.greatest_refuted.Goals.{then-eq, else-eq}

@@ -2,7 +2,7 @@ use Rattle.std.proofs.Common.{◌≡◌, ◌∙◌, ℕ, sym, ap, inl, inr, arit
 use Rattle.std.specs.Prelude.{slice_get}
 use Rattle.std.proofs.lemmas.Bool.{cases_eq, false≢true}
 use Rattle.line_rules.specs.declared.types.Entry.{Entry}
-use Rattle.line_rules.proofs.Sound.{get_within}
+use Rattle.line_rules.proofs.LemmasHold.{get_within}
 use Rattle.task_set.specs.inner.Words.{equal_sets}
 use Rattle.effic_search.proofs.counting.has_all_from.Goals as goal
 

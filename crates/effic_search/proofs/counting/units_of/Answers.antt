@@ -1,7 +1,7 @@
 use Rattle.std.proofs.Common.{◌<◌, subst, inl, inr, arith}
 use Rattle.line_check.specs.Faults.{IsChecked}
 use Rattle.line_check.specs.declared.types.EntryChecked.{EntryChecked}
-use Rattle.line_check.proofs.Spending.{ends_more}
+use Rattle.line_check.proofs.UnitFacts.{ends_more}
 use Rattle.effic_search.proofs.counting.units_of.Goals as goal
 
 pub unreachable-requires : goal.unreachable-requires

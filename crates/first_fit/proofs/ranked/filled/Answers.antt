@@ -7,8 +7,9 @@ use Rattle.line_rules.specs.declared.types.Seatplace.{Seatplace}
 use Rattle.first_fit.specs.declared.filling.Filling.{Filling as Filled}
 use Rattle.first_fit.specs.inner.Filling.{joined}
 use Rattle.first_fit.proofs.Fills.{IsFilling, one_more}
-use Rattle.first_fit.proofs.Steps.{at_start, station_small, used, further, flag_falls, finished, work, work_joins}
-use Rattle.first_fit.proofs.Steps.{work_goes_on}
+use Rattle.first_fit.proofs.StationSteps.{at_start, station_small, used, further, flag_falls, finished, work}
+use Rattle.first_fit.proofs.StationSteps.{work_joins}
+use Rattle.first_fit.proofs.StationSteps.{work_goes_on}
 use Rattle.first_fit.proofs.ranked.filled.Goals as goal
 
 pub filling-init : goal.filling-init

@@ -1,5 +1,5 @@
 use Rattle.first_fit.proofs.Fills.{IsFilling}
-use Rattle.first_fit.proofs.Steps.{work}
+use Rattle.first_fit.proofs.StationSteps.{work}
 use Rattle.first_fit.proofs.ranked.filled.Given as goal
 
 abbrev pub decreases-filling : goal.decreases-filling

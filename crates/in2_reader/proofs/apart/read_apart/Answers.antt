@@ -1,4 +1,4 @@
-use Rattle.in2_reader.proofs.Aparting.{pairs_said, apart_not_read, fault_has_no_pairs}
+use Rattle.in2_reader.proofs.ApartFacts.{pairs_said, apart_not_read, fault_has_no_pairs}
 use Rattle.in2_reader.proofs.apart.read_apart.Goals as goal
 
 pub returns-in-Ok-clause-read : goal.returns-in-Ok-clause-read

@@ -1,6 +1,6 @@
 use Rattle.std.proofs.Common.{arith, subst, ℕ}
 use Rattle.in2_reader.specs.Written.{AreCoversTo}
-use Rattle.in2_reader.proofs.Collecting.{row_collected}
+use Rattle.in2_reader.proofs.CollectedPairs.{row_collected}
 use Rattle.in2_reader.proofs.writing.push_covers.Goals as goal
 
 pub returns : goal.returns

@@ -1,4 +1,4 @@
-use Rattle.line_check.proofs.Rejecting.{shown_where}
+use Rattle.line_check.proofs.RefusalFacts.{shown_where}
 use Rattle.line_check.proofs.checking.is_shown.Goals as goal
 
 pub returns : goal.returns

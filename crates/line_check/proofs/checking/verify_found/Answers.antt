@@ -1,5 +1,5 @@
 use Rattle.line_check.proofs.VerdictFacts.{accepted_so, true_of}
-use Rattle.line_check.proofs.Excluding.{rejected_so}
+use Rattle.line_check.proofs.RuledOut.{rejected_so}
 use Rattle.line_check.proofs.checking.verify_found.Goals as goal
 
 pub returns-clause-accepted : goal.returns-clause-accepted

@@ -1,4 +1,4 @@
-use Rattle.line_check.proofs.Excluding.{list_rejected}
+use Rattle.line_check.proofs.RuledOut.{list_rejected}
 use Rattle.line_check.proofs.checking.verify_list_found.Goals as goal
 
 pub returns-clause-rejected : goal.returns-clause-rejected

@@ -4,7 +4,7 @@ use Rattle.line_rules.specs.Units.{UnitsBy}
 use Rattle.line_rules.specs.Entries.{FollowsBy}
 use Rattle.line_rules.specs.declared.types.Why.{Why}
 use Rattle.line_check.specs.Faults.{IsReady}
-use Rattle.line_check.proofs.Entering.{some_task, ready_of, late_of}
+use Rattle.line_check.proofs.EntryFaults.{some_task, ready_of, late_of}
 use Rattle.line_check.proofs.entries.check_branch.Goals as goal
 
 pub returns-in-Some : goal.returns-in-Some

@@ -4,7 +4,7 @@ use Rattle.line_rules.specs.Units.{UnitsBy}
 use Rattle.line_rules.specs.Entries.{FollowsBy}
 use Rattle.line_rules.specs.declared.types.Why.{Why}
 use Rattle.line_check.proofs.Exact.{get_taken_of}
-use Rattle.line_check.proofs.Entering.{swapped, swap_of}
+use Rattle.line_check.proofs.EntryFaults.{swapped, swap_of}
 use Rattle.line_check.proofs.entries.check_swap.Goals as goal
 
 pub returns-then-cite-k : goal.returns-then-cite-k

@@ -2,7 +2,7 @@ use Rattle.std.proofs.Common.{◌≡◌, List, take, arith, subst}
 use Rattle.std.proofs.lemmas.List.{take_all}
 use Rattle.line_rules.specs.declared.types.Entry.{Entry}
 use Rattle.line_check.specs.Faults.{Fails}
-use Rattle.line_check.proofs.Entering.{not_follows}
+use Rattle.line_check.proofs.EntryFaults.{not_follows}
 use Rattle.line_check.proofs.entries.verify_entry.Goals as goal
 
 pub returns-in-Fails : goal.returns-in-Fails

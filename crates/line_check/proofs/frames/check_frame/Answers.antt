@@ -1,5 +1,5 @@
 use Rattle.std.proofs.Common.{ℕ, ◌+◌, nat_eq, refl, subst, arith}
-use Rattle.line_rules.proofs.Sound.{get_within}
+use Rattle.line_rules.proofs.LemmasHold.{get_within}
 use Rattle.line_check.specs.Walks.{AreBelow, IsUncovered, CountsTo}
 use Rattle.line_check.specs.Frames.{EndsWell, WalksTo, NeedsTo}
 use Rattle.line_check.proofs.frames.check_frame.Goals as goal

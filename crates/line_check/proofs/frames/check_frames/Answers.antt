@@ -1,5 +1,5 @@
 use Rattle.std.proofs.Common.{arith, length}
-use Rattle.line_check.proofs.Framing.{frames_more, all_frames}
+use Rattle.line_check.proofs.FrameFacts.{frames_more, all_frames}
 use Rattle.line_check.proofs.frames.check_frames.Goals as goal
 
 pub check_frame-requires-clause-range : goal.check_frame-requires-clause-range

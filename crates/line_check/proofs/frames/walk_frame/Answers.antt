@@ -1,4 +1,4 @@
-use Rattle.line_check.proofs.Reaching.{none_told, some_told, end_load}
+use Rattle.line_check.proofs.PartWalks.{none_told, some_told, end_load}
 use Rattle.line_check.proofs.frames.walk_frame.Goals as goal
 
 pub returns-in-None : goal.returns-in-None

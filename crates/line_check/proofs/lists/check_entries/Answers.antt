@@ -1,5 +1,5 @@
 use Rattle.std.proofs.Common.{arith}
-use Rattle.line_check.proofs.Listed.{right_more, all_right}
+use Rattle.line_check.proofs.ListFacts.{right_more, all_right}
 use Rattle.line_check.proofs.lists.check_entries.Goals as goal
 
 pub check_entry-requires-clause-set : goal.check_entry-requires-clause-set

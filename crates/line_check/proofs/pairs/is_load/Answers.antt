@@ -6,7 +6,7 @@ use Rattle.line_instance.specs.Line.{IsTaskSet, has}
 use Rattle.line_instance.specs.Sums.{sum_where}
 use Rattle.line_rules.specs.Loads.{taken}
 use Rattle.load_facts.proofs.SideFacts.{taken_set}
-use Rattle.line_check.proofs.Entering.{some_task}
+use Rattle.line_check.proofs.EntryFaults.{some_task}
 use Rattle.line_check.proofs.pairs.is_load.Goals as goal
 
 pub sum-requires : goal.sum-requires

@@ -4,8 +4,8 @@ use Rattle.line_rules.specs.Entries.{IsOpen}
 use Rattle.line_rules.specs.declared.types.Load.{Load}
 use Rattle.line_check.specs.Walks.{IsUncovered, CountsTo}
 use Rattle.check_loads.specs.Standing.{stand, last_of}
-use Rattle.check_loads.proofs.Stepping.{last_given, none_given}
-use Rattle.line_check.proofs.Walking.{IsWalking, walk_starts, walk_takes, walk_fails, walk_past, walk_told}
+use Rattle.check_loads.proofs.StepFacts.{last_given, none_given}
+use Rattle.line_check.proofs.WalkFacts.{IsWalking, walk_starts, walk_takes, walk_fails, walk_past, walk_told}
 use Rattle.line_check.proofs.walks.walk_all.Goals as goal
 
 pub loads-init : goal.loads-init

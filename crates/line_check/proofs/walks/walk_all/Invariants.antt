@@ -1,6 +1,6 @@
 use Rattle.std.proofs.Common.{◌≤◌, ◌-◌, take}
 use Rattle.check_loads.specs.Standing.{IsWalk, last_of}
-use Rattle.line_check.proofs.Walking.{IsWalking}
+use Rattle.line_check.proofs.WalkFacts.{IsWalking}
 use Rattle.line_check.proofs.walks.walk_all.Given as goal
 
 abbrev pub invariant-loads : goal.invariant-loads

@@ -10,9 +10,9 @@ use Rattle.line_check.specs.Walks.{IsUncovered, CountsTo}
 use Rattle.line_check.specs.Reaches.{IsMatched}
 use Rattle.line_check.specs.inner.Steps.{IsLacking, Takes}
 use Rattle.check_loads.specs.Standing.{stand, last_of}
-use Rattle.check_loads.proofs.Stepping.{last_given, none_given}
-use Rattle.line_check.proofs.Walking.{IsWalking, walk_starts, walk_takes}
-use Rattle.line_check.proofs.Reaching.{reach_past, reach_fails, reach_before, reach_end, goes_on}
+use Rattle.check_loads.proofs.StepFacts.{last_given, none_given}
+use Rattle.line_check.proofs.WalkFacts.{IsWalking, walk_starts, walk_takes}
+use Rattle.line_check.proofs.PartWalks.{reach_past, reach_fails, reach_before, reach_end, goes_on}
 use Rattle.line_check.proofs.walks.walk_to.Goals as goal
 use Rattle.line_check.proofs.walks.walk_to.Goals.{else-ends-via-then-ends+else-not-deepest, else-ends-via-else-ends}
 

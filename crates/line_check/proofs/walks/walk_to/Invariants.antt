@@ -1,7 +1,7 @@
 use Rattle.std.proofs.Common.{◌≤◌, ◌-◌}
 use Rattle.line_rules.specs.Order.{After}
 use Rattle.check_loads.specs.Standing.{IsWalk, last_of}
-use Rattle.line_check.proofs.Walking.{IsWalking}
+use Rattle.line_check.proofs.WalkFacts.{IsWalking}
 use Rattle.line_check.proofs.walks.walk_to.Given as goal
 
 abbrev pub invariant-loads : goal.invariant-loads

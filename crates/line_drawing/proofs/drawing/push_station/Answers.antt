@@ -6,7 +6,7 @@ use Rattle.line_drawing.specs.Segments.{end_of, segments_at, tasks_at}
 use Rattle.line_drawing.specs.Notes.{note_of}
 use Rattle.line_drawing.specs.Figures.{sum_at}
 use Rattle.line_drawing.specs.Rows.{row_text}
-use Rattle.line_drawing.proofs.Listed.{both_sides}
+use Rattle.line_drawing.proofs.ListedTasks.{both_sides}
 use Rattle.line_drawing.proofs.SegmentFacts.{all_within}
 use Rattle.line_drawing.proofs.drawing.push_station.Goals as goal
 

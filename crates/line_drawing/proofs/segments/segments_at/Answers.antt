@@ -1,6 +1,6 @@
 use Rattle.std.proofs.Common.{◌∙◌, ◌≤◌, ℕ, List, sym, subst}
 use Rattle.line_drawing.specs.Segments.{times_of}
-use Rattle.line_drawing.proofs.Listed.{back_fits, front_fits}
+use Rattle.line_drawing.proofs.ListedTasks.{back_fits, front_fits}
 use Rattle.line_drawing.proofs.segments.segments_at.Goals as goal
 
 pub push_fronts-requires-clause-fits : goal.push_fronts-requires-clause-fits

@@ -2,9 +2,9 @@ use Rattle.std.proofs.Common.{◌≡◌, ◌∙◌, ◌<◌, ℕ, List, ap, sym,
 use Rattle.std.specs.Prelude.{All}
 use Rattle.line_instance.specs.Line.{tasks}
 use Rattle.line_rules.specs.Balance.{seat}
-use Rattle.line_rules.proofs.Reading.{seat_read}
+use Rattle.line_rules.proofs.ReadPlaces.{seat_read}
 use Rattle.line_drawing.specs.Segments.{stands, tasks_at}
-use Rattle.line_drawing.proofs.Listed.{all_found, filter_turn, tasks_within}
+use Rattle.line_drawing.proofs.ListedTasks.{all_found, filter_turn, tasks_within}
 use Rattle.line_drawing.proofs.segments.tasks_at.Goals as goal
 
 pub loop-rank-preserved : goal.loop-rank-preserved

@@ -3,9 +3,9 @@ use Rattle.line_instance.specs.inner.Inside.{AreRows, AreJoined, AreTurned, AreR
 use Rattle.line_instance.specs.inner.Inside.{IsPermutation, LeadsIn, of_rows}
 use Rattle.line_instance.specs.Walks.{IsRingOf}
 use Rattle.line_instance.specs.declared.partners.Kept.{Kept}
-use Rattle.line_instance.proofs.Joining.{empty_ones}
-use Rattle.line_instance.proofs.Marking.{permutation}
-use Rattle.line_instance.proofs.Sound.{sound, instance_is, arcs_ring, before_rows}
+use Rattle.line_instance.proofs.JoinedRows.{empty_ones}
+use Rattle.line_instance.proofs.MarkedRows.{permutation}
+use Rattle.line_instance.proofs.InstanceFacts.{sound, instance_is, arcs_ring, before_rows}
 use Rattle.line_instance.proofs.making.made_of.Goals as goal
 
 pub returns-in-Stuck : goal.returns-in-Stuck

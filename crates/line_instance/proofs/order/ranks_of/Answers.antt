@@ -1,5 +1,5 @@
 use Rattle.std.proofs.Common.{◌≡◌, ℕ, length, arith, subst}
-use Rattle.line_instance.proofs.Marking.{IsRanking, all_ranked}
+use Rattle.line_instance.proofs.MarkedRows.{IsRanking, all_ranked}
 use Rattle.line_instance.proofs.order.ranks_of.Goals as goal
 
 pub returns : goal.returns

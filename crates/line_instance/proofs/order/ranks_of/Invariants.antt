@@ -1,4 +1,4 @@
-use Rattle.line_instance.proofs.Marking.{IsRanking}
+use Rattle.line_instance.proofs.MarkedRows.{IsRanking}
 use Rattle.line_instance.proofs.order.ranks_of.Given as goal
 
 abbrev pub invariant-loop-k : goal.invariant-loop-k

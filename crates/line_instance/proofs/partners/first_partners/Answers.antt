@@ -2,7 +2,7 @@ use Rattle.std.proofs.Common.{◌≡◌, ◌+◌, ◌∙◌, ℕ, arith, subst, 
 use Rattle.std.proofs.lemmas.Bool.{false≢true}
 use Rattle.line_instance.specs.inner.Inside.{of_rows}
 use Rattle.line_instance.specs.declared.partners.Kept.{Kept}
-use Rattle.line_instance.proofs.Keeping.{IsKeeping, one_kept, same_kept, all_kept}
+use Rattle.line_instance.proofs.KeptPartners.{IsKeeping, one_kept, same_kept, all_kept}
 use Rattle.line_instance.proofs.partners.first_partners.Goals as goal
 use Rattle.line_instance.proofs.partners.first_partners.Goals.{then-kept-lt-MAX_KEPT+then-is_partner}
 use Rattle.line_instance.proofs.partners.first_partners.Goals.{else-kept-lt-MAX_KEPT}

@@ -1,5 +1,5 @@
 use Rattle.line_instance.specs.inner.Inside.{of_rows}
-use Rattle.line_instance.proofs.Keeping.{IsKeeping}
+use Rattle.line_instance.proofs.KeptPartners.{IsKeeping}
 use Rattle.line_instance.proofs.partners.first_partners.Given as goal
 
 abbrev pub invariant-loop-j : goal.invariant-loop-j

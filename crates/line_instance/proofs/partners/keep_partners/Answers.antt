@@ -1,6 +1,6 @@
 use Rattle.std.proofs.Common.{◌≡◌, ℕ, arith, subst, length}
 use Rattle.line_instance.specs.inner.Inside.{of_rows}
-use Rattle.line_instance.proofs.Keeping.{IsTabling, one_tabled, all_tabled}
+use Rattle.line_instance.proofs.KeptPartners.{IsTabling, one_tabled, all_tabled}
 use Rattle.line_instance.proofs.partners.keep_partners.Goals as goal
 
 pub loop-i-preserved : goal.loop-i-preserved

@@ -3,7 +3,7 @@ use Rattle.std.proofs.lemmas.List.{get_or_read}
 use Rattle.task_set.specs.Truths.{In, minus, IsEmpty, IsLeast}
 use Rattle.task_set.proofs.Members.{In-minus_parts}
 use Rattle.line_instance.specs.inner.Inside.{LeadsIn}
-use Rattle.line_instance.proofs.Turning.{none_left}
+use Rattle.line_instance.proofs.RingFacts.{none_left}
 use Rattle.line_instance.proofs.rings.left_before.Goals as goal
 
 row : (direct : List (List Bool)) (task : ℕ) (placed r m : List Bool) → task < length direct → r ≡ get_or direct task r

@@ -1,7 +1,7 @@
 use Rattle.std.proofs.Common.{◌≡◌, ◌+◌, ℕ, List, Bool, ◌<◌, ◌≤◌, length, subst, arith}
 use Rattle.line_instance.specs.Walks.{at}
 use Rattle.line_instance.specs.inner.Inside.{IsAppended}
-use Rattle.line_instance.proofs.Turning.{ring_is}
+use Rattle.line_instance.proofs.RingFacts.{ring_is}
 use Rattle.line_instance.proofs.rings.ring_of.Goals as goal
 
 pub returns : goal.returns

@@ -1,5 +1,5 @@
 use Rattle.std.proofs.Common.{ℕ, List, Bool, false, true, set, replicate, sym, subst}
-use Rattle.line_instance.proofs.Turning.{IsWalking, none_walked, one_walked, one_seen}
+use Rattle.line_instance.proofs.RingFacts.{IsWalking, none_walked, one_walked, one_seen}
 use Rattle.line_instance.proofs.rings.walk_back.Goals as goal
 
 pub back-init : goal.back-init

@@ -1,6 +1,6 @@
 use Rattle.std.proofs.Common.{◌-◌}
 use Rattle.line_instance.proofs.Orders.{size}
-use Rattle.line_instance.proofs.Turning.{IsWalking}
+use Rattle.line_instance.proofs.RingFacts.{IsWalking}
 use Rattle.line_instance.proofs.rings.walk_back.Given as goal
 
 abbrev pub invariant-back : goal.invariant-back

@@ -1,5 +1,5 @@
 use Rattle.std.proofs.Common.{arith, length}
-use Rattle.line_instance.proofs.Joining.{empty_ones}
+use Rattle.line_instance.proofs.JoinedRows.{empty_ones}
 use Rattle.line_instance.proofs.rows.clear_rows.Goals as goal
 
 pub returns : goal.returns

@@ -1,7 +1,7 @@
 use Rattle.std.proofs.Common.{◌≡◌, arith, ℕ, List, Bool, [], length, ◌<◌, subst, get_or}
 use Rattle.std.proofs.lemmas.List.{get_or_read}
 use Rattle.line_instance.specs.inner.Inside.{IsJoined}
-use Rattle.line_instance.proofs.Joining.{AreFilled, one_filled, all_filled}
+use Rattle.line_instance.proofs.JoinedRows.{AreFilled, one_filled, all_filled}
 use Rattle.line_instance.proofs.rows.closed_rows.Goals as goal
 
 pub loop-k-preserved : goal.loop-k-preserved

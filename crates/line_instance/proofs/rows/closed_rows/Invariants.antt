@@ -1,4 +1,4 @@
-use Rattle.line_instance.proofs.Joining.{AreFilled}
+use Rattle.line_instance.proofs.JoinedRows.{AreFilled}
 use Rattle.line_instance.proofs.rows.closed_rows.Given as goal
 
 abbrev pub invariant-loop-k : goal.invariant-loop-k

@@ -2,7 +2,7 @@ use Rattle.std.proofs.Common.{◌≡◌, ◌∙◌, ap, sym, arith, subst, List,
 use Rattle.std.proofs.lemmas.List.{take_more, get_or_read}
 use Rattle.line_instance.specs.declared.arcs.Prec.{Prec}
 use Rattle.line_instance.specs.inner.Inside.{AreDirect}
-use Rattle.line_instance.proofs.Joining.{empty_ones, no_arcs, one_arc}
+use Rattle.line_instance.proofs.JoinedRows.{empty_ones, no_arcs, one_arc}
 use Rattle.line_instance.proofs.rows.direct_rows.Goals as goal
 
 pub loop-arc-init : goal.loop-arc-init

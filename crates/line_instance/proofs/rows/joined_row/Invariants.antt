@@ -1,4 +1,4 @@
-use Rattle.line_instance.proofs.Joining.{IsJoining}
+use Rattle.line_instance.proofs.JoinedRows.{IsJoining}
 use Rattle.line_instance.proofs.rows.joined_row.Given as goal
 
 abbrev pub invariant-loop-j : goal.invariant-loop-j

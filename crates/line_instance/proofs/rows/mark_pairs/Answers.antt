@@ -4,8 +4,8 @@ use Rattle.std.proofs.Math.ListN.{length-set}
 use Rattle.std.proofs.lemmas.List.{take_more, get_or_read}
 use Rattle.line_instance.specs.declared.arcs.Prec.{Prec}
 use Rattle.line_instance.specs.inner.Inside.{ArePaired}
-use Rattle.line_instance.proofs.Joining.{marked}
-use Rattle.line_instance.proofs.Marking.{one_pair}
+use Rattle.line_instance.proofs.JoinedRows.{marked}
+use Rattle.line_instance.proofs.MarkedRows.{one_pair}
 use Rattle.line_instance.proofs.rows.mark_pairs.Goals as goal
 
 pub loop-pair-preserved : goal.loop-pair-preserved

@@ -1,4 +1,4 @@
-use Rattle.line_instance.proofs.Marking.{IsMarking}
+use Rattle.line_instance.proofs.MarkedRows.{IsMarking}
 use Rattle.line_instance.proofs.rows.mark_rows.Given as goal
 
 abbrev pub invariant-loop-t : goal.invariant-loop-t

@@ -1,8 +1,8 @@
 use Rattle.std.proofs.Common.{◌≡◌, ◌+◌, ap, sym, arith, subst, List, Bool, [], length, get_or, drop}
 use Rattle.std.proofs.lemmas.List.{get_or_read, take_at}
 use Rattle.line_instance.specs.inner.Inside.{AreMarked}
-use Rattle.line_instance.proofs.Joining.{empty_ones}
-use Rattle.line_instance.proofs.Marking.{IsTurning, none_turned, one_turned}
+use Rattle.line_instance.proofs.JoinedRows.{empty_ones}
+use Rattle.line_instance.proofs.MarkedRows.{IsTurning, none_turned, one_turned}
 use Rattle.line_instance.proofs.rows.turned_rows.Goals as goal
 
 pub loop-j-init : goal.loop-j-init

@@ -1,4 +1,4 @@
-use Rattle.line_instance.proofs.Marking.{IsTurning}
+use Rattle.line_instance.proofs.MarkedRows.{IsTurning}
 use Rattle.line_instance.proofs.rows.turned_rows.Given as goal
 
 abbrev pub invariant-loop-j : goal.invariant-loop-j

@@ -3,8 +3,8 @@ use Rattle.std.proofs.lemmas.Bool.{false≢true}
 use Rattle.task_set.proofs.Members.{members}
 use Rattle.line_instance.specs.Line.{Before}
 use Rattle.line_rules.specs.Balance.{Keeps, seat}
-use Rattle.line_rules.proofs.Leaving.{IsLeft, all_left, below_least, one_less, none_left, members_less}
-use Rattle.line_rules.proofs.Reading.{breaks, keeps}
+use Rattle.line_rules.proofs.MembersInOrder.{IsLeft, all_left, below_least, one_less, none_left, members_less}
+use Rattle.line_rules.proofs.ReadPlaces.{breaks, keeps}
 use Rattle.line_rules.proofs.checking.broken_after.Goals as goal
 
 pub later-init : goal.later-init

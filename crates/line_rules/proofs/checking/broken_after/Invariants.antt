@@ -1,7 +1,7 @@
 use Rattle.task_set.proofs.Members.{members}
 use Rattle.line_instance.specs.Line.{Before}
 use Rattle.line_rules.specs.Balance.{Keeps, seat}
-use Rattle.line_rules.proofs.Leaving.{IsLeft}
+use Rattle.line_rules.proofs.MembersInOrder.{IsLeft}
 use Rattle.line_rules.proofs.checking.broken_after.Given as goal
 
 abbrev pub decreases-later : goal.decreases-later

@@ -1,7 +1,7 @@
 use Rattle.std.proofs.Common.{◌<◌, ◌≤◌, ℕ, refl, subst, arith}
 use Rattle.line_rules.specs.Balance.{IsSide, seat}
 use Rattle.line_rules.specs.Checked.{IsLeastWhere, HasStations, HasSides, HasRoom}
-use Rattle.line_rules.proofs.Found.{stations_all, sides_all, least_off, room_all, least_over, right}
+use Rattle.line_rules.proofs.TestAnswers.{stations_all, sides_all, least_off, room_all, least_over, right}
 use Rattle.line_rules.proofs.checking.check_balance.Goals as goal
 
 pub returns-in-Some : goal.returns-in-Some

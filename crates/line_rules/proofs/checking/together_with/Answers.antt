@@ -3,8 +3,8 @@ use Rattle.task_set.proofs.Members.{members}
 use Rattle.line_instance.specs.Line.{Apart}
 use Rattle.line_rules.specs.Checked.{Meets}
 use Rattle.line_rules.proofs.All.{In-all}
-use Rattle.line_rules.proofs.Leaving.{IsLeft, all_left, below_least, one_less, none_left, members_less}
-use Rattle.line_rules.proofs.Reading.{seat_read}
+use Rattle.line_rules.proofs.MembersInOrder.{IsLeft, all_left, below_least, one_less, none_left, members_less}
+use Rattle.line_rules.proofs.ReadPlaces.{seat_read}
 use Rattle.line_rules.proofs.checking.together_with.Goals as goal
 use Rattle.line_rules.proofs.checking.together_with.Goals.{else-i-j-via-then-i-j+else-at-station, else-i-j-via-else-i-j}
 

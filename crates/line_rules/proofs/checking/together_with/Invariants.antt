@@ -1,7 +1,7 @@
 use Rattle.task_set.proofs.Members.{members}
 use Rattle.line_instance.specs.Line.{Apart}
 use Rattle.line_rules.specs.Checked.{Meets}
-use Rattle.line_rules.proofs.Leaving.{IsLeft}
+use Rattle.line_rules.proofs.MembersInOrder.{IsLeft}
 use Rattle.line_rules.proofs.checking.together_with.Given as goal
 
 abbrev pub decreases-parted : goal.decreases-parted

@@ -1,4 +1,4 @@
-use Rattle.line_rules.proofs.Proved.{optimum_is_least}
+use Rattle.line_rules.proofs.AcceptedIsTrue.{optimum_is_least}
 use Rattle.line_rules.proofs.laws.accepted_optimum_is_least.Goals as goal
 
 pub returns : goal.returns

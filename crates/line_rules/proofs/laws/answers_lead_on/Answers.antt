@@ -1,4 +1,4 @@
-use Rattle.line_rules.proofs.Carried.{answers_on}
+use Rattle.line_rules.proofs.Monotone.{answers_on}
 use Rattle.line_rules.proofs.laws.answers_lead_on.Goals as goal
 
 pub returns : goal.returns

@@ -1,5 +1,5 @@
-use Rattle.line_rules.proofs.Grown.{derived_push}
-use Rattle.line_rules.proofs.Carried.{derived_take}
+use Rattle.line_rules.proofs.LongerLists.{derived_push}
+use Rattle.line_rules.proofs.Monotone.{derived_take}
 use Rattle.line_rules.proofs.laws.derived_grows.Goals as goal
 
 pub returns : goal.returns

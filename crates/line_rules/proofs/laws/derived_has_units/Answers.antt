@@ -1,4 +1,4 @@
-use Rattle.line_rules.proofs.Counted.{derived_counted}
+use Rattle.line_rules.proofs.ListUnits.{derived_counted}
 use Rattle.line_rules.proofs.laws.derived_has_units.Goals as goal
 
 pub returns : goal.returns

@@ -1,4 +1,4 @@
-use Rattle.line_rules.proofs.Deciding.{loads_of, loads_listed, open_of, open_listed}
+use Rattle.line_rules.proofs.LoadTests.{loads_of, loads_listed, open_of, open_listed}
 use Rattle.line_rules.proofs.laws.each_set_has_its_lists.Goals as goal
 
 pub returns : goal.returns

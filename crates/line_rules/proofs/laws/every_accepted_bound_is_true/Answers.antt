@@ -1,4 +1,4 @@
-use Rattle.line_rules.proofs.Proved.{accepted_true}
+use Rattle.line_rules.proofs.AcceptedIsTrue.{accepted_true}
 use Rattle.line_rules.proofs.laws.every_accepted_bound_is_true.Goals as goal
 
 pub returns : goal.returns

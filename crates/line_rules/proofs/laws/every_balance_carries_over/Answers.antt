@@ -1,4 +1,4 @@
-use Rattle.line_rules.proofs.Restrict.{restricted}
+use Rattle.line_rules.proofs.SubBalance.{restricted}
 use Rattle.line_rules.proofs.laws.every_balance_carries_over.Goals as goal
 
 pub returns : goal.returns

@@ -1,4 +1,4 @@
-use Rattle.line_rules.proofs.Carried.{bound_holds}
+use Rattle.line_rules.proofs.Monotone.{bound_holds}
 use Rattle.line_rules.proofs.laws.every_bound_holds.Goals as goal
 
 pub returns : goal.returns

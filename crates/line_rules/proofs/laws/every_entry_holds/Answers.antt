@@ -1,4 +1,4 @@
-use Rattle.line_rules.proofs.Sound.{sound}
+use Rattle.line_rules.proofs.LemmasHold.{sound}
 use Rattle.line_rules.proofs.laws.every_entry_holds.Goals as goal
 
 pub returns : goal.returns

@@ -1,4 +1,4 @@
-use Rattle.line_rules.proofs.Proved.{infeasible_true}
+use Rattle.line_rules.proofs.AcceptedIsTrue.{infeasible_true}
 use Rattle.line_rules.proofs.laws.every_infeasible_certificate_is_true.Goals as goal
 
 pub returns : goal.returns

@@ -1,4 +1,4 @@
-use Rattle.line_rules.proofs.Carried.{rest_smaller}
+use Rattle.line_rules.proofs.Monotone.{rest_smaller}
 use Rattle.line_rules.proofs.laws.every_rest_is_smaller.Goals as goal
 
 pub returns : goal.returns

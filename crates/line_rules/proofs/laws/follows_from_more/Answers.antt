@@ -1,4 +1,4 @@
-use Rattle.line_rules.proofs.Grown.{follows_longer}
+use Rattle.line_rules.proofs.LongerLists.{follows_longer}
 use Rattle.line_rules.proofs.laws.follows_from_more.Goals as goal
 
 pub returns : goal.returns

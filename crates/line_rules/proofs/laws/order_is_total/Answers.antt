@@ -1,4 +1,4 @@
-use Rattle.line_rules.proofs.Places.{three_ways}
+use Rattle.line_rules.proofs.LoadPlaces.{three_ways}
 use Rattle.line_rules.proofs.laws.order_is_total.Goals as goal
 
 pub returns : goal.returns

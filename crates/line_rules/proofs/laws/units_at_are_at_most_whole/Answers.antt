@@ -1,4 +1,4 @@
-use Rattle.line_rules.proofs.Carried.{units_at_most}
+use Rattle.line_rules.proofs.Monotone.{units_at_most}
 use Rattle.line_rules.proofs.laws.units_at_are_at_most_whole.Goals as goal
 
 pub returns : goal.returns

@@ -1,7 +1,7 @@
 use Rattle.std.proofs.Common.{◌≡◌, ◌∙◌, sym, arith}
 use Rattle.std.proofs.lemmas.Bool.{false≢true}
 use Rattle.line_rules.specs.Bounds.{bound}
-use Rattle.line_rules.proofs.Carried.{bound_holds}
+use Rattle.line_rules.proofs.Monotone.{bound_holds}
 use Rattle.load_facts.proofs.BoundCases.{empty_bound, long_bound, parts_bound, small_bound, time_part, count_parts}
 use Rattle.lower_bounds.proofs.bounds.bound.Goals as goal
 

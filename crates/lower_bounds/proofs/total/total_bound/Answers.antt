@@ -1,6 +1,6 @@
 use Rattle.std.proofs.Common.{◌≤◌, subst, sym}
 use Rattle.line_rules.proofs.All.{In-all}
-use Rattle.line_rules.proofs.Law.{total_bound_le}
+use Rattle.line_rules.proofs.BoundIsTrue.{total_bound_le}
 use Rattle.lower_bounds.proofs.total.total_bound.Goals as goal
 
 pub returns-clause-below_all : goal.returns-clause-below_all

@@ -1,7 +1,7 @@
 use Rattle.std.proofs.Common.{◌-◌, Bool, List, sym, subst}
 use Rattle.line_instance.specs.Line.{IsTaskSet}
 use Rattle.line_rules.specs.Balance.{all_tasks}
-use Rattle.line_rules.proofs.Free.{all_of}
+use Rattle.line_rules.proofs.FreeSets.{all_of}
 use Rattle.lemma_core.proofs.HistoryGrows.{keeps_both}
 use Rattle.station_search.proofs.States.{rest_tasks}
 use Rattle.round_helpers.proofs.WorkFacts.{works_offered}

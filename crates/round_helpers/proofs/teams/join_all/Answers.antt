@@ -2,7 +2,7 @@ use Rattle.std.proofs.Common.{List, sym, ◌∙◌, subst, arith}
 use Rattle.std.proofs.lemmas.List.{nil_from_length}
 use Rattle.std.specs.Vec.Iter.{into_iter_items}
 use Rattle.round_helpers.specs.declared.teams.Helper.{Helper}
-use Rattle.round_helpers.proofs.Joining.{IsJoining, joins_none, joins_one, joins_next, joins_room, joins_all}
+use Rattle.round_helpers.proofs.PassFacts.{IsJoining, joins_none, joins_one, joins_next, joins_room, joins_all}
 use Rattle.round_helpers.proofs.teams.join_all.Goals as goal
 
 pub loop-helper-init : goal.loop-helper-init

@@ -1,6 +1,6 @@
 use Rattle.std.proofs.Common.{◌≤◌, length, vec_capacity}
 use Rattle.std.specs.Vec.Iter.{into_iter_items}
-use Rattle.round_helpers.proofs.Joining.{IsJoining}
+use Rattle.round_helpers.proofs.PassFacts.{IsJoining}
 use Rattle.round_helpers.proofs.teams.join_all.Given as goal
 
 abbrev pub invariant-loop-helper : goal.invariant-loop-helper

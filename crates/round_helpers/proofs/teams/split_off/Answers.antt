@@ -4,7 +4,7 @@ use Rattle.std.proofs.lemmas.Option.{slice_get-get_or}
 use Rattle.std.specs.Vec.Iter.{into_iter_items}
 use Rattle.steal_pool.specs.Hands.{HandView}
 use Rattle.station_search.specs.declared.answers.Units.{Units}
-use Rattle.round_helpers.proofs.Joining.{IsSplitting, splits_none, splits_below, splits_one}
+use Rattle.round_helpers.proofs.PassFacts.{IsSplitting, splits_none, splits_below, splits_one}
 use Rattle.round_helpers.proofs.teams.split_off.Goals as goal
 
 pub loop-hand-init : goal.loop-hand-init

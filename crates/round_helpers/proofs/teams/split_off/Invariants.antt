@@ -1,6 +1,6 @@
 use Rattle.std.proofs.Common.{◌≤◌, length, vec_capacity}
 use Rattle.std.specs.Vec.Iter.{into_iter_items}
-use Rattle.round_helpers.proofs.Joining.{IsSplitting}
+use Rattle.round_helpers.proofs.PassFacts.{IsSplitting}
 use Rattle.round_helpers.proofs.teams.split_off.Given as goal
 
 abbrev pub invariant-loop-hand : goal.invariant-loop-hand

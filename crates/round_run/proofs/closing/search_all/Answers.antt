@@ -2,7 +2,7 @@ use Rattle.std.proofs.Common.{◌≡◌, ◌+◌, ◌-◌, ℕ, [], refl, sym, a
 use Rattle.lemma_core.specs.Books.{BookView}
 use Rattle.round_run.specs.Rounds.{Gains}
 use Rattle.round_run.specs.declared.closing.Verdict.TheVariants as verdict
-use Rattle.round_run.proofs.Going.{goes_same, gains_all, gains_some, best_same}
+use Rattle.round_run.proofs.BookGain.{goes_same, gains_all, gains_some, best_same}
 use Rattle.round_run.proofs.closing.search_all.Goals as goal
 
 pub returns-in-Refuted-clause-gains : goal.returns-in-Refuted-clause-gains

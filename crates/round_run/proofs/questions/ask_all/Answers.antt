@@ -7,7 +7,7 @@ use Rattle.round_run.specs.Plans.{all_left}
 use Rattle.round_run.specs.inner.Questions.{HasAsked}
 use Rattle.round_run.specs.declared.questions.Stop.{Stop}
 use Rattle.round_run.proofs.PurseFacts.{spent_more, spent_sum, spent_team}
-use Rattle.round_run.proofs.Turns.{turns, stops}
+use Rattle.round_run.proofs.TurnFacts.{turns, stops}
 use Rattle.round_run.proofs.questions.ask_all.Goals as goal
 
 pub asking-init : goal.asking-init

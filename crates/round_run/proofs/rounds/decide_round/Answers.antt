@@ -1,5 +1,5 @@
 use Rattle.std.proofs.Common.{[], refl, arith}
-use Rattle.round_run.proofs.Going.{goes_same}
+use Rattle.round_run.proofs.BookGain.{goes_same}
 use Rattle.round_run.proofs.rounds.decide_round.Goals as goal
 
 pub returns-then-least-most-clause-round : goal.returns-then-least-most-clause-round

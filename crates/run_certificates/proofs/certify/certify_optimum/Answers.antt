@@ -1,7 +1,7 @@
 use Rattle.std.proofs.Common.{[]}
 use Rattle.std.proofs.lemmas.Result.{IfOk-weaker}
 use Rattle.run_certificates.specs.Certified.{IsOptimum}
-use Rattle.run_certificates.proofs.Certifying.{room_alone}
+use Rattle.run_certificates.proofs.CertificateFacts.{room_alone}
 use Rattle.run_certificates.proofs.certify.certify_optimum.Goals as goal
 
 pub certify_warm_optimum-requires : goal.certify_warm_optimum-requires

@@ -1,5 +1,5 @@
 use Rattle.std.proofs.Common.{[]}
-use Rattle.run_certificates.proofs.Certifying.{room_alone}
+use Rattle.run_certificates.proofs.CertificateFacts.{room_alone}
 use Rattle.run_certificates.proofs.certify.certify_stop.Goals as goal
 
 pub returns : goal.returns

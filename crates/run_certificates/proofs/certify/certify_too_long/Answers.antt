@@ -1,7 +1,7 @@
 use Rattle.std.proofs.Common.{sym, subst}
 use Rattle.line_rules.specs.declared.types.Certificate.{Certificate}
 use Rattle.run_certificates.specs.Certified.{IsNoBalance}
-use Rattle.run_certificates.proofs.Certifying.{refusal}
+use Rattle.run_certificates.proofs.CertificateFacts.{refusal}
 use Rattle.run_certificates.proofs.certify.certify_too_long.Goals as goal
 
 pub returns : goal.returns

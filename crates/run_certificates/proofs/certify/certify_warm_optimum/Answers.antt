@@ -3,9 +3,9 @@ use Rattle.task_set.specs.Truths.{full_to}
 use Rattle.line_rules.specs.Entries.{HasAnswer}
 use Rattle.line_rules.specs.declared.types.Certificate.{Certificate}
 use Rattle.line_rules.specs.declared.types.Claim.TheVariants as claim
-use Rattle.cert_files.proofs.Trimmed.{derived_earlier}
+use Rattle.cert_files.proofs.TrimFacts.{derived_earlier}
 use Rattle.run_certificates.specs.Certified.{IsOptimumFrom, about_stations}
-use Rattle.run_certificates.proofs.Certifying.{optimum, shown_goal}
+use Rattle.run_certificates.proofs.CertificateFacts.{optimum, shown_goal}
 use Rattle.run_certificates.proofs.certify.certify_warm_optimum.Goals as goal
 
 pub proof_of-requires-clause-goal : goal.proof_of-requires-clause-goal

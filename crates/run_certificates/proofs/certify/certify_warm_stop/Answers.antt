@@ -2,7 +2,7 @@ use Rattle.std.proofs.Common.{ℕ, Some, sym, subst}
 use Rattle.line_rules.specs.declared.types.Certificate.{Certificate}
 use Rattle.line_rules.specs.declared.types.Claim.TheVariants as claim
 use Rattle.run_certificates.specs.Certified.{IsStopFrom, about_stations}
-use Rattle.run_certificates.proofs.Certifying.{stop}
+use Rattle.run_certificates.proofs.CertificateFacts.{stop}
 use Rattle.run_certificates.proofs.certify.certify_warm_stop.Goals as goal
 
 pub returns : goal.returns

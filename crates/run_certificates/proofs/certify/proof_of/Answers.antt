@@ -3,7 +3,7 @@ use Rattle.std.proofs.lemmas.Result.{IfOk-weaker}
 use Rattle.task_set.specs.Truths.{full_to}
 use Rattle.cert_files.specs.Trim.{IsTrimmed}
 use Rattle.run_certificates.specs.Certified.{HaveCyclesOf}
-use Rattle.run_certificates.proofs.Certifying.{trimmed_cycles}
+use Rattle.run_certificates.proofs.CertificateFacts.{trimmed_cycles}
 use Rattle.run_certificates.proofs.certify.proof_of.Goals as goal
 
 pub returns-clause-cycles : goal.returns-clause-cycles

@@ -1,8 +1,8 @@
 use Rattle.std.proofs.Common.{ap, sym, ◌∙◌, map}
 use Rattle.std.specs.Prelude.{codes}
 use Rattle.cert_lines.specs.Rows.{rows_text, line_text, keyed}
-use Rattle.cert_text.proofs.Putting.{puts, puts_as, ◌▹◌}
-use Rattle.cert_text.proofs.Spelling.{next_line, all_lines}
+use Rattle.cert_text.proofs.PutTexts.{puts, puts_as, ◌▹◌}
+use Rattle.cert_text.proofs.PutLines.{next_line, all_lines}
 use Rattle.sequence_cert.specs.SequenceText.{entry_row}
 use Rattle.sequence_cert.proofs.writing.put_entries.Goals as goal
 

@@ -2,7 +2,7 @@ use Rattle.std.proofs.Common.{◌≡◌, ℕ, List, [], ◌∷◌, ◌++◌, ap,
 use Rattle.std.specs.Prelude.{codes}
 use Rattle.cert_lines.specs.Numbers.{number_text, cites_text}
 use Rattle.cert_lines.specs.Rows.{line_text, state_entry, row_text}
-use Rattle.cert_text.proofs.Putting.{puts_as, ◌▹◌}
+use Rattle.cert_text.proofs.PutTexts.{puts_as, ◌▹◌}
 use Rattle.sequence_cert.specs.SequenceText.{cited}
 use Rattle.sequence_cert.specs.inner.Pieces.{state_text}
 use Rattle.sequence_cert.proofs.writing.put_entry.Goals as goal

@@ -2,7 +2,7 @@ use Rattle.std.proofs.Common.{ap, sym}
 use Rattle.std.specs.Prelude.{codes}
 use Rattle.std.proofs.lemmas.List.{append-nil}
 use Rattle.cert_lines.specs.Rows.{line_text, keyed}
-use Rattle.cert_text.proofs.Putting.{puts_as, ◌▹◌}
+use Rattle.cert_text.proofs.PutTexts.{puts_as, ◌▹◌}
 use Rattle.sequence_cert.proofs.writing.put_head.Goals as goal
 
 pub returns : goal.returns

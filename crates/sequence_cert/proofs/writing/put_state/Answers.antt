@@ -1,6 +1,6 @@
 use Rattle.std.proofs.Common.{ap, sym}
 use Rattle.cert_lines.specs.Numbers.{cites_text}
-use Rattle.cert_text.proofs.Putting.{puts_as, ◌▹◌}
+use Rattle.cert_text.proofs.PutTexts.{puts_as, ◌▹◌}
 use Rattle.sequence_cert.proofs.writing.put_state.Goals as goal
 
 pub returns : goal.returns

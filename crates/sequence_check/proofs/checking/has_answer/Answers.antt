@@ -1,9 +1,9 @@
 use Rattle.std.proofs.Common.{◌∙◌, ℕ, sym, arith}
 use Rattle.std.proofs.lemmas.Bool.{false≢true}
-use Rattle.line_rules.proofs.Sound.{get_within}
+use Rattle.line_rules.proofs.LemmasHold.{get_within}
 use Rattle.sequence_rules.specs.Entries.{Answers}
 use Rattle.sequence_rules.specs.declared.types.SeqEntry.{SeqEntry}
-use Rattle.sequence_check.proofs.Listing.{below_next}
+use Rattle.sequence_check.proofs.EntryFacts.{below_next}
 use Rattle.sequence_check.proofs.checking.has_answer.Goals as goal
 
 pub loop-k-init : goal.loop-k-init

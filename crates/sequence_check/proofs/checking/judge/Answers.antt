@@ -1,5 +1,5 @@
 use Rattle.std.proofs.Common.{refl}
-use Rattle.sequence_check.proofs.Posing.{entry_posed, frame_posed}
+use Rattle.sequence_check.proofs.RangeFacts.{entry_posed, frame_posed}
 use Rattle.sequence_check.proofs.checking.judge.Goals as goal
 
 pub returns-in-Some : goal.returns-in-Some

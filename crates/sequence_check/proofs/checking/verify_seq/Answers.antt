@@ -1,4 +1,4 @@
-use Rattle.sequence_check.proofs.Rejecting.{true_of, rejected_so}
+use Rattle.sequence_check.proofs.RefusalFacts.{true_of, rejected_so}
 use Rattle.sequence_check.proofs.checking.verify_seq.Goals as goal
 
 pub returns-clause-proved : goal.returns-clause-proved

@@ -1,5 +1,5 @@
 use Rattle.std.proofs.Common.{arith}
-use Rattle.sequence_check.proofs.Listing.{right_none, right_more, all_right}
+use Rattle.sequence_check.proofs.EntryFacts.{right_none, right_more, all_right}
 use Rattle.sequence_check.proofs.entries.check_entries.Goals as goal
 
 pub loop-k-init : goal.loop-k-init

@@ -1,5 +1,5 @@
 use Rattle.std.proofs.Common.{arith}
-use Rattle.sequence_check.proofs.Framing.{frames_none, frames_more, all_frames}
+use Rattle.sequence_check.proofs.FrameFacts.{frames_none, frames_more, all_frames}
 use Rattle.sequence_check.proofs.frames.check_frames.Goals as goal
 
 pub loop-j-init : goal.loop-j-init

@@ -1,5 +1,5 @@
 use Rattle.std.proofs.Common.{◌-◌, arith}
-use Rattle.sequence_check.proofs.Framing.{asked_first, asked_further}
+use Rattle.sequence_check.proofs.FrameFacts.{asked_first, asked_further}
 use Rattle.sequence_check.proofs.frames.is_asked.Goals as goal
 
 pub is_left_by-requires-clause-above : goal.is_left_by-requires-clause-above

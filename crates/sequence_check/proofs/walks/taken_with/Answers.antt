@@ -1,6 +1,6 @@
 use Rattle.std.proofs.Common.{◌-◌, ◌<◌, refl, inr}
 use Rattle.sequence_rules.specs.States.{step_cost, next_starts, less_one}
-use Rattle.sequence_check.proofs.Walking.{cited_from}
+use Rattle.sequence_check.proofs.WalkFacts.{cited_from}
 use Rattle.sequence_check.proofs.walks.taken_with.Goals as goal
 
 pub returns-clause-some : goal.returns-clause-some

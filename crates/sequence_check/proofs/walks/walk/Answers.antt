@@ -1,7 +1,7 @@
 use Rattle.std.proofs.Common.{◌≡◌, ℕ, take, refl, sym, subst, Some, arith}
 use Rattle.std.specs.Prelude.{slice_get}
 use Rattle.sequence_rules.specs.Entries.{is_left}
-use Rattle.sequence_check.proofs.Walking.{count_yes, some_left, left_more, covers_none, walk_takes}
+use Rattle.sequence_check.proofs.WalkFacts.{count_yes, some_left, left_more, covers_none, walk_takes}
 use Rattle.sequence_check.proofs.walks.walk.Goals as goal
 
 pub loop-model-init : goal.loop-model-init

@@ -1,5 +1,5 @@
 use Rattle.std.proofs.Common.{refl, arith}
-use Rattle.sequence_rules.proofs.Sound.{proved}
+use Rattle.sequence_rules.proofs.LemmasHold.{proved}
 use Rattle.sequence_command.proofs.sequence.optimal.Goals as goal
 
 pub returns : goal.returns

@@ -1,5 +1,5 @@
 use Rattle.std.proofs.Common.{arith, refl}
-use Rattle.sequence_rules.proofs.Counting.{sequence_from}
+use Rattle.sequence_rules.proofs.UnitCounts.{sequence_from}
 use Rattle.sequence_rules.proofs.sequences.is_sequence_of.Goals as goal
 
 pub returns : goal.returns

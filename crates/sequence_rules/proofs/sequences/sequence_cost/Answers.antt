@@ -3,7 +3,7 @@ use Rattle.std.proofs.lemmas.List.{length-replicate}
 use Rattle.utility_work.specs.Utility.{utility_from}
 use Rattle.sequence_rules.specs.States.{unit_work}
 use Rattle.sequence_rules.proofs.SumFacts.{sum_more}
-use Rattle.sequence_rules.proofs.Counting.{noughts}
+use Rattle.sequence_rules.proofs.UnitCounts.{noughts}
 use Rattle.sequence_rules.proofs.sequences.sequence_cost.Goals as goal
 
 pub loop-k-preserved : goal.loop-k-preserved

@@ -2,7 +2,7 @@ use Rattle.std.proofs.Common.{◌≡◌, ◌≤◌, ℕ, set, get_or, arith, ◌
 use Rattle.std.proofs.lemmas.Bool.{cases_eq}
 use Rattle.std.proofs.lemmas.List.{length-set, get_or-set_same, get_or-set_other, get_or_default}
 use Rattle.utility_work.specs.Utility.{utility_of, next_start}
-use Rattle.utility_work.proofs.Steps.{one_value}
+use Rattle.utility_work.proofs.WorkSteps.{one_value}
 use Rattle.sequence_rules.specs.States.{unit_work}
 use Rattle.sequence_rules.proofs.SumFacts.{sum_more, values_are}
 use Rattle.sequence_rules.proofs.steps.step.Goals as goal

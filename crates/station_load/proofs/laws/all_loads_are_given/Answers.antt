@@ -1,5 +1,5 @@
 use Rattle.std.proofs.Common.{refl}
-use Rattle.station_load.proofs.Given.{given_lists}
+use Rattle.station_load.proofs.AllLoadsGiven.{given_lists}
 use Rattle.station_load.proofs.laws.all_loads_are_given.Goals as goal
 
 pub returns : goal.returns

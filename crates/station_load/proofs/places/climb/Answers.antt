@@ -1,6 +1,6 @@
 use Rattle.std.proofs.Common.{◌∙◌, sym, arith}
 use Rattle.std.proofs.lemmas.Bool.{false≢true}
-use Rattle.station_load.proofs.Turns.{gives_up_at, passes_at, joined_at}
+use Rattle.station_load.proofs.ScanTurns.{gives_up_at, passes_at, joined_at}
 use Rattle.station_load.proofs.places.climb.Goals as goal
 
 pub loop-place-preserved-then-stands : goal.loop-place-preserved-then-stands

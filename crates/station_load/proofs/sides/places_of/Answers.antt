@@ -2,7 +2,7 @@ use Rattle.std.proofs.Common.{◌≡◌, ◌∙◌, ◌<◌, ◌≢◌, ◌⊎�
 use Rattle.task_set.specs.Truths.{In}
 use Rattle.task_set.proofs.Members.{members, In-empty}
 use Rattle.line_instance.specs.Line.{has}
-use Rattle.line_rules.proofs.Leaving.{members_less}
+use Rattle.line_rules.proofs.MembersInOrder.{members_less}
 use Rattle.load_facts.proofs.SidePlaces.{place_start, place_turn, place_end}
 use Rattle.load_facts.proofs.SidePlaces.{set_in, clear_in}
 use Rattle.station_load.proofs.sides.places_of.Goals as goal

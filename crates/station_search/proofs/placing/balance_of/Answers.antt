@@ -6,7 +6,7 @@ use Rattle.station_search.specs.Parts.{AreParts, IsPlaceOf}
 use Rattle.line_rules.specs.Balance.{seat}
 use Rattle.line_rules.specs.Seats.{IsPlacement}
 use Rattle.line_rules.specs.declared.types.Seatplace.{Seatplace}
-use Rattle.station_search.proofs.Standing.{placement, right_of}
+use Rattle.station_search.proofs.TaskPlaces.{placement, right_of}
 use Rattle.station_search.proofs.placing.balance_of.Goals as goal
 
 placed : (kind : LineKind) (line : Line) (loads : List Load) (ps items : List Seatplace) (n t : ℕ) → ps ≡ items

@@ -1,4 +1,4 @@
-use Rattle.station_search.proofs.Standing.{in_front, in_back}
+use Rattle.station_search.proofs.TaskPlaces.{in_front, in_back}
 use Rattle.station_search.proofs.placing.has_task.Goals as goal
 
 pub returns-then-has : goal.returns-then-has

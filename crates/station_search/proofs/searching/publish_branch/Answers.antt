@@ -4,7 +4,7 @@ use Rattle.lemma_core.specs.History.{known}
 use Rattle.station_search.specs.Costs.{HasLoads}
 use Rattle.station_search.specs.inner.Work.{branch_of}
 use Rattle.station_search.proofs.Events.{known_answers, added_answers}
-use Rattle.station_search.proofs.Paying.{counts_has, one_added, one_known}
+use Rattle.station_search.proofs.PaidSteps.{counts_has, one_added, one_known}
 use Rattle.station_search.proofs.searching.publish_branch.Goals as goal
 
 pub returns-in-Known-clause-answered : goal.returns-in-Known-clause-answered

@@ -10,13 +10,14 @@ use Rattle.station_search.specs.Decide.{IsFor}
 use Rattle.station_search.specs.inner.Work.{branch_of, with_last, may_add, Sorts, Accounts}
 use Rattle.station_search.specs.declared.sorting.Sorted.{Sorted}
 use Rattle.station_search.proofs.Events.{for_still}
-use Rattle.station_search.proofs.Paying.{one_none}
+use Rattle.station_search.proofs.PaidSteps.{one_none}
 use Rattle.station_search.proofs.States.{rest_tasks, follows, closed, covered, goes_up}
 use Rattle.station_search.proofs.Pairs.{paired_none, paired_push, paired_pop, paired_last}
 use Rattle.station_search.proofs.Tallies.{tally_lists, tally_ends, tally_up, accounts, idle}
 use Rattle.station_search.proofs.Endings.{on_err}
-use Rattle.station_search.proofs.Turns.{adds_few, beside_cites, grown, first, first_tally, stations_few, stops, stopped}
-use Rattle.station_search.proofs.Turns.{down, down_tally, found, gives_up, refuted}
+use Rattle.station_search.proofs.LoopTurns.{adds_few, beside_cites, grown, first, first_tally, stations_few, stops}
+use Rattle.station_search.proofs.LoopTurns.{stopped}
+use Rattle.station_search.proofs.LoopTurns.{down, down_tally, found, gives_up, refuted}
 use Rattle.station_search.proofs.searching.search.Goals as goal
 
 pub search-init : goal.search-init

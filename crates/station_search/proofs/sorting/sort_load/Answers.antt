@@ -9,9 +9,9 @@ use Rattle.station_search.specs.inner.Work.{DoesFor, may_swap}
 use Rattle.station_search.proofs.Events.{waits_none}
 use Rattle.station_search.proofs.Standins.{does_for_then}
 use Rattle.station_search.proofs.Endings.{on_err}
-use Rattle.station_search.proofs.Paying.{one_none}
+use Rattle.station_search.proofs.PaidSteps.{one_none}
 use Rattle.station_search.proofs.States.{rest_tasks}
-use Rattle.station_search.proofs.Crowding.{crowded}
+use Rattle.station_search.proofs.HalfFacts.{crowded}
 use Rattle.station_search.proofs.sorting.sort_load.Goals as goal
 
 pub returns-then-is_longer-clause-publishes : goal.returns-then-is_longer-clause-publishes

@@ -3,7 +3,7 @@ use Rattle.lemma_core.specs.History.{known}
 use Rattle.station_search.specs.Mode.{frame_mode}
 use Rattle.station_search.specs.inner.Work.{swap_of}
 use Rattle.station_search.proofs.Events.{known_answers, added_answers}
-use Rattle.station_search.proofs.Paying.{no_loads, one_none, one_added, one_known}
+use Rattle.station_search.proofs.PaidSteps.{no_loads, one_none, one_added, one_known}
 use Rattle.station_search.proofs.Standins.{does_for_then, unanswered_through}
 use Rattle.station_search.proofs.swaps.publish_swap.Goals as goal
 

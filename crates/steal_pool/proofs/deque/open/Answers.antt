@@ -1,5 +1,5 @@
-use Rattle.steal_pool.proofs.Dealing as dealing
-use Rattle.steal_pool.proofs.Tallying as tallying
+use Rattle.steal_pool.proofs.DequeSteps as dealing
+use Rattle.steal_pool.proofs.TallySteps as tallying
 use Rattle.steal_pool.proofs.deque.open.Goals as goal
 
 pub fifo_as-requires : goal.fifo_as-requires

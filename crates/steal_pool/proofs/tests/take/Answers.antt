@@ -1,7 +1,7 @@
 use Rattle.std.proofs.Common.{List, sym, ap, subst}
 use Rattle.std.specs.Prelude.{slice_index_or}
 use Rattle.steal_pool.specs.Hands.{HandView, AreHandsOf}
-use Rattle.steal_pool.proofs.Handing.{hand_at, hands_after}
+use Rattle.steal_pool.proofs.HandFacts.{hand_at, hands_after}
 use Rattle.steal_pool.proofs.tests.take.Goals as goal
 
 pub take-requires : goal.take-requires

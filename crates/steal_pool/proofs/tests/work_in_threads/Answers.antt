@@ -1,7 +1,7 @@
 use Rattle.std.proofs.Common.{◌≡◌, ap, ◌∙◌, subst, arith}
 use Rattle.std.specs.Prelude.{slice_index_or}
 use Rattle.steal_pool.specs.Hands.{HandView, IsHandOf}
-use Rattle.steal_pool.proofs.Handing.{hand_at, hands_each}
+use Rattle.steal_pool.proofs.HandFacts.{hand_at, hands_each}
 use Rattle.steal_pool.proofs.tests.work_in_threads.Goals as goal
 
 pub for_each_mut-requires-clause-accepts : goal.for_each_mut-requires-clause-accepts

@@ -1,4 +1,4 @@
-use Rattle.task_set.proofs.Listed.{count_listed}
+use Rattle.task_set.proofs.ListedMembers.{count_listed}
 use Rattle.task_set.proofs.laws.count_is_length.Goals as goal
 
 pub returns : goal.returns

@@ -1,5 +1,5 @@
 use Rattle.std.proofs.Common.{List, ℕ, ◌∙◌, subst}
-use Rattle.cert_text.specs.Answers.{IsSaidBy}
+use Rattle.cert_text.specs.WholeText.{IsSaidBy}
 use Rattle.try_command.proofs.ReadBack.{read_same}
 use Rattle.try_command.proofs.trying.read_back.Goals as goal
 

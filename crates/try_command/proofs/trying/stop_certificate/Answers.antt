@@ -1,5 +1,5 @@
 use Rattle.try_command.specs.Tried.{alone}
-use Rattle.try_command.proofs.Showing.{acceptable_stop}
+use Rattle.try_command.proofs.ShownFacts.{acceptable_stop}
 use Rattle.try_command.proofs.trying.stop_certificate.Goals as goal
 
 pub returns-clause-acceptable : goal.returns-clause-acceptable

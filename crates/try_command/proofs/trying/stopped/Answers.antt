@@ -1,4 +1,4 @@
-use Rattle.try_command.proofs.Showing.{shown_stop}
+use Rattle.try_command.proofs.ShownFacts.{shown_stop}
 use Rattle.try_command.proofs.trying.stopped.Goals as goal
 
 pub returns : goal.returns

@@ -1,7 +1,7 @@
 use Rattle.std.proofs.Common.{ap, ◌∙◌, length}
 use Rattle.line_instance.specs.Line.{tasks}
 use Rattle.line_generator.proofs.Drawings.{many_times}
-use Rattle.try_command.proofs.Showing.{shown_of, status_shown}
+use Rattle.try_command.proofs.ShownFacts.{shown_of, status_shown}
 use Rattle.try_command.proofs.trying.try_report.Goals as goal
 
 pub returns-clause-tried : goal.returns-clause-tried

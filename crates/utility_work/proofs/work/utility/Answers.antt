@@ -2,7 +2,7 @@ use Rattle.std.proofs.Common.{◌∙◌, ◌+◌, arith, length, get_or}
 use Rattle.std.proofs.lemmas.List.{length-set}
 use Rattle.combined_graph.specs.Mixes.{model_at}
 use Rattle.utility_work.specs.Utility.{work_at, station_utility}
-use Rattle.utility_work.proofs.Steps.{one_value, same_utility}
+use Rattle.utility_work.proofs.WorkSteps.{one_value, same_utility}
 use Rattle.utility_work.proofs.Total.{total_below}
 use Rattle.utility_work.proofs.work.utility.Goals as goal
 

@@ -1,6 +1,6 @@
 use Rattle.std.proofs.Common.{◌<◌, [], arith, length}
 use Rattle.combined_graph.specs.Mixes.{model_at}
-use Rattle.utility_work.proofs.Steps.{task_added}
+use Rattle.utility_work.proofs.WorkSteps.{task_added}
 use Rattle.utility_work.proofs.work.work_of.Goals as goal
 
 pub loop-task-preserved : goal.loop-task-preserved

@@ -1,7 +1,7 @@
 use Rattle.std.proofs.Common.{◌∙◌, arith}
 use Rattle.combined_graph.specs.Mixes.{model_at}
 use Rattle.utility_work.specs.Utility.{work_at}
-use Rattle.utility_work.proofs.Steps.{one_value, values_limit}
+use Rattle.utility_work.proofs.WorkSteps.{one_value, values_limit}
 use Rattle.std.proofs.lemmas.List.{length-set}
 use Rattle.utility_work.proofs.work.works_at.Goals as goal
 

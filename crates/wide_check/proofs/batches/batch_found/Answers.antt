@@ -4,7 +4,7 @@ use Rattle.line_rules.specs.Ranges.{AreEntries}
 use Rattle.rayon.specs.Numbers.{nat_range}
 use Rattle.rayon.proofs.ListFacts.{IfOk-then}
 use Rattle.rayon.proofs.ToStd.{nat_range-All}
-use Rattle.wide_check.proofs.Ranged.{checked_range}
+use Rattle.wide_check.proofs.RangeFacts.{checked_range}
 use Rattle.wide_check.proofs.batches.batch_found.Goals as goal
 
 pub collect-requires-clause-ready : goal.collect-requires-clause-ready

@@ -1,5 +1,5 @@
 use Rattle.std.proofs.Common.{arith}
-use Rattle.line_check.proofs.Listed.{all_right}
+use Rattle.line_check.proofs.ListFacts.{all_right}
 use Rattle.wide_check.proofs.batches.entries_found.Goals as goal
 
 pub returns : goal.returns

@@ -1,7 +1,7 @@
 use Rattle.std.proofs.Common.{◌≡◌, ◌+◌, ◌-◌, ℕ, length, refl, subst, arith}
 use Rattle.std.proofs.lemmas.Option.{slice_get_read}
 use Rattle.line_check.specs.Lists.{AreRightBelow}
-use Rattle.line_check.proofs.Listed.{right_more}
+use Rattle.line_check.proofs.ListFacts.{right_more}
 use Rattle.wide_check.specs.inner.Batches.{IsFoundAt}
 use Rattle.wide_check.proofs.batches.gone_over.Goals as goal
 

@@ -1,4 +1,4 @@
-use Rattle.worked_lines.proofs.Five.{certificate_of_the_rows}
+use Rattle.worked_lines.proofs.FiveTasks.{certificate_of_the_rows}
 use Rattle.worked_lines.proofs.laws.the_certificate_of_the_rows.Goals as goal
 
 pub returns : goal.returns

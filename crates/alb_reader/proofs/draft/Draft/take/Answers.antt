@@ -1,6 +1,6 @@
 use Rattle.std.proofs.Common.{◌∙◌, ap, sym}
 use Rattle.alb_reader.specs.Faults.{mark_fault}
-use Rattle.alb_reader.proofs.Filing.{end_draft, heading_taken}
+use Rattle.alb_reader.proofs.SectionFacts.{end_draft, heading_taken}
 use Rattle.alb_reader.proofs.draft.Draft.take.Goals as goal
 
 pub returns-in-Heading : goal.returns-in-Heading

@@ -1,5 +1,5 @@
 use Rattle.std.proofs.Common.{◌∙◌, ◌++◌, ◌∷◌, [], ap, sym, refl, rules}
-use Rattle.alb_reader.proofs.Taking.{count_taken, cycle_taken, strength_taken, time_taken, pair_taken}
+use Rattle.alb_reader.proofs.TakenLines.{count_taken, cycle_taken, strength_taken, time_taken, pair_taken}
 use Rattle.alb_reader.proofs.draft.Draft.take_body.Goals as goal
 
 pub returns-in_ok-some_number-in-Some-Tasks : goal.returns-in_ok-some_number-in-Some-Tasks

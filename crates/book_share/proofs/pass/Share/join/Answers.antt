@@ -4,10 +4,10 @@ use Rattle.book_share.specs.Places.{times}
 use Rattle.book_share.specs.Rule.{both_of, OwnRises}
 use Rattle.book_share.specs.Steps.{Mine, IsJoined}
 use Rattle.book_share.specs.inner.Inside.{IsResting}
-use Rattle.book_share.proofs.Halving.{joins}
-use Rattle.book_share.proofs.Loading.{settles}
+use Rattle.book_share.proofs.SplitFacts.{joins}
+use Rattle.book_share.proofs.LoadSteps.{settles}
 use Rattle.book_share.proofs.Lists.{rises_once, times_merged}
-use Rattle.book_share.proofs.Calling.{sound_of}
+use Rattle.book_share.proofs.CallFacts.{sound_of}
 use Rattle.book_share.specs.declared.marks.Marks.{Marks}
 use Rattle.book_share.specs.inner.Marking.{AreMarkedBy}
 use Rattle.book_share.specs.Passes.{PassView, PassOf, desk_by}

@@ -3,7 +3,7 @@ use Rattle.line_rules.specs.Entries.{IsUnanswered}
 use Rattle.lemma_core.specs.Desks.{entries, HasDerived}
 use Rattle.book_share.specs.Calls.{IsSound}
 use Rattle.book_share.specs.Passes.{PassOf, desk_by}
-use Rattle.book_share.proofs.Calling.{sound_of}
+use Rattle.book_share.proofs.CallFacts.{sound_of}
 use Rattle.book_share.proofs.pass.Share.lacks.Goals as goal
 
 pub returns-clause-none : goal.returns-clause-none

@@ -3,8 +3,8 @@ use mathlib.Core.Option.{none}
 use Rattle.atomic_table.specs.Table.{Allows, step}
 use Rattle.book_share.specs.Rule.{Kept}
 use Rattle.book_share.specs.Steps.{Mine, given, LoadsBest}
-use Rattle.book_share.proofs.Loading.{loads_best}
-use Rattle.book_share.proofs.Calling.{sound_of, after_load}
+use Rattle.book_share.proofs.LoadSteps.{loads_best}
+use Rattle.book_share.proofs.CallFacts.{sound_of, after_load}
 use Rattle.book_share.proofs.pass.Share.least.Goals as goal
 
 pub load-requires : goal.load-requires

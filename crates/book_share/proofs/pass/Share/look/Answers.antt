@@ -1,7 +1,7 @@
 use Rattle.book_share.specs.Passes.{desk_by}
 use Rattle.book_share.specs.inner.Turning.{waited}
 use Rattle.book_share.specs.inner.Inside.{IsResting}
-use Rattle.book_share.proofs.Calling.{sound_of, after_look, waits_in}
+use Rattle.book_share.proofs.CallFacts.{sound_of, after_look, waits_in}
 use Rattle.book_share.proofs.MarkFacts.{were_marked}
 use Rattle.book_share.proofs.pass.Share.look.Goals as goal
 

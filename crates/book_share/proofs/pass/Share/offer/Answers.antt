@@ -3,7 +3,7 @@ use Rattle.lemma_core.specs.Desks.{Offers}
 use Rattle.book_share.specs.Passes.{PassOf, desk_by}
 use Rattle.book_share.specs.inner.Turning.{waited}
 use Rattle.book_share.proofs.Hands.{offers_from}
-use Rattle.book_share.proofs.Calling.{sound_of, holds, rises_in, waits_in}
+use Rattle.book_share.proofs.CallFacts.{sound_of, holds, rises_in, waits_in}
 use Rattle.book_share.proofs.MarkFacts.{were_marked}
 use Rattle.book_share.proofs.pass.Share.offer.Goals as goal
 

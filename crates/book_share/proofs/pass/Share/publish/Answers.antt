@@ -3,7 +3,7 @@ use Rattle.lemma_core.specs.Desks.{FollowsSeen, Publishes}
 use Rattle.book_share.specs.Passes.{PassOf, desk_by}
 use Rattle.book_share.specs.inner.Turning.{waited}
 use Rattle.book_share.proofs.Hands.{publishes_from}
-use Rattle.book_share.proofs.Calling.{sound_of, holds, rises_in, waits_in, follows_in_turn}
+use Rattle.book_share.proofs.CallFacts.{sound_of, holds, rises_in, waits_in, follows_in_turn}
 use Rattle.book_share.proofs.MarkFacts.{were_marked}
 use Rattle.book_share.proofs.pass.Share.publish.Goals as goal
 

@@ -1,7 +1,7 @@
 use Rattle.std.proofs.Common.{ap, rules}
 use Rattle.book_share.specs.Steps.{Mine}
-use Rattle.book_share.proofs.Halving.{splits}
-use Rattle.book_share.proofs.Calling.{sound_of, cut_off}
+use Rattle.book_share.proofs.SplitFacts.{splits}
+use Rattle.book_share.proofs.CallFacts.{sound_of, cut_off}
 use Rattle.book_share.specs.Passes.{desk_by}
 use Rattle.book_share.proofs.MarkFacts.{unmarked}
 use Rattle.book_share.proofs.pass.Share.split.Goals as goal

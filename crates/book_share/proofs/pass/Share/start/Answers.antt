@@ -4,7 +4,7 @@ use Rattle.line_instance.specs.Line.{Line, tasks}
 use Rattle.lemma_core.specs.Books.{BookView}
 use Rattle.lemma_core.proofs.BookAsDesk.{fewest_seen}
 use Rattle.book_share.specs.Rule.{Kept, Stands, newcomer}
-use Rattle.book_share.proofs.Moves.{starts}
+use Rattle.book_share.proofs.TurnSteps.{starts}
 use Rattle.book_share.proofs.Hands.{reached_in}
 use Rattle.book_share.proofs.pass.Share.start.Goals as goal
 

@@ -1,4 +1,4 @@
-use Rattle.book_share.proofs.Calling.{sound_of, after_look, after_miss, waits_in}
+use Rattle.book_share.proofs.CallFacts.{sound_of, after_look, after_miss, waits_in}
 use Rattle.book_share.specs.Passes.{desk_by}
 use Rattle.book_share.proofs.MarkFacts.{were_marked}
 use Rattle.book_share.proofs.pass.Share.try_look.Goals as goal

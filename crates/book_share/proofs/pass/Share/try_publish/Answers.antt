@@ -4,7 +4,7 @@ use Rattle.lemma_core.specs.declared.types.Published.{Published}
 use Rattle.lemma_core.specs.Desks.{FollowsSeen, Publishes}
 use Rattle.book_share.specs.Passes.{PassOf, desk_by}
 use Rattle.book_share.proofs.Hands.{publishes_from}
-use Rattle.book_share.proofs.Calling.{sound_of, after_miss, holds, rises_in, waits_in, follows_in_turn}
+use Rattle.book_share.proofs.CallFacts.{sound_of, after_miss, holds, rises_in, waits_in, follows_in_turn}
 use Rattle.book_share.proofs.MarkFacts.{were_marked}
 use Rattle.book_share.proofs.pass.Share.try_publish.Goals as goal
 

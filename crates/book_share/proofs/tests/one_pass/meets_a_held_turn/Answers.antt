@@ -1,5 +1,5 @@
 use Rattle.book_share.specs.Passes.{desk_by}
-use Rattle.book_share.proofs.Calling.{after_look, waits_in}
+use Rattle.book_share.proofs.CallFacts.{after_look, waits_in}
 use Rattle.book_share.proofs.MarkFacts.{were_marked}
 use Rattle.book_share.proofs.tests.one_pass.meets_a_held_turn.Goals as goal
 

@@ -2,7 +2,7 @@ use Rattle.std.proofs.Common.{◌∷◌, [], Bool, true, List, ℕ, sym, subst}
 use Rattle.line_io.specs.Outside.{Grows}
 use Rattle.cert_text.specs.Sent.{Puts}
 use Rattle.cert_files.specs.inner.Pieces.{sent_into}
-use Rattle.cert_files.proofs.Sending.{failed_put}
+use Rattle.cert_files.proofs.SentBytes.{failed_put}
 use Rattle.cert_files.proofs.file_text.FileTextOutput.put.Goals as goal
 
 pub returns-in-Failed : goal.returns-in-Failed

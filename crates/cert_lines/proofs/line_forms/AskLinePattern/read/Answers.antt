@@ -3,7 +3,7 @@ use Rattle.cert_lines.specs.Rows.{row_text}
 use Rattle.cert_lines.specs.ValueRows.{ask_row}
 use Rattle.line_rules.specs.Ranges.{IsAsked, IsCycle}
 use Rattle.line_rules.specs.declared.types.Ask.TheVariants as ask
-use Rattle.cert_lines.proofs.Judged.{ask_cycle, ask_stations, no_cycle, no_stations, no_ask, out_of_range}
+use Rattle.cert_lines.proofs.JudgedLine.{ask_cycle, ask_stations, no_cycle, no_stations, no_ask, out_of_range}
 use Rattle.cert_lines.proofs.line_forms.AskLinePattern.read.Goals as goal
 
 pub returns-in-Ok : goal.returns-in-Ok

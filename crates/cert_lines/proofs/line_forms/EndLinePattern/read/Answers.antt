@@ -1,5 +1,5 @@
 use Rattle.std.specs.Prelude.{codes}
-use Rattle.cert_lines.proofs.Judged.{fixed_is, end_not}
+use Rattle.cert_lines.proofs.JudgedLine.{fixed_is, end_not}
 use Rattle.cert_lines.proofs.line_forms.EndLinePattern.read.Goals as goal
 
 pub returns-then-eq : goal.returns-then-eq

@@ -1,8 +1,8 @@
 use Rattle.std.proofs.Common.{◌∙◌, ◌<◌, sym, ap, arith}
 use Rattle.cert_lines.specs.inner.LineReading.{keyed_in}
-use Rattle.cert_lines.specs.Reading.{greatest}
+use Rattle.cert_lines.specs.Words.{greatest}
 use Rattle.cert_lines.specs.LineForms.{key_text}
-use Rattle.cert_lines.proofs.Judged.{number_form, number_range, keyed_line, key_lacks}
+use Rattle.cert_lines.proofs.JudgedLine.{number_form, number_range, keyed_line, key_lacks}
 use Rattle.cert_lines.proofs.line_forms.NumberLinePattern.read.Goals as goal
 
 pub returns-in_default : goal.returns-in_default

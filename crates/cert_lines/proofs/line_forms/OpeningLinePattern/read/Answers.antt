@@ -3,7 +3,7 @@ use Rattle.cert_lines.specs.Rows.{row_text}
 use Rattle.cert_lines.specs.LineForms.{opening_row, IsOpening}
 use Rattle.cert_lines.specs.declared.line_forms.Opening.TheVariants as opening
 use Rattle.line_rules.specs.declared.types.Ask.{Ask}
-use Rattle.cert_lines.proofs.Judged.{lower_read, no_lower, task_read, no_task, no_opening, no_bound, out_of_range}
+use Rattle.cert_lines.proofs.JudgedLine.{lower_read, no_lower, task_read, no_task, no_opening, no_bound, out_of_range}
 use Rattle.cert_lines.proofs.line_forms.OpeningLinePattern.read.Goals as goal
 
 pub returns-in-Ok : goal.returns-in-Ok

@@ -1,5 +1,5 @@
 use Rattle.std.proofs.Common.{sym, arith}
-use Rattle.cert_lines.proofs.JudgedMore.{seat_none, seat_ok, seat_range}
+use Rattle.cert_lines.proofs.JudgedSeat.{seat_none, seat_ok, seat_range}
 use Rattle.cert_lines.proofs.line_forms.SeatLinePattern.read.Goals as goal
 
 pub returns-in_default : goal.returns-in_default

@@ -1,7 +1,7 @@
 use Rattle.std.proofs.Common.{◌∙◌, sym, arith, ap, Some, None}
 use Rattle.std.proofs.lemmas.Bool.{false≢true}
 use Rattle.cert_lines.specs.LineForms.{IsHead}
-use Rattle.cert_lines.proofs.JudgedMore.{trail_none, trail_ok, trail_range}
+use Rattle.cert_lines.proofs.JudgedSeat.{trail_none, trail_ok, trail_range}
 use Rattle.cert_lines.proofs.line_forms.TrailLinePattern.read.Goals as goal
 
 pub returns-in_default : goal.returns-in_default

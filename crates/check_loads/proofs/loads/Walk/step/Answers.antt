@@ -8,7 +8,7 @@ use Rattle.load_facts.proofs.SideFacts.{each_side}
 use Rattle.load_facts.specs.Ends.{IsEnd}
 use Rattle.check_loads.specs.Standing.{end_of}
 use Rattle.check_loads.specs.declared.loads.Walk.{Walk}
-use Rattle.check_loads.proofs.Stepping.{start, goes_on, ends}
+use Rattle.check_loads.proofs.StepFacts.{start, goes_on, ends}
 use Rattle.check_loads.proofs.loads.Walk.step.Goals as goal
 
 pub advance-requires-clause-scan : goal.advance-requires-clause-scan

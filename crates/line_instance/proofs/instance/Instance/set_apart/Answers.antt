@@ -6,7 +6,7 @@ use Rattle.line_instance.specs.Line.{Line, tasks}
 use Rattle.line_instance.specs.Walks.{AreArcs, ArePairs, IsGiven}
 use Rattle.line_instance.specs.inner.Inside.{IsSound, ArePaired, ArePartners, of_rows}
 use Rattle.line_instance.specs.declared.partners.Kept.{Kept}
-use Rattle.line_instance.proofs.Sound.{parted}
+use Rattle.line_instance.proofs.InstanceFacts.{parted}
 use Rattle.line_instance.proofs.instance.Instance.set_apart.Goals as goal
 
 pub part-requires-clause-pairs : goal.part-requires-clause-pairs

@@ -1,5 +1,5 @@
 use Rattle.std.proofs.Common.{rules}
-use Rattle.steal_pool.proofs.Tallying.{looks}
+use Rattle.steal_pool.proofs.TallySteps.{looks}
 use Rattle.steal_pool.proofs.port.Deque.is_done.Goals as goal
 
 pub load-requires : goal.load-requires

@@ -1,6 +1,6 @@
 use Rattle.std.proofs.Common.{rules}
-use Rattle.steal_pool.proofs.Dealing.{merges}
-use Rattle.steal_pool.proofs.Tallying.{joins}
+use Rattle.steal_pool.proofs.DequeSteps.{merges}
+use Rattle.steal_pool.proofs.TallySteps.{joins}
 use Rattle.steal_pool.proofs.port.Deque.join.Goals as goal
 
 pub absorb-requires-clause-rule : goal.absorb-requires-clause-rule

@@ -1,6 +1,6 @@
 use Rattle.std.proofs.Common.{rules}
-use Rattle.steal_pool.proofs.Dealing.{learns}
-use Rattle.steal_pool.proofs.Tallying.{settles}
+use Rattle.steal_pool.proofs.DequeSteps.{learns}
+use Rattle.steal_pool.proofs.TallySteps.{settles}
 use Rattle.steal_pool.proofs.port.Deque.left.Goals as goal
 
 pub load-requires : goal.load-requires

@@ -1,6 +1,6 @@
 use Rattle.std.proofs.Common.{rules}
-use Rattle.steal_pool.proofs.Dealing.{forks}
-use Rattle.steal_pool.proofs.Tallying.{splits}
+use Rattle.steal_pool.proofs.DequeSteps.{forks}
+use Rattle.steal_pool.proofs.TallySteps.{splits}
 use Rattle.steal_pool.proofs.port.Deque.port.Goals as goal
 
 pub another-pass-requires : goal.another-pass-requires

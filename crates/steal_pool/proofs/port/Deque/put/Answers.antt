@@ -1,6 +1,6 @@
 use Rattle.std.proofs.Common.{rules}
-use Rattle.steal_pool.proofs.Dealing.{pushes}
-use Rattle.steal_pool.proofs.Tallying.{announces}
+use Rattle.steal_pool.proofs.DequeSteps.{pushes}
+use Rattle.steal_pool.proofs.TallySteps.{announces}
 use Rattle.steal_pool.proofs.port.Deque.put.Goals as goal
 
 pub fetch_add-requires : goal.fetch_add-requires

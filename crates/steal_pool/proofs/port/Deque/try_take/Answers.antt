@@ -1,6 +1,6 @@
 use Rattle.std.proofs.Common.{rules}
-use Rattle.steal_pool.proofs.Dealing.{takes}
-use Rattle.steal_pool.proofs.Tallying.{reports_one}
+use Rattle.steal_pool.proofs.DequeSteps.{takes}
+use Rattle.steal_pool.proofs.TallySteps.{reports_one}
 use Rattle.steal_pool.proofs.port.Deque.try_take.Goals as goal
 
 pub steal_as-requires-clause-takes : goal.steal_as-requires-clause-takes

@@ -4,7 +4,7 @@ use Rattle.std.specs.Fmt.{HasWritten}
 use Rattle.std.proofs.Output.{has_written_append, has_written_of_eq}
 use Rattle.task_set.specs.Truths.{members_of}
 use Rattle.task_set.specs.Text.{list_text}
-use Rattle.task_set.proofs.Listed.{text_step, text_end}
+use Rattle.task_set.proofs.ListedMembers.{text_step, text_end}
 use Rattle.task_set.proofs.iter.TaskSetDisplay.fmt.Goals as goal
 
 pub loop-i-preserved : goal.loop-i-preserved

@@ -2,7 +2,7 @@ use Rattle.std.proofs.Common.{◌↔◌, ℕ, ◌+◌, List, Bool, take, sym, su
 use Rattle.std.specs.List.{Contains}
 use Rattle.std.proofs.lemmas.List.{take_all}
 use Rattle.task_set.specs.Truths.{In}
-use Rattle.task_set.proofs.Listed.{listed_none, listed_more}
+use Rattle.task_set.proofs.ListedMembers.{listed_none, listed_more}
 use Rattle.task_set.proofs.sets.TaskSet.from_members.Goals as goal
 
 pub loop-i-init : goal.loop-i-init

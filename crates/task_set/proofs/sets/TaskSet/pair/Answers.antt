@@ -1,6 +1,6 @@
 use Rattle.std.proofs.Common.{◌∙◌, ap, get_or}
 use Rattle.task_set.specs.Tags.{pairs_of}
-use Rattle.task_set.proofs.Used.{joined}
+use Rattle.task_set.proofs.UsedPairs.{joined}
 use Rattle.task_set.proofs.sets.TaskSet.pair.Goals as goal
 
 pub returns : goal.returns

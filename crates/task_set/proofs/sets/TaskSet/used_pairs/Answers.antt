@@ -1,6 +1,6 @@
 use Rattle.std.proofs.Common.{◌∙◌, sym, ◌-◌, arith}
 use Rattle.task_set.specs.Tags.{pairs_of}
-use Rattle.task_set.proofs.Used.{none_used, last_used, past_pairs}
+use Rattle.task_set.proofs.UsedPairs.{none_used, last_used, past_pairs}
 use Rattle.task_set.proofs.sets.TaskSet.used_pairs.Goals as goal
 
 pub loop-k-init : goal.loop-k-init

@@ -1,5 +1,5 @@
 use Rattle.std.proofs.Common.{refl}
-use Rattle.cert_lines.proofs.Judged.{fixed_is}
+use Rattle.cert_lines.proofs.JudgedLine.{fixed_is}
 use Rattle.text_grammar.proofs.TextFacts.{title_not}
 use Rattle.text_grammar.proofs.title.TitleLinePattern.read.Goals as goal
 
