@@ -14,7 +14,7 @@ use Rattle.alb_reader.specs.declared.mark.Section.TheVariants.{Times, Pairs}
 use Rattle.alb_reader.specs.declared.mark.Mark.TheVariants.{Heading, Body}
 use Rattle.alb_reader.specs.declared.fault.AlbKind.{AlbKind}
 use Rattle.alb_reader.specs.declared.fault.AlbKind.TheVariants.{RepeatedHeading}
-use Rattle.alb_reader.proofs.SectionFacts.{append_nil, kept_front, or_assoc, section_snoc, filed_snoc}
+use Rattle.alb_reader.proofs.SectionFacts.{append_nil, kept_front, or_assoc, section_snoc, filed_snoc, or_false}
 use Rattle.alb_reader.proofs.UpToEnd.{append_assoc, NoEnd, before_append, end_append}
 
 pub section_append : (now : Option Section) (xs ys : Lines)
@@ -85,11 +85,7 @@ module _ (s : Section) (h : ℕ × List ℕ) (body : Lines) (m : mark_of h.1 ≡
 
   pub block_has : (t : Section) → has_heading t (h ∷ body) ≡ is_same t s
   block_has t = ap (λ x. is_heading t x || has_heading t body) m ∙ ap (λ x. is_same t s || x) (body_has t body b)
-      ∙ or_nothing (is_same t s)
-    where
-      or_nothing : (x : Bool) → (x || false) ≡ x
-      or_nothing true = refl
-      or_nothing false = refl
+      ∙ or_false (is_same t s)
 
   pub block_ahead : NoEnd (h ∷ body)
   block_ahead = no_end_cons h body (ap is_end_mark m) (body_ahead body b)

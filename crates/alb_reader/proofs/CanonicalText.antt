@@ -1,10 +1,10 @@
 -- The canonical text of a line is read as that line.
-use Rattle.std.proofs.Common.{◌≡◌, ◌∙◌, ℕ, zero, suc, ◌+◌, ◌^◌, ◌<◌, ◌≤◌, ◌&&◌, ◌||◌, Bool, true, false, cond, nat_eq}
+use Rattle.std.proofs.Common.{◌≡◌, ◌∙◌, ℕ, zero, suc, ◌+◌, ◌^◌, ◌<◌, ◌≤◌, ◌&&◌, ◌||◌, true, false, cond, nat_eq}
 use Rattle.std.proofs.Common.{nat_le, nat_lt, List, [], ◌∷◌, ◌++◌, length, Some, None, refl, sym, ap, arith}
 use Rattle.std.proofs.Common.{append_assoc, length-append, inl, inr}
 use Rattle.std.specs.Prelude.{decimal, codes}
 use Rattle.std.specs.List.{flat_map, range_with_len}
-use Rattle.std.proofs.lemmas.Bool.{cases_eq}
+use Rattle.std.proofs.lemmas.Bool.{cases_eq, eq-eqb, ne_eqb}
 use Rattle.std.proofs.lemmas.Bool.Decides.{nat_tests}
 use Rattle.line_io.specs.Lines.{all_digits}
 use Rattle.line_io.specs.declared.text.Num.TheVariants.{Value}
@@ -21,9 +21,10 @@ use Rattle.alb_reader.specs.Faults.{members_fault, value_or_0, AreRightFrom}
 use Rattle.alb_reader.specs.Instance.{time_of, arcs_of, with_pair}
 use Rattle.alb_reader.specs.Written.{tasks_section, cycle_section, timed_line}
 use Rattle.alb_reader.specs.declared.fault.AlbKind.TheVariants.{BadTask, RepeatedTask, BadArc}
-use Rattle.alb_reader.proofs.SectionFacts.{append_nil}
+use Rattle.alb_reader.proofs.SectionFacts.{append_nil, or_assoc, or_false}
 use Rattle.alb_reader.proofs.Blocks.{AreBodies, AreTimed, ArePaired}
 use Rattle.alb_reader.proofs.WrittenLines.{content_at, timed_content, timed_read, digits_body, digits_plain, all_plain}
+use Rattle.alb_reader.proofs.StatedLines.{in_range}
 
 -- the lines of tasks and their times, from a line number on
 unfoldable pub time_lines : Line → ℕ → List ℕ → Lines
@@ -130,38 +131,24 @@ module _ (line : Line) (few : tasks line ≤ 1024) (limit : (i : ℕ) → time l
       let rest : Lines = time_lines line (suc k) (range_with_len (a + 1) m) in
       elim (cases_eq a i) [
         | inl e ↦ (let same : nat_eq (task_named l0) (suc i) ≡ true =
-            alike (task_named l0) (suc i) (task_is a here ∙ omega (arith, e)) in (
+            eq-eqb (task_named l0) (suc i) (task_is a here ∙ omega (arith, e)) in (
               ap (λ b. b || names (suc i) rest) same,
               ap (λ b. cond b (time_said l0) (time_of (suc i) rest)) same ∙ time_is a here ∙ ap (time line) e,
             ))
         | inr d ↦ (let other : nat_eq (task_named l0) (suc i) ≡ false =
-            unlike (task_named l0) (suc i) (λ e. d (omega (arith, e, task_is a here))) in
+            ne_eqb (task_named l0) (suc i) (λ e. d (omega (arith, e, task_is a here))) in
             let f = found (suc k) (a + 1) m i (omega (arith, h)) (omega (arith, l, d)) (omega (arith, g)) in (
               ap (λ b. b || names (suc i) rest) other ∙ f.0,
               ap (λ b. cond b (time_said l0) (time_of (suc i) rest)) other ∙ f.1,
             ))
       ]
-    where
-      alike : (x y : ℕ) → x ≡ y → nat_eq x y ≡ true
-      alike x y e = grind (arith, nat_tests, e)
-
-      unlike : (x y : ℕ) → (x ≡ y → ⊥) → nat_eq x y ≡ false
-      unlike x y d = grind (arith, nat_tests, d)
 
   -- each line names a task that none before it names
   named_snoc : (v : ℕ) (xs : Lines) (l : ℕ × List ℕ) → names v (xs ++ l ∷ [])
       ≡ (names v xs || nat_eq (task_named l.1) v)
-  named_snoc v [] l = or_nothing (nat_eq (task_named l.1) v)
-    where
-      or_nothing : (x : Bool) → (x || false) ≡ x
-      or_nothing true = refl
-      or_nothing false = refl
+  named_snoc v [] l = or_false (nat_eq (task_named l.1) v)
   named_snoc v (x ∷ xs) l = ap (λ b. nat_eq (task_named x.1) v || b) (named_snoc v xs l)
-      ∙ join (nat_eq (task_named x.1) v) (names v xs) (nat_eq (task_named l.1) v)
-    where
-      join : (a b c : Bool) → (a || (b || c)) ≡ ((a || b) || c)
-      join true b c = refl
-      join false b c = refl
+      ∙ or_assoc (nat_eq (task_named x.1) v) (names v xs) (nat_eq (task_named l.1) v)
 
   pub tasks_right : (k a m : ℕ) (before : Lines) → a + m ≤ tasks line → ((i : ℕ) → a ≤ i → names (suc i) before ≡ false)
       → AreRightFrom (task_fault (tasks line)) before (time_lines line k (range_with_len a m))
@@ -179,14 +166,8 @@ module _ (line : Line) (few : tasks line ≤ 1024) (limit : (i : ℕ) → time l
             ∙ ap (λ b. cond b (Some RepeatedTask) None) (n a (omega arith)),
         tasks_right (suc k) (a + 1) m (before ++ l ∷ []) (omega (arith, h))
             (λ i g. named_snoc (suc i) before l ∙ ap (λ b. b || nat_eq (task_named l.1) (suc i))
-            (n i (omega (arith, g))) ∙ unlike (task_named l.1) (suc i) (λ e. absurd (omega (arith, e, v, g)))),
+            (n i (omega (arith, g))) ∙ ne_eqb (task_named l.1) (suc i) (λ e. absurd (omega (arith, e, v, g)))),
       )
-    where
-      in_range : (n v : ℕ) → 1 ≤ v → v ≤ n → (nat_le 1 v && nat_le v n) ≡ true
-      in_range n v a b = grind (arith, nat_tests, a, b)
-
-      unlike : (x y : ℕ) → (x ≡ y → ⊥) → nat_eq x y ≡ false
-      unlike x y d = grind (arith, nat_tests, d)
 
 -- the lines of pairs
 module _ (n : ℕ) (few : n ≤ 1024) where

@@ -2,6 +2,7 @@
 use Rattle.std.proofs.Common.{◌≡◌, ◌∙◌, ℕ, List, [], ◌∷◌, ◌++◌, length, Option, Some, None, sym, ap, subst, arith, inl}
 use Rattle.std.proofs.Common.{inr}
 use Rattle.std.proofs.lemmas.Bool.{false≢true}
+use Rattle.std.proofs.lemmas.Option.{same_Some, none-some}
 use Rattle.line_instance.specs.Line.{Line}
 use Rattle.line_instance.specs.Walks.{IsRing}
 use Rattle.in2_reader.specs.Contents.{Lines, contents_from, lines_in}
@@ -18,12 +19,6 @@ use Rattle.in2_reader.proofs.Acyclic.{no_ring}
 use Rattle.alb_reader.proofs.SectionFacts.{append_nil}
 use Rattle.alb_reader.proofs.UpToEnd.{append_assoc}
 
-none_is : {A : Type 0} (x : A) → None ≡ Some x → ⊥
-none_is x e = cc
-
-pub one_is : {A : Type 0} (x y : A) → Some x ≡ Some y → x ≡ y
-one_is x y e = cc
-
 right_at : (fault : Lines → List ℕ → Option AlbKind) (before xs : Lines) (l : ℕ × List ℕ) (ys : Lines)
     → AreRightFrom fault before (xs ++ l ∷ ys) → fault (before ++ xs) l.1 ≡ None
 right_at fault before [] l ys r = ap (λ b. fault b l.1) (append_nil before) ∙ r.0
@@ -32,18 +27,18 @@ right_at fault before (x ∷ xs) l ys r = ap (λ b. fault b l.1) (append_assoc b
 
 wrong_is_wrong : (fault : Lines → List ℕ → Option AlbKind) (lines : Lines) (number : ℕ) (kind : AlbKind)
     → IsFirstWrong fault lines number kind → AreRight fault lines → ⊥
-wrong_is_wrong fault lines number kind w r = none_is kind (sym
+wrong_is_wrong fault lines number kind w r = none-some kind (sym
     (right_at fault [] w.before w.at w.after (subst (AreRight fault) w.all r)) ∙ w.wrong)
 
 empty_says : (lines : Lines) (n : ℕ) → length lines ≡ 0 → first_number 1024 lines ≡ Some n → ⊥
-empty_says [] n e f = none_is n f
+empty_says [] n e f = none-some n f
 empty_says (l ∷ lines) n e f = omega (arith, e)
 
 pub form_excluded : (lines : Lines) (last end n : ℕ) (f : AlbFault) → IsFormFault lines last f → IsFormed lines end n
     → ⊥
 form_excluded lines last end n f (IsFormFault.at_line w) r =
     wrong_is_wrong line_fault (before_end lines) f.line f.kind w r.right
-form_excluded lines last end n f (IsFormFault.open_ended right none l k) r = none_is end (sym none ∙ r.marked)
+form_excluded lines last end n f (IsFormFault.open_ended right none l k) r = none-some end (sym none ∙ r.marked)
 form_excluded lines last end n f (IsFormFault.no_section right marked k (inl e)) r =
     empty_says (under Tasks (before_end lines)) n e r.tasks
 form_excluded lines last end n f (IsFormFault.no_section right marked k (inr e)) r = omega (arith, e, r.times)
@@ -63,7 +58,7 @@ fault_excludes bytes f line c (inl w) r = form_excluded (contents_from 1 bytes) 
     r.formed
 fault_excludes bytes f line c (inr q) r =
     let head : Lines = before_end (contents_from 1 bytes) in
-    let same : q.1 ≡ r.n = one_is q.1 r.n (sym q.2.tasks ∙ r.formed.tasks) in
+    let same : q.1 ≡ r.n = same_Some q.1 r.n (sym q.2.tasks ∙ r.formed.tasks) in
     fill_excluded head q.0 r.n f (subst (λ n. IsFillFault head q.0 n f) same q.3) r.filled
     (λ ring s. no_ring (times_said r.n head) (arcs_said head) line ring r.is s)
 

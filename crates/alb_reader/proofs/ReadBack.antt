@@ -7,6 +7,7 @@ use Rattle.std.specs.List.{flat_map, range_with_len}
 use Rattle.std.proofs.lemmas.Bool.Decides.{nat_tests}
 use Rattle.std.proofs.lemmas.List.{ext_get_or}
 use Rattle.std.proofs.lemmas.List.FromFn.{get_or-map-range_with_len, length-map-range_with_len}
+use Rattle.std.proofs.lemmas.Option.{same_Some}
 use Rattle.line_io.specs.Lines.{number_in}
 use Rattle.line_io.specs.declared.text.Num.TheVariants.{Value}
 use Rattle.line_instance.specs.declared.arcs.Prec.{Prec}
@@ -47,7 +48,7 @@ use Rattle.alb_reader.proofs.CanonicalText.{time_bodies}
 use Rattle.alb_reader.proofs.CanonicalText.{time_timed, time_many, found, tasks_right, pair_bodies, pair_paired}
 use Rattle.alb_reader.proofs.CanonicalText.{pair_arcs}
 use Rattle.alb_reader.proofs.CanonicalText.{pair_many, arcs_right}
-use Rattle.alb_reader.proofs.FaultFacts.{form_excluded, fill_excluded, one_is}
+use Rattle.alb_reader.proofs.FaultFacts.{form_excluded, fill_excluded}
 
 -- the block of a section of one number
 abbrev block_of : ℕ → List ℕ → ℕ → Lines
@@ -413,13 +414,13 @@ module _ (line : Line) (cycle : Option ℕ) (ps : List Prec) (s : IsLine line) (
       (tasks line) f w formed
   no_fault f (inr q) =
       let h : Lines = before_end (contents_from 1 (alb_text line ps cycle)) in
-      let same : q.1 ≡ tasks line = one_is q.1 (tasks line) (sym q.2.tasks ∙ formed.tasks) in
+      let same : q.1 ≡ tasks line = same_Some q.1 (tasks line) (sym q.2.tasks ∙ formed.tasks) in
       fill_excluded h q.0 (tasks line) f (subst (λ n. IsFillFault h q.0 n f) same q.3) filled not_round
 
   the_line : (l : Line) (x : Option ℕ) → IsAlbReading (alb_text line ps cycle) l x → IsReadBack line cycle (Good l x)
   the_line l x a =
       let h : Lines = before_end (contents_from 1 (alb_text line ps cycle)) in
-      let same : a.n ≡ tasks line = one_is a.n (tasks line) (sym a.formed.tasks ∙ formed.tasks) in
+      let same : a.n ≡ tasks line = same_Some a.n (tasks line) (sym a.formed.tasks ∙ formed.tasks) in
       let times : l.times ≡ line.times = a.is.times ∙ ap (λ n. times_said n h) same ∙ times_back in
       let walks : (i j : ℕ) → Walk (arcs_said h) i j ↔ Before line i j =
       subst (λ arcs. (i j : ℕ) → Walk arcs i j ↔ Before line i j) (sym arcs_back)

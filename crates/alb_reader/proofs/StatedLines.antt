@@ -3,7 +3,7 @@ use Rattle.std.proofs.Common.{◌≡◌, ◌∙◌, ℕ, zero, suc, ◌+◌, ◌
 use Rattle.std.proofs.Common.{nat_lt, nat_le, List, [], ◌∷◌, ◌++◌, length, get_or, take, drop, map, set, replicate}
 use Rattle.std.proofs.Common.{Option, Some, None, refl, sym, ap, subst, arith, inl, inr, add-one}
 use Rattle.std.specs.Option.{is_some as is_there}
-use Rattle.std.proofs.lemmas.Bool.{cases_eq}
+use Rattle.std.proofs.lemmas.Bool.{cases_eq, eq-eqb, ne_eqb}
 use Rattle.std.proofs.lemmas.List.{get_or-set_same, get_or-set_other, get_or-replicate, length-set, length-replicate}
 use Rattle.std.proofs.lemmas.List.{take_all, ext_get_or}
 use Rattle.std.proofs.lemmas.List.FromFn.{get_or-map-range_with_len, length-map-range_with_len}
@@ -19,6 +19,7 @@ use Rattle.alb_reader.specs.Instance.{arcs_of, with_pair, time_of, times_of, All
 use Rattle.std.specs.Prelude.{Result, Ok, Err}
 use Rattle.std.specs.declared.vec.Vec.{Vec}
 use Rattle.std.specs.declared.alloc.Global.{Global}
+use Rattle.std.proofs.lemmas.Option.{same_Some, none-some}
 use Rattle.alb_reader.specs.declared.fault.AlbError.{AlbError}
 use Rattle.alb_reader.specs.declared.fault.AlbError.TheVariants as errors
 use Rattle.alb_reader.specs.inner.Fillings.{given_of, AreGiven, IsThere, IsFirstNone, named_arc, GivesWhole}
@@ -103,10 +104,7 @@ names_given v (l ∷ lines) = by_test (nat_eq (task_named l.1) v) (names_given v
     by_test false e = e
 
 pub time_given : (v : ℕ) (lines : Lines) (t : ℕ) → given_of v lines ≡ Some t → time_of v lines ≡ t
-time_given v [] t e = absurd (no_time t e)
-  where
-    no_time : (t : ℕ) → None ≡ Some t → ⊥
-    no_time t e = cc
+time_given v [] t e = absurd (none-some t e)
 time_given v (l ∷ lines) t e = by_test (nat_eq (task_named l.1) v) (time_given v lines t) e
   where
     by_test : (b : Bool) → (given_of v lines ≡ Some t → time_of v lines ≡ t)
@@ -120,7 +118,7 @@ pub bad_task : (n : ℕ) (before : Lines) (content : List ℕ) → (nat_le 1 (ta
 bad_task n before content h = ap (λ b. cond b (cond (names (task_named content) before) (Some RepeatedTask) None)
     (Some BadTask)) h
 
-in_range : (n v : ℕ) → 1 ≤ v → v ≤ n → (nat_le 1 v && nat_le v n) ≡ true
+pub in_range : (n v : ℕ) → 1 ≤ v → v ≤ n → (nat_le 1 v && nat_le v n) ≡ true
 in_range n v a b = grind (arith, nat_tests, a, b)
 
 pub named_task : (n : ℕ) (before : Lines) (content : List ℕ) (named : Bool) → 1 ≤ task_named content
@@ -148,14 +146,8 @@ pub arc_right : (n : ℕ) (p : Pair) (a : Prec) → named_arc n (arc_of p) ≡ S
 arc_right n (Arc x) a e = by_test (nat_lt x.first n && nat_lt x.«then» n) e
   where
     by_test : (b : Bool) → cond b (Some x) None ≡ Some a → (cond b None (Some BadArc) ≡ None) × (x ∷ [] ≡ a ∷ [])
-    by_test true e = (refl, ap (λ y. y ∷ []) (same x a e))
-      where
-        same : (x a : Prec) → Some x ≡ Some a → x ≡ a
-        same x a e = cc
-    by_test false e = absurd (no_arc a e)
-      where
-        no_arc : (a : Prec) → None ≡ Some a → ⊥
-        no_arc a e = cc
+    by_test true e = (refl, ap (λ y. y ∷ []) (same_Some x a e))
+    by_test false e = absurd (none-some a e)
 arc_right n NoTasks a e = (cc)
 arc_right n MinusOnes a e = (cc)
 arc_right n Other a e = (cc)
@@ -186,12 +178,6 @@ none_given : (o : Option ℕ) → is_there o ≡ false → o ≡ None
 none_given None e = refl
 none_given (Some t) e = (cc)
 
-unlike : (a b : ℕ) → (a ≡ b → ⊥) → nat_eq a b ≡ false
-unlike a b d = grind (arith, nat_tests, d)
-
-alike : (a b : ℕ) → a ≡ b → nat_eq a b ≡ true
-alike a b d = grind (arith, nat_tests, d)
-
 suc_same : (a b : ℕ) → suc a ≡ suc b → a ≡ b
 suc_same a b e = omega (arith, e)
 
@@ -215,11 +201,11 @@ given_up_to lines k n task time given h g in_n v t none =
                 ∙ get_or-set_same given task (Some time) None (omega (arith, in_n, g.many))
                 ∙ sym (then_ ∙ ap (λ o. or_given o (cond (nat_eq (task_named l.1) (suc i)) (Some (time_said l.1)) None))
                 free
-                ∙ ap (λ b. cond b (Some (time_said l.1)) None) (alike (task_named l.1) (suc i) (v ∙ ap suc (sym e)))
+                ∙ ap (λ b. cond b (Some (time_said l.1)) None) (eq-eqb (task_named l.1) (suc i) (v ∙ ap suc (sym e)))
                 ∙ ap Some t))
             | inr d ↦ (get_or-set_other given task i (Some time) None d ∙ g.each i w
                 ∙ sym (then_ ∙ ap (λ b. or_given (given_of (suc i) (take k lines)) (cond b (Some (time_said l.1)) None))
-                (unlike (task_named l.1) (suc i) (λ e. d (suc_same i task (sym e ∙ v))))
+                (ne_eqb (task_named l.1) (suc i) (λ e. d (suc_same i task (sym e ∙ v))))
                 ∙ no_other (given_of (suc i) (take k lines))))
           ];
     }

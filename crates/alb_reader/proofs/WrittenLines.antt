@@ -4,30 +4,29 @@ use Rattle.std.proofs.Common.{◌∷◌, ◌++◌, length, Some, refl, sym, ap, 
 use Rattle.std.specs.Prelude.{map}
 use Rattle.std.specs.Char.{to_ascii_lowercase}
 use Rattle.std.proofs.lemmas.Bool.Decides.{nat_tests}
-use Rattle.line_io.specs.Lines.{lines_of, onto_first, content, is_blank, without_front, without_back, with_first}
+use Rattle.std.proofs.lemmas.Bool.{and_from, not-true}
+use Rattle.line_io.specs.Lines.{lines_of, onto_first, content, without_front, without_back, with_first}
 use Rattle.line_io.specs.Lines.{is_digit, all_digits, number_in}
 use Rattle.line_io.specs.declared.text.Num.TheVariants.{Value}
 use Rattle.in2_reader.specs.Contents.{numbered, contents_from}
 use Rattle.in2_reader.specs.Pairs.{onto_front}
-use Rattle.in2_reader.proofs.Digits.{Spell, number_read, left, right, not_gap, gaps_front, digits_solid, all_solid}
+use Rattle.in2_reader.proofs.Digits.{Spell, number_read, not_gap, gaps_front, digits_solid, all_solid}
 use Rattle.alb_reader.specs.Sections.{mark_of, named}
 use Rattle.alb_reader.specs.Faults.{gap_split, timed, timed_by}
 use Rattle.alb_reader.specs.declared.mark.Mark.TheVariants.{Body}
+use Rattle.in2_reader.proofs.Digits.{back_kept, not_blank}
+use Rattle.line_io.proofs.ReadFacts.{right, left}
 
 -- no byte ends a line
 abbrev pub all_plain : List ℕ → Bool
 all_plain [] = true
 all_plain (b ∷ bytes) = not (nat_eq b 10) && all_plain bytes
 
-not_it : (b : Bool) → not b ≡ true → b ≡ false
-not_it true e = (cc)
-not_it false e = refl
-
 line_kept : (line rest : List ℕ) → all_plain line ≡ true → lines_of (line ++ 10 ∷ rest) ≡ line ∷ lines_of rest
 line_kept [] rest e = refl
 line_kept (b ∷ line) rest e =
     ap (λ t. cond t ([] ∷ lines_of (line ++ 10 ∷ rest)) (onto_first b (lines_of (line ++ 10 ∷ rest))))
-    (not_it (nat_eq b 10) (left (not (nat_eq b 10)) (all_plain line) e))
+    (not-true (nat_eq b 10) (left (not (nat_eq b 10)) (all_plain line) e))
     ∙ ap (onto_first b) (line_kept line rest (right (not (nat_eq b 10)) (all_plain line) e))
 
 -- a line is the first content of the text
@@ -48,29 +47,17 @@ nothing_at k rest = refl
 plain_digit : (b : ℕ) → is_digit b ≡ true → not (nat_eq b 10) ≡ true
 plain_digit b e = (let l : nat_le 48 b ≡ true = left (nat_le 48 b) (nat_le b 57) e in grind (arith, nat_tests, l))
 
-both : (a b : Bool) → a ≡ true → b ≡ true → (a && b) ≡ true
-both a b e f = ap (λ x. x && b) e ∙ f
-
 pub digits_plain : (ds more : List ℕ) → all_digits ds ≡ true → all_plain more ≡ true → all_plain (ds ++ more) ≡ true
 digits_plain [] more e p = p
-digits_plain (b ∷ ds) more e p = both (not (nat_eq b 10)) (all_plain (ds ++ more))
+digits_plain (b ∷ ds) more e p = and_from (not (nat_eq b 10)) (all_plain (ds ++ more))
     (plain_digit b (left (is_digit b) (all_digits ds) e)) (digits_plain ds more (right (is_digit b) (all_digits ds) e)
     p)
-
-solid_not_blank : (b : ℕ) → nat_le 33 b ≡ true → is_blank b ≡ false
-solid_not_blank b e = grind (arith, nat_tests, e)
-
--- solid bytes at the end stay
-back_solid : (es : List ℕ) → all_solid es ≡ true → without_back es ≡ es
-back_solid [] e = refl
-back_solid (b ∷ []) e = ap (λ t. cond t [] (b ∷ [])) (solid_not_blank b (left (nat_le 33 b) true e))
-back_solid (b ∷ c ∷ es) e = ap (with_first b) (back_solid (c ∷ es) (right (nat_le 33 b) (all_solid (c ∷ es)) e))
 
 with_kept : (b c : ℕ) (xs : List ℕ) → with_first b (c ∷ xs) ≡ b ∷ c ∷ xs
 with_kept b c xs = refl
 
 back_kept : (xs es : List ℕ) → all_solid es ≡ true → 0 < length es → without_back (xs ++ es) ≡ xs ++ es
-back_kept [] es e some = back_solid es e
+back_kept [] es e some = back_kept es e
 back_kept (x ∷ xs) es e some = ap (with_first x) (back_kept xs es e some)
     ∙ some_first x (xs ++ es) (omega (arith, some, length-append xs es))
   where
@@ -82,7 +69,7 @@ front_kept : (ds more : List ℕ) → all_digits ds ≡ true → 0 < length ds �
 front_kept [] more e some = absurd (omega (arith, some))
 front_kept (b ∷ ds) more e some =
     let l : nat_le 48 b ≡ true = left (nat_le 48 b) (nat_le b 57) (left (is_digit b) (all_digits ds) e) in
-    ap (λ t. cond t (without_front (ds ++ more)) (b ∷ (ds ++ more))) (solid_not_blank b (grind (arith, nat_tests, l)))
+    ap (λ t. cond t (without_front (ds ++ more)) (b ∷ (ds ++ more))) (not_blank b (grind (arith, nat_tests, l)))
 
 pub timed_content : (ds es : List ℕ) → all_digits ds ≡ true → 0 < length ds → all_digits es ≡ true → 0 < length es
     → content (ds ++ 32 ∷ es) ≡ ds ++ 32 ∷ es

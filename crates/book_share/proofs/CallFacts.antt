@@ -11,7 +11,8 @@ use Rattle.book_share.specs.inner.Turning.{Holds}
 use Rattle.book_share.specs.inner.Inside.{IsResting}
 use Rattle.book_share.specs.Calls.{IsSound}
 use Rattle.book_share.proofs.Hands.{waits_by, follows_by}
-use Rattle.book_share.proofs.Lists.{begins_length, rises_wider, rises_le, rises_at, are_own}
+use Rattle.book_share.proofs.Lists.{rises_wider, rises_le, rises_at, are_own}
+use Rattle.lemma_core.proofs.OwnFacts.{begins_longer}
 
 -- what a resting seat knows is sound
 pub sound_of : (m : Mine) → IsResting m → IsSound m.0
@@ -43,7 +44,7 @@ module _ (v : PassView) (m : Mine) (b : BookView) (had : IsHad v b) (is : m ≡ 
 
   pub rises_in : OwnRises v → OwnRises m.0
   rises_in r = subst (λ (x : Mine). OwnRises x.0) (sym is) (rises_wider v.base.from v.own (length v.seen)
-      (length b.events) (begins_length v.seen b.events had.seen) r)
+      (length b.events) (begins_longer v.seen b.events had.seen) r)
 
   pub waits_in : Waits (desk_by v) (desk_by m.0)
   waits_in = subst (λ (x : Mine). Waits (desk_by v) (desk_by x.0)) (sym is)

@@ -2,7 +2,6 @@
 use Rattle.std.proofs.Common.{◌≡◌, ◌≢◌, ℕ, ◌<◌, ◌≤◌, suc, Bool, true, List, [], ◌∷◌, ◌++◌, length, length-append, refl}
 use Rattle.std.proofs.Common.{sym, ap, ◌∙◌, subst, arith, append-nil}
 use Rattle.std.proofs.lemmas.Bool.{true≢false}
-use Rattle.std.proofs.lemmas.Bool.Decides.{nat_tests}
 use Rattle.line_rules.specs.Accepted.{HasBalance}
 use Rattle.line_rules.specs.Balance.{seat}
 use Rattle.line_rules.specs.Entries.{Follows, IsDerived, IsLastAnswer, IsUnanswered}
@@ -14,16 +13,16 @@ use Rattle.lemma_core.specs.declared.types.Offered.{Offered}
 use Rattle.lemma_core.specs.declared.types.Offered.TheVariants as offered
 use Rattle.lemma_core.specs.Machine.{About}
 use Rattle.lemma_core.specs.History.{Item, added, known, better, Standing, replay, Begins, AreExact}
-use Rattle.lemma_core.specs.Books.{BookView, IsBook, IsReserved, desk_of}
+use Rattle.lemma_core.specs.Books.{BookView, IsBook, desk_of}
 use Rattle.lemma_core.specs.Desks.{entries, HasDerived, FollowsSeen, Waits, Adds, Finds, Publishes, Offers}
-use Rattle.lemma_core.proofs.BookAsDesk.{is_roomy, fewest_seen}
-use Rattle.lemma_core.proofs.HistoryGrows.{follows_still}
+use Rattle.lemma_core.proofs.BookAsDesk.{is_roomy, fewest_seen, roomy_is}
+use Rattle.lemma_core.proofs.HistoryGrows.{follows_still, begins_on}
 use Rattle.book_share.specs.Passes.{Base, PassView, desk_by}
 use Rattle.book_share.specs.Places.{Rises}
 use Rattle.book_share.specs.Rule.{IsFor, IsReached, OwnRises, fewest}
 use Rattle.book_share.specs.Steps.{Mine}
 use Rattle.book_share.specs.inner.Turning.{Holds, HasNew, IsQuiet, Ends, noted}
-use Rattle.book_share.proofs.Lists.{begins_trans, rises_push}
+use Rattle.book_share.proofs.Lists.{rises_push}
 
 -- what is true of a book's matter, opening and log is true of the share's and the history
 pub over : (P : About × (Standing × List Item) → Type 0) (base : Base) (h : List Item) (b : BookView) → IsFor base h b
@@ -44,10 +43,6 @@ derived_by v b is = over (λ x. IsDerived x.0.kind x.0.line (replay x.1.0 x.1.1)
 pub finds_by : (v : PassView) (b : BookView) (set : List Bool) (most : ℕ) (r : Looked) → IsFor v.base v.seen b
     → Finds (entries (desk_of b)) set most b.about.cycle r → Finds (entries (desk_by v)) set most v.base.about.cycle r
 finds_by v b set most r is = over (λ x. Finds (replay x.1.0 x.1.1).entries set most x.0.cycle r) v.base v.seen b is
-
--- room for offers, as a fact and as a test
-pub roomy_of : (b : BookView) → IsReserved b → (desk_of b).roomy ≡ true
-roomy_of b r = grind (arith, nat_tests, r)
 
 -- so many stations as the history of a book has have a balance
 pub reached_in : (b : BookView) → IsBook b → IsReached b.about (replay b.opening b.events).stations
@@ -96,10 +91,10 @@ adds_from v t w before i a b = record {
     alone = refl;
     roomy = λ z. z;
     kept = refl;
-    seen = begins_trans v.seen t.seen w.seen a.keeps.seen b.keeps.seen;
+    seen = begins_on v.seen t.seen w.seen a.keeps.seen b.keeps.seen;
   };
   last = b.last;
-  since = begins_trans v.seen t.seen before a.keeps.seen b.since;
+  since = begins_on v.seen t.seen before a.keeps.seen b.since;
   own = b.own ∙ ap (λ (ps : List ℕ). ps ++ length before ∷ []) a.own;
   still = λ z. absurd (true≢false (sym z));
 }
@@ -113,7 +108,7 @@ waits_from v t w a b = record {
     alone = refl;
     roomy = λ z. z;
     kept = refl;
-    seen = begins_trans v.seen t.seen w.seen a.keeps.seen b.keeps.seen;
+    seen = begins_on v.seen t.seen w.seen a.keeps.seen b.keeps.seen;
   };
   own = b.own ∙ a.own;
   still = λ z. absurd (true≢false (sym z));
@@ -180,7 +175,7 @@ has_new m b b' before i h a = record {
     about = a.keeps.about ∙ h.book.about;
     opening = a.keeps.opening ∙ h.book.opening;
     events = refl;
-    reserved = is_roomy b' (a.keeps.roomy (roomy_of b h.book.reserved));
+    reserved = is_roomy b' (a.keeps.roomy (roomy_is b h.book.reserved));
   };
 }
 
@@ -193,7 +188,7 @@ has_same m b b' h w = record {
     about = w.keeps.about ∙ h.book.about;
     opening = w.keeps.opening ∙ h.book.opening;
     events = w.still refl ∙ h.book.events;
-    reserved = is_roomy b' (w.keeps.roomy (roomy_of b h.book.reserved));
+    reserved = is_roomy b' (w.keeps.roomy (roomy_is b h.book.reserved));
   };
 }
 

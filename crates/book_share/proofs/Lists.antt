@@ -1,6 +1,6 @@
 -- Lists of events of which one begins another, and places that rise.
 use Rattle.std.proofs.Common.{◌≡◌, ◌≢◌, ℕ, zero, suc, ◌+◌, ◌<◌, ◌≤◌, Bool, true, false, cond, ◌&&◌, List, [], ◌∷◌, ◌++◌}
-use Rattle.std.proofs.Common.{length, refl, sym, ap, ◌∙◌, inl, inr, arith, length-append, append_assoc, append-nil}
+use Rattle.std.proofs.Common.{length, refl, sym, ap, ◌∙◌, inl, inr, arith, length-append, append-nil}
 use Rattle.std.proofs.Common.{Some}
 use Rattle.std.specs.Prelude.{nat_eq, nat_lt, nat_le, slice_get}
 use Rattle.std.proofs.lemmas.Bool.Decides.{nat_tests}
@@ -8,15 +8,13 @@ use Rattle.std.proofs.lemmas.Bool.{cases_lt}
 use Rattle.std.proofs.lemmas.Option.{same_Some}
 use Rattle.lemma_core.specs.History.{Item, Begins, AreOwn}
 use Rattle.book_share.specs.Places.{but_last, longer, shorter, times, once_from, Rises, put_in, merged}
+use Rattle.lemma_core.proofs.OwnFacts.{begins_longer}
 
 pub begins_refl : (xs : List Item) → Begins xs xs
 begins_refl xs = ([], append-nil xs)
 
 pub begins_push : (xs : List Item) (x : Item) → Begins xs (xs ++ x ∷ [])
 begins_push xs x = (x ∷ [], refl)
-
-pub begins_trans : (xs ys zs : List Item) → Begins xs ys → Begins ys zs → Begins xs zs
-begins_trans xs ys zs p q = (p.0 ++ q.0, sym (append_assoc xs p.0 q.0) ∙ ap (λ l. l ++ q.0) p.1 ∙ q.1)
 
 pub but_last_push : (xs : List Item) (x : Item) → but_last (xs ++ x ∷ []) ≡ xs
 but_last_push [] x = refl
@@ -27,9 +25,6 @@ pub begins_but_last : (xs : List Item) → Begins (but_last xs) xs
 begins_but_last [] = ([], refl)
 begins_but_last (x ∷ []) = (x ∷ [], refl)
 begins_but_last (x ∷ y ∷ ys) = let p = begins_but_last (y ∷ ys) in (p.0, ap (λ l. x ∷ l) p.1)
-
-pub begins_length : (xs ys : List Item) → Begins xs ys → length xs ≤ length ys
-begins_length xs ys p = omega (arith, length-append xs p.0, ap (λ (l : List Item). length l) p.1)
 
 no_more : (rest : List Item) → length rest ≤ 0 → rest ≡ []
 no_more [] l = refl
@@ -52,7 +47,7 @@ pub longer_left : (xs ys : List Item) → Begins ys xs → longer xs ys ≡ xs
 longer_left xs ys p = by (nat_lt (length xs) (length ys)) refl
   where
     by : (b : Bool) → nat_lt (length xs) (length ys) ≡ b → cond b ys xs ≡ xs
-    by true e = let l : length ys ≤ length xs = begins_length ys xs p in absurd (grind (arith, nat_tests))
+    by true e = let l : length ys ≤ length xs = begins_longer ys xs p in absurd (grind (arith, nat_tests))
     by false e = refl
 
 pub longer_right : (xs ys : List Item) → Begins xs ys → longer xs ys ≡ ys

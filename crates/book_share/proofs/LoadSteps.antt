@@ -11,14 +11,14 @@ use Rattle.atomic_table.proofs.Lists.{set_again, set_else}
 use Rattle.lemma_core.specs.History.{Item, added, known, better, Standing, replay, Begins, AreExact}
 use Rattle.lemma_core.specs.Books.{BookView}
 use Rattle.lemma_core.proofs.Runs.{replay-append}
-use Rattle.lemma_core.proofs.HistoryGrows.{stations_go_on}
+use Rattle.lemma_core.proofs.HistoryGrows.{stations_go_on, begins_on}
 use Rattle.lemma_core.proofs.ExactItems.{exact_begins}
 use Rattle.book_share.specs.Passes.{Phase, Idle, Holding, Recorded, Lowered, Spent, Base, PassView}
 use Rattle.book_share.specs.Places.{but_last, once_from}
 use Rattle.book_share.specs.Rule.{turn_of, shown, counted, fewest, spent, IsReached, Stands, Home, IsIdle, Kept}
 use Rattle.book_share.specs.Steps.{lowered, loaded, IsLeastCount, IsEventCount, Lowers, LoadsBest, LoadsCount, Settles}
 use Rattle.book_share.specs.inner.Turning.{IsQuiet}
-use Rattle.book_share.proofs.Lists.{begins_refl, begins_trans, but_last_push, begins_but_last}
+use Rattle.book_share.proofs.Lists.{begins_refl, but_last_push, begins_but_last}
 use Rattle.book_share.proofs.Sums.{at_same, set_there, all_set}
 use Rattle.book_share.proofs.TurnSteps.{Room, idle_in, idle_spent, places_set, parts_set, each_set, rises_set}
 use Rattle.book_share.proofs.TurnSteps.{heard_set}
@@ -154,7 +154,7 @@ least_count : (s : Room) (k : Kept s) (id : ℕ) (v : PassView) → get_elem? s.
 least_count s k id v at rest =
     let mine = idle_in s k id v at rest in
     let h : List Item = counted k.view.phase k.view.seen in
-    let begins : Begins v.seen h = begins_trans v.seen (shown k.view.phase k.view.seen) h mine.seen
+    let begins : Begins v.seen h = begins_on v.seen (shown k.view.phase k.view.seen) h mine.seen
     (shown_counted k.view.phase k.view.seen) in
     let found : slice_index s.words 2 ≡ fewest v.base h = found_best s k
     ∙ ap (λ (b : Base). fewest b h) (sym mine.base) in
@@ -175,7 +175,7 @@ event_count s k id v at rest =
     let mine = idle_in s k id v at rest in
     record {
       history = k.view.seen;
-      begins = begins_trans v.seen (shown k.view.phase k.view.seen) k.view.seen mine.seen
+      begins = begins_on v.seen (shown k.view.phase k.view.seen) k.view.seen mine.seen
           (shown_prefix k.view.phase k.view.seen);
       exact = subst (λ (b : Base). AreExact b.opening k.view.seen) (sym mine.base) k.stands.exact;
       count = ap (λ (l : List ℕ). slice_index l 1) k.words;

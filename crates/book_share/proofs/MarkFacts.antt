@@ -1,19 +1,18 @@
 -- Marks of entries: with those of one entry more, and what a mark that isn't there tells.
 use Rattle.std.proofs.Common.{◌≡◌, ℕ, suc, ◌+◌, ◌-◌, ◌/◌, ◌<◌, List, [], ◌∷◌, ◌++◌, Bool, length, take}
-use Rattle.std.proofs.Common.{length-append, length-set, append_assoc, refl, sym, ap, ◌∙◌, subst, arith, Some, Option}
+use Rattle.std.proofs.Common.{length-append, length-set, append_assoc, refl, sym, ap, ◌∙◌, subst, arith, Some}
 use Rattle.std.proofs.Common.{bit_and, bit_or}
 use Rattle.std.specs.Prelude.{slice_get, slice_index, slice_set}
-use Rattle.std.specs.Option.{option_map}
 use Rattle.std.proofs.lemmas.List.{map-append}
 use Rattle.std.proofs.lemmas.Nat.{and_le_r}
-use Rattle.std.proofs.lemmas.Option.{slice_get-map, slice_get_within, get_or_from_slice_get}
+use Rattle.std.proofs.lemmas.Option.{slice_get_within, get_or_from_slice_get}
 use Rattle.std.proofs.Math.Seq.{take-suc}
 use Rattle.line_rules.specs.Entries.{IsUnanswered, IsDerived}
 use Rattle.line_rules.specs.declared.types.Entry.{Entry}
 use Rattle.task_set.specs.Tags.{tag_of}
 use Rattle.lemma_core.specs.Sieves.{IsSieve, word_in, mark_of}
 use Rattle.lemma_core.specs.inner.Chains.{tags_of}
-use Rattle.lemma_core.proofs.ChainFacts.{sieve_push}
+use Rattle.lemma_core.proofs.ChainFacts.{sieve_push, tag-at}
 use Rattle.lemma_core.specs.Machine.{About}
 use Rattle.lemma_core.specs.History.{Standing, standing, replay}
 use Rattle.lemma_core.specs.Books.{BookView, desk_of}
@@ -30,13 +29,7 @@ use Rattle.book_share.specs.Passes.{PassView, desk_by}
 use Rattle.book_share.specs.Rule.{IsFor}
 use Rattle.book_share.specs.Steps.{Mine, given}
 use Rattle.book_share.specs.inner.Turning.{Holds, noted}
-use Rattle.lemma_core.proofs.BookAsDesk.{is_roomy}
-use Rattle.book_share.proofs.Hands.{roomy_of}
-
-tag_at : (es : List Entry) (j : ℕ) (e : Entry) → slice_get es j ≡ Some e
-    → slice_get (tags_of es) j ≡ Some (tag_of e.set)
-tag_at es j e g = slice_get-map (λ (x : Entry). tag_of x.set) es j
-    ∙ ap (λ (o : Option Entry). option_map (λ (x : Entry). tag_of x.set) o) g
+use Rattle.lemma_core.proofs.BookAsDesk.{is_roomy, roomy_is}
 
 -- the word of a tag is one of the words
 pub word_within : (count tag : ℕ) → 0 < count → word_in count tag < count
@@ -50,7 +43,7 @@ pub lacks : (words : List ℕ) (count : ℕ) (es : List Entry) (set : List Bool)
 lacks words count es set h not most cycle k e g a =
     let t : tag_of e.set ≡ tag_of set = ap (λ (s : List Bool). tag_of s) a.same in
     let P : ℕ → Type 0 = λ x. bit_and (slice_index words (word_in (length words) x)) (mark_of x) ≡ mark_of x in
-    not (subst P t (h.sieve k (tag_of e.set) (tag_at es k e g)))
+    not (subst P t (h.sieve k (tag_of e.set) (tag-at es k e g)))
 
 -- the marks of the first entries, with that of the next one
 pub one_more : (words now : List ℕ) (es : List Entry) (k : ℕ) (e : Entry) → AreMarksOf words k (take k es)
@@ -138,7 +131,7 @@ for_next v b b' is k = record {
   about = k.about ∙ is.about;
   opening = k.opening ∙ is.opening;
   events = refl;
-  reserved = is_roomy b' (k.roomy (roomy_of b is.reserved));
+  reserved = is_roomy b' (k.roomy (roomy_is b is.reserved));
 }
 
 -- the turn is over: the pass has seen the log of the book, whose marks were made

@@ -14,10 +14,11 @@ use Rattle.book_share.specs.Passes.{Phase, Idle, Base, PassView}
 use Rattle.book_share.specs.Places.{longer, times, once_from, Rises, total}
 use Rattle.book_share.specs.Rule.{spent, turn_of, shown, counted, fewest, Stands, Home, IsIdle, OwnRises, all_parts}
 use Rattle.book_share.specs.Rule.{own_times, Kept, left_of, right_of, both_of}
-use Rattle.book_share.proofs.Lists.{begins_refl, begins_length, begins_longer, longer_left, longer_right, rises_le}
+use Rattle.book_share.proofs.Lists.{begins_refl, begins_longer, longer_left, longer_right, rises_le}
 use Rattle.book_share.proofs.Lists.{rises_wider, times_merged, rises_merged, begins_both, begins_shorter, once_le}
 use Rattle.book_share.proofs.Sums.{at_same, set_there, total_set, total_push, total_two, all_set}
 use Rattle.book_share.proofs.TurnSteps.{Room, idle_in, idle_spent}
+use Rattle.lemma_core.proofs.OwnFacts.{begins_longer}
 
 half_sum : (p : ℕ) → cond (nat_lt 1 p) (p - 1) 0 + cond (nat_lt 1 p) 1 0 ≤ p
 half_sum p = grind (arith, nat_tests)
@@ -159,10 +160,10 @@ module _ (s : Room) (k : Kept s) (id other : ℕ) (v w : PassView) (at : get_ele
   b_rises : OwnRises b
   b_rises =
       let same : w.base.from ≡ v.base.from = ap (λ (y : Base). y.from) (theirs.base ∙ sym mine.base) in
-      let long = begins_length v.seen (longer v.seen w.seen)
+      let long = begins_longer v.seen (longer v.seen w.seen)
       (begins_both v.seen w.seen (begins_shorter v.seen w.seen (shown k.view.phase k.view.seen) mine.seen
       theirs.seen)).0 in
-      let long' = begins_length w.seen (longer v.seen w.seen)
+      let long' = begins_longer w.seen (longer v.seen w.seen)
       (begins_both v.seen w.seen (begins_shorter v.seen w.seen (shown k.view.phase k.view.seen) mine.seen
       theirs.seen)).1 in
       rises_merged v.base.from v.own w.own (length (longer v.seen w.seen))

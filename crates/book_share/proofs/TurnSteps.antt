@@ -17,9 +17,11 @@ use Rattle.book_share.specs.Places.{but_last, times, once_from, AreAllFrom, Rise
 use Rattle.book_share.specs.Rule.{newcomer, spent, turn_of, shown, counted, fewest, IsReached, Stands, IsFor, Home}
 use Rattle.book_share.specs.Rule.{IsIdle, OwnRises, all_parts, own_times, Kept}
 use Rattle.book_share.specs.Steps.{missed, taken, recorded, given, Takes, Records, Gives}
-use Rattle.book_share.proofs.Lists.{begins_refl, begins_trans, but_last_push, begins_but_last, begins_length, rises_le}
+use Rattle.book_share.proofs.Lists.{begins_refl, but_last_push, begins_but_last, rises_le}
 use Rattle.book_share.proofs.Lists.{rises_wider, rises_push, times_push, once_none, once_more}
 use Rattle.book_share.proofs.Sums.{at_same, set_there, total_set, total_at, total_two, total_only, all_set}
+use Rattle.lemma_core.proofs.OwnFacts.{begins_longer}
+use Rattle.lemma_core.proofs.HistoryGrows.{begins_on}
 
 abbrev pub Room : Type 0
 Room = State (Option BookView) PassView
@@ -214,8 +216,8 @@ had n id v rest s k at zero_is =
           | inr i ↦ inr (subst (λ (x : Base × List Item). IsIdle x.0 x.1 u) (λ t. (base t, hist t)) i)
         ];
         rises = rises_set s k id v w at (rises_wider v.base.from v.own (length v.seen) (length b.events)
-            (omega (arith, begins_length v.seen k.view.seen mine.seen, long)) (k.rises id v at));
-        heard = heard_set s k id v w at (begins_trans v.heard v.seen b.events (k.heard id v at)
+            (omega (arith, begins_longer v.seen k.view.seen mine.seen, long)) (k.rises id v at));
+        heard = heard_set s k id v w at (begins_on v.heard v.seen b.events (k.heard id v at)
             (subst (λ (h : List Item). Begins v.seen h) hist mine.seen));
         stands = subst (λ (x : Base × List Item). Stands x.0 x.1 x.1) (λ t. (base t, hist t)) (stands_at s k Idle p);
         places = places_set s k id v w at (length b.events) v.base.from (ap (λ (x : Base). x.from) (sym base))
@@ -338,12 +340,12 @@ module _ (s : Room) (k : Kept s) (id : ℕ) (v : PassView) (at : get_elem? s.vie
       | inr i ↦ inr (record {
         phase = i.phase;
         base = i.base ∙ sym base;
-        seen = begins_trans u.seen (shown v.phase v.seen) (shown w.phase w.seen) i.seen longer_is;
+        seen = begins_on u.seen (shown v.phase v.seen) (shown w.phase w.seen) i.seen longer_is;
       })
     ];
     rises = rises_set s k id v w at rises;
     heard = heard_set s k id v w at (subst (λ (h : List Item). Begins h w.seen) (sym heard)
-        (begins_trans v.heard v.seen w.seen (k.heard id v at) grows));
+        (begins_on v.heard v.seen w.seen (k.heard id v at) grows));
     stands = stands;
     places = λ x.
         let p = total_set (λ (u : PassView). times x u.own) s.views id v w at in

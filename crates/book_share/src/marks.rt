@@ -4,16 +4,14 @@
 //! the set tells. Where the bit of a set isn't there, no entry that was seen has the set. In each turn the marks catch
 //! up with the book in hand, at the price of one hash for each entry that the pass hadn't seen. They take 512 KiB, and
 //! with many more than a million entries they tell less, but never anything wrong.
-ghost use Rattle.std.specs.Prelude.{◌≡◌, ◌<◌, ◌≤◌, ℕ, false, true, List, ◌++◌, length, slice_index, slice_set, bit_or};
-ghost use Rattle.std.specs.Prelude.{IsTrue};
+ghost use Rattle.std.specs.Prelude.{◌≡◌, ◌≤◌, ℕ, List, ◌++◌, IsTrue};
 ghost use Rattle.line_rules.specs.Entries.{IsDerived, IsUnanswered};
 ghost use Rattle.line_rules.specs.declared.types.Entry.{Entry};
-ghost use Rattle.lemma_core.specs.Sieves.{word_in, mark_of};
 ghost use Rattle.book_share.specs.inner.Marking.{AreMarksOf, AreMarked, IsBehind, AreKept};
 ghost use Rattle.book_share.specs.declared.marks.Marks.TheVariants.{Off};
 
 use lemma_core::Book;
-use lemma_core::sieve::{mark, word};
+use lemma_core::sieve::{has_mark, put_mark};
 use std::alloc::Global;
 use std::mem;
 use task_set::TaskSet;
@@ -32,17 +30,6 @@ pub enum Marks {
     Kept { words: Vec<u64>, count: u64 },
 }
 
-// Puts the mark of a tag into its word.
-#[inline]
-fn put_mark(words: &mut Vec<u64>, tag: u32)
-    requires { 0 < length words.old.items }
-    ensures { let word = word_in (length words.old.items) tag in
-        words.new.items ≡ slice_set words.old.items word (bit_or (slice_index words.old.items word) (mark_of tag)) }
-{
-    let at = word(tag, words.len());
-    words[at] |= mark(tag);
-}
-
 // Goes on from the marks of the first `count` entries of a book to those of all.
 fn marked(words: Vec<u64>, count: u64, book: &Book) -> Marks
     requires { IsBehind words.items count book.now.state.entries }
@@ -51,7 +38,7 @@ fn marked(words: Vec<u64>, count: u64, book: &Book) -> Marks
     let mut words = words;
     let len = book.len();
     for id in count..len {
-        put_mark(&mut words, book.entry(id).set.tag());
+        put_mark(words.as_mut_slice(), book.entry(id).set.tag());
     }
     Marks::Kept { words, count: len }
 }
@@ -86,11 +73,7 @@ impl Marks {
         match self {
             Marks::Off => false,
             Marks::Blank(_) => false,
-            Marks::Kept { words, .. } => {
-                let tag = set.tag();
-                let mark = mark(tag);
-                words[word(tag, words.len())] & mark != mark
-            }
+            Marks::Kept { words, .. } => !has_mark(words.as_slice(), set.tag()),
         }
     }
 

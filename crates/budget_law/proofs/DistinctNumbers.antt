@@ -1,10 +1,10 @@
 -- Lists of numbers of which no two are equal.
-use Rattle.std.proofs.Common.{◌≡◌, ℕ, ◌<◌, ◌≤◌, true, false, Bool, ◌||◌, List, [], ◌∷◌, ◌++◌, length, refl, sym, ◌⊎◌}
+use Rattle.std.proofs.Common.{◌≡◌, ℕ, ◌<◌, ◌≤◌, true, false, List, [], ◌∷◌, ◌++◌, length, refl, sym, ◌⊎◌}
 use Rattle.std.proofs.Common.{inl, inr}
 use Rattle.std.specs.Prelude.{eqb}
 use Rattle.std.specs.List.{IsDistinct, AllByRecursion, list_any}
 use Rattle.std.proofs.lemmas.Map.Steps.{length-le_from_distinct_below}
-use Rattle.std.proofs.lemmas.Bool.{ne_eqb, eqb-true, false≢true}
+use Rattle.std.proofs.lemmas.Bool.{ne_eqb, eqb-true, false≢true, or_cases}
 
 -- y is one of the numbers
 abbrev pub Has : List ℕ → ℕ → Type 0
@@ -37,13 +37,9 @@ unfolding IsDistinct
 distinct_of [] d = tt
 distinct_of (x ∷ xs) d = (all_differ x xs d.0, distinct_of xs d.1)
 
-or_parts : (a b : Bool) → (a || b) ≡ true → (a ≡ true) ⊎ (b ≡ true)
-or_parts true b e = inl refl
-or_parts false b e = inr e
-
 has_any : (q : ℕ) (xs : List ℕ) → list_any (eqb q) xs ≡ true → Has xs q
 has_any q [] e = false≢true e
-has_any q (x ∷ xs) e = elim (or_parts (eqb q x) (list_any (eqb q) xs) e)
+has_any q (x ∷ xs) e = elim (or_cases (eqb q x) (list_any (eqb q) xs) e)
     [ inl a ↦ inl (sym (eqb-true q x a)) | inr b ↦ inr (has_any q xs b) ]
 
 -- different numbers below n are at most n

@@ -2,14 +2,13 @@
 use Rattle.std.proofs.Common.{◌≡◌, ℕ, zero, suc, ◌+◌, ◌<◌, ◌≤◌, Bool, List, [], ◌∷◌, ◌++◌, length, ◌⊎◌, inl, inr, arith}
 use Rattle.std.proofs.Common.{Some, subst}
 use Rattle.std.specs.Prelude.{slice_get}
-use Rattle.std.proofs.lemmas.Option.{same_Some}
+use Rattle.std.proofs.lemmas.Option.{same_Some, slice_get_within}
 use Rattle.line_instance.specs.Line.{Line, IsTaskSet, tasks}
 use Rattle.line_rules.specs.Loads.{IsLoad, Belongs}
 use Rattle.line_rules.specs.Order.{Precedes, Lists}
 use Rattle.line_rules.specs.declared.types.LineKind.{LineKind}
 use Rattle.line_rules.specs.declared.types.Mode.{Mode}
 use Rattle.line_rules.specs.declared.types.Load.{Load}
-use Rattle.line_rules.proofs.LemmasHold.{get_within}
 use Rattle.line_rules.proofs.Unique.{first_less, tail_lists}
 
 pub record Family : Type 0 where
@@ -64,7 +63,7 @@ different_append xs ys p q r j k a b l e f s n = elim (get_append_cases xs ys j 
     | inr y ↦ r j y.0 a b x y.2 s n
   ]
   | inr x ↦ elim (get_append_cases xs ys k b f) [
-    | inl y ↦ absurd (omega (arith, l, x.1, get_within xs k b y))
+    | inl y ↦ absurd (omega (arith, l, x.1, slice_get_within xs k b y))
     | inr y ↦ q x.0 y.0 a b (omega (arith, l, x.1, y.1)) x.2 y.2 s n
   ]
 ]

@@ -14,6 +14,7 @@ use Rattle.line_rules.specs.declared.types.Mode.{Mode}
 use Rattle.line_rules.specs.declared.types.Mode.TheVariants as mode
 use Rattle.line_rules.specs.declared.types.Load.{Load}
 use Rattle.budget_law.specs.Budget.{states}
+use Rattle.line_instance.proofs.Sums.{same_truth}
 
 -- numbers with a lower part below b: equal ones have equal parts
 pub low : (b x y u v : ℕ) → x < b → y < b → x + b * u ≡ y + b * v → (x ≡ y) × (u ≡ v)
@@ -139,17 +140,12 @@ digit_some kind R l i m e = false≢true (sym (ap (λ (d : ℕ). nat_lt 0 d) e) 
 empty_at : (s : List Bool) (i : ℕ) → IsEmpty s → has s i ≡ false
 empty_at s i n = elim (cases_Bool (has s i)) [ inl t ↦ absurd (n i t) | inr f ↦ f ]
 
-both_true : (a b : Bool) → (a ≡ true → b ≡ true) → (b ≡ true → a ≡ true) → a ≡ b
-both_true true b f g = sym (f refl)
-both_true false true f g = g refl
-both_true false false f g = refl
-
 front_is : (l : Load) (i : ℕ) → IsEmpty l.back → has l.front i ≡ has (taken l) i
-front_is l i n = both_true (has l.front i) (has (taken l) i) (λ f. In-union_left l.front l.back i f)
+front_is l i n = same_truth (has l.front i) (has (taken l) i) (λ f. In-union_left l.front l.back i f)
     (λ t. elim (In-union_cases l.front l.back i t) [ inl f ↦ f | inr b ↦ absurd (n i b) ])
 
 back_is : (l : Load) (i : ℕ) → IsEmpty l.front → has l.back i ≡ has (taken l) i
-back_is l i n = both_true (has l.back i) (has (taken l) i) (λ b. In-union_right l.front l.back i b)
+back_is l i n = same_truth (has l.back i) (has (taken l) i) (λ b. In-union_right l.front l.back i b)
     (λ t. elim (In-union_cases l.front l.back i t) [ inl f ↦ absurd (n i f) | inr b ↦ b ])
 
 -- two loads have a task alike: both in front, both at the back, or neither

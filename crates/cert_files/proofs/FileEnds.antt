@@ -1,6 +1,7 @@
 -- What was read of a file, by what its lines said and by what stands behind them.
 use Rattle.std.proofs.Common.{◌≡◌, ℕ, suc, ◌<◌, List, [], ◌++◌, length, Option, Some, None, Result, Ok, Err, refl, sym}
 use Rattle.std.proofs.Common.{ap, ◌∙◌, subst, inl, inr, arith}
+use Rattle.std.proofs.lemmas.Option.{same_Some}
 use Rattle.line_rules.specs.Ranges.{IsInRange}
 use Rattle.line_rules.specs.declared.types.Certificate.{Certificate}
 use Rattle.cert_lines.specs.OldRanges.{IsOldInRange}
@@ -77,10 +78,7 @@ good_is file limit rests.Failed cert left lines answer r g none more n m l = let
     → Type 0 = λ a. IsCertFrom file limit a in subst P (sym g) tt
 
 some_bytes : (file : Option (List ℕ)) (a b : List ℕ) → file ≡ Some a → file ≡ Some b → a ≡ b
-some_bytes file a b e f = one a b (sym e ∙ f)
-  where
-    one : (x y : List ℕ) → Some x ≡ Some y → x ≡ y
-    one x y h = cc
+some_bytes file a b e f = same_Some a b (sym e ∙ f)
 
 -- a fault excludes that the bytes are a certificate's text
 pub none_of : (file : Option (List ℕ)) (limit : ℕ) (answer : CertFrom) → IsCertFrom file limit answer

@@ -6,6 +6,7 @@ use Rattle.std.specs.List.{Contains}
 use Rattle.std.proofs.lemmas.Bool.{cases_lt, false≢true}
 use Rattle.std.proofs.lemmas.List.{take_all, length-append}
 use Rattle.std.proofs.lemmas.List.Sums.{count_by_more_yes, count_by_more_no}
+use Rattle.std.proofs.lemmas.Option.{same_Some}
 use Rattle.task_set.specs.Truths.{In, members_from, members_of, count}
 use Rattle.task_set.proofs.Counts.{count_first}
 use Rattle.task_set.proofs.ListedMembers.{count_listed}
@@ -14,6 +15,7 @@ use Rattle.line_rules.specs.declared.types.Why.{Why}
 use Rattle.line_rules.specs.declared.types.Why.TheVariants as why
 use Rattle.line_rules.proofs.LongerLists.{get_longer}
 use Rattle.cert_files.specs.Trim.{cited_by, IsRenumbered, IsKeptAt, AreKeptEntries, AreClosed, why_at, entry_at}
+use Rattle.line_rules.proofs.ListFacts.{get_last}
 
 -- a member of marks stands in their list of members at the number of members before it
 pub place_from : (base : ℕ) (s : List Bool) (k : ℕ) → In s k
@@ -38,10 +40,7 @@ member_place s k m = let f : 0 + k ≡ k = omega arith in place_from 0 s k m ∙
 above_from : (base : ℕ) (s : List Bool) (j a : ℕ) → slice_get (members_from base s) j ≡ Some a → base ≤ a
 unfolding members_from
 above_from base [] j a e = absurd (cc)
-above_from base (true ∷ s) zero a e = let h : base ≡ a = one_number base a e in omega arith
-  where
-    one_number : (x y : ℕ) → Some x ≡ Some y → x ≡ y
-    one_number x y e = cc
+above_from base (true ∷ s) zero a e = let h : base ≡ a = same_Some base a e in omega arith
 above_from base (true ∷ s) (suc j) a e = omega (arith, above_from (suc base) s j a e)
 above_from base (false ∷ s) j a e = omega (arith, above_from (suc base) s j a e)
 
@@ -50,11 +49,8 @@ pub ascending_from : (base : ℕ) (s : List Bool) (j k a b : ℕ) → j < k → 
 unfolding members_from
 ascending_from base [] j k a b l e f = absurd (cc)
 ascending_from base (true ∷ s) j zero a b l e f = absurd (omega arith)
-ascending_from base (true ∷ s) zero (suc k) a b l e f = let h : base ≡ a = one_number base a e in
+ascending_from base (true ∷ s) zero (suc k) a b l e f = let h : base ≡ a = same_Some base a e in
     omega (arith, above_from (suc base) s k b f)
-  where
-    one_number : (x y : ℕ) → Some x ≡ Some y → x ≡ y
-    one_number x y e = cc
 ascending_from base (true ∷ s) (suc j) (suc k) a b l e f = ascending_from (suc base) s j k a b (omega arith) e f
 ascending_from base (false ∷ s) j k a b l e f = ascending_from (suc base) s j k a b l e f
 
@@ -171,10 +167,6 @@ placed es marks k n places items e l m there f closed h = record {
     counted : (i : ℕ) → i < k + 1 → slice_index (places ++ n ∷ []) i ≡ count (take i marks)
     counted = count_pushed marks k n places h.long h.counts (f ∙ h.as_many)
 
-    last : (xs : List Entry) (x : Entry) → slice_get (xs ++ x ∷ []) (length xs) ≡ Some x
-    last [] x = refl
-    last (y ∷ xs) x = last xs x
-
     new : IsKeptAt es (members_of marks) (items ++ entry_at (places ++ n ∷ []) e ∷ []) (length items)
     new = record {
       number = k;
@@ -182,7 +174,7 @@ placed es marks k n places items e l m there f closed h = record {
       entry = entry_at (places ++ n ∷ []) e;
       kept = ap (slice_get (members_of marks)) h.as_many ∙ member_place marks k m;
       there = there;
-      here = last items (entry_at (places ++ n ∷ []) e);
+      here = get_last items (entry_at (places ++ n ∷ []) e);
       same = record {
         set = refl;
         most = refl;

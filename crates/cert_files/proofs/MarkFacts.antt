@@ -5,9 +5,9 @@ use Rattle.std.proofs.Common.{arith, length-set}
 use Rattle.std.specs.Prelude.{slice_get}
 use Rattle.std.specs.List.{Contains}
 use Rattle.std.proofs.lemmas.Bool.{cases_eq, false≢true}
-use Rattle.std.proofs.lemmas.List.{take_more, take_all, length-replicate}
+use Rattle.std.proofs.lemmas.List.{take_more, take_all, length-replicate, drop_all}
 use Rattle.std.proofs.lemmas.List.Elements.{Contains-push, Contains-push_cases, Contains-append_left}
-use Rattle.std.proofs.lemmas.Option.{slice_get_within}
+use Rattle.std.proofs.lemmas.Option.{slice_get_within, same_Some}
 use Rattle.task_set.specs.Truths.{In}
 use Rattle.task_set.proofs.Members.{In-set_same, In-set_kept, In-set_cases, In-empty}
 use Rattle.line_rules.specs.declared.types.Entry.{Entry}
@@ -121,7 +121,7 @@ pass_marks es goal k from m new e f here there earlier marked h = record {
     | inl same ↦
         let P : ℕ → Type 0 = λ n. slice_get es n ≡ Some x in
         let x_is : Some e ≡ Some x = sym there ∙ subst P same at in
-        let y : e ≡ x = one e x x_is in
+        let y : e ≡ x = same_Some e x x_is in
         let Q : Entry → Type 0 = λ z. Contains (cited_by z.why) cite in
         (marked.each cite).1 (inr (subst Q (sym y) c))
     | inr ne ↦ elim ((marked.each j).0 a) [
@@ -130,9 +130,6 @@ pass_marks es goal k from m new e f here there earlier marked h = record {
     ]
   ];
 }
-  where
-    one : (x y : Entry) → Some x ≡ Some y → x ≡ y
-    one x y e = cc
 
 -- a pass that went over all
 pub pass_ends : (es : List Entry) (goal from : ℕ) (m : List Bool) → from ≡ 0 → IsPassed es goal from m
@@ -161,14 +158,8 @@ marks_closed es goal m l earlier h = record {
 pub come_back : {X : Type 0} (len : ℕ) (new old before : List X) → length new ≡ length old → old ≡ before
     → length old ≡ len → take len (new ++ drop (length new) before) ≡ new
 come_back len new old before e f g =
-    let none : drop (length new) before ≡ [] = drop_past (length new) before (omega (arith, ap length f)) in
+    let none : drop (length new) before ≡ [] = drop_all (length new) before (omega (arith, ap length f)) in
     ap (λ t. take len (new ++ t)) none ∙ ap (take len) (append-nil new) ∙ take_all len new (omega arith)
-  where
-    drop_past : {Y : Type 0} (k : ℕ) (xs : List Y) → length xs ≤ k → drop k xs ≡ []
-    drop_past zero [] l = refl
-    drop_past zero (x ∷ xs) l = absurd (omega arith)
-    drop_past (suc k) [] l = refl
-    drop_past (suc k) (x ∷ xs) l = drop_past k xs (omega arith)
 
 -- an index that was read
 pub is_in : (s : List Bool) (k : ℕ) (v : Bool) → v ≡ get_or s k v → v ≡ true → k < length s → In s k

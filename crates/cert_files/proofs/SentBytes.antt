@@ -7,10 +7,10 @@ use Rattle.std.proofs.lemmas.Bool.{false≢true}
 use Rattle.std.proofs.lemmas.List.{take_all}
 use Rattle.std.proofs.lemmas.Slice.Eq.{bytes_eq-Decides}
 use Rattle.line_io.specs.Outside.{Rises, Grows, GrowsWhole}
-use Rattle.cert_lines.proofs.EntryLines.{same_word}
 use Rattle.cert_text.specs.Sent.{IsFront, Puts}
 use Rattle.cert_text.proofs.PutTexts.{front_of_more}
 use Rattle.cert_files.specs.inner.Pieces.{bytes_of, emptied, beside, Staying, sent_into}
+use Rattle.line_io.proofs.ReadFacts.{same_bytes}
 
 module _ (tells : Type 0) (reference : ℕ) (name : List ℕ) where
   -- a byte that the buffer has room for
@@ -51,7 +51,7 @@ module _ (tells : Type 0) (reference : ℕ) (name : List ℕ) where
       at : (b : Bool) → bytes_eq q name ≡ b → cond b (emptied (new q)) (new q) ≡ cond b (emptied (files q)) (files q)
       at true h =
           let P : List ℕ → Type 0 = λ x. emptied (new x) ≡ emptied (files x) in
-          subst P (sym (same_word q name h)) e
+          subst P (sym (same_bytes q name h)) e
       at false h = others q (λ s. false≢true (sym h ∙ (bytes_eq-Decides q name).1 s))
 
   stay : (List ℕ → Option (List ℕ)) → Staying tells

@@ -2,6 +2,7 @@
 use Rattle.std.proofs.Common.{◌≡◌, ℕ, zero, suc, ◌+◌, ◌<◌, ◌≤◌, List, [], ◌∷◌, length, Some, refl, sym, ap, ◌∙◌, subst}
 use Rattle.std.proofs.Common.{arith}
 use Rattle.std.specs.Prelude.{slice_get}
+use Rattle.std.proofs.lemmas.Option.{same_Some}
 use Rattle.line_instance.specs.Line.{Line}
 use Rattle.line_rules.specs.Units.{UnitsBy, UnitsOf}
 use Rattle.line_rules.specs.Loads.{IsLoad}
@@ -49,9 +50,6 @@ units_thinned numbers line (e ∷ es) (f ∷ new) old (kept s t) h =
       omega (arith, r.2, h.2.2),
     )
 
-one : {X : Type 0} (x y : X) → Some x ≡ Some y → x ≡ y
-one x y e = cc
-
 -- the entry of the number at a place, where the first entry has the number `base`
 abbrev pub IsThere : List ℕ → List Entry → ℕ → List ℕ → List Entry → ℕ → Type 0
 IsThere all es base numbers new p =
@@ -79,16 +77,16 @@ first_entry : (all : List ℕ) (e f : Entry) (es new : List Entry) (base n : ℕ
 first_entry all e f es new base n numbers up at take_it leave_it (zero, x, g, m, h, k, s) =
     let P : Entry → Type 0 = λ y. IsKeptAs all y f in
     let Q : Entry → Type 0 = λ y. IsKeptAs all x y in
-    let b : n ≡ base + 0 = one n (base + 0) m in
-    kept (subst P (one x e (sym h)) (subst Q (one g f (sym k)) s))
+    let b : n ≡ base + 0 = same_Some n (base + 0) m in
+    kept (subst P (same_Some x e (sym h)) (subst Q (same_Some g f (sym k)) s))
     (take_it (λ p l. behind_first all e es base numbers new p
     (λ i v. omega (arith, up 0 (suc p) n i (omega arith) refl v)) (at (suc p) (omega arith))))
 first_entry all e f es new base n numbers up at take_it leave_it (suc i, x, g, m, h, k, s) =
     left_out (leave_it (λ p l. behind_first all e es base (n ∷ numbers) (f ∷ new) p (above p) (at p l)))
   where
     above : (p j : ℕ) → slice_get (n ∷ numbers) p ≡ Some j → base < j
-    above zero j v = let q : n ≡ j = one n j v in let b : n ≡ base + suc i = one n (base + suc i) m in omega arith
-    above (suc p) j v = let b : n ≡ base + suc i = one n (base + suc i) m in
+    above zero j v = let q : n ≡ j = same_Some n j v in let b : n ≡ base + suc i = same_Some n (base + suc i) m in omega arith
+    above (suc p) j v = let b : n ≡ base + suc i = same_Some n (base + suc i) m in
         omega (arith, up 0 (suc p) n j (omega arith) refl v)
 
 pub thin : (all : List ℕ) (es : List Entry) (base : ℕ) (numbers : List ℕ) (new : List Entry)

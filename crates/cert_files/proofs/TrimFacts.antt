@@ -4,7 +4,7 @@ use Rattle.std.proofs.Common.{sym, ap, ◌∙◌, subst, inl, inr, Result, Ok, E
 use Rattle.std.specs.Prelude.{slice_get}
 use Rattle.std.specs.List.{Contains}
 use Rattle.std.proofs.lemmas.Bool.{cases_eq, cases_lt}
-use Rattle.std.proofs.lemmas.Option.{slice_get_within, slice_get_read}
+use Rattle.std.proofs.lemmas.Option.{slice_get_within, slice_get_read, same_Some}
 use Rattle.task_set.specs.Truths.{In, IsSubset, members_of}
 use Rattle.task_set.proofs.ListedMembers.{listed}
 use Rattle.line_instance.specs.Line.{Line, IsTaskSet}
@@ -18,15 +18,13 @@ use Rattle.line_rules.specs.declared.types.Load.{Load}
 use Rattle.line_rules.specs.declared.types.Entry.{Entry}
 use Rattle.line_rules.specs.declared.types.Why.{Why}
 use Rattle.line_rules.specs.declared.types.Why.TheVariants as why
-use Rattle.line_rules.proofs.LemmasHold.{get_take, get_some}
+use Rattle.line_rules.proofs.LemmasHold.{get_take}
+use Rattle.line_rules.proofs.ListFacts.{get_some, get_taken}
 use Rattle.cert_files.specs.Trim.{cited_by, CitesEarlier, IsFirstAnswer, AreKept, ArePlaces, IsRenumbered, IsKeptAs}
 use Rattle.cert_files.specs.Trim.{IsKeptAt, AreKeptEntries, IsTrimmed, AreMarks}
 use Rattle.cert_files.specs.Trim.StandsOn.{itself}
 use Rattle.cert_files.proofs.KeptPlaces.{ascending_from}
 use Rattle.cert_files.proofs.ThinnedLists.{IsThinned, thin, no_longer, units_thinned}
-
-one : {X : Type 0} (x y : X) → Some x ≡ Some y → x ≡ y
-one x y e = cc
 
 abbrev entry : List Bool → ℕ → ℕ → Why → Entry
 entry s m c w = record { set = s; most = m; cycle = c; why = w }
@@ -59,7 +57,7 @@ old_cite numbers cites [] h p place e = absurd (cc)
 old_cite numbers [] (x ∷ places) h p place e = absurd (cc)
 old_cite numbers (c ∷ cites) (x ∷ places) h zero place e =
     let f : slice_get numbers x ≡ Some c = cc in
-    (c, refl, ap (slice_get numbers) (sym (one x place e)) ∙ f)
+    (c, refl, ap (slice_get numbers) (sym (same_Some x place e)) ∙ f)
 old_cite numbers (c ∷ cites) (x ∷ places) h (suc p) place e =
     old_cite numbers cites places (let t : map (slice_get numbers) places ≡ map Some cites = cc in t) p place e
 
@@ -79,17 +77,10 @@ earlier_place : (numbers : List ℕ) → IsAscending numbers → (j k a b : ℕ)
 earlier_place numbers up j k a b e f l = elim (cases_lt j k) [
   | inl y ↦ y
   | inr g ↦ elim (cases_eq j k) [
-    | inl same ↦ (let q : a ≡ b = one a b (sym e ∙ ap (slice_get numbers) same ∙ f) in absurd (omega arith))
+    | inl same ↦ (let q : a ≡ b = same_Some a b (sym e ∙ ap (slice_get numbers) same ∙ f) in absurd (omega arith))
     | inr n ↦ absurd (omega (arith, up k j b a (omega arith) f e))
   ]
 ]
-
-get_front : {X : Type 0} (xs : List X) (n k : ℕ) (x : X) → k < n → slice_get xs k ≡ Some x
-    → slice_get (take n xs) k ≡ Some x
-get_front [] n k x l e = absurd (cc)
-get_front (y ∷ ys) zero k x l e = absurd (omega arith)
-get_front (y ∷ ys) (suc n) zero x l e = e
-get_front (y ∷ ys) (suc n) (suc k) x l e = get_front ys n k x (omega arith) e
 
 -- an entry with the same question and another reason
 same_entry : (numbers : List ℕ) (e f : Entry) → IsKeptAs numbers e f → f ≡ record e { why = f.why }
@@ -108,11 +99,11 @@ module _ (es : List Entry) (numbers : List ℕ) (new : List Entry) (up : IsAscen
       let t : (cite < k) × (slice_get es cite ≡ Some x) = get_take es k cite x there in
       let a : IsKeptAt es numbers new place = all.each place
       (omega (arith, all.as_many, slice_get_within numbers place cite f)) in
-      let n : a.number ≡ cite = one a.number cite (sym a.kept ∙ f) in
-      let o : a.old ≡ x = one a.old x (sym a.there ∙ ap (slice_get es) n ∙ t.1) in
+      let n : a.number ≡ cite = same_Some a.number cite (sym a.kept ∙ f) in
+      let o : a.old ≡ x = same_Some a.old x (sym a.there ∙ ap (slice_get es) n ∙ t.1) in
       let P : Entry → Type 0 = λ z. IsKeptAs numbers z a.entry in (
         a.entry,
-        get_front new p place a.entry (earlier_place numbers up place p cite k f e t.0) a.here,
+        get_taken new p place a.entry (earlier_place numbers up place p cite k f e t.0) a.here,
         subst P o a.same,
       )
 
@@ -187,7 +178,7 @@ module _ (es : List Entry) (numbers : List ℕ) (new : List Entry) (up : IsAscen
   at_place p f h =
       let a : IsKeptAt es numbers new p = all.each p (slice_get_within new p f h) in
       let P : Entry → Type 0 = λ x. IsKeptAs numbers a.old x in
-      (a.number, a.old, a.kept, a.there, subst P (one a.entry f (sym a.here ∙ h)) a.same)
+      (a.number, a.old, a.kept, a.there, subst P (same_Some a.entry f (sym a.here ∙ h)) a.same)
 
   pub derived_moved : (kind : LineKind) (line : Line) → IsDerived kind line es → IsDerived kind line new
   derived_moved kind line d p f h =
@@ -220,8 +211,8 @@ module _ (es : List Entry) (numbers : List ℕ) (new : List Entry) (up : IsAscen
       → IsFirstAnswer es set most cycle goal → HasAnswer new set most cycle
   answer_moved set most cycle goal c first =
       let a : IsKeptAt es numbers new c.0 = all.each c.0 (omega (arith, all.as_many, c.1)) in
-      let n : a.number ≡ goal = one a.number goal (sym a.kept ∙ slice_get_read numbers _ c.0 goal refl c.1 (sym c.2)) in
-      let o : a.old ≡ first.entry = one a.old first.entry (sym a.there ∙ ap (slice_get es) n ∙ first.there) in
+      let n : a.number ≡ goal = same_Some a.number goal (sym a.kept ∙ slice_get_read numbers _ c.0 goal refl c.1 (sym c.2)) in
+      let o : a.old ≡ first.entry = same_Some a.old first.entry (sym a.there ∙ ap (slice_get es) n ∙ first.there) in
       let P : Entry → Type 0 = λ x. Answers x set most cycle in
       let h : Answers a.old set most cycle = subst P (sym o) first.answers in (
         c.0,

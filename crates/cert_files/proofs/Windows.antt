@@ -4,7 +4,7 @@ use Rattle.std.proofs.Common.{drop, Option, Some, None, refl, sym, ap, ◌∙◌
 use Rattle.std.proofs.Common.{append-nil}
 use Rattle.std.specs.Prelude.{slice_range, slice_index}
 use Rattle.std.proofs.lemmas.Bool.{cases_lt}
-use Rattle.std.proofs.lemmas.List.{take-append-drop, drop-drop, length-take, length-append}
+use Rattle.std.proofs.lemmas.List.{take-append-drop, drop-drop, length-take, length-append, drop_all}
 use Rattle.std.proofs.Common.{length-drop}
 use Rattle.std.proofs.lemmas.List.Elements.{All-append}
 use Rattle.line_io.specs.Outside.{Fetches}
@@ -81,16 +81,10 @@ line_ends text line part new window left rest e w n l p = record {
 pub text_ends : (text line window : List ℕ) (file : Option (List ℕ)) (at : ℕ)
     → text ≡ line ++ (window ++ bytes_from at file) → IsLine line → IsLine window → IsEnd file at → IsAtEnd text
 text_ends text line window file at e l w h =
-    let none : bytes_from at file ≡ [] = drop_past at (bytes_of file) h.ends in
+    let none : bytes_from at file ≡ [] = drop_all at (bytes_of file) h.ends in
     let P : List ℕ → Type 0 = λ x. IsLine x in
     subst P (sym (e ∙ ap (λ x. line ++ (window ++ x)) none ∙ ap (λ x. line ++ x) (append-nil window)))
     (All-append (λ b. b ≡ 10 → ⊥) line window l w)
-  where
-    drop_past : (k : ℕ) (xs : List ℕ) → length xs ≤ k → drop k xs ≡ []
-    drop_past zero [] l = refl
-    drop_past zero (x ∷ xs) l = absurd (omega arith)
-    drop_past (suc k) [] l = refl
-    drop_past (suc k) (x ∷ xs) l = drop_past k xs (omega arith)
 
 pub piece_more : (text line new window piece : List ℕ) (file : Option (List ℕ)) (at next : ℕ)
     → text ≡ line ++ (window ++ bytes_from at file) → new ≡ line ++ window → IsNext file at piece
@@ -125,13 +119,7 @@ reached file at next piece h a = elim (cases_lt at (length (bytes_of file))) [
 
 pub none_left : (file : Option (List ℕ)) (from : ℕ) (window : List ℕ) → length window ≡ 0 → IsEnd file from
     → window ++ bytes_from from file ≡ []
-none_left file from [] e h = none from (bytes_of file) h.ends
-  where
-    none : (k : ℕ) (xs : List ℕ) → length xs ≤ k → drop k xs ≡ []
-    none zero [] l = refl
-    none zero (x ∷ xs) l = absurd (omega arith)
-    none (suc k) [] l = refl
-    none (suc k) (x ∷ xs) l = none k xs (omega arith)
+none_left file from [] e h = drop_all from (bytes_of file) h.ends
 none_left file from (x ∷ window) e h = absurd (omega arith)
 
 pub some_left : (file : Option (List ℕ)) (from at : ℕ) (window : List ℕ) → (0 < length window) ⊎ (from < at)

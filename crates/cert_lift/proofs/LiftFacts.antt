@@ -30,11 +30,11 @@ pub map_end : {A B : Type 0} (f : A → B) (xs us : List A) (front ys : List B) 
 map_end f xs us front ys i h l e = h ∙ ap (λ z. front ++ map f z) (take_all i xs l ∙ e)
 
 -- cites that are raised by nothing
-raised_none : (cites : List ℕ) → raised 0 cites ≡ cites
+pub raised_none : (cites : List ℕ) → raised 0 cites ≡ cites
 raised_none [] = refl
 raised_none (c ∷ cs) = let h : c + 0 ≡ c = omega arith in ap (λ z. z ∷ raised 0 cs) h ∙ ap (λ z. c ∷ z) (raised_none cs)
 
-why_none : (w : Why) → lifted_why 0 w ≡ w
+pub why_none : (w : Why) → lifted_why 0 w ≡ w
 why_none whys.Bound = refl
 why_none (whys.Branch mode cites) = ap (whys.Branch mode) (raised_none cites)
 why_none (whys.Swap cite out into) = let h : cite + 0 ≡ cite = omega arith in ap (λ z. whys.Swap z out into) h

@@ -4,14 +4,16 @@ use Rattle.std.proofs.Common.{◌∙◌, ap, arith, Some, None, inl, inr}
 use Rattle.std.specs.List.{flat_map}
 use Rattle.std.proofs.lemmas.Bool.Decides.{nat_tests}
 use Rattle.std.proofs.lemmas.List.{append-nil}
+use Rattle.std.proofs.lemmas.Bool.{eqb-true}
 use Rattle.line_io.specs.Lines.{onto_first, value_of}
 use Rattle.line_rules.specs.declared.types.Mode.{Mode}
 use Rattle.line_rules.specs.declared.types.Mode.TheVariants.{Fore, Back, Both}
 use Rattle.cert_lines.specs.Numbers.{number_text, cites_text, mode_letter}
 use Rattle.cert_lines.specs.Words.{◌>>=◌, pieces_at, number_in, numbers_in, cites_in, is_none, mode_in, greatest}
-use Rattle.cert_lines.proofs.NumberWords.{left, lacks, all_high, high_lacks, number_high, number_again, number_found}
+use Rattle.cert_lines.proofs.NumberWords.{lacks, all_high, high_lacks, number_high, number_again, number_found}
 use Rattle.cert_lines.proofs.NumberWords.{split_again, split_none, bind_some}
 use Rattle.cert_lines.proofs.Lists.{chosen, one_piece, more_pieces}
+use Rattle.line_io.proofs.ReadFacts.{left}
 
 abbrev pub sat : ℕ → ℕ
 sat n = min n greatest
@@ -38,7 +40,7 @@ numbers_again [] = refl
 numbers_again (c ∷ cs) = ap (λ o. o >>= λ n. numbers_in (map number_text cs) >>= λ ns. Some (n ∷ ns)) (number_again c)
     ∙ ap (λ o. o >>= λ ns. Some (sat c ∷ ns)) (numbers_again cs)
 
-none_of_high : (word : List ℕ) → all_high word ≡ true → is_none word ≡ false
+pub none_of_high : (word : List ℕ) → all_high word ≡ true → is_none word ≡ false
 none_of_high [] e = refl
 none_of_high (b ∷ []) e = let h : nat_le 48 b ≡ true = left (nat_le 48 b) true e in grind (arith, nat_tests)
 none_of_high (b ∷ c ∷ word) e = refl
@@ -85,9 +87,6 @@ some_piece mark (b ∷ word) = I (nat_eq b mark) (some_piece mark word)
     I true s = ([], pieces_at mark word, refl)
     I false s = (b ∷ s.0, s.1, ap (onto_first b) s.2)
 
-same_mark : (b mark : ℕ) → nat_eq b mark ≡ true → b ≡ mark
-same_mark b mark e = grind (arith, nat_tests)
-
 join_front : (b : ℕ) (ps : List (List ℕ)) → joined (onto_first b ps) ≡ b ∷ joined ps
 join_front b [] = refl
 join_front b (p ∷ []) = refl
@@ -102,7 +101,7 @@ joined_is (b ∷ word) = I (nat_eq b 44) refl (joined_is word) (some_piece 44 wo
         → ((p : List ℕ) × (ps : List (List ℕ)) × (pieces_at 44 word ≡ p ∷ ps))
         → joined (cond t ([] ∷ pieces_at 44 word) (onto_first b (pieces_at 44 word))) ≡ b ∷ word
     I true e h s = ap (λ ps. joined ([] ∷ ps)) s.2 ∙ ap (λ x. 44 ∷ joined x) (sym s.2) ∙ ap (λ w. 44 ∷ w) h
-        ∙ ap (λ x. x ∷ word) (sym (same_mark b 44 e))
+        ∙ ap (λ x. x ∷ word) (sym (eqb-true b 44 e))
     I false e h s = join_front b (pieces_at 44 word) ∙ ap (λ w. b ∷ w) h
 
 -- the numbers that pieces are, with their texts
@@ -126,9 +125,9 @@ joined_cites : (c : ℕ) (cs : List ℕ) → joined (map number_text (c ∷ cs))
 joined_cites c [] = sym (append-nil (number_text c))
 joined_cites c (d ∷ cs) = ap (λ t. number_text c ++ 44 ∷ t) (joined_cites d cs)
 
-is_none_word : (word : List ℕ) → is_none word ≡ true → word ≡ 45 ∷ []
+pub is_none_word : (word : List ℕ) → is_none word ≡ true → word ≡ 45 ∷ []
 is_none_word [] e = (cc)
-is_none_word (b ∷ []) e = ap (λ x. x ∷ []) (same_mark b 45 e)
+is_none_word (b ∷ []) e = ap (λ x. x ∷ []) (eqb-true b 45 e)
 is_none_word (b ∷ c ∷ word) e = (cc)
 
 pub cites_found : (word ns : List ℕ) → cites_in word ≡ Some ns
@@ -156,13 +155,13 @@ mode_found [] mode e = (cc)
 mode_found (b ∷ []) mode e = elim (chosen (nat_eq b 102) (Some Fore)
     (cond (nat_eq b 98) (Some Back) (cond (nat_eq b 117) (Some Both) None)) (Some mode) e) [
       | inl h ↦ (let m : Fore ≡ mode = cc in ap (λ x. mode_letter x ∷ []) (sym m)
-          ∙ ap (λ x. x ∷ []) (sym (same_mark b 102 h.0)))
+          ∙ ap (λ x. x ∷ []) (sym (eqb-true b 102 h.0)))
       | inr h ↦ elim (chosen (nat_eq b 98) (Some Back) (cond (nat_eq b 117) (Some Both) None) (Some mode) h.1) [
         | inl g ↦ (let m : Back ≡ mode = cc in ap (λ x. mode_letter x ∷ []) (sym m)
-            ∙ ap (λ x. x ∷ []) (sym (same_mark b 98 g.0)))
+            ∙ ap (λ x. x ∷ []) (sym (eqb-true b 98 g.0)))
         | inr g ↦ elim (chosen (nat_eq b 117) (Some Both) None (Some mode) g.1) [
           | inl k ↦ (let m : Both ≡ mode = cc in ap (λ x. mode_letter x ∷ []) (sym m)
-              ∙ ap (λ x. x ∷ []) (sym (same_mark b 117 k.0)))
+              ∙ ap (λ x. x ∷ []) (sym (eqb-true b 117 k.0)))
           | inr k ↦ (let w : None ≡ Some mode = k.1 in (cc))
         ]
       ]

@@ -2,7 +2,6 @@
 use Rattle.std.proofs.Common.{◌≡◌, ℕ, ◌≤◌, Bool, true, not, cond, List, [], ◌∷◌, ◌++◌, map, refl, sym, ◌∙◌, ap, subst}
 use Rattle.std.proofs.Common.{arith, Some, None, Option, inl, inr}
 use Rattle.std.specs.Prelude.{codes, bytes_eq}
-use Rattle.std.proofs.lemmas.Slice.Eq.{bytes_eq-Decides}
 use Rattle.std.proofs.lemmas.Option.{same_Some}
 use Rattle.line_io.specs.Lines.{value_of}
 use Rattle.line_rules.specs.declared.types.Mode.{Mode}
@@ -20,6 +19,7 @@ use Rattle.cert_lines.proofs.NumberWords.{lacks, bind_some}
 use Rattle.cert_lines.proofs.SetText.{clip, clip_same, set_again, set_found, set_high}
 use Rattle.cert_lines.proofs.CiteWords.{sat, cites_again, cites_found, mode_again, mode_found}
 use Rattle.cert_lines.proofs.Lists.{split_parts, chosen}
+use Rattle.line_io.proofs.ReadFacts.{same_bytes}
 
 -- the cycle of a line, which may be given
 abbrev pub cycle_of : Option ℕ → Option ℕ → ℕ
@@ -384,9 +384,6 @@ swap_found n g bytes d h e =
           ∙ last;
     }
 
-pub same_word : (a b : List ℕ) → bytes_eq a b ≡ true → a ≡ b
-same_word a b e = (bytes_eq-Decides a b).0 e
-
 -- the found row behind a key
 keyed_found : (n : ℕ) (g : Option ℕ) (line key rest word : List ℕ) (d : Draft) → line ≡ word ++ 32 ∷ rest → word ≡ key
     → Found n g (key ++ 32 ∷ rest) d → Found n g line d
@@ -406,14 +403,14 @@ entry_found n g line d h e =
     elim (chosen (bytes_eq k.0.0 (codes "bound")) (bound_in n g k.0.1)
     (cond (bytes_eq k.0.0 (codes "branch")) (branch_in n g k.0.1)
     (cond (bytes_eq k.0.0 (codes "swap")) (swap_in n g k.0.1) None)) (Some d) k.2) [
-      | inl a ↦ keyed_found n g line (codes "bound") k.0.1 k.0.0 d p (same_word k.0.0 (codes "bound") a.0)
+      | inl a ↦ keyed_found n g line (codes "bound") k.0.1 k.0.0 d p (same_bytes k.0.0 (codes "bound") a.0)
           (bound_found n g k.0.1 d h a.1)
       | inr a ↦ elim (chosen (bytes_eq k.0.0 (codes "branch")) (branch_in n g k.0.1)
           (cond (bytes_eq k.0.0 (codes "swap")) (swap_in n g k.0.1) None) (Some d) a.1) [
-            | inl b ↦ keyed_found n g line (codes "branch") k.0.1 k.0.0 d p (same_word k.0.0 (codes "branch") b.0)
+            | inl b ↦ keyed_found n g line (codes "branch") k.0.1 k.0.0 d p (same_bytes k.0.0 (codes "branch") b.0)
                 (branch_found n g k.0.1 d h b.1)
             | inr b ↦ elim (chosen (bytes_eq k.0.0 (codes "swap")) (swap_in n g k.0.1) None (Some d) b.1) [
-              | inl c ↦ keyed_found n g line (codes "swap") k.0.1 k.0.0 d p (same_word k.0.0 (codes "swap") c.0)
+              | inl c ↦ keyed_found n g line (codes "swap") k.0.1 k.0.0 d p (same_bytes k.0.0 (codes "swap") c.0)
                   (swap_found n g k.0.1 d h c.1)
               | inr c ↦ (let w : None ≡ Some d = c.1 in (cc))
             ]

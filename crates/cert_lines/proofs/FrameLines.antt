@@ -1,8 +1,7 @@
 -- Lines of frames that are written are read, and what is read is how they are written.
-use Rattle.std.proofs.Common.{◌≡◌, ℕ, ◌≤◌, Bool, true, false, not, cond, nat_eq, nat_le, List, [], ◌∷◌, ◌++◌, map, refl}
+use Rattle.std.proofs.Common.{◌≡◌, ℕ, ◌≤◌, Bool, true, false, cond, nat_eq, nat_le, List, [], ◌∷◌, ◌++◌, map, refl}
 use Rattle.std.proofs.Common.{sym, ◌∙◌, ap, subst, arith, Some, None, Option, inl, inr, replicate}
 use Rattle.std.specs.Prelude.{codes, bytes_eq}
-use Rattle.std.proofs.lemmas.List.{append-nil}
 use Rattle.std.proofs.lemmas.Option.{same_Some, none-some}
 use Rattle.std.proofs.lemmas.Bool.Decides.{nat_tests}
 use Rattle.line_rules.specs.declared.types.Mode.{Mode}
@@ -13,12 +12,14 @@ use Rattle.cert_lines.specs.Rows.{frame, row_text}
 use Rattle.cert_lines.specs.Words.{◌>>=◌, parts_at, number_first, set_in, mode_in, cites_in, is_none}
 use Rattle.cert_lines.specs.inner.LineReading.{load_in, last_in, frame_in, frame_rest_in}
 use Rattle.cert_lines.specs.declared.draft.FrameDraft.{FrameDraft}
-use Rattle.cert_lines.proofs.NumberWords.{number_first_again, split_again, high_lacks, all_high, lacks, bind_some, both}
-use Rattle.cert_lines.proofs.NumberWords.{left, right}
+use Rattle.cert_lines.proofs.NumberWords.{number_first_again, split_again, high_lacks, all_high, lacks, bind_some}
+use Rattle.cert_lines.proofs.NumberWords.{lacks_append}
 use Rattle.cert_lines.proofs.SetText.{clip, clip_same, set_again, set_found, set_high}
-use Rattle.cert_lines.proofs.CiteWords.{sat, cites_again, cites_found, mode_again, mode_found}
-use Rattle.cert_lines.proofs.EntryLines.{split_set, split_mode, number_first_found, set_first_found, same_word}
+use Rattle.cert_lines.proofs.CiteWords.{sat, cites_again, cites_found, mode_again, mode_found, is_none_word}
+use Rattle.cert_lines.proofs.EntryLines.{split_set, split_mode, number_first_found, set_first_found}
 use Rattle.cert_lines.proofs.Lists.{split_parts, chosen}
+use Rattle.line_io.proofs.ReadFacts.{same_bytes, left}
+use Rattle.cert_lines.proofs.CiteWords.{none_of_high}
 
 abbrev no_task : List Bool
 no_task = replicate 1024 false
@@ -104,19 +105,11 @@ last_again n mode (Some l) =
     high word rest h false e k = e
     high word rest h true e k = let z : word ≡ [] = none_high word rest h e in ap (λ w. is_none (w ++ rest)) z ∙ k z
 
-    alone : (word : List ℕ) → all_high word ≡ true → is_none word ≡ false
-    alone word h = ap is_none (sym (append-nil word)) ∙ high word [] h (is_none (word ++ [])) refl (λ z. refl)
-
     no_mark : (mode : Mode) (l : Load) → is_none (load_text n mode l) ≡ false
-    no_mark Fore l = alone (set_text n l.front) (set_high n l.front)
-    no_mark Back l = alone (set_text n l.back) (set_high n l.back)
+    no_mark Fore l = none_of_high (set_text n l.front) (set_high n l.front)
+    no_mark Back l = none_of_high (set_text n l.back) (set_high n l.back)
     no_mark Both l = high (set_text n l.front) (47 ∷ set_text n l.back) (set_high n l.front)
         (is_none (set_text n l.front ++ 47 ∷ set_text n l.back)) refl (λ z. stroke (set_text n l.back))
-
-is_none_word : (word : List ℕ) → is_none word ≡ true → word ≡ 45 ∷ []
-is_none_word [] e = (cc)
-is_none_word (b ∷ []) e = let s : b ≡ 45 = grind (arith, nat_tests) in ap (λ x. x ∷ []) s
-is_none_word (b ∷ c ∷ word) e = (cc)
 
 last_found : (n : ℕ) (mode : Mode) (word : List ℕ) (last : Option Load) → n ≤ 1024 → last_in n mode word ≡ Some last
     → (last_text n mode last ≡ word) × (last_read n mode last ≡ last)
@@ -135,14 +128,9 @@ last_lacks : (n : ℕ) (mode : Mode) (last : Option Load) → lacks 32 (last_tex
 last_lacks n mode None = refl
 last_lacks n Fore (Some l) = high_lacks 32 (set_text n l.front) (omega arith) (set_high n l.front)
 last_lacks n Back (Some l) = high_lacks 32 (set_text n l.back) (omega arith) (set_high n l.back)
-last_lacks n Both (Some l) = join (set_text n l.front) (47 ∷ set_text n l.back)
+last_lacks n Both (Some l) = lacks_append (set_text n l.front) (47 ∷ set_text n l.back)
     (high_lacks 32 (set_text n l.front) (omega arith) (set_high n l.front))
     (high_lacks 32 (set_text n l.back) (omega arith) (set_high n l.back))
-  where
-    join : (a b : List ℕ) → lacks 32 a ≡ true → lacks 32 b ≡ true → lacks 32 (a ++ b) ≡ true
-    join [] b e f = f
-    join (x ∷ a) b e f = both (not (nat_eq x 32)) (lacks 32 (a ++ b)) (left (not (nat_eq x 32)) (lacks 32 a) e)
-        (join a b (right (not (nat_eq x 32)) (lacks 32 a) e) f)
 
 -- a frame
 abbrev pub the_frame : Mode → List Bool → ℕ → Option Load → List ℕ → FrameDraft
@@ -268,7 +256,7 @@ frame_found n line d h e =
     let t = set_first_found n l.0.1 p.0 s.0 h p.1 s.1 in
     elim (chosen (bytes_eq k.0.0 (codes "open")) (parts_at 32 k.0.1) None (Some l.0) l.1) [
       | inl q ↦ made n line k.0.0 k.0.1 l.0.0 l.0.1 p.0.1 o.0 s.0 d (split_parts 32 line k.0 k.1)
-          (same_word k.0.0 (codes "open") q.0) (split_parts 32 k.0.1 l.0 q.1) (mode_found l.0.0 o.0 o.1) t.0 t.1
+          (same_bytes k.0.0 (codes "open") q.0) (split_parts 32 k.0.1 l.0 q.1) (mode_found l.0.0 o.0 o.1) t.0 t.1
           (rest_found n o.0 s.0 p.0.1 d h s.2)
       | inr q ↦ absurd (none-some l.0 q.1)
     ]

@@ -29,6 +29,7 @@ use Rattle.cert_lines.proofs.JudgedLine.{small, small_is}
 use Rattle.cert_lines.proofs.EntryLines.{cycle_of, front, draft_of, bound_text, branch_text, swap_text, same_entry}
 use Rattle.cert_lines.proofs.EntryLines.{entry_again, entry_found}
 use Rattle.cert_lines.proofs.FrameLines.{load_read, last_read, the_frame, frame_again, frame_found}
+use Rattle.task_set.proofs.Members.{In-empty}
 
 -- cites below a number that is itself small are read as they are
 pub small_cites : (count : ℕ) (cites : List ℕ) → count < greatest → AreCites count cites → map sat cites ≡ cites
@@ -72,13 +73,8 @@ entry_none n count g line e f = none-some (draft_of g f.2) (sym e ∙ ap (entry_
 abbrev nothing : ℕ → Entry
 nothing c = record { set = replicate 1024 false; most = 0; cycle = c; why = whys.Bound }
 
-none_in : (r j : ℕ) → get_or (replicate r false) j false ≢ true
-none_in zero j e = (cc)
-none_in (suc r) zero e = (cc)
-none_in (suc r) (suc j) e = none_in r j e
-
 pub no_task : (n : ℕ) → IsOf n (replicate 1024 false)
-no_task n = record { truths = length-replicate 1024 false; tasks = λ i h. absurd (none_in 1024 i h) }
+no_task n = record { truths = length-replicate 1024 false; tasks = λ i h. absurd (In-empty 1024 i h) }
 
 one_cycle : IsCycle 1
 one_cycle = record { some = lit≤ tt; limit = lit≤ tt }
@@ -316,7 +312,7 @@ frame_range n count line d a b e k =
     )
 
 none_at : (j : ℕ) → get_or (replicate 1024 false) j false ≢ true
-none_at j = none_in 1024 j
+none_at j = In-empty 1024 j
 
 -- a last load that was read is one of sets of tasks
 last_said : (n : ℕ) (mode : Mode) (last : Option Load) → n ≤ 1024 → last_read n mode last ≡ last → IsLast n mode last

@@ -188,11 +188,11 @@ pub lower_is : (line : List ℕ) (x : ℕ) → keyed_in (codes "lower") line ≡
     → row_text (opening_row (opening.Lower x)) ≡ line
 lower_is line x e h = keyed_line (codes "lower") line x e (omega (arith, h.limit))
 
-lower_said : (a : Ask) (n x : ℕ) → IsCycle x → IsOpening a n (opening.Lower x)
+pub lower_said : (a : Ask) (n x : ℕ) → IsCycle x → IsOpening a n (opening.Lower x)
 lower_said (ask.Stations c) n x h = h
 lower_said (ask.Cycle m) n x h = h
 
-said_lower : (a : Ask) (n x : ℕ) → IsOpening a n (opening.Lower x) → IsCycle x
+pub said_lower : (a : Ask) (n x : ℕ) → IsOpening a n (opening.Lower x) → IsCycle x
 said_lower (ask.Stations c) n x h = h
 said_lower (ask.Cycle m) n x h = h
 

@@ -97,7 +97,7 @@ trail_none line e f =
     let o = trail_only f.2 f.3 in
     none-some (sat_trail o.0) (sym e ∙ ap trail_in (sym f.4 ∙ ap row_text o.1) ∙ trail_again o.0)
 
-small_trail : (t : Option (ℕ × ℕ)) → IsHead t → sat_trail t ≡ t
+pub small_trail : (t : Option (ℕ × ℕ)) → IsHead t → sat_trail t ≡ t
 small_trail None h = refl
 small_trail (Some t) h = ap (λ z. Some (z, sat t.1)) (small_is t.0 (omega (arith, h.1)))
     ∙ ap (λ z. Some (t.0, z)) (small_is t.1 (omega (arith, h.2.limit)))

@@ -1,7 +1,7 @@
 -- Lists of numbers between commas.
 use Rattle.std.proofs.Common.{◌≡◌, ℕ, ◌<◌, Bool, true, false, cond, nat_eq, List, [], ◌∷◌, ◌++◌, length, refl, sym, ◌∙◌}
 use Rattle.std.proofs.Common.{ap, arith, ◌⊎◌, inl, inr, length-append, Some, None, Option, append_assoc}
-use Rattle.std.proofs.lemmas.Bool.Decides.{nat_tests}
+use Rattle.std.proofs.lemmas.Bool.{eqb-true}
 use Rattle.line_io.specs.Lines.{onto_first}
 use Rattle.cert_lines.specs.Words.{◌>>=◌, parts_at, onto_part, pieces_at, numbers_in, number_in}
 
@@ -23,9 +23,6 @@ pub chosen : {A : Type 0} (t : Bool) (x y z : A) → cond t x y ≡ z → ((t �
 chosen true x y z e = inl (refl, e)
 chosen false x y z e = inr (refl, e)
 
-same_byte : (a b : ℕ) → nat_eq a b ≡ true → a ≡ b
-same_byte a b e = grind (arith, nat_tests)
-
 -- what a split says
 pub split_parts : (mark : ℕ) (bytes : List ℕ) (p : List ℕ × List ℕ) → parts_at mark bytes ≡ Some p
     → bytes ≡ p.0 ++ mark ∷ p.1
@@ -33,7 +30,7 @@ unfolding parts_at
 split_parts mark [] p e = (cc)
 split_parts mark (b ∷ bytes) p e = elim (chosen (nat_eq b mark) (Some ([], bytes)) (onto_part b (parts_at mark bytes))
     (Some p) e) [
-      | inl h ↦ (let q : ([], bytes) ≡ p = cc in ap (λ x. x ∷ bytes) (same_byte b mark h.0)
+      | inl h ↦ (let q : ([], bytes) ≡ p = cc in ap (λ x. x ∷ bytes) (eqb-true b mark h.0)
           ∙ ap (λ x. x.0 ++ mark ∷ x.1) q)
       | inr h ↦ (let q = onto_some b (parts_at mark bytes) p h.1 in
           ap (λ x. b ∷ x) (split_parts mark bytes q.0 q.1) ∙ ap (λ x. x.0 ++ mark ∷ x.1) q.2)

@@ -4,37 +4,19 @@ use Rattle.std.proofs.Common.{◌||◌, ◌&&◌, nat_eq, nat_le, nat_lt, List, 
 use Rattle.std.proofs.Common.{arith, Some, None, Option, append_assoc}
 use Rattle.std.proofs.lemmas.Bool.Decides.{nat_tests}
 use Rattle.std.proofs.lemmas.List.{append-nil}
+use Rattle.std.proofs.lemmas.Bool.{and_from, not-true}
 use Rattle.line_io.specs.Lines.{is_digit, all_digits, value_after, value_of}
 use Rattle.cert_lines.specs.Numbers.{number_text}
 use Rattle.cert_lines.specs.Words.{◌>>=◌, parts_at, onto_part, number_in, number_first, is_unplain, greatest}
+use Rattle.line_io.proofs.ReadFacts.{digit_is, digits_push, right, left, value_push}
 pub use Rattle.cert_lines.specs.Telling.{lacks}
 use Rattle.cert_lines.proofs.Digits.{number_small, number_more}
-use Rattle.cert_lines.proofs.Parts.{value_push}
-
-pub both : (a b : Bool) → a ≡ true → b ≡ true → (a && b) ≡ true
-both a b e f = ap (λ x. x && b) e ∙ f
-
-pub left : (a b : Bool) → (a && b) ≡ true → a ≡ true
-left true b e = refl
-left false b e = (cc)
-
-pub right : (a b : Bool) → (a && b) ≡ true → b ≡ true
-right true b e = e
-right false b e = (cc)
 
 -- digits that are the text of a number
 pub record Spell (n : ℕ) (ds : List ℕ) : Type 0 where
   pub digits : all_digits ds ≡ true
   pub plain : is_unplain ds ≡ false
   pub value : value_of ds ≡ n
-
-digits_push : (ds : List ℕ) (d : ℕ) → all_digits ds ≡ true → is_digit d ≡ true → all_digits (ds ++ d ∷ []) ≡ true
-digits_push [] d e f = both (is_digit d) true f refl
-digits_push (b ∷ ds) d e f = both (is_digit b) (all_digits (ds ++ d ∷ [])) (left (is_digit b) (all_digits ds) e)
-    (digits_push ds d (right (is_digit b) (all_digits ds) e) f)
-
-digit_is : (n : ℕ) → n < 10 → is_digit (48 + n) ≡ true
-digit_is n h = grind (arith, nat_tests)
 
 not_zero : (b : ℕ) → value_of (b ∷ []) ≢ 0 → nat_eq b 48 ≡ false
 not_zero b h = grind (arith, nat_tests, h)
@@ -51,7 +33,7 @@ by_steps (suc r) n h = elim (nat_lt n 10) as (λ t. nat_lt n 10 ≡ t → Spell 
   | true ↦ (λ e. let s : n < 10 = grind (arith, nat_tests) in
       let P : List ℕ → Type 0 = λ ds. Spell n ds in
       subst P (sym (number_small n s)) (record {
-        digits = both (is_digit (48 + n)) true (digit_is n s) refl;
+        digits = and_from (is_digit (48 + n)) true (digit_is n s) refl;
         plain = refl;
         value = omega arith;
       }))
@@ -130,7 +112,7 @@ digits_high : (ds : List ℕ) → all_digits ds ≡ true → all_high ds ≡ tru
 digits_high [] e = refl
 digits_high (b ∷ ds) e =
     let d : is_digit b ≡ true = left (is_digit b) (all_digits ds) e in
-    both (nat_le 48 b) (all_high ds) (left (nat_le 48 b) (nat_le b 57) d)
+    and_from (nat_le 48 b) (all_high ds) (left (nat_le 48 b) (nat_le b 57) d)
     (digits_high ds (right (is_digit b) (all_digits ds) e))
 
 pub number_high : (n : ℕ) → all_high (number_text n) ≡ true
@@ -142,15 +124,11 @@ other b mark h e = grind (arith, nat_tests)
 pub high_lacks : (mark : ℕ) (bytes : List ℕ) → mark < 48 → all_high bytes ≡ true → lacks mark bytes ≡ true
 high_lacks mark [] h e = refl
 high_lacks mark (b ∷ bytes) h e =
-    both (not (nat_eq b mark)) (lacks mark bytes) (other b mark h (left (nat_le 48 b) (all_high bytes) e))
+    and_from (not (nat_eq b mark)) (lacks mark bytes) (other b mark h (left (nat_le 48 b) (all_high bytes) e))
     (high_lacks mark bytes h (right (nat_le 48 b) (all_high bytes) e))
 
 isnt : (b mark : ℕ) → not (nat_eq b mark) ≡ true → nat_eq b mark ≡ false
-isnt b mark e = I (nat_eq b mark) e
-  where
-    I : (t : Bool) → not t ≡ true → t ≡ false
-    I true h = (cc)
-    I false h = refl
+isnt b mark e = not-true (nat_eq b mark) e
 
 is_mark : (mark : ℕ) → nat_eq mark mark ≡ true
 is_mark mark = grind (arith, nat_tests)
@@ -187,3 +165,10 @@ pub bind_some : {A B : Type 0} (o : Option A) (f : A → Option B) (y : B) → (
     → (x : A) × (o ≡ Some x) × (f x ≡ Some y)
 bind_some None f y e = (cc)
 bind_some (Some x) f y e = (x, refl, e)
+
+-- what two words lack, the words together lack
+pub lacks_append : (a b : List ℕ) → lacks 32 a ≡ true → lacks 32 b ≡ true → lacks 32 (a ++ b) ≡ true
+lacks_append [] b e f = f
+lacks_append (x ∷ a) b e f =
+    and_from (not (nat_eq x 32)) (lacks 32 (a ++ b)) (left (not (nat_eq x 32)) (lacks 32 a) e)
+    (lacks_append a b (right (not (nat_eq x 32)) (lacks 32 a) e) f)

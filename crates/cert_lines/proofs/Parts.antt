@@ -1,25 +1,20 @@
 -- Words and their parts.
-use Rattle.std.proofs.Common.{◌≡◌, ℕ, zero, suc, ◌+◌, ◌-◌, ◌*◌, ◌<◌, ◌≤◌, true, false, not, cond, ◌||◌, ◌&&◌, List, []}
-use Rattle.std.proofs.Common.{◌∷◌, ◌++◌, length, get_or, take, drop, min, ◌^◌, refl, sym, ◌∙◌, ap, arith, eq-eqb}
-use Rattle.std.proofs.Common.{nat_eq, Some, None}
+use Rattle.std.proofs.Common.{◌≡◌, ℕ, zero, suc, ◌+◌, ◌-◌, ◌*◌, ◌<◌, true, false, not, cond, ◌||◌, ◌&&◌, List, []}
+use Rattle.std.proofs.Common.{◌∷◌, length, get_or, take, drop, min, ◌^◌, refl, sym, ◌∙◌, ap, arith, eq-eqb}
+use Rattle.std.proofs.Common.{Some, None}
 use Rattle.std.proofs.lemmas.Bool.Decides.{nat_tests}
-use Rattle.std.proofs.lemmas.List.{take_all, take_more, drop_more}
-use Rattle.std.proofs.Common.{length-drop}
-use Rattle.line_io.specs.Lines.{is_digit, all_digits, value_after, value_of}
+use Rattle.std.proofs.lemmas.List.{take_more, drop_more}
+use Rattle.std.proofs.lemmas.Bool.{ne_eqb}
+use Rattle.line_io.specs.Lines.{is_digit, all_digits, value_of}
 use Rattle.cert_lines.specs.Words.{parts_at, onto_part, number_in, is_unplain, greatest}
-
-pub not_equal : (a b : ℕ) → (a ≡ b → ⊥) → nat_eq a b ≡ false
-not_equal a b n = grind (arith, nat_tests, n)
-
-pub to_end : (text : List ℕ) (e n : ℕ) → length text ≤ n + e → take n (drop e text) ≡ drop e text
-to_end text e n h = take_all n (drop e text) (omega (arith, length-drop e text))
+use Rattle.line_io.proofs.ReadFacts.{value_push}
 
 pub no_mark : (mark : ℕ) (bytes : List ℕ) → ((k : ℕ) → k < length bytes → get_or bytes k 0 ≡ mark → ⊥)
     → parts_at mark bytes ≡ None
 unfolding parts_at
 no_mark mark [] n = refl
 no_mark mark (b ∷ bytes) n =
-    ap (λ t. cond t (Some ([], bytes)) (onto_part b (parts_at mark bytes))) (not_equal b mark (n 0 (omega arith)))
+    ap (λ t. cond t (Some ([], bytes)) (onto_part b (parts_at mark bytes))) (ne_eqb b mark (n 0 (omega arith)))
     ∙ ap (onto_part b) (no_mark mark bytes (λ k l. n (suc k) (omega arith)))
 
 pub first_mark : (mark : ℕ) (bytes : List ℕ) (i : ℕ) → i < length bytes
@@ -30,20 +25,12 @@ first_mark mark [] i h n t = absurd (omega arith)
 first_mark mark (b ∷ bytes) zero h n t = ap (λ t. cond t (Some ([], bytes)) (onto_part b (parts_at mark bytes)))
     (eq-eqb b mark t)
 first_mark mark (b ∷ bytes) (suc i) h n t =
-    ap (λ t. cond t (Some ([], bytes)) (onto_part b (parts_at mark bytes))) (not_equal b mark (n 0 (omega arith)))
+    ap (λ t. cond t (Some ([], bytes)) (onto_part b (parts_at mark bytes))) (ne_eqb b mark (n 0 (omega arith)))
     ∙ ap (onto_part b) (first_mark mark bytes i (omega arith) (λ k l. n (suc k) (omega arith)) t)
-
-pub digits_next : (i : ℕ) (ds : List ℕ) → i < length ds → is_digit (get_or ds i 0) ≡ true
-    → all_digits (drop (i + 1) ds) ≡ all_digits (drop i ds)
-digits_next i ds h e = sym (ap all_digits (drop_more ds i 0 h) ∙ ap (λ b. b && all_digits (drop (i + 1) ds)) e)
 
 pub digits_stop : (i : ℕ) (ds : List ℕ) → i < length ds → is_digit (get_or ds i 0) ≡ false
     → all_digits (drop i ds) ≡ false
 digits_stop i ds h e = ap all_digits (drop_more ds i 0 h) ∙ ap (λ b. b && all_digits (drop (i + 1) ds)) e
-
-pub value_push : (n : ℕ) (ds : List ℕ) (d : ℕ) → value_after n (ds ++ d ∷ []) ≡ 10 * value_after n ds + (d - 48)
-value_push n [] d = refl
-value_push n (b ∷ ds) d = value_push (10 * n + (b - 48)) ds d
 
 -- one more digit, up to the greatest number
 pub value_next : (i d v x y : ℕ) (ds : List ℕ) → i < length ds → v ≡ min (value_of (take i ds)) greatest

@@ -4,7 +4,7 @@ use Rattle.std.proofs.Common.{Some, None, Option, ◌⊎◌, inl, inr}
 use Rattle.std.specs.Prelude.{codes, bytes_eq}
 use Rattle.std.proofs.lemmas.Slice.Eq.{bytes_eq-Decides}
 use Rattle.std.proofs.lemmas.Option.{same_Some, none-some}
-use Rattle.std.proofs.lemmas.Bool.Decides.{nat_tests}
+use Rattle.std.proofs.lemmas.Bool.{eqb-true}
 use Rattle.line_io.specs.Lines.{value_of}
 use Rattle.line_rules.specs.declared.types.LineKind.{LineKind}
 use Rattle.line_rules.specs.declared.types.LineKind.TheVariants.{Straight, U}
@@ -17,10 +17,11 @@ use Rattle.cert_lines.specs.inner.LineReading.{keyed_in, seat_in, side_in, trail
 use Rattle.cert_lines.proofs.NumberWords.{number_again, number_found, number_first_again, split_again, split_none}
 use Rattle.cert_lines.proofs.NumberWords.{high_lacks, lacks, bind_some, number_high}
 use Rattle.cert_lines.proofs.CiteWords.{sat}
-use Rattle.cert_lines.proofs.EntryLines.{number_first_found, same_word}
+use Rattle.cert_lines.proofs.EntryLines.{number_first_found}
 use Rattle.cert_lines.proofs.Lists.{split_parts, chosen}
+use Rattle.line_io.proofs.ReadFacts.{same_bytes}
 
-same_words : (a : List ℕ) → bytes_eq a a ≡ true
+pub same_words : (a : List ℕ) → bytes_eq a a ≡ true
 same_words a = (bytes_eq-Decides a a).1 refl
 
 -- a word and a number
@@ -38,7 +39,7 @@ keyed_found key line v e =
     elim (chosen (bytes_eq p.0.0 key) (number_in p.0.1) None (Some v) p.2) [
       | inl h ↦ (let f = number_found p.0.1 v h.1 in (
         value_of p.0.1,
-        ap (λ w. key ++ 32 ∷ w) f.0 ∙ ap (λ w. w ++ 32 ∷ p.0.1) (sym (same_word p.0.0 key h.0))
+        ap (λ w. key ++ 32 ∷ w) f.0 ∙ ap (λ w. w ++ 32 ∷ p.0.1) (sym (same_bytes p.0.0 key h.0))
             ∙ sym (split_parts 32 line p.0 p.1),
         sym f.1,
       ))
@@ -57,17 +58,14 @@ seat_again Straight n side = ap (λ o. o >>= λ s. Some (s, Front)) (number_agai
 seat_again U n Front = ap (λ o. o >>= λ s. side_in s.1 >>= λ side. Some (s.0, side)) (number_first_again n (codes "f"))
 seat_again U n AtBack = ap (λ o. o >>= λ s. side_in s.1 >>= λ side. Some (s.0, side)) (number_first_again n (codes "b"))
 
-same_byte : (a b : ℕ) → nat_eq a b ≡ true → a ≡ b
-same_byte a b e = grind (arith, nat_tests)
-
 side_found : (word : List ℕ) (side : Side) → side_in word ≡ Some side
     → ((side ≡ Front) × (word ≡ codes "f")) ⊎ ((side ≡ AtBack) × (word ≡ codes "b"))
 side_found [] side e = (cc)
 side_found (b ∷ []) side e = elim (chosen (nat_eq b 102) (Some Front) (cond (nat_eq b 98) (Some AtBack) None)
     (Some side) e) [
-      | inl h ↦ inl (sym (same_Some Front side h.1), ap (λ x. x ∷ []) (same_byte b 102 h.0))
+      | inl h ↦ inl (sym (same_Some Front side h.1), ap (λ x. x ∷ []) (eqb-true b 102 h.0))
       | inr h ↦ elim (chosen (nat_eq b 98) (Some AtBack) None (Some side) h.1) [
-        | inl g ↦ inr (sym (same_Some AtBack side g.1), ap (λ x. x ∷ []) (same_byte b 98 g.0))
+        | inl g ↦ inr (sym (same_Some AtBack side g.1), ap (λ x. x ∷ []) (eqb-true b 98 g.0))
         | inr g ↦ (let w : None ≡ Some side = g.1 in (cc))
       ]
     ]
@@ -125,7 +123,7 @@ not_zero_word n rest = I (bytes_eq (number_text n ++ 32 ∷ rest) (codes "0")) r
     I true e =
         absurd (none-some (number_text n, rest)
         (sym (split_none 32 (codes "0") refl) ∙ ap (parts_at 32)
-        (sym (same_word (number_text n ++ 32 ∷ rest) (codes "0") e))
+        (sym (same_bytes (number_text n ++ 32 ∷ rest) (codes "0") e))
         ∙ split_again 32 (number_text n) rest (high_lacks 32 (number_text n) (omega arith) (number_high n))))
 
 pub trail_again : (t : Option (ℕ × ℕ)) → trail_in (row_text (trail t)) ≡ Some (sat_trail t)
@@ -161,7 +159,7 @@ numbers_found bytes x e =
       | inl h ↦ (let n = number_found a.0.1 c.0 h.1 in (
         (g.0, value_of a.0.1),
         ap (λ w. number_text g.0 ++ 32 ∷ (codes "at" ++ 32 ∷ w)) n.0
-            ∙ ap (λ w. number_text g.0 ++ 32 ∷ (w ++ 32 ∷ a.0.1)) (sym (same_word a.0.0 (codes "at") h.0))
+            ∙ ap (λ w. number_text g.0 ++ 32 ∷ (w ++ 32 ∷ a.0.1)) (sym (same_bytes a.0.0 (codes "at") h.0))
             ∙ ap (λ w. number_text g.0 ++ 32 ∷ w) (sym (split_parts 32 f.0.1 a.0 a.1)) ∙ sym g.1,
         ap (λ z. Some (z, sat (value_of a.0.1))) g.2 ∙ ap (λ z. Some (f.0.0, z)) (sym n.1) ∙ y,
       ))
@@ -180,14 +178,14 @@ trail_found line x e =
       | inl h ↦ elim (chosen (bytes_eq k.0.1 (codes "0")) (Some None) (trail_numbers k.0.1) (Some x) h.1) [
         | inl z ↦ (
           None,
-          ap (λ w. w ++ 32 ∷ codes "0") (sym (same_word k.0.0 (codes "trail") h.0))
-              ∙ ap (λ w. k.0.0 ++ 32 ∷ w) (sym (same_word k.0.1 (codes "0") z.0)) ∙ sym p,
+          ap (λ w. w ++ 32 ∷ codes "0") (sym (same_bytes k.0.0 (codes "trail") h.0))
+              ∙ ap (λ w. k.0.0 ++ 32 ∷ w) (sym (same_bytes k.0.1 (codes "0") z.0)) ∙ sym p,
           same_Some None x z.1,
         )
         | inr z ↦ (let f = numbers_found k.0.1 x z.1 in (
           Some f.0,
           ap (λ w. codes "trail" ++ 32 ∷ w) f.1
-              ∙ ap (λ w. w ++ 32 ∷ k.0.1) (sym (same_word k.0.0 (codes "trail") h.0)) ∙ sym p,
+              ∙ ap (λ w. w ++ 32 ∷ k.0.1) (sym (same_bytes k.0.0 (codes "trail") h.0)) ∙ sym p,
           f.2,
         ))
       ]

@@ -7,12 +7,15 @@ use Rattle.std.proofs.lemmas.Bool.Decides.{nat_tests}
 use Rattle.std.proofs.lemmas.List.{set_at, length-replicate, ext_get_or, get_or-append-add, get_or_append_left}
 use Rattle.std.proofs.lemmas.List.{get_or-append_right}
 use Rattle.std.proofs.lemmas.List.FromFn.{length-map-range_with_len}
+use Rattle.std.proofs.lemmas.Bool.{and_from}
 use Rattle.line_rules.specs.Ranges.{IsOf}
 use Rattle.cert_lines.specs.Numbers.{member, four, hex_digit, set_text}
 use Rattle.cert_lines.specs.Words.{is_hex, hex_value, bit_of, is_spare, are_digits, with_task, with_digit}
 use Rattle.cert_lines.specs.Words.{with_digits, set_in}
-use Rattle.cert_lines.proofs.NumberWords.{both, left, right, all_high}
+use Rattle.cert_lines.proofs.NumberWords.{all_high}
 use Rattle.cert_lines.proofs.SetWords.{set_is}
+use Rattle.line_io.proofs.ReadFacts.{right, left}
+use Rattle.task_set.proofs.Members.{In-empty}
 
 -- the four truths of a digit
 abbrev pub bits : ℕ → List Bool
@@ -198,11 +201,6 @@ text_found n k (b ∷ word) s p post l e d =
     regroup : (p q r post : List Bool) → p ++ ((q ++ r) ++ post) ≡ (p ++ q) ++ (r ++ post)
     regroup p q r post = simp append_assoc
 
-none_in : (r j : ℕ) → get_or (replicate r false) j false ≢ true
-none_in zero j e = (cc)
-none_in (suc r) zero e = (cc)
-none_in (suc r) (suc j) e = none_in r j e
-
 bits_length : (word : List ℕ) → length (flat_map bits word) ≡ 4 * length word
 bits_length [] = refl
 bits_length (b ∷ word) = omega (arith, length-append (bits b) (flat_map bits word), bits_length word)
@@ -233,7 +231,7 @@ set_found n word s m e =
       record {
         truths = ap length is ∙ length-append (flat_map bits word) r
             ∙ omega (arith, bits_length word, length-replicate (1024 - 4 * length word) false);
-        tasks = λ i t. let w : 4 * 0 + i < n = within n 0 word r i p.1 (none_in (1024 - 4 * length word))
+        tasks = λ i t. let w : 4 * 0 + i < n = within n 0 word r i p.1 (In-empty (1024 - 4 * length word))
             (ap (λ x. get_or x i false) (sym is) ∙ t) in omega arith;
       },
     )
@@ -310,10 +308,10 @@ digit_spare n k s =
     let r1 = nat_lt (4 * k + 1) n || not (bit_of d 1) in
     let r2 = nat_lt (4 * k + 2) n || not (bit_of d 2) in
     let r3 = nat_lt (4 * k + 3) n || not (bit_of d 3) in
-    both (nat_lt (4 * k) n || not (bit_of d 0)) (r1 && (r2 && r3))
+    and_from (nat_lt (4 * k) n || not (bit_of d 0)) (r1 && (r2 && r3))
     (spare_of n (4 * k) s (bit_of d 0) (ap (λ x. bit_of x 0) v ∙ f.0))
-    (both r1 (r2 && r3) (spare_of n (4 * k + 1) s (bit_of d 1) (ap (λ x. bit_of x 1) v ∙ f.1))
-    (both r2 r3 (spare_of n (4 * k + 2) s (bit_of d 2) (ap (λ x. bit_of x 2) v ∙ f.2))
+    (and_from r1 (r2 && r3) (spare_of n (4 * k + 1) s (bit_of d 1) (ap (λ x. bit_of x 1) v ∙ f.1))
+    (and_from r2 r3 (spare_of n (4 * k + 2) s (bit_of d 2) (ap (λ x. bit_of x 2) v ∙ f.2))
     (spare_of n (4 * k + 3) s (bit_of d 3) (ap (λ x. bit_of x 3) v ∙ f.3))))
 
 digits_written : (n k len : ℕ) (s : List Bool) → are_digits n k
@@ -321,10 +319,10 @@ digits_written : (n k len : ℕ) (s : List Bool) → are_digits n k
 unfolding are_digits
 digits_written n k zero s = refl
 digits_written n k (suc len) s =
-    both (is_hex (hex_digit (four n s k))) (is_spare n k (hex_value (hex_digit (four n s k)))
+    and_from (is_hex (hex_digit (four n s k))) (is_spare n k (hex_value (hex_digit (four n s k)))
     && are_digits n (suc k) (map (λ j. hex_digit (four n s j)) (range_with_len (k + 1) len)))
     (hex_digit_is (four n s k) (four_small n k s))
-    (both (is_spare n k (hex_value (hex_digit (four n s k))))
+    (and_from (is_spare n k (hex_value (hex_digit (four n s k))))
     (are_digits n (suc k) (map (λ j. hex_digit (four n s j)) (range_with_len (k + 1) len))) (digit_spare n k s)
     (ap (λ m. are_digits n (suc k) (map (λ j. hex_digit (four n s j)) (range_with_len m len))) (add-one k)
     ∙ digits_written n (suc k) len s))
@@ -345,7 +343,7 @@ digit_high d h = grind (arith, nat_tests)
 
 high_from : (n k len : ℕ) (s : List Bool) → all_high (map (λ j. hex_digit (four n s j)) (range_with_len k len)) ≡ true
 high_from n k zero s = refl
-high_from n k (suc len) s = both (nat_le 48 (hex_digit (four n s k)))
+high_from n k (suc len) s = and_from (nat_le 48 (hex_digit (four n s k)))
     (all_high (map (λ j. hex_digit (four n s j)) (range_with_len (k + 1) len)))
     (digit_high (four n s k) (four_small n k s)) (high_from n (k + 1) len s)
 

@@ -3,7 +3,7 @@ use Rattle.std.proofs.Common.{◌≡◌, ℕ, zero, suc, ◌-◌, ◌<◌, ◌�
 use Rattle.std.proofs.Common.{get_or, length, map, refl, sym, ◌∙◌, ap, subst, arith, Some, None, Option, Ok, lit≤, lit<}
 use Rattle.std.specs.Prelude.{codes, slice_get}
 use Rattle.std.proofs.lemmas.Option.{same_Some, none-some}
-use Rattle.std.proofs.lemmas.List.{ext_get_or, get_or-replicate, length-replicate}
+use Rattle.std.proofs.lemmas.List.{ext_get_or, get_or-replicate, length-replicate, nil_from_length}
 use Rattle.line_rules.specs.Ranges.{IsCycle, IsAsked, IsPlaced, IsPlacing, AreEntries, IsEntry, IsWhy, IsFrame, IsLast}
 use Rattle.line_rules.specs.Ranges.{IsLoadLike, IsTrailOrNone}
 use Rattle.task_set.specs.Truths.{IsEmpty}
@@ -42,6 +42,7 @@ use Rattle.cert_lines.proofs.PlainLines.{keyed_again, trail_again, sat_trail, se
 use Rattle.cert_lines.proofs.EntryLines.{cycle_of, draft_of, entry_again}
 use Rattle.cert_lines.proofs.FrameLines.{load_read, last_read, the_frame, frame_again}
 use Rattle.cert_text.proofs.PartSequences.{Unique, unique_one, unique_each, unique_then, texts, Same, same_read}
+use Rattle.cert_lines.proofs.JudgedSeat.{small_trail}
 
 -- a number within a range
 abbrev pub within : ℕ → ℕ → ℕ → Type 0
@@ -131,11 +132,6 @@ same_heads = record {
 abbrev pub trail_heads : Grammar (Option (ℕ × ℕ))
 trail_heads = one trail IsHead
 
-small_trail : (t : Option (ℕ × ℕ)) → IsHead t → sat_trail t ≡ t
-small_trail None h = refl
-small_trail (Some t) h = ap (λ z. Some (z, sat t.1)) (small_is t.0 (omega (arith, h.1)))
-    ∙ ap (λ z. Some (t.0, z)) (small_is t.1 (omega (arith, h.2.limit)))
-
 pub unique_trail_head : Unique trail_heads
 unique_trail_head = unique_one trail IsHead
     (λ v w a b e. sym (small_trail v a) ∙ twice trail_in (row_text (trail v)) (row_text (trail w)) (sat_trail v)
@@ -159,10 +155,6 @@ to_trail (Some t) fs = Some (record { cycle = t.1; frames = fs })
 abbrev from_trail : Option Trail → Option (ℕ × ℕ) × List OpenFrame
 from_trail None = (None, [])
 from_trail (Some t) = (Some (length t.frames, t.cycle), t.frames)
-
-no_items : {A : Type 0} (xs : List A) → length xs ≡ 0 → xs ≡ []
-no_items [] e = refl
-no_items (x ∷ xs) e = absurd (omega arith)
 
 pub same_trails : (n count : ℕ) → Same (trail_parts n count) (trails n count)
 same_trails n count = record {
@@ -190,7 +182,7 @@ same_trails n count = record {
 
     to_row : (h : Option (ℕ × ℕ)) (fs : List OpenFrame) → AreSaid (IsFrame n count) (frames_said h) fs
         → trail_rows n (to_trail h fs) ≡ trail h ∷ map (frame_row n) fs
-    to_row None fs b = ap (λ x. trail None ∷ map (frame_row n) x) (sym (no_items fs b.many))
+    to_row None fs b = ap (λ x. trail None ∷ map (frame_row n) x) (sym (nil_from_length fs b.many))
     to_row (Some t) fs b = ap (λ x. trail (Some (x, t.1)) ∷ map (frame_row n) fs) b.many
 
     from_row : (w : Option Trail) → (trail_parts n count).rows (from_trail w) ≡ trail_rows n w

@@ -41,7 +41,7 @@ use Rattle.cert_text.specs.declared.parts.Placed.{Placed}
 use Rattle.cert_text.specs.declared.parts.AnyClaim.{AnyClaim}
 use Rattle.cert_text.specs.declared.parts.AnyClaim.TheVariants as any
 use Rattle.cert_lines.proofs.CiteWords.{sat}
-use Rattle.cert_lines.proofs.JudgedLine.{fixed_text, small_is, keyed_value, keyed_other}
+use Rattle.cert_lines.proofs.JudgedLine.{fixed_text, small_is, keyed_value, keyed_other, lower_said, said_lower}
 use Rattle.cert_lines.proofs.PlainLines.{keyed_again}
 use Rattle.cert_lift.proofs.LiftRanges.{lifted_in}
 use Rattle.cert_text.proofs.PartErrors.{Fails, first, second, same, hand}
@@ -244,15 +244,6 @@ openings a n = one opening_row (IsOpening a n)
 abbrev pub claim_parts : Version → Head → Grammar (Opening × AnyClaim)
 claim_parts v h = then_ (openings h.ask h.tasks) (opened v h)
 
--- what opens a claim: a lower bound, or a task where the question names a cycle
-pub opening_cycle : (a : Ask) (n l : ℕ) → IsOpening a n (opening.Lower l) → IsCycle l
-opening_cycle (ask.Stations c) n l h = h
-opening_cycle (ask.Cycle m) n l h = h
-
-cycle_opens : (a : Ask) (n l : ℕ) → IsCycle l → IsOpening a n (opening.Lower l)
-cycle_opens (ask.Stations c) n l h = h
-cycle_opens (ask.Cycle m) n l h = h
-
 pub opening_task : (a : Ask) (n t : ℕ) → IsOpening a n (opening.TooLong t) → NamesCycle a × (t < n)
 opening_task (ask.Stations c) n t h = (tt, h)
 opening_task (ask.Cycle m) n t h = absurd h
@@ -271,8 +262,8 @@ same_opening a n l (opening.TooLong x) (opening.TooLong y) p q e =
     ap (λ z. opening.TooLong z) (omega arith)
 same_opening a n l (opening.Lower x) (opening.Lower y) p q e =
     ap (λ z. opening.Lower z) (keyed_value (codes "lower") (row_text (keyed (codes "lower") x)) y x refl (sym e)
-    (omega (arith, (opening_cycle a n y q).limit)) (keyed_again (codes "lower") x refl
-    ∙ ap (λ z. Some z) (small_is x (omega (arith, (opening_cycle a n x p).limit)))))
+    (omega (arith, (said_lower a n y q).limit)) (keyed_again (codes "lower") x refl
+    ∙ ap (λ z. Some z) (small_is x (omega (arith, (said_lower a n x p).limit)))))
 same_opening a n l (opening.TooLong x) (opening.Lower y) p q e =
     (let w : codes "lower" ≡ codes "infeasible" = keyed_other (codes "lower") (codes "infeasible")
     (row_text (keyed (codes "infeasible") (suc x))) y (sat (suc x)) refl refl (sym e)
@@ -305,7 +296,7 @@ some_opened version.Two h (opening.Lower x) r =
         (
           refl,
           record {
-            from = opening_cycle h.ask h.tasks x r;
+            from = said_lower h.ask h.tasks x r;
             up_to = p.1.upper;
             balance = p.1.balance;
             entries = l.1.0;
@@ -319,16 +310,16 @@ some_opened version.One h (opening.Lower x) r =
     let p = some_placing h.kind h.tasks in (
       any.Old (old.Bounds x p.0.upper p.0.balance []),
       (
-        (refl, record { from = opening_cycle h.ask h.tasks x r; up_to = p.1.upper; balance = p.1.balance; parts = tt }),
+        (refl, record { from = said_lower h.ask h.tasks x r; up_to = p.1.upper; balance = p.1.balance; parts = tt }),
         refl,
       ),
     )
 
 claim_opens : (v : Version) (h : Head) (c : AnyClaim) → IsClaimOf v h c → IsOpening h.ask h.tasks (opening_of c)
 claim_opens v h (any.New (new.TooLong t)) r = task_opens h.ask h.tasks t r
-claim_opens v h (any.New (new.Bounds x u b es t)) r = cycle_opens h.ask h.tasks x r.1.from
+claim_opens v h (any.New (new.Bounds x u b es t)) r = lower_said h.ask h.tasks x r.1.from
 claim_opens v h (any.Old (old.TooLong t)) r = absurd r
-claim_opens v h (any.Old (old.Bounds x u b ps)) r = cycle_opens h.ask h.tasks x r.1.from
+claim_opens v h (any.Old (old.Bounds x u b ps)) r = lower_said h.ask h.tasks x r.1.from
 
 pub same_claims : (v : Version) (h : Head) → Same (claim_parts v h) (claims v h)
 same_claims v h = record {
@@ -391,7 +382,7 @@ unique_opened v h (opening.TooLong t) m q = unique_same end_grammar (opened v h 
     back (any.Old (old.Bounds x u b ps)) r = absurd (cc (r.1))
 unique_opened version.Two h (opening.Lower y) m q =
     unique_same (bounds_parts (lists h.tasks) h) (opened version.Two h (opening.Lower y))
-    (same_new h y (opening_cycle h.ask h.tasks y q)) (unique_bounds (lists h.tasks) h (unique_lists h.tasks m)) back
+    (same_new h y (said_lower h.ask h.tasks y q)) (unique_bounds (lists h.tasks) h (unique_lists h.tasks m)) back
   where
     back : (w : AnyClaim) → IsOpened version.Two h (opening.Lower y) w
         → any.New (new.Bounds y (from_new w).0.upper (from_new w).0.balance (from_new w).1.0.entries
@@ -402,7 +393,7 @@ unique_opened version.Two h (opening.Lower y) m q =
     back (any.Old (old.Bounds x u b ps)) r = absurd (cc (r.0.0))
 unique_opened version.One h (opening.Lower y) m q =
     unique_same (bounds_parts (counted h.tasks) h) (opened version.One h (opening.Lower y))
-    (same_old h y (opening_cycle h.ask h.tasks y q)) (unique_bounds (counted h.tasks) h (unique_counted h.tasks m))
+    (same_old h y (said_lower h.ask h.tasks y q)) (unique_bounds (counted h.tasks) h (unique_counted h.tasks m))
     back
   where
     back : (w : AnyClaim) → IsOpened version.One h (opening.Lower y) w

@@ -7,6 +7,7 @@ use Rattle.std.specs.List.{flat_map}
 use Rattle.std.proofs.lemmas.Bool.Decides.{nat_tests}
 use Rattle.std.proofs.lemmas.Option.{same_Some}
 use Rattle.std.proofs.lemmas.List.{append-nil, map-append}
+use Rattle.std.proofs.lemmas.Bool.{and_from}
 use Rattle.line_rules.specs.Ranges.{IsInRange, AreEntries, IsTrailOrNone}
 use Rattle.line_rules.specs.declared.types.LineKind.{LineKind}
 use Rattle.line_rules.specs.declared.types.LineKind.TheVariants.{Straight, U}
@@ -23,6 +24,8 @@ use Rattle.line_rules.specs.declared.types.Ask.TheVariants as ask
 use Rattle.line_rules.specs.declared.types.Claim.{Claim}
 use Rattle.line_rules.specs.declared.types.Claim.TheVariants as claim
 use Rattle.line_rules.specs.declared.types.Certificate.{Certificate}
+use Rattle.line_io.proofs.ReadFacts.{right, left}
+use Rattle.line_rules.proofs.LoadTests.{not_true}
 pub use Rattle.cert_lines.specs.Telling.{AllLack}
 use Rattle.cert_lines.specs.Numbers.{number_text, set_text, cites_text, mode_letter, last_text}
 use Rattle.cert_lines.specs.Rows.{Row, fixed, keyed, span, seat, bound, branch, swap, trail, frame, state_entry}
@@ -47,7 +50,7 @@ use Rattle.cert_text.specs.declared.whole_text.CertRead.{CertRead}
 use Rattle.cert_text.specs.declared.whole_text.CertRead.TheVariants.{Good, Fault, NoMemory}
 use Rattle.cert_lines.specs.Words.{parts_at}
 use Rattle.cert_lines.specs.declared.fault.CertFault.{CertFault}
-use Rattle.cert_lines.proofs.NumberWords.{both, left, right, lacks, high_lacks, number_high, split_again}
+use Rattle.cert_lines.proofs.NumberWords.{lacks, high_lacks, number_high, split_again}
 use Rattle.cert_lines.proofs.SetText.{set_high}
 use Rattle.cert_lines.proofs.TextParts.{rows_lines}
 use Rattle.cert_text.proofs.PartSequences.{texts, Unique}
@@ -56,7 +59,7 @@ use Rattle.cert_text.proofs.Claims.{unique_both}
 
 lacks_append : (m : ℕ) (a b : List ℕ) → lacks m a ≡ true → lacks m b ≡ true → lacks m (a ++ b) ≡ true
 lacks_append m [] b e f = f
-lacks_append m (x ∷ a) b e f = both (not (nat_eq x m)) (lacks m (a ++ b)) (left (not (nat_eq x m)) (lacks m a) e)
+lacks_append m (x ∷ a) b e f = and_from (not (nat_eq x m)) (lacks m (a ++ b)) (left (not (nat_eq x m)) (lacks m a) e)
     (lacks_append m a b (right (not (nat_eq x m)) (lacks m a) e) f)
 
 -- a word, a blank and more
@@ -323,11 +326,7 @@ no_lf [] h = refl
 no_lf (b ∷ line) h =
     let n : not (nat_eq b 10) ≡ true = not_true (nat_eq b 10)
     (λ e. h zero 0 (omega arith) (grind (arith, nat_tests))) in
-    both (not (nat_eq b 10)) (lacks 10 line) n (no_lf line (λ k d l t. h (suc k) d (omega arith) t))
-  where
-    not_true : (t : Bool) → (t ≡ true → ⊥) → not t ≡ true
-    not_true true h = absurd (h refl)
-    not_true false h = refl
+    and_from (not (nat_eq b 10)) (lacks 10 line) n (no_lf line (λ k d l t. h (suc k) d (omega arith) t))
 
 nothing_left : (a x : List ℕ) → a ++ 10 ∷ x ≡ [] → ⊥
 nothing_left [] x e = (cc)

@@ -3,6 +3,7 @@ use Rattle.std.proofs.Common.{◌≡◌, ℕ, zero, suc, ◌+◌, ◌<◌, ◌�
 use Rattle.std.proofs.Common.{subst, arith, Some, Ok, Err, ◌⊎◌, inl, inr, append_assoc, length-append}
 use Rattle.std.specs.Prelude.{slice_get}
 use Rattle.std.proofs.lemmas.List.{append-nil, map-append, length-map, append_cancel_left}
+use Rattle.std.proofs.lemmas.Bool.{cases_lt}
 use Rattle.cert_lines.specs.Rows.{Row, row_text, rows_text}
 use Rattle.cert_lines.specs.Faults.{Grammar, Next}
 use Rattle.cert_lines.specs.Pattern.{one, each, IsRead, then_}
@@ -81,15 +82,9 @@ first_continues {A = A} {B = B} g h u some = record {
         rows = ap (λ z. z ++ (h n.value).rows s.0) n.rows ∙ append_assoc n.passed (r ∷ n.more) ((h n.value).rows s.0);
         same = n.same;
       };
-  from = λ b r r' n m. here b r r' n m (compare (length m.passed) (length (g.rows m.value.0)));
+  from = λ b r r' n m. here b r r' n m (cases_lt (length m.passed) (length (g.rows m.value.0)));
 }
   where
-    compare : (i j : ℕ) → (i < j) ⊎ (j ≤ i)
-    compare zero zero = inr (omega arith)
-    compare zero (suc j) = inl (omega arith)
-    compare (suc i) zero = inr (omega arith)
-    compare (suc i) (suc j) = elim (compare i j) [ inl a ↦ inl (omega arith) | inr a ↦ inr (omega arith) ]
-
     none : (x : List (List ℕ)) (l : List ℕ) (y : List (List ℕ)) → x ++ l ∷ y ≡ [] → ⊥
     none [] l y e = (cc)
     none (z ∷ x) l y e = (cc)

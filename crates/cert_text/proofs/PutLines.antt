@@ -78,9 +78,3 @@ next_line row xs k d r h e =
 pub all_lines : {X : Type 0} (row : X → Row) (xs : List X) (k : ℕ) → length xs ≤ k
     → rows_text (map row xs) ≡ rows_text (map row (take k xs))
 all_lines row xs k h = ap (λ ys. rows_text (map row ys)) (sym (take_all k xs h))
-
--- the lines of two lists
-pub rows_append : (a b : List Row) → rows_text (a ++ b) ≡ rows_text a ++ rows_text b
-rows_append [] b = refl
-rows_append (r ∷ a) b = ap (λ t. line_text r ++ t) (rows_append a b)
-    ∙ sym (append_assoc (line_text r) (rows_text a) (rows_text b))

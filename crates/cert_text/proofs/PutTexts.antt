@@ -1,9 +1,8 @@
 -- Texts that are put one behind the other.
 use Rattle.std.proofs.Common.{◌≡◌, ℕ, Bool, true, false, List, [], ◌++◌, take, length, refl, sym, ◌∙◌, ap, subst, arith}
-use Rattle.std.proofs.Common.{append_assoc, ◌<◌, ◌+◌, min, get_or}
-use Rattle.std.proofs.lemmas.List.{append-nil, take-append-le, take_all, take_more, flat_map_more}
-use Rattle.std.specs.List.{flat_map}
-use Rattle.std.proofs.lemmas.Bool.{false≢true}
+use Rattle.std.proofs.Common.{append_assoc, ◌+◌, min}
+use Rattle.std.proofs.lemmas.List.{append-nil, take-append-le, take_all}
+use Rattle.std.proofs.lemmas.Bool.{false≢true, false_from_ne_true}
 use Rattle.line_io.specs.Outside.{Rises}
 use Rattle.cert_lines.specs.Numbers.{number_text}
 use Rattle.cert_text.specs.Sent.{Sent, IsFront, Adds, Puts}
@@ -19,16 +18,12 @@ front_of_more front a b f = (
     clipped : (k : ℕ) (a : List ℕ) → take k a ≡ take (min k (length a)) a
     clipped k a = grind (arith, take_all)
 
-good_or_not : (b : Bool) → (b ≡ true → ⊥) → b ≡ false
-good_or_not true h = absurd (h refl)
-good_or_not false h = refl
-
 pub puts_both : {B : Type 0} (a b c : Sent B) (s t : List ℕ) → Adds a s b → Adds b t c → Adds a (s ++ t) c
 puts_both a b c s t p q = record {
   before = λ g. p.before (q.before g);
   all = λ g. q.all g ∙ ap (λ x. x ++ t) (p.all (q.before g)) ∙ append_assoc a.shown s t;
   front = λ g f. middle b.good refl g f;
-  stays = λ f. q.stays (good_or_not b.good (λ g. false≢true (sym f ∙ p.before g))) ∙ p.stays f;
+  stays = λ f. q.stays (false_from_ne_true b.good (λ g. false≢true (sym f ∙ p.before g))) ∙ p.stays f;
 }
   where
     middle : (x : Bool) → b.good ≡ x → a.good ≡ true → c.good ≡ false → IsFront c.kept (a.shown ++ (s ++ t))
@@ -84,13 +79,6 @@ behind told a b c s t p q = record {
 pub puts : {B : Type 0} (told : Type 0) (a b c : Sent B) (s t u : List ℕ) → Puts told a s b → Puts told b t c
     → u ≡ s ++ t → Puts told a u c
 puts told a b c s t u p q e = puts_as told a c (s ++ t) u (behind told a b c s t p q) e
-
--- a text of a list's members, with one member more
-pub next_text : {X : Type 0} (f : X → List ℕ) (xs : List X) (k : ℕ) (d : X) (part : List ℕ) → k < length xs
-    → f (get_or xs k d) ≡ part → flat_map f (take k xs) ++ part ≡ flat_map f (take (k + 1) xs)
-next_text f xs k d part h p =
-    ap (λ r. flat_map f (take k xs) ++ r) (sym p) ∙ flat_map_more f [] (take k xs) (get_or xs k d)
-    ∙ ap (flat_map f) (sym (take_more xs k d h))
 
 -- a text behind a text
 infixr 5 ◌▹◌

@@ -1,15 +1,11 @@
 -- A line that is split off a text.
-use Rattle.std.proofs.Common.{◌≡◌, ℕ, zero, suc, ◌<◌, true, false, nat_eq, List, [], ◌∷◌, length, get_or, sym, ◌∙◌, ap}
+use Rattle.std.proofs.Common.{◌≡◌, ℕ, zero, suc, ◌<◌, nat_eq, List, [], ◌∷◌, length, get_or, ap}
 use Rattle.std.proofs.Common.{subst, arith, Some, None, inl, inr}
-use Rattle.std.proofs.lemmas.Bool.Decides.{nat_tests}
+use Rattle.std.proofs.lemmas.Bool.{eqb-false}
 use Rattle.cert_lines.specs.Words.{parts_at, onto_part}
 use Rattle.cert_lines.specs.Taking.{IsTaken}
 use Rattle.cert_lines.specs.Faults.{IsLine}
 use Rattle.cert_lines.proofs.Lists.{chosen, onto_some, onto_none, split_parts}
-
-not_mark : (b mark : ℕ) → nat_eq b mark ≡ false → b ≡ mark → ⊥
-not_mark b mark e f = absurd (let w : nat_eq b mark ≡ true = grind (arith, nat_tests) in
-    (let z : true ≡ false = sym w ∙ e in (cc)))
 
 front_free : (mark : ℕ) (bytes : List ℕ) (p : List ℕ × List ℕ) → parts_at mark bytes ≡ Some p → (k d : ℕ)
     → k < length p.0 → get_or p.0 k d ≡ mark → ⊥
@@ -20,7 +16,7 @@ front_free mark (b ∷ bytes) p e k d h t = elim (chosen (nat_eq b mark) (Some (
       | inl x ↦ (let q : ([], bytes) ≡ p = cc in absurd (omega (arith, ap (λ z. length z.0) q)))
       | inr x ↦ (let q = onto_some b (parts_at mark bytes) p x.1 in
           let P : List ℕ → Type 0 = λ w. (k : ℕ) → k < length w → get_or w k d ≡ mark → ⊥ in
-          subst P (ap (λ z. z.0) q.2) (behind q.0 (not_mark b mark x.0)
+          subst P (ap (λ z. z.0) q.2) (behind q.0 (eqb-false b mark x.0)
           (λ j l u. front_free mark bytes q.0 q.1 j d l u)) k
           h t)
     ]
@@ -37,7 +33,7 @@ none_free mark [] e k d h t = absurd (omega arith)
 none_free mark (b ∷ bytes) e k d h t = elim (chosen (nat_eq b mark) (Some ([], bytes))
     (onto_part b (parts_at mark bytes)) None e) [
       | inl x ↦ (let q : Some ([], bytes) ≡ None = x.1 in (cc))
-      | inr x ↦ at k h t (not_mark b mark x.0) (λ j l u. none_free mark bytes (onto_none b (parts_at mark bytes) x.1) j
+      | inr x ↦ at k h t (eqb-false b mark x.0) (λ j l u. none_free mark bytes (onto_none b (parts_at mark bytes) x.1) j
           d l
           u)
     ]

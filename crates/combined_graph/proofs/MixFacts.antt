@@ -31,6 +31,7 @@ use Rattle.combined_graph.specs.Contents.{model_in, time_in, arc_in, IsMixOf}
 use Rattle.combined_graph.specs.declared.fault.MixFault.{MixFault}
 use Rattle.combined_graph.specs.declared.fault.MixKind.TheVariants.{Form, TooManyModels, RepeatedTime, TooManyArcs}
 use Rattle.combined_graph.specs.declared.fault.MixKind.TheVariants.{NoModel}
+use Rattle.line_io.proofs.FilePlaces.{unlike}
 
 -- ---- one record more
 
@@ -80,13 +81,6 @@ there models name m h =
     let p = position-Some (λ x. bytes_eq x.name name) models m (record { name = []; demand = 0; times = []; arcs = [] })
     h in
     record { within = p.0; is = (bytes_eq-Decides (model_at models m).name name).0 p.1 }
-
-other_name : (a b : List ℕ) → (a ≡ b → ⊥) → bytes_eq a b ≡ false
-other_name a b n = by (bytes_eq a b) refl
-  where
-    by : (t : Bool) → bytes_eq a b ≡ t → t ≡ false
-    by true e = absurd (n ((bytes_eq-Decides a b).0 e))
-    by false e = refl
 
 -- ---- what the records so far tell
 
@@ -260,7 +254,7 @@ module _ (n : ℕ) (done : List Fields) (mix : MixedLine) (name task time : List
   other_model : (k : ℕ) (other : List ℕ) → (name ≡ other → ⊥)
       → time_in other k (codes "time" ∷ name ∷ task ∷ time ∷ []) ≡ None
   other_model k other n = time_else name other task time k (ap (λ b. b && nat_eq (value_of task) (k + 1))
-      (other_name name other n))
+      (unlike name other n))
 
   given_now : (k : ℕ) → option_to_list (given_time timed k)
       ≡ filter_map (time_in name k) (done ++ (codes "time" ∷ name ∷ task ∷ time ∷ []) ∷ [])
@@ -354,7 +348,7 @@ module _ (n : ℕ) (done : List Fields) (mix : MixedLine) (name first second : L
       rw (own, a, b) refl
 
   other_arc : (other : List ℕ) → (name ≡ other → ⊥) → arc_in other (codes "arc" ∷ name ∷ first ∷ second ∷ []) ≡ None
-  other_arc other n = arc_else name other first second (other_name name other n)
+  other_arc other n = arc_else name other first second (unlike name other n)
 
   arcs_now : arced.arcs ≡ filter_map (arc_in name) (done ++ (codes "arc" ∷ name ∷ first ∷ second ∷ []) ∷ [])
   arcs_now =

@@ -1,7 +1,7 @@
 -- What `cycle` answers is what it promises.
 use Rattle.std.proofs.Common.{inl, inr, ℕ, nat_eq, List, Option, Some, None, refl, sym}
 use Rattle.std.proofs.Common.{subst, arith, rules}
-use Rattle.std.proofs.lemmas.Bool.{eqb-true}
+use Rattle.std.proofs.lemmas.Bool.{eqb-true, cond-true}
 use Rattle.line_instance.specs.Line.{Line}
 use Rattle.line_rules.specs.Bounds.{idle_time}
 use Rattle.line_rules.specs.declared.types.LineKind.{LineKind}
@@ -10,7 +10,7 @@ use Rattle.line_rules.specs.declared.types.Certificate.{Certificate}
 use Rattle.round_run.specs.declared.plans.Plan.{Plan}
 use Rattle.command_outcome.specs.Outcome.{Outcome}
 use Rattle.command_outcome.specs.declared.status.Status.TheVariants as ends
-use Rattle.solve_command.proofs.PromiseFacts.{chosen, not_chosen}
+use Rattle.solve_command.proofs.PromiseFacts.{not_chosen}
 use Rattle.cycle_certificates.specs.CycleCertified.{IsOptimum, IsStop}
 use Rattle.cycle_command.specs.CycleText.{optimal_text, stopped_text}
 use Rattle.cycle_command.specs.Found.{IsFound}
@@ -32,7 +32,7 @@ module _ (kind : LineKind) (line : Line) (m : ℕ) (plan : Plan) where
     accepted = p.certified.accepted;
     few = p.certified.few;
     true_bounds = p.certified.true_bounds;
-    printed = sym (chosen (nat_eq c c) (optimal_text kind c b (idle_time line c m))
+    printed = sym (cond-true (nat_eq c c) (optimal_text kind c b (idle_time line c m))
         (stopped_text kind c c b (idle_time line c m)) (search rules));
     differ = λ h. absurd (omega (arith, h));
     equal = λ e. (refl, p.least);

@@ -7,7 +7,7 @@ use Rattle.lemma_core.specs.Machine.{About}
 use Rattle.lemma_core.specs.Books.{BookView, IsReserved}
 use Rattle.round_helpers.specs.Growth.{AreAtCycle}
 use Rattle.round_helpers.specs.Helping.{all_used, HaveSpent}
-use Rattle.round_helpers.proofs.AddedEntries.{units_both, cycles_both}
+use Rattle.round_helpers.proofs.AddedEntries.{cycles_both}
 use Rattle.round_run.specs.Plans.{IsFilled}
 use Rattle.round_run.specs.Rounds.{IsAnswer, IsListed, IsRound, frames_of}
 use Rattle.round_run.specs.declared.closing.Verdict.{Verdict}
@@ -20,6 +20,7 @@ use Rattle.cycle_search.specs.Asking.{HasAskedBook, ListsAll}
 use Rattle.cycle_search.specs.inner.Searching.{HasAsked}
 use Rattle.cycle_search.specs.declared.asking.Asked.{Asked}
 use Rattle.cycle_search.specs.declared.halving.Halving.{Halving}
+use Rattle.line_rules.proofs.ListUnits.{units_both}
 
 -- where units ended, all of the plan's are listed
 lists_all : (v : Verdict) (plan : Plan) (b : BookView) (m left helped published listed used : ℕ) → IsAnswer b m left v

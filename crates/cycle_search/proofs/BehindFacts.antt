@@ -1,5 +1,5 @@
 -- Entries behind those of an earlier list: what follows in their list follows there, with cites raised.
-use Rattle.std.proofs.Common.{◌≡◌, ℕ, zero, suc, ◌+◌, ◌-◌, ◌<◌, ◌⊎◌, Bool, true, false, List, [], ◌∷◌, ◌++◌}
+use Rattle.std.proofs.Common.{◌≡◌, ℕ, suc, ◌+◌, ◌-◌, ◌<◌, ◌⊎◌, Bool, true, false, List, [], ◌∷◌, ◌++◌}
 use Rattle.std.proofs.Common.{length, map, take, refl, sym, ap, ◌∙◌, subst, inl, inr, arith, Some}
 use Rattle.std.proofs.Common.{length-append, get_or}
 use Rattle.std.specs.Prelude.{slice_get, nat_eq}
@@ -20,71 +20,18 @@ use Rattle.line_rules.specs.declared.types.Entry.{Entry}
 use Rattle.line_rules.specs.declared.types.Why.{Why}
 use Rattle.line_rules.specs.declared.types.Why.TheVariants as why
 use Rattle.line_rules.specs.declared.types.OpenFrame.{OpenFrame}
-use Rattle.line_rules.proofs.ListFacts.{get_longer}
+use Rattle.line_rules.proofs.ListFacts.{get_longer, take_map, take_behind, get_front, get_behind, get_map, get_unmap}
 use Rattle.lemma_core.specs.Own.{AreStatable}
-use Rattle.round_helpers.proofs.AddedEntries.{units_both}
 use Rattle.cert_lines.specs.Lift.{raised, lifted_why, lifted_frame}
 use Rattle.cycle_search.specs.inner.Joined.{raised_entry, behind, HaveCites, HaveFrameCites}
-
--- places in lists
-get_map : {X Y : Type 0} (f : X → Y) (xs : List X) (k : ℕ) (x : X) → slice_get xs k ≡ Some x
-    → slice_get (map f xs) k ≡ Some (f x)
-get_map f [] k x e = absurd (cc)
-get_map f (y ∷ xs) zero x e = (let q : y ≡ x = cc in ap (λ z. Some (f z)) q)
-get_map f (y ∷ xs) (suc k) x e = get_map f xs k x e
-
-get_unmap : {X Y : Type 0} (f : X → Y) (xs : List X) (k : ℕ) (y : Y) → slice_get (map f xs) k ≡ Some y
-    → (x : X) × (slice_get xs k ≡ Some x) × (y ≡ f x)
-get_unmap f [] k y e = absurd (cc)
-get_unmap f (x ∷ xs) zero y e = (x, refl, cc)
-get_unmap f (x ∷ xs) (suc k) y e = get_unmap f xs k y e
-
-get_behind : {X : Type 0} (xs ys : List X) (k : ℕ) → slice_get (xs ++ ys) (k + length xs) ≡ slice_get ys k
-get_behind [] ys k = ap (λ n. slice_get ys n) (omega arith)
-get_behind (x ∷ xs) ys k =
-    let s : k + suc (length xs) ≡ suc (k + length xs) = omega arith in
-    ap (λ n. slice_get (x ∷ (xs ++ ys)) n) s ∙ get_behind xs ys k
-
-get_front : {X : Type 0} (xs ys : List X) (k : ℕ) → k < length xs → slice_get (xs ++ ys) k ≡ slice_get xs k
-get_front [] ys k h = absurd (omega (arith, h))
-get_front (x ∷ xs) ys zero h = refl
-get_front (x ∷ xs) ys (suc k) h = get_front xs ys k (omega (arith, h))
-
-take_behind : {X : Type 0} (xs ys : List X) (k : ℕ) → take (k + length xs) (xs ++ ys) ≡ xs ++ take k ys
-take_behind [] ys k = ap (λ n. take n ys) (omega arith)
-take_behind (x ∷ xs) ys k =
-    let s : k + suc (length xs) ≡ suc (k + length xs) = omega arith in
-    ap (λ n. take n (x ∷ (xs ++ ys))) s ∙ ap (λ l. x ∷ l) (take_behind xs ys k)
-
-take_map : {X Y : Type 0} (f : X → Y) (xs : List X) (k : ℕ) → take k (map f xs) ≡ map f (take k xs)
-take_map f xs zero = refl
-take_map f [] (suc k) = refl
-take_map f (x ∷ xs) (suc k) = ap (λ l. f x ∷ l) (take_map f xs k)
-
--- what is raised by nothing stays
-raised_none : (cites : List ℕ) → raised 0 cites ≡ cites
-raised_none [] = refl
-raised_none (c ∷ cites) =
-    let z : c + 0 ≡ c = omega arith in
-    λ i. z i ∷ raised_none cites i
-
-why_none : (w : Why) → lifted_why 0 w ≡ w
-why_none why.Bound = refl
-why_none (why.Branch mode cites) = ap (λ (z : List ℕ). why.Branch mode z) (raised_none cites)
-why_none (why.Swap cite out into) =
-    let z : cite + 0 ≡ cite = omega arith in
-    ap (λ (c : ℕ). why.Swap c out into) z
+use Rattle.cert_lift.proofs.LiftFacts.{frames_none, why_none}
+use Rattle.round_run.proofs.Endings.{at_both}
+use Rattle.line_rules.proofs.ListUnits.{units_both}
 
 entries_none : (es : List Entry) → map (raised_entry 0) es ≡ es
 entries_none [] = refl
 entries_none (e ∷ es) =
     λ i. record { set = e.set; most = e.most; cycle = e.cycle; why = why_none e.why i } ∷ entries_none es i
-
-pub frames_none : (frames : List OpenFrame) → map (lifted_frame 0) frames ≡ frames
-frames_none [] = refl
-frames_none (f ∷ fs) =
-    λ i. record { set = f.set; most = f.most; mode = f.mode; last = f.last; cites = raised_none f.cites i }
-    ∷ frames_none fs i
 
 -- behind no entry stands the list itself
 pub behind_none : (before es : List Entry) → length before ≡ 0 → es ≡ behind before es
@@ -340,10 +287,6 @@ at_more : (X : ℕ) (x : Entry) (xs ys : List Entry) (t : Bool) → nat_eq x.cyc
     → entries_at X (x ∷ (xs ++ ys)) ≡ entries_at X (x ∷ xs) ++ entries_at X ys
 at_more X x xs ys true e h = rw e (ap (λ (l : List Entry). x ∷ l) h)
 at_more X x xs ys false e h = rw e h
-
-pub at_both : (X : ℕ) (xs ys : List Entry) → entries_at X (xs ++ ys) ≡ entries_at X xs ++ entries_at X ys
-at_both X [] ys = refl
-at_both X (x ∷ xs) ys = at_more X x xs ys (nat_eq x.cycle X) refl (at_both X xs ys)
 
 -- none is at X
 pub none_at : (X : ℕ) (es : List Entry) → ((k : ℕ) (e : Entry) → slice_get es k ≡ Some e → e.cycle ≡ X → ⊥)

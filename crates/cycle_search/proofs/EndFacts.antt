@@ -21,9 +21,9 @@ use Rattle.line_rules.specs.declared.types.Seatplace.{Seatplace}
 use Rattle.line_rules.specs.declared.types.Balance.{Balance as Assignment}
 use Rattle.line_rules.specs.declared.types.Entry.{Entry}
 use Rattle.line_rules.proofs.All.{In-all}
-use Rattle.line_rules.proofs.BoundIsTrue.{up_le}
+use Rattle.line_rules.proofs.BoundIsTrue.{up_le, cond_le, greatest_le}
 use Rattle.load_facts.specs.Times.{longest_of}
-use Rattle.load_facts.proofs.SumsOverMembers.{below_least, below_at, picked_le}
+use Rattle.load_facts.proofs.SumsOverMembers.{below_at}
 use Rattle.load_facts.proofs.BoundCases.{long_ones, below_bound}
 use Rattle.lemma_core.specs.Books.{MayBeBest}
 use Rattle.round_run.specs.Rounds.{by_bound}
@@ -87,14 +87,14 @@ each_short line c z i here = elim (cases_lt c (time line i)) [
 longest_short : (line : Line) (c : ℕ) → long_ones line c (all_tasks line) ≡ 0 → longest_of line (all_tasks line) ≤ c
 unfolding longest_of
 longest_short line c z =
-    below_least (tasks line) (λ j. cond (has (all_tasks line) j) (time line j) 0) c
-    (λ j. picked_le (has (all_tasks line) j) (time line j) c (each_short line c z j))
+    greatest_le (tasks line) (λ j. cond (has (all_tasks line) j) (time line j) 0) c
+    (λ j. cond_le (has (all_tasks line) j) (time line j) c (each_short line c z j))
 
 longest_total : (line : Line) → longest_of line (all_tasks line) ≤ total_time line
 unfolding longest_of
 longest_total line =
-    below_least (tasks line) (λ j. cond (has (all_tasks line) j) (time line j) 0) (total_time line)
-    (λ j. picked_le (has (all_tasks line) j) (time line j) (total_time line)
+    greatest_le (tasks line) (λ j. cond (has (all_tasks line) j) (time line j) 0) (total_time line)
+    (λ j. cond_le (has (all_tasks line) j) (time line j) (total_time line)
     (λ here. weigh-one (λ t. t) (has (all_tasks line)) j line.times (In-full_to_below (tasks line) j here) here))
 
 -- the bound refutes the cycle below the first lower end, where that is above 1

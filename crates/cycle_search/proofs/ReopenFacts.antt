@@ -2,7 +2,7 @@
 use Rattle.std.proofs.Common.{◌≡◌, ℕ, ◌-◌, ◌<◌, ◌≤◌, inl, inr, Bool, List, [], length, refl, sym, ap}
 use Rattle.std.proofs.Common.{◌∙◌, subst, arith, Some}
 use Rattle.std.specs.Prelude.{slice_get}
-use Rattle.std.proofs.lemmas.Option.{slice_get_within}
+use Rattle.std.proofs.lemmas.Option.{slice_get_within, same_Some}
 use Rattle.task_set.specs.Truths.{full_to}
 use Rattle.line_instance.specs.Line.{Line, IsLine, tasks}
 use Rattle.line_rules.specs.Balance.{all_tasks}
@@ -51,10 +51,7 @@ from_old : (es : List Entry) (set : List Bool) (most cycle : ℕ) (new : List En
 from_old es set most cycle new t k e there =
     let at = t.entries.each k (slice_get_within new k e there) in
     let P : Entry → Type 0 = λ x. IsKeptAs t.numbers at.old x in
-    (at.number, at.old, at.there, subst P (one at.entry e (sym at.here ∙ there)) at.same)
-  where
-    one : (x y : Entry) → Some x ≡ Some y → x ≡ y
-    one x y p = cc
+    (at.number, at.old, at.there, subst P (same_Some at.entry e (sym at.here ∙ there)) at.same)
 
 -- a proof that is trimmed is one
 pub kept_trimmed : (kind : LineKind) (line : Line) (m N lower upper n : ℕ) (es new : List Entry) → n ≡ tasks line

@@ -1,5 +1,5 @@
 -- What a try does to a search: the ends are closer, or it stopped at its cycle.
-use Rattle.std.proofs.Common.{◌≡◌, ℕ, suc, ◌+◌, ◌-◌, ◌*◌, ◌<◌, ◌≤◌, ◌⊎◌, Bool, true, cond, List, [], ◌∷◌, ◌++◌}
+use Rattle.std.proofs.Common.{◌≡◌, ℕ, ◌+◌, ◌-◌, ◌*◌, ◌<◌, ◌≤◌, ◌⊎◌, Bool, true, cond, List, [], ◌++◌}
 use Rattle.std.proofs.Common.{length, refl, sym, ap, ◌∙◌, subst, inl, inr, arith, Some, length-append}
 use Rattle.std.specs.Prelude.{nat_eq, slice_get}
 use Rattle.std.proofs.lemmas.Bool.{eq-eqb}
@@ -22,12 +22,14 @@ use Rattle.round_run.specs.declared.plans.Plan.{Plan}
 use Rattle.round_run.specs.declared.closing.Verdict.{Verdict}
 use Rattle.round_run.specs.declared.closing.Verdict.TheVariants as verdict
 use Rattle.round_run.specs.declared.solving.Cause.TheVariants as cause
-use Rattle.round_helpers.proofs.AddedEntries.{units_both, has_longer}
 use Rattle.cycle_search.specs.Outcomes.{IsRightIn, IsBelow}
 use Rattle.cycle_search.specs.inner.Searching.{AreOutside, IsKept, HasEnds, IsBetween, IsAsking, HasAsked, IsStuck}
 use Rattle.cycle_search.specs.inner.Searching.{IsCloser}
 use Rattle.cycle_search.specs.declared.halving.Halving.{Halving}
-use Rattle.cycle_search.proofs.BehindFacts.{at_both, none_at}
+use Rattle.cycle_search.proofs.BehindFacts.{none_at}
+use Rattle.round_run.proofs.Endings.{at_both, all_at}
+use Rattle.line_rules.proofs.LongerLists.{has_longer}
+use Rattle.line_rules.proofs.ListUnits.{units_both}
 
 -- a balance in some more stations
 pub widened_right : (kind : LineKind) (line : Line) (m c : ℕ) (b : Assignment) → IsRight kind line c b
@@ -95,13 +97,6 @@ kept_closer kind line m N lower upper upper' es u k = record {
   counted = k.counted;
   within = k.within;
 }
-
--- entries that are all at X
-pub all_at : (X : ℕ) (es : List Entry) → AreAtCycle X es → entries_at X es ≡ es
-all_at X [] h = refl
-all_at X (e ∷ es) h =
-    let t : nat_eq e.cycle X ≡ true = eq-eqb e.cycle X (h 0 e refl) in
-    rw t (ap (λ (z : List Entry). e ∷ z) (all_at X es (λ k x g. h (suc k) x g)))
 
 -- the ranked balance has few enough stations at a cycle between the ends
 pub ranked_closer : (kind : LineKind) (line : Line) (m N X : ℕ) (h : Halving) (b : Assignment)

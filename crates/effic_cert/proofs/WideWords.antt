@@ -1,8 +1,7 @@
 -- Wide numbers and lines of two numbers that are written are read, and what is read is how they are written.
 use Rattle.std.proofs.Common.{◌≡◌, ℕ, ◌+◌, ◌-◌, ◌*◌, ◌^◌, ◌<◌, true, cond, List, ◌∷◌, ◌++◌, length, take, get_or, min}
-use Rattle.std.proofs.Common.{refl, sym, ◌∙◌, ap, arith, Some, None, inl, inr}
+use Rattle.std.proofs.Common.{sym, ◌∙◌, ap, arith, Some, None, inl, inr}
 use Rattle.std.specs.Prelude.{bytes_eq}
-use Rattle.std.proofs.lemmas.Slice.Eq.{bytes_eq-Decides}
 use Rattle.std.proofs.lemmas.Option.{same_Some}
 use Rattle.std.proofs.lemmas.List.{take_more}
 use Rattle.line_io.specs.Lines.{value_of}
@@ -12,13 +11,11 @@ use Rattle.cert_lines.specs.Words.{◌>>=◌, parts_at, number_in, number_first}
 use Rattle.cert_lines.proofs.NumberWords.{lacks, spelled, number_again, number_found, number_first_again, split_again}
 use Rattle.cert_lines.proofs.NumberWords.{bind_some}
 use Rattle.cert_lines.proofs.CiteWords.{sat}
-use Rattle.cert_lines.proofs.EntryLines.{number_first_found, same_word}
+use Rattle.cert_lines.proofs.EntryLines.{number_first_found}
 use Rattle.cert_lines.proofs.Lists.{split_parts, chosen}
-use Rattle.cert_lines.proofs.Parts.{value_push}
 use Rattle.effic_cert.specs.inner.WideReading.{widest, wide_in, wide_keyed_in, two_in, span_in}
-
-same_words : (a : List ℕ) → bytes_eq a a ≡ true
-same_words a = (bytes_eq-Decides a a).1 refl
+use Rattle.line_io.proofs.ReadFacts.{same_bytes, value_push}
+use Rattle.cert_lines.proofs.PlainLines.{same_words}
 
 -- one more digit, up to the greatest number
 pub wide_next : (i d v x y : ℕ) (ds : List ℕ) → i < length ds → v ≡ min (value_of (take i ds)) widest
@@ -56,7 +53,7 @@ wide_keyed_found key line v e =
     elim (chosen (bytes_eq p.0.0 key) (wide_in p.0.1) None (Some v) p.2) [
       | inl h ↦ (let f = wide_found p.0.1 v h.1 in (
         value_of p.0.1,
-        ap (λ w. key ++ 32 ∷ w) f.0 ∙ ap (λ w. w ++ 32 ∷ p.0.1) (sym (same_word p.0.0 key h.0))
+        ap (λ w. key ++ 32 ∷ w) f.0 ∙ ap (λ w. w ++ 32 ∷ p.0.1) (sym (same_bytes p.0.0 key h.0))
             ∙ sym (split_parts 32 line p.0 p.1),
         f.1,
       ))
@@ -100,7 +97,7 @@ span_found key line x e =
     elim (chosen (bytes_eq p.0.0 key) (two_in p.0.1) None (Some x) p.2) [
       | inl h ↦ (let f = two_found p.0.1 x h.1 in (
         f.0,
-        ap (λ w. key ++ 32 ∷ w) f.1 ∙ ap (λ w. w ++ 32 ∷ p.0.1) (sym (same_word p.0.0 key h.0))
+        ap (λ w. key ++ 32 ∷ w) f.1 ∙ ap (λ w. w ++ 32 ∷ p.0.1) (sym (same_bytes p.0.0 key h.0))
             ∙ sym (split_parts 32 line p.0 p.1),
         f.2,
       ))

@@ -9,8 +9,8 @@ use Rattle.line_rules.specs.declared.types.OpenFrame.{OpenFrame}
 use Rattle.line_rules.specs.declared.types.Trail.{Trail}
 use Rattle.line_check.proofs.VerdictFacts.{head_most}
 use Rattle.line_check.proofs.ListFacts.{refused_not}
-use Rattle.line_check.proofs.RefusalFacts.{frame_not}
-use Rattle.line_check.proofs.UnitFacts.{one_sum, entries_more, frames_spend}
+use Rattle.line_check.proofs.RefusalFacts.{frame_not, first_of}
+use Rattle.line_check.proofs.UnitFacts.{entries_more, frames_spend}
 use Rattle.line_check.specs.declared.types.FrameFault.{FrameFault}
 use Rattle.effic_cert.specs.declared.cert.EfficCert.{EfficCert}
 use Rattle.effic_check.specs.Accepted.{MayBegin, HasTrail, ShowsUpper, IsAccepted}
@@ -20,16 +20,7 @@ use Rattle.effic_check.specs.declared.verdict.EfficPlace.{EfficPlace}
 use Rattle.effic_check.specs.declared.verdict.EfficPlace.TheVariants as place
 use Rattle.effic_check.specs.declared.verdict.EfficVerified.{EfficVerified}
 use Rattle.effic_check.specs.declared.verdict.EfficVerified.TheVariants as verified
-
-first_of : (ps : List OpenFrame) (d : OpenFrame) → (f : OpenFrame) × (slice_get (ps ++ d ∷ []) 0 ≡ Some f)
-first_of [] d = (d, refl_frame d)
-  where
-    refl_frame : (f : OpenFrame) → Some f ≡ Some f
-    refl_frame f = cc
-first_of (p ∷ ps) d = (p, refl_frame p)
-  where
-    refl_frame : (f : OpenFrame) → Some f ≡ Some f
-    refl_frame f = cc
+use Rattle.line_rules.proofs.Monotone.{entries_same}
 
 module _ (line : Line) (ok : IsLine line) (cert : EfficCert) where
   balance_not : (p : EfficPlace) → BalanceFails line cert p → ShowsUpper line cert → ⊥
@@ -94,7 +85,7 @@ module _ (line : Line) (ok : IsLine line) (cert : EfficCert) where
     | inl w ↦ omega (arith, entries_more cert.kind line cert.entries steps q.spent.0 w q.spent.2.0, q.spent.2.2)
     | inr w ↦ omega (
       arith,
-      one_sum line cert.entries w.0 q.spent.0 w.1.0.1 q.spent.2.0,
+      entries_same line cert.entries w.0 q.spent.0 w.1.0.1 q.spent.2.0,
       w.1.0.2,
       trail_spends cert.trail (steps - w.0) q.spent.1 w.1.2 q.spent.2.1,
       q.spent.2.2,

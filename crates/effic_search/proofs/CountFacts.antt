@@ -8,11 +8,11 @@ use Rattle.line_rules.specs.Units.{UnitsBy, UnitsOf}
 use Rattle.line_rules.specs.declared.types.Entry.{Entry}
 use Rattle.line_rules.specs.declared.types.Why.{Why}
 use Rattle.line_rules.specs.declared.types.Why.TheVariants as why
-use Rattle.line_check.proofs.UnitFacts.{one_sum}
-use Rattle.round_helpers.proofs.AddedEntries.{units_both}
 use Rattle.effic_search.specs.Counted.{other, others, IsCounted}
 use Rattle.effic_search.specs.declared.counting.Listed.{Listed}
-use Rattle.effic_search.proofs.ListFacts.{take_next, drop_next}
+use Rattle.line_rules.proofs.Monotone.{entries_same}
+use Rattle.line_rules.proofs.ListFacts.{drop_next, take_next}
+use Rattle.line_rules.proofs.ListUnits.{units_both}
 
 others_both : (xs ys : List Entry) → others (xs ++ ys) ≡ others xs + others ys
 others_both [] ys = omega arith
@@ -53,7 +53,7 @@ module _ (line : Line) (es : List Entry) (k next : ℕ) (e : Entry) (g : slice_g
       let both : UnitsOf line (e ∷ drop (suc k) es) rest = subst U (drop_next es k e g) r in
       let V : ℕ → Type 0 = λ z. UnitsOf line (drop z es) both.1 in
       let same : both.0 ≡ u =
-      one_sum line (e ∷ []) both.0 u (both.0, 0, (both.2.0, refl, omega arith)) (u, 0, (h, refl, omega arith)) in
+      entries_same line (e ∷ []) both.0 u (both.0, 0, (both.2.0, refl, omega arith)) (u, 0, (h, refl, omega arith)) in
       (both.1, subst V (sym step) both.2.1, omega (arith, both.2.2, same))
 
   -- the entry has some of the units that are left

@@ -1,22 +1,14 @@
 -- The next item of a list, its last one, and what answers a question at a lesser cycle.
-use Rattle.std.proofs.Common.{◌≡◌, ℕ, zero, suc, ◌+◌, ◌<◌, ◌≤◌, ◌⊎◌, Bool, List, [], ◌∷◌, ◌++◌, length, take, drop}
+use Rattle.std.proofs.Common.{◌≡◌, ℕ, zero, suc, ◌+◌, ◌≤◌, ◌⊎◌, Bool, List, [], ◌∷◌, ◌++◌, length, take}
 use Rattle.std.proofs.Common.{refl, sym}
 use Rattle.std.proofs.Common.{ap, ◌∙◌, inl, inr, arith, Some, length-append}
 use Rattle.std.specs.Prelude.{slice_get}
 use Rattle.std.proofs.lemmas.List.{take_all}
+use Rattle.std.proofs.lemmas.Option.{slice_get_within}
 use Rattle.line_rules.specs.Entries.{HasAnswer}
 use Rattle.line_rules.specs.declared.types.Entry.{Entry}
 use Rattle.station_search.proofs.Events.{get_append_cases}
-
-pub take_next : (es : List Entry) (k : ℕ) (e : Entry) → slice_get es k ≡ Some e → take (suc k) es ≡ take k es ++ e ∷ []
-take_next [] k e g = absurd (cc)
-take_next (x ∷ es) zero e g = let q : x ≡ e = cc in ap (λ (z : Entry). z ∷ []) q
-take_next (x ∷ es) (suc k) e g = ap (λ (z : List Entry). x ∷ z) (take_next es k e g)
-
-pub drop_next : (es : List Entry) (k : ℕ) (e : Entry) → slice_get es k ≡ Some e → drop k es ≡ e ∷ drop (suc k) es
-drop_next [] k e g = absurd (cc)
-drop_next (x ∷ es) zero e g = let q : x ≡ e = cc in ap (λ (z : Entry). z ∷ es) q
-drop_next (x ∷ es) (suc k) e g = drop_next es k e g
+use Rattle.line_rules.proofs.ListFacts.{take_next}
 
 -- a list ends with its last item
 pub ends_split : (es : List Entry) (k : ℕ) (e : Entry) → length es ≡ suc k → slice_get es k ≡ Some e
@@ -28,14 +20,9 @@ pub last_added : (es more : List Entry) (k : ℕ) (e : Entry) → length (es ++ 
     → slice_get (es ++ more) k ≡ Some e → (more ≡ []) ⊎ ((j : ℕ) × (slice_get more j ≡ Some e))
 last_added es [] k e n g = inl refl
 last_added es (x ∷ more) k e n g = elim (get_append_cases es (x ∷ more) k e g) [
-  | inl a ↦ absurd (omega (arith, n, length-append es (x ∷ more), within es k e a))
+  | inl a ↦ absurd (omega (arith, n, length-append es (x ∷ more), slice_get_within es k e a))
   | inr b ↦ inr b
 ]
-  where
-    within : (xs : List Entry) (i : ℕ) (y : Entry) → slice_get xs i ≡ Some y → i < length xs
-    within [] i y h = absurd (cc)
-    within (z ∷ xs) zero y h = omega arith
-    within (z ∷ xs) (suc i) y h = let r : i < length xs = within xs i y h in omega (arith, r)
 
 -- what stands in the second of two lists stands behind the first one
 pub get_behind : (es more : List Entry) (j n : ℕ) (e : Entry) → slice_get more j ≡ Some e → n ≡ j + length es

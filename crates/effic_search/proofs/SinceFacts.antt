@@ -1,8 +1,7 @@
 -- The entries of a cycle behind the last one of all tasks, as entries are added.
 use Rattle.std.proofs.Common.{◌≡◌, ℕ, ◌+◌, List, [], ◌∷◌, ◌++◌, refl, sym, ap, ◌∙◌, subst, inl, inr, Some}
 use Rattle.std.proofs.Common.{append_assoc}
-use Rattle.std.specs.Prelude.{nat_eq, slice_get}
-use Rattle.std.proofs.lemmas.Bool.{cases_Bool}
+use Rattle.std.specs.Prelude.{slice_get}
 use Rattle.std.proofs.lemmas.List.{append-nil}
 use Rattle.line_instance.specs.Line.{Line}
 use Rattle.line_rules.specs.Balance.{all_tasks}
@@ -10,10 +9,10 @@ use Rattle.line_rules.specs.Units.{UnitsOf, entries_at}
 use Rattle.line_rules.specs.declared.types.Entry.{Entry}
 use Rattle.station_search.proofs.Events.{get_append_cases}
 use Rattle.round_helpers.specs.Growth.{AreAtCycle}
-use Rattle.round_helpers.proofs.AddedEntries.{units_both}
-use Rattle.cycle_search.proofs.BehindFacts.{at_both, none_at}
-use Rattle.cycle_search.proofs.Tries.{all_at}
+use Rattle.cycle_search.proofs.BehindFacts.{none_at}
 use Rattle.effic_search.specs.Since.{IsSinceGoal}
+use Rattle.round_run.proofs.Endings.{at_both, all_at, units_front, units_some}
+use Rattle.line_rules.proofs.ListUnits.{units_both}
 
 -- nothing is behind an entry of all tasks at the end
 pub since_goal : (line : Line) (X : ℕ) (es more : List Entry) (e : Entry) → es ≡ more ++ e ∷ [] → e.cycle ≡ X
@@ -79,32 +78,14 @@ since_more line X es more at none s = record {
       sym here;
 }
 
--- the entries of a cycle have units, where all have
-units_at : (line : Line) (X : ℕ) (es : List Entry) (a : ℕ) → UnitsOf line es a
-    → (b : ℕ) × UnitsOf line (entries_at X es) b
-units_at line X [] a u = (0, refl)
-units_at line X (e ∷ es) a u =
-    let r : (b : ℕ) × UnitsOf line (entries_at X es) b = units_at line X es u.1 u.2.1 in
-    elim (cases_Bool (nat_eq e.cycle X)) [
-      | inl t ↦ rw t (u.0 + r.0, (u.0, r.0, (u.2.0, r.1, refl)))
-      | inr f ↦ rw f r
-    ]
-
--- the first of two lists has units, where both have
-first_units : (line : Line) (xs ys : List Entry) (u : ℕ) → UnitsOf line (xs ++ ys) u → (a : ℕ) × UnitsOf line xs a
-first_units line [] ys u h = (0, refl)
-first_units line (x ∷ xs) ys u h =
-    let r : (a : ℕ) × UnitsOf line xs a = first_units line xs ys h.1 h.2.1 in
-    (h.0 + r.0, (h.0, r.0, (h.2.0, r.1, refl)))
-
 -- the entries at the cycle have those units more that the entries before have
 pub since_units : (line : Line) (X : ℕ) (es since : List Entry) (all published : ℕ) → IsSinceGoal line X es since
     → UnitsOf line es all → UnitsOf line since published
     → (more : ℕ) × UnitsOf line (entries_at X es) (more + published)
 since_units line X es since all published s u p =
     let U : List Entry → Type 0 = λ z. UnitsOf line z all in
-    let first : (a : ℕ) × UnitsOf line s.before a = first_units line s.before s.behind all (subst U s.all u) in
-    let at : (b : ℕ) × UnitsOf line (entries_at X s.before) b = units_at line X s.before first.0 first.1 in
+    let first : (a : ℕ) × UnitsOf line s.before a = units_front line s.before s.behind all (subst U s.all u) in
+    let at : (b : ℕ) × UnitsOf line (entries_at X s.before) b = units_some line X s.before first.0 first.1 in
     let V : List Entry → Type 0 = λ z. UnitsOf line z (at.0 + published) in
     let here : entries_at X s.before ++ since ≡ entries_at X es =
     ap (λ (z : List Entry). entries_at X s.before ++ z) s.are

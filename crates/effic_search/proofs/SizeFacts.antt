@@ -33,6 +33,7 @@ use Rattle.budget_law.proofs.FewUnits.{units_few}
 use Rattle.effic_search.specs.Counted.{other, others}
 use Rattle.effic_search.specs.inner.Going.{HaveCycles}
 use Rattle.effic_search.proofs.CycleSums.{SumOf, sum_few}
+use Rattle.effic_search.proofs.CountFacts.{other_few}
 
 bit : Bool → ℕ
 bit true = 1
@@ -240,12 +241,7 @@ module _ (kind : LineKind) (line : Line) (ok : IsLine line) (ranked : IsRanked l
   others_length : (xs : List Entry) (u : ℕ) → SumOf OtherOf xs u → u ≤ length xs
   unfolding OtherOf
   others_length [] u z = omega (arith, z)
-  others_length (e ∷ xs) u z = omega (arith, z.2.2, z.2.0, one e.why, others_length xs z.1 z.2.1)
-    where
-      one : (w : Why) → other w ≤ 1
-      one why.Bound = omega arith
-      one (why.Branch mode cites) = omega arith
-      one (why.Swap cite out into) = omega arith
+  others_length (e ∷ xs) u z = omega (arith, z.2.2, z.2.0, other_few e.why, others_length xs z.1 z.2.1)
 
   units_sum : (xs : List Entry) (u : ℕ) → UnitsOf line xs u → SumOf UnitOf xs u
   unfolding UnitOf

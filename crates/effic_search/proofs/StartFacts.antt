@@ -2,9 +2,9 @@
 use Rattle.std.proofs.Common.{◌≡◌, ℕ, zero, suc, ◌+◌, ◌-◌, ◌*◌, ◌<◌, ◌≤◌, ◌⊎◌, List, [], ◌∷◌, ◌++◌, length, take, refl}
 use Rattle.std.proofs.Common.{sym, ap}
 use Rattle.std.proofs.Common.{◌∙◌}
-use Rattle.std.proofs.Common.{subst, inl, inr, arith, Bool, true, false, Option, Some, None, length-append, replicate}
+use Rattle.std.proofs.Common.{subst, inl, inr, arith, true, Option, Some, None, length-append, replicate}
 use Rattle.std.specs.Prelude.{slice_get, nat_eq, ◌&&◌}
-use Rattle.std.proofs.lemmas.Bool.{cases_eq}
+use Rattle.std.proofs.lemmas.Bool.{cases_eq, and_from}
 use Rattle.std.proofs.lemmas.List.{get_or-replicate}
 use Rattle.std.proofs.Math.Seq.{take-length}
 use Rattle.task_set.specs.Truths.{In}
@@ -30,7 +30,6 @@ use Rattle.lemma_core.specs.declared.types.Published.{Published}
 use Rattle.lemma_core.specs.declared.types.Published.TheVariants as published
 use Rattle.lemma_core.proofs.Runs.{last_found}
 use Rattle.station_search.proofs.Events.{get_append_cases}
-use Rattle.round_helpers.proofs.AddedEntries.{units_both, has_longer}
 use Rattle.cycle_search.specs.Ends.{NoneApart, first_lower, first_upper, at_first}
 use Rattle.cycle_search.proofs.EndFacts.{first_right}
 use Rattle.effic_search.specs.Counted.{other, others, IsCounted}
@@ -40,6 +39,8 @@ use Rattle.effic_search.specs.Since.{IsSinceGoal}
 use Rattle.effic_search.specs.declared.counting.Listed.{Listed}
 use Rattle.effic_search.specs.declared.lowering.Lowering.{Lowering}
 use Rattle.effic_search.proofs.SinceFacts.{since_goal, since_none, since_other}
+use Rattle.line_rules.proofs.LongerLists.{has_longer}
+use Rattle.line_rules.proofs.ListUnits.{units_both}
 
 -- publishing an entry
 module _ (b : BookView) (e : Entry) where
@@ -197,10 +198,6 @@ module _ (kind : LineKind) (line : Line) (least m next : ℕ) (old new : BookVie
   pub first_next : AddsGoal line old.state.entries new.state.entries → IsFirstBook kind line least next new
   first_next a = elim a [ inl s ↦ stays s | inr m ↦ adds m.0 m.1 m.2 ]
 
-both_true : (a b : Bool) → a ≡ true → b ≡ true → (a && b) ≡ true
-both_true true b p q = q
-both_true false b p q = absurd (cc)
-
 -- all tasks at the first station take all their time
 tight_first : (kind : LineKind) (line : Line) (m c : ℕ)
     → IsRight kind line c (record { stations = m; place = replicate (tasks line) at_first }) → total_time line ≤ c
@@ -214,7 +211,7 @@ tight_first kind line m c r =
       arith,
       r.balance.fits 1,
       sum_where-le (has (all_tasks line)) (λ i. has (all_tasks line) i && nat_eq (seat places i).station 1)
-          (λ i e. both_true (has (all_tasks line) i) (nat_eq (seat places i).station 1) e (subst P (at i e) refl))
+          (λ i e. and_from (has (all_tasks line) i) (nat_eq (seat places i).station 1) e (subst P (at i e) refl))
           line.times,
     )
 

@@ -23,7 +23,6 @@ use Rattle.lemma_core.specs.Machine.{About}
 use Rattle.lemma_core.specs.Books.{BookView, IsReserved, MayBeBest}
 use Rattle.station_search.proofs.Events.{get_append_cases}
 use Rattle.round_helpers.specs.Growth.{AreAtCycle}
-use Rattle.round_helpers.proofs.AddedEntries.{has_longer}
 use Rattle.round_run.specs.Rounds.{IsAnswer, frames_of}
 use Rattle.round_run.specs.declared.closing.Verdict.{Verdict}
 use Rattle.round_run.specs.declared.closing.Verdict.TheVariants as verdict
@@ -45,6 +44,7 @@ use Rattle.effic_search.specs.declared.lowering.Lowering.{Lowering}
 use Rattle.effic_search.proofs.ListFacts.{ends_split, last_added, get_behind, has_shorter}
 use Rattle.effic_search.proofs.LowestFacts.{below_near, closed_less}
 use Rattle.effic_search.proofs.SinceFacts.{since_goal, since_other, since_more}
+use Rattle.line_rules.proofs.LongerLists.{has_longer}
 
 -- a balance that is right at a cycle is right at a greater one
 pub right_longer : (kind : LineKind) (line : Line) (c d : ℕ) (b : Assignment) → c ≤ d → IsRight kind line c b

@@ -44,7 +44,7 @@ pub record IsFilling (kind : LineKind) (line : Line) (c : ℕ) (f : Filled) (pla
 abbrev pub placement_of : Pick → ℕ → Placement
 placement_of a s = record { task = a.task; place = record { station = s; side = a.side } }
 
-sides : (s : Side) → (s ≡ Front) ⊎ (s ≡ Back)
+pub sides : (s : Side) → (s ≡ Front) ⊎ (s ≡ Back)
 sides Front = inl refl
 sides Back = inr refl
 

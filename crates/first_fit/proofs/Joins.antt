@@ -1,8 +1,7 @@
 -- What the test of a choice finds out, and the best of several choices.
-use Rattle.std.proofs.Common.{◌≡◌, ℕ, ◌+◌, ◌<◌, ◌≤◌, Bool, true, false, cond, nat_lt, List}
+use Rattle.std.proofs.Common.{◌≡◌, ℕ, ◌+◌, ◌<◌, ◌≤◌, Bool, cond, List}
 use Rattle.std.proofs.Common.{Option, Some, None, refl, sym, ap, ◌∙◌, subst, ◌⊎◌, inl, inr, arith}
-use Rattle.std.proofs.lemmas.Bool.{cases_lt}
-use Rattle.std.proofs.lemmas.Bool.Decides.{nat_tests}
+use Rattle.std.proofs.lemmas.Bool.{cases_lt, le-ltb, lt-ltb}
 use Rattle.task_set.specs.Truths.{In, meet, IsEmpty}
 use Rattle.task_set.proofs.Members.{In-meet, In-meet_parts}
 use Rattle.line_instance.specs.Line.{Line, Before}
@@ -16,15 +15,10 @@ use Rattle.first_fit.specs.declared.filling.Choice.{Choice as Pick}
 use Rattle.first_fit.specs.declared.filling.Filling.{Filling as Filled}
 use Rattle.first_fit.specs.inner.Filling.{MayStand, MayJoin}
 use Rattle.first_fit.specs.inner.Picked.{heavier, IsBetter}
+use Rattle.first_fit.proofs.Fills.{sides}
 
 other : Back ≡ Front → ⊥
 other e = cc
-
-less : (a b : ℕ) → a < b → nat_lt a b ≡ true
-less a b l = grind (arith, nat_tests, l)
-
-not_less : (a b : ℕ) → b ≤ a → nat_lt a b ≡ false
-not_less a b l = grind (arith, nat_tests, l)
 
 pub meet_empty : (here row both : List Bool) → both ≡ meet here row → ((j : ℕ) → In here j → In row j → ⊥)
     → IsEmpty both
@@ -92,7 +86,7 @@ module _ (kind : LineKind) (line : Line) (f : Filled) (task : ℕ) (side : Side)
   former : (b : Pick) → IsOver task side b → weight line task side ≤ weight line b.task b.side
       → RanksFirst line b.task b.side task side
   former b over l = elim (cases_lt (weight line task side) (weight line b.task b.side)) [
-    | inl less ↦ inl less
+    | inl lt-ltb ↦ inl lt-ltb
     | inr more ↦ inr (omega arith, elim over [ inl s ↦ inl s | inr q ↦ inr (q.0, inl q.2) ])
   ]
 
@@ -132,7 +126,7 @@ module _ (kind : LineKind) (line : Line) (f : Filled) (task : ℕ) (side : Side)
   )
   joins (Some b) m h = elim (cases_lt (weight line b.task b.side) (weight line task side)) [
     | inl l ↦ (let P : Bool → Type 0 = λ t. IsBestOf kind line f OrHere (cond t (Some here) (Some b)) in
-        subst P (sym (less (weight line b.task b.side) (weight line task side) l)) (
+        subst P (sym (lt-ltb (weight line b.task b.side) (weight line task side) l)) (
           m,
           inr refl,
           λ a s k. elim s [
@@ -141,7 +135,7 @@ module _ (kind : LineKind) (line : Line) (f : Filled) (task : ℕ) (side : Side)
           ],
         ))
     | inr g ↦ (let P : Bool → Type 0 = λ t. IsBestOf kind line f OrHere (cond t (Some here) (Some b)) in
-        subst P (sym (not_less (weight line b.task b.side) (weight line task side) g)) (
+        subst P (sym (le-ltb (weight line b.task b.side) (weight line task side) g)) (
           h.0,
           inl h.1,
           λ a s k. elim s [
@@ -169,10 +163,6 @@ pick_is a t s e d =
     let f : ℕ → Pick = λ x. record { task = x; side = a.side } in
     let g : Side → Pick = λ y. record { task = t; side = y } in
     ap f e ∙ ap g d
-
-sides : (s : Side) → (s ≡ Front) ⊎ (s ≡ Back)
-sides Front = inl refl
-sides Back = inr refl
 
 -- a turn over a task: first in front, then at the back
 module _ (kind : LineKind) (line : Line) (f : Filled) (k : ℕ) (best one two : Option Pick) where

@@ -20,6 +20,7 @@ use Rattle.first_fit.specs.declared.filling.Filling.{Filling as Filled}
 use Rattle.first_fit.specs.inner.Filling.{MayJoin, with_front, with_back, joined, started, next_station}
 use Rattle.first_fit.proofs.Fills.{IsFilling, closed_of, length-with_front, length-with_back}
 use Rattle.first_fit.proofs.Joins.{side_front}
+use Rattle.line_instance.proofs.Unique.{not_in}
 
 pub at_start : (kind : LineKind) (line : Line) (c : ℕ) (place : List Seatplace) → length place ≡ tasks line
     → IsFilling kind line c (started c) place
@@ -207,12 +208,6 @@ members_join Back front back t lf lb l nf nb = omega (arith, members-set back t 
 pub flag_most : (b : Bool) → cond {A = ℕ} b 0 1 ≤ 1
 flag_most true = omega arith
 flag_most false = omega arith
-
-pub not_in : (s : List Bool) (i : ℕ) → (In s i → ⊥) → get_or s i false ≡ false
-not_in s i n = elim (cases_Bool (get_or s i false)) [
-  | inl y ↦ absurd (n y)
-  | inr e ↦ e
-]
 
 -- what is left to do: two for each task that isn't placed, and one for a station that isn't empty
 abbrev pub work : Filled → ℕ

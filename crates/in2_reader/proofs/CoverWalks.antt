@@ -7,8 +7,9 @@ use Rattle.line_instance.specs.declared.arcs.Prec.{Prec}
 use Rattle.line_instance.specs.Line.{Line, IsLine, IsRanked, tasks, at_rank, is_before, Before}
 use Rattle.line_instance.specs.Walks.{Leads, Walk, arc, on, arc_at}
 use Rattle.in2_reader.specs.Written.{AreCovers}
-use Rattle.in2_reader.proofs.Digits.{left, right}
 use Rattle.in2_reader.proofs.CollectedPairs.{first_task, last_task}
+use Rattle.line_instance.proofs.InstanceFacts.{walk_on}
+use Rattle.line_io.proofs.ReadFacts.{right, left}
 
 -- a number below n passes the test, or none does
 search_below : (p : ℕ → Bool) (n : ℕ) → ((k : ℕ) × (k < n) × (p k ≡ true)) ⊎ ((k : ℕ) → k < n → p k ≡ false)
@@ -26,10 +27,6 @@ search_below p (suc n) = elim (search_below p n) [
       ] in
       I (p n) refl)
 ]
-
-walk_on : (arcs : List Prec) {i j k : ℕ} → Walk arcs i j → Walk arcs j k → Walk arcs i k
-walk_on arcs v (arc l) = on v l
-walk_on arcs v (on w l) = on (walk_on arcs v w) l
 
 module _ (line : Line) (ps : List Prec) (s : IsLine line) (r : IsRanked line) (c : AreCovers line ps) where
   higher : (i j p q : ℕ) → p < tasks line → q < tasks line → at_rank line p ≡ i → at_rank line q ≡ j → Before line i j

@@ -1,17 +1,19 @@
 -- Lines that are written are lines that are read: numbers, pairs and the end mark.
-use Rattle.std.proofs.Common.{◌≡◌, ℕ, suc, ◌+◌, ◌-◌, ◌*◌, ◌%◌, ◌^◌, ◌<◌, ◌≤◌, ◌&&◌, ◌||◌, Bool, true, false, cond}
+use Rattle.std.proofs.Common.{◌≡◌, ℕ, suc, ◌+◌, ◌-◌, ◌%◌, ◌^◌, ◌<◌, ◌≤◌, ◌&&◌, ◌||◌, Bool, true, false, cond}
 use Rattle.std.proofs.Common.{nat_eq, nat_le, List, [], ◌∷◌, ◌++◌, length, refl, ◌∙◌, ap, arith, Some, length-append}
 use Rattle.std.specs.Prelude.{decimal, bytes_eq}
 use Rattle.std.proofs.lemmas.Bool.Decides.{nat_tests}
 use Rattle.std.proofs.lemmas.Fmt.{decimal_by_steps}
+use Rattle.std.proofs.lemmas.Bool.{and_from}
 use Rattle.line_io.specs.Lines.{lines_of, onto_first, content, is_blank, without_front, without_back, with_first}
-use Rattle.line_io.specs.Lines.{is_digit, all_digits, is_number, value_after, value_of, number_in}
+use Rattle.line_io.specs.Lines.{is_digit, all_digits, is_number, value_of, number_in}
 use Rattle.line_io.specs.declared.text.Num.TheVariants.{Value, NotANumber, Above}
 use Rattle.in2_reader.specs.Contents.{numbered, contents_from}
 use Rattle.in2_reader.specs.Pairs.{pair_in, parts_in, comma_split, onto_front, is_gap, without_gaps_front}
 use Rattle.in2_reader.specs.Pairs.{without_gaps_back, with_front, is_minus_one, arc_in}
 use Rattle.in2_reader.specs.declared.pair.Pair.{Pair}
 use Rattle.in2_reader.specs.declared.pair.Pair.TheVariants.{Arc, BadArc, End}
+use Rattle.line_io.proofs.ReadFacts.{digit_is, value_push, digits_push, right, left}
 
 -- digits that stand for a number
 pub record Spell (n : ℕ) (ds : List ℕ) : Type 0 where
@@ -19,34 +21,10 @@ pub record Spell (n : ℕ) (ds : List ℕ) : Type 0 where
   pub some : 0 < length ds
   pub value : value_of ds ≡ n
 
--- both tests are true, and so is each
-both : (a b : Bool) → a ≡ true → b ≡ true → (a && b) ≡ true
-both a b e f = ap (λ x. x && b) e ∙ f
-
-pub left : (a b : Bool) → (a && b) ≡ true → a ≡ true
-left true b e = refl
-left false b e = (cc)
-
-pub right : (a b : Bool) → (a && b) ≡ true → b ≡ true
-right true b e = e
-right false b e = (cc)
-
-digits_push : (ds : List ℕ) (d : ℕ) → all_digits ds ≡ true → is_digit d ≡ true → all_digits (ds ++ d ∷ []) ≡ true
-digits_push [] d e f = both (is_digit d) true f refl
-digits_push (b ∷ ds) d e f = both (is_digit b) (all_digits (ds ++ d ∷ [])) (left (is_digit b) (all_digits ds) e)
-    (digits_push ds d (right (is_digit b) (all_digits ds) e) f)
-
-value_push : (n : ℕ) (ds : List ℕ) (d : ℕ) → value_after n (ds ++ d ∷ []) ≡ 10 * value_after n ds + (d - 48)
-value_push n [] d = refl
-value_push n (b ∷ ds) d = value_push (10 * n + (b - 48)) ds d
-
-digit_is : (n : ℕ) → n < 10 → is_digit (48 + n) ≡ true
-digit_is n h = grind (arith, nat_tests)
-
 pub decimal_spells : (n : ℕ) → n < 2 ^ 64 → Spell n (decimal n)
 decimal_spells n h = decimal_by_steps Spell
     (λ m l. record {
-      digits = both (is_digit (48 + m)) true (digit_is m l) refl;
+      digits = and_from (is_digit (48 + m)) true (digit_is m l) refl;
       some = omega arith;
       value = omega arith;
     })
@@ -67,18 +45,18 @@ digit_solid b e = let l : nat_le 48 b ≡ true = left (nat_le 48 b) (nat_le b 57
 
 pub digits_solid : (ds : List ℕ) → all_digits ds ≡ true → all_solid ds ≡ true
 digits_solid [] e = refl
-digits_solid (b ∷ ds) e = both (nat_le 33 b) (all_solid ds) (digit_solid b (left (is_digit b) (all_digits ds) e))
+digits_solid (b ∷ ds) e = and_from (nat_le 33 b) (all_solid ds) (digit_solid b (left (is_digit b) (all_digits ds) e))
     (digits_solid ds (right (is_digit b) (all_digits ds) e))
 
 pub solid_append : (xs ys : List ℕ) → all_solid xs ≡ true → all_solid ys ≡ true → all_solid (xs ++ ys) ≡ true
 solid_append [] ys e f = f
-solid_append (b ∷ xs) ys e f = both (nat_le 33 b) (all_solid (xs ++ ys)) (left (nat_le 33 b) (all_solid xs) e)
+solid_append (b ∷ xs) ys e f = and_from (nat_le 33 b) (all_solid (xs ++ ys)) (left (nat_le 33 b) (all_solid xs) e)
     (solid_append xs ys (right (nat_le 33 b) (all_solid xs) e) f)
 
 not_end : (b : ℕ) → nat_le 33 b ≡ true → nat_eq b 10 ≡ false
 not_end b e = grind (arith, nat_tests)
 
-not_blank : (b : ℕ) → nat_le 33 b ≡ true → is_blank b ≡ false
+pub not_blank : (b : ℕ) → nat_le 33 b ≡ true → is_blank b ≡ false
 not_blank b e = grind (arith, nat_tests)
 
 pub line_read : (line rest : List ℕ) → all_solid line ≡ true → lines_of (line ++ 10 ∷ rest) ≡ line ∷ lines_of rest
@@ -88,7 +66,7 @@ line_read (b ∷ line) rest e =
     (not_end b (left (nat_le 33 b) (all_solid line) e))
     ∙ ap (onto_first b) (line_read line rest (right (nat_le 33 b) (all_solid line) e))
 
-back_kept : (line : List ℕ) → all_solid line ≡ true → without_back line ≡ line
+pub back_kept : (line : List ℕ) → all_solid line ≡ true → without_back line ≡ line
 back_kept [] e = refl
 back_kept (b ∷ []) e = ap (λ t. cond t [] (b ∷ [])) (not_blank b (left (nat_le 33 b) true e))
 back_kept (b ∷ c ∷ line) e = ap (with_first b) (back_kept (c ∷ line) (right (nat_le 33 b) (all_solid (c ∷ line)) e))

@@ -57,7 +57,7 @@ stays b = record {
 pub stays_at : (b new : BookView) → new ≡ b → Waits (desk_of b) (desk_of new)
 stays_at b new e = let P : BookView → Type 0 = λ z. Waits (desk_of b) (desk_of z) in subst P (sym e) (stays b)
 
-range_push : (a n : ℕ) → range_with_len a (suc n) ≡ range_with_len a n ++ (a + n) ∷ []
+pub range_push : (a n : ℕ) → range_with_len a (suc n) ≡ range_with_len a n ++ (a + n) ∷ []
 range_push a zero = let e : a ≡ a + 0 = omega arith in ap (λ (x : ℕ). x ∷ []) e
 range_push a (suc n) = let e : a + 1 + n ≡ a + suc n = omega arith in
     ap (λ (xs : List ℕ). a ∷ xs) (range_push (a + 1) n ∙ ap (λ (x : ℕ). range_with_len (a + 1) n ++ x ∷ []) e)
@@ -71,7 +71,7 @@ own_push xs x =
     ∙ ap (λ (n : ℕ). range_with_len 0 (length xs) ++ n ∷ []) z)
 
 -- a book's own places are all of them
-range_at : (a n k x : ℕ) → slice_get (range_with_len a n) k ≡ Some x → (x ≡ a + k) × (k < n)
+pub range_at : (a n k x : ℕ) → slice_get (range_with_len a n) k ≡ Some x → (x ≡ a + k) × (k < n)
 range_at a zero k x e = absurd (cc)
 range_at a (suc n) zero x e = let same : a ≡ x = same_Some a x e in (omega (arith, same), omega arith)
 range_at a (suc n) (suc k) x e = let h : (x ≡ a + 1 + k) × (k < n) = range_at (a + 1) n k x e in
@@ -91,7 +91,7 @@ has_own b = record {
 pub is_roomy : (b : BookView) → (desk_of b).roomy ≡ true → IsReserved b
 is_roomy b t = grind (arith, nat_tests, t)
 
-roomy_is : (b : BookView) → IsReserved b → (desk_of b).roomy ≡ true
+pub roomy_is : (b : BookView) → IsReserved b → (desk_of b).roomy ≡ true
 roomy_is b r = grind (arith, nat_tests, r)
 
 -- one event is added to the list

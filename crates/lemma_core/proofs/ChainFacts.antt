@@ -20,7 +20,7 @@ use Rattle.task_set.specs.Tags.{tag_of}
 use Rattle.lemma_core.specs.Sieves.{IsSieve, word_in, mark_of}
 use Rattle.lemma_core.specs.inner.Chains.{tags_of, place, IsLast, IsChained, bucket_in, tags, links, IsIndex, IsIndexOf}
 use Rattle.lemma_core.specs.declared.index.Link.{Link}
-use Rattle.lemma_core.proofs.Logs.{get-end}
+use Rattle.line_rules.proofs.ListFacts.{get_last}
 
 -- a tag more, at the end
 module _ (bucket : ℕ → ℕ) (ts : List ℕ) (new : ℕ) where
@@ -57,7 +57,7 @@ module _ (bucket : ℕ → ℕ) (ts : List ℕ) (new : ℕ) where
   last_new b q = record {
     below = omega arith;
     tag = new;
-    there = get-end ts new;
+    there = get_last ts new;
     falls = q;
     last = λ j t m below g r. absurd (omega (arith, m, below));
   }
@@ -168,7 +168,7 @@ abbrev pub IsWalk : (ℕ → ℕ) → List Entry → List Bool → ℕ → ℕ �
 IsWalk bucket es set most cycle (Some p) = IsAt bucket es set most cycle p
 IsWalk bucket es set most cycle None = IsUnanswered es set most cycle
 
-tag-at : (es : List Entry) (j : ℕ) (e : Entry) → slice_get es j ≡ Some e
+pub tag-at : (es : List Entry) (j : ℕ) (e : Entry) → slice_get es j ≡ Some e
     → slice_get (tags_of es) j ≡ Some (tag_of e.set)
 tag-at es j e g = slice_get-map (λ (x : Entry). tag_of x.set) es j
     ∙ ap (λ (o : Option Entry). option_map (λ (x : Entry). tag_of x.set) o) g

@@ -41,7 +41,7 @@ stations_go_on s xs ys b =
     ∙ ap (λ (z : Standing). z.stations) (replay-append s xs b.0) in
     omega (arith, e, fewer_stations (replay s xs) b.0)
 
-begins_on : (xs ys zs : List Item) → Begins xs ys → Begins ys zs → Begins xs zs
+pub begins_on : (xs ys zs : List Item) → Begins xs ys → Begins ys zs → Begins xs zs
 begins_on xs ys zs a b = (a.0 ++ b.0, sym (append_assoc xs a.0 b.0) ∙ (ap (λ (w : List Item). w ++ b.0) a.1 ∙ b.1))
 
 pub keeps_none : (d : DeskView) → Keeps d d

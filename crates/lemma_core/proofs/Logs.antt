@@ -25,6 +25,7 @@ use Rattle.lemma_core.specs.declared.types.Published.TheVariants as published
 use Rattle.lemma_core.specs.inner.Inside.{Below, AllBelow, book_of, IsLogged}
 use Rattle.lemma_core.proofs.ExactItems.{exact_append, history_exact}
 use Rattle.lemma_core.proofs.Runs.{replay-append, history_replayed, run_keeps}
+use Rattle.line_rules.proofs.ListFacts.{get_last, get_front}
 
 pub items-push : (es : List Entry) (ls : List LogItem) (l : LogItem)
     → items_of es (ls ++ l ∷ []) ≡ items_of es ls ++ item_of es l ∷ []
@@ -42,17 +43,8 @@ item-at es [] k l e = absurd (cc)
 item-at es (x ∷ xs) zero l e = let same : x ≡ l = cc in ap (λ (z : LogItem). Some (item_of es z)) same
 item-at es (x ∷ xs) (suc k) l e = item-at es xs k l e
 
-get-more : {X : Type 0} (xs ys : List X) (k : ℕ) → k < length xs → slice_get (xs ++ ys) k ≡ slice_get xs k
-get-more [] ys k l = absurd (omega arith)
-get-more (x ∷ xs) ys zero l = refl
-get-more (x ∷ xs) ys (suc k) l = get-more xs ys k (omega arith)
-
-pub get-end : {X : Type 0} (xs : List X) (x : X) → slice_get (xs ++ x ∷ []) (length xs) ≡ Some x
-get-end [] x = refl
-get-end (y ∷ ys) x = get-end ys x
-
 item-more : (es : List Entry) (e : Entry) (l : LogItem) → Below (length es) l → item_of (es ++ e ∷ []) l ≡ item_of es l
-item-more es e (log.Added id) b = ap (λ (o : Option Entry). added_item id o) (get-more es (e ∷ []) id b)
+item-more es e (log.Added id) b = ap (λ (o : Option Entry). added_item id o) (get_front es (e ∷ []) id b)
 item-more es e (log.Known id most) b = refl
 item-more es e (log.Offered stations) b = refl
 
@@ -177,7 +169,7 @@ module _ (line : Line) (kind : LineKind) (cycle : ℕ) (es : List Entry) (ls : L
   items-added : (e : Entry) → AllBelow (length es) ls → items_of (es ++ e ∷ []) (ls ++ log.Added (length es) ∷ [])
       ≡ items_of es ls ++ added (length es) e ∷ []
   items-added e b = items-push (es ++ e ∷ []) ls (log.Added (length es))
-      ∙ (λ i. items-more es e ls b i ++ added_item (length es) (get-end es e i) ∷ [])
+      ∙ (λ i. items-more es e ls b i ++ added_item (length es) (get_last es e i) ∷ [])
 
   pub added_is : (e : Entry) → last_answer es e.set e.most e.cycle ≡ None → IsLogged es ls start
       → book_of line kind cycle (es ++ e ∷ []) (ls ++ log.Added (length es) ∷ []) best start stations room

@@ -9,11 +9,11 @@ use Rattle.lemma_core.specs.History.{Item, added, known, better, Standing, after
 use Rattle.lemma_core.specs.Desks.{DeskView, entries, Keeps, Waits, Adds}
 use Rattle.lemma_core.specs.Own.{named, added_of, AreAt, Did, SawOnly}
 use Rattle.lemma_core.proofs.Runs.{replay-append}
-use Rattle.lemma_core.proofs.Logs.{get-end}
 use Rattle.lemma_core.proofs.HistoryGrows.{entries_go_on}
+use Rattle.line_rules.proofs.ListFacts.{get_last}
 
 -- a list that another one begins with is at most as long
-begins_longer : (h g : List Item) → Begins h g → length h ≤ length g
+pub begins_longer : (h g : List Item) → Begins h g → length h ≤ length g
 begins_longer h g b = omega (arith, length-append h b.0, ap (λ (xs : List Item). length xs) b.1)
 
 get_begun : (h g : List Item) (k : ℕ) (i : Item) → Begins h g → slice_get h k ≡ Some i → slice_get g k ≡ Some i
@@ -73,7 +73,7 @@ did_one b c before item x = record {
   places = length before ∷ [];
   own = x.own;
   behind = λ k p e. one_behind (length b.seen) (length before) k p (begins_longer b.seen before x.since) e;
-  there = (ap (λ (h : List Item). slice_get h (length before)) x.last ∙ get-end before item, tt);
+  there = (ap (λ (h : List Item). slice_get h (length before)) x.last ∙ get_last before item, tt);
 }
 
 pub did_adds : (a b c : DeskView) (is before : List Item) (item : Item) → Keeps a b → Did a b is → Adds b c before item

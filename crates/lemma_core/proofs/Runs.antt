@@ -1,10 +1,10 @@
 -- What holds of runs of the core machine.
-use Rattle.std.proofs.Common.{◌≡◌, ℕ, zero, suc, ◌+◌, ◌<◌, ◌≤◌, min, Bool, true, false, cond, ◌&&◌, inl, inr, List, []}
+use Rattle.std.proofs.Common.{◌≡◌, ℕ, zero, suc, ◌+◌, ◌<◌, min, Bool, true, false, cond, ◌&&◌, inl, inr, List, []}
 use Rattle.std.proofs.Common.{◌∷◌, ◌++◌, refl, sym, ap, ◌∙◌, subst, arith, Some, None, Option}
 use Rattle.std.specs.Prelude.{slice_get, nat_le}
 use Rattle.std.specs.Bool.{beq}
 use lib.Pointwise.{pointwise}
-use Rattle.std.proofs.lemmas.Bool.{and_parts, and_from, true≢false}
+use Rattle.std.proofs.lemmas.Bool.{and_parts, and_from, true≢false, le-leb}
 use Rattle.std.proofs.lemmas.Bool.Decides.{nat_tests}
 use Rattle.std.proofs.lemmas.Option.{none-some, same_Some}
 use Rattle.task_set.specs.inner.Words.{equal_sets}
@@ -12,7 +12,7 @@ use Rattle.line_rules.specs.Entries.{Answers, Follows, IsFresh, IsUnanswered, Is
 use Rattle.line_rules.specs.declared.types.Entry.{Entry}
 use Rattle.line_rules.specs.declared.types.Balance.{Balance as Assignment}
 use Rattle.line_rules.specs.Balance.{IsRight}
-use Rattle.line_rules.proofs.CoverFacts.{get_none}
+use Rattle.line_rules.proofs.ListFacts.{get_none}
 use Rattle.line_rules.proofs.LongerLists.{derived_push, get_push_cases}
 use Rattle.lemma_core.specs.declared.types.Event.{Event}
 use Rattle.lemma_core.specs.declared.types.Event.TheVariants as event
@@ -36,14 +36,11 @@ answers_is e set most cycle t =
       long = grind (arith, nat_tests, q.1);
     }
 
-yes_le : (a b : ℕ) → a ≤ b → nat_le a b ≡ true
-yes_le a b l = grind (arith, nat_tests, l)
-
 pub answers_so : (e : Entry) (set : List Bool) (most cycle : ℕ) → Answers e set most cycle
     → answers e set most cycle ≡ true
 answers_so e set most cycle a =
     and_from (pointwise beq e.set set) (nat_le most e.most && nat_le cycle e.cycle) ((equal_sets e.set set).1 a.same)
-    (and_from (nat_le most e.most) (nat_le cycle e.cycle) (yes_le most e.most a.stations) (yes_le cycle e.cycle a.long))
+    (and_from (nat_le most e.most) (nat_le cycle e.cycle) (le-leb most e.most a.stations) (le-leb cycle e.cycle a.long))
 
 -- the last answer among entries of which the first has the number k
 record IsFoundFrom (k : ℕ) (es : List Entry) (set : List Bool) (most cycle : ℕ) (o : Option ℕ) : Type 0 where

@@ -13,7 +13,7 @@ ghost use Rattle.lemma_core.specs.Sieves.{word_in, mark_of};
 ghost use Rattle.lemma_core.specs.inner.Chains.{tags, bucket_in, IsIndex, IsIndexOf};
 
 use crate::plain_lookup::is_answer;
-use crate::sieve::{mark, word};
+use crate::sieve::{has_mark, put_mark};
 use line_rules::Entries;
 use std::alloc::{AllocError, Global};
 use task_set::TaskSet;
@@ -54,8 +54,7 @@ fn hang(heads: &mut [u32], sieve: &mut [u64], tag: u32, place: u32) -> u32
     ensures sieve { let word = word_in (length sieve.old) tag in
         sieve.new ≡ slice_set sieve.old word (bit_or (slice_index sieve.old word) (mark_of tag)) }
 {
-    let at = word(tag, sieve.len());
-    sieve[at] |= mark(tag);
+    put_mark(sieve, tag);
     let bucket = bucket(tag, heads.len());
     let before = heads[bucket];
     heads[bucket] = place;
@@ -96,12 +95,7 @@ impl Index {
         ensures absent { result ≡ false → (k : ℕ) → slice_get (tags self.now.links.items) k ≡ Some tag → ⊥ }
         ensures heads { result ≡ true → 0 < vec_len self.now.heads }
     {
-        let count = self.sieve.len();
-        if count == 0 {
-            return false;
-        }
-        let mark = mark(tag);
-        self.sieve[word(tag, count)] & mark == mark
+        !self.sieve.is_empty() && has_mark(self.sieve.as_slice(), tag)
     }
 
     // The number of the last entry that answers the question: from the last entry in the bucket of the set back.

@@ -2,6 +2,7 @@
 use Rattle.std.proofs.Common.{◌≡◌, ℕ, ◌-◌, ◌≤◌, Bool, List, length, take, sym, ◌∙◌, subst, inl, inr, arith, Some}
 use Rattle.std.proofs.Common.{length-take}
 use Rattle.std.specs.Prelude.{slice_get}
+use Rattle.std.proofs.lemmas.Option.{same_Some, slice_get_within}
 use Rattle.task_set.specs.Truths.{In, IsEmpty}
 use Rattle.line_instance.specs.Line.{Line}
 use Rattle.line_rules.specs.Loads.{IsLoad, Belongs, rest}
@@ -13,7 +14,7 @@ use Rattle.line_rules.specs.declared.types.Entry.{Entry}
 use Rattle.line_rules.specs.declared.types.Why.{Why}
 use Rattle.line_rules.specs.declared.types.Why.TheVariants as why
 use Rattle.line_rules.proofs.Nonempty.{member_or_empty}
-use Rattle.line_rules.proofs.LemmasHold.{get_within, get_some}
+use Rattle.line_rules.proofs.ListFacts.{get_some}
 use Rattle.line_check.specs.Walks.{IsFirstLate, AreBelow}
 use Rattle.line_check.specs.Faults.{Fails, IsReady}
 use Rattle.line_check.specs.inner.Swaps.{IsSwapped}
@@ -26,9 +27,9 @@ late_fails : (kind : LineKind) (line : Line) (earlier : List Entry) (e : Entry) 
     → IsFirstLate cites (length earlier) x → FollowsByBranch kind line earlier e mode cites → ⊥
 late_fails kind line earlier e mode cites x h f =
     let l : (l : Load) × (slice_get f.covers.loads h.place ≡ Some l) =
-    get_some f.covers.loads h.place (omega (arith, f.covers.as_many, get_within cites h.place x h.there)) in
+    get_some f.covers.loads h.place (omega (arith, f.covers.as_many, slice_get_within cites h.place x h.there)) in
     let c : Cites earlier x (rest e.set l.0) (e.most - 1) e.cycle = f.covers.cited h.place x l.0 h.there l.1 in
-    omega (arith, h.late, get_within earlier x c.entry c.there)
+    omega (arith, h.late, slice_get_within earlier x c.entry c.there)
 
 by_way : (kind : LineKind) (line : Line) (earlier : List Entry) (e : Entry) (w : Why) → e.why ≡ w
     → Follows kind line earlier e → FollowsBy kind line earlier e w
@@ -53,7 +54,7 @@ not_follows kind line earlier e (fault.Cite x) units h f = elim h.0 [
       late_fails kind line earlier e b.0 b.1 x b.2.1.3 g
   | inr s ↦
       let g : FollowsBySwap line earlier e s.0 s.1 s.2 = by_way kind line earlier e (why.Swap s.0 s.1 s.2) s.3.0 f in
-      omega (arith, s.3.1.0, s.3.1.1, get_within earlier s.0 g.entry g.there)
+      omega (arith, s.3.1.0, s.3.1.1, slice_get_within earlier s.0 g.entry g.there)
 ]
 not_follows kind line earlier e (fault.Uncovered load) units h f =
     let g : FollowsByBranch kind line earlier e h.0 h.1 = by_way kind line earlier e (why.Branch h.0 h.1) h.2.0 f in
@@ -110,14 +111,11 @@ swapped line earlier e cited cite out into there s = record {
   apart = s.stands.apart;
 }
 
-one_entry : (x y : Entry) → Some x ≡ Some y → x ≡ y
-one_entry x y e = cc
-
 pub swap_of : (line : Line) (earlier : List Entry) (e cited : Entry) (cite out into : ℕ)
     → slice_get earlier cite ≡ Some cited → FollowsBySwap line earlier e cite out into → IsSwapped line e cited out into
 swap_of line earlier e cited cite out into there f =
     let P : Entry → Type 0 = λ z. IsSwapped line e z out into in
-    subst P (one_entry f.entry cited (sym f.there ∙ there)) (record {
+    subst P (same_Some f.entry cited (sym f.there ∙ there)) (record {
       out_in = f.out_in;
       task = f.task;
       into_out = f.into_out;

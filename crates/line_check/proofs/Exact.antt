@@ -1,5 +1,5 @@
 -- What a failed check says rules out that the entry follows.
-use Rattle.std.proofs.Common.{◌≡◌, ℕ, zero, suc, ◌+◌, ◌<◌, ◌≤◌, Bool, List, [], ◌∷◌, length, take, refl, sym, ap, ◌∙◌}
+use Rattle.std.proofs.Common.{◌≡◌, ℕ, zero, suc, ◌+◌, ◌<◌, ◌≤◌, Bool, List, length, take, refl, sym, ap, ◌∙◌}
 use Rattle.std.proofs.Common.{subst, inl, inr, arith, Some, length-take}
 use Rattle.std.specs.Prelude.{slice_get}
 use Rattle.line_instance.specs.Line.{Line}
@@ -9,29 +9,21 @@ use Rattle.line_rules.specs.declared.types.Load.{Load}
 use Rattle.line_rules.specs.declared.types.Entry.{Entry}
 use Rattle.line_rules.proofs.CoverFacts.{counts_push}
 use Rattle.line_rules.proofs.Unique.{unique, precedes_trans, precedes_itself}
-use Rattle.line_rules.proofs.LemmasHold.{get_take, get_within, get_some}
+use Rattle.line_rules.proofs.LemmasHold.{get_take}
+use Rattle.line_rules.proofs.ListFacts.{get_some, get_taken}
 use Rattle.std.proofs.lemmas.Bool.{cases_order}
+use Rattle.std.proofs.lemmas.Option.{same_Some, slice_get_within}
 use Rattle.line_check.specs.Walks.{IsUncovered, IsSpare, IsPast, CountsTo}
-
-some_load : (x y : Load) → Some x ≡ Some y → x ≡ y
-some_load x y e = cc
-
-pub get_taken_of : {X : Type 0} (xs : List X) (n k : ℕ) (x : X) → k < n → slice_get xs k ≡ Some x
-    → slice_get (take n xs) k ≡ Some x
-get_taken_of [] n k x l e = absurd (cc)
-get_taken_of (y ∷ xs) zero k x l e = absurd (omega arith)
-get_taken_of (y ∷ xs) (suc n) zero x l e = e
-get_taken_of (y ∷ xs) (suc n) (suc k) x l e = get_taken_of xs n k x (omega arith) e
 
 -- a listed load precedes each further one
 far : (line : Line) (P : Load → Type 0) (ls : List Load) → Lists line P ls → (j k : ℕ) (a b : Load) → j < k
     → slice_get ls j ≡ Some a → slice_get ls k ≡ Some b → Precedes line a b
 far line P ls h j zero a b l e f = absurd (omega arith)
 far line P ls h j (suc k) a b l e f =
-    let m : (x : Load) × (slice_get ls k ≡ Some x) = get_some ls k (omega (arith, get_within ls (suc k) b f)) in
+    let m : (x : Load) × (slice_get ls k ≡ Some x) = get_some ls k (omega (arith, slice_get_within ls (suc k) b f)) in
     elim (cases_order j k) [
       | inl s ↦ (let P : Load → Type 0 = λ z. Precedes line z b in
-          subst P (some_load m.0 a (sym m.1 ∙ (ap (λ (z : ℕ). slice_get ls z) (sym s) ∙ e))) (h.rises k m.0 b m.1 f))
+          subst P (same_Some m.0 a (sym m.1 ∙ (ap (λ (z : ℕ). slice_get ls z) (sym s) ∙ e))) (h.rises k m.0 b m.1 f))
       | inr d ↦ elim d [
         | inl less ↦ precedes_trans line a m.0 b (far line P ls h j k a m.0 less e m.1) (h.rises k m.0 b m.1 f)
         | inr more ↦ absurd (omega arith)
@@ -49,10 +41,10 @@ firsts line P ls h q load e = record {
       let r : (k : ℕ) × (slice_get ls k ≡ Some a) = h.complete a p.0 in
       elim (cases_order r.0 q) [
         | inl s ↦ (let Q : Load → Type 0 = λ z. Precedes line z load in
-            absurd (precedes_itself line load (subst Q (some_load a load
+            absurd (precedes_itself line load (subst Q (same_Some a load
             (sym r.1 ∙ (ap (λ (z : ℕ). slice_get ls z) s ∙ e))) p.1)))
         | inr d ↦ elim d [
-          | inl l ↦ (r.0, get_taken_of ls q r.0 a l r.1)
+          | inl l ↦ (r.0, get_taken ls q r.0 a l r.1)
           | inr g ↦ absurd (precedes_itself line a (precedes_trans line a load a p.1
               (far line P ls h q r.0 load a g e r.1)))
         ]
@@ -67,7 +59,7 @@ module _ (line : Line) (W P : Load → Type 0) (earlier : List Entry) (R : List 
       let same : take q.0 h.loads ≡ u.before.1.loads = unique line (take q.0 h.loads) u.before.1.loads
       (λ k. P k × Precedes line k load)
       (firsts line P h.loads h.listed q.0 load q.1) u.before.1.listed in
-      let within : q.0 < length h.loads = get_within h.loads q.0 load q.1 in
+      let within : q.0 < length h.loads = slice_get_within h.loads q.0 load q.1 in
       let long : q.0 ≡ u.taken = omega (
         arith,
         ap (λ (z : List Load). length z) same,
@@ -98,7 +90,7 @@ module _ (line : Line) (W P : Load → Type 0) (earlier : List Entry) (R : List 
       → Counts line W all → units ≤ all
   counts_up load units all walked to h =
       let q : (k : ℕ) × (slice_get h.loads k ≡ Some load) = h.listed.complete load walked in
-      let within : q.0 < length h.loads = get_within h.loads q.0 load q.1 in
+      let within : q.0 < length h.loads = slice_get_within h.loads q.0 load q.1 in
       let before : Lists line (λ k. W k × Precedes line k load) (take q.0 h.loads) =
       firsts line W h.loads h.listed q.0 load q.1 in
       let up : Counts line (λ k. W k × UpTo line (Some load) k) (q.0 + 1) =

@@ -1,9 +1,10 @@
 -- Frames that are right one by one are a valid trail, and what a fault of a frame rules out.
-use Rattle.std.proofs.Common.{◌≡◌, ℕ, zero, suc, ◌+◌, ◌≤◌, Bool, true, false, nat_eq, List, [], ◌∷◌, ◌++◌, length, take}
+use Rattle.std.proofs.Common.{◌≡◌, ℕ, zero, suc, ◌+◌, ◌≤◌, Bool, true, false, nat_eq, List, [], ◌∷◌, length, take}
 use Rattle.std.proofs.Common.{refl, sym, ap, ◌∙◌, subst, inl, inr, arith, Option, Some, None}
 use Rattle.std.specs.Prelude.{slice_get}
 use Rattle.std.proofs.lemmas.Bool.{cases_eq, eq-eqb, ne_eqb}
 use Rattle.std.proofs.lemmas.List.{take_all}
+use Rattle.std.proofs.lemmas.Option.{same_Some, slice_get_within}
 use Rattle.line_instance.specs.Line.{Line}
 use Rattle.line_rules.specs.Balance.{all_tasks}
 use Rattle.line_rules.specs.Loads.{IsLoad, IsFull, Belongs, rest}
@@ -14,22 +15,10 @@ use Rattle.line_rules.specs.declared.types.LineKind.{LineKind}
 use Rattle.line_rules.specs.declared.types.Load.{Load}
 use Rattle.line_rules.specs.declared.types.Entry.{Entry}
 use Rattle.line_rules.specs.declared.types.OpenFrame.{OpenFrame}
-use Rattle.line_rules.proofs.LemmasHold.{get_within}
 use Rattle.line_rules.proofs.Paths.{units_push_frame}
 use Rattle.line_check.specs.Reaches.{IsMatched}
 use Rattle.line_check.specs.Frames.{IsLeftBy, IsAskedAt, EndsWell, NeedsTo, IsRightAt, AreRightTo, IsTrailOf}
-
-one_frame : (x y : OpenFrame) → Some x ≡ Some y → x ≡ y
-one_frame x y e = cc
-
-some_load : (x y : Load) → Some x ≡ Some y → x ≡ y
-some_load x y e = cc
-
-take_push : (fs : List OpenFrame) (k : ℕ) (f : OpenFrame) → slice_get fs k ≡ Some f
-    → take (suc k) fs ≡ take k fs ++ f ∷ []
-take_push [] k f h = absurd (cc)
-take_push (x ∷ fs) zero f h = let q : x ≡ f = cc in ap (λ (z : OpenFrame). z ∷ []) q
-take_push (x ∷ fs) (suc k) f h = ap (λ (z : List OpenFrame). x ∷ z) (take_push fs k f h)
+use Rattle.line_rules.proofs.ListFacts.{take_next}
 
 module _ (kind : LineKind) (line : Line) (X : ℕ) (es : List Entry) where
   pub frames_more : (fs : List OpenFrame) (k units more : ℕ) (f : OpenFrame) → slice_get fs k ≡ Some f
@@ -40,14 +29,14 @@ module _ (kind : LineKind) (line : Line) (X : ℕ) (es : List Entry) where
       | inl s ↦
           let P : OpenFrame → Type 0 = λ z. IsRightAt kind line X es fs k z in
           let Q : ℕ → Type 0 = λ z. IsRightAt kind line X es fs z g in
-          subst Q (sym s) (subst P (one_frame f g (sym there ∙ (ap (λ (z : ℕ). slice_get fs z) (sym s) ∙ h))) right)
+          subst Q (sym s) (subst P (same_Some f g (sym there ∙ (ap (λ (z : ℕ). slice_get fs z) (sym s) ∙ h))) right)
       | inr d ↦ r.right i g (omega (arith, l, d)) h
     ];
     sum =
         let s : suc k ≡ k + 1 = omega arith in
         let P : List OpenFrame → Type 0 = λ z. UnitsIn line X z (units + more) in
         let Q : ℕ → Type 0 = λ z. UnitsIn line X (take z fs) (units + more) in
-        subst Q s (subst P (sym (take_push fs k f there)) (units_push_frame line X (take k fs) f units more r.sum u));
+        subst Q s (subst P (sym (take_next fs k f there)) (units_push_frame line X (take k fs) f units more r.sum u));
   }
 
   -- a frame with the question that it should have, after a frame or first
@@ -170,7 +159,7 @@ module _ (kind : LineKind) (line : Line) (X : ℕ) (es : List Entry) where
       → IsTrailOf kind line X es fs × UnitsIn line X fs units × (units ≤ steps)
   all_frames fs k units steps some l few r =
       let P : List OpenFrame → Type 0 = λ z. UnitsIn line X z units in (
-        trail_of fs some (λ j f g. r.right j f (omega (arith, l, get_within fs j f g)) g),
+        trail_of fs some (λ j f g. r.right j f (omega (arith, l, slice_get_within fs j f g)) g),
         subst P (take_all k fs l) r.sum,
         few,
       )

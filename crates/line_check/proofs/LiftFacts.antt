@@ -21,39 +21,7 @@ use Rattle.line_rules.specs.declared.types.Why.{Why}
 use Rattle.line_rules.specs.declared.types.Why.TheVariants as why
 use Rattle.line_rules.specs.declared.types.OpenFrame.{OpenFrame}
 use Rattle.cert_lines.specs.Lift.{raised, lifted_why, lifted_entry, lifted_frame, trail_at}
-
--- places in lists
-get_map : {X Y : Type 0} (f : X → Y) (xs : List X) (k : ℕ) (x : X) → slice_get xs k ≡ Some x
-    → slice_get (map f xs) k ≡ Some (f x)
-get_map f [] k x e = absurd (cc)
-get_map f (y ∷ xs) zero x e = (let q : y ≡ x = cc in ap (λ z. Some (f z)) q)
-get_map f (y ∷ xs) (suc k) x e = get_map f xs k x e
-
-get_unmap : {X Y : Type 0} (f : X → Y) (xs : List X) (k : ℕ) (y : Y) → slice_get (map f xs) k ≡ Some y
-    → (x : X) × (slice_get xs k ≡ Some x) × (y ≡ f x)
-get_unmap f [] k y e = absurd (cc)
-get_unmap f (x ∷ xs) zero y e = (x, refl, cc)
-get_unmap f (x ∷ xs) (suc k) y e = get_unmap f xs k y e
-
-get_behind : {X : Type 0} (xs ys : List X) (k : ℕ) → slice_get (xs ++ ys) (k + length xs) ≡ slice_get ys k
-get_behind [] ys k = ap (λ n. slice_get ys n) (omega arith)
-get_behind (x ∷ xs) ys k = (let s : k + suc (length xs) ≡ suc (k + length xs) = omega arith in
-    ap (λ n. slice_get (x ∷ (xs ++ ys)) n) s ∙ get_behind xs ys k)
-
-get_front : {X : Type 0} (xs ys : List X) (k : ℕ) → k < length xs → slice_get (xs ++ ys) k ≡ slice_get xs k
-get_front [] ys k h = absurd (omega (arith, h))
-get_front (x ∷ xs) ys zero h = refl
-get_front (x ∷ xs) ys (suc k) h = get_front xs ys k (omega (arith, h))
-
-take_behind : {X : Type 0} (xs ys : List X) (k : ℕ) → take (k + length xs) (xs ++ ys) ≡ xs ++ take k ys
-take_behind [] ys k = ap (λ n. take n ys) (omega arith)
-take_behind (x ∷ xs) ys k = (let s : k + suc (length xs) ≡ suc (k + length xs) = omega arith in
-    ap (λ n. take n (x ∷ (xs ++ ys))) s ∙ ap (λ l. x ∷ l) (take_behind xs ys k))
-
-take_map : {X Y : Type 0} (f : X → Y) (xs : List X) (k : ℕ) → take k (map f xs) ≡ map f (take k xs)
-take_map f xs zero = refl
-take_map f [] (suc k) = refl
-take_map f (x ∷ xs) (suc k) = ap (λ l. f x ∷ l) (take_map f xs k)
+use Rattle.line_rules.proofs.ListFacts.{take_map, take_behind, get_front, get_behind, get_unmap, get_map}
 
 get_take : {X : Type 0} (xs : List X) (j k : ℕ) (x : X) → slice_get (take j xs) k ≡ Some x → slice_get xs k ≡ Some x
 get_take xs zero k x e = absurd (cc)
@@ -250,8 +218,3 @@ module _ (line : Line) (c n : ℕ) where
   pub frames_same : (fs : List OpenFrame) (u : ℕ) → UnitsIn line c fs u → UnitsIn line c (map (lifted_frame n) fs) u
   frames_same [] u h = h
   frames_same (f ∷ fs) u h = (h.0, h.1, (h.2.0, frames_same fs h.1 h.2.1, h.2.2))
-
-pub units_both : (line : Line) (xs ys : List Entry) (u v : ℕ) → UnitsOf line xs u → UnitsOf line ys v
-    → UnitsOf line (xs ++ ys) (u + v)
-units_both line [] ys u v h g = (let P : ℕ → Type 0 = λ z. UnitsOf line ys z in subst P (omega (arith, h)) g)
-units_both line (x ∷ xs) ys u v h g = (h.0, h.1 + v, (h.2.0, units_both line xs ys h.1 v h.2.1 g, omega (arith, h.2.2)))

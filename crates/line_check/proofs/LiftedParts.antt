@@ -1,11 +1,11 @@
 -- The parts of a certificate of version 1 as one list of entries with one trail.
-use Rattle.std.proofs.Common.{◌≡◌, ℕ, ◌+◌, ◌-◌, ◌≤◌, Bool, List, [], ◌∷◌, ◌++◌, length, map, refl, sym, ap, ◌∙◌, subst}
+use Rattle.std.proofs.Common.{◌≡◌, ℕ, ◌+◌, ◌-◌, ◌≤◌, List, [], ◌∷◌, ◌++◌, length, map, refl, sym, ap, ◌∙◌, subst}
 use Rattle.std.proofs.Common.{inl, inr, arith, Option, Some, None, append_assoc, length-append}
 use Rattle.std.proofs.lemmas.List.{append-nil, length-map}
 use Rattle.line_instance.specs.Line.{Line}
 use Rattle.line_rules.specs.Accepted.{HasTrail, IsProof, ClaimIsAccepted, ClaimIsInfeasible}
 use Rattle.line_rules.specs.Balance.{all_tasks, IsRight}
-use Rattle.line_rules.specs.Entries.{IsDerived, HasAnswer}
+use Rattle.line_rules.specs.Entries.{IsDerived}
 use Rattle.line_rules.specs.Units.{UnitsOf, TrailUnits, UnitsWhole}
 use Rattle.line_rules.specs.declared.types.LineKind.{LineKind}
 use Rattle.line_rules.specs.declared.types.Balance.{Balance as Assignment}
@@ -14,7 +14,7 @@ use Rattle.line_rules.specs.declared.types.Ask.TheVariants as ask
 use Rattle.line_rules.specs.declared.types.Entry.{Entry}
 use Rattle.line_rules.specs.declared.types.OpenFrame.{OpenFrame}
 use Rattle.line_rules.specs.declared.types.Trail.{Trail}
-use Rattle.line_rules.proofs.LongerLists.{get_longer}
+use Rattle.line_rules.proofs.LongerLists.{has_longer}
 use Rattle.cert_lines.specs.Lift.{lifted_entry, lifted_frame, lifted_entries, lifted_trail, lifted_claim, trail_at}
 use Rattle.cert_lines.specs.Lift.{trail_or}
 use Rattle.cert_lines.specs.declared.version_one.Part.{Part}
@@ -24,7 +24,7 @@ use Rattle.line_check.specs.VersionOne.{IsPartRight, HasPartTrail, PassesAtCycle
 use Rattle.line_check.specs.VersionOne.{PassesForStations, AreLower, IsOneOrNone, PartUnits, ClaimPasses, TooLongPasses}
 use Rattle.line_check.specs.VersionOne.{EveryPassingLiftIsAccepted, EveryPassingTooLongIsAccepted}
 use Rattle.line_check.proofs.LiftFacts.{behind, derived_up, answer_up, has_trail_up, units_same, frames_same}
-use Rattle.line_check.proofs.LiftFacts.{units_both}
+use Rattle.line_rules.proofs.ListUnits.{units_both}
 
 -- the parts stand by themselves, and no part but the last has a trail
 abbrev pub AreRight : LineKind → Line → List Part → Type 0
@@ -55,10 +55,6 @@ derived_parts kind line pre (p ∷ ps) d r =
     let P : List Entry → Type 0 = λ l. IsDerived kind line l in
     subst P (next_is pre p ps) (derived_parts kind line (behind pre p.cycle p.entries) ps
     (derived_up kind line pre p.cycle p.entries r.0.at d r.0.derived) r.1)
-
-answer_longer : (es more : List Entry) (set : List Bool) (most d : ℕ) → HasAnswer es set most d
-    → HasAnswer (es ++ more) set most d
-answer_longer es more set most d h = (h.0, h.1, (get_longer es more h.0 h.1 h.2.0, h.2.1))
 
 -- the units of the parts are those of the lift
 trail_of : (line : Line) (n : ℕ) (p : Part) (u : ℕ) → TrailUnits line (trail_at p.cycle p.frames) u
@@ -143,7 +139,7 @@ module _ (kind : LineKind) (line : Line) (lower upper : ℕ) (b : Assignment) wh
         balance = right;
         stations = stations;
         derived = derived_parts kind line [] (p ∷ []) (nothing_derived kind line) (h.right, tt);
-        goal = λ more. answer_longer es [] (all_tasks line) (lower - 1) c
+        goal = λ more. has_longer es [] (all_tasks line) (lower - 1) c
             (answer_up kind line [] p.cycle p.entries h.right.at (all_tasks line) (lower - 1) c (h.goal more));
         trail = one_trail (ask.Stations c) [] p h.right h.trail;
       })
@@ -176,7 +172,7 @@ module _ (kind : LineKind) (line : Line) (lower upper : ℕ) (b : Assignment) wh
       balance = right;
       stations = stations;
       derived = derived_parts kind line [] (p ∷ []) (nothing_derived kind line) (h.right, tt);
-      goal = λ more. answer_longer (map (lifted_entry p.cycle 0) p.entries) [] (all_tasks line) m (lower - 1)
+      goal = λ more. has_longer (map (lifted_entry p.cycle 0) p.entries) [] (all_tasks line) m (lower - 1)
           (answer_up kind line [] p.cycle p.entries h.right.at (all_tasks line) m (lower - 1) h.goal);
       trail = (let T : Option Trail → Type 0 = λ t. HasTrail kind line (ask.Cycle m) lower upper
           (lifted_entries 0 (p ∷ [])) t in subst T (sym (passed_over 0 p None h.none)) tt);
@@ -197,7 +193,7 @@ module _ (kind : LineKind) (line : Line) (lower upper : ℕ) (b : Assignment) wh
           balance = right;
           stations = stations;
           derived = derived_parts kind line [] (p ∷ q ∷ []) (nothing_derived kind line) (h.right, (g.right, tt));
-          goal = λ more. answer_longer pre (lifted_entries (0 + length p.entries) (q ∷ [])) (all_tasks line) m
+          goal = λ more. has_longer pre (lifted_entries (0 + length p.entries) (q ∷ [])) (all_tasks line) m
               (lower - 1) (answer_up kind line [] p.cycle p.entries h.right.at (all_tasks line) m (lower - 1) h.goal);
           trail = subst T (sym (passed_over 0 p (lifted_trail (0 + length p.entries) (q ∷ [])) h.none))
               (subst N n (subst A (append_assoc pre (map (lifted_entry q.cycle (length pre)) q.entries) [])

@@ -1,31 +1,24 @@
 -- The entries below a number follow, and what that says of the list.
-use Rattle.std.proofs.Common.{◌≡◌, ℕ, zero, suc, ◌+◌, ◌<◌, ◌≤◌, List, [], ◌∷◌, ◌++◌, length, take, refl, sym, ap, ◌∙◌}
+use Rattle.std.proofs.Common.{◌≡◌, ℕ, suc, ◌+◌, ◌<◌, ◌≤◌, List, [], ◌∷◌, ◌++◌, length, take, refl, sym, ap, ◌∙◌}
 use Rattle.std.proofs.Common.{subst, inl, inr, arith, Some}
 use Rattle.std.specs.Prelude.{slice_get}
 use Rattle.std.proofs.lemmas.Bool.{cases_eq}
 use Rattle.std.proofs.lemmas.List.{take_all}
+use Rattle.std.proofs.lemmas.Option.{same_Some, slice_get_within}
 use Rattle.line_instance.specs.Line.{Line}
 use Rattle.line_rules.specs.Entries.{Follows, IsDerived}
 use Rattle.line_rules.specs.Units.{UnitsBy, UnitsOf}
 use Rattle.line_rules.specs.declared.types.LineKind.{LineKind}
 use Rattle.line_rules.specs.declared.types.Entry.{Entry}
-use Rattle.line_rules.proofs.LemmasHold.{get_within}
 use Rattle.line_check.specs.Lists.{AreRightBelow, IsRefusedAt}
 use Rattle.line_check.specs.declared.types.EntryFault.{EntryFault}
 use Rattle.line_check.proofs.EntryFaults.{not_follows}
+use Rattle.line_rules.proofs.ListFacts.{take_next}
 
 units_push : (line : Line) (es : List Entry) (e : Entry) (a b : ℕ) → UnitsOf line es a → UnitsBy line e e.why b
     → UnitsOf line (es ++ e ∷ []) (a + b)
 units_push line [] e a b h u = (b, 0, (u, refl, omega (arith, h)))
 units_push line (x ∷ es) e a b h u = (h.0, h.1 + b, (h.2.0, units_push line es e h.1 b h.2.1 u, omega (arith, h.2.2)))
-
-take_push : (es : List Entry) (k : ℕ) (e : Entry) → slice_get es k ≡ Some e → take (suc k) es ≡ take k es ++ e ∷ []
-take_push [] k e h = absurd (cc)
-take_push (x ∷ es) zero e h = let q : x ≡ e = cc in ap (λ (z : Entry). z ∷ []) q
-take_push (x ∷ es) (suc k) e h = ap (λ (z : List Entry). x ∷ z) (take_push es k e h)
-
-one_entry : (x y : Entry) → Some x ≡ Some y → x ≡ y
-one_entry x y e = cc
 
 pub right_more : (kind : LineKind) (line : Line) (es : List Entry) (k units more : ℕ) (e : Entry)
     → slice_get es k ≡ Some e → AreRightBelow kind line es k units → Follows kind line (take k es) e
@@ -36,14 +29,14 @@ right_more kind line es k units more e there r f u = record {
     | inl s ↦
         let P : Entry → Type 0 = λ z. Follows kind line (take k es) z in
         let Q : ℕ → Type 0 = λ z. Follows kind line (take z es) x in
-        subst Q (sym s) (subst P (one_entry e x (sym there ∙ (ap (λ (z : ℕ). slice_get es z) (sym s) ∙ g))) f)
+        subst Q (sym s) (subst P (same_Some e x (sym there ∙ (ap (λ (z : ℕ). slice_get es z) (sym s) ∙ g))) f)
     | inr d ↦ r.follow j x (omega (arith, l, d)) g
   ];
   sum =
       let s : suc k ≡ k + 1 = omega arith in
       let P : List Entry → Type 0 = λ z. UnitsOf line z (units + more) in
       let Q : ℕ → Type 0 = λ z. UnitsOf line (take z es) (units + more) in
-      subst Q s (subst P (sym (take_push es k e there)) (units_push line (take k es) e units more r.sum u));
+      subst Q s (subst P (sym (take_next es k e there)) (units_push line (take k es) e units more r.sum u));
 }
 
 pub all_right : (kind : LineKind) (line : Line) (es : List Entry) (k units steps : ℕ) → length es ≤ k → units ≤ steps
@@ -51,7 +44,7 @@ pub all_right : (kind : LineKind) (line : Line) (es : List Entry) (k units steps
     → IsDerived kind line es × UnitsOf line es units × (units ≤ steps)
 all_right kind line es k units steps l few r =
     let P : List Entry → Type 0 = λ z. UnitsOf line z units in
-    (λ j e g. r.follow j e (omega (arith, l, get_within es j e g)) g, subst P (take_all k es l) r.sum, few)
+    (λ j e g. r.follow j e (omega (arith, l, slice_get_within es j e g)) g, subst P (take_all k es l) r.sum, few)
 
 -- a list with an entry that is refused isn't derived
 pub refused_not : (kind : LineKind) (line : Line) (es : List Entry) (steps k : ℕ) (why : EntryFault)
@@ -59,14 +52,11 @@ pub refused_not : (kind : LineKind) (line : Line) (es : List Entry) (steps k : �
 refused_not kind line es steps k why r d = not_follows kind line (take k es) r.entry why r.more r.fails
     (d k r.entry r.there)
 
-one_item : {X : Type 0} (x y : X) → Some x ≡ Some y → x ≡ y
-one_item x y e = cc
-
 -- what is so of the items below k, and of the item k
 pub each_more : {X : Type 0} (P : X → Type 0) (xs : List X) (k : ℕ) (x : X) → slice_get xs k ≡ Some x → P x
     → ((j : ℕ) (y : X) → j < k → slice_get xs j ≡ Some y → P y)
     → (j : ℕ) (y : X) → j < k + 1 → slice_get xs j ≡ Some y → P y
 each_more P xs k x there p h j y l e = elim (cases_eq j k) [
-  | inl s ↦ subst P (one_item x y (sym there ∙ (ap (λ (z : ℕ). slice_get xs z) (sym s) ∙ e))) p
+  | inl s ↦ subst P (same_Some x y (sym there ∙ (ap (λ (z : ℕ). slice_get xs z) (sym s) ∙ e))) p
   | inr d ↦ h j y (omega (arith, l, d)) e
 ]

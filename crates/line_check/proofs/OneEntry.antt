@@ -4,6 +4,7 @@ use Rattle.std.proofs.Common.{inl, inr, arith, Option, Some, None}
 use Rattle.std.specs.Prelude.{slice_get}
 use Rattle.std.proofs.lemmas.Bool.{cases_order}
 use Rattle.std.proofs.lemmas.List.{take-take}
+use Rattle.std.proofs.lemmas.Option.{same_Some}
 use Rattle.task_set.specs.Truths.{In}
 use Rattle.line_instance.specs.Line.{Line, IsRanked}
 use Rattle.line_rules.specs.Bounds.{bound}
@@ -29,13 +30,11 @@ use Rattle.line_check.specs.declared.types.Found.TheVariants as found
 use Rattle.line_check.specs.declared.types.ListFound.{ListFound}
 use Rattle.line_check.specs.declared.types.ListFound.TheVariants as list
 use Rattle.line_check.proofs.EntryFaults.{not_follows}
-use Rattle.line_check.proofs.Exact.{get_taken_of}
 use Rattle.line_check.proofs.ListFacts.{refused_not}
 use Rattle.line_check.proofs.OneWalk.{same_end, one_late, FailsWalk, one_failure, fails_in_time}
-use Rattle.line_check.proofs.UnitFacts.{one_sum, units_at, ends_more, entries_more}
-
-one_entry : (x y : Entry) → Some x ≡ Some y → x ≡ y
-one_entry x y e = cc
+use Rattle.line_check.proofs.UnitFacts.{units_at, ends_more, entries_more}
+use Rattle.line_rules.proofs.Monotone.{entries_same}
+use Rattle.line_rules.proofs.ListFacts.{get_taken}
 
 -- the fault of a walk
 abbrev pub fault_of : Option Load → EntryFault
@@ -212,7 +211,7 @@ module _ (kind : LineKind) (line : Line) (ranked : IsRanked line) (earlier : Lis
       ]
 
   units_one : (m n : ℕ) → UnitsBy line e e.why m → UnitsBy line e e.why n → m ≡ n
-  units_one m n p q = one_sum line (e ∷ []) m n (m, 0, (p, refl, omega arith)) (n, 0, (q, refl, omega arith))
+  units_one m n p q = entries_same line (e ∷ []) m n (m, 0, (p, refl, omega arith)) (n, 0, (q, refl, omega arith))
 
   pub found_one : (steps : ℕ) (v w : Found) → IsFound kind line earlier e steps v → IsFound kind line earlier e steps w
       → v ≡ w
@@ -259,7 +258,7 @@ module _ (kind : LineKind) (line : Line) (ranked : IsRanked line) (es : List Ent
   refused_here k a b p q =
       let P : Entry → Type 0 = λ z. Fails kind line (take k es) z a p.more in
       (one_fault kind line ranked (take k es) q.entry a b p.more q.more
-      (subst P (one_entry p.entry q.entry (sym p.there ∙ q.there)) p.fails) q.fails).0
+      (subst P (same_Some p.entry q.entry (sym p.there ∙ q.there)) p.fails) q.fails).0
 
   pub one_refused : (j k : ℕ) (a b : EntryFault) → IsRefusedAt kind line es steps j a
       → IsRefusedAt kind line es steps k b → (j ≡ k) × (a ≡ b)
@@ -276,9 +275,9 @@ module _ (kind : LineKind) (line : Line) (ranked : IsRanked line) (es : List Ent
       → UnitsOf line (take k es) units → slice_get es k ≡ Some e → Ends kind line (take k es) e (steps - units) → ⊥
   ends_here k a p units e sum there h =
       let P : Entry → Type 0 = λ z. Fails kind line (take k es) z a p.more in
-      let same : p.units ≡ units = one_sum line (take k es) p.units units p.below.sum sum in
+      let same : p.units ≡ units = entries_same line (take k es) p.units units p.below.sum sum in
       fault_in_time kind line ranked (take k es) e a p.more (steps - units)
-      (subst P (one_entry p.entry e (sym p.there ∙ there)) p.fails) (omega (arith, p.few, same)) h
+      (subst P (same_Some p.entry e (sym p.there ∙ there)) p.fails) (omega (arith, p.few, same)) h
 
   pub refused_in_time : (k : ℕ) (a : EntryFault) → IsRefusedAt kind line es steps k a → AreStepsEnded kind line es steps
       → ⊥
@@ -292,7 +291,7 @@ module _ (kind : LineKind) (line : Line) (ranked : IsRanked line) (es : List Ent
       | inr more ↦ (
           let U : List Entry → Type 0 = λ z. UnitsOf line z h.units in
           let r : (b : ℕ) × (UnitsBy line h.entry h.entry.why b × (h.units + b ≤ p.units)) =
-          units_at line (take k es) h.at h.entry h.units p.units (get_taken_of es k h.at h.entry more h.there)
+          units_at line (take k es) h.at h.entry h.units p.units (get_taken es k h.at h.entry more h.there)
           (subst U (sym (take-take h.at k es (omega (arith, more)))) h.below.sum) p.below.sum in
           omega (
             arith,
@@ -307,7 +306,7 @@ module _ (kind : LineKind) (line : Line) (ranked : IsRanked line) (es : List Ent
   ]
 
   pub list_one : (v w : ListFound) → AreFound kind line es steps v → AreFound kind line es steps w → v ≡ w
-  list_one (list.Right m) (list.Right n) p q = ap (λ (z : ℕ). list.Right z) (one_sum line es m n p.1 q.1)
+  list_one (list.Right m) (list.Right n) p q = ap (λ (z : ℕ). list.Right z) (entries_same line es m n p.1 q.1)
   list_one (list.Right m) (list.Refused k b) p q = absurd (refused_not kind line es steps k b q p.0)
   list_one (list.Right m) list.StepsEnded p q = absurd (omega (arith, p.2, entries_more kind line es steps m q p.1))
   list_one (list.Refused j a) (list.Right n) p q = absurd (refused_not kind line es steps j a p q.0)

@@ -1,9 +1,10 @@
 -- The check of the frames of a trail has one answer.
-use Rattle.std.proofs.Common.{◌≡◌, ℕ, ◌+◌, ◌-◌, ◌<◌, ◌≤◌, ◌⊎◌, Bool, true, false, List, [], length, take, refl, sym, ap}
+use Rattle.std.proofs.Common.{◌≡◌, ℕ, ◌+◌, ◌-◌, ◌<◌, ◌≤◌, ◌⊎◌, Bool, true, false, List, length, take, refl, sym, ap}
 use Rattle.std.proofs.Common.{◌∙◌, subst, inl, inr, arith, Option, Some, None}
 use Rattle.std.specs.Prelude.{slice_get}
 use Rattle.std.proofs.lemmas.Bool.{cases_order}
 use Rattle.std.proofs.lemmas.List.{take-take}
+use Rattle.std.proofs.lemmas.Option.{same_Some}
 use Rattle.line_instance.specs.Line.{Line, IsRanked}
 use Rattle.line_rules.specs.Loads.{Belongs}
 use Rattle.line_rules.specs.Order.{Precedes, UpTo}
@@ -14,7 +15,7 @@ use Rattle.line_rules.specs.declared.types.Entry.{Entry}
 use Rattle.line_rules.specs.declared.types.OpenFrame.{OpenFrame}
 use Rattle.line_rules.specs.declared.types.Trail.{Trail}
 use Rattle.line_rules.specs.declared.types.Ask.{Ask}
-use Rattle.line_rules.proofs.Monotone.{units_same}
+use Rattle.line_rules.proofs.Monotone.{frames_same}
 use Rattle.line_rules.proofs.LoadPlaces.{three_ways}
 use Rattle.line_check.specs.Walks.{IsFirstLate, AreBelow}
 use Rattle.line_check.specs.Reaches.{IsMatched}
@@ -23,25 +24,16 @@ use Rattle.line_check.specs.Frames.{IsFrameRefused, AreFramesEnded}
 use Rattle.line_check.specs.Certificates.{TrailFails, TrailEnds}
 use Rattle.line_check.specs.declared.types.FrameFault.{FrameFault}
 use Rattle.line_check.specs.declared.types.FrameFault.TheVariants as fault
-use Rattle.line_check.proofs.Exact.{get_taken_of, not_past}
+use Rattle.line_check.proofs.Exact.{not_past}
 use Rattle.line_check.proofs.RefusalFacts.{not_right}
 use Rattle.line_check.proofs.UnitFacts.{frame_units_at}
 use Rattle.line_check.proofs.OneWalk.{same_end, one_late, FailsWalk, one_failure, fails_in_time}
-
-one_frame : (x y : OpenFrame) → Some x ≡ Some y → x ≡ y
-one_frame x y e = cc
+use Rattle.line_rules.proofs.ListFacts.{get_taken}
 
 -- the fault of a walk
 abbrev pub fault_of : Option Load → FrameFault
 fault_of None = fault.Spare
 fault_of (Some load) = fault.Uncovered load
-
--- the units of frames are one number
-pub frames_units : (line : Line) (X : ℕ) (fs : List OpenFrame) (a b : ℕ) → UnitsIn line X fs a → UnitsIn line X fs b
-    → a ≡ b
-frames_units line X fs a b p q =
-    let t : Trail = record { cycle = X; frames = fs } in
-    units_same line [] (Some t) a b (0, a, (refl, p, omega arith)) (0, b, (refl, q, omega arith))
 
 module _ (kind : LineKind) (line : Line) (ranked : IsRanked line) (X : ℕ) (es : List Entry) (fs : List OpenFrame) where
   -- what needs a cite is walked
@@ -164,7 +156,7 @@ module _ (kind : LineKind) (line : Line) (ranked : IsRanked line) (X : ℕ) (es 
         → IsFrameRefused kind line X es fs steps j b → a ≡ b
     refused_here j a b p q =
         let P : OpenFrame → Type 0 = λ z. FailsAt kind line X es fs j z a p.more in
-        (one_fault j q.frame a b p.more q.more (subst P (one_frame p.frame q.frame (sym p.there ∙ q.there)) p.fails)
+        (one_fault j q.frame a b p.more q.more (subst P (same_Some p.frame q.frame (sym p.there ∙ q.there)) p.fails)
         q.fails).0
 
     pub one_refused : (j k : ℕ) (a b : FrameFault) → IsFrameRefused kind line X es fs steps j a
@@ -183,8 +175,8 @@ module _ (kind : LineKind) (line : Line) (ranked : IsRanked line) (X : ℕ) (es 
         → EndsAt kind line X es fs k f (steps - units) → ⊥
     ends_here k a p units f sum there h =
         let P : OpenFrame → Type 0 = λ z. FailsAt kind line X es fs k z a p.more in
-        let same : p.units ≡ units = frames_units line X (take k fs) p.units units p.below.sum sum in
-        fault_in_time k f a p.more (steps - units) (subst P (one_frame p.frame f (sym p.there ∙ there)) p.fails)
+        let same : p.units ≡ units = frames_same line X (take k fs) p.units units p.below.sum sum in
+        fault_in_time k f a p.more (steps - units) (subst P (same_Some p.frame f (sym p.there ∙ there)) p.fails)
         (omega (arith, p.few, same)) h
 
     -- a frame that is refused within the steps comes before the one that the steps end at
@@ -200,7 +192,7 @@ module _ (kind : LineKind) (line : Line) (ranked : IsRanked line) (X : ℕ) (es 
         | inr more ↦ (
             let U : List OpenFrame → Type 0 = λ z. UnitsIn line X z h.units in
             let r : (b : ℕ) × (FrameUnits line X h.frame b × (h.units + b ≤ p.units)) =
-            frame_units_at line X (take k fs) h.at h.frame h.units p.units (get_taken_of fs k h.at h.frame more h.there)
+            frame_units_at line X (take k fs) h.at h.frame h.units p.units (get_taken fs k h.at h.frame more h.there)
             (subst U (sym (take-take h.at k fs (omega (arith, more)))) h.below.sum) p.below.sum in
             let past : steps - h.units < r.0 = not_past line (WalksTo line X h.frame)
             (NeedsTo kind line X (is_deepest fs h.at) h.frame) es h.frame.set h.frame.most X h.frame.cites

@@ -14,7 +14,7 @@ use Rattle.line_rules.specs.declared.types.Ask.TheVariants as ask
 use Rattle.line_rules.specs.declared.types.Claim.{Claim}
 use Rattle.line_rules.specs.declared.types.Claim.TheVariants as claim
 use Rattle.line_rules.specs.declared.types.Certificate.{Certificate}
-use Rattle.line_rules.proofs.Monotone.{units_same}
+use Rattle.line_rules.proofs.Monotone.{units_same, entries_same}
 use Rattle.line_check.specs.Lists.{IsRefusedAt}
 use Rattle.line_check.specs.Certificates.{IsShown, BalanceFails, TrailFails, TrailEnds, ProofFails, ProofEnds}
 use Rattle.line_check.specs.Certificates.{IsBoundsVerdict, TaskFails, IsTaskVerdict, IsTooLongVerdict, IsClaimVerdict}
@@ -31,7 +31,7 @@ use Rattle.line_check.specs.declared.types.Verified.TheVariants as verified
 use Rattle.line_check.proofs.RuledOut.{proof_not, ends_spend, list_not, list_spends}
 use Rattle.line_check.proofs.ListFacts.{refused_not}
 use Rattle.line_check.proofs.RefusalFacts.{balance_not}
-use Rattle.line_check.proofs.UnitFacts.{one_sum, entries_more}
+use Rattle.line_check.proofs.UnitFacts.{entries_more}
 use Rattle.line_check.proofs.OneWalk.{same_end}
 use Rattle.line_check.proofs.OneBalance.{one_least, balance_one}
 use Rattle.line_check.proofs.OneEntry as entry
@@ -99,7 +99,7 @@ module _ (kind : LineKind) (line : Line) (ok : IsLine line) (ranked : IsRanked l
     | inr u ↦ elim y [
       | inl v ↦ absurd (entry_not q v u.0 u.1.0)
       | inr v ↦ (let P : ℕ → Type 0 = λ z. Behind z p in behind_one v.0 p q
-          (subst P (one_sum line es u.0 v.0 u.1.0.1 v.1.0.1) u.1.1) v.1.1)
+          (subst P (entries_same line es u.0 v.0 u.1.0.1 v.1.0.1) u.1.1) v.1.1)
     ]
   ]
 
@@ -126,7 +126,7 @@ module _ (kind : LineKind) (line : Line) (ok : IsLine line) (ranked : IsRanked l
     | inr u ↦ elim h [
       | inl v ↦ omega (arith, u.1.0.2, entries_more kind line es steps u.0 v u.1.0.1)
       | inr v ↦ (let P : ℕ → Type 0 = λ z. Behind z p in behind_in_time v.0 p
-          (subst P (one_sum line es u.0 v.0 u.1.0.1 v.1.0.1) u.1.1) v.1.1 v.1.2)
+          (subst P (entries_same line es u.0 v.0 u.1.0.1 v.1.0.1) u.1.1) v.1.1 v.1.2)
     ]
   ]
 
@@ -294,7 +294,7 @@ module _ (kind : LineKind) (line : Line) (ranked : IsRanked line) (es : List Ent
       | inr v ↦ (
           let P : ℕ → Type 0 = λ z. IsTrailRefused kind line es trail (steps - z) u.1.1.0 u.1.1.1 in
           let there : IsTrailRefused kind line es trail (steps - v.0) u.1.1.0 u.1.1.1 =
-          subst P (one_sum line es u.0 v.0 u.1.0.1 v.1.0.1) u.1.1.2.1 in
+          subst P (entries_same line es u.0 v.0 u.1.0.1 v.1.0.1) u.1.1.2.1 in
           let s : (u.1.1.0 ≡ v.1.1.0) × (u.1.1.1 ≡ v.1.1.1) =
           frame_refused_one trail (steps - v.0) u.1.1.0 v.1.1.0 u.1.1.1 v.1.1.1 there v.1.1.2.1 in
           u.1.1.2.0 ∙ (ap (λ (j : ℕ). place.Frame j u.1.1.1) s.0
@@ -316,7 +316,7 @@ module _ (kind : LineKind) (line : Line) (ranked : IsRanked line) (es : List Ent
       | inr v ↦ (
           let P : ℕ → Type 0 = λ z. IsTrailRefused kind line es trail (steps - z) u.1.1.0 u.1.1.1 in
           frame_refused_in_time trail (steps - v.0) u.1.1.0 u.1.1.1
-          (subst P (one_sum line es u.0 v.0 u.1.0.1 v.1.1) u.1.1.2.1) v.2
+          (subst P (entries_same line es u.0 v.0 u.1.0.1 v.1.1) u.1.1.2.1) v.2
           )
     ]
   ]

@@ -3,6 +3,7 @@ use Rattle.std.proofs.Common.{◌≡◌, ℕ, ◌+◌, ◌<◌, ◌≤◌, Bool,
 use Rattle.std.proofs.Common.{arith, Option, Some, None, length-take}
 use Rattle.std.specs.Prelude.{slice_get}
 use Rattle.std.proofs.lemmas.Bool.{cases_order}
+use Rattle.std.proofs.lemmas.Option.{slice_get_within}
 use Rattle.line_instance.specs.Line.{Line}
 use Rattle.line_rules.specs.Order.{Precedes, UpTo, Lists, Counts}
 use Rattle.line_rules.specs.Entries.{Covers}
@@ -10,9 +11,11 @@ use Rattle.line_rules.specs.declared.types.Load.{Load}
 use Rattle.line_rules.specs.declared.types.Entry.{Entry}
 use Rattle.line_rules.proofs.Monotone.{one_count}
 use Rattle.line_rules.proofs.Unique.{unique, precedes_trans}
-use Rattle.line_rules.proofs.LemmasHold.{get_take, get_within, get_some}
+use Rattle.line_rules.proofs.LemmasHold.{get_take}
+use Rattle.line_rules.proofs.ListFacts.{get_some}
 use Rattle.line_check.specs.Walks.{IsFirstLate, IsUncovered, IsSpare, IsPast, CountsTo}
 use Rattle.line_check.proofs.Exact.{firsts, counts_up, not_past}
+use Rattle.line_rules.proofs.CoverFacts.{lists_same}
 
 -- two rows of tests, of which each ends at the first that fails, agree where they agree at each end
 pub same_end : {A X Y V W C : Type 0} → ((A → ⊥) × X) ⊎ (A × Y) → ((A → ⊥) × V) ⊎ (A × W) → (X → V → C) → (Y → W → C)
@@ -34,14 +37,6 @@ one_late cites k x y p q = elim (cases_order p.place q.place) [
   ]
 ]
 
-lists_same : (line : Line) (P Q : Load → Type 0) (ls : List Load) → ((l : Load) → P l → Q l) → ((l : Load) → Q l → P l)
-    → Lists line P ls → Lists line Q ls
-lists_same line P Q ls f g h = record {
-  rises = h.rises;
-  sound = λ k a e. f a (h.sound k a e);
-  complete = λ a q. h.complete a (g a q);
-}
-
 module _ (line : Line) (W P : Load → Type 0) (walked : (k : Load) → P k → W k)
     (ways : (a b : Load) → W a → W b → (a ≡ b) ⊎ (Precedes line a b ⊎ Precedes line b a)) (earlier : List Entry)
     (R : List Bool) (most c : ℕ)
@@ -57,7 +52,7 @@ module _ (line : Line) (W P : Load → Type 0) (walked : (k : Load) → P k → 
       (λ k p. (out k p.0, p.1)) (λ k p. (into k p.1 p.0, p.1)) (firsts line Q h.loads h.listed q.0 load q.1) in
       let same : take q.0 h.loads ≡ u.before.1.loads = unique line (take q.0 h.loads) u.before.1.loads
       (λ k. P k × Precedes line k load) mine u.before.1.listed in
-      let within : q.0 < length h.loads = get_within h.loads q.0 load q.1 in
+      let within : q.0 < length h.loads = slice_get_within h.loads q.0 load q.1 in
       let long : q.0 ≡ u.taken = omega (
         arith,
         ap (λ (z : List Load). length z) same,
@@ -78,7 +73,7 @@ module _ (line : Line) (W P : Load → Type 0) (walked : (k : Load) → P k → 
   counts_rise a b m n wa wb less to_a to_b =
       let B : Load → Type 0 = λ k. (W k × UpTo line (Some b) k) × Precedes line k b in
       let q : (k : ℕ) × (slice_get to_b.loads k ≡ Some b) = to_b.listed.complete b (wb, inl refl) in
-      let within : q.0 < length to_b.loads = get_within to_b.loads q.0 b q.1 in
+      let within : q.0 < length to_b.loads = slice_get_within to_b.loads q.0 b q.1 in
       let all : Counts line B q.0 = record {
         loads = take q.0 to_b.loads;
         listed = firsts line (λ k. W k × UpTo line (Some b) k) to_b.loads to_b.listed q.0 b q.1;

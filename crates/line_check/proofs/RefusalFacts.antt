@@ -4,6 +4,7 @@ use Rattle.std.proofs.Common.{refl, sym, subst, inl, inr, arith, Option, Some, N
 use Rattle.std.proofs.Common.{IfSome}
 use Rattle.std.specs.Prelude.{slice_get}
 use Rattle.std.proofs.lemmas.Bool.{eq-eqb, ne_eqb}
+use Rattle.std.proofs.lemmas.Option.{same_Some, slice_get_within}
 use Rattle.line_instance.specs.Line.{Line, IsLine}
 use Rattle.line_rules.specs.Accepted.{HasTrail, MayBegin}
 use Rattle.line_rules.specs.Balance.{all_tasks}
@@ -18,7 +19,6 @@ use Rattle.line_rules.specs.declared.types.OpenFrame.{OpenFrame}
 use Rattle.line_rules.specs.declared.types.Trail.{Trail}
 use Rattle.line_rules.specs.declared.types.Ask.{Ask}
 use Rattle.line_rules.proofs.All.{In-all, In-all_lt}
-use Rattle.line_rules.proofs.LemmasHold.{get_within, get_some}
 use Rattle.line_check.specs.Walks.{IsFirstLate}
 use Rattle.line_check.specs.Reaches.{IsMatched}
 use Rattle.line_check.specs.Frames.{IsAskedAt, EndsWell, WalksTo, NeedsTo, is_deepest, IsRightAt, FailsAt}
@@ -31,6 +31,7 @@ use Rattle.line_check.specs.declared.types.Place.TheVariants as place
 use Rattle.line_check.proofs.Exact.{not_uncovered, not_spare}
 use Rattle.line_check.proofs.FrameFacts.{Asks, IsRight, AreAll, prevs, prev_shift, same_place}
 use Rattle.line_check.proofs.VerdictFacts.{head_most}
+use Rattle.line_rules.proofs.ListFacts.{get_none, get_some}
 
 -- a balance with a fault doesn't show the upper bound
 pub balance_not : (kind : LineKind) (line : Line) → IsLine line → (a : Ask) (upper : ℕ) (b : Assignment) (p : Place)
@@ -67,12 +68,6 @@ shown_where kind line ok a upper b (Some p) f g false e = (
   λ t. absurd (cc),
   λ s. absurd (balance_not kind line ok a upper b p g s),
 )
-
-one_frame : (x y : OpenFrame) → Some x ≡ Some y → x ≡ y
-one_frame x y e = cc
-
-none_there : (k : ℕ) (x : OpenFrame) → slice_get [] k ≡ Some x → ⊥
-none_there k x e = cc
 
 module _ (kind : LineKind) (line : Line) (X : ℕ) (es : List Entry) where
   passed_right : (f : OpenFrame) (l : Load) → IsPassed kind line X es f l → IsRight kind line X es false f
@@ -112,13 +107,13 @@ module _ (kind : LineKind) (line : Line) (X : ℕ) (es : List Entry) where
       let P : OpenFrame → Type 0 = λ z. Asks kind line X es above z
       × IsRight kind line X es (nat_eq (0 + 1) (length (g ∷ []))) z in
       let B : Bool → Type 0 = λ b. IsRight kind line X es b g in
-      subst P (one_frame g f e) (h.0, subst B (sym (eq-eqb (0 + 1) (length (g ∷ [])) (omega arith))) h.1)
-  at_of above (g ∷ []) h (suc j) f e = absurd (none_there j f e)
+      subst P (same_Some g f e) (h.0, subst B (sym (eq-eqb (0 + 1) (length (g ∷ [])) (omega arith))) h.1)
+  at_of above (g ∷ []) h (suc j) f e = absurd (get_none j f e)
   at_of above (g ∷ (k ∷ fs)) h zero f e =
       let P : OpenFrame → Type 0 = λ z. Asks kind line X es above z
       × IsRight kind line X es (nat_eq (0 + 1) (length (g ∷ (k ∷ fs)))) z in
       let B : Bool → Type 0 = λ b. IsRight kind line X es b g in
-      subst P (one_frame g f e) (
+      subst P (same_Some g f e) (
         h.0,
         subst B (sym (ne_eqb (0 + 1) (length (g ∷ (k ∷ fs))) (λ q. omega (arith, q))))
             h.1,
@@ -148,7 +143,7 @@ module _ (kind : LineKind) (line : Line) (X : ℕ) (es : List Entry) where
       (all_of None (all_tasks line) t.0 t.1.passed t.1.deepest t.1.leads t.1.deep (λ g s m. s)) in
       let r = at_of None fs a j f e in
       record {
-        asked = asked_of fs j f (get_within fs j f e) r.0;
+        asked = asked_of fs j f (slice_get_within fs j f e) r.0;
         belongs = r.1.belongs;
         last = r.1.last;
         covers = r.1.covers;
@@ -158,9 +153,9 @@ module _ (kind : LineKind) (line : Line) (X : ℕ) (es : List Entry) where
       → IsFirstLate cites (length es) x → ⊥
   late_not P R most c cites x f h =
       let l : (l : Load) × (slice_get f.loads h.place ≡ Some l) =
-      get_some f.loads h.place (omega (arith, f.as_many, get_within cites h.place x h.there)) in
+      get_some f.loads h.place (omega (arith, f.as_many, slice_get_within cites h.place x h.there)) in
       let y : Cites es x (rest R l.0) (most - 1) c = f.cited h.place x l.0 h.there l.1 in
-      omega (arith, h.late, get_within es x y.entry y.there)
+      omega (arith, h.late, slice_get_within es x y.entry y.there)
 
   -- a frame with a fault isn't right
   pub not_right : (fs : List OpenFrame) (j : ℕ) (f : OpenFrame) (why : FrameFault) (units : ℕ)
@@ -180,7 +175,7 @@ module _ (kind : LineKind) (line : Line) (X : ℕ) (es : List Entry) where
       → IsTrailOf kind line X es fs → ⊥
   frame_not fs steps j why r t = not_right fs j r.frame why r.more r.fails (right_of fs t j r.frame r.there)
 
-first_of : (ps : List OpenFrame) (d : OpenFrame) → (f : OpenFrame) × (slice_get (ps ++ d ∷ []) 0 ≡ Some f)
+pub first_of : (ps : List OpenFrame) (d : OpenFrame) → (f : OpenFrame) × (slice_get (ps ++ d ∷ []) 0 ≡ Some f)
 first_of [] d = (d, refl)
 first_of (p ∷ ps) d = (p, refl)
 

@@ -24,7 +24,8 @@ use Rattle.line_check.specs.declared.types.Verified.{Verified}
 use Rattle.line_check.specs.declared.types.Verified.TheVariants as verified
 use Rattle.line_check.proofs.ListFacts.{refused_not}
 use Rattle.line_check.proofs.RefusalFacts.{balance_not, frame_not, allowed_of}
-use Rattle.line_check.proofs.UnitFacts.{one_sum, entries_more, frames_spend}
+use Rattle.line_check.proofs.UnitFacts.{entries_more, frames_spend}
+use Rattle.line_rules.proofs.Monotone.{entries_same}
 
 module _ (kind : LineKind) (line : Line) (ok : IsLine line) (a : Ask) (lower upper : ℕ) (b : Assignment)
     (es : List Entry) where
@@ -61,7 +62,7 @@ module _ (kind : LineKind) (line : Line) (ok : IsLine line) (a : Ask) (lower upp
     | inl w ↦ omega (arith, entries_more kind line es steps u.0 w u.2.0, u.2.2)
     | inr w ↦ omega (
       arith,
-      one_sum line es w.0 u.0 w.1.0.1 u.2.0,
+      entries_same line es w.0 u.0 w.1.0.1 u.2.0,
       w.1.0.2,
       frames_spend line left.cycle kind es left.frames (steps - w.0) u.1 w.1.2.1 u.2.1,
       u.2.2,
@@ -147,7 +148,7 @@ list_spends kind line es (Some t) steps x h u = elim h [
   | inl w ↦ omega (arith, entries_more kind line es steps u.0 w u.2.0, u.2.2)
   | inr w ↦ omega (
     arith,
-    one_sum line es w.0 u.0 w.1.1 u.2.0,
+    entries_same line es w.0 u.0 w.1.1 u.2.0,
     w.1.2,
     frames_spend line t.cycle kind es t.frames (steps - w.0) u.1 w.2 u.2.1,
     u.2.2,

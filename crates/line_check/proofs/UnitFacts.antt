@@ -1,7 +1,7 @@
 -- Where the steps ended, an accepted certificate has more units.
 use Rattle.std.proofs.Common.{◌≡◌, ℕ, zero, suc, ◌+◌, ◌-◌, ◌<◌, ◌≤◌, List, [], ◌∷◌, take, refl, subst, arith, Some}
-use Rattle.std.proofs.Common.{None}
 use Rattle.std.specs.Prelude.{slice_get}
+use Rattle.std.proofs.lemmas.Option.{same_Some}
 use Rattle.line_instance.specs.Line.{Line}
 use Rattle.line_rules.specs.Loads.{IsLoad}
 use Rattle.line_rules.specs.Entries.{IsOpen}
@@ -12,21 +12,11 @@ use Rattle.line_rules.specs.declared.types.OpenFrame.{OpenFrame}
 use Rattle.line_rules.specs.declared.types.Trail.{Trail}
 use Rattle.line_rules.specs.declared.types.Why.{Why}
 use Rattle.line_rules.specs.declared.types.Why.TheVariants as why
-use Rattle.line_rules.proofs.Monotone.{units_same}
+use Rattle.line_rules.proofs.Monotone.{units_same, entries_same}
 use Rattle.line_check.specs.Frames.{WalksTo, NeedsTo, is_deepest, AreFramesEnded}
 use Rattle.line_check.specs.Lists.{AreStepsEnded}
 use Rattle.line_check.specs.Faults.{Ends}
 use Rattle.line_check.proofs.Exact.{not_past}
-
--- entries have one number of units
-pub one_sum : (line : Line) (es : List Entry) (a b : ℕ) → UnitsOf line es a → UnitsOf line es b → a ≡ b
-one_sum line es a b p q = units_same line es None a b (a, 0, (p, refl, omega arith)) (b, 0, (q, refl, omega arith))
-
-one_entry : (x y : Entry) → Some x ≡ Some y → x ≡ y
-one_entry x y e = cc
-
-one_frame : (x y : OpenFrame) → Some x ≡ Some y → x ≡ y
-one_frame x y e = cc
 
 -- the units of the entries before one of a list and its own are at most those of the list
 pub units_at : (line : Line) (es : List Entry) (k : ℕ) (e : Entry) (before all : ℕ) → slice_get es k ≡ Some e
@@ -35,10 +25,10 @@ pub units_at : (line : Line) (es : List Entry) (k : ℕ) (e : Entry) (before all
 units_at line [] k e before all there u w = absurd (cc)
 units_at line (x ∷ es) zero e before all there u w =
     let P : Entry → Type 0 = λ z. UnitsBy line z z.why w.0 in
-    (w.0, (subst P (one_entry x e there) w.2.0, omega (arith, u, w.2.2)))
+    (w.0, (subst P (same_Some x e there) w.2.0, omega (arith, u, w.2.2)))
 units_at line (x ∷ es) (suc k) e before all there u w =
     let r : (b : ℕ) × (UnitsBy line e e.why b × (u.1 + b ≤ w.1)) = units_at line es k e u.1 w.1 there u.2.1 w.2.1 in
-    let same : u.0 ≡ w.0 = one_sum line (x ∷ []) u.0 w.0 (u.0, 0, (u.2.0, refl, omega arith))
+    let same : u.0 ≡ w.0 = entries_same line (x ∷ []) u.0 w.0 (u.0, 0, (u.2.0, refl, omega arith))
     (w.0, 0, (w.2.0, refl, omega arith)) in
     (r.0, (r.1.0, omega (arith, r.1.1, same, u.2.2, w.2.2)))
 
@@ -72,7 +62,7 @@ module _ (line : Line) (X : ℕ) where
   frame_units_at [] k f before all there u w = absurd (cc)
   frame_units_at (x ∷ fs) zero f before all there u w =
       let P : OpenFrame → Type 0 = λ z. FrameUnits line X z w.0 in
-      (w.0, (subst P (one_frame x f there) w.2.0, omega (arith, u, w.2.2)))
+      (w.0, (subst P (same_Some x f there) w.2.0, omega (arith, u, w.2.2)))
   frame_units_at (x ∷ fs) (suc k) f before all there u w =
       let r : (b : ℕ) × (FrameUnits line X f b × (u.1 + b ≤ w.1)) = frame_units_at fs k f u.1 w.1 there u.2.1 w.2.1 in
       (r.0, (r.1.0, omega (arith, r.1.1, one_frame_units x u.0 w.0 u.2.0 w.2.0, u.2.2, w.2.2)))

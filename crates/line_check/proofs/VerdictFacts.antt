@@ -1,6 +1,7 @@
 -- What a verdict on a certificate says of the line.
 use Rattle.std.proofs.Common.{◌≡◌, ℕ, ◌≤◌, Bool, List, [], ◌∷◌, ◌++◌, sym, ap, ◌∙◌, subst, inl, inr, Some}
 use Rattle.std.specs.Prelude.{slice_get}
+use Rattle.std.proofs.lemmas.Option.{same_Some}
 use Rattle.line_instance.specs.Line.{Line, IsLine, tasks}
 use Rattle.line_rules.specs.Accepted.{MayBegin, HasTrail, ClaimIsAccepted, ClaimIsInfeasible}
 use Rattle.line_rules.specs.Balance.{all_tasks}
@@ -21,14 +22,11 @@ use Rattle.line_check.specs.declared.types.Place.TheVariants as place
 use Rattle.line_check.specs.declared.types.Verified.{Verified}
 use Rattle.line_check.specs.declared.types.Verified.TheVariants as verified
 
-one_frame : (x y : OpenFrame) → Some x ≡ Some y → x ≡ y
-one_frame x y e = cc
-
 module _ (kind : LineKind) (line : Line) (X : ℕ) (es : List Entry) (R : List Bool) (most : ℕ) where
   head_of : (ps : List OpenFrame) (d f : OpenFrame) → Leads kind line X es R most ps d.set d.most
       → slice_get (ps ++ d ∷ []) 0 ≡ Some f → f.most ≡ most
-  head_of [] d f l e = ap (λ (z : OpenFrame). z.most) (sym (one_frame d f e)) ∙ l.1
-  head_of (p ∷ ps) d f l e = ap (λ (z : OpenFrame). z.most) (sym (one_frame p f e)) ∙ l.1.1
+  head_of [] d f l e = ap (λ (z : OpenFrame). z.most) (sym (same_Some d f e)) ∙ l.1
+  head_of (p ∷ ps) d f l e = ap (λ (z : OpenFrame). z.most) (sym (same_Some p f e)) ∙ l.1.1
 
   -- a trail begins with the stations of its first frame
   pub head_most : (fs : List OpenFrame) (f : OpenFrame) → IsTrail kind line X es R most fs → slice_get fs 0 ≡ Some f

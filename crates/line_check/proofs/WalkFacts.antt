@@ -13,8 +13,8 @@ use Rattle.line_rules.specs.declared.types.Load.{Load}
 use Rattle.line_rules.specs.declared.types.Entry.{Entry}
 use Rattle.line_rules.proofs.CoverFacts.{counts_none, counts_same, covers_none, covers_same}
 use Rattle.line_rules.proofs.Paths.{all_up_to, covers_pass, covers_skip, covers_cite, units_push}
-use Rattle.line_rules.proofs.LemmasHold.{get_within}
 use Rattle.std.proofs.lemmas.List.{take_all}
+use Rattle.std.proofs.lemmas.Option.{slice_get_within}
 use Rattle.line_check.specs.Walks.{IsUncovered, IsPast, CountsTo, CoversBefore, Tells}
 use Rattle.line_check.specs.Reaches.{HasEnded}
 use Rattle.line_check.specs.declared.types.Walked.{Walked}
@@ -90,7 +90,7 @@ module _ (kind : LineKind) (line : Line) (ranked : IsRanked line) (c : ℕ) (mod
             covers = subst N q (subst P (sym (take_push cites taken x e))
                 (covers_cite kind line c mode R earlier most (take taken cites) l x o y walk_before));
             counts = walk_counts;
-            within = omega (arith, get_within cites taken x e);
+            within = omega (arith, slice_get_within cites taken x e);
           }
 
       pub walk_takes : (more : ℕ) → Takes kind line c mode R most earlier cites l taken more

@@ -18,6 +18,7 @@ use Rattle.line_rules.specs.declared.types.Side.TheVariants.{Front, Back}
 use Rattle.line_rules.proofs.All.{In-all, In-all_lt}
 use Rattle.line_drawing.specs.Segments.{is_side, stands, tasks_at, times_of}
 use Rattle.line_drawing.specs.Figures.{sum_at}
+use Rattle.line_rules.proofs.Ranks.{or_none}
 
 -- an item of a list, whatever is given past its end
 pub same_item : (xs : List ℕ) (k a d : ℕ) → k < length xs → get_or xs k a ≡ get_or xs k d
@@ -29,10 +30,6 @@ same_item (x ∷ xs) (suc k) a d l = same_item xs k a d (omega (arith, l))
 abbrev pub picked : (ℕ → Bool) → List ℕ → ℕ → Bool
 picked f [] i = false
 picked f (x ∷ xs) i = (nat_eq x i && f x) || picked f xs i
-
-or_none : (b : Bool) (c : Bool) → c ≡ false → ((true && b) || c) ≡ b
-or_none true c e = refl
-or_none false c e = e
 
 -- each task differs from the later ones
 tail_pairs : (R : ℕ → ℕ → Type 0) (x : ℕ) (xs : List ℕ) → AllPairs R (x ∷ xs) → AllPairs R xs

@@ -2,7 +2,7 @@
 use Rattle.std.proofs.Common.{◌≡◌, ℕ, zero, suc, ◌+◌, ◌*◌, ◌/◌, ◌≤◌, Bool, true, false, ◌&&◌, not, nat_eq, nat_le, List}
 use Rattle.std.proofs.Common.{refl, sym, ap, ◌∙◌, arith}
 use Rattle.std.proofs.Math.Nat.{mul-div-le, div-le_of_le-mul}
-use Rattle.std.proofs.lemmas.Bool.{and_parts, and_from, false≢true}
+use Rattle.std.proofs.lemmas.Bool.{and_parts, and_from, false≢true, le-leb, leb-true}
 use Rattle.std.proofs.lemmas.Bool.Decides.{nat_tests}
 use Rattle.task_set.specs.Truths.{In}
 use Rattle.line_instance.specs.Line.{Line, has}
@@ -25,12 +25,6 @@ sums_to line places (suc n) = sums_to line places n + sum_at line places (suc n)
 abbrev within : Line → List Seatplace → ℕ → ℕ → Bool
 within line places n i = has (all_tasks line) i && nat_le (seat places i).station n
 
-pub le_from : (a b : ℕ) → nat_le a b ≡ true → a ≤ b
-le_from a b e = grind (arith, nat_tests, e)
-
-from_le : (a b : ℕ) → a ≤ b → nat_le a b ≡ true
-from_le a b l = grind (arith, nat_tests, l)
-
 -- of a truth and a test of a number up to one more: the last one, and those below
 last_one : (a : Bool) (m n : ℕ) → ((a && nat_le m (suc n)) && nat_eq m (suc n)) ≡ (a && nat_eq m (suc n))
 last_one true m n = grind (arith, nat_tests)
@@ -49,7 +43,7 @@ module _ (line : Line) (places : List Seatplace) (first : (i : ℕ) → In (all_
       none i = same_truth (within line places 0 i) false
           (λ e. let q : (has (all_tasks line) i ≡ true) × (nat_le (seat places i).station 0 ≡ true) =
           and_parts (has (all_tasks line) i) (nat_le (seat places i).station 0) e in
-          absurd (omega (arith, first i q.0, le_from (seat places i).station 0 q.1)))
+          absurd (omega (arith, first i q.0, leb-true (seat places i).station 0 q.1)))
           (λ e. absurd (false≢true e))
   sums_within (suc n) =
       let last : ℕ → Bool = λ i. nat_eq (seat places i).station (suc n) in
@@ -72,7 +66,7 @@ module _ (line : Line) (places : List Seatplace) (first : (i : ℕ) → In (all_
       each i = same_truth (within line places n i) (has (all_tasks line) i)
           (λ e. (and_parts (has (all_tasks line) i) (nat_le (seat places i).station n) e).0)
           (λ m. and_from (has (all_tasks line) i) (nat_le (seat places i).station n) m
-          (from_le (seat places i).station n (last i m)))
+          (le-leb (seat places i).station n (last i m)))
 
 -- what is idle, and the sums, fill the stations
 idle_and_sums : (line : Line) (c : ℕ) (places : List Seatplace) → ((k : ℕ) → sum_at line places k ≤ c) → (n : ℕ)

@@ -2,12 +2,11 @@
 use Rattle.std.proofs.Common.{◌≡◌, ℕ, zero, suc, ◌+◌, ◌*◌, ◌<◌, ◌≤◌, Bool, true, false, cond, ◌&&◌, nat_eq, nat_le, max}
 use Rattle.std.proofs.Common.{List, [], ◌∷◌, ◌++◌, length, length-append, Some, refl, arith}
 use Rattle.std.specs.Prelude.{filter, slice_get}
-use Rattle.std.proofs.lemmas.Bool.{eqb-true}
+use Rattle.std.proofs.lemmas.Bool.{eqb-true, leb-true}
 use Rattle.std.proofs.lemmas.Bool.Decides.{nat_tests}
 use Rattle.line_instance.specs.Line.{Line, IsLine, IsRanked, has, tasks}
 use Rattle.line_instance.specs.Sums.{sum_where}
 use Rattle.line_instance.proofs.Sums.{weigh-most}
-use Rattle.load_facts.proofs.SumsOverMembers.{below_least}
 use Rattle.line_rules.specs.Accepted.{upper_cycle}
 use Rattle.line_rules.specs.Balance.{IsRight, all_tasks, seat}
 use Rattle.line_rules.specs.Ranges.{IsAsked, IsClaim, IsCycle, IsInRange, IsPlacing}
@@ -30,10 +29,11 @@ use Rattle.line_drawing.specs.Drawing.{station_text}
 use Rattle.line_drawing.specs.Facts.{AreTrue, ClaimIsRight, HasRightBalance, claim_stations, stations_of}
 use Rattle.line_drawing.proofs.DrawingFacts.{shown_cycle}
 use Rattle.line_drawing.proofs.NoteFacts.{digits_few}
-use Rattle.line_drawing.proofs.NumberFacts.{has_room, le_from, true_numbers}
+use Rattle.line_drawing.proofs.NumberFacts.{has_room, true_numbers}
 use Rattle.line_drawing.proofs.SegmentFacts.{length-backs, length-fronts}
 use Rattle.line_drawing.proofs.SizeFacts.{AreSmall, IsSmall, around_fits, note_most, row_most}
 use Rattle.line_drawing.proofs.StationFacts.{true_at}
+use Rattle.line_rules.proofs.BoundIsTrue.{greatest_le}
 
 -- one for a truth
 abbrev as_one : Bool → ℕ
@@ -55,13 +55,13 @@ filter_most f (x ∷ xs) = omega (arith, filter_first (f x) x (filter f xs), one
 -- a number is k, or above it, or neither
 tests : (k m : ℕ) (a b c : Bool) → nat_eq m k ≡ a → nat_le (suc k) m ≡ b → nat_le k m ≡ c
     → as_one a + as_one b ≤ as_one c
-tests k m true true c p q r = absurd (omega (arith, eqb-true m k p, le_from (suc k) m q))
+tests k m true true c p q r = absurd (omega (arith, eqb-true m k p, leb-true (suc k) m q))
 tests k m true false true p q r = omega arith
 tests k m true false false p q r = (let over : m < k = grind (arith, nat_tests, r) in
     absurd (omega (arith, eqb-true m k p, over)))
 tests k m false true true p q r = omega arith
 tests k m false true false p q r = (let over : m < k = grind (arith, nat_tests, r) in
-    absurd (omega (arith, le_from (suc k) m q, over)))
+    absurd (omega (arith, leb-true (suc k) m q, over)))
 tests k m false false c p q r = omega arith
 
 one_of : (side : Side) (k m : ℕ) → as_one (is_side side Front && nat_eq m k) + as_one
@@ -149,7 +149,7 @@ module _ (kind : LineKind) (line : Line) (c : ℕ) (b : Assignment) (ok : IsLine
   sum_small p = omega (arith, weigh-most (λ t. t) p 200000000000000 line.times (λ i l. ok.times i), ok.small)
 
   notes_most : longest_note line c b.place b.stations ≤ 40
-  notes_most = below_least b.stations (λ k. length (note_of (segments_at line c b.place (k + 1)))) 40
+  notes_most = greatest_le b.stations (λ k. length (note_of (segments_at line c b.place (k + 1)))) 40
       (λ k. (note_most (segments_at line c b.place (k + 1)) (few (k + 1))).1)
 
   abbrev f : Figures
@@ -169,7 +169,7 @@ module _ (kind : LineKind) (line : Line) (c : ℕ) (b : Assignment) (ok : IsLine
   longest_small : longest_of line b.place b.stations < 1000000000000000000
   longest_small = omega (
     arith,
-    below_least b.stations (λ k. sum_at line b.place (k + 1)) 999999999999999999
+    greatest_le b.stations (λ k. sum_at line b.place (k + 1)) 999999999999999999
         (λ k. omega (arith, sum_small (λ i. has (all_tasks line) i && nat_eq (seat b.place i).station (k + 1)))),
   )
 

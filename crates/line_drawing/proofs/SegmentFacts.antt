@@ -1,7 +1,8 @@
 -- Where the segments of listed tasks stand, by their places in the lists.
-use Rattle.std.proofs.Common.{◌≡◌, ℕ, zero, suc, ◌+◌, ◌-◌, ◌<◌, ◌≤◌, List, [], ◌∷◌, ◌++◌, length, get_or, take, drop}
+use Rattle.std.proofs.Common.{◌≡◌, ℕ, zero, suc, ◌+◌, ◌-◌, ◌<◌, ◌≤◌, List, [], ◌∷◌, ◌++◌, length, take, drop}
 use Rattle.std.proofs.Common.{Some, refl, sym, ap, ◌∙◌, subst, ◌⊎◌, inl, inr, arith, add-one}
 use Rattle.std.specs.Prelude.{All, filter, slice_get}
+use Rattle.std.proofs.lemmas.Option.{slice_get-get_or, same_Some}
 use Rattle.line_instance.specs.Line.{Line, time}
 use Rattle.line_rules.specs.declared.types.Side.TheVariants.{Front, Back}
 use Rattle.line_drawing.specs.declared.segments.Segment.{Segment}
@@ -9,15 +10,6 @@ use Rattle.line_drawing.specs.Segments.{backs_of, end_of, fronts_from, position,
 use Rattle.line_drawing.specs.Rows.{is_of}
 use Rattle.line_drawing.specs.Facts.{IsTrueLength}
 use Rattle.line_drawing.proofs.Positions.{rises, most, start, both_fit, between_above, between_below}
-
-some_same : {X : Type 0} (x y : X) → Some x ≡ Some y → x ≡ y
-some_same x y e = cc e
-
--- the item at a place within a list
-pub get_from : {X : Type 0} (xs : List X) (k : ℕ) (d : X) → k < length xs → slice_get xs k ≡ Some (get_or xs k d)
-get_from [] k d l = absurd (omega arith)
-get_from (x ∷ xs) zero d l = refl
-get_from (x ∷ xs) (suc k) d l = get_from xs k d (omega (arith, l))
 
 -- an item of two lists together is one of the first, or one of the second
 pub get_cases : {X : Type 0} (xs ys : List X) (p : ℕ) (x : X) → slice_get (xs ++ ys) p ≡ Some x
@@ -78,7 +70,7 @@ module _ (line : Line) (c : ℕ) where
       → IsFrontAt sum is p s
   front_at sum [] p s e = absurd (cc)
   front_at sum (i ∷ is) zero s e =
-      subst (λ r. IsFrontAt sum (i ∷ is) zero r) (some_same _ s e)
+      subst (λ r. IsFrontAt sum (i ∷ is) zero r) (same_Some _ s e)
       (record {
         from = sum;
         to = sum + time line i;
@@ -109,7 +101,7 @@ module _ (line : Line) (c : ℕ) where
   pub front_has : (sum : ℕ) (is : List ℕ) (p i : ℕ) → slice_get is p ≡ Some i
       → (s : Segment) × ((slice_get (fronts_from line c sum is) p ≡ Some s) × (s.task ≡ i))
   front_has sum [] p i e = absurd (cc)
-  front_has sum (j ∷ is) zero i e = (_, (refl, some_same j i e))
+  front_has sum (j ∷ is) zero i e = (_, (refl, same_Some j i e))
   front_has sum (j ∷ is) (suc p) i e = front_has (sum + time line j) is p i e
 
   pub length-fronts : (sum : ℕ) (is : List ℕ) → length (fronts_from line c sum is) ≡ length is
@@ -132,7 +124,7 @@ module _ (line : Line) (c : ℕ) where
   pub back_at : (is : List ℕ) (p : ℕ) (s : Segment) → slice_get (backs_of line c is) p ≡ Some s → IsBackAt is p s
   back_at [] p s e = absurd (cc)
   back_at (i ∷ is) zero s e =
-      subst (λ r. IsBackAt (i ∷ is) zero r) (some_same _ s e)
+      subst (λ r. IsBackAt (i ∷ is) zero r) (same_Some _ s e)
       (record {
         from = time line i + times_of line is;
         to = times_of line is;
@@ -163,7 +155,7 @@ module _ (line : Line) (c : ℕ) where
   pub back_has : (is : List ℕ) (p i : ℕ) → slice_get is p ≡ Some i
       → (s : Segment) × ((slice_get (backs_of line c is) p ≡ Some s) × (s.task ≡ i))
   back_has [] p i e = absurd (cc)
-  back_has (j ∷ is) zero i e = (_, (refl, some_same j i e))
+  back_has (j ∷ is) zero i e = (_, (refl, same_Some j i e))
   back_has (j ∷ is) (suc p) i e = back_has is p i e
 
   pub length-backs : (is : List ℕ) → length (backs_of line c is) ≡ length is
@@ -307,4 +299,4 @@ module _ (line : Line) (c : ℕ) where
     ]
 
     pub all_within : All (λ s. end_of s ≤ 800) (fronts_from line c 0 fs ++ backs_of line c bs)
-    all_within = λ p d l. within_at p _ (get_from (fronts_from line c 0 fs ++ backs_of line c bs) p d l)
+    all_within = λ p d l. within_at p _ (slice_get-get_or (fronts_from line c 0 fs ++ backs_of line c bs) p d l)

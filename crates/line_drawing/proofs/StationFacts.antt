@@ -7,7 +7,7 @@ use Rattle.std.proofs.lemmas.Bool.{false≢true, cases_lt, and_parts, and_from}
 use Rattle.std.proofs.lemmas.Bool.Decides.{nat_tests}
 use Rattle.std.proofs.lemmas.List.Elements.{filter-append, filter_passes}
 use Rattle.std.proofs.lemmas.List.Kept.{AllPairs-filter}
-use Rattle.std.proofs.lemmas.Option.{get_or_from_slice_get, slice_get_within}
+use Rattle.std.proofs.lemmas.Option.{get_or_from_slice_get, slice_get_within, slice_get-get_or}
 use Rattle.task_set.specs.Truths.{In}
 use Rattle.line_instance.specs.Line.{Line, IsLine, IsRanked, Before, at_rank, tasks, time}
 use Rattle.line_rules.specs.Balance.{IsRight, IsSide, Keeps, all_tasks, seat}
@@ -27,7 +27,7 @@ use Rattle.line_drawing.proofs.ListedTasks.{same_item, both_sides, order_differs
 use Rattle.line_drawing.proofs.SegmentFacts.{IsBackAt, IsFrontAt, back_at, back_backs, back_clear, back_fronts}
 use Rattle.line_drawing.proofs.SegmentFacts.{back_has, back_last, back_length, back_meet, back_within, both_clear}
 use Rattle.line_drawing.proofs.SegmentFacts.{front_at, front_backs, front_clear, front_first, front_fronts, front_has}
-use Rattle.line_drawing.proofs.SegmentFacts.{front_length, front_meet, front_within, get_behind, get_cases, get_from}
+use Rattle.line_drawing.proofs.SegmentFacts.{front_length, front_meet, front_within, get_behind, get_cases}
 use Rattle.line_drawing.proofs.SegmentFacts.{length-backs, length-fronts}
 
 -- an item of a list of which all pass, passes
@@ -189,7 +189,7 @@ module _ (kind : LineKind) (line : Line) (c : ℕ) (b : Assignment) (ok : IsLine
       rank = ranked.rank i l
 
       ranked_there : slice_get line.order rank.0 ≡ Some i
-      ranked_there = get_from line.order rank.0 0 (omega (arith, rank.1, ranked.many)) ∙ ap Some rank.2
+      ranked_there = slice_get-get_or line.order rank.0 0 (omega (arith, rank.1, ranked.many)) ∙ ap Some rank.2
 
       by : (side : Side) → (seat b.place i).side ≡ side → (p : ℕ)
           × ((s : Segment) × (slice_get (segments_at line c b.place k) p ≡ Some s) × (s.task ≡ i))

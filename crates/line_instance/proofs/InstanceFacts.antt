@@ -16,7 +16,7 @@ use Rattle.line_instance.proofs.KeptPartners.{partners_along}
 use Rattle.line_instance.specs.declared.arcs.Prec.{Prec}
 
 -- a walk after a walk
-walk_on : (arcs : List Prec) {i j k : ℕ} → Walk arcs i j → Walk arcs j k → Walk arcs i k
+pub walk_on : (arcs : List Prec) {i j k : ℕ} → Walk arcs i j → Walk arcs j k → Walk arcs i k
 walk_on arcs v (arc l) = on v l
 walk_on arcs v (on w l) = on (walk_on arcs v w) l
 

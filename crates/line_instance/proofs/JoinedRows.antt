@@ -3,25 +3,18 @@ use Rattle.std.proofs.Common.{◌≡◌, ℕ, ◌+◌, ◌<◌, ◌≤◌, Bool,
 use Rattle.std.proofs.Common.{replicate, refl, sym, ap, ◌∙◌, subst, ◌⊎◌, inl, inr, arith}
 use Rattle.std.specs.List.{Contains}
 use Rattle.std.proofs.Math.ListN.{length-set}
-use Rattle.std.proofs.lemmas.List.{get_or-set_same, get_or-set_other, get_or-replicate, get_or_past, length-replicate}
+use Rattle.std.proofs.lemmas.List.{get_or-set_same, get_or-set_other, get_or_past, length-replicate}
 use Rattle.std.proofs.lemmas.List.Elements.{Contains-append_left, Contains-append_right, Contains-append_cases}
 use Rattle.std.proofs.lemmas.Bool.{cases_eq, cases_lt, false≢true}
 use Rattle.std.proofs.lemmas.List.FromFn.{length-map-range_with_len, get_or-map-range_with_len}
 use Rattle.std.proofs.lemmas.Bool.{ltb-true, lt-ltb}
 use Rattle.std.specs.Prelude.{ltb}
 use Rattle.task_set.specs.Truths.{In, union, IsGreatestBelow, full_to}
-use Rattle.task_set.proofs.Members.{In-set_same, In-set_kept, In-set_cases, In-union_left, In-union_right}
+use Rattle.task_set.proofs.Members.{In-set_same, In-set_kept, In-set_cases, In-union_left, In-union_right, In-empty}
 use Rattle.task_set.proofs.Members.{In-union_cases}
 use Rattle.line_instance.specs.Walks.{at}
 use Rattle.line_instance.specs.inner.Inside.{AreRows, AreEmpty, AreDirect, IsJoined, AreJoined, IsWhole}
 use Rattle.line_instance.specs.declared.arcs.Prec.{Prec}
-
--- nothing is in the empty set
-pub nothing_in : (n i : ℕ) → In (replicate n false) i → ⊥
-nothing_in n i m = elim (cases_lt i n) [
-  | inl l ↦ false≢true (sym (get_or-replicate n i false false l) ∙ m)
-  | inr g ↦ false≢true (sym (get_or_past (replicate n false) i false (omega (arith, length-replicate n false))) ∙ m)
-]
 
 -- the numbers below n
 pub full_members : (n i : ℕ) → n ≤ 1024 → (In (full_to n) i → i < n) × (i < n → In (full_to n) i)
@@ -94,7 +87,7 @@ marked_rows n rows t i a l m =
 none_in : (n : ℕ) (rows : List (List Bool)) → length rows ≡ n
     → ((t : ℕ) → t < n → get_or rows t [] ≡ replicate 1024 false) → (i t : ℕ) → In (get_or rows t []) i → ⊥
 none_in n rows m e i t l = elim (cases_lt t n) [
-  | inl h ↦ nothing_in 1024 i (sym (ap (λ r. get_or r i false) (e t h)) ∙ l)
+  | inl h ↦ In-empty 1024 i (sym (ap (λ r. get_or r i false) (e t h)) ∙ l)
   | inr g ↦ false≢true (sym (ap (λ r. get_or r i false) (get_or_past rows t [] (omega arith))) ∙ l)
 ]
 
@@ -153,7 +146,7 @@ pub none_joined : (direct : List Bool) (rows : List (List Bool)) → ((j : ℕ) 
 none_joined direct rows h = record {
   truths = length-replicate 1024 false;
   few = omega arith;
-  from = λ i m. absurd (nothing_in 1024 i m);
+  from = λ i m. absurd (In-empty 1024 i m);
   all = λ i j l d w. absurd (omega (arith, h j d));
 }
 

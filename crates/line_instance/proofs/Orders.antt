@@ -5,10 +5,9 @@ use Rattle.std.proofs.Math.ListN.{get_or-append, length-set}
 use Rattle.std.proofs.lemmas.List.{get_or_push, length-replicate}
 use Rattle.std.proofs.lemmas.Bool.{cases_eq, cases_lt, cases_Bool, false≢true}
 use Rattle.task_set.specs.Truths.{In}
-use Rattle.task_set.proofs.Members.{In-set_same, In-set_kept, In-set_cases}
+use Rattle.task_set.proofs.Members.{In-set_same, In-set_kept, In-set_cases, In-empty}
 use Rattle.line_instance.specs.Walks.{at}
 use Rattle.line_instance.specs.inner.Inside.{MayCome, IsLeastFree, IsOrdering, IsWhole, IsStuck, StandsBelow}
-use Rattle.line_instance.proofs.JoinedRows.{nothing_in}
 
 -- how many are in s
 unfoldable pub size : List Bool → ℕ
@@ -79,7 +78,7 @@ none_ordered direct = record {
       ready = λ k i h d. absurd (omega arith);
       least = λ k t h l n r. absurd (omega arith);
     };
-    stands = λ t m. absurd (nothing_in 1024 t m);
+    stands = λ t m. absurd (In-empty 1024 t m);
     holds = λ k h. absurd (omega arith);
   };
   count = size-none 1024;

@@ -5,10 +5,9 @@ use Rattle.std.proofs.Math.ListN.{get_or-append, length-set}
 use Rattle.std.proofs.lemmas.List.{get_or_push, length-replicate}
 use Rattle.std.proofs.lemmas.Bool.{cases_eq, cases_lt, cases_Bool, false≢true}
 use Rattle.task_set.specs.Truths.{In, IsSubset, minus}
-use Rattle.task_set.proofs.Members.{In-set_same, In-set_kept, In-set_cases, In-minus}
+use Rattle.task_set.proofs.Members.{In-set_same, In-set_kept, In-set_cases, In-minus, In-empty}
 use Rattle.line_instance.specs.Walks.{at, IsRingOf}
 use Rattle.line_instance.specs.inner.Inside.{LeadsIn, IsBackWalk, IsAppended}
-use Rattle.line_instance.proofs.JoinedRows.{nothing_in}
 use Rattle.line_instance.proofs.Orders.{size, size-set, size-most}
 
 -- all direct tasks are placed, or one is left
@@ -39,7 +38,7 @@ none_walked direct placed task l n = record {
   leads = λ k h. absurd (omega arith);
   last = λ k h. absurd (omega arith);
   once = λ k m h j e. absurd (omega arith);
-  stands = λ t m. absurd (nothing_in 1024 t m);
+  stands = λ t m. absurd (In-empty 1024 t m);
   holds = λ k h. absurd (omega arith);
 }
 

@@ -5,8 +5,7 @@ use Rattle.std.proofs.Common.{zero-add}
 use Rattle.line_instance.specs.Sums.{weigh, sum_where}
 use Rattle.line_instance.specs.Line.{has}
 use Rattle.task_set.specs.Truths.{In, IsGreatestBelow}
-use Rattle.std.proofs.lemmas.Bool.Decides.{nat_tests}
-use Rattle.std.proofs.lemmas.Bool.{false≢true, and_parts, and_from, not-true, cases_Bool, eqb-false}
+use Rattle.std.proofs.lemmas.Bool.{false≢true, and_parts, and_from, not-true, cases_Bool, eqb-false, ltb-true, lt-ltb}
 
 cond_le : (t : ℕ) (a b : Bool) → (a ≡ true → b ≡ true) → cond a t 0 ≤ cond b t 0
 cond_le t true true h = omega arith
@@ -139,23 +138,17 @@ weigh-most w p m (t ∷ ts) h = omega (
   weigh-most w (λ i. p (suc i)) m ts (λ i l. h (suc i) (omega arith)),
 )
 
-lt_true : (a b : ℕ) → a < b → nat_lt a b ≡ true
-lt_true a b l = grind (arith, nat_tests, l)
-
-lt_from : (a b : ℕ) → nat_lt a b ≡ true → a < b
-lt_from a b e = grind (arith, nat_tests, e)
-
 -- whether i is a member of s below b
 abbrev pub below : List Bool → ℕ → ℕ → Bool
 below s b i = has s i && nat_lt i b
 
 pub below_true : (s : List Bool) (b i : ℕ) → In s i → i < b → below s b i ≡ true
-below_true s b i m l = and_from (has s i) (nat_lt i b) m (lt_true i b l)
+below_true s b i m l = and_from (has s i) (nat_lt i b) m (lt-ltb i b l)
 
 pub below_parts : (s : List Bool) (b i : ℕ) → below s b i ≡ true → In s i × (i < b)
 below_parts s b i e =
     let q : (has s i ≡ true) × (nat_lt i b ≡ true) = and_parts (has s i) (nat_lt i b) e in
-    (q.0, lt_from i b q.1)
+    (q.0, ltb-true i b q.1)
 
 pub below_false : (s : List Bool) (b i : ℕ) → (In s i → i < b → ⊥) → below s b i ≡ false
 below_false s b i n = elim (cases_Bool (below s b i)) [

@@ -6,7 +6,7 @@ use Rattle.std.proofs.lemmas.List.{ext_get_or, get_or_read, length-replicate}
 use Rattle.std.proofs.lemmas.Bool.{cases_eq, cases_lt, cases_Bool}
 use Rattle.task_set.specs.Truths.{In}
 use Rattle.task_set.proofs.Counts.{same_members}
-use Rattle.task_set.proofs.Members.{In-set_cases}
+use Rattle.task_set.proofs.Members.{In-set_cases, In-empty}
 use Rattle.line_instance.specs.Line.{Line, IsLine, IsRanked, tasks, at_rank, Before}
 use Rattle.line_instance.specs.Walks.{Leads, Walk, arc, on, IsRing, at, arc_at, AreArcs}
 use Rattle.line_instance.specs.Ranks.{AreRanks, IsFree, IsPlaced}
@@ -18,10 +18,9 @@ use Rattle.line_instance.specs.declared.arcs.Prec.{Prec}
 use Rattle.line_instance.specs.declared.making.Made.TheVariants.{Good, NoTasks, TooManyTasks, BadTime, BadArc, Cycle}
 use Rattle.line_instance.specs.declared.making.Made.TheVariants.{NoMemory}
 use Rattle.line_instance.proofs.Sums.{same_truth}
-use Rattle.line_instance.proofs.JoinedRows.{nothing_in}
 use Rattle.line_instance.proofs.Orders.{size, size-set, size-below, size-none, find_left}
 
-not_in : (s : List Bool) (i : ℕ) → (In s i → ⊥) → get_or s i false ≡ false
+pub not_in : (s : List Bool) (i : ℕ) → (In s i → ⊥) → get_or s i false ≡ false
 not_in s i n = elim (cases_Bool (get_or s i false)) [ inl y ↦ absurd (n y) | inr x ↦ x ]
 
 module _ (line : Line) (shape : IsLine line) (r : AreRanks line) where
@@ -47,7 +46,7 @@ module _ (line : Line) (shape : IsLine line) (r : AreRanks line) where
   holds : (k : ℕ) → k ≤ tasks line → (s : List Bool) × IsHeld k s
   holds zero l = (
     replicate 1024 false,
-    record { truths = length-replicate 1024 false; many = size-none 1024; held = λ t m. absurd (nothing_in 1024 t m) },
+    record { truths = length-replicate 1024 false; many = size-none 1024; held = λ t m. absurd (In-empty 1024 t m) },
   )
   holds (suc k) l =
       let old : (s : List Bool) × IsHeld k s = holds k (omega arith) in
@@ -102,7 +101,7 @@ pub ranks_are_permutation : RanksArePermutation
 ranks_are_permutation = permutation
 
 -- sets of tasks with the same members, and rows of such sets
-same_set : (a b : List Bool) → length a ≡ 1024 → length b ≡ 1024 → ((i : ℕ) → In a i → In b i)
+pub same_set : (a b : List Bool) → length a ≡ 1024 → length b ≡ 1024 → ((i : ℕ) → In a i → In b i)
     → ((i : ℕ) → In b i → In a i) → a ≡ b
 same_set a b l m h k = ext_get_or false a b (l ∙ sym m) (λ i w.
     same_truth (get_or a i false) (get_or b i false) (h i) (k i))

@@ -2,13 +2,14 @@
 use Rattle.std.proofs.Common.{◌≡◌, ℕ, zero, suc, ◌<◌, Bool, true, false, cond, List, [], ◌∷◌, ◌++◌, length, get_or, set}
 use Rattle.std.proofs.Common.{Some, None, refl, sym, ◌∙◌, ap, arith, bytes_eq}
 use Rattle.std.proofs.lemmas.Slice.Eq.{bytes_eq-Decides}
+use Rattle.std.proofs.lemmas.List.{get_or_default}
 use Rattle.line_io.specs.Kept.{NamedFile, file_in, name_at}
 use Rattle.line_io.specs.inner.Places.{IsPlace}
 
 alike : (a b : List ℕ) → a ≡ b → bytes_eq a b ≡ true
 alike a b e = (bytes_eq-Decides a b).1 e
 
-unlike : (a b : List ℕ) → (a ≡ b → ⊥) → bytes_eq a b ≡ false
+pub unlike : (a b : List ℕ) → (a ≡ b → ⊥) → bytes_eq a b ≡ false
 unlike a b n =
     let I : (t : Bool) → bytes_eq a b ≡ t → bytes_eq a b ≡ false =
     elim [ true ↦ (λ e. absurd (n ((bytes_eq-Decides a b).0 e))) | false ↦ (λ e. e) ] in
@@ -52,11 +53,6 @@ others_at [] q k g d h e i r n = absurd (omega arith)
 others_at (f ∷ fs) q zero g d h e i r n = miss g fs r (λ m. n (sym m ∙ i)) ∙ sym (miss f fs r (λ m. n (sym m ∙ e)))
 others_at (f ∷ fs) q (suc k) g d h e i r n = same_rest f (set fs k g) fs r (others_at fs q k g d (omega arith) e i r n)
 
-same_default : (fs : List NamedFile) (k : ℕ) (c d : NamedFile) → k < length fs → get_or fs k c ≡ get_or fs k d
-same_default [] k c d h = absurd (omega arith)
-same_default (f ∷ fs) zero c d h = refl
-same_default (f ∷ fs) (suc k) c d h = same_default fs k c d (omega arith)
-
 abbrev nameless : NamedFile
 nameless = record { name = []; bytes = [] }
 
@@ -68,7 +64,7 @@ set_there (g ∷ fs) (suc k) f d h = set_there fs k f d (omega arith)
 pub place : (fs : List NamedFile) (q : List ℕ) (k : ℕ) (c : NamedFile) → k < length fs → NoneBefore fs q k
     → (get_or fs k c).name ≡ q → IsPlace fs q k
 place fs q k c h b e =
-    let named : (d : NamedFile) → (get_or fs k d).name ≡ q = λ d. ap (λ f. f.name) (same_default fs k d c h) ∙ e in
+    let named : (d : NamedFile) → (get_or fs k d).name ≡ q = λ d. ap (λ f. f.name) (get_or_default fs k d c h) ∙ e in
     record {
       within = h;
       name = named;

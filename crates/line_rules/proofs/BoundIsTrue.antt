@@ -31,7 +31,7 @@ sixths_join : (c : ℕ) → 1 ≤ c → (a b : ℕ) → a + b ≤ c → sixths c
 unfolding sixths
 sixths_join c o a b l = grind (arith, nat_tests)
 
-sixths_whole : (c t : ℕ) → sixths c t ≤ 6
+pub sixths_whole : (c t : ℕ) → sixths c t ≤ 6
 unfolding sixths
 sixths_whole c t = grind (arith, nat_tests)
 
@@ -57,7 +57,7 @@ counted c p (t ∷ ts) = counted_more c (p 0) t (weigh (halves c) (λ i. p (suc 
     (count_where (λ t. nat_lt c (2 * t)) (λ i. p (suc i)) ts) (count_where (λ t. nat_eq (2 * t) c) (λ i. p (suc i)) ts)
     (counted c (λ i. p (suc i)) ts)
 
-greatest_le : (n : ℕ) (f : ℕ → ℕ) (r : ℕ) → ((j : ℕ) → f j ≤ r) → greatest_below n f ≤ r
+pub greatest_le : (n : ℕ) (f : ℕ → ℕ) (r : ℕ) → ((j : ℕ) → f j ≤ r) → greatest_below n f ≤ r
 greatest_le zero f r h = omega arith
 greatest_le (suc n) f r h = omega (arith, h n, greatest_le n f r h)
 
@@ -164,16 +164,16 @@ module _ (line : Line) (c : ℕ) (positive : 1 ≤ c) (R : List Bool) (r : ℕ) 
   around_le : head line c R j + tail line c R j - 1 ≤ r
   around_le = omega (arith, head_le, tail_le, b.first j in_R, b.last j in_R)
 
-cond_le_bound : (t : Bool) (x r : ℕ) → (t ≡ true → x ≤ r) → cond t x 0 ≤ r
-cond_le_bound true x r h = h refl
-cond_le_bound false x r h = omega arith
+pub cond_le : (t : Bool) (x r : ℕ) → (t ≡ true → x ≤ r) → cond t x 0 ≤ r
+cond_le true x r h = h refl
+cond_le false x r h = omega arith
 
 chained_le : (kind : LineKind) (line : Line) (c : ℕ) → 1 ≤ c → (R : List Bool) (r : ℕ) (place : ℕ → Seatplace)
     → IsBalance kind line c R r place → chained kind line c R ≤ r
 unfolding chained
 chained_le Straight line c o R r place b =
     greatest_le (tasks line) (λ j. cond (has R j) (head line c R j + tail line c R j - 1) 0) r
-    (λ j. cond_le_bound (has R j) (head line c R j + tail line c R j - 1) r (λ m. around_le line c o R r place b j m))
+    (λ j. cond_le (has R j) (head line c R j + tail line c R j - 1) r (λ m. around_le line c o R r place b j m))
 chained_le U line c o R r place b = omega arith
 
 -- a set has a member, or its count is 0

@@ -8,12 +8,9 @@ use Rattle.line_rules.specs.Order.{Precedes, Lists, Counts}
 use Rattle.line_rules.specs.Entries.{Cites, Covers}
 use Rattle.line_rules.specs.declared.types.Load.{Load}
 use Rattle.line_rules.specs.declared.types.Entry.{Entry}
-use Rattle.line_rules.proofs.ListFacts.{get_longer, get_push_cases, get_last}
+use Rattle.line_rules.proofs.ListFacts.{get_longer, get_push_cases, get_last, get_none}
 
-pub get_none : {X : Type 0} (k : ℕ) (x : X) → slice_get [] k ≡ Some x → ⊥
-get_none k x e = cc
-
-lists_same : (line : Line) (P Q : Load → Type 0) (ls : List Load) → ((l : Load) → P l → Q l) → ((l : Load) → Q l → P l)
+pub lists_same : (line : Line) (P Q : Load → Type 0) (ls : List Load) → ((l : Load) → P l → Q l) → ((l : Load) → Q l → P l)
     → Lists line P ls → Lists line Q ls
 lists_same line P Q ls f g h = record {
   rises = h.rises;

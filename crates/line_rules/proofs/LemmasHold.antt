@@ -1,7 +1,8 @@
 -- In a derived list every entry holds.
-use Rattle.std.proofs.Common.{◌≡◌, ℕ, zero, suc, ◌-◌, ◌<◌, ◌≤◌, List, [], ◌∷◌, length, set, take, refl, inl, inr, arith}
+use Rattle.std.proofs.Common.{◌≡◌, ℕ, zero, suc, ◌-◌, ◌<◌, ◌≤◌, List, set, take, inl, inr, arith}
 use Rattle.std.proofs.Common.{Some}
 use Rattle.std.specs.Prelude.{slice_get}
+use Rattle.std.proofs.lemmas.Option.{slice_get_within}
 use Rattle.line_instance.specs.Line.{Line, IsLine, IsTaskSet}
 pub use Rattle.line_rules.proofs.ListFacts.{get_take}
 use Rattle.line_rules.specs.Balance.{Holds}
@@ -16,18 +17,9 @@ use Rattle.line_rules.specs.declared.types.Why.TheVariants as why
 use Rattle.line_rules.proofs.SubBalance.{restricted}
 use Rattle.line_rules.proofs.BoundIsTrue.{bound_le}
 use Rattle.line_rules.proofs.FullLoadExists.{step}
+use Rattle.line_rules.proofs.ListFacts.{get_some}
 use Rattle.line_rules.proofs.Swap.{swapped, swap_seats}
 use Rattle.std.proofs.lemmas.Bool.{cases_lt}
-
-pub get_within : {X : Type 0} (xs : List X) (k : ℕ) (x : X) → slice_get xs k ≡ Some x → k < length xs
-get_within [] k x e = absurd (cc)
-get_within (y ∷ ys) zero x e = omega arith
-get_within (y ∷ ys) (suc k) x e = omega (arith, get_within ys k x e)
-
-pub get_some : {X : Type 0} (xs : List X) (k : ℕ) → k < length xs → (x : X) × (slice_get xs k ≡ Some x)
-get_some [] k l = absurd (omega arith)
-get_some (y ∷ ys) zero l = (y, refl)
-get_some (y ∷ ys) (suc k) l = get_some ys k (omega arith)
 
 -- Bound: the bound exceeds `most`
 by_bound : (kind : LineKind) (line : Line) (e : Entry) → 1 ≤ e.cycle → e.most < bound kind line e.cycle e.set
@@ -47,7 +39,7 @@ by_branch kind line ok earlier e mode cites set o held f place b =
           let p : (k : ℕ) × (slice_get f.covers.loads k ≡ Some l) =
           f.covers.listed.complete l (record { load = load; full = full; bound = under }) in
           let q : (x : ℕ) × (slice_get cites p.0 ≡ Some x) =
-          get_some cites p.0 (omega (arith, f.covers.as_many, get_within f.covers.loads p.0 l p.1)) in
+          get_some cites p.0 (omega (arith, f.covers.as_many, slice_get_within f.covers.loads p.0 l p.1)) in
           let g : Cites earlier q.0 (rest e.set l) (e.most - 1) e.cycle = f.covers.cited p.0 q.0 l q.1 p.1 in
           held q.0 g.entry g.there place' (restricted kind line e.cycle g.entry.cycle (rest e.set l) g.entry.set
           (e.most - 1) g.entry.most place' g.cycle g.stations g.part b')

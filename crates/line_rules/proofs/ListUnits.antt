@@ -1,5 +1,5 @@
--- The entries of a derived list have a number of units.
-use Rattle.std.proofs.Common.{◌≡◌, ℕ, suc, ◌+◌, List, [], ◌∷◌, length, refl, Some}
+-- The entries of a derived list have a number of units, and those of two lists have the sum.
+use Rattle.std.proofs.Common.{◌≡◌, ℕ, suc, ◌+◌, List, [], ◌∷◌, ◌++◌, length, refl, subst, arith, Some}
 use Rattle.std.specs.Prelude.{slice_get}
 use Rattle.line_instance.specs.Line.{Line, IsLine, IsRanked, IsTaskSet}
 use Rattle.line_rules.specs.Entries.{IsDerived}
@@ -34,3 +34,12 @@ module _ (line : Line) (ok : IsLine line) (ranked : IsRanked line) where
   pub derived_counted : (kind : LineKind) (es : List Entry) → IsDerived kind line es
       → (units : ℕ) × UnitsOf line es units
   derived_counted kind es d = counted es (λ k e h. (d k e h).set)
+
+-- the units of two lists
+pub units_both : (line : Line) (xs ys : List Entry) (a b : ℕ) → UnitsOf line xs a → UnitsOf line ys b
+    → UnitsOf line (xs ++ ys) (a + b)
+units_both line [] ys a b h k =
+    let e : b ≡ a + b = omega (arith, h) in
+    let P : ℕ → Type 0 = λ z. UnitsOf line ys z in
+    subst P e k
+units_both line (x ∷ xs) ys a b h k = (h.0, h.1 + b, (h.2.0, units_both line xs ys h.1 b h.2.1 k, omega (arith, h.2.2)))

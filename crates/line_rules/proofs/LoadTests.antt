@@ -3,8 +3,7 @@ use Rattle.std.proofs.Common.{◌≡◌, ℕ, zero, suc, ◌+◌, ◌-◌, ◌*�
 use Rattle.std.proofs.Common.{nat_lt, List, refl, sym, ap, ◌∙◌, inl, inr, arith}
 use Rattle.std.specs.Prelude.{nat_le}
 use Rattle.std.proofs.lemmas.Bool.{cases_eq, cases_Bool, false≢true, and_parts, and_from, or_left, or_right, not-true}
-use Rattle.std.proofs.lemmas.Bool.{not_from_false, false_from_ne_true, ltb-true, lt-ltb}
-use Rattle.std.proofs.lemmas.Bool.Decides.{nat_tests}
+use Rattle.std.proofs.lemmas.Bool.{not_from_false, false_from_ne_true, ltb-true, lt-ltb, le-leb, leb-true}
 use Rattle.task_set.specs.Truths.{In}
 use Rattle.task_set.proofs.Members.{In-union_cases}
 use Rattle.line_instance.specs.Line.{Line, IsTaskSet, IsRanked, tasks, has, at_rank, is_before, is_apart}
@@ -103,13 +102,7 @@ empty_so : (n : ℕ) (s : List Bool) → ((i : ℕ) → In s i → ⊥) → ever
 empty_so n s h = every_so n (λ i. not (has s i)) (λ i l. not_from_false (has s i)
     (false_from_ne_true (has s i) (λ t. h i t)))
 
-is_le : (a b : ℕ) → nat_le a b ≡ true → a ≤ b
-is_le a b h = grind (arith, nat_tests, h)
-
-yes_le : (a b : ℕ) → a ≤ b → nat_le a b ≡ true
-yes_le a b h = grind (arith, nat_tests, h)
-
-not_true : (b : Bool) → (b ≡ true → ⊥) → not b ≡ true
+pub not_true : (b : Bool) → (b ≡ true → ⊥) → not b ≡ true
 not_true b h = not_from_false b (false_from_ne_true b h)
 
 module _ (line : Line) (small : tasks line ≤ 1024) (ranked : IsRanked line) (c : ℕ) (R : List Bool)
@@ -160,7 +153,7 @@ module _ (line : Line) (small : tasks line ≤ 1024) (ranked : IsRanked line) (c
             (where_is (has l.front i) (not (has l.back i)) (every_is (tasks line)
             (λ i. where_so (has l.front i) (not (has l.back i))) q3.0 i (p.front.tasks i f)) f)) ∙ b);
         some = any_is (tasks line) (λ i. has (taken l) i) q4.0;
-        fits = is_le (sum_where (has (taken l)) line.times) c q5.0;
+        fits = leb-true (sum_where (has (taken l)) line.times) c q5.0;
         parted = λ i j a b e.
             let x : every (tasks line) (λ j. where_so (has (taken l) j) (not (is_apart line i j))) ≡ true =
             where_is (has (taken l) i) (every (tasks line) (λ j. where_so (has (taken l) j) (not (is_apart line i j))))
@@ -217,7 +210,7 @@ module _ (line : Line) (small : tasks line ≤ 1024) (ranked : IsRanked line) (c
       (λ i w. so_where (has l.front i) (not (has l.back i)) (λ m. not_true (has l.back i) (f.disjoint i m))))
       (and_from b4 (b5 && (b6 && (b7 && b8))) (any_so (tasks line) (λ i. has (taken l) i) f.some.0
       (taken_task l p f.some.0 f.some.1) f.some.1)
-      (and_from b5 (b6 && (b7 && b8)) (yes_le (sum_where (has (taken l)) line.times) c f.fits)
+      (and_from b5 (b6 && (b7 && b8)) (le-leb (sum_where (has (taken l)) line.times) c f.fits)
       (and_from b6 (b7 && b8) (every_so (tasks line) (λ i. where_so (has (taken l) i)
       (every (tasks line) (λ j. where_so (has (taken l) j) (not (is_apart line i j)))))
       (λ i w. so_where (has (taken l) i) (every (tasks line)

@@ -3,7 +3,7 @@ use Rattle.std.proofs.Common.{◌≡◌, ℕ, ◌-◌, Bool, List, [], ◌∷◌
 use Rattle.line_instance.specs.Line.{Line}
 pub use Rattle.line_rules.proofs.ListFacts.{get_longer, get_push_cases}
 use Rattle.line_rules.specs.Loads.{rest}
-use Rattle.line_rules.specs.Entries.{IsOpen, Covers, Cites, FollowsBy, Follows, IsDerived}
+use Rattle.line_rules.specs.Entries.{IsOpen, Covers, Cites, FollowsBy, Follows, IsDerived, HasAnswer}
 use Rattle.line_rules.specs.declared.types.LineKind.{LineKind}
 use Rattle.line_rules.specs.declared.types.Load.{Load}
 use Rattle.line_rules.specs.declared.types.Entry.{Entry}
@@ -76,3 +76,8 @@ derived_push kind line es e d f k x g = elim (get_push_cases es e x k g) [
       let Q : Entry → Type 0 = λ y. Follows kind line es y in
       subst P (sym t) (subst Q q.1 f)
 ]
+
+-- what answers a question answers it in a longer list
+pub has_longer : (es more : List Entry) (set : List Bool) (most X : ℕ) → HasAnswer es set most X
+    → HasAnswer (es ++ more) set most X
+has_longer es more set most X h = (h.0, h.1, (get_longer es more h.0 h.1 h.2.0, h.2.1))

@@ -17,10 +17,7 @@ use Rattle.line_rules.specs.declared.types.Side.TheVariants as side
 use Rattle.line_rules.specs.declared.types.Seatplace.{Seatplace}
 use Rattle.line_instance.proofs.Orders.{size, size-set, size-below}
 use Rattle.line_instance.proofs.Sums.{weigh-none}
-
-cond_le : (b : Bool) (x y : ℕ) → (b ≡ true → x ≤ y) → cond b x 0 ≤ y
-cond_le true x y h = h refl
-cond_le false x y h = omega arith
+use Rattle.line_rules.proofs.BoundIsTrue.{cond_le}
 
 cond_none : (b : Bool) (x : ℕ) → b ≡ false → cond b x 0 ≡ 0
 cond_none true x e = absurd (cc)

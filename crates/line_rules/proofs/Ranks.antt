@@ -166,7 +166,7 @@ has_pick f (x ∷ ps) i p (inl a) t e =
     (eq-eqb x.task i (ap (λ y. y.task) (sym a) ∙ t)) (ap f (sym a) ∙ e))
 has_pick f (x ∷ ps) i p (inr h) t e = or_right (nat_eq x.task i && f x) (picks f ps i) (has_pick f ps i p h t e)
 
-or_none : (b : Bool) (c : Bool) → c ≡ false → ((true && b) || c) ≡ b
+pub or_none : (b : Bool) (c : Bool) → c ≡ false → ((true && b) || c) ≡ b
 or_none true c e = refl
 or_none false c e = e
 

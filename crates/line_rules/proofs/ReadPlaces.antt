@@ -1,7 +1,6 @@
 -- Places read from a list, and what a test of them says of the definition.
-use Rattle.std.proofs.Common.{◌≡◌, ℕ, ◌+◌, ◌<◌, ◌≤◌, List, Some, sym, subst, inl, inr, arith}
+use Rattle.std.proofs.Common.{◌≡◌, ℕ, ◌<◌, ◌≤◌, List, Some, sym, subst}
 use Rattle.std.specs.List.{slice_get}
-use Rattle.std.proofs.lemmas.Bool.{cases_eq}
 use Rattle.std.proofs.lemmas.Option.{get_or_from_slice_get}
 use Rattle.line_instance.specs.Line.{Line, Before, tasks}
 use Rattle.line_rules.specs.Balance.{Keeps, seat}
@@ -37,10 +36,3 @@ module _ (kind : LineKind) (line : Line) (b : Assignment) (small : tasks line �
       let P : Seatplace → Type 0 = λ s. Keeps kind s q in
       let Q : Seatplace → Type 0 = λ s. Keeps kind (seat b.place i) s in
       subst Q (seat_read b.place j q qj) (subst P (seat_read b.place i p pi) k)
-
--- what holds below n and at n holds below n + 1
-pub one_more : (P : ℕ → Type 0) (n : ℕ) → ((k : ℕ) → k < n → P k) → P n → (k : ℕ) → k < n + 1 → P k
-one_more P n below at k l = elim (cases_eq k n) [
-  | inl e ↦ subst P (sym e) at
-  | inr d ↦ below k (omega arith)
-]

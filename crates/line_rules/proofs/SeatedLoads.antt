@@ -298,7 +298,7 @@ seated_last line c R l load ls s = record {
 }
 
 -- the loads of frames that lead from R to R', around seated loads of R'
-around_seated : (kind : LineKind) (line : Line) (c : ℕ) (m : Mode) (R : List Bool) (l : Load) → Belongs kind m
+pub around_seated : (kind : LineKind) (line : Line) (c : ℕ) (m : Mode) (R : List Bool) (l : Load) → Belongs kind m
     → IsLoad line c m R l → (ls : List Load) → AreSeated kind line c (rest R l) ls
     → AreSeated kind line c R (around m (Some l) ls)
 around_seated Straight line c mode.Fore R l b load ls s = seated_first Straight line c mode.Fore R l load ls s b

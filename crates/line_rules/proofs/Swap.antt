@@ -12,6 +12,7 @@ use Rattle.line_instance.proofs.Sums.{weigh-le, weigh-split, weigh-one, weigh-no
 use Rattle.std.proofs.lemmas.Bool.{cases_eq, and_parts, and_from, false≢true, eqb-true, eqb-false, eq-eqb, ne_eqb}
 use Rattle.std.proofs.lemmas.Bool.{not-true, and_right}
 use Rattle.std.proofs.lemmas.List.{get_or-set_same, get_or-set_other}
+use Rattle.line_rules.proofs.BoundIsTrue.{cond_le}
 
 pub swapped : (ℕ → Seatplace) → ℕ → ℕ → ℕ → Seatplace
 swapped place out into i = cond (nat_eq i into) (place out) (place i)
@@ -49,10 +50,6 @@ keeps_itself : (kind : LineKind) (p : Seatplace) → Keeps kind p p
 keeps_itself Straight p = omega arith
 keeps_itself U p = record { front = λ e. (e, omega arith); back = λ e. (e, omega arith) }
 
-seat_le : (b : Bool) (x y : ℕ) → (b ≡ true → x ≤ y) → cond b x 0 ≤ y
-seat_le true x y h = h refl
-seat_le false x y h = omega arith
-
 -- p' picks as p does, but for `into` in the place of `out`
 weigh-swap : (w : ℕ → ℕ) (p q : ℕ → Bool) (out into : ℕ) (ts : List ℕ) → out < length ts → w 0 ≡ 0
     → w (get_or ts into 0) ≤ w (get_or ts out 0)
@@ -69,7 +66,7 @@ weigh-swap w p q out into ts l z less others here =
           let b : (p i ≡ true) × (i ≢ out) = others i (eqb-false i into (not-true (nat_eq i into) a.1)) a.0 in
           and_from (p i) (not (nat_eq i out)) b.0 (ap not (ne_eqb i out b.1))) ts,
       weigh-single w z q into ts,
-      seat_le (q into) (w (get_or ts into 0)) (weigh w (λ i. p i && nat_eq i out) ts)
+      cond_le (q into) (w (get_or ts into 0)) (weigh w (λ i. p i && nat_eq i out) ts)
           (λ e. omega (
             arith,
             less,

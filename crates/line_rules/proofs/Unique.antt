@@ -6,6 +6,7 @@ use Rattle.std.proofs.lemmas.Option.{same_Some}
 use Rattle.line_rules.specs.Order.{truth, Precedes, Lists}
 use Rattle.line_rules.specs.declared.types.Load.{Load}
 use Rattle.std.proofs.lemmas.Bool.{cases_order, false≢true}
+use Rattle.line_rules.proofs.ListFacts.{get_none}
 
 pub precedes_trans : (line : Line) (a b c : Load) → Precedes line a b → Precedes line b c → Precedes line a c
 precedes_trans line a b c p q = elim (cases_order p.at q.at) [
@@ -30,9 +31,6 @@ precedes_trans line a b c p q = elim (cases_order p.at q.at) [
 
 pub precedes_itself : (line : Line) (a : Load) → Precedes line a a → ⊥
 precedes_itself line a p = false≢true (sym p.absent ∙ p.present)
-
-none_at : (k : ℕ) (a : Load) → slice_get [] k ≡ Some a → ⊥
-none_at k a e = cc
 
 get_before : (xs : List Load) (k : ℕ) (a : Load) → slice_get xs (suc k) ≡ Some a
     → (b : Load) × (slice_get xs k ≡ Some b)
@@ -81,9 +79,9 @@ tail_lists line P x xs h = record {
 
 pub unique : (line : Line) (xs ys : List Load) (P : Load → Type 0) → Lists line P xs → Lists line P ys → xs ≡ ys
 unique line [] [] P f g = refl
-unique line [] (y ∷ ys) P f g = absurd (none_at (f.complete y (g.sound 0 y refl)).0 y
+unique line [] (y ∷ ys) P f g = absurd (get_none (f.complete y (g.sound 0 y refl)).0 y
     (f.complete y (g.sound 0 y refl)).1)
-unique line (x ∷ xs) [] P f g = absurd (none_at (g.complete x (f.sound 0 x refl)).0 x
+unique line (x ∷ xs) [] P f g = absurd (get_none (g.complete x (f.sound 0 x refl)).0 x
     (g.complete x (f.sound 0 x refl)).1)
 unique line (x ∷ xs) (y ∷ ys) P f g =
     let e : x ≡ y = heads line P x y xs ys f g in

@@ -13,9 +13,10 @@ use Rattle.lemma_core.specs.Own.{added_of}
 use Rattle.lemma_core.specs.Books.{BookView, IsBook, desk_of, opened}
 use Rattle.station_search.specs.Costs.{HasPublished, AddsFew}
 use Rattle.round_helpers.specs.Growth.{AreAtCycle}
-use Rattle.round_helpers.proofs.AddedEntries.{units_both, cycles_both}
+use Rattle.round_helpers.proofs.AddedEntries.{cycles_both}
 use Rattle.round_run.proofs.BookGain.{goes_on}
 use Rattle.line_seek.specs.inner.Trying.{Gains, IsPaid}
+use Rattle.line_rules.proofs.ListUnits.{units_both}
 
 -- a book that was opened has no entries
 pub paid_none : (about : About) (best : Assignment) (book : BookView) → book ≡ opened about best → IsPaid book 0 0

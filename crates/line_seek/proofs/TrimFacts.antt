@@ -7,7 +7,7 @@ use Rattle.line_rules.specs.Entries.{IsDerived}
 use Rattle.line_rules.specs.Ranges.{AreEntries}
 use Rattle.line_rules.specs.Units.{UnitsOf}
 use Rattle.line_rules.specs.declared.types.Entry.{Entry}
-use Rattle.line_rules.proofs.LemmasHold.{get_some}
+use Rattle.line_rules.proofs.ListFacts.{get_some}
 use Rattle.lemma_core.specs.Own.{AreStatable}
 use Rattle.lemma_core.specs.Books.{BookView}
 use Rattle.cert_files.specs.Trim.{IsTrimmed}

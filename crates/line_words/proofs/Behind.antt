@@ -6,8 +6,6 @@ use Rattle.std.specs.declared.string.String.{String}
 use Rattle.std.specs.declared.alloc.Global.{Global}
 use Rattle.std.proofs.lemmas.List.{take-map, take_all}
 use Rattle.std.proofs.lemmas.Bool.Decides.{nat_tests}
-use Rattle.std.proofs.lemmas.Slice.Eq.{bytes_eq-Decides}
-use Rattle.std.specs.Str.{bytes_eq}
 use Rattle.line_words.specs.Words.{Text, texts}
 use Rattle.line_words.specs.Table.{command_named}
 use Rattle.line_words.specs.Jobs.{fault_at, word_fault, IsFirstFault, IsBehind, IsJobRead}
@@ -85,6 +83,3 @@ one_word (x ∷ ws) b e t h =
     (sym e ∙ t) in
     let r : length (take (length (x ∷ ws) - 1) ws) ≡ length ws = ap length (rest_is (x ∷ ws)) in
     omega (arith, l, r)
-
-pub same_bytes : (xs ys : List ℕ) → bytes_eq xs ys ≡ true → xs ≡ ys
-same_bytes xs ys h = (bytes_eq-Decides xs ys).0 h

@@ -5,6 +5,7 @@ use Rattle.std.specs.Prelude.{slice_index_or, nat_le}
 use Rattle.std.specs.Str.{bytes_eq}
 use Rattle.std.proofs.lemmas.Bool.{and_parts}
 use Rattle.std.proofs.lemmas.Bool.Decides.{nat_tests}
+use Rattle.std.proofs.lemmas.Option.{same_Some, none-some}
 use Rattle.line_io.specs.Lines.{number_in, is_number, value_of as digits_value}
 use Rattle.line_io.specs.declared.text.Num.TheVariants.{Value, NotANumber, Above}
 use Rattle.line_words.specs.Words.{Text, setting, value_by, value_of, or_else, sets}
@@ -20,7 +21,7 @@ use Rattle.line_words.specs.declared.job.Job.{Job}
 use Rattle.line_words.specs.declared.job.Job.TheVariants.{Help, Version, Balance, Solve, Cycle, Check, Convert, Combine}
 use Rattle.line_words.specs.declared.job.Job.TheVariants.{Utility, Timeline, Try, Draw, Effic, EfficCheck, Sequence}
 use Rattle.line_words.specs.declared.job.Job.TheVariants.{SequenceCheck}
-use Rattle.line_words.proofs.Behind.{same_bytes}
+use Rattle.line_io.proofs.ReadFacts.{same_bytes}
 
 -- a setting at some place has the key and the value, which is that of the key in all words up to a place behind it
 pub record IsSetAt (words : List Text) (key value : Text) : Type 0 where
@@ -29,18 +30,12 @@ pub record IsSetAt (words : List Text) (key value : Text) : Type 0 where
   pub is : setting (slice_index_or words place []) ≡ Some (key, value)
   pub behind : (j : ℕ) → place < j → value_of (take j words) key ≡ Some value
 
-none_some : {A : Type 0} (x : A) → None ≡ Some x → ⊥
-none_some x e = cc
-
 true_false : true ≡ false → ⊥
 true_false e = cc
 
-some_same : {A : Type 0} (x y : A) → Some x ≡ Some y → x ≡ y
-some_same x y e = cc
-
 -- the value of a key stands at some place
 pub set_at : (words : List Text) (key value : Text) → value_of words key ≡ Some value → IsSetAt words key value
-set_at [] key value e = absurd (none_some value e)
+set_at [] key value e = absurd (none-some value e)
 set_at (word ∷ words) key value e = by_setting (set_at words key value) (setting word) refl
   where
     goes_on : (s : IsSetAt words key value) → value_by key (setting word) ≡ None → (j : ℕ) → suc s.place < j
@@ -70,8 +65,8 @@ set_at (word ∷ words) key value e = by_setting (set_at words key value) (setti
     by_key f p s true b e = record {
       place = 0;
       within = omega arith;
-      is = s ∙ ap (λ k. Some (k, p.1)) (same_bytes p.0 key b) ∙ ap (λ v. Some (key, v)) (some_same p.1 value e);
-      behind = here p s b (some_same p.1 value e);
+      is = s ∙ ap (λ k. Some (k, p.1)) (same_bytes p.0 key b) ∙ ap (λ v. Some (key, v)) (same_Some p.1 value e);
+      behind = here p s b (same_Some p.1 value e);
     }
     by_key f p s false b e = later f (ap (value_by key) s ∙ ap (λ t. cond t (Some p.1) None) b) e
 
@@ -92,17 +87,17 @@ setting_right command before p e = by_key (takes command p.0) e
 
     by_right : (b : Bool) → cond b None (Some BadValue) ≡ None → b ≡ true
     by_right true e = refl
-    by_right false e = absurd (none_some BadValue (sym e))
+    by_right false e = absurd (none-some BadValue (sym e))
 
     by_before : (b : Bool) → cond b (Some RepeatedKey) (cond right None (Some BadValue)) ≡ None → right ≡ true
-    by_before true e = absurd (none_some RepeatedKey (sym e))
+    by_before true e = absurd (none-some RepeatedKey (sym e))
     by_before false e = by_right right e
 
     by_key : (b : Bool) → cond b (cond (sets before p.0) (Some RepeatedKey) (cond right None (Some BadValue)))
         (Some UnknownKey) ≡ None
         → right ≡ true
     by_key true e = by_before (sets before p.0) e
-    by_key false e = absurd (none_some UnknownKey (sym e))
+    by_key false e = absurd (none-some UnknownKey (sym e))
 
 -- where nothing is wrong with the words, what is set at a place is right by the words before it
 right_at : (command : Command) (words : List Text) (key value : Text) → AreRight command words
@@ -126,17 +121,17 @@ number_most most n text e = by_nought (leads_with_nought text) e
   where
     by_le : (b : Bool) → nat_le (digits_value text) most ≡ b
         → as_value (cond b (Value (digits_value text)) Above) ≡ Some n → n ≤ most
-    by_le true l e = (let s : digits_value text ≡ n = some_same (digits_value text) n e in
+    by_le true l e = (let s : digits_value text ≡ n = same_Some (digits_value text) n e in
         subst (λ k. k ≤ most) s (grind (arith, nat_tests, l)))
-    by_le false l e = absurd (none_some n e)
+    by_le false l e = absurd (none-some n e)
 
     by_number : (b : Bool) → as_value (cond b (cond (nat_le (digits_value text) most) (Value (digits_value text)) Above)
         NotANumber) ≡ Some n → n ≤ most
     by_number true e = by_le (nat_le (digits_value text) most) refl e
-    by_number false e = absurd (none_some n e)
+    by_number false e = absurd (none-some n e)
 
     by_nought : (b : Bool) → cond b None (as_value (number_in most text)) ≡ Some n → n ≤ most
-    by_nought true e = absurd (none_some n e)
+    by_nought true e = absurd (none-some n e)
     by_nought false e = by_number (is_number text) e
 
 by_value : (least most : ℕ) (text : Text) (o : Option ℕ) → number_up_to most text ≡ o → is_least least o ≡ true
@@ -198,7 +193,7 @@ set_in_order words right v w e f = by_places (ends_are s.place t.place)
     t = set_at words (codes "most") w f
 
     same_place : s.place ≡ t.place → ⊥
-    same_place p = other (some_same (codes "least", v) (codes "most", w)
+    same_place p = other (same_Some (codes "least", v) (codes "most", w)
         (sym s.is ∙ ap (λ k. setting (slice_index_or words k [])) p ∙ t.is))
       where
         other : ◌≡◌ {A = Text × Text} (codes "least", v) (codes "most", w) → ⊥

@@ -1,5 +1,5 @@
 -- Words, one by one.
-use Rattle.std.proofs.Common.{◌≡◌, ◌≢◌, ◌∙◌, ℕ, zero, suc, ◌+◌, ◌<◌, ◌||◌, ◌&&◌, Bool, true, false, cond, nat_eq, List}
+use Rattle.std.proofs.Common.{◌≡◌, ◌≢◌, ◌∙◌, ℕ, zero, suc, ◌+◌, ◌<◌, ◌||◌, ◌&&◌, Bool, true, false, cond, List}
 use Rattle.std.proofs.Common.{[], ◌∷◌, ◌++◌, length, get_or, drop, map, refl, sym, ap, arith, add-one, Option, Some}
 use Rattle.std.proofs.Common.{None, option_map, string_bytes}
 use Rattle.std.specs.Prelude.{MatchOption}
@@ -7,20 +7,17 @@ use Rattle.std.specs.Borrow.{Bor}
 use Rattle.std.specs.Str.{bytes_eq}
 use Rattle.std.specs.declared.string.String.{String}
 use Rattle.std.specs.declared.alloc.Global.{Global}
-use Rattle.std.proofs.lemmas.Bool.Decides.{nat_tests}
+use Rattle.std.proofs.lemmas.Bool.{ne_eqb}
 use Rattle.line_words.specs.Words.{Text, equals_split, onto_front, texts, or_else, value_by, value_of, setting, is_name}
 use Rattle.line_words.specs.Words.{names_of}
 use Rattle.line_words.specs.Table.{one_of, sets_all}
 use Rattle.line_words.specs.Words.{sets}
 use Rattle.line_words.specs.Jobs.{name_at}
 
-pub not_equal : (b c : ℕ) → (b ≡ c → ⊥) → nat_eq b c ≡ false
-not_equal b c n = grind (arith, nat_tests)
-
 pub no_equals : (bytes : List ℕ) → ((k : ℕ) → k < length bytes → get_or bytes k 0 ≢ 61) → equals_split bytes ≡ None
 no_equals [] n = refl
 no_equals (b ∷ bytes) n =
-    ap (λ t. cond t (Some ([], bytes)) (onto_front b (equals_split bytes))) (not_equal b 61 (n 0 (omega arith)))
+    ap (λ t. cond t (Some ([], bytes)) (onto_front b (equals_split bytes))) (ne_eqb b 61 (n 0 (omega arith)))
     ∙ ap (onto_front b) (no_equals bytes (λ k l. n (suc k) (omega arith)))
 
 pub first_equals : (xs ys : List ℕ) → ((k : ℕ) → k < length xs → get_or xs k 0 ≢ 61)
@@ -28,7 +25,7 @@ pub first_equals : (xs ys : List ℕ) → ((k : ℕ) → k < length xs → get_o
 first_equals [] ys n = refl
 first_equals (b ∷ bytes) ys n =
     ap (λ t. cond t (Some ([], bytes ++ 61 ∷ ys)) (onto_front b (equals_split (bytes ++ 61 ∷ ys))))
-    (not_equal b 61 (n 0 (omega arith)))
+    (ne_eqb b 61 (n 0 (omega arith)))
     ∙ ap (onto_front b) (first_equals bytes ys (λ k l. n (suc k) (omega arith)))
 
 -- what std's split at the first `=` gives

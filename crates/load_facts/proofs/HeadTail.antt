@@ -15,7 +15,8 @@ use Rattle.line_rules.specs.Bounds.{up, head, tail, chained}
 use Rattle.line_rules.specs.declared.types.LineKind.{LineKind}
 use Rattle.line_rules.specs.declared.types.LineKind.TheVariants.{Straight, U}
 use Rattle.load_facts.specs.Times.{time_elsewhere}
-use Rattle.load_facts.proofs.SumsOverMembers.{greatest_of, greatest_listed, below_least, picked_le}
+use Rattle.load_facts.proofs.SumsOverMembers.{greatest_of, greatest_listed}
+use Rattle.line_rules.proofs.BoundIsTrue.{cond_le, greatest_le}
 
 -- two numbers need at most r + 1 stations where they sum to at most r cycles and 1
 pub up_pair : (c x y r : ℕ) → 1 ≤ c → x + y ≤ r * c + 1 → up x c + up y c - 1 ≤ r
@@ -319,6 +320,6 @@ pub few_chained : (kind : LineKind) (line : Line) → IsLine line → (c : ℕ) 
 unfolding chained
 few_chained U line ok c o R set r total longest e f l = omega arith
 few_chained Straight line ok c o R set r total longest e f l =
-    below_least (tasks line) (λ j. cond (has R j) (head line c R j + tail line c R j - 1) 0) r
-    (λ j. picked_le (has R j) (head line c R j + tail line c R j - 1) r
+    greatest_le (tasks line) (λ j. cond (has R j) (head line c R j + tail line c R j - 1) 0) r
+    (λ j. cond_le (has R j) (head line c R j + tail line c R j - 1) r
     (λ m. few_beside line ok R set j m c r o (omega (arith, e, l, f j m))))

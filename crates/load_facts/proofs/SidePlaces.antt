@@ -7,9 +7,8 @@ use Rattle.load_facts.specs.Sides.{task_at}
 use Rattle.line_rules.specs.declared.types.Side.{Side}
 use Rattle.load_facts.proofs.SideFacts.{task_once}
 use Rattle.std.proofs.lemmas.Bool.{cases_eq}
-use Rattle.std.proofs.lemmas.List.{length-set, ext_get_or}
+use Rattle.std.proofs.lemmas.List.{length-set}
 use Rattle.task_set.proofs.Members.{In-set_same, In-set_kept, In-set_cases, In-clear, In-clear_kept, In-clear_gone}
-use Rattle.line_instance.proofs.Sums.{same_truth}
 use Rattle.load_facts.specs.Ends.{AreMarked}
 
 -- The places of a part are gone over: they have come but for those of the tasks that are left.
@@ -70,12 +69,6 @@ clear_in a b i e j = (
       (In-clear_kept a i j h, λ q. In-clear_gone a i (ap (λ k. has (set a i false) k) (sym q) ∙ h)),
   λ m. ap (λ x. has x j) e ∙ In-clear a i j m.0 m.1,
 )
-
--- sets with the same members are one
-pub same_set : (a b : List Bool) → length a ≡ 1024 → length b ≡ 1024 → ((i : ℕ) → In a i → In b i)
-    → ((i : ℕ) → In b i → In a i) → a ≡ b
-same_set a b long also from to = ext_get_or false a b (long ∙ sym also)
-    (λ i l. same_truth (has a i) (has b i) (from i) (to i))
 
 pub swap : (line : Line) (s : Side) (T F P : List Bool) → AreMarked line s T F P → AreMarked line s F T P
 swap line s T F P m = record {

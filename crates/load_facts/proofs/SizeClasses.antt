@@ -10,8 +10,9 @@ use Rattle.line_instance.proofs.Sums.{weigh-most}
 use Rattle.line_rules.specs.Bounds.{sixths}
 use Rattle.load_facts.specs.Times.{AreCounts, AreTimes, longest_of}
 use Rattle.load_facts.proofs.SumsOverMembers.{AllIn, all_in_start, all_in_turn, weight_of, weight_start, weight_turn}
-use Rattle.load_facts.proofs.SumsOverMembers.{weight_end, greatest_of, greatest_listed, greatest_end, below_least}
-use Rattle.load_facts.proofs.SumsOverMembers.{below_at, picked_le, weightless}
+use Rattle.load_facts.proofs.SumsOverMembers.{weight_end, greatest_of, greatest_listed, greatest_end}
+use Rattle.load_facts.proofs.SumsOverMembers.{below_at, weightless}
+use Rattle.line_rules.proofs.BoundIsTrue.{sixths_whole, cond_le, greatest_le}
 
 once : (b : Bool) → cond b 1 0 ≤ 1
 once true = omega arith
@@ -38,13 +39,9 @@ sixths_steps c t o = grind (arith, nat_tests, o)
 pub count_most : (test p : ℕ → Bool) (ts : List ℕ) → count_where test p ts ≤ length ts
 count_most test p ts = omega (arith, weigh-most (λ t. cond (test t) 1 0) p 1 ts (λ i l. once (test (get_or ts i 0))))
 
-six : (c t : ℕ) → sixths c t ≤ 6
-unfolding sixths
-six c t = grind (arith, nat_tests)
-
 -- each task counts for at most a whole station
 pub sixths_most : (c : ℕ) (p : ℕ → Bool) (ts : List ℕ) → weigh (sixths c) p ts ≤ length ts * 6
-sixths_most c p ts = weigh-most (sixths c) p 6 ts (λ i l. six c (get_or ts i 0))
+sixths_most c p ts = weigh-most (sixths c) p 6 ts (λ i l. sixths_whole c (get_or ts i 0))
 
 -- each member takes at most the greatest time
 pub longest_least : (line : Line) (R : List Bool) → IsTaskSet line R → (i : ℕ) → In R i
@@ -64,8 +61,8 @@ longest_start line left R h e =
 
 pub longest_most : (line : Line) (R : List Bool) (m : ℕ) → ((i : ℕ) → time line i ≤ m) → longest_of line R ≤ m
 unfolding longest_of
-longest_most line R m h = below_least (tasks line) (λ i. cond (has R i) (time line i) 0) m
-    (λ i. picked_le (has R i) (time line i) m (λ e. h i))
+longest_most line R m h = greatest_le (tasks line) (λ i. cond (has R i) (time line i) 0) m
+    (λ i. cond_le (has R i) (time line i) m (λ e. h i))
 
 -- times over the members of R: the next one fits a sum of 64 bits, and at the end the sum and the greatest are those of
 -- R
@@ -101,30 +98,30 @@ times_end {line} {R} {total} {most} {left} ok set e sum long =
     }
 
 -- how great the counts can be
-pub record Few (line : Line) (long above half six : ℕ) : Type 0 where
+pub record Few (line : Line) (long above half sixths_whole : ℕ) : Type 0 where
   pub too_long : long ≤ length line.times
   pub above_half : above ≤ length line.times
   pub at_half : half ≤ length line.times
-  pub sixths : six ≤ length line.times * 6
+  pub sixths : sixths_whole ≤ length line.times * 6
 
 -- the counts of the members of R that were gone over, and what the listed ones, which are left, add to them
-record Listed (line : Line) (c : ℕ) (R : List Bool) (long above half six : ℕ) (left : List ℕ) : Type 0 where
+record Listed (line : Line) (c : ℕ) (R : List Bool) (long above half sixths_whole : ℕ) (left : List ℕ) : Type 0 where
   too_long : long + weight_of (λ t. cond (nat_lt c t) 1 0) line.times left
       ≡ count_where (λ t. nat_lt c t) (has R) line.times
   above_half : above + weight_of (λ t. cond (nat_lt c (2 * t)) 1 0) line.times left
       ≡ count_where (λ t. nat_lt c (2 * t)) (has R) line.times
   at_half : half + weight_of (λ t. cond (nat_eq (2 * t) c) 1 0) line.times left
       ≡ count_where (λ t. nat_eq (2 * t) c) (has R) line.times
-  sixths : six + weight_of (sixths c) line.times left ≡ weigh (sixths c) (has R) line.times
+  sixths : sixths_whole + weight_of (sixths c) line.times left ≡ weigh (sixths c) (has R) line.times
 
-pub record Counting (line : Line) (c : ℕ) (R : List Bool) (long above half six : ℕ) (left : List ℕ) : Type 0 where
+pub record Counting (line : Line) (c : ℕ) (R : List Bool) (long above half sixths_whole : ℕ) (left : List ℕ) : Type 0 where
   pub members : AllIn R left
-  listed : Listed line c R long above half six left
-  pub few : Few line long above half six
+  listed : Listed line c R long above half sixths_whole left
+  pub few : Few line long above half sixths_whole
 
-counting_of : {line : Line} {c : ℕ} {R : List Bool} {long above half six : ℕ} {left : List ℕ} → AllIn R left
-    → Listed line c R long above half six left → Counting line c R long above half six left
-counting_of {line} {c} {R} {long} {above} {half} {six} {left} all h = record {
+counting_of : {line : Line} {c : ℕ} {R : List Bool} {long above half sixths_whole : ℕ} {left : List ℕ} → AllIn R left
+    → Listed line c R long above half sixths_whole left → Counting line c R long above half sixths_whole left
+counting_of {line} {c} {R} {long} {above} {half} {sixths_whole} {left} all h = record {
   members = all;
   listed = h;
   few = record {
@@ -144,12 +141,12 @@ count_start {line} c {R} {left} set e = counting_of (all_in_start R left e) (rec
   sixths = weight_start (sixths c) line.times left R set.tasks e;
 })
 
-pub count_turn : {line : Line} {c : ℕ} {R : List Bool} {long above half six : ℕ} {left : List ℕ}
-    → Counting line c R long above half six left → {i t p q r w : ℕ} {more : List ℕ} → left ≡ i ∷ more → t ≡ time line i
+pub count_turn : {line : Line} {c : ℕ} {R : List Bool} {long above half sixths_whole : ℕ} {left : List ℕ}
+    → Counting line c R long above half sixths_whole left → {i t p q r w : ℕ} {more : List ℕ} → left ≡ i ∷ more → t ≡ time line i
     → p ≡ bool_byte (nat_lt c t) → q ≡ bool_byte (nat_lt c (2 * t)) → r ≡ bool_byte (nat_eq (2 * t) c) → w ≡ sixths c t
-    → Counting line c R (long + p) (above + q) (half + r) (six + w) more
-count_turn {line} {c} {R} {long} {above} {half} {six} {left} at {i} {t} {p} {q} {r} {w} {more} e is ep eq er ew =
-    let h : Listed line c R long above half six left = at.listed in
+    → Counting line c R (long + p) (above + q) (half + r) (sixths_whole + w) more
+count_turn {line} {c} {R} {long} {above} {half} {sixths_whole} {left} at {i} {t} {p} {q} {r} {w} {more} e is ep eq er ew =
+    let h : Listed line c R long above half sixths_whole left = at.listed in
     let bp : p ≡ cond (nat_lt c (get_or line.times i 0)) 1 0 =
     ep ∙ ap (λ n. bool_byte (nat_lt c n)) is ∙ byte_is (nat_lt c (get_or line.times i 0)) in
     let bq : q ≡ cond (nat_lt c (2 * get_or line.times i 0)) 1 0 =
@@ -179,15 +176,15 @@ count_turn {line} {c} {R} {long} {above} {half} {six} {left} at {i} {t} {p} {q} 
       sixths = omega (
         arith,
         bw,
-        weight_turn (sixths c) line.times left more i six (weigh (sixths c) (has R) line.times)
+        weight_turn (sixths c) line.times left more i sixths_whole (weigh (sixths c) (has R) line.times)
             e h.sixths,
       );
     })
 
-pub count_end : {line : Line} {c : ℕ} {R : List Bool} {long above half six : ℕ} {left : List ℕ}
-    → Counting line c R long above half six left → IsLine line → left ≡ [] → AreCounts line c R long above half six
-count_end {line} {c} {R} {long} {above} {half} {six} {left} at ok e =
-    let h : Listed line c R long above half six left = at.listed in
+pub count_end : {line : Line} {c : ℕ} {R : List Bool} {long above half sixths_whole : ℕ} {left : List ℕ}
+    → Counting line c R long above half sixths_whole left → IsLine line → left ≡ [] → AreCounts line c R long above half sixths_whole
+count_end {line} {c} {R} {long} {above} {half} {sixths_whole} {left} at ok e =
+    let h : Listed line c R long above half sixths_whole left = at.listed in
     record {
       too_long = weight_end (λ t. cond (nat_lt c t) 1 0) line.times left long
           (count_where (λ t. nat_lt c t) (has R) line.times) e h.too_long;
@@ -195,7 +192,7 @@ count_end {line} {c} {R} {long} {above} {half} {six} {left} at ok e =
           (count_where (λ t. nat_lt c (2 * t)) (has R) line.times) e h.above_half;
       at_half = weight_end (λ t. cond (nat_eq (2 * t) c) 1 0) line.times left half
           (count_where (λ t. nat_eq (2 * t) c) (has R) line.times) e h.at_half;
-      sixths = weight_end (sixths c) line.times left six (weigh (sixths c) (has R) line.times) e h.sixths;
+      sixths = weight_end (sixths c) line.times left sixths_whole (weigh (sixths c) (has R) line.times) e h.sixths;
       most_halves = omega (arith, at.few.above_half, ok.small);
       most_half = omega (arith, at.few.at_half, ok.small);
       most_sixths = omega (arith, at.few.sixths, ok.small);

@@ -8,6 +8,7 @@ use Rattle.line_instance.specs.Line.{has}
 use Rattle.line_instance.specs.Sums.{weigh}
 use Rattle.line_instance.proofs.Sums.{weigh-none}
 use Rattle.line_rules.specs.Bounds.{greatest_below}
+use Rattle.line_rules.proofs.BoundIsTrue.{cond_le, greatest_le}
 
 -- the weights of the times of the listed tasks
 abbrev pub weight_of : (ℕ → ℕ) → List ℕ → List ℕ → ℕ
@@ -99,20 +100,12 @@ greatest_from f k (true ∷ bs) (suc i) m = let e : f (k + suc i) ≡ f (suc k +
 greatest_from f k (false ∷ bs) (suc i) m = let e : f (k + suc i) ≡ f (suc k + i) = ap f (omega arith) in
     omega (arith, e, greatest_from f (suc k) bs i m)
 
-pub below_least : (n : ℕ) (f : ℕ → ℕ) (r : ℕ) → ((j : ℕ) → f j ≤ r) → greatest_below n f ≤ r
-below_least zero f r h = omega arith
-below_least (suc n) f r h = omega (arith, h n, below_least n f r h)
-
 pub below_at : (n : ℕ) (f : ℕ → ℕ) (j : ℕ) → j < n → f j ≤ greatest_below n f
 below_at zero f j l = absurd (omega arith)
 below_at (suc n) f j l = elim (cases_lt j n) [
   | inl k ↦ omega (arith, below_at n f j k)
   | inr g ↦ (let e : f j ≡ f n = ap f (omega arith) in omega (arith, e))
 ]
-
-pub picked_le : (b : Bool) (x r : ℕ) → (b ≡ true → x ≤ r) → cond b x 0 ≤ r
-picked_le true x r h = h refl
-picked_le false x r h = omega arith
 
 -- the greatest value at a member, by going over the list or over all numbers below n
 pub greatest_listed : (n : ℕ) (f : ℕ → ℕ) (s : List Bool) → ((i : ℕ) → In s i → i < n)
@@ -122,9 +115,9 @@ greatest_listed n f s h =
     let at_most : greatest_of f (members_of s) ≤ over = greatest_least f over s (members_of s) (all_in s)
     (λ j m. let e : cond (has s j) (f j) 0 ≡ f j = ap (λ b. cond b (f j) 0) m in
     omega (arith, e, below_at n (λ i. cond (has s i) (f i) 0) j (h j m))) in
-    let at_least : over ≤ greatest_of f (members_of s) = below_least n (λ j. cond (has s j) (f j) 0)
+    let at_least : over ≤ greatest_of f (members_of s) = greatest_le n (λ j. cond (has s j) (f j) 0)
     (greatest_of f (members_of s))
-    (λ j. picked_le (has s j) (f j) (greatest_of f (members_of s))
+    (λ j. cond_le (has s j) (f j) (greatest_of f (members_of s))
     (λ m. let e : f (0 + j) ≡ f j = ap f (omega arith) in omega (arith, e, greatest_from f 0 s j m))) in
     omega (arith, at_most, at_least)
 
@@ -154,6 +147,6 @@ pub weightless : (w : ℕ → ℕ) (p : ℕ → Bool) (ts : List ℕ) → ((i : 
 weightless w p [] h = refl
 weightless w p (t ∷ ts) h = omega (
   arith,
-  picked_le (p 0) (w t) 0 (λ e. omega (arith, h 0 (omega arith) e)),
+  cond_le (p 0) (w t) 0 (λ e. omega (arith, h 0 (omega arith) e)),
   weightless w (λ i. p (suc i)) ts (λ i l e. h (suc i) (omega arith) e),
 )

@@ -1,14 +1,12 @@
 -- Entries that are added to entries: their units, their cycles, and the questions that they answer.
-use Rattle.std.proofs.Common.{◌≡◌, ℕ, zero, suc, ◌+◌, ◌≤◌, Bool, List, [], ◌∷◌, ◌++◌, sym, ap, ◌∙◌, subst, inl, inr}
+use Rattle.std.proofs.Common.{◌≡◌, ℕ, zero, suc, ◌+◌, ◌≤◌, Bool, List, [], ◌∷◌, ◌++◌, sym, ap, ◌∙◌, inl, inr}
 use Rattle.std.proofs.Common.{arith, Option}
 use Rattle.line_instance.specs.Line.{Line}
 use Rattle.line_rules.specs.Bounds.{bound}
 use Rattle.line_rules.specs.Entries.{HasAnswer}
-use Rattle.line_rules.specs.Units.{UnitsOf}
 use Rattle.line_rules.specs.declared.types.LineKind.{LineKind}
 use Rattle.line_rules.specs.declared.types.Mode.{Mode}
 use Rattle.line_rules.specs.declared.types.Entry.{Entry}
-use Rattle.line_rules.proofs.ListFacts.{get_longer}
 use Rattle.station_search.specs.Costs.{AreLemmas}
 use Rattle.station_search.specs.Decide.{Decides}
 use Rattle.station_search.specs.declared.answers.Reason.{Reason}
@@ -17,22 +15,9 @@ use Rattle.station_search.specs.declared.answers.Decided.TheVariants as decided
 use Rattle.station_search.proofs.Events.{get_append_cases}
 use Rattle.round_helpers.specs.Growth.{AreAtCycle}
 
--- the units of two lists
-pub units_both : (line : Line) (xs ys : List Entry) (a b : ℕ) → UnitsOf line xs a → UnitsOf line ys b
-    → UnitsOf line (xs ++ ys) (a + b)
-units_both line [] ys a b h k =
-    let e : b ≡ a + b = omega (arith, h) in
-    let P : ℕ → Type 0 = λ z. UnitsOf line ys z in
-    subst P e k
-units_both line (x ∷ xs) ys a b h k = (h.0, h.1 + b, (h.2.0, units_both line xs ys h.1 b h.2.1 k, omega (arith, h.2.2)))
-
 -- both lists are at the cycle
 pub cycles_both : (X : ℕ) (xs ys : List Entry) → AreAtCycle X xs → AreAtCycle X ys → AreAtCycle X (xs ++ ys)
 cycles_both X xs ys h k i e g = elim (get_append_cases xs ys i e g) [ inl a ↦ h i e a | inr b ↦ k b.0 e b.1 ]
-
-pub has_longer : (es more : List Entry) (set : List Bool) (most X : ℕ) → HasAnswer es set most X
-    → HasAnswer (es ++ more) set most X
-has_longer es more set most X h = (h.0, h.1, (get_longer es more h.0 h.1 h.2.0, h.2.1))
 
 -- what answers a question answers it for fewer stations
 pub has_fewer : (es : List Entry) (set : List Bool) (most fewer X : ℕ) → fewer ≤ most → HasAnswer es set most X

@@ -17,15 +17,13 @@ use Rattle.lemma_core.specs.History.{Item, Standing, replay, Begins}
 use Rattle.lemma_core.specs.Desks.{entries, Keeps}
 use Rattle.lemma_core.specs.Own.{AreAt, added_of}
 use Rattle.lemma_core.specs.Books.{BookView, IsBook, IsReserved, desk_of}
-use Rattle.lemma_core.proofs.BookAsDesk.{entries_seen, fewest_seen}
-use Rattle.lemma_core.proofs.HistoryGrows.{entries_go_on, stations_go_on}
-use Rattle.lemma_core.proofs.OwnFacts.{at_longer, entries_added}
+use Rattle.lemma_core.proofs.BookAsDesk.{entries_seen, fewest_seen, roomy_is}
+use Rattle.lemma_core.proofs.HistoryGrows.{entries_go_on, stations_go_on, begins_on}
+use Rattle.lemma_core.proofs.OwnFacts.{at_longer, entries_added, begins_longer}
 use Rattle.book_share.specs.Calls.{IsPassOf}
 use Rattle.book_share.specs.Passes.{Base, PassView, PassOf, desk_by}
 use Rattle.book_share.specs.Places.{AreAllFrom}
 use Rattle.book_share.specs.Rule.{newcomer}
-use Rattle.book_share.proofs.Hands.{roomy_of}
-use Rattle.book_share.proofs.Lists.{begins_length, begins_trans}
 use Rattle.station_search.specs.declared.answers.Units.{Units}
 use Rattle.round_helpers.specs.inner.Equipment.{IsEquipped}
 use Rattle.round_helpers.specs.Growth.{AreAtCycle, Helps}
@@ -49,10 +47,11 @@ use Rattle.round_helpers.specs.declared.piece_work.End.TheVariants as ends
 use Rattle.round_helpers.specs.declared.job_work.Question.{Question}
 use Rattle.round_helpers.specs.declared.teams.Helper.{Helper}
 use Rattle.round_helpers.proofs.AllPlaces.{all_own}
-use Rattle.round_helpers.proofs.AddedEntries.{has_longer}
-use Rattle.round_helpers.proofs.PieceFacts.{get_there, map_there, none_yet, taken_by}
+use Rattle.round_helpers.proofs.PieceFacts.{none_yet, taken_by}
 use Rattle.round_helpers.proofs.Ranges.{at_range}
 use Rattle.round_helpers.proofs.SettleFacts.{settled_left, settled_spent, settled_used}
+use Rattle.line_rules.proofs.ListFacts.{get_some, get_unmap}
+use Rattle.line_rules.proofs.LongerLists.{has_longer}
 
 -- a pass that has seen all of a book's log, and has no own places
 pub bare_first : (share : TableId) (p : PassOf) (book : BookView) → IsPassOf share p → p.view ≡ newcomer book
@@ -76,8 +75,8 @@ pub may_work : (share : TableId) (base : Base) (seen : List Item) (line : Line) 
     → MayAllWork share line question jobs pool hs
 may_work share base seen line question jobs pool us hands hs long as_many few ready about cycle some most are hands_are
     new k h e =
-    let u = get_there us k (omega (arith, long, slice_get_within hs k h e)) in
-    let v = get_there hands k (omega (arith, long, as_many, slice_get_within hs k h e)) in
+    let u = get_some us k (omega (arith, long, slice_get_within hs k h e)) in
+    let v = get_some hands k (omega (arith, long, as_many, slice_get_within hs k h e)) in
     let r = ready k h u.0 v.0 e u.1 v.1 in
     let N : List HandView → Type 0 = λ z. slice_get z k ≡ Some v.0 in
     let H : HandView → Type 0 = λ z. IsHandOf pool z in
@@ -108,7 +107,7 @@ have_worked : (share : TableId) (base : Base) (seen : List Item) (line : Line) (
     → HaveAllWorked share line question jobs pool before after
     → HaveWorked share base seen line question jobs pool us hands after
 have_worked share base seen line question jobs pool us hands before after long ready worked k h u v e f g =
-    let a = get_there before k (omega (arith, long, slice_get_within us k u f)) in
+    let a = get_some before k (omega (arith, long, slice_get_within us k u f)) in
     let r = ready k a.0 u v a.1 f g in
     let B : Base → Type 0 =
     λ z. HasWorked share z a.0.pass.view.seen line question jobs pool a.0.hand a.0.units.left h in
@@ -147,8 +146,8 @@ module _ {share : TableId} {base : Base} {seen : List Item} {line : Line} {quest
       → (u : Units) × (v : HandView) × (slice_get us k ≡ Some u) × (slice_get hands k ≡ Some v)
       × HasWorked share base seen line question jobs pool v u.left h
   worked_at k h e =
-      let u = get_there us k (omega (arith, t.long, slice_get_within hs k h e)) in
-      let v = get_there hands k (omega (arith, t.long, t.as_many, slice_get_within hs k h e)) in
+      let u = get_some us k (omega (arith, t.long, slice_get_within hs k h e)) in
+      let v = get_some hands k (omega (arith, t.long, t.as_many, slice_get_within hs k h e)) in
       (u.0, v.0, u.1, v.1, t.all k h u.0 v.0 e u.1 v.1)
 
   pub passes_are : ArePassesOf share hs
@@ -173,7 +172,7 @@ module _ {share : TableId} {base : Base} {seen : List Item} {line : Line} {quest
     few = are.few;
     count = length-map hs (λ (h : Helper). h.hand) ∙ (t.long ∙ (sym t.as_many ∙ are.count));
     each = λ k v e.
-        let h = map_there (λ (h : Helper). h.hand) hs k v e in
+        let h = get_unmap (λ (h : Helper). h.hand) hs k v e in
         let w = worked_at k h.0 h.1 in
         let P : HandView → Type 0 = λ z. (z.name ≡ k) × IsHandOf pool z in
         subst P (sym h.2) (w.4.own_hand.1 ∙ (are.each k w.1 w.3).0, w.4.own_hand.0);
@@ -183,7 +182,7 @@ module _ {share : TableId} {base : Base} {seen : List Item} {line : Line} {quest
   pub own_back : (k : ℕ) (v w : HandView) → slice_get hands k ≡ Some v → slice_get (hands_of hs) k ≡ Some w
       → KeepsOwn v w
   own_back k v w e f =
-      let h = map_there (λ (h : Helper). h.hand) hs k w f in
+      let h = get_unmap (λ (h : Helper). h.hand) hs k w f in
       let x = worked_at k h.0 h.1 in
       let P : HandView → Type 0 = λ z. KeepsOwn v z in
       let Q : HandView → Type 0 = λ z. KeepsOwn z h.0.hand in
@@ -217,17 +216,17 @@ module _ {share : TableId} {line : Line} {question : Question} {jobs : List Job}
   from_is = ap (λ (z : Base). z.from) base_last
 
   goes : Begins old.events new.events
-  goes = begins_trans old.events last.view.seen new.events joined.begins begins
+  goes = begins_on old.events last.view.seen new.events joined.begins begins
 
   own_is : last.view.own ≡ range_with_len (length old.events) (length new.events - length old.events)
   own_is =
       let F : ℕ → Type 0 = λ z. AreAllFrom z (length new.events) last.view.own in
       let from : base.from ≡ length old.events = ap (λ (z : Base). z.from) base_is in
-      all_own (length old.events) new.events last.view.own (begins_length old.events new.events goes)
+      all_own (length old.events) new.events last.view.own (begins_longer old.events new.events goes)
       (record {
         rises = joined.own.rises;
         within = λ k x e.
-            omega (arith, joined.own.within k x e, begins_length last.view.seen new.events begins);
+            omega (arith, joined.own.within k x e, begins_longer last.view.seen new.events begins);
       })
       (λ k x e. omega (arith, joined.behind k x e, from))
       (subst F from_is (whole (omega (arith, joined.part, t.long, few))))
@@ -250,7 +249,7 @@ module _ {share : TableId} {line : Line} {question : Question} {jobs : List Job}
     about = about_is;
     opening = opening_is;
     alone = refl;
-    roomy = λ t. roomy_of new reserved;
+    roomy = λ t. roomy_is new reserved;
     kept = refl;
     seen = goes;
   }
@@ -289,7 +288,7 @@ module _ {share : TableId} {line : Line} {question : Question} {jobs : List Job}
   -- what a helper has seen is in the book
   module _ (k : ℕ) (h : Helper) (e : slice_get hs k ≡ Some h) where
     sees : Begins h.pass.view.seen new.events
-    sees = begins_trans h.pass.view.seen last.view.seen new.events (joined.each k h e) begins
+    sees = begins_on h.pass.view.seen last.view.seen new.events (joined.each k h e) begins
 
     its : (u : Units) × (v : HandView) × (slice_get us k ≡ Some u) × (slice_get hands k ≡ Some v)
         × HasWorked share base old.events line question jobs pool v u.left h
@@ -331,7 +330,7 @@ module _ {share : TableId} {line : Line} {question : Question} {jobs : List Job}
   module _ (empty : (k : ℕ) (h : Helper) → slice_get hs k ≡ Some h → h.end ≡ ends.Empty) where
     are_marked : AreMarked (hands_of hs)
     are_marked k v e =
-        let h = map_there (λ (h : Helper). h.hand) hs k v e in
+        let h = get_unmap (λ (h : Helper). h.hand) hs k v e in
         let M : HandView → Type 0 = λ z. mark_of z ≡ true in
         subst M (sym h.2) (ends_as k h.0 h.1 ends.Empty (empty k h.0 h.1)).1
 
@@ -347,7 +346,7 @@ module _ {share : TableId} {line : Line} {question : Question} {jobs : List Job}
               let x = taken_by pool question.most jobs hands (hands_of hs) closed dealt (t.as_many ∙ sym deques)
               (length-map hs (λ (h : Helper). h.hand) ∙ (t.long ∙ sym t.as_many)) (omega (arith, some, deques))
               (own_back t) ends_with are_marked k j e in
-              let h = map_there (λ (h : Helper). h.hand) hs x.0 x.1 x.6 in
+              let h = get_unmap (λ (h : Helper). h.hand) hs x.0 x.1 x.6 in
               let T : HandView → Type 0 = λ z. slice_get (tooks z) x.2 ≡ Some x.4 in
               let K : ℕ → Type 0 = λ z. slice_get jobs z ≡ Some j in
               let r : IsRefuted (desk_by h.0.pass.view) question.cycle question.most j =

@@ -5,7 +5,7 @@ use Rattle.line_instance.specs.Line.{Line}
 use Rattle.line_rules.specs.Balance.{all_tasks}
 use Rattle.line_rules.specs.declared.types.LineKind.{LineKind}
 use Rattle.line_rules.specs.declared.types.Load.{Load}
-use Rattle.line_rules.proofs.ListFacts.{get_take}
+use Rattle.line_rules.proofs.ListFacts.{get_take, get_unmap}
 use Rattle.lemma_core.specs.Desks.{DeskView}
 use Rattle.round_helpers.specs.Jobs.{AreJobs, IsJobOf, job_of, max_jobs}
 use Rattle.station_search.specs.declared.answers.Decided.{Decided}
@@ -18,7 +18,6 @@ use Rattle.round_helpers.specs.declared.job_work.Answer.{Answer}
 use Rattle.round_helpers.specs.declared.job_work.Answer.TheVariants as answers
 use Rattle.round_helpers.specs.declared.piece_work.End.{End}
 use Rattle.round_helpers.specs.declared.piece_work.End.TheVariants as ends
-use Rattle.round_helpers.proofs.PieceFacts.{map_there}
 
 -- a question adds at most one entry more than units
 pub added_few : (r : Answer) (n : ℕ) → most_added r n ≤ n + 1
@@ -47,7 +46,7 @@ pub job_is : (kind : LineKind) (line : Line) (c most : ℕ) (jobs : List Job) (k
     → IsJobOf kind line c most j
 job_is kind line c most jobs k j are e =
     let m : (l : Load) × (slice_get are.firsts k ≡ Some l) × (j ≡ job_of (all_tasks line) l) =
-    map_there (job_of (all_tasks line)) are.firsts k j (subst (λ (z : List Job). slice_get z k ≡ Some j) are.each e) in
+    get_unmap (job_of (all_tasks line)) are.firsts k j (subst (λ (z : List Job). slice_get z k ≡ Some j) are.each e) in
     let P : List Load → Type 0 = λ z. slice_get z k ≡ Some m.0 in
     let Q : Job → Type 0 = λ z. IsJobOf kind line c most z in
     subst Q (sym m.2) (record {

@@ -5,7 +5,7 @@ use Rattle.std.proofs.Common.{length-append, Option, Some, None}
 use Rattle.std.specs.Prelude.{slice_get, slice_index_or, nat_lt}
 use Rattle.std.specs.List.{Contains}
 use Rattle.std.proofs.lemmas.Bool.{and_parts, and_from, lt-ltb, ltb-true, cases_Bool}
-use Rattle.std.proofs.lemmas.List.{append-nil, take_all, length-map}
+use Rattle.std.proofs.lemmas.List.{append-nil, take_all, length-map, map_push}
 use Rattle.std.proofs.Math.Seq.{take-append-add}
 use Rattle.line_instance.specs.Line.{Line, IsLine, IsRanked, IsTaskSet}
 use Rattle.line_rules.specs.Bounds.{bound}
@@ -17,12 +17,13 @@ use Rattle.line_rules.specs.declared.types.LineKind.{LineKind}
 use Rattle.line_rules.specs.declared.types.Mode.{Mode}
 use Rattle.line_rules.specs.declared.types.Load.{Load}
 use Rattle.line_rules.proofs.LoadTests.{is_open, is_full, is_load, load_so, full_is, full_so, loads_of, loads_listed}
-use Rattle.line_rules.proofs.LoadLists.{Amid, Rises, lists_of, pick, picked, picks, picked_rise}
+use Rattle.line_rules.proofs.LoadLists.{Amid, Rises, lists_of, pick, picked, picks, picked_rise, at_amid}
 use Rattle.line_rules.proofs.Unique.{precedes_trans, first_less, tail_lists}
 use Rattle.station_load.specs.Walking.{Walking, IsWalk}
 use Rattle.station_search.specs.Mode.{mode_of}
 use Rattle.round_helpers.specs.Jobs.{AreFirst, AreJobs, job_of, max_loads, max_jobs}
 use Rattle.round_helpers.specs.declared.job_list.Job.{Job}
+use Rattle.line_rules.proofs.ListFacts.{get_none}
 
 -- a member by its place, and by the list
 amid_from : (xs : List Load) (a : Load) (k : ℕ) → k < length xs → slice_index_or xs k a ≡ a → Amid a xs
@@ -47,20 +48,11 @@ rises_take line zero xs r = tt
 rises_take line (suc n) [] r = tt
 rises_take line (suc n) (x ∷ xs) r = (λ b m. r.0 b (amid_take n xs b m), rises_take line n xs r.1)
 
-no_load : (k : ℕ) (a : Load) → slice_get [] k ≡ Some a → ⊥
-no_load k a e = cc
-
--- a list of what passes rises
-amid_some : (xs : List Load) (a : Load) → Amid a xs → (k : ℕ) × (slice_get xs k ≡ Some a)
-amid_some [] a m = absurd m
-amid_some (x ∷ xs) a (inl e) = (0, ap (λ (z : Load). Some z) (sym e))
-amid_some (x ∷ xs) a (inr m) = let r : (k : ℕ) × (slice_get xs k ≡ Some a) = amid_some xs a m in (suc r.0, r.1)
-
 rises_of : (line : Line) (xs : List Load) (P : Load → Type 0) → Lists line P xs → Rises line xs
 rises_of line [] P h = tt
 rises_of line (x ∷ xs) P h = (
   λ b m.
-      let r : (k : ℕ) × (slice_get xs k ≡ Some b) = amid_some xs b m in first_less line P x xs h r.0 b r.1,
+      let r : (k : ℕ) × (slice_get xs k ≡ Some b) = at_amid xs b m in first_less line P x xs h r.0 b r.1,
   rises_of line xs (λ l. P l × Precedes line x l) (tail_lists line P x xs h),
 )
 
@@ -73,10 +65,6 @@ pick_push : (p : Load → Bool) (xs : List Load) (x : Load) → pick p (xs ++ x 
 pick_push p [] x = refl
 pick_push p (y ∷ xs) x =
     pick_cons p y (p y) (pick p (xs ++ x ∷ [])) (pick p xs) (cond (p x) (x ∷ []) []) (pick_push p xs x)
-
-map_push : (f : Load → Job) (xs : List Load) (x : Load) → map f (xs ++ x ∷ []) ≡ map f xs ++ f x ∷ []
-map_push f [] x = refl
-map_push f (y ∷ xs) x = ap (λ (z : List Job). f y ∷ z) (map_push f xs x)
 
 pick_both : (p : Load → Bool) (xs ys : List Load) → pick p (xs ++ ys) ≡ pick p xs ++ pick p ys
 pick_both p [] ys = refl
@@ -154,7 +142,7 @@ module _ (line : Line) (c : ℕ) (mode : Mode) (R : List Bool) where
       → IsFollowing line c mode R last l
       → (more : List Load) × ((ahead ≡ l ∷ more) × Lists line (Further (Some l)) more)
   next_first last [] l h next =
-      let r : (k : ℕ) × (slice_get [] k ≡ Some l) = h.complete l (next.load, next.above) in absurd (no_load r.0 l r.1)
+      let r : (k : ℕ) × (slice_get [] k ≡ Some l) = h.complete l (next.load, next.above) in absurd (get_none r.0 l r.1)
   next_first last (x ∷ xs) l h next =
       let r : (k : ℕ) × (slice_get (x ∷ xs) k ≡ Some l) = h.complete l (next.load, next.above) in
       let same : x ≡ l = first_is last x xs l h next r.0 r.1 in
@@ -356,7 +344,7 @@ module _ {kind : LineKind} {line : Line} (ok : IsLine line) (ranked : IsRanked l
               let s : Amid a (take n (h.done ++ h.ahead)) × (wanted kind line c R most a ≡ true) =
               picked (wanted kind line c R most) a (take n (h.done ++ h.ahead)) x in
               let t : (j : ℕ) × (slice_get (h.done ++ h.ahead) j ≡ Some a) =
-              amid_some (h.done ++ h.ahead) a (amid_take n (h.done ++ h.ahead) a s.0) in
+              at_amid (h.done ++ h.ahead) a (amid_take n (h.done ++ h.ahead) a s.0) in
               (open_is a (h.listed.sound t.0 a t.1) s.1, contains_so (take n (h.done ++ h.ahead)) a s.0))
               (λ a q. picks (wanted kind line c R most) a (take n (h.done ++ h.ahead))
               (amid_from (take n (h.done ++ h.ahead)) a q.1.0 q.1.1 q.1.2) (open_so a q.0));

@@ -15,7 +15,8 @@ use Rattle.book_share.specs.Passes.{PassView}
 use Rattle.book_share.specs.Places.{put_in, merged}
 use Rattle.round_helpers.specs.Growth.{AreAtCycle}
 use Rattle.round_helpers.specs.inner.Seats.{HasAdded}
-use Rattle.round_helpers.proofs.AddedEntries.{units_both, cycles_both}
+use Rattle.round_helpers.proofs.AddedEntries.{cycles_both}
+use Rattle.line_rules.proofs.ListUnits.{units_both}
 
 units_apart : (line : Line) (xs ys : List Entry) (n : ℕ) → UnitsOf line (xs ++ ys) n
     → (a : ℕ) × (b : ℕ) × (UnitsOf line xs a × UnitsOf line ys b × (n ≡ a + b))

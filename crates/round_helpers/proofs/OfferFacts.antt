@@ -7,13 +7,12 @@ use Rattle.line_rules.specs.Loads.{IsLoad, Belongs, rest}
 use Rattle.line_rules.specs.Seats.{AreSeated, around}
 use Rattle.line_rules.specs.declared.types.Balance.{Balance as Assignment}
 use Rattle.line_rules.specs.declared.types.LineKind.{LineKind}
-use Rattle.line_rules.specs.declared.types.LineKind.TheVariants.{Straight, U}
 use Rattle.line_rules.specs.declared.types.Mode.{Mode}
 use Rattle.line_rules.specs.declared.types.Mode.TheVariants as mode
 use Rattle.line_rules.specs.declared.types.Load.{Load}
-use Rattle.line_rules.proofs.SeatedLoads.{seated_first, seated_last}
+use Rattle.line_rules.proofs.SeatedLoads.{around_seated}
 use Rattle.lemma_core.specs.History.{Item, better, Standing, replay}
-use Rattle.lemma_core.specs.Desks.{DeskView, fewest_after, Keeps, Adds, Offers}
+use Rattle.lemma_core.specs.Desks.{DeskView, fewest_after, Adds, Offers}
 use Rattle.lemma_core.specs.declared.types.Offered.{Offered}
 use Rattle.lemma_core.specs.declared.types.Offered.TheVariants as offered
 use Rattle.lemma_core.proofs.HistoryGrows.{keeps_none}
@@ -25,19 +24,6 @@ use Rattle.round_helpers.specs.Jobs.{IsJobOf}
 use Rattle.round_helpers.specs.declared.job_list.Job.{Job}
 use Rattle.round_helpers.specs.inner.Works.{Works, fewest_seen}
 use Rattle.round_helpers.proofs.WorkFacts.{works_waits, works_item}
-
--- a load beside seated loads of its rest
-pub around_seated : (kind : LineKind) (line : Line) (c : ℕ) (m : Mode) (R : List Bool) (l : Load) → Belongs kind m
-    → IsLoad line c m R l
-    → (ls : List Load) → AreSeated kind line c (rest R l) ls
-    → AreSeated kind line c R (around m (Some l) ls)
-around_seated Straight line c mode.Fore R l b load ls s = seated_first Straight line c mode.Fore R l load ls s b
-    (λ e. cc)
-around_seated Straight line c mode.Back R l b load ls s = seated_last line c R l load ls s
-around_seated Straight line c mode.Both R l b load ls s = absurd b
-around_seated U line c mode.Fore R l b load ls s = absurd b
-around_seated U line c mode.Back R l b load ls s = absurd b
-around_seated U line c mode.Both R l b load ls s = seated_first U line c mode.Both R l load ls s b (λ e. cc)
 
 pub around_long : (m : Mode) (l : Load) (ls : List Load) → length (around m (Some l) ls) ≡ length ls + 1
 around_long mode.Fore l ls = omega arith
@@ -73,10 +59,6 @@ works_offer line X old new n offered.Better o =
     works_item line X old new (better n) refl (did_adds old old new [] o.0 (better n) (keeps_none old) (did_none old)
     o.1)
 works_offer line X old new n offered.NotBetter o = works_waits line X old new o.0
-
-pub offer_keeps : (old new : DeskView) (n : ℕ) (r : Offered) → Offers old new n r → Keeps old new
-offer_keeps old new n offered.Better o = o.1.keeps
-offer_keeps old new n offered.NotBetter o = o.0.keeps
 
 -- and no more stations are the fewest afterwards
 pub offer_fewest : (old new : DeskView) (n : ℕ) (r : Offered) → Offers old new n r → fewest_seen new ≤ n

@@ -13,13 +13,14 @@ use Rattle.lemma_core.specs.Own.{AreAt}
 use Rattle.book_share.specs.Calls.{IsPassOf, IsSound}
 use Rattle.book_share.specs.Passes.{Base, PassView, PassOf}
 use Rattle.book_share.specs.Rule.{left_of, right_of, both_of}
-use Rattle.book_share.proofs.Lists.{begins_refl, begins_trans}
+use Rattle.book_share.proofs.Lists.{begins_refl}
 use Rattle.station_search.specs.declared.answers.Units.{Units}
 use Rattle.steal_pool.specs.Hands.{HandView}
 use Rattle.round_helpers.specs.inner.Seats.{IsBare, IsReady, AreReady, HasAdded, HasJoined, hands_of, used_by}
 use Rattle.round_helpers.specs.inner.Teams.{AreJoinable}
 use Rattle.round_helpers.specs.declared.teams.Helper.{Helper}
 use Rattle.round_helpers.proofs.MixedItems.{added_joined}
+use Rattle.lemma_core.proofs.HistoryGrows.{begins_on}
 
 less_part : (n : ℕ) → 2 ≤ n → cond {A = ℕ} (nat_lt 1 n) (n - 1) 0 ≡ n - 1
 less_part n l = grind (arith, nat_tests, l)
@@ -157,7 +158,7 @@ joins_one share first all left h p q given more j of e from_p from_h sound grown
             same = ap (λ (z : PassView). z.base) e ∙ d.same;
             part = let s : q.view.parts ≡ p.view.parts + h.pass.view.parts = ap (λ (z : PassView). z.parts) e in
                 omega (arith, s, d.part, one.part, length-append j.done (h ∷ []));
-            begins = begins_trans first.view.seen p.view.seen q.view.seen d.begins from_p;
+            begins = begins_on first.view.seen p.view.seen q.view.seen d.begins from_p;
             own = sound.own;
             behind = λ k x g. omega (
               arith,
@@ -167,7 +168,7 @@ joins_one share first all left h p q given more j of e from_p from_h sound grown
             added = subst U u (added_joined line X p.view h.pass.view q.view (used_by j.done) h.units.used d.added
                 one.added from_p from_h (ap (λ (z : PassView). z.own) e));
             each = λ k x g. elim (get_push_cases j.done h x k g) [
-              | inl y ↦ begins_trans x.pass.view.seen p.view.seen q.view.seen (d.each k x y.1) from_p
+              | inl y ↦ begins_on x.pass.view.seen p.view.seen q.view.seen (d.each k x y.1) from_p
               | inr y ↦ (let P : Helper → Type 0 = λ z. Begins z.pass.view.seen q.view.seen in subst P y.1 from_h)
             ];
           };

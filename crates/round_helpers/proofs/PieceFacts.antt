@@ -29,6 +29,7 @@ use Rattle.round_helpers.specs.Jobs.{AreJobs, job_of, max_jobs}
 use Rattle.round_helpers.specs.inner.Pieces.{Puts, KeepsOwn, IsDone, AreDone, piece_of, pieces_of}
 use Rattle.round_helpers.specs.declared.job_list.Job.{Job}
 use Rattle.round_helpers.proofs.WorkFacts.{answered_on}
+use Rattle.line_rules.proofs.ListFacts.{get_some, get_none}
 
 -- a list of which one item changed, read at a place
 pub change_there : {A : Type 0} (f : A → A) (k i : ℕ) (l : List A) (y : A) → slice_get (change f k l) i ≡ Some y
@@ -38,12 +39,6 @@ change_there f zero zero (x ∷ xs) y e = inr (x, refl, sym (same_Some (f x) y e
 change_there f zero (suc i) (x ∷ xs) y e = inl e
 change_there f (suc k) zero (x ∷ xs) y e = inl e
 change_there f (suc k) (suc i) (x ∷ xs) y e = change_there f k i xs y e
-
-pub map_there : {A B : Type 0} (f : A → B) (l : List A) (k : ℕ) (y : B) → slice_get (map f l) k ≡ Some y
-    → (x : A) × (slice_get l k ≡ Some x) × (y ≡ f x)
-map_there f [] k y e = absurd (cc)
-map_there f (x ∷ xs) zero y e = (x, refl, sym (same_Some (f x) y e))
-map_there f (x ∷ xs) (suc k) y e = map_there f xs k y e
 
 -- what is done stays done
 done_on : (old new : DeskView) (X most : ℕ) (jobs : List Job) (x : Piece) → Keeps old new → IsDone old X most jobs x
@@ -117,10 +112,7 @@ pub fresh_done : (desk : DeskView) (X most : ℕ) (jobs : List Job) (v : HandVie
     → ((k : ℕ) (xs : List Piece) → slice_get (tooks v) k ≡ Some xs → xs ≡ [])
     → AreDone desk X most jobs v
 fresh_done desk X most jobs v none k i xs x at there =
-    absurd (empty i x (subst (λ (z : List Piece). slice_get z i ≡ Some x) (none k xs at) there))
-  where
-    empty : (i : ℕ) (x : Piece) → slice_get [] i ≡ Some x → ⊥
-    empty i x e = cc
+    absurd (get_none i x (subst (λ (z : List Piece). slice_get z i ≡ Some x) (none k xs at) there))
 
 -- the pieces of a hand of a new pool
 pub dealt_own : (pool : List DequeId) (pieces : List Piece) (k : ℕ) (v : HandView)
@@ -233,11 +225,6 @@ none_left (l ∷ ls) zero xs e at =
 none_left (l ∷ ls) (suc k) xs e at =
     none_left ls k xs (omega (arith, e, sum_by-cons (λ (z : List Piece). length z) l ls)) at
 
-pub get_there : {A : Type 0} (xs : List A) (k : ℕ) → k < length xs → (x : A) × (slice_get xs k ≡ Some x)
-get_there [] k l = absurd (omega (arith, l))
-get_there (x ∷ xs) zero l = (x, refl)
-get_there (x ∷ xs) (suc k) l = get_there xs k (omega (arith, l))
-
 -- what a hand took from a deque is one of its lists
 took_there : (ps : List PortView) (k i : ℕ) (x : Piece) → slice_get (got_at k ps) i ≡ Some x
     → (xs : List Piece) × (slice_get (map (λ (p : PortView). p.log.got) ps) k ≡ Some xs) × (slice_get xs i ≡ Some x)
@@ -275,9 +262,9 @@ module _ (pool : List DequeId) (most : ℕ) (jobs : List Job) (before after : Li
   taken_by k j at =
       let m : ℕ = k % length pool in
       let below : m < length pool = mod-lt k some in
-      let v = get_there before m (omega (arith, below, count)) in
-      let w = get_there after m (omega (arith, below, count, many)) in
-      let left = get_there closed.lefts m (omega (arith, below, count, many, closed.count)) in
+      let v = get_some before m (omega (arith, below, count)) in
+      let w = get_some after m (omega (arith, below, count, many)) in
+      let left = get_some closed.lefts m (omega (arith, below, count, many, closed.count)) in
       let o = own m v.0 w.0 v.1 w.1 in
       let here : slice_get (pieces_of most jobs) k ≡ Some (piece_of most k j) =
       piece_at most 0 k k jobs j (omega arith) at in

@@ -20,7 +20,9 @@ use Rattle.station_search.specs.declared.answers.Decided.TheVariants as decided
 use Rattle.station_search.proofs.Events.{added_both}
 use Rattle.round_helpers.specs.Growth.{AreAtCycle}
 use Rattle.round_helpers.specs.inner.Works.{Works, fewest_seen, most_decided}
-use Rattle.round_helpers.proofs.AddedEntries.{units_both, cycles_both, has_longer, lemmas_at}
+use Rattle.round_helpers.proofs.AddedEntries.{cycles_both, lemmas_at}
+use Rattle.line_rules.proofs.LongerLists.{has_longer}
+use Rattle.line_rules.proofs.ListUnits.{units_both}
 
 -- the items at places are one list, and so are the own events since a call began
 at_once : (h : List Item) (ps : List ℕ) (is js : List Item) → AreAt h ps is → AreAt h ps js → is ≡ js

@@ -20,7 +20,7 @@ use Rattle.line_rules.specs.declared.types.OpenFrame.{OpenFrame}
 use Rattle.line_rules.specs.declared.types.Balance.{Balance as Assignment}
 use Rattle.line_rules.proofs.All.{In-all}
 use Rattle.line_rules.proofs.Monotone.{bound_holds}
-use Rattle.line_rules.proofs.ListUnits.{derived_counted}
+use Rattle.line_rules.proofs.ListUnits.{derived_counted, units_both}
 use Rattle.line_rules.proofs.Nonempty.{bound_some}
 use Rattle.line_rules.proofs.Paths.{rest_inside, rest_without, leads_longer, deep_longer}
 use Rattle.line_rules.proofs.AcceptedIsTrue.{answer_holds}
@@ -31,7 +31,6 @@ use Rattle.station_search.proofs.Events.{get_append_cases}
 use Rattle.budget_law.specs.Budget.{states}
 use Rattle.budget_law.proofs.FewUnits.{units_few}
 use Rattle.round_helpers.specs.Growth.{AreAtCycle}
-use Rattle.round_helpers.proofs.AddedEntries.{units_both}
 use Rattle.round_run.specs.Rounds.{AddsBound, by_bound}
 use Rattle.round_run.specs.inner.Questions.{IsRun, HasAsked, trail_of, stop_by}
 use Rattle.round_run.specs.Solving.{IsRunBook, IsBelow, IsSolvedFrom, IsStoppedFrom, IsSpentFrom, FitsAll, SolvesFrom}
@@ -44,6 +43,7 @@ use Rattle.round_run.specs.declared.solving.Outcome.{Outcome}
 use Rattle.round_run.specs.declared.solving.Outcome.TheVariants as outcome
 use Rattle.round_run.proofs.RankedOnce.{same_stations}
 use Rattle.round_run.proofs.TurnFacts.{cycles_on, entries_on}
+use Rattle.line_rules.proofs.ListFacts.{get_none}
 
 -- a trail is valid over more entries
 trail_longer : (kind : LineKind) (line : Line) (X : ℕ) (es more : List Entry) (R : List Bool) (most : ℕ)
@@ -94,7 +94,7 @@ question_most kind line X es R most frames t k f e q =
     (sym (ap (λ (z : List OpenFrame). slice_get z k) t.all) ∙ e) q
 
 -- where each entry is at the cycle, they are the entries of that cycle
-all_at : (X : ℕ) (es : List Entry) → AreAtCycle X es → entries_at X es ≡ es
+pub all_at : (X : ℕ) (es : List Entry) → AreAtCycle X es → entries_at X es ≡ es
 all_at X [] h = refl
 all_at X (e ∷ es) h =
     let t : nat_eq e.cycle X ≡ true = eq-eqb e.cycle X (h 0 e refl) in
@@ -106,14 +106,14 @@ one_some : (line : Line) (e : Entry) (es at : List Entry) (u : ℕ) (t : Bool) �
 one_some line e es at u true h rest = (h.0 + rest.0, (h.0, rest.0, (h.2.0, rest.1, refl)))
 one_some line e es at u false h rest = rest
 
-units_some : (line : Line) (X : ℕ) (es : List Entry) (u : ℕ) → UnitsOf line es u
+pub units_some : (line : Line) (X : ℕ) (es : List Entry) (u : ℕ) → UnitsOf line es u
     → (v : ℕ) × UnitsOf line (entries_at X es) v
 units_some line X [] u h = (0, refl)
 units_some line X (e ∷ es) u h =
     one_some line e es (entries_at X es) u (nat_eq e.cycle X) h (units_some line X es h.1 h.2.1)
 
 -- the first entries of a list have a number of units, where all have one
-units_front : (line : Line) (xs ys : List Entry) (u : ℕ) → UnitsOf line (xs ++ ys) u → (v : ℕ) × UnitsOf line xs v
+pub units_front : (line : Line) (xs ys : List Entry) (u : ℕ) → UnitsOf line (xs ++ ys) u → (v : ℕ) × UnitsOf line xs v
 units_front line [] ys u h = (0, refl)
 units_front line (x ∷ xs) ys u h =
     let rest : (v : ℕ) × UnitsOf line xs v = units_front line xs ys h.1 h.2.1 in
@@ -125,13 +125,10 @@ one_both : (x : Entry) (all xs ys : List Entry) (t : Bool) → all ≡ xs ++ ys
 one_both x all xs ys true e = ap (λ (z : List Entry). x ∷ z) e
 one_both x all xs ys false e = e
 
-at_both : (X : ℕ) (xs ys : List Entry) → entries_at X (xs ++ ys) ≡ entries_at X xs ++ entries_at X ys
+pub at_both : (X : ℕ) (xs ys : List Entry) → entries_at X (xs ++ ys) ≡ entries_at X xs ++ entries_at X ys
 at_both X [] ys = refl
 at_both X (x ∷ xs) ys =
     one_both x (entries_at X (xs ++ ys)) (entries_at X xs) (entries_at X ys) (nat_eq x.cycle X) (at_both X xs ys)
-
-no_entry : (j : ℕ) (x : Entry) → slice_get [] j ≡ Some x → ⊥
-no_entry j x e = cc
 
 one_entry : (y : Entry) (j : ℕ) (x : Entry) → slice_get (y ∷ []) j ≡ Some x → y ≡ x
 one_entry y zero x e = cc
@@ -283,7 +280,7 @@ module _ (kind : LineKind) (line : Line) (c : ℕ) (before : List Entry) (top N 
         elim a.entry [
           | inl none ↦
               let y : slice_get [] j ≡ Some x = sym (ap (λ (z : List Entry). slice_get z j) none) ∙ g in
-              no_entry j x y
+              get_none j x y
           | inr one ↦
               let y : by_bound b.about.line (first - 1) b.about.cycle ≡ x =
               one_entry (by_bound b.about.line (first - 1) b.about.cycle) j x

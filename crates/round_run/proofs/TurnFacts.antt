@@ -12,7 +12,7 @@ use Rattle.line_rules.specs.declared.types.OpenFrame.{OpenFrame}
 use Rattle.lemma_core.specs.Machine.{About}
 use Rattle.lemma_core.specs.Books.{BookView, IsReserved}
 use Rattle.round_helpers.specs.Growth.{AreAtCycle, GoesOn, Helps}
-use Rattle.round_helpers.proofs.AddedEntries.{units_both, cycles_both, has_longer}
+use Rattle.round_helpers.proofs.AddedEntries.{cycles_both}
 use Rattle.round_run.specs.Rounds.{Gains, IsAnswer, StaysAbove, frames_of}
 use Rattle.round_run.specs.inner.Questions.{IsRun, IsPaid, HasAsked, EndsBy, trail_of, stop_by, stop_of}
 use Rattle.round_run.specs.declared.questions.Stop.{Stop}
@@ -20,6 +20,8 @@ use Rattle.station_search.specs.declared.answers.Units.{Units}
 use Rattle.round_run.specs.declared.solving.Cause.TheVariants as cause
 use Rattle.round_run.specs.declared.closing.Verdict.{Verdict}
 use Rattle.round_run.specs.declared.closing.Verdict.TheVariants as verdict
+use Rattle.line_rules.proofs.LongerLists.{has_longer}
+use Rattle.line_rules.proofs.ListUnits.{units_both}
 
 module _ (kind : LineKind) (line : Line) (c : ℕ) (before added : List Entry) (top first lower : ℕ) (b new : BookView)
     (run : IsRun kind line c before added top first lower b) (more : List Entry) (g : GoesOn b new more) where

@@ -1,5 +1,5 @@
 -- The certificate of a run is within its ranges and accepted.
-use Rattle.std.proofs.lemmas.Option.{slice_get_within}
+use Rattle.std.proofs.lemmas.Option.{slice_get_within, same_Some}
 use Rattle.task_set.specs.Truths.{full_to}
 use Rattle.std.proofs.Common.{◌≡◌, inl, inr, ◌∙◌, ℕ, ◌+◌, ◌-◌, ◌<◌, ◌≤◌, Bool, List, [], ◌++◌, length, length-append}
 use Rattle.std.proofs.Common.{Option, Some, None, refl, sym, ap, subst, arith}
@@ -22,14 +22,13 @@ use Rattle.line_rules.specs.declared.types.Trail.{Trail}
 use Rattle.line_rules.specs.declared.types.Ask.TheVariants as ask
 use Rattle.line_rules.specs.declared.types.Claim.TheVariants as claim
 use Rattle.line_rules.specs.declared.types.Certificate.{Certificate}
-use Rattle.line_rules.proofs.ListUnits.{derived_counted}
+use Rattle.line_rules.proofs.ListUnits.{derived_counted, units_both}
 use Rattle.line_rules.proofs.AcceptedIsTrue.{accepted_true, infeasible_true}
 use Rattle.lemma_core.specs.Machine.{About}
 use Rattle.lemma_core.specs.Own.{AreStatable}
 use Rattle.lemma_core.specs.Books.{BookView, MayBeBest}
 use Rattle.station_search.proofs.Events.{get_append_cases}
 use Rattle.round_helpers.specs.Growth.{AreAtCycle}
-use Rattle.round_helpers.proofs.AddedEntries.{units_both}
 use Rattle.round_run.specs.Solving.{IsRunBook, IsSolvedFrom, IsStoppedFrom, IsSpentFrom}
 use Rattle.round_run.specs.declared.plans.Plan.{Plan}
 use Rattle.cert_files.specs.Trim.{IsTrimmed}
@@ -79,16 +78,13 @@ module _ (kind : LineKind) (line : Line) (c lower : ℕ) (b : Assignment) (es : 
         true_bounds = accepted_true line cert lower b.stations units ok accepted;
       }
 
-one : (x y : Entry) → Some x ≡ Some y → x ≡ y
-one x y p = cc
-
 -- entries that are trimmed keep their cycles
 pub trimmed_cycles : (es : List Entry) (set : List Bool) (most cycle : ℕ) (new : List Entry)
     → IsTrimmed es set most cycle new → HaveCyclesOf es new
 trimmed_cycles es set most cycle new t k e there =
     let at = t.entries.each k (slice_get_within new k e there) in
     let P : Entry → Type 0 = λ x. x.cycle ≡ at.old.cycle in
-    (at.number, at.old, (at.there, subst P (one at.entry e (sym at.here ∙ there)) at.same.cycle))
+    (at.number, at.old, (at.there, subst P (same_Some at.entry e (sym at.here ∙ there)) at.same.cycle))
 
 -- entries of a run at c, and those before them
 at_or_as : (c : ℕ) (before added es new : List Entry) → es ≡ before ++ added → AreAtCycle c added → HaveCyclesOf es new

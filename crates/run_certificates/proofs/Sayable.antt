@@ -24,9 +24,9 @@ use Rattle.line_rules.specs.declared.types.OpenFrame.{OpenFrame}
 use Rattle.line_rules.specs.declared.types.Why.{Why}
 use Rattle.line_rules.specs.declared.types.Why.TheVariants as why
 use Rattle.line_rules.proofs.Monotone.{rest_smaller}
-use Rattle.line_rules.proofs.ListFacts.{get_push_cases}
+use Rattle.line_rules.proofs.ListFacts.{get_push_cases, get_some}
 use Rattle.line_rules.proofs.ReadPlaces.{seat_read}
-use Rattle.line_rules.proofs.LemmasHold.{get_take, get_some}
+use Rattle.line_rules.proofs.LemmasHold.{get_take}
 use Rattle.lemma_core.specs.Own.{AreStatable}
 
 -- a set of tasks of the line

@@ -15,18 +15,7 @@ use Rattle.lemma_core.specs.declared.types.Offered.{Offered}
 use Rattle.lemma_core.specs.declared.types.Offered.TheVariants as offered
 use Rattle.lemma_core.proofs.HistoryGrows.{keeps_none, keeps_both}
 use Rattle.search_tests.specs.inner.Shared.{own_of, part_of}
-
--- the places of a range, and of the own events
-range_at : (a n k x : ℕ) → slice_get (range_with_len a n) k ≡ Some x → (x ≡ a + k) × (k < n)
-range_at a zero k x e = absurd (cc)
-range_at a (suc n) zero x e = let same : a ≡ x = same_Some a x e in (omega (arith, same), omega arith)
-range_at a (suc n) (suc k) x e = let h : (x ≡ a + 1 + k) × (k < n) = range_at (a + 1) n k x e in
-    (omega (arith, h.0), omega (arith, h.1))
-
-range_push : (a n : ℕ) → range_with_len a (suc n) ≡ range_with_len a n ++ (a + n) ∷ []
-range_push a zero = let e : a ≡ a + 0 = omega arith in ap (λ (x : ℕ). x ∷ []) e
-range_push a (suc n) = let e : a + 1 + n ≡ a + suc n = omega arith in
-    ap (λ (xs : List ℕ). a ∷ xs) (range_push (a + 1) n ∙ ap (λ (x : ℕ). range_with_len (a + 1) n ++ x ∷ []) e)
+use Rattle.lemma_core.proofs.BookAsDesk.{range_push, range_at}
 
 after_range : (ys : List ℕ) (a from k x : ℕ) → slice_get (range_with_len a from ++ ys) k ≡ Some x
     → ((x ≡ a + k) × (k < from)) ⊎ ((j : ℕ) × (k ≡ from + j) × (slice_get ys j ≡ Some x))

@@ -1,19 +1,19 @@
 -- Lines of states that are written are read, and what is read is how they are written.
-use Rattle.std.proofs.Common.{◌≡◌, ℕ, true, false, not, cond, nat_eq, nat_le, List, [], ◌∷◌, ◌++◌, length, map, refl}
+use Rattle.std.proofs.Common.{◌≡◌, ℕ, true, cond, nat_eq, List, [], ◌∷◌, ◌++◌, length, map, refl}
 use Rattle.std.proofs.Common.{sym, ◌∙◌, ap, arith, Some, None, Option, inl, inr}
 use Rattle.std.specs.Prelude.{codes, bytes_eq}
 use Rattle.std.specs.List.{flat_map}
-use Rattle.std.proofs.lemmas.Bool.Decides.{nat_tests}
 use Rattle.std.proofs.lemmas.List.{length-map}
 use Rattle.std.proofs.lemmas.Option.{same_Some, none-some}
+use Rattle.std.proofs.lemmas.Bool.{eqb-true, eq-eqb}
 use Rattle.line_io.specs.Lines.{value_of}
 use Rattle.cert_lines.specs.Numbers.{number_text, cites_text}
 use Rattle.cert_lines.specs.Rows.{state_entry, state_frame, number_or_none, row_text}
 use Rattle.cert_lines.specs.Words.{◌>>=◌, parts_at, number_in, number_first, cites_in, is_none}
-use Rattle.cert_lines.proofs.NumberWords.{both, left, right, lacks, all_high, high_lacks, number_high, number_again}
-use Rattle.cert_lines.proofs.NumberWords.{number_found, number_first_again, split_again, bind_some}
-use Rattle.cert_lines.proofs.CiteWords.{sat, cites_again, cites_found}
-use Rattle.cert_lines.proofs.EntryLines.{number_first_found, same_word}
+use Rattle.cert_lines.proofs.NumberWords.{lacks, high_lacks, number_high, number_again}
+use Rattle.cert_lines.proofs.NumberWords.{number_found, number_first_again, split_again, bind_some, lacks_append}
+use Rattle.cert_lines.proofs.CiteWords.{sat, cites_again, cites_found, is_none_word, none_of_high}
+use Rattle.cert_lines.proofs.EntryLines.{number_first_found}
 use Rattle.cert_lines.proofs.Lists.{split_parts, chosen}
 use Rattle.sequence_rules.specs.declared.types.SeqEntry.{SeqEntry}
 use Rattle.sequence_rules.specs.declared.types.SeqWhy.{SeqWhy}
@@ -21,14 +21,9 @@ use Rattle.sequence_rules.specs.declared.types.SeqWhy.TheVariants as why
 use Rattle.sequence_cert.specs.inner.StateReading.{many_in, state_in, bound_in, branch_in, entry_in, last_in, open_in}
 use Rattle.sequence_cert.specs.inner.StateReading.{frame_in}
 use Rattle.sequence_cert.specs.declared.words.FrameDraft.{FrameDraft}
+use Rattle.line_io.proofs.ReadFacts.{same_bytes, left}
 
 -- words without a blank
-lacks_append : (a b : List ℕ) → lacks 32 a ≡ true → lacks 32 b ≡ true → lacks 32 (a ++ b) ≡ true
-lacks_append [] b e f = f
-lacks_append (x ∷ a) b e f =
-    both (not (nat_eq x 32)) (lacks 32 (a ++ b)) (left (not (nat_eq x 32)) (lacks 32 a) e)
-    (lacks_append a b (right (not (nat_eq x 32)) (lacks 32 a) e) f)
-
 number_lacks : (n : ℕ) → lacks 32 (number_text n) ≡ true
 number_lacks n = high_lacks 32 (number_text n) (omega arith) (number_high n)
 
@@ -46,18 +41,11 @@ last_lacks : (l : Option ℕ) → lacks 32 (number_or_none l) ≡ true
 last_lacks None = refl
 last_lacks (Some n) = number_lacks n
 
--- so many numbers
-is_equal : (a b : ℕ) → a ≡ b → nat_eq a b ≡ true
-is_equal a b e = grind (arith, nat_tests)
-
-equal_is : (a b : ℕ) → nat_eq a b ≡ true → a ≡ b
-equal_is a b e = grind (arith, nat_tests)
-
 many_again : (n : ℕ) (ns : List ℕ) → length ns ≡ n → many_in n (cites_text ns) ≡ Some (map sat ns)
 unfolding many_in
 many_again n ns l =
     ap (λ o. o >>= λ ms. cond (nat_eq (length ms) n) (Some ms) None) (cites_again ns)
-    ∙ ap (λ b. cond b (Some (map sat ns)) None) (is_equal (length (map sat ns)) n (length-map ns sat ∙ l))
+    ∙ ap (λ b. cond b (Some (map sat ns)) None) (eq-eqb (length (map sat ns)) n (length-map ns sat ∙ l))
 
 many_found : (n : ℕ) (word ns : List ℕ) → many_in n word ≡ Some ns
     → (cs : List ℕ) × (cites_text cs ≡ word) × (map sat cs ≡ ns) × (length cs ≡ n)
@@ -70,7 +58,7 @@ many_found n word ns e =
         f.0,
         f.1,
         f.2 ∙ same_Some a.0 ns h.1,
-        sym (length-map f.0 sat) ∙ ap length f.2 ∙ equal_is
+        sym (length-map f.0 sat) ∙ ap length f.2 ∙ eqb-true
             (length a.0) n h.0,
       )
       | inr h ↦ absurd (none-some ns h.1)
@@ -278,11 +266,11 @@ entry_found models stations line e h =
     let p = split_parts 32 line k.0 k.1 in
     elim (chosen (bytes_eq k.0.0 (codes "bound")) (bound_in models stations k.0.1)
     (cond (bytes_eq k.0.0 (codes "branch")) (branch_in models stations k.0.1) None) (Some e) k.2) [
-      | inl a ↦ entry_behind models stations line (codes "bound") k.0.1 k.0.0 e p (same_word k.0.0 (codes "bound") a.0)
+      | inl a ↦ entry_behind models stations line (codes "bound") k.0.1 k.0.0 e p (same_bytes k.0.0 (codes "bound") a.0)
           (bound_found models stations k.0.1 e a.1)
       | inr a ↦ elim (chosen (bytes_eq k.0.0 (codes "branch")) (branch_in models stations k.0.1) None (Some e) a.1) [
         | inl b ↦ entry_behind models stations line (codes "branch") k.0.1 k.0.0 e p
-            (same_word k.0.0 (codes "branch") b.0)
+            (same_bytes k.0.0 (codes "branch") b.0)
             (branch_found models stations k.0.1 e b.1)
         | inr b ↦ absurd (none-some e b.1)
       ]
@@ -292,16 +280,6 @@ entry_found models stations line e h =
 abbrev pub last_read : Option ℕ → Option ℕ
 last_read None = None
 last_read (Some n) = Some (sat n)
-
-none_of_high : (word : List ℕ) → all_high word ≡ true → is_none word ≡ false
-none_of_high [] e = refl
-none_of_high (b ∷ []) e = let h : nat_le 48 b ≡ true = left (nat_le 48 b) true e in grind (arith, nat_tests)
-none_of_high (b ∷ c ∷ word) e = refl
-
-none_word : (word : List ℕ) → is_none word ≡ true → word ≡ 45 ∷ []
-none_word [] e = (cc)
-none_word (b ∷ []) e = ap (λ x. x ∷ []) (equal_is b 45 e)
-none_word (b ∷ c ∷ word) e = (cc)
 
 last_again : (l : Option ℕ) → last_in (number_or_none l) ≡ Some (last_read l)
 unfolding last_in
@@ -315,7 +293,7 @@ last_found : (word : List ℕ) (l : Option ℕ) → last_in word ≡ Some l
     → (k : Option ℕ) × (number_or_none k ≡ word) × (last_read k ≡ l)
 unfolding last_in
 last_found word l e = elim (chosen (is_none word) (Some None) (number_in word >>= λ n. Some (Some n)) (Some l) e) [
-  | inl h ↦ (None, sym (none_word word h.0), same_Some None l h.1)
+  | inl h ↦ (None, sym (is_none_word word h.0), same_Some None l h.1)
   | inr h ↦ (let b = bind_some (number_in word) (λ n. Some (Some n)) l h.1 in
       let f = number_found word b.0 b.1 in
       (Some (value_of word), f.0, ap (λ z. Some z) (sym f.1) ∙ same_Some (Some b.0) l b.2))
@@ -428,7 +406,7 @@ frame_found models stations line d h =
         cites = x.cites;
         many = x.many;
         wide = x.wide;
-        text = x.text ∙ ap (λ w. w ++ 32 ∷ k.0.1) (sym (same_word k.0.0 (codes "open") a.0))
+        text = x.text ∙ ap (λ w. w ++ 32 ∷ k.0.1) (sym (same_bytes k.0.0 (codes "open") a.0))
             ∙ sym (split_parts 32 line k.0 k.1);
         is = x.is;
       })

@@ -5,8 +5,7 @@ use Rattle.std.specs.Prelude.{slice_get, sum_by}
 use Rattle.std.proofs.lemmas.Bool.{cases_eq}
 use Rattle.std.proofs.lemmas.List.{take_all}
 use Rattle.std.proofs.lemmas.List.Sums.{sum_by_more}
-use Rattle.std.proofs.lemmas.Option.{get_or_from_slice_get}
-use Rattle.line_rules.proofs.LemmasHold.{get_within}
+use Rattle.std.proofs.lemmas.Option.{get_or_from_slice_get, slice_get_within}
 use Rattle.sequence_rules.specs.declared.types.Times.{Times}
 use Rattle.sequence_rules.specs.declared.types.SeqEntry.{SeqEntry}
 use Rattle.sequence_rules.specs.Entries.{Follows, IsDerived, entry_units, units_of}
@@ -16,7 +15,7 @@ use Rattle.sequence_check.proofs.WalkFacts.{same_item}
 -- a sum over a list with one item more
 pub sum_next : {X : Type 0} (f : X → ℕ) (xs : List X) (k : ℕ) (x : X) → slice_get xs k ≡ Some x
     → sum_by f (take (k + 1) xs) ≡ sum_by f (take k xs) + f x
-sum_next f xs k x e = sum_by_more f xs k x (get_within xs k x e)
+sum_next f xs k x e = sum_by_more f xs k x (slice_get_within xs k x e)
     ∙ ap (λ y. sum_by f (take k xs) + f y) (get_or_from_slice_get xs k x x e)
 
 -- the same, of what holds of each item below a place
@@ -49,7 +48,7 @@ pub all_right : (t : Times) (interval reach : ℕ) (es : List SeqEntry) (k units
     → AreRightBelow t interval reach es k units → IsDerived t interval reach es × (units ≡ units_of es)
     × (units ≤ steps)
 all_right t interval reach es k units steps long few below = (
-  λ j e g. below.follow j e (omega (arith, long, get_within es j e g)) g,
+  λ j e g. below.follow j e (omega (arith, long, slice_get_within es j e g)) g,
   below.total ∙ ap (λ xs. units_of xs) (take_all k es long),
   few,
 )

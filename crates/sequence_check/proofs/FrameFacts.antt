@@ -3,7 +3,7 @@ use Rattle.std.proofs.Common.{◌≡◌, ℕ, zero, suc, ◌+◌, ◌-◌, ◌<�
 use Rattle.std.proofs.Common.{Some}
 use Rattle.std.specs.Prelude.{slice_get}
 use Rattle.std.proofs.lemmas.List.{take_all}
-use Rattle.line_rules.proofs.LemmasHold.{get_within}
+use Rattle.std.proofs.lemmas.Option.{slice_get_within}
 use Rattle.sequence_rules.specs.declared.types.Times.{Times}
 use Rattle.sequence_rules.specs.declared.types.SeqEntry.{SeqEntry}
 use Rattle.sequence_rules.specs.declared.types.SeqFrame.{SeqFrame}
@@ -30,7 +30,7 @@ pub all_frames : (t : Times) (interval reach : ℕ) (es : List SeqEntry) (fs : L
     → AreRightTo t interval reach es fs j units → AreRight t interval reach es fs × (units ≡ units_in fs)
     × (units ≤ steps)
 all_frames t interval reach es fs j units steps long few below = (
-  λ i f g. below.right i f (omega (arith, long, get_within fs i f g)) g,
+  λ i f g. below.right i f (omega (arith, long, slice_get_within fs i f g)) g,
   below.total ∙ ap (λ xs. units_in xs) (take_all j fs long),
   few,
 )

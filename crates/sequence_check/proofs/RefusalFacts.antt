@@ -4,7 +4,8 @@ use Rattle.std.proofs.Common.{subst, inl, inr, arith, Some, length-append}
 use Rattle.std.specs.Prelude.{slice_get, sum_by}
 use Rattle.std.proofs.lemmas.Bool.{cases_lt}
 use Rattle.std.proofs.lemmas.List.Sums.{sum_by-take-le}
-use Rattle.line_rules.proofs.LemmasHold.{get_within, get_some}
+use Rattle.std.proofs.lemmas.Option.{slice_get_within}
+use Rattle.line_rules.proofs.ListFacts.{get_some}
 use Rattle.sequence_rules.specs.declared.types.Times.{Times}
 use Rattle.sequence_rules.specs.declared.types.SeqEntry.{SeqEntry}
 use Rattle.sequence_rules.specs.declared.types.SeqFrame.{SeqFrame}
@@ -43,10 +44,10 @@ not_late t interval reach es rem starts need n cites x covers late =
     get_some (passing test n) late.place (omega (
       arith,
       covers.as_many,
-      get_within cites late.place x late.there,
+      slice_get_within cites late.place x late.there,
     )) in
     let own = covers.cited late.place m.0 x m.1 late.there in
-    omega (arith, late.late, get_within es x own.entry own.there)
+    omega (arith, late.late, slice_get_within es x own.entry own.there)
 
 -- what is covered is so by the first cites
 covers_below : (t : Times) (interval reach : ℕ) (es : List SeqEntry) (rem starts : List ℕ) (need n : ℕ) (cites : List ℕ)
@@ -63,7 +64,7 @@ not_uncovered t interval reach es rem starts need n cites model covers below un 
     let p : ℕ = length (passing test model) in
     let there : slice_get (passing test n) p ≡ Some model = passing_at test n model below un.needs in
     let q : (x : ℕ) × (slice_get cites p ≡ Some x) = get_some cites p
-    (omega (arith, covers.enough, get_within (passing test n) p model there)) in
+    (omega (arith, covers.enough, slice_get_within (passing test n) p model there)) in
     un.fails q.0 q.1 (covers.cited p model q.0 there q.1)
 
 not_spare : (t : Times) (interval reach : ℕ) (es : List SeqEntry) (rem starts : List ℕ) (need n : ℕ) (cites : List ℕ)

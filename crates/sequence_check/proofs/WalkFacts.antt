@@ -3,8 +3,8 @@ use Rattle.std.proofs.Common.{◌≡◌, ℕ, ◌+◌, ◌<◌, ◌≤◌, Bool,
 use Rattle.std.proofs.Common.{subst, inl, inr, arith, Some, length-append}
 use Rattle.std.specs.Prelude.{slice_get}
 use Rattle.std.specs.List.{AllZip}
+use Rattle.std.proofs.lemmas.Option.{slice_get_within}
 use Rattle.line_rules.proofs.ListFacts.{get_push_cases}
-use Rattle.line_rules.proofs.LemmasHold.{get_within}
 use Rattle.sequence_rules.specs.declared.types.Times.{Times}
 use Rattle.sequence_rules.specs.declared.types.SeqEntry.{SeqEntry}
 use Rattle.sequence_rules.specs.Entries.{Answers, IsCited, needs_cite, passing}
@@ -74,7 +74,7 @@ covers_take t interval reach es rem starts need cites m cite e there a h =
     × ((p model cite : ℕ) → slice_get xs p ≡ Some model → slice_get cites p ≡ Some cite
     → AnswersStep t interval reach es rem starts need cites model cite) in
     let more : Q (passing test m ++ m ∷ []) = (
-      omega (arith, length-append (passing test m) (m ∷ []), get_within cites (length (passing test m)) cite there),
+      omega (arith, length-append (passing test m) (m ∷ []), slice_get_within cites (length (passing test m)) cite there),
       λ p model x g c. elim (get_push_cases (passing test m) m model p g) [
         | inl q ↦ h.cited p model x q.1 c
         | inr q ↦

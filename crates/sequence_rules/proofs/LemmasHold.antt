@@ -3,8 +3,8 @@ use Rattle.std.proofs.Common.{◌≡◌, ℕ, zero, suc, ◌+◌, ◌-◌, ◌<�
 use Rattle.std.proofs.Common.{length, take, get_or, sym, ap, ◌∙◌, subst, inl, inr, arith, Some}
 use Rattle.std.specs.Prelude.{slice_get}
 use Rattle.std.proofs.lemmas.Bool.{cases_lt, lt-ltb, and_from}
-use Rattle.line_rules.proofs.ListFacts.{get_take, get_longer, get_last}
-use Rattle.line_rules.proofs.LemmasHold.{get_within, get_some}
+use Rattle.std.proofs.lemmas.Option.{slice_get_within}
+use Rattle.line_rules.proofs.ListFacts.{get_take, get_longer, get_last, get_some}
 use Rattle.sequence_rules.specs.declared.types.Times.{Times}
 use Rattle.sequence_rules.specs.declared.types.SeqEntry.{SeqEntry}
 use Rattle.sequence_rules.specs.declared.types.SeqWhy.{SeqWhy}
@@ -75,7 +75,7 @@ by_branch t interval reach earlier e cites held f (m ∷ units) s =
                 get_some cites p (omega (
                   arith,
                   f.covers.as_many,
-                  get_within (passing test (length e.rem)) p m there,
+                  slice_get_within (passing test (length e.rem)) p m there,
                 )) in
                 omega (
                   arith,

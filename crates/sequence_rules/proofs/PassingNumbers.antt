@@ -1,8 +1,7 @@
 -- Numbers that pass a test, with one number more; items of lists; steps that need a cite.
 use Rattle.std.proofs.Common.{◌≡◌, ℕ, zero, suc, ◌+◌, ◌-◌, ◌<◌, ◌≤◌, Bool, true, false, cond, ◌&&◌, nat_lt, List, []}
-use Rattle.std.proofs.Common.{◌∷◌, ◌++◌, length, take, get_or, refl, sym, ap, ◌∙◌, inl, inr, add-one, arith, Some}
+use Rattle.std.proofs.Common.{◌∷◌, ◌++◌, length, get_or, refl, sym, ap, ◌∙◌, inl, inr, add-one, arith}
 use Rattle.std.proofs.Common.{length-append}
-use Rattle.std.specs.Prelude.{slice_get}
 use Rattle.std.proofs.lemmas.Bool.{lt-ltb, cases_lt}
 use Rattle.sequence_rules.specs.declared.types.Times.{Times}
 use Rattle.sequence_rules.specs.States.{step_cost, next_starts, less_one, state_bound}
@@ -37,17 +36,6 @@ none_left rem m e = ap (λ n. nat_lt 0 n) e
 
 pub some_left : (rem : List ℕ) (m : ℕ) → 0 < get_or rem m 0 → is_left rem m ≡ true
 some_left rem m l = lt-ltb 0 (get_or rem m 0) l
-
--- an item of a list stands in what is taken of it
-pub get_taken : {X : Type 0} (xs : List X) (n k : ℕ) (x : X) → k < n → slice_get xs k ≡ Some x
-    → slice_get (take n xs) k ≡ Some x
-get_taken [] n k x l e = absurd (cc)
-get_taken (y ∷ ys) zero k x l e = absurd (omega (arith, l))
-get_taken (y ∷ ys) (suc n) zero x l e = e
-get_taken (y ∷ ys) (suc n) (suc k) x l e = get_taken ys n k x (omega (arith, l)) e
-
-pub same_item : {X : Type 0} (x y : X) → Some x ≡ Some y → x ≡ y
-same_item x y e = cc
 
 -- a model of which no unit is left needs no cite
 pub left_needs : (t : Times) (interval reach : ℕ) (rem starts : List ℕ) (need m : ℕ) → is_left rem m ≡ false

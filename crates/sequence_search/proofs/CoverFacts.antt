@@ -3,10 +3,9 @@ use Rattle.std.proofs.Common.{◌≡◌, ℕ, suc, ◌+◌, ◌-◌, ◌<◌, �
 use Rattle.std.proofs.Common.{get_or, refl, sym, ap, ◌∙◌, subst, inl, inr, add-one, arith, Some, length-append, sum}
 use Rattle.std.specs.Prelude.{slice_get, All}
 use Rattle.std.proofs.lemmas.Bool.Decides.{nat_tests}
-use Rattle.std.proofs.lemmas.Option.{slice_get-get_or}
+use Rattle.std.proofs.lemmas.Option.{slice_get-get_or, slice_get_within}
 use Rattle.std.proofs.lemmas.List.Sums.{sum_by-cons}
-use Rattle.line_rules.proofs.ListFacts.{get_longer, get_push_cases}
-use Rattle.line_rules.proofs.LemmasHold.{get_within, get_some}
+use Rattle.line_rules.proofs.ListFacts.{get_longer, get_push_cases, get_some}
 use Rattle.sequence_rules.specs.declared.types.Times.{Times}
 use Rattle.sequence_rules.specs.declared.types.SeqEntry.{SeqEntry}
 use Rattle.sequence_rules.specs.States.{step_cost, next_starts, less_one}
@@ -105,7 +104,7 @@ cites_within t interval reach es rem starts need n cites h k d l =
     let m : (m : ℕ) × (slice_get (passing test n) k ≡ Some m) =
     get_some (passing test n) k (omega (arith, l, h.as_many)) in
     let own = h.cited k m.0 (get_or cites k d) m.1 (slice_get-get_or cites k d l) in
-    get_within es (get_or cites k d) own.entry own.there
+    slice_get_within es (get_or cites k d) own.entry own.there
 
 -- a frame's units with one step more
 pub units_step : (rem : List ℕ) (a m : ℕ) → a ≤ m → ((k : ℕ) → a ≤ k → k < m → is_left rem k ≡ false)

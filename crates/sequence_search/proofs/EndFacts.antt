@@ -6,7 +6,7 @@ use Rattle.std.specs.Prelude.{slice_get}
 use Rattle.std.proofs.lemmas.Bool.Decides.{nat_tests}
 use Rattle.std.proofs.lemmas.List.{length-take-le, length-replicate, get_or_default}
 use Rattle.std.proofs.lemmas.List.Sums.{sum_by-cons}
-use Rattle.line_rules.proofs.ListFacts.{get_push_cases, get_take, get_longer}
+use Rattle.line_rules.proofs.ListFacts.{get_push_cases, get_take, get_longer, take_next as next}
 use Rattle.sequence_rules.specs.declared.types.Times.{Times}
 use Rattle.sequence_rules.specs.declared.types.SeqEntry.{SeqEntry}
 use Rattle.sequence_rules.specs.declared.types.SeqFrame.{SeqFrame}
@@ -203,8 +203,3 @@ module _ (t : Times) (interval reach goal : ℕ) (es : List SeqEntry) (above : L
 pub take_next : {X : Type 0} (xs : List X) (k : ℕ) (x : X) → slice_get xs k ≡ Some x
     → take (k + 1) xs ≡ take k xs ++ x ∷ []
 take_next xs k x e = ap (λ n. take n xs) (add-one k) ∙ next xs k x e
-  where
-    next : {X : Type 0} (xs : List X) (k : ℕ) (x : X) → slice_get xs k ≡ Some x → take (suc k) xs ≡ take k xs ++ x ∷ []
-    next [] k x e = absurd (cc)
-    next (y ∷ xs) zero x e = let same : y ≡ x = cc in ap (λ z. z ∷ []) same
-    next (y ∷ xs) (suc k) x e = ap (λ ys. y ∷ ys) (next xs k x e)

@@ -5,7 +5,7 @@ use Rattle.std.proofs.Math.Path.{subst⁻¹}
 use Rattle.std.specs.Prelude.{slice_get}
 use Rattle.std.specs.HashMap.{get, Updates}
 use Rattle.std.proofs.lemmas.Bool.{cases_eq, cases_lt, eq-eqb, ne_eqb}
-use Rattle.std.proofs.lemmas.Option.{slice_get_read}
+use Rattle.std.proofs.lemmas.Option.{slice_get_read, same_Some}
 use Rattle.line_rules.proofs.ListFacts.{get_push_cases}
 use Rattle.sequence_rules.specs.Entries.{Answers, HasAnswer}
 use Rattle.sequence_rules.specs.declared.types.SeqEntry.{SeqEntry}
@@ -122,16 +122,13 @@ module _ (es : List SeqEntry) (rem starts : List ℕ) (need : ℕ) where
     ];
   }
   looking n (Some i) few last late = record {
-    within = λ j is. omega (arith, last.0, few, one i j is);
-    keyed = λ j e is there. last.1 e (subst (λ k. slice_get es k ≡ Some e) (sym (one i j is)) there);
+    within = λ j is. omega (arith, last.0, few, same_Some i j is);
+    keyed = λ j e is there. last.1 e (subst (λ k. slice_get es k ≡ Some e) (sym (same_Some i j is)) there);
     passed = λ k e beyond there a. elim (cases_lt k n) [
       | inl less ↦ last.2 k e beyond less there (of_key e a)
       | inr more ↦ late k e more there a
     ];
   }
-    where
-      one : (a b : ℕ) → Some a ≡ Some b → a ≡ b
-      one a b e = cc
 
   -- the entry that is looked at doesn't answer: the one of its key before it is looked at next, and is one of fewer
   looks_on : (latest : Numbered) (before : List (Option ℕ)) (j : ℕ) (e : SeqEntry) (o : Option ℕ)
@@ -142,13 +139,10 @@ module _ (es : List SeqEntry) (rem starts : List ℕ) (need : ℕ) where
       looking j o (omega (arith, look.within j refl))
       (subst (λ key. IsLastOfKey es j key o) (look.keyed j e refl there) (index.chain j e o there led))
       (λ k x more here a. elim (cases_eq k j) [
-        | inl same ↦ isnt (subst (λ y. Answers y rem starts need) (one x e (sym here ∙ ap (slice_get es) same ∙ there))
+        | inl same ↦ isnt (subst (λ y. Answers y rem starts need) (same_Some x e (sym here ∙ ap (slice_get es) same ∙ there))
             a)
         | inr other ↦ look.passed k x (omega (arith, more, other)) here a
       ])
-    where
-      one : (a b : SeqEntry) → Some a ≡ Some b → a ≡ b
-      one a b e = cc
 
   one_of_fewer : (latest : Numbered) (before : List (Option ℕ)) (j : ℕ) (e : SeqEntry) (o : Option ℕ)
       → IsIndexed latest before es

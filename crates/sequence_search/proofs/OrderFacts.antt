@@ -7,8 +7,7 @@ use Rattle.std.proofs.lemmas.Bool.Decides.{nat_tests}
 use Rattle.std.proofs.lemmas.List.{length-set, get_or_past}
 use Rattle.std.proofs.lemmas.List.Sums.{sum_by-append, sum_by_more_le, sum_by_more}
 use Rattle.std.proofs.lemmas.List.Folds.{sum_by-replicate}
-use Rattle.std.proofs.lemmas.Option.{get_or_from_slice_get}
-use Rattle.line_rules.proofs.LemmasHold.{get_within}
+use Rattle.std.proofs.lemmas.Option.{get_or_from_slice_get, slice_get_within, same_Some}
 use Rattle.sequence_rules.specs.declared.types.Times.{Times}
 use Rattle.sequence_rules.specs.declared.types.SeqEntry.{SeqEntry}
 use Rattle.sequence_rules.specs.declared.types.SeqFrame.{SeqFrame}
@@ -18,7 +17,6 @@ use Rattle.sequence_rules.specs.Entries.{HasAnswer, Follows, entry_units, units_
 use Rattle.sequence_rules.specs.Trails.{IsTrail, units_in}
 use Rattle.sequence_rules.specs.Ranges.{AreTimes, IsEntry, IsFrame}
 use Rattle.sequence_rules.proofs.CostFacts.{first_is_left, left_within, rest_is_sequence, as_many_left, bound_holds}
-use Rattle.sequence_rules.proofs.PassingNumbers.{same_item}
 use Rattle.sequence_rules.proofs.LemmasHold.{cited_holds, sound}
 use Rattle.sequence_search.specs.inner.Paths.{IsBook}
 use Rattle.sequence_search.specs.Work.{most_units}
@@ -89,7 +87,7 @@ pub units_fit : (es : List SeqEntry) (k : ℕ) (e : SeqEntry) → slice_get es k
     → units_of (take k es) + entry_units e ≤ units_of es
 units_fit es k e g = omega (
   arith,
-  sum_by_more_le entry_units es k e (get_within es k e g),
+  sum_by_more_le entry_units es k e (slice_get_within es k e g),
   ap entry_units (get_or_from_slice_get es k e e g),
 )
 
@@ -97,7 +95,7 @@ pub units_more : (es : List SeqEntry) (k : ℕ) (e : SeqEntry) → slice_get es 
     → units_of (take (k + 1) es) ≡ units_of (take k es) + entry_units e
 units_more es k e g = omega (
   arith,
-  sum_by_more entry_units es k e (get_within es k e g),
+  sum_by_more entry_units es k e (slice_get_within es k e g),
   ap entry_units (get_or_from_slice_get es k e e g),
 )
 
@@ -125,7 +123,7 @@ root_book t interval reach lower rem starts es times r s is low e =
     let S : List ℕ → List ℕ → Type 0 = λ a b. IsEntry (length t.demands) t.stations (root_entry a b lower) in
     subst P (sym e) (record {
       derived = λ k x g. first k x g (omega (arith, is));
-      fresh = λ j k a b l g h. absurd (omega (arith, l, get_within (root_entry rem starts lower ∷ []) k b h));
+      fresh = λ j k a b l g h. absurd (omega (arith, l, slice_get_within (root_entry rem starts lower ∷ []) k b h));
       root = λ k x g d. least k x g;
       range = λ k x g. only (λ (z : SeqEntry). IsEntry (length t.demands) t.stations z) k x g
           (subst (λ (a : List ℕ). S a starts) (sym r) (subst (λ (b : List ℕ). S t.demands b) (sym s)
@@ -135,19 +133,19 @@ root_book t interval reach lower rem starts es times r s is low e =
   where
     only : (P : SeqEntry → Type 0) (k : ℕ) (x : SeqEntry) → slice_get (root_entry rem starts lower ∷ []) k ≡ Some x
         → P (root_entry rem starts lower) → P x
-    only P zero x g h = let same : root_entry rem starts lower ≡ x = same_item (root_entry rem starts lower) x g in
+    only P zero x g h = let same : root_entry rem starts lower ≡ x = same_Some (root_entry rem starts lower) x g in
         subst P same h
     only P (suc k) x g h = absurd (cc)
 
     first : (k : ℕ) (x : SeqEntry) → slice_get (root_entry rem starts lower ∷ []) k ≡ Some x
         → lower ≤ state_bound t interval reach rem starts → Follows t interval reach
         (take k (root_entry rem starts lower ∷ [])) x
-    first zero x g l = let same : root_entry rem starts lower ≡ x = same_item (root_entry rem starts lower) x g in
+    first zero x g l = let same : root_entry rem starts lower ≡ x = same_Some (root_entry rem starts lower) x g in
         subst (λ (z : SeqEntry). Follows t interval reach [] z) same l
     first (suc k) x g l = absurd (cc)
 
     least : (k : ℕ) (x : SeqEntry) → slice_get (root_entry rem starts lower ∷ []) k ≡ Some x → x.least < lower + 1
-    least zero x g = omega (arith, ap (λ (z : SeqEntry). z.least) (same_item (root_entry rem starts lower) x g))
+    least zero x g = omega (arith, ap (λ (z : SeqEntry). z.least) (same_Some (root_entry rem starts lower) x g))
     least (suc k) x g = absurd (cc)
 
 -- a lower bound that is shown is true

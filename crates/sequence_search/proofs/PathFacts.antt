@@ -8,8 +8,8 @@ use Rattle.std.proofs.lemmas.Bool.Decides.{nat_tests}
 use Rattle.std.proofs.lemmas.List.{take-append-le, length-take-le, length-set, map-append, get_or-set_same}
 use Rattle.std.proofs.lemmas.List.{get_or-set_other, get_or_default}
 use Rattle.std.proofs.lemmas.List.Sums.{sum_by-cons}
+use Rattle.std.proofs.lemmas.Option.{slice_get_within, same_Some}
 use Rattle.line_rules.proofs.ListFacts.{get_push_cases, get_last}
-use Rattle.line_rules.proofs.LemmasHold.{get_within}
 use Rattle.utility_work.specs.Utility.{next_start}
 use Rattle.sequence_rules.specs.declared.types.Times.{Times}
 use Rattle.sequence_rules.specs.declared.types.SeqEntry.{SeqEntry}
@@ -21,7 +21,6 @@ use Rattle.sequence_rules.specs.Trails.{IsLeftBy, IsAskedAt}
 use Rattle.sequence_rules.specs.Ranges.{IsState}
 use Rattle.sequence_rules.proofs.SumFacts.{length-value_at_each}
 use Rattle.sequence_rules.proofs.CostFacts.{cost_steps, left_within}
-use Rattle.sequence_rules.proofs.PassingNumbers.{same_item}
 use Rattle.sequence_search.specs.Steps.{IsNextState}
 use Rattle.sequence_search.specs.inner.Paths.{lasts, IsOn, IsWorked, IsPassed, IsAlong}
 use Rattle.sequence_search.proofs.BookFacts.{take_front, unanswered_more}
@@ -45,7 +44,7 @@ pub along_rest : (t : Times) (interval reach goal : ℕ) (es : List SeqEntry) (a
     → IsAlong t interval reach goal es (above ++ f ∷ []) → IsAlong t interval reach goal es above
 along_rest t interval reach goal es above f along j x g =
     let P : List SeqFrame → Type 0 = λ ys. IsPassed t interval reach goal es ys x in
-    let low : j < length above = get_within above j x g in
+    let low : j < length above = slice_get_within above j x g in
     subst P (take-append-le j above (f ∷ []) (omega (arith, low))) (along j x (longer above f j x g))
   where
     longer : (above : List SeqFrame) (f : SeqFrame) (j : ℕ) (x : SeqFrame) → slice_get above j ≡ Some x
@@ -76,7 +75,7 @@ pub along_grow : (t : Times) (interval reach goal : ℕ) (es : List SeqEntry) (e
     → IsAlong t interval reach goal (es ++ e ∷ []) above
 along_grow t interval reach goal es e above depth along j x g =
     let p : IsPassed t interval reach goal es (take j above) x = along j x g in
-    let low : j < length above = get_within above j x g in
+    let low : j < length above = slice_get_within above j x g in
     record {
       model = p.model;
       last = p.last;
@@ -101,7 +100,7 @@ asked_last t interval reach fs f g h =
     let own : (above : SeqFrame) × ((slice_get (fs ++ f ∷ []) (length fs) ≡ Some above)
     × IsLeftBy t interval reach above g) = subst P n h in
     let Q : SeqFrame → Type 0 = λ z. IsLeftBy t interval reach z g in
-    subst Q (same_item own.0 f (sym own.1.0 ∙ get_last fs f)) own.1.1
+    subst Q (same_Some own.0 f (sym own.1.0 ∙ get_last fs f)) own.1.1
 
 pub left_asked : (t : Times) (interval reach : ℕ) (fs : List SeqFrame) (f g : SeqFrame) → IsLeftBy t interval reach f g
     → IsAskedAt t interval reach (fs ++ f ∷ []) (length (fs ++ f ∷ [])) g

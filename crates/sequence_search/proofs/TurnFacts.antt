@@ -4,6 +4,7 @@ use Rattle.std.proofs.Common.{sym, ap, ◌∙◌, subst, arith, Some, None, Opti
 use Rattle.std.proofs.lemmas.Bool.{and_from, lt-ltb}
 use Rattle.std.proofs.lemmas.List.{append-nil}
 use Rattle.std.proofs.lemmas.List.Sums.{sum_by_push}
+use Rattle.std.proofs.lemmas.Option.{same_Some}
 use Rattle.sequence_rules.specs.declared.types.Times.{Times}
 use Rattle.sequence_rules.specs.declared.types.SeqEntry.{SeqEntry}
 use Rattle.sequence_rules.specs.declared.types.SeqFrame.{SeqFrame}
@@ -12,7 +13,6 @@ use Rattle.sequence_rules.specs.Entries.{IsCited, Covers, HasAnswer, Follows, is
 use Rattle.sequence_rules.specs.Entries.{entry_units, units_of}
 use Rattle.sequence_rules.specs.Trails.{IsRoot, IsLeftBy, IsAskedAt, EndsWell, up_to, frame_units, units_in}
 use Rattle.sequence_rules.proofs.CostFacts.{cost_steps, left_within}
-use Rattle.sequence_rules.proofs.PassingNumbers.{same_item}
 use Rattle.sequence_search.specs.Steps.{IsNextModel, IsNoModel, IsNextState}
 use Rattle.sequence_search.specs.inner.Paths.{lasts, IsWorked, IsPassed, IsAlong, IsTop, IsBook}
 use Rattle.sequence_search.specs.inner.Tries.{entry_of}
@@ -166,7 +166,7 @@ popped t interval reach goal es above f top on passed =
     let m : ℕ = passed.model in
     let by : IsLeftBy t interval reach f top = asked_last t interval reach above f top
     (on.worked.on.asked top refl refl refl) in
-    let is : by.model ≡ m = same_item by.model m (sym by.last ∙ passed.last) in
+    let is : by.model ≡ m = same_Some by.model m (sym by.last ∙ passed.last) in
     let R : top.rem ≡ less_one f.rem m = by.rem ∙ ap (λ k. less_one f.rem k) is in
     let S : top.starts ≡ next_starts t interval reach m f.starts =
     by.starts ∙ ap (λ k. next_starts t interval reach k f.starts) is in

@@ -22,7 +22,6 @@ use Rattle.round_helpers.specs.Growth.{AreAtCycle}
 use Rattle.line_seek.specs.Seeking.{HasSought, RefuteBelow}
 use Rattle.warm_book.specs.Warm.{Taking, TakesAll, untaken}
 use Rattle.warm_book.proofs.TakingFacts.{Adds, all_add}
-use Rattle.round_helpers.proofs.AddedEntries.{units_both}
 use Rattle.round_run.specs.Solving.{FitsAll, SolvesFrom}
 use Rattle.round_run.specs.declared.plans.Plan.{Plan}
 use Rattle.round_run.specs.declared.solving.Outcome.{Outcome}
@@ -31,6 +30,7 @@ use Rattle.solve_command.specs.WarmStart.{old_room, seek_room, seek_line}
 use Rattle.solve_command.specs.inner.Begun.{IsBegun, IsTaken, HasSoughtBehind}
 use Rattle.solve_command.specs.declared.warm_start.Begun.{Begun}
 use Rattle.solve_command.specs.declared.warm_start.Taken.{Taken}
+use Rattle.line_rules.proofs.ListUnits.{units_both}
 
 -- the entries of a claim that is within its ranges
 pub entries_range : (kind : LineKind) (n : ℕ) (a : Ask) (said : Claim) → IsClaim kind n a said

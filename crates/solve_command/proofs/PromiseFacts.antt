@@ -4,7 +4,7 @@ use Rattle.std.specs.declared.result.Result.TheVariants.{Ok, Err}
 use Rattle.std.specs.Prelude.{IfOk, MatchResult}
 use Rattle.std.proofs.Common.{◌≡◌, ◌<◌, inl, inr, ℕ, Bool, true, false, cond, nat_eq, List, ◌++◌, Option, Some, None}
 use Rattle.std.proofs.Common.{refl, sym, ap, subst, arith, rules}
-use Rattle.std.proofs.lemmas.Bool.{eqb-true}
+use Rattle.std.proofs.lemmas.Bool.{eqb-true, cond-true}
 use Rattle.line_instance.specs.Line.{Line, time}
 use Rattle.line_rules.specs.Bounds.{idle_time}
 use Rattle.line_rules.specs.declared.types.LineKind.{LineKind}
@@ -23,11 +23,6 @@ use Rattle.solve_command.specs.WarmStart.{Start, BeginsWith}
 use Rattle.solve_command.specs.Solution.{IsInfeasible, IsBounded, IsSolution, IsCutShort}
 use Rattle.solve_command.specs.Promise.{HasBounds, HasNone, IsShown, bounds_text}
 
--- a choice by a test, where the answer is known
-pub chosen : {X : Type 0} (b : Bool) (x y : X) → b ≡ true → cond b x y ≡ x
-chosen true x y e = refl
-chosen false x y e = absurd (cc)
-
 pub not_chosen : {X : Type 0} (b : Bool) (x y : X) → (b ≡ true → ⊥) → cond b x y ≡ y
 not_chosen true x y f = absurd (f refl)
 not_chosen false x y f = refl
@@ -36,7 +31,7 @@ not_chosen false x y f = refl
 optimum_behind : (first : List ℕ) (kind : LineKind) (b : Assignment) (idle : ℕ)
     → first ++ optimal_text kind b idle ≡ first ++ bounds_text kind b.stations b idle
 optimum_behind first kind b idle =
-    ap (λ (z : List ℕ). first ++ z) (sym (chosen (nat_eq b.stations b.stations) (optimal_text kind b idle)
+    ap (λ (z : List ℕ). first ++ z) (sym (cond-true (nat_eq b.stations b.stations) (optimal_text kind b idle)
     (stopped_text kind b.stations b idle) (search rules)))
 
 stop_behind : (first : List ℕ) (kind : LineKind) (lower : ℕ) (b : Assignment) (idle : ℕ) → lower < b.stations

@@ -1,7 +1,7 @@
 -- A walk and the load that it gave last.
 use Rattle.std.proofs.Common.{◌≡◌, ℕ, ◌+◌, ◌*◌, Bool, true, false, cond, List, refl, sym, ap, ◌∙◌, subst, Option, Some}
 use Rattle.std.proofs.Common.{None, IfSome, arith}
-use Rattle.std.proofs.lemmas.Option.{same_Some}
+use Rattle.std.proofs.lemmas.Option.{cond_some}
 use Rattle.line_instance.specs.Line.{Line, IsLine, IsRanked, IsTaskSet, tasks, has}
 use Rattle.line_instance.specs.Sums.{sum_where}
 use Rattle.line_rules.specs.Loads.{IsLoad, IsFull, taken}
@@ -88,10 +88,6 @@ last_is : (b : Bool) (l : Load) → (b ≡ false → l ≡ nothing_yet) → last
 last_is true l h = refl
 last_is false l h = sym (h refl)
 
-given_is : (b : Bool) (l k : Load) → cond b (Some l) None ≡ Some k → (b ≡ true) × (l ≡ k)
-given_is true l k e = (refl, same_Some l k e)
-given_is false l k e = absurd (cc)
-
 -- a walk that stands at a load given last, or before the first one
 pub stands_at : (line : Line) (c : ℕ) (mode : Mode) (R : List Bool) → IsTaskSet line R
     → (given : Bool) (load : Load) (sum : ℕ) (front back : End) (shorts : Shorts)
@@ -128,7 +124,7 @@ stands_at line c mode R set given load sum front back shorts is nothing total f 
     let P : Load → Type 0 = λ l. IsLoad line c mode R l in
     record {
       set = set;
-      load = λ l e. let q : (given ≡ true) × (pair ≡ l) = given_is given pair l e in subst P (sym same ∙ q.1) (is q.0);
+      load = λ l e. let q : (given ≡ true) × (pair ≡ l) = cond_some given pair l e in subst P (sym same ∙ q.1) (is q.0);
       sum = total ∙ ap (λ l. sum_where (has (taken l)) line.times) (sym (at ∙ same));
       stands = each_side (λ (s : Side). (end_of s new).tasks ≡ part s (last_load new.last))
           (ap (λ (l : Load). l.front) (sym at)) (ap (λ (l : Load). l.back) (sym at));

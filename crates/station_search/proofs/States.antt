@@ -3,7 +3,6 @@ use Rattle.std.proofs.Common.{◌≡◌, ℕ, ◌-◌, ◌<◌, ◌≤◌, List,
 use Rattle.std.proofs.Common.{arith, Option, Some, None, Bool}
 use Rattle.std.specs.Prelude.{slice_get}
 use Rattle.task_set.specs.Truths.{In, IsSubset}
-use Rattle.task_set.specs.Truths.{minus}
 use Rattle.line_instance.specs.Line.{Line, IsRanked, IsTaskSet}
 use Rattle.line_rules.specs.Loads.{IsLoad, Belongs, taken, rest}
 use Rattle.line_rules.specs.Bounds.{bound}
@@ -22,6 +21,7 @@ use Rattle.line_rules.proofs.Paths.{leads_longer, deep_longer, rest_inside}
 use Rattle.station_search.specs.Mode.{frame_mode}
 use Rattle.station_search.specs.Decide.{IsAnswered}
 use Rattle.station_search.specs.inner.Work.{branch_of, with_last, with_cites}
+use Rattle.task_set.proofs.Bits.{length-minus}
 
 -- of a frame that waits for the one below it: its set is one of tasks, it has the mode of its set, and the bound leaves
 -- the rest of its last load open
@@ -41,11 +41,6 @@ pub record IsSearching (asked : Option Mode) (kind : LineKind) (line : Line) (X 
   pub has_mode : frame.mode ≡ frame_mode asked kind line frame.set
   pub stations : 1 ≤ frame.most
   pub held : (k : ℕ) (f : OpenFrame) → slice_get passed k ≡ Some f → IsHeld asked kind line X f
-
-length-minus : (xs ys : List Bool) → length (minus xs ys) ≡ length xs
-length-minus [] ys = refl
-length-minus (x ∷ xs) [] = refl
-length-minus (x ∷ xs) (y ∷ ys) = omega (arith, length-minus xs ys)
 
 -- the rest of a set of tasks is one
 pub rest_tasks : (line : Line) (R : List Bool) (l : Load) → IsTaskSet line R → IsTaskSet line (rest R l)

@@ -9,6 +9,7 @@ use Rattle.std.proofs.lemmas.Simd.{map-map}
 use Rattle.std.proofs.lemmas.List.Elements.{filter-append}
 use Rattle.std.proofs.lemmas.List.Sums.{length-filter, count_by-le-length}
 use Rattle.std.proofs.lemmas.Option.{slice_get_read, slice_get_within, same_Some}
+use Rattle.std.proofs.lemmas.Bool.{eqb-true, lt-ltb}
 use Rattle.steal_pool.specs.declared.piece.Piece.{Piece}
 use Rattle.steal_pool.specs.Hands.{DequeId, PortView, HandView, fresh_port, standing, dealt_to, new_hand, new_hands}
 use Rattle.steal_pool.specs.Hands.{AreNumbered, Rise, IsHandOf, AreHandsOf}
@@ -82,9 +83,6 @@ can_leave ds j b few =
 less_next : (k j : ℕ) → k ≢ j → nat_lt k (j + 1) ≡ nat_lt k j
 less_next k j n = grind (arith, nat_tests)
 
-less_true : (k j : ℕ) → k < j → nat_lt k j ≡ true
-less_true k j l = grind (arith, nat_tests)
-
 pub seats_next : (ds : List DequeId) (j : ℕ) (v w : HandView) → j < length ds
     → v ≡ get_or (map left_hand (seated_below j ds)) j v → w ≡ record v { ports = map fresh_port ds }
     → set (map left_hand (seated_below j ds)) j w ≡ seated_below (j + 1) ds
@@ -97,7 +95,7 @@ seats_next ds j v w b at e =
     let n : length (map left_hand (seated_below j ds)) ≡ length ds =
     length-map (seated_below j ds) left_hand ∙ length_each f 0 ds in
     let p : 1024 - (j + 1) ≡ 1024 - j - 1 = omega arith in
-    let q : nat_lt j (j + 1) ≡ true = less_true j (j + 1) (omega arith) in
+    let q : nat_lt j (j + 1) ≡ true = lt-ltb j (j + 1) (omega arith) in
     ap (λ (z : HandView). set (map left_hand (seated_below j ds)) j z) e
     ∙ change_at c (map left_hand (seated_below j ds)) j v (omega arith) at
     ∙ ap (λ (z : List HandView). change c j z) (each_map left_hand f 0 ds)
@@ -107,7 +105,7 @@ seats_next ds j v w b at e =
 pub seats_all : (ds : List DequeId) (j : ℕ) → j ≡ length ds → seated_below j ds ≡ seated_hands ds
 seats_all ds j e = each_same (λ k d. seated (1024 - j) (cond (nat_lt k j) (map fresh_port ds) []) k d)
     (seated (1024 - length ds) (map fresh_port ds)) 0 ds
-    (λ k x low b. let q = less_true k j (omega arith) in (λ i.
+    (λ k x low b. let q = lt-ltb k j (omega arith) in (λ i.
     seated (1024 - e i) (cond (q i) (map fresh_port ds) []) k x))
 
 goes : ℕ → ℕ → Piece → Bool
@@ -202,9 +200,6 @@ rise_filter p low high (x ∷ xs) r = by (rise_filter p (suc x.number) high xs r
     by more true = (r.0, more)
     by more false = rise_lower low (suc x.number) high (filter p xs) (omega (arith, r.0)) more
 
-same_number : (a b : ℕ) → nat_eq a b ≡ true → a ≡ b
-same_number a b e = grind (arith, nat_tests)
-
 -- what passes a filter stood in the list, and passes the test
 filter_there : (p : Piece → Bool) (xs : List Piece) (i : ℕ) (x : Piece) → slice_get (filter p xs) i ≡ Some x
     → (p x ≡ true) × ((j : ℕ) × (slice_get xs j ≡ Some x))
@@ -242,7 +237,7 @@ are_hands pool pieces numbered few small =
               tell = λ i y ay.
                   let r = filter_there (λ (z : Piece). nat_eq (z.number % length pool) k) pieces i y ay in
                   let n : y.number ≡ r.1.0 = numbered r.1.0 y r.1.1 in
-                  let e : y.number % length pool ≡ k = same_number (y.number % length pool) k r.0 in
+                  let e : y.number % length pool ≡ k = eqb-true (y.number % length pool) k r.0 in
                   inl (omega (arith, n, slice_get_within pieces r.1.0 y r.1.1, few), e);
               numbers = rise_more 0 (0 + length pieces) ((k + 1) * 2 ^ 32 + (length xs - length xs)) xs (omega arith)
                   (rise_filter (λ (y : Piece). nat_eq (y.number % length pool) k) 0 (0 + length pieces) pieces

@@ -3,6 +3,7 @@ use Rattle.std.proofs.Common.{◌≡◌, ℕ, ◌+◌, ◌-◌, ◌<◌, ◌≤�
 use Rattle.std.proofs.Common.{inl, inr, arith, append_assoc, length-append, Option, Some, None}
 use Rattle.std.proofs.lemmas.List.{append-nil}
 use Rattle.std.specs.Prelude.{slice_get, unwrap_or, ◌⊎◌, IfSome}
+use Rattle.std.proofs.lemmas.Option.{same_Some}
 use Rattle.line_rules.proofs.ListFacts.{get_longer, get_push_cases, get_last}
 use Rattle.line_instance.specs.Line.{Line}
 use Rattle.line_rules.specs.declared.types.LineKind.{LineKind}
@@ -14,7 +15,7 @@ use Rattle.lemma_core.specs.Books.{BookView, ran}
 use Rattle.warm_book.specs.Warm.{Taking, number_at, number_of, IsKept, Takes, TakesAll, keeping, dropping, untaken}
 use Rattle.warm_book.specs.inner.Walked.{IsAnsweredAt, AreNumbered, AreWalked, IsWalked, IsSpared}
 use Rattle.warm_book.proofs.NumberFacts.{asks_same}
-use Rattle.warm_book.proofs.TakingFacts.{one_entry, step_adds}
+use Rattle.warm_book.proofs.TakingFacts.{step_adds}
 
 number_is : (o : Option (Option ℕ)) (n : ℕ) → number_at o ≡ Some n → o ≡ Some (Some n)
 number_is None n e = absurd (cc)
@@ -149,7 +150,7 @@ spared_next room b t olds old from k kind line walked h a within there kind_is l
     let w = a.each (k - from) units g in
     let at : from + (k - from) ≡ k = omega (arith, within) in
     let K : ℕ → Type 0 = λ z. slice_get olds z ≡ Some w.entry in
-    let same : w.entry ≡ old = one_entry w.entry old (sym (subst K at w.there) ∙ there) in
+    let same : w.entry ≡ old = same_Some w.entry old (sym (subst K at w.there) ∙ there) in
     let P : Entry → Type 0 = λ z. IsWalked kind line (take (from + (k - from)) olds) z units in
     let T : ℕ → Type 0 = λ z. IsWalked kind line (take z olds) old units in
     let Q : LineKind → Type 0 = λ z. IsWalked z line (take k olds) old units in

@@ -1,5 +1,6 @@
 -- Old entries are taken in one way.
 use Rattle.std.proofs.Common.{◌≡◌, ℕ, ◌+◌, List, [], ◌∷◌, refl, sym, ap, ◌∙◌, subst, inl, inr, arith}
+use Rattle.std.proofs.lemmas.Option.{same_Some}
 use Rattle.line_instance.specs.Line.{Line}
 use Rattle.line_rules.proofs.Monotone.{entries_same}
 use Rattle.line_rules.specs.Units.{UnitsBy}
@@ -7,7 +8,6 @@ use Rattle.line_rules.specs.declared.types.Entry.{Entry}
 use Rattle.lemma_core.specs.Books.{BookView}
 use Rattle.warm_book.specs.declared.warming.Warmed.TheVariants as warmed
 use Rattle.warm_book.specs.Warm.{Taking, IsKept, Takes, TakesAll, IsWarmed, keeping, untaken}
-use Rattle.warm_book.proofs.TakingFacts.{one_entry}
 
 units_once : (line : Line) (e : Entry) (a b : ℕ) → UnitsBy line e e.why a → UnitsBy line e e.why b → a ≡ b
 units_once line e a b x y =
@@ -16,7 +16,7 @@ units_once line e a b x y =
 kept_once : (room : ℕ) (t : Taking) (old a b : Entry) (m n : ℕ) → IsKept room t old a m → IsKept room t old b n
     → keeping t a m ≡ keeping t b n
 kept_once room t old a b m n k l =
-    let same : a ≡ b = one_entry a b (sym k.cites ∙ l.cites) in
+    let same : a ≡ b = same_Some a b (sym k.cites ∙ l.cites) in
     let P : Entry → Type 0 = λ z. UnitsBy t.book.about.line z z.why m in
     let as_many : m ≡ n = units_once t.book.about.line b m n (subst P same k.counted) l.counted in
     ap (λ (z : Entry). keeping t z m) same ∙ ap (λ (z : ℕ). keeping t b z) as_many

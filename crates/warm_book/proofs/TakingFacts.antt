@@ -3,6 +3,7 @@ use Rattle.std.proofs.Common.{◌≡◌, ℕ, zero, suc, ◌+◌, ◌-◌, ◌�
 use Rattle.std.proofs.Common.{subst, inl, inr, arith, append_assoc, Option, Some, None}
 use Rattle.std.proofs.lemmas.List.{append-nil}
 use Rattle.std.specs.Prelude.{slice_get}
+use Rattle.std.proofs.lemmas.Option.{same_Some}
 use Rattle.line_rules.specs.Entries.{Follows}
 use Rattle.line_rules.specs.Units.{UnitsBy, UnitsOf}
 use Rattle.line_instance.specs.Line.{Line}
@@ -16,9 +17,7 @@ use Rattle.line_check.specs.Faults.{Ends}
 use Rattle.line_check.proofs.UnitFacts.{ends_more}
 use Rattle.warm_book.specs.Warm.{Taking, IsKept, Takes, TakesAll, keeping, dropping, untaken, renumbered, IsWarmer}
 use Rattle.warm_book.proofs.NumberFacts.{asks_same}
-
-pub one_entry : (x y : Entry) → Some x ≡ Some y → x ≡ y
-one_entry x y e = cc
+use Rattle.line_rules.proofs.ListFacts.{take_next}
 
 -- an entry that doesn't follow, or takes more units than are left, isn't kept
 module _ (room : ℕ) (t : Taking) (old found : Entry) (kind : LineKind) (line : Line) (es : List Entry)
@@ -26,7 +25,7 @@ module _ (room : ℕ) (t : Taking) (old found : Entry) (kind : LineKind) (line :
     (is : renumbered t.numbers old ≡ Some found) where
   pub fails_so : (Follows kind line es found → ⊥) → (new : Entry) (units : ℕ) → IsKept room t old new units → ⊥
   fails_so not new units k =
-      let s : new ≡ found = one_entry new found (sym k.cites ∙ is) in
+      let s : new ≡ found = same_Some new found (sym k.cites ∙ is) in
       let P : Entry → Type 0 = λ z. Follows t.book.about.kind t.book.about.line t.book.state.entries z in
       let K : LineKind → Type 0 = λ z. Follows z line es found in
       let L : Line → Type 0 = λ z. Follows t.book.about.kind z es found in
@@ -36,7 +35,7 @@ module _ (room : ℕ) (t : Taking) (old found : Entry) (kind : LineKind) (line :
   pub ends_so : (steps : ℕ) → steps ≡ room - t.units → Ends kind line es found steps → (new : Entry) (units : ℕ)
       → IsKept room t old new units → ⊥
   ends_so steps left ends new units k =
-      let s : new ≡ found = one_entry new found (sym k.cites ∙ is) in
+      let s : new ≡ found = same_Some new found (sym k.cites ∙ is) in
       let P : Entry → Type 0 = λ z. UnitsBy t.book.about.line z z.why units in
       let L : Line → Type 0 = λ z. UnitsBy z found found.why units in
       omega (arith, k.sum, left, ends_more kind line es found steps units ends (subst L line_is (subst P s k.counted)))
@@ -49,11 +48,6 @@ takes_one room t [] mid end old h s =
     (end, (subst P (sym h) s, refl))
 takes_one room t (x ∷ xs) mid end old h s = (h.0, (h.1.0, takes_one room h.0 xs mid end old h.1.1 s))
 
-take_one : (es : List Entry) (k : ℕ) (e : Entry) → slice_get es k ≡ Some e → take (suc k) es ≡ take k es ++ e ∷ []
-take_one [] k e h = absurd (cc)
-take_one (x ∷ es) zero e h = let q : x ≡ e = cc in ap (λ (z : Entry). z ∷ []) q
-take_one (x ∷ es) (suc k) e h = ap (λ (z : List Entry). x ∷ z) (take_one es k e h)
-
 pub takes_next : (room : ℕ) (t : Taking) (olds : List Entry) (k : ℕ) (mid end : Taking) (old : Entry)
     → slice_get olds k ≡ Some old → TakesAll room t (take k olds) mid → Takes room mid old end
     → TakesAll room t (take (k + 1) olds) end
@@ -61,7 +55,7 @@ takes_next room t olds k mid end old there h s =
     let e : suc k ≡ k + 1 = omega arith in
     let P : List Entry → Type 0 = λ z. TakesAll room t z end in
     let Q : ℕ → Type 0 = λ z. TakesAll room t (take z olds) end in
-    subst Q e (subst P (sym (take_one olds k old there)) (takes_one room t (take k olds) mid end old h s))
+    subst Q e (subst P (sym (take_next olds k old there)) (takes_one room t (take k olds) mid end old h s))
 
 -- What some old entries add to a book that takes them in.
 pub record Adds (room : ℕ) (t end : Taking) : Type 0 where
@@ -159,7 +153,7 @@ module _ (room : ℕ) (t end : Taking) (old new : Entry) (units : ℕ) (k : IsKe
     where
       later : (j : ℕ) (e : Entry) → slice_get (new ∷ a.added) j ≡ Some e → t.book.about.cycle ≤ e.cycle
       later zero e g =
-          let s : new ≡ e = one_entry new e g in
+          let s : new ≡ e = same_Some new e g in
           omega (arith, k.cycle, (asks_same t.numbers old new k.cites).cycle, ap (λ (z : Entry). z.cycle) s)
       later (suc j) e g = a.cycles j e g
 

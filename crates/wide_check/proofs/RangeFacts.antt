@@ -1,23 +1,15 @@
 -- What is found of each number of a range, as a list.
-use Rattle.std.proofs.Common.{◌≡◌, ℕ, zero, suc, ◌+◌, ◌-◌, List, [], ◌∷◌, length, refl, sym, ap, ◌∙◌, subst, arith}
+use Rattle.std.proofs.Common.{◌≡◌, ℕ, zero, suc, ◌+◌, ◌-◌, List, [], ◌∷◌, sym, ◌∙◌, subst, arith}
 use Rattle.std.proofs.Common.{Some}
 use Rattle.std.specs.Prelude.{slice_get}
 use Rattle.std.specs.List.{AllZip, range_with_len}
+use Rattle.std.proofs.lemmas.List.FromFn.{length-range_with_len}
+use Rattle.std.proofs.lemmas.Slice.Zip.{AllZip-long}
 use Rattle.line_instance.specs.Line.{Line}
 use Rattle.line_rules.specs.declared.types.LineKind.{LineKind}
 use Rattle.line_rules.specs.declared.types.Entry.{Entry}
 use Rattle.line_check.specs.declared.types.Found.{Found}
 use Rattle.wide_check.specs.inner.Batches.{IsFoundAt, AreChecked}
-
-zip_length : {X Y : Type 0} (R : X → Y → Type 0) (xs : List X) (ys : List Y) → AllZip R xs ys → length ys ≡ length xs
-zip_length R [] [] z = refl
-zip_length R [] (y ∷ ys) z = absurd z
-zip_length R (x ∷ xs) [] z = absurd z
-zip_length R (x ∷ xs) (y ∷ ys) z = ap suc (zip_length R xs ys z.1)
-
-range_length : (a n : ℕ) → length (range_with_len a n) ≡ n
-range_length a zero = refl
-range_length a (suc n) = ap suc (range_length (a + 1) n)
 
 zip_at : {Y : Type 0} (R : ℕ → Y → Type 0) (a n : ℕ) (ys : List Y) → AllZip R (range_with_len a n) ys → (j : ℕ) (y : Y)
     → slice_get ys j ≡ Some y → R (a + j) y
@@ -39,7 +31,7 @@ checked_range kind line es from to steps places fs vs same range z =
     let zipped : AllZip R (range_with_len from (to - from)) fs = subst (λ p. AllZip R p fs) range z in
     let P : List Found → Type 0 = λ l. AreChecked kind line es from to steps l in
     subst P (sym same) (record {
-      many = zip_length R (range_with_len from (to - from)) fs zipped
-          ∙ range_length from (to - from);
+      many = AllZip-long R (range_with_len from (to - from)) fs zipped
+          ∙ length-range_with_len from (to - from);
       each = zip_at R from (to - from) fs zipped;
     })

@@ -12,7 +12,7 @@ use Rattle.line_rules.specs.declared.types.Mode.{Mode}
 use Rattle.line_rules.specs.declared.types.Load.{Load}
 use Rattle.line_rules.specs.declared.types.Entry.{Entry}
 use Rattle.line_rules.specs.declared.types.Why.TheVariants as why
-use Rattle.line_rules.proofs.CoverFacts.{get_none}
+use Rattle.line_rules.proofs.ListFacts.{get_none}
 use Rattle.line_rules.proofs.LoadTests.{open_of, open_listed}
 
 -- each cite refutes the rest of the load at its place

@@ -28,7 +28,7 @@ use Rattle.line_rules.specs.declared.types.OpenFrame.{OpenFrame}
 use Rattle.worked_lines.proofs.FirstLoads.{up_to_listed}
 use Rattle.worked_lines.proofs.FreeTasks.{no_row as free_no_row, free_ranked}
 use Rattle.line_rules.proofs.FreeSets.{all_of}
-use Rattle.line_rules.proofs.CoverFacts.{get_none}
+use Rattle.line_rules.proofs.ListFacts.{get_none}
 use Rattle.line_rules.proofs.LongerLists.{derived_push}
 use Rattle.worked_lines.proofs.Branches.{branch_follows}
 use Rattle.line_rules.proofs.LoadTests.{loads_of, loads_listed, full_of, full_listed, open_of, open_listed}

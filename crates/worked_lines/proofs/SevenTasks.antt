@@ -16,7 +16,7 @@ use Rattle.line_rules.specs.declared.types.Why.TheVariants as why
 use Rattle.worked_lines.proofs.FreeTasks.{free_ranked, no_row}
 use Rattle.line_rules.proofs.FreeSets.{all_of}
 use Rattle.line_rules.proofs.All.{In-all}
-use Rattle.line_rules.proofs.CoverFacts.{get_none}
+use Rattle.line_rules.proofs.ListFacts.{get_none}
 use Rattle.line_rules.proofs.LongerLists.{derived_push}
 use Rattle.line_rules.proofs.LoadLists.{with_task, no_tasks}
 use Rattle.line_rules.proofs.LoadTests.{loads_of, loads_listed, open_of}

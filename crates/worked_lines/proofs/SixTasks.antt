@@ -20,7 +20,7 @@ use Rattle.line_rules.specs.declared.types.Entry.{Entry}
 use Rattle.worked_lines.proofs.FreeTasks.{no_member, free_ranked}
 use Rattle.line_rules.proofs.FreeSets.{all_of}
 use Rattle.line_rules.proofs.All.{In-all}
-use Rattle.line_rules.proofs.CoverFacts.{get_none}
+use Rattle.line_rules.proofs.ListFacts.{get_none}
 use Rattle.line_rules.proofs.Unique.{unique}
 use Rattle.line_rules.proofs.LongerLists.{derived_push}
 use Rattle.line_rules.proofs.LoadLists.{with_task, no_tasks}

@@ -1,7 +1,7 @@
 use Rattle.std.proofs.Common.{◌≡◌, ◌∙◌, ap, sym, arith, add-one, take, drop, Some, length, ◌-◌, ◌+◌, suc}
-use Rattle.in2_reader.proofs.Splits.{to_end}
 use Rattle.alb_reader.proofs.Blanks.{no_gap, first_gap}
 use Rattle.alb_reader.proofs.draft.split_gap.Goals as goal
+use Rattle.line_io.proofs.ReadFacts.{to_end}
 
 pub returns-then-is_gap-clause-some : goal.returns-then-is_gap-clause-some
 returns-then-is_gap-clause-some c =

@@ -3,7 +3,7 @@ use Rattle.std.specs.List.{flat_map, range_with_len}
 use Rattle.std.proofs.lemmas.List.{take_all}
 use Rattle.std.proofs.lemmas.List.FromFn.{get_or-range_with_len, length-range_with_len}
 use Rattle.line_instance.specs.Line.{tasks}
-use Rattle.in2_reader.proofs.PrintedItems.{next_written}
+use Rattle.line_io.proofs.PrintedItems.{next_written}
 use Rattle.alb_reader.specs.Written.{timed_line}
 use Rattle.alb_reader.proofs.writing.push_time_lines.Goals as goal
 

@@ -1,13 +1,10 @@
 use Rattle.std.proofs.Common.{◌≡◌, Some, ap, sym, ◌∙◌, refl, length, inl, inr, subst, arith}
 use Rattle.std.specs.Prelude.{slice_get}
 use Rattle.std.proofs.lemmas.Bool.{cases_lt, false≢true}
-use Rattle.std.proofs.lemmas.Option.{slice_get_within, slice_get_read}
+use Rattle.std.proofs.lemmas.Option.{slice_get_within, slice_get_read, same_Some}
 use Rattle.line_rules.specs.Entries.{Answers}
 use Rattle.line_rules.specs.declared.types.Entry.{Entry}
 use Rattle.cert_files.proofs.trimming.first_answer.Goals as goal
-
-one : (x y : Entry) → Some x ≡ Some y → x ≡ y
-one x y e = cc
 
 pub returns-then-answers : goal.returns-then-answers
 returns-then-answers c = record {
@@ -28,7 +25,7 @@ loop-k-preserved c = λ j e l there answers. elim (cases_lt j c.loop-k.k) [
       ap (λ es. slice_get es c.loop-k.k) (sym c.as_slice-entry-items.ensures)
       ∙ slice_get_read c.as_slice-entry-items.result.now _ c.loop-k.k c.entry-item.result refl c.loop-k-test.true
       c.entry-item.is in
-      let x : e ≡ c.entry-item.result = one e c.entry-item.result
+      let x : e ≡ c.entry-item.result = same_Some e c.entry-item.result
       (sym there ∙ ap (slice_get c.args.entries.now) same ∙ here) in
       let P : Entry → Type 0 = λ y. Answers y c.args.set.now c.args.most c.args.cycle in
       let a : Answers c.entry-item.result c.args.set.now c.args.most c.args.cycle = subst P x answers in

@@ -3,9 +3,10 @@ use Rattle.std.proofs.lemmas.Bool.Decides.{nat_tests}
 use Rattle.std.proofs.lemmas.List.{take_all, drop_all}
 use Rattle.line_io.specs.Lines.{is_digit, all_digits, value_of}
 use Rattle.cert_lines.specs.Words.{greatest}
-use Rattle.cert_lines.proofs.Parts.{digits_next, digits_stop, value_next, number_is, number_none, number_unplain}
+use Rattle.cert_lines.proofs.Parts.{digits_stop, value_next, number_is, number_none, number_unplain}
 use Rattle.cert_lines.proofs.Parts.{digit_low, digit_high}
 use Rattle.cert_lines.proofs.words.number.Goals as goal
+use Rattle.line_io.proofs.ReadFacts.{digits_next}
 
 pub returns-then-is_unplain : goal.returns-then-is_unplain
 returns-then-is_unplain c = number_unplain c.args.word.now (sym c.is_unplain.ensures ∙ c.if-is_unplain.true)

@@ -1,14 +1,14 @@
 use Rattle.std.proofs.Common.{◌≡◌, ◌∙◌, sym, ap, [], drop, ◌+◌, ◌/◌, length, eq-eqb}
 use Rattle.std.proofs.lemmas.List.{drop_all}
+use Rattle.std.proofs.lemmas.Bool.{ne_eqb}
 use Rattle.cert_lines.specs.Words.{are_digits, with_digits, with_digit, is_spare}
-use Rattle.cert_lines.proofs.Parts.{not_equal}
 use Rattle.cert_lines.proofs.SetWords.{digits_more, digits_no_hex, digits_no_spare, digits_end, set_end, set_more}
 use Rattle.cert_lines.proofs.SetWords.{set_short, set_none, set_is}
 use Rattle.cert_lines.proofs.words.set_of.Goals as goal
 
 pub returns-then-word-tasks : goal.returns-then-word-tasks
 returns-then-word-tasks c = set_short c.args.tasks c.args.word.now
-    (not_equal (length c.args.word.now) ((c.args.tasks + 3) / 4) c.if-word-tasks.true)
+    (ne_eqb (length c.args.word.now) ((c.args.tasks + 3) / 4) c.if-word-tasks.true)
 
 pub returns-then-not-is_hex : goal.returns-then-not-is_hex
 returns-then-not-is_hex c =

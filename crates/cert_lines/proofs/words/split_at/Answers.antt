@@ -1,6 +1,7 @@
 use Rattle.std.proofs.Common.{◌≡◌, ◌∙◌, ap, sym, arith, add-one, take, drop, Some, length, ◌-◌, ◌+◌, suc}
-use Rattle.cert_lines.proofs.Parts.{no_mark, first_mark, to_end}
+use Rattle.cert_lines.proofs.Parts.{no_mark, first_mark}
 use Rattle.cert_lines.proofs.words.split_at.Goals as goal
+use Rattle.line_io.proofs.ReadFacts.{to_end}
 
 pub returns : goal.returns
 returns c = no_mark c.args.mark c.args.bytes.now (λ k h. c.loop-i.invariant k (omega arith))

@@ -2,13 +2,10 @@ use Rattle.std.proofs.Common.{◌≡◌, ◌<◌, Some, ap, sym, ◌∙◌, refl
 use Rattle.std.specs.Prelude.{slice_get}
 use Rattle.std.specs.List.{Contains}
 use Rattle.std.proofs.lemmas.Bool.{cases_lt}
-use Rattle.std.proofs.lemmas.Option.{slice_get_within, slice_get_read}
+use Rattle.std.proofs.lemmas.Option.{slice_get_within, slice_get_read, same_Some}
 use Rattle.line_rules.specs.declared.types.Entry.{Entry}
 use Rattle.cert_files.specs.Trim.{cited_by}
 use Rattle.cert_tests.proofs.streams.cite_earlier.Goals as goal
-
-one : (x y : Entry) → Some x ≡ Some y → x ≡ y
-one x y e = cc
 
 pub loop-k-preserved : goal.loop-k-preserved
 loop-k-preserved c = λ j e l there cite m. elim (cases_lt j c.loop-k.k) [
@@ -19,7 +16,7 @@ loop-k-preserved c = λ j e l there cite m. elim (cases_lt j c.loop-k.k) [
       ap (λ es. slice_get es c.loop-k.k) (sym c.as_slice-entry-items.ensures)
       ∙ slice_get_read c.as_slice-entry-items.result.now _ c.loop-k.k c.entry-item.result refl c.loop-k-test.true
       c.entry-item.is in
-      let x : e ≡ c.entry-item.result = one e c.entry-item.result
+      let x : e ≡ c.entry-item.result = same_Some e c.entry-item.result
       (sym there ∙ ap (slice_get c.args.entries.now) same ∙ here) in
       let P : Entry → Type 0 = λ y. Contains (cited_by y.why) cite in
       let b : cite < c.loop-k.k = c.if-not-are_before.ensures refl cite (subst P x m) in omega arith

@@ -3,8 +3,8 @@ use Rattle.std.specs.Prelude.{codes}
 use Rattle.cert_lines.specs.Rows.{rows_text, line_text, keyed, fixed, row_text}
 use Rattle.cert_text.specs.Cert.{claim_rows, bounds_rows, list_rows}
 use Rattle.cert_text.proofs.PutTexts.{puts_as, ◌▹◌}
-use Rattle.cert_text.proofs.PutLines.{rows_append}
 use Rattle.cert_text.proofs.lines.put_claim.Goals as goal
+use Rattle.cert_lines.proofs.TextParts.{rows_append}
 
 pub returns-in-TooLong : goal.returns-in-TooLong
 unfolding row_text

@@ -4,8 +4,9 @@ use Rattle.cert_lines.specs.Rows.{rows_text, line_text, keyed}
 use Rattle.cert_lines.specs.ValueRows.{entry_row}
 use Rattle.cert_text.specs.Cert.{trail_rows}
 use Rattle.cert_text.proofs.PutTexts.{puts, puts_as, ◌▹◌}
-use Rattle.cert_text.proofs.PutLines.{next_line, all_lines, rows_append}
+use Rattle.cert_text.proofs.PutLines.{next_line, all_lines}
 use Rattle.cert_text.proofs.lines.put_list.Goals as goal
+use Rattle.cert_lines.proofs.TextParts.{rows_append}
 
 pub loop-entry-preserved : goal.loop-entry-preserved
 loop-entry-preserved g c =

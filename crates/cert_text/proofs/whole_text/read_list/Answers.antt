@@ -1,7 +1,7 @@
 use Rattle.std.proofs.Common.{◌∙◌, ◌-◌, length, [], arith}
-use Rattle.cert_lines.proofs.Parts.{to_end}
 use Rattle.cert_text.proofs.ListAnswers.{list_answer, list_fault, no_list}
 use Rattle.cert_text.proofs.whole_text.read_list.Goals as goal
+use Rattle.line_io.proofs.ReadFacts.{to_end}
 
 pub returns-in-Err-Fault-clause-read : goal.returns-in-Err-Fault-clause-read
 returns-in-Err-Fault-clause-read c =

@@ -3,8 +3,9 @@ use Rattle.std.specs.List.{flat_map}
 use Rattle.std.specs.Prelude.{slice_get, Some}
 use Rattle.std.proofs.lemmas.List.{take_all}
 use Rattle.cert_lines.specs.Numbers.{number_text, cites_text}
-use Rattle.cert_text.proofs.PutTexts.{nothing, puts, next_text}
+use Rattle.cert_text.proofs.PutTexts.{nothing, puts}
 use Rattle.cert_text.proofs.writing.put_cites.Goals as goal
+use Rattle.line_io.proofs.PrintedItems.{next_text}
 
 pub loop-cite-init : goal.loop-cite-init
 loop-cite-init g c = nothing _ _ _ refl

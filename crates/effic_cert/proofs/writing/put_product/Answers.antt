@@ -3,9 +3,9 @@ use Rattle.std.specs.Prelude.{codes}
 use Rattle.cert_lines.specs.Rows.{rows_text, fixed, row_text}
 use Rattle.cert_text.specs.Cert.{list_rows}
 use Rattle.cert_text.proofs.PutTexts.{puts_as, ◌▹◌}
-use Rattle.cert_text.proofs.PutLines.{rows_append}
 use Rattle.effic_cert.specs.Product.{asked_rows, bound_rows, balance_rows, product_rows}
 use Rattle.effic_cert.proofs.writing.put_product.Goals as goal
+use Rattle.cert_lines.proofs.TextParts.{rows_append}
 
 pub returns : goal.returns
 unfolding row_text product_rows

@@ -1,16 +1,13 @@
 use Rattle.std.proofs.Common.{◌≡◌, ◌∙◌, ℕ, sym, ap, subst, inl, inr, arith, Some}
 use Rattle.std.specs.Prelude.{slice_get}
 use Rattle.std.proofs.lemmas.Bool.{cases_eq, false≢true}
+use Rattle.std.proofs.lemmas.Option.{same_Some, slice_get_within}
 use Rattle.line_rules.specs.Balance.{all_tasks}
 use Rattle.line_rules.specs.Entries.{HasAnswer}
 use Rattle.line_rules.specs.declared.types.Entry.{Entry}
-use Rattle.line_rules.proofs.LemmasHold.{get_within}
 use Rattle.task_set.specs.inner.Words.{equal_sets}
 use Rattle.effic_search.proofs.counting.greatest_refuted.Goals as goal
 use Rattle.effic_search.proofs.counting.greatest_refuted.Goals.{then-eq, else-eq}
-
-one_entry : (x y : Entry) → Some x ≡ Some y → x ≡ y
-one_entry x y e = cc
 
 pub loop-k-preserved : goal.loop-k-preserved
 loop-k-preserved c =
@@ -19,7 +16,7 @@ loop-k-preserved c =
     let k = c.loop-k.k in
     let x = c.at-entry.result.now in
     let here : (j : ℕ) (e : Entry) → j ≡ k → slice_get es j ≡ Some e → e ≡ x =
-    λ j e q g. one_entry e x (sym g ∙ (ap (λ (z : ℕ). slice_get es z) q ∙ c.at-entry.ensures)) in
+    λ j e q g. same_Some e x (sym g ∙ (ap (λ (z : ℕ). slice_get es z) q ∙ c.at-entry.ensures)) in
     elim c.if-eq.branch [
       | then-eq w ↦
           let same = (equal_sets x.set c.all-all.result).0 (sym c.eq.ensures ∙ w.if-eq.true)
@@ -60,7 +57,7 @@ pub returns : goal.returns
 returns c = record {
   refuted = c.loop-k.invariant.0;
   greatest = λ cycle h.
-      let within = get_within c.args.entries.now h.0 h.1 h.2.0 in
+      let within = slice_get_within c.args.entries.now h.0 h.1 h.2.0 in
       let old = c.loop-k.invariant.1 h.0 h.1 (omega (arith, within, c.loop-k-test.false, c.len-k-end.ensures)) h.2.0
       h.2.1.same h.2.1.stations in
       omega (arith, old, h.2.1.long);

@@ -1,6 +1,6 @@
 use Rattle.std.proofs.Common.{arith, string_bytes}
 use Rattle.in2_reader.specs.Written.{pair_line}
-use Rattle.in2_reader.proofs.PrintedItems.{next_written}
+use Rattle.line_io.proofs.PrintedItems.{next_written}
 use Rattle.in2_reader.proofs.Lines.{pair_part}
 use Rattle.in2_reader.proofs.writing.push_pairs.Goals as goal
 

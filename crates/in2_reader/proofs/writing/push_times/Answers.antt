@@ -1,6 +1,6 @@
 use Rattle.std.proofs.Common.{arith, string_bytes, ap, sym}
 use Rattle.in2_reader.specs.Written.{number_line}
-use Rattle.in2_reader.proofs.PrintedItems.{next_written}
+use Rattle.line_io.proofs.PrintedItems.{next_written}
 use Rattle.in2_reader.proofs.writing.push_times.Goals as goal
 
 pub loop-i-preserved : goal.loop-i-preserved

@@ -3,9 +3,9 @@ use Rattle.std.proofs.lemmas.Bool.{false≢true}
 use Rattle.line_rules.specs.Units.{UnitsBy}
 use Rattle.line_rules.specs.Entries.{FollowsBy}
 use Rattle.line_rules.specs.declared.types.Why.{Why}
-use Rattle.line_check.proofs.Exact.{get_taken_of}
 use Rattle.line_check.proofs.EntryFaults.{swapped, swap_of}
 use Rattle.line_check.proofs.entries.check_swap.Goals as goal
+use Rattle.line_rules.proofs.ListFacts.{get_taken}
 
 pub returns-then-cite-k : goal.returns-then-cite-k
 returns-then-cite-k c = λ kind steps. (
@@ -33,7 +33,7 @@ returns-then-is_swapped c = λ kind steps.
         cycle = c.requires.cycle.some;
         by = subst Q (sym c.requires.way) (swapped c.args.inst.now (take c.args.k c.args.entries.now) c.args.entry.now
             c.at.result.now c.args.cite c.args.out_task c.args.in_task
-            (get_taken_of c.args.entries.now c.args.k c.args.cite c.at.result.now (omega (arith, c.if-cite-k.false))
+            (get_taken c.args.entries.now c.args.k c.args.cite c.at.result.now (omega (arith, c.if-cite-k.false))
             c.at.ensures) (c.is_swapped.ensures.0 c.if-is_swapped.true));
       },
       subst P (sym c.requires.way) refl,
@@ -53,7 +53,7 @@ returns c = λ kind steps. (
           omega (arith, length-take c.args.k c.args.entries.now, c.requires.k, c.if-cite-k.false),
           λ f. false≢true (sym c.if-is_swapped.false ∙ c.is_swapped.ensures.1
               (swap_of c.args.inst.now (take c.args.k c.args.entries.now) c.args.entry.now c.at.result.now c.args.cite
-              c.args.out_task c.args.in_task (get_taken_of c.args.entries.now c.args.k c.args.cite c.at.result.now
+              c.args.out_task c.args.in_task (get_taken c.args.entries.now c.args.k c.args.cite c.at.result.now
               (omega (arith, c.if-cite-k.false)) c.at.ensures) f)),
         ),
       ),

@@ -1,5 +1,5 @@
 use Rattle.std.proofs.Common.{ℕ, ◌+◌, nat_eq, refl, subst, arith}
-use Rattle.line_rules.proofs.LemmasHold.{get_within}
+use Rattle.std.proofs.lemmas.Option.{slice_get_within}
 use Rattle.line_check.specs.Walks.{AreBelow, IsUncovered, CountsTo}
 use Rattle.line_check.specs.Frames.{EndsWell, WalksTo, NeedsTo}
 use Rattle.line_check.proofs.frames.check_frame.Goals as goal
@@ -7,7 +7,7 @@ use Rattle.line_check.proofs.frames.check_frame.Goals as goal
 pub overflow_add-deepest : goal.overflow_add-deepest
 overflow_add-deepest c = omega (
   arith,
-  get_within c.args.frames.now c.args.j c.args.frame.now c.requires.there,
+  slice_get_within c.args.frames.now c.args.j c.args.frame.now c.requires.there,
   c.requires.few,
 )
 

@@ -1,8 +1,9 @@
 use Rattle.std.proofs.Common.{◌∙◌, sym, ap, take, drop, length, ◌-◌, [], ◌∷◌, string_bytes, codes, inl}
 use Rattle.line_words.specs.Words.{texts}
 use Rattle.line_words.specs.Table.{command_named}
-use Rattle.line_words.proofs.Behind.{answered, first_text, rest_is, one_word, alone, same_bytes}
+use Rattle.line_words.proofs.Behind.{answered, first_text, rest_is, one_word, alone}
 use Rattle.line_words.proofs.reading.job_of.Goals as goal
+use Rattle.line_io.proofs.ReadFacts.{same_bytes}
 
 pub returns-then-eq-clause-read : goal.returns-then-eq-clause-read
 returns-then-eq-clause-read c =

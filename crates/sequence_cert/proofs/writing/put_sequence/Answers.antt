@@ -2,9 +2,9 @@ use Rattle.std.proofs.Common.{◌∙◌, ◌++◌, ◌∷◌, [], ap}
 use Rattle.std.specs.Prelude.{codes}
 use Rattle.cert_lines.specs.Rows.{rows_text, fixed, row_text}
 use Rattle.cert_text.proofs.PutTexts.{puts_as, ◌▹◌}
-use Rattle.cert_text.proofs.PutLines.{rows_append}
 use Rattle.sequence_cert.specs.SequenceText.{head_rows, unit_rows, entry_rows, frame_rows, list_rows, sequence_rows}
 use Rattle.sequence_cert.proofs.writing.put_sequence.Goals as goal
+use Rattle.cert_lines.proofs.TextParts.{rows_append}
 
 pub returns : goal.returns
 unfolding row_text sequence_rows

@@ -1,6 +1,6 @@
 use Rattle.std.proofs.Common.{◌∙◌, ℕ, sym, arith}
 use Rattle.std.proofs.lemmas.Bool.{false≢true}
-use Rattle.line_rules.proofs.LemmasHold.{get_within}
+use Rattle.std.proofs.lemmas.Option.{slice_get_within}
 use Rattle.sequence_rules.specs.Entries.{Answers}
 use Rattle.sequence_rules.specs.declared.types.SeqEntry.{SeqEntry}
 use Rattle.sequence_check.proofs.EntryFacts.{below_next}
@@ -27,5 +27,5 @@ returns-then-answers-clause-some c = λ e. (
 
 pub returns-clause-none : goal.returns-clause-none
 returns-clause-none c = λ h. absurd (c.loop-k.invariant h.0 h.1.entry
-    (omega (arith, get_within c.args.entries.now h.0 h.1.entry h.1.there, c.loop-k-test.false, c.len-k-end.ensures))
+    (omega (arith, slice_get_within c.args.entries.now h.0 h.1.entry h.1.there, c.loop-k-test.false, c.len-k-end.ensures))
     h.1.there h.1.answers)

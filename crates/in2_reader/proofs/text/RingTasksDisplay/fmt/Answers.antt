@@ -2,7 +2,7 @@ use Rattle.std.proofs.Common.{rules, arith, ◌≡◌, ◌∙◌, ◌+◌, ◌++
 use Rattle.std.specs.Prelude.{codes, decimal}
 use Rattle.in2_reader.specs.Texts.{ring_text, task_text}
 use Rattle.std.proofs.Output.{has_written_append, has_written_of_eq}
-use Rattle.in2_reader.proofs.PrintedItems.{next_text}
+use Rattle.line_io.proofs.PrintedItems.{next_text}
 use Rattle.in2_reader.proofs.text.RingTasksDisplay.fmt.Goals as goal
 
 pub loop-k-preserved : goal.loop-k-preserved
