@@ -85,7 +85,10 @@ first_entry all e f es new base n numbers up at take_it leave_it (suc i, x, g, m
     left_out (leave_it (λ p l. behind_first all e es base (n ∷ numbers) (f ∷ new) p (above p) (at p l)))
   where
     above : (p j : ℕ) → slice_get (n ∷ numbers) p ≡ Some j → base < j
-    above zero j v = let q : n ≡ j = same_Some n j v in let b : n ≡ base + suc i = same_Some n (base + suc i) m in omega arith
+    above zero j v =
+        let q : n ≡ j = same_Some n j v in
+        let b : n ≡ base + suc i = same_Some n (base + suc i) m in
+        omega arith
     above (suc p) j v = let b : n ≡ base + suc i = same_Some n (base + suc i) m in
         omega (arith, up 0 (suc p) n j (omega arith) refl v)
 

@@ -211,7 +211,8 @@ module _ (es : List Entry) (numbers : List ℕ) (new : List Entry) (up : IsAscen
       → IsFirstAnswer es set most cycle goal → HasAnswer new set most cycle
   answer_moved set most cycle goal c first =
       let a : IsKeptAt es numbers new c.0 = all.each c.0 (omega (arith, all.as_many, c.1)) in
-      let n : a.number ≡ goal = same_Some a.number goal (sym a.kept ∙ slice_get_read numbers _ c.0 goal refl c.1 (sym c.2)) in
+      let n : a.number ≡ goal =
+      same_Some a.number goal (sym a.kept ∙ slice_get_read numbers _ c.0 goal refl c.1 (sym c.2)) in
       let o : a.old ≡ first.entry = same_Some a.old first.entry (sym a.there ∙ ap (slice_get es) n ∙ first.there) in
       let P : Entry → Type 0 = λ x. Answers x set most cycle in
       let h : Answers a.old set most cycle = subst P (sym o) first.answers in (

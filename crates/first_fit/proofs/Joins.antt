@@ -86,7 +86,7 @@ module _ (kind : LineKind) (line : Line) (f : Filled) (task : ℕ) (side : Side)
   former : (b : Pick) → IsOver task side b → weight line task side ≤ weight line b.task b.side
       → RanksFirst line b.task b.side task side
   former b over l = elim (cases_lt (weight line task side) (weight line b.task b.side)) [
-    | inl lt-ltb ↦ inl lt-ltb
+    | inl less ↦ inl less
     | inr more ↦ inr (omega arith, elim over [ inl s ↦ inl s | inr q ↦ inr (q.0, inl q.2) ])
   ]
 

@@ -10,8 +10,8 @@ use Rattle.line_rules.specs.declared.types.Load.{Load}
 use Rattle.line_rules.specs.declared.types.Entry.{Entry}
 use Rattle.line_rules.proofs.ListFacts.{get_longer, get_push_cases, get_last, get_none}
 
-pub lists_same : (line : Line) (P Q : Load → Type 0) (ls : List Load) → ((l : Load) → P l → Q l) → ((l : Load) → Q l → P l)
-    → Lists line P ls → Lists line Q ls
+pub lists_same : (line : Line) (P Q : Load → Type 0) (ls : List Load) → ((l : Load) → P l → Q l)
+    → ((l : Load) → Q l → P l) → Lists line P ls → Lists line Q ls
 lists_same line P Q ls f g h = record {
   rises = h.rises;
   sound = λ k a e. f a (h.sound k a e);

@@ -98,30 +98,30 @@ times_end {line} {R} {total} {most} {left} ok set e sum long =
     }
 
 -- how great the counts can be
-pub record Few (line : Line) (long above half sixths_whole : ℕ) : Type 0 where
+pub record Few (line : Line) (long above half six : ℕ) : Type 0 where
   pub too_long : long ≤ length line.times
   pub above_half : above ≤ length line.times
   pub at_half : half ≤ length line.times
-  pub sixths : sixths_whole ≤ length line.times * 6
+  pub sixths : six ≤ length line.times * 6
 
 -- the counts of the members of R that were gone over, and what the listed ones, which are left, add to them
-record Listed (line : Line) (c : ℕ) (R : List Bool) (long above half sixths_whole : ℕ) (left : List ℕ) : Type 0 where
+record Listed (line : Line) (c : ℕ) (R : List Bool) (long above half six : ℕ) (left : List ℕ) : Type 0 where
   too_long : long + weight_of (λ t. cond (nat_lt c t) 1 0) line.times left
       ≡ count_where (λ t. nat_lt c t) (has R) line.times
   above_half : above + weight_of (λ t. cond (nat_lt c (2 * t)) 1 0) line.times left
       ≡ count_where (λ t. nat_lt c (2 * t)) (has R) line.times
   at_half : half + weight_of (λ t. cond (nat_eq (2 * t) c) 1 0) line.times left
       ≡ count_where (λ t. nat_eq (2 * t) c) (has R) line.times
-  sixths : sixths_whole + weight_of (sixths c) line.times left ≡ weigh (sixths c) (has R) line.times
+  sixths : six + weight_of (sixths c) line.times left ≡ weigh (sixths c) (has R) line.times
 
-pub record Counting (line : Line) (c : ℕ) (R : List Bool) (long above half sixths_whole : ℕ) (left : List ℕ) : Type 0 where
+pub record Counting (line : Line) (c : ℕ) (R : List Bool) (long above half six : ℕ) (left : List ℕ) : Type 0 where
   pub members : AllIn R left
-  listed : Listed line c R long above half sixths_whole left
-  pub few : Few line long above half sixths_whole
+  listed : Listed line c R long above half six left
+  pub few : Few line long above half six
 
-counting_of : {line : Line} {c : ℕ} {R : List Bool} {long above half sixths_whole : ℕ} {left : List ℕ} → AllIn R left
-    → Listed line c R long above half sixths_whole left → Counting line c R long above half sixths_whole left
-counting_of {line} {c} {R} {long} {above} {half} {sixths_whole} {left} all h = record {
+counting_of : {line : Line} {c : ℕ} {R : List Bool} {long above half six : ℕ} {left : List ℕ} → AllIn R left
+    → Listed line c R long above half six left → Counting line c R long above half six left
+counting_of {line} {c} {R} {long} {above} {half} {six} {left} all h = record {
   members = all;
   listed = h;
   few = record {
@@ -141,12 +141,12 @@ count_start {line} c {R} {left} set e = counting_of (all_in_start R left e) (rec
   sixths = weight_start (sixths c) line.times left R set.tasks e;
 })
 
-pub count_turn : {line : Line} {c : ℕ} {R : List Bool} {long above half sixths_whole : ℕ} {left : List ℕ}
-    → Counting line c R long above half sixths_whole left → {i t p q r w : ℕ} {more : List ℕ} → left ≡ i ∷ more → t ≡ time line i
+pub count_turn : {line : Line} {c : ℕ} {R : List Bool} {long above half six : ℕ} {left : List ℕ}
+    → Counting line c R long above half six left → {i t p q r w : ℕ} {more : List ℕ} → left ≡ i ∷ more → t ≡ time line i
     → p ≡ bool_byte (nat_lt c t) → q ≡ bool_byte (nat_lt c (2 * t)) → r ≡ bool_byte (nat_eq (2 * t) c) → w ≡ sixths c t
-    → Counting line c R (long + p) (above + q) (half + r) (sixths_whole + w) more
-count_turn {line} {c} {R} {long} {above} {half} {sixths_whole} {left} at {i} {t} {p} {q} {r} {w} {more} e is ep eq er ew =
-    let h : Listed line c R long above half sixths_whole left = at.listed in
+    → Counting line c R (long + p) (above + q) (half + r) (six + w) more
+count_turn {line} {c} {R} {long} {above} {half} {six} {left} at {i} {t} {p} {q} {r} {w} {more} e is ep eq er ew =
+    let h : Listed line c R long above half six left = at.listed in
     let bp : p ≡ cond (nat_lt c (get_or line.times i 0)) 1 0 =
     ep ∙ ap (λ n. bool_byte (nat_lt c n)) is ∙ byte_is (nat_lt c (get_or line.times i 0)) in
     let bq : q ≡ cond (nat_lt c (2 * get_or line.times i 0)) 1 0 =
@@ -176,15 +176,15 @@ count_turn {line} {c} {R} {long} {above} {half} {sixths_whole} {left} at {i} {t}
       sixths = omega (
         arith,
         bw,
-        weight_turn (sixths c) line.times left more i sixths_whole (weigh (sixths c) (has R) line.times)
+        weight_turn (sixths c) line.times left more i six (weigh (sixths c) (has R) line.times)
             e h.sixths,
       );
     })
 
-pub count_end : {line : Line} {c : ℕ} {R : List Bool} {long above half sixths_whole : ℕ} {left : List ℕ}
-    → Counting line c R long above half sixths_whole left → IsLine line → left ≡ [] → AreCounts line c R long above half sixths_whole
-count_end {line} {c} {R} {long} {above} {half} {sixths_whole} {left} at ok e =
-    let h : Listed line c R long above half sixths_whole left = at.listed in
+pub count_end : {line : Line} {c : ℕ} {R : List Bool} {long above half six : ℕ} {left : List ℕ}
+    → Counting line c R long above half six left → IsLine line → left ≡ [] → AreCounts line c R long above half six
+count_end {line} {c} {R} {long} {above} {half} {six} {left} at ok e =
+    let h : Listed line c R long above half six left = at.listed in
     record {
       too_long = weight_end (λ t. cond (nat_lt c t) 1 0) line.times left long
           (count_where (λ t. nat_lt c t) (has R) line.times) e h.too_long;
@@ -192,7 +192,7 @@ count_end {line} {c} {R} {long} {above} {half} {sixths_whole} {left} at ok e =
           (count_where (λ t. nat_lt c (2 * t)) (has R) line.times) e h.above_half;
       at_half = weight_end (λ t. cond (nat_eq (2 * t) c) 1 0) line.times left half
           (count_where (λ t. nat_eq (2 * t) c) (has R) line.times) e h.at_half;
-      sixths = weight_end (sixths c) line.times left sixths_whole (weigh (sixths c) (has R) line.times) e h.sixths;
+      sixths = weight_end (sixths c) line.times left six (weigh (sixths c) (has R) line.times) e h.sixths;
       most_halves = omega (arith, at.few.above_half, ok.small);
       most_half = omega (arith, at.few.at_half, ok.small);
       most_sixths = omega (arith, at.few.sixths, ok.small);

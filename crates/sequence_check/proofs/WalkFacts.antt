@@ -74,7 +74,11 @@ covers_take t interval reach es rem starts need cites m cite e there a h =
     × ((p model cite : ℕ) → slice_get xs p ≡ Some model → slice_get cites p ≡ Some cite
     → AnswersStep t interval reach es rem starts need cites model cite) in
     let more : Q (passing test m ++ m ∷ []) = (
-      omega (arith, length-append (passing test m) (m ∷ []), slice_get_within cites (length (passing test m)) cite there),
+      omega (
+        arith,
+        length-append (passing test m) (m ∷ []),
+        slice_get_within cites (length (passing test m)) cite there,
+      ),
       λ p model x g c. elim (get_push_cases (passing test m) m model p g) [
         | inl q ↦ h.cited p model x q.1 c
         | inr q ↦

@@ -139,8 +139,9 @@ module _ (es : List SeqEntry) (rem starts : List ℕ) (need : ℕ) where
       looking j o (omega (arith, look.within j refl))
       (subst (λ key. IsLastOfKey es j key o) (look.keyed j e refl there) (index.chain j e o there led))
       (λ k x more here a. elim (cases_eq k j) [
-        | inl same ↦ isnt (subst (λ y. Answers y rem starts need) (same_Some x e (sym here ∙ ap (slice_get es) same ∙ there))
-            a)
+        | inl same ↦
+            let is : x ≡ e = same_Some x e (sym here ∙ ap (slice_get es) same ∙ there) in
+            isnt (subst (λ y. Answers y rem starts need) is a)
         | inr other ↦ look.passed k x (omega (arith, more, other)) here a
       ])
 

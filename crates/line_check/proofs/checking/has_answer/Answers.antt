@@ -21,4 +21,5 @@ loop-k-preserved c = λ j e l h a. elim (cases_eq j c.loop-k.k) [
 
 pub returns-clause-none : goal.returns-clause-none
 returns-clause-none c = λ h. absurd (c.loop-k.invariant h.0 h.1
-    (omega (arith, slice_get_within c.args.entries.now h.0 h.1 h.2.0, c.loop-k-test.false, c.len-k-end.ensures)) h.2.0 h.2.1)
+    (omega (arith, slice_get_within c.args.entries.now h.0 h.1 h.2.0, c.loop-k-test.false, c.len-k-end.ensures)) h.2.0
+    h.2.1)

@@ -27,5 +27,10 @@ returns-then-answers-clause-some c = λ e. (
 
 pub returns-clause-none : goal.returns-clause-none
 returns-clause-none c = λ h. absurd (c.loop-k.invariant h.0 h.1.entry
-    (omega (arith, slice_get_within c.args.entries.now h.0 h.1.entry h.1.there, c.loop-k-test.false, c.len-k-end.ensures))
+    (omega (
+      arith,
+      slice_get_within c.args.entries.now h.0 h.1.entry h.1.there,
+      c.loop-k-test.false,
+      c.len-k-end.ensures,
+    ))
     h.1.there h.1.answers)
