@@ -14,7 +14,7 @@ use Rattle.in2_reader.proofs.Digits.{Spell, number_read, not_gap, gaps_front, di
 use Rattle.alb_reader.specs.Sections.{mark_of, named}
 use Rattle.alb_reader.specs.Faults.{gap_split, timed, timed_by}
 use Rattle.alb_reader.specs.declared.mark.Mark.TheVariants.{Body}
-use Rattle.in2_reader.proofs.Digits.{back_kept, not_blank}
+use Rattle.in2_reader.proofs.Digits.{back_kept as back_solid, not_blank}
 use Rattle.line_io.proofs.ReadFacts.{right, left}
 
 -- no byte ends a line
@@ -57,7 +57,7 @@ with_kept : (b c : ℕ) (xs : List ℕ) → with_first b (c ∷ xs) ≡ b ∷ c 
 with_kept b c xs = refl
 
 back_kept : (xs es : List ℕ) → all_solid es ≡ true → 0 < length es → without_back (xs ++ es) ≡ xs ++ es
-back_kept [] es e some = back_kept es e
+back_kept [] es e some = back_solid es e
 back_kept (x ∷ xs) es e some = ap (with_first x) (back_kept xs es e some)
     ∙ some_first x (xs ++ es) (omega (arith, some, length-append xs es))
   where

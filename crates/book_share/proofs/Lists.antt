@@ -36,8 +36,8 @@ begins_whole xs ys p l =
     let none : p.0 ≡ [] = no_more p.0 (omega (arith, length-append xs p.0, e)) in
     sym (append-nil xs) ∙ ap (λ z. xs ++ z) (sym none) ∙ p.1
 
-pub begins_longer : (xs ys h : List Item) → Begins xs h → Begins ys h → Begins (longer xs ys) h
-begins_longer xs ys h p q = by (nat_lt (length xs) (length ys))
+pub longer_begins : (xs ys h : List Item) → Begins xs h → Begins ys h → Begins (longer xs ys) h
+longer_begins xs ys h p q = by (nat_lt (length xs) (length ys))
   where
     by : (b : Bool) → Begins (cond b ys xs) h
     by true = q

@@ -14,7 +14,7 @@ use Rattle.book_share.specs.Passes.{Phase, Idle, Base, PassView}
 use Rattle.book_share.specs.Places.{longer, times, once_from, Rises, total}
 use Rattle.book_share.specs.Rule.{spent, turn_of, shown, counted, fewest, Stands, Home, IsIdle, OwnRises, all_parts}
 use Rattle.book_share.specs.Rule.{own_times, Kept, left_of, right_of, both_of}
-use Rattle.book_share.proofs.Lists.{begins_refl, begins_longer, longer_left, longer_right, rises_le}
+use Rattle.book_share.proofs.Lists.{begins_refl, longer_begins, longer_left, longer_right, rises_le}
 use Rattle.book_share.proofs.Lists.{rises_wider, times_merged, rises_merged, begins_both, begins_shorter, once_le}
 use Rattle.book_share.proofs.Sums.{at_same, set_there, total_set, total_push, total_two, all_set}
 use Rattle.book_share.proofs.TurnSteps.{Room, idle_in, idle_spent}
@@ -185,7 +185,7 @@ module _ (s : Room) (k : Kept s) (id other : ℕ) (v w : PassView) (at : get_ele
   b_idle = record {
     phase = refl;
     base = mine.base;
-    seen = begins_longer v.seen w.seen (shown k.view.phase k.view.seen)
+    seen = longer_begins v.seen w.seen (shown k.view.phase k.view.seen)
         mine.seen theirs.seen;
   }
 

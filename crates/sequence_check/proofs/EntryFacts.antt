@@ -5,12 +5,11 @@ use Rattle.std.specs.Prelude.{slice_get, sum_by}
 use Rattle.std.proofs.lemmas.Bool.{cases_eq}
 use Rattle.std.proofs.lemmas.List.{take_all}
 use Rattle.std.proofs.lemmas.List.Sums.{sum_by_more}
-use Rattle.std.proofs.lemmas.Option.{get_or_from_slice_get, slice_get_within}
+use Rattle.std.proofs.lemmas.Option.{get_or_from_slice_get, slice_get_within, same_Some}
 use Rattle.sequence_rules.specs.declared.types.Times.{Times}
 use Rattle.sequence_rules.specs.declared.types.SeqEntry.{SeqEntry}
 use Rattle.sequence_rules.specs.Entries.{Follows, IsDerived, entry_units, units_of}
 use Rattle.sequence_check.specs.Lists.{AreRightBelow}
-use Rattle.sequence_check.proofs.WalkFacts.{same_item}
 
 -- a sum over a list with one item more
 pub sum_next : {X : Type 0} (f : X → ℕ) (xs : List X) (k : ℕ) (x : X) → slice_get xs k ≡ Some x
@@ -24,7 +23,7 @@ pub below_next : {X : Type 0} (P : ℕ → X → Type 0) (xs : List X) (k : ℕ)
     → slice_get xs j ≡ Some y → P j y
 below_next {X} P xs k x e before here j y l g = elim (cases_eq j k) [
   | inl s ↦
-      let same : x ≡ y = same_item x y (sym e ∙ ap (λ i. slice_get xs i) (sym s) ∙ g) in
+      let same : x ≡ y = same_Some x y (sym e ∙ ap (λ i. slice_get xs i) (sym s) ∙ g) in
       let A : ℕ → Type 0 = λ i. P i y in
       let B : X → Type 0 = λ z. P k z in
       subst A (sym s) (subst B same here)

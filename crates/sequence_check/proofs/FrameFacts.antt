@@ -3,14 +3,13 @@ use Rattle.std.proofs.Common.{◌≡◌, ℕ, zero, suc, ◌+◌, ◌-◌, ◌<�
 use Rattle.std.proofs.Common.{Some}
 use Rattle.std.specs.Prelude.{slice_get}
 use Rattle.std.proofs.lemmas.List.{take_all}
-use Rattle.std.proofs.lemmas.Option.{slice_get_within}
+use Rattle.std.proofs.lemmas.Option.{slice_get_within, same_Some}
 use Rattle.sequence_rules.specs.declared.types.Times.{Times}
 use Rattle.sequence_rules.specs.declared.types.SeqEntry.{SeqEntry}
 use Rattle.sequence_rules.specs.declared.types.SeqFrame.{SeqFrame}
 use Rattle.sequence_rules.specs.Trails.{IsRoot, IsLeftBy, IsAskedAt, IsRightAt, frame_units, units_in}
 use Rattle.sequence_check.specs.Frames.{AreRightTo, AreRight}
 use Rattle.sequence_check.proofs.EntryFacts.{sum_next, below_next}
-use Rattle.sequence_check.proofs.WalkFacts.{same_item}
 
 pub frames_none : (t : Times) (interval reach : ℕ) (es : List SeqEntry) (fs : List SeqFrame)
     → AreRightTo t interval reach es fs 0 0
@@ -51,4 +50,4 @@ asked_further t interval reach fs (suc j) above f l g =
     let place : suc j - 1 ≡ j = omega arith in
     let there : slice_get fs j ≡ Some above = ap (λ i. slice_get fs i) (sym place) ∙ g in
     let P : SeqFrame → Type 0 = λ x. IsLeftBy t interval reach x f in
-    (λ h. (above, (there, h)), λ h. subst P (same_item h.0 above (sym h.1.0 ∙ there)) h.1.1)
+    (λ h. (above, (there, h)), λ h. subst P (same_Some h.0 above (sym h.1.0 ∙ there)) h.1.1)

@@ -5,7 +5,7 @@ use Rattle.std.specs.Prelude.{slice_get, sum_by}
 use Rattle.std.proofs.lemmas.Bool.{cases_order}
 use Rattle.std.proofs.lemmas.List.{take-take}
 use Rattle.std.proofs.lemmas.List.Sums.{sum_by-take-le}
-use Rattle.sequence_check.proofs.WalkFacts.{same_item}
+use Rattle.std.proofs.lemmas.Option.{same_Some}
 use Rattle.sequence_check.proofs.EntryFacts.{sum_next}
 
 -- items and why one is refused, each with its units, what is right at its place, what fails there with so many steps,
@@ -36,7 +36,7 @@ module _ (X W : Type 0) (xs : List X) (units : X → ℕ) (Right : ℕ → X →
       | inl s ↦
           let there : slice_get xs k ≡ Some p.item = ap (λ i. slice_get xs i) (sym s) ∙ p.there in
           let P : ℕ → X → Type 0 = λ i x. Fails i x v p.more in
-          let F : Fails k q.item v p.more = subst (λ (x : X). P k x) (same_item p.item q.item (sym there ∙ q.there))
+          let F : Fails k q.item v p.more = subst (λ (x : X). P k x) (same_Some p.item q.item (sym there ∙ q.there))
           (subst (λ (i : ℕ). P i p.item) s p.fails) in
           (s, one_fault k q.item v w p.more q.more F q.fails)
       | inr d ↦ elim d [
@@ -64,7 +64,7 @@ module _ (X W : Type 0) (xs : List X) (units : X → ℕ) (Right : ℕ → X →
         | inl s ↦
             let there : slice_get xs k ≡ Some p.item = ap (λ i. slice_get xs i) (sym s) ∙ p.there in
             let P : ℕ → X → Type 0 = λ i x. Fails i x why p.more in
-            let F : Fails k h.item why p.more = subst (λ (x : X). P k x) (same_item p.item h.item (sym there ∙ h.there))
+            let F : Fails k h.item why p.more = subst (λ (x : X). P k x) (same_Some p.item h.item (sym there ∙ h.there))
             (subst (λ (i : ℕ). P i p.item) s p.fails) in
             let few : p.more ≤ steps - sum_by units (take k xs) =
             omega (arith, p.few, ap (λ i. sum_by units (take i xs)) s) in

@@ -3,13 +3,13 @@ use Rattle.std.proofs.Common.{◌≡◌, ℕ, ◌+◌, ◌<◌, ◌≤◌, Bool,
 use Rattle.std.proofs.Common.{subst, inl, inr, arith, Some, length-append}
 use Rattle.std.specs.Prelude.{slice_get}
 use Rattle.std.specs.List.{AllZip}
-use Rattle.std.proofs.lemmas.Option.{slice_get_within}
-use Rattle.line_rules.proofs.ListFacts.{get_push_cases}
+use Rattle.std.proofs.lemmas.Option.{slice_get_within, same_Some}
+use Rattle.line_rules.proofs.ListFacts.{get_push_cases, get_taken}
 use Rattle.sequence_rules.specs.declared.types.Times.{Times}
 use Rattle.sequence_rules.specs.declared.types.SeqEntry.{SeqEntry}
 use Rattle.sequence_rules.specs.Entries.{Answers, IsCited, needs_cite, passing}
 pub use Rattle.sequence_rules.proofs.PassingNumbers.{passing_no, passing_yes, count_no, count_yes, left_more, none_left}
-pub use Rattle.sequence_rules.proofs.PassingNumbers.{some_left, get_taken, same_item, left_needs}
+pub use Rattle.sequence_rules.proofs.PassingNumbers.{some_left, left_needs}
 use Rattle.sequence_check.specs.Walks.{CoversBelow, AnswersStep, needed, Takes}
 
 -- an entry that answers a state is one of those below k that answers it
@@ -37,7 +37,7 @@ cited_to es k cite entry rem rem' starts starts' need need' l g c r s n =
       least = omega (arith, c.answers.least, n);
     } in
     let E : SeqEntry → Type 0 = λ z. Answers z rem' starts' need' in
-    subst E (same_item c.entry entry (sym c.there ∙ get_taken es k cite entry l g)) own
+    subst E (same_Some c.entry entry (sym c.there ∙ get_taken es k cite entry l g)) own
 
 -- the steps below 0 are covered
 pub covers_none : (t : Times) (interval reach : ℕ) (es : List SeqEntry) (rem starts : List ℕ) (need : ℕ)
@@ -82,7 +82,7 @@ covers_take t interval reach es rem starts need cites m cite e there a h =
       λ p model x g c. elim (get_push_cases (passing test m) m model p g) [
         | inl q ↦ h.cited p model x q.1 c
         | inr q ↦
-            let same : cite ≡ x = same_item cite x (sym there ∙ ap (λ k. slice_get cites k) (sym q.0) ∙ c) in
+            let same : cite ≡ x = same_Some cite x (sym there ∙ ap (λ k. slice_get cites k) (sym q.0) ∙ c) in
             let A : ℕ → Type 0 = λ z. AnswersStep t interval reach es rem starts need cites z x in
             let B : ℕ → Type 0 = λ z. AnswersStep t interval reach es rem starts need cites m z in
             subst A q.1 (subst B same a)

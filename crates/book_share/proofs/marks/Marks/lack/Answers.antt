@@ -1,9 +1,7 @@
-use Rattle.std.proofs.Common.{◌≡◌, ℕ, ◌<◌, Bool, List, length, sym, ap, ◌∙◌, subst, arith, bit_and}
-use Rattle.std.specs.Prelude.{slice_index}
-use Rattle.std.proofs.lemmas.Bool.Decides.{nat_tests}
+use Rattle.std.proofs.Common.{◌≡◌, ℕ, Bool, true, false, List, sym, ◌∙◌, subst}
+use Rattle.std.proofs.lemmas.Bool.{true≢false, not-true}
 use Rattle.task_set.specs.Tags.{tag_of}
-use Rattle.lemma_core.specs.Sieves.{word_in, mark_of}
-use Rattle.lemma_core.proofs.ChainFacts.{read_at}
+use Rattle.lemma_core.specs.Sieves.{HasMark}
 use Rattle.book_share.specs.declared.marks.Marks.{Marks}
 use Rattle.book_share.specs.inner.Marking.{AreMarksOf, AreMarked}
 use Rattle.book_share.proofs.MarkFacts.{lacks}
@@ -14,14 +12,7 @@ returns-in-Kept-clause-none c t es marked =
     let words : List ℕ = c.in-Kept.words.items in
     let set : List Bool = c.args.set.now in
     let h : AreMarksOf words c.in-Kept.count es = subst (λ (m : Marks). AreMarked m es) c.in-Kept.is marked in
-    let n : c.len.result ≡ length words = c.len.ensures ∙ c.in-Kept.words.ok.0 in
-    let w : c.word.result ≡ word_in (length words) (tag_of set) =
-    c.word.ensures.value ∙ (λ i. word_in (n i) (c.tag-tag.ensures i)) in
-    let m : c.mark-mark.result ≡ mark_of (tag_of set) = c.mark-mark.ensures ∙ ap mark_of c.tag-tag.ensures in
-    let within : c.word.result < length words = omega (arith, c.word.ensures.within, n) in
-    let r : slice_index words (word_in (length words) (tag_of set)) ≡ c.index.result.now =
-    ap (λ (x : ℕ). slice_index words x) (sym w) ∙ read_at words c.word.result c.index.result.now within
-    c.index.ensures in
-    let not : bit_and c.index.result.now c.mark-mark.result ≡ c.mark-mark.result
-    → ⊥ = λ e. absurd (grind (arith, nat_tests, t, e)) in
-    lacks words c.in-Kept.count es set h (λ e. not ((λ i. bit_and (sym r i) (m i)) ∙ (e ∙ sym m)))
+    let P : List ℕ → Type 0 = λ ws. HasMark ws (tag_of set) in
+    let Q : ℕ → Type 0 = λ x. HasMark c.as_slice.result.now x in
+    lacks words c.in-Kept.count es set h (λ m. true≢false (sym (c.has_mark.ensures.absent
+    (subst Q (sym c.tag.ensures) (subst P (sym c.as_slice.ensures.value) m))) ∙ not-true c.has_mark.result t))
