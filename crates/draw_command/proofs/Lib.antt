@@ -1,2 +1,1 @@
-pub mod PageFacts
 pub mod DrawFacts

@@ -11,13 +11,13 @@ ghost use Rattle.check_command.specs.VerdictText.{verdict_text};
 ghost use Rattle.draw_command.specs.Draw.{ClaimFails, IsDrawOutcome, IsDrawable, IsTrulyDrawn, IsUndrawable, bare_line};
 
 use check_command::verdict_report;
-use command_outcome::{Report, Status, Stop, refuse};
+use command_outcome::{Report, Status, Stop, refuse, write_page};
 use convert_command::written;
 use input_files::{certificate_of, line_of};
 use line_check::{Place, Verified, balance_fault};
 use line_drawing::draw_text;
 use line_instance::Instance;
-use line_io::{Shelf, Written, write_whole};
+use line_io::Shelf;
 use line_rules::{Certificate, Claim};
 use std::alloc::Global;
 
@@ -90,8 +90,5 @@ pub fn draw_report<S: Shelf>(
     test(alloc, &inst, &cert)?;
     let text = draw_text(alloc, &inst, &cert)?;
     let report = written(alloc, name)?;
-    match write_whole(shelf, name, &text) {
-        Written::Done => Ok(report),
-        Written::WriteFault => Err(Stop::Unwritten),
-    }
+    write_page(shelf, name, &text, report)
 }

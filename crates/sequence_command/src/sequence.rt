@@ -9,7 +9,7 @@ ghost use Rattle.line_io.specs.Outside.{Rises};
 ghost use Rattle.line_words.specs.Ranges.{IsBetween};
 ghost use Rattle.sequence_rules.specs.Ranges.{AreTimes, IsInRange};
 ghost use Rattle.sequence_rules.specs.declared.types.SeqCert.{SeqCert as Proof};
-ghost use Rattle.sequence_search.specs.Outcomes.{AreBounds, IsSolved, IsStopped};
+ghost use Rattle.sequence_search.specs.Outcomes.{AreBounds};
 ghost use Rattle.command_outcome.specs.Outcome.{Files, Ends, MayEnd, Stay, Stops, MayStop, outside, outcome_of};
 ghost use Rattle.command_outcome.specs.declared.report.Kept.TheVariants.{Sequence as Certified};
 ghost use Rattle.command_outcome.specs.declared.report.Stop.TheVariants.{Unwritten};
@@ -26,48 +26,15 @@ use sequence_rules::{SeqCert, Times};
 use sequence_search::{Ordered, order};
 use std::alloc::{AllocError, Global};
 
-/// The report of a sequence of least utility work, with its certificate.
-fn optimal(
-    alloc: Global,
-    timed: &TimedMix,
-    interval: u64,
-    reach: u64,
-    units: u64,
-    cert: SeqCert,
-) -> Result<Report, AllocError>
-    requires models { length timed.now.times.demands ≡ length timed.now.mix.models }
-    requires solved { IsSolved timed.now.times interval reach units cert }
-    ensures { IfOk result (λ r.
-        IsFound timed.now.mix timed.now.times interval reach units r.status r.text.items r.kept) }
+/// A report with a certificate.
+fn certified(status: Status, text: Vec<u8>, cert: SeqCert) -> Report
+    ensures { result ≡ record { status = status; text = text; kept = Certified cert } }
 {
-    let text = optimal_text(alloc, &timed.mix, &cert)?;
-    Ok(Report {
-        status: Status::Done,
+    Report {
+        status,
         text,
         kept: Kept::Sequence(cert),
-    })
-}
-
-/// The report of a search whose units ended, with its certificate.
-fn stopped(
-    alloc: Global,
-    timed: &TimedMix,
-    interval: u64,
-    reach: u64,
-    units: u64,
-    cert: SeqCert,
-) -> Result<Report, AllocError>
-    requires models { length timed.now.times.demands ≡ length timed.now.mix.models }
-    requires stopped { IsStopped timed.now.times interval reach units cert }
-    ensures { IfOk result (λ r.
-        IsFound timed.now.mix timed.now.times interval reach units r.status r.text.items r.kept) }
-{
-    let text = stopped_text(alloc, &timed.mix, &cert)?;
-    Ok(Report {
-        status: Status::Stopped,
-        text,
-        kept: Kept::Sequence(cert),
-    })
+    }
 }
 
 /// The refusal of a search that memory ended, with its bounds.
@@ -109,8 +76,14 @@ fn ordered(
 {
     let room = room_for_bounds(alloc)?;
     match order(alloc, &timed.times, interval, reach, units) {
-        Ordered::Solved(cert) => Ok(optimal(alloc, timed, interval, reach, units, cert)?),
-        Ordered::Stopped(cert) => Ok(stopped(alloc, timed, interval, reach, units, cert)?),
+        Ordered::Solved(cert) => {
+            let text = optimal_text(alloc, &timed.mix, &cert)?;
+            Ok(certified(Status::Done, text, cert))
+        }
+        Ordered::Stopped(cert) => {
+            let text = stopped_text(alloc, &timed.mix, &cert)?;
+            Ok(certified(Status::Stopped, text, cert))
+        }
         Ordered::Memory { lower, upper } => {
             Err(cut_short(&timed.times, interval, reach, room, lower, upper)?)
         }

@@ -1,5 +1,5 @@
 -- What is found, with its certificate in the file that the words name.
-use Rattle.std.proofs.Common.{◌≡◌, ◌∙◌, inl, inr, ℕ, Bool, List, ◌++◌, Option, Some, None, sym, ap, subst}
+use Rattle.std.proofs.Common.{◌≡◌, ◌∙◌, ◌⊎◌, inl, inr, ℕ, Bool, List, ◌++◌, Option, Some, None, sym, ap, subst}
 use Rattle.line_instance.specs.Line.{Line}
 use Rattle.line_rules.specs.Bounds.{idle_time}
 use Rattle.line_rules.specs.Ranges.{IsInRange}
@@ -7,7 +7,7 @@ use Rattle.line_rules.specs.declared.types.LineKind.{LineKind}
 use Rattle.line_rules.specs.declared.types.Balance.{Balance as Assignment}
 use Rattle.line_rules.specs.declared.types.Entry.{Entry}
 use Rattle.line_rules.specs.declared.types.Certificate.{Certificate}
-use Rattle.command_outcome.specs.Outcome.{Files, Outcome, Stay, outcome_of, outside}
+use Rattle.command_outcome.specs.Outcome.{Files, Outside, Outcome, Stay, outcome_of, outside}
 use Rattle.command_outcome.specs.declared.report.Kept.TheVariants.{Line as Certified}
 use Rattle.command_outcome.specs.declared.report.Report.{Report}
 use Rattle.command_outcome.proofs.WrittenFacts.{paged}
@@ -22,6 +22,8 @@ use Rattle.round_run.specs.declared.solving.Cause.{Cause}
 use Rattle.round_run.specs.declared.solving.Cause.TheVariants as causes
 use Rattle.round_run.specs.declared.solving.Outcome.TheVariants as outcomes
 use Rattle.solve_command.specs.Solution.{page_of, IsOptimal, IsStopped, IsSolution, IsSolveStatus}
+use Rattle.solve_command.specs.Solution.{IsCutShort, IsSolveOutcome}
+use Rattle.solve_command.specs.inner.Said.{HasSaid}
 use Rattle.solve_command.specs.WarmStart.{Start, AreOld, IsUnwarmed}
 
 pub one : (a b : Certificate) → Certified a ≡ Certified b → a ≡ b
@@ -36,11 +38,12 @@ same_page name r a b is kept = ap (λ (x : Certificate). outcome_of r (page_of (
 pub sayable : (r : Report) (a b : Certificate) → r.kept ≡ Certified a → r.kept ≡ Certified b → IsInRange a → IsInRange b
 sayable r a b is kept ok = (let R : Certificate → Type 0 = IsInRange in subst R (one a b (sym is ∙ kept)) ok)
 
-module _ (kind : LineKind) (line : Line) (c : ℕ) (plan : Plan) (start : Start) (name : List ℕ) (r : Report) where
+module _ (kind : LineKind) (line : Line) (c : ℕ) (plan : Plan) (start : Start) (name : Option (List ℕ))
+    (r : Report) where
   -- what is found has a certificate, which a text can say, and is the same with its page
   pub in_file : IsSolution kind line c plan start None (outcome_of r None)
       → (cert : Certificate) × (r.kept ≡ Certified cert) × IsInRange cert
-      × IsSolution kind line c plan start (Some name) (outcome_of r (page_of (Some name) cert))
+      × IsSolution kind line c plan start name (outcome_of r (page_of name cert))
   in_file (inl b) = elim b.found [
     | inl p ↦ (
       p.certificate,
@@ -54,7 +57,7 @@ module _ (kind : LineKind) (line : Line) (c : ℕ) (plan : Plan) (start : Start)
           balance = p.balance;
           certificate = p.certificate;
           proved = p.proved;
-          shown = ap (paged (page_of (Some name) p.certificate)) p.shown;
+          shown = ap (paged (page_of name p.certificate)) p.shown;
         });
       }),
     )
@@ -71,7 +74,7 @@ module _ (kind : LineKind) (line : Line) (c : ℕ) (plan : Plan) (start : Start)
           balance = p.balance;
           certificate = p.certificate;
           proved = p.proved;
-          shown = ap (paged (page_of (Some name) p.certificate)) p.shown;
+          shown = ap (paged (page_of name p.certificate)) p.shown;
         });
       }),
     )
@@ -85,7 +88,7 @@ module _ (kind : LineKind) (line : Line) (c : ℕ) (plan : Plan) (start : Start)
       least = p.least;
       certificate = p.certificate;
       proved = p.proved;
-      shown = ap (paged (page_of (Some name) p.certificate)) p.shown;
+      shown = ap (paged (page_of name p.certificate)) p.shown;
     }),
   )
 
@@ -153,3 +156,12 @@ unwarmed_in files mid blames (Some name) kind line out same (inl n) =
 unwarmed_in files mid blames (Some name) kind line out same (inr s) =
     let P : Option (List ℕ) → Type 0 = λ f. Reads max_certificate f (IsTextOf s.0) in
     inr (s.0, (subst P (same name) s.1.0, s.1.1))
+
+-- what is answered of what the files say
+pub answered : (o : Outside) (file : List ℕ) (apart warm : Option (List ℕ)) (limit : ℕ) (word : Option ℕ)
+    (kind : LineKind) (line : Line) (c : ℕ) (olds : Option (List Entry)) (plan : Plan) (name : Option (List ℕ))
+    (out : Outcome) → HasSaid o.files file apart warm word kind line c olds
+    → IsSolution kind line c plan (record { olds = olds; seek = limit }) name out ⊎ IsCutShort kind line c out
+    → IsSolveOutcome o file apart warm limit word kind plan name out
+answered o file apart warm limit word kind line c olds plan name out h answer =
+    inl (record { line = line; c = c; said = h.said; olds = olds; old = h.old; answer = answer })

@@ -6,6 +6,7 @@
 #![tactic(auto)]
 
 mod print_solution;
+mod said;
 mod solution;
 mod warm_start;
 #[cfg(test)]

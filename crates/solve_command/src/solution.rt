@@ -26,15 +26,16 @@ ghost use Rattle.solve_command.specs.Solution.{page_of, IsOptimal, IsStopped, Is
 ghost use Rattle.solve_command.specs.Solution.{IsCutShort, IsSolveOutcome, IsSolveStatus};
 
 use crate::print_solution::{optimal_text, stopped_text};
-use crate::warm_start::{Begun, begin, old_entries};
+use crate::said::{Said, said_of};
+use crate::warm_start::{Begun, begin};
 use cert_files::{Streamed, stream_cert};
 use command_outcome::{Kept, Report, Status, Stop, cut_short_text, refuse, room_for_bounds};
 use first_fit::{Ranked, ranked_balance};
-use input_files::said_instance;
+use input_files::Timed;
 use lemma_core::Book;
 use line_instance::Instance;
 use line_io::Shelf;
-use line_rules::{Entries, Frames, LineKind};
+use line_rules::{Frames, LineKind};
 use round_run::{Cause, Gate, Outcome, Plan, solve_from};
 use run_certificates::{certify_too_long, certify_warm_optimum, certify_warm_stop};
 use station_report::{idle_of, infeasible_line};
@@ -185,31 +186,32 @@ fn run<R: Threads + Wait + Sync, G: Gate>(
     }
 }
 
-/// What is reported of a line of this kind at a cycle time, with a certificate; or the bounds, where memory ended the
-/// search.
+/// What is reported of the line and the cycle time that the files say, with a certificate; or the bounds, where memory
+/// ended the search.
 fn solution<R: Threads + Wait + Sync, G: Gate>(
     rt: &R,
     alloc: Global,
-    inst: &Instance,
+    said: Said,
     kind: LineKind,
-    cycle: u64,
-    olds: Option<Entries>,
     limit: u64,
     plan: &Plan,
     gate: &G,
 ) -> Result<Report, Stop>
-    requires cycle { IsCycle cycle }
+    requires cycle { IsCycle said.timed.cycle }
     requires limit { limit ≤ 3000000 }
     requires plan { IsPlan plan.now }
-    requires range { ForSome olds (AreEntries (tasks inst.now)) }
-    ensures answer { MatchResult result
-        (λ r. IsSolution kind inst.now cycle plan.now (record { olds = olds; seek = limit }) None (outcome_of r None))
-        (Stops (IsCutShort kind inst.now cycle)) }
-    ensures shown { let start : Start = record { olds = olds; seek = limit } in
-        IfOk result (λ r. IsShown kind inst.now cycle plan.now start r.status r.text.items r.kept) }
+    requires range { ForSome said.olds (AreEntries (tasks said.timed.inst)) }
+    ensures answer { let start : Start = record { olds = said.olds; seek = limit } in MatchResult result
+        (λ r. IsSolution kind said.timed.inst said.timed.cycle plan.now start None (outcome_of r None))
+        (Stops (IsCutShort kind said.timed.inst said.timed.cycle)) }
+    ensures shown { let start : Start = record { olds = said.olds; seek = limit } in IfOk result
+        (λ r. IsShown kind said.timed.inst said.timed.cycle plan.now start r.status r.text.items r.kept) }
     ensures good { IfOk result (λ r. IsSolveStatus r.status) }
     ensures fault { MatchResult result (λ _. Unit {0}) (MayStop ⊥) }
 {
+    let Said { timed, olds } = said;
+    let Timed { inst, cycle } = timed;
+    let inst = &inst;
     let room = room_for_bounds(alloc)?;
     let best = match ranked_balance(alloc, inst, kind, cycle) {
         Ranked::Good(best) => best,
@@ -248,6 +250,32 @@ pub fn written<S: Shelf>(
     }
 }
 
+/// The report, whose certificate is written where the words name a file.
+fn handed<S: Shelf>(
+    alloc: Global,
+    shelf: &mut S,
+    name: Option<&str>,
+    report: Report,
+) -> Result<Report, Stop>
+    requires sayable { (certificate : Proof) → report.kept ≡ Certified certificate → IsInRange certificate }
+    ensures ends { S.tells → (files : Files) → Stay files (S.file shelf.old)
+        → (cert : Proof) → report.kept ≡ Certified cert
+        → Ends (outside files (S.blames shelf.new))
+        (λ out. out ≡ outcome_of report (page_of (option_map (λ a. a.now) name.entry) cert)) (S.file shelf.new)
+        result }
+    ensures same { IfOk result (λ r. r ≡ report) }
+    ensures certificate { S.tells → IfOk result (λ r. (cert : Proof) → r.kept ≡ Certified cert
+        → HasCertificate (option_map (λ a. a.now) name.entry) (S.file shelf.new) cert) }
+    ensures fault { MatchResult result (λ _. Unit {0}) (MayEnd (Rises (S.faults shelf.old) (S.faults shelf.new))) }
+    ensures unwritten { result ≡ Err Unwritten → (n : List ℕ) × (option_map (λ a. a.now) name.entry ≡ Some n) }
+    ensures count { S.faults shelf.old ≤ S.faults shelf.new }
+{
+    match name {
+        None => Ok(report),
+        Some(name) => written(alloc, shelf, name, report),
+    }
+}
+
 /// The report of `solve` for the file of an instance, the file of the tasks that are apart, where there is one, the
 /// file of an old certificate with whose entries the run begins, where there is one, the loads of a seek before the
 /// run, 0 for none, the cycle time of the words, where they have one, the kind of line, the plan, and the name of the
@@ -280,21 +308,7 @@ pub fn solve_report<R: Threads + Wait + Sync, S: Shelf, G: Gate>(
         (option_map (λ a. a.now) warm.entry) limit word kind plan.now (option_map (λ a. a.now) name.entry) r.status
         r.text.items r.kept) }
 {
-    let timed = said_instance(alloc, file, apart, word, shelf)?;
-    let olds = old_entries(alloc, warm, &timed.inst, kind, shelf)?;
-    let report = solution(
-        rt,
-        alloc,
-        &timed.inst,
-        kind,
-        timed.cycle,
-        olds,
-        limit,
-        plan,
-        gate,
-    )?;
-    match name {
-        None => Ok(report),
-        Some(name) => written(alloc, shelf, name, report),
-    }
+    let said = said_of(alloc, file, apart, warm, word, kind, shelf)?;
+    let report = solution(rt, alloc, said, kind, limit, plan, gate)?;
+    handed(alloc, shelf, name, report)
 }

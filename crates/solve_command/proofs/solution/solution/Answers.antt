@@ -4,7 +4,8 @@ use Rattle.solve_command.proofs.solution.solution.Goals as goal
 
 pub returns-clause-shown : goal.returns-clause-shown
 returns-clause-shown g c =
-    let start : Start = record { olds = c.args.olds; seek = c.args.limit } in
-    let r = bounded_shown c.args.kind c.args.inst.now c.args.cycle c.args.plan.now start c.run.result
+    let said = c.args.said in
+    let start : Start = record { olds = said.olds; seek = c.args.limit } in
+    let r = bounded_shown c.args.kind said.timed.inst said.timed.cycle c.args.plan.now start c.run.result
     (c.run.ensures.answer start c.in_ok-begun.ensures) in
     r.1

@@ -1,0 +1,25 @@
+use Rattle.std.proofs.Common.{sym, subst}
+use Rattle.command_outcome.specs.declared.report.Report.{Report}
+use Rattle.sequence_command.specs.Ordered.{IsFound}
+use Rattle.sequence_command.proofs.FoundFacts.{solved_found, stopped_found}
+use Rattle.sequence_command.proofs.sequence.ordered.Goals as goal
+
+pub returns-in_ok-text-in-Solved-clause-answer : goal.returns-in_ok-text-in-Solved-clause-answer
+returns-in_ok-text-in-Solved-clause-answer c =
+    let a = c.args in
+    let timed = a.timed.now in
+    let P : Report → Type 0 = λ r. IsFound timed.mix timed.times a.interval a.reach a.units r.status r.text.items
+    r.kept in
+    subst P (sym c.certified.ensures)
+    (solved_found timed.mix timed.times a.interval a.reach a.units c.in-Solved.cert c.in_ok-text-in-Solved.text.items
+    c.in-Solved.ensures c.in_ok-text-in-Solved.ensures)
+
+pub returns-in_ok-text-in-Stopped-clause-answer : goal.returns-in_ok-text-in-Stopped-clause-answer
+returns-in_ok-text-in-Stopped-clause-answer c =
+    let a = c.args in
+    let timed = a.timed.now in
+    let P : Report → Type 0 = λ r. IsFound timed.mix timed.times a.interval a.reach a.units r.status r.text.items
+    r.kept in
+    subst P (sym c.certified-in-Stopped.ensures)
+    (stopped_found timed.mix timed.times a.interval a.reach a.units c.in-Stopped.cert c.in_ok-text-in-Stopped.text.items
+    c.in-Stopped.ensures c.in_ok-text-in-Stopped.ensures)
