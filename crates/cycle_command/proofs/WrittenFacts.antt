@@ -1,5 +1,5 @@
 -- What is found, with its certificate in the file that the words name, and what it says.
-use Rattle.std.proofs.Common.{◌≡◌, inl, inr, ℕ, List, Some, None, ap, subst}
+use Rattle.std.proofs.Common.{◌≡◌, inl, inr, ℕ, List, Option, None, ap, subst}
 use Rattle.line_instance.specs.Line.{Line, IsLine}
 use Rattle.line_rules.specs.Laws.{IsProved}
 use Rattle.line_rules.specs.Ranges.{IsInRange}
@@ -23,10 +23,10 @@ use Rattle.cycle_search.proofs.Results.{none_below, has_balance}
 use Rattle.cycle_command.specs.Found.{IsFound, IsStopped}
 
 -- what is found has a certificate, which a text can say, and is the same with its page
-pub in_file : (kind : LineKind) (line : Line) (m : ℕ) (plan : Plan) (name : List ℕ) (r : Report)
+pub in_file : (kind : LineKind) (line : Line) (m : ℕ) (plan : Plan) (name : Option (List ℕ)) (r : Report)
     → IsFound kind line m plan None (outcome_of r None)
     → (cert : Certificate) × (r.kept ≡ Certified cert) × IsInRange cert
-    × IsFound kind line m plan (Some name) (outcome_of r (page_of (Some name) cert))
+    × IsFound kind line m plan name (outcome_of r (page_of name cert))
 in_file kind line m plan name r (inl p) = (
   p.certificate,
   ap (λ (o : Outcome). o.kept) p.shown,
@@ -36,7 +36,7 @@ in_file kind line m plan name r (inl p) = (
     balance = p.balance;
     certificate = p.certificate;
     proved = p.proved;
-    shown = ap (paged (page_of (Some name) p.certificate)) p.shown;
+    shown = ap (paged (page_of name p.certificate)) p.shown;
   }),
 )
 in_file kind line m plan name r (inr p) = (
@@ -49,7 +49,7 @@ in_file kind line m plan name r (inr p) = (
     balance = p.balance;
     certificate = p.certificate;
     proved = p.proved;
-    shown = ap (paged (page_of (Some name) p.certificate)) p.shown;
+    shown = ap (paged (page_of name p.certificate)) p.shown;
   }),
 )
 

@@ -24,7 +24,7 @@ use line_instance::Instance;
 use line_io::Shelf;
 use line_rules::{Balance, Entries, LineKind, Trail};
 use round_run::{Cause, Gate, Plan};
-use solve_command::written;
+use solve_command::write_certificate;
 use station_report::idle_of;
 use std::alloc::{AllocError, Global};
 use std::sync::Wait;
@@ -187,8 +187,5 @@ pub fn cycle_report<R: Threads + Wait + Sync, S: Shelf, G: Gate>(
 {
     let inst = plain_line(alloc, file, shelf)?;
     let report = found(rt, alloc, &inst, kind, stations, plan, gate)?;
-    match name {
-        None => Ok(report),
-        Some(name) => written(alloc, shelf, name, report),
-    }
+    write_certificate(alloc, shelf, name, report)
 }

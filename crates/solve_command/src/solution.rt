@@ -222,8 +222,8 @@ fn solution<R: Threads + Wait + Sync, G: Gate>(
     run(rt, alloc, inst, kind, cycle, begun, plan, gate, room)
 }
 
-/// Writes the certificate of a report of a line, and hands the report on.
-pub fn written<S: Shelf>(
+/// Writes the certificate of a report of a line into this file, and hands the report on.
+fn written<S: Shelf>(
     alloc: Global,
     shelf: &mut S,
     name: &str,
@@ -250,8 +250,8 @@ pub fn written<S: Shelf>(
     }
 }
 
-/// The report, whose certificate is written where the words name a file.
-fn handed<S: Shelf>(
+/// Writes the certificate of a report of a line where the words name a file, and hands the report on.
+pub fn write_certificate<S: Shelf>(
     alloc: Global,
     shelf: &mut S,
     name: Option<&str>,
@@ -310,5 +310,5 @@ pub fn solve_report<R: Threads + Wait + Sync, S: Shelf, G: Gate>(
 {
     let said = said_of(alloc, file, apart, warm, word, kind, shelf)?;
     let report = solution(rt, alloc, said, kind, limit, plan, gate)?;
-    handed(alloc, shelf, name, report)
+    write_certificate(alloc, shelf, name, report)
 }

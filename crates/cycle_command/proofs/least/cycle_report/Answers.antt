@@ -1,6 +1,6 @@
-use Rattle.std.proofs.Common.{◌≡◌, IfOk, option_map, subst, sym, ap, inl, inr, List, ℕ, Option, Some, None}
+use Rattle.std.proofs.Common.{◌≡◌, option_map, subst, sym, inl, inr, List, ℕ, Option, None}
 use Rattle.line_rules.specs.declared.types.Certificate.{Certificate}
-use Rattle.command_outcome.specs.Outcome.{Files, Outside, Outcome, Comes, Ends, outcome_of, outside}
+use Rattle.command_outcome.specs.Outcome.{Files, Outside, Outcome, outcome_of, outside}
 use Rattle.command_outcome.specs.declared.report.Kept.TheVariants.{Line as Certified}
 use Rattle.command_outcome.specs.declared.report.Report.{Report}
 use Rattle.command_outcome.proofs.OutcomeFacts.{early, ends_as, handed_on}
@@ -24,79 +24,49 @@ returns-in_err-inst-clause-ends g c = λ t.
     early o P (IsNoLine o file None) after c.in_err-inst.field-0.0 c.from_residual.result (λ out x. inr x)
     (c.in_err-inst.ensures.files t) (c.in_err-inst.ensures.said t) c.from_residual.ensures.1
 
-pub returns-in-None-clause-ends : goal.returns-in-None-clause-ends
-returns-in-None-clause-ends g c = λ t.
-    let o : Outside = outside (g.S.Shelf.file c.args.shelf.now) (g.S.Shelf.blames c.plain_line.new.shelf) in
-    let file : List ℕ = c.args.file.now in
-    let plan = c.args.plan.now in
-    let after : Files = g.S.Shelf.file c.plain_line.new.shelf in
-    let C : Option (List ℕ) → Type 0 = λ n.
-    Comes o (IsCycleOutcome o file c.args.kind c.args.stations plan.helpers plan.units n) after c.in_ok-report.report in
-    subst C (sym (ap (option_map (λ a. a.now)) c.in-None.is)) (record {
-      page = None;
-      reached = inl (record {
-        line = c.in_ok-inst.inst;
-        said = c.in_ok-inst.ensures.said t;
-        answer = inl c.in_ok-report.ensures.answer;
-      });
-      written = c.in_ok-inst.ensures.files t;
-    })
-
-pub written-requires : goal.written-requires
-written-requires g c = record {
-  sayable = λ cert kept.
-      let report = c.in_ok-report.report in
-      let found = in_file c.args.kind c.in_ok-inst.inst c.args.stations c.args.plan.now c.in-Some.name.now report
-      c.in_ok-report.ensures.answer in
-      sayable report found.0 cert found.1 kept found.2;
-}
+pub write_certificate-requires : goal.write_certificate-requires
+write_certificate-requires g c =
+    let a = c.args in
+    let r = c.in_ok-report.report in
+    let found = in_file a.kind c.in_ok-inst.inst a.stations a.plan.now (option_map (λ x. x.now) a.name) r
+    c.in_ok-report.ensures.answer in
+    record { sayable = λ cert kept. sayable r found.0 cert found.1 kept found.2 }
 
 pub returns-clause-ends : goal.returns-clause-ends
 returns-clause-ends g c = λ t.
-    let files : Files = g.S.Shelf.file c.args.shelf.now in
-    let o : Outside = outside files (g.S.Shelf.blames c.written.new.shelf) in
-    let file : List ℕ = c.args.file.now in
-    let plan = c.args.plan.now in
-    let m = c.args.stations in
-    let after : Files = g.S.Shelf.file c.written.new.shelf in
+    let a = c.args in
+    let files : Files = g.S.Shelf.file a.shelf.now in
+    let o : Outside = outside files (g.S.Shelf.blames c.write_certificate.new.shelf) in
+    let plan = a.plan.now in
+    let name : Option (List ℕ) = option_map (λ x. x.now) a.name in
     let line = c.in_ok-inst.inst in
-    let report = c.in_ok-report.report in
-    let name = Some c.in-Some.name.now in
-    let found = in_file c.args.kind line m plan c.in-Some.name.now report c.in_ok-report.ensures.answer in
-    let E : Option (List ℕ) → Type 0 = λ n.
-    Ends o (IsCycleOutcome o file c.args.kind m plan.helpers plan.units n) after c.written.result in
-    subst E (sym (ap (option_map (λ a. a.now)) c.in-Some.is))
-    (ends_as o (λ out. out ≡ outcome_of report (page_of name found.0))
-    (IsCycleOutcome o file c.args.kind m plan.helpers plan.units name) after c.written.result
+    let r = c.in_ok-report.report in
+    let found = in_file a.kind line a.stations plan name r c.in_ok-report.ensures.answer in
+    ends_as o (λ out. out ≡ outcome_of r (page_of name found.0))
+    (IsCycleOutcome o a.file.now a.kind a.stations plan.helpers plan.units name)
+    (g.S.Shelf.file c.write_certificate.new.shelf) c.write_certificate.result
     (λ out is. inl (record {
       line = line;
       said = c.in_ok-inst.ensures.said t;
-      answer = inl (subst (IsFound c.args.kind line m plan name) (sym is) found.3);
+      answer = inl (subst (IsFound a.kind line a.stations plan name) (sym is) found.3);
     }))
-    (c.written.ensures.ends t files (c.in_ok-inst.ensures.files t) found.0 found.1))
-
-pub returns-clause-unwritten : goal.returns-clause-unwritten
-returns-clause-unwritten g c = λ e. (c.in-Some.name.now, ap (option_map (λ a. a.now)) c.in-Some.is)
+    (c.write_certificate.ensures.ends t files (c.in_ok-inst.ensures.files t) found.0 found.1)
 
 pub returns-clause-promise : goal.returns-clause-promise
 returns-clause-promise g c = λ t.
-    let files : Files = g.S.Shelf.file c.args.shelf.now in
-    let after : Files = g.S.Shelf.file c.written.new.shelf in
-    let plan = c.args.plan.now in
-    let name = c.in-Some.name.now in
+    let a = c.args in
+    let after : Files = g.S.Shelf.file c.write_certificate.new.shelf in
+    let plan = a.plan.now in
+    let name : Option (List ℕ) = option_map (λ x. x.now) a.name in
     let shown = c.in_ok-report.ensures.shown in
-    let P : Option (List ℕ) → Report → Type 0 = λ n r.
-    IsCyclePromised files after c.args.file.now c.args.kind c.args.stations plan.helpers plan.units n r.status
-    r.text.items r.kept in
-    let Q : Report → Type 0 = λ r.
-    (cert : Certificate) → r.kept ≡ Certified cert → HasCertificate (Some name) after cert in
-    let R : Option (List ℕ) → Type 0 = λ n. IfOk c.written.result (P n) in
-    subst R (sym (ap (option_map (λ a. a.now)) c.in-Some.is))
-    (handed_on (P (Some name)) Q c.in_ok-report.report c.written.result
+    let P : Report → Type 0 = λ r. IsCyclePromised (g.S.Shelf.file a.shelf.now) after a.file.now a.kind a.stations
+    plan.helpers plan.units name r.status r.text.items r.kept in
+    let Q : Report → Type 0 = λ r. (cert : Certificate) → r.kept ≡ Certified cert → HasCertificate name after cert in
+    handed_on P Q c.in_ok-report.report c.write_certificate.result
     (λ written. record {
       line = c.in_ok-inst.inst;
       said = c.in_ok-inst.ensures.said t;
       shown = shown;
       written = written shown.certificate shown.keeps;
     })
-    c.written.ensures.same (c.written.ensures.certificate t))
+    c.write_certificate.ensures.same (c.write_certificate.ensures.certificate t)

@@ -39,8 +39,8 @@ returns-in_err-report-clause-ends g c = λ t.
     a.plan.now name out (c.in_ok-said.ensures.said t) (inr u))
     (c.in_ok-said.ensures.files t) c.in_err-report.ensures.answer c.from_residual-in_err-report.ensures.1
 
-pub handed-requires : goal.handed-requires
-handed-requires g c =
+pub write_certificate-requires : goal.write_certificate-requires
+write_certificate-requires g c =
     let a = c.args in
     let said = c.in_ok-said.said in
     let start : Start = record { olds = said.olds; seek = a.limit } in
@@ -56,7 +56,7 @@ returns-clause-ends g c = λ t.
     let warm : Option (List ℕ) = option_map (λ x. x.now) a.warm in
     let name : Option (List ℕ) = option_map (λ x. x.now) a.name in
     let files : Files = g.S.Shelf.file a.shelf.now in
-    let o : Outside = outside files (g.S.Shelf.blames c.handed.new.shelf) in
+    let o : Outside = outside files (g.S.Shelf.blames c.write_certificate.new.shelf) in
     let said = c.in_ok-said.said in
     let plan = a.plan.now in
     let r = c.in_ok-report.report in
@@ -64,17 +64,17 @@ returns-clause-ends g c = λ t.
     let S : Outcome → Type 0 = IsSolution a.kind said.timed.inst said.timed.cycle plan start name in
     let found = in_file a.kind said.timed.inst said.timed.cycle plan start name r c.in_ok-report.ensures.answer in
     ends_as o (λ out. out ≡ outcome_of r (page_of name found.0))
-    (IsSolveOutcome o a.file.now apart warm a.limit a.word a.kind plan name) (g.S.Shelf.file c.handed.new.shelf)
-    c.handed.result
+    (IsSolveOutcome o a.file.now apart warm a.limit a.word a.kind plan name) (g.S.Shelf.file c.write_certificate.new.shelf)
+    c.write_certificate.result
     (λ out is. answered o a.file.now apart warm a.limit a.word a.kind said.timed.inst said.timed.cycle said.olds plan
     name out (c.in_ok-said.ensures.said t) (inl (subst S (sym is) found.3)))
-    (c.handed.ensures.ends t files (c.in_ok-said.ensures.files t) found.0 found.1)
+    (c.write_certificate.ensures.ends t files (c.in_ok-said.ensures.files t) found.0 found.1)
 
 pub returns-clause-promise : goal.returns-clause-promise
 returns-clause-promise g c = λ t.
     let a = c.args in
     let name : Option (List ℕ) = option_map (λ x. x.now) a.name in
-    let after : Files = g.S.Shelf.file c.handed.new.shelf in
+    let after : Files = g.S.Shelf.file c.write_certificate.new.shelf in
     let said = c.in_ok-said.said in
     let has = c.in_ok-said.ensures.said t in
     let shown = c.in_ok-report.ensures.shown in
@@ -82,7 +82,7 @@ returns-clause-promise g c = λ t.
     (option_map (λ x. x.now) a.apart) (option_map (λ x. x.now) a.warm) a.limit a.word a.kind a.plan.now name r.status
     r.text.items r.kept in
     let Q : Report → Type 0 = λ r. (cert : Certificate) → r.kept ≡ Certified cert → HasCertificate name after cert in
-    handed_on P Q c.in_ok-report.report c.handed.result
+    handed_on P Q c.in_ok-report.report c.write_certificate.result
     (λ written. record {
       line = said.timed.inst;
       c = said.timed.cycle;
@@ -92,4 +92,4 @@ returns-clause-promise g c = λ t.
       shown = shown;
       written = written shown.certificate shown.keeps;
     })
-    c.handed.ensures.same (c.handed.ensures.certificate t)
+    c.write_certificate.ensures.same (c.write_certificate.ensures.certificate t)

@@ -3,7 +3,7 @@ use Rattle.std.proofs.Math.Path.{subst⁻¹}
 use Rattle.command_outcome.specs.Outcome.{Files, Outside, Comes, Ends, outcome_of, outside}
 use Rattle.solve_command.specs.Solution.{page_of}
 use Rattle.solve_command.specs.Promise.{HasCertificate}
-use Rattle.solve_command.proofs.solution.handed.Goals as goal
+use Rattle.solve_command.proofs.solution.write_certificate.Goals as goal
 
 pub returns-in-None-clause-ends : goal.returns-in-None-clause-ends
 returns-in-None-clause-ends g c = λ t files same cert kept.
