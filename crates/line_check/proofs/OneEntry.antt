@@ -25,8 +25,8 @@ use Rattle.line_check.specs.declared.types.EntryFault.{EntryFault}
 use Rattle.line_check.specs.declared.types.EntryFault.TheVariants as fault
 use Rattle.line_check.specs.declared.types.EntryChecked.{EntryChecked}
 use Rattle.line_check.specs.declared.types.EntryChecked.TheVariants as checked
-use Rattle.line_check.specs.declared.types.Found.{Found}
-use Rattle.line_check.specs.declared.types.Found.TheVariants as found
+use Rattle.line_check.specs.declared.types.Checked.{Checked}
+use Rattle.line_check.specs.declared.types.Checked.TheVariants as found
 use Rattle.line_check.specs.declared.types.ListFound.{ListFound}
 use Rattle.line_check.specs.declared.types.ListFound.TheVariants as list
 use Rattle.line_check.proofs.EntryFaults.{not_follows}
@@ -213,7 +213,7 @@ module _ (kind : LineKind) (line : Line) (ranked : IsRanked line) (earlier : Lis
   units_one : (m n : ℕ) → UnitsBy line e e.why m → UnitsBy line e e.why n → m ≡ n
   units_one m n p q = entries_same line (e ∷ []) m n (m, 0, (p, refl, omega arith)) (n, 0, (q, refl, omega arith))
 
-  pub found_one : (steps : ℕ) (v w : Found) → IsFound kind line earlier e steps v → IsFound kind line earlier e steps w
+  pub found_one : (steps : ℕ) (v w : Checked EntryFault) → IsFound kind line earlier e steps v → IsFound kind line earlier e steps w
       → v ≡ w
   found_one steps (found.Right m) (found.Right n) p q = ap (λ (z : ℕ). found.Right z) (units_one m n p.1 q.1)
   found_one steps (found.Right m) (found.Fails b n) p q = absurd (not_follows kind line earlier e b n q.0 p.0)

@@ -16,8 +16,8 @@ use Rattle.line_check.specs.declared.types.EntryFault.{EntryFault}
 use Rattle.line_check.specs.declared.types.EntryFault.TheVariants as fault
 use Rattle.line_check.specs.declared.types.EntryChecked.{EntryChecked}
 use Rattle.line_check.specs.declared.types.EntryChecked.TheVariants as checked
-use Rattle.line_check.specs.declared.types.Found.{Found}
-use Rattle.line_check.specs.declared.types.Found.TheVariants as found
+use Rattle.line_check.specs.declared.types.Checked.{Checked}
+use Rattle.line_check.specs.declared.types.Checked.TheVariants as found
 
 -- the entry says that it is by Branch, with a mode and cites of which this is true
 abbrev pub Branches : Entry → (Mode → List ℕ → Type 0) → Type 0
@@ -68,7 +68,7 @@ Ends kind line earlier e steps =
     e.cycle cites steps)
 
 -- what is found of an entry, with the fault
-abbrev pub IsFound : LineKind → Line → List Entry → Entry → ℕ → Found → Type 0
+abbrev pub IsFound : LineKind → Line → List Entry → Entry → ℕ → Checked EntryFault → Type 0
 IsFound kind line earlier e steps (found.Right units) = Follows kind line earlier e × UnitsBy line e e.why units
     × (units ≤ steps)
 IsFound kind line earlier e steps (found.Fails why units) = Fails kind line earlier e why units × (units ≤ steps)

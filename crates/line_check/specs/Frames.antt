@@ -17,8 +17,8 @@ use Rattle.line_check.specs.Walks.{IsFirstLate, AreBelow, IsUncovered, IsSpare, 
 use Rattle.line_check.specs.Reaches.{IsMatched}
 use Rattle.line_check.specs.declared.types.FrameFault.{FrameFault}
 use Rattle.line_check.specs.declared.types.FrameFault.TheVariants as fault
-use Rattle.line_check.specs.declared.types.FrameFound.{FrameFound}
-use Rattle.line_check.specs.declared.types.FrameFound.TheVariants as found
+use Rattle.line_check.specs.declared.types.Checked.{Checked}
+use Rattle.line_check.specs.declared.types.Checked.TheVariants as found
 use Rattle.line_check.specs.declared.types.FramesFound.{FramesFound}
 use Rattle.line_check.specs.declared.types.FramesFound.TheVariants as all_found
 
@@ -98,7 +98,7 @@ EndsAt kind line X es fs j f steps =
     f.most X f.cites steps
 
 -- what is found of a frame
-abbrev pub IsFoundAt : LineKind → Line → ℕ → List Entry → List OpenFrame → ℕ → OpenFrame → ℕ → FrameFound → Type 0
+abbrev pub IsFoundAt : LineKind → Line → ℕ → List Entry → List OpenFrame → ℕ → OpenFrame → ℕ → Checked FrameFault → Type 0
 IsFoundAt kind line X es fs j f steps (found.Right units) = IsRightAt kind line X es fs j f × FrameUnits line X f units
     × (units ≤ steps)
 IsFoundAt kind line X es fs j f steps (found.Fails why units) = FailsAt kind line X es fs j f why units

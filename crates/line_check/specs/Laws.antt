@@ -10,7 +10,8 @@ use Rattle.line_check.specs.Faults.{IsFound, IsChecked}
 use Rattle.line_check.specs.Lists.{AreFound}
 use Rattle.line_check.specs.Verdicts.{IsListChecked}
 use Rattle.line_check.specs.declared.types.EntryChecked.{EntryChecked}
-use Rattle.line_check.specs.declared.types.Found.{Found}
+use Rattle.line_check.specs.declared.types.Checked.{Checked}
+use Rattle.line_check.specs.declared.types.EntryFault.{EntryFault}
 use Rattle.line_check.specs.declared.types.ListChecked.{ListChecked}
 use Rattle.line_check.specs.declared.types.ListFound.{ListFound}
 use Rattle.line_check.specs.declared.types.Verified.{Verified}
@@ -26,7 +27,7 @@ pub record VerdictIsOne : Type 0 where
   pub entries : (kind : LineKind) (line : Line) → IsRanked line → (es : List Entry) (steps : ℕ) (v w : ListFound)
       → AreFound kind line es steps v → AreFound kind line es steps w → v ≡ w
   pub found : (kind : LineKind) (line : Line) → IsRanked line
-      → (earlier : List Entry) (e : Entry) (steps : ℕ) (v w : Found)
+      → (earlier : List Entry) (e : Entry) (steps : ℕ) (v w : Checked EntryFault)
       → IsFound kind line earlier e steps v → IsFound kind line earlier e steps w → v ≡ w
   pub entry : (kind : LineKind) (line : Line) → IsRanked line
       → (earlier : List Entry) (e : Entry) (steps : ℕ) (v w : EntryChecked)

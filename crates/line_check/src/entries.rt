@@ -10,7 +10,7 @@ ghost use Rattle.line_rules.specs.declared.types.LineKind.{LineKind as Kind};
 ghost use Rattle.line_check.specs.Faults.{IsFound, IsChecked};
 ghost use Rattle.line_check.specs.inner.Swaps.{StandsFor, IsSwapped};
 
-use crate::types::{EntryChecked, EntryFault, Found, Walked};
+use crate::types::{Checked, EntryChecked, EntryFault, Walked};
 use crate::walks::{first_late, walk_all};
 use check_loads::bounds::{bound, exceeds};
 use check_loads::questions::{Question, room};
@@ -85,7 +85,7 @@ fn is_swapped(inst: &Instance, entry: &Entry, cited: &Entry, out_task: u32, in_t
 }
 
 /// Checks an entry by Bound.
-fn check_bound(inst: &Instance, kind: LineKind, entry: &Entry) -> Found
+fn check_bound(inst: &Instance, kind: LineKind, entry: &Entry) -> Checked<EntryFault>
     requires set { IsTaskSet inst.now entry.now.set }
     requires cycle { IsCycle entry.now.cycle }
     requires way { entry.now.why ≡ why.Bound }
@@ -93,9 +93,9 @@ fn check_bound(inst: &Instance, kind: LineKind, entry: &Entry) -> Found
 {
     let times = times_in(inst, &entry.set);
     if exceeds(inst, kind, entry.cycle, &entry.set, times, entry.most) {
-        return Found::Right { units: 0 };
+        return Checked::Right { units: 0 };
     }
-    Found::Fails {
+    Checked::Fails {
         why: EntryFault::Bound(bound(inst, kind, entry.cycle, &entry.set, times)),
         units: 0,
     }
@@ -111,7 +111,7 @@ fn check_branch(
     mode: Mode,
     cites: &Cites,
     steps: u64,
-) -> Found
+) -> Checked<EntryFault>
     requires k { k ≤ length entries.now }
     requires set { IsTaskSet inst.now entry.now.set }
     requires cycle { IsCycle entry.now.cycle }
@@ -119,19 +119,19 @@ fn check_branch(
     ensures { IsFound kind inst.now (take k entries.now) entry.now steps result }
 {
     if !belongs(kind, mode) {
-        return Found::Fails {
+        return Checked::Fails {
             why: EntryFault::Mode,
             units: 0,
         };
     }
     if entry.most == 0 || entry.set.is_empty() {
-        return Found::Fails {
+        return Checked::Fails {
             why: EntryFault::Most,
             units: 0,
         };
     }
     if let Some(cite) = first_late(cites, k as u64) {
-        return Found::Fails {
+        return Checked::Fails {
             why: EntryFault::Cite(cite),
             units: 0,
         };
@@ -146,16 +146,16 @@ fn check_branch(
         room: room(entry.most, entry.cycle),
     };
     match walk_all(inst, &question, entries, k, cites, steps) {
-        Walked::Right { units } => Found::Right { units },
-        Walked::Uncovered { load, units } => Found::Fails {
+        Walked::Right { units } => Checked::Right { units },
+        Walked::Uncovered { load, units } => Checked::Fails {
             why: EntryFault::Uncovered(load),
             units,
         },
-        Walked::Spare { units } => Found::Fails {
+        Walked::Spare { units } => Checked::Fails {
             why: EntryFault::Spare,
             units,
         },
-        Walked::StepsEnded => Found::StepsEnded,
+        Walked::StepsEnded => Checked::StepsEnded,
     }
 }
 
@@ -168,7 +168,7 @@ fn check_swap(
     cite: u64,
     out_task: u32,
     in_task: u32,
-) -> Found
+) -> Checked<EntryFault>
     requires k { k ≤ length entries.now }
     requires set { IsTaskSet inst.now entry.now.set }
     requires cycle { IsCycle entry.now.cycle }
@@ -176,15 +176,15 @@ fn check_swap(
     ensures { (kind : Kind) (steps : ℕ) → IsFound kind inst.now (take k entries.now) entry.now steps result }
 {
     if cite >= k as u64 {
-        return Found::Fails {
+        return Checked::Fails {
             why: EntryFault::Cite(cite),
             units: 0,
         };
     }
     if is_swapped(inst, entry, entries.at(cite as usize), out_task, in_task) {
-        return Found::Right { units: 0 };
+        return Checked::Right { units: 0 };
     }
-    Found::Fails {
+    Checked::Fails {
         why: EntryFault::Swap,
         units: 0,
     }
@@ -200,7 +200,7 @@ pub fn check_entry(
     k: usize,
     entry: &Entry,
     steps: u64,
-) -> Found
+) -> Checked<EntryFault>
     requires k { k ≤ length entries.now }
     requires set { IsTaskSet inst.now entry.now.set }
     requires cycle { IsCycle entry.now.cycle }
@@ -233,8 +233,8 @@ pub fn verify_entry(
     ensures { IsChecked kind inst.now entries.now entry.now steps result }
 {
     match check_entry(inst, kind, entries, entries.len(), entry, steps) {
-        Found::Right { units } => EntryChecked::Right { units },
-        Found::Fails { units, .. } => EntryChecked::Fails { units },
-        Found::StepsEnded => EntryChecked::StepsEnded,
+        Checked::Right { units } => EntryChecked::Right { units },
+        Checked::Fails { units, .. } => EntryChecked::Fails { units },
+        Checked::StepsEnded => EntryChecked::StepsEnded,
     }
 }

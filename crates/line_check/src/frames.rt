@@ -9,7 +9,7 @@ ghost use Rattle.line_check.specs.Walks.{AreBelow, Tells};
 
 use crate::entries::{belongs, is_same};
 use crate::pairs::is_load;
-use crate::types::{FrameFault, FrameFound, FramesFound, Walked};
+use crate::types::{Checked, FrameFault, FramesFound, Walked};
 use crate::walks::{ended, first_late, walk_to};
 use check_loads::full::is_full_load;
 use check_loads::questions::{Question, rest, room};
@@ -111,7 +111,7 @@ fn check_frame(
     j: usize,
     frame: &OpenFrame,
     steps: u64,
-) -> FrameFound
+) -> Checked<FrameFault>
     requires there { slice_get frames.now j ≡ Some frame.now }
     requires few { length frames.now ≤ 1024 }
     requires range { (count : ℕ) × IsFrame (tasks inst.now) count frame.now }
@@ -120,40 +120,40 @@ fn check_frame(
 {
     let deepest = j + 1 == frames.len();
     if !is_asked(inst, frames, j, frame) {
-        return FrameFound::Fails {
+        return Checked::Fails {
             why: FrameFault::Set,
             units: 0,
         };
     }
     if !belongs(kind, frame.mode) {
-        return FrameFound::Fails {
+        return Checked::Fails {
             why: FrameFault::Mode,
             units: 0,
         };
     }
     if !ends_well(inst, cycle, frame, deepest) {
-        return FrameFound::Fails {
+        return Checked::Fails {
             why: FrameFault::Last,
             units: 0,
         };
     }
     if let Some(cite) = first_late(&frame.cites, entries.len() as u64) {
-        return FrameFound::Fails {
+        return Checked::Fails {
             why: FrameFault::Cite(cite),
             units: 0,
         };
     }
     match walk_frame(inst, kind, entries, cycle, frame, deepest, steps) {
-        Walked::Right { units } => FrameFound::Right { units },
-        Walked::Uncovered { load, units } => FrameFound::Fails {
+        Walked::Right { units } => Checked::Right { units },
+        Walked::Uncovered { load, units } => Checked::Fails {
             why: FrameFault::Uncovered(load),
             units,
         },
-        Walked::Spare { units } => FrameFound::Fails {
+        Walked::Spare { units } => Checked::Fails {
             why: FrameFault::Spare,
             units,
         },
-        Walked::StepsEnded => FrameFound::StepsEnded,
+        Walked::StepsEnded => Checked::StepsEnded,
     }
 }
 
@@ -182,14 +182,14 @@ pub fn check_frames(
             frame,
             steps - units,
         ) {
-            FrameFound::Right { units: more } => units += more,
-            FrameFound::Fails { why, .. } => {
+            Checked::Right { units: more } => units += more,
+            Checked::Fails { why, .. } => {
                 return FramesFound::Refused {
                     frame: j as u32,
                     why,
                 };
             }
-            FrameFound::StepsEnded => return FramesFound::StepsEnded,
+            Checked::StepsEnded => return FramesFound::StepsEnded,
         }
     }
     FramesFound::Right { units }

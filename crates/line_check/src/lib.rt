@@ -17,6 +17,6 @@ pub use entries::{check_entry, verify_entry};
 pub use frames::check_frames;
 pub use lists::check_entries;
 pub use types::{
-    EntryChecked, EntryFault, Found, FrameFault, FramesFound, ListChecked, ListFound, Place,
+    Checked, EntryChecked, EntryFault, FrameFault, FramesFound, ListChecked, ListFound, Place,
     Verified,
 };

@@ -4,7 +4,7 @@ ghost use Rattle.line_rules.specs.Ranges.{AreEntries};
 ghost use Rattle.line_check.specs.Lists.{AreFound};
 
 use crate::entries::check_entry;
-use crate::types::{Found, ListFound};
+use crate::types::{Checked, ListFound};
 use line_instance::Instance;
 use line_rules::{Entries, LineKind};
 
@@ -17,14 +17,14 @@ pub fn check_entries(inst: &Instance, kind: LineKind, entries: &Entries, steps: 
     let mut units: u64 = 0;
     for k in 0..entries.len() {
         match check_entry(inst, kind, entries, k, entries.at(k), steps - units) {
-            Found::Right { units: more } => units += more,
-            Found::Fails { why, .. } => {
+            Checked::Right { units: more } => units += more,
+            Checked::Fails { why, .. } => {
                 return ListFound::Refused {
                     entry: k as u64,
                     why,
                 };
             }
-            Found::StepsEnded => return ListFound::StepsEnded,
+            Checked::StepsEnded => return ListFound::StepsEnded,
         }
     }
     ListFound::Right { units }

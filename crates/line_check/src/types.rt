@@ -56,18 +56,18 @@ pub enum EntryChecked {
     StepsEnded,
 }
 
-/// What the check of one entry finds, with the fault.
+/// What the check of one entry, or of one frame, finds, with the fault.
 #[derive(Clone, Copy)]
-pub enum Found {
-    /// The entry follows.
+pub enum Checked<F> {
+    /// It follows.
     Right {
         /// The loads walked.
         units: u64,
     },
-    /// The entry doesn't follow.
+    /// It doesn't follow.
     Fails {
         /// The first thing that is wrong with it.
-        why: EntryFault,
+        why: F,
         /// The loads walked up to the failure.
         units: u64,
     },
@@ -155,14 +155,6 @@ pub enum ListFound {
         why: EntryFault,
     },
     /// More loads than the steps had to be walked, before an entry was refused.
-    StepsEnded,
-}
-
-/// What the check of one frame finds.
-#[derive(Clone, Copy)]
-pub(crate) enum FrameFound {
-    Right { units: u64 },
-    Fails { why: FrameFault, units: u64 },
     StepsEnded,
 }
 

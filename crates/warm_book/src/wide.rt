@@ -25,7 +25,7 @@ ghost use Rattle.warm_book.specs.inner.Walked.{is_dropped, has_hope, may_stand, 
 
 use crate::warming::{Warmed, Warming};
 use lemma_core::Book;
-use line_check::{Found, check_entry};
+use line_check::{Checked, check_entry};
 use line_instance::Instance;
 use line_rules::{Entries, Entry, LineKind, Why};
 use rayon::prelude::*;
@@ -110,7 +110,7 @@ fn units_walked(
         return None;
     }
     match check_entry(inst, kind, old, k, entry, QUICK) {
-        Found::Right { units } => Some(units),
+        Checked::Right { units } => Some(units),
         _ => None,
     }
 }

@@ -8,7 +8,8 @@ use Rattle.std.proofs.lemmas.Slice.Zip.{AllZip-long}
 use Rattle.line_instance.specs.Line.{Line}
 use Rattle.line_rules.specs.declared.types.LineKind.{LineKind}
 use Rattle.line_rules.specs.declared.types.Entry.{Entry}
-use Rattle.line_check.specs.declared.types.Found.{Found}
+use Rattle.line_check.specs.declared.types.Checked.{Checked}
+use Rattle.line_check.specs.declared.types.EntryFault.{EntryFault}
 use Rattle.wide_check.specs.inner.Batches.{IsFoundAt, AreChecked}
 
 zip_at : {Y : Type 0} (R : ℕ → Y → Type 0) (a n : ℕ) (ys : List Y) → AllZip R (range_with_len a n) ys → (j : ℕ) (y : Y)
@@ -24,12 +25,12 @@ zip_at R a (suc n) (x ∷ ys) z (suc j) y e =
     subst (λ k. R k y) s (zip_at R (a + 1) n ys z.1 j y e)
 
 pub checked_range : (kind : LineKind) (line : Line) (es : List Entry) (from to steps : ℕ) (places : List ℕ)
-    (fs vs : List Found) → vs ≡ fs → places ≡ range_with_len from (to - from)
+    (fs vs : List (Checked EntryFault)) → vs ≡ fs → places ≡ range_with_len from (to - from)
     → AllZip (λ k f. IsFoundAt kind line es k steps f) places fs → AreChecked kind line es from to steps vs
 checked_range kind line es from to steps places fs vs same range z =
-    let R : ℕ → Found → Type 0 = λ k f. IsFoundAt kind line es k steps f in
+    let R : ℕ → Checked EntryFault → Type 0 = λ k f. IsFoundAt kind line es k steps f in
     let zipped : AllZip R (range_with_len from (to - from)) fs = subst (λ p. AllZip R p fs) range z in
-    let P : List Found → Type 0 = λ l. AreChecked kind line es from to steps l in
+    let P : List (Checked EntryFault) → Type 0 = λ l. AreChecked kind line es from to steps l in
     subst P (sym same) (record {
       many = AllZip-long R (range_with_len from (to - from)) fs zipped
           ∙ length-range_with_len from (to - from);

@@ -5,7 +5,7 @@ ghost use Rattle.line_rules.specs.Ranges.{AreEntries};
 ghost use Rattle.line_check.specs.Lists.{AreFound, AreRightBelow};
 ghost use Rattle.wide_check.specs.inner.Batches.{IsFoundAt, AreChecked, AreFoundTo};
 
-use line_check::{Found, ListFound, check_entry};
+use line_check::{Checked, EntryFault, ListFound, check_entry};
 use line_instance::Instance;
 use line_rules::{Entries, LineKind};
 use rayon::prelude::*;
@@ -19,7 +19,13 @@ const BATCH: usize = 4096;
 const QUICK: u64 = 65_536;
 
 /// Checks the entry of number `k` after those before it.
-fn entry_found(inst: &Instance, kind: LineKind, entries: &Entries, k: usize, steps: u64) -> Found
+fn entry_found(
+    inst: &Instance,
+    kind: LineKind,
+    entries: &Entries,
+    k: usize,
+    steps: u64,
+) -> Checked<EntryFault>
     requires range { AreEntries (tasks inst.now) entries.now }
     requires k { k < length entries.now }
     ensures { IsFoundAt kind inst.now entries.now k steps result }
@@ -36,7 +42,7 @@ fn batch_found<R: Threads + Sync>(
     entries: &Entries,
     from: usize,
     to: usize,
-) -> Result<Vec<Found>, AllocError>
+) -> Result<Vec<Checked<EntryFault>>, AllocError>
     requires range { AreEntries (tasks inst.now) entries.now }
     requires from { from ≤ to }
     requires to { to ≤ length entries.now }
@@ -46,7 +52,7 @@ fn batch_found<R: Threads + Sync>(
         .into_par_iter()
         .with_min_len(1)
         .map(
-            |k: usize| -> Found
+            |k: usize| -> Checked<EntryFault>
                 requires { (k < length entries.now) × AreEntries (tasks inst.now) entries.now }
                 ensures { IsFoundAt kind inst.entry.now entries.entry.now k 65536 result }
             { entry_found(inst, kind, entries, k, QUICK) },
@@ -61,17 +67,17 @@ fn settled(
     kind: LineKind,
     entries: &Entries,
     k: usize,
-    quick: Found,
+    quick: Checked<EntryFault>,
     left: u64,
-) -> Found
+) -> Checked<EntryFault>
     requires range { AreEntries (tasks inst.now) entries.now }
     requires k { k < length entries.now }
     requires quick { IsFoundAt kind inst.now entries.now k 65536 quick }
     ensures { IsFoundAt kind inst.now entries.now k left result }
 {
     match quick {
-        Found::Right { units } if units <= left => quick,
-        Found::Fails { units, .. } if units <= left => quick,
+        Checked::Right { units } if units <= left => quick,
+        Checked::Fails { units, .. } if units <= left => quick,
         _ => entry_found(inst, kind, entries, k, left),
     }
 }
@@ -83,7 +89,7 @@ fn gone_over(
     entries: &Entries,
     from: usize,
     to: usize,
-    quick: &[Found],
+    quick: &[Checked<EntryFault>],
     steps: u64,
     before: u64,
 ) -> ListFound
@@ -98,14 +104,14 @@ fn gone_over(
     let mut units = before;
     for k in from..to {
         match settled(inst, kind, entries, k, quick[k - from], steps - units) {
-            Found::Right { units: more } => units += more,
-            Found::Fails { why, .. } => {
+            Checked::Right { units: more } => units += more,
+            Checked::Fails { why, .. } => {
                 return ListFound::Refused {
                     entry: k as u64,
                     why,
                 };
             }
-            Found::StepsEnded => return ListFound::StepsEnded,
+            Checked::StepsEnded => return ListFound::StepsEnded,
         }
     }
     ListFound::Right { units }

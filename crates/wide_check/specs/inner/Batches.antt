@@ -5,21 +5,22 @@ use Rattle.line_rules.specs.declared.types.LineKind.{LineKind}
 use Rattle.line_rules.specs.declared.types.Entry.{Entry}
 use Rattle.line_check.specs.Faults.{IsFound}
 use Rattle.line_check.specs.Lists.{AreRightBelow, IsRefusedAt, AreStepsEnded}
-use Rattle.line_check.specs.declared.types.Found.{Found}
+use Rattle.line_check.specs.declared.types.Checked.{Checked}
+use Rattle.line_check.specs.declared.types.EntryFault.{EntryFault}
 use Rattle.line_check.specs.declared.types.ListFound.{ListFound}
 use Rattle.line_check.specs.declared.types.ListFound.TheVariants as found
 
 -- what is found of the entry of number k after those before it, with so many steps
-pub record IsFoundAt (kind : LineKind) (line : Line) (es : List Entry) (k steps : ℕ) (f : Found) : Type 0 where
+pub record IsFoundAt (kind : LineKind) (line : Line) (es : List Entry) (k steps : ℕ) (f : Checked EntryFault) : Type 0 where
   pub entry : Entry
   pub there : slice_get es k ≡ Some entry
   pub found : IsFound kind line (take k es) entry steps f
 
 -- what is found of each of the entries from one number up to below another, with so many steps for each
 pub record AreChecked (kind : LineKind) (line : Line) (es : List Entry) (from to steps : ℕ)
-    (fs : List Found) : Type 0 where
+    (fs : List (Checked EntryFault)) : Type 0 where
   pub many : length fs ≡ to - from
-  pub each : (j : ℕ) (f : Found) → slice_get fs j ≡ Some f → IsFoundAt kind line es (from + j) steps f
+  pub each : (j : ℕ) (f : Checked EntryFault) → slice_get fs j ≡ Some f → IsFoundAt kind line es (from + j) steps f
 
 -- what is found of the entries below a number, in their order
 abbrev pub AreFoundTo : LineKind → Line → List Entry → ℕ → ℕ → ListFound → Type 0
