@@ -213,8 +213,8 @@ module _ (kind : LineKind) (line : Line) (ranked : IsRanked line) (earlier : Lis
   units_one : (m n : ℕ) → UnitsBy line e e.why m → UnitsBy line e e.why n → m ≡ n
   units_one m n p q = entries_same line (e ∷ []) m n (m, 0, (p, refl, omega arith)) (n, 0, (q, refl, omega arith))
 
-  pub found_one : (steps : ℕ) (v w : Checked EntryFault) → IsFound kind line earlier e steps v → IsFound kind line earlier e steps w
-      → v ≡ w
+  pub found_one : (steps : ℕ) (v w : Checked EntryFault) → IsFound kind line earlier e steps v
+      → IsFound kind line earlier e steps w → v ≡ w
   found_one steps (found.Right m) (found.Right n) p q = ap (λ (z : ℕ). found.Right z) (units_one m n p.1 q.1)
   found_one steps (found.Right m) (found.Fails b n) p q = absurd (not_follows kind line earlier e b n q.0 p.0)
   found_one steps (found.Right m) found.StepsEnded p q = absurd

@@ -98,7 +98,8 @@ EndsAt kind line X es fs j f steps =
     f.most X f.cites steps
 
 -- what is found of a frame
-abbrev pub IsFoundAt : LineKind → Line → ℕ → List Entry → List OpenFrame → ℕ → OpenFrame → ℕ → Checked FrameFault → Type 0
+abbrev pub IsFoundAt : LineKind → Line → ℕ → List Entry → List OpenFrame → ℕ → OpenFrame → ℕ → Checked FrameFault
+    → Type 0
 IsFoundAt kind line X es fs j f steps (found.Right units) = IsRightAt kind line X es fs j f × FrameUnits line X f units
     × (units ≤ steps)
 IsFoundAt kind line X es fs j f steps (found.Fails why units) = FailsAt kind line X es fs j f why units

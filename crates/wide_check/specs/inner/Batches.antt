@@ -11,7 +11,8 @@ use Rattle.line_check.specs.declared.types.ListFound.{ListFound}
 use Rattle.line_check.specs.declared.types.ListFound.TheVariants as found
 
 -- what is found of the entry of number k after those before it, with so many steps
-pub record IsFoundAt (kind : LineKind) (line : Line) (es : List Entry) (k steps : ℕ) (f : Checked EntryFault) : Type 0 where
+pub record IsFoundAt (kind : LineKind) (line : Line) (es : List Entry) (k steps : ℕ)
+    (f : Checked EntryFault) : Type 0 where
   pub entry : Entry
   pub there : slice_get es k ≡ Some entry
   pub found : IsFound kind line (take k es) entry steps f

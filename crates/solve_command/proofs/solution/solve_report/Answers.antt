@@ -64,7 +64,8 @@ returns-clause-ends g c = λ t.
     let S : Outcome → Type 0 = IsSolution a.kind said.timed.inst said.timed.cycle plan start name in
     let found = in_file a.kind said.timed.inst said.timed.cycle plan start name r c.in_ok-report.ensures.answer in
     ends_as o (λ out. out ≡ outcome_of r (page_of name found.0))
-    (IsSolveOutcome o a.file.now apart warm a.limit a.word a.kind plan name) (g.S.Shelf.file c.write_certificate.new.shelf)
+    (IsSolveOutcome o a.file.now apart warm a.limit a.word a.kind plan name)
+    (g.S.Shelf.file c.write_certificate.new.shelf)
     c.write_certificate.result
     (λ out is. answered o a.file.now apart warm a.limit a.word a.kind said.timed.inst said.timed.cycle said.olds plan
     name out (c.in_ok-said.ensures.said t) (inl (subst S (sym is) found.3)))
