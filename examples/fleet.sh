@@ -1,6 +1,7 @@
 #!/bin/sh
-# Four processes share what they prove, by files alone. The line is solved at four cycle times side by side, and then, side by side again,
-# at cycle times shorter by one, each from a certificate of the first round. Prints the bounds of each run and how many lemmas it took over.
+# Four processes share what they prove, by files alone. The line is solved at four cycle times side by side, and then,
+# side by side again, at cycle times shorter by one, each from a certificate of the first round. Prints the bounds of
+# each run and how many lemmas it took over.
 #   examples/fleet.sh FILE CYCLE CYCLE CYCLE CYCLE
 set -eu
 line=$(cd "$(dirname "$0")/.." && pwd)/line

@@ -1,5 +1,5 @@
-//! The same walk over the loads of the same instances in plain Rust: sets of sixteen words; the sum, the tasks that are ready and the places
-//! to go over are kept from load to load.
+//! The same walk over the loads of the same instances in plain Rust: sets of sixteen words; the sum, the tasks that are
+//! ready and the places to go over are kept from load to load.
 
 use std::time::Instant;
 

@@ -1,6 +1,7 @@
-/* Stands between a program and the C library (LD_PRELOAD), and has one call of a kind go wrong: the one whose number is in AT.
-   FAULT is memory (a request is refused), thread (no thread is started), io (an open, seek, read or write fails) or short (a
-   read or write of several bytes moves one). With a minus in front of AT each call from that number on goes wrong. The number of such calls is left in the file that ASKED names. */
+/* Stands between a program and the C library (LD_PRELOAD), and has one call of a kind go wrong: the one whose number is
+   in AT. FAULT is memory (a request is refused), thread (no thread is started), io (an open, seek, read or write fails)
+   or short (a read or write of several bytes moves one). With a minus in front of AT each call from that number on goes
+   wrong. The number of such calls is left in the file that ASKED names. */
 #define _GNU_SOURCE
 #include <dlfcn.h>
 #include <errno.h>

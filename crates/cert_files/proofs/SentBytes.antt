@@ -166,7 +166,8 @@ module _ (tells : Type 0) (r r' : ℕ) (name name' : List ℕ) (files new : List
   all_put f =
       let same : name' ≡ name = ap (λ b. b.1) p.base in
       let good : not failed' ≡ true = ap not f in
-      let all : bytes_of (new name') ++ buffer' ≡ (bytes_of (files name) ++ buffer) ++ text = (p.adds told).all good in (
+      let sent = p.adds told in
+      let all : bytes_of (new name') ++ buffer' ≡ (bytes_of (files name) ++ buffer) ++ text = sent.all good in (
         there tells r r' name name' files new false failed' buffer buffer' text faults more p told e,
         ap (λ n. bytes_of (new n) ++ buffer') (sym same) ∙ all ∙ ap (λ x. x ++ text) start,
       )

@@ -14,7 +14,8 @@ use std::test::Fail;
 use task_set::TaskSet;
 
 const V5: &str =
-    "line balance certificate 2\nline straight\ntasks 5\ncycle 7\nlower 3\nupper 3\nbalance 3\n1\n2\n1\n2\n3\nentries 1\nbranch f 7 f8 2 -\ntrail 0\nend\n";
+    "line balance certificate 2\nline straight\ntasks 5\ncycle 7\nlower 3\nupper 3\nbalance 3\n1\n2\n1\n2\n3\n\
+    entries 1\nbranch f 7 f8 2 -\ntrail 0\nend\n";
 
 /// A shelf with a file `f` of this text; the call of number `fails` fails.
 fn shelf_of(alloc: Global, text: &[u8], fails: u64) -> Result<MemShelf, Fail> {
@@ -151,7 +152,8 @@ fn a_call_that_fails_leaves_a_front_of_the_text(rt: HostRuntime) -> Result<(), F
 fn long_text(alloc: Global) -> Result<String, AllocError> {
     let mut text = String::new(alloc);
     text.push_str(
-        "line balance certificate 2\nline straight\ntasks 5\ncycle 7\nlower 3\nupper 3\nbalance 3\n1\n2\n1\n2\n3\nentries 6000\n",
+        "line balance certificate 2\nline straight\ntasks 5\ncycle 7\nlower 3\nupper 3\nbalance 3\n1\n2\n1\n2\n3\n\
+        entries 6000\n",
     )?;
     for _ in 0..6000 {
         text.push_str("bound 7 f8 1\n")?;
@@ -253,10 +255,12 @@ fn is_read_as(alloc: Global, text: &[u8], wanted: &str) -> Result<bool, Fail> {
 }
 
 const V1: &str =
-    "line balance certificate 1\nline straight\ntasks 5\ncycle 7\nlower 3\nupper 3\nbalance 3\n1\n2\n1\n2\n3\nparts 1\npart 7\nentries 1\nbranch f f8 2 -\ntrail 0\nend\n";
+    "line balance certificate 1\nline straight\ntasks 5\ncycle 7\nlower 3\nupper 3\nbalance 3\n1\n2\n1\n2\n3\nparts 1\n\
+    part 7\nentries 1\nbranch f f8 2 -\ntrail 0\nend\n";
 
 const V6: &str =
-    "line balance certificate 2\nline straight\ntasks 5\ncycle 7\nlower 2\nupper 3\nbalance 3\n1\n2\n1\n2\n3\nentries 1\nbound 7 f8 1\ntrail 1 at 7\nopen f f8 2 90 -\nend\n";
+    "line balance certificate 2\nline straight\ntasks 5\ncycle 7\nlower 2\nupper 3\nbalance 3\n1\n2\n1\n2\n3\n\
+    entries 1\nbound 7 f8 1\ntrail 1 at 7\nopen f f8 2 90 -\nend\n";
 
 /// Whether each beginning of a text has ended in its last line.
 fn have_ended(alloc: Global, text: &str) -> Result<bool, Fail> {
@@ -387,7 +391,8 @@ const SWAP: &str =
     "entries 4\nbranch f 7 3e 2 -\nbranch f 7 be 3 0\nswap 7 7e 3 1 2 1\nbranch f 7 fe 4 1,2\ntrail 0\n";
 
 const LOOSE: &str =
-    "entries 7\nbound 7 80 0\nbranch f 7 3e 2 -\nbranch f 7 be 3 1\nbound 7 c0 0\nswap 7 7e 3 2 2 1\nbranch f 7 fe 4 2,4\nbranch f 7 fe 4 5\ntrail 0\n";
+    "entries 7\nbound 7 80 0\nbranch f 7 3e 2 -\nbranch f 7 be 3 1\nbound 7 c0 0\nswap 7 7e 3 2 2 1\n\
+    branch f 7 fe 4 2,4\nbranch f 7 fe 4 5\ntrail 0\n";
 
 #[test]
 fn a_list_without_spare_entries_stays(rt: HostRuntime) -> Result<(), Fail> {

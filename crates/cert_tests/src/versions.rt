@@ -148,7 +148,8 @@ fn a_text_of_a_u_line_is_read(rt: HostRuntime) -> Result<(), Fail> {
     let v3 = front(rt.alloc(), &V3, 99)?;
     let got = rewritten(rt.alloc(), v3.as_bytes())?;
     let wanted =
-        b"line balance certificate 2\nline u\ntasks 4\ncycle 2\nlower 1\nupper 2\nbalance 2\n2 f\n1 b\n1 f\n2 b\nentries 0\ntrail 0\nend\n";
+        b"line balance certificate 2\nline u\ntasks 4\ncycle 2\nlower 1\nupper 2\nbalance 2\n2 f\n1 b\n1 f\n2 b\n\
+        entries 0\ntrail 0\nend\n";
     assert!(rt; got.as_slice() == wanted.as_slice());
     Ok(())
 }
@@ -180,7 +181,8 @@ fn cites_of_a_second_part_are_raised(rt: HostRuntime) -> Result<(), Fail> {
     let text = front(rt.alloc(), &TWO_PARTS, 99)?;
     let got = rewritten(rt.alloc(), text.as_bytes())?;
     let rest =
-        "entries 5\nbound 6 f8 2\nbranch f 6 f8 2 0\nbound 7 f8 1\nbranch f 7 f8 2 2,3\nswap 7 f8 2 3 1 3\ntrail 1 at 7\nopen f f8 2 90 4\nend\n";
+        "entries 5\nbound 6 f8 2\nbranch f 6 f8 2 0\nbound 7 f8 1\nbranch f 7 f8 2 2,3\nswap 7 f8 2 3 1 3\n\
+        trail 1 at 7\nopen f f8 2 90 4\nend\n";
     let wanted = format!(in rt.alloc(); "{PLACES}{rest}")?;
     assert!(rt; got.as_slice() == wanted.as_bytes());
     Ok(())

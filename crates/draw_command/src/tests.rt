@@ -25,18 +25,22 @@ const U: &str =
 const ZEROS: &str = "4|0|5|0|3|1,2|2,4|-1,-1|";
 
 const ZEROS_CERT: &str =
-    "line balance certificate 2|line u|tasks 4|stations 2|lower 3|upper 5|balance 2|1 f|2 b|1 b|1 b|entries 0|trail 0|end|";
+    "line balance certificate 2|line u|tasks 4|stations 2|lower 3|upper 5|balance 2|1 f|2 b|1 b|1 b|entries 0|trail 0|\
+    end|";
 
 /// The picture of the straight line, line by line.
 const STRAIGHT_PICTURE: [&str; 42] = [
-    "<svg xmlns=\"http://www.w3.org/2000/svg\" version=\"1.1\" width=\"1032\" height=\"184\" viewBox=\"0 0 1032 184\" role=\"img\" font-family=\"Arial,sans-serif\" font-size=\"12\" shape-rendering=\"crispEdges\">",
+    "<svg xmlns=\"http://www.w3.org/2000/svg\" version=\"1.1\" width=\"1032\" height=\"184\" \
+    viewBox=\"0 0 1032 184\" role=\"img\" font-family=\"Arial,sans-serif\" \
+    font-size=\"12\" shape-rendering=\"crispEdges\">",
     "<title>Straight line, 3 stations, cycle time 2</title>",
     "<rect width=\"1032\" height=\"184\" fill=\"#fff\"/>",
     "<text x=\"64\" y=\"28\" font-size=\"18\">Straight line, 3 stations, cycle time 2</text>",
     "<text x=\"64\" y=\"48\">Stations: optimal (by the certificate)</text>",
     "<text x=\"64\" y=\"66\">Efficiency 66.6 %, total time 4, idle time 2, longest station time 2</text>",
     "<g text-anchor=\"end\">",
-    "<text x=\"56\" y=\"88\">station</text><text x=\"864\" y=\"88\">cycle time 2</text><text x=\"908\" y=\"88\">time</text><text x=\"952\" y=\"88\">idle</text>",
+    "<text x=\"56\" y=\"88\">station</text><text x=\"864\" y=\"88\">cycle time 2</text>\
+    <text x=\"908\" y=\"88\">time</text><text x=\"952\" y=\"88\">idle</text>",
     "<g transform=\"translate(64 112)\"><title>station 1: 1, time 1, idle 1</title>",
     "<path fill=\"#fff\" stroke=\"#888\" d=\"M0-14v20h800v-20z\"/>",
     "<g fill=\"#cfe2f6\" stroke=\"#467\">",
@@ -75,7 +79,9 @@ const STRAIGHT_PICTURE: [&str; 42] = [
 
 /// The picture of the U-line.
 const U_PICTURE: [&str; 40] = [
-    "<svg xmlns=\"http://www.w3.org/2000/svg\" version=\"1.1\" width=\"1032\" height=\"160\" viewBox=\"0 0 1032 160\" role=\"img\" font-family=\"Arial,sans-serif\" font-size=\"12\" shape-rendering=\"crispEdges\">",
+    "<svg xmlns=\"http://www.w3.org/2000/svg\" version=\"1.1\" width=\"1032\" height=\"160\" \
+    viewBox=\"0 0 1032 160\" role=\"img\" font-family=\"Arial,sans-serif\" \
+    font-size=\"12\" shape-rendering=\"crispEdges\">",
     "<title>U-line, 2 stations, cycle time 2</title>",
     "<rect width=\"1032\" height=\"160\" fill=\"#fff\"/>",
     "<text x=\"64\" y=\"28\" font-size=\"18\">U-line, 2 stations, cycle time 2</text>",
@@ -83,7 +89,8 @@ const U_PICTURE: [&str; 40] = [
     "<text x=\"64\" y=\"66\">Efficiency 100.0 %, total time 4, idle time 0, longest station time 2</text>",
     "<text x=\"104\" y=\"88\">light: front tasks, dark: back tasks</text>",
     "<g text-anchor=\"end\">",
-    "<text x=\"56\" y=\"88\">station</text><text x=\"864\" y=\"88\">cycle time 2</text><text x=\"908\" y=\"88\">time</text><text x=\"952\" y=\"88\">idle</text>",
+    "<text x=\"56\" y=\"88\">station</text><text x=\"864\" y=\"88\">cycle time 2</text>\
+    <text x=\"908\" y=\"88\">time</text><text x=\"952\" y=\"88\">idle</text>",
     "<g transform=\"translate(64 112)\"><title>station 1: 1 back 3, time 2, idle 0</title>",
     "<path fill=\"#fff\" stroke=\"#888\" d=\"M0-14v20h800v-20z\"/>",
     "<g fill=\"#cfe2f6\" stroke=\"#467\">",
@@ -244,15 +251,18 @@ fn refusals_in_their_order(rt: HostRuntime) -> Result<(), Fail> {
             "7 refused: no balance|",
         ),
         (
-            "line balance certificate 2|line straight|tasks 3|cycle 2|lower 1|upper 2|balance 3|3|1|1|entries 0|trail 0|end|",
+            "line balance certificate 2|line straight|tasks 3|cycle 2|lower 1|upper 2|balance 3|3|1|1|entries 0|\
+            trail 0|end|",
             "7 refused: balance stations 3|",
         ),
         (
-            "line balance certificate 2|line straight|tasks 3|cycle 2|lower 1|upper 3|balance 3|3|1|1|entries 0|trail 0|end|",
+            "line balance certificate 2|line straight|tasks 3|cycle 2|lower 1|upper 3|balance 3|3|1|1|entries 0|\
+            trail 0|end|",
             "7 refused: balance overfull 1 3|",
         ),
         (
-            "line balance certificate 2|line straight|tasks 3|cycle 2|lower 1|upper 3|balance 3|3|1|2|entries 0|trail 0|end|",
+            "line balance certificate 2|line straight|tasks 3|cycle 2|lower 1|upper 3|balance 3|3|1|2|entries 0|\
+            trail 0|end|",
             "7 refused: balance broken 1 2|",
         ),
         (U, "7 refused: balance together 1 3|"),
@@ -300,7 +310,8 @@ fn times_of_zero_and_bounds_that_are_open(rt: HostRuntime) -> Result<(), Fail> {
         "<text x=\"1024\" y=\"88\">narrow tasks</text>",
         "<title>station 1: 1 back 3 4, time 3, idle 2</title>",
         "<path d=\"M0-14v20h0v-20z\"><title>task 1, time 0</title></path>",
-        "<path d=\"M320-14v20h0v-20z\"><title>task 3, time 0</title></path>|<path d=\"M320-14v20h480v-20z\"><title>task 4, time 3</title></path>",
+        "<path d=\"M320-14v20h0v-20z\"><title>task 3, time 0</title></path>|\
+        <path d=\"M320-14v20h480v-20z\"><title>task 4, time 3</title></path>",
         "<text x=\"560\">4</text>|</g>",
         "<text x=\"960\" text-anchor=\"start\">1 3</text>",
         "<title>station 2: back 2, time 5, idle 0</title>",
@@ -335,7 +346,8 @@ fn notes_at_the_greatest_cycle_time(rt: HostRuntime) -> Result<(), Fail> {
         ">Stations: at least 1, at most 2 (by the certificate)<",
         ">Efficiency 0.0 %, total time 16, idle time 1999999999999999984, longest station time 16<",
         "<text x=\"1200\" text-anchor=\"start\">1 2 3 4 5 6 7 8 9 10 11 12 13 14 15 16</text>",
-        "<text x=\"-8\">2</text><text x=\"964\">16</text><text x=\"1128\">999999999999999984</text>|<text x=\"1188\">slowest</text>",
+        "<text x=\"-8\">2</text><text x=\"964\">16</text><text x=\"1128\">999999999999999984</text>|\
+        <text x=\"1188\">slowest</text>",
         "<title>station 1:, time 0, idle 1000000000000000000</title>",
     ];
     assert!(rt; has_all(&listed, &pieces), "{listed}");

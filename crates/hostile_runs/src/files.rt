@@ -18,7 +18,8 @@ const MIX: &str = "model,A,1,\nmodel,B,2,\ntime,A,1,3\ntime,B,1,4\ntime,B,2,1\na
 
 /// Certificates that are refused or read, to begin with.
 const PROOF: &str =
-    "line balance certificate 2\nline straight\ntasks 5\ncycle 7\nlower 3\nupper 3\nbalance 3\n1\n2\n1\n2\n3\nentries 1\nbranch f 7 f8 2 -\ntrail 0\nend\n";
+    "line balance certificate 2\nline straight\ntasks 5\ncycle 7\nlower 3\nupper 3\nbalance 3\n1\n2\n1\n2\n3\n\
+    entries 1\nbranch f 7 f8 2 -\ntrail 0\nend\n";
 
 /// A text with a few of its bytes changed, cut off, put twice or left out.
 pub fn spoiled(alloc: Global, draws: &mut Draws, bytes: &[u8]) -> Result<Vec<u8>, AllocError> {

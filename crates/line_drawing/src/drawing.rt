@@ -63,7 +63,9 @@ fn push_size(text: &mut String, figures: &Figures) -> Result<(), AllocError>
     let height = figures.height();
     write!(
         text,
-        "<svg xmlns=\"http://www.w3.org/2000/svg\" version=\"1.1\" width=\"{width}\" height=\"{height}\" viewBox=\"0 0 {width} {height}\" role=\"img\" font-family=\"Arial,sans-serif\" font-size=\"12\" shape-rendering=\"crispEdges\">\n<title>"
+        "<svg xmlns=\"http://www.w3.org/2000/svg\" version=\"1.1\" width=\"{width}\" height=\"{height}\" \
+        viewBox=\"0 0 {width} {height}\" role=\"img\" \
+        font-family=\"Arial,sans-serif\" font-size=\"12\" shape-rendering=\"crispEdges\">\n<title>"
     )?;
     Ok(())
 }
@@ -77,7 +79,8 @@ fn push_ground(text: &mut String, figures: &Figures) -> Result<(), AllocError>
     let height = figures.height();
     write!(
         text,
-        "</title>\n<rect width=\"{width}\" height=\"{height}\" fill=\"#fff\"/>\n<text x=\"64\" y=\"28\" font-size=\"18\">"
+        "</title>\n<rect width=\"{width}\" height=\"{height}\" fill=\"#fff\"/>\n\
+        <text x=\"64\" y=\"28\" font-size=\"18\">"
     )?;
     Ok(())
 }
@@ -128,7 +131,8 @@ fn push_totals(text: &mut String, figures: &Figures) -> Result<(), AllocError>
     let idle = figures.idle();
     write!(
         text,
-        " (by the certificate)</text>\n<text x=\"64\" y=\"66\">Efficiency {percent}.{tenths} %, total time {total}, idle time {idle}, longest station time {longest}</text>\n"
+        " (by the certificate)</text>\n<text x=\"64\" y=\"66\">Efficiency {percent}.{tenths} %, total time {total}, \
+        idle time {idle}, longest station time {longest}</text>\n"
     )?;
     Ok(())
 }
@@ -168,7 +172,9 @@ fn push_headings(text: &mut String, figures: &Figures) -> Result<(), AllocError>
     let idle_x = 864 + 2 * figures.column;
     write!(
         text,
-        "<g text-anchor=\"end\">\n<text x=\"56\" y=\"88\">station</text><text x=\"864\" y=\"88\">cycle time {cycle}</text><text x=\"{time_x}\" y=\"88\">time</text><text x=\"{idle_x}\" y=\"88\">idle</text>\n"
+        "<g text-anchor=\"end\">\n<text x=\"56\" y=\"88\">station</text>\
+        <text x=\"864\" y=\"88\">cycle time {cycle}</text><text x=\"{time_x}\" y=\"88\">time</text>\
+        <text x=\"{idle_x}\" y=\"88\">idle</text>\n"
     )?;
     Ok(())
 }

@@ -59,10 +59,12 @@ place_of line P x xs h a (suc k) e = inr (first_less line P x xs h k a e)
 
 heads : (line : Line) (P : Load → Type 0) (x y : Load) (xs ys : List Load) → Lists line P (x ∷ xs)
     → Lists line P (y ∷ ys) → x ≡ y
-heads line P x y xs ys f g = elim (place_of line P x xs f y (f.complete y (g.sound 0 y refl)).0
-    (f.complete y (g.sound 0 y refl)).1) [
+heads line P x y xs ys f g =
+    let at_f = f.complete y (g.sound 0 y refl) in
+    let at_g = g.complete x (f.sound 0 x refl) in
+    elim (place_of line P x xs f y at_f.0 at_f.1) [
       | inl e ↦ e
-      | inr up ↦ elim (place_of line P y ys g x (g.complete x (f.sound 0 x refl)).0 (g.complete x (f.sound 0 x refl)).1) [
+      | inr up ↦ elim (place_of line P y ys g x at_g.0 at_g.1) [
         | inl e ↦ sym e
         | inr down ↦ absurd (precedes_itself line x (precedes_trans line x y x up down))
       ]

@@ -48,6 +48,11 @@ pub fn exceeds(inst: &Instance, kind: LineKind, cycle: u64, set: &TaskSet, most:
     requires limit { cycle ≤ 1000000000000000000 }
     ensures { IsTrue result ↔ most < bound kind inst.now cycle set.now }
 {
+    let _tasks = inst.tasks();
+    // Asked here too, before the pass over the members, so that the answer needn't wait for it after the pass.
+    if set.is_empty() {
+        return false;
+    }
     exceeds_with(inst, kind, cycle, set, times_in(inst, set), most)
 }
 

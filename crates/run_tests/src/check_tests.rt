@@ -47,7 +47,8 @@ fn what_is_accepted_and_refused(rt: HostRuntime) -> Result<(), Fail> {
 fn many_copies(alloc: Global) -> Result<String, AllocError> {
     let mut text = String::from_str(
         alloc,
-        "line balance certificate 2\nline straight\ntasks 7\ncycle 7\nlower 5\nupper 5\nbalance 5\n1\n2\n3\n4\n3\n4\n5\nentries 5004\n",
+        "line balance certificate 2\nline straight\ntasks 7\ncycle 7\nlower 5\nupper 5\nbalance 5\n1\n2\n3\n4\n3\n4\n\
+        5\nentries 5004\n",
     )?;
     for _ in 0..5000 {
         text.push_str("branch f 7 3e 2 -\n")?;

@@ -12,7 +12,8 @@ const BALANCES: &str =
     "balance five.in2 cycle=7|0|balance 3/total bound 2/idle 7/station 1: 1 3/station 2: 2 4/station 3: 5/
 balance five.in2 cycle=3|0|infeasible: task 1 time 4/
 balance line=straight cycle=7 five.in2|0|balance 3/|..
-balance jackson.in2 cycle=10|0|balance 6/total bound 5/idle 14/station 1: 1 2 6/station 2: 4 5/station 3: 3 7/station 4: 8/station 5: 9 10/station 6: 11/
+balance jackson.in2 cycle=10|0|balance 6/total bound 5/idle 14/station 1: 1 2 6/station 2: 4 5/station 3: 3 7/\
+    station 4: 8/station 5: 9 10/station 6: 11/
 balance huge.in2 cycle=1000000000000000000|0|balance 1/total bound 1/idle 999800000000000000/station 1: 1/
 balance noted.in2 cycle=5|0|balance 1/total bound 1/idle 0/station 1: 1/
 balance chain.in2 cycle=2 line=u|0|balance 2/total bound 2/idle 0/station 1: 1 back 3/station 2: 2/

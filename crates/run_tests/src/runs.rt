@@ -26,7 +26,8 @@ thirteen.in2 13/11/8/7/12/8/10/9/10/11/4/3/4/8/1,6/5,6/5,12/-1,-1/
 huge.in2 1/200000000000000/-1,-1/
 noted.in2 1/5/-1,-1/made by hand/
 short.in2 1/
-alb.in2 <task times>\r/1 3\r/2 4\r/<order strength>\r/0,268\r/<number of tasks>\r/2\r/<cycle time>\r/7\r/<precedence relations>\r/1,2\r/<end>\r/
+alb.in2 <task times>\r/1 3\r/2 4\r/<order strength>\r/0,268\r/<number of tasks>\r/2\r/<cycle time>\r/7\r/\
+    <precedence relations>\r/1,2\r/<end>\r/
 workers.in2 <task times>\r/1 3\r/<workers>\r/
 other.alb <number of tasks>/3//<task times>/1 1/2 2/3 1//<precedence relations>/1,2/2,3//<end>/
 one.apart 2,2/-1,-1/
@@ -41,8 +42,10 @@ ring.csv tasks,3,,/model,A,1,/model,B,1,/arc,A,1,2/arc,B,2,3/arc,A,3,1/
 range.csv tasks,1,,/model,A,0,/
 quote.csv tasks,1,,/model,A,1,/time,A,1,\"5/model,B,1,/
 none.csv tasks,1,,/
-seventeen.csv tasks,1,,/model,A,1,/model,B,1,/model,C,1,/model,D,1,/model,E,1,/model,F,1,/model,G,1,/model,H,1,/model,I,1,/model,J,1,/model,K,1,/model,L,1,/model,M,1,/model,N,1,/model,O,1,/model,P,1,/model,Q,1,/
-sixteen.csv tasks,1,,/model,A,1,/model,B,1,/model,C,1,/model,D,1,/model,E,1,/model,F,1,/model,G,1,/model,H,1,/model,I,1,/model,J,1,/model,K,1,/model,L,1,/model,M,1,/model,N,1,/model,O,1,/model,P,1,/
+seventeen.csv tasks,1,,/model,A,1,/model,B,1,/model,C,1,/model,D,1,/model,E,1,/model,F,1,/model,G,1,/model,H,1,/\
+    model,I,1,/model,J,1,/model,K,1,/model,L,1,/model,M,1,/model,N,1,/model,O,1,/model,P,1,/model,Q,1,/
+sixteen.csv tasks,1,,/model,A,1,/model,B,1,/model,C,1,/model,D,1,/model,E,1,/model,F,1,/model,G,1,/model,H,1,/\
+    model,I,1,/model,J,1,/model,K,1,/model,L,1,/model,M,1,/model,N,1,/model,O,1,/model,P,1,/
 three.txt A/B/C/
 one.txt B/
 twice.txt B\r/\r/ B/
@@ -52,35 +55,61 @@ none.txt ";
 
 /// Certificates, by what they show or what is wrong with them.
 const CERTIFICATES: &str =
-    "first.cert line balance certificate 1/line straight/tasks 5/cycle 7/lower 3/upper 3/balance 3/1/2/1/2/3/parts 1/part 7/entries 1/branch f f8 2 -/trail 0/end/
-first-stopped.cert line balance certificate 1/line straight/tasks 5/cycle 7/lower 2/upper 3/balance 3/1/2/1/2/3/parts 1/part 7/entries 1/bound f8 1/trail 1/open f f8 2 90 -/end/
-broken.cert line balance certificate 1/line u/tasks 4/cycle 2/lower 1/upper 2/balance 2/2 f/1 b/1 f/2 b/parts 1/part 2/entries 0/trail 0/end/
-five.cert line balance certificate 2/line straight/tasks 5/cycle 7/lower 3/upper 3/balance 3/1/2/1/2/3/entries 1/branch f 7 f8 2 -/trail 0/end/
-five-at-six.cert line balance certificate 2/line straight/tasks 5/cycle 6/lower 3/upper 3/balance 3/1/2/1/2/3/entries 1/branch f 7 f8 2 -/trail 0/end/
-five-at-eight.cert line balance certificate 2/line straight/tasks 5/cycle 8/lower 3/upper 3/balance 3/1/2/1/2/3/entries 1/branch f 7 f8 2 -/trail 0/end/
-stopped.cert line balance certificate 2/line straight/tasks 5/cycle 7/lower 2/upper 3/balance 3/1/2/1/2/3/entries 1/bound 7 f8 1/trail 1 at 7/open f f8 2 90 -/end/
+    "first.cert line balance certificate 1/line straight/tasks 5/cycle 7/lower 3/upper 3/balance 3/1/2/1/2/3/parts 1/\
+    part 7/entries 1/branch f f8 2 -/trail 0/end/
+first-stopped.cert line balance certificate 1/line straight/tasks 5/cycle 7/lower 2/upper 3/balance 3/1/2/1/2/3/\
+    parts 1/part 7/entries 1/bound f8 1/trail 1/open f f8 2 90 -/end/
+broken.cert line balance certificate 1/line u/tasks 4/cycle 2/lower 1/upper 2/balance 2/2 f/1 b/1 f/2 b/parts 1/part 2/\
+    entries 0/trail 0/end/
+five.cert line balance certificate 2/line straight/tasks 5/cycle 7/lower 3/upper 3/balance 3/1/2/1/2/3/entries 1/\
+    branch f 7 f8 2 -/trail 0/end/
+five-at-six.cert line balance certificate 2/line straight/tasks 5/cycle 6/lower 3/upper 3/balance 3/1/2/1/2/3/\
+    entries 1/branch f 7 f8 2 -/trail 0/end/
+five-at-eight.cert line balance certificate 2/line straight/tasks 5/cycle 8/lower 3/upper 3/balance 3/1/2/1/2/3/\
+    entries 1/branch f 7 f8 2 -/trail 0/end/
+stopped.cert line balance certificate 2/line straight/tasks 5/cycle 7/lower 2/upper 3/balance 3/1/2/1/2/3/entries 1/\
+    bound 7 f8 1/trail 1 at 7/open f f8 2 90 -/end/
 infeasible.cert line balance certificate 2/line straight/tasks 5/cycle 3/infeasible 1/end/
-branches.cert line balance certificate 2/line straight/tasks 6/cycle 7/lower 4/upper 4/balance 4/1/2/3/2/3/4/entries 2/branch f 7 7c 2 -/branch f 7 fc 3 0/trail 0/end/
-itself.cert line balance certificate 2/line straight/tasks 6/cycle 7/lower 4/upper 4/balance 4/1/2/3/2/3/4/entries 2/branch f 7 7c 2 -/branch f 7 fc 3 1/trail 0/end/
-itself-in-a-part.cert line balance certificate 1/line straight/tasks 6/cycle 7/lower 4/upper 4/balance 4/1/2/3/2/3/4/parts 1/part 7/entries 2/branch f 7c 2 -/branch f fc 3 1/trail 0/end/
-no-subset.cert line balance certificate 2/line straight/tasks 6/cycle 7/lower 4/upper 4/balance 4/1/2/3/2/3/4/entries 2/bound 7 fc 2/branch f 7 fc 3 0/trail 0/end/
-swap.cert line balance certificate 2/line straight/tasks 7/cycle 7/lower 5/upper 5/balance 5/1/2/3/4/3/4/5/entries 4/branch f 7 3e 2 -/branch f 7 be 3 0/swap 7 7e 3 1 2 1/branch f 7 fe 4 1,2/trail 0/end/
-together.cert line balance certificate 2/line straight/tasks 2/cycle 2/lower 1/upper 1/balance 1/1/1/entries 0/trail 0/end/
-five-as-u.cert line balance certificate 2/line u/tasks 5/cycle 7/lower 3/upper 3/balance 3/1 f/2 f/1 f/2 f/3 f/entries 1/branch u 7 f8 2 -/trail 0/end/
-least-cycle.cert line balance certificate 2/line straight/tasks 5/stations 2/lower 8/upper 8/balance 2/1/1/2/2/2/entries 1/branch f 7 f8 2 -/trail 0/end/
-stopped-cycle.cert line balance certificate 2/line straight/tasks 5/stations 2/lower 7/upper 8/balance 2/1/1/2/2/2/entries 1/bound 6 f8 2/trail 1 at 7/open f f8 2 90 -/end/
-from-the-back.cert line balance certificate 2/line straight/tasks 5/cycle 7/lower 3/upper 3/balance 3/1/2/1/2/3/entries 1/branch b 7 f8 2 -/trail 0/end/
-bad.cert line balance certificate 2/line straight/tasks 5/cycle 7/lower 3/upper 3/balance 3/1/2/1/2/3/entries 1/branch f 7 f8 2 -/trail 0/END/
-mix-of-one.cert line balance certificate 2/line straight/tasks 1/cycle 21/lower 1/upper 1/balance 1/1/entries 0/trail 0/end/
+branches.cert line balance certificate 2/line straight/tasks 6/cycle 7/lower 4/upper 4/balance 4/1/2/3/2/3/4/entries 2/\
+    branch f 7 7c 2 -/branch f 7 fc 3 0/trail 0/end/
+itself.cert line balance certificate 2/line straight/tasks 6/cycle 7/lower 4/upper 4/balance 4/1/2/3/2/3/4/entries 2/\
+    branch f 7 7c 2 -/branch f 7 fc 3 1/trail 0/end/
+itself-in-a-part.cert line balance certificate 1/line straight/tasks 6/cycle 7/lower 4/upper 4/balance 4/1/2/3/2/3/4/\
+    parts 1/part 7/entries 2/branch f 7c 2 -/branch f fc 3 1/trail 0/end/
+no-subset.cert line balance certificate 2/line straight/tasks 6/cycle 7/lower 4/upper 4/balance 4/1/2/3/2/3/4/\
+    entries 2/bound 7 fc 2/branch f 7 fc 3 0/trail 0/end/
+swap.cert line balance certificate 2/line straight/tasks 7/cycle 7/lower 5/upper 5/balance 5/1/2/3/4/3/4/5/entries 4/\
+    branch f 7 3e 2 -/branch f 7 be 3 0/swap 7 7e 3 1 2 1/branch f 7 fe 4 1,2/trail 0/end/
+together.cert line balance certificate 2/line straight/tasks 2/cycle 2/lower 1/upper 1/balance 1/1/1/entries 0/trail 0/\
+    end/
+five-as-u.cert line balance certificate 2/line u/tasks 5/cycle 7/lower 3/upper 3/balance 3/1 f/2 f/1 f/2 f/3 f/\
+    entries 1/branch u 7 f8 2 -/trail 0/end/
+least-cycle.cert line balance certificate 2/line straight/tasks 5/stations 2/lower 8/upper 8/balance 2/1/1/2/2/2/\
+    entries 1/branch f 7 f8 2 -/trail 0/end/
+stopped-cycle.cert line balance certificate 2/line straight/tasks 5/stations 2/lower 7/upper 8/balance 2/1/1/2/2/2/\
+    entries 1/bound 6 f8 2/trail 1 at 7/open f f8 2 90 -/end/
+from-the-back.cert line balance certificate 2/line straight/tasks 5/cycle 7/lower 3/upper 3/balance 3/1/2/1/2/3/\
+    entries 1/branch b 7 f8 2 -/trail 0/end/
+bad.cert line balance certificate 2/line straight/tasks 5/cycle 7/lower 3/upper 3/balance 3/1/2/1/2/3/entries 1/\
+    branch f 7 f8 2 -/trail 0/END/
+mix-of-one.cert line balance certificate 2/line straight/tasks 1/cycle 21/lower 1/upper 1/balance 1/1/entries 0/\
+    trail 0/end/
 mix-as-u.cert line balance certificate 2/line u/tasks 1/cycle 21/lower 1/upper 1/balance 1/1 f/entries 0/trail 0/end/
 mix-infeasible.cert line balance certificate 2/line straight/tasks 1/cycle 3/infeasible 1/end/
-mix-of-two.cert line balance certificate 2/line straight/tasks 2/cycle 12/lower 1/upper 2/balance 2/1/2/entries 0/trail 0/end/
-mix-turned.cert line balance certificate 2/line straight/tasks 2/cycle 12/lower 1/upper 2/balance 2/2/1/entries 0/trail 0/end/
-mix-in-eleven.cert line balance certificate 2/line straight/tasks 1/cycle 21/lower 1/upper 11/balance 11/1/entries 0/trail 0/end/
-mix-in-64.cert line balance certificate 2/line straight/tasks 1/cycle 21/lower 1/upper 64/balance 64/1/entries 0/trail 0/end/
-mix-in-65.cert line balance certificate 2/line straight/tasks 1/cycle 21/lower 1/upper 65/balance 65/1/entries 0/trail 0/end/
-spare.cert utility sequence certificate 1/models 3/stations 1/lower 1/upper 1/units 3/1/2/3/entries 3/branch 0,1,1 0 1 -/branch 1,1,0 0 1 0/branch 1,1,1 0 1 0,1/trail 0/end/
-rootless.cert utility sequence certificate 1/models 3/stations 1/lower 1/upper 1/units 3/1/2/3/entries 2/branch 0,1,1 0 1 -/branch 1,1,0 0 1 -/trail 0/end/
+mix-of-two.cert line balance certificate 2/line straight/tasks 2/cycle 12/lower 1/upper 2/balance 2/1/2/entries 0/\
+    trail 0/end/
+mix-turned.cert line balance certificate 2/line straight/tasks 2/cycle 12/lower 1/upper 2/balance 2/2/1/entries 0/\
+    trail 0/end/
+mix-in-eleven.cert line balance certificate 2/line straight/tasks 1/cycle 21/lower 1/upper 11/balance 11/1/entries 0/\
+    trail 0/end/
+mix-in-64.cert line balance certificate 2/line straight/tasks 1/cycle 21/lower 1/upper 64/balance 64/1/entries 0/\
+    trail 0/end/
+mix-in-65.cert line balance certificate 2/line straight/tasks 1/cycle 21/lower 1/upper 65/balance 65/1/entries 0/\
+    trail 0/end/
+spare.cert utility sequence certificate 1/models 3/stations 1/lower 1/upper 1/units 3/1/2/3/entries 3/\
+    branch 0,1,1 0 1 -/branch 1,1,0 0 1 0/branch 1,1,1 0 1 0,1/trail 0/end/
+rootless.cert utility sequence certificate 1/models 3/stations 1/lower 1/upper 1/units 3/1/2/3/entries 2/\
+    branch 0,1,1 0 1 -/branch 1,1,0 0 1 -/trail 0/end/
 leading.cert line balance certificate 2/line straight/tasks 5/cycle 07/
 third.cert line balance certificate 3/";
 

@@ -13,43 +13,65 @@ const FIVE: &str = "solve five.in2 cycle=7 helpers=0 cert=t.cert";
 const FIVE_SHOWN: &str = "optimal 3\nidle 7\nstation 1: 1 3\nstation 2: 2 4\nstation 3: 5\n";
 
 const FIVE_PROVED: &str =
-    "line balance certificate 2\nline straight\ntasks 5\ncycle 7\nlower 3\nupper 3\nbalance 3\n1\n2\n1\n2\n3\nentries 1\nbranch f 7 f8 2 -\ntrail 0\nend\n";
+    "line balance certificate 2\nline straight\ntasks 5\ncycle 7\nlower 3\nupper 3\nbalance 3\n1\n2\n1\n2\n3\n\
+    entries 1\nbranch f 7 f8 2 -\ntrail 0\nend\n";
 
 /// The worked rows, a line each: the words of a run, what it prints or begins to print, a part of the certificate that
 /// it keeps, and what `check` prints of the file that it wrote, where it wrote one; `/` stands for the end of a line.
 /// Where 16 units are spent on six tasks, the search has just gone down to a second question: its trail has two frames.
 const ROWS: &str = "solve zero.in2 cycle=1 helpers=0|optimal 1/idle 1/station 1: 1/|/entries 0/|
-solve chain.in2 cycle=2 helpers=0|optimal 3/idle 2/station 1: 1/station 2: 2/station 3: 3/|/entries 1/bound 2 e 2/trail 0/|
+solve chain.in2 cycle=2 helpers=0|optimal 3/idle 2/station 1: 1/station 2: 2/station 3: 3/|/entries 1/bound 2 e 2/\
+    trail 0/|
 solve chain.in2 cycle=2 line=u helpers=0|optimal 2/idle 0/station 1: 1 back 3/station 2: 2/|/entries 1/|
-solve five.in2 cycle=7 helpers=0 units=15 cert=t.cert|optimal 3/idle 7/station 1: 1 3/station 2: 2 4/station 3: 5/|/entries 1/branch f 7 f8 2 -/trail 0/|accepted straight cycle 7 lower 3 upper 3 units 15/
-solve five.in2 cycle=7 helpers=0 units=14 cert=t.cert|stopped by units/bounds 2 3/idle 7/station 1: 1 3/station 2: 2 4/station 3: 5/|/entries 1/bound 7 f8 1/trail 1 at 7/open f f8 2 90 -/end/|accepted straight cycle 7 lower 2 upper 3 units 14/
-solve five.in2 cycle=3 helpers=0 cert=t.cert|infeasible: task 1 time 4/|/cycle 3/infeasible 1/end/|accepted straight cycle 3 infeasible 1/
-solve jackson.in2 cycle=10 helpers=0 units=3000000|optimal 5/idle 4/station 1: 1 2 6/station 2: 5 8/station 3: 3 10/station 4: 4 7/station 5: 9 11/|/entries 1/bound 10 ffe 4/trail 0/|
+solve five.in2 cycle=7 helpers=0 units=15 cert=t.cert|optimal 3/idle 7/station 1: 1 3/station 2: 2 4/station 3: 5/|/\
+    entries 1/branch f 7 f8 2 -/trail 0/|accepted straight cycle 7 lower 3 upper 3 units 15/
+solve five.in2 cycle=7 helpers=0 units=14 cert=t.cert|stopped by units/bounds 2 3/idle 7/station 1: 1 3/station 2: 2 4/\
+    station 3: 5/|/entries 1/bound 7 f8 1/trail 1 at 7/open f f8 2 90 -/end/|\
+    accepted straight cycle 7 lower 2 upper 3 units 14/
+solve five.in2 cycle=3 helpers=0 cert=t.cert|infeasible: task 1 time 4/|/cycle 3/infeasible 1/end/|\
+    accepted straight cycle 3 infeasible 1/
+solve jackson.in2 cycle=10 helpers=0 units=3000000|optimal 5/idle 4/station 1: 1 2 6/station 2: 5 8/station 3: 3 10/\
+    station 4: 4 7/station 5: 9 11/|/entries 1/bound 10 ffe 4/trail 0/|
 solve jackson.in2 cycle=7 helpers=0 units=3000000|optimal 8/idle 10/||
 solve jackson.in2 cycle=7 helpers=1 units=3000000|optimal 8/idle 10/||
 solve jackson.in2 cycle=7 helpers=8 units=3000000|optimal 8/idle 10/||
-solve six.in2 cycle=7 helpers=0 cert=t.cert|optimal 4/idle 7/station 1: 1/station 2: 2 4/station 3: 3 5/station 4: 6/|/entries 2/branch f 7 7c 2 -/branch f 7 fc 3 0/trail 0/|accepted straight cycle 7 lower 4 upper 4 units 31/
-solve six.in2 cycle=7 helpers=0 units=16 cert=t.cert|stopped by units/bounds 3 4/|/trail 2 at 7/open f fc 3 80 -/open f 7c 2 - -/end/|accepted straight cycle 7 lower 3 upper 4 units 16/
-solve seven.in2 cycle=7 helpers=0 cert=t.cert|optimal 5/idle 7/station 1: 1/station 2: 2/station 3: 3 5/station 4: 4 6/station 5: 7/|/entries 4/branch f 7 3e 2 -/branch f 7 be 3 0/swap 7 7e 3 1 2 1/branch f 7 fe 4 1,2/trail 0/|accepted straight cycle 7 lower 5 upper 5 units 48/
-solve five.in2 cycle=7 line=u helpers=0 units=54 cert=t.cert|optimal 3/idle 7/station 1: 1 3/station 2: 2 4/station 3: 5/|/entries 1/branch u 7 f8 2 -/trail 0/|accepted u cycle 7 lower 3 upper 3 units 54/
-solve five.in2 cycle=7 line=u helpers=0 units=53 cert=t.cert|stopped by units/bounds 2 3/idle 7/station 1: 1 3/|/trail 1 at 7/|accepted u cycle 7 lower 2 upper 3 units 53/
-solve two.in2 cycle=2 apart=two.apart helpers=0 cert=t.cert|optimal 2/idle 2/station 1: 1/station 2: 2/|/entries 1/branch f 2 c 1 -/trail 0/|refused: entry 0 uncovered c/
-solve five.in2 cycle=7 apart=three.apart helpers=0 units=11|optimal 3/idle 7/station 1: 1 3/station 2: 2 4/station 3: 5/||
+solve six.in2 cycle=7 helpers=0 cert=t.cert|optimal 4/idle 7/station 1: 1/station 2: 2 4/station 3: 3 5/station 4: 6/|/\
+    entries 2/branch f 7 7c 2 -/branch f 7 fc 3 0/trail 0/|accepted straight cycle 7 lower 4 upper 4 units 31/
+solve six.in2 cycle=7 helpers=0 units=16 cert=t.cert|stopped by units/bounds 3 4/|/trail 2 at 7/open f fc 3 80 -/\
+    open f 7c 2 - -/end/|accepted straight cycle 7 lower 3 upper 4 units 16/
+solve seven.in2 cycle=7 helpers=0 cert=t.cert|optimal 5/idle 7/station 1: 1/station 2: 2/station 3: 3 5/station 4: 4 6/\
+    station 5: 7/|/entries 4/branch f 7 3e 2 -/branch f 7 be 3 0/swap 7 7e 3 1 2 1/branch f 7 fe 4 1,2/trail 0/|\
+    accepted straight cycle 7 lower 5 upper 5 units 48/
+solve five.in2 cycle=7 line=u helpers=0 units=54 cert=t.cert|optimal 3/idle 7/station 1: 1 3/station 2: 2 4/\
+    station 3: 5/|/entries 1/branch u 7 f8 2 -/trail 0/|accepted u cycle 7 lower 3 upper 3 units 54/
+solve five.in2 cycle=7 line=u helpers=0 units=53 cert=t.cert|stopped by units/bounds 2 3/idle 7/station 1: 1 3/|/\
+    trail 1 at 7/|accepted u cycle 7 lower 2 upper 3 units 53/
+solve two.in2 cycle=2 apart=two.apart helpers=0 cert=t.cert|optimal 2/idle 2/station 1: 1/station 2: 2/|/entries 1/\
+    branch f 2 c 1 -/trail 0/|refused: entry 0 uncovered c/
+solve five.in2 cycle=7 apart=three.apart helpers=0 units=11|optimal 3/idle 7/station 1: 1 3/station 2: 2 4/\
+    station 3: 5/||
 solve alb.in2 helpers=0|optimal 1/idle 0/station 1: 1 2/||
 solve five.in2|input: five.in2 no cycle time/||
 solve five.in2 cycle=7|optimal 3/idle 7/||
-solve five.in2 cycle=7 helpers=2 units=14 cert=t.cert|stopped by units/bounds 2 3/|/trail 1 at 7/|accepted straight cycle 7 lower 2 upper 3 units 14/
+solve five.in2 cycle=7 helpers=2 units=14 cert=t.cert|stopped by units/bounds 2 3/|/trail 1 at 7/|\
+    accepted straight cycle 7 lower 2 upper 3 units 14/
 solve seven.in2 cycle=7 helpers=2 cert=t.cert|optimal 5/idle 7/||
 solve zero.in2 cycle=1 helpers=64|optimal 1/idle 1/station 1: 1/|/entries 0/|
-solve big.alb helpers=4 units=200000 cert=t.cert|optimal 20/idle 0/station 1: 1 2 3 4 5/||accepted straight cycle 1000 lower 20 upper 20 units 0/
-cycle chain.in2 stations=2 helpers=0|optimal cycle 3/idle 2/station 1: 1 2/station 2: 3/|/entries 1/bound 2 e 2/trail 0/end/|
-cycle chain.in2 stations=2 line=u helpers=0|optimal cycle 2/idle 0/station 1: 1 back 3/station 2: 2/|/entries 1/bound 1 e 2/trail 0/end/|
+solve big.alb helpers=4 units=200000 cert=t.cert|optimal 20/idle 0/station 1: 1 2 3 4 5/||\
+    accepted straight cycle 1000 lower 20 upper 20 units 0/
+cycle chain.in2 stations=2 helpers=0|optimal cycle 3/idle 2/station 1: 1 2/station 2: 3/|/entries 1/bound 2 e 2/\
+    trail 0/end/|
+cycle chain.in2 stations=2 line=u helpers=0|optimal cycle 2/idle 0/station 1: 1 back 3/station 2: 2/|/entries 1/\
+    bound 1 e 2/trail 0/end/|
 cycle chain.in2 stations=1 helpers=0 units=1|optimal cycle 4/|/entries 1/bound 3 e 1/trail 0/|
 cycle chain.in2 stations=5 helpers=0 units=1|optimal cycle 2/|/entries 1/bound 1 e 5/trail 0/|
 cycle chain.in2 stations=2 helpers=4|optimal cycle 3/||
 cycle nothing.in2 stations=1 helpers=0|optimal cycle 1/idle 1/station 1: 1 2/|/entries 0/|
-cycle five.in2 stations=2 helpers=0 units=15 cert=t.cert|optimal cycle 8/idle 2/station 1: 1 2/station 2: 3 4 5/|/entries 1/branch f 7 f8 2 -/|accepted straight stations 2 lower 8 upper 8 units 15/
-cycle five.in2 stations=2 helpers=0 units=14 cert=t.cert|stopped by units/bounds 7 8/idle 2/station 1: 1 2/station 2: 3 4 5/|/entries 1/bound 6 f8 2/trail 1 at 7/open f f8 2 90 -/|accepted straight stations 2 lower 7 upper 8 units 14/
+cycle five.in2 stations=2 helpers=0 units=15 cert=t.cert|optimal cycle 8/idle 2/station 1: 1 2/station 2: 3 4 5/|/\
+    entries 1/branch f 7 f8 2 -/|accepted straight stations 2 lower 8 upper 8 units 15/
+cycle five.in2 stations=2 helpers=0 units=14 cert=t.cert|stopped by units/bounds 7 8/idle 2/station 1: 1 2/\
+    station 2: 3 4 5/|/entries 1/bound 6 f8 2/trail 1 at 7/open f f8 2 90 -/|\
+    accepted straight stations 2 lower 7 upper 8 units 14/
 cycle five.in2 stations=2 helpers=0 units=1|stopped by units/bounds 7 8/|/entries 1/bound 6 f8 2/trail 1 at 7/|
 cycle five.in2 stations=2 helpers=1 units=15|optimal cycle 8/||
 cycle five.in2 stations=2 helpers=2 cert=t.cert|optimal cycle 8/||accepted straight stations 2 lower 8 upper 8 units 15/

@@ -12,7 +12,8 @@ use std::thread::Threads;
 const MIXED: &str = "combine m.csv k.in2|0|combined tasks 1 demand 3/
 solve k.in2 cycle=21 helpers=0 cert=k.cert|0|optimal 1/idle 2/station 1: 1/
 utility m.csv k.cert three.txt interval=7 length=8|0|station 1 utility 1/total utility 1/
-timeline m.csv k.cert three.txt interval=7 length=8|0|station,unit,model,start,work,utility/1,1,A,0,6,0/1,2,B,0,9,1/1,3,C,1,4,0/
+timeline m.csv k.cert three.txt interval=7 length=8|0|station,unit,model,start,work,utility/1,1,A,0,6,0/1,2,B,0,9,1/\
+    1,3,C,1,4,0/
 utility m.csv k.cert other.txt interval=7 length=8|3|input: other.txt unit 3 unknown model/
 timeline m.csv k.cert other.txt interval=7 length=8|3|input: other.txt unit 3 unknown model/
 utility m.csv k.cert none.txt interval=7 length=8|0|station 1 utility 0/total utility 0/
@@ -27,7 +28,8 @@ utility m.csv mix-as-u.cert other.txt interval=7 length=8|7|refused: not straigh
 timeline m.csv mix-as-u.cert other.txt interval=7 length=8|7|refused: not straight/
 utility m.csv mix-infeasible.cert other.txt interval=7 length=8|7|refused: no balance/
 utility m.csv mix-of-two.cert other.txt interval=7 length=8|7|refused: tasks 2 1/
-timeline two.csv mix-of-two.cert pair.txt interval=4 length=8|0|station,unit,model,start,work,utility/1,1,A,0,5,0/1,2,B,1,2,0/2,1,A,0,0,0/2,2,B,0,3,0/
+timeline two.csv mix-of-two.cert pair.txt interval=4 length=8|0|station,unit,model,start,work,utility/1,1,A,0,5,0/\
+    1,2,B,1,2,0/2,1,A,0,0,0/2,2,B,0,3,0/
 timeline two.csv mix-turned.cert other.txt interval=4 length=8|7|refused: balance broken 1 2/
 combine two.csv k2.in2|0|combined tasks 2 demand 3/
 combine returns.csv k1.in2|0|combined tasks 1 demand 1/
@@ -54,9 +56,12 @@ const FAILING: &str = "0 4|read fault: m.csv/
 
 /// The same of a certificate from which later searches begin.
 const WARM: &str =
-    "solve seven.in2 cycle=7 helpers=0 cert=seven.cert|0|optimal 5/idle 7/station 1: 1/station 2: 2/station 3: 3 5/station 4: 4 6/station 5: 7/
-solve seven.in2 cycle=7 helpers=0 units=1 warm=seven.cert|0|warm 4 of 4/optimal 5/idle 7/station 1: 1/station 2: 2/station 3: 3 5/station 4: 4 6/station 5: 7/
-solve changed.in2 cycle=7 helpers=0 units=1 warm=seven.cert|0|warm 0 of 4/optimal 4/idle 1/station 1: 1/station 2: 2/station 3: 3 5 7/station 4: 4 6/
+    "solve seven.in2 cycle=7 helpers=0 cert=seven.cert|0|optimal 5/idle 7/station 1: 1/station 2: 2/station 3: 3 5/\
+    station 4: 4 6/station 5: 7/
+solve seven.in2 cycle=7 helpers=0 units=1 warm=seven.cert|0|warm 4 of 4/optimal 5/idle 7/station 1: 1/station 2: 2/\
+    station 3: 3 5/station 4: 4 6/station 5: 7/
+solve changed.in2 cycle=7 helpers=0 units=1 warm=seven.cert|0|warm 0 of 4/optimal 4/idle 1/station 1: 1/station 2: 2/\
+    station 3: 3 5 7/station 4: 4 6/
 solve chain.in2 cycle=2 helpers=0 cert=chain.cert|0|optimal 3/idle 2/station 1: 1/station 2: 2/station 3: 3/
 solve seven.in2 cycle=7 warm=chain.cert|7|refused: tasks 3 7/
 solve seven.in2 cycle=7 line=u warm=seven.cert|7|refused: kind/
@@ -65,24 +70,34 @@ solve seven.in2 cycle=7 warm=none.cert|4|read fault: none.cert/
 solve seven.in2 cycle=7 warm=|2|usage: word 3 bad value/
 solve seven.in2 cycle=3 helpers=0 warm=chain.cert|7|refused: tasks 3 7/
 solve seven.in2 cycle=3 helpers=0 warm=seven.cert cert=none.cert|0|infeasible: task 1 time 7/
-solve seven.in2 cycle=7 helpers=0 warm=none.cert|0|warm 0 of 0/optimal 5/idle 7/station 1: 1/station 2: 2/station 3: 3 5/station 4: 4 6/station 5: 7/
-solve seven.in2 cycle=8 helpers=0 warm=seven.cert cert=eight.cert|0|warm 0 of 4/optimal 4/idle 4/station 1: 1/station 2: 2/station 3: 3 4/station 4: 5 6 7/
-solve seven.in2 cycle=7 helpers=0 warm=eight.cert|0|warm 1 of 1/optimal 5/idle 7/station 1: 1/station 2: 2/station 3: 3 5/station 4: 4 6/station 5: 7/
-solve five.in2 cycle=7 helpers=0 units=1 warm=first.cert|0|warm 1 of 1/optimal 3/idle 7/station 1: 1 3/station 2: 2 4/station 3: 5/
+solve seven.in2 cycle=7 helpers=0 warm=none.cert|0|warm 0 of 0/optimal 5/idle 7/station 1: 1/station 2: 2/\
+    station 3: 3 5/station 4: 4 6/station 5: 7/
+solve seven.in2 cycle=8 helpers=0 warm=seven.cert cert=eight.cert|0|warm 0 of 4/optimal 4/idle 4/station 1: 1/\
+    station 2: 2/station 3: 3 4/station 4: 5 6 7/
+solve seven.in2 cycle=7 helpers=0 warm=eight.cert|0|warm 1 of 1/optimal 5/idle 7/station 1: 1/station 2: 2/\
+    station 3: 3 5/station 4: 4 6/station 5: 7/
+solve five.in2 cycle=7 helpers=0 units=1 warm=first.cert|0|warm 1 of 1/optimal 3/idle 7/station 1: 1 3/station 2: 2 4/\
+    station 3: 5/
 solve five.in2 cycle=7 warm=bad.cert|7|certificate: line 16 form/";
 
 /// The same of a search that begins with what is sought before it.
 const SOUGHT: &str =
-    "solve seven.in2 cycle=7 helpers=0 units=1 seek=176 cert=s.cert|0|seek used 176 of 176 kept 4/optimal 5/idle 7/station 1: 1/station 2: 2/station 3: 3 5/station 4: 4 6/station 5: 7/
+    "solve seven.in2 cycle=7 helpers=0 units=1 seek=176 cert=s.cert|0|seek used 176 of 176 kept 4/optimal 5/idle 7/\
+    station 1: 1/station 2: 2/station 3: 3 5/station 4: 4 6/station 5: 7/
 check seven.in2 s.cert|0|accepted straight cycle 7 lower 5 upper 5 units 48/
-solve seven.in2 cycle=7 helpers=0 units=1 seek=175|1|seek used 175 of 175 kept 0/stopped by units/bounds 4 5/idle 7/station 1: 1/station 2: 2/station 3: 3 5/station 4: 4 6/station 5: 7/
+solve seven.in2 cycle=7 helpers=0 units=1 seek=175|1|seek used 175 of 175 kept 0/stopped by units/bounds 4 5/idle 7/\
+    station 1: 1/station 2: 2/station 3: 3 5/station 4: 4 6/station 5: 7/
 solve seven.in2 cycle=7 helpers=0 units=1 seek=176 warm=s.cert|0|warm 4 of 4/seek used 0 of 176 kept 0/optimal 5/|..
-solve jackson.in2 cycle=10 helpers=0 units=1 seek=30|0|seek used 30 of 30 kept 0/optimal 5/idle 4/station 1: 1 2 6/station 2: 5 8/station 3: 3 10/station 4: 4 7/station 5: 9 11/
+solve jackson.in2 cycle=10 helpers=0 units=1 seek=30|0|seek used 30 of 30 kept 0/optimal 5/idle 4/station 1: 1 2 6/\
+    station 2: 5 8/station 3: 3 10/station 4: 4 7/station 5: 9 11/
 solve jackson.in2 cycle=10 helpers=0 units=1 seek=29|1|seek used 29 of 29 kept 0/stopped by units/bounds 5 6/|..
-solve nine.in2 cycle=16 helpers=0 units=1 seek=108|0|seek used 108 of 108 kept 3/optimal 5/idle 17/station 1: 1 2 3/station 2: 4 6/station 3: 7 9/station 4: 5/station 5: 8/
-solve thirteen.in2 cycle=21 helpers=0 units=1 seek=5516 cert=t.cert|0|seek used 5516 of 5516 kept 100/optimal 6/idle 21/station 1: 1 5/station 2: 4 7/station 3: 6 9/station 4: 2 8 11/station 5: 3 10 13/station 6: 12/
+solve nine.in2 cycle=16 helpers=0 units=1 seek=108|0|seek used 108 of 108 kept 3/optimal 5/idle 17/station 1: 1 2 3/\
+    station 2: 4 6/station 3: 7 9/station 4: 5/station 5: 8/
+solve thirteen.in2 cycle=21 helpers=0 units=1 seek=5516 cert=t.cert|0|seek used 5516 of 5516 kept 100/optimal 6/\
+    idle 21/station 1: 1 5/station 2: 4 7/station 3: 6 9/station 4: 2 8 11/station 5: 3 10 13/station 6: 12/
 check thirteen.in2 t.cert|0|accepted straight cycle 21 lower 6 upper 6 units 2138/
-solve thirteen.in2 cycle=21 helpers=0 units=1 seek=5515 cert=u.cert|1|seek used 5515 of 5515 kept 0/stopped by units/bounds 5 6/|..
+solve thirteen.in2 cycle=21 helpers=0 units=1 seek=5515 cert=u.cert|1|seek used 5515 of 5515 kept 0/stopped by units/\
+    bounds 5 6/|..
 solve thirteen.in2 cycle=21 helpers=0 units=2999980 seek=5516|0|seek used 5516 of 5516 kept 10/optimal 6/|..
 solve five.in2 cycle=7 helpers=0 units=1 seek=1000|0|seek used 45 of 1000 kept 1/optimal 3/|..
 solve five.in2 cycle=7 line=u helpers=0 units=1 seek=1000|0|seek used 69 of 1000 kept 1/optimal 3/|..
@@ -102,15 +117,19 @@ draw none.in2 chain.cert other.svg|4|read fault: none.in2/";
 
 /// The same of the least product of stations and cycle.
 const PRODUCTS: &str =
-    "effic five.in2 least=2 most=4 helpers=0 units=15 cert=e.cert|0|optimal product 16/stations 2 cycle 8/idle 2/station 1: 1 2/station 2: 3 4 5/
+    "effic five.in2 least=2 most=4 helpers=0 units=15 cert=e.cert|0|optimal product 16/stations 2 cycle 8/idle 2/\
+    station 1: 1 2/station 2: 3 4 5/
 effic-check five.in2 e.cert|0|accepted straight product 2 4 lower 16 upper 16 units 15/
 effic-check five.in2 e.cert steps=14|8|steps ended at 14/
 effic-check seven.in2 e.cert|7|refused: tasks 5 7/
-effic five.in2 least=2 most=4 helpers=0 units=14 cert=s.cert|1|stopped by units/bounds 14 16/stations 2 cycle 8/idle 2/station 1: 1 2/station 2: 3 4 5/
+effic five.in2 least=2 most=4 helpers=0 units=14 cert=s.cert|1|stopped by units/bounds 14 16/stations 2 cycle 8/idle 2/\
+    station 1: 1 2/station 2: 3 4 5/
 effic-check five.in2 s.cert|0|accepted straight product 2 4 lower 14 upper 16 units 14/
-effic five.in2 least=3 most=3 helpers=0|0|optimal product 18/stations 3 cycle 6/idle 4/station 1: 1 3/station 2: 2 4/station 3: 5/
+effic five.in2 least=3 most=3 helpers=0|0|optimal product 18/stations 3 cycle 6/idle 4/station 1: 1 3/station 2: 2 4/\
+    station 3: 5/
 effic five.in2 least=4 most=3|2|usage: word 3 bad value/
-effic chain.in2 least=2 most=2 line=u helpers=0|0|optimal product 4/stations 2 cycle 2/idle 0/station 1: 1 back 3/station 2: 2/
+effic chain.in2 least=2 most=2 line=u helpers=0|0|optimal product 4/stations 2 cycle 2/idle 0/station 1: 1 back 3/\
+    station 2: 2/
 effic none.in2 least=1 most=1|4|read fault: none.in2/
 effic-check five.in2 first.cert|7|certificate: line 1 form/
 effic five.in2 least=2 most=4 helpers=1 units=15 cert=h.cert|0|optimal product 16/|..
@@ -123,7 +142,8 @@ effic nothing.in2 least=2 most=5 helpers=0 units=1|0|optimal product 2/|..";
 
 /// The certificate of the least product of five tasks.
 const PRODUCT: &str =
-    "line balance product 1/line straight/tasks 5/stations 2 4/cycle 8/lower 16/upper 16/balance 2/1/1/2/2/2/entries 5/bound 6 f8 2/bound 4 f8 3/bound 3 f8 4/branch f 7 f8 2 -/bound 5 f8 3/trail 0/end/";
+    "line balance product 1/line straight/tasks 5/stations 2 4/cycle 8/lower 16/upper 16/balance 2/1/1/2/2/2/entries 5/\
+    bound 6 f8 2/bound 4 f8 3/bound 3 f8 4/branch f 7 f8 2 -/bound 5 f8 3/trail 0/end/";
 
 /// What stands at the end of it where the units ended one before.
 const STOPPED_PRODUCT: &str =
@@ -169,15 +189,18 @@ sequence-check many.csv many.cert none.cert interval=1 length=8|3|input: many.cs
 /// The same of a certificate that cites by hundreds.
 const HUNDREDS: &str =
     "check ten.in2 ten.cert|0|accepted straight cycle 15 lower 4 upper 4 units 7735/
-solve ten.in2 cycle=15 helpers=0 units=1 warm=ten.cert|0|warm 121 of 121/optimal 4/idle 20/station 1: 1 2 3/station 2: 4 5 6/station 3: 7 8 9/station 4: 10/
-solve ten.in2 cycle=16 helpers=0 units=1 warm=ten.cert|0|warm 0 of 121/optimal 3/idle 8/station 1: 1 2 3 4/station 2: 5 6 7 8/station 3: 9 10/";
+solve ten.in2 cycle=15 helpers=0 units=1 warm=ten.cert|0|warm 121 of 121/optimal 4/idle 20/station 1: 1 2 3/\
+    station 2: 4 5 6/station 3: 7 8 9/station 4: 10/
+solve ten.in2 cycle=16 helpers=0 units=1 warm=ten.cert|0|warm 0 of 121/optimal 3/idle 8/station 1: 1 2 3 4/\
+    station 2: 5 6 7 8/station 3: 9 10/";
 
 /// Ten tasks of time 4, which nothing orders.
 const TEN: &str = "10\n4\n4\n4\n4\n4\n4\n4\n4\n4\n4\n-1,-1\n";
 
 /// What a certificate of these tasks says before its entries: three fit into a cycle of 15, so it takes four stations.
 const TEN_IN_FOUR: &str =
-    "line balance certificate 2\nline straight\ntasks 10\ncycle 15\nlower 4\nupper 4\nbalance 4\n1\n1\n1\n2\n2\n2\n3\n3\n3\n4\n";
+    "line balance certificate 2\nline straight\ntasks 10\ncycle 15\nlower 4\nupper 4\nbalance 4\n1\n1\n1\n2\n2\n2\n3\n\
+    3\n3\n4\n";
 
 /// The certificate whose last entry says that the ten don't fit into three stations. A full load is any three tasks,
 /// and the seven that it leaves are by their time not too many for two stations; so each of the 120 full loads cites an

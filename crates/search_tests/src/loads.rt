@@ -25,7 +25,8 @@ fn five(alloc: Global) -> Result<Instance, Fail> {
 
 // The fifteen loads of the five tasks at 7 in front, with their sums; the full ones are marked.
 const FIFTEEN: &str =
-    "{4} 2|{3} 2|{3, 4} 4|{2} 2|{2, 4} 4|{2, 3} 4|{2, 3, 4} 6 full|{1} 4|{1, 4} 6 full|{1, 3} 6 full|{1, 2} 6 full|{0} 4|{0, 4} 6 full|{0, 3} 6 full|{0, 2} 6 full|";
+    "{4} 2|{3} 2|{3, 4} 4|{2} 2|{2, 4} 4|{2, 3} 4|{2, 3, 4} 6 full|{1} 4|{1, 4} 6 full|{1, 3} 6 full|{1, 2} 6 full|\
+    {0} 4|{0, 4} 6 full|{0, 3} 6 full|{0, 2} 6 full|";
 
 // The loads that a walk in front gives, with their sums.
 fn walked(alloc: Global, inst: &Instance, cycle: u64, set: &TaskSet) -> Result<String, AllocError>

@@ -70,7 +70,9 @@ fn lists_the_loads_of_five_tasks(rt: HostRuntime) -> Result<(), Fail> {
 
 // A chain of two tasks, of 0 and 2, and a task of 1 that may stand at either side.
 const SEVENTEEN: &str =
-    "{} {1} 2|{} {0, 1} 2|{} {2} 1|{} {1, 2} 3|{} {0, 1, 2} 3 full|{2} {} 1|{2} {1} 3|{2} {0, 1} 3 full|{0} {} 0|{0} {1} 2|{0} {2} 1|{0} {1, 2} 3 full|{0, 2} {} 1|{0, 2} {1} 3 full|{0, 1} {} 2|{0, 1} {2} 3 full|{0, 1, 2} {} 3 full|";
+    "{} {1} 2|{} {0, 1} 2|{} {2} 1|{} {1, 2} 3|{} {0, 1, 2} 3 full|{2} {} 1|{2} {1} 3|{2} {0, 1} 3 full|{0} {} 0|\
+    {0} {1} 2|{0} {2} 1|{0} {1, 2} 3 full|{0, 2} {} 1|{0, 2} {1} 3 full|{0, 1} {} 2|{0, 1} {2} 3 full|\
+    {0, 1, 2} {} 3 full|";
 
 #[test]
 fn lists_the_loads_of_a_chain_and_a_task(rt: HostRuntime) -> Result<(), Fail> {

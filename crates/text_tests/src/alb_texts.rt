@@ -28,10 +28,12 @@ fn answer(alloc: Global, bytes: &[u8]) -> Result<String, AllocError>
 /// Answers and the texts that have them, with `|` for the end of a line: texts that are read, ..
 const READ: &str = "\
 good: <number of tasks>|3||<task times>|1 1|2 2|3 1||<precedence relations>|1,2|2,3||<end>|\n\
-good at 7: <task times>\r|1 3\r|2 4\r|<order strength>\r|0,268\r|<number of tasks>\r|2\r|<cycle time>\r|7\r|<precedence relations>\r|1,2\r|<end>\r|\n\
+good at 7: <task times>\r|1 3\r|2 4\r|<order strength>\r|0,268\r|<number of tasks>\r|2\r|<cycle time>\r|7\r|\
+    <precedence relations>\r|1,2\r|<end>\r|\n\
 good: <NUMBER of Tasks>|1|<Task Times>|1\t \t0|<END>|more\n\
 good: <cycle time>|<number of tasks>|1|<task times>|1 0|<end>\n\
-good at 1000000000000000000: <cycle time>|1000000000000000000|<number of tasks>|1|<task times>|1 200000000000000|<end>\n\
+good at 1000000000000000000: <cycle time>|1000000000000000000|<number of tasks>|1|<task times>|1 200000000000000|\
+    <end>\n\
 good: | <number of tasks> | 02 |<task times>|2 1|1 1|<end>|<end>|\n\
 good: <number of tasks>|2|<task times>|2 1|1 1|<precedence relations>|1,2|1 ,\t2|<end>|";
 

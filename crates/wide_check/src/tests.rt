@@ -18,11 +18,13 @@ pub(crate) const SEVEN: &str =
 
 /// A certificate of five free tasks at 7, in three stations.
 pub(crate) const FIVE: &str =
-    "line balance certificate 2\nline straight\ntasks 5\ncycle 7\nlower 3\nupper 3\nbalance 3\n1\n2\n1\n2\n3\nentries 1\nbranch f 7 f8 2 -\ntrail 0\nend\n";
+    "line balance certificate 2\nline straight\ntasks 5\ncycle 7\nlower 3\nupper 3\nbalance 3\n1\n2\n1\n2\n3\n\
+    entries 1\nbranch f 7 f8 2 -\ntrail 0\nend\n";
 
 /// The same of a search that stopped.
 pub(crate) const STOPPED: &str =
-    "line balance certificate 2\nline straight\ntasks 5\ncycle 7\nlower 2\nupper 3\nbalance 3\n1\n2\n1\n2\n3\nentries 1\nbound 7 f8 1\ntrail 1 at 7\nopen f f8 2 90 -\nend\n";
+    "line balance certificate 2\nline straight\ntasks 5\ncycle 7\nlower 2\nupper 3\nbalance 3\n1\n2\n1\n2\n3\n\
+    entries 1\nbound 7 f8 1\ntrail 1 at 7\nopen f f8 2 90 -\nend\n";
 
 /// That a task of five is too long.
 const TOO_LONG: &str =
@@ -30,7 +32,8 @@ const TOO_LONG: &str =
 
 /// Eighteen free tasks of time 1 at 9, in two stations: one entry with 155,381 loads.
 const EIGHTEEN: &str =
-    "line balance certificate 2\nline straight\ntasks 18\ncycle 9\nlower 2\nupper 2\nbalance 2\n1\n1\n1\n1\n1\n1\n1\n1\n1\n2\n2\n2\n2\n2\n2\n2\n2\n2\nentries 1\nbranch f 9 ffffc 1 -\ntrail 0\nend\n";
+    "line balance certificate 2\nline straight\ntasks 18\ncycle 9\nlower 2\nupper 2\nbalance 2\n1\n1\n1\n1\n1\n1\n1\n\
+    1\n1\n2\n2\n2\n2\n2\n2\n2\n2\n2\nentries 1\nbranch f 9 ffffc 1 -\ntrail 0\nend\n";
 
 fn instance(alloc: Global, times: &[u64]) -> Result<Instance, Fail> {
     match make(alloc, Vec::from_slice(alloc, times)?, &[]) {

@@ -27,11 +27,12 @@ returns-then-cite-k c = λ kind steps. (
 pub returns-then-is_swapped : goal.returns-then-is_swapped
 returns-then-is_swapped c = λ kind steps.
     let P : Why → Type 0 = λ z. UnitsBy c.args.inst.now c.args.entry.now z 0 in
-    let Q : Why → Type 0 = λ z. FollowsBy kind c.args.inst.now (take c.args.k c.args.entries.now) c.args.entry.now z in (
+    let earlier = take c.args.k c.args.entries.now in
+    let Q : Why → Type 0 = λ z. FollowsBy kind c.args.inst.now earlier c.args.entry.now z in (
       record {
         set = c.requires.set;
         cycle = c.requires.cycle.some;
-        by = subst Q (sym c.requires.way) (swapped c.args.inst.now (take c.args.k c.args.entries.now) c.args.entry.now
+        by = subst Q (sym c.requires.way) (swapped c.args.inst.now earlier c.args.entry.now
             c.at.result.now c.args.cite c.args.out_task c.args.in_task
             (get_taken c.args.entries.now c.args.k c.args.cite c.at.result.now (omega (arith, c.if-cite-k.false))
             c.at.ensures) (c.is_swapped.ensures.0 c.if-is_swapped.true));
