@@ -1,8 +1,14 @@
-//! The bound on the stations of a set of tasks.
+//! The bound on the stations of a set of tasks, and whether it exceeds a number.
+//!
+//! The search asks whether far oftener than how many: of each full load, about the set that the load leaves. So a
+//! question is settled as soon as may be. The total time comes first: one division, where the caller keeps the times of
+//! the set. Then the sizes of the tasks are counted, in one pass; and only then heads and tails are gone over, at most a
+//! pass over the set for each of its tasks.
 ghost use Rattle.std.specs.Prelude.{◌≡◌, ◌≤◌, ◌<◌, ◌↔◌, ℕ, IsTrue};
+ghost use Rattle.task_set.specs.Truths.{IsEmpty};
 ghost use Rattle.line_instance.specs.Line.{IsTaskSet};
 ghost use Rattle.line_rules.specs.Balance.{Holds};
-ghost use Rattle.line_rules.specs.Bounds.{bound};
+ghost use Rattle.line_rules.specs.Bounds.{bound, lm1};
 ghost use Rattle.load_facts.specs.Times.{AreTimes};
 
 use crate::chains::{has_longer_chain, longest_chain};
@@ -49,7 +55,7 @@ pub fn exceeds(inst: &Instance, kind: LineKind, cycle: u64, set: &TaskSet, most:
     ensures { IsTrue result ↔ most < bound kind inst.now cycle set.now }
 {
     let _tasks = inst.tasks();
-    // Asked here too, before the pass over the members, so that the answer needn't wait for it after the pass.
+    // Before the pass over the members, so that nothing waits for it behind the pass.
     if set.is_empty() {
         return false;
     }
@@ -59,6 +65,7 @@ pub fn exceeds(inst: &Instance, kind: LineKind, cycle: u64, set: &TaskSet, most:
 /// The same, with the times of the set, which a caller may keep: so the set isn't summed anew. For a set that a load
 /// leaves, the total is the total of the whole less that of the load, and no task of it takes longer than the longest
 /// of the whole.
+#[inline]
 pub fn exceeds_with(
     inst: &Instance,
     kind: LineKind,
@@ -81,6 +88,32 @@ pub fn exceeds_with(
     if most == 0 || times.total.div_ceil(cycle) > most {
         return true;
     }
+    exceeds_by_tasks(inst, kind, cycle, set, times, most)
+}
+
+/// Whether the bound of a set exceeds `most`, where its total time doesn't: by its tasks of a third of a cycle or more,
+/// and last by what is before and after a task. It is a function of its own, so that the tests by the total time alone
+/// are inlined where they are asked.
+#[inline(never)]
+fn exceeds_by_tasks(
+    inst: &Instance,
+    kind: LineKind,
+    cycle: u64,
+    set: &TaskSet,
+    times: Times,
+    most: u64,
+) -> bool
+    requires set { IsTaskSet inst.now set.now }
+    requires task { IsEmpty set.now → ⊥ }
+    requires some { 1 ≤ cycle }
+    requires limit { cycle ≤ 1000000000000000000 }
+    requires times { AreTimes inst.now set.now times.total times.longest }
+    requires one { 1 ≤ most }
+    requires few { most < 1025 }
+    requires total { lm1 inst.now cycle set.now ≤ most }
+    ensures { IsTrue result ↔ most < bound kind inst.now cycle set.now }
+{
+    let _tasks = inst.tasks();
     let counts = counts_of(inst, cycle, set, times.longest);
     if counts.too_long > 0 || counts.stations() > most {
         return true;

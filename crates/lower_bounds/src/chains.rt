@@ -40,6 +40,7 @@ fn sum_up_to(inst: &Instance, set: &TaskSet, limit: u64) -> Result<u64, u32>
 
 /// The times of the tasks of a set that are neither before nor after task `j`, without `j`, where they are at most
 /// `limit` together. The `witness` is a task that is tried first, and becomes one that may serve the next time.
+#[inline(always)]
 fn time_elsewhere(
     inst: &Instance,
     set: &TaskSet,
@@ -88,6 +89,7 @@ fn enough(cycle: u64, most: u64) -> u128
 
 /// The stations that the head and the tail of task `j` of a set need, its own counted once, where they are more than
 /// `least`. The set's total time is `total`; the `witness` is a task that is tried first to show that they aren't more.
+#[inline(always)]
 fn around(
     inst: &Instance,
     cycle: u64,

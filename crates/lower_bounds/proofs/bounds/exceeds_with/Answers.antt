@@ -1,13 +1,11 @@
-use Rattle.std.proofs.Common.{inl, inr, arith}
-use Rattle.load_facts.proofs.BoundCases.{not_exceeded, none_is_exceeded, time_exceeds, long_exceeds, counts_exceed}
-use Rattle.load_facts.proofs.BoundCases.{chains_decide}
+use Rattle.std.proofs.Common.{◌∙◌, sym, inl, inr, arith}
+use Rattle.std.proofs.lemmas.Bool.{false≢true}
+use Rattle.load_facts.proofs.BoundCases.{not_exceeded, none_is_exceeded, time_exceeds, time_part}
 use Rattle.lower_bounds.proofs.bounds.exceeds_with.Goals as goal
 use Rattle.lower_bounds.proofs.bounds.exceeds_with.Goals.{then-is_empty-via-then-is_empty}
 use Rattle.lower_bounds.proofs.bounds.exceeds_with.Goals.{then-is_empty-via-else-is_empty+then-most-ge-TOO_LONG}
 use Rattle.lower_bounds.proofs.bounds.exceeds_with.Goals.{then-most-eq0-via-then-most-eq0}
 use Rattle.lower_bounds.proofs.bounds.exceeds_with.Goals.{then-most-eq0-via-else-most-eq0+then-div_ceil-most}
-use Rattle.lower_bounds.proofs.bounds.exceeds_with.Goals.{then-counts-gt0-via-then-counts-gt0}
-use Rattle.lower_bounds.proofs.bounds.exceeds_with.Goals.{then-counts-gt0-via-else-counts-gt0+then-stations-most}
 
 pub returns-then-is_empty : goal.returns-then-is_empty
 returns-then-is_empty c = not_exceeded c.args.kind c.args.cycle c.args.most c.tasks-tasks.ensures.line
@@ -26,21 +24,14 @@ returns-then-most-eq0 c = elim c.then-most-eq0.branch [
       c.requires.some c.requires.times.total w.div_ceil.ensures w.if-div_ceil-most.true
 ]
 
-pub returns-then-counts-gt0 : goal.returns-then-counts-gt0
-returns-then-counts-gt0 c = elim c.then-counts-gt0.branch [
-  | then-counts-gt0-via-then-counts-gt0 w ↦ long_exceeds c.args.kind c.args.inst.now c.args.cycle c.args.set.now
-      c.is_empty.ensures c.if-is_empty.false c.args.most c.counts_of-counts.ensures c.if-most-ge-TOO_LONG.false
-      w.if-counts-gt0.true
-  | then-counts-gt0-via-else-counts-gt0+then-stations-most w ↦
-      counts_exceed c.args.kind c.args.inst.now c.args.cycle c.args.set.now c.is_empty.ensures c.if-is_empty.false
-      c.args.most c.counts_of-counts.ensures c.from-most.ensures w.stations.ensures c.if-most-ge-TOO_LONG.false
-      w.if-stations-most.true
-]
+pub exceeds_by_tasks-requires-clause-task : goal.exceeds_by_tasks-requires-clause-task
+exceeds_by_tasks-requires-clause-task c = λ h. false≢true (sym c.if-is_empty.false ∙ c.is_empty.ensures.1 h)
 
-pub returns : goal.returns
-returns c =
-    chains_decide c.args.kind c.args.inst.now c.args.cycle c.args.set.now c.is_empty.ensures c.if-is_empty.false
-    c.args.most c.counts_of-counts.ensures c.from-most.ensures c.stations.ensures c.requires.some
-    c.requires.times.total c.div_ceil.ensures
-    c.if-div_ceil-most.false c.if-counts-gt0.false c.if-stations-most.false c.has_longer_chain.ensures
-    (omega (arith, c.if-most-eq0.false))
+pub exceeds_by_tasks-requires-clause-total : goal.exceeds_by_tasks-requires-clause-total
+exceeds_by_tasks-requires-clause-total c = omega (
+  arith,
+  c.if-div_ceil-most.false,
+  time_part c.args.inst.now
+      c.args.cycle c.args.set.now c.args.times.total c.div_ceil.result c.requires.some c.requires.times.total
+      c.div_ceil.ensures,
+)
