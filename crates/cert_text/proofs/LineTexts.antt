@@ -53,7 +53,7 @@ use Rattle.cert_lines.specs.declared.fault.CertFault.{CertFault}
 use Rattle.cert_lines.proofs.NumberWords.{lacks, high_lacks, number_high, split_again}
 use Rattle.cert_lines.proofs.SetText.{set_high}
 use Rattle.cert_lines.proofs.TextParts.{rows_lines}
-use Rattle.cert_text.proofs.PartSequences.{texts, Unique}
+use Rattle.cert_text.proofs.PartSequences.{texts, Unique, none}
 use Rattle.cert_text.proofs.CertificateParts.{unique_lists}
 use Rattle.cert_text.proofs.Claims.{unique_both}
 
@@ -248,13 +248,13 @@ claim_lacks kind n (claim.Bounds l u b es t) = (
   ),
 )
 
+pub kind_lacks : (k : LineKind) → lacks 10 (row_text (kind_row k)) ≡ true
+kind_lacks Straight = row_lacks (fixed (codes "line straight")) refl
+kind_lacks U = row_lacks (fixed (codes "line u")) refl
+
 head_lacks : (kind : LineKind) (n : ℕ) (a : Ask) → AllLack (texts (head_rows kind n a))
 head_lacks kind n a = (kind_lacks kind, (row_lacks (keyed (codes "tasks") n) refl, (ask_lacks a, tt)))
   where
-    kind_lacks : (k : LineKind) → lacks 10 (row_text (kind_row k)) ≡ true
-    kind_lacks Straight = row_lacks (fixed (codes "line straight")) refl
-    kind_lacks U = row_lacks (fixed (codes "line u")) refl
-
     ask_lacks : (a : Ask) → lacks 10 (row_text (ask_row a)) ≡ true
     ask_lacks (ask.Stations x) = row_lacks (keyed (codes "cycle") x) refl
     ask_lacks (ask.Cycle x) = row_lacks (keyed (codes "stations") x) refl
@@ -410,10 +410,6 @@ split_rows (r ∷ rows) (l ∷ before) at more e =
     let i = split_rows rows before at more (cc) in
     let h : row_text r ≡ l = cc in
     (r ∷ i.0, i.1, i.2, ap (λ z. r ∷ z) i.3, ap (λ z. row_text r ∷ z) i.4 ∙ ap (λ z. z ∷ before) h, i.5)
-
-none : (x : List (List ℕ)) (l : List ℕ) (y : List (List ℕ)) → x ++ l ∷ y ≡ [] → ⊥
-none [] l y e = (cc)
-none (z ∷ x) l y e = (cc)
 
 -- lines of a value don't go on
 no_more : {V : Type 0} (g : Grammar V) (v : V) (before more : List (List ℕ)) (r : Row) → Unique g → g.ranged v

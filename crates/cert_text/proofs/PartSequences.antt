@@ -68,6 +68,11 @@ split_short (x ∷ xs) ys (z ∷ zs) ws r e l =
     let h : x ≡ z = cc in
     (i.0, ap (λ w. w ∷ xs) h ∙ ap (λ w. z ∷ w) i.1)
 
+-- lines with one more have a line
+pub none : (x : List (List ℕ)) (l : List ℕ) (y : List (List ℕ)) → x ++ l ∷ y ≡ [] → ⊥
+none [] l y e = (cc)
+none (z ∷ x) l y e = (cc)
+
 -- the first part goes on as the whole does
 pub first_continues : {A B : Type 0} (g : Grammar A) (h : A → Grammar B) → Unique g
     → ((a : A) → g.ranged a → (b : B) × (h a).ranged b) → Continues g (then_ g h) []
@@ -85,10 +90,6 @@ first_continues {A = A} {B = B} g h u some = record {
   from = λ b r r' n m. here b r r' n m (cases_lt (length m.passed) (length (g.rows m.value.0)));
 }
   where
-    none : (x : List (List ℕ)) (l : List ℕ) (y : List (List ℕ)) → x ++ l ∷ y ≡ [] → ⊥
-    none [] l y e = (cc)
-    none (z ∷ x) l y e = (cc)
-
     here : (b : List (List ℕ)) (r r' : Row) (n : Next g b r') (m : Next (then_ g h) b r)
         → (length m.passed < length (g.rows m.value.0)) ⊎ (length (g.rows m.value.0) ≤ length m.passed) → Next g b r
     here b r r' n m (inl l) =

@@ -25,6 +25,7 @@ use Rattle.line_rules.proofs.BoundIsTrue.{up_le, cond_le, greatest_le}
 use Rattle.load_facts.specs.Times.{longest_of}
 use Rattle.load_facts.proofs.SumsOverMembers.{below_at}
 use Rattle.load_facts.proofs.BoundCases.{long_ones, below_bound}
+use Rattle.cert_lines.proofs.JudgedSeat.{front_is}
 use Rattle.lemma_core.specs.Books.{MayBeBest}
 use Rattle.round_run.specs.Rounds.{by_bound}
 use Rattle.cycle_search.specs.Ends.{NoneApart, first_lower, first_upper, at_first}
@@ -114,10 +115,6 @@ first_refuted kind line m ok some few more =
 pub first_met : (line : Line) (m : ℕ) → 1 ≤ m → first_lower line m ≤ first_upper line
 first_met line m some = omega (arith, longest_total line, up_small (total_time line) m some)
 
-side_first : (kind : LineKind) → IsSide kind Front
-side_first Straight = refl
-side_first U = tt
-
 keeps_first : (kind : LineKind) → Keeps kind at_first at_first
 keeps_first Straight = omega arith
 keeps_first U = record { front = λ e. (refl, omega arith); back = λ e. absurd (cc) }
@@ -132,7 +129,7 @@ first_right kind line m c ok none some long =
     (In-full_to_below (tasks line) i here)) in
     record {
       each = length-replicate (tasks line) at_first;
-      sides = λ i here. (let P : Seatplace → Type 0 = λ p. IsSide kind p.side in subst P (at i here) (side_first kind));
+      sides = λ i here. (let P : Seatplace → Type 0 = λ p. IsSide kind p.side in subst P (at i here) (front_is kind));
       balance = record {
         first = λ i here. (let P : Seatplace → Type 0 = λ p. 1 ≤ p.station in subst P (at i here) (omega arith));
         last = λ i here. (let P : Seatplace → Type 0 = λ p. p.station ≤ m in subst P (at i here) some);

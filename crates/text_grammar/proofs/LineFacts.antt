@@ -1,8 +1,7 @@
 -- Parts that can be read: the lines that several texts have, and parts one behind the other.
 use Rattle.std.proofs.Common.{◌≡◌, ℕ, ◌<◌, ◌≤◌, true, [], ◌∷◌, refl, ap, arith}
 use Rattle.std.specs.Prelude.{codes}
-use Rattle.line_rules.specs.declared.types.LineKind.{LineKind}
-use Rattle.line_rules.specs.declared.types.LineKind.TheVariants.{Straight, U}
+use Rattle.line_rules.specs.declared.types.LineKind.TheVariants.{Straight}
 use Rattle.cert_lines.specs.Rows.{Row, fixed, keyed, row_text}
 use Rattle.cert_lines.specs.ValueRows.{kind_row}
 use Rattle.cert_lines.specs.Words.{greatest}
@@ -14,7 +13,7 @@ use Rattle.cert_lines.specs.declared.line_forms.Key.TheVariants as keys
 use Rattle.cert_lines.proofs.NumberWords.{lacks}
 use Rattle.cert_lines.proofs.JudgedLine.{key_lacks}
 use Rattle.cert_text.proofs.PartSequences.{Unique}
-use Rattle.cert_text.proofs.LineTexts.{row_lacks}
+use Rattle.cert_text.proofs.LineTexts.{row_lacks, kind_lacks}
 use Rattle.cert_text.proofs.CertificateParts.{within, numbers, kinds, unique_number, unique_kind}
 use Rattle.cert_text.proofs.Claims.{end_grammar}
 use Rattle.text_grammar.specs.Texts.{Tells, TellsLine}
@@ -25,15 +24,11 @@ one_line : {V : Type 0} (row : V → Row) (ranged : V → Type 0) → Unique (on
     → ranged w → row_text (row v) ≡ row_text (row w) → v ≡ w
 one_line row ranged u v w a b e = (u v w a b [] [] (ap (λ z. z ∷ []) e)).0
 
-kind_plain : (k : LineKind) → lacks 10 (row_text (kind_row k)) ≡ true
-kind_plain Straight = row_lacks (fixed (codes "line straight")) refl
-kind_plain U = row_lacks (fixed (codes "line u")) refl
-
 pub kind_tells : TellsLine kind_row (λ k. Unit {0})
 kind_tells = record {
   one = one_line kind_row (λ k. Unit {0}) unique_kind;
   some = (Straight, tt);
-  plain = kind_plain;
+  plain = kind_lacks;
 }
 
 pub end_tells : TellsLine {V = Unit {0}} (λ u. fixed (codes "end")) (λ u. Unit {0})
