@@ -1,3 +1,5 @@
+//! What the check of a certificate finds: of an entry, a list, frames, and the whole, and why it refuses.
+
 use line_rules::Load;
 
 /// Why an entry of a certificate is refused.

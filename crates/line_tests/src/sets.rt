@@ -1,3 +1,4 @@
+//! Sets of tasks in use: printed, gone over, asked, changed, compared, and as keys of a set of sets.
 use std::collections::HashSet;
 use std::test::Fail;
 use task_set::TaskSet;

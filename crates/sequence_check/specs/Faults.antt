@@ -8,8 +8,8 @@ use Rattle.sequence_rules.specs.declared.types.SeqWhy.TheVariants as why
 use Rattle.sequence_check.specs.Walks.{IsFirstLate, AreBelow, IsUncovered, IsSpare, IsPast}
 use Rattle.sequence_check.specs.declared.types.SeqEntryFault.{SeqEntryFault}
 use Rattle.sequence_check.specs.declared.types.SeqEntryFault.TheVariants as fault
-use Rattle.sequence_check.specs.declared.types.EntryFound.{EntryFound}
-use Rattle.sequence_check.specs.declared.types.EntryFound.TheVariants as found
+use Rattle.sequence_check.specs.declared.types.Checked.{Checked}
+use Rattle.sequence_check.specs.declared.types.Checked.TheVariants as found
 
 -- the entry says that it is by Branch, with cites of which this is true
 abbrev pub Branches : SeqEntry → (List ℕ → Type 0) → Type 0
@@ -42,7 +42,7 @@ Ends t interval reach earlier e steps =
     (length e.rem) steps)
 
 -- what is found of an entry
-abbrev pub IsFound : Times → ℕ → ℕ → List SeqEntry → SeqEntry → ℕ → EntryFound → Type 0
+abbrev pub IsFound : Times → ℕ → ℕ → List SeqEntry → SeqEntry → ℕ → Checked SeqEntryFault → Type 0
 IsFound t interval reach earlier e steps (found.Right units) = Follows t interval reach earlier e
     × (units ≡ entry_units e) × (units ≤ steps)
 IsFound t interval reach earlier e steps (found.Fails why units) = Fails t interval reach earlier e why units

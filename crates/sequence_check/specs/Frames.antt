@@ -10,8 +10,8 @@ use Rattle.sequence_rules.specs.Ranges.{IsNumber, IsLast}
 use Rattle.sequence_check.specs.Walks.{IsFirstLate, AreBelow, IsPosed, IsUncovered, IsSpare, IsPast}
 use Rattle.sequence_check.specs.declared.types.SeqFrameFault.{SeqFrameFault}
 use Rattle.sequence_check.specs.declared.types.SeqFrameFault.TheVariants as fault
-use Rattle.sequence_check.specs.declared.types.FrameFound.{FrameFound}
-use Rattle.sequence_check.specs.declared.types.FrameFound.TheVariants as found
+use Rattle.sequence_check.specs.declared.types.Checked.{Checked}
+use Rattle.sequence_check.specs.declared.types.Checked.TheVariants as found
 use Rattle.sequence_check.specs.declared.types.FramesFound.{FramesFound}
 use Rattle.sequence_check.specs.declared.types.FramesFound.TheVariants as all_found
 
@@ -52,7 +52,7 @@ EndsAt t interval reach es fs j f steps =
     IsReadyAt t interval reach es fs j f × IsPast t interval reach es f.rem f.starts f.need f.cites (up_to f.last) steps
 
 -- what is found of a frame
-abbrev pub IsFoundAt : Times → ℕ → ℕ → List SeqEntry → List SeqFrame → ℕ → SeqFrame → ℕ → FrameFound → Type 0
+abbrev pub IsFoundAt : Times → ℕ → ℕ → List SeqEntry → List SeqFrame → ℕ → SeqFrame → ℕ → Checked SeqFrameFault → Type 0
 IsFoundAt t interval reach es fs j f steps (found.Right units) = IsRightAt t interval reach es fs j f
     × (units ≡ frame_units f) × (units ≤ steps)
 IsFoundAt t interval reach es fs j f steps (found.Fails why units) = FailsAt t interval reach es fs j f why units

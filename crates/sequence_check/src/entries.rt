@@ -6,12 +6,12 @@ ghost use Rattle.sequence_check.specs.Faults.{IsFound};
 ghost use Rattle.sequence_check.specs.Lists.{AreFound};
 ghost use Rattle.sequence_check.specs.Walks.{IsPosed};
 
-use crate::types::{EntriesFound, EntryFound, SeqEntryFault, Walked};
+use crate::types::{Checked, EntriesFound, SeqEntryFault, Walked};
 use crate::walks::{first_late, walk};
 use sequence_rules::{Numbers, SeqEntries, SeqEntry, SeqWhy, Times, state_bound, units_left};
 
 /// Checks an entry by Bound.
-fn check_bound(times: &Times, interval: u64, reach: u64, entry: &SeqEntry) -> EntryFound
+fn check_bound(times: &Times, interval: u64, reach: u64, entry: &SeqEntry) -> Checked<SeqEntryFault>
     requires posed { IsPosed times.now interval reach entry.now.rem entry.now.starts }
     requires way { entry.now.why ≡ why.Bound }
     ensures { (earlier : List Step) (steps : ℕ) → IsFound times.now interval reach earlier entry.now steps result }
@@ -24,12 +24,12 @@ fn check_bound(times: &Times, interval: u64, reach: u64, entry: &SeqEntry) -> En
         entry.starts.as_slice(),
     );
     if bound < entry.least {
-        return EntryFound::Fails {
+        return Checked::Fails {
             why: SeqEntryFault::Bound(bound),
             units: 0,
         };
     }
-    EntryFound::Right { units: 0 }
+    Checked::Right { units: 0 }
 }
 
 /// Checks an entry by Branch, after the first `k` entries.
@@ -42,7 +42,7 @@ fn check_branch(
     entry: &SeqEntry,
     cites: &Numbers,
     steps: u64,
-) -> EntryFound
+) -> Checked<SeqEntryFault>
     requires k { k ≤ length entries.now }
     requires posed { IsPosed times.now interval reach entry.now.rem entry.now.starts }
     requires way { entry.now.why ≡ why.Branch cites.now }
@@ -50,13 +50,13 @@ fn check_branch(
 {
     let rem = entry.rem.as_slice();
     if units_left(rem) == 0 {
-        return EntryFound::Fails {
+        return Checked::Fails {
             why: SeqEntryFault::Empty,
             units: 0,
         };
     }
     if let Some(cite) = first_late(cites, k as u64) {
-        return EntryFound::Fails {
+        return Checked::Fails {
             why: SeqEntryFault::Cite(cite),
             units: 0,
         };
@@ -77,18 +77,18 @@ fn check_branch(
     ) {
         Walked::Through { units, taken } => {
             if taken < cites.len() {
-                return EntryFound::Fails {
+                return Checked::Fails {
                     why: SeqEntryFault::Spare,
                     units,
                 };
             }
-            EntryFound::Right { units }
+            Checked::Right { units }
         }
-        Walked::Uncovered { model, units } => EntryFound::Fails {
+        Walked::Uncovered { model, units } => Checked::Fails {
             why: SeqEntryFault::Uncovered(model),
             units,
         },
-        Walked::StepsEnded => EntryFound::StepsEnded,
+        Walked::StepsEnded => Checked::StepsEnded,
     }
 }
 
@@ -101,7 +101,7 @@ fn check_entry(
     k: usize,
     entry: &SeqEntry,
     steps: u64,
-) -> EntryFound
+) -> Checked<SeqEntryFault>
     requires k { k ≤ length entries.now }
     requires posed { IsPosed times.now interval reach entry.now.rem entry.now.starts }
     ensures { IsFound times.now interval reach (take k entries.now) entry.now steps result }
@@ -138,14 +138,14 @@ pub(crate) fn check_entries(
             entries.at(k),
             steps - units,
         ) {
-            EntryFound::Right { units: more } => units += more,
-            EntryFound::Fails { why, .. } => {
+            Checked::Right { units: more } => units += more,
+            Checked::Fails { why, .. } => {
                 return EntriesFound::Refused {
                     entry: k as u64,
                     why,
                 };
             }
-            EntryFound::StepsEnded => return EntriesFound::StepsEnded,
+            Checked::StepsEnded => return EntriesFound::StepsEnded,
         }
     }
     EntriesFound::Right { units }

@@ -6,7 +6,7 @@ ghost use Rattle.sequence_rules.specs.Ranges.{IsLast, IsNumber};
 ghost use Rattle.sequence_check.specs.Walks.{IsPosed};
 ghost use Rattle.sequence_check.specs.Frames.{IsPosedFrame, IsReadyAt, IsFoundAt, AreFramesFound};
 
-use crate::types::{FrameFound, FramesFound, SeqFrameFault, Walked};
+use crate::types::{Checked, FramesFound, SeqFrameFault, Walked};
 use crate::walks::{first_late, walk};
 use sequence_rules::{MAX_STATIONS, SeqEntries, SeqFrame, SeqFrames, Times, is_same, launch, step};
 use utility_work::MAX_MODELS;
@@ -120,7 +120,7 @@ fn walk_frame(
     frame: &SeqFrame,
     deepest: bool,
     steps: u64,
-) -> FrameFound
+) -> Checked<SeqFrameFault>
     requires posed { IsPosedFrame times.now interval reach frame.now }
     requires ready { IsReadyAt times.now interval reach entries.now frames.now j frame.now }
     requires deepest { deepest ≡ is_deepest frames.now j }
@@ -143,26 +143,26 @@ fn walk_frame(
     ) {
         Walked::Through { units, taken } => (units, taken),
         Walked::Uncovered { model, units } => {
-            return FrameFound::Fails {
+            return Checked::Fails {
                 why: SeqFrameFault::Uncovered(model),
                 units,
             };
         }
-        Walked::StepsEnded => return FrameFound::StepsEnded,
+        Walked::StepsEnded => return Checked::StepsEnded,
     };
     if !deepest {
         if units >= steps {
-            return FrameFound::StepsEnded;
+            return Checked::StepsEnded;
         }
         units += 1;
     }
     if taken < cites.len() {
-        return FrameFound::Fails {
+        return Checked::Fails {
             why: SeqFrameFault::Spare,
             units,
         };
     }
-    FrameFound::Right { units }
+    Checked::Right { units }
 }
 
 /// Checks the frame `j` of a trail.
@@ -175,7 +175,7 @@ fn check_frame(
     j: usize,
     frame: &SeqFrame,
     steps: u64,
-) -> FrameFound
+) -> Checked<SeqFrameFault>
     requires few { length frames.now ≤ 1001 }
     requires there { slice_get frames.now j ≡ Some frame.now }
     requires posed { (i : ℕ) (f : Open) → slice_get frames.now i ≡ Some f → IsPosedFrame times.now interval reach f }
@@ -184,19 +184,19 @@ fn check_frame(
     let many = frames.len();
     let deepest = j + 1 == many;
     if !is_asked(times, interval, reach, frames, j, frame) {
-        return FrameFound::Fails {
+        return Checked::Fails {
             why: SeqFrameFault::Set,
             units: 0,
         };
     }
     if !ends_well(deepest, frame.rem.as_slice(), frame.last) {
-        return FrameFound::Fails {
+        return Checked::Fails {
             why: SeqFrameFault::Last,
             units: 0,
         };
     }
     if let Some(cite) = first_late(&frame.cites, entries.len() as u64) {
-        return FrameFound::Fails {
+        return Checked::Fails {
             why: SeqFrameFault::Cite(cite),
             units: 0,
         };
@@ -233,14 +233,14 @@ pub(crate) fn check_frames(
             frame,
             steps - units,
         ) {
-            FrameFound::Right { units: more } => units += more,
-            FrameFound::Fails { why, .. } => {
+            Checked::Right { units: more } => units += more,
+            Checked::Fails { why, .. } => {
                 return FramesFound::Refused {
                     frame: j as u32,
                     why,
                 };
             }
-            FrameFound::StepsEnded => return FramesFound::StepsEnded,
+            Checked::StepsEnded => return FramesFound::StepsEnded,
         }
     }
     FramesFound::Right { units }

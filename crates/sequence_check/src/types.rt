@@ -88,11 +88,11 @@ pub(crate) enum Walked {
     StepsEnded,
 }
 
-/// What the check of one entry finds.
+/// What the check of one entry, or of one frame, finds, with the fault and the steps walked.
 #[derive(Clone, Copy)]
-pub(crate) enum EntryFound {
+pub(crate) enum Checked<F> {
     Right { units: u64 },
-    Fails { why: SeqEntryFault, units: u64 },
+    Fails { why: F, units: u64 },
     StepsEnded,
 }
 
@@ -101,14 +101,6 @@ pub(crate) enum EntryFound {
 pub(crate) enum EntriesFound {
     Right { units: u64 },
     Refused { entry: u64, why: SeqEntryFault },
-    StepsEnded,
-}
-
-/// What the check of one frame finds.
-#[derive(Clone, Copy)]
-pub(crate) enum FrameFound {
-    Right { units: u64 },
-    Fails { why: SeqFrameFault, units: u64 },
     StepsEnded,
 }
 
