@@ -69,6 +69,23 @@ impl TaskSet {
     }
 }
 
+impl TaskSet {
+    // Another tag: a product and a shift for each word up to the last that isn't 0.
+    #[inline]
+    fn tag(&self) -> u32 {
+        let mut used = 16;
+        while used > 0 && self.words[used - 1] == 0 {
+            used -= 1;
+        }
+        let mut state = 0x243f_6a88_85a3_08d3u64;
+        for k in 0..used {
+            let product = u128::from(state ^ self.words[k]) * 0x1319_8a2e_0370_7345;
+            state = product as u64 ^ (product >> 64) as u64;
+        }
+        state as u32
+    }
+}
+
 #[derive(Clone, Copy)]
 struct Sets {
     half: [TaskSet; 64],
@@ -186,14 +203,29 @@ fn iter(sets: &Sets) -> u64 {
     sum
 }
 
+#[inline(never)]
+fn tag(sets: &Sets) -> u64 {
+    let mut changes = 0u64;
+    let mut last = 0u32;
+    for j in 0..TURNS {
+        let tag = sets.half[(j % 64) as usize].tag();
+        if tag != last {
+            changes += 1;
+        }
+        last = tag;
+    }
+    changes
+}
+
 fn main() {
-    let operations: [(&str, u32, fn(&Sets) -> u64); 6] = [
+    let operations: [(&str, u32, fn(&Sets) -> u64); 7] = [
         ("union", TURNS, union),
         ("minus", TURNS, minus),
         ("is_subset", TURNS, is_subset),
         ("count", TURNS, count),
         ("least", TURNS, least),
         ("iter", WALKS, iter),
+        ("tag", TURNS, tag),
     ];
     for tasks in [60, 300, 1000] {
         let sets = sets_of(tasks);
