@@ -2,7 +2,7 @@
 use Rattle.std.proofs.Common.{◌≡◌, ℕ, ◌-◌, ◌<◌, ◌++◌, ◌∷◌, [], List, sym, subst, inl, inr, arith, Option, Some}
 use Rattle.std.proofs.Common.{None}
 use Rattle.std.specs.Prelude.{slice_get}
-use Rattle.line_instance.specs.Line.{Line, IsLine, tasks}
+use Rattle.line_instance.specs.Line.{Line, IsLine}
 use Rattle.line_rules.specs.Balance.{all_tasks}
 use Rattle.line_rules.specs.Units.{TrailUnits}
 use Rattle.line_rules.specs.declared.types.OpenFrame.{OpenFrame}

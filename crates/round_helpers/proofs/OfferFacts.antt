@@ -3,7 +3,7 @@ use Rattle.std.proofs.Common.{◌≡◌, ℕ, ◌+◌, ◌≤◌, Bool, List, []
 use Rattle.std.proofs.Common.{arith, Some}
 use Rattle.line_instance.specs.Line.{Line}
 use Rattle.line_rules.specs.Balance.{IsRight, all_tasks}
-use Rattle.line_rules.specs.Loads.{IsLoad, Belongs, rest}
+use Rattle.line_rules.specs.Loads.{IsLoad, Belongs}
 use Rattle.line_rules.specs.Seats.{AreSeated, around}
 use Rattle.line_rules.specs.declared.types.Balance.{Balance as Assignment}
 use Rattle.line_rules.specs.declared.types.LineKind.{LineKind}

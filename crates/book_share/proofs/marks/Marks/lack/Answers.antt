@@ -1,4 +1,4 @@
-use Rattle.std.proofs.Common.{◌≡◌, ℕ, Bool, true, false, List, sym, ◌∙◌, subst}
+use Rattle.std.proofs.Common.{ℕ, Bool, List, sym, ◌∙◌, subst}
 use Rattle.std.proofs.lemmas.Bool.{true≢false, not-true}
 use Rattle.task_set.specs.Tags.{tag_of}
 use Rattle.lemma_core.specs.Sieves.{HasMark}

@@ -1,4 +1,4 @@
-use Rattle.std.proofs.Common.{◌∙◌, true, false, sym, arith}
+use Rattle.std.proofs.Common.{◌∙◌, sym, arith}
 use Rattle.std.proofs.lemmas.Bool.{false≢true}
 use Rattle.task_set.specs.Truths.{IsEmpty}
 use Rattle.first_fit.proofs.Joins.{meet_empty, empty_meet, side_front, side_u, stand_front, front_stand}
