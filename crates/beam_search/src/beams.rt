@@ -10,11 +10,10 @@ ghost use Rattle.line_rules.specs.Balance.{IsRight};
 
 use crate::listing::Listing;
 use crate::placed::Placed;
-use line_instance::Instance;
+use line_instance::{Instance, TaskSet};
 use line_rules::{Balance, BalanceCheck, LineKind, Mode, Places, Seatplace, Side, check_balance};
 use lower_bounds::exceeds;
 use std::alloc::{AllocError, Global};
-use task_set::TaskSet;
 
 /// How many loads of a rest are listed at most.
 const LOADS: u64 = 100;

@@ -5,9 +5,9 @@
 //! there. A load takes a few operations on sets of words, and no memory but a step for each of its tasks, on a stack in
 //! the heap.
 use crate::placed::Placed;
+use line_instance::TaskSet;
 use line_rules::Mode;
 use std::alloc::{AllocError, Global};
-use task_set::TaskSet;
 
 /// A task that was added to a load, by place, and what the listing had before.
 #[derive(Clone, Copy)]

@@ -2,10 +2,9 @@
 //!
 //! So the first task of a set by place is its least member, and the tasks that fit into what is left of a cycle are
 //! those from one place on.
-use line_instance::Instance;
+use line_instance::{Instance, TaskSet};
 use line_rules::Mode;
 use std::alloc::{AllocError, Global};
-use task_set::TaskSet;
 
 /// The tasks of a line by place. Sets are of places.
 #[derive(Drop)]

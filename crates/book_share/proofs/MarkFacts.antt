@@ -9,7 +9,7 @@ use Rattle.std.proofs.lemmas.Option.{slice_get_within, get_or_from_slice_get}
 use Rattle.std.proofs.Math.Seq.{take-suc}
 use Rattle.line_rules.specs.Entries.{IsUnanswered, IsDerived}
 use Rattle.line_rules.specs.declared.types.Entry.{Entry}
-use Rattle.task_set.specs.Tags.{tag_of}
+use Rattle.line_instance.specs.Tags.{tag_of}
 use Rattle.lemma_core.specs.Sieves.{IsSieve, word_in, mark_of}
 use Rattle.lemma_core.specs.inner.Chains.{tags_of}
 use Rattle.lemma_core.proofs.ChainFacts.{sieve_push, tag-at}

@@ -7,9 +7,9 @@ ghost use Rattle.book_share.specs.Calls.{IsPassOf};
 
 use crate::pass::{Pass, Share};
 use lemma_core::{Desk, Looked, Offered, Published};
+use line_instance::TaskSet;
 use line_rules::{Balance, Entry};
 use std::sync::Wait;
-use task_set::TaskSet;
 
 /// A desk at a shared book: it isn't alone, and its list is what the pass has seen.
 #[derive(Drop)]

@@ -12,9 +12,9 @@ ghost use Rattle.book_share.specs.declared.marks.Marks.TheVariants.{Off};
 
 use lemma_core::Book;
 use lemma_core::sieve::{has_mark, put_mark};
+use line_instance::TaskSet;
 use std::alloc::Global;
 use std::mem;
-use task_set::TaskSet;
 
 /// How many words of 64 marks there are.
 const MARK_WORDS: usize = 65_536;

@@ -23,11 +23,11 @@ use crate::rule::{Both, Halve, LoadBest, LoadCount, Settle};
 use crate::turns::{self, COUNT, LEAST};
 use atomic_table::{Refused, Table};
 use lemma_core::{Book, Looked, Offered, Published};
+use line_instance::TaskSet;
 use line_rules::{Balance, Entry};
 use std::alloc::Global;
 use std::snapshot::Snapshot;
 use std::sync::Wait;
-use task_set::TaskSet;
 
 impl Share {
     /// Shares a book, once `reserve_offers` was done. The first pass has seen the book's log, has no place of its own,

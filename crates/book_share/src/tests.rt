@@ -13,7 +13,7 @@ mod threads;
 
 use crate::{Pass, Share, Started, TryPublished};
 use lemma_core::{Book, Offered, Published};
-use line_instance::{Instance, Made, make};
+use line_instance::{Instance, Made, TaskSet, make};
 use line_rules::{
     Balance, BalanceCheck, Entry, LineKind, Places, Seatplace, Side, Why, check_balance,
 };
@@ -21,7 +21,6 @@ use lower_bounds::exceeds;
 use std::alloc::Global;
 use std::sync::Wait;
 use std::test::Fail;
-use task_set::TaskSet;
 
 const CYCLE: u64 = 7;
 

@@ -21,11 +21,11 @@ use crate::view::View;
 use atomic_table::{Seat, Table};
 use crossbeam_utils::Backoff;
 use lemma_core::{Book, Desk, Looked, Offered, Published};
+use line_instance::TaskSet;
 use line_rules::{Balance, Entry};
 use std::alloc::Global;
 use std::snapshot::Snapshot;
 use std::sync::Wait;
-use task_set::TaskSet;
 
 /// The word of the turn: 0 where it is free, 1 where a pass has it.
 pub const TURN: usize = 0;

@@ -5,7 +5,7 @@ use Rattle.std.specs.Prelude.{slice_get}
 use Rattle.std.proofs.Math.Nat.{mul-le-mul_left}
 use Rattle.std.proofs.lemmas.Bool.{cases_lt, cases_Bool, false≢true}
 use Rattle.std.proofs.lemmas.List.{ext_get_or}
-use Rattle.task_set.specs.Truths.{In}
+use Rattle.line_instance.specs.Truths.{In}
 use Rattle.line_instance.specs.Line.{Line, IsRanked, IsTaskSet, tasks, has, at_rank}
 use Rattle.line_rules.specs.Loads.{IsLoad, Belongs}
 use Rattle.line_rules.specs.Order.{truth, Precedes}

@@ -3,7 +3,7 @@ use Rattle.std.proofs.Common.{◌≡◌, ℕ, zero, suc, ◌+◌, ◌<◌, true,
 use Rattle.std.proofs.Common.{sym, ap, ◌∙◌, subst, inl, inr, arith, Some}
 use Rattle.std.specs.Prelude.{nat_eq, slice_get}
 use Rattle.std.proofs.lemmas.Bool.{cases_lt, eqb-true}
-use Rattle.task_set.specs.Truths.{In, count}
+use Rattle.line_instance.specs.Truths.{In, count}
 use Rattle.line_instance.specs.Line.{Line, IsLine, IsRanked, IsTaskSet, tasks, time}
 use Rattle.line_rules.specs.Balance.{IsBalance, Holds}
 use Rattle.line_rules.specs.Bounds.{IsTooLong}

@@ -4,8 +4,8 @@ use Rattle.std.proofs.Common.{◌∙◌, inl, inr, arith}
 use Rattle.std.specs.Prelude.{nat_eq, nat_lt}
 use Rattle.std.proofs.Math.Nat.{mul-le-mul_left, pow-succ', pow-zero}
 use Rattle.std.proofs.lemmas.Bool.{cases_order, cases_eq, cases_Bool, false≢true}
-use Rattle.task_set.specs.Truths.{In, IsEmpty}
-use Rattle.task_set.proofs.Members.{In-union_left, In-union_right, In-union_cases}
+use Rattle.line_instance.specs.Truths.{In, IsEmpty}
+use Rattle.line_instance.proofs.Members.{In-union_left, In-union_right, In-union_cases}
 use Rattle.line_instance.specs.Line.{Line, has}
 use Rattle.line_rules.specs.Loads.{IsLoad, Belongs, taken}
 use Rattle.line_rules.specs.declared.types.LineKind.{LineKind}

@@ -7,9 +7,9 @@ use Rattle.std.proofs.lemmas.Bool.{cases_lt, false≢true}
 use Rattle.std.proofs.lemmas.List.{take_all, length-append}
 use Rattle.std.proofs.lemmas.List.Sums.{count_by_more_yes, count_by_more_no}
 use Rattle.std.proofs.lemmas.Option.{same_Some}
-use Rattle.task_set.specs.Truths.{In, members_from, members_of, count}
-use Rattle.task_set.proofs.Counts.{count_first}
-use Rattle.task_set.proofs.ListedMembers.{count_listed}
+use Rattle.line_instance.specs.Truths.{In, members_from, members_of, count}
+use Rattle.line_instance.proofs.Counts.{count_first}
+use Rattle.line_instance.proofs.ListedMembers.{count_listed}
 use Rattle.line_rules.specs.declared.types.Entry.{Entry}
 use Rattle.line_rules.specs.declared.types.Why.{Why}
 use Rattle.line_rules.specs.declared.types.Why.TheVariants as why

@@ -5,8 +5,8 @@ use Rattle.std.specs.Prelude.{slice_get}
 use Rattle.std.specs.List.{Contains}
 use Rattle.std.proofs.lemmas.Bool.{cases_eq, cases_lt}
 use Rattle.std.proofs.lemmas.Option.{slice_get_within, slice_get_read, same_Some}
-use Rattle.task_set.specs.Truths.{In, IsSubset, members_of}
-use Rattle.task_set.proofs.ListedMembers.{listed}
+use Rattle.line_instance.specs.Truths.{In, IsSubset, members_of}
+use Rattle.line_instance.proofs.ListedMembers.{listed}
 use Rattle.line_instance.specs.Line.{Line, IsTaskSet}
 use Rattle.line_rules.specs.Loads.{rest}
 use Rattle.line_rules.specs.Entries.{Answers, Cites, FollowsBy, FollowsByBranch, FollowsBySwap, Follows, IsDerived}

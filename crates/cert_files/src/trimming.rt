@@ -2,7 +2,7 @@
 ghost use Rattle.std.specs.Prelude.{◌≡◌, ◌↔◌, ℕ, ◌+◌, ◌<◌, ◌≤◌, false, length, map, slice_index, slice_get, replicate};
 ghost use Rattle.std.specs.Prelude.{Some, IfOk, IsTrue};
 ghost use Rattle.std.specs.List.{Contains};
-ghost use Rattle.task_set.specs.Truths.{full_to, members_of};
+ghost use Rattle.line_instance.specs.Truths.{full_to, members_of};
 ghost use Rattle.line_instance.specs.Line.{Line};
 ghost use Rattle.line_rules.specs.Entries.{Answers, HasAnswer, IsDerived, IsFresh};
 ghost use Rattle.line_rules.specs.Ranges.{AreEntries};
@@ -11,9 +11,9 @@ ghost use Rattle.line_rules.specs.declared.types.LineKind.{LineKind};
 ghost use Rattle.cert_files.specs.Trim.{cited_by, CitesEarlier, IsFirstAnswer, IsTrimmed, AreKeptEntries, AreMarked};
 ghost use Rattle.cert_files.specs.Trim.{AreMarks, AreClosed, entry_at, why_at};
 
+use line_instance::TaskSet;
 use line_rules::{Cites, Entries, Entry, Why};
 use std::alloc::{AllocError, Global};
-use task_set::TaskSet;
 
 /// The first entry of all tasks with at least so many stations and at least such a cycle, and all the entries that it
 /// cites, directly or through others, in order and with their cites renumbered. There is such an entry, and each entry

@@ -29,7 +29,7 @@ use Rattle.cert_lines.proofs.JudgedLine.{small, small_is}
 use Rattle.cert_lines.proofs.EntryLines.{cycle_of, front, draft_of, bound_text, branch_text, swap_text, same_entry}
 use Rattle.cert_lines.proofs.EntryLines.{entry_again, entry_found}
 use Rattle.cert_lines.proofs.FrameLines.{load_read, last_read, the_frame, frame_again, frame_found}
-use Rattle.task_set.proofs.Members.{In-empty}
+use Rattle.line_instance.proofs.Members.{In-empty}
 
 -- cites below a number that is itself small are read as they are
 pub small_cites : (count : ℕ) (cites : List ℕ) → count < greatest → AreCites count cites → map sat cites ≡ cites

@@ -5,9 +5,9 @@ ghost use Rattle.cert_lines.specs.inner.LineReading.{keyed_in, seat_in, cycle_fi
 ghost use Rattle.cert_lines.specs.inner.LineReading.{entry_in, load_in, last_in, frame_in, trail_numbers, trail_in};
 
 use crate::words::{cites_of, first_number, is_none, mode_of, number, set_of, split_at};
+use line_instance::TaskSet;
 use line_rules::{Cites, LineKind, Load, Mode, Side};
 use std::alloc::{AllocError, Global};
-use task_set::TaskSet;
 
 /// The line of an entry; a swap's tasks are counted from 1.
 #[derive(Drop)]

@@ -4,9 +4,9 @@ ghost use Rattle.cert_lines.specs.Words.{parts_at, number_in, number_first, mode
 ghost use Rattle.cert_lines.specs.Words.{set_in, is_hex as hex, hex_value as value, is_spare, with_digit};
 ghost use Rattle.cert_lines.specs.Words.{is_unplain as unplain, is_none as none};
 
+use line_instance::TaskSet;
 use line_rules::{Cites, Mode};
 use std::alloc::{AllocError, Global};
-use task_set::TaskSet;
 
 /// What stands before the first byte of this value, and behind it; None where there is no such byte.
 pub fn split_at(bytes: &[u8], mark: u8) -> Option<(&[u8], &[u8])>

@@ -2,7 +2,7 @@
 ghost use Rattle.std.specs.Prelude.{◌↔◌, IsTrue};
 ghost use Rattle.line_rules.specs.Ranges.{IsCycle, IsOf};
 
-use task_set::TaskSet;
+use line_instance::TaskSet;
 
 /// The greatest cycle.
 const MAX_CYCLE: u64 = 1_000_000_000_000_000_000;

@@ -1,12 +1,12 @@
 //! A certificate of three tasks within its ranges, and ones that are out of them in one place each.
 use cert_ranges::is_in_range;
+use line_instance::TaskSet;
 use line_rules::{
     Ask, Balance, Certificate, Cites, Claim, Entries, Entry, Frames, LineKind, Load, Mode,
     OpenFrame, Places, Seatplace, Side, Trail, Why,
 };
 use std::alloc::{AllocError, Global};
 use std::test::Fail;
-use task_set::TaskSet;
 
 // The set of one task below 1,024.
 fn one(task: u32) -> TaskSet {

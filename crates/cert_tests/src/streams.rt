@@ -7,11 +7,11 @@ ghost use Rattle.cert_files.specs.Trim.{cited_by, CitesEarlier};
 
 use cert_files::{CertFrom, Streamed, answers, cert_from, stream_cert, trim};
 use cert_text::{CertFault, CertKind, CertRead, ListRead, read_cert, read_list, write_list};
+use line_instance::TaskSet;
 use line_io::{Fetched, MemShelf, Shelf, Stored, Whole, read_whole};
 use line_rules::{Entries, Why};
 use std::alloc::{AllocError, Global};
 use std::test::Fail;
-use task_set::TaskSet;
 
 const V5: &str =
     "line balance certificate 2\nline straight\ntasks 5\ncycle 7\nlower 3\nupper 3\nbalance 3\n1\n2\n1\n2\n3\n\

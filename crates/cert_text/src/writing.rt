@@ -5,8 +5,8 @@ ghost use Rattle.cert_lines.specs.Numbers.{member, hex_digit};
 ghost use Rattle.cert_text.specs.Sent.{Puts};
 
 use crate::output::Output;
+use line_instance::TaskSet;
 use line_rules::{Load, Mode};
-use task_set::TaskSet;
 
 /// Puts these bytes.
 pub fn put_text<O: Output>(out: &mut O, text: &[u8])

@@ -4,12 +4,12 @@ use Rattle.std.proofs.Common.{arith}
 use Rattle.line_instance.specs.Line.{Line, IsLine, IsRanked, tasks}
 use Rattle.line_rules.specs.Loads.{IsLoad}
 use Rattle.line_rules.specs.Order.{IsNext, IsFollowing, After}
-use Rattle.load_facts.specs.Sides.{nothing_yet}
+use Rattle.line_rules.specs.Sides.{nothing_yet}
 use Rattle.line_rules.specs.declared.types.Mode.{Mode}
 use Rattle.line_rules.specs.declared.types.Load.{Load}
-use Rattle.load_facts.specs.inner.Scan.{Scan}
-use Rattle.load_facts.proofs.ScanFacts.{IsBase, scan_start, rescan, base_none, base_some, follows, none_follows}
-use Rattle.load_facts.proofs.ScanFacts.{none_above}
+use Rattle.line_rules.specs.inner.Scan.{Scan}
+use Rattle.line_rules.proofs.ScanFacts.{IsBase, scan_start, rescan, base_none, base_some, follows, none_follows}
+use Rattle.line_rules.proofs.ScanFacts.{none_above}
 use Rattle.check_loads.specs.Standing.{IsWalk, stand, last_of}
 use Rattle.check_loads.specs.declared.loads.Walk.{Walk}
 

@@ -3,12 +3,12 @@ use Rattle.std.specs.Prelude.{◌≡◌, ℕ, Bool, true, false, cond, List, Opt
 use Rattle.line_instance.specs.Line.{Line, has}
 use Rattle.line_instance.specs.Sums.{sum_where}
 use Rattle.line_rules.specs.Loads.{IsLoad, taken}
-use Rattle.load_facts.specs.Sides.{fills, nothing_yet}
+use Rattle.line_rules.specs.Sides.{fills, nothing_yet}
 use Rattle.line_rules.specs.declared.types.Mode.{Mode}
 use Rattle.line_rules.specs.declared.types.Side.{Side}
 use Rattle.line_rules.specs.declared.types.Side.TheVariants.{Front, Back}
 use Rattle.line_rules.specs.declared.types.Load.{Load}
-use Rattle.load_facts.specs.Ends.{IsEnd}
+use Rattle.line_rules.specs.Ends.{IsEnd}
 use Rattle.check_loads.specs.declared.ends.End.{End}
 use Rattle.check_loads.specs.declared.loads.Walk.{Walk}
 

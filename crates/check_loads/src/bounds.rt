@@ -2,13 +2,12 @@
 ghost use Rattle.std.specs.Prelude.{◌≡◌, ◌≤◌, ◌<◌, ◌↔◌, IsTrue};
 ghost use Rattle.line_instance.specs.Line.{IsTaskSet};
 ghost use Rattle.line_rules.specs.Bounds.{bound};
-ghost use Rattle.load_facts.specs.Times.{AreTimes};
+ghost use Rattle.line_rules.specs.Times.{AreTimes};
 
 use crate::chains::has_longer_chain;
 use crate::sizes::{Times, counts_of, stations};
-use line_instance::Instance;
+use line_instance::{Instance, TaskSet};
 use line_rules::LineKind;
-use task_set::TaskSet;
 
 /// The bound of a set with a task longer than the cycle: more stations than any line has tasks.
 pub const TOO_LONG: u32 = 1025;

@@ -1,15 +1,14 @@
 //! The stations that what is before and after a task needs.
 ghost use Rattle.std.specs.Prelude.{◌≡◌, ◌≤◌, ◌<◌, ◌+◌, ◌-◌, ◌*◌, ◌↔◌, IsTrue};
-ghost use Rattle.task_set.specs.Truths.{In};
+ghost use Rattle.line_instance.specs.Truths.{In};
 ghost use Rattle.line_instance.specs.Line.{IsTaskSet, has, time};
 ghost use Rattle.line_instance.specs.Sums.{sum_where};
 ghost use Rattle.line_rules.specs.Bounds.{chained, head, tail};
-ghost use Rattle.load_facts.specs.Times.{AreTimes, time_elsewhere};
+ghost use Rattle.line_rules.specs.Times.{AreTimes, time_elsewhere};
 
 use crate::sizes::Times;
-use line_instance::Instance;
+use line_instance::{Instance, TaskSet};
 use line_rules::LineKind;
-use task_set::TaskSet;
 
 /// The stations that the head and the tail of task `j` of a set need, its own counted once.
 fn chain(inst: &Instance, cycle: u64, set: &TaskSet, j: u32) -> u64

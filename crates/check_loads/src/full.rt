@@ -2,13 +2,12 @@
 ghost use Rattle.std.specs.Prelude.{◌≡◌, ℕ, ◌<◌, ◌↔◌, IsTrue, true, false};
 ghost use Rattle.line_instance.specs.Line.{IsTaskSet, tasks};
 ghost use Rattle.line_rules.specs.Loads.{IsLoad, IsFull};
-ghost use Rattle.load_facts.specs.Sides.{MayJoin, fills};
-ghost use Rattle.load_facts.specs.Sides.{AreSets};
+ghost use Rattle.line_rules.specs.Sides.{MayJoin, fills};
+ghost use Rattle.line_rules.specs.Sides.{AreSets};
 
 use crate::sides::{ahead, fills, part};
-use line_instance::Instance;
+use line_instance::{Instance, TaskSet};
 use line_rules::{Load, Mode, Side};
-use task_set::TaskSet;
 
 /// Whether a task may join a side of a load, whatever the mode.
 fn may_join(inst: &Instance, cycle: u64, set: &TaskSet, load: &Load, side: Side, task: u32) -> bool

@@ -1,24 +1,23 @@
 //! The walk over the loads of a set in their order, for all modes: it keeps the sum of times and the tasks that are
 //! free to join, and changes them with each task that comes or goes.
 ghost use Rattle.std.specs.Prelude.{◌≡◌, ℕ, ◌<◌, ◌≤◌, ◌↔◌, IsTrue, true, false};
-ghost use Rattle.task_set.specs.Truths.{union};
+ghost use Rattle.line_instance.specs.Truths.{union};
 ghost use Rattle.line_instance.specs.Line.{IsTaskSet, tasks, has};
 ghost use Rattle.line_instance.specs.Sums.{sum_where};
 ghost use Rattle.line_rules.specs.Loads.{IsLoad, IsFull, taken};
 ghost use Rattle.line_rules.specs.Order.{After, IsNext, IsFollowing};
-ghost use Rattle.load_facts.specs.Sides.{MayJoin, fills, spot};
+ghost use Rattle.line_rules.specs.Sides.{MayJoin, fills, spot};
 ghost use Rattle.line_rules.specs.declared.types.Load.{Load as Pair};
-ghost use Rattle.load_facts.specs.inner.Scan.{Scan};
-ghost use Rattle.load_facts.specs.Ends.{IsEnd};
-ghost use Rattle.load_facts.specs.Sides.{HasRoom, pair_at};
+ghost use Rattle.line_rules.specs.inner.Scan.{Scan};
+ghost use Rattle.line_rules.specs.Ends.{IsEnd};
+ghost use Rattle.line_rules.specs.Sides.{HasRoom, pair_at};
 ghost use Rattle.check_loads.specs.Standing.{IsWalk, stand, last_of};
 
 use crate::ends::End;
 use crate::questions::Question;
 use crate::sides::{fills, task_at};
-use line_instance::Instance;
+use line_instance::{Instance, TaskSet};
 use line_rules::{Load, Mode, Side};
-use task_set::TaskSet;
 
 /// A walk over the loads of a question's set: the load that it has come to, or none before the first.
 #[derive(Clone, Copy)]

@@ -3,8 +3,8 @@ ghost use Rattle.std.specs.Prelude.{◌≡◌, ◌≤◌, ◌-◌, ◌*◌, leng
 ghost use Rattle.line_rules.specs.Loads.{rest};
 
 use crate::sizes::Times;
+use line_instance::TaskSet;
 use line_rules::{LineKind, Load, Mode};
-use task_set::TaskSet;
 
 /// Whether a set has a balance in `most` stations at a cycle, on a line of that kind, of which an end station is filled
 /// in that mode.

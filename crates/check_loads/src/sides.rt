@@ -1,12 +1,11 @@
 //! The two sides of a load, front and back, by one code.
 ghost use Rattle.std.specs.Prelude.{◌≡◌, ◌<◌, ◌↔◌, ℕ, IsNone, IfSome};
-ghost use Rattle.task_set.specs.Truths.{In, IsEmpty};
+ghost use Rattle.line_instance.specs.Truths.{In, IsEmpty};
 ghost use Rattle.line_instance.specs.Line.{IsTaskSet, tasks};
-ghost use Rattle.load_facts.specs.Sides.{Ahead, part, fills, task_at};
+ghost use Rattle.line_rules.specs.Sides.{Ahead, part, fills, task_at};
 
-use line_instance::Instance;
+use line_instance::{Instance, TaskSet};
 use line_rules::{Load, Mode, Side};
-use task_set::TaskSet;
 
 /// Whether loads of the mode fill the side.
 #[inline]

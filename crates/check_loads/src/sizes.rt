@@ -1,12 +1,11 @@
 //! The times of a set of tasks, and what its tasks count for by their times in parts of the cycle.
 ghost use Rattle.std.specs.Prelude.{◌≡◌, ℕ, ◌≤◌, ◌+◌, max};
-ghost use Rattle.task_set.specs.Truths.{In};
+ghost use Rattle.line_instance.specs.Truths.{In};
 ghost use Rattle.line_instance.specs.Line.{IsTaskSet, time};
 ghost use Rattle.line_rules.specs.Bounds.{sixths, up};
-ghost use Rattle.load_facts.specs.Times.{AreCounts, AreTimes};
+ghost use Rattle.line_rules.specs.Times.{AreCounts, AreTimes};
 
-use line_instance::Instance;
-use task_set::TaskSet;
+use line_instance::{Instance, TaskSet};
 
 /// What is known of the times of a set of tasks, in the instance's time unit.
 #[derive(Clone, Copy)]
@@ -50,7 +49,7 @@ pub struct SizeCounts {
 
 /// The counts of a set of tasks, of which none takes more than `longest`: all 0 where that is less than a third of the
 /// cycle.
-#[tactic(auto, using(load_facts::proofs::SizeClasses::one_more))]
+#[tactic(auto, using(line_rules::proofs::SizeClasses::one_more))]
 pub fn counts_of(inst: &Instance, cycle: u64, set: &TaskSet, longest: u64) -> SizeCounts
     requires set { IsTaskSet inst.now set.now }
     requires some { 1 ≤ cycle }

@@ -2,8 +2,8 @@
 use Rattle.std.proofs.Common.{◌≡◌, ℕ, ◌-◌, ◌<◌, ◌≤◌, List, [], length, Option, Some, None, refl}
 use Rattle.std.proofs.Common.{sym, subst, arith}
 use Rattle.std.proofs.lemmas.Option.{slice_get_within}
-use Rattle.task_set.specs.Truths.{In, full_to}
-use Rattle.task_set.proofs.Members.{In-full_to}
+use Rattle.line_instance.specs.Truths.{In, full_to}
+use Rattle.line_instance.proofs.Members.{In-full_to}
 use Rattle.line_instance.specs.Line.{Line, IsLine, tasks}
 use Rattle.line_rules.specs.Accepted.{HasTrail, IsAccepted}
 use Rattle.line_rules.specs.Balance.{all_tasks}

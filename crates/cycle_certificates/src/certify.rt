@@ -1,6 +1,6 @@
 //! What a search for the least cycle proved, as a certificate.
 ghost use Rattle.std.specs.Prelude.{◌≡◌, ℕ, [], ◌-◌, ◌<◌, ◌≤◌, IfOk};
-ghost use Rattle.task_set.specs.Truths.{full_to};
+ghost use Rattle.line_instance.specs.Truths.{full_to};
 ghost use Rattle.line_instance.specs.Line.{Line, IsLine};
 ghost use Rattle.line_rules.specs.Entries.{HasAnswer, IsDerived};
 ghost use Rattle.line_rules.specs.Ranges.{AreEntries};

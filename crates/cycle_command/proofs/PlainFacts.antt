@@ -4,7 +4,7 @@ use Rattle.std.proofs.Common.{None, sym, ap, subst, inl, inr, arith}
 use Rattle.std.specs.Prelude.{slice_index_or}
 use Rattle.std.proofs.lemmas.Bool.{cases_Bool}
 use Rattle.std.proofs.lemmas.List.{ext_get_or}
-use Rattle.task_set.specs.Truths.{In}
+use Rattle.line_instance.specs.Truths.{In}
 use Rattle.line_instance.specs.Line.{Line, IsLine, tasks}
 use Rattle.line_instance.specs.Walks.{IsGiven}
 use Rattle.command_outcome.specs.Outcome.{Files}

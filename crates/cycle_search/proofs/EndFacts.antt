@@ -7,8 +7,8 @@ use Rattle.std.proofs.lemmas.Bool.{cases_lt, and_parts}
 use Rattle.std.proofs.lemmas.Bool.Decides.{nat_tests}
 use Rattle.std.proofs.lemmas.List.{get_or-replicate, length-replicate}
 use Rattle.std.proofs.Math.Nat.{mul-le-mul_left}
-use Rattle.task_set.specs.Truths.{In}
-use Rattle.task_set.proofs.Members.{In-full_to_below}
+use Rattle.line_instance.specs.Truths.{In}
+use Rattle.line_instance.proofs.Members.{In-full_to_below}
 use Rattle.line_instance.specs.Line.{Line, IsLine, tasks, time, has}
 use Rattle.line_instance.proofs.Sums.{weigh-one, sum_where-le}
 use Rattle.line_rules.specs.Balance.{IsRight, IsSide, Keeps, all_tasks, seat}
@@ -22,9 +22,9 @@ use Rattle.line_rules.specs.declared.types.Balance.{Balance as Assignment}
 use Rattle.line_rules.specs.declared.types.Entry.{Entry}
 use Rattle.line_rules.proofs.All.{In-all}
 use Rattle.line_rules.proofs.BoundIsTrue.{up_le, cond_le, greatest_le}
-use Rattle.load_facts.specs.Times.{longest_of}
-use Rattle.load_facts.proofs.SumsOverMembers.{below_at}
-use Rattle.load_facts.proofs.BoundCases.{long_ones, below_bound}
+use Rattle.line_rules.specs.Times.{longest_of}
+use Rattle.line_rules.proofs.SumsOverMembers.{below_at}
+use Rattle.line_rules.proofs.BoundCases.{long_ones, below_bound}
 use Rattle.cert_lines.proofs.JudgedSeat.{front_is}
 use Rattle.lemma_core.specs.Books.{MayBeBest}
 use Rattle.round_run.specs.Rounds.{by_bound}

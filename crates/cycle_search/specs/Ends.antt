@@ -5,7 +5,7 @@ use Rattle.line_rules.specs.Balance.{all_tasks}
 use Rattle.line_rules.specs.Bounds.{total_time, up}
 use Rattle.line_rules.specs.declared.types.Side.TheVariants.{Front}
 use Rattle.line_rules.specs.declared.types.Seatplace.{Seatplace}
-use Rattle.load_facts.specs.Times.{longest_of}
+use Rattle.line_rules.specs.Times.{longest_of}
 
 -- no two tasks are apart
 abbrev pub NoneApart : Line → Type 0

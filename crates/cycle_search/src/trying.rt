@@ -4,7 +4,7 @@
 //! decided over the book, which is reopened at the cycle; a book that has grown too large is given up for a new one,
 //! and of its entries only the proof of the lower end is kept.
 ghost use Rattle.std.specs.Prelude.{◌≡◌, ◌+◌, ◌-◌, ◌<◌, ◌≤◌, ℕ, [], length, IfOk};
-ghost use Rattle.task_set.specs.Truths.{full_to};
+ghost use Rattle.line_instance.specs.Truths.{full_to};
 ghost use Rattle.line_instance.specs.Line.{Line, tasks as count_tasks};
 ghost use Rattle.line_rules.specs.Entries.{HasAnswer};
 ghost use Rattle.line_rules.specs.Ranges.{IsCycle};

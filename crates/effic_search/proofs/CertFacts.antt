@@ -7,8 +7,8 @@ use Rattle.std.proofs.lemmas.Bool.{eq-eqb}
 use Rattle.std.proofs.lemmas.Option.{slice_get_within}
 use Rattle.std.proofs.lemmas.Nat.{mul-le}
 use Rattle.std.proofs.Math.Seq.{take-length}
-use Rattle.task_set.specs.Truths.{In}
-use Rattle.task_set.proofs.Members.{In-full_to}
+use Rattle.line_instance.specs.Truths.{In}
+use Rattle.line_instance.proofs.Members.{In-full_to}
 use Rattle.line_instance.specs.Line.{Line, IsLine, IsRanked, tasks}
 use Rattle.line_rules.specs.Balance.{IsRight, all_tasks}
 use Rattle.line_rules.specs.Entries.{IsDerived, IsFresh, IsFreshAt}

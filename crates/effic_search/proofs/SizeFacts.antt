@@ -6,8 +6,8 @@ use Rattle.std.specs.Prelude.{◌≢◌, nat_eq, slice_get}
 use Rattle.std.proofs.lemmas.Bool.{cases_lt, cases_Bool, eqb-true}
 use Rattle.std.proofs.lemmas.List.{ext_get_or}
 use Rattle.std.proofs.Math.Nat.{mul-le-mul_left, mul-le-mul_right, pow-le-pow_left}
-use Rattle.task_set.specs.Truths.{In, count}
-use Rattle.task_set.proofs.Members.{In-full_to}
+use Rattle.line_instance.specs.Truths.{In, count}
+use Rattle.line_instance.proofs.Members.{In-full_to}
 use Rattle.line_instance.specs.Line.{Line, IsLine, IsRanked, IsTaskSet, tasks, time, has}
 use Rattle.line_rules.specs.Balance.{IsBalance, Holds, all_tasks}
 use Rattle.line_rules.specs.Bounds.{IsTooLong, total_time}
@@ -24,8 +24,8 @@ use Rattle.line_rules.proofs.FreeSets.{all_of}
 use Rattle.line_rules.proofs.OneTaskPerStation.{count_below}
 use Rattle.line_rules.proofs.SubBalance.{restricted}
 use Rattle.line_rules.proofs.LemmasHold.{sound}
-use Rattle.load_facts.specs.Times.{longest_of}
-use Rattle.load_facts.proofs.SizeClasses.{longest_least}
+use Rattle.line_rules.specs.Times.{longest_of}
+use Rattle.line_rules.proofs.SizeClasses.{longest_least}
 use Rattle.budget_law.specs.Budget.{states}
 use Rattle.budget_law.proofs.DistinctNumbers.{Has, Differ, few_below}
 use Rattle.budget_law.proofs.TripleCodes.{low, code, code_same, code_lt}

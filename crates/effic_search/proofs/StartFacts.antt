@@ -7,8 +7,8 @@ use Rattle.std.specs.Prelude.{slice_get, nat_eq, ◌&&◌}
 use Rattle.std.proofs.lemmas.Bool.{cases_eq, and_from}
 use Rattle.std.proofs.lemmas.List.{get_or-replicate}
 use Rattle.std.proofs.Math.Seq.{take-length}
-use Rattle.task_set.specs.Truths.{In}
-use Rattle.task_set.proofs.Members.{In-full_to_below}
+use Rattle.line_instance.specs.Truths.{In}
+use Rattle.line_instance.proofs.Members.{In-full_to_below}
 use Rattle.line_instance.specs.Line.{Line, IsLine, has, tasks}
 use Rattle.line_instance.proofs.Sums.{sum_where-le}
 use Rattle.line_rules.specs.Balance.{IsRight, all_tasks, seat}

@@ -11,7 +11,7 @@ use Rattle.line_rules.specs.declared.types.LineKind.{LineKind}
 use Rattle.line_rules.specs.declared.types.Entry.{Entry}
 use Rattle.line_rules.specs.declared.types.Trail.{Trail}
 use Rattle.line_rules.specs.declared.types.Why.TheVariants as why
-use Rattle.load_facts.specs.Times.{longest_of}
+use Rattle.line_rules.specs.Times.{longest_of}
 use Rattle.budget_law.specs.Budget.{states}
 use Rattle.round_run.specs.declared.plans.Plan.{Plan}
 use Rattle.effic_cert.specs.Product.{IsSayable}

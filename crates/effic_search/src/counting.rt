@@ -14,9 +14,8 @@ ghost use Rattle.effic_search.specs.inner.Going.{EndsWith};
 ghost use Rattle.effic_search.specs.Lowest.{IsGreatestRefuted, IsLowest};
 
 use line_check::{EntryChecked, has_answer, verify_entry};
-use line_instance::Instance;
+use line_instance::{Instance, TaskSet};
 use line_rules::{Entries, Entry, LineKind, Why};
-use task_set::TaskSet;
 
 /// What the entries of a book are, but for those by Bound.
 #[derive(Clone, Copy)]

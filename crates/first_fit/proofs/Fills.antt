@@ -4,8 +4,8 @@ use Rattle.std.proofs.Common.{nat_eq, List, ◌∷◌, length, set, refl, sym, a
 use Rattle.std.proofs.Common.{inl, inr, arith}
 use Rattle.std.proofs.lemmas.Bool.Decides.{nat_tests}
 use Rattle.std.proofs.lemmas.List.{get_or-set_same, get_or-set_other, length-set}
-use Rattle.task_set.specs.Truths.{In, union}
-use Rattle.task_set.proofs.Members.{In-set_same, In-set_kept, In-set_cases}
+use Rattle.line_instance.specs.Truths.{In, union}
+use Rattle.line_instance.proofs.Members.{In-set_same, In-set_kept, In-set_cases}
 use Rattle.line_instance.specs.Line.{Line, IsLine, Apart, tasks, time}
 use Rattle.line_rules.specs.Balance.{seat}
 use Rattle.line_rules.specs.Ranked.{Placement, Has, IsAt, time_placed, IsReady, MayBePlaced, station_of}

@@ -2,8 +2,8 @@
 use Rattle.std.proofs.Common.{◌≡◌, ℕ, ◌+◌, ◌<◌, ◌≤◌, Bool, cond, List}
 use Rattle.std.proofs.Common.{Option, Some, None, refl, sym, ap, ◌∙◌, subst, ◌⊎◌, inl, inr, arith}
 use Rattle.std.proofs.lemmas.Bool.{cases_lt, le-ltb, lt-ltb}
-use Rattle.task_set.specs.Truths.{In, meet, IsEmpty}
-use Rattle.task_set.proofs.Members.{In-meet, In-meet_parts}
+use Rattle.line_instance.specs.Truths.{In, meet, IsEmpty}
+use Rattle.line_instance.proofs.Members.{In-meet, In-meet_parts}
 use Rattle.line_instance.specs.Line.{Line, Before}
 use Rattle.line_rules.specs.Balance.{IsSide}
 use Rattle.line_rules.specs.Ranked.{weight, RanksFirst}

@@ -4,9 +4,9 @@ use Rattle.std.proofs.Common.{[], ◌∷◌, length, get_or, set, replicate, ref
 use Rattle.std.proofs.lemmas.Bool.{false≢true, cases_eq, cases_lt, cases_Bool}
 use Rattle.std.proofs.lemmas.Bool.Decides.{nat_tests}
 use Rattle.std.proofs.lemmas.List.{length-replicate}
-use Rattle.task_set.specs.Truths.{In, union}
-use Rattle.task_set.proofs.Members.{In-empty, In-union_left, In-union_right, In-union_cases, members, members-set}
-use Rattle.task_set.proofs.Members.{members-le}
+use Rattle.line_instance.specs.Truths.{In, union}
+use Rattle.line_instance.proofs.Members.{In-empty, In-union_left, In-union_right, In-union_cases, members, members-set}
+use Rattle.line_instance.proofs.Members.{members-le}
 use Rattle.line_instance.specs.Line.{Line, IsLine, IsRanked, Before, tasks, time, at_rank, has}
 use Rattle.line_rules.specs.Bounds.{IsTooLong}
 use Rattle.line_rules.specs.Ranked.{Placement, Has, time_placed, station_of, IsClosed, IsRankedBalance}

@@ -3,9 +3,8 @@ ghost use Rattle.std.specs.Prelude.{◌≡◌, ◌≤◌, ◌<◌, ◌^◌, ◌�
 ghost use Rattle.line_instance.specs.Line.{tasks, time};
 ghost use Rattle.first_fit.specs.inner.Filling.{MayJoin, joined, next_station, started};
 
-use line_instance::Instance;
+use line_instance::{Instance, TaskSet};
 use line_rules::{LineKind, Side};
-use task_set::TaskSet;
 
 /// A task and the side that it is to stand at.
 #[derive(Clone, Copy, Debug)]

@@ -21,11 +21,10 @@ ghost use Rattle.lemma_core.specs.Books.{DoesPublish};
 use crate::index::Index;
 use crate::plain_lookup::{find_plain, looked};
 use crate::types::{LogItem, Looked, Offered, Published};
-use line_instance::Instance;
+use line_instance::{Instance, TaskSet};
 use line_rules::{Balance, Entries, Entry, LineKind};
 use std::alloc::{AllocError, Global};
 use std::marker::Model;
-use task_set::TaskSet;
 
 /// Entries, each of which follows from those before it, the best balance so far, and the log of what was published
 /// and offered.

@@ -3,7 +3,7 @@ use Rattle.std.proofs.Common.{◌≡◌, ℕ, ◌-◌, ◌≤◌, Bool, List, le
 use Rattle.std.proofs.Common.{length-take}
 use Rattle.std.specs.Prelude.{slice_get}
 use Rattle.std.proofs.lemmas.Option.{same_Some, slice_get_within}
-use Rattle.task_set.specs.Truths.{In, IsEmpty}
+use Rattle.line_instance.specs.Truths.{In, IsEmpty}
 use Rattle.line_instance.specs.Line.{Line}
 use Rattle.line_rules.specs.Loads.{IsLoad, Belongs, rest}
 use Rattle.line_rules.specs.Entries.{IsOpen, Cites, FollowsByBranch, FollowsBySwap, FollowsBy, Follows}

@@ -1,7 +1,7 @@
 -- The test of a balance has one first fault.
 use Rattle.std.proofs.Common.{◌≡◌, ℕ, ◌<◌, ◌≤◌, ◌⊎◌, refl, sym, ap, ◌∙◌, subst, inl, inr, arith}
 use Rattle.std.proofs.lemmas.Bool.{cases_order}
-use Rattle.task_set.specs.Truths.{In}
+use Rattle.line_instance.specs.Truths.{In}
 use Rattle.line_instance.specs.Line.{Line}
 use Rattle.line_rules.specs.Accepted.{upper_cycle, upper_stations}
 use Rattle.line_rules.specs.Balance.{IsSide, all_tasks, seat, time_at}

@@ -1,6 +1,6 @@
 -- What the check of an entry finds: that it follows, the first thing that is wrong with it, or that the steps ended.
 use Rattle.std.specs.Prelude.{◌≡◌, ℕ, ◌<◌, ◌≤◌, ◌⊎◌, List, length}
-use Rattle.task_set.specs.Truths.{In, IsEmpty}
+use Rattle.line_instance.specs.Truths.{In, IsEmpty}
 use Rattle.line_instance.specs.Line.{Line}
 use Rattle.line_rules.specs.Loads.{IsLoad, Belongs}
 use Rattle.line_rules.specs.Bounds.{bound}

@@ -15,11 +15,10 @@ use crate::entries::is_same;
 use crate::frames::check_frames;
 use crate::lists::check_entries;
 use crate::types::{FrameFault, FramesFound, ListChecked, ListFound, Place, Verified};
-use line_instance::Instance;
+use line_instance::{Instance, TaskSet};
 use line_rules::{
     Ask, Balance, BalanceCheck, Certificate, Claim, Entries, Entry, LineKind, Trail, check_balance,
 };
-use task_set::TaskSet;
 
 /// Checks a list of entries and a trail beside it: that each entry follows from those before it, and that the trail is
 /// a valid one. That the first frame lies within the bounds of a certificate isn't asked. At most `steps` loads are

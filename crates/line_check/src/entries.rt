@@ -1,6 +1,6 @@
 //! The check of one entry after others: whether it follows from them in the way that it says.
 ghost use Rattle.std.specs.Prelude.{◌≡◌, ℕ, ◌<◌, ◌≤◌, ◌↔◌, List, length, take, slice_get, Some, IsTrue};
-ghost use Rattle.task_set.specs.Truths.{In};
+ghost use Rattle.line_instance.specs.Truths.{In};
 ghost use Rattle.line_instance.specs.Line.{IsTaskSet, tasks, has};
 ghost use Rattle.line_rules.specs.Loads.{Belongs};
 ghost use Rattle.line_rules.specs.Ranges.{IsCycle};
@@ -15,9 +15,8 @@ use crate::walks::{first_late, walk_all};
 use check_loads::bounds::{bound, exceeds};
 use check_loads::questions::{Question, room};
 use check_loads::sizes::times_in;
-use line_instance::Instance;
+use line_instance::{Instance, TaskSet};
 use line_rules::{Cites, Entries, Entry, LineKind, Mode, Why};
-use task_set::TaskSet;
 
 /// Whether the mode belongs to the kind of line.
 pub(crate) fn belongs(kind: LineKind, mode: Mode) -> bool

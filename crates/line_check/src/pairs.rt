@@ -1,15 +1,14 @@
 //! Whether a pair of sets is a load.
 ghost use Rattle.std.specs.Prelude.{◌≡◌, ℕ, ◌<◌, ◌↔◌, true, IsTrue};
-ghost use Rattle.task_set.specs.Truths.{In};
+ghost use Rattle.line_instance.specs.Truths.{In};
 ghost use Rattle.line_instance.specs.Line.{tasks};
 ghost use Rattle.line_rules.specs.Loads.{IsLoad, taken};
 ghost use Rattle.line_rules.specs.Ranges.{IsLoadLike};
 ghost use Rattle.line_check.specs.inner.Pairs.{IsClosedAt};
 
 use crate::entries::is_met;
-use line_instance::Instance;
+use line_instance::{Instance, TaskSet};
 use line_rules::{Load, Mode};
-use task_set::TaskSet;
 
 /// Whether a task, where it is present, leaves nothing out of a side that its row and the set have in common.
 fn keeps(present: bool, set: &TaskSet, row: &TaskSet, side: &TaskSet) -> bool

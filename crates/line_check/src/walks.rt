@@ -16,9 +16,8 @@ use check_loads::bounds::{TOO_LONG, exceeds};
 use check_loads::loads::Walk;
 use check_loads::questions::{Question, rest};
 use check_loads::sizes::Times;
-use line_instance::Instance;
+use line_instance::{Instance, TaskSet};
 use line_rules::{Cites, Entries, Load};
-use task_set::TaskSet;
 
 /// The first cite that isn't below `k`.
 pub(crate) fn first_late(cites: &Cites, k: u64) -> Option<u64>

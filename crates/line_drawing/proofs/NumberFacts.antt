@@ -4,7 +4,7 @@ use Rattle.std.proofs.Common.{refl, sym, ap, ◌∙◌, arith}
 use Rattle.std.proofs.Math.Nat.{mul-div-le, div-le_of_le-mul}
 use Rattle.std.proofs.lemmas.Bool.{and_parts, and_from, false≢true, le-leb, leb-true}
 use Rattle.std.proofs.lemmas.Bool.Decides.{nat_tests}
-use Rattle.task_set.specs.Truths.{In}
+use Rattle.line_instance.specs.Truths.{In}
 use Rattle.line_instance.specs.Line.{Line, has}
 use Rattle.line_instance.specs.Sums.{sum_where}
 use Rattle.line_instance.proofs.Sums.{weigh-none, weigh-same, weigh-split, same_truth}

@@ -3,7 +3,7 @@ use Rattle.std.proofs.Common.{◌≡◌, ℕ, zero, suc, ◌+◌, ◌<◌, ◌�
 use Rattle.std.proofs.Common.{◌∙◌, subst, ◌⊎◌, inl, inr, arith}
 use Rattle.std.proofs.lemmas.List.{get_or_past}
 use Rattle.std.proofs.lemmas.Bool.{cases_lt, false≢true}
-use Rattle.task_set.specs.Truths.{In}
+use Rattle.line_instance.specs.Truths.{In}
 use Rattle.line_instance.specs.Line.{Line, IsLine, IsRanked, IsTaskSet}
 use Rattle.line_instance.specs.Walks.{Leads, Walk, arc, on, IsRow, IsRing, IsRingOf, ArePairs, at, AreArcs}
 use Rattle.line_instance.specs.Ranks.{AreRanks}

@@ -9,9 +9,10 @@ use Rattle.std.proofs.lemmas.Bool.{cases_eq, cases_lt, false≢true}
 use Rattle.std.proofs.lemmas.List.FromFn.{length-map-range_with_len, get_or-map-range_with_len}
 use Rattle.std.proofs.lemmas.Bool.{ltb-true, lt-ltb}
 use Rattle.std.specs.Prelude.{ltb}
-use Rattle.task_set.specs.Truths.{In, union, IsGreatestBelow, full_to}
-use Rattle.task_set.proofs.Members.{In-set_same, In-set_kept, In-set_cases, In-union_left, In-union_right, In-empty}
-use Rattle.task_set.proofs.Members.{In-union_cases}
+use Rattle.line_instance.specs.Truths.{In, union, IsGreatestBelow, full_to}
+use Rattle.line_instance.proofs.Members.{In-set_same, In-set_kept, In-set_cases, In-union_left, In-union_right}
+use Rattle.line_instance.proofs.Members.{In-empty}
+use Rattle.line_instance.proofs.Members.{In-union_cases}
 use Rattle.line_instance.specs.Walks.{at}
 use Rattle.line_instance.specs.inner.Inside.{AreRows, AreEmpty, AreDirect, IsJoined, AreJoined, IsWhole}
 use Rattle.line_instance.specs.declared.arcs.Prec.{Prec}

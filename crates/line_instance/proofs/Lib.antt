@@ -1,3 +1,11 @@
+pub mod Ahead
+pub mod Bits
+pub mod Counts
+pub mod Fills
+pub mod ListedMembers
+pub mod Members
+pub mod HighestBits
+pub mod UsedPairs
 pub mod Sums
 pub mod JoinedRows
 pub mod MarkedRows

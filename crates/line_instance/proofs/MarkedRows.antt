@@ -6,7 +6,7 @@ use Rattle.std.proofs.Math.ListN.{length-set}
 use Rattle.std.proofs.lemmas.List.{get_or-set_same, get_or-set_other, get_or_read}
 use Rattle.std.proofs.lemmas.List.Elements.{Contains-append_left, Contains-append_right, Contains-append_cases}
 use Rattle.std.proofs.lemmas.Bool.{cases_eq, cases_lt}
-use Rattle.task_set.specs.Truths.{In, IsGreatestBelow}
+use Rattle.line_instance.specs.Truths.{In, IsGreatestBelow}
 use Rattle.line_instance.specs.Walks.{Leads, at, arc_at, ArePairs}
 use Rattle.line_instance.specs.inner.Inside.{AreRows, AreEmpty, AreMarked, AreTurned, ArePaired, IsPermutation}
 use Rattle.line_instance.specs.inner.Inside.{AreRanksOf, StandsBelow, LeadsIn, IsWhole}

@@ -4,8 +4,8 @@ use Rattle.std.proofs.Common.{get_or, set, replicate, refl, sym, ap, ◌∙◌, 
 use Rattle.std.proofs.Math.ListN.{get_or-append, length-set}
 use Rattle.std.proofs.lemmas.List.{get_or_push, length-replicate}
 use Rattle.std.proofs.lemmas.Bool.{cases_eq, cases_lt, cases_Bool, false≢true}
-use Rattle.task_set.specs.Truths.{In}
-use Rattle.task_set.proofs.Members.{In-set_same, In-set_kept, In-set_cases, In-empty}
+use Rattle.line_instance.specs.Truths.{In}
+use Rattle.line_instance.proofs.Members.{In-set_same, In-set_kept, In-set_cases, In-empty}
 use Rattle.line_instance.specs.Walks.{at}
 use Rattle.line_instance.specs.inner.Inside.{MayCome, IsLeastFree, IsOrdering, IsWhole, IsStuck, StandsBelow}
 

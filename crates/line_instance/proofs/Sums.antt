@@ -4,7 +4,7 @@ use Rattle.std.proofs.Common.{nat_lt, take, List, [], ◌∷◌, length, get_or,
 use Rattle.std.proofs.Common.{zero-add}
 use Rattle.line_instance.specs.Sums.{weigh, sum_where}
 use Rattle.line_instance.specs.Line.{has}
-use Rattle.task_set.specs.Truths.{In, IsGreatestBelow}
+use Rattle.line_instance.specs.Truths.{In, IsGreatestBelow}
 use Rattle.std.proofs.lemmas.Bool.{false≢true, and_parts, and_from, not-true, cases_Bool, eqb-false, ltb-true, lt-ltb}
 
 cond_le : (t : ℕ) (a b : Bool) → (a ≡ true → b ≡ true) → cond a t 0 ≤ cond b t 0

@@ -4,9 +4,9 @@ use Rattle.std.proofs.Common.{replicate, refl, sym, ap, ◌∙◌, subst, ◌⊎
 use Rattle.std.proofs.Math.ListN.{length-set}
 use Rattle.std.proofs.lemmas.List.{ext_get_or, get_or_read, length-replicate}
 use Rattle.std.proofs.lemmas.Bool.{cases_eq, cases_lt, cases_Bool}
-use Rattle.task_set.specs.Truths.{In}
-use Rattle.task_set.proofs.Counts.{same_members}
-use Rattle.task_set.proofs.Members.{In-set_cases, In-empty}
+use Rattle.line_instance.specs.Truths.{In}
+use Rattle.line_instance.proofs.Counts.{same_members}
+use Rattle.line_instance.proofs.Members.{In-set_cases, In-empty}
 use Rattle.line_instance.specs.Line.{Line, IsLine, IsRanked, tasks, at_rank, Before}
 use Rattle.line_instance.specs.Walks.{Leads, Walk, arc, on, IsRing, at, arc_at, AreArcs}
 use Rattle.line_instance.specs.Ranks.{AreRanks, IsFree, IsPlaced}

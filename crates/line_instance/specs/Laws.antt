@@ -1,6 +1,6 @@
 -- Laws of instances, for all times, arcs and lines.
 use Rattle.std.specs.Prelude.{◌≡◌, ℕ, ◌<◌, ◌↔◌, Bool, List, [], slice_index_or}
-use Rattle.task_set.specs.Truths.{In}
+use Rattle.line_instance.specs.Truths.{In}
 use Rattle.line_instance.specs.Line.{Line, IsLine, IsRanked, IsTaskSet, Before, tasks, at_rank}
 use Rattle.line_instance.specs.Walks.{IsRing}
 use Rattle.line_instance.specs.Ranks.{AreRanks}

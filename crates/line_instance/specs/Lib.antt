@@ -1,3 +1,6 @@
+pub mod Tags
+pub mod Text
+pub mod Truths
 pub mod Line
 pub mod Sums
 pub mod Walks
@@ -5,4 +8,5 @@ pub mod Ranks
 pub mod Partners
 pub mod Made
 pub mod Laws
+pub mod SetLaws
 pub mod inner

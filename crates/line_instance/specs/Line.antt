@@ -1,6 +1,6 @@
 -- Tasks with times, the tasks before each one, the tasks that are apart from each one, and the task of each rank.
 use Rattle.std.specs.Prelude.{◌≡◌, ℕ, ◌<◌, ◌≤◌, Bool, false, List, [], length, slice_index_or}
-use Rattle.task_set.specs.Truths.{In}
+use Rattle.line_instance.specs.Truths.{In}
 
 -- row j of before has the tasks before j, row j of apart those apart from j, and order has the task of each rank
 -- (Scholl)

@@ -1,7 +1,7 @@
 -- Walks along arcs.
 use Rattle.std.specs.Prelude.{◌≡◌, ℕ, ◌+◌, ◌<◌, ◌≤◌, ◌⊎◌, Bool, List, length, slice_index_or}
 use Rattle.std.specs.List.{Contains}
-use Rattle.task_set.specs.Truths.{In}
+use Rattle.line_instance.specs.Truths.{In}
 use Rattle.line_instance.specs.declared.arcs.Prec.{Prec}
 
 -- an arc leads from i to j

@@ -5,13 +5,13 @@ ghost use Rattle.line_instance.specs.Partners.{IsKeptAt};
 ghost use Rattle.line_instance.specs.Line.{Line, IsLine, IsRanked, IsTaskSet, Before, Apart, Covers, tasks, time};
 ghost use Rattle.line_instance.specs.Line.{at_rank, has};
 ghost use Rattle.line_instance.specs.Sums.{sum_where};
-ghost use Rattle.task_set.specs.Truths.{In, full_to};
+ghost use Rattle.line_instance.specs.Truths.{In, full_to};
 
 use crate::arcs::Prec;
 use crate::partners::{Kept, kept_at, part};
+use crate::sets::TaskSet;
 use std::alloc::{AllocError, Global};
 use std::marker::Model;
-use task_set::TaskSet;
 
 /// The most tasks that an instance has.
 pub const MAX_TASKS: usize = 1024;

@@ -4,8 +4,8 @@ ghost use Rattle.line_instance.specs.inner.Inside.{AreRows, MayCome, IsLeastFree
 ghost use Rattle.line_instance.specs.inner.Inside.{AreRanksOf};
 ghost use Rattle.line_instance.specs.inner.Ordered.{IsOrdered};
 
+use crate::sets::TaskSet;
 use std::alloc::{AllocError, Global};
-use task_set::TaskSet;
 
 // An order of all tasks, or the tasks that were placed where none was free.
 #[derive(Drop)]

@@ -8,8 +8,8 @@ ghost use Rattle.line_instance.specs.Partners.{IsPartner, AreKept};
 
 use crate::arcs::Prec;
 use crate::rows::{clear_rows, mark_pairs};
+use crate::sets::TaskSet;
 use std::alloc::{AllocError, Global};
-use task_set::TaskSet;
 
 // The most partners that are kept of a task.
 const MAX_KEPT: u32 = 8;

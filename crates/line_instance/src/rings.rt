@@ -3,11 +3,11 @@ ghost use Rattle.std.specs.Prelude.{◌≡◌, ℕ, ◌+◌, ◌<◌, ◌≤◌,
 ghost use Rattle.std.specs.Prelude.{slice_index_or, IfOk, OnOk, OnErr};
 ghost use Rattle.line_instance.specs.Walks.{IsRingOf, at as at_place};
 ghost use Rattle.line_instance.specs.inner.Inside.{AreRows, IsStuck, LeadsIn, IsBackWalk, IsAppended};
-ghost use Rattle.task_set.specs.Truths.{In};
+ghost use Rattle.line_instance.specs.Truths.{In};
 
+use crate::sets::TaskSet;
 use std::alloc::{AllocError, Global};
 use std::marker::Model;
-use task_set::TaskSet;
 
 /// A list of tasks, counted from 0. Contracts see the list.
 #[derive(Drop)]

@@ -3,11 +3,11 @@ ghost use Rattle.std.specs.Prelude.{◌≡◌, ◌≤◌, ◌<◌, ℕ, List, []
 ghost use Rattle.line_instance.specs.Walks.{AreArcs};
 ghost use Rattle.line_instance.specs.inner.Inside.{AreRows, AreEmpty, AreDirect, IsJoined, AreJoined, IsWhole};
 ghost use Rattle.line_instance.specs.inner.Inside.{AreMarked, AreTurned, ArePaired};
-ghost use Rattle.task_set.specs.Truths.{In};
+ghost use Rattle.line_instance.specs.Truths.{In};
 
 use crate::arcs::Prec;
+use crate::sets::TaskSet;
 use std::alloc::{AllocError, Global};
-use task_set::TaskSet;
 
 // So many empty sets.
 pub fn empty_rows(alloc: Global, n: usize) -> Result<Vec<TaskSet>, AllocError>

@@ -2,7 +2,7 @@
 use Rattle.std.proofs.Common.{◌≡◌, ℕ, ◌-◌, ◌<◌, ◌≤◌, Bool, ◌&&◌, nat_eq, List, refl, sym, subst, Option, inl, inr}
 use Rattle.std.proofs.Common.{arith}
 use Rattle.std.proofs.lemmas.Bool.{cases_lt, and_from, eq-eqb}
-use Rattle.task_set.specs.Truths.{In}
+use Rattle.line_instance.specs.Truths.{In}
 use Rattle.line_instance.specs.Line.{Line, IsLine, has}
 use Rattle.line_instance.proofs.Sums.{weigh-one}
 use Rattle.line_rules.specs.Balance.{IsBalance, Holds, all_tasks, seat}

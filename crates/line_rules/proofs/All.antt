@@ -1,9 +1,9 @@
 -- The set of all tasks.
 use Rattle.std.proofs.Common.{◌≡◌, ℕ, ◌<◌, ◌≤◌, Bool, List, length}
-use Rattle.task_set.specs.Truths.{In}
-use Rattle.task_set.proofs.Members.{In-full_to, In-full_to_below}
-use Rattle.task_set.proofs.Counts.{same_members}
-use Rattle.task_set.proofs.Fills.{length-full_to}
+use Rattle.line_instance.specs.Truths.{In}
+use Rattle.line_instance.proofs.Members.{In-full_to, In-full_to_below}
+use Rattle.line_instance.proofs.Counts.{same_members}
+use Rattle.line_instance.proofs.Fills.{length-full_to}
 use Rattle.line_instance.specs.Line.{Line, IsTaskSet, tasks}
 use Rattle.line_rules.specs.Balance.{all_tasks}
 

@@ -1,7 +1,7 @@
 -- A balance has no fewer stations than the bound.
 use Rattle.std.proofs.Common.{◌≡◌, ◌≢◌, ℕ, zero, suc, ◌+◌, ◌-◌, ◌*◌, ◌<◌, ◌≤◌, max, Bool, true, false, cond, ◌&&◌, ◌||◌}
 use Rattle.std.proofs.Common.{nat_eq, nat_lt, List, [], ◌∷◌, length, get_or, refl, sym, ap, ◌∙◌, ◌⊎◌, inl, inr, arith}
-use Rattle.task_set.specs.Truths.{In, count}
+use Rattle.line_instance.specs.Truths.{In, count}
 use Rattle.line_instance.specs.Line.{Line, tasks, has, is_before}
 use Rattle.line_instance.specs.Sums.{weigh, sum_where, count_where}
 use Rattle.line_rules.specs.Balance.{IsBalance, all_tasks}

@@ -1,9 +1,10 @@
 -- A load grows to a full one.
 use Rattle.std.proofs.Common.{◌≡◌, ℕ, zero, suc, ◌+◌, ◌<◌, ◌≤◌, Bool, true, false, List, length, set, sym, ◌∙◌, ◌⊎◌}
 use Rattle.std.proofs.Common.{inl, inr, arith}
-use Rattle.task_set.specs.Truths.{In, union, IsSubset}
-use Rattle.task_set.proofs.Members.{In-union_left, In-union_right, In-union_cases, In-set_kept, members, members-set}
-use Rattle.task_set.proofs.Members.{members-le}
+use Rattle.line_instance.specs.Truths.{In, union, IsSubset}
+use Rattle.line_instance.proofs.Members.{In-union_left, In-union_right, In-union_cases, In-set_kept, members}
+use Rattle.line_instance.proofs.Members.{members-set}
+use Rattle.line_instance.proofs.Members.{members-le}
 use Rattle.line_instance.specs.Line.{Line, has}
 use Rattle.line_rules.specs.Loads.{IsLoad, IsFull, taken, with_front, with_back}
 use Rattle.line_rules.specs.declared.types.Mode.{Mode}

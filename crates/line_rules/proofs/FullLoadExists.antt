@@ -1,9 +1,10 @@
 -- From a balance of R in r stations: a full load of R whose rest has a balance in one station less.
 use Rattle.std.proofs.Common.{◌≡◌, ◌≢◌, ℕ, zero, suc, ◌-◌, ◌≤◌, Bool, true, false, ◌&&◌, not, nat_eq, List, length}
 use Rattle.std.proofs.Common.{refl, sym, ap, ◌∙◌, inl, inr, arith}
-use Rattle.task_set.specs.Truths.{In, IsSubset}
-use Rattle.task_set.proofs.Members.{In-union_left, In-union_right, In-union_cases, In-minus_parts, keep, length-keep}
-use Rattle.task_set.proofs.Members.{In-keep, In-keep_parts}
+use Rattle.line_instance.specs.Truths.{In, IsSubset}
+use Rattle.line_instance.proofs.Members.{In-union_left, In-union_right, In-union_cases, In-minus_parts, keep}
+use Rattle.line_instance.proofs.Members.{length-keep}
+use Rattle.line_instance.proofs.Members.{In-keep, In-keep_parts}
 use Rattle.line_instance.specs.Line.{Line, IsTaskSet, has}
 use Rattle.line_rules.specs.Balance.{IsBalance, Keeps}
 use Rattle.line_rules.specs.Loads.{IsLoad, IsFull, Suits, Belongs, taken, rest}

@@ -1,8 +1,8 @@
 -- A load before or after a balance of the rest is a balance.
 use Rattle.std.proofs.Common.{◌≡◌, ℕ, zero, suc, ◌+◌, ◌≤◌, Bool, true, false, cond, ◌&&◌, nat_eq, List, sym, ap, ◌∙◌}
 use Rattle.std.proofs.Common.{◌⊎◌, inl, inr, arith}
-use Rattle.task_set.specs.Truths.{In}
-use Rattle.task_set.proofs.Members.{In-union_left, In-union_right, In-union_cases, In-minus}
+use Rattle.line_instance.specs.Truths.{In}
+use Rattle.line_instance.proofs.Members.{In-union_left, In-union_right, In-union_cases, In-minus}
 use Rattle.line_instance.specs.Line.{Line, has, Before}
 use Rattle.line_instance.specs.Sums.{sum_where}
 use Rattle.line_rules.specs.Balance.{IsBalance, Keeps}

@@ -4,9 +4,9 @@ use Rattle.std.proofs.Common.{[], ◌∷◌, ◌++◌, refl, sym, ap, ◌∙◌,
 use Rattle.std.specs.Prelude.{slice_get, slice_set}
 use Rattle.std.proofs.lemmas.Bool.{cases_lt, cases_eq, cases_Bool, false≢true, true≢false, lt-ltb, le-ltb}
 use Rattle.std.proofs.lemmas.List.{get_or-set_same, get_or-set_other, length-set}
-use Rattle.task_set.specs.Truths.{full_to}
-use Rattle.task_set.proofs.Members.{In-full_to_below}
-use Rattle.task_set.proofs.Fills.{length-full_to}
+use Rattle.line_instance.specs.Truths.{full_to}
+use Rattle.line_instance.proofs.Members.{In-full_to_below}
+use Rattle.line_instance.proofs.Fills.{length-full_to}
 use Rattle.line_instance.specs.Line.{Line, IsTaskSet, IsRanked, tasks, has, at_rank}
 use Rattle.std.proofs.lemmas.Option.{same_Some}
 use Rattle.line_rules.specs.Loads.{with_front, with_back}

@@ -4,8 +4,8 @@ use Rattle.std.proofs.Common.{nat_lt, List, refl, sym, ap, ◌∙◌, inl, inr, 
 use Rattle.std.specs.Prelude.{nat_le}
 use Rattle.std.proofs.lemmas.Bool.{cases_eq, cases_Bool, false≢true, and_parts, and_from, or_left, or_right, not-true}
 use Rattle.std.proofs.lemmas.Bool.{not_from_false, false_from_ne_true, ltb-true, lt-ltb, le-leb, leb-true}
-use Rattle.task_set.specs.Truths.{In}
-use Rattle.task_set.proofs.Members.{In-union_cases}
+use Rattle.line_instance.specs.Truths.{In}
+use Rattle.line_instance.proofs.Members.{In-union_cases}
 use Rattle.line_instance.specs.Line.{Line, IsTaskSet, IsRanked, tasks, has, at_rank, is_before, is_apart}
 use Rattle.line_instance.specs.Sums.{sum_where}
 use Rattle.line_rules.specs.Loads.{IsLoad, IsFull, Suits, taken, rest, with_front, with_back}

@@ -3,8 +3,8 @@ use Rattle.std.proofs.Common.{◌≡◌, ℕ, zero, suc, ◌<◌, Bool, true, fa
 use Rattle.std.proofs.Common.{◌⊎◌, inl, inr, arith, ◌↔◌}
 use Rattle.std.proofs.lemmas.Bool.{false≢true, cases_eq}
 use Rattle.std.proofs.lemmas.List.{length-set}
-use Rattle.task_set.specs.Truths.{In, IsEmpty, IsLeast}
-use Rattle.task_set.proofs.Members.{In-clear, In-clear_kept, members}
+use Rattle.line_instance.specs.Truths.{In, IsEmpty, IsLeast}
+use Rattle.line_instance.proofs.Members.{In-clear, In-clear_kept, members}
 
 -- what is left passes B, and what passes B is left or passes K
 pub record IsLeft (B K : ℕ → Type 0) (left : List Bool) : Type 0 where

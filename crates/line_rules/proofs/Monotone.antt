@@ -3,8 +3,8 @@ use Rattle.std.proofs.Common.{◌≡◌, ℕ, ◌+◌, ◌<◌, ◌≤◌, Bool,
 use Rattle.std.proofs.Common.{take, slice_get, refl, sym, ap, ◌∙◌, subst, Option, Some, None, arith}
 use Rattle.std.proofs.lemmas.Bool.{and_parts, eqb-true}
 use Rattle.std.proofs.lemmas.List.{take-take}
-use Rattle.task_set.specs.Truths.{In, count}
-use Rattle.task_set.proofs.Bits.{get_or-minus, length-minus}
+use Rattle.line_instance.specs.Truths.{In, count}
+use Rattle.line_instance.proofs.Bits.{get_or-minus, length-minus}
 use Rattle.line_instance.specs.Line.{Line, IsLine, IsRanked, IsTaskSet, has, time}
 use Rattle.line_rules.specs.Balance.{IsBalance, Holds}
 use Rattle.line_rules.specs.Bounds.{bound}

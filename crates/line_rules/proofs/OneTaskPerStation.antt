@@ -5,9 +5,9 @@ use Rattle.std.proofs.Common.{length, get_or, set, replicate, refl, sym, ap, ◌
 use Rattle.std.proofs.Math.ListN.{length-set}
 use Rattle.std.proofs.lemmas.Bool.{cases_lt, cases_Bool, and_parts, eqb-true}
 use Rattle.std.proofs.lemmas.List.{length-replicate}
-use Rattle.task_set.specs.Truths.{In, count}
-use Rattle.task_set.proofs.Counts.{count_first, same_members}
-use Rattle.task_set.proofs.Members.{In-set_same, In-set_kept, In-set_cases, In-empty}
+use Rattle.line_instance.specs.Truths.{In, count}
+use Rattle.line_instance.proofs.Counts.{count_first, same_members}
+use Rattle.line_instance.proofs.Members.{In-set_same, In-set_kept, In-set_cases, In-empty}
 use Rattle.line_instance.specs.Line.{Line, IsLine, IsRanked, IsTaskSet, tasks, time, has, at_rank, Before, Apart}
 use Rattle.line_instance.specs.Sums.{sum_where}
 use Rattle.line_rules.specs.Balance.{IsBalance, Keeps}

@@ -2,8 +2,8 @@
 use Rattle.std.proofs.Common.{◌≡◌, ℕ, zero, suc, ◌-◌, ◌+◌, Bool, List, [], ◌∷◌, ◌++◌, length, refl, sym, ap, ◌∙◌, subst}
 use Rattle.std.proofs.Common.{◌⊎◌, inl, inr, arith, Option, Some, None}
 use Rattle.std.specs.Prelude.{slice_get}
-use Rattle.task_set.specs.Truths.{In, IsSubset}
-use Rattle.task_set.proofs.Members.{In-minus_parts}
+use Rattle.line_instance.specs.Truths.{In, IsSubset}
+use Rattle.line_instance.proofs.Members.{In-minus_parts}
 use Rattle.line_instance.specs.Line.{Line, IsRanked}
 use Rattle.line_rules.specs.Loads.{IsLoad, taken, rest}
 use Rattle.line_rules.specs.Order.{Precedes, UpTo, After, IsFollowing, Counts}

@@ -3,7 +3,7 @@ use Rattle.std.proofs.Common.{◌≡◌, ℕ, ◌+◌, ◌<◌, ◌≤◌, Bool,
 use Rattle.std.proofs.Common.{get_or, refl, sym, ap, ◌∙◌, subst, inl, inr, arith}
 use Rattle.std.proofs.lemmas.Bool.{false≢true, cases_eq, cases_Bool, and_parts, and_from, or_cases, or_left, or_right}
 use Rattle.std.proofs.lemmas.Bool.{eqb-true, eq-eqb, ne_eqb}
-use Rattle.task_set.specs.Truths.{In}
+use Rattle.line_instance.specs.Truths.{In}
 use Rattle.line_instance.specs.Line.{Line, IsLine, Before, Apart, has, tasks, time}
 use Rattle.line_instance.specs.Sums.{weigh}
 use Rattle.line_instance.proofs.Sums.{weigh-le, weigh-none, weigh-more, weigh-most}

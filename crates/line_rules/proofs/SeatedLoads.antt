@@ -3,8 +3,8 @@ use Rattle.std.proofs.Common.{◌≡◌, ℕ, zero, suc, ◌+◌, ◌-◌, ◌�
 use Rattle.std.proofs.Common.{◌++◌, length, refl, sym, ap, ◌∙◌, subst, ◌⊎◌, inl, inr, arith, Option, Some}
 use Rattle.std.proofs.Common.{length-append}
 use Rattle.std.specs.Prelude.{slice_get}
-use Rattle.task_set.specs.Truths.{In, IsEmpty}
-use Rattle.task_set.proofs.Members.{In-union_right, In-union_cases, In-minus}
+use Rattle.line_instance.specs.Truths.{In, IsEmpty}
+use Rattle.line_instance.proofs.Members.{In-union_right, In-union_cases, In-minus}
 use Rattle.line_instance.specs.Line.{Line, has}
 use Rattle.line_instance.specs.Sums.{sum_where}
 use Rattle.line_rules.specs.Balance.{IsBalance, Keeps}

@@ -1,6 +1,6 @@
 -- What follows from a balance: one of a part of its tasks, in more stations, at a greater cycle.
 use Rattle.std.proofs.Common.{◌≡◌, ℕ, ◌≤◌, Bool, true, ◌&&◌, nat_eq, List, arith}
-use Rattle.task_set.specs.Truths.{IsSubset}
+use Rattle.line_instance.specs.Truths.{IsSubset}
 use Rattle.line_instance.specs.Line.{Line, has}
 use Rattle.line_rules.specs.Balance.{IsBalance, Holds}
 use Rattle.line_rules.specs.declared.types.LineKind.{LineKind}

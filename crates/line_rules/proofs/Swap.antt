@@ -1,7 +1,7 @@
 -- A balance with one task in the seat of another.
 use Rattle.std.proofs.Common.{◌≡◌, ◌≢◌, ℕ, zero, suc, ◌<◌, ◌≤◌, Bool, true, false, cond, ◌&&◌, not, nat_eq, List, []}
 use Rattle.std.proofs.Common.{◌∷◌, length, get_or, set, refl, sym, ap, ◌∙◌, subst, ◌⊎◌, inl, inr, arith}
-use Rattle.task_set.specs.Truths.{In}
+use Rattle.line_instance.specs.Truths.{In}
 use Rattle.line_instance.specs.Line.{Line, IsLine, IsTaskSet, time, has, Before, Apart}
 use Rattle.line_instance.specs.Sums.{weigh}
 use Rattle.line_rules.specs.Balance.{IsBalance, Keeps}

@@ -2,7 +2,7 @@
 use Rattle.std.proofs.Common.{◌≡◌, ℕ, ◌<◌, ◌≤◌, true, ◌&&◌, nat_eq, List, length, get_or, sym, subst, inl, inr, arith}
 use Rattle.std.proofs.lemmas.Bool.{cases_lt, cases_eq, cases_Bool, and_parts}
 use Rattle.std.proofs.lemmas.Bool.Decides.{nat_tests}
-use Rattle.task_set.specs.Truths.{In}
+use Rattle.line_instance.specs.Truths.{In}
 use Rattle.line_instance.specs.Line.{Line, IsLine, Apart, tasks, has}
 use Rattle.line_instance.proofs.Sums.{weigh-none}
 use Rattle.line_rules.specs.Balance.{IsRight, IsSide, all_tasks, seat, time_at}

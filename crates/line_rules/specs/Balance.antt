@@ -1,7 +1,7 @@
 -- What a balance of a set of tasks is, on a straight line (Scholl's SALBP) and on a U-line (Scholl and Klein's ULINO,
 -- restated over the closure of the precedences).
 use Rattle.std.specs.Prelude.{◌≡◌, ◌≢◌, ℕ, ◌≤◌, Bool, ◌&&◌, nat_eq, List, length, slice_index_or}
-use Rattle.task_set.specs.Truths.{In, full_to}
+use Rattle.line_instance.specs.Truths.{In, full_to}
 use Rattle.line_instance.specs.Line.{Line, Before, Apart, has, tasks}
 use Rattle.line_instance.specs.Sums.{sum_where}
 use Rattle.line_rules.specs.declared.types.LineKind.{LineKind}

@@ -1,6 +1,6 @@
 -- Lower bounds on the number of stations that a set of tasks needs, and the idle time.
 use Rattle.std.specs.Prelude.{ℕ, zero, suc, ◌+◌, ◌-◌, ◌*◌, ◌/◌, ◌<◌, max, Bool, cond, ◌&&◌, ◌||◌, nat_eq, nat_lt, List}
-use Rattle.task_set.specs.Truths.{count}
+use Rattle.line_instance.specs.Truths.{count}
 use Rattle.line_instance.specs.Line.{Line, has, is_before, tasks, time}
 use Rattle.line_instance.specs.Sums.{sum_where, count_where, weigh}
 use Rattle.line_rules.specs.Balance.{all_tasks}

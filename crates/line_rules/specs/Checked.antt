@@ -1,6 +1,6 @@
 -- What the test of a balance says: the first thing that is wrong with it, in the order of the definition.
 use Rattle.std.specs.Prelude.{◌≡◌, ℕ, ◌<◌, ◌≤◌, length}
-use Rattle.task_set.specs.Truths.{In}
+use Rattle.line_instance.specs.Truths.{In}
 use Rattle.line_instance.specs.Line.{Line, Before, Apart, tasks}
 use Rattle.line_rules.specs.Balance.{IsRight, IsSide, Keeps, all_tasks, seat, time_at}
 use Rattle.line_rules.specs.declared.types.LineKind.{LineKind}

@@ -1,7 +1,7 @@
 -- When an entry, which says that a set has no balance in so many stations at a cycle, follows from earlier entries;
 -- derived and fresh lists of entries.
 use Rattle.std.specs.Prelude.{◌≡◌, ℕ, ◌-◌, ◌<◌, ◌≤◌, Bool, true, false, List, length, take, slice_get, slice_set, Some}
-use Rattle.task_set.specs.Truths.{In, IsSubset}
+use Rattle.line_instance.specs.Truths.{In, IsSubset}
 use Rattle.line_instance.specs.Line.{Line, IsTaskSet, tasks, time, has, Before, Apart}
 use Rattle.line_rules.specs.Loads.{IsLoad, IsFull, Belongs, rest}
 use Rattle.line_rules.specs.Order.{Lists}

@@ -1,6 +1,6 @@
 -- Laws over the definitions.
 use Rattle.std.specs.Prelude.{◌≡◌, ℕ, ◌<◌, ◌≤◌, ◌⊎◌, Bool, false, List, [], ◌∷◌, ◌++◌, take, slice_get, Option, Some}
-use Rattle.task_set.specs.Truths.{In, IsSubset, count}
+use Rattle.line_instance.specs.Truths.{In, IsSubset, count}
 use Rattle.line_instance.specs.Line.{Line, IsLine, IsRanked, IsTaskSet, has, tasks, time}
 use Rattle.line_rules.specs.Balance.{IsBalance, Holds, IsRight, all_tasks}
 use Rattle.line_rules.specs.Bounds.{bound}

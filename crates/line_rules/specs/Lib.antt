@@ -11,3 +11,7 @@ pub mod Seats
 pub mod Accepted
 pub mod Ranges
 pub mod Laws
+pub mod Times
+pub mod Sides
+pub mod Ends
+pub mod inner

@@ -1,6 +1,6 @@
 -- What the end station of a line may be given: loads and full loads.
 use Rattle.std.specs.Prelude.{◌≡◌, ℕ, ◌≤◌, Bool, true, false, List, slice_set}
-use Rattle.task_set.specs.Truths.{In, union, minus, IsSubset, IsEmpty}
+use Rattle.line_instance.specs.Truths.{In, union, minus, IsSubset, IsEmpty}
 use Rattle.line_instance.specs.Line.{Line, Before, Apart, IsTaskSet, has}
 use Rattle.line_instance.specs.Sums.{sum_where}
 use Rattle.line_rules.specs.declared.types.LineKind.{LineKind}

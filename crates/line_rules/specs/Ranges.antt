@@ -1,6 +1,6 @@
 -- The ranges of a certificate: what its text can say, before anything in it is believed.
 use Rattle.std.specs.Prelude.{◌≡◌, ℕ, ◌<◌, ◌≤◌, Bool, List, length, slice_get, Option, Some, None}
-use Rattle.task_set.specs.Truths.{In}
+use Rattle.line_instance.specs.Truths.{In}
 use Rattle.line_rules.specs.Balance.{IsSide}
 use Rattle.line_rules.specs.Loads.{Suits}
 use Rattle.line_rules.specs.declared.types.LineKind.{LineKind}

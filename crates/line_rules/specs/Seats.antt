@@ -1,6 +1,6 @@
 -- Loads in the order of their stations.
 use Rattle.std.specs.Prelude.{◌≡◌, ℕ, suc, Bool, cond, List, [], ◌∷◌, ◌++◌, length, slice_get, Option, Some, None}
-use Rattle.task_set.specs.Truths.{In}
+use Rattle.line_instance.specs.Truths.{In}
 use Rattle.line_instance.specs.Line.{Line, has}
 use Rattle.line_rules.specs.Balance.{IsBalance}
 use Rattle.line_rules.specs.Loads.{taken}

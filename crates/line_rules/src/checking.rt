@@ -6,7 +6,7 @@
 //! summed in one pass over the tasks, in an array of 8 KB on the stack. Each pair of tasks that are before one
 //! another or apart is looked at once. No memory is taken.
 ghost use Rattle.std.specs.Prelude.{◌≡◌, ◌≤◌, ◌<◌, ◌↔◌, ℕ, length, slice_index, slice_index_or, IsTrue, IsNone, IfSome};
-ghost use Rattle.task_set.specs.Truths.{In};
+ghost use Rattle.line_instance.specs.Truths.{In};
 ghost use Rattle.line_instance.specs.Line.{Line, Before, tasks};
 ghost use Rattle.line_rules.specs.Balance.{IsSide, Keeps, all_tasks, seat, time_at};
 ghost use Rattle.line_rules.specs.Checked.{IsChecked, IsLeastWhere, IsLeastPair, KeepsAll, Breaks, Meets};

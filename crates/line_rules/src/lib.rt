@@ -1,5 +1,8 @@
 //! The rules of assembly lines: balances of straight lines and U-lines, loads, bounds, what follows from what,
 //! certificates, and the test of a balance.
+//!
+//! The definitions and the facts about them serve the search and the check alike; the code that walks over loads or
+//! asks for a bound stands in crates above, once for the search and once for the check.
 #![tactic(auto)]
 
 mod checking;

@@ -6,8 +6,8 @@
 ghost use Rattle.std.specs.Prelude.{◌≡◌, IfOk};
 
 use crate::listed::{Cites, Entries, Frames, Places};
+use line_instance::TaskSet;
 use std::alloc::AllocError;
-use task_set::TaskSet;
 
 /// The two kinds of line.
 #[derive(Clone, Copy, Debug, PartialEq, Eq)]

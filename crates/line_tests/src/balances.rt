@@ -1,11 +1,10 @@
 //! What no clause says: small balances with their answers, and that lists of entries and of frames are copied.
-use line_instance::{Instance, Made, Prec};
+use line_instance::{Instance, Made, Prec, TaskSet};
 use line_rules::{
     Balance, BalanceCheck, Cites, Entries, Entry, Frames, LineKind, Load, Mode, OpenFrame, Places,
     Seatplace, Side, Why, check_balance,
 };
 use std::test::Fail;
-use task_set::TaskSet;
 
 fn good(made: Made) -> Result<Instance, Fail> {
     match made {

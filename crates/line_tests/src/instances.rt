@@ -2,10 +2,9 @@
 ghost use Rattle.std.specs.Prelude.{◌≡◌, IfOk};
 ghost use Rattle.line_instance.specs.Line.{tasks};
 
-use line_instance::{Instance, Made, Prec, Ring, make};
+use line_instance::{Instance, Made, Prec, Ring, TaskSet, make};
 use std::alloc::Global;
 use std::test::Fail;
-use task_set::TaskSet;
 
 fn arc(first: u32, then: u32) -> Prec {
     Prec { first, then }

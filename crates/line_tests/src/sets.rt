@@ -1,7 +1,7 @@
 //! Sets of tasks in use: printed, gone over, asked, changed, compared, and as keys of a set of sets.
+use line_instance::TaskSet;
 use std::collections::HashSet;
 use std::test::Fail;
-use task_set::TaskSet;
 
 #[test]
 fn prints_the_members(rt: HostRuntime) -> Result<(), Fail> {

@@ -1,21 +1,20 @@
 //! The bound on the stations of a set of tasks, and whether it exceeds a number.
 //!
 //! The search asks whether far oftener than how many: of each full load, about the set that the load leaves. So a
-//! question is settled as soon as may be. The total time comes first: one division, where the caller keeps the times of
-//! the set. Then the sizes of the tasks are counted, in one pass; and only then heads and tails are gone over, at most a
-//! pass over the set for each of its tasks.
+//! question is settled as soon as may be. The total time comes first: one division, where the caller keeps the times
+//! of the set. Then the sizes of the tasks are counted, in one pass; and only then heads and tails are gone over, at
+//! most a pass over the set for each of its tasks.
 ghost use Rattle.std.specs.Prelude.{◌≡◌, ◌≤◌, ◌<◌, ◌↔◌, ℕ, IsTrue};
-ghost use Rattle.task_set.specs.Truths.{IsEmpty};
+ghost use Rattle.line_instance.specs.Truths.{IsEmpty};
 ghost use Rattle.line_instance.specs.Line.{IsTaskSet};
 ghost use Rattle.line_rules.specs.Balance.{Holds};
 ghost use Rattle.line_rules.specs.Bounds.{bound, lm1};
-ghost use Rattle.load_facts.specs.Times.{AreTimes};
+ghost use Rattle.line_rules.specs.Times.{AreTimes};
 
 use crate::chains::{has_longer_chain, longest_chain};
 use crate::sizes::{Times, counts_of, times_in};
-use line_instance::Instance;
+use line_instance::{Instance, TaskSet};
 use line_rules::LineKind;
-use task_set::TaskSet;
 
 /// The bound of a set with a task longer than the cycle: more stations than any line has tasks.
 const TOO_LONG: u32 = 1025;

@@ -8,16 +8,15 @@
 //! kept as a witness, and is tried first at the next task. Only what stays gets its head summed. The cost is one pass
 //! over the set for each of its tasks at most.
 ghost use Rattle.std.specs.Prelude.{◌≡◌, ◌≤◌, ◌<◌, ◌+◌, ◌-◌, ◌*◌, ◌↔◌, max, IsTrue, IsNone, IfSome, IfOk, IfErr};
-ghost use Rattle.task_set.specs.Truths.{In};
+ghost use Rattle.line_instance.specs.Truths.{In};
 ghost use Rattle.line_instance.specs.Line.{IsTaskSet, has, tasks};
 ghost use Rattle.line_instance.specs.Sums.{sum_where};
 ghost use Rattle.line_rules.specs.Bounds.{head, tail, chained};
-ghost use Rattle.load_facts.specs.Times.{AreTimes, time_elsewhere};
+ghost use Rattle.line_rules.specs.Times.{AreTimes, time_elsewhere};
 
 use crate::sizes::{Times, times_in};
-use line_instance::Instance;
+use line_instance::{Instance, TaskSet};
 use line_rules::LineKind;
-use task_set::TaskSet;
 
 /// The total time of a set of tasks, where it is at most `limit`; otherwise a task with which it is more.
 fn sum_up_to(inst: &Instance, set: &TaskSet, limit: u64) -> Result<u64, u32>

@@ -5,13 +5,12 @@
 //! above a third three and those of a third two: no station holds more than six. One pass counts all of these,
 //! without branches; where the longest time is below a third of the cycle there is nothing to count, and no pass.
 ghost use Rattle.std.specs.Prelude.{◌≡◌, ℕ, ◌≤◌, ◌+◌, max};
-ghost use Rattle.task_set.specs.Truths.{In};
+ghost use Rattle.line_instance.specs.Truths.{In};
 ghost use Rattle.line_instance.specs.Line.{IsTaskSet, time};
 ghost use Rattle.line_rules.specs.Bounds.{sixths, up};
-ghost use Rattle.load_facts.specs.Times.{AreCounts, AreTimes, longest_of};
+ghost use Rattle.line_rules.specs.Times.{AreCounts, AreTimes, longest_of};
 
-use line_instance::Instance;
-use task_set::TaskSet;
+use line_instance::{Instance, TaskSet};
 
 /// What is known of the times of the tasks of a set, in the instance's time unit.
 #[derive(Clone, Copy)]
@@ -67,7 +66,7 @@ impl SizeCounts {
 
 /// The counts of a set of tasks, of which none takes more than `longest`: all 0 where that is less than a third of the
 /// cycle.
-#[tactic(auto, using(load_facts::proofs::SizeClasses::one_more))]
+#[tactic(auto, using(line_rules::proofs::SizeClasses::one_more))]
 pub(crate) fn counts_of(inst: &Instance, cycle: u64, set: &TaskSet, longest: u64) -> SizeCounts
     requires set { IsTaskSet inst.now set.now }
     requires some { 1 ≤ cycle }

@@ -10,8 +10,8 @@ use Rattle.std.proofs.lemmas.List.{append-nil, nil_from_length, length-map, leng
 use Rattle.std.proofs.Math.Seq.{take-suc}
 use Rattle.std.proofs.lemmas.List.Sums.{sum_by-append, sum_by-cons}
 use Rattle.std.proofs.lemmas.Option.{same_Some}
-use Rattle.task_set.specs.Truths.{In, meet}
-use Rattle.task_set.proofs.Members.{In-meet_parts}
+use Rattle.line_instance.specs.Truths.{In, meet}
+use Rattle.line_instance.proofs.Members.{In-meet_parts}
 use Rattle.line_instance.specs.Line.{Line, IsTaskSet}
 use Rattle.line_rules.specs.declared.types.LineKind.{LineKind}
 use Rattle.line_rules.specs.declared.types.Load.{Load}

@@ -10,9 +10,9 @@ ghost use Rattle.round_helpers.specs.inner.Seats.{helper_desk};
 use crate::gates::Gate;
 use book_share::{Pass, Share};
 use lemma_core::{Desk, Looked, Offered, Published};
+use line_instance::TaskSet;
 use line_rules::{Balance, Entry};
 use std::sync::Wait;
-use task_set::TaskSet;
 
 /// A helper's desk at a shared book: it isn't alone, and its list is what its pass has seen.
 #[derive(Drop)]

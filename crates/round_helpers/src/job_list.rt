@@ -8,14 +8,13 @@ ghost use Rattle.line_rules.specs.Ranges.{IsCycle};
 ghost use Rattle.station_load.specs.Walking.{IsWalk};
 ghost use Rattle.round_helpers.specs.Jobs.{AreJobs};
 
-use line_instance::Instance;
+use line_instance::{Instance, TaskSet};
 use line_rules::{LineKind, Load};
 use lower_bounds::exceeds;
 use station_load::Walk;
 use station_load::steps::begin;
 use station_search::choose_mode;
 use std::alloc::{AllocError, Global};
-use task_set::TaskSet;
 
 /// How many loads are gone over at most.
 const MAX_LOADS: u32 = 65_536;

@@ -16,11 +16,10 @@ ghost use Rattle.round_helpers.specs.declared.job_work.Answer.TheVariants as ans
 
 use crate::job_list::Job;
 use lemma_core::{Desk, Offered};
-use line_instance::Instance;
+use line_instance::{Instance, TaskSet};
 use line_rules::{LineKind, Load, Loads, Mode};
 use station_search::{Decided, Units, balance_of, choose_mode, decide};
 use std::alloc::{AllocError, Global};
-use task_set::TaskSet;
 
 /// The most stations that a question may ask for beside a load.
 pub const MOST_BESIDE: u32 = 1023;

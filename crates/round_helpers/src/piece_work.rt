@@ -21,12 +21,11 @@ use crate::job_list::Job;
 use crate::job_work::{Answer, MOST_BESIDE, Question, ask, do_job};
 use crate::splitting::split_piece;
 use lemma_core::Desk;
-use line_instance::Instance;
+use line_instance::{Instance, TaskSet};
 use station_search::{Decided, Units};
 use std::alloc::Global;
 use std::sync::Wait;
 use steal_pool::{Hand, Piece, Pool, Took};
-use task_set::TaskSet;
 
 /// How the work of a helper ends.
 #[derive(Clone, Copy, Debug, PartialEq, Eq)]

@@ -10,11 +10,10 @@ ghost use Rattle.round_helpers.specs.inner.Pieces.{Splits, max_listed};
 
 use crate::job_list::rest_at;
 use crate::job_work::Question;
-use line_instance::Instance;
+use line_instance::{Instance, TaskSet};
 use station_load::steps::begin;
 use station_search::{Units, choose_mode};
 use steal_pool::{Hand, Pool, PutBack};
-use task_set::TaskSet;
 
 /// From this depth on a piece isn't split.
 const MAX_DEPTH: u32 = 2;

@@ -5,7 +5,7 @@ use Rattle.std.proofs.Common.{refl, sym, ap, ◌∙◌, subst, inl, inr, arith, 
 use Rattle.std.proofs.lemmas.List.{append-nil}
 use Rattle.std.proofs.lemmas.Bool.{cases_lt, eq-eqb}
 use Rattle.std.specs.Prelude.{slice_get, nat_eq}
-use Rattle.task_set.specs.Truths.{In, IsSubset}
+use Rattle.line_instance.specs.Truths.{In, IsSubset}
 use Rattle.line_instance.specs.Line.{Line, IsLine, IsRanked, tasks}
 use Rattle.line_rules.specs.Balance.{Holds, IsRight, all_tasks, seat}
 use Rattle.line_rules.specs.Bounds.{bound}

@@ -1,6 +1,6 @@
 -- The certificate of a run is within its ranges and accepted.
 use Rattle.std.proofs.lemmas.Option.{slice_get_within, same_Some}
-use Rattle.task_set.specs.Truths.{full_to}
+use Rattle.line_instance.specs.Truths.{full_to}
 use Rattle.std.proofs.Common.{◌≡◌, inl, inr, ◌∙◌, ℕ, ◌+◌, ◌-◌, ◌<◌, ◌≤◌, Bool, List, [], ◌++◌, length, length-append}
 use Rattle.std.proofs.Common.{Option, Some, None, refl, sym, ap, subst, arith}
 use Rattle.std.specs.Prelude.{slice_get}

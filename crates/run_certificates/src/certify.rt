@@ -1,6 +1,6 @@
 //! What a run proved, as a certificate.
 ghost use Rattle.std.specs.Prelude.{◌≡◌, ℕ, ◌-◌, ◌<◌, ◌≤◌, List, IfOk};
-ghost use Rattle.task_set.specs.Truths.{full_to};
+ghost use Rattle.line_instance.specs.Truths.{full_to};
 ghost use Rattle.line_instance.specs.Line.{Line, IsLine};
 ghost use Rattle.line_rules.specs.Bounds.{IsTooLong};
 ghost use Rattle.line_rules.specs.Checked.{IsLeastWhere};

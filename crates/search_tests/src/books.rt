@@ -9,13 +9,12 @@ ghost use Rattle.lemma_core.specs.Laws.{AllMayCome};
 ghost use Rattle.lemma_core.specs.Books.{IsReserved, MayBeBest};
 
 use lemma_core::{Book, Desk, Event, LogItem, Looked, Offered, Published, Reply, run_events};
-use line_instance::{Instance, Made, make};
+use line_instance::{Instance, Made, TaskSet, make};
 use line_rules::{
     Balance, BalanceCheck, Entry, LineKind, Places, Seatplace, Side, Why, check_balance,
 };
 use std::alloc::Global;
 use std::test::Fail;
-use task_set::TaskSet;
 
 const CYCLE: u64 = 7;
 

@@ -1,12 +1,11 @@
 //! What no clause says: bounds that were computed outside, and that each call answers.
 ghost use Rattle.line_instance.specs.Line.{IsTaskSet};
 
-use line_instance::{Instance, Made, Prec, make};
+use line_instance::{Instance, Made, Prec, TaskSet, make};
 use line_rules::LineKind;
 use lower_bounds::{bound, exceeds, first_too_long, total_bound, total_time};
 use std::alloc::Global;
 use std::test::Fail;
-use task_set::TaskSet;
 
 fn instance(alloc: Global, times: Vec<u64>, arcs: &[Prec]) -> Result<Instance, &'static str> {
     match make(alloc, times, arcs) {

@@ -3,13 +3,12 @@
 ghost use Rattle.std.specs.Prelude.{◌<◌};
 ghost use Rattle.line_instance.specs.Line.{IsTaskSet};
 
-use line_instance::{Instance, Made, Prec, make};
+use line_instance::{Instance, Made, Prec, TaskSet, make};
 use line_rules::{Load, Mode};
 use station_load::steps::begin;
 use station_load::{first_load, is_full, next_load, places, resume, walk};
 use std::alloc::{AllocError, Global};
 use std::test::Fail;
-use task_set::TaskSet;
 
 fn instance(alloc: Global, times: Vec<u64>, arcs: &[Prec]) -> Result<Instance, &'static str> {
     match make(alloc, times, arcs) {

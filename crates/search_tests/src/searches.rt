@@ -11,7 +11,7 @@ mod sharing;
 mod stops;
 
 use lemma_core::Book;
-use line_instance::{Instance, Made, Prec, make};
+use line_instance::{Instance, Made, Prec, TaskSet, make};
 use line_rules::{
     Balance, BalanceCheck, Cites, Entry, LineKind, Loads, Mode, Places, Seatplace, Side, Why,
     check_balance,
@@ -19,7 +19,6 @@ use line_rules::{
 use station_search::{Decided, Reason, Units, balance_of, choose_mode, decide};
 use std::alloc::{AllocError, Global};
 use std::test::Fail;
-use task_set::TaskSet;
 
 const CYCLE: u64 = 7;
 

@@ -1,11 +1,10 @@
 //! What no clause says: the loads of small lines that were listed outside, by the walk and load by load.
 ghost use Rattle.line_instance.specs.Line.{IsTaskSet};
 
-use line_instance::{Instance, Made, Prec, make};
+use line_instance::{Instance, Made, Prec, TaskSet, make};
 use line_rules::Mode;
 use std::alloc::{AllocError, Global};
 use std::test::Fail;
-use task_set::TaskSet;
 use u_load::{first_load, is_full, next_load, resume, walk};
 
 fn instance(alloc: Global, times: Vec<u64>, arcs: &[Prec]) -> Result<Instance, &'static str> {

@@ -7,7 +7,7 @@ ghost use Rattle.book_share.specs.Calls.{IsPassOf};
 
 use book_share::{Desked, Pass, Share, Started};
 use lemma_core::Book;
-use line_instance::{Instance, Made, make};
+use line_instance::{Instance, Made, TaskSet, make};
 use line_rules::{
     Balance, BalanceCheck, Entry, LineKind, Mode, Places, Seatplace, Side, Why, check_balance,
 };
@@ -15,7 +15,6 @@ use station_search::{Decided, Reason, Units, decide};
 use std::alloc::{AllocError, Global};
 use std::sync::Wait;
 use std::test::Fail;
-use task_set::TaskSet;
 
 const CYCLE: u64 = 7;
 

@@ -5,10 +5,10 @@ use Rattle.line_rules.specs.Order.{IsNext}
 use Rattle.line_rules.specs.declared.types.Mode.{Mode}
 use Rattle.line_rules.specs.declared.types.Side.{Side}
 use Rattle.line_rules.specs.declared.types.Load.{Load}
-use Rattle.load_facts.specs.Sides.{part, fills, spot, task_at, changed}
-use Rattle.load_facts.specs.Sides.{MayJoin}
-use Rattle.load_facts.specs.inner.Scan.{Scan}
-use Rattle.load_facts.proofs.ScanFacts.{rescan, gives_up, passes, joined}
+use Rattle.line_rules.specs.Sides.{part, fills, spot, task_at, changed}
+use Rattle.line_rules.specs.Sides.{MayJoin}
+use Rattle.line_rules.specs.inner.Scan.{Scan}
+use Rattle.line_rules.proofs.ScanFacts.{rescan, gives_up, passes, joined}
 
 module _ (line : Line) (c : ℕ) (mode : Mode) (R : List Bool) (s : Side) (base now : Load) (k : ℕ) (more : 0 < k)
     (low : k ≤ tasks line) (t : ℕ) (is : t ≡ task_at line s (k - 1))

@@ -6,23 +6,23 @@ use Rattle.line_instance.specs.Line.{Line, IsLine, IsRanked, IsTaskSet, tasks, h
 use Rattle.line_instance.specs.Sums.{sum_where}
 use Rattle.line_rules.specs.Loads.{IsLoad, IsFull, taken}
 use Rattle.line_rules.specs.Order.{IsNext, IsFollowing, After}
-use Rattle.load_facts.specs.Sides.{MayJoin, fills, part, nothing_yet}
+use Rattle.line_rules.specs.Sides.{MayJoin, fills, part, nothing_yet}
 use Rattle.line_rules.specs.declared.types.Mode.{Mode}
 use Rattle.line_rules.specs.declared.types.Side.{Side}
 use Rattle.line_rules.specs.declared.types.Side.TheVariants.{Front, Back}
 use Rattle.line_rules.specs.declared.types.Load.{Load}
-use Rattle.load_facts.specs.Sides.{AreSets}
-use Rattle.load_facts.proofs.SideFacts.{each_side}
-use Rattle.load_facts.proofs.JoinFacts.{full_of, full_none}
-use Rattle.load_facts.specs.inner.Scan.{Scan}
-use Rattle.load_facts.proofs.ScanFacts.{IsBase, scan_start, rescan, base_none, base_some, follows, none_follows}
-use Rattle.load_facts.proofs.ScanFacts.{none_above}
+use Rattle.line_rules.specs.Sides.{AreSets}
+use Rattle.line_rules.proofs.SideFacts.{each_side}
+use Rattle.line_rules.proofs.JoinFacts.{full_of, full_none}
+use Rattle.line_rules.specs.inner.Scan.{Scan}
+use Rattle.line_rules.proofs.ScanFacts.{IsBase, scan_start, rescan, base_none, base_some, follows, none_follows}
+use Rattle.line_rules.proofs.ScanFacts.{none_above}
 use Rattle.station_load.specs.declared.ends.End.{End}
 use Rattle.station_load.specs.declared.shorts.Shorts.{Shorts}
-use Rattle.load_facts.specs.Ends.{IsEnd}
+use Rattle.line_rules.specs.Ends.{IsEnd}
 use Rattle.station_load.specs.Shorts.{AreShort}
 use Rattle.station_load.specs.Walking.{Walking, IsWalk, end_of, last_load}
-use Rattle.load_facts.proofs.NextLoad.{same_pair}
+use Rattle.line_rules.proofs.NextLoad.{same_pair}
 
 base_of : (line : Line) (c : ℕ) (mode : Mode) (R : List Bool) (last : Option Load)
     → ((l : Load) → last ≡ Some l → IsLoad line c mode R l) → IsBase line c mode R last (last_load last)

@@ -1,6 +1,6 @@
 -- The short tasks of a set, which a walk keeps.
 use Rattle.std.specs.Prelude.{ℕ, ◌≤◌, ◌/◌, Bool, List}
-use Rattle.task_set.specs.Truths.{In}
+use Rattle.line_instance.specs.Truths.{In}
 use Rattle.line_instance.specs.Line.{Line, time}
 use Rattle.station_load.specs.declared.shorts.Shorts.{Shorts}
 

@@ -4,12 +4,12 @@ use Rattle.line_instance.specs.Line.{Line, IsTaskSet, has}
 use Rattle.line_instance.specs.Sums.{sum_where}
 use Rattle.line_rules.specs.Loads.{IsLoad, taken}
 use Rattle.line_rules.specs.Order.{After}
-use Rattle.load_facts.specs.Sides.{part, fills, nothing_yet}
+use Rattle.line_rules.specs.Sides.{part, fills, nothing_yet}
 use Rattle.line_rules.specs.declared.types.Mode.{Mode}
 use Rattle.line_rules.specs.declared.types.Side.{Side}
 use Rattle.line_rules.specs.declared.types.Side.TheVariants.{Front, Back}
 use Rattle.line_rules.specs.declared.types.Load.{Load}
-use Rattle.load_facts.specs.Ends.{IsEnd}
+use Rattle.line_rules.specs.Ends.{IsEnd}
 use Rattle.station_load.specs.Shorts.{AreShort}
 use Rattle.station_load.specs.declared.shorts.Shorts.{Shorts}
 use Rattle.station_load.specs.declared.ends.End.{End}

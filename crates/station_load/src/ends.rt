@@ -1,14 +1,13 @@
 //! One side of the load that a walk has come to, with the tasks that are ready for it.
 ghost use Rattle.std.specs.Prelude.{◌≡◌, ◌<◌, ◌⊎◌, ◌↔◌, ℕ, false, true, slice_set};
-ghost use Rattle.task_set.specs.Truths.{In};
+ghost use Rattle.line_instance.specs.Truths.{In};
 ghost use Rattle.line_instance.specs.Line.{IsTaskSet, tasks, has};
-ghost use Rattle.load_facts.specs.Sides.{Ahead, IsReady, fills};
-ghost use Rattle.load_facts.specs.Ends.{AreMarked, IsEnd};
+ghost use Rattle.line_rules.specs.Sides.{Ahead, IsReady, fills};
+ghost use Rattle.line_rules.specs.Ends.{AreMarked, IsEnd};
 
 use crate::sides::{ahead, fills, nearest, place_of, places_of, waiting};
-use line_instance::Instance;
+use line_instance::{Instance, TaskSet};
 use line_rules::{Mode, Side};
-use task_set::TaskSet;
 
 /// The tasks of a side; the tasks that are free to join it by precedence alone: in the walk's set, not at the side,
 /// with all that is ahead of them in the set at the side; and the places of both.

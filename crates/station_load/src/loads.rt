@@ -10,9 +10,8 @@ ghost use Rattle.station_load.specs.Walking.{IsWalk};
 
 use crate::places;
 use crate::steps::{self, Walk, begin};
-use line_instance::Instance;
+use line_instance::{Instance, TaskSet};
 use line_rules::{Load, Mode};
-use task_set::TaskSet;
 
 /// The first load of a set of tasks, or None where the set has none.
 ///

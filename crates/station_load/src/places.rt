@@ -9,15 +9,14 @@ ghost use Rattle.line_instance.specs.Line.{IsTaskSet, tasks};
 ghost use Rattle.line_rules.specs.Loads.{IsLoad, IsFull};
 ghost use Rattle.line_rules.specs.Order.{Precedes, IsNext, IsFollowing};
 ghost use Rattle.line_rules.specs.declared.types.Load.{Load as Pair};
-ghost use Rattle.load_facts.specs.inner.Scan.{IsPart};
-ghost use Rattle.load_facts.specs.Sides.{MayJoin, fills, spot};
-ghost use Rattle.load_facts.specs.Sides.{AreSets};
-ghost use Rattle.load_facts.specs.inner.Scan.{Scan};
+ghost use Rattle.line_rules.specs.inner.Scan.{IsPart};
+ghost use Rattle.line_rules.specs.Sides.{MayJoin, fills, spot};
+ghost use Rattle.line_rules.specs.Sides.{AreSets};
+ghost use Rattle.line_rules.specs.inner.Scan.{Scan};
 
 use crate::sides::{ahead, fills, nothing, part, put, stands, take, task_at};
-use line_instance::Instance;
+use line_instance::{Instance, TaskSet};
 use line_rules::{Load, Mode, Side};
-use task_set::TaskSet;
 
 /// Whether a task may join a side of a load, whatever the mode.
 fn may_join(inst: &Instance, cycle: u64, set: &TaskSet, load: &Load, side: Side, task: u32) -> bool

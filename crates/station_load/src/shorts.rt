@@ -9,8 +9,7 @@ ghost use Rattle.std.specs.Prelude.{ℕ, ◌/◌};
 ghost use Rattle.line_instance.specs.Line.{IsTaskSet, Line};
 ghost use Rattle.station_load.specs.Shorts.{AreShort, HasShort};
 
-use line_instance::Instance;
-use task_set::TaskSet;
+use line_instance::{Instance, TaskSet};
 
 /// Tasks of a set, among which are all that take at most a quarter of the cycle, an eighth of it, and a sixteenth.
 #[derive(Clone, Copy)]

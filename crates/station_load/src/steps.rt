@@ -10,16 +10,16 @@
 //! turns as places are given up.
 ghost use Rattle.std.specs.Prelude.{◌≡◌, ℕ, ◌<◌, ◌≤◌, ◌↔◌, ◌+◌, ◌-◌, IsTrue, IsNone, IfSome, IsSome, Some, None, true};
 ghost use Rattle.std.specs.Prelude.{false, cond};
-ghost use Rattle.task_set.specs.Truths.{meet, union};
+ghost use Rattle.line_instance.specs.Truths.{meet, union};
 ghost use Rattle.line_instance.specs.Line.{IsTaskSet, tasks, time, has};
 ghost use Rattle.line_instance.specs.Sums.{sum_where};
 ghost use Rattle.line_rules.specs.Loads.{IsLoad, IsFull, taken};
 ghost use Rattle.line_rules.specs.Order.{After, IsNext, IsFollowing};
-ghost use Rattle.load_facts.specs.Sides.{MayJoin, fills, spot, nothing_yet};
+ghost use Rattle.line_rules.specs.Sides.{MayJoin, fills, spot, nothing_yet};
 ghost use Rattle.line_rules.specs.declared.types.Load.{Load as Pair};
-ghost use Rattle.load_facts.specs.inner.Scan.{Scan};
-ghost use Rattle.load_facts.specs.Ends.{IsEnd};
-ghost use Rattle.load_facts.specs.Sides.{HasRoom, pair_at};
+ghost use Rattle.line_rules.specs.inner.Scan.{Scan};
+ghost use Rattle.line_rules.specs.Ends.{IsEnd};
+ghost use Rattle.line_rules.specs.Sides.{HasRoom, pair_at};
 ghost use Rattle.station_load.specs.Shorts.{HasShort};
 ghost use Rattle.station_load.specs.Walking.{IsWalk, last_given};
 
@@ -27,10 +27,9 @@ use crate::ends::End;
 use crate::places;
 use crate::shorts::{Shorts, count_load};
 use crate::sides::{fills, nothing, task_at};
-use line_instance::Instance;
+use line_instance::{Instance, TaskSet};
 use line_rules::{Load, Mode, Side};
 use std::marker::Model;
-use task_set::TaskSet;
 
 /// A walk over the loads of a set of tasks at a cycle in a mode, in their order.
 ///

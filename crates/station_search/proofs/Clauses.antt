@@ -3,7 +3,7 @@ use Rattle.std.proofs.Common.{◌≡◌, ℕ, ◌+◌, ◌<◌, ◌≤◌, Bool,
 use Rattle.std.proofs.Common.{subst, arith, Option, Some, refl}
 use Rattle.std.specs.Prelude.{slice_get, IsTrue, ◌↔◌}
 use Rattle.std.proofs.lemmas.Bool.{cases_lt, false≢true}
-use Rattle.task_set.specs.Truths.{IsEmpty}
+use Rattle.line_instance.specs.Truths.{IsEmpty}
 use Rattle.line_instance.specs.Line.{Line}
 use Rattle.line_rules.specs.Bounds.{bound}
 use Rattle.line_rules.specs.Entries.{HasAnswer, IsUnanswered}

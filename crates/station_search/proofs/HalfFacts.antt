@@ -2,14 +2,14 @@
 use Rattle.std.proofs.Common.{◌≡◌, ℕ, suc, ◌+◌, ◌*◌, ◌<◌, ◌≤◌, Bool, true, false, cond, nat_eq, nat_lt, List, []}
 use Rattle.std.proofs.Common.{◌∷◌, length, get_or, refl, ap, ◌∙◌, arith}
 use Rattle.std.proofs.lemmas.Bool.Decides.{nat_tests}
-use Rattle.task_set.specs.Truths.{In, IsEmpty, meet, count}
-use Rattle.task_set.proofs.Counts.{count_first}
-use Rattle.task_set.proofs.Members.{In-meet_parts}
+use Rattle.line_instance.specs.Truths.{In, IsEmpty, meet, count}
+use Rattle.line_instance.proofs.Counts.{count_first}
+use Rattle.line_instance.proofs.Members.{In-meet_parts}
 use Rattle.line_instance.specs.Line.{Line, IsTaskSet, has, time}
 use Rattle.line_instance.specs.Sums.{count_where}
 use Rattle.line_rules.specs.Bounds.{up, lm2, bound}
 use Rattle.line_rules.specs.declared.types.LineKind.{LineKind}
-use Rattle.load_facts.proofs.BoundCases.{below_bound}
+use Rattle.line_rules.proofs.BoundCases.{below_bound}
 
 -- a set has no more members than a test counts which they all pass
 counted : (test p : ℕ → Bool) (s : List Bool) (ts : List ℕ)

@@ -6,8 +6,8 @@ use Rattle.line_rules.specs.Loads.{IsLoad, taken, rest}
 use Rattle.line_rules.specs.declared.types.Load.{Load}
 use Rattle.line_rules.specs.declared.types.OpenFrame.{OpenFrame}
 use Rattle.line_rules.proofs.Paths.{rest_inside}
-use Rattle.load_facts.specs.Times.{AreTimes}
-use Rattle.load_facts.proofs.Rest.{rest_sum}
+use Rattle.line_rules.specs.Times.{AreTimes}
+use Rattle.line_rules.proofs.Rest.{rest_sum}
 use Rattle.station_load.specs.Walking.{last_load}
 use Rattle.station_search.specs.declared.listings.Listing.{Listing}
 use Rattle.station_search.specs.inner.Work.{IsBeside}

@@ -6,10 +6,10 @@ use Rattle.std.specs.List.{count_by}
 use Rattle.std.proofs.lemmas.List.Sums.{sum_by-cons, count_by-le-length}
 use Rattle.std.proofs.lemmas.Bool.{cases_Bool, false≢true}
 use Rattle.std.proofs.lemmas.Bool.Decides.{nat_tests}
-use Rattle.task_set.specs.Truths.{In, IsEmpty, meet, members_from, members_of}
-use Rattle.task_set.proofs.Members.{In-meet, In-meet_parts}
-use Rattle.task_set.proofs.ListedMembers.{count_listed}
-use Rattle.load_facts.proofs.SumsOverMembers.{AllIn, all_in}
+use Rattle.line_instance.specs.Truths.{In, IsEmpty, meet, members_from, members_of}
+use Rattle.line_instance.proofs.Members.{In-meet, In-meet_parts}
+use Rattle.line_instance.proofs.ListedMembers.{count_listed}
+use Rattle.line_rules.proofs.SumsOverMembers.{AllIn, all_in}
 use Rattle.line_instance.specs.Line.{Line}
 use Rattle.line_rules.specs.declared.types.LineKind.{LineKind}
 use Rattle.line_rules.specs.declared.types.LineKind.TheVariants.{Straight, U}

@@ -3,8 +3,8 @@ use Rattle.std.proofs.Common.{◌≡◌, ℕ, zero, suc, Bool, true, false, List
 use Rattle.std.proofs.Common.{Some, Option}
 use Rattle.std.specs.Prelude.{slice_get, slice_set}
 use Rattle.std.proofs.lemmas.Option.{slice_get_within}
-use Rattle.task_set.specs.Truths.{In}
-use Rattle.task_set.proofs.Members.{In-set_cases, In-clear_gone}
+use Rattle.line_instance.specs.Truths.{In}
+use Rattle.line_instance.proofs.Members.{In-set_cases, In-clear_gone}
 use Rattle.line_instance.specs.Line.{Line, has}
 use Rattle.line_instance.specs.Walks.{at}
 use Rattle.line_instance.specs.Partners.{IsPartner, IsKeptAt}

@@ -2,7 +2,7 @@
 use Rattle.std.proofs.Common.{◌≡◌, ℕ, ◌-◌, ◌<◌, ◌≤◌, List, [], ◌∷◌, ◌++◌, length, refl, sym, ap, ◌∙◌, subst, inl, inr}
 use Rattle.std.proofs.Common.{arith, Option, Some, None, Bool}
 use Rattle.std.specs.Prelude.{slice_get}
-use Rattle.task_set.specs.Truths.{In, IsSubset}
+use Rattle.line_instance.specs.Truths.{In, IsSubset}
 use Rattle.line_instance.specs.Line.{Line, IsRanked, IsTaskSet}
 use Rattle.line_rules.specs.Loads.{IsLoad, Belongs, taken, rest}
 use Rattle.line_rules.specs.Bounds.{bound}
@@ -21,7 +21,7 @@ use Rattle.line_rules.proofs.Paths.{leads_longer, deep_longer, rest_inside}
 use Rattle.station_search.specs.Mode.{frame_mode}
 use Rattle.station_search.specs.Decide.{IsAnswered}
 use Rattle.station_search.specs.inner.Work.{branch_of, with_last, with_cites}
-use Rattle.task_set.proofs.Bits.{length-minus}
+use Rattle.line_instance.proofs.Bits.{length-minus}
 
 -- of a frame that waits for the one below it: its set is one of tasks, it has the mode of its set, and the bound leaves
 -- the rest of its last load open

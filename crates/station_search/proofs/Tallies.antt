@@ -2,7 +2,7 @@
 use Rattle.std.proofs.Common.{◌≡◌, ℕ, zero, suc, ◌+◌, ◌-◌, ◌≤◌, Bool, true, List, [], ◌∷◌, ◌++◌, length, refl, sym, ap}
 use Rattle.std.proofs.Common.{◌∙◌, subst, inl, inr, arith, Option, Some, None, length-append}
 use Rattle.std.specs.Prelude.{slice_get}
-use Rattle.task_set.specs.Truths.{In}
+use Rattle.line_instance.specs.Truths.{In}
 use Rattle.line_instance.specs.Line.{Line, IsRanked}
 use Rattle.line_rules.specs.Loads.{IsLoad, taken, rest}
 use Rattle.line_rules.specs.Order.{UpTo, After, IsFollowing, Counts}

@@ -3,8 +3,8 @@ use Rattle.std.proofs.Common.{◌≡◌, ℕ, zero, suc, ◌+◌, ◌<◌, ◌�
 use Rattle.std.proofs.Common.{sym, ap, ◌∙◌, subst, inl, inr, arith, Some}
 use Rattle.std.specs.Prelude.{slice_get, IsTrue, ◌↔◌}
 use Rattle.std.proofs.lemmas.Bool.{cases_lt, cases_eq, false≢true}
-use Rattle.task_set.specs.Truths.{In}
-use Rattle.task_set.proofs.Members.{In-union_left, In-union_right, In-union_cases}
+use Rattle.line_instance.specs.Truths.{In}
+use Rattle.line_instance.proofs.Members.{In-union_left, In-union_right, In-union_cases}
 use Rattle.line_instance.specs.Line.{Line, tasks, has}
 use Rattle.line_rules.specs.Balance.{IsRight, IsSide, all_tasks, seat}
 use Rattle.line_rules.specs.Loads.{taken}

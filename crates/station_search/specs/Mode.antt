@@ -1,7 +1,7 @@
 -- The end from which the stations of a set of tasks are filled.
 use Rattle.std.specs.Prelude.{ℕ, Bool, cond, nat_eq, nat_le, List, Option, Some, None}
 use Rattle.std.specs.List.{count_by}
-use Rattle.task_set.specs.Truths.{members_of}
+use Rattle.line_instance.specs.Truths.{members_of}
 use Rattle.line_instance.specs.Line.{Line, is_before}
 use Rattle.line_rules.specs.declared.types.LineKind.{LineKind}
 use Rattle.line_rules.specs.declared.types.LineKind.TheVariants.{Straight, U}

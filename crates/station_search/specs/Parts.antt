@@ -1,6 +1,6 @@
 -- Loads that part all tasks, and the places that they give them.
 use Rattle.std.specs.Prelude.{◌≡◌, ℕ, suc, List, slice_get, Some}
-use Rattle.task_set.specs.Truths.{In}
+use Rattle.line_instance.specs.Truths.{In}
 use Rattle.line_instance.specs.Line.{Line}
 use Rattle.line_rules.specs.Balance.{all_tasks}
 use Rattle.line_rules.specs.Loads.{taken}

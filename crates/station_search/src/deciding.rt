@@ -12,11 +12,10 @@ ghost use Rattle.station_search.specs.Costs.{HasPublished, Costs, CostsAlone, Fe
 use crate::answers::{Decided, Reason, Units};
 use crate::searching::search;
 use lemma_core::{Desk, Looked};
-use line_instance::Instance;
+use line_instance::{Instance, TaskSet};
 use line_rules::{Frames, LineKind, Loads, Mode};
 use lower_bounds::exceeds;
 use std::alloc::Global;
-use task_set::TaskSet;
 
 /// Whether a set of tasks has a balance in `most` stations on a line of this kind at this cycle: by the bound, by an
 /// entry that the desk has seen, or by a search that lists the loads of the end station and publishes what it refutes.

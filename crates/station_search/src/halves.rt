@@ -4,11 +4,10 @@
 //! They are sought once for the set of a frame, in one pass. How many of them a load leaves is a meet of words and a
 //! count, so where cycles are tight most loads are closed by that, before it is asked whether they are full.
 ghost use Rattle.std.specs.Prelude.{ℕ, ◌*◌, ◌<◌};
-ghost use Rattle.task_set.specs.Truths.{In};
+ghost use Rattle.line_instance.specs.Truths.{In};
 ghost use Rattle.line_instance.specs.Line.{IsTaskSet, time};
 
-use line_instance::Instance;
-use task_set::TaskSet;
+use line_instance::{Instance, TaskSet};
 
 /// The tasks of a set that take more than half a cycle.
 pub fn halves_of(inst: &Instance, cycle: u64, set: &TaskSet) -> TaskSet

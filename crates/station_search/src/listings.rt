@@ -8,16 +8,15 @@ ghost use Rattle.line_instance.specs.Line.{IsTaskSet};
 ghost use Rattle.line_rules.specs.Loads.{IsLoad, rest};
 ghost use Rattle.line_rules.specs.Order.{After, IsFollowing};
 ghost use Rattle.line_rules.specs.declared.types.Load.{Load as Pair};
-ghost use Rattle.load_facts.specs.Times.{AreTimes};
+ghost use Rattle.line_rules.specs.Times.{AreTimes};
 ghost use Rattle.station_search.specs.inner.Work.{IsBeside, with_last};
 
 use crate::halves::halves_of;
-use line_instance::Instance;
+use line_instance::{Instance, TaskSet};
 use line_rules::{Load, OpenFrame};
 use lower_bounds::{Times, times_in};
 use station_load::Walk;
 use station_load::steps::begin;
-use task_set::TaskSet;
 
 /// A walk over the loads of a set, the times of the set, and its tasks over half a cycle.
 #[derive(Drop)]

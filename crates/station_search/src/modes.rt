@@ -6,9 +6,8 @@ ghost use Rattle.line_instance.specs.Line.{IsTaskSet, tasks};
 ghost use Rattle.line_rules.specs.Loads.{Belongs};
 ghost use Rattle.station_search.specs.Mode.{mode_of, frame_mode, is_source, is_sink};
 
-use line_instance::Instance;
+use line_instance::{Instance, TaskSet};
 use line_rules::{LineKind, Mode};
-use task_set::TaskSet;
 
 // Whether no member of the set is before the task.
 #[inline]

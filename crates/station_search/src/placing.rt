@@ -3,7 +3,7 @@
 //! A task stands at the first load that has it, so a balance takes as many steps as there are tasks and loads before
 //! theirs.
 ghost use Rattle.std.specs.Prelude.{◌≡◌, ℕ, ◌+◌, ◌<◌, ◌≤◌, ◌↔◌, IsTrue, length, IfOk};
-ghost use Rattle.task_set.specs.Truths.{In};
+ghost use Rattle.line_instance.specs.Truths.{In};
 ghost use Rattle.line_instance.specs.Line.{tasks};
 ghost use Rattle.line_rules.specs.Balance.{IsRight, all_tasks, seat};
 ghost use Rattle.line_rules.specs.Loads.{taken};

@@ -4,7 +4,7 @@
 //! a load that nothing refutes is the question of a frame below. A frame whose loads ended is refuted, and published.
 ghost use Rattle.std.specs.Prelude.{◌≡◌, ℕ, ◌+◌, ◌-◌, ◌^◌, ◌<◌, ◌≤◌, true, List, [], ◌∷◌, ◌++◌};
 ghost use Rattle.std.specs.Prelude.{Option, IfOk, OnOk, OnErr, IfSome, None};
-ghost use Rattle.task_set.specs.Truths.{In};
+ghost use Rattle.line_instance.specs.Truths.{In};
 ghost use Rattle.line_instance.specs.Line.{Line, IsTaskSet};
 ghost use Rattle.line_rules.specs.Bounds.{bound};
 ghost use Rattle.line_rules.specs.Loads.{IsLoad, Belongs};
@@ -26,10 +26,9 @@ use crate::ordering::loads_in_order;
 use crate::sorting::{Sorted, sort_load};
 use crate::stacks::{pop_from, push_on, stack_with_room, take_from, trail_to};
 use lemma_core::{Desk, Published};
-use line_instance::Instance;
+use line_instance::{Instance, TaskSet};
 use line_rules::{Cites, Entry, LineKind, Mode, OpenFrame, Why};
 use std::alloc::{AllocError, Global};
-use task_set::TaskSet;
 
 // Publishes a frame whose loads ended as a Branch entry, and gives the number of an entry that answers it.
 fn publish_branch<D: Desk>(desk: &mut D, cycle: u64, frame: OpenFrame) -> Result<u64, AllocError>

@@ -11,11 +11,10 @@ ghost use Rattle.station_search.specs.inner.Work.{IsBeside, Sorts, DoesFor, may_
 use crate::listings::{Listing, is_longer, rest_times};
 use crate::swaps::publish_swap;
 use lemma_core::{Desk, Looked};
-use line_instance::Instance;
+use line_instance::{Instance, TaskSet};
 use line_rules::{LineKind, Load, OpenFrame};
 use lower_bounds::exceeds_with;
 use std::alloc::AllocError;
-use task_set::TaskSet;
 
 /// What a search does with a load.
 pub enum Sorted {

@@ -3,7 +3,7 @@
 //!
 //! At most 32 looks are made for a rest, with the kept partners of its tasks.
 ghost use Rattle.std.specs.Prelude.{◌≡◌, ◌<◌, ◌≤◌, true, Option, IsNone, IfSome, IfOk, OnErr};
-ghost use Rattle.task_set.specs.Truths.{In};
+ghost use Rattle.line_instance.specs.Truths.{In};
 ghost use Rattle.line_instance.specs.Line.{IsTaskSet};
 ghost use Rattle.line_rules.specs.Entries.{IsUnanswered, FollowsBySwap};
 ghost use Rattle.line_rules.specs.Ranges.{IsCycle};
@@ -13,10 +13,9 @@ ghost use Rattle.station_search.specs.Decide.{IsFor, IsAnswered};
 ghost use Rattle.station_search.specs.inner.Work.{DoesFor, may_swap, swap_of};
 
 use lemma_core::{Desk, Looked, Published};
-use line_instance::Instance;
+use line_instance::{Instance, TaskSet};
 use line_rules::{Entry, LineKind, Why};
 use std::alloc::AllocError;
-use task_set::TaskSet;
 
 /// The most looks that are made for one rest.
 const MAX_LOOKS: u32 = 32;

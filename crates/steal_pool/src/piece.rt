@@ -1,5 +1,5 @@
 //! A piece of work.
-use task_set::TaskSet;
+use line_instance::TaskSet;
 
 /// A piece of work: a question of a set of tasks, at a depth, with so many stations at most.
 #[derive(Drop)]

@@ -7,9 +7,9 @@ use crate::deque::MOST_PIECES;
 use crate::hand::Hand;
 use crate::piece::Piece;
 use crate::port::{Deque, Home, Port};
+use line_instance::TaskSet;
 use std::marker::Model;
 use std::sync::Wait;
-use task_set::TaskSet;
 
 /// A pool of pieces of work. Contracts see which deques it has, in the order of the hands that own them.
 #[derive(Drop)]

@@ -3,12 +3,12 @@ ghost use Rattle.std.specs.Prelude.{◌≡◌, ◌<◌, ◌≤◌, length, IfOk}
 ghost use Rattle.steal_pool.specs.Hands.{AreNumbered, AreHandsOf, IsHandOf};
 
 use crate::{Closed, Hand, Hands, Opened, Piece, Pool, PutBack, Took, open_pool};
+use line_instance::TaskSet;
 use std::alloc::Global;
 use std::sync::Wait;
 use std::sync::atomic::{AtomicU64, Ordering};
 use std::test::*;
 use std::thread::{self, Threads};
-use task_set::TaskSet;
 
 /// How many hands work in threads.
 const HANDS: u32 = 64;

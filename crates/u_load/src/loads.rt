@@ -8,11 +8,10 @@ ghost use Rattle.line_rules.specs.declared.types.LineKind.TheVariants.{U};
 ghost use Rattle.line_rules.specs.declared.types.Load.{Load as Pair};
 ghost use Rattle.station_load.specs.Walking.{IsWalk};
 
-use line_instance::Instance;
+use line_instance::{Instance, TaskSet};
 use line_rules::{Load, Mode};
 use station_load::places;
 use station_load::steps::{self, Walk, begin};
-use task_set::TaskSet;
 
 /// The first load of a set of tasks, or None where the set has none.
 ///

@@ -2,7 +2,7 @@
 use Rattle.std.proofs.Common.{◌≡◌, ℕ, zero, suc, Bool, List, [], ◌∷◌, length, refl, sym, ap, ◌∙◌, subst, arith, Option}
 use Rattle.std.proofs.Common.{Some, None}
 use Rattle.std.specs.Prelude.{slice_get, IfSome}
-use Rattle.task_set.specs.Truths.{In, IsSubset}
+use Rattle.line_instance.specs.Truths.{In, IsSubset}
 use Rattle.line_instance.specs.Line.{Line}
 use Rattle.line_rules.specs.Entries.{Cites, Covers, FollowsBy, FollowsBySwap, IsOpen}
 use Rattle.line_rules.specs.Units.{UnitsBy}

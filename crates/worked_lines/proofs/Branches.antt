@@ -1,7 +1,7 @@
 -- An entry by Branch follows where its open loads, by computing, are these, and its cites cover them.
 use Rattle.std.proofs.Common.{◌≡◌, ℕ, zero, suc, ◌-◌, ◌≤◌, Bool, List, [], ◌∷◌, length, refl, ap, subst, Some}
 use Rattle.std.specs.Prelude.{slice_get}
-use Rattle.task_set.specs.Truths.{In}
+use Rattle.line_instance.specs.Truths.{In}
 use Rattle.line_instance.specs.Line.{Line, IsRanked, IsTaskSet, tasks}
 use Rattle.std.proofs.lemmas.Option.{same_Some}
 use Rattle.line_rules.specs.Loads.{Belongs, rest}

@@ -1,6 +1,6 @@
 -- The worked row, by computing.
 use Rattle.std.proofs.Common.{refl}
-use Rattle.task_set.specs.Truths.{full_to}
+use Rattle.line_instance.specs.Truths.{full_to}
 use Rattle.worked_lines.specs.Events.{EventsOfTheRows}
 
 pub events_of_the_rows : EventsOfTheRows

@@ -4,7 +4,7 @@ use Rattle.std.proofs.Common.{subst, inl, inr, Some, arith}
 use Rattle.std.specs.Prelude.{slice_get, slice_index_or}
 use Rattle.std.proofs.lemmas.Bool.{cases_lt, cases_Bool, and_parts}
 use Rattle.std.proofs.lemmas.Bool.Decides.{nat_tests}
-use Rattle.task_set.specs.Truths.{In, full_to}
+use Rattle.line_instance.specs.Truths.{In, full_to}
 use Rattle.line_instance.specs.Line.{IsRanked, IsTaskSet, tasks, has}
 use Rattle.line_instance.proofs.Sums.{weigh-none}
 use Rattle.line_rules.specs.Balance.{IsRight, all_tasks, seat, time_at}

@@ -3,9 +3,9 @@ use Rattle.std.proofs.Common.{◌≡◌, ℕ, zero, suc, ◌<◌, ◌≤◌, Lis
 use Rattle.std.specs.Prelude.{slice_index_or}
 use Rattle.std.proofs.lemmas.Bool.{false≢true}
 use Rattle.std.proofs.lemmas.List.FromFn.{get_or-range_with_len, length-range_with_len}
-use Rattle.task_set.specs.Truths.{In, full_to}
-use Rattle.task_set.proofs.Members.{In-full_to_below}
-use Rattle.task_set.proofs.Fills.{length-full_to}
+use Rattle.line_instance.specs.Truths.{In, full_to}
+use Rattle.line_instance.proofs.Members.{In-full_to_below}
+use Rattle.line_instance.proofs.Fills.{length-full_to}
 use Rattle.line_instance.specs.Line.{IsLine, IsRanked, at_rank}
 use Rattle.worked_lines.specs.Rows.{free}
 

@@ -3,7 +3,7 @@ use Rattle.std.proofs.Common.{◌≡◌, ℕ, ◌≤◌, Bool, true, false, List
 use Rattle.std.proofs.Common.{arith}
 use Rattle.std.specs.Prelude.{slice_get}
 use Rattle.std.proofs.lemmas.Bool.{false≢true}
-use Rattle.task_set.specs.Truths.{In, full_to, IsSubset}
+use Rattle.line_instance.specs.Truths.{In, full_to, IsSubset}
 use Rattle.line_instance.specs.Line.{IsRanked, IsTaskSet, tasks, has}
 use Rattle.std.proofs.lemmas.Option.{same_Some}
 use Rattle.line_rules.specs.Balance.{all_tasks}

@@ -1,6 +1,6 @@
 -- The worked rows, by computing.
 use Rattle.std.proofs.Common.{refl}
-use Rattle.task_set.specs.Truths.{full_to}
+use Rattle.line_instance.specs.Truths.{full_to}
 use Rattle.line_rules.specs.Bounds.{bound, lm1, lm2, lm3, sixths, head, tail, chained}
 use Rattle.worked_lines.specs.Rows.{BoundsOfTheRows}
 

@@ -8,13 +8,12 @@ ghost use Rattle.book_share.specs.Calls.{IsPassOf};
 use super::{balance, free_tasks, publish, shared};
 use crate::{Pass, Share};
 use lemma_core::{Book, LogItem, Looked, Published};
-use line_instance::Instance;
+use line_instance::{Instance, TaskSet};
 use line_rules::Balance;
 use std::alloc::{AllocError, Global};
 use std::sync::Wait;
 use std::test::Fail;
 use std::thread::{Threads, join};
-use task_set::TaskSet;
 
 /// How many calls each thread makes.
 const CALLS: u32 = 24;

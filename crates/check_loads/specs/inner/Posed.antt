@@ -2,7 +2,7 @@
 use Rattle.std.specs.Prelude.{◌≡◌, ◌-◌, ◌*◌}
 use Rattle.line_instance.specs.Line.{Line, IsTaskSet}
 use Rattle.line_rules.specs.Ranges.{IsCycle}
-use Rattle.load_facts.specs.Times.{AreTimes}
+use Rattle.line_rules.specs.Times.{AreTimes}
 use Rattle.check_loads.specs.declared.questions.Question.{Question}
 
 -- a set of tasks and a cycle, with the times of the set and the time of all its stations but one

@@ -13,7 +13,7 @@ use Rattle.line_rules.specs.declared.types.OpenFrame.{OpenFrame}
 use Rattle.line_rules.specs.declared.types.Balance.{Balance as Assignment}
 use Rattle.line_rules.specs.declared.types.Trail.{Trail}
 use Rattle.line_rules.specs.declared.types.Why.TheVariants as why
-use Rattle.load_facts.specs.Times.{longest_of}
+use Rattle.line_rules.specs.Times.{longest_of}
 use Rattle.lemma_core.specs.Books.{BookView, IsReserved}
 use Rattle.round_run.specs.declared.closing.Verdict.{Verdict}
 use Rattle.round_run.specs.declared.plans.Plan.{Plan}

@@ -1,6 +1,6 @@
 -- A line that is being filled, and what may join it.
 use Rattle.std.specs.Prelude.{ℕ, ◌+◌, ◌-◌, ◌<◌, ◌≤◌, Bool, true, false, List, slice_set, replicate}
-use Rattle.task_set.specs.Truths.{In}
+use Rattle.line_instance.specs.Truths.{In}
 use Rattle.line_instance.specs.Line.{Line, Before, Apart, tasks, time}
 use Rattle.line_rules.specs.Balance.{IsSide}
 use Rattle.line_rules.specs.declared.types.LineKind.{LineKind}

@@ -1,6 +1,6 @@
 -- When a task of a pair of sets has what a load asks of it.
 use Rattle.std.specs.Prelude.{◌≡◌, ℕ, Bool, true, List}
-use Rattle.task_set.specs.Truths.{In}
+use Rattle.line_instance.specs.Truths.{In}
 use Rattle.line_instance.specs.Line.{Line, has, Before, Apart}
 use Rattle.line_rules.specs.declared.types.Load.{Load}
 

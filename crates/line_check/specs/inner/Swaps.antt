@@ -1,6 +1,6 @@
 -- The conditions of a Swap on the entry that is cited.
 use Rattle.std.specs.Prelude.{◌≡◌, ℕ, ◌<◌, ◌≤◌, Bool, true, false, List, slice_set}
-use Rattle.task_set.specs.Truths.{In}
+use Rattle.line_instance.specs.Truths.{In}
 use Rattle.line_instance.specs.Line.{Line, tasks, time, has, Before, Apart}
 use Rattle.line_rules.specs.declared.types.Entry.{Entry}
 

@@ -1,7 +1,7 @@
 -- What the steps of making an instance say of rows of sets.
 use Rattle.std.specs.Prelude.{◌≡◌, ℕ, ◌+◌, ◌<◌, ◌≤◌, ◌⊎◌, ◌↔◌, Bool, false, List, [], length, slice_index_or, slice_get}
 use Rattle.std.specs.Prelude.{Some, take}
-use Rattle.task_set.specs.Truths.{In, IsSubset}
+use Rattle.line_instance.specs.Truths.{In, IsSubset}
 use Rattle.line_instance.specs.Line.{Line, IsLine, IsRanked, tasks}
 use Rattle.line_instance.specs.Walks.{Leads, IsGiven, at}
 use Rattle.line_instance.specs.Partners.{AreKept}

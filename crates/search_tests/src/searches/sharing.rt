@@ -9,12 +9,11 @@ ghost use Rattle.search_tests.specs.inner.Shared.{part_of};
 
 use super::{CYCLE, answer_text, book_of, entries_text, five, seven, six};
 use lemma_core::{Book, Desk, Looked, Offered, Published};
-use line_instance::Instance;
+use line_instance::{Instance, TaskSet};
 use line_rules::{Balance, Entry, LineKind};
 use station_search::{Units, decide};
 use std::alloc::{AllocError, Global};
 use std::test::Fail;
-use task_set::TaskSet;
 
 /// A question of another caller: whether a set has a balance in `most` stations.
 #[derive(Drop)]

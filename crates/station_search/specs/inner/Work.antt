@@ -1,7 +1,7 @@
 -- What the steps of a search do: how a load is sorted, what is published, and what a walk stands for.
 use Rattle.std.specs.Prelude.{◌≡◌, ℕ, ◌+◌, ◌-◌, ◌*◌, ◌<◌, ◌≤◌, Bool, true, List, [], ◌∷◌, ◌++◌, length, Option, Some}
 use Rattle.std.specs.Prelude.{None}
-use Rattle.task_set.specs.Truths.{In, IsEmpty}
+use Rattle.line_instance.specs.Truths.{In, IsEmpty}
 use Rattle.line_instance.specs.Line.{Line, time}
 use Rattle.line_rules.specs.Loads.{rest}
 use Rattle.line_rules.specs.Entries.{IsOpen, Cites, IsUnanswered}
@@ -15,7 +15,7 @@ use Rattle.line_rules.specs.declared.types.OpenFrame.{OpenFrame}
 use Rattle.lemma_core.specs.History.{Item, added, known, better}
 use Rattle.lemma_core.specs.Desks.{DeskView, entries}
 use Rattle.lemma_core.specs.Own.{Did, ArePublish, added_of}
-use Rattle.load_facts.specs.Times.{AreTimes}
+use Rattle.line_rules.specs.Times.{AreTimes}
 use Rattle.station_load.specs.Walking.{IsWalk}
 use Rattle.station_search.specs.Costs.{AreLemmas, PayAll, AreUnanswered}
 use Rattle.station_search.specs.declared.answers.Decided.{Decided}

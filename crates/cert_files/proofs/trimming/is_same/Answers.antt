@@ -1,5 +1,5 @@
 use Rattle.std.proofs.Common.{◌∙◌, sym}
-use Rattle.task_set.specs.inner.Words.{equal_sets}
+use Rattle.line_instance.specs.inner.Words.{equal_sets}
 use Rattle.cert_files.proofs.trimming.is_same.Goals as goal
 
 pub returns : goal.returns

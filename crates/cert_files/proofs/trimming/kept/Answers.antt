@@ -1,5 +1,5 @@
 use Rattle.std.proofs.Common.{◌+◌, ◌++◌, ◌∷◌, [], List, ℕ, length, arith, ◌∙◌, sym, ap, subst, length-append}
-use Rattle.task_set.specs.Truths.{members_of}
+use Rattle.line_instance.specs.Truths.{members_of}
 use Rattle.line_rules.specs.declared.types.Entry.{Entry}
 use Rattle.cert_files.specs.Trim.{AreKeptEntries, entry_at}
 use Rattle.cert_files.proofs.KeptPlaces.{IsPlacing, placed, passed_over, all_placed}

@@ -1,6 +1,6 @@
 use Rattle.std.proofs.Common.{◌-◌, ◌∙◌, List, Bool, false, ap, sym, subst, length, replicate, arith}
 use Rattle.std.proofs.lemmas.Option.{slice_get_within}
-use Rattle.task_set.specs.Truths.{In}
+use Rattle.line_instance.specs.Truths.{In}
 use Rattle.cert_files.specs.Trim.{cited_by, AreMarked}
 use Rattle.cert_files.proofs.MarkFacts.{IsPassed, pass_begins, pass_marks, pass_ends, come_back, is_in}
 use Rattle.cert_files.proofs.trimming.marks_of.Goals as goal

@@ -1,6 +1,6 @@
 use Rattle.std.proofs.Common.{List, Bool, sym, subst}
 use Rattle.std.proofs.lemmas.Option.{slice_get_within}
-use Rattle.task_set.specs.Truths.{full_to, members_of}
+use Rattle.line_instance.specs.Truths.{full_to, members_of}
 use Rattle.cert_files.specs.Trim.{IsFirstAnswer, AreClosed, AreKeptEntries}
 use Rattle.cert_files.proofs.MarkFacts.{marks_closed}
 use Rattle.cert_files.proofs.TrimFacts.{of_value, trimmed_by, derived_of, fresh_of, answer_of, units_of, entries_of}

@@ -1,5 +1,5 @@
 use Rattle.std.proofs.Common.{arith}
-use Rattle.load_facts.proofs.BoundCases.{most_bound}
+use Rattle.line_rules.proofs.BoundCases.{most_bound}
 use Rattle.check_loads.proofs.bounds.bound.Goals as goal
 
 pub overflow_add-least : goal.overflow_add-least

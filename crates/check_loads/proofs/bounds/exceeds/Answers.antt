@@ -1,6 +1,6 @@
 use Rattle.std.proofs.Common.{inl, inr, arith}
-use Rattle.load_facts.proofs.BoundCases.{not_exceeded, none_is_exceeded, time_exceeds, long_exceeds, counts_exceed}
-use Rattle.load_facts.proofs.BoundCases.{chains_decide}
+use Rattle.line_rules.proofs.BoundCases.{not_exceeded, none_is_exceeded, time_exceeds, long_exceeds, counts_exceed}
+use Rattle.line_rules.proofs.BoundCases.{chains_decide}
 use Rattle.check_loads.proofs.bounds.exceeds.Goals as goal
 use Rattle.check_loads.proofs.bounds.exceeds.Goals.{then-is_empty-via-then-is_empty}
 use Rattle.check_loads.proofs.bounds.exceeds.Goals.{then-is_empty-via-else-is_empty+then-most-ge-TOO_LONG}

@@ -1,5 +1,5 @@
 use Rattle.std.proofs.Common.{◌+◌, arith}
-use Rattle.load_facts.proofs.HeadTail.{met_set, chain_is}
+use Rattle.line_rules.proofs.HeadTail.{met_set, chain_is}
 use Rattle.check_loads.proofs.chains.chain.Goals as goal
 
 pub sum-requires : goal.sum-requires

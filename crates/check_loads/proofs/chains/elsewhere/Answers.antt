@@ -1,4 +1,4 @@
-use Rattle.load_facts.proofs.HeadTail.{elsewhere_set, elsewhere_sum}
+use Rattle.line_rules.proofs.HeadTail.{elsewhere_set, elsewhere_sum}
 use Rattle.check_loads.proofs.chains.elsewhere.Goals as goal
 
 pub returns-clause-set : goal.returns-clause-set

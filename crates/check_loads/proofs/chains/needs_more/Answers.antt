@@ -1,5 +1,5 @@
 use Rattle.std.proofs.Common.{arith}
-use Rattle.load_facts.proofs.HeadTail.{few_beside}
+use Rattle.line_rules.proofs.HeadTail.{few_beside}
 use Rattle.check_loads.proofs.chains.needs_more.Goals as goal
 
 pub returns-then-most-enough : goal.returns-then-most-enough

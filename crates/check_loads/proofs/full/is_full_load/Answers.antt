@@ -1,6 +1,6 @@
 use Rattle.std.proofs.Common.{refl}
 use Rattle.line_rules.specs.declared.types.Side.TheVariants.{Front, Back}
-use Rattle.load_facts.proofs.JoinTests.{is_full, not_full}
+use Rattle.line_rules.proofs.JoinTests.{is_full, not_full}
 use Rattle.check_loads.proofs.full.is_full_load.Goals as goal
 
 pub returns-then-may_grow : goal.returns-then-may_grow

@@ -1,6 +1,6 @@
 use Rattle.std.proofs.Common.{◌∙◌, sym, arith}
 use Rattle.std.proofs.lemmas.Bool.{false≢true}
-use Rattle.load_facts.proofs.JoinTests.{taken_tasks, may_by_tests, parted_is_empty, ahead_is_there}
+use Rattle.line_rules.proofs.JoinTests.{taken_tasks, may_by_tests, parted_is_empty, ahead_is_there}
 use Rattle.check_loads.proofs.full.may_join.Goals as goal
 
 pub sum-requires : goal.sum-requires

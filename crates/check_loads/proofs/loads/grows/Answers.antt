@@ -1,6 +1,6 @@
 use Rattle.std.proofs.Common.{◌∙◌, sym, refl, arith}
 use Rattle.std.proofs.lemmas.Bool.{false≢true}
-use Rattle.load_facts.proofs.JoinTests.{none_start, none_turn, none_end, free_where_may, may_where_room, room_where_may}
+use Rattle.line_rules.proofs.JoinTests.{none_start, none_turn, none_end, free_where_may, may_where_room, room_where_may}
 use Rattle.check_loads.proofs.loads.grows.Goals as goal
 use Rattle.check_loads.proofs.loads.grows.Goals.{else-not-has-via-then-not-has+else-fits, else-not-has-via-else-not-has}
 

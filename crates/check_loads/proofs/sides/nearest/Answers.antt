@@ -1,5 +1,5 @@
 use Rattle.std.proofs.Common.{arith}
-use Rattle.task_set.proofs.Members.{In-below}
+use Rattle.line_instance.proofs.Members.{In-below}
 use Rattle.check_loads.proofs.sides.nearest.Goals as goal
 
 pub returns-in-Back-clause-none : goal.returns-in-Back-clause-none

@@ -1,4 +1,4 @@
-use Rattle.load_facts.proofs.SizeClasses.{Counting}
+use Rattle.line_rules.proofs.SizeClasses.{Counting}
 use Rattle.check_loads.proofs.sizes.counts_of.Given as goal
 
 abbrev pub invariant-loop-i : goal.invariant-loop-i

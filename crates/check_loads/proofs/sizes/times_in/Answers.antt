@@ -1,6 +1,6 @@
 use Rattle.std.proofs.Common.{arith}
-use Rattle.load_facts.proofs.SumsOverMembers.{weight_start, all_in_start}
-use Rattle.load_facts.proofs.SizeClasses.{longest_start, next_fits, times_end}
+use Rattle.line_rules.proofs.SumsOverMembers.{weight_start, all_in_start}
+use Rattle.line_rules.proofs.SizeClasses.{longest_start, next_fits, times_end}
 use Rattle.check_loads.proofs.sizes.times_in.Goals as goal
 
 pub loop-i-init : goal.loop-i-init

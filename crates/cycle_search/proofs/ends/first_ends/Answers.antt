@@ -4,8 +4,8 @@ use Rattle.line_instance.specs.Line.{has}
 use Rattle.line_instance.specs.Sums.{sum_where}
 use Rattle.line_rules.specs.Balance.{all_tasks}
 use Rattle.line_rules.specs.Bounds.{total_time, up}
-use Rattle.load_facts.specs.Times.{longest_of}
-use Rattle.load_facts.proofs.HeadTail.{up_ceil}
+use Rattle.line_rules.specs.Times.{longest_of}
+use Rattle.line_rules.proofs.HeadTail.{up_ceil}
 use Rattle.cycle_search.proofs.ends.first_ends.Goals as goal
 
 pub returns-clause-lower : goal.returns-clause-lower

@@ -1,5 +1,5 @@
 use Rattle.std.proofs.Common.{◌-◌, ◌∙◌, sym, arith}
-use Rattle.task_set.specs.inner.Words.{equal_sets}
+use Rattle.line_instance.specs.inner.Words.{equal_sets}
 use Rattle.effic_search.proofs.counting.ends_with_all.Goals as goal
 
 pub returns : goal.returns

@@ -5,7 +5,7 @@ use Rattle.std.proofs.lemmas.Option.{same_Some, slice_get_within}
 use Rattle.line_rules.specs.Balance.{all_tasks}
 use Rattle.line_rules.specs.Entries.{HasAnswer}
 use Rattle.line_rules.specs.declared.types.Entry.{Entry}
-use Rattle.task_set.specs.inner.Words.{equal_sets}
+use Rattle.line_instance.specs.inner.Words.{equal_sets}
 use Rattle.effic_search.proofs.counting.greatest_refuted.Goals as goal
 use Rattle.effic_search.proofs.counting.greatest_refuted.Goals.{then-eq, else-eq}
 

@@ -3,7 +3,7 @@ use Rattle.std.specs.Prelude.{slice_get}
 use Rattle.std.proofs.lemmas.Bool.{cases_eq, false≢true}
 use Rattle.std.proofs.lemmas.Option.{same_Some, slice_get_within}
 use Rattle.line_rules.specs.declared.types.Entry.{Entry}
-use Rattle.task_set.specs.inner.Words.{equal_sets}
+use Rattle.line_instance.specs.inner.Words.{equal_sets}
 use Rattle.effic_search.proofs.counting.has_all_from.Goals as goal
 
 pub loop-k-preserved : goal.loop-k-preserved

@@ -1,6 +1,6 @@
 use Rattle.std.proofs.Common.{◌∙◌, ◌<◌, ℕ, List, Bool, refl, sym, subst, arith, set}
 use Rattle.std.proofs.lemmas.Bool.{false≢true}
-use Rattle.task_set.specs.Truths.{In, union}
+use Rattle.line_instance.specs.Truths.{In, union}
 use Rattle.line_instance.specs.Line.{tasks}
 use Rattle.line_rules.specs.Ranked.{IsRankedBalance}
 use Rattle.line_rules.specs.declared.types.Seatplace.{Seatplace}

@@ -1,6 +1,6 @@
 use Rattle.std.proofs.Common.{Bool, List, sym, subst}
-use Rattle.task_set.specs.Truths.{IsSubset}
-use Rattle.task_set.proofs.Members.{In-meet, In-meet_parts}
+use Rattle.line_instance.specs.Truths.{IsSubset}
+use Rattle.line_instance.proofs.Members.{In-meet, In-meet_parts}
 use Rattle.line_check.proofs.entries.is_met.Goals as goal
 
 pub returns : goal.returns

@@ -1,6 +1,6 @@
 use Rattle.std.proofs.Common.{List, Bool, ◌∙◌, sym, subst}
-use Rattle.task_set.specs.Truths.{In}
-use Rattle.task_set.proofs.Members.{In-empty}
+use Rattle.line_instance.specs.Truths.{In}
+use Rattle.line_instance.proofs.Members.{In-empty}
 use Rattle.line_check.proofs.pairs.is_closed_at.Goals as goal
 
 pub returns : goal.returns

@@ -1,11 +1,11 @@
 use Rattle.std.proofs.Common.{ℕ, ◌≡◌, List, Bool, ◌∙◌, sym, ap, subst, arith, length}
 use Rattle.std.proofs.lemmas.Bool.{false≢true}
-use Rattle.task_set.specs.Truths.{In, IsSubset, IsEmpty}
-use Rattle.task_set.proofs.Members.{In-empty}
+use Rattle.line_instance.specs.Truths.{In, IsSubset, IsEmpty}
+use Rattle.line_instance.proofs.Members.{In-empty}
 use Rattle.line_instance.specs.Line.{IsTaskSet, has}
 use Rattle.line_instance.specs.Sums.{sum_where}
 use Rattle.line_rules.specs.Loads.{taken}
-use Rattle.load_facts.proofs.SideFacts.{taken_set}
+use Rattle.line_rules.proofs.SideFacts.{taken_set}
 use Rattle.line_check.proofs.EntryFaults.{some_task}
 use Rattle.line_check.proofs.pairs.is_load.Goals as goal
 

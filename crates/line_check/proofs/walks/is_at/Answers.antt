@@ -1,7 +1,7 @@
 use Rattle.std.proofs.Common.{◌∙◌, sym, ap}
 use Rattle.std.proofs.lemmas.Bool.{false≢true}
 use Rattle.line_rules.specs.declared.types.Load.{Load}
-use Rattle.load_facts.proofs.NextLoad.{same_pair}
+use Rattle.line_rules.proofs.NextLoad.{same_pair}
 use Rattle.line_check.proofs.walks.is_at.Goals as goal
 
 pub returns-then-not-is_same : goal.returns-then-not-is_same

@@ -5,7 +5,7 @@ use Rattle.line_rules.specs.Loads.{rest, taken}
 use Rattle.line_rules.specs.declared.types.Load.{Load}
 use Rattle.line_rules.proofs.Paths.{rest_inside}
 use Rattle.check_loads.specs.Standing.{stand}
-use Rattle.load_facts.proofs.Rest.{rest_sum}
+use Rattle.line_rules.proofs.Rest.{rest_sum}
 use Rattle.line_check.proofs.walks.is_closed.Goals as goal
 
 pub overflow_sub-times : goal.overflow_sub-times

@@ -3,7 +3,7 @@ use Rattle.line_instance.specs.Line.{has}
 use Rattle.line_instance.specs.Sums.{sum_where}
 use Rattle.line_rules.specs.Loads.{rest, taken}
 use Rattle.check_loads.specs.Standing.{stand}
-use Rattle.load_facts.proofs.Rest.{rest_sum, long_rest}
+use Rattle.line_rules.proofs.Rest.{rest_sum, long_rest}
 use Rattle.line_check.proofs.walks.is_closed_by_time.Goals as goal
 
 pub overflow_sub-q : goal.overflow_sub-q

@@ -1,6 +1,6 @@
 use Rattle.std.proofs.Common.{◌≡◌, ◌∙◌, ap, sym, subst, List, Bool, [], false, set, get_or}
 use Rattle.std.proofs.lemmas.List.{get_or_read}
-use Rattle.task_set.specs.Truths.{In}
+use Rattle.line_instance.specs.Truths.{In}
 use Rattle.line_instance.proofs.KeptPartners.{In-without, In-without_parts}
 use Rattle.line_instance.proofs.partners.is_within.Goals as goal
 

@@ -1,5 +1,5 @@
 use Rattle.std.proofs.Common.{◌<◌, ℕ}
-use Rattle.task_set.specs.Truths.{In}
+use Rattle.line_instance.specs.Truths.{In}
 use Rattle.line_instance.proofs.rings.first_left.Given as goal
 
 abbrev pub invariant-loop-t : goal.invariant-loop-t

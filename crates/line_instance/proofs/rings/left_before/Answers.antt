@@ -1,7 +1,7 @@
 use Rattle.std.proofs.Common.{◌≡◌, ◌∙◌, ℕ, List, Bool, [], false, ◌<◌, length, get_or, ap, subst, refl}
 use Rattle.std.proofs.lemmas.List.{get_or_read}
-use Rattle.task_set.specs.Truths.{In, minus, IsEmpty, IsLeast}
-use Rattle.task_set.proofs.Members.{In-minus_parts}
+use Rattle.line_instance.specs.Truths.{In, minus, IsEmpty, IsLeast}
+use Rattle.line_instance.proofs.Members.{In-minus_parts}
 use Rattle.line_instance.specs.inner.Inside.{LeadsIn}
 use Rattle.line_instance.proofs.RingFacts.{none_left}
 use Rattle.line_instance.proofs.rings.left_before.Goals as goal

@@ -1,6 +1,6 @@
 use Rattle.std.proofs.Common.{◌≡◌, ◌∙◌, ap, sym, arith, List, Bool, [], true, set, length, subst, get_or, refl}
 use Rattle.std.proofs.lemmas.List.{get_or_read}
-use Rattle.task_set.specs.Truths.{union}
+use Rattle.line_instance.specs.Truths.{union}
 use Rattle.line_instance.proofs.JoinedRows.{IsJoining, none_joined, one_joined, all_joined}
 use Rattle.line_instance.proofs.rows.joined_row.Goals as goal
 

@@ -1,6 +1,6 @@
 use Rattle.std.proofs.Common.{◌∙◌, ◌<◌, ℕ, List, Bool, refl, sym, subst, arith}
 use Rattle.std.proofs.lemmas.Bool.{false≢true}
-use Rattle.task_set.proofs.Members.{members}
+use Rattle.line_instance.proofs.Members.{members}
 use Rattle.line_instance.specs.Line.{Before}
 use Rattle.line_rules.specs.Balance.{Keeps, seat}
 use Rattle.line_rules.proofs.MembersInOrder.{IsLeft, all_left, below_least, one_less, none_left, members_less}

@@ -1,4 +1,4 @@
-use Rattle.task_set.proofs.Members.{members}
+use Rattle.line_instance.proofs.Members.{members}
 use Rattle.line_instance.specs.Line.{Before}
 use Rattle.line_rules.specs.Balance.{Keeps, seat}
 use Rattle.line_rules.proofs.MembersInOrder.{IsLeft}

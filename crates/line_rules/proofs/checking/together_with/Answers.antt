@@ -1,5 +1,5 @@
 use Rattle.std.proofs.Common.{◌∙◌, ◌<◌, ℕ, List, Bool, refl, sym, ap, subst, arith}
-use Rattle.task_set.proofs.Members.{members}
+use Rattle.line_instance.proofs.Members.{members}
 use Rattle.line_instance.specs.Line.{Apart}
 use Rattle.line_rules.specs.Checked.{Meets}
 use Rattle.line_rules.proofs.All.{In-all}

@@ -1,4 +1,4 @@
-use Rattle.task_set.proofs.Members.{members}
+use Rattle.line_instance.proofs.Members.{members}
 use Rattle.line_instance.specs.Line.{Apart}
 use Rattle.line_rules.specs.Checked.{Meets}
 use Rattle.line_rules.proofs.MembersInOrder.{IsLeft}

@@ -2,7 +2,7 @@ use Rattle.std.proofs.Common.{◌≡◌, ◌∙◌, sym, arith}
 use Rattle.std.proofs.lemmas.Bool.{false≢true}
 use Rattle.line_rules.specs.Bounds.{bound}
 use Rattle.line_rules.proofs.Monotone.{bound_holds}
-use Rattle.load_facts.proofs.BoundCases.{empty_bound, long_bound, parts_bound, small_bound, time_part, count_parts}
+use Rattle.line_rules.proofs.BoundCases.{empty_bound, long_bound, parts_bound, small_bound, time_part, count_parts}
 use Rattle.lower_bounds.proofs.bounds.bound.Goals as goal
 
 pub returns-then-is_empty-clause-value : goal.returns-then-is_empty-clause-value

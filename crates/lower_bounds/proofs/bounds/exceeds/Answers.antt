@@ -1,5 +1,5 @@
 use Rattle.std.proofs.Common.{inl}
-use Rattle.load_facts.proofs.BoundCases.{not_exceeded}
+use Rattle.line_rules.proofs.BoundCases.{not_exceeded}
 use Rattle.lower_bounds.proofs.bounds.exceeds.Goals as goal
 
 pub returns-then-is_empty : goal.returns-then-is_empty

@@ -1,8 +1,8 @@
 use Rattle.std.proofs.Common.{◌↔◌, refl, arith, IsTrue, false, List, Bool}
 use Rattle.std.specs.Int.{div_ceil}
 use Rattle.std.proofs.lemmas.Bool.{false≢true}
-use Rattle.task_set.specs.Truths.{IsEmpty}
-use Rattle.load_facts.proofs.BoundCases.{long_exceeds, counts_exceed, chains_decide, time_part}
+use Rattle.line_instance.specs.Truths.{IsEmpty}
+use Rattle.line_rules.proofs.BoundCases.{long_exceeds, counts_exceed, chains_decide, time_part}
 use Rattle.lower_bounds.proofs.bounds.exceeds_by_tasks.Goals as goal
 use Rattle.lower_bounds.proofs.bounds.exceeds_by_tasks.Goals.{then-counts-gt0-via-then-counts-gt0}
 use Rattle.lower_bounds.proofs.bounds.exceeds_by_tasks.Goals.{then-counts-gt0-via-else-counts-gt0+then-stations-most}

@@ -1,6 +1,6 @@
 use Rattle.std.proofs.Common.{◌∙◌, sym, inl, inr, arith}
 use Rattle.std.proofs.lemmas.Bool.{false≢true}
-use Rattle.load_facts.proofs.BoundCases.{not_exceeded, none_is_exceeded, time_exceeds, time_part}
+use Rattle.line_rules.proofs.BoundCases.{not_exceeded, none_is_exceeded, time_exceeds, time_part}
 use Rattle.lower_bounds.proofs.bounds.exceeds_with.Goals as goal
 use Rattle.lower_bounds.proofs.bounds.exceeds_with.Goals.{then-is_empty-via-then-is_empty}
 use Rattle.lower_bounds.proofs.bounds.exceeds_with.Goals.{then-is_empty-via-else-is_empty+then-most-ge-TOO_LONG}

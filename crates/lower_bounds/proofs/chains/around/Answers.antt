@@ -1,7 +1,7 @@
 use Rattle.std.proofs.Common.{◌+◌, ◌-◌, refl, arith}
 use Rattle.line_instance.specs.Line.{has}
 use Rattle.line_instance.proofs.Sums.{weigh-most}
-use Rattle.load_facts.proofs.HeadTail.{few_beside, met_set, room_beside, beside_is, ceil_le}
+use Rattle.line_rules.proofs.HeadTail.{few_beside, met_set, room_beside, beside_is, ceil_le}
 use Rattle.lower_bounds.proofs.chains.around.Goals as goal
 
 pub overflow_add-most : goal.overflow_add-most

@@ -1,6 +1,6 @@
 use Rattle.std.proofs.Common.{arith}
-use Rattle.load_facts.proofs.SumsOverMembers.{all_in_start}
-use Rattle.load_facts.proofs.HeadTail.{chain_start, no_chain, few_chained}
+use Rattle.line_rules.proofs.SumsOverMembers.{all_in_start}
+use Rattle.line_rules.proofs.HeadTail.{chain_start, no_chain, few_chained}
 use Rattle.lower_bounds.proofs.chains.has_longer_chain.Goals as goal
 
 pub returns-in-U : goal.returns-in-U

@@ -1,7 +1,7 @@
 use Rattle.std.proofs.Common.{◌≡◌, ◌<◌, ◌+◌, ◌-◌, max}
 use Rattle.line_instance.specs.Line.{tasks}
 use Rattle.line_rules.specs.Bounds.{head, tail, chained}
-use Rattle.load_facts.proofs.SumsOverMembers.{greatest_of, AllIn}
+use Rattle.line_rules.proofs.SumsOverMembers.{greatest_of, AllIn}
 use Rattle.lower_bounds.proofs.chains.has_longer_chain.Given as goal
 
 abbrev pub invariant-loop-j : goal.invariant-loop-j

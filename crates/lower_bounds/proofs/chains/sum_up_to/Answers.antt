@@ -1,6 +1,6 @@
 use Rattle.std.proofs.Common.{arith}
-use Rattle.load_facts.proofs.SumsOverMembers.{weight_start, all_in_start}
-use Rattle.load_facts.proofs.SizeClasses.{next_fits}
+use Rattle.line_rules.proofs.SumsOverMembers.{weight_start, all_in_start}
+use Rattle.line_rules.proofs.SizeClasses.{next_fits}
 use Rattle.lower_bounds.proofs.chains.sum_up_to.Goals as goal
 
 pub loop-i-init : goal.loop-i-init

@@ -1,7 +1,7 @@
 use Rattle.std.proofs.Common.{◌≡◌, ◌≤◌, ◌+◌}
 use Rattle.line_instance.specs.Line.{has}
 use Rattle.line_instance.specs.Sums.{sum_where}
-use Rattle.load_facts.proofs.SumsOverMembers.{weight_of, AllIn}
+use Rattle.line_rules.proofs.SumsOverMembers.{weight_of, AllIn}
 use Rattle.lower_bounds.proofs.chains.sum_up_to.Given as goal
 
 abbrev pub invariant-loop-i : goal.invariant-loop-i

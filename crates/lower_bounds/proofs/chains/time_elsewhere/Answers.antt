@@ -1,5 +1,5 @@
 use Rattle.std.proofs.Common.{◌∙◌, sym, arith}
-use Rattle.load_facts.proofs.HeadTail.{elsewhere_set, elsewhere_sum, one_elsewhere}
+use Rattle.line_rules.proofs.HeadTail.{elsewhere_set, elsewhere_sum, one_elsewhere}
 use Rattle.lower_bounds.proofs.chains.time_elsewhere.Goals as goal
 
 pub returns-then-time-limit-clause-none : goal.returns-then-time-limit-clause-none

@@ -1,5 +1,5 @@
 use Rattle.std.proofs.Common.{rules}
-use Rattle.load_facts.proofs.SizeClasses.{count_start, count_turn, count_end, nothing_counts}
+use Rattle.line_rules.proofs.SizeClasses.{count_start, count_turn, count_end, nothing_counts}
 use Rattle.lower_bounds.proofs.sizes.counts_of.Goals as goal
 
 pub loop-i-init : goal.loop-i-init

@@ -1,5 +1,5 @@
 use Rattle.std.proofs.Common.{◌*◌, nat_le, nat_lt, arith}
-use Rattle.load_facts.proofs.SizeClasses.{byte_is, sixths_steps}
+use Rattle.line_rules.proofs.SizeClasses.{byte_is, sixths_steps}
 use Rattle.lower_bounds.proofs.sizes.sixths.Goals as goal
 
 pub returns-clause-value : goal.returns-clause-value

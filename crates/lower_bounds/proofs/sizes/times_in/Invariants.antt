@@ -1,8 +1,8 @@
 use Rattle.std.proofs.Common.{◌≡◌, ◌+◌, max}
 use Rattle.line_instance.specs.Line.{has, time}
 use Rattle.line_instance.specs.Sums.{sum_where}
-use Rattle.load_facts.specs.Times.{longest_of}
-use Rattle.load_facts.proofs.SumsOverMembers.{weight_of, greatest_of, AllIn}
+use Rattle.line_rules.specs.Times.{longest_of}
+use Rattle.line_rules.proofs.SumsOverMembers.{weight_of, greatest_of, AllIn}
 use Rattle.lower_bounds.proofs.sizes.times_in.Given as goal
 
 abbrev pub invariant-loop-i : goal.invariant-loop-i

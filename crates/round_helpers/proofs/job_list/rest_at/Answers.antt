@@ -1,5 +1,5 @@
 use Rattle.std.proofs.Common.{Bool, List, ◌≡◌, ◌∙◌, ap, sym, subst}
-use Rattle.task_set.specs.Truths.{minus}
+use Rattle.line_instance.specs.Truths.{minus}
 use Rattle.line_instance.specs.Line.{IsTaskSet}
 use Rattle.line_rules.specs.Loads.{rest}
 use Rattle.station_search.proofs.States.{rest_tasks}

@@ -1,6 +1,6 @@
 use Rattle.std.proofs.Common.{◌-◌}
 use Rattle.std.proofs.lemmas.Result.{IfOk-weaker}
-use Rattle.task_set.specs.Truths.{full_to}
+use Rattle.line_instance.specs.Truths.{full_to}
 use Rattle.cert_files.specs.Trim.{IsTrimmed}
 use Rattle.run_certificates.specs.Certified.{HaveCyclesOf}
 use Rattle.run_certificates.proofs.CertificateFacts.{trimmed_cycles}

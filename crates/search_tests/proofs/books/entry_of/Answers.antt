@@ -4,7 +4,7 @@ use Rattle.std.specs.Prelude.{nat_lt}
 use Rattle.std.proofs.lemmas.Bool.{cases_lt}
 use Rattle.std.proofs.lemmas.Bool.Decides.{nat_tests}
 use Rattle.std.proofs.Math.Nat.{div-lt_iff_lt-mul}
-use Rattle.task_set.specs.Truths.{count}
+use Rattle.line_instance.specs.Truths.{count}
 use Rattle.line_instance.specs.Line.{Line, IsTaskSet, has}
 use Rattle.line_instance.specs.Sums.{sum_where, count_where}
 use Rattle.line_rules.specs.Bounds.{up, lm1, lm2, lm3, chained, bound}

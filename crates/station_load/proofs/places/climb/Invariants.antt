@@ -1,7 +1,7 @@
 use Rattle.std.proofs.Common.{◌≤◌}
 use Rattle.line_instance.specs.Line.{tasks}
-use Rattle.load_facts.specs.Sides.{spot}
-use Rattle.load_facts.specs.inner.Scan.{Scan}
+use Rattle.line_rules.specs.Sides.{spot}
+use Rattle.line_rules.specs.inner.Scan.{Scan}
 use Rattle.station_load.proofs.places.climb.Given as goal
 
 abbrev pub decreases-loop-place : goal.decreases-loop-place

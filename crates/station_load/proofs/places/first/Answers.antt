@@ -1,8 +1,8 @@
 use Rattle.std.proofs.Common.{sym, subst, None}
 use Rattle.line_rules.specs.Order.{IsNext, IsFollowing}
 use Rattle.line_rules.specs.declared.types.Load.{Load}
-use Rattle.load_facts.proofs.ScanFacts.{IsBase, base_none, follows, none_follows}
-use Rattle.load_facts.proofs.NextLoad.{map_some}
+use Rattle.line_rules.proofs.ScanFacts.{IsBase, base_none, follows, none_follows}
+use Rattle.line_rules.proofs.NextLoad.{map_some}
 use Rattle.station_load.proofs.places.first.Goals as goal
 
 base : (c : goal.After-above) → IsBase c.args.inst.now c.args.cycle c.args.mode c.args.set.now None c.nothing.result

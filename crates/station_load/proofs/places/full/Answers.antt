@@ -1,6 +1,6 @@
 use Rattle.std.proofs.Common.{refl}
 use Rattle.line_rules.specs.declared.types.Side.TheVariants.{Front, Back}
-use Rattle.load_facts.proofs.JoinTests.{is_full, not_full}
+use Rattle.line_rules.proofs.JoinTests.{is_full, not_full}
 use Rattle.station_load.proofs.places.full.Goals as goal
 
 pub returns-then-grows : goal.returns-then-grows

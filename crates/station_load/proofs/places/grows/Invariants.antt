@@ -1,5 +1,5 @@
 use Rattle.std.proofs.Common.{◌<◌, ℕ}
-use Rattle.load_facts.specs.Sides.{MayJoin}
+use Rattle.line_rules.specs.Sides.{MayJoin}
 use Rattle.station_load.proofs.places.grows.Given as goal
 
 abbrev pub invariant-loop-task : goal.invariant-loop-task

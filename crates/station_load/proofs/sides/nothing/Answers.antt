@@ -1,5 +1,5 @@
-use Rattle.load_facts.specs.Sides.{nothing_yet}
-use Rattle.load_facts.proofs.NextLoad.{same_pair}
+use Rattle.line_rules.specs.Sides.{nothing_yet}
+use Rattle.line_rules.proofs.NextLoad.{same_pair}
 use Rattle.station_load.proofs.sides.nothing.Goals as goal
 
 pub returns : goal.returns

@@ -1,10 +1,10 @@
 use Rattle.std.proofs.Common.{◌≡◌, ◌∙◌, ◌<◌, ◌≢◌, ◌⊎◌, ◌↔◌, ℕ, List, Bool, sym, ap, subst, refl, arith}
-use Rattle.task_set.specs.Truths.{In}
-use Rattle.task_set.proofs.Members.{members, In-empty}
+use Rattle.line_instance.specs.Truths.{In}
+use Rattle.line_instance.proofs.Members.{members, In-empty}
 use Rattle.line_instance.specs.Line.{has}
 use Rattle.line_rules.proofs.MembersInOrder.{members_less}
-use Rattle.load_facts.proofs.SidePlaces.{place_start, place_turn, place_end}
-use Rattle.load_facts.proofs.SidePlaces.{set_in, clear_in}
+use Rattle.line_rules.proofs.SidePlaces.{place_start, place_turn, place_end}
+use Rattle.line_rules.proofs.SidePlaces.{set_in, clear_in}
 use Rattle.station_load.proofs.sides.places_of.Goals as goal
 
 pub loop-task-init : goal.loop-task-init

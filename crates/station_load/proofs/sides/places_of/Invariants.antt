@@ -1,5 +1,5 @@
-use Rattle.task_set.proofs.Members.{members}
-use Rattle.load_facts.proofs.SidePlaces.{Placing}
+use Rattle.line_instance.proofs.Members.{members}
+use Rattle.line_rules.proofs.SidePlaces.{Placing}
 use Rattle.station_load.proofs.sides.places_of.Given as goal
 
 abbrev pub invariant-loop-task : goal.invariant-loop-task

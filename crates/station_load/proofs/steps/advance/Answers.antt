@@ -1,6 +1,6 @@
 use Rattle.std.proofs.Common.{◌∙◌, sym, refl}
 use Rattle.std.proofs.lemmas.Bool.{false≢true}
-use Rattle.load_facts.proofs.QuickWalk.{advance_start, time_within, gave_up, next_here, sum_here, passed, no_place}
+use Rattle.line_rules.proofs.QuickWalk.{advance_start, time_within, gave_up, next_here, sum_here, passed, no_place}
 use Rattle.station_load.proofs.steps.advance.Goals as goal
 use Rattle.station_load.proofs.steps.advance.Goals.{else-not-has-via-then-not-has+else-fits}
 use Rattle.station_load.proofs.steps.advance.Goals.{else-not-has-via-else-not-has}

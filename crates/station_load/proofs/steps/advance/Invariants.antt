@@ -1,4 +1,4 @@
-use Rattle.load_facts.proofs.QuickWalk.{Advancing}
+use Rattle.line_rules.proofs.QuickWalk.{Advancing}
 use Rattle.station_load.proofs.steps.advance.Given as goal
 
 abbrev pub invariant-loop-place : goal.invariant-loop-place

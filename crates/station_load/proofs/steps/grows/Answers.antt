@@ -1,8 +1,8 @@
 use Rattle.std.proofs.Common.{◌∙◌, sym, ap, refl, arith}
 use Rattle.std.proofs.lemmas.Bool.{false≢true}
-use Rattle.task_set.proofs.Members.{In-meet, In-meet_parts}
+use Rattle.line_instance.proofs.Members.{In-meet, In-meet_parts}
 use Rattle.line_instance.specs.Line.{has}
-use Rattle.load_facts.proofs.JoinTests.{none_start, none_turn, none_end, free_where_may, may_where_room, room_where_may}
+use Rattle.line_rules.proofs.JoinTests.{none_start, none_turn, none_end, free_where_may, may_where_room, room_where_may}
 use Rattle.station_load.proofs.steps.grows.Goals as goal
 use Rattle.station_load.proofs.steps.grows.Goals.{else-not-has-via-then-not-has+else-fits}
 use Rattle.station_load.proofs.steps.grows.Goals.{else-not-has-via-else-not-has}

@@ -1,5 +1,5 @@
-use Rattle.load_facts.specs.Sides.{pair_at}
-use Rattle.load_facts.proofs.JoinTests.{NoneFrom}
+use Rattle.line_rules.specs.Sides.{pair_at}
+use Rattle.line_rules.proofs.JoinTests.{NoneFrom}
 use Rattle.station_load.proofs.steps.grows.Given as goal
 
 abbrev pub decreases-loop-task : goal.decreases-loop-task

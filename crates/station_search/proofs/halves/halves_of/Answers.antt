@@ -1,7 +1,7 @@
 use Rattle.std.proofs.Common.{Bool, List, subst}
-use Rattle.task_set.specs.Truths.{In}
-use Rattle.load_facts.proofs.SumsOverMembers.{all_in_start}
-use Rattle.task_set.proofs.Members.{In-empty}
+use Rattle.line_instance.specs.Truths.{In}
+use Rattle.line_rules.proofs.SumsOverMembers.{all_in_start}
+use Rattle.line_instance.proofs.Members.{In-empty}
 use Rattle.station_search.proofs.halves.halves_of.Goals as goal
 
 pub loop-task-init : goal.loop-task-init

@@ -1,7 +1,7 @@
 use Rattle.std.proofs.Common.{ℕ, ◌*◌, ◌<◌}
-use Rattle.task_set.specs.Truths.{In}
+use Rattle.line_instance.specs.Truths.{In}
 use Rattle.line_instance.specs.Line.{time}
-use Rattle.load_facts.proofs.SumsOverMembers.{AllIn}
+use Rattle.line_rules.proofs.SumsOverMembers.{AllIn}
 use Rattle.station_search.proofs.halves.halves_of.Given as goal
 
 abbrev pub invariant-loop-task : goal.invariant-loop-task

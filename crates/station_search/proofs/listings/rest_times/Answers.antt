@@ -1,6 +1,6 @@
 use Rattle.std.proofs.Common.{ℕ, ◌-◌, sym, subst, arith}
 use Rattle.line_rules.specs.Loads.{rest}
-use Rattle.load_facts.specs.Times.{AreTimes}
+use Rattle.line_rules.specs.Times.{AreTimes}
 use Rattle.station_search.proofs.RestTimes.{rest_total, times_of_rest}
 use Rattle.station_search.proofs.listings.rest_times.Goals as goal
 

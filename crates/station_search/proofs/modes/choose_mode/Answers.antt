@@ -1,7 +1,7 @@
 use Rattle.std.proofs.Common.{arith}
 use Rattle.line_instance.specs.Line.{Line}
-use Rattle.load_facts.proofs.SumsOverMembers.{all_in_start}
-use Rattle.load_facts.proofs.SizeClasses.{one_more}
+use Rattle.line_rules.proofs.SumsOverMembers.{all_in_start}
+use Rattle.line_rules.proofs.SizeClasses.{one_more}
 use Rattle.station_search.specs.Mode.{is_source, is_sink}
 use Rattle.station_search.proofs.Sources.{count_start, count_end, count_few, both_mode, fore_mode, back_mode}
 use Rattle.station_search.proofs.modes.choose_mode.Goals as goal

@@ -1,7 +1,7 @@
 use Rattle.std.proofs.Common.{◌≡◌, ◌+◌}
 use Rattle.std.specs.List.{count_by}
-use Rattle.task_set.specs.Truths.{members_of}
-use Rattle.load_facts.proofs.SumsOverMembers.{AllIn}
+use Rattle.line_instance.specs.Truths.{members_of}
+use Rattle.line_rules.proofs.SumsOverMembers.{AllIn}
 use Rattle.station_search.specs.Mode.{is_source, is_sink}
 use Rattle.station_search.proofs.modes.choose_mode.Given as goal
 

@@ -1,6 +1,6 @@
 use Rattle.std.proofs.Common.{Bool, List, subst}
 use Rattle.std.specs.Prelude.{IsTrue, ◌↔◌}
-use Rattle.task_set.specs.Truths.{IsEmpty}
+use Rattle.line_instance.specs.Truths.{IsEmpty}
 use Rattle.line_instance.specs.Line.{is_before}
 use Rattle.station_search.proofs.Sources.{none_common}
 use Rattle.station_search.proofs.modes.is_source.Goals as goal

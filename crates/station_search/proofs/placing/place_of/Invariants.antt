@@ -1,6 +1,6 @@
 use Rattle.std.proofs.Common.{◌≡◌, ℕ, ◌<◌, Some}
 use Rattle.std.specs.Prelude.{slice_get}
-use Rattle.task_set.specs.Truths.{In}
+use Rattle.line_instance.specs.Truths.{In}
 use Rattle.line_rules.specs.Loads.{taken}
 use Rattle.line_rules.specs.declared.types.Load.{Load}
 use Rattle.station_search.proofs.placing.place_of.Given as goal

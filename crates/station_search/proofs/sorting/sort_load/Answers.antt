@@ -1,9 +1,9 @@
 use Rattle.std.proofs.Common.{◌≡◌, ℕ, ◌-◌, ◌*◌, ◌<◌, List, Bool, ap, ◌∙◌, sym, subst, arith}
-use Rattle.task_set.specs.Truths.{minus, meet, count}
+use Rattle.line_instance.specs.Truths.{minus, meet, count}
 use Rattle.line_instance.specs.Line.{IsTaskSet}
 use Rattle.line_rules.specs.Loads.{rest}
-use Rattle.load_facts.specs.Times.{AreTimes}
-use Rattle.load_facts.proofs.Rest.{long_rest}
+use Rattle.line_rules.specs.Times.{AreTimes}
+use Rattle.line_rules.proofs.Rest.{long_rest}
 use Rattle.lemma_core.proofs.HistoryGrows.{keeps_both}
 use Rattle.station_search.specs.inner.Work.{DoesFor, may_swap}
 use Rattle.station_search.proofs.Events.{waits_none}

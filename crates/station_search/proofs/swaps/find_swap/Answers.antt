@@ -1,4 +1,4 @@
-use Rattle.load_facts.proofs.SumsOverMembers.{all_in_start}
+use Rattle.line_rules.proofs.SumsOverMembers.{all_in_start}
 use Rattle.station_search.proofs.Events.{waits_none}
 use Rattle.station_search.proofs.swaps.find_swap.Goals as goal
 

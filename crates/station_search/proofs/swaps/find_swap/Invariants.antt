@@ -1,5 +1,5 @@
 use Rattle.lemma_core.specs.Desks.{Waits}
-use Rattle.load_facts.proofs.SumsOverMembers.{AllIn}
+use Rattle.line_rules.proofs.SumsOverMembers.{AllIn}
 use Rattle.station_search.proofs.swaps.find_swap.Given as goal
 
 abbrev pub invariant-loop-task : goal.invariant-loop-task

@@ -1,6 +1,6 @@
 use Rattle.std.proofs.Common.{subst}
-use Rattle.task_set.specs.Truths.{In}
-use Rattle.task_set.proofs.Members.{In-meet_parts}
+use Rattle.line_instance.specs.Truths.{In}
+use Rattle.line_instance.proofs.Members.{In-meet_parts}
 use Rattle.beam_search.proofs.beams.Levels.may_fit.Goals as goal
 
 pub exceeds-requires-clause-set : goal.exceeds-requires-clause-set

@@ -1,6 +1,6 @@
 use Rattle.std.proofs.Common.{ℕ, Bool, List, sym, ◌∙◌, subst}
 use Rattle.std.proofs.lemmas.Bool.{true≢false, not-true}
-use Rattle.task_set.specs.Tags.{tag_of}
+use Rattle.line_instance.specs.Tags.{tag_of}
 use Rattle.lemma_core.specs.Sieves.{HasMark}
 use Rattle.book_share.specs.declared.marks.Marks.{Marks}
 use Rattle.book_share.specs.inner.Marking.{AreMarksOf, AreMarked}

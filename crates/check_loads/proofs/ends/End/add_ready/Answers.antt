@@ -1,7 +1,7 @@
 use Rattle.std.proofs.Common.{◌∙◌, sym, subst}
 use Rattle.std.proofs.lemmas.Bool.{false≢true}
-use Rattle.load_facts.proofs.ReadyFacts.{fewer_left}
-use Rattle.load_facts.proofs.SideTurns.{Freeing, candidate_turn}
+use Rattle.line_rules.proofs.ReadyFacts.{fewer_left}
+use Rattle.line_rules.proofs.SideTurns.{Freeing, candidate_turn}
 use Rattle.check_loads.specs.declared.ends.End.{End}
 use Rattle.check_loads.proofs.ends.End.add_ready.Goals as goal
 use Rattle.check_loads.proofs.ends.End.add_ready.Goals.{then-is_empty-2, else-is_empty-2}

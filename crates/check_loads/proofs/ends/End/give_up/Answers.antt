@@ -1,5 +1,5 @@
 use Rattle.std.proofs.Common.{refl}
-use Rattle.load_facts.proofs.SideTurns.{fewer_shut, shut_start, shut_turn, shut_end}
+use Rattle.line_rules.proofs.SideTurns.{fewer_shut, shut_start, shut_turn, shut_end}
 use Rattle.check_loads.proofs.ends.End.give_up.Goals as goal
 
 pub loop-other-init : goal.loop-other-init

@@ -1,5 +1,5 @@
-use Rattle.task_set.proofs.Members.{members}
-use Rattle.load_facts.proofs.SideTurns.{Shutting}
+use Rattle.line_instance.proofs.Members.{members}
+use Rattle.line_rules.proofs.SideTurns.{Shutting}
 use Rattle.check_loads.proofs.ends.End.give_up.Given as goal
 
 abbrev pub invariant-loop-other : goal.invariant-loop-other

@@ -1,11 +1,11 @@
 use Rattle.std.proofs.Common.{◌≡◌, ◌∙◌, ℕ, List, Bool, false, replicate, sym, ap, subst, inl, inr}
-use Rattle.task_set.specs.Truths.{In}
-use Rattle.task_set.proofs.Members.{In-empty}
+use Rattle.line_instance.specs.Truths.{In}
+use Rattle.line_instance.proofs.Members.{In-empty}
 use Rattle.line_instance.specs.Line.{IsTaskSet, has}
-use Rattle.load_facts.specs.Sides.{task_at}
+use Rattle.line_rules.specs.Sides.{task_at}
 use Rattle.std.proofs.lemmas.Bool.{false_from_ne_true}
-use Rattle.load_facts.proofs.SideTurns.{end_made}
-use Rattle.load_facts.proofs.ScanFacts.{nothing_set}
+use Rattle.line_rules.proofs.SideTurns.{end_made}
+use Rattle.line_rules.proofs.ScanFacts.{nothing_set}
 use Rattle.check_loads.proofs.ends.End.start.Goals as goal
 
 none_in : (b : List Bool) → b ≡ replicate 1024 false → (i : ℕ) → In b i → ⊥

@@ -1,4 +1,4 @@
-use Rattle.load_facts.proofs.SideTurns.{waiting_absent, end_grown}
+use Rattle.line_rules.proofs.SideTurns.{waiting_absent, end_grown}
 use Rattle.check_loads.proofs.ends.End.take_in.Goals as goal
 
 pub add_ready-requires-clause-candidates : goal.add_ready-requires-clause-candidates

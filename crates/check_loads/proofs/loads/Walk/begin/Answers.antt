@@ -3,15 +3,15 @@ use Rattle.std.proofs.lemmas.Bool.{false≢true}
 use Rattle.line_instance.specs.Line.{has}
 use Rattle.line_instance.specs.Sums.{sum_where}
 use Rattle.line_rules.specs.Loads.{taken}
-use Rattle.load_facts.specs.Sides.{fills, nothing_yet}
+use Rattle.line_rules.specs.Sides.{fills, nothing_yet}
 use Rattle.line_rules.specs.declared.types.Side.{Side}
 use Rattle.line_rules.specs.declared.types.Load.{Load}
-use Rattle.load_facts.proofs.SideFacts.{each_side}
-use Rattle.load_facts.proofs.ScanFacts.{nothing_sum}
-use Rattle.load_facts.specs.Ends.{IsEnd}
+use Rattle.line_rules.proofs.SideFacts.{each_side}
+use Rattle.line_rules.proofs.ScanFacts.{nothing_sum}
+use Rattle.line_rules.specs.Ends.{IsEnd}
 use Rattle.check_loads.specs.Standing.{stand, end_of}
 use Rattle.check_loads.specs.declared.loads.Walk.{Walk}
-use Rattle.load_facts.proofs.NextLoad.{same_pair}
+use Rattle.line_rules.proofs.NextLoad.{same_pair}
 use Rattle.check_loads.proofs.loads.Walk.begin.Goals as goal
 
 pub returns-clause-walk : goal.returns-clause-walk

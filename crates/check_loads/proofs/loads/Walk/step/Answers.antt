@@ -1,11 +1,11 @@
 use Rattle.std.proofs.Common.{◌≡◌, true, refl}
 use Rattle.std.proofs.lemmas.Bool.{true≢false}
 use Rattle.line_rules.specs.Order.{IsNext}
-use Rattle.load_facts.specs.Sides.{fills}
+use Rattle.line_rules.specs.Sides.{fills}
 use Rattle.line_rules.specs.declared.types.Side.{Side}
 use Rattle.line_rules.specs.declared.types.Side.TheVariants.{Front}
-use Rattle.load_facts.proofs.SideFacts.{each_side}
-use Rattle.load_facts.specs.Ends.{IsEnd}
+use Rattle.line_rules.proofs.SideFacts.{each_side}
+use Rattle.line_rules.specs.Ends.{IsEnd}
 use Rattle.check_loads.specs.Standing.{end_of}
 use Rattle.check_loads.specs.declared.loads.Walk.{Walk}
 use Rattle.check_loads.proofs.StepFacts.{start, goes_on, ends}

@@ -1,6 +1,6 @@
 use Rattle.std.proofs.Common.{◌∙◌, sym, arith}
 use Rattle.std.proofs.lemmas.Bool.{false≢true}
-use Rattle.task_set.specs.Truths.{IsEmpty}
+use Rattle.line_instance.specs.Truths.{IsEmpty}
 use Rattle.first_fit.proofs.Joins.{meet_empty, empty_meet, side_front, side_u, stand_front, front_stand}
 use Rattle.first_fit.proofs.Joins.{stand_back, back_stand}
 use Rattle.first_fit.proofs.filling.Filling.may_join.Goals as goal

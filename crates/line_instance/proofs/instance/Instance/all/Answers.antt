@@ -1,5 +1,5 @@
 use Rattle.std.proofs.Common.{◌≡◌, ◌≤◌, ◌<◌, ℕ, List, Bool, sym, subst, arith}
-use Rattle.task_set.specs.Truths.{In, full_to}
+use Rattle.line_instance.specs.Truths.{In, full_to}
 use Rattle.line_instance.specs.Line.{Line, tasks}
 use Rattle.line_instance.proofs.JoinedRows.{full_members}
 use Rattle.line_instance.proofs.instance.Instance.all.Goals as goal

@@ -1,8 +1,8 @@
 use Rattle.std.proofs.Common.{◌≡◌, ◌<◌, sym, subst, arith, ℕ, List, Bool, [], get_or}
 use Rattle.std.specs.Prelude.{IsTrue, ◌↔◌}
 use Rattle.std.proofs.lemmas.List.{get_or_read}
-use Rattle.task_set.specs.Truths.{In, meet, IsEmpty}
-use Rattle.task_set.proofs.Members.{In-meet, In-meet_parts}
+use Rattle.line_instance.specs.Truths.{In, meet, IsEmpty}
+use Rattle.line_instance.proofs.Members.{In-meet, In-meet_parts}
 use Rattle.line_instance.specs.Line.{Line, Covers, tasks, IsLine}
 use Rattle.line_instance.specs.inner.Inside.{AreTurned}
 use Rattle.line_instance.proofs.instance.Instance.covers.Goals as goal

@@ -1,7 +1,7 @@
 use Rattle.std.proofs.Common.{◌++◌, sym, subst, arith, ℕ, List, Bool, [], length, get_or, take, drop}
 use Rattle.std.specs.Prelude.{◌↔◌}
 use Rattle.std.proofs.lemmas.List.{take_at}
-use Rattle.task_set.specs.Truths.{In}
+use Rattle.line_instance.specs.Truths.{In}
 use Rattle.line_instance.specs.Line.{Line, tasks}
 use Rattle.line_instance.specs.Walks.{AreArcs, ArePairs, IsGiven}
 use Rattle.line_instance.specs.inner.Inside.{IsSound, ArePaired, ArePartners, of_rows}

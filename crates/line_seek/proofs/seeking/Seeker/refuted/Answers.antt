@@ -1,5 +1,5 @@
 use Rattle.std.proofs.Common.{ℕ, subst}
-use Rattle.task_set.specs.Truths.{full_to}
+use Rattle.line_instance.specs.Truths.{full_to}
 use Rattle.line_rules.specs.Balance.{all_tasks}
 use Rattle.line_rules.specs.Entries.{HasAnswer}
 use Rattle.cert_files.proofs.TrimFacts.{derived_earlier}

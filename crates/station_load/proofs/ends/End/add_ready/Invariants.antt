@@ -1,5 +1,5 @@
-use Rattle.task_set.proofs.Members.{members}
-use Rattle.load_facts.proofs.SideTurns.{Freeing}
+use Rattle.line_instance.proofs.Members.{members}
+use Rattle.line_rules.proofs.SideTurns.{Freeing}
 use Rattle.station_load.proofs.ends.End.add_ready.Given as goal
 
 abbrev pub invariant-loop-task : goal.invariant-loop-task

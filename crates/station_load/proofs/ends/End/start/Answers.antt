@@ -1,8 +1,8 @@
 use Rattle.std.proofs.Common.{◌∙◌, sym, ap, inl, inr}
-use Rattle.task_set.proofs.Members.{In-empty, In-minus, In-minus_parts}
+use Rattle.line_instance.proofs.Members.{In-empty, In-minus, In-minus_parts}
 use Rattle.line_instance.specs.Line.{has}
-use Rattle.load_facts.specs.Sides.{task_at}
-use Rattle.load_facts.proofs.SideTurns.{end_made}
+use Rattle.line_rules.specs.Sides.{task_at}
+use Rattle.line_rules.proofs.SideTurns.{end_made}
 use Rattle.station_load.proofs.ends.End.start.Goals as goal
 
 pub add_ready-requires-clause-candidates : goal.add_ready-requires-clause-candidates

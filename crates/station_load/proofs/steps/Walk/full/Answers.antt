@@ -1,10 +1,10 @@
 use Rattle.std.proofs.Common.{◌≡◌, ◌↔◌, ℕ, true, false, IsTrue, IfSome, sym, subst, refl}
 use Rattle.line_rules.specs.Loads.{IsFull}
-use Rattle.load_facts.specs.Sides.{MayJoin, fills}
+use Rattle.line_rules.specs.Sides.{MayJoin, fills}
 use Rattle.line_rules.specs.declared.types.Side.{Side}
 use Rattle.line_rules.specs.declared.types.Side.TheVariants.{Front, Back}
 use Rattle.line_rules.specs.declared.types.Load.{Load}
-use Rattle.load_facts.proofs.SideFacts.{each_side}
+use Rattle.line_rules.proofs.SideFacts.{each_side}
 use Rattle.std.proofs.lemmas.Bool.{false≢true}
 use Rattle.station_load.specs.Walking.{Walking, IsWalk}
 use Rattle.station_load.specs.contracts.steps.Walk.{the_view}

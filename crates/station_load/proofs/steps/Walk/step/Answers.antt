@@ -1,16 +1,16 @@
 use Rattle.std.proofs.Common.{◌≡◌, ◌∙◌, sym, ap, subst, true, List, Bool, Some, refl}
 use Rattle.line_rules.specs.Order.{IsNext, IsFollowing, After}
 use Rattle.line_rules.specs.Loads.{IsLoad}
-use Rattle.load_facts.specs.Sides.{fills, part}
+use Rattle.line_rules.specs.Sides.{fills, part}
 use Rattle.line_rules.specs.declared.types.Side.{Side}
 use Rattle.line_rules.specs.declared.types.Side.TheVariants.{Front, Back}
 use Rattle.line_rules.specs.declared.types.Load.{Load}
-use Rattle.load_facts.proofs.SideFacts.{each_side}
+use Rattle.line_rules.proofs.SideFacts.{each_side}
 use Rattle.std.proofs.lemmas.Bool.{false≢true, true≢false}
-use Rattle.load_facts.specs.Ends.{IsEnd}
+use Rattle.line_rules.specs.Ends.{IsEnd}
 use Rattle.station_load.specs.Walking.{Walking, IsWalk, end_of, last_load}
 use Rattle.station_load.specs.contracts.steps.Walk.{the_view}
-use Rattle.load_facts.proofs.NextLoad.{same_pair}
+use Rattle.line_rules.proofs.NextLoad.{same_pair}
 use Rattle.std.proofs.lemmas.Option.{same_Some}
 use Rattle.station_load.proofs.Walks.{stand, stand_sum, start, goes_on, ends}
 use Rattle.station_load.proofs.steps.Walk.step.Goals as goal

@@ -1,4 +1,0 @@
-pub mod Times
-pub mod Sides
-pub mod Ends
-pub mod inner
