@@ -4,8 +4,7 @@ ghost use Rattle.command_outcome.specs.declared.report.Kept.TheVariants.{Nothing
 ghost use Rattle.command_outcome.specs.declared.report.Stop.TheVariants.{Memory, Report as Early};
 
 use crate::status::Status;
-use effic_cert::EfficCert;
-use line_rules::Certificate;
+use line_rules::{Certificate, EfficCert};
 use sequence_rules::SeqCert;
 use std::alloc::AllocError;
 

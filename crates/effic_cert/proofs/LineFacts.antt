@@ -12,7 +12,7 @@ use Rattle.cert_lines.proofs.CiteWords.{sat}
 use Rattle.cert_lines.proofs.JudgedLine.{small, small_is, keyed_only}
 use Rattle.cert_text.proofs.LineTexts.{row_lacks}
 use Rattle.text_grammar.specs.Texts.{TellsLine}
-use Rattle.effic_cert.specs.Product.{IsProduct, IsStations}
+use Rattle.line_rules.specs.Products.{IsProduct, IsStations}
 use Rattle.effic_cert.specs.inner.Parts.{AreEnds, ends_row, bound_text}
 use Rattle.effic_cert.specs.inner.WideReading.{widest, wide_keyed_in, span_in}
 use Rattle.effic_cert.specs.declared.lines.Bound.{Bound}

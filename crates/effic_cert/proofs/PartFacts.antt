@@ -17,7 +17,8 @@ use Rattle.text_grammar.specs.Texts.{Tells}
 use Rattle.text_grammar.proofs.TextFacts.{led_tells, same_tells, titled_tells, none_begins}
 use Rattle.text_grammar.proofs.LineFacts.{Ready, line_ready, kind_ready, number_ready, end_ready, both_ready, end_tells}
 use Rattle.text_grammar.proofs.TwoParts.{TwoParts, parted}
-use Rattle.effic_cert.specs.Product.{IsProduct, product_rows}
+use Rattle.line_rules.specs.Products.{IsProduct}
+use Rattle.effic_cert.specs.Product.{product_rows}
 use Rattle.effic_cert.specs.inner.Parts.{bound_text, AreEnds, ends_row, bodies}
 use Rattle.effic_cert.specs.Laws.{NoProductTextBeginsAnother}
 use Rattle.effic_cert.specs.declared.lines.Bound.{Bound}

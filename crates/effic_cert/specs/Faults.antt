@@ -4,8 +4,9 @@ use Rattle.cert_lines.specs.Faults.{Grammar}
 use Rattle.cert_lines.specs.declared.fault.CertFault.{CertFault}
 use Rattle.text_grammar.specs.Texts.{IsTextFault, IsTextRead}
 use Rattle.text_grammar.specs.declared.text.TextRead.{TextRead}
-use Rattle.effic_cert.specs.Product.{IsSayable, product_rows}
-use Rattle.effic_cert.specs.declared.cert.EfficCert.{EfficCert}
+use Rattle.line_rules.specs.Products.{IsSayable}
+use Rattle.effic_cert.specs.Product.{product_rows}
+use Rattle.line_rules.specs.declared.products.EfficCert.{EfficCert}
 
 -- the texts of certificates within their ranges
 abbrev pub products : Grammar EfficCert

@@ -1,10 +1,10 @@
 //! The reading of what stands behind the first line of a certificate's text.
-use crate::cert::EfficCert;
 use crate::lines::{Bound, BoundLine, StationsLine};
 use crate::listed::{EntryLines, SeatLines};
 use cert_lines::line_forms::{EndLine, Key, KindLine, MAX_CYCLE, NumberLine};
 use cert_lines::{ReadError, Source};
 use cert_text::EntryList;
+use line_rules::EfficCert;
 use std::alloc::Global;
 use text_grammar::{OneLine, Part};
 

@@ -6,7 +6,6 @@
 #![tactic(auto)]
 
 mod body;
-mod cert;
 pub mod laws;
 mod lines;
 mod listed;
@@ -16,6 +15,5 @@ mod whole_text;
 mod words;
 mod writing;
 
-pub use cert::EfficCert;
 pub use whole_text::{EfficRead, EfficText, read_effic};
 pub use writing::write_effic;

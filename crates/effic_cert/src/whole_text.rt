@@ -1,12 +1,13 @@
 //! The reading of a certificate's text from memory.
 ghost use Rattle.std.specs.Prelude.{◌≡◌, ◌≢◌};
 ghost use Rattle.cert_lines.specs.declared.fault.CertFault.{CertFault as Fault};
-ghost use Rattle.effic_cert.specs.Product.{IsSayable, product_text};
+ghost use Rattle.line_rules.specs.Products.{IsSayable};
+ghost use Rattle.effic_cert.specs.Product.{product_text};
 ghost use Rattle.effic_cert.specs.Faults.{IsEfficRead};
-ghost use Rattle.effic_cert.specs.declared.cert.EfficCert.{EfficCert as Cert};
+ghost use Rattle.line_rules.specs.declared.products.EfficCert.{EfficCert as Cert};
 
 use crate::body::ProductBody;
-use crate::cert::EfficCert;
+use line_rules::EfficCert;
 use std::alloc::Global;
 use text_grammar::{Text, TextRead, read_text};
 

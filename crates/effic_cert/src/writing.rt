@@ -3,10 +3,11 @@ ghost use Rattle.std.specs.Prelude.{◌≡◌, ◌≤◌, IfOk, codes};
 ghost use Rattle.cert_lines.specs.Numbers.{number_text};
 ghost use Rattle.cert_lines.specs.Rows.{keyed, span, line_text, rows_text};
 ghost use Rattle.cert_text.specs.Sent.{Puts};
-ghost use Rattle.effic_cert.specs.Product.{IsSayable, asked_rows, bound_rows, balance_rows, product_text};
+ghost use Rattle.line_rules.specs.Products.{IsSayable};
+ghost use Rattle.effic_cert.specs.Product.{asked_rows, bound_rows, balance_rows, product_text};
 
-use crate::cert::EfficCert;
 use cert_text::{KeptText, Output, put_keyed, put_kind, put_list, put_number, put_seats, put_text};
+use line_rules::EfficCert;
 use std::alloc::{AllocError, Global};
 
 // Puts a number, without a needless 0 in front.

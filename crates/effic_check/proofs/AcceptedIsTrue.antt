@@ -6,8 +6,8 @@ use Rattle.line_instance.specs.Line.{Line, IsLine}
 use Rattle.line_rules.specs.Balance.{all_tasks, seat}
 use Rattle.line_rules.proofs.AcceptedIsTrue.{answer_holds}
 use Rattle.line_rules.proofs.SubBalance.{holds_more}
-use Rattle.effic_cert.specs.Product.{IsSayable}
-use Rattle.effic_cert.specs.declared.cert.EfficCert.{EfficCert}
+use Rattle.line_rules.specs.Products.{IsSayable}
+use Rattle.line_rules.specs.declared.products.EfficCert.{EfficCert}
 use Rattle.effic_check.specs.Accepted.{IsAccepted, cycle_below}
 use Rattle.effic_check.specs.Truth.{NoneBelow, IsReached, IsBetween}
 use Rattle.effic_check.specs.Verdict.{IsAcceptedSo, IsTrueOf}

@@ -6,7 +6,7 @@ use Rattle.line_rules.specs.Balance.{all_tasks}
 use Rattle.line_rules.specs.declared.types.Trail.{Trail}
 use Rattle.line_check.specs.Frames.{IsTrailOf}
 use Rattle.line_check.proofs.VerdictFacts.{head_most}
-use Rattle.effic_cert.specs.declared.cert.EfficCert.{EfficCert}
+use Rattle.line_rules.specs.declared.products.EfficCert.{EfficCert}
 use Rattle.effic_check.specs.Accepted.{IsClosed, MayBegin, HasTrail}
 use Rattle.effic_check.specs.Verdict.{IsAllowed}
 

@@ -12,7 +12,7 @@ use Rattle.line_check.proofs.ListFacts.{refused_not}
 use Rattle.line_check.proofs.RefusalFacts.{frame_not, first_of}
 use Rattle.line_check.proofs.UnitFacts.{entries_more, frames_spend}
 use Rattle.line_check.specs.declared.types.FrameFault.{FrameFault}
-use Rattle.effic_cert.specs.declared.cert.EfficCert.{EfficCert}
+use Rattle.line_rules.specs.declared.products.EfficCert.{EfficCert}
 use Rattle.effic_check.specs.Accepted.{MayBegin, HasTrail, ShowsUpper, IsAccepted}
 use Rattle.effic_check.specs.Verdict.{BalanceFails, IsAllowed, TrailFails, TrailEnds, ProofFails, ProofEnds, IsFound}
 use Rattle.effic_check.specs.Verdict.{IsVerdict, IsAcceptedSo, IsRejectedSo}

@@ -9,7 +9,7 @@ use Rattle.line_rules.specs.Units.{UnitsWhole}
 use Rattle.line_rules.specs.declared.types.LineKind.{LineKind}
 use Rattle.line_rules.specs.declared.types.Entry.{Entry}
 use Rattle.line_rules.specs.declared.types.Trail.{Trail}
-use Rattle.effic_cert.specs.declared.cert.EfficCert.{EfficCert}
+use Rattle.line_rules.specs.declared.products.EfficCert.{EfficCert}
 
 -- no two tasks are apart
 abbrev pub NoneApart : Line → Type 0

@@ -12,7 +12,7 @@ use Rattle.line_check.specs.Frames.{IsFrameRefused, AreFramesEnded}
 use Rattle.line_check.specs.Verdicts.{AreDone}
 use Rattle.line_check.specs.declared.types.FrameFault.{FrameFault}
 use Rattle.line_check.specs.declared.types.FrameFault.TheVariants as fault
-use Rattle.effic_cert.specs.declared.cert.EfficCert.{EfficCert}
+use Rattle.line_rules.specs.declared.products.EfficCert.{EfficCert}
 use Rattle.effic_check.specs.Accepted.{IsAsked, IsClosed, MayBegin, ShowsUpper, IsAccepted}
 use Rattle.effic_check.specs.Truth.{IsBetween}
 use Rattle.effic_check.specs.declared.verdict.EfficPlace.{EfficPlace}

@@ -4,16 +4,15 @@ ghost use Rattle.line_instance.specs.Line.{tasks};
 ghost use Rattle.line_rules.specs.Balance.{IsRight};
 ghost use Rattle.line_rules.specs.Checked.{IsLeastWhere};
 ghost use Rattle.line_check.specs.Verdicts.{AreDone};
-ghost use Rattle.effic_cert.specs.Product.{IsSayable};
+ghost use Rattle.line_rules.specs.Products.{IsSayable};
 ghost use Rattle.effic_check.specs.Accepted.{NoneApart, IsAsked, IsClosed, MayBegin, ShowsUpper};
 ghost use Rattle.effic_check.specs.Verdict.{AreClosed, BalanceFails, IsAllowed, IsFound, IsLeftOpen};
 ghost use Rattle.effic_check.specs.Verdict.{IsAcceptedSo, IsRejectedSo, IsTrueOf, IsVerdict};
 
 use crate::verdict::{EfficPlace, EfficVerified};
-use effic_cert::EfficCert;
 use line_check::{FrameFault, FramesFound, ListFound, check_entries, check_frames, has_answer};
 use line_instance::Instance;
-use line_rules::{BalanceCheck, Trail, check_balance};
+use line_rules::{BalanceCheck, EfficCert, Trail, check_balance};
 
 /// The greatest cycle that an entry may have.
 const MAX_CYCLE: u128 = 1_000_000_000_000_000_000;

@@ -1,12 +1,13 @@
 //! What no clause says: certificates of five tasks, worked by hand, and what is wrong with changed ones.
 ghost use Rattle.std.specs.Prelude.{◌≤◌, IfOk};
-ghost use Rattle.effic_cert.specs.Product.{IsSayable};
+ghost use Rattle.line_rules.specs.Products.{IsSayable};
 ghost use Rattle.effic_check.specs.Accepted.{NoneApart};
 
 use crate::{EfficPlace, EfficVerified, verify_effic};
-use effic_cert::{EfficCert, EfficRead, read_effic};
+use effic_cert::{EfficRead, read_effic};
 use line_check::{EntryFault, FrameFault};
 use line_instance::{Instance, Made, make};
+use line_rules::EfficCert;
 use std::alloc::{AllocError, Global};
 use std::test::Fail;
 

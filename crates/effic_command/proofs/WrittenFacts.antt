@@ -7,8 +7,8 @@ use Rattle.command_outcome.specs.declared.report.Kept.TheVariants.{Product as Ce
 use Rattle.command_outcome.specs.declared.report.Report.{Report}
 use Rattle.command_outcome.proofs.WrittenFacts.{paged}
 use Rattle.round_run.specs.declared.plans.Plan.{Plan}
-use Rattle.effic_cert.specs.Product.{IsSayable}
-use Rattle.effic_cert.specs.declared.cert.EfficCert.{EfficCert}
+use Rattle.line_rules.specs.Products.{IsSayable}
+use Rattle.line_rules.specs.declared.products.EfficCert.{EfficCert}
 use Rattle.effic_search.specs.Outcomes.{IsCertified}
 use Rattle.effic_search.proofs.CertFacts.{stopped_certified}
 use Rattle.effic_command.specs.EfficFound.{page_of, IsFound}

@@ -4,7 +4,7 @@ use Rattle.line_instance.specs.Line.{Line}
 use Rattle.command_outcome.specs.Outcome.{Files, Outside, Outcome, told}
 use Rattle.command_outcome.specs.declared.status.Status.TheVariants as ends
 use Rattle.input_files.specs.Instance.{IsLineOf, IsNoLine}
-use Rattle.effic_cert.specs.declared.cert.EfficCert.{EfficCert}
+use Rattle.line_rules.specs.declared.products.EfficCert.{EfficCert}
 use Rattle.effic_check.specs.Verdict.{IsVerdict, IsAcceptedSo, IsRejectedSo, IsTrueOf}
 use Rattle.effic_check.specs.declared.verdict.EfficVerified.{EfficVerified}
 use Rattle.effic_command.specs.ProductFile.{IsProductOf, IsNoProduct}

@@ -12,7 +12,7 @@ use Rattle.input_files.specs.Instance.{IsLineOf, IsNoLine}
 use Rattle.solve_command.specs.SolutionText.{cut_short_text}
 use Rattle.cycle_command.specs.Found.{planned}
 use Rattle.effic_cert.specs.Product.{product_text}
-use Rattle.effic_cert.specs.declared.cert.EfficCert.{EfficCert}
+use Rattle.line_rules.specs.declared.products.EfficCert.{EfficCert}
 use Rattle.effic_check.specs.Truth.{IsBetween}
 use Rattle.effic_search.specs.Outcomes.{IsSolved, StoppedBy}
 use Rattle.effic_search.specs.declared.searching.Ended.{Ended}

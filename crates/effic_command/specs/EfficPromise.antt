@@ -12,7 +12,7 @@ use Rattle.command_outcome.specs.declared.status.Status.TheVariants as ends
 use Rattle.input_files.specs.Instance.{IsLineOf}
 use Rattle.cycle_command.specs.Found.{planned}
 use Rattle.effic_cert.specs.Product.{product_text}
-use Rattle.effic_cert.specs.declared.cert.EfficCert.{EfficCert}
+use Rattle.line_rules.specs.declared.products.EfficCert.{EfficCert}
 use Rattle.effic_check.specs.Accepted.{IsAccepted}
 use Rattle.effic_check.specs.Truth.{IsBetween, IsLeastProduct}
 use Rattle.effic_search.specs.Outcomes.{StoppedBy}

@@ -2,7 +2,7 @@
 use Rattle.std.specs.Prelude.{ℕ, List, ◌++◌, codes, decimal}
 use Rattle.solve_command.specs.SolutionText.{bounds_line}
 use Rattle.station_report.specs.BalanceLines.{balance_lines}
-use Rattle.effic_cert.specs.declared.cert.EfficCert.{EfficCert}
+use Rattle.line_rules.specs.declared.products.EfficCert.{EfficCert}
 use Rattle.effic_search.specs.declared.searching.Ended.{Ended}
 use Rattle.effic_search.specs.declared.searching.Ended.TheVariants as ended
 

@@ -3,7 +3,7 @@ use Rattle.std.specs.Prelude.{ℕ, List}
 use Rattle.command_outcome.specs.Outcome.{Files, Outside, Outcome}
 use Rattle.input_files.specs.TextFile.{IsSpelledIn, SpellsNone}
 use Rattle.effic_cert.specs.Faults.{products}
-use Rattle.effic_cert.specs.declared.cert.EfficCert.{EfficCert}
+use Rattle.line_rules.specs.declared.products.EfficCert.{EfficCert}
 
 -- the file says the certificate
 abbrev pub IsProductOf : Files → List ℕ → EfficCert → Type 0

@@ -4,7 +4,7 @@ use Rattle.check_command.specs.VerdictText.{kind_text, two_text, entry_fault_tex
 use Rattle.check_command.specs.VerdictText.{frame_fault_text, frame_mode, frame_of}
 use Rattle.command_outcome.specs.declared.status.Status.{Status}
 use Rattle.command_outcome.specs.declared.status.Status.TheVariants as ends
-use Rattle.effic_cert.specs.declared.cert.EfficCert.{EfficCert}
+use Rattle.line_rules.specs.declared.products.EfficCert.{EfficCert}
 use Rattle.effic_check.specs.declared.verdict.EfficPlace.{EfficPlace}
 use Rattle.effic_check.specs.declared.verdict.EfficPlace.TheVariants as place
 use Rattle.effic_check.specs.declared.verdict.EfficVerified.{EfficVerified}

@@ -12,8 +12,8 @@ ghost use Rattle.command_outcome.specs.declared.report.Stop.TheVariants.{Unwritt
 ghost use Rattle.command_outcome.specs.declared.status.Status.TheVariants as ends;
 ghost use Rattle.round_run.specs.Plans.{IsPlan};
 ghost use Rattle.solve_command.specs.Solution.{IsSolveStatus};
-ghost use Rattle.effic_cert.specs.Product.{IsSayable};
-ghost use Rattle.effic_cert.specs.declared.cert.EfficCert.{EfficCert as Proof};
+ghost use Rattle.line_rules.specs.Products.{IsSayable};
+ghost use Rattle.line_rules.specs.declared.products.EfficCert.{EfficCert as Proof};
 ghost use Rattle.effic_check.specs.Accepted.{NoneApart};
 ghost use Rattle.effic_check.specs.Truth.{IsBetween};
 ghost use Rattle.effic_command.specs.EfficText.{optimal_text, stopped_text};
@@ -23,11 +23,11 @@ ghost use Rattle.effic_command.specs.EfficPromise.{HasCertificate, IsEfficPromis
 use crate::print_effic::{optimal_text, stopped_text};
 use command_outcome::{Kept, Report, Status, Stop, cut_short_text, refuse, room_for_bounds};
 use cycle_command::plain_line;
-use effic_cert::{EfficCert, write_effic};
+use effic_cert::write_effic;
 use effic_search::{EfficOutcome, Ended, least_product};
 use line_instance::Instance;
 use line_io::{Shelf, Written, write_whole};
-use line_rules::LineKind;
+use line_rules::{EfficCert, LineKind};
 use round_run::{Gate, Plan};
 use station_report::idle_of;
 use std::alloc::{AllocError, Global};

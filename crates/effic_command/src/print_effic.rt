@@ -3,8 +3,8 @@ ghost use Rattle.std.specs.Prelude.{◌≡◌, ◌++◌, ◌<◌, ◌^◌, strin
 ghost use Rattle.effic_command.specs.EfficText.{place_line, optimal_text, stopped_line, stopped_text};
 
 use command_outcome::push_bounds;
-use effic_cert::EfficCert;
 use effic_search::Ended;
+use line_rules::EfficCert;
 use station_report::balance_text;
 use std::alloc::{AllocError, Global};
 

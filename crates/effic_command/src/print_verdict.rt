@@ -11,9 +11,8 @@ use check_command::{
     push_two,
 };
 use command_outcome::{Report, Status};
-use effic_cert::EfficCert;
 use effic_check::{EfficPlace, EfficVerified};
-use line_rules::LineKind;
+use line_rules::{EfficCert, LineKind};
 use std::alloc::{AllocError, Global};
 
 /// A wide number behind a text.

@@ -27,8 +27,8 @@ use Rattle.budget_law.specs.Budget.{states}
 use Rattle.budget_law.proofs.FewUnits.{units_few}
 use Rattle.round_run.specs.declared.plans.Plan.{Plan}
 use Rattle.run_certificates.proofs.Sayable.{entries_ok, trail_ok, all_are_tasks}
-use Rattle.effic_cert.specs.Product.{IsSayable}
-use Rattle.effic_cert.specs.declared.cert.EfficCert.{EfficCert}
+use Rattle.line_rules.specs.Products.{IsSayable}
+use Rattle.line_rules.specs.declared.products.EfficCert.{EfficCert}
 use Rattle.effic_check.specs.Accepted.{IsAccepted, HasTrail}
 use Rattle.effic_check.specs.Truth.{IsBetween, NoneBelow}
 use Rattle.effic_check.proofs.AcceptedIsTrue.{between}

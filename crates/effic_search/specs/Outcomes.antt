@@ -14,8 +14,8 @@ use Rattle.line_rules.specs.declared.types.Why.TheVariants as why
 use Rattle.line_rules.specs.Times.{longest_of}
 use Rattle.budget_law.specs.Budget.{states}
 use Rattle.round_run.specs.declared.plans.Plan.{Plan}
-use Rattle.effic_cert.specs.Product.{IsSayable}
-use Rattle.effic_cert.specs.declared.cert.EfficCert.{EfficCert}
+use Rattle.line_rules.specs.Products.{IsSayable}
+use Rattle.line_rules.specs.declared.products.EfficCert.{EfficCert}
 use Rattle.effic_check.specs.Accepted.{IsAccepted}
 use Rattle.effic_check.specs.Truth.{IsBetween, IsLeastProduct}
 use Rattle.effic_search.specs.Counted.{others, AreFew}

@@ -10,6 +10,7 @@ pub mod Trails
 pub mod Seats
 pub mod Accepted
 pub mod Ranges
+pub mod Products
 pub mod Laws
 pub mod Times
 pub mod Sides

@@ -8,10 +8,12 @@
 mod checking;
 pub mod laws;
 mod listed;
+mod products;
 mod types;
 
 pub use checking::check_balance;
 pub use listed::{Cites, Entries, EqualCopy, Frames, Listed, Loads, Places};
+pub use products::EfficCert;
 pub use types::{
     Ask, Balance, BalanceCheck, Certificate, Claim, Entry, LineKind, Load, Mode, OpenFrame,
     Seatplace, Side, Trail, Why,

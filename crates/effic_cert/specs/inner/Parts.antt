@@ -2,8 +2,9 @@
 use Rattle.std.specs.Prelude.{ℕ, List, codes}
 use Rattle.cert_lines.specs.Faults.{Grammar}
 use Rattle.cert_lines.specs.Rows.{Row, span}
-use Rattle.effic_cert.specs.Product.{IsStations, IsSayable, body_rows}
-use Rattle.effic_cert.specs.declared.cert.EfficCert.{EfficCert}
+use Rattle.line_rules.specs.Products.{IsStations, IsSayable}
+use Rattle.effic_cert.specs.Product.{body_rows}
+use Rattle.line_rules.specs.declared.products.EfficCert.{EfficCert}
 use Rattle.effic_cert.specs.declared.lines.Bound.{Bound}
 use Rattle.effic_cert.specs.declared.lines.Bound.TheVariants as bound
 

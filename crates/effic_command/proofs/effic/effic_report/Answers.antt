@@ -4,7 +4,7 @@ use Rattle.command_outcome.specs.declared.report.Kept.TheVariants.{Product as Ce
 use Rattle.command_outcome.specs.declared.report.Report.{Report}
 use Rattle.command_outcome.proofs.OutcomeFacts.{early, ends_as, handed_on}
 use Rattle.input_files.specs.Instance.{IsNoLine}
-use Rattle.effic_cert.specs.declared.cert.EfficCert.{EfficCert}
+use Rattle.line_rules.specs.declared.products.EfficCert.{EfficCert}
 use Rattle.effic_command.specs.EfficFound.{page_of, IsFound, IsEfficOutcome}
 use Rattle.effic_command.specs.EfficPromise.{HasCertificate, IsEfficPromised}
 use Rattle.effic_command.proofs.WrittenFacts.{in_file, sayable}

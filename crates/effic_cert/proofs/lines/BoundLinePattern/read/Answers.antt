@@ -1,5 +1,5 @@
 use Rattle.std.proofs.Common.{◌∙◌, sym, ap, arith}
-use Rattle.effic_cert.specs.Product.{IsProduct}
+use Rattle.line_rules.specs.Products.{IsProduct}
 use Rattle.effic_cert.specs.inner.Parts.{bound_text}
 use Rattle.effic_cert.specs.inner.WideReading.{wide_keyed_in}
 use Rattle.effic_cert.proofs.LineFacts.{bound_lacks, bound_none, bound_ok, bound_range}

@@ -1,5 +1,9 @@
-//! A certificate of the least product of stations and cycle.
-use line_rules::{Balance, Entries, LineKind, Trail};
+//! A certificate of the least product of stations and cycle (Scholl's SALBP-E).
+//!
+//! It has the parts of a certificate, with a range of stations in place of a question and with bounds on a product. A
+//! product is at most 10^24, the most stations times the longest cycle are 1,024 * 10^18, so it has 128 bits.
+use crate::listed::Entries;
+use crate::types::{Balance, LineKind, Trail};
 
 /// Bounds on the least product of stations and cycle over a range of stations, with their proof. Cycles are in the
 /// instance's time unit.
