@@ -19,7 +19,8 @@ use Rattle.line_words.specs.declared.command.Command.TheVariants as command
 use Rattle.line_words.specs.declared.fault.UsageKind.TheVariants.{UnknownKey, RepeatedKey, BadValue}
 use Rattle.line_words.specs.declared.job.Job.{Job}
 use Rattle.line_words.specs.declared.job.Job.TheVariants.{Help, Version, Balance, Solve, Cycle, Check, Convert, Combine}
-use Rattle.line_words.specs.declared.job.Job.TheVariants.{Utility, Timeline, Try, Draw, Effic, EfficCheck, Sequence}
+use Rattle.line_words.specs.declared.job.Job.TheVariants.{Utility, Timeline, TimelineDraw, Try, Draw, Effic, EfficCheck}
+use Rattle.line_words.specs.declared.job.Job.TheVariants.{Sequence}
 use Rattle.line_words.specs.declared.job.Job.TheVariants.{SequenceCheck}
 use Rattle.line_io.proofs.ReadFacts.{same_bytes}
 
@@ -289,6 +290,10 @@ job_between command.Timeline ws r = (
   default_between command.Timeline ws (codes "interval") 1 (λ v. refl) r (omega arith, omega arith),
   default_between command.Timeline ws (codes "length") 1 (λ v. refl) r (omega arith, omega arith),
 )
+job_between command.TimelineDraw ws r = (
+  default_between command.TimelineDraw ws (codes "interval") 1 (λ v. refl) r (omega arith, omega arith),
+  default_between command.TimelineDraw ws (codes "length") 1 (λ v. refl) r (omega arith, omega arith),
+)
 job_between command.Try ws r = (
   default_between command.Try ws (codes "seed") 0 (λ v. refl) r (omega arith, omega arith),
   default_between command.Try ws (codes "tasks") 1 (λ v. refl) r (omega arith, omega arith),
@@ -332,6 +337,7 @@ page_between words (Convert file out to cycle) p = absurd p
 page_between words (Combine mix out) p = absurd p
 page_between words (Utility mix cert seq interval length) p = absurd p
 page_between words (Timeline mix cert seq interval length) p = absurd p
+page_between words (TimelineDraw mix cert seq out interval length) p = absurd p
 page_between words (Try seed tasks cycle line units) p = absurd p
 page_between words (Draw file cert out apart) p = absurd p
 page_between words (Effic file least most line helpers units cert) p = absurd p

@@ -9,7 +9,8 @@ use Rattle.line_words.specs.declared.command.Command.{Command}
 use Rattle.line_words.specs.declared.command.Command.TheVariants as command
 use Rattle.line_words.specs.declared.job.Job.{Job}
 use Rattle.line_words.specs.declared.job.Job.TheVariants.{Help, Version, Balance, Solve, Cycle, Check, Convert, Combine}
-use Rattle.line_words.specs.declared.job.Job.TheVariants.{Utility, Timeline, Try, Draw, Effic, EfficCheck, Sequence}
+use Rattle.line_words.specs.declared.job.Job.TheVariants.{Utility, Timeline, TimelineDraw, Try, Draw, Effic, EfficCheck}
+use Rattle.line_words.specs.declared.job.Job.TheVariants.{Sequence}
 use Rattle.line_words.specs.declared.job.Job.TheVariants.{SequenceCheck}
 use Rattle.line_words.specs.declared.job.LineWord.{LineWord}
 use Rattle.line_words.specs.declared.job.LineWord.TheVariants.{Straight, U}
@@ -146,6 +147,10 @@ job_for command.Utility ws =
 job_for command.Timeline ws =
     Timeline (name_at ws 0) (name_at ws 1) (name_at ws 2) (number_or command.Timeline ws (codes "interval") 1)
     (number_or command.Timeline ws (codes "length") 1)
+job_for command.TimelineDraw ws =
+    TimelineDraw (name_at ws 0) (name_at ws 1) (name_at ws 2) (name_at ws 3)
+    (number_or command.TimelineDraw ws (codes "interval") 1)
+    (number_or command.TimelineDraw ws (codes "length") 1)
 job_for command.Try ws =
     Try (number_or command.Try ws (codes "seed") 0) (number_or command.Try ws (codes "tasks") 1)
     (number_or command.Try ws (codes "cycle") 200) (line_set ws)

@@ -2,7 +2,8 @@
 use Rattle.std.specs.Prelude.{ℕ, ◌≤◌, Option, Some, None}
 use Rattle.line_words.specs.declared.job.Job.{Job}
 use Rattle.line_words.specs.declared.job.Job.TheVariants.{Help, Version, Balance, Solve, Cycle, Check, Convert, Combine}
-use Rattle.line_words.specs.declared.job.Job.TheVariants.{Utility, Timeline, Try, Draw, Effic, EfficCheck, Sequence}
+use Rattle.line_words.specs.declared.job.Job.TheVariants.{Utility, Timeline, TimelineDraw, Try, Draw, Effic, EfficCheck}
+use Rattle.line_words.specs.declared.job.Job.TheVariants.{Sequence}
 use Rattle.line_words.specs.declared.job.Job.TheVariants.{SequenceCheck}
 use Rattle.line_words.specs.declared.reading.JobRead.{JobRead}
 use Rattle.line_words.specs.declared.reading.JobRead.TheVariants.{Good, Usage, NoMemory}
@@ -31,6 +32,8 @@ IsInRange (Convert file out to cycle) = IsSetBetween 1 1000000000000000000 cycle
 IsInRange (Combine mix out) = Unit {0}
 IsInRange (Utility mix cert seq interval length) = IsBetween 1 1000000000 interval × IsBetween 1 1000000000 length
 IsInRange (Timeline mix cert seq interval length) = IsBetween 1 1000000000 interval × IsBetween 1 1000000000 length
+IsInRange (TimelineDraw mix cert seq out interval length) =
+    IsBetween 1 1000000000 interval × IsBetween 1 1000000000 length
 IsInRange (Try seed tasks cycle line units) =
     IsBetween 0 18446744073709551615 seed × IsBetween 1 1024 tasks × IsBetween 1 1000000000000000000 cycle
     × IsBetween 1 3000000 units

@@ -8,7 +8,8 @@ use Rattle.line_io.specs.declared.text.Num.TheVariants.{Value, NotANumber, Above
 use Rattle.line_words.specs.Words.{Text, sets}
 use Rattle.line_words.specs.declared.command.Command.{Command}
 use Rattle.line_words.specs.declared.command.Command.TheVariants.{Balance, Solve, Cycle, Check, Convert, Combine}
-use Rattle.line_words.specs.declared.command.Command.TheVariants.{Utility, Timeline, Try, Draw, Effic, EfficCheck}
+use Rattle.line_words.specs.declared.command.Command.TheVariants.{Utility, Timeline, TimelineDraw, Try, Draw, Effic}
+use Rattle.line_words.specs.declared.command.Command.TheVariants.{EfficCheck}
 use Rattle.line_words.specs.declared.command.Command.TheVariants.{Sequence, SequenceCheck}
 
 -- the command that a word names
@@ -22,12 +23,13 @@ command_named word =
     (cond (bytes_eq word (codes "combine")) (Some Combine)
     (cond (bytes_eq word (codes "utility")) (Some Utility)
     (cond (bytes_eq word (codes "timeline")) (Some Timeline)
+    (cond (bytes_eq word (codes "timeline-draw")) (Some TimelineDraw)
     (cond (bytes_eq word (codes "try")) (Some Try)
     (cond (bytes_eq word (codes "draw")) (Some Draw)
     (cond (bytes_eq word (codes "effic")) (Some Effic)
     (cond (bytes_eq word (codes "effic-check")) (Some EfficCheck)
     (cond (bytes_eq word (codes "sequence")) (Some Sequence)
-    (cond (bytes_eq word (codes "sequence-check")) (Some SequenceCheck) None)))))))))))))
+    (cond (bytes_eq word (codes "sequence-check")) (Some SequenceCheck) None))))))))))))))
 
 -- how many names a command wants
 abbrev pub names_wanted : Command → ℕ
@@ -39,6 +41,7 @@ names_wanted Convert = 2
 names_wanted Combine = 2
 names_wanted Utility = 3
 names_wanted Timeline = 3
+names_wanted TimelineDraw = 4
 names_wanted Try = 0
 names_wanted Draw = 3
 names_wanted Effic = 1
@@ -61,6 +64,7 @@ keys_wanted Convert = codes "to" ∷ []
 keys_wanted Combine = []
 keys_wanted Utility = codes "interval" ∷ codes "length" ∷ []
 keys_wanted Timeline = codes "interval" ∷ codes "length" ∷ []
+keys_wanted TimelineDraw = codes "interval" ∷ codes "length" ∷ []
 keys_wanted Try = codes "seed" ∷ codes "tasks" ∷ []
 keys_wanted Draw = []
 keys_wanted Effic = codes "least" ∷ codes "most" ∷ []
@@ -80,6 +84,7 @@ keys_taken Convert = codes "to" ∷ codes "cycle" ∷ []
 keys_taken Combine = []
 keys_taken Utility = codes "interval" ∷ codes "length" ∷ []
 keys_taken Timeline = codes "interval" ∷ codes "length" ∷ []
+keys_taken TimelineDraw = codes "interval" ∷ codes "length" ∷ []
 keys_taken Try = codes "seed" ∷ codes "tasks" ∷ codes "cycle" ∷ codes "line" ∷ codes "units" ∷ []
 keys_taken Draw = codes "apart" ∷ []
 keys_taken Effic =
@@ -107,6 +112,7 @@ units_most Convert = 3000000
 units_most Combine = 3000000
 units_most Utility = 3000000
 units_most Timeline = 3000000
+units_most TimelineDraw = 3000000
 units_most Try = 3000000
 units_most Draw = 3000000
 units_most Effic = 1000000

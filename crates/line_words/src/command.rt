@@ -21,6 +21,8 @@ pub enum Command {
     Utility,
     /// The utility work of a sequence, step by step.
     Timeline,
+    /// The picture of the utility work of a sequence, step by step.
+    TimelineDraw,
     /// A generated instance.
     Try,
     /// The picture of a balance.
@@ -63,6 +65,9 @@ pub(crate) fn command_named(word: &str) -> Option<Command>
     if word == "timeline" {
         return Some(Command::Timeline);
     }
+    if word == "timeline-draw" {
+        return Some(Command::TimelineDraw);
+    }
     if word == "try" {
         return Some(Command::Try);
     }
@@ -98,6 +103,7 @@ impl Command {
             Command::Combine => 2,
             Command::Utility => 3,
             Command::Timeline => 3,
+            Command::TimelineDraw => 4,
             Command::Try => 0,
             Command::Draw => 3,
             Command::Effic => 1,
@@ -120,6 +126,7 @@ impl Command {
             Command::Combine => &[],
             Command::Utility => &["interval", "length"],
             Command::Timeline => &["interval", "length"],
+            Command::TimelineDraw => &["interval", "length"],
             Command::Try => &["seed", "tasks"],
             Command::Draw => &[],
             Command::Effic => &["least", "most"],
@@ -144,6 +151,7 @@ impl Command {
             Command::Combine => &[],
             Command::Utility => &["interval", "length"],
             Command::Timeline => &["interval", "length"],
+            Command::TimelineDraw => &["interval", "length"],
             Command::Try => &["seed", "tasks", "cycle", "line", "units"],
             Command::Draw => &["apart"],
             Command::Effic => &["least", "most", "line", "helpers", "units", "cert"],

@@ -101,6 +101,15 @@ pub enum Job {
         interval: u64,
         length: u64,
     },
+    /// The picture of the same.
+    TimelineDraw {
+        mix: Name,
+        cert: Name,
+        seq: Name,
+        out: Name,
+        interval: u64,
+        length: u64,
+    },
     /// A generated instance of as many tasks.
     Try {
         seed: u64,
@@ -391,6 +400,19 @@ fn timeline_job(alloc: Global, words: &[String]) -> Result<Job, AllocError>
     })
 }
 
+fn timeline_draw_job(alloc: Global, words: &[String]) -> Result<Job, AllocError>
+    ensures { IfOk result (λ j. j ≡ job_for Command.TimelineDraw (texts words.now)) }
+{
+    Ok(Job::TimelineDraw {
+        mix: name_at(alloc, words, 0)?,
+        cert: name_at(alloc, words, 1)?,
+        seq: name_at(alloc, words, 2)?,
+        out: name_at(alloc, words, 3)?,
+        interval: number_or(Command::TimelineDraw, words, "interval", 1),
+        length: number_or(Command::TimelineDraw, words, "length", 1),
+    })
+}
+
 fn try_job(words: &[String]) -> Job
     ensures { result ≡ job_for Command.Try (texts words.now) }
 {
@@ -483,6 +505,7 @@ pub(crate) fn job_for(alloc: Global, command: Command, words: &[String]) -> Resu
         }),
         Command::Utility => utility_job(alloc, words),
         Command::Timeline => timeline_job(alloc, words),
+        Command::TimelineDraw => timeline_draw_job(alloc, words),
         Command::Try => Ok(try_job(words)),
         Command::Draw => draw_job(alloc, words),
         Command::Effic => effic_job(alloc, words),
