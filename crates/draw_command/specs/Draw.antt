@@ -16,7 +16,7 @@ use Rattle.command_outcome.specs.Outcome.{Files, Outside, Outcome, told}
 use Rattle.command_outcome.specs.declared.status.Status.TheVariants as ends
 use Rattle.input_files.specs.Instance.{IsLineOf, IsNoLine}
 use Rattle.input_files.specs.Certificate.{IsCertificateOf, IsNoCertificate}
-use Rattle.check_command.specs.VerdictText.{verdict_text}
+use Rattle.printed_verdict.specs.VerdictText.{verdict_text}
 use Rattle.convert_command.specs.Convert.{wrote}
 
 -- The certificate is of as many tasks as the line has, and claims a balance that shows its upper bound: it is in as
