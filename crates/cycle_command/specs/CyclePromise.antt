@@ -23,7 +23,7 @@ use Rattle.command_outcome.specs.declared.report.Kept.TheVariants.{Line as Certi
 use Rattle.command_outcome.specs.declared.status.Status.{Status}
 use Rattle.command_outcome.specs.declared.status.Status.TheVariants as ends
 use Rattle.input_files.specs.Instance.{IsLineOf}
-use Rattle.solve_command.specs.Promise.{HasCertificate}
+use Rattle.solution_page.specs.Page.{HasCertificate}
 use Rattle.cycle_search.specs.Outcomes.{IsRightIn}
 use Rattle.cycle_certificates.specs.CycleCertified.{about_cycle}
 use Rattle.cycle_command.specs.CycleText.{optimal_text, stopped_text}

@@ -11,8 +11,8 @@ use Rattle.round_run.specs.declared.plans.Plan.{Plan}
 use Rattle.command_outcome.specs.Outcome.{Files, Outside, Outcome, told}
 use Rattle.command_outcome.specs.declared.status.Status.TheVariants as ends
 use Rattle.input_files.specs.Instance.{IsLineOf, IsNoLine}
-use Rattle.solve_command.specs.Solution.{certified_by}
-use Rattle.solve_command.specs.SolutionText.{cut_short_text}
+use Rattle.solution_page.specs.Page.{certified_by}
+use Rattle.command_outcome.specs.Bounds.{cut_short_text}
 use Rattle.cycle_certificates.specs.CycleCertified.{IsOptimum, IsStop}
 use Rattle.cycle_command.specs.CycleText.{optimal_text, stopped_text}
 

@@ -9,7 +9,7 @@ ghost use Rattle.command_outcome.specs.Outcome.{Ends, MayEnd, Stops, MayStop, ou
 ghost use Rattle.command_outcome.specs.declared.report.Stop.TheVariants.{Unwritten};
 ghost use Rattle.round_run.specs.Plans.{IsPlan};
 ghost use Rattle.round_run.specs.declared.plans.Plan.{Plan as Planned};
-ghost use Rattle.solve_command.specs.Solution.{IsSolveStatus};
+ghost use Rattle.solution_page.specs.Page.{IsSolveStatus};
 ghost use Rattle.cycle_search.specs.Ends.{NoneApart};
 ghost use Rattle.cycle_search.specs.Outcomes.{IsSolved, IsSpent, IsStopped as HasStopped};
 ghost use Rattle.cycle_command.specs.CyclePromise.{IsCyclePromised, IsShown};
@@ -24,7 +24,7 @@ use line_instance::Instance;
 use line_io::Shelf;
 use line_rules::{Balance, Entries, LineKind, Trail};
 use round_run::{Cause, Gate, Plan};
-use solve_command::write_certificate;
+use solution_page::write_certificate;
 use station_report::idle_of;
 use std::alloc::{AllocError, Global};
 use std::sync::Wait;

@@ -9,7 +9,7 @@ use Rattle.command_outcome.specs.declared.report.Kept.TheVariants.{Product}
 use Rattle.command_outcome.specs.declared.status.Status.{Status}
 use Rattle.command_outcome.specs.declared.status.Status.TheVariants as ends
 use Rattle.input_files.specs.Instance.{IsLineOf, IsNoLine}
-use Rattle.solve_command.specs.SolutionText.{cut_short_text}
+use Rattle.command_outcome.specs.Bounds.{cut_short_text}
 use Rattle.cycle_command.specs.Found.{planned}
 use Rattle.effic_cert.specs.Product.{product_text}
 use Rattle.line_rules.specs.declared.products.EfficCert.{EfficCert}

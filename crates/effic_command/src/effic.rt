@@ -11,7 +11,7 @@ ghost use Rattle.command_outcome.specs.declared.report.Kept.TheVariants.{Product
 ghost use Rattle.command_outcome.specs.declared.report.Stop.TheVariants.{Unwritten};
 ghost use Rattle.command_outcome.specs.declared.status.Status.TheVariants as ends;
 ghost use Rattle.round_run.specs.Plans.{IsPlan};
-ghost use Rattle.solve_command.specs.Solution.{IsSolveStatus};
+ghost use Rattle.solution_page.specs.Page.{IsSolveStatus};
 ghost use Rattle.line_rules.specs.Products.{IsSayable};
 ghost use Rattle.line_rules.specs.declared.products.EfficCert.{EfficCert as Proof};
 ghost use Rattle.effic_check.specs.Accepted.{NoneApart};
