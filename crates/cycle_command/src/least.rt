@@ -15,11 +15,11 @@ ghost use Rattle.cycle_search.specs.Outcomes.{IsSolved, IsSpent, IsStopped as Ha
 ghost use Rattle.cycle_command.specs.CyclePromise.{IsCyclePromised, IsShown};
 ghost use Rattle.cycle_command.specs.Found.{IsOptimal, IsStopped, IsFound, IsCutShort, IsCycleOutcome};
 
-use crate::line_file::plain_line;
 use crate::print_cycle::{optimal_text, stopped_text};
 use command_outcome::{Kept, Report, Status, Stop, cut_short_text, refuse, room_for_bounds};
 use cycle_certificates::{certify_cycle, certify_cycle_stop};
 use cycle_search::{CycleOutcome, least_cycle};
+use input_files::plain_line;
 use line_instance::Instance;
 use line_io::Shelf;
 use line_rules::{Balance, Entries, LineKind, Trail};

@@ -10,10 +10,9 @@ ghost use Rattle.effic_command.specs.EfficCheck.{IsEfficCheckOutcome, IsProvedPr
 
 use crate::print_verdict::verdict_report;
 use command_outcome::{Report, Stop};
-use cycle_command::plain_line;
 use effic_cert::EfficText;
 use effic_check::verify_effic;
-use input_files::spelled_in;
+use input_files::{plain_line, spelled_in};
 use line_io::Shelf;
 use std::alloc::Global;
 

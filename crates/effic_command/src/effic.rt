@@ -22,9 +22,9 @@ ghost use Rattle.effic_command.specs.EfficPromise.{HasCertificate, IsEfficPromis
 
 use crate::print_effic::{optimal_text, stopped_text};
 use command_outcome::{Kept, Report, Status, Stop, cut_short_text, refuse, room_for_bounds};
-use cycle_command::plain_line;
 use effic_cert::write_effic;
 use effic_search::{EfficOutcome, Ended, least_product};
+use input_files::plain_line;
 use line_instance::Instance;
 use line_io::{Shelf, Written, write_whole};
 use line_rules::{EfficCert, LineKind};
