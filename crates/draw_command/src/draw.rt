@@ -10,8 +10,7 @@ ghost use Rattle.line_check.specs.declared.types.Verified.TheVariants.{Refused};
 ghost use Rattle.printed_verdict.specs.VerdictText.{verdict_text};
 ghost use Rattle.draw_command.specs.Draw.{ClaimFails, IsDrawOutcome, IsDrawable, IsTrulyDrawn, IsUndrawable, bare_line};
 
-use command_outcome::{Report, Status, Stop, refuse, write_page};
-use convert_command::written;
+use command_outcome::{Report, Status, Stop, refuse, write_page, written};
 use input_files::{certificate_of, line_of};
 use line_check::{Place, Verified, balance_fault};
 use line_drawing::draw_text;
