@@ -5,11 +5,10 @@ use Rattle.line_rules.specs.declared.types.Certificate.{Certificate}
 use Rattle.line_check.specs.Certificates.{IsVerdict, IsAcceptedSo, IsRejectedSo, IsTrueOf}
 use Rattle.line_check.specs.declared.types.Verified.{Verified}
 use Rattle.command_outcome.specs.Outcome.{Files, Outside, Outcome, told}
-use Rattle.command_outcome.specs.declared.status.Status.{Status}
 use Rattle.command_outcome.specs.declared.status.Status.TheVariants as ends
 use Rattle.input_files.specs.Instance.{IsLineOf, IsNoLine}
 use Rattle.input_files.specs.Certificate.{IsCertificateOf, IsNoCertificate}
-use Rattle.check_command.specs.VerdictText.{verdict_text, verdict_status}
+use Rattle.printed_verdict.specs.VerdictText.{verdict_text, verdict_status}
 
 -- The certificate that one file says is checked for the line that the other files say: the verdict is exact, what is
 -- accepted is true, and the outcome tells the verdict.
@@ -49,7 +48,3 @@ pub record IsProvedTrue (files : Files) (name proof : List ℕ) (apart : Option 
   pub yes : verdict_status found ≡ ends.Done
   pub accepted : IsAcceptedSo line cert steps found
   pub holds : IsTrueOf line cert found
-
--- the status of a verdict on a certificate
-abbrev pub IsVerdictStatus : Status → Type 0
-IsVerdictStatus s = (s ≡ ends.Done) ⊎ (s ≡ ends.Refused) ⊎ (s ≡ ends.Steps)

@@ -1,2 +1,1 @@
-pub mod VerdictText
 pub mod Check

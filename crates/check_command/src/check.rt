@@ -7,15 +7,16 @@ ghost use Rattle.line_words.specs.Ranges.{IsBetween};
 ghost use Rattle.command_outcome.specs.Outcome.{Ends, Stops, MayStop, outside};
 ghost use Rattle.command_outcome.specs.declared.report.Kept.TheVariants.{Nothing};
 ghost use Rattle.command_outcome.specs.declared.status.Status.TheVariants as ends;
-ghost use Rattle.check_command.specs.Check.{IsCheckOutcome, IsProvedTrue, IsVerdictStatus};
+ghost use Rattle.check_command.specs.Check.{IsCheckOutcome, IsProvedTrue};
+ghost use Rattle.printed_verdict.specs.VerdictText.{IsVerdictStatus};
 
-use crate::print_verdict::verdict_report;
 use command_outcome::{Report, Stop};
 use input_files::{certificate_of, line_of};
 use line_check::{Verified, verify};
 use line_instance::Instance;
 use line_io::Shelf;
 use line_rules::Certificate;
+use printed_verdict::verdict_report;
 use std::alloc::Global;
 use std::thread::Threads;
 use wide_check::{Wide, verify_wide};

@@ -5,11 +5,5 @@
 #![tactic(auto)]
 
 mod check;
-mod print_verdict;
 
 pub use check::check_report;
-pub use command_outcome::push_one;
-pub use print_verdict::{
-    entry_mode, frame_mode, push_entry_fault, push_frame_fault, push_pair, push_task, push_two,
-    verdict_report,
-};

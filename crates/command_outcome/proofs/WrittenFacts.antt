@@ -2,9 +2,11 @@
 use Rattle.std.proofs.Common.{◌≡◌, ◌≢◌, ◌∙◌, ℕ, Bool, true, List, Option, Some, refl, ap, subst}
 use Rattle.line_io.specs.Whole.{IsPrefixWritten}
 use Rattle.command_outcome.specs.Outcome.{Files, Page, Outcome, Comes, IsCut, Stay, outcome_of, outside, told}
+use Rattle.command_outcome.specs.Wrote.{wrote, written_line}
 use Rattle.command_outcome.specs.declared.report.Kept.TheVariants.{Nothing}
 use Rattle.command_outcome.specs.declared.report.Report.{Report}
 use Rattle.command_outcome.specs.declared.status.Status.{Status}
+use Rattle.command_outcome.specs.declared.status.Status.TheVariants as ends
 use Rattle.command_outcome.proofs.OutcomeFacts.{told_as}
 
 -- an outcome, with this page in place of its own
@@ -15,6 +17,12 @@ paged page out = record { status = out.status; text = out.text; page = page; kep
 pub told_with : (page : Page) (r : Report) (status : Status) (text : List ℕ) → r.status ≡ status
     → r.text.items ≡ text → r.kept ≡ Nothing → outcome_of r (Some page) ≡ paged (Some page) (told status text)
 told_with page r status text s t k = ap (paged (Some page)) (told_as r status text s t k)
+
+-- what the report about a file that was written comes to
+pub wrote_as : (r : Report) (name bytes : List ℕ) → r.status ≡ ends.Done → r.text.items ≡ written_line name
+    → r.kept ≡ Nothing → outcome_of r (Some (record { name = name; bytes = bytes })) ≡ wrote name bytes
+wrote_as r name bytes s t k =
+    told_with (record { name = name; bytes = bytes }) r ends.Done (written_line name) s t k
 
 -- A report that comes to P with a page of these bytes, of which as many are put into its file as could be.
 module _ (P : Outcome → Type 0) (r : Report) (name bytes put : List ℕ) (files mid after : Files)

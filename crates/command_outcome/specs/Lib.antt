@@ -2,5 +2,6 @@ pub mod Codes
 pub mod Print
 pub mod Bounds
 pub mod Outcome
+pub mod Wrote
 pub mod Output
 pub mod Ending

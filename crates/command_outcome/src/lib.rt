@@ -15,7 +15,7 @@ mod status;
 
 pub use bounds::{cut_short_text, push_bounds, room_for_bounds};
 pub use output::finish;
-pub use page::write_page;
+pub use page::{write_page, written};
 pub use print::{line_about, push_number, push_one, push_printed};
 pub use report::{Kept, Report, Stop, refuse};
 pub use status::Status;

@@ -1,10 +1,16 @@
-//! The page of a report: the file that a command writes before its report is put.
+//! The page of a report: the file that a command writes before its report is put, and the report about it.
 ghost use Rattle.std.specs.Prelude.{◌≡◌, ◌≢◌, ◌≤◌, ℕ, List, Some, IfOk, MatchResult};
 ghost use Rattle.line_io.specs.Outside.{Rises};
 ghost use Rattle.command_outcome.specs.Outcome.{Files, Ends, MayEnd, Stay, outside, outcome_of};
+ghost use Rattle.command_outcome.specs.Wrote.{written_line};
+ghost use Rattle.command_outcome.specs.declared.report.Kept.TheVariants.{Nothing};
+ghost use Rattle.command_outcome.specs.declared.status.Status.TheVariants as ends;
 
+use crate::print::line_about;
 use crate::report::{Report, Stop};
+use crate::status::Status;
 use line_io::{Shelf, Written, write_whole};
+use std::alloc::{AllocError, Global};
 
 /// Writes the page of a report, and hands the report on.
 pub fn write_page<S: Shelf>(
@@ -27,4 +33,14 @@ pub fn write_page<S: Shelf>(
         Written::Done => Ok(report),
         Written::WriteFault => Err(Stop::Unwritten),
     }
+}
+
+/// The report about a file of this name that was written.
+pub fn written(alloc: Global, name: &str) -> Result<Report, AllocError>
+    ensures status { IfOk result (λ r. r.status ≡ ends.Done) }
+    ensures text { IfOk result (λ r. r.text.items ≡ written_line name.now) }
+    ensures kept { IfOk result (λ r. r.kept ≡ Nothing) }
+{
+    let text = line_about(alloc, "written ", name, "\n")?;
+    Ok(Report::told(Status::Done, text))
 }

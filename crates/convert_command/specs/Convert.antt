@@ -1,5 +1,5 @@
 -- What `convert` comes to.
-use Rattle.std.specs.Prelude.{◌≡◌, ◌≢◌, ◌⊎◌, ℕ, List, ◌++◌, Option, Some, codes}
+use Rattle.std.specs.Prelude.{◌≡◌, ◌≢◌, ◌⊎◌, ℕ, List, Option}
 use Rattle.line_instance.specs.Line.{Line}
 use Rattle.line_rules.specs.declared.types.Certificate.{Certificate}
 use Rattle.in2_reader.specs.Written.{IsIn2Text}
@@ -8,9 +8,7 @@ use Rattle.cert_text.specs.Cert.{cert_text}
 use Rattle.line_words.specs.declared.job.FormWord.{FormWord}
 use Rattle.line_words.specs.declared.job.FormWord.TheVariants.{In2, Alb, Cert}
 use Rattle.command_outcome.specs.Outcome.{Files, Outside, Outcome}
-use Rattle.command_outcome.specs.Print.{printed}
-use Rattle.command_outcome.specs.declared.report.Kept.TheVariants.{Nothing}
-use Rattle.command_outcome.specs.declared.status.Status.TheVariants as ends
+use Rattle.command_outcome.specs.Wrote.{wrote}
 use Rattle.input_files.specs.Instance.{IsInstance, IsNoInstance, cycle_of}
 use Rattle.input_files.specs.Certificate.{IsCertificateOf, IsNoCertificate}
 
@@ -19,20 +17,6 @@ abbrev pub IsTextIn : FormWord → Line → Option ℕ → List ℕ → Type 0
 IsTextIn In2 line cycle bytes = IsIn2Text line bytes
 IsTextIn Alb line cycle bytes = IsAlbText line cycle bytes
 IsTextIn Cert line cycle bytes = ⊥
-
--- the line about the file that was written
-abbrev pub written_line : List ℕ → List ℕ
-written_line name = codes "written " ++ printed name ++ codes "\n"
-
--- done, with a page of this name and these bytes, and nothing kept
-abbrev pub wrote : List ℕ → List ℕ → Outcome
-wrote name bytes =
-    record {
-      status = ends.Done;
-      text = written_line name;
-      page = Some (record { name = name; bytes = bytes });
-      kept = Nothing;
-    }
 
 -- A file says an instance, and what is written is its canonical text in the form, with the cycle time of the words, or
 -- else of the file.

@@ -6,11 +6,12 @@ ghost use Rattle.command_outcome.specs.Outcome.{Ends, MayEnd, outside};
 ghost use Rattle.command_outcome.specs.declared.report.Kept.TheVariants.{Nothing};
 ghost use Rattle.command_outcome.specs.declared.status.Status.TheVariants as ends;
 ghost use Rattle.input_files.specs.Instance.{cycle_of};
-ghost use Rattle.convert_command.specs.Convert.{IsConvertOutcome, IsTextIn, written_line};
+ghost use Rattle.convert_command.specs.Convert.{IsConvertOutcome, IsTextIn};
+ghost use Rattle.command_outcome.specs.Wrote.{written_line};
 
 use alb_reader::write_alb;
 use cert_files::{Streamed, stream_cert};
-use command_outcome::{Report, Status, Stop, line_about, write_page};
+use command_outcome::{Report, Stop, write_page, written};
 use in2_reader::write_in2;
 use input_files::{certificate_of, sheet_of};
 use line_instance::Instance;
@@ -43,16 +44,6 @@ fn text_in(
         FormWord::Alb => write_alb(alloc, inst, cycle),
         FormWord::Cert => unreachable!(),
     }
-}
-
-/// The report about a file of this name that was written.
-pub fn written(alloc: Global, name: &str) -> Result<Report, AllocError>
-    ensures status { IfOk result (λ r. r.status ≡ ends.Done) }
-    ensures text { IfOk result (λ r. r.text.items ≡ written_line name.now) }
-    ensures kept { IfOk result (λ r. r.kept ≡ Nothing) }
-{
-    let text = line_about(alloc, "written ", name, "\n")?;
-    Ok(Report::told(Status::Done, text))
 }
 
 /// Writes an instance in another form.

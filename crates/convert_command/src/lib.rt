@@ -6,4 +6,4 @@
 
 mod convert;
 
-pub use convert::{convert_report, written};
+pub use convert::convert_report;

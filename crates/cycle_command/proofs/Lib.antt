@@ -1,3 +1,2 @@
 pub mod PromiseFacts
 pub mod WrittenFacts
-pub mod PlainFacts

@@ -1,7 +1,6 @@
 -- What `cycle` answers is what it promises.
-use Rattle.std.proofs.Common.{inl, inr, ℕ, nat_eq, List, Option, Some, None, refl, sym}
-use Rattle.std.proofs.Common.{subst, arith, rules}
-use Rattle.std.proofs.lemmas.Bool.{eqb-true, cond-true}
+use Rattle.std.proofs.Common.{inl, inr, ℕ, nat_eq, List, Option, Some, None, refl, sym, subst, arith, rules}
+use Rattle.std.proofs.lemmas.Bool.{cond-false, cond-true, ne_eqb}
 use Rattle.line_instance.specs.Line.{Line}
 use Rattle.line_rules.specs.Bounds.{idle_time}
 use Rattle.line_rules.specs.declared.types.LineKind.{LineKind}
@@ -10,7 +9,6 @@ use Rattle.line_rules.specs.declared.types.Certificate.{Certificate}
 use Rattle.round_run.specs.declared.plans.Plan.{Plan}
 use Rattle.command_outcome.specs.Outcome.{Outcome}
 use Rattle.command_outcome.specs.declared.status.Status.TheVariants as ends
-use Rattle.solve_command.proofs.PromiseFacts.{not_chosen}
 use Rattle.cycle_certificates.specs.CycleCertified.{IsOptimum, IsStop}
 use Rattle.cycle_command.specs.CycleText.{optimal_text, stopped_text}
 use Rattle.cycle_command.specs.Found.{IsFound}
@@ -54,9 +52,9 @@ module _ (kind : LineKind) (line : Line) (m : ℕ) (plan : Plan) where
     accepted = p.certified.accepted;
     few = p.certified.few;
     true_bounds = p.certified.true_bounds;
-    printed = sym (not_chosen (nat_eq lower upper) (optimal_text kind upper b (idle_time line upper m))
+    printed = sym (cond-false (nat_eq lower upper) (optimal_text kind upper b (idle_time line upper m))
         (stopped_text kind lower upper b (idle_time line upper m))
-        (λ e. omega (arith, p.spent.stopped.below, eqb-true lower upper e)));
+        (ne_eqb lower upper (λ e. omega (arith, p.spent.stopped.below, e))));
     differ = λ h. (
       refl,
       record {

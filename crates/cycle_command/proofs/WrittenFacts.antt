@@ -16,7 +16,7 @@ use Rattle.command_outcome.proofs.WrittenFacts.{paged}
 use Rattle.round_run.specs.declared.plans.Plan.{Plan}
 use Rattle.round_run.specs.declared.solving.Cause.{Cause}
 use Rattle.round_run.specs.declared.solving.Cause.TheVariants as causes
-use Rattle.solve_command.specs.Solution.{page_of, IsSolveStatus}
+use Rattle.solution_page.specs.Page.{page_of, IsSolveStatus}
 use Rattle.cycle_search.specs.Outcomes.{IsSpent, IsStopped as HasStopped, Searches}
 use Rattle.cycle_search.specs.declared.searching.CycleOutcome.TheVariants as outcomes
 use Rattle.cycle_search.proofs.Results.{none_below, has_balance}

@@ -23,11 +23,10 @@ use Rattle.command_outcome.specs.declared.report.Kept.TheVariants.{Line as Certi
 use Rattle.command_outcome.specs.declared.status.Status.{Status}
 use Rattle.command_outcome.specs.declared.status.Status.TheVariants as ends
 use Rattle.input_files.specs.Instance.{IsLineOf}
-use Rattle.solve_command.specs.Promise.{HasCertificate}
+use Rattle.solution_page.specs.Page.{HasCertificate}
 use Rattle.cycle_search.specs.Outcomes.{IsRightIn}
 use Rattle.cycle_certificates.specs.CycleCertified.{about_cycle}
 use Rattle.cycle_command.specs.CycleText.{optimal_text, stopped_text}
-use Rattle.cycle_command.specs.Found.{planned}
 
 -- the printed text of bounds: the optimum where they are equal, and both where they differ
 abbrev pub bounds_text : LineKind → ℕ → ℕ → Assignment → ℕ → List ℕ
@@ -86,5 +85,5 @@ pub record IsCyclePromised (files after : Files) (file : List ℕ) (kind : LineK
     (name : Option (List ℕ)) (status : Status) (text : List ℕ) (kept : Kept) : Type 0 where
   pub line : Line
   pub said : IsLineOf files file None line
-  pub shown : IsShown kind line m (planned helpers units) status text kept
+  pub shown : IsShown kind line m (record { helpers = helpers; units = units }) status text kept
   pub written : HasCertificate name after shown.certificate

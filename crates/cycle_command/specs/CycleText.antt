@@ -2,7 +2,7 @@
 use Rattle.std.specs.Prelude.{ℕ, List, ◌++◌, codes, decimal}
 use Rattle.line_rules.specs.declared.types.LineKind.{LineKind}
 use Rattle.line_rules.specs.declared.types.Balance.{Balance as Assignment}
-use Rattle.solve_command.specs.SolutionText.{bounds_line}
+use Rattle.command_outcome.specs.Bounds.{bounds_line}
 use Rattle.station_report.specs.BalanceLines.{balance_lines}
 
 -- the line of an optimum: the least cycle

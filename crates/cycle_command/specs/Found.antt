@@ -11,8 +11,8 @@ use Rattle.round_run.specs.declared.plans.Plan.{Plan}
 use Rattle.command_outcome.specs.Outcome.{Files, Outside, Outcome, told}
 use Rattle.command_outcome.specs.declared.status.Status.TheVariants as ends
 use Rattle.input_files.specs.Instance.{IsLineOf, IsNoLine}
-use Rattle.solve_command.specs.Solution.{certified_by}
-use Rattle.solve_command.specs.SolutionText.{cut_short_text}
+use Rattle.solution_page.specs.Page.{certified_by}
+use Rattle.command_outcome.specs.Bounds.{cut_short_text}
 use Rattle.cycle_certificates.specs.CycleCertified.{IsOptimum, IsStop}
 use Rattle.cycle_command.specs.CycleText.{optimal_text, stopped_text}
 
@@ -48,10 +48,6 @@ pub record IsCutShort (kind : LineKind) (line : Line) (m : ℕ) (out : Outcome) 
   pub true_bounds : IsProved kind line (ask.Cycle m) lower upper
   pub shown : out ≡ told ends.Memory (cut_short_text lower upper)
 
--- so many helpers, and so many units for each cycle that is tried
-abbrev pub planned : ℕ → ℕ → Plan
-planned helpers units = record { helpers = helpers; units = units }
-
 -- the file says the line, and this is answered of it
 pub record IsAnswered (files : Files) (file : List ℕ) (kind : LineKind) (m : ℕ) (plan : Plan) (name : Option (List ℕ))
     (out : Outcome) : Type 0 where
@@ -59,7 +55,8 @@ pub record IsAnswered (files : Files) (file : List ℕ) (kind : LineKind) (m : �
   pub said : IsLineOf files file None line
   pub answer : IsFound kind line m plan name out ⊎ IsCutShort kind line m out
 
--- What `cycle` comes to for m stations: an answer, or why the file says no line.
+-- What `cycle` comes to for m stations, with so many helpers, and so many units for each cycle that is tried: an answer,
+-- or why the file says no line.
 abbrev pub IsCycleOutcome : Outside → List ℕ → LineKind → ℕ → ℕ → ℕ → Option (List ℕ) → Outcome → Type 0
 IsCycleOutcome o file kind m helpers units name out =
-    IsAnswered o.files file kind m (planned helpers units) name out ⊎ IsNoLine o file None out
+    IsAnswered o.files file kind m (record { helpers = helpers; units = units }) name out ⊎ IsNoLine o file None out

@@ -9,22 +9,22 @@ ghost use Rattle.command_outcome.specs.Outcome.{Ends, MayEnd, Stops, MayStop, ou
 ghost use Rattle.command_outcome.specs.declared.report.Stop.TheVariants.{Unwritten};
 ghost use Rattle.round_run.specs.Plans.{IsPlan};
 ghost use Rattle.round_run.specs.declared.plans.Plan.{Plan as Planned};
-ghost use Rattle.solve_command.specs.Solution.{IsSolveStatus};
+ghost use Rattle.solution_page.specs.Page.{IsSolveStatus};
 ghost use Rattle.cycle_search.specs.Ends.{NoneApart};
 ghost use Rattle.cycle_search.specs.Outcomes.{IsSolved, IsSpent, IsStopped as HasStopped};
 ghost use Rattle.cycle_command.specs.CyclePromise.{IsCyclePromised, IsShown};
 ghost use Rattle.cycle_command.specs.Found.{IsOptimal, IsStopped, IsFound, IsCutShort, IsCycleOutcome};
 
-use crate::line_file::plain_line;
 use crate::print_cycle::{optimal_text, stopped_text};
 use command_outcome::{Kept, Report, Status, Stop, cut_short_text, refuse, room_for_bounds};
 use cycle_certificates::{certify_cycle, certify_cycle_stop};
 use cycle_search::{CycleOutcome, least_cycle};
+use input_files::plain_line;
 use line_instance::Instance;
 use line_io::Shelf;
 use line_rules::{Balance, Entries, LineKind, Trail};
 use round_run::{Cause, Gate, Plan};
-use solve_command::write_certificate;
+use solution_page::write_certificate;
 use station_report::idle_of;
 use std::alloc::{AllocError, Global};
 use std::sync::Wait;

@@ -6,8 +6,6 @@
 #![tactic(auto)]
 
 mod least;
-mod line_file;
 mod print_cycle;
 
 pub use least::cycle_report;
-pub use line_file::plain_line;

@@ -16,8 +16,8 @@ use Rattle.command_outcome.specs.Outcome.{Files, Outside, Outcome, told}
 use Rattle.command_outcome.specs.declared.status.Status.TheVariants as ends
 use Rattle.input_files.specs.Instance.{IsLineOf, IsNoLine}
 use Rattle.input_files.specs.Certificate.{IsCertificateOf, IsNoCertificate}
-use Rattle.check_command.specs.VerdictText.{verdict_text}
-use Rattle.convert_command.specs.Convert.{wrote}
+use Rattle.printed_verdict.specs.VerdictText.{verdict_text}
+use Rattle.command_outcome.specs.Wrote.{wrote}
 
 -- The certificate is of as many tasks as the line has, and claims a balance that shows its upper bound: it is in as
 -- many stations as that says, and right at its cycle time. The check of a certificate tests the same before its

@@ -7,18 +7,17 @@ ghost use Rattle.command_outcome.specs.Outcome.{Ends, MayEnd, MayStop, Stops, ou
 ghost use Rattle.command_outcome.specs.declared.report.Kept.TheVariants.{Nothing};
 ghost use Rattle.command_outcome.specs.declared.status.Status.TheVariants as ends;
 ghost use Rattle.line_check.specs.declared.types.Verified.TheVariants.{Refused};
-ghost use Rattle.check_command.specs.VerdictText.{verdict_text};
+ghost use Rattle.printed_verdict.specs.VerdictText.{verdict_text};
 ghost use Rattle.draw_command.specs.Draw.{ClaimFails, IsDrawOutcome, IsDrawable, IsTrulyDrawn, IsUndrawable, bare_line};
 
-use check_command::verdict_report;
-use command_outcome::{Report, Status, Stop, refuse, write_page};
-use convert_command::written;
+use command_outcome::{Report, Status, Stop, refuse, write_page, written};
 use input_files::{certificate_of, line_of};
 use line_check::{Place, Verified, balance_fault};
 use line_drawing::draw_text;
 use line_instance::Instance;
 use line_io::Shelf;
 use line_rules::{Certificate, Claim};
+use printed_verdict::verdict_report;
 use std::alloc::Global;
 
 /// The refusal of a certificate at a place, or out of memory.

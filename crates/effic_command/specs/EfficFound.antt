@@ -9,8 +9,7 @@ use Rattle.command_outcome.specs.declared.report.Kept.TheVariants.{Product}
 use Rattle.command_outcome.specs.declared.status.Status.{Status}
 use Rattle.command_outcome.specs.declared.status.Status.TheVariants as ends
 use Rattle.input_files.specs.Instance.{IsLineOf, IsNoLine}
-use Rattle.solve_command.specs.SolutionText.{cut_short_text}
-use Rattle.cycle_command.specs.Found.{planned}
+use Rattle.command_outcome.specs.Bounds.{cut_short_text}
 use Rattle.effic_cert.specs.Product.{product_text}
 use Rattle.line_rules.specs.declared.products.EfficCert.{EfficCert}
 use Rattle.effic_check.specs.Truth.{IsBetween}
@@ -67,7 +66,8 @@ pub record IsAnswered (files : Files) (file : List ℕ) (kind : LineKind) (least
   pub said : IsLineOf files file None line
   pub answer : IsFound kind line least most plan name out ⊎ IsCutShort kind line least most out
 
--- What `effic` comes to for `least` to `most` stations: an answer, or why the file says no line.
+-- What `effic` comes to for `least` to `most` stations, with so many helpers, and so many units for each cycle that is
+-- tried: an answer, or why the file says no line.
 abbrev pub IsEfficOutcome : Outside → List ℕ → LineKind → ℕ → ℕ → ℕ → ℕ → Option (List ℕ) → Outcome → Type 0
 IsEfficOutcome o file kind least most helpers units name out =
-    IsAnswered o.files file kind least most (planned helpers units) name out ⊎ IsNoLine o file None out
+    IsAnswered o.files file kind least most (record { helpers = helpers; units = units }) name out ⊎ IsNoLine o file None out

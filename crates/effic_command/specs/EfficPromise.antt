@@ -10,7 +10,6 @@ use Rattle.command_outcome.specs.declared.report.Kept.TheVariants.{Product}
 use Rattle.command_outcome.specs.declared.status.Status.{Status}
 use Rattle.command_outcome.specs.declared.status.Status.TheVariants as ends
 use Rattle.input_files.specs.Instance.{IsLineOf}
-use Rattle.cycle_command.specs.Found.{planned}
 use Rattle.effic_cert.specs.Product.{product_text}
 use Rattle.line_rules.specs.declared.products.EfficCert.{EfficCert}
 use Rattle.effic_check.specs.Accepted.{IsAccepted}
@@ -69,5 +68,5 @@ pub record IsEfficPromised (files after : Files) (file : List ℕ) (kind : LineK
     (name : Option (List ℕ)) (status : Status) (text : List ℕ) (kept : Kept) : Type 0 where
   pub line : Line
   pub said : IsLineOf files file None line
-  pub shown : IsShown kind line least most (planned helpers units) status text kept
+  pub shown : IsShown kind line least most (record { helpers = helpers; units = units }) status text kept
   pub written : HasCertificate name after shown.certificate

@@ -1,6 +1,6 @@
 -- The printed texts of `effic`, as functions of its certificate.
 use Rattle.std.specs.Prelude.{ℕ, List, ◌++◌, codes, decimal}
-use Rattle.solve_command.specs.SolutionText.{bounds_line}
+use Rattle.command_outcome.specs.Bounds.{bounds_line}
 use Rattle.station_report.specs.BalanceLines.{balance_lines}
 use Rattle.line_rules.specs.declared.products.EfficCert.{EfficCert}
 use Rattle.effic_search.specs.declared.searching.Ended.{Ended}

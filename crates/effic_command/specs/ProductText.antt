@@ -1,7 +1,7 @@
 -- The line that is printed of the check of a certificate of a product.
 use Rattle.std.specs.Prelude.{ℕ, ◌+◌, List, ◌++◌, slice_get, codes, decimal}
-use Rattle.check_command.specs.VerdictText.{kind_text, two_text, entry_fault_text, entry_mode}
-use Rattle.check_command.specs.VerdictText.{frame_fault_text, frame_mode, frame_of}
+use Rattle.printed_verdict.specs.VerdictText.{kind_text, two_text, entry_fault_text, entry_mode}
+use Rattle.printed_verdict.specs.VerdictText.{frame_fault_text, frame_mode, frame_of}
 use Rattle.command_outcome.specs.declared.status.Status.{Status}
 use Rattle.command_outcome.specs.declared.status.Status.TheVariants as ends
 use Rattle.line_rules.specs.declared.products.EfficCert.{EfficCert}

@@ -5,15 +5,14 @@ ghost use Rattle.line_words.specs.Ranges.{IsBetween};
 ghost use Rattle.command_outcome.specs.Outcome.{Ends, Stops, MayStop, outside};
 ghost use Rattle.command_outcome.specs.declared.report.Kept.TheVariants.{Nothing};
 ghost use Rattle.command_outcome.specs.declared.status.Status.TheVariants as ends;
-ghost use Rattle.check_command.specs.Check.{IsVerdictStatus};
+ghost use Rattle.printed_verdict.specs.VerdictText.{IsVerdictStatus};
 ghost use Rattle.effic_command.specs.EfficCheck.{IsEfficCheckOutcome, IsProvedProduct};
 
 use crate::print_verdict::verdict_report;
 use command_outcome::{Report, Stop};
-use cycle_command::plain_line;
 use effic_cert::EfficText;
 use effic_check::verify_effic;
-use input_files::spelled_in;
+use input_files::{plain_line, spelled_in};
 use line_io::Shelf;
 use std::alloc::Global;
 

@@ -11,7 +11,7 @@ ghost use Rattle.command_outcome.specs.declared.report.Kept.TheVariants.{Product
 ghost use Rattle.command_outcome.specs.declared.report.Stop.TheVariants.{Unwritten};
 ghost use Rattle.command_outcome.specs.declared.status.Status.TheVariants as ends;
 ghost use Rattle.round_run.specs.Plans.{IsPlan};
-ghost use Rattle.solve_command.specs.Solution.{IsSolveStatus};
+ghost use Rattle.solution_page.specs.Page.{IsSolveStatus};
 ghost use Rattle.line_rules.specs.Products.{IsSayable};
 ghost use Rattle.line_rules.specs.declared.products.EfficCert.{EfficCert as Proof};
 ghost use Rattle.effic_check.specs.Accepted.{NoneApart};
@@ -22,9 +22,9 @@ ghost use Rattle.effic_command.specs.EfficPromise.{HasCertificate, IsEfficPromis
 
 use crate::print_effic::{optimal_text, stopped_text};
 use command_outcome::{Kept, Report, Status, Stop, cut_short_text, refuse, room_for_bounds};
-use cycle_command::plain_line;
 use effic_cert::write_effic;
 use effic_search::{EfficOutcome, Ended, least_product};
+use input_files::plain_line;
 use line_instance::Instance;
 use line_io::{Shelf, Written, write_whole};
 use line_rules::{EfficCert, LineKind};

@@ -1,18 +1,15 @@
 //! The line that is printed of the check of a certificate of a product: what is accepted, or the first check that fails
 //! with its values.
 ghost use Rattle.std.specs.Prelude.{◌≡◌, ◌++◌, ◌≤◌, IfOk, OnOk, string_bytes, codes, decimal};
-ghost use Rattle.check_command.specs.VerdictText.{kind_text};
+ghost use Rattle.printed_verdict.specs.VerdictText.{kind_text};
 ghost use Rattle.command_outcome.specs.declared.report.Kept.TheVariants.{Nothing};
 ghost use Rattle.effic_command.specs.ProductText.{accepted_text, bounds_text, found_text, place_text};
 ghost use Rattle.effic_command.specs.ProductText.{verdict_status, verdict_text};
 
-use check_command::{
-    entry_mode, frame_mode, push_entry_fault, push_frame_fault, push_one, push_pair, push_task,
-    push_two,
-};
-use command_outcome::{Report, Status};
+use command_outcome::{Report, Status, push_one};
 use effic_check::{EfficPlace, EfficVerified};
 use line_rules::{EfficCert, LineKind};
+use printed_verdict::{entry_mode, frame_mode, push_entry_fault, push_frame_fault, push_pair, push_task, push_two};
 use std::alloc::{AllocError, Global};
 
 /// A wide number behind a text.

@@ -10,10 +10,12 @@ mod certificate;
 mod fetch_file;
 mod instance;
 mod kind;
+mod line_file;
 mod text_file;
 
 pub use certificate::{MAX_CERTIFICATE, cert_fault_line_of, certificate_of};
 pub use fetch_file::{fetch, fetch_within};
 pub use instance::{Sheet, Timed, fault_line_of, line_of, said_instance, sheet_of};
 pub use kind::kind_of;
+pub use line_file::plain_line;
 pub use text_file::spelled_in;

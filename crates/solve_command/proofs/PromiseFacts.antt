@@ -4,7 +4,7 @@ use Rattle.std.specs.declared.result.Result.TheVariants.{Ok, Err}
 use Rattle.std.specs.Prelude.{IfOk, MatchResult}
 use Rattle.std.proofs.Common.{◌≡◌, ◌<◌, inl, inr, ℕ, Bool, true, false, cond, nat_eq, List, ◌++◌, Option, Some, None}
 use Rattle.std.proofs.Common.{refl, sym, ap, subst, arith, rules}
-use Rattle.std.proofs.lemmas.Bool.{eqb-true, cond-true}
+use Rattle.std.proofs.lemmas.Bool.{cond-false, cond-true, ne_eqb}
 use Rattle.line_instance.specs.Line.{Line, time}
 use Rattle.line_rules.specs.Bounds.{idle_time}
 use Rattle.line_rules.specs.declared.types.LineKind.{LineKind}
@@ -23,10 +23,6 @@ use Rattle.solve_command.specs.WarmStart.{Start, BeginsWith}
 use Rattle.solve_command.specs.Solution.{IsInfeasible, IsBounded, IsSolution, IsCutShort}
 use Rattle.solve_command.specs.Promise.{HasBounds, HasNone, IsShown, bounds_text}
 
-pub not_chosen : {X : Type 0} (b : Bool) (x y : X) → (b ≡ true → ⊥) → cond b x y ≡ y
-not_chosen true x y f = absurd (f refl)
-not_chosen false x y f = refl
-
 -- behind a first text, the text of bounds is that of an optimum where they are equal, and else that of a stop
 optimum_behind : (first : List ℕ) (kind : LineKind) (b : Assignment) (idle : ℕ)
     → first ++ optimal_text kind b idle ≡ first ++ bounds_text kind b.stations b idle
@@ -37,8 +33,8 @@ optimum_behind first kind b idle =
 stop_behind : (first : List ℕ) (kind : LineKind) (lower : ℕ) (b : Assignment) (idle : ℕ) → lower < b.stations
     → first ++ stopped_text kind lower b idle ≡ first ++ bounds_text kind lower b idle
 stop_behind first kind lower b idle l =
-    ap (λ (z : List ℕ). first ++ z) (sym (not_chosen (nat_eq lower b.stations) (optimal_text kind b idle)
-    (stopped_text kind lower b idle) (λ e. omega (arith, l, eqb-true lower b.stations e))))
+    ap (λ (z : List ℕ). first ++ z) (sym (cond-false (nat_eq lower b.stations) (optimal_text kind b idle)
+    (stopped_text kind lower b idle) (ne_eqb lower b.stations (λ e. omega (arith, l, e)))))
 
 module _ (kind : LineKind) (line : Line) (c : ℕ) (plan : Plan) (start : Start) where
   module _ (before : List Entry) (first : List ℕ) (begins : BeginsWith kind line c plan start before first) where

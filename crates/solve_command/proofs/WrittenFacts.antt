@@ -21,22 +21,10 @@ use Rattle.round_run.specs.declared.plans.Plan.{Plan}
 use Rattle.round_run.specs.declared.solving.Cause.{Cause}
 use Rattle.round_run.specs.declared.solving.Cause.TheVariants as causes
 use Rattle.round_run.specs.declared.solving.Outcome.TheVariants as outcomes
-use Rattle.solve_command.specs.Solution.{page_of, IsOptimal, IsStopped, IsSolution, IsSolveStatus}
-use Rattle.solve_command.specs.Solution.{IsCutShort, IsSolveOutcome}
+use Rattle.solution_page.specs.Page.{page_of, IsSolveStatus}
+use Rattle.solve_command.specs.Solution.{IsOptimal, IsStopped, IsSolution, IsCutShort, IsSolveOutcome}
 use Rattle.solve_command.specs.inner.Said.{HasSaid}
 use Rattle.solve_command.specs.WarmStart.{Start, AreOld, IsUnwarmed}
-
-pub one : (a b : Certificate) → Certified a ≡ Certified b → a ≡ b
-one a b e = cc
-
--- the page of a certificate is that of the one that is kept
-pub same_page : (name : List ℕ) (r : Report) (a b : Certificate) → r.kept ≡ Certified a → r.kept ≡ Certified b
-    → outcome_of r (page_of (Some name) a) ≡ outcome_of r (page_of (Some name) b)
-same_page name r a b is kept = ap (λ (x : Certificate). outcome_of r (page_of (Some name) x)) (one a b (sym is ∙ kept))
-
--- the certificate of what is found can be said by a text
-pub sayable : (r : Report) (a b : Certificate) → r.kept ≡ Certified a → r.kept ≡ Certified b → IsInRange a → IsInRange b
-sayable r a b is kept ok = (let R : Certificate → Type 0 = IsInRange in subst R (one a b (sym is ∙ kept)) ok)
 
 module _ (kind : LineKind) (line : Line) (c : ℕ) (plan : Plan) (start : Start) (name : Option (List ℕ))
     (r : Report) where

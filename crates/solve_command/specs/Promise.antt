@@ -17,7 +17,6 @@ use Rattle.line_rules.specs.declared.types.Trail.{Trail}
 use Rattle.line_rules.specs.declared.types.Ask.TheVariants as ask
 use Rattle.line_rules.specs.declared.types.Claim.TheVariants as claim
 use Rattle.line_rules.specs.declared.types.Certificate.{Certificate}
-use Rattle.cert_text.specs.Cert.{cert_text}
 use Rattle.budget_law.specs.Budget.{states}
 use Rattle.run_certificates.specs.Certified.{about_stations, max_units}
 use Rattle.round_run.specs.declared.plans.Plan.{Plan}
@@ -30,6 +29,7 @@ use Rattle.input_files.specs.Instance.{IsSaid}
 use Rattle.station_report.specs.InfeasibleText.{infeasible_text}
 use Rattle.solve_command.specs.WarmStart.{AreOld, Start, BeginsWith}
 use Rattle.solve_command.specs.SolutionText.{optimal_text, stopped_text}
+use Rattle.solution_page.specs.Page.{HasCertificate}
 
 -- the printed text of bounds: the optimum where they are equal, and both where they differ
 abbrev pub bounds_text : LineKind → ℕ → Assignment → ℕ → List ℕ
@@ -93,11 +93,6 @@ pub record HasNone (kind : LineKind) (line : Line) (c : ℕ) (certificate : Cert
   pub none : NoBalanceIsLeft (ask.Stations c) kind line
   pub printed : text ≡ infeasible_text task (time line task)
   pub done : status ≡ ends.Done
-
--- the file that the words name, where they name one, has the text of the certificate
-abbrev pub HasCertificate : Option (List ℕ) → Files → Certificate → Type 0
-HasCertificate None after certificate = Unit {0}
-HasCertificate (Some name) after certificate = after name ≡ Some (cert_text certificate)
 
 -- what is printed is shown by a certificate, which is kept
 pub record IsShown (kind : LineKind) (line : Line) (c : ℕ) (plan : Plan) (start : Start) (status : Status)

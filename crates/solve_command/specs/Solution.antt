@@ -9,31 +9,16 @@ use Rattle.line_rules.specs.declared.types.Balance.{Balance as Assignment}
 use Rattle.line_rules.specs.declared.types.Entry.{Entry}
 use Rattle.line_rules.specs.declared.types.Ask.TheVariants as ask
 use Rattle.line_rules.specs.declared.types.Certificate.{Certificate}
-use Rattle.cert_text.specs.Cert.{cert_text}
 use Rattle.run_certificates.specs.Certified.{IsOptimumFrom, IsStopFrom, IsNoBalance}
 use Rattle.round_run.specs.declared.plans.Plan.{Plan}
-use Rattle.command_outcome.specs.Outcome.{Files, Outside, Page, Outcome, told}
-use Rattle.command_outcome.specs.declared.report.Kept.TheVariants.{Line as Certified}
-use Rattle.command_outcome.specs.declared.status.Status.{Status}
+use Rattle.command_outcome.specs.Outcome.{Files, Outside, Outcome, told}
+use Rattle.command_outcome.specs.Bounds.{cut_short_text}
 use Rattle.command_outcome.specs.declared.status.Status.TheVariants as ends
 use Rattle.input_files.specs.Instance.{IsSaid, IsUnsaid}
 use Rattle.station_report.specs.InfeasibleText.{infeasible_text}
 use Rattle.solve_command.specs.WarmStart.{AreOld, IsUnwarmed, Start, BeginsWith}
-use Rattle.solve_command.specs.SolutionText.{optimal_text, stopped_text, cut_short_text}
-
--- the page of a certificate: its text in the file that the words name, where they name one
-abbrev pub page_of : Option (List ℕ) → Certificate → Option Page
-page_of None cert = None
-page_of (Some name) cert = Some (record { name = name; bytes = cert_text cert })
-
--- an outcome with a certificate, which is kept, and written where the words name a file
-abbrev pub certified_by : Option (List ℕ) → Certificate → Status → List ℕ → Outcome
-certified_by name cert status text = record {
-  status = status;
-  text = text;
-  page = page_of name cert;
-  kept = Certified cert;
-}
+use Rattle.solve_command.specs.SolutionText.{optimal_text, stopped_text}
+use Rattle.solution_page.specs.Page.{certified_by}
 
 -- The optimum, of a run that began with some entries: the balance that is printed has the least number of stations, and
 -- the certificate proves it.
@@ -78,10 +63,6 @@ pub record IsBounded (kind : LineKind) (line : Line) (c : ℕ) (plan : Plan) (st
 abbrev pub IsSolution : LineKind → Line → ℕ → Plan → Start → Option (List ℕ) → Outcome → Type 0
 IsSolution kind line c plan start name out = IsBounded kind line c plan start name out
     ⊎ IsInfeasible kind line c name out
-
--- a run with a certificate is done, or its units ended
-abbrev pub IsSolveStatus : Status → Type 0
-IsSolveStatus status = (status ≡ ends.Done) ⊎ (status ≡ ends.Stopped)
 
 -- Memory ended the search: the bounds that are printed differ, and are true.
 pub record IsCutShort (kind : LineKind) (line : Line) (c : ℕ) (out : Outcome) : Type 0 where

@@ -3,7 +3,7 @@ use Rattle.std.specs.Prelude.{ℕ, List, ◌++◌, codes, decimal}
 use Rattle.line_rules.specs.declared.types.LineKind.{LineKind}
 use Rattle.line_rules.specs.declared.types.Balance.{Balance as Assignment}
 use Rattle.station_report.specs.BalanceLines.{balance_lines}
-pub use Rattle.command_outcome.specs.Bounds.{bounds_line, cut_short_text}
+use Rattle.command_outcome.specs.Bounds.{bounds_line}
 
 -- the line of an optimum: the fewest stations
 abbrev pub optimal_line : ℕ → List ℕ

@@ -12,4 +12,4 @@ mod warm_start;
 #[cfg(test)]
 mod warm_tests;
 
-pub use solution::{solve_report, write_certificate};
+pub use solution::solve_report;

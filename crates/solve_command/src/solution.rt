@@ -21,14 +21,14 @@ ghost use Rattle.command_outcome.specs.declared.status.Status.TheVariants as end
 ghost use Rattle.command_outcome.specs.declared.report.Stop.TheVariants.{Unwritten};
 ghost use Rattle.solve_command.specs.inner.Begun.{IsBegun};
 ghost use Rattle.solve_command.specs.WarmStart.{Start};
-ghost use Rattle.solve_command.specs.Promise.{HasCertificate, IsPromised, IsShown};
-ghost use Rattle.solve_command.specs.Solution.{page_of, IsOptimal, IsStopped, IsInfeasible, IsBounded, IsSolution};
-ghost use Rattle.solve_command.specs.Solution.{IsCutShort, IsSolveOutcome, IsSolveStatus};
+ghost use Rattle.solution_page.specs.Page.{HasCertificate, page_of, IsSolveStatus};
+ghost use Rattle.solve_command.specs.Promise.{IsPromised, IsShown};
+ghost use Rattle.solve_command.specs.Solution.{IsOptimal, IsStopped, IsInfeasible, IsBounded, IsSolution};
+ghost use Rattle.solve_command.specs.Solution.{IsCutShort, IsSolveOutcome};
 
 use crate::print_solution::{optimal_text, stopped_text};
 use crate::said::{Said, said_of};
 use crate::warm_start::{Begun, begin};
-use cert_files::{Streamed, stream_cert};
 use command_outcome::{Kept, Report, Status, Stop, cut_short_text, refuse, room_for_bounds};
 use first_fit::{Ranked, ranked_balance};
 use input_files::Timed;
@@ -38,6 +38,7 @@ use line_io::Shelf;
 use line_rules::{Frames, LineKind};
 use round_run::{Cause, Gate, Outcome, Plan, solve_from};
 use run_certificates::{certify_too_long, certify_warm_optimum, certify_warm_stop};
+use solution_page::write_certificate;
 use station_report::{idle_of, infeasible_line};
 use std::alloc::{AllocError, Global};
 use std::sync::Wait;
@@ -220,60 +221,6 @@ fn solution<R: Threads + Wait + Sync, G: Gate>(
     };
     let begun = begin(rt, alloc, inst, kind, cycle, best, olds, limit, plan)?;
     run(rt, alloc, inst, kind, cycle, begun, plan, gate, room)
-}
-
-/// Writes the certificate of a report of a line into this file, and hands the report on.
-fn written<S: Shelf>(
-    alloc: Global,
-    shelf: &mut S,
-    name: &str,
-    report: Report,
-) -> Result<Report, Stop>
-    requires sayable { (certificate : Proof) → report.kept ≡ Certified certificate → IsInRange certificate }
-    ensures ends { S.tells → (files : Files) → Stay files (S.file shelf.old)
-        → (cert : Proof) → report.kept ≡ Certified cert
-        → Ends (outside files (S.blames shelf.new)) (λ out. out ≡ outcome_of report (page_of (Some name.now) cert))
-        (S.file shelf.new) result }
-    ensures same { IfOk result (λ r. r ≡ report) }
-    ensures certificate { S.tells → IfOk result (λ r. (cert : Proof) → r.kept ≡ Certified cert
-        → HasCertificate (Some name.now) (S.file shelf.new) cert) }
-    ensures fault { MatchResult result (λ _. Unit {0}) (MayEnd (Rises (S.faults shelf.old) (S.faults shelf.new))) }
-    ensures count { S.faults shelf.old ≤ S.faults shelf.new }
-{
-    let Kept::Line(certificate) = &report.kept else {
-        return Ok(report);
-    };
-    match stream_cert(alloc, shelf, name, certificate) {
-        Streamed::Done => Ok(report),
-        Streamed::WriteFault => Err(Stop::Unwritten),
-        Streamed::NoMemory => Err(Stop::Memory),
-    }
-}
-
-/// Writes the certificate of a report of a line where the words name a file, and hands the report on.
-pub fn write_certificate<S: Shelf>(
-    alloc: Global,
-    shelf: &mut S,
-    name: Option<&str>,
-    report: Report,
-) -> Result<Report, Stop>
-    requires sayable { (certificate : Proof) → report.kept ≡ Certified certificate → IsInRange certificate }
-    ensures ends { S.tells → (files : Files) → Stay files (S.file shelf.old)
-        → (cert : Proof) → report.kept ≡ Certified cert
-        → Ends (outside files (S.blames shelf.new))
-        (λ out. out ≡ outcome_of report (page_of (option_map (λ a. a.now) name.entry) cert)) (S.file shelf.new)
-        result }
-    ensures same { IfOk result (λ r. r ≡ report) }
-    ensures certificate { S.tells → IfOk result (λ r. (cert : Proof) → r.kept ≡ Certified cert
-        → HasCertificate (option_map (λ a. a.now) name.entry) (S.file shelf.new) cert) }
-    ensures fault { MatchResult result (λ _. Unit {0}) (MayEnd (Rises (S.faults shelf.old) (S.faults shelf.new))) }
-    ensures unwritten { result ≡ Err Unwritten → (n : List ℕ) × (option_map (λ a. a.now) name.entry ≡ Some n) }
-    ensures count { S.faults shelf.old ≤ S.faults shelf.new }
-{
-    match name {
-        None => Ok(report),
-        Some(name) => written(alloc, shelf, name, report),
-    }
 }
 
 /// The report of `solve` for the file of an instance, the file of the tasks that are apart, where there is one, the

@@ -3,7 +3,7 @@ use Rattle.command_outcome.specs.Outcome.{Files}
 use Rattle.command_outcome.proofs.OutcomeFacts.{told_as}
 use Rattle.input_files.specs.InputFile.{Reads, max_certificate}
 use Rattle.input_files.specs.Certificate.{IsTextOf}
-use Rattle.check_command.specs.VerdictText.{verdict_text, verdict_status}
+use Rattle.printed_verdict.specs.VerdictText.{verdict_text, verdict_status}
 use Rattle.check_command.proofs.check.check_report.Goals as goal
 
 pub returns-clause-ends : goal.returns-clause-ends

@@ -6,10 +6,10 @@ use Rattle.command_outcome.specs.Outcome.{Outside, outcome_of, outside}
 use Rattle.command_outcome.specs.declared.report.Kept.TheVariants.{Nothing}
 use Rattle.command_outcome.specs.declared.report.Report.{Report}
 use Rattle.command_outcome.specs.declared.status.Status.TheVariants as ends
-use Rattle.command_outcome.proofs.WrittenFacts.{comes, cut}
+use Rattle.command_outcome.proofs.WrittenFacts.{comes, cut, wrote_as}
 use Rattle.input_files.specs.Certificate.{IsCertificateOf}
-use Rattle.convert_command.specs.Convert.{IsConvertOutcome, written_line}
-use Rattle.convert_command.proofs.ConvertFacts.{wrote_as}
+use Rattle.convert_command.specs.Convert.{IsConvertOutcome}
+use Rattle.command_outcome.specs.Wrote.{written_line}
 use Rattle.convert_command.proofs.convert.convert_cert.Goals as goal
 
 -- a certificate that is written anew

@@ -1,8 +1,9 @@
 use Rattle.std.proofs.Common.{◌≡◌, ◌∙◌, ap, inl, subst, Option, ℕ, Some}
 use Rattle.command_outcome.specs.Outcome.{Files, Outside, outcome_of, outside}
 use Rattle.command_outcome.proofs.OutcomeFacts.{ends_as}
-use Rattle.convert_command.specs.Convert.{IsConvertOutcome, IsTextIn, wrote}
-use Rattle.convert_command.proofs.ConvertFacts.{wrote_as}
+use Rattle.convert_command.specs.Convert.{IsConvertOutcome, IsTextIn}
+use Rattle.command_outcome.specs.Wrote.{wrote}
+use Rattle.command_outcome.proofs.WrittenFacts.{wrote_as}
 use Rattle.convert_command.proofs.convert.convert_line.Goals as goal
 
 pub returns-clause-ends : goal.returns-clause-ends

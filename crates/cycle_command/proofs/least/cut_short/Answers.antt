@@ -2,7 +2,7 @@ use Rattle.std.proofs.Common.{◌∙◌, ℕ, sym, ap, subst}
 use Rattle.command_outcome.specs.Outcome.{Stops, told}
 use Rattle.command_outcome.specs.declared.report.Stop.{Stop}
 use Rattle.command_outcome.specs.declared.status.Status.TheVariants as ends
-use Rattle.solve_command.specs.SolutionText.{cut_short_text}
+use Rattle.command_outcome.specs.Bounds.{cut_short_text}
 use Rattle.cycle_command.specs.Found.{IsCutShort}
 use Rattle.cycle_command.proofs.WrittenFacts.{stopped_bounds}
 use Rattle.cycle_command.proofs.least.cut_short.Goals as goal

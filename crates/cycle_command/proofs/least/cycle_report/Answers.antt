@@ -5,9 +5,8 @@ use Rattle.command_outcome.specs.declared.report.Kept.TheVariants.{Line as Certi
 use Rattle.command_outcome.specs.declared.report.Report.{Report}
 use Rattle.command_outcome.proofs.OutcomeFacts.{early, ends_as, handed_on}
 use Rattle.input_files.specs.Instance.{IsNoLine}
-use Rattle.solve_command.specs.Promise.{HasCertificate}
-use Rattle.solve_command.specs.Solution.{page_of}
-use Rattle.solve_command.proofs.WrittenFacts.{sayable}
+use Rattle.solution_page.specs.Page.{HasCertificate, page_of}
+use Rattle.solution_page.proofs.WrittenFacts.{sayable}
 use Rattle.cycle_command.specs.CyclePromise.{IsCyclePromised}
 use Rattle.cycle_command.specs.Found.{IsFound, IsCycleOutcome}
 use Rattle.cycle_command.proofs.WrittenFacts.{in_file}

@@ -1,8 +1,7 @@
-use Rattle.std.proofs.Common.{None, ap, ◌∙◌}
+use Rattle.std.proofs.Common.{None, ap, ◌∙◌, ℕ}
 use Rattle.command_outcome.specs.declared.status.Status.TheVariants as ends
-use Rattle.solve_command.specs.Solution.{certified_by}
+use Rattle.solution_page.specs.Page.{certified_by}
 use Rattle.cycle_command.specs.CycleText.{stopped_text}
-use Rattle.std.proofs.Common.{ℕ}
 use Rattle.cycle_command.proofs.least.stopped.Goals as goal
 
 pub returns : goal.returns

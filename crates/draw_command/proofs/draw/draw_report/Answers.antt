@@ -5,8 +5,8 @@ use Rattle.command_outcome.specs.declared.report.Report.{Report}
 use Rattle.command_outcome.proofs.OutcomeFacts.{early, ends_as, handed_on}
 use Rattle.input_files.specs.InputFile.{Reads, max_certificate}
 use Rattle.input_files.specs.Certificate.{IsTextOf}
-use Rattle.convert_command.specs.Convert.{wrote}
-use Rattle.convert_command.proofs.ConvertFacts.{wrote_as}
+use Rattle.command_outcome.specs.Wrote.{wrote}
+use Rattle.command_outcome.proofs.WrittenFacts.{wrote_as}
 use Rattle.draw_command.specs.Draw.{IsDrawOutcome, IsTrulyDrawn, IsUndrawable}
 use Rattle.draw_command.proofs.draw.draw_report.Goals as goal
 

@@ -1,7 +1,7 @@
 use Rattle.std.proofs.Common.{None, ap}
 use Rattle.std.specs.Prelude.{string_bytes}
 use Rattle.command_outcome.specs.declared.status.Status.TheVariants as ends
-use Rattle.solve_command.specs.Solution.{certified_by}
+use Rattle.solution_page.specs.Page.{certified_by}
 use Rattle.solve_command.proofs.WrittenFacts.{optimal_as}
 use Rattle.solve_command.proofs.solution.optimal.Goals as goal
 

@@ -5,10 +5,12 @@ use Rattle.command_outcome.specs.declared.report.Kept.TheVariants.{Line as Certi
 use Rattle.command_outcome.specs.declared.report.Report.{Report}
 use Rattle.command_outcome.proofs.OutcomeFacts.{early, ends_as, handed_on}
 use Rattle.solve_command.specs.WarmStart.{Start}
-use Rattle.solve_command.specs.Solution.{page_of, IsSolution, IsCutShort, IsSolveOutcome}
-use Rattle.solve_command.specs.Promise.{HasCertificate, IsPromised}
+use Rattle.solution_page.specs.Page.{page_of, HasCertificate}
+use Rattle.solve_command.specs.Solution.{IsSolution, IsCutShort, IsSolveOutcome}
+use Rattle.solve_command.specs.Promise.{IsPromised}
 use Rattle.solve_command.specs.inner.Said.{IsUnsaidOrUnwarmed}
-use Rattle.solve_command.proofs.WrittenFacts.{answered, in_file, sayable}
+use Rattle.solve_command.proofs.WrittenFacts.{answered, in_file}
+use Rattle.solution_page.proofs.WrittenFacts.{sayable}
 use Rattle.solve_command.proofs.solution.solve_report.Goals as goal
 
 pub returns-in_err-said-clause-ends : goal.returns-in_err-said-clause-ends

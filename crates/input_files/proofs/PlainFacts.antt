@@ -5,12 +5,15 @@ use Rattle.std.specs.Prelude.{slice_index_or}
 use Rattle.std.proofs.lemmas.Bool.{cases_Bool}
 use Rattle.std.proofs.lemmas.List.{ext_get_or}
 use Rattle.line_instance.specs.Truths.{In}
-use Rattle.line_instance.specs.Line.{Line, IsLine, tasks}
+use Rattle.line_instance.specs.Line.{Line, IsLine, Apart, tasks}
 use Rattle.line_instance.specs.Walks.{IsGiven}
 use Rattle.command_outcome.specs.Outcome.{Files}
 use Rattle.input_files.specs.InputFile.{Reads, max_file}
 use Rattle.input_files.specs.Instance.{Says, IsLineOf}
-use Rattle.cycle_search.specs.Ends.{NoneApart}
+
+-- no two tasks are apart
+abbrev pub NoneApart : Line → Type 0
+NoneApart line = (i j : ℕ) → Apart line i j → ⊥
 
 -- what a file says has no two tasks apart
 says_none : (bytes : List ℕ) (line : Line) (given : Option ℕ) → Says bytes line given → NoneApart line

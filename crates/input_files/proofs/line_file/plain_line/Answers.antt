@@ -1,5 +1,5 @@
-use Rattle.cycle_command.proofs.PlainFacts.{said_plain, none_given}
-use Rattle.cycle_command.proofs.line_file.plain_line.Goals as goal
+use Rattle.input_files.proofs.PlainFacts.{said_plain, none_given}
+use Rattle.input_files.proofs.line_file.plain_line.Goals as goal
 
 pub returns-clause-said : goal.returns-clause-said
 returns-clause-said g c = λ t.

@@ -2,9 +2,9 @@ use Rattle.std.proofs.Common.{◌≡◌, Some, refl}
 use Rattle.cert_text.specs.Cert.{cert_text}
 use Rattle.command_outcome.specs.Outcome.{outcome_of}
 use Rattle.command_outcome.proofs.WrittenFacts.{comes, cut}
-use Rattle.solve_command.specs.Solution.{page_of}
-use Rattle.solve_command.proofs.WrittenFacts.{same_page}
-use Rattle.solve_command.proofs.solution.written.Goals as goal
+use Rattle.solution_page.specs.Page.{page_of}
+use Rattle.solution_page.proofs.WrittenFacts.{same_page}
+use Rattle.solution_page.proofs.page.written.Goals as goal
 
 pub stream_cert-requires : goal.stream_cert-requires
 stream_cert-requires g c = c.requires.sayable c.in-Line.certificate c.in-Line.is

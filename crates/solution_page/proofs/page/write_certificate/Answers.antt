@@ -1,9 +1,8 @@
 use Rattle.std.proofs.Common.{◌≡◌, option_map, ap, refl, List, ℕ, Option, None}
 use Rattle.std.proofs.Math.Path.{subst⁻¹}
 use Rattle.command_outcome.specs.Outcome.{Files, Outside, Comes, Ends, outcome_of, outside}
-use Rattle.solve_command.specs.Solution.{page_of}
-use Rattle.solve_command.specs.Promise.{HasCertificate}
-use Rattle.solve_command.proofs.solution.write_certificate.Goals as goal
+use Rattle.solution_page.specs.Page.{page_of, HasCertificate}
+use Rattle.solution_page.proofs.page.write_certificate.Goals as goal
 
 pub returns-in-None-clause-ends : goal.returns-in-None-clause-ends
 returns-in-None-clause-ends g c = λ t files same cert kept.

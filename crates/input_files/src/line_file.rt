@@ -1,12 +1,12 @@
 //! The line that a file says, of which no two tasks are apart.
 ghost use Rattle.std.specs.Prelude.{◌≡◌, ◌≤◌, ℕ, List, None, IfOk, MatchResult};
 ghost use Rattle.line_io.specs.Outside.{Rises};
+ghost use Rattle.line_instance.specs.Line.{Apart};
 ghost use Rattle.command_outcome.specs.Outcome.{Stops, MayStop, outside};
 ghost use Rattle.input_files.specs.Instance.{IsLineOf, IsNoLine};
-ghost use Rattle.cycle_search.specs.Ends.{NoneApart};
 
+use crate::instance::line_of;
 use command_outcome::Stop;
-use input_files::line_of;
 use line_instance::{Instance, Prec};
 use line_io::Shelf;
 use std::alloc::Global;
@@ -16,7 +16,7 @@ use std::alloc::Global;
 pub fn plain_line<S: Shelf>(alloc: Global, file: &str, shelf: &mut S) -> Result<Instance, Stop>
     ensures said { S.tells → MatchResult result (IsLineOf (S.file shelf.old) file.now None)
         (Stops (IsNoLine (outside (S.file shelf.old) (S.blames shelf.new)) file.now None)) }
-    ensures none { IfOk result (λ i. NoneApart i) }
+    ensures none { IfOk result (λ line. (i j : ℕ) → Apart line i j → ⊥) }
     ensures fault { MatchResult result (λ _. Unit {0}) (MayStop (Rises (S.faults shelf.old) (S.faults shelf.new))) }
     ensures count { S.faults shelf.old ≤ S.faults shelf.new }
     ensures files { S.tells → (q : List ℕ) → S.file shelf.new q ≡ S.file shelf.old q }

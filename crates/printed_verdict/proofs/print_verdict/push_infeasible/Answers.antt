@@ -1,5 +1,5 @@
 use Rattle.std.proofs.Common.{◌∙◌, ◌++◌, ◌+◌, ℕ, List, codes, decimal, string_bytes, sym, ap, append_assoc}
-use Rattle.check_command.proofs.print_verdict.push_infeasible.Goals as goal
+use Rattle.printed_verdict.proofs.print_verdict.push_infeasible.Goals as goal
 
 pub returns : goal.returns
 returns c =

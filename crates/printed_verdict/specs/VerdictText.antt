@@ -1,5 +1,5 @@
 -- The line that is printed of the check of a certificate.
-use Rattle.std.specs.Prelude.{ℕ, ◌+◌, List, ◌++◌, Option, Some, None, slice_get, codes, decimal}
+use Rattle.std.specs.Prelude.{◌≡◌, ◌⊎◌, ℕ, ◌+◌, List, ◌++◌, Option, Some, None, slice_get, codes, decimal}
 use Rattle.line_rules.specs.declared.types.LineKind.{LineKind}
 use Rattle.line_rules.specs.declared.types.LineKind.TheVariants.{Straight, U}
 use Rattle.line_rules.specs.declared.types.Mode.{Mode}
@@ -126,3 +126,7 @@ verdict_status (verified.Accepted lower upper units) = ends.Done
 verdict_status (verified.TooLong task) = ends.Done
 verdict_status (verified.Refused at) = ends.Refused
 verdict_status (verified.StepsEnded steps) = ends.Steps
+
+-- the status of a verdict on a certificate
+abbrev pub IsVerdictStatus : Status → Type 0
+IsVerdictStatus s = (s ≡ ends.Done) ⊎ (s ≡ ends.Refused) ⊎ (s ≡ ends.Steps)

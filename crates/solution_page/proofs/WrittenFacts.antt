@@ -1,0 +1,20 @@
+-- The certificate that is kept is the one that is written.
+use Rattle.std.proofs.Common.{◌≡◌, ◌∙◌, ℕ, List, Some, sym, ap, subst}
+use Rattle.line_rules.specs.Ranges.{IsInRange}
+use Rattle.line_rules.specs.declared.types.Certificate.{Certificate}
+use Rattle.command_outcome.specs.Outcome.{outcome_of}
+use Rattle.command_outcome.specs.declared.report.Kept.TheVariants.{Line as Certified}
+use Rattle.command_outcome.specs.declared.report.Report.{Report}
+use Rattle.solution_page.specs.Page.{page_of}
+
+pub one : (a b : Certificate) → Certified a ≡ Certified b → a ≡ b
+one a b e = cc
+
+-- the page of a certificate is that of the one that is kept
+pub same_page : (name : List ℕ) (r : Report) (a b : Certificate) → r.kept ≡ Certified a → r.kept ≡ Certified b
+    → outcome_of r (page_of (Some name) a) ≡ outcome_of r (page_of (Some name) b)
+same_page name r a b is kept = ap (λ (x : Certificate). outcome_of r (page_of (Some name) x)) (one a b (sym is ∙ kept))
+
+-- the certificate of what is found can be said by a text
+pub sayable : (r : Report) (a b : Certificate) → r.kept ≡ Certified a → r.kept ≡ Certified b → IsInRange a → IsInRange b
+sayable r a b is kept ok = (let R : Certificate → Type 0 = IsInRange in subst R (one a b (sym is ∙ kept)) ok)
