@@ -7,8 +7,6 @@
 #![tactic(auto)]
 
 mod checking;
-#[cfg(test)]
-mod tests;
 mod verdict;
 
 pub use checking::verify_effic;

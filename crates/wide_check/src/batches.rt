@@ -117,8 +117,9 @@ fn gone_over(
     ListFound::Right { units }
 }
 
-/// Checks entries, each after those before it, batch by batch.
-pub(crate) fn entries_found<R: Threads + Sync>(
+/// What is found of entries that are in their ranges, each after those before it, with at most so many steps: they are
+/// checked batch by batch, side by side in a batch. For callers that check the rest of a list themselves.
+pub fn entries_found<R: Threads + Sync>(
     rt: &R,
     alloc: Global,
     inst: &Instance,

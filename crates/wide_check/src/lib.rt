@@ -2,10 +2,7 @@
 #![tactic(auto)]
 
 mod batches;
-#[cfg(test)]
-mod check_tests;
-#[cfg(test)]
-mod tests;
 mod wide;
 
+pub use batches::entries_found;
 pub use wide::{Wide, verify_wide};

@@ -3,7 +3,6 @@
 ghost use Rattle.std.specs.Prelude.{IfOk};
 ghost use Rattle.line_rules.specs.Ranges.{IsInRange};
 
-use crate::wide::{Wide, verify_wide};
 use cert_text::{CertRead, read_cert};
 use line_check::{EntryFault, Place, Verified};
 use line_instance::{Instance, Made, make};
@@ -11,6 +10,7 @@ use line_rules::Certificate;
 use std::alloc::{AllocError, Global};
 use std::test::Fail;
 use std::thread::Threads;
+use wide_check::{Wide, verify_wide};
 
 /// The first lines of a certificate of seven free tasks at 7, in five stations.
 pub(crate) const SEVEN: &str =

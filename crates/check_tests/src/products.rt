@@ -3,8 +3,8 @@ ghost use Rattle.std.specs.Prelude.{◌≤◌, IfOk};
 ghost use Rattle.line_rules.specs.Products.{IsSayable};
 ghost use Rattle.effic_check.specs.Accepted.{NoneApart};
 
-use crate::{EfficPlace, EfficVerified, verify_effic};
 use effic_cert::{EfficRead, read_effic};
+use effic_check::{EfficPlace, EfficVerified, verify_effic};
 use line_check::{EntryFault, FrameFault};
 use line_instance::{Instance, Made, make};
 use line_rules::EfficCert;

@@ -1,12 +1,12 @@
 //! The check in order, by certificates that were worked by hand: each call of it once, and what it refuses first.
-use crate::batches::entries_found;
-use crate::tests::{FIVE, SEVEN, STOPPED, certificate, refusal, verdict};
+use crate::verdicts::{FIVE, SEVEN, STOPPED, certificate, refusal, verdict};
 use line_check::{EntryChecked, ListChecked, verify, verify_entry, verify_list, verify_list_found};
 use line_instance::{Instance, Made, Prec, make};
 use line_rules::Claim;
 use std::alloc::{AllocError, Global};
 use std::test::Fail;
 use std::thread::Threads;
+use wide_check::entries_found;
 
 /// The first lines of a certificate of six free tasks at 7, in four stations.
 const SIX: &str =

@@ -1,0 +1,10 @@
+//! Tests of the check of certificates: in order and in threads, entry by entry and as a whole, and of certificates of
+//! products.
+#![tactic(auto)]
+
+#[cfg(test)]
+mod entries;
+#[cfg(test)]
+mod products;
+#[cfg(test)]
+mod verdicts;
