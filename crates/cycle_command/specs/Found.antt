@@ -55,8 +55,8 @@ pub record IsAnswered (files : Files) (file : List ℕ) (kind : LineKind) (m : �
   pub said : IsLineOf files file None line
   pub answer : IsFound kind line m plan name out ⊎ IsCutShort kind line m out
 
--- What `cycle` comes to for m stations, with so many helpers, and so many units for each cycle that is tried: an answer,
--- or why the file says no line.
+-- What `cycle` comes to for m stations, with so many helpers, and so many units for each cycle that is tried: an
+-- answer, or why the file says no line.
 abbrev pub IsCycleOutcome : Outside → List ℕ → LineKind → ℕ → ℕ → ℕ → Option (List ℕ) → Outcome → Type 0
 IsCycleOutcome o file kind m helpers units name out =
     IsAnswered o.files file kind m (record { helpers = helpers; units = units }) name out ⊎ IsNoLine o file None out

@@ -70,4 +70,5 @@ pub record IsAnswered (files : Files) (file : List ℕ) (kind : LineKind) (least
 -- tried: an answer, or why the file says no line.
 abbrev pub IsEfficOutcome : Outside → List ℕ → LineKind → ℕ → ℕ → ℕ → ℕ → Option (List ℕ) → Outcome → Type 0
 IsEfficOutcome o file kind least most helpers units name out =
-    IsAnswered o.files file kind least most (record { helpers = helpers; units = units }) name out ⊎ IsNoLine o file None out
+    IsAnswered o.files file kind least most (record { helpers = helpers; units = units }) name out
+    ⊎ IsNoLine o file None out

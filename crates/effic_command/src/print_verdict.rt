@@ -9,7 +9,9 @@ ghost use Rattle.effic_command.specs.ProductText.{verdict_status, verdict_text};
 use command_outcome::{Report, Status, push_one};
 use effic_check::{EfficPlace, EfficVerified};
 use line_rules::{EfficCert, LineKind};
-use printed_verdict::{entry_mode, frame_mode, push_entry_fault, push_frame_fault, push_pair, push_task, push_two};
+use printed_verdict::{
+    entry_mode, frame_mode, push_entry_fault, push_frame_fault, push_pair, push_task, push_two,
+};
 use std::alloc::{AllocError, Global};
 
 /// A wide number behind a text.

@@ -1,4 +1,1 @@
-pub mod Demand
-pub mod BalancedFacts
-pub mod LaunchFacts
 pub mod UtilityFacts

@@ -7,7 +7,7 @@ use Rattle.combined_graph.specs.Combined.{total_demand}
 use Rattle.command_outcome.specs.Outcome.{Files, Outside, Outcome}
 use Rattle.command_outcome.specs.declared.report.Kept.TheVariants.{Nothing}
 use Rattle.command_outcome.specs.declared.status.Status.TheVariants as ends
-use Rattle.mix_commands.specs.MixFile.{IsCombinedFile, IsUncombined}
+use Rattle.mix_files.specs.MixFile.{IsCombinedFile, IsUncombined}
 
 -- the line about what a mix combines to: the number of tasks, and the demand of all models together
 abbrev pub combined_line : MixedLine → List ℕ

@@ -6,7 +6,7 @@ use Rattle.combined_graph.specs.Mixes.{MixedLine}
 use Rattle.utility_work.specs.Utility.{station_utility}
 use Rattle.command_outcome.specs.Outcome.{Files, Outside, Outcome, told}
 use Rattle.command_outcome.specs.declared.status.Status.TheVariants as ends
-use Rattle.mix_commands.specs.Launch.{Names, IsLaunch, IsUnlaunched}
+use Rattle.mix_files.specs.Launch.{Names, IsLaunch, IsUnlaunched}
 
 -- the utility work at each of n stations, from station k on, all of one length
 abbrev pub utilities : MixedLine → List Seatplace → List ℕ → ℕ → ℕ → ℕ → ℕ → List ℕ

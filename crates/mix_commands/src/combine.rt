@@ -7,11 +7,11 @@ ghost use Rattle.command_outcome.specs.declared.report.Kept.TheVariants.{Nothing
 ghost use Rattle.command_outcome.specs.declared.status.Status.TheVariants as ends;
 ghost use Rattle.mix_commands.specs.Combine.{IsCombineOutcome, combined_line};
 
-use crate::mix_file::combined_of;
 use combined_graph::Mix;
 use command_outcome::{Report, Status, Stop, write_page};
 use in2_reader::write_in2;
 use line_io::Shelf;
+use mix_files::combined_of;
 use std::alloc::{AllocError, Global};
 
 /// The report about what a mix combines to.

@@ -9,10 +9,10 @@ ghost use Rattle.command_outcome.specs.declared.status.Status.TheVariants as end
 ghost use Rattle.input_files.specs.InputFile.{fault_line};
 ghost use Rattle.mix_commands.specs.Timeline.{IsTimelineOutcome, large_text};
 
-use crate::launch::{Launch, launch_of};
 use command_outcome::{Report, Status, Stop, refuse};
 use input_files::fault_line_of;
 use line_io::Shelf;
+use mix_files::{Launch, launch_of};
 use station_report::{TimelineRead, timeline};
 use std::alloc::Global;
 

@@ -8,11 +8,11 @@ ghost use Rattle.command_outcome.specs.declared.report.Kept.TheVariants.{Nothing
 ghost use Rattle.command_outcome.specs.declared.status.Status.TheVariants as ends;
 ghost use Rattle.mix_commands.specs.Utility.{IsUtilityOutcome, lines_text, utility_lines, utility_text};
 
-use crate::launch::launch_of;
 use combined_graph::Mix;
 use command_outcome::{Report, Status, Stop};
 use line_io::Shelf;
 use line_rules::Balance;
+use mix_files::launch_of;
 use std::alloc::{AllocError, Global};
 use utility_work::utility;
 

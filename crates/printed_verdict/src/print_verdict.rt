@@ -3,8 +3,9 @@
 ghost use Rattle.std.specs.Prelude.{◌≡◌, ◌++◌, ◌+◌, ◌≤◌, ◌<◌, ◌^◌, IfOk, OnOk, slice_get, string_bytes, codes, decimal};
 ghost use Rattle.cert_lines.specs.Numbers.{load_text};
 ghost use Rattle.command_outcome.specs.declared.report.Kept.TheVariants.{Nothing};
-ghost use Rattle.printed_verdict.specs.VerdictText.{ask_text, entry_fault_text, entry_mode, found_text, frame_fault_text};
-ghost use Rattle.printed_verdict.specs.VerdictText.{frame_mode, frame_of, kind_text, mode_at_entry, mode_at_frame};
+ghost use Rattle.printed_verdict.specs.VerdictText.{ask_text, entry_fault_text, entry_mode, found_text};
+ghost use Rattle.printed_verdict.specs.VerdictText.{frame_fault_text, frame_mode, frame_of, kind_text};
+ghost use Rattle.printed_verdict.specs.VerdictText.{mode_at_entry, mode_at_frame};
 ghost use Rattle.printed_verdict.specs.VerdictText.{place_text, two_text, verdict_status, verdict_text};
 
 use cert_text::{KeptText, put_load};

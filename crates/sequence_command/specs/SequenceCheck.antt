@@ -7,7 +7,7 @@ use Rattle.sequence_check.specs.Verdicts.{IsVerdict, IsTrueOf, IsRejectedSo}
 use Rattle.sequence_check.specs.declared.types.SeqVerified.{SeqVerified}
 use Rattle.command_outcome.specs.Outcome.{Files, Outside, Outcome, told}
 use Rattle.command_outcome.specs.declared.status.Status.TheVariants as ends
-use Rattle.mix_commands.specs.Launch.{Names}
+use Rattle.mix_files.specs.Launch.{Names}
 use Rattle.sequence_command.specs.TimedMix.{IsTimed, IsUntimed}
 use Rattle.sequence_command.specs.CertificateFile.{IsSeqCertOf, IsNoSeqCert}
 use Rattle.sequence_command.specs.VerdictText.{verdict_text, verdict_status}

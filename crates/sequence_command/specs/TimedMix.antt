@@ -11,7 +11,7 @@ use Rattle.sequence_search.specs.Tables.{demand_of}
 use Rattle.command_outcome.specs.Outcome.{Files, Outside, Outcome, told}
 use Rattle.command_outcome.specs.declared.status.Status.TheVariants as ends
 use Rattle.input_files.specs.InputFile.{fault_line}
-use Rattle.mix_commands.specs.Balanced.{IsBalanced, IsUnbalanced}
+use Rattle.mix_files.specs.Balanced.{IsBalanced, IsUnbalanced}
 
 -- A table of what a mix brings to the stations of a balance: the demands of its models, and the work of a unit of each
 -- model at each station.

@@ -11,7 +11,7 @@ use combined_graph::Mix;
 use command_outcome::{Status, Stop, refuse};
 use input_files::fault_line_of;
 use line_io::Shelf;
-use mix_commands::{Balanced, balanced_of};
+use mix_files::{Balanced, balanced_of};
 use sequence_rules::{MAX_STATIONS, Times};
 use sequence_search::station_times;
 use std::alloc::Global;

@@ -1,7 +1,7 @@
 use Rattle.std.proofs.Common.{inr}
 use Rattle.command_outcome.specs.Outcome.{Files, Outside, outside}
 use Rattle.command_outcome.proofs.OutcomeFacts.{early}
-use Rattle.mix_commands.specs.Launch.{Names, IsUnlaunched}
+use Rattle.mix_files.specs.Launch.{Names, IsUnlaunched}
 use Rattle.mix_commands.specs.Utility.{IsUtilityOutcome}
 use Rattle.mix_commands.proofs.utility.utility_report.Goals as goal
 

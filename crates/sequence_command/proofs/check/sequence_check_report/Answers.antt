@@ -1,7 +1,7 @@
 use Rattle.std.proofs.Common.{◌∙◌, subst, inl, inr}
 use Rattle.command_outcome.specs.Outcome.{Files, Outside, Outcome, outside}
 use Rattle.command_outcome.proofs.OutcomeFacts.{early}
-use Rattle.mix_commands.proofs.BalancedFacts.{same_files}
+use Rattle.mix_files.proofs.BalancedFacts.{same_files}
 use Rattle.sequence_command.specs.TimedMix.{IsUntimed}
 use Rattle.sequence_command.specs.CertificateFile.{IsNoSeqCert}
 use Rattle.sequence_command.specs.SequenceCheck.{IsSequenceCheckOutcome}

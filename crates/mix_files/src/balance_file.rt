@@ -10,8 +10,8 @@ ghost use Rattle.line_rules.specs.Ranges.{IsInRange};
 ghost use Rattle.line_rules.specs.declared.types.LineKind.TheVariants.{Straight};
 ghost use Rattle.command_outcome.specs.Outcome.{Stops, MayStop, outside, told};
 ghost use Rattle.command_outcome.specs.declared.status.Status.TheVariants as ends;
-ghost use Rattle.mix_commands.specs.BalanceFile.{IsBalanceFile, IsNoBalance, IsTested, IsRefused, IsWrong, check_text};
-ghost use Rattle.mix_commands.specs.BalanceFile.{refused_line, tasks_text};
+ghost use Rattle.mix_files.specs.BalanceFile.{IsBalanceFile, IsNoBalance, IsTested, IsRefused, IsWrong, check_text};
+ghost use Rattle.mix_files.specs.BalanceFile.{refused_line, tasks_text};
 
 use command_outcome::{Status, Stop, push_number, refuse};
 use input_files::certificate_of;

@@ -1,4 +1,4 @@
-use Rattle.mix_commands.proofs.balance_file.push_check.Goals as goal
+use Rattle.mix_files.proofs.balance_file.push_check.Goals as goal
 
 pub returns-in-Broken : goal.returns-in-Broken
 returns-in-Broken c = rw c.in-Broken.is c.push_pair.ensures

@@ -5,7 +5,7 @@ ghost use Rattle.std.specs.Prelude.{◌≡◌, ◌≤◌, ◌<◌, ℕ, List, Al
 ghost use Rattle.line_io.specs.Outside.{Rises};
 ghost use Rattle.command_outcome.specs.Outcome.{Stops, MayStop, outside};
 ghost use Rattle.input_files.specs.InputFile.{fault_line};
-ghost use Rattle.mix_commands.specs.SequenceFile.{IsSequenceFile, IsNoSequence, unknown_text};
+ghost use Rattle.mix_files.specs.SequenceFile.{IsSequenceFile, IsNoSequence, unknown_text};
 
 use combined_graph::{Mix, SeqRead, read_sequence};
 use command_outcome::{Status, Stop, refuse};

@@ -3,10 +3,10 @@ use Rattle.std.proofs.Common.{◌≡◌, ℕ, Bool, List, inr, subst}
 use Rattle.line_rules.specs.declared.types.Balance.{Balance as Assignment}
 use Rattle.combined_graph.specs.Mixes.{MixedLine}
 use Rattle.command_outcome.specs.Outcome.{Files, Outcome, outside}
-use Rattle.mix_commands.specs.SequenceFile.{IsSequenceFile, IsNoSequence}
-use Rattle.mix_commands.specs.Balanced.{IsBalanced}
-use Rattle.mix_commands.specs.Launch.{Names, IsLaunch, IsUnlaunched}
-use Rattle.mix_commands.proofs.BalancedFacts.{same_files}
+use Rattle.mix_files.specs.SequenceFile.{IsSequenceFile, IsNoSequence}
+use Rattle.mix_files.specs.Balanced.{IsBalanced}
+use Rattle.mix_files.specs.Launch.{Names, IsLaunch, IsUnlaunched}
+use Rattle.mix_files.proofs.BalancedFacts.{same_files}
 
 module _ (files late : Files) (names : Names) (interval : ℕ) (mix : MixedLine) (balance : Assignment)
     (same : (q : List ℕ) → late q ≡ files q) (balanced : IsBalanced files names.mix names.cert interval mix

@@ -1,6 +1,6 @@
 use Rattle.std.proofs.Common.{arith}
-use Rattle.mix_commands.proofs.Demand.{demand_below}
-use Rattle.mix_commands.proofs.mix_file.combine_models.Goals as goal
+use Rattle.mix_files.proofs.Demand.{demand_below}
+use Rattle.mix_files.proofs.mix_file.combine_models.Goals as goal
 
 pub returns-in-Good-clause-limit : goal.returns-in-Good-clause-limit
 returns-in-Good-clause-limit c =

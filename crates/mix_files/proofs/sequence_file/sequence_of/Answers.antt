@@ -3,8 +3,8 @@ use Rattle.command_outcome.specs.Outcome.{Stops, outside, told}
 use Rattle.command_outcome.specs.declared.status.Status.TheVariants as ends
 use Rattle.input_files.specs.InputFile.{max_file}
 use Rattle.input_files.proofs.InputFacts.{reads}
-use Rattle.mix_commands.specs.SequenceFile.{IsNoSequence, IsUnknownUnit, AreManyUnits}
-use Rattle.mix_commands.proofs.sequence_file.sequence_of.Goals as goal
+use Rattle.mix_files.specs.SequenceFile.{IsNoSequence, IsUnknownUnit, AreManyUnits}
+use Rattle.mix_files.proofs.sequence_file.sequence_of.Goals as goal
 
 pub returns-in-TooManyUnits-clause-said : goal.returns-in-TooManyUnits-clause-said
 returns-in-TooManyUnits-clause-said g c = λ t.

@@ -5,7 +5,7 @@ ghost use Rattle.line_io.specs.Outside.{Rises};
 ghost use Rattle.line_words.specs.Ranges.{IsBetween};
 ghost use Rattle.combined_graph.specs.Combined.{total_demand};
 ghost use Rattle.command_outcome.specs.Outcome.{Stops, MayStop, outside};
-ghost use Rattle.mix_commands.specs.Balanced.{IsBalanced, IsUnbalanced};
+ghost use Rattle.mix_files.specs.Balanced.{IsBalanced, IsUnbalanced};
 
 use crate::balance_file::balance_of;
 use crate::mix_file::combined_of;

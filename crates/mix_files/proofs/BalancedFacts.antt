@@ -9,9 +9,9 @@ use Rattle.line_rules.specs.declared.types.Balance.{Balance as Assignment}
 use Rattle.combined_graph.specs.Mixes.{MixedLine}
 use Rattle.combined_graph.specs.Combined.{total_demand}
 use Rattle.command_outcome.specs.Outcome.{Files, Outcome, outside}
-use Rattle.mix_commands.specs.MixFile.{IsCombinedFile}
-use Rattle.mix_commands.specs.BalanceFile.{IsBalanceFile, IsNoBalance}
-use Rattle.mix_commands.specs.Balanced.{IsBalanced, IsUnbalanced}
+use Rattle.mix_files.specs.MixFile.{IsCombinedFile}
+use Rattle.mix_files.specs.BalanceFile.{IsBalanceFile, IsNoBalance}
+use Rattle.mix_files.specs.Balanced.{IsBalanced, IsUnbalanced}
 
 -- a right balance has a station, since there is a task
 pub some_station : (kind : LineKind) (line : Line) (c : ℕ) (b : Assignment) → IsLine line → IsRight kind line c b

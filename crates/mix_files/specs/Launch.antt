@@ -3,8 +3,8 @@ use Rattle.std.specs.Prelude.{◌⊎◌, ℕ, List}
 use Rattle.line_rules.specs.declared.types.Balance.{Balance as Assignment}
 use Rattle.combined_graph.specs.Mixes.{MixedLine}
 use Rattle.command_outcome.specs.Outcome.{Files, Outside, Outcome}
-use Rattle.mix_commands.specs.Balanced.{IsBalanced, IsUnbalanced}
-use Rattle.mix_commands.specs.SequenceFile.{IsSequenceFile, IsNoSequence}
+use Rattle.mix_files.specs.Balanced.{IsBalanced, IsUnbalanced}
+use Rattle.mix_files.specs.SequenceFile.{IsSequenceFile, IsNoSequence}
 
 -- the names of the three files
 pub record Names : Type 0 where

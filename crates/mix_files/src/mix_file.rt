@@ -6,8 +6,8 @@ ghost use Rattle.line_io.specs.Outside.{Rises};
 ghost use Rattle.combined_graph.specs.Combined.{IsCombined, total_demand};
 ghost use Rattle.command_outcome.specs.Outcome.{Stops, MayStop, outside};
 ghost use Rattle.input_files.specs.InputFile.{fault_line};
-ghost use Rattle.mix_commands.specs.MixFile.{IsMixFile, IsNoMix, IsCombinedFile, IsUncombined, IsCyclic, kind_text};
-ghost use Rattle.mix_commands.specs.MixFile.{fault_text, cycle_text};
+ghost use Rattle.mix_files.specs.MixFile.{IsMixFile, IsNoMix, IsCombinedFile, IsUncombined, IsCyclic, kind_text};
+ghost use Rattle.mix_files.specs.MixFile.{fault_text, cycle_text};
 
 use combined_graph::{Combined, Mix, MixFault, MixKind, MixRead, combine, read_mix};
 use command_outcome::{Status, Stop, refuse};

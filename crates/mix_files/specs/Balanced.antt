@@ -5,8 +5,8 @@ use Rattle.line_rules.specs.declared.types.Balance.{Balance as Assignment}
 use Rattle.combined_graph.specs.Mixes.{MixedLine}
 use Rattle.combined_graph.specs.Combined.{total_demand}
 use Rattle.command_outcome.specs.Outcome.{Files, Outside, Outcome}
-use Rattle.mix_commands.specs.MixFile.{IsCombinedFile, IsUncombined}
-use Rattle.mix_commands.specs.BalanceFile.{IsBalanceFile, IsNoBalance}
+use Rattle.mix_files.specs.MixFile.{IsCombinedFile, IsUncombined}
+use Rattle.mix_files.specs.BalanceFile.{IsBalanceFile, IsNoBalance}
 
 -- The first file says the mix, and the second one a straight balance that is right for its combined line at the launch
 -- interval times the total demand.

@@ -3,7 +3,7 @@ ghost use Rattle.std.specs.Prelude.{◌≡◌, ◌≤◌, ◌<◌, ℕ, List, Al
 ghost use Rattle.line_io.specs.Outside.{Rises};
 ghost use Rattle.line_words.specs.Ranges.{IsBetween};
 ghost use Rattle.command_outcome.specs.Outcome.{Stops, MayStop, outside};
-ghost use Rattle.mix_commands.specs.Launch.{IsLaunch, IsUnlaunched};
+ghost use Rattle.mix_files.specs.Launch.{IsLaunch, IsUnlaunched};
 
 use crate::balanced::{Balanced, balanced_of};
 use crate::sequence_file::sequence_of;

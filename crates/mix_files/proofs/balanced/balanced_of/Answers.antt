@@ -3,10 +3,10 @@ use Rattle.std.proofs.lemmas.Result.{err_from_is_err_and}
 use Rattle.line_rules.specs.declared.types.LineKind.TheVariants.{Straight}
 use Rattle.command_outcome.specs.Outcome.{Files, Outcome, Stops, outside}
 use Rattle.command_outcome.proofs.OutcomeFacts.{stops_as}
-use Rattle.mix_commands.specs.BalanceFile.{IsNoBalance}
-use Rattle.mix_commands.specs.Balanced.{IsBalanced, IsUnbalanced}
-use Rattle.mix_commands.proofs.BalancedFacts.{some_station, unbalanced}
-use Rattle.mix_commands.proofs.balanced.balanced_of.Goals as goal
+use Rattle.mix_files.specs.BalanceFile.{IsNoBalance}
+use Rattle.mix_files.specs.Balanced.{IsBalanced, IsUnbalanced}
+use Rattle.mix_files.proofs.BalancedFacts.{some_station, unbalanced}
+use Rattle.mix_files.proofs.balanced.balanced_of.Goals as goal
 
 pub returns-in_err-balance-clause-said : goal.returns-in_err-balance-clause-said
 returns-in_err-balance-clause-said g c = λ t.

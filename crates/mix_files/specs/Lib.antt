@@ -1,0 +1,5 @@
+pub mod MixFile
+pub mod SequenceFile
+pub mod BalanceFile
+pub mod Balanced
+pub mod Launch
