@@ -5,7 +5,7 @@ ghost use Rattle.command_outcome.specs.declared.report.Stop.TheVariants.{Memory,
 
 use crate::status::Status;
 use line_rules::{Certificate, EfficCert};
-use sequence_rules::SeqCert;
+use sequence_values::SeqCert;
 use std::alloc::AllocError;
 
 /// The certificate that a run leaves in memory, beside what it prints and writes.

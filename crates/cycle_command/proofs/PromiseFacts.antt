@@ -6,7 +6,7 @@ use Rattle.line_rules.specs.Bounds.{idle_time}
 use Rattle.line_rules.specs.declared.types.LineKind.{LineKind}
 use Rattle.line_rules.specs.declared.types.Balance.{Balance as Assignment}
 use Rattle.line_rules.specs.declared.types.Certificate.{Certificate}
-use Rattle.round_run.specs.declared.plans.Plan.{Plan}
+use Rattle.cycle_search.specs.rounds.declared.plans.Plan.{Plan}
 use Rattle.command_outcome.specs.Outcome.{Outcome}
 use Rattle.command_outcome.specs.declared.status.Status.TheVariants as ends
 use Rattle.cycle_search.specs.CycleCertified.{IsOptimum, IsStop}

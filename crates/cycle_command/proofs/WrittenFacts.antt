@@ -13,9 +13,9 @@ use Rattle.command_outcome.specs.Outcome.{Outcome, outcome_of}
 use Rattle.command_outcome.specs.declared.report.Kept.TheVariants.{Line as Certified}
 use Rattle.command_outcome.specs.declared.report.Report.{Report}
 use Rattle.command_outcome.proofs.WrittenFacts.{paged}
-use Rattle.round_run.specs.declared.plans.Plan.{Plan}
-use Rattle.round_run.specs.declared.solving.Cause.{Cause}
-use Rattle.round_run.specs.declared.solving.Cause.TheVariants as causes
+use Rattle.cycle_search.specs.rounds.declared.plans.Plan.{Plan}
+use Rattle.cycle_search.specs.rounds.declared.solving.Cause.{Cause}
+use Rattle.cycle_search.specs.rounds.declared.solving.Cause.TheVariants as causes
 use Rattle.solution_page.specs.Page.{page_of, IsSolveStatus}
 use Rattle.cycle_search.specs.Outcomes.{IsSpent, IsStopped as HasStopped, Searches}
 use Rattle.cycle_search.specs.declared.searching.CycleOutcome.TheVariants as outcomes

@@ -15,8 +15,8 @@ use Rattle.line_rules.specs.declared.types.Ask.TheVariants as ask
 use Rattle.line_rules.specs.declared.types.Claim.TheVariants as claim
 use Rattle.line_rules.specs.declared.types.Certificate.{Certificate}
 use Rattle.budget_law.specs.Budget.{states}
-use Rattle.round_run.specs.declared.plans.Plan.{Plan}
-use Rattle.round_run.specs.Certified.{max_units}
+use Rattle.cycle_search.specs.rounds.declared.plans.Plan.{Plan}
+use Rattle.cycle_search.specs.rounds.Certified.{max_units}
 use Rattle.command_outcome.specs.Outcome.{Files}
 use Rattle.command_outcome.specs.declared.report.Kept.{Kept}
 use Rattle.command_outcome.specs.declared.report.Kept.TheVariants.{Line as Certified}

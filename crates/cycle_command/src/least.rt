@@ -7,8 +7,8 @@ ghost use Rattle.line_rules.specs.declared.types.Entry.{Entry};
 ghost use Rattle.line_rules.specs.declared.types.Trail.{Trail as Frames};
 ghost use Rattle.command_outcome.specs.Outcome.{Ends, MayEnd, Stops, MayStop, outside, outcome_of};
 ghost use Rattle.command_outcome.specs.declared.report.Stop.TheVariants.{Unwritten};
-ghost use Rattle.round_run.specs.Plans.{IsPlan};
-ghost use Rattle.round_run.specs.declared.plans.Plan.{Plan as Planned};
+ghost use Rattle.cycle_search.specs.rounds.Plans.{IsPlan};
+ghost use Rattle.cycle_search.specs.rounds.declared.plans.Plan.{Plan as Planned};
 ghost use Rattle.solution_page.specs.Page.{IsSolveStatus};
 ghost use Rattle.cycle_search.specs.Ends.{NoneApart};
 ghost use Rattle.cycle_search.specs.Outcomes.{IsSolved, IsSpent, IsStopped as HasStopped};
@@ -17,12 +17,13 @@ ghost use Rattle.cycle_command.specs.Found.{IsOptimal, IsStopped, IsFound, IsCut
 
 use crate::print_cycle::{optimal_text, stopped_text};
 use command_outcome::{Kept, Report, Status, Stop, cut_short_text, refuse, room_for_bounds};
-use cycle_search::{CycleOutcome, certify_cycle, certify_cycle_stop, least_cycle};
+use cycle_search::{
+    Cause, CycleOutcome, Gate, Plan, certify_cycle, certify_cycle_stop, least_cycle,
+};
 use input_files::plain_line;
 use line_instance::Instance;
 use line_io::Shelf;
 use line_rules::{Balance, Entries, LineKind, Trail};
-use round_run::{Cause, Gate, Plan};
 use solution_page::write_certificate;
 use station_report::idle_of;
 use std::alloc::{AllocError, Global};

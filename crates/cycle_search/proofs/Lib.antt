@@ -5,3 +5,4 @@ pub mod AskFacts
 pub mod Results
 pub mod ReopenFacts
 pub mod CertificateFacts
+pub use Rattle.round_run.proofs as about_rounds

@@ -3,3 +3,4 @@ pub mod Ends
 pub mod Outcomes
 pub mod CycleCertified
 pub mod inner
+pub use Rattle.round_run.specs as rounds

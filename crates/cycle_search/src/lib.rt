@@ -27,5 +27,6 @@ pub use asking::{Asked, ask_book};
 pub use certify::{certify_cycle, certify_cycle_stop};
 pub use ends::{Ends, all_at_first, first_ends};
 pub use opening::open_book;
+pub use round_run::{Cause, Gate, Plan, Verdict};
 pub use searching::{CycleOutcome, least_cycle};
 pub use trying::widened;

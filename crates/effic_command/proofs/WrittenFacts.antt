@@ -6,7 +6,7 @@ use Rattle.command_outcome.specs.Outcome.{Outcome, outcome_of}
 use Rattle.command_outcome.specs.declared.report.Kept.TheVariants.{Product as Certified}
 use Rattle.command_outcome.specs.declared.report.Report.{Report}
 use Rattle.command_outcome.proofs.WrittenFacts.{paged}
-use Rattle.round_run.specs.declared.plans.Plan.{Plan}
+use Rattle.effic_search.specs.rounds.declared.plans.Plan.{Plan}
 use Rattle.line_rules.specs.Products.{IsSayable}
 use Rattle.line_rules.specs.declared.products.EfficCert.{EfficCert}
 use Rattle.effic_search.specs.Outcomes.{IsCertified}

@@ -3,7 +3,7 @@ use Rattle.std.specs.Prelude.{◌≡◌, ◌⊎◌, ℕ, List, Option, Some, Non
 use Rattle.line_instance.specs.Line.{Line}
 use Rattle.line_rules.specs.Bounds.{idle_time}
 use Rattle.line_rules.specs.declared.types.LineKind.{LineKind}
-use Rattle.round_run.specs.declared.plans.Plan.{Plan}
+use Rattle.effic_search.specs.rounds.declared.plans.Plan.{Plan}
 use Rattle.command_outcome.specs.Outcome.{Files, Outside, Page, Outcome, told}
 use Rattle.command_outcome.specs.declared.report.Kept.TheVariants.{Product}
 use Rattle.command_outcome.specs.declared.status.Status.{Status}

@@ -2,8 +2,8 @@
 use Rattle.std.specs.Prelude.{◌≡◌, ℕ, ◌<◌, ◌≤◌, List, Option, Some, None}
 use Rattle.line_instance.specs.Line.{Line}
 use Rattle.line_rules.specs.declared.types.LineKind.{LineKind}
-use Rattle.round_run.specs.declared.plans.Plan.{Plan}
-use Rattle.round_run.specs.Certified.{max_units}
+use Rattle.effic_search.specs.rounds.declared.plans.Plan.{Plan}
+use Rattle.effic_search.specs.rounds.Certified.{max_units}
 use Rattle.command_outcome.specs.Outcome.{Files}
 use Rattle.command_outcome.specs.declared.report.Kept.{Kept}
 use Rattle.command_outcome.specs.declared.report.Kept.TheVariants.{Product}

@@ -10,7 +10,7 @@ ghost use Rattle.command_outcome.specs.Outcome.{Files, Ends, MayEnd, Stay, Stops
 ghost use Rattle.command_outcome.specs.declared.report.Kept.TheVariants.{Product as Certified};
 ghost use Rattle.command_outcome.specs.declared.report.Stop.TheVariants.{Unwritten};
 ghost use Rattle.command_outcome.specs.declared.status.Status.TheVariants as ends;
-ghost use Rattle.round_run.specs.Plans.{IsPlan};
+ghost use Rattle.effic_search.specs.rounds.Plans.{IsPlan};
 ghost use Rattle.solution_page.specs.Page.{IsSolveStatus};
 ghost use Rattle.line_rules.specs.Products.{IsSayable};
 ghost use Rattle.line_rules.specs.declared.products.EfficCert.{EfficCert as Proof};
@@ -23,12 +23,11 @@ ghost use Rattle.effic_command.specs.EfficPromise.{HasCertificate, IsEfficPromis
 use crate::print_effic::{optimal_text, stopped_text};
 use command_outcome::{Kept, Report, Status, Stop, cut_short_text, refuse, room_for_bounds};
 use effic_cert::write_effic;
-use effic_search::{EfficOutcome, Ended, least_product};
+use effic_search::{EfficOutcome, Ended, Gate, Plan, least_product};
 use input_files::plain_line;
 use line_instance::Instance;
 use line_io::{Shelf, Written, write_whole};
 use line_rules::{EfficCert, LineKind};
-use round_run::{Gate, Plan};
 use station_report::idle_of;
 use std::alloc::{AllocError, Global};
 use std::sync::Wait;

@@ -25,8 +25,8 @@ use Rattle.line_rules.proofs.ReadPlaces.{seat_read}
 use Rattle.lemma_core.specs.Own.{AreStatable}
 use Rattle.budget_law.specs.Budget.{states}
 use Rattle.budget_law.proofs.FewUnits.{units_few}
-use Rattle.round_run.specs.declared.plans.Plan.{Plan}
-use Rattle.round_run.proofs.Sayable.{entries_ok, trail_ok, all_are_tasks}
+use Rattle.cycle_search.specs.rounds.declared.plans.Plan.{Plan}
+use Rattle.cycle_search.proofs.about_rounds.Sayable.{entries_ok, trail_ok, all_are_tasks}
 use Rattle.line_rules.specs.Products.{IsSayable}
 use Rattle.line_rules.specs.declared.products.EfficCert.{EfficCert}
 use Rattle.effic_check.specs.Accepted.{IsAccepted, HasTrail}

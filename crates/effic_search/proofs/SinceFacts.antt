@@ -11,7 +11,7 @@ use Rattle.station_search.proofs.Events.{get_append_cases}
 use Rattle.round_helpers.specs.Growth.{AreAtCycle}
 use Rattle.cycle_search.proofs.BehindFacts.{none_at}
 use Rattle.effic_search.specs.Since.{IsSinceGoal}
-use Rattle.round_run.proofs.Endings.{at_both, all_at, units_front, units_some}
+use Rattle.cycle_search.proofs.about_rounds.Endings.{at_both, all_at, units_front, units_some}
 use Rattle.line_rules.proofs.ListUnits.{units_both}
 
 -- nothing is behind an entry of all tasks at the end

@@ -23,10 +23,10 @@ use Rattle.lemma_core.specs.Machine.{About}
 use Rattle.lemma_core.specs.Books.{BookView, IsReserved, MayBeBest}
 use Rattle.station_search.proofs.Events.{get_append_cases}
 use Rattle.round_helpers.specs.Growth.{AreAtCycle}
-use Rattle.round_run.specs.Rounds.{IsAnswer, frames_of}
-use Rattle.round_run.specs.declared.closing.Verdict.{Verdict}
-use Rattle.round_run.specs.declared.closing.Verdict.TheVariants as verdict
-use Rattle.round_run.specs.declared.plans.Plan.{Plan}
+use Rattle.cycle_search.specs.rounds.Rounds.{IsAnswer, frames_of}
+use Rattle.cycle_search.specs.rounds.declared.closing.Verdict.{Verdict}
+use Rattle.cycle_search.specs.rounds.declared.closing.Verdict.TheVariants as verdict
+use Rattle.cycle_search.specs.rounds.declared.plans.Plan.{Plan}
 use Rattle.cycle_search.specs.Asking.{ListsAll}
 use Rattle.cycle_search.specs.Ends.{first_lower, first_upper}
 use Rattle.cycle_search.proofs.EndFacts.{none_long}

@@ -3,3 +3,4 @@ pub mod Since
 pub mod Lowest
 pub mod Outcomes
 pub mod inner
+pub use Rattle.cycle_search.specs.rounds as rounds

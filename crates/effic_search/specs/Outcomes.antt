@@ -13,7 +13,7 @@ use Rattle.line_rules.specs.declared.types.Trail.{Trail}
 use Rattle.line_rules.specs.declared.types.Why.TheVariants as why
 use Rattle.line_rules.specs.Times.{longest_of}
 use Rattle.budget_law.specs.Budget.{states}
-use Rattle.round_run.specs.declared.plans.Plan.{Plan}
+use Rattle.cycle_search.specs.rounds.declared.plans.Plan.{Plan}
 use Rattle.line_rules.specs.Products.{IsSayable}
 use Rattle.line_rules.specs.declared.products.EfficCert.{EfficCert}
 use Rattle.effic_check.specs.Accepted.{IsAccepted}

@@ -19,4 +19,5 @@ mod searching;
 mod settling;
 mod trying;
 
+pub use cycle_search::{Gate, Plan};
 pub use searching::{EfficOutcome, Ended, least_product};

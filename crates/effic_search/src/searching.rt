@@ -1,8 +1,8 @@
 //! What a search for the least product comes to.
 ghost use Rattle.std.specs.Prelude.{◌≡◌, ◌≤◌, ◌+◌, IfOk};
 ghost use Rattle.line_rules.specs.Entries.{IsDerived, IsFresh};
-ghost use Rattle.round_run.specs.Plans.{IsPlan};
-ghost use Rattle.round_run.specs.declared.plans.Plan.{Plan as Planned};
+ghost use Rattle.cycle_search.specs.rounds.Plans.{IsPlan};
+ghost use Rattle.cycle_search.specs.rounds.declared.plans.Plan.{Plan as Planned};
 ghost use Rattle.effic_check.specs.Accepted.{NoneApart};
 ghost use Rattle.effic_check.specs.Truth.{IsBetween};
 ghost use Rattle.effic_search.specs.inner.Going.{IsLowering, IsGoing, IsSettled, HasTrailBy, HasFewUnits};
@@ -14,9 +14,9 @@ use crate::counting::lowest;
 use crate::lowering::{Lowering, Wanted};
 use crate::opening::begin;
 use crate::settling::{Settled, settle};
+use cycle_search::{Gate, Plan};
 use line_instance::Instance;
 use line_rules::{EfficCert, LineKind, Trail};
-use round_run::{Gate, Plan};
 use std::alloc::{AllocError, Global};
 use std::sync::Wait;
 use std::thread::Threads;

@@ -1,14 +1,14 @@
 //! All tries at one number of stations, until no smaller product is left open there.
 ghost use Rattle.std.specs.Prelude.{◌≡◌, ◌≤◌, ◌<◌, ◌⊎◌, true, false, IfOk};
-ghost use Rattle.round_run.specs.Plans.{IsPlan};
+ghost use Rattle.cycle_search.specs.rounds.Plans.{IsPlan};
 ghost use Rattle.effic_search.specs.inner.Going.{IsGoing, IsSettled};
 
 use crate::counting::{Listed, is_closed};
 use crate::lowering::{Lowering, Wanted};
 use crate::trying::{Tried, try_cycle};
+use cycle_search::{Gate, Plan};
 use line_instance::Instance;
 use line_rules::Frames;
-use round_run::{Gate, Plan};
 use std::alloc::{AllocError, Global};
 use std::sync::Wait;
 use std::thread::Threads;

@@ -9,7 +9,7 @@ use Rattle.line_words.specs.declared.job.Job.TheVariants.{Help, Version, Balance
 use Rattle.line_words.specs.declared.job.Job.TheVariants.{Utility, Timeline, Try, Draw, Effic, EfficCheck, Sequence}
 use Rattle.line_words.specs.declared.job.Job.TheVariants.{SequenceCheck}
 use Rattle.line_rules.specs.declared.types.LineKind.{LineKind}
-use Rattle.round_run.specs.declared.plans.Plan.{Plan}
+use Rattle.solve_command.specs.rounds.declared.plans.Plan.{Plan}
 use Rattle.command_outcome.specs.Outcome.{Files, Outside, Outcome, IsCut, IsWritten, outcome_of, told}
 use Rattle.command_outcome.specs.Output.{Puts, memory_line}
 use Rattle.command_outcome.specs.declared.report.Kept.{Kept}

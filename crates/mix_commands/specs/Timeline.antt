@@ -5,7 +5,7 @@ use Rattle.combined_graph.specs.Mixes.{MixedLine}
 use Rattle.station_report.specs.TimelineText.{timeline_text}
 use Rattle.command_outcome.specs.Outcome.{Files, Outside, Outcome, told}
 use Rattle.command_outcome.specs.declared.status.Status.TheVariants as ends
-use Rattle.input_files.specs.InputFile.{fault_line}
+use Rattle.mix_files.specs.inputs.InputFile.{fault_line}
 use Rattle.mix_files.specs.Launch.{Names, IsLaunch, IsUnlaunched}
 
 -- what is said of a sequence with more rows than a timeline may have

@@ -6,13 +6,12 @@ ghost use Rattle.station_report.specs.TimelineText.{timeline_text};
 ghost use Rattle.command_outcome.specs.Outcome.{Ends, Stops, MayStop, outside, told};
 ghost use Rattle.command_outcome.specs.declared.report.Kept.TheVariants.{Nothing};
 ghost use Rattle.command_outcome.specs.declared.status.Status.TheVariants as ends;
-ghost use Rattle.input_files.specs.InputFile.{fault_line};
+ghost use Rattle.mix_files.specs.inputs.InputFile.{fault_line};
 ghost use Rattle.mix_commands.specs.Timeline.{IsTimelineOutcome, large_text};
 
 use command_outcome::{Report, Status, Stop, refuse};
-use input_files::fault_line_of;
 use line_io::Shelf;
-use mix_files::{Launch, launch_of};
+use mix_files::{Launch, fault_line_of, launch_of};
 use station_report::{TimelineRead, timeline};
 use std::alloc::Global;
 

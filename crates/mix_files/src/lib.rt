@@ -14,5 +14,6 @@ mod mix_file;
 mod sequence_file;
 
 pub use balanced::{Balanced, balanced_of};
+pub use input_files::{fault_line_of, spelled_in};
 pub use launch::{Launch, launch_of};
 pub use mix_file::{CombinedMix, combined_of};

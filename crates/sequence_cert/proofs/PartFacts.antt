@@ -21,8 +21,8 @@ use Rattle.text_grammar.proofs.TextFacts.{led_tells, same_tells, titled_tells, n
 use Rattle.text_grammar.proofs.LineFacts.{Ready, number_ready, end_ready, both_ready, key_plain, end_tells}
 use Rattle.text_grammar.proofs.TwoParts.{TwoParts, parted}
 use Rattle.sequence_rules.specs.Ranges.{IsEntry, IsFrame}
-use Rattle.sequence_rules.specs.declared.types.SeqEntry.{SeqEntry}
-use Rattle.sequence_rules.specs.declared.types.SeqFrame.{SeqFrame}
+use Rattle.sequence_values.specs.declared.types.SeqEntry.{SeqEntry}
+use Rattle.sequence_values.specs.declared.types.SeqFrame.{SeqFrame}
 use Rattle.sequence_cert.specs.SequenceText.{counted_rows, unit_row, entry_row, frame_row, sequence_rows}
 use Rattle.sequence_cert.specs.inner.Parts.{AreModels, IsCounted, counteds, bodies}
 use Rattle.sequence_cert.specs.Laws.{NoSequenceTextBeginsAnother}

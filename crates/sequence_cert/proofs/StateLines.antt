@@ -22,10 +22,10 @@ use Rattle.cert_lines.proofs.JudgedSeat.{seat_none, seat_ok, seat_range}
 use Rattle.cert_text.proofs.LineTexts.{row_lacks}
 use Rattle.text_grammar.specs.Texts.{TellsLine}
 use Rattle.sequence_rules.specs.Ranges.{IsWhy, IsEntry, IsFrame, IsLast}
-use Rattle.sequence_rules.specs.declared.types.SeqEntry.{SeqEntry}
-use Rattle.sequence_rules.specs.declared.types.SeqFrame.{SeqFrame}
-use Rattle.sequence_rules.specs.declared.types.SeqWhy.{SeqWhy}
-use Rattle.sequence_rules.specs.declared.types.SeqWhy.TheVariants as why
+use Rattle.sequence_values.specs.declared.types.SeqEntry.{SeqEntry}
+use Rattle.sequence_values.specs.declared.types.SeqFrame.{SeqFrame}
+use Rattle.sequence_values.specs.declared.types.SeqWhy.{SeqWhy}
+use Rattle.sequence_values.specs.declared.types.SeqWhy.TheVariants as why
 use Rattle.sequence_cert.specs.SequenceText.{unit_row, cited, entry_row, counted, frame_row}
 use Rattle.sequence_cert.specs.inner.StateReading.{entry_in, frame_in, indexed, frame_of}
 use Rattle.sequence_cert.specs.inner.Parts.{AreModels, IsEntryWithin, IsLastWithin, IsFrameWithin}

@@ -15,9 +15,9 @@ use Rattle.cert_lines.proofs.NumberWords.{number_found, number_first_again, spli
 use Rattle.cert_lines.proofs.CiteWords.{sat, cites_again, cites_found, is_none_word, none_of_high}
 use Rattle.cert_lines.proofs.EntryLines.{number_first_found}
 use Rattle.cert_lines.proofs.Lists.{split_parts, chosen}
-use Rattle.sequence_rules.specs.declared.types.SeqEntry.{SeqEntry}
-use Rattle.sequence_rules.specs.declared.types.SeqWhy.{SeqWhy}
-use Rattle.sequence_rules.specs.declared.types.SeqWhy.TheVariants as why
+use Rattle.sequence_values.specs.declared.types.SeqEntry.{SeqEntry}
+use Rattle.sequence_values.specs.declared.types.SeqWhy.{SeqWhy}
+use Rattle.sequence_values.specs.declared.types.SeqWhy.TheVariants as why
 use Rattle.sequence_cert.specs.inner.StateReading.{many_in, state_in, bound_in, branch_in, entry_in, last_in, open_in}
 use Rattle.sequence_cert.specs.inner.StateReading.{frame_in}
 use Rattle.sequence_cert.specs.declared.words.FrameDraft.{FrameDraft}

@@ -3,7 +3,7 @@ use Rattle.std.specs.Prelude.{ℕ, List}
 use Rattle.cert_lines.specs.Faults.{Grammar}
 use Rattle.cert_lines.specs.declared.fault.CertFault.{CertFault}
 use Rattle.sequence_rules.specs.Ranges.{IsInRange}
-use Rattle.sequence_rules.specs.declared.types.SeqCert.{SeqCert}
+use Rattle.sequence_values.specs.declared.types.SeqCert.{SeqCert}
 use Rattle.text_grammar.specs.Texts.{IsTextFault, IsTextRead}
 use Rattle.text_grammar.specs.declared.text.TextRead.{TextRead}
 use Rattle.sequence_cert.specs.SequenceText.{sequence_rows}

@@ -3,11 +3,11 @@ use Rattle.std.specs.Prelude.{ℕ, suc, List, [], ◌∷◌, ◌++◌, length, m
 use Rattle.line_rules.specs.declared.types.LineKind.TheVariants.{Straight}
 use Rattle.line_rules.specs.declared.types.Side.TheVariants.{Front}
 use Rattle.cert_lines.specs.Rows.{Row, fixed, keyed, seat, state_entry, state_frame, rows_text}
-use Rattle.sequence_rules.specs.declared.types.SeqEntry.{SeqEntry}
-use Rattle.sequence_rules.specs.declared.types.SeqFrame.{SeqFrame}
-use Rattle.sequence_rules.specs.declared.types.SeqWhy.{SeqWhy}
-use Rattle.sequence_rules.specs.declared.types.SeqWhy.TheVariants as why
-use Rattle.sequence_rules.specs.declared.types.SeqCert.{SeqCert}
+use Rattle.sequence_values.specs.declared.types.SeqEntry.{SeqEntry}
+use Rattle.sequence_values.specs.declared.types.SeqFrame.{SeqFrame}
+use Rattle.sequence_values.specs.declared.types.SeqWhy.{SeqWhy}
+use Rattle.sequence_values.specs.declared.types.SeqWhy.TheVariants as why
+use Rattle.sequence_values.specs.declared.types.SeqCert.{SeqCert}
 
 -- the line of a unit: its model, counted from 1
 abbrev pub unit_row : ℕ → Row

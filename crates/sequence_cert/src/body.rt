@@ -3,7 +3,7 @@ use crate::counted::Counted;
 use crate::lines::{MAX_NUMBER, StateEntryLine, StateFrameLine, UnitLine};
 use cert_lines::line_forms::{EndLine, Key, NumberLine};
 use cert_lines::{ReadError, Source};
-use sequence_rules::SeqCert;
+use sequence_values::SeqCert;
 use std::alloc::Global;
 use text_grammar::{OneLine, Part};
 

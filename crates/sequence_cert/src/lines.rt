@@ -10,7 +10,7 @@ use crate::words::{FrameDraft, entry, frame};
 use cert_lines::LineError;
 use cert_lines::pattern::Pattern;
 use cert_lines::words::number;
-use sequence_rules::{SeqEntry, SeqFrame, SeqWhy};
+use sequence_values::{SeqEntry, SeqFrame, SeqWhy};
 use std::alloc::Global;
 
 /// The greatest number of a certificate.

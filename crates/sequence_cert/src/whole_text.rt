@@ -2,12 +2,12 @@
 ghost use Rattle.std.specs.Prelude.{◌≡◌, ◌≢◌};
 ghost use Rattle.cert_lines.specs.declared.fault.CertFault.{CertFault as Fault};
 ghost use Rattle.sequence_rules.specs.Ranges.{IsInRange};
-ghost use Rattle.sequence_rules.specs.declared.types.SeqCert.{SeqCert as Cert};
+ghost use Rattle.sequence_values.specs.declared.types.SeqCert.{SeqCert as Cert};
 ghost use Rattle.sequence_cert.specs.SequenceText.{sequence_text};
 ghost use Rattle.sequence_cert.specs.Faults.{IsSeqRead};
 
 use crate::body::SequenceBody;
-use sequence_rules::SeqCert;
+use sequence_values::SeqCert;
 use std::alloc::Global;
 use text_grammar::{Text, TextRead, read_text};
 

@@ -6,7 +6,7 @@ ghost use Rattle.sequence_cert.specs.inner.StateReading.{many_in, bound_in, bran
 ghost use Rattle.sequence_cert.specs.inner.StateReading.{state_in, frame_in};
 
 use cert_lines::words::{cites_of, first_number, is_none, number, split_at};
-use sequence_rules::{Numbers, SeqEntry, SeqWhy};
+use sequence_values::{Numbers, SeqEntry, SeqWhy};
 use std::alloc::{AllocError, Global};
 
 /// What the line of a frame says.

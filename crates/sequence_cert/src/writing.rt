@@ -8,7 +8,7 @@ ghost use Rattle.sequence_cert.specs.SequenceText.{entry_rows, frame_rows, seque
 ghost use Rattle.sequence_cert.specs.inner.Pieces.{state_text};
 
 use cert_text::{KeptText, Output, put_cites, put_keyed, put_number, put_text};
-use sequence_rules::{Numbers, SeqCert, SeqEntries, SeqEntry, SeqFrame, SeqFrames, SeqWhy};
+use sequence_values::{Numbers, SeqCert, SeqEntries, SeqEntry, SeqFrame, SeqFrames, SeqWhy};
 use std::alloc::{AllocError, Global};
 
 // Puts what is left and the starts, each behind a blank, and a blank.

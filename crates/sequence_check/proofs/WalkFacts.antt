@@ -5,8 +5,8 @@ use Rattle.std.specs.Prelude.{slice_get}
 use Rattle.std.specs.List.{AllZip}
 use Rattle.std.proofs.lemmas.Option.{slice_get_within, same_Some}
 use Rattle.line_rules.proofs.ListFacts.{get_push_cases, get_taken}
-use Rattle.sequence_rules.specs.declared.types.Times.{Times}
-use Rattle.sequence_rules.specs.declared.types.SeqEntry.{SeqEntry}
+use Rattle.sequence_values.specs.declared.types.Times.{Times}
+use Rattle.sequence_values.specs.declared.types.SeqEntry.{SeqEntry}
 use Rattle.sequence_rules.specs.Entries.{Answers, IsCited, needs_cite, passing}
 pub use Rattle.sequence_rules.proofs.PassingNumbers.{passing_no, passing_yes, count_no, count_yes, left_more, none_left}
 pub use Rattle.sequence_rules.proofs.PassingNumbers.{some_left, left_needs}

@@ -2,9 +2,9 @@
 use Rattle.std.specs.Prelude.{◌≡◌, ℕ, suc, ◌<◌, ◌≤◌, List, length, sum}
 use Rattle.sequence_rules.specs.States.{state_bound}
 use Rattle.sequence_rules.specs.Entries.{Follows, models_left, entry_units}
-use Rattle.sequence_rules.specs.declared.types.Times.{Times}
-use Rattle.sequence_rules.specs.declared.types.SeqEntry.{SeqEntry}
-use Rattle.sequence_rules.specs.declared.types.SeqWhy.TheVariants as why
+use Rattle.sequence_values.specs.declared.types.Times.{Times}
+use Rattle.sequence_values.specs.declared.types.SeqEntry.{SeqEntry}
+use Rattle.sequence_values.specs.declared.types.SeqWhy.TheVariants as why
 use Rattle.sequence_check.specs.Walks.{IsFirstLate, AreBelow, IsUncovered, IsSpare, IsPast}
 use Rattle.sequence_check.specs.declared.types.SeqEntryFault.{SeqEntryFault}
 use Rattle.sequence_check.specs.declared.types.SeqEntryFault.TheVariants as fault

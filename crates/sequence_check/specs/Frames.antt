@@ -3,9 +3,9 @@ use Rattle.std.specs.Prelude.{◌≡◌, ℕ, suc, ◌+◌, ◌-◌, ◌<◌, �
 use Rattle.sequence_rules.specs.Entries.{models_left}
 use Rattle.sequence_rules.specs.Trails.{IsAskedAt, is_deepest, EndsWell, up_to, matched_to, IsRightAt, frame_units}
 use Rattle.sequence_rules.specs.Trails.{units_in}
-use Rattle.sequence_rules.specs.declared.types.Times.{Times}
-use Rattle.sequence_rules.specs.declared.types.SeqEntry.{SeqEntry}
-use Rattle.sequence_rules.specs.declared.types.SeqFrame.{SeqFrame}
+use Rattle.sequence_values.specs.declared.types.Times.{Times}
+use Rattle.sequence_values.specs.declared.types.SeqEntry.{SeqEntry}
+use Rattle.sequence_values.specs.declared.types.SeqFrame.{SeqFrame}
 use Rattle.sequence_rules.specs.Ranges.{IsNumber, IsLast}
 use Rattle.sequence_check.specs.Walks.{IsFirstLate, AreBelow, IsPosed, IsUncovered, IsSpare, IsPast}
 use Rattle.sequence_check.specs.declared.types.SeqFrameFault.{SeqFrameFault}

@@ -1,7 +1,7 @@
 -- A law of the check of certificates.
 use Rattle.std.specs.Prelude.{◌≡◌, ℕ}
-use Rattle.sequence_rules.specs.declared.types.Times.{Times}
-use Rattle.sequence_rules.specs.declared.types.SeqCert.{SeqCert}
+use Rattle.sequence_values.specs.declared.types.Times.{Times}
+use Rattle.sequence_values.specs.declared.types.SeqCert.{SeqCert}
 use Rattle.sequence_check.specs.Verdicts.{IsVerdict}
 use Rattle.sequence_check.specs.declared.types.SeqVerified.{SeqVerified}
 

@@ -1,8 +1,8 @@
 -- What the check of a list of entries finds.
 use Rattle.std.specs.Prelude.{◌≡◌, ℕ, ◌+◌, ◌-◌, ◌<◌, ◌≤◌, List, take, slice_get, Some}
 use Rattle.sequence_rules.specs.Entries.{Follows, IsDerived, units_of}
-use Rattle.sequence_rules.specs.declared.types.Times.{Times}
-use Rattle.sequence_rules.specs.declared.types.SeqEntry.{SeqEntry}
+use Rattle.sequence_values.specs.declared.types.Times.{Times}
+use Rattle.sequence_values.specs.declared.types.SeqEntry.{SeqEntry}
 use Rattle.sequence_check.specs.Faults.{Fails, Ends}
 use Rattle.sequence_check.specs.declared.types.SeqEntryFault.{SeqEntryFault}
 use Rattle.sequence_check.specs.declared.types.EntriesFound.{EntriesFound}

@@ -5,8 +5,8 @@ use Rattle.sequence_rules.specs.Entries.{IsDerived, HasAnswer, units_of}
 use Rattle.sequence_rules.specs.Trails.{IsAllowed}
 use Rattle.sequence_rules.specs.Accepted.{IsShownLower, IsAccepted, units_whole}
 use Rattle.sequence_rules.specs.Laws.{IsProved}
-use Rattle.sequence_rules.specs.declared.types.Times.{Times}
-use Rattle.sequence_rules.specs.declared.types.SeqCert.{SeqCert}
+use Rattle.sequence_values.specs.declared.types.Times.{Times}
+use Rattle.sequence_values.specs.declared.types.SeqCert.{SeqCert}
 use Rattle.sequence_check.specs.Lists.{IsRefusedAt, AreStepsEnded}
 use Rattle.sequence_check.specs.Frames.{IsFrameRefused, AreFramesEnded}
 use Rattle.sequence_check.specs.declared.types.SeqFrameFault.{SeqFrameFault}

@@ -4,8 +4,8 @@ use Rattle.std.specs.Prelude.{All}
 use Rattle.sequence_rules.specs.States.{step_cost, next_starts, less_one}
 use Rattle.sequence_rules.specs.Entries.{IsCited, is_left, needs_cite, passing, models_left}
 use Rattle.sequence_rules.specs.Ranges.{AreTimes}
-use Rattle.sequence_rules.specs.declared.types.Times.{Times}
-use Rattle.sequence_rules.specs.declared.types.SeqEntry.{SeqEntry}
+use Rattle.sequence_values.specs.declared.types.Times.{Times}
+use Rattle.sequence_values.specs.declared.types.SeqEntry.{SeqEntry}
 use Rattle.sequence_check.specs.declared.types.Walked.{Walked}
 use Rattle.sequence_check.specs.declared.types.Walked.TheVariants as walked
 

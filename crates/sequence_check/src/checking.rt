@@ -9,9 +9,8 @@ ghost use Rattle.sequence_check.specs.Verdicts.{IsOfLine, IsShown, FailsFirst, I
 use crate::entries::check_entries;
 use crate::frames::check_frames;
 use crate::types::{EntriesFound, FramesFound, SeqFrameFault, SeqPlace, SeqVerified};
-use sequence_rules::{
-    MAX_STATIONS, SeqCert, SeqEntries, SeqFrames, Times, answers, is_sequence_of, sequence_cost,
-};
+use sequence_rules::{MAX_STATIONS, answers, is_sequence_of, sequence_cost};
+use sequence_values::{SeqCert, SeqEntries, SeqFrames, Times};
 
 /// The first thing that is wrong with the sequence of a certificate, if it isn't one of the demands that costs the
 /// upper bound.

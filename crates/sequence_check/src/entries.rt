@@ -1,14 +1,15 @@
 //! The check of entries, each after those before it.
 ghost use Rattle.std.specs.Prelude.{◌≡◌, ℕ, ◌≤◌, List, length, take, slice_get, Some};
-ghost use Rattle.sequence_rules.specs.declared.types.SeqEntry.{SeqEntry as Step};
-ghost use Rattle.sequence_rules.specs.declared.types.SeqWhy.TheVariants as why;
+ghost use Rattle.sequence_values.specs.declared.types.SeqEntry.{SeqEntry as Step};
+ghost use Rattle.sequence_values.specs.declared.types.SeqWhy.TheVariants as why;
 ghost use Rattle.sequence_check.specs.Faults.{IsFound};
 ghost use Rattle.sequence_check.specs.Lists.{AreFound};
 ghost use Rattle.sequence_check.specs.Walks.{IsPosed};
 
 use crate::types::{Checked, EntriesFound, SeqEntryFault, Walked};
 use crate::walks::{first_late, walk};
-use sequence_rules::{Numbers, SeqEntries, SeqEntry, SeqWhy, Times, state_bound, units_left};
+use sequence_rules::{state_bound, units_left};
+use sequence_values::{Numbers, SeqEntries, SeqEntry, SeqWhy, Times};
 
 /// Checks an entry by Bound.
 fn check_bound(times: &Times, interval: u64, reach: u64, entry: &SeqEntry) -> Checked<SeqEntryFault>

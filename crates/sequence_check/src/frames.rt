@@ -1,6 +1,6 @@
 //! The check of the frames of a trail.
 ghost use Rattle.std.specs.Prelude.{◌≡◌, ℕ, ◌<◌, ◌≤◌, ◌↔◌, length, replicate, slice_get, Some, IsTrue};
-ghost use Rattle.sequence_rules.specs.declared.types.SeqFrame.{SeqFrame as Open};
+ghost use Rattle.sequence_values.specs.declared.types.SeqFrame.{SeqFrame as Open};
 ghost use Rattle.sequence_rules.specs.Trails.{IsRoot, IsLeftBy, IsAskedAt, EndsWell, matched_to, is_deepest};
 ghost use Rattle.sequence_rules.specs.Ranges.{IsLast, IsNumber};
 ghost use Rattle.sequence_check.specs.Walks.{IsPosed};
@@ -8,7 +8,8 @@ ghost use Rattle.sequence_check.specs.Frames.{IsPosedFrame, IsReadyAt, IsFoundAt
 
 use crate::types::{Checked, FramesFound, SeqFrameFault, Walked};
 use crate::walks::{first_late, walk};
-use sequence_rules::{MAX_STATIONS, SeqEntries, SeqFrame, SeqFrames, Times, is_same, launch, step};
+use sequence_rules::{MAX_STATIONS, is_same, launch, step};
+use sequence_values::{SeqEntries, SeqFrame, SeqFrames, Times};
 use utility_work::MAX_MODELS;
 
 /// Whether there are so many starts, all of them 0.

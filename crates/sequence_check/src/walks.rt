@@ -6,9 +6,8 @@ ghost use Rattle.sequence_rules.specs.Entries.{needs_cite};
 ghost use Rattle.sequence_check.specs.Walks.{IsFirstLate, AreBelow, IsPosed, AnswersStep, Takes, Tells};
 
 use crate::types::Walked;
-use sequence_rules::{
-    MAX_STATIONS, Numbers, SeqEntries, Times, answers, launch, state_bound, step,
-};
+use sequence_rules::{MAX_STATIONS, answers, launch, state_bound, step};
+use sequence_values::{Numbers, SeqEntries, Times};
 use utility_work::MAX_MODELS;
 
 /// The first cite that isn't below `k`.

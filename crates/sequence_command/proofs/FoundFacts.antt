@@ -2,8 +2,8 @@
 use Rattle.std.proofs.Common.{◌≡◌, ℕ, List, refl, arith}
 use Rattle.combined_graph.specs.Mixes.{MixedLine}
 use Rattle.sequence_rules.proofs.LemmasHold.{proved}
-use Rattle.sequence_rules.specs.declared.types.Times.{Times}
-use Rattle.sequence_rules.specs.declared.types.SeqCert.{SeqCert}
+use Rattle.sequence_values.specs.declared.types.Times.{Times}
+use Rattle.sequence_values.specs.declared.types.SeqCert.{SeqCert}
 use Rattle.sequence_search.specs.Outcomes.{IsSolved, IsStopped}
 use Rattle.command_outcome.specs.declared.report.Kept.TheVariants.{Sequence}
 use Rattle.command_outcome.specs.declared.status.Status.TheVariants as ends

@@ -1,6 +1,6 @@
 -- The page of a report whose certificate is written.
 use Rattle.std.proofs.Common.{◌≡◌, ℕ, List, Some, sym, ap}
-use Rattle.sequence_rules.specs.declared.types.SeqCert.{SeqCert}
+use Rattle.sequence_values.specs.declared.types.SeqCert.{SeqCert}
 use Rattle.sequence_cert.specs.SequenceText.{sequence_text}
 use Rattle.command_outcome.specs.Outcome.{outcome_of}
 use Rattle.command_outcome.specs.declared.report.Kept.{Kept}

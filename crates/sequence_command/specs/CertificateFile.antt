@@ -1,9 +1,9 @@
 -- What a file says of a certificate of a sequence, and why it says none.
 use Rattle.std.specs.Prelude.{ℕ, List}
-use Rattle.sequence_rules.specs.declared.types.SeqCert.{SeqCert}
+use Rattle.sequence_values.specs.declared.types.SeqCert.{SeqCert}
 use Rattle.sequence_cert.specs.Faults.{sequences}
 use Rattle.command_outcome.specs.Outcome.{Files, Outside, Outcome}
-use Rattle.input_files.specs.TextFile.{IsSpelledIn, SpellsNone}
+use Rattle.mix_files.specs.inputs.TextFile.{IsSpelledIn, SpellsNone}
 
 -- the file says the certificate
 abbrev pub IsSeqCertOf : Files → List ℕ → SeqCert → Type 0

@@ -6,8 +6,8 @@ use Rattle.sequence_rules.specs.Trails.{IsOpenOver}
 use Rattle.sequence_rules.specs.Accepted.{IsAccepted, units_whole}
 use Rattle.sequence_rules.specs.Ranges.{IsInRange}
 use Rattle.sequence_rules.specs.Laws.{IsProved}
-use Rattle.sequence_rules.specs.declared.types.Times.{Times}
-use Rattle.sequence_rules.specs.declared.types.SeqCert.{SeqCert}
+use Rattle.sequence_values.specs.declared.types.Times.{Times}
+use Rattle.sequence_values.specs.declared.types.SeqCert.{SeqCert}
 use Rattle.sequence_search.specs.Outcomes.{AreBounds}
 use Rattle.sequence_search.specs.Work.{most_units}
 use Rattle.sequence_cert.specs.SequenceText.{sequence_text}

@@ -1,8 +1,8 @@
 -- What `sequence-check` comes to, and what it promises.
 use Rattle.std.specs.Prelude.{◌≡◌, ◌⊎◌, ℕ, List}
 use Rattle.combined_graph.specs.Mixes.{MixedLine}
-use Rattle.sequence_rules.specs.declared.types.Times.{Times}
-use Rattle.sequence_rules.specs.declared.types.SeqCert.{SeqCert}
+use Rattle.sequence_values.specs.declared.types.Times.{Times}
+use Rattle.sequence_values.specs.declared.types.SeqCert.{SeqCert}
 use Rattle.sequence_check.specs.Verdicts.{IsVerdict, IsTrueOf, IsRejectedSo}
 use Rattle.sequence_check.specs.declared.types.SeqVerified.{SeqVerified}
 use Rattle.command_outcome.specs.Outcome.{Files, Outside, Outcome, told}

@@ -2,7 +2,7 @@
 use Rattle.std.specs.Prelude.{ℕ, List, ◌∷◌, ◌++◌, codes, decimal}
 use Rattle.std.specs.List.{flat_map}
 use Rattle.combined_graph.specs.Mixes.{LineModel, MixedLine, model_at}
-use Rattle.sequence_rules.specs.declared.types.SeqCert.{SeqCert}
+use Rattle.sequence_values.specs.declared.types.SeqCert.{SeqCert}
 pub use Rattle.command_outcome.specs.Bounds.{bounds_line, cut_short_text}
 
 -- the names of the models of these units, each behind a blank

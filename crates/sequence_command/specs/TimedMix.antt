@@ -6,11 +6,11 @@ use Rattle.combined_graph.specs.Mixes.{MixedLine, model_at}
 use Rattle.combined_graph.specs.Combined.{total_demand}
 use Rattle.utility_work.specs.Utility.{work_at}
 use Rattle.sequence_rules.specs.States.{unit_work}
-use Rattle.sequence_rules.specs.declared.types.Times.{Times}
+use Rattle.sequence_values.specs.declared.types.Times.{Times}
 use Rattle.sequence_search.specs.Tables.{demand_of}
 use Rattle.command_outcome.specs.Outcome.{Files, Outside, Outcome, told}
 use Rattle.command_outcome.specs.declared.status.Status.TheVariants as ends
-use Rattle.input_files.specs.InputFile.{fault_line}
+use Rattle.mix_files.specs.inputs.InputFile.{fault_line}
 use Rattle.mix_files.specs.Balanced.{IsBalanced, IsUnbalanced}
 
 -- A table of what a mix brings to the stations of a balance: the demands of its models, and the work of a unit of each

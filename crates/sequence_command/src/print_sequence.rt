@@ -4,7 +4,7 @@ ghost use Rattle.sequence_command.specs.SequenceText.{names_text, optimal_text, 
 
 use combined_graph::Mix;
 use command_outcome::push_bounds;
-use sequence_rules::SeqCert;
+use sequence_values::SeqCert;
 use std::alloc::{AllocError, Global};
 
 /// The names of the models of units, each behind a blank.

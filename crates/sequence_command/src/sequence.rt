@@ -8,7 +8,7 @@ ghost use Rattle.std.specs.Prelude.{option_map};
 ghost use Rattle.line_io.specs.Outside.{Rises};
 ghost use Rattle.line_words.specs.Ranges.{IsBetween};
 ghost use Rattle.sequence_rules.specs.Ranges.{AreTimes, IsInRange};
-ghost use Rattle.sequence_rules.specs.declared.types.SeqCert.{SeqCert as Proof};
+ghost use Rattle.sequence_values.specs.declared.types.SeqCert.{SeqCert as Proof};
 ghost use Rattle.sequence_search.specs.Outcomes.{AreBounds};
 ghost use Rattle.command_outcome.specs.Outcome.{Files, Ends, MayEnd, Stay, Stops, MayStop, outside, outcome_of};
 ghost use Rattle.command_outcome.specs.declared.report.Kept.TheVariants.{Sequence as Certified};
@@ -22,8 +22,8 @@ use combined_graph::Mix;
 use command_outcome::{Kept, Report, Status, Stop, cut_short_text, refuse, room_for_bounds};
 use line_io::{Shelf, Written, write_whole};
 use sequence_cert::write_seq;
-use sequence_rules::{SeqCert, Times};
 use sequence_search::{Ordered, order};
+use sequence_values::{SeqCert, Times};
 use std::alloc::{AllocError, Global};
 
 /// A report with a certificate.

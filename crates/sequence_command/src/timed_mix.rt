@@ -9,11 +9,11 @@ ghost use Rattle.sequence_command.specs.TimedMix.{IsLarge, IsSmall, IsTimed, IsT
 
 use combined_graph::Mix;
 use command_outcome::{Status, Stop, refuse};
-use input_files::fault_line_of;
 use line_io::Shelf;
-use mix_files::{Balanced, balanced_of};
-use sequence_rules::{MAX_STATIONS, Times};
+use mix_files::{Balanced, balanced_of, fault_line_of};
+use sequence_rules::MAX_STATIONS;
 use sequence_search::station_times;
+use sequence_values::Times;
 use std::alloc::Global;
 
 /// The most units of all models together.

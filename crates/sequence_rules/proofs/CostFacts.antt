@@ -8,7 +8,7 @@ use Rattle.std.proofs.lemmas.Bool.Decides.{nat_tests}
 use Rattle.std.proofs.lemmas.List.{get_or-set_same, get_or-set_other}
 use Rattle.std.proofs.lemmas.List.Sums.{sum_by-cons}
 use Rattle.utility_work.specs.Utility.{utility_of, next_start, utility_from}
-use Rattle.sequence_rules.specs.declared.types.Times.{Times}
+use Rattle.sequence_values.specs.declared.types.Times.{Times}
 use Rattle.sequence_rules.specs.States.{sum_over, unit_work, step_cost, next_starts, less_one, work_left, state_bound}
 use Rattle.sequence_rules.specs.States.{IsSequenceOf, cost, Holds}
 use Rattle.sequence_rules.proofs.SumFacts.{sum_le, sum_grows, sum_plus, sum_each, sum_noughts}

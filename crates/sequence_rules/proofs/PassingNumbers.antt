@@ -3,7 +3,7 @@ use Rattle.std.proofs.Common.{◌≡◌, ℕ, zero, suc, ◌+◌, ◌-◌, ◌<�
 use Rattle.std.proofs.Common.{◌∷◌, ◌++◌, length, get_or, refl, sym, ap, ◌∙◌, inl, inr, add-one, arith}
 use Rattle.std.proofs.Common.{length-append}
 use Rattle.std.proofs.lemmas.Bool.{lt-ltb, cases_lt}
-use Rattle.sequence_rules.specs.declared.types.Times.{Times}
+use Rattle.sequence_values.specs.declared.types.Times.{Times}
 use Rattle.sequence_rules.specs.States.{step_cost, next_starts, less_one, state_bound}
 use Rattle.sequence_rules.specs.Entries.{is_left, needs_cite, passing, models_left}
 

@@ -4,10 +4,10 @@ use Rattle.std.specs.Prelude.{◌≡◌, ℕ, zero, suc, ◌-◌, ◌<◌, ◌�
 use Rattle.std.specs.Prelude.{take, slice_get, slice_index_or, Some, sum, sum_by}
 use Rattle.std.specs.List.{AllZip}
 use Rattle.sequence_rules.specs.States.{step_cost, next_starts, less_one, state_bound}
-use Rattle.sequence_rules.specs.declared.types.Times.{Times}
-use Rattle.sequence_rules.specs.declared.types.SeqEntry.{SeqEntry}
-use Rattle.sequence_rules.specs.declared.types.SeqWhy.{SeqWhy}
-use Rattle.sequence_rules.specs.declared.types.SeqWhy.TheVariants as why
+use Rattle.sequence_values.specs.declared.types.Times.{Times}
+use Rattle.sequence_values.specs.declared.types.SeqEntry.{SeqEntry}
+use Rattle.sequence_values.specs.declared.types.SeqWhy.{SeqWhy}
+use Rattle.sequence_values.specs.declared.types.SeqWhy.TheVariants as why
 
 -- an entry answers a state and a need: it has the same units left, starts that are no greater at any station, and a
 -- value of at least the need

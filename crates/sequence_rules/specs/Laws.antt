@@ -4,9 +4,9 @@ use Rattle.std.specs.List.{AllZip}
 use Rattle.sequence_rules.specs.States.{step_cost, next_starts, state_bound, IsSequenceOf, cost, Holds, root_starts}
 use Rattle.sequence_rules.specs.Entries.{IsDerived}
 use Rattle.sequence_rules.specs.Accepted.{IsAccepted}
-use Rattle.sequence_rules.specs.declared.types.Times.{Times}
-use Rattle.sequence_rules.specs.declared.types.SeqEntry.{SeqEntry}
-use Rattle.sequence_rules.specs.declared.types.SeqCert.{SeqCert}
+use Rattle.sequence_values.specs.declared.types.Times.{Times}
+use Rattle.sequence_values.specs.declared.types.SeqEntry.{SeqEntry}
+use Rattle.sequence_values.specs.declared.types.SeqCert.{SeqCert}
 
 -- a sequence costs what its first step costs and what the rest costs from the next starts on
 abbrev pub EveryCostIsOfSteps : Type 0

@@ -1,12 +1,12 @@
 -- The ranges of what is handed in: the works of a mix on a line, and what the text of a certificate can say before
 -- anything in it is believed.
 use Rattle.std.specs.Prelude.{◌≡◌, ℕ, ◌*◌, ◌<◌, ◌≤◌, List, length, slice_get, Option, Some, None, sum, All}
-use Rattle.sequence_rules.specs.declared.types.Times.{Times}
-use Rattle.sequence_rules.specs.declared.types.SeqEntry.{SeqEntry}
-use Rattle.sequence_rules.specs.declared.types.SeqFrame.{SeqFrame}
-use Rattle.sequence_rules.specs.declared.types.SeqWhy.{SeqWhy}
-use Rattle.sequence_rules.specs.declared.types.SeqWhy.TheVariants as why
-use Rattle.sequence_rules.specs.declared.types.SeqCert.{SeqCert}
+use Rattle.sequence_values.specs.declared.types.Times.{Times}
+use Rattle.sequence_values.specs.declared.types.SeqEntry.{SeqEntry}
+use Rattle.sequence_values.specs.declared.types.SeqFrame.{SeqFrame}
+use Rattle.sequence_values.specs.declared.types.SeqWhy.{SeqWhy}
+use Rattle.sequence_values.specs.declared.types.SeqWhy.TheVariants as why
+use Rattle.sequence_values.specs.declared.types.SeqCert.{SeqCert}
 
 -- 1 to 64 stations, 1 to 16 models with 1 to 1,000 units together, and one work of at most 1,024,000,000,000 for each
 -- model and station

@@ -3,9 +3,9 @@ use Rattle.std.specs.Prelude.{◌≡◌, ℕ, zero, suc, ◌+◌, ◌<◌, ◌�
 use Rattle.std.specs.Prelude.{Option, Some, None, sum_by}
 use Rattle.sequence_rules.specs.States.{step_cost, next_starts, less_one, root_starts}
 use Rattle.sequence_rules.specs.Entries.{Answers, Covers, is_left, models_left}
-use Rattle.sequence_rules.specs.declared.types.Times.{Times}
-use Rattle.sequence_rules.specs.declared.types.SeqEntry.{SeqEntry}
-use Rattle.sequence_rules.specs.declared.types.SeqFrame.{SeqFrame}
+use Rattle.sequence_values.specs.declared.types.Times.{Times}
+use Rattle.sequence_values.specs.declared.types.SeqEntry.{SeqEntry}
+use Rattle.sequence_values.specs.declared.types.SeqFrame.{SeqFrame}
 
 -- the first frame has the root: all demands are left, and the first unit is begun at the beginning of each station
 pub record IsRoot (t : Times) (f : SeqFrame) : Type 0 where

@@ -3,7 +3,7 @@ ghost use Rattle.std.specs.Prelude.{◌≡◌, ◌≤◌, ◌↔◌, IsTrue};
 ghost use Rattle.std.specs.List.{AllZip};
 ghost use Rattle.sequence_rules.specs.Entries.{Answers};
 
-use crate::types::SeqEntry;
+use sequence_values::SeqEntry;
 
 /// Whether two lists of numbers are equal.
 pub fn is_same(some: &[u64], other: &[u64]) -> bool

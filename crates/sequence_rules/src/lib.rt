@@ -10,9 +10,7 @@ mod comparing;
 pub mod laws;
 mod sequences;
 mod steps;
-mod types;
 
 pub use comparing::{answers, is_no_later, is_same};
 pub use sequences::{is_sequence_of, sequence_cost};
 pub use steps::{MAX_STATIONS, launch, state_bound, step, unit_work, units_left};
-pub use types::{Numbers, SeqCert, SeqEntries, SeqEntry, SeqFrame, SeqFrames, SeqWhy, Times};

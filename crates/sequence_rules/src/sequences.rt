@@ -5,7 +5,7 @@ ghost use Rattle.sequence_rules.specs.States.{unit_work, IsSequenceOf, cost, roo
 ghost use Rattle.sequence_rules.specs.Ranges.{AreTimes};
 
 use crate::steps::unit_work;
-use crate::types::Times;
+use sequence_values::Times;
 use utility_work::utility_step;
 
 /// How many units of a sequence are of a model.

@@ -3,7 +3,7 @@ ghost use Rattle.std.specs.Prelude.{◌≡◌, ◌≤◌, ◌<◌, ◌*◌, leng
 ghost use Rattle.sequence_rules.specs.States.{unit_work, step_cost, next_starts, less_one, work_left, state_bound};
 ghost use Rattle.sequence_rules.specs.Ranges.{AreTimes};
 
-use crate::types::Times;
+use sequence_values::Times;
 use utility_work::utility_step;
 
 /// The most stations of a line that sequences are found for.

@@ -5,8 +5,8 @@ use Rattle.std.specs.List.{AllZip}
 use Rattle.std.proofs.lemmas.List.{take-append-le}
 use Rattle.std.proofs.lemmas.List.Sums.{sum_by_push}
 use Rattle.line_rules.proofs.ListFacts.{get_push_cases, get_last, get_longer}
-use Rattle.sequence_rules.specs.declared.types.Times.{Times}
-use Rattle.sequence_rules.specs.declared.types.SeqEntry.{SeqEntry}
+use Rattle.sequence_values.specs.declared.types.Times.{Times}
+use Rattle.sequence_values.specs.declared.types.SeqEntry.{SeqEntry}
 use Rattle.sequence_rules.specs.Entries.{Answers, IsCited, Follows, HasAnswer, entry_units}
 use Rattle.sequence_rules.specs.Ranges.{IsEntry}
 use Rattle.sequence_search.specs.inner.Paths.{IsBook}

@@ -6,8 +6,8 @@ use Rattle.std.proofs.lemmas.Bool.Decides.{nat_tests}
 use Rattle.std.proofs.lemmas.Option.{slice_get-get_or, slice_get_within}
 use Rattle.std.proofs.lemmas.List.Sums.{sum_by-cons}
 use Rattle.line_rules.proofs.ListFacts.{get_longer, get_push_cases, get_some}
-use Rattle.sequence_rules.specs.declared.types.Times.{Times}
-use Rattle.sequence_rules.specs.declared.types.SeqEntry.{SeqEntry}
+use Rattle.sequence_values.specs.declared.types.Times.{Times}
+use Rattle.sequence_values.specs.declared.types.SeqEntry.{SeqEntry}
 use Rattle.sequence_rules.specs.States.{step_cost, next_starts, less_one}
 use Rattle.sequence_rules.specs.Entries.{IsCited, Covers, is_left, needs_cite, passing, models_left}
 use Rattle.sequence_rules.proofs.PassingNumbers.{passing_no, passing_yes, passing_same, count_yes, left_needs}

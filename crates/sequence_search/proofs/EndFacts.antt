@@ -7,9 +7,9 @@ use Rattle.std.proofs.lemmas.Bool.Decides.{nat_tests}
 use Rattle.std.proofs.lemmas.List.{length-take-le, length-replicate, get_or_default}
 use Rattle.std.proofs.lemmas.List.Sums.{sum_by-cons}
 use Rattle.line_rules.proofs.ListFacts.{get_push_cases, get_take, get_longer, take_next as next}
-use Rattle.sequence_rules.specs.declared.types.Times.{Times}
-use Rattle.sequence_rules.specs.declared.types.SeqEntry.{SeqEntry}
-use Rattle.sequence_rules.specs.declared.types.SeqFrame.{SeqFrame}
+use Rattle.sequence_values.specs.declared.types.Times.{Times}
+use Rattle.sequence_values.specs.declared.types.SeqEntry.{SeqEntry}
+use Rattle.sequence_values.specs.declared.types.SeqFrame.{SeqFrame}
 use Rattle.sequence_rules.specs.States.{IsSequenceOf, cost, root_starts}
 use Rattle.sequence_rules.specs.Entries.{Covers, HasAnswer, is_left}
 use Rattle.sequence_rules.specs.Trails.{IsLeftBy, IsAskedAt, EndsWell, up_to, matched_to, is_deepest, IsRightAt}

@@ -8,7 +8,7 @@ use Rattle.std.proofs.lemmas.Bool.{cases_eq, cases_lt, eq-eqb, ne_eqb}
 use Rattle.std.proofs.lemmas.Option.{slice_get_read, same_Some}
 use Rattle.line_rules.proofs.ListFacts.{get_push_cases}
 use Rattle.sequence_rules.specs.Entries.{Answers, HasAnswer}
-use Rattle.sequence_rules.specs.declared.types.SeqEntry.{SeqEntry}
+use Rattle.sequence_values.specs.declared.types.SeqEntry.{SeqEntry}
 use Rattle.sequence_search.specs.Index.{Numbered, key_of, IsLastOfKey, IsIndexed, IsLooking, left_of}
 use Rattle.sequence_search.specs.Steps.{IsLastAnswer}
 

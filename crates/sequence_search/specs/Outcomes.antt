@@ -5,10 +5,10 @@ use Rattle.sequence_rules.specs.Entries.{IsFresh, HasAnswer}
 use Rattle.sequence_rules.specs.Trails.{IsOpenOver}
 use Rattle.sequence_rules.specs.Accepted.{IsAccepted, units_whole}
 use Rattle.sequence_rules.specs.Ranges.{IsInRange}
-use Rattle.sequence_rules.specs.declared.types.Times.{Times}
-use Rattle.sequence_rules.specs.declared.types.SeqCert.{SeqCert}
-use Rattle.sequence_rules.specs.declared.types.SeqEntry.{SeqEntry}
-use Rattle.sequence_rules.specs.declared.types.SeqFrame.{SeqFrame}
+use Rattle.sequence_values.specs.declared.types.Times.{Times}
+use Rattle.sequence_values.specs.declared.types.SeqCert.{SeqCert}
+use Rattle.sequence_values.specs.declared.types.SeqEntry.{SeqEntry}
+use Rattle.sequence_values.specs.declared.types.SeqFrame.{SeqFrame}
 use Rattle.sequence_search.specs.inner.Paths.{IsBook}
 use Rattle.sequence_search.specs.Work.{most_units}
 use Rattle.sequence_search.specs.declared.outcome.Ordered.{Ordered}

@@ -2,9 +2,9 @@
 use Rattle.std.specs.Prelude.{◌≡◌, ℕ, ◌-◌, ◌<◌, ◌≤◌, true, false, List, [], length, slice_get, Some, None, sum}
 use Rattle.sequence_rules.specs.States.{step_cost, next_starts, less_one}
 use Rattle.sequence_rules.specs.Entries.{Answers, IsCited, HasAnswer, is_left, needs_cite}
-use Rattle.sequence_rules.specs.declared.types.Times.{Times}
-use Rattle.sequence_rules.specs.declared.types.SeqEntry.{SeqEntry}
-use Rattle.sequence_rules.specs.declared.types.SeqFrame.{SeqFrame}
+use Rattle.sequence_values.specs.declared.types.Times.{Times}
+use Rattle.sequence_values.specs.declared.types.SeqEntry.{SeqEntry}
+use Rattle.sequence_values.specs.declared.types.SeqFrame.{SeqFrame}
 use Rattle.sequence_search.specs.declared.outcome.Stepped.{Stepped}
 use Rattle.sequence_search.specs.declared.outcome.Stepped.TheVariants as stepped
 

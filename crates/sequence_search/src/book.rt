@@ -7,7 +7,8 @@ ghost use Rattle.sequence_rules.specs.Entries.{HasAnswer};
 ghost use Rattle.sequence_search.specs.Index.{key_of};
 ghost use Rattle.sequence_search.specs.Steps.{IsLastAnswer};
 
-use sequence_rules::{SeqEntries, SeqEntry, answers};
+use sequence_rules::answers;
+use sequence_values::{SeqEntries, SeqEntry};
 use std::alloc::{AllocError, Global};
 use std::collections::HashMap;
 use std::marker::Model;
@@ -34,7 +35,7 @@ pub(crate) struct Book {
 
 impl Model for Book {
     ghost use Rattle.std.specs.Prelude.{List};
-    ghost use Rattle.sequence_rules.specs.declared.types.SeqEntry.{SeqEntry as Step};
+    ghost use Rattle.sequence_values.specs.declared.types.SeqEntry.{SeqEntry as Step};
     ghost use Rattle.sequence_search.specs.Index.{IsIndexed};
 
     ghost Value = { List Step };

@@ -9,9 +9,8 @@ ghost use Rattle.sequence_search.specs.Steps.{IsNextModel, IsNoModel, StepsTo};
 
 use crate::book::Book;
 use crate::outcome::Stepped;
-use sequence_rules::{
-    MAX_STATIONS, Numbers, SeqFrame, Times, launch, state_bound, step, units_left,
-};
+use sequence_rules::{MAX_STATIONS, launch, state_bound, step, units_left};
+use sequence_values::{Numbers, SeqFrame, Times};
 use std::alloc::{AllocError, Global};
 use utility_work::MAX_MODELS;
 

@@ -4,7 +4,7 @@ ghost use Rattle.std.specs.Prelude.{Some};
 ghost use Rattle.sequence_rules.specs.States.{IsSequenceOf, state_bound, root_starts};
 ghost use Rattle.sequence_rules.specs.Entries.{HasAnswer, units_of, entry_units, models_left};
 ghost use Rattle.sequence_rules.specs.Ranges.{AreTimes, IsPlace};
-ghost use Rattle.sequence_rules.specs.declared.types.SeqEntry.{SeqEntry as Step};
+ghost use Rattle.sequence_values.specs.declared.types.SeqEntry.{SeqEntry as Step};
 ghost use Rattle.sequence_search.specs.inner.Paths.{IsBook};
 ghost use Rattle.sequence_search.specs.Outcomes.{Orders, IsStanding, cert_of};
 
@@ -12,9 +12,8 @@ use crate::book::Book;
 use crate::frames::root_frame;
 use crate::outcome::{Ordered, Tried};
 use crate::trying::attempt;
-use sequence_rules::{
-    Numbers, SeqCert, SeqEntry, SeqFrame, SeqFrames, SeqWhy, Times, sequence_cost, state_bound,
-};
+use sequence_rules::{sequence_cost, state_bound};
+use sequence_values::{Numbers, SeqCert, SeqEntry, SeqFrame, SeqFrames, SeqWhy, Times};
 use std::alloc::{AllocError, Global};
 
 /// Where a search is between two tries.

@@ -1,5 +1,5 @@
 //! What a search for a sequence comes to.
-use sequence_rules::{Numbers, SeqCert, SeqFrame, SeqFrames};
+use sequence_values::{Numbers, SeqCert, SeqFrame, SeqFrames};
 
 /// What a search for a sequence of least utility work comes to.
 #[derive(Drop)]

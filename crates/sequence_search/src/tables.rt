@@ -8,7 +8,7 @@ ghost use Rattle.sequence_search.specs.Tables.{demand_of, AreRows};
 
 use combined_graph::Mix;
 use line_rules::Balance;
-use sequence_rules::{Numbers, Times};
+use sequence_values::{Numbers, Times};
 use std::alloc::{AllocError, Global};
 use utility_work::{MAX_MODELS, works_at};
 

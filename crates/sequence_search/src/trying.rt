@@ -11,7 +11,7 @@ ghost use Rattle.sequence_search.specs.inner.Tries.{entry_of, Tries};
 use crate::book::Book;
 use crate::frames::{next_model, root_frame, step_by, up_to};
 use crate::outcome::{Stepped, Tried};
-use sequence_rules::{Numbers, SeqEntry, SeqFrame, SeqFrames, SeqWhy, Times};
+use sequence_values::{Numbers, SeqEntry, SeqFrame, SeqFrames, SeqWhy, Times};
 use std::alloc::{AllocError, Global};
 
 /// Publishes a frame whose models ended, and answers its entry's number.

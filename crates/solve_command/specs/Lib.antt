@@ -3,3 +3,4 @@ pub mod WarmStart
 pub mod Solution
 pub mod Promise
 pub mod inner
+pub use Rattle.round_run.specs as rounds

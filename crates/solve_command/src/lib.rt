@@ -12,4 +12,5 @@ mod warm_start;
 #[cfg(test)]
 mod warm_tests;
 
+pub use round_run::{AlwaysOpen, Gate, Plan};
 pub use solution::solve_report;

@@ -15,8 +15,8 @@ use Rattle.line_rules.specs.declared.types.Trail.{Trail}
 use Rattle.line_rules.specs.declared.types.Why.TheVariants as why
 use Rattle.line_rules.specs.Times.{longest_of}
 use Rattle.lemma_core.specs.Books.{BookView, IsReserved}
-use Rattle.round_run.specs.declared.closing.Verdict.{Verdict}
-use Rattle.round_run.specs.declared.plans.Plan.{Plan}
+use Rattle.cycle_search.specs.rounds.declared.closing.Verdict.{Verdict}
+use Rattle.cycle_search.specs.rounds.declared.plans.Plan.{Plan}
 use Rattle.cycle_search.specs.Asking.{HasAskedBook}
 use Rattle.cycle_search.specs.Ends.{first_lower, first_upper}
 use Rattle.cycle_search.specs.declared.asking.Asked.{Asked}

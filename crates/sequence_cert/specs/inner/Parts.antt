@@ -3,8 +3,8 @@ use Rattle.std.specs.Prelude.{◌≡◌, ℕ, ◌≤◌, List, All, length, slic
 use Rattle.cert_lines.specs.Rows.{Row}
 use Rattle.cert_lines.specs.Faults.{Grammar}
 use Rattle.sequence_rules.specs.Ranges.{IsNumber, IsWhy, IsInRange}
-use Rattle.sequence_rules.specs.declared.types.SeqCert.{SeqCert}
-use Rattle.sequence_rules.specs.declared.types.SeqEntry.{SeqEntry}
+use Rattle.sequence_values.specs.declared.types.SeqCert.{SeqCert}
+use Rattle.sequence_values.specs.declared.types.SeqEntry.{SeqEntry}
 use Rattle.sequence_cert.specs.SequenceText.{counted_rows, body_rows}
 use Rattle.sequence_cert.specs.declared.words.FrameDraft.{FrameDraft}
 

@@ -2,9 +2,9 @@
 -- range.
 use Rattle.std.specs.Prelude.{ℕ, ◌-◌, cond, nat_eq, bytes_eq, List, length, Option, Some, None, codes}
 use Rattle.cert_lines.specs.Words.{◌>>=◌, parts_at, number_in, number_first, cites_in, is_none}
-use Rattle.sequence_rules.specs.declared.types.SeqEntry.{SeqEntry}
-use Rattle.sequence_rules.specs.declared.types.SeqWhy.TheVariants as why
-use Rattle.sequence_rules.specs.declared.types.SeqFrame.{SeqFrame}
+use Rattle.sequence_values.specs.declared.types.SeqEntry.{SeqEntry}
+use Rattle.sequence_values.specs.declared.types.SeqWhy.TheVariants as why
+use Rattle.sequence_values.specs.declared.types.SeqFrame.{SeqFrame}
 use Rattle.sequence_cert.specs.declared.words.FrameDraft.{FrameDraft}
 
 -- so many numbers with a comma between

@@ -6,9 +6,9 @@ use Rattle.sequence_rules.specs.States.{state_bound, IsSequenceOf, cost, root_st
 use Rattle.sequence_rules.specs.Entries.{Covers, IsDerived, IsFresh, HasAnswer, is_left, units_of}
 use Rattle.sequence_rules.specs.Trails.{IsAskedAt, EndsWell, up_to}
 use Rattle.sequence_rules.specs.Ranges.{IsState, IsEntry}
-use Rattle.sequence_rules.specs.declared.types.Times.{Times}
-use Rattle.sequence_rules.specs.declared.types.SeqEntry.{SeqEntry}
-use Rattle.sequence_rules.specs.declared.types.SeqFrame.{SeqFrame}
+use Rattle.sequence_values.specs.declared.types.Times.{Times}
+use Rattle.sequence_values.specs.declared.types.SeqEntry.{SeqEntry}
+use Rattle.sequence_values.specs.declared.types.SeqFrame.{SeqFrame}
 
 -- the models of the last steps of frames
 abbrev pub lasts : List SeqFrame → List ℕ

@@ -4,10 +4,10 @@ use Rattle.sequence_rules.specs.States.{IsSequenceOf, cost, root_starts}
 use Rattle.sequence_rules.specs.Entries.{HasAnswer, units_of}
 use Rattle.sequence_rules.specs.Trails.{IsRightAt, IsOpenOver, units_in}
 use Rattle.sequence_rules.specs.Ranges.{IsFrame}
-use Rattle.sequence_rules.specs.declared.types.Times.{Times}
-use Rattle.sequence_rules.specs.declared.types.SeqEntry.{SeqEntry}
-use Rattle.sequence_rules.specs.declared.types.SeqFrame.{SeqFrame}
-use Rattle.sequence_rules.specs.declared.types.SeqWhy.TheVariants as why
+use Rattle.sequence_values.specs.declared.types.Times.{Times}
+use Rattle.sequence_values.specs.declared.types.SeqEntry.{SeqEntry}
+use Rattle.sequence_values.specs.declared.types.SeqFrame.{SeqFrame}
+use Rattle.sequence_values.specs.declared.types.SeqWhy.TheVariants as why
 use Rattle.sequence_search.specs.inner.Paths.{IsBook}
 use Rattle.sequence_search.specs.Work.{AddsFew, root_work}
 use Rattle.sequence_search.specs.declared.outcome.Tried.{Tried}

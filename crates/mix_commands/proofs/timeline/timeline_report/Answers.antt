@@ -2,7 +2,7 @@ use Rattle.std.proofs.Common.{◌≡◌, ◌<◌, ◌*◌, length, inl, inr}
 use Rattle.command_outcome.specs.Outcome.{Files, Outside, Outcome, outside, told}
 use Rattle.command_outcome.specs.declared.status.Status.TheVariants as ends
 use Rattle.command_outcome.proofs.OutcomeFacts.{early}
-use Rattle.input_files.specs.InputFile.{fault_line}
+use Rattle.mix_files.specs.inputs.InputFile.{fault_line}
 use Rattle.mix_files.specs.Launch.{Names, IsUnlaunched}
 use Rattle.mix_commands.specs.Timeline.{IsTimelineOutcome, large_text}
 use Rattle.mix_commands.proofs.timeline.timeline_report.Goals as goal

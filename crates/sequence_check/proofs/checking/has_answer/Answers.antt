@@ -2,7 +2,7 @@ use Rattle.std.proofs.Common.{◌∙◌, ℕ, sym, arith}
 use Rattle.std.proofs.lemmas.Bool.{false≢true}
 use Rattle.std.proofs.lemmas.Option.{slice_get_within}
 use Rattle.sequence_rules.specs.Entries.{Answers}
-use Rattle.sequence_rules.specs.declared.types.SeqEntry.{SeqEntry}
+use Rattle.sequence_values.specs.declared.types.SeqEntry.{SeqEntry}
 use Rattle.sequence_check.proofs.EntryFacts.{below_next}
 use Rattle.sequence_check.proofs.checking.has_answer.Goals as goal
 

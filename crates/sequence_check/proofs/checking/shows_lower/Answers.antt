@@ -1,7 +1,7 @@
 use Rattle.std.proofs.Common.{◌≡◌, ℕ, List, replicate, take, subst, sym, arith}
 use Rattle.std.proofs.lemmas.List.{take-replicate}
 use Rattle.sequence_rules.specs.Entries.{HasAnswer}
-use Rattle.sequence_rules.specs.declared.types.SeqEntry.{SeqEntry}
+use Rattle.sequence_values.specs.declared.types.SeqEntry.{SeqEntry}
 use Rattle.sequence_check.proofs.checking.shows_lower.Goals as goal
 
 -- an answer to an equal state

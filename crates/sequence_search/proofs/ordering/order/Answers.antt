@@ -1,7 +1,7 @@
 use Rattle.std.proofs.Common.{◌≡◌, ◌+◌, ◌-◌, ◌<◌, ℕ, List, length, ap, ◌∙◌, sym, subst, arith}
 use Rattle.std.specs.Prelude.{All}
 use Rattle.sequence_rules.specs.States.{cost, root_starts}
-use Rattle.sequence_rules.specs.declared.types.SeqCert.{SeqCert}
+use Rattle.sequence_values.specs.declared.types.SeqCert.{SeqCert}
 use Rattle.sequence_search.specs.declared.outcome.Tried.{Tried}
 use Rattle.sequence_search.specs.Outcomes.{IsSolved, IsStopped}
 use Rattle.sequence_search.specs.inner.Tries.{Tries}

@@ -1,6 +1,6 @@
 use Rattle.std.proofs.Common.{◌++◌, ◌∷◌, [], ◌≡◌, ℕ, List, ap, arith, ◌∙◌}
 use Rattle.sequence_rules.specs.States.{state_bound, root_starts}
-use Rattle.sequence_rules.specs.declared.types.SeqEntry.{SeqEntry}
+use Rattle.sequence_values.specs.declared.types.SeqEntry.{SeqEntry}
 use Rattle.sequence_search.proofs.OrderFacts.{root_entry, root_book, root_shown}
 use Rattle.sequence_search.proofs.ordering.root_entries.Goals as goal
 

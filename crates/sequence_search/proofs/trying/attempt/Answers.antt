@@ -3,8 +3,8 @@ use Rattle.std.proofs.Common.{sym, ap, ◌∙◌, arith}
 use Rattle.sequence_rules.specs.States.{IsSequenceOf, cost, root_starts}
 use Rattle.sequence_rules.specs.Entries.{HasAnswer, models_left, units_of}
 use Rattle.sequence_rules.specs.Trails.{up_to, frame_units, units_in}
-use Rattle.sequence_rules.specs.declared.types.SeqEntry.{SeqEntry}
-use Rattle.sequence_rules.specs.declared.types.SeqFrame.{SeqFrame}
+use Rattle.sequence_values.specs.declared.types.SeqEntry.{SeqEntry}
+use Rattle.sequence_values.specs.declared.types.SeqFrame.{SeqFrame}
 use Rattle.sequence_search.specs.declared.outcome.Stepped.{Stepped}
 use Rattle.sequence_search.specs.Steps.{IsNextModel, IsNoModel, IsNextState, StepsTo}
 use Rattle.sequence_search.specs.inner.Paths.{lasts, IsBook, IsTop}

@@ -1,6 +1,6 @@
 use Rattle.std.proofs.Common.{◌≡◌, ◌∙◌, ◌∷◌, ◌++◌, [], ℕ, nat_eq, List, Option, Some, length, sym, ap, subst, arith}
 use Rattle.std.specs.HashMap.{get, Updates}
-use Rattle.sequence_rules.specs.declared.types.SeqEntry.{SeqEntry}
+use Rattle.sequence_values.specs.declared.types.SeqEntry.{SeqEntry}
 use Rattle.sequence_search.specs.Index.{key_of, IsIndexed}
 use Rattle.sequence_search.proofs.IndexFacts.{indexed}
 use Rattle.sequence_search.proofs.book.Book.push.Goals as goal
