@@ -4,8 +4,8 @@ use Rattle.std.proofs.Common.{ap, ◌∙◌, subst, inl, inr, arith}
 use Rattle.std.proofs.lemmas.Option.{same_Some}
 use Rattle.line_rules.specs.Ranges.{IsInRange}
 use Rattle.line_rules.specs.declared.types.Certificate.{Certificate}
-use Rattle.cert_lines.specs.OldRanges.{IsOldInRange}
-use Rattle.cert_lines.specs.declared.version_one.OldCertificate.{OldCertificate}
+use Rattle.entry_lists.specs.OldRanges.{IsOldInRange}
+use Rattle.entry_lists.specs.declared.version_one.OldCertificate.{OldCertificate}
 use Rattle.cert_lines.specs.declared.fault.CertFault.{CertFault}
 use Rattle.cert_lines.specs.declared.fault.CertKind.TheVariants.{Trailing}
 use Rattle.cert_lines.specs.declared.fault.ReadError.{ReadError}

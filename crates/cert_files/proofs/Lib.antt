@@ -1,7 +1,3 @@
-pub mod MarkFacts
-pub mod KeptPlaces
-pub mod ThinnedLists
-pub mod TrimFacts
 pub mod SentBytes
 pub mod Windows
 pub mod FileEnds

@@ -1,4 +1,2 @@
 pub mod From
-pub mod Trim
-pub mod Laws
 pub mod inner

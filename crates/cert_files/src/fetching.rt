@@ -2,9 +2,9 @@
 ghost use Rattle.std.specs.Prelude.{◌≡◌, ◌≢◌, ◌⊎◌, ◌≤◌, ℕ, suc, true, List, Some};
 ghost use Rattle.cert_text.specs.Cert.{cert_text};
 ghost use Rattle.cert_text.specs.OldCert.{old_text};
-ghost use Rattle.cert_lines.specs.OldRanges.{IsOldInRange};
+ghost use Rattle.entry_lists.specs.OldRanges.{IsOldInRange};
 ghost use Rattle.cert_lines.specs.declared.fault.CertFault.{CertFault};
-ghost use Rattle.cert_lines.specs.declared.version_one.OldCertificate.{OldCertificate};
+ghost use Rattle.entry_lists.specs.declared.version_one.OldCertificate.{OldCertificate};
 ghost use Rattle.line_io.specs.Outside.{Rises};
 ghost use Rattle.line_rules.specs.Ranges.{IsInRange};
 ghost use Rattle.line_rules.specs.declared.types.Certificate.{Certificate};

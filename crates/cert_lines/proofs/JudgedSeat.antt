@@ -45,7 +45,7 @@ side_is : (kind : LineKind) (side : Side) → side_read kind side ≡ side → I
 side_is Straight side e = sym e
 side_is U side e = tt
 
-pub front_is : (kind : LineKind) → IsSide kind Front
+front_is : (kind : LineKind) → IsSide kind Front
 front_is Straight = refl
 front_is U = tt
 

@@ -8,6 +8,4 @@ pub mod Taking
 pub mod ReadingOn
 pub mod Pattern
 pub mod LineForms
-pub mod OldRanges
-pub mod Lift
 pub mod inner

@@ -6,7 +6,6 @@ mod fault;
 pub mod line_forms;
 pub mod pattern;
 mod source;
-pub mod version_one;
 pub mod words;
 
 pub use fault::{CertFault, CertKind, LineError, ReadError};

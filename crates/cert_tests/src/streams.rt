@@ -3,10 +3,11 @@
 ghost use Rattle.std.specs.Prelude.{◌<◌, ℕ, IsTrue};
 ghost use Rattle.std.specs.List.{Contains};
 ghost use Rattle.line_rules.specs.Entries.{HasAnswer};
-ghost use Rattle.cert_files.specs.Trim.{cited_by, CitesEarlier};
+ghost use Rattle.entry_lists.specs.Trim.{cited_by, CitesEarlier};
 
-use cert_files::{CertFrom, Streamed, answers, cert_from, stream_cert, trim};
+use cert_files::{CertFrom, Streamed, cert_from, stream_cert};
 use cert_text::{CertFault, CertKind, CertRead, ListRead, read_cert, read_list, write_list};
+use entry_lists::{answers, trim};
 use line_instance::TaskSet;
 use line_io::{Fetched, MemShelf, Shelf, Stored, Whole, read_whole};
 use line_rules::{Entries, Why};

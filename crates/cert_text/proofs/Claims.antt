@@ -18,14 +18,14 @@ use Rattle.cert_lines.specs.Rows.{fixed, keyed, row_text}
 use Rattle.cert_lines.specs.Faults.{Grammar}
 use Rattle.cert_lines.specs.Pattern.{one, then_, IsRead}
 use Rattle.cert_lines.specs.LineForms.{opening_row, IsOpening, version_row}
-use Rattle.cert_lines.specs.OldRanges.{IsOldClaim, IsOldInRange}
+use Rattle.entry_lists.specs.OldRanges.{IsOldClaim, IsOldInRange}
 use Rattle.cert_lines.specs.declared.line_forms.Opening.{Opening}
 use Rattle.cert_lines.specs.declared.line_forms.Opening.TheVariants as opening
 use Rattle.cert_lines.specs.declared.line_forms.Version.{Version}
 use Rattle.cert_lines.specs.declared.line_forms.Version.TheVariants as version
-use Rattle.cert_lines.specs.declared.version_one.OldClaim.{OldClaim}
-use Rattle.cert_lines.specs.declared.version_one.OldClaim.TheVariants as old
-use Rattle.cert_lines.specs.declared.version_one.Part.{Part}
+use Rattle.entry_lists.specs.declared.version_one.OldClaim.{OldClaim}
+use Rattle.entry_lists.specs.declared.version_one.OldClaim.TheVariants as old
+use Rattle.entry_lists.specs.declared.version_one.Part.{Part}
 use Rattle.cert_lines.specs.declared.fault.ReadError.{ReadError}
 use Rattle.cert_lines.specs.declared.fault.ReadError.TheVariants as errors
 use Rattle.cert_text.specs.Cert.{head_rows, claim_rows, cert_rows}
@@ -43,7 +43,7 @@ use Rattle.cert_text.specs.declared.parts.AnyClaim.TheVariants as any
 use Rattle.cert_lines.proofs.CiteWords.{sat}
 use Rattle.cert_lines.proofs.JudgedLine.{fixed_text, small_is, keyed_value, keyed_other, lower_said, said_lower}
 use Rattle.cert_lines.proofs.PlainLines.{keyed_again}
-use Rattle.cert_lift.proofs.LiftRanges.{lifted_in}
+use Rattle.cert_text.proofs.LiftRanges.{lifted_in}
 use Rattle.cert_text.proofs.PartErrors.{Fails, first, second, same, hand}
 use Rattle.cert_text.proofs.PartSequences.{unique_then, Unique, unique_one, Same, same_read, same_error, both_read}
 use Rattle.cert_text.proofs.PartSequences.{second_error}

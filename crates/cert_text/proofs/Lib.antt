@@ -1,3 +1,5 @@
+pub mod LiftFacts
+pub mod LiftRanges
 pub mod PutTexts
 pub mod PutLines
 pub mod PartSequences

@@ -36,9 +36,9 @@ use Rattle.cert_text.specs.OldCert.{short_row, old_trail_rows, part_rows, parts_
 use Rattle.cert_text.specs.OldCert.{old_rows}
 use Rattle.cert_text.specs.Versions.{AnyCertificate, newer, older, IsAnyInRange, any_rows, any_text, lifted}
 use Rattle.cert_text.specs.Versions.{both as both_versions}
-use Rattle.cert_lines.specs.declared.version_one.Part.{Part}
-use Rattle.cert_lines.specs.declared.version_one.OldClaim.{OldClaim}
-use Rattle.cert_lines.specs.declared.version_one.OldClaim.TheVariants as old_claim
+use Rattle.entry_lists.specs.declared.version_one.Part.{Part}
+use Rattle.entry_lists.specs.declared.version_one.OldClaim.{OldClaim}
+use Rattle.entry_lists.specs.declared.version_one.OldClaim.TheVariants as old_claim
 use Rattle.cert_lines.specs.Faults.{IsLine, Grammar, Next, IsFault}
 use Rattle.cert_text.specs.Parts.{lists}
 use Rattle.cert_text.specs.WholeText.{IsAnyRead, IsCertFault, IsSaidBy, IsCertRead, IsEnded}

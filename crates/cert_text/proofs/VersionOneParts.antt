@@ -12,8 +12,8 @@ use Rattle.cert_lines.specs.ValueRows.{frame_row}
 use Rattle.cert_lines.specs.Faults.{Grammar}
 use Rattle.cert_lines.specs.Pattern.{AreSaid, each, then_, IsRead}
 use Rattle.cert_lines.specs.LineForms.{IsSaid, given_row}
-use Rattle.cert_lines.specs.OldRanges.{IsPart, AreParts}
-use Rattle.cert_lines.specs.declared.version_one.Part.{Part}
+use Rattle.entry_lists.specs.OldRanges.{IsPart, AreParts}
+use Rattle.entry_lists.specs.declared.version_one.Part.{Part}
 use Rattle.cert_text.specs.OldCert.{part_rows, parts_rows}
 use Rattle.cert_text.specs.inner.OldParts.{AreFrames, old_trails, room_of, room_left, one_part, so_many, counted}
 use Rattle.cert_lines.proofs.JudgedEntry.{some_entry}

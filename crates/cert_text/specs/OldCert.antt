@@ -5,10 +5,10 @@ use Rattle.line_rules.specs.declared.types.Entry.{Entry}
 use Rattle.line_rules.specs.declared.types.OpenFrame.{OpenFrame}
 use Rattle.cert_lines.specs.Rows.{Row, fixed, keyed, rows_text}
 use Rattle.cert_lines.specs.ValueRows.{why_row, frame_row}
-use Rattle.cert_lines.specs.declared.version_one.Part.{Part}
-use Rattle.cert_lines.specs.declared.version_one.OldClaim.{OldClaim}
-use Rattle.cert_lines.specs.declared.version_one.OldClaim.TheVariants as claim
-use Rattle.cert_lines.specs.declared.version_one.OldCertificate.{OldCertificate}
+use Rattle.entry_lists.specs.declared.version_one.Part.{Part}
+use Rattle.entry_lists.specs.declared.version_one.OldClaim.{OldClaim}
+use Rattle.entry_lists.specs.declared.version_one.OldClaim.TheVariants as claim
+use Rattle.entry_lists.specs.declared.version_one.OldCertificate.{OldCertificate}
 use Rattle.cert_text.specs.Cert.{head_rows, bounds_rows, infeasible_rows}
 
 -- the line of an entry without its cycle

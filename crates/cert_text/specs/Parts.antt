@@ -12,8 +12,8 @@ use Rattle.cert_lines.specs.declared.line_forms.Version.TheVariants as version
 use Rattle.cert_lines.specs.Rows.{Row, fixed, keyed}
 use Rattle.cert_lines.specs.ValueRows.{seat_row}
 use Rattle.cert_lines.specs.LineForms.{opening_row}
-use Rattle.cert_lines.specs.OldRanges.{AreOldBounds}
-use Rattle.cert_lines.specs.declared.version_one.OldClaim.TheVariants as old
+use Rattle.entry_lists.specs.OldRanges.{AreOldBounds}
+use Rattle.entry_lists.specs.declared.version_one.OldClaim.TheVariants as old
 use Rattle.cert_text.specs.Cert.{head_rows, list_rows, trail_rows}
 use Rattle.cert_text.specs.OldCert.{counted_rows}
 use Rattle.cert_lines.specs.Faults.{Grammar}

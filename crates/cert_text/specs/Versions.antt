@@ -4,9 +4,9 @@ use Rattle.line_rules.specs.Ranges.{IsInRange}
 use Rattle.line_rules.specs.declared.types.Certificate.{Certificate}
 use Rattle.cert_lines.specs.Rows.{Row, rows_text}
 use Rattle.cert_lines.specs.Faults.{Grammar}
-use Rattle.cert_lines.specs.Lift.{lift}
-use Rattle.cert_lines.specs.OldRanges.{IsOldInRange}
-use Rattle.cert_lines.specs.declared.version_one.OldCertificate.{OldCertificate}
+use Rattle.entry_lists.specs.Lift.{lift}
+use Rattle.entry_lists.specs.OldRanges.{IsOldInRange}
+use Rattle.entry_lists.specs.declared.version_one.OldCertificate.{OldCertificate}
 use Rattle.cert_text.specs.Cert.{cert_rows}
 use Rattle.cert_text.specs.OldCert.{old_rows}
 use Rattle.cert_text.specs.declared.parts.Head.{Head}

@@ -3,9 +3,9 @@ use Rattle.std.specs.Prelude.{◌≡◌, ◌⊎◌, ℕ, suc, ◌<◌, ◌≤◌
 use Rattle.std.specs.Prelude.{Err}
 use Rattle.line_rules.specs.Ranges.{IsInRange, AreEntries, IsTrailOrNone}
 use Rattle.line_rules.specs.declared.types.Certificate.{Certificate}
-use Rattle.cert_lines.specs.Lift.{lift}
-use Rattle.cert_lines.specs.OldRanges.{IsOldInRange}
-use Rattle.cert_lines.specs.declared.version_one.OldCertificate.{OldCertificate}
+use Rattle.entry_lists.specs.Lift.{lift}
+use Rattle.entry_lists.specs.OldRanges.{IsOldInRange}
+use Rattle.entry_lists.specs.declared.version_one.OldCertificate.{OldCertificate}
 use Rattle.cert_text.specs.Cert.{cert_text, list_rows}
 use Rattle.cert_text.specs.OldCert.{old_text}
 use Rattle.cert_text.specs.Versions.{AnyCertificate, IsAnyInRange, any_rows, any_text, lifted, both}

@@ -1,8 +1,11 @@
 //! The text of a certificate: one spelling, written and read line by line.
+//!
+//! `lifting` makes of a certificate of version 1 the one of version 2 that says the same.
 #![tactic(auto)]
 
 mod kept_text;
 pub mod laws;
+mod lifting;
 mod lines;
 mod output;
 mod parts;

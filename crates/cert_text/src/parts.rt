@@ -10,15 +10,15 @@ ghost use Rattle.cert_text.specs.Versions.{certificate_of};
 ghost use Rattle.cert_text.specs.WholeText.{IsAnyRead};
 ghost use Rattle.line_rules.specs.Ranges.{AreEntries, IsTrailOrNone, IsCycle, IsPlacing, IsInRange};
 
+use crate::lifting::lift;
 use crate::version_one::read_parts;
-use cert_lift::lift;
 use cert_lines::line_forms::{
     AskLine, EndLine, EntryLine, FrameLine, Key, KindLine, MAX_CYCLE, Opening, OpeningLine,
     SeatLine, TrailLine, Version, VersionLine, read_number,
 };
 use cert_lines::pattern::{read_line, read_lines};
-use cert_lines::version_one::{OldCertificate, OldClaim};
 use cert_lines::{ReadError, Source};
+use entry_lists::version_one::{OldCertificate, OldClaim};
 use line_rules::{Ask, Balance, Certificate, Claim, Entries, Frames, LineKind, Places, Trail};
 use std::alloc::{AllocError, Global};
 

@@ -2,13 +2,13 @@
 ghost use Rattle.std.specs.Prelude.{◌≡◌, ◌≤◌, IfOk, length};
 ghost use Rattle.cert_lines.specs.Pattern.{IsRead};
 ghost use Rattle.cert_lines.specs.ReadingOn.{IsReadOn};
-ghost use Rattle.cert_lines.specs.OldRanges.{IsPart, AreParts};
+ghost use Rattle.entry_lists.specs.OldRanges.{IsPart, AreParts};
 ghost use Rattle.cert_text.specs.inner.OldParts.{AreFrames, room_left, old_trails, one_part, counted};
 
 use cert_lines::line_forms::{EntryLine, FrameLine, Key, MAX_CYCLE, read_number};
 use cert_lines::pattern::read_lines;
-use cert_lines::version_one::{Part, Parts};
 use cert_lines::{ReadError, Source};
+use entry_lists::version_one::{Part, Parts};
 use line_rules::{Entries, Frames};
 use std::alloc::Global;
 

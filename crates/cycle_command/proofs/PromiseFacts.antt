@@ -11,7 +11,7 @@ use Rattle.round_run.specs.declared.plans.Plan.{Plan}
 use Rattle.command_outcome.specs.Outcome.{Outcome}
 use Rattle.command_outcome.specs.declared.status.Status.TheVariants as ends
 use Rattle.solve_command.proofs.PromiseFacts.{not_chosen}
-use Rattle.cycle_certificates.specs.CycleCertified.{IsOptimum, IsStop}
+use Rattle.cycle_search.specs.CycleCertified.{IsOptimum, IsStop}
 use Rattle.cycle_command.specs.CycleText.{optimal_text, stopped_text}
 use Rattle.cycle_command.specs.Found.{IsFound}
 use Rattle.cycle_command.specs.CyclePromise.{HasBounds, IsShown}

@@ -16,7 +16,7 @@ use Rattle.line_rules.specs.declared.types.Claim.TheVariants as claim
 use Rattle.line_rules.specs.declared.types.Certificate.{Certificate}
 use Rattle.budget_law.specs.Budget.{states}
 use Rattle.round_run.specs.declared.plans.Plan.{Plan}
-use Rattle.run_certificates.specs.Certified.{max_units}
+use Rattle.round_run.specs.Certified.{max_units}
 use Rattle.command_outcome.specs.Outcome.{Files}
 use Rattle.command_outcome.specs.declared.report.Kept.{Kept}
 use Rattle.command_outcome.specs.declared.report.Kept.TheVariants.{Line as Certified}
@@ -25,7 +25,7 @@ use Rattle.command_outcome.specs.declared.status.Status.TheVariants as ends
 use Rattle.input_files.specs.Instance.{IsLineOf}
 use Rattle.solve_command.specs.Promise.{HasCertificate}
 use Rattle.cycle_search.specs.Outcomes.{IsRightIn}
-use Rattle.cycle_certificates.specs.CycleCertified.{about_cycle}
+use Rattle.cycle_search.specs.CycleCertified.{about_cycle}
 use Rattle.cycle_command.specs.CycleText.{optimal_text, stopped_text}
 use Rattle.cycle_command.specs.Found.{planned}
 

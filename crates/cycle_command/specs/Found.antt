@@ -13,7 +13,7 @@ use Rattle.command_outcome.specs.declared.status.Status.TheVariants as ends
 use Rattle.input_files.specs.Instance.{IsLineOf, IsNoLine}
 use Rattle.solve_command.specs.Solution.{certified_by}
 use Rattle.solve_command.specs.SolutionText.{cut_short_text}
-use Rattle.cycle_certificates.specs.CycleCertified.{IsOptimum, IsStop}
+use Rattle.cycle_search.specs.CycleCertified.{IsOptimum, IsStop}
 use Rattle.cycle_command.specs.CycleText.{optimal_text, stopped_text}
 
 -- The least cycle: the balance that is printed is right at it, and the certificate proves it.

@@ -18,8 +18,7 @@ ghost use Rattle.cycle_command.specs.Found.{IsOptimal, IsStopped, IsFound, IsCut
 use crate::line_file::plain_line;
 use crate::print_cycle::{optimal_text, stopped_text};
 use command_outcome::{Kept, Report, Status, Stop, cut_short_text, refuse, room_for_bounds};
-use cycle_certificates::{certify_cycle, certify_cycle_stop};
-use cycle_search::{CycleOutcome, least_cycle};
+use cycle_search::{CycleOutcome, certify_cycle, certify_cycle_stop, least_cycle};
 use line_instance::Instance;
 use line_io::Shelf;
 use line_rules::{Balance, Entries, LineKind, Trail};

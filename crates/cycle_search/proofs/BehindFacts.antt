@@ -22,9 +22,9 @@ use Rattle.line_rules.specs.declared.types.Why.TheVariants as why
 use Rattle.line_rules.specs.declared.types.OpenFrame.{OpenFrame}
 use Rattle.line_rules.proofs.ListFacts.{get_longer, take_map, take_behind, get_front, get_behind, get_map, get_unmap}
 use Rattle.lemma_core.specs.Own.{AreStatable}
-use Rattle.cert_lines.specs.Lift.{raised, lifted_why, lifted_frame}
+use Rattle.entry_lists.specs.Lift.{raised, lifted_why, lifted_frame}
 use Rattle.cycle_search.specs.inner.Joined.{raised_entry, behind, HaveCites, HaveFrameCites}
-use Rattle.cert_lift.proofs.LiftFacts.{frames_none, why_none}
+use Rattle.entry_lists.proofs.RaisedFacts.{frames_none, why_none}
 use Rattle.round_run.proofs.Endings.{at_both}
 use Rattle.line_rules.proofs.ListUnits.{units_both}
 

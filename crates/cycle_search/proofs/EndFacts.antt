@@ -25,7 +25,6 @@ use Rattle.line_rules.proofs.BoundIsTrue.{up_le, cond_le, greatest_le}
 use Rattle.line_rules.specs.Times.{longest_of}
 use Rattle.line_rules.proofs.SumsOverMembers.{below_at}
 use Rattle.line_rules.proofs.BoundCases.{long_ones, below_bound}
-use Rattle.cert_lines.proofs.JudgedSeat.{front_is}
 use Rattle.lemma_core.specs.Books.{MayBeBest}
 use Rattle.round_run.specs.Rounds.{by_bound}
 use Rattle.cycle_search.specs.Ends.{NoneApart, first_lower, first_upper, at_first}
@@ -118,6 +117,10 @@ first_met line m some = omega (arith, longest_total line, up_small (total_time l
 keeps_first : (kind : LineKind) → Keeps kind at_first at_first
 keeps_first Straight = omega arith
 keeps_first U = record { front = λ e. (refl, omega arith); back = λ e. absurd (cc) }
+
+front_is : (kind : LineKind) → IsSide kind Front
+front_is Straight = refl
+front_is U = tt
 
 -- all tasks at the first of m stations are a right balance at a cycle of their total time
 pub first_right : (kind : LineKind) (line : Line) (m c : ℕ) → IsLine line → NoneApart line → 1 ≤ m

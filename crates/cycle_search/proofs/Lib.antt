@@ -4,3 +4,4 @@ pub mod Tries
 pub mod AskFacts
 pub mod Results
 pub mod ReopenFacts
+pub mod CertificateFacts

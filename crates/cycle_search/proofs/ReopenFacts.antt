@@ -15,13 +15,13 @@ use Rattle.line_rules.specs.declared.types.OpenFrame.{OpenFrame}
 use Rattle.lemma_core.specs.Machine.{About}
 use Rattle.lemma_core.specs.Own.{AreStatable}
 use Rattle.lemma_core.specs.Books.{BookView, IsReserved, reopened}
-use Rattle.cert_files.specs.Trim.{IsTrimmed, IsKeptAs}
-use Rattle.cert_files.proofs.TrimFacts.{thinned}
-use Rattle.cert_files.proofs.ThinnedLists.{no_longer}
+use Rattle.entry_lists.specs.Trim.{IsTrimmed, IsKeptAs}
+use Rattle.entry_lists.proofs.TrimFacts.{thinned}
+use Rattle.entry_lists.proofs.ThinnedLists.{no_longer}
 use Rattle.round_run.specs.declared.plans.Plan.{Plan}
 use Rattle.round_run.specs.declared.solving.Cause.{Cause}
 use Rattle.round_run.specs.declared.solving.Cause.TheVariants as cause
-use Rattle.run_certificates.proofs.Sayable.{entries_ok, trail_ok, all_are_tasks}
+use Rattle.round_run.proofs.Sayable.{entries_ok, trail_ok, all_are_tasks}
 use Rattle.cycle_search.specs.inner.Joined.{HaveCites, HaveFrameCites}
 use Rattle.cycle_search.specs.Outcomes.{IsBelow}
 use Rattle.cycle_search.specs.inner.Searching.{AreOutside, IsKept, IsBetween, IsAsking, IsStuck}

@@ -22,7 +22,7 @@ use Rattle.budget_law.proofs.FewUnits.{units_few}
 use Rattle.round_run.specs.declared.plans.Plan.{Plan}
 use Rattle.round_run.specs.declared.solving.Cause.{Cause}
 use Rattle.round_run.specs.declared.solving.Cause.TheVariants as cause
-use Rattle.cert_lines.specs.Lift.{lifted_frame}
+use Rattle.entry_lists.specs.Lift.{lifted_frame}
 use Rattle.cycle_search.specs.inner.Joined.{behind}
 use Rattle.cycle_search.specs.Outcomes.{IsRightIn, AreSome, ShowsLower, IsStopped, IsSpent, Searches}
 use Rattle.cycle_search.specs.inner.Searching.{HasEnds, IsBetween, IsStuck}

@@ -1,4 +1,5 @@
 pub mod Asking
 pub mod Ends
 pub mod Outcomes
+pub mod CycleCertified
 pub mod inner

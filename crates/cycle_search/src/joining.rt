@@ -4,7 +4,7 @@
 //! copied; else one pass over the entries, with memory for their cites.
 ghost use Rattle.std.specs.Prelude.{◌≡◌, ◌≤◌, ◌<◌, ◌^◌, ℕ, ◌++◌, length, map, IfOk, OnOk, slice_get, Some};
 ghost use Rattle.line_rules.specs.Ranges.{AreCites, IsWhy};
-ghost use Rattle.cert_lines.specs.Lift.{raised, lifted_why, lifted_frame};
+ghost use Rattle.entry_lists.specs.Lift.{raised, lifted_why, lifted_frame};
 ghost use Rattle.cycle_search.specs.inner.Joined.{raised_entry, behind, HaveCites, HaveFrameCites};
 ghost use Rattle.line_rules.specs.declared.types.Entry.{Entry as Step};
 ghost use Rattle.line_rules.specs.declared.types.OpenFrame.{OpenFrame as Frame};

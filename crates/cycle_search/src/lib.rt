@@ -8,9 +8,14 @@
 //! `ends` has the first ends, `opening` the first book and its first entry; `asking` asks one question over a book;
 //! `halving` is the search between two tries; `trying` has one try, and `joining` makes one list of the entries of a
 //! search; `searching` says what a search comes to.
+//!
+//! `certify` makes of what a search proved a certificate that the check accepts. Where the least cycle was found it has
+//! a balance at it, and of the entries the one that shows that there is none at the cycle below, with all that it
+//! stands on: one pass over the entries. Where units ended it has all entries and the trail.
 #![tactic(auto)]
 
 mod asking;
+mod certify;
 mod ends;
 mod halving;
 mod joining;
@@ -19,6 +24,7 @@ mod searching;
 mod trying;
 
 pub use asking::{Asked, ask_book};
+pub use certify::{certify_cycle, certify_cycle_stop};
 pub use ends::{Ends, all_at_first, first_ends};
 pub use opening::open_book;
 pub use searching::{CycleOutcome, least_cycle};

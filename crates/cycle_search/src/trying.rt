@@ -10,14 +10,14 @@ ghost use Rattle.line_rules.specs.Entries.{HasAnswer};
 ghost use Rattle.line_rules.specs.Ranges.{IsCycle};
 ghost use Rattle.line_rules.specs.declared.types.LineKind.{LineKind as Kind};
 ghost use Rattle.lemma_core.specs.Books.{IsReserved, MayBeBest};
-ghost use Rattle.cert_files.specs.Trim.{CitesEarlier};
+ghost use Rattle.entry_lists.specs.Trim.{CitesEarlier};
 ghost use Rattle.round_run.specs.Plans.{IsPlan};
 ghost use Rattle.cycle_search.specs.inner.Searching.{IsBetween, IsAsking, HasAsked, IsTried, IsKept};
 
 use crate::asking::ask_book;
 use crate::halving::Halving;
 use crate::opening::open_book;
-use cert_files::trim;
+use entry_lists::trim;
 use first_fit::{Ranked, ranked_balance};
 use line_instance::Instance;
 use line_rules::{Balance, Entries, Frames, LineKind};

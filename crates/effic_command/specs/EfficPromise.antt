@@ -3,7 +3,7 @@ use Rattle.std.specs.Prelude.{◌≡◌, ℕ, ◌<◌, ◌≤◌, List, Option, 
 use Rattle.line_instance.specs.Line.{Line}
 use Rattle.line_rules.specs.declared.types.LineKind.{LineKind}
 use Rattle.round_run.specs.declared.plans.Plan.{Plan}
-use Rattle.run_certificates.specs.Certified.{max_units}
+use Rattle.round_run.specs.Certified.{max_units}
 use Rattle.command_outcome.specs.Outcome.{Files}
 use Rattle.command_outcome.specs.declared.report.Kept.{Kept}
 use Rattle.command_outcome.specs.declared.report.Kept.TheVariants.{Product}

@@ -26,7 +26,7 @@ use Rattle.lemma_core.specs.Own.{AreStatable}
 use Rattle.budget_law.specs.Budget.{states}
 use Rattle.budget_law.proofs.FewUnits.{units_few}
 use Rattle.round_run.specs.declared.plans.Plan.{Plan}
-use Rattle.run_certificates.proofs.Sayable.{entries_ok, trail_ok, all_are_tasks}
+use Rattle.round_run.proofs.Sayable.{entries_ok, trail_ok, all_are_tasks}
 use Rattle.line_rules.specs.Products.{IsSayable}
 use Rattle.line_rules.specs.declared.products.EfficCert.{EfficCert}
 use Rattle.effic_check.specs.Accepted.{IsAccepted, HasTrail}

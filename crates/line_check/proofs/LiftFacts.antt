@@ -20,7 +20,7 @@ use Rattle.line_rules.specs.declared.types.Entry.{Entry}
 use Rattle.line_rules.specs.declared.types.Why.{Why}
 use Rattle.line_rules.specs.declared.types.Why.TheVariants as why
 use Rattle.line_rules.specs.declared.types.OpenFrame.{OpenFrame}
-use Rattle.cert_lines.specs.Lift.{raised, lifted_why, lifted_entry, lifted_frame, trail_at}
+use Rattle.entry_lists.specs.Lift.{raised, lifted_why, lifted_entry, lifted_frame, trail_at}
 use Rattle.line_rules.proofs.ListFacts.{take_map, take_behind, get_front, get_behind, get_unmap, get_map}
 
 get_take : {X : Type 0} (xs : List X) (j k : ℕ) (x : X) → slice_get (take j xs) k ≡ Some x → slice_get xs k ≡ Some x

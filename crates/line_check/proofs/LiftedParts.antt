@@ -15,11 +15,11 @@ use Rattle.line_rules.specs.declared.types.Entry.{Entry}
 use Rattle.line_rules.specs.declared.types.OpenFrame.{OpenFrame}
 use Rattle.line_rules.specs.declared.types.Trail.{Trail}
 use Rattle.line_rules.proofs.LongerLists.{has_longer}
-use Rattle.cert_lines.specs.Lift.{lifted_entry, lifted_frame, lifted_entries, lifted_trail, lifted_claim, trail_at}
-use Rattle.cert_lines.specs.Lift.{trail_or}
-use Rattle.cert_lines.specs.declared.version_one.Part.{Part}
-use Rattle.cert_lines.specs.declared.version_one.OldClaim.{OldClaim}
-use Rattle.cert_lines.specs.declared.version_one.OldClaim.TheVariants as claim
+use Rattle.entry_lists.specs.Lift.{lifted_entry, lifted_frame, lifted_entries, lifted_trail, lifted_claim, trail_at}
+use Rattle.entry_lists.specs.Lift.{trail_or}
+use Rattle.entry_lists.specs.declared.version_one.Part.{Part}
+use Rattle.entry_lists.specs.declared.version_one.OldClaim.{OldClaim}
+use Rattle.entry_lists.specs.declared.version_one.OldClaim.TheVariants as claim
 use Rattle.line_check.specs.VersionOne.{IsPartRight, HasPartTrail, PassesAtCycle, ShowsLower, IsFurther}
 use Rattle.line_check.specs.VersionOne.{PassesForStations, AreLower, IsOneOrNone, PartUnits, ClaimPasses, TooLongPasses}
 use Rattle.line_check.specs.VersionOne.{EveryPassingLiftIsAccepted, EveryPassingTooLongIsAccepted}

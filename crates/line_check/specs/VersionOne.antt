@@ -10,11 +10,11 @@ use Rattle.line_rules.specs.declared.types.Balance.{Balance as Assignment}
 use Rattle.line_rules.specs.declared.types.Entry.{Entry}
 use Rattle.line_rules.specs.declared.types.Ask.{Ask}
 use Rattle.line_rules.specs.declared.types.Ask.TheVariants as ask
-use Rattle.cert_lines.specs.Lift.{trail_at, lift}
-use Rattle.cert_lines.specs.declared.version_one.Part.{Part}
-use Rattle.cert_lines.specs.declared.version_one.OldClaim.{OldClaim}
-use Rattle.cert_lines.specs.declared.version_one.OldClaim.TheVariants as claim
-use Rattle.cert_lines.specs.declared.version_one.OldCertificate.{OldCertificate}
+use Rattle.entry_lists.specs.Lift.{trail_at, lift}
+use Rattle.entry_lists.specs.declared.version_one.Part.{Part}
+use Rattle.entry_lists.specs.declared.version_one.OldClaim.{OldClaim}
+use Rattle.entry_lists.specs.declared.version_one.OldClaim.TheVariants as claim
+use Rattle.entry_lists.specs.declared.version_one.OldCertificate.{OldCertificate}
 
 -- A part stands by itself: each entry is at the part's cycle, and follows from those before it in the part.
 pub record IsPartRight (kind : LineKind) (line : Line) (p : Part) : Type 0 where

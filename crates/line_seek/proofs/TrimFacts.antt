@@ -10,9 +10,9 @@ use Rattle.line_rules.specs.declared.types.Entry.{Entry}
 use Rattle.line_rules.proofs.ListFacts.{get_some}
 use Rattle.lemma_core.specs.Own.{AreStatable}
 use Rattle.lemma_core.specs.Books.{BookView}
-use Rattle.cert_files.specs.Trim.{IsTrimmed}
-use Rattle.run_certificates.proofs.Sayable.{entries_ok}
-use Rattle.run_certificates.proofs.CertificateFacts.{trimmed_cycles}
+use Rattle.entry_lists.specs.Trim.{IsTrimmed}
+use Rattle.round_run.proofs.Sayable.{entries_ok}
+use Rattle.round_run.proofs.CertificateFacts.{trimmed_cycles}
 use Rattle.line_seek.specs.inner.Trying.{IsPaid}
 use Rattle.line_seek.specs.Seeking.{AreSought}
 

@@ -15,7 +15,7 @@ ghost use Rattle.line_seek.specs.Seeking.{IfDone, IsSeeking, AreSought, RefuteBe
 
 use crate::tries::Try;
 use crate::trying::{Told, try_beam, try_search};
-use cert_files::trim;
+use entry_lists::trim;
 use lemma_core::{Book, Looked};
 use line_instance::Instance;
 use line_rules::{Balance, Entries};

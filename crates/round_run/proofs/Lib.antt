@@ -4,3 +4,5 @@ pub mod RankedOnce
 pub mod TurnFacts
 pub mod Endings
 pub mod PurseFacts
+pub mod Sayable
+pub mod CertificateFacts

@@ -1,4 +1,5 @@
 pub mod Plans
 pub mod Rounds
 pub mod Solving
+pub mod Certified
 pub mod inner

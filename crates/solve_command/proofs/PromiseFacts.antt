@@ -11,7 +11,7 @@ use Rattle.line_rules.specs.declared.types.LineKind.{LineKind}
 use Rattle.line_rules.specs.declared.types.Balance.{Balance as Assignment}
 use Rattle.line_rules.specs.declared.types.Entry.{Entry}
 use Rattle.line_rules.specs.declared.types.Certificate.{Certificate}
-use Rattle.run_certificates.specs.Certified.{IsOptimumFrom, IsStopFrom}
+use Rattle.round_run.specs.Certified.{IsOptimumFrom, IsStopFrom}
 use Rattle.round_run.specs.declared.plans.Plan.{Plan}
 use Rattle.command_outcome.specs.Outcome.{Outcome, Stops, outcome_of}
 use Rattle.command_outcome.specs.declared.report.Report.{Report}

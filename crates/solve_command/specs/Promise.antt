@@ -19,7 +19,7 @@ use Rattle.line_rules.specs.declared.types.Claim.TheVariants as claim
 use Rattle.line_rules.specs.declared.types.Certificate.{Certificate}
 use Rattle.cert_text.specs.Cert.{cert_text}
 use Rattle.budget_law.specs.Budget.{states}
-use Rattle.run_certificates.specs.Certified.{about_stations, max_units}
+use Rattle.round_run.specs.Certified.{about_stations, max_units}
 use Rattle.round_run.specs.declared.plans.Plan.{Plan}
 use Rattle.command_outcome.specs.Outcome.{Files}
 use Rattle.command_outcome.specs.declared.report.Kept.{Kept}

@@ -10,7 +10,7 @@ use Rattle.line_rules.specs.declared.types.Entry.{Entry}
 use Rattle.line_rules.specs.declared.types.Ask.TheVariants as ask
 use Rattle.line_rules.specs.declared.types.Certificate.{Certificate}
 use Rattle.cert_text.specs.Cert.{cert_text}
-use Rattle.run_certificates.specs.Certified.{IsOptimumFrom, IsStopFrom, IsNoBalance}
+use Rattle.round_run.specs.Certified.{IsOptimumFrom, IsStopFrom, IsNoBalance}
 use Rattle.round_run.specs.declared.plans.Plan.{Plan}
 use Rattle.command_outcome.specs.Outcome.{Files, Outside, Page, Outcome, told}
 use Rattle.command_outcome.specs.declared.report.Kept.TheVariants.{Line as Certified}

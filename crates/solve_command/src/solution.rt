@@ -15,7 +15,7 @@ ghost use Rattle.line_words.specs.Ranges.{IsSetBetween};
 ghost use Rattle.round_run.specs.Plans.{IsPlan};
 ghost use Rattle.round_run.specs.declared.plans.Plan.{Plan as PlanOf};
 ghost use Rattle.round_run.specs.Solving.{FitsAll, IsSolvedFrom, IsSpentFrom, IsStoppedFrom as HasStopped};
-ghost use Rattle.run_certificates.specs.Certified.{LeaveRoom};
+ghost use Rattle.round_run.specs.Certified.{LeaveRoom};
 ghost use Rattle.command_outcome.specs.Outcome.{Files, Ends, MayEnd, Stay, Stops, MayStop, outside, outcome_of};
 ghost use Rattle.command_outcome.specs.declared.status.Status.TheVariants as ends;
 ghost use Rattle.command_outcome.specs.declared.report.Stop.TheVariants.{Unwritten};
@@ -36,8 +36,10 @@ use lemma_core::Book;
 use line_instance::Instance;
 use line_io::Shelf;
 use line_rules::{Frames, LineKind};
-use round_run::{Cause, Gate, Outcome, Plan, solve_from};
-use run_certificates::{certify_too_long, certify_warm_optimum, certify_warm_stop};
+use round_run::{
+    Cause, Gate, Outcome, Plan, certify_too_long, certify_warm_optimum, certify_warm_stop,
+    solve_from,
+};
 use station_report::{idle_of, infeasible_line};
 use std::alloc::{AllocError, Global};
 use std::sync::Wait;

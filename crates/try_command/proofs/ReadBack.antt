@@ -7,7 +7,7 @@ use Rattle.line_rules.specs.Ranges.{IsInRange}
 use Rattle.line_rules.specs.declared.types.Claim.{Claim}
 use Rattle.line_rules.specs.declared.types.Claim.TheVariants as claim
 use Rattle.line_rules.specs.declared.types.Certificate.{Certificate}
-use Rattle.cert_lines.specs.declared.version_one.OldCertificate.{OldCertificate}
+use Rattle.entry_lists.specs.declared.version_one.OldCertificate.{OldCertificate}
 use Rattle.cert_text.specs.Cert.{cert_text}
 use Rattle.cert_text.specs.WholeText.{IsSaidBy}
 use Rattle.cert_text.specs.Versions.{newer, older}

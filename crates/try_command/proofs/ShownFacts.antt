@@ -4,7 +4,7 @@ use Rattle.line_instance.specs.Line.{Line, tasks}
 use Rattle.line_rules.specs.declared.types.LineKind.{LineKind}
 use Rattle.line_rules.specs.declared.types.Balance.{Balance as Assignment}
 use Rattle.line_rules.specs.declared.types.Certificate.{Certificate}
-use Rattle.run_certificates.specs.Certified.{IsOptimum, IsStop}
+use Rattle.round_run.specs.Certified.{IsOptimum, IsStop}
 use Rattle.command_outcome.specs.declared.report.Report.{Report}
 use Rattle.command_outcome.specs.declared.status.Status.TheVariants as ends
 use Rattle.try_command.specs.TryText.{bounds_line}

@@ -14,7 +14,7 @@ use Rattle.line_check.specs.declared.types.Verified.TheVariants.{Accepted}
 use Rattle.cert_text.specs.Cert.{cert_text}
 use Rattle.cert_text.specs.WholeText.{IsCertRead}
 use Rattle.cert_text.specs.declared.whole_text.CertRead.TheVariants.{Good}
-use Rattle.run_certificates.specs.Certified.{IsOptimum, IsStop, IsNoBalance, max_units}
+use Rattle.round_run.specs.Certified.{IsOptimum, IsStop, IsNoBalance, max_units}
 use Rattle.round_run.specs.declared.plans.Plan.{Plan}
 use Rattle.command_outcome.specs.Codes.{code_of}
 use Rattle.command_outcome.specs.declared.report.Report.{Report}

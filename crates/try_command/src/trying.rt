@@ -9,7 +9,7 @@ ghost use Rattle.cert_text.specs.Cert.{cert_text};
 ghost use Rattle.cert_text.specs.WholeText.{IsCertRead};
 ghost use Rattle.cert_text.specs.declared.whole_text.CertRead.TheVariants.{Good};
 ghost use Rattle.round_run.specs.Solving.{IsSolved, IsSpent};
-ghost use Rattle.run_certificates.specs.Certified.{IsStop};
+ghost use Rattle.round_run.specs.Certified.{IsStop};
 ghost use Rattle.command_outcome.specs.declared.report.Stop.TheVariants.{Memory};
 ghost use Rattle.command_outcome.specs.declared.status.Status.TheVariants as ends;
 ghost use Rattle.try_command.specs.Tried.{alone, IsAcceptable, IsShown, IsTold, IsTried};
@@ -22,8 +22,9 @@ use line_check::{Verified, verify};
 use line_generator::{Generated, generate};
 use line_instance::Instance;
 use line_rules::{Certificate, Frames, LineKind};
-use round_run::{AlwaysOpen, Cause, Outcome, Plan, solve};
-use run_certificates::{certify_optimum, certify_stop, certify_too_long};
+use round_run::{
+    AlwaysOpen, Cause, Outcome, Plan, certify_optimum, certify_stop, certify_too_long, solve,
+};
 use std::alloc::{AllocError, Global};
 use std::sync::Wait;
 use std::thread::Threads;

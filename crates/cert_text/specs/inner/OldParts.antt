@@ -3,8 +3,8 @@ use Rattle.std.specs.Prelude.{◌≡◌, ℕ, ◌≤◌, List, [], ◌∷◌, le
 use Rattle.line_rules.specs.Ranges.{IsFrame}
 use Rattle.line_rules.specs.declared.types.OpenFrame.{OpenFrame}
 use Rattle.cert_lines.specs.Faults.{Grammar}
-use Rattle.cert_lines.specs.OldRanges.{IsPart, AreParts}
-use Rattle.cert_lines.specs.declared.version_one.Part.{Part}
+use Rattle.entry_lists.specs.OldRanges.{IsPart, AreParts}
+use Rattle.entry_lists.specs.declared.version_one.Part.{Part}
 use Rattle.cert_text.specs.OldCert.{old_trail_rows, part_rows, parts_rows, counted_rows}
 
 -- frames beside so many entries, where there is room for so many

@@ -3,7 +3,7 @@ use Rattle.std.specs.Prelude.{◌≡◌, ℕ, List, ◌++◌, length, map, slice
 use Rattle.line_rules.specs.Ranges.{AreCites, IsWhy}
 use Rattle.line_rules.specs.declared.types.Entry.{Entry}
 use Rattle.line_rules.specs.declared.types.OpenFrame.{OpenFrame}
-use Rattle.cert_lines.specs.Lift.{lifted_why}
+use Rattle.entry_lists.specs.Lift.{lifted_why}
 
 -- an entry with its cites raised by the number of entries before its list
 abbrev pub raised_entry : ℕ → Entry → Entry

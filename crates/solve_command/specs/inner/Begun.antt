@@ -4,7 +4,7 @@ use Rattle.line_instance.specs.Line.{Line}
 use Rattle.line_rules.specs.declared.types.LineKind.{LineKind}
 use Rattle.line_rules.specs.declared.types.Entry.{Entry}
 use Rattle.lemma_core.specs.Books.{BookView, IsReserved}
-use Rattle.run_certificates.specs.Certified.{LeaveRoom}
+use Rattle.round_run.specs.Certified.{LeaveRoom}
 use Rattle.round_run.specs.declared.plans.Plan.{Plan}
 use Rattle.solve_command.specs.WarmStart.{Start, TakesOld, TakesSought, BeginsWith}
 use Rattle.warm_book.specs.Warm.{Taking}

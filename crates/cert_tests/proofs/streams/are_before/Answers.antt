@@ -1,6 +1,6 @@
 use Rattle.std.proofs.Common.{List, ℕ, ap, sym, ◌∙◌, subst}
 use Rattle.std.specs.List.{Contains}
-use Rattle.cert_files.specs.Trim.{cited_by}
+use Rattle.entry_lists.specs.Trim.{cited_by}
 use Rattle.cert_tests.proofs.streams.are_before.Goals as goal
 
 pub returns-in-Branch : goal.returns-in-Branch

@@ -4,7 +4,7 @@ use Rattle.std.specs.List.{Contains}
 use Rattle.std.proofs.lemmas.Bool.{cases_lt}
 use Rattle.std.proofs.lemmas.Option.{slice_get_within, slice_get_read, same_Some}
 use Rattle.line_rules.specs.declared.types.Entry.{Entry}
-use Rattle.cert_files.specs.Trim.{cited_by}
+use Rattle.entry_lists.specs.Trim.{cited_by}
 use Rattle.cert_tests.proofs.streams.cite_earlier.Goals as goal
 
 pub loop-k-preserved : goal.loop-k-preserved

@@ -2,7 +2,7 @@ use Rattle.std.proofs.Common.{◌≡◌, ℕ, ◌<◌, Some}
 use Rattle.std.specs.Prelude.{slice_get}
 use Rattle.std.specs.List.{Contains}
 use Rattle.line_rules.specs.declared.types.Entry.{Entry}
-use Rattle.cert_files.specs.Trim.{cited_by}
+use Rattle.entry_lists.specs.Trim.{cited_by}
 use Rattle.cert_tests.proofs.streams.cite_earlier.Given as goal
 
 abbrev pub invariant-loop-k : goal.invariant-loop-k

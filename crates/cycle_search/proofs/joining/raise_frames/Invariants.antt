@@ -1,5 +1,5 @@
 use Rattle.std.proofs.Common.{◌≡◌, take, map}
-use Rattle.cert_lines.specs.Lift.{lifted_frame}
+use Rattle.entry_lists.specs.Lift.{lifted_frame}
 use Rattle.cycle_search.proofs.joining.raise_frames.Given as goal
 
 abbrev pub invariant-loop-frame : goal.invariant-loop-frame

@@ -1,7 +1,7 @@
 use Rattle.std.proofs.Common.{◌≡◌, ℕ, length, map, List, sym, ap, ◌∙◌, subst, arith}
 use Rattle.line_rules.specs.declared.types.Entry.{Entry}
 use Rattle.line_rules.specs.declared.types.OpenFrame.{OpenFrame}
-use Rattle.cert_lines.specs.Lift.{lifted_frame}
+use Rattle.entry_lists.specs.Lift.{lifted_frame}
 use Rattle.cycle_search.specs.inner.Joined.{behind, HaveFrameCites}
 use Rattle.cycle_search.specs.Outcomes.{Searches}
 use Rattle.cycle_search.specs.declared.searching.CycleOutcome.TheVariants as outcome

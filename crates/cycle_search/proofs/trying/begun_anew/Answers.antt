@@ -1,5 +1,5 @@
 use Rattle.std.proofs.Common.{arith}
-use Rattle.cert_files.proofs.TrimFacts.{derived_earlier}
+use Rattle.entry_lists.proofs.TrimFacts.{derived_earlier}
 use Rattle.cycle_search.proofs.ReopenFacts.{anew_asking, book_kept}
 use Rattle.cycle_search.proofs.trying.begun_anew.Goals as goal
 

@@ -5,7 +5,7 @@ use Rattle.line_rules.specs.Entries.{IsDerived}
 use Rattle.command_outcome.specs.Outcome.{Stops, told}
 use Rattle.command_outcome.specs.declared.report.Stop.{Stop}
 use Rattle.command_outcome.specs.declared.status.Status.TheVariants as ends
-use Rattle.run_certificates.proofs.CertificateFacts.{stopped_bounds}
+use Rattle.round_run.proofs.CertificateFacts.{stopped_bounds}
 use Rattle.solve_command.specs.Solution.{IsCutShort}
 use Rattle.solve_command.specs.SolutionText.{cut_short_text}
 use Rattle.solve_command.proofs.solution.cut_short.Goals as goal

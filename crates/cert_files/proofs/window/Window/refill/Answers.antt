@@ -1,7 +1,7 @@
 use Rattle.std.proofs.Common.{◌≤◌, List, ℕ, length, sym, subst, arith}
 use Rattle.std.specs.Prelude.{slice_range}
 use Rattle.cert_files.specs.inner.Rest.{IsNext}
-use Rattle.cert_files.proofs.MarkFacts.{come_back}
+use Rattle.entry_lists.proofs.MarkFacts.{come_back}
 use Rattle.cert_files.proofs.Windows.{next_piece}
 use Rattle.cert_files.proofs.window.Window.refill.Goals as goal
 

@@ -2,7 +2,7 @@ use Rattle.std.proofs.Common.{ℕ, subst}
 use Rattle.line_instance.specs.Truths.{full_to}
 use Rattle.line_rules.specs.Balance.{all_tasks}
 use Rattle.line_rules.specs.Entries.{HasAnswer}
-use Rattle.cert_files.proofs.TrimFacts.{derived_earlier}
+use Rattle.entry_lists.proofs.TrimFacts.{derived_earlier}
 use Rattle.line_seek.proofs.TrimFacts.{sought_of}
 use Rattle.line_seek.proofs.seeking.Seeker.refuted.Goals as goal
 

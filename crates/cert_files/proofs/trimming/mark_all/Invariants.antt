@@ -1,6 +1,0 @@
-use Rattle.std.proofs.Common.{take}
-use Rattle.cert_files.specs.Trim.{AreMarked}
-use Rattle.cert_files.proofs.trimming.mark_all.Given as goal
-
-abbrev pub invariant-loop-cite : goal.invariant-loop-cite
-invariant-loop-cite l = AreMarked l.initial.marks (take l.cite-index l.cites) l.marks

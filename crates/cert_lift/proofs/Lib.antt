@@ -1,2 +1,0 @@
-pub mod LiftFacts
-pub mod LiftRanges

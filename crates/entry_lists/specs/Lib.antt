@@ -1,0 +1,4 @@
+pub mod Trim
+pub mod Laws
+pub mod OldRanges
+pub mod Lift
