@@ -234,6 +234,8 @@ module _ (kind : LineKind) (line : Line) (c : ℕ) (plan : Plan) (before : List 
             spent.added frames run;
         cycles = run.cycles;
         below = below;
+        from = spent.from;
+        asks = valid;
         paid = room.units;
         before_units = room.counted;
         listed = spent.listed;

@@ -3,11 +3,12 @@ use Rattle.std.specs.Prelude.{◌≡◌, ◌⊎◌, ℕ, ◌+◌, ◌*◌, ◌^�
 use Rattle.std.specs.Prelude.{None}
 use Rattle.line_instance.specs.Line.{Line, tasks}
 use Rattle.line_rules.specs.Accepted.{IsAccepted, IsInfeasible, IsLeastStations}
-use Rattle.line_rules.specs.Balance.{IsRight}
+use Rattle.line_rules.specs.Balance.{IsRight, all_tasks}
+use Rattle.line_rules.specs.Bounds.{bound}
 use Rattle.line_rules.specs.Entries.{IsFresh}
 use Rattle.line_rules.specs.Laws.{IsProved, NoBalanceIsLeft}
 use Rattle.line_rules.specs.Ranges.{IsInRange}
-use Rattle.line_rules.specs.Trails.{IsOpenOver}
+use Rattle.line_rules.specs.Trails.{IsOpenOver, IsTrail}
 use Rattle.line_rules.specs.Units.{UnitsOf, UnitsWhole}
 use Rattle.line_rules.specs.declared.types.LineKind.{LineKind}
 use Rattle.line_rules.specs.declared.types.Balance.{Balance as Assignment}
@@ -75,8 +76,9 @@ pub record IsOptimumFrom (kind : LineKind) (line : Line) (c : ℕ) (before : Lis
 
 -- The certificate of a search that began with some entries and used the units of its plan: its bounds differ; its
 -- entries, of which none is answered by an earlier one, begin with those, and the others are at cycle c; these others
--- and its trail have at least the units of the plan, exactly so many without helpers; the trail is open over the
--- entries; and the units of the plan are below what the budget law allows.
+-- and its trail have at least the units of the plan, exactly so many without helpers; the lower bound is at least the
+-- bound of all tasks; the trail asks whether all tasks have a balance in as many stations, and is open over the entries;
+-- and the units of the plan are below what the budget law allows.
 pub record IsStopFrom (kind : LineKind) (line : Line) (c : ℕ) (plan : Plan) (before : List Entry) (lower : ℕ)
     (b : Assignment) (cert : Certificate) : Type 0 where
   pub entries : List Entry
@@ -87,6 +89,8 @@ pub record IsStopFrom (kind : LineKind) (line : Line) (c : ℕ) (plan : Plan) (b
   pub begins : entries ≡ before ++ added
   pub cycles : AreAtCycle c added
   pub below : lower < b.stations
+  pub from : bound kind line c (all_tasks line) ≤ lower
+  pub asks : IsTrail kind line c entries (all_tasks line) lower frames
   pub paid : ℕ
   pub before_units : UnitsOf line before paid
   pub listed : ℕ

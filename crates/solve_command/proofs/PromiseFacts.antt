@@ -83,6 +83,7 @@ module _ (kind : LineKind) (line : Line) (c : ℕ) (plan : Plan) (start : Start)
       differ = λ h. (
         refl,
         record {
+          from = p.from;
           added = p.added;
           begins = p.begins;
           frames = p.frames;
@@ -95,6 +96,7 @@ module _ (kind : LineKind) (line : Line) (c : ℕ) (plan : Plan) (start : Start)
           least = p.least;
           alone = p.alone;
           fresh = p.fresh;
+          asks = p.asks;
           opens = p.opens;
         },
       );

@@ -2,12 +2,12 @@
 use Rattle.std.specs.Prelude.{◌≡◌, ◌⊎◌, ℕ, ◌+◌, ◌*◌, ◌^◌, ◌<◌, ◌≤◌, List, ◌++◌, Option, Some, None, cond, nat_eq}
 use Rattle.line_instance.specs.Line.{Line, tasks, time}
 use Rattle.line_rules.specs.Accepted.{IsAccepted, IsInfeasible as IsAcceptedInfeasible, IsLeastStations}
-use Rattle.line_rules.specs.Balance.{IsRight}
-use Rattle.line_rules.specs.Bounds.{idle_time, IsTooLong}
+use Rattle.line_rules.specs.Balance.{IsRight, all_tasks}
+use Rattle.line_rules.specs.Bounds.{bound, idle_time, IsTooLong}
 use Rattle.line_rules.specs.Checked.{IsLeastWhere}
 use Rattle.line_rules.specs.Entries.{IsFresh}
 use Rattle.line_rules.specs.Laws.{IsProved, NoBalanceIsLeft}
-use Rattle.line_rules.specs.Trails.{IsOpenOver}
+use Rattle.line_rules.specs.Trails.{IsOpenOver, IsTrail}
 use Rattle.line_rules.specs.Units.{UnitsOf, UnitsWhole}
 use Rattle.line_rules.specs.declared.types.LineKind.{LineKind}
 use Rattle.line_rules.specs.declared.types.Balance.{Balance as Assignment}
@@ -38,9 +38,11 @@ bounds_text kind lower b idle = cond (nat_eq lower b.stations) (optimal_text kin
 
 -- The units of the plan were spent on loads that the certificate lists: its entries begin with those that the run began
 -- with; the entries after these and its trail have at least so many units, exactly so many without helpers; no entry is
--- answered by an earlier one; and the trail, which is valid since the certificate is accepted, has a further load.
-pub record AreSpent (line : Line) (c : ℕ) (plan : Plan) (before es : List Entry) (trail : Option Trail)
-    (units : ℕ) : Type 0 where
+-- answered by an earlier one; and the trail, which asks whether all tasks have a balance in as many stations as the
+-- lower bound, has a further load. The lower bound is at least the bound of all tasks.
+pub record AreSpent (kind : LineKind) (line : Line) (c : ℕ) (plan : Plan) (lower : ℕ) (before es : List Entry)
+    (trail : Option Trail) (units : ℕ) : Type 0 where
+  pub from : bound kind line c (all_tasks line) ≤ lower
   pub added : List Entry
   pub begins : es ≡ before ++ added
   pub frames : List OpenFrame
@@ -53,6 +55,7 @@ pub record AreSpent (line : Line) (c : ℕ) (plan : Plan) (before es : List Entr
   pub least : plan.units ≤ listed
   pub alone : plan.helpers ≡ 0 → listed ≡ plan.units
   pub fresh : IsFresh es
+  pub asks : IsTrail kind line c es (all_tasks line) lower frames
   pub opens : IsOpenOver line c es frames
 
 -- What is promised of bounds: the printed balance keeps every precedence and the cycle; the certificate is accepted by
@@ -78,7 +81,7 @@ pub record HasBounds (kind : LineKind) (line : Line) (c : ℕ) (plan : Plan) (st
   pub few : units ≤ max_units
   pub true_bounds : IsProved kind line (ask.Stations c) lower balance.stations
   pub printed : text ≡ first ++ bounds_text kind lower balance (idle_time line c balance.stations)
-  pub differ : lower < balance.stations → (status ≡ ends.Stopped) × AreSpent line c plan before entries trail units
+  pub differ : lower < balance.stations → (status ≡ ends.Stopped) × AreSpent kind line c plan lower before entries trail units
   pub equal : lower ≡ balance.stations → (status ≡ ends.Done) × IsLeastStations kind line c lower
   pub complete : (tasks line + 1) * states kind ^ tasks line ≤ plan.units → lower ≡ balance.stations
 
