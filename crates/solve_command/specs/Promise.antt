@@ -81,7 +81,8 @@ pub record HasBounds (kind : LineKind) (line : Line) (c : ℕ) (plan : Plan) (st
   pub few : units ≤ max_units
   pub true_bounds : IsProved kind line (ask.Stations c) lower balance.stations
   pub printed : text ≡ first ++ bounds_text kind lower balance (idle_time line c balance.stations)
-  pub differ : lower < balance.stations → (status ≡ ends.Stopped) × AreSpent kind line c plan lower before entries trail units
+  pub differ : lower < balance.stations
+      → (status ≡ ends.Stopped) × AreSpent kind line c plan lower before entries trail units
   pub equal : lower ≡ balance.stations → (status ≡ ends.Done) × IsLeastStations kind line c lower
   pub complete : (tasks line + 1) * states kind ^ tasks line ≤ plan.units → lower ≡ balance.stations
 
