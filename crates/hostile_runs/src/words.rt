@@ -3,7 +3,7 @@ use crate::draws::Draws;
 use std::alloc::{AllocError, Global};
 
 /// Each command with its names and its keys.
-const COMMANDS: [(&str, &[&str], &[&str]); 15] = [
+const COMMANDS: [(&str, &[&str], &[&str]); 16] = [
     ("balance", &["in2"], &["cycle", "line", "apart"]),
     (
         "solve",
@@ -22,6 +22,11 @@ const COMMANDS: [(&str, &[&str], &[&str]); 15] = [
     ("combine", &["csv", "out"], &[]),
     ("utility", &["csv", "cert", "txt"], &["interval", "length"]),
     ("timeline", &["csv", "cert", "txt"], &["interval", "length"]),
+    (
+        "timeline-draw",
+        &["csv", "cert", "txt", "out"],
+        &["interval", "length"],
+    ),
     ("try", &[], &["seed", "tasks", "cycle", "line", "units"]),
     ("draw", &["in2", "cert", "out"], &["apart"]),
     (

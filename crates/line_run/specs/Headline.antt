@@ -6,7 +6,7 @@ use Rattle.line_words.specs.Words.{Text}
 use Rattle.line_words.specs.Jobs.{IsJob}
 use Rattle.line_words.specs.declared.job.Job.{Job}
 use Rattle.line_words.specs.declared.job.Job.TheVariants.{Help, Version, Balance, Solve, Cycle, Check, Convert, Combine}
-use Rattle.line_words.specs.declared.job.Job.TheVariants.{Utility, Timeline, Try, Draw, Effic, EfficCheck, Sequence}
+use Rattle.line_words.specs.declared.job.Job.TheVariants.{Utility, Timeline, TimelineDraw, Try, Draw, Effic, EfficCheck, Sequence}
 use Rattle.line_words.specs.declared.job.Job.TheVariants.{SequenceCheck}
 use Rattle.command_outcome.specs.Outcome.{Files}
 use Rattle.command_outcome.specs.declared.report.Kept.{Kept}
@@ -22,6 +22,7 @@ use Rattle.try_command.specs.Tried.{IsTried}
 use Rattle.draw_command.specs.Draw.{IsTrulyDrawn}
 use Rattle.effic_command.specs.EfficPromise.{IsEfficPromised}
 use Rattle.effic_command.specs.EfficCheck.{IsProvedProduct}
+use Rattle.mix_commands.specs.TimelineDraw.{IsTimelineTrulyDrawn}
 use Rattle.sequence_command.specs.Ordered.{IsSequencePromised}
 use Rattle.sequence_command.specs.SequenceCheck.{IsProvedSequence}
 use Rattle.line_run.specs.Run.{planned}
@@ -35,7 +36,8 @@ IsAnswered status = (status ≡ ends.Done) ⊎ (status ≡ ends.Stopped)
 -- kept, and written where the words name a file, its bounds are the printed ones and true, and they differ only where
 -- the units were spent on loads that it lists; of `cycle` the same of the least cycle time in so many stations. Of
 -- `try`: the same of the line of a seed. Of `check`: where a certificate is accepted, whoever made it, what it claims
--- is true. Of `draw`: the picture that is written is true of the line. Of `effic`: the same as of `cycle` of the least
+-- is true. Of `draw`: the picture that is written is true of the line; of `timeline-draw`: it is true of the timeline that
+-- the files say. Of `effic`: the same as of `cycle` of the least
 -- product of stations and cycle, which may also stop by the size of its book; of `effic-check` the same as of `check`.
 -- Of `sequence`: for the mix and the balance that the files say, the sequence that is printed is one of the demands, a
 -- certificate is kept and written as of `solve`, no sequence of the demands has less utility work than its lower bound,
@@ -54,6 +56,8 @@ PromisesOf files after (Convert file name to cycle) status text kept = Unit {0}
 PromisesOf files after (Combine mix name) status text kept = Unit {0}
 PromisesOf files after (Utility mix cert seq interval length) status text kept = Unit {0}
 PromisesOf files after (Timeline mix cert seq interval length) status text kept = Unit {0}
+PromisesOf files after (TimelineDraw mix cert seq name interval length) status text kept =
+    IsTimelineTrulyDrawn files after (record { mix = mix; cert = cert; seq = seq }) name interval length
 PromisesOf files after (Try seed tasks cycle line units) status text kept =
     IsTried seed tasks cycle (kind_of line) units status text kept
 PromisesOf files after (Draw file cert name apart) status text kept = IsTrulyDrawn files after file cert name apart

@@ -45,6 +45,8 @@ mix_text =
     ++ codes "    line utility models.csv all.cert day.txt interval=7 length=8\n"
     ++ codes "timeline MIX CERT SEQ interval=I length=L    the same, unit by unit, as CSV\n"
     ++ codes "    line timeline models.csv all.cert day.txt interval=7 length=8\n"
+    ++ codes "timeline-draw MIX CERT SEQ OUT interval=I length=L    the same as a picture\n"
+    ++ codes "    line timeline-draw models.csv all.cert day.txt day.svg interval=7 length=8\n"
     ++ codes "sequence MIX CERT interval=I length=L    the order of least utility work\n"
     ++ codes "    units=1..1000000 (1000000)  out=OUT (none)\n"
     ++ codes "    line sequence models.csv all.cert interval=7 length=8 out=day.proof\n"

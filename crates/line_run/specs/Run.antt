@@ -6,7 +6,7 @@ use Rattle.line_words.specs.Words.{Text}
 use Rattle.line_words.specs.Jobs.{IsJob}
 use Rattle.line_words.specs.declared.job.Job.{Job}
 use Rattle.line_words.specs.declared.job.Job.TheVariants.{Help, Version, Balance, Solve, Cycle, Check, Convert, Combine}
-use Rattle.line_words.specs.declared.job.Job.TheVariants.{Utility, Timeline, Try, Draw, Effic, EfficCheck, Sequence}
+use Rattle.line_words.specs.declared.job.Job.TheVariants.{Utility, Timeline, TimelineDraw, Try, Draw, Effic, EfficCheck, Sequence}
 use Rattle.line_words.specs.declared.job.Job.TheVariants.{SequenceCheck}
 use Rattle.line_rules.specs.declared.types.LineKind.{LineKind}
 use Rattle.solve_command.specs.rounds.declared.plans.Plan.{Plan}
@@ -27,6 +27,7 @@ use Rattle.cycle_command.specs.Found.{IsCycleOutcome}
 use Rattle.mix_commands.specs.Combine.{IsCombineOutcome}
 use Rattle.mix_commands.specs.Utility.{IsUtilityOutcome}
 use Rattle.mix_commands.specs.Timeline.{IsTimelineOutcome}
+use Rattle.mix_commands.specs.TimelineDraw.{IsTimelineDrawOutcome}
 use Rattle.try_command.specs.Tried.{IsTried}
 use Rattle.draw_command.specs.Draw.{IsDrawOutcome}
 use Rattle.effic_command.specs.EfficFound.{IsEfficOutcome}
@@ -59,6 +60,8 @@ IsJobOutcome o (Convert file name to cycle) out = IsConvertOutcome o file name t
 IsJobOutcome o (Combine mix name) out = IsCombineOutcome o mix name out
 IsJobOutcome o (Utility mix cert seq interval length) out = IsUtilityOutcome o mix cert seq interval length out
 IsJobOutcome o (Timeline mix cert seq interval length) out = IsTimelineOutcome o mix cert seq interval length out
+IsJobOutcome o (TimelineDraw mix cert seq name interval length) out =
+    IsTimelineDrawOutcome o mix cert seq name interval length out
 IsJobOutcome o (Try seed tasks cycle line units) out = IsTryOutcome seed tasks cycle (kind_of line) units out
 IsJobOutcome o (Draw file cert name apart) out = IsDrawOutcome o file cert name apart out
 IsJobOutcome o (Effic file least most line helpers units cert) out =
@@ -95,6 +98,7 @@ IsPage (Convert file name to cycle) out = ⊥
 IsPage (Combine mix name) out = ⊥
 IsPage (Utility mix cert seq interval length) out = ⊥
 IsPage (Timeline mix cert seq interval length) out = ⊥
+IsPage (TimelineDraw mix cert seq name interval length) out = ⊥
 IsPage (Try seed tasks cycle line units) out = IsTryOutcome seed tasks cycle (kind_of line) units out
 IsPage (Draw file cert name apart) out = ⊥
 IsPage (Effic file least most line helpers units cert) out = ⊥
@@ -114,6 +118,7 @@ ReadsFiles (Convert file name to cycle) = Unit {0}
 ReadsFiles (Combine mix name) = Unit {0}
 ReadsFiles (Utility mix cert seq interval length) = Unit {0}
 ReadsFiles (Timeline mix cert seq interval length) = Unit {0}
+ReadsFiles (TimelineDraw mix cert seq name interval length) = Unit {0}
 ReadsFiles (Try seed tasks cycle line units) = ⊥
 ReadsFiles (Draw file cert name apart) = Unit {0}
 ReadsFiles (Effic file least most line helpers units cert) = Unit {0}
@@ -156,6 +161,7 @@ out_of (Convert file name to cycle) = Some name
 out_of (Combine mix name) = Some name
 out_of (Utility mix cert seq interval length) = None
 out_of (Timeline mix cert seq interval length) = None
+out_of (TimelineDraw mix cert seq name interval length) = Some name
 out_of (Try seed tasks cycle line units) = None
 out_of (Draw file cert name apart) = Some name
 out_of (Effic file least most line helpers units cert) = cert
@@ -194,6 +200,7 @@ IsJobTrue files (Convert file name to cycle) = Unit {0}
 IsJobTrue files (Combine mix name) = Unit {0}
 IsJobTrue files (Utility mix cert seq interval length) = Unit {0}
 IsJobTrue files (Timeline mix cert seq interval length) = Unit {0}
+IsJobTrue files (TimelineDraw mix cert seq name interval length) = Unit {0}
 IsJobTrue files (Try seed tasks cycle line units) = Unit {0}
 IsJobTrue files (Draw file cert name apart) = Unit {0}
 IsJobTrue files (Effic file least most line helpers units cert) = Unit {0}

@@ -41,6 +41,8 @@ utility MIX CERT SEQ interval=I length=L    utility work of a sequence
     line utility models.csv all.cert day.txt interval=7 length=8
 timeline MIX CERT SEQ interval=I length=L    the same, unit by unit, as CSV
     line timeline models.csv all.cert day.txt interval=7 length=8
+timeline-draw MIX CERT SEQ OUT interval=I length=L    the same as a picture
+    line timeline-draw models.csv all.cert day.txt day.svg interval=7 length=8
 sequence MIX CERT interval=I length=L    the order of least utility work
     units=1..1000000 (1000000)  out=OUT (none)
     line sequence models.csv all.cert interval=7 length=8 out=day.proof

@@ -30,7 +30,7 @@ use effic_command::{effic_check_report, effic_report};
 use input_files::kind_of;
 use line_io::{Shelf, Sink};
 use line_words::{Job, JobRead, Name, job_of};
-use mix_commands::{combine_report, timeline_report, utility_report};
+use mix_commands::{combine_report, timeline_draw_report, timeline_report, utility_report};
 use sequence_command::{sequence_check_report, sequence_report};
 use solve_command::{AlwaysOpen, Gate, Plan, solve_report};
 use std::alloc::Global;
@@ -184,6 +184,23 @@ fn do_job<R: Threads + Wait + Sync, S: Shelf, G: Gate>(
             mix.text(),
             cert.text(),
             seq.text(),
+            *interval,
+            *length,
+            shelf,
+        ),
+        Job::TimelineDraw {
+            mix,
+            cert,
+            seq,
+            out,
+            interval,
+            length,
+        } => timeline_draw_report(
+            alloc,
+            mix.text(),
+            cert.text(),
+            seq.text(),
+            out.text(),
             *interval,
             *length,
             shelf,

@@ -24,6 +24,11 @@ timeline m.csv k.cert one.txt interval=7 length=8|0|station,unit,model,start,wor
 utility m.csv k.cert twice.txt interval=7 length=8|0|station 1 utility 3/total utility 3/
 timeline m.csv k.cert twice.txt interval=7 length=8|0|station,unit,model,start,work,utility/1,1,B,0,9,1/1,2,B,1,9,2/
 timeline m.csv k.cert none.txt interval=7 length=8|0|station,unit,model,start,work,utility/
+timeline-draw m.csv k.cert three.txt one.svg interval=7 length=8|0|written one.svg/
+timeline-draw m.csv k.cert none.txt none.svg interval=7 length=8|0|written none.svg/
+timeline-draw m.csv k.cert other.txt one.svg interval=7 length=8|3|input: other.txt unit 3 unknown model/
+timeline-draw m.csv k.cert three.txt one.svg interval=6 length=8|7|refused: balance overfull 1 19/
+timeline-draw m.csv k.cert three.txt interval=7 length=8|2|usage: word 6 missing name/
 utility m.csv mix-as-u.cert other.txt interval=7 length=8|7|refused: not straight/
 timeline m.csv mix-as-u.cert other.txt interval=7 length=8|7|refused: not straight/
 utility m.csv mix-infeasible.cert other.txt interval=7 length=8|7|refused: no balance/
@@ -43,7 +48,8 @@ combine three.txt k.in2|3|input: three.txt record 1 form/";
 /// The same of more units, and more rows, than there may be.
 const MANY: &str =
     "utility m.csv mix-in-eleven.cert more.txt interval=7 length=8|3|input: more.txt too many units/
-timeline m.csv mix-in-eleven.cert many.txt interval=7 length=8|3|input: many.txt too large/";
+timeline m.csv mix-in-eleven.cert many.txt interval=7 length=8|3|input: many.txt too large/
+timeline-draw m.csv mix-in-eleven.cert many.txt many.svg interval=7 length=8|3|input: many.txt too large/";
 
 /// A run over a mix: a call on the files that fails, the exit code, and what is printed.
 const FAILING: &str = "0 4|read fault: m.csv/

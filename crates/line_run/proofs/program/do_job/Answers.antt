@@ -21,6 +21,7 @@ use Rattle.sequence_command.specs.SequenceCheck.{IsSequenceCheckOutcome}
 use Rattle.mix_commands.specs.Combine.{IsCombineOutcome}
 use Rattle.mix_commands.specs.Utility.{IsUtilityOutcome}
 use Rattle.mix_commands.specs.Timeline.{IsTimelineOutcome}
+use Rattle.mix_commands.specs.TimelineDraw.{IsTimelineDrawOutcome}
 use Rattle.line_run.specs.Run.{planned, IsTryOutcome, IsJobOutcome, IsJobPlain, IsPlainEnd}
 use Rattle.line_run.specs.Headline.{HasPromise}
 use Rattle.line_run.proofs.HeadlineFacts.{reports_so}
@@ -143,6 +144,18 @@ returns-in-Timeline-clause-ends g c = λ t.
     of_job o after c.timeline_report.result _ _ job.is
     (subst₃ E c.text-in-Timeline.ensures c.text-in-Timeline-2.ensures c.text-in-Timeline-3.ensures
     (c.timeline_report.ensures.ends t))
+
+pub returns-in-TimelineDraw-clause-ends : goal.returns-in-TimelineDraw-clause-ends
+returns-in-TimelineDraw-clause-ends g c = λ t.
+    let o : Outside = outside (g.S.Shelf.file c.args.shelf.now) (g.S.Shelf.blames c.timeline_draw_report.new.shelf) in
+    let after : Files = g.S.Shelf.file c.timeline_draw_report.new.shelf in
+    let job = c.in-TimelineDraw in
+    let E : List ℕ → List ℕ → List ℕ → List ℕ → Type 0 = λ m p s n.
+    Ends o (IsTimelineDrawOutcome o m p s n job.interval job.length) after c.timeline_draw_report.result in
+    of_job o after c.timeline_draw_report.result _ _ job.is
+    (subst (E job.mix job.cert job.seq) c.text-in-TimelineDraw-4.ensures (subst₃ (λ (m p s : List ℕ).
+    E m p s c.text-in-TimelineDraw-4.result.now) c.text-in-TimelineDraw.ensures c.text-in-TimelineDraw-2.ensures
+    c.text-in-TimelineDraw-3.ensures (c.timeline_draw_report.ensures.ends t)))
 
 pub returns-in-Cycle-clause-ends : goal.returns-in-Cycle-clause-ends
 returns-in-Cycle-clause-ends g c = λ t.
