@@ -7,7 +7,6 @@ ghost use Rattle.command_outcome.specs.declared.report.Kept.TheVariants.{Nothing
 ghost use Rattle.command_outcome.specs.declared.status.Status.TheVariants as ends;
 ghost use Rattle.input_files.specs.Instance.{cycle_of};
 ghost use Rattle.convert_command.specs.Convert.{IsConvertOutcome, IsTextIn};
-ghost use Rattle.command_outcome.specs.Wrote.{written_line};
 
 use alb_reader::write_alb;
 use cert_files::{Streamed, stream_cert};

@@ -45,7 +45,8 @@ const UPPER: OneLine<BoundLine> = OneLine {
 pub(crate) struct ProductBody;
 
 impl Part for ProductBody {
-    ghost use Rattle.effic_cert.specs.Product.{IsSayable, body_rows};
+    ghost use Rattle.line_rules.specs.Products.{IsSayable};
+    ghost use Rattle.effic_cert.specs.Product.{body_rows};
 
     type Value = EfficCert;
 

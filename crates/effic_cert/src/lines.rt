@@ -73,7 +73,7 @@ pub(crate) struct BoundLine {
 
 impl Pattern for BoundLine {
     ghost use Rattle.cert_lines.specs.Rows.{keyed};
-    ghost use Rattle.effic_cert.specs.Product.{IsProduct};
+    ghost use Rattle.line_rules.specs.Products.{IsProduct};
     ghost use Rattle.effic_cert.specs.inner.Parts.{bound_text};
 
     type Value = u128;

@@ -33,7 +33,8 @@ pub fn read_effic(alloc: Global, bytes: &[u8]) -> EfficRead
 pub struct EfficText;
 
 impl Text for EfficText {
-    ghost use Rattle.effic_cert.specs.Product.{IsSayable, product_rows};
+    ghost use Rattle.line_rules.specs.Products.{IsSayable};
+    ghost use Rattle.effic_cert.specs.Product.{product_rows};
 
     type Value = EfficCert;
 

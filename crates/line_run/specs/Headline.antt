@@ -6,7 +6,8 @@ use Rattle.line_words.specs.Words.{Text}
 use Rattle.line_words.specs.Jobs.{IsJob}
 use Rattle.line_words.specs.declared.job.Job.{Job}
 use Rattle.line_words.specs.declared.job.Job.TheVariants.{Help, Version, Balance, Solve, Cycle, Check, Convert, Combine}
-use Rattle.line_words.specs.declared.job.Job.TheVariants.{Utility, Timeline, TimelineDraw, Try, Draw, Effic, EfficCheck, Sequence}
+use Rattle.line_words.specs.declared.job.Job.TheVariants.{Utility, Timeline, TimelineDraw, Try, Draw, Effic, EfficCheck}
+use Rattle.line_words.specs.declared.job.Job.TheVariants.{Sequence}
 use Rattle.line_words.specs.declared.job.Job.TheVariants.{SequenceCheck}
 use Rattle.command_outcome.specs.Outcome.{Files}
 use Rattle.command_outcome.specs.declared.report.Kept.{Kept}
@@ -36,9 +37,9 @@ IsAnswered status = (status ≡ ends.Done) ⊎ (status ≡ ends.Stopped)
 -- kept, and written where the words name a file, its bounds are the printed ones and true, and they differ only where
 -- the units were spent on loads that it lists; of `cycle` the same of the least cycle time in so many stations. Of
 -- `try`: the same of the line of a seed. Of `check`: where a certificate is accepted, whoever made it, what it claims
--- is true. Of `draw`: the picture that is written is true of the line; of `timeline-draw`: it is true of the timeline that
--- the files say. Of `effic`: the same as of `cycle` of the least
--- product of stations and cycle, which may also stop by the size of its book; of `effic-check` the same as of `check`.
+-- is true. Of `draw`: the picture that is written is true of the line; of `timeline-draw`: it is true of the timeline
+-- that the files say. Of `effic`: the same as of `cycle` of the least product of stations and cycle, which may also
+-- stop by the size of its book; of `effic-check` the same as of `check`.
 -- Of `sequence`: for the mix and the balance that the files say, the sequence that is printed is one of the demands, a
 -- certificate is kept and written as of `solve`, no sequence of the demands has less utility work than its lower bound,
 -- and the bounds differ only where the units were spent; of `sequence-check` the same as of `check`.

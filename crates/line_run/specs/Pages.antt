@@ -8,7 +8,7 @@ version_text = codes "line 0.1.0\n"
 -- how the program is called, and what its balance and its searches at a cycle time or for given stations give
 abbrev pub planning_text : List ℕ
 planning_text =
-    codes "line COMMAND NAMES KEY=VALUE ..    balances of assembly lines, with proof\n\n"
+    codes "line COMMAND NAMES KEY=VALUE ..    balances of assembly lines, with proof\n"
     ++ codes "balance FILE    a balance at once, a bound on its stations, the idle time\n"
     ++ codes "    cycle=C (the file's)  line=straight|u (straight)  apart=PAIRS (none)\n"
     ++ codes "    line balance jackson.in2 cycle=10\n"
@@ -32,8 +32,7 @@ proof_text =
     ++ codes "check FILE CERT    whether a proof holds, and what it shows then\n"
     ++ codes "    steps=1..20000000 (20000000)  apart=PAIRS (none)\n"
     ++ codes "    line check jackson.in2 jackson.cert\n"
-    ++ codes "effic-check FILE CERT    the same of a proof of effic\n"
-    ++ codes "    steps=1..20000000 (20000000)\n"
+    ++ codes "effic-check FILE CERT steps=1..20000000 (20000000)    the same of effic\n"
     ++ codes "    line effic-check jackson.in2 jackson.product\n"
 
 -- what the commands for mixes of models give

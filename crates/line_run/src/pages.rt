@@ -6,7 +6,6 @@ use std::alloc::{AllocError, Global};
 
 /// How the program is called, and what its balance and its searches at a cycle time or for given stations give.
 const PLANNING: &str = "line COMMAND NAMES KEY=VALUE ..    balances of assembly lines, with proof
-
 balance FILE    a balance at once, a bound on its stations, the idle time
     cycle=C (the file's)  line=straight|u (straight)  apart=PAIRS (none)
     line balance jackson.in2 cycle=10
@@ -29,8 +28,7 @@ const PROOFS: &str = "effic FILE least=1..1024 most=1..1024    the least station
 check FILE CERT    whether a proof holds, and what it shows then
     steps=1..20000000 (20000000)  apart=PAIRS (none)
     line check jackson.in2 jackson.cert
-effic-check FILE CERT    the same of a proof of effic
-    steps=1..20000000 (20000000)
+effic-check FILE CERT steps=1..20000000 (20000000)    the same of effic
     line effic-check jackson.in2 jackson.product
 ";
 

@@ -1,3 +1,4 @@
 pub mod Combine
 pub mod Utility
 pub mod Timeline
+pub mod TimelineDraw

@@ -1,5 +1,5 @@
 -- What `solve` promises, fact by fact, where it answers with status 0 or 1.
-use Rattle.std.specs.Prelude.{◌≡◌, ◌⊎◌, ℕ, ◌+◌, ◌*◌, ◌^◌, ◌<◌, ◌≤◌, List, ◌++◌, Option, Some, None, cond, nat_eq}
+use Rattle.std.specs.Prelude.{◌≡◌, ◌⊎◌, ℕ, ◌+◌, ◌*◌, ◌^◌, ◌<◌, ◌≤◌, List, ◌++◌, Option, Some, cond, nat_eq}
 use Rattle.line_instance.specs.Line.{Line, tasks, time}
 use Rattle.line_rules.specs.Accepted.{IsAccepted, IsInfeasible as IsAcceptedInfeasible, IsLeastStations}
 use Rattle.line_rules.specs.Balance.{IsRight, all_tasks}

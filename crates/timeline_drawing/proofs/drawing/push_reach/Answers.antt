@@ -1,0 +1,7 @@
+use Rattle.timeline_drawing.proofs.drawing.push_reach.Goals as goal
+
+pub returns : goal.returns
+returns c =
+    let h = rw (c.panel_x-x.ensures.x, c.panel-panel.ensures, c.position-width.ensures.place)
+    at c.in_ok-write.ensures.bytes in
+    h
