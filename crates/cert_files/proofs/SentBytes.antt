@@ -1,6 +1,6 @@
 -- What putting a byte into a file, by way of a buffer, does.
 use Rattle.std.proofs.Common.{◌≡◌, ℕ, ◌+◌, ◌≤◌, Bool, true, false, not, cond, List, [], ◌∷◌, ◌++◌, length, take, Option}
-use Rattle.std.proofs.Common.{Some, None, refl, sym, ap, ◌∙◌, subst, arith, append_assoc, append-nil}
+use Rattle.std.proofs.Common.{Some, None, refl, sym, ap, ◌∙◌, subst, arith, append_assoc, append-nil, ◌≢◌, ◌⊎◌, inl, inr}
 use Rattle.std.specs.Prelude.{bytes_eq}
 use Rattle.std.proofs.Math.Seq.{take-append-add}
 use Rattle.std.proofs.lemmas.Bool.{false≢true}
@@ -194,3 +194,9 @@ whole_grown (Some old) new piece text there all g = g ∙ ap Some all
 
 pub whole_front : (new : Option (List ℕ)) (text : List ℕ) → new ≡ Some text → (k : ℕ) × (new ≡ Some (take k text))
 whole_front new text e = (length text, e ∙ ap Some (sym (take_all (length text) text (omega arith))))
+
+-- what comes unless a file is missing, where it is there
+pub where_there : (tells A : Type 0) (file : Option (List ℕ)) → (tells → file ≢ None)
+    → A ⊎ (tells × (file ≡ None)) → A
+where_there tells A file there (inl a) = a
+where_there tells A file there (inr b) = absurd (there b.0 b.1)

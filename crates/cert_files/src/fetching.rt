@@ -28,7 +28,7 @@ pub enum CertFrom {
     Fault(CertFault),
     /// The file has more bytes than the limit.
     TooLong,
-    /// A fetch failed, and the shelf's faults rose.
+    /// A fetch failed, and the count of failed fetches rose.
     ReadFault,
     /// Out of memory.
     NoMemory,
@@ -38,8 +38,9 @@ pub enum CertFrom {
 /// it reads on to the end: a longer file is TooLong whatever its text is. A line of more than 2^28 bytes is answered as
 /// out of memory. The files stay.
 pub fn cert_from<S: Shelf>(alloc: Global, shelf: &mut S, name: &str, limit: u64) -> CertFrom
-    ensures count { S.faults shelf.old ≤ S.faults shelf.new }
-    ensures fault { result ≡ ReadFault → Rises (S.faults shelf.old) (S.faults shelf.new) }
+    ensures count { S.fetch_faults shelf.old ≤ S.fetch_faults shelf.new }
+    ensures writes { S.write_faults shelf.new ≡ S.write_faults shelf.old }
+    ensures fault { result ≡ ReadFault → Rises (S.fetch_faults shelf.old) (S.fetch_faults shelf.new) }
     ensures blame { S.tells → result ≡ ReadFault → S.blames shelf.new name.now ≡ true }
     ensures read { S.tells → IsCertFrom (S.file shelf.old name.now) limit result }
     ensures none { S.tells → (fault : CertFault) → result ≡ Fault fault → (cert : Certificate) → IsInRange cert

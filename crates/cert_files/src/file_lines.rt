@@ -40,8 +40,9 @@ fn next_line<S: Shelf>(
 ) -> Next
     requires within { at.old ≤ limit }
     requires none { line.old.items ≡ [] }
-    ensures count { S.faults shelf.old ≤ S.faults shelf.new }
-    ensures fault { result ≡ Next.Failed → Rises (S.faults shelf.old) (S.faults shelf.new) }
+    ensures count { S.fetch_faults shelf.old ≤ S.fetch_faults shelf.new }
+    ensures writes { S.write_faults shelf.new ≡ S.write_faults shelf.old }
+    ensures fault { result ≡ Next.Failed → Rises (S.fetch_faults shelf.old) (S.fetch_faults shelf.new) }
     ensures blame { S.tells → result ≡ Next.Failed → S.blames shelf.new name.now ≡ true }
     ensures files { S.tells → (q : List ℕ) → S.file shelf.new q ≡ S.file shelf.old q }
     ensures within { at.new ≤ limit }
@@ -84,11 +85,12 @@ impl<'a, 'b, S: Shelf> Source for FileLines<'a, 'b, S> {
 
     ghost Base = { Reading S.tells };
 
-    ghost base = { λ s. (s.shelf.ghost_name, s.name.now, s.limit, λ told. S.file s.shelf.now) };
+    ghost base = { λ s. (s.shelf.ghost_name, s.name.now, s.limit, S.write_faults s.shelf.now,
+        λ told. S.file s.shelf.now) };
 
-    ghost faults = { λ s. S.faults s.shelf.now };
+    ghost faults = { λ s. S.fetch_faults s.shelf.now };
 
-    ghost least = { λ s. least_of s.stop (S.faults s.shelf.now) };
+    ghost least = { λ s. least_of s.stop (S.fetch_faults s.shelf.now) };
 
     fn advance(&mut self) -> Taken {
         if self.stop != Stop::Going || self.number == u64::MAX {
@@ -144,8 +146,9 @@ pub(crate) fn read_on<S: Shelf>(
     mut window: Window,
 ) -> Rest
     requires { from ≤ limit }
-    ensures count { S.faults shelf.old ≤ S.faults shelf.new }
-    ensures fault { result ≡ Rest.Failed → Rises (S.faults shelf.old) (S.faults shelf.new) }
+    ensures count { S.fetch_faults shelf.old ≤ S.fetch_faults shelf.new }
+    ensures writes { S.write_faults shelf.new ≡ S.write_faults shelf.old }
+    ensures fault { result ≡ Rest.Failed → Rises (S.fetch_faults shelf.old) (S.fetch_faults shelf.new) }
     ensures blame { S.tells → result ≡ Rest.Failed → S.blames shelf.new name.now ≡ true }
     ensures files { S.tells → (q : List ℕ) → S.file shelf.new q ≡ S.file shelf.old q }
     ensures nothing { S.tells → result ≡ Rest.Nothing → slice_range window.piece.items window.from window.to

@@ -1,5 +1,5 @@
 //! A text that is put into a file piece by piece.
-ghost use Rattle.std.specs.Prelude.{◌≡◌, ◌≤◌, true, vec_len, vec_capacity};
+ghost use Rattle.std.specs.Prelude.{◌≡◌, ◌≢◌, ◌≤◌, true, None, vec_len, vec_capacity};
 
 use cert_text::Output;
 use line_io::{PIECE, Shelf, Stored};
@@ -15,6 +15,7 @@ pub(crate) struct FileText<'a, 'b, S: Shelf> {
     ghost room: { 65536 ≤ vec_capacity buffer },
     ghost full: { vec_len buffer ≤ 65536 },
     ghost blame: { S.tells → failed ≡ true → S.blames shelf.now name.now ≡ true },
+    ghost there: { S.tells → S.file shelf.now name.now ≢ None },
 }
 
 impl<'a, 'b, S: Shelf> Output for FileText<'a, 'b, S> {
@@ -25,7 +26,7 @@ impl<'a, 'b, S: Shelf> Output for FileText<'a, 'b, S> {
     ghost Base = { Staying S.tells };
 
     ghost sent = { λ s. sent_into S.tells s.failed s.buffer.items s.shelf.ghost_name s.name.now (S.file s.shelf.now)
-        (S.faults s.shelf.now) };
+        (S.write_faults s.shelf.now) };
 
     #[inline]
     fn put(&mut self, byte: u8) {

@@ -17,7 +17,7 @@ use std::alloc::Global;
 pub enum Streamed {
     /// The file has the certificate's text.
     Done,
-    /// A call failed, and the shelf's faults rose: the file is as before, or has a prefix of the text.
+    /// A write failed, and the count of failed writes rose: the file is as before, or has a prefix of the text.
     WriteFault,
     /// Out of memory: nothing was called.
     NoMemory,
@@ -32,8 +32,8 @@ pub fn stream_cert<S: Shelf>(
     cert: &Certificate,
 ) -> Streamed
     requires { IsInRange cert.now }
-    ensures count { S.faults shelf.old ≤ S.faults shelf.new }
-    ensures fault { result ≡ WriteFault → Rises (S.faults shelf.old) (S.faults shelf.new) }
+    ensures count { S.write_faults shelf.old ≤ S.write_faults shelf.new }
+    ensures fault { result ≡ WriteFault → Rises (S.write_faults shelf.old) (S.write_faults shelf.new) }
     ensures blame { S.tells → result ≡ WriteFault → S.blames shelf.new name.now ≡ true }
     ensures done { S.tells → result ≡ Done → S.file shelf.new name.now ≡ Some (cert_text cert.now) }
     ensures prefix { S.tells → IsPrefixWritten (S.file shelf.old name.now) (cert_text cert.now)
@@ -55,8 +55,9 @@ fn fill<S: Shelf>(shelf: &mut S, name: &str, cert: &Certificate, buffer: Vec<u8>
     requires few { cert.now.tasks ≤ 1024 }
     requires room { 65536 ≤ vec_capacity buffer }
     requires none { buffer.items ≡ [] }
-    ensures count { S.faults shelf.old ≤ S.faults shelf.new }
-    ensures fault { result ≡ WriteFault → Rises (S.faults shelf.old) (S.faults shelf.new) }
+    requires there { S.tells → S.file shelf.old name.now ≡ Some [] }
+    ensures count { S.write_faults shelf.old ≤ S.write_faults shelf.new }
+    ensures fault { result ≡ WriteFault → Rises (S.write_faults shelf.old) (S.write_faults shelf.new) }
     ensures blame { S.tells → result ≡ WriteFault → S.blames shelf.new name.now ≡ true }
     ensures done { S.tells → S.file shelf.old name.now ≡ Some [] → result ≡ Done
         → S.file shelf.new name.now ≡ Some (cert_text cert.now) }

@@ -67,8 +67,9 @@ impl Window {
         limit: u64,
     ) -> Refill
         requires { at ≤ limit }
-        ensures count { S.faults shelf.old ≤ S.faults shelf.new }
-        ensures fault { result ≡ Refill.Failed → Rises (S.faults shelf.old) (S.faults shelf.new) }
+        ensures count { S.fetch_faults shelf.old ≤ S.fetch_faults shelf.new }
+        ensures writes { S.write_faults shelf.new ≡ S.write_faults shelf.old }
+        ensures fault { result ≡ Refill.Failed → Rises (S.fetch_faults shelf.old) (S.fetch_faults shelf.new) }
         ensures blame { S.tells → result ≡ Refill.Failed → S.blames shelf.new name.now ≡ true }
         ensures files { S.tells → (q : List ℕ) → S.file shelf.new q ≡ S.file shelf.old q }
         ensures within { result ≡ Refill.More → at + length (slice_range self.new.piece.items self.new.from self.new.to)

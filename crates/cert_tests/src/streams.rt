@@ -1,6 +1,6 @@
 //! What no clause says: that texts are written and read where there is memory and no call fails, and how many calls are
 //! made.
-ghost use Rattle.std.specs.Prelude.{◌<◌, ℕ, IsTrue};
+ghost use Rattle.std.specs.Prelude.{◌≡◌, ◌<◌, ◌≤◌, ◌+◌, ◌-◌, ◌^◌, ℕ, min, IsTrue};
 ghost use Rattle.std.specs.List.{Contains};
 ghost use Rattle.line_rules.specs.Entries.{HasAnswer};
 ghost use Rattle.entry_lists.specs.Trim.{cited_by, CitesEarlier};
@@ -184,10 +184,23 @@ fn a_long_text_is_written_in_pieces(rt: HostRuntime) -> Result<(), Fail> {
     Ok(())
 }
 
-/// A shelf that gives the bytes of its files one at a time.
+/// A shelf that gives the bytes of its files one at a time, and refuses each write.
 #[derive(Drop)]
 struct Drops<S: Shelf> {
     shelf: S,
+    refused: u64,
+}
+
+impl<S: Shelf> Drops<S> {
+    /// Refuses a write.
+    fn refuse(&mut self) -> Stored
+        ensures refused { self.new.refused ≡ min (self.old.refused + 1) (2 ^ 64 - 1) }
+        ensures count { self.old.refused ≤ self.new.refused }
+        ensures shelf { self.new.shelf ≡ self.old.shelf }
+    {
+        self.refused = self.refused.saturating_add(1);
+        Stored::Failed
+    }
 }
 
 impl<S: Shelf> Shelf for Drops<S> {
@@ -197,7 +210,9 @@ impl<S: Shelf> Shelf for Drops<S> {
 
     ghost file = { λ _ _. None };
 
-    ghost faults = { λ s. S.faults s.shelf };
+    ghost fetch_faults = { λ s. S.fetch_faults s.shelf };
+
+    ghost write_faults = { λ s. s.refused };
 
     ghost blames = { λ _ _. false };
 
@@ -208,12 +223,12 @@ impl<S: Shelf> Shelf for Drops<S> {
         self.shelf.fetch(name, at, &mut piece[..n])
     }
 
-    fn fresh(&mut self, name: &str) -> Stored {
-        self.shelf.fresh(name)
+    fn fresh(&mut self, _name: &str) -> Stored {
+        self.refuse()
     }
 
-    fn append(&mut self, name: &str, bytes: &[u8]) -> Stored {
-        self.shelf.append(name, bytes)
+    fn append(&mut self, _name: &str, _bytes: &[u8]) -> Stored {
+        self.refuse()
     }
 }
 
@@ -242,7 +257,7 @@ fn read_twice(alloc: Global, text: &[u8]) -> Result<(String, String), Fail> {
 /// What reading a text gives, one byte a fetch.
 fn read_in_drops(alloc: Global, text: &[u8]) -> Result<String, Fail> {
     let shelf = shelf_of(alloc, text, 9999)?;
-    let mut drops = Drops { shelf };
+    let mut drops = Drops { shelf, refused: 0 };
     let answer = cert_from(alloc, &mut drops, "f", 1000);
     Ok(told(alloc, answer)?)
 }

@@ -102,8 +102,8 @@ MayStop R stop.Unwritten = ⊥
 abbrev pub outside : Files → (List ℕ → Bool) → Outside
 outside files blames = record { files = files; blames = blames }
 
--- the same of a command that writes a file: it couldn't be written only where R
-abbrev pub MayEnd : Type 0 → Stop → Type 0
-MayEnd R (stop.Report r) = IsRefusal R r
-MayEnd R stop.Memory = Unit {0}
-MayEnd R stop.Unwritten = R
+-- the same of a command that writes a file: it couldn't be written only where W
+abbrev pub MayEnd : Type 0 → Type 0 → Stop → Type 0
+MayEnd R W (stop.Report r) = IsRefusal R r
+MayEnd R W stop.Memory = Unit {0}
+MayEnd R W stop.Unwritten = W

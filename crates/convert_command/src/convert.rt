@@ -60,7 +60,8 @@ fn convert_line<S: Shelf>(
         (S.file shelf.new) result }
     ensures good { IfOk result (λ r. r.status ≡ ends.Done) }
     ensures kept { IfOk result (λ r. r.kept ≡ Nothing) }
-    ensures fault { MatchResult result (λ _. Unit {0}) (MayEnd (Rises (S.faults shelf.old) (S.faults shelf.new))) }
+    ensures fault { MatchResult result (λ _. Unit {0}) (MayEnd (Rises (S.fetch_faults shelf.old) (S.fetch_faults shelf.new))
+        (Rises (S.write_faults shelf.old) (S.write_faults shelf.new))) }
 {
     let sheet = sheet_of(alloc, file, shelf)?;
     let bytes = text_in(alloc, &sheet.inst, to, cycle_of(word, sheet.cycle))?;
@@ -81,7 +82,8 @@ fn convert_cert<S: Shelf>(
         (S.file shelf.new) result }
     ensures good { IfOk result (λ r. r.status ≡ ends.Done) }
     ensures kept { IfOk result (λ r. r.kept ≡ Nothing) }
-    ensures fault { MatchResult result (λ _. Unit {0}) (MayEnd (Rises (S.faults shelf.old) (S.faults shelf.new))) }
+    ensures fault { MatchResult result (λ _. Unit {0}) (MayEnd (Rises (S.fetch_faults shelf.old) (S.fetch_faults shelf.new))
+        (Rises (S.write_faults shelf.old) (S.write_faults shelf.new))) }
 {
     let cert = certificate_of(alloc, file, shelf)?;
     let report = written(alloc, name)?;
@@ -107,7 +109,8 @@ pub fn convert_report<S: Shelf>(
         (S.file shelf.new) result }
     ensures good { IfOk result (λ r. r.status ≡ ends.Done) }
     ensures kept { IfOk result (λ r. r.kept ≡ Nothing) }
-    ensures fault { MatchResult result (λ _. Unit {0}) (MayEnd (Rises (S.faults shelf.old) (S.faults shelf.new))) }
+    ensures fault { MatchResult result (λ _. Unit {0}) (MayEnd (Rises (S.fetch_faults shelf.old) (S.fetch_faults shelf.new))
+        (Rises (S.write_faults shelf.old) (S.write_faults shelf.new))) }
 {
     match to {
         FormWord::Cert => convert_cert(alloc, file, name, word, shelf),

@@ -143,8 +143,9 @@ fn written<S: Shelf>(
     ensures same { IfOk result (λ r. r ≡ report) }
     ensures certificate { S.tells → IfOk result (λ r. (cert : Proof) → r.kept ≡ Certified cert
         → HasCertificate (Some name.now) (S.file shelf.new) cert) }
-    ensures fault { MatchResult result (λ _. Unit {0}) (MayEnd (Rises (S.faults shelf.old) (S.faults shelf.new))) }
-    ensures count { S.faults shelf.old ≤ S.faults shelf.new }
+    ensures fault { MatchResult result (λ _. Unit {0}) (MayEnd (Rises (S.fetch_faults shelf.old) (S.fetch_faults shelf.new))
+        (Rises (S.write_faults shelf.old) (S.write_faults shelf.new))) }
+    ensures count { S.write_faults shelf.old ≤ S.write_faults shelf.new }
 {
     let Kept::Product(cert) = &report.kept else {
         return Ok(report);
@@ -180,7 +181,8 @@ pub fn effic_report<R: Threads + Wait + Sync, S: Shelf, G: Gate>(
         (option_map (λ a. a.now) name.entry))
         (S.file shelf.new) result) }
     ensures good { IfOk result (λ r. IsSolveStatus r.status) }
-    ensures fault { MatchResult result (λ _. Unit {0}) (MayEnd (Rises (S.faults shelf.old) (S.faults shelf.new))) }
+    ensures fault { MatchResult result (λ _. Unit {0}) (MayEnd (Rises (S.fetch_faults shelf.old) (S.fetch_faults shelf.new))
+        (Rises (S.write_faults shelf.old) (S.write_faults shelf.new))) }
     ensures unwritten { result ≡ Err Unwritten → (n : List ℕ) × (option_map (λ a. a.now) name.entry ≡ Some n) }
     ensures promise { S.tells → IfOk result (λ r.
         IsEfficPromised (S.file shelf.old) (S.file shelf.new) file.now kind least_m most_m plan.now.helpers

@@ -133,8 +133,9 @@ pub fn sheet_of<S: Shelf>(alloc: Global, file: &str, shelf: &mut S) -> Result<Sh
     ensures said { S.tells → MatchResult result (λ s. IsInstance (S.file shelf.old) file.now s.inst s.cycle)
         (Stops (IsNoInstance (outside (S.file shelf.old) (S.blames shelf.new)) file.now)) }
     ensures limit { IfOk result (λ s. IsSetBetween 1 1000000000000000000 s.cycle) }
-    ensures fault { MatchResult result (λ _. Unit {0}) (MayStop (Rises (S.faults shelf.old) (S.faults shelf.new))) }
-    ensures count { S.faults shelf.old ≤ S.faults shelf.new }
+    ensures fault { MatchResult result (λ _. Unit {0}) (MayStop (Rises (S.fetch_faults shelf.old) (S.fetch_faults shelf.new))) }
+    ensures count { S.fetch_faults shelf.old ≤ S.fetch_faults shelf.new }
+    ensures writes { S.write_faults shelf.new ≡ S.write_faults shelf.old }
     ensures files { S.tells → (q : List ℕ) → S.file shelf.new q ≡ S.file shelf.old q }
 {
     let bytes = fetch(alloc, file, shelf)?;
@@ -172,8 +173,9 @@ fn timed_of<S: Shelf>(
     ensures said { S.tells → MatchResult result (λ t. IsTimed (S.file shelf.old) file.now word t.inst t.cycle)
         (Stops (IsUntimedOrNone (outside (S.file shelf.old) (S.blames shelf.new)) file.now word)) }
     ensures limit { IfOk result (λ t. IsBetween 1 1000000000000000000 t.cycle) }
-    ensures fault { MatchResult result (λ _. Unit {0}) (MayStop (Rises (S.faults shelf.old) (S.faults shelf.new))) }
-    ensures count { S.faults shelf.old ≤ S.faults shelf.new }
+    ensures fault { MatchResult result (λ _. Unit {0}) (MayStop (Rises (S.fetch_faults shelf.old) (S.fetch_faults shelf.new))) }
+    ensures count { S.fetch_faults shelf.old ≤ S.fetch_faults shelf.new }
+    ensures writes { S.write_faults shelf.new ≡ S.write_faults shelf.old }
     ensures files { S.tells → (q : List ℕ) → S.file shelf.new q ≡ S.file shelf.old q }
 {
     let sheet = sheet_of(alloc, file, shelf)?;
@@ -194,8 +196,9 @@ fn part<S: Shelf>(
     ensures said { S.tells → MatchResult result (IsPartedBy (S.file shelf.old) (option_map (λ a. a.now) apart.entry)
         inst) (Stops (IsUnparted (outside (S.file shelf.old) (S.blames shelf.new)) (option_map (λ a. a.now) apart.entry)
         inst)) }
-    ensures fault { MatchResult result (λ _. Unit {0}) (MayStop (Rises (S.faults shelf.old) (S.faults shelf.new))) }
-    ensures count { S.faults shelf.old ≤ S.faults shelf.new }
+    ensures fault { MatchResult result (λ _. Unit {0}) (MayStop (Rises (S.fetch_faults shelf.old) (S.fetch_faults shelf.new))) }
+    ensures count { S.fetch_faults shelf.old ≤ S.fetch_faults shelf.new }
+    ensures writes { S.write_faults shelf.new ≡ S.write_faults shelf.old }
     ensures files { S.tells → (q : List ℕ) → S.file shelf.new q ≡ S.file shelf.old q }
 {
     let Some(apart) = apart else {
@@ -221,8 +224,9 @@ pub fn said_instance<S: Shelf>(
         (Stops (IsUnsaid (outside (S.file shelf.old) (S.blames shelf.new)) file.now
         (option_map (λ a. a.now) apart.entry) word)) }
     ensures limit { IfOk result (λ t. IsBetween 1 1000000000000000000 t.cycle) }
-    ensures fault { MatchResult result (λ _. Unit {0}) (MayStop (Rises (S.faults shelf.old) (S.faults shelf.new))) }
-    ensures count { S.faults shelf.old ≤ S.faults shelf.new }
+    ensures fault { MatchResult result (λ _. Unit {0}) (MayStop (Rises (S.fetch_faults shelf.old) (S.fetch_faults shelf.new))) }
+    ensures count { S.fetch_faults shelf.old ≤ S.fetch_faults shelf.new }
+    ensures writes { S.write_faults shelf.new ≡ S.write_faults shelf.old }
     ensures files { S.tells → (q : List ℕ) → S.file shelf.new q ≡ S.file shelf.old q }
 {
     let Timed { inst, cycle } = timed_of(alloc, file, word, shelf)?;
@@ -240,8 +244,9 @@ pub fn line_of<S: Shelf>(
     ensures said { S.tells → MatchResult result (IsLineOf (S.file shelf.old) file.now
         (option_map (λ a. a.now) apart.entry)) (Stops (IsNoLine (outside (S.file shelf.old) (S.blames shelf.new))
         file.now (option_map (λ a. a.now) apart.entry))) }
-    ensures fault { MatchResult result (λ _. Unit {0}) (MayStop (Rises (S.faults shelf.old) (S.faults shelf.new))) }
-    ensures count { S.faults shelf.old ≤ S.faults shelf.new }
+    ensures fault { MatchResult result (λ _. Unit {0}) (MayStop (Rises (S.fetch_faults shelf.old) (S.fetch_faults shelf.new))) }
+    ensures count { S.fetch_faults shelf.old ≤ S.fetch_faults shelf.new }
+    ensures writes { S.write_faults shelf.new ≡ S.write_faults shelf.old }
     ensures files { S.tells → (q : List ℕ) → S.file shelf.new q ≡ S.file shelf.old q }
 {
     let sheet = sheet_of(alloc, file, shelf)?;

@@ -69,7 +69,10 @@ place fs q k c h b e =
       within = h;
       name = named;
       blame = alike (name_at fs k) q (named nameless);
+      alone = λ r m. sym ((bytes_eq-Decides (name_at fs k) r).0 m) ∙ named nameless;
       kept = λ f i. alike (name_at (set fs k f) k) q (ap (λ g. g.name) (set_there fs k f nameless h) ∙ i);
+      kept_alone = λ f i r m. sym ((bytes_eq-Decides (name_at (set fs k f) k) r).0 m)
+          ∙ ap (λ g. g.name) (set_there fs k f nameless h) ∙ i;
       read = λ d. read_at fs q k d h b (named d);
       written = λ f i. written_at fs q k f h b i;
       others = λ f i r n. others_at fs q k f c h e i r n;

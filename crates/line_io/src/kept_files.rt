@@ -67,6 +67,7 @@ pub fn extend(files: &mut [MemFile], name: &[u8], k: usize, bytes: &[u8]) -> Res
     ensures done { OnOk result (GrowsWhole (file_in files.old name.now) bytes.now (file_in files.new name.now)) }
     ensures same { OnErr result (file_in files.new name.now ≡ file_in files.old name.now) }
     ensures blame { blames files.new (File k) name.now ≡ true }
+    ensures alone { (q : List ℕ) → blames files.new (File k) q ≡ true → q ≡ name.now }
     ensures grows { Grows (file_in files.old name.now) bytes.now (file_in files.new name.now) }
     ensures others { (q : List ℕ) → q ≢ name.now → file_in files.new q ≡ file_in files.old q }
 {
@@ -88,6 +89,7 @@ pub fn extend_by_prefix(
         (file_in files.new name.now)) }
     ensures same { OnErr result (file_in files.new name.now ≡ file_in files.old name.now) }
     ensures blame { blames files.new (File k) name.now ≡ true }
+    ensures alone { (q : List ℕ) → blames files.new (File k) q ≡ true → q ≡ name.now }
     ensures grows { Grows (file_in files.old name.now) bytes.now (file_in files.new name.now) }
     ensures others { (q : List ℕ) → q ≢ name.now → file_in files.new q ≡ file_in files.old q }
 {

@@ -1,11 +1,11 @@
 //! Files in memory, which tell what they hold, and fail at chosen calls. Each call looks for its file by name from the
 //! first one on: they are for the tests, which have few.
-ghost use Rattle.std.specs.Prelude.{◌≡◌, ◌≢◌, ◌≤◌, ◌-◌, ℕ, true, Some, None, IsSome, length, min, take, List, []};
+ghost use Rattle.std.specs.Prelude.{◌≡◌, ◌≢◌, ◌≤◌, ◌-◌, ◌⊎◌, ℕ, true, Some, None, IsSome, length, min, take, List, []};
 ghost use Rattle.std.specs.Prelude.{option_map, OnOk, OnErr};
-ghost use Rattle.line_io.specs.Outside.{up, Copies, Fetches, Gives, Grows, GrowsWhole};
+ghost use Rattle.line_io.specs.Outside.{up, Rises, BlamesAlone, Copies, Fetches, Gives, Grows, GrowsWhole};
 ghost use Rattle.line_io.specs.inner.Places.{IsPlace};
 ghost use Rattle.line_io.specs.Kept.{file_in, fetched, given_after, unused, counted, failed, IsToFail, blames};
-ghost use Rattle.line_io.specs.Kept.{next_keep, torn, after_fetch, after_write, KeepsTorn};
+ghost use Rattle.line_io.specs.Kept.{next_keep, torn, after_fetch, after_write, after_append, KeepsTorn};
 ghost use Rattle.line_io.specs.declared.kept_files.Blame.TheVariants.{Nothing, File};
 ghost use Rattle.line_io.specs.declared.outside.Fetched.TheVariants.{Failed as FetchFailed};
 ghost use Rattle.line_io.specs.declared.outside.Stored.TheVariants.{Failed, Done};
@@ -26,6 +26,7 @@ pub struct MemShelf {
     files: Vec<MemFile>,
     blame: Blame,
     calls: Calls,
+    unfetched: u64,
     given: u64,
 }
 
@@ -34,19 +35,32 @@ impl Model for MemShelf {
 
     ghost Value = { Kept };
 
-    ghost view = { λ s. record { files = s.files.items; blame = s.blame; calls = s.calls; given = s.given } };
+    ghost view = { λ s. record {
+      files = s.files.items;
+      blame = s.blame;
+      calls = s.calls;
+      unfetched = s.unfetched;
+      given = s.given;
+    } };
 }
 
 impl MemShelf {
     /// No files. The calls of these numbers, from 0, fail. It takes no memory itself.
     pub fn new(alloc: Global, fails: Vec<u64>) -> MemShelf
-        ensures { result ≡ record { files = []; blame = Nothing; calls = unused fails.items; given = 0 } }
+        ensures { result ≡ record {
+          files = [];
+          blame = Nothing;
+          calls = unused fails.items;
+          unfetched = 0;
+          given = 0;
+        } }
     {
         MemShelf {
             alloc,
             files: Vec::new(alloc),
             blame: Blame::Nothing,
             calls: Calls::new(alloc, fails),
+            unfetched: 0,
             given: 0,
         }
     }
@@ -86,19 +100,48 @@ impl MemShelf {
         self.calls.tear(call, keep)
     }
 
-    // One more fault, of a call on the file of this name.
+    // A call on the file of this name failed.
     fn fail_on(&mut self, name: &str)
-        ensures files { self.new.files ≡ self.old.files }
+        ensures same { self.new ≡ record self.old { blame = self.new.blame } }
         ensures blame { blames self.new.files self.new.blame name.now ≡ true }
-        ensures given { self.new.given ≡ self.old.given }
-        ensures calls { self.new.calls ≡ record self.old.calls { faults = up self.old.calls.faults } }
-        ensures count { self.old.calls.faults ≤ self.new.calls.faults }
+        ensures alone { BlamesAlone (file_in self.new.files) name.now (blames self.new.files self.new.blame) }
     {
         self.blame = match place_of(&self.files, name.as_bytes()) {
             Some(k) => Blame::File(k),
             None => Blame::Missing,
         };
+    }
+
+    // The same of a fetch, which is counted.
+    fn fail_fetch(&mut self, name: &str) -> Fetched
+        ensures result { result ≡ FetchFailed }
+        ensures files { self.new.files ≡ self.old.files }
+        ensures calls { self.new.calls ≡ self.old.calls }
+        ensures given { self.new.given ≡ self.old.given }
+        ensures unfetched { self.new.unfetched ≡ up self.old.unfetched }
+        ensures count { self.old.unfetched ≤ self.new.unfetched }
+        ensures blame { blames self.new.files self.new.blame name.now ≡ true }
+        ensures alone { BlamesAlone (file_in self.new.files) name.now (blames self.new.files self.new.blame) }
+    {
+        self.unfetched = self.unfetched.saturating_add(1);
+        self.fail_on(name);
+        Fetched::Failed
+    }
+
+    // The same of a write, which is counted.
+    fn fail_write(&mut self, name: &str) -> Stored
+        ensures result { result ≡ Failed }
+        ensures files { self.new.files ≡ self.old.files }
+        ensures calls { self.new.calls ≡ failed self.old.calls }
+        ensures given { self.new.given ≡ self.old.given }
+        ensures unfetched { self.new.unfetched ≡ self.old.unfetched }
+        ensures blame { blames self.new.files self.new.blame name.now ≡ true }
+        ensures alone { BlamesAlone (file_in self.new.files) name.now (blames self.new.files self.new.blame) }
+        ensures count { self.old.calls.faults ≤ self.new.calls.faults }
+    {
         self.calls.fail();
+        self.fail_on(name);
+        Stored::Failed
     }
 }
 
@@ -117,6 +160,7 @@ fn extend_torn(
     ensures grows { Grows (file_in files.old name.now) bytes.now (file_in files.new name.now) }
     ensures others { (q : List ℕ) → q ≢ name.now → file_in files.new q ≡ file_in files.old q }
     ensures blame { blames files.new (File k) name.now ≡ true }
+    ensures alone { BlamesAlone (file_in files.new) name.now (blames files.new (File k)) }
     ensures count { calls.old.faults ≤ calls.new.faults }
     ensures fault { up calls.old.faults ≤ calls.new.faults }
 {
@@ -148,7 +192,9 @@ impl Shelf for MemShelf {
 
     ghost file = { λ s. file_in s.files };
 
-    ghost faults = { λ s. s.calls.faults };
+    ghost fetch_faults = { λ s. s.unfetched };
+
+    ghost write_faults = { λ s. s.calls.faults };
 
     ghost blames = { λ s. blames s.files s.blame };
 
@@ -157,19 +203,21 @@ impl Shelf for MemShelf {
     /// Fails exactly where the call is one of those that fail or the name is missing.
     /// Otherwise it gives as many bytes as are left and fit into the piece.
     fn fetch(&mut self, name: &str, at: u64, piece: &mut [u8]) -> Fetched
-        ensures count { self.old.calls.faults ≤ self.new.calls.faults }
+        ensures count { self.old.unfetched ≤ self.new.unfetched }
         ensures blame { result ≡ FetchFailed → blames self.new.files self.new.blame name.now ≡ true }
+        ensures alone { result ≡ FetchFailed
+            → BlamesAlone (file_in self.new.files) name.now (blames self.new.files self.new.blame) }
         ensures given { self.new.given ≡ given_after self.old.given result }
         ensures got { Fetches (file_in self.old.files name.now) at piece.new result }
         ensures fails { IsToFail self.old.calls → result ≡ FetchFailed }
         ensures works { ¬ IsToFail self.old.calls → result ≡ fetched (file_in self.old.files name.now) at
             (length piece.old) }
         ensures files { self.new.files ≡ self.old.files }
-        ensures calls { self.new.calls ≡ after_fetch self.old.calls result }
+        ensures calls { self.new.calls ≡ counted self.old.calls }
+        ensures unfetched { self.new.unfetched ≡ after_fetch self.old.unfetched result }
     {
         if self.calls.begin().is_some() {
-            self.fail_on(name);
-            return Fetched::Failed;
+            return self.fail_fetch(name);
         }
         match bytes_of(&self.files, name.as_bytes()) {
             Some(bytes) => {
@@ -177,10 +225,7 @@ impl Shelf for MemShelf {
                 self.given = self.given.saturating_add(n as u64);
                 Fetched::Got(n)
             }
-            None => {
-                self.fail_on(name);
-                Fetched::Failed
-            }
+            None => self.fail_fetch(name),
         }
     }
 
@@ -188,7 +233,10 @@ impl Shelf for MemShelf {
     /// changes no file then.
     fn fresh(&mut self, name: &str) -> Stored
         ensures count { self.old.calls.faults ≤ self.new.calls.faults }
+        ensures fetches { self.new.unfetched ≡ self.old.unfetched }
         ensures blame { result ≡ Failed → blames self.new.files self.new.blame name.now ≡ true }
+        ensures alone { result ≡ Failed
+            → BlamesAlone (file_in self.new.files) name.now (blames self.new.files self.new.blame) }
         ensures fails { IsToFail self.old.calls → result ≡ Failed }
         ensures works { ¬ IsToFail self.old.calls → IsSome (file_in self.old.files name.now) → result ≡ Done }
         ensures done { result ≡ Done → file_in self.new.files name.now ≡ Some [] }
@@ -197,8 +245,7 @@ impl Shelf for MemShelf {
         ensures calls { self.new.calls ≡ after_write self.old.calls result }
     {
         if self.calls.begin().is_some() {
-            self.fail_on(name);
-            return Stored::Failed;
+            return self.fail_write(name);
         }
         let empty = Vec::new(self.alloc);
         match place_of(&self.files, name.as_bytes()) {
@@ -208,19 +255,23 @@ impl Shelf for MemShelf {
             }
             None => match add(self.alloc, &mut self.files, name.as_bytes(), empty) {
                 Ok(()) => Stored::Done,
-                Err(_) => {
-                    self.fail_on(name);
-                    Stored::Failed
-                }
+                Err(_) => self.fail_write(name),
             },
         }
     }
 
     /// Fails where the call is one of those that fail, the name is missing, or the file finds no memory. A torn call
     /// keeps as many bytes as its tear says; where memory refuses them it keeps none, and a second fault is counted.
+    /// Where the name is missing no fault is counted.
     fn append(&mut self, name: &str, bytes: &[u8]) -> Stored
         ensures count { self.old.calls.faults ≤ self.new.calls.faults }
+        ensures fault { result ≡ Failed → Rises self.old.calls.faults self.new.calls.faults
+            ⊎ (Unit {0} × (file_in self.old.files name.now ≡ None)) }
+        ensures lost { file_in self.old.files name.now ≡ None → self.new.calls.faults ≡ self.old.calls.faults }
+        ensures fetches { self.new.unfetched ≡ self.old.unfetched }
         ensures blame { result ≡ Failed → blames self.new.files self.new.blame name.now ≡ true }
+        ensures alone { result ≡ Failed
+            → BlamesAlone (file_in self.new.files) name.now (blames self.new.files self.new.blame) }
         ensures fails { IsToFail self.old.calls → result ≡ Failed }
         ensures missing { file_in self.old.files name.now ≡ None → result ≡ Failed }
         ensures done { result ≡ Done → GrowsWhole (file_in self.old.files name.now) bytes.now
@@ -233,12 +284,12 @@ impl Shelf for MemShelf {
             (take (next_keep self.old.calls) bytes.now) (counted self.old.calls) (file_in self.new.files name.now)
             self.new.calls }
         ensures others { (q : List ℕ) → q ≢ name.now → file_in self.new.files q ≡ file_in self.old.files q }
-        ensures calls { ¬ IsToFail self.old.calls → self.new.calls ≡ after_write self.old.calls result }
+        ensures calls { ¬ IsToFail self.old.calls
+            → self.new.calls ≡ after_append (file_in self.old.files name.now) self.old.calls result }
     {
         let keep = self.calls.begin();
         let Some(k) = place_of(&self.files, name.as_bytes()) else {
             self.blame = Blame::Missing;
-            self.calls.fail();
             return Stored::Failed;
         };
         if let Some(keep) = keep {
@@ -255,11 +306,7 @@ impl Shelf for MemShelf {
         }
         match extend(&mut self.files, name.as_bytes(), k, bytes) {
             Ok(()) => Stored::Done,
-            Err(_) => {
-                self.blame = Blame::File(k);
-                self.calls.fail();
-                Stored::Failed
-            }
+            Err(_) => self.fail_write(name),
         }
     }
 }

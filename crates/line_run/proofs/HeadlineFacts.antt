@@ -23,13 +23,13 @@ not_memory s (inl e) f = (let h : ends.Done ≡ ends.Memory = sym e ∙ f in cc)
 not_memory s (inr e) f = (let h : ends.Stopped ≡ ends.Memory = sym e ∙ f in cc)
 
 -- a job that answers ended with a report, and what is true of its report is so
-pub reports_so : (R : Type 0) (P : Report → Type 0) (r : Result Report Stop) → IfOk r P
-    → MatchResult r (λ _. Unit {0}) (MayEnd R) → IsAnswered (status_of r) → Reports P r
-reports_so R P (Ok x) p m a = p
-reports_so R P (Err (stop.Report x)) p m (inl e) = absurd (m.done e)
-reports_so R P (Err (stop.Report x)) p m (inr e) = absurd (m.stopped e)
-reports_so R P (Err stop.Memory) p m a = absurd (not_memory ends.Memory a refl)
-reports_so R P (Err stop.Unwritten) p m a = absurd (not_written ends.WriteFault a refl)
+pub reports_so : (R W : Type 0) (P : Report → Type 0) (r : Result Report Stop) → IfOk r P
+    → MatchResult r (λ _. Unit {0}) (MayEnd R W) → IsAnswered (status_of r) → Reports P r
+reports_so R W P (Ok x) p m a = p
+reports_so R W P (Err (stop.Report x)) p m (inl e) = absurd (m.done e)
+reports_so R W P (Err (stop.Report x)) p m (inr e) = absurd (m.stopped e)
+reports_so R W P (Err stop.Memory) p m a = absurd (not_memory ends.Memory a refl)
+reports_so R W P (Err stop.Unwritten) p m a = absurd (not_written ends.WriteFault a refl)
 
 module _ (words : List Text) (files after : Files) (old new : List ℕ) (before faults : ℕ) (status : Status)
     (kept : Kept) where

@@ -61,9 +61,10 @@ fn do_job<R: Threads + Wait + Sync, S: Shelf, G: Gate>(
         (IsJobOutcome (outside (S.file shelf.old) (S.blames shelf.new)) job.now) (S.file shelf.new) result }
     ensures plain { IsJobPlain job.now result }
     ensures usage { status_of result ≢ ends.Usage }
-    ensures read { status_of result ≡ ends.ReadFault → Rises (S.faults shelf.old) (S.faults shelf.new) }
+    ensures read { status_of result ≡ ends.ReadFault → Rises (S.fetch_faults shelf.old) (S.fetch_faults shelf.new) }
     ensures write { status_of result ≡ ends.WriteFault → result ≡ Err Unwritten }
-    ensures unwritten { result ≡ Err Unwritten → WritesFile job.now × Rises (S.faults shelf.old) (S.faults shelf.new) }
+    ensures unwritten { result ≡ Err Unwritten → WritesFile job.now
+        × Rises (S.write_faults shelf.old) (S.write_faults shelf.new) }
     ensures kept { status_of result ≢ ends.Done → status_of result ≢ ends.Stopped → kept_of result ≡ Nothing }
     ensures true_bounds { S.tells → status_of result ≡ ends.Done → IsJobTrue (S.file shelf.old) job.now }
     ensures promise { S.tells → IsAnswered (status_of result)
@@ -307,10 +308,10 @@ fn do_words<R: Threads + Wait + Sync, S: Shelf, G: Gate>(
         (IsAnswer (texts words.now) (outside (S.file shelf.old) (S.blames shelf.new))) (S.file shelf.new) result }
     ensures plain { AsksFiles (texts words.now) ⊎ IsPlainEnd (IsPlainOutcome (texts words.now)) result }
     ensures usage { status_of result ≡ ends.Usage → HasFault (texts words.now) }
-    ensures read { status_of result ≡ ends.ReadFault → Rises (S.faults shelf.old) (S.faults shelf.new) }
+    ensures read { status_of result ≡ ends.ReadFault → Rises (S.fetch_faults shelf.old) (S.fetch_faults shelf.new) }
     ensures write { status_of result ≡ ends.WriteFault → result ≡ Err Unwritten }
     ensures unwritten { result ≡ Err Unwritten → IsWriting (texts words.now)
-        × Rises (S.faults shelf.old) (S.faults shelf.new) }
+        × Rises (S.write_faults shelf.old) (S.write_faults shelf.new) }
     ensures kept { status_of result ≢ ends.Done → status_of result ≢ ends.Stopped → kept_of result ≡ Nothing }
     ensures true_bounds { S.tells → status_of result ≡ ends.Done → IsTrueRun (texts words.now) (S.file shelf.old) }
     ensures promise { S.tells → IsAnswered (status_of result)
@@ -367,9 +368,9 @@ pub fn run_gated<R: Threads + Wait + Sync, S: Shelf, K: Sink, G: Gate>(
         (K.shown out.new) (K.faults out.old) (K.faults out.new) result kept.new }
     ensures one_put { IsOnePut (K.puts out.old) (K.puts out.new) }
     ensures usage { result ≡ ends.Usage → HasFault (texts words.now) }
-    ensures read { result ≡ ends.ReadFault → Rises (S.faults shelf.old) (S.faults shelf.new) }
+    ensures read { result ≡ ends.ReadFault → Rises (S.fetch_faults shelf.old) (S.fetch_faults shelf.new) }
     ensures write { result ≡ ends.WriteFault → Rises (K.faults out.old) (K.faults out.new)
-        ⊎ (IsWriting (texts words.now) × Rises (S.faults shelf.old) (S.faults shelf.new)) }
+        ⊎ (IsWriting (texts words.now) × Rises (S.write_faults shelf.old) (S.write_faults shelf.new)) }
     ensures files { S.tells → (let o = outside (S.file shelf.old) (S.blames shelf.new) in
         IsLeft o (IsOutcome (texts words.now) o) result (S.file shelf.new)) }
     ensures kept { result ≢ ends.Done → result ≢ ends.Stopped → kept.new ≡ Nothing }
@@ -405,9 +406,9 @@ pub fn run<R: Threads + Wait + Sync, S: Shelf, K: Sink>(
         (K.shown out.new) (K.faults out.old) (K.faults out.new) result kept.new }
     ensures one_put { IsOnePut (K.puts out.old) (K.puts out.new) }
     ensures usage { result ≡ ends.Usage → HasFault (texts words.now) }
-    ensures read { result ≡ ends.ReadFault → Rises (S.faults shelf.old) (S.faults shelf.new) }
+    ensures read { result ≡ ends.ReadFault → Rises (S.fetch_faults shelf.old) (S.fetch_faults shelf.new) }
     ensures write { result ≡ ends.WriteFault → Rises (K.faults out.old) (K.faults out.new)
-        ⊎ (IsWriting (texts words.now) × Rises (S.faults shelf.old) (S.faults shelf.new)) }
+        ⊎ (IsWriting (texts words.now) × Rises (S.write_faults shelf.old) (S.write_faults shelf.new)) }
     ensures files { S.tells → (let o = outside (S.file shelf.old) (S.blames shelf.new) in
         IsLeft o (IsOutcome (texts words.now) o) result (S.file shelf.new)) }
     ensures kept { result ≢ ends.Done → result ≢ ends.Stopped → kept.new ≡ Nothing }

@@ -28,8 +28,9 @@ fn written<S: Shelf>(
     ensures same { IfOk result (λ r. r ≡ report) }
     ensures certificate { S.tells → IfOk result (λ r. (cert : Proof) → r.kept ≡ Certified cert
         → HasCertificate (Some name.now) (S.file shelf.new) cert) }
-    ensures fault { MatchResult result (λ _. Unit {0}) (MayEnd (Rises (S.faults shelf.old) (S.faults shelf.new))) }
-    ensures count { S.faults shelf.old ≤ S.faults shelf.new }
+    ensures fault { MatchResult result (λ _. Unit {0}) (MayEnd (Rises (S.fetch_faults shelf.old) (S.fetch_faults shelf.new))
+        (Rises (S.write_faults shelf.old) (S.write_faults shelf.new))) }
+    ensures count { S.write_faults shelf.old ≤ S.write_faults shelf.new }
 {
     let Kept::Line(certificate) = &report.kept else {
         return Ok(report);
@@ -57,9 +58,10 @@ pub fn write_certificate<S: Shelf>(
     ensures same { IfOk result (λ r. r ≡ report) }
     ensures certificate { S.tells → IfOk result (λ r. (cert : Proof) → r.kept ≡ Certified cert
         → HasCertificate (option_map (λ a. a.now) name.entry) (S.file shelf.new) cert) }
-    ensures fault { MatchResult result (λ _. Unit {0}) (MayEnd (Rises (S.faults shelf.old) (S.faults shelf.new))) }
+    ensures fault { MatchResult result (λ _. Unit {0}) (MayEnd (Rises (S.fetch_faults shelf.old) (S.fetch_faults shelf.new))
+        (Rises (S.write_faults shelf.old) (S.write_faults shelf.new))) }
     ensures unwritten { result ≡ Err Unwritten → (n : List ℕ) × (option_map (λ a. a.now) name.entry ≡ Some n) }
-    ensures count { S.faults shelf.old ≤ S.faults shelf.new }
+    ensures count { S.write_faults shelf.old ≤ S.write_faults shelf.new }
 {
     match name {
         None => Ok(report),

@@ -26,10 +26,10 @@ pub record IsEnd (file : Option (List ℕ)) (at : ℕ) : Type 0 where
   pub there : file ≡ Some (bytes_of file)
   pub ends : length (bytes_of file) ≤ at
 
--- what taking lines doesn't change: the reference to the shelf, the name of the file, the limit, and the files, where
--- they are told
+-- what taking lines doesn't change: the reference to the shelf, the name of the file, the limit, how often a write has
+-- failed, and the files, where they are told
 abbrev pub Reading : Type 0 → Type 0
-Reading tells = ℕ × List ℕ × ℕ × (tells → List ℕ → Option (List ℕ))
+Reading tells = ℕ × List ℕ × ℕ × ℕ × (tells → List ℕ → Option (List ℕ))
 
 -- the file is there, within the limit
 pub record IsWithin (file : Option (List ℕ)) (limit : ℕ) : Type 0 where

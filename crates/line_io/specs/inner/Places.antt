@@ -8,7 +8,9 @@ pub record IsPlace (fs : List NamedFile) (q : List ℕ) (k : ℕ) : Type 0 where
   pub within : k < length fs
   pub name : (d : NamedFile) → (slice_index_or fs k d).name ≡ q
   pub blame : blames fs (File k) q ≡ true
+  pub alone : (r : List ℕ) → blames fs (File k) r ≡ true → r ≡ q
   pub kept : (f : NamedFile) → f.name ≡ q → blames (slice_set fs k f) (File k) q ≡ true
+  pub kept_alone : (f : NamedFile) → f.name ≡ q → (r : List ℕ) → blames (slice_set fs k f) (File k) r ≡ true → r ≡ q
   pub read : (d : NamedFile) → file_in fs q ≡ Some (slice_index_or fs k d).bytes
   pub written : (f : NamedFile) → f.name ≡ q → file_in (slice_set fs k f) q ≡ Some f.bytes
   pub others : (f : NamedFile) → f.name ≡ q → (r : List ℕ) → r ≢ q → file_in (slice_set fs k f) r ≡ file_in fs r

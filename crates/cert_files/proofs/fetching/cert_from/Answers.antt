@@ -4,7 +4,7 @@ use Rattle.cert_files.proofs.fetching.cert_from.Goals as goal
 
 pub returns-in-Stopped-clause-read : goal.returns-in-Stopped-clause-read
 returns-in-Stopped-clause-read g c = λ t.
-    stopped_read g.S.Shelf.tells _ _ c.args.name.now _ c.args.limit _ (g.S.Shelf.file c.args.shelf.now)
+    stopped_read g.S.Shelf.tells _ _ c.args.name.now _ c.args.limit _ _ _ (g.S.Shelf.file c.args.shelf.now)
     (g.S.Shelf.file c.read_all-answer.new.source.shelf.now) c.read_all-answer.ensures.source.base t
     c.read_all-answer.new.source.stop c.stopped.result c.stopped.ensures
     c.read_all-answer.new.source.long
@@ -12,13 +12,13 @@ returns-in-Stopped-clause-read g c = λ t.
 pub returns-in-Stopped-clause-files : goal.returns-in-Stopped-clause-files
 returns-in-Stopped-clause-files g c = λ t q.
     let h : g.S.Shelf.file c.read_all-answer.new.source.shelf.now q ≡ g.S.Shelf.file c.args.shelf.now q =
-    same_files g.S.Shelf.tells _ _ c.args.name.now _ c.args.limit _ (g.S.Shelf.file c.args.shelf.now)
+    same_files g.S.Shelf.tells _ _ c.args.name.now _ c.args.limit _ _ _ (g.S.Shelf.file c.args.shelf.now)
     (g.S.Shelf.file c.read_all-answer.new.source.shelf.now) c.read_all-answer.ensures.source.base t q in
     search rules
 
 pub returns-in-Fault-clause-read : goal.returns-in-Fault-clause-read
 returns-in-Fault-clause-read g c = λ t.
-    fault_read g.S.Shelf.tells _ _ c.args.name.now _ c.args.limit _ (g.S.Shelf.file c.args.shelf.now)
+    fault_read g.S.Shelf.tells _ _ c.args.name.now _ c.args.limit _ _ _ (g.S.Shelf.file c.args.shelf.now)
     (g.S.Shelf.file c.read_all-answer.new.source.shelf.now) c.read_all-answer.ensures.source.base t
     c.read_on-in-Fault.result _ _ _ c.in-Err.error c.in-Fault.fault
     c.faulty.result (c.read_all-answer.ensures.read t) c.in-Err.is c.in-Fault.is c.faulty.ensures
@@ -35,13 +35,13 @@ returns-in-Fault-clause-none_old g c = λ t. none_of_old (g.S.Shelf.file c.args.
 pub returns-in-Fault-clause-files : goal.returns-in-Fault-clause-files
 returns-in-Fault-clause-files g c = λ t q.
     let h : g.S.Shelf.file c.read_on-in-Fault.new.shelf q ≡ g.S.Shelf.file c.args.shelf.now q =
-    c.read_on-in-Fault.ensures.files t q ∙ same_files g.S.Shelf.tells _ _ c.args.name.now _ c.args.limit _
+    c.read_on-in-Fault.ensures.files t q ∙ same_files g.S.Shelf.tells _ _ c.args.name.now _ c.args.limit _ _ _
     (g.S.Shelf.file c.args.shelf.now) (g.S.Shelf.file c.read_all-answer.new.source.shelf.now)
     c.read_all-answer.ensures.source.base t q in search rules
 
 pub returns-in-Ok-answer-clause-read : goal.returns-in-Ok-answer-clause-read
 returns-in-Ok-answer-clause-read g c = λ t.
-    good_read g.S.Shelf.tells _ _ c.args.name.now _ c.args.limit _ (g.S.Shelf.file c.args.shelf.now)
+    good_read g.S.Shelf.tells _ _ c.args.name.now _ c.args.limit _ _ _ (g.S.Shelf.file c.args.shelf.now)
     (g.S.Shelf.file c.read_all-answer.new.source.shelf.now) c.read_all-answer.ensures.source.base t c.read_on.result
     _ c.read_all-answer.new.source.at _
     (Ok c.in-Ok-answer.cert) c.in-Ok-answer.cert c.ended.result (c.in-Ok-answer.ensures.read t) c.ended.ensures
@@ -59,6 +59,6 @@ returns-in-Ok-answer-clause-none_old g c = λ t. none_of_old (g.S.Shelf.file c.a
 pub returns-in-Ok-answer-clause-files : goal.returns-in-Ok-answer-clause-files
 returns-in-Ok-answer-clause-files g c = λ t q.
     let h : g.S.Shelf.file c.read_on.new.shelf q ≡ g.S.Shelf.file c.args.shelf.now q =
-    c.read_on.ensures.files t q ∙ same_files g.S.Shelf.tells _ _ c.args.name.now _ c.args.limit _
+    c.read_on.ensures.files t q ∙ same_files g.S.Shelf.tells _ _ c.args.name.now _ c.args.limit _ _ _
     (g.S.Shelf.file c.args.shelf.now) (g.S.Shelf.file c.read_all-answer.new.source.shelf.now)
     c.read_all-answer.ensures.source.base t q in search rules

@@ -10,7 +10,8 @@ decreases-pieces g l = suc l.limit - l.at
 abbrev pub invariant-pieces : goal.invariant-pieces
 invariant-pieces g l = record {
   within : l.at ≤ l.limit;
-  count : g.S.Shelf.faults l.fn.shelf ≤ g.S.Shelf.faults l.shelf;
+  count : g.S.Shelf.fetch_faults l.fn.shelf ≤ g.S.Shelf.fetch_faults l.shelf;
+  writes : g.S.Shelf.write_faults l.shelf ≡ g.S.Shelf.write_faults l.fn.shelf;
   files : g.S.Shelf.tells → (q : List ℕ) → g.S.Shelf.file l.shelf q ≡ g.S.Shelf.file l.fn.shelf q;
   left : g.S.Shelf.tells → slice_range l.fn.window.piece.items l.fn.window.from l.fn.window.to
       ++ bytes_from l.fn.at (g.S.Shelf.file l.fn.shelf l.name) ≡ l.line.items

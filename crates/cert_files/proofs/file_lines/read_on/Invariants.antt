@@ -9,7 +9,8 @@ abbrev pub invariant-pieces : goal.invariant-pieces
 invariant-pieces g l = record {
   within : l.at ≤ l.limit;
   from : l.from ≤ l.at;
-  count : g.S.Shelf.faults l.fn.shelf ≤ g.S.Shelf.faults l.shelf;
+  count : g.S.Shelf.fetch_faults l.fn.shelf ≤ g.S.Shelf.fetch_faults l.shelf;
+  writes : g.S.Shelf.write_faults l.shelf ≡ g.S.Shelf.write_faults l.fn.shelf;
   files : g.S.Shelf.tells → (q : List ℕ) → g.S.Shelf.file l.shelf q ≡ g.S.Shelf.file l.fn.shelf q;
   reached : g.S.Shelf.tells → l.from < l.at → l.at ≤ length (bytes_of (g.S.Shelf.file l.fn.shelf l.name));
 }

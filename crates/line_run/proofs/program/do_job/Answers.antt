@@ -94,7 +94,8 @@ returns-in-Solve-clause-promise g c = λ t answers.
     x.text.items x.kept in
     let J : Job → Type 0 = λ j. HasPromise files after j r in
     subst J (sym job.is)
-    (reports_so (Rises (g.S.Shelf.faults c.args.shelf.now) (g.S.Shelf.faults c.solve_report.new.shelf))
+    (reports_so (Rises (g.S.Shelf.fetch_faults c.args.shelf.now) (g.S.Shelf.fetch_faults c.solve_report.new.shelf))
+    (Rises (g.S.Shelf.write_faults c.args.shelf.now) (g.S.Shelf.write_faults c.solve_report.new.shelf))
     (P job.file job.apart job.warm (kind_of job.line) job.cert) r
     (of_solve (λ f a w k n. IfOk r (P f a w k n)) c.text-in-Solve.ensures c.name_of-in-Solve.ensures
     c.name_of-in-Solve-2.ensures c.kind_of-kind-in-Solve.ensures c.name_of-in-Solve-3.ensures
