@@ -26,7 +26,7 @@ const MAX_TASKS: u64 = 1024;
 /// The greatest time of a task: that of every instance, so that `make` refuses no time that was read.
 const MAX_TIME: u64 = 200_000_000_000_000;
 
-/// The greatest cycle time: that of every instance and certificate, above the 2.048 * 10^17 of all tasks together.
+/// The greatest cycle time: that of every certificate, above the 2.048 * 10^17 of all tasks together.
 const MAX_CYCLE: u64 = 1_000_000_000_000_000_000;
 
 /// The most lines of pairs: 2^19, above the 523,776 pairs that 1,024 tasks have.

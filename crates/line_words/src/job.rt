@@ -1,6 +1,6 @@
 //! Jobs, and what the words of a command set.
 //!
-//! A job has the values of all keys of its command, with the defaults put in, so that nothing behind it reads words. A
+//! A job has the values of all keys of its command, with the defaults put in, so that nothing after it reads words. A
 //! value costs a look through the words, of which there are few.
 ghost use Rattle.std.specs.Prelude.{◌≡◌, ◌≤◌, ◌<◌, ◌^◌, IfOk, IfSome, option_map, ℕ, codes};
 ghost use Rattle.line_words.specs.Words.{texts, names_of, value_of};

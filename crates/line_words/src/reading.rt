@@ -1,6 +1,6 @@
 //! The reading of the words as a job.
 //!
-//! The words behind the command are gone over from left to right, and each is tested with those before it. The first
+//! The words after the command are gone over from left to right, and each is tested with those before it. The first
 //! that is wrong ends the reading. Then missing names are told, and then missing keys. Only a line without any of these
 //! makes a job, and only a job takes memory.
 ghost use Rattle.std.specs.Prelude.{◌≡◌, ◌<◌, Option, None, MatchOption, ℕ};
