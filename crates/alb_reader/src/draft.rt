@@ -1,4 +1,7 @@
 //! What is kept of the lines of an ALB text.
+//!
+//! Sections may come in any order, so a line is tested by its section and by the lines before it. What the lines say
+//! together is asked later, when all are there. A line costs its own bytes and at most one place in a list.
 ghost use Rattle.std.specs.Prelude.{◌≡◌, ◌++◌, ◌∷◌, ◌||◌, [], ℕ, None, Some, Option, true, false, nat_eq, MatchResult};
 ghost use Rattle.std.specs.Prelude.{OnOk, OnErr, IfErr, IfSome, IsNone, length};
 ghost use Rattle.line_io.specs.Lines.{number_in};
@@ -17,16 +20,16 @@ use line_instance::Prec;
 use line_io::{Num, Span, number};
 use std::alloc::Global;
 
-/// The most tasks.
+/// The most tasks: the bits of a set.
 const MAX_TASKS: u64 = 1024;
 
-/// The greatest time of a task.
+/// The greatest time of a task: that of every instance, so that `make` refuses no time that was read.
 const MAX_TIME: u64 = 200_000_000_000_000;
 
-/// The greatest cycle time.
+/// The greatest cycle time: that of every certificate, above the 2.048 * 10^17 of all tasks together.
 const MAX_CYCLE: u64 = 1_000_000_000_000_000_000;
 
-/// The most lines of pairs.
+/// The most lines of pairs: 2^19, above the 523,776 pairs that 1,024 tasks have.
 const MAX_PAIRS: usize = 524_288;
 
 /// A line of task times.

@@ -1,4 +1,8 @@
 //! The faults of an ALB text.
+//!
+//! A text has one first fault, with its line. A line with a wrong form comes before anything that the lines say
+//! together. What is missing, and a cycle of the arcs, are told at the line of the end mark. Out of memory is no fault;
+//! the types of errors have it beside.
 ghost use Rattle.std.specs.Prelude.{◌≡◌};
 ghost use Rattle.alb_reader.specs.declared.fault.LineError.TheVariants.{Memory};
 

@@ -1,4 +1,7 @@
 //! What the lines of a text say of its tasks: their times, and their pairs.
+//!
+//! This is the second pass, over the lines that were kept, when the number of tasks is known. A table with a place for
+//! each task tells which task is named twice, and then which one isn't named. Each line is looked at once.
 ghost use Rattle.std.specs.Prelude.{◌≡◌, ◌≤◌, ◌<◌, ◌^◌, ◌&&◌, nat_le, ℕ, None, List, length, map, replicate, IfOk};
 ghost use Rattle.std.specs.Prelude.{IsTrue};
 ghost use Rattle.in2_reader.specs.Contents.{Lines};

@@ -1,4 +1,8 @@
 //! The reading of an ALB text as an instance.
+//!
+//! There are two passes: the form of each line up to the end mark, then what the lines say together. So a line with a
+//! wrong form is told before a wrong task above it. The last fault that can come is a cycle, which `make` finds. A text
+//! in memory is shorter than 2^63 bytes, so the numbers of its lines fit.
 ghost use Rattle.std.specs.Prelude.{◌≡◌, ◌≤◌, ◌<◌, ◌^◌, ℕ, Option, Some, length};
 ghost use Rattle.in2_reader.specs.Contents.{Lines, contents_from};
 ghost use Rattle.line_instance.specs.Line.{Line};

@@ -1,4 +1,7 @@
 //! The reading of an ALB text line by line, up to its end mark.
+//!
+//! A line with a content is a heading, the end mark or a line of the present section. The draft takes it or tells what
+//! is wrong with it, and the first line that isn't taken ends the reading. Nothing after the end mark is looked at.
 ghost use Rattle.std.specs.Prelude.{◌≡◌, ◌<◌, ◌^◌, length};
 ghost use Rattle.in2_reader.specs.Contents.{contents_from, lines_in};
 ghost use Rattle.alb_reader.specs.inner.Drafts.{IsDrafted, error_at};

@@ -1,4 +1,8 @@
 //! Headings.
+//!
+//! A line that begins with `<` has to be one of six: the headings of five sections, and the end mark. Upper and lower
+//! case are alike there. So a copy of that one line is made in lower case, which is the only memory that a heading
+//! takes.
 ghost use Rattle.std.specs.Prelude.{◌≡◌, IfOk};
 ghost use Rattle.alb_reader.specs.Sections.{begins_heading, named, mark_of};
 

@@ -1,4 +1,7 @@
 //! How a fault is printed.
+//!
+//! A fault is printed on one line: the number of the line at fault, and a few words for its kind. Tasks are counted
+//! from 1 in print and from 0 in values, so a printed number is one more.
 ghost use Rattle.std.specs.Prelude.{◌≡◌, ◌++◌, string_bytes, OnOk};
 ghost use Rattle.alb_reader.specs.Texts.{fault_text};
 

@@ -16,7 +16,7 @@ use line_instance::TaskSet;
 use std::alloc::Global;
 use std::mem;
 
-/// How many words of 64 marks there are.
+/// How many words of 64 marks there are: 65,536, so some four million marks in 512 KiB.
 const MARK_WORDS: usize = 65_536;
 
 /// The marks of the entries that a pass has seen.

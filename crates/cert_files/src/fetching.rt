@@ -1,4 +1,8 @@
 //! The reading of a certificate from a file.
+//!
+//! A certificate may have 2 GiB, so it never stands in memory as a text: one piece of 65,536 bytes and one line do. The
+//! lines are read as those of a text in memory are, by the same code. After a fault the file is still read to its end:
+//! a file that is too long is refused as such, whatever its text is.
 ghost use Rattle.std.specs.Prelude.{◌≡◌, ◌≢◌, ◌⊎◌, ◌≤◌, ℕ, suc, true, List, Some};
 ghost use Rattle.cert_text.specs.Cert.{cert_text};
 ghost use Rattle.cert_text.specs.OldCert.{old_text};

@@ -1,4 +1,8 @@
 //! The lines of a file that is fetched piece by piece.
+//!
+//! Bytes of a line are taken out of the piece that waits, and a new piece is fetched where the line isn't ended yet. So
+//! each byte is fetched once, looked at once for the end of its line, and copied once. The first thing that stops the
+//! lines is remembered, and no line comes after it.
 ghost use Rattle.std.specs.Prelude.{◌≡◌, ◌≢◌, ◌⊎◌, ◌+◌, ◌<◌, ◌≤◌, ◌++◌, [], ℕ, true, List, length, slice_range};
 ghost use Rattle.line_io.specs.Outside.{Rises};
 ghost use Rattle.cert_lines.specs.Taking.{IsTaken, IsAtEnd};

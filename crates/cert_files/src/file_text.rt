@@ -1,4 +1,8 @@
 //! A text that is put into a file piece by piece.
+//!
+//! A byte costs a push into a buffer whose memory is taken before the file is touched. A full buffer, 65,536 bytes, is
+//! one call on the shelf. After the first call that fails nothing more is put, so that the file has a prefix of the
+//! text.
 ghost use Rattle.std.specs.Prelude.{◌≡◌, ◌≢◌, ◌≤◌, true, None, vec_len, vec_capacity};
 
 use cert_text::Output;

@@ -1,4 +1,7 @@
 //! Certificates in files, written and read.
+//!
+//! A certificate may be larger than what should stand in memory as a text, so it goes through pieces of 65,536 bytes
+//! both ways. The lines are those of cert_text, which doesn't know where its bytes come from or go to.
 #![tactic(auto)]
 
 mod fetching;

@@ -1,4 +1,7 @@
 //! Why the lines of a file can't go on.
+//!
+//! A source of lines answers only that it stopped. These types keep the reason beside it: a failed fetch, a file that
+//! is too long, or out of memory.
 
 /// Whether the lines of a file can go on, and why not.
 #[derive(Clone, Copy, Debug, PartialEq, Eq)]

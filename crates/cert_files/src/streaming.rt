@@ -1,4 +1,8 @@
 //! The writing of a certificate into a file.
+//!
+//! The memory is taken first, then the file is made empty, and then it grows piece by piece. So out of memory nothing
+//! was touched, and after a call that failed the file is as before or has a prefix of the text. A text of B bytes costs
+//! at most B / 65,536 calls and two more.
 ghost use Rattle.std.specs.Prelude.{◌≡◌, ◌≢◌, ◌≤◌, ℕ, true, List, [], Some, take, vec_capacity};
 ghost use Rattle.cert_text.specs.Cert.{cert_text};
 ghost use Rattle.line_io.specs.Outside.{Rises};

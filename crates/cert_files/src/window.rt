@@ -1,4 +1,6 @@
 //! The bytes of a file that were fetched and wait to be read.
+//!
+//! The piece has one size. A line is put together in a vector of its own, and may be longer than a piece.
 ghost use Rattle.std.specs.Prelude.{◌≡◌, ◌≢◌, ◌+◌, ◌<◌, ◌≤◌, ◌∷◌, ◌++◌, [], ℕ, true, List, length, slice_range};
 ghost use Rattle.std.specs.Prelude.{vec_len};
 ghost use Rattle.line_io.specs.Outside.{Rises};
@@ -11,7 +13,9 @@ ghost use Rattle.cert_files.specs.declared.stop.Part.{Part};
 use crate::stop::{Part, Refill};
 use line_io::{Fetched, Shelf, line_end};
 
-/// The most bytes of a line.
+/// The most bytes of a line: 2^28. A certificate that is accepted has shorter ones. Each cite needs a load that was
+/// walked, so a line has at most 20,000,000 cites, each of at most eight digits and a comma. A longer line is answered
+/// as out of memory, so that it never stands there.
 const MAX_LINE: usize = 1 << 28;
 
 /// A piece that was fetched: its bytes from `from` up to `to` wait.

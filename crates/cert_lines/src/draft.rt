@@ -1,4 +1,8 @@
 //! What a line says, before its numbers are held against their ranges.
+//!
+//! A line is split into words and numbers first, and its numbers are held against their ranges later. So a line that
+//! has the form and a wrong number is told apart from one that hasn't the form. Numbers past 64 bits stay at the
+//! greatest of 64 bits, which is out of every range here. Each byte is looked at a few times.
 ghost use Rattle.std.specs.Prelude.{◌≡◌, ◌≤◌, IfOk, option_map};
 ghost use Rattle.cert_lines.specs.Words.{parts_at, number_in};
 ghost use Rattle.cert_lines.specs.inner.LineReading.{keyed_in, seat_in, cycle_first, bound_in, branch_in, swap_in};

@@ -1,4 +1,7 @@
 //! The faults of a certificate's text.
+//!
+//! The kinds are few, since programs make the text of a certificate. The number of the line, and whether its form or a
+//! range is wrong, are enough to find the fault. Out of memory and a fault of the outside are no faults of the text.
 ghost use Rattle.std.specs.Prelude.{◌≡◌};
 ghost use Rattle.cert_lines.specs.declared.fault.ReadError.TheVariants.{Stopped};
 ghost use Rattle.cert_lines.specs.declared.fault.LineError.TheVariants.{Memory};

@@ -1,4 +1,8 @@
 //! The kinds of lines of a certificate.
+//!
+//! Each kind has its word, its numbers and their ranges. A range may depend on what was read before: stations on the
+//! balance, cites on the number of entries. Entries may cite later ones here, since that is no question of the form:
+//! the check refuses it.
 ghost use Rattle.std.specs.Prelude.{◌≡◌, ◌≤◌, ◌<◌, ◌+◌, ◌↔◌, IsTrue, MatchResult, IfOk};
 ghost use Rattle.cert_lines.specs.Rows.{keyed as keyed_row};
 ghost use Rattle.cert_lines.specs.Words.{greatest};
@@ -16,7 +20,7 @@ use crate::source::Source;
 use line_rules::{Ask, Entry, LineKind, OpenFrame, Seatplace, Why};
 use std::alloc::Global;
 
-/// The greatest cycle.
+/// The greatest cycle, 10^18: more than the 2.048 * 10^17 that all tasks of a line take together.
 pub const MAX_CYCLE: u64 = 1_000_000_000_000_000_000;
 
 /// The word of a line with a number.

@@ -1,4 +1,8 @@
 //! The reading of one line for a value, and of so many.
+//!
+//! What is read of a line is a value that may be said, whose line it is; or a fault of form or of range. That lines
+//! follow one another is proved once, here, for all kinds. Lines that are counted take memory as they come and not
+//! beforehand, so a text can't ask for more than it has lines.
 ghost use Rattle.std.specs.Prelude.{◌≡◌, MatchResult, IfOk, Ok, Err};
 ghost use Rattle.cert_lines.specs.Rows.{Row};
 ghost use Rattle.cert_lines.specs.Pattern.{IsJudged, IsRead, AreSaid, one, each};

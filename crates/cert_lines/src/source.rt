@@ -1,4 +1,7 @@
 //! Where the lines of a text come from.
+//!
+//! Lines may come from bytes in memory or from a file, piece by piece. A source tells what it stands on by its base,
+//! and how often that has failed by its counts. So a reader needn't know which source it has.
 ghost use Rattle.std.specs.Prelude.{◌≡◌, ℕ, List, suc};
 ghost use Rattle.cert_lines.specs.Taking.{IsTaken, IsAtEnd};
 ghost use Rattle.cert_lines.specs.ReadingOn.{IsReadOn};

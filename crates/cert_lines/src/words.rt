@@ -1,4 +1,8 @@
 //! The reading of words: numbers, modes, cites and sets.
+//!
+//! A set has a hexadecimal digit for each four tasks, the first of the four as the highest bit. Bits past the last task
+//! have to be 0. A number has no 0 in front of another digit. So each value has one spelling, and two texts of one
+//! certificate can't differ. Each byte is looked at once.
 ghost use Rattle.std.specs.Prelude.{◌≡◌, ◌≤◌, ◌<◌, ◌||◌, IfOk, option_map, true, cond, slice_set, nat_lt, not};
 ghost use Rattle.cert_lines.specs.Words.{parts_at, number_in, number_first, mode_in, cites_in, numbers_in, pieces_at};
 ghost use Rattle.cert_lines.specs.Words.{set_in, is_hex as hex, hex_value as value, is_spare, with_digit};
@@ -96,7 +100,7 @@ pub fn cites_of(alloc: Global, word: &[u8]) -> Result<Option<Cites>, AllocError>
     numbers_of(alloc, word)
 }
 
-// Numbers with a comma between.
+// Numbers with a comma, the byte 44, between.
 fn numbers_of(alloc: Global, word: &[u8]) -> Result<Option<Cites>, AllocError>
     ensures { IfOk result (λ cites. cites ≡ numbers_in (pieces_at 44 word.now)) }
 {

@@ -1,4 +1,8 @@
 //! A text in memory.
+//!
+//! It is the `Output` that grows in one vector: a byte costs one push. After the first push that memory refuses,
+//! nothing is kept any more, and `finish` tells it once. There is no outside whose failures could be counted. So its
+//! count of faults stands at 2^64 - 1, where a count ends and is taken as risen.
 ghost use Rattle.std.specs.Prelude.{◌≡◌, [], ◌∷◌, ◌++◌, not, true, IfOk};
 ghost use Rattle.cert_text.specs.Sent.{Puts};
 

@@ -1,7 +1,9 @@
 //! The lift of a certificate of version 1: the certificate of version 2 that says the same.
 //!
 //! Its parts, each with entries of one cycle, become one list, and the cites of the second part are raised by the
-//! number of entries of the first. One pass over the entries and the frames, and memory for the lists of the lift.
+//! number of entries of the first. One pass over the entries and the frames, and memory for the lists of the lift. A
+//! part has at most 10,000,000 entries, so the lift has at most the 20,000,000 that a list may have, and raised cites
+//! fit.
 ghost use Rattle.std.specs.Prelude.{◌≡◌, ◌≤◌, ◌++◌, ◌∷◌, [], ℕ, length, map, IfOk, OnOk};
 ghost use Rattle.entry_lists.specs.Lift.{raised, lifted_why, lifted_entry, lifted_frame, lifted_entries};
 ghost use Rattle.entry_lists.specs.Lift.{trail_at as the_trail, trail_or, lifted_trail, lifted_claim, lift as lifted};

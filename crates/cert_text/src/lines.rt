@@ -1,4 +1,8 @@
 //! The writing of the lines of a certificate.
+//!
+//! There is a function for each form of line, and each goes over its value once. None of them answers anything: the
+//! output remembers its first failure, and the answer comes once, at the end. Of the ranges only that of the tasks is
+//! asked for, at most 1,024, since a set has that many places.
 ghost use Rattle.std.specs.Prelude.{◌≡◌, ◌≤◌, ◌<◌, ◌∷◌, ◌++◌, [], map};
 ghost use Rattle.cert_lines.specs.ValueRows.{kind_row, ask_row, seat_row, entry_row, frame_row};
 ghost use Rattle.cert_text.specs.Cert.{trail_rows, list_rows, bounds_rows, claim_rows, cert_text};

@@ -1,4 +1,7 @@
 //! Where a text is put, byte by byte.
+//!
+//! What puts a text needn't know whether it goes into memory or, piece by piece, into a file. A put answers nothing, so
+//! that what puts lines tests nothing in between. Who made the output asks it at the end.
 ghost use Rattle.std.specs.Prelude.{[], ◌∷◌, ℕ, List};
 ghost use Rattle.cert_text.specs.Sent.{Sent, Puts};
 

@@ -1,4 +1,8 @@
 //! The reading of a certificate's text, line by line, in either version.
+//!
+//! Each part has a function whose contract names the grammar of that part. A fault is found at its line, and nothing is
+//! read twice. It costs one pass over the lines, and the memory of the values. The first line tells the version. What
+//! version 1 says is lifted at the end, when all of it has been read.
 ghost use Rattle.std.specs.Prelude.{◌≡◌, ◌≤◌, IfOk, length};
 ghost use Rattle.cert_lines.specs.Pattern.{IsRead};
 ghost use Rattle.cert_lines.specs.ReadingOn.{IsReadOn};
@@ -22,7 +26,7 @@ use entry_lists::version_one::{OldCertificate, OldClaim};
 use line_rules::{Ask, Balance, Certificate, Claim, Entries, Frames, LineKind, Places, Trail};
 use std::alloc::{AllocError, Global};
 
-/// The most entries.
+/// The most entries: as many as both parts of a certificate of version 1 may have together.
 const MAX_ENTRIES: u64 = 20_000_000;
 
 /// What stands before the claim.

@@ -1,4 +1,8 @@
 //! The lines of bytes in memory.
+//!
+//! A line is a part of the slice: nothing is copied, and no memory is taken. Each advance looks at the bytes of one
+//! line. The reading stops where the number of the line would pass 2^64 - 1. A slice has fewer lines, so only a count
+//! that was begun near that end comes to it.
 ghost use Rattle.std.specs.Prelude.{◌≡◌, ◌==◌, length};
 
 use cert_lines::words::split_at;

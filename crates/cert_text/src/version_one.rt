@@ -1,4 +1,8 @@
 //! The reading of the parts of a text of version 1.
+//!
+//! There are at most two parts, each with one cycle for all its entries, and at most one of them has frames. So the
+//! second part is read with room for 1,024 frames or for none, and a second trail is a fault at its own line. Version 1
+//! is read and never written.
 ghost use Rattle.std.specs.Prelude.{◌≡◌, ◌≤◌, IfOk, length};
 ghost use Rattle.cert_lines.specs.Pattern.{IsRead};
 ghost use Rattle.cert_lines.specs.ReadingOn.{IsReadOn};
@@ -12,13 +16,13 @@ use entry_lists::version_one::{Part, Parts};
 use line_rules::{Entries, Frames};
 use std::alloc::Global;
 
-/// The most entries of a part.
+/// The most entries of a part: half of the 20,000,000 that a list of version 2 may have, since two parts become one.
 const MAX_PART_ENTRIES: u64 = 10_000_000;
 
 /// The most parts.
 const MAX_PARTS: u64 = 2;
 
-/// The most frames of a trail.
+/// The most frames of a trail: each frame asks for one station less than the one above it, the first for at most 1,024.
 const MAX_FRAMES: u64 = 1024;
 
 // Reads frames behind their number, at most so many.

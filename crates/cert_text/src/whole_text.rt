@@ -1,4 +1,8 @@
 //! The reading of a certificate's text from memory.
+//!
+//! The text is read once, from front to back. After its last line nothing may stand: a byte there is a fault of that
+//! byte's line. `read_list` reads the entries and the trail alone, from a place of a text on, and tells where the text
+//! goes on.
 ghost use Rattle.std.specs.Prelude.{◌≡◌, ◌≢◌, ◌≤◌, ◌++◌, length, drop, ℕ, List, Option};
 ghost use Rattle.cert_text.specs.WholeText.{IsCertRead, IsEnded, IsListRead, IsListed};
 ghost use Rattle.cert_text.specs.Cert.{cert_text, list_rows};

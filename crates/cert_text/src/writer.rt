@@ -1,4 +1,6 @@
 //! The writing of a certificate's text into memory.
+//!
+//! The lines are put into a text in memory, so the cost is that of the bytes, and out of memory the only failure.
 ghost use Rattle.std.specs.Prelude.{◌≡◌, ◌≤◌, IfOk};
 ghost use Rattle.cert_text.specs.Cert.{cert_text, list_rows};
 ghost use Rattle.cert_lines.specs.Rows.{rows_text};

@@ -1,4 +1,8 @@
 //! The writing of numbers, sets, cites and loads.
+//!
+//! A set is written a hexadecimal digit for each four tasks, the first of the four as the highest bit: 256 digits for
+//! 1,024 tasks. A number is written by a call of itself for what stands before the last digit, so by at most 20 calls.
+//! Nothing takes memory but what the output takes.
 ghost use Rattle.std.specs.Prelude.{◌≡◌, ◌≤◌, ◌<◌, ◌∷◌, []};
 ghost use Rattle.cert_lines.specs.Numbers.{number_text, set_text, cites_text, mode_letter, load_text, last_text, four};
 ghost use Rattle.cert_lines.specs.Numbers.{member, hex_digit};

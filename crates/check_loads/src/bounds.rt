@@ -1,4 +1,8 @@
 //! The bound on the stations of a set of tasks: its value, and whether it exceeds a number.
+//!
+//! The tests go from cheap to dear: the total time, the sizes of the tasks, and last what is before and after a task.
+//! Most questions ask only whether the bound exceeds a number. The value itself is needed only where an entry is
+//! refused. It is found by asking for 0, 1, 2 and so on, at most 1,025 times, so that the bound has one code.
 ghost use Rattle.std.specs.Prelude.{◌≡◌, ◌≤◌, ◌<◌, ◌↔◌, IsTrue};
 ghost use Rattle.line_instance.specs.Line.{IsTaskSet};
 ghost use Rattle.line_rules.specs.Bounds.{bound};
@@ -9,7 +13,7 @@ use crate::sizes::{Times, counts_of, stations};
 use line_instance::{Instance, TaskSet};
 use line_rules::LineKind;
 
-/// The bound of a set with a task longer than the cycle: more stations than any line has tasks.
+/// The bound of a set with a task longer than the cycle: 1,025, more stations than any line has tasks.
 pub const TOO_LONG: u32 = 1025;
 
 /// Whether the bound of a set of tasks exceeds `most`, settled as soon as may be. The bound is 0 for the empty set,

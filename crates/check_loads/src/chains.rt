@@ -1,4 +1,8 @@
 //! The stations that what is before and after a task needs.
+//!
+//! On a straight line a task with all before it needs some stations, and with all after it some more; its own is
+//! counted once. To sum both for each task costs two passes over the set. Two tests come before that. The longest task
+//! is asked about once for the set. Then what is neither before nor after a task is summed, up to a limit.
 ghost use Rattle.std.specs.Prelude.{◌≡◌, ◌≤◌, ◌<◌, ◌+◌, ◌-◌, ◌*◌, ◌↔◌, IsTrue};
 ghost use Rattle.line_instance.specs.Truths.{In};
 ghost use Rattle.line_instance.specs.Line.{IsTaskSet, has, time};

@@ -1,4 +1,8 @@
 //! One side of the load that a walk has come to, with the tasks that are free to join it.
+//!
+//! A task is free where all that has to stand ahead of it at its side does. Free tasks are kept from load to load: one
+//! that goes shuts those that waited for it, and one that comes may open some. So a change costs a few operations on
+//! sets and not a pass over all tasks. Sets by number serve the precedences, sets by place the order of the loads.
 ghost use Rattle.std.specs.Prelude.{◌≡◌, ◌<◌, ◌⊎◌, ◌↔◌, ℕ, false, true, replicate, slice_set};
 ghost use Rattle.line_instance.specs.Truths.{In};
 ghost use Rattle.line_instance.specs.Line.{IsTaskSet, tasks, has};

@@ -1,4 +1,7 @@
 //! Whether a load that is given is full.
+//!
+//! It keeps nothing from load to load, and tests each task afresh. It serves the last loads of frames alone, of which a
+//! trail has at most 1,024. A walk that keeps its ends asks the same at less cost.
 ghost use Rattle.std.specs.Prelude.{◌≡◌, ℕ, ◌<◌, ◌↔◌, IsTrue, true, false};
 ghost use Rattle.line_instance.specs.Line.{IsTaskSet, tasks};
 ghost use Rattle.line_rules.specs.Loads.{IsLoad, IsFull};

@@ -1,5 +1,9 @@
 //! The walk over the loads of a set in their order, for all modes: it keeps the sum of times and the tasks that are
 //! free to join, and changes them with each task that comes or goes.
+//!
+//! The load after a load is found from the last place down. What stands there is given up, until a free task may join
+//! at a place where none stood. Only the places of the load's tasks and of free tasks are gone over. A walk is a plain
+//! value and takes no memory.
 ghost use Rattle.std.specs.Prelude.{◌≡◌, ℕ, ◌<◌, ◌≤◌, ◌↔◌, IsTrue, true, false};
 ghost use Rattle.line_instance.specs.Truths.{union};
 ghost use Rattle.line_instance.specs.Line.{IsTaskSet, tasks, has};

@@ -1,4 +1,8 @@
 //! The question that the loads of a set are walked for.
+//!
+//! What doesn't change from load to load stands here once: the times of the set, and the room, the time of all stations
+//! but one. A rest with more time than the room is closed by one comparison. The room has up to 1,024 * 10^18, so it
+//! needs 128 bits.
 ghost use Rattle.std.specs.Prelude.{◌≡◌, ◌≤◌, ◌-◌, ◌*◌, length};
 ghost use Rattle.line_rules.specs.Loads.{rest};
 

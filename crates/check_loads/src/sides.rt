@@ -1,4 +1,7 @@
 //! The two sides of a load, front and back, by one code.
+//!
+//! The back is the front with before and after exchanged, and with ranks counted from the end. These small calls say so
+//! once, and all other code goes over a side without asking which. They are inlined, and cost one comparison.
 ghost use Rattle.std.specs.Prelude.{◌≡◌, ◌<◌, ◌↔◌, ℕ, IsNone, IfSome};
 ghost use Rattle.line_instance.specs.Truths.{In, IsEmpty};
 ghost use Rattle.line_instance.specs.Line.{IsTaskSet, tasks};

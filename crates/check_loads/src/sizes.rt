@@ -1,4 +1,8 @@
 //! The times of a set of tasks, and what its tasks count for by their times in parts of the cycle.
+//!
+//! Tasks over half a cycle can't share a station, and tasks of more than a third can share it in pairs at most. The
+//! bound LM3 counts this in sixths of a station. A task over two thirds of the cycle counts 6, at two thirds 4, above a
+//! third 3, and at a third 2. It is one pass over the set, spared where the longest task is below a third.
 ghost use Rattle.std.specs.Prelude.{◌≡◌, ℕ, ◌≤◌, ◌+◌, max};
 ghost use Rattle.line_instance.specs.Truths.{In};
 ghost use Rattle.line_instance.specs.Line.{IsTaskSet, time};
@@ -10,7 +14,7 @@ use line_instance::{Instance, TaskSet};
 /// What is known of the times of a set of tasks, in the instance's time unit.
 #[derive(Clone, Copy)]
 pub struct Times {
-    /// The total time, at most 204,800,000,000,000,000.
+    /// The total time, at most 204,800,000,000,000,000, the time of 1,024 longest tasks.
     pub total: u64,
     /// A time that no task of the set exceeds, at most 200,000,000,000,000.
     pub longest: u64,
@@ -100,7 +104,8 @@ fn sixths(cycle: u64, time: u64) -> u32
     }
 }
 
-/// The stations that the tasks need by their halves (Scholl's LM2) and sixths (LM3), and 1 at least.
+/// The stations that the tasks need by their halves (Scholl's LM2) and sixths (LM3), and 1 at least. There are at most
+/// 6,144 sixths, 6 for each of 1,024 tasks.
 pub fn stations(counts: SizeCounts) -> u64
     requires halves { counts.above_half ≤ 1024 }
     requires half { counts.at_half ≤ 1024 }

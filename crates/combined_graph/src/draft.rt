@@ -28,10 +28,11 @@ const MAX_TASKS: u64 = 1024;
 // The greatest demand of a model.
 const MAX_DEMAND: u64 = 10_000;
 
-// The greatest time of a task of a model.
+// The greatest time of a task of a model. In a combined instance a task then takes at most 16 * 10,000 times as much,
+// 1.6 * 10^14, which is within the limit of an instance.
 const MAX_TIME: u64 = 1_000_000_000;
 
-// The most arcs of all models together.
+// The most arcs of all models together: as many as a file of an instance may have.
 const MAX_ARCS: usize = 524_288;
 
 /// Why a record isn't taken.

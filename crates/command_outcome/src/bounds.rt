@@ -5,7 +5,8 @@ ghost use Rattle.command_outcome.specs.Bounds.{bounds_line, cut_short_text};
 
 use std::alloc::{AllocError, Global};
 
-/// More bytes than the report of a search that memory ended can have.
+/// More bytes than the report of a search that memory ended can have: two numbers of at most 39 digits, and 27 bytes
+/// beside them.
 const CUT_SHORT_ROOM: usize = 128;
 
 /// The line with both bounds.

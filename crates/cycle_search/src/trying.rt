@@ -26,9 +26,11 @@ use std::alloc::{AllocError, Global};
 use std::sync::Wait;
 use std::thread::Threads;
 
-/// A book with more entries, or one on which more units were spent, isn't reopened.
+/// A book with more entries, or one on which more units were spent, isn't reopened. So a certificate, of a proof that
+/// was kept and a book, stays below 20,000,000 entries: a try adds at most one more than twice its units.
 const MAX_ENTRIES: u64 = 1_000_000;
 
+/// The most units of a book that is reopened.
 const MAX_PAID: u64 = 1_000_000;
 
 /// What a try comes to.

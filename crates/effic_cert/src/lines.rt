@@ -7,7 +7,7 @@ use cert_lines::LineError;
 use cert_lines::pattern::Pattern;
 use std::alloc::Global;
 
-/// The greatest product.
+/// The greatest product: above that of 1,024 stations at a cycle time of 10^18.
 const MAX_PRODUCT: u128 = 1_000_000_000_000_000_000_000_000;
 
 /// The line of the range of stations.

@@ -13,10 +13,12 @@ use std::alloc::{AllocError, Global};
 use std::sync::Wait;
 use std::thread::Threads;
 
-/// The most entries other than those by Bound with which a try is made, and the most units of the entries.
+/// The most entries other than those by Bound with which a try is made, and the most units of the entries. So the check
+/// of what a search writes stays well within its 20,000,000 steps.
 const MOST: u64 = 4_000_000;
 
-/// The most entries of a book with which a try is made: with more there isn't room for those of the try.
+/// The most entries of a book with which a try is made: with more there isn't room for those of the try. A try with
+/// 3,000,000 units adds at most 6,000,001, and a certificate has at most 20,000,000.
 const ROOM: u64 = 13_999_999;
 
 /// What the tries at one number of stations come to.

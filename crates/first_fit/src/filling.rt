@@ -1,4 +1,8 @@
 //! A line that is being filled.
+//!
+//! The state is a plain value: what stands in front and at the back, the present station, and what time it has left.
+//! Whether a task may join is a few operations on sets, and to join it is one. Contracts ask for a station below 2^31;
+//! a line gets to one station a task at most.
 ghost use Rattle.std.specs.Prelude.{◌≡◌, ◌≤◌, ◌<◌, ◌^◌, ◌↔◌, IsTrue, length};
 ghost use Rattle.line_instance.specs.Line.{tasks, time};
 ghost use Rattle.first_fit.specs.inner.Filling.{MayJoin, joined, next_station, started};

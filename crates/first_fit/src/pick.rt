@@ -1,4 +1,7 @@
 //! The choice of the next task.
+//!
+//! It goes over all tasks, front before back, and keeps the best so far. A later choice has to have more weight, so of
+//! equal weights the least task stays, in front before the back.
 ghost use Rattle.std.specs.Prelude.{◌≡◌, ◌<◌, IsNone, IfSome};
 ghost use Rattle.line_instance.specs.Line.{tasks};
 ghost use Rattle.first_fit.specs.inner.Filling.{MayJoin};

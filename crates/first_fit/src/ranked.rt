@@ -1,4 +1,7 @@
 //! The ranked balance.
+//!
+//! The line is filled until all tasks stand; where no task may join, the next station is opened. No task is longer than
+//! the cycle, so each new station takes one at least and the loop ends.
 ghost use Rattle.std.specs.Prelude.{◌≡◌, ℕ, IfOk, length};
 ghost use Rattle.line_rules.specs.Bounds.{IsTooLong};
 ghost use Rattle.line_rules.specs.Ranked.{IsRankedBalance};

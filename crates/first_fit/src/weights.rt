@@ -1,4 +1,7 @@
 //! The weights of the tasks.
+//!
+//! In front a task weighs its own time and that of all after it; at the back its own and that of all before it. Each
+//! weight is one sum over a set, made once for the line.
 ghost use Rattle.std.specs.Prelude.{◌≡◌, ◌<◌, ◌≤◌, IfOk, length};
 ghost use Rattle.line_instance.specs.Line.{Line, tasks};
 ghost use Rattle.line_rules.specs.Ranked.{weight};

@@ -1,4 +1,7 @@
 //! The reading of pairs of tasks that are apart.
+//!
+//! The text is what an IN2 text has after its times: pairs and the end mark, read by the same code. Two tasks that are
+//! apart are two, so a pair of a task with itself is a fault. A pair may stand twice, and in either order.
 ghost use Rattle.std.specs.Prelude.{◌≡◌, ◌≤◌, ◌<◌, ◌^◌, List, length};
 ghost use Rattle.in2_reader.specs.ApartFile.{IsApartFile, IsApartAnswer, apart_refusal};
 ghost use Rattle.in2_reader.specs.declared.fault.In2Fault.{In2Fault};

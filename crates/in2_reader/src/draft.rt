@@ -1,4 +1,7 @@
 //! The reading of a text line by line: times, and pairs up to the end mark.
+//!
+//! The first number tells how many times follow, so one pass is enough, and the first line that doesn't fit is the
+//! first fault. A line costs its own bytes and one place in a list.
 ghost use Rattle.std.specs.Prelude.{◌≡◌, ◌≤◌, ◌<◌, ◌+◌, ◌-◌, ◌^◌, ℕ, length, IfOk, Ok};
 ghost use Rattle.line_io.specs.Lines.{number_in};
 ghost use Rattle.in2_reader.specs.Contents.{contents_from, lines_in};
@@ -13,13 +16,13 @@ use line_instance::Prec;
 use line_io::{Num, Span, number};
 use std::alloc::Global;
 
-// The most tasks.
+// The most tasks: the bits of a set.
 const MAX_TASKS: u64 = 1024;
 
-// The greatest time of a task.
+// The greatest time of a task: that of every instance, so that `make` refuses no time that was read.
 const MAX_TIME: u64 = 200_000_000_000_000;
 
-/// The most pairs that a text may have.
+/// The most pairs that a text may have: 2^19, above the 523,776 pairs that 1,024 tasks have.
 pub const MAX_ARCS: usize = 524_288;
 
 /// What an IN2 text says.

@@ -1,4 +1,8 @@
 //! The reading of an IN2 text as an instance.
+//!
+//! What the text says is read first, and `make` makes the instance of it. The ranges of an IN2 text are those that
+//! `make` asks for, so of its refusals only a cycle is left, and out of memory. A text in memory is shorter than 2^63
+//! bytes, so the numbers of its lines fit.
 ghost use Rattle.std.specs.Prelude.{◌≡◌, ◌<◌, ◌^◌, length};
 ghost use Rattle.in2_reader.specs.Grammar.{In2};
 ghost use Rattle.in2_reader.specs.Instance.{IsIn2Read, IsReading, IsReadingOf, refusal};

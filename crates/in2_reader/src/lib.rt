@@ -1,4 +1,8 @@
 //! Instances as IN2 texts, and texts of tasks that are apart.
+//!
+//! An IN2 text has the number of tasks, their times, pairs of tasks and an end mark, a line each. It is read in one
+//! pass. A text of tasks that are apart has the pairs and the end mark alone. The parts that an ALB text has in common
+//! with these are public here: contents of lines, pairs, and covering pairs.
 #![tactic(auto)]
 
 mod apart;

@@ -1,4 +1,8 @@
 //! Pairs of tasks, and the end mark.
+//!
+//! A pair is two numbers with a comma between, with blanks or tabs round the comma or none. `-1,-1` is the end mark,
+//! which no pair can be, since tasks are counted from 1. What is no pair is told apart from a pair that names no task,
+//! because these are two faults.
 ghost use Rattle.std.specs.Prelude.{◌≡◌, ◌≢◌, ◌≤◌, ◌<◌, ◌^◌, ℕ, MatchOption, length, take, drop, IfSome, IsNone, None};
 ghost use Rattle.std.specs.Prelude.{Some};
 ghost use Rattle.in2_reader.specs.Pairs.{pair_in, pair_for, comma_split, without_gaps_front, without_gaps_back};

@@ -1,4 +1,7 @@
 //! How a fault is printed.
+//!
+//! A fault is printed on one line: the number of the line at fault, and a few words for its kind. The tasks of a cycle
+//! follow, counted from 1 in print and from 0 in values.
 ghost use Rattle.std.specs.Prelude.{◌≡◌, ◌++◌, string_bytes, OnOk};
 ghost use Rattle.in2_reader.specs.Texts.{fault_text};
 

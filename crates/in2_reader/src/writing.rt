@@ -1,4 +1,8 @@
 //! The canonical text of an instance.
+//!
+//! Only covering pairs are written, since all other precedences follow from them. To find them each pair of tasks is
+//! asked once: for 1,024 tasks about a million questions, each a few operations on sets. All else is one pass over the
+//! tasks.
 ghost use Rattle.std.specs.Prelude.{◌≡◌, ◌++◌, ◌+◌, ◌<◌, string_bytes, OnOk, IfOk};
 ghost use Rattle.std.specs.List.{flat_map};
 ghost use Rattle.line_instance.specs.Line.{tasks};

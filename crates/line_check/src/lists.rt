@@ -1,4 +1,7 @@
 //! The check of a list of entries in their order.
+//!
+//! The steps that are left go from entry to entry. So the units of a list are the sum of those of its entries. The
+//! check ends where an entry needs a load more than are left.
 ghost use Rattle.line_instance.specs.Line.{tasks};
 ghost use Rattle.line_rules.specs.Ranges.{AreEntries};
 ghost use Rattle.line_check.specs.Lists.{AreFound};

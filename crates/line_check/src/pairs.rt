@@ -1,4 +1,8 @@
 //! Whether a pair of sets is a load.
+//!
+//! The last load of a frame comes from a text, so whether it is one has to be tested. It has to be a part of the set
+//! and to fit the cycle. No two of its tasks may be apart, and each side needs what has to stand there. One pass over
+//! the tasks, with a few operations on sets for each.
 ghost use Rattle.std.specs.Prelude.{◌≡◌, ℕ, ◌<◌, ◌↔◌, true, IsTrue};
 ghost use Rattle.line_instance.specs.Truths.{In};
 ghost use Rattle.line_instance.specs.Line.{tasks};

@@ -1,4 +1,7 @@
 //! What the check of a certificate finds: of an entry, a list, frames, and the whole, and why it refuses.
+//!
+//! Each answer has the values that its printed line speaks of, so that nothing is computed again for the text. An entry
+//! and a frame have faults of their own; a certificate names the part in which its first fault is.
 
 use line_rules::Load;
 

@@ -1,4 +1,8 @@
 //! The walk over the loads of a set, which takes a cite for each load that needs one.
+//!
+//! A load needs a cite only if it is full and the bound leaves its rest open. Such loads take the cites in their order.
+//! The tests of a load go from cheap to dear: the total time of its rest, whether it is full, the bound of its rest.
+//! The first is one comparison. Each load costs one unit, whatever it needs.
 ghost use Rattle.std.specs.Prelude.{◌≡◌, ℕ, ◌-◌, ◌<◌, ◌≤◌, ◌↔◌, length, take, slice_get, Some, IsTrue, IsNone, IfSome};
 ghost use Rattle.std.specs.Prelude.{true, false};
 ghost use Rattle.line_rules.specs.Loads.{IsLoad, rest};

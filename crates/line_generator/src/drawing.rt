@@ -1,4 +1,7 @@
 //! Draws times and arcs, task by task, and makes the instance of them.
+//!
+//! A time is 1 to 100. A task has an arc from an earlier one where its word is even, so about half of the tasks have
+//! one. No ring can come, since each arc leads to a later task.
 ghost use Rattle.std.specs.Prelude.{◌≡◌, ◌≤◌, ◌++◌, ◌∷◌, [], ℕ, List, length, IfOk, OnOk};
 ghost use Rattle.line_instance.specs.Made.{AreTimes, IsInstanceOf};
 ghost use Rattle.line_instance.specs.Walks.{AreArcs, IsRing};

@@ -1,4 +1,7 @@
 //! Arcs between tasks, and the first one that names no task.
+//!
+//! An arc is a precedence as a text gives it, before it is known that the tasks exist and that there is no cycle. One
+//! look at each arc finds the first that names something else than two tasks.
 ghost use Rattle.std.specs.Prelude.{◌≡◌, ℕ, ◌<◌, IsNone, IfSome};
 ghost use Rattle.line_instance.specs.Walks.{AreArcs};
 ghost use Rattle.line_instance.specs.Made.{IsFirstBad};

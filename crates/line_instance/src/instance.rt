@@ -1,4 +1,8 @@
 //! Instances: tasks with times, the tasks before each one, and a rank for each.
+//!
+//! What a search asks for in its inner loops is kept and not computed. Each task has three sets, of the tasks before
+//! it, after it and apart from it, with its rank and its kept partners. That is 384 bytes of sets and 52 more a task,
+//! so 1,024 tasks take less than half a megabyte. Only pairs apart can be changed later.
 ghost use Rattle.std.specs.Prelude.{◌≡◌, ◌≤◌, ◌<◌, ◌↔◌, ℕ, List, [], length, slice_index_or, IsTrue, IfOk};
 ghost use Rattle.line_instance.specs.Walks.{ArePairs, IsGiven};
 ghost use Rattle.line_instance.specs.Partners.{IsKeptAt};
@@ -13,10 +17,12 @@ use crate::sets::TaskSet;
 use std::alloc::{AllocError, Global};
 use std::marker::Model;
 
-/// The most tasks that an instance has.
+/// The most tasks that an instance has: as many as a set has bits, 16 words of 64.
 pub const MAX_TASKS: usize = 1024;
 
-/// The greatest time of a task, in the instance's time unit.
+/// The greatest time of a task, in the instance's time unit. It is above the 1.6 * 10^14 that a task of a combined
+/// instance may take: 16 models, 10,000 units of each, 10^9 for each unit. All tasks together take at most
+/// 2.048 * 10^17, less than the greatest cycle time, so sums of times fit into 64 bits.
 pub const MAX_TIME: u64 = 200_000_000_000_000;
 
 /// Tasks with times, the set of tasks before each one, the set of tasks apart from each one, and the order of the tasks

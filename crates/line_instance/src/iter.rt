@@ -1,4 +1,8 @@
 //! The members of a set, one by one, and their text.
+//!
+//! The members are taken out of one word after the other: the lowest bit of the word is the next member, and is then
+//! cleared. A member costs a few operations, and a word without members one comparison. The iterator borrows the set
+//! and copies one word of it at a time.
 
 ghost use Rattle.std.specs.Prelude.{◌≡◌};
 ghost use Rattle.line_instance.specs.Truths.{members_of};

@@ -1,4 +1,8 @@
 //! Making an instance of times and arcs, with each refusal.
+//!
+//! The four refusals that need no memory come first: no task, too many, a time above the limit, an arc that names no
+//! task. Then the order of ranks is sought, and where it gets stuck there is a ring. At last each row is closed in that
+//! order. An arc costs one union of sets, and the partners cost a test of each two tasks.
 ghost use Rattle.std.specs.Prelude.{◌≡◌, ◌≤◌, ◌<◌, ℕ, List, [], length, slice_index_or, IsNone, IfSome, IfOk};
 ghost use Rattle.line_instance.specs.Made.{IsMade, IsFirstLong, AreTimes};
 ghost use Rattle.line_instance.specs.Walks.{AreArcs};

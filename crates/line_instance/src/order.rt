@@ -1,4 +1,8 @@
 //! The order of the tasks by rank.
+//!
+//! Each rank goes to the least task that has none yet and whose direct predecessors all have one. The search for it
+//! begins anew for each rank, so n tasks take up to n^2 tests on sets; this is done once an instance. Where no task is
+//! free, some arcs have a ring among the tasks that are left.
 ghost use Rattle.std.specs.Prelude.{◌≡◌, ℕ, ◌≤◌, ◌<◌, length, IsNone, IfOk, IfSome};
 ghost use Rattle.line_instance.specs.inner.Inside.{AreRows, MayCome, IsLeastFree, IsWhole, IsStuck, IsPermutation};
 ghost use Rattle.line_instance.specs.inner.Inside.{AreRanksOf};

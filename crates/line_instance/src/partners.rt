@@ -1,4 +1,8 @@
 //! Partners: the tasks that may stand in for a task.
+//!
+//! A partner takes no more time than the task, and nothing binds it that doesn't bind the task. The table is made with
+//! a test of each two tasks, and anew when tasks are set apart. At most 8 partners of a task are kept, so that a task's
+//! list has a fixed size and needs no memory of its own.
 ghost use Rattle.std.specs.Prelude.{◌≡◌, ◌≤◌, ◌<◌, ◌↔◌, ℕ, List, [], length, IsTrue, IfOk, slice_get, slice_index_or};
 ghost use Rattle.std.specs.Prelude.{Some};
 ghost use Rattle.line_instance.specs.inner.Inside.{AreRows, AreTurned, ArePaired, ArePartners, LeadsIn, of_rows};
@@ -11,7 +15,7 @@ use crate::rows::{clear_rows, mark_pairs};
 use crate::sets::TaskSet;
 use std::alloc::{AllocError, Global};
 
-// The most partners that are kept of a task.
+// The most partners that are kept of a task: few, since the table has a place for each.
 const MAX_KEPT: u32 = 8;
 
 /// The kept partners of a task: the first `many` of `tasks`.

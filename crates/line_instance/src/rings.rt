@@ -1,4 +1,8 @@
 //! Rings: closed walks of arcs, found where no task is free.
+//!
+//! Where no task is free, each task that is left has an arc from another one that is left. So a walk back along such
+//! arcs has to meet itself again, after at most as many steps as there are tasks. The part that repeats is the ring. It
+//! is turned so that its least task stands first, and told in the direction of its arcs.
 ghost use Rattle.std.specs.Prelude.{◌≡◌, ℕ, ◌+◌, ◌<◌, ◌≤◌, ◌++◌, ◌∷◌, List, [], false, length, slice_index};
 ghost use Rattle.std.specs.Prelude.{slice_index_or, IfOk, OnOk, OnErr};
 ghost use Rattle.line_instance.specs.Walks.{IsRingOf, at as at_place};

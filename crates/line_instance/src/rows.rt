@@ -1,4 +1,8 @@
 //! The tasks before each task, as rows of sets.
+//!
+//! A row is a set of tasks for each task. What is before a task is its direct predecessors with what is before them. In
+//! the order of ranks the rows of these are made already, so each arc costs one union. Turned round, the same rows tell
+//! what is after each task.
 ghost use Rattle.std.specs.Prelude.{◌≡◌, ◌≤◌, ◌<◌, ℕ, List, [], length, IfOk, slice_index_or, replicate, false};
 ghost use Rattle.line_instance.specs.Walks.{AreArcs};
 ghost use Rattle.line_instance.specs.inner.Inside.{AreRows, AreEmpty, AreDirect, IsJoined, AreJoined, IsWhole};

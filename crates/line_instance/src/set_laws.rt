@@ -1,4 +1,6 @@
 //! Laws of the sets. Each function does nothing: its contract is the law, over the lists of truths that contracts see.
+//!
+//! Proofs of the crates above cite them, and so speak of sets and never of words.
 
 ghost use Rattle.line_instance.specs.SetLaws.{SubsetIsTransitive, MinusIsSubset, MeetIsSubset, DisjointCountsAdd};
 ghost use Rattle.line_instance.specs.SetLaws.{CountFalls};

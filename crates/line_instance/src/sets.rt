@@ -1,4 +1,8 @@
 //! The sets, and the operations on them by words and lanes.
+//!
+//! A set is 16 words of 64 bits, since a line has at most 1,024 tasks. Union, meet and difference go over all lanes at
+//! once, without a branch, so they cost the same for a small set as for a large one. In return a set is a plain value
+//! of 128 bytes, and no call has to allocate.
 
 ghost use Rattle.std.specs.Prelude.{◌≡◌, ℕ, ◌+◌, ◌*◌, ◌^◌, ◌<◌, ◌≤◌, ◌↔◌, true, false, not, eqb, ltb, [], length};
 ghost use Rattle.std.specs.Prelude.{slice_index, slice_index_or, slice_set, drop, replicate, IsTrue, IsNone, IfSome};

@@ -1,4 +1,8 @@
 //! Calls that are counted, and that fail where this was asked for.
+//!
+//! Tests choose which calls fail, by number, and how many bytes a failed call keeps. A call costs a look through the
+//! list of those chosen, which is short. Counts stay at 2^64 - 1, so that a count never overflows and a clause can
+//! still say that it rose.
 ghost use Rattle.std.specs.Prelude.{◌≡◌, ◌≤◌, IsNone, IfSome, OnOk, OnErr};
 ghost use Rattle.line_io.specs.Outside.{up};
 ghost use Rattle.line_io.specs.Kept.{IsToFail, unused, counted, keep_of, next_keep, torn};

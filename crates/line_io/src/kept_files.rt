@@ -1,4 +1,7 @@
 //! Files kept in memory, each found by its name.
+//!
+//! A list of names with bytes, where the first file of a name is the one. A call looks through the names in order; a
+//! test has few files.
 ghost use Rattle.std.specs.Prelude.{◌≡◌, ◌≢◌, ℕ, true, Some, None, IfSome, IfNone, List, take, option_map, OnOk, OnErr};
 ghost use Rattle.line_io.specs.Kept.{file_in, blames};
 ghost use Rattle.line_io.specs.declared.kept_files.Blame.TheVariants.{File};

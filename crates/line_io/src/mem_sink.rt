@@ -1,4 +1,7 @@
 //! An output in memory, which tells what was put, and fails at chosen calls.
+//!
+//! A put costs a copy of its bytes. Calls that fail are chosen beforehand, so that a test can try what the program says
+//! and leaves at each failure.
 ghost use Rattle.std.specs.Prelude.{◌≡◌, ◌≤◌, ◌++◌, take, OnOk, OnErr, [], Some};
 ghost use Rattle.line_io.specs.Outside.{up, Grows};
 ghost use Rattle.line_io.specs.Kept.{unused, counted, IsToFail, next_keep, torn, after_write, KeepsTorn};

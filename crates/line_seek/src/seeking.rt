@@ -22,10 +22,11 @@ use line_rules::{Balance, Entries};
 use lower_bounds::bound;
 use std::alloc::{AllocError, Global};
 
-/// How many loads a try of the first round may list.
+/// How many loads a try of the first round may list: few, so that a seek that finds at once is short.
 const FIRST_SIZE: u64 = 1_000;
 
-/// How many times as many a try of the next round may list.
+/// How many times as many a try of the next round may list. With as many tries a round, all rounds before one list a
+/// third of its loads.
 const GROWTH: u64 = 4;
 
 /// What a seek comes to.

@@ -16,7 +16,7 @@ use line_rules::{Balance, Mode};
 use station_search::{Decided, Units, balance_of, decide_in};
 use std::alloc::{AllocError, Global};
 
-/// How many loads a beam lists of a rest at most.
+/// How many loads a beam lists of a rest at most. With fewer a rest, it gets through more stations for as many loads.
 const LOADS: u64 = 100;
 
 /// What is found of the question whether all tasks have a balance in so many stations.

@@ -1,4 +1,7 @@
 //! The commands, with the names and the keys that each one takes.
+//!
+//! A command is a row of a table: its word, how many names it wants, and which keys it wants and takes. The table is
+//! small, and a look goes through it in order.
 ghost use Rattle.std.specs.Prelude.{◌≡◌, map};
 ghost use Rattle.line_words.specs.Table.{command_named, names_wanted, keys_wanted, keys_taken, units_most};
 
@@ -161,7 +164,9 @@ impl Command {
         }
     }
 
-    /// The most work units that the command takes.
+    /// The most work units that the command takes: 3,000,000 for one search, whose certificate then stays well within
+    /// 20,000,000 entries; fewer for `cycle` and `effic`, which have as many anew for each cycle that is tried, and for
+    /// `sequence`.
     pub(crate) fn units_most(&self) -> u64
         ensures { result ≡ units_most self.now }
     {

@@ -1,4 +1,7 @@
 //! The faults of the words.
+//!
+//! A fault is printed as one line: the number of the word, counted from 0, and two words for its kind. A script can
+//! compare it.
 ghost use Rattle.std.specs.Prelude.{◌≡◌, ◌++◌, string_bytes, OnOk};
 ghost use Rattle.line_words.specs.Texts.{usage_text};
 

@@ -1,4 +1,7 @@
 //! Jobs, and what the words of a command set.
+//!
+//! A job has the values of all keys of its command, with the defaults put in, so that nothing after it reads words. A
+//! value costs a look through the words, of which there are few.
 ghost use Rattle.std.specs.Prelude.{◌≡◌, ◌≤◌, ◌<◌, ◌^◌, IfOk, IfSome, option_map, ℕ, codes};
 ghost use Rattle.line_words.specs.Words.{texts, names_of, value_of};
 ghost use Rattle.line_words.specs.Table.{most_of};
@@ -188,7 +191,10 @@ fn name_set(alloc: Global, words: &[String], key: &str) -> Result<Option<Name>, 
     }
 }
 
-/// The greatest number that a key takes.
+/// The greatest number that a key takes. A cycle time of 10^18 is more than all tasks of a line take together. There
+/// are at most as many stations as tasks, 1,024. With 20,000,000 steps a check gets through every certificate that a
+/// search here writes. An interval and a length are at most 10^9, as a time of a model is. A seek may list as many
+/// loads as a search has units. A seed is any number of 64 bits.
 pub(crate) fn most_of(command: Command, key: &str) -> u64
     ensures { result ≡ most_of command key.now }
 {

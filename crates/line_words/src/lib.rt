@@ -1,4 +1,9 @@
 //! The words of the command line: the job that they ask for, or the first fault in them.
+//!
+//! A word with `=` after letters a to z sets a key; every other word is a name. Names and keys may stand in any order,
+//! so a word's fault depends on the words before it alone. The first fault is told with its place; where there is none,
+//! what is missing. Each word is compared with those before it, which costs the square of their number; nothing is kept
+//! but the job.
 #![tactic(auto)]
 
 mod command;

@@ -1,4 +1,6 @@
 //! Names of files.
+//!
+//! A job outlives the words, so its names are copies.
 use std::alloc::{AllocError, Global};
 use std::marker::Model;
 

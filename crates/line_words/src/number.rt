@@ -1,4 +1,7 @@
 //! Numbers in words.
+//!
+//! A number has one spelling: digits, with no 0 in front of another digit. A value above the limit of its key is no
+//! value, so a job can't have one.
 ghost use Rattle.std.specs.Prelude.{◌≡◌, ◌≤◌, IfSome};
 ghost use Rattle.line_words.specs.Table.{leads_with_nought, number_up_to};
 

@@ -1,4 +1,8 @@
 //! The reading of the words as a job.
+//!
+//! The words after the command are gone over from left to right, and each is tested with those before it. The first
+//! that is wrong ends the reading. Then missing names are told, and then missing keys. Only a line without any of these
+//! makes a job, and only a job takes memory.
 ghost use Rattle.std.specs.Prelude.{◌≡◌, ◌<◌, Option, None, MatchOption, ℕ};
 ghost use Rattle.line_words.specs.Words.{texts};
 ghost use Rattle.line_words.specs.Table.{least_of, names_file, is_value};

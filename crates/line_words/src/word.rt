@@ -1,4 +1,7 @@
 //! Settings and names among the words.
+//!
+//! A word is split at its first `=`. Where letters a to z alone stand before that, it is a setting, and else a name. So
+//! `./a=b` is a name. Whatever is asked of the words is a pass over them; nothing is kept.
 ghost use Rattle.std.specs.Prelude.{◌≡◌, ◌≤◌, Option, None, Some, length, map, option_map};
 ghost use Rattle.line_words.specs.Words.{all_letters, equals_split, setting, names_of, is_name, value_by, value_of};
 ghost use Rattle.line_words.specs.Words.{sets, texts};

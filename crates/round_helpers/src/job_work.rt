@@ -21,7 +21,7 @@ use line_rules::{LineKind, Load, Loads, Mode};
 use station_search::{Decided, Units, balance_of, choose_mode, decide};
 use std::alloc::{AllocError, Global};
 
-/// The most stations that a question may ask for beside a load.
+/// The most stations that a question may ask for beside a load: the 1,024 of a line less the one that has the load.
 pub const MOST_BESIDE: u32 = 1023;
 
 /// The question whether all tasks have a balance in `most` stations.

@@ -34,7 +34,9 @@ use std::alloc::{AllocError, Global};
 use std::thread::Threads;
 use warm_book::{Counted, Warmed, warm_counted, warm_wide};
 
-/// The units that a run and its old entries have together at most.
+/// The units that a run and its old entries have together at most: twice the 3,000,000 that the words may ask for,
+/// since helpers together have as many as the run. With 3,000,000 units there is no room for old entries. So the
+/// certificate stays within the default steps of the check.
 const MOST_UNITS: u64 = 6_000_000;
 
 /// The book with which a run begins, and the first line of its text, where it has one on old entries.

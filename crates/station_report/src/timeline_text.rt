@@ -17,7 +17,7 @@ use line_rules::Balance;
 use std::alloc::{AllocError, Global};
 use utility_work::{MAX_MODELS, utility_step, works_at};
 
-/// The most rows of a timeline.
+/// The most rows of a timeline: its text is made in memory.
 const MAX_ROWS: usize = 1_000_000;
 
 /// What telling a timeline answers.

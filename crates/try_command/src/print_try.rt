@@ -1,4 +1,6 @@
 //! The printed lines of `try`.
+//!
+//! The text is one line: the seed, the number of tasks, the exit code of the search, and the bounds.
 ghost use Rattle.std.specs.Prelude.{◌≡◌, ◌++◌, string_bytes, IfOk, OnOk};
 ghost use Rattle.try_command.specs.TryText.{status_words, bounds_words, bounds_line, none_line};
 

@@ -1,4 +1,7 @@
 //! What `try` answers of a seed.
+//!
+//! The certificate goes through its text on purpose. What is printed is told of what the text says, and not of what the
+//! search had in hand. The check has its default steps, which are enough for every certificate of a run.
 ghost use Rattle.std.specs.Prelude.{◌≡◌, ◌⊎◌, ℕ, ◌≤◌, IfOk, MatchResult};
 ghost use Rattle.line_instance.specs.Line.{tasks};
 ghost use Rattle.line_rules.specs.Bounds.{IsTooLong};
@@ -30,7 +33,7 @@ use std::sync::Wait;
 use std::thread::Threads;
 use wide_check::{Wide, verify_wide};
 
-/// The most loads that the check walks.
+/// The most loads that the check walks: those of `check` by default.
 const STEPS: u64 = 20_000_000;
 
 /// The certificate that the text of a certificate is read as.

@@ -1,4 +1,7 @@
 //! Loads of a U-line, from both ends.
+//!
+//! A U-line is filled from both ends at once, so a load has a front and a back, and the mode is always Both. The calls
+//! ask for that mode and hand on to the code for all modes. They cost what that costs.
 ghost use Rattle.std.specs.Prelude.{◌≡◌, ◌↔◌, IsTrue, IsNone, IfSome, None, Some};
 ghost use Rattle.line_instance.specs.Line.{IsTaskSet, has};
 ghost use Rattle.line_instance.specs.Sums.{sum_where};

@@ -32,13 +32,13 @@ use rayon::prelude::*;
 use std::alloc::{AllocError, Global};
 use std::thread::Threads;
 
-/// The fewest old entries of a batch.
+/// The fewest old entries of a batch, so that threads have something to share from the start.
 const FEWEST: usize = 16;
 
-/// The most old entries of a batch.
+/// The most old entries of a batch, as many as a check walks side by side.
 const MOST: usize = 4096;
 
-/// The most loads that an old entry is walked for beside others.
+/// The most loads that an old entry is walked for beside others, as in a check. One that needs more is walked alone.
 const QUICK: u64 = 65_536;
 
 /// How many old entries the next batch has, where so many were kept: half as many, within limits.

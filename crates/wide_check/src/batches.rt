@@ -1,4 +1,8 @@
 //! The entries of a certificate, checked in batches side by side.
+//!
+//! A batch is walked side by side, and then gone over in order, where the units are added up and the first fault is
+//! found. So the answer is that of the check in order. An entry that isn't decided within 65,536 loads is walked again
+//! in its turn, with the steps that are left. So no more than a batch is walked beyond the steps.
 ghost use Rattle.std.specs.Prelude.{◌≡◌, ◌<◌, ◌≤◌, ◌-◌, ◌+◌, IfOk, length};
 ghost use Rattle.line_instance.specs.Line.{tasks};
 ghost use Rattle.line_rules.specs.Ranges.{AreEntries};
@@ -12,10 +16,11 @@ use rayon::prelude::*;
 use std::alloc::{AllocError, Global};
 use std::thread::Threads;
 
-/// How many entries are checked side by side.
+/// How many entries are checked side by side: many for each thread, so that few threads wait at the end of a batch.
+/// With `QUICK` it limits what is walked in vain after an entry that is refused.
 const BATCH: usize = 4096;
 
-/// The most loads that an entry is walked for beside others.
+/// The most loads that an entry is walked for beside others. One that needs more is walked alone, in order.
 const QUICK: u64 = 65_536;
 
 /// Checks the entry of number `k` after those before it.

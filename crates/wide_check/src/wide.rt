@@ -1,4 +1,7 @@
 //! The check of a certificate in threads.
+//!
+//! The entries are walked only where the check comes to them. That is where the number of tasks is that of the line,
+//! and the balance shows the upper bound.
 ghost use Rattle.std.specs.Prelude.{◌≤◌, IfOk};
 ghost use Rattle.line_rules.specs.Ranges.{IsInRange};
 ghost use Rattle.line_check.specs.Certificates.{NeedsEntries, AreFoundOf};
