@@ -10,8 +10,8 @@
 //! turns as places are given up.
 ghost use Rattle.std.specs.Prelude.{◌≡◌, ℕ, ◌<◌, ◌≤◌, ◌↔◌, ◌+◌, ◌-◌, IsTrue, IsNone, IfSome, IsSome, Some, None, true};
 ghost use Rattle.std.specs.Prelude.{false, cond};
-ghost use Rattle.line_instance.specs.Truths.{meet, union};
-ghost use Rattle.line_instance.specs.Line.{IsTaskSet, tasks, time, has};
+ghost use Rattle.line_instance.specs.Truths.{In, union};
+ghost use Rattle.line_instance.specs.Line.{IsTaskSet, Apart, tasks, has};
 ghost use Rattle.line_instance.specs.Sums.{sum_where};
 ghost use Rattle.line_rules.specs.Loads.{IsLoad, IsFull, taken};
 ghost use Rattle.line_rules.specs.Order.{After, IsNext, IsFollowing};
@@ -19,7 +19,7 @@ ghost use Rattle.line_rules.specs.Sides.{MayJoin, fills, spot, nothing_yet};
 ghost use Rattle.line_rules.specs.declared.types.Load.{Load as Pair};
 ghost use Rattle.line_rules.specs.inner.Scan.{Scan};
 ghost use Rattle.line_rules.specs.Ends.{IsEnd};
-ghost use Rattle.line_rules.specs.Sides.{HasRoom, pair_at};
+ghost use Rattle.line_rules.specs.Sides.{pair_at};
 ghost use Rattle.station_load.specs.Shorts.{HasShort};
 ghost use Rattle.station_load.specs.Walking.{IsWalk, last_given};
 
@@ -68,13 +68,16 @@ impl Model for Walk {
     } };
 }
 
-// Whether a task's time is left, and nothing of a load with these tasks at its sides is apart from it.
+// Whether a task may stand beside these tasks of the two sides: it isn't at the other side, and nothing is apart from
+// it.
 #[inline]
-fn fits(inst: &Instance, left: u64, here: &TaskSet, other: &TaskSet, task: u32) -> bool
+fn goes_with(inst: &Instance, here: &TaskSet, other: &TaskSet, task: u32) -> bool
     requires { task < tasks inst.now }
-    ensures { IsTrue result ↔ HasRoom inst.now left (union here.now other.now) task }
+    ensures { IsTrue result ↔ (has other.now task ≡ false)
+        × ((j : ℕ) → In (union here.now other.now) j → Apart inst.now j task → ⊥) }
 {
-    if inst.time(task) > left {
+    let _tasks = inst.tasks();
+    if other.has(task) {
         return false;
     }
     let apart = inst.apart(task);
@@ -116,12 +119,13 @@ fn advance(
     while let Some(place) = end.places.greatest_below(below) {
         below = place;
         let task = task_at(inst, side, place);
+        let time = inst.time(task);
         if end.tasks.has(task) {
             end.give_up(inst, side, task);
-            *sum -= inst.time(task);
-        } else if !other.has(task) && fits(inst, cycle - *sum, &end.tasks, other, task) {
+            *sum -= time;
+        } else if time <= cycle - *sum && goes_with(inst, &end.tasks, other, task) {
             end.take_in(inst, set, side, task);
-            *sum += inst.time(task);
+            *sum += time;
             return true;
         }
     }
@@ -157,7 +161,7 @@ fn grows(
     let mut below = inst.tasks();
     while let Some(task) = candidates.greatest_below(below) {
         below = task;
-        if !other.has(task) && fits(inst, cycle - sum, &end.tasks, other, task) {
+        if inst.time(task) <= cycle - sum && goes_with(inst, &end.tasks, other, task) {
             return true;
         }
     }
