@@ -88,27 +88,28 @@ fn goes_with(inst: &Instance, here: &TaskSet, other: &TaskSet, task: u32) -> boo
 }
 
 // Goes over the places of a side from the last one down: gives up what stands there, up to the first place where a task
-// may join. Whether one has joined. The load given last tells contracts where the scan began.
+// may join. Whether one has joined. Clauses name the load that the scan began from, and the code has no need of it.
 fn advance(
     inst: &Instance,
     cycle: u64,
     set: &TaskSet,
     mode: Mode,
     side: Side,
-    last: &Load,
     other: &TaskSet,
     end: &mut End,
     sum: &mut u64,
 ) -> bool
     requires set { IsTaskSet inst.now set.now }
-    requires scan { Scan inst.now cycle mode set.now last.now (pair_at side end.old.tasks other.now)
+    requires scan { (base : Pair) × Scan inst.now cycle mode set.now base (pair_at side end.old.tasks other.now)
         (spot inst.now side (tasks inst.now)) }
     requires kept { fills mode side ≡ true → IsEnd inst.now side set.now end.old.tasks end.old.free end.old.places }
     requires sum { sum.old ≡ sum_where (has (taken (pair_at side end.old.tasks other.now))) inst.now.times }
-    ensures joined { IsTrue result → IsNext inst.now cycle mode set.now last.now
-        (pair_at side end.new.tasks other.now) }
-    ensures passed { result ≡ false → Scan inst.now cycle mode set.now last.now (pair_at side end.new.tasks other.now)
-        (spot inst.now side 0) }
+    ensures joined { IsTrue result → (base : Pair) → Scan inst.now cycle mode set.now base
+        (pair_at side end.old.tasks other.now) (spot inst.now side (tasks inst.now))
+        → IsNext inst.now cycle mode set.now base (pair_at side end.new.tasks other.now) }
+    ensures passed { result ≡ false → (base : Pair) → Scan inst.now cycle mode set.now base
+        (pair_at side end.old.tasks other.now) (spot inst.now side (tasks inst.now))
+        → Scan inst.now cycle mode set.now base (pair_at side end.new.tasks other.now) (spot inst.now side 0) }
     ensures kept { fills mode side ≡ true → IsEnd inst.now side set.now end.new.tasks end.new.free end.new.places }
     ensures sum { sum.new ≡ sum_where (has (taken (pair_at side end.new.tasks other.now))) inst.now.times }
 {
@@ -251,8 +252,6 @@ impl Walk {
         if self.ended {
             return None;
         }
-        let last = self.load();
-        let sum = self.sum;
         count_load(
             inst,
             self.cycle,
@@ -260,13 +259,14 @@ impl Walk {
             &mut self.loads,
             &mut self.shorts,
         );
+        let sum = self.sum;
+        let back = self.back.tasks;
         if advance(
             inst,
             self.cycle,
             &self.set,
             self.mode,
             Side::Back,
-            &last,
             &self.front.tasks,
             &mut self.back,
             &mut self.sum,
@@ -274,13 +274,13 @@ impl Walk {
             self.given = true;
             return Some(self.load());
         }
+        let front = self.front.tasks;
         if advance(
             inst,
             self.cycle,
             &self.set,
             self.mode,
             Side::Front,
-            &last,
             &self.back.tasks,
             &mut self.front,
             &mut self.sum,
@@ -288,8 +288,8 @@ impl Walk {
             self.given = true;
             return Some(self.load());
         }
-        self.front.tasks = last.front;
-        self.back.tasks = last.back;
+        self.front.tasks = front;
+        self.back.tasks = back;
         self.sum = sum;
         self.ended = true;
         None
