@@ -1,3 +1,4 @@
 pub mod ScanTurns
+pub mod EachStart
 pub mod Walks
 pub mod AllLoadsGiven

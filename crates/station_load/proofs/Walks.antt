@@ -56,29 +56,32 @@ module _ (line : Line) (ok : IsLine line) (ranked : IsRanked line) (w : Walking)
   full_no s i f may l e full = full_none line ok w.cycle w.mode w.set is.set l (is.load l e) full s i f
       (let P : Load → Type 0 = λ k. MayJoin line w.cycle w.set s k i in subst P (sym (stand_last l e)) may)
 
-  module _ (last : Load) (same : last ≡ stand w) where
-    pub base : IsBase line w.cycle w.mode w.set w.last last
-    base =
-        let P : Load → Type 0 = λ l. IsBase line w.cycle w.mode w.set w.last l in
-        subst P (sym (same ∙ stand_is)) (base_of line w.cycle w.mode w.set w.last is.load)
+  pub base : IsBase line w.cycle w.mode w.set w.last (stand w)
+  base =
+      let P : Load → Type 0 = λ l. IsBase line w.cycle w.mode w.set w.last l in
+      subst P (sym stand_is) (base_of line w.cycle w.mode w.set w.last is.load)
 
-    pub start : Scan line w.cycle w.mode w.set last (stand w) (tasks line + tasks line)
-    start =
-        let P : Load → Type 0 = λ l. Scan line w.cycle w.mode w.set last l (2 * tasks line) in
-        let b : IsBase line w.cycle w.mode w.set w.last last = base in
-        rescan line w.cycle w.mode w.set last (stand w) (2 * tasks line) (tasks line + tasks line) (omega arith)
-        (subst P same (scan_start line ok ranked w.cycle w.mode w.set last b.is_part))
+  pub start : Scan line w.cycle w.mode w.set (stand w) (stand w) (tasks line + tasks line)
+  start =
+      let b : IsBase line w.cycle w.mode w.set w.last (stand w) = base in
+      rescan line w.cycle w.mode w.set (stand w) (stand w) (2 * tasks line) (tasks line + tasks line) (omega arith)
+      (scan_start line ok ranked w.cycle w.mode w.set (stand w) b.is_part)
 
-    pub goes_on : (b given : Load) → given ≡ b → IsNext line w.cycle w.mode w.set last b
-        → IsFollowing line w.cycle w.mode w.set w.last given
-    goes_on b given e n =
-        let P : Load → Type 0 = λ l. IsFollowing line w.cycle w.mode w.set w.last l in
-        subst P (sym e) (follows line w.cycle w.mode w.set ranked last w.last base b n)
+  -- once the back is gone over, the front is
+  pub turns : (now : Load) → Scan line w.cycle w.mode w.set (stand w) now (tasks line + 0)
+      → Scan line w.cycle w.mode w.set (stand w) now (tasks line)
+  turns now s = rescan line w.cycle w.mode w.set (stand w) now (tasks line + 0) (tasks line) (omega arith) s
 
-    pub ends : (now : Load) → Scan line w.cycle w.mode w.set last now 0 → (l : Load)
-        → IsLoad line w.cycle w.mode w.set l → After line w.last l → ⊥
-    ends now s = none_follows line w.cycle w.mode w.set ranked last w.last base
-        (none_above line w.cycle w.mode w.set last now s)
+  pub goes_on : (b given : Load) → given ≡ b → IsNext line w.cycle w.mode w.set (stand w) b
+      → IsFollowing line w.cycle w.mode w.set w.last given
+  goes_on b given e n =
+      let P : Load → Type 0 = λ l. IsFollowing line w.cycle w.mode w.set w.last l in
+      subst P (sym e) (follows line w.cycle w.mode w.set ranked (stand w) w.last base b n)
+
+  pub ends : (now : Load) → Scan line w.cycle w.mode w.set (stand w) now 0 → (l : Load)
+      → IsLoad line w.cycle w.mode w.set l → After line w.last l → ⊥
+  ends now s = none_follows line w.cycle w.mode w.set ranked (stand w) w.last base
+      (none_above line w.cycle w.mode w.set (stand w) now s)
 
 pub of_some : {P : Load → Type 0} (o : Option Load) → ((l : Load) → o ≡ Some l → P l) → IfSome o P
 of_some None f = tt

@@ -87,6 +87,9 @@ impl End {
         self.tasks.remove(task);
         self.free.insert(task);
         let mut shut = self.free.meet(waiting(inst, side, task));
+        if shut.is_empty() {
+            return;
+        }
         while let Some(other) = shut.least() {
             shut.remove(other);
             self.free.remove(other);

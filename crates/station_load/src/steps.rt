@@ -10,8 +10,8 @@
 //! turns as places are given up.
 ghost use Rattle.std.specs.Prelude.{◌≡◌, ℕ, ◌<◌, ◌≤◌, ◌↔◌, ◌+◌, ◌-◌, IsTrue, IsNone, IfSome, IsSome, Some, None, true};
 ghost use Rattle.std.specs.Prelude.{false, cond};
-ghost use Rattle.line_instance.specs.Truths.{meet, union};
-ghost use Rattle.line_instance.specs.Line.{IsTaskSet, tasks, time, has};
+ghost use Rattle.line_instance.specs.Truths.{In, union};
+ghost use Rattle.line_instance.specs.Line.{IsTaskSet, Apart, tasks, has};
 ghost use Rattle.line_instance.specs.Sums.{sum_where};
 ghost use Rattle.line_rules.specs.Loads.{IsLoad, IsFull, taken};
 ghost use Rattle.line_rules.specs.Order.{After, IsNext, IsFollowing};
@@ -19,7 +19,7 @@ ghost use Rattle.line_rules.specs.Sides.{MayJoin, fills, spot, nothing_yet};
 ghost use Rattle.line_rules.specs.declared.types.Load.{Load as Pair};
 ghost use Rattle.line_rules.specs.inner.Scan.{Scan};
 ghost use Rattle.line_rules.specs.Ends.{IsEnd};
-ghost use Rattle.line_rules.specs.Sides.{HasRoom, pair_at};
+ghost use Rattle.line_rules.specs.Sides.{pair_at};
 ghost use Rattle.station_load.specs.Shorts.{HasShort};
 ghost use Rattle.station_load.specs.Walking.{IsWalk, last_given};
 
@@ -68,13 +68,16 @@ impl Model for Walk {
     } };
 }
 
-// Whether a task's time is left, and nothing of a load with these tasks at its sides is apart from it.
+// Whether a task may stand beside these tasks of the two sides: it isn't at the other side, and nothing is apart from
+// it.
 #[inline]
-fn fits(inst: &Instance, left: u64, here: &TaskSet, other: &TaskSet, task: u32) -> bool
+fn goes_with(inst: &Instance, here: &TaskSet, other: &TaskSet, task: u32) -> bool
     requires { task < tasks inst.now }
-    ensures { IsTrue result ↔ HasRoom inst.now left (union here.now other.now) task }
+    ensures { IsTrue result ↔ (has other.now task ≡ false)
+        × ((j : ℕ) → In (union here.now other.now) j → Apart inst.now j task → ⊥) }
 {
-    if inst.time(task) > left {
+    let _tasks = inst.tasks();
+    if other.has(task) {
         return false;
     }
     let apart = inst.apart(task);
@@ -85,27 +88,28 @@ fn fits(inst: &Instance, left: u64, here: &TaskSet, other: &TaskSet, task: u32) 
 }
 
 // Goes over the places of a side from the last one down: gives up what stands there, up to the first place where a task
-// may join. Whether one has joined. The load given last tells contracts where the scan began.
+// may join. Whether one has joined. Clauses name the load that the scan began from, and the code has no need of it.
 fn advance(
     inst: &Instance,
     cycle: u64,
     set: &TaskSet,
     mode: Mode,
     side: Side,
-    last: &Load,
     other: &TaskSet,
     end: &mut End,
     sum: &mut u64,
 ) -> bool
     requires set { IsTaskSet inst.now set.now }
-    requires scan { Scan inst.now cycle mode set.now last.now (pair_at side end.old.tasks other.now)
+    requires scan { (base : Pair) × Scan inst.now cycle mode set.now base (pair_at side end.old.tasks other.now)
         (spot inst.now side (tasks inst.now)) }
     requires kept { fills mode side ≡ true → IsEnd inst.now side set.now end.old.tasks end.old.free end.old.places }
     requires sum { sum.old ≡ sum_where (has (taken (pair_at side end.old.tasks other.now))) inst.now.times }
-    ensures joined { IsTrue result → IsNext inst.now cycle mode set.now last.now
-        (pair_at side end.new.tasks other.now) }
-    ensures passed { result ≡ false → Scan inst.now cycle mode set.now last.now (pair_at side end.new.tasks other.now)
-        (spot inst.now side 0) }
+    ensures joined { IsTrue result → (base : Pair) → Scan inst.now cycle mode set.now base
+        (pair_at side end.old.tasks other.now) (spot inst.now side (tasks inst.now))
+        → IsNext inst.now cycle mode set.now base (pair_at side end.new.tasks other.now) }
+    ensures passed { result ≡ false → (base : Pair) → Scan inst.now cycle mode set.now base
+        (pair_at side end.old.tasks other.now) (spot inst.now side (tasks inst.now))
+        → Scan inst.now cycle mode set.now base (pair_at side end.new.tasks other.now) (spot inst.now side 0) }
     ensures kept { fills mode side ≡ true → IsEnd inst.now side set.now end.new.tasks end.new.free end.new.places }
     ensures sum { sum.new ≡ sum_where (has (taken (pair_at side end.new.tasks other.now))) inst.now.times }
 {
@@ -116,12 +120,13 @@ fn advance(
     while let Some(place) = end.places.greatest_below(below) {
         below = place;
         let task = task_at(inst, side, place);
+        let time = inst.time(task);
         if end.tasks.has(task) {
             end.give_up(inst, side, task);
-            *sum -= inst.time(task);
-        } else if !other.has(task) && fits(inst, cycle - *sum, &end.tasks, other, task) {
+            *sum -= time;
+        } else if time <= cycle - *sum && goes_with(inst, &end.tasks, other, task) {
             end.take_in(inst, set, side, task);
-            *sum += inst.time(task);
+            *sum += time;
             return true;
         }
     }
@@ -157,7 +162,7 @@ fn grows(
     let mut below = inst.tasks();
     while let Some(task) = candidates.greatest_below(below) {
         below = task;
-        if !other.has(task) && fits(inst, cycle - sum, &end.tasks, other, task) {
+        if inst.time(task) <= cycle - sum && goes_with(inst, &end.tasks, other, task) {
             return true;
         }
     }
@@ -247,8 +252,6 @@ impl Walk {
         if self.ended {
             return None;
         }
-        let last = self.load();
-        let sum = self.sum;
         count_load(
             inst,
             self.cycle,
@@ -256,13 +259,14 @@ impl Walk {
             &mut self.loads,
             &mut self.shorts,
         );
+        let sum = self.sum;
+        let back = self.back.tasks;
         if advance(
             inst,
             self.cycle,
             &self.set,
             self.mode,
             Side::Back,
-            &last,
             &self.front.tasks,
             &mut self.back,
             &mut self.sum,
@@ -270,13 +274,13 @@ impl Walk {
             self.given = true;
             return Some(self.load());
         }
+        let front = self.front.tasks;
         if advance(
             inst,
             self.cycle,
             &self.set,
             self.mode,
             Side::Front,
-            &last,
             &self.back.tasks,
             &mut self.front,
             &mut self.sum,
@@ -284,8 +288,8 @@ impl Walk {
             self.given = true;
             return Some(self.load());
         }
-        self.front.tasks = last.front;
-        self.back.tasks = last.back;
+        self.front.tasks = front;
+        self.back.tasks = back;
         self.sum = sum;
         self.ended = true;
         None

@@ -4,8 +4,8 @@ use Rattle.line_instance.proofs.Members.{In-meet, In-meet_parts}
 use Rattle.line_instance.specs.Line.{has}
 use Rattle.line_rules.proofs.JoinTests.{none_start, none_turn, none_end, free_where_may, may_where_room, room_where_may}
 use Rattle.station_load.proofs.steps.grows.Goals as goal
-use Rattle.station_load.proofs.steps.grows.Goals.{else-not-has-via-then-not-has+else-fits}
-use Rattle.station_load.proofs.steps.grows.Goals.{else-not-has-via-else-not-has}
+use Rattle.station_load.proofs.steps.grows.Goals.{else-time-cycle-via-then-time-cycle+else-goes_with}
+use Rattle.station_load.proofs.steps.grows.Goals.{else-time-cycle-via-else-time-cycle}
 
 pub loop-task-init : goal.loop-task-init
 loop-task-init c = none_start c.requires.set c.tasks-below.ensures.tasks
@@ -13,15 +13,18 @@ loop-task-init c = none_start c.requires.set c.tasks-below.ensures.tasks
 pub greatest_below-requires : goal.greatest_below-requires
 greatest_below-requires c = omega (arith, c.tasks-below.ensures.line.small, c.loop-task.invariant.low)
 
-pub returns-then-fits-clause-some : goal.returns-then-fits-clause-some
-returns-then-fits-clause-some c = λ e. (
+pub returns-then-goes_with-clause-some : goal.returns-then-goes_with-clause-some
+returns-then-goes_with-clause-some c = λ e. (
   c.in-Some.task,
   sym c.fills.ensures ∙ c.if-not-fills.false,
   may_where_room (c.requires.kept (sym c.fills.ensures ∙ c.if-not-fills.false)) c.args.cycle c.args.other.now
       c.requires.sum c.in-Some.task c.requires.fits
       ((In-meet_parts c.args.end.now.free c.args.short.now c.in-Some.task
       (ap (λ b. has b c.in-Some.task) (sym c.meet-candidates.ensures.value) ∙ c.in-Some.ensures.some.member)).0)
-      (sym c.has.ensures ∙ c.if-not-has.true) (c.fits.ensures.0 c.if-fits.true),
+      ((c.goes_with.ensures.0 c.if-goes_with.true).0) (record {
+        time = omega (arith, c.time.ensures.time, c.if-time-cycle.true);
+        parted = (c.goes_with.ensures.0 c.if-goes_with.true).1;
+      }),
 )
 
 pub loop-task-preserved : goal.loop-task-preserved
@@ -34,9 +37,10 @@ loop-task-preserved c =
     may) (c.requires.short i may.within r.1.time)) c.in-Some.ensures.some (λ may.
     let r = room_where_may (c.requires.kept (sym c.fills.ensures ∙ c.if-not-fills.false)) c.args.cycle c.args.other.now
     c.requires.sum c.in-Some.task may in
-    elim c.else-not-has.branch [
-      | else-not-has-via-then-not-has+else-fits w ↦ false≢true (sym w.if-fits.false ∙ w.fits.ensures.1 r.1)
-      | else-not-has-via-else-not-has w ↦ false≢true (sym r.0 ∙ (sym c.has.ensures ∙ w.if-not-has.false))
+    elim c.else-time-cycle.branch [
+      | else-time-cycle-via-then-time-cycle+else-goes_with w ↦
+          false≢true (sym w.if-goes_with.false ∙ w.goes_with.ensures.1 (r.0, r.1.parted))
+      | else-time-cycle-via-else-time-cycle w ↦ omega (arith, r.1.time, c.time.ensures.time, w.if-time-cycle.false)
     ])
 
 pub returns-clause-none : goal.returns-clause-none

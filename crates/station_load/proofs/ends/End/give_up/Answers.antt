@@ -8,6 +8,19 @@ loop-other-init c =
     c.requires.task c.requires.within c.remove.ensures.value c.insert.ensures.value c.insert.ensures.truths
     c.waiting.ensures.members c.waiting.ensures.set c.meet-shut.ensures.value
 
+pub returns-then-is_empty-clause-free : goal.returns-then-is_empty-clause-free
+returns-then-is_empty-clause-free c =
+    shut_end (shut_start c.tasks-tasks.ensures.line c.tasks-tasks.ensures.ranked c.requires.marked c.requires.apart
+    c.requires.task c.requires.within c.remove.ensures.value c.insert.ensures.value c.insert.ensures.truths
+    c.waiting.ensures.members c.waiting.ensures.set c.meet-shut.ensures.value)
+    (c.is_empty.ensures.0 c.if-is_empty.true)
+
+pub returns-then-is_empty-clause-marked : goal.returns-then-is_empty-clause-marked
+returns-then-is_empty-clause-marked c =
+    (shut_start c.tasks-tasks.ensures.line c.tasks-tasks.ensures.ranked c.requires.marked c.requires.apart
+    c.requires.task c.requires.within c.remove.ensures.value c.insert.ensures.value c.insert.ensures.truths
+    c.waiting.ensures.members c.waiting.ensures.set c.meet-shut.ensures.value).marked
+
 pub loop-other-smaller : goal.loop-other-smaller
 loop-other-smaller c = fewer_shut c.loop-other.shut c.in-Some.other c.in-Some.ensures.some.member
     c.remove-in-Some.ensures.value
