@@ -3,7 +3,8 @@ use Rattle.std.specs.declared.result.Result.{Result}
 use Rattle.std.specs.declared.result.Result.TheVariants.{Ok, Err}
 use Rattle.std.proofs.Common.{IfOk, rules, string_bytes, Bool, true, false, cond, ◌∷◌, ◌≡◌, ◌∙◌, ℕ, zero, suc, max, ◌+◌}
 use Rattle.std.proofs.Common.{◌-◌, ◌*◌, ◌≤◌, List, [], ◌++◌, length, length-append, Option, Some, None, refl, sym, ap}
-use Rattle.std.proofs.Common.{subst, arith}
+use Rattle.std.proofs.Common.{subst, arith, nat_lt}
+use Rattle.std.proofs.lemmas.Bool.{ltb-true, ltb-false}
 use Rattle.std.proofs.lemmas.List.{append-nil}
 use Rattle.line_instance.specs.Line.{Line, tasks}
 use Rattle.line_rules.specs.Balance.{IsRight}
@@ -63,8 +64,9 @@ record AddsBehind (N : ℕ) (at end : Taking) : Type 0 where
   counted : UnitsOf at.book.about.line added units
   paid : units ≤ seek_room N at
 
-sought_add : (N limit : ℕ) (at end : Taking) (said : List ℕ) → Seeks N limit at end said → AddsBehind N at end
-sought_add N zero at end said s =
+sought_add : (N limit : ℕ) (at end : Taking) (said : List ℕ) (top : ℕ) → Seeks N limit at end said top
+    → AddsBehind N at end
+sought_add N zero at end said top s =
     let P : Taking → Type 0 = λ z. AddsBehind N at z in
     subst P (sym s.0) (record {
       about = refl;
@@ -75,7 +77,7 @@ sought_add N zero at end said s =
       counted = refl;
       paid = omega arith;
     })
-sought_add N (suc loads) at end said s =
+sought_add N (suc loads) at end said top s =
     let a : Adds (seek_room N at) (untaken at.book) end =
     all_add (seek_room N at) (untaken at.book) s.lemmas end s.taken in
     record {
@@ -89,14 +91,14 @@ sought_add N (suc loads) at end said s =
     }
 
 -- without a seek the book stays
-pub none_sought : (N limit : ℕ) (at : Taking) → limit ≡ 0 → Seeks N limit at at []
-none_sought N zero at e = (refl, refl)
-none_sought N (suc loads) at e = absurd (omega (arith, e))
+pub none_sought : (N limit : ℕ) (at : Taking) (top : ℕ) → limit ≡ 0 → Seeks N limit at at [] top
+none_sought N zero at top e = (refl, refl)
+none_sought N (suc loads) at top e = absurd (omega (arith, e))
 
-pub some_sought : (N limit : ℕ) (at end : Taking) (said : List ℕ) → (limit ≡ 0 → ⊥) → TakesSought N limit at end said
-    → Seeks N limit at end said
-some_sought N zero at end said n s = absurd (n refl)
-some_sought N (suc loads) at end said n s = s
+pub some_sought : (N limit : ℕ) (at end : Taking) (said : List ℕ) (top : ℕ) → (limit ≡ 0 → ⊥)
+    → TakesSought N limit at end said top → Seeks N limit at end said top
+some_sought N zero at end said top n s = absurd (n refl)
+some_sought N (suc loads) at end said top n s = s
 
 module _ (kind : LineKind) (line : Line) (c : ℕ) (plan : Plan) where
   module _ (start : Start) (book : BookView) (first : List ℕ)
@@ -120,7 +122,8 @@ module _ (kind : LineKind) (line : Line) (c : ℕ) (plan : Plan) where
 
   module _ (start : Start) (book final : BookView) (opened : IsOpened kind line c book) (at end : Taking)
       (first warm_said seek_said : List ℕ) (took : TakesOld plan.units book start.olds at warm_said)
-      (seeks : Seeks plan.units start.seek at end seek_said) (limit : plan.units ≤ 3000000)
+      (seeks : Seeks plan.units start.seek at end seek_said final.state.best.stations)
+      (most : final.state.best.stations ≤ at.book.state.best.stations) (limit : plan.units ≤ 3000000)
       (about : final.about ≡ end.book.about) (entries : final.state.entries ≡ end.book.state.entries)
       (reserved : IsReserved final) (said : first ≡ warm_said ++ seek_said) where
     -- what the old entries add
@@ -129,7 +132,7 @@ module _ (kind : LineKind) (line : Line) (c : ℕ) (plan : Plan) where
 
     -- what the lemmas of a seek add
     seek_adds : AddsBehind plan.units at end
-    seek_adds = sought_add plan.units start.seek at end seek_said seeks
+    seek_adds = sought_add plan.units start.seek at end seek_said final.state.best.stations seeks
 
     empty : book.state.entries ≡ []
     empty = ap (λ (z : State). z.entries) opened.state
@@ -148,9 +151,12 @@ module _ (kind : LineKind) (line : Line) (c : ℕ) (plan : Plan) where
         let U : Line → Type 0 = λ z. UnitsOf z old_adds.added old_adds.units in
         let V : Line → Type 0 = λ z. UnitsOf z seek_adds.added seek_adds.units in
         let W : List Entry → Type 0 = λ z. UnitsOf line z (old_adds.units + seek_adds.units) in
-        let b : BeginsWith kind line c plan start end.book.state.entries first = record {
+        let same_best : at.book.state.best ≡ opened.best =
+        old_adds.best ∙ ap (λ (z : State). z.best) opened.state in
+        let b : BeginsWith kind line c plan start end.book.state.entries first final.state.best.stations = record {
           book = book;
           opened = opened;
+          ranked = omega (arith, most, ap (λ (z : Assignment). z.stations) same_best);
           at = at;
           warm_said = warm_said;
           took = took;
@@ -160,7 +166,7 @@ module _ (kind : LineKind) (line : Line) (c : ℕ) (plan : Plan) where
           entries = refl;
           said = said;
         } in
-        let B : List Entry → Type 0 = λ z. BeginsWith kind line c plan start z first in
+        let B : List Entry → Type 0 = λ z. BeginsWith kind line c plan start z first final.state.best.stations in
         let kept : at.kept ≤ old_room plan.units = old_adds.within (omega arith) in
         let spent : at.units ≤ old_room plan.units = old_adds.spent (omega arith) in
         record {
@@ -195,7 +201,9 @@ module _ (kind : LineKind) (line : Line) (c : ℕ) (plan : Plan) where
     begun_unsought none reserved =
         let same : taken.book ≡ t.at.book = sym t.same_book in
         begun_so (record { olds = olds; seek = limit }) book taken.book opened t.at t.at (string_bytes taken.first)
-        (string_bytes taken.first) [] t.took (none_sought plan.units limit t.at none) small
+        (string_bytes taken.first) [] t.took
+        (none_sought plan.units limit t.at taken.book.state.best.stations none)
+        (omega (arith, ap (λ (z : BookView). z.state.best.stations) same)) small
         (ap (λ (z : BookView). z.about) same) (ap (λ (z : BookView). z.state.entries) same) reserved
         (sym (append-nil (string_bytes taken.first)))
 
@@ -206,7 +214,8 @@ module _ (kind : LineKind) (line : Line) (c : ℕ) (plan : Plan) where
         → IfOk r (λ b. IsBegun kind line c plan (record { olds = olds; seek = limit }) b.book (string_bytes b.first))
     begun_sought (Ok b) some h reserved =
         begun_so (record { olds = olds; seek = limit }) book b.book opened t.at h.end (string_bytes b.first)
-        (string_bytes taken.first) h.said t.took (some_sought plan.units limit t.at h.end h.said some h.sought) small
+        (string_bytes taken.first) h.said t.took
+        (some_sought plan.units limit t.at h.end h.said b.book.state.best.stations some h.sought) h.most small
         h.about h.entries reserved h.behind
     begun_sought (Err e) some h reserved = search rules
 
@@ -215,6 +224,13 @@ kept_by : (better : Bool) (s : State) (b : Assignment) → (cond better (record 
     s).entries ≡ s.entries
 kept_by true s b = refl
 kept_by false s b = refl
+
+-- after an offer the best has no more stations than what was offered, and no more than before
+few_by : (better : Bool) (s : State) (b : Assignment) → nat_lt b.stations s.best.stations ≡ better
+    → ((cond better (record { entries = s.entries; best = b }) s).best.stations ≤ b.stations)
+    × ((cond better (record { entries = s.entries; best = b }) s).best.stations ≤ s.best.stations)
+few_by true s b e = (omega arith, omega (arith, ltb-true b.stations s.best.stations e))
+few_by false s b e = (omega (arith, ltb-false b.stations s.best.stations e), omega arith)
 
 -- what a seek tells of the line is told of the book
 pub has_sought : (book : BookView) (line : Line) (limit used : ℕ) (best : Assignment) (lemmas : List Entry)
@@ -258,11 +274,15 @@ sought_behind N limit room at book kept units used k best lemmas warmed final be
     let is_seek_room : room ≡ seek_room N at =
     is_room ∙ sym (ap (λ z. 6000000 - 2 * N - max z at.units) same_kept
     ∙ ap (λ z. 6000000 - 2 * N - max kept z) same_units) in
+    let few = few_by (is_better warmed.state best) warmed.state best refl in
+    let top = ap (λ (z : BookView). z.state.best.stations) offered in
+    let adds : Adds room (untaken book) t.0 = all_add room (untaken book) lemmas t.0 t.1.0 in
     record {
       end = t.0;
       said = seek_line used limit k;
       sought = record {
         best = best;
+        offered = omega (arith, top, few.0);
         lemmas = lemmas;
         used = used;
         sought = subst H (sym same_book) sought;
@@ -272,5 +292,13 @@ sought_behind N limit room at book kept units used k best lemmas warmed final be
       entries = ap (λ (z : BookView). z.state.entries) offered ∙ kept_by (is_better warmed.state best) warmed.state best
           ∙ ap (λ (z : BookView). z.state.entries) (sym t.1.1);
       about = ap (λ (z : BookView). z.about) offered ∙ ap (λ (z : BookView). z.about) (sym t.1.1);
+      most = omega (
+        arith,
+        top,
+        few.1,
+        ap (λ (z : BookView). z.state.best.stations) t.1.1,
+        ap (λ (z : Assignment). z.stations) adds.best,
+        ap (λ (z : BookView). z.state.best.stations) same_book,
+      );
       behind = said;
     }

@@ -37,13 +37,15 @@ stop_behind first kind lower b idle l =
     (stopped_text kind lower b idle) (ne_eqb lower b.stations (λ e. omega (arith, l, e)))))
 
 module _ (kind : LineKind) (line : Line) (c : ℕ) (plan : Plan) (start : Start) where
-  module _ (before : List Entry) (first : List ℕ) (begins : BeginsWith kind line c plan start before first) where
+  module _ (before : List Entry) (first : List ℕ) (top : ℕ)
+      (begins : BeginsWith kind line c plan start before first top) where
     -- the bounds of an optimum
     of_optimum : (b : Assignment) (cert : Certificate) → IsOptimumFrom kind line c before b cert
         → HasBounds kind line c plan start cert ends.Done (first ++ optimal_text kind b (idle_time line c b.stations))
     of_optimum b cert p = record {
       before = before;
       first = first;
+      top = top;
       begins = begins;
       lower = b.stations;
       balance = b;
@@ -62,12 +64,14 @@ module _ (kind : LineKind) (line : Line) (c : ℕ) (plan : Plan) (start : Start)
     }
 
     -- the bounds of a search that used its units
-    of_stop : (lower : ℕ) (b : Assignment) (cert : Certificate) → IsStopFrom kind line c plan before lower b cert
+    of_stop : (lower : ℕ) (b : Assignment) (cert : Certificate) → b.stations ≤ top
+        → IsStopFrom kind line c plan before lower b cert
         → HasBounds kind line c plan start cert ends.Stopped
         (first ++ stopped_text kind lower b (idle_time line c b.stations))
-    of_stop lower b cert p = record {
+    of_stop lower b cert few p = record {
       before = before;
       first = first;
+      top = top;
       begins = begins;
       lower = lower;
       balance = b;
@@ -84,6 +88,7 @@ module _ (kind : LineKind) (line : Line) (c : ℕ) (plan : Plan) (start : Start)
         refl,
         record {
           from = p.from;
+          few = few;
           added = p.added;
           begins = p.begins;
           frames = p.frames;
@@ -126,12 +131,12 @@ module _ (kind : LineKind) (line : Line) (c : ℕ) (plan : Plan) (start : Start)
         | inl p ↦ subst S (sym p.shown) (record {
           certificate = p.certificate;
           keeps = refl;
-          shows = inl (of_optimum b.before b.first b.begins p.balance p.certificate p.proved);
+          shows = inl (of_optimum b.before b.first b.top b.begins p.balance p.certificate p.proved);
         })
         | inr p ↦ subst S (sym p.shown) (record {
           certificate = p.certificate;
           keeps = refl;
-          shows = inl (of_stop b.before b.first b.begins p.lower p.balance p.certificate p.proved);
+          shows = inl (of_stop b.before b.first b.top b.begins p.lower p.balance p.certificate p.few p.proved);
         })
       ]
 

@@ -40,6 +40,7 @@ module _ (kind : LineKind) (line : Line) (c : ℕ) (plan : Plan) (start : Start)
       inl (record {
         before = b.before;
         first = b.first;
+        top = b.top;
         begins = b.begins;
         found = inl (record {
           balance = p.balance;
@@ -56,10 +57,12 @@ module _ (kind : LineKind) (line : Line) (c : ℕ) (plan : Plan) (start : Start)
       inl (record {
         before = b.before;
         first = b.first;
+        top = b.top;
         begins = b.begins;
         found = inr (record {
           lower = p.lower;
           balance = p.balance;
+          few = p.few;
           certificate = p.certificate;
           proved = p.proved;
           shown = ap (paged (page_of name p.certificate)) p.shown;
@@ -121,9 +124,9 @@ pub optimal_status : (kind : LineKind) (line : Line) (c : ℕ) (before : List En
 optimal_status kind line c before first r p = inl (ap (λ (o : Outcome). o.status) p.shown)
 
 pub stopped_status : (kind : LineKind) (line : Line) (c : ℕ) (plan : Plan) (before : List Entry) (first : List ℕ)
-    (r : Report)
-    → IsStopped kind line c plan before first None (outcome_of r None) → IsSolveStatus r.status
-stopped_status kind line c plan before first r p = inr (ap (λ (o : Outcome). o.status) p.shown)
+    (top : ℕ) (r : Report)
+    → IsStopped kind line c plan before first top None (outcome_of r None) → IsSolveStatus r.status
+stopped_status kind line c plan before first top r p = inr (ap (λ (o : Outcome). o.status) p.shown)
 
 -- the same old entries, of files that stayed
 pub old_in : (files mid : Files) (warm : Option (List ℕ)) (kind : LineKind) (line : Line) (olds : Option (List Entry))

@@ -39,10 +39,12 @@ bounds_text kind lower b idle = cond (nat_eq lower b.stations) (optimal_text kin
 -- The units of the plan were spent on loads that the certificate lists: its entries begin with those that the run began
 -- with; the entries after these and its trail have at least so many units, exactly so many without helpers; no entry is
 -- answered by an earlier one; and the trail, which asks whether all tasks have a balance in as many stations as the
--- lower bound, has a further load. The lower bound is at least the bound of all tasks.
-pub record AreSpent (kind : LineKind) (line : Line) (c : ℕ) (plan : Plan) (lower : ℕ) (before es : List Entry)
-    (trail : Option Trail) (units : ℕ) : Type 0 where
+-- lower bound, has a further load. The lower bound is at least the bound of all tasks, and the upper bound at most the
+-- stations that the run began with.
+pub record AreSpent (kind : LineKind) (line : Line) (c : ℕ) (plan : Plan) (top lower upper : ℕ)
+    (before es : List Entry) (trail : Option Trail) (units : ℕ) : Type 0 where
   pub from : bound kind line c (all_tasks line) ≤ lower
+  pub few : upper ≤ top
   pub added : List Entry
   pub begins : es ≡ before ++ added
   pub frames : List OpenFrame
@@ -69,7 +71,8 @@ pub record HasBounds (kind : LineKind) (line : Line) (c : ℕ) (plan : Plan) (st
     : Type 0 where
   pub before : List Entry
   pub first : List ℕ
-  pub begins : BeginsWith kind line c plan start before first
+  pub top : ℕ
+  pub begins : BeginsWith kind line c plan start before first top
   pub lower : ℕ
   pub balance : Assignment
   pub entries : List Entry
@@ -82,7 +85,7 @@ pub record HasBounds (kind : LineKind) (line : Line) (c : ℕ) (plan : Plan) (st
   pub true_bounds : IsProved kind line (ask.Stations c) lower balance.stations
   pub printed : text ≡ first ++ bounds_text kind lower balance (idle_time line c balance.stations)
   pub differ : lower < balance.stations
-      → (status ≡ ends.Stopped) × AreSpent kind line c plan lower before entries trail units
+      → (status ≡ ends.Stopped) × AreSpent kind line c plan top lower balance.stations before entries trail units
   pub equal : lower ≡ balance.stations → (status ≡ ends.Done) × IsLeastStations kind line c lower
   pub complete : (tasks line + 1) * states kind ^ tasks line ≤ plan.units → lower ≡ balance.stations
 

@@ -31,12 +31,14 @@ pub record IsOptimal (kind : LineKind) (line : Line) (c : ℕ) (before : List En
   pub shown : out ≡ certified_by name certificate ends.Done
       (first ++ optimal_text kind balance (idle_time line c balance.stations))
 
--- The units of the plan were used, of a run that began with some entries: the bounds and the balance that are printed
--- are those of the certificate, which lists the units.
+-- The units of the plan were used, of a run that began with some entries and so many stations: the bounds and the
+-- balance that are printed are those of the certificate, which lists the units; the balance has no more stations than
+-- the run began with.
 pub record IsStopped (kind : LineKind) (line : Line) (c : ℕ) (plan : Plan) (before : List Entry) (first : List ℕ)
-    (name : Option (List ℕ)) (out : Outcome) : Type 0 where
+    (top : ℕ) (name : Option (List ℕ)) (out : Outcome) : Type 0 where
   pub lower : ℕ
   pub balance : Assignment
+  pub few : balance.stations ≤ top
   pub certificate : Certificate
   pub proved : IsStopFrom kind line c plan before lower balance certificate
   pub shown : out ≡ certified_by name certificate ends.Stopped
@@ -50,14 +52,15 @@ pub record IsInfeasible (kind : LineKind) (line : Line) (c : ℕ) (name : Option
   pub proved : IsNoBalance kind line c task certificate
   pub shown : out ≡ certified_by name certificate ends.Done (infeasible_text task (time line task))
 
--- A run was made: it began with these entries, and its text with this line, where there are old entries; and it found
--- the optimum, or its units ended.
+-- A run was made: it began with these entries and a balance of so many stations, and its text with this line, where there
+-- are old entries; and it found the optimum, or its units ended.
 pub record IsBounded (kind : LineKind) (line : Line) (c : ℕ) (plan : Plan) (start : Start)
     (name : Option (List ℕ)) (out : Outcome) : Type 0 where
   pub before : List Entry
   pub first : List ℕ
-  pub begins : BeginsWith kind line c plan start before first
-  pub found : IsOptimal kind line c before first name out ⊎ IsStopped kind line c plan before first name out
+  pub top : ℕ
+  pub begins : BeginsWith kind line c plan start before first top
+  pub found : IsOptimal kind line c before first name out ⊎ IsStopped kind line c plan before first top name out
 
 -- what is found with a certificate
 abbrev pub IsSolution : LineKind → Line → ℕ → Plan → Start → Option (List ℕ) → Outcome → Type 0

@@ -92,9 +92,11 @@ abbrev pub seek_line : ℕ → ℕ → ℕ → List ℕ
 seek_line used limit kept =
     codes "seek used " ++ decimal used ++ codes " of " ++ decimal limit ++ codes " kept " ++ decimal kept ++ codes "\n"
 
--- A book that took in old entries takes in the lemmas of a seek over it, and this line says how many were kept.
-pub record TakesSought (N limit : ℕ) (at end : Taking) (said : List ℕ) : Type 0 where
+-- A book that took in old entries takes in the lemmas of a seek over it, and this line says how many were kept. The run
+-- begins with at most as many stations as the balance of the seek.
+pub record TakesSought (N limit : ℕ) (at end : Taking) (said : List ℕ) (top : ℕ) : Type 0 where
   pub best : Assignment
+  pub offered : top ≤ best.stations
   pub lemmas : List Entry
   pub used : ℕ
   pub sought : HasSought at.book limit best lemmas used
@@ -102,21 +104,23 @@ pub record TakesSought (N limit : ℕ) (at end : Taking) (said : List ℕ) : Typ
   pub said_so : said ≡ seek_line used limit end.kept
 
 -- the same where the words ask for a seek; else the book stays, and there is no line
-abbrev pub Seeks : ℕ → ℕ → Taking → Taking → List ℕ → Type 0
-Seeks N zero at end said = (end ≡ at) × (said ≡ [])
-Seeks N (suc loads) at end said = TakesSought N (suc loads) at end said
+abbrev pub Seeks : ℕ → ℕ → Taking → Taking → List ℕ → ℕ → Type 0
+Seeks N zero at end said top = (end ≡ at) × (said ≡ [])
+Seeks N (suc loads) at end said top = TakesSought N (suc loads) at end said top
 
--- The entries with which a run begins, and the first lines of its text: those that an empty book with the ranked
--- balance has after it took in the old entries and the lemmas of a seek.
+-- The entries with which a run begins, the first lines of its text, and the stations of its first balance: the entries
+-- are those that an empty book with the ranked balance has after it took in the old entries and the lemmas of a seek;
+-- the stations are at most those of the ranked balance, and at most those of the balance of the seek.
 pub record BeginsWith (kind : LineKind) (line : Line) (c : ℕ) (plan : Plan) (start : Start) (before : List Entry)
-    (first : List ℕ) : Type 0 where
+    (first : List ℕ) (top : ℕ) : Type 0 where
   pub book : BookView
   pub opened : IsOpened kind line c book
+  pub ranked : top ≤ opened.best.stations
   pub at : Taking
   pub warm_said : List ℕ
   pub took : TakesOld plan.units book start.olds at warm_said
   pub end : Taking
   pub seek_said : List ℕ
-  pub seeks : Seeks plan.units start.seek at end seek_said
+  pub seeks : Seeks plan.units start.seek at end seek_said top
   pub entries : end.book.state.entries ≡ before
   pub said : first ≡ warm_said ++ seek_said

@@ -88,7 +88,7 @@ fn stopped(
         × IsSpentFrom kind inst.now cycle plan before top lower book trail }
     ensures { IfOk result (λ r. (before : List Lemma) (top : ℕ) (plan : PlanOf) → LeaveRoom inst.now plan.units before
         → IsSpentFrom kind inst.now cycle plan before top lower book trail
-        → IsStopped kind inst.now cycle plan before (string_bytes first) None (outcome_of r None)) }
+        → IsStopped kind inst.now cycle plan before (string_bytes first) top None (outcome_of r None)) }
 {
     let _tasks = inst.tasks();
     let balance = book.best();

@@ -10,10 +10,11 @@ use Rattle.solve_command.specs.WarmStart.{Start, TakesOld, TakesSought, BeginsWi
 use Rattle.warm_book.specs.Warm.{Taking}
 use Rattle.solve_command.specs.declared.warm_start.Taken.{Taken}
 
--- the book is about the line, has room for offers, and begins with such entries that a certificate has room for all
+-- the book is about the line, has room for offers, and begins with such entries that a certificate has room for all,
+-- and with its best balance
 pub record IsBegun (kind : LineKind) (line : Line) (c : ℕ) (plan : Plan) (start : Start) (book : BookView)
     (first : List ℕ) : Type 0 where
-  pub begins : BeginsWith kind line c plan start book.state.entries first
+  pub begins : BeginsWith kind line c plan start book.state.entries first book.state.best.stations
   pub about : book.about ≡ record { line = line; kind = kind; cycle = c }
   pub reserved : IsReserved book
   pub room : LeaveRoom line plan.units book.state.entries
@@ -26,12 +27,13 @@ pub record IsTaken (N : ℕ) (book : BookView) (olds : Option (List Entry)) (tak
   pub same_kept : at.kept ≡ taken.kept
   pub same_units : at.units ≡ taken.units
 
--- a book that took in old entries took in the lemmas of a seek, and this is the text with the line of the seek behind
--- it
+-- a book that took in old entries took in the lemmas of a seek and was offered its balance, and this is the text with the
+-- line of the seek behind it
 pub record HasSoughtBehind (N limit : ℕ) (at : Taking) (book : BookView) (before first : List ℕ) : Type 0 where
   pub end : Taking
   pub said : List ℕ
-  pub sought : TakesSought N limit at end said
+  pub sought : TakesSought N limit at end said book.state.best.stations
+  pub most : book.state.best.stations ≤ at.book.state.best.stations
   pub entries : book.state.entries ≡ end.book.state.entries
   pub about : book.about ≡ end.book.about
   pub behind : first ≡ before ++ said

@@ -9,6 +9,7 @@ pub returns : goal.returns
 returns c = λ before top plan room spent. record {
   lower = c.args.lower;
   balance = c.args.book.state.best;
+  few = spent.best;
   certificate = c.certify_warm_stop.result;
   proved = c.certify_warm_stop.ensures before top plan room spent;
   shown = ap (certified_by None c.certify_warm_stop.result ends.Stopped)
