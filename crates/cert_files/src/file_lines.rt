@@ -89,8 +89,13 @@ impl<'a, 'b, S: Shelf> Source for FileLines<'a, 'b, S> {
 
     ghost Base = { Reading S.tells };
 
-    ghost base = { λ s. (s.shelf.ghost_name, s.name.now, s.limit, S.write_faults s.shelf.now,
-        λ told. S.file s.shelf.now) };
+    ghost base = { λ s. (
+      s.shelf.ghost_name,
+      s.name.now,
+      s.limit,
+      S.write_faults s.shelf.now,
+      λ told. S.file s.shelf.now,
+    ) };
 
     ghost faults = { λ s. S.fetch_faults s.shelf.now };
 
