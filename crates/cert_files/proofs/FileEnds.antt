@@ -101,11 +101,13 @@ none_of_old file limit answer h fault e old i t =
 
 module _ (tells : Type 0) (r r' : ℕ) (name name' : List ℕ) (limit limit' lost lost' : ℕ)
     (files new : List ℕ → Option (List ℕ)) where
-  pub same_files : ◌≡◌ {A = Reading tells} (r', name', limit', lost', λ told. new) (r, name, limit, lost, λ told. files) → tells
+  pub same_files : ◌≡◌ {A = Reading tells} (r', name', limit', lost', λ told. new)
+      (r, name, limit, lost, λ told. files) → tells
       → (q : List ℕ) → new q ≡ files q
   same_files p told q = ap (λ b. b.4 told q) p
 
-  pub stopped_read : ◌≡◌ {A = Reading tells} (r', name', limit', lost', λ told. new) (r, name, limit, lost, λ told. files) → tells
+  pub stopped_read : ◌≡◌ {A = Reading tells} (r', name', limit', lost', λ told. new)
+      (r, name, limit, lost, λ told. files) → tells
       → (stop : Stop) (answer : CertFrom) → answer ≡ stopped_from stop
       → (tells → stop ≡ stops.TooLong → limit' < length (bytes_of (new name')))
       → IsCertFrom (files name) limit answer
@@ -117,7 +119,8 @@ module _ (tells : Type 0) (r r' : ℕ) (name name' : List ℕ) (limit limit' los
       subst P (sym e) (stopped_is (files name) limit stop (subst Q (ap (λ b. b.2) p)
       (subst N (ap (λ b. b.1) p) (subst O (same_files p told name') (h told)))))
 
-  pub fault_read : ◌≡◌ {A = Reading tells} (r', name', limit', lost', λ told. new) (r, name, limit, lost, λ told. files) → tells
+  pub fault_read : ◌≡◌ {A = Reading tells} (r', name', limit', lost', λ told. new)
+      (r, name, limit, lost, λ told. files) → tells
       → (rest : Rest) (left : List ℕ) (lines : ℕ) (result : Result Certificate ReadError) (e : ReadError)
       (f : CertFault) (answer : CertFrom)
       → IsAnyRead 0 (bytes_of (files name)) left lines result → result ≡ Err e → e ≡ errors.Fault f
@@ -135,7 +138,8 @@ module _ (tells : Type 0) (r r' : ℕ) (name name' : List ℕ) (limit limit' los
       left 0 lines e f f (subst R is read) fault refl refl refl) (λ x. subst O s (n x)) (λ x. subst O s (m x))
       (λ x. subst L s (l x)))
 
-  pub good_read : ◌≡◌ {A = Reading tells} (r', name', limit', lost', λ told. new) (r, name, limit, lost, λ told. files) → tells
+  pub good_read : ◌≡◌ {A = Reading tells} (r', name', limit', lost', λ told. new)
+      (r, name, limit, lost, λ told. files) → tells
       → (rest : Rest) (window : List ℕ) (at lines : ℕ) (result : Result Certificate ReadError) (cert : Certificate)
       (answer : CertFrom)
       → IsAnyRead 0 (bytes_of (files name)) (window ++ bytes_from at (new name')) lines (Ok cert)

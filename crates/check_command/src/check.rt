@@ -62,7 +62,8 @@ pub fn check_report<R: Threads + Sync, S: Shelf>(
     ensures kept { IfOk result (λ r. r.kept ≡ Nothing) }
     ensures true_bounds { S.tells → IfOk result (λ r. r.status ≡ ends.Done
         → IsProvedTrue (S.file shelf.old) file.now proof.now (option_map (λ a. a.now) apart.entry) steps) }
-    ensures fault { MatchResult result (λ _. Unit {0}) (MayStop (Rises (S.fetch_faults shelf.old) (S.fetch_faults shelf.new))) }
+    ensures fault { MatchResult result (λ _. Unit {0})
+        (MayStop (Rises (S.fetch_faults shelf.old) (S.fetch_faults shelf.new))) }
     ensures files { S.tells → (q : List ℕ) → S.file shelf.new q ≡ S.file shelf.old q }
 {
     let inst = line_of(alloc, file, apart, shelf)?;

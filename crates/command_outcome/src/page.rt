@@ -26,7 +26,8 @@ pub fn write_page<S: Shelf>(
     ensures same { IfOk result (λ r. r ≡ report) }
     ensures done { S.tells → IfOk result (λ _. S.file shelf.new name.now ≡ Some bytes.now) }
     ensures others { S.tells → (q : List ℕ) → q ≢ name.now → S.file shelf.new q ≡ S.file shelf.old q }
-    ensures fault { MatchResult result (λ _. Unit {0}) (MayEnd (Rises (S.fetch_faults shelf.old) (S.fetch_faults shelf.new))
+    ensures fault { MatchResult result (λ _. Unit {0})
+        (MayEnd (Rises (S.fetch_faults shelf.old) (S.fetch_faults shelf.new))
         (Rises (S.write_faults shelf.old) (S.write_faults shelf.new))) }
     ensures count { S.write_faults shelf.old ≤ S.write_faults shelf.new }
 {

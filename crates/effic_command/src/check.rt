@@ -32,7 +32,8 @@ pub fn effic_check_report<S: Shelf>(
     ensures kept { IfOk result (λ r. r.kept ≡ Nothing) }
     ensures true_bounds { S.tells → IfOk result (λ r. r.status ≡ ends.Done
         → IsProvedProduct (S.file shelf.old) file.now proof.now steps) }
-    ensures fault { MatchResult result (λ _. Unit {0}) (MayStop (Rises (S.fetch_faults shelf.old) (S.fetch_faults shelf.new))) }
+    ensures fault { MatchResult result (λ _. Unit {0})
+        (MayStop (Rises (S.fetch_faults shelf.old) (S.fetch_faults shelf.new))) }
     ensures files { S.tells → (q : List ℕ) → S.file shelf.new q ≡ S.file shelf.old q }
 {
     let inst = plain_line(alloc, file, shelf)?;

@@ -143,7 +143,8 @@ fn written<S: Shelf>(
     ensures same { IfOk result (λ r. r ≡ report) }
     ensures certificate { S.tells → IfOk result (λ r. (cert : Proof) → r.kept ≡ Certified cert
         → HasCertificate (Some name.now) (S.file shelf.new) cert) }
-    ensures fault { MatchResult result (λ _. Unit {0}) (MayEnd (Rises (S.fetch_faults shelf.old) (S.fetch_faults shelf.new))
+    ensures fault { MatchResult result (λ _. Unit {0})
+        (MayEnd (Rises (S.fetch_faults shelf.old) (S.fetch_faults shelf.new))
         (Rises (S.write_faults shelf.old) (S.write_faults shelf.new))) }
     ensures count { S.write_faults shelf.old ≤ S.write_faults shelf.new }
 {
@@ -181,7 +182,8 @@ pub fn effic_report<R: Threads + Wait + Sync, S: Shelf, G: Gate>(
         (option_map (λ a. a.now) name.entry))
         (S.file shelf.new) result) }
     ensures good { IfOk result (λ r. IsSolveStatus r.status) }
-    ensures fault { MatchResult result (λ _. Unit {0}) (MayEnd (Rises (S.fetch_faults shelf.old) (S.fetch_faults shelf.new))
+    ensures fault { MatchResult result (λ _. Unit {0})
+        (MayEnd (Rises (S.fetch_faults shelf.old) (S.fetch_faults shelf.new))
         (Rises (S.write_faults shelf.old) (S.write_faults shelf.new))) }
     ensures unwritten { result ≡ Err Unwritten → (n : List ℕ) × (option_map (λ a. a.now) name.entry ≡ Some n) }
     ensures promise { S.tells → IfOk result (λ r.

@@ -28,7 +28,8 @@ pub(crate) fn pairs_of<S: Shelf>(
         (λ bytes. IsApartFile tasks bytes v.items)) (Stops (IsNoPairs (outside (S.file shelf.old) (S.blames shelf.new))
         file.now tasks)) }
     ensures pairs { MatchResult result (λ v. ArePairs tasks v.items) (λ _. Unit {0}) }
-    ensures fault { MatchResult result (λ _. Unit {0}) (MayStop (Rises (S.fetch_faults shelf.old) (S.fetch_faults shelf.new))) }
+    ensures fault { MatchResult result (λ _. Unit {0})
+        (MayStop (Rises (S.fetch_faults shelf.old) (S.fetch_faults shelf.new))) }
     ensures count { S.fetch_faults shelf.old ≤ S.fetch_faults shelf.new }
     ensures writes { S.write_faults shelf.new ≡ S.write_faults shelf.old }
     ensures files { S.tells → (q : List ℕ) → S.file shelf.new q ≡ S.file shelf.old q }

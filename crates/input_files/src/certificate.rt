@@ -49,7 +49,8 @@ pub fn certificate_of<S: Shelf>(
     ensures said { S.tells → MatchResult result (IsCertificateOf (S.file shelf.old) file.now)
         (Stops (IsNoCertificate (outside (S.file shelf.old) (S.blames shelf.new)) file.now)) }
     ensures range { IfOk result IsInRange }
-    ensures fault { MatchResult result (λ _. Unit {0}) (MayStop (Rises (S.fetch_faults shelf.old) (S.fetch_faults shelf.new))) }
+    ensures fault { MatchResult result (λ _. Unit {0})
+        (MayStop (Rises (S.fetch_faults shelf.old) (S.fetch_faults shelf.new))) }
     ensures count { S.fetch_faults shelf.old ≤ S.fetch_faults shelf.new }
     ensures writes { S.write_faults shelf.new ≡ S.write_faults shelf.old }
     ensures files { S.tells → (q : List ℕ) → S.file shelf.new q ≡ S.file shelf.old q }

@@ -22,7 +22,8 @@ pub fn fetch_within<S: Shelf>(
     ensures source { S.tells → MatchResult result
         (λ v. (S.file shelf.old file.now ≡ Some v.items) × (length v.items ≤ limit))
         (Stops (IsUntaken (outside (S.file shelf.old) (S.blames shelf.new)) limit file.now)) }
-    ensures fault { MatchResult result (λ _. Unit {0}) (MayStop (Rises (S.fetch_faults shelf.old) (S.fetch_faults shelf.new))) }
+    ensures fault { MatchResult result (λ _. Unit {0})
+        (MayStop (Rises (S.fetch_faults shelf.old) (S.fetch_faults shelf.new))) }
     ensures count { S.fetch_faults shelf.old ≤ S.fetch_faults shelf.new }
     ensures writes { S.write_faults shelf.new ≡ S.write_faults shelf.old }
     ensures files { S.tells → (q : List ℕ) → S.file shelf.new q ≡ S.file shelf.old q }
@@ -46,7 +47,8 @@ pub fn fetch<S: Shelf>(alloc: Global, file: &str, shelf: &mut S) -> Result<Vec<u
     ensures source { S.tells → MatchResult result
         (λ v. (S.file shelf.old file.now ≡ Some v.items) × (length v.items ≤ max_file))
         (Stops (IsUntaken (outside (S.file shelf.old) (S.blames shelf.new)) max_file file.now)) }
-    ensures fault { MatchResult result (λ _. Unit {0}) (MayStop (Rises (S.fetch_faults shelf.old) (S.fetch_faults shelf.new))) }
+    ensures fault { MatchResult result (λ _. Unit {0})
+        (MayStop (Rises (S.fetch_faults shelf.old) (S.fetch_faults shelf.new))) }
     ensures count { S.fetch_faults shelf.old ≤ S.fetch_faults shelf.new }
     ensures writes { S.write_faults shelf.new ≡ S.write_faults shelf.old }
     ensures files { S.tells → (q : List ℕ) → S.file shelf.new q ≡ S.file shelf.old q }

@@ -133,7 +133,8 @@ pub fn sheet_of<S: Shelf>(alloc: Global, file: &str, shelf: &mut S) -> Result<Sh
     ensures said { S.tells → MatchResult result (λ s. IsInstance (S.file shelf.old) file.now s.inst s.cycle)
         (Stops (IsNoInstance (outside (S.file shelf.old) (S.blames shelf.new)) file.now)) }
     ensures limit { IfOk result (λ s. IsSetBetween 1 1000000000000000000 s.cycle) }
-    ensures fault { MatchResult result (λ _. Unit {0}) (MayStop (Rises (S.fetch_faults shelf.old) (S.fetch_faults shelf.new))) }
+    ensures fault { MatchResult result (λ _. Unit {0})
+        (MayStop (Rises (S.fetch_faults shelf.old) (S.fetch_faults shelf.new))) }
     ensures count { S.fetch_faults shelf.old ≤ S.fetch_faults shelf.new }
     ensures writes { S.write_faults shelf.new ≡ S.write_faults shelf.old }
     ensures files { S.tells → (q : List ℕ) → S.file shelf.new q ≡ S.file shelf.old q }
@@ -173,7 +174,8 @@ fn timed_of<S: Shelf>(
     ensures said { S.tells → MatchResult result (λ t. IsTimed (S.file shelf.old) file.now word t.inst t.cycle)
         (Stops (IsUntimedOrNone (outside (S.file shelf.old) (S.blames shelf.new)) file.now word)) }
     ensures limit { IfOk result (λ t. IsBetween 1 1000000000000000000 t.cycle) }
-    ensures fault { MatchResult result (λ _. Unit {0}) (MayStop (Rises (S.fetch_faults shelf.old) (S.fetch_faults shelf.new))) }
+    ensures fault { MatchResult result (λ _. Unit {0})
+        (MayStop (Rises (S.fetch_faults shelf.old) (S.fetch_faults shelf.new))) }
     ensures count { S.fetch_faults shelf.old ≤ S.fetch_faults shelf.new }
     ensures writes { S.write_faults shelf.new ≡ S.write_faults shelf.old }
     ensures files { S.tells → (q : List ℕ) → S.file shelf.new q ≡ S.file shelf.old q }
@@ -196,7 +198,8 @@ fn part<S: Shelf>(
     ensures said { S.tells → MatchResult result (IsPartedBy (S.file shelf.old) (option_map (λ a. a.now) apart.entry)
         inst) (Stops (IsUnparted (outside (S.file shelf.old) (S.blames shelf.new)) (option_map (λ a. a.now) apart.entry)
         inst)) }
-    ensures fault { MatchResult result (λ _. Unit {0}) (MayStop (Rises (S.fetch_faults shelf.old) (S.fetch_faults shelf.new))) }
+    ensures fault { MatchResult result (λ _. Unit {0})
+        (MayStop (Rises (S.fetch_faults shelf.old) (S.fetch_faults shelf.new))) }
     ensures count { S.fetch_faults shelf.old ≤ S.fetch_faults shelf.new }
     ensures writes { S.write_faults shelf.new ≡ S.write_faults shelf.old }
     ensures files { S.tells → (q : List ℕ) → S.file shelf.new q ≡ S.file shelf.old q }
@@ -224,7 +227,8 @@ pub fn said_instance<S: Shelf>(
         (Stops (IsUnsaid (outside (S.file shelf.old) (S.blames shelf.new)) file.now
         (option_map (λ a. a.now) apart.entry) word)) }
     ensures limit { IfOk result (λ t. IsBetween 1 1000000000000000000 t.cycle) }
-    ensures fault { MatchResult result (λ _. Unit {0}) (MayStop (Rises (S.fetch_faults shelf.old) (S.fetch_faults shelf.new))) }
+    ensures fault { MatchResult result (λ _. Unit {0})
+        (MayStop (Rises (S.fetch_faults shelf.old) (S.fetch_faults shelf.new))) }
     ensures count { S.fetch_faults shelf.old ≤ S.fetch_faults shelf.new }
     ensures writes { S.write_faults shelf.new ≡ S.write_faults shelf.old }
     ensures files { S.tells → (q : List ℕ) → S.file shelf.new q ≡ S.file shelf.old q }
@@ -244,7 +248,8 @@ pub fn line_of<S: Shelf>(
     ensures said { S.tells → MatchResult result (IsLineOf (S.file shelf.old) file.now
         (option_map (λ a. a.now) apart.entry)) (Stops (IsNoLine (outside (S.file shelf.old) (S.blames shelf.new))
         file.now (option_map (λ a. a.now) apart.entry))) }
-    ensures fault { MatchResult result (λ _. Unit {0}) (MayStop (Rises (S.fetch_faults shelf.old) (S.fetch_faults shelf.new))) }
+    ensures fault { MatchResult result (λ _. Unit {0})
+        (MayStop (Rises (S.fetch_faults shelf.old) (S.fetch_faults shelf.new))) }
     ensures count { S.fetch_faults shelf.old ≤ S.fetch_faults shelf.new }
     ensures writes { S.write_faults shelf.new ≡ S.write_faults shelf.old }
     ensures files { S.tells → (q : List ℕ) → S.file shelf.new q ≡ S.file shelf.old q }

@@ -17,7 +17,8 @@ pub fn plain_line<S: Shelf>(alloc: Global, file: &str, shelf: &mut S) -> Result<
     ensures said { S.tells → MatchResult result (IsLineOf (S.file shelf.old) file.now None)
         (Stops (IsNoLine (outside (S.file shelf.old) (S.blames shelf.new)) file.now None)) }
     ensures none { IfOk result (λ line. (i j : ℕ) → Apart line i j → ⊥) }
-    ensures fault { MatchResult result (λ _. Unit {0}) (MayStop (Rises (S.fetch_faults shelf.old) (S.fetch_faults shelf.new))) }
+    ensures fault { MatchResult result (λ _. Unit {0})
+        (MayStop (Rises (S.fetch_faults shelf.old) (S.fetch_faults shelf.new))) }
     ensures count { S.fetch_faults shelf.old ≤ S.fetch_faults shelf.new }
     ensures writes { S.write_faults shelf.new ≡ S.write_faults shelf.old }
     ensures files { S.tells → (q : List ℕ) → S.file shelf.new q ≡ S.file shelf.old q }

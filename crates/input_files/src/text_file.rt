@@ -22,7 +22,8 @@ pub fn spelled_in<S: Shelf, T: Text>(
     ensures said { S.tells → MatchResult result (IsSpelledIn (spelled T.rows T.may_say) (S.file shelf.old) file.now)
         (Stops (SpellsNone (spelled T.rows T.may_say) (outside (S.file shelf.old) (S.blames shelf.new)) file.now)) }
     ensures range { IfOk result T.may_say }
-    ensures fault { MatchResult result (λ _. Unit {0}) (MayStop (Rises (S.fetch_faults shelf.old) (S.fetch_faults shelf.new))) }
+    ensures fault { MatchResult result (λ _. Unit {0})
+        (MayStop (Rises (S.fetch_faults shelf.old) (S.fetch_faults shelf.new))) }
     ensures count { S.fetch_faults shelf.old ≤ S.fetch_faults shelf.new }
     ensures writes { S.write_faults shelf.new ≡ S.write_faults shelf.old }
     ensures files { S.tells → (q : List ℕ) → S.file shelf.new q ≡ S.file shelf.old q }

@@ -80,7 +80,8 @@ pub fn timeline_draw_report<S: Shelf>(
         interval reach) (S.file shelf.new) result }
     ensures good { IfOk result (λ r. r.status ≡ ends.Done) }
     ensures kept { IfOk result (λ r. r.kept ≡ Nothing) }
-    ensures fault { MatchResult result (λ _. Unit {0}) (MayEnd (Rises (S.fetch_faults shelf.old) (S.fetch_faults shelf.new))
+    ensures fault { MatchResult result (λ _. Unit {0})
+        (MayEnd (Rises (S.fetch_faults shelf.old) (S.fetch_faults shelf.new))
         (Rises (S.write_faults shelf.old) (S.write_faults shelf.new))) }
     ensures promise { S.tells → IfOk result (λ _. IsTimelineTrulyDrawn (S.file shelf.old) (S.file shelf.new)
         (record { mix = mix.now; cert = cert.now; seq = seq.now }) name.now interval reach) }

@@ -138,7 +138,8 @@ pub fn balance_of<S: Shelf>(
         (Stops (IsNoBalance (outside (S.file shelf.old) (S.blames shelf.new)) file.now line.now cycle)) }
     ensures right { IfOk result (IsRight Straight line.now cycle) }
     ensures few { IfOk result (λ b. b.stations ≤ 1024) }
-    ensures fault { MatchResult result (λ _. Unit {0}) (MayStop (Rises (S.fetch_faults shelf.old) (S.fetch_faults shelf.new))) }
+    ensures fault { MatchResult result (λ _. Unit {0})
+        (MayStop (Rises (S.fetch_faults shelf.old) (S.fetch_faults shelf.new))) }
     ensures count { S.fetch_faults shelf.old ≤ S.fetch_faults shelf.new }
     ensures writes { S.write_faults shelf.new ≡ S.write_faults shelf.old }
     ensures files { S.tells → (q : List ℕ) → S.file shelf.new q ≡ S.file shelf.old q }

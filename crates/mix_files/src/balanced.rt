@@ -42,7 +42,8 @@ pub fn balanced_of<S: Shelf>(
     ensures some { IfOk result (λ p. 1 ≤ p.balance.stations) }
     ensures stations { IfOk result (λ p. p.balance.stations ≤ 1024) }
     ensures demand { IfOk result (λ p. p.demand ≡ total_demand p.mix.models) }
-    ensures fault { MatchResult result (λ _. Unit {0}) (MayStop (Rises (S.fetch_faults shelf.old) (S.fetch_faults shelf.new))) }
+    ensures fault { MatchResult result (λ _. Unit {0})
+        (MayStop (Rises (S.fetch_faults shelf.old) (S.fetch_faults shelf.new))) }
     ensures count { S.fetch_faults shelf.old ≤ S.fetch_faults shelf.new }
     ensures writes { S.write_faults shelf.new ≡ S.write_faults shelf.old }
     ensures files { S.tells → (q : List ℕ) → S.file shelf.new q ≡ S.file shelf.old q }

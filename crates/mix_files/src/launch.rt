@@ -41,7 +41,8 @@ pub fn launch_of<S: Shelf>(
     ensures stations { IfOk result (λ p. p.balance.stations ≤ 1024) }
     ensures few { IfOk result (λ p. length p.units.items ≤ 100000) }
     ensures models { IfOk result (λ p. All (λ m. m < length p.mix.models) p.units.items) }
-    ensures fault { MatchResult result (λ _. Unit {0}) (MayStop (Rises (S.fetch_faults shelf.old) (S.fetch_faults shelf.new))) }
+    ensures fault { MatchResult result (λ _. Unit {0})
+        (MayStop (Rises (S.fetch_faults shelf.old) (S.fetch_faults shelf.new))) }
     ensures count { S.fetch_faults shelf.old ≤ S.fetch_faults shelf.new }
     ensures writes { S.write_faults shelf.new ≡ S.write_faults shelf.old }
     ensures files { S.tells → (q : List ℕ) → S.file shelf.new q ≡ S.file shelf.old q }

@@ -68,7 +68,8 @@ fn cycle_line(alloc: Global, file: &str, ring: &Ring) -> Result<Vec<u8>, AllocEr
 pub fn mix_of<S: Shelf>(alloc: Global, file: &str, shelf: &mut S) -> Result<Mix, Stop>
     ensures said { S.tells → MatchResult result (IsMixFile (S.file shelf.old) file.now)
         (Stops (IsNoMix (outside (S.file shelf.old) (S.blames shelf.new)) file.now)) }
-    ensures fault { MatchResult result (λ _. Unit {0}) (MayStop (Rises (S.fetch_faults shelf.old) (S.fetch_faults shelf.new))) }
+    ensures fault { MatchResult result (λ _. Unit {0})
+        (MayStop (Rises (S.fetch_faults shelf.old) (S.fetch_faults shelf.new))) }
     ensures count { S.fetch_faults shelf.old ≤ S.fetch_faults shelf.new }
     ensures writes { S.write_faults shelf.new ≡ S.write_faults shelf.old }
     ensures files { S.tells → (q : List ℕ) → S.file shelf.new q ≡ S.file shelf.old q }
@@ -109,7 +110,8 @@ pub fn combined_of<S: Shelf>(alloc: Global, file: &str, shelf: &mut S) -> Result
     ensures combined { IfOk result (λ j. IsCombined j.mix j.line) }
     ensures demand { IfOk result (λ j. j.demand ≡ total_demand j.mix.models) }
     ensures limit { IfOk result (λ j. j.demand ≤ 160000) }
-    ensures fault { MatchResult result (λ _. Unit {0}) (MayStop (Rises (S.fetch_faults shelf.old) (S.fetch_faults shelf.new))) }
+    ensures fault { MatchResult result (λ _. Unit {0})
+        (MayStop (Rises (S.fetch_faults shelf.old) (S.fetch_faults shelf.new))) }
     ensures count { S.fetch_faults shelf.old ≤ S.fetch_faults shelf.new }
     ensures writes { S.write_faults shelf.new ≡ S.write_faults shelf.old }
     ensures files { S.tells → (q : List ℕ) → S.file shelf.new q ≡ S.file shelf.old q }

@@ -33,7 +33,8 @@ pub fn sequence_of<S: Shelf>(
         (Stops (IsNoSequence (outside (S.file shelf.old) (S.blames shelf.new)) file.now mix.now.models)) }
     ensures few { IfOk result (λ v. length v.items ≤ 100000) }
     ensures models { IfOk result (λ v. All (λ m. m < length mix.now.models) v.items) }
-    ensures fault { MatchResult result (λ _. Unit {0}) (MayStop (Rises (S.fetch_faults shelf.old) (S.fetch_faults shelf.new))) }
+    ensures fault { MatchResult result (λ _. Unit {0})
+        (MayStop (Rises (S.fetch_faults shelf.old) (S.fetch_faults shelf.new))) }
     ensures count { S.fetch_faults shelf.old ≤ S.fetch_faults shelf.new }
     ensures writes { S.write_faults shelf.new ≡ S.write_faults shelf.old }
     ensures files { S.tells → (q : List ℕ) → S.file shelf.new q ≡ S.file shelf.old q }

@@ -39,7 +39,8 @@ pub fn sequence_check_report<S: Shelf>(
     ensures kept { IfOk result (λ r. r.kept ≡ Nothing) }
     ensures true_bounds { S.tells → IfOk result (λ r. r.status ≡ ends.Done
         → IsProvedSequence (S.file shelf.old) mix.now cert.now seq.now interval reach steps) }
-    ensures fault { MatchResult result (λ _. Unit {0}) (MayStop (Rises (S.fetch_faults shelf.old) (S.fetch_faults shelf.new))) }
+    ensures fault { MatchResult result (λ _. Unit {0})
+        (MayStop (Rises (S.fetch_faults shelf.old) (S.fetch_faults shelf.new))) }
     ensures files { S.tells → (q : List ℕ) → S.file shelf.new q ≡ S.file shelf.old q }
 {
     let timed = timed_of(alloc, mix, cert, interval, shelf)?;

@@ -104,7 +104,8 @@ fn written<S: Shelf>(
         (λ out. out ≡ outcome_of report (page_of (Some name.now) report.kept)) (S.file shelf.new) result }
     ensures same { IfOk result (λ r. r ≡ report) }
     ensures certificate { S.tells → IfOk result (λ r. HasCertificate (Some name.now) (S.file shelf.new) r.kept) }
-    ensures fault { MatchResult result (λ _. Unit {0}) (MayEnd (Rises (S.fetch_faults shelf.old) (S.fetch_faults shelf.new))
+    ensures fault { MatchResult result (λ _. Unit {0})
+        (MayEnd (Rises (S.fetch_faults shelf.old) (S.fetch_faults shelf.new))
         (Rises (S.write_faults shelf.old) (S.write_faults shelf.new))) }
     ensures count { S.write_faults shelf.old ≤ S.write_faults shelf.new }
 {
@@ -138,7 +139,8 @@ pub fn sequence_report<S: Shelf>(
         Ends o (IsSequenceOutcome o mix.now cert.now interval reach units (option_map (λ a. a.now) name.entry))
         (S.file shelf.new) result) }
     ensures good { IfOk result (λ r. IsAnswerStatus r.status) }
-    ensures fault { MatchResult result (λ _. Unit {0}) (MayEnd (Rises (S.fetch_faults shelf.old) (S.fetch_faults shelf.new))
+    ensures fault { MatchResult result (λ _. Unit {0})
+        (MayEnd (Rises (S.fetch_faults shelf.old) (S.fetch_faults shelf.new))
         (Rises (S.write_faults shelf.old) (S.write_faults shelf.new))) }
     ensures unwritten { result ≡ Err Unwritten → (n : List ℕ) × (option_map (λ a. a.now) name.entry ≡ Some n) }
     ensures promise { S.tells → IfOk result (λ r.

@@ -68,7 +68,8 @@ pub(crate) fn timed_of<S: Shelf>(
         (Stops (IsUntimed (outside (S.file shelf.old) (S.blames shelf.new)) mix.now cert.now interval)) }
     ensures range { IfOk result (λ p. AreTimes p.times) }
     ensures demands { IfOk result (λ p. length p.times.demands ≡ length p.mix.models) }
-    ensures fault { MatchResult result (λ _. Unit {0}) (MayStop (Rises (S.fetch_faults shelf.old) (S.fetch_faults shelf.new))) }
+    ensures fault { MatchResult result (λ _. Unit {0})
+        (MayStop (Rises (S.fetch_faults shelf.old) (S.fetch_faults shelf.new))) }
     ensures count { S.fetch_faults shelf.old ≤ S.fetch_faults shelf.new }
     ensures writes { S.write_faults shelf.new ≡ S.write_faults shelf.old }
     ensures files { S.tells → (q : List ℕ) → S.file shelf.new q ≡ S.file shelf.old q }

@@ -28,7 +28,8 @@ fn written<S: Shelf>(
     ensures same { IfOk result (λ r. r ≡ report) }
     ensures certificate { S.tells → IfOk result (λ r. (cert : Proof) → r.kept ≡ Certified cert
         → HasCertificate (Some name.now) (S.file shelf.new) cert) }
-    ensures fault { MatchResult result (λ _. Unit {0}) (MayEnd (Rises (S.fetch_faults shelf.old) (S.fetch_faults shelf.new))
+    ensures fault { MatchResult result (λ _. Unit {0})
+        (MayEnd (Rises (S.fetch_faults shelf.old) (S.fetch_faults shelf.new))
         (Rises (S.write_faults shelf.old) (S.write_faults shelf.new))) }
     ensures count { S.write_faults shelf.old ≤ S.write_faults shelf.new }
 {
@@ -58,7 +59,8 @@ pub fn write_certificate<S: Shelf>(
     ensures same { IfOk result (λ r. r ≡ report) }
     ensures certificate { S.tells → IfOk result (λ r. (cert : Proof) → r.kept ≡ Certified cert
         → HasCertificate (option_map (λ a. a.now) name.entry) (S.file shelf.new) cert) }
-    ensures fault { MatchResult result (λ _. Unit {0}) (MayEnd (Rises (S.fetch_faults shelf.old) (S.fetch_faults shelf.new))
+    ensures fault { MatchResult result (λ _. Unit {0})
+        (MayEnd (Rises (S.fetch_faults shelf.old) (S.fetch_faults shelf.new))
         (Rises (S.write_faults shelf.old) (S.write_faults shelf.new))) }
     ensures unwritten { result ≡ Err Unwritten → (n : List ℕ) × (option_map (λ a. a.now) name.entry ≡ Some n) }
     ensures count { S.write_faults shelf.old ≤ S.write_faults shelf.new }

@@ -40,7 +40,8 @@ pub(crate) fn said_of<S: Shelf>(
         (option_map (λ a. a.now) apart.entry) (option_map (λ a. a.now) warm.entry) word kind)) }
     ensures limit { IfOk result (λ s. IsBetween 1 1000000000000000000 s.timed.cycle) }
     ensures range { IfOk result (λ s. ForSome s.olds (AreEntries (tasks s.timed.inst))) }
-    ensures fault { MatchResult result (λ _. Unit {0}) (MayStop (Rises (S.fetch_faults shelf.old) (S.fetch_faults shelf.new))) }
+    ensures fault { MatchResult result (λ _. Unit {0})
+        (MayStop (Rises (S.fetch_faults shelf.old) (S.fetch_faults shelf.new))) }
     ensures count { S.fetch_faults shelf.old ≤ S.fetch_faults shelf.new }
     ensures writes { S.write_faults shelf.new ≡ S.write_faults shelf.old }
     ensures files { S.tells → (q : List ℕ) → S.file shelf.new q ≡ S.file shelf.old q }

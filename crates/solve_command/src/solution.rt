@@ -248,7 +248,8 @@ pub fn solve_report<R: Threads + Wait + Sync, S: Shelf, G: Gate>(
         Ends o (IsSolveOutcome o file.now (option_map (λ a. a.now) apart.entry) (option_map (λ a. a.now) warm.entry)
         limit word kind plan.now (option_map (λ a. a.now) name.entry)) (S.file shelf.new) result) }
     ensures good { IfOk result (λ r. IsSolveStatus r.status) }
-    ensures fault { MatchResult result (λ _. Unit {0}) (MayEnd (Rises (S.fetch_faults shelf.old) (S.fetch_faults shelf.new))
+    ensures fault { MatchResult result (λ _. Unit {0})
+        (MayEnd (Rises (S.fetch_faults shelf.old) (S.fetch_faults shelf.new))
         (Rises (S.write_faults shelf.old) (S.write_faults shelf.new))) }
     ensures unwritten { result ≡ Err Unwritten → (n : List ℕ) × (option_map (λ a. a.now) name.entry ≡ Some n) }
     ensures promise { S.tells → IfOk result (λ r.

@@ -131,7 +131,8 @@ fn entries_from<S: Shelf>(
         (λ old. (cert : Proof) × (IsCertificateOf (S.file shelf.old) file.now cert × IsOldOf kind inst.now cert old))
         (Stops (IsUnwarmed (outside (S.file shelf.old) (S.blames shelf.new)) (Some file.now) kind inst.now)) }
     ensures range { IfOk result (AreEntries (tasks inst.now)) }
-    ensures fault { MatchResult result (λ _. Unit {0}) (MayStop (Rises (S.fetch_faults shelf.old) (S.fetch_faults shelf.new))) }
+    ensures fault { MatchResult result (λ _. Unit {0})
+        (MayStop (Rises (S.fetch_faults shelf.old) (S.fetch_faults shelf.new))) }
     ensures count { S.fetch_faults shelf.old ≤ S.fetch_faults shelf.new }
     ensures writes { S.write_faults shelf.new ≡ S.write_faults shelf.old }
     ensures files { S.tells → (q : List ℕ) → S.file shelf.new q ≡ S.file shelf.old q }
@@ -154,7 +155,8 @@ pub(crate) fn old_entries<S: Shelf>(
         (Stops (IsUnwarmed (outside (S.file shelf.old) (S.blames shelf.new)) (option_map (λ a. a.now) warm.entry)
         kind inst.now)) }
     ensures range { IfOk result (λ olds. ForSome olds (AreEntries (tasks inst.now))) }
-    ensures fault { MatchResult result (λ _. Unit {0}) (MayStop (Rises (S.fetch_faults shelf.old) (S.fetch_faults shelf.new))) }
+    ensures fault { MatchResult result (λ _. Unit {0})
+        (MayStop (Rises (S.fetch_faults shelf.old) (S.fetch_faults shelf.new))) }
     ensures count { S.fetch_faults shelf.old ≤ S.fetch_faults shelf.new }
     ensures writes { S.write_faults shelf.new ≡ S.write_faults shelf.old }
     ensures files { S.tells → (q : List ℕ) → S.file shelf.new q ≡ S.file shelf.old q }
