@@ -278,7 +278,7 @@ least_word ws h k l p z =
           ];
     }
 
-zeros_at : (k : ℕ) → ◌≡◌ {A = ℕ} (get_or (replicate 16 0) k 0) 0
+pub zeros_at : (k : ℕ) → ◌≡◌ {A = ℕ} (get_or (replicate 16 0) k 0) 0
 zeros_at k = elim (cases_lt k 16) [
   | inl l ↦ get_or-replicate 16 k 0 0 l
   | inr g ↦ get_or_past (replicate 16 0) k 0 g

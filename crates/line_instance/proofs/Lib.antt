@@ -1,5 +1,6 @@
 pub mod Ahead
 pub mod Bits
+pub mod LowWords
 pub mod Counts
 pub mod Fills
 pub mod ListedMembers

@@ -9,7 +9,7 @@ ghost use Rattle.line_instance.specs.Partners.{IsKeptAt};
 ghost use Rattle.line_instance.specs.Line.{Line, IsLine, IsRanked, IsTaskSet, Before, Apart, Covers, tasks, time};
 ghost use Rattle.line_instance.specs.Line.{at_rank, has};
 ghost use Rattle.line_instance.specs.Sums.{sum_where};
-ghost use Rattle.line_instance.specs.Truths.{In, full_to};
+ghost use Rattle.line_instance.specs.Truths.{In, IsEmpty, full_to, meet, minus};
 
 use crate::arcs::Prec;
 use crate::partners::{Kept, kept_at, part};
@@ -24,6 +24,9 @@ pub const MAX_TASKS: usize = 1024;
 /// instance may take: 16 models, 10,000 units of each, 10^9 for each unit. All tasks together take at most
 /// 2.048 * 10^17, less than the greatest cycle time, so sums of times fit into 64 bits.
 pub const MAX_TIME: u64 = 200_000_000_000_000;
+
+// Where there are at most so many tasks, the first two words of a set have all of them.
+const LOW_TASKS: u32 = 128;
 
 /// Tasks with times, the set of tasks before each one, the set of tasks apart from each one, and the order of the tasks
 /// by rank. Tasks are counted from 0.
@@ -189,6 +192,58 @@ impl Instance {
         ensures set { IsTaskSet self.now result }
     {
         TaskSet::full_to(self.times.len() as u32)
+    }
+
+    /// Whether a set of tasks has none. Like the three below, it reads the first two words of a set where there are at
+    /// most 128 tasks.
+    #[inline]
+    pub fn is_empty(&self, set: &TaskSet) -> bool
+        requires { (i : ℕ) → In set.now i → i < tasks self.now }
+        ensures { IsTrue result ↔ IsEmpty set.now }
+    {
+        if self.tasks() <= LOW_TASKS {
+            return set.is_empty_low();
+        }
+        set.is_empty()
+    }
+
+    /// Whether a set of tasks has none in common with another set.
+    #[inline]
+    pub fn is_disjoint(&self, set: &TaskSet, other: &TaskSet) -> bool
+        requires { (i : ℕ) → In set.now i → i < tasks self.now }
+        ensures { IsTrue result ↔ IsEmpty (meet set.now other.now) }
+    {
+        if self.tasks() <= LOW_TASKS {
+            return set.is_disjoint_low(other);
+        }
+        set.meet(other).is_empty()
+    }
+
+    /// The members that a set of tasks has in common with another set.
+    #[inline]
+    pub fn meet(&self, set: &TaskSet, other: &TaskSet) -> TaskSet
+        requires { (i : ℕ) → In set.now i → i < tasks self.now }
+        ensures value { result ≡ meet set.now other.now }
+        ensures truths { length result ≡ 1024 }
+    {
+        if self.tasks() <= LOW_TASKS {
+            return set.meet_low(other);
+        }
+        set.meet(other)
+    }
+
+    /// Takes the members of another set out of a set of tasks.
+    #[inline]
+    pub fn take_out(&self, set: &mut TaskSet, other: &TaskSet)
+        requires { (i : ℕ) → In set.old i → i < tasks self.now }
+        ensures value { set.new ≡ minus set.old other.now }
+        ensures truths { length set.new ≡ 1024 }
+    {
+        if self.tasks() <= LOW_TASKS {
+            set.take_out_low(other);
+            return;
+        }
+        *set = set.minus(other);
     }
 
     /// The total time of a set of tasks, in the instance's time unit, at most 204,800,000,000,000,000.

@@ -237,6 +237,50 @@ impl TaskSet {
         self.minus(other).is_empty()
     }
 
+    // Whether a set with no member from 128 on has none.
+    #[inline]
+    pub(crate) fn is_empty_low(&self) -> bool
+        requires { (i : ℕ) → In self.now i → i < 128 }
+        ensures { IsTrue result ↔ IsEmpty self.now }
+    {
+        self.words[0] | self.words[1] == 0
+    }
+
+    // Whether a set with no member from 128 on has none in common with another.
+    #[inline]
+    pub(crate) fn is_disjoint_low(&self, other: &TaskSet) -> bool
+        requires { (i : ℕ) → In self.now i → i < 128 }
+        ensures { IsTrue result ↔ IsEmpty (meet self.now other.now) }
+    {
+        self.words[0] & other.words[0] | self.words[1] & other.words[1] == 0
+    }
+
+    // The members that a set with none from 128 on has in common with another.
+    #[inline]
+    pub(crate) fn meet_low(&self, other: &TaskSet) -> TaskSet
+        requires { (i : ℕ) → In self.now i → i < 128 }
+        ensures value { result ≡ meet self.now other.now }
+        ensures truths { length result ≡ 1024 }
+    {
+        let mut words = [0; 16];
+        words[0] = self.words[0] & other.words[0];
+        words[1] = self.words[1] & other.words[1];
+        TaskSet { words }
+    }
+
+    // Takes the members of another set out of one with none from 128 on.
+    #[inline]
+    pub(crate) fn take_out_low(&mut self, other: &TaskSet)
+        requires { (i : ℕ) → In self.old i → i < 128 }
+        ensures value { self.new ≡ minus self.old other.now }
+        ensures truths { length self.new ≡ 1024 }
+    {
+        let low = self.words[0] & !other.words[0];
+        let high = self.words[1] & !other.words[1];
+        self.words[0] = low;
+        self.words[1] = high;
+    }
+
     /// How many members there are, at most 1,024.
     #[inline]
     pub fn count(&self) -> u32

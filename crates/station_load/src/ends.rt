@@ -57,17 +57,18 @@ impl End {
         ensures marked { AreMarked inst.now side self.new.tasks self.new.free self.new.places }
     {
         let _tasks = inst.tasks();
-        if candidates.is_empty() {
+        if inst.is_empty(&candidates) {
             return;
         }
         let absent = set.minus(&self.tasks);
         let mut left = candidates;
-        while let Some(task) = nearest(&left, side) {
-            if ahead(inst, side, task).meet(&absent).is_empty() {
+        while let Some(task) = nearest(inst, &left, side) {
+            if inst.is_disjoint(ahead(inst, side, task), &absent) {
                 self.free.insert(task);
                 self.places.insert(place_of(inst, side, task));
             }
-            left = left.without(task).minus(waiting(inst, side, task));
+            left.remove(task);
+            inst.take_out(&mut left, waiting(inst, side, task));
         }
     }
 
@@ -86,11 +87,8 @@ impl End {
         let _tasks = inst.tasks();
         self.tasks.remove(task);
         self.free.insert(task);
-        let mut shut = self.free.meet(waiting(inst, side, task));
-        if shut.is_empty() {
-            return;
-        }
-        while let Some(other) = shut.least() {
+        let mut shut = inst.meet(waiting(inst, side, task), &self.free);
+        while let Some(other) = nearest(inst, &shut, Side::Front) {
             shut.remove(other);
             self.free.remove(other);
             self.places.remove(place_of(inst, side, other));
@@ -111,6 +109,6 @@ impl End {
         let _tasks = inst.tasks();
         self.tasks.insert(task);
         self.free.remove(task);
-        self.add_ready(inst, set, side, waiting(inst, side, task).meet(set));
+        self.add_ready(inst, set, side, inst.meet(waiting(inst, side, task), set));
     }
 }

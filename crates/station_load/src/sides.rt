@@ -23,6 +23,7 @@ pub(crate) fn fills(mode: Mode, side: Side) -> bool
 pub(crate) fn ahead(inst: &Instance, side: Side, task: u32) -> &TaskSet
     requires { task < tasks inst.now }
     ensures members { (j : ℕ) → In result.now j ↔ Ahead inst.now side j task }
+    ensures set { IsTaskSet inst.now result.now }
 {
     match side {
         Side::Front => inst.before(task),
@@ -84,18 +85,22 @@ pub(crate) fn places_of(inst: &Instance, side: Side, part: &TaskSet) -> TaskSet
     places
 }
 
-/// The member of a set that is first looked at for the side: the least in front, the greatest at the back. Where tasks
+/// The task of a set that is first looked at for the side: the least in front, the greatest at the back. Where tasks
 /// are numbered along their precedences, nothing else of the set is ahead of it.
 #[inline]
-pub(crate) fn nearest(set: &TaskSet, side: Side) -> Option<u32>
+pub(crate) fn nearest(inst: &Instance, set: &TaskSet, side: Side) -> Option<u32>
+    requires { (i : ℕ) → In set.now i → i < tasks inst.now }
     ensures none { IsNone result → IsEmpty set.now }
     ensures some { IfSome result (λ i. In set.now i) }
-    ensures below { IfSome result (λ i. i < 1024) }
+    ensures below { IfSome result (λ i. i < tasks inst.now) }
 {
-    let _most = set.capacity();
+    let tasks = inst.tasks();
+    if inst.is_empty(set) {
+        return None;
+    }
     match side {
         Side::Front => set.least(),
-        Side::Back => set.greatest_below(1024),
+        Side::Back => set.greatest_below(tasks),
     }
 }
 

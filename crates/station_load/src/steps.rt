@@ -81,10 +81,13 @@ fn goes_with(inst: &Instance, here: &TaskSet, other: &TaskSet, task: u32) -> boo
         return false;
     }
     let apart = inst.apart(task);
-    if apart.is_empty() {
+    if inst.is_empty(apart) {
         return true;
     }
-    here.union(other).meet(apart).is_empty()
+    if !inst.is_disjoint(apart, here) {
+        return false;
+    }
+    inst.is_disjoint(apart, other)
 }
 
 // Goes over the places of a side from the last one down: gives up what stands there, up to the first place where a task
@@ -158,7 +161,7 @@ fn grows(
     if !fills(mode, side) {
         return false;
     }
-    let candidates = end.free.meet(short);
+    let candidates = inst.meet(&end.free, short);
     let mut below = inst.tasks();
     while let Some(task) = candidates.greatest_below(below) {
         below = task;
