@@ -27,6 +27,7 @@ module _ (kind : LineKind) (line : Line) (m : ℕ) (plan : Plan) where
     units = p.units;
     right = p.certified.right;
     said = p.certified.said;
+    sayable = p.certified.sayable;
     accepted = p.certified.accepted;
     few = p.certified.few;
     true_bounds = p.certified.true_bounds;
@@ -49,6 +50,7 @@ module _ (kind : LineKind) (line : Line) (m : ℕ) (plan : Plan) where
     units = p.units;
     right = p.certified.right;
     said = p.certified.said;
+    sayable = p.certified.sayable;
     accepted = p.certified.accepted;
     few = p.certified.few;
     true_bounds = p.certified.true_bounds;
@@ -58,6 +60,8 @@ module _ (kind : LineKind) (line : Line) (m : ℕ) (plan : Plan) where
     differ = λ h. (
       refl,
       record {
+        first = p.spent.stopped.from;
+        stations = p.spent.stations;
         trail = p.trail;
         has = refl;
         from = p.spent.from;
@@ -67,6 +71,7 @@ module _ (kind : LineKind) (line : Line) (m : ℕ) (plan : Plan) where
         all = p.spent.all;
         alone = p.spent.alone;
         fresh = p.spent.fresh;
+        asks = p.spent.valid;
         opens = p.spent.opens;
       },
     );

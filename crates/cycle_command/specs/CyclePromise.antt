@@ -4,8 +4,10 @@ use Rattle.line_instance.specs.Line.{Line, tasks}
 use Rattle.line_rules.specs.Accepted.{IsAccepted, IsLeastCycle}
 use Rattle.line_rules.specs.Bounds.{idle_time}
 use Rattle.line_rules.specs.Entries.{IsFreshAt}
+use Rattle.line_rules.specs.Balance.{all_tasks}
 use Rattle.line_rules.specs.Laws.{IsProved}
-use Rattle.line_rules.specs.Trails.{IsOpenOver}
+use Rattle.line_rules.specs.Ranges.{IsInRange}
+use Rattle.line_rules.specs.Trails.{IsOpenOver, IsTrail}
 use Rattle.line_rules.specs.Units.{UnitsAt}
 use Rattle.line_rules.specs.declared.types.LineKind.{LineKind}
 use Rattle.line_rules.specs.declared.types.Balance.{Balance as Assignment}
@@ -24,6 +26,7 @@ use Rattle.command_outcome.specs.declared.status.Status.{Status}
 use Rattle.command_outcome.specs.declared.status.Status.TheVariants as ends
 use Rattle.input_files.specs.Instance.{IsLineOf}
 use Rattle.solution_page.specs.Page.{HasCertificate}
+use Rattle.cycle_search.specs.Ends.{first_lower}
 use Rattle.cycle_search.specs.Outcomes.{IsRightIn}
 use Rattle.cycle_search.specs.CycleCertified.{about_cycle}
 use Rattle.cycle_command.specs.CycleText.{optimal_text, stopped_text}
@@ -35,9 +38,12 @@ bounds_text kind lower upper b idle =
 
 -- The units of a cycle X between the bounds were spent on loads that the certificate lists: its entries and its trail,
 -- which is at X, have at least as many at X, and exactly so many with no helpers; no entry of cycle X is answered by an
--- earlier one of that cycle, and the trail, which is valid since the certificate is accepted, has a further load.
-pub record AreSpentAt (line : Line) (plan : Plan) (lower upper : ℕ) (es : List Entry) (left : Option Trail)
-    : Type 0 where
+-- earlier one of that cycle; and the trail, which asks whether all tasks have a balance in m stations at X, has a
+-- further load. There are fewer stations than tasks, and the lower bound is at least the first lower end.
+pub record AreSpentAt (kind : LineKind) (line : Line) (m : ℕ) (plan : Plan) (lower upper : ℕ) (es : List Entry)
+    (left : Option Trail) : Type 0 where
+  pub first : first_lower line m ≤ lower
+  pub stations : m < tasks line
   pub trail : Trail
   pub has : left ≡ Some trail
   pub from : lower ≤ trail.cycle
@@ -47,13 +53,14 @@ pub record AreSpentAt (line : Line) (plan : Plan) (lower upper : ℕ) (es : List
   pub all : plan.units ≤ units
   pub alone : plan.helpers ≡ 0 → units ≡ plan.units
   pub fresh : IsFreshAt trail.cycle es
+  pub asks : IsTrail kind line trail.cycle es (all_tasks line) m trail.frames
   pub opens : IsOpenOver line trail.cycle es trail.frames
 
 -- What is promised of bounds on the least cycle in m stations: the printed balance has m stations and is right at the
--- upper one; the certificate is accepted by the check with its default steps; the bounds are true; what is printed are
--- the certificate's bounds and balance; the bounds differ only where the units of a tried cycle were spent on loads
--- that the certificate lists, and status 1 says so; where they are equal they are the least cycle; and they are equal
--- where the units are at least (n + 1) x 3^n for n tasks, and on a U-line (n + 1) x 4^n.
+-- upper one; a text can say the certificate, and the check accepts it with its default steps; the bounds are true; what
+-- is printed are the certificate's bounds and balance; the bounds differ only where the units of a tried cycle were
+-- spent on loads that the certificate lists, and status 1 says so; where they are equal they are the least cycle; and
+-- they are equal where the units are at least (n + 1) x 3^n for n tasks, and on a U-line (n + 1) x 4^n.
 pub record HasBounds (kind : LineKind) (line : Line) (m : ℕ) (plan : Plan) (certificate : Certificate) (status : Status)
     (text : List ℕ) : Type 0 where
   pub lower : ℕ
@@ -64,11 +71,12 @@ pub record HasBounds (kind : LineKind) (line : Line) (m : ℕ) (plan : Plan) (ce
   pub units : ℕ
   pub right : IsRightIn kind line m upper balance
   pub said : certificate ≡ about_cycle kind line m (claim.Bounds lower upper balance entries trail)
+  pub sayable : IsInRange certificate
   pub accepted : IsAccepted line certificate lower upper units
   pub few : units ≤ max_units
   pub true_bounds : IsProved kind line (ask.Cycle m) lower upper
   pub printed : text ≡ bounds_text kind lower upper balance (idle_time line upper m)
-  pub differ : lower < upper → (status ≡ ends.Stopped) × AreSpentAt line plan lower upper entries trail
+  pub differ : lower < upper → (status ≡ ends.Stopped) × AreSpentAt kind line m plan lower upper entries trail
   pub equal : lower ≡ upper → (status ≡ ends.Done) × IsLeastCycle kind line m lower
   pub complete : (tasks line + 1) * states kind ^ tasks line ≤ plan.units → lower ≡ upper
 

@@ -54,6 +54,7 @@ module _ (kind : LineKind) (line : Line) (c : ℕ) (plan : Plan) (start : Start)
       units = p.units;
       right = p.certified.right;
       said = p.certified.said;
+      sayable = p.certified.sayable;
       accepted = p.certified.accepted;
       few = p.certified.few;
       true_bounds = p.certified.true_bounds;
@@ -80,6 +81,7 @@ module _ (kind : LineKind) (line : Line) (c : ℕ) (plan : Plan) (start : Start)
       units = p.units;
       right = p.certified.right;
       said = p.certified.said;
+      sayable = p.certified.sayable;
       accepted = p.certified.accepted;
       few = p.certified.few;
       true_bounds = p.certified.true_bounds;
@@ -116,6 +118,7 @@ module _ (kind : LineKind) (line : Line) (c : ℕ) (plan : Plan) (start : Start)
     task = p.task;
     least = p.least;
     said = p.proved.said;
+    sayable = p.proved.sayable;
     accepted = p.proved.accepted;
     none = p.proved.none;
     printed = refl;

@@ -7,6 +7,7 @@ use Rattle.line_rules.specs.Bounds.{bound, idle_time, IsTooLong}
 use Rattle.line_rules.specs.Checked.{IsLeastWhere}
 use Rattle.line_rules.specs.Entries.{IsFresh}
 use Rattle.line_rules.specs.Laws.{IsProved, NoBalanceIsLeft}
+use Rattle.line_rules.specs.Ranges.{IsInRange}
 use Rattle.line_rules.specs.Trails.{IsOpenOver, IsTrail}
 use Rattle.line_rules.specs.Units.{UnitsOf, UnitsWhole}
 use Rattle.line_rules.specs.declared.types.LineKind.{LineKind}
@@ -60,8 +61,8 @@ pub record AreSpent (kind : LineKind) (line : Line) (c : ℕ) (plan : Plan) (top
   pub asks : IsTrail kind line c es (all_tasks line) lower frames
   pub opens : IsOpenOver line c es frames
 
--- What is promised of bounds: the printed balance keeps every precedence and the cycle; the certificate is accepted by
--- the check with its default steps; no balance of that kind has fewer stations than the lower bound; what is printed
+-- What is promised of bounds: the printed balance keeps every precedence and the cycle; a text can say the certificate,
+-- and the check accepts it with its default steps; no balance of that kind has fewer stations than the lower bound; what is printed
 -- are the certificate's bounds and balance, behind the line on the old entries, where there are any; the bounds differ
 -- only where the units of the plan were spent on loads that the certificate lists, and status 1 says so; where they are
 -- equal they are the least number of stations; and they are equal where the units are at least (n + 1) x 3^n for n
@@ -80,6 +81,7 @@ pub record HasBounds (kind : LineKind) (line : Line) (c : ℕ) (plan : Plan) (st
   pub units : ℕ
   pub right : IsRight kind line c balance
   pub said : certificate ≡ about_stations kind line c (claim.Bounds lower balance.stations balance entries trail)
+  pub sayable : IsInRange certificate
   pub accepted : IsAccepted line certificate lower balance.stations units
   pub few : units ≤ max_units
   pub true_bounds : IsProved kind line (ask.Stations c) lower balance.stations
@@ -96,6 +98,7 @@ pub record HasNone (kind : LineKind) (line : Line) (c : ℕ) (certificate : Cert
   pub task : ℕ
   pub least : IsLeastWhere (IsTooLong line c) task
   pub said : certificate ≡ about_stations kind line c (claim.TooLong task)
+  pub sayable : IsInRange certificate
   pub accepted : IsAcceptedInfeasible line certificate task
   pub none : NoBalanceIsLeft (ask.Stations c) kind line
   pub printed : text ≡ infeasible_text task (time line task)
