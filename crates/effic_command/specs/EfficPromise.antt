@@ -1,6 +1,7 @@
 -- What `effic` promises, fact by fact, where it answers with status 0 or 1.
 use Rattle.std.specs.Prelude.{◌≡◌, ℕ, ◌<◌, ◌≤◌, List, Option, Some, None}
 use Rattle.line_instance.specs.Line.{Line}
+use Rattle.line_rules.specs.Products.{IsSayable}
 use Rattle.line_rules.specs.declared.types.LineKind.{LineKind}
 use Rattle.effic_search.specs.rounds.declared.plans.Plan.{Plan}
 use Rattle.effic_search.specs.rounds.Certified.{max_units}
@@ -14,7 +15,7 @@ use Rattle.effic_cert.specs.Product.{product_text}
 use Rattle.line_rules.specs.declared.products.EfficCert.{EfficCert}
 use Rattle.effic_check.specs.Accepted.{IsAccepted}
 use Rattle.effic_check.specs.Truth.{IsBetween, IsLeastProduct}
-use Rattle.effic_search.specs.Outcomes.{StoppedBy}
+use Rattle.effic_search.specs.Outcomes.{StoppedBy, AreEnough}
 use Rattle.effic_search.specs.declared.searching.Ended.{Ended}
 use Rattle.effic_command.specs.EfficText.{optimal_text, stopped_text}
 use Rattle.effic_command.specs.EfficFound.{idle_of}
@@ -32,23 +33,25 @@ pub record IsToldLeast (kind : LineKind) (line : Line) (least most : ℕ) (cert 
   pub least_one : IsLeastProduct kind line least most cert.upper
   pub printed : text ≡ optimal_text cert (idle_of line cert)
 
--- What is promised of bounds on the product in `least` to `most` stations: the certificate is of this question, and
--- accepted by the check with its default steps; so its balance reaches its upper bound, and none lies below its lower
--- one. The bounds differ only where the search stopped, by the units of a try or by the size of its book, and status 1
--- says so; where they are equal they are the least product. What is printed are the bounds and the balance of the
--- certificate.
+-- What is promised of bounds on the product in `least` to `most` stations: the certificate is of this question, a text
+-- can say it, and the check accepts it with its default steps; so its balance reaches its upper bound, and none lies
+-- below its lower one. The bounds differ only where the search stopped, by the units of a try or by the size of its
+-- book, and status 1 says so; where they are equal they are the least product. What is printed are the bounds and the
+-- balance of the certificate. The bounds are equal where the units are enough for the line.
 pub record HasBounds (kind : LineKind) (line : Line) (least most : ℕ) (plan : Plan) (cert : EfficCert)
     (status : Status) (text : List ℕ) : Type 0 where
   pub kind_is : cert.kind ≡ kind
   pub least_is : cert.least_m ≡ least
   pub most_is : cert.most_m ≡ most
   pub units : ℕ
+  pub sayable : IsSayable cert
   pub accepted : IsAccepted line cert units
   pub few : units ≤ max_units
   pub true_bounds : IsBetween kind line least most cert.lower cert.upper
   pub order : cert.lower ≤ cert.upper
   pub differ : cert.lower < cert.upper → (status ≡ ends.Stopped) × IsToldWhy kind line least most plan cert text
   pub equal : cert.lower ≡ cert.upper → (status ≡ ends.Done) × IsToldLeast kind line least most cert text
+  pub complete : AreEnough kind line plan.units → cert.lower ≡ cert.upper
 
 -- what is printed is shown by a certificate, which is kept
 pub record IsShown (kind : LineKind) (line : Line) (least most : ℕ) (plan : Plan) (status : Status) (text : List ℕ)

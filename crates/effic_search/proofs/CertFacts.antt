@@ -38,7 +38,7 @@ use Rattle.effic_search.specs.inner.Going.{HaveCycles, IsLowering, IsGoing, IsLe
 use Rattle.effic_search.specs.inner.Going.{HasFewUnits}
 use Rattle.effic_search.specs.inner.Going.{product_of, entries_of}
 use Rattle.effic_search.specs.Lowest.{IsLowest}
-use Rattle.effic_search.specs.Outcomes.{IsCertified, IsSolved, IsSpent, IsLarge, StoppedBy}
+use Rattle.effic_search.specs.Outcomes.{IsCertified, IsSolved, IsSpent, IsLarge, StoppedBy, AreEnough}
 use Rattle.effic_search.specs.declared.searching.Ended.{Ended}
 use Rattle.effic_search.specs.declared.searching.Ended.TheVariants as ended
 use Rattle.effic_search.specs.declared.lowering.Lowering.{Lowering}
@@ -349,3 +349,9 @@ pub stopped_certified : (why : Ended) (kind : LineKind) (line : Line) (least mos
     → StoppedBy why kind line least most plan cert → IsCertified kind line least most cert
 stopped_certified ended.Units kind line least most plan cert s = s.certified
 stopped_certified ended.Size kind line least most plan cert s = s.certified
+
+-- with enough units no search stops
+pub never_stopped : (why : Ended) (kind : LineKind) (line : Line) (least most : ℕ) (plan : Plan) (cert : EfficCert)
+    → StoppedBy why kind line least most plan cert → AreEnough kind line plan.units → cert.lower ≡ cert.upper
+never_stopped ended.Units kind line least most plan cert s e = absurd (omega (arith, s.budget, e.units))
+never_stopped ended.Size kind line least most plan cert s e = absurd (omega (arith, s.budget, e.size))

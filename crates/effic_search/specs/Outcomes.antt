@@ -93,6 +93,13 @@ abbrev pub StoppedBy : Ended → LineKind → Line → ℕ → ℕ → Plan → 
 StoppedBy ended.Units kind line least most plan cert = IsSpent kind line least most plan cert
 StoppedBy ended.Size kind line least most plan cert = IsLarge kind line least most cert
 
+-- Units of a try that are enough for a line: of n tasks at least (n + 1) x 3^n, on a U-line (n + 1) x 4^n; and the line
+-- is so small that its book can't become too large: (n + 1) x 4^n times the greater of 1 and the total is at most
+-- 4,000,000.
+pub record AreEnough (kind : LineKind) (line : Line) (N : ℕ) : Type 0 where
+  pub units : (tasks line + 1) * states kind ^ tasks line ≤ N
+  pub size : (tasks line + 1) * 4 ^ tasks line * max (total_time line) 1 ≤ 4000000
+
 -- What is answered for `least` to `most` stations: the least product; or bounds, where the units of a try ended, the
 -- book was too large for a try, or memory ended. Out of memory is free.
 abbrev pub Lowers : LineKind → Line → ℕ → ℕ → Plan → EfficOutcome → Type 0

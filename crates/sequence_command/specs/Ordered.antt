@@ -55,7 +55,7 @@ pub record IsFound (mix : MixedLine) (t : Times) (interval reach units : ℕ) (s
   pub equal : cert.lower ≡ cert.upper → IsLeast mix cert status text
   pub complete : most_units t ≤ units → cert.lower ≡ cert.upper
 
--- memory ended the search: the bounds that are printed are true
+-- memory ended the search: the bounds that are printed differ, and are true
 pub record IsCutShort (t : Times) (interval reach : ℕ) (out : Outcome) : Type 0 where
   pub lower : ℕ
   pub upper : ℕ

@@ -37,8 +37,9 @@ pub record IsStopped (t : Times) (interval reach units : ℕ) (cert : SeqCert) :
   pub spent : units_whole cert ≡ units
   pub tight : units < most_units t
 
--- no sequence of the demands costs less than the lower bound, and one costs the upper one
+-- the bounds differ; no sequence of the demands costs less than the lower one, and one costs the upper one
 pub record AreBounds (t : Times) (interval reach lower upper : ℕ) : Type 0 where
+  pub below : lower < upper
   pub least : Holds t interval reach t.demands (root_starts t) lower
   pub sequence : List ℕ
   pub is : IsSequenceOf t.demands sequence

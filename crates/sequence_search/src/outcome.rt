@@ -8,7 +8,7 @@ pub enum Ordered {
     Solved(SeqCert),
     /// The units ended before the bounds met; the certificate has the frames that are open.
     Stopped(SeqCert),
-    /// Memory ended in a try: no sequence has less utility work than `lower`, and one has `upper`.
+    /// Memory ended in a try: no sequence has less utility work than `lower`, one has `upper`, and these differ.
     Memory {
         /// The lower bound.
         lower: u64,

@@ -14,6 +14,7 @@ pub returns-in_default-attempt : goal.returns-in_default-attempt
 returns-in_default-attempt c =
     let s = c.tries.invariant.standing in
     record {
+      below = c.tries-test.true;
       least = shown_holds c.args.times.now c.args.interval c.args.reach c.tries.standing.lower
           c.tries.standing.entries s.book s.shown;
       sequence = c.tries.standing.sequence;
