@@ -87,7 +87,11 @@ impl End {
         let _tasks = inst.tasks();
         self.tasks.remove(task);
         self.free.insert(task);
-        let mut shut = inst.meet(waiting(inst, side, task), &self.free);
+        let waiting = waiting(inst, side, task);
+        if inst.is_disjoint(waiting, &self.free) {
+            return;
+        }
+        let mut shut = inst.meet(waiting, &self.free);
         while let Some(other) = nearest(inst, &shut, Side::Front) {
             shut.remove(other);
             self.free.remove(other);
@@ -109,6 +113,10 @@ impl End {
         let _tasks = inst.tasks();
         self.tasks.insert(task);
         self.free.remove(task);
-        self.add_ready(inst, set, side, inst.meet(waiting(inst, side, task), set));
+        let waiting = waiting(inst, side, task);
+        if inst.is_disjoint(waiting, set) {
+            return;
+        }
+        self.add_ready(inst, set, side, inst.meet(waiting, set));
     }
 }

@@ -70,7 +70,7 @@ impl Model for Walk {
 
 // Whether a task may stand beside these tasks of the two sides: it isn't at the other side, and nothing is apart from
 // it.
-#[inline]
+#[inline(always)]
 fn goes_with(inst: &Instance, here: &TaskSet, other: &TaskSet, task: u32) -> bool
     requires { task < tasks inst.now }
     ensures { IsTrue result ↔ (has other.now task ≡ false)
@@ -91,7 +91,51 @@ fn goes_with(inst: &Instance, here: &TaskSet, other: &TaskSet, task: u32) -> boo
 }
 
 // Goes over the places of a side from the last one down: gives up what stands there, up to the first place where a task
-// may join. Whether one has joined. Clauses name the load that the scan began from, and the code has no need of it.
+// may join. Whether one has joined. Loads of the mode fill the side. Clauses name the load that the scan began from, and the code has no need of it.
+fn go_over(
+    inst: &Instance,
+    cycle: u64,
+    set: &TaskSet,
+    mode: Mode,
+    side: Side,
+    other: &TaskSet,
+    end: &mut End,
+    sum: &mut u64,
+) -> bool
+    requires set { IsTaskSet inst.now set.now }
+    requires filled { fills mode side ≡ true }
+    requires scan { (base : Pair) × Scan inst.now cycle mode set.now base (pair_at side end.old.tasks other.now)
+        (spot inst.now side (tasks inst.now)) }
+    requires kept { fills mode side ≡ true → IsEnd inst.now side set.now end.old.tasks end.old.free end.old.places }
+    requires sum { sum.old ≡ sum_where (has (taken (pair_at side end.old.tasks other.now))) inst.now.times }
+    ensures joined { IsTrue result → (base : Pair) → Scan inst.now cycle mode set.now base
+        (pair_at side end.old.tasks other.now) (spot inst.now side (tasks inst.now))
+        → IsNext inst.now cycle mode set.now base (pair_at side end.new.tasks other.now) }
+    ensures passed { result ≡ false → (base : Pair) → Scan inst.now cycle mode set.now base
+        (pair_at side end.old.tasks other.now) (spot inst.now side (tasks inst.now))
+        → Scan inst.now cycle mode set.now base (pair_at side end.new.tasks other.now) (spot inst.now side 0) }
+    ensures kept { fills mode side ≡ true → IsEnd inst.now side set.now end.new.tasks end.new.free end.new.places }
+    ensures sum { sum.new ≡ sum_where (has (taken (pair_at side end.new.tasks other.now))) inst.now.times }
+{
+    let mut below = inst.tasks();
+    while let Some(place) = end.places.greatest_below(below) {
+        below = place;
+        let task = task_at(inst, side, place);
+        let time = inst.time(task);
+        if end.tasks.has(task) {
+            end.give_up(inst, side, task);
+            *sum -= time;
+        } else if time <= cycle - *sum && goes_with(inst, &end.tasks, other, task) {
+            end.take_in(inst, set, side, task);
+            *sum += time;
+            return true;
+        }
+    }
+    false
+}
+
+// The same for any side: at one that loads of the mode don't fill, no task may join.
+#[inline]
 fn advance(
     inst: &Instance,
     cycle: u64,
@@ -119,21 +163,7 @@ fn advance(
     if !fills(mode, side) {
         return false;
     }
-    let mut below = inst.tasks();
-    while let Some(place) = end.places.greatest_below(below) {
-        below = place;
-        let task = task_at(inst, side, place);
-        let time = inst.time(task);
-        if end.tasks.has(task) {
-            end.give_up(inst, side, task);
-            *sum -= time;
-        } else if time <= cycle - *sum && goes_with(inst, &end.tasks, other, task) {
-            end.take_in(inst, set, side, task);
-            *sum += time;
-            return true;
-        }
-    }
-    false
+    go_over(inst, cycle, set, mode, side, other, end, sum)
 }
 
 // Whether a task that is ready for the side may join it.

@@ -13,12 +13,25 @@ turned : (a b : List Bool) → length a ≡ 1024 → length b ≡ 1024 → meet 
 turned a b e f = same_set (meet a b) (meet b a) (length-meet a b (e ∙ sym f) ∙ e) (length-meet b a (f ∙ sym e) ∙ f)
     (in_both a b) (in_both b a)
 
+pub returns-then-is_disjoint-clause-free : goal.returns-then-is_disjoint-clause-free
+returns-then-is_disjoint-clause-free c =
+    shut_end (shut_start c.tasks-tasks.ensures.line c.tasks-tasks.ensures.ranked c.requires.marked c.requires.apart
+    c.requires.task c.requires.within c.remove.ensures.value c.insert.ensures.value c.insert.ensures.truths
+    c.waiting-waiting.ensures.members c.waiting-waiting.ensures.set refl)
+    (λ i m. c.is_disjoint.ensures.0 c.if-is_disjoint.true i (in_both c.insert.new.self c.waiting-waiting.result.now i m))
+
+pub returns-then-is_disjoint-clause-marked : goal.returns-then-is_disjoint-clause-marked
+returns-then-is_disjoint-clause-marked c =
+    (shut_start c.tasks-tasks.ensures.line c.tasks-tasks.ensures.ranked c.requires.marked c.requires.apart
+    c.requires.task c.requires.within c.remove.ensures.value c.insert.ensures.value c.insert.ensures.truths
+    c.waiting-waiting.ensures.members c.waiting-waiting.ensures.set refl).marked
+
 pub loop-other-init : goal.loop-other-init
 loop-other-init c =
     shut_start c.tasks-tasks.ensures.line c.tasks-tasks.ensures.ranked c.requires.marked c.requires.apart
     c.requires.task c.requires.within c.remove.ensures.value c.insert.ensures.value c.insert.ensures.truths
-    c.waiting.ensures.members c.waiting.ensures.set (c.meet-shut.ensures.value
-    ∙ turned c.waiting.result.now c.insert.new.self c.waiting.ensures.set.truths c.insert.ensures.truths)
+    c.waiting-waiting.ensures.members c.waiting-waiting.ensures.set (c.meet-shut.ensures.value
+    ∙ turned c.waiting-waiting.result.now c.insert.new.self c.waiting-waiting.ensures.set.truths c.insert.ensures.truths)
 
 pub loop-other-smaller : goal.loop-other-smaller
 loop-other-smaller c = fewer_shut c.loop-other.shut c.in-Some.other c.in-Some.ensures.some

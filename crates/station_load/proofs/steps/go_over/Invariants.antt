@@ -1,5 +1,5 @@
 use Rattle.station_load.proofs.EachStart.{AdvancingFromEach}
-use Rattle.station_load.proofs.steps.advance.Given as goal
+use Rattle.station_load.proofs.steps.go_over.Given as goal
 
 abbrev pub invariant-loop-place : goal.invariant-loop-place
 invariant-loop-place l = AdvancingFromEach l.inst l.cycle l.fn.mode l.set l.side l.initial.end.tasks l.end.tasks

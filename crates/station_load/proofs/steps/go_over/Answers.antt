@@ -2,13 +2,13 @@ use Rattle.std.proofs.Common.{◌∙◌, sym, refl, arith}
 use Rattle.std.proofs.lemmas.Bool.{false≢true}
 use Rattle.line_rules.proofs.QuickWalk.{advance_start, time_within, gave_up, next_here, sum_here, passed, no_place}
 use Rattle.station_load.proofs.EachStart.{from_each}
-use Rattle.station_load.proofs.steps.advance.Goals as goal
-use Rattle.station_load.proofs.steps.advance.Goals.{else-time-cycle-via-then-time-cycle+else-goes_with}
-use Rattle.station_load.proofs.steps.advance.Goals.{else-time-cycle-via-else-time-cycle}
+use Rattle.station_load.proofs.steps.go_over.Goals as goal
+use Rattle.station_load.proofs.steps.go_over.Goals.{else-time-cycle-via-then-time-cycle+else-goes_with}
+use Rattle.station_load.proofs.steps.go_over.Goals.{else-time-cycle-via-else-time-cycle}
 
 pub loop-place-init : goal.loop-place-init
-loop-place-init c = from_each c.requires.scan (λ base scan. advance_start c.tasks-below.ensures.tasks scan
-    c.fills.ensures c.if-not-fills.false c.requires.kept c.requires.sum)
+loop-place-init c = from_each c.requires.scan (λ base scan. advance_start c.tasks-below.ensures.tasks scan refl
+    c.requires.filled c.requires.kept c.requires.sum)
 
 pub overflow_sub-sum : goal.overflow_sub-sum
 overflow_sub-sum c = time_within (c.loop-place.invariant.each c.requires.scan.0 c.requires.scan.1)
@@ -25,7 +25,7 @@ returns-then-goes_with-clause-joined c = λ e base scan.
     next_here (c.loop-place.invariant.each base scan) c.in-Some.ensures.some c.task_at-task.ensures.task c.has.ensures
     c.if-has.false (sym with_it.0) refl
     (record { time = omega (arith, c.time-time.ensures.time, c.if-time-cycle.true); parted = with_it.1 })
-    c.fills.ensures c.if-not-fills.false c.take_in.ensures.tasks
+    refl c.requires.filled c.take_in.ensures.tasks
 
 pub returns-then-goes_with-clause-sum : goal.returns-then-goes_with-clause-sum
 returns-then-goes_with-clause-sum c =
