@@ -30,6 +30,7 @@ pub fn write_page<S: Shelf>(
         (MayEnd (Rises (S.fetch_faults shelf.old) (S.fetch_faults shelf.new))
         (Rises (S.write_faults shelf.old) (S.write_faults shelf.new))) }
     ensures count { S.write_faults shelf.old ≤ S.write_faults shelf.new }
+    ensures fetches { S.fetch_faults shelf.new ≡ S.fetch_faults shelf.old }
 {
     match write_whole(shelf, name, bytes) {
         Written::Done => Ok(report),

@@ -242,6 +242,7 @@ module _ (kind : LineKind) (line : Line) (c : ℕ) (plan : Plan) (before : List 
         counted = spent.units;
         sum = refl;
         least = spent.least;
+        most = spent.most;
         alone = spent.alone;
         fresh = fresh;
         opens = subst O (sym es_are) spent.opens;

@@ -76,9 +76,9 @@ pub record IsOptimumFrom (kind : LineKind) (line : Line) (c : ℕ) (before : Lis
 
 -- The certificate of a search that began with some entries and used the units of its plan: its bounds differ; its
 -- entries, of which none is answered by an earlier one, begin with those, and the others are at cycle c; these others
--- and its trail have at least the units of the plan, exactly so many without helpers; the lower bound is at least the
--- bound of all tasks; the trail asks whether all tasks have a balance in as many stations, and is open over the
--- entries; and the units of the plan are below what the budget law allows.
+-- and its trail have at least the units of the plan, at most twice as many, and exactly so many without helpers; the
+-- lower bound is at least the bound of all tasks; the trail asks whether all tasks have a balance in as many stations,
+-- and is open over the entries; and the units of the plan are below what the budget law allows.
 pub record IsStopFrom (kind : LineKind) (line : Line) (c : ℕ) (plan : Plan) (before : List Entry) (lower : ℕ)
     (b : Assignment) (cert : Certificate) : Type 0 where
   pub entries : List Entry
@@ -97,6 +97,7 @@ pub record IsStopFrom (kind : LineKind) (line : Line) (c : ℕ) (plan : Plan) (b
   pub counted : UnitsWhole line added (Some (record { cycle = c; frames = frames })) listed
   pub sum : units ≡ paid + listed
   pub least : plan.units ≤ listed
+  pub most : listed ≤ 2 * plan.units
   pub alone : plan.helpers ≡ 0 → listed ≡ plan.units
   pub fresh : IsFresh entries
   pub opens : IsOpenOver line c entries frames

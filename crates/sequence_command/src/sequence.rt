@@ -108,6 +108,7 @@ fn written<S: Shelf>(
         (MayEnd (Rises (S.fetch_faults shelf.old) (S.fetch_faults shelf.new))
         (Rises (S.write_faults shelf.old) (S.write_faults shelf.new))) }
     ensures count { S.write_faults shelf.old ≤ S.write_faults shelf.new }
+    ensures fetches { S.fetch_faults shelf.new ≡ S.fetch_faults shelf.old }
 {
     let Kept::Sequence(cert) = &report.kept else {
         return Ok(report);

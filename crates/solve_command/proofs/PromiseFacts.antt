@@ -101,6 +101,7 @@ module _ (kind : LineKind) (line : Line) (c : ℕ) (plan : Plan) (start : Start)
           counted = p.counted;
           sum = p.sum;
           least = p.least;
+          most = p.most;
           alone = p.alone;
           fresh = p.fresh;
           asks = p.asks;

@@ -38,10 +38,10 @@ bounds_text kind lower b idle = cond (nat_eq lower b.stations) (optimal_text kin
     (stopped_text kind lower b idle)
 
 -- The units of the plan were spent on loads that the certificate lists: its entries begin with those that the run began
--- with; the entries after these and its trail have at least so many units, exactly so many without helpers; no entry is
--- answered by an earlier one; and the trail, which asks whether all tasks have a balance in as many stations as the
--- lower bound, has a further load. The lower bound is at least the bound of all tasks, and the upper bound at most the
--- stations that the run began with.
+-- with; the entries after these and its trail have at least so many units, at most twice as many, and exactly so many
+-- without helpers; no entry is answered by an earlier one; and the trail, which asks whether all tasks have a balance
+-- in as many stations as the lower bound, has a further load. The lower bound is at least the bound of all tasks, and
+-- the upper bound at most the stations that the run began with.
 pub record AreSpent (kind : LineKind) (line : Line) (c : ℕ) (plan : Plan) (top lower upper : ℕ)
     (before es : List Entry) (trail : Option Trail) (units : ℕ) : Type 0 where
   pub from : bound kind line c (all_tasks line) ≤ lower
@@ -56,17 +56,18 @@ pub record AreSpent (kind : LineKind) (line : Line) (c : ℕ) (plan : Plan) (top
   pub counted : UnitsWhole line added trail listed
   pub sum : units ≡ paid + listed
   pub least : plan.units ≤ listed
+  pub most : listed ≤ 2 * plan.units
   pub alone : plan.helpers ≡ 0 → listed ≡ plan.units
   pub fresh : IsFresh es
   pub asks : IsTrail kind line c es (all_tasks line) lower frames
   pub opens : IsOpenOver line c es frames
 
 -- What is promised of bounds: the printed balance keeps every precedence and the cycle; a text can say the certificate,
--- and the check accepts it with its default steps; no balance of that kind has fewer stations than the lower bound; what is printed
--- are the certificate's bounds and balance, behind the line on the old entries, where there are any; the bounds differ
--- only where the units of the plan were spent on loads that the certificate lists, and status 1 says so; where they are
--- equal they are the least number of stations; and they are equal where the units are at least (n + 1) x 3^n for n
--- tasks, and on a U-line (n + 1) x 4^n.
+-- and the check accepts it with its default steps; no balance of that kind has fewer stations than the lower bound;
+-- what is printed are the certificate's bounds and balance, behind the lines on old entries and on a seek, where there
+-- are any; the bounds differ only where the units of the plan were spent on loads that the certificate lists, and
+-- status 1 says so; where they are equal they are the least number of stations; and they are equal where the units are
+-- at least (n + 1) x 3^n for n tasks, and on a U-line (n + 1) x 4^n.
 pub record HasBounds (kind : LineKind) (line : Line) (c : ℕ) (plan : Plan) (start : Start) (certificate : Certificate)
     (status : Status) (text : List ℕ)
     : Type 0 where

@@ -52,8 +52,8 @@ pub record IsInfeasible (kind : LineKind) (line : Line) (c : ℕ) (name : Option
   pub proved : IsNoBalance kind line c task certificate
   pub shown : out ≡ certified_by name certificate ends.Done (infeasible_text task (time line task))
 
--- A run was made: it began with these entries and a balance of so many stations, and its text with this line, where
--- there are old entries; and it found the optimum, or its units ended.
+-- A run was made: it began with these entries and at most so many stations, and its text with these lines, where there
+-- are old entries or a seek; and it found the optimum, or its units ended.
 pub record IsBounded (kind : LineKind) (line : Line) (c : ℕ) (plan : Plan) (start : Start)
     (name : Option (List ℕ)) (out : Outcome) : Type 0 where
   pub before : List Entry

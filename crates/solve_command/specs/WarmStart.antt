@@ -92,8 +92,8 @@ abbrev pub seek_line : ℕ → ℕ → ℕ → List ℕ
 seek_line used limit kept =
     codes "seek used " ++ decimal used ++ codes " of " ++ decimal limit ++ codes " kept " ++ decimal kept ++ codes "\n"
 
--- A book that took in old entries takes in the lemmas of a seek over it, and this line says how many were kept. The run
--- begins with at most as many stations as the balance of the seek.
+-- A book that took in old entries takes in the lemmas of a seek over it, and this line says how many were kept. The
+-- number of stations is at most that of the balance of the seek.
 pub record TakesSought (N limit : ℕ) (at end : Taking) (said : List ℕ) (top : ℕ) : Type 0 where
   pub best : Assignment
   pub offered : top ≤ best.stations
@@ -108,9 +108,9 @@ abbrev pub Seeks : ℕ → ℕ → Taking → Taking → List ℕ → ℕ → Ty
 Seeks N zero at end said top = (end ≡ at) × (said ≡ [])
 Seeks N (suc loads) at end said top = TakesSought N (suc loads) at end said top
 
--- The entries with which a run begins, the first lines of its text, and the stations of its first balance: the entries
--- are those that an empty book with the ranked balance has after it took in the old entries and the lemmas of a seek;
--- the stations are at most those of the ranked balance, and at most those of the balance of the seek.
+-- The entries with which a run begins, the first lines of its text, and a number of stations: the entries are those
+-- that an empty book with the ranked balance has after it took in the old entries and the lemmas of a seek; the number
+-- is at most that of the ranked balance, and at most that of a right balance that the seek names.
 pub record BeginsWith (kind : LineKind) (line : Line) (c : ℕ) (plan : Plan) (start : Start) (before : List Entry)
     (first : List ℕ) (top : ℕ) : Type 0 where
   pub book : BookView

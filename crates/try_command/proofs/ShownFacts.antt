@@ -1,9 +1,10 @@
 -- What is told of a certificate shows what its run proved.
-use Rattle.std.proofs.Common.{◌≡◌, ◌⊎◌, ℕ, ap, ◌∙◌, subst, inl, inr}
+use Rattle.std.proofs.Common.{◌≡◌, ◌⊎◌, ◌≤◌, ℕ, ap, ◌∙◌, subst, inl, inr}
 use Rattle.line_instance.specs.Line.{Line, tasks}
 use Rattle.line_rules.specs.declared.types.LineKind.{LineKind}
 use Rattle.line_rules.specs.declared.types.Balance.{Balance as Assignment}
 use Rattle.line_rules.specs.declared.types.Certificate.{Certificate}
+use Rattle.line_rules.specs.Ranked.{IsRankedBalance}
 use Rattle.round_run.specs.Certified.{IsOptimum, IsStop}
 use Rattle.command_outcome.specs.declared.report.Report.{Report}
 use Rattle.command_outcome.specs.declared.status.Status.TheVariants as ends
@@ -63,9 +64,10 @@ shown_optimum kind line seed c b cert r o t N =
     }
 
 pub shown_stop : (kind : LineKind) (line : Line) (seed c N lower : ℕ) (b : Assignment) (cert : Certificate) (r : Report)
-    → IsStop kind line c (alone N) lower b cert → IsTold line seed ends.Stopped cert r
-    → IsShown kind line seed (tasks line) c N r.status r.text.items r.kept
-shown_stop kind line seed c N lower b cert r s t =
+    → IsStop kind line c (alone N) lower b cert
+    → ((a : Assignment) → IsRankedBalance kind line c a → b.stations ≤ a.stations)
+    → IsTold line seed ends.Stopped cert r → IsShown kind line seed (tasks line) c N r.status r.text.items r.kept
+shown_stop kind line seed c N lower b cert r s ranked t =
     let same = bounds_once line cert t.lower t.upper t.units lower b.stations s.units t.accepted s.certified.accepted in
     record {
       certificate = cert;
@@ -74,6 +76,7 @@ shown_stop kind line seed c N lower b cert r s t =
         lower = lower;
         balance = b;
         proved = s;
+        ranked = ranked;
         stopped = t.ends;
         accepted = found_as line cert t.lower t.upper lower b.stations same.0 same.1 t.found;
         printed = t.printed ∙ line_as seed (tasks line) 1 t.lower t.upper lower b.stations same.0 same.1;

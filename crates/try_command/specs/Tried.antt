@@ -6,6 +6,7 @@ use Rattle.line_rules.specs.Accepted.{IsAccepted}
 use Rattle.line_rules.specs.Bounds.{IsTooLong}
 use Rattle.line_rules.specs.Checked.{IsLeastWhere}
 use Rattle.line_rules.specs.Ranges.{IsInRange}
+use Rattle.line_rules.specs.Ranked.{IsRankedBalance}
 use Rattle.line_rules.specs.declared.types.LineKind.{LineKind}
 use Rattle.line_rules.specs.declared.types.Balance.{Balance as Assignment}
 use Rattle.line_rules.specs.declared.types.Certificate.{Certificate}
@@ -44,12 +45,14 @@ pub record IsOptimumTried (kind : LineKind) (line : Line) (seed n c : ℕ) (cert
   pub accepted : IsReadAndVerified line certificate balance.stations balance.stations
   pub printed : text ≡ bounds_line seed n 0 balance.stations balance.stations
 
--- The N units were used: the certificate has the bounds and the best balance, and lists the units.
+-- The N units were used: the certificate has the bounds and the best balance, and lists the units; the balance has no
+-- more stations than the ranked one.
 pub record IsStopTried (kind : LineKind) (line : Line) (seed n c N : ℕ) (certificate : Certificate) (status : Status)
     (text : List ℕ) : Type 0 where
   pub lower : ℕ
   pub balance : Assignment
   pub proved : IsStop kind line c (alone N) lower balance certificate
+  pub ranked : (b : Assignment) → IsRankedBalance kind line c b → balance.stations ≤ b.stations
   pub stopped : status ≡ ends.Stopped
   pub accepted : IsReadAndVerified line certificate lower balance.stations
   pub printed : text ≡ bounds_line seed n 1 lower balance.stations
