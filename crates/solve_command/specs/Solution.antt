@@ -1,5 +1,5 @@
 -- What `solve` comes to.
-use Rattle.std.specs.Prelude.{◌≡◌, ◌⊎◌, ℕ, ◌<◌, List, ◌++◌, Option}
+use Rattle.std.specs.Prelude.{◌≤◌, ◌≡◌, ◌⊎◌, ℕ, ◌<◌, List, ◌++◌, Option}
 use Rattle.line_instance.specs.Line.{Line, time}
 use Rattle.line_rules.specs.Bounds.{idle_time, IsTooLong}
 use Rattle.line_rules.specs.Checked.{IsLeastWhere}

@@ -1,5 +1,5 @@
 -- The book with which a run begins, and the first line of its text.
-use Rattle.std.specs.Prelude.{◌≡◌, ℕ, List, ◌++◌, Option}
+use Rattle.std.specs.Prelude.{◌≤◌, ◌≡◌, ℕ, List, ◌++◌, Option}
 use Rattle.line_instance.specs.Line.{Line}
 use Rattle.line_rules.specs.declared.types.LineKind.{LineKind}
 use Rattle.line_rules.specs.declared.types.Entry.{Entry}
