@@ -66,7 +66,7 @@ is_done() {
 # The program with these words. What it prints goes to a file, its exit code to `code`, its milliseconds to `took`.
 call() {
     begun=$(date +%s%N)
-    "$program" "$@" > "$work.text" 2>&1 9<&- &
+    "$program" "$@" > "$work.text" 2>&1 &
     child=$! code=0
     wait "$child" || code=$?
     child=''
