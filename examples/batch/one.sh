@@ -5,16 +5,15 @@
 #   examples/batch/one.sh OUT NUMBER ..
 #
 # The program is that of this repository, or the one that the variable LINE names. A result is in two files: the
-# certificate OUT/certs/KEY.cert, once its check has passed, and then OUT/rows/KEY. Each is written under another name
-# in OUT/work and renamed when whole. A failure is told in OUT/rows/KEY.failed and on standard error; it ends the script.
+# certificate OUT/certs/KEY.cert, once its check has passed, and then OUT/rows/KEY. Each is written under another name in
+# OUT/work and renamed when whole. A failure is told in OUT/rows/KEY.failed and on standard error, and ends the script.
 #
 # Exit codes: 0, or 1 where a record was stopped by its units. Those of the program where a record failed: 2 words,
 # 3 input, 4 reading, 5 writing, 6 memory, 7 and 8 of the check. 4 also where the record that it begins from isn't done.
 # Above 126 the program couldn't be run, or a signal ended it.
 set -euf
-top=$(cd "$(dirname "$0")/../.." && pwd)
 [ $# -ge 2 ] || { echo "examples/batch/one.sh OUT NUMBER .." >&2; exit 2; }
-program=${LINE:-$top/crates/line_program/out/line_program}
+program=${LINE:-$(dirname "$0")/../../crates/line_program/out/line_program}
 case $program in
     /*) ;;
     */*) program=$PWD/$program ;;
@@ -22,7 +21,8 @@ esac
 command -v "$program" > /dev/null || { echo "one.sh: $program isn't there; ./line --version builds it" >&2; exit 127; }
 out=$(cd "$1" 2> /dev/null && pwd) && [ -r "$out/plan.mk" ] || { echo "one.sh: $1 has no plan" >&2; exit 2; }
 shift
-cd "$(dirname "$(cat "$out/list")")"
+IFS= read -r list < "$out/list"
+cd "${list%/*}/"
 
 # Ends the script with a code and the line that tells why; the line goes into the record's failure too.
 fail() {
@@ -63,14 +63,12 @@ is_done() {
     [ "$entry" = end ] && [ "$(cksum < "$out/certs/$1.cert")" = "$sum" ]
 }
 
-# The program with these words. What it prints goes to a file, its exit code to `code`, its milliseconds to `took`.
+# The program with these words. What it prints goes to a file, its exit code to `code`, and when it ended to `ended`.
 call() {
-    begun=$(date +%s%N)
     "$program" "$@" > "$work.text" 2>&1 &
     child=$! code=0
     wait "$child" || code=$?
-    child=''
-    took=$((($(date +%s%N) - begun) / 1000000))
+    child='' ended=$(date +%s%N)
 }
 
 # The line of the program that tells why it failed.
@@ -94,13 +92,14 @@ solve() {
         is_done "$after" || fail 4 "the record that it begins from isn't done"
         grep -q -m 1 '^infeasible' "$out/certs/$after.cert" || set -- "$@" "warm=$out/certs/$after.cert"
     fi
+    begun=$(date +%s%N)
     call "$@"
     [ "$code" -le 1 ] || fail "$code" "$(said)"
     status=$(grep -m 1 -e '^optimal' -e '^stopped' -e '^infeasible' "$work.text") || fail 7 "no answer: $(said)"
     case $status in
         optimal*) status=optimal ;;
     esac
-    solve_code=$code solve_took=$took
+    solve_code=$code solve_took=$((ended - begun)) begun=$ended
 }
 
 # The check of the certificate: the bounds and the units that it accepts.
@@ -113,6 +112,7 @@ check() {
     done
     call "$@"
     [ "$code" = 0 ] || fail "$code" "check: $(said)"
+    check_took=$((ended - begun))
     lower='' upper='' units=''
     verdict=$(head -n 1 "$work.text")
     case $verdict in
@@ -121,33 +121,30 @@ check() {
     lower=${lower%% *} upper=${upper%% *}
 }
 
-# The number in the first line of the certificate that begins with a word.
-claimed() {
-    sed -n -e "/^$1 /{" -e "s///p" -e q -e '}' -e '/^entries /q' "$work.cert"
-}
-
 # What came of the record, as lines of a name and a value.
 values() {
-    cycle=${limit#cycle=} stations=$(claimed balance)
+    # The tasks, the stations of the balance and the entries, as the certificate tells them.
+    claims=$(awk '$1 ~ /^(tasks|balance|entries)$/ { of[$1] = $2 } $1 == "entries" { exit }
+        END { print of["tasks"] " " of["balance"] " " of["entries"] " " }' "$work.cert")
+    lemmas=${claims#* * } stations=${claims#* } sum=$(cksum < "$work.cert") cycle=${limit#cycle=}
     case $limit in
         stations=*) cycle=$upper stations=${limit#stations=} ;;
     esac
-    printf '%s %s\n' tasks "$(claimed tasks)" cycle "$cycle" lower "$lower" upper "$upper" status "$status" \
-        stations "$stations" units "$units" lemmas "$(claimed entries)" bytes "$(wc -c < "$work.cert")" \
-        solve_seconds "$(seconds "$solve_took")" check_seconds "$(seconds "$took")" code "$solve_code" \
-        sum "$(cksum < "$work.cert")"
+    printf '%s %s\n' tasks "${claims%% *}" cycle "$cycle" lower "$lower" upper "$upper" status "$status" \
+        stations "${stations%% *}" units "$units" lemmas "${lemmas%% *}" bytes "${sum#* }" \
+        solve_seconds "$(seconds "$solve_took")" check_seconds "$(seconds "$check_took")" code "$solve_code" sum "$sum"
     echo end
 }
 
-# Milliseconds as seconds.
+# Nanoseconds as seconds.
 seconds() {
-    printf '%d.%03d' $(($1 / 1000)) $(($1 % 1000))
+    printf '%d.%03d' $(($1 / 1000000000)) $(($1 / 1000000 % 1000))
 }
 
 # The record of a number. Whoever is at work on it is waited for.
 run() {
     number=$1
-    key=$(sed -n "${number}p" "$out/keys")
+    key=$(sed -n "${number}{p;q}" "$out/keys")
     [ -n "$key" ] || { echo "one.sh: no record $number" >&2; exit 2; }
     [ -w "$out/jobs/$key" ] && [ -w "$out/work" ] || { echo "one.sh: $out can't be written" >&2; exit 5; }
     exec 9<> "$out/jobs/$key"
@@ -163,7 +160,7 @@ run() {
     text=$(values)
     printf '%s\n' "$text" > "$work.row" || fail 5 "$work.row can't be written"
     mv "$work.cert" "$out/certs/$key.cert" && mv "$work.row" "$row" || fail 5 "$row can't be written"
-    rm -f "$row.failed"
+    [ ! -e "$row.failed" ] || rm -f "$row.failed"
     echo "record $number: $status"
     clean
     work=''
