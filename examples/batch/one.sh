@@ -5,8 +5,9 @@
 #   examples/batch/one.sh OUT NUMBER ..
 #
 # The program is that of this repository, or the one that the variable LINE names. A result is in two files: the
-# certificate OUT/certs/KEY.cert, once its check has passed, and then OUT/rows/KEY. Each is written under another name in
-# OUT/work and renamed when whole. A failure is told in OUT/rows/KEY.failed and on standard error, and ends the script.
+# certificate OUT/certs/KEY.cert, once its check has passed, and then OUT/rows/KEY. Each is written under another name
+# in OUT/work and renamed when whole. A failure is told in OUT/rows/KEY.failed and on standard error, and ends the
+# script.
 #
 # Exit codes: 0, or 1 where a record was stopped by its units. Those of the program where a record failed: 2 words,
 # 3 input, 4 reading, 5 writing, 6 memory, 7 and 8 of the check. 4 also where the record that it begins from isn't done.

@@ -49,10 +49,8 @@ each_row_holds() {
         key=${row##*/}
         file=$(sed -n 's/^file //p' "$1/jobs/$key")
         verdict=$("$LINE" check "lines/$file" "$1/certs/$key.cert") || find_fault "$key: $verdict"
-        case "$verdict " in
-            *" lower $(sed -n 's/^lower //p' "$row") upper $(sed -n 's/^upper //p' "$row") units $(sed -n 's/^units //p' "$row") "*) ;;
-            *) find_fault "$key: $verdict, not as in its row" ;;
-        esac
+        told=$(sed -n '/^lower \|^upper \|^units /p' "$row" | paste -s -d ' ')
+        [ "${verdict#* lower }" = "${told#lower }" ] || find_fault "$key: $verdict, and its row $told"
         checked=$((checked + 1))
     done
 }
