@@ -25,10 +25,10 @@ shift
 IFS= read -r list < "$out/list"
 cd "${list%/*}/"
 
-# Ends the script with a code and the line that tells why; the line goes into the record's failure too.
+# Ends the script with a code and the line that tells why; the line goes into the record's failure too, if it can.
 fail() {
     { printf 'status %s\ncode %s\nend\n' "$2" "$1" > "$work.failed" && mv "$work.failed" "$row.failed"; } \
-        2> /dev/null || echo "record $number: $row.failed can't be written" >&2
+        2> /dev/null || :
     echo "record $number: $2" >&2
     exit "$1"
 }
@@ -61,11 +61,12 @@ is_done() {
             end) break ;;
         esac
     done < "$out/rows/$1"
-    [ "$entry" = end ] && [ "$(cksum < "$out/certs/$1.cert")" = "$sum" ]
+    [ "$entry" = end ] && [ -n "$sum" ] && [ "$(cksum < "$out/certs/$1.cert")" = "$sum" ]
 }
 
 # The program with these words. What it prints goes to a file, its exit code to `code`, and when it ended to `ended`.
 call() {
+    true 2> /dev/null > "$work.text" || fail 5 "$work.text can't be written"
     "$program" "$@" > "$work.text" 2>&1 &
     child=$! code=0
     wait "$child" || code=$?
@@ -91,7 +92,7 @@ solve() {
     set -- "$command" "$file" "$limit" "line=$kind" $words "cert=$work.cert"
     if [ -n "$after" ]; then
         is_done "$after" || fail 4 "the record that it begins from isn't done"
-        grep -q -m 1 '^infeasible' "$out/certs/$after.cert" || set -- "$@" "warm=$out/certs/$after.cert"
+        head -n 5 "$out/certs/$after.cert" | grep -q '^infeasible' || set -- "$@" "warm=$out/certs/$after.cert"
     fi
     begun=$(date +%s%N)
     call "$@"
@@ -144,25 +145,28 @@ seconds() {
 
 # The record of a number. Whoever is at work on it is waited for.
 run() {
-    number=$1
-    key=$(sed -n "${number}{p;q}" "$out/keys")
+    number=$1 key=''
+    case $number in
+        *[!0-9]* | 0* | '') ;;
+        *) key=$(sed -n "${number}{p;q}" "$out/keys") ;;
+    esac
     [ -n "$key" ] || { echo "one.sh: no record $number" >&2; exit 2; }
     [ -w "$out/jobs/$key" ] && [ -w "$out/work" ] || { echo "one.sh: $out can't be written" >&2; exit 5; }
     exec 9<> "$out/jobs/$key"
-    flock 9
+    flock 9 || { echo "one.sh: $out can't be locked" >&2; exit 5; }
     work=$out/work/$key row=$out/rows/$key
     if is_done "$key"; then
         solve_code=$code
-        return
+    else
+        read_job
+        solve
+        check
+        text=$(values)
+        printf '%s\n' "$text" 2> /dev/null > "$work.row" || fail 5 "$work.row can't be written"
+        mv "$work.cert" "$out/certs/$key.cert" && mv "$work.row" "$row" || fail 5 "$row can't be written"
+        rm -f "$row.failed"
+        echo "record $number: $status"
     fi
-    read_job
-    solve
-    check
-    text=$(values)
-    printf '%s\n' "$text" > "$work.row" || fail 5 "$work.row can't be written"
-    mv "$work.cert" "$out/certs/$key.cert" && mv "$work.row" "$row" || fail 5 "$row can't be written"
-    [ ! -e "$row.failed" ] || rm -f "$row.failed"
-    echo "record $number: $status"
     clean
     work=''
 }
@@ -172,17 +176,25 @@ clean() {
     [ -z "$work" ] || rm -f "$work.cert" "$work.text" "$work.row" "$work.failed"
 }
 
+# The end of the script: code 1 is a result, and so never that of a command of this script that failed.
+finish() {
+    ended=$?
+    clean
+    [ "$ended" != 1 ] || [ -n "$through" ] || exit 5
+}
+
 # Ends the program too.
 stop() {
     [ -z "$child" ] || { kill "$child"; wait "$child"; } 2> /dev/null || :
     exit 143
 }
 
-work='' child='' worst=0
-trap clean EXIT
+work='' child='' worst=0 through=''
+trap finish EXIT
 trap stop HUP INT TERM
 for number in "$@"; do
     run "$number"
     [ "$solve_code" = 0 ] || worst=1
 done
+through=yes
 exit "$worst"
