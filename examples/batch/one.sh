@@ -92,7 +92,7 @@ solve() {
     set -- "$command" "$file" "$limit" "line=$kind" $words "cert=$work.cert"
     if [ -n "$after" ]; then
         is_done "$after" || fail 4 "the record that it begins from isn't done"
-        head -n 5 "$out/certs/$after.cert" | grep -q '^infeasible' || set -- "$@" "warm=$out/certs/$after.cert"
+        set -- "$@" "warm=$out/certs/$after.cert"
     fi
     begun=$(date +%s%N)
     call "$@"

@@ -11,8 +11,11 @@ find_fault() {
     wrong=$((wrong + 1))
 }
 
-# Makes the folder `lines` with generated lines, and their list in lines/list.csv: 66 records in 60 chains.
+# Makes the folder `lines` with generated lines, and their list in lines/list.csv: 66 records in 60 chains. The variable
+# UNITS says how many units a record has; the line of `longest` has five times as many.
+longest=tree-49
 make_lines() {
+    units=${UNITS:-600000}
     mkdir -p lines
     echo file,cycle,line,words > lines/list.csv
     for tasks in $(seq 31 60); do
@@ -20,9 +23,11 @@ make_lines() {
             generate "$order" "$tasks" > "lines/$order-$tasks.in2"
             kind=straight
             [ $((tasks % 3)) -ne 0 ] || kind=u
-            echo "$order-$tasks.in2,1500,$kind,units=100000" >> lines/list.csv
+            words=units=$units
+            [ "$order-$tasks" != "$longest" ] || words=units=$((units * 5))
+            echo "$order-$tasks.in2,1500,$kind,$words" >> lines/list.csv
             [ "$order" = sparse ] || [ $((tasks % 5)) -ne 0 ] ||
-                echo "$order-$tasks.in2,1600,$kind,units=100000" >> lines/list.csv
+                echo "$order-$tasks.in2,1600,$kind,$words" >> lines/list.csv
         done
     done
 }
