@@ -97,10 +97,14 @@ solve() {
     begun=$(date +%s%N)
     call "$@"
     [ "$code" -le 1 ] || fail "$code" "$(said)"
-    status=$(grep -m 1 -e '^optimal' -e '^stopped' -e '^infeasible' "$work.text") || fail 7 "no answer: $(said)"
-    case $status in
-        optimal*) status=optimal ;;
-    esac
+    status=''
+    while [ -z "$status" ] && IFS= read -r said; do
+        case $said in
+            optimal*) status=optimal ;;
+            stopped* | infeasible*) status=$said ;;
+        esac
+    done < "$work.text"
+    [ -n "$status" ] || fail 7 "no answer: $(said)"
     solve_code=$code solve_took=$((ended - begun)) begun=$ended
 }
 
@@ -116,7 +120,7 @@ check() {
     [ "$code" = 0 ] || fail "$code" "check: $(said)"
     check_took=$((ended - begun))
     lower='' upper='' units=''
-    verdict=$(head -n 1 "$work.text")
+    IFS= read -r verdict < "$work.text" || verdict=''
     case $verdict in
         *' lower '*) lower=${verdict##* lower } upper=${verdict##* upper } units=${verdict##* units } ;;
     esac
@@ -133,14 +137,11 @@ values() {
         stations=*) cycle=$upper stations=${limit#stations=} ;;
     esac
     printf '%s %s\n' tasks "${claims%% *}" cycle "$cycle" lower "$lower" upper "$upper" status "$status" \
-        stations "${stations%% *}" units "$units" lemmas "${lemmas%% *}" bytes "${sum#* }" \
-        solve_seconds "$(seconds "$solve_took")" check_seconds "$(seconds "$check_took")" code "$solve_code" sum "$sum"
+        stations "${stations%% *}" units "$units" lemmas "${lemmas%% *}" bytes "${sum#* }" code "$solve_code" sum "$sum"
+    # Nanoseconds as seconds.
+    printf '%s %d.%03d\n' solve_seconds $((solve_took / 1000000000)) $((solve_took / 1000000 % 1000)) \
+        check_seconds $((check_took / 1000000000)) $((check_took / 1000000 % 1000))
     echo end
-}
-
-# Nanoseconds as seconds.
-seconds() {
-    printf '%d.%03d' $(($1 / 1000000000)) $(($1 / 1000000 % 1000))
 }
 
 # The record of a number. Whoever is at work on it is waited for.
@@ -164,16 +165,15 @@ run() {
         text=$(values)
         printf '%s\n' "$text" 2> /dev/null > "$work.row" || fail 5 "$work.row can't be written"
         mv "$work.cert" "$out/certs/$key.cert" && mv "$work.row" "$row" || fail 5 "$row can't be written"
-        rm -f "$row.failed"
         echo "record $number: $status"
     fi
-    clean
+    clean "$row.failed"
     work=''
 }
 
-# Removes what is left under other names.
+# Removes what is left under other names, and the files that are named.
 clean() {
-    [ -z "$work" ] || rm -f "$work.cert" "$work.text" "$work.row" "$work.failed"
+    [ -z "$work" ] || rm -f "$work.cert" "$work.text" "$work.row" "$work.failed" "$@"
 }
 
 # The end of the script: code 1 is a result, and so never that of a command of this script that failed.
