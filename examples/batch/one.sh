@@ -98,10 +98,10 @@ solve() {
     call "$@"
     [ "$code" -le 1 ] || fail "$code" "$(said)"
     status=''
-    while [ -z "$status" ] && IFS= read -r said; do
-        case $said in
+    while [ -z "$status" ] && IFS= read -r answer; do
+        case $answer in
             optimal*) status=optimal ;;
-            stopped* | infeasible*) status=$said ;;
+            stopped* | infeasible*) status=$answer ;;
         esac
     done < "$work.text"
     [ -n "$status" ] || fail 7 "no answer: $(said)"
