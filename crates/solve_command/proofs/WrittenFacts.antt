@@ -7,7 +7,12 @@ use Rattle.line_rules.specs.declared.types.LineKind.{LineKind}
 use Rattle.line_rules.specs.declared.types.Balance.{Balance as Assignment}
 use Rattle.line_rules.specs.declared.types.Entry.{Entry}
 use Rattle.line_rules.specs.declared.types.Certificate.{Certificate}
-use Rattle.command_outcome.specs.Outcome.{Files, Outside, Outcome, Stay, outcome_of, outside}
+use Rattle.std.specs.Prelude.{MatchResult}
+use Rattle.std.specs.declared.result.Result.{Result}
+use Rattle.std.specs.declared.result.Result.TheVariants.{Ok, Err}
+use Rattle.command_outcome.specs.Outcome.{Files, Outside, Outcome, MayEnd, Stay, outcome_of, outside}
+use Rattle.command_outcome.specs.declared.report.Stop.{Stop}
+use Rattle.command_outcome.specs.declared.report.Stop.TheVariants as stop
 use Rattle.command_outcome.specs.declared.report.Kept.TheVariants.{Line as Certified}
 use Rattle.command_outcome.specs.declared.report.Report.{Report}
 use Rattle.command_outcome.proofs.WrittenFacts.{paged}
@@ -156,3 +161,18 @@ pub answered : (o : Outside) (file : List ℕ) (apart warm : Option (List ℕ)) 
     → IsSolveOutcome o file apart warm limit word kind plan name out
 answered o file apart warm limit word kind line c olds plan name out h answer =
     inl (record { line = line; c = c; said = h.said; olds = olds; old = h.old; answer = answer })
+
+-- what may stop a step may stop what the step ends, where each cause is one
+pub may_end_as : {T : Type 0} (R Q W V : Type 0) (r : Result T Stop) → (R → Q) → (W → V)
+    → MatchResult r (λ _. Unit {0}) (MayEnd R W) → MatchResult r (λ _. Unit {0}) (MayEnd Q V)
+may_end_as R Q W V (Ok x) f h m = m
+may_end_as R Q W V (Err (stop.Report r)) f h m = record {
+  read = λ e. f (m.read e);
+  write = m.write;
+  usage = m.usage;
+  done = m.done;
+  stopped = m.stopped;
+  kept = m.kept;
+}
+may_end_as R Q W V (Err stop.Memory) f h m = m
+may_end_as R Q W V (Err stop.Unwritten) f h m = h m

@@ -1,4 +1,4 @@
-use Rattle.std.proofs.Common.{◌≡◌, option_map, subst, sym, inl, inr, List, ℕ, Option}
+use Rattle.std.proofs.Common.{◌≡◌, option_map, subst, sym, inl, inr, arith, List, ℕ, Option}
 use Rattle.line_rules.specs.declared.types.Certificate.{Certificate}
 use Rattle.command_outcome.specs.Outcome.{Files, Outside, Outcome, outcome_of, outside}
 use Rattle.command_outcome.specs.declared.report.Kept.TheVariants.{Line as Certified}
@@ -9,7 +9,7 @@ use Rattle.solution_page.specs.Page.{page_of, HasCertificate}
 use Rattle.solve_command.specs.Solution.{IsSolution, IsCutShort, IsSolveOutcome}
 use Rattle.solve_command.specs.Promise.{IsPromised}
 use Rattle.solve_command.specs.inner.Said.{IsUnsaidOrUnwarmed}
-use Rattle.solve_command.proofs.WrittenFacts.{answered, in_file}
+use Rattle.solve_command.proofs.WrittenFacts.{answered, in_file, may_end_as}
 use Rattle.solution_page.proofs.WrittenFacts.{sayable}
 use Rattle.solve_command.proofs.solution.solve_report.Goals as goal
 
@@ -96,3 +96,8 @@ returns-clause-promise g c = λ t.
       written = written shown.certificate shown.keeps;
     })
     c.write_certificate.ensures.same (c.write_certificate.ensures.certificate t)
+
+pub returns-clause-fault : goal.returns-clause-fault
+returns-clause-fault g c =
+    may_end_as _ _ _ _ c.write_certificate.result (λ h. omega (arith, h, c.in_ok-said.ensures.count))
+    (λ h. omega (arith, h, c.in_ok-said.ensures.writes)) c.write_certificate.ensures.fault
