@@ -2,7 +2,7 @@
 use Rattle.std.proofs.Common.{◌≡◌, ℕ, zero, suc, ◌+◌, ◌*◌, ◌≤◌, Bool, true, false, cond, ◌&&◌, ◌||◌, not, nat_lt}
 use Rattle.std.proofs.Common.{List, [], ◌∷◌, refl, sym, ap, ◌∙◌, inl, inr, arith}
 use Rattle.std.proofs.lemmas.Bool.{and_parts, and_from, or_cases, or_left, or_right, lt-ltb, ltb-true, false≢true}
-use Rattle.std.proofs.lemmas.Bool.{not-true}
+use Rattle.std.proofs.lemmas.Bool.{not-true, false_from_ne_true}
 use Rattle.line_instance.specs.Truths.{In, IsSubset}
 use Rattle.line_instance.specs.Line.{Line, IsTaskSet, time, has, is_apart}
 use Rattle.line_instance.proofs.Counts.{same_members}
@@ -11,7 +11,7 @@ use Rattle.line_instance.proofs.Sums.{weigh-le, sum_where-le}
 use Rattle.line_rules.specs.declared.types.LineKind.{LineKind}
 use Rattle.line_rules.specs.declared.types.LineKind.TheVariants.{Straight, U}
 use Rattle.pair_rule.specs.Pairs.{is_between, time_between, Conflict, IsOne, AreOne, IsRefutedByPairs}
-use Rattle.pair_rule.proofs.Sharing.{none_of, weigh-count}
+use Rattle.pair_rule.proofs.Sharing.{weigh-count}
 
 -- more lies between two tasks in a larger set
 between_more : (kind : LineKind) (line : Line) (R S : List Bool) (i j : ℕ) → IsSubset R S
@@ -85,7 +85,7 @@ module _ (kind : LineKind) (line : Line) (c : ℕ) (S two : List Bool) where
       let all : each (λ i. collide i j) two ≡ true =
       each_from (λ i. collide i j) two (λ i m. collide_true i j (o.conflicts i m)) in
       and_from (not (has two j)) (nat_lt c (3 * time line j) && each (λ i. collide i j) two)
-      (ap not (none_of (has two j) o.outside))
+      (ap not (false_from_ne_true (has two j) o.outside))
       (and_from (nat_lt c (3 * time line j)) (each (λ i. collide i j) two) far all)
 
   single_of : (j : ℕ) → In S j → single j ≡ true → IsOne kind line c S two j

@@ -1,13 +1,12 @@
 -- The tasks outside two are gone over, and those that aren't of `one` are taken out.
 use Rattle.std.proofs.Common.{◌≡◌, ℕ, Bool, false, List, [], ◌∷◌, length, set, sym, ap, ◌∙◌, subst}
 use Rattle.std.proofs.lemmas.List.{length-set}
-use Rattle.std.proofs.lemmas.Bool.{false≢true}
+use Rattle.std.proofs.lemmas.Bool.{false≢true, false_from_ne_true}
 use Rattle.line_instance.specs.Truths.{In, minus, members_of}
 use Rattle.line_instance.specs.Line.{Line, has}
 use Rattle.line_instance.proofs.Members.{In-clear, In-clear_kept, In-clear_gone, In-minus, In-minus_parts}
 use Rattle.line_rules.specs.declared.types.LineKind.{LineKind}
 use Rattle.pair_rule.specs.Pairs.{IsOne, AreOne}
-use Rattle.pair_rule.proofs.Sharing.{none_of}
 use Rattle.pair_rule.proofs.GoneOver.{AreOver, over_start, next_in, over_turn, over_end}
 
 -- `one` has all of them, and what else it has is left
@@ -25,7 +24,7 @@ ones_start {kind} {line} {c} {R} {two} {left} rest e l start =
       truths = long;
       over = over_start (minus R two) (In (minus R two)) (IsOne kind line c R two) left (λ j m. m)
           (start ∙ ap members_of e);
-      kept = λ j o. In-minus R two j o.member (none_of (has two j) o.outside);
+      kept = λ j o. In-minus R two j o.member (false_from_ne_true (has two j) o.outside);
     })
 
 module _ {kind : LineKind} {line : Line} {c : ℕ} {R two one : List Bool} {left more : List ℕ} {i : ℕ}
@@ -34,7 +33,7 @@ module _ {kind : LineKind} {line : Line} {c : ℕ} {R two one : List Bool} {left
   pub ones_stay : IsOne kind line c R two i → AreLeft kind line c R two one more
   ones_stay o = record {
     truths = h.truths;
-    over = over_turn h.over e (In one) (IsOne kind line c R two) (λ j m. m) (λ j m k. k) (λ m. o);
+    over = over_turn h.over e (In one) (λ j m. m) (λ m. o);
     kept = h.kept;
   }
 
@@ -45,8 +44,8 @@ module _ {kind : LineKind} {line : Line} {c : ℕ} {R two one : List Bool} {left
       let P : List Bool → Type 0 = λ s. AreLeft kind line c R two s more in
       subst P (sym f) (record {
         truths = length-set one i false ∙ h.truths;
-        over = over_turn h.over e (In (set one i false)) (IsOne kind line c R two) (λ j m. In-clear_kept one i j m)
-            (λ j m k. k) (λ m. absurd (In-clear_gone one i m));
+        over = over_turn h.over e (In (set one i false)) (λ j m. In-clear_kept one i j m)
+            (λ m. absurd (In-clear_gone one i m));
         kept = λ j o. In-clear one i j (h.kept j o)
             (λ s. n (let Q : ℕ → Type 0 = λ k. IsOne kind line c R two k in subst Q s o));
       })

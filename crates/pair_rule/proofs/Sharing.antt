@@ -2,7 +2,7 @@
 use Rattle.std.proofs.Common.{◌≡◌, ◌≢◌, ℕ, zero, suc, ◌+◌, ◌*◌, ◌<◌, ◌≤◌, Bool, true, false, cond, ◌&&◌, not}
 use Rattle.std.proofs.Common.{nat_eq, List, [], ◌∷◌, length, get_or, refl, sym, ap, ◌∙◌, subst, ◌⊎◌, inl, inr, arith}
 use Rattle.std.proofs.lemmas.Bool.{and_parts, and_from, eqb-true, eq-eqb, eqb-false, or_cases, not-true, cases_Bool}
-use Rattle.std.proofs.lemmas.Bool.{cases_eq}
+use Rattle.std.proofs.lemmas.Bool.{cases_eq, false_from_ne_true}
 use Rattle.line_instance.specs.Truths.{In, count}
 use Rattle.line_instance.specs.Line.{Line, IsLine, IsTaskSet, Before, time, has, is_before}
 use Rattle.line_instance.specs.Sums.{weigh, sum_where}
@@ -16,11 +16,6 @@ use Rattle.line_rules.proofs.BoundIsTrue.{cond_le}
 use Rattle.line_rules.proofs.OneTaskPerStation.{count_below}
 use Rattle.pair_rule.specs.Pairs.{is_between, time_between, Conflict, IsOne, IsRefutedByPairs}
 
--- of a test that doesn't hold
-pub none_of : (b : Bool) → (b ≡ true → ⊥) → b ≡ false
-none_of true n = absurd (n refl)
-none_of false n = refl
-
 -- two sums over tasks at m stations, of which each has k of both at most, are m * k together at most
 both-stations : (u v : ℕ → ℕ) (ts : List ℕ) (at : ℕ → ℕ) (k m : ℕ) (p q : ℕ → Bool)
     → ((i : ℕ) → p i ≡ true → (1 ≤ at i) × (at i ≤ m)) → ((i : ℕ) → q i ≡ true → (1 ≤ at i) × (at i ≤ m))
@@ -28,8 +23,8 @@ both-stations : (u v : ℕ → ℕ) (ts : List ℕ) (at : ℕ → ℕ) (k m : �
     → weigh u p ts + weigh v q ts ≤ m * k
 both-stations u v ts at k zero p q f g h = omega (
   arith,
-  weigh-none u p (λ i. none_of (p i) (λ t. omega (arith, f i t))) ts,
-  weigh-none v q (λ i. none_of (q i) (λ t. omega (arith, g i t))) ts,
+  weigh-none u p (λ i. false_from_ne_true (p i) (λ t. omega (arith, f i t))) ts,
+  weigh-none v q (λ i. false_from_ne_true (q i) (λ t. omega (arith, g i t))) ts,
 )
 both-stations u v ts at k (suc m) p q f g h =
     let left : (r : ℕ → Bool) → ((i : ℕ) → r i ≡ true → (1 ≤ at i) × (at i ≤ suc m)) → (i : ℕ)
@@ -61,7 +56,7 @@ weigh-two w p i j ts n l m e f = omega (
   weigh-split w p (λ k. nat_eq k i) ts,
   weigh-one w (λ k. p k && nat_eq k i) i ts l (and_from (p i) (nat_eq i i) e (eq-eqb i i refl)),
   weigh-one w (λ k. p k && not (nat_eq k i)) j ts m (and_from (p j) (not (nat_eq j i)) f
-      (ap not (none_of (nat_eq j i) (λ t. n (sym (eqb-true j i t)))))),
+      (ap not (false_from_ne_true (nat_eq j i) (λ t. n (sym (eqb-true j i t)))))),
 )
 
 -- where one task alone is picked, it has all the weight
@@ -69,7 +64,7 @@ weigh-alone : (w : ℕ → ℕ) (p : ℕ → Bool) (i : ℕ) (ts : List ℕ) →
     → weigh w p ts ≤ w (get_or ts i 0)
 weigh-alone w p i ts l h = omega (
   arith,
-  weigh-more w p (λ j. false) i refl (λ j n. none_of (p j) (λ e. n (h j e))) ts l,
+  weigh-more w p (λ j. false) i refl (λ j n. false_from_ne_true (p j) (λ e. n (h j e))) ts l,
   weigh-none w (λ j. false) (λ j. refl) ts,
   cond_le (p i) (w (get_or ts i 0)) (w (get_or ts i 0)) (λ e. omega arith),
 )
@@ -171,11 +166,11 @@ module _ (line : Line) (ok : IsLine line) (c : ℕ) (R : List Bool) (set : IsTas
             (λ k e. and_from (stands s k) (between k) (there b i j mi mj same k e) e) line.times,
         weigh-two (λ t. t) (λ k. stands s k && not (between k)) i j line.times n (set.tasks i mi) (set.tasks j mj)
             (and_from (stands s i) (not (between i)) (and_from (has R i) (nat_eq s s) mi (eq-eqb s s refl))
-            (ap not (none_of (between i)
+            (ap not (false_from_ne_true (between i)
             (λ e. not_first line ok i j (and_parts (has R i) (is_between line i j i) e).1))))
             (and_from (stands s j) (not (between j))
             (and_from (has R j) (nat_eq (place j).station s) mj (eq-eqb (place j).station s (sym same)))
-            (ap not (none_of (between j)
+            (ap not (false_from_ne_true (between j)
             (λ e. not_second line ok i j (and_parts (has R j) (is_between line i j j) e).1)))),
       )
   fit U b i j mi mj n same =
@@ -247,7 +242,7 @@ module _ (line : Line) (ok : IsLine line) (c : ℕ) (R : List Bool) (set : IsTas
                     | inr n ↦ absurd (share j i (within j p.0) (within i q.0) n (same_station s j i p.1 q.1)
                         (apart j i p.0 q.0 n))
                   ]),
-              weigh-none (λ t. 1) (at_one s) (λ j. none_of (at_one s j) (λ f.
+              weigh-none (λ t. 1) (at_one s) (λ j. false_from_ne_true (at_one s j) (λ f.
                   let p : In one j × (nat_eq (place j).station s ≡ true) =
                   and_parts (has one j) (nat_eq (place j).station s) f in
                   let n : i ≢ j = λ e. (ones j p.0).outside (let P : ℕ → Type 0 = λ k. In two k in subst P e q.0) in
