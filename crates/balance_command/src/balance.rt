@@ -17,21 +17,28 @@ use line_rules::LineKind;
 use lower_bounds::total_bound;
 use station_report::{idle_of, infeasible_line};
 use std::alloc::{AllocError, Global};
+use task_names::Naming;
 
 /// The text of the answer to an instance, as a line of this kind, at a cycle time.
-fn answer(alloc: Global, inst: &Instance, kind: LineKind, cycle: u64) -> Result<Vec<u8>, AllocError>
+fn answer(
+    alloc: Global,
+    inst: &Instance,
+    naming: &Naming,
+    kind: LineKind,
+    cycle: u64,
+) -> Result<Vec<u8>, AllocError>
     requires some { 1 ≤ cycle }
     requires limit { cycle ≤ 1000000000000000000 }
-    ensures { IfOk result (λ t. IsAnswer kind inst.now cycle (told ends.Done t.items)) }
+    ensures { IfOk result (λ t. IsAnswer naming.now kind inst.now cycle (told ends.Done t.items)) }
 {
     let _tasks = inst.tasks();
     match ranked_balance(alloc, inst, kind, cycle) {
         Ranked::Good(balance) => {
             let bound = total_bound(inst, cycle);
             let idle = idle_of(inst, cycle, balance.stations);
-            balance_report_text(alloc, &balance, kind, bound, idle)
+            balance_report_text(alloc, naming, &balance, kind, bound, idle)
         }
-        Ranked::TooLong(task) => infeasible_line(alloc, task, inst.time(task)),
+        Ranked::TooLong(task) => infeasible_line(alloc, naming, task, inst.time(task)),
         Ranked::NoMemory => Err(AllocError),
     }
 }
@@ -57,6 +64,6 @@ pub fn balance_report<S: Shelf>(
     ensures files { S.tells → (q : List ℕ) → S.file shelf.new q ≡ S.file shelf.old q }
 {
     let timed = said_instance(alloc, file, apart, word, shelf)?;
-    let text = answer(alloc, &timed.inst, kind, timed.cycle)?;
+    let text = answer(alloc, &timed.inst, &timed.naming, kind, timed.cycle)?;
     Ok(Report::told(Status::Done, text))
 }

@@ -5,11 +5,13 @@ ghost use Rattle.balance_command.specs.BalanceText.{balance_text};
 use line_rules::{Balance, LineKind};
 use station_report::balance_text;
 use std::alloc::{AllocError, Global};
+use task_names::Naming;
 
-/// The text of a balance on a line of this kind, of the bound by total time and of the idle time. The one error is that
-/// memory is out.
+/// The text of a balance on a line of this kind, whose tasks are called so, of the bound by total time and of the idle
+/// time. The one error is that memory is out.
 pub fn balance_report_text(
     alloc: Global,
+    naming: &Naming,
     balance: &Balance,
     kind: LineKind,
     bound: u64,
@@ -17,10 +19,10 @@ pub fn balance_report_text(
 ) -> Result<Vec<u8>, AllocError>
     requires places { length balance.now.place < 2 ^ 31 }
     requires stations { balance.now.stations < 2 ^ 31 }
-    ensures { IfOk result (λ t. t.items ≡ balance_text kind balance.now bound idle) }
+    ensures { IfOk result (λ t. t.items ≡ balance_text naming.now kind balance.now bound idle) }
 {
     let stations = balance.stations;
     let mut heading = String::new(alloc);
     write!(heading, "balance {stations}\ntotal bound {bound}\n")?;
-    balance_text(alloc, heading, balance, kind, idle)
+    balance_text(alloc, heading, naming, balance, kind, idle)
 }

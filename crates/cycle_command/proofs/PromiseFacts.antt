@@ -13,11 +13,12 @@ use Rattle.cycle_search.specs.CycleCertified.{IsOptimum, IsStop}
 use Rattle.cycle_command.specs.CycleText.{optimal_text, stopped_text}
 use Rattle.cycle_command.specs.Found.{IsFound}
 use Rattle.cycle_command.specs.CyclePromise.{HasBounds, IsShown}
+use Rattle.task_names.specs.declared.naming.Naming.{Naming}
 
-module _ (kind : LineKind) (line : Line) (m : ℕ) (plan : Plan) where
+module _ (naming : Naming) (kind : LineKind) (line : Line) (m : ℕ) (plan : Plan) where
   -- the bounds of an optimum
   of_optimum : (c : ℕ) (b : Assignment) (cert : Certificate) → IsOptimum kind line m c b cert
-      → HasBounds kind line m plan cert ends.Done (optimal_text kind c b (idle_time line c m))
+      → HasBounds naming kind line m plan cert ends.Done (optimal_text naming kind c b (idle_time line c m))
   of_optimum c b cert p = record {
     lower = c;
     upper = c;
@@ -31,8 +32,8 @@ module _ (kind : LineKind) (line : Line) (m : ℕ) (plan : Plan) where
     accepted = p.certified.accepted;
     few = p.certified.few;
     true_bounds = p.certified.true_bounds;
-    printed = sym (cond-true (nat_eq c c) (optimal_text kind c b (idle_time line c m))
-        (stopped_text kind c c b (idle_time line c m)) (search rules));
+    printed = sym (cond-true (nat_eq c c) (optimal_text naming kind c b (idle_time line c m))
+        (stopped_text naming kind c c b (idle_time line c m)) (search rules));
     differ = λ h. absurd (omega (arith, h));
     equal = λ e. (refl, p.least);
     complete = λ h. refl;
@@ -40,7 +41,8 @@ module _ (kind : LineKind) (line : Line) (m : ℕ) (plan : Plan) where
 
   -- the bounds of a search whose units ended
   of_stop : (lower upper : ℕ) (b : Assignment) (cert : Certificate) → IsStop kind line m plan lower upper b cert
-      → HasBounds kind line m plan cert ends.Stopped (stopped_text kind lower upper b (idle_time line upper m))
+      → HasBounds naming kind line m plan cert ends.Stopped
+      (stopped_text naming kind lower upper b (idle_time line upper m))
   of_stop lower upper b cert p = record {
     lower = lower;
     upper = upper;
@@ -54,8 +56,8 @@ module _ (kind : LineKind) (line : Line) (m : ℕ) (plan : Plan) where
     accepted = p.certified.accepted;
     few = p.certified.few;
     true_bounds = p.certified.true_bounds;
-    printed = sym (cond-false (nat_eq lower upper) (optimal_text kind upper b (idle_time line upper m))
-        (stopped_text kind lower upper b (idle_time line upper m))
+    printed = sym (cond-false (nat_eq lower upper) (optimal_text naming kind upper b (idle_time line upper m))
+        (stopped_text naming kind lower upper b (idle_time line upper m))
         (ne_eqb lower upper (λ e. omega (arith, p.spent.stopped.below, e))));
     differ = λ h. (
       refl,
@@ -80,17 +82,17 @@ module _ (kind : LineKind) (line : Line) (m : ℕ) (plan : Plan) where
   }
 
   -- what is found with a certificate is shown by it
-  pub shown_of : (name : Option (List ℕ)) (out : Outcome) → IsFound kind line m plan name out
-      → IsShown kind line m plan out.status out.text out.kept
+  pub shown_of : (name : Option (List ℕ)) (out : Outcome) → IsFound naming kind line m plan name out
+      → IsShown naming kind line m plan out.status out.text out.kept
   shown_of name out (inl p) =
-      let S : Outcome → Type 0 = λ o. IsShown kind line m plan o.status o.text o.kept in
+      let S : Outcome → Type 0 = λ o. IsShown naming kind line m plan o.status o.text o.kept in
       subst S (sym p.shown) (record {
         certificate = p.certificate;
         keeps = refl;
         shows = of_optimum p.cycle p.balance p.certificate p.proved;
       })
   shown_of name out (inr p) =
-      let S : Outcome → Type 0 = λ o. IsShown kind line m plan o.status o.text o.kept in
+      let S : Outcome → Type 0 = λ o. IsShown naming kind line m plan o.status o.text o.kept in
       subst S (sym p.shown) (record {
         certificate = p.certificate;
         keeps = refl;

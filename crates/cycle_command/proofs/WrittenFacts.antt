@@ -21,13 +21,15 @@ use Rattle.cycle_search.specs.Outcomes.{IsSpent, IsStopped as HasStopped, Search
 use Rattle.cycle_search.specs.declared.searching.CycleOutcome.TheVariants as outcomes
 use Rattle.cycle_search.proofs.Results.{none_below, has_balance}
 use Rattle.cycle_command.specs.Found.{IsFound, IsStopped}
+use Rattle.task_names.specs.declared.naming.Naming.{Naming}
 
 -- what is found has a certificate, which a text can say, and is the same with its page
-pub in_file : (kind : LineKind) (line : Line) (m : ℕ) (plan : Plan) (name : Option (List ℕ)) (r : Report)
-    → IsFound kind line m plan None (outcome_of r None)
+pub in_file : (naming : Naming) (kind : LineKind) (line : Line) (m : ℕ) (plan : Plan) (name : Option (List ℕ))
+    (r : Report)
+    → IsFound naming kind line m plan None (outcome_of r None)
     → (cert : Certificate) × (r.kept ≡ Certified cert) × IsInRange cert
-    × IsFound kind line m plan name (outcome_of r (page_of name cert))
-in_file kind line m plan name r (inl p) = (
+    × IsFound naming kind line m plan name (outcome_of r (page_of name cert))
+in_file naming kind line m plan name r (inl p) = (
   p.certificate,
   ap (λ (o : Outcome). o.kept) p.shown,
   p.proved.certified.sayable,
@@ -39,7 +41,7 @@ in_file kind line m plan name r (inl p) = (
     shown = ap (paged (page_of name p.certificate)) p.shown;
   }),
 )
-in_file kind line m plan name r (inr p) = (
+in_file naming kind line m plan name r (inr p) = (
   p.certificate,
   ap (λ (o : Outcome). o.kept) p.shown,
   p.proved.certified.sayable,
@@ -69,9 +71,9 @@ memory_of kind line m plan cause lower upper b es trail e s =
     let S : Cause → Type 0 = λ x. Searches kind line m plan (outcomes.Stopped x lower upper b es trail) in subst S e s
 
 -- its report has the status of a stop
-pub stopped_status : (kind : LineKind) (line : Line) (m : ℕ) (plan : Plan) (r : Report)
-    → IsStopped kind line m plan None (outcome_of r None) → IsSolveStatus r.status
-stopped_status kind line m plan r p = inr (ap (λ (o : Outcome). o.status) p.shown)
+pub stopped_status : (naming : Naming) (kind : LineKind) (line : Line) (m : ℕ) (plan : Plan) (r : Report)
+    → IsStopped naming kind line m plan None (outcome_of r None) → IsSolveStatus r.status
+stopped_status naming kind line m plan r p = inr (ap (λ (o : Outcome). o.status) p.shown)
 
 -- the bounds of a search that memory ended are true
 pub stopped_bounds : (kind : LineKind) (line : Line) (m N lower upper : ℕ) (b : Assignment) (es : List Entry)

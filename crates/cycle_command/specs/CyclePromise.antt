@@ -24,17 +24,18 @@ use Rattle.command_outcome.specs.declared.report.Kept.{Kept}
 use Rattle.command_outcome.specs.declared.report.Kept.TheVariants.{Line as Certified}
 use Rattle.command_outcome.specs.declared.status.Status.{Status}
 use Rattle.command_outcome.specs.declared.status.Status.TheVariants as ends
-use Rattle.input_files.specs.Instance.{IsLineOf}
+use Rattle.input_files.specs.Instance.{IsPlainLine, naming_of}
 use Rattle.solution_page.specs.Page.{HasCertificate}
 use Rattle.cycle_search.specs.Ends.{first_lower}
 use Rattle.cycle_search.specs.Outcomes.{IsRightIn}
 use Rattle.cycle_search.specs.CycleCertified.{about_cycle}
 use Rattle.cycle_command.specs.CycleText.{optimal_text, stopped_text}
+use Rattle.task_names.specs.declared.naming.Naming.{Naming}
 
 -- the printed text of bounds: the optimum where they are equal, and both where they differ
-abbrev pub bounds_text : LineKind → ℕ → ℕ → Assignment → ℕ → List ℕ
-bounds_text kind lower upper b idle =
-    cond (nat_eq lower upper) (optimal_text kind upper b idle) (stopped_text kind lower upper b idle)
+abbrev pub bounds_text : Naming → LineKind → ℕ → ℕ → Assignment → ℕ → List ℕ
+bounds_text naming kind lower upper b idle =
+    cond (nat_eq lower upper) (optimal_text naming kind upper b idle) (stopped_text naming kind lower upper b idle)
 
 -- The units of a cycle X between the bounds were spent on loads that the certificate lists: its entries and its trail,
 -- which is at X, have at least as many at X, and exactly so many with no helpers; no entry of cycle X is answered by an
@@ -61,7 +62,8 @@ pub record AreSpentAt (kind : LineKind) (line : Line) (m : ℕ) (plan : Plan) (l
 -- is printed are the certificate's bounds and balance; the bounds differ only where the units of a tried cycle were
 -- spent on loads that the certificate lists, and status 1 says so; where they are equal they are the least cycle; and
 -- they are equal where the units are at least (n + 1) x 3^n for n tasks, and on a U-line (n + 1) x 4^n.
-pub record HasBounds (kind : LineKind) (line : Line) (m : ℕ) (plan : Plan) (certificate : Certificate) (status : Status)
+pub record HasBounds (naming : Naming) (kind : LineKind) (line : Line) (m : ℕ) (plan : Plan) (certificate : Certificate)
+    (status : Status)
     (text : List ℕ) : Type 0 where
   pub lower : ℕ
   pub upper : ℕ
@@ -75,23 +77,24 @@ pub record HasBounds (kind : LineKind) (line : Line) (m : ℕ) (plan : Plan) (ce
   pub accepted : IsAccepted line certificate lower upper units
   pub few : units ≤ max_units
   pub true_bounds : IsProved kind line (ask.Cycle m) lower upper
-  pub printed : text ≡ bounds_text kind lower upper balance (idle_time line upper m)
+  pub printed : text ≡ bounds_text naming kind lower upper balance (idle_time line upper m)
   pub differ : lower < upper → (status ≡ ends.Stopped) × AreSpentAt kind line m plan lower upper entries trail
   pub equal : lower ≡ upper → (status ≡ ends.Done) × IsLeastCycle kind line m lower
   pub complete : (tasks line + 1) * states kind ^ tasks line ≤ plan.units → lower ≡ upper
 
 -- what is printed is shown by a certificate, which is kept
-pub record IsShown (kind : LineKind) (line : Line) (m : ℕ) (plan : Plan) (status : Status) (text : List ℕ) (kept : Kept)
+pub record IsShown (naming : Naming) (kind : LineKind) (line : Line) (m : ℕ) (plan : Plan) (status : Status)
+    (text : List ℕ) (kept : Kept)
     : Type 0 where
   pub certificate : Certificate
   pub keeps : kept ≡ Certified certificate
-  pub shows : HasBounds kind line m plan certificate status text
+  pub shows : HasBounds naming kind line m plan certificate status text
 
 -- The promise of `cycle` for the line that the file says: what is printed is shown by a certificate, which is kept, and
 -- written where the words name a file.
 pub record IsCyclePromised (files after : Files) (file : List ℕ) (kind : LineKind) (m helpers units : ℕ)
     (name : Option (List ℕ)) (status : Status) (text : List ℕ) (kept : Kept) : Type 0 where
   pub line : Line
-  pub said : IsLineOf files file None line
-  pub shown : IsShown kind line m (record { helpers = helpers; units = units }) status text kept
+  pub said : IsPlainLine files file line
+  pub shown : IsShown (naming_of files file) kind line m (record { helpers = helpers; units = units }) status text kept
   pub written : HasCertificate name after shown.certificate

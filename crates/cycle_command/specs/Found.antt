@@ -10,23 +10,27 @@ use Rattle.line_rules.specs.declared.types.Certificate.{Certificate}
 use Rattle.cycle_search.specs.rounds.declared.plans.Plan.{Plan}
 use Rattle.command_outcome.specs.Outcome.{Files, Outside, Outcome, told}
 use Rattle.command_outcome.specs.declared.status.Status.TheVariants as ends
-use Rattle.input_files.specs.Instance.{IsLineOf, IsNoLine}
+use Rattle.input_files.specs.Instance.{IsPlainLine, IsNoPlainLine, naming_of}
 use Rattle.solution_page.specs.Page.{certified_by}
 use Rattle.command_outcome.specs.Bounds.{cut_short_text}
 use Rattle.cycle_search.specs.CycleCertified.{IsOptimum, IsStop}
 use Rattle.cycle_command.specs.CycleText.{optimal_text, stopped_text}
+use Rattle.task_names.specs.declared.naming.Naming.{Naming}
 
 -- The least cycle: the balance that is printed is right at it, and the certificate proves it.
-pub record IsOptimal (kind : LineKind) (line : Line) (m : ℕ) (name : Option (List ℕ)) (out : Outcome) : Type 0 where
+pub record IsOptimal (naming : Naming) (kind : LineKind) (line : Line) (m : ℕ) (name : Option (List ℕ)) (out : Outcome)
+    : Type 0 where
   pub cycle : ℕ
   pub balance : Assignment
   pub certificate : Certificate
   pub proved : IsOptimum kind line m cycle balance certificate
-  pub shown : out ≡ certified_by name certificate ends.Done (optimal_text kind cycle balance (idle_time line cycle m))
+  pub shown : out ≡ certified_by name certificate ends.Done
+      (optimal_text naming kind cycle balance (idle_time line cycle m))
 
 -- The units of a tried cycle were used: the bounds that are printed, and the balance at the upper one, are those of the
 -- certificate, which lists the units.
-pub record IsStopped (kind : LineKind) (line : Line) (m : ℕ) (plan : Plan) (name : Option (List ℕ)) (out : Outcome)
+pub record IsStopped (naming : Naming) (kind : LineKind) (line : Line) (m : ℕ) (plan : Plan) (name : Option (List ℕ))
+    (out : Outcome)
     : Type 0 where
   pub lower : ℕ
   pub upper : ℕ
@@ -34,11 +38,12 @@ pub record IsStopped (kind : LineKind) (line : Line) (m : ℕ) (plan : Plan) (na
   pub certificate : Certificate
   pub proved : IsStop kind line m plan lower upper balance certificate
   pub shown : out ≡ certified_by name certificate ends.Stopped
-      (stopped_text kind lower upper balance (idle_time line upper m))
+      (stopped_text naming kind lower upper balance (idle_time line upper m))
 
 -- what is found with a certificate
-abbrev pub IsFound : LineKind → Line → ℕ → Plan → Option (List ℕ) → Outcome → Type 0
-IsFound kind line m plan name out = IsOptimal kind line m name out ⊎ IsStopped kind line m plan name out
+abbrev pub IsFound : Naming → LineKind → Line → ℕ → Plan → Option (List ℕ) → Outcome → Type 0
+IsFound naming kind line m plan name out = IsOptimal naming kind line m name out
+    ⊎ IsStopped naming kind line m plan name out
 
 -- Memory ended the search: the bounds that are printed differ, and are true.
 pub record IsCutShort (kind : LineKind) (line : Line) (m : ℕ) (out : Outcome) : Type 0 where
@@ -52,11 +57,11 @@ pub record IsCutShort (kind : LineKind) (line : Line) (m : ℕ) (out : Outcome) 
 pub record IsAnswered (files : Files) (file : List ℕ) (kind : LineKind) (m : ℕ) (plan : Plan) (name : Option (List ℕ))
     (out : Outcome) : Type 0 where
   pub line : Line
-  pub said : IsLineOf files file None line
-  pub answer : IsFound kind line m plan name out ⊎ IsCutShort kind line m out
+  pub said : IsPlainLine files file line
+  pub answer : IsFound (naming_of files file) kind line m plan name out ⊎ IsCutShort kind line m out
 
 -- What `cycle` comes to for m stations, with so many helpers, and so many units for each cycle that is tried: an
--- answer, or why the file says no line.
+-- answer, or why the file says no line of which no two tasks are apart.
 abbrev pub IsCycleOutcome : Outside → List ℕ → LineKind → ℕ → ℕ → ℕ → Option (List ℕ) → Outcome → Type 0
 IsCycleOutcome o file kind m helpers units name out =
-    IsAnswered o.files file kind m (record { helpers = helpers; units = units }) name out ⊎ IsNoLine o file None out
+    IsAnswered o.files file kind m (record { helpers = helpers; units = units }) name out ⊎ IsNoPlainLine o file out

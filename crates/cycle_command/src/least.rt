@@ -29,11 +29,13 @@ use station_report::idle_of;
 use std::alloc::{AllocError, Global};
 use std::sync::Wait;
 use std::thread::Threads;
+use task_names::Naming;
 
 /// The report of the least cycle, with its certificate.
 fn optimal(
     alloc: Global,
     inst: &Instance,
+    naming: &Naming,
     kind: LineKind,
     stations: u32,
     cycle: u64,
@@ -43,11 +45,11 @@ fn optimal(
     requires some { 1 ≤ stations }
     requires few { stations ≤ 1024 }
     requires solved { (N : ℕ) × (N ≤ 3000000) × IsSolved kind inst.now stations N cycle balance entries }
-    ensures { IfOk result (λ r. IsOptimal kind inst.now stations None (outcome_of r None)) }
+    ensures { IfOk result (λ r. IsOptimal naming.now kind inst.now stations None (outcome_of r None)) }
 {
     let _tasks = inst.tasks();
     let idle = idle_of(inst, cycle, stations);
-    let text = optimal_text(alloc, cycle, &balance, kind, idle)?;
+    let text = optimal_text(alloc, cycle, naming, &balance, kind, idle)?;
     let certificate = certify_cycle(alloc, inst, kind, stations, cycle, balance, entries)?;
     Ok(Report {
         status: Status::Done,
@@ -60,6 +62,7 @@ fn optimal(
 fn stopped(
     alloc: Global,
     inst: &Instance,
+    naming: &Naming,
     kind: LineKind,
     stations: u32,
     lower: u64,
@@ -74,11 +77,11 @@ fn stopped(
         × IsSpent kind inst.now stations plan lower upper balance entries trail }
     ensures { IfOk result (λ r. (plan : Planned) → plan.units ≤ 3000000
         → IsSpent kind inst.now stations plan lower upper balance entries trail
-        → IsStopped kind inst.now stations plan None (outcome_of r None)) }
+        → IsStopped naming.now kind inst.now stations plan None (outcome_of r None)) }
 {
     let _tasks = inst.tasks();
     let idle = idle_of(inst, upper, stations);
-    let text = stopped_text(alloc, lower, upper, &balance, kind, idle)?;
+    let text = stopped_text(alloc, lower, upper, naming, &balance, kind, idle)?;
     let certificate = certify_cycle_stop(
         inst, kind, stations, lower, upper, balance, entries, trail,
     );
@@ -117,6 +120,7 @@ fn found<R: Threads + Wait + Sync, G: Gate>(
     rt: &R,
     alloc: Global,
     inst: &Instance,
+    naming: &Naming,
     kind: LineKind,
     stations: u32,
     plan: &Plan,
@@ -127,9 +131,9 @@ fn found<R: Threads + Wait + Sync, G: Gate>(
     requires few { stations ≤ 1024 }
     requires plan { IsPlan plan.now }
     ensures answer { MatchResult result
-        (λ r. IsFound kind inst.now stations plan.now None (outcome_of r None))
+        (λ r. IsFound naming.now kind inst.now stations plan.now None (outcome_of r None))
         (Stops (IsCutShort kind inst.now stations)) }
-    ensures shown { IfOk result (λ r. IsShown kind inst.now stations plan.now r.status r.text.items r.kept) }
+    ensures shown { IfOk result (λ r. IsShown naming.now kind inst.now stations plan.now r.status r.text.items r.kept) }
     ensures good { IfOk result (λ r. IsSolveStatus r.status) }
     ensures fault { MatchResult result (λ _. Unit {0}) (MayStop ⊥) }
 {
@@ -139,7 +143,7 @@ fn found<R: Threads + Wait + Sync, G: Gate>(
             cycle,
             balance,
             entries,
-        } => Ok(optimal(alloc, inst, kind, stations, cycle, balance, entries)?),
+        } => Ok(optimal(alloc, inst, naming, kind, stations, cycle, balance, entries)?),
         CycleOutcome::Stopped {
             cause,
             lower,
@@ -149,7 +153,7 @@ fn found<R: Threads + Wait + Sync, G: Gate>(
             trail,
         } => match cause {
             Cause::Units => Ok(stopped(
-                alloc, inst, kind, stations, lower, upper, balance, entries, trail,
+                alloc, inst, naming, kind, stations, lower, upper, balance, entries, trail,
             )?),
             Cause::Memory => Err(cut_short(inst, kind, stations, room, lower, upper)?),
         },
@@ -187,7 +191,16 @@ pub fn cycle_report<R: Threads + Wait + Sync, S: Shelf, G: Gate>(
         IsCyclePromised (S.file shelf.old) (S.file shelf.new) file.now kind stations plan.now.helpers plan.now.units
         (option_map (λ a. a.now) name.entry) r.status r.text.items r.kept) }
 {
-    let inst = plain_line(alloc, file, shelf)?;
-    let report = found(rt, alloc, &inst, kind, stations, plan, gate)?;
+    let plain = plain_line(alloc, file, shelf)?;
+    let report = found(
+        rt,
+        alloc,
+        &plain.inst,
+        &plain.naming,
+        kind,
+        stations,
+        plan,
+        gate,
+    )?;
     write_certificate(alloc, shelf, name, report)
 }

@@ -6,22 +6,24 @@ use command_outcome::push_bounds;
 use line_rules::{Balance, LineKind};
 use station_report::balance_text;
 use std::alloc::{AllocError, Global};
+use task_names::Naming;
 
 /// The report of the least cycle, with a balance at it.
 pub fn optimal_text(
     alloc: Global,
     cycle: u64,
+    naming: &Naming,
     balance: &Balance,
     kind: LineKind,
     idle: u128,
 ) -> Result<Vec<u8>, AllocError>
     requires places { length balance.now.place < 2 ^ 31 }
     requires stations { balance.now.stations < 2 ^ 31 }
-    ensures { IfOk result (λ t. t.items ≡ optimal_text kind cycle balance.now idle) }
+    ensures { IfOk result (λ t. t.items ≡ optimal_text naming.now kind cycle balance.now idle) }
 {
     let mut heading = String::new(alloc);
     write!(heading, "optimal cycle {cycle}\n")?;
-    balance_text(alloc, heading, balance, kind, idle)
+    balance_text(alloc, heading, naming, balance, kind, idle)
 }
 
 /// The report of a search whose units ended, with a balance at the upper bound.
@@ -29,15 +31,16 @@ pub fn stopped_text(
     alloc: Global,
     lower: u64,
     upper: u64,
+    naming: &Naming,
     balance: &Balance,
     kind: LineKind,
     idle: u128,
 ) -> Result<Vec<u8>, AllocError>
     requires places { length balance.now.place < 2 ^ 31 }
     requires stations { balance.now.stations < 2 ^ 31 }
-    ensures { IfOk result (λ t. t.items ≡ stopped_text kind lower upper balance.now idle) }
+    ensures { IfOk result (λ t. t.items ≡ stopped_text naming.now kind lower upper balance.now idle) }
 {
     let mut heading = String::from_str(alloc, "stopped by units\n")?;
     push_bounds(&mut heading, lower as u128, upper as u128)?;
-    balance_text(alloc, heading, balance, kind, idle)
+    balance_text(alloc, heading, naming, balance, kind, idle)
 }

@@ -1,66 +1,33 @@
 -- What `draw` comes to.
-use Rattle.std.specs.Prelude.{◌≡◌, ◌≢◌, ◌⊎◌, ℕ, List, Option, Some, codes}
-use Rattle.line_instance.specs.Line.{Line, tasks}
-use Rattle.line_rules.specs.declared.types.Ask.{Ask}
-use Rattle.line_rules.specs.declared.types.LineKind.{LineKind}
-use Rattle.line_rules.specs.declared.types.Claim.{Claim}
-use Rattle.line_rules.specs.declared.types.Claim.TheVariants.{TooLong, Bounds}
+use Rattle.std.specs.Prelude.{◌≡◌, ◌≢◌, ◌⊎◌, ℕ, List, Option, Some}
+use Rattle.line_instance.specs.Line.{Line}
 use Rattle.line_rules.specs.declared.types.Certificate.{Certificate}
-use Rattle.line_check.specs.Certificates.{BalanceFails, NeedsEntries}
-use Rattle.line_check.specs.declared.types.Place.{Place}
-use Rattle.line_check.specs.declared.types.Place.TheVariants.{Tasks}
-use Rattle.line_check.specs.declared.types.Verified.TheVariants.{Refused}
 use Rattle.line_drawing.specs.Drawing.{drawing_text}
 use Rattle.line_drawing.specs.Facts.{IsTrueDrawing}
-use Rattle.command_outcome.specs.Outcome.{Files, Outside, Outcome, told}
-use Rattle.command_outcome.specs.declared.status.Status.TheVariants as ends
-use Rattle.input_files.specs.Instance.{IsLineOf, IsNoLine}
-use Rattle.input_files.specs.Certificate.{IsCertificateOf, IsNoCertificate}
-use Rattle.printed_verdict.specs.VerdictText.{verdict_text}
+use Rattle.task_names.specs.declared.naming.Naming.{Naming}
+use Rattle.task_names.specs.declared.naming.Naming.TheVariants.{Numbered, Named}
+use Rattle.named_drawing.specs.NamedDrawing.{named_drawing_text}
+use Rattle.named_drawing.specs.NamedFacts.{ListsEachTask, LabelsEachTask}
+use Rattle.named_drawing.specs.Xml.{IsWellFormed}
+use Rattle.command_outcome.specs.Outcome.{Files, Outside, Outcome}
 use Rattle.command_outcome.specs.Wrote.{wrote}
+use Rattle.input_files.specs.Instance.{IsLineOf, naming_of}
+use Rattle.input_files.specs.Certificate.{IsCertificateOf}
+use Rattle.draw_command.specs.Drawable.{IsDrawable, IsNotShown}
 
--- The certificate is of as many tasks as the line has, and claims a balance that shows its upper bound: it is in as
--- many stations as that says, and right at its cycle time. The check of a certificate tests the same before its
--- entries.
-abbrev pub IsDrawable : Line → Certificate → Type 0
-IsDrawable line cert = NeedsEntries line cert
+-- the picture of a certificate, as the tasks are called
+abbrev pub picture_of : Naming → Line → Certificate → List ℕ
+picture_of Numbered line cert = drawing_text line cert
+picture_of (Named names) line cert = named_drawing_text line names cert
 
--- no balance is claimed
-abbrev pub IsBare : Claim → Type 0
-IsBare (TooLong task) = Unit {0}
-IsBare (Bounds lower upper balance es trail) = ⊥
+-- a picture with names lists each task, labels each or notes it, and is well-formed XML
+abbrev pub ShowsNames : Naming → Line → Certificate → Type 0
+ShowsNames Numbered line cert = Unit {0}
+ShowsNames (Named names) line cert = ListsEachTask line names cert
+    × (LabelsEachTask line names cert × IsWellFormed (named_drawing_text line names cert))
 
--- the balance that is claimed doesn't show its upper bound, first at this place
-abbrev pub ClaimFails : LineKind → Line → Ask → Claim → Place → Type 0
-ClaimFails kind line a (TooLong task) place = ⊥
-ClaimFails kind line a (Bounds lower upper balance es trail) place = BalanceFails kind line a upper balance place
-
--- the line of a certificate without a balance
-abbrev pub bare_line : List ℕ
-bare_line = codes "refused: no balance\n"
-
--- Why there is no picture, in the order of the tests. The certificate is of another number of tasks;
-pub record IsOfOthers (line : Line) (cert : Certificate) (out : Outcome) : Type 0 where
-  pub other : cert.tasks ≢ tasks line
-  pub shown : out ≡ told ends.Refused (verdict_text cert (Refused (Tasks cert.tasks (tasks line))))
-
--- or it claims no balance;
-pub record HasNoBalance (line : Line) (cert : Certificate) (out : Outcome) : Type 0 where
-  pub many : cert.tasks ≡ tasks line
-  pub bare : IsBare cert.claim
-  pub shown : out ≡ told ends.Refused bare_line
-
--- or the balance is wrong, and the outcome tells the first thing that is.
-pub record HasWrongBalance (line : Line) (cert : Certificate) (out : Outcome) : Type 0 where
-  pub many : cert.tasks ≡ tasks line
-  pub place : Place
-  pub fails : ClaimFails cert.kind line cert.ask cert.claim place
-  pub shown : out ≡ told ends.Refused (verdict_text cert (Refused place))
-
-abbrev pub IsUndrawable : Line → Certificate → Outcome → Type 0
-IsUndrawable line cert out = IsOfOthers line cert out ⊎ HasNoBalance line cert out ⊎ HasWrongBalance line cert out
-
--- The files say a line and a certificate that can be drawn for it, and what is written is its picture.
+-- The files say a line and a certificate that can be drawn for it, and what is written is its picture, with the names
+-- that the first file gives.
 pub record IsDrawn (files : Files) (name proof to_name : List ℕ) (apart : Option (List ℕ))
     (out : Outcome) : Type 0 where
   pub line : Line
@@ -68,28 +35,13 @@ pub record IsDrawn (files : Files) (name proof to_name : List ℕ) (apart : Opti
   pub said : IsLineOf files name apart line
   pub read : IsCertificateOf files proof cert
   pub drawable : IsDrawable line cert
-  pub shown : out ≡ wrote to_name (drawing_text line cert)
-
--- the files say a line, and that of the certificate says none
-pub record IsUnread (o : Outside) (name proof : List ℕ) (apart : Option (List ℕ)) (out : Outcome) : Type 0 where
-  pub line : Line
-  pub said : IsLineOf o.files name apart line
-  pub unread : IsNoCertificate o proof out
-
--- the files say a line and a certificate that can't be drawn for it
-pub record IsRefused (files : Files) (name proof : List ℕ) (apart : Option (List ℕ)) (out : Outcome) : Type 0 where
-  pub line : Line
-  pub cert : Certificate
-  pub said : IsLineOf files name apart line
-  pub read : IsCertificateOf files proof cert
-  pub refused : IsUndrawable line cert out
+  pub shown : out ≡ wrote to_name (picture_of (naming_of files name) line cert)
 
 -- What `draw` comes to: a picture in a file; or why the files say no line, no certificate, or none that can be drawn.
 -- A later file is named only where the earlier ones were read.
 abbrev pub IsDrawOutcome : Outside → List ℕ → List ℕ → List ℕ → Option (List ℕ) → Outcome → Type 0
 IsDrawOutcome o name proof to_name apart out =
-    IsDrawn o.files name proof to_name apart out ⊎ IsNoLine o name apart out ⊎ IsUnread o name proof apart out
-    ⊎ IsRefused o.files name proof apart out
+    IsDrawn o.files name proof to_name apart out ⊎ IsNotShown o name proof apart out
 
 -- What a run that is done has done: its files said a line and a certificate whose balance is right and shows the
 -- upper bound; the picture of it is true of the line and stands whole in the file that was to be written; the other
@@ -101,5 +53,6 @@ pub record IsTrulyDrawn (files after : Files) (name proof to_name : List ℕ) (a
   pub read : IsCertificateOf files proof cert
   pub right : IsDrawable line cert
   pub true_picture : IsTrueDrawing line cert
-  pub written : after to_name ≡ Some (drawing_text line cert)
+  pub names : ShowsNames (naming_of files name) line cert
+  pub written : after to_name ≡ Some (picture_of (naming_of files name) line cert)
   pub others : (q : List ℕ) → q ≢ to_name → after q ≡ files q

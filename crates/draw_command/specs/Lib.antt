@@ -1,1 +1,3 @@
+pub mod Drawable
 pub mod Draw
+pub mod Plan

@@ -1,67 +1,42 @@
 //! The picture of a certificate's balance, written into a file.
-ghost use Rattle.std.specs.Prelude.{◌≡◌, ◌≢◌, ◌≤◌, ℕ, List, IfOk, MatchResult, option_map};
+ghost use Rattle.std.specs.Prelude.{◌≡◌, ℕ, List, IfOk, MatchResult, option_map};
 ghost use Rattle.line_io.specs.Outside.{Rises};
 ghost use Rattle.line_instance.specs.Line.{tasks};
 ghost use Rattle.line_rules.specs.Ranges.{IsInRange};
-ghost use Rattle.command_outcome.specs.Outcome.{Ends, MayEnd, MayStop, Stops, outside, told};
+ghost use Rattle.line_drawing.specs.Facts.{HasRightBalance, IsTrueDrawing};
+ghost use Rattle.command_outcome.specs.Outcome.{Ends, MayEnd, outside};
 ghost use Rattle.command_outcome.specs.declared.report.Kept.TheVariants.{Nothing};
 ghost use Rattle.command_outcome.specs.declared.status.Status.TheVariants as ends;
-ghost use Rattle.line_check.specs.declared.types.Verified.TheVariants.{Refused};
-ghost use Rattle.printed_verdict.specs.VerdictText.{verdict_text};
-ghost use Rattle.draw_command.specs.Draw.{ClaimFails, IsDrawOutcome, IsDrawable, IsTrulyDrawn, IsUndrawable, bare_line};
+ghost use Rattle.task_names.specs.Naming.{FitTasks};
+ghost use Rattle.draw_command.specs.Draw.{IsDrawOutcome, IsTrulyDrawn, ShowsNames, picture_of};
 
-use command_outcome::{Report, Status, Stop, refuse, write_page, written};
-use input_files::{certificate_of, line_of};
-use line_check::{Place, Verified, balance_fault};
+use crate::shown::shown_of;
+use command_outcome::{Report, Stop, write_page, written};
 use line_drawing::draw_text;
 use line_instance::Instance;
 use line_io::Shelf;
-use line_rules::{Certificate, Claim};
-use printed_verdict::verdict_report;
-use std::alloc::Global;
+use line_rules::Certificate;
+use named_drawing::draw_named;
+use std::alloc::{AllocError, Global};
+use task_names::Naming;
 
-/// The refusal of a certificate at a place, or out of memory.
-fn refused(alloc: Global, cert: &Certificate, place: Place) -> Stop
-    requires { cert.now.tasks ≤ 1024 }
-    ensures told { Stops (λ out. out ≡ told ends.Refused (verdict_text cert.now (Refused place))) result }
-    ensures status { MayStop ⊥ result }
+/// The picture of a certificate's balance, with the numbers or the names of the tasks.
+fn picture(
+    alloc: Global,
+    inst: &Instance,
+    naming: &Naming,
+    cert: &Certificate,
+) -> Result<Vec<u8>, AllocError>
+    requires range { IsInRange cert.now }
+    requires right { HasRightBalance inst.now cert.now }
+    requires names { FitTasks naming.now (tasks inst.now) }
+    ensures text { IfOk result (λ t. t.items ≡ picture_of naming.now inst.now cert.now) }
+    ensures true_picture { IsTrueDrawing inst.now cert.now }
+    ensures names { ShowsNames naming.now inst.now cert.now }
 {
-    match verdict_report(alloc, cert, &Verified::Refused(place)) {
-        Ok(report) => Stop::Report(report),
-        Err(_) => Stop::Memory,
-    }
-}
-
-/// The refusal of a certificate without a balance, or out of memory.
-fn bare(alloc: Global) -> Stop
-    ensures told { Stops (λ out. out ≡ told ends.Refused bare_line) result }
-    ensures status { MayStop ⊥ result }
-{
-    match Vec::from_slice(alloc, b"refused: no balance\n") {
-        Ok(text) => refuse(Status::Refused, text),
-        Err(_) => Stop::Memory,
-    }
-}
-
-/// Tests whether a certificate can be drawn for a line: it is of as many tasks, and its balance shows its upper bound.
-fn test(alloc: Global, inst: &Instance, cert: &Certificate) -> Result<(), Stop>
-    requires { IsInRange cert.now }
-    ensures said { MatchResult result (λ _. IsDrawable inst.now cert.now) (Stops (IsUndrawable inst.now cert.now)) }
-    ensures status { MatchResult result (λ _. Unit {0}) (MayStop ⊥) }
-{
-    let real = inst.tasks();
-    let said = cert.tasks;
-    if said != real {
-        return Err(refused(alloc, cert, Place::Tasks { said, real }));
-    }
-    match &cert.claim {
-        Claim::TooLong { .. } => Err(bare(alloc)),
-        Claim::Bounds { upper, balance, .. } => {
-            match balance_fault(inst, cert.kind, cert.ask, *upper, balance) {
-                Some(place) => Err(refused(alloc, cert, place)),
-                None => Ok(()),
-            }
-        }
+    match naming {
+        Naming::Numbered => draw_text(alloc, inst, cert),
+        Naming::Named(names) => draw_named(alloc, inst, names, cert),
     }
 }
 
@@ -86,10 +61,8 @@ pub fn draw_report<S: Shelf>(
     ensures promise { S.tells → IfOk result (λ _. IsTrulyDrawn (S.file shelf.old) (S.file shelf.new) file.now proof.now
         name.now (option_map (λ a. a.now) apart.entry)) }
 {
-    let inst = line_of(alloc, file, apart, shelf)?;
-    let cert = certificate_of(alloc, proof, shelf)?;
-    test(alloc, &inst, &cert)?;
-    let text = draw_text(alloc, &inst, &cert)?;
+    let shown = shown_of(alloc, file, proof, apart, shelf)?;
+    let text = picture(alloc, &shown.line.inst, &shown.line.naming, &shown.cert)?;
     let report = written(alloc, name)?;
     write_page(shelf, name, &text, report)
 }

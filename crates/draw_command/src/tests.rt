@@ -124,6 +124,80 @@ const U_PICTURE: [&str; 40] = [
     "</svg>",
 ];
 
+/// The assembly of a lamp, as a table.
+const LAMP: &str =
+    "task,time,after|Set base,30,|Wire & socket,8,Set base|\"Fit shade, \"\"Luna\"\"\",6,Wire & socket|\
+    Clip,1,|Calibrate,2,\"Fit shade, \"\"Luna\"\"; Clip\"|Sign off,0,Calibrate|Pack,50,Sign off|";
+
+/// Its balance in 2 stations of a U-line.
+const LAMP_CERT: &str =
+    "line balance certificate 2|line u|tasks 7|cycle 60|lower 2|upper 2|balance 2|2 f|2 f|1 b|1 f|1 b|\
+    1 b|1 b|entries 1|bound 60 fe 1|trail 0|end|";
+
+/// The picture of that balance, by names.
+const LAMP_PICTURE: [&str; 60] = [
+    "<svg xmlns=\"http://www.w3.org/2000/svg\" version=\"1.1\" width=\"1128\" height=\"272\" viewBox=\"0 0 1128 272\" role=\"img\" font-family=\"Arial,sans-serif\" font-size=\"12\" shape-rendering=\"crispEdges\">",
+    "<title>U-line, 2 stations, cycle time 60</title>",
+    "<rect width=\"1128\" height=\"272\" fill=\"#fff\"/>",
+    "<text x=\"64\" y=\"28\" font-size=\"18\">U-line, 2 stations, cycle time 60</text>",
+    "<text x=\"64\" y=\"48\">Stations: optimal (by the certificate)</text>",
+    "<text x=\"64\" y=\"66\">Efficiency 80.8 %, total time 97, idle time 23, longest station time 59</text>",
+    "<text x=\"104\" y=\"88\">light: front tasks, dark: back tasks</text>",
+    "<text x=\"1024\" y=\"88\">narrow tasks</text>",
+    "<g text-anchor=\"end\">",
+    "<text x=\"56\" y=\"88\">station</text><text x=\"864\" y=\"88\">cycle time 60</text><text x=\"908\" y=\"88\">time</text><text x=\"952\" y=\"88\">idle</text>",
+    "<g transform=\"translate(64 112)\"><title>station 1: Clip; back: Fit shade, \"Luna\"; Calibrate; Sign off; Pack, time 59, idle 1</title>",
+    "<path fill=\"#fff\" stroke=\"#888\" d=\"M0-20v32h800v-32z\"/>",
+    "<g fill=\"#cfe2f6\" stroke=\"#467\">",
+    "<path d=\"M0-20v32h13v-32z\"><title>4 Clip, time 1</title></path>",
+    "</g>",
+    "<g fill=\"#76a5d8\" stroke=\"#000\">",
+    "<path d=\"M27-20v32h80v-32z\"><title>3 Fit shade, \"Luna\", time 6</title></path>",
+    "<path d=\"M107-20v32h27v-32z\"><title>5 Calibrate, time 2</title></path>",
+    "<path d=\"M134-20v32h0v-32z\"><title>6 Sign off, time 0</title></path>",
+    "<path d=\"M134-20v32h666v-32z\"><title>7 Pack, time 50</title></path>",
+    "</g>",
+    "<g text-anchor=\"middle\" pointer-events=\"none\">",
+    "<text x=\"6\" font-style=\"italic\">4</text>",
+    "<text x=\"67\" y=\"-7\">Fit shade,</text><text x=\"67\" y=\"7\">\"Luna\"</text>",
+    "<text x=\"120\" font-style=\"italic\">5</text>",
+    "<text x=\"467\">Pack</text>",
+    "</g>",
+    "<text x=\"-8\">1</text><text x=\"844\">59</text><text x=\"888\">1</text>",
+    "<text x=\"948\">slowest</text>",
+    "<text x=\"960\" text-anchor=\"start\">6</text>",
+    "</g>",
+    "<g transform=\"translate(64 148)\"><title>station 2: Set base; Wire &amp; socket, time 38, idle 22</title>",
+    "<path fill=\"#fff\" stroke=\"#888\" d=\"M0-20v32h800v-32z\"/>",
+    "<g fill=\"#cfe2f6\" stroke=\"#467\">",
+    "<path d=\"M0-20v32h400v-32z\"><title>1 Set base, time 30</title></path>",
+    "<path d=\"M400-20v32h106v-32z\"><title>2 Wire &amp; socket, time 8</title></path>",
+    "</g>",
+    "<g fill=\"#76a5d8\" stroke=\"#000\">",
+    "</g>",
+    "<g text-anchor=\"middle\" pointer-events=\"none\">",
+    "<text x=\"200\">Set base</text>",
+    "<text x=\"453\">Wire &amp; socket</text>",
+    "</g>",
+    "<text x=\"-8\">2</text><text x=\"844\">38</text><text x=\"888\">22</text>",
+    "</g>",
+    "<path stroke=\"#000\" stroke-width=\"3\" d=\"M864 92v78\"/>",
+    "</g>",
+    "<g text-anchor=\"end\">",
+    "<text x=\"104\" y=\"196\" text-anchor=\"start\">task</text><text x=\"260\" y=\"196\">time</text><text x=\"316\" y=\"196\">station</text>",
+    "<text x=\"380\" y=\"196\" text-anchor=\"start\">task</text><text x=\"536\" y=\"196\">time</text><text x=\"592\" y=\"196\">station</text>",
+    "<text x=\"656\" y=\"196\" text-anchor=\"start\">task</text><text x=\"812\" y=\"196\">time</text><text x=\"868\" y=\"196\">station</text>",
+    "<text x=\"96\" y=\"214\" font-style=\"italic\">1</text><text x=\"104\" y=\"214\" text-anchor=\"start\">Set base</text><text x=\"260\" y=\"214\">30</text><text x=\"316\" y=\"214\">2</text>",
+    "<text x=\"96\" y=\"230\" font-style=\"italic\">2</text><text x=\"104\" y=\"230\" text-anchor=\"start\">Wire &amp; socket</text><text x=\"260\" y=\"230\">8</text><text x=\"316\" y=\"230\">2</text>",
+    "<text x=\"96\" y=\"246\" font-style=\"italic\">3</text><text x=\"104\" y=\"246\" text-anchor=\"start\">Fit shade, \"Luna\"</text><text x=\"260\" y=\"246\">6</text><text x=\"316\" y=\"246\">1</text>",
+    "<text x=\"372\" y=\"214\" font-style=\"italic\">4</text><text x=\"380\" y=\"214\" text-anchor=\"start\">Clip</text><text x=\"536\" y=\"214\">1</text><text x=\"592\" y=\"214\">1</text>",
+    "<text x=\"372\" y=\"230\" font-style=\"italic\">5</text><text x=\"380\" y=\"230\" text-anchor=\"start\">Calibrate</text><text x=\"536\" y=\"230\">2</text><text x=\"592\" y=\"230\">1</text>",
+    "<text x=\"372\" y=\"246\" font-style=\"italic\">6</text><text x=\"380\" y=\"246\" text-anchor=\"start\">Sign off</text><text x=\"536\" y=\"246\">0</text><text x=\"592\" y=\"246\">1</text>",
+    "<text x=\"648\" y=\"214\" font-style=\"italic\">7</text><text x=\"656\" y=\"214\" text-anchor=\"start\">Pack</text><text x=\"812\" y=\"214\">50</text><text x=\"868\" y=\"214\">1</text>",
+    "</g>",
+    "</svg>",
+];
+
 /// The bytes of a text, with LF for each `|`.
 fn lines(alloc: Global, text: &str) -> Result<Vec<u8>, AllocError> {
     let mut bytes = Vec::new(alloc);
@@ -223,6 +297,17 @@ fn the_two_pictures_of_a_chain(rt: HostRuntime) -> Result<(), Fail> {
     assert_eq!(rt;
         u.as_str(),
         picture(rt.alloc(), "k.svg", &U_PICTURE)?.as_str()
+    );
+    Ok(())
+}
+
+#[test]
+fn the_picture_of_a_lamp_by_name(rt: HostRuntime) -> Result<(), Fail> {
+    let shelf = shelf_of(rt.alloc(), LAMP, LAMP_CERT, &[])?;
+    let got = drawn(rt.alloc(), shelf, "k.svg", None)?;
+    assert_eq!(rt;
+        got.as_str(),
+        picture(rt.alloc(), "k.svg", &LAMP_PICTURE)?.as_str()
     );
     Ok(())
 }

@@ -12,6 +12,7 @@ use Rattle.line_rules.specs.declared.products.EfficCert.{EfficCert}
 use Rattle.effic_search.specs.Outcomes.{IsCertified}
 use Rattle.effic_search.proofs.CertFacts.{stopped_certified}
 use Rattle.effic_command.specs.EfficFound.{page_of, IsFound}
+use Rattle.task_names.specs.declared.naming.Naming.{Naming}
 
 one : (a b : EfficCert) → Certified a ≡ Certified b → a ≡ b
 one a b e = cc
@@ -26,11 +27,12 @@ pub sayable : (r : Report) (a b : EfficCert) → r.kept ≡ Certified a → r.ke
 sayable r a b is kept ok = (let R : EfficCert → Type 0 = IsSayable in subst R (one a b (sym is ∙ kept)) ok)
 
 -- what is found has a certificate, which a text can say, and is the same with its page
-pub in_file : (kind : LineKind) (line : Line) (least most : ℕ) (plan : Plan) (name : List ℕ) (r : Report)
-    → IsFound kind line least most plan None (outcome_of r None)
+pub in_file : (naming : Naming) (kind : LineKind) (line : Line) (least most : ℕ) (plan : Plan) (name : List ℕ)
+    (r : Report)
+    → IsFound naming kind line least most plan None (outcome_of r None)
     → (cert : EfficCert) × (r.kept ≡ Certified cert) × IsSayable cert
-    × IsFound kind line least most plan (Some name) (outcome_of r (page_of (Some name) cert))
-in_file kind line least most plan name r (inl p) = (
+    × IsFound naming kind line least most plan (Some name) (outcome_of r (page_of (Some name) cert))
+in_file naming kind line least most plan name r (inl p) = (
   p.certificate,
   ap (λ (o : Outcome). o.kept) p.shown,
   p.solved.certified.sayable,
@@ -40,7 +42,7 @@ in_file kind line least most plan name r (inl p) = (
     shown = ap (paged (page_of (Some name) p.certificate)) p.shown;
   }),
 )
-in_file kind line least most plan name r (inr p) =
+in_file naming kind line least most plan name r (inr p) =
     let c : IsCertified kind line least most p.certificate =
     stopped_certified p.why kind line least most plan p.certificate p.stopped in (
       p.certificate,

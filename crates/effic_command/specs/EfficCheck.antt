@@ -1,9 +1,9 @@
 -- What `effic-check` comes to.
-use Rattle.std.specs.Prelude.{◌≡◌, ◌⊎◌, ℕ, List, None}
+use Rattle.std.specs.Prelude.{◌≡◌, ◌⊎◌, ℕ, List}
 use Rattle.line_instance.specs.Line.{Line}
 use Rattle.command_outcome.specs.Outcome.{Files, Outside, Outcome, told}
 use Rattle.command_outcome.specs.declared.status.Status.TheVariants as ends
-use Rattle.input_files.specs.Instance.{IsLineOf, IsNoLine}
+use Rattle.input_files.specs.Instance.{IsPlainLine, IsNoPlainLine}
 use Rattle.line_rules.specs.declared.products.EfficCert.{EfficCert}
 use Rattle.effic_check.specs.Verdict.{IsVerdict, IsAcceptedSo, IsRejectedSo, IsTrueOf}
 use Rattle.effic_check.specs.declared.verdict.EfficVerified.{EfficVerified}
@@ -16,7 +16,7 @@ pub record IsChecked (files : Files) (name proof : List ℕ) (steps : ℕ) (out 
   pub line : Line
   pub cert : EfficCert
   pub found : EfficVerified
-  pub said : IsLineOf files name None line
+  pub said : IsPlainLine files name line
   pub read : IsProductOf files proof cert
   pub verdict : IsVerdict line cert steps found
   pub accepted : IsAcceptedSo line cert steps found
@@ -27,14 +27,14 @@ pub record IsChecked (files : Files) (name proof : List ℕ) (steps : ℕ) (out 
 -- the first file says a line, and that of the certificate says none
 pub record IsUnproved (o : Outside) (name proof : List ℕ) (out : Outcome) : Type 0 where
   pub line : Line
-  pub said : IsLineOf o.files name None line
+  pub said : IsPlainLine o.files name line
   pub unread : IsNoProduct o proof out
 
 -- What `effic-check` comes to: a verdict, or why the files say no line, or no certificate. The second file is named
 -- only where the first one was read.
 abbrev pub IsEfficCheckOutcome : Outside → List ℕ → List ℕ → ℕ → Outcome → Type 0
 IsEfficCheckOutcome o name proof steps out =
-    IsChecked o.files name proof steps out ⊎ IsNoLine o name None out ⊎ IsUnproved o name proof out
+    IsChecked o.files name proof steps out ⊎ IsNoPlainLine o name out ⊎ IsUnproved o name proof out
 
 -- The promise of `effic-check` with status 0: the certificate of one file is accepted for the line that the other file
 -- says, and what it claims is true: a balance in the stations that are asked for reaches its upper bound, and none lies
@@ -43,7 +43,7 @@ pub record IsProvedProduct (files : Files) (name proof : List ℕ) (steps : ℕ)
   pub line : Line
   pub cert : EfficCert
   pub found : EfficVerified
-  pub said : IsLineOf files name None line
+  pub said : IsPlainLine files name line
   pub read : IsProductOf files proof cert
   pub yes : verdict_status found ≡ ends.Done
   pub accepted : IsAcceptedSo line cert steps found

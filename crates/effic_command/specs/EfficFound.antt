@@ -8,7 +8,7 @@ use Rattle.command_outcome.specs.Outcome.{Files, Outside, Page, Outcome, told}
 use Rattle.command_outcome.specs.declared.report.Kept.TheVariants.{Product}
 use Rattle.command_outcome.specs.declared.status.Status.{Status}
 use Rattle.command_outcome.specs.declared.status.Status.TheVariants as ends
-use Rattle.input_files.specs.Instance.{IsLineOf, IsNoLine}
+use Rattle.input_files.specs.Instance.{IsPlainLine, IsNoPlainLine, naming_of}
 use Rattle.command_outcome.specs.Bounds.{cut_short_text}
 use Rattle.effic_cert.specs.Product.{product_text}
 use Rattle.line_rules.specs.declared.products.EfficCert.{EfficCert}
@@ -16,6 +16,7 @@ use Rattle.effic_check.specs.Truth.{IsBetween}
 use Rattle.effic_search.specs.Outcomes.{IsSolved, StoppedBy}
 use Rattle.effic_search.specs.declared.searching.Ended.{Ended}
 use Rattle.effic_command.specs.EfficText.{optimal_text, stopped_text}
+use Rattle.task_names.specs.declared.naming.Naming.{Naming}
 
 -- the time of the stations of the balance that no task uses
 abbrev pub idle_of : Line → EfficCert → ℕ
@@ -32,25 +33,27 @@ certified_by name cert status text =
     record { status = status; text = text; page = page_of name cert; kept = Product cert }
 
 -- The least product: the certificate proves it, and what is printed are its product and its balance.
-pub record IsOptimal (kind : LineKind) (line : Line) (least most : ℕ) (name : Option (List ℕ)) (out : Outcome)
+pub record IsOptimal (naming : Naming) (kind : LineKind) (line : Line) (least most : ℕ) (name : Option (List ℕ))
+    (out : Outcome)
     : Type 0 where
   pub certificate : EfficCert
   pub solved : IsSolved kind line least most certificate
-  pub shown : out ≡ certified_by name certificate ends.Done (optimal_text certificate (idle_of line certificate))
+  pub shown : out ≡ certified_by name certificate ends.Done (optimal_text naming certificate (idle_of line certificate))
 
 -- The search stopped: the certificate says why, and what is printed are its bounds and its balance.
-pub record IsStopped (kind : LineKind) (line : Line) (least most : ℕ) (plan : Plan) (name : Option (List ℕ))
+pub record IsStopped (naming : Naming) (kind : LineKind) (line : Line) (least most : ℕ) (plan : Plan)
+    (name : Option (List ℕ))
     (out : Outcome) : Type 0 where
   pub why : Ended
   pub certificate : EfficCert
   pub stopped : StoppedBy why kind line least most plan certificate
   pub shown : out ≡ certified_by name certificate ends.Stopped
-      (stopped_text why certificate (idle_of line certificate))
+      (stopped_text naming why certificate (idle_of line certificate))
 
 -- what is found with a certificate
-abbrev pub IsFound : LineKind → Line → ℕ → ℕ → Plan → Option (List ℕ) → Outcome → Type 0
-IsFound kind line least most plan name out =
-    IsOptimal kind line least most name out ⊎ IsStopped kind line least most plan name out
+abbrev pub IsFound : Naming → LineKind → Line → ℕ → ℕ → Plan → Option (List ℕ) → Outcome → Type 0
+IsFound naming kind line least most plan name out =
+    IsOptimal naming kind line least most name out ⊎ IsStopped naming kind line least most plan name out
 
 -- Memory ended the search: the bounds that are printed are true.
 pub record IsCutShort (kind : LineKind) (line : Line) (least most : ℕ) (out : Outcome) : Type 0 where
@@ -63,12 +66,12 @@ pub record IsCutShort (kind : LineKind) (line : Line) (least most : ℕ) (out : 
 pub record IsAnswered (files : Files) (file : List ℕ) (kind : LineKind) (least most : ℕ) (plan : Plan)
     (name : Option (List ℕ)) (out : Outcome) : Type 0 where
   pub line : Line
-  pub said : IsLineOf files file None line
-  pub answer : IsFound kind line least most plan name out ⊎ IsCutShort kind line least most out
+  pub said : IsPlainLine files file line
+  pub answer : IsFound (naming_of files file) kind line least most plan name out ⊎ IsCutShort kind line least most out
 
 -- What `effic` comes to for `least` to `most` stations, with so many helpers, and so many units for each cycle that is
--- tried: an answer, or why the file says no line.
+-- tried: an answer, or why the file says no line of which no two tasks are apart.
 abbrev pub IsEfficOutcome : Outside → List ℕ → LineKind → ℕ → ℕ → ℕ → ℕ → Option (List ℕ) → Outcome → Type 0
 IsEfficOutcome o file kind least most helpers units name out =
     IsAnswered o.files file kind least most (record { helpers = helpers; units = units }) name out
-    ⊎ IsNoLine o file None out
+    ⊎ IsNoPlainLine o file out

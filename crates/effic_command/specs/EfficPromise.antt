@@ -10,7 +10,7 @@ use Rattle.command_outcome.specs.declared.report.Kept.{Kept}
 use Rattle.command_outcome.specs.declared.report.Kept.TheVariants.{Product}
 use Rattle.command_outcome.specs.declared.status.Status.{Status}
 use Rattle.command_outcome.specs.declared.status.Status.TheVariants as ends
-use Rattle.input_files.specs.Instance.{IsLineOf}
+use Rattle.input_files.specs.Instance.{IsPlainLine, naming_of}
 use Rattle.effic_cert.specs.Product.{product_text}
 use Rattle.line_rules.specs.declared.products.EfficCert.{EfficCert}
 use Rattle.effic_check.specs.Accepted.{IsAccepted}
@@ -19,26 +19,28 @@ use Rattle.effic_search.specs.Outcomes.{StoppedBy, AreEnough}
 use Rattle.effic_search.specs.declared.searching.Ended.{Ended}
 use Rattle.effic_command.specs.EfficText.{optimal_text, stopped_text}
 use Rattle.effic_command.specs.EfficFound.{idle_of}
+use Rattle.task_names.specs.declared.naming.Naming.{Naming}
 
 -- A search stopped for a reason, which is printed with the bounds, and for which the certificate stands.
-pub record IsToldWhy (kind : LineKind) (line : Line) (least most : ℕ) (plan : Plan) (cert : EfficCert)
+pub record IsToldWhy (naming : Naming) (kind : LineKind) (line : Line) (least most : ℕ) (plan : Plan) (cert : EfficCert)
     (text : List ℕ) : Type 0 where
   pub why : Ended
   pub stopped : StoppedBy why kind line least most plan cert
-  pub printed : text ≡ stopped_text why cert (idle_of line cert)
+  pub printed : text ≡ stopped_text naming why cert (idle_of line cert)
 
 -- The certificate is of the least product, which is printed with its balance.
-pub record IsToldLeast (kind : LineKind) (line : Line) (least most : ℕ) (cert : EfficCert) (text : List ℕ)
+pub record IsToldLeast (naming : Naming) (kind : LineKind) (line : Line) (least most : ℕ) (cert : EfficCert)
+    (text : List ℕ)
     : Type 0 where
   pub least_one : IsLeastProduct kind line least most cert.upper
-  pub printed : text ≡ optimal_text cert (idle_of line cert)
+  pub printed : text ≡ optimal_text naming cert (idle_of line cert)
 
 -- What is promised of bounds on the product in `least` to `most` stations: the certificate is of this question, a text
 -- can say it, and the check accepts it with its default steps; so its balance reaches its upper bound, and none lies
 -- below its lower one. The bounds differ only where the search stopped, by the units of a try or by the size of its
 -- book, and status 1 says so; where they are equal they are the least product. What is printed are the bounds and the
 -- balance of the certificate. The bounds are equal where the units are enough for the line.
-pub record HasBounds (kind : LineKind) (line : Line) (least most : ℕ) (plan : Plan) (cert : EfficCert)
+pub record HasBounds (naming : Naming) (kind : LineKind) (line : Line) (least most : ℕ) (plan : Plan) (cert : EfficCert)
     (status : Status) (text : List ℕ) : Type 0 where
   pub kind_is : cert.kind ≡ kind
   pub least_is : cert.least_m ≡ least
@@ -49,16 +51,17 @@ pub record HasBounds (kind : LineKind) (line : Line) (least most : ℕ) (plan : 
   pub few : units ≤ max_units
   pub true_bounds : IsBetween kind line least most cert.lower cert.upper
   pub order : cert.lower ≤ cert.upper
-  pub differ : cert.lower < cert.upper → (status ≡ ends.Stopped) × IsToldWhy kind line least most plan cert text
-  pub equal : cert.lower ≡ cert.upper → (status ≡ ends.Done) × IsToldLeast kind line least most cert text
+  pub differ : cert.lower < cert.upper → (status ≡ ends.Stopped) × IsToldWhy naming kind line least most plan cert text
+  pub equal : cert.lower ≡ cert.upper → (status ≡ ends.Done) × IsToldLeast naming kind line least most cert text
   pub complete : AreEnough kind line plan.units → cert.lower ≡ cert.upper
 
 -- what is printed is shown by a certificate, which is kept
-pub record IsShown (kind : LineKind) (line : Line) (least most : ℕ) (plan : Plan) (status : Status) (text : List ℕ)
+pub record IsShown (naming : Naming) (kind : LineKind) (line : Line) (least most : ℕ) (plan : Plan) (status : Status)
+    (text : List ℕ)
     (kept : Kept) : Type 0 where
   pub certificate : EfficCert
   pub keeps : kept ≡ Product certificate
-  pub shows : HasBounds kind line least most plan certificate status text
+  pub shows : HasBounds naming kind line least most plan certificate status text
 
 -- the file that the words name, where they name one, has the text of the certificate
 abbrev pub HasCertificate : Option (List ℕ) → Files → EfficCert → Type 0
@@ -70,6 +73,7 @@ HasCertificate (Some name) after certificate = after name ≡ Some (product_text
 pub record IsEfficPromised (files after : Files) (file : List ℕ) (kind : LineKind) (least most helpers units : ℕ)
     (name : Option (List ℕ)) (status : Status) (text : List ℕ) (kept : Kept) : Type 0 where
   pub line : Line
-  pub said : IsLineOf files file None line
-  pub shown : IsShown kind line least most (record { helpers = helpers; units = units }) status text kept
+  pub said : IsPlainLine files file line
+  pub shown : IsShown (naming_of files file) kind line least most (record { helpers = helpers; units = units }) status
+      text kept
   pub written : HasCertificate name after shown.certificate

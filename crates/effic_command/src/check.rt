@@ -36,9 +36,9 @@ pub fn effic_check_report<S: Shelf>(
         (MayStop (Rises (S.fetch_faults shelf.old) (S.fetch_faults shelf.new))) }
     ensures files { S.tells → (q : List ℕ) → S.file shelf.new q ≡ S.file shelf.old q }
 {
-    let inst = plain_line(alloc, file, shelf)?;
+    let plain = plain_line(alloc, file, shelf)?;
     let cert = spelled_in(alloc, &EfficText, proof, shelf)?;
-    let verified = verify_effic(&inst, &cert, steps);
+    let verified = verify_effic(&plain.inst, &cert, steps);
     let report = verdict_report(alloc, &cert, &verified)?;
     Ok(report)
 }

@@ -32,6 +32,7 @@ use station_report::idle_of;
 use std::alloc::{AllocError, Global};
 use std::sync::Wait;
 use std::thread::Threads;
+use task_names::Naming;
 
 /// What `effic` is asked for.
 #[derive(Clone, Copy)]
@@ -45,13 +46,18 @@ struct Wanted {
 }
 
 /// The report of the least product, with its certificate.
-fn optimal(alloc: Global, inst: &Instance, cert: EfficCert) -> Result<Report, AllocError>
+fn optimal(
+    alloc: Global,
+    inst: &Instance,
+    naming: &Naming,
+    cert: EfficCert,
+) -> Result<Report, AllocError>
     requires { IsSayable cert }
     ensures { IfOk result (λ r. outcome_of r None
-        ≡ certified_by None cert ends.Done (optimal_text cert (idle_of inst.now cert))) }
+        ≡ certified_by None cert ends.Done (optimal_text naming.now cert (idle_of inst.now cert))) }
 {
     let idle = idle_of(inst, cert.cycle, cert.balance.stations);
-    let text = optimal_text(alloc, &cert, idle)?;
+    let text = optimal_text(alloc, naming, &cert, idle)?;
     Ok(Report {
         status: Status::Done,
         text,
@@ -63,15 +69,16 @@ fn optimal(alloc: Global, inst: &Instance, cert: EfficCert) -> Result<Report, Al
 fn stopped(
     alloc: Global,
     inst: &Instance,
+    naming: &Naming,
     why: Ended,
     cert: EfficCert,
 ) -> Result<Report, AllocError>
     requires { IsSayable cert }
     ensures { IfOk result (λ r. outcome_of r None
-        ≡ certified_by None cert ends.Stopped (stopped_text why cert (idle_of inst.now cert))) }
+        ≡ certified_by None cert ends.Stopped (stopped_text naming.now why cert (idle_of inst.now cert))) }
 {
     let idle = idle_of(inst, cert.cycle, cert.balance.stations);
-    let text = stopped_text(alloc, why, &cert, idle)?;
+    let text = stopped_text(alloc, naming, why, &cert, idle)?;
     Ok(Report {
         status: Status::Stopped,
         text,
@@ -101,6 +108,7 @@ fn found<R: Threads + Wait + Sync, G: Gate>(
     rt: &R,
     alloc: Global,
     inst: &Instance,
+    naming: &Naming,
     wanted: Wanted,
     plan: &Plan,
     gate: &G,
@@ -111,18 +119,18 @@ fn found<R: Threads + Wait + Sync, G: Gate>(
     requires few { wanted.most ≤ 1024 }
     requires plan { IsPlan plan.now }
     ensures answer { MatchResult result
-        (λ r. IsFound wanted.kind inst.now wanted.least wanted.most plan.now None (outcome_of r None))
+        (λ r. IsFound naming.now wanted.kind inst.now wanted.least wanted.most plan.now None (outcome_of r None))
         (Stops (IsCutShort wanted.kind inst.now wanted.least wanted.most)) }
     ensures shown { IfOk result (λ r.
-        IsShown wanted.kind inst.now wanted.least wanted.most plan.now r.status r.text.items r.kept) }
+        IsShown naming.now wanted.kind inst.now wanted.least wanted.most plan.now r.status r.text.items r.kept) }
     ensures good { IfOk result (λ r. IsSolveStatus r.status) }
     ensures fault { MatchResult result (λ _. Unit {0}) (MayStop ⊥) }
 {
     let room = room_for_bounds(alloc)?;
     let Wanted { kind, least, most } = wanted;
     match least_product(rt, alloc, inst, kind, least, most, plan, gate) {
-        EfficOutcome::Solved(cert) => Ok(optimal(alloc, inst, cert)?),
-        EfficOutcome::Stopped { why, cert } => Ok(stopped(alloc, inst, why, cert)?),
+        EfficOutcome::Solved(cert) => Ok(optimal(alloc, inst, naming, cert)?),
+        EfficOutcome::Stopped { why, cert } => Ok(stopped(alloc, inst, naming, why, cert)?),
         EfficOutcome::Memory { lower, upper } => Err(cut_short(inst, wanted, room, lower, upper)?),
         EfficOutcome::NoMemory => Err(Stop::Memory),
     }
@@ -191,13 +199,13 @@ pub fn effic_report<R: Threads + Wait + Sync, S: Shelf, G: Gate>(
         IsEfficPromised (S.file shelf.old) (S.file shelf.new) file.now kind least_m most_m plan.now.helpers
         plan.now.units (option_map (λ a. a.now) name.entry) r.status r.text.items r.kept) }
 {
-    let inst = plain_line(alloc, file, shelf)?;
+    let plain = plain_line(alloc, file, shelf)?;
     let wanted = Wanted {
         kind,
         least: least_m,
         most: most_m,
     };
-    let report = found(rt, alloc, &inst, wanted, plan, gate)?;
+    let report = found(rt, alloc, &plain.inst, &plain.naming, wanted, plan, gate)?;
     match name {
         None => Ok(report),
         Some(name) => written(alloc, shelf, name, report),

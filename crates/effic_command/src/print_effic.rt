@@ -7,6 +7,7 @@ use effic_search::Ended;
 use line_rules::EfficCert;
 use station_report::balance_text;
 use std::alloc::{AllocError, Global};
+use task_names::Naming;
 
 /// The line of the stations of a balance and its cycle.
 fn push_place(text: &mut String, stations: u32, cycle: u64) -> Result<(), AllocError>
@@ -28,33 +29,35 @@ fn stopped_line(why: Ended) -> &'static str
 /// The report of the least product, with its stations and its cycle, and the balance.
 pub(crate) fn optimal_text(
     alloc: Global,
+    naming: &Naming,
     cert: &EfficCert,
     idle: u128,
 ) -> Result<Vec<u8>, AllocError>
     requires places { length cert.now.balance.place < 2 ^ 31 }
     requires stations { cert.now.balance.stations < 2 ^ 31 }
-    ensures { IfOk result (λ t. t.items ≡ optimal_text cert.now idle) }
+    ensures { IfOk result (λ t. t.items ≡ optimal_text naming.now cert.now idle) }
 {
     let product = cert.upper;
     let mut heading = String::new(alloc);
     write!(heading, "optimal product {product}\n")?;
     push_place(&mut heading, cert.balance.stations, cert.cycle)?;
-    balance_text(alloc, heading, &cert.balance, cert.kind, idle)
+    balance_text(alloc, heading, naming, &cert.balance, cert.kind, idle)
 }
 
 /// The report of a search that stopped: why, its bounds, the stations and the cycle of its balance, and the balance.
 pub(crate) fn stopped_text(
     alloc: Global,
+    naming: &Naming,
     why: Ended,
     cert: &EfficCert,
     idle: u128,
 ) -> Result<Vec<u8>, AllocError>
     requires places { length cert.now.balance.place < 2 ^ 31 }
     requires stations { cert.now.balance.stations < 2 ^ 31 }
-    ensures { IfOk result (λ t. t.items ≡ stopped_text why cert.now idle) }
+    ensures { IfOk result (λ t. t.items ≡ stopped_text naming.now why cert.now idle) }
 {
     let mut heading = String::from_str(alloc, stopped_line(why))?;
     push_bounds(&mut heading, cert.lower, cert.upper)?;
     push_place(&mut heading, cert.balance.stations, cert.cycle)?;
-    balance_text(alloc, heading, &cert.balance, cert.kind, idle)
+    balance_text(alloc, heading, naming, &cert.balance, cert.kind, idle)
 }

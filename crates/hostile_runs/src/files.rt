@@ -1,13 +1,14 @@
-//! The files of a case: an instance and pairs that are known by heart, and texts near those that are read.
+//! The files of a case: an instance, in three forms, and pairs that are known by heart, and texts near those that are
+//! read.
 use crate::draws::Draws;
 use crate::small::Small;
 use line_io::MemShelf;
 use std::alloc::{AllocError, Global};
 
 /// The names of the files that a run may name.
-pub const NAMES: [&str; 12] = [
+pub const NAMES: [&str; 14] = [
     "a.in2", "b.in2", "c.alb", "p.apart", "q.apart", "x.cert", "y.cert", "e.cert", "m.csv",
-    "s.txt", "o.out", "none",
+    "s.txt", "o.out", "none", "t.csv", "u.csv",
 ];
 
 /// The contents of the files, None for one that isn't there.
@@ -90,6 +91,10 @@ pub fn draw_files(alloc: Global, draws: &mut Draws, line: &Small) -> Result<Cont
     files.push(Some(Vec::from_slice(alloc, b"A\nB\nB\n")?))?;
     files.push(None)?;
     files.push(None)?;
+    let table = line.table_text(alloc)?;
+    let spoiled_table = spoiled(alloc, draws, table.as_bytes())?;
+    files.push(Some(table.into_bytes()))?;
+    files.push(Some(spoiled_table))?;
     Ok(files)
 }
 

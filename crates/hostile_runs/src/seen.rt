@@ -222,9 +222,10 @@ impl<'a> Seen<'a> {
         }
     }
 
-    /// What is asked of the known line, where the words name it.
+    /// What is asked of the known line, where the words name it, as a list of numbers or as a table.
     fn asked(&self) -> Option<Asked> {
-        if name(self.words, 1) != "a.in2" {
+        let file = name(self.words, 1);
+        if file != "a.in2" && file != "t.csv" {
             return None;
         }
         let has_apart = match value(self.words, "apart") {

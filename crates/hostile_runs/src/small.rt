@@ -110,6 +110,32 @@ impl Small {
         Ok(text)
     }
 
+    /// Its table, with the names t1, t2 and so on, and semicolons between the fields.
+    pub fn table_text(&self, alloc: Global) -> Result<String, AllocError> {
+        let mut text = String::from_str(alloc, "task;time;after\n")?;
+        for (task, time) in self.times.iter().take(self.tasks).enumerate() {
+            let number = task + 1;
+            let time = *time;
+            write!(text, "t{number};{time};\"")?;
+            self.push_before(&mut text, task)?;
+            text.push_str("\"\n")?;
+        }
+        Ok(text)
+    }
+
+    /// Appends the names of the tasks before a task, with semicolons between.
+    fn push_before(&self, text: &mut String, task: usize) -> Result<(), AllocError> {
+        let mut mark = "";
+        for first in 0..MOST {
+            if has(at(&self.before, task), first) {
+                let number = first + 1;
+                write!(text, "{mark}t{number}")?;
+                mark = "; ";
+            }
+        }
+        Ok(())
+    }
+
     /// The text of its pairs that are apart.
     pub fn apart_text(&self, alloc: Global) -> Result<String, AllocError> {
         let mut text = String::new(alloc);

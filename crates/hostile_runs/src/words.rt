@@ -3,7 +3,7 @@ use crate::draws::Draws;
 use std::alloc::{AllocError, Global};
 
 /// Each command with its names and its keys.
-const COMMANDS: [(&str, &[&str], &[&str]); 16] = [
+const COMMANDS: [(&str, &[&str], &[&str]); 17] = [
     ("balance", &["in2"], &["cycle", "line", "apart"]),
     (
         "solve",
@@ -18,7 +18,7 @@ const COMMANDS: [(&str, &[&str], &[&str]); 16] = [
         &["stations", "line", "helpers", "units", "cert"],
     ),
     ("check", &["in2", "cert"], &["steps", "apart"]),
-    ("convert", &["any", "out"], &["to", "cycle"]),
+    ("convert", &["any", "out"], &["to", "cycle", "apart"]),
     ("combine", &["csv", "out"], &[]),
     ("utility", &["csv", "cert", "txt"], &["interval", "length"]),
     ("timeline", &["csv", "cert", "txt"], &["interval", "length"]),
@@ -29,6 +29,7 @@ const COMMANDS: [(&str, &[&str], &[&str]); 16] = [
     ),
     ("try", &[], &["seed", "tasks", "cycle", "line", "units"]),
     ("draw", &["in2", "cert", "out"], &["apart"]),
+    ("plan", &["in2", "cert"], &["apart"]),
     (
         "effic",
         &["in2"],
@@ -55,9 +56,9 @@ const KEYS: [&str; 14] = [
 ];
 
 /// Names of files that are there, or may be.
-const NAMES: [&str; 14] = [
-    "a.in2", "a.in2", "b.in2", "c.alb", "p.apart", "q.apart", "x.cert", "y.cert", "e.cert",
-    "m.csv", "s.txt", "o.out", "none", "x\ny",
+const NAMES: [&str; 16] = [
+    "a.in2", "a.in2", "b.in2", "t.csv", "u.csv", "c.alb", "p.apart", "q.apart", "x.cert", "y.cert",
+    "e.cert", "m.csv", "s.txt", "o.out", "none", "x\ny",
 ];
 
 /// A name for a use.
@@ -66,12 +67,14 @@ fn name_for(draws: &mut Draws, what: &str) -> &'static str {
         return draws.one_of(&NAMES);
     }
     match what {
-        "in2" => draws.one_of(&["a.in2", "a.in2", "a.in2", "b.in2", "c.alb"]),
+        "in2" => draws.one_of(&[
+            "a.in2", "a.in2", "t.csv", "t.csv", "b.in2", "u.csv", "c.alb",
+        ]),
         "cert" => draws.one_of(&["x.cert", "y.cert", "e.cert"]),
         "csv" => "m.csv",
         "txt" => "s.txt",
         "out" => draws.one_of(&["o.out", "x.cert", "none"]),
-        _ => draws.one_of(&["a.in2", "c.alb", "x.cert", "e.cert"]),
+        _ => draws.one_of(&["a.in2", "t.csv", "c.alb", "x.cert", "e.cert"]),
     }
 }
 
@@ -91,7 +94,7 @@ fn push_value(word: &mut String, draws: &mut Draws, key: &str) -> Result<(), All
     }
     let text = match key {
         "line" => draws.one_of(&["straight", "straight", "u"]),
-        "to" => draws.one_of(&["in2", "alb", "cert"]),
+        "to" => draws.one_of(&["in2", "alb", "csv", "cert"]),
         "cert" | "out" => draws.one_of(&["x.cert", "y.cert", "e.cert", "a.in2"]),
         "apart" => draws.one_of(&["p.apart", "p.apart", "q.apart", "none"]),
         "warm" => draws.one_of(&["x.cert", "y.cert", "e.cert"]),

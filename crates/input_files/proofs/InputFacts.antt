@@ -1,5 +1,6 @@
 -- What is read in the bytes of a file, and files that are the same.
-use Rattle.std.proofs.Common.{◌≡◌, ◌≢◌, ◌∙◌, ℕ, ◌≤◌, List, length, Option, Some, None, Bor, sym, subst, ap, ◌↔◌, inl}
+use Rattle.std.proofs.Common.{◌≡◌, ◌≢◌, ◌∙◌, ℕ, ◌≤◌, List, length, Option, Some, None, Bor, sym, subst, ap, ◌↔◌, ◌⊎◌}
+use Rattle.std.proofs.Common.{inl}
 use Rattle.std.proofs.Common.{inr}
 use Rattle.line_instance.specs.Line.{Line, Apart, tasks}
 use Rattle.line_instance.specs.Walks.{IsGiven}
@@ -32,16 +33,15 @@ reads_as limit (Some bytes) P Q f r = (r.0, f bytes r.1)
 
 -- the file says the pairs that part the line
 pub parted_by : (limit : ℕ) (files : Files) (apart : Option (Bor (List ℕ))) (a : Bor (List ℕ)) (whole line : Line)
-    (n : ℕ) (pairs given : List Prec)
-    → apart ≡ Some a → Reads limit (files a.now) (λ bytes. IsApartFile n bytes pairs) → n ≡ tasks whole → given ≡ pairs
+    (n : ℕ) (pairs : List Prec)
+    → apart ≡ Some a → Reads limit (files a.now) (λ bytes. IsApartFile n bytes pairs) → n ≡ tasks whole
     → line.times ≡ whole.times → line.before ≡ whole.before → line.order ≡ whole.order
-    → ((i j : ℕ) → Apart line i j ↔ IsGiven given i j)
+    → ((i j : ℕ) → Apart line i j ↔ (Apart whole i j ⊎ IsGiven pairs i j))
     → Reads limit (files a.now) (Parts whole line)
-parted_by limit files apart a whole line n pairs given e s k g t b o parted =
+parted_by limit files apart a whole line n pairs e s k t b o parted =
     let N : (bytes : List ℕ) → ℕ → Type 0 = λ bytes x. IsApartFile x bytes pairs in
-    let G : List Prec → Type 0 = λ ps. (i j : ℕ) → Apart line i j ↔ IsGiven ps i j in
     reads_as limit (files a.now) (λ bytes. IsApartFile n bytes pairs) (Parts whole line)
-    (λ bytes x. (pairs, subst (N bytes) k x, record { times = t; before = b; order = o; apart = subst G g parted })) s
+    (λ bytes x. (pairs, subst (N bytes) k x, record { times = t; before = b; order = o; apart = parted })) s
 
 -- the file's bytes have a fault, and no certificate says them
 pub faulty_certificate : (file : Option (List ℕ)) (limit : ℕ) (fault : CertFault) (text : List ℕ)

@@ -1,2 +1,4 @@
 pub mod InputFacts
 pub mod PlainFacts
+pub mod PairFacts
+pub mod SheetFacts

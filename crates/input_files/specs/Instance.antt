@@ -13,10 +13,20 @@ use Rattle.alb_reader.specs.Sections.{begins_heading}
 use Rattle.alb_reader.specs.Instance.{IsAlbReading, IsAlbFault}
 use Rattle.alb_reader.specs.Texts.{fault_text as alb_fault_text}
 use Rattle.alb_reader.specs.declared.fault.AlbFault.{AlbFault}
+use Rattle.task_names.specs.Naming.{naming_by}
+use Rattle.task_names.specs.declared.naming.Naming.{Naming}
+use Rattle.task_names.specs.declared.naming.Naming.TheVariants.{Numbered}
+use Rattle.task_table.specs.Marks.{table_mark}
+use Rattle.task_table.specs.Records.{behind, table_records}
+use Rattle.task_table.specs.Lists.{first_pair, members_in}
+use Rattle.task_table.specs.Faults.{IsFirstFault}
+use Rattle.task_table.specs.Tables.{IsSheetOf, names_of}
+use Rattle.task_table.specs.declared.fault.TableFault.{TableFault}
 use Rattle.command_outcome.specs.Outcome.{Files, Outside, Outcome, told}
 use Rattle.command_outcome.specs.Print.{printed}
 use Rattle.command_outcome.specs.declared.status.Status.TheVariants as ends
 use Rattle.input_files.specs.InputFile.{Reads, IsUntaken, fault_line, max_file}
+use Rattle.input_files.specs.TableTexts.{apart_text, table_fault_text}
 
 -- whether the first line with a content begins, in its content, with `<`
 abbrev pub begins_alb : Lines → Bool
@@ -29,18 +39,35 @@ is_alb bytes = begins_alb (contents_from 1 bytes)
 
 -- they are an ALB text that says the line, and the cycle time or none
 abbrev pub IsAlbSaid : List ℕ → Line → Option ℕ → Type 0
-IsAlbSaid bytes line given = (is_alb bytes ≡ true) × IsAlbReading bytes line given
+IsAlbSaid bytes line given = (table_mark bytes ≡ None) × (is_alb bytes ≡ true) × IsAlbReading bytes line given
 
 -- they are an IN2 text that says the line; it has no cycle time
 abbrev pub IsIn2Said : List ℕ → Line → Option ℕ → Type 0
-IsIn2Said bytes line given = (is_alb bytes ≡ false) × IsReading bytes line × (given ≡ None)
+IsIn2Said bytes line given =
+    (table_mark bytes ≡ None) × (is_alb bytes ≡ false) × IsReading bytes line × (given ≡ None)
 
--- the bytes say the line, and a cycle time or none
+-- they are a table that says the line; it has no cycle time
+pub record IsTableSaid (bytes : List ℕ) (line : Line) (given : Option ℕ) : Type 0 where
+  pub mark : ℕ
+  pub marked : table_mark bytes ≡ Some mark
+  pub sheet : IsSheetOf (table_records mark bytes) line
+  pub none : given ≡ None
+
+-- the bytes say the line, and a cycle time or none: they are a table, and else an ALB text, and else an IN2 text
 abbrev pub Says : List ℕ → Line → Option ℕ → Type 0
-Says bytes line given = IsAlbSaid bytes line given ⊎ IsIn2Said bytes line given
+Says bytes line given = IsAlbSaid bytes line given ⊎ IsIn2Said bytes line given ⊎ IsTableSaid bytes line given
+
+-- what the tasks of a file are called: by the names of a table, and else by their numbers
+abbrev pub naming_in : Option (List ℕ) → Naming
+naming_in None = Numbered
+naming_in (Some bytes) = naming_by (names_of bytes)
+
+abbrev pub naming_of : Files → List ℕ → Naming
+naming_of files name = naming_in (files name)
 
 -- they are an ALB text without a reading, and the outcome names its first fault
 pub record IsAlbFaulty (name bytes : List ℕ) (out : Outcome) : Type 0 where
+  pub no_table : table_mark bytes ≡ None
   pub alb : is_alb bytes ≡ true
   pub fault : AlbFault
   pub first : IsAlbFault bytes fault
@@ -49,15 +76,25 @@ pub record IsAlbFaulty (name bytes : List ℕ) (out : Outcome) : Type 0 where
 
 -- they are an IN2 text without a reading, and the outcome names its first fault
 pub record IsIn2Faulty (name bytes : List ℕ) (out : Outcome) : Type 0 where
+  pub no_table : table_mark bytes ≡ None
   pub in2 : is_alb bytes ≡ false
   pub fault : In2Fault
   pub first : IsIn2Fault bytes fault
   pub unread : (line : Line) → IsReading bytes line → ⊥
   pub shown : out ≡ told ends.Input (fault_line name (fault_text fault))
 
+-- they are a table that says no line, and the outcome names its first fault
+pub record IsTableFaulty (name bytes : List ℕ) (out : Outcome) : Type 0 where
+  pub mark : ℕ
+  pub marked : table_mark bytes ≡ Some mark
+  pub fault : TableFault
+  pub first : IsFirstFault (table_records mark bytes) fault
+  pub unread : (line : Line) → IsSheetOf (table_records mark bytes) line → ⊥
+  pub shown : out ≡ told ends.Input (fault_line name (table_fault_text fault))
+
 -- the bytes have no reading, and the outcome names the first fault
 abbrev pub IsFaulty : List ℕ → List ℕ → Outcome → Type 0
-IsFaulty name bytes out = IsAlbFaulty name bytes out ⊎ IsIn2Faulty name bytes out
+IsFaulty name bytes out = IsAlbFaulty name bytes out ⊎ IsIn2Faulty name bytes out ⊎ IsTableFaulty name bytes out
 
 -- the file says the line, and a cycle time or none
 abbrev pub IsInstance : Files → List ℕ → Line → Option ℕ → Type 0
@@ -95,12 +132,13 @@ pub record IsUntimed (files : Files) (name : List ℕ) (word : Option ℕ) (out 
 abbrev pub IsUntimedOrNone : Outside → List ℕ → Option ℕ → Outcome → Type 0
 IsUntimedOrNone o name word out = IsNoInstance o name out ⊎ IsUntimed o.files name word out
 
--- the line as the pairs leave it: two tasks are apart exactly where a pair of them is given, and all else stays
+-- the line as the pairs leave it: two tasks are apart exactly where they were or a pair of them is given, and all else
+-- stays
 pub record IsParted (pairs : List Prec) (whole line : Line) : Type 0 where
   pub times : line.times ≡ whole.times
   pub before : line.before ≡ whole.before
   pub order : line.order ≡ whole.order
-  pub apart : (i j : ℕ) → Apart line i j ↔ IsGiven pairs i j
+  pub apart : (i j : ℕ) → Apart line i j ↔ (Apart whole i j ⊎ IsGiven pairs i j)
 
 -- the bytes say pairs of tasks, which part the line
 abbrev pub Parts : Line → Line → List ℕ → Type 0
@@ -155,6 +193,13 @@ pub record IsLineOf (files : Files) (name : List ℕ) (apart : Option (List ℕ)
   pub instance : IsInstance files name whole given
   pub parted : IsPartedBy files apart whole line
 
+-- the same, with the cycle time that the first file has, where it has one
+pub record IsLineGiven (files : Files) (name : List ℕ) (apart : Option (List ℕ)) (line : Line)
+    (given : Option ℕ) : Type 0 where
+  pub whole : Line
+  pub instance : IsInstance files name whole given
+  pub parted : IsPartedBy files apart whole line
+
 -- the first file says a line, and the file with the tasks that are apart says none
 pub record IsLineUnparted (o : Outside) (name : List ℕ) (apart : Option (List ℕ)) (out : Outcome) : Type 0 where
   pub whole : Line
@@ -165,3 +210,27 @@ pub record IsLineUnparted (o : Outside) (name : List ℕ) (apart : Option (List 
 -- the files say no line; a later file is named only where the earlier one was read
 abbrev pub IsNoLine : Outside → List ℕ → Option (List ℕ) → Outcome → Type 0
 IsNoLine o name apart out = IsNoInstance o name out ⊎ IsLineUnparted o name apart out
+
+-- the first file says the line, and no two of its tasks are apart
+pub record IsPlainLine (files : Files) (name : List ℕ) (line : Line) : Type 0 where
+  pub said : IsLineOf files name None line
+  pub none : (i j : ℕ) → Apart line i j → ⊥
+
+-- the bytes are a table that lists tasks that are apart, first in the record of this number
+pub record IsPairedAt (bytes : List ℕ) (number : ℕ) : Type 0 where
+  pub mark : ℕ
+  pub marked : table_mark bytes ≡ Some mark
+  pub first : first_pair (members_in (behind (table_records mark bytes))) ≡ Some number
+
+-- the bytes say a line, and list tasks that are apart, which the outcome refuses
+pub record IsPaired (name bytes : List ℕ) (out : Outcome) : Type 0 where
+  pub line : Line
+  pub given : Option ℕ
+  pub said : Says bytes line given
+  pub number : ℕ
+  pub paired : IsPairedAt bytes number
+  pub shown : out ≡ told ends.Input (fault_line name (apart_text number))
+
+-- the file says no line, or one of which some tasks are apart
+abbrev pub IsNoPlainLine : Outside → List ℕ → Outcome → Type 0
+IsNoPlainLine o name out = IsNoInstance o name out ⊎ Reads max_file (o.files name) (λ bytes. IsPaired name bytes out)

@@ -8,7 +8,7 @@ ghost use Rattle.input_files.specs.InputFile.{Reads, max_file};
 ghost use Rattle.input_files.specs.Instance.{IsNoPairs};
 
 use crate::fetch_file::fetch;
-use crate::instance::in2_fault_line;
+use crate::sheets::in2_fault_line;
 use command_outcome::{Status, Stop, refuse};
 use in2_reader::{ApartRead, read_apart};
 use line_instance::Prec;

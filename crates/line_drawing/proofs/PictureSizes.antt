@@ -48,7 +48,7 @@ one_most : (b : Bool) → as_one b ≤ 1
 one_most true = omega arith
 one_most false = omega arith
 
-filter_most : (f : ℕ → Bool) (xs : List ℕ) → length (filter f xs) ≤ length xs
+pub filter_most : (f : ℕ → Bool) (xs : List ℕ) → length (filter f xs) ≤ length xs
 filter_most f [] = omega arith
 filter_most f (x ∷ xs) = omega (arith, filter_first (f x) x (filter f xs), one_most (f x), filter_most f xs)
 
@@ -70,7 +70,7 @@ one_of Front k m = omega (arith, tests k m (nat_eq m k) (nat_le (suc k) m) (nat_
 one_of Back k m = omega (arith, tests k m (nat_eq m k) (nat_le (suc k) m) (nat_le k m) refl refl refl)
 
 -- whether a task stands at station k or a later one
-abbrev from : List Seatplace → ℕ → ℕ → Bool
+abbrev pub from : List Seatplace → ℕ → ℕ → Bool
 from places k i = nat_le k (seat places i).station
 
 -- the tasks of a station on either side, and those of later stations
@@ -89,11 +89,11 @@ split_most places k (x ∷ xs) = omega (
   one_of (seat places x).side k (seat places x).station,
 )
 
-small_from : (ss : List Segment) → ((p : ℕ) (s : Segment) → slice_get ss p ≡ Some s → IsSmall s) → AreSmall ss
+pub small_from : (ss : List Segment) → ((p : ℕ) (s : Segment) → slice_get ss p ≡ Some s → IsSmall s) → AreSmall ss
 small_from [] h = tt
 small_from (s ∷ ss) h = (h 0 s refl, small_from ss (λ p r e. h (suc p) r e))
 
-room_most : (n : ℕ) → n ≤ 40 → room_for n ≤ 40
+pub room_most : (n : ℕ) → n ≤ 40 → room_for n ≤ 40
 room_most n h = by (nat_eq n 0)
   where
     by : (b : Bool) → cond b 0 (max 12 n) ≤ 40
@@ -103,11 +103,11 @@ room_most n h = by (nat_eq n 0)
 module _ (kind : LineKind) (line : Line) (c : ℕ) (b : Assignment) (ok : IsLine line) (ranked : IsRanked line)
     (cycle : IsCycle c) (n : ℕ) (range : IsPlacing kind n b) (right : IsRight kind line c b) where
   -- the segments of n stations, from station k on
-  abbrev listed : ℕ → ℕ → ℕ
+  abbrev pub listed : ℕ → ℕ → ℕ
   listed k zero = 0
   listed k (suc n) = length (segments_at line c b.place k) + listed (suc k) n
 
-  length-segments : (k : ℕ) → length (segments_at line c b.place k)
+  pub length-segments : (k : ℕ) → length (segments_at line c b.place k)
       ≡ length (tasks_at line b.place Front k) + length (tasks_at line b.place Back k)
   length-segments k =
       let fs : List ℕ = tasks_at line b.place Front k in
@@ -119,11 +119,11 @@ module _ (kind : LineKind) (line : Line) (c : ℕ) (b : Assignment) (ok : IsLine
         length-backs line c bs,
       )
 
-  listed_most : (n k : ℕ) → listed k n ≤ length (filter (from b.place k) line.order)
+  pub listed_most : (n k : ℕ) → listed k n ≤ length (filter (from b.place k) line.order)
   listed_most zero k = omega arith
   listed_most (suc n) k = omega (arith, listed_most n (suc k), length-segments k, split_most b.place k line.order)
 
-  few : (k : ℕ) → length (segments_at line c b.place k) ≤ 1024
+  pub few : (k : ℕ) → length (segments_at line c b.place k) ≤ 1024
   few k = omega (
     arith,
     length-segments k,
@@ -133,7 +133,7 @@ module _ (kind : LineKind) (line : Line) (c : ℕ) (b : Assignment) (ok : IsLine
     ok.small,
   )
 
-  small : (k : ℕ) → AreSmall (segments_at line c b.place k)
+  pub small : (k : ℕ) → AreSmall (segments_at line c b.place k)
   small k =
       let h : AreTrue line c b.place k (segments_at line c b.place k) =
       true_at kind line c b ok ranked cycle.some right k in
@@ -145,7 +145,7 @@ module _ (kind : LineKind) (line : Line) (c : ℕ) (b : Assignment) (ok : IsLine
         within = h.within p s e;
       })
 
-  sum_small : (p : ℕ → Bool) → sum_where p line.times < 1000000000000000000
+  pub sum_small : (p : ℕ → Bool) → sum_where p line.times < 1000000000000000000
   sum_small p = omega (arith, weigh-most (λ t. t) p 200000000000000 line.times (λ i l. ok.times i), ok.small)
 
   notes_most : longest_note line c b.place b.stations ≤ 40
@@ -166,7 +166,7 @@ module _ (kind : LineKind) (line : Line) (c : ℕ) (b : Assignment) (ok : IsLine
     notes = room_most (longest_note line c b.place b.stations) notes_most;
   }
 
-  longest_small : longest_of line b.place b.stations < 1000000000000000000
+  pub longest_small : longest_of line b.place b.stations < 1000000000000000000
   longest_small = omega (
     arith,
     greatest_le b.stations (λ k. sum_at line b.place (k + 1)) 999999999999999999

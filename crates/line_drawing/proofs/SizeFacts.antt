@@ -31,25 +31,25 @@ use Rattle.line_drawing.specs.Drawing.{totals_parts, totals_text}
 use Rattle.line_drawing.proofs.NoteFacts.{count_short}
 
 -- the lengths of parts together
-abbrev lengths : List (List ℕ) → ℕ
+abbrev pub lengths : List (List ℕ) → ℕ
 lengths [] = 0
 lengths (p ∷ ps) = length p + lengths ps
 
-length-text_of : (ps : List (List ℕ)) → length (text_of ps) ≡ lengths ps
+pub length-text_of : (ps : List (List ℕ)) → length (text_of ps) ≡ lengths ps
 length-text_of [] = refl
 length-text_of (p ∷ ps) = length-append p (text_of ps) ∙ ap (λ n. length p + n) (length-text_of ps)
 
-len3 : (a b c : List ℕ) → length (a ++ b ++ c) ≡ length a + length b + length c
+pub len3 : (a b c : List ℕ) → length (a ++ b ++ c) ≡ length a + length b + length c
 len3 a b c = omega (arith, length-append (a ++ b) c, length-append a b)
 
-len5 : (a b c d e : List ℕ) → length (a ++ b ++ c ++ d ++ e) ≡ length a + length b + length c + length d + length e
+pub len5 : (a b c d e : List ℕ) → length (a ++ b ++ c ++ d ++ e) ≡ length a + length b + length c + length d + length e
 len5 a b c d e = omega (arith, len3 (a ++ b ++ c) d e, len3 a b c)
 
-len6 : (a b c d e f : List ℕ) → length (a ++ b ++ c ++ d ++ e ++ f)
+pub len6 : (a b c d e f : List ℕ) → length (a ++ b ++ c ++ d ++ e ++ f)
     ≡ length a + length b + length c + length d + length e + length f
 len6 a b c d e f = omega (arith, len3 (a ++ b ++ c ++ d) e f, len3 (a ++ b) c d, length-append a b)
 
-len8 : (a b c d e f g h : List ℕ) → length (a ++ b ++ c ++ d ++ e ++ f ++ g ++ h)
+pub len8 : (a b c d e f g h : List ℕ) → length (a ++ b ++ c ++ d ++ e ++ f ++ g ++ h)
     ≡ length a + length b + length c + length d + length e + length f + length g + length h
 len8 a b c d e f g h = omega (arith, len3 (a ++ b ++ c ++ d ++ e ++ f) g h, len6 a b c d e f)
 
@@ -57,31 +57,31 @@ len8 a b c d e f g h = omega (arith, len3 (a ++ b ++ c ++ d ++ e ++ f) g h, len6
 digits_below : (k n m : ℕ) → 0 < k → n < m → m ≡ 10 ^ k → m ≤ 10 ^ 64 → length (decimal n) ≤ k
 digits_below k n m some h is small = length-decimal-le_wide k n some (omega (arith, h, is)) (omega (arith, h, small))
 
-one_digit : (n : ℕ) → n < 10 → length (decimal n) ≤ 1
+pub one_digit : (n : ℕ) → n < 10 → length (decimal n) ≤ 1
 one_digit n h = digits_below 1 n 10 (omega arith) h refl (omega arith)
 
-three_digits : (n : ℕ) → n < 1000 → length (decimal n) ≤ 3
+pub three_digits : (n : ℕ) → n < 1000 → length (decimal n) ≤ 3
 three_digits n h = digits_below 3 n 1000 (omega arith) h refl (omega arith)
 
-four_digits : (n : ℕ) → n < 10000 → length (decimal n) ≤ 4
+pub four_digits : (n : ℕ) → n < 10000 → length (decimal n) ≤ 4
 four_digits n h = digits_below 4 n 10000 (omega arith) h refl (omega arith)
 
-five_digits : (n : ℕ) → n < 100000 → length (decimal n) ≤ 5
+pub five_digits : (n : ℕ) → n < 100000 → length (decimal n) ≤ 5
 five_digits n h = digits_below 5 n 100000 (omega arith) h refl (omega arith)
 
-fifteen_digits : (n : ℕ) → n < 1000000000000000 → length (decimal n) ≤ 15
+pub fifteen_digits : (n : ℕ) → n < 1000000000000000 → length (decimal n) ≤ 15
 fifteen_digits n h = digits_below 15 n 1000000000000000 (omega arith) h refl (omega arith)
 
-eighteen_digits : (n : ℕ) → n < 1000000000000000000 → length (decimal n) ≤ 18
+pub eighteen_digits : (n : ℕ) → n < 1000000000000000000 → length (decimal n) ≤ 18
 eighteen_digits n h = digits_below 18 n 1000000000000000000 (omega arith) h refl (omega arith)
 
-nineteen_digits : (n : ℕ) → n < 10000000000000000000 → length (decimal n) ≤ 19
+pub nineteen_digits : (n : ℕ) → n < 10000000000000000000 → length (decimal n) ≤ 19
 nineteen_digits n h = digits_below 19 n 10000000000000000000 (omega arith) h refl (omega arith)
 
-digits_22 : (n : ℕ) → n < 10000000000000000000000 → length (decimal n) ≤ 22
+pub digits_22 : (n : ℕ) → n < 10000000000000000000000 → length (decimal n) ≤ 22
 digits_22 n h = digits_below 22 n 10000000000000000000000 (omega arith) h refl (omega arith)
 
-cond_most : (b : Bool) (x y : List ℕ) (m : ℕ) → length x ≤ m → length y ≤ m → length (cond b x y) ≤ m
+pub cond_most : (b : Bool) (x y : List ℕ) (m : ℕ) → length x ≤ m → length y ≤ m → length (cond b x y) ≤ m
 cond_most true x y m h k = h
 cond_most false x y m h k = k
 
@@ -91,7 +91,7 @@ word_most n = cond_most (nat_eq n 1) (codes " station, cycle time ") (codes " st
     (omega arith)
 
 -- the name of the kind, twice, and the legend
-kind_most : (k : LineKind) → length (kind_word k) + length (kind_word k) + length (legend_text k) ≤ 81
+pub kind_most : (k : LineKind) → length (kind_word k) + length (kind_word k) + length (legend_text k) ≤ 81
 kind_most Straight = omega arith
 kind_most U = omega arith
 
@@ -99,7 +99,7 @@ ask_most : (a : Ask) → length (ask_word a) ≤ 12
 ask_most (Stations cycle) = omega arith
 ask_most (Cycle stations) = omega arith
 
-bounds_most : (a : Ask) (lower upper : ℕ) → lower ≤ 1000000000000000000 → upper ≤ 1000000000000000000
+pub bounds_most : (a : Ask) (lower upper : ℕ) → lower ≤ 1000000000000000000 → upper ≤ 1000000000000000000
     → length (bounds_text a lower upper) ≤ 69
 bounds_most a lower upper l u =
     let wide : List ℕ = codes "at least " ++ decimal lower ++ codes ", at most " ++ decimal upper in
@@ -119,13 +119,13 @@ bounds_most a lower upper l u =
 
 module _ (f : Figures) (ok : AreFigures f) (total : f.total < 1000000000000000000)
     (longest : f.longest < 1000000000000000000) (percent : efficiency_of f ≤ 1000) where
-  wide : length (decimal (width_of f)) ≤ 4
+  pub wide : length (decimal (width_of f)) ≤ 4
   wide = four_digits (width_of f) (omega (arith, ok.column, ok.notes))
 
   cycle_most : length (decimal f.cycle) ≤ 19
   cycle_most = nineteen_digits f.cycle (omega (arith, ok.limit))
 
-  head_most : length (head_text f) ≤ length (kind_word f.kind) + length (decimal f.stations) + 41
+  pub head_most : length (head_text f) ≤ length (kind_word f.kind) + length (decimal f.stations) + 41
   head_most =
       let rest : List ℕ = station_word f.stations ++ decimal f.cycle in
       omega (
@@ -144,7 +144,7 @@ module _ (f : Figures) (ok : AreFigures f) (total : f.total < 100000000000000000
   tenths_most : length (decimal (efficiency_of f % 10)) ≤ 1
   tenths_most = one_digit (efficiency_of f % 10) (mod-lt (efficiency_of f) (omega arith))
 
-  totals_most : length (totals_text f) ≤ 159 + length (decimal (idle_of f))
+  pub totals_most : length (totals_text f) ≤ 159 + length (decimal (idle_of f))
   totals_most = omega (
     arith,
     length-text_of (totals_parts f),
@@ -154,11 +154,11 @@ module _ (f : Figures) (ok : AreFigures f) (total : f.total < 100000000000000000
     eighteen_digits f.longest longest,
   )
 
-  notes_most : length (notes_text f) ≤ 42
+  pub notes_most : length (notes_text f) ≤ 42
   notes_most = cond_most (nat_eq f.notes 0) [] (text_of (notes_parts f)) 42 (omega arith)
       (omega (arith, length-text_of (notes_parts f), four_digits (936 + 2 * f.column) (omega (arith, ok.column))))
 
-  headings_most : length (headings_text f) ≤ 181
+  pub headings_most : length (headings_text f) ≤ 181
   headings_most = omega (
     arith,
     length-text_of (headings_parts f),
@@ -199,7 +199,7 @@ module _ (f : Figures) (ok : AreFigures f) (total : f.total < 100000000000000000
   idle_small : f.stations ≤ 9 → length (decimal (idle_of f)) ≤ 19
   idle_small h = nineteen_digits (idle_of f) (omega (arith, mul-le-mul_right f.cycle h, ok.limit))
 
-  idle_most : length (decimal (idle_of f)) ≤ 22
+  pub idle_most : length (decimal (idle_of f)) ≤ 22
   idle_most = digits_22 (idle_of f) (omega (arith, mul-le-mul_right f.cycle ok.few, ok.limit))
 
   around_small : (a : Ask) (lower upper : ℕ) → lower ≤ 1000000000000000000 → upper ≤ 1000000000000000000
@@ -246,7 +246,7 @@ abbrev pub AreSmall : List Segment → Type 0
 AreSmall [] = Unit {0}
 AreSmall (s ∷ ss) = IsSmall s × AreSmall ss
 
-number_most : (s : Segment) → IsSmall s → length (decimal (number_of s)) ≤ 4
+pub number_most : (s : Segment) → IsSmall s → length (decimal (number_of s)) ≤ 4
 number_most s h = four_digits (number_of s) (omega (arith, h.task))
 
 path_most : (s : Segment) → IsSmall s → length (path_text s) ≤ 84
@@ -271,7 +271,8 @@ named_most : (s : Segment) → IsSmall s → length (number_text s) ≤ 5
 named_most s h = omega (arith, length-append (codes " ") (decimal (number_of s)), number_most s h)
 
 -- a text that stands on one of two sides
-one_side : (side : Side) (x : List ℕ) → length (cond (is_side side Front) x []) + length (cond (is_side side Back) x [])
+pub one_side : (side : Side) (x : List ℕ)
+    → length (cond (is_side side Front) x []) + length (cond (is_side side Back) x [])
     ≡ length x
 one_side Front x = omega arith
 one_side Back x = omega arith
@@ -288,7 +289,7 @@ noted_or true s rest h = omega (
 )
 noted_or false s rest h = omega (arith, label_most s h)
 
-each_first : (p : Segment → Bool) (t : Segment → List ℕ) (s : Segment) (ss : List Segment)
+pub each_first : (p : Segment → Bool) (t : Segment → List ℕ) (s : Segment) (ss : List Segment)
     → length (each_where p t (s ∷ ss)) ≡ length (cond (p s) (t s) []) + length (each_where p t ss)
 each_first p t s ss = length-append (cond (p s) (t s) []) (each_where p t ss)
 
@@ -314,7 +315,7 @@ spread_most (s ∷ ss) h = omega (
   noted_or (is_narrow s) s (filter is_narrow ss) h.0,
 )
 
-joined_most : (ns : List ℕ) → length (joined ns) ≤ length (blanked ns)
+pub joined_most : (ns : List ℕ) → length (joined ns) ≤ length (blanked ns)
 joined_most [] = omega arith
 joined_most (n ∷ ns) = omega (
   arith,
@@ -324,7 +325,7 @@ joined_most (n ∷ ns) = omega (
 )
 
 -- a note is no longer than the numbers that it stands for, and at most 40 bytes
-note_cases : (b : Bool) (ns : List ℕ) → nat_lt 40 (length (joined ns)) ≡ b → length ns < 2 ^ 64
+pub note_cases : (b : Bool) (ns : List ℕ) → nat_lt 40 (length (joined ns)) ≡ b → length ns < 2 ^ 64
     → (length (cond b (decimal (length ns) ++ codes " tasks") (joined ns)) ≤ length (blanked ns))
     × (length (cond b (decimal (length ns) ++ codes " tasks") (joined ns)) ≤ 40)
 note_cases true ns e h =
@@ -391,7 +392,7 @@ module _ (f : Figures) (ok : AreFigures f) (k sum : ℕ) (one : k ≤ 1024) (bel
         (each_where (λ s. not (is_narrow s)) label_text ss) (codes "</g>\n"),
   )
 
-  columns_most : length (columns_text f k sum) ≤ 106
+  pub columns_most : length (columns_text f k sum) ≤ 106
   columns_most = omega (
     arith,
     length-text_of (columns_parts f k sum),
@@ -402,7 +403,7 @@ module _ (f : Figures) (ok : AreFigures f) (k sum : ℕ) (one : k ≤ 1024) (bel
     left,
   )
 
-  slowest_most : length (slowest_text f sum) ≤ 30
+  pub slowest_most : length (slowest_text f sum) ≤ 30
   slowest_most = cond_most (nat_eq sum f.longest) (text_of (slowest_parts f)) [] 30
       (omega (arith, length-text_of (slowest_parts f), four_digits (860 + 2 * f.column) (omega (arith, ok.column))))
       (omega arith)

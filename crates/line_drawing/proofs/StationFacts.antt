@@ -31,11 +31,11 @@ use Rattle.line_drawing.proofs.SegmentFacts.{front_length, front_meet, front_wit
 use Rattle.line_drawing.proofs.SegmentFacts.{length-backs, length-fronts}
 
 -- an item of a list of which all pass, passes
-all_at : {X : Type 0} (P : X → Type 0) (xs : List X) (p : ℕ) (x : X) → All P xs → slice_get xs p ≡ Some x → P x
+pub all_at : {X : Type 0} (P : X → Type 0) (xs : List X) (p : ℕ) (x : X) → All P xs → slice_get xs p ≡ Some x → P x
 all_at P xs p x h e = subst P (get_or_from_slice_get xs p x x e) (h p x (slice_get_within xs p x e))
 
 -- two items of a list whose pairs pass, the earlier one first
-pair_at : {X : Type 0} (R : X → X → Type 0) (xs : List X) (p q : ℕ) (x y : X) → AllPairs R xs → slice_get xs p ≡ Some x
+pub pair_at : {X : Type 0} (R : X → X → Type 0) (xs : List X) (p q : ℕ) (x y : X) → AllPairs R xs → slice_get xs p ≡ Some x
     → slice_get xs q ≡ Some y → p < q → R x y
 pair_at R xs p q x y h e f l =
     let r : R (get_or xs p x) (get_or xs q x) = h p q x l (slice_get_within xs q y f) in
@@ -43,7 +43,7 @@ pair_at R xs p q x y h e f l =
     (get_or_from_slice_get xs q y x f) r)
 
 -- of different items each has one place
-place_is_one : {X : Type 0} (xs : List X) (p q : ℕ) (x : X) → AllPairs (λ x y. x ≢ y) xs → slice_get xs p ≡ Some x
+pub place_is_one : {X : Type 0} (xs : List X) (p q : ℕ) (x : X) → AllPairs (λ x y. x ≢ y) xs → slice_get xs p ≡ Some x
     → slice_get xs q ≡ Some x → p ≡ q
 place_is_one xs p q x h e f = elim (cases_lt p q) [
   | inl l ↦ absurd (pair_at (λ x y. x ≢ y) xs p q x x h e f l refl)
@@ -54,7 +54,7 @@ place_is_one xs p q x h e f = elim (cases_lt p q) [
 ]
 
 -- an item that passes is among those that do
-filter_has : (f : ℕ → Bool) (xs : List ℕ) (k x : ℕ) → slice_get xs k ≡ Some x → f x ≡ true
+pub filter_has : (f : ℕ → Bool) (xs : List ℕ) (k x : ℕ) → slice_get xs k ≡ Some x → f x ≡ true
     → (p : ℕ) × (slice_get (filter f xs) p ≡ Some x)
 filter_has f [] k x e t = absurd (cc)
 filter_has f (y ∷ ys) zero x e t = by (f y) refl
@@ -72,35 +72,35 @@ filter_has f (y ∷ ys) (suc k) x e t = by (f y) (filter_has f ys k x e t)
     by true h = (suc h.0, h.1)
     by false h = h
 
-side_is : (a b : Side) → is_side a b ≡ true → a ≡ b
+pub side_is : (a b : Side) → is_side a b ≡ true → a ≡ b
 side_is Front Front e = refl
 side_is Front Back e = absurd (false≢true e)
 side_is Back Front e = absurd (false≢true e)
 side_is Back Back e = refl
 
-is_same_side : (a b : Side) → a ≡ b → is_side a b ≡ true
+pub is_same_side : (a b : Side) → a ≡ b → is_side a b ≡ true
 is_same_side Front Front e = refl
 is_same_side Front Back e = absurd (cc)
 is_same_side Back Front e = absurd (cc)
 is_same_side Back Back e = refl
 
-sides_differ : Front ≡ Back → ⊥
+pub sides_differ : Front ≡ Back → ⊥
 sides_differ e = absurd (cc)
 
 -- what is at a station on a side
-stands_at : (side : Side) (k : ℕ) (p : Seatplace) → stands side k p ≡ true → (p.side ≡ side) × (p.station ≡ k)
+pub stands_at : (side : Side) (k : ℕ) (p : Seatplace) → stands side k p ≡ true → (p.side ≡ side) × (p.station ≡ k)
 stands_at side k p e =
     let q : (is_side p.side side ≡ true) × (nat_eq p.station k ≡ true) =
     and_parts (is_side p.side side) (nat_eq p.station k) e in
     (side_is p.side side q.0, grind (arith, nat_tests, q.1))
 
-at_stands : (side : Side) (k : ℕ) (p : Seatplace) → p.side ≡ side → p.station ≡ k → stands side k p ≡ true
+pub at_stands : (side : Side) (k : ℕ) (p : Seatplace) → p.side ≡ side → p.station ≡ k → stands side k p ≡ true
 at_stands side k p e f = and_from (is_side p.side side) (nat_eq p.station k) (is_same_side p.side side e)
     (grind (arith, nat_tests, f))
 
 -- a later task's place keeps the precedence, so the earlier one isn't at the back of its station where the later one
 -- is in front
-never_turned : (kind : LineKind) (p q : Seatplace) → IsSide kind p.side → Keeps kind p q → p.side ≡ Back
+pub never_turned : (kind : LineKind) (p q : Seatplace) → IsSide kind p.side → Keeps kind p q → p.side ≡ Back
     → q.side ≡ Front → ⊥
 never_turned Straight p q side keeps back front = sides_differ (sym side ∙ back)
 never_turned U p q side keeps back front = sides_differ (sym (keeps.front front).0 ∙ back)

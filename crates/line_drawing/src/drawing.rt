@@ -39,7 +39,7 @@ fn station_word(stations: u32) -> &'static str
 }
 
 /// The kind of line, the stations and the cycle time.
-fn push_head(text: &mut String, figures: &Figures) -> Result<(), AllocError>
+pub fn push_head(text: &mut String, figures: &Figures) -> Result<(), AllocError>
     ensures { OnOk result (string_bytes text.new ≡ string_bytes text.old ++ head_text figures.now) }
 {
     let Figures {
@@ -109,7 +109,7 @@ fn ask_word(ask: Ask) -> &'static str
 }
 
 /// The bounds of the certificate.
-fn push_bounds(text: &mut String, ask: Ask, lower: u64, upper: u64) -> Result<(), AllocError>
+pub fn push_bounds(text: &mut String, ask: Ask, lower: u64, upper: u64) -> Result<(), AllocError>
     ensures { OnOk result (string_bytes text.new ≡ string_bytes text.old ++ bounds_text ask lower upper) }
 {
     text.push_str(ask_word(ask))?;
@@ -121,7 +121,7 @@ fn push_bounds(text: &mut String, ask: Ask, lower: u64, upper: u64) -> Result<()
 }
 
 /// The line of the totals.
-fn push_totals(text: &mut String, figures: &Figures) -> Result<(), AllocError>
+pub fn push_totals(text: &mut String, figures: &Figures) -> Result<(), AllocError>
     requires { AreFigures figures.now }
     ensures { OnOk result (string_bytes text.new ≡ string_bytes text.old ++ totals_text figures.now) }
 {
@@ -138,7 +138,7 @@ fn push_totals(text: &mut String, figures: &Figures) -> Result<(), AllocError>
 }
 
 /// What the colours mean, on a U-line.
-fn push_legend(text: &mut String, kind: LineKind) -> Result<(), AllocError>
+pub fn push_legend(text: &mut String, kind: LineKind) -> Result<(), AllocError>
     ensures { OnOk result (string_bytes text.new ≡ string_bytes text.old ++ legend_text kind) }
 {
     match kind {
@@ -150,7 +150,7 @@ fn push_legend(text: &mut String, kind: LineKind) -> Result<(), AllocError>
 }
 
 /// The heading of the notes, where there are some.
-fn push_notes(text: &mut String, figures: &Figures) -> Result<(), AllocError>
+pub fn push_notes(text: &mut String, figures: &Figures) -> Result<(), AllocError>
     requires { AreFigures figures.now }
     ensures { OnOk result (string_bytes text.new ≡ string_bytes text.old ++ notes_text figures.now) }
 {
@@ -163,7 +163,7 @@ fn push_notes(text: &mut String, figures: &Figures) -> Result<(), AllocError>
 }
 
 /// The headings of the columns.
-fn push_headings(text: &mut String, figures: &Figures) -> Result<(), AllocError>
+pub fn push_headings(text: &mut String, figures: &Figures) -> Result<(), AllocError>
     requires { AreFigures figures.now }
     ensures { OnOk result (string_bytes text.new ≡ string_bytes text.old ++ headings_text figures.now) }
 {
@@ -279,7 +279,7 @@ fn picture(
 }
 
 /// The cycle time of a balance that shows an upper bound.
-fn upper_cycle(ask: Ask, upper: u64) -> u64
+pub fn upper_cycle(ask: Ask, upper: u64) -> u64
     ensures { result ≡ upper_cycle ask upper }
 {
     match ask {

@@ -31,7 +31,7 @@ pub struct Figures {
 
 impl Figures {
     /// The width of the picture.
-    pub(crate) fn width(&self) -> u64
+    pub fn width(&self) -> u64
         requires { AreFigures self.now }
         ensures { result ≡ width_of self.now }
     {
@@ -84,7 +84,7 @@ fn time_at(inst: &Instance, places: &Places, station: u32, task: u32) -> u64
 }
 
 /// The sum of the times at a station.
-pub(crate) fn sum_at(inst: &Instance, places: &Places, station: u32) -> u64
+pub fn sum_at(inst: &Instance, places: &Places, station: u32) -> u64
     requires { length places.now ≡ tasks inst.now }
     ensures { result ≡ sum_at inst.now places.now station }
 {
@@ -96,7 +96,7 @@ pub(crate) fn sum_at(inst: &Instance, places: &Places, station: u32) -> u64
 }
 
 /// The greatest sum of so many stations.
-fn longest_of(inst: &Instance, places: &Places, stations: u32) -> u64
+pub fn longest_of(inst: &Instance, places: &Places, stations: u32) -> u64
     requires { length places.now ≡ tasks inst.now }
     ensures { result ≡ longest_of inst.now places.now stations }
 {
@@ -131,7 +131,7 @@ fn longest_note(
 }
 
 /// The room for notes.
-fn room_for(longest: u64) -> u64
+pub fn room_for(longest: u64) -> u64
     requires { longest ≤ 40 }
     ensures room { result ≡ room_for longest }
     ensures limit { result ≤ 40 }
@@ -140,7 +140,7 @@ fn room_for(longest: u64) -> u64
 }
 
 /// How wide a column of times is.
-fn column_of(cycle: u64) -> u64
+pub fn column_of(cycle: u64) -> u64
     ensures width { result ≡ column_of cycle }
     ensures limit { result ≤ 172 }
 {

@@ -12,5 +12,11 @@ mod notes;
 mod rows;
 mod segments;
 
-pub use drawing::draw_text;
-pub use segments::Segment;
+pub use drawing::{
+    draw_text, push_bounds, push_head, push_headings, push_legend, push_notes, push_totals,
+    upper_cycle,
+};
+pub use figures::{Figures, column_of, longest_of, room_for, sum_at};
+pub use notes::{digits, is_narrow, shortened};
+pub use rows::{push_columns, push_margin, push_slowest, push_times};
+pub use segments::{Segment, segments_at};

@@ -10,7 +10,7 @@ use std::alloc::{AllocError, Global};
 const NOTE: usize = 40;
 
 /// How many digits a number has.
-pub(crate) fn digits(n: u64) -> u64
+pub fn digits(n: u64) -> u64
     ensures digits { result ≡ length (decimal n) }
     ensures few { result ≤ 20 }
 {
@@ -19,7 +19,7 @@ pub(crate) fn digits(n: u64) -> u64
 }
 
 /// Whether a task's number doesn't fit into its segment.
-pub(crate) fn is_narrow(segment: &Segment) -> bool
+pub fn is_narrow(segment: &Segment) -> bool
     ensures { result ≡ is_narrow segment.now }
 {
     segment.width < 8 * digits(u64::from(segment.task) + 1) + 2
@@ -70,7 +70,7 @@ fn counted(alloc: Global, count: usize) -> Result<String, AllocError>
 }
 
 /// Numbers with one blank between, or their count where that is too long.
-fn shortened(alloc: Global, numbers: &[u64]) -> Result<String, AllocError>
+pub fn shortened(alloc: Global, numbers: &[u64]) -> Result<String, AllocError>
     ensures text { IfOk result (λ t. string_bytes t ≡ shortened numbers.now) }
     ensures short { IfOk result (λ t. length (string_bytes t) ≤ 40) }
 {

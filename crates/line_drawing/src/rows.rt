@@ -67,7 +67,7 @@ fn push_place(text: &mut String, station: u32) -> Result<(), AllocError>
 }
 
 /// The sum of a station's times, and what is left of the cycle.
-fn push_times(text: &mut String, figures: &Figures, sum: u64) -> Result<(), AllocError>
+pub fn push_times(text: &mut String, figures: &Figures, sum: u64) -> Result<(), AllocError>
     requires { sum ≤ figures.now.cycle }
     ensures { OnOk result (string_bytes text.new ≡ string_bytes text.old ++ times_text figures.now sum) }
 {
@@ -173,7 +173,7 @@ fn push_labels(text: &mut String, segments: &[Segment]) -> Result<(), AllocError
 }
 
 /// The station, the sum of its times, and what is left of the cycle.
-fn push_columns(
+pub fn push_columns(
     text: &mut String,
     figures: &Figures,
     station: u32,
@@ -194,7 +194,7 @@ fn push_columns(
 }
 
 /// The word for a station with the greatest sum.
-fn push_slowest(text: &mut String, figures: &Figures, sum: u64) -> Result<(), AllocError>
+pub fn push_slowest(text: &mut String, figures: &Figures, sum: u64) -> Result<(), AllocError>
     requires { AreFigures figures.now }
     ensures { OnOk result (string_bytes text.new ≡ string_bytes text.old ++ slowest_text figures.now sum) }
 {
@@ -207,7 +207,7 @@ fn push_slowest(text: &mut String, figures: &Figures, sum: u64) -> Result<(), Al
 }
 
 /// The note, where there is one.
-fn push_margin(text: &mut String, figures: &Figures, note: &str) -> Result<(), AllocError>
+pub fn push_margin(text: &mut String, figures: &Figures, note: &str) -> Result<(), AllocError>
     requires { AreFigures figures.now }
     ensures { OnOk result (string_bytes text.new ≡ string_bytes text.old ++ margin_text figures.now note.now) }
 {

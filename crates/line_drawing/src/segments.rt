@@ -147,7 +147,7 @@ fn push_backs(
 }
 
 /// The segments of a station: those of its tasks in front, and then those at the back.
-pub(crate) fn segments_at(
+pub fn segments_at(
     alloc: Global,
     inst: &Instance,
     cycle: u64,

@@ -6,7 +6,8 @@ use Rattle.line_words.specs.Words.{Text}
 use Rattle.line_words.specs.Jobs.{IsJob}
 use Rattle.line_words.specs.declared.job.Job.{Job}
 use Rattle.line_words.specs.declared.job.Job.TheVariants.{Help, Version, Balance, Solve, Cycle, Check, Convert, Combine}
-use Rattle.line_words.specs.declared.job.Job.TheVariants.{Utility, Timeline, TimelineDraw, Try, Draw, Effic, EfficCheck}
+use Rattle.line_words.specs.declared.job.Job.TheVariants.{Utility, Timeline, TimelineDraw, Try, Draw, Plan as Planning}
+use Rattle.line_words.specs.declared.job.Job.TheVariants.{Effic, EfficCheck}
 use Rattle.line_words.specs.declared.job.Job.TheVariants.{Sequence}
 use Rattle.line_words.specs.declared.job.Job.TheVariants.{SequenceCheck}
 use Rattle.command_outcome.specs.Outcome.{Files}
@@ -21,6 +22,7 @@ use Rattle.solve_command.specs.Promise.{IsPromised}
 use Rattle.cycle_command.specs.CyclePromise.{IsCyclePromised}
 use Rattle.try_command.specs.Tried.{IsTried}
 use Rattle.draw_command.specs.Draw.{IsTrulyDrawn}
+use Rattle.draw_command.specs.Plan.{IsTrulyPlanned}
 use Rattle.effic_command.specs.EfficPromise.{IsEfficPromised}
 use Rattle.effic_command.specs.EfficCheck.{IsProvedProduct}
 use Rattle.mix_commands.specs.TimelineDraw.{IsTimelineTrulyDrawn}
@@ -37,12 +39,12 @@ IsAnswered status = (status ≡ ends.Done) ⊎ (status ≡ ends.Stopped)
 -- kept, and written where the words name a file, its bounds are the printed ones and true, and they differ only where
 -- the units were spent on loads that it lists; of `cycle` the same of the least cycle time in so many stations. Of
 -- `try`: the same of the line of a seed. Of `check`: where a certificate is accepted, whoever made it, what it claims
--- is true. Of `draw`: the picture that is written is true of the line; of `timeline-draw`: it is true of the timeline
--- that the files say. Of `effic`: the same as of `cycle` of the least product of stations and cycle, which may also
--- stop by the size of its book; of `effic-check` the same as of `check`.
--- Of `sequence`: for the mix and the balance that the files say, the sequence that is printed is one of the demands, a
--- certificate is kept and written as of `solve`, no sequence of the demands has less utility work than its lower bound,
--- and the bounds differ only where the units were spent; of `sequence-check` the same as of `check`.
+-- is true. Of `draw`: the picture that is written is true of the line; of `plan`: so is the plan that is printed; of
+-- `timeline-draw`: the picture is true of the timeline that the files say. Of `effic`: the same as of `cycle` of the
+-- least product of stations and cycle, which may also stop by the size of its book; of `effic-check` the same as of
+-- `check`. Of `sequence`: for the mix and the balance that the files say, the sequence that is printed is one of the
+-- demands, a certificate is kept and written as of `solve`, no sequence of the demands has less utility work than its
+-- lower bound, and the bounds differ only where the units were spent; of `sequence-check` the same as of `check`.
 abbrev pub PromisesOf : Files → Files → Job → Status → List ℕ → Kept → Type 0
 PromisesOf files after Help status text kept = Unit {0}
 PromisesOf files after Version status text kept = Unit {0}
@@ -53,7 +55,7 @@ PromisesOf files after (Cycle file stations line helpers units cert) status text
     IsCyclePromised files after file (kind_of line) stations helpers units cert status text kept
 PromisesOf files after (Check file cert steps apart) status text kept = status ≡ ends.Done
     → IsProvedTrue files file cert apart steps
-PromisesOf files after (Convert file name to cycle) status text kept = Unit {0}
+PromisesOf files after (Convert file name to cycle apart) status text kept = Unit {0}
 PromisesOf files after (Combine mix name) status text kept = Unit {0}
 PromisesOf files after (Utility mix cert seq interval length) status text kept = Unit {0}
 PromisesOf files after (Timeline mix cert seq interval length) status text kept = Unit {0}
@@ -62,6 +64,7 @@ PromisesOf files after (TimelineDraw mix cert seq name interval length) status t
 PromisesOf files after (Try seed tasks cycle line units) status text kept =
     IsTried seed tasks cycle (kind_of line) units status text kept
 PromisesOf files after (Draw file cert name apart) status text kept = IsTrulyDrawn files after file cert name apart
+PromisesOf files after (Planning file cert apart) status text kept = IsTrulyPlanned files file cert apart text
 PromisesOf files after (Effic file least most line helpers units cert) status text kept =
     IsEfficPromised files after file (kind_of line) least most helpers units cert status text kept
 PromisesOf files after (EfficCheck file cert steps) status text kept = status ≡ ends.Done

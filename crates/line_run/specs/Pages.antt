@@ -56,15 +56,17 @@ mix_text =
 -- what the other commands give
 abbrev pub other_text : List ℕ
 other_text =
-    codes "convert FILE OUT to=in2|alb|cert cycle=C    a line or a proof in that form\n"
-    ++ codes "    line convert jackson.in2 jackson.alb to=alb cycle=10\n"
+    codes "convert FILE OUT to=in2|alb|csv|cert cycle=C apart=PAIRS    in that form\n"
+    ++ codes "    line convert jackson.in2 jackson.csv to=csv\n"
     ++ codes "try seed=S tasks=1..1024    a generated instance, solved and checked\n"
     ++ codes "    cycle=C (200)  line=straight|u (straight)  units=1..3000000 (1000000)\n"
     ++ codes "    line try seed=1 tasks=50\n"
     ++ codes "draw FILE CERT OUT apart=PAIRS    the balance of a proof as a picture, in SVG\n"
     ++ codes "    line draw jackson.in2 jackson.cert jackson.svg\n"
+    ++ codes "plan FILE CERT apart=PAIRS    the same as a sheet: when each task is done\n"
+    ++ codes "    line plan lamp.csv lamp.cert\n"
     ++ codes "--help, --version    this page, and the version\n\n"
-    ++ codes "FILE has an instance as IN2 or ALB, PAIRS lines i,j of tasks that may share no\n"
+    ++ codes "FILE has a line as CSV, IN2 or ALB, PAIRS lines i,j of tasks that may share no\n"
     ++ codes "station and then -1,-1. Times are whole numbers of one time unit.\n"
 
 -- the page with every command

@@ -6,7 +6,8 @@ use Rattle.line_words.specs.Words.{Text}
 use Rattle.line_words.specs.Jobs.{IsJob}
 use Rattle.line_words.specs.declared.job.Job.{Job}
 use Rattle.line_words.specs.declared.job.Job.TheVariants.{Help, Version, Balance, Solve, Cycle, Check, Convert, Combine}
-use Rattle.line_words.specs.declared.job.Job.TheVariants.{Utility, Timeline, TimelineDraw, Try, Draw, Effic, EfficCheck}
+use Rattle.line_words.specs.declared.job.Job.TheVariants.{Utility, Timeline, TimelineDraw, Try, Draw, Plan as Planning}
+use Rattle.line_words.specs.declared.job.Job.TheVariants.{Effic, EfficCheck}
 use Rattle.line_words.specs.declared.job.Job.TheVariants.{Sequence}
 use Rattle.line_words.specs.declared.job.Job.TheVariants.{SequenceCheck}
 use Rattle.line_rules.specs.declared.types.LineKind.{LineKind}
@@ -31,6 +32,7 @@ use Rattle.mix_commands.specs.Timeline.{IsTimelineOutcome}
 use Rattle.mix_commands.specs.TimelineDraw.{IsTimelineDrawOutcome}
 use Rattle.try_command.specs.Tried.{IsTried}
 use Rattle.draw_command.specs.Draw.{IsDrawOutcome}
+use Rattle.draw_command.specs.Plan.{IsPlanOutcome}
 use Rattle.effic_command.specs.EfficFound.{IsEfficOutcome}
 use Rattle.effic_command.specs.EfficCheck.{IsEfficCheckOutcome, IsProvedProduct}
 use Rattle.sequence_command.specs.Ordered.{IsSequenceOutcome}
@@ -57,7 +59,7 @@ IsJobOutcome o (Solve file cycle line helpers units cert apart warm seek) out =
 IsJobOutcome o (Cycle file stations line helpers units cert) out =
     IsCycleOutcome o file (kind_of line) stations helpers units cert out
 IsJobOutcome o (Check file cert steps apart) out = IsCheckOutcome o file cert apart steps out
-IsJobOutcome o (Convert file name to cycle) out = IsConvertOutcome o file name to cycle out
+IsJobOutcome o (Convert file name to cycle apart) out = IsConvertOutcome o file name to apart cycle out
 IsJobOutcome o (Combine mix name) out = IsCombineOutcome o mix name out
 IsJobOutcome o (Utility mix cert seq interval length) out = IsUtilityOutcome o mix cert seq interval length out
 IsJobOutcome o (Timeline mix cert seq interval length) out = IsTimelineOutcome o mix cert seq interval length out
@@ -65,6 +67,7 @@ IsJobOutcome o (TimelineDraw mix cert seq name interval length) out =
     IsTimelineDrawOutcome o mix cert seq name interval length out
 IsJobOutcome o (Try seed tasks cycle line units) out = IsTryOutcome seed tasks cycle (kind_of line) units out
 IsJobOutcome o (Draw file cert name apart) out = IsDrawOutcome o file cert name apart out
+IsJobOutcome o (Planning file cert apart) out = IsPlanOutcome o file cert apart out
 IsJobOutcome o (Effic file least most line helpers units cert) out =
     IsEfficOutcome o file (kind_of line) least most helpers units cert out
 IsJobOutcome o (EfficCheck file cert steps) out = IsEfficCheckOutcome o file cert steps out
@@ -95,13 +98,14 @@ IsPage (Balance file cycle line apart) out = ⊥
 IsPage (Solve file cycle line helpers units cert apart warm seek) out = ⊥
 IsPage (Cycle file stations line helpers units cert) out = ⊥
 IsPage (Check file cert steps apart) out = ⊥
-IsPage (Convert file name to cycle) out = ⊥
+IsPage (Convert file name to cycle apart) out = ⊥
 IsPage (Combine mix name) out = ⊥
 IsPage (Utility mix cert seq interval length) out = ⊥
 IsPage (Timeline mix cert seq interval length) out = ⊥
 IsPage (TimelineDraw mix cert seq name interval length) out = ⊥
 IsPage (Try seed tasks cycle line units) out = IsTryOutcome seed tasks cycle (kind_of line) units out
 IsPage (Draw file cert name apart) out = ⊥
+IsPage (Planning file cert apart) out = ⊥
 IsPage (Effic file least most line helpers units cert) out = ⊥
 IsPage (EfficCheck file cert steps) out = ⊥
 IsPage (Sequence mix cert interval length units name) out = ⊥
@@ -115,13 +119,14 @@ ReadsFiles (Balance file cycle line apart) = Unit {0}
 ReadsFiles (Solve file cycle line helpers units cert apart warm seek) = Unit {0}
 ReadsFiles (Cycle file stations line helpers units cert) = Unit {0}
 ReadsFiles (Check file cert steps apart) = Unit {0}
-ReadsFiles (Convert file name to cycle) = Unit {0}
+ReadsFiles (Convert file name to cycle apart) = Unit {0}
 ReadsFiles (Combine mix name) = Unit {0}
 ReadsFiles (Utility mix cert seq interval length) = Unit {0}
 ReadsFiles (Timeline mix cert seq interval length) = Unit {0}
 ReadsFiles (TimelineDraw mix cert seq name interval length) = Unit {0}
 ReadsFiles (Try seed tasks cycle line units) = ⊥
 ReadsFiles (Draw file cert name apart) = Unit {0}
+ReadsFiles (Planning file cert apart) = Unit {0}
 ReadsFiles (Effic file least most line helpers units cert) = Unit {0}
 ReadsFiles (EfficCheck file cert steps) = Unit {0}
 ReadsFiles (Sequence mix cert interval length units name) = Unit {0}
@@ -158,13 +163,14 @@ out_of (Balance file cycle line apart) = None
 out_of (Solve file cycle line helpers units cert apart warm seek) = cert
 out_of (Cycle file stations line helpers units cert) = cert
 out_of (Check file cert steps apart) = None
-out_of (Convert file name to cycle) = Some name
+out_of (Convert file name to cycle apart) = Some name
 out_of (Combine mix name) = Some name
 out_of (Utility mix cert seq interval length) = None
 out_of (Timeline mix cert seq interval length) = None
 out_of (TimelineDraw mix cert seq name interval length) = Some name
 out_of (Try seed tasks cycle line units) = None
 out_of (Draw file cert name apart) = Some name
+out_of (Planning file cert apart) = None
 out_of (Effic file least most line helpers units cert) = cert
 out_of (EfficCheck file cert steps) = None
 out_of (Sequence mix cert interval length units name) = name
@@ -197,13 +203,14 @@ IsJobTrue files (Balance file cycle line apart) = Unit {0}
 IsJobTrue files (Solve file cycle line helpers units cert apart warm seek) = Unit {0}
 IsJobTrue files (Cycle file stations line helpers units cert) = Unit {0}
 IsJobTrue files (Check file cert steps apart) = IsProvedTrue files file cert apart steps
-IsJobTrue files (Convert file name to cycle) = Unit {0}
+IsJobTrue files (Convert file name to cycle apart) = Unit {0}
 IsJobTrue files (Combine mix name) = Unit {0}
 IsJobTrue files (Utility mix cert seq interval length) = Unit {0}
 IsJobTrue files (Timeline mix cert seq interval length) = Unit {0}
 IsJobTrue files (TimelineDraw mix cert seq name interval length) = Unit {0}
 IsJobTrue files (Try seed tasks cycle line units) = Unit {0}
 IsJobTrue files (Draw file cert name apart) = Unit {0}
+IsJobTrue files (Planning file cert apart) = Unit {0}
 IsJobTrue files (Effic file least most line helpers units cert) = Unit {0}
 IsJobTrue files (EfficCheck file cert steps) = IsProvedProduct files file cert steps
 IsJobTrue files (Sequence mix cert interval length units name) = Unit {0}

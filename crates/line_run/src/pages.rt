@@ -50,16 +50,18 @@ sequence-check MIX CERT SEQ interval=I length=L    whether that proof holds
 ";
 
 /// What the other commands give.
-const OTHER: &str = "convert FILE OUT to=in2|alb|cert cycle=C    a line or a proof in that form
-    line convert jackson.in2 jackson.alb to=alb cycle=10
+const OTHER: &str = "convert FILE OUT to=in2|alb|csv|cert cycle=C apart=PAIRS    in that form
+    line convert jackson.in2 jackson.csv to=csv
 try seed=S tasks=1..1024    a generated instance, solved and checked
     cycle=C (200)  line=straight|u (straight)  units=1..3000000 (1000000)
     line try seed=1 tasks=50
 draw FILE CERT OUT apart=PAIRS    the balance of a proof as a picture, in SVG
     line draw jackson.in2 jackson.cert jackson.svg
+plan FILE CERT apart=PAIRS    the same as a sheet: when each task is done
+    line plan lamp.csv lamp.cert
 --help, --version    this page, and the version
 
-FILE has an instance as IN2 or ALB, PAIRS lines i,j of tasks that may share no
+FILE has a line as CSV, IN2 or ALB, PAIRS lines i,j of tasks that may share no
 station and then -1,-1. Times are whole numbers of one time unit.
 ";
 

@@ -25,7 +25,7 @@ use check_command::check_report;
 use command_outcome::{Kept, Report, Status, Stop, finish};
 use convert_command::convert_report;
 use cycle_command::cycle_report;
-use draw_command::draw_report;
+use draw_command::{draw_report, plan_report};
 use effic_command::{effic_check_report, effic_report};
 use input_files::kind_of;
 use line_io::{Shelf, Sink};
@@ -157,7 +157,16 @@ fn do_job<R: Threads + Wait + Sync, S: Shelf, G: Gate>(
             out,
             to,
             cycle,
-        } => convert_report(alloc, file.text(), out.text(), *to, *cycle, shelf),
+            apart,
+        } => convert_report(
+            alloc,
+            file.text(),
+            out.text(),
+            *to,
+            name_of(apart),
+            *cycle,
+            shelf,
+        ),
         Job::Combine { mix, out } => combine_report(alloc, mix.text(), out.text(), shelf),
         Job::Utility {
             mix,
@@ -229,6 +238,9 @@ fn do_job<R: Threads + Wait + Sync, S: Shelf, G: Gate>(
             name_of(apart),
             shelf,
         ),
+        Job::Plan { file, cert, apart } => {
+            plan_report(alloc, file.text(), cert.text(), name_of(apart), shelf)
+        }
         Job::Effic {
             file,
             least,

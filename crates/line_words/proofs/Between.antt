@@ -19,7 +19,8 @@ use Rattle.line_words.specs.declared.command.Command.TheVariants as command
 use Rattle.line_words.specs.declared.fault.UsageKind.TheVariants.{UnknownKey, RepeatedKey, BadValue}
 use Rattle.line_words.specs.declared.job.Job.{Job}
 use Rattle.line_words.specs.declared.job.Job.TheVariants.{Help, Version, Balance, Solve, Cycle, Check, Convert, Combine}
-use Rattle.line_words.specs.declared.job.Job.TheVariants.{Utility, Timeline, TimelineDraw, Try, Draw, Effic, EfficCheck}
+use Rattle.line_words.specs.declared.job.Job.TheVariants.{Utility, Timeline, TimelineDraw, Try, Draw, Plan, Effic}
+use Rattle.line_words.specs.declared.job.Job.TheVariants.{EfficCheck}
 use Rattle.line_words.specs.declared.job.Job.TheVariants.{Sequence}
 use Rattle.line_words.specs.declared.job.Job.TheVariants.{SequenceCheck}
 use Rattle.line_io.proofs.ReadFacts.{same_bytes}
@@ -301,6 +302,7 @@ job_between command.Try ws r = (
   default_between command.Try ws (codes "units") 1000000 (λ v. refl) r (omega arith, omega arith),
 )
 job_between command.Draw ws r = tt
+job_between command.Plan ws r = tt
 job_between command.Effic ws r = (
   default_between command.Effic ws (codes "least") 1 (λ v. refl) r (omega arith, omega arith),
   default_between command.Effic ws (codes "most") 1024 (λ v. refl) r (omega arith, omega arith),
@@ -333,13 +335,14 @@ page_between words (Balance file cycle line apart) p = absurd p
 page_between words (Solve file cycle line helpers units cert apart warm seek) p = absurd p
 page_between words (Cycle file stations line helpers units cert) p = absurd p
 page_between words (Check file cert steps apart) p = absurd p
-page_between words (Convert file out to cycle) p = absurd p
+page_between words (Convert file out to cycle apart) p = absurd p
 page_between words (Combine mix out) p = absurd p
 page_between words (Utility mix cert seq interval length) p = absurd p
 page_between words (Timeline mix cert seq interval length) p = absurd p
 page_between words (TimelineDraw mix cert seq out interval length) p = absurd p
 page_between words (Try seed tasks cycle line units) p = absurd p
 page_between words (Draw file cert out apart) p = absurd p
+page_between words (Plan file cert apart) p = absurd p
 page_between words (Effic file least most line helpers units cert) p = absurd p
 page_between words (EfficCheck file cert steps) p = absurd p
 page_between words (Sequence mix cert interval length units out) p = absurd p

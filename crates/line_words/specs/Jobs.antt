@@ -9,13 +9,14 @@ use Rattle.line_words.specs.declared.command.Command.{Command}
 use Rattle.line_words.specs.declared.command.Command.TheVariants as command
 use Rattle.line_words.specs.declared.job.Job.{Job}
 use Rattle.line_words.specs.declared.job.Job.TheVariants.{Help, Version, Balance, Solve, Cycle, Check, Convert, Combine}
-use Rattle.line_words.specs.declared.job.Job.TheVariants.{Utility, Timeline, TimelineDraw, Try, Draw, Effic, EfficCheck}
+use Rattle.line_words.specs.declared.job.Job.TheVariants.{Utility, Timeline, TimelineDraw, Try, Draw, Plan, Effic}
+use Rattle.line_words.specs.declared.job.Job.TheVariants.{EfficCheck}
 use Rattle.line_words.specs.declared.job.Job.TheVariants.{Sequence}
 use Rattle.line_words.specs.declared.job.Job.TheVariants.{SequenceCheck}
 use Rattle.line_words.specs.declared.job.LineWord.{LineWord}
 use Rattle.line_words.specs.declared.job.LineWord.TheVariants.{Straight, U}
 use Rattle.line_words.specs.declared.job.FormWord.{FormWord}
-use Rattle.line_words.specs.declared.job.FormWord.TheVariants.{In2, Alb, Cert}
+use Rattle.line_words.specs.declared.job.FormWord.TheVariants.{In2, Alb, Csv, Cert}
 use Rattle.line_words.specs.declared.fault.UsageKind.{UsageKind}
 use Rattle.line_words.specs.declared.fault.UsageKind.TheVariants.{NoCommand, UnknownCommand, UnknownKey, RepeatedKey}
 use Rattle.line_words.specs.declared.fault.UsageKind.TheVariants.{BadValue, ExtraName, MissingName, MissingKey}
@@ -111,7 +112,9 @@ line_set words = line_named (value_of words (codes "line"))
 -- the form with this name
 abbrev pub form_named : Option Text → FormWord
 form_named None = In2
-form_named (Some value) = cond (bytes_eq value (codes "alb")) Alb (cond (bytes_eq value (codes "cert")) Cert In2)
+form_named (Some value) =
+    cond (bytes_eq value (codes "alb")) Alb
+    (cond (bytes_eq value (codes "csv")) Csv (cond (bytes_eq value (codes "cert")) Cert In2))
 
 -- the form that the words set
 abbrev pub form_set : List Text → FormWord
@@ -139,7 +142,7 @@ job_for command.Check ws =
     Check (name_at ws 0) (name_at ws 1) (number_or command.Check ws (codes "steps") 20000000)
     (value_of ws (codes "apart"))
 job_for command.Convert ws = Convert (name_at ws 0) (name_at ws 1) (form_set ws)
-    (number_set command.Convert ws (codes "cycle"))
+    (number_set command.Convert ws (codes "cycle")) (value_of ws (codes "apart"))
 job_for command.Combine ws = Combine (name_at ws 0) (name_at ws 1)
 job_for command.Utility ws =
     Utility (name_at ws 0) (name_at ws 1) (name_at ws 2) (number_or command.Utility ws (codes "interval") 1)
@@ -156,6 +159,7 @@ job_for command.Try ws =
     (number_or command.Try ws (codes "cycle") 200) (line_set ws)
     (number_or command.Try ws (codes "units") 1000000)
 job_for command.Draw ws = Draw (name_at ws 0) (name_at ws 1) (name_at ws 2) (value_of ws (codes "apart"))
+job_for command.Plan ws = Plan (name_at ws 0) (name_at ws 1) (value_of ws (codes "apart"))
 job_for command.Effic ws =
     Effic (name_at ws 0) (number_or command.Effic ws (codes "least") 1) (number_or command.Effic ws (codes "most") 1024)
     (line_set ws)

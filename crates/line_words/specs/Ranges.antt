@@ -2,7 +2,8 @@
 use Rattle.std.specs.Prelude.{ℕ, ◌≤◌, Option, Some, None}
 use Rattle.line_words.specs.declared.job.Job.{Job}
 use Rattle.line_words.specs.declared.job.Job.TheVariants.{Help, Version, Balance, Solve, Cycle, Check, Convert, Combine}
-use Rattle.line_words.specs.declared.job.Job.TheVariants.{Utility, Timeline, TimelineDraw, Try, Draw, Effic, EfficCheck}
+use Rattle.line_words.specs.declared.job.Job.TheVariants.{Utility, Timeline, TimelineDraw, Try, Draw, Plan, Effic}
+use Rattle.line_words.specs.declared.job.Job.TheVariants.{EfficCheck}
 use Rattle.line_words.specs.declared.job.Job.TheVariants.{Sequence}
 use Rattle.line_words.specs.declared.job.Job.TheVariants.{SequenceCheck}
 use Rattle.line_words.specs.declared.reading.JobRead.{JobRead}
@@ -28,7 +29,7 @@ IsInRange (Solve file cycle line helpers units cert apart warm seek) =
 IsInRange (Cycle file stations line helpers units cert) = IsBetween 1 1024 stations × IsBetween 0 64 helpers
     × IsBetween 1 1000000 units
 IsInRange (Check file cert steps apart) = IsBetween 1 20000000 steps
-IsInRange (Convert file out to cycle) = IsSetBetween 1 1000000000000000000 cycle
+IsInRange (Convert file out to cycle apart) = IsSetBetween 1 1000000000000000000 cycle
 IsInRange (Combine mix out) = Unit {0}
 IsInRange (Utility mix cert seq interval length) = IsBetween 1 1000000000 interval × IsBetween 1 1000000000 length
 IsInRange (Timeline mix cert seq interval length) = IsBetween 1 1000000000 interval × IsBetween 1 1000000000 length
@@ -38,6 +39,7 @@ IsInRange (Try seed tasks cycle line units) =
     IsBetween 0 18446744073709551615 seed × IsBetween 1 1024 tasks × IsBetween 1 1000000000000000000 cycle
     × IsBetween 1 3000000 units
 IsInRange (Draw file cert out apart) = Unit {0}
+IsInRange (Plan file cert apart) = Unit {0}
 IsInRange (Effic file least most line helpers units cert) =
     IsBetween 1 1024 least × IsBetween 1 1024 most × (least ≤ most) × IsBetween 0 64 helpers × IsBetween 1 1000000 units
 IsInRange (EfficCheck file cert steps) = IsBetween 1 20000000 steps

@@ -8,7 +8,8 @@ use Rattle.line_io.specs.declared.text.Num.TheVariants.{Value, NotANumber, Above
 use Rattle.line_words.specs.Words.{Text, sets}
 use Rattle.line_words.specs.declared.command.Command.{Command}
 use Rattle.line_words.specs.declared.command.Command.TheVariants.{Balance, Solve, Cycle, Check, Convert, Combine}
-use Rattle.line_words.specs.declared.command.Command.TheVariants.{Utility, Timeline, TimelineDraw, Try, Draw, Effic}
+use Rattle.line_words.specs.declared.command.Command.TheVariants.{Utility, Timeline, TimelineDraw, Try, Draw, Plan}
+use Rattle.line_words.specs.declared.command.Command.TheVariants.{Effic}
 use Rattle.line_words.specs.declared.command.Command.TheVariants.{EfficCheck}
 use Rattle.line_words.specs.declared.command.Command.TheVariants.{Sequence, SequenceCheck}
 
@@ -26,10 +27,11 @@ command_named word =
     (cond (bytes_eq word (codes "timeline-draw")) (Some TimelineDraw)
     (cond (bytes_eq word (codes "try")) (Some Try)
     (cond (bytes_eq word (codes "draw")) (Some Draw)
+    (cond (bytes_eq word (codes "plan")) (Some Plan)
     (cond (bytes_eq word (codes "effic")) (Some Effic)
     (cond (bytes_eq word (codes "effic-check")) (Some EfficCheck)
     (cond (bytes_eq word (codes "sequence")) (Some Sequence)
-    (cond (bytes_eq word (codes "sequence-check")) (Some SequenceCheck) None))))))))))))))
+    (cond (bytes_eq word (codes "sequence-check")) (Some SequenceCheck) None)))))))))))))))
 
 -- how many names a command wants
 abbrev pub names_wanted : Command → ℕ
@@ -44,6 +46,7 @@ names_wanted Timeline = 3
 names_wanted TimelineDraw = 4
 names_wanted Try = 0
 names_wanted Draw = 3
+names_wanted Plan = 2
 names_wanted Effic = 1
 names_wanted EfficCheck = 2
 names_wanted Sequence = 2
@@ -67,6 +70,7 @@ keys_wanted Timeline = codes "interval" ∷ codes "length" ∷ []
 keys_wanted TimelineDraw = codes "interval" ∷ codes "length" ∷ []
 keys_wanted Try = codes "seed" ∷ codes "tasks" ∷ []
 keys_wanted Draw = []
+keys_wanted Plan = []
 keys_wanted Effic = codes "least" ∷ codes "most" ∷ []
 keys_wanted EfficCheck = []
 keys_wanted Sequence = codes "interval" ∷ codes "length" ∷ []
@@ -80,13 +84,14 @@ keys_taken Solve =
     "seek" ∷ []
 keys_taken Cycle = codes "stations" ∷ codes "line" ∷ codes "helpers" ∷ codes "units" ∷ codes "cert" ∷ []
 keys_taken Check = codes "steps" ∷ codes "apart" ∷ []
-keys_taken Convert = codes "to" ∷ codes "cycle" ∷ []
+keys_taken Convert = codes "to" ∷ codes "cycle" ∷ codes "apart" ∷ []
 keys_taken Combine = []
 keys_taken Utility = codes "interval" ∷ codes "length" ∷ []
 keys_taken Timeline = codes "interval" ∷ codes "length" ∷ []
 keys_taken TimelineDraw = codes "interval" ∷ codes "length" ∷ []
 keys_taken Try = codes "seed" ∷ codes "tasks" ∷ codes "cycle" ∷ codes "line" ∷ codes "units" ∷ []
 keys_taken Draw = codes "apart" ∷ []
+keys_taken Plan = codes "apart" ∷ []
 keys_taken Effic =
     codes "least" ∷ codes "most" ∷ codes "line" ∷ codes "helpers" ∷ codes "units" ∷ codes "cert" ∷ []
 keys_taken EfficCheck = codes "steps" ∷ []
@@ -115,6 +120,7 @@ units_most Timeline = 3000000
 units_most TimelineDraw = 3000000
 units_most Try = 3000000
 units_most Draw = 3000000
+units_most Plan = 3000000
 units_most Effic = 1000000
 units_most EfficCheck = 3000000
 units_most Sequence = 1000000
@@ -175,6 +181,6 @@ abbrev pub is_value : Command → Text → Text → Bool
 is_value command key value =
     cond (bytes_eq key (codes "line")) (bytes_eq value (codes "straight") || bytes_eq value (codes "u"))
     (cond (bytes_eq key (codes "to")) (bytes_eq value (codes "in2") || bytes_eq value (codes "alb")
-    || bytes_eq value (codes "cert"))
+    || bytes_eq value (codes "csv") || bytes_eq value (codes "cert"))
     (cond (names_file key) (is_some value)
     (is_least (least_of key) (number_up_to (most_of command key) value))))

@@ -30,6 +30,8 @@ pub enum Command {
     Try,
     /// The picture of a balance.
     Draw,
+    /// The plan of a balance, as a sheet.
+    Plan,
     /// The least product of stations and cycle.
     Effic,
     /// The test of a certificate of a least product.
@@ -77,6 +79,9 @@ pub(crate) fn command_named(word: &str) -> Option<Command>
     if word == "draw" {
         return Some(Command::Draw);
     }
+    if word == "plan" {
+        return Some(Command::Plan);
+    }
     if word == "effic" {
         return Some(Command::Effic);
     }
@@ -109,6 +114,7 @@ impl Command {
             Command::TimelineDraw => 4,
             Command::Try => 0,
             Command::Draw => 3,
+            Command::Plan => 2,
             Command::Effic => 1,
             Command::EfficCheck => 2,
             Command::Sequence => 2,
@@ -132,6 +138,7 @@ impl Command {
             Command::TimelineDraw => &["interval", "length"],
             Command::Try => &["seed", "tasks"],
             Command::Draw => &[],
+            Command::Plan => &[],
             Command::Effic => &["least", "most"],
             Command::EfficCheck => &[],
             Command::Sequence => &["interval", "length"],
@@ -150,13 +157,14 @@ impl Command {
             ],
             Command::Cycle => &["stations", "line", "helpers", "units", "cert"],
             Command::Check => &["steps", "apart"],
-            Command::Convert => &["to", "cycle"],
+            Command::Convert => &["to", "cycle", "apart"],
             Command::Combine => &[],
             Command::Utility => &["interval", "length"],
             Command::Timeline => &["interval", "length"],
             Command::TimelineDraw => &["interval", "length"],
             Command::Try => &["seed", "tasks", "cycle", "line", "units"],
             Command::Draw => &["apart"],
+            Command::Plan => &["apart"],
             Command::Effic => &["least", "most", "line", "helpers", "units", "cert"],
             Command::EfficCheck => &["steps"],
             Command::Sequence => &["interval", "length", "units", "out"],

@@ -29,6 +29,8 @@ pub enum FormWord {
     In2,
     /// An instance in the ALB format.
     Alb,
+    /// A table of tasks, as comma-separated values.
+    Csv,
     /// A certificate.
     Cert,
 }
@@ -82,6 +84,7 @@ pub enum Job {
         out: Name,
         to: FormWord,
         cycle: Option<u64>,
+        apart: Option<Name>,
     },
     /// The combined instance of a mix of models.
     Combine {
@@ -126,6 +129,12 @@ pub enum Job {
         file: Name,
         cert: Name,
         out: Name,
+        apart: Option<Name>,
+    },
+    /// The plan of a certificate's balance, as a sheet.
+    Plan {
+        file: Name,
+        cert: Name,
         apart: Option<Name>,
     },
     /// The least product of stations and cycle, in a number of stations from the least to the most one.
@@ -310,6 +319,9 @@ fn form_set(words: &[String]) -> FormWord
             if value == "alb" {
                 return FormWord::Alb;
             }
+            if value == "csv" {
+                return FormWord::Csv;
+            }
             if value == "cert" {
                 return FormWord::Cert;
             }
@@ -379,6 +391,7 @@ fn convert_job(alloc: Global, words: &[String]) -> Result<Job, AllocError>
         out: name_at(alloc, words, 1)?,
         to: form_set(words),
         cycle: number_set(Command::Convert, words, "cycle"),
+        apart: name_set(alloc, words, "apart")?,
     })
 }
 
@@ -438,6 +451,16 @@ fn draw_job(alloc: Global, words: &[String]) -> Result<Job, AllocError>
         file: name_at(alloc, words, 0)?,
         cert: name_at(alloc, words, 1)?,
         out: name_at(alloc, words, 2)?,
+        apart: name_set(alloc, words, "apart")?,
+    })
+}
+
+fn plan_job(alloc: Global, words: &[String]) -> Result<Job, AllocError>
+    ensures { IfOk result (λ j. j ≡ job_for Command.Plan (texts words.now)) }
+{
+    Ok(Job::Plan {
+        file: name_at(alloc, words, 0)?,
+        cert: name_at(alloc, words, 1)?,
         apart: name_set(alloc, words, "apart")?,
     })
 }
@@ -514,6 +537,7 @@ pub(crate) fn job_for(alloc: Global, command: Command, words: &[String]) -> Resu
         Command::TimelineDraw => timeline_draw_job(alloc, words),
         Command::Try => Ok(try_job(words)),
         Command::Draw => draw_job(alloc, words),
+        Command::Plan => plan_job(alloc, words),
         Command::Effic => effic_job(alloc, words),
         Command::EfficCheck => effic_check_job(alloc, words),
         Command::Sequence => sequence_job(alloc, words),

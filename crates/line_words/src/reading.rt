@@ -58,7 +58,7 @@ fn is_value(command: Command, key: &str, value: &str) -> bool
         return value == "straight" || value == "u";
     }
     if key == "to" {
-        return value == "in2" || value == "alb" || value == "cert";
+        return value == "in2" || value == "alb" || value == "csv" || value == "cert";
     }
     if names_file(key) {
         return !value.is_empty();

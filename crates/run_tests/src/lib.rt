@@ -16,3 +16,5 @@ mod runs;
 mod solve_tests;
 #[cfg(test)]
 mod step_tests;
+#[cfg(test)]
+mod table_tests;

@@ -2,7 +2,12 @@
 use Rattle.std.proofs.Common.{◌≡◌, ◌∙◌, ℕ, List, Some, sym, ap, subst}
 use Rattle.line_rules.specs.Ranges.{IsInRange}
 use Rattle.line_rules.specs.declared.types.Certificate.{Certificate}
-use Rattle.command_outcome.specs.Outcome.{outcome_of}
+use Rattle.std.specs.Prelude.{MatchResult}
+use Rattle.std.specs.declared.result.Result.{Result}
+use Rattle.std.specs.declared.result.Result.TheVariants.{Ok, Err}
+use Rattle.command_outcome.specs.Outcome.{MayEnd, outcome_of}
+use Rattle.command_outcome.specs.declared.report.Stop.{Stop}
+use Rattle.command_outcome.specs.declared.report.Stop.TheVariants as stop
 use Rattle.command_outcome.specs.declared.report.Kept.TheVariants.{Line as Certified}
 use Rattle.command_outcome.specs.declared.report.Report.{Report}
 use Rattle.solution_page.specs.Page.{page_of}
@@ -18,3 +23,18 @@ same_page name r a b is kept = ap (λ (x : Certificate). outcome_of r (page_of (
 -- the certificate of what is found can be said by a text
 pub sayable : (r : Report) (a b : Certificate) → r.kept ≡ Certified a → r.kept ≡ Certified b → IsInRange a → IsInRange b
 sayable r a b is kept ok = (let R : Certificate → Type 0 = IsInRange in subst R (one a b (sym is ∙ kept)) ok)
+
+-- what may stop a step may stop what the step ends, where each cause is one
+pub may_end_as : {T : Type 0} (R Q W V : Type 0) (r : Result T Stop) → (R → Q) → (W → V)
+    → MatchResult r (λ _. Unit {0}) (MayEnd R W) → MatchResult r (λ _. Unit {0}) (MayEnd Q V)
+may_end_as R Q W V (Ok x) f h m = m
+may_end_as R Q W V (Err (stop.Report r)) f h m = record {
+  read = λ e. f (m.read e);
+  write = m.write;
+  usage = m.usage;
+  done = m.done;
+  stopped = m.stopped;
+  kept = m.kept;
+}
+may_end_as R Q W V (Err stop.Memory) f h m = m
+may_end_as R Q W V (Err stop.Unwritten) f h m = h m

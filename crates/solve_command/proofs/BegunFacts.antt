@@ -6,6 +6,7 @@ use Rattle.std.proofs.Common.{◌-◌, ◌*◌, ◌≤◌, List, [], ◌++◌, l
 use Rattle.std.proofs.Common.{subst, arith, nat_lt}
 use Rattle.std.proofs.lemmas.Bool.{ltb-true, ltb-false}
 use Rattle.std.proofs.lemmas.List.{append-nil}
+use Rattle.std.specs.Prelude.{slice_get}
 use Rattle.line_instance.specs.Line.{Line, tasks}
 use Rattle.line_rules.specs.Balance.{IsRight}
 use Rattle.line_rules.specs.Ranges.{IsCycle, IsClaim, AreEntries}
@@ -19,7 +20,6 @@ use Rattle.line_rules.specs.declared.types.Entry.{Entry}
 use Rattle.lemma_core.specs.Machine.{About, State, is_better}
 use Rattle.lemma_core.specs.Books.{BookView, IsReserved, ran}
 use Rattle.lemma_core.specs.declared.types.Event.TheVariants as event
-use Rattle.round_helpers.specs.Growth.{AreAtCycle}
 use Rattle.line_seek.specs.Seeking.{HasSought, RefuteBelow}
 use Rattle.warm_book.specs.Warm.{Taking, TakesAll, untaken}
 use Rattle.warm_book.proofs.TakingFacts.{Adds, all_add}
@@ -235,7 +235,8 @@ few_by false s b e = (omega (arith, ltb-false b.stations s.best.stations e), ome
 -- what a seek tells of the line is told of the book
 pub has_sought : (book : BookView) (line : Line) (limit used : ℕ) (best : Assignment) (lemmas : List Entry)
     → book.about.line ≡ line → used ≤ limit → IsRight book.about.kind line book.about.cycle best
-    → best.stations ≤ book.state.best.stations → AreEntries (tasks line) lemmas → AreAtCycle book.about.cycle lemmas
+    → best.stations ≤ book.state.best.stations → AreEntries (tasks line) lemmas
+    → ((k : ℕ) (e : Entry) → slice_get lemmas k ≡ Some e → e.cycle ≡ book.about.cycle)
     → (units : ℕ) × UnitsOf line lemmas units × (units ≤ used) → length lemmas ≤ used + 1
     → RefuteBelow line book.about.cycle best lemmas → HasSought book limit best lemmas used
 has_sought book line limit used best lemmas same within right few ranges cycles units members shown =

@@ -22,26 +22,29 @@ use Rattle.solve_command.specs.SolutionText.{optimal_text, stopped_text}
 use Rattle.solve_command.specs.WarmStart.{Start, BeginsWith}
 use Rattle.solve_command.specs.Solution.{IsInfeasible, IsBounded, IsSolution, IsCutShort}
 use Rattle.solve_command.specs.Promise.{HasBounds, HasNone, IsShown, bounds_text}
+use Rattle.task_names.specs.declared.naming.Naming.{Naming}
 
 -- behind a first text, the text of bounds is that of an optimum where they are equal, and else that of a stop
-optimum_behind : (first : List ℕ) (kind : LineKind) (b : Assignment) (idle : ℕ)
-    → first ++ optimal_text kind b idle ≡ first ++ bounds_text kind b.stations b idle
-optimum_behind first kind b idle =
-    ap (λ (z : List ℕ). first ++ z) (sym (cond-true (nat_eq b.stations b.stations) (optimal_text kind b idle)
-    (stopped_text kind b.stations b idle) (search rules)))
+optimum_behind : (first : List ℕ) (naming : Naming) (kind : LineKind) (b : Assignment) (idle : ℕ)
+    → first ++ optimal_text naming kind b idle ≡ first ++ bounds_text naming kind b.stations b idle
+optimum_behind first naming kind b idle =
+    ap (λ (z : List ℕ). first ++ z) (sym (cond-true (nat_eq b.stations b.stations) (optimal_text naming kind b idle)
+    (stopped_text naming kind b.stations b idle) (search rules)))
 
-stop_behind : (first : List ℕ) (kind : LineKind) (lower : ℕ) (b : Assignment) (idle : ℕ) → lower < b.stations
-    → first ++ stopped_text kind lower b idle ≡ first ++ bounds_text kind lower b idle
-stop_behind first kind lower b idle l =
-    ap (λ (z : List ℕ). first ++ z) (sym (cond-false (nat_eq lower b.stations) (optimal_text kind b idle)
-    (stopped_text kind lower b idle) (ne_eqb lower b.stations (λ e. omega (arith, l, e)))))
+stop_behind : (first : List ℕ) (naming : Naming) (kind : LineKind) (lower : ℕ) (b : Assignment) (idle : ℕ)
+    → lower < b.stations
+    → first ++ stopped_text naming kind lower b idle ≡ first ++ bounds_text naming kind lower b idle
+stop_behind first naming kind lower b idle l =
+    ap (λ (z : List ℕ). first ++ z) (sym (cond-false (nat_eq lower b.stations) (optimal_text naming kind b idle)
+    (stopped_text naming kind lower b idle) (ne_eqb lower b.stations (λ e. omega (arith, l, e)))))
 
-module _ (kind : LineKind) (line : Line) (c : ℕ) (plan : Plan) (start : Start) where
+module _ (naming : Naming) (kind : LineKind) (line : Line) (c : ℕ) (plan : Plan) (start : Start) where
   module _ (before : List Entry) (first : List ℕ) (top : ℕ)
       (begins : BeginsWith kind line c plan start before first top) where
     -- the bounds of an optimum
     of_optimum : (b : Assignment) (cert : Certificate) → IsOptimumFrom kind line c before b cert
-        → HasBounds kind line c plan start cert ends.Done (first ++ optimal_text kind b (idle_time line c b.stations))
+        → HasBounds naming kind line c plan start cert ends.Done
+        (first ++ optimal_text naming kind b (idle_time line c b.stations))
     of_optimum b cert p = record {
       before = before;
       first = first;
@@ -58,7 +61,7 @@ module _ (kind : LineKind) (line : Line) (c : ℕ) (plan : Plan) (start : Start)
       accepted = p.certified.accepted;
       few = p.certified.few;
       true_bounds = p.certified.true_bounds;
-      printed = optimum_behind first kind b (idle_time line c b.stations);
+      printed = optimum_behind first naming kind b (idle_time line c b.stations);
       differ = λ h. absurd (omega (arith, h));
       equal = λ e. (refl, p.least);
       complete = λ h. refl;
@@ -67,8 +70,8 @@ module _ (kind : LineKind) (line : Line) (c : ℕ) (plan : Plan) (start : Start)
     -- the bounds of a search that used its units
     of_stop : (lower : ℕ) (b : Assignment) (cert : Certificate) → b.stations ≤ top
         → IsStopFrom kind line c plan before lower b cert
-        → HasBounds kind line c plan start cert ends.Stopped
-        (first ++ stopped_text kind lower b (idle_time line c b.stations))
+        → HasBounds naming kind line c plan start cert ends.Stopped
+        (first ++ stopped_text naming kind lower b (idle_time line c b.stations))
     of_stop lower b cert few p = record {
       before = before;
       first = first;
@@ -85,7 +88,7 @@ module _ (kind : LineKind) (line : Line) (c : ℕ) (plan : Plan) (start : Start)
       accepted = p.certified.accepted;
       few = p.certified.few;
       true_bounds = p.certified.true_bounds;
-      printed = stop_behind first kind lower b (idle_time line c b.stations) p.below;
+      printed = stop_behind first naming kind lower b (idle_time line c b.stations) p.below;
       differ = λ h. (
         refl,
         record {
@@ -113,8 +116,8 @@ module _ (kind : LineKind) (line : Line) (c : ℕ) (plan : Plan) (start : Start)
     }
 
   -- a line without a balance
-  of_refusal : (name : Option (List ℕ)) (out : Outcome) (p : IsInfeasible kind line c name out)
-      → HasNone kind line c p.certificate ends.Done (infeasible_text p.task (time line p.task))
+  of_refusal : (name : Option (List ℕ)) (out : Outcome) (p : IsInfeasible naming kind line c name out)
+      → HasNone naming kind line c p.certificate ends.Done (infeasible_text naming p.task (time line p.task))
   of_refusal name out p = record {
     task = p.task;
     least = p.least;
@@ -127,10 +130,10 @@ module _ (kind : LineKind) (line : Line) (c : ℕ) (plan : Plan) (start : Start)
   }
 
   -- a run with bounds is shown by its certificate
-  pub bounds_shown : (name : Option (List ℕ)) (out : Outcome) → IsBounded kind line c plan start name out
-      → IsShown kind line c plan start out.status out.text out.kept
+  pub bounds_shown : (name : Option (List ℕ)) (out : Outcome) → IsBounded naming kind line c plan start name out
+      → IsShown naming kind line c plan start out.status out.text out.kept
   bounds_shown name out b =
-      let S : Outcome → Type 0 = λ o. IsShown kind line c plan start o.status o.text o.kept in
+      let S : Outcome → Type 0 = λ o. IsShown naming kind line c plan start o.status o.text o.kept in
       elim b.found [
         | inl p ↦ subst S (sym p.shown) (record {
           certificate = p.certificate;
@@ -145,17 +148,19 @@ module _ (kind : LineKind) (line : Line) (c : ℕ) (plan : Plan) (start : Start)
       ]
 
   -- what is answered with a certificate is shown by it
-  pub shown_of : (name : Option (List ℕ)) (out : Outcome) → IsSolution kind line c plan start name out
-      → IsShown kind line c plan start out.status out.text out.kept
+  pub shown_of : (name : Option (List ℕ)) (out : Outcome) → IsSolution naming kind line c plan start name out
+      → IsShown naming kind line c plan start out.status out.text out.kept
   shown_of name out (inl b) = bounds_shown name out b
   shown_of name out (inr p) =
-      let S : Outcome → Type 0 = λ o. IsShown kind line c plan start o.status o.text o.kept in
+      let S : Outcome → Type 0 = λ o. IsShown naming kind line c plan start o.status o.text o.kept in
       subst S (sym p.shown) (record { certificate = p.certificate; keeps = refl; shows = inr (of_refusal name out p) })
 
   -- a run with bounds that came to a report of a search: it has the bounds, or it was stopped
   pub bounded_shown : (r : Result Report Stop)
-      → MatchResult r (λ x. IsBounded kind line c plan start None (outcome_of x None)) (Stops (IsCutShort kind line c))
-      → MatchResult r (λ x. IsSolution kind line c plan start None (outcome_of x None)) (Stops (IsCutShort kind line c))
-      × IfOk r (λ x. IsShown kind line c plan start x.status x.text.items x.kept)
+      → MatchResult r (λ x. IsBounded naming kind line c plan start None (outcome_of x None))
+      (Stops (IsCutShort kind line c))
+      → MatchResult r (λ x. IsSolution naming kind line c plan start None (outcome_of x None))
+      (Stops (IsCutShort kind line c))
+      × IfOk r (λ x. IsShown naming kind line c plan start x.status x.text.items x.kept)
   bounded_shown (Ok x) b = (inl b, bounds_shown None (outcome_of x None) b)
   bounded_shown (Err e) b = (b, search rules)

@@ -7,12 +7,7 @@ use Rattle.line_rules.specs.declared.types.LineKind.{LineKind}
 use Rattle.line_rules.specs.declared.types.Balance.{Balance as Assignment}
 use Rattle.line_rules.specs.declared.types.Entry.{Entry}
 use Rattle.line_rules.specs.declared.types.Certificate.{Certificate}
-use Rattle.std.specs.Prelude.{MatchResult}
-use Rattle.std.specs.declared.result.Result.{Result}
-use Rattle.std.specs.declared.result.Result.TheVariants.{Ok, Err}
-use Rattle.command_outcome.specs.Outcome.{Files, Outside, Outcome, MayEnd, Stay, outcome_of, outside}
-use Rattle.command_outcome.specs.declared.report.Stop.{Stop}
-use Rattle.command_outcome.specs.declared.report.Stop.TheVariants as stop
+use Rattle.command_outcome.specs.Outcome.{Files, Outside, Outcome, Stay, outcome_of, outside}
 use Rattle.command_outcome.specs.declared.report.Kept.TheVariants.{Line as Certified}
 use Rattle.command_outcome.specs.declared.report.Report.{Report}
 use Rattle.command_outcome.proofs.WrittenFacts.{paged}
@@ -30,13 +25,16 @@ use Rattle.solution_page.specs.Page.{page_of, IsSolveStatus}
 use Rattle.solve_command.specs.Solution.{IsOptimal, IsStopped, IsSolution, IsCutShort, IsSolveOutcome}
 use Rattle.solve_command.specs.inner.Said.{HasSaid}
 use Rattle.solve_command.specs.WarmStart.{Start, AreOld, IsUnwarmed}
+use Rattle.task_names.specs.declared.naming.Naming.{Naming}
+use Rattle.input_files.specs.Instance.{naming_of}
 
-module _ (kind : LineKind) (line : Line) (c : ℕ) (plan : Plan) (start : Start) (name : Option (List ℕ))
+module _ (naming : Naming) (kind : LineKind) (line : Line) (c : ℕ) (plan : Plan) (start : Start)
+    (name : Option (List ℕ))
     (r : Report) where
   -- what is found has a certificate, which a text can say, and is the same with its page
-  pub in_file : IsSolution kind line c plan start None (outcome_of r None)
+  pub in_file : IsSolution naming kind line c plan start None (outcome_of r None)
       → (cert : Certificate) × (r.kept ≡ Certified cert) × IsInRange cert
-      × IsSolution kind line c plan start name (outcome_of r (page_of name cert))
+      × IsSolution naming kind line c plan start name (outcome_of r (page_of name cert))
   in_file (inl b) = elim b.found [
     | inl p ↦ (
       p.certificate,
@@ -89,20 +87,22 @@ module _ (kind : LineKind) (line : Line) (c : ℕ) (plan : Plan) (start : Start)
   )
 
 -- the text of a search that used its units, of the balance that is the best
-pub stopped_as : (text first : List ℕ) (kind : LineKind) (line : Line) (c lower : ℕ) (b best : Assignment) (idle : ℕ)
-    → text ≡ first ++ stopped_text kind lower b idle → b ≡ best → idle ≡ idle_time line c b.stations
-    → text ≡ first ++ stopped_text kind lower best (idle_time line c best.stations)
-stopped_as text first kind line c lower b best idle e f g =
-    e ∙ ap (λ (x : ℕ). first ++ stopped_text kind lower b x) g
-    ∙ ap (λ (x : Assignment). first ++ stopped_text kind lower x (idle_time line c x.stations)) f
+pub stopped_as : (text first : List ℕ) (naming : Naming) (kind : LineKind) (line : Line) (c lower : ℕ)
+    (b best : Assignment) (idle : ℕ)
+    → text ≡ first ++ stopped_text naming kind lower b idle → b ≡ best → idle ≡ idle_time line c b.stations
+    → text ≡ first ++ stopped_text naming kind lower best (idle_time line c best.stations)
+stopped_as text first naming kind line c lower b best idle e f g =
+    e ∙ ap (λ (x : ℕ). first ++ stopped_text naming kind lower b x) g
+    ∙ ap (λ (x : Assignment). first ++ stopped_text naming kind lower x (idle_time line c x.stations)) f
 
 -- the same of an optimum
-pub optimal_as : (text first : List ℕ) (kind : LineKind) (line : Line) (c : ℕ) (b best : Assignment) (idle : ℕ)
-    → text ≡ first ++ optimal_text kind b idle → b ≡ best → idle ≡ idle_time line c b.stations
-    → text ≡ first ++ optimal_text kind best (idle_time line c best.stations)
-optimal_as text first kind line c b best idle e f g =
-    e ∙ ap (λ (x : ℕ). first ++ optimal_text kind b x) g
-    ∙ ap (λ (x : Assignment). first ++ optimal_text kind x (idle_time line c x.stations)) f
+pub optimal_as : (text first : List ℕ) (naming : Naming) (kind : LineKind) (line : Line) (c : ℕ) (b best : Assignment)
+    (idle : ℕ)
+    → text ≡ first ++ optimal_text naming kind b idle → b ≡ best → idle ≡ idle_time line c b.stations
+    → text ≡ first ++ optimal_text naming kind best (idle_time line c best.stations)
+optimal_as text first naming kind line c b best idle e f g =
+    e ∙ ap (λ (x : ℕ). first ++ optimal_text naming kind b x) g
+    ∙ ap (λ (x : Assignment). first ++ optimal_text naming kind x (idle_time line c x.stations)) f
 
 -- what is said of a run whose units ended, or memory
 pub spent_of : (kind : LineKind) (line : Line) (c : ℕ) (plan : Plan) (before : List Entry) (top : ℕ) (cause : Cause)
@@ -124,14 +124,16 @@ wanting_of kind line c plan before top cause lower book trail e s =
     subst S e s
 
 -- a report of a run has the status of one
-pub optimal_status : (kind : LineKind) (line : Line) (c : ℕ) (before : List Entry) (first : List ℕ) (r : Report)
-    → IsOptimal kind line c before first None (outcome_of r None) → IsSolveStatus r.status
-optimal_status kind line c before first r p = inl (ap (λ (o : Outcome). o.status) p.shown)
+pub optimal_status : (naming : Naming) (kind : LineKind) (line : Line) (c : ℕ) (before : List Entry) (first : List ℕ)
+    (r : Report)
+    → IsOptimal naming kind line c before first None (outcome_of r None) → IsSolveStatus r.status
+optimal_status naming kind line c before first r p = inl (ap (λ (o : Outcome). o.status) p.shown)
 
-pub stopped_status : (kind : LineKind) (line : Line) (c : ℕ) (plan : Plan) (before : List Entry) (first : List ℕ)
+pub stopped_status : (naming : Naming) (kind : LineKind) (line : Line) (c : ℕ) (plan : Plan) (before : List Entry)
+    (first : List ℕ)
     (top : ℕ) (r : Report)
-    → IsStopped kind line c plan before first top None (outcome_of r None) → IsSolveStatus r.status
-stopped_status kind line c plan before first top r p = inr (ap (λ (o : Outcome). o.status) p.shown)
+    → IsStopped naming kind line c plan before first top None (outcome_of r None) → IsSolveStatus r.status
+stopped_status naming kind line c plan before first top r p = inr (ap (λ (o : Outcome). o.status) p.shown)
 
 -- the same old entries, of files that stayed
 pub old_in : (files mid : Files) (warm : Option (List ℕ)) (kind : LineKind) (line : Line) (olds : Option (List Entry))
@@ -157,22 +159,8 @@ unwarmed_in files mid blames (Some name) kind line out same (inr s) =
 pub answered : (o : Outside) (file : List ℕ) (apart warm : Option (List ℕ)) (limit : ℕ) (word : Option ℕ)
     (kind : LineKind) (line : Line) (c : ℕ) (olds : Option (List Entry)) (plan : Plan) (name : Option (List ℕ))
     (out : Outcome) → HasSaid o.files file apart warm word kind line c olds
-    → IsSolution kind line c plan (record { olds = olds; seek = limit }) name out ⊎ IsCutShort kind line c out
+    → IsSolution (naming_of o.files file) kind line c plan (record { olds = olds; seek = limit }) name out
+    ⊎ IsCutShort kind line c out
     → IsSolveOutcome o file apart warm limit word kind plan name out
 answered o file apart warm limit word kind line c olds plan name out h answer =
     inl (record { line = line; c = c; said = h.said; olds = olds; old = h.old; answer = answer })
-
--- what may stop a step may stop what the step ends, where each cause is one
-pub may_end_as : {T : Type 0} (R Q W V : Type 0) (r : Result T Stop) → (R → Q) → (W → V)
-    → MatchResult r (λ _. Unit {0}) (MayEnd R W) → MatchResult r (λ _. Unit {0}) (MayEnd Q V)
-may_end_as R Q W V (Ok x) f h m = m
-may_end_as R Q W V (Err (stop.Report r)) f h m = record {
-  read = λ e. f (m.read e);
-  write = m.write;
-  usage = m.usage;
-  done = m.done;
-  stopped = m.stopped;
-  kept = m.kept;
-}
-may_end_as R Q W V (Err stop.Memory) f h m = m
-may_end_as R Q W V (Err stop.Unwritten) f h m = h m

@@ -26,16 +26,17 @@ use Rattle.command_outcome.specs.declared.report.Kept.{Kept}
 use Rattle.command_outcome.specs.declared.report.Kept.TheVariants.{Line as Certified}
 use Rattle.command_outcome.specs.declared.status.Status.{Status}
 use Rattle.command_outcome.specs.declared.status.Status.TheVariants as ends
-use Rattle.input_files.specs.Instance.{IsSaid}
+use Rattle.input_files.specs.Instance.{IsSaid, naming_of}
 use Rattle.station_report.specs.InfeasibleText.{infeasible_text}
 use Rattle.solve_command.specs.WarmStart.{AreOld, Start, BeginsWith}
 use Rattle.solve_command.specs.SolutionText.{optimal_text, stopped_text}
 use Rattle.solution_page.specs.Page.{HasCertificate}
+use Rattle.task_names.specs.declared.naming.Naming.{Naming}
 
 -- the printed text of bounds: the optimum where they are equal, and both where they differ
-abbrev pub bounds_text : LineKind → ℕ → Assignment → ℕ → List ℕ
-bounds_text kind lower b idle = cond (nat_eq lower b.stations) (optimal_text kind b idle)
-    (stopped_text kind lower b idle)
+abbrev pub bounds_text : Naming → LineKind → ℕ → Assignment → ℕ → List ℕ
+bounds_text naming kind lower b idle = cond (nat_eq lower b.stations) (optimal_text naming kind b idle)
+    (stopped_text naming kind lower b idle)
 
 -- The units of the plan were spent on loads that the certificate lists: its entries begin with those that the run began
 -- with; the entries after these and its trail have at least so many units, at most twice as many, and exactly so many
@@ -68,7 +69,8 @@ pub record AreSpent (kind : LineKind) (line : Line) (c : ℕ) (plan : Plan) (top
 -- are any; the bounds differ only where the units of the plan were spent on loads that the certificate lists, and
 -- status 1 says so; where they are equal they are the least number of stations; and they are equal where the units are
 -- at least (n + 1) x 3^n for n tasks, and on a U-line (n + 1) x 4^n.
-pub record HasBounds (kind : LineKind) (line : Line) (c : ℕ) (plan : Plan) (start : Start) (certificate : Certificate)
+pub record HasBounds (naming : Naming) (kind : LineKind) (line : Line) (c : ℕ) (plan : Plan) (start : Start)
+    (certificate : Certificate)
     (status : Status) (text : List ℕ)
     : Type 0 where
   pub before : List Entry
@@ -86,7 +88,7 @@ pub record HasBounds (kind : LineKind) (line : Line) (c : ℕ) (plan : Plan) (st
   pub accepted : IsAccepted line certificate lower balance.stations units
   pub few : units ≤ max_units
   pub true_bounds : IsProved kind line (ask.Stations c) lower balance.stations
-  pub printed : text ≡ first ++ bounds_text kind lower balance (idle_time line c balance.stations)
+  pub printed : text ≡ first ++ bounds_text naming kind lower balance (idle_time line c balance.stations)
   pub differ : lower < balance.stations
       → (status ≡ ends.Stopped) × AreSpent kind line c plan top lower balance.stations before entries trail units
   pub equal : lower ≡ balance.stations → (status ≡ ends.Done) × IsLeastStations kind line c lower
@@ -94,7 +96,8 @@ pub record HasBounds (kind : LineKind) (line : Line) (c : ℕ) (plan : Plan) (st
 
 -- What is promised where a task is longer than the cycle: the least such task is printed, the certificate names it and
 -- is accepted, and no number of stations is enough.
-pub record HasNone (kind : LineKind) (line : Line) (c : ℕ) (certificate : Certificate) (status : Status)
+pub record HasNone (naming : Naming) (kind : LineKind) (line : Line) (c : ℕ) (certificate : Certificate)
+    (status : Status)
     (text : List ℕ) : Type 0 where
   pub task : ℕ
   pub least : IsLeastWhere (IsTooLong line c) task
@@ -102,15 +105,17 @@ pub record HasNone (kind : LineKind) (line : Line) (c : ℕ) (certificate : Cert
   pub sayable : IsInRange certificate
   pub accepted : IsAcceptedInfeasible line certificate task
   pub none : NoBalanceIsLeft (ask.Stations c) kind line
-  pub printed : text ≡ infeasible_text task (time line task)
+  pub printed : text ≡ infeasible_text naming task (time line task)
   pub done : status ≡ ends.Done
 
 -- what is printed is shown by a certificate, which is kept
-pub record IsShown (kind : LineKind) (line : Line) (c : ℕ) (plan : Plan) (start : Start) (status : Status)
+pub record IsShown (naming : Naming) (kind : LineKind) (line : Line) (c : ℕ) (plan : Plan) (start : Start)
+    (status : Status)
     (text : List ℕ) (kept : Kept) : Type 0 where
   pub certificate : Certificate
   pub keeps : kept ≡ Certified certificate
-  pub shows : HasBounds kind line c plan start certificate status text ⊎ HasNone kind line c certificate status text
+  pub shows : HasBounds naming kind line c plan start certificate status text
+      ⊎ HasNone naming kind line c certificate status text
 
 -- The promise of `solve` for the line, the cycle and the old entries that the files say: what is printed is shown by a
 -- certificate, which is kept, and written where the words name a file.
@@ -122,5 +127,5 @@ pub record IsPromised (files after : Files) (file : List ℕ) (apart warm : Opti
   pub said : IsSaid files file apart word line c
   pub olds : Option (List Entry)
   pub old : AreOld files warm kind line olds
-  pub shown : IsShown kind line c plan (record { olds = olds; seek = seek }) status text kept
+  pub shown : IsShown (naming_of files file) kind line c plan (record { olds = olds; seek = seek }) status text kept
   pub written : HasCertificate name after shown.certificate

@@ -6,6 +6,7 @@ ghost use Rattle.line_instance.specs.Line.{tasks};
 ghost use Rattle.line_rules.specs.Ranges.{AreEntries};
 ghost use Rattle.line_words.specs.Ranges.{IsBetween, IsSetBetween};
 ghost use Rattle.command_outcome.specs.Outcome.{MayStop, Stops, outside};
+ghost use Rattle.input_files.specs.Instance.{naming_of};
 ghost use Rattle.solve_command.specs.inner.Said.{HasSaid, IsUnsaidOrUnwarmed};
 
 use crate::warm_start::old_entries;
@@ -39,6 +40,7 @@ pub(crate) fn said_of<S: Shelf>(
         (Stops (IsUnsaidOrUnwarmed (outside (S.file shelf.old) (S.blames shelf.new)) file.now
         (option_map (λ a. a.now) apart.entry) (option_map (λ a. a.now) warm.entry) word kind)) }
     ensures limit { IfOk result (λ s. IsBetween 1 1000000000000000000 s.timed.cycle) }
+    ensures naming { S.tells → IfOk result (λ s. s.timed.naming ≡ naming_of (S.file shelf.old) file.now) }
     ensures range { IfOk result (λ s. ForSome s.olds (AreEntries (tasks s.timed.inst))) }
     ensures fault { MatchResult result (λ _. Unit {0})
         (MayStop (Rises (S.fetch_faults shelf.old) (S.fetch_faults shelf.new))) }

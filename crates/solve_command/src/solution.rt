@@ -43,11 +43,13 @@ use station_report::{idle_of, infeasible_line};
 use std::alloc::{AllocError, Global};
 use std::sync::Wait;
 use std::thread::Threads;
+use task_names::Naming;
 
 /// The report of a run that was solved, with its certificate.
 fn optimal(
     alloc: Global,
     inst: &Instance,
+    naming: &Naming,
     kind: LineKind,
     cycle: u64,
     first: String,
@@ -58,12 +60,12 @@ fn optimal(
         × IsSolvedFrom kind inst.now cycle N before book }
     ensures { IfOk result (λ r. (before : List Lemma) (N : ℕ) → LeaveRoom inst.now N before
         → IsSolvedFrom kind inst.now cycle N before book
-        → IsOptimal kind inst.now cycle before (string_bytes first) None (outcome_of r None)) }
+        → IsOptimal naming.now kind inst.now cycle before (string_bytes first) None (outcome_of r None)) }
 {
     let _tasks = inst.tasks();
     let balance = book.best();
     let idle = idle_of(inst, cycle, balance.stations);
-    let text = optimal_text(alloc, first, balance, kind, idle)?;
+    let text = optimal_text(alloc, first, naming, balance, kind, idle)?;
     let certificate = certify_warm_optimum(alloc, inst, kind, cycle, book)?;
     Ok(Report {
         status: Status::Done,
@@ -76,6 +78,7 @@ fn optimal(
 fn stopped(
     alloc: Global,
     inst: &Instance,
+    naming: &Naming,
     kind: LineKind,
     cycle: u64,
     first: String,
@@ -88,12 +91,12 @@ fn stopped(
         × IsSpentFrom kind inst.now cycle plan before top lower book trail }
     ensures { IfOk result (λ r. (before : List Lemma) (top : ℕ) (plan : PlanOf) → LeaveRoom inst.now plan.units before
         → IsSpentFrom kind inst.now cycle plan before top lower book trail
-        → IsStopped kind inst.now cycle plan before (string_bytes first) top None (outcome_of r None)) }
+        → IsStopped naming.now kind inst.now cycle plan before (string_bytes first) top None (outcome_of r None)) }
 {
     let _tasks = inst.tasks();
     let balance = book.best();
     let idle = idle_of(inst, cycle, balance.stations);
-    let text = stopped_text(alloc, first, lower, balance, kind, idle)?;
+    let text = stopped_text(alloc, first, lower, naming, balance, kind, idle)?;
     Ok(Report {
         status: Status::Stopped,
         text,
@@ -105,16 +108,17 @@ fn stopped(
 fn infeasible(
     alloc: Global,
     inst: &Instance,
+    naming: &Naming,
     kind: LineKind,
     cycle: u64,
     task: u32,
 ) -> Result<Report, AllocError>
     requires cycle { IsCycle cycle }
     requires long { IsLeastWhere (IsTooLong inst.now cycle) task }
-    ensures { IfOk result (λ r. IsInfeasible kind inst.now cycle None (outcome_of r None)) }
+    ensures { IfOk result (λ r. IsInfeasible naming.now kind inst.now cycle None (outcome_of r None)) }
 {
     let _tasks = inst.tasks();
-    let text = infeasible_line(alloc, task, inst.time(task))?;
+    let text = infeasible_line(alloc, naming, task, inst.time(task))?;
     Ok(Report {
         status: Status::Done,
         text,
@@ -150,6 +154,7 @@ fn run<R: Threads + Wait + Sync, G: Gate>(
     rt: &R,
     alloc: Global,
     inst: &Instance,
+    naming: &Naming,
     kind: LineKind,
     cycle: u64,
     begun: Begun,
@@ -165,7 +170,7 @@ fn run<R: Threads + Wait + Sync, G: Gate>(
         × IsBegun kind inst.now cycle plan.now start begun.book (string_bytes begun.first) }
     ensures answer { (start : Start)
         → IsBegun kind inst.now cycle plan.now start begun.book (string_bytes begun.first)
-        → MatchResult result (λ r. IsBounded kind inst.now cycle plan.now start None (outcome_of r None))
+        → MatchResult result (λ r. IsBounded naming.now kind inst.now cycle plan.now start None (outcome_of r None))
         (Stops (IsCutShort kind inst.now cycle)) }
     ensures good { IfOk result (λ r. IsSolveStatus r.status) }
     ensures fault { MatchResult result (λ _. Unit {0}) (MayStop ⊥) }
@@ -173,14 +178,16 @@ fn run<R: Threads + Wait + Sync, G: Gate>(
     let Begun { book, first } = begun;
     match solve_from(rt, alloc, inst, book, plan, gate) {
         Outcome::TooLong(_) => unreachable!(),
-        Outcome::Solved { book } => Ok(optimal(alloc, inst, kind, cycle, first, book)?),
+        Outcome::Solved { book } => Ok(optimal(alloc, inst, naming, kind, cycle, first, book)?),
         Outcome::Stopped {
             cause,
             lower,
             book,
             trail,
         } => match cause {
-            Cause::Units => Ok(stopped(alloc, inst, kind, cycle, first, lower, book, trail)?),
+            Cause::Units => Ok(stopped(
+                alloc, inst, naming, kind, cycle, first, lower, book, trail,
+            )?),
             Cause::Memory => Err(cut_short(inst, kind, cycle, room, lower, &book)?),
         },
         Outcome::NoMemory => Err(Stop::Memory),
@@ -203,24 +210,32 @@ fn solution<R: Threads + Wait + Sync, G: Gate>(
     requires plan { IsPlan plan.now }
     requires range { ForSome said.olds (AreEntries (tasks said.timed.inst)) }
     ensures answer { let start : Start = record { olds = said.olds; seek = limit } in MatchResult result
-        (λ r. IsSolution kind said.timed.inst said.timed.cycle plan.now start None (outcome_of r None))
+        (λ r. IsSolution said.timed.naming kind said.timed.inst said.timed.cycle plan.now start None
+        (outcome_of r None))
         (Stops (IsCutShort kind said.timed.inst said.timed.cycle)) }
     ensures shown { let start : Start = record { olds = said.olds; seek = limit } in IfOk result
-        (λ r. IsShown kind said.timed.inst said.timed.cycle plan.now start r.status r.text.items r.kept) }
+        (λ r. IsShown said.timed.naming kind said.timed.inst said.timed.cycle plan.now start r.status r.text.items
+        r.kept) }
     ensures good { IfOk result (λ r. IsSolveStatus r.status) }
     ensures fault { MatchResult result (λ _. Unit {0}) (MayStop ⊥) }
 {
     let Said { timed, olds } = said;
-    let Timed { inst, cycle } = timed;
+    let Timed {
+        inst,
+        cycle,
+        naming,
+    } = timed;
     let inst = &inst;
     let room = room_for_bounds(alloc)?;
     let best = match ranked_balance(alloc, inst, kind, cycle) {
         Ranked::Good(best) => best,
-        Ranked::TooLong(task) => return Ok(infeasible(alloc, inst, kind, cycle, task)?),
+        Ranked::TooLong(task) => return Ok(infeasible(alloc, inst, &naming, kind, cycle, task)?),
         Ranked::NoMemory => return Err(Stop::Memory),
     };
     let begun = begin(rt, alloc, inst, kind, cycle, best, olds, limit, plan)?;
-    run(rt, alloc, inst, kind, cycle, begun, plan, gate, room)
+    run(
+        rt, alloc, inst, &naming, kind, cycle, begun, plan, gate, room,
+    )
 }
 
 /// The report of `solve` for the file of an instance, the file of the tasks that are apart, where there is one, the

@@ -1,7 +1,9 @@
 -- The printed line about a task that no station can hold.
-use Rattle.std.specs.Prelude.{ℕ, ◌+◌, List, ◌++◌, codes, decimal}
+use Rattle.std.specs.Prelude.{ℕ, List, ◌++◌, codes, decimal}
+use Rattle.task_names.specs.Naming.{called}
+use Rattle.task_names.specs.declared.naming.Naming.{Naming}
 
--- the number of the task, counted from 1, and its time
-abbrev pub infeasible_text : ℕ → ℕ → List ℕ
-infeasible_text task time = codes "infeasible: task " ++ decimal (task + 1) ++ codes " time " ++ decimal time
+-- what the task is called, and its time
+abbrev pub infeasible_text : Naming → ℕ → ℕ → List ℕ
+infeasible_text naming task time = codes "infeasible: task " ++ called naming task ++ codes " time " ++ decimal time
     ++ codes "\n"

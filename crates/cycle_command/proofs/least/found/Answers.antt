@@ -6,12 +6,12 @@ use Rattle.cycle_command.proofs.least.found.Goals as goal
 
 pub returns-in_ok-optimal-in-Solved-clause-shown : goal.returns-in_ok-optimal-in-Solved-clause-shown
 returns-in_ok-optimal-in-Solved-clause-shown g c =
-    shown_of c.args.kind c.args.inst.now c.args.stations c.args.plan.now None
+    shown_of c.args.naming.now c.args.kind c.args.inst.now c.args.stations c.args.plan.now None
     (outcome_of c.in_ok-optimal-in-Solved.field-0 None) (inl c.in_ok-optimal-in-Solved.ensures)
 
 pub returns-in_ok-stopped-in-Units-clause-shown : goal.returns-in_ok-stopped-in-Units-clause-shown
 returns-in_ok-stopped-in-Units-clause-shown g c =
-    shown_of c.args.kind c.args.inst.now c.args.stations c.args.plan.now None
+    shown_of c.args.naming.now c.args.kind c.args.inst.now c.args.stations c.args.plan.now None
     (outcome_of c.in_ok-stopped-in-Units.field-0 None)
     (inr (c.in_ok-stopped-in-Units.ensures c.args.plan.now c.requires.plan.limit (spent_of c.args.kind c.args.inst.now
     c.args.stations c.args.plan.now c.in-Stopped.cause c.in-Stopped.lower c.in-Stopped.upper c.in-Stopped.balance
@@ -19,7 +19,8 @@ returns-in_ok-stopped-in-Units-clause-shown g c =
 
 pub returns-in_ok-stopped-in-Units-clause-good : goal.returns-in_ok-stopped-in-Units-clause-good
 returns-in_ok-stopped-in-Units-clause-good g c =
-    stopped_status c.args.kind c.args.inst.now c.args.stations c.args.plan.now c.in_ok-stopped-in-Units.field-0
+    stopped_status c.args.naming.now c.args.kind c.args.inst.now c.args.stations c.args.plan.now
+    c.in_ok-stopped-in-Units.field-0
     (c.in_ok-stopped-in-Units.ensures c.args.plan.now c.requires.plan.limit (spent_of c.args.kind c.args.inst.now
     c.args.stations c.args.plan.now c.in-Stopped.cause c.in-Stopped.lower c.in-Stopped.upper c.in-Stopped.balance
     c.in-Stopped.entries c.in-Stopped.trail c.in-Units.is c.in-Stopped.ensures))

@@ -12,6 +12,6 @@ returns c = λ plan limit spent. record {
   certificate = c.certify_cycle_stop-certificate.result;
   proved = c.certify_cycle_stop-certificate.ensures plan limit spent;
   shown = ap (certified_by None c.certify_cycle_stop-certificate.result ends.Stopped) (c.in_ok-text.ensures
-      ∙ ap (λ (idle : ℕ). stopped_text c.args.kind c.args.lower c.args.upper c.args.balance idle)
+      ∙ ap (λ (idle : ℕ). stopped_text c.args.naming.now c.args.kind c.args.lower c.args.upper c.args.balance idle)
       c.idle_of-idle.ensures);
 }

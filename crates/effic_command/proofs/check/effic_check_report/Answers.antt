@@ -17,11 +17,11 @@ returns-clause-ends g c = λ t.
     record {
       page = None;
       reached = inl (record {
-        line = c.in_ok-inst.inst;
+        line = c.in_ok-plain.plain.inst;
         cert = cert;
         found = found;
-        said = c.in_ok-inst.ensures.said t;
-        read = subst R (c.in_ok-inst.ensures.files t proof) (c.in_ok-cert.ensures.said t);
+        said = c.in_ok-plain.ensures.said t;
+        read = subst R (c.in_ok-plain.ensures.files t proof) (c.in_ok-cert.ensures.said t);
         verdict = c.verify_effic-verified.ensures.verdict;
         accepted = c.verify_effic-verified.ensures.accepted;
         rejected = c.verify_effic-verified.ensures.rejected;
@@ -29,5 +29,5 @@ returns-clause-ends g c = λ t.
         shown = told_as c.in_ok-report.report (verdict_status found) (verdict_text cert found)
             c.in_ok-report.ensures.status c.in_ok-report.ensures.text c.in_ok-report.ensures.kept;
       });
-      written = λ q. c.in_ok-cert.ensures.files t q ∙ c.in_ok-inst.ensures.files t q;
+      written = λ q. c.in_ok-cert.ensures.files t q ∙ c.in_ok-plain.ensures.files t q;
     }

@@ -7,4 +7,4 @@ use Rattle.effic_command.proofs.effic.optimal.Goals as goal
 pub returns : goal.returns
 returns c =
     ap (certified_by None c.args.cert ends.Done) (c.in_ok-text.ensures
-    ∙ ap (λ (idle : ℕ). optimal_text c.args.cert idle) c.idle_of-idle.ensures)
+    ∙ ap (λ (idle : ℕ). optimal_text c.args.naming.now c.args.cert idle) c.idle_of-idle.ensures)

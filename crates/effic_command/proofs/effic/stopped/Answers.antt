@@ -7,4 +7,4 @@ use Rattle.effic_command.proofs.effic.stopped.Goals as goal
 pub returns : goal.returns
 returns c =
     ap (certified_by None c.args.cert ends.Stopped) (c.in_ok-text.ensures
-    ∙ ap (λ (idle : ℕ). stopped_text c.args.why c.args.cert idle) c.idle_of-idle.ensures)
+    ∙ ap (λ (idle : ℕ). stopped_text c.args.naming.now c.args.why c.args.cert idle) c.idle_of-idle.ensures)

@@ -14,6 +14,7 @@ use Rattle.solve_command.specs.Solution.{IsSolveOutcome}
 use Rattle.solve_command.specs.Promise.{IsPromised}
 use Rattle.cycle_command.specs.Found.{IsCycleOutcome}
 use Rattle.draw_command.specs.Draw.{IsDrawOutcome}
+use Rattle.draw_command.specs.Plan.{IsPlanOutcome}
 use Rattle.effic_command.specs.EfficFound.{IsEfficOutcome}
 use Rattle.effic_command.specs.EfficCheck.{IsEfficCheckOutcome}
 use Rattle.sequence_command.specs.Ordered.{IsSequenceOutcome}
@@ -59,10 +60,21 @@ returns-in-Convert-clause-ends g c = λ t.
     let o : Outside = outside (g.S.Shelf.file c.args.shelf.now) (g.S.Shelf.blames c.convert_report.new.shelf) in
     let after : Files = g.S.Shelf.file c.convert_report.new.shelf in
     let job = c.in-Convert in
-    let E : List ℕ → List ℕ → Type 0 = λ f n.
-    Ends o (IsConvertOutcome o f n job.to job.cycle) after c.convert_report.result in
+    let E : List ℕ → List ℕ → Option (List ℕ) → Type 0 = λ f n a.
+    Ends o (IsConvertOutcome o f n job.to a job.cycle) after c.convert_report.result in
     of_job o after c.convert_report.result _ _ job.is
-    (subst₂ E c.text-in-Convert.ensures c.text-in-Convert-2.ensures (c.convert_report.ensures.ends t))
+    (subst₃ E c.text-in-Convert.ensures c.text-in-Convert-2.ensures c.name_of-in-Convert.ensures
+    (c.convert_report.ensures.ends t))
+
+pub returns-in-Plan-clause-ends : goal.returns-in-Plan-clause-ends
+returns-in-Plan-clause-ends g c = λ t.
+    let o : Outside = outside (g.S.Shelf.file c.args.shelf.now) (g.S.Shelf.blames c.plan_report.new.shelf) in
+    let after : Files = g.S.Shelf.file c.plan_report.new.shelf in
+    let job = c.in-Plan in
+    let E : List ℕ → List ℕ → Option (List ℕ) → Type 0 = λ f p a.
+    Ends o (IsPlanOutcome o f p a) after c.plan_report.result in
+    of_job o after c.plan_report.result _ _ job.is
+    (subst₃ E c.text-in-Plan.ensures c.text-in-Plan-2.ensures c.name_of-in-Plan.ensures (c.plan_report.ensures.ends t))
 
 -- an outcome or a promise of `solve` in the words of the job
 of_solve : (E : List ℕ → Option (List ℕ) → Option (List ℕ) → LineKind → Option (List ℕ) → Type 0)

@@ -11,7 +11,8 @@ returns c = λ before N room solved. record {
   certificate = c.in_ok-certificate.certificate;
   proved = c.in_ok-certificate.ensures before N room solved;
   shown = ap (certified_by None c.in_ok-certificate.certificate ends.Done)
-      (optimal_as c.in_ok-text.text.items (string_bytes c.args.first) c.args.kind c.args.inst.now c.args.cycle
+      (optimal_as c.in_ok-text.text.items (string_bytes c.args.first) c.args.naming.now c.args.kind c.args.inst.now
+      c.args.cycle
       c.best-balance.result.now c.args.book.state.best c.idle_of-idle.result c.in_ok-text.ensures
       c.best-balance.ensures.best c.idle_of-idle.ensures);
 }

@@ -7,11 +7,12 @@ use Rattle.command_outcome.proofs.OutcomeFacts.{early, ends_as, handed_on}
 use Rattle.solve_command.specs.WarmStart.{Start}
 use Rattle.solution_page.specs.Page.{page_of, HasCertificate}
 use Rattle.solve_command.specs.Solution.{IsSolution, IsCutShort, IsSolveOutcome}
-use Rattle.solve_command.specs.Promise.{IsPromised}
+use Rattle.solve_command.specs.Promise.{IsPromised, IsShown}
 use Rattle.solve_command.specs.inner.Said.{IsUnsaidOrUnwarmed}
-use Rattle.solve_command.proofs.WrittenFacts.{answered, in_file, may_end_as}
-use Rattle.solution_page.proofs.WrittenFacts.{sayable}
+use Rattle.solve_command.proofs.WrittenFacts.{answered, in_file}
+use Rattle.solution_page.proofs.WrittenFacts.{may_end_as, sayable}
 use Rattle.solve_command.proofs.solution.solve_report.Goals as goal
+use Rattle.task_names.specs.declared.naming.Naming.{Naming}
 
 pub returns-in_err-said-clause-ends : goal.returns-in_err-said-clause-ends
 returns-in_err-said-clause-ends g c = λ t.
@@ -47,7 +48,8 @@ write_certificate-requires g c =
     let said = c.in_ok-said.said in
     let start : Start = record { olds = said.olds; seek = a.limit } in
     let r = c.in_ok-report.report in
-    let found = in_file a.kind said.timed.inst said.timed.cycle a.plan.now start (option_map (λ x. x.now) a.name) r
+    let found = in_file said.timed.naming a.kind said.timed.inst said.timed.cycle a.plan.now start
+    (option_map (λ x. x.now) a.name) r
     c.in_ok-report.ensures.answer in
     record { sayable = λ cert kept. sayable r found.0 cert found.1 kept found.2 }
 
@@ -63,14 +65,16 @@ returns-clause-ends g c = λ t.
     let plan = a.plan.now in
     let r = c.in_ok-report.report in
     let start : Start = record { olds = said.olds; seek = a.limit } in
-    let S : Outcome → Type 0 = IsSolution a.kind said.timed.inst said.timed.cycle plan start name in
-    let found = in_file a.kind said.timed.inst said.timed.cycle plan start name r c.in_ok-report.ensures.answer in
+    let S : Outcome → Type 0 = IsSolution said.timed.naming a.kind said.timed.inst said.timed.cycle plan start name in
+    let found = in_file said.timed.naming a.kind said.timed.inst said.timed.cycle plan start name r
+    c.in_ok-report.ensures.answer in
     ends_as o (λ out. out ≡ outcome_of r (page_of name found.0))
     (IsSolveOutcome o a.file.now apart warm a.limit a.word a.kind plan name)
     (g.S.Shelf.file c.write_certificate.new.shelf)
     c.write_certificate.result
     (λ out is. answered o a.file.now apart warm a.limit a.word a.kind said.timed.inst said.timed.cycle said.olds plan
-    name out (c.in_ok-said.ensures.said t) (inl (subst S (sym is) found.3)))
+    name out (c.in_ok-said.ensures.said t) (inl (subst (λ (n : Naming). IsSolution n a.kind said.timed.inst
+    said.timed.cycle plan start name out) (c.in_ok-said.ensures.naming t) (subst S (sym is) found.3))))
     (c.write_certificate.ensures.ends t files (c.in_ok-said.ensures.files t) found.0 found.1)
 
 pub returns-clause-promise : goal.returns-clause-promise
@@ -80,7 +84,11 @@ returns-clause-promise g c = λ t.
     let after : Files = g.S.Shelf.file c.write_certificate.new.shelf in
     let said = c.in_ok-said.said in
     let has = c.in_ok-said.ensures.said t in
-    let shown = c.in_ok-report.ensures.shown in
+    let r = c.in_ok-report.report in
+    let start : Start = record { olds = said.olds; seek = a.limit } in
+    let N : Naming → Type 0 = λ n. IsShown n a.kind said.timed.inst said.timed.cycle a.plan.now start r.status
+    r.text.items r.kept in
+    let shown = subst N (c.in_ok-said.ensures.naming t) c.in_ok-report.ensures.shown in
     let P : Report → Type 0 = λ r. IsPromised (g.S.Shelf.file a.shelf.now) after a.file.now
     (option_map (λ x. x.now) a.apart) (option_map (λ x. x.now) a.warm) a.limit a.word a.kind a.plan.now name r.status
     r.text.items r.kept in

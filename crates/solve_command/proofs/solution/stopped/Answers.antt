@@ -13,7 +13,8 @@ returns c = λ before top plan room spent. record {
   certificate = c.certify_warm_stop.result;
   proved = c.certify_warm_stop.ensures before top plan room spent;
   shown = ap (certified_by None c.certify_warm_stop.result ends.Stopped)
-      (stopped_as c.in_ok-text.text.items (string_bytes c.args.first) c.args.kind c.args.inst.now c.args.cycle
+      (stopped_as c.in_ok-text.text.items (string_bytes c.args.first) c.args.naming.now c.args.kind c.args.inst.now
+      c.args.cycle
       c.args.lower c.best-balance.result.now c.args.book.state.best c.idle_of-idle.result c.in_ok-text.ensures
       c.best-balance.ensures.best c.idle_of-idle.ensures);
 }

@@ -1,0 +1,4 @@
+pub mod TurnFacts
+pub mod SideFacts
+pub mod StationTurns
+pub mod WholePlan

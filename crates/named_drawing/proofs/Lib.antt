@@ -1,0 +1,14 @@
+pub mod EscapeFacts
+pub mod SplitFacts
+pub mod PageFacts
+pub mod RowFacts
+pub mod ListFacts
+pub mod BlankFacts
+pub mod LabelledFacts
+pub mod NamedSizes
+pub mod WholeSize
+pub mod XmlTexts
+pub mod XmlPieces
+pub mod XmlRows
+pub mod NameFacts
+pub mod XmlPicture

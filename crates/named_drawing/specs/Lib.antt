@@ -1,0 +1,10 @@
+pub mod inner
+pub mod Widths
+pub mod Labels
+pub mod Escapes
+pub mod Page
+pub mod NamedRows
+pub mod TaskList
+pub mod NamedDrawing
+pub mod NamedFacts
+pub mod Xml

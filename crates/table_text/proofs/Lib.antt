@@ -1,0 +1,11 @@
+pub mod Below
+pub mod Joined
+pub mod Found
+pub mod Counted
+pub mod CoverArcs
+pub mod ListedNames
+pub mod SaidMembers
+pub mod SameText
+pub mod WritingFacts
+pub mod Again
+pub mod ReadBack

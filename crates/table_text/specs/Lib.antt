@@ -1,0 +1,3 @@
+pub mod TableText
+pub mod Laws
+pub mod inner

@@ -1,0 +1,2 @@
+pub mod TaskNames
+pub mod Naming

@@ -1,0 +1,10 @@
+pub mod MarkFacts
+pub mod FieldFacts
+pub mod ListFacts
+pub mod LookupFacts
+pub mod LeftFacts
+pub mod TaskFacts
+pub mod RightTasks
+pub mod MemberFacts
+pub mod LinkFacts
+pub mod TableFacts

@@ -1,0 +1,9 @@
+use Rattle.csv.specs.Records.{fields_of}
+use Rattle.task_table.proofs.LeftFacts.{takes}
+use Rattle.task_table.proofs.records.next_record.Goals as goal
+
+pub returns-in-Ok : goal.returns-in-Ok
+returns-in-Ok c =
+    takes c.args.reader.now c.read_byte_record.new.self c.in-Ok.found (fields_of c.read_byte_record.new.row) c.requires
+    (c.in-Ok.ensures.reads c.requires.trim c.requires.ready) c.in-Ok.ensures.flexible
+    (c.in-Ok.ensures.ready c.requires.trim)

@@ -1,0 +1,3 @@
+pub mod RecordsLeft
+pub mod Reading
+pub mod Building
