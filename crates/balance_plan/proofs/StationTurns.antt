@@ -28,7 +28,6 @@ use Rattle.balance_plan.proofs.TurnFacts.{IsBackAt, IsFrontAt, back_at, back_cle
 use Rattle.balance_plan.proofs.TurnFacts.{back_within, both_clear, front_at, front_clear, front_first, front_has}
 use Rattle.balance_plan.proofs.TurnFacts.{front_meet, front_within, length-backs, length-fronts}
 
-
 -- What is true of the turns of station k: each is of a task of the station, each task of the station has one, and they
 -- are in order.
 pub record AreAt (line : Line) (c : ℕ) (places : List Seatplace) (k : ℕ) (turns : List Turn) : Type 0 where
