@@ -1,6 +1,6 @@
 -- The cycle time that an ALB text says is within its limits.
-use Rattle.std.proofs.Common.{◌≡◌, ◌∙◌, ℕ, ◌≤◌, Bool, true, false, cond, nat_eq, List, [], ◌∷◌, ◌++◌, Option, Some, None}
-use Rattle.std.proofs.Common.{refl, sym, ap, arith}
+use Rattle.std.proofs.Common.{◌≡◌, ◌∙◌, ℕ, ◌≤◌, Bool, true, false, cond, nat_eq, List, [], ◌∷◌, ◌++◌, Option, Some}
+use Rattle.std.proofs.Common.{None, refl, sym, ap, arith}
 use Rattle.std.proofs.lemmas.Bool.Decides.{nat_tests}
 use Rattle.std.proofs.lemmas.Option.{same_Some}
 use Rattle.line_io.specs.Lines.{number_in}
@@ -84,7 +84,8 @@ first_cycle before (l ∷ lines) c right none says =
     at_line before l lines c right.0 none (first_cycle (before ++ l ∷ []) lines c right.1) (mark_of l.1) refl
     (is_in Cycle (section_after None before)) refl says
 
-pub cycle_within : (bytes : List ℕ) (line : Line) (given : Option ℕ) → IsAlbReading bytes line given → IsGivenCycle given
+pub cycle_within : (bytes : List ℕ) (line : Line) (given : Option ℕ) → IsAlbReading bytes line given
+    → IsGivenCycle given
 cycle_within bytes line given a = by given a.timed
   where
     by : (g : Option ℕ) → g ≡ cycle_said (before_end (contents_from 1 bytes)) → IsGivenCycle g

@@ -17,7 +17,8 @@ use Rattle.convert_command.specs.Convert.{IsTextIn}
 use Rattle.form_laws.proofs.FormFacts.{form_right, form_same}
 use Rattle.form_laws.proofs.OneLine.{cycle_given, same_of, same_on, says_cycle, says_names, says_one}
 use Rattle.form_laws.proofs.OneText.{one_in2_text}
-use Rattle.form_laws.proofs.SoundLines.{IsLeft, IsNear, fitted, fitted_line, fitted_ranked, left_by, same_apart, says_near}
+use Rattle.form_laws.proofs.SoundLines.{IsLeft, IsNear, fitted, fitted_line, fitted_ranked, left_by, same_apart}
+use Rattle.form_laws.proofs.SoundLines.{says_near}
 
 -- the text of a line is that of the instance at hand
 fitted_text : (to : FormWord) (line : Line) (near : IsNear line) (names : List (List ℕ)) (cycle : Option ℕ)

@@ -191,8 +191,8 @@ near_sheet records line sheet =
     }
 
 -- more tasks apart
-either_swapped : (whole : Line) (near : IsNear whole) (pairs : List Prec) (i j : ℕ) → Apart whole i j ⊎ IsGiven pairs i j
-    → Apart whole j i ⊎ IsGiven pairs j i
+either_swapped : (whole : Line) (near : IsNear whole) (pairs : List Prec) (i j : ℕ)
+    → Apart whole i j ⊎ IsGiven pairs i j → Apart whole j i ⊎ IsGiven pairs j i
 either_swapped whole near pairs i j (inl a) = inl (near.both_ways i j a)
 either_swapped whole near pairs i j (inr g) = inr (swapped pairs i j g)
 

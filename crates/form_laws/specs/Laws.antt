@@ -31,8 +31,8 @@ pub record IsCanonical (to : FormWord) (line : Line) (cycle : Option ℕ) (bytes
   pub limit : IsGivenCycle cycle
   pub text : IsTextIn to line names cycle bytes
 
--- A canonical text has no fault, and whatever it says, by whatever form it is taken for, is the line that it was written
--- of; an ALB text says the cycle time too.
+-- A canonical text has no fault. Whatever it says, by whatever form it is taken for, is the line that it was written of;
+-- an ALB text says the cycle time too.
 pub record EveryFormKeepsItsLine : Type 0 where
   pub right : (to : FormWord) (line : Line) (cycle : Option ℕ) (bytes name : List ℕ) (out : Outcome)
       → IsCanonical to line cycle bytes → IsFaulty name bytes out → ⊥
@@ -41,8 +41,8 @@ pub record EveryFormKeepsItsLine : Type 0 where
   pub timed : (line other : Line) (cycle given : Option ℕ) (bytes : List ℕ)
       → IsCanonical Alb line cycle bytes → Says bytes other given → given ≡ cycle
 
--- A run of `convert` takes a text to another one in a form: the one is its first file, and the other its page. The cycle
--- time of the words, where they have one, is 1 to 10^18.
+-- A run of `convert` takes a text to another one in a form: the one is its first file, and the other its page. The
+-- cycle time of the words, where they have one, is 1 to 10^18.
 pub record IsRun (first : List ℕ) (to : FormWord) (last : List ℕ) : Type 0 where
   pub files : Files
   pub name : List ℕ
@@ -61,8 +61,8 @@ pub data AreRuns (first : List ℕ) : FormWord → List ℕ → Type 0 where
   one : {to : FormWord} {last : List ℕ} → IsRun first to last → AreRuns first to last
   more : {way to : FormWord} {mid last : List ℕ} → AreRuns first way mid → IsRun mid to last → AreRuns first to last
 
--- What runs have written has no fault, and whatever it says is the line that the first text says. In IN2 and in ALB it is
--- a canonical text of that line. So a canonical IN2 text comes back byte for byte.
+-- What runs have written has no fault, and whatever it says is the line that the first text says. In IN2 and in ALB it
+-- is a canonical text of that line. So a canonical IN2 text comes back byte for byte.
 pub record EveryChainKeepsItsLine : Type 0 where
   pub right : (first last name : List ℕ) (to : FormWord) (out : Outcome)
       → AreRuns first to last → IsFaulty name last out → ⊥

@@ -12,7 +12,8 @@ pub fn every_line_has_one_text()
 {}
 
 /// However often a text is converted, by runs of `convert` in any forms, it has no fault, and says the times and the
-/// precedences that the first text says; in IN2 and ALB it is a canonical text of that line, and a canonical IN2 text comes back byte for byte.
+/// precedences that the first text says. In IN2 and ALB it is a canonical text of that line. So a canonical IN2 text
+/// comes back byte for byte.
 pub fn every_chain_keeps_its_line()
     ensures { EveryChainKeepsItsLine }
 {}
