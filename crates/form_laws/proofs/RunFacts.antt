@@ -20,27 +20,47 @@ use Rattle.form_laws.proofs.OneText.{one_in2_text}
 use Rattle.form_laws.proofs.SoundLines.{IsLeft, IsNear, fitted, fitted_line, fitted_ranked, left_by, same_apart}
 use Rattle.form_laws.proofs.SoundLines.{says_near}
 
+-- the same line has the same covering pairs, and so the same texts
+same_covers : (line other : Line) (ps : List Prec) → IsSameLine line other → AreCovers other ps → AreCovers line ps
+same_covers line other ps s a =
+    let there : (i j : ℕ) → Covers other i j → Covers line i j = λ i j c. record {
+      before = (s.before i j).0 c.before;
+      between = λ k x y. c.between k ((s.before i k).1 x) ((s.before k j).1 y);
+    } in
+    let back : (i j : ℕ) → Covers line i j → Covers other i j = λ i j c. record {
+      before = (s.before i j).1 c.before;
+      between = λ k x y. c.between k ((s.before i k).0 x) ((s.before k j).0 y);
+    } in
+    record {
+      rises = a.rises;
+      right = λ k l. there _ _ (a.right k l);
+      all = λ i j c. a.all i j (back i j c);
+    }
+
+same_in2_text : (line other : Line) (bytes : List ℕ) → IsSameLine line other → IsIn2Text other bytes
+    → IsIn2Text line bytes
+same_in2_text line other bytes same t = record {
+  ps = t.ps;
+  covers = same_covers line other t.ps same t.covers;
+  text = t.text ∙ ap (λ ts. in2_text ts t.ps) same.times;
+}
+
+same_alb_text : (line other : Line) (cycle : Option ℕ) (bytes : List ℕ) → IsSameLine line other
+    → IsAlbText other cycle bytes → IsAlbText line cycle bytes
+same_alb_text line other cycle bytes same t = record {
+  ps = t.ps;
+  covers = same_covers line other t.ps same t.covers;
+  text = t.text
+      ∙ ap (λ ts. alb_text (record { times = ts; before = []; apart = []; order = [] }) t.ps cycle) same.times;
+}
+
 -- the text of a line is that of the instance at hand
 fitted_text : (to : FormWord) (line : Line) (near : IsNear line) (names : List (List ℕ)) (cycle : Option ℕ)
     (bytes : List ℕ) → IsTextIn to line names cycle bytes → IsTextIn to (fitted line near) names cycle bytes
-fitted_text In2 line near names cycle bytes t = record {
-  ps = t.ps;
-  covers = record {
-    rises = t.covers.rises;
-    right = λ k l. let c = t.covers.right k l in record { before = c.before; between = c.between };
-    all = λ i j c. t.covers.all i j (record { before = c.before; between = c.between });
-  };
-  text = t.text;
-}
-fitted_text Alb line near names cycle bytes t = record {
-  ps = t.ps;
-  covers = record {
-    rises = t.covers.rises;
-    right = λ k l. let c = t.covers.right k l in record { before = c.before; between = c.between };
-    all = λ i j c. t.covers.all i j (record { before = c.before; between = c.between });
-  };
-  text = t.text;
-}
+fitted_text In2 line near names cycle bytes t =
+    same_in2_text (fitted line near) line bytes (same_of (fitted line near) line refl refl) t
+fitted_text Alb line near names cycle bytes t =
+    same_alb_text (fitted line near) line cycle bytes (same_of (fitted line near) line refl refl) t
 fitted_text Csv line near names cycle bytes t =
     t ∙ sym (same_text (fitted line near) line names names refl (λ i j. (λ b. b, λ b. b)) (same_apart line near) refl)
 fitted_text Cert line near names cycle bytes t = t
@@ -76,7 +96,7 @@ step_of first last to run =
     let F : Option (List ℕ) → Type 0 = λ f.
     AreNamesOf (tasks c.line) (names_for (naming_in f) (tasks c.line)) in
     let called = subst F (sym run.file) (subst N many (says_names first whole c.given said)) in
-    let page = page_bytes _ _ (sym (ap (λ (o : Outcome). o.page) c.shown) ∙ run.page) in
+    let page : c.bytes ≡ last = page_bytes _ _ (sym (ap (λ (o : Outcome). o.page) c.shown) ∙ run.page) in
     let T : List ℕ → Type 0 = λ bytes. IsTextIn to (fitted c.line left.near)
     (names_for (naming_in (run.files run.name)) (tasks c.line)) (cycle_of run.word c.given) bytes in
     record {
@@ -131,40 +151,6 @@ runs_same first last to line other given again runs s t =
     let k = kept first last to runs in
     same_on line k.line other (same_kept first last to k line given s)
     (form_same to k.line other k.cycle again last k.canonical t)
-
--- the covering pairs of the same line
-same_covers : (line other : Line) (ps : List Prec) → IsSameLine line other → AreCovers other ps → AreCovers line ps
-same_covers line other ps s a =
-    let there : (i j : ℕ) → Covers other i j → Covers line i j = λ i j c. record {
-      before = (s.before i j).0 c.before;
-      between = λ k x y. c.between k ((s.before i k).1 x) ((s.before k j).1 y);
-    } in
-    let back : (i j : ℕ) → Covers line i j → Covers other i j = λ i j c. record {
-      before = (s.before i j).1 c.before;
-      between = λ k x y. c.between k ((s.before i k).0 x) ((s.before k j).0 y);
-    } in
-    record {
-      rises = a.rises;
-      right = λ k l. there _ _ (a.right k l);
-      all = λ i j c. a.all i j (back i j c);
-    }
-
-same_in2_text : (line other : Line) (bytes : List ℕ) → IsSameLine line other → IsIn2Text other bytes
-    → IsIn2Text line bytes
-same_in2_text line other bytes same t = record {
-  ps = t.ps;
-  covers = same_covers line other t.ps same t.covers;
-  text = t.text ∙ ap (λ ts. in2_text ts t.ps) same.times;
-}
-
-same_alb_text : (line other : Line) (cycle : Option ℕ) (bytes : List ℕ) → IsSameLine line other
-    → IsAlbText other cycle bytes → IsAlbText line cycle bytes
-same_alb_text line other cycle bytes same t = record {
-  ps = t.ps;
-  covers = same_covers line other t.ps same t.covers;
-  text = t.text
-      ∙ ap (λ ts. alb_text (record { times = ts; before = []; apart = []; order = [] }) t.ps cycle) same.times;
-}
 
 runs_in2 : (first last : List ℕ) (line : Line) (given : Option ℕ) → AreRuns first In2 last → Says first line given
     → IsIn2Text line last
