@@ -1,0 +1,4 @@
+pub mod KeptTasks
+pub mod RowFacts
+pub mod StepFacts
+pub mod FoundFacts
