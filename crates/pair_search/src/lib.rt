@@ -12,5 +12,7 @@ mod rows;
 mod step;
 mod table;
 mod task_map;
+#[cfg(test)]
+mod tests;
 
 pub use table::{PairTable, Paired, pair_table};

@@ -69,6 +69,14 @@ impl Matching {
         self.second = self.second.meet(tasks);
     }
 
+    /// A number of pairs that it has at least within these tasks: those whose first task is there, less the second
+    /// tasks that aren't.
+    #[inline]
+    pub(crate) fn at_least(&self, tasks: &TaskSet) -> u32 {
+        let gone = self.second.minus(tasks);
+        self.first.meet(tasks).count().saturating_sub(gone.count())
+    }
+
     /// Drops the pairs with a task that isn't among these tasks.
     pub(crate) fn keep(&mut self, tasks: &TaskSet) {
         self.drop_firsts(tasks);
@@ -114,16 +122,15 @@ impl Matching {
         paths.close();
     }
 
-    /// The items that are loose: those that come first in no pair of some greatest matching. None where the items are
-    /// too few, or have so many pairs that they don't refute so many stations.
+    /// The items that are loose: those that come first in no pair of some greatest matching of them. None where the
+    /// matching has, or gets, so many pairs as are enough.
     pub(crate) fn loose(
         &mut self,
         rows: &[TaskSet],
         items: &TaskSet,
-        most: u32,
+        enough: u32,
         paths: &mut Paths,
     ) -> Option<TaskSet> {
-        let enough = 2 * items.count().saturating_sub(most);
         self.keep(items);
         paths.clear();
         let free = items.minus(&self.first);

@@ -106,6 +106,17 @@ impl PairTable {
         Paired::Refuted { hull, two }
     }
 
+    // Begins with the matching of the deepest frame where that has more pairs within some tasks than the last one.
+    fn begin(&mut self, tasks: &TaskSet)
+        ensures kept { self.new ≡ self.old }
+    {
+        if let Some(frame) = self.frames.last() {
+            if frame.at_least(tasks) > self.matching.at_least(tasks) {
+                self.matching = *frame;
+            }
+        }
+    }
+
     /// What pairs say of a set of tasks in `most` stations, at most 1,024. Takes no memory.
     pub fn find(&mut self, inst: &Instance, set: &TaskSet, most: u32) -> Paired
         requires table { IsTableOf inst.now self.old }
@@ -117,13 +128,15 @@ impl PairTable {
         ensures kept { self.new ≡ self.old }
     {
         let items = set.meet(&self.long);
-        if items.count() <= most {
+        let enough = 2 * items.count().saturating_sub(most);
+        if enough == 0 {
             return Paired::Open;
         }
-        if let Some(frame) = self.frames.last() {
-            self.matching = *frame;
+        self.begin(&items);
+        if self.matching.at_least(&items) >= enough {
+            return Paired::Open;
         }
-        let loose = self.matching.loose(&self.rows, &items, most, &mut self.paths);
+        let loose = self.matching.loose(&self.rows, &items, enough, &mut self.paths);
         let Some(loose) = loose else {
             return Paired::Open;
         };
@@ -131,14 +144,14 @@ impl PairTable {
         self.tested(inst, set, most, &two)
     }
 
-    /// Goes into a frame with this set: its rests begin with the pairs that were found last. An error where memory is
-    /// wanting; then the frame isn't kept, and none has to be left.
+    /// Goes into a frame with this set: its rests begin with the pairs that are known of it. An error where memory is
+    /// wanting; then there is no frame to leave.
     pub fn enter(&mut self, set: &TaskSet) -> Result<(), AllocError>
         ensures kept { self.new ≡ self.old }
     {
-        let mut matching = self.matching;
-        matching.keep(set);
-        self.frames.push(matching)?;
+        self.begin(set);
+        self.matching.keep(set);
+        self.frames.push(self.matching)?;
         Ok(())
     }
 
