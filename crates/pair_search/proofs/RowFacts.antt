@@ -1,17 +1,49 @@
 -- The long tasks, the row of a task, and the rows put one behind the other.
 use Rattle.std.proofs.Common.{◌≡◌, ◌≢◌, ℕ, suc, ◌+◌, ◌*◌, ◌<◌, ◌≤◌, Bool, false, List, [], ◌∷◌, ◌++◌, length, get_or, set}
 use Rattle.std.proofs.Common.{sym, ap, ◌∙◌, subst, ◌↔◌, inl, inr, arith}
-use Rattle.std.proofs.Common.{length-append}
-use Rattle.std.proofs.lemmas.Bool.{cases_lt}
-use Rattle.std.proofs.lemmas.List.{get_or_append_left}
+use Rattle.std.proofs.Common.{length-append, replicate}
+use Rattle.std.proofs.lemmas.Bool.{cases_lt, false_from_ne_true}
+use Rattle.std.proofs.lemmas.List.{get_or_append_left, length-replicate}
 use Rattle.std.proofs.Math.Seq.{get_or-append_seam}
 use Rattle.line_instance.specs.Truths.{In, full_to, members_of}
-use Rattle.line_instance.specs.Line.{Line, tasks, time}
-use Rattle.line_instance.proofs.Members.{In-clear, In-clear_kept, In-clear_gone, In-full_to, In-full_to_below}
+use Rattle.line_instance.specs.Line.{Line, IsTaskSet, tasks, time, has}
+use Rattle.line_instance.specs.Sums.{sum_where}
+use Rattle.line_instance.proofs.Sums.{weigh-none, weigh-one}
+use Rattle.line_instance.proofs.Members.{In-clear, In-clear_kept, In-clear_gone, In-full_to, In-full_to_below, In-empty}
 use Rattle.line_rules.specs.declared.types.LineKind.{LineKind}
-use Rattle.pair_rule.specs.Pairs.{Conflict}
+use Rattle.line_rules.specs.declared.types.LineKind.TheVariants.{U}
+use Rattle.pair_rule.specs.Pairs.{time_between, Conflict}
+use Rattle.pair_rule.proofs.Between.{none_between}
 use Rattle.pair_search.specs.Sharing.{AreLong, IsRowOf}
 use Rattle.pair_search.proofs.KeptTasks.{AreKept, kept_start, kept_end, kept_all}
+
+-- no task is a set of tasks, and takes no time
+pub no_tasks : (line : Line) (s : List Bool) → s ≡ replicate 1024 false → IsTaskSet line s
+no_tasks line s e = record {
+  truths = ap length e ∙ length-replicate 1024 false;
+  tasks = λ i m. absurd (In-empty 1024 i (let P : List Bool → Type 0 = λ t. In t i in subst P e m));
+}
+
+pub nothing_between : (kind : LineKind) → kind ≡ U → (line : Line) (i j : ℕ) (s : List Bool) → s ≡ replicate 1024 false
+    → sum_where (has s) line.times ≡ time_between kind line (full_to (tasks line)) i j
+nothing_between kind u line i j s e =
+    let none : (k : ℕ) → has s k ≡ false = λ k. false_from_ne_true (has s k)
+    (λ m. In-empty 1024 k (let P : List Bool → Type 0 = λ t. In t k in subst P e m)) in
+    weigh-none (λ t. t) (has s) none line.times ∙ none_between kind u line (full_to (tasks line)) i j
+
+-- two long tasks conflict where a third one lies between them
+pub crowded : {line : Line} {c : ℕ} {long : List Bool} (kind : LineKind) (i j : ℕ) (between : List Bool) (k : ℕ)
+    → AreLong line c long → In long i → In long j → In long k → In between k
+    → sum_where (has between) line.times ≡ time_between kind line (full_to (tasks line)) i j
+    → Conflict kind line c (full_to (tasks line)) i j
+crowded {line} {c} {long} kind i j between k h mi mj mk m e = inr (omega (
+  arith,
+  ((h.members i).0 mi).1,
+  ((h.members j).0 mj).1,
+  ((h.members k).0 mk).1,
+  weigh-one (λ t. t) (has between) k line.times ((h.members k).0 mk).0 m,
+  e,
+))
 
 -- the tasks above a third of a cycle are kept
 abbrev pub LongLeft : Line → ℕ → List Bool → List ℕ → Type 0

@@ -14,7 +14,7 @@ over_as : {s : List Bool} {B K M : ℕ → Type 0} {left : List ℕ} → AreOver
     → AreOver s B M left
 over_as h f = record {
   members = h.members;
-  others = λ j b. elim (h.others j b) [ | inl l ↦ inl l | inr k ↦ inr (f j k) ];
+  others = λ j b. elim (h.others j b) [ inl l ↦ inl l | inr k ↦ inr (f j k) ];
 }
 
 -- task i shares with no task of two and none of `one`

@@ -136,7 +136,9 @@ impl PairTable {
         if self.matching.at_least(&items) >= enough {
             return Paired::Open;
         }
-        let loose = self.matching.loose(&self.rows, &items, enough, &mut self.paths);
+        let loose = self
+            .matching
+            .loose(&self.rows, &items, enough, &mut self.paths);
         let Some(loose) = loose else {
             return Paired::Open;
         };
