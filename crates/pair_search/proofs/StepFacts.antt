@@ -1,5 +1,5 @@
 -- Going over the tasks that were found: which items are `one`, and what lies between.
-use Rattle.std.proofs.Common.{◌≡◌, ℕ, Bool, true, false, ◌&&◌, List, [], ◌∷◌, get_or, sym, ap, ◌∙◌, subst, ◌⊎◌, ◌↔◌}
+use Rattle.std.proofs.Common.{◌≡◌, ℕ, Bool, true, false, ◌&&◌, List, [], ◌∷◌, get_or, sym, ◌∙◌, subst, ◌↔◌}
 use Rattle.std.proofs.Common.{inl, inr}
 use Rattle.std.proofs.lemmas.Bool.{false≢true, and_parts, or_cases}
 use Rattle.line_instance.specs.Truths.{In, IsEmpty, IsSubset, union, minus, meet, members_of}

@@ -1,5 +1,5 @@
-//! The search for pairs: of a question, whether a set of tasks has a balance in so many stations, it finds tasks by
-//! which pairs refute it. Own; the matching is made greater by the alternating paths of Berge, 1957.
+//! The search for pairs: whether a few tasks, of which no two can share a station, show that a set of tasks has no
+//! balance in so many stations. Own; the matching is made greater by the alternating paths of Berge, 1957.
 //!
 //! Which tasks above a third of the cycle may share a station is the same in each set that a search meets. So it is
 //! kept in a table, one for each cycle, as rows of bits. A question costs a greatest matching in those rows, begun with

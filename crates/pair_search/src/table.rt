@@ -20,12 +20,13 @@ use line_rules::LineKind;
 use std::alloc::{AllocError, Global};
 use std::marker::Model;
 
-/// What pairs say of a question: whether a set of tasks has a balance in so many stations.
+/// What pairs say of a question: whether a set of tasks has a balance in so many stations. Own; after the bin packing
+/// bounds of Martello and Toth, 1990.
 #[derive(Clone, Copy, Debug, PartialEq, Eq)]
 pub enum Paired {
     /// It has none.
     Refuted {
-        /// A part of the set that pairs refute.
+        /// A part of the set that pairs refute: the tasks that count, and what lies between two of them.
         hull: TaskSet,
         /// The tasks of the hull that count twice.
         two: TaskSet,
@@ -37,6 +38,7 @@ pub enum Paired {
 /// Who shares with whom at one cycle, on one line, with the matchings of the frames of a search.
 ///
 /// A contract sees it as the kind of line, the cycle, the tasks above a third of the cycle, and a row for each of them.
+/// The matchings have no part in it: they change what a question costs, and never what its answer means.
 #[derive(Drop)]
 pub struct PairTable {
     kind: LineKind,
@@ -117,7 +119,8 @@ impl PairTable {
         }
     }
 
-    /// What pairs say of a set of tasks in `most` stations, at most 1,024. Takes no memory.
+    /// What pairs say of a set of tasks in `most` stations, at most 1,024, on the table's line. A refutation is looked
+    /// for in full where the set has each task that lies between two of its own. Takes no memory.
     pub fn find(&mut self, inst: &Instance, set: &TaskSet, most: u32) -> Paired
         requires table { IsTableOf inst.now self.old }
         requires set { IsTaskSet inst.now set.now }

@@ -1,5 +1,5 @@
-use Rattle.std.proofs.Common.{◌≡◌, ◌<◌, Bool, List, length, sym, ap, ◌∙◌, subst, arith}
-use Rattle.line_instance.specs.Truths.{In, meet, union, count}
+use Rattle.std.proofs.Common.{◌≡◌, Bool, List, length, ap, ◌∙◌, subst, arith}
+use Rattle.line_instance.specs.Truths.{In, meet}
 use Rattle.line_instance.proofs.Members.{In-meet_parts}
 use Rattle.line_rules.specs.declared.types.LineKind.{LineKind}
 use Rattle.pair_search.specs.inner.Ones.{AreOnes}
@@ -20,8 +20,8 @@ ones-requires c = record {
 }
 
 pub hull-hull-requires : goal.hull-hull-requires
-hull-hull-requires c = found_tasks c.args.inst.now c.args.set.now c.self.inside.long c.meet-items.result c.args.tasks.now
-    c.union.result c.requires.set c.meet-items.ensures.value c.meet-two.ensures.value c.in-Some.ensures
+hull-hull-requires c = found_tasks c.args.inst.now c.args.set.now c.self.inside.long c.meet-items.result
+    c.args.tasks.now c.union.result c.requires.set c.meet-items.ensures.value c.meet-two.ensures.value c.in-Some.ensures
     c.union.ensures.value c.union.ensures.truths
 
 pub returns-clause-refuted : goal.returns-clause-refuted
