@@ -1,0 +1,5 @@
+pub mod StepFacts
+pub mod TableFacts
+pub mod ValueFacts
+pub mod FirstFacts
+pub mod PassFacts

@@ -1,0 +1,5 @@
+pub mod Nodes
+pub mod Tables
+pub mod Values
+pub mod Calls
+pub mod inner
