@@ -3,7 +3,7 @@
 //!
 //! A unit of A takes 7: it costs 1 from the station's beginning and 2 from 1 on, and leads to 1. One of B takes 3: it
 //! costs 0 and leads to 0.
-ghost use Rattle.std.specs.Prelude.{◌×◌, IfOk};
+ghost use Rattle.std.specs.Prelude.{IfOk};
 ghost use Rattle.sequence_rules.specs.Ranges.{AreTimes};
 ghost use Rattle.charge_rule.specs.Charges.{AreLight};
 
