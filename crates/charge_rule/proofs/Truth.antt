@@ -1,17 +1,17 @@
 -- In a derived list every lemma holds, and what a lemma that holds answers is true.
-use Rattle.std.proofs.Common.{◌≡◌, ℕ, zero, suc, ◌+◌, ◌-◌, ◌*◌, ◌<◌, ◌≤◌, Bool, true, nat_lt, List, [], ◌∷◌, length, take}
-use Rattle.std.proofs.Common.{sym, ◌∙◌, inl, inr, arith, sum, Some}
-use Rattle.std.specs.Prelude.{slice_get, sum_by, All}
+use Rattle.std.proofs.Common.{◌≡◌, ℕ, zero, suc, ◌+◌, ◌-◌, ◌<◌, ◌≤◌, Bool, true, List, [], ◌∷◌, length, take}
+use Rattle.std.proofs.Common.{sym, ◌∙◌, inl, inr, arith, Some}
+use Rattle.std.specs.Prelude.{slice_get}
 use Rattle.std.proofs.lemmas.Bool.{cases_lt, lt-ltb}
 use Rattle.std.proofs.lemmas.Option.{slice_get_within}
 use Rattle.line_rules.proofs.ListFacts.{get_take, get_some}
 use Rattle.sequence_values.specs.declared.types.Times.{Times}
-use Rattle.sequence_rules.specs.States.{next_starts, cost, Holds}
+use Rattle.sequence_rules.specs.States.{next_starts, Holds}
 use Rattle.sequence_rules.specs.Entries.{passing}
 use Rattle.sequence_rules.proofs.CostFacts.{as_many_left}
 use Rattle.sequence_rules.proofs.LemmasHold.{passing_at}
-use Rattle.charge_rule.specs.Charges.{IsRow, charge_of, charged_cost, HoldsCharged, unit_cost, IsServed, needs_cite}
-use Rattle.charge_rule.specs.Charges.{FollowsByCharge, IsChargeDerived, charges_left, AnswersCharged}
+use Rattle.charge_rule.specs.Charges.{IsRow, charged_cost, HoldsCharged, unit_cost, IsServed, needs_cite}
+use Rattle.charge_rule.specs.Charges.{FollowsByCharge, IsChargeDerived, AnswersCharged}
 use Rattle.charge_rule.specs.declared.types.ChargeLemma.{ChargeLemma}
 use Rattle.charge_rule.proofs.RowFacts.{charged_steps, later_charged, models_within, owed}
 

@@ -1,7 +1,6 @@
 -- The table with node 0 alone.
-use Rattle.std.proofs.Common.{◌≡◌, ℕ, zero, suc, ◌+◌, ◌*◌, ◌/◌, ◌<◌, ◌≤◌, List, [], ◌∷◌, length, get_or, replicate, refl}
+use Rattle.std.proofs.Common.{◌≡◌, ℕ, zero, suc, ◌+◌, ◌≤◌, List, [], ◌∷◌, length, get_or, replicate, refl}
 use Rattle.std.proofs.Common.{sym, ap, ◌∙◌, subst, arith, sum}
-use Rattle.std.specs.Prelude.{All}
 use Rattle.std.specs.List.{AllZip}
 use Rattle.std.proofs.lemmas.List.{length-replicate, get_or_default}
 use Rattle.std.proofs.lemmas.Nat.{le-div}
@@ -12,9 +11,9 @@ use Rattle.sequence_rules.specs.Ranges.{AreTimes, IsPlace}
 use Rattle.sequence_rules.proofs.SumFacts.{length-value_at_each}
 use Rattle.sequence_rules.proofs.UnitCounts.{noughts}
 use Rattle.charge_rule.specs.Charges.{AreLight}
-use Rattle.sequence_table.specs.Nodes.{Nodes, starts_of, next_of}
+use Rattle.sequence_table.specs.Nodes.{starts_of, next_of}
 use Rattle.sequence_table.specs.inner.Kept.{nodes_of}
-use Rattle.sequence_table.specs.Tables.{IsTable, Leads, AreWithin, one_node, most_nodes}
+use Rattle.sequence_table.specs.Tables.{IsTable, Leads, AreWithin, one_node}
 
 -- nothing is before the beginning of each station
 noughts_first : (n : ℕ) (ys : List ℕ) → length ys ≡ n → AllZip (λ a b. a ≤ b) (replicate n 0) ys

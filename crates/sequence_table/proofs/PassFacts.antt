@@ -1,5 +1,5 @@
 -- A pass, place by place: costs of units, and values of nodes.
-use Rattle.std.proofs.Common.{◌≡◌, ℕ, zero, suc, ◌+◌, ◌-◌, ◌*◌, ◌/◌, ◌%◌, ◌<◌, ◌≤◌, List, [], ◌∷◌, ◌++◌, length, get_or, min}
+use Rattle.std.proofs.Common.{◌≡◌, ℕ, suc, ◌+◌, ◌-◌, ◌*◌, ◌/◌, ◌%◌, ◌<◌, ◌≤◌, List, [], ◌∷◌, ◌++◌, length, get_or, min}
 use Rattle.std.proofs.Common.{replicate, refl, sym, ap, ◌∙◌, subst, inl, inr, arith, add-one, length-append, sum}
 use Rattle.std.specs.Prelude.{All}
 use Rattle.std.proofs.lemmas.Bool.{cases_lt}
@@ -11,7 +11,7 @@ use Rattle.sequence_rules.specs.States.{root_starts}
 use Rattle.charge_rule.specs.Charges.{AreCharges, HoldsCharged, unit_cost}
 use Rattle.sequence_table.specs.Nodes.{Nodes, starts_of, next_of}
 use Rattle.sequence_table.specs.Tables.{IsTable}
-use Rattle.sequence_table.specs.Values.{least_to, value_of, Values, told, IsToldOf, AreBelow}
+use Rattle.sequence_table.specs.Values.{least_to, value_of, told, IsToldOf, AreBelow}
 use Rattle.sequence_table.specs.inner.Kept.{values_of}
 use Rattle.sequence_table.specs.inner.Levels.{AreCostsTo, AreCosts, AreValuesTo}
 use Rattle.sequence_table.proofs.ValueFacts.{least_same, value_limit, value_holds}

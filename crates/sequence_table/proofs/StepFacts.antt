@@ -1,5 +1,5 @@
 -- Starts that are no later, and where a step leads from them.
-use Rattle.std.proofs.Common.{◌≡◌, ℕ, zero, suc, ◌+◌, ◌-◌, ◌<◌, ◌≤◌, List, [], ◌∷◌, length, refl, arith}
+use Rattle.std.proofs.Common.{ℕ, suc, ◌≤◌, List, [], ◌∷◌, arith}
 use Rattle.std.specs.List.{AllZip}
 use Rattle.utility_work.specs.Utility.{next_start}
 use Rattle.sequence_values.specs.declared.types.Times.{Times}

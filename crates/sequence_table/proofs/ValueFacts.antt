@@ -1,9 +1,7 @@
 -- The values of nodes: the least over the models, how great they are, and that every row costs at least so much.
-use Rattle.std.proofs.Common.{◌≡◌, ℕ, zero, suc, ◌+◌, ◌-◌, ◌*◌, ◌<◌, ◌≤◌, List, [], ◌∷◌, length, refl, sym, subst, inl, inr, arith, min}
-use Rattle.std.specs.Prelude.{All, slice_index_or}
+use Rattle.std.proofs.Common.{◌≡◌, ℕ, zero, suc, ◌+◌, ◌-◌, ◌*◌, ◌<◌, ◌≤◌, List, [], ◌∷◌, length, sym, subst, inl, inr, arith, min}
 use Rattle.std.proofs.lemmas.Bool.{cases_lt}
-use Rattle.sequence_rules.specs.States.{next_starts}
-use Rattle.charge_rule.specs.Charges.{IsRow, AreCharges, charged_cost, HoldsCharged, unit_cost}
+use Rattle.charge_rule.specs.Charges.{IsRow, AreCharges, HoldsCharged, unit_cost}
 use Rattle.charge_rule.proofs.RowFacts.{charged_steps, later_charged, unit_light}
 use Rattle.sequence_table.specs.Nodes.{Nodes, starts_of, next_of}
 use Rattle.sequence_table.specs.Tables.{IsTable, led_to}

@@ -1,7 +1,7 @@
 //! A table of nodes, and the opening of a step.
 //!
-//! The look-up of starts goes over all nodes, in time proportional to them, and mostly compares one start of each. A
-//! pass over the table takes longer than all look-ups between two passes.
+//! The look-up of starts goes over all nodes, one after the other, and mostly compares one start of each. So opening
+//! each step of a row goes over units times nodes. A pass does that for each model.
 ghost use Rattle.std.specs.Prelude.{◌≡◌, ◌+◌, ◌<◌, ◌≤◌, ◌∷◌, [], length, replicate, slice_get, Some, IsNone, IfSome};
 ghost use Rattle.std.specs.Prelude.{IfOk, OnErr, sum, slice_index_or, vec_len};
 ghost use Rattle.std.specs.Vec.{vec_capacity};

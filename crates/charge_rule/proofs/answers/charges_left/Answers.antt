@@ -1,4 +1,4 @@
-use Rattle.std.proofs.Common.{◌∙◌, ap, sym, arith, ◌+◌, ◌*◌, get_or}
+use Rattle.std.proofs.Common.{arith}
 use Rattle.charge_rule.proofs.RowFacts.{owed_more}
 use Rattle.charge_rule.proofs.answers.charges_left.Goals as goal
 

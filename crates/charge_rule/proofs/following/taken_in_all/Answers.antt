@@ -1,4 +1,4 @@
-use Rattle.std.proofs.Common.{ℕ, Bool, length, refl, arith}
+use Rattle.std.proofs.Common.{length, refl, arith}
 use Rattle.charge_rule.specs.inner.Served.{needs, Cited}
 use Rattle.charge_rule.proofs.MatchFacts.{walk_takes, lacking}
 use Rattle.charge_rule.proofs.following.taken_in_all.Goals as goal

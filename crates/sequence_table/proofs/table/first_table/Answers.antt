@@ -1,5 +1,4 @@
 use Rattle.std.proofs.Common.{◌≡◌, sym, subst}
-use Rattle.sequence_table.specs.Nodes.{Nodes}
 use Rattle.sequence_table.specs.Tables.{IsTable, one_node}
 use Rattle.sequence_table.specs.inner.Kept.{nodes_of}
 use Rattle.sequence_table.proofs.FirstFacts.{table_one, first_is}
