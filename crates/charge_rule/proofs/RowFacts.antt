@@ -1,6 +1,6 @@
 -- Charged costs of rows: unit by unit, from later starts, and of the units that are left.
-use Rattle.std.proofs.Common.{◌≡◌, ℕ, zero, suc, ◌+◌, ◌-◌, ◌*◌, ◌<◌, ◌≤◌, List, [], ◌∷◌, length, take, get_or, refl, ◌∙◌}
-use Rattle.std.proofs.Common.{inl, inr, arith, sum}
+use Rattle.std.proofs.Common.{◌≡◌, ℕ, zero, suc, ◌+◌, ◌-◌, ◌*◌, ◌<◌, ◌≤◌, List, [], ◌∷◌, length, take, get_or, refl}
+use Rattle.std.proofs.Common.{◌∙◌, inl, inr, arith, sum}
 use Rattle.std.specs.Prelude.{sum_by, All}
 use Rattle.std.specs.List.{AllZip}
 use Rattle.std.proofs.lemmas.Bool.{cases_lt}
@@ -11,7 +11,8 @@ use Rattle.sequence_values.specs.declared.types.Times.{Times}
 use Rattle.utility_work.specs.Utility.{utility_of}
 use Rattle.sequence_rules.specs.Ranges.{AreTimes}
 use Rattle.sequence_rules.specs.States.{sum_over, unit_work, step_cost, next_starts, less_one, IsSequenceOf}
-use Rattle.sequence_rules.proofs.CostFacts.{cost_steps, later_starts, first_is_left, left_within, rest_is_sequence, weighs}
+use Rattle.sequence_rules.proofs.CostFacts.{cost_steps, later_starts, first_is_left, left_within, rest_is_sequence}
+use Rattle.sequence_rules.proofs.CostFacts.{weighs}
 use Rattle.sequence_rules.proofs.SumFacts.{sum_more}
 use Rattle.charge_rule.specs.Charges.{charge_of, AreCharges, AreLight, charged_cost, unit_cost, charges_left}
 

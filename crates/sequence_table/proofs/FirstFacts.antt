@@ -11,7 +11,7 @@ use Rattle.sequence_rules.specs.Ranges.{AreTimes, IsPlace}
 use Rattle.sequence_rules.proofs.SumFacts.{length-value_at_each}
 use Rattle.sequence_rules.proofs.UnitCounts.{noughts}
 use Rattle.charge_rule.specs.Charges.{AreLight}
-use Rattle.sequence_table.specs.Nodes.{starts_of, next_of}
+use Rattle.sequence_table.specs.Nodes.{Nodes, starts_of, next_of}
 use Rattle.sequence_table.specs.inner.Kept.{nodes_of}
 use Rattle.sequence_table.specs.Tables.{IsTable, Leads, AreWithin, one_node}
 
@@ -63,7 +63,8 @@ module _ (times : Times) (interval reach : ℕ) where
         subst P is refl;
     leads = λ x m l n.
         let is : 0 ≡ x = omega (arith, l) in
-        let P : ℕ → Type 0 = λ k. Leads (one_node times interval reach) k m (next_of (one_node times interval reach) k m) in
+        let one : Nodes = one_node times interval reach in
+        let P : ℕ → Type 0 = λ k. Leads one k m (next_of one k m) in
         subst P is (root_leads m);
     few = le-div 1 2000000 (sum times.demands + 1) (omega arith) (omega (arith, h.units));
   }

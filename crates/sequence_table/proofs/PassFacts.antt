@@ -20,13 +20,17 @@ use Rattle.sequence_table.proofs.ValueFacts.{least_same, value_limit, value_hold
 pub least_more : (f : ℕ → ℕ) (k least value : ℕ) → least ≡ least_to f k → value ≡ f (k + 1)
     → min least value ≡ least_to f (k + 1)
 least_more f k least value l v =
-    ap (λ a. min a value) l ∙ ap (λ a. min (least_to f k) a) (v ∙ ap f (add-one k)) ∙ ap (λ n. least_to f n) (sym (add-one k))
+    ap (λ a. min a value) l ∙ ap (λ a. min (least_to f k) a) (v ∙ ap f (add-one k))
+    ∙ ap (λ n. least_to f n) (sym (add-one k))
 
 -- what holds of each place holds with one more
 each_more : (P : ℕ → ℕ → Type 0) (xs : List ℕ) (x n : ℕ) → length xs ≡ n → P n x
     → ((p : ℕ) → p < n → P p (get_or xs p 0)) → (p : ℕ) → p < n + 1 → P p (get_or (xs ++ x ∷ []) p 0)
 each_more P xs x n many here h p l = elim (cases_lt p n) [
-  | inl below ↦ subst (λ (v : ℕ). P p v) (sym (get_or_append_left xs (x ∷ []) 0 p (omega (arith, many, below)))) (h p below)
+  | inl below ↦
+      let at : get_or (xs ++ x ∷ []) p 0 ≡ get_or xs p 0 =
+      get_or_append_left xs (x ∷ []) 0 p (omega (arith, many, below)) in
+      subst (λ (v : ℕ). P p v) (sym at) (h p below)
   | inr above ↦
       let is : n ≡ p = omega (arith, l, above) in
       let at : get_or (xs ++ x ∷ []) p 0 ≡ x = get_or_push xs x 0 p (omega (arith, many, is)) in

@@ -147,7 +147,7 @@ module _ (t : Nodes) (x model : ℕ) (h : IsTable t) (l : x < length t.starts) (
             (front (next_of t w k) old.within) (front w g) old.no_later
         | inl new ↦
             let to : starts_of two w ≡ starts_of t x = front w g ∙ ap (λ i. starts_of t i) new.0 in
-            let P : ℕ → Type 0 = λ i. AllZip (λ p q. p ≤ q) s (next_starts t.times t.interval t.reach i (starts_of t x)) in
+            let P : ℕ → Type 0 = λ i. AllZip (λ p q. p ≤ q) s (led_to t x i) in
             leads_from two w k y s (starts_of t x) (next_front w k g ∙ new.2) (omega (arith, many)) last to
             (subst P (sym new.1) (no_later_same s))
       ]

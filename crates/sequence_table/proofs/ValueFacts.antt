@@ -1,5 +1,6 @@
 -- The values of nodes: the least over the models, how great they are, and that every row costs at least so much.
-use Rattle.std.proofs.Common.{◌≡◌, ℕ, zero, suc, ◌+◌, ◌-◌, ◌*◌, ◌<◌, ◌≤◌, List, [], ◌∷◌, length, sym, subst, inl, inr, arith, min}
+use Rattle.std.proofs.Common.{◌≡◌, ℕ, zero, suc, ◌+◌, ◌-◌, ◌*◌, ◌<◌, ◌≤◌, List, [], ◌∷◌, length, sym, subst, min}
+use Rattle.std.proofs.Common.{inl, inr, arith}
 use Rattle.std.proofs.lemmas.Bool.{cases_lt}
 use Rattle.charge_rule.specs.Charges.{IsRow, AreCharges, HoldsCharged, unit_cost}
 use Rattle.charge_rule.proofs.RowFacts.{charged_steps, later_charged, unit_light}

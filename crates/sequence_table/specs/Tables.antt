@@ -1,5 +1,5 @@
--- Tables of nodes: few starts in place of many (state-space relaxation: Christofides, Mingozzi and Toth, 1981), of which
--- forgotten ones are put back where a row used them (Righini and Salani, 2008). Their form here is own.
+-- Tables of nodes: few starts in place of many (state-space relaxation: Christofides, Mingozzi and Toth, 1981).
+-- Forgotten ones are put back where a row used them (Righini and Salani, 2008). Their form here is own.
 use Rattle.std.specs.Prelude.{◌≡◌, ℕ, ◌+◌, ◌/◌, ◌<◌, ◌≤◌, List, [], ◌∷◌, ◌++◌, length, replicate, slice_get}
 use Rattle.std.specs.Prelude.{slice_index_or, slice_set, Some, sum, All}
 use Rattle.std.specs.List.{AllZip}

@@ -6,11 +6,10 @@ ghost use Rattle.std.specs.Prelude.{◌≡◌, ◌+◌, ◌<◌, ◌≤◌, ◌�
 ghost use Rattle.std.specs.Prelude.{IfOk, OnErr, sum, slice_index_or, vec_len};
 ghost use Rattle.std.specs.Vec.{vec_capacity};
 ghost use Rattle.sequence_table.specs.inner.Kept.{rows_with};
-ghost use Rattle.sequence_rules.specs.States.{root_starts};
 ghost use Rattle.sequence_rules.specs.Ranges.{AreTimes, IsPlace};
 ghost use Rattle.charge_rule.specs.Charges.{AreLight, AreCharges, unit_cost};
 ghost use Rattle.sequence_table.specs.Nodes.{starts_of, next_of};
-ghost use Rattle.sequence_table.specs.Tables.{most_nodes, led_to, Leads, AreWithin, IsTable, led_by, with_like, HasNone};
+ghost use Rattle.sequence_table.specs.Tables.{most_nodes, led_to, Leads, AreWithin, IsTable, led_by, HasNone};
 ghost use Rattle.sequence_table.specs.Tables.{Opens};
 ghost use Rattle.sequence_table.specs.Calls.{IsOpened};
 

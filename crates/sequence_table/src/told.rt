@@ -1,5 +1,5 @@
 //! What a pass tells: a value for each node and each number of units left.
-ghost use Rattle.std.specs.Prelude.{◌≡◌, ◌+◌, ◌*◌, ◌<◌, ◌≤◌, length, All};
+ghost use Rattle.std.specs.Prelude.{◌≡◌, ◌<◌, ◌≤◌};
 ghost use Rattle.sequence_table.specs.Values.{told};
 
 use std::marker::Model;
@@ -16,7 +16,6 @@ pub struct Told {
 }
 
 impl Model for Told {
-    ghost use Rattle.std.specs.Prelude.{◌≡◌, ◌+◌, ◌*◌, ◌<◌, length, All};
     ghost use Rattle.sequence_table.specs.Values.{Values};
     ghost use Rattle.sequence_table.specs.inner.Kept.{values_of, AreKept};
 

@@ -9,7 +9,8 @@ abbrev pub nodes_of : Times → ℕ → ℕ → List (List ℕ) → List (List �
 nodes_of times interval reach starts nexts =
     record { times = times; interval = interval; reach = reach; starts = starts; nexts = nexts }
 
--- the rows of next nodes in which a model leads from x to y, and one row more, that of the node which was the next before
+-- the rows of next nodes in which a model leads from x to y, and one row more: that of the node which was the next
+-- before
 abbrev pub rows_with : List (List ℕ) → ℕ → ℕ → ℕ → List (List ℕ)
 rows_with nexts x model y =
     let row = slice_index_or nexts x [] in

@@ -1,5 +1,5 @@
-use Rattle.std.proofs.Common.{◌≡◌, ◌∙◌, ◌++◌, ◌∷◌, [], ◌+◌, ◌-◌, ◌*◌, ◌<◌, ◌%◌, ℕ, List, length, get_or, replicate, sym, ap}
-use Rattle.std.proofs.Common.{subst, arith, rules}
+use Rattle.std.proofs.Common.{◌≡◌, ◌∙◌, ◌++◌, ◌∷◌, [], ◌+◌, ◌-◌, ◌*◌, ◌<◌, ◌%◌, ℕ, List, length, get_or, replicate}
+use Rattle.std.proofs.Common.{sym, ap, subst, arith, rules}
 use Rattle.std.specs.Prelude.{All}
 use Rattle.sequence_table.specs.Nodes.{next_of}
 use Rattle.sequence_table.specs.Values.{least_to}
