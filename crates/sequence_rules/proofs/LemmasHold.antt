@@ -1,4 +1,4 @@
--- In a derived list every entry holds, and the bounds of an accepted certificate are true.
+-- In a derived list every entry says what is so, and the bounds of an accepted certificate are true.
 use Rattle.std.proofs.Common.{◌≡◌, ℕ, zero, suc, ◌+◌, ◌-◌, ◌<◌, ◌≤◌, Bool, true, cond, nat_lt, List, [], ◌∷◌, ◌++◌}
 use Rattle.std.proofs.Common.{length, take, get_or, sym, ap, ◌∙◌, subst, inl, inr, arith, Some}
 use Rattle.std.specs.Prelude.{slice_get}
@@ -12,12 +12,15 @@ use Rattle.sequence_values.specs.declared.types.SeqWhy.TheVariants as why
 use Rattle.sequence_values.specs.declared.types.SeqCert.{SeqCert}
 use Rattle.sequence_rules.specs.States.{step_cost, next_starts, less_one, state_bound, IsSequenceOf, cost, Holds}
 use Rattle.sequence_rules.specs.States.{root_starts}
-use Rattle.sequence_rules.specs.Entries.{IsCited, is_left, needs_cite, passing, FollowsByBranch, FollowsBy, IsDerived}
-use Rattle.sequence_rules.specs.Entries.{HasAnswer}
+use Rattle.sequence_rules.specs.Charges.{listed_charges, IsRow, HoldsCharged, charged_cost, unit_cost}
+use Rattle.sequence_rules.specs.Entries.{Says, SaysBy, Answers, AnswersBy, AnswersState, AnswersCharged, IsCited, Serves}
+use Rattle.sequence_rules.specs.Entries.{IsByCharge, IsServed, row_units, is_left, needs_cite, is_light, passing}
+use Rattle.sequence_rules.specs.Entries.{FollowsByBranch, FollowsByCharge, FollowsBy, Follows, IsDerived, HasAnswer}
 use Rattle.sequence_rules.specs.Accepted.{IsAccepted}
 use Rattle.sequence_rules.specs.Laws.{IsProved}
 use Rattle.sequence_rules.proofs.CostFacts.{cost_steps, later_starts, first_is_left, left_within, rest_is_sequence}
 use Rattle.sequence_rules.proofs.CostFacts.{as_many_left, bound_holds}
+use Rattle.sequence_rules.proofs.RowFacts.{charged_steps, later_charged, models_within, owed}
 
 -- a number below n that passes stands in the list of those that pass, behind those below it
 pub passing_at : (test : ℕ → Bool) (n m : ℕ) → m < n → test m ≡ true
@@ -35,22 +38,92 @@ passing_at test (suc n) m l e = elim (cases_lt m n) [
       subst Q (sym is) (subst P (sym here) (get_last (passing test n) n))
 ]
 
--- what an answer says of its own state holds of the state and the need that it answers
-pub cited_holds : (t : Times) (interval reach : ℕ) (es : List SeqEntry) (cite : ℕ) (rem starts : List ℕ) (need : ℕ)
-    → ((k : ℕ) (e : SeqEntry) → slice_get es k ≡ Some e → Holds t interval reach e.rem e.starts e.least)
-    → IsCited es cite rem starts need → Holds t interval reach rem starts need
-cited_holds t interval reach es cite rem starts need held c units s =
+-- each entry of a list says what is so
+abbrev pub AllSay : Times → ℕ → ℕ → List ℕ → List SeqEntry → Type 0
+AllSay t interval reach charges es = (k : ℕ) (e : SeqEntry) → slice_get es k ≡ Some e → Says t interval reach charges e
+
+-- an entry by Bound or Branch that holds, holds of the state and the need that it answers
+state_holds : (t : Times) (interval reach : ℕ) (e : SeqEntry) (rem starts : List ℕ) (need : ℕ)
+    → Holds t interval reach e.rem e.starts e.least → AnswersState e rem starts need
+    → Holds t interval reach rem starts need
+state_holds t interval reach e rem starts need holds a units s =
     let P : List ℕ → Type 0 = λ r. IsSequenceOf r units in
-    let own : c.entry.least ≤ cost t interval reach c.entry.starts units =
-    held cite c.entry c.there units (subst P (sym c.answers.same) s) in
-    omega (arith, own, c.answers.least, later_starts t interval reach c.entry.starts starts units c.answers.no_later)
+    let own : e.least ≤ cost t interval reach e.starts units = holds units (subst P (sym a.same) s) in
+    omega (arith, own, a.least, later_starts t interval reach e.starts starts units a.no_later)
+
+-- so does one by Charge: a sequence of what is left is a row, and its charges are those of what is left
+row_holds : (t : Times) (interval reach : ℕ) (charges : List ℕ) (e : SeqEntry) (rem starts : List ℕ) (need : ℕ)
+    → HoldsCharged t interval reach charges (row_units e) e.starts e.least → AnswersCharged charges e rem starts need
+    → Holds t interval reach rem starts need
+row_holds t interval reach charges e rem starts need holds a units s =
+    let row : IsRow charges (row_units e) units = record {
+      many = as_many_left rem units s ∙ a.units;
+      models = models_within rem units (length charges) (omega (arith, a.each)) s;
+    } in
+    let own : e.least ≤ charged_cost t interval reach charges e.starts units = holds units row in
+    omega (
+      arith,
+      a.above,
+      own,
+      later_charged t interval reach charges e.starts starts units a.no_later,
+      owed charges rem units s,
+    )
+
+by_reason : (t : Times) (interval reach : ℕ) (charges : List ℕ) (e : SeqEntry) (w : SeqWhy) (rem starts : List ℕ)
+    (need : ℕ)
+    → SaysBy t interval reach charges e w → AnswersBy charges e w rem starts need
+    → Holds t interval reach rem starts need
+by_reason t interval reach charges e why.Bound rem starts need says a =
+    state_holds t interval reach e rem starts need says a
+by_reason t interval reach charges e (why.Branch cites) rem starts need says a =
+    state_holds t interval reach e rem starts need says a
+by_reason t interval reach charges e (why.Charge cites) rem starts need says a =
+    row_holds t interval reach charges e rem starts need says a
+
+pub answers_hold : (t : Times) (interval reach : ℕ) (charges : List ℕ) (e : SeqEntry) (rem starts : List ℕ) (need : ℕ)
+    → Says t interval reach charges e → Answers charges e rem starts need → Holds t interval reach rem starts need
+answers_hold t interval reach charges e rem starts need says a =
+    by_reason t interval reach charges e e.why rem starts need says a
+
+-- what a cited entry says holds of the state and the need that it answers
+pub cited_holds : (t : Times) (interval reach : ℕ) (charges : List ℕ) (es : List SeqEntry) (cite : ℕ)
+    (rem starts : List ℕ) (need : ℕ)
+    → AllSay t interval reach charges es → IsCited charges es cite rem starts need
+    → Holds t interval reach rem starts need
+cited_holds t interval reach charges es cite rem starts need say c =
+    answers_hold t interval reach charges c.entry rem starts need (say cite c.entry c.there) c.answers
+
+-- an entry by Charge that says what is so
+charged_says : (t : Times) (interval reach : ℕ) (charges : List ℕ) (e : SeqEntry) (w : SeqWhy)
+    → IsByCharge w → SaysBy t interval reach charges e w
+    → HoldsCharged t interval reach charges (row_units e) e.starts e.least
+charged_says t interval reach charges e why.Bound c says = absurd c
+charged_says t interval reach charges e (why.Branch cites) c says = absurd c
+charged_says t interval reach charges e (why.Charge cites) c says = says
+
+-- what an entry that says what is so serves, is so
+served_holds : (t : Times) (interval reach : ℕ) (charges : List ℕ) (es : List SeqEntry) (cite units : ℕ)
+    (starts : List ℕ) (need : ℕ)
+    → AllSay t interval reach charges es → IsServed es cite units starts need
+    → HoldsCharged t interval reach charges units starts need
+served_holds t interval reach charges es cite units starts need say s row r =
+    let holds : HoldsCharged t interval reach charges (row_units s.entry) s.entry.starts s.entry.least =
+    charged_says t interval reach charges s.entry s.entry.why s.serves.charged (say cite s.entry s.there) in
+    let own : s.entry.least ≤ charged_cost t interval reach charges s.entry.starts row =
+    holds row (record { many = r.many ∙ sym s.serves.same; models = r.models }) in
+    omega (
+      arith,
+      own,
+      s.serves.least,
+      later_charged t interval reach charges s.entry.starts starts row s.serves.no_later,
+    )
 
 -- Branch: the entries before it hold
-by_branch : (t : Times) (interval reach : ℕ) (earlier : List SeqEntry) (e : SeqEntry) (cites : List ℕ)
-    → ((k : ℕ) (f : SeqEntry) → slice_get earlier k ≡ Some f → Holds t interval reach f.rem f.starts f.least)
-    → FollowsByBranch t interval reach earlier e cites → Holds t interval reach e.rem e.starts e.least
-by_branch t interval reach earlier e cites held f [] s = absurd (omega (arith, f.some, as_many_left e.rem [] s))
-by_branch t interval reach earlier e cites held f (m ∷ units) s =
+by_branch : (t : Times) (interval reach : ℕ) (charges : List ℕ) (earlier : List SeqEntry) (e : SeqEntry) (cites : List ℕ)
+    → AllSay t interval reach charges earlier
+    → FollowsByBranch t interval reach charges earlier e cites → Holds t interval reach e.rem e.starts e.least
+by_branch t interval reach charges earlier e cites held f [] s = absurd (omega (arith, f.some, as_many_left e.rem [] s))
+by_branch t interval reach charges earlier e cites held f (m ∷ units) s =
     let left : 0 < get_or e.rem m 0 = first_is_left e.rem m units s in
     let rest : IsSequenceOf (less_one e.rem m) units = rest_is_sequence e.rem m units s in
     let next : List ℕ = next_starts t interval reach m e.starts in
@@ -80,33 +153,80 @@ by_branch t interval reach earlier e cites held f (m ∷ units) s =
                 omega (
                   arith,
                   split,
-                  cited_holds t interval reach earlier q.0 (less_one e.rem m) next
+                  cited_holds t interval reach charges earlier q.0 (less_one e.rem m) next
                       (e.least - step_cost t reach m e.starts) held (f.covers.cited p m q.0 there q.1) units rest,
                 )
           ]
     ]
 
-by_any : (t : Times) (interval reach : ℕ) (earlier : List SeqEntry) (e : SeqEntry) (w : SeqWhy)
-    → ((k : ℕ) (f : SeqEntry) → slice_get earlier k ≡ Some f → Holds t interval reach f.rem f.starts f.least)
-    → FollowsBy t interval reach earlier e w → Holds t interval reach e.rem e.starts e.least
-by_any t interval reach earlier e why.Bound held f units s =
-    omega (arith, f, bound_holds t interval reach e.rem e.starts units s)
-by_any t interval reach earlier e (why.Branch cites) held f units s =
-    by_branch t interval reach earlier e cites held f units s
+-- Charge: the entries before it say what is so
+by_charge : (t : Times) (interval reach : ℕ) (charges : List ℕ) (earlier : List SeqEntry) (e : SeqEntry) (cites : List ℕ)
+    → AllSay t interval reach charges earlier → FollowsByCharge t interval reach charges earlier e cites
+    → HoldsCharged t interval reach charges (row_units e) e.starts e.least
+by_charge t interval reach charges earlier e cites say f [] r = absurd (omega (arith, f.some, r.many))
+by_charge t interval reach charges earlier e cites say f (m ∷ row) r =
+    let within : m < length charges = r.models 0 0 (omega arith) in
+    let rest : IsRow charges (row_units e - 1) row = record {
+      many = omega (arith, r.many, f.some);
+      models = λ k d l. r.models (suc k) d (omega (arith, l));
+    } in
+    let split : charged_cost t interval reach charges e.starts (m ∷ row)
+    ≡ unit_cost t reach charges e.starts m
+    + charged_cost t interval reach charges (next_starts t interval reach m e.starts) row =
+    charged_steps t interval reach charges e.starts m row in
+    elim (cases_lt (unit_cost t reach charges e.starts m) e.least) [
+      | inr dear ↦ omega (arith, split, dear)
+      | inl cheap ↦
+          let test : ℕ → Bool = is_light t reach charges e.starts e.least in
+          let needs : test m ≡ true = lt-ltb (unit_cost t reach charges e.starts m) e.least cheap in
+          let p : ℕ = length (passing test m) in
+          let there : slice_get (passing test (length charges)) p ≡ Some m =
+          passing_at test (length charges) m within needs in
+          let q : (x : ℕ) × (slice_get cites p ≡ Some x) =
+          get_some cites p (omega (
+            arith,
+            f.as_many,
+            slice_get_within (passing test (length charges)) p m there,
+          )) in
+          omega (
+            arith,
+            split,
+            served_holds t interval reach charges earlier q.0 (row_units e - 1)
+                (next_starts t interval reach m e.starts)
+                (e.least - unit_cost t reach charges e.starts m) say
+                (f.cited p m q.0 there q.1) row rest,
+          )
+    ]
 
--- the entries below n hold
-sound_below : (t : Times) (interval reach : ℕ) (es : List SeqEntry) → IsDerived t interval reach es
-    → (n k : ℕ) (e : SeqEntry) → k < n → slice_get es k ≡ Some e → Holds t interval reach e.rem e.starts e.least
-sound_below t interval reach es d zero k e l g = absurd (omega arith)
-sound_below t interval reach es d (suc n) k e l g =
-    by_any t interval reach (take k es) e e.why
+by_why : (t : Times) (interval reach : ℕ) (charges : List ℕ) (earlier : List SeqEntry) (e : SeqEntry) (w : SeqWhy)
+    → AllSay t interval reach charges earlier → FollowsBy t interval reach charges earlier e w
+    → SaysBy t interval reach charges e w
+by_why t interval reach charges earlier e why.Bound say f units s =
+    omega (arith, f, bound_holds t interval reach e.rem e.starts units s)
+by_why t interval reach charges earlier e (why.Branch cites) say f units s =
+    by_branch t interval reach charges earlier e cites say f units s
+by_why t interval reach charges earlier e (why.Charge cites) say f row r =
+    by_charge t interval reach charges earlier e cites say f row r
+
+pub by_any : (t : Times) (interval reach : ℕ) (charges : List ℕ) (earlier : List SeqEntry) (e : SeqEntry)
+    → AllSay t interval reach charges earlier → Follows t interval reach charges earlier e
+    → Says t interval reach charges e
+by_any t interval reach charges earlier e say f = by_why t interval reach charges earlier e e.why say f
+
+-- the entries below n say what is so
+sound_below : (t : Times) (interval reach : ℕ) (charges : List ℕ) (es : List SeqEntry)
+    → IsDerived t interval reach charges es
+    → (n k : ℕ) (e : SeqEntry) → k < n → slice_get es k ≡ Some e → Says t interval reach charges e
+sound_below t interval reach charges es d zero k e l g = absurd (omega arith)
+sound_below t interval reach charges es d (suc n) k e l g =
+    by_any t interval reach charges (take k es) e
     (λ j h q. let p : (j < k) × (slice_get es j ≡ Some h) = get_take es k j h q in
-    sound_below t interval reach es d n j h (omega (arith, p.0)) p.1)
+    sound_below t interval reach charges es d n j h (omega (arith, p.0)) p.1)
     (d k e g)
 
-pub sound : (t : Times) (interval reach : ℕ) (es : List SeqEntry) → IsDerived t interval reach es
-    → (k : ℕ) (e : SeqEntry) → slice_get es k ≡ Some e → Holds t interval reach e.rem e.starts e.least
-sound t interval reach es d k e g = sound_below t interval reach es d (suc k) k e (omega arith) g
+pub sound : (t : Times) (interval reach : ℕ) (charges : List ℕ) (es : List SeqEntry)
+    → IsDerived t interval reach charges es → AllSay t interval reach charges es
+sound t interval reach charges es d k e g = sound_below t interval reach charges es d (suc k) k e (omega arith) g
 
 -- the lower bound of an accepted certificate is true
 pub proved : (t : Times) (interval reach : ℕ) (cert : SeqCert) → IsAccepted t interval reach cert
@@ -117,8 +237,9 @@ proved t interval reach cert a = record {
   least = λ units s. elim (cases_lt 0 cert.lower) [
     | inr none ↦ omega (arith, none)
     | inl some ↦
-        let h : HasAnswer cert.entries t.demands (root_starts t) cert.lower = a.goal some in
-        cited_holds t interval reach cert.entries h.0 t.demands (root_starts t) cert.lower
-        (sound t interval reach cert.entries a.derived) h.1 units s
+        let charges : List ℕ = listed_charges cert.charges in
+        let h : HasAnswer charges cert.entries t.demands (root_starts t) cert.lower = a.goal some in
+        cited_holds t interval reach charges cert.entries h.0 t.demands (root_starts t) cert.lower
+        (sound t interval reach charges cert.entries a.derived) h.1 units s
   ];
 }

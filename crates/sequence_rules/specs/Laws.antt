@@ -1,8 +1,9 @@
--- What is true of all times, intervals and lengths: each is the contract of a function of `laws`.
+-- What is true of all times, intervals, lengths and charges: each is the contract of a function of `laws`.
 use Rattle.std.specs.Prelude.{◌≡◌, ℕ, ◌+◌, ◌≤◌, List, ◌∷◌, slice_get, Some}
 use Rattle.std.specs.List.{AllZip}
 use Rattle.sequence_rules.specs.States.{step_cost, next_starts, state_bound, IsSequenceOf, cost, Holds, root_starts}
-use Rattle.sequence_rules.specs.Entries.{IsDerived}
+use Rattle.sequence_rules.specs.Charges.{charged_cost, unit_cost}
+use Rattle.sequence_rules.specs.Entries.{Says, Answers, Follows, IsDerived}
 use Rattle.sequence_rules.specs.Accepted.{IsAccepted}
 use Rattle.sequence_values.specs.declared.types.Times.{Times}
 use Rattle.sequence_values.specs.declared.types.SeqEntry.{SeqEntry}
@@ -26,11 +27,38 @@ LaterStartsCostNoLess =
     (t : Times) (interval reach : ℕ) (starts later units : List ℕ) → AllZip (λ a b. a ≤ b) starts later
     → cost t interval reach starts units ≤ cost t interval reach later units
 
--- Soundness: in a derived list every entry holds
+-- a row costs what its first unit costs and what the rest costs from where that unit leads (own)
+abbrev pub EveryChargedCostIsOfUnits : Type 0
+EveryChargedCostIsOfUnits =
+    (t : Times) (interval reach : ℕ) (charges starts : List ℕ) (model : ℕ) (row : List ℕ)
+    → charged_cost t interval reach charges starts (model ∷ row) ≡ unit_cost t reach charges starts model
+    + charged_cost t interval reach charges (next_starts t interval reach model starts) row
+
+-- from later starts no row has a lower charged cost (own)
+abbrev pub LaterStartsAreChargedNoLess : Type 0
+LaterStartsAreChargedNoLess =
+    (t : Times) (interval reach : ℕ) (charges starts later row : List ℕ) → AllZip (λ a b. a ≤ b) starts later
+    → charged_cost t interval reach charges starts row ≤ charged_cost t interval reach charges later row
+
+-- what follows from entries that say what is so, says what is so
+abbrev pub FollowingKeepsTruth : Type 0
+FollowingKeepsTruth =
+    (t : Times) (interval reach : ℕ) (charges : List ℕ) (earlier : List SeqEntry) (e : SeqEntry)
+    → ((k : ℕ) (f : SeqEntry) → slice_get earlier k ≡ Some f → Says t interval reach charges f)
+    → Follows t interval reach charges earlier e → Says t interval reach charges e
+
+-- where an entry says what is so, and answers a state and a need, every sequence from the state costs at least the need
+abbrev pub AnswersAreTrue : Type 0
+AnswersAreTrue =
+    (t : Times) (interval reach : ℕ) (charges : List ℕ) (e : SeqEntry) (rem starts : List ℕ) (need : ℕ)
+    → Says t interval reach charges e → Answers charges e rem starts need → Holds t interval reach rem starts need
+
+-- Soundness: in a derived list every entry says what is so
 abbrev pub EveryEntryHolds : Type 0
 EveryEntryHolds =
-    (t : Times) (interval reach : ℕ) (es : List SeqEntry) → IsDerived t interval reach es
-    → (k : ℕ) (e : SeqEntry) → slice_get es k ≡ Some e → Holds t interval reach e.rem e.starts e.least
+    (t : Times) (interval reach : ℕ) (charges : List ℕ) (es : List SeqEntry)
+    → IsDerived t interval reach charges es
+    → (k : ℕ) (e : SeqEntry) → slice_get es k ≡ Some e → Says t interval reach charges e
 
 -- What an accepted certificate proves: its sequence is one of the demands that costs the upper bound, and none of them
 -- costs less than the lower bound.

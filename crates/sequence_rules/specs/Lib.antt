@@ -1,4 +1,5 @@
 pub mod States
+pub mod Charges
 pub mod Entries
 pub mod Trails
 pub mod Accepted

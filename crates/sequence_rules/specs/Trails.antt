@@ -2,7 +2,7 @@
 use Rattle.std.specs.Prelude.{◌≡◌, ℕ, zero, suc, ◌+◌, ◌<◌, ◌≤◌, Bool, true, false, nat_eq, List, length, slice_get}
 use Rattle.std.specs.Prelude.{Option, Some, None, sum_by}
 use Rattle.sequence_rules.specs.States.{step_cost, next_starts, less_one, root_starts}
-use Rattle.sequence_rules.specs.Entries.{Answers, Covers, is_left, models_left}
+use Rattle.sequence_rules.specs.Entries.{AnswersState, IsByCharge, Covers, is_left, models_left}
 use Rattle.sequence_values.specs.declared.types.Times.{Times}
 use Rattle.sequence_values.specs.declared.types.SeqEntry.{SeqEntry}
 use Rattle.sequence_values.specs.declared.types.SeqFrame.{SeqFrame}
@@ -48,27 +48,28 @@ matched_to true (Some model) = suc model
 matched_to false (Some model) = model
 
 -- a right frame of a trail
-pub record IsRightAt (t : Times) (interval reach : ℕ) (es : List SeqEntry) (fs : List SeqFrame) (j : ℕ)
-    (f : SeqFrame) : Type 0 where
+pub record IsRightAt (t : Times) (interval reach : ℕ) (charges : List ℕ) (es : List SeqEntry) (fs : List SeqFrame)
+    (j : ℕ) (f : SeqFrame) : Type 0 where
   pub asked : IsAskedAt t interval reach fs j f
   pub last : EndsWell (is_deepest fs j) f.rem f.last
-  pub covers : Covers t interval reach es f.rem f.starts f.need (matched_to (is_deepest fs j) f.last) f.cites
+  pub covers : Covers t interval reach charges es f.rem f.starts f.need (matched_to (is_deepest fs j) f.last) f.cites
 
 -- the first frame, where there is one, has a need above the lower bound and at most the upper one
 abbrev pub IsAllowed : ℕ → ℕ → List SeqFrame → Type 0
 IsAllowed lower upper fs = (f : SeqFrame) → slice_get fs 0 ≡ Some f → (lower < f.need) × (f.need ≤ upper)
 
 -- A valid trail over a list of entries, between a lower and an upper bound. No frame at all is one too.
-pub record IsTrail (t : Times) (interval reach : ℕ) (es : List SeqEntry) (lower upper : ℕ)
+pub record IsTrail (t : Times) (interval reach : ℕ) (charges : List ℕ) (es : List SeqEntry) (lower upper : ℕ)
     (fs : List SeqFrame) : Type 0 where
   pub allowed : IsAllowed lower upper fs
-  pub right : (j : ℕ) (f : SeqFrame) → slice_get fs j ≡ Some f → IsRightAt t interval reach es fs j f
+  pub right : (j : ℕ) (f : SeqFrame) → slice_get fs j ≡ Some f → IsRightAt t interval reach charges es fs j f
 
--- no entry answers the frame's state and need
+-- no entry by Bound or Branch answers the frame's state and need
 abbrev pub IsUnanswered : List SeqEntry → SeqFrame → Type 0
-IsUnanswered es f = (k : ℕ) (e : SeqEntry) → slice_get es k ≡ Some e → Answers e f.rem f.starts f.need → ⊥
+IsUnanswered es f = (k : ℕ) (e : SeqEntry) → slice_get es k ≡ Some e → (IsByCharge e.why → ⊥)
+    → AnswersState e f.rem f.starts f.need → ⊥
 
--- The trail is open over the entries: no entry answers a frame, and the deepest frame has a further step.
+-- The trail is open over the entries: none by Bound or Branch answers a frame, and the deepest frame has a further step.
 pub record IsOpenOver (es : List SeqEntry) (fs : List SeqFrame) : Type 0 where
   pub unanswered : (k : ℕ) (f : SeqFrame) → slice_get fs k ≡ Some f → IsUnanswered es f
   pub further : (k : ℕ) (f : SeqFrame) → slice_get fs k ≡ Some f → length fs ≡ suc k

@@ -39,6 +39,12 @@ pub enum SeqWhy {
         /// The entries that show it of the states that the bound leaves open, in the order of the models.
         cites: Numbers,
     },
+    /// Every row of so many units, with the charges of the models, has a charged cost of at least so much.
+    Charge {
+        /// The entries by Charge that show it of what comes after a unit, for each model whose unit has a charged cost
+        /// below the base, in the order of the models.
+        cites: Numbers,
+    },
 }
 
 impl SeqWhy {
@@ -51,18 +57,22 @@ impl SeqWhy {
             SeqWhy::Branch { cites } => SeqWhy::Branch {
                 cites: cites.copy()?,
             },
+            SeqWhy::Charge { cites } => SeqWhy::Charge {
+                cites: cites.copy()?,
+            },
         })
     }
 }
 
-/// A lemma: every sequence of what is left, from these starts on, costs at least `least`.
+/// A lemma. By Bound or Branch: every sequence of what is left, from these starts on, costs at least `least`. By
+/// Charge: every row of so many units, from these starts on, has a charged cost of at least `least`.
 #[derive(Drop)]
 pub struct SeqEntry {
-    /// The units left of each model, 0 to 1,000 each.
+    /// The units left of each model, 0 to 1,000 each; by Charge one number, the units of the row.
     pub rem: Numbers,
     /// Where the next unit is begun at each station, 0 to 10^9 from the station's beginning.
     pub starts: Numbers,
-    /// The least utility work, 0 to 10^18.
+    /// The least utility work, or by Charge the least charged cost, the base: 0 to 10^18.
     pub least: u64,
     /// Why that is so.
     pub why: SeqWhy,
@@ -132,6 +142,8 @@ pub struct SeqCert {
     pub models: u32,
     /// The number of stations, 1 to 64.
     pub stations: u32,
+    /// The charge of each model, 0 to 10^14, where there are entries by Charge.
+    pub charges: Option<Numbers>,
     /// The lower bound on the utility work, 0 to 10^18.
     pub lower: u64,
     /// The upper bound, 0 to 10^18: the utility work of the sequence.

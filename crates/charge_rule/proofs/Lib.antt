@@ -1,3 +1,0 @@
-pub mod RowFacts
-pub mod Truth
-pub mod MatchFacts

@@ -1,6 +1,0 @@
-use Rattle.std.proofs.Common.{◌≡◌, take}
-use Rattle.charge_rule.specs.Charges.{charges_left}
-use Rattle.charge_rule.proofs.answers.charges_left.Given as goal
-
-abbrev pub invariant-loop-m : goal.invariant-loop-m
-invariant-loop-m l = l.owed ≡ charges_left l.charges (take l.m l.rem)

@@ -1,5 +1,0 @@
-use Rattle.charge_rule.proofs.RowFacts.{charged_steps}
-use Rattle.charge_rule.proofs.laws.every_charged_cost_is_of_units.Goals as goal
-
-pub returns : goal.returns
-returns c = charged_steps
