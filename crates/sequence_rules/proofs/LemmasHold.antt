@@ -13,7 +13,7 @@ use Rattle.sequence_values.specs.declared.types.SeqCert.{SeqCert}
 use Rattle.sequence_rules.specs.States.{step_cost, next_starts, less_one, state_bound, IsSequenceOf, cost, Holds}
 use Rattle.sequence_rules.specs.States.{root_starts}
 use Rattle.sequence_rules.specs.Charges.{listed_charges, IsRow, HoldsCharged, charged_cost, unit_cost}
-use Rattle.sequence_rules.specs.Entries.{Says, SaysBy, Answers, AnswersBy, AnswersState, AnswersCharged, IsCited, Serves}
+use Rattle.sequence_rules.specs.Entries.{Says, SaysBy, Answers, AnswersBy, AnswersState, AnswersCharged, IsCited}
 use Rattle.sequence_rules.specs.Entries.{IsByCharge, IsServed, row_units, is_left, needs_cite, is_light, passing}
 use Rattle.sequence_rules.specs.Entries.{FollowsByBranch, FollowsByCharge, FollowsBy, Follows, IsDerived, HasAnswer}
 use Rattle.sequence_rules.specs.Accepted.{IsAccepted}
@@ -201,12 +201,12 @@ by_charge t interval reach charges earlier e cites say f (m ∷ row) r =
 by_why : (t : Times) (interval reach : ℕ) (charges : List ℕ) (earlier : List SeqEntry) (e : SeqEntry) (w : SeqWhy)
     → AllSay t interval reach charges earlier → FollowsBy t interval reach charges earlier e w
     → SaysBy t interval reach charges e w
-by_why t interval reach charges earlier e why.Bound say f units s =
+by_why t interval reach charges earlier e why.Bound say f = λ units s.
     omega (arith, f, bound_holds t interval reach e.rem e.starts units s)
-by_why t interval reach charges earlier e (why.Branch cites) say f units s =
-    by_branch t interval reach charges earlier e cites say f units s
-by_why t interval reach charges earlier e (why.Charge cites) say f row r =
-    by_charge t interval reach charges earlier e cites say f row r
+by_why t interval reach charges earlier e (why.Branch cites) say f =
+    by_branch t interval reach charges earlier e cites say f
+by_why t interval reach charges earlier e (why.Charge cites) say f =
+    by_charge t interval reach charges earlier e cites say f
 
 pub by_any : (t : Times) (interval reach : ℕ) (charges : List ℕ) (earlier : List SeqEntry) (e : SeqEntry)
     → AllSay t interval reach charges earlier → Follows t interval reach charges earlier e

@@ -51,6 +51,11 @@ AnswersBy charges e (why.Charge cites) rem starts need = AnswersCharged charges 
 abbrev pub Answers : List ℕ → SeqEntry → List ℕ → List ℕ → ℕ → Type 0
 Answers charges e rem starts need = AnswersBy charges e e.why rem starts need
 
+-- the greatest need of a state that an entry answers; 0 where it answers none above that
+pub record IsGreatestNeed (charges : List ℕ) (e : SeqEntry) (rem starts : List ℕ) (need : ℕ) : Type 0 where
+  pub answers : 0 < need → Answers charges e rem starts need
+  pub most : (n : ℕ) → Answers charges e rem starts n → n ≤ need
+
 -- the entry of a number answers a state and a need
 pub record IsCited (charges : List ℕ) (es : List SeqEntry) (cite : ℕ) (rem starts : List ℕ) (need : ℕ) : Type 0 where
   pub entry : SeqEntry
@@ -146,11 +151,16 @@ abbrev pub IsDerived : Times → ℕ → ℕ → List ℕ → List SeqEntry → 
 IsDerived t interval reach charges es = (k : ℕ) (e : SeqEntry) → slice_get es k ≡ Some e
     → Follows t interval reach charges (take k es) e
 
+-- an entry by Bound or Branch answers a state and a need
+pub record AnswersPlainly (e : SeqEntry) (rem starts : List ℕ) (need : ℕ) : Type 0 where
+  pub plain : IsByCharge e.why → ⊥
+  pub answers : AnswersState e rem starts need
+
 -- A list is fresh from a number on: none of these entries but those by Charge has its own state and value answered by
 -- an earlier one by Bound or Branch.
 abbrev pub IsFreshFrom : ℕ → List SeqEntry → Type 0
 IsFreshFrom n es = (j k : ℕ) (a b : SeqEntry) → n ≤ k → j < k → slice_get es j ≡ Some a → slice_get es k ≡ Some b
-    → (IsByCharge a.why → ⊥) → (IsByCharge b.why → ⊥) → AnswersState a b.rem b.starts b.least → ⊥
+    → (IsByCharge b.why → ⊥) → AnswersPlainly a b.rem b.starts b.least → ⊥
 
 -- a fresh list: from its first entry on
 abbrev pub IsFresh : List SeqEntry → Type 0

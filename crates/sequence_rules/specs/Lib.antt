@@ -5,3 +5,4 @@ pub mod Trails
 pub mod Accepted
 pub mod Ranges
 pub mod Laws
+pub mod inner

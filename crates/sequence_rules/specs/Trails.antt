@@ -2,7 +2,7 @@
 use Rattle.std.specs.Prelude.{◌≡◌, ℕ, zero, suc, ◌+◌, ◌<◌, ◌≤◌, Bool, true, false, nat_eq, List, length, slice_get}
 use Rattle.std.specs.Prelude.{Option, Some, None, sum_by}
 use Rattle.sequence_rules.specs.States.{step_cost, next_starts, less_one, root_starts}
-use Rattle.sequence_rules.specs.Entries.{AnswersState, IsByCharge, Covers, is_left, models_left}
+use Rattle.sequence_rules.specs.Entries.{AnswersPlainly, Covers, is_left, models_left}
 use Rattle.sequence_values.specs.declared.types.Times.{Times}
 use Rattle.sequence_values.specs.declared.types.SeqEntry.{SeqEntry}
 use Rattle.sequence_values.specs.declared.types.SeqFrame.{SeqFrame}
@@ -66,8 +66,7 @@ pub record IsTrail (t : Times) (interval reach : ℕ) (charges : List ℕ) (es :
 
 -- no entry by Bound or Branch answers the frame's state and need
 abbrev pub IsUnanswered : List SeqEntry → SeqFrame → Type 0
-IsUnanswered es f = (k : ℕ) (e : SeqEntry) → slice_get es k ≡ Some e → (IsByCharge e.why → ⊥)
-    → AnswersState e f.rem f.starts f.need → ⊥
+IsUnanswered es f = (k : ℕ) (e : SeqEntry) → slice_get es k ≡ Some e → AnswersPlainly e f.rem f.starts f.need → ⊥
 
 -- The trail is open over the entries: none by Bound or Branch answers a frame, and the deepest frame has a further step.
 pub record IsOpenOver (es : List SeqEntry) (fs : List SeqFrame) : Type 0 where

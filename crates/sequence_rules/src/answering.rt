@@ -3,9 +3,11 @@
 //! An entry by Bound or Branch answers its own state and those like it that begin later. One by Charge answers whatever
 //! has as many units left: a sequence of these is a row, and its charges are known. So a base above these and above
 //! 1000 for each of the need but one leaves at least the need to its utility work.
-ghost use Rattle.std.specs.Prelude.{◌≡◌, ◌+◌, ◌-◌, ◌*◌, ◌<◌, ◌≤◌, ◌↔◌, length, sum, All, IsTrue};
+ghost use Rattle.std.specs.Prelude.{◌≡◌, ℕ, ◌+◌, ◌-◌, ◌*◌, ◌<◌, ◌≤◌, ◌↔◌, List, length, sum, All, IsTrue};
 ghost use Rattle.sequence_rules.specs.Charges.{charges_left};
-ghost use Rattle.sequence_rules.specs.Entries.{Answers, AnswersState, AnswersCharged, Serves, row_units};
+ghost use Rattle.sequence_rules.specs.Entries.{Answers, AnswersState, AnswersCharged, AnswersPlainly};
+ghost use Rattle.sequence_rules.specs.Entries.{IsGreatestNeed, Serves, row_units};
+ghost use Rattle.sequence_rules.specs.inner.Needs.{IsNeedIf};
 
 use crate::comparing::{is_no_later, is_same};
 use crate::steps::units_left;
@@ -13,7 +15,7 @@ use sequence_values::{SeqEntry, SeqWhy};
 
 /// Whether an entry, as one by Bound or Branch, answers a state and a need: whether it has the same units left, starts
 /// that are no later at any station, and a value of at least the need.
-pub fn answers_state(entry: &SeqEntry, rem: &[u64], starts: &[u64], need: u64) -> bool
+fn answers_state(entry: &SeqEntry, rem: &[u64], starts: &[u64], need: u64) -> bool
     ensures { IsTrue result ↔ AnswersState entry.now rem.now starts.now need }
 {
     if entry.least < need {
@@ -23,6 +25,16 @@ pub fn answers_state(entry: &SeqEntry, rem: &[u64], starts: &[u64], need: u64) -
         return false;
     }
     is_no_later(entry.starts.as_slice(), starts)
+}
+
+/// Whether an entry by Bound or Branch answers a state and a need. One by Charge doesn't.
+pub fn answers_plainly(entry: &SeqEntry, rem: &[u64], starts: &[u64], need: u64) -> bool
+    ensures { IsTrue result ↔ AnswersPlainly entry.now rem.now starts.now need }
+{
+    match &entry.why {
+        SeqWhy::Charge { .. } => false,
+        SeqWhy::Bound | SeqWhy::Branch { .. } => answers_state(entry, rem, starts, need),
+    }
 }
 
 /// The charges of the units that are left.
@@ -92,6 +104,45 @@ pub fn answers(charges: &[u64], entry: &SeqEntry, rem: &[u64], starts: &[u64], n
     match &entry.why {
         SeqWhy::Charge { .. } => answers_charged(charges, entry, rem, starts, need),
         SeqWhy::Bound | SeqWhy::Branch { .. } => answers_state(entry, rem, starts, need),
+    }
+}
+
+/// The need that an entry would answer of a state of these units left, if it answers one: its value, or by Charge what
+/// its base leaves above the charges of these units.
+fn need_of(charges: &[u64], entry: &SeqEntry, rem: &[u64]) -> u64
+    requires limit { All (λ a. a ≤ 100000000000000) charges.now }
+    requires few { sum rem.now ≤ 16000 }
+    ensures { (starts : List ℕ) → IsNeedIf charges.now entry.now rem.now starts result }
+{
+    match &entry.why {
+        SeqWhy::Bound | SeqWhy::Branch { .. } => entry.least,
+        SeqWhy::Charge { .. } => {
+            if rem.len() != charges.len() {
+                return 0;
+            }
+            let owed = charges_left(charges, rem);
+            if entry.least <= owed {
+                return 0;
+            }
+            (entry.least - 1 - owed) / 1000 + 1
+        }
+    }
+}
+
+/// The greatest need of a state that an entry answers, or 0.
+///
+/// Ranges and cost are those of `answers`.
+pub fn answered_need(charges: &[u64], entry: &SeqEntry, rem: &[u64], starts: &[u64]) -> u64
+    requires limit { All (λ a. a ≤ 100000000000000) charges.now }
+    requires few { sum rem.now ≤ 16000 }
+    requires row { row_units entry.now ≤ 16000 }
+    ensures { IsGreatestNeed charges.now entry.now rem.now starts.now result }
+{
+    let need = need_of(charges, entry, rem);
+    if answers(charges, entry, rem, starts, need) {
+        need
+    } else {
+        0
     }
 }
 

@@ -1,11 +1,21 @@
-//! The charged cost of a unit: what a row of models pays for it.
+//! The charges of a certificate, and the charged cost of a unit: what a row of models pays for it.
 ghost use Rattle.std.specs.Prelude.{◌≡◌, ◌<◌, ◌≤◌, length, All};
 ghost use Rattle.sequence_rules.specs.States.{next_starts};
-ghost use Rattle.sequence_rules.specs.Charges.{AreCharges, unit_cost};
+ghost use Rattle.sequence_rules.specs.Charges.{AreCharges, listed_charges, unit_cost};
 ghost use Rattle.sequence_rules.specs.Ranges.{AreTimes, AreStarts, AreLight};
 
 use crate::steps::step;
-use sequence_values::Times;
+use sequence_values::{Numbers, Times};
+
+/// The charge of each model, or nothing where there are no charges.
+pub fn listed_charges(charges: &Option<Numbers>) -> &[u64]
+    ensures { result.now ≡ listed_charges charges.now }
+{
+    match charges {
+        Some(charges) => charges.as_slice(),
+        None => &[],
+    }
+}
 
 /// The charged cost of a unit of a model, counted from 0: 1000 times its utility work, and its charge. Writes into
 /// `next` where the unit after it is begun at each station.

@@ -16,8 +16,8 @@ pub mod laws;
 mod sequences;
 mod steps;
 
-pub use answering::{answers, answers_state, serves};
-pub use charging::unit_cost;
+pub use answering::{answered_need, answers, answers_plainly, serves};
+pub use charging::{listed_charges, unit_cost};
 pub use comparing::{is_no_later, is_same};
 pub use sequences::{is_sequence_of, sequence_cost};
 pub use steps::{MAX_STATIONS, launch, state_bound, step, unit_work, units_left};
