@@ -11,61 +11,62 @@ use Rattle.sequence_values.specs.declared.types.SeqEntry.{SeqEntry}
 use Rattle.sequence_rules.specs.States.{step_cost, next_starts, less_one}
 use Rattle.sequence_rules.specs.Entries.{IsCited, Covers, is_left, needs_cite, passing, models_left}
 use Rattle.sequence_rules.proofs.PassingNumbers.{passing_no, passing_yes, passing_same, count_yes, left_needs}
+use Rattle.sequence_search.specs.About.{About, charges_of}
 use Rattle.sequence_search.specs.Steps.{IsNoModel}
 
 -- what is covered stays so with more entries
-pub covers_grow : (t : Times) (interval reach : ℕ) (es more : List SeqEntry) (rem starts : List ℕ) (need n : ℕ)
+pub covers_grow : (t : Times) (interval reach : ℕ) (about : About) (es more : List SeqEntry) (rem starts : List ℕ) (need n : ℕ)
     (cites : List ℕ)
-    → Covers t interval reach es rem starts need n cites → Covers t interval reach (es ++ more) rem starts need n cites
-covers_grow t interval reach es more rem starts need n cites h = record {
+    → Covers t interval reach (charges_of about) es rem starts need n cites → Covers t interval reach (charges_of about) (es ++ more) rem starts need n cites
+covers_grow t interval reach about es more rem starts need n cites h = record {
   as_many = h.as_many;
   cited = λ p m x g c.
-      let own : IsCited es x (less_one rem m) (next_starts t interval reach m starts)
+      let own : IsCited (charges_of about) es x (less_one rem m) (next_starts t interval reach m starts)
       (need - step_cost t reach m starts) = h.cited p m x g c in
       record { entry = own.entry; there = get_longer es more x own.entry own.there; answers = own.answers };
 }
 
 -- the same steps need a cite below another number
-covers_as : (t : Times) (interval reach : ℕ) (es : List SeqEntry) (rem starts : List ℕ) (need a b : ℕ) (cites : List ℕ)
+covers_as : (t : Times) (interval reach : ℕ) (about : About) (es : List SeqEntry) (rem starts : List ℕ) (need a b : ℕ) (cites : List ℕ)
     → passing (needs_cite t interval reach rem starts need) b ≡ passing (needs_cite t interval reach rem starts need) a
-    → Covers t interval reach es rem starts need a cites → Covers t interval reach es rem starts need b cites
-covers_as t interval reach es rem starts need a b cites e h =
+    → Covers t interval reach (charges_of about) es rem starts need a cites → Covers t interval reach (charges_of about) es rem starts need b cites
+covers_as t interval reach about es rem starts need a b cites e h =
     let Q : List ℕ → Type 0 = λ xs. (length cites ≡ length xs)
     × ((p m x : ℕ) → slice_get xs p ≡ Some m → slice_get cites p ≡ Some x
-    → IsCited es x (less_one rem m) (next_starts t interval reach m starts) (need - step_cost t reach m starts)) in
+    → IsCited (charges_of about) es x (less_one rem m) (next_starts t interval reach m starts) (need - step_cost t reach m starts)) in
     let q : Q (passing (needs_cite t interval reach rem starts need) b) = subst Q (sym e) (h.as_many, h.cited) in
     record { as_many = q.0; cited = q.1 }
 
 -- models of which no unit is left
-pub covers_skip : (t : Times) (interval reach : ℕ) (es : List SeqEntry) (rem starts : List ℕ) (need a b : ℕ)
+pub covers_skip : (t : Times) (interval reach : ℕ) (about : About) (es : List SeqEntry) (rem starts : List ℕ) (need a b : ℕ)
     (cites : List ℕ) → a ≤ b
     → ((m : ℕ) → a ≤ m → m < b → is_left rem m ≡ false)
-    → Covers t interval reach es rem starts need a cites → Covers t interval reach es rem starts need b cites
-covers_skip t interval reach es rem starts need a b cites l none h =
-    covers_as t interval reach es rem starts need a b cites
+    → Covers t interval reach (charges_of about) es rem starts need a cites → Covers t interval reach (charges_of about) es rem starts need b cites
+covers_skip t interval reach about es rem starts need a b cites l none h =
+    covers_as t interval reach about es rem starts need a b cites
     (passing_same (needs_cite t interval reach rem starts need) a b l
     (λ m g u. left_needs t interval reach rem starts need m (none m g u))) h
 
 -- a step that needs no cite
-pub covers_no : (t : Times) (interval reach : ℕ) (es : List SeqEntry) (rem starts : List ℕ) (need m : ℕ)
+pub covers_no : (t : Times) (interval reach : ℕ) (about : About) (es : List SeqEntry) (rem starts : List ℕ) (need m : ℕ)
     (cites : List ℕ)
     → needs_cite t interval reach rem starts need m ≡ false
-    → Covers t interval reach es rem starts need m cites → Covers t interval reach es rem starts need (suc m) cites
-covers_no t interval reach es rem starts need m cites e h =
-    covers_as t interval reach es rem starts need m (suc m) cites
+    → Covers t interval reach (charges_of about) es rem starts need m cites → Covers t interval reach (charges_of about) es rem starts need (suc m) cites
+covers_no t interval reach about es rem starts need m cites e h =
+    covers_as t interval reach about es rem starts need m (suc m) cites
     (ap (λ k. passing (needs_cite t interval reach rem starts need) k) (sym (add-one m))
     ∙ passing_no (needs_cite t interval reach rem starts need) m e) h
 
 -- a step with its cite
-pub covers_yes : (t : Times) (interval reach : ℕ) (es : List SeqEntry) (rem starts : List ℕ) (need m id : ℕ)
+pub covers_yes : (t : Times) (interval reach : ℕ) (about : About) (es : List SeqEntry) (rem starts : List ℕ) (need m id : ℕ)
     (cites : List ℕ)
     → needs_cite t interval reach rem starts need m ≡ true
-    → IsCited es id (less_one rem m) (next_starts t interval reach m starts) (need - step_cost t reach m starts)
-    → Covers t interval reach es rem starts need m cites → Covers t interval reach es rem starts need (suc m)
+    → IsCited (charges_of about) es id (less_one rem m) (next_starts t interval reach m starts) (need - step_cost t reach m starts)
+    → Covers t interval reach (charges_of about) es rem starts need m cites → Covers t interval reach (charges_of about) es rem starts need (suc m)
     (cites ++ id ∷ [])
-covers_yes t interval reach es rem starts need m id cites e a h =
+covers_yes t interval reach about es rem starts need m id cites e a h =
     let test : ℕ → Bool = needs_cite t interval reach rem starts need in
-    let A : ℕ → ℕ → Type 0 = λ k x. IsCited es x (less_one rem k) (next_starts t interval reach k starts)
+    let A : ℕ → ℕ → Type 0 = λ k x. IsCited (charges_of about) es x (less_one rem k) (next_starts t interval reach k starts)
     (need - step_cost t reach k starts) in
     let Q : List ℕ → Type 0 = λ xs. (length (cites ++ id ∷ []) ≡ length xs)
     × ((p k x : ℕ) → slice_get xs p ≡ Some k → slice_get (cites ++ id ∷ []) p ≡ Some x → A k x) in
@@ -91,15 +92,15 @@ covers_yes t interval reach es rem starts need m id cites e a h =
     record { as_many = q.0; cited = q.1 }
 
 -- no step below 0 needs a cite
-pub covers_none : (t : Times) (interval reach : ℕ) (es : List SeqEntry) (rem starts : List ℕ) (need : ℕ)
-    → Covers t interval reach es rem starts need 0 []
-covers_none t interval reach es rem starts need = record { as_many = refl; cited = λ p m x g c. absurd (cc) }
+pub covers_none : (t : Times) (interval reach : ℕ) (about : About) (es : List SeqEntry) (rem starts : List ℕ) (need : ℕ)
+    → Covers t interval reach (charges_of about) es rem starts need 0 []
+covers_none t interval reach about es rem starts need = record { as_many = refl; cited = λ p m x g c. absurd (cc) }
 
 -- each cite is of an entry
-pub cites_within : (t : Times) (interval reach : ℕ) (es : List SeqEntry) (rem starts : List ℕ) (need n : ℕ)
+pub cites_within : (t : Times) (interval reach : ℕ) (about : About) (es : List SeqEntry) (rem starts : List ℕ) (need n : ℕ)
     (cites : List ℕ)
-    → Covers t interval reach es rem starts need n cites → All (λ x. x < length es) cites
-cites_within t interval reach es rem starts need n cites h k d l =
+    → Covers t interval reach (charges_of about) es rem starts need n cites → All (λ x. x < length es) cites
+cites_within t interval reach about es rem starts need n cites h k d l =
     let test : ℕ → Bool = needs_cite t interval reach rem starts need in
     let m : (m : ℕ) × (slice_get (passing test n) k ≡ Some m) =
     get_some (passing test n) k (omega (arith, l, h.as_many)) in

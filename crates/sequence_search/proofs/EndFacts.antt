@@ -11,12 +11,13 @@ use Rattle.sequence_values.specs.declared.types.Times.{Times}
 use Rattle.sequence_values.specs.declared.types.SeqEntry.{SeqEntry}
 use Rattle.sequence_values.specs.declared.types.SeqFrame.{SeqFrame}
 use Rattle.sequence_rules.specs.States.{IsSequenceOf, cost, root_starts}
-use Rattle.sequence_rules.specs.Entries.{Covers, HasAnswer, is_left}
+use Rattle.sequence_rules.specs.Entries.{Covers, is_left}
 use Rattle.sequence_rules.specs.Trails.{IsLeftBy, IsAskedAt, EndsWell, up_to, matched_to, is_deepest, IsRightAt}
 use Rattle.sequence_rules.specs.Ranges.{AreTimes, IsState, IsLast, IsFrame}
 use Rattle.sequence_rules.proofs.CostFacts.{left_within}
 use Rattle.sequence_rules.proofs.UnitCounts.{noughts}
-use Rattle.sequence_search.specs.Steps.{IsNextModel}
+use Rattle.sequence_search.specs.About.{About, charges_of}
+use Rattle.sequence_search.specs.Steps.{IsNextModel, HasPlainAnswer}
 use Rattle.sequence_search.specs.inner.Paths.{IsPassed, IsAlong, IsTop, IsBook}
 use Rattle.sequence_search.specs.inner.Tries.{AreStopped}
 use Rattle.sequence_search.proofs.CoverFacts.{covers_none, cites_within}
@@ -38,13 +39,13 @@ root_state t times = record {
 }
 
 -- a try begins at the root
-pub root_top : (t : Times) (interval reach goal : ℕ) (es : List SeqEntry) (f : SeqFrame) → AreTimes t
-    → IsBook t interval reach es goal
+pub root_top : (t : Times) (interval reach : ℕ) (about : About) (goal : ℕ) (es : List SeqEntry) (f : SeqFrame) → AreTimes t
+    → IsBook t interval reach about es goal
     → f.rem ≡ t.demands → f.starts ≡ root_starts t → f.need ≡ goal → f.last ≡ None → f.cites ≡ []
-    → IsTop t interval reach goal es [] f
-root_top t interval reach goal es f times book r s n l c =
+    → IsTop t interval reach about goal es [] f
+root_top t interval reach about goal es f times book r s n l c =
     let E : Option ℕ → Type 0 = λ o. EndsWell true f.rem o in
-    let C : ℕ → List ℕ → Type 0 = λ k cs. Covers t interval reach es f.rem f.starts f.need k cs in
+    let C : ℕ → List ℕ → Type 0 = λ k cs. Covers t interval reach (charges_of about) es f.rem f.starts f.need k cs in
     let S : List ℕ → List ℕ → Type 0 = λ a b. IsState (length t.demands) t.stations a b in
     let none : up_to f.last ≡ 0 = ap (λ o. up_to o) l in
     record {
@@ -64,9 +65,12 @@ root_top t interval reach goal es f times book r s n l c =
             omega (arith, n, ap (λ b. cost t interval reach b units) s),
           );
         };
-        unanswered = λ h. omega (arith, n, h.1.answers.least, book.root h.0 h.1.entry h.1.there (h.1.answers.same ∙ r));
+        unanswered = λ h.
+            let A : List ℕ → List ℕ → ℕ → Type 0 = λ a b k. HasPlainAnswer es a b k in
+            book.root (subst (λ (k : ℕ). A t.demands (root_starts t) k) n
+            (subst (λ (b : List ℕ). A t.demands b f.need) s (subst (λ (a : List ℕ). A a f.starts f.need) r h)));
         covers = subst (λ (k : ℕ). C k f.cites) (sym none) (subst (λ (cs : List ℕ). C 0 cs) (sym c)
-            (covers_none t interval reach es f.rem f.starts f.need));
+            (covers_none t interval reach about es f.rem f.starts f.need));
       };
     }
 
@@ -92,19 +96,19 @@ last_in : (models : ℕ) (rem : List ℕ) (last : Option ℕ) → length rem ≡
 last_in models rem None e h = tt
 last_in models rem (Some m) e h = omega (arith, e, left_within rem m (some_left rem m h))
 
-module _ (t : Times) (interval reach goal : ℕ) (es : List SeqEntry) (above : List SeqFrame) (f : SeqFrame)
-    (along : IsAlong t interval reach goal es above) (top : IsTop t interval reach goal es above f) where
+module _ (t : Times) (interval reach : ℕ) (about : About) (goal : ℕ) (es : List SeqEntry) (above : List SeqFrame) (f : SeqFrame)
+    (along : IsAlong t interval reach about goal es above) (top : IsTop t interval reach about goal es above f) where
   frames : List SeqFrame
   frames = above ++ f ∷ []
 
   right_above : (j : ℕ) (x : SeqFrame) → j < length above → slice_get above j ≡ Some x
-      → IsRightAt t interval reach es (above ++ f ∷ []) j x
+      → IsRightAt t interval reach (charges_of about) es (above ++ f ∷ []) j x
   right_above j x l g =
-      let p : IsPassed t interval reach goal es (take j above) x = along j x g in
+      let p : IsPassed t interval reach about goal es (take j above) x = along j x g in
       let no : is_deepest (above ++ f ∷ []) j ≡ false = deep j (length above) (length (above ++ f ∷ [])) l
       (length-append above (f ∷ [])) in
       let E : Option ℕ → Type 0 = λ o. EndsWell (is_deepest (above ++ f ∷ []) j) x.rem o in
-      let C : ℕ → Type 0 = λ n. Covers t interval reach es x.rem x.starts x.need n x.cites in
+      let C : ℕ → Type 0 = λ n. Covers t interval reach (charges_of about) es x.rem x.starts x.need n x.cites in
       let reached : matched_to (is_deepest (above ++ f ∷ []) j) x.last ≡ p.model =
       ap (λ b. matched_to b x.last) no ∙ ap (λ o. matched_to false o) p.last in
       record {
@@ -118,12 +122,12 @@ module _ (t : Times) (interval reach goal : ℕ) (es : List SeqEntry) (above : L
       deep : (j n k : ℕ) → j < n → k ≡ n + 1 → nat_eq (j + 1) k ≡ false
       deep j n k l e = grind (arith, nat_tests)
 
-  right_top : (j : ℕ) → j ≡ length above → IsRightAt t interval reach es (above ++ f ∷ []) j f
+  right_top : (j : ℕ) → j ≡ length above → IsRightAt t interval reach (charges_of about) es (above ++ f ∷ []) j f
   right_top j e =
       let yes : is_deepest (above ++ f ∷ []) j ≡ true = deep j (length above) (length (above ++ f ∷ [])) e
       (length-append above (f ∷ [])) in
       let E : Bool → Type 0 = λ b. EndsWell b f.rem f.last in
-      let C : ℕ → Type 0 = λ n. Covers t interval reach es f.rem f.starts f.need n f.cites in
+      let C : ℕ → Type 0 = λ n. Covers t interval reach (charges_of about) es f.rem f.starts f.need n f.cites in
       let reached : matched_to (is_deepest (above ++ f ∷ []) j) f.last ≡ up_to f.last =
       ap (λ b. matched_to b f.last) yes ∙ matched_all f.last in
       record {
@@ -137,7 +141,7 @@ module _ (t : Times) (interval reach goal : ℕ) (es : List SeqEntry) (above : L
       deep j n k e s = grind (arith, nat_tests)
 
   pub stopped : (m : ℕ) → AreTimes t → IsNextModel f.rem (up_to f.last) m → goal ≤ 1000000000000000000
-      → length es ≤ 1000000000000000000 → AreStopped t interval reach goal es (above ++ f ∷ [])
+      → length es ≤ 1000000000000000000 → AreStopped t interval reach about goal es (above ++ f ∷ [])
   stopped m times next low few = record {
     some = omega (arith, length-append above (f ∷ []));
     few = omega (arith, length-append above (f ∷ []), top.worked.on.depth, times.units);
@@ -147,12 +151,12 @@ module _ (t : Times) (interval reach goal : ℕ) (es : List SeqEntry) (above : L
     ];
     right = λ j x g. elim (get_push_cases above f x j g) [
       | inl u ↦ right_above j x u.0 u.1
-      | inr u ↦ let P : SeqFrame → Type 0 = λ z. IsRightAt t interval reach es (above ++ f ∷ []) j z in
+      | inr u ↦ let P : SeqFrame → Type 0 = λ z. IsRightAt t interval reach (charges_of about) es (above ++ f ∷ []) j z in
           subst P u.1 (right_top j u.0)
     ];
     range = λ j x g. elim (get_push_cases above f x j g) [
       | inl u ↦
-          let p : IsPassed t interval reach goal es (take j above) x = along j x u.1 in
+          let p : IsPassed t interval reach about goal es (take j above) x = along j x u.1 in
           let L : Option ℕ → Type 0 = λ o. IsLast (length t.demands) o in
           record {
             state = p.worked.on.state;
@@ -165,7 +169,7 @@ module _ (t : Times) (interval reach goal : ℕ) (es : List SeqEntry) (above : L
             cites = λ k d h. omega (
               arith,
               few,
-              cites_within t interval reach es x.rem x.starts x.need p.model x.cites
+              cites_within t interval reach about es x.rem x.starts x.need p.model x.cites
                   p.worked.covers k d h,
             );
           }
@@ -178,7 +182,7 @@ module _ (t : Times) (interval reach goal : ℕ) (es : List SeqEntry) (above : L
             cites = λ k d h. omega (
               arith,
               few,
-              cites_within t interval reach es f.rem f.starts f.need (up_to f.last)
+              cites_within t interval reach about es f.rem f.starts f.need (up_to f.last)
                   f.cites top.worked.covers k d h,
             );
           })
@@ -187,7 +191,7 @@ module _ (t : Times) (interval reach goal : ℕ) (es : List SeqEntry) (above : L
       unanswered = λ j x g k e h a. elim (get_push_cases above f x j g) [
         | inl u ↦ (along j x u.1).worked.unanswered (k, record { entry = e; there = h; answers = a })
         | inr u ↦
-            let P : SeqFrame → Type 0 = λ z. HasAnswer es z.rem z.starts z.need → ⊥ in
+            let P : SeqFrame → Type 0 = λ z. HasPlainAnswer es z.rem z.starts z.need → ⊥ in
             subst P u.1 top.worked.unanswered (k, record { entry = e; there = h; answers = a })
       ];
       further = λ j x g n. elim (get_push_cases above f x j g) [

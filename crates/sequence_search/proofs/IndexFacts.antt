@@ -7,10 +7,10 @@ use Rattle.std.specs.HashMap.{get, Updates}
 use Rattle.std.proofs.lemmas.Bool.{cases_eq, cases_lt, eq-eqb, ne_eqb}
 use Rattle.std.proofs.lemmas.Option.{slice_get_read, same_Some}
 use Rattle.line_rules.proofs.ListFacts.{get_push_cases}
-use Rattle.sequence_rules.specs.Entries.{Answers, HasAnswer}
+use Rattle.sequence_rules.specs.Entries.{AnswersPlainly}
 use Rattle.sequence_values.specs.declared.types.SeqEntry.{SeqEntry}
 use Rattle.sequence_search.specs.Index.{Numbered, key_of, IsLastOfKey, IsIndexed, IsLooking, left_of}
-use Rattle.sequence_search.specs.Steps.{IsLastAnswer}
+use Rattle.sequence_search.specs.Steps.{HasPlainAnswer, IsLastAnswer}
 
 module _ (es : List SeqEntry) (e : SeqEntry) where
   -- what is known of entries below a number stays known when one comes behind them
@@ -106,12 +106,12 @@ module _ (es : List SeqEntry) (e : SeqEntry) where
 
 module _ (es : List SeqEntry) (rem starts : List ℕ) (need : ℕ) where
   -- an entry of another key doesn't answer
-  of_key : (e : SeqEntry) → Answers e rem starts need → key_of e.rem ≡ key_of rem
-  of_key e a = ap key_of a.same
+  of_key : (e : SeqEntry) → AnswersPlainly e rem starts need → key_of e.rem ≡ key_of rem
+  of_key e a = ap key_of a.answers.same
 
   -- the last of the entries below a number that has the key is looked at next, where none from that number on answers
   pub looking : (n : ℕ) (next : Option ℕ) → n ≤ length es → IsLastOfKey es n (key_of rem) next
-      → ((k : ℕ) (e : SeqEntry) → n ≤ k → slice_get es k ≡ Some e → Answers e rem starts need → ⊥)
+      → ((k : ℕ) (e : SeqEntry) → n ≤ k → slice_get es k ≡ Some e → AnswersPlainly e rem starts need → ⊥)
       → IsLooking es rem starts need next
   looking n None few none late = record {
     within = λ j is. absurd (let f : None ≡ Some j = is in cc);
@@ -134,14 +134,14 @@ module _ (es : List SeqEntry) (rem starts : List ℕ) (need : ℕ) where
   looks_on : (latest : Numbered) (before : List (Option ℕ)) (j : ℕ) (e : SeqEntry) (o : Option ℕ)
       → IsIndexed latest before es
       → IsLooking es rem starts need (Some j) → slice_get es j ≡ Some e → slice_get before j ≡ Some o
-      → (Answers e rem starts need → ⊥) → IsLooking es rem starts need o
+      → (AnswersPlainly e rem starts need → ⊥) → IsLooking es rem starts need o
   looks_on latest before j e o index look there led isnt =
       looking j o (omega (arith, look.within j refl))
       (subst (λ key. IsLastOfKey es j key o) (look.keyed j e refl there) (index.chain j e o there led))
       (λ k x more here a. elim (cases_eq k j) [
         | inl same ↦
             let is : x ≡ e = same_Some x e (sym here ∙ ap (slice_get es) same ∙ there) in
-            isnt (subst (λ y. Answers y rem starts need) is a)
+            isnt (subst (λ y. AnswersPlainly y rem starts need) is a)
         | inr other ↦ look.passed k x (omega (arith, more, other)) here a
       ])
 
@@ -156,14 +156,14 @@ module _ (es : List SeqEntry) (rem starts : List ℕ) (need : ℕ) where
 
   -- the entry that is looked at answers, and is the last one
   answers_last : (j : ℕ) (e : SeqEntry) → IsLooking es rem starts need (Some j) → slice_get es j ≡ Some e
-      → Answers e rem starts need → IsLastAnswer es rem starts need j
+      → AnswersPlainly e rem starts need → IsLastAnswer es rem starts need j
   answers_last j e look there a = record {
     cited = record { entry = e; there = there; answers = a };
     last = λ k x more here. look.passed k x more here;
   }
 
   -- nothing is left to look at
-  pub none_answers : IsLooking es rem starts need None → HasAnswer es rem starts need → ⊥
+  pub none_answers : IsLooking es rem starts need None → HasPlainAnswer es rem starts need → ⊥
   none_answers look h = look.passed h.0 h.1.entry tt h.1.there h.1.answers
 
 -- A turn of a look in a book that is seen as its entries: the entry of the number that is next.
@@ -178,7 +178,7 @@ module _ {es view : List SeqEntry} {rem starts : List ℕ} {need : ℕ} {next : 
   there = slice_get_read es (length es) j x refl (here.within j refl) at
 
   -- it answers
-  pub found_last : Answers x rem starts need → IsLastAnswer view rem starts need j
+  pub found_last : AnswersPlainly x rem starts need → IsLastAnswer view rem starts need j
   found_last a =
       subst (λ (xs : List SeqEntry). IsLastAnswer xs rem starts need j) same
       (answers_last es rem starts need j x here there a)
@@ -189,7 +189,7 @@ module _ {es view : List SeqEntry} {rem starts : List ℕ} {need : ℕ} {next : 
     led_by = slice_get_read before (length es) j o (sym index.long) (here.within j refl) led
 
     -- it doesn't answer: the last one of its key before it is next
-    pub turns_on : (Answers x rem starts need → ⊥) → IsLooking view rem starts need o
+    pub turns_on : (AnswersPlainly x rem starts need → ⊥) → IsLooking view rem starts need o
     turns_on isnt =
         subst (λ (xs : List SeqEntry). IsLooking xs rem starts need o) same
         (looks_on es rem starts need latest before j x o index here there led_by isnt)

@@ -21,29 +21,30 @@ use Rattle.sequence_rules.specs.Trails.{IsLeftBy, IsAskedAt}
 use Rattle.sequence_rules.specs.Ranges.{IsState}
 use Rattle.sequence_rules.proofs.SumFacts.{length-value_at_each}
 use Rattle.sequence_rules.proofs.CostFacts.{cost_steps, left_within}
+use Rattle.sequence_search.specs.About.{About}
 use Rattle.sequence_search.specs.Steps.{IsNextState}
 use Rattle.sequence_search.specs.inner.Paths.{lasts, IsOn, IsWorked, IsPassed, IsAlong}
 use Rattle.sequence_search.proofs.BookFacts.{take_front, unanswered_more}
 use Rattle.sequence_search.proofs.CoverFacts.{covers_grow}
 
 -- one frame more, and one less
-pub along_push : (t : Times) (interval reach goal : ℕ) (es : List SeqEntry) (above : List SeqFrame) (f : SeqFrame)
-    → IsAlong t interval reach goal es above → IsPassed t interval reach goal es above f
-    → IsAlong t interval reach goal es (above ++ f ∷ [])
-along_push t interval reach goal es above f along passed j x g = elim (get_push_cases above f x j g) [
+pub along_push : (t : Times) (interval reach : ℕ) (about : About) (goal : ℕ) (es : List SeqEntry) (above : List SeqFrame) (f : SeqFrame)
+    → IsAlong t interval reach about goal es above → IsPassed t interval reach about goal es above f
+    → IsAlong t interval reach about goal es (above ++ f ∷ [])
+along_push t interval reach about goal es above f along passed j x g = elim (get_push_cases above f x j g) [
   | inl u ↦
-      let P : List SeqFrame → Type 0 = λ ys. IsPassed t interval reach goal es ys x in
+      let P : List SeqFrame → Type 0 = λ ys. IsPassed t interval reach about goal es ys x in
       subst P (sym (take-append-le j above (f ∷ []) (omega (arith, u.0)))) (along j x u.1)
   | inr u ↦
-      let P : List SeqFrame → Type 0 = λ ys. IsPassed t interval reach goal es ys f in
-      let Q : SeqFrame → Type 0 = λ z. IsPassed t interval reach goal es (take j (above ++ f ∷ [])) z in
+      let P : List SeqFrame → Type 0 = λ ys. IsPassed t interval reach about goal es ys f in
+      let Q : SeqFrame → Type 0 = λ z. IsPassed t interval reach about goal es (take j (above ++ f ∷ [])) z in
       subst Q u.1 (subst P (sym (ap (λ n. take n (above ++ f ∷ [])) u.0 ∙ take_front above f)) passed)
 ]
 
-pub along_rest : (t : Times) (interval reach goal : ℕ) (es : List SeqEntry) (above : List SeqFrame) (f : SeqFrame)
-    → IsAlong t interval reach goal es (above ++ f ∷ []) → IsAlong t interval reach goal es above
-along_rest t interval reach goal es above f along j x g =
-    let P : List SeqFrame → Type 0 = λ ys. IsPassed t interval reach goal es ys x in
+pub along_rest : (t : Times) (interval reach : ℕ) (about : About) (goal : ℕ) (es : List SeqEntry) (above : List SeqFrame) (f : SeqFrame)
+    → IsAlong t interval reach about goal es (above ++ f ∷ []) → IsAlong t interval reach about goal es above
+along_rest t interval reach about goal es above f along j x g =
+    let P : List SeqFrame → Type 0 = λ ys. IsPassed t interval reach about goal es ys x in
     let low : j < length above = slice_get_within above j x g in
     subst P (take-append-le j above (f ∷ []) (omega (arith, low))) (along j x (longer above f j x g))
   where
@@ -53,34 +54,34 @@ along_rest t interval reach goal es above f along j x g =
     longer (y ∷ above) f zero x g = g
     longer (y ∷ above) f (suc j) x g = longer above f j x g
 
-pub along_last : (t : Times) (interval reach goal : ℕ) (es : List SeqEntry) (above : List SeqFrame) (f : SeqFrame)
-    → IsAlong t interval reach goal es (above ++ f ∷ []) → IsPassed t interval reach goal es above f
-along_last t interval reach goal es above f along =
-    let P : List SeqFrame → Type 0 = λ ys. IsPassed t interval reach goal es ys f in
+pub along_last : (t : Times) (interval reach : ℕ) (about : About) (goal : ℕ) (es : List SeqEntry) (above : List SeqFrame) (f : SeqFrame)
+    → IsAlong t interval reach about goal es (above ++ f ∷ []) → IsPassed t interval reach about goal es above f
+along_last t interval reach about goal es above f along =
+    let P : List SeqFrame → Type 0 = λ ys. IsPassed t interval reach about goal es ys f in
     subst P (take_front above f) (along (length above) f (get_last above f))
 
 -- one entry more, of fewer units than are left at the frame
-pub worked_grow : (t : Times) (interval reach goal : ℕ) (es : List SeqEntry) (e : SeqEntry) (before : List SeqFrame)
+pub worked_grow : (t : Times) (interval reach : ℕ) (about : About) (goal : ℕ) (es : List SeqEntry) (e : SeqEntry) (before : List SeqFrame)
     (f : SeqFrame) (n : ℕ)
-    → (e.rem ≡ f.rem → ⊥) → IsWorked t interval reach goal es before f n
-    → IsWorked t interval reach goal (es ++ e ∷ []) before f n
-worked_grow t interval reach goal es e before f n other w = record {
+    → (e.rem ≡ f.rem → ⊥) → IsWorked t interval reach about goal es before f n
+    → IsWorked t interval reach about goal (es ++ e ∷ []) before f n
+worked_grow t interval reach about goal es e before f n other w = record {
   on = w.on;
   unanswered = unanswered_more es e f.rem f.starts f.need w.unanswered other;
-  covers = covers_grow t interval reach es (e ∷ []) f.rem f.starts f.need n f.cites w.covers;
+  covers = covers_grow t interval reach about es (e ∷ []) f.rem f.starts f.need n f.cites w.covers;
 }
 
-pub along_grow : (t : Times) (interval reach goal : ℕ) (es : List SeqEntry) (e : SeqEntry) (above : List SeqFrame)
-    → sum e.rem + length above ≤ sum t.demands → IsAlong t interval reach goal es above
-    → IsAlong t interval reach goal (es ++ e ∷ []) above
-along_grow t interval reach goal es e above depth along j x g =
-    let p : IsPassed t interval reach goal es (take j above) x = along j x g in
+pub along_grow : (t : Times) (interval reach : ℕ) (about : About) (goal : ℕ) (es : List SeqEntry) (e : SeqEntry) (above : List SeqFrame)
+    → sum e.rem + length above ≤ sum t.demands → IsAlong t interval reach about goal es above
+    → IsAlong t interval reach about goal (es ++ e ∷ []) above
+along_grow t interval reach about goal es e above depth along j x g =
+    let p : IsPassed t interval reach about goal es (take j above) x = along j x g in
     let low : j < length above = slice_get_within above j x g in
     record {
       model = p.model;
       last = p.last;
       left = p.left;
-      worked = worked_grow t interval reach goal es e (take j above) x p.model
+      worked = worked_grow t interval reach about goal es e (take j above) x p.model
           (λ same. omega (
             arith,
             depth,

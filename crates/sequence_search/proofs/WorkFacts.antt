@@ -11,6 +11,7 @@ use Rattle.sequence_values.specs.declared.types.SeqFrame.{SeqFrame}
 use Rattle.sequence_rules.specs.Entries.{units_of}
 use Rattle.sequence_rules.specs.Trails.{up_to}
 use Rattle.sequence_rules.specs.Ranges.{AreTimes}
+use Rattle.sequence_search.specs.About.{About, charges_of}
 use Rattle.sequence_search.specs.Steps.{IsNextModel, IsNextState}
 use Rattle.sequence_search.specs.Work.{work_of, root_work, frame_work, frames_work, AreTried, most_units}
 use Rattle.sequence_search.proofs.PathFacts.{sum_less, some_left}
@@ -78,9 +79,11 @@ work_few models (suc k) l =
         omega (arith, mul-le-mul_left models h, mul-le-mul_left models one, ap (λ z. suc k * z) e)
 
 -- a try more, after which the bounds are at most half as far from one another
-pub tried_more : (t : Times) (lower upper low high : ℕ) (old new : List SeqEntry) → AreTried t lower upper old
-    → 2 * (high - low) ≤ upper - lower → units_of new ≤ units_of old + root_work t → AreTried t low high new
-tried_more t lower upper low high old new h half few = record {
+pub tried_more : (t : Times) (about : About) (lower upper low high : ℕ) (old new : List SeqEntry)
+    → AreTried t about lower upper old
+    → 2 * (high - low) ≤ upper - lower → units_of (charges_of about) new ≤ units_of (charges_of about) old + root_work t
+    → AreTried t about low high new
+tried_more t about lower upper low high old new h half few = record {
   tries = h.tries + 1;
   near = omega (
     arith,
@@ -102,10 +105,12 @@ few_tries apart tries some near = elim (cases_lt tries 56) [
 ]
 
 -- so a try more uses fewer units than exclude it
-pub tight : (t : Times) (lower upper units : ℕ) (es : List SeqEntry) → AreTimes t → AreTried t lower upper es
+pub tight : (t : Times) (about : About) (lower upper units : ℕ) (es : List SeqEntry) → AreTimes t
+    → AreTried t about lower upper es
     → lower < upper
-    → units ≤ units_of es + root_work t → units < most_units t
-tight t lower upper units es times h apart few =
+    → units_of (charges_of about) about.kept + units ≤ units_of (charges_of about) es + root_work t
+    → units < most_units t
+tight t about lower upper units es times h apart few =
     below (sum t.demands) (length t.demands ^ sum t.demands) (root_work t) h.tries units
     (few_tries (upper - lower) h.tries (omega (arith, apart)) h.near)
     (work_few (length t.demands) (sum t.demands) times.modeled)

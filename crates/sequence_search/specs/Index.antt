@@ -4,7 +4,7 @@ use Rattle.std.specs.Prelude.{Some, None}
 use Rattle.std.specs.declared.hash.FoldHasher.{FoldHasher}
 use Rattle.std.specs.declared.hash.BuildHasherDefault.{BuildHasherDefault}
 use Rattle.std.specs.HashMap.{get, HashMap}
-use Rattle.sequence_rules.specs.Entries.{Answers}
+use Rattle.sequence_rules.specs.Entries.{AnswersPlainly}
 use Rattle.sequence_values.specs.declared.types.SeqEntry.{SeqEntry}
 
 -- a map from numbers to numbers
@@ -39,11 +39,11 @@ abbrev pub IsBeyond : Option ℕ → ℕ → Type 0
 IsBeyond None k = Unit {0}
 IsBeyond (Some j) k = j < k
 
--- where a look stands: the next entry has the key that is looked for, and none behind it answers
+-- where a look stands: the next entry has the key that is looked for, and none behind it that is by Bound or Branch answers
 pub record IsLooking (es : List SeqEntry) (rem starts : List ℕ) (need : ℕ) (next : Option ℕ) : Type 0 where
   pub within : (j : ℕ) → next ≡ Some j → j < length es
   pub keyed : (j : ℕ) (e : SeqEntry) → next ≡ Some j → slice_get es j ≡ Some e → key_of e.rem ≡ key_of rem
-  pub passed : (k : ℕ) (e : SeqEntry) → IsBeyond next k → slice_get es k ≡ Some e → Answers e rem starts need → ⊥
+  pub passed : (k : ℕ) (e : SeqEntry) → IsBeyond next k → slice_get es k ≡ Some e → AnswersPlainly e rem starts need → ⊥
 
 -- how many entries a look may still go over
 abbrev pub left_of : Option ℕ → ℕ

@@ -1,3 +1,4 @@
+pub mod About
 pub mod Tables
 pub mod Index
 pub mod Steps

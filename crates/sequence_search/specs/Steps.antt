@@ -1,17 +1,27 @@
 -- The steps of a frame in order, and the entry that answers a state.
 use Rattle.std.specs.Prelude.{◌≡◌, ℕ, ◌-◌, ◌<◌, ◌≤◌, true, false, List, [], length, slice_get, Some, None, sum}
 use Rattle.sequence_rules.specs.States.{step_cost, next_starts, less_one}
-use Rattle.sequence_rules.specs.Entries.{Answers, IsCited, HasAnswer, is_left, needs_cite}
+use Rattle.sequence_rules.specs.Entries.{AnswersPlainly, is_left, needs_cite}
 use Rattle.sequence_values.specs.declared.types.Times.{Times}
 use Rattle.sequence_values.specs.declared.types.SeqEntry.{SeqEntry}
 use Rattle.sequence_values.specs.declared.types.SeqFrame.{SeqFrame}
 use Rattle.sequence_search.specs.declared.outcome.Stepped.{Stepped}
 use Rattle.sequence_search.specs.declared.outcome.Stepped.TheVariants as stepped
 
--- the number of the last entry that answers a state and a need
+-- the entry of a number answers a state and a need, and is by Bound or Branch
+pub record IsPlainlyCited (es : List SeqEntry) (id : ℕ) (rem starts : List ℕ) (need : ℕ) : Type 0 where
+  pub entry : SeqEntry
+  pub there : slice_get es id ≡ Some entry
+  pub answers : AnswersPlainly entry rem starts need
+
+-- an entry by Bound or Branch answers a state and a need
+abbrev pub HasPlainAnswer : List SeqEntry → List ℕ → List ℕ → ℕ → Type 0
+HasPlainAnswer es rem starts need = (id : ℕ) × IsPlainlyCited es id rem starts need
+
+-- the number of the last entry by Bound or Branch that answers a state and a need
 pub record IsLastAnswer (es : List SeqEntry) (rem starts : List ℕ) (need id : ℕ) : Type 0 where
-  pub cited : IsCited es id rem starts need
-  pub last : (k : ℕ) (e : SeqEntry) → id < k → slice_get es k ≡ Some e → Answers e rem starts need → ⊥
+  pub cited : IsPlainlyCited es id rem starts need
+  pub last : (k : ℕ) (e : SeqEntry) → id < k → slice_get es k ≡ Some e → AnswersPlainly e rem starts need → ⊥
 
 -- from a number on, no model has a unit left
 abbrev pub IsNoModel : List ℕ → ℕ → Type 0
@@ -42,4 +52,4 @@ StepsTo t interval reach es f model stepped.Ends =
     (needs_cite t interval reach f.rem f.starts f.need model ≡ true) × (sum (less_one f.rem model) ≡ 0)
 StepsTo t interval reach es f model (stepped.Opens g) =
     (needs_cite t interval reach f.rem f.starts f.need model ≡ true) × IsNextState t interval reach f model g
-    × (0 < sum g.rem) × (HasAnswer es g.rem g.starts g.need → ⊥) × (g.last ≡ None) × (g.cites ≡ [])
+    × (0 < sum g.rem) × (HasPlainAnswer es g.rem g.starts g.need → ⊥) × (g.last ≡ None) × (g.cites ≡ [])

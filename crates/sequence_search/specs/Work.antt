@@ -5,6 +5,7 @@ use Rattle.sequence_rules.specs.Trails.{up_to}
 use Rattle.sequence_values.specs.declared.types.Times.{Times}
 use Rattle.sequence_values.specs.declared.types.SeqEntry.{SeqEntry}
 use Rattle.sequence_values.specs.declared.types.SeqFrame.{SeqFrame}
+use Rattle.sequence_search.specs.About.{About, charges_of}
 
 -- the most units that a state takes with so many models and so many units left: at each model a step, and what the next
 -- state takes
@@ -24,17 +25,18 @@ frame_work models f = (models - up_to f.last) * (1 + work_of models (sum f.rem -
 abbrev pub frames_work : ℕ → List SeqFrame → ℕ
 frames_work models fs = sum_by (frame_work models) fs
 
--- what a try adds to the units of the entries: at most what it was given, and at most what the root takes
-pub record AddsFew (t : Times) (room : ℕ) (old new : List SeqEntry) : Type 0 where
-  pub few : units_of new ≤ units_of old + room
-  pub work : units_of new ≤ units_of old + root_work t
+-- what a try adds to the units of the entries: none is lost, and there are at most what it was given, and at most what the root takes
+pub record AddsFew (t : Times) (about : About) (room : ℕ) (old new : List SeqEntry) : Type 0 where
+  pub more : units_of (charges_of about) old ≤ units_of (charges_of about) new
+  pub few : units_of (charges_of about) new ≤ units_of (charges_of about) old + room
+  pub work : units_of (charges_of about) new ≤ units_of (charges_of about) old + root_work t
 
--- So many tries were made: each of them brought the bounds to half as far from one another, or nearer, and added at
--- most what the root takes.
-pub record AreTried (t : Times) (lower upper : ℕ) (es : List SeqEntry) : Type 0 where
+-- So many tries were made: each of them brought the bounds to half as far from one another, or nearer, and added to the
+-- units of the kept entries at most what the root takes.
+pub record AreTried (t : Times) (about : About) (lower upper : ℕ) (es : List SeqEntry) : Type 0 where
   pub tries : ℕ
   pub near : (upper - lower) * 2 ^ tries ≤ 65536000000000000
-  pub work : units_of es ≤ tries * root_work t
+  pub work : units_of (charges_of about) es ≤ units_of (charges_of about) about.kept + tries * root_work t
 
 -- Units that are never all used: 64 times K times M to the power of K, for M models with K units together. Fewer than
 -- 64 tries are made, and each takes at most K times M to the power of K steps.

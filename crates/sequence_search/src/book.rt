@@ -2,12 +2,12 @@
 //!
 //! A map has the last entry of each key, which is made of the units left, and a list leads from each entry to the one
 //! of its key before it. So a look goes over the entries of one key alone, from the last on. It takes no memory.
-ghost use Rattle.std.specs.Prelude.{◌≡◌, ◌<◌, ◌∷◌, ◌++◌, [], length, slice_get, Some, IsNone, IfSome, OnOk};
-ghost use Rattle.sequence_rules.specs.Entries.{HasAnswer};
+ghost use Rattle.std.specs.Prelude.{◌≡◌, ◌<◌, ◌∷◌, ◌++◌, [], length, slice_get, Some, IsNone, IfSome, IfOk};
+ghost use Rattle.std.specs.Prelude.{OnOk};
 ghost use Rattle.sequence_search.specs.Index.{key_of};
-ghost use Rattle.sequence_search.specs.Steps.{IsLastAnswer};
+ghost use Rattle.sequence_search.specs.Steps.{HasPlainAnswer, IsLastAnswer};
 
-use sequence_rules::answers;
+use sequence_rules::answers_plainly;
 use sequence_values::{SeqEntries, SeqEntry};
 use std::alloc::{AllocError, Global};
 use std::collections::HashMap;
@@ -57,6 +57,17 @@ impl Book {
         }
     }
 
+    /// A book of these entries.
+    pub(crate) fn of(alloc: Global, entries: &SeqEntries) -> Result<Book, AllocError>
+        ensures { IfOk result (λ b. b ≡ entries.now) }
+    {
+        let mut book = Book::new(alloc);
+        for k in 0..entries.len() {
+            book.push(entries.at(k).copy()?)?;
+        }
+        Ok(book)
+    }
+
     /// How many entries there are.
     pub(crate) fn len(&self) -> usize
         ensures { result ≡ length self.now }
@@ -85,15 +96,15 @@ impl Book {
         Ok(())
     }
 
-    /// The number of the last entry that answers a state and a need.
+    /// The number of the last entry by Bound or Branch that answers a state and a need.
     pub(crate) fn last_answer(&self, rem: &[u64], starts: &[u64], need: u64) -> Option<u64>
-        ensures none { IsNone result → HasAnswer self.now rem.now starts.now need → ⊥ }
+        ensures none { IsNone result → HasPlainAnswer self.now rem.now starts.now need → ⊥ }
         ensures some { IfSome result (IsLastAnswer self.now rem.now starts.now need) }
     {
         let mut next = self.latest.get(&key_of(rem)).copied();
         while let Some(number) = next {
             let k = number as usize;
-            if answers(&self.entries[k], rem, starts, need) {
+            if answers_plainly(&self.entries[k], rem, starts, need) {
                 return Some(number);
             }
             next = self.before[k];

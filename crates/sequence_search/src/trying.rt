@@ -5,6 +5,7 @@
 ghost use Rattle.std.specs.Prelude.{◌≡◌, ℕ, ◌+◌, ◌≤◌, ◌∷◌, ◌++◌, [], length, IfOk, OnOk};
 ghost use Rattle.sequence_rules.specs.Entries.{units_of};
 ghost use Rattle.sequence_rules.specs.Ranges.{AreTimes, IsPlace, IsNumber};
+ghost use Rattle.sequence_search.specs.About.{About, charges_of};
 ghost use Rattle.sequence_search.specs.inner.Paths.{lasts, IsBook};
 ghost use Rattle.sequence_search.specs.inner.Tries.{entry_of, Tries};
 
@@ -57,13 +58,15 @@ pub(crate) fn attempt(
     need: u64,
     room: u64,
 ) -> Result<Tried, AllocError>
+    ghost about: { About }
     requires times { AreTimes times.now }
     requires interval { IsPlace interval }
     requires reach { IsPlace reach }
     requires need { IsNumber need }
-    requires book { IsBook times.now interval reach entries.old need }
-    requires few { units_of entries.old + room ≤ 1000000 }
-    ensures { IfOk result (λ tried. Tries times.now interval reach need room entries.old entries.new tried) }
+    requires book { IsBook times.now interval reach about entries.old need }
+    requires few { units_of (charges_of about) entries.old + room ≤ 3000000 }
+    requires kept { length about.kept ≤ 2000000 }
+    ensures { IfOk result (λ tried. Tries times.now interval reach about need room entries.old entries.new tried) }
 {
     let mut above = SeqFrames::from_vec(Vec::new(alloc));
     let mut top = root_frame(alloc, times, need)?;

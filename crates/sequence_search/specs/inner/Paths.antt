@@ -3,12 +3,14 @@
 use Rattle.std.specs.Prelude.{◌≡◌, ℕ, ◌+◌, ◌<◌, ◌≤◌, true, List, ◌++◌, length, map, take, slice_get, Some, unwrap_or}
 use Rattle.std.specs.Prelude.{sum}
 use Rattle.sequence_rules.specs.States.{state_bound, IsSequenceOf, cost, root_starts}
-use Rattle.sequence_rules.specs.Entries.{Covers, IsDerived, IsFresh, HasAnswer, is_left, units_of}
+use Rattle.sequence_rules.specs.Entries.{Covers, IsDerived, IsFreshFrom, is_left, units_of}
 use Rattle.sequence_rules.specs.Trails.{IsAskedAt, EndsWell, up_to}
 use Rattle.sequence_rules.specs.Ranges.{IsState, IsEntry}
 use Rattle.sequence_values.specs.declared.types.Times.{Times}
 use Rattle.sequence_values.specs.declared.types.SeqEntry.{SeqEntry}
 use Rattle.sequence_values.specs.declared.types.SeqFrame.{SeqFrame}
+use Rattle.sequence_search.specs.About.{About, charges_of, IsFront}
+use Rattle.sequence_search.specs.Steps.{HasPlainAnswer}
 
 -- the models of the last steps of frames
 abbrev pub lasts : List SeqFrame → List ℕ
@@ -32,36 +34,39 @@ pub record IsOn (t : Times) (interval reach goal : ℕ) (before : List SeqFrame)
       (lasts before ++ units) + need ≡ goal + cost t interval reach starts units)
 
 -- a frame below these, which no entry answers, and whose steps below n are covered
-pub record IsWorked (t : Times) (interval reach goal : ℕ) (es : List SeqEntry) (before : List SeqFrame) (f : SeqFrame)
+pub record IsWorked (t : Times) (interval reach : ℕ) (about : About) (goal : ℕ) (es : List SeqEntry) (before : List SeqFrame) (f : SeqFrame)
     (n : ℕ) : Type 0 where
   pub on : IsOn t interval reach goal before f.rem f.starts f.need
-  pub unanswered : HasAnswer es f.rem f.starts f.need → ⊥
-  pub covers : Covers t interval reach es f.rem f.starts f.need n f.cites
+  pub unanswered : HasPlainAnswer es f.rem f.starts f.need → ⊥
+  pub covers : Covers t interval reach (charges_of about) es f.rem f.starts f.need n f.cites
 
 -- a frame that a further one stands below
-pub record IsPassed (t : Times) (interval reach goal : ℕ) (es : List SeqEntry) (before : List SeqFrame)
+pub record IsPassed (t : Times) (interval reach : ℕ) (about : About) (goal : ℕ) (es : List SeqEntry) (before : List SeqFrame)
     (f : SeqFrame) : Type 0 where
   pub model : ℕ
   pub last : f.last ≡ Some model
   pub left : is_left f.rem model ≡ true
-  pub worked : IsWorked t interval reach goal es before f model
+  pub worked : IsWorked t interval reach about goal es before f model
 
 -- each frame is one below those before it
-abbrev pub IsAlong : Times → ℕ → ℕ → ℕ → List SeqEntry → List SeqFrame → Type 0
-IsAlong t interval reach goal es fs = (j : ℕ) (f : SeqFrame) → slice_get fs j ≡ Some f
-    → IsPassed t interval reach goal es (take j fs) f
+abbrev pub IsAlong : Times → ℕ → ℕ → About → ℕ → List SeqEntry → List SeqFrame → Type 0
+IsAlong t interval reach about goal es fs = (j : ℕ) (f : SeqFrame) → slice_get fs j ≡ Some f
+    → IsPassed t interval reach about goal es (take j fs) f
 
 -- the deepest frame
-pub record IsTop (t : Times) (interval reach goal : ℕ) (es : List SeqEntry) (before : List SeqFrame)
+pub record IsTop (t : Times) (interval reach : ℕ) (about : About) (goal : ℕ) (es : List SeqEntry) (before : List SeqFrame)
     (f : SeqFrame) : Type 0 where
   pub last : EndsWell true f.rem f.last
-  pub worked : IsWorked t interval reach goal es before f (up_to f.last)
+  pub worked : IsWorked t interval reach about goal es before f (up_to f.last)
 
--- Entries that a search has: derived and fresh, those of the root below a value, within their ranges, and at most one
--- more of them than they have units.
-pub record IsBook (t : Times) (interval reach : ℕ) (es : List SeqEntry) (below : ℕ) : Type 0 where
-  pub derived : IsDerived t interval reach es
-  pub fresh : IsFresh es
-  pub root : (k : ℕ) (e : SeqEntry) → slice_get es k ≡ Some e → e.rem ≡ t.demands → e.least < below
-  pub range : (k : ℕ) (e : SeqEntry) → slice_get es k ≡ Some e → IsEntry (length t.demands) t.stations e
-  pub few : length es ≤ units_of es + 1
+-- Entries that a search has: derived, those that are kept first and fresh behind them; none by Bound or Branch answers
+-- the root and a value; within their ranges; and at most one more behind the kept ones than these have units.
+pub record IsBook (t : Times) (interval reach : ℕ) (about : About) (es : List SeqEntry) (below : ℕ) : Type 0 where
+  pub derived : IsDerived t interval reach (charges_of about) es
+  pub front : IsFront about.kept es
+  pub fresh : IsFreshFrom (length about.kept) es
+  pub root : HasPlainAnswer es t.demands (root_starts t) below → ⊥
+  pub range : (k : ℕ) (e : SeqEntry) → slice_get es k ≡ Some e
+      → IsEntry (length t.demands) t.stations about.charges e
+  pub few : length es + units_of (charges_of about) about.kept
+      ≤ length about.kept + units_of (charges_of about) es + 1
