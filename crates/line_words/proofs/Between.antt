@@ -316,6 +316,7 @@ job_between command.Sequence ws r = (
   default_between command.Sequence ws (codes "interval") 1 (λ v. refl) r (omega arith, omega arith),
   default_between command.Sequence ws (codes "length") 1 (λ v. refl) r (omega arith, omega arith),
   default_between command.Sequence ws (codes "units") 1000000 (λ v. refl) r (omega arith, omega arith),
+  default_between command.Sequence ws (codes "seek") 0 (λ v. refl) r (omega arith, omega arith),
 )
 job_between command.SequenceCheck ws r = (
   default_between command.SequenceCheck ws (codes "interval") 1 (λ v. refl) r (omega arith, omega arith),
@@ -345,7 +346,7 @@ page_between words (Draw file cert out apart) p = absurd p
 page_between words (Plan file cert apart) p = absurd p
 page_between words (Effic file least most line helpers units cert) p = absurd p
 page_between words (EfficCheck file cert steps) p = absurd p
-page_between words (Sequence mix cert interval length units out) p = absurd p
+page_between words (Sequence mix cert interval length units out seek) p = absurd p
 page_between words (SequenceCheck mix cert seq interval length steps) p = absurd p
 
 -- each job that words ask for is in its ranges

@@ -171,6 +171,7 @@ job_for command.Sequence ws =
     Sequence (name_at ws 0) (name_at ws 1) (number_or command.Sequence ws (codes "interval") 1)
     (number_or command.Sequence ws (codes "length") 1)
     (number_or command.Sequence ws (codes "units") 1000000) (value_of ws (codes "out"))
+    (number_or command.Sequence ws (codes "seek") 0)
 job_for command.SequenceCheck ws =
     SequenceCheck (name_at ws 0) (name_at ws 1) (name_at ws 2) (number_or command.SequenceCheck ws (codes "interval") 1)
     (number_or command.SequenceCheck ws (codes "length") 1)

@@ -43,8 +43,9 @@ IsInRange (Plan file cert apart) = Unit {0}
 IsInRange (Effic file least most line helpers units cert) =
     IsBetween 1 1024 least × IsBetween 1 1024 most × (least ≤ most) × IsBetween 0 64 helpers × IsBetween 1 1000000 units
 IsInRange (EfficCheck file cert steps) = IsBetween 1 20000000 steps
-IsInRange (Sequence mix cert interval length units out) =
+IsInRange (Sequence mix cert interval length units out seek) =
     IsBetween 1 1000000000 interval × IsBetween 1 1000000000 length × IsBetween 1 1000000 units
+    × IsBetween 0 3000000 seek
 IsInRange (SequenceCheck mix cert seq interval length steps) =
     IsBetween 1 1000000000 interval × IsBetween 1 1000000000 length × IsBetween 1 20000000 steps
 

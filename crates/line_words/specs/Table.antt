@@ -95,7 +95,7 @@ keys_taken Plan = codes "apart" ∷ []
 keys_taken Effic =
     codes "least" ∷ codes "most" ∷ codes "line" ∷ codes "helpers" ∷ codes "units" ∷ codes "cert" ∷ []
 keys_taken EfficCheck = codes "steps" ∷ []
-keys_taken Sequence = codes "interval" ∷ codes "length" ∷ codes "units" ∷ codes "out" ∷ []
+keys_taken Sequence = codes "interval" ∷ codes "length" ∷ codes "units" ∷ codes "out" ∷ codes "seek" ∷ []
 keys_taken SequenceCheck = codes "interval" ∷ codes "length" ∷ codes "steps" ∷ []
 
 -- a command takes a key

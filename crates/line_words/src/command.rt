@@ -167,7 +167,7 @@ impl Command {
             Command::Plan => &["apart"],
             Command::Effic => &["least", "most", "line", "helpers", "units", "cert"],
             Command::EfficCheck => &["steps"],
-            Command::Sequence => &["interval", "length", "units", "out"],
+            Command::Sequence => &["interval", "length", "units", "out", "seek"],
             Command::SequenceCheck => &["interval", "length", "steps"],
         }
     }

@@ -153,7 +153,8 @@ pub enum Job {
         cert: Name,
         steps: u64,
     },
-    /// The sequence of a mix with the least utility work, at an interval and a length of the stations.
+    /// The sequence of a mix with the least utility work, at an interval and a length of the stations, in at most as
+    /// many work units, from what a seek of as many units finds before.
     Sequence {
         mix: Name,
         cert: Name,
@@ -161,6 +162,7 @@ pub enum Job {
         length: u64,
         units: u64,
         out: Option<Name>,
+        seek: u64,
     },
     /// The test of a certificate of such a sequence, in at most as many steps.
     SequenceCheck {
@@ -501,6 +503,7 @@ fn sequence_job(alloc: Global, words: &[String]) -> Result<Job, AllocError>
         length: number_or(command, words, "length", 1),
         units: number_or(command, words, "units", 1_000_000),
         out: name_set(alloc, words, "out")?,
+        seek: number_or(command, words, "seek", 0),
     })
 }
 
