@@ -1,7 +1,7 @@
 //! The bounds of a search, as every command prints them, and the report of a search that memory ended: its memory is
 //! taken before the search, so that the report costs none.
 ghost use Rattle.std.specs.Prelude.{◌≡◌, ◌++◌, string_bytes, OnOk, IfOk, []};
-ghost use Rattle.command_outcome.specs.Bounds.{bounds_line, cut_short_text};
+ghost use Rattle.command_outcome.specs.Bounds.{bounds_line, cut_short_text, seek_line};
 
 use std::alloc::{AllocError, Global};
 
@@ -14,6 +14,16 @@ pub fn push_bounds(text: &mut String, lower: u128, upper: u128) -> Result<(), Al
     ensures { OnOk result (string_bytes text.new ≡ string_bytes text.old ++ bounds_line lower upper) }
 {
     write!(text, "bounds {lower} {upper}\n")
+}
+
+/// A text, and behind it the line that says how many units a seek used of those that it might use, and how many of its
+/// lemmas were kept.
+pub fn with_seek_line(text: String, used: u64, limit: u64, kept: u64) -> Result<String, AllocError>
+    ensures { IfOk result (λ t. string_bytes t ≡ string_bytes text ++ seek_line used limit kept) }
+{
+    let mut text = text;
+    write!(text, "seek used {used} of {limit} kept {kept}\n")?;
+    Ok(text)
 }
 
 /// Memory for the report of a search that memory ends, taken before the search.

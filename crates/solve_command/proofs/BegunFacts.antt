@@ -27,7 +27,8 @@ use Rattle.round_run.specs.Solving.{FitsAll, SolvesFrom}
 use Rattle.round_run.specs.declared.plans.Plan.{Plan}
 use Rattle.round_run.specs.declared.solving.Outcome.{Outcome}
 use Rattle.solve_command.specs.WarmStart.{Start, IsOpened, TakesOld, TakesSought, Seeks, BeginsWith, entries_of}
-use Rattle.solve_command.specs.WarmStart.{old_room, seek_room, seek_line}
+use Rattle.command_outcome.specs.Bounds.{seek_line}
+use Rattle.solve_command.specs.WarmStart.{old_room, seek_room}
 use Rattle.solve_command.specs.inner.Begun.{IsBegun, IsTaken, HasSoughtBehind}
 use Rattle.solve_command.specs.declared.warm_start.Begun.{Begun}
 use Rattle.solve_command.specs.declared.warm_start.Taken.{Taken}

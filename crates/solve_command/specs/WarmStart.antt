@@ -11,6 +11,7 @@ use Rattle.line_rules.specs.declared.types.Claim.TheVariants as claim
 use Rattle.line_rules.specs.declared.types.Certificate.{Certificate}
 use Rattle.lemma_core.specs.Books.{BookView}
 use Rattle.warm_book.specs.Warm.{Taking, TakesAll, untaken}
+use Rattle.command_outcome.specs.Bounds.{seek_line}
 use Rattle.line_seek.specs.Seeking.{HasSought}
 use Rattle.round_run.specs.declared.plans.Plan.{Plan}
 use Rattle.command_outcome.specs.Outcome.{Files, Outside, Outcome, told}
@@ -86,11 +87,6 @@ TakesOld N book (Some old) end said =
 -- the room for the lemmas of a seek, and for their units: what the kept old entries and their units leave
 abbrev pub seek_room : ℕ → Taking → ℕ
 seek_room N at = old_room N - max at.kept at.units
-
--- the line that says how many loads a seek listed, and how many of its lemmas were kept
-abbrev pub seek_line : ℕ → ℕ → ℕ → List ℕ
-seek_line used limit kept =
-    codes "seek used " ++ decimal used ++ codes " of " ++ decimal limit ++ codes " kept " ++ decimal kept ++ codes "\n"
 
 -- A book that took in old entries takes in the lemmas of a seek over it, and this line says how many were kept. The
 -- number of stations is at most that of the balance of the seek.

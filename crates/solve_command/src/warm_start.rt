@@ -18,11 +18,11 @@ ghost use Rattle.input_files.specs.Certificate.{IsCertificateOf};
 ghost use Rattle.round_run.specs.Plans.{IsPlan};
 ghost use Rattle.solve_command.specs.WarmStart.{AreOld, IsOldOf, IsOther, IsUnwarmed, entries_of, tasks_line};
 ghost use Rattle.solve_command.specs.WarmStart.{warm_line};
-ghost use Rattle.solve_command.specs.WarmStart.{Start, old_room, seek_line};
+ghost use Rattle.solve_command.specs.WarmStart.{Start, old_room};
 ghost use Rattle.warm_book.specs.Warm.{Taking};
 ghost use Rattle.solve_command.specs.inner.Begun.{IsBegun, IsTaken, HasSoughtBehind};
 
-use command_outcome::{Status, Stop, refuse};
+use command_outcome::{Status, Stop, refuse, with_seek_line};
 use input_files::certificate_of;
 use lemma_core::Book;
 use line_instance::Instance;
@@ -243,20 +243,11 @@ fn take_sought<R: Threads + Sync>(
     match warm_wide(rt, alloc, inst, book, &lemmas, room) {
         Warmed::Done { mut book, kept } => {
             book.offer(best);
-            let first = with_seek_line(first, used, limit, kept)?;
+            let first = with_seek_line(first, used, limit, u64::from(kept))?;
             Ok(Begun { book, first })
         }
         Warmed::NoMemory(_) => Err(AllocError),
     }
-}
-
-/// A text, and behind it the line that says how many loads a seek listed, and how many of its lemmas were kept.
-fn with_seek_line(text: String, used: u64, limit: u64, kept: u32) -> Result<String, AllocError>
-    ensures { IfOk result (λ t. string_bytes t ≡ string_bytes text ++ seek_line used limit kept) }
-{
-    let mut text = text;
-    write!(text, "seek used {used} of {limit} kept {kept}\n")?;
-    Ok(text)
 }
 
 /// The book with which a run begins: empty but for the old entries that it takes in and, where the words ask for a seek
