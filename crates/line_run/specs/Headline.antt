@@ -69,8 +69,8 @@ PromisesOf files after (Effic file least most line helpers units cert) status te
     IsEfficPromised files after file (kind_of line) least most helpers units cert status text kept
 PromisesOf files after (EfficCheck file cert steps) status text kept = status ≡ ends.Done
     → IsProvedProduct files file cert steps
-PromisesOf files after (Sequence mix cert interval length units name) status text kept =
-    IsSequencePromised files after mix cert interval length units name status text kept
+PromisesOf files after (Sequence mix cert interval length units name seek) status text kept =
+    IsSequencePromised files after mix cert interval length units seek name status text kept
 PromisesOf files after (SequenceCheck mix cert seq interval length steps) status text kept =
     status ≡ ends.Done → IsProvedSequence files mix cert seq interval length steps
 

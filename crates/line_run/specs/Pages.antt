@@ -47,7 +47,7 @@ mix_text =
     ++ codes "timeline-draw MIX CERT SEQ OUT interval=I length=L    the same as a picture\n"
     ++ codes "    line timeline-draw models.csv all.cert day.txt day.svg interval=7 length=8\n"
     ++ codes "sequence MIX CERT interval=I length=L    the order of least utility work\n"
-    ++ codes "    units=1..1000000 (1000000)  out=OUT (none)\n"
+    ++ codes "    units=1..1000000 (1000000)  seek=0..3000000 (0)  out=OUT (none)\n"
     ++ codes "    line sequence models.csv all.cert interval=7 length=8 out=day.proof\n"
     ++ codes "sequence-check MIX CERT SEQ interval=I length=L    whether that proof holds\n"
     ++ codes "    steps=1..20000000 (20000000)\n"

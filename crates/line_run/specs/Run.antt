@@ -71,8 +71,8 @@ IsJobOutcome o (Planning file cert apart) out = IsPlanOutcome o file cert apart 
 IsJobOutcome o (Effic file least most line helpers units cert) out =
     IsEfficOutcome o file (kind_of line) least most helpers units cert out
 IsJobOutcome o (EfficCheck file cert steps) out = IsEfficCheckOutcome o file cert steps out
-IsJobOutcome o (Sequence mix cert interval length units name) out =
-    IsSequenceOutcome o mix cert interval length units name out
+IsJobOutcome o (Sequence mix cert interval length units name seek) out =
+    IsSequenceOutcome o mix cert interval length units seek name out
 IsJobOutcome o (SequenceCheck mix cert seq interval length steps) out =
     IsSequenceCheckOutcome o mix cert seq interval length steps out
 
@@ -108,7 +108,7 @@ IsPage (Draw file cert name apart) out = ⊥
 IsPage (Planning file cert apart) out = ⊥
 IsPage (Effic file least most line helpers units cert) out = ⊥
 IsPage (EfficCheck file cert steps) out = ⊥
-IsPage (Sequence mix cert interval length units name) out = ⊥
+IsPage (Sequence mix cert interval length units name seek) out = ⊥
 IsPage (SequenceCheck mix cert seq interval length steps) out = ⊥
 
 -- the job reads files
@@ -129,7 +129,7 @@ ReadsFiles (Draw file cert name apart) = Unit {0}
 ReadsFiles (Planning file cert apart) = Unit {0}
 ReadsFiles (Effic file least most line helpers units cert) = Unit {0}
 ReadsFiles (EfficCheck file cert steps) = Unit {0}
-ReadsFiles (Sequence mix cert interval length units name) = Unit {0}
+ReadsFiles (Sequence mix cert interval length units name seek) = Unit {0}
 ReadsFiles (SequenceCheck mix cert seq interval length steps) = Unit {0}
 
 -- the words ask for a job that reads files
@@ -173,7 +173,7 @@ out_of (Draw file cert name apart) = Some name
 out_of (Planning file cert apart) = None
 out_of (Effic file least most line helpers units cert) = cert
 out_of (EfficCheck file cert steps) = None
-out_of (Sequence mix cert interval length units name) = name
+out_of (Sequence mix cert interval length units name seek) = name
 out_of (SequenceCheck mix cert seq interval length steps) = None
 
 -- the words ask for a job that writes a file
@@ -213,7 +213,7 @@ IsJobTrue files (Draw file cert name apart) = Unit {0}
 IsJobTrue files (Planning file cert apart) = Unit {0}
 IsJobTrue files (Effic file least most line helpers units cert) = Unit {0}
 IsJobTrue files (EfficCheck file cert steps) = IsProvedProduct files file cert steps
-IsJobTrue files (Sequence mix cert interval length units name) = Unit {0}
+IsJobTrue files (Sequence mix cert interval length units name seek) = Unit {0}
 IsJobTrue files (SequenceCheck mix cert seq interval length steps) =
     IsProvedSequence files mix cert seq interval length steps
 

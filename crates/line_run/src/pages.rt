@@ -42,7 +42,7 @@ timeline MIX CERT SEQ interval=I length=L    the same, unit by unit, as CSV
 timeline-draw MIX CERT SEQ OUT interval=I length=L    the same as a picture
     line timeline-draw models.csv all.cert day.txt day.svg interval=7 length=8
 sequence MIX CERT interval=I length=L    the order of least utility work
-    units=1..1000000 (1000000)  out=OUT (none)
+    units=1..1000000 (1000000)  seek=0..3000000 (0)  out=OUT (none)
     line sequence models.csv all.cert interval=7 length=8 out=day.proof
 sequence-check MIX CERT SEQ interval=I length=L    whether that proof holds
     steps=1..20000000 (20000000)

@@ -278,6 +278,7 @@ fn do_job<R: Threads + Wait + Sync, S: Shelf, G: Gate>(
             length,
             units,
             out,
+            seek,
         } => sequence_report(
             alloc,
             mix.text(),
@@ -285,6 +286,7 @@ fn do_job<R: Threads + Wait + Sync, S: Shelf, G: Gate>(
             *interval,
             *length,
             *units,
+            *seek,
             name_of(out),
             shelf,
         ),

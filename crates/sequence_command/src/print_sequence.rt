@@ -5,7 +5,7 @@ ghost use Rattle.sequence_command.specs.SequenceText.{names_text, optimal_text, 
 use combined_graph::Mix;
 use command_outcome::push_bounds;
 use sequence_values::SeqCert;
-use std::alloc::{AllocError, Global};
+use std::alloc::AllocError;
 
 /// The names of the models of units, each behind a blank.
 fn push_names(text: &mut Vec<u8>, mix: &Mix, units: &[u64]) -> Result<(), AllocError>
@@ -33,25 +33,25 @@ fn with_sequence(heading: String, mix: &Mix, units: &[u64]) -> Result<Vec<u8>, A
     Ok(text)
 }
 
-/// The report of an optimum, with its sequence.
-pub(crate) fn optimal_text(alloc: Global, mix: &Mix, cert: &SeqCert) -> Result<Vec<u8>, AllocError>
+/// The report of an optimum, with its sequence, behind what is said already.
+pub(crate) fn optimal_text(said: String, mix: &Mix, cert: &SeqCert) -> Result<Vec<u8>, AllocError>
     requires few { length mix.now.models ≤ 16 }
     requires models { All (λ m. m < length mix.now.models) cert.now.sequence }
-    ensures { IfOk result (λ t. t.items ≡ optimal_text mix.now cert.now) }
+    ensures { IfOk result (λ t. t.items ≡ string_bytes said ++ optimal_text mix.now cert.now) }
 {
     let least = cert.upper;
-    let mut heading = String::new(alloc);
+    let mut heading = said;
     write!(heading, "optimal utility {least}\n")?;
     with_sequence(heading, mix, cert.sequence.as_slice())
 }
 
-/// The report of a search that used its units, with its best sequence.
-pub(crate) fn stopped_text(alloc: Global, mix: &Mix, cert: &SeqCert) -> Result<Vec<u8>, AllocError>
+/// The report of a search that used its units, with its best sequence, behind what is said already.
+pub(crate) fn stopped_text(said: String, mix: &Mix, cert: &SeqCert) -> Result<Vec<u8>, AllocError>
     requires few { length mix.now.models ≤ 16 }
     requires models { All (λ m. m < length mix.now.models) cert.now.sequence }
-    ensures { IfOk result (λ t. t.items ≡ stopped_text mix.now cert.now) }
+    ensures { IfOk result (λ t. t.items ≡ string_bytes said ++ stopped_text mix.now cert.now) }
 {
-    let mut heading = String::new(alloc);
+    let mut heading = said;
     heading.push_str("stopped by units\n")?;
     push_bounds(&mut heading, u128::from(cert.lower), u128::from(cert.upper))?;
     with_sequence(heading, mix, cert.sequence.as_slice())

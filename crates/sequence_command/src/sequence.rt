@@ -9,20 +9,23 @@ ghost use Rattle.line_io.specs.Outside.{Rises};
 ghost use Rattle.line_words.specs.Ranges.{IsBetween};
 ghost use Rattle.sequence_rules.specs.Ranges.{AreTimes, IsInRange};
 ghost use Rattle.sequence_values.specs.declared.types.SeqCert.{SeqCert as Proof};
+ghost use Rattle.sequence_search.specs.About.{About};
 ghost use Rattle.sequence_search.specs.Outcomes.{AreBounds};
 ghost use Rattle.command_outcome.specs.Outcome.{Files, Ends, MayEnd, Stay, Stops, MayStop, outside, outcome_of};
 ghost use Rattle.command_outcome.specs.declared.report.Kept.TheVariants.{Sequence as Certified};
 ghost use Rattle.command_outcome.specs.declared.report.Stop.TheVariants.{Unwritten};
+ghost use Rattle.sequence_command.specs.Beginning.{IsBegun};
 ghost use Rattle.sequence_command.specs.Ordered.{HasCertificate, IsAnswerStatus, IsCutShort, IsFound};
 ghost use Rattle.sequence_command.specs.Ordered.{IsSequenceOutcome, IsSequencePromised, page_of};
 
+use crate::beginning::{Beginning, begin};
 use crate::print_sequence::{optimal_text, stopped_text};
 use crate::timed_mix::{TimedMix, timed_of};
 use combined_graph::Mix;
 use command_outcome::{Kept, Report, Status, Stop, cut_short_text, refuse, room_for_bounds};
 use line_io::{Shelf, Written, write_whole};
 use sequence_cert::write_seq;
-use sequence_search::{Ordered, order};
+use sequence_search::{Ordered, order_from};
 use sequence_values::{SeqCert, Times};
 use std::alloc::{AllocError, Global};
 
@@ -47,8 +50,10 @@ fn cut_short(
     upper: u64,
 ) -> Result<Stop, AllocError>
     requires room { string_bytes room ≡ [] }
-    requires bounds { AreBounds times.now interval reach lower upper }
-    ensures answer { IfOk result (Stops (IsCutShort times.now interval reach)) }
+    ensures answer { (units seek : ℕ) (about : About) (said : List ℕ)
+        → IsBegun times.now interval reach units seek about said
+        → AreBounds times.now interval reach about lower upper
+        → IfOk result (Stops (IsCutShort times.now interval reach units seek)) }
     ensures fault { IfOk result (MayStop ⊥) }
 {
     let text = cut_short_text(room, u128::from(lower), u128::from(upper))?;
@@ -62,30 +67,48 @@ fn ordered(
     interval: u64,
     reach: u64,
     units: u64,
+    seek: u64,
 ) -> Result<Report, Stop>
     requires times { AreTimes timed.now.times }
     requires models { length timed.now.times.demands ≡ length timed.now.mix.models }
     requires interval { IsBetween 1 1000000000 interval }
     requires reach { IsBetween 1 1000000000 reach }
     requires units { IsBetween 1 1000000 units }
+    requires seek { IsBetween 0 3000000 seek }
     ensures answer { MatchResult result
-        (λ r. IsFound timed.now.mix timed.now.times interval reach units r.status r.text.items r.kept)
-        (Stops (IsCutShort timed.now.times interval reach)) }
+        (λ r. IsFound timed.now.mix timed.now.times interval reach units seek r.status r.text.items r.kept)
+        (Stops (IsCutShort timed.now.times interval reach units seek)) }
     ensures good { IfOk result (λ r. IsAnswerStatus r.status) }
     ensures fault { MatchResult result (λ _. Unit {0}) (MayStop ⊥) }
 {
     let room = room_for_bounds(alloc)?;
-    match order(alloc, &timed.times, interval, reach, units) {
+    let Beginning {
+        first,
+        charges,
+        kept,
+        said,
+    } = begin(alloc, &timed.times, interval, reach, units, seek)?;
+    match order_from(
+        alloc,
+        &timed.times,
+        interval,
+        reach,
+        units,
+        first,
+        charges,
+        kept,
+    ) {
         Ordered::Solved(cert) => {
-            let text = optimal_text(alloc, &timed.mix, &cert)?;
+            let text = optimal_text(said, &timed.mix, &cert)?;
             Ok(certified(Status::Done, text, cert))
         }
         Ordered::Stopped(cert) => {
-            let text = stopped_text(alloc, &timed.mix, &cert)?;
+            let text = stopped_text(said, &timed.mix, &cert)?;
             Ok(certified(Status::Stopped, text, cert))
         }
         Ordered::Memory { lower, upper } => {
-            Err(cut_short(&timed.times, interval, reach, room, lower, upper)?)
+            let times = &timed.times;
+            Err(cut_short(times, interval, reach, room, lower, upper)?)
         }
         Ordered::NoMemory => Err(Stop::Memory),
     }
@@ -121,8 +144,8 @@ fn written<S: Shelf>(
 }
 
 /// The report of `sequence` for the files of a mix and of the certificate whose balance the line has, a launch interval
-/// and the length of each station, both in the mix's time unit, so many units, 1 to 1,000,000, and the name of the file
-/// that the certificate is written to, where there is one.
+/// and the length of each station, both in the mix's time unit, so many units, 1 to 1,000,000, a seek of so many units
+/// before, 0 to 3,000,000, and the name of the file that the certificate is written to, where there is one.
 pub fn sequence_report<S: Shelf>(
     alloc: Global,
     mix: &str,
@@ -130,14 +153,16 @@ pub fn sequence_report<S: Shelf>(
     interval: u64,
     reach: u64,
     units: u64,
+    seek: u64,
     name: Option<&str>,
     shelf: &mut S,
 ) -> Result<Report, Stop>
     requires interval { IsBetween 1 1000000000 interval }
     requires reach { IsBetween 1 1000000000 reach }
     requires units { IsBetween 1 1000000 units }
+    requires seek { IsBetween 0 3000000 seek }
     ensures ends { S.tells → (let o = outside (S.file shelf.old) (S.blames shelf.new) in
-        Ends o (IsSequenceOutcome o mix.now cert.now interval reach units (option_map (λ a. a.now) name.entry))
+        Ends o (IsSequenceOutcome o mix.now cert.now interval reach units seek (option_map (λ a. a.now) name.entry))
         (S.file shelf.new) result) }
     ensures good { IfOk result (λ r. IsAnswerStatus r.status) }
     ensures fault { MatchResult result (λ _. Unit {0})
@@ -145,11 +170,11 @@ pub fn sequence_report<S: Shelf>(
         (Rises (S.write_faults shelf.old) (S.write_faults shelf.new))) }
     ensures unwritten { result ≡ Err Unwritten → (n : List ℕ) × (option_map (λ a. a.now) name.entry ≡ Some n) }
     ensures promise { S.tells → IfOk result (λ r.
-        IsSequencePromised (S.file shelf.old) (S.file shelf.new) mix.now cert.now interval reach units
+        IsSequencePromised (S.file shelf.old) (S.file shelf.new) mix.now cert.now interval reach units seek
         (option_map (λ a. a.now) name.entry) r.status r.text.items r.kept) }
 {
     let timed = timed_of(alloc, mix, cert, interval, shelf)?;
-    let report = ordered(alloc, &timed, interval, reach, units)?;
+    let report = ordered(alloc, &timed, interval, reach, units, seek)?;
     match name {
         None => Ok(report),
         Some(name) => written(alloc, shelf, name, report),

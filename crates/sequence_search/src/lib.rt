@@ -12,6 +12,6 @@ mod outcome;
 mod tables;
 mod trying;
 
-pub use ordering::{order, order_from};
+pub use ordering::{model_order, order, order_from};
 pub use outcome::Ordered;
 pub use tables::station_times;

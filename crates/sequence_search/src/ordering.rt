@@ -42,8 +42,8 @@ fn push_units(sequence: &mut Vec<u64>, model: u64, count: u64) -> Result<(), All
     Ok(())
 }
 
-/// The sequence in the order of the models.
-fn in_order(alloc: Global, demands: &[u64]) -> Result<Numbers, AllocError>
+/// The sequence in the order of the models: each as often as it is wanted. An error where memory is wanting.
+pub fn model_order(alloc: Global, demands: &[u64]) -> Result<Numbers, AllocError>
     ensures is { IfOk result (λ v. IsSequenceOf demands.now v) }
     ensures order { IfOk result (λ v. v ≡ model_order demands.now) }
 {
@@ -379,7 +379,7 @@ pub fn order(alloc: Global, times: &Times, interval: u64, reach: u64, units: u64
     requires few { units ≤ 1000000 }
     ensures { Orders times.now interval reach units result }
 {
-    let Ok(first) = in_order(alloc, times.demands.as_slice()) else {
+    let Ok(first) = model_order(alloc, times.demands.as_slice()) else {
         return Ordered::NoMemory;
     };
     let kept = SeqEntries::from_vec(Vec::new(alloc));

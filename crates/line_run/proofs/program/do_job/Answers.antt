@@ -208,7 +208,7 @@ returns-in-Sequence-clause-ends g c = λ t.
     let after : Files = g.S.Shelf.file c.sequence_report.new.shelf in
     let job = c.in-Sequence in
     let E : List ℕ → List ℕ → Option (List ℕ) → Type 0 = λ m p n.
-    Ends o (IsSequenceOutcome o m p job.interval job.length job.units n) after c.sequence_report.result in
+    Ends o (IsSequenceOutcome o m p job.interval job.length job.units job.seek n) after c.sequence_report.result in
     of_job o after c.sequence_report.result _ _ job.is
     (subst₃ E c.text-in-Sequence.ensures c.text-in-Sequence-2.ensures c.name_of-in-Sequence.ensures
     (c.sequence_report.ensures.ends t))

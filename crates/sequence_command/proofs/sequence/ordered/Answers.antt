@@ -8,18 +8,18 @@ pub returns-in_ok-text-in-Solved-clause-answer : goal.returns-in_ok-text-in-Solv
 returns-in_ok-text-in-Solved-clause-answer c =
     let a = c.args in
     let timed = a.timed.now in
-    let P : Report → Type 0 = λ r. IsFound timed.mix timed.times a.interval a.reach a.units r.status r.text.items
+    let P : Report → Type 0 = λ r. IsFound timed.mix timed.times a.interval a.reach a.units a.seek r.status r.text.items
     r.kept in
     subst P (sym c.certified.ensures)
-    (solved_found timed.mix timed.times a.interval a.reach a.units c.in-Solved.cert c.in_ok-text-in-Solved.text.items
+    (solved_found timed.mix timed.times a.interval a.reach a.units a.seek c.in-Solved.cert c.in_ok-text-in-Solved.text.items
     c.in-Solved.ensures c.in_ok-text-in-Solved.ensures)
 
 pub returns-in_ok-text-in-Stopped-clause-answer : goal.returns-in_ok-text-in-Stopped-clause-answer
 returns-in_ok-text-in-Stopped-clause-answer c =
     let a = c.args in
     let timed = a.timed.now in
-    let P : Report → Type 0 = λ r. IsFound timed.mix timed.times a.interval a.reach a.units r.status r.text.items
+    let P : Report → Type 0 = λ r. IsFound timed.mix timed.times a.interval a.reach a.units a.seek r.status r.text.items
     r.kept in
     subst P (sym c.certified-in-Stopped.ensures)
-    (stopped_found timed.mix timed.times a.interval a.reach a.units c.in-Stopped.cert c.in_ok-text-in-Stopped.text.items
+    (stopped_found timed.mix timed.times a.interval a.reach a.units a.seek c.in-Stopped.cert c.in_ok-text-in-Stopped.text.items
     c.in-Stopped.ensures c.in_ok-text-in-Stopped.ensures)

@@ -11,7 +11,7 @@ returns-in_err-timed-clause-ends g c = λ t.
     let name : Option (List ℕ) = option_map (λ n. n.now) a.name in
     let after : Files = g.S.Shelf.file c.timed_of.new.shelf in
     let o : Outside = outside (g.S.Shelf.file a.shelf.now) (g.S.Shelf.blames c.timed_of.new.shelf) in
-    let P : Outcome → Type 0 = IsSequenceOutcome o a.mix.now a.cert.now a.interval a.reach a.units name in
+    let P : Outcome → Type 0 = IsSequenceOutcome o a.mix.now a.cert.now a.interval a.reach a.units a.seek name in
     early o P (IsUntimed o a.mix.now a.cert.now a.interval) after c.in_err-timed.field-0.0 c.from_residual.result
     (λ out x. inr x) (c.in_err-timed.ensures.files t) (c.in_err-timed.ensures.said t) c.from_residual.ensures.1
 
@@ -25,12 +25,12 @@ returns-clause-ends g c = λ t.
     let report = c.in_ok-report.report in
     let name = Some c.in-Some.name.now in
     let told : Outcome = outcome_of report (page_of name report.kept) in
-    let R : Outcome → Type 0 = IsReported timed.mix timed.times a.interval a.reach a.units name in
+    let R : Outcome → Type 0 = IsReported timed.mix timed.times a.interval a.reach a.units a.seek name in
     let reported : R told = record { found = c.in_ok-report.ensures.answer; page = refl } in
     let E : Option (List ℕ) → Type 0 = λ n.
-    Ends o (IsSequenceOutcome o a.mix.now a.cert.now a.interval a.reach a.units n) after c.written.result in
+    Ends o (IsSequenceOutcome o a.mix.now a.cert.now a.interval a.reach a.units a.seek n) after c.written.result in
     subst E (sym (ap (option_map (λ n. n.now)) c.in-Some.is))
-    (ends_as o (λ out. out ≡ told) (IsSequenceOutcome o a.mix.now a.cert.now a.interval a.reach a.units name) after
+    (ends_as o (λ out. out ≡ told) (IsSequenceOutcome o a.mix.now a.cert.now a.interval a.reach a.units a.seek name) after
     c.written.result
     (λ out is. inl (record {
       mix = timed.mix;

@@ -3,7 +3,7 @@ use Rattle.std.proofs.lemmas.List.{take_all}
 use Rattle.sequence_rules.specs.States.{IsSequenceOf}
 use Rattle.sequence_search.specs.Outcomes.{model_order}
 use Rattle.sequence_search.proofs.OrderFacts.{order_more, order_whole, ordered_more}
-use Rattle.sequence_search.proofs.ordering.in_order.Goals as goal
+use Rattle.sequence_search.proofs.ordering.model_order.Goals as goal
 
 pub loop-m-preserved : goal.loop-m-preserved
 loop-m-preserved c =

@@ -1,7 +1,7 @@
 use Rattle.std.proofs.Common.{◌≡◌, ◌<◌, ◌≤◌, ℕ, nat_eq, get_or, take}
 use Rattle.std.specs.Prelude.{count_by}
 use Rattle.sequence_search.specs.Outcomes.{model_order}
-use Rattle.sequence_search.proofs.ordering.in_order.Given as goal
+use Rattle.sequence_search.proofs.ordering.model_order.Given as goal
 
 abbrev pub invariant-loop-m : goal.invariant-loop-m
 invariant-loop-m l = record {
