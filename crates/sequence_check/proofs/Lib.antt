@@ -1,4 +1,5 @@
 pub mod WalkFacts
+pub mod MatchFacts
 pub mod EntryFacts
 pub mod FrameFacts
 pub mod RangeFacts

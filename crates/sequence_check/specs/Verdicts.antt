@@ -1,6 +1,7 @@
 -- What the check of a certificate finds: its first failing check, or that all hold.
 use Rattle.std.specs.Prelude.{◌≡◌, ℕ, ◌-◌, ◌<◌, ◌≤◌, ◌⊎◌, length}
 use Rattle.sequence_rules.specs.States.{IsSequenceOf, cost, root_starts}
+use Rattle.sequence_rules.specs.Charges.{listed_charges}
 use Rattle.sequence_rules.specs.Entries.{IsDerived, HasAnswer, units_of}
 use Rattle.sequence_rules.specs.Trails.{IsAllowed}
 use Rattle.sequence_rules.specs.Accepted.{IsShownLower, IsAccepted, units_whole}
@@ -29,15 +30,15 @@ pub record IsShown (t : Times) (interval reach : ℕ) (cert : SeqCert) : Type 0 
 
 -- the entries are derived, have these units, and show the lower bound
 pub record AreDone (t : Times) (interval reach : ℕ) (cert : SeqCert) (units : ℕ) : Type 0 where
-  pub derived : IsDerived t interval reach cert.entries
-  pub total : units ≡ units_of cert.entries
+  pub derived : IsDerived t interval reach (listed_charges cert.charges) cert.entries
+  pub total : units ≡ units_of (listed_charges cert.charges) cert.entries
   pub goal : IsShownLower t cert
 
 -- the first frame isn't allowed, or it is, and a frame isn't what it should be
 abbrev pub TrailFails : Times → ℕ → ℕ → SeqCert → ℕ → ℕ → SeqFrameFault → Type 0
 TrailFails t interval reach cert steps j why =
     ((IsAllowed cert.lower cert.upper cert.frames → ⊥) × (j ≡ 0) × (why ≡ fault.Allowed))
-    ⊎ (IsAllowed cert.lower cert.upper cert.frames × IsFrameRefused t interval reach cert.entries cert.frames steps j
+    ⊎ (IsAllowed cert.lower cert.upper cert.frames × IsFrameRefused t interval reach (listed_charges cert.charges) cert.entries cert.frames steps j
     why)
 
 -- the first check that fails, where the steps walked up to it are at most `steps`
@@ -50,10 +51,10 @@ FailsFirst t interval reach cert steps (place.Total total) =
     IsOfLine t cert × IsSequenceOf t.demands cert.sequence
     × (total ≡ cost t interval reach (root_starts t) cert.sequence) × (total ≡ cert.upper → ⊥)
 FailsFirst t interval reach cert steps (place.Entry entry why) =
-    IsShown t interval reach cert × IsRefusedAt t interval reach cert.entries steps entry why
+    IsShown t interval reach cert × IsRefusedAt t interval reach (listed_charges cert.charges) cert.entries steps entry why
 FailsFirst t interval reach cert steps place.Goal =
-    IsShown t interval reach cert × IsDerived t interval reach cert.entries × (units_of cert.entries ≤ steps)
-    × (0 < cert.lower) × (HasAnswer cert.entries t.demands (root_starts t) cert.lower → ⊥)
+    IsShown t interval reach cert × IsDerived t interval reach (listed_charges cert.charges) cert.entries × (units_of (listed_charges cert.charges) cert.entries ≤ steps)
+    × (0 < cert.lower) × (HasAnswer (listed_charges cert.charges) cert.entries t.demands (root_starts t) cert.lower → ⊥)
 FailsFirst t interval reach cert steps (place.Frame frame why) =
     (units : ℕ) × (IsShown t interval reach cert × AreDone t interval reach cert units × (units ≤ steps)
     × TrailFails t interval reach cert (steps - units) frame why)
@@ -61,9 +62,9 @@ FailsFirst t interval reach cert steps (place.Frame frame why) =
 -- some step of an entry or of a frame is walked as one more than `steps`, and every check up to it held
 abbrev pub EndsEarly : Times → ℕ → ℕ → SeqCert → ℕ → Type 0
 EndsEarly t interval reach cert steps =
-    AreStepsEnded t interval reach cert.entries steps
+    AreStepsEnded t interval reach (listed_charges cert.charges) cert.entries steps
     ⊎ ((units : ℕ) × (AreDone t interval reach cert units × (units ≤ steps)
-    × IsAllowed cert.lower cert.upper cert.frames × AreFramesEnded t interval reach cert.entries cert.frames
+    × IsAllowed cert.lower cert.upper cert.frames × AreFramesEnded t interval reach (listed_charges cert.charges) cert.entries cert.frames
     (steps - units)))
 
 -- What is found of a certificate: Accepted where it is accepted and its units are at most `steps`, Refused at the first

@@ -1,9 +1,11 @@
 //! The check of a certificate, in the order of its parts: the sequence, the entries, the lower bound and the frames.
-ghost use Rattle.std.specs.Prelude.{◌≡◌, ℕ, ◌↔◌, ◌≤◌, length, IsTrue, IsNone, IfSome};
+ghost use Rattle.std.specs.Prelude.{◌≡◌, ℕ, ◌↔◌, ◌≤◌, length, sum, IsTrue, IsNone, IfSome};
+ghost use Rattle.sequence_rules.specs.Charges.{listed_charges};
 ghost use Rattle.sequence_rules.specs.Entries.{HasAnswer};
 ghost use Rattle.sequence_rules.specs.Trails.{IsAllowed};
 ghost use Rattle.sequence_rules.specs.Accepted.{IsShownLower};
 ghost use Rattle.sequence_rules.specs.Ranges.{AreTimes, IsPlace, IsInRange};
+ghost use Rattle.sequence_check.specs.Walks.{AreCitable};
 ghost use Rattle.sequence_check.specs.Verdicts.{IsOfLine, IsShown, FailsFirst, IsVerdict, IsTrueOf, IsRejectedSo};
 
 use crate::entries::check_entries;
@@ -39,12 +41,14 @@ fn sequence_fault(times: &Times, interval: u64, reach: u64, cert: &SeqCert) -> O
 }
 
 /// Whether an entry of a list answers a state and a need. One pass over the entries.
-fn has_answer(entries: &SeqEntries, rem: &[u64], starts: &[u64], need: u64) -> bool
-    ensures some { IsTrue result → HasAnswer entries.now rem.now starts.now need }
-    ensures none { HasAnswer entries.now rem.now starts.now need → IsTrue result }
+fn has_answer(charges: &[u64], entries: &SeqEntries, rem: &[u64], starts: &[u64], need: u64) -> bool
+    requires citable { AreCitable charges.now entries.now }
+    requires few { sum rem.now ≤ 16000 }
+    ensures some { IsTrue result → HasAnswer charges.now entries.now rem.now starts.now need }
+    ensures none { HasAnswer charges.now entries.now rem.now starts.now need → IsTrue result }
 {
     for k in 0..entries.len() {
-        if answers(entries.at(k), rem, starts, need) {
+        if answers(charges, entries.at(k), rem, starts, need) {
             return true;
         }
     }
@@ -52,8 +56,10 @@ fn has_answer(entries: &SeqEntries, rem: &[u64], starts: &[u64], need: u64) -> b
 }
 
 /// Whether an entry shows the lower bound of the root, where that is above 0.
-fn shows_lower(times: &Times, cert: &SeqCert) -> bool
+fn shows_lower(times: &Times, charges: &[u64], cert: &SeqCert) -> bool
     requires times { AreTimes times.now }
+    requires charges { charges.now ≡ listed_charges cert.now.charges }
+    requires citable { AreCitable charges.now cert.now.entries }
     ensures { IsTrue result ↔ IsShownLower times.now cert.now }
 {
     if cert.lower == 0 {
@@ -61,7 +67,13 @@ fn shows_lower(times: &Times, cert: &SeqCert) -> bool
     }
     let noughts = [0; MAX_STATIONS];
     let starts = &noughts[..times.stations as usize];
-    has_answer(&cert.entries, times.demands.as_slice(), starts, cert.lower)
+    has_answer(
+        charges,
+        &cert.entries,
+        times.demands.as_slice(),
+        starts,
+        cert.lower,
+    )
 }
 
 /// Whether the first frame, where there is one, has a need between the bounds.
@@ -75,25 +87,33 @@ fn is_allowed(lower: u64, upper: u64, frames: &SeqFrames) -> bool
     lower < need && need <= upper
 }
 
-/// What is found of a certificate.
-fn judge(times: &Times, interval: u64, reach: u64, cert: &SeqCert, steps: u64) -> SeqVerified
+/// What is found of a certificate with these charges.
+fn judge_charged(
+    times: &Times,
+    interval: u64,
+    reach: u64,
+    charges: &[u64],
+    cert: &SeqCert,
+    steps: u64,
+) -> SeqVerified
     requires times { AreTimes times.now }
     requires interval { IsPlace interval }
     requires reach { IsPlace reach }
+    requires charges { charges.now ≡ listed_charges cert.now.charges }
     requires range { IsInRange cert.now }
     ensures { IsVerdict times.now interval reach cert.now steps result }
 {
     if let Some(place) = sequence_fault(times, interval, reach, cert) {
         return SeqVerified::Refused(place);
     }
-    let units = match check_entries(times, interval, reach, &cert.entries, steps) {
+    let units = match check_entries(times, interval, reach, charges, &cert.entries, steps) {
         EntriesFound::Right { units } => units,
         EntriesFound::Refused { entry, why } => {
             return SeqVerified::Refused(SeqPlace::Entry { entry, why });
         }
         EntriesFound::StepsEnded => return SeqVerified::StepsEnded(steps),
     };
-    if !shows_lower(times, cert) {
+    if !shows_lower(times, charges, cert) {
         return SeqVerified::Refused(SeqPlace::Goal);
     }
     if !is_allowed(cert.lower, cert.upper, &cert.frames) {
@@ -106,6 +126,7 @@ fn judge(times: &Times, interval: u64, reach: u64, cert: &SeqCert, steps: u64) -
         times,
         interval,
         reach,
+        charges,
         &cert.entries,
         &cert.frames,
         steps - units,
@@ -119,6 +140,20 @@ fn judge(times: &Times, interval: u64, reach: u64, cert: &SeqCert, steps: u64) -
             SeqVerified::Refused(SeqPlace::Frame { frame, why })
         }
         FramesFound::StepsEnded => SeqVerified::StepsEnded(steps),
+    }
+}
+
+/// What is found of a certificate.
+fn judge(times: &Times, interval: u64, reach: u64, cert: &SeqCert, steps: u64) -> SeqVerified
+    requires times { AreTimes times.now }
+    requires interval { IsPlace interval }
+    requires reach { IsPlace reach }
+    requires range { IsInRange cert.now }
+    ensures { IsVerdict times.now interval reach cert.now steps result }
+{
+    match &cert.charges {
+        Some(charges) => judge_charged(times, interval, reach, charges.as_slice(), cert, steps),
+        None => judge_charged(times, interval, reach, &[], cert, steps),
     }
 }
 

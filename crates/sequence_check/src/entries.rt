@@ -1,12 +1,16 @@
 //! The check of entries, each after those before it.
-ghost use Rattle.std.specs.Prelude.{◌≡◌, ℕ, ◌≤◌, List, length, take, slice_get, Some};
+ghost use Rattle.std.specs.Prelude.{◌≡◌, ℕ, ◌<◌, ◌≤◌, List, length, take, slice_get, Some, sum, option_map};
 ghost use Rattle.sequence_values.specs.declared.types.SeqEntry.{SeqEntry as Step};
 ghost use Rattle.sequence_values.specs.declared.types.SeqWhy.TheVariants as why;
-ghost use Rattle.sequence_check.specs.Faults.{IsFound};
+ghost use Rattle.sequence_check.specs.Walks.{AreBelow, AreCitable, IsPosed, Tells};
+ghost use Rattle.sequence_check.specs.Faults.{cites_of, models_by, is_walked, is_open, IsCiteFor};
+ghost use Rattle.sequence_check.specs.Faults.{IsPosedEntry, IsFoundBy, IsFound, IsChecked, IsRuledOut};
+ghost use Rattle.sequence_rules.specs.Charges.{listed_charges};
+ghost use Rattle.sequence_rules.specs.Ranges.{AreTimes, IsPlace, AreChargesIf, IsEntry};
 ghost use Rattle.sequence_check.specs.Lists.{AreFound};
-ghost use Rattle.sequence_check.specs.Walks.{IsPosed};
 
-use crate::types::{Checked, EntriesFound, SeqEntryFault, Walked};
+use crate::rows::walk_row;
+use crate::types::{Checked, EntriesFound, SeqEntryChecked, SeqEntryFault, Walked};
 use crate::walks::{first_late, walk};
 use sequence_rules::{state_bound, units_left};
 use sequence_values::{Numbers, SeqEntries, SeqEntry, SeqWhy, Times};
@@ -14,8 +18,8 @@ use sequence_values::{Numbers, SeqEntries, SeqEntry, SeqWhy, Times};
 /// Checks an entry by Bound.
 fn check_bound(times: &Times, interval: u64, reach: u64, entry: &SeqEntry) -> Checked<SeqEntryFault>
     requires posed { IsPosed times.now interval reach entry.now.rem entry.now.starts }
-    requires way { entry.now.why ≡ why.Bound }
-    ensures { (earlier : List Step) (steps : ℕ) → IsFound times.now interval reach earlier entry.now steps result }
+    ensures { (charges : List ℕ) (earlier : List Step) (steps : ℕ)
+        → IsFoundBy times.now interval reach charges earlier entry.now why.Bound steps result }
 {
     let bound = state_bound(
         times,
@@ -33,11 +37,56 @@ fn check_bound(times: &Times, interval: u64, reach: u64, entry: &SeqEntry) -> Ch
     Checked::Right { units: 0 }
 }
 
-/// Checks an entry by Branch, after the first `k` entries.
-fn check_branch(
+/// Walks over the steps of an entry, or by Charge over a unit of each model; the entries below `k` may be cited.
+fn walk_entry(
     times: &Times,
     interval: u64,
     reach: u64,
+    charges: &[u64],
+    entries: &SeqEntries,
+    k: usize,
+    entry: &SeqEntry,
+    cites: &Numbers,
+    steps: u64,
+) -> Walked
+    requires k { k ≤ length entries.now }
+    requires posed { IsPosedEntry times.now interval reach charges.now entry.now }
+    requires citable { AreCitable charges.now entries.now }
+    requires some { 0 < sum entry.now.rem }
+    requires cites { AreBelow cites.now k }
+    ensures { Tells (is_open times.now interval reach charges.now entry.now entry.now.why)
+        (IsCiteFor times.now interval reach charges.now (take k entries.now) entry.now entry.now.why) cites.now
+        (is_walked entry.now entry.now.why) (models_by charges.now entry.now entry.now.why) steps result }
+{
+    let rem = entry.rem.as_slice();
+    let starts = entry.starts.as_slice();
+    match &entry.why {
+        SeqWhy::Charge { .. } => walk_row(
+            times, interval, reach, charges, entries, k, entry, cites, steps,
+        ),
+        SeqWhy::Bound | SeqWhy::Branch { .. } => walk(
+            times,
+            interval,
+            reach,
+            charges,
+            entries,
+            k,
+            rem,
+            starts,
+            entry.least,
+            cites,
+            rem.len(),
+            steps,
+        ),
+    }
+}
+
+/// Checks an entry with cites, by Branch or by Charge, after the first `k` entries.
+fn check_cited(
+    times: &Times,
+    interval: u64,
+    reach: u64,
+    charges: &[u64],
     entries: &SeqEntries,
     k: usize,
     entry: &SeqEntry,
@@ -45,12 +94,13 @@ fn check_branch(
     steps: u64,
 ) -> Checked<SeqEntryFault>
     requires k { k ≤ length entries.now }
-    requires posed { IsPosed times.now interval reach entry.now.rem entry.now.starts }
-    requires way { entry.now.why ≡ why.Branch cites.now }
-    ensures { IsFound times.now interval reach (take k entries.now) entry.now steps result }
+    requires posed { IsPosedEntry times.now interval reach charges.now entry.now }
+    requires few { sum entry.now.rem ≤ 16000 }
+    requires citable { AreCitable charges.now entries.now }
+    requires way { cites_of entry.now.why ≡ Some cites.now }
+    ensures { IsFound times.now interval reach charges.now (take k entries.now) entry.now steps result }
 {
-    let rem = entry.rem.as_slice();
-    if units_left(rem) == 0 {
+    if units_left(entry.rem.as_slice()) == 0 {
         return Checked::Fails {
             why: SeqEntryFault::Empty,
             units: 0,
@@ -62,19 +112,8 @@ fn check_branch(
             units: 0,
         };
     }
-    let starts = entry.starts.as_slice();
-    match walk(
-        times,
-        interval,
-        reach,
-        entries,
-        k,
-        rem,
-        starts,
-        entry.least,
-        cites,
-        rem.len(),
-        steps,
+    match walk_entry(
+        times, interval, reach, charges, entries, k, entry, cites, steps,
     ) {
         Walked::Through { units, taken } => {
             if taken < cites.len() {
@@ -94,24 +133,30 @@ fn check_branch(
 }
 
 /// Checks an entry after the first `k` entries of a list.
-fn check_entry(
+pub(crate) fn check_entry(
     times: &Times,
     interval: u64,
     reach: u64,
+    charges: &[u64],
     entries: &SeqEntries,
     k: usize,
     entry: &SeqEntry,
     steps: u64,
 ) -> Checked<SeqEntryFault>
     requires k { k ≤ length entries.now }
-    requires posed { IsPosed times.now interval reach entry.now.rem entry.now.starts }
-    ensures { IsFound times.now interval reach (take k entries.now) entry.now steps result }
+    requires posed { IsPosedEntry times.now interval reach charges.now entry.now }
+    requires few { sum entry.now.rem ≤ 16000 }
+    requires citable { AreCitable charges.now entries.now }
+    ensures { IsFound times.now interval reach charges.now (take k entries.now) entry.now steps result }
 {
     match &entry.why {
         SeqWhy::Bound => check_bound(times, interval, reach, entry),
-        SeqWhy::Branch { cites } => {
-            check_branch(times, interval, reach, entries, k, entry, cites, steps)
-        }
+        SeqWhy::Branch { cites } => check_cited(
+            times, interval, reach, charges, entries, k, entry, cites, steps,
+        ),
+        SeqWhy::Charge { cites } => check_cited(
+            times, interval, reach, charges, entries, k, entry, cites, steps,
+        ),
     }
 }
 
@@ -121,12 +166,14 @@ pub(crate) fn check_entries(
     times: &Times,
     interval: u64,
     reach: u64,
+    charges: &[u64],
     entries: &SeqEntries,
     steps: u64,
 ) -> EntriesFound
     requires posed { (k : ℕ) (e : Step) → slice_get entries.now k ≡ Some e
-        → IsPosed times.now interval reach e.rem e.starts }
-    ensures { AreFound times.now interval reach entries.now steps result }
+        → IsPosedEntry times.now interval reach charges.now e }
+    requires citable { AreCitable charges.now entries.now }
+    ensures { AreFound times.now interval reach charges.now entries.now steps result }
 {
     let mut units: u64 = 0;
     for k in 0..entries.len() {
@@ -134,6 +181,7 @@ pub(crate) fn check_entries(
             times,
             interval,
             reach,
+            charges,
             entries,
             k,
             entries.at(k),
@@ -150,4 +198,69 @@ pub(crate) fn check_entries(
         }
     }
     EntriesFound::Right { units }
+}
+
+/// What is found of an entry after others.
+fn check_after(
+    times: &Times,
+    interval: u64,
+    reach: u64,
+    charges: &[u64],
+    before: &SeqEntries,
+    entry: &SeqEntry,
+    steps: u64,
+) -> SeqEntryChecked
+    requires posed { IsPosedEntry times.now interval reach charges.now entry.now }
+    requires few { sum entry.now.rem ≤ 16000 }
+    requires citable { AreCitable charges.now before.now }
+    ensures checked { IsChecked times.now interval reach charges.now before.now entry.now steps result }
+    ensures ruled_out { IsRuledOut times.now interval reach charges.now before.now entry.now steps result }
+{
+    let many = before.len();
+    match check_entry(times, interval, reach, charges, before, many, entry, steps) {
+        Checked::Right { units } => SeqEntryChecked::Right { units },
+        Checked::Fails { units, .. } => SeqEntryChecked::Fails { units },
+        Checked::StepsEnded => SeqEntryChecked::StepsEnded,
+    }
+}
+
+/// Checks one entry after a list of entries, as if it stood at their end: whether it follows from them, with its units,
+/// or that more than `steps` steps had to be walked.
+///
+/// `charges` has the charge of each model, 0 to 10^14, where there are entries by Charge. `interval` is the launch
+/// interval and `reach` the length of each station, in the mix's time unit, 1 to 10^9. Nothing is asked of the earlier
+/// entries but their ranges. Takes no memory, and time proportional to the steps times stations times models.
+pub fn verify_seq_entry(
+    times: &Times,
+    interval: u64,
+    reach: u64,
+    charges: Option<&Numbers>,
+    before: &SeqEntries,
+    entry: &SeqEntry,
+    steps: u64,
+) -> SeqEntryChecked
+    requires times { AreTimes times.now }
+    requires interval { IsPlace interval }
+    requires reach { IsPlace reach }
+    requires charges { AreChargesIf (length times.now.demands) (option_map (λ c. c.now) charges) }
+    requires before { (k : ℕ) (e : Step) → slice_get before.now k ≡ Some e
+        → IsEntry (length times.now.demands) times.now.stations (option_map (λ c. c.now) charges) e }
+    requires entry { IsEntry (length times.now.demands) times.now.stations (option_map (λ c. c.now) charges) entry.now }
+    ensures checked { IsChecked times.now interval reach (listed_charges (option_map (λ c. c.now) charges.entry))
+        before.now entry.now steps result }
+    ensures ruled_out { IsRuledOut times.now interval reach (listed_charges (option_map (λ c. c.now) charges.entry))
+        before.now entry.now steps result }
+{
+    match charges {
+        Some(charges) => check_after(
+            times,
+            interval,
+            reach,
+            charges.as_slice(),
+            before,
+            entry,
+            steps,
+        ),
+        None => check_after(times, interval, reach, &[], before, entry, steps),
+    }
 }

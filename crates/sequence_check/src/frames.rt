@@ -3,7 +3,7 @@ ghost use Rattle.std.specs.Prelude.{◌≡◌, ℕ, ◌<◌, ◌≤◌, ◌↔�
 ghost use Rattle.sequence_values.specs.declared.types.SeqFrame.{SeqFrame as Open};
 ghost use Rattle.sequence_rules.specs.Trails.{IsRoot, IsLeftBy, IsAskedAt, EndsWell, matched_to, is_deepest};
 ghost use Rattle.sequence_rules.specs.Ranges.{IsLast, IsNumber};
-ghost use Rattle.sequence_check.specs.Walks.{IsPosed};
+ghost use Rattle.sequence_check.specs.Walks.{IsPosed, AreCitable};
 ghost use Rattle.sequence_check.specs.Frames.{IsPosedFrame, IsReadyAt, IsFoundAt, AreFramesFound};
 
 use crate::types::{Checked, FramesFound, SeqFrameFault, Walked};
@@ -115,6 +115,7 @@ fn walk_frame(
     times: &Times,
     interval: u64,
     reach: u64,
+    charges: &[u64],
     entries: &SeqEntries,
     frames: &SeqFrames,
     j: usize,
@@ -123,9 +124,10 @@ fn walk_frame(
     steps: u64,
 ) -> Checked<SeqFrameFault>
     requires posed { IsPosedFrame times.now interval reach frame.now }
-    requires ready { IsReadyAt times.now interval reach entries.now frames.now j frame.now }
+    requires citable { AreCitable charges.now entries.now }
+    requires ready { IsReadyAt times.now interval reach charges.now entries.now frames.now j frame.now }
     requires deepest { deepest ≡ is_deepest frames.now j }
-    ensures { IsFoundAt times.now interval reach entries.now frames.now j frame.now steps result }
+    ensures { IsFoundAt times.now interval reach charges.now entries.now frames.now j frame.now steps result }
 {
     let matched = matched_to(deepest, frame.last);
     let cites = &frame.cites;
@@ -133,6 +135,7 @@ fn walk_frame(
         times,
         interval,
         reach,
+        charges,
         entries,
         entries.len(),
         frame.rem.as_slice(),
@@ -171,16 +174,18 @@ fn check_frame(
     times: &Times,
     interval: u64,
     reach: u64,
+    charges: &[u64],
     entries: &SeqEntries,
     frames: &SeqFrames,
     j: usize,
     frame: &SeqFrame,
     steps: u64,
 ) -> Checked<SeqFrameFault>
+    requires citable { AreCitable charges.now entries.now }
     requires few { length frames.now ≤ 1001 }
     requires there { slice_get frames.now j ≡ Some frame.now }
     requires posed { (i : ℕ) (f : Open) → slice_get frames.now i ≡ Some f → IsPosedFrame times.now interval reach f }
-    ensures { IsFoundAt times.now interval reach entries.now frames.now j frame.now steps result }
+    ensures { IsFoundAt times.now interval reach charges.now entries.now frames.now j frame.now steps result }
 {
     let many = frames.len();
     let deepest = j + 1 == many;
@@ -203,7 +208,7 @@ fn check_frame(
         };
     }
     walk_frame(
-        times, interval, reach, entries, frames, j, frame, deepest, steps,
+        times, interval, reach, charges, entries, frames, j, frame, deepest, steps,
     )
 }
 
@@ -213,13 +218,15 @@ pub(crate) fn check_frames(
     times: &Times,
     interval: u64,
     reach: u64,
+    charges: &[u64],
     entries: &SeqEntries,
     frames: &SeqFrames,
     steps: u64,
 ) -> FramesFound
+    requires citable { AreCitable charges.now entries.now }
     requires few { length frames.now ≤ 1001 }
     requires posed { (i : ℕ) (f : Open) → slice_get frames.now i ≡ Some f → IsPosedFrame times.now interval reach f }
-    ensures { AreFramesFound times.now interval reach entries.now frames.now steps result }
+    ensures { AreFramesFound times.now interval reach charges.now entries.now frames.now steps result }
 {
     let mut units: u64 = 0;
     for j in 0..frames.len() {
@@ -228,6 +235,7 @@ pub(crate) fn check_frames(
             times,
             interval,
             reach,
+            charges,
             entries,
             frames,
             j,

@@ -5,14 +5,32 @@
 pub enum SeqEntryFault {
     /// By Bound: the bound of the state, which is below the entry's value.
     Bound(u64),
-    /// By Branch: no unit is left.
+    /// By Branch: no unit is left. By Charge: the rows have no unit.
     Empty,
-    /// By Branch: the first cite that isn't of an earlier entry.
+    /// By Branch or Charge: the first cite that isn't of an earlier entry.
     Cite(u64),
-    /// By Branch: the model of the first step that needs a cite and has none left, or isn't answered by it.
+    /// By Branch: the model of the first step that needs a cite and has none left, or isn't answered by it. By Charge:
+    /// the first model whose unit needs a cite and has none left, or isn't served by it.
     Uncovered(u32),
-    /// By Branch: cites are left when all steps are covered.
+    /// By Branch or Charge: cites are left when all steps or units are covered.
     Spare,
+}
+
+/// What the check of one entry after others finds.
+#[derive(Clone, Copy)]
+pub enum SeqEntryChecked {
+    /// The entry follows.
+    Right {
+        /// The units of the entry: the steps walked.
+        units: u64,
+    },
+    /// The entry doesn't follow.
+    Fails {
+        /// The steps walked up to the fault.
+        units: u64,
+    },
+    /// More steps than these had to be walked, before the check failed.
+    StepsEnded,
 }
 
 /// Why a frame of a trail is refused.

@@ -1,9 +1,10 @@
 //! The walk over the steps of a state, which takes a cite for each step that needs one.
-ghost use Rattle.std.specs.Prelude.{◌≡◌, ◌-◌, ◌<◌, ◌≤◌, length, take, slice_index, slice_get, Some, true, false};
-ghost use Rattle.std.specs.Prelude.{IsNone, IfSome, ℕ};
+ghost use Rattle.std.specs.Prelude.{◌≡◌, ◌-◌, ◌<◌, ◌≤◌, length, take, slice_index, true, false};
+ghost use Rattle.std.specs.Prelude.{IsNone, IfSome};
 ghost use Rattle.sequence_rules.specs.States.{step_cost, next_starts, less_one};
-ghost use Rattle.sequence_rules.specs.Entries.{needs_cite};
-ghost use Rattle.sequence_check.specs.Walks.{IsFirstLate, AreBelow, IsPosed, AnswersStep, Takes, Tells};
+ghost use Rattle.sequence_rules.specs.Entries.{is_left, needs_cite};
+ghost use Rattle.sequence_check.specs.Walks.{IsFirstLate, AreBelow, IsPosed, AreCitable, AnswersStep};
+ghost use Rattle.sequence_check.specs.Walks.{Takes, Lacks, Tells};
 
 use crate::types::Walked;
 use sequence_rules::{MAX_STATIONS, answers, launch, state_bound, step};
@@ -65,6 +66,7 @@ fn taken_with(
     times: &Times,
     interval: u64,
     reach: u64,
+    charges: &[u64],
     entries: &SeqEntries,
     k: usize,
     rem: &[u64],
@@ -75,16 +77,18 @@ fn taken_with(
     model: usize,
 ) -> Option<usize>
     requires posed { IsPosed times.now interval reach rem.now starts.now }
+    requires citable { AreCitable charges.now entries.now }
     requires k { k ≤ length entries.now }
     requires cites { AreBelow cites.now k }
     requires taken { taken ≤ length cites.now }
     requires model { model < length rem.now }
     requires some { 0 < slice_index rem.now model }
-    ensures open { IsNone result → needs_cite times.now interval reach rem.now starts.now need model ≡ true }
-    ensures lacking { IsNone result → (cite : ℕ) → slice_get cites.now taken ≡ Some cite
-        → AnswersStep times.now interval reach (take k entries.now) rem.now starts.now need cites.now model cite → ⊥ }
-    ensures some { IfSome result (Takes times.now interval reach (take k entries.now) rem.now starts.now need cites.now
-        model taken) }
+    ensures none { IsNone result → Lacks (needs_cite times.now interval reach rem.now starts.now need)
+        (AnswersStep times.now interval reach charges.now (take k entries.now) rem.now starts.now need) cites.now model
+        taken }
+    ensures some { IfSome result (Takes (needs_cite times.now interval reach rem.now starts.now need)
+        (AnswersStep times.now interval reach charges.now (take k entries.now) rem.now starts.now need) cites.now model
+        taken) }
 {
     let mut lefts = [0; MAX_MODELS];
     let mut nexts = [0; MAX_STATIONS];
@@ -96,7 +100,8 @@ fn taken_with(
     if taken >= cites.len() {
         return None;
     }
-    if !answers(entries.at(*cites.at(taken) as usize), left, next, rest) {
+    let cited = entries.at(*cites.at(taken) as usize);
+    if !answers(charges, cited, left, next, rest) {
         return None;
     }
     Some(taken + 1)
@@ -108,6 +113,7 @@ pub(crate) fn walk(
     times: &Times,
     interval: u64,
     reach: u64,
+    charges: &[u64],
     entries: &SeqEntries,
     k: usize,
     rem: &[u64],
@@ -118,10 +124,13 @@ pub(crate) fn walk(
     steps: u64,
 ) -> Walked
     requires posed { IsPosed times.now interval reach rem.now starts.now }
+    requires citable { AreCitable charges.now entries.now }
     requires k { k ≤ length entries.now }
     requires cites { AreBelow cites.now k }
     requires n { n ≤ length rem.now }
-    ensures { Tells times.now interval reach (take k entries.now) rem.now starts.now need cites.now n steps result }
+    ensures { Tells (needs_cite times.now interval reach rem.now starts.now need)
+        (AnswersStep times.now interval reach charges.now (take k entries.now) rem.now starts.now need) cites.now
+        (is_left rem.now) n steps result }
 {
     let mut units: u64 = 0;
     let mut taken: usize = 0;
@@ -134,7 +143,7 @@ pub(crate) fn walk(
         }
         units += 1;
         match taken_with(
-            times, interval, reach, entries, k, rem, starts, need, cites, taken, model,
+            times, interval, reach, charges, entries, k, rem, starts, need, cites, taken, model,
         ) {
             None => {
                 return Walked::Uncovered {
