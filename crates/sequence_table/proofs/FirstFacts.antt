@@ -7,10 +7,9 @@ use Rattle.std.proofs.lemmas.Nat.{le-div}
 use Rattle.utility_work.specs.Utility.{next_start}
 use Rattle.sequence_values.specs.declared.types.Times.{Times}
 use Rattle.sequence_rules.specs.States.{unit_work, next_starts, root_starts}
-use Rattle.sequence_rules.specs.Ranges.{AreTimes, IsPlace}
+use Rattle.sequence_rules.specs.Ranges.{AreTimes, IsPlace, AreLight}
 use Rattle.sequence_rules.proofs.SumFacts.{length-value_at_each}
 use Rattle.sequence_rules.proofs.UnitCounts.{noughts}
-use Rattle.charge_rule.specs.Charges.{AreLight}
 use Rattle.sequence_table.specs.Nodes.{Nodes, starts_of, next_of}
 use Rattle.sequence_table.specs.inner.Kept.{nodes_of}
 use Rattle.sequence_table.specs.Tables.{IsTable, Leads, AreWithin, one_node}

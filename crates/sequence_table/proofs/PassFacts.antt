@@ -8,7 +8,7 @@ use Rattle.std.proofs.lemmas.List.{length-replicate, get_or_append_left, get_or_
 use Rattle.std.proofs.lemmas.Nat.{div-mul-add, mod-mul-add, div-add-mod', mod_below, div_below, le-div}
 use Rattle.std.proofs.Math.Nat.{mul-le-mul_left}
 use Rattle.sequence_rules.specs.States.{root_starts}
-use Rattle.charge_rule.specs.Charges.{AreCharges, HoldsCharged, unit_cost}
+use Rattle.sequence_rules.specs.Charges.{AreCharges, HoldsCharged, unit_cost}
 use Rattle.sequence_table.specs.Nodes.{Nodes, starts_of, next_of}
 use Rattle.sequence_table.specs.Tables.{IsTable}
 use Rattle.sequence_table.specs.Values.{least_to, value_of, told, IsToldOf, AreBelow}
@@ -183,19 +183,19 @@ limit_more t charges costs all n left i value h a c v e l b few is before =
     )) before
 
 -- all values are told
-pub pass_told : (t : Nodes) (charges all : List ℕ) (left nodes : ℕ) → IsTable t
+pub pass_told : (t : Nodes) (charges all : List ℕ) (left nodes : ℕ) → IsTable t → AreCharges t.times charges
     → AreValuesTo t charges all ((left + 1) * nodes) → left ≡ sum t.times.demands → nodes ≡ length t.starts
     → IsToldOf t charges (values_of left nodes all) × AreBelow t charges (values_of left nodes all)
-pass_told t charges all left nodes h v units many =
+pass_told t charges all left nodes h a v units many =
     let each : (j x : ℕ) → j ≤ left → x < nodes → told (values_of left nodes all) j x ≡ value_of t charges j x =
     λ j x b l.
     let low : x < length t.starts = omega (arith, l, many) in
     let place : j * nodes + x ≡ j * length t.starts + x = ap (λ a. j * a + x) many in
-    ap (λ a. get_or all a 0) place
+    ap (λ p. get_or all p 0) place
     ∙ value_at t charges all ((left + 1) * nodes) j x v low
     (omega (arith, place, in_rows j x (left + 1) nodes (omega (arith, b)) l)) in (
       record { left = units; nodes = many; each = each },
       λ j x b l.
           let P : ℕ → Type 0 = λ w. HoldsCharged t.times t.interval t.reach charges j (starts_of t x) w in
-          subst P (sym (each j x b l)) (value_holds t charges h j x (omega (arith, l, many))),
+          subst P (sym (each j x b l)) (value_holds t charges h a j x (omega (arith, l, many))),
     )

@@ -2,8 +2,8 @@
 use Rattle.std.proofs.Common.{◌≡◌, ℕ, zero, suc, ◌+◌, ◌-◌, ◌*◌, ◌<◌, ◌≤◌, List, [], ◌∷◌, length, sym, subst, min}
 use Rattle.std.proofs.Common.{inl, inr, arith}
 use Rattle.std.proofs.lemmas.Bool.{cases_lt}
-use Rattle.charge_rule.specs.Charges.{IsRow, AreCharges, HoldsCharged, unit_cost}
-use Rattle.charge_rule.proofs.RowFacts.{charged_steps, later_charged, unit_light}
+use Rattle.sequence_rules.specs.Charges.{IsRow, AreCharges, HoldsCharged, unit_cost}
+use Rattle.sequence_rules.proofs.RowFacts.{charged_steps, later_charged, unit_light}
 use Rattle.sequence_table.specs.Nodes.{Nodes, starts_of, next_of}
 use Rattle.sequence_table.specs.Tables.{IsTable, led_to}
 use Rattle.sequence_table.specs.Values.{least_to, value_of}
@@ -46,13 +46,13 @@ value_limit t charges h a (suc left) x l =
     )
 
 -- every row from the starts of a node has a charged cost of at least its value
-pub value_holds : (t : Nodes) (charges : List ℕ) → IsTable t → (left x : ℕ) → x < length t.starts
+pub value_holds : (t : Nodes) (charges : List ℕ) → IsTable t → AreCharges t.times charges → (left x : ℕ) → x < length t.starts
     → HoldsCharged t.times t.interval t.reach charges left (starts_of t x) (value_of t charges left x)
-value_holds t charges h zero x l row r = omega arith
-value_holds t charges h (suc left) x l [] r = absurd (omega (arith, r.many))
-value_holds t charges h (suc left) x l (m ∷ row) r =
-    let within : m < length t.times.demands = r.models 0 0 (omega arith) in
-    let rest : IsRow t.times left row = record {
+value_holds t charges h a zero x l row r = omega arith
+value_holds t charges h a (suc left) x l [] r = absurd (omega (arith, r.many))
+value_holds t charges h a (suc left) x l (m ∷ row) r =
+    let within : m < length t.times.demands = omega (arith, a.each, r.models 0 0 (omega arith)) in
+    let rest : IsRow charges left row = record {
       many = omega (arith, r.many);
       models = λ k d g. r.models (suc k) d (omega (arith, g));
     } in
@@ -64,5 +64,5 @@ value_holds t charges h (suc left) x l (m ∷ row) r =
       charged_steps t.times t.interval t.reach charges (starts_of t x) m row,
       later_charged t.times t.interval t.reach charges (starts_of t next) (led_to t x m) row
           (h.leads x m l within).no_later,
-      value_holds t charges h left next (h.leads x m l within).within row rest,
+      value_holds t charges h a left next (h.leads x m l within).within row rest,
     )

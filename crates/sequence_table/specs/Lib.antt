@@ -1,4 +1,5 @@
 pub mod Nodes
+pub mod Index
 pub mod Tables
 pub mod Values
 pub mod Calls

@@ -5,8 +5,7 @@ use Rattle.std.specs.Prelude.{slice_index_or, slice_set, Some, sum, All}
 use Rattle.std.specs.List.{AllZip}
 use Rattle.sequence_values.specs.declared.types.Times.{Times}
 use Rattle.sequence_rules.specs.States.{next_starts, root_starts}
-use Rattle.sequence_rules.specs.Ranges.{AreTimes, IsPlace}
-use Rattle.charge_rule.specs.Charges.{AreLight}
+use Rattle.sequence_rules.specs.Ranges.{AreTimes, IsPlace, AreLight}
 use Rattle.sequence_table.specs.Nodes.{Nodes, starts_of, next_of}
 use Rattle.sequence_table.specs.declared.types.Opened.{Opened}
 use Rattle.sequence_table.specs.declared.types.Opened.TheVariants as opened

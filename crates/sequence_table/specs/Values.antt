@@ -1,7 +1,7 @@
 -- What a pass over a table tells of each node: the least charged cost of the rows of so many units that keep to the
 -- table (own).
 use Rattle.std.specs.Prelude.{◌≡◌, ℕ, zero, suc, ◌+◌, ◌-◌, ◌*◌, ◌<◌, ◌≤◌, min, List, length, slice_index_or, sum}
-use Rattle.charge_rule.specs.Charges.{HoldsCharged, unit_cost}
+use Rattle.sequence_rules.specs.Charges.{AreCharges, HoldsCharged, unit_cost}
 use Rattle.sequence_table.specs.Nodes.{Nodes, starts_of, next_of}
 use Rattle.sequence_table.specs.Tables.{IsTable}
 
@@ -41,5 +41,5 @@ AreBelow t charges v = (left x : ℕ) → left ≤ v.left → x < v.nodes
 
 -- soundness: every row of so many units from the starts of a node has a charged cost of at least the node's value (own)
 abbrev pub EveryValueHolds : Type 0
-EveryValueHolds = (t : Nodes) (charges : List ℕ) → IsTable t → (left x : ℕ) → x < length t.starts
+EveryValueHolds = (t : Nodes) (charges : List ℕ) → IsTable t → AreCharges t.times charges → (left x : ℕ) → x < length t.starts
     → HoldsCharged t.times t.interval t.reach charges left (starts_of t x) (value_of t charges left x)

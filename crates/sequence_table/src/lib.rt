@@ -2,11 +2,12 @@
 //!
 //! A node stands for all states whose units are begun where it says, or later. Each model leads from a node to a next
 //! one, whose starts are no later than those of the step. So what a pass tells of a node is a lower bound on the
-//! charged cost of every row from there. Opening a step makes its next node exact. It goes over all nodes, and compares
-//! their starts. A pass takes time proportional to nodes times models times stations, and to nodes times models times
-//! units.
+//! charged cost of every row from there. Opening a step makes its next node exact, and an index finds the node whose
+//! starts the step leads to. A pass takes time proportional to nodes times models times stations, and to nodes times
+//! models times units.
 #![tactic(auto)]
 
+mod known;
 pub mod laws;
 mod pass;
 mod table;

@@ -2,7 +2,7 @@
 //!
 //! The charged cost of each unit from each node is reckoned once. Then a value takes one sum for each model.
 ghost use Rattle.std.specs.Prelude.{◌≡◌, ◌+◌, ◌-◌, ◌*◌, ◌<◌, ◌≤◌, length, slice_index_or, All, IfOk};
-ghost use Rattle.charge_rule.specs.Charges.{AreCharges};
+ghost use Rattle.sequence_rules.specs.Charges.{AreCharges};
 ghost use Rattle.sequence_table.specs.Nodes.{next_of};
 ghost use Rattle.sequence_table.specs.Values.{least_to};
 ghost use Rattle.sequence_table.specs.Calls.{IsPassed};

@@ -1,22 +1,20 @@
 //! A table of nodes, and the opening of a step.
 //!
-//! The look-up of starts goes over all nodes, one after the other, and mostly compares one start of each. So opening
-//! each step of a row goes over units times nodes. A pass does that for each model.
+//! The starts of the nodes have an index, so opening a step mostly compares the starts of one node, or of none.
 ghost use Rattle.std.specs.Prelude.{◌≡◌, ◌+◌, ◌<◌, ◌≤◌, ◌∷◌, [], length, replicate, slice_get, Some, IsNone, IfSome};
 ghost use Rattle.std.specs.Prelude.{IfOk, OnErr, sum, slice_index_or, vec_len};
 ghost use Rattle.std.specs.Vec.{vec_capacity};
 ghost use Rattle.sequence_table.specs.inner.Kept.{rows_with};
-ghost use Rattle.sequence_rules.specs.Ranges.{AreTimes, IsPlace};
-ghost use Rattle.charge_rule.specs.Charges.{AreLight, AreCharges, unit_cost};
+ghost use Rattle.sequence_rules.specs.Ranges.{AreTimes, IsPlace, AreLight};
+ghost use Rattle.sequence_rules.specs.Charges.{AreCharges, unit_cost};
 ghost use Rattle.sequence_table.specs.Nodes.{starts_of, next_of};
 ghost use Rattle.sequence_table.specs.Tables.{most_nodes, led_to, Leads, AreWithin, IsTable, led_by, HasNone};
 ghost use Rattle.sequence_table.specs.Tables.{Opens};
 ghost use Rattle.sequence_table.specs.Calls.{IsOpened};
 
+use crate::known::KnownStarts;
 use crate::types::{Opened, Tabled};
-use charge_rule::unit_cost;
-use line_rules::Listed;
-use sequence_rules::{MAX_STATIONS, is_same, step, units_left};
+use sequence_rules::{MAX_STATIONS, step, unit_cost, units_left};
 use sequence_values::{Numbers, Times};
 use std::alloc::{AllocError, Global};
 use std::marker::Model;
@@ -29,7 +27,7 @@ pub struct Table {
     times: Times,
     interval: u64,
     reach: u64,
-    starts: Listed<Numbers>,
+    starts: KnownStarts,
     nexts: Vec<[u32; MAX_MODELS]>,
 }
 
@@ -57,13 +55,13 @@ fn copied(times: &Times) -> Result<Times, AllocError>
 }
 
 /// The starts of node 0, as a list of one.
-fn root(alloc: Global, stations: u32) -> Result<Listed<Numbers>, AllocError>
+fn root(alloc: Global, stations: u32) -> Result<KnownStarts, AllocError>
     ensures { IfOk result (λ v. v ≡ replicate stations 0 ∷ []) }
 {
     let starts = Numbers::from_vec(vec![in alloc; 0; stations as usize]?);
-    let mut all = Vec::new(alloc);
-    all.push(starts)?;
-    Ok(Listed::from_vec(all))
+    let mut known = KnownStarts::new(alloc);
+    known.push(starts)?;
+    Ok(known)
 }
 
 /// The next nodes of node 0, as a list of one.
@@ -135,9 +133,34 @@ fn push_like(nexts: &mut Vec<[u32; MAX_MODELS]>, node: usize, model: usize, adde
 }
 
 impl Table {
+    /// The works that the steps are of.
+    pub fn times(&self) -> &Times
+        ensures times { result.now ≡ self.now.times }
+        ensures range { AreTimes result.now }
+    {
+        &self.times
+    }
+
+    /// The launch interval.
+    pub fn interval(&self) -> u64
+        ensures interval { result ≡ self.now.interval }
+        ensures range { IsPlace result }
+    {
+        self.interval
+    }
+
+    /// The length of each station.
+    pub fn reach(&self) -> u64
+        ensures reach { result ≡ self.now.reach }
+        ensures range { IsPlace result }
+    {
+        self.reach
+    }
+
     /// How many nodes there are, 1 to 1,000,000.
     pub fn len(&self) -> u32
         ensures nodes { result ≡ length self.now.starts }
+        ensures some { 1 ≤ result }
         ensures table { IsTable self.now }
         ensures limit { result ≤ 1000000 }
     {
@@ -163,8 +186,8 @@ impl Table {
         self.nexts[node as usize][model as usize]
     }
 
-    /// How many models there are.
-    pub(crate) fn models(&self) -> u32
+    /// How many models there are, 1 to 16.
+    pub fn models(&self) -> u32
         ensures models { result ≡ length self.now.times.demands }
         ensures some { 1 ≤ result }
         ensures few { result ≤ 16 }
@@ -172,16 +195,18 @@ impl Table {
         self.times.demands.len() as u32
     }
 
-    /// How many units are wanted.
-    pub(crate) fn units(&self) -> u32
+    /// How many units are wanted, 1 to 1,000.
+    pub fn units(&self) -> u32
         ensures units { result ≡ sum self.now.times.demands }
+        ensures some { 1 ≤ result }
         ensures few { result ≤ 1000 }
     {
         units_left(self.times.demands.as_slice()) as u32
     }
 
-    /// The charged cost of a unit of a model from a node.
-    pub(crate) fn unit_cost(&self, charges: &[u64], node: u32, model: u32) -> u64
+    /// The charged cost of a unit of a model from a node, at most 740,000,000,000,000. `charges` has the charge of each
+    /// model, 0 to 10^14.
+    pub fn unit_cost(&self, charges: &[u64], node: u32, model: u32) -> u64
         requires charges { AreCharges self.now.times charges.now }
         requires node { node < length self.now.starts }
         requires model { model < length self.now.times.demands }
@@ -224,12 +249,10 @@ impl Table {
         ensures none { IsNone result → HasNone self.now starts.now }
         ensures some { IfSome result (λ y. slice_get self.now.starts y ≡ Some starts.now) }
     {
-        for k in 0..self.starts.len() {
-            if is_same(self.starts.at(k).as_slice(), starts) {
-                return Some(k as u32);
-            }
+        match self.starts.number_of(starts) {
+            Some(node) => Some(node as u32),
+            None => None,
         }
-        None
     }
 
     /// Lets a model lead from a node to a node that serves the step.
@@ -268,8 +291,8 @@ impl Table {
     /// Opens the step by a model from a node, so that its next node has just the starts that the step leads to.
     ///
     /// Where a node has these starts, it becomes the next one. Otherwise one is added, where there is room, that leads
-    /// to the same nodes as the one that was the next before. Models and nodes are counted from 0. Takes time
-    /// proportional to nodes times stations.
+    /// to the same nodes as the one that was the next before. Models and nodes are counted from 0. Mostly takes
+    /// time proportional to the stations.
     pub fn open(&mut self, alloc: Global, node: u32, model: u32) -> Opened
         requires node { node < length self.old.starts }
         requires model { model < length self.old.times.demands }

@@ -4,8 +4,7 @@
 //! A unit of A takes 7: it costs 1 from the station's beginning and 2 from 1 on, and leads to 1. One of B takes 3: it
 //! costs 0 and leads to 0.
 ghost use Rattle.std.specs.Prelude.{IfOk};
-ghost use Rattle.sequence_rules.specs.Ranges.{AreTimes};
-ghost use Rattle.charge_rule.specs.Charges.{AreLight};
+ghost use Rattle.sequence_rules.specs.Ranges.{AreTimes, AreLight};
 
 use crate::{Opened, Passed, Table, Tabled, Told, open_table};
 use sequence_values::{Numbers, Times};
@@ -51,7 +50,7 @@ fn passed(alloc: Global, table: &Table, charges: [u64; 2]) -> Result<Told, Fail>
 
 // A value, or 0 where there is no such number of units or node.
 fn value(told: &Told, left: u32, node: u32) -> u64 {
-    if left > told.left || node >= told.nodes {
+    if left > told.left() || node >= told.nodes() {
         return 0;
     }
     told.value(left, node)

@@ -27,6 +27,20 @@ impl Model for Told {
 }
 
 impl Told {
+    /// Up to how many units left there are values.
+    pub fn left(&self) -> u32
+        ensures { result ≡ self.now.left }
+    {
+        self.left
+    }
+
+    /// Of how many nodes there are values.
+    pub fn nodes(&self) -> u32
+        ensures { result ≡ self.now.nodes }
+    {
+        self.nodes
+    }
+
     /// The value of a node with so many units left: every row of so many units from the node's starts has a charged
     /// cost of at least it. Takes constant time.
     pub fn value(&self, left: u32, node: u32) -> u64

@@ -1,6 +1,6 @@
 -- The costs and the values that a pass reckons, place by place.
 use Rattle.std.specs.Prelude.{◌≡◌, ℕ, ◌*◌, ◌/◌, ◌%◌, ◌<◌, ◌≤◌, List, length, slice_index_or, All}
-use Rattle.charge_rule.specs.Charges.{unit_cost}
+use Rattle.sequence_rules.specs.Charges.{unit_cost}
 use Rattle.sequence_table.specs.Nodes.{Nodes, starts_of}
 use Rattle.sequence_table.specs.Values.{value_of}
 

@@ -1,5 +1,5 @@
 use Rattle.std.proofs.Common.{◌≡◌, ◌∙◌, ◌++◌, ◌∷◌, [], ◌+◌, ◌/◌, ◌%◌, ℕ, List, length, sym, ap, subst}
-use Rattle.charge_rule.specs.Charges.{unit_cost}
+use Rattle.sequence_rules.specs.Charges.{unit_cost}
 use Rattle.sequence_table.specs.Nodes.{starts_of}
 use Rattle.sequence_table.specs.inner.Levels.{AreCostsTo}
 use Rattle.sequence_table.proofs.PassFacts.{costs_more}

@@ -53,5 +53,5 @@ returns c =
     let end : c.loop-i.i ≡ (c.units-left.result + 1) * c.len-nodes.result =
     omega (arith, c.loop-i-test.false, c.loop-i.auto.i-end) in
     pass_told c.args.self.now c.args.charges.now c.loop-i.all.items c.units-left.result c.len-nodes.result
-    c.len-nodes.ensures.table (subst V end c.loop-i.invariant.values) c.units-left.ensures.units
+    c.len-nodes.ensures.table c.requires (subst V end c.loop-i.invariant.values) c.units-left.ensures.units
     c.len-nodes.ensures.nodes
