@@ -28,7 +28,7 @@ use Rattle.sequence_cert.specs.declared.version.Version.TheVariants as version
 use Rattle.sequence_cert.specs.declared.words.FrameDraft.{FrameDraft}
 use Rattle.sequence_cert.specs.declared.words.Citing.{Citing}
 use Rattle.sequence_cert.specs.declared.words.Citing.TheVariants as citing
-use Rattle.line_io.proofs.ReadFacts.{same_bytes, left}
+use Rattle.line_io.proofs.ReadFacts.{same_bytes}
 
 -- words without a blank
 number_lacks : (n : ℕ) → lacks 32 (number_text n) ≡ true
