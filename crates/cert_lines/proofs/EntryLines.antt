@@ -8,7 +8,7 @@ use Rattle.line_rules.specs.declared.types.Mode.{Mode}
 use Rattle.line_rules.specs.declared.types.Mode.TheVariants.{Fore, Back, Both}
 use Rattle.cert_lines.specs.Numbers.{number_text, set_text, cites_text, mode_letter}
 use Rattle.cert_lines.specs.Rows.{Row, fixed, keyed, span, seat, bound, branch, swap, trail, frame, state_entry}
-use Rattle.cert_lines.specs.Rows.{state_frame, entry, form_of, given, row_text}
+use Rattle.cert_lines.specs.Rows.{state_frame, row_entry, joined, entry, form_of, given, row_text}
 use Rattle.cert_lines.specs.Words.{◌>>=◌, parts_at, number_in, number_first, set_in, mode_in, cites_in}
 use Rattle.cert_lines.specs.inner.LineReading.{cycle_first, bound_in, branch_in, swap_in, entry_in}
 use Rattle.cert_lines.specs.declared.draft.Draft.{Draft}
@@ -55,6 +55,8 @@ draft_of g (trail t) = record { cycle = 0; set = []; most = 0; why = why.Bound }
 draft_of g (frame n mode s m last cites) = record { cycle = 0; set = []; most = 0; why = why.Bound }
 draft_of g (state_entry rem starts least cites) = record { cycle = 0; set = []; most = 0; why = why.Bound }
 draft_of g (state_frame rem starts need last cites) = record { cycle = 0; set = []; most = 0; why = why.Bound }
+draft_of g (row_entry units starts base cites) = record { cycle = 0; set = []; most = 0; why = why.Bound }
+draft_of g (joined key ns) = record { cycle = 0; set = []; most = 0; why = why.Bound }
 
 pub bound_text : (n : ℕ) (c : Option ℕ) (s : List Bool) (m : ℕ)
     → row_text (bound n c s m) ≡ codes "bound" ++ 32 ∷ front c (set_text n s ++ 32 ∷ number_text m)
@@ -232,6 +234,8 @@ entry_again n g (trail t) e = (cc)
 entry_again n g (frame k mode s m last cites) e = (cc)
 entry_again n g (state_entry rem starts least cites) e = (cc)
 entry_again n g (state_frame rem starts need last cites) e = (cc)
+entry_again n g (row_entry units starts base cites) e = (cc)
+entry_again n g (joined key ns) e = (cc)
 
 -- a number in front, as it is written
 pub number_first_found : (bytes : List ℕ) (x : ℕ × List ℕ) → number_first bytes ≡ Some x

@@ -14,7 +14,7 @@ use Rattle.line_rules.specs.declared.types.Why.TheVariants as whys
 use Rattle.line_rules.specs.declared.types.OpenFrame.{OpenFrame}
 use Rattle.cert_lines.specs.Numbers.{number_text, set_text, cites_text, mode_letter}
 use Rattle.cert_lines.specs.Rows.{Row, fixed, keyed, span, seat, bound, branch, swap, trail, frame, state_entry}
-use Rattle.cert_lines.specs.Rows.{state_frame, entry, open_frame, given, form_of, row_text}
+use Rattle.cert_lines.specs.Rows.{state_frame, row_entry, joined, entry, open_frame, given, form_of, row_text}
 use Rattle.cert_lines.specs.ValueRows.{frame_row, why_row}
 use Rattle.cert_lines.specs.Words.{greatest}
 use Rattle.cert_lines.specs.inner.LineReading.{entry_in, frame_in}
@@ -252,6 +252,8 @@ row_said n count g (trail t) a b e w = (cc)
 row_said n count g (frame k mode s m last cites) a b e w = (cc)
 row_said n count g (state_entry rem starts least cites) a b e w = (cc)
 row_said n count g (state_frame rem starts need last cites) a b e w = (cc)
+row_said n count g (row_entry units starts base cites) a b e w = (cc)
+row_said n count g (joined key ns) a b e w = (cc)
 
 pub entry_said : (n count : ℕ) (g : Option ℕ) (line : List ℕ) (d : Draft) → n ≤ 1024 → count ≤ 20000000
     → entry_in n g line ≡ Some d → IsWithin n count d → IsSaid n count g (entry_of d)
@@ -277,6 +279,8 @@ frame_only (swap k c s m cite out into) n e = (cc)
 frame_only (trail t) n e = (cc)
 frame_only (state_entry rem starts least cites) n e = (cc)
 frame_only (state_frame rem starts need last cites) n e = (cc)
+frame_only (row_entry units starts base cites) n e = (cc)
+frame_only (joined key ns) n e = (cc)
 
 pub frame_none : (n count : ℕ) (line : List ℕ) → frame_in n line ≡ None → HasFormOf (frame_row n) (IsFrame n count) line
     → ⊥

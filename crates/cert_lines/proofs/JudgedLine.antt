@@ -15,7 +15,7 @@ use Rattle.line_rules.specs.declared.types.Ask.TheVariants as ask
 use Rattle.std.proofs.lemmas.Bool.{false≢true}
 use Rattle.cert_lines.specs.Numbers.{number_text}
 use Rattle.cert_lines.specs.Rows.{Row, fixed, keyed, span, seat, bound, branch, swap, trail, frame, state_entry}
-use Rattle.cert_lines.specs.Rows.{state_frame, number, text, form_of, row_text}
+use Rattle.cert_lines.specs.Rows.{state_frame, row_entry, joined, number, text, form_of, row_text}
 use Rattle.cert_lines.specs.Words.{greatest, parts_at}
 use Rattle.cert_lines.specs.inner.LineReading.{keyed_in}
 use Rattle.cert_lines.specs.ValueRows.{ask_row, kind_row}
@@ -48,6 +48,8 @@ keyed_only (trail t) key e = (cc)
 keyed_only (frame n mode s m last cites) key e = (cc)
 keyed_only (state_entry rem starts least cites) key e = (cc)
 keyed_only (state_frame rem starts need last cites) key e = (cc)
+keyed_only (row_entry units starts base cites) key e = (cc)
+keyed_only (joined k ns) key e = (cc)
 
 pub keyed_none : (key line : List ℕ) (r : Row) → lacks 32 key ≡ true → keyed_in key line ≡ None → form_of r ≡ number key
     → row_text r ≡ line → ⊥
@@ -121,6 +123,8 @@ fixed_only (trail x) t e = (cc)
 fixed_only (frame n mode s m last cites) t e = (cc)
 fixed_only (state_entry rem starts least cites) t e = (cc)
 fixed_only (state_frame rem starts need last cites) t e = (cc)
+fixed_only (row_entry units starts base cites) t e = (cc)
+fixed_only (joined key ns) t e = (cc)
 
 pub fixed_not : (line t u : List ℕ) (r : Row) → false ≡ bytes_eq line u → u ≡ t → form_of r ≡ text t → row_text r ≡ line
     → ⊥

@@ -9,7 +9,7 @@ use Rattle.line_rules.specs.declared.types.Side.{Side}
 use Rattle.line_rules.specs.declared.types.Side.TheVariants.{Front}
 use Rattle.line_rules.specs.declared.types.Seatplace.{Seatplace}
 use Rattle.cert_lines.specs.Rows.{Row, fixed, keyed, span, seat, bound, branch, swap, trail, frame, state_entry}
-use Rattle.cert_lines.specs.Rows.{state_frame, place, head, form_of, row_text}
+use Rattle.cert_lines.specs.Rows.{state_frame, row_entry, joined, place, head, form_of, row_text}
 use Rattle.cert_lines.specs.ValueRows.{seat_row}
 use Rattle.cert_lines.specs.inner.LineReading.{seat_in, trail_in}
 use Rattle.cert_lines.specs.Pattern.{HasFormOf}
@@ -33,6 +33,8 @@ seat_only (trail t) kind e = (cc)
 seat_only (frame n mode s m last cites) kind e = (cc)
 seat_only (state_entry rem starts least cites) kind e = (cc)
 seat_only (state_frame rem starts need last cites) kind e = (cc)
+seat_only (row_entry units starts base cites) kind e = (cc)
+seat_only (joined key ns) kind e = (cc)
 
 pub seat_none : (kind : LineKind) (m : ℕ) (line : List ℕ) → seat_in kind line ≡ None
     → HasFormOf (seat_row kind) (IsPlaced kind m) line → ⊥
@@ -91,6 +93,8 @@ trail_only (swap n c s m cite out into) e = (cc)
 trail_only (frame n mode s m last cites) e = (cc)
 trail_only (state_entry rem starts least cites) e = (cc)
 trail_only (state_frame rem starts need last cites) e = (cc)
+trail_only (row_entry units starts base cites) e = (cc)
+trail_only (joined key ns) e = (cc)
 
 pub trail_none : (line : List ℕ) → trail_in line ≡ None → HasFormOf trail IsHead line → ⊥
 trail_none line e f =

@@ -13,7 +13,7 @@ use Rattle.cert_lines.specs.Numbers.{number_text, set_text, cites_text, mode_let
 -- numbers; a station, and a side on a U-line; an entry over so many tasks, with its cycle or without; the head of a
 -- trail, its number of frames and its cycle where it has frames; a frame; an entry of a state, what is left and the
 -- starts, with its least value, and its cites where it branches; a frame of a state, with its need, its last model
--- where it has one, and its cites.
+-- where it has one, and its cites; an entry of rows, with its base and its cites; a word and numbers.
 pub data Row : Type 0 where
   fixed : List ℕ → Row
   keyed : List ℕ → ℕ → Row
@@ -26,10 +26,12 @@ pub data Row : Type 0 where
   frame : ℕ → Mode → List Bool → ℕ → Option Load → List ℕ → Row
   state_entry : List ℕ → List ℕ → ℕ → Option (List ℕ) → Row
   state_frame : List ℕ → List ℕ → ℕ → Option ℕ → List ℕ → Row
+  row_entry : List ℕ → List ℕ → ℕ → List ℕ → Row
+  joined : List ℕ → List ℕ → Row
 
 -- the form of a line: a fixed text, a word before a number, a word before two, a place on such a line, an entry over so
 -- many tasks, the head of a trail, a frame over so many tasks, an entry or a frame of a state of so many models and so
--- many stations
+-- many stations, an entry of rows with so many numbers of units and so many stations, a word before so many numbers
 pub data Form : Type 0 where
   text : List ℕ → Form
   number : List ℕ → Form
@@ -40,6 +42,8 @@ pub data Form : Type 0 where
   open_frame : ℕ → Form
   entry_of_state : ℕ → ℕ → Form
   frame_of_state : ℕ → ℕ → Form
+  entry_of_rows : ℕ → ℕ → Form
+  many_numbers : List ℕ → ℕ → Form
 
 -- whether a cycle is given
 abbrev pub given : Option ℕ → Bool
@@ -59,6 +63,8 @@ form_of (trail t) = head
 form_of (frame n mode s m last cites) = open_frame n
 form_of (state_entry rem starts least cites) = entry_of_state (length rem) (length starts)
 form_of (state_frame rem starts need last cites) = frame_of_state (length rem) (length starts)
+form_of (row_entry units starts base cites) = entry_of_rows (length units) (length starts)
+form_of (joined key ns) = many_numbers key (length ns)
 
 -- the words with one blank between
 abbrev pub spaced : List (List ℕ) → List ℕ
@@ -114,6 +120,9 @@ row_text (state_entry rem starts least cites) = spaced (state_words rem starts l
 row_text (state_frame rem starts need last cites) =
     spaced (codes "open" ∷ cites_text rem ∷ cites_text starts ∷ number_text need ∷ number_or_none last ∷ cites_text
     cites ∷ [])
+row_text (row_entry units starts base cites) =
+    spaced (codes "charge" ∷ cites_text units ∷ cites_text starts ∷ number_text base ∷ cites_text cites ∷ [])
+row_text (joined key ns) = spaced (key ∷ cites_text ns ∷ [])
 
 -- the text of lines, each with an LF at its end
 abbrev pub lines_text : List (List ℕ) → List ℕ

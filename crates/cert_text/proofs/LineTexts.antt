@@ -29,7 +29,8 @@ use Rattle.line_rules.proofs.LoadTests.{not_true}
 pub use Rattle.cert_lines.specs.Telling.{AllLack}
 use Rattle.cert_lines.specs.Numbers.{number_text, set_text, cites_text, mode_letter, last_text}
 use Rattle.cert_lines.specs.Rows.{Row, fixed, keyed, span, seat, bound, branch, swap, trail, frame, state_entry}
-use Rattle.cert_lines.specs.Rows.{state_frame, spaced, number_or_none, row_text, rows_text, lines_text}
+use Rattle.cert_lines.specs.Rows.{state_frame, row_entry, joined, spaced, number_or_none, row_text, rows_text}
+use Rattle.cert_lines.specs.Rows.{lines_text}
 use Rattle.cert_lines.specs.ValueRows.{kind_row, ask_row, seat_row, why_row, entry_row, frame_row}
 use Rattle.cert_text.specs.Cert.{trail_rows, list_rows, head_rows, claim_rows, cert_rows, cert_text}
 use Rattle.cert_text.specs.OldCert.{short_row, old_trail_rows, part_rows, parts_rows, counted_rows, old_claim_rows}
@@ -111,6 +112,8 @@ IsPlain (trail t) = Unit {0}
 IsPlain (frame n mode s m last cites) = Unit {0}
 IsPlain (state_entry rem starts least cites) = Unit {0}
 IsPlain (state_frame rem starts need last cites) = Unit {0}
+IsPlain (row_entry units starts base cites) = Unit {0}
+IsPlain (joined key ns) = lacks 10 key ≡ true
 
 words_lack : (ws : List (List ℕ)) → AllLack ws → lacks 10 (spaced ws) ≡ true
 words_lack [] h = refl
@@ -192,6 +195,10 @@ row_lacks (state_frame rem starts need last cites) h =
     words_lack (codes "open" ∷ cites_text rem ∷ cites_text starts ∷ number_text need ∷ number_or_none last ∷ cites_text
     cites ∷ [])
     (refl, (cites_lacks rem, (cites_lacks starts, (number_lacks need, (marked_lacks last, (cites_lacks cites, tt))))))
+row_lacks (row_entry units starts base cites) h =
+    words_lack (codes "charge" ∷ cites_text units ∷ cites_text starts ∷ number_text base ∷ cites_text cites ∷ [])
+    (refl, (cites_lacks units, (cites_lacks starts, (number_lacks base, (cites_lacks cites, tt)))))
+row_lacks (joined key ns) h = spaced_lacks key (cites_text ns) h (cites_lacks ns)
 
 lack_append : (a b : List (List ℕ)) → AllLack a → AllLack b → AllLack (a ++ b)
 lack_append [] b e f = f

@@ -4,7 +4,7 @@ use Rattle.std.proofs.Common.{Some, None, lit≤}
 use Rattle.std.specs.Prelude.{codes}
 use Rattle.std.proofs.lemmas.Option.{same_Some, none-some}
 use Rattle.cert_lines.specs.Rows.{Row, fixed, keyed, span, seat, bound, branch, swap, trail, frame, state_entry}
-use Rattle.cert_lines.specs.Rows.{state_frame, two_numbers}
+use Rattle.cert_lines.specs.Rows.{state_frame, row_entry, joined, two_numbers}
 use Rattle.cert_lines.specs.Rows.{form_of, row_text}
 use Rattle.cert_lines.specs.Pattern.{HasFormOf}
 use Rattle.cert_lines.proofs.NumberWords.{lacks}
@@ -32,6 +32,8 @@ span_only (trail t) key e = (cc)
 span_only (frame n mode s m last cites) key e = (cc)
 span_only (state_entry rem starts least cites) key e = (cc)
 span_only (state_frame rem starts need last cites) key e = (cc)
+span_only (row_entry units starts base cites) key e = (cc)
+span_only (joined k ns) key e = (cc)
 
 pub ends_none : (line : List ℕ) → span_in (codes "stations") line ≡ None → HasFormOf ends_row AreEnds line → ⊥
 ends_none line e f =

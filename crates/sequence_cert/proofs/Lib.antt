@@ -1,3 +1,4 @@
+pub mod VersionLines
 pub mod StateWords
 pub mod StateLines
 pub mod PartFacts

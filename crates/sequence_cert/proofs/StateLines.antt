@@ -1,15 +1,16 @@
--- What is read of the lines of units, of entries and of frames decides what they say.
-use Rattle.std.proofs.Common.{◌≡◌, ◌≢◌, ℕ, zero, suc, ◌-◌, ◌<◌, ◌≤◌, List, [], ◌∷◌, length, map, get_or}
+-- What is read of the lines of charges, of units, of entries and of frames decides what they say.
+use Rattle.std.proofs.Common.{◌≡◌, ◌≢◌, ℕ, zero, suc, ◌-◌, ◌<◌, ◌≤◌, true, List, [], ◌∷◌, length, map, get_or}
 use Rattle.std.proofs.Common.{replicate, refl, sym, ◌∙◌, ap, subst, arith, Some, None, Option, Ok, Err, Result, lit≤}
 use Rattle.std.proofs.Common.{lit<}
-use Rattle.std.specs.Prelude.{All, MatchResult}
+use Rattle.std.specs.Prelude.{All, MatchResult, codes}
 use Rattle.std.proofs.lemmas.List.{length-map, length-replicate}
 use Rattle.std.proofs.lemmas.Option.{same_Some, none-some, slice_get-get_or, get_or_from_slice_get}
 use Rattle.line_rules.specs.Ranges.{IsPlaced}
 use Rattle.line_rules.specs.declared.types.LineKind.TheVariants.{Straight}
 use Rattle.line_rules.specs.declared.types.Side.TheVariants.{Front}
 use Rattle.cert_lines.specs.Rows.{Row, fixed, keyed, span, seat, bound, branch, swap, trail, frame, state_entry}
-use Rattle.cert_lines.specs.Rows.{state_frame, entry_of_state, frame_of_state, form_of, row_text}
+use Rattle.cert_lines.specs.Rows.{state_frame, row_entry, joined, entry_of_state, frame_of_state, entry_of_rows}
+use Rattle.cert_lines.specs.Rows.{many_numbers, form_of, row_text}
 use Rattle.cert_lines.specs.Words.{◌>>=◌, greatest, number_in}
 use Rattle.cert_lines.specs.inner.LineReading.{seat_in}
 use Rattle.cert_lines.specs.Pattern.{HasFormOf, IsJudged}
@@ -19,18 +20,23 @@ use Rattle.cert_lines.proofs.CiteWords.{sat}
 use Rattle.cert_lines.proofs.PlainLines.{seat_again}
 use Rattle.cert_lines.proofs.JudgedLine.{small, small_is, out_of_range}
 use Rattle.cert_lines.proofs.JudgedSeat.{seat_none, seat_ok, seat_range}
-use Rattle.cert_text.proofs.LineTexts.{row_lacks}
+use Rattle.cert_lines.proofs.NumberWords.{lacks}
+use Rattle.cert_text.proofs.LineTexts.{IsPlain, row_lacks}
 use Rattle.text_grammar.specs.Texts.{TellsLine}
-use Rattle.sequence_rules.specs.Ranges.{IsWhy, IsEntry, IsFrame, IsLast}
+use Rattle.sequence_rules.specs.Charges.{IsChargesOf}
+use Rattle.sequence_rules.specs.Ranges.{IsState, IsWhy, IsEntry, IsFrame, IsLast, HasCharges, numbers_by}
 use Rattle.sequence_values.specs.declared.types.SeqEntry.{SeqEntry}
 use Rattle.sequence_values.specs.declared.types.SeqFrame.{SeqFrame}
 use Rattle.sequence_values.specs.declared.types.SeqWhy.{SeqWhy}
 use Rattle.sequence_values.specs.declared.types.SeqWhy.TheVariants as why
-use Rattle.sequence_cert.specs.SequenceText.{unit_row, cited, entry_row, counted, frame_row}
-use Rattle.sequence_cert.specs.inner.StateReading.{entry_in, frame_in, indexed, frame_of}
-use Rattle.sequence_cert.specs.inner.Parts.{AreModels, IsEntryWithin, IsLastWithin, IsFrameWithin}
+use Rattle.sequence_cert.specs.SequenceText.{unit_row, charges_row, row_by, entry_row, counted, frame_row}
+use Rattle.sequence_cert.specs.inner.Versions.{mark_of}
+use Rattle.sequence_cert.specs.inner.StateReading.{charges_in, entry_in, frame_in, indexed, frame_of}
+use Rattle.sequence_cert.specs.inner.Parts.{AreModels, AreCitesWithin, IsEntryWithin, IsLastWithin, IsFrameWithin}
+use Rattle.sequence_cert.specs.declared.version.Version.{Version}
 use Rattle.sequence_cert.specs.declared.words.FrameDraft.{FrameDraft}
-use Rattle.sequence_cert.proofs.StateWords.{the_entry, why_read, entry_again, entry_found, last_read, the_frame}
+use Rattle.sequence_cert.proofs.StateWords.{charges_again, charges_found, the_entry, sat_why, sat_entry, MayStand}
+use Rattle.sequence_cert.proofs.StateWords.{IsWritten, entry_again, entry_found, same_parts, last_read, the_frame}
 use Rattle.sequence_cert.proofs.StateWords.{frame_again, frame_found}
 
 -- the line of a unit is that of a place on a straight line
@@ -120,8 +126,89 @@ starts_small = lit< tt
 number_small : 1000000000000000000 < greatest
 number_small = lit< tt
 
--- the line of an entry
-record EntryRow (r : Row) (m n : ℕ) : Type 0 where
+-- the line of charges
+many_same : (key other : List ℕ) (m n : ℕ) → many_numbers key m ≡ many_numbers other n → (key ≡ other) × (m ≡ n)
+many_same key other m n e = (cc, cc)
+
+joined_only : (r : Row) (key : List ℕ) (m : ℕ) → form_of r ≡ many_numbers key m
+    → (ns : List ℕ) × (r ≡ joined key ns) × (length ns ≡ m)
+joined_only (joined k ns) key m e =
+    let s = many_same k key (length ns) m e in (ns, ap (λ z. joined z ns) s.0, s.1)
+joined_only (fixed t) key m e = (cc)
+joined_only (keyed k v) key m e = (cc)
+joined_only (span k v w) key m e = (cc)
+joined_only (seat kind station side) key m e = (cc)
+joined_only (bound k c s x) key m e = (cc)
+joined_only (branch k c mode s x cites) key m e = (cc)
+joined_only (swap k c s x cite out into) key m e = (cc)
+joined_only (trail t) key m e = (cc)
+joined_only (frame k mode s x last cites) key m e = (cc)
+joined_only (state_entry rem starts least cites) key m e = (cc)
+joined_only (state_frame rem starts need last cites) key m e = (cc)
+joined_only (row_entry units starts base cites) key m e = (cc)
+
+charges_small : 100000000000000 < greatest
+charges_small = lit< tt
+
+pub charges_none : (m : ℕ) (line : List ℕ) → charges_in m line ≡ None → HasFormOf charges_row (IsChargesOf m) line → ⊥
+charges_none m line e f =
+    let o = joined_only f.2 (codes "charges") (length f.0) f.3 in
+    none-some (map sat o.0)
+    (sym e ∙ ap (charges_in m) (sym f.4 ∙ ap row_text o.1) ∙ charges_again m o.0 (o.2 ∙ f.1.each))
+
+charges_value : (m : ℕ) (v line : List ℕ) → IsChargesOf m v → row_text (charges_row v) ≡ line
+    → charges_in m line ≡ Some v
+charges_value m v line h t =
+    ap (charges_in m) (sym t) ∙ charges_again m v h.each
+    ∙ ap (λ z. Some z) (sat_all 100000000000000 v charges_small h.limit)
+
+charges_one : (m : ℕ) (v w : List ℕ) → IsChargesOf m v → IsChargesOf m w
+    → row_text (charges_row v) ≡ row_text (charges_row w) → v ≡ w
+charges_one m v w a b e =
+    same_Some v w
+    (sym (charges_value m v (row_text (charges_row w)) a e) ∙ charges_value m w (row_text (charges_row w)) b refl)
+
+charges_said : (m : ℕ) (line v : List ℕ) → charges_in m line ≡ Some v → All (λ a. a ≤ 100000000000000) v
+    → IsChargesOf m v × (row_text (charges_row v) ≡ line)
+charges_said m line v i h =
+    let f = charges_found m line v i in
+    let s : f.0 ≡ v = small_all 100000000000000 f.0 v charges_small f.2 h in
+    (record { each = sym (ap length s) ∙ f.3; limit = h }, ap (λ z. row_text (charges_row z)) (sym s) ∙ f.1)
+
+some_charges : (m : ℕ) → (v : List ℕ) × IsChargesOf m v
+some_charges m = (replicate m 0, record { each = length-replicate m 0; limit = zeros 100000000000000 m })
+
+charges_range : (m : ℕ) (line v : List ℕ) → charges_in m line ≡ Some v → (All (λ a. a ≤ 100000000000000) v → ⊥)
+    → HasFormOf charges_row (IsChargesOf m) line
+    × ((w : List ℕ) → IsChargesOf m w → row_text (charges_row w) ≢ line)
+charges_range m line v i k =
+    let f = charges_found m line v i in
+    let s = some_charges m in (
+      (
+        s.0,
+        s.1,
+        charges_row f.0,
+        ap (λ z. many_numbers (codes "charges") z) (f.3 ∙ sym s.1.each),
+        f.1,
+      ),
+      λ w u t.
+          let e : w ≡ v = same_Some w v (sym (charges_value m w line u t) ∙ i) in
+          let P : List ℕ → Type 0 = λ z. All (λ a. a ≤ 100000000000000) z in
+          k (subst P e u.limit),
+    )
+
+pub charges_judged : (m : ℕ) (line v : List ℕ) (r : Result (List ℕ) LineError) → charges_in m line ≡ Some v
+    → MatchResult r (λ c. (c ≡ v) × All (λ a. a ≤ 100000000000000) v)
+    (λ e. (e ≡ lines.Range) × (All (λ a. a ≤ 100000000000000) v → ⊥))
+    → IsJudged charges_row (IsChargesOf m) line r
+charges_judged m line v (Ok c) i h =
+    let P : List ℕ → Type 0 = λ z. IsChargesOf m z × (row_text (charges_row z) ≡ line) in
+    subst P (sym h.0) (charges_said m line v i h.1)
+charges_judged m line v (Err x) i h =
+    let f = charges_range m line v i h.1 in out_of_range charges_row (IsChargesOf m) line x h.0 f.0 f.1
+
+-- the line of an entry of a state
+record StateRow (r : Row) (m n : ℕ) : Type 0 where
   rem : List ℕ
   starts : List ℕ
   least : ℕ
@@ -133,144 +220,276 @@ record EntryRow (r : Row) (m n : ℕ) : Type 0 where
 entry_sizes : (a b c d : ℕ) → entry_of_state a b ≡ entry_of_state c d → (a ≡ c) × (b ≡ d)
 entry_sizes a b c d e = (cc, cc)
 
-entry_only : (r : Row) (m n : ℕ) → form_of r ≡ entry_of_state m n → EntryRow r m n
-entry_only (state_entry rem starts least cites) m n e =
+state_only : (r : Row) (m n : ℕ) → form_of r ≡ entry_of_state m n → StateRow r m n
+state_only (state_entry rem starts least cites) m n e =
     let s = entry_sizes (length rem) (length starts) m n e in
     record { rem = rem; starts = starts; least = least; cites = cites; is = refl; many = s.0; wide = s.1 }
-entry_only (fixed t) m n e = (cc)
-entry_only (keyed key v) m n e = (cc)
-entry_only (span key v w) m n e = (cc)
-entry_only (seat kind station side) m n e = (cc)
-entry_only (bound k c s x) m n e = (cc)
-entry_only (branch k c mode s x cites) m n e = (cc)
-entry_only (swap k c s x cite out into) m n e = (cc)
-entry_only (trail t) m n e = (cc)
-entry_only (frame k mode s x last cites) m n e = (cc)
-entry_only (state_frame rem starts need last cites) m n e = (cc)
+state_only (fixed t) m n e = (cc)
+state_only (keyed key v) m n e = (cc)
+state_only (span key v w) m n e = (cc)
+state_only (seat kind station side) m n e = (cc)
+state_only (bound k c s x) m n e = (cc)
+state_only (branch k c mode s x cites) m n e = (cc)
+state_only (swap k c s x cite out into) m n e = (cc)
+state_only (trail t) m n e = (cc)
+state_only (frame k mode s x last cites) m n e = (cc)
+state_only (state_frame rem starts need last cites) m n e = (cc)
+state_only (row_entry units starts base cites) m n e = (cc)
+state_only (joined key ns) m n e = (cc)
 
-entry_reads : (m n : ℕ) (rem starts : List ℕ) (least : ℕ) (c : Option (List ℕ)) (line : List ℕ) → length rem ≡ m
-    → length starts ≡ n
-    → row_text (state_entry rem starts least c) ≡ line
-    → entry_in m n line ≡ Some (the_entry (map sat rem) (map sat starts) (sat least) (why_read c))
-entry_reads m n rem starts least c line p q t =
-    ap (entry_in m n) (sym t) ∙ ap (λ k. entry_in k n (row_text (state_entry rem starts least c))) (sym p)
-    ∙ ap (λ k. entry_in (length rem) k (row_text (state_entry rem starts least c))) (sym q)
-    ∙ entry_again rem starts least c
+-- the line of an entry of rows
+record RowsRow (r : Row) (m n : ℕ) : Type 0 where
+  units : List ℕ
+  starts : List ℕ
+  base : ℕ
+  cites : List ℕ
+  is : r ≡ row_entry units starts base cites
+  many : length units ≡ m
+  wide : length starts ≡ n
 
-pub entry_none : (m n : ℕ) (line : List ℕ) → entry_in m n line ≡ None → HasFormOf entry_row (IsEntry m n) line → ⊥
-entry_none m n line e f =
-    let o = entry_only f.2 (length f.0.rem) (length f.0.starts) f.3 in
-    none-some (the_entry (map sat o.rem) (map sat o.starts) (sat o.least) (why_read o.cites))
-    (sym e ∙ entry_reads m n o.rem o.starts o.least o.cites line (o.many ∙ f.1.state.each) (o.wide ∙ f.1.state.wide)
-    (ap row_text (sym o.is) ∙ f.4))
+rows_sizes : (a b c d : ℕ) → entry_of_rows a b ≡ entry_of_rows c d → (a ≡ c) × (b ≡ d)
+rows_sizes a b c d e = (cc, cc)
 
-why_same : (w : SeqWhy) → IsWhy w → why_read (cited w) ≡ w
-why_same why.Bound h = refl
-why_same (why.Branch cites) h = ap (λ z. why.Branch z) (sat_all 1000000000000000000 cites number_small h)
+rows_only : (r : Row) (m n : ℕ) → form_of r ≡ entry_of_rows m n → RowsRow r m n
+rows_only (row_entry units starts base cites) m n e =
+    let s = rows_sizes (length units) (length starts) m n e in
+    record { units = units; starts = starts; base = base; cites = cites; is = refl; many = s.0; wide = s.1 }
+rows_only (fixed t) m n e = (cc)
+rows_only (keyed key v) m n e = (cc)
+rows_only (span key v w) m n e = (cc)
+rows_only (seat kind station side) m n e = (cc)
+rows_only (bound k c s x) m n e = (cc)
+rows_only (branch k c mode s x cites) m n e = (cc)
+rows_only (swap k c s x cite out into) m n e = (cc)
+rows_only (trail t) m n e = (cc)
+rows_only (frame k mode s x last cites) m n e = (cc)
+rows_only (state_entry rem starts least cites) m n e = (cc)
+rows_only (state_frame rem starts need last cites) m n e = (cc)
+rows_only (joined key ns) m n e = (cc)
 
-entry_same : (m n : ℕ) (v : SeqEntry) → IsEntry m n v
-    → the_entry (map sat v.rem) (map sat v.starts) (sat v.least) (why_read (cited v.why)) ≡ v
-entry_same m n v h =
-    ap (λ z. the_entry z (map sat v.starts) (sat v.least) (why_read (cited v.why)))
-    (sat_all 1000 v.rem units_small h.state.units)
-    ∙ ap (λ z. the_entry v.rem z (sat v.least) (why_read (cited v.why)))
-    (sat_all 1000000000 v.starts starts_small h.state.begun)
-    ∙ ap (λ z. the_entry v.rem v.starts z (why_read (cited v.why)))
-    (small_is v.least (omega (arith, h.least, number_small)))
-    ∙ ap (λ z. the_entry v.rem v.starts v.least z) (why_same v.why h.why)
+-- the line of an entry, its numbers of any size
+record EntryRow (r : Row) (v : Version) (m n : ℕ) : Type 0 where
+  written : SeqEntry
+  may : IsWritten v m n written
+  is : r ≡ entry_row written
 
-entry_value : (m n : ℕ) (v : SeqEntry) (line : List ℕ) → IsEntry m n v → row_text (entry_row v) ≡ line
-    → entry_in m n line ≡ Some v
-entry_value m n v line h t =
-    entry_reads m n v.rem v.starts v.least (cited v.why) line h.state.each h.state.wide t
-    ∙ ap (λ z. Some z) (entry_same m n v h)
+of_state : (r : Row) (v : Version) (m n : ℕ) (rem starts : List ℕ) (least : ℕ) (c : Option (List ℕ))
+    → r ≡ state_entry rem starts least c → length rem ≡ m → length starts ≡ n → EntryRow r v m n
+of_state r v m n rem starts least None e p q = record {
+  written = the_entry rem starts least why.Bound;
+  may = record { stands = tt; many = p; wide = q };
+  is = e;
+}
+of_state r v m n rem starts least (Some cites) e p q = record {
+  written = the_entry rem starts least (why.Branch cites);
+  may = record { stands = tt; many = p; wide = q };
+  is = e;
+}
 
-entry_one : (m n : ℕ) (v w : SeqEntry) → IsEntry m n v → IsEntry m n w
-    → row_text (entry_row v) ≡ row_text (entry_row w) → v ≡ w
-entry_one m n v w a b e =
-    same_Some v w
-    (sym (entry_value m n v (row_text (entry_row w)) a e) ∙ entry_value m n w (row_text (entry_row w)) b refl)
+-- a line has the form of an entry of a state
+like_state : (r : Row) (v : Version) (m n : ℕ) (rem starts : List ℕ) → length rem ≡ m → length starts ≡ n
+    → form_of r ≡ entry_of_state (length rem) (length starts) → EntryRow r v m n
+like_state r v m n rem starts p q f =
+    let o = state_only r (length rem) (length starts) f in
+    of_state r v m n o.rem o.starts o.least o.cites o.is (o.many ∙ p) (o.wide ∙ q)
+
+-- a line has the form of that of an entry
+like_entry : (r : Row) (v : Version) (m n : ℕ) (rem starts : List ℕ) (least : ℕ) (w : SeqWhy) → MayStand v w
+    → length rem ≡ numbers_by m w → length starts ≡ n
+    → form_of r ≡ form_of (row_by (the_entry rem starts least w) w)
+    → EntryRow r v m n
+like_entry r v m n rem starts least why.Bound h p q f = like_state r v m n rem starts p q f
+like_entry r v m n rem starts least (why.Branch cites) h p q f = like_state r v m n rem starts p q f
+like_entry r v m n rem starts least (why.Charge cites) h p q f =
+    let o = rows_only r (length rem) (length starts) f in
+    record {
+      written = the_entry o.units o.starts o.base (why.Charge o.cites);
+      may = record { stands = h; many = o.many ∙ p; wide = o.wide ∙ q };
+      is = o.is;
+    }
+
+entry_reads : (v : Version) (m n : ℕ) (e : SeqEntry) (line : List ℕ) → IsWritten v m n e
+    → row_text (entry_row e) ≡ line → entry_in v m n line ≡ Some (sat_entry e)
+entry_reads v m n e line h t = ap (entry_in v m n) (sym t) ∙ entry_again v m n e h
+
+why_stands : (v : Version) (w : SeqWhy) → IsWhy (mark_of v) w → MayStand v w
+why_stands v why.Bound h = tt
+why_stands v (why.Branch cites) h = tt
+why_stands v (why.Charge cites) h = h.0
+
+written_as : (v : Version) (m n : ℕ) (e : SeqEntry) → IsEntry m n (mark_of v) e → IsWritten v m n e
+written_as v m n e h = record {
+  stands = why_stands v e.why h.why;
+  many = h.state.each;
+  wide = h.state.wide;
+}
+
+pub entry_none : (v : Version) (m n : ℕ) (line : List ℕ) → entry_in v m n line ≡ None
+    → HasFormOf entry_row (IsEntry m n (mark_of v)) line → ⊥
+entry_none v m n line e f =
+    let h = written_as v m n f.0 f.1 in
+    let o = like_entry f.2 v m n f.0.rem f.0.starts f.0.least f.0.why h.stands h.many h.wide f.3 in
+    none-some (sat_entry o.written)
+    (sym e ∙ entry_reads v m n o.written line o.may (ap row_text (sym o.is) ∙ f.4))
+
+why_same : (c : Option (List ℕ)) (w : SeqWhy) → IsWhy c w → sat_why w ≡ w
+why_same c why.Bound h = refl
+why_same c (why.Branch cites) h = ap (λ z. why.Branch z) (sat_all 1000000000000000000 cites number_small h)
+why_same c (why.Charge cites) h = ap (λ z. why.Charge z) (sat_all 1000000000000000000 cites number_small h.1)
+
+entry_same : (m n : ℕ) (c : Option (List ℕ)) (e : SeqEntry) → IsEntry m n c e → sat_entry e ≡ e
+entry_same m n c e h =
+    same_parts (map sat e.rem) e.rem (map sat e.starts) e.starts (sat e.least) e.least (sat_why e.why) e.why
+    (sat_all 1000 e.rem units_small h.state.units) (sat_all 1000000000 e.starts starts_small h.state.begun)
+    (small_is e.least (omega (arith, h.least, number_small))) (why_same c e.why h.why)
+
+entry_value : (v : Version) (m n : ℕ) (e : SeqEntry) (line : List ℕ) → IsEntry m n (mark_of v) e
+    → row_text (entry_row e) ≡ line → entry_in v m n line ≡ Some e
+entry_value v m n e line h t =
+    entry_reads v m n e line (written_as v m n e h) t ∙ ap (λ z. Some z) (entry_same m n (mark_of v) e h)
+
+entry_one : (v : Version) (m n : ℕ) (d e : SeqEntry) → IsEntry m n (mark_of v) d → IsEntry m n (mark_of v) e
+    → row_text (entry_row d) ≡ row_text (entry_row e) → d ≡ e
+entry_one v m n d e a b t =
+    same_Some d e
+    (sym (entry_value v m n d (row_text (entry_row e)) a t) ∙ entry_value v m n e (row_text (entry_row e)) b refl)
 
 -- cites that were read are small, so they are what the line says
-cited_is : (c : Option (List ℕ)) (w : SeqWhy) → why_read c ≡ w → IsWhy w → c ≡ cited w
-cited_is None w e h = ap cited e
-cited_is (Some cs) w e h =
-    let P : SeqWhy → Type 0 = IsWhy in
-    ap (λ z. Some z) (small_all 1000000000000000000 cs (map sat cs) number_small refl (subst P (sym e) h)) ∙ ap cited e
+why_is : (u w : SeqWhy) → sat_why u ≡ w → AreCitesWithin w → u ≡ w
+why_is why.Bound w e h = e
+why_is (why.Branch cs) w e h =
+    let P : SeqWhy → Type 0 = AreCitesWithin in
+    ap (λ z. why.Branch z) (small_all 1000000000000000000 cs (map sat cs) number_small refl (subst P (sym e) h)) ∙ e
+why_is (why.Charge cs) w e h =
+    let P : SeqWhy → Type 0 = AreCitesWithin in
+    ap (λ z. why.Charge z) (small_all 1000000000000000000 cs (map sat cs) number_small refl (subst P (sym e) h)) ∙ e
 
-same_rows : (a b c d : List ℕ) (m k : ℕ) (v w : Option (List ℕ)) → a ≡ b → c ≡ d → m ≡ k → v ≡ w
-    → state_entry a c m v ≡ state_entry b d k w
-same_rows a b c d m k v w e f g h =
-    ap (λ z. state_entry z c m v) e ∙ ap (λ z. state_entry b z m v) f ∙ ap (λ z. state_entry b d z v) g
-    ∙ ap (λ z. state_entry b d k z) h
+why_said : (v : Version) (w : SeqWhy) → MayStand v w → AreCitesWithin w → IsWhy (mark_of v) w
+why_said v why.Bound h c = tt
+why_said v (why.Branch cites) h c = c
+why_said v (why.Charge cites) h c = (h, c)
 
-entry_said : (m n : ℕ) (line : List ℕ) (e : SeqEntry) → entry_in m n line ≡ Some e → IsEntryWithin e
-    → IsEntry m n e × (row_text (entry_row e) ≡ line)
-entry_said m n line e i w =
-    let f = entry_found m n line e i in
-    let p : map sat f.rem ≡ e.rem = ap (λ z. z.rem) f.is in
-    let q : map sat f.starts ≡ e.starts = ap (λ z. z.starts) f.is in
-    let l : sat f.least ≡ e.least = ap (λ z. z.least) f.is in
-    let y : why_read f.cites ≡ e.why = ap (λ z. z.why) f.is in (
+why_within : (c : Option (List ℕ)) (w : SeqWhy) → IsWhy c w → AreCitesWithin w
+why_within c why.Bound h = tt
+why_within c (why.Branch cites) h = h
+why_within c (why.Charge cites) h = h.1
+
+entry_said : (v : Version) (m n : ℕ) (line : List ℕ) (e : SeqEntry) → entry_in v m n line ≡ Some e → IsEntryWithin e
+    → IsEntry m n (mark_of v) e × (row_text (entry_row e) ≡ line)
+entry_said v m n line e i w =
+    let f = entry_found v m n line e i in
+    let d = f.written in
+    let s : d ≡ e = same_parts d.rem e.rem d.starts e.starts d.least e.least d.why e.why
+    (small_all 1000 d.rem e.rem units_small (ap (λ z. z.rem) f.is) w.units)
+    (small_all 1000000000 d.starts e.starts starts_small (ap (λ z. z.starts) f.is) w.begun)
+    (small d.least e.least (ap (λ z. z.least) f.is) (omega (arith, w.least, number_small)))
+    (why_is d.why e.why (ap (λ z. z.why) f.is) w.cites) in
+    let P : SeqEntry → Type 0 = IsWritten v m n in
+    let h : IsWritten v m n e = subst P s f.may in (
       record {
-        state = record {
-          each = sym (ap length p) ∙ length-map f.rem sat ∙ f.many;
-          units = w.units;
-          wide = sym (ap length q) ∙ length-map f.starts sat ∙ f.wide;
-          begun = w.begun;
-        };
+        state = record { each = h.many; units = w.units; wide = h.wide; begun = w.begun };
         least = w.least;
-        why = w.why;
+        why = why_said v e.why h.stands w.cites;
       },
-      ap row_text (sym (same_rows f.rem e.rem f.starts e.starts f.least e.least f.cites (cited e.why)
-          (small_all 1000 f.rem e.rem units_small p w.units)
-          (small_all 1000000000 f.starts e.starts starts_small q w.begun)
-          (small f.least e.least l (omega (arith, w.least, number_small))) (cited_is f.cites e.why y w.why)))
-          ∙ f.text,
+      ap (λ z. row_text (entry_row z)) (sym s) ∙ f.text,
     )
 
-some_entry : (m n : ℕ) → (e : SeqEntry) × IsEntry m n e
-some_entry m n = (
+blank_state : (m n : ℕ) → IsState m n (replicate m 0) (replicate n 0)
+blank_state m n = record {
+  each = length-replicate m 0;
+  units = zeros 1000 m;
+  wide = length-replicate n 0;
+  begun = zeros 1000000000 n;
+}
+
+some_entry : (v : Version) (m n : ℕ) → (e : SeqEntry) × IsEntry m n (mark_of v) e
+some_entry v m n = (
   the_entry (replicate m 0) (replicate n 0) 0 why.Bound,
-  record {
-    state = record {
-      each = length-replicate m 0;
-      units = zeros 1000 m;
-      wide = length-replicate n 0;
-      begun = zeros 1000000000 n;
-    };
-    least = lit≤ tt;
-    why = tt;
-  },
+  record { state = blank_state m n; least = lit≤ tt; why = tt },
 )
 
-entry_range : (m n : ℕ) (line : List ℕ) (e : SeqEntry) → entry_in m n line ≡ Some e → (IsEntryWithin e → ⊥)
-    → HasFormOf entry_row (IsEntry m n) line × ((v : SeqEntry) → IsEntry m n v → row_text (entry_row v) ≢ line)
-entry_range m n line e i k =
-    let f = entry_found m n line e i in
-    let s = some_entry m n in (
-      (
-        s.0,
-        s.1,
-        state_entry f.rem f.starts f.least f.cites,
-        ap (λ z. entry_of_state z (length f.starts)) (f.many ∙ sym s.1.state.each)
-            ∙ ap (λ z. entry_of_state (length s.0.rem) z) (f.wide ∙ sym s.1.state.wide),
-        f.text,
-      ),
-      λ v u t.
-          let w : v ≡ e = same_Some v e (sym (entry_value m n v line u t) ∙ i) in
-          let P : SeqEntry → Type 0 = IsEntryWithin in
-          k (subst P w (record { units = u.state.units; begun = u.state.begun; least = u.least; why = u.why })),
+-- an entry that may be said, whose line has the form of this one
+record SaidLike (v : Version) (m n : ℕ) (r : Row) : Type 0 where
+  entry : SeqEntry
+  said : IsEntry m n (mark_of v) entry
+  form : form_of r ≡ form_of (entry_row entry)
+
+said_state : (v : Version) (m n : ℕ) (rem starts : List ℕ) (least : ℕ) (c : Option (List ℕ)) → length rem ≡ m
+    → length starts ≡ n → SaidLike v m n (state_entry rem starts least c)
+unfolding some_entry
+said_state v m n rem starts least c p q =
+    let s = some_entry v m n in
+    record {
+      entry = s.0;
+      said = s.1;
+      form = ap (λ z. entry_of_state z (length starts)) (p ∙ sym s.1.state.each)
+          ∙ ap (λ z. entry_of_state (length s.0.rem) z) (q ∙ sym s.1.state.wide);
+    }
+
+-- an entry by Charge that may be said
+some_charge : (v : Version) (m n : ℕ) → HasCharges (mark_of v) → (e : SeqEntry) × IsEntry m n (mark_of v) e
+    × (length e.rem ≡ 1) × (length e.starts ≡ n) × (form_of (entry_row e) ≡ entry_of_rows (length e.rem) (length e.starts))
+some_charge v m n h =
+    let s = blank_state 1 n in (
+      the_entry (replicate 1 0) (replicate n 0) 0 (why.Charge []),
+      record { state = s; least = lit≤ tt; why = (h, zeros 1000000000000000000 0) },
+      s.each,
+      s.wide,
+      refl,
     )
 
-pub entry_judged : (m n : ℕ) (line : List ℕ) (d : SeqEntry) (r : Result SeqEntry LineError) → entry_in m n line ≡ Some d
+said_like : (v : Version) (m n : ℕ) (rem starts : List ℕ) (least : ℕ) (w : SeqWhy) → MayStand v w
+    → length rem ≡ numbers_by m w → length starts ≡ n → SaidLike v m n (row_by (the_entry rem starts least w) w)
+said_like v m n rem starts least why.Bound h p q = said_state v m n rem starts least None p q
+said_like v m n rem starts least (why.Branch cites) h p q = said_state v m n rem starts least (Some cites) p q
+said_like v m n rem starts least (why.Charge cites) h p q =
+    let s = some_charge v m n h in
+    record {
+      entry = s.0;
+      said = s.1;
+      form = ap (λ z. entry_of_rows z (length starts)) (p ∙ sym s.2)
+          ∙ ap (λ z. entry_of_rows (length s.0.rem) z) (q ∙ sym s.3) ∙ sym s.4;
+    }
+
+entry_range : (v : Version) (m n : ℕ) (line : List ℕ) (e : SeqEntry) → entry_in v m n line ≡ Some e
+    → (IsEntryWithin e → ⊥)
+    → HasFormOf entry_row (IsEntry m n (mark_of v)) line
+    × ((d : SeqEntry) → IsEntry m n (mark_of v) d → row_text (entry_row d) ≢ line)
+entry_range v m n line e i k =
+    let f = entry_found v m n line e i in
+    let d = f.written in
+    let l = said_like v m n d.rem d.starts d.least d.why f.may.stands f.may.many f.may.wide in (
+      (l.entry, l.said, entry_row d, l.form, f.text),
+      λ d u t.
+          let w : d ≡ e = same_Some d e (sym (entry_value v m n d line u t) ∙ i) in
+          let P : SeqEntry → Type 0 = IsEntryWithin in
+          k (subst P w (record {
+            units = u.state.units;
+            begun = u.state.begun;
+            least = u.least;
+            cites = why_within (mark_of v) d.why u.why;
+          })),
+    )
+
+pub entry_judged : (v : Version) (m n : ℕ) (line : List ℕ) (d : SeqEntry) (r : Result SeqEntry LineError)
+    → entry_in v m n line ≡ Some d
     → MatchResult r (λ e. (e ≡ d) × IsEntryWithin d) (λ e. (e ≡ lines.Range) × (IsEntryWithin d → ⊥))
-    → IsJudged entry_row (IsEntry m n) line r
-entry_judged m n line d (Ok e) i h =
-    let P : SeqEntry → Type 0 = λ z. IsEntry m n z × (row_text (entry_row z) ≡ line) in
-    subst P (sym h.0) (entry_said m n line d i h.1)
-entry_judged m n line d (Err x) i h =
-    let f = entry_range m n line d i h.1 in out_of_range entry_row (IsEntry m n) line x h.0 f.0 f.1
+    → IsJudged entry_row (IsEntry m n (mark_of v)) line r
+entry_judged v m n line d (Ok e) i h =
+    let P : SeqEntry → Type 0 = λ z. IsEntry m n (mark_of v) z × (row_text (entry_row z) ≡ line) in
+    subst P (sym h.0) (entry_said v m n line d i h.1)
+entry_judged v m n line d (Err x) i h =
+    let f = entry_range v m n line d i h.1 in out_of_range entry_row (IsEntry m n (mark_of v)) line x h.0 f.0 f.1
+
+-- what an entry says asks of the charges no more than that there are some
+why_as : (c d : Option (List ℕ)) (w : SeqWhy) → (HasCharges c → HasCharges d) → IsWhy c w → IsWhy d w
+why_as c d why.Bound f h = tt
+why_as c d (why.Branch cites) f h = h
+why_as c d (why.Charge cites) f h = (f h.0, h.1)
+
+pub entry_as : (m n : ℕ) (c d : Option (List ℕ)) (e : SeqEntry) → (HasCharges c → HasCharges d) → IsEntry m n c e
+    → IsEntry m n d e
+entry_as m n c d e f h = record { state = h.state; least = h.least; why = why_as c d e.why f h.why }
 
 -- the line of a frame
 record FrameRow (r : Row) (m n : ℕ) : Type 0 where
@@ -300,6 +519,8 @@ frame_only (swap k c s x cite out into) m n e = (cc)
 frame_only (trail t) m n e = (cc)
 frame_only (frame k mode s x last cites) m n e = (cc)
 frame_only (state_entry rem starts least cites) m n e = (cc)
+frame_only (row_entry units starts base cites) m n e = (cc)
+frame_only (joined key ns) m n e = (cc)
 
 frame_reads : (m n : ℕ) (rem starts : List ℕ) (need : ℕ) (last : Option ℕ) (cites line : List ℕ) → length rem ≡ m
     → length starts ≡ n
@@ -413,12 +634,7 @@ some_frame : (m n : ℕ) → (f : SeqFrame) × IsFrame m n f
 some_frame m n = (
   record { rem = replicate m 0; starts = replicate n 0; need = 0; last = None; cites = [] },
   record {
-    state = record {
-      each = length-replicate m 0;
-      units = zeros 1000 m;
-      wide = length-replicate n 0;
-      begun = zeros 1000000000 n;
-    };
+    state = blank_state m n;
     need = lit≤ tt;
     last = tt;
     cites = zeros 1000000000000000000 0;
@@ -472,12 +688,23 @@ unit_tells m h = record {
   plain = λ u. row_lacks (unit_row u) tt;
 }
 
-pub entry_tells : (m n : ℕ) → TellsLine entry_row (IsEntry m n)
-entry_tells m n = record {
-  one = entry_one m n;
-  some = some_entry m n;
-  plain = λ e. row_lacks (entry_row e) tt;
+pub charges_tells : (m : ℕ) → TellsLine charges_row (IsChargesOf m)
+charges_tells m = record {
+  one = charges_one m;
+  some = some_charges m;
+  plain = λ c. row_lacks (charges_row c) refl;
 }
+
+plain_by : (e : SeqEntry) (w : SeqWhy) → IsPlain (row_by e w)
+plain_by e why.Bound = tt
+plain_by e (why.Branch cites) = tt
+plain_by e (why.Charge cites) = tt
+
+pub entry_plain : (e : SeqEntry) → lacks 10 (row_text (entry_row e)) ≡ true
+entry_plain e = row_lacks (entry_row e) (plain_by e e.why)
+
+pub entry_tells : (v : Version) (m n : ℕ) → TellsLine entry_row (IsEntry m n (mark_of v))
+entry_tells v m n = record { one = entry_one v m n; some = some_entry v m n; plain = entry_plain }
 
 pub frame_tells : (m n : ℕ) → AreModels m → TellsLine frame_row (IsFrame m n)
 frame_tells m n h = record {

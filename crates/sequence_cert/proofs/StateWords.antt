@@ -1,4 +1,4 @@
--- Lines of states that are written are read, and what is read is how they are written.
+-- Lines of charges and of states that are written are read, and what is read is how they are written.
 use Rattle.std.proofs.Common.{◌≡◌, ℕ, true, cond, nat_eq, List, [], ◌∷◌, ◌++◌, length, map, refl}
 use Rattle.std.proofs.Common.{sym, ◌∙◌, ap, arith, Some, None, Option, inl, inr}
 use Rattle.std.specs.Prelude.{codes, bytes_eq}
@@ -8,20 +8,27 @@ use Rattle.std.proofs.lemmas.Option.{same_Some, none-some}
 use Rattle.std.proofs.lemmas.Bool.{eqb-true, eq-eqb}
 use Rattle.line_io.specs.Lines.{value_of}
 use Rattle.cert_lines.specs.Numbers.{number_text, cites_text}
-use Rattle.cert_lines.specs.Rows.{state_entry, state_frame, number_or_none, row_text}
+use Rattle.cert_lines.specs.Rows.{state_frame, number_or_none, row_text}
 use Rattle.cert_lines.specs.Words.{◌>>=◌, parts_at, number_in, number_first, cites_in, is_none}
 use Rattle.cert_lines.proofs.NumberWords.{lacks, high_lacks, number_high, number_again}
 use Rattle.cert_lines.proofs.NumberWords.{number_found, number_first_again, split_again, bind_some, lacks_append}
 use Rattle.cert_lines.proofs.CiteWords.{sat, cites_again, cites_found, is_none_word, none_of_high}
 use Rattle.cert_lines.proofs.EntryLines.{number_first_found}
 use Rattle.cert_lines.proofs.Lists.{split_parts, chosen}
+use Rattle.sequence_rules.specs.Ranges.{HasCharges, numbers_by}
 use Rattle.sequence_values.specs.declared.types.SeqEntry.{SeqEntry}
 use Rattle.sequence_values.specs.declared.types.SeqWhy.{SeqWhy}
 use Rattle.sequence_values.specs.declared.types.SeqWhy.TheVariants as why
-use Rattle.sequence_cert.specs.inner.StateReading.{many_in, state_in, bound_in, branch_in, entry_in, last_in, open_in}
-use Rattle.sequence_cert.specs.inner.StateReading.{frame_in}
+use Rattle.sequence_cert.specs.SequenceText.{charges_row, row_by, entry_row}
+use Rattle.sequence_cert.specs.inner.Versions.{mark_of}
+use Rattle.sequence_cert.specs.inner.StateReading.{many_in, charges_in, state_in, bound_in, why_of, cited_in, charge_in}
+use Rattle.sequence_cert.specs.inner.StateReading.{entry_in, last_in, open_in, frame_in}
+use Rattle.sequence_cert.specs.declared.version.Version.{Version}
+use Rattle.sequence_cert.specs.declared.version.Version.TheVariants as version
 use Rattle.sequence_cert.specs.declared.words.FrameDraft.{FrameDraft}
-use Rattle.line_io.proofs.ReadFacts.{same_bytes, left}
+use Rattle.sequence_cert.specs.declared.words.Citing.{Citing}
+use Rattle.sequence_cert.specs.declared.words.Citing.TheVariants as citing
+use Rattle.line_io.proofs.ReadFacts.{same_bytes}
 
 -- words without a blank
 number_lacks : (n : ℕ) → lacks 32 (number_text n) ≡ true
@@ -64,23 +71,47 @@ many_found n word ns e =
       | inr h ↦ absurd (none-some ns h.1)
     ]
 
+-- the line of the charges
+pub charges_again : (m : ℕ) (ns : List ℕ) → length ns ≡ m → charges_in m (row_text (charges_row ns)) ≡ Some (map sat ns)
+unfolding row_text charges_in
+charges_again m ns l =
+    ap (λ o. o >>= λ k. cond (bytes_eq k.0 (codes "charges")) (many_in m k.1) None)
+    (split_again 32 (codes "charges") (cites_text ns) refl)
+    ∙ many_again m ns l
+
+pub charges_found : (m : ℕ) (line ns : List ℕ) → charges_in m line ≡ Some ns
+    → (cs : List ℕ) × (row_text (charges_row cs) ≡ line) × (map sat cs ≡ ns) × (length cs ≡ m)
+unfolding row_text charges_in
+charges_found m line ns e =
+    let k = bind_some (parts_at 32 line) (λ k. cond (bytes_eq k.0 (codes "charges")) (many_in m k.1) None) ns e in
+    elim (chosen (bytes_eq k.0.0 (codes "charges")) (many_in m k.0.1) None (Some ns) k.2) [
+      | inl a ↦ (let f = many_found m k.0.1 ns a.1 in (
+        f.0,
+        ap (λ w. codes "charges" ++ 32 ∷ w) f.1
+            ∙ ap (λ w. w ++ 32 ∷ k.0.1) (sym (same_bytes k.0.0 (codes "charges") a.0))
+            ∙ sym (split_parts 32 line k.0 k.1),
+        f.2,
+        f.3,
+      ))
+      | inr a ↦ absurd (none-some ns a.1)
+    ]
+
 -- the text of a state, and more
 abbrev pub stated : List ℕ → List ℕ → List ℕ → List ℕ
 stated rem starts rest = cites_text rem ++ 32 ∷ (cites_text starts ++ 32 ∷ rest)
 
-state_again : (rem starts rest : List ℕ) → state_in (length rem) (length starts) (stated rem starts rest)
-    ≡ Some ((map sat rem, map sat starts), rest)
+state_again : (m n : ℕ) (rem starts rest : List ℕ) → length rem ≡ m → length starts ≡ n
+    → state_in m n (stated rem starts rest) ≡ Some ((map sat rem, map sat starts), rest)
 unfolding state_in
-state_again rem starts rest =
-    ap (λ o. o >>= λ r. many_in (length rem) r.0 >>= λ xs. parts_at 32 r.1 >>= λ s. many_in
-    (length starts) s.0 >>= λ ys. Some ((xs, ys), s.1))
+state_again m n rem starts rest p q =
+    ap (λ o. o >>= λ r. many_in m r.0 >>= λ xs. parts_at 32 r.1 >>= λ s. many_in n s.0 >>= λ ys. Some ((xs, ys), s.1))
     (split_again 32 (cites_text rem) (cites_text starts ++ 32 ∷ rest) (cites_lack rem))
-    ∙ ap (λ o. o >>= λ xs. parts_at 32 (cites_text starts ++ 32 ∷ rest) >>= λ s. many_in
-    (length starts) s.0 >>= λ ys. Some ((xs, ys), s.1))
-    (many_again (length rem) rem refl)
-    ∙ ap (λ o. o >>= λ s. many_in (length starts) s.0 >>= λ ys. Some ((map sat rem, ys), s.1))
+    ∙ ap (λ o. o >>= λ xs. parts_at 32 (cites_text starts ++ 32 ∷ rest) >>= λ s. many_in n s.0 >>= λ ys. Some
+    ((xs, ys), s.1))
+    (many_again m rem p)
+    ∙ ap (λ o. o >>= λ s. many_in n s.0 >>= λ ys. Some ((map sat rem, ys), s.1))
     (split_again 32 (cites_text starts) rest (cites_lack starts))
-    ∙ ap (λ o. o >>= λ ys. Some ((map sat rem, ys), rest)) (many_again (length starts) starts refl)
+    ∙ ap (λ o. o >>= λ ys. Some ((map sat rem, ys), rest)) (many_again n starts q)
 
 -- a state that was read
 pub record StateFound (models stations : ℕ) (bytes : List ℕ) (x : (List ℕ × List ℕ) × List ℕ) : Type 0 where
@@ -123,91 +154,111 @@ state_found models stations bytes x e =
 abbrev pub the_entry : List ℕ → List ℕ → ℕ → SeqWhy → SeqEntry
 the_entry rem starts least w = record { rem = rem; starts = starts; least = least; why = w }
 
--- what is read of cites, where there are any
-abbrev pub why_read : Option (List ℕ) → SeqWhy
-why_read None = why.Bound
-why_read (Some cites) = why.Branch (map sat cites)
+-- what is read of a reason, and of an entry
+abbrev pub sat_why : SeqWhy → SeqWhy
+sat_why why.Bound = why.Bound
+sat_why (why.Branch cites) = why.Branch (map sat cites)
+sat_why (why.Charge cites) = why.Charge (map sat cites)
+
+abbrev pub sat_entry : SeqEntry → SeqEntry
+sat_entry e = the_entry (map sat e.rem) (map sat e.starts) (sat e.least) (sat_why e.why)
+
+-- Charge is a reason in version 2 alone
+abbrev pub MayStand : Version → SeqWhy → Type 0
+MayStand v why.Bound = Unit {0}
+MayStand v (why.Branch cites) = Unit {0}
+MayStand v (why.Charge cites) = HasCharges (mark_of v)
+
+-- an entry that may be written, its numbers of any size
+pub record IsWritten (v : Version) (models stations : ℕ) (e : SeqEntry) : Type 0 where
+  pub stands : MayStand v e.why
+  pub many : length e.rem ≡ numbers_by models e.why
+  pub wide : length e.starts ≡ stations
 
 -- the line of an entry by its first word
-abbrev by_word : ℕ → ℕ → List ℕ → List ℕ → Option SeqEntry
-by_word models stations word rest =
+abbrev by_word : Version → ℕ → ℕ → List ℕ → List ℕ → Option SeqEntry
+by_word v models stations word rest =
     cond (bytes_eq word (codes "bound")) (bound_in models stations rest)
-    (cond (bytes_eq word (codes "branch")) (branch_in models stations rest) None)
+    (cond (bytes_eq word (codes "branch")) (cited_in citing.Branch models stations rest)
+    (charge_in v stations word rest))
 
-split_word : (models stations : ℕ) (word rest : List ℕ) → lacks 32 word ≡ true
-    → entry_in models stations (word ++ 32 ∷ rest) ≡ by_word models stations word rest
+split_word : (v : Version) (models stations : ℕ) (word rest : List ℕ) → lacks 32 word ≡ true
+    → entry_in v models stations (word ++ 32 ∷ rest) ≡ by_word v models stations word rest
 unfolding entry_in
-split_word models stations word rest e = ap (λ o. o >>= λ k. by_word models stations k.0 k.1)
+split_word v models stations word rest e = ap (λ o. o >>= λ k. by_word v models stations k.0 k.1)
     (split_again 32 word rest e)
 
-bound_again : (rem starts : List ℕ) (least : ℕ)
-    → bound_in (length rem) (length starts) (stated rem starts (number_text least))
+bound_again : (m n : ℕ) (rem starts : List ℕ) (least : ℕ) → length rem ≡ m → length starts ≡ n
+    → bound_in m n (stated rem starts (number_text least))
     ≡ Some (the_entry (map sat rem) (map sat starts) (sat least) why.Bound)
 unfolding bound_in
-bound_again rem starts least =
+bound_again m n rem starts least p q =
     ap (λ o. o >>= λ s. number_in s.1 >>= λ l. Some (the_entry s.0.0 s.0.1 l why.Bound))
-    (state_again rem starts (number_text least))
+    (state_again m n rem starts (number_text least) p q)
     ∙ ap (λ o. o >>= λ l. Some (the_entry (map sat rem) (map sat starts) l why.Bound)) (number_again least)
 
-branch_again : (rem starts : List ℕ) (least : ℕ) (cites : List ℕ)
-    → branch_in (length rem) (length starts) (stated rem starts (number_text least ++ 32 ∷ cites_text cites))
-    ≡ Some (the_entry (map sat rem) (map sat starts) (sat least) (why.Branch (map sat cites)))
-unfolding branch_in
-branch_again rem starts least cites =
+cited_again : (kind : Citing) (m n : ℕ) (rem starts : List ℕ) (least : ℕ) (cites : List ℕ) → length rem ≡ m
+    → length starts ≡ n
+    → cited_in kind m n (stated rem starts (number_text least ++ 32 ∷ cites_text cites))
+    ≡ Some (the_entry (map sat rem) (map sat starts) (sat least) (why_of kind (map sat cites)))
+unfolding cited_in
+cited_again kind m n rem starts least cites p q =
     ap (λ o. o >>= λ s. number_first s.1 >>= λ l. cites_in l.1 >>= λ cs. Some
-    (the_entry s.0.0 s.0.1 l.0 (why.Branch cs)))
-    (state_again rem starts (number_text least ++ 32 ∷ cites_text cites))
-    ∙ ap (λ o. o >>= λ l. cites_in l.1 >>= λ cs. Some (the_entry (map sat rem) (map sat starts) l.0 (why.Branch cs)))
+    (the_entry s.0.0 s.0.1 l.0 (why_of kind cs)))
+    (state_again m n rem starts (number_text least ++ 32 ∷ cites_text cites) p q)
+    ∙ ap (λ o. o >>= λ l. cites_in l.1 >>= λ cs. Some
+    (the_entry (map sat rem) (map sat starts) l.0 (why_of kind cs)))
     (number_first_again least (cites_text cites))
-    ∙ ap (λ o. o >>= λ cs. Some (the_entry (map sat rem) (map sat starts) (sat least) (why.Branch cs)))
+    ∙ ap (λ o. o >>= λ cs. Some (the_entry (map sat rem) (map sat starts) (sat least) (why_of kind cs)))
     (cites_again cites)
 
-pub entry_again : (rem starts : List ℕ) (least : ℕ) (c : Option (List ℕ))
-    → entry_in (length rem) (length starts) (row_text (state_entry rem starts least c))
-    ≡ Some (the_entry (map sat rem) (map sat starts) (sat least) (why_read c))
+written_again : (v : Version) (m n : ℕ) (rem starts : List ℕ) (least : ℕ) (w : SeqWhy) → MayStand v w
+    → length rem ≡ numbers_by m w → length starts ≡ n
+    → entry_in v m n (row_text (row_by (the_entry rem starts least w) w))
+    ≡ Some (the_entry (map sat rem) (map sat starts) (sat least) (sat_why w))
 unfolding row_text
-entry_again rem starts least None =
-    split_word (length rem) (length starts) (codes "bound") (stated rem starts (number_text least)) refl
-    ∙ bound_again rem starts least
-entry_again rem starts least (Some cites) =
-    split_word (length rem) (length starts) (codes "branch")
-    (stated rem starts (number_text least ++ 32 ∷ cites_text cites)) refl
-    ∙ branch_again rem starts least cites
+written_again v m n rem starts least why.Bound h p q =
+    split_word v m n (codes "bound") (stated rem starts (number_text least)) refl
+    ∙ bound_again m n rem starts least p q
+written_again v m n rem starts least (why.Branch cites) h p q =
+    split_word v m n (codes "branch") (stated rem starts (number_text least ++ 32 ∷ cites_text cites)) refl
+    ∙ cited_again citing.Branch m n rem starts least cites p q
+written_again version.One m n rem starts least (why.Charge cites) h p q = absurd h
+written_again version.Two m n rem starts least (why.Charge cites) h p q =
+    split_word version.Two m n (codes "charge") (stated rem starts (number_text least ++ 32 ∷ cites_text cites)) refl
+    ∙ cited_again citing.Charge 1 n rem starts least cites p q
+
+pub entry_again : (v : Version) (m n : ℕ) (e : SeqEntry) → IsWritten v m n e
+    → entry_in v m n (row_text (entry_row e)) ≡ Some (sat_entry e)
+entry_again v m n e h = written_again v m n e.rem e.starts e.least e.why h.stands h.many h.wide
 
 -- an entry that was read
-pub record EntryFound (models stations : ℕ) (line : List ℕ) (e : SeqEntry) : Type 0 where
-  pub rem : List ℕ
-  pub starts : List ℕ
-  pub least : ℕ
-  pub cites : Option (List ℕ)
-  pub many : length rem ≡ models
-  pub wide : length starts ≡ stations
-  pub text : row_text (state_entry rem starts least cites) ≡ line
-  pub is : the_entry (map sat rem) (map sat starts) (sat least) (why_read cites) ≡ e
+pub record EntryFound (v : Version) (models stations : ℕ) (line : List ℕ) (e : SeqEntry) : Type 0 where
+  pub written : SeqEntry
+  pub may : IsWritten v models stations written
+  pub text : row_text (entry_row written) ≡ line
+  pub is : sat_entry written ≡ e
 
 -- entries whose parts are equal
-same_parts : (a b c d : List ℕ) (m n : ℕ) (v w : SeqWhy) → a ≡ b → c ≡ d → m ≡ n → v ≡ w
+pub same_parts : (a b c d : List ℕ) (m n : ℕ) (v w : SeqWhy) → a ≡ b → c ≡ d → m ≡ n → v ≡ w
     → the_entry a c m v ≡ the_entry b d n w
 same_parts a b c d m n v w e f g h =
     ap (λ z. the_entry z c m v) e ∙ ap (λ z. the_entry b z m v) f ∙ ap (λ z. the_entry b d z v) g
     ∙ ap (λ z. the_entry b d n z) h
 
-bound_found : (models stations : ℕ) (bytes : List ℕ) (e : SeqEntry) → bound_in models stations bytes ≡ Some e
-    → EntryFound models stations (codes "bound" ++ 32 ∷ bytes) e
+bound_found : (v : Version) (models stations : ℕ) (bytes : List ℕ) (e : SeqEntry)
+    → bound_in models stations bytes ≡ Some e
+    → EntryFound v models stations (codes "bound" ++ 32 ∷ bytes) e
 unfolding bound_in row_text
-bound_found models stations bytes e h =
+bound_found v models stations bytes e h =
     let a = bind_some (state_in models stations bytes)
     (λ s. number_in s.1 >>= λ l. Some (the_entry s.0.0 s.0.1 l why.Bound)) e h in
     let b = bind_some (number_in a.0.1) (λ l. Some (the_entry a.0.0.0 a.0.0.1 l why.Bound)) e a.2 in
     let s = state_found models stations bytes a.0 a.1 in
     let f = number_found a.0.1 b.0 b.1 in
     record {
-      rem = s.rem;
-      starts = s.starts;
-      least = value_of a.0.1;
-      cites = None;
-      many = s.many;
-      wide = s.wide;
+      written = the_entry s.rem s.starts (value_of a.0.1) why.Bound;
+      may = record { stands = tt; many = s.many; wide = s.wide };
       text = ap (λ w. codes "bound" ++ 32 ∷ stated s.rem s.starts w) f.0
           ∙ ap (λ w. codes "bound" ++ 32 ∷ w) (sym s.text);
       is = same_parts (map sat s.rem) a.0.0.0 (map sat s.starts) a.0.0.1
@@ -215,15 +266,26 @@ bound_found models stations bytes e h =
           ∙ same_Some (the_entry a.0.0.0 a.0.0.1 b.0 why.Bound) e b.2;
     }
 
-branch_found : (models stations : ℕ) (bytes : List ℕ) (e : SeqEntry) → branch_in models stations bytes ≡ Some e
-    → EntryFound models stations (codes "branch" ++ 32 ∷ bytes) e
-unfolding branch_in row_text
-branch_found models stations bytes e h =
+-- what stands behind the first word of an entry with cites that was read
+record CitedFound (kind : Citing) (models stations : ℕ) (bytes : List ℕ) (e : SeqEntry) : Type 0 where
+  rem : List ℕ
+  starts : List ℕ
+  least : ℕ
+  cites : List ℕ
+  many : length rem ≡ models
+  wide : length starts ≡ stations
+  text : stated rem starts (number_text least ++ 32 ∷ cites_text cites) ≡ bytes
+  is : the_entry (map sat rem) (map sat starts) (sat least) (why_of kind (map sat cites)) ≡ e
+
+cited_found : (kind : Citing) (models stations : ℕ) (bytes : List ℕ) (e : SeqEntry)
+    → cited_in kind models stations bytes ≡ Some e → CitedFound kind models stations bytes e
+unfolding cited_in
+cited_found kind models stations bytes e h =
     let a = bind_some (state_in models stations bytes)
-    (λ s. number_first s.1 >>= λ l. cites_in l.1 >>= λ cs. Some (the_entry s.0.0 s.0.1 l.0 (why.Branch cs))) e h in
+    (λ s. number_first s.1 >>= λ l. cites_in l.1 >>= λ cs. Some (the_entry s.0.0 s.0.1 l.0 (why_of kind cs))) e h in
     let b = bind_some (number_first a.0.1)
-    (λ l. cites_in l.1 >>= λ cs. Some (the_entry a.0.0.0 a.0.0.1 l.0 (why.Branch cs))) e a.2 in
-    let c = bind_some (cites_in b.0.1) (λ cs. Some (the_entry a.0.0.0 a.0.0.1 b.0.0 (why.Branch cs))) e b.2 in
+    (λ l. cites_in l.1 >>= λ cs. Some (the_entry a.0.0.0 a.0.0.1 l.0 (why_of kind cs))) e a.2 in
+    let c = bind_some (cites_in b.0.1) (λ cs. Some (the_entry a.0.0.0 a.0.0.1 b.0.0 (why_of kind cs))) e b.2 in
     let s = state_found models stations bytes a.0 a.1 in
     let f = number_first_found a.0.1 b.0 b.1 in
     let g = cites_found b.0.1 c.0 c.1 in
@@ -231,49 +293,81 @@ branch_found models stations bytes e h =
       rem = s.rem;
       starts = s.starts;
       least = f.0;
-      cites = Some g.0;
+      cites = g.0;
       many = s.many;
       wide = s.wide;
-      text = ap (λ w. codes "branch" ++ 32 ∷ stated s.rem s.starts (number_text f.0 ++ 32 ∷ w)) g.1
-          ∙ ap (λ w. codes "branch" ++ 32 ∷ stated s.rem s.starts w) (sym f.1)
-          ∙ ap (λ w. codes "branch" ++ 32 ∷ w) (sym s.text);
-      is = same_parts (map sat s.rem) a.0.0.0 (map sat s.starts) a.0.0.1 (sat f.0) b.0.0 (why.Branch (map sat g.0))
-          (why.Branch c.0) s.left s.begun f.2
-          (ap (λ z. why.Branch z) g.2)
-          ∙ same_Some (the_entry a.0.0.0 a.0.0.1 b.0.0 (why.Branch c.0)) e c.2;
+      text = ap (λ w. stated s.rem s.starts (number_text f.0 ++ 32 ∷ w)) g.1
+          ∙ ap (λ w. stated s.rem s.starts w) (sym f.1) ∙ sym s.text;
+      is = same_parts (map sat s.rem) a.0.0.0 (map sat s.starts) a.0.0.1 (sat f.0) b.0.0 (why_of kind (map sat g.0))
+          (why_of kind c.0) s.left s.begun f.2 (ap (λ z. why_of kind z) g.2)
+          ∙ same_Some (the_entry a.0.0.0 a.0.0.1 b.0.0 (why_of kind c.0)) e c.2;
+    }
+
+branch_found : (v : Version) (models stations : ℕ) (bytes : List ℕ) (e : SeqEntry)
+    → cited_in citing.Branch models stations bytes ≡ Some e
+    → EntryFound v models stations (codes "branch" ++ 32 ∷ bytes) e
+unfolding row_text
+branch_found v models stations bytes e h =
+    let x = cited_found citing.Branch models stations bytes e h in
+    record {
+      written = the_entry x.rem x.starts x.least (why.Branch x.cites);
+      may = record { stands = tt; many = x.many; wide = x.wide };
+      text = ap (λ w. codes "branch" ++ 32 ∷ w) x.text;
+      is = x.is;
+    }
+
+charge_found : (models stations : ℕ) (bytes : List ℕ) (e : SeqEntry) → cited_in citing.Charge 1 stations bytes ≡ Some e
+    → EntryFound version.Two models stations (codes "charge" ++ 32 ∷ bytes) e
+unfolding row_text
+charge_found models stations bytes e h =
+    let x = cited_found citing.Charge 1 stations bytes e h in
+    record {
+      written = the_entry x.rem x.starts x.least (why.Charge x.cites);
+      may = record { stands = tt; many = x.many; wide = x.wide };
+      text = ap (λ w. codes "charge" ++ 32 ∷ w) x.text;
+      is = x.is;
     }
 
 -- an entry that was found behind a word
-entry_behind : (models stations : ℕ) (line key rest word : List ℕ) (e : SeqEntry) → line ≡ word ++ 32 ∷ rest
-    → word ≡ key
-    → EntryFound models stations (key ++ 32 ∷ rest) e → EntryFound models stations line e
-entry_behind models stations line key rest word e p q x = record {
-  rem = x.rem;
-  starts = x.starts;
-  least = x.least;
-  cites = x.cites;
-  many = x.many;
-  wide = x.wide;
+entry_behind : (v : Version) (models stations : ℕ) (line key rest word : List ℕ) (e : SeqEntry)
+    → line ≡ word ++ 32 ∷ rest → word ≡ key
+    → EntryFound v models stations (key ++ 32 ∷ rest) e → EntryFound v models stations line e
+entry_behind v models stations line key rest word e p q x = record {
+  written = x.written;
+  may = x.may;
   text = x.text ∙ ap (λ w. w ++ 32 ∷ rest) (sym q) ∙ sym p;
   is = x.is;
 }
 
-pub entry_found : (models stations : ℕ) (line : List ℕ) (e : SeqEntry) → entry_in models stations line ≡ Some e
-    → EntryFound models stations line e
+charge_behind : (v : Version) (models stations : ℕ) (line rest word : List ℕ) (e : SeqEntry)
+    → line ≡ word ++ 32 ∷ rest → charge_in v stations word rest ≡ Some e → EntryFound v models stations line e
+charge_behind version.One models stations line rest word e p h = absurd (none-some e h)
+charge_behind version.Two models stations line rest word e p h =
+    elim (chosen (bytes_eq word (codes "charge")) (cited_in citing.Charge 1 stations rest) None (Some e) h) [
+      | inl a ↦ entry_behind version.Two models stations line (codes "charge") rest word e p
+          (same_bytes word (codes "charge") a.0) (charge_found models stations rest e a.1)
+      | inr a ↦ absurd (none-some e a.1)
+    ]
+
+pub entry_found : (v : Version) (models stations : ℕ) (line : List ℕ) (e : SeqEntry)
+    → entry_in v models stations line ≡ Some e → EntryFound v models stations line e
 unfolding entry_in
-entry_found models stations line e h =
-    let k = bind_some (parts_at 32 line) (λ k. by_word models stations k.0 k.1) e h in
+entry_found v models stations line e h =
+    let k = bind_some (parts_at 32 line) (λ k. by_word v models stations k.0 k.1) e h in
     let p = split_parts 32 line k.0 k.1 in
     elim (chosen (bytes_eq k.0.0 (codes "bound")) (bound_in models stations k.0.1)
-    (cond (bytes_eq k.0.0 (codes "branch")) (branch_in models stations k.0.1) None) (Some e) k.2) [
-      | inl a ↦ entry_behind models stations line (codes "bound") k.0.1 k.0.0 e p (same_bytes k.0.0 (codes "bound") a.0)
-          (bound_found models stations k.0.1 e a.1)
-      | inr a ↦ elim (chosen (bytes_eq k.0.0 (codes "branch")) (branch_in models stations k.0.1) None (Some e) a.1) [
-        | inl b ↦ entry_behind models stations line (codes "branch") k.0.1 k.0.0 e p
-            (same_bytes k.0.0 (codes "branch") b.0)
-            (branch_found models stations k.0.1 e b.1)
-        | inr b ↦ absurd (none-some e b.1)
-      ]
+    (cond (bytes_eq k.0.0 (codes "branch")) (cited_in citing.Branch models stations k.0.1)
+    (charge_in v stations k.0.0 k.0.1)) (Some e) k.2) [
+      | inl a ↦ entry_behind v models stations line (codes "bound") k.0.1 k.0.0 e p
+          (same_bytes k.0.0 (codes "bound") a.0)
+          (bound_found v models stations k.0.1 e a.1)
+      | inr a ↦ elim (chosen (bytes_eq k.0.0 (codes "branch")) (cited_in citing.Branch models stations k.0.1)
+          (charge_in v stations k.0.0 k.0.1) (Some e) a.1) [
+            | inl b ↦ entry_behind v models stations line (codes "branch") k.0.1 k.0.0 e p
+                (same_bytes k.0.0 (codes "branch") b.0)
+                (branch_found v models stations k.0.1 e b.1)
+            | inr b ↦ charge_behind v models stations line k.0.1 k.0.0 e p b.1
+          ]
     ]
 
 -- last models
@@ -312,7 +406,7 @@ open_again rem starts need last cites =
     let r : List ℕ = number_or_none last ++ 32 ∷ cites_text cites in
     ap (λ o. o >>= λ s. number_first s.1 >>= λ l. parts_at 32 l.1 >>= λ w. last_in w.0 >>= λ k. cites_in
     w.1 >>= λ cs. Some (the_frame s.0.0 s.0.1 l.0 k cs))
-    (state_again rem starts (number_text need ++ 32 ∷ r))
+    (state_again (length rem) (length starts) rem starts (number_text need ++ 32 ∷ r) refl refl)
     ∙ ap (λ o. o >>= λ l. parts_at 32 l.1 >>= λ w. last_in w.0 >>= λ k. cites_in w.1 >>= λ cs. Some
     (the_frame (map sat rem) (map sat starts) l.0 k cs))
     (number_first_again need r)

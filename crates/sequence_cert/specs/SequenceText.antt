@@ -1,8 +1,8 @@
--- The text of a certificate of a sequence of least utility work.
+-- The text of a certificate of a sequence of least utility work: version 1, or version 2 where there are charges.
 use Rattle.std.specs.Prelude.{ℕ, suc, List, [], ◌∷◌, ◌++◌, length, map, Option, Some, None, codes}
 use Rattle.line_rules.specs.declared.types.LineKind.TheVariants.{Straight}
 use Rattle.line_rules.specs.declared.types.Side.TheVariants.{Front}
-use Rattle.cert_lines.specs.Rows.{Row, fixed, keyed, seat, state_entry, state_frame, rows_text}
+use Rattle.cert_lines.specs.Rows.{Row, fixed, keyed, seat, state_entry, state_frame, row_entry, joined, rows_text}
 use Rattle.sequence_values.specs.declared.types.SeqEntry.{SeqEntry}
 use Rattle.sequence_values.specs.declared.types.SeqFrame.{SeqFrame}
 use Rattle.sequence_values.specs.declared.types.SeqWhy.{SeqWhy}
@@ -13,14 +13,16 @@ use Rattle.sequence_values.specs.declared.types.SeqCert.{SeqCert}
 abbrev pub unit_row : ℕ → Row
 unit_row model = seat Straight (suc model) Front
 
--- the cites of an entry, where it branches
-abbrev pub cited : SeqWhy → Option (List ℕ)
-cited why.Bound = None
-cited (why.Branch cites) = Some cites
+-- the line of an entry by its reason: by Charge the units of the rows stand in place of what is left of each model
+-- (own)
+abbrev pub row_by : SeqEntry → SeqWhy → Row
+row_by e why.Bound = state_entry e.rem e.starts e.least None
+row_by e (why.Branch cites) = state_entry e.rem e.starts e.least (Some cites)
+row_by e (why.Charge cites) = row_entry e.rem e.starts e.least cites
 
 -- the line of an entry
 abbrev pub entry_row : SeqEntry → Row
-entry_row e = state_entry e.rem e.starts e.least (cited e.why)
+entry_row e = row_by e e.why
 
 -- a model, where there is one, counted from 1
 abbrev pub counted : Option ℕ → Option ℕ
@@ -35,11 +37,27 @@ frame_row f = state_frame f.rem f.starts f.need (counted f.last) f.cites
 abbrev pub counted_rows : {V : Type 0} → List ℕ → (V → Row) → List V → List Row
 counted_rows key row vs = keyed key (length vs) ∷ map row vs
 
--- the lines of the numbers of models and of stations, and of the bounds
-abbrev pub head_rows : ℕ → ℕ → ℕ → ℕ → List Row
-head_rows models stations lower upper =
-    keyed (codes "models") models ∷ keyed (codes "stations") stations
-    ∷ keyed (codes "lower") lower ∷ keyed (codes "upper") upper ∷ []
+-- the first line: version 2 where there are charges, else version 1 (own)
+abbrev pub first_line : Option (List ℕ) → List ℕ
+first_line None = codes "utility sequence certificate 1"
+first_line (Some charges) = codes "utility sequence certificate 2"
+
+-- the lines of the numbers of models and of stations
+abbrev pub size_rows : ℕ → ℕ → List Row
+size_rows models stations = keyed (codes "models") models ∷ keyed (codes "stations") stations ∷ []
+
+-- the line of the charges of the models (own)
+abbrev pub charges_row : List ℕ → Row
+charges_row charges = joined (codes "charges") charges
+
+-- the same, where there are charges; else no line (own)
+abbrev pub charges_rows : Option (List ℕ) → List Row
+charges_rows None = []
+charges_rows (Some charges) = charges_row charges ∷ []
+
+-- the lines of the bounds
+abbrev pub bound_rows : ℕ → ℕ → List Row
+bound_rows lower upper = keyed (codes "lower") lower ∷ keyed (codes "upper") upper ∷ []
 
 -- the lines of the sequence, of the entries and of the frames
 abbrev pub unit_rows : List ℕ → List Row
@@ -58,12 +76,13 @@ list_rows sequence entries frames =
 
 -- the lines behind the first one
 abbrev pub body_rows : SeqCert → List Row
-body_rows cert = head_rows cert.models cert.stations cert.lower cert.upper
-    ++ list_rows cert.sequence cert.entries cert.frames
+body_rows cert = size_rows cert.models cert.stations
+    ++ (charges_rows cert.charges
+    ++ (bound_rows cert.lower cert.upper ++ list_rows cert.sequence cert.entries cert.frames))
 
 -- The lines of a certificate.
 unfoldable pub sequence_rows : SeqCert → List Row
-sequence_rows cert = fixed (codes "utility sequence certificate 1") ∷ body_rows cert
+sequence_rows cert = fixed (first_line cert.charges) ∷ body_rows cert
 
 -- The text of a certificate.
 abbrev pub sequence_text : SeqCert → List ℕ

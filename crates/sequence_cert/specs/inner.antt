@@ -1,3 +1,4 @@
+pub mod Versions
 pub mod StateReading
 pub mod Parts
 pub mod Pieces

@@ -1,6 +1,8 @@
 //! The reading of what stands behind the first line of a certificate's text.
+use crate::charges::ChargesPart;
 use crate::counted::Counted;
 use crate::lines::{MAX_NUMBER, StateEntryLine, StateFrameLine, UnitLine};
+use crate::version::Version;
 use cert_lines::line_forms::{EndLine, Key, NumberLine};
 use cert_lines::{ReadError, Source};
 use sequence_values::SeqCert;
@@ -64,45 +66,55 @@ const FRAMES: NumberLine = NumberLine {
     high: 1001,
 };
 
-/// What stands behind the first line.
+/// What stands behind the first line of a version.
 #[derive(Clone, Copy)]
-pub(crate) struct SequenceBody;
+pub(crate) struct SequenceBody {
+    /// The version of the text.
+    pub version: Version,
+}
 
 impl Part for SequenceBody {
-    ghost use Rattle.sequence_rules.specs.Ranges.{IsInRange};
     ghost use Rattle.sequence_cert.specs.SequenceText.{body_rows};
+    ghost use Rattle.sequence_cert.specs.inner.Versions.{IsOfVersion};
 
     type Value = SeqCert;
 
     ghost rows = { λ p cert. body_rows cert };
 
-    ghost may_say = { λ p cert. IsInRange cert };
+    ghost may_say = { λ p cert. IsOfVersion p.version cert };
 
     ghost can_read = { λ p. Unit {0} };
 
     fn read<S: Source>(&self, alloc: Global, source: &mut S) -> Result<SeqCert, ReadError> {
-        let head = (MODELS, (STATIONS, (LOWER, UPPER))).read(alloc, source)?;
-        let models = head.0 as u32;
-        let stations = head.1.0 as u32;
+        let version = self.version;
+        let sizes = (MODELS, STATIONS).read(alloc, source)?;
+        let models = sizes.0 as u32;
+        let stations = sizes.1 as u32;
+        let charges = ChargesPart { version, models };
         let units = Counted {
             count: UNITS,
             pattern: UnitLine { models },
         };
         let entries = Counted {
             count: ENTRIES,
-            pattern: StateEntryLine { models, stations },
+            pattern: StateEntryLine {
+                version,
+                models,
+                stations,
+            },
         };
         let frames = Counted {
             count: FRAMES,
             pattern: StateFrameLine { models, stations },
         };
         let end = OneLine { line: EndLine };
-        let lists = (units, (entries, (frames, end))).read(alloc, source)?;
-        let (_, (_, (lower, upper))) = head;
-        let (sequence, (entries, (frames, _))) = lists;
+        let behind = (charges, ((LOWER, UPPER), (units, (entries, (frames, end)))));
+        let rest = behind.read(alloc, source)?;
+        let (charges, ((lower, upper), (sequence, (entries, (frames, _))))) = rest;
         Ok(SeqCert {
             models,
             stations,
+            charges,
             lower,
             upper,
             sequence,

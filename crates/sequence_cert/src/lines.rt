@@ -2,10 +2,11 @@
 //! is read word by word, and then its numbers are held against their ranges.
 ghost use Rattle.std.specs.Prelude.{◌≡◌, ◌≤◌, ◌↔◌, All, IsTrue, MatchResult};
 ghost use Rattle.cert_lines.specs.declared.fault.LineError.TheVariants.{Range};
-ghost use Rattle.sequence_rules.specs.Ranges.{IsWhy};
 ghost use Rattle.sequence_cert.specs.inner.StateReading.{indexed, frame_of};
-ghost use Rattle.sequence_cert.specs.inner.Parts.{IsEntryWithin, IsLastWithin, IsFrameWithin};
+ghost use Rattle.sequence_cert.specs.inner.Parts.{AreCitesWithin, IsEntryWithin, IsLastWithin};
+ghost use Rattle.sequence_cert.specs.inner.Parts.{IsFrameWithin};
 
+use crate::version::Version;
 use crate::words::{FrameDraft, entry, frame};
 use cert_lines::LineError;
 use cert_lines::pattern::Pattern;
@@ -56,8 +57,8 @@ impl Pattern for UnitLine {
     }
 }
 
-// Whether each number is at most so great.
-fn are_within(numbers: &[u64], most: u64) -> bool
+/// Whether each number is at most so great.
+pub(crate) fn are_within(numbers: &[u64], most: u64) -> bool
     ensures { IsTrue result ↔ All (λ x. x ≤ most) numbers.now }
 {
     for number in numbers {
@@ -68,13 +69,14 @@ fn are_within(numbers: &[u64], most: u64) -> bool
     true
 }
 
-// Whether the numbers of an entry's reason are within their ranges.
-fn is_why_within(why: &SeqWhy) -> bool
-    ensures { IsTrue result ↔ IsWhy why.now }
+// Whether the cites of an entry are within their range.
+fn are_cites_within(why: &SeqWhy) -> bool
+    ensures { IsTrue result ↔ AreCitesWithin why.now }
 {
     match why {
         SeqWhy::Bound => true,
         SeqWhy::Branch { cites } => are_within(cites.as_slice(), MAX_NUMBER),
+        SeqWhy::Charge { cites } => are_within(cites.as_slice(), MAX_NUMBER),
     }
 }
 
@@ -91,15 +93,17 @@ fn entry_within(entry: SeqEntry) -> Result<SeqEntry, LineError>
     if entry.least > MAX_NUMBER {
         return Err(LineError::Range);
     }
-    if !is_why_within(&entry.why) {
+    if !are_cites_within(&entry.why) {
         return Err(LineError::Range);
     }
     Ok(entry)
 }
 
-/// The line of an entry.
+/// The line of an entry. In a text of version 2 that may be one by Charge.
 #[derive(Clone, Copy)]
 pub(crate) struct StateEntryLine {
+    /// The version of the text.
+    pub version: Version,
     /// The number of models.
     pub models: u32,
     /// The number of stations.
@@ -109,17 +113,18 @@ pub(crate) struct StateEntryLine {
 impl Pattern for StateEntryLine {
     ghost use Rattle.sequence_rules.specs.Ranges.{IsEntry};
     ghost use Rattle.sequence_cert.specs.SequenceText.{entry_row};
+    ghost use Rattle.sequence_cert.specs.inner.Versions.{mark_of};
 
     type Value = SeqEntry;
 
     ghost line_of = { λ p v. entry_row v };
 
-    ghost may_say = { λ p v. IsEntry p.models p.stations v };
+    ghost may_say = { λ p v. IsEntry p.models p.stations (mark_of p.version) v };
 
     ghost can_read = { λ p. Unit {0} };
 
     fn read(&self, alloc: Global, line: &[u8]) -> Result<SeqEntry, LineError> {
-        match entry(alloc, line, self.models, self.stations) {
+        match entry(alloc, self.version, line, self.models, self.stations) {
             Err(_) => Err(LineError::Memory),
             Ok(None) => Err(LineError::Form),
             Ok(Some(entry)) => entry_within(entry),

@@ -1,6 +1,7 @@
 //! What no clause says: texts as they were written by hand, and lines that no text has.
 use crate::{SeqCertRead, read_seq, write_seq};
 use cert_lines::CertKind;
+use sequence_values::{SeqCert, SeqEntry, SeqWhy};
 use std::alloc::{AllocError, Global};
 use std::test::Fail;
 
@@ -35,6 +36,47 @@ branch 0,1,1 0 1 -
 trail 2
 open 1,1,1 0 1 3 0
 open 1,1,0 0 1 1 -
+end
+";
+
+const TWO_MODELS: &str = "utility sequence certificate 2
+models 2
+stations 1
+charges 0,1000
+lower 2
+upper 2
+units 4
+1
+2
+1
+2
+entries 4
+charge 1 0 1 -
+charge 2 0 1001 0,0
+charge 3 0 2001 1,1
+charge 4 0 3001 2,2
+trail 0
+end
+";
+
+const THREE_MODELS: &str = "utility sequence certificate 2
+models 3
+stations 1
+charges 0,1000,1000
+lower 2
+upper 2
+units 4
+1
+2
+3
+2
+entries 5
+charge 1 0 1 -
+charge 2 0 1001 0,0,0
+branch 0,2,1 1 1 -
+branch 1,1,1 1 2 1
+branch 1,2,1 0 2 2,3
+trail 0
 end
 ";
 
@@ -87,7 +129,7 @@ fn the_certificates_of_the_best_sequence_of_three_models(rt: HostRuntime) -> Res
 fn lines_that_have_no_form(rt: HostRuntime) -> Result<(), Fail> {
     let alloc = rt.alloc();
     for (number, line) in [
-        (1usize, "utility sequence certificate 2"),
+        (1usize, "utility sequence certificate 3"),
         (7, "01"),
         (11, "branch 0,1 0 1 -"),
         (11, "branch 0,1,1 0,0 1 -"),
@@ -95,6 +137,7 @@ fn lines_that_have_no_form(rt: HostRuntime) -> Result<(), Fail> {
         (11, "branch 0,1,1 0 1"),
         (11, "bound 0,1,1 0 1 -"),
         (11, "branch - 0 1 -"),
+        (11, "charge 2 0 1 -"),
     ] {
         let text = with_line(alloc, BEST, number, line)?;
         assert!(&rt; has_fault(alloc, &text, number as u64, CertKind::Form));
@@ -134,5 +177,98 @@ fn faults_of_the_end(rt: HostRuntime) -> Result<(), Fail> {
         has_fault(alloc, short, 15, CertKind::Ended)
             & has_fault(alloc, &long, 16, CertKind::Trailing)
     );
+    Ok(())
+}
+
+// Whether an entry is the one by Charge of so many units, with starts of 0 and this base and these cites.
+fn is_charge(entry: &SeqEntry, units: u64, base: u64, cites: &[u64]) -> bool {
+    let why = match &entry.why {
+        SeqWhy::Charge { cites: given } => given.as_slice() == cites,
+        SeqWhy::Bound => false,
+        SeqWhy::Branch { cites: _ } => false,
+    };
+    why & (entry.rem.as_slice() == [units].as_slice())
+        & (entry.starts.as_slice() == [0u64].as_slice())
+        & (entry.least == base)
+}
+
+// Whether a certificate is that of two models, its proof made by hand.
+fn is_two_models(cert: &SeqCert) -> bool {
+    let charged = match &cert.charges {
+        Some(charges) => charges.as_slice() == [0u64, 1000].as_slice(),
+        None => false,
+    };
+    let entries = match cert.entries.as_slice() {
+        [a, b, c, d] => {
+            is_charge(a, 1, 1, &[])
+                & is_charge(b, 2, 1001, &[0, 0])
+                & is_charge(c, 3, 2001, &[1, 1])
+                & is_charge(d, 4, 3001, &[2, 2])
+        }
+        _ => false,
+    };
+    charged
+        & entries
+        & (cert.sequence.as_slice() == [0u64, 1, 0, 1].as_slice())
+        & (cert.lower == 2)
+        & (cert.upper == 2)
+        & cert.frames.as_slice().is_empty()
+}
+
+#[test]
+fn the_certificates_with_charges_of_two_and_of_three_models(rt: HostRuntime) -> Result<(), Fail> {
+    let alloc = rt.alloc();
+    let read = match read_seq(alloc, TWO_MODELS.as_bytes()) {
+        SeqCertRead::Good(cert) => is_two_models(&cert),
+        _ => false,
+    };
+    let far = with_line(
+        alloc,
+        TWO_MODELS,
+        16,
+        "charge 1000 1000000000 1000000000000000000 7,1000000000000000000",
+    )?;
+    assert!(&rt;
+        read & is_kept(alloc, TWO_MODELS)? & is_kept(alloc, THREE_MODELS)? & is_kept(alloc, &far)?
+    );
+    Ok(())
+}
+
+#[test]
+fn lines_of_charges_and_of_entries_by_charge_that_have_no_form(
+    rt: HostRuntime,
+) -> Result<(), Fail> {
+    let alloc = rt.alloc();
+    for (number, line, fault) in [
+        (1usize, "utility sequence certificate 1", 4u64),
+        (4, "charges 0,1000", 4),
+        (4, "charges 0,1000,1000,0", 4),
+        (4, "charges -", 4),
+        (4, "lower 2", 4),
+        (13, "charge 1,1,1 0 1 -", 13),
+        (13, "charge - 0 1 -", 13),
+        (13, "charge 1 0,0 1 -", 13),
+        (13, "charge 1 0 1", 13),
+        (13, "charges 1 0 1 -", 13),
+    ] {
+        let text = with_line(alloc, THREE_MODELS, number, line)?;
+        assert!(&rt; has_fault(alloc, &text, fault, CertKind::Form));
+    }
+    Ok(())
+}
+
+#[test]
+fn charges_and_bases_out_of_their_ranges(rt: HostRuntime) -> Result<(), Fail> {
+    let alloc = rt.alloc();
+    for (number, line) in [
+        (4usize, "charges 0,1000,100000000000001"),
+        (13, "charge 1001 0 1 -"),
+        (13, "charge 1 1000000001 1 -"),
+        (13, "charge 1 0 1000000000000000001 -"),
+        (13, "charge 1 0 1 1000000000000000001"),
+    ] {
+        let text = with_line(alloc, THREE_MODELS, number, line)?;
+        assert!(&rt; has_fault(alloc, &text, number as u64, CertKind::Range));
+    }
     Ok(())
 }

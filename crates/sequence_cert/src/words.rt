@@ -1,10 +1,11 @@
-//! The reading of the lines of entries and of frames, before their numbers are held against their ranges.
+//! The reading of the lines of charges, of entries and of frames, before their numbers are held against their ranges.
 //!
 //! A line is split at its blanks, one word after the other. Reading takes memory for the numbers of its words alone.
 ghost use Rattle.std.specs.Prelude.{◌≡◌, IfOk, option_map};
-ghost use Rattle.sequence_cert.specs.inner.StateReading.{many_in, bound_in, branch_in, entry_in, last_in, open_in};
-ghost use Rattle.sequence_cert.specs.inner.StateReading.{state_in, frame_in};
+ghost use Rattle.sequence_cert.specs.inner.StateReading.{many_in, charges_in, state_in, bound_in, why_of, cited_in};
+ghost use Rattle.sequence_cert.specs.inner.StateReading.{charge_in, entry_in, last_in, open_in, frame_in};
 
+use crate::version::Version;
 use cert_lines::words::{cites_of, first_number, is_none, number, split_at};
 use sequence_values::{Numbers, SeqEntry, SeqWhy};
 use std::alloc::{AllocError, Global};
@@ -36,6 +37,24 @@ fn many(alloc: Global, word: &[u8], count: u32) -> Result<Option<Numbers>, Alloc
         return Ok(None);
     }
     Ok(Some(numbers))
+}
+
+/// The charges of so many models. An error where memory is wanting.
+#[tactic(auto, unfolding(crate::specs::inner::StateReading::charges_in))]
+pub(crate) fn charges(
+    alloc: Global,
+    line: &[u8],
+    models: u32,
+) -> Result<Option<Numbers>, AllocError>
+    ensures { IfOk result (λ ns. ns ≡ charges_in models line.now) }
+{
+    let Some((word, rest)) = split_at(line, b' ') else {
+        return Ok(None);
+    };
+    if word == b"charges".as_slice() {
+        return many(alloc, rest, models);
+    }
+    Ok(None)
 }
 
 /// The numbers of a state, and what stands behind them.
@@ -99,15 +118,37 @@ fn bound(
     }))
 }
 
-// What an entry that branches says behind its first word.
-#[tactic(auto, unfolding(crate::specs::inner::StateReading::branch_in))]
-fn branch(
+/// The reasons that have cites.
+#[derive(Clone, Copy)]
+pub(crate) enum Citing {
+    /// By Branch.
+    Branch,
+    /// By Charge.
+    Charge,
+}
+
+impl Citing {
+    // The reason with these cites.
+    fn why(self, cites: Numbers) -> SeqWhy
+        ensures { result ≡ why_of self cites }
+    {
+        match self {
+            Citing::Branch => SeqWhy::Branch { cites },
+            Citing::Charge => SeqWhy::Charge { cites },
+        }
+    }
+}
+
+// What an entry with cites says behind its first word.
+#[tactic(auto, unfolding(crate::specs::inner::StateReading::cited_in))]
+fn cited(
     alloc: Global,
+    kind: Citing,
     bytes: &[u8],
     models: u32,
     stations: u32,
 ) -> Result<Option<SeqEntry>, AllocError>
-    ensures { IfOk result (λ e. e ≡ branch_in models stations bytes.now) }
+    ensures { IfOk result (λ e. e ≡ cited_in kind models stations bytes.now) }
 {
     let Some(StateFront { rem, starts, rest }) = state(alloc, bytes, models, stations)? else {
         return Ok(None);
@@ -122,19 +163,41 @@ fn branch(
         rem,
         starts,
         least,
-        why: SeqWhy::Branch { cites },
+        why: kind.why(cites),
     }))
 }
 
-/// What the line of an entry says. An error where memory is wanting.
+// What an entry by Charge says, which stands in version 2 alone and has one number of units.
+fn charge(
+    alloc: Global,
+    version: Version,
+    word: &[u8],
+    rest: &[u8],
+    stations: u32,
+) -> Result<Option<SeqEntry>, AllocError>
+    ensures { IfOk result (λ e. e ≡ charge_in version stations word.now rest.now) }
+{
+    match version {
+        Version::One => Ok(None),
+        Version::Two => {
+            if word == b"charge".as_slice() {
+                return cited(alloc, Citing::Charge, rest, 1, stations);
+            }
+            Ok(None)
+        }
+    }
+}
+
+/// What the line of an entry says in a text of this version. An error where memory is wanting.
 #[tactic(auto, unfolding(crate::specs::inner::StateReading::entry_in))]
 pub(crate) fn entry(
     alloc: Global,
+    version: Version,
     line: &[u8],
     models: u32,
     stations: u32,
 ) -> Result<Option<SeqEntry>, AllocError>
-    ensures { IfOk result (λ e. e ≡ entry_in models stations line.now) }
+    ensures { IfOk result (λ e. e ≡ entry_in version models stations line.now) }
 {
     let Some((word, rest)) = split_at(line, b' ') else {
         return Ok(None);
@@ -143,9 +206,9 @@ pub(crate) fn entry(
         return bound(alloc, rest, models, stations);
     }
     if word == b"branch".as_slice() {
-        return branch(alloc, rest, models, stations);
+        return cited(alloc, Citing::Branch, rest, models, stations);
     }
-    Ok(None)
+    charge(alloc, version, word, rest, stations)
 }
 
 // The last model that a word is, counted from 1, or the mark of none.

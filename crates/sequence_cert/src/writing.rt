@@ -1,11 +1,12 @@
 //! The writing of a certificate's text.
 ghost use Rattle.std.specs.Prelude.{◌≡◌, ◌<◌, All, IfOk};
-ghost use Rattle.cert_lines.specs.Rows.{number_or_none, line_text, rows_text};
+ghost use Rattle.cert_lines.specs.Rows.{number_or_none, fixed, line_text, rows_text};
 ghost use Rattle.cert_text.specs.Sent.{Puts};
 ghost use Rattle.sequence_rules.specs.Ranges.{IsInRange};
-ghost use Rattle.sequence_cert.specs.SequenceText.{unit_row, entry_row, counted, frame_row, head_rows, unit_rows};
-ghost use Rattle.sequence_cert.specs.SequenceText.{entry_rows, frame_rows, sequence_text};
-ghost use Rattle.sequence_cert.specs.inner.Pieces.{state_text};
+ghost use Rattle.sequence_cert.specs.SequenceText.{unit_row, entry_row, counted, frame_row, first_line};
+ghost use Rattle.sequence_cert.specs.SequenceText.{size_rows, charges_rows, bound_rows, unit_rows, entry_rows};
+ghost use Rattle.sequence_cert.specs.SequenceText.{frame_rows, sequence_text};
+ghost use Rattle.sequence_cert.specs.inner.Pieces.{state_text, cited_text};
 
 use cert_text::{KeptText, Output, put_cites, put_keyed, put_number, put_text};
 use sequence_values::{Numbers, SeqCert, SeqEntries, SeqEntry, SeqFrame, SeqFrames, SeqWhy};
@@ -22,6 +23,18 @@ fn put_state<O: Output>(out: &mut O, rem: &Numbers, starts: &Numbers)
     out.put(b' ');
 }
 
+// Puts what an entry with cites says behind its first word.
+fn put_cited<O: Output>(out: &mut O, entry: &SeqEntry, cites: &Numbers)
+    ensures { Puts O.told (O.sent out.old) (cited_text entry.now.rem entry.now.starts entry.now.least cites.now)
+        (O.sent out.new) }
+{
+    put_state(out, &entry.rem, &entry.starts);
+    put_number(out, entry.least);
+    out.put(b' ');
+    put_cites(out, cites.as_slice());
+    out.put(b'\n');
+}
+
 // Puts the line of an entry.
 fn put_entry<O: Output>(out: &mut O, entry: &SeqEntry)
     ensures { Puts O.told (O.sent out.old) (line_text (entry_row entry.now)) (O.sent out.new) }
@@ -35,11 +48,11 @@ fn put_entry<O: Output>(out: &mut O, entry: &SeqEntry)
         }
         SeqWhy::Branch { cites } => {
             put_text(out, b"branch");
-            put_state(out, &entry.rem, &entry.starts);
-            put_number(out, entry.least);
-            out.put(b' ');
-            put_cites(out, cites.as_slice());
-            out.put(b'\n');
+            put_cited(out, entry, cites);
+        }
+        SeqWhy::Charge { cites } => {
+            put_text(out, b"charge");
+            put_cited(out, entry, cites);
         }
     }
 }
@@ -108,15 +121,44 @@ fn put_frames<O: Output>(out: &mut O, frames: &SeqFrames)
     }
 }
 
-// Puts the lines of the numbers of models and of stations, and of the bounds.
-fn put_head<O: Output>(out: &mut O, cert: &SeqCert)
-    ensures { Puts O.told (O.sent out.old)
-        (rows_text (head_rows cert.now.models cert.now.stations cert.now.lower cert.now.upper)) (O.sent out.new) }
+// Puts the first line: version 2 where there are charges, else version 1.
+fn put_first<O: Output>(out: &mut O, charges: &Option<Numbers>)
+    ensures { Puts O.told (O.sent out.old) (line_text (fixed (first_line charges.now))) (O.sent out.new) }
 {
-    put_keyed(out, b"models", u64::from(cert.models));
-    put_keyed(out, b"stations", u64::from(cert.stations));
-    put_keyed(out, b"lower", cert.lower);
-    put_keyed(out, b"upper", cert.upper);
+    match charges {
+        None => put_text(out, b"utility sequence certificate 1\n"),
+        Some(_) => put_text(out, b"utility sequence certificate 2\n"),
+    }
+}
+
+// Puts the lines of the numbers of models and of stations.
+fn put_sizes<O: Output>(out: &mut O, models: u32, stations: u32)
+    ensures { Puts O.told (O.sent out.old) (rows_text (size_rows models stations)) (O.sent out.new) }
+{
+    put_keyed(out, b"models", u64::from(models));
+    put_keyed(out, b"stations", u64::from(stations));
+}
+
+// Puts the line of the charges, where there are some.
+fn put_charges<O: Output>(out: &mut O, charges: &Option<Numbers>)
+    ensures { Puts O.told (O.sent out.old) (rows_text (charges_rows charges.now)) (O.sent out.new) }
+{
+    match charges {
+        None => {}
+        Some(charges) => {
+            put_text(out, b"charges ");
+            put_cites(out, charges.as_slice());
+            out.put(b'\n');
+        }
+    }
+}
+
+// Puts the lines of the bounds.
+fn put_bounds<O: Output>(out: &mut O, lower: u64, upper: u64)
+    ensures { Puts O.told (O.sent out.old) (rows_text (bound_rows lower upper)) (O.sent out.new) }
+{
+    put_keyed(out, b"lower", lower);
+    put_keyed(out, b"upper", upper);
 }
 
 // Puts the lines of a certificate.
@@ -124,8 +166,10 @@ fn put_sequence<O: Output>(out: &mut O, cert: &SeqCert)
     requires { All (λ m. m < 16) cert.now.sequence }
     ensures { Puts O.told (O.sent out.old) (sequence_text cert.now) (O.sent out.new) }
 {
-    put_text(out, b"utility sequence certificate 1\n");
-    put_head(out, cert);
+    put_first(out, &cert.charges);
+    put_sizes(out, cert.models, cert.stations);
+    put_charges(out, &cert.charges);
+    put_bounds(out, cert.lower, cert.upper);
     put_units(out, &cert.sequence);
     put_entries(out, &cert.entries);
     put_frames(out, &cert.frames);

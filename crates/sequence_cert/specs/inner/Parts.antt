@@ -2,10 +2,14 @@
 use Rattle.std.specs.Prelude.{◌≡◌, ℕ, ◌≤◌, List, All, length, slice_get, Option, Some, None}
 use Rattle.cert_lines.specs.Rows.{Row}
 use Rattle.cert_lines.specs.Faults.{Grammar}
-use Rattle.sequence_rules.specs.Ranges.{IsNumber, IsWhy, IsInRange}
+use Rattle.sequence_rules.specs.Ranges.{IsNumber}
 use Rattle.sequence_values.specs.declared.types.SeqCert.{SeqCert}
 use Rattle.sequence_values.specs.declared.types.SeqEntry.{SeqEntry}
-use Rattle.sequence_cert.specs.SequenceText.{counted_rows, body_rows}
+use Rattle.sequence_values.specs.declared.types.SeqWhy.{SeqWhy}
+use Rattle.sequence_values.specs.declared.types.SeqWhy.TheVariants as why
+use Rattle.sequence_cert.specs.SequenceText.{counted_rows, charges_rows, body_rows}
+use Rattle.sequence_cert.specs.inner.Versions.{AreChargesIn, IsOfVersion}
+use Rattle.sequence_cert.specs.declared.version.Version.{Version}
 use Rattle.sequence_cert.specs.declared.words.FrameDraft.{FrameDraft}
 
 -- 1 to 16 models
@@ -18,12 +22,18 @@ abbrev pub IsLastWithin : ℕ → Option ℕ → Type 0
 IsLastWithin models None = Unit {0}
 IsLastWithin models (Some n) = (1 ≤ n) × (n ≤ models)
 
+-- cites of the line of an entry within their range
+abbrev pub AreCitesWithin : SeqWhy → Type 0
+AreCitesWithin why.Bound = Unit {0}
+AreCitesWithin (why.Branch cites) = All IsNumber cites
+AreCitesWithin (why.Charge cites) = All IsNumber cites
+
 -- numbers of the line of an entry within their ranges
 pub record IsEntryWithin (e : SeqEntry) : Type 0 where
   pub units : All (λ n. n ≤ 1000) e.rem
   pub begun : All (λ s. s ≤ 1000000000) e.starts
   pub least : IsNumber e.least
-  pub why : IsWhy e.why
+  pub cites : AreCitesWithin e.why
 
 -- numbers of the line of a frame within their ranges
 pub record IsFrameWithin (models : ℕ) (d : FrameDraft) : Type 0 where
@@ -42,6 +52,10 @@ pub record IsCounted {V : Type 0} (low high : ℕ) (ranged : V → Type 0) (vs :
 abbrev pub counteds : {V : Type 0} → List ℕ → ℕ → ℕ → (V → Row) → (V → Type 0) → Grammar (List V)
 counteds key low high row ranged = record { rows = counted_rows key row; ranged = IsCounted low high ranged }
 
--- what stands behind the first line
-abbrev pub bodies : Grammar SeqCert
-bodies = record { rows = body_rows; ranged = IsInRange }
+-- the line of the charges, where the version has it
+abbrev pub chargeds : Version → ℕ → Grammar (Option (List ℕ))
+chargeds v models = record { rows = charges_rows; ranged = AreChargesIn v models }
+
+-- what stands behind the first line of a version
+abbrev pub bodies : Version → Grammar SeqCert
+bodies v = record { rows = body_rows; ranged = IsOfVersion v }
