@@ -13,6 +13,8 @@ mod gate_tests;
 #[cfg(test)]
 mod runs;
 #[cfg(test)]
+mod sequence_tests;
+#[cfg(test)]
 mod solve_tests;
 #[cfg(test)]
 mod step_tests;

@@ -1,5 +1,5 @@
 //! Runs one after another, where a later one reads what an earlier one wrote: the worked rows of mixes, of warm starts,
-//! of seeks, of pictures, of least products and of sequences.
+//! of seeks, of pictures and of least products.
 use crate::runs::{files, first_wrong, run_words, slashed, unslashed};
 use command_outcome::Status;
 use line_io::MemSink;
@@ -164,33 +164,6 @@ lower 16|lower 17|refused: goal 2/
 bound 6 f8 2|bound 7 f8 2|refused: entry 0 bound 2/
 f8 2 -|f8 2 0|refused: entry 3 spare/
 stations 2 4|stations 2|certificate: line 4 form/";
-
-/// The same of the sequence of least utility work.
-const SEQUENCES: &str = "combine m.csv k.in2|0|combined tasks 1 demand 3/
-solve k.in2 cycle=21 helpers=0 cert=k.cert|0|optimal 1/idle 2/station 1: 1/
-sequence m.csv k.cert interval=7 length=8 units=7 out=o.cert|0|optimal utility 1/sequence: A B C/
-sequence-check m.csv k.cert o.cert interval=7 length=8|0|accepted utility lower 1 upper 1 units 7/
-sequence-check m.csv k.cert o.cert interval=7 length=8 steps=6|8|steps ended at 6/
-sequence-check m.csv k.cert o.cert interval=7 length=7|7|refused: total 2/
-sequence m.csv k.cert interval=7 length=8 units=6 out=s.cert|1|stopped by units/bounds 0 1/sequence: A B C/
-sequence-check m.csv k.cert s.cert interval=7 length=8|0|accepted utility lower 0 upper 1 units 6/
-sequence-check m.csv k.cert k.cert interval=7 length=8|7|certificate: line 1 form/
-sequence-check m.csv k.cert none.cert interval=7 length=8|4|read fault: none.cert/
-sequence-check m.csv k.cert spare.cert interval=7 length=8|7|refused: entry 1 spare/
-sequence-check m.csv k.cert rootless.cert interval=7 length=8|7|refused: goal/
-sequence m.csv k.cert interval=6 length=8|7|refused: balance overfull 1 19/
-sequence sixteen.csv mix-of-one.cert interval=1 length=1|0|optimal utility 0/sequence: A B C D E F G H I J K L M N O P/
-sequence m.csv mix-in-64.cert interval=7 length=8|0|optimal utility 1/sequence: A B C/
-sequence m.csv mix-in-65.cert interval=7 length=8|3|input: m.csv too large/
-combine one.csv one.in2|0|combined tasks 1 demand 3/
-solve one.in2 cycle=27 helpers=0 cert=one.cert|0|optimal 1/idle 0/station 1: 1/
-sequence one.csv one.cert interval=9 length=8 out=p.cert|0|optimal utility 3/sequence: A A A/
-sequence-check one.csv one.cert p.cert interval=9 length=8|0|accepted utility lower 3 upper 3 units 3/
-sequence-check one.csv one.cert o.cert interval=9 length=8|7|refused: models 3/
-combine many.csv many.in2|0|combined tasks 1 demand 1001/
-solve many.in2 cycle=1001 helpers=0 cert=many.cert|0|optimal 1/idle 0/station 1: 1/
-sequence many.csv many.cert interval=1 length=8|3|input: many.csv too large/
-sequence-check many.csv many.cert none.cert interval=1 length=8|3|input: many.csv too large/";
 
 /// The same of a certificate that cites by hundreds.
 const HUNDREDS: &str =
@@ -370,20 +343,6 @@ fn certificates_of_products_that_are_refused(rt: HostRuntime) -> Result<(), Fail
         let wrong = wrong_changed(&rt, rt.alloc(), row)?;
         assert_eq!(rt; wrong.as_str(), "");
     }
-    Ok(())
-}
-
-#[test]
-fn the_best_sequence_is_proved(rt: HostRuntime) -> Result<(), Fail> {
-    let mut shelf = files(rt.alloc(), &[])?;
-    let wrong = first_wrong(&rt, rt.alloc(), SEQUENCES, &mut shelf)?;
-    assert_eq!(rt; wrong.as_str(), "");
-    let stopped = shelf.file("s.cert").unwrap_or(b"");
-    assert!(rt;
-        stopped.ends_with(
-            b"entries 1\nbranch 0,1,1 0 1 -\ntrail 2\nopen 1,1,1 0 1 3 0\nopen 1,1,0 0 1 1 -\nend\n"
-        )
-    );
     Ok(())
 }
 

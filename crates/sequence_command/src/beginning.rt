@@ -104,8 +104,7 @@ fn sought(
         return Err(AllocError);
     };
     let room = MOST_UNITS - units;
-    let SeqWarmed::Done(kept) =
-        warm_seq(alloc, times, interval, reach, &charges, &lemmas, room)
+    let SeqWarmed::Done(kept) = warm_seq(alloc, times, interval, reach, &charges, &lemmas, room)
     else {
         return Err(AllocError);
     };
