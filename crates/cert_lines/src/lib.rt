@@ -13,4 +13,5 @@ mod source;
 pub mod words;
 
 pub use fault::{CertFault, CertKind, LineError, ReadError};
+pub use line_instance::TaskSet;
 pub use source::{Source, Taken};

@@ -6,7 +6,7 @@ use Rattle.std.proofs.lemmas.Option.{same_Some, none-some}
 use Rattle.std.proofs.lemmas.List.{ext_get_or, get_or-replicate, length-replicate, nil_from_length}
 use Rattle.line_rules.specs.Ranges.{IsCycle, IsAsked, IsPlaced, IsPlacing, AreEntries, IsEntry, IsWhy, IsFrame, IsLast}
 use Rattle.line_rules.specs.Ranges.{IsLoadLike, IsTrailOrNone}
-use Rattle.line_instance.specs.Truths.{IsEmpty}
+use Rattle.cert_lines.specs.Numbers.{IsEmpty}
 use Rattle.line_rules.specs.Balance.{IsSide}
 use Rattle.line_rules.specs.declared.types.LineKind.{LineKind}
 use Rattle.line_rules.specs.declared.types.LineKind.TheVariants.{Straight, U}

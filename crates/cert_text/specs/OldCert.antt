@@ -8,7 +8,8 @@ use Rattle.cert_lines.specs.ValueRows.{why_row, frame_row}
 use Rattle.entry_lists.specs.declared.version_one.Part.{Part}
 use Rattle.entry_lists.specs.declared.version_one.OldClaim.{OldClaim}
 use Rattle.entry_lists.specs.declared.version_one.OldClaim.TheVariants as claim
-use Rattle.entry_lists.specs.declared.version_one.OldCertificate.{OldCertificate}
+pub use Rattle.entry_lists.specs.declared.version_one.OldCertificate.{OldCertificate}
+pub use Rattle.entry_lists.specs.OldRanges.{IsOldInRange}
 use Rattle.cert_text.specs.Cert.{head_rows, bounds_rows, infeasible_rows}
 
 -- the line of an entry without its cycle

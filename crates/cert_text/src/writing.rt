@@ -9,7 +9,7 @@ ghost use Rattle.cert_lines.specs.Numbers.{member, hex_digit};
 ghost use Rattle.cert_text.specs.Sent.{Puts};
 
 use crate::output::Output;
-use line_instance::TaskSet;
+use cert_lines::TaskSet;
 use line_rules::{Load, Mode};
 
 /// Puts these bytes.

@@ -9,9 +9,7 @@ use Rattle.line_rules.specs.Ranges.{IsInRange}
 use Rattle.line_rules.specs.declared.types.Certificate.{Certificate}
 use Rattle.in2_reader.specs.ApartFile.{IsApartFile}
 use Rattle.cert_text.specs.Cert.{cert_text}
-use Rattle.cert_text.specs.OldCert.{old_text}
-use Rattle.entry_lists.specs.OldRanges.{IsOldInRange}
-use Rattle.entry_lists.specs.declared.version_one.OldCertificate.{OldCertificate}
+use Rattle.cert_text.specs.OldCert.{OldCertificate, IsOldInRange, old_text}
 use Rattle.cert_lines.specs.declared.fault.CertFault.{CertFault}
 use Rattle.cert_files.specs.From.{IsCertFrom}
 use Rattle.cert_files.specs.declared.fetching.CertFrom.TheVariants.{Fault}

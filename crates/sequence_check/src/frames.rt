@@ -8,9 +8,8 @@ ghost use Rattle.sequence_check.specs.Frames.{IsPosedFrame, IsReadyAt, IsFoundAt
 
 use crate::types::{Checked, FramesFound, SeqFrameFault, Walked};
 use crate::walks::{first_late, walk};
-use sequence_rules::{MAX_STATIONS, is_same, launch, step};
+use sequence_rules::{MAX_MODELS, MAX_STATIONS, is_same, launch, step};
 use sequence_values::{SeqEntries, SeqFrame, SeqFrames, Times};
-use utility_work::MAX_MODELS;
 
 /// Whether there are so many starts, all of them 0.
 fn are_noughts(starts: &[u64], stations: usize) -> bool

@@ -7,9 +7,8 @@ ghost use Rattle.sequence_check.specs.Walks.{IsFirstLate, AreBelow, IsPosed, Are
 ghost use Rattle.sequence_check.specs.Walks.{Takes, Lacks, Tells};
 
 use crate::types::Walked;
-use sequence_rules::{MAX_STATIONS, answers, launch, state_bound, step};
+use sequence_rules::{MAX_MODELS, MAX_STATIONS, answers, launch, state_bound, step};
 use sequence_values::{Numbers, SeqEntries, Times};
-use utility_work::MAX_MODELS;
 
 /// The first cite that isn't below `k`.
 pub(crate) fn first_late(cites: &Numbers, k: u64) -> Option<u64>

@@ -3,7 +3,7 @@
 -- of that unit. Models and stations are counted from 0, `reach` is the length of each station, and `-` stops at 0.
 use Rattle.std.specs.Prelude.{◌≡◌, ℕ, suc, ◌+◌, ◌-◌, ◌*◌, ◌≤◌, nat_eq, cond, List, [], ◌∷◌, slice_index_or, slice_set}
 use Rattle.std.specs.Prelude.{replicate, sum, count_by}
-use Rattle.utility_work.specs.Utility.{utility_of, next_start, utility_from}
+pub use Rattle.utility_work.specs.Utility.{utility_of, next_start, utility_from}
 use Rattle.sequence_values.specs.declared.types.Times.{Times}
 
 -- the sum over the places of a list, by a function of the place and of the number there

@@ -21,3 +21,4 @@ pub use charging::{listed_charges, unit_cost};
 pub use comparing::{is_no_later, is_same};
 pub use sequences::{is_sequence_of, sequence_cost};
 pub use steps::{MAX_STATIONS, launch, state_bound, step, unit_work, units_left};
+pub use utility_work::MAX_MODELS;

@@ -4,9 +4,8 @@ use Rattle.std.proofs.Common.{sym, ap, ◌∙◌, subst, arith, sum}
 use Rattle.std.specs.List.{AllZip}
 use Rattle.std.proofs.lemmas.List.{length-replicate, get_or_default}
 use Rattle.std.proofs.lemmas.Nat.{le-div}
-use Rattle.utility_work.specs.Utility.{next_start}
 use Rattle.sequence_values.specs.declared.types.Times.{Times}
-use Rattle.sequence_rules.specs.States.{unit_work, next_starts, root_starts}
+use Rattle.sequence_rules.specs.States.{unit_work, next_starts, root_starts, next_start}
 use Rattle.sequence_rules.specs.Ranges.{AreTimes, IsPlace, AreLight}
 use Rattle.sequence_rules.proofs.SumFacts.{length-value_at_each}
 use Rattle.sequence_rules.proofs.UnitCounts.{noughts}

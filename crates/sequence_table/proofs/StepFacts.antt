@@ -1,9 +1,8 @@
 -- Starts that are no later, and where a step leads from them.
 use Rattle.std.proofs.Common.{ℕ, suc, ◌≤◌, List, [], ◌∷◌, arith}
 use Rattle.std.specs.List.{AllZip}
-use Rattle.utility_work.specs.Utility.{next_start}
 use Rattle.sequence_values.specs.declared.types.Times.{Times}
-use Rattle.sequence_rules.specs.States.{unit_work, value_at_each, next_starts}
+use Rattle.sequence_rules.specs.States.{unit_work, value_at_each, next_starts, next_start}
 
 -- the same starts are no later
 pub no_later_same : (xs : List ℕ) → AllZip (λ a b. a ≤ b) xs xs

@@ -14,11 +14,10 @@ ghost use Rattle.sequence_table.specs.Calls.{IsOpened};
 
 use crate::known::KnownStarts;
 use crate::types::{Opened, Tabled};
-use sequence_rules::{MAX_STATIONS, step, unit_cost, units_left};
+use sequence_rules::{MAX_MODELS, MAX_STATIONS, step, unit_cost, units_left};
 use sequence_values::{Numbers, Times};
 use std::alloc::{AllocError, Global};
 use std::marker::Model;
-use utility_work::MAX_MODELS;
 
 /// A table of nodes. Contracts see the works that its steps are of, the launch interval, the length of each station,
 /// the starts of each node, and the next node of each node and model.
