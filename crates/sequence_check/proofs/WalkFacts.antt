@@ -34,18 +34,17 @@ cited_from charges es k cite entry rem rem' starts starts' need need' l g a r s 
     }
 
 -- the same of an entry that serves units
-pub served_from : (es : List SeqEntry) (k cite : ℕ) (entry : SeqEntry) (units units' : ℕ) (starts starts' : List ℕ)
-    (need need' : ℕ)
-    → cite < k → slice_get es cite ≡ Some entry → Serves entry units' starts' need' → units' ≡ units → starts' ≡ starts
-    → need' ≡ need → IsServed (take k es) cite units starts need
-served_from es k cite entry units units' starts starts' need need' l g a u s n =
-    let P : ℕ → Type 0 = λ z. Serves entry z starts' need' in
-    let Q : List ℕ → Type 0 = λ z. Serves entry units z need' in
-    let R : ℕ → Type 0 = λ z. Serves entry units starts z in
+pub served_from : (es : List SeqEntry) (k cite units units' : ℕ) (starts starts' : List ℕ) (need need' : ℕ)
+    → cite < k → IsServed es cite units' starts' need' → units' ≡ units → starts' ≡ starts → need' ≡ need
+    → IsServed (take k es) cite units starts need
+served_from es k cite units units' starts starts' need need' l s u b n =
+    let P : ℕ → Type 0 = λ z. Serves s.entry z starts' need' in
+    let Q : List ℕ → Type 0 = λ z. Serves s.entry units z need' in
+    let R : ℕ → Type 0 = λ z. Serves s.entry units starts z in
     record {
-      entry = entry;
-      there = get_taken es k cite entry l g;
-      serves = subst R n (subst Q s (subst P u a));
+      entry = s.entry;
+      there = get_taken es k cite s.entry l s.there;
+      serves = subst R n (subst Q b (subst P u s.serves));
     }
 
 module _ (needs : ℕ → Bool) (Cited : ℕ → ℕ → Type 0) (cites : List ℕ) where

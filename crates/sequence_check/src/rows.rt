@@ -2,13 +2,23 @@
 //! charged cost is below the base.
 //!
 //! A unit takes time proportional to the stations.
-ghost use Rattle.std.specs.Prelude.{◌<◌, ◌≤◌, length, take, true, IsNone, IfSome};
-ghost use Rattle.sequence_rules.specs.Entries.{row_units, is_light};
+ghost use Rattle.std.specs.Prelude.{◌≡◌, ℕ, ◌<◌, ◌≤◌, ◌↔◌, length, take, slice_get, Some, true, IsTrue, IsNone, IfSome};
+ghost use Rattle.sequence_values.specs.declared.types.SeqEntry.{SeqEntry as Step};
+ghost use Rattle.sequence_rules.specs.Entries.{row_units, IsServed, is_light};
 ghost use Rattle.sequence_check.specs.Walks.{AreBelow, IsPosedRow, AreCitable, ServesUnit, Takes, Lacks, Tells};
 
 use crate::types::Walked;
 use sequence_rules::{MAX_STATIONS, serves, unit_cost, units_left};
 use sequence_values::{Numbers, SeqEntries, SeqEntry, Times};
+
+/// Whether the entry of a number serves so many units from these starts and a need.
+fn is_served(entries: &SeqEntries, cite: usize, units: u64, starts: &[u64], need: u64) -> bool
+    requires cite { cite < length entries.now }
+    requires rows { (k : ℕ) (e : Step) → slice_get entries.now k ≡ Some e → row_units e ≤ 16000 }
+    ensures { IsTrue result ↔ IsServed entries.now cite units starts.now need }
+{
+    serves(entries.at(cite), units, starts, need)
+}
 
 /// How many cites are taken with a unit of a model, of which `taken` are taken before it; the entries below `k` may be
 /// cited. None where the unit needs a cite and none is left, or where its cite doesn't serve it.
@@ -47,8 +57,8 @@ fn taken_with(
         return None;
     }
     let rest = units_left(entry.rem.as_slice()) - 1;
-    let cited = entries.at(*cites.at(taken) as usize);
-    if !serves(cited, rest, next, entry.least - cost) {
+    let cite = *cites.at(taken) as usize;
+    if !is_served(entries, cite, rest, next, entry.least - cost) {
         return None;
     }
     Some(taken + 1)

@@ -28,11 +28,11 @@ returns-clause-some c =
       c.at.result.now,
       (
         c.at.ensures,
-        served_from c.args.entries.now c.args.k c.at.result.now c.at-cited.result.now (row_units c.args.entry.now - 1) _
+        served_from c.args.entries.now c.args.k c.at.result.now (row_units c.args.entry.now - 1) _
             (next_starts c.args.times.now c.args.interval c.args.reach c.args.model c.args.entry.now.starts) _
             (c.args.entry.now.least
             - unit_cost c.args.times.now c.args.reach c.args.charges.now c.args.entry.now.starts c.args.model) _
-            low c.at-cited.ensures (c.serves.ensures.0 c.if-not-serves.false) units next
+            low (c.is_served.ensures.0 c.if-not-is_served.false) units next
             (ap (λ (z : ℕ). c.args.entry.now.least - z) cost),
       ),
     )

@@ -1,0 +1,4 @@
+pub mod NumberFacts
+pub mod RangeFacts
+pub mod KeepFacts
+pub mod OneKept

@@ -1,0 +1,2 @@
+pub mod Warm
+pub mod inner
