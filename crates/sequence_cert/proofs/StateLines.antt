@@ -428,7 +428,8 @@ said_state v m n rem starts least c p q =
 
 -- an entry by Charge that may be said
 some_charge : (v : Version) (m n : ℕ) → HasCharges (mark_of v) → (e : SeqEntry) × IsEntry m n (mark_of v) e
-    × (length e.rem ≡ 1) × (length e.starts ≡ n) × (form_of (entry_row e) ≡ entry_of_rows (length e.rem) (length e.starts))
+    × (length e.rem ≡ 1) × (length e.starts ≡ n)
+    × (form_of (entry_row e) ≡ entry_of_rows (length e.rem) (length e.starts))
 some_charge v m n h =
     let s = blank_state 1 n in (
       the_entry (replicate 1 0) (replicate n 0) 0 (why.Charge []),

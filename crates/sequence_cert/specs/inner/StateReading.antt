@@ -1,5 +1,5 @@
--- How the lines of charges, of units, of entries and of frames are read. Numbers are read up to 2^64 - 1, which is above each
--- range.
+-- How the lines of charges, of units, of entries and of frames are read (own). Numbers are read up to 2^64 - 1, which
+-- is above each range.
 use Rattle.std.specs.Prelude.{ℕ, ◌-◌, cond, nat_eq, bytes_eq, List, length, Option, Some, None, codes}
 use Rattle.cert_lines.specs.Words.{◌>>=◌, parts_at, number_in, number_first, cites_in, is_none}
 use Rattle.sequence_values.specs.declared.types.SeqEntry.{SeqEntry}

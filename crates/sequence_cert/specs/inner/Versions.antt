@@ -1,4 +1,4 @@
--- The versions of the text, and the charges of each.
+-- The versions of the text, and the charges of each (own).
 use Rattle.std.specs.Prelude.{◌≡◌, ℕ, List, [], Option, Some, None}
 use Rattle.cert_lines.specs.Rows.{Row, fixed}
 use Rattle.sequence_rules.specs.Ranges.{AreChargesIf, IsInRange}

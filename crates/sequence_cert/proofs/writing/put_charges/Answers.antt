@@ -17,6 +17,7 @@ returns-in-None g c = nothing _ _ _ (ap (λ x. rows_text (charges_rows x)) c.in-
 
 pub returns-in-Some : goal.returns-in-Some
 returns-in-Some g c =
-    puts_as _ _ _ _ _ (c.put_text.ensures ▹ puts_as _ _ _ _ _ c.put_cites.ensures (ap cites_text (sym c.as_slice.ensures))
+    puts_as _ _ _ _ _
+    (c.put_text.ensures ▹ puts_as _ _ _ _ _ c.put_cites.ensures (ap cites_text (sym c.as_slice.ensures))
     ▹ c.put.ensures)
     (ap (λ x. rows_text (charges_rows x)) c.in-Some.is ∙ charges_spelled c.in-Some.charges)
