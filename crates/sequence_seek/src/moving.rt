@@ -7,10 +7,9 @@ ghost use Rattle.std.specs.Prelude.{◌≤◌};
 ghost use Rattle.sequence_rules.specs.Charges.{AreCharges};
 
 use crate::passes::{Charges, MAX_CHARGE, Pass, charged, charges_of};
-use sequence_rules::{MAX_STATIONS, step};
+use sequence_rules::{MAX_MODELS, MAX_STATIONS, step};
 use sequence_table::{Opened, Table};
 use std::alloc::{AllocError, Global};
-use utility_work::MAX_MODELS;
 
 /// A step of a row: a node of the table, and the model of the unit from there.
 #[derive(Clone, Copy)]

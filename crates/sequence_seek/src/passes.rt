@@ -5,10 +5,10 @@
 ghost use Rattle.std.specs.Prelude.{◌≡◌, ◌<◌, ◌≤◌, IfOk};
 ghost use Rattle.sequence_rules.specs.Charges.{IsChargesOf, AreCharges};
 
+use sequence_rules::MAX_MODELS;
 use sequence_table::{Passed, Table, Told};
 use sequence_values::Numbers;
 use std::alloc::{AllocError, Global};
-use utility_work::MAX_MODELS;
 
 /// The greatest charge of a model.
 pub(crate) const MAX_CHARGE: u64 = 100_000_000_000_000;

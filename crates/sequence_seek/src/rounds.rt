@@ -12,10 +12,10 @@ use crate::moving::{Grown, first_charges, moved};
 use crate::orders::Best;
 use crate::passes::{Charges, Pass, charges_of, make_pass};
 use crate::walk::{Walk, walk_from_root};
+use sequence_rules::MAX_MODELS;
 use sequence_table::Table;
 use sequence_values::SeqEntries;
 use std::alloc::{AllocError, Global};
-use utility_work::MAX_MODELS;
 
 /// The budget of the first round, in units.
 const FIRST_BUDGET: u64 = 1000;

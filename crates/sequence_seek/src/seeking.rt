@@ -9,11 +9,10 @@ use crate::passes::listed;
 use crate::rounds::{Found, seek_from};
 use crate::testing::{are_at_most, are_entries, are_units, is_sequence};
 use crate::types::SeqSought;
-use sequence_rules::sequence_cost;
+use sequence_rules::{MAX_MODELS, sequence_cost};
 use sequence_table::{Tabled, open_table};
 use sequence_values::{Numbers, SeqEntries, Times};
 use std::alloc::{AllocError, Global};
-use utility_work::MAX_MODELS;
 
 /// The greatest work that a seek is made for: a unit's charged cost stays below 10^15.
 const MOST_WORK: u64 = 10_000_000_000;

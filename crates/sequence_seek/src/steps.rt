@@ -2,9 +2,8 @@
 ghost use Rattle.std.specs.Prelude.{◌<◌, length};
 ghost use Rattle.sequence_rules.specs.Ranges.{IsState};
 
-use sequence_rules::{MAX_STATIONS, launch, state_bound, step};
+use sequence_rules::{MAX_MODELS, MAX_STATIONS, launch, state_bound, step};
 use sequence_table::Table;
-use utility_work::MAX_MODELS;
 
 /// What a step leads to.
 #[derive(Clone, Copy)]
