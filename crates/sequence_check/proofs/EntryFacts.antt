@@ -30,21 +30,26 @@ below_next {X} P xs k x e before here j y l g = elim (cases_eq j k) [
   | inr d ↦ before j y (omega (arith, l, d)) g
 ]
 
-pub right_none : (t : Times) (interval reach : ℕ) (charges : List ℕ) (es : List SeqEntry) → AreRightBelow t interval reach charges es 0 0
+pub right_none : (t : Times) (interval reach : ℕ) (charges : List ℕ) (es : List SeqEntry)
+    → AreRightBelow t interval reach charges es 0 0
 right_none t interval reach charges es = record { follow = λ j e l g. absurd (omega (arith, l)); total = refl }
 
-pub right_more : (t : Times) (interval reach : ℕ) (charges : List ℕ) (es : List SeqEntry) (k units more : ℕ) (e : SeqEntry)
+pub right_more : (t : Times) (interval reach : ℕ) (charges : List ℕ) (es : List SeqEntry) (k units more : ℕ)
+    (e : SeqEntry)
     → slice_get es k ≡ Some e
-    → AreRightBelow t interval reach charges es k units → Follows t interval reach charges (take k es) e → more ≡ entry_units charges e
+    → AreRightBelow t interval reach charges es k units → Follows t interval reach charges (take k es) e
+    → more ≡ entry_units charges e
     → AreRightBelow t interval reach charges es (k + 1) (units + more)
 right_more t interval reach charges es k units more e there below follows own = record {
   follow = below_next (λ j x. Follows t interval reach charges (take j es) x) es k e there below.follow follows;
   total = omega (arith, below.total, own, sum_next (entry_units charges) es k e there);
 }
 
-pub all_right : (t : Times) (interval reach : ℕ) (charges : List ℕ) (es : List SeqEntry) (k units steps : ℕ) → length es ≤ k
+pub all_right : (t : Times) (interval reach : ℕ) (charges : List ℕ) (es : List SeqEntry) (k units steps : ℕ)
+    → length es ≤ k
     → units ≤ steps
-    → AreRightBelow t interval reach charges es k units → IsDerived t interval reach charges es × (units ≡ units_of charges es)
+    → AreRightBelow t interval reach charges es k units → IsDerived t interval reach charges es
+    × (units ≡ units_of charges es)
     × (units ≤ steps)
 all_right t interval reach charges es k units steps long few below = (
   λ j e g. below.follow j e (omega (arith, long, slice_get_within es j e g)) g,

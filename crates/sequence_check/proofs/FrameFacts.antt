@@ -15,18 +15,22 @@ pub frames_none : (t : Times) (interval reach : ℕ) (charges : List ℕ) (es : 
     → AreRightTo t interval reach charges es fs 0 0
 frames_none t interval reach charges es fs = record { right = λ j f l g. absurd (omega (arith, l)); total = refl }
 
-pub frames_more : (t : Times) (interval reach : ℕ) (charges : List ℕ) (es : List SeqEntry) (fs : List SeqFrame) (j units more : ℕ)
+pub frames_more : (t : Times) (interval reach : ℕ) (charges : List ℕ) (es : List SeqEntry) (fs : List SeqFrame)
+    (j units more : ℕ)
     (f : SeqFrame) → slice_get fs j ≡ Some f
-    → AreRightTo t interval reach charges es fs j units → IsRightAt t interval reach charges es fs j f → more ≡ frame_units f
+    → AreRightTo t interval reach charges es fs j units → IsRightAt t interval reach charges es fs j f
+    → more ≡ frame_units f
     → AreRightTo t interval reach charges es fs (j + 1) (units + more)
 frames_more t interval reach charges es fs j units more f there below right own = record {
   right = below_next (λ i x. IsRightAt t interval reach charges es fs i x) fs j f there below.right right;
   total = omega (arith, below.total, own, sum_next frame_units fs j f there);
 }
 
-pub all_frames : (t : Times) (interval reach : ℕ) (charges : List ℕ) (es : List SeqEntry) (fs : List SeqFrame) (j units steps : ℕ)
+pub all_frames : (t : Times) (interval reach : ℕ) (charges : List ℕ) (es : List SeqEntry) (fs : List SeqFrame)
+    (j units steps : ℕ)
     → length fs ≤ j → units ≤ steps
-    → AreRightTo t interval reach charges es fs j units → AreRight t interval reach charges es fs × (units ≡ units_in fs)
+    → AreRightTo t interval reach charges es fs j units → AreRight t interval reach charges es fs
+    × (units ≡ units_in fs)
     × (units ≤ steps)
 all_frames t interval reach charges es fs j units steps long few below = (
   λ i f g. below.right i f (omega (arith, long, slice_get_within fs i f g)) g,

@@ -48,7 +48,8 @@ module _ (needs : ℕ → Bool) (Cited : ℕ → ℕ → Type 0) (cites : List �
 pub covers_match : (t : Times) (interval reach : ℕ) (charges : List ℕ) (es : List SeqEntry) (rem starts : List ℕ)
     (need n : ℕ) (cites : List ℕ)
     → Covers t interval reach charges es rem starts need n cites
-    → Matches (needs_cite t interval reach rem starts need) (AnswersStep t interval reach charges es rem starts need) cites n
+    → Matches (needs_cite t interval reach rem starts need)
+    (AnswersStep t interval reach charges es rem starts need) cites n
 covers_match t interval reach charges es rem starts need n cites h = record { as_many = h.as_many; cited = h.cited }
 
 pub step_within : (t : Times) (interval reach : ℕ) (charges : List ℕ) (es : List SeqEntry) (rem starts : List ℕ)

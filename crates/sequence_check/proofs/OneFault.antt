@@ -11,8 +11,8 @@ use Rattle.sequence_rules.specs.States.{state_bound}
 use Rattle.sequence_rules.specs.Entries.{Follows, entry_units, is_left, needs_cite}
 use Rattle.sequence_rules.specs.Trails.{IsAskedAt, EndsWell, up_to, matched_to, is_deepest, IsRightAt, frame_units}
 use Rattle.sequence_check.specs.Walks.{IsFirstLate, AnswersStep}
-use Rattle.sequence_check.specs.Faults.{cites_of, models_by, is_walked, is_open, IsCiteFor, Cites, IsReady, FailsBy, Fails}
-use Rattle.sequence_check.specs.Faults.{EndsBy, Ends}
+use Rattle.sequence_check.specs.Faults.{cites_of, models_by, is_walked, is_open, IsCiteFor, Cites, IsReady}
+use Rattle.sequence_check.specs.Faults.{FailsBy, Fails, EndsBy, Ends}
 use Rattle.sequence_check.specs.Lists.{IsRefusedAt, AreStepsEnded}
 use Rattle.sequence_check.specs.Frames.{FailsAt, EndsAt, IsFrameRefused, AreFramesEnded}
 use Rattle.sequence_check.specs.declared.types.SeqEntryFault.{SeqEntryFault}
@@ -79,7 +79,8 @@ module _ (t : Times) (interval reach : ℕ) (charges : List ℕ) (earlier : List
       (h.0, (h.1.0, (h.1.1.0, (h.1.1.1, h.1.1.2 ∙ sym (units_are charges e w cites is))))) in
       inr (p.0.some, inr (p.0.below, (None, (refl, p.1))))
 
-  at_bound : w ≡ why.Bound → (fault : SeqEntryFault) (units : ℕ) → FailsBy t interval reach charges earlier e w fault units
+  at_bound : w ≡ why.Bound → (fault : SeqEntryFault) (units : ℕ)
+      → FailsBy t interval reach charges earlier e w fault units
       → (fault ≡ entry_fault.Bound (state_bound t interval reach e.rem e.starts)) × (units ≡ 0)
   at_bound is (entry_fault.Bound b) units h = (ap (λ n. entry_fault.Bound n) h.1, h.3)
   at_bound is entry_fault.Empty units h = absurd (uncited is h.0.0 h.0.1.0)
@@ -168,13 +169,15 @@ module _ (t : Times) (interval reach : ℕ) (charges : List ℕ) (es : List SeqE
   pub one_entry_refused : (j k : ℕ) (a b : SeqEntryFault) → IsRefusedAt t interval reach charges es steps j a
       → IsRefusedAt t interval reach charges es steps k b → (j ≡ k) × (a ≡ b)
   one_entry_refused j k a b p q =
-      one_refused SeqEntry SeqEntryFault es (entry_units charges) RightEntry FailsEntry EndsEntry steps entry_not entry_one j k a
+      one_refused SeqEntry SeqEntryFault es (entry_units charges) RightEntry FailsEntry EndsEntry steps entry_not
+      entry_one j k a
       b (first_entry j a p) (first_entry k b q)
 
   pub entry_refused_in_time : (j : ℕ) (a : SeqEntryFault) → IsRefusedAt t interval reach charges es steps j a
       → AreStepsEnded t interval reach charges es steps → ⊥
   entry_refused_in_time j a p h =
-      refused_in_time SeqEntry SeqEntryFault es (entry_units charges) RightEntry FailsEntry EndsEntry steps entry_not entry_one
+      refused_in_time SeqEntry SeqEntryFault es (entry_units charges) RightEntry FailsEntry EndsEntry steps
+      entry_not entry_one
       (λ k e b m s f few x. entry_in_time t interval reach charges (take k es) e b m s f few x)
       (λ k e s x. entry_spends t interval reach charges (take k es) e s x) j h.at a (first_entry j a p) (ended_entry h)
 
@@ -200,7 +203,8 @@ module _ (t : Times) (interval reach : ℕ) (charges : List ℕ) (es : List SeqE
           h.1,
           at_late (needs_cite t interval reach f.rem f.starts f.need)
               (AnswersStep t interval reach charges es f.rem f.starts f.need) f.cites (is_left f.rem) (length es)
-              SeqFrameFault (λ y. frame_fault.Cite y) frame_walked (matched_to (is_deepest fs j) f.last) (up_to f.last) x
+              SeqFrameFault (λ y. frame_fault.Cite y) frame_walked (matched_to (is_deepest fs j) f.last)
+              (up_to f.last) x
               units h.2 h.3,
         ),
       )

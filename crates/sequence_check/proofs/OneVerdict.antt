@@ -35,11 +35,13 @@ module _ (t : Times) (interval reach : ℕ) (cert : SeqCert) (steps : ℕ) where
 
   abbrev AtFrame : SeqPlace → Type 0
   AtFrame p = (j : ℕ) × (why : SeqFrameFault) × ((p ≡ place.Frame j why)
-      × IsFrameRefused t interval reach (listed_charges cert.charges) cert.entries cert.frames (steps - units_of (listed_charges cert.charges) cert.entries) j why)
+      × IsFrameRefused t interval reach (listed_charges cert.charges) cert.entries cert.frames (steps - units_of
+      (listed_charges cert.charges) cert.entries) j why)
 
   abbrev AtProof : SeqPlace → Type 0
   AtProof p =
-      Test (IsDerived t interval reach (listed_charges cert.charges) cert.entries × (units_of (listed_charges cert.charges) cert.entries ≤ steps)) (AtEntry p)
+      Test (IsDerived t interval reach (listed_charges cert.charges) cert.entries
+      × (units_of (listed_charges cert.charges) cert.entries ≤ steps)) (AtEntry p)
       (Test (IsShownLower t cert) (p ≡ place.Goal)
       (Test (IsAllowed cert.lower cert.upper cert.frames) (p ≡ place.Frame 0 frame_fault.Allowed) (AtFrame p)))
 
@@ -88,7 +90,8 @@ module _ (t : Times) (interval reach : ℕ) (cert : SeqCert) (steps : ℕ) where
                 (
                   refl,
                   subst
-                      (λ (n : ℕ). IsFrameRefused t interval reach (listed_charges cert.charges) cert.entries cert.frames (steps - n) j why)
+                      (λ (n : ℕ). IsFrameRefused t interval reach
+                      (listed_charges cert.charges) cert.entries cert.frames (steps - n) j why)
                       h.1.1.total
                       later.1,
                 ),
@@ -100,13 +103,15 @@ module _ (t : Times) (interval reach : ℕ) (cert : SeqCert) (steps : ℕ) where
 
   same_entry : (p q : SeqPlace) → AtEntry p → AtEntry q → p ≡ q
   same_entry p q x y =
-      let s : (x.0 ≡ y.0) × (x.1 ≡ y.1) = one_entry_refused t interval reach (listed_charges cert.charges) cert.entries steps x.0 y.0 x.1 y.1 x.2.1
+      let s : (x.0 ≡ y.0) × (x.1 ≡ y.1) = one_entry_refused t interval reach
+      (listed_charges cert.charges) cert.entries steps x.0 y.0 x.1 y.1 x.2.1
       y.2.1 in
       x.2.0 ∙ (ap (λ (k : ℕ). place.Entry k x.1) s.0 ∙ (ap (λ (w : SeqEntryFault). place.Entry y.0 w) s.1 ∙ sym y.2.0))
 
   frame_one : (p q : SeqPlace) → AtFrame p → AtFrame q → p ≡ q
   frame_one p q x y =
-      let s : (x.0 ≡ y.0) × (x.1 ≡ y.1) = one_frame_refused t interval reach (listed_charges cert.charges) cert.entries cert.frames
+      let s : (x.0 ≡ y.0) × (x.1 ≡ y.1) = one_frame_refused t interval reach
+      (listed_charges cert.charges) cert.entries cert.frames
       (steps - units_of (listed_charges cert.charges) cert.entries) x.0 y.0 x.1 y.1 x.2.1 y.2.1 in
       x.2.0 ∙ (ap (λ (j : ℕ). place.Frame j x.1) s.0 ∙ (ap (λ (w : SeqFrameFault). place.Frame y.0 w) s.1 ∙ sym y.2.0))
 
@@ -124,14 +129,17 @@ module _ (t : Times) (interval reach : ℕ) (cert : SeqCert) (steps : ℕ) where
   -- no check fails within the steps where they end
   proof_in_time : (p : SeqPlace) → AtProof p → EndsEarly t interval reach cert steps → ⊥
   proof_in_time p x (inl h) = elim x [
-    | inl u ↦ entry_refused_in_time t interval reach (listed_charges cert.charges) cert.entries steps u.1.0 u.1.1 u.1.2.1 h
+    | inl u ↦ entry_refused_in_time t interval reach
+        (listed_charges cert.charges) cert.entries steps u.1.0 u.1.1 u.1.2.1 h
     | inr u ↦ omega (arith, u.0.1, entries_end t interval reach (listed_charges cert.charges) cert.entries steps h)
   ]
   proof_in_time p x (inr h) =
       let few : units_of (listed_charges cert.charges) cert.entries ≤ steps = omega (arith, h.1.0.total, h.1.1) in
       past_test x (h.1.0.derived, few) (λ x2. past_test x2 h.1.0.goal (λ x3. past_test x3 h.1.2 (λ x4.
-      frame_refused_in_time t interval reach (listed_charges cert.charges) cert.entries cert.frames (steps - units_of (listed_charges cert.charges) cert.entries) x4.0 x4.1 x4.2.1
-      (subst (λ (n : ℕ). AreFramesEnded t interval reach (listed_charges cert.charges) cert.entries cert.frames (steps - n)) h.1.0.total h.1.3))))
+      frame_refused_in_time t interval reach (listed_charges cert.charges) cert.entries cert.frames
+      (steps - units_of (listed_charges cert.charges) cert.entries) x4.0 x4.1 x4.2.1
+      (subst (λ (n : ℕ). AreFramesEnded t interval reach (listed_charges cert.charges) cert.entries cert.frames
+      (steps - n)) h.1.0.total h.1.3))))
 
   in_time : (p : SeqPlace) → FailsFirst t interval reach cert steps p → IsShown t interval reach cert
       → EndsEarly t interval reach cert steps → ⊥

@@ -1,7 +1,7 @@
--- The tests of cites and the walk over numbers have one answer: the first failure, if there is one, comes
--- before what the steps end at.
-use Rattle.std.proofs.Common.{◌≡◌, ℕ, suc, ◌+◌, ◌<◌, ◌≤◌, ◌⊎◌, Bool, List, length, refl, sym, ap, ◌∙◌, subst, inl, inr, arith}
-use Rattle.std.proofs.Common.{Option, Some, None}
+-- The tests of cites and the walk over numbers have one answer: the first failure, if there is one, comes before what
+-- the steps end at.
+use Rattle.std.proofs.Common.{◌≡◌, ℕ, suc, ◌+◌, ◌<◌, ◌≤◌, ◌⊎◌, Bool, List, length, refl, sym, ap, ◌∙◌}
+use Rattle.std.proofs.Common.{subst, inl, inr, arith, Option, Some, None}
 use Rattle.std.specs.Prelude.{slice_get}
 use Rattle.std.proofs.lemmas.Bool.{cases_order, cases_lt}
 use Rattle.sequence_rules.specs.Entries.{passing}

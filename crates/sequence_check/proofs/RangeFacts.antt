@@ -66,7 +66,8 @@ module _ (t : Times) (interval reach models stations : ℕ) (charges : Option (L
     (a : AreChargesIf models charges) where
   by_reason : (e : SeqEntry) (w : SeqWhy) → IsState (numbers_by models w) stations e.rem e.starts → IsWhy charges w
       → sum e.rem ≤ 16000 → IsPosedBy t interval reach (listed_charges charges) e w
-  by_reason e why.Bound state known few = state_posed t interval reach models stations e.rem e.starts times i r m s state
+  by_reason e why.Bound state known few = state_posed t interval reach models stations e.rem e.starts times i r m s
+      state
   by_reason e (why.Branch cites) state known few =
       state_posed t interval reach models stations e.rem e.starts times i r m s state
   by_reason e (why.Charge cites) state known few =
@@ -84,7 +85,8 @@ module _ (t : Times) (interval reach models stations : ℕ) (charges : Option (L
   entry_posed e h =
       by_reason e e.why h.state h.why (entry_few models stations charges e (omega (arith, m, times.models)) h)
 
-  pub citable : (es : List SeqEntry) → ((k : ℕ) (e : SeqEntry) → slice_get es k ≡ Some e → IsEntry models stations charges e)
+  pub citable : (es : List SeqEntry) → ((k : ℕ) (e : SeqEntry) → slice_get es k ≡ Some e
+      → IsEntry models stations charges e)
       → AreCitable (listed_charges charges) es
   citable es h = record {
     limit = charges_limit models charges a;
@@ -97,7 +99,8 @@ pub entries_posed : (t : Times) (interval reach : ℕ) (cert : SeqCert) → AreT
     → (k : ℕ) (e : SeqEntry) → slice_get cert.entries k ≡ Some e
     → IsPosedEntry t interval reach (listed_charges cert.charges) e
 entries_posed t interval reach cert times i r range line k e there =
-    entry_posed t interval reach cert.models cert.stations cert.charges times i r line.models line.stations range.charges
+    entry_posed t interval reach cert.models cert.stations cert.charges times i r line.models line.stations
+    range.charges
     e (range.entries k e there)
 
 pub entries_citable : (t : Times) (interval reach : ℕ) (cert : SeqCert) → AreTimes t → IsPlace interval → IsPlace reach

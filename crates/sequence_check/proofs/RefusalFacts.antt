@@ -93,7 +93,8 @@ refused_not t interval reach cert steps (place.Stations said) h a = h.2 a.statio
 refused_not t interval reach cert steps place.Sequence h a = h.1 a.sequence
 refused_not t interval reach cert steps (place.Total total) h a = h.3 (h.2 ∙ a.total)
 refused_not t interval reach cert steps (place.Entry entry fault) h a =
-    fails_not t interval reach (listed_charges cert.charges) (take entry cert.entries) h.1.entry fault h.1.more h.1.fails
+    fails_not t interval reach (listed_charges cert.charges)
+    (take entry cert.entries) h.1.entry fault h.1.more h.1.fails
     (a.derived entry h.1.entry h.1.there)
 refused_not t interval reach cert steps place.Goal h a = h.4 (a.goal h.3)
 refused_not t interval reach cert steps (place.Frame frame fault) h a = elim h.1.3 [

@@ -18,7 +18,8 @@ passing_all (suc n) =
     omega (arith, length-append (passing (λ m. true) n) (n ∷ []), passing_all n)
 
 -- an entry that answers a state is one of those below k that answers it
-pub cited_from : (charges : List ℕ) (es : List SeqEntry) (k cite : ℕ) (entry : SeqEntry) (rem rem' starts starts' : List ℕ)
+pub cited_from : (charges : List ℕ) (es : List SeqEntry) (k cite : ℕ) (entry : SeqEntry)
+    (rem rem' starts starts' : List ℕ)
     (need need' : ℕ)
     → cite < k → slice_get es cite ≡ Some entry → Answers charges entry rem' starts' need' → rem' ≡ rem
     → starts' ≡ starts

@@ -1,5 +1,5 @@
 -- What the check of an entry finds: that it follows, the first thing that is wrong with it, or that the steps ended. An
--- entry with cites is walked in one form, by Branch over the steps of its state, and by Charge over a unit of each model.
+-- entry with cites is walked in one form: by Branch over the steps of its state, by Charge over a unit of each model.
 use Rattle.std.specs.Prelude.{◌≡◌, ℕ, suc, ◌<◌, ◌≤◌, Bool, true, List, length, Option, Some, None, sum}
 use Rattle.sequence_rules.specs.States.{state_bound}
 use Rattle.sequence_rules.specs.Entries.{FollowsBy, Follows, is_left, needs_cite, is_light, passing, units_by}
@@ -120,6 +120,7 @@ IsChecked t interval reach charges earlier e steps checked.StepsEnded = Ends t i
 -- what isn't right: an entry that fails doesn't follow, and one where the steps ended has more units, if it follows
 abbrev pub IsRuledOut : Times → ℕ → ℕ → List ℕ → List SeqEntry → SeqEntry → ℕ → SeqEntryChecked → Type 0
 IsRuledOut t interval reach charges earlier e steps (checked.Right units) = Unit {0}
-IsRuledOut t interval reach charges earlier e steps (checked.Fails units) = Follows t interval reach charges earlier e → ⊥
+IsRuledOut t interval reach charges earlier e steps (checked.Fails units) =
+    Follows t interval reach charges earlier e → ⊥
 IsRuledOut t interval reach charges earlier e steps checked.StepsEnded = Follows t interval reach charges earlier e
     → steps < entry_units charges e

@@ -22,7 +22,8 @@ pub record IsPosedFrame (t : Times) (interval reach : ℕ) (f : SeqFrame) : Type
   pub last : IsLast (length f.rem) f.last
 
 -- a frame may be walked: it has the question that it should have, a right last model, and cites of entries of the list
-pub record IsReadyAt (t : Times) (interval reach : ℕ) (charges : List ℕ) (es : List SeqEntry) (fs : List SeqFrame) (j : ℕ)
+pub record IsReadyAt (t : Times) (interval reach : ℕ) (charges : List ℕ) (es : List SeqEntry) (fs : List SeqFrame)
+    (j : ℕ)
     (f : SeqFrame) : Type 0 where
   pub asked : IsAskedAt t interval reach fs j f
   pub last : EndsWell (is_deepest fs j) f.rem f.last
@@ -41,7 +42,8 @@ FailsAt t interval reach charges es fs j f (fault.Cite x) units =
 FailsAt t interval reach charges es fs j f (fault.Uncovered model) units =
     IsReadyAt t interval reach charges es fs j f × (model < matched_to (is_deepest fs j) f.last)
     × IsUncovered (needs_cite t interval reach f.rem f.starts f.need)
-    (AnswersStep t interval reach charges es f.rem f.starts f.need) f.cites model × (units ≡ models_left f.rem (suc model))
+    (AnswersStep t interval reach charges es f.rem f.starts f.need) f.cites model
+    × (units ≡ models_left f.rem (suc model))
 FailsAt t interval reach charges es fs j f fault.Spare units =
     IsReadyAt t interval reach charges es fs j f
     × IsSpare (needs_cite t interval reach f.rem f.starts f.need)
@@ -55,11 +57,12 @@ EndsAt t interval reach charges es fs j f steps =
     (AnswersStep t interval reach charges es f.rem f.starts f.need) f.cites (is_left f.rem) (up_to f.last) steps
 
 -- what is found of a frame
-abbrev pub IsFoundAt : Times → ℕ → ℕ → List ℕ → List SeqEntry → List SeqFrame → ℕ → SeqFrame → ℕ → Checked SeqFrameFault → Type 0
+abbrev pub IsFoundAt : Times → ℕ → ℕ → List ℕ → List SeqEntry → List SeqFrame → ℕ → SeqFrame → ℕ
+    → Checked SeqFrameFault → Type 0
 IsFoundAt t interval reach charges es fs j f steps (found.Right units) = IsRightAt t interval reach charges es fs j f
     × (units ≡ frame_units f) × (units ≤ steps)
-IsFoundAt t interval reach charges es fs j f steps (found.Fails why units) = FailsAt t interval reach charges es fs j f why units
-    × (units ≤ steps)
+IsFoundAt t interval reach charges es fs j f steps (found.Fails why units) =
+    FailsAt t interval reach charges es fs j f why units × (units ≤ steps)
 IsFoundAt t interval reach charges es fs j f steps found.StepsEnded = EndsAt t interval reach charges es fs j f steps
 
 -- the frames below j are right, and have so many units
@@ -69,8 +72,8 @@ pub record AreRightTo (t : Times) (interval reach : ℕ) (charges : List ℕ) (e
   pub total : units ≡ units_in (take j fs)
 
 -- The frame j is the first that is refused, for this reason, and the steps walked up to it are at most `steps`.
-pub record IsFrameRefused (t : Times) (interval reach : ℕ) (charges : List ℕ) (es : List SeqEntry) (fs : List SeqFrame) (steps j : ℕ)
-    (why : SeqFrameFault) : Type 0 where
+pub record IsFrameRefused (t : Times) (interval reach : ℕ) (charges : List ℕ) (es : List SeqEntry)
+    (fs : List SeqFrame) (steps j : ℕ) (why : SeqFrameFault) : Type 0 where
   pub units : ℕ
   pub below : AreRightTo t interval reach charges es fs j units
   pub frame : SeqFrame
@@ -101,4 +104,5 @@ AreFramesFound t interval reach charges es fs steps (all_found.Right units) = Ar
     × (units ≡ units_in fs) × (units ≤ steps)
 AreFramesFound t interval reach charges es fs steps (all_found.Refused frame why) =
     IsFrameRefused t interval reach charges es fs steps frame why
-AreFramesFound t interval reach charges es fs steps all_found.StepsEnded = AreFramesEnded t interval reach charges es fs steps
+AreFramesFound t interval reach charges es fs steps all_found.StepsEnded =
+    AreFramesEnded t interval reach charges es fs steps

@@ -14,4 +14,5 @@ pub record VerdictIsOne : Type 0 where
       → IsVerdict t interval reach cert steps v → IsVerdict t interval reach cert steps w → v ≡ w
   pub entry : (t : Times) (interval reach : ℕ) (charges : List ℕ) (earlier : List SeqEntry) (e : SeqEntry) (steps : ℕ)
       (v w : SeqEntryChecked)
-      → IsChecked t interval reach charges earlier e steps v → IsChecked t interval reach charges earlier e steps w → v ≡ w
+      → IsChecked t interval reach charges earlier e steps v → IsChecked t interval reach charges earlier e steps w
+      → v ≡ w

@@ -9,7 +9,8 @@ use Rattle.sequence_check.specs.declared.types.EntriesFound.{EntriesFound}
 use Rattle.sequence_check.specs.declared.types.EntriesFound.TheVariants as found
 
 -- the entries below k follow, each from those before it, and have so many units
-pub record AreRightBelow (t : Times) (interval reach : ℕ) (charges : List ℕ) (es : List SeqEntry) (k units : ℕ) : Type 0 where
+pub record AreRightBelow (t : Times) (interval reach : ℕ) (charges : List ℕ) (es : List SeqEntry)
+    (k units : ℕ) : Type 0 where
   pub follow : (j : ℕ) (e : SeqEntry) → j < k → slice_get es j ≡ Some e → Follows t interval reach charges (take j es) e
   pub total : units ≡ units_of charges (take k es)
 
@@ -25,7 +26,8 @@ pub record IsRefusedAt (t : Times) (interval reach : ℕ) (charges : List ℕ) (
   pub few : units + more ≤ steps
 
 -- Some step of an entry is walked as one more than `steps`, and every check up to it held.
-pub record AreStepsEnded (t : Times) (interval reach : ℕ) (charges : List ℕ) (es : List SeqEntry) (steps : ℕ) : Type 0 where
+pub record AreStepsEnded (t : Times) (interval reach : ℕ) (charges : List ℕ) (es : List SeqEntry)
+    (steps : ℕ) : Type 0 where
   pub at : ℕ
   pub units : ℕ
   pub below : AreRightBelow t interval reach charges es at units
@@ -36,7 +38,8 @@ pub record AreStepsEnded (t : Times) (interval reach : ℕ) (charges : List ℕ)
 
 -- what is found of a list of entries
 abbrev pub AreFound : Times → ℕ → ℕ → List ℕ → List SeqEntry → ℕ → EntriesFound → Type 0
-AreFound t interval reach charges es steps (found.Right units) = IsDerived t interval reach charges es × (units ≡ units_of charges es)
-    × (units ≤ steps)
-AreFound t interval reach charges es steps (found.Refused entry why) = IsRefusedAt t interval reach charges es steps entry why
+AreFound t interval reach charges es steps (found.Right units) =
+    IsDerived t interval reach charges es × (units ≡ units_of charges es) × (units ≤ steps)
+AreFound t interval reach charges es steps (found.Refused entry why) =
+    IsRefusedAt t interval reach charges es steps entry why
 AreFound t interval reach charges es steps found.StepsEnded = AreStepsEnded t interval reach charges es steps

@@ -38,8 +38,8 @@ pub record AreDone (t : Times) (interval reach : ℕ) (cert : SeqCert) (units : 
 abbrev pub TrailFails : Times → ℕ → ℕ → SeqCert → ℕ → ℕ → SeqFrameFault → Type 0
 TrailFails t interval reach cert steps j why =
     ((IsAllowed cert.lower cert.upper cert.frames → ⊥) × (j ≡ 0) × (why ≡ fault.Allowed))
-    ⊎ (IsAllowed cert.lower cert.upper cert.frames × IsFrameRefused t interval reach (listed_charges cert.charges) cert.entries cert.frames steps j
-    why)
+    ⊎ (IsAllowed cert.lower cert.upper cert.frames
+    × IsFrameRefused t interval reach (listed_charges cert.charges) cert.entries cert.frames steps j why)
 
 -- the first check that fails, where the steps walked up to it are at most `steps`
 abbrev pub FailsFirst : Times → ℕ → ℕ → SeqCert → ℕ → SeqPlace → Type 0
@@ -51,10 +51,12 @@ FailsFirst t interval reach cert steps (place.Total total) =
     IsOfLine t cert × IsSequenceOf t.demands cert.sequence
     × (total ≡ cost t interval reach (root_starts t) cert.sequence) × (total ≡ cert.upper → ⊥)
 FailsFirst t interval reach cert steps (place.Entry entry why) =
-    IsShown t interval reach cert × IsRefusedAt t interval reach (listed_charges cert.charges) cert.entries steps entry why
+    IsShown t interval reach cert
+    × IsRefusedAt t interval reach (listed_charges cert.charges) cert.entries steps entry why
 FailsFirst t interval reach cert steps place.Goal =
-    IsShown t interval reach cert × IsDerived t interval reach (listed_charges cert.charges) cert.entries × (units_of (listed_charges cert.charges) cert.entries ≤ steps)
-    × (0 < cert.lower) × (HasAnswer (listed_charges cert.charges) cert.entries t.demands (root_starts t) cert.lower → ⊥)
+    IsShown t interval reach cert × IsDerived t interval reach (listed_charges cert.charges) cert.entries
+    × (units_of (listed_charges cert.charges) cert.entries ≤ steps) × (0 < cert.lower)
+    × (HasAnswer (listed_charges cert.charges) cert.entries t.demands (root_starts t) cert.lower → ⊥)
 FailsFirst t interval reach cert steps (place.Frame frame why) =
     (units : ℕ) × (IsShown t interval reach cert × AreDone t interval reach cert units × (units ≤ steps)
     × TrailFails t interval reach cert (steps - units) frame why)
@@ -64,8 +66,8 @@ abbrev pub EndsEarly : Times → ℕ → ℕ → SeqCert → ℕ → Type 0
 EndsEarly t interval reach cert steps =
     AreStepsEnded t interval reach (listed_charges cert.charges) cert.entries steps
     ⊎ ((units : ℕ) × (AreDone t interval reach cert units × (units ≤ steps)
-    × IsAllowed cert.lower cert.upper cert.frames × AreFramesEnded t interval reach (listed_charges cert.charges) cert.entries cert.frames
-    (steps - units)))
+    × IsAllowed cert.lower cert.upper cert.frames
+    × AreFramesEnded t interval reach (listed_charges cert.charges) cert.entries cert.frames (steps - units)))
 
 -- What is found of a certificate: Accepted where it is accepted and its units are at most `steps`, Refused at the first
 -- check that fails, and StepsEnded where more steps had to be walked.

@@ -1,7 +1,7 @@
--- What a walk over the models finds, which takes a cite for each step or unit that needs one. The walk over the steps of
--- a state (by Branch, and of a frame) and that over a unit of each model (by Charge) are of one form.
-use Rattle.std.specs.Prelude.{◌≡◌, ℕ, suc, ◌+◌, ◌-◌, ◌<◌, ◌≤◌, ◌⊎◌, Bool, true, false, List, length, slice_get, Some, sum}
-use Rattle.std.specs.Prelude.{All}
+-- What a walk over the models finds, which takes a cite for each step or unit that needs one. The walk over the steps
+-- of a state (by Branch, and of a frame) and that over a unit of each model (by Charge) are of one form.
+use Rattle.std.specs.Prelude.{◌≡◌, ℕ, suc, ◌+◌, ◌-◌, ◌<◌, ◌≤◌, ◌⊎◌, Bool, true, false, List, length, slice_get, Some}
+use Rattle.std.specs.Prelude.{sum, All}
 use Rattle.sequence_rules.specs.States.{step_cost, next_starts, less_one}
 use Rattle.sequence_rules.specs.Charges.{AreCharges, unit_cost}
 use Rattle.sequence_rules.specs.Entries.{IsCited, IsServed, row_units, passing}

@@ -1,6 +1,6 @@
 -- Old entries that are taken one after the other, and what holds of the kept ones.
-use Rattle.std.proofs.Common.{◌≡◌, ℕ, suc, ◌+◌, ◌-◌, ◌<◌, ◌≤◌, List, [], ◌∷◌, ◌++◌, length, take, refl, sym, ap, ◌∙◌, subst}
-use Rattle.std.proofs.Common.{inl, inr, arith, Option, Some, None, length-append}
+use Rattle.std.proofs.Common.{◌≡◌, ℕ, suc, ◌+◌, ◌-◌, ◌<◌, List, [], ◌∷◌, ◌++◌, length, take, refl, sym, ap, ◌∙◌, subst}
+use Rattle.std.proofs.Common.{inl, inr, arith, Some, None, length-append}
 use Rattle.std.specs.Prelude.{slice_get}
 use Rattle.std.proofs.Math.Seq.{take-append_seam}
 use Rattle.std.proofs.lemmas.List.{take-append-le}
@@ -10,8 +10,6 @@ use Rattle.line_rules.proofs.ListFacts.{get_push_cases, take_next}
 use Rattle.sequence_values.specs.declared.types.Times.{Times}
 use Rattle.sequence_values.specs.declared.types.SeqEntry.{SeqEntry}
 use Rattle.sequence_rules.specs.Entries.{Follows, IsDerived, entry_units}
-use Rattle.sequence_check.specs.Faults.{Ends}
-use Rattle.sequence_check.proofs.RefusalFacts.{entry_spends}
 use Rattle.warm_sequence.specs.Warm.{Taking, IsKept, Takes, TakesAll, keeping, dropping, untaken, renumbered}
 use Rattle.warm_sequence.specs.inner.Keeping.{IsOfMix, AreOfMix, IsSound}
 

@@ -1,5 +1,5 @@
 -- What is renumbered stays within the ranges of a certificate.
-use Rattle.std.proofs.Common.{◌≡◌, ℕ, zero, suc, ◌<◌, ◌≤◌, List, [], ◌∷◌, length, get_or, refl, sym, ap, subst, arith}
+use Rattle.std.proofs.Common.{◌≡◌, ℕ, zero, suc, ◌<◌, List, [], ◌∷◌, length, get_or, refl, ap, subst, arith}
 use Rattle.std.proofs.Common.{Option, Some, None}
 use Rattle.std.specs.Prelude.{slice_get, All}
 use Rattle.std.proofs.lemmas.Option.{same_Some, none-some}
@@ -7,9 +7,9 @@ use Rattle.sequence_values.specs.declared.types.Times.{Times}
 use Rattle.sequence_values.specs.declared.types.SeqEntry.{SeqEntry}
 use Rattle.sequence_values.specs.declared.types.SeqWhy.{SeqWhy}
 use Rattle.sequence_values.specs.declared.types.SeqWhy.TheVariants as why
-use Rattle.sequence_rules.specs.Ranges.{IsState, IsNumber, IsWhy, IsEntry, numbers_by}
-use Rattle.warm_sequence.specs.Warm.{number_at, new_number, with_number, renumbered_cites, by_branch, by_charge, with_why}
-use Rattle.warm_sequence.specs.Warm.{renumbered_why, renumbered}
+use Rattle.sequence_rules.specs.Ranges.{IsState, IsNumber, numbers_by}
+use Rattle.warm_sequence.specs.Warm.{number_at, new_number, with_number, renumbered_cites, by_branch, by_charge}
+use Rattle.warm_sequence.specs.Warm.{with_why, renumbered_why, renumbered}
 use Rattle.warm_sequence.specs.inner.Keeping.{IsOfMix}
 
 -- a number before others that are in range

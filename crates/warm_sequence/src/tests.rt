@@ -1,8 +1,8 @@
 //! Rows worked by hand: lists of two and of three models at one station, edits of them, and what is kept of a list.
 //!
 //! The launch interval is 5 and the station's length 6. A unit of 7 costs 1 from the station's beginning and 2 from 1
-//! on. One of 6 costs 0 or 1, and both lead to 1. Shorter ones cost 0 and lead to 0. A list is written as in the text of
-//! a certificate, with a bar between its entries.
+//! on. One of 6 costs 0 or 1, and both lead to 1. Shorter ones cost 0 and lead to 0. A list is written as in the text
+//! of a certificate, with a bar between its entries.
 ghost use Rattle.std.specs.Prelude.{◌≡◌, ℕ, ◌≤◌, length, slice_get, Some, All, IsTrue, IfOk};
 ghost use Rattle.sequence_values.specs.declared.types.SeqEntry.{SeqEntry as Step};
 ghost use Rattle.sequence_rules.specs.Charges.{IsChargesOf};
@@ -18,12 +18,14 @@ use std::test::Fail;
 
 // A list of three models whose second entry says too much. The next one stands on it, and later cites move up.
 const OLD: &str =
-    "charge 1 0 1 -|charge 2 0 1002 0,0,0|charge 3 0 2002 1,1,1|charge 2 0 1001 0,0,0|branch 0,2,1 1 1 -|branch 1,1,1 1 2 3|branch 1,2,1 0 2 4,5";
+    "charge 1 0 1 -|charge 2 0 1002 0,0,0|charge 3 0 2002 1,1,1|charge 2 0 1001 0,0,0|\
+    branch 0,2,1 1 1 -|branch 1,1,1 1 2 3|branch 1,2,1 0 2 4,5";
 
 // Two units of A, which takes 7, and two of B, which takes 3: the charges are 0 and 1,000.
 const TWO: &str = "charge 1 0 1 -|charge 2 0 1001 0,0|charge 3 0 2001 1,1|charge 4 0 3001 2,2";
 
-// One unit of A, which takes 7, two of B, which takes 6, and one of C, which takes 1: the charges are 0, 1,000 and 1,000.
+// One unit of A, which takes 7, two of B, which takes 6, and one of C, which takes 1: the charges are 0, 1,000 and
+// 1,000.
 const THREE: &str =
     "charge 1 0 1 -|charge 2 0 1001 0,0,0|branch 0,2,1 1 1 -|branch 1,1,1 1 2 1|branch 1,2,1 0 2 2,3";
 
@@ -136,31 +138,36 @@ fn is_why(charges: &Numbers, why: &SeqWhy) -> bool
     }
 }
 
-fn is_state(models: usize, rem: &[u64], starts: &[u64]) -> bool
-    ensures { IsTrue result → IsState models 1 rem.now starts.now }
+fn is_state(models: usize, stations: u32, rem: &[u64], starts: &[u64]) -> bool
+    ensures { IsTrue result → IsState models stations rem.now starts.now }
 {
     rem.len() == models
-        && starts.len() == 1
+        && starts.len() == stations as usize
         && are_at_most(rem, 1000)
         && are_at_most(starts, 1_000_000_000)
 }
 
-fn is_entry(models: usize, charges: &Numbers, entry: &SeqEntry) -> bool
-    ensures { IsTrue result → IsEntry models 1 (Some charges.now) entry.now }
+fn is_entry(models: usize, stations: u32, charges: &Numbers, entry: &SeqEntry) -> bool
+    ensures { IsTrue result → IsEntry models stations (Some charges.now) entry.now }
 {
     if entry.least > 1_000_000_000_000_000_000 || !is_why(charges, &entry.why) {
         return false;
     }
     let numbers = numbers_by(models, &entry.why);
-    is_state(numbers, entry.rem.as_slice(), entry.starts.as_slice())
+    is_state(
+        numbers,
+        stations,
+        entry.rem.as_slice(),
+        entry.starts.as_slice(),
+    )
 }
 
-fn are_entries(models: usize, charges: &Numbers, entries: &SeqEntries) -> bool
+fn are_entries(models: usize, stations: u32, charges: &Numbers, entries: &SeqEntries) -> bool
     ensures { IsTrue result → (k : ℕ) (e : Step) → slice_get entries.now k ≡ Some e
-        → IsEntry models 1 (Some charges.now) e }
+        → IsEntry models stations (Some charges.now) e }
 {
     for k in 0..entries.len() {
-        if !is_entry(models, charges, entries.at(k)) {
+        if !is_entry(models, stations, charges, entries.at(k)) {
             return false;
         }
     }
@@ -187,7 +194,8 @@ fn is_in_range(cert: &SeqCert) -> bool
     if !cert.frames.is_empty() || !are_at_most(sequence, u64::from(cert.models) - 1) {
         return false;
     }
-    are_charges(models, charges.as_slice()) && are_entries(models, charges, &cert.entries)
+    are_charges(models, charges.as_slice())
+        && are_entries(models, cert.stations, charges, &cert.entries)
 }
 
 // A certificate of a list, of which the entry with this number is another.
@@ -202,7 +210,7 @@ fn certificate(
 ) -> Result<SeqCert, AllocError> {
     let charges = numbers(alloc, charges)?;
     Ok(SeqCert {
-        models: charges.len() as u32,
+        models: u32::try_from(charges.len()).unwrap_or(0),
         stations: 1,
         charges: Some(charges),
         lower,
@@ -320,9 +328,10 @@ fn tells_entry(alloc: Global, text: &str, steps: u64) -> Result<String, AllocErr
     let charges = numbers(alloc, "0,1000,1000")?;
     let before = entries(alloc, THREE, 9, "")?;
     let entry = entry(alloc, text)?;
-    if !are_charges(3, charges.as_slice())
-        || !are_entries(3, &charges, &before)
-        || !is_entry(3, &charges, &entry)
+    let models = times.demands.len();
+    if !are_charges(models, charges.as_slice())
+        || !is_entry(models, times.stations, &charges, &entry)
+        || !are_entries(models, times.stations, &charges, &before)
     {
         return format!(in alloc; "range");
     }
@@ -374,13 +383,20 @@ fn push_entry(text: &mut String, entry: &SeqEntry) -> Result<(), AllocError> {
     }
 }
 
+// All but the last of the list of three models.
+const FOUR: &str = "charge 1 0 1 -|charge 2 0 1001 0,0,0|branch 0,2,1 1 1 -|branch 1,1,1 1 2 1";
+
 // What is kept of the old list of three models, as a text.
 fn kept(alloc: Global, room: u64) -> Result<String, AllocError> {
     let times = three_models(alloc)?;
     let charges = numbers(alloc, "0,1000,1000")?;
     let old = entries(alloc, OLD, 9, "")?;
     let mut text = String::new(alloc);
-    if room > 1_999_999 || !are_charges(3, charges.as_slice()) || !are_entries(3, &charges, &old) {
+    let models = times.demands.len();
+    if room > 1_999_999
+        || !are_charges(models, charges.as_slice())
+        || !are_entries(models, times.stations, &charges, &old)
+    {
         return Ok(text);
     }
     let SeqWarmed::Done(kept) = warm_seq(alloc, &times, 5, 6, &charges, &old, room) else {

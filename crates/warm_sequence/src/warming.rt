@@ -148,8 +148,8 @@ fn go_over(
 /// units passes `room` with it.
 ///
 /// `interval` is the launch interval and `reach` the length of each station, in the mix's time unit, 1 to 10^9;
-/// `charges` has the charge of each model, 0 to 10^14; `room` is at most 1,999,999. The old entries are within the ranges
-/// of a certificate. Takes memory for the kept entries and for a number of each old one.
+/// `charges` has the charge of each model, 0 to 10^14; `room` is at most 1,999,999. The old entries are within the
+/// ranges of a certificate. Takes memory for the kept entries and for a number of each old one.
 pub fn warm_seq(
     alloc: Global,
     times: &Times,

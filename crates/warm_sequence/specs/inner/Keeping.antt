@@ -20,7 +20,8 @@ AreOfMix t charges es = (k : ℕ) (e : SeqEntry) → slice_get es k ≡ Some e �
 
 -- What holds of the kept entries: they are derived and in range, they and their units have room, and each number is of
 -- one of them.
-pub record IsSound (t : Times) (interval reach : ℕ) (charges : List ℕ) (room : ℕ) (k : Taking) (units : ℕ) : Type 0 where
+pub record IsSound (t : Times) (interval reach : ℕ) (charges : List ℕ) (room : ℕ) (k : Taking)
+    (units : ℕ) : Type 0 where
   pub derived : IsDerived t interval reach charges k.kept
   pub range : AreOfMix t charges k.kept
   pub few : length k.kept ≤ room
@@ -30,7 +31,8 @@ pub record IsSound (t : Times) (interval reach : ℕ) (charges : List ℕ) (room
 
 -- what is found of an old entry: that it is kept so, with these units and within the ranges; or that it isn't kept
 abbrev pub IsJudged : Times → ℕ → ℕ → List ℕ → ℕ → Taking → SeqEntry → Option Judged → Type 0
-IsJudged t interval reach charges room k old None = (new : SeqEntry) → IsKept t interval reach charges room k old new → ⊥
+IsJudged t interval reach charges room k old None = (new : SeqEntry)
+    → IsKept t interval reach charges room k old new → ⊥
 IsJudged t interval reach charges room k old (Some j) =
     IsKept t interval reach charges room k old j.entry × IsOfMix t charges j.entry
     × (j.units ≡ entry_units charges j.entry)

@@ -11,7 +11,8 @@ loop-k-init c = λ j e l h a. omega (arith, l)
 
 pub loop-k-preserved : goal.loop-k-preserved
 loop-k-preserved c =
-    below_next (λ (j : ℕ) (e : SeqEntry). Answers c.args.charges.now e c.args.rem.now c.args.starts.now c.args.need → ⊥) c.args.entries.now
+    below_next (λ (j : ℕ) (e : SeqEntry). Answers c.args.charges.now e c.args.rem.now c.args.starts.now c.args.need
+    → ⊥) c.args.entries.now
     c.loop-k.k c.at.result.now c.at.ensures c.loop-k.invariant
     (λ a. false≢true (sym c.if-answers.false ∙ c.answers.ensures.1 a))
 

@@ -26,9 +26,11 @@ returns c =
     let begun : List ℕ = take c.args.times.now.stations (replicate 64 zero) in
     let is : begun ≡ root = take-replicate c.args.times.now.stations 64 zero c.requires.times.few in
     let listed : List ℕ = listed_charges c.args.cert.now.charges in (
-      λ e l. moved c.args.cert.now.entries c.args.charges.now listed c.as_slice.result.now c.args.times.now.demands begun
+      λ e l. moved c.args.cert.now.entries c.args.charges.now listed c.as_slice.result.now c.args.times.now.demands
+          begun
           root c.args.cert.now.lower c.requires.charges c.as_slice.ensures is (c.has_answer.ensures.some e),
       λ h. c.has_answer.ensures.none (moved c.args.cert.now.entries listed c.args.charges.now c.args.times.now.demands
-          c.as_slice.result.now root begun c.args.cert.now.lower (sym c.requires.charges) (sym c.as_slice.ensures) (sym is)
+          c.as_slice.result.now root begun c.args.cert.now.lower (sym c.requires.charges) (sym c.as_slice.ensures)
+          (sym is)
           (h (omega (arith, c.if-cert-eq0.false)))),
     )

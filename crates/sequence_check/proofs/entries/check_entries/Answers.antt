@@ -35,12 +35,14 @@ returns-in-StepsEnded c = record {
 
 pub loop-k-preserved : goal.loop-k-preserved
 loop-k-preserved c = record {
-  below = right_more c.args.times.now c.args.interval c.args.reach c.args.charges.now c.args.entries.now c.loop-k.k c.loop-k.units
+  below = right_more c.args.times.now c.args.interval c.args.reach c.args.charges.now c.args.entries.now c.loop-k.k
+      c.loop-k.units
       c.in-Right.more c.at.result.now c.at.ensures c.loop-k.invariant.below c.in-Right.ensures.0 c.in-Right.ensures.1;
   few = omega (arith, c.loop-k.invariant.few, c.in-Right.ensures.2);
 }
 
 pub returns : goal.returns
-returns c = all_right c.args.times.now c.args.interval c.args.reach c.args.charges.now c.args.entries.now c.loop-k.k c.loop-k.units
+returns c = all_right c.args.times.now c.args.interval c.args.reach c.args.charges.now c.args.entries.now
+    c.loop-k.k c.loop-k.units
     c.args.steps (omega (arith, c.loop-k-test.false, c.len-k-end.ensures)) c.loop-k.invariant.few
     c.loop-k.invariant.below

@@ -10,7 +10,8 @@ check_after-requires c =
     let t = c.args.times.now in
     let o : Option (List ℕ) = option_map (λ a. a.now) c.args.charges in
     let same : listed_charges o ≡ c.as_slice.result.now =
-    ap (λ (z : Option (Bor (List ℕ))). listed_charges (option_map (λ a. a.now) z)) c.in-Some.is ∙ sym c.as_slice.ensures in
+    ap (λ (z : Option (Bor (List ℕ))). listed_charges (option_map (λ a. a.now) z)) c.in-Some.is
+    ∙ sym c.as_slice.ensures in
     let P : List ℕ → Type 0 = λ z. IsPosedEntry t c.args.interval c.args.reach z c.args.entry.now in
     let Q : List ℕ → Type 0 = λ z. AreCitable z c.args.before.now in
     record {

@@ -33,13 +33,15 @@ returns-in-StepsEnded c = record {
 
 pub loop-j-preserved : goal.loop-j-preserved
 loop-j-preserved c = record {
-  below = frames_more c.args.times.now c.args.interval c.args.reach c.args.charges.now c.args.entries.now c.args.frames.now c.loop-j.j
+  below = frames_more c.args.times.now c.args.interval c.args.reach c.args.charges.now c.args.entries.now
+      c.args.frames.now c.loop-j.j
       c.loop-j.units c.in-Right.more c.at-frame.result.now c.at-frame.ensures c.loop-j.invariant.below
       c.in-Right.ensures.0 c.in-Right.ensures.1;
   few = omega (arith, c.loop-j.invariant.few, c.in-Right.ensures.2);
 }
 
 pub returns : goal.returns
-returns c = all_frames c.args.times.now c.args.interval c.args.reach c.args.charges.now c.args.entries.now c.args.frames.now c.loop-j.j
+returns c = all_frames c.args.times.now c.args.interval c.args.reach c.args.charges.now c.args.entries.now
+    c.args.frames.now c.loop-j.j
     c.loop-j.units c.args.steps (omega (arith, c.loop-j-test.false, c.len-j-end.ensures)) c.loop-j.invariant.few
     c.loop-j.invariant.below

@@ -12,7 +12,8 @@ returns-clause-some c =
       c.at.result.now,
       (
         c.at.ensures,
-        cited_from c.args.charges.now c.args.entries.now c.args.k c.at.result.now c.at-cited.result.now (less_one c.args.rem.now c.args.model)
+        cited_from c.args.charges.now c.args.entries.now c.args.k c.at.result.now c.at-cited.result.now
+            (less_one c.args.rem.now c.args.model)
             _ (next_starts c.args.times.now c.args.interval c.args.reach c.args.model c.args.starts.now) _
             (c.args.need - step_cost c.args.times.now c.args.reach c.args.model c.args.starts.now) c.in-Some.rest
             low c.at-cited.ensures (c.answers.ensures.0 c.if-not-answers.false) c.in-Some.ensures.left

@@ -1,6 +1,5 @@
-use Rattle.std.proofs.Common.{◌≡◌, ◌∙◌, ℕ, sym, ap, arith, Some}
+use Rattle.std.proofs.Common.{◌≡◌, ◌∙◌, sym, ap, arith, Some}
 use Rattle.warm_sequence.specs.Warm.{renumbered}
-use Rattle.warm_sequence.specs.inner.Keeping.{IsOfMix}
 use Rattle.warm_sequence.proofs.RangeFacts.{renumbered_of_mix}
 use Rattle.warm_sequence.proofs.warming.Warming.judge.Goals as goal
 
