@@ -15,10 +15,6 @@ all_at_most most xs h = λ k d l. omega (arith, get_or_default xs k d 0 l, h k l
 pub all_below : (limit : ℕ) (xs : List ℕ) → ((j : ℕ) → j < length xs → get_or xs j 0 < limit) → All (λ x. x < limit) xs
 all_below limit xs h = λ k d l. omega (arith, get_or_default xs k d 0 l, h k l)
 
--- numbers that are at most so much are at most more
-pub all_weaker : (most more : ℕ) (xs : List ℕ) → most ≤ more → All (λ x. x ≤ most) xs → All (λ x. x ≤ more) xs
-all_weaker most more xs l h = λ k d g. omega (arith, l, h k d g)
-
 -- one number more
 pub all_push : (most x : ℕ) (xs : List ℕ) → x ≤ most → All (λ y. y ≤ most) xs → All (λ y. y ≤ most) (xs ++ x ∷ [])
 all_push most x xs l h = All-append (λ y. y ≤ most) xs (x ∷ []) h (λ k d g. one k d g)
