@@ -4,9 +4,8 @@
 //! asked, so that few lemmas serve many nodes.
 ghost use Rattle.sequence_rules.specs.Charges.{AreCharges};
 
-use crate::moving::Grown;
-use crate::passes::{Pass, charged};
 use sequence_values::Numbers;
+use sequence_walk::{Grown, Pass, charged};
 use std::alloc::{AllocError, Global};
 
 /// What lemmas are told by.

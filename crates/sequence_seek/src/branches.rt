@@ -5,9 +5,7 @@
 //! found, and a node is asked for what it has to show.
 
 use crate::asking::{Asked, Telling};
-use crate::layers::{Indexed, Layer, Step};
-use crate::steps::{Led, led_by};
-use crate::testing::is_state;
+use sequence_walk::{Indexed, Layer, Led, Step, is_state, led_by};
 use std::alloc::{AllocError, Global};
 
 /// What a step of a state is answered by, with a unit less.

@@ -7,8 +7,8 @@ ghost use Rattle.sequence_rules.specs.Charges.{AreCharges};
 
 use crate::asking::{Asked, Telling};
 use crate::branches::{Branch, Cite, Descent};
-use crate::layers::{Indexed, Layer};
 use sequence_values::{Numbers, SeqEntries, SeqEntry, SeqWhy};
+use sequence_walk::{Indexed, Layer};
 use std::alloc::{AllocError, Global};
 
 /// The most units of the entries of a list.

@@ -1,19 +1,9 @@
-//! Sequences: the one in model order, and the best one that was found.
-ghost use Rattle.std.specs.Prelude.{◌≡◌, ◌++◌, ◌<◌, ◌≤◌, length, replicate, All, IfOk, OnOk, IsTrue};
+//! The sequence in model order: what a seek begins with, and what stands in reserve.
+ghost use Rattle.std.specs.Prelude.{◌≡◌, ◌++◌, replicate, IfOk, OnOk};
 ghost use Rattle.sequence_rules.specs.States.{IsSequenceOf};
 
-use sequence_rules::is_sequence_of;
 use sequence_values::Numbers;
 use std::alloc::{AllocError, Global};
-
-/// A sequence and its utility work.
-#[derive(Drop)]
-pub(crate) struct Best {
-    /// The models in the order of their launch, from 0.
-    pub sequence: Numbers,
-    /// The utility work.
-    pub total: u64,
-}
 
 /// Puts so many units of a model at the end of a sequence.
 fn push_units(sequence: &mut Vec<u64>, model: u64, count: u64) -> Result<(), AllocError>

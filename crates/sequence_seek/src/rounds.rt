@@ -6,15 +6,14 @@
 ghost use Rattle.std.specs.Prelude.{◌≡◌, ◌≤◌, IfOk};
 
 use crate::asking::Telling;
-use crate::layers::Indexed;
 use crate::list::list;
-use crate::moving::{Grown, first_charges, moved};
-use crate::orders::Best;
-use crate::passes::{Charges, Pass, charges_of, make_pass};
-use crate::walk::{Walk, walk_from_root};
 use sequence_rules::MAX_MODELS;
 use sequence_table::Table;
 use sequence_values::SeqEntries;
+use sequence_walk::{
+    Charges, Costed, Grown, Indexed, Pass, Walk, charges_of, first_charges, make_pass, moved,
+    walk_from_root,
+};
 use std::alloc::{AllocError, Global};
 
 /// The budget of the first round, in units.
@@ -58,7 +57,7 @@ enum Ending {
 #[derive(Drop)]
 pub(crate) struct Found {
     /// The best sequence.
-    pub best: Best,
+    pub best: Costed,
     /// The charges that the lemmas speak of.
     pub charges: Charges,
     /// The lemmas.
@@ -71,7 +70,7 @@ pub(crate) struct Found {
 #[derive(Drop)]
 struct Seek {
     grown: Grown,
-    best: Best,
+    best: Costed,
     charges: Charges,
     round: Round,
     /// The pass before the last walk.
@@ -281,7 +280,7 @@ impl Seek {
 pub(crate) fn seek_from(
     alloc: Global,
     table: Table,
-    best: Best,
+    best: Costed,
     limit: u64,
 ) -> Result<Found, AllocError>
     ensures { IfOk result (λ f. f.left ≤ limit) }

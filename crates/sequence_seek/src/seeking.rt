@@ -4,14 +4,14 @@ ghost use Rattle.sequence_rules.specs.States.{IsSequenceOf};
 ghost use Rattle.sequence_rules.specs.Ranges.{AreTimes, IsPlace, AreLight};
 ghost use Rattle.sequence_seek.specs.Sought.{AreEntries, Seeks, IsFound};
 
-use crate::orders::{Best, in_order};
-use crate::passes::listed;
+use crate::orders::in_order;
 use crate::rounds::{Found, seek_from};
-use crate::testing::{are_at_most, are_entries, are_units, is_sequence};
+use crate::testing::{are_entries, are_units, is_sequence};
 use crate::types::SeqSought;
 use sequence_rules::{MAX_MODELS, sequence_cost};
 use sequence_table::{Tabled, open_table};
 use sequence_values::{Numbers, SeqEntries, Times};
+use sequence_walk::{Costed, are_at_most, listed};
 use std::alloc::{AllocError, Global};
 
 /// The greatest work that a seek is made for: a unit's charged cost stays below 10^15.
@@ -32,7 +32,7 @@ fn total_of(times: &Times, interval: u64, reach: u64, sequence: &[u64]) -> u64
 }
 
 /// What is found without a unit: a sequence, and no lemma.
-fn found_at_once(alloc: Global, best: Best, limit: u64) -> Found
+fn found_at_once(alloc: Global, best: Costed, limit: u64) -> Found
     ensures { result.left ≡ limit }
 {
     Found {
@@ -58,7 +58,7 @@ fn sought(
 {
     let sequence = in_order(alloc, times.demands.as_slice())?;
     let total = total_of(times, interval, reach, sequence.as_slice());
-    let best = Best { sequence, total };
+    let best = Costed { sequence, total };
     if total == 0 {
         return Ok(found_at_once(alloc, best, limit));
     }
@@ -107,7 +107,7 @@ fn tested(alloc: Global, times: &Times, found: Found, limit: u64) -> Result<SeqS
         lemmas,
         left,
     } = found;
-    let Best { sequence, .. } = best;
+    let Costed { sequence, .. } = best;
     Ok(SeqSought::Done {
         sequence: tested_sequence(alloc, times, sequence)?,
         charges: listed(alloc, &charges, times.demands.len())?,

@@ -1,29 +1,18 @@
-//! Tests of what comes out of a seek, and of the states that it goes over.
+//! Tests of what comes out of a seek.
 //!
 //! What a seek promises of its answer is shown by these tests, in the place of long proofs on how it came to it. Each
 //! goes once over the numbers that it is about.
 ghost use Rattle.std.specs.Prelude.{◌≡◌, ℕ, ◌≤◌, ◌<◌, List, length, All, IsTrue, Some};
 ghost use Rattle.sequence_rules.specs.States.{IsSequenceOf};
-ghost use Rattle.sequence_rules.specs.Ranges.{IsState, IsWhy, IsEntry, numbers_by};
+ghost use Rattle.sequence_rules.specs.Ranges.{IsWhy, IsEntry, numbers_by};
 ghost use Rattle.sequence_seek.specs.Sought.{AreEntries};
 
 use sequence_rules::is_sequence_of;
 use sequence_values::{SeqEntries, SeqEntry, SeqWhy, Times};
+use sequence_walk::{are_at_most, is_state_of};
 
 /// The greatest number of a certificate's text.
 const MOST: u64 = 1_000_000_000_000_000_000;
-
-/// Whether each number is at most so much.
-pub(crate) fn are_at_most(numbers: &[u64], most: u64) -> bool
-    ensures { IsTrue result → All (λ n. n ≤ most) numbers.now }
-{
-    for n in numbers {
-        if *n > most {
-            return false;
-        }
-    }
-    true
-}
 
 /// Whether each number is below a limit.
 fn are_below(numbers: &[u64], limit: usize) -> bool
@@ -56,29 +45,6 @@ pub(crate) fn is_sequence(times: &Times, sequence: &[u64]) -> bool
         return false;
     }
     is_sequence_of(times.demands.as_slice(), sequence)
-}
-
-/// Whether there are so many numbers of units, 0 to 1,000 each, and so many starts, 0 to 10^9 each.
-fn is_state_of(models: usize, stations: usize, rem: &[u64], starts: &[u64]) -> bool
-    ensures { IsTrue result → IsState models stations rem.now starts.now }
-{
-    if rem.len() != models {
-        return false;
-    }
-    if starts.len() != stations {
-        return false;
-    }
-    if !are_at_most(rem, 1000) {
-        return false;
-    }
-    are_at_most(starts, 1_000_000_000)
-}
-
-/// Whether these are what is left of each model, and starts at each station.
-pub(crate) fn is_state(times: &Times, rem: &[u64], starts: &[u64]) -> bool
-    ensures { IsTrue result → IsState (length times.now.demands) times.now.stations rem.now starts.now }
-{
-    is_state_of(times.demands.len(), times.stations as usize, rem, starts)
 }
 
 /// How many numbers of units an entry has, by its reason.

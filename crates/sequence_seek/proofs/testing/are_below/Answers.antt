@@ -1,5 +1,5 @@
 use Rattle.std.proofs.Common.{arith}
-use Rattle.sequence_seek.proofs.StateFacts.{all_below}
+use Rattle.sequence_walk.proofs.StateFacts.{all_below}
 use Rattle.sequence_seek.proofs.testing.are_below.Goals as goal
 
 pub returns : goal.returns

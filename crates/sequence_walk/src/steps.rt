@@ -7,7 +7,7 @@ use sequence_table::Table;
 
 /// What a step leads to.
 #[derive(Clone, Copy)]
-pub(crate) struct Led {
+pub struct Led {
     rem: [u64; MAX_MODELS],
     starts: [u64; MAX_STATIONS],
     models: usize,
@@ -20,18 +20,18 @@ pub(crate) struct Led {
 
 impl Led {
     /// What is left of each model.
-    pub(crate) fn rem(&self) -> &[u64] {
+    pub fn rem(&self) -> &[u64] {
         &self.rem[..self.models.min(MAX_MODELS)]
     }
 
     /// Where the next unit is begun at each station.
-    pub(crate) fn starts(&self) -> &[u64] {
+    pub fn starts(&self) -> &[u64] {
         &self.starts[..self.stations.min(MAX_STATIONS)]
     }
 }
 
 /// The step of a state by a model, counted from 0.
-pub(crate) fn led_by(table: &Table, rem: &[u64], starts: &[u64], model: usize) -> Led
+pub fn led_by(table: &Table, rem: &[u64], starts: &[u64], model: usize) -> Led
     requires state { IsState (length table.now.times.demands) table.now.times.stations rem.now starts.now }
     requires model { model < length rem.now }
 {

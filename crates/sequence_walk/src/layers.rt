@@ -9,7 +9,7 @@ use std::collections::HashMap;
 
 /// How a walk came to a state. Models and nodes are counted from 0.
 #[derive(Clone, Copy)]
-pub(crate) struct Step {
+pub struct Step {
     /// The utility work so far.
     pub cost: u64,
     /// The node that it is bounded by.
@@ -22,7 +22,7 @@ pub(crate) struct Step {
 
 impl Step {
     /// That to the root.
-    pub(crate) fn root() -> Step {
+    pub fn root() -> Step {
         Step {
             cost: 0,
             node: 0,
@@ -32,7 +32,7 @@ impl Step {
     }
 
     /// The step behind it, by a model that costs so much and whose next node is this one, from place `from`.
-    pub(crate) fn then(&self, cost: u64, node: u32, from: usize, model: usize) -> Step {
+    pub fn then(&self, cost: u64, node: u32, from: usize, model: usize) -> Step {
         Step {
             cost: self.cost.saturating_add(cost),
             node,
@@ -44,7 +44,7 @@ impl Step {
 
 /// States of a walk, in order.
 #[derive(Drop)]
-pub(crate) struct Layer {
+pub struct Layer {
     models: usize,
     stations: usize,
     rems: Vec<u64>,
@@ -64,7 +64,7 @@ fn row(all: &[u64], width: usize, k: usize) -> &[u64] {
 
 impl Layer {
     /// No state, of so many models and stations.
-    pub(crate) fn new(alloc: Global, models: usize, stations: usize) -> Layer {
+    pub fn new(alloc: Global, models: usize, stations: usize) -> Layer {
         Layer {
             models,
             stations,
@@ -75,22 +75,22 @@ impl Layer {
     }
 
     /// How many states there are.
-    pub(crate) fn len(&self) -> usize {
+    pub fn len(&self) -> usize {
         self.steps.len()
     }
 
     /// What is left of each model, of the state at place `k`.
-    pub(crate) fn rem(&self, k: usize) -> &[u64] {
+    pub fn rem(&self, k: usize) -> &[u64] {
         row(self.rems.as_slice(), self.models, k)
     }
 
     /// Where the next unit is begun at each station, of the state at place `k`.
-    pub(crate) fn starts(&self, k: usize) -> &[u64] {
+    pub fn starts(&self, k: usize) -> &[u64] {
         row(self.starts.as_slice(), self.stations, k)
     }
 
     /// How the walk came to the state at place `k`; as to the root where there is none.
-    pub(crate) fn step(&self, k: usize) -> Step {
+    pub fn step(&self, k: usize) -> Step {
         if k >= self.steps.len() {
             return Step::root();
         }
@@ -98,12 +98,7 @@ impl Layer {
     }
 
     /// Puts a state at the end.
-    pub(crate) fn push(
-        &mut self,
-        rem: &[u64],
-        starts: &[u64],
-        step: Step,
-    ) -> Result<(), AllocError> {
+    pub fn push(&mut self, rem: &[u64], starts: &[u64], step: Step) -> Result<(), AllocError> {
         self.rems.extend_from_slice(rem)?;
         self.starts.extend_from_slice(starts)?;
         self.steps.push(step)?;
@@ -129,7 +124,7 @@ fn key_of(rem: &[u64]) -> u64 {
 
 /// States with an index.
 #[derive(Drop)]
-pub(crate) struct Indexed {
+pub struct Indexed {
     /// The states.
     pub layer: Layer,
     latest: HashMap<u64, usize>,
@@ -138,7 +133,7 @@ pub(crate) struct Indexed {
 
 impl Indexed {
     /// No state, of so many models and stations.
-    pub(crate) fn new(alloc: Global, models: usize, stations: usize) -> Indexed {
+    pub fn new(alloc: Global, models: usize, stations: usize) -> Indexed {
         Indexed {
             layer: Layer::new(alloc, models, stations),
             latest: HashMap::new(alloc),
@@ -147,12 +142,7 @@ impl Indexed {
     }
 
     /// Puts a state at the end.
-    pub(crate) fn push(
-        &mut self,
-        rem: &[u64],
-        starts: &[u64],
-        step: Step,
-    ) -> Result<(), AllocError> {
+    pub fn push(&mut self, rem: &[u64], starts: &[u64], step: Step) -> Result<(), AllocError> {
         let last = self.latest.insert(key_of(rem), self.layer.len())?;
         self.before.push(last)?;
         self.layer.push(rem, starts, step)
@@ -160,7 +150,7 @@ impl Indexed {
 
     /// The first state that stands for another: it has the same units left, starts that are no later at any station,
     /// and a cost that is no greater.
-    pub(crate) fn first_standing(&self, rem: &[u64], starts: &[u64], cost: u64) -> Option<usize> {
+    pub fn first_standing(&self, rem: &[u64], starts: &[u64], cost: u64) -> Option<usize> {
         let mut first = None;
         let mut next = self.latest.get(&key_of(rem)).copied();
         for _ in 0..self.before.len() {

@@ -11,13 +11,13 @@ use sequence_values::Numbers;
 use std::alloc::{AllocError, Global};
 
 /// The greatest charge of a model.
-pub(crate) const MAX_CHARGE: u64 = 100_000_000_000_000;
+pub const MAX_CHARGE: u64 = 100_000_000_000_000;
 
 /// A charge for each model, and 0 for what is no model.
-pub(crate) type Charges = [u64; MAX_MODELS];
+pub type Charges = [u64; MAX_MODELS];
 
-/// The charges of so many models, as a list.
-pub(crate) fn listed(alloc: Global, charges: &Charges, models: usize) -> Result<Numbers, AllocError>
+/// The charges of so many models as a list, each at most 10^14. An error where memory is wanting.
+pub fn listed(alloc: Global, charges: &Charges, models: usize) -> Result<Numbers, AllocError>
     requires { models ≤ 16 }
     ensures { IfOk result (λ v. IsChargesOf models v) }
 {
@@ -28,19 +28,15 @@ pub(crate) fn listed(alloc: Global, charges: &Charges, models: usize) -> Result<
     Ok(Numbers::from_vec(list))
 }
 
-/// The charges of a table's models, as a list.
-pub(crate) fn charges_of(
-    alloc: Global,
-    table: &Table,
-    charges: &Charges,
-) -> Result<Numbers, AllocError>
+/// The charges of a table's models as a list. An error where memory is wanting.
+pub fn charges_of(alloc: Global, table: &Table, charges: &Charges) -> Result<Numbers, AllocError>
     ensures { IfOk result (λ v. AreCharges table.now.times v) }
 {
     listed(alloc, charges, table.models() as usize)
 }
 
-/// The charged cost of a unit of a model from a node; 0 where there is none.
-pub(crate) fn charged(table: &Table, charges: &[u64], node: u32, model: usize) -> u64
+/// The charged cost of a unit of a model from a node, both counted from 0; 0 where there is no such node or model.
+pub fn charged(table: &Table, charges: &[u64], node: u32, model: usize) -> u64
     requires { AreCharges table.now.times charges.now }
     ensures { result ≤ 740000000000000 }
 {
@@ -52,7 +48,7 @@ pub(crate) fn charged(table: &Table, charges: &[u64], node: u32, model: usize) -
 
 /// What a pass told.
 #[derive(Drop)]
-pub(crate) struct Pass {
+pub struct Pass {
     /// The charges that it was made with.
     pub charges: Charges,
     told: Told,
@@ -71,12 +67,8 @@ fn nexts(alloc: Global, table: &Table) -> Result<Vec<u32>, AllocError> {
     Ok(nexts)
 }
 
-/// Makes a pass over a table.
-pub(crate) fn make_pass(
-    alloc: Global,
-    table: &Table,
-    charges: &Charges,
-) -> Result<Pass, AllocError> {
+/// Makes a pass over a table: it costs as many units as there are nodes. An error where memory is wanting.
+pub fn make_pass(alloc: Global, table: &Table, charges: &Charges) -> Result<Pass, AllocError> {
     let list = charges_of(alloc, table, charges)?;
     let Passed::Done(told) = table.pass(alloc, &list) else {
         return Err(AllocError);
@@ -91,19 +83,19 @@ pub(crate) fn make_pass(
 
 impl Pass {
     /// How many nodes there were.
-    pub(crate) fn nodes(&self) -> u32 {
+    pub fn nodes(&self) -> u32 {
         self.told.nodes()
     }
 
     /// How many units are wanted.
-    pub(crate) fn units(&self) -> usize
+    pub fn units(&self) -> usize
         ensures { result < 4294967296 }
     {
         self.told.left() as usize
     }
 
     /// The value of a node with so many units left; 0 where there is none.
-    pub(crate) fn value(&self, left: usize, node: u32) -> u64
+    pub fn value(&self, left: usize, node: u32) -> u64
         ensures { result < 1000000000000000000 }
     {
         if left > self.told.left() as usize || node >= self.told.nodes() {
@@ -112,16 +104,16 @@ impl Pass {
         self.told.value(left as u32, node)
     }
 
-    /// The next node of a node and a model.
-    pub(crate) fn next(&self, node: u32, model: usize) -> u32 {
+    /// The next node of a node and a model when the pass was made; node 0 where there is none.
+    pub fn next(&self, node: u32, model: usize) -> u32 {
         let place = (node as usize)
             .saturating_mul(self.models)
             .saturating_add(model);
         self.nexts.get(place).copied().unwrap_or(0)
     }
 
-    /// The charges of the units that are left, `rem` of each model.
-    pub(crate) fn owed(&self, rem: &[u64]) -> u64 {
+    /// The charges of the units that are left, `rem` of each model: at most 1,600,000,000,000,000,000.
+    pub fn owed(&self, rem: &[u64]) -> u64 {
         let mut owed = 0u64;
         for (m, units) in rem.iter().enumerate() {
             if m < MAX_MODELS {

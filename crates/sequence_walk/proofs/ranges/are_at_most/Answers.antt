@@ -1,6 +1,6 @@
 use Rattle.std.proofs.Common.{arith}
-use Rattle.sequence_seek.proofs.StateFacts.{all_at_most}
-use Rattle.sequence_seek.proofs.testing.are_at_most.Goals as goal
+use Rattle.sequence_walk.proofs.StateFacts.{all_at_most}
+use Rattle.sequence_walk.proofs.ranges.are_at_most.Goals as goal
 
 pub returns : goal.returns
 returns c = λ e. all_at_most c.args.most c.args.numbers.now

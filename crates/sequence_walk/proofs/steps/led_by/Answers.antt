@@ -1,7 +1,7 @@
 use Rattle.std.proofs.Common.{◌≡◌, ap, ℕ, ◌≤◌, List, length, sum, sym, subst, arith}
 use Rattle.sequence_values.specs.declared.types.Times.{Times}
-use Rattle.sequence_seek.proofs.StateFacts.{few_left}
-use Rattle.sequence_seek.proofs.steps.led_by.Goals as goal
+use Rattle.sequence_walk.proofs.StateFacts.{few_left}
+use Rattle.sequence_walk.proofs.steps.led_by.Goals as goal
 
 pub state_bound-bound-requires-clause-few : goal.state_bound-bound-requires-clause-few
 state_bound-bound-requires-clause-few c =

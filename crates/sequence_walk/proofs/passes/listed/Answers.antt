@@ -1,8 +1,7 @@
-use Rattle.std.proofs.Common.{◌≡◌, ◌∙◌, ◌++◌, ◌∷◌, [], ◌≤◌, ℕ, List, length, length-append, sym, ap, subst, arith}
+use Rattle.std.proofs.Common.{◌≡◌, ◌++◌, ◌∷◌, [], ◌≤◌, ℕ, List, length, length-append, sym, ap, subst, arith}
 use Rattle.std.specs.Prelude.{All}
-use Rattle.sequence_rules.specs.Charges.{IsChargesOf}
-use Rattle.sequence_seek.proofs.StateFacts.{all_push}
-use Rattle.sequence_seek.proofs.passes.listed.Goals as goal
+use Rattle.sequence_walk.proofs.StateFacts.{all_push}
+use Rattle.sequence_walk.proofs.passes.listed.Goals as goal
 
 pub loop-m-preserved : goal.loop-m-preserved
 loop-m-preserved c =

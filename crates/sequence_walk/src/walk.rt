@@ -6,10 +6,9 @@
 ghost use Rattle.std.specs.Prelude.{◌≤◌};
 
 use crate::layers::{Indexed, Layer, Step};
-use crate::orders::Best;
 use crate::passes::Pass;
+use crate::ranges::is_state;
 use crate::steps::{Led, led_by};
-use crate::testing::is_state;
 use sequence_table::Table;
 use sequence_values::Numbers;
 use std::alloc::{AllocError, Global};
@@ -17,11 +16,20 @@ use std::cmp::Reverse;
 
 /// A walk that was not given up.
 #[derive(Drop)]
-pub(crate) struct Walk {
+pub struct Walk {
     /// The states that were kept: the root, those with a unit less, and so on.
     pub layers: Vec<Indexed>,
     /// Whether no state was dropped for want of width.
     pub whole: bool,
+}
+
+/// A sequence that a walk found.
+#[derive(Drop)]
+pub struct Costed {
+    /// The models in the order of their launch, from 0.
+    pub sequence: Numbers,
+    /// The utility work of the walk's steps.
+    pub total: u64,
 }
 
 /// What the steps of a layer lead to.
@@ -134,18 +142,16 @@ impl Candidates {
     }
 }
 
-/// Takes all steps of a layer, whose states have `left` units left and one more. None where the units ended.
+/// Takes all steps of a layer. None where the units ended.
 fn next_layer(
-    alloc: Global,
     table: &Table,
     pass: &Pass,
     layer: &Layer,
-    candidates: Candidates,
+    mut candidates: Candidates,
     units: &mut u64,
 ) -> Result<Option<Candidates>, AllocError>
     ensures { units.new ≤ units.old }
 {
-    let mut candidates = candidates;
     for from in 0..layer.len() {
         if !candidates.push_steps(table, pass, layer, from, units)? {
             return Ok(None);
@@ -156,7 +162,7 @@ fn next_layer(
 
 /// Walks from the root, with so many states a layer at most, in search of a total below the best one. Takes a unit a
 /// step from `units`; none where they ended.
-pub(crate) fn walk_from_root(
+pub fn walk_from_root(
     alloc: Global,
     table: &Table,
     pass: &Pass,
@@ -180,8 +186,7 @@ pub(crate) fn walk_from_root(
             ),
             order: Vec::new(alloc),
         };
-        let Some(candidates) = next_layer(alloc, table, pass, &last.layer, candidates, units)?
-        else {
+        let Some(candidates) = next_layer(table, pass, &last.layer, candidates, units)? else {
             return Ok(None);
         };
         let kept = candidates.keep(alloc, table, width)?;
@@ -195,7 +200,7 @@ pub(crate) fn walk_from_root(
 
 impl Walk {
     /// The sequence to the first state that has nothing left, with its utility work, where there is one.
-    pub(crate) fn found(&self, alloc: Global) -> Result<Option<Best>, AllocError> {
+    pub fn found(&self, alloc: Global) -> Result<Option<Costed>, AllocError> {
         let Some(last) = self.layers.last() else {
             return Ok(None);
         };
@@ -210,7 +215,7 @@ impl Walk {
             step = self.layers[k - 1].layer.step(step.from);
         }
         models.reverse();
-        Ok(Some(Best {
+        Ok(Some(Costed {
             sequence: Numbers::from_vec(models),
             total: end.cost,
         }))

@@ -1,7 +1,7 @@
 -- Numbers in their ranges, and states of which a unit is launched.
-use Rattle.std.proofs.Common.{◌≡◌, ℕ, zero, suc, ◌+◌, ◌-◌, ◌*◌, ◌<◌, ◌≤◌, List, [], ◌∷◌, ◌++◌, length, get_or, sum}
-use Rattle.std.proofs.Common.{arith, length-append, sym, subst, ap}
-use Rattle.std.specs.Prelude.{All, sum_by}
+use Rattle.std.proofs.Common.{ℕ, zero, suc, ◌-◌, ◌*◌, ◌<◌, ◌≤◌, List, [], ◌∷◌, ◌++◌, length, get_or, sum}
+use Rattle.std.proofs.Common.{arith}
+use Rattle.std.specs.Prelude.{All}
 use Rattle.std.proofs.lemmas.List.{get_or_default}
 use Rattle.std.proofs.lemmas.List.Elements.{All-append}
 use Rattle.std.proofs.lemmas.List.Sums.{sum_by-cons}
@@ -14,10 +14,6 @@ all_at_most most xs h = λ k d l. omega (arith, get_or_default xs k d 0 l, h k l
 
 pub all_below : (limit : ℕ) (xs : List ℕ) → ((j : ℕ) → j < length xs → get_or xs j 0 < limit) → All (λ x. x < limit) xs
 all_below limit xs h = λ k d l. omega (arith, get_or_default xs k d 0 l, h k l)
-
--- numbers that are at most so much are at most more
-pub all_weaker : (most more : ℕ) (xs : List ℕ) → most ≤ more → All (λ x. x ≤ most) xs → All (λ x. x ≤ more) xs
-all_weaker most more xs l h = λ k d g. omega (arith, l, h k d g)
 
 -- one number more
 pub all_push : (most x : ℕ) (xs : List ℕ) → x ≤ most → All (λ y. y ≤ most) xs → All (λ y. y ≤ most) (xs ++ x ∷ [])

@@ -20,7 +20,7 @@ struct RowStep {
 
 /// A table, and for each node the one that it is like: the next node of its step before the step was opened.
 #[derive(Drop)]
-pub(crate) struct Grown {
+pub struct Grown {
     /// The table.
     pub table: Table,
     /// For each node, the one that it is like, and node 0 for node 0.
@@ -28,7 +28,7 @@ pub(crate) struct Grown {
 }
 
 /// The first charges: by as much as a unit of each model costs less than the dearest, from the beginning on.
-pub(crate) fn first_charges(table: &Table) -> Charges {
+pub fn first_charges(table: &Table) -> Charges {
     let times = table.times();
     let starts = [0; MAX_STATIONS];
     let mut nexts = [0; MAX_STATIONS];
@@ -89,13 +89,13 @@ fn cheapest_row(alloc: Global, table: &Table, pass: &Pass) -> Result<Vec<RowStep
 
 impl Grown {
     /// A table with node 0 alone.
-    pub(crate) fn new(alloc: Global, table: Table) -> Result<Grown, AllocError> {
+    pub fn new(alloc: Global, table: Table) -> Result<Grown, AllocError> {
         let likes = vec![in alloc; 0]?;
         Ok(Grown { table, likes })
     }
 
     /// The node that a node is like.
-    pub(crate) fn like(&self, node: u32) -> u32 {
+    pub fn like(&self, node: u32) -> u32 {
         self.likes.get(node as usize).copied().unwrap_or(0)
     }
 
@@ -189,7 +189,7 @@ fn shifted(charges: &Charges, excess: &Excess, gap: u64, models: usize) -> Charg
 
 /// Opens the steps of a pass's cheapest row, and moves the charges. `total` is the best total, and above the pass's
 /// value.
-pub(crate) fn moved(
+pub fn moved(
     alloc: Global,
     grown: &mut Grown,
     pass: &Pass,
