@@ -4,10 +4,9 @@ use Rattle.std.specs.Prelude.{◌≡◌, ◌⊎◌, ℕ, ◌+◌, ◌<◌, ◌�
 use Rattle.line_rules.specs.declared.types.Balance.{Balance as Assignment}
 use Rattle.combined_graph.specs.Mixes.{MixedLine, model_at}
 use Rattle.combined_graph.specs.Combined.{total_demand}
-use Rattle.utility_work.specs.Utility.{work_at}
 use Rattle.sequence_rules.specs.States.{unit_work}
 use Rattle.sequence_values.specs.declared.types.Times.{Times}
-use Rattle.sequence_search.specs.Tables.{demand_of}
+use Rattle.sequence_search.specs.Tables.{demand_of, work_at}
 use Rattle.command_outcome.specs.Outcome.{Files, Outside, Outcome, told}
 use Rattle.command_outcome.specs.declared.status.Status.TheVariants as ends
 use Rattle.mix_files.specs.inputs.InputFile.{fault_line}

@@ -2,7 +2,7 @@
 use Rattle.std.specs.Prelude.{◌≡◌, ℕ, ◌+◌, ◌<◌, ◌≤◌, List, [], length, slice_index_or}
 use Rattle.combined_graph.specs.Mixes.{LineModel, MixedLine, model_at}
 use Rattle.line_rules.specs.declared.types.Seatplace.{Seatplace}
-use Rattle.utility_work.specs.Utility.{work_at}
+pub use Rattle.utility_work.specs.Utility.{work_at}
 
 -- how many units of a model are wanted
 abbrev pub demand_of : LineModel → ℕ
