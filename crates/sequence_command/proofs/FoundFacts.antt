@@ -62,5 +62,5 @@ module _ (mix : MixedLine) (t : Times) (interval reach units seek : ℕ) (about 
       further = found.further;
     };
     equal = λ same. absurd (omega (arith, same, found.apart));
-    complete = λ many. absurd (omega (arith, many, begun.units, found.tight));
+    complete = λ many. absurd (omega (arith, many, begun.given, found.tight));
   }

@@ -28,7 +28,7 @@ IsSaid (suc k) t about said = (used : ℕ) × ((used ≤ suc k) × (said ≡ see
 -- the one in the order of the models. Each kept entry follows from those before it, and with the units of the search
 -- they stay within the limits of a certificate and of the default steps of its check.
 pub record IsBegun (t : Times) (interval reach units seek : ℕ) (about : About) (said : List ℕ) : Type 0 where
-  pub units : about.units ≡ units
+  pub given : about.units ≡ units
   pub is : IsSequenceOf t.demands about.first
   pub no_worse : first_cost t interval reach about ≤ cost t interval reach (root_starts t) (model_order t.demands)
   pub charged : AreChargesFor about.kept about.charges
