@@ -8,6 +8,9 @@ use sequence_values::Numbers;
 use sequence_walk::{Grown, Pass, charged};
 use std::alloc::{AllocError, Global};
 
+/// The most units of the entries of a list; one by Charge has a unit for each model.
+pub(crate) const MOST_UNITS: u64 = 999_999;
+
 /// What lemmas are told by.
 #[derive(Drop)]
 pub(crate) struct Telling {
@@ -26,6 +29,8 @@ pub(crate) struct Telling {
 pub(crate) struct Asked {
     nodes: usize,
     bases: Vec<Option<u64>>,
+    /// How many bases there are.
+    many: u64,
 }
 
 impl Telling {
@@ -59,7 +64,11 @@ impl Asked {
         let nodes = pass.nodes() as usize;
         let places = nodes.saturating_mul(pass.units() + 1);
         let bases: Vec<Option<u64>> = vec![in alloc; None; places]?;
-        Ok(Asked { nodes, bases })
+        Ok(Asked {
+            nodes,
+            bases,
+            many: 0,
+        })
     }
 
     /// Where a node stands with so many units left.
@@ -81,7 +90,10 @@ impl Asked {
         let asked = telling.asked_node(left, node, base);
         let greatest = match self.base(left, asked) {
             Some(before) => before.max(base),
-            None => base,
+            None => {
+                self.many = self.many.saturating_add(1);
+                base
+            }
         };
         let place = self.place(left, asked);
         if place < self.bases.len() {
@@ -106,13 +118,23 @@ impl Asked {
         }
     }
 
-    /// Asks all that is behind what was asked: with all units left first, and then with a unit less and less.
+    /// Whether the entries of the nodes that are asked have too many units for a list.
+    pub(crate) fn is_too_much(&self, telling: &Telling) -> bool {
+        let models = u64::from(telling.grown.table.models());
+        self.many.saturating_mul(models) > MOST_UNITS
+    }
+
+    /// Asks all that is behind what was asked: with all units left first, and then with a unit less and less. Gives up
+    /// where that is too much for a list.
     pub(crate) fn ask_all(&mut self, telling: &Telling)
         requires { AreCharges telling.now.grown.table.times telling.now.charges }
     {
         for left in (1..telling.pass.units() + 1).rev() {
             for node in 0..telling.pass.nodes() {
                 self.ask_behind(telling, left, node);
+            }
+            if self.is_too_much(telling) {
+                return;
             }
         }
     }

@@ -5,14 +5,11 @@
 //! value, and by a state of the next layer where that is too low. A list whose units are too many is left out whole.
 ghost use Rattle.sequence_rules.specs.Charges.{AreCharges};
 
-use crate::asking::{Asked, Telling};
+use crate::asking::{Asked, MOST_UNITS, Telling};
 use crate::branches::{Branch, Cite, Descent};
 use sequence_values::{Numbers, SeqEntries, SeqEntry, SeqWhy};
 use sequence_walk::{Indexed, Layer};
 use std::alloc::{AllocError, Global};
-
-/// The most units of the entries of a list.
-const MOST_UNITS: u64 = 999_999;
 
 /// Entries on their way.
 #[derive(Drop)]
@@ -244,6 +241,9 @@ pub(crate) fn list(
     requires { AreCharges telling.now.grown.table.times telling.now.charges }
 {
     let found = asked_and_cited(alloc, telling, layers)?;
+    if found.asked.is_too_much(telling) {
+        return Ok(SeqEntries::from_vec(Vec::new(alloc)));
+    }
     let mut listing = Listing {
         entries: Vec::new(alloc),
         units: 0,

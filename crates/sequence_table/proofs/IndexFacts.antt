@@ -5,7 +5,7 @@ use Rattle.std.proofs.Math.Path.{subst⁻¹}
 use Rattle.std.specs.Prelude.{slice_get}
 use Rattle.std.specs.HashMap.{get, Updates}
 use Rattle.std.proofs.lemmas.Bool.{cases_eq, cases_lt, eq-eqb, ne_eqb}
-use Rattle.std.proofs.lemmas.Option.{slice_get_read, slice_get_within, same_Some}
+use Rattle.std.proofs.lemmas.Option.{slice_get_read, same_Some}
 use Rattle.line_rules.proofs.ListFacts.{get_push_cases}
 use Rattle.sequence_table.specs.Index.{Numbered, key_of, IsMissing, IsLastPlace, IsLastOfKey, IsIndexed, IsLooking}
 use Rattle.sequence_table.specs.Index.{left_of}

@@ -1,4 +1,4 @@
-use Rattle.std.proofs.Common.{ℕ, ◌<◌, ◌≤◌, get_or}
+use Rattle.std.proofs.Common.{ℕ, ◌<◌, get_or}
 use Rattle.sequence_seek.proofs.testing.are_below.Given as goal
 
 abbrev pub invariant-loop-n : goal.invariant-loop-n

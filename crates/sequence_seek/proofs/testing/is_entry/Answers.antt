@@ -1,5 +1,5 @@
-use Rattle.std.proofs.Common.{◌≡◌, ◌∙◌, ℕ, List, length, sym, ap, subst, arith}
-use Rattle.sequence_rules.specs.Ranges.{IsState, IsEntry, numbers_by}
+use Rattle.std.proofs.Common.{◌≡◌, ◌∙◌, ℕ, List, length, ap, subst, arith}
+use Rattle.sequence_rules.specs.Ranges.{IsState, numbers_by}
 use Rattle.sequence_seek.proofs.testing.is_entry.Goals as goal
 
 pub returns : goal.returns

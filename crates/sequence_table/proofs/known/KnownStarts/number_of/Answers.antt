@@ -1,4 +1,4 @@
-use Rattle.std.proofs.Common.{◌≡◌, ◌∙◌, ℕ, Option, List, sym, subst, ap}
+use Rattle.std.proofs.Common.{◌∙◌, ℕ, Option, sym, subst}
 use Rattle.std.proofs.lemmas.Bool.{false≢true}
 use Rattle.sequence_table.specs.Index.{IsLooking}
 use Rattle.sequence_table.proofs.IndexFacts.{found_last, turns_on, turns_down, is_missing}
