@@ -1,2 +1,3 @@
 pub mod WrittenFacts
 pub mod FoundFacts
+pub mod BeginningFacts

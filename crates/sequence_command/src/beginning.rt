@@ -3,12 +3,12 @@
 //! Nothing of a seek is believed. Its sequence is counted again, and the better one of both is the first. Its lemmas are
 //! tested one after the other, and those that follow from the kept ones are kept. The test takes time as a check of a
 //! certificate does.
-ghost use Rattle.std.specs.Prelude.{◌≡◌, ℕ, ◌↔◌, ◌≤◌, IfOk, IsTrue, string_bytes};
+ghost use Rattle.std.specs.Prelude.{◌≡◌, ℕ, ◌↔◌, ◌≤◌, IfOk, IfSome, IsTrue, string_bytes};
 ghost use Rattle.line_words.specs.Ranges.{IsBetween};
 ghost use Rattle.sequence_rules.specs.Ranges.{AreTimes, IsPlace};
 ghost use Rattle.sequence_rules.specs.States.{IsSequenceOf, cost, root_starts};
 ghost use Rattle.sequence_search.specs.Outcomes.{model_order};
-ghost use Rattle.sequence_command.specs.Beginning.{HasRow, IsBegun};
+ghost use Rattle.sequence_command.specs.Beginning.{AreChargesFor, HasRow, IsBegun};
 
 use command_outcome::with_seek_line;
 use sequence_rules::sequence_cost;
@@ -41,6 +41,14 @@ fn has_row(entries: &SeqEntries) -> bool
         }
     }
     false
+}
+
+/// The charges, where a kept entry is by Charge.
+fn charges_for(kept: &SeqEntries, charges: Numbers) -> Option<Numbers>
+    ensures charged { AreChargesFor kept.now result }
+    ensures same { IfSome result (λ a. a ≡ charges) }
+{
+    if has_row(kept) { Some(charges) } else { None }
 }
 
 /// The one of two sequences of the demands that costs less; the second where they cost the same.
@@ -110,7 +118,7 @@ fn sought(
     };
     let first = better(times, interval, reach, sequence, order);
     let said = with_seek_line(String::new(alloc), used, limit, kept.len() as u64)?;
-    let charges = if has_row(&kept) { Some(charges) } else { None };
+    let charges = charges_for(&kept, charges);
     Ok(Beginning {
         first,
         charges,

@@ -1,8 +1,9 @@
-use Rattle.std.proofs.Common.{◌≡◌, option_map, subst, sym, ap, inl, inr, refl, List, ℕ, Option, Some}
+use Rattle.std.proofs.Common.{◌≡◌, IfOk, option_map, subst, sym, ap, inl, inr, refl, List, ℕ, Option, Some}
 use Rattle.command_outcome.specs.Outcome.{Files, Outside, Outcome, Ends, outside, outcome_of}
-use Rattle.command_outcome.proofs.OutcomeFacts.{early, ends_as}
+use Rattle.command_outcome.specs.declared.report.Report.{Report}
+use Rattle.command_outcome.proofs.OutcomeFacts.{early, ends_as, handed_on}
 use Rattle.sequence_command.specs.TimedMix.{IsUntimed}
-use Rattle.sequence_command.specs.Ordered.{IsReported, IsSequenceOutcome, page_of}
+use Rattle.sequence_command.specs.Ordered.{HasCertificate, IsReported, IsSequenceOutcome, IsSequencePromised, page_of}
 use Rattle.sequence_command.proofs.sequence.sequence_report.Goals as goal
 
 pub returns-in_err-timed-clause-ends : goal.returns-in_err-timed-clause-ends
@@ -42,3 +43,26 @@ returns-clause-ends g c = λ t.
 
 pub returns-clause-unwritten : goal.returns-clause-unwritten
 returns-clause-unwritten g c = λ e. (c.in-Some.name.now, ap (option_map (λ n. n.now)) c.in-Some.is)
+
+pub returns-clause-promise : goal.returns-clause-promise
+returns-clause-promise g c = λ t.
+    let a = c.args in
+    let files : Files = g.S.Shelf.file a.shelf.now in
+    let after : Files = g.S.Shelf.file c.written.new.shelf in
+    let timed = c.in_ok-timed.timed in
+    let name : List ℕ = c.in-Some.name.now in
+    let P : Option (List ℕ) → Report → Type 0 = λ n r.
+    IsSequencePromised files after a.mix.now a.cert.now a.interval a.reach a.units a.seek n r.status r.text.items
+    r.kept in
+    let Q : Report → Type 0 = λ r. HasCertificate (Some name) after r.kept in
+    let R : Option (List ℕ) → Type 0 = λ n. IfOk c.written.result (P n) in
+    subst R (sym (ap (option_map (λ n. n.now)) c.in-Some.is))
+    (handed_on (P (Some name)) Q c.in_ok-report.report c.written.result
+    (λ written. record {
+      mix = timed.mix;
+      times = timed.times;
+      timed = c.in_ok-timed.ensures.said t;
+      found = c.in_ok-report.ensures.answer;
+      written = written;
+    })
+    c.written.ensures.same (c.written.ensures.certificate t))
