@@ -1,12 +1,13 @@
-//! The same seek in plain Rust, made to be fast: it finds the same sequence and tells the same lemmas as the proved one,
-//! to the number, and shares nothing with it but the problem.
+//! The same seek in plain Rust, made to be fast: it finds the same sequence and tells the same lemmas as the proved
+//! one, to the number, and shares nothing with it but the problem.
 //!
 //! A row is any list of models. Each unit of it pays a charge for its model beside 1000 times its utility work, so that
-//! rows with too much of one model don't come cheap. A table of starts, its nodes, answers what so many units cost at
-//! least from each node: one minimum over the models for each node and each number of units. After such a pass the
-//! charges move by how often the cheapest row has each model, and the table gets the starts that this row lacked. Once
-//! in a round a walk goes from the first unit to the last with the best few states of each, and takes the sequence that
-//! it finds. The lemmas are those values of one pass that the greatest of them rests on.
+//! rows with too much of one model don't come cheap. A table has nodes, each with its starts. A pass tells for each node
+//! what so many units cost at least from there: one minimum over the models for each number of units. Then the charges
+//! move by how often the cheapest row has each model, and the table gets the starts that this row lacked. Once in a
+//! round a walk goes from the first unit to the last with the best few states of each, and takes the sequence that it
+//! finds. The lemmas are those values of one pass that the value of all units rests on, and after a walk that lost no
+//! state also the states that it cites.
 //!
 //! A pass costs one sum and one minimum for each node, model and number of units. A step of a walk costs some passes
 //! over the stations, and one hash of what is left for each candidate that isn't dropped.
@@ -202,7 +203,7 @@ impl Told {
         for left in 1..=units {
             let (told, rest) = self.values.split_at_mut(left * self.nodes);
             let before = &told[(left - 1) * self.nodes..];
-            ONE_MORE[self.models - 1](&self.costs, &self.next, before, &mut rest[..self.nodes]);
+            one_more(self.models, &self.costs, &self.next, before, &mut rest[..self.nodes]);
         }
     }
 
@@ -239,36 +240,12 @@ impl Told {
     }
 }
 
-type OneMore = fn(&[u64], &[u32], &[u64], &mut [u64]);
-
-/// The values of one unit more, for 1 to 16 models.
-const ONE_MORE: [OneMore; 16] = [
-    one_more::<1>,
-    one_more::<2>,
-    one_more::<3>,
-    one_more::<4>,
-    one_more::<5>,
-    one_more::<6>,
-    one_more::<7>,
-    one_more::<8>,
-    one_more::<9>,
-    one_more::<10>,
-    one_more::<11>,
-    one_more::<12>,
-    one_more::<13>,
-    one_more::<14>,
-    one_more::<15>,
-    one_more::<16>,
-];
-
-fn one_more<const M: usize>(costs: &[u64], next: &[u32], before: &[u64], values: &mut [u64]) {
-    let steps = costs.as_chunks::<M>().0.iter().zip(next.as_chunks::<M>().0);
+// The values of one unit more.
+fn one_more(models: usize, costs: &[u64], next: &[u32], before: &[u64], values: &mut [u64]) {
+    let steps = costs.chunks_exact(models).zip(next.chunks_exact(models));
     for (value, (costs, next)) in values.iter_mut().zip(steps) {
-        let mut least = u64::MAX;
-        for m in 0..M {
-            least = least.min(costs[m] + before[next[m] as usize]);
-        }
-        *value = least;
+        let steps = costs.iter().zip(next).map(|(cost, &next)| cost + before[next as usize]);
+        *value = steps.min().unwrap_or(0);
     }
 }
 
@@ -463,15 +440,18 @@ impl Walk {
     }
 }
 
-/// How a seek ends: the last pass tells as much as the sequence costs; a walk lost no state; the units ran out; or the
-/// sequence costs nothing.
 enum End {
+    /// The last pass tells as much as the sequence costs.
     Closed,
+    /// A walk lost no state.
     Walked(Vec<Layer>),
+    /// The units ran out.
     Spent,
+    /// The sequence costs nothing, or a work is too long to seek.
     Free,
 }
 
+/// A seek with its best sequence so far and the total of that.
 struct Seek<'a> {
     mix: &'a Mix,
     table: Table<'a>,
