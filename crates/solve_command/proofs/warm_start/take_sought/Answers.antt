@@ -1,4 +1,5 @@
-use Rattle.std.proofs.Common.{◌≡◌, ◌∙◌, ◌-◌, ◌*◌, ℕ, max, ap, string_bytes, arith}
+use Rattle.std.proofs.Common.{◌≡◌, ◌∙◌, ◌++◌, ◌-◌, ◌*◌, ℕ, max, ap, string_bytes, arith}
+use Rattle.command_outcome.specs.Bounds.{seek_line}
 use Rattle.solve_command.proofs.BegunFacts.{has_sought, sought_behind}
 use Rattle.solve_command.proofs.warm_start.take_sought.Goals as goal
 
@@ -17,4 +18,5 @@ returns-in_ok-first-in-Done-warm_wide-clause-sought g c = λ at same_book same_k
     sought_behind N c.args.limit (6000000 - 2 * N - c.max.result) at taken.book taken.kept taken.units c.in-Done.used
     warm.kept c.in-Done.best c.in-Done.lemmas warm.book c.offer.new.self (string_bytes taken.first)
     (string_bytes c.in_ok-first-in-Done-warm_wide.first) same_book same_kept same_units room sought warm.ensures.warmed
-    c.offer.ensures.ran c.in_ok-first-in-Done-warm_wide.ensures
+    c.offer.ensures.ran (c.in_ok-first-in-Done-warm_wide.ensures
+    ∙ ap (λ k. string_bytes taken.first ++ seek_line c.in-Done.used c.args.limit k) c.from-in-Done-warm_wide.ensures)
