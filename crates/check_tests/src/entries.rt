@@ -22,7 +22,7 @@ const TOGETHER: &str =
     "line balance certificate 2\nline straight\ntasks 2\ncycle 2\nlower 1\nupper 1\n\
     balance 1\n1\n1\nentries 0\ntrail 0\nend\n";
 
-fn instance(alloc: Global, times: &[u64], arcs: &[Prec]) -> Result<Instance, Fail> {
+pub(crate) fn instance(alloc: Global, times: &[u64], arcs: &[Prec]) -> Result<Instance, Fail> {
     match make(alloc, Vec::from_slice(alloc, times)?, arcs) {
         Made::Good(inst) => Ok(inst),
         _ => Err("no instance")?,
@@ -43,7 +43,7 @@ fn of_six(alloc: Global, first: &str, last: &str) -> Result<String, AllocError> 
 }
 
 /// Whether the verdict on a certificate is this one.
-fn is_told(
+pub(crate) fn is_told(
     alloc: Global,
     inst: &Instance,
     text: &str,

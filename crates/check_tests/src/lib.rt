@@ -1,9 +1,11 @@
-//! Tests of the check of certificates: in order and in threads, entry by entry and as a whole, and of certificates of
-//! products.
+//! Tests of the check of certificates: in order and in threads, entry by entry and as a whole, of entries by Pairs, and
+//! of certificates of products.
 #![tactic(auto)]
 
 #[cfg(test)]
 mod entries;
+#[cfg(test)]
+mod pairs;
 #[cfg(test)]
 mod products;
 #[cfg(test)]

@@ -56,11 +56,42 @@ open f f8 2 90 -
 end
 ";
 
+const BY_PAIRS: &str = "line balance product 2
+line straight
+tasks 4
+stations 2 3
+cycle 21
+lower 42
+upper 42
+balance 2
+1
+1
+2
+2
+entries 4
+bound 18 f 2
+bound 12 f 3
+pairs 20 f 2 8
+bound 13 f 3
+trail 0
+end
+";
+
 // Five tasks of the times 4, 4, 2, 2 and 2, in any order.
 fn five(alloc: Global) -> Result<Instance, Fail>
     ensures { IfOk result (λ i. NoneApart i) }
 {
     match make(alloc, vec![in alloc; 4, 4, 2, 2, 2]?, &[]) {
+        Made::Good(inst) => Ok(inst),
+        _ => Err("no instance")?,
+    }
+}
+
+// Four tasks of the times 13, 8, 8 and 8, in any order.
+fn four(alloc: Global) -> Result<Instance, Fail>
+    ensures { IfOk result (λ i. NoneApart i) }
+{
+    match make(alloc, vec![in alloc; 13, 8, 8, 8]?, &[]) {
         Made::Good(inst) => Ok(inst),
         _ => Err("no instance")?,
     }
@@ -82,7 +113,16 @@ fn verified_text(
 }
 
 // What is found of a text with a line in the place of the one of this number, counted from 1, in at most so many steps.
-fn found(alloc: Global, text: &str, number: usize, line: &str, steps: u32) -> Result<String, Fail> {
+fn found_on(
+    alloc: Global,
+    inst: &Instance,
+    text: &str,
+    number: usize,
+    line: &str,
+    steps: u32,
+) -> Result<String, Fail>
+    requires { NoneApart inst.now }
+{
     let mut changed = String::new(alloc);
     for (k, old) in text.lines().enumerate() {
         changed.push_str(if k + 1 == number { line } else { old })?;
@@ -91,11 +131,16 @@ fn found(alloc: Global, text: &str, number: usize, line: &str, steps: u32) -> Re
     if steps < 1 || steps > 20_000_000 {
         return Err("out of range")?;
     }
-    let inst = five(alloc)?;
     match read_effic(alloc, changed.as_bytes()) {
-        EfficRead::Good(cert) => Ok(verified_text(alloc, &inst, &cert, u64::from(steps))?),
+        EfficRead::Good(read) => Ok(verified_text(alloc, inst, &read.cert, u64::from(steps))?),
         _ => Err("no certificate")?,
     }
+}
+
+// What is found of it on the line of five tasks.
+fn found(alloc: Global, text: &str, number: usize, line: &str, steps: u32) -> Result<String, Fail> {
+    let inst = five(alloc)?;
+    found_on(alloc, &inst, text, number, line, steps)
 }
 
 fn found_text(alloc: Global, found: &EfficVerified) -> Result<String, AllocError> {
@@ -121,6 +166,7 @@ fn place_text(alloc: Global, place: &EfficPlace) -> Result<String, AllocError> {
         EfficPlace::Upper(upper) => format!(in alloc; "upper {upper}"),
         EfficPlace::Entry { entry, why } => match why {
             EntryFault::Bound(bound) => format!(in alloc; "entry {entry} bound {bound}"),
+            EntryFault::Pairs => format!(in alloc; "entry {entry} pairs"),
             _ => format!(in alloc; "entry {entry}"),
         },
         EfficPlace::Goal(stations) => format!(in alloc; "goal {stations}"),
@@ -162,6 +208,21 @@ fn what_is_wrong_with_changed_certificates(rt: HostRuntime) -> Result<(), Fail> 
         (15, "bound 7 f8 2", "entry 0 bound 2"),
     ] {
         assert!(&rt; finds(alloc, SOLVED, number, line, wanted)?);
+    }
+    Ok(())
+}
+
+#[test]
+fn a_product_by_pairs(rt: HostRuntime) -> Result<(), Fail> {
+    let alloc = rt.alloc();
+    let inst = four(alloc)?;
+    for (number, line, wanted) in [
+        (0usize, "", "accepted 42 42 0"),
+        (16, "pairs 20 f 2 0", "entry 2 pairs"),
+        (16, "pairs 20 f 1 8", "goal 2"),
+    ] {
+        let found = found_on(alloc, &inst, BY_PAIRS, number, line, 1)?;
+        assert_eq!(&rt; found.as_str(), wanted);
     }
     Ok(())
 }

@@ -69,6 +69,7 @@ fn fault(alloc: Global, entry: u64, why: &EntryFault) -> Result<String, AllocErr
     match why {
         EntryFault::Cite(cite) => format!(in alloc; "entry {entry} cite {cite}"),
         EntryFault::Uncovered(load) => format!(in alloc; "entry {entry} uncovered {}", load.front),
+        EntryFault::Pairs => format!(in alloc; "entry {entry} pairs"),
         _ => format!(in alloc; "entry {entry}"),
     }
 }

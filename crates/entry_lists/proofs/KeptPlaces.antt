@@ -7,9 +7,9 @@ use Rattle.std.proofs.lemmas.Bool.{cases_lt, false≢true}
 use Rattle.std.proofs.lemmas.List.{take_all, length-append}
 use Rattle.std.proofs.lemmas.List.Sums.{count_by_more_yes, count_by_more_no}
 use Rattle.std.proofs.lemmas.Option.{same_Some}
-use Rattle.line_instance.specs.Truths.{In, members_from, members_of, count}
-use Rattle.line_instance.proofs.Counts.{count_first}
-use Rattle.line_instance.proofs.ListedMembers.{count_listed}
+use Rattle.line_rules.specs.lines.Truths.{In, members_from, members_of, count}
+use Rattle.line_rules.proofs.about_lines.Counts.{count_first}
+use Rattle.line_rules.proofs.about_lines.ListedMembers.{count_listed}
 use Rattle.line_rules.specs.declared.types.Entry.{Entry}
 use Rattle.line_rules.specs.declared.types.Why.{Why}
 use Rattle.line_rules.specs.declared.types.Why.TheVariants as why
@@ -72,6 +72,7 @@ renumbered numbers places (why.Branch mode cites) h = (
   led_back numbers places cites h,
 )
 renumbered numbers places (why.Swap cite out into) h = (slice_index places cite, refl, h cite (0, omega arith, refl))
+renumbered numbers places (why.Pairs two) h = refl
 
 -- Entries of the marks below k are placed: the list of places has the number of marked ones before each, and the items
 -- are the marked entries.

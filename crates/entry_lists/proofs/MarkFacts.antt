@@ -8,8 +8,8 @@ use Rattle.std.proofs.lemmas.Bool.{cases_eq, false≢true}
 use Rattle.std.proofs.lemmas.List.{take_more, take_all, length-replicate, drop_all}
 use Rattle.std.proofs.lemmas.List.Elements.{Contains-push, Contains-push_cases, Contains-append_left}
 use Rattle.std.proofs.lemmas.Option.{slice_get_within, same_Some}
-use Rattle.line_instance.specs.Truths.{In}
-use Rattle.line_instance.proofs.Members.{In-set_same, In-set_kept, In-set_cases, In-empty}
+use Rattle.line_rules.specs.lines.Truths.{In}
+use Rattle.line_rules.proofs.about_lines.Members.{In-set_same, In-set_kept, In-set_cases, In-empty}
 use Rattle.line_rules.specs.declared.types.Entry.{Entry}
 use Rattle.entry_lists.specs.Trim.{cited_by, CitesEarlier, StandsOn, AreMarked, AreMarks, AreClosed}
 use Rattle.entry_lists.specs.Trim.StandsOn.{itself, cited}

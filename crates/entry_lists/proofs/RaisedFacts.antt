@@ -16,6 +16,7 @@ pub why_none : (w : Why) → lifted_why 0 w ≡ w
 why_none whys.Bound = refl
 why_none (whys.Branch mode cites) = ap (whys.Branch mode) (raised_none cites)
 why_none (whys.Swap cite out into) = let h : cite + 0 ≡ cite = omega arith in ap (λ z. whys.Swap z out into) h
+why_none (whys.Pairs two) = refl
 
 entry_none : (cycle : ℕ) (e : Entry) → e.cycle ≡ cycle → lifted_entry cycle 0 e ≡ e
 entry_none cycle e h = ap (λ z. record { set = e.set; most = e.most; cycle = z; why = lifted_why 0 e.why }) (sym h)

@@ -3,7 +3,7 @@ use Rattle.std.proofs.Common.{◌≡◌, ℕ, zero, suc, ◌+◌, ◌<◌, ◌�
 use Rattle.std.proofs.Common.{arith}
 use Rattle.std.specs.Prelude.{slice_get}
 use Rattle.std.proofs.lemmas.Option.{same_Some}
-use Rattle.line_instance.specs.Line.{Line}
+use Rattle.line_rules.specs.lines.Line.{Line}
 use Rattle.line_rules.specs.Units.{UnitsBy, UnitsOf}
 use Rattle.line_rules.specs.Loads.{IsLoad}
 use Rattle.line_rules.specs.Order.{Counts}
@@ -35,6 +35,8 @@ units_kept numbers line e f (why.Branch mode cites) v a s c r h =
     subst P (sym r.1) (subst Q (sym c) (subst R (sym s) h))
 units_kept numbers line e f (why.Swap cite out into) v a s c r h = let P : Why → Type 0 = λ x. UnitsBy line f x a in
     subst P (sym r.1) h
+units_kept numbers line e f (why.Pairs two) v a s c r h = let P : Why → Type 0 = λ x. UnitsBy line f x a in
+    subst P (sym r) h
 
 pub units_thinned : (numbers : List ℕ) (line : Line) (es new : List Entry) (old : ℕ) → IsThinned numbers es new
     → UnitsOf line es old → (units : ℕ) × UnitsOf line new units × (units ≤ old)

@@ -5,9 +5,9 @@ use Rattle.std.specs.Prelude.{slice_get}
 use Rattle.std.specs.List.{Contains}
 use Rattle.std.proofs.lemmas.Bool.{cases_eq, cases_lt}
 use Rattle.std.proofs.lemmas.Option.{slice_get_within, slice_get_read, same_Some}
-use Rattle.line_instance.specs.Truths.{In, IsSubset, members_of}
-use Rattle.line_instance.proofs.ListedMembers.{listed}
-use Rattle.line_instance.specs.Line.{Line, IsTaskSet}
+use Rattle.line_rules.specs.lines.Truths.{In, IsSubset, members_of}
+use Rattle.line_rules.proofs.about_lines.ListedMembers.{listed}
+use Rattle.line_rules.specs.lines.Line.{Line, IsTaskSet}
 use Rattle.line_rules.specs.Loads.{rest}
 use Rattle.line_rules.specs.Entries.{Answers, Cites, FollowsBy, FollowsByBranch, FollowsBySwap, Follows, IsDerived}
 use Rattle.line_rules.specs.Entries.{IsFresh, HasAnswer}
@@ -45,6 +45,7 @@ by_earlier kind line es k e (why.Branch mode cites) f cite c =
 by_earlier kind line es k e (why.Swap cite' out into) f cite c =
     let P : ℕ → Type 0 = λ x. x < k in
     subst P (one_of cite' cite c) (get_take es k cite' f.entry f.there).0
+by_earlier kind line es k e (why.Pairs two) f cite c = absurd (omega (arith, c.1))
 
 pub derived_earlier : (kind : LineKind) (line : Line) (es : List Entry) → IsDerived kind line es → CitesEarlier es
 derived_earlier kind line es d k e there cite c = by_earlier kind line es k e e.why (d k e there).by cite c
@@ -171,6 +172,8 @@ module _ (es : List Entry) (numbers : List ℕ) (new : List Entry) (up : IsAscen
             after = λ i m. f.after i (subst (Q i) y.2.set m);
             apart = λ i m. f.apart i (subst (Q i) y.2.set m);
           }
+  by_moved kind line k p e (why.Pairs two) v here r f = let P : Why
+      → Type 0 = λ x. FollowsBy kind line (take p new) (record e { why = v }) x in subst P (sym r) f
 
   -- the entry at a place
   at_place : (p : ℕ) (f : Entry) → slice_get new p ≡ Some f
@@ -240,6 +243,7 @@ module _ (es : List Entry) (numbers : List ℕ) (new : List Entry) (up : IsAscen
   why_moved n (why.Swap cite out into) v r h =
       let P : Why → Type 0 = λ x. IsWhy n (length new) x in
       subst P (sym r.1) (omega (arith, all.as_many, slice_get_within numbers r.0 cite r.2), h.1)
+  why_moved n (why.Pairs two) v r h = let P : Why → Type 0 = λ x. IsWhy n (length new) x in subst P (sym r) h
 
   entry_moved : (n : ℕ) (e f : Entry) → IsKeptAs numbers e f → IsEntry n (length es) e → IsEntry n (length new) f
   entry_moved n e f s h =
@@ -312,3 +316,13 @@ module _ (es : List Entry) (set : List Bool) (most cycle : ℕ) (new : List Entr
 
   pub entries_of : (n : ℕ) → AreEntries n es → AreEntries n new
   entries_of = entries_moved es t.numbers new t.kept.ascending t.entries
+
+-- each entry of a trimmed list has the cycle of an entry of the list
+pub trimmed_cycles : (es : List Entry) (set : List Bool) (most cycle : ℕ) (new : List Entry)
+    → IsTrimmed es set most cycle new
+    → (k : ℕ) (e : Entry) → slice_get new k ≡ Some e
+    → (j : ℕ) × (x : Entry) × ((slice_get es j ≡ Some x) × (e.cycle ≡ x.cycle))
+trimmed_cycles es set most cycle new t k e there =
+    let at = t.entries.each k (slice_get_within new k e there) in
+    let P : Entry → Type 0 = λ x. x.cycle ≡ at.old.cycle in
+    (at.number, at.old, (at.there, subst P (same_Some at.entry e (sym at.here ∙ there)) at.same.cycle))

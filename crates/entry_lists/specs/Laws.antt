@@ -1,6 +1,6 @@
 -- Laws of trimmed lists.
 use Rattle.std.specs.Prelude.{List}
-use Rattle.line_instance.specs.Line.{Line}
+use Rattle.line_rules.specs.lines.Line.{Line}
 use Rattle.line_rules.specs.Entries.{IsDerived}
 use Rattle.line_rules.specs.declared.types.LineKind.{LineKind}
 use Rattle.line_rules.specs.declared.types.Entry.{Entry}

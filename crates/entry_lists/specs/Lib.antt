@@ -1,4 +1,5 @@
 pub mod Trim
 pub mod Laws
+pub mod PairEntries
 pub mod OldRanges
 pub mod Lift

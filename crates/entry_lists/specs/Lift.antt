@@ -22,6 +22,7 @@ abbrev pub lifted_why : ℕ → Why → Why
 lifted_why earlier why.Bound = why.Bound
 lifted_why earlier (why.Branch mode cites) = why.Branch mode (raised earlier cites)
 lifted_why earlier (why.Swap cite out into) = why.Swap (cite + earlier) out into
+lifted_why earlier (why.Pairs two) = why.Pairs two
 
 -- an entry of a part at its part's cycle, its cites raised
 abbrev pub lifted_entry : ℕ → ℕ → Entry → Entry

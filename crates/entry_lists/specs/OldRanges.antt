@@ -1,22 +1,24 @@
 -- The ranges of a certificate of version 1, before anything in it is believed.
-use Rattle.std.specs.Prelude.{◌≡◌, ◌⊎◌, ℕ, ◌<◌, ◌≤◌, List, [], ◌∷◌, length, slice_get, Some}
+use Rattle.std.specs.Prelude.{◌≡◌, ◌⊎◌, ℕ, ◌<◌, ◌≤◌, false, List, [], ◌∷◌, length, slice_get, Some}
 use Rattle.line_rules.specs.Ranges.{IsCycle, IsAsked, IsPlacing, IsEntry, IsFrame, NamesCycle}
 use Rattle.line_rules.specs.declared.types.LineKind.{LineKind}
 use Rattle.line_rules.specs.declared.types.Balance.{Balance as Assignment}
 use Rattle.line_rules.specs.declared.types.Entry.{Entry}
 use Rattle.line_rules.specs.declared.types.OpenFrame.{OpenFrame}
 use Rattle.line_rules.specs.declared.types.Ask.{Ask}
+use Rattle.entry_lists.specs.PairEntries.{has_pairs}
 use Rattle.entry_lists.specs.declared.version_one.Part.{Part}
 use Rattle.entry_lists.specs.declared.version_one.OldClaim.{OldClaim}
 use Rattle.entry_lists.specs.declared.version_one.OldClaim.TheVariants as claim
 use Rattle.entry_lists.specs.declared.version_one.OldCertificate.{OldCertificate}
 
--- a part: a cycle, at most 10,000,000 entries at that cycle, at most 1,024 frames; all cites are of the part's own
--- entries
+-- a part: a cycle, at most 10,000,000 entries at that cycle, none of them by pairs, at most 1,024 frames; all cites are
+-- of the part's own entries
 pub record IsPart (n : ℕ) (p : Part) : Type 0 where
   pub cycle : IsCycle p.cycle
   pub many : length p.entries ≤ 10000000
   pub each : (k : ℕ) (e : Entry) → slice_get p.entries k ≡ Some e → IsEntry n (length p.entries) e × (e.cycle ≡ p.cycle)
+  pub plain : has_pairs p.entries ≡ false
   pub few : length p.frames ≤ 1024
   pub frames : (k : ℕ) (f : OpenFrame) → slice_get p.frames k ≡ Some f → IsFrame n (length p.entries) f
 

@@ -3,7 +3,7 @@
 use Rattle.std.specs.Prelude.{◌≡◌, ◌↔◌, ◌⊎◌, ℕ, ◌<◌, ◌≤◌, Bool, List, [], ◌∷◌, length, map, slice_get, slice_index}
 use Rattle.std.specs.Prelude.{Some}
 use Rattle.std.specs.List.{Contains}
-use Rattle.line_instance.specs.Truths.{In}
+use Rattle.line_rules.specs.lines.Truths.{In}
 use Rattle.line_rules.specs.Entries.{Answers}
 use Rattle.line_rules.specs.declared.types.Entry.{Entry}
 use Rattle.line_rules.specs.declared.types.Why.{Why}
@@ -14,6 +14,7 @@ abbrev pub cited_by : Why → List ℕ
 cited_by why.Bound = []
 cited_by (why.Branch mode cites) = cites
 cited_by (why.Swap cite out into) = cite ∷ []
+cited_by (why.Pairs two) = []
 
 -- each entry cites entries before it alone
 abbrev pub CitesEarlier : List Entry → Type 0
@@ -48,6 +49,7 @@ IsRenumbered numbers (why.Branch mode cites) new = (places : List ℕ) × (new �
     × ArePlaces numbers cites places
 IsRenumbered numbers (why.Swap cite out into) new = (place : ℕ) × (new ≡ why.Swap place out into)
     × (slice_get numbers place ≡ Some cite)
+IsRenumbered numbers (why.Pairs two) new = new ≡ why.Pairs two
 
 -- the same question, and the same reason with its cites renumbered
 pub record IsKeptAs (numbers : List ℕ) (e new : Entry) : Type 0 where
@@ -100,6 +102,7 @@ abbrev pub why_at : List ℕ → Why → Why
 why_at places why.Bound = why.Bound
 why_at places (why.Branch mode cites) = why.Branch mode (map (slice_index places) cites)
 why_at places (why.Swap cite out into) = why.Swap (slice_index places cite) out into
+why_at places (why.Pairs two) = why.Pairs two
 
 abbrev pub entry_at : List ℕ → Entry → Entry
 entry_at places e = record e { why = why_at places e.why }

@@ -2,8 +2,8 @@
 ghost use Rattle.std.specs.Prelude.{◌≡◌, ◌↔◌, ℕ, ◌+◌, ◌<◌, ◌≤◌, false, length, map, slice_index, slice_get, replicate};
 ghost use Rattle.std.specs.Prelude.{Some, IfOk, IsTrue};
 ghost use Rattle.std.specs.List.{Contains};
-ghost use Rattle.line_instance.specs.Truths.{full_to, members_of};
-ghost use Rattle.line_instance.specs.Line.{Line};
+ghost use Rattle.line_rules.specs.lines.Truths.{full_to, members_of};
+ghost use Rattle.line_rules.specs.lines.Line.{Line};
 ghost use Rattle.line_rules.specs.Entries.{Answers, HasAnswer, IsDerived, IsFresh};
 ghost use Rattle.line_rules.specs.Ranges.{AreEntries};
 ghost use Rattle.line_rules.specs.Units.{UnitsOf};
@@ -11,8 +11,7 @@ ghost use Rattle.line_rules.specs.declared.types.LineKind.{LineKind};
 ghost use Rattle.entry_lists.specs.Trim.{cited_by, CitesEarlier, IsFirstAnswer, IsTrimmed, AreKeptEntries, AreMarked};
 ghost use Rattle.entry_lists.specs.Trim.{AreMarks, AreClosed, entry_at, why_at};
 
-use line_instance::TaskSet;
-use line_rules::{Cites, Entries, Entry, Why};
+use line_rules::{Cites, Entries, Entry, TaskSet, Why};
 use std::alloc::{AllocError, Global};
 
 /// The first entry of all tasks with at least so many stations and at least such a cycle, and all the entries that it
@@ -110,6 +109,7 @@ fn mark_cites(marks: &mut [bool], why: &Why)
             out_task: _,
             in_task: _,
         } => marks[*cite as usize] = true,
+        Why::Pairs { two: _ } => {}
     }
 }
 
@@ -174,6 +174,7 @@ fn moved_why(alloc: Global, why: &Why, places: &[u64]) -> Result<Why, AllocError
             out_task: *out_task,
             in_task: *in_task,
         }),
+        Why::Pairs { two } => Ok(Why::Pairs { two: two.copy()? }),
     }
 }
 

@@ -16,7 +16,7 @@ use Rattle.std.proofs.lemmas.Option.{slice_get_within, slice_get_read, slice_get
 use Rattle.line_rules.specs.Entries.{Answers, IsUnanswered}
 use Rattle.line_rules.specs.declared.types.Entry.{Entry}
 use Rattle.line_rules.proofs.LongerLists.{get_longer, get_push_cases}
-use Rattle.line_instance.specs.Tags.{tag_of}
+use Rattle.line_rules.specs.lines.Tags.{tag_of}
 use Rattle.lemma_core.specs.Sieves.{IsSieve, word_in, mark_of}
 use Rattle.lemma_core.specs.inner.Chains.{tags_of, place, IsLast, IsChained, bucket_in, tags, links, IsIndex, IsIndexOf}
 use Rattle.lemma_core.specs.declared.index.Link.{Link}

@@ -4,7 +4,7 @@ use Rattle.std.proofs.Common.{◌++◌, length, refl, sym, ap, ◌∙◌, arith,
 use Rattle.std.specs.Prelude.{slice_get}
 use Rattle.std.proofs.lemmas.Bool.Decides.{nat_tests}
 use Rattle.std.proofs.lemmas.List.{append-nil, take-append-le}
-use Rattle.line_instance.specs.Line.{Line}
+use Rattle.line_rules.specs.lines.Line.{Line}
 use Rattle.line_rules.specs.declared.types.LineKind.{LineKind}
 use Rattle.line_rules.specs.declared.types.Entry.{Entry}
 use Rattle.line_rules.specs.declared.types.Balance.{Balance as Assignment}

@@ -7,7 +7,7 @@ use lib.Pointwise.{pointwise}
 use Rattle.std.proofs.lemmas.Bool.{and_parts, and_from, true≢false, le-leb}
 use Rattle.std.proofs.lemmas.Bool.Decides.{nat_tests}
 use Rattle.std.proofs.lemmas.Option.{none-some, same_Some}
-use Rattle.line_instance.specs.inner.Words.{equal_sets}
+use Rattle.line_rules.specs.lines.inner.Words.{equal_sets}
 use Rattle.line_rules.specs.Entries.{Answers, Follows, IsFresh, IsUnanswered, IsLastAnswer}
 use Rattle.line_rules.specs.declared.types.Entry.{Entry}
 use Rattle.line_rules.specs.declared.types.Balance.{Balance as Assignment}

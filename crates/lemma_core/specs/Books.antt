@@ -1,7 +1,7 @@
 -- A book as contracts see it, and as a desk that is alone.
 use Rattle.std.specs.Prelude.{◌≡◌, ℕ, ◌+◌, ◌-◌, ◌≤◌, nat_le, true, List, ◌∷◌, [], ◌++◌, length}
 use Rattle.std.specs.List.{range_with_len}
-use Rattle.line_instance.specs.Line.{tasks}
+use Rattle.line_rules.specs.lines.Line.{tasks}
 use Rattle.line_rules.specs.Balance.{IsRight}
 use Rattle.line_rules.specs.Entries.{IsDerived, IsFresh}
 use Rattle.line_rules.specs.declared.types.Entry.{Entry}

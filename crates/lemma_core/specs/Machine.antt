@@ -3,7 +3,7 @@ use Rattle.std.specs.Prelude.{ℕ, suc, Bool, cond, ◌&&◌, nat_le, nat_lt, Li
 use Rattle.std.specs.Prelude.{Some, None}
 use Rattle.std.specs.Bool.{beq}
 use lib.Pointwise.{pointwise}
-use Rattle.line_instance.specs.Line.{Line}
+use Rattle.line_rules.specs.lines.Line.{Line}
 use Rattle.line_rules.specs.declared.types.LineKind.{LineKind}
 use Rattle.line_rules.specs.declared.types.Entry.{Entry}
 use Rattle.line_rules.specs.declared.types.Balance.{Balance as Assignment}

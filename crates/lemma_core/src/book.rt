@@ -21,8 +21,7 @@ ghost use Rattle.lemma_core.specs.Books.{DoesPublish};
 use crate::index::Index;
 use crate::plain_lookup::{find_plain, looked};
 use crate::types::{LogItem, Looked, Offered, Published};
-use line_instance::{Instance, TaskSet};
-use line_rules::{Balance, Entries, Entry, LineKind};
+use line_rules::{Balance, Entries, Entry, Instance, LineKind, TaskSet};
 use std::alloc::{AllocError, Global};
 use std::marker::Model;
 

@@ -12,8 +12,7 @@ ghost use Rattle.lemma_core.specs.Own.{IsStatable};
 
 use crate::book::Book;
 use crate::types::{Looked, Offered, Published};
-use line_instance::TaskSet;
-use line_rules::{Balance, Entry};
+use line_rules::{Balance, Entry, TaskSet};
 
 /// Where entries are looked up and published, and balances are offered: a book, or a part in a shared one.
 ///

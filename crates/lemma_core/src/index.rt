@@ -14,8 +14,7 @@ ghost use Rattle.lemma_core.specs.inner.Chains.{tags, bucket_in, IsIndex, IsInde
 
 use crate::plain_lookup::is_answer;
 use crate::sieve::{has_mark, put_mark};
-use line_instance::TaskSet;
-use line_rules::Entries;
+use line_rules::{Entries, TaskSet};
 use std::alloc::{AllocError, Global};
 
 // What the index keeps of an entry: the tag of its set, and one more than the place before it in its chain, or 0.

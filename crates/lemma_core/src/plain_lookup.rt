@@ -6,8 +6,7 @@ ghost use Rattle.std.specs.Option.{ForSome};
 ghost use Rattle.lemma_core.specs.Machine.{answers, last_answer, found};
 
 use crate::types::Looked;
-use line_instance::TaskSet;
-use line_rules::{Entries, Entry};
+use line_rules::{Entries, Entry, TaskSet};
 
 // Whether the entry answers the question.
 #[inline]

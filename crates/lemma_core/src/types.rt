@@ -1,7 +1,6 @@
 //! What a book is asked, what it answers, and what its log keeps. Each is plain data and copied like a number, but
 //! for an event, which hands its entry or its balance over.
-use line_instance::TaskSet;
-use line_rules::{Balance, Entry};
+use line_rules::{Balance, Entry, TaskSet};
 
 /// What a look into the entries finds.
 #[derive(Clone, Copy, Debug, PartialEq, Eq)]

@@ -7,6 +7,7 @@ use Rattle.line_instance.specs.Truths.{In, IsEmpty}
 use Rattle.line_instance.specs.Line.{Line}
 use Rattle.line_rules.specs.Loads.{IsLoad, Belongs, rest}
 use Rattle.line_rules.specs.Entries.{IsOpen, Cites, FollowsByBranch, FollowsBySwap, FollowsBy, Follows}
+use Rattle.line_rules.specs.Pairs.{IsRefutedByPairs}
 use Rattle.line_rules.specs.declared.types.LineKind.{LineKind}
 use Rattle.line_rules.specs.declared.types.Mode.{Mode}
 use Rattle.line_rules.specs.declared.types.Load.{Load}
@@ -68,6 +69,10 @@ not_follows kind line earlier e fault.Swap units h f =
     let g : FollowsBySwap line earlier e h.0.0 h.0.1 h.0.2 =
     by_way kind line earlier e (why.Swap h.0.0 h.0.1 h.0.2) h.0.3.0 f in
     h.0.3.1.1 g
+not_follows kind line earlier e fault.Pairs units h f =
+    let g : IsRefutedByPairs kind line e.cycle e.set e.most h.0.0 =
+    by_way kind line earlier e (why.Pairs h.0.0) h.0.1.0 f in
+    h.0.1.1 g
 
 -- the first k entries of a list are so many
 many : (es : List Entry) (k : ℕ) → k ≤ length es → length (take k es) ≡ k

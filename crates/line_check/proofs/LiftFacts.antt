@@ -11,6 +11,7 @@ use Rattle.line_rules.specs.Bounds.{bound}
 use Rattle.line_rules.specs.Balance.{all_tasks}
 use Rattle.line_rules.specs.Order.{Precedes, UpTo, Counts}
 use Rattle.line_rules.specs.Entries.{IsOpen, Cites, Covers, FollowsBy, Follows, IsDerived, HasAnswer}
+use Rattle.line_rules.specs.Pairs.{IsRefutedByPairs}
 use Rattle.line_rules.specs.Trails.{IsPassed, Leads, IsTrail}
 use Rattle.line_rules.specs.Units.{UnitsBy, UnitsOf, UnitsIn}
 use Rattle.line_rules.specs.declared.types.LineKind.{LineKind}
@@ -97,6 +98,8 @@ module _ (kind : LineKind) (line : Line) (pre : List Entry) (c : ℕ) where
     after = f.after;
     apart = f.apart;
   }
+  by_up es at e s (why.Pairs two) f =
+      (let P : ℕ → Type 0 = λ z. IsRefutedByPairs kind line z e.set e.most two in subst P s f)
 
   follows_up : (es : List Entry) → AreAt c es → (e : Entry) → e.cycle ≡ c → Follows kind line es e
       → Follows kind line (behind pre c es) (up e)
@@ -201,6 +204,7 @@ module _ (line : Line) (c n : ℕ) where
   units_by_same e s (why.Branch mode cites) u h = (let P : ℕ → Type 0 = λ z. Counts line (IsLoad line z mode e.set) u in
       subst P s h)
   units_by_same e s (why.Swap cite out into) u h = h
+  units_by_same e s (why.Pairs two) u h = h
 
   pub units_same : (es : List Entry) → AreAt c es → (u : ℕ) → UnitsOf line es u
       → UnitsOf line (map (lifted_entry c n) es) u

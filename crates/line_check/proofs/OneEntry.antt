@@ -1,6 +1,6 @@
 -- The check of an entry, and of a list of entries, has one answer.
 use Rattle.std.proofs.Common.{◌≡◌, ℕ, ◌+◌, ◌-◌, ◌<◌, ◌≤◌, List, [], ◌∷◌, length, take, refl, sym, ap, ◌∙◌, subst, ◌⊎◌}
-use Rattle.std.proofs.Common.{inl, inr, arith, Option, Some, None}
+use Rattle.std.proofs.Common.{Bool, inl, inr, arith, Option, Some, None}
 use Rattle.std.specs.Prelude.{slice_get}
 use Rattle.std.proofs.lemmas.Bool.{cases_order}
 use Rattle.std.proofs.lemmas.List.{take-take}
@@ -115,6 +115,7 @@ module _ (kind : LineKind) (line : Line) (ranked : IsRanked line) (earlier : Lis
       (h.0, h.1, (h.2.0, (h.2.1.0, (h.2.1.1, h.2.1.2)))) in
       inr (p.0.belongs, inr ((p.0.stations, p.0.some), inr (p.0.below, (None, (refl, p.1)))))
   tests_of mode cites is fault.Swap units h = let q : e.why ≡ why.Swap h.0.0 h.0.1 h.0.2 = h.0.3.0 in absurd (cc)
+  tests_of mode cites is fault.Pairs units h = let q : e.why ≡ why.Pairs h.0.0 = h.0.1.0 in absurd (cc)
 
   late_one : (mode : Mode) (cites : List ℕ) (a b : EntryFault) (m n : ℕ)
       → ((x : ℕ) × (IsFirstLate cites (length earlier) x × Is (fault.Cite x) 0 a m))
@@ -152,6 +153,7 @@ module _ (kind : LineKind) (line : Line) (ranked : IsRanked line) (earlier : Lis
   bound_of is (fault.Uncovered load) units h = let q : e.why ≡ why.Branch h.0 h.1 = h.2.0 in absurd (cc)
   bound_of is fault.Spare units h = let q : e.why ≡ why.Branch h.0 h.1 = h.2.0 in absurd (cc)
   bound_of is fault.Swap units h = let q : e.why ≡ why.Swap h.0.0 h.0.1 h.0.2 = h.0.3.0 in absurd (cc)
+  bound_of is fault.Pairs units h = let q : e.why ≡ why.Pairs h.0.0 = h.0.1.0 in absurd (cc)
 
   -- the test of a Swap
   swap_of : (cite out into : ℕ) → e.why ≡ why.Swap cite out into → (why : EntryFault) (units : ℕ)
@@ -174,6 +176,21 @@ module _ (kind : LineKind) (line : Line) (ranked : IsRanked line) (earlier : Lis
   swap_of cite out into is fault.Swap units h =
       let s : Swaps e (λ c o i. c < length earlier) = (h.0.0, h.0.1, h.0.2, (h.0.3.0, h.0.3.1.0)) in
       inr (swap_is (λ c o i. c < length earlier) cite out into is s, (refl, h.1))
+  swap_of cite out into is fault.Pairs units h = let q : e.why ≡ why.Pairs h.0.0 = h.0.1.0 in absurd (cc)
+
+  pairs_of : (two : List Bool) → e.why ≡ why.Pairs two → (why : EntryFault) (units : ℕ)
+      → Fails kind line earlier e why units → Is fault.Pairs 0 why units
+  pairs_of two is (fault.Bound b) units h = let q : e.why ≡ why.Bound = h.0 in absurd (cc)
+  pairs_of two is fault.Mode units h = let q : e.why ≡ why.Branch h.0.0 h.0.1 = h.0.2.0 in absurd (cc)
+  pairs_of two is fault.Most units h = let q : e.why ≡ why.Branch h.0.0 h.0.1 = h.0.2.0 in absurd (cc)
+  pairs_of two is (fault.Cite x) units h = elim h.0 [
+    | inl b ↦ (let q : e.why ≡ why.Branch b.0 b.1 = b.2.0 in absurd (cc))
+    | inr s ↦ (let q : e.why ≡ why.Swap s.0 s.1 s.2 = s.3.0 in absurd (cc))
+  ]
+  pairs_of two is (fault.Uncovered load) units h = let q : e.why ≡ why.Branch h.0 h.1 = h.2.0 in absurd (cc)
+  pairs_of two is fault.Spare units h = let q : e.why ≡ why.Branch h.0 h.1 = h.2.0 in absurd (cc)
+  pairs_of two is fault.Swap units h = let q : e.why ≡ why.Swap h.0.0 h.0.1 h.0.2 = h.0.3.0 in absurd (cc)
+  pairs_of two is fault.Pairs units h = (refl, h.1)
 
   -- one entry has one fault
   fault_one : (w : Why) → e.why ≡ w → (a b : EntryFault) (m n : ℕ) → Fails kind line earlier e a m
@@ -185,6 +202,7 @@ module _ (kind : LineKind) (line : Line) (ranked : IsRanked line) (earlier : Lis
   fault_one (why.Swap cite out into) is a b m n p q =
       same_end (swap_of cite out into is a m p) (swap_of cite out into is b n q) (is_one (fault.Cite cite) 0 a b m n)
       (is_one fault.Swap 0 a b m n)
+  fault_one (why.Pairs two) is a b m n p q = is_one fault.Pairs 0 a b m n (pairs_of two is a m p) (pairs_of two is b n q)
 
   pub one_fault : (a b : EntryFault) (m n : ℕ) → Fails kind line earlier e a m → Fails kind line earlier e b n
       → (a ≡ b) × (m ≡ n)

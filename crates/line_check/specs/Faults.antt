@@ -1,10 +1,11 @@
 -- What the check of an entry finds: that it follows, the first thing that is wrong with it, or that the steps ended.
-use Rattle.std.specs.Prelude.{◌≡◌, ℕ, ◌<◌, ◌≤◌, ◌⊎◌, List, length}
+use Rattle.std.specs.Prelude.{◌≡◌, ℕ, ◌<◌, ◌≤◌, ◌⊎◌, Bool, List, length}
 use Rattle.line_instance.specs.Truths.{In, IsEmpty}
 use Rattle.line_instance.specs.Line.{Line}
 use Rattle.line_rules.specs.Loads.{IsLoad, Belongs}
 use Rattle.line_rules.specs.Bounds.{bound}
 use Rattle.line_rules.specs.Entries.{IsOpen, Follows, FollowsBySwap}
+use Rattle.line_rules.specs.Pairs.{IsRefutedByPairs}
 use Rattle.line_rules.specs.Units.{UnitsBy}
 use Rattle.line_rules.specs.declared.types.LineKind.{LineKind}
 use Rattle.line_rules.specs.declared.types.Mode.{Mode}
@@ -26,6 +27,10 @@ Branches e P = (mode : Mode) × (cites : List ℕ) × ((e.why ≡ why.Branch mod
 -- the entry says that it is by Swap, with a cite and tasks of which this is true
 abbrev pub Swaps : Entry → (ℕ → ℕ → ℕ → Type 0) → Type 0
 Swaps e P = (cite : ℕ) × (out : ℕ) × (into : ℕ) × ((e.why ≡ why.Swap cite out into) × P cite out into)
+
+-- the entry says that it is by Pairs, with a set of tasks of which this is true
+abbrev pub HasPairs : Entry → (List Bool → Type 0) → Type 0
+HasPairs e P = (two : List Bool) × ((e.why ≡ why.Pairs two) × P two)
 
 -- a Branch may be walked: the mode belongs to the line, there is a station and a task, and each cite is of an earlier
 -- entry
@@ -59,6 +64,8 @@ Fails kind line earlier e fault.Spare units =
     × Counts line (IsLoad line e.cycle mode e.set) units)
 Fails kind line earlier e fault.Swap units = Swaps e (λ cite out into. (cite < length earlier)
     × (FollowsBySwap line earlier e cite out into → ⊥)) × (units ≡ 0)
+Fails kind line earlier e fault.Pairs units = HasPairs e (λ two. IsRefutedByPairs kind line e.cycle e.set e.most two
+    → ⊥) × (units ≡ 0)
 
 -- some load of the entry is walked as one more than `steps`, and every check up to it held
 abbrev pub Ends : LineKind → Line → List Entry → Entry → ℕ → Type 0

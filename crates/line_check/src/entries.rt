@@ -1,8 +1,8 @@
 //! The check of one entry after others: whether it follows from them in the way that it says.
 //!
-//! An entry gives one of three reasons. A Bound costs one bound of its set, and a Swap a few operations on sets;
-//! neither walks a load. A Branch costs one unit for each load of its set. The faults are looked for in a fixed order,
-//! so a wrong entry has one fault.
+//! An entry gives one of four reasons. A Bound costs one bound of its set, a Swap a few operations on sets, and Pairs a
+//! look at each two of a few tasks; none of these walks a load. A Branch costs one unit for each load of its set. The
+//! faults are looked for in a fixed order, so a wrong entry has one fault.
 ghost use Rattle.std.specs.Prelude.{◌≡◌, ℕ, ◌<◌, ◌≤◌, ◌↔◌, List, length, take, slice_get, Some, IsTrue};
 ghost use Rattle.line_instance.specs.Truths.{In};
 ghost use Rattle.line_instance.specs.Line.{IsTaskSet, tasks, has};
@@ -20,7 +20,8 @@ use check_loads::bounds::{bound, exceeds};
 use check_loads::questions::{Question, room};
 use check_loads::sizes::times_in;
 use line_instance::{Instance, TaskSet};
-use line_rules::{Cites, Entries, Entry, LineKind, Mode, Why};
+use line_rules::{BoxedSet, Cites, Entries, Entry, LineKind, Mode, Why};
+use pair_rule::pairs_hold;
 
 /// Whether the mode belongs to the kind of line.
 pub(crate) fn belongs(kind: LineKind, mode: Mode) -> bool
@@ -193,6 +194,27 @@ fn check_swap(
     }
 }
 
+/// Checks an entry by Pairs.
+fn check_pairs(
+    inst: &Instance,
+    kind: LineKind,
+    entry: &Entry,
+    two: &BoxedSet,
+) -> Checked<EntryFault>
+    requires set { IsTaskSet inst.now entry.now.set }
+    requires cycle { IsCycle entry.now.cycle }
+    requires way { entry.now.why ≡ why.Pairs two.now }
+    ensures { (earlier : List Step) (steps : ℕ) → IsFound kind inst.now earlier entry.now steps result }
+{
+    if pairs_hold(inst, kind, entry.cycle, &entry.set, entry.most, two.set()) {
+        return Checked::Right { units: 0 };
+    }
+    Checked::Fails {
+        why: EntryFault::Pairs,
+        units: 0,
+    }
+}
+
 /// Checks an entry after the first `k` entries of a list: whether it follows from them, or the first thing that is
 /// wrong with it, with the number of loads that were walked; or that more than `steps` loads had to be walked. Takes no
 /// memory.
@@ -219,6 +241,7 @@ pub fn check_entry(
             out_task,
             in_task,
         } => check_swap(inst, entries, k, entry, *cite, *out_task, *in_task),
+        Why::Pairs { two } => check_pairs(inst, kind, entry, two),
     }
 }
 

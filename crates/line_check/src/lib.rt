@@ -1,9 +1,9 @@
 //! An independent check of certificates: the balance, each entry of the proof, and the trail of a search that stopped.
 //!
 //! Nothing here is shared with a search but sets, lines, the rules and facts about them. The walk over loads and the
-//! bound are those of check_loads, a second code for the same definitions. So, a mistake in a definition apart, nothing
-//! that the search alone rests on can make the check say yes. A check costs one unit for each load of the entries and
-//! the trail, and takes no memory.
+//! bound are those of check_loads, and the test of pairs that of pair_rule, a second code for the same definitions. So,
+//! a mistake in a definition apart, nothing that the search alone rests on can make the check say yes. A check costs one
+//! unit for each load of the entries and the trail, and takes no memory.
 #![tactic(auto)]
 
 mod checking;

@@ -23,6 +23,8 @@ pub enum EntryFault {
     Spare,
     /// By Swap: the entry doesn't follow from the one that it cites.
     Swap,
+    /// By Pairs: the tasks that are named, and those that conflict with each of them, don't refute the set.
+    Pairs,
 }
 
 /// Why a frame of a trail is refused.

@@ -19,6 +19,7 @@ use Rattle.line_rules.proofs.BoundIsTrue.{bound_le}
 use Rattle.line_rules.proofs.FullLoadExists.{step}
 use Rattle.line_rules.proofs.ListFacts.{get_some}
 use Rattle.line_rules.proofs.Swap.{swapped, swap_seats}
+use Rattle.line_rules.proofs.PairSharing.{sound as pairs_sound}
 use Rattle.std.proofs.lemmas.Bool.{cases_lt}
 
 -- Bound: the bound exceeds `most`
@@ -67,6 +68,7 @@ by_any kind line ok earlier e (why.Branch mode cites) set o held f =
     by_branch kind line ok earlier e mode cites set o held f
 by_any kind line ok earlier e (why.Swap cite out into) set o held f =
     by_swap kind line ok earlier e cite out into set held f
+by_any kind line ok earlier e (why.Pairs two) set o held f = pairs_sound kind line e.cycle e.set e.most two ok set f
 
 -- the entries below n hold
 sound_below : (kind : LineKind) (line : Line) → IsLine line → (es : List Entry) → IsDerived kind line es

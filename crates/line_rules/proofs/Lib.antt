@@ -9,6 +9,10 @@ pub mod FilledLoads
 pub mod FullLoadExists
 pub mod BoundIsTrue
 pub mod Swap
+pub mod GoneOver
+pub mod Between
+pub mod PairSharing
+pub mod PairGrowth
 pub mod LemmasHold
 pub mod Compare
 pub mod Unique
@@ -42,3 +46,4 @@ pub mod WalkTurns
 pub mod QuickWalk
 pub mod SideTurns
 pub mod JoinTests
+pub use Rattle.line_instance.proofs as about_lines

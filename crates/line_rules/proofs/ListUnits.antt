@@ -22,6 +22,7 @@ module _ (line : Line) (ok : IsLine line) (ranked : IsRanked line) where
     },
   )
   by_counted e (why.Swap cite out into) set = (0, refl)
+  by_counted e (why.Pairs two) set = (0, refl)
 
   counted : (es : List Entry) → ((k : ℕ) (e : Entry) → slice_get es k ≡ Some e → IsTaskSet line e.set)
       → (units : ℕ) × UnitsOf line es units

@@ -53,6 +53,7 @@ by_longer kind line es more e (why.Swap cite out into) f = record {
   after = f.after;
   apart = f.apart;
 }
+by_longer kind line es more e (why.Pairs two) f = f
 
 -- what follows from a list follows from each longer one
 pub follows_longer : (kind : LineKind) (line : Line) (es more : List Entry) (e : Entry) → Follows kind line es e

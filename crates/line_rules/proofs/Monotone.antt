@@ -46,6 +46,7 @@ by_same : (line : Line) (e : Entry) (w : Why) (a b : ℕ) → UnitsBy line e w a
 by_same line e why.Bound a b p q = p ∙ sym q
 by_same line e (why.Branch mode cites) a b p q = one_count line (IsLoad line e.cycle mode e.set) a b p q
 by_same line e (why.Swap cite out into) a b p q = p ∙ sym q
+by_same line e (why.Pairs two) a b p q = p ∙ sym q
 
 sum_same : (x y x' y' a b : ℕ) → x ≡ x' → y ≡ y' → a ≡ x + y → b ≡ x' + y' → a ≡ b
 sum_same x y x' y' a b d e p q = omega (arith, d, e, p, q)

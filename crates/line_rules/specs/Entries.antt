@@ -6,6 +6,7 @@ use Rattle.line_instance.specs.Line.{Line, IsTaskSet, tasks, time, has, Before, 
 use Rattle.line_rules.specs.Loads.{IsLoad, IsFull, Belongs, rest}
 use Rattle.line_rules.specs.Order.{Lists}
 use Rattle.line_rules.specs.Bounds.{bound}
+use Rattle.line_rules.specs.Pairs.{IsRefutedByPairs}
 use Rattle.line_rules.specs.declared.types.LineKind.{LineKind}
 use Rattle.line_rules.specs.declared.types.Mode.{Mode}
 use Rattle.line_rules.specs.declared.types.Load.{Load}
@@ -70,11 +71,12 @@ pub record FollowsBySwap (line : Line) (earlier : List Entry) (e : Entry) (cite 
   pub apart : (i : ℕ) → In entry.set i → Apart line i into → Apart line i out
 
 -- the entry follows from earlier ones in the way that it says: by Bound, where the bound of its set exceeds its
--- stations; by Branch; or by Swap
+-- stations; by Branch; by Swap; or by Pairs, where pairs refute its set with the tasks that count twice
 abbrev pub FollowsBy : LineKind → Line → List Entry → Entry → Why → Type 0
 FollowsBy kind line earlier e why.Bound = e.most < bound kind line e.cycle e.set
 FollowsBy kind line earlier e (why.Branch mode cites) = FollowsByBranch kind line earlier e mode cites
 FollowsBy kind line earlier e (why.Swap cite out into) = FollowsBySwap line earlier e cite out into
+FollowsBy kind line earlier e (why.Pairs two) = IsRefutedByPairs kind line e.cycle e.set e.most two
 
 -- the entry speaks of a set of tasks at a cycle, and follows from the earlier ones in the way that it says
 pub record Follows (kind : LineKind) (line : Line) (earlier : List Entry) (e : Entry) : Type 0 where

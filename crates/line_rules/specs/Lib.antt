@@ -4,6 +4,7 @@ pub mod Bounds
 pub mod Ranked
 pub mod Loads
 pub mod Order
+pub mod Pairs
 pub mod Entries
 pub mod Units
 pub mod Trails
@@ -16,3 +17,4 @@ pub mod Times
 pub mod Sides
 pub mod Ends
 pub mod inner
+pub use Rattle.line_instance.specs as lines

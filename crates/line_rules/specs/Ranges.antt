@@ -51,11 +51,12 @@ pub record IsPlacing (kind : LineKind) (n : ℕ) (b : Assignment) : Type 0 where
 abbrev pub AreCites : ℕ → List ℕ → Type 0
 AreCites count cites = (p cite : ℕ) → slice_get cites p ≡ Some cite → cite < count
 
--- why an entry holds: cites of entries of the list, and tasks of the line
+-- why an entry holds: cites of entries of the list, tasks of the line, and a set of them
 abbrev pub IsWhy : ℕ → ℕ → Why → Type 0
 IsWhy n count why.Bound = Unit {0}
 IsWhy n count (why.Branch mode cites) = AreCites count cites
 IsWhy n count (why.Swap cite out into) = (cite < count) × ((out < n) × (into < n))
+IsWhy n count (why.Pairs two) = IsOf n two
 
 -- an entry of a list of so many entries: a set of tasks, 0 to 1,024 stations, a cycle
 pub record IsEntry (n count : ℕ) (e : Entry) : Type 0 where

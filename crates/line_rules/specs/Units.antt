@@ -14,6 +14,7 @@ abbrev pub UnitsBy : Line → Entry → Why → ℕ → Type 0
 UnitsBy line e why.Bound units = units ≡ 0
 UnitsBy line e (why.Branch mode cites) units = Counts line (IsLoad line e.cycle mode e.set) units
 UnitsBy line e (why.Swap cite out into) units = units ≡ 0
+UnitsBy line e (why.Pairs two) units = units ≡ 0
 
 -- the sum of the units of the entries
 abbrev pub UnitsOf : Line → List Entry → ℕ → Type 0

@@ -6,6 +6,7 @@ ghost use Rattle.line_rules.specs.Laws.{DerivedHasUnits, UnitsAreUnique, FreshIs
 ghost use Rattle.line_rules.specs.Laws.{EveryRestIsSmaller, FollowsFromMore, AnswersLeadOn, DerivedGrows};
 ghost use Rattle.line_rules.specs.Laws.{EveryAcceptedBoundIsTrue, AcceptedOptimumIsLeast};
 ghost use Rattle.line_rules.specs.Laws.{EveryInfeasibleCertificateIsTrue};
+ghost use Rattle.line_rules.specs.Pairs.{PairsAreSound, PairsGrow};
 
 /// The ranked balance of a line is right, and has at most as many stations as there are tasks.
 pub fn every_ranked_balance_is_right()
@@ -20,6 +21,16 @@ pub fn every_entry_holds()
 /// A set whose bound exceeds a number of stations has no balance in so many, on either kind of line.
 pub fn every_bound_holds()
     ensures { EveryBoundHolds }
+{}
+
+/// A set that pairs refute has no balance in so many stations, on either kind of line.
+pub fn pairs_are_sound()
+    ensures { PairsAreSound }
+{}
+
+/// Pairs that refute a set refute each larger set, with the same tasks.
+pub fn pairs_grow()
+    ensures { PairsGrow }
 {}
 
 /// A balance of a set is one of each subset, at each greater cycle, and in more stations.

@@ -5,13 +5,16 @@
 //! asks for a bound stands in crates above, once for the search and once for the check.
 #![tactic(auto)]
 
+mod boxed;
 mod checking;
 pub mod laws;
 mod listed;
 mod products;
 mod types;
 
+pub use boxed::BoxedSet;
 pub use checking::check_balance;
+pub use line_instance::{Instance, MAX_TASKS, MAX_TIME, Made, Prec, Ring, TaskSet, Tasks, make};
 pub use listed::{Cites, Entries, EqualCopy, Frames, Listed, Loads, Places};
 pub use products::EfficCert;
 pub use types::{

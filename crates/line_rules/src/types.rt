@@ -5,6 +5,7 @@
 //! hold no list are copied by value; those that do have a `copy`, which takes memory and makes an equal one.
 ghost use Rattle.std.specs.Prelude.{◌≡◌, IfOk};
 
+use crate::boxed::BoxedSet;
 use crate::listed::{Cites, Entries, Frames, Places};
 use line_instance::TaskSet;
 use std::alloc::AllocError;
@@ -87,6 +88,12 @@ pub enum Why {
         /// The task that is put in, from 0.
         in_task: u32,
     },
+    /// Of some tasks no two can share a station, and they show that the set needs more stations. Own; after the bin
+    /// packing bounds of Martello and Toth, 1990.
+    Pairs {
+        /// The tasks that count twice.
+        two: BoxedSet,
+    },
 }
 
 /// A proved refusal: the set has no balance in `most` stations at the cycle.
@@ -136,6 +143,7 @@ impl Why {
                 out_task: *out_task,
                 in_task: *in_task,
             },
+            Why::Pairs { two } => Why::Pairs { two: two.copy()? },
         })
     }
 }

@@ -1,8 +1,8 @@
 //! What no clause says: small balances with their answers, and that lists of entries and of frames are copied.
 use line_instance::{Instance, Made, Prec, TaskSet};
 use line_rules::{
-    Balance, BalanceCheck, Cites, Entries, Entry, Frames, LineKind, Load, Mode, OpenFrame, Places,
-    Seatplace, Side, Why, check_balance,
+    Balance, BalanceCheck, BoxedSet, Cites, Entries, Entry, Frames, LineKind, Load, Mode,
+    OpenFrame, Places, Seatplace, Side, Why, check_balance,
 };
 use std::test::Fail;
 
@@ -98,6 +98,26 @@ fn copies_entries(rt: HostRuntime) -> Result<(), Fail> {
         return Err("another reason")?;
     };
     assert!(rt; (*mode == Mode::Fore) & (cites.as_slice() == [4, 0].as_slice()));
+    Ok(())
+}
+
+#[test]
+fn copies_an_entry_by_pairs(rt: HostRuntime) -> Result<(), Fail> {
+    let alloc = rt.alloc();
+    let two = TaskSet::from_members(&[0, 2]);
+    let entry = Entry {
+        set: TaskSet::full_to(4),
+        most: 2,
+        cycle: 20,
+        why: Why::Pairs {
+            two: BoxedSet::new(alloc, &two)?,
+        },
+    };
+    let copied = entry.copy()?;
+    let Why::Pairs { two: again } = &copied.why else {
+        return Err("another reason")?;
+    };
+    assert!(rt; *again.set() == two);
     Ok(())
 }
 

@@ -5,8 +5,8 @@ use Rattle.line_instance.specs.Line.{Line, IsLine}
 use Rattle.line_instance.proofs.Members.{In-clear, In-clear_kept, In-clear_gone}
 use Rattle.line_rules.specs.declared.types.LineKind.{LineKind}
 use Rattle.line_rules.proofs.MembersInOrder.{IsLeft, one_less}
-use Rattle.pair_rule.specs.Pairs.{Conflict}
-use Rattle.pair_rule.proofs.Between.{both_conflict}
+use Rattle.line_rules.specs.Pairs.{Conflict}
+use Rattle.line_rules.proofs.Between.{both_conflict}
 
 -- each other task of two conflicts with j
 abbrev pub Faces : LineKind → Line → ℕ → List Bool → List Bool → ℕ → Type 0

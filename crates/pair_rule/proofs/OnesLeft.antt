@@ -6,8 +6,8 @@ use Rattle.line_instance.specs.Truths.{In, minus, members_of}
 use Rattle.line_instance.specs.Line.{Line, has}
 use Rattle.line_instance.proofs.Members.{In-clear, In-clear_kept, In-clear_gone, In-minus, In-minus_parts}
 use Rattle.line_rules.specs.declared.types.LineKind.{LineKind}
-use Rattle.pair_rule.specs.Pairs.{IsOne, AreOne}
-use Rattle.pair_rule.proofs.GoneOver.{AreOver, over_start, next_in, over_turn, over_end}
+use Rattle.line_rules.specs.Pairs.{IsOne, AreOne}
+use Rattle.line_rules.proofs.GoneOver.{AreOver, over_start, next_in, over_turn, over_end}
 
 -- `one` has all of them, and what else it has is left
 pub record AreLeft (kind : LineKind) (line : Line) (c : ℕ) (R two one : List Bool) (left : List ℕ) : Type 0 where

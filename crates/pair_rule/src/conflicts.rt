@@ -5,7 +5,7 @@
 ghost use Rattle.std.specs.Prelude.{◌≡◌, ◌≢◌, ℕ, ◌≤◌, ◌<◌, ◌↔◌, IsTrue};
 ghost use Rattle.line_instance.specs.Truths.{In, IsSubset};
 ghost use Rattle.line_instance.specs.Line.{IsTaskSet, tasks};
-ghost use Rattle.pair_rule.specs.Pairs.{time_between, Conflict};
+ghost use Rattle.line_rules.specs.Pairs.{time_between, Conflict};
 
 use line_instance::{Instance, TaskSet};
 use line_rules::LineKind;

@@ -1,9 +1,9 @@
 //! The test of the rule: which tasks conflict, and two counts.
-ghost use Rattle.std.specs.Prelude.{◌≤◌, ◌↔◌, IsTrue};
+ghost use Rattle.std.specs.Prelude.{◌↔◌, IsTrue};
 ghost use Rattle.line_instance.specs.Truths.{In, IsSubset};
 ghost use Rattle.line_instance.specs.Line.{IsTaskSet};
 ghost use Rattle.line_rules.specs.Ranges.{IsCycle};
-ghost use Rattle.pair_rule.specs.Pairs.{IsOne, AreOne, IsRefutedByPairs};
+ghost use Rattle.line_rules.specs.Pairs.{IsOne, AreOne, IsRefutedByPairs};
 
 use crate::conflicts::{each_conflicts, each_two_conflict};
 use line_instance::{Instance, TaskSet};
@@ -53,9 +53,9 @@ pub fn pairs_hold(
 ) -> bool
     requires set { IsTaskSet inst.now set.now }
     requires cycle { IsCycle cycle }
-    requires few { most ≤ 1024 }
     ensures { IsTrue result ↔ IsRefutedByPairs kind inst.now cycle set.now most two.now }
 {
+    let _truths = two.capacity();
     if !two.is_subset(set) {
         return false;
     }
@@ -63,5 +63,5 @@ pub fn pairs_hold(
         return false;
     }
     let one = ones(inst, kind, cycle, set, two);
-    2 * two.count() + one.count() > 2 * most
+    2 * u64::from(two.count()) + u64::from(one.count()) > 2 * u64::from(most)
 }

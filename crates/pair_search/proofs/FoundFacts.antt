@@ -8,9 +8,9 @@ use Rattle.line_instance.proofs.Members.{In-union_left, In-union_right, In-union
 use Rattle.line_instance.proofs.Sums.{weigh-le, sum_where-le}
 use Rattle.line_rules.specs.declared.types.LineKind.{LineKind}
 use Rattle.line_rules.specs.declared.types.LineKind.TheVariants.{Straight, U}
-use Rattle.pair_rule.specs.Pairs.{is_between, time_between, Conflict, IsOne, IsRefutedByPairs}
-use Rattle.pair_rule.proofs.Growth.{singles, are_singles}
-use Rattle.pair_rule.proofs.Sharing.{weigh-count}
+use Rattle.line_rules.specs.Pairs.{is_between, time_between, Conflict, IsOne, IsRefutedByPairs}
+use Rattle.line_rules.proofs.PairGrowth.{singles, are_singles}
+use Rattle.line_rules.proofs.PairSharing.{weigh-count}
 use Rattle.pair_search.specs.Sharing.{Sharing, IsTableOf}
 use Rattle.pair_search.specs.inner.Ones.{AreOnes}
 
@@ -40,14 +40,15 @@ conflict_in kind line c all hull i j h x = elim x [
 
 -- some of the tasks `one` are enough
 enough : (kind : LineKind) (line : Line) (c : ℕ) (R : List Bool) (most : ℕ) (two one : List Bool) → IsTaskSet line R
-    → IsSubset two R → ((i j : ℕ) → In two i → In two j → i ≢ j → Conflict kind line c R i j)
+    → length two ≡ 1024 → IsSubset two R → ((i j : ℕ) → In two i → In two j → i ≢ j → Conflict kind line c R i j)
     → ((j : ℕ) → In one j → IsOne kind line c R two j) → 2 * most < 2 * count two + count one
     → IsRefutedByPairs kind line c R most two
-enough kind line c R most two one set within conflict ones more =
+enough kind line c R most two one set truths within conflict ones more =
     let now : List Bool = singles kind line c R two in
     let are = are_singles kind line c R two set in
     let sub : (j : ℕ) → In one j → In now j = λ j m. (are.members j).1 (ones j m) in
     record {
+      truths = truths;
       within = within;
       conflict = conflict;
       one = now;
@@ -79,7 +80,8 @@ found_tasks {rows} {two} {one} line R long items asked both set e f ones g l =
 module _ {line : Line} {t : Sharing} (of : IsTableOf line t) (R items asked two one both hull : List Bool) (most : ℕ)
     (set : IsTaskSet line R) (are_items : items ≡ meet R t.long) (are_two : two ≡ meet items asked)
     (ones : AreOnes t.rows items two one) (are_both : both ≡ union two one) (within : IsSubset both hull)
-    (closed : IsClosed t.kind line both hull) (truths : length hull ≡ 1024) (sub : IsSubset hull R) where
+    (closed : IsClosed t.kind line both hull) (truths : length hull ≡ 1024) (sub : IsSubset hull R)
+    (two_truths : length two ≡ 1024) where
   item : (j : ℕ) → In items j → In t.long j
   item j m = (In-meet_parts R t.long j (let P : List Bool → Type 0 = λ s. In s j in subst P are_items m)).1
 
@@ -103,7 +105,7 @@ module _ {line : Line} {t : Sharing} (of : IsTableOf line t) (R items asked two 
 
   pub found : 2 * most < 2 * count two + count one → IsRefutedByPairs t.kind line t.cycle hull most two
   found more = enough t.kind line t.cycle hull most two one
-      (record { truths = truths; tasks = λ j m. set.tasks j (sub j m) })
+      (record { truths = truths; tasks = λ j m. set.tasks j (sub j m) }) two_truths
       (λ j m. within j (two_both j m))
       (λ i j mi mj n. clash i j mi (two_both j mj) (item j (two_item j mj)) (λ e. n (sym e)) (ones.apart i j mi mj))
       (λ j m. record {

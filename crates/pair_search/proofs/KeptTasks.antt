@@ -5,7 +5,7 @@ use Rattle.std.proofs.lemmas.Bool.{false≢true, cases_Bool, cases_eq}
 use Rattle.line_instance.specs.Truths.{In, members_of}
 use Rattle.line_instance.specs.Line.{has}
 use Rattle.line_instance.proofs.Members.{In-clear, In-clear_kept, In-clear_gone}
-use Rattle.pair_rule.proofs.GoneOver.{AreOver, over_start, next_in, over_turn, over_end}
+use Rattle.line_rules.proofs.GoneOver.{AreOver, over_start, next_in, over_turn, over_end}
 
 -- now has members of s, of which each is to come or passes P; each other member of s passes Q
 pub record AreKept (s : List Bool) (P Q : ℕ → Type 0) (now : List Bool) (left : List ℕ) : Type 0 where

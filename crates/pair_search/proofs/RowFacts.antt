@@ -12,8 +12,8 @@ use Rattle.line_instance.proofs.Sums.{weigh-none, weigh-one}
 use Rattle.line_instance.proofs.Members.{In-clear, In-clear_kept, In-clear_gone, In-full_to, In-full_to_below, In-empty}
 use Rattle.line_rules.specs.declared.types.LineKind.{LineKind}
 use Rattle.line_rules.specs.declared.types.LineKind.TheVariants.{U}
-use Rattle.pair_rule.specs.Pairs.{time_between, Conflict}
-use Rattle.pair_rule.proofs.Between.{none_between}
+use Rattle.line_rules.specs.Pairs.{time_between, Conflict}
+use Rattle.line_rules.proofs.Between.{none_between}
 use Rattle.pair_search.specs.Sharing.{AreLong, IsRowOf}
 use Rattle.pair_search.proofs.KeptTasks.{AreKept, kept_start, kept_end, kept_all}
 

@@ -5,8 +5,8 @@ use Rattle.std.proofs.lemmas.Bool.{false≢true, and_parts, or_cases}
 use Rattle.line_instance.specs.Truths.{In, IsEmpty, IsSubset, union, minus, meet, members_of}
 use Rattle.line_instance.specs.Line.{Line, Before, has, is_before}
 use Rattle.line_instance.proofs.Members.{In-union_left, In-union_right, In-meet, In-minus_parts}
-use Rattle.pair_rule.specs.Pairs.{is_between}
-use Rattle.pair_rule.proofs.GoneOver.{AreOver, over_start, next_in, over_turn, over_end}
+use Rattle.line_rules.specs.Pairs.{is_between}
+use Rattle.line_rules.proofs.GoneOver.{AreOver, over_start, next_in, over_turn, over_end}
 use Rattle.pair_search.specs.inner.Ones.{AreOnes}
 
 -- what was gone over passes M too, where each that passes K does

@@ -4,7 +4,7 @@ use Rattle.std.specs.Prelude.{◌≡◌, ◌≢◌, ℕ, ◌*◌, ◌<◌, ◌�
 use Rattle.line_instance.specs.Truths.{In, full_to}
 use Rattle.line_instance.specs.Line.{Line, tasks, time}
 use Rattle.line_rules.specs.declared.types.LineKind.{LineKind}
-use Rattle.pair_rule.specs.Pairs.{Conflict}
+use Rattle.line_rules.specs.Pairs.{Conflict}
 
 -- what a table tells: the kind of line and the cycle that it was made for, the tasks that are long at that cycle, and
 -- for each of them a row with those that it shares with (own)

@@ -12,7 +12,5 @@ mod rows;
 mod step;
 mod table;
 mod task_map;
-#[cfg(test)]
-mod tests;
 
 pub use table::{PairTable, Paired, pair_table};

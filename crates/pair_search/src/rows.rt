@@ -8,7 +8,7 @@ ghost use Rattle.line_instance.specs.Truths.{In, full_to};
 ghost use Rattle.line_instance.specs.Line.{IsTaskSet, tasks, has};
 ghost use Rattle.line_instance.specs.Sums.{sum_where};
 ghost use Rattle.line_rules.specs.Ranges.{IsCycle};
-ghost use Rattle.pair_rule.specs.Pairs.{time_between, Conflict};
+ghost use Rattle.line_rules.specs.Pairs.{time_between, Conflict};
 ghost use Rattle.pair_search.specs.Sharing.{AreLong, IsRowOf};
 
 use line_instance::{Instance, TaskSet};

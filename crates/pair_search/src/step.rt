@@ -6,7 +6,7 @@ ghost use Rattle.std.specs.Prelude.{◌≡◌, ℕ, ◌<◌, true, length, IfSom
 ghost use Rattle.line_instance.specs.Truths.{In, IsSubset};
 ghost use Rattle.line_instance.specs.Line.{IsTaskSet};
 ghost use Rattle.line_rules.specs.declared.types.LineKind.TheVariants.{Straight};
-ghost use Rattle.pair_rule.specs.Pairs.{is_between};
+ghost use Rattle.line_rules.specs.Pairs.{is_between};
 ghost use Rattle.pair_search.specs.inner.Ones.{AreOnes};
 
 use line_instance::{Instance, TaskSet};

@@ -3,11 +3,11 @@
 //! A table has a row of 128 bytes for each task, and a matching of 4 KB for each frame of a search. A question begins
 //! with the matching of the deepest frame, less the pairs that left the set. So it mostly looks for a few paths. It
 //! ends as soon as there are so many pairs that they don't refute. It takes no memory.
-ghost use Rattle.std.specs.Prelude.{◌≡◌, ◌≤◌, IfOk};
+ghost use Rattle.std.specs.Prelude.{◌≡◌, ◌≤◌, length, IfOk};
 ghost use Rattle.line_instance.specs.Truths.{IsSubset};
 ghost use Rattle.line_instance.specs.Line.{IsTaskSet};
 ghost use Rattle.line_rules.specs.Ranges.{IsCycle};
-ghost use Rattle.pair_rule.specs.Pairs.{IsRefutedByPairs};
+ghost use Rattle.line_rules.specs.Pairs.{IsRefutedByPairs};
 ghost use Rattle.pair_search.specs.Sharing.{IsTableOf};
 ghost use Rattle.pair_search.specs.Found.{IfRefuted};
 
@@ -89,6 +89,7 @@ impl PairTable {
         requires table { IsTableOf inst.now self.now }
         requires set { IsTaskSet inst.now set.now }
         requires few { most ≤ 1024 }
+        ensures truths { IfRefuted result (λ hull two. length hull ≡ 1024) }
         ensures within { IfRefuted result (λ hull two. IsSubset hull set.now) }
         ensures refuted { IfRefuted result (λ hull two.
             IsRefutedByPairs self.now.kind inst.now self.now.cycle hull most two) }
@@ -125,6 +126,7 @@ impl PairTable {
         requires table { IsTableOf inst.now self.old }
         requires set { IsTaskSet inst.now set.now }
         requires few { most ≤ 1024 }
+        ensures truths { IfRefuted result (λ hull two. length hull ≡ 1024) }
         ensures within { IfRefuted result (λ hull two. IsSubset hull set.now) }
         ensures refuted { IfRefuted result (λ hull two.
             IsRefutedByPairs self.old.kind inst.now self.old.cycle hull most two) }
@@ -165,5 +167,12 @@ impl PairTable {
         ensures kept { self.new ≡ self.old }
     {
         self.frames.pop();
+    }
+
+    /// Leaves all frames, as where a search begins after one that ended early.
+    pub fn leave_all(&mut self)
+        ensures kept { self.new ≡ self.old }
+    {
+        self.frames.clear();
     }
 }

@@ -2,7 +2,7 @@
 -- chain, the last one first. A sieve has a mark for each of them, and lets few other tags through.
 use Rattle.std.specs.Prelude.{◌≡◌, ℕ, zero, suc, ◌-◌, ◌<◌, List, length, slice_get, slice_index, map, bit_and}
 use Rattle.std.specs.Prelude.{Option, Some, None}
-use Rattle.line_instance.specs.Tags.{tag_of}
+use Rattle.line_rules.specs.lines.Tags.{tag_of}
 use Rattle.line_rules.specs.declared.types.Entry.{Entry}
 use Rattle.lemma_core.specs.Sieves.{word_in, mark_of, IsSieve}
 use Rattle.lemma_core.specs.declared.index.Link.{Link}

@@ -1,6 +1,6 @@
 -- How the fields of a book stand for what contracts see of it.
 use Rattle.std.specs.Prelude.{ℕ, ◌<◌, ◌≤◌, List, [], ◌∷◌, length, take}
-use Rattle.line_instance.specs.Line.{Line}
+use Rattle.line_rules.specs.lines.Line.{Line}
 use Rattle.line_rules.specs.declared.types.LineKind.{LineKind}
 use Rattle.line_rules.specs.declared.types.Entry.{Entry}
 use Rattle.line_rules.specs.declared.types.Balance.{Balance as Assignment}

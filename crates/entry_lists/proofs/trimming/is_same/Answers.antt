@@ -1,5 +1,5 @@
 use Rattle.std.proofs.Common.{◌∙◌, sym}
-use Rattle.line_instance.specs.inner.Words.{equal_sets}
+use Rattle.line_rules.specs.lines.inner.Words.{equal_sets}
 use Rattle.entry_lists.proofs.trimming.is_same.Goals as goal
 
 pub returns : goal.returns

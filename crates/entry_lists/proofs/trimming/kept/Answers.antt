@@ -1,5 +1,5 @@
 use Rattle.std.proofs.Common.{◌+◌, ◌++◌, ◌∷◌, [], List, ℕ, length, arith, ◌∙◌, sym, ap, subst, length-append}
-use Rattle.line_instance.specs.Truths.{members_of}
+use Rattle.line_rules.specs.lines.Truths.{members_of}
 use Rattle.line_rules.specs.declared.types.Entry.{Entry}
 use Rattle.entry_lists.specs.Trim.{AreKeptEntries, entry_at}
 use Rattle.entry_lists.proofs.KeptPlaces.{IsPlacing, placed, passed_over, all_placed}

@@ -1,6 +1,6 @@
 use Rattle.std.proofs.Common.{◌-◌, ◌∙◌, List, Bool, false, ap, sym, subst, length, replicate, arith}
 use Rattle.std.proofs.lemmas.Option.{slice_get_within}
-use Rattle.line_instance.specs.Truths.{In}
+use Rattle.line_rules.specs.lines.Truths.{In}
 use Rattle.entry_lists.specs.Trim.{cited_by, AreMarked}
 use Rattle.entry_lists.proofs.MarkFacts.{IsPassed, pass_begins, pass_marks, pass_ends, come_back, is_in}
 use Rattle.entry_lists.proofs.trimming.marks_of.Goals as goal

@@ -1,6 +1,6 @@
 use Rattle.std.proofs.Common.{List, Bool, sym, subst}
 use Rattle.std.proofs.lemmas.Option.{slice_get_within}
-use Rattle.line_instance.specs.Truths.{full_to, members_of}
+use Rattle.line_rules.specs.lines.Truths.{full_to, members_of}
 use Rattle.entry_lists.specs.Trim.{IsFirstAnswer, AreClosed, AreKeptEntries}
 use Rattle.entry_lists.proofs.MarkFacts.{marks_closed}
 use Rattle.entry_lists.proofs.TrimFacts.{of_value, trimmed_by, derived_of, fresh_of, answer_of, units_of, entries_of}

@@ -6,3 +6,6 @@ returns-in-Bound c = c.check_bound.ensures (take c.args.k c.args.entries.now) c.
 
 pub returns-in-Swap : goal.returns-in-Swap
 returns-in-Swap c = c.check_swap.ensures c.args.kind c.args.steps
+
+pub returns-in-Pairs : goal.returns-in-Pairs
+returns-in-Pairs c = c.check_pairs.ensures (take c.args.k c.args.entries.now) c.args.steps

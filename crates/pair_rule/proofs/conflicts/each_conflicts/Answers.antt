@@ -1,4 +1,4 @@
-use Rattle.pair_rule.proofs.GoneOver.{over_start}
+use Rattle.line_rules.proofs.GoneOver.{over_start}
 use Rattle.pair_rule.proofs.conflicts.each_conflicts.Goals as goal
 
 pub loop-i-init : goal.loop-i-init

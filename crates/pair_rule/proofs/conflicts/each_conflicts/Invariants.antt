@@ -1,6 +1,6 @@
 use Rattle.line_instance.specs.Truths.{In}
-use Rattle.pair_rule.specs.Pairs.{Conflict}
-use Rattle.pair_rule.proofs.GoneOver.{AreOver}
+use Rattle.line_rules.specs.Pairs.{Conflict}
+use Rattle.line_rules.proofs.GoneOver.{AreOver}
 use Rattle.pair_rule.proofs.conflicts.each_conflicts.Given as goal
 
 abbrev pub invariant-loop-i : goal.invariant-loop-i

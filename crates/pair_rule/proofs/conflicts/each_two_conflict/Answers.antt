@@ -15,5 +15,6 @@ left-smaller c = (let P : List Bool → Type 0 = λ s. members s < members c.lef
     subst P (sym c.remove.ensures.value) (members_less c.left.left c.in-Some.j c.in-Some.ensures.some.member))
 
 pub left-preserved : goal.left-preserved
-left-preserved c = two_turn c.args.kind c.args.inst.now c.args.cycle c.args.set.now c.args.two.now c.left.left c.in-Some.j c.remove.new.self c.left.invariant c.in-Some.ensures.some.member
+left-preserved c = two_turn c.args.kind c.args.inst.now c.args.cycle c.args.set.now c.args.two.now
+    c.left.left c.in-Some.j c.remove.new.self c.left.invariant c.in-Some.ensures.some.member
     c.remove.ensures.value c.tasks-tasks.ensures.line (c.each_conflicts.ensures.0 c.if-not-each_conflicts.false)

@@ -1,6 +1,6 @@
 use Rattle.std.proofs.Common.{◌≡◌, ◌∙◌}
 use Rattle.line_instance.specs.Truths.{meet, union}
-use Rattle.pair_rule.proofs.Between.{met_tasks, none_between, between_sum}
+use Rattle.line_rules.proofs.Between.{met_tasks, none_between, between_sum}
 use Rattle.pair_rule.proofs.conflicts.time_between.Goals as goal
 
 pub returns-in-U-clause-time : goal.returns-in-U-clause-time

@@ -1,7 +1,7 @@
 use Rattle.std.proofs.Common.{◌≡◌, ap, ◌∙◌}
 use Rattle.line_instance.specs.Truths.{meet, union}
-use Rattle.pair_rule.specs.Pairs.{time_between}
-use Rattle.pair_rule.proofs.Between.{met_tasks, between_sum}
+use Rattle.line_rules.specs.Pairs.{time_between}
+use Rattle.line_rules.proofs.Between.{met_tasks, between_sum}
 use Rattle.pair_search.proofs.RowFacts.{nothing_between, no_tasks}
 use Rattle.pair_search.proofs.rows.between.Goals as goal
 

@@ -8,7 +8,7 @@ use Rattle.lemma_core.specs.declared.types.Reply.TheVariants as reply
 use Rattle.lemma_core.specs.Machine.{last_answer, published}
 use Rattle.lemma_core.specs.Books.{BookView, IsBook, ran}
 use Rattle.std.proofs.lemmas.List.{map-append}
-use Rattle.line_instance.specs.Tags.{tag_of}
+use Rattle.line_rules.specs.lines.Tags.{tag_of}
 use Rattle.lemma_core.specs.inner.Chains.{IsIndexOf}
 use Rattle.lemma_core.specs.inner.Inside.{book_of, IsLogged}
 use Rattle.lemma_core.proofs.Logs.{added_is, added_logged, book_published}

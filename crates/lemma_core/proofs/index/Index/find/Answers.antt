@@ -4,7 +4,7 @@ use Rattle.std.proofs.lemmas.Option.{slice_get_read, same_Some}
 use Rattle.line_rules.specs.Entries.{Answers}
 use Rattle.line_rules.specs.declared.types.Entry.{Entry}
 use Rattle.lemma_core.specs.declared.index.Link.{Link}
-use Rattle.line_instance.specs.Tags.{tag_of}
+use Rattle.line_rules.specs.lines.Tags.{tag_of}
 use Rattle.lemma_core.specs.inner.Chains.{bucket_in, IsIndexOf}
 use Rattle.lemma_core.proofs.Runs.{answers_is}
 use Rattle.lemma_core.proofs.LastAnswers.{last_is, none_is, fails_so}

@@ -36,5 +36,5 @@ returns-clause-refuted c =
     (c.meet-items.ensures.value ∙ ap (λ s. meet c.args.set.now s) long) c.meet-two.ensures.value
     (subst R rows c.in-Some.ensures) c.union.ensures.value c.hull-hull.ensures.within
     (subst K kind c.hull-hull.ensures.between) c.hull-hull.ensures.truths
-    (c.is_subset.ensures.0 c.if-not-is_subset.false)
+    (c.is_subset.ensures.0 c.if-not-is_subset.false) c.meet-two.ensures.truths
     (omega (arith, c.if-count-most.false, c.count.ensures.value, c.count-2.ensures.value))

@@ -36,11 +36,12 @@ pub record AreOne (kind : LineKind) (line : Line) (c : ℕ) (R two one : List Bo
   pub truths : length one ≡ 1024
   pub members : (j : ℕ) → In one j ↔ IsOne kind line c R two j
 
--- R is refuted in `most` stations by pairs with two: two is a subset of R, each two different tasks of it conflict, and
--- twice the tasks of two with the tasks of `one` are more than twice the stations (own; after the bin packing bounds of
--- Martello and Toth, 1990)
+-- R is refuted in `most` stations by pairs with two: two is a set, a subset of R; each two different tasks of it
+-- conflict; and twice the tasks of two with the tasks of `one` are more than twice the stations (own; after the bin
+-- packing bounds of Martello and Toth, 1990)
 pub record IsRefutedByPairs (kind : LineKind) (line : Line) (c : ℕ) (R : List Bool) (most : ℕ)
     (two : List Bool) : Type 0 where
+  pub truths : length two ≡ 1024
   pub within : IsSubset two R
   pub conflict : (i j : ℕ) → In two i → In two j → i ≢ j → Conflict kind line c R i j
   pub one : List Bool

@@ -14,7 +14,7 @@ use Rattle.line_rules.specs.declared.types.LineKind.TheVariants.{Straight, U}
 use Rattle.line_rules.specs.declared.types.Seatplace.{Seatplace}
 use Rattle.line_rules.proofs.BoundIsTrue.{cond_le}
 use Rattle.line_rules.proofs.OneTaskPerStation.{count_below}
-use Rattle.pair_rule.specs.Pairs.{is_between, time_between, Conflict, IsOne, IsRefutedByPairs}
+use Rattle.line_rules.specs.Pairs.{is_between, time_between, Conflict, IsOne, IsRefutedByPairs}
 
 -- two sums over tasks at m stations, of which each has k of both at most, are m * k together at most
 both-stations : (u v : ℕ → ℕ) (ts : List ℕ) (at : ℕ → ℕ) (k m : ℕ) (p q : ℕ → Bool)

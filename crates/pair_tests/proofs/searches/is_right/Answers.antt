@@ -1,5 +1,5 @@
-use Rattle.pair_rule.proofs.Between.{met_tasks}
-use Rattle.pair_search.proofs.tests.is_right.Goals as goal
+use Rattle.line_rules.proofs.Between.{met_tasks}
+use Rattle.pair_tests.proofs.searches.is_right.Goals as goal
 
 pub find-requires-clause-set : goal.find-requires-clause-set
 find-requires-clause-set c = met_tasks c.args.inst.now c.all.result c.set_of.result c.meet-set.result

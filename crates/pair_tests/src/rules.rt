@@ -1,8 +1,8 @@
 //! What no clause says: rows on small lines, with their answers as they were worked out by hand.
 
-use crate::pairs_hold;
 use line_instance::{Instance, Made, Prec, TaskSet, make};
 use line_rules::LineKind;
+use pair_rule::pairs_hold;
 use std::alloc::Global;
 use std::test::Fail;
 

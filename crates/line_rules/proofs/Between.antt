@@ -9,7 +9,7 @@ use Rattle.line_instance.proofs.Members.{In-union_left, In-union_right, In-union
 use Rattle.line_instance.proofs.Sums.{weigh-same, same_truth}
 use Rattle.line_rules.specs.declared.types.LineKind.{LineKind}
 use Rattle.line_rules.specs.declared.types.LineKind.TheVariants.{Straight, U}
-use Rattle.pair_rule.specs.Pairs.{is_between, time_between, Conflict}
+use Rattle.line_rules.specs.Pairs.{is_between, time_between, Conflict}
 
 -- what a set of tasks has in common with another set is a set of tasks
 pub met_tasks : (line : Line) (R all s : List Bool) → IsTaskSet line R → s ≡ meet R all → length s ≡ 1024
@@ -79,8 +79,8 @@ module _ (line : Line) (R : List Bool) (i j : ℕ) (after_i before_j after_j bef
 
 -- what lies between i and j lies between j and i
 turned : (line : Line) (i j k : ℕ) → is_between line i j k ≡ true → is_between line j i k ≡ true
-turned line i j k e = elim (or_cases (is_before line i k && is_before line k j) (is_before line j k && is_before line k i)
-    e) [
+turned line i j k e = elim (or_cases (is_before line i k && is_before line k j)
+    (is_before line j k && is_before line k i) e) [
       | inl l ↦ or_right (is_before line j k && is_before line k i) (is_before line i k && is_before line k j) l
       | inr l ↦ or_left (is_before line j k && is_before line k i) (is_before line i k && is_before line k j) l
     ]

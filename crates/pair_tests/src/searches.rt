@@ -4,10 +4,10 @@
 ghost use Rattle.std.specs.Prelude.{◌≤◌};
 ghost use Rattle.pair_search.specs.Sharing.{IsTableOf};
 
-use crate::{PairTable, Paired, pair_table};
 use line_instance::{Instance, Made, Prec, TaskSet, make};
 use line_rules::LineKind;
 use pair_rule::pairs_hold;
+use pair_search::{PairTable, Paired, pair_table};
 use std::alloc::Global;
 use std::test::Fail;
 

@@ -10,8 +10,8 @@ use Rattle.line_instance.proofs.Members.{keep, length-keep, In-keep, In-keep_par
 use Rattle.line_instance.proofs.Sums.{weigh-le, sum_where-le}
 use Rattle.line_rules.specs.declared.types.LineKind.{LineKind}
 use Rattle.line_rules.specs.declared.types.LineKind.TheVariants.{Straight, U}
-use Rattle.pair_rule.specs.Pairs.{is_between, time_between, Conflict, IsOne, AreOne, IsRefutedByPairs}
-use Rattle.pair_rule.proofs.Sharing.{weigh-count}
+use Rattle.line_rules.specs.Pairs.{is_between, time_between, Conflict, IsOne, AreOne, IsRefutedByPairs}
+use Rattle.line_rules.proofs.PairSharing.{weigh-count}
 
 -- more lies between two tasks in a larger set
 between_more : (kind : LineKind) (line : Line) (R S : List Bool) (i j : ℕ) → IsSubset R S
@@ -140,6 +140,7 @@ grow kind line c R S most two set sub h =
     let more : (j : ℕ) → In h.one j → In now j = λ j m.
     (are.members j).1 (one_more kind line c R S two j sub ((h.ones.members j).0 m)) in
     record {
+      truths = h.truths;
       within = λ i m. sub i (h.within i m);
       conflict = λ i j m n d. conflict_more kind line c R S i j sub (h.conflict i j m n d);
       one = now;
