@@ -11,12 +11,12 @@ use Rattle.cert_lines.specs.declared.fault.CertKind.TheVariants.{Trailing}
 use Rattle.cert_lines.specs.declared.fault.ReadError.{ReadError}
 use Rattle.cert_lines.specs.declared.fault.ReadError.TheVariants as errors
 use Rattle.cert_text.specs.WholeText.{IsAnyRead, IsCertRead, IsCertFault}
-use Rattle.cert_text.specs.Cert.{cert_text}
+use Rattle.cert_text.specs.Cert.{cert_text, newest_text}
 use Rattle.cert_text.specs.OldCert.{old_text}
-use Rattle.cert_text.specs.Versions.{newer, older}
+use Rattle.cert_text.specs.Versions.{newest, older}
 use Rattle.cert_text.specs.declared.whole_text.CertRead.{CertRead}
 use Rattle.cert_text.specs.declared.whole_text.CertRead.TheVariants as reads
-use Rattle.cert_text.proofs.LineTexts.{ended_read, no_text, fault_whole}
+use Rattle.cert_text.proofs.LineTexts.{ended_read, no_text, no_cert, fault_whole}
 use Rattle.cert_files.specs.From.{IsReadWithin, IsLonger, IsCertFrom, stopped_from, fault_from, IsGoodFrom}
 use Rattle.cert_files.specs.inner.Pieces.{bytes_of}
 use Rattle.cert_files.specs.inner.Rest.{Reading, bytes_from, IsWithin}
@@ -87,8 +87,16 @@ pub none_of : (file : Option (List ℕ)) (limit : ℕ) (answer : CertFrom) → I
 none_of file limit answer h fault e cert i t =
     let P : CertFrom → Type 0 = λ a. IsCertFrom file limit a in
     let r : IsReadWithin file limit (reads.Fault fault) = subst P e h in
-    no_text r.bytes (reads.Fault fault) fault (newer cert) r.read refl i
-    (some_bytes file r.bytes (cert_text cert) r.there t)
+    no_cert r.bytes (reads.Fault fault) fault cert r.read refl i (some_bytes file r.bytes (cert_text cert) r.there t)
+
+pub none_of_newest : (file : Option (List ℕ)) (limit : ℕ) (answer : CertFrom) → IsCertFrom file limit answer
+    → (fault : CertFault) → answer ≡ Fault fault → (cert : Certificate) → IsInRange cert
+    → file ≡ Some (newest_text cert) → ⊥
+none_of_newest file limit answer h fault e cert i t =
+    let P : CertFrom → Type 0 = λ a. IsCertFrom file limit a in
+    let r : IsReadWithin file limit (reads.Fault fault) = subst P e h in
+    no_text r.bytes (reads.Fault fault) fault (newest cert) r.read refl i
+    (some_bytes file r.bytes (newest_text cert) r.there t)
 
 pub none_of_old : (file : Option (List ℕ)) (limit : ℕ) (answer : CertFrom) → IsCertFrom file limit answer
     → (fault : CertFault) → answer ≡ Fault fault → (old : OldCertificate) → IsOldInRange old

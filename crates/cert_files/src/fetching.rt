@@ -1,10 +1,10 @@
 //! The reading of a certificate from a file.
 //!
-//! A certificate may have 2 GiB, so it never stands in memory as a text: one piece of 65,536 bytes and one line do. The
+//! A certificate may have 4 GiB, so it never stands in memory as a text: one piece of 65,536 bytes and one line do. The
 //! lines are read as those of a text in memory are, by the same code. After a fault the file is still read to its end:
 //! a file that is too long is refused as such, whatever its text is.
 ghost use Rattle.std.specs.Prelude.{◌≡◌, ◌≢◌, ◌⊎◌, ◌≤◌, ℕ, suc, true, List, Some};
-ghost use Rattle.cert_text.specs.Cert.{cert_text};
+ghost use Rattle.cert_text.specs.Cert.{cert_text, newest_text};
 ghost use Rattle.cert_text.specs.OldCert.{old_text};
 ghost use Rattle.entry_lists.specs.OldRanges.{IsOldInRange};
 ghost use Rattle.cert_lines.specs.declared.fault.CertFault.{CertFault};
@@ -49,6 +49,8 @@ pub fn cert_from<S: Shelf>(alloc: Global, shelf: &mut S, name: &str, limit: u64)
     ensures read { S.tells → IsCertFrom (S.file shelf.old name.now) limit result }
     ensures none { S.tells → (fault : CertFault) → result ≡ Fault fault → (cert : Certificate) → IsInRange cert
         → S.file shelf.old name.now ≢ Some (cert_text cert) }
+    ensures none_newest { S.tells → (fault : CertFault) → result ≡ Fault fault → (cert : Certificate) → IsInRange cert
+        → S.file shelf.old name.now ≢ Some (newest_text cert) }
     ensures none_old { S.tells → (fault : CertFault) → result ≡ Fault fault → (old : OldCertificate) → IsOldInRange old
         → S.file shelf.old name.now ≢ Some (old_text old) }
     ensures range { IsGoodInRange result }

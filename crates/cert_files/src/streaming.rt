@@ -27,8 +27,9 @@ pub enum Streamed {
     NoMemory,
 }
 
-/// Makes a file of the text of a certificate within its ranges, in version 2: takes its memory, makes the file empty,
-/// and then writes pieces of 65,536 bytes behind it, the last one shorter. The other files stay.
+/// Makes a file of the text of a certificate within its ranges, in the least version that can hold it: takes its
+/// memory, makes the file empty, and then writes pieces of 65,536 bytes behind it, the last one shorter. The other files
+/// stay.
 pub fn stream_cert<S: Shelf>(
     alloc: Global,
     shelf: &mut S,

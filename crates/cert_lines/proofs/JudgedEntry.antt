@@ -13,23 +13,26 @@ use Rattle.line_rules.specs.declared.types.Why.{Why}
 use Rattle.line_rules.specs.declared.types.Why.TheVariants as whys
 use Rattle.line_rules.specs.declared.types.OpenFrame.{OpenFrame}
 use Rattle.cert_lines.specs.Numbers.{number_text, set_text, cites_text, mode_letter}
-use Rattle.cert_lines.specs.Rows.{Row, fixed, keyed, span, seat, bound, branch, swap, trail, frame, state_entry}
-use Rattle.cert_lines.specs.Rows.{state_frame, row_entry, joined, entry, open_frame, given, form_of, row_text}
+use Rattle.cert_lines.specs.Rows.{Row, fixed, keyed, span, seat, bound, branch, swap, pairs, trail, frame}
+use Rattle.cert_lines.specs.Rows.{state_entry, state_frame, row_entry, joined, entry, entry_by_pairs, open_frame, given}
+use Rattle.cert_lines.specs.Rows.{Form, text, number, two_numbers, place, head, entry_of_state, frame_of_state}
+use Rattle.cert_lines.specs.Rows.{entry_of_rows, many_numbers, form_of, row_text}
 use Rattle.cert_lines.specs.ValueRows.{frame_row, why_row}
 use Rattle.cert_lines.specs.Words.{greatest}
 use Rattle.cert_lines.specs.inner.LineReading.{entry_in, frame_in}
 use Rattle.cert_lines.specs.Pattern.{HasFormOf}
 use Rattle.cert_lines.specs.LineForms.{IsWithin, entry_of, IsFrameWithin, frame_of, written, IsGiven, IsSaid, given_row}
-use Rattle.cert_lines.specs.LineForms.{IsGivenCycle}
+use Rattle.cert_lines.specs.LineForms.{IsGivenCycle, MayStand}
 use Rattle.cert_lines.specs.declared.draft.Draft.{Draft}
 use Rattle.cert_lines.specs.declared.draft.FrameDraft.{FrameDraft}
-use Rattle.cert_lines.proofs.SetText.{clip, set_again, set_found}
+use Rattle.cert_lines.proofs.SetText.{clip, clip_same, set_again, set_found}
 use Rattle.cert_lines.proofs.CiteWords.{sat}
 use Rattle.cert_lines.proofs.JudgedLine.{small, small_is}
-use Rattle.cert_lines.proofs.EntryLines.{cycle_of, front, draft_of, bound_text, branch_text, swap_text, same_entry}
+use Rattle.cert_lines.proofs.EntryLines.{cycle_of, front, draft_of, bound_text, branch_text, swap_text, pairs_text}
+use Rattle.cert_lines.proofs.EntryLines.{IsEntryForm}
 use Rattle.cert_lines.proofs.EntryLines.{entry_again, entry_found}
 use Rattle.cert_lines.proofs.FrameLines.{load_read, last_read, the_frame, frame_again, frame_found}
-use Rattle.line_instance.proofs.Members.{In-empty}
+use Rattle.line_rules.proofs.about_lines.Members.{In-empty}
 
 -- cites below a number that is itself small are read as they are
 pub small_cites : (count : ℕ) (cites : List ℕ) → count < greatest → AreCites count cites → map sat cites ≡ cites
@@ -55,19 +58,23 @@ cites_small count (c ∷ cs) (x ∷ xs) l e h =
 pub clip_text : (n : ℕ) (s : List Bool) → n ≤ 1024 → (set_text n (clip n s) ≡ set_text n s) × IsOf n (clip n s)
 clip_text n s h = set_found n (set_text n s) (clip n s) h (set_again n s)
 
-pub entry_is : (n : ℕ) (g : Option ℕ) (e : Entry) (w : Why)
-    → form_of (why_row n (written g e.cycle) e w) ≡ entry n (not (given g))
-entry_is n None e whys.Bound = refl
-entry_is n None e (whys.Branch mode cites) = refl
-entry_is n None e (whys.Swap cite out into) = refl
-entry_is n (Some c) e whys.Bound = refl
-entry_is n (Some c) e (whys.Branch mode cites) = refl
-entry_is n (Some c) e (whys.Swap cite out into) = refl
+cycle_given : (g : Option ℕ) (c : ℕ) → given (written g c) ≡ not (given g)
+cycle_given None c = refl
+cycle_given (Some x) c = refl
 
-pub entry_none : (n count : ℕ) (g : Option ℕ) (line : List ℕ) → entry_in n g line ≡ None
-    → HasFormOf (given_row n g) (IsSaid n count g) line → ⊥
-entry_none n count g line e f = none-some (draft_of g f.2) (sym e ∙ ap (entry_in n g) (sym f.4)
-    ∙ entry_again n g f.2 (f.3 ∙ entry_is n g f.0 f.0.why))
+pub entry_is : (n : ℕ) (g : Option ℕ) (b : Bool) (e : Entry) (w : Why) → MayStand b w
+    → IsEntryForm n (not (given g)) b (form_of (why_row n (written g e.cycle) e w))
+entry_is n g b e whys.Bound m = (refl, cycle_given g e.cycle)
+entry_is n g b e (whys.Branch mode cites) m = (refl, cycle_given g e.cycle)
+entry_is n g b e (whys.Swap cite out into) m = (refl, cycle_given g e.cycle)
+entry_is n g b e (whys.Pairs two) m = (refl, cycle_given g e.cycle, m)
+
+pub entry_none : (n count : ℕ) (g : Option ℕ) (b : Bool) (line : List ℕ) → entry_in n g b line ≡ None
+    → HasFormOf (given_row n g) (IsSaid n count g b) line → ⊥
+entry_none n count g b line e f =
+    let P : Form → Type 0 = IsEntryForm n (not (given g)) b in
+    none-some (draft_of g f.2) (sym e ∙ ap (entry_in n g b) (sym f.4)
+    ∙ entry_again n g b f.2 (subst P (sym f.3) (entry_is n g b f.0 f.0.why f.1.2)))
 
 -- an entry of no task by the bound
 abbrev nothing : ℕ → Entry
@@ -79,14 +86,61 @@ no_task n = record { truths = length-replicate 1024 false; tasks = λ i h. absur
 one_cycle : IsCycle 1
 one_cycle = record { some = lit≤ tt; limit = lit≤ tt }
 
-pub some_entry : (n count : ℕ) (g : Option ℕ) → IsGivenCycle g → (e : Entry) × IsSaid n count g e
-some_entry n count None h = (nothing 1, (record { set = no_task n; most = lit≤ tt; cycle = one_cycle; why = tt }, tt))
-some_entry n count (Some c) h = (nothing c, (record { set = no_task n; most = lit≤ tt; cycle = h; why = tt }, refl))
+some_bound : (n count : ℕ) (g : Option ℕ) (p : Bool) → IsGivenCycle g → (c : ℕ) × IsSaid n count g p (nothing c)
+some_bound n count None p h = (
+  1,
+  (record { set = no_task n; most = lit≤ tt; cycle = one_cycle; why = tt }, tt, tt),
+)
+some_bound n count (Some c) p h = (
+  c,
+  (record { set = no_task n; most = lit≤ tt; cycle = h; why = tt }, refl, tt),
+)
+
+pub some_entry : (n count : ℕ) (g : Option ℕ) (p : Bool) → IsGivenCycle g → (e : Entry) × IsSaid n count g p e
+some_entry n count g p h = let s = some_bound n count g p h in (nothing s.0, s.1)
+
+-- an entry of no task by pairs
+abbrev no_pairs : ℕ → Entry
+no_pairs c = record { set = replicate 1024 false; most = 0; cycle = c; why = whys.Pairs (replicate 1024 false) }
+
+some_pairs : (n count : ℕ) (g : Option ℕ) (p : Bool) → IsGivenCycle g → p ≡ true → (c : ℕ)
+    × IsSaid n count g p (no_pairs c)
+some_pairs n count None p h e = (
+  1,
+  (record { set = no_task n; most = lit≤ tt; cycle = one_cycle; why = no_task n }, tt, e),
+)
+some_pairs n count (Some c) p h e = (
+  c,
+  (record { set = no_task n; most = lit≤ tt; cycle = h; why = no_task n }, refl, e),
+)
+
+-- an entry whose line has such a form
+some_like : (n count : ℕ) (g : Option ℕ) (p : Bool) (f : Form) → IsGivenCycle g → IsEntryForm n (not (given g)) p f
+    → (e : Entry) × IsSaid n count g p e × (f ≡ form_of (given_row n g e))
+some_like n count g p (entry k x) h e =
+    let s = some_bound n count g p h in
+    (nothing s.0, s.1, ap (λ z. entry z x) e.0 ∙ ap (λ z. entry n z) (e.1 ∙ sym (cycle_given g s.0)))
+some_like n count g p (entry_by_pairs k x) h e =
+    let s = some_pairs n count g p h e.2 in (
+      no_pairs s.0,
+      s.1,
+      ap (λ z. entry_by_pairs z x) e.0 ∙ ap (λ z. entry_by_pairs n z) (e.1 ∙ sym (cycle_given g s.0)),
+    )
+some_like n count g p (text t) h e = absurd e
+some_like n count g p (number key) h e = absurd e
+some_like n count g p (two_numbers key) h e = absurd e
+some_like n count g p (place kind) h e = absurd e
+some_like n count g p head h e = absurd e
+some_like n count g p (open_frame k) h e = absurd e
+some_like n count g p (entry_of_state k j) h e = absurd e
+some_like n count g p (frame_of_state k j) h e = absurd e
+some_like n count g p (entry_of_rows k j) h e = absurd e
+some_like n count g p (many_numbers key k) h e = absurd e
 
 -- an entry that may be said is read within the ranges
-within_said : (n count : ℕ) (g : Option ℕ) (e : Entry) (w : Why) → n ≤ 1024 → count ≤ 20000000 → IsSaid n count g e
-    → IsWhy n count w → IsWithin n count (draft_of g (why_row n (written g e.cycle) e w))
-within_said n count None e w a b h k = part w k
+within_said : (n count : ℕ) (g : Option ℕ) (p : Bool) (e : Entry) (w : Why) → n ≤ 1024 → count ≤ 20000000
+    → IsSaid n count g p e → IsWhy n count w → IsWithin n count (draft_of g (why_row n (written g e.cycle) e w))
+within_said n count None p e w a b h k = part w k
   where
     cyc : sat e.cycle ≡ e.cycle
     cyc = small_is e.cycle (omega (arith, h.0.cycle.limit))
@@ -114,7 +168,8 @@ within_said n count None e w a b h k = part w k
         (omega (arith, k.1.1), omega (arith, k.1.1)),
       );
     }
-within_said n count (Some x) e w a b h k = part w k
+    part (whys.Pairs two) k = record { cycle = c; most = m; why = tt }
+within_said n count (Some x) p e w a b h k = part w k
   where
     c : IsCycle x
     c = let P : ℕ → Type 0 = IsCycle in subst P h.1 h.0.cycle
@@ -139,25 +194,26 @@ within_said n count (Some x) e w a b h k = part w k
         (omega (arith, k.1.1), omega (arith, k.1.1)),
       );
     }
+    part (whys.Pairs two) k = record { cycle = c; most = m; why = tt }
 
-pub entry_range : (n count : ℕ) (g : Option ℕ) (line : List ℕ) (d : Draft) → n ≤ 1024 → count ≤ 20000000
-    → IsGivenCycle g → entry_in n g line ≡ Some d → (IsWithin n count d → ⊥)
-    → HasFormOf (given_row n g) (IsSaid n count g) line × ((v : Entry) → IsSaid n count g v
+pub entry_range : (n count : ℕ) (g : Option ℕ) (p : Bool) (line : List ℕ) (d : Draft) → n ≤ 1024 → count ≤ 20000000
+    → IsGivenCycle g → entry_in n g p line ≡ Some d → (IsWithin n count d → ⊥)
+    → HasFormOf (given_row n g) (IsSaid n count g p) line × ((v : Entry) → IsSaid n count g p v
     → row_text (given_row n g v) ≢ line)
-entry_range n count g line d a b h e k =
-    let f = entry_found n g line d a e in
-    let s = some_entry n count g h in (
-      (s.0, s.1, f.row, f.form ∙ sym (entry_is n g s.0 s.0.why), f.text),
+entry_range n count g p line d a b h e k =
+    let f = entry_found n g p line d a e in
+    let s = some_like n count g p (form_of f.row) h f.form in (
+      (s.0, s.1, f.row, s.2, f.text),
       λ v u t.
           let w : draft_of g (given_row n g v) ≡ d = same_Some (draft_of g (given_row n g v)) d
-          (sym (entry_again n g (given_row n g v) (entry_is n g v v.why)) ∙ ap (entry_in n g) t ∙ e) in
+          (sym (entry_again n g p (given_row n g v) (entry_is n g p v v.why u.2)) ∙ ap (entry_in n g p) t ∙ e) in
           let P : Draft → Type 0 = λ z. IsWithin n count z in
-          k (subst P w (within_said n count g v v.why a b u u.0.why)),
+          k (subst P w (within_said n count g p v v.why a b u u.0.why)),
     )
 
 -- the line of what was read, within the ranges
-abbrev Says : ℕ → ℕ → Option ℕ → List ℕ → Draft → Type 0
-Says n count g line d = IsSaid n count g (entry_of d) × (row_text (given_row n g (entry_of d)) ≡ line)
+abbrev Says : ℕ → ℕ → Option ℕ → Bool → List ℕ → Draft → Type 0
+Says n count g p line d = IsSaid n count g p (entry_of d) × (row_text (given_row n g (entry_of d)) ≡ line)
 
 cycle_said : (g c : Option ℕ) (x : ℕ) → given c ≡ not (given g) → cycle_of g c ≡ x → x < greatest
     → (written g x ≡ c) × IsGiven g x
@@ -166,28 +222,28 @@ cycle_said None (Some c) x e f l = (ap (λ z. Some z) (sym (small c x f l)), tt)
 cycle_said (Some y) None x e f l = (refl, sym f)
 cycle_said (Some y) (Some c) x e f l = (cc)
 
-bound_said : (n count : ℕ) (g c : Option ℕ) (s : List Bool) (m : ℕ) → n ≤ 1024 → given c ≡ not (given g)
-    → IsWithin n count (draft_of g (bound n c s m)) → Says n count g (row_text (bound n c s m))
+bound_said : (n count : ℕ) (g c : Option ℕ) (p : Bool) (s : List Bool) (m : ℕ) → n ≤ 1024 → given c ≡ not (given g)
+    → IsWithin n count (draft_of g (bound n c s m)) → Says n count g p (row_text (bound n c s m))
     (draft_of g (bound n c s m))
-bound_said n count g c s m a e w =
+bound_said n count g c p s m a e w =
     let y = cycle_said g c (cycle_of g c) e refl (omega (arith, w.cycle.limit)) in
     let t = clip_text n s a in
     let q : m ≡ sat m = small m (sat m) refl (omega (arith, w.most)) in (
-      (record { set = t.1; most = w.most; cycle = w.cycle; why = tt }, y.1),
+      (record { set = t.1; most = w.most; cycle = w.cycle; why = tt }, y.1, tt),
       ap (λ z. row_text (bound n z (clip n s) (sat m))) y.0 ∙ ap (λ z. row_text (bound n c (clip n s) z)) (sym q)
           ∙ bound_text n c (clip n s) m
           ∙ ap (λ z. codes "bound" ++ 32 ∷ front c (z ++ 32 ∷ number_text m)) t.0 ∙ sym (bound_text n c s m),
     )
 
-branch_said : (n count : ℕ) (g c : Option ℕ) (mode : Mode) (s : List Bool) (m : ℕ) (cites : List ℕ) → n ≤ 1024
-    → count ≤ 20000000 → given c ≡ not (given g) → IsWithin n count (draft_of g (branch n c mode s m cites))
-    → Says n count g (row_text (branch n c mode s m cites)) (draft_of g (branch n c mode s m cites))
-branch_said n count g c mode s m cites a b e w =
+branch_said : (n count : ℕ) (g c : Option ℕ) (p : Bool) (mode : Mode) (s : List Bool) (m : ℕ) (cites : List ℕ)
+    → n ≤ 1024 → count ≤ 20000000 → given c ≡ not (given g) → IsWithin n count (draft_of g (branch n c mode s m cites))
+    → Says n count g p (row_text (branch n c mode s m cites)) (draft_of g (branch n c mode s m cites))
+branch_said n count g c p mode s m cites a b e w =
     let y = cycle_said g c (cycle_of g c) e refl (omega (arith, w.cycle.limit)) in
     let t = clip_text n s a in
     let q : m ≡ sat m = small m (sat m) refl (omega (arith, w.most)) in
     let r : cites ≡ map sat cites = cites_small count cites (map sat cites) (omega arith) refl w.why in (
-      (record { set = t.1; most = w.most; cycle = w.cycle; why = w.why }, y.1),
+      (record { set = t.1; most = w.most; cycle = w.cycle; why = w.why }, y.1, tt),
       ap (λ z. row_text (branch n z mode (clip n s) (sat m) (map sat cites))) y.0
           ∙ ap (λ z. row_text (branch n c mode (clip n s) z (map sat cites))) (sym q)
           ∙ ap (λ z. row_text (branch n c mode (clip n s) m z)) (sym r)
@@ -197,10 +253,10 @@ branch_said n count g c mode s m cites a b e w =
           ∙ sym (branch_text n c mode s m cites),
     )
 
-swap_said : (n count : ℕ) (g c : Option ℕ) (s : List Bool) (m cite out into : ℕ) → n ≤ 1024 → count ≤ 20000000
-    → given c ≡ not (given g) → IsWithin n count (draft_of g (swap n c s m cite out into))
-    → Says n count g (row_text (swap n c s m cite out into)) (draft_of g (swap n c s m cite out into))
-swap_said n count g c s m cite out into a b e w =
+swap_said : (n count : ℕ) (g c : Option ℕ) (p : Bool) (s : List Bool) (m cite out into : ℕ) → n ≤ 1024
+    → count ≤ 20000000 → given c ≡ not (given g) → IsWithin n count (draft_of g (swap n c s m cite out into))
+    → Says n count g p (row_text (swap n c s m cite out into)) (draft_of g (swap n c s m cite out into))
+swap_said n count g c p s m cite out into a b e w =
     let y = cycle_said g c (cycle_of g c) e refl (omega (arith, w.cycle.limit)) in
     let t = clip_text n s a in
     let q : m ≡ sat m = small m (sat m) refl (omega (arith, w.most)) in
@@ -216,6 +272,7 @@ swap_said n count g c s m cite out into a b e w =
               (w.why.0, (omega (arith, w.why.1), omega (arith, w.why.2)));
         },
         y.1,
+        tt,
       ),
       ap (λ z. row_text (swap n z (clip n s) (sat m) (sat cite) (suc (sat out - 1)) (suc (sat into - 1)))) y.0
           ∙ ap (λ z. row_text (swap n c (clip n s) z (sat cite) (suc (sat out - 1)) (suc (sat into - 1)))) (sym q)
@@ -227,41 +284,60 @@ swap_said n count g c s m cite out into a b e w =
           ∙ sym (swap_text n c s m cite out into),
     )
 
-row_said : (n count : ℕ) (g : Option ℕ) (r : Row) → n ≤ 1024 → count ≤ 20000000 → form_of r ≡ entry n (not (given g))
-    → IsWithin n count (draft_of g r) → Says n count g (row_text r) (draft_of g r)
-row_said n count g (bound k c s m) a b e w =
-    let f = same_entry k n (given c) (not (given g)) e in
-    let P : ℕ → Type 0 = λ z. z ≤ 1024 → IsWithin z count (draft_of g (bound k c s m))
-    → Says z count g (row_text (bound k c s m)) (draft_of g (bound k c s m)) in
-    subst P f.0 (λ l v. bound_said k count g c s m l f.1 v) a w
-row_said n count g (branch k c mode s m cites) a b e w =
-    let f = same_entry k n (given c) (not (given g)) e in
-    let P : ℕ → Type 0 = λ z. z ≤ 1024 → IsWithin z count (draft_of g (branch k c mode s m cites))
-    → Says z count g (row_text (branch k c mode s m cites)) (draft_of g (branch k c mode s m cites)) in
-    subst P f.0 (λ l v. branch_said k count g c mode s m cites l b f.1 v) a w
-row_said n count g (swap k c s m cite out into) a b e w =
-    let f = same_entry k n (given c) (not (given g)) e in
-    let P : ℕ → Type 0 = λ z. z ≤ 1024 → IsWithin z count (draft_of g (swap k c s m cite out into))
-    → Says z count g (row_text (swap k c s m cite out into)) (draft_of g (swap k c s m cite out into)) in
-    subst P f.0 (λ l v. swap_said k count g c s m cite out into l b f.1 v) a w
-row_said n count g (fixed t) a b e w = (cc)
-row_said n count g (keyed key v) a b e w = (cc)
-row_said n count g (span key x y) a b e w = (cc)
-row_said n count g (seat kind station side) a b e w = (cc)
-row_said n count g (trail t) a b e w = (cc)
-row_said n count g (frame k mode s m last cites) a b e w = (cc)
-row_said n count g (state_entry rem starts least cites) a b e w = (cc)
-row_said n count g (state_frame rem starts need last cites) a b e w = (cc)
-row_said n count g (row_entry units starts base cites) a b e w = (cc)
-row_said n count g (joined key ns) a b e w = (cc)
+pairs_said : (n count : ℕ) (g c : Option ℕ) (p : Bool) (s : List Bool) (m : ℕ) (two : List Bool) → n ≤ 1024
+    → given c ≡ not (given g) → p ≡ true → IsWithin n count (draft_of g (pairs n c s m two))
+    → Says n count g p (row_text (pairs n c s m two)) (draft_of g (pairs n c s m two))
+pairs_said n count g c p s m two a e may w =
+    let y = cycle_said g c (cycle_of g c) e refl (omega (arith, w.cycle.limit)) in
+    let t = clip_text n s a in
+    let u = clip_text n two a in
+    let q : m ≡ sat m = small m (sat m) refl (omega (arith, w.most)) in (
+      (record { set = t.1; most = w.most; cycle = w.cycle; why = u.1 }, y.1, may),
+      ap (λ z. row_text (pairs n z (clip n s) (sat m) (clip n two))) y.0
+          ∙ ap (λ z. row_text (pairs n c (clip n s) z (clip n two))) (sym q)
+          ∙ pairs_text n c (clip n s) m (clip n two)
+          ∙ ap (λ z. codes "pairs" ++ 32 ∷ front c (z ++ 32 ∷ (number_text m ++ 32 ∷ set_text n (clip n two)))) t.0
+          ∙ ap (λ z. codes "pairs" ++ 32 ∷ front c (set_text n s ++ 32 ∷ (number_text m ++ 32 ∷ z))) u.0
+          ∙ sym (pairs_text n c s m two),
+    )
 
-pub entry_said : (n count : ℕ) (g : Option ℕ) (line : List ℕ) (d : Draft) → n ≤ 1024 → count ≤ 20000000
-    → entry_in n g line ≡ Some d → IsWithin n count d → IsSaid n count g (entry_of d)
+row_said : (n count : ℕ) (g : Option ℕ) (p : Bool) (r : Row) → n ≤ 1024 → count ≤ 20000000
+    → IsEntryForm n (not (given g)) p (form_of r) → IsWithin n count (draft_of g r)
+    → Says n count g p (row_text r) (draft_of g r)
+row_said n count g p (bound k c s m) a b f w =
+    let P : ℕ → Type 0 = λ z. z ≤ 1024 → IsWithin z count (draft_of g (bound k c s m))
+    → Says z count g p (row_text (bound k c s m)) (draft_of g (bound k c s m)) in
+    subst P f.0 (λ l v. bound_said k count g c p s m l f.1 v) a w
+row_said n count g p (branch k c mode s m cites) a b f w =
+    let P : ℕ → Type 0 = λ z. z ≤ 1024 → IsWithin z count (draft_of g (branch k c mode s m cites))
+    → Says z count g p (row_text (branch k c mode s m cites)) (draft_of g (branch k c mode s m cites)) in
+    subst P f.0 (λ l v. branch_said k count g c p mode s m cites l b f.1 v) a w
+row_said n count g p (swap k c s m cite out into) a b f w =
+    let P : ℕ → Type 0 = λ z. z ≤ 1024 → IsWithin z count (draft_of g (swap k c s m cite out into))
+    → Says z count g p (row_text (swap k c s m cite out into)) (draft_of g (swap k c s m cite out into)) in
+    subst P f.0 (λ l v. swap_said k count g c p s m cite out into l b f.1 v) a w
+row_said n count g p (pairs k c s m two) a b f w =
+    let P : ℕ → Type 0 = λ z. z ≤ 1024 → IsWithin z count (draft_of g (pairs k c s m two))
+    → Says z count g p (row_text (pairs k c s m two)) (draft_of g (pairs k c s m two)) in
+    subst P f.0 (λ l v. pairs_said k count g c p s m two l f.1 f.2 v) a w
+row_said n count g p (fixed t) a b f w = absurd f
+row_said n count g p (keyed key v) a b f w = absurd f
+row_said n count g p (span key x y) a b f w = absurd f
+row_said n count g p (seat kind station side) a b f w = absurd f
+row_said n count g p (trail t) a b f w = absurd f
+row_said n count g p (frame k mode s m last cites) a b f w = absurd f
+row_said n count g p (state_entry rem starts least cites) a b f w = absurd f
+row_said n count g p (state_frame rem starts need last cites) a b f w = absurd f
+row_said n count g p (row_entry units starts base cites) a b f w = absurd f
+row_said n count g p (joined key ns) a b f w = absurd f
+
+pub entry_said : (n count : ℕ) (g : Option ℕ) (p : Bool) (line : List ℕ) (d : Draft) → n ≤ 1024 → count ≤ 20000000
+    → entry_in n g p line ≡ Some d → IsWithin n count d → IsSaid n count g p (entry_of d)
     × (row_text (given_row n g (entry_of d)) ≡ line)
-entry_said n count g line d a b e w =
-    let f = entry_found n g line d a e in
-    let P : Draft → Type 0 = λ z. IsWithin n count z → Says n count g (row_text f.row) z in
-    let r = subst P f.draft (row_said n count g f.row a b f.form) w in
+entry_said n count g p line d a b e w =
+    let f = entry_found n g p line d a e in
+    let P : Draft → Type 0 = λ z. IsWithin n count z → Says n count g p (row_text f.row) z in
+    let r = subst P f.draft (row_said n count g p f.row a b f.form) w in
     (r.0, r.1 ∙ f.text)
 
 -- frames
@@ -276,6 +352,7 @@ frame_only (seat kind station side) n e = (cc)
 frame_only (bound k c s m) n e = (cc)
 frame_only (branch k c mode s m cites) n e = (cc)
 frame_only (swap k c s m cite out into) n e = (cc)
+frame_only (pairs k c s m two) n e = (cc)
 frame_only (trail t) n e = (cc)
 frame_only (state_entry rem starts least cites) n e = (cc)
 frame_only (state_frame rem starts need last cites) n e = (cc)

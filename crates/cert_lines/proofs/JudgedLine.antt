@@ -14,8 +14,8 @@ use Rattle.line_rules.specs.declared.types.Ask.{Ask}
 use Rattle.line_rules.specs.declared.types.Ask.TheVariants as ask
 use Rattle.std.proofs.lemmas.Bool.{false≢true}
 use Rattle.cert_lines.specs.Numbers.{number_text}
-use Rattle.cert_lines.specs.Rows.{Row, fixed, keyed, span, seat, bound, branch, swap, trail, frame, state_entry}
-use Rattle.cert_lines.specs.Rows.{state_frame, row_entry, joined, number, text, form_of, row_text}
+use Rattle.cert_lines.specs.Rows.{Row, fixed, keyed, span, seat, bound, branch, swap, pairs, trail, frame}
+use Rattle.cert_lines.specs.Rows.{state_entry, state_frame, row_entry, joined, number, text, form_of, row_text}
 use Rattle.cert_lines.specs.Words.{greatest, parts_at}
 use Rattle.cert_lines.specs.inner.LineReading.{keyed_in}
 use Rattle.cert_lines.specs.ValueRows.{ask_row, kind_row}
@@ -44,6 +44,7 @@ keyed_only (seat kind station side) key e = (cc)
 keyed_only (bound n c s m) key e = (cc)
 keyed_only (branch n c mode s m cites) key e = (cc)
 keyed_only (swap n c s m cite out into) key e = (cc)
+keyed_only (pairs n c s m two) key e = (cc)
 keyed_only (trail t) key e = (cc)
 keyed_only (frame n mode s m last cites) key e = (cc)
 keyed_only (state_entry rem starts least cites) key e = (cc)
@@ -119,6 +120,7 @@ fixed_only (seat kind station side) t e = (cc)
 fixed_only (bound n c s m) t e = (cc)
 fixed_only (branch n c mode s m cites) t e = (cc)
 fixed_only (swap n c s m cite out into) t e = (cc)
+fixed_only (pairs n c s m two) t e = (cc)
 fixed_only (trail x) t e = (cc)
 fixed_only (frame n mode s m last cites) t e = (cc)
 fixed_only (state_entry rem starts least cites) t e = (cc)
@@ -141,12 +143,15 @@ pub kind_not : (line u w : List ℕ) → false ≡ bytes_eq line u → u ≡ cod
 kind_not line u w e s f t (Straight, h, r, a, b) = fixed_not line (codes "line straight") u r e s a b
 kind_not line u w e s f t (U, h, r, a, b) = fixed_not line (codes "line u") w r f t a b
 
-pub version_not : (line u w : List ℕ) → false ≡ bytes_eq line u → u ≡ codes "line balance certificate 2"
-    → false ≡ bytes_eq line w → w ≡ codes "line balance certificate 1" → HasFormOf version_row (λ v. Unit {0}) line → ⊥
-version_not line u w e s f t (versions.Two, h, r, a, b) = fixed_not line (codes "line balance certificate 2") u r e s a
-    b
-version_not line u w e s f t (versions.One, h, r, a, b) = fixed_not line (codes "line balance certificate 1") w r f t a
-    b
+pub version_not : (line u w x : List ℕ) → false ≡ bytes_eq line u → u ≡ codes "line balance certificate 2"
+    → false ≡ bytes_eq line w → w ≡ codes "line balance certificate 1" → false ≡ bytes_eq line x
+    → x ≡ codes "line balance certificate 3" → HasFormOf version_row (λ v. Unit {0}) line → ⊥
+version_not line u w x e s f t g i (versions.Two, h, r, a, b) =
+    fixed_not line (codes "line balance certificate 2") u r e s a b
+version_not line u w x e s f t g i (versions.One, h, r, a, b) =
+    fixed_not line (codes "line balance certificate 1") w r f t a b
+version_not line u w x e s f t g i (versions.Three, h, r, a, b) =
+    fixed_not line (codes "line balance certificate 3") x r g i a b
 
 -- questions
 pub ask_cycle : (line : List ℕ) (x : ℕ) → keyed_in (codes "cycle") line ≡ Some x → IsCycle x

@@ -1,5 +1,5 @@
 -- What an entry or a frame within its ranges, or out of them, says of its line.
-use Rattle.std.proofs.Common.{◌≡◌, ℕ, ◌≤◌, List, Some, Option, Ok, Err, Result, subst, sym}
+use Rattle.std.proofs.Common.{◌≡◌, ℕ, ◌≤◌, Bool, List, Some, Option, Ok, Err, Result, subst, sym}
 use Rattle.std.specs.Prelude.{MatchResult}
 use Rattle.line_rules.specs.declared.types.Entry.{Entry}
 use Rattle.line_rules.specs.declared.types.OpenFrame.{OpenFrame}
@@ -16,15 +16,15 @@ use Rattle.cert_lines.specs.declared.fault.LineError.TheVariants as lines
 use Rattle.cert_lines.proofs.JudgedLine.{out_of_range}
 use Rattle.cert_lines.proofs.JudgedEntry.{entry_range, entry_said, frame_range, frame_said}
 
-pub entry_judged : (n count : ℕ) (g : Option ℕ) (line : List ℕ) (d : Draft) (r : Result Entry LineError) → n ≤ 1024
-    → count ≤ 20000000 → IsGivenCycle g → entry_in n g line ≡ Some d
+pub entry_judged : (n count : ℕ) (g : Option ℕ) (p : Bool) (line : List ℕ) (d : Draft) (r : Result Entry LineError)
+    → n ≤ 1024 → count ≤ 20000000 → IsGivenCycle g → entry_in n g p line ≡ Some d
     → MatchResult r (λ e. (e ≡ entry_of d) × IsWithin n count d) (λ e. (e ≡ lines.Range) × (IsWithin n count d → ⊥))
-    → IsJudged (given_row n g) (IsSaid n count g) line r
-entry_judged n count g line d (Ok e) a b h i m = let P : Entry
-    → Type 0 = λ z. IsSaid n count g z × (row_text (given_row n g z) ≡ line) in
-    subst P (sym m.0) (entry_said n count g line d a b i m.1)
-entry_judged n count g line d (Err x) a b h i m = let f = entry_range n count g line d a b h i m.1 in
-    out_of_range (given_row n g) (IsSaid n count g) line x m.0 f.0 f.1
+    → IsJudged (given_row n g) (IsSaid n count g p) line r
+entry_judged n count g p line d (Ok e) a b h i m = let P : Entry
+    → Type 0 = λ z. IsSaid n count g p z × (row_text (given_row n g z) ≡ line) in
+    subst P (sym m.0) (entry_said n count g p line d a b i m.1)
+entry_judged n count g p line d (Err x) a b h i m = let f = entry_range n count g p line d a b h i m.1 in
+    out_of_range (given_row n g) (IsSaid n count g p) line x m.0 f.0 f.1
 
 pub frame_judged : (n count : ℕ) (line : List ℕ) (d : FrameDraft) (r : Result OpenFrame LineError) → n ≤ 1024
     → count ≤ 20000000 → frame_in n line ≡ Some d

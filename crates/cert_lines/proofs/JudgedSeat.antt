@@ -8,8 +8,8 @@ use Rattle.line_rules.specs.declared.types.LineKind.TheVariants.{Straight, U}
 use Rattle.line_rules.specs.declared.types.Side.{Side}
 use Rattle.line_rules.specs.declared.types.Side.TheVariants.{Front}
 use Rattle.line_rules.specs.declared.types.Seatplace.{Seatplace}
-use Rattle.cert_lines.specs.Rows.{Row, fixed, keyed, span, seat, bound, branch, swap, trail, frame, state_entry}
-use Rattle.cert_lines.specs.Rows.{state_frame, row_entry, joined, place, head, form_of, row_text}
+use Rattle.cert_lines.specs.Rows.{Row, fixed, keyed, span, seat, bound, branch, swap, pairs, trail, frame}
+use Rattle.cert_lines.specs.Rows.{state_entry, state_frame, row_entry, joined, place, head, form_of, row_text}
 use Rattle.cert_lines.specs.ValueRows.{seat_row}
 use Rattle.cert_lines.specs.inner.LineReading.{seat_in, trail_in}
 use Rattle.cert_lines.specs.Pattern.{HasFormOf}
@@ -29,6 +29,7 @@ seat_only (span key v w) kind e = (cc)
 seat_only (bound n c s m) kind e = (cc)
 seat_only (branch n c mode s m cites) kind e = (cc)
 seat_only (swap n c s m cite out into) kind e = (cc)
+seat_only (pairs n c s m two) kind e = (cc)
 seat_only (trail t) kind e = (cc)
 seat_only (frame n mode s m last cites) kind e = (cc)
 seat_only (state_entry rem starts least cites) kind e = (cc)
@@ -90,6 +91,7 @@ trail_only (seat kind n side) e = (cc)
 trail_only (bound n c s m) e = (cc)
 trail_only (branch n c mode s m cites) e = (cc)
 trail_only (swap n c s m cite out into) e = (cc)
+trail_only (pairs n c s m two) e = (cc)
 trail_only (frame n mode s m last cites) e = (cc)
 trail_only (state_entry rem starts least cites) e = (cc)
 trail_only (state_frame rem starts need last cites) e = (cc)

@@ -15,7 +15,7 @@ use Rattle.cert_lines.specs.Words.{with_digits, set_in}
 use Rattle.cert_lines.proofs.NumberWords.{all_high}
 use Rattle.cert_lines.proofs.SetWords.{set_is}
 use Rattle.line_io.proofs.ReadFacts.{right, left}
-use Rattle.line_instance.proofs.Members.{In-empty}
+use Rattle.line_rules.proofs.about_lines.Members.{In-empty}
 
 -- the four truths of a digit
 abbrev pub bits : ℕ → List Bool

@@ -1,5 +1,5 @@
 -- The kinds of lines of a certificate, and which values they may say.
-use Rattle.std.specs.Prelude.{◌≡◌, ℕ, suc, ◌-◌, ◌<◌, ◌≤◌, List, Option, Some, None, codes}
+use Rattle.std.specs.Prelude.{◌≡◌, ℕ, suc, ◌-◌, ◌<◌, ◌≤◌, Bool, true, List, Option, Some, None, codes}
 use Rattle.line_rules.specs.Ranges.{IsCycle, AreCites, IsEntry}
 use Rattle.line_rules.specs.declared.types.Entry.{Entry}
 use Rattle.line_rules.specs.declared.types.Why.{Why}
@@ -40,6 +40,7 @@ key_text keys.Units = codes "units"
 abbrev pub version_row : Version → Row
 version_row version.One = fixed (codes "line balance certificate 1")
 version_row version.Two = fixed (codes "line balance certificate 2")
+version_row version.Three = fixed (codes "line balance certificate 3")
 
 -- the line behind the question: a task, or a lower bound
 abbrev pub opening_row : Opening → Row
@@ -57,11 +58,12 @@ abbrev pub IsHead : Option (ℕ × ℕ) → Type 0
 IsHead None = Unit {0}
 IsHead (Some t) = (1 ≤ t.0) × (t.0 ≤ 1024) × IsCycle t.1
 
--- numbers of the line of an entry within their ranges; tasks are counted from 1
+-- numbers of the line of an entry within their ranges; tasks are counted from 1, and a set has none past the last task
 abbrev pub IsWhyWithin : ℕ → ℕ → DraftWhy → Type 0
 IsWhyWithin n count drafts.Bound = Unit {0}
 IsWhyWithin n count (drafts.Branch mode cites) = AreCites count cites
 IsWhyWithin n count (drafts.Swap cite out into) = (cite < count) × ((1 ≤ out) × (out ≤ n)) × ((1 ≤ into) × (into ≤ n))
+IsWhyWithin n count (drafts.Pairs two) = Unit {0}
 
 pub record IsWithin (n count : ℕ) (d : Draft) : Type 0 where
   pub cycle : IsCycle d.cycle
@@ -73,6 +75,7 @@ abbrev pub why_of : DraftWhy → Why
 why_of drafts.Bound = whys.Bound
 why_of (drafts.Branch mode cites) = whys.Branch mode cites
 why_of (drafts.Swap cite out into) = whys.Swap cite (out - 1) (into - 1)
+why_of (drafts.Pairs two) = whys.Pairs two
 
 abbrev pub entry_of : Draft → Entry
 entry_of d = record { set = d.set; most = d.most; cycle = d.cycle; why = why_of d.why }
@@ -96,9 +99,16 @@ abbrev pub IsGiven : Option ℕ → ℕ → Type 0
 IsGiven None c = Unit {0}
 IsGiven (Some g) c = c ≡ g
 
--- an entry that a line may say
-abbrev pub IsSaid : ℕ → ℕ → Option ℕ → Entry → Type 0
-IsSaid n count g e = IsEntry n count e × IsGiven g e.cycle
+-- a reason that may stand in a text: one by pairs only where the text may have such entries. Own.
+abbrev pub MayStand : Bool → Why → Type 0
+MayStand pairs whys.Bound = Unit {0}
+MayStand pairs (whys.Branch mode cites) = Unit {0}
+MayStand pairs (whys.Swap cite out into) = Unit {0}
+MayStand pairs (whys.Pairs two) = pairs ≡ true
+
+-- an entry that a line may say, of a text with entries by pairs or without
+abbrev pub IsSaid : ℕ → ℕ → Option ℕ → Bool → Entry → Type 0
+IsSaid n count g pairs e = IsEntry n count e × IsGiven g e.cycle × MayStand pairs e.why
 
 -- the line of an entry, whose cycle may be given
 abbrev pub given_row : ℕ → Option ℕ → Entry → Row

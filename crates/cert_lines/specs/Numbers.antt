@@ -2,7 +2,7 @@
 use Rattle.std.specs.Prelude.{ℕ, zero, suc, ◌+◌, ◌*◌, ◌/◌, ◌%◌, nat_lt, cond, Bool, ◌&&◌, false, List, [], ◌∷◌, ◌++◌}
 use Rattle.std.specs.Prelude.{map, Option, Some, None, slice_index_or}
 use Rattle.std.specs.List.{range_with_len, flat_map}
-pub use Rattle.line_instance.specs.Truths.{IsEmpty}
+pub use Rattle.line_rules.specs.lines.Truths.{IsEmpty}
 use Rattle.line_rules.specs.declared.types.Mode.{Mode}
 use Rattle.line_rules.specs.declared.types.Mode.TheVariants.{Fore, Back, Both}
 use Rattle.line_rules.specs.declared.types.Load.{Load}

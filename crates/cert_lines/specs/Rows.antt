@@ -10,10 +10,11 @@ use Rattle.line_rules.specs.declared.types.Load.{Load}
 use Rattle.cert_lines.specs.Numbers.{number_text, set_text, cites_text, mode_letter, last_text}
 
 -- What a line says, its numbers as they are written and of any size: a fixed text; a word and a number; a word and two
--- numbers; a station, and a side on a U-line; an entry over so many tasks, with its cycle or without; the head of a
--- trail, its number of frames and its cycle where it has frames; a frame; an entry of a state, what is left and the
--- starts, with its least value, and its cites where it branches; a frame of a state, with its need, its last model
--- where it has one, and its cites; an entry of rows, with its base and its cites; a word and numbers.
+-- numbers; a station, and a side on a U-line; an entry over so many tasks, with its cycle or without, of which one by
+-- pairs ends with the set of the tasks that count twice; the head of a trail, its number of frames and its cycle where
+-- it has frames; a frame; an entry of a state, what is left and the starts, with its least value, and its cites where
+-- it branches; a frame of a state, with its need, its last model where it has one, and its cites; an entry of rows, with
+-- its base and its cites; a word and numbers.
 pub data Row : Type 0 where
   fixed : List ℕ → Row
   keyed : List ℕ → ℕ → Row
@@ -22,6 +23,7 @@ pub data Row : Type 0 where
   bound : ℕ → Option ℕ → List Bool → ℕ → Row
   branch : ℕ → Option ℕ → Mode → List Bool → ℕ → List ℕ → Row
   swap : ℕ → Option ℕ → List Bool → ℕ → ℕ → ℕ → ℕ → Row
+  pairs : ℕ → Option ℕ → List Bool → ℕ → List Bool → Row
   trail : Option (ℕ × ℕ) → Row
   frame : ℕ → Mode → List Bool → ℕ → Option Load → List ℕ → Row
   state_entry : List ℕ → List ℕ → ℕ → Option (List ℕ) → Row
@@ -30,14 +32,16 @@ pub data Row : Type 0 where
   joined : List ℕ → List ℕ → Row
 
 -- the form of a line: a fixed text, a word before a number, a word before two, a place on such a line, an entry over so
--- many tasks, the head of a trail, a frame over so many tasks, an entry or a frame of a state of so many models and so
--- many stations, an entry of rows with so many numbers of units and so many stations, a word before so many numbers
+-- many tasks and one by pairs, which not each text may have, the head of a trail, a frame over so many tasks, an entry
+-- or a frame of a state of so many models and so many stations, an entry of rows with so many numbers of units and so
+-- many stations, a word before so many numbers
 pub data Form : Type 0 where
   text : List ℕ → Form
   number : List ℕ → Form
   two_numbers : List ℕ → Form
   place : LineKind → Form
   entry : ℕ → Bool → Form
+  entry_by_pairs : ℕ → Bool → Form
   head : Form
   open_frame : ℕ → Form
   entry_of_state : ℕ → ℕ → Form
@@ -59,6 +63,7 @@ form_of (seat kind station side) = place kind
 form_of (bound n c s m) = entry n (given c)
 form_of (branch n c mode s m cites) = entry n (given c)
 form_of (swap n c s m cite out into) = entry n (given c)
+form_of (pairs n c s m two) = entry_by_pairs n (given c)
 form_of (trail t) = head
 form_of (frame n mode s m last cites) = open_frame n
 form_of (state_entry rem starts least cites) = entry_of_state (length rem) (length starts)
@@ -112,6 +117,8 @@ row_text (branch n c mode s m cites) =
 row_text (swap n c s m cite out into) =
     spaced (codes "swap" ∷ cycle_word c ++ (set_text n s ∷ number_text m ∷ number_text cite ∷ number_text
     out ∷ number_text into ∷ []))
+row_text (pairs n c s m two) =
+    spaced (codes "pairs" ∷ cycle_word c ++ (set_text n s ∷ number_text m ∷ set_text n two ∷ []))
 row_text (trail t) = spaced (trail_words t)
 row_text (frame n mode s m last cites) =
     spaced (codes "open" ∷ (mode_letter mode ∷ []) ∷ set_text n s ∷ number_text m ∷ last_text n mode last ∷ cites_text

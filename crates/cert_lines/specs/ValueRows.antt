@@ -9,7 +9,7 @@ use Rattle.line_rules.specs.declared.types.Why.TheVariants as why
 use Rattle.line_rules.specs.declared.types.OpenFrame.{OpenFrame}
 use Rattle.line_rules.specs.declared.types.Ask.{Ask}
 use Rattle.line_rules.specs.declared.types.Ask.TheVariants as ask
-use Rattle.cert_lines.specs.Rows.{Row, fixed, keyed, seat, bound, branch, swap, frame}
+use Rattle.cert_lines.specs.Rows.{Row, fixed, keyed, seat, bound, branch, swap, pairs, frame}
 
 -- the line of the kind of line
 abbrev pub kind_row : LineKind → Row
@@ -30,6 +30,7 @@ abbrev pub why_row : ℕ → Option ℕ → Entry → Why → Row
 why_row n c e why.Bound = bound n c e.set e.most
 why_row n c e (why.Branch mode cites) = branch n c mode e.set e.most cites
 why_row n c e (why.Swap cite out into) = swap n c e.set e.most cite (suc out) (suc into)
+why_row n c e (why.Pairs two) = pairs n c e.set e.most two
 
 -- the line of an entry with its cycle
 abbrev pub entry_row : ℕ → Entry → Row

@@ -6,11 +6,11 @@
 ghost use Rattle.std.specs.Prelude.{◌≡◌, ◌≤◌, IfOk, option_map};
 ghost use Rattle.cert_lines.specs.Words.{parts_at, number_in};
 ghost use Rattle.cert_lines.specs.inner.LineReading.{keyed_in, seat_in, cycle_first, bound_in, branch_in, swap_in};
-ghost use Rattle.cert_lines.specs.inner.LineReading.{entry_in, load_in, last_in, frame_in, trail_numbers, trail_in};
+ghost use Rattle.cert_lines.specs.inner.LineReading.{pairs_in, entry_in, load_in, last_in, frame_in, trail_numbers};
+ghost use Rattle.cert_lines.specs.inner.LineReading.{trail_in};
 
 use crate::words::{cites_of, first_number, is_none, mode_of, number, set_of, split_at};
-use line_instance::TaskSet;
-use line_rules::{Cites, LineKind, Load, Mode, Side};
+use line_rules::{BoxedSet, Cites, LineKind, Load, Mode, Side, TaskSet};
 use std::alloc::{AllocError, Global};
 
 /// The line of an entry; a swap's tasks are counted from 1.
@@ -41,6 +41,10 @@ pub enum DraftWhy {
         cite: u64,
         out_task: u64,
         in_task: u64,
+    },
+    /// By tasks of which no two share a station.
+    Pairs {
+        two: BoxedSet,
     },
 }
 
@@ -189,16 +193,53 @@ fn branch(
     }))
 }
 
-/// What the line of an entry says, whose cycle may be given. An error where memory is wanting.
+// What the line of an entry by pairs says behind its first word.
+#[tactic(auto, unfolding(crate::specs::inner::LineReading::pairs_in))]
+fn pairs_entry(
+    alloc: Global,
+    bytes: &[u8],
+    tasks: u32,
+    given: Option<u64>,
+) -> Result<Option<Draft>, AllocError>
+    requires { tasks ≤ 1024 }
+    ensures { IfOk result (λ d. d ≡ pairs_in tasks given bytes.now) }
+{
+    let Some((cycle, rest)) = first_cycle(bytes, given) else {
+        return Ok(None);
+    };
+    let Some((word, rest)) = split_at(rest, b' ') else {
+        return Ok(None);
+    };
+    let Some(set) = set_of(word, tasks) else {
+        return Ok(None);
+    };
+    let Some((most, rest)) = first_number(rest) else {
+        return Ok(None);
+    };
+    let Some(two) = set_of(rest, tasks) else {
+        return Ok(None);
+    };
+    let two = BoxedSet::new(alloc, &two)?;
+    Ok(Some(Draft {
+        cycle,
+        set,
+        most,
+        why: DraftWhy::Pairs { two },
+    }))
+}
+
+/// What the line of an entry says, whose cycle may be given, of a text with entries by pairs or without. An error where
+/// memory is wanting.
 #[tactic(auto, unfolding(crate::specs::inner::LineReading::entry_in))]
 pub fn entry(
     alloc: Global,
     line: &[u8],
     tasks: u32,
     given: Option<u64>,
+    pairs: bool,
 ) -> Result<Option<Draft>, AllocError>
     requires { tasks ≤ 1024 }
-    ensures { IfOk result (λ d. d ≡ entry_in tasks given line.now) }
+    ensures { IfOk result (λ d. d ≡ entry_in tasks given pairs line.now) }
 {
     let Some((word, rest)) = split_at(line, b' ') else {
         return Ok(None);
@@ -211,6 +252,9 @@ pub fn entry(
     }
     if word == b"swap".as_slice() {
         return Ok(swap(rest, tasks, given));
+    }
+    if pairs && word == b"pairs".as_slice() {
+        return pairs_entry(alloc, rest, tasks, given);
     }
     Ok(None)
 }

@@ -13,5 +13,5 @@ mod source;
 pub mod words;
 
 pub use fault::{CertFault, CertKind, LineError, ReadError};
-pub use line_instance::TaskSet;
+pub use line_rules::TaskSet;
 pub use source::{Source, Taken};

@@ -129,6 +129,8 @@ pub enum Version {
     One,
     /// Version 2.
     Two,
+    /// Version 3, which may have entries by pairs.
+    Three,
 }
 
 /// The first line.
@@ -152,6 +154,9 @@ impl Pattern for VersionLine {
         }
         if line == b"line balance certificate 1".as_slice() {
             return Ok(Version::One);
+        }
+        if line == b"line balance certificate 3".as_slice() {
+            return Ok(Version::Three);
         }
         Err(LineError::Form)
     }
@@ -441,6 +446,7 @@ fn is_why_within(why: &DraftWhy, tasks: u32, count: u64) -> bool
                 && *in_task >= 1
                 && *in_task <= u64::from(tasks)
         }
+        DraftWhy::Pairs { two: _ } => true,
     }
 }
 
@@ -461,6 +467,7 @@ fn why_from(why: DraftWhy, tasks: u32, count: u64) -> Why
             out_task: (out_task - 1) as u32,
             in_task: (in_task - 1) as u32,
         },
+        DraftWhy::Pairs { two } => Why::Pairs { two },
     }
 }
 
@@ -492,7 +499,7 @@ fn entry_within(draft: Draft, tasks: u32, count: u64) -> Result<Entry, LineError
     })
 }
 
-/// The line of an entry, whose cycle may be given.
+/// The line of an entry, whose cycle may be given, of a text with entries by pairs or without.
 #[derive(Clone, Copy)]
 pub struct EntryLine {
     /// The number of tasks.
@@ -501,6 +508,8 @@ pub struct EntryLine {
     pub count: u64,
     /// The cycle, where the line has none.
     pub given: Option<u64>,
+    /// Whether entries by pairs may stand there.
+    pub pairs: bool,
 }
 
 impl Pattern for EntryLine {
@@ -511,12 +520,12 @@ impl Pattern for EntryLine {
 
     ghost line_of = { λ p v. given_row p.tasks p.given v };
 
-    ghost may_say = { λ p v. IsSaid p.tasks p.count p.given v };
+    ghost may_say = { λ p v. IsSaid p.tasks p.count p.given p.pairs v };
 
     ghost can_read = { λ p. (1 ≤ p.tasks) × (p.tasks ≤ 1024) × (p.count ≤ 20000000) × IsGivenCycle p.given };
 
     fn read(&self, alloc: Global, line: &[u8]) -> Result<Entry, LineError> {
-        match entry(alloc, line, self.tasks, self.given) {
+        match entry(alloc, line, self.tasks, self.given, self.pairs) {
             Err(_) => Err(LineError::Memory),
             Ok(None) => Err(LineError::Form),
             Ok(Some(draft)) => entry_within(draft, self.tasks, self.count),

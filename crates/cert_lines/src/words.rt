@@ -2,14 +2,13 @@
 //!
 //! A set has a hexadecimal digit for each four tasks, the first of the four as the highest bit. Bits past the last task
 //! have to be 0. A number has no 0 in front of another digit. So each value has one spelling, and two texts of one
-//! certificate can't differ. Each byte is looked at once.
+//! certificate in one version can't differ. Each byte is looked at once.
 ghost use Rattle.std.specs.Prelude.{◌≡◌, ◌≤◌, ◌<◌, ◌||◌, IfOk, option_map, true, cond, slice_set, nat_lt, not};
 ghost use Rattle.cert_lines.specs.Words.{parts_at, number_in, number_first, mode_in, cites_in, numbers_in, pieces_at};
 ghost use Rattle.cert_lines.specs.Words.{set_in, is_hex as hex, hex_value as value, is_spare, with_digit};
 ghost use Rattle.cert_lines.specs.Words.{is_unplain as unplain, is_none as none};
 
-use line_instance::TaskSet;
-use line_rules::{Cites, Mode};
+use line_rules::{Cites, Mode, TaskSet};
 use std::alloc::{AllocError, Global};
 
 /// What stands before the first byte of this value, and behind it; None where there is no such byte.

@@ -49,6 +49,7 @@ fn is_why(why: &Why, tasks: u32, count: usize) -> bool
             out_task,
             in_task,
         } => *cite < count as u64 && *out_task < tasks && *in_task < tasks,
+        Why::Pairs { two } => is_of(two.set(), tasks),
     }
 }
 

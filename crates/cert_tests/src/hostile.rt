@@ -12,7 +12,9 @@ const ENDED: &str = "0|line balance certificate|form
 0|line balance certificate 02|form
 0|line  balance certificate 2|form
 0|line balance certificate 2 |form
-0|line balance certificate 3|form
+0|line balance certificate 4|form
+0|line balance certificate 3 |form
+0|line balance certificate 03|form
 1|line|form
 1|straight|form
 1|line straight straight|form

@@ -1,4 +1,4 @@
-//! Tests of certificates: their ranges, their lines and texts of both versions, what is read from memory and from a
+//! Tests of certificates: their ranges, their lines and texts of all versions, what is read from memory and from a
 //! file, and the fault that each spoilt line has.
 #![tactic(auto)]
 
@@ -6,6 +6,8 @@
 mod hostile;
 #[cfg(test)]
 mod lines;
+#[cfg(test)]
+mod pairs;
 #[cfg(test)]
 mod ranges;
 #[cfg(test)]

@@ -112,6 +112,7 @@ fn lines_of_values_are_read(rt: HostRuntime) -> Result<(), Fail> {
         tasks: 5,
         count: 1,
         given: Some(7),
+        pairs: false,
     };
     match entry.read(rt.alloc(), b"branch f f8 2 0") {
         Ok(entry) => assert_eq!(rt; entry.cycle, 7),

@@ -2,8 +2,8 @@
 use cert_ranges::is_in_range;
 use line_instance::TaskSet;
 use line_rules::{
-    Ask, Balance, Certificate, Cites, Claim, Entries, Entry, Frames, LineKind, Load, Mode,
-    OpenFrame, Places, Seatplace, Side, Trail, Why,
+    Ask, Balance, BoxedSet, Certificate, Cites, Claim, Entries, Entry, Frames, LineKind, Load,
+    Mode, OpenFrame, Places, Seatplace, Side, Trail, Why,
 };
 use std::alloc::{AllocError, Global};
 use std::test::Fail;
@@ -179,6 +179,18 @@ fn a_swap_has_tasks_and_a_cite_of_its_own_list(rt: HostRuntime) -> Result<(), Fa
         in_task: 2,
     };
     assert!(rt; passes_with(alloc, entry(2, 1, within))?);
+    Ok(())
+}
+
+#[test]
+fn the_tasks_that_count_twice_are_tasks_of_the_line(rt: HostRuntime) -> Result<(), Fail> {
+    let alloc = rt.alloc();
+    let within = BoxedSet::new(alloc, &TaskSet::full_to(3))?;
+    let past = BoxedSet::new(alloc, &TaskSet::full_to(4))?;
+    assert!(rt;
+        passes_with(alloc, entry(2, 1, Why::Pairs { two: within }))?
+            & !passes_with(alloc, entry(2, 1, Why::Pairs { two: past }))?
+    );
     Ok(())
 }
 

@@ -358,6 +358,7 @@ fn are_before(why: &Why, k: u64) -> bool
             out_task: _,
             in_task: _,
         } => *cite < k,
+        Why::Pairs { two: _ } => true,
     }
 }
 
@@ -392,7 +393,7 @@ fn trimmed(alloc: Global, text: &[u8]) -> Result<Vec<u8>, AllocError> {
         trail: _,
         next: _,
         line: _,
-    } = read_list(alloc, text, 0, 1, 7)
+    } = read_list(alloc, text, 0, 1, 7, true)
     {
         let all = TaskSet::full_to(7);
         if is_answered(&entries, &all, 4, 7) && cite_earlier(&entries) {

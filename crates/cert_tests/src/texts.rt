@@ -207,7 +207,7 @@ fn a_list_is_written(rt: HostRuntime) -> Result<(), Fail> {
 #[test]
 fn a_list_is_read_from_its_place(rt: HostRuntime) -> Result<(), Fail> {
     let text = b"ahead\nentries 1\nbound 7 f8 1\ntrail 1 at 7\nopen f f8 2 90 -\nbehind\n";
-    let answer = read_list(rt.alloc(), text.as_slice(), 6, 2, 5);
+    let answer = read_list(rt.alloc(), text.as_slice(), 6, 2, 5, false);
     if let ListRead::Good {
         entries,
         trail: _,
@@ -227,7 +227,7 @@ fn a_list_is_read_from_its_place(rt: HostRuntime) -> Result<(), Fail> {
 #[test]
 fn a_fault_of_a_list_is_at_its_line(rt: HostRuntime) -> Result<(), Fail> {
     let text = b"ahead\nentries 1\nbound 7 f8 1025\n";
-    if let ListRead::Fault(fault) = read_list(rt.alloc(), text.as_slice(), 6, 2, 5) {
+    if let ListRead::Fault(fault) = read_list(rt.alloc(), text.as_slice(), 6, 2, 5, false) {
         assert_eq!(rt; fault.line, 3);
         return Ok(());
     }

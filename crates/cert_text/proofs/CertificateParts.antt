@@ -32,7 +32,8 @@ use Rattle.cert_lines.specs.inner.LineReading.{keyed_in, seat_in, trail_in, entr
 use Rattle.cert_lines.specs.Faults.{Grammar}
 use Rattle.cert_lines.specs.Pattern.{one, AreSaid, each, then_, IsRead}
 use Rattle.cert_lines.specs.LineForms.{IsHead, IsGiven, IsSaid, written, given_row, entry_of, frame_of}
-use Rattle.cert_text.specs.Parts.{IsPlacedOf, heads, trails, lists, seatings, placings}
+use Rattle.cert_text.specs.Parts.{IsPlacedOf, MayHave, heads, trails, lists, seatings, placings}
+use Rattle.cert_text.proofs.PairFacts.{may_have, may_stand}
 use Rattle.cert_lines.proofs.NumberWords.{lacks}
 use Rattle.cert_lines.proofs.SetText.{clip, clip_same}
 use Rattle.cert_lines.proofs.CiteWords.{sat}
@@ -190,37 +191,40 @@ same_trails n count = record {
     from_row (Some t) = refl
 
 -- so many entries
-abbrev pub entries_of : ℕ → ℕ → Grammar (List Entry)
-entries_of n count = each (given_row n None) (IsSaid n count None) count
+abbrev pub entries_of : ℕ → Bool → ℕ → Grammar (List Entry)
+entries_of n p count = each (given_row n None) (IsSaid n count None p) count
 
-abbrev pub entry_rest : ℕ → ℕ → Grammar (List Entry × Option Trail)
-entry_rest n count = then_ (entries_of n count) (λ es. trails n count)
+abbrev pub entry_rest : ℕ → Bool → ℕ → Grammar (List Entry × Option Trail)
+entry_rest n p count = then_ (entries_of n p count) (λ es. trails n count)
 
-abbrev pub list_parts : ℕ → Grammar (ℕ × (List Entry × Option Trail))
-list_parts n = then_ (numbers (codes "entries") 0 20000000) (entry_rest n)
+abbrev pub list_parts : ℕ → Bool → Grammar (ℕ × (List Entry × Option Trail))
+list_parts n p = then_ (numbers (codes "entries") 0 20000000) (entry_rest n p)
 
 pub unique_count : Unique (numbers (codes "entries") 0 20000000)
 unique_count = unique_number (codes "entries") 0 20000000 refl (lit< tt)
 
-pub some_rest : (n count : ℕ) → ((e : Entry) × IsSaid n count None e)
-    → (b : List Entry × Option Trail) × (entry_rest n count).ranged b
-some_rest n count s = let es = some_copies (IsSaid n count None) count s.0 s.1 in ((es.0, None), (es.1, tt))
+pub some_rest : (n : ℕ) (p : Bool) (count : ℕ) → ((e : Entry) × IsSaid n count None p e)
+    → (b : List Entry × Option Trail) × (entry_rest n p count).ranged b
+some_rest n p count s = let es = some_copies (IsSaid n count None p) count s.0 s.1 in ((es.0, None), (es.1, tt))
 
-pub same_lists : (n : ℕ) → Same (list_parts n) (lists n)
-same_lists n = record {
+pub same_lists : (n : ℕ) (p : Bool) → Same (list_parts n p) (lists n p)
+same_lists n p = record {
   to = λ v. record { entries = v.1.0; trail = v.1.1 };
   from = λ x. (length x.entries, (x.entries, x.trail));
   to_ranged = λ v r. to_range v.0 v.1.0 v.1.1 r.0.1 r.1.0 r.1.1;
-  from_ranged = λ x r. ((omega arith, r.0.many), (record { many = refl; each = λ k e q. (r.0.each k e q, tt) }, r.1));
+  from_ranged = λ x r. (
+    (omega arith, r.0.many),
+    (record { many = refl; each = λ k e q. (r.0.each k e q, tt, may_stand p x.entries r.2 k e q) }, r.1),
+  );
   to_rows = λ v r. ap (λ k. keyed (codes "entries") k ∷ (map (entry_row n) v.1.0 ++ trail_rows n v.1.1)) r.1.0.many;
   from_rows = λ x r. refl;
 }
   where
     to_range : (count : ℕ) (es : List Entry) (t : Option Trail) → count ≤ 20000000
-        → AreSaid (IsSaid n count None) count es → IsTrailOrNone n count t
-        → AreEntries n es × IsTrailOrNone n (length es) t
+        → AreSaid (IsSaid n count None p) count es → IsTrailOrNone n count t
+        → AreEntries n es × IsTrailOrNone n (length es) t × MayHave p es
     to_range count es t a b c =
-        let P : ℕ → Type 0 = λ k. AreEntries n es × IsTrailOrNone n k t in
+        let P : ℕ → Type 0 = λ k. AreEntries n es × IsTrailOrNone n k t × MayHave p es in
         let Q : ℕ → Type 0 = λ k. (j : ℕ) (e : Entry) → slice_get es j ≡ Some e → IsEntry n k e in
         subst P (sym b.many) (
           record {
@@ -228,6 +232,7 @@ same_lists n = record {
             each = subst Q (sym b.many) (λ j e q. (b.each j e q).0);
           },
           c,
+          may_have p es (λ j e q. (b.each j e q).2),
         )
 
 pub some_frames : (n count k : ℕ) → (fs : List OpenFrame) × AreSaid (IsFrame n count) k fs
@@ -242,17 +247,18 @@ trail_said n count t fs a b = record {
   each = b.each;
 }
 
-pub list_said : (n count : ℕ) (es : List Entry) (t : Option Trail) → count ≤ 20000000
-    → AreSaid (IsSaid n count None) count es → IsTrailOrNone n count t → AreEntries n es × IsTrailOrNone n (length es) t
+pub list_said : (n : ℕ) (p : Bool) (count : ℕ) (es : List Entry) (t : Option Trail) → count ≤ 20000000
+    → AreSaid (IsSaid n count None p) count es → IsTrailOrNone n count t
+    → AreEntries n es × IsTrailOrNone n (length es) t × MayHave p es
 unfolding same_lists
-list_said n count es t a b c = (same_lists n).to_ranged (count, (es, t)) ((omega arith, a), (b, c))
+list_said n p count es t a b c = (same_lists n p).to_ranged (count, (es, t)) ((omega arith, a), (b, c))
 
 -- an entry, whose cycle may be given, is read as it was
-said_back : (n count : ℕ) (g : Option ℕ) (e : Entry) (w : Why) → n ≤ 1024 → count ≤ 20000000 → IsSaid n count g e
-    → IsWhy n count w
+said_back : (n count : ℕ) (g : Option ℕ) (p : Bool) (e : Entry) (w : Why) → n ≤ 1024 → count ≤ 20000000
+    → IsSaid n count g p e → IsWhy n count w
     → entry_of (draft_of g (why_row n (written g e.cycle) e w))
     ≡ record { set = e.set; most = e.most; cycle = e.cycle; why = w }
-said_back n count g e w a b h k =
+said_back n count g p e w a b h k =
     parts w k
   where
     the : List Bool → ℕ → ℕ → Why → Entry
@@ -279,24 +285,26 @@ said_back n count g e w a b h k =
         (ap (λ z. whys.Swap z (sat (suc out) - 1) (sat (suc into) - 1)) (small_is cite (omega (arith, k.0)))
         ∙ ap (λ z. whys.Swap cite z (sat (suc into) - 1)) (omega (arith, k.1.0))
         ∙ ap (λ z. whys.Swap cite out z) (omega (arith, k.1.1)))
+    parts (whys.Pairs two) k = up_to (whys.Pairs (clip n two)) (whys.Pairs two)
+        (ap (λ z. whys.Pairs z) (clip_same n two a k))
 
-pub unique_given : (n count : ℕ) (g : Option ℕ) → n ≤ 1024 → count ≤ 20000000
-    → Unique (each (given_row n g) (IsSaid n count g) count)
-unique_given n count g a b = unique_each (given_row n g) (IsSaid n count g) count
-    (λ v w p q e.
-    sym (said_back n count g v v.why a b p p.0.why)
-    ∙ ap entry_of (twice (entry_in n g) (row_text (given_row n g v)) (row_text (given_row n g w))
+pub unique_given : (n count : ℕ) (g : Option ℕ) (p : Bool) → n ≤ 1024 → count ≤ 20000000
+    → Unique (each (given_row n g) (IsSaid n count g p) count)
+unique_given n count g p a b = unique_each (given_row n g) (IsSaid n count g p) count
+    (λ v w q r e.
+    sym (said_back n count g p v v.why a b q q.0.why)
+    ∙ ap entry_of (twice (entry_in n g p) (row_text (given_row n g v)) (row_text (given_row n g w))
     (draft_of g (given_row n g v)) (draft_of g (given_row n g w))
-    (entry_again n g (given_row n g v) (entry_is n g v v.why))
-    (entry_again n g (given_row n g w) (entry_is n g w w.why)) e)
-    ∙ said_back n count g w w.why a b q q.0.why)
+    (entry_again n g p (given_row n g v) (entry_is n g p v v.why q.2))
+    (entry_again n g p (given_row n g w) (entry_is n g p w w.why r.2)) e)
+    ∙ said_back n count g p w w.why a b r r.0.why)
 
-pub list_read : (n count : ℕ) (es : List Entry) (t : Option Trail) (passed after : ℕ) (text rest : List ℕ)
-    → IsRead (list_parts n) passed text rest after (Ok (count, (es, t)))
-    → IsRead (lists n) passed text rest after (Ok (record { entries = es; trail = t }))
+pub list_read : (n : ℕ) (p : Bool) (count : ℕ) (es : List Entry) (t : Option Trail) (passed after : ℕ)
+    (text rest : List ℕ) → IsRead (list_parts n p) passed text rest after (Ok (count, (es, t)))
+    → IsRead (lists n p) passed text rest after (Ok (record { entries = es; trail = t }))
 unfolding same_lists
-list_read n count es t passed after text rest h = same_read (list_parts n) (lists n) passed after text rest
-    (count, (es, t)) (same_lists n) h
+list_read n p count es t passed after text rest h = same_read (list_parts n p) (lists n p) passed after text rest
+    (count, (es, t)) (same_lists n p) h
 
 pub trail_read : (n count : ℕ) (t : ℕ × ℕ) (fs : List OpenFrame) (passed after : ℕ) (text rest : List ℕ)
     → IsRead (trail_parts n count) passed text rest after (Ok (Some t, fs))
@@ -490,9 +498,9 @@ unique_trails n count a b = unique_same (trail_parts n count) (trails n count) (
     back None r = refl
     back (Some t) r = refl
 
-pub unique_lists : (n : ℕ) → n ≤ 1024 → Unique (lists n)
+pub unique_lists : (n : ℕ) (p : Bool) → n ≤ 1024 → Unique (lists n p)
 unfolding same_lists
-unique_lists n a = unique_same (list_parts n) (lists n) (same_lists n)
-    (unique_then (numbers (codes "entries") 0 20000000) (entry_rest n) unique_count
-    (λ c r. unique_then (entries_of n c) (λ es. trails n c) (unique_given n c None a r.1)
+unique_lists n p a = unique_same (list_parts n p) (lists n p) (same_lists n p)
+    (unique_then (numbers (codes "entries") 0 20000000) (entry_rest n p) unique_count
+    (λ c r. unique_then (entries_of n p c) (λ es. trails n c) (unique_given n c None p a r.1)
     (λ es s. unique_trails n c a r.1))) (λ x r. refl)

@@ -3,6 +3,7 @@ pub mod LiftRanges
 pub mod PutTexts
 pub mod PutLines
 pub mod PartSequences
+pub mod PairFacts
 pub mod CertificateParts
 pub mod PartErrors
 pub mod Claims

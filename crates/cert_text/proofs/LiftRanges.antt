@@ -50,6 +50,7 @@ why_in : (n count earlier total : ℕ) (w : Why) → count + earlier ≤ total �
 why_in n count earlier total whys.Bound l h = tt
 why_in n count earlier total (whys.Branch mode cites) l h = raised_in count earlier total cites l h
 why_in n count earlier total (whys.Swap cite out into) l h = (omega (arith, h.0), h.1)
+why_in n count earlier total (whys.Pairs two) l h = h
 
 entry_in : (n count earlier total cycle : ℕ) (e : Entry) → count + earlier ≤ total → IsCycle cycle → IsEntry n count e
     → IsEntry n total (lifted_entry cycle earlier e)

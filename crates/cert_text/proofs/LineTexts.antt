@@ -28,20 +28,25 @@ use Rattle.line_io.proofs.ReadFacts.{right, left}
 use Rattle.line_rules.proofs.LoadTests.{not_true}
 pub use Rattle.cert_lines.specs.Telling.{AllLack}
 use Rattle.cert_lines.specs.Numbers.{number_text, set_text, cites_text, mode_letter, last_text}
-use Rattle.cert_lines.specs.Rows.{Row, fixed, keyed, span, seat, bound, branch, swap, trail, frame, state_entry}
-use Rattle.cert_lines.specs.Rows.{state_frame, row_entry, joined, spaced, number_or_none, row_text, rows_text}
+use Rattle.cert_lines.specs.Rows.{Row, fixed, keyed, span, seat, bound, branch, swap, pairs, trail, frame}
+use Rattle.cert_lines.specs.Rows.{state_entry, state_frame, row_entry, joined, spaced, number_or_none, row_text}
+use Rattle.cert_lines.specs.Rows.{rows_text}
 use Rattle.cert_lines.specs.Rows.{lines_text}
 use Rattle.cert_lines.specs.ValueRows.{kind_row, ask_row, seat_row, why_row, entry_row, frame_row}
-use Rattle.cert_text.specs.Cert.{trail_rows, list_rows, head_rows, claim_rows, cert_rows, cert_text}
+use Rattle.cert_lines.specs.LineForms.{version_row}
+use Rattle.cert_lines.specs.declared.line_forms.Version.{Version}
+use Rattle.cert_lines.specs.declared.line_forms.Version.TheVariants as version
+use Rattle.cert_text.specs.Cert.{trail_rows, list_rows, head_rows, claim_rows, rows_in, cert_rows, cert_text}
+use Rattle.cert_text.specs.Cert.{least_version, newest_text}
 use Rattle.cert_text.specs.OldCert.{short_row, old_trail_rows, part_rows, parts_rows, counted_rows, old_claim_rows}
 use Rattle.cert_text.specs.OldCert.{old_rows}
-use Rattle.cert_text.specs.Versions.{AnyCertificate, newer, older, IsAnyInRange, any_rows, any_text, lifted}
+use Rattle.cert_text.specs.Versions.{AnyCertificate, newer, newest, older, IsAnyInRange, any_rows, any_text, lifted}
 use Rattle.cert_text.specs.Versions.{both as both_versions}
 use Rattle.entry_lists.specs.declared.version_one.Part.{Part}
 use Rattle.entry_lists.specs.declared.version_one.OldClaim.{OldClaim}
 use Rattle.entry_lists.specs.declared.version_one.OldClaim.TheVariants as old_claim
 use Rattle.cert_lines.specs.Faults.{IsLine, Grammar, Next, IsFault}
-use Rattle.cert_text.specs.Parts.{lists}
+use Rattle.cert_text.specs.Parts.{MayHave, lists}
 use Rattle.cert_text.specs.WholeText.{IsAnyRead, IsCertFault, IsSaidBy, IsCertRead, IsEnded}
 use Rattle.cert_lines.specs.Pattern.{IsRead}
 use Rattle.cert_text.specs.Laws.{NoTextBeginsAnother}
@@ -57,6 +62,7 @@ use Rattle.cert_lines.proofs.TextParts.{rows_lines}
 use Rattle.cert_text.proofs.PartSequences.{texts, Unique, none}
 use Rattle.cert_text.proofs.CertificateParts.{unique_lists}
 use Rattle.cert_text.proofs.Claims.{unique_both}
+use Rattle.cert_text.proofs.PairFacts.{least_not_one}
 
 lacks_append : (m : ℕ) (a b : List ℕ) → lacks m a ≡ true → lacks m b ≡ true → lacks m (a ++ b) ≡ true
 lacks_append m [] b e f = f
@@ -108,6 +114,7 @@ IsPlain (seat kind n side) = Unit {0}
 IsPlain (bound n c s m) = Unit {0}
 IsPlain (branch n c mode s m cites) = Unit {0}
 IsPlain (swap n c s m cite out into) = Unit {0}
+IsPlain (pairs n c s m two) = Unit {0}
 IsPlain (trail t) = Unit {0}
 IsPlain (frame n mode s m last cites) = Unit {0}
 IsPlain (state_entry rem starts least cites) = Unit {0}
@@ -178,6 +185,11 @@ row_lacks (swap n (Some c) s m cite out into) h =
         ),
       ),
     )
+row_lacks (pairs n None s m two) h = words_lack (codes "pairs" ∷ set_text n s ∷ number_text m ∷ set_text n two ∷ [])
+    (refl, (set_lacks n s, (number_lacks m, (set_lacks n two, tt))))
+row_lacks (pairs n (Some c) s m two) h =
+    words_lack (codes "pairs" ∷ number_text c ∷ set_text n s ∷ number_text m ∷ set_text n two ∷ [])
+    (refl, (number_lacks c, (set_lacks n s, (number_lacks m, (set_lacks n two, tt)))))
 row_lacks (trail None) h = refl
 row_lacks (trail (Some t)) h = words_lack (codes "trail" ∷ number_text t.0 ∷ codes "at" ∷ number_text t.1 ∷ [])
     (refl, (number_lacks t.0, (refl, (number_lacks t.1, tt))))
@@ -217,6 +229,7 @@ why_lacks : (n c : ℕ) (e : Entry) (w : Why) → lacks 10 (row_text (why_row n 
 why_lacks n c e whys.Bound = row_lacks (bound n (Some c) e.set e.most) tt
 why_lacks n c e (whys.Branch mode cites) = row_lacks (branch n (Some c) mode e.set e.most cites) tt
 why_lacks n c e (whys.Swap cite out into) = row_lacks (swap n (Some c) e.set e.most cite (suc out) (suc into)) tt
+why_lacks n c e (whys.Pairs two) = row_lacks (pairs n (Some c) e.set e.most two) tt
 
 trail_lacks : (n : ℕ) (t : Option Trail) → AllLack (texts (trail_rows n t))
 trail_lacks n None = (row_lacks (trail None) tt, tt)
@@ -270,6 +283,7 @@ short_lacks : (n : ℕ) (e : Entry) (w : Why) → lacks 10 (row_text (why_row n 
 short_lacks n e whys.Bound = row_lacks (bound n None e.set e.most) tt
 short_lacks n e (whys.Branch mode cites) = row_lacks (branch n None mode e.set e.most cites) tt
 short_lacks n e (whys.Swap cite out into) = row_lacks (swap n None e.set e.most cite (suc out) (suc into)) tt
+short_lacks n e (whys.Pairs two) = row_lacks (pairs n None e.set e.most two) tt
 
 part_lacks : (n : ℕ) (p : Part) → AllLack (texts (part_rows n p))
 part_lacks n p = (
@@ -308,13 +322,22 @@ old_claim_lacks kind n (old_claim.Bounds l u b ps) = (
   ),
 )
 
-any_lacks : (x : AnyCertificate) → AllLack (texts (any_rows x))
-unfolding cert_rows old_rows
-any_lacks (newer c) = (
-  row_lacks (fixed (codes "line balance certificate 2")) refl,
+version_lacks : (v : Version) → lacks 10 (row_text (version_row v)) ≡ true
+version_lacks version.One = row_lacks (version_row version.One) refl
+version_lacks version.Two = row_lacks (version_row version.Two) refl
+version_lacks version.Three = row_lacks (version_row version.Three) refl
+
+rows_lack : (v : Version) (c : Certificate) → AllLack (texts (rows_in v c))
+rows_lack v c = (
+  version_lacks v,
   lack_both (head_rows c.kind c.tasks c.ask) (claim_rows c.kind c.tasks c.claim) (head_lacks c.kind c.tasks c.ask)
       (claim_lacks c.kind c.tasks c.claim),
 )
+
+any_lacks : (x : AnyCertificate) → AllLack (texts (any_rows x))
+unfolding old_rows
+any_lacks (newer c) = rows_lack version.Two c
+any_lacks (newest c) = rows_lack version.Three c
 any_lacks (older c) = (
   row_lacks (fixed (codes "line balance certificate 1")) refl,
   lack_both (head_rows c.kind c.tasks c.ask) (old_claim_rows c.kind c.tasks c.claim) (head_lacks c.kind c.tasks c.ask)
@@ -469,11 +492,16 @@ any_has_none bytes f c (inr x) h e =
     (sym x.all ∙ e)).1 in
     absurd (omega (arith, x.some, ap length z))
 
--- the certificate that the lines say, of either version
+-- the certificate that the lines say, of any version
 said_by : (bytes : List ℕ) (x : AnyCertificate) (cert : Certificate) → IsAnyInRange x → bytes ≡ any_text x
     → cert ≡ lifted x → IsSaidBy bytes cert
-said_by bytes (newer c) cert h e q = let P : Certificate → Type 0 = λ z. IsInRange z × (bytes ≡ cert_text z) in
-    inl (subst P (sym q) (h, e))
+unfolding cert_rows
+said_by bytes (newer c) cert h e q =
+    let P : Certificate → Type 0 = λ z. IsInRange z × ((bytes ≡ cert_text z) ⊎ (bytes ≡ newest_text z)) in
+    inl (subst P (sym q) (h.0, inl (e ∙ ap (λ v. rows_text (rows_in v c)) (sym h.1))))
+said_by bytes (newest c) cert h e q =
+    let P : Certificate → Type 0 = λ z. IsInRange z × ((bytes ≡ cert_text z) ⊎ (bytes ≡ newest_text z)) in
+    inl (subst P (sym q) (h, inr e))
 said_by bytes (older o) cert h e q = inr (o, h, e, q)
 
 -- what stands behind a certificate that was read decides the answer
@@ -498,6 +526,23 @@ pub no_text : (bytes : List ℕ) (r : CertRead) (f : CertFault) (c : AnyCertific
     → IsAnyInRange c → bytes ≡ any_text c → ⊥
 no_text bytes r f c h e k t = let P : CertRead → Type 0 = IsCertRead bytes in any_has_none bytes f c (subst P e h) k t
 
+-- the text that is written is that of version 2 or of version 3
+written_in : (cert : Certificate) → IsInRange cert
+    → (x : AnyCertificate) × IsAnyInRange x × (any_text x ≡ cert_text cert)
+unfolding cert_rows
+written_in cert h = in_version (least_version cert.claim) refl
+  where
+    in_version : (v : Version) → least_version cert.claim ≡ v
+        → (x : AnyCertificate) × IsAnyInRange x × (any_text x ≡ cert_text cert)
+    in_version version.One e = absurd (least_not_one cert.claim e)
+    in_version version.Two e = (newer cert, (h, e), ap (λ v. rows_text (rows_in v cert)) (sym e))
+    in_version version.Three e = (newest cert, h, ap (λ v. rows_text (rows_in v cert)) (sym e))
+
+-- an answer that is a fault, of a text that isn't the one of a certificate that is written
+pub no_cert : (bytes : List ℕ) (r : CertRead) (f : CertFault) (c : Certificate) → IsCertRead bytes r → r ≡ Fault f
+    → IsInRange c → bytes ≡ cert_text c → ⊥
+no_cert bytes r f c h e k t = let x = written_in c k in no_text bytes r f x.0 h e x.1 (t ∙ sym x.2)
+
 -- what was read from the front of a text is what was read of it
 pub read_whole : (bytes text left : List ℕ) (n number : ℕ) (cert : Certificate) → IsAnyRead n text left number (Ok cert)
     → n ≡ 0 → text ≡ bytes → IsAnyRead 0 bytes left number (Ok cert)
@@ -518,8 +563,9 @@ fault_whole bytes text rest n after e f g h i a b c =
     inl (subst S (sym c) (subst R b (subst Q a x)))
 
 -- no text with a fault begins with that of entries and a trail
-pub list_has_none : (n passed : ℕ) (text rest : List ℕ) (f : CertFault) (es : List Entry) (t : Option Trail) → n ≤ 1024
-    → IsFault (lists n) passed text f → AreEntries n es → IsTrailOrNone n (length es) t
-    → text ≡ rows_text (list_rows n es t) ++ rest → ⊥
-list_has_none n passed text rest f es t a x h k e = fault_has_none (lists n) passed text rest f
-    (record { entries = es; trail = t }) (unique_lists n a) (λ v. list_lacks n v.entries v.trail) x (h, k) e
+pub list_has_none : (n : ℕ) (p : Bool) (passed : ℕ) (text rest : List ℕ) (f : CertFault) (es : List Entry)
+    (t : Option Trail) → n ≤ 1024 → IsFault (lists n p) passed text f → AreEntries n es → IsTrailOrNone n (length es) t
+    → MayHave p es → text ≡ rows_text (list_rows n es t) ++ rest → ⊥
+list_has_none n p passed text rest f es t a x h k m e =
+    fault_has_none (lists n p) passed text rest f (record { entries = es; trail = t }) (unique_lists n p a)
+    (λ v. list_lacks n v.entries v.trail) x (h, k, m) e

@@ -1,6 +1,6 @@
 -- The lines as they are put, piece by piece.
 use Rattle.std.proofs.Common.{◌≡◌, ℕ, suc, List, [], ◌∷◌, ◌++◌, length, refl, sym, ◌∙◌, ap, append_assoc, map, take}
-use Rattle.std.proofs.Common.{get_or, ◌<◌, ◌≤◌, ◌+◌, Some, None}
+use Rattle.std.proofs.Common.{get_or, ◌<◌, ◌≤◌, ◌+◌, Bool, Some, None}
 use Rattle.std.specs.Prelude.{codes}
 use Rattle.std.proofs.lemmas.List.{take_more, take_all, append-nil, map-append}
 use Rattle.line_rules.specs.declared.types.Entry.{Entry}
@@ -8,7 +8,7 @@ use Rattle.line_rules.specs.declared.types.Mode.{Mode}
 use Rattle.line_rules.specs.declared.types.OpenFrame.{OpenFrame}
 use Rattle.cert_lines.specs.Numbers.{number_text, set_text, cites_text, mode_letter, last_text}
 use Rattle.cert_text.specs.inner.Pieces.{question_text, swap_text}
-use Rattle.cert_lines.specs.Rows.{Row, row_text, line_text, rows_text, bound, branch, swap, trail}
+use Rattle.cert_lines.specs.Rows.{Row, row_text, line_text, rows_text, bound, branch, swap, pairs, trail}
 use Rattle.cert_lines.specs.ValueRows.{frame_row}
 
 pub bound_spelled : (n : ℕ) (e : Entry) → line_text (bound n (Some e.cycle) e.set e.most) ≡ codes "bound"
@@ -44,6 +44,11 @@ swap_spelled n e cite out into =
     (sym (question_before n e (32 ∷ (number_text cite ++ 32 ∷ (number_text (suc out)
     ++ 32 ∷ (number_text (suc into) ++ 10 ∷ []))))) ∙ ap (λ t. question_text n e ++ t)
     (sym (swap_tail cite out into)))
+
+pub pairs_spelled : (n : ℕ) (e : Entry) (two : List Bool) → line_text (pairs n (Some e.cycle) e.set e.most two)
+    ≡ codes "pairs" ++ (question_text n e ++ (32 ∷ (set_text n two ++ 10 ∷ [])))
+unfolding row_text
+pairs_spelled n e two = simp append_assoc
 
 pub frame_spelled : (n : ℕ) (f : OpenFrame) → line_text (frame_row n f)
     ≡ codes "open " ++ (mode_letter f.mode ∷ 32 ∷ (set_text n f.set

@@ -1,6 +1,6 @@
 -- The parts of a text of version 1, and that each part's lines say one value at most.
 use Rattle.std.proofs.Common.{◌≡◌, ◌≢◌, ℕ, zero, suc, ◌≤◌, List, [], ◌∷◌, ◌++◌, length, map, refl, sym, ap, subst}
-use Rattle.std.proofs.Common.{arith, Some, Ok, ◌⊎◌, inl, inr, lit≤, lit<}
+use Rattle.std.proofs.Common.{arith, Some, Ok, ◌⊎◌, inl, inr, lit≤, lit<, false}
 use Rattle.std.specs.Prelude.{codes, slice_get}
 use Rattle.std.proofs.lemmas.Option.{none-some}
 use Rattle.std.proofs.lemmas.List.{append-nil}
@@ -22,6 +22,7 @@ use Rattle.cert_text.proofs.PartErrors.{Fails, first, second, same}
 use Rattle.cert_text.proofs.PartSequences.{Unique, unique_each, unique_then, Same, same_read, both_read}
 use Rattle.cert_text.proofs.CertificateParts.{numbers, some_copies, unique_number, unique_same, frames_of, unique_given}
 use Rattle.cert_text.proofs.CertificateParts.{same_frame}
+use Rattle.cert_text.proofs.PairFacts.{may_have, may_stand}
 
 -- frames behind their number
 abbrev pub trail_numbers : ℕ → Grammar ℕ
@@ -72,7 +73,7 @@ abbrev pub part_counts : Grammar ℕ
 part_counts = numbers (codes "entries") 0 10000000
 
 abbrev pub short_entries : ℕ → ℕ → ℕ → Grammar (List Entry)
-short_entries n c count = each (given_row n (Some c)) (IsSaid n count (Some c)) count
+short_entries n c count = each (given_row n (Some c)) (IsSaid n count (Some c) false) count
 
 abbrev pub part_rest : ℕ → ℕ → ℕ → ℕ → Grammar (List Entry × List OpenFrame)
 part_rest n room c count = then_ (short_entries n c count) (λ es. old_trails n count room)
@@ -101,8 +102,8 @@ no_frames n count room = record { few = omega arith; each = λ k f q. absurd (no
 pub some_part_rest : (n room c count : ℕ) → IsCycle c → (b : List Entry × List OpenFrame)
     × (part_rest n room c count).ranged b
 some_part_rest n room c count h =
-    let e = some_entry n count (Some c) h in
-    let es = some_copies (IsSaid n count (Some c)) count e.0 e.1 in
+    let e = some_entry n count (Some c) false h in
+    let es = some_copies (IsSaid n count (Some c) false) count e.0 e.1 in
     ((es.0, []), (es.1, no_frames n count room))
 
 pub some_part_behind : (n room c : ℕ) → IsCycle c → (b : ℕ × (List Entry × List OpenFrame))
@@ -110,7 +111,7 @@ pub some_part_behind : (n room c : ℕ) → IsCycle c → (b : ℕ × (List Entr
 some_part_behind n room c h = let r = some_part_rest n room c 0 h in ((0, r.0), ((lit≤ tt, lit≤ tt), r.1))
 
 pub part_said : (n room c count : ℕ) (es : List Entry) (fs : List OpenFrame) → room ≤ 1024 → IsCycle c
-    → count ≤ 10000000 → AreSaid (IsSaid n count (Some c)) count es → AreFrames n count room fs
+    → count ≤ 10000000 → AreSaid (IsSaid n count (Some c) false) count es → AreFrames n count room fs
     → IsPart n (record { cycle = c; entries = es; frames = fs }) × (length fs ≤ room)
 part_said n room c count es fs l h k a b =
     let P : ℕ → Type 0 = λ m. (j : ℕ) (e : Entry) → slice_get es j ≡ Some e → IsEntry n m e × (e.cycle ≡ c) in
@@ -118,7 +119,8 @@ part_said n room c count es fs l h k a b =
       record {
         cycle = h;
         many = omega (arith, a.many);
-        each = subst P (sym a.many) a.each;
+        each = subst P (sym a.many) (λ j e q. ((a.each j e q).0, (a.each j e q).1));
+        plain = may_have false es (λ j e q. (a.each j e q).2);
         few = omega (arith, b.few);
         frames = subst Q (sym a.many) b.each;
       },
@@ -135,7 +137,13 @@ same_part n room l = record {
     (r.0.cycle.some, r.0.cycle.limit),
     (
       (omega arith, r.0.many),
-      (record { many = refl; each = r.0.each }, record { few = r.1; each = r.0.frames }),
+      (
+        record {
+          many = refl;
+          each = λ k e q. ((r.0.each k e q).0, (r.0.each k e q).1, may_stand false p.entries r.0.plain k e q);
+        },
+        record { few = r.1; each = r.0.frames },
+      ),
     ),
   );
   to_rows = λ v r. ap (λ k. keyed (codes "part") v.0 ∷ keyed (codes "entries")
@@ -156,7 +164,7 @@ unique_part n room a l = unique_same (part_parts n room) (one_part n room) (same
     (unique_then part_cycles (part_behind n room) unique_part_cycle
     (λ c h. unique_then part_counts (part_rest n room c) unique_part_count
     (λ k r. unique_then (short_entries n c k) (λ es. old_trails n k room)
-    (unique_given n k (Some c) a (omega (arith, r.1))) (λ es s. unique_old_trails n k room a r.1 l))))
+    (unique_given n k (Some c) false a (omega (arith, r.1))) (λ es s. unique_old_trails n k room a r.1 l))))
     (λ p r. refl)
 
 -- one part

@@ -1,5 +1,6 @@
--- The text of a certificate: the one of version 2, which is written.
-use Rattle.std.specs.Prelude.{ℕ, suc, List, [], ◌∷◌, ◌++◌, length, map, Option, Some, None, codes}
+-- The text of a certificate: that of the least version that can hold it, which is written; and that of version 3, which
+-- is read as well.
+use Rattle.std.specs.Prelude.{ℕ, suc, cond, List, [], ◌∷◌, ◌++◌, length, map, Option, Some, None, codes}
 use Rattle.line_rules.specs.declared.types.LineKind.{LineKind}
 use Rattle.line_rules.specs.declared.types.Balance.{Balance as Assignment}
 use Rattle.line_rules.specs.declared.types.Entry.{Entry}
@@ -10,6 +11,10 @@ use Rattle.line_rules.specs.declared.types.Claim.TheVariants as claim
 use Rattle.line_rules.specs.declared.types.Certificate.{Certificate}
 use Rattle.cert_lines.specs.Rows.{Row, fixed, keyed, trail, rows_text}
 use Rattle.cert_lines.specs.ValueRows.{kind_row, ask_row, seat_row, entry_row, frame_row}
+use Rattle.cert_lines.specs.LineForms.{version_row}
+use Rattle.cert_lines.specs.declared.line_forms.Version.{Version}
+use Rattle.cert_lines.specs.declared.line_forms.Version.TheVariants as version
+pub use Rattle.entry_lists.specs.PairEntries.{has_pairs}
 
 -- the lines of a trail, or of none
 abbrev pub trail_rows : ℕ → Option Trail → List Row
@@ -40,11 +45,25 @@ claim_rows kind n (claim.Bounds lower upper b es left) = bounds_rows kind lower 
 abbrev pub head_rows : LineKind → ℕ → Ask → List Row
 head_rows kind n a = kind_row kind ∷ keyed (codes "tasks") n ∷ ask_row a ∷ []
 
--- The lines of a certificate in version 2.
-unfoldable pub cert_rows : Certificate → List Row
-cert_rows cert = fixed (codes "line balance certificate 2") ∷ (head_rows cert.kind cert.tasks cert.ask
+-- the least version of a text with one list of entries that can hold the claim: version 3 where an entry is by pairs,
+-- else version 2
+abbrev pub least_version : Claim → Version
+least_version (claim.TooLong task) = version.Two
+least_version (claim.Bounds lower upper b es left) = cond (has_pairs es) version.Three version.Two
+
+-- The lines of a certificate behind the first line of a version.
+abbrev pub rows_in : Version → Certificate → List Row
+rows_in v cert = version_row v ∷ (head_rows cert.kind cert.tasks cert.ask
     ++ claim_rows cert.kind cert.tasks cert.claim)
+
+-- The lines of a certificate: those of version 3 where an entry is by pairs, else those of version 2.
+unfoldable pub cert_rows : Certificate → List Row
+cert_rows cert = rows_in (least_version cert.claim) cert
 
 -- The text of a certificate.
 abbrev pub cert_text : Certificate → List ℕ
 cert_text cert = rows_text (cert_rows cert)
+
+-- The text of a certificate in version 3, with an entry by pairs or without.
+abbrev pub newest_text : Certificate → List ℕ
+newest_text cert = rows_text (rows_in version.Three cert)

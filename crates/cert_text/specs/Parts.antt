@@ -1,8 +1,10 @@
 -- The parts of a certificate's text as grammars.
-use Rattle.std.specs.Prelude.{◌≡◌, ℕ, ◌<◌, ◌≤◌, List, [], ◌∷◌, ◌++◌, length, map, Option, codes}
+use Rattle.std.specs.Prelude.{◌≡◌, ℕ, ◌<◌, ◌≤◌, Bool, true, false, List, [], ◌∷◌, ◌++◌, length, map, Option, Some}
+use Rattle.std.specs.Prelude.{None, codes}
 use Rattle.line_rules.specs.Ranges.{IsCycle, IsAsked, NamesCycle, IsPlacing, AreEntries, IsTrailOrNone, AreBounds}
 use Rattle.line_rules.specs.declared.types.LineKind.{LineKind}
 use Rattle.line_rules.specs.declared.types.Balance.{Balance as Assignment}
+use Rattle.line_rules.specs.declared.types.Entry.{Entry}
 use Rattle.line_rules.specs.declared.types.Trail.{Trail}
 use Rattle.line_rules.specs.declared.types.Claim.TheVariants as claim
 use Rattle.cert_lines.specs.declared.line_forms.Opening.{Opening}
@@ -14,7 +16,7 @@ use Rattle.cert_lines.specs.ValueRows.{seat_row}
 use Rattle.cert_lines.specs.LineForms.{opening_row}
 use Rattle.entry_lists.specs.OldRanges.{AreOldBounds}
 use Rattle.entry_lists.specs.declared.version_one.OldClaim.TheVariants as old
-use Rattle.cert_text.specs.Cert.{head_rows, list_rows, trail_rows}
+use Rattle.cert_text.specs.Cert.{head_rows, list_rows, trail_rows, has_pairs}
 use Rattle.cert_text.specs.OldCert.{counted_rows}
 use Rattle.cert_lines.specs.Faults.{Grammar}
 use Rattle.cert_text.specs.declared.parts.Head.{Head}
@@ -36,11 +38,16 @@ heads = record { rows = λ h. head_rows h.kind h.tasks h.ask; ranged = IsHeadOf 
 abbrev pub trails : ℕ → ℕ → Grammar (Option Trail)
 trails n count = record { rows = trail_rows n; ranged = IsTrailOrNone n count }
 
--- entries and a trail
-abbrev pub lists : ℕ → Grammar EntryList
-lists n = record {
+-- entries of a text that may have entries by pairs, or may not
+abbrev pub MayHave : Bool → List Entry → Type 0
+MayHave true es = Unit {0}
+MayHave false es = has_pairs es ≡ false
+
+-- entries and a trail, of a text with entries by pairs or without
+abbrev pub lists : ℕ → Bool → Grammar EntryList
+lists n pairs = record {
   rows = λ x. list_rows n x.entries x.trail;
-  ranged = λ x. AreEntries n x.entries × IsTrailOrNone n (length x.entries) x.trail;
+  ranged = λ x. AreEntries n x.entries × IsTrailOrNone n (length x.entries) x.trail × MayHave pairs x.entries;
 }
 
 -- a balance: its stations, and a place for each of n tasks
@@ -80,10 +87,21 @@ opening_of (any.New (claim.Bounds lower upper b es t)) = opening.Lower lower
 opening_of (any.Old (old.TooLong task)) = opening.TooLong task
 opening_of (any.Old (old.Bounds lower upper b ps)) = opening.Lower lower
 
--- a claim of a version, behind a head: a task too long, which both versions say alike, or bounds
+-- whether a text of the version may have entries by pairs; none where its entries stand in parts
+abbrev pub pairs_of : Version → Option Bool
+pairs_of version.One = None
+pairs_of version.Two = Some false
+pairs_of version.Three = Some true
+
+-- entries that a text of such a version may have as one list
+abbrev pub MayHold : Option Bool → List Entry → Type 0
+MayHold None es = ⊥
+MayHold (Some pairs) es = MayHave pairs es
+
+-- a claim of a version, behind a head: a task too long, which all versions say alike, or bounds
 abbrev pub IsClaimOf : Version → Head → AnyClaim → Type 0
 IsClaimOf v h (any.New (claim.TooLong task)) = NamesCycle h.ask × (task < h.tasks)
-IsClaimOf v h (any.New (claim.Bounds lower upper b es t)) = (v ≡ version.Two)
+IsClaimOf v h (any.New (claim.Bounds lower upper b es t)) = MayHold (pairs_of v) es
     × AreBounds h.kind h.tasks lower upper b es t
 IsClaimOf v h (any.Old (old.TooLong task)) = ⊥
 IsClaimOf v h (any.Old (old.Bounds lower upper b ps)) = (v ≡ version.One) × AreOldBounds h.kind h.tasks lower upper b ps

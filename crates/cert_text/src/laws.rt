@@ -4,7 +4,7 @@
 //! it.
 ghost use Rattle.cert_text.specs.Laws.{NoTextBeginsAnother};
 
-/// No text of a certificate, of either version, begins that of another: two certificates within their ranges whose
+/// No text of a certificate, of any version, begins that of another: two certificates within their ranges whose
 /// texts are equal are equal.
 pub fn no_text_begins_another()
     ensures { NoTextBeginsAnother }

@@ -1,5 +1,6 @@
-//! The text of a certificate: one spelling, written and read line by line.
+//! The text of a certificate: one spelling in a version, written and read line by line.
 //!
+//! A certificate has one text in each version that can hold it, and that of the least such version, 2 or 3, is written.
 //! `lifting` makes of a certificate of version 1 the one of version 2 that says the same.
 #![tactic(auto)]
 
@@ -17,7 +18,7 @@ mod writing;
 
 pub use cert_lines::{CertFault, CertKind, ReadError, Source, Taken};
 pub use kept_text::KeptText;
-pub use lines::{put_cert, put_keyed, put_kind, put_list, put_seats};
+pub use lines::{has_pairs, put_cert, put_keyed, put_kind, put_list, put_seats};
 pub use output::Output;
 pub use parts::{EntryList, read_all, read_entries, read_seating};
 pub use slice_lines::SliceLines;

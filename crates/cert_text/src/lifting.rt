@@ -59,6 +59,7 @@ fn lift_why(alloc: Global, why: &Why, count: u64, earlier: u64) -> Result<Why, A
             out_task: *out_task,
             in_task: *in_task,
         }),
+        Why::Pairs { two } => Ok(Why::Pairs { two: two.copy()? }),
     }
 }
 

@@ -5,13 +5,16 @@
 //! asked for, at most 1,024, since a set has that many places.
 ghost use Rattle.std.specs.Prelude.{◌≡◌, ◌≤◌, ◌<◌, ◌∷◌, ◌++◌, [], map};
 ghost use Rattle.cert_lines.specs.ValueRows.{kind_row, ask_row, seat_row, entry_row, frame_row};
-ghost use Rattle.cert_text.specs.Cert.{trail_rows, list_rows, bounds_rows, claim_rows, cert_text};
+ghost use Rattle.cert_lines.specs.LineForms.{version_row};
+ghost use Rattle.cert_text.specs.Cert.{trail_rows, list_rows, bounds_rows, claim_rows, cert_text, least_version};
+ghost use Rattle.entry_lists.specs.PairEntries.{is_by_pairs as by_pairs, has_pairs as some_pairs};
 ghost use Rattle.cert_text.specs.inner.Pieces.{question_text, swap_text};
 ghost use Rattle.cert_lines.specs.Rows.{keyed, line_text, rows_text};
 ghost use Rattle.cert_text.specs.Sent.{Puts};
 
 use crate::output::Output;
 use crate::writing::{put_cites, put_last, put_mode, put_number, put_set, put_text};
+use cert_lines::line_forms::Version;
 use line_rules::{
     Ask, Balance, Certificate, Claim, Entries, Entry, LineKind, OpenFrame, Seatplace, Side, Trail,
     Why,
@@ -25,6 +28,17 @@ pub fn put_keyed<O: Output>(out: &mut O, key: &[u8], n: u64)
     out.put(b' ');
     put_number(out, n);
     out.put(b'\n');
+}
+
+/// Puts the first line of a version.
+fn put_version<O: Output>(out: &mut O, version: Version)
+    ensures { Puts O.told (O.sent out.old) (line_text (version_row version)) (O.sent out.new) }
+{
+    match version {
+        Version::One => put_text(out, b"line balance certificate 1\n"),
+        Version::Two => put_text(out, b"line balance certificate 2\n"),
+        Version::Three => put_text(out, b"line balance certificate 3\n"),
+    }
 }
 
 /// Puts the line of the kind of line.
@@ -101,6 +115,13 @@ fn put_entry<O: Output>(out: &mut O, entry: &Entry, tasks: u32)
             put_text(out, b"swap");
             put_question(out, entry, tasks);
             put_swap(out, *cite, *out_task, *in_task);
+            out.put(b'\n');
+        }
+        Why::Pairs { two } => {
+            put_text(out, b"pairs");
+            put_question(out, entry, tasks);
+            out.put(b' ');
+            put_set(out, two.set(), tasks);
             out.put(b'\n');
         }
     }
@@ -210,12 +231,51 @@ fn put_claim<O: Output>(out: &mut O, kind: LineKind, tasks: u32, claim: &Claim)
     }
 }
 
-/// Puts the lines of a certificate.
+/// Whether an entry holds by pairs.
+fn is_by_pairs(why: &Why) -> bool
+    ensures { result ≡ by_pairs why.now }
+{
+    matches!(why, Why::Pairs { two: _ })
+}
+
+/// Whether some entry holds by pairs.
+pub fn has_pairs(entries: &Entries) -> bool
+    ensures { result ≡ some_pairs entries.now }
+{
+    entries
+        .as_slice()
+        .iter()
+        .any(|entry| is_by_pairs(&entry.why))
+}
+
+// The least version that can hold a claim.
+fn version_of(claim: &Claim) -> Version
+    ensures { result ≡ least_version claim.now }
+{
+    match claim {
+        Claim::TooLong { task: _ } => Version::Two,
+        Claim::Bounds {
+            lower: _,
+            upper: _,
+            balance: _,
+            entries,
+            trail: _,
+        } => {
+            if has_pairs(entries) {
+                Version::Three
+            } else {
+                Version::Two
+            }
+        }
+    }
+}
+
+/// Puts the lines of a certificate, in version 3 where an entry is by pairs, else in version 2.
 pub fn put_cert<O: Output>(out: &mut O, cert: &Certificate)
     requires { cert.now.tasks ≤ 1024 }
     ensures { Puts O.told (O.sent out.old) (cert_text cert.now) (O.sent out.new) }
 {
-    put_text(out, b"line balance certificate 2\n");
+    put_version(out, version_of(&cert.claim));
     put_kind(out, cert.kind);
     put_keyed(out, b"tasks", u64::from(cert.tasks));
     put_ask(out, cert.ask);

@@ -1,4 +1,4 @@
-//! The reading of a certificate's text, line by line, in either version.
+//! The reading of a certificate's text, line by line, in any version.
 //!
 //! Each part has a function whose contract names the grammar of that part. A fault is found at its line, and nothing is
 //! read twice. It costs one pass over the lines, and the memory of the values. The first line tells the version. What
@@ -8,7 +8,7 @@ ghost use Rattle.cert_lines.specs.Pattern.{IsRead};
 ghost use Rattle.cert_lines.specs.ReadingOn.{IsReadOn};
 ghost use Rattle.cert_lines.specs.LineForms.{IsOpening};
 ghost use Rattle.cert_lines.specs.declared.line_forms.Version.{Version as Release};
-ghost use Rattle.cert_text.specs.Parts.{IsHeadOf, IsPlacedOf, IsOpened, IsClaimOf};
+ghost use Rattle.cert_text.specs.Parts.{IsHeadOf, IsPlacedOf, IsOpened, IsClaimOf, MayHave, pairs_of as the_pairs};
 ghost use Rattle.cert_text.specs.Parts.{heads, trails, lists, seatings, placings, opened, claims};
 ghost use Rattle.cert_text.specs.Versions.{certificate_of};
 ghost use Rattle.cert_text.specs.WholeText.{IsAnyRead};
@@ -58,10 +58,10 @@ pub struct Placed {
     pub balance: Balance,
 }
 
-/// A claim of either version; that a task is too long is said alike in both.
+/// A claim of any version; that a task is too long is said alike in all.
 #[derive(Drop)]
 pub enum AnyClaim {
-    /// As version 2 says it.
+    /// As version 2 or 3 says it.
     New(Claim),
     /// Bounds of version 1.
     Old(OldClaim),
@@ -110,16 +110,18 @@ fn read_trail<S: Source>(
     }))
 }
 
-/// Reads entries and a trail.
+/// Reads entries and a trail, of a text with entries by pairs or without.
 pub fn read_entries<S: Source>(
     alloc: Global,
     source: &mut S,
     tasks: u32,
+    pairs: bool,
 ) -> Result<EntryList, ReadError>
     requires some { 1 ≤ tasks }
     requires few { tasks ≤ 1024 }
-    ensures said { IfOk result (λ x. AreEntries tasks x.entries × IsTrailOrNone tasks (length x.entries) x.trail) }
-    ensures read { S.told → IsRead (lists tasks)
+    ensures said { IfOk result (λ x. AreEntries tasks x.entries × IsTrailOrNone tasks (length x.entries) x.trail
+        × MayHave pairs x.entries) }
+    ensures read { S.told → IsRead (lists tasks pairs)
         (S.number source.old) (S.left source.old) (S.left source.new) (S.number source.new) result }
     ensures source { IsReadOn S.base S.faults S.least source.old source.new }
 {
@@ -131,6 +133,7 @@ pub fn read_entries<S: Source>(
             tasks,
             count,
             given: None,
+            pairs,
         },
         count,
     )?;
@@ -182,6 +185,17 @@ fn read_placed<S: Source>(alloc: Global, source: &mut S, head: Head) -> Result<P
     Ok(Placed { upper, balance })
 }
 
+// Whether a text of the version may have entries by pairs; None where its entries stand in parts.
+fn pairs_of(version: Version) -> Option<bool>
+    ensures { result ≡ the_pairs version }
+{
+    match version {
+        Version::One => None,
+        Version::Two => Some(false),
+        Version::Three => Some(true),
+    }
+}
+
 /// Reads the bounds behind the lower one, and the end.
 fn read_bounds<S: Source>(
     alloc: Global,
@@ -199,9 +213,9 @@ fn read_bounds<S: Source>(
 {
     let placed = read_placed(alloc, source, head)?;
     let Placed { upper, balance } = placed;
-    match version {
-        Version::Two => {
-            let list = read_entries(alloc, source, head.tasks)?;
+    match pairs_of(version) {
+        Some(pairs) => {
+            let list = read_entries(alloc, source, head.tasks, pairs)?;
             read_line(alloc, source, &EndLine)?;
             let EntryList { entries, trail } = list;
             Ok(AnyClaim::New(Claim::Bounds {
@@ -212,7 +226,7 @@ fn read_bounds<S: Source>(
                 trail,
             }))
         }
-        Version::One => {
+        None => {
             let parts = read_parts(alloc, source, head.tasks)?;
             read_line(alloc, source, &EndLine)?;
             Ok(AnyClaim::Old(OldClaim::Bounds {
@@ -299,7 +313,7 @@ fn certified(alloc: Global, head: Head, claim: AnyClaim) -> Result<Certificate, 
     }
 }
 
-/// Reads a certificate of version 2, or one of version 1, which is lifted.
+/// Reads a certificate of version 2 or 3, or one of version 1, which is lifted.
 pub fn read_all<S: Source>(alloc: Global, source: &mut S) -> Result<Certificate, ReadError>
     ensures said { IfOk result IsInRange }
     ensures read { S.told → IsAnyRead

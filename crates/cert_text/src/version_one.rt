@@ -71,6 +71,7 @@ fn read_part<S: Source>(
             tasks,
             count,
             given: Some(cycle),
+            pairs: false,
         },
         count,
     )?;

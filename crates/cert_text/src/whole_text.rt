@@ -5,7 +5,8 @@
 //! goes on.
 ghost use Rattle.std.specs.Prelude.{◌≡◌, ◌≢◌, ◌≤◌, ◌++◌, length, drop, ℕ, List, Option};
 ghost use Rattle.cert_text.specs.WholeText.{IsCertRead, IsEnded, IsListRead, IsListed};
-ghost use Rattle.cert_text.specs.Cert.{cert_text, list_rows};
+ghost use Rattle.cert_text.specs.Cert.{cert_text, newest_text, list_rows};
+ghost use Rattle.cert_text.specs.Parts.{MayHave};
 ghost use Rattle.cert_text.specs.OldCert.{old_text};
 ghost use Rattle.line_rules.specs.declared.types.Entry.{Entry};
 ghost use Rattle.line_rules.specs.declared.types.Trail.{Trail};
@@ -33,12 +34,14 @@ pub enum CertRead {
     NoMemory,
 }
 
-/// Reads a certificate's text of version 2, or one of version 1, whose lift is the answer.
+/// Reads a certificate's text of version 2 or 3, or one of version 1, whose lift is the answer.
 pub fn read_cert(alloc: Global, bytes: &[u8]) -> CertRead
     ensures read { IsCertRead bytes.now result }
     ensures within { (cert : Certificate) → result ≡ CertRead.Good cert → IsInRange cert }
     ensures none { (fault : CertFault) → result ≡ CertRead.Fault fault → (cert : Certificate) → IsInRange cert
         → bytes.now ≢ cert_text cert }
+    ensures none_newest { (fault : CertFault) → result ≡ CertRead.Fault fault → (cert : Certificate) → IsInRange cert
+        → bytes.now ≢ newest_text cert }
     ensures none_old { (fault : CertFault) → result ≡ CertRead.Fault fault → (old : OldCertificate) → IsOldInRange old
         → bytes.now ≢ old_text old }
 {
@@ -88,19 +91,27 @@ pub enum ListRead {
 }
 
 /// Reads entries and a trail over so many tasks, from the line of the number of entries to the last frame. They begin
-/// at the place `from` of the bytes, where the line of number `line` begins.
-pub fn read_list(alloc: Global, bytes: &[u8], from: usize, line: u64, tasks: u32) -> ListRead
+/// at the place `from` of the bytes, where the line of number `line` begins. An entry by pairs is read where `pairs`
+/// says so; else its line hasn't the form.
+pub fn read_list(
+    alloc: Global,
+    bytes: &[u8],
+    from: usize,
+    line: u64,
+    tasks: u32,
+    pairs: bool,
+) -> ListRead
     requires within { from ≤ length bytes.now }
     requires first { 1 ≤ line }
     requires some { 1 ≤ tasks }
     requires few { tasks ≤ 1024 }
-    ensures read { IsListRead bytes.now from line tasks result }
+    ensures read { IsListRead bytes.now from line tasks pairs result }
     ensures none { (fault : CertFault) → result ≡ ListRead.Fault fault
         → (es : List Entry) (t : Option Trail) (rest : List ℕ) → AreEntries tasks es → IsTrailOrNone tasks (length es) t
-        → drop from bytes.now ≢ rows_text (list_rows tasks es t) ++ rest }
+        → MayHave pairs es → drop from bytes.now ≢ rows_text (list_rows tasks es t) ++ rest }
 {
     let mut lines = SliceLines::behind(&bytes[from..], line - 1);
-    match read_entries(alloc, &mut lines, tasks) {
+    match read_entries(alloc, &mut lines, tasks, pairs) {
         Err(ReadError::Stopped) => ListRead::NoMemory,
         Err(ReadError::Fault(fault)) => ListRead::Fault(fault),
         Ok(list) => listed(bytes, &lines, list),

@@ -1,4 +1,5 @@
 pub mod WideWords
 pub mod LineFacts
+pub mod VersionLines
 pub mod ListFacts
 pub mod PartFacts

@@ -3,8 +3,8 @@ use Rattle.std.proofs.Common.{◌≡◌, ◌≢◌, ℕ, ◌<◌, ◌≡◌, tru
 use Rattle.std.proofs.Common.{Some, None, lit≤}
 use Rattle.std.specs.Prelude.{codes}
 use Rattle.std.proofs.lemmas.Option.{same_Some, none-some}
-use Rattle.cert_lines.specs.Rows.{Row, fixed, keyed, span, seat, bound, branch, swap, trail, frame, state_entry}
-use Rattle.cert_lines.specs.Rows.{state_frame, row_entry, joined, two_numbers}
+use Rattle.cert_lines.specs.Rows.{Row, fixed, keyed, span, seat, bound, branch, swap, pairs, trail, frame}
+use Rattle.cert_lines.specs.Rows.{state_entry, state_frame, row_entry, joined, two_numbers}
 use Rattle.cert_lines.specs.Rows.{form_of, row_text}
 use Rattle.cert_lines.specs.Pattern.{HasFormOf}
 use Rattle.cert_lines.proofs.NumberWords.{lacks}
@@ -28,6 +28,7 @@ span_only (seat kind station side) key e = (cc)
 span_only (bound n c s m) key e = (cc)
 span_only (branch n c mode s m cites) key e = (cc)
 span_only (swap n c s m cite out into) key e = (cc)
+span_only (pairs n c s m two) key e = (cc)
 span_only (trail t) key e = (cc)
 span_only (frame n mode s m last cites) key e = (cc)
 span_only (state_entry rem starts least cites) key e = (cc)

@@ -1,5 +1,5 @@
 -- The lines of a balance, and those of entries and a trail, say one value at most.
-use Rattle.std.proofs.Common.{ℕ, ◌≤◌, ◌∷◌, map, refl}
+use Rattle.std.proofs.Common.{ℕ, ◌≤◌, Bool, ◌∷◌, map, refl}
 use Rattle.std.specs.Prelude.{codes}
 use Rattle.line_rules.specs.declared.types.LineKind.{LineKind}
 use Rattle.line_rules.specs.declared.types.Balance.{Balance as Assignment}
@@ -26,13 +26,13 @@ seats_ready kind n some few = record {
   tells = record { unique = unique_seatings kind n; some = some_seating kind n; plain = seats_plain kind };
 }
 
-abbrev pub lists_ready : (n : ℕ) → 1 ≤ n → n ≤ 1024 → Ready (lists n)
-lists_ready n some few = record {
+abbrev pub lists_ready : (n : ℕ) (p : Bool) → 1 ≤ n → n ≤ 1024 → Ready (lists n p)
+lists_ready n p some few = record {
   can = (1 ≤ n) × (n ≤ 1024);
   is = (some, few);
   tells = record {
-    unique = unique_lists n few;
-    some = some_list n;
+    unique = unique_lists n p few;
+    some = some_list n p;
     plain = λ l. list_lacks n l.entries l.trail;
   };
 }

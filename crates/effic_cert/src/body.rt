@@ -40,19 +40,21 @@ const UPPER: OneLine<BoundLine> = OneLine {
     },
 };
 
-/// What stands behind the first line.
+/// What stands behind the first line, of a text with entries by pairs or without.
 #[derive(Clone, Copy)]
-pub(crate) struct ProductBody;
+pub(crate) struct ProductBody {
+    /// Whether entries by pairs may stand there.
+    pub pairs: bool,
+}
 
 impl Part for ProductBody {
-    ghost use Rattle.line_rules.specs.Products.{IsSayable};
-    ghost use Rattle.effic_cert.specs.Product.{body_rows};
+    ghost use Rattle.effic_cert.specs.inner.Parts.{bodies};
 
     type Value = EfficCert;
 
-    ghost rows = { λ p cert. body_rows cert };
+    ghost rows = { λ p. (bodies p.pairs).rows };
 
-    ghost may_say = { λ p cert. IsSayable cert };
+    ghost may_say = { λ p. (bodies p.pairs).ranged };
 
     ghost can_read = { λ p. Unit {0} };
 
@@ -64,7 +66,11 @@ impl Part for ProductBody {
         let ((kind, (tasks, (least_m, most_m))), (cycle, (lower, upper))) = head;
         let tasks = tasks as u32;
         let end = OneLine { line: EndLine };
-        let behind = (SeatLines { kind, tasks }, (EntryLines { tasks }, end));
+        let pairs = self.pairs;
+        let behind = (
+            SeatLines { kind, tasks },
+            (EntryLines { tasks, pairs }, end),
+        );
         let shown = behind.read(alloc, source)?;
         let (balance, (list, _)) = shown;
         let EntryList { entries, trail } = list;

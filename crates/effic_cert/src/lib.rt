@@ -1,8 +1,8 @@
 //! Certificates of the least product of stations and cycle (Scholl's SALBP-E), and their text.
 //!
 //! The text is that of a certificate, line by line, with the range of stations that is asked for in place of a
-//! question, and with bounds on a product. It has one spelling. Writing takes one pass over the entries, and reading
-//! one over the bytes.
+//! question, and with bounds on a product. A certificate has one text in each version that can hold it, and that of the
+//! least such version is written. Writing takes one pass over the entries, and reading one over the bytes.
 #![tactic(auto)]
 
 mod body;
@@ -11,9 +11,11 @@ mod lines;
 mod listed;
 #[cfg(test)]
 mod tests;
+mod version;
 mod whole_text;
 mod words;
 mod writing;
 
+pub use version::{Version, VersionedCert};
 pub use whole_text::{EfficRead, EfficText, read_effic};
 pub use writing::write_effic;

@@ -31,11 +31,13 @@ impl Part for SeatLines {
     }
 }
 
-/// The lines of entries and a trail.
+/// The lines of entries and a trail, of a text with entries by pairs or without.
 #[derive(Clone, Copy)]
 pub(crate) struct EntryLines {
     /// The number of tasks.
     pub tasks: u32,
+    /// Whether entries by pairs may stand there.
+    pub pairs: bool,
 }
 
 impl Part for EntryLines {
@@ -44,13 +46,13 @@ impl Part for EntryLines {
 
     type Value = EntryList;
 
-    ghost rows = { λ p. (lists p.tasks).rows };
+    ghost rows = { λ p. (lists p.tasks p.pairs).rows };
 
-    ghost may_say = { λ p. (lists p.tasks).ranged };
+    ghost may_say = { λ p. (lists p.tasks p.pairs).ranged };
 
     ghost can_read = { λ p. (1 ≤ p.tasks) × (p.tasks ≤ 1024) };
 
     fn read<S: Source>(&self, alloc: Global, source: &mut S) -> Result<EntryList, ReadError> {
-        read_entries(alloc, source, self.tasks)
+        read_entries(alloc, source, self.tasks, self.pairs)
     }
 }

@@ -27,6 +27,28 @@ trail 0
 end
 ";
 
+// Of four tasks, which take 13, 8, 8 and 8.
+const FOUR: &str = "line balance product 2
+line straight
+tasks 4
+stations 2 3
+cycle 21
+lower 42
+upper 42
+balance 2
+1
+1
+2
+2
+entries 4
+bound 18 f 2
+bound 12 f 3
+pairs 20 f 2 8
+bound 13 f 3
+trail 0
+end
+";
+
 // The text, with a line in the place of the one of this number, counted from 1.
 fn with_line(alloc: Global, number: usize, line: &str) -> Result<String, AllocError> {
     let mut text = String::new(alloc);
@@ -40,7 +62,7 @@ fn with_line(alloc: Global, number: usize, line: &str) -> Result<String, AllocEr
 // Whether a text is read, and written as it was.
 fn is_kept(alloc: Global, text: &str) -> Result<bool, AllocError> {
     match read_effic(alloc, text.as_bytes()) {
-        EfficRead::Good(cert) => Ok(write_effic(alloc, &cert)?.as_slice() == text.as_bytes()),
+        EfficRead::Good(said) => Ok(write_effic(alloc, &said.cert)?.as_slice() == text.as_bytes()),
         _ => Ok(false),
     }
 }
@@ -59,6 +81,25 @@ fn the_certificate_of_the_least_product_of_five_tasks(rt: HostRuntime) -> Result
     let greatest = with_line(alloc, 7, "upper 1000000000000000000000000")?;
     let turned = with_line(alloc, 4, "stations 4 2")?;
     assert!(&rt; is_kept(alloc, P5)? & is_kept(alloc, &greatest)? & is_kept(alloc, &turned)?);
+    Ok(())
+}
+
+#[test]
+fn the_least_version_that_can_hold_a_certificate_is_written(rt: HostRuntime) -> Result<(), Fail> {
+    let alloc = rt.alloc();
+    let newer = with_line(alloc, 1, "line balance product 2")?;
+    let least = match read_effic(alloc, newer.as_bytes()) {
+        EfficRead::Good(said) => { write_effic(alloc, &said.cert)?.as_slice() == P5.as_bytes() }
+        _ => false,
+    };
+    let pairs = with_line(alloc, 17, "pairs 7 f8 2 80")?;
+    let later = with_line(alloc, 1, "line balance product 3")?;
+    assert!(&rt;
+        is_kept(alloc, FOUR)?
+            & least
+            & has_fault(alloc, &pairs, 17, CertKind::Form)
+            & has_fault(alloc, &later, 1, CertKind::Form)
+    );
     Ok(())
 }
 

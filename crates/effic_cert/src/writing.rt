@@ -2,10 +2,12 @@
 ghost use Rattle.std.specs.Prelude.{◌≡◌, ◌≤◌, IfOk, codes};
 ghost use Rattle.cert_lines.specs.Numbers.{number_text};
 ghost use Rattle.cert_lines.specs.Rows.{keyed, span, line_text, rows_text};
+ghost use Rattle.effic_cert.specs.inner.Parts.{version_row};
 ghost use Rattle.cert_text.specs.Sent.{Puts};
 ghost use Rattle.line_rules.specs.Products.{IsSayable};
 ghost use Rattle.effic_cert.specs.Product.{asked_rows, bound_rows, balance_rows, product_text};
 
+use crate::version::{Version, version_of};
 use cert_text::{KeptText, Output, put_keyed, put_kind, put_list, put_number, put_seats, put_text};
 use line_rules::EfficCert;
 use std::alloc::{AllocError, Global};
@@ -43,6 +45,14 @@ fn put_ends<O: Output>(out: &mut O, least: u32, most: u32)
     out.put(b'\n');
 }
 
+// Puts the first line of a version.
+fn put_first<O: Output>(out: &mut O, version: Version)
+    ensures { Puts O.told (O.sent out.old) (line_text (version_row version)) (O.sent out.new) }
+{
+    put_text(out, version.text());
+    out.put(b'\n');
+}
+
 // Puts the lines up to the numbers of stations that are asked for.
 fn put_asked<O: Output>(out: &mut O, cert: &EfficCert)
     ensures { Puts O.told (O.sent out.old) (rows_text (asked_rows cert.now)) (O.sent out.new) }
@@ -69,12 +79,12 @@ fn put_balance<O: Output>(out: &mut O, cert: &EfficCert)
     put_seats(out, cert.kind, cert.balance.place.as_slice());
 }
 
-// Puts the lines of a certificate.
+// Puts the lines of a certificate, in version 2 where an entry is by pairs, else in version 1.
 fn put_product<O: Output>(out: &mut O, cert: &EfficCert)
     requires { cert.now.tasks ≤ 1024 }
     ensures { Puts O.told (O.sent out.old) (product_text cert.now) (O.sent out.new) }
 {
-    put_text(out, b"line balance product 1\n");
+    put_first(out, version_of(&cert.entries));
     put_asked(out, cert);
     put_bounds(out, cert);
     put_balance(out, cert);

@@ -8,7 +8,7 @@ use Rattle.line_instance.specs.declared.arcs.Prec.{Prec}
 use Rattle.line_rules.specs.Ranges.{IsInRange}
 use Rattle.line_rules.specs.declared.types.Certificate.{Certificate}
 use Rattle.in2_reader.specs.ApartFile.{IsApartFile}
-use Rattle.cert_text.specs.Cert.{cert_text}
+use Rattle.cert_text.specs.Cert.{cert_text, newest_text}
 use Rattle.cert_text.specs.OldCert.{OldCertificate, IsOldInRange, old_text}
 use Rattle.cert_lines.specs.declared.fault.CertFault.{CertFault}
 use Rattle.cert_files.specs.From.{IsCertFrom}
@@ -45,12 +45,17 @@ parted_by limit files apart a whole line n pairs e s k t b o parted =
 pub faulty_certificate : (file : Option (List ℕ)) (limit : ℕ) (fault : CertFault) (text : List ℕ)
     → IsCertFrom file limit (Fault fault)
     → ((cert : Certificate) → IsInRange cert → file ≢ Some (cert_text cert))
+    → ((cert : Certificate) → IsInRange cert → file ≢ Some (newest_text cert))
     → ((old : OldCertificate) → IsOldInRange old → file ≢ Some (old_text old))
     → text ≡ cert_fault_line fault → Reads limit file (λ bytes. IsFaultyCertificate bytes (told ends.Refused text))
-faulty_certificate file limit fault text r none none_old shown =
+faulty_certificate file limit fault text r none none_newest none_old shown =
     reads limit file r.bytes (λ bytes. IsFaultyCertificate bytes (told ends.Refused text)) r.there r.within
     (record { fault = fault; first = r.read; unread = unread; shown = ap (told ends.Refused) shown })
   where
+    unwritten : (cert : Certificate) → IsInRange cert → (r.bytes ≡ cert_text cert) ⊎ (r.bytes ≡ newest_text cert) → ⊥
+    unwritten cert h (inl e) = none cert h (r.there ∙ ap Some e)
+    unwritten cert h (inr e) = none_newest cert h (r.there ∙ ap Some e)
+
     unread : (cert : Certificate) → IsTextOf cert r.bytes → ⊥
-    unread cert (inl s) = none cert s.0 (r.there ∙ ap Some s.1)
+    unread cert (inl s) = unwritten cert s.0 s.1
     unread cert (inr s) = none_old s.0 s.1 (r.there ∙ ap Some s.2)

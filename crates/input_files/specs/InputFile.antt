@@ -9,7 +9,7 @@ abbrev pub max_file : ℕ
 max_file = 16777216
 
 abbrev pub max_certificate : ℕ
-max_certificate = 2147483648
+max_certificate = 4294967296
 
 -- the file is there, and its bytes pass
 abbrev pub Has : Option (List ℕ) → (List ℕ → Type 0) → Type 0

@@ -12,9 +12,9 @@ use line_io::Shelf;
 use line_rules::Certificate;
 use std::alloc::{AllocError, Global};
 
-/// The most bytes of a certificate's file: 2 GiB. By reckoning, no certificate that the program writes takes more than
-/// 1.9 GB.
-pub const MAX_CERTIFICATE: u64 = 2_147_483_648;
+/// The most bytes of a certificate's file: 4 GiB. By reckoning, no certificate that the program writes takes more than
+/// 3.4 GB.
+pub const MAX_CERTIFICATE: u64 = 4_294_967_296;
 
 /// What is wrong with a line of a certificate.
 fn kind_text(kind: CertKind) -> &'static str

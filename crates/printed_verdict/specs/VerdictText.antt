@@ -41,6 +41,7 @@ abbrev pub mode_of : Why → Mode
 mode_of why.Bound = Fore
 mode_of (why.Branch mode cites) = mode
 mode_of (why.Swap cite out into) = Fore
+mode_of (why.Pairs two) = Fore
 
 abbrev pub entry_mode : Option Entry → Mode
 entry_mode None = Fore
@@ -72,6 +73,7 @@ entry_fault_text n mode (entries.Cite cite) = codes " cite " ++ decimal cite
 entry_fault_text n mode (entries.Uncovered load) = codes " uncovered " ++ load_text n mode load
 entry_fault_text n mode entries.Spare = codes " spare"
 entry_fault_text n mode entries.Swap = codes " swap"
+entry_fault_text n mode entries.Pairs = codes " pairs"
 
 -- why a frame is refused
 abbrev pub frame_fault_text : ℕ → Mode → FrameFault → List ℕ

@@ -100,6 +100,7 @@ pub fn push_entry_fault(
         EntryFault::Uncovered(load) => push_uncovered(alloc, text, tasks, mode, load),
         EntryFault::Spare => text.push_str(" spare"),
         EntryFault::Swap => text.push_str(" swap"),
+        EntryFault::Pairs => text.push_str(" pairs"),
     }
 }
 
@@ -134,7 +135,7 @@ pub fn entry_mode(entries: &Entries, entry: u64) -> Mode
     };
     match &entry.why {
         Why::Branch { mode, .. } => *mode,
-        Why::Bound | Why::Swap { .. } => Mode::Fore,
+        Why::Bound | Why::Swap { .. } | Why::Pairs { .. } => Mode::Fore,
     }
 }
 

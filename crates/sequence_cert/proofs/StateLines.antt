@@ -8,9 +8,9 @@ use Rattle.std.proofs.lemmas.Option.{same_Some, none-some, slice_get-get_or, get
 use Rattle.line_rules.specs.Ranges.{IsPlaced}
 use Rattle.line_rules.specs.declared.types.LineKind.TheVariants.{Straight}
 use Rattle.line_rules.specs.declared.types.Side.TheVariants.{Front}
-use Rattle.cert_lines.specs.Rows.{Row, fixed, keyed, span, seat, bound, branch, swap, trail, frame, state_entry}
-use Rattle.cert_lines.specs.Rows.{state_frame, row_entry, joined, entry_of_state, frame_of_state, entry_of_rows}
-use Rattle.cert_lines.specs.Rows.{many_numbers, form_of, row_text}
+use Rattle.cert_lines.specs.Rows.{Row, fixed, keyed, span, seat, bound, branch, swap, pairs, trail, frame}
+use Rattle.cert_lines.specs.Rows.{state_entry, state_frame, row_entry, joined, entry_of_state, frame_of_state}
+use Rattle.cert_lines.specs.Rows.{entry_of_rows, many_numbers, form_of, row_text}
 use Rattle.cert_lines.specs.Words.{◌>>=◌, greatest, number_in}
 use Rattle.cert_lines.specs.inner.LineReading.{seat_in}
 use Rattle.cert_lines.specs.Pattern.{HasFormOf, IsJudged}
@@ -141,6 +141,7 @@ joined_only (seat kind station side) key m e = (cc)
 joined_only (bound k c s x) key m e = (cc)
 joined_only (branch k c mode s x cites) key m e = (cc)
 joined_only (swap k c s x cite out into) key m e = (cc)
+joined_only (pairs k c s x two) key m e = (cc)
 joined_only (trail t) key m e = (cc)
 joined_only (frame k mode s x last cites) key m e = (cc)
 joined_only (state_entry rem starts least cites) key m e = (cc)
@@ -231,6 +232,7 @@ state_only (seat kind station side) m n e = (cc)
 state_only (bound k c s x) m n e = (cc)
 state_only (branch k c mode s x cites) m n e = (cc)
 state_only (swap k c s x cite out into) m n e = (cc)
+state_only (pairs k c s x two) m n e = (cc)
 state_only (trail t) m n e = (cc)
 state_only (frame k mode s x last cites) m n e = (cc)
 state_only (state_frame rem starts need last cites) m n e = (cc)
@@ -261,6 +263,7 @@ rows_only (seat kind station side) m n e = (cc)
 rows_only (bound k c s x) m n e = (cc)
 rows_only (branch k c mode s x cites) m n e = (cc)
 rows_only (swap k c s x cite out into) m n e = (cc)
+rows_only (pairs k c s x two) m n e = (cc)
 rows_only (trail t) m n e = (cc)
 rows_only (frame k mode s x last cites) m n e = (cc)
 rows_only (state_entry rem starts least cites) m n e = (cc)
@@ -517,6 +520,7 @@ frame_only (seat kind station side) m n e = (cc)
 frame_only (bound k c s x) m n e = (cc)
 frame_only (branch k c mode s x cites) m n e = (cc)
 frame_only (swap k c s x cite out into) m n e = (cc)
+frame_only (pairs k c s x two) m n e = (cc)
 frame_only (trail t) m n e = (cc)
 frame_only (frame k mode s x last cites) m n e = (cc)
 frame_only (state_entry rem starts least cites) m n e = (cc)

@@ -1,67 +1,20 @@
 -- A text is the text of its lines alone, and so no text with a fault is that of a value.
 use Rattle.std.proofs.Common.{◌≡◌, ℕ, suc, List, [], ◌++◌, length, refl, sym, ◌∙◌, ap, subst, arith, Ok, Err}
-use Rattle.std.proofs.Common.{◌+◌, inl, inr, true, false}
-use Rattle.std.specs.Prelude.{bytes_eq}
+use Rattle.std.proofs.Common.{◌+◌, inl, inr}
 use Rattle.std.proofs.lemmas.List.{append-nil}
-use Rattle.cert_lines.specs.Rows.{Row, fixed}
+use Rattle.cert_lines.specs.Rows.{Row}
 use Rattle.cert_lines.specs.Faults.{Grammar, IsFault}
-use Rattle.cert_lines.specs.Pattern.{one, then_, HasFormOf, IsRead}
+use Rattle.cert_lines.specs.Pattern.{one, then_, IsRead}
 use Rattle.cert_lines.specs.declared.fault.CertFault.{CertFault}
 use Rattle.cert_lines.specs.declared.fault.ReadError.{ReadError}
 use Rattle.cert_lines.specs.declared.fault.ReadError.TheVariants as errors
-use Rattle.cert_lines.proofs.NumberWords.{lacks}
-use Rattle.cert_lines.proofs.JudgedLine.{fixed_not}
 use Rattle.cert_text.proofs.PartSequences.{Unique, unique_one, unique_then, texts, Same}
 use Rattle.cert_text.proofs.CertificateParts.{unique_same}
-use Rattle.cert_text.proofs.LineTexts.{AllLack, row_lacks, lack_both, fault_has_none, begins_one}
-use Rattle.text_grammar.specs.Texts.{titled, Tells, TellsLine, text_of, Says, IsTextFault, IsTextRead, IsEnded}
+use Rattle.cert_text.proofs.LineTexts.{AllLack, lack_both, fault_has_none, begins_one}
+use Rattle.text_grammar.specs.Texts.{Tells, TellsLine, text_of, Says, IsTextFault, IsTextRead, IsEnded}
 use Rattle.text_grammar.specs.Texts.{NoneBegins}
 use Rattle.text_grammar.specs.declared.text.TextRead.{TextRead}
 use Rattle.text_grammar.specs.declared.text.TextRead.TheVariants.{Good, Fault, NoMemory}
-
--- the first line
-abbrev pub titles : List ℕ → Grammar (Unit {0})
-titles title = one (λ u. fixed title) (λ u. Unit {0})
-
-pub title_not : (title line u : List ℕ) → false ≡ bytes_eq line u → u ≡ title
-    → HasFormOf {V = Unit {0}} (λ v. fixed title) (λ v. Unit {0}) line → ⊥
-title_not title line u e s f = fixed_not line title u f.2 e s f.3 f.4
-
-pub unique_titles : (title : List ℕ) → Unique (titles title)
-unique_titles title = unique_one (λ u. fixed title) (λ u. Unit {0}) (λ v w a b e. refl)
-
--- a first line, and what stands behind it
-abbrev pub titled_parts : {V : Type 0} → List ℕ → Grammar V → Grammar (Unit {0} × V)
-titled_parts title g = then_ (titles title) (λ u. g)
-
-unfoldable pub same_titled : {V : Type 0} (title : List ℕ) (g : Grammar V)
-    → Same (titled_parts title g) (titled title g)
-same_titled title g = record {
-  to = λ v. v.1;
-  from = λ v. (tt, v);
-  to_ranged = λ v r. r.1;
-  from_ranged = λ v r. (tt, r);
-  to_rows = λ v r. refl;
-  from_rows = λ v r. refl;
-}
-
--- a text behind a first line is told by its lines
-pub titled_unique : {V : Type 0} (title : List ℕ) (g : Grammar V) → Unique g → Unique (titled title g)
-unfolding same_titled
-titled_unique title g u = unique_same (titled_parts title g) (titled title g) (same_titled title g)
-    (unique_then (titles title) (λ u. g) (unique_titles title) (λ t r. u)) (λ v r. refl)
-
-pub titled_plain : {V : Type 0} (title : List ℕ) (g : Grammar V) → lacks 10 title ≡ true
-    → ((v : V) → AllLack (texts (g.rows v))) → (v : V) → AllLack (texts ((titled title g).rows v))
-titled_plain title g l p v = (row_lacks (fixed title) l, p v)
-
-pub titled_tells : {V : Type 0} (title : List ℕ) (g : Grammar V) → lacks 10 title ≡ true → Tells g
-    → Tells (titled title g)
-titled_tells title g l t = record {
-  unique = titled_unique title g t.unique;
-  some = t.some;
-  plain = titled_plain title g l t.plain;
-}
 
 -- one line for each value
 pub one_tells : {V : Type 0} (row : V → Row) (ranged : V → Type 0) → TellsLine row ranged → Tells (one row ranged)

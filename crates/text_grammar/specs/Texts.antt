@@ -1,6 +1,6 @@
--- Texts of values behind a first line, and what reading one answers.
-use Rattle.std.specs.Prelude.{◌≡◌, ◌⊎◌, ℕ, suc, ◌<◌, true, List, [], ◌∷◌, ◌++◌, length}
-use Rattle.cert_lines.specs.Rows.{Row, fixed, row_text, rows_text}
+-- Texts of values, and what reading one answers.
+use Rattle.std.specs.Prelude.{◌≡◌, ◌⊎◌, ℕ, suc, ◌<◌, true, List, [], ◌++◌, length}
+use Rattle.cert_lines.specs.Rows.{Row, row_text, rows_text}
 use Rattle.cert_lines.specs.Faults.{Grammar, IsFault}
 use Rattle.cert_lines.specs.declared.fault.CertFault.{CertFault}
 use Rattle.cert_lines.specs.declared.fault.CertKind.TheVariants.{Trailing}
@@ -11,10 +11,6 @@ use Rattle.text_grammar.specs.declared.text.TextRead.TheVariants.{Good, Fault, N
 -- the lines of each value, and which values may be said
 abbrev pub spelled : {V : Type 0} → (V → List Row) → (V → Type 0) → Grammar V
 spelled rows ranged = record { rows = rows; ranged = ranged }
-
--- lines behind a first line
-abbrev pub titled : {V : Type 0} → List ℕ → Grammar V → Grammar V
-titled title g = record { rows = λ v. fixed title ∷ g.rows v; ranged = g.ranged }
 
 -- What texts need to be told apart: lines begin with those of one value at most, some value may be said, and no line
 -- has an LF in it.

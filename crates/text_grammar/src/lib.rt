@@ -1,14 +1,13 @@
-//! Texts that begin with a fixed line and go on with the lines of a value.
+//! Texts that are the lines of a value.
 //!
 //! A part of a text says a value in lines of which one value at most has each. What is read of a part is exact: its
-//! value, or the first line that no value passes. A text in memory is such a part behind its first line, with nothing
-//! behind it. Reading takes one pass over the bytes.
+//! value, or the first line that no value passes. A text in memory is such a part with nothing behind it. Reading takes
+//! one pass over the bytes.
 #![tactic(auto)]
 
 mod part;
 mod sequence;
 mod text;
-mod title;
 
 pub use part::Part;
 pub use sequence::OneLine;

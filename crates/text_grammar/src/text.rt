@@ -1,12 +1,10 @@
 //! The reading of a text from memory.
-ghost use Rattle.std.specs.Prelude.{◌≡◌, ◌≢◌, true, List};
+ghost use Rattle.std.specs.Prelude.{◌≡◌, ◌≢◌, List};
 ghost use Rattle.cert_lines.specs.declared.fault.CertFault.{CertFault as Fault};
 ghost use Rattle.cert_lines.specs.Rows.{Row};
-ghost use Rattle.cert_lines.specs.Telling.{lacks};
-ghost use Rattle.text_grammar.specs.Texts.{spelled, titled, Tells, text_of, IsTextRead, IsEnded};
+ghost use Rattle.text_grammar.specs.Texts.{spelled, Tells, text_of, IsTextRead, IsEnded};
 
 use crate::part::Part;
-use crate::title::read_titled;
 use cert_lines::{CertFault, CertKind, ReadError, Source, Taken};
 use cert_text::SliceLines;
 use std::alloc::Global;
@@ -40,18 +38,17 @@ pub trait Text {
             → bytes.now ≢ text_of (spelled rows may_say) v };
 }
 
-/// Reads a text: a first line, and a part behind it. A fault comes exactly at the first line that no such text passes,
-/// or at a byte behind the last line.
-pub fn read_text<P: Part>(alloc: Global, title: &[u8], part: &P, bytes: &[u8]) -> TextRead<P::Value>
+/// Reads a text: the lines of a part. A fault comes exactly at the first line that no such text passes, or at a byte
+/// behind the last line.
+pub fn read_text<P: Part>(alloc: Global, part: &P, bytes: &[u8]) -> TextRead<P::Value>
     requires can { P.can_read part.now }
     requires tells { Tells (spelled (P.rows part.now) (P.may_say part.now)) }
-    requires line { lacks 10 title.now ≡ true }
-    ensures read { IsTextRead (titled title.now (spelled (P.rows part.now) (P.may_say part.now))) bytes.now result }
+    ensures read { IsTextRead (spelled (P.rows part.now) (P.may_say part.now)) bytes.now result }
     ensures none { (fault : Fault) → result ≡ TextRead.Fault fault → (v : P.Value) → P.may_say part.now v
-        → bytes.now ≢ text_of (titled title.now (spelled (P.rows part.now) (P.may_say part.now))) v }
+        → bytes.now ≢ text_of (spelled (P.rows part.now) (P.may_say part.now)) v }
 {
     let mut lines = SliceLines::new(bytes);
-    match read_titled(alloc, &mut lines, title, part) {
+    match part.read(alloc, &mut lines) {
         Err(ReadError::Stopped) => TextRead::NoMemory,
         Err(ReadError::Fault(fault)) => TextRead::Fault(fault),
         Ok(value) => ended(&mut lines, value),

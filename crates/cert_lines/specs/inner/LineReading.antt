@@ -1,5 +1,5 @@
 -- How lines are read.
-use Rattle.std.specs.Prelude.{ℕ, Bool, false, cond, nat_eq, List, [], ◌∷◌, Option, Some, None, bytes_eq, codes}
+use Rattle.std.specs.Prelude.{ℕ, Bool, false, cond, ◌&&◌, nat_eq, List, [], ◌∷◌, Option, Some, None, bytes_eq, codes}
 use Rattle.std.specs.Prelude.{replicate}
 use Rattle.line_rules.specs.declared.types.LineKind.{LineKind}
 use Rattle.line_rules.specs.declared.types.LineKind.TheVariants.{Straight, U}
@@ -75,13 +75,23 @@ swap_in n given bytes = do
   into ← number_in out.1
   Some (record { cycle = c.0; set = s; most = m.0; why = why.Swap cite.0 out.0 into })
 
--- the line of an entry over n tasks, whose cycle may be given
-unfoldable pub entry_in : ℕ → Option ℕ → List ℕ → Option Draft
-entry_in n given line = do
+unfoldable pub pairs_in : ℕ → Option ℕ → List ℕ → Option Draft
+pairs_in n given bytes = do
+  c ← cycle_first given bytes
+  p ← parts_at 32 c.1
+  s ← set_in n p.0
+  m ← number_first p.1
+  two ← set_in n m.1
+  Some (record { cycle = c.0; set = s; most = m.0; why = why.Pairs two })
+
+-- the line of an entry over n tasks, whose cycle may be given, of a text with entries by pairs or without
+unfoldable pub entry_in : ℕ → Option ℕ → Bool → List ℕ → Option Draft
+entry_in n given pairs line = do
   k ← parts_at 32 line
   cond (bytes_eq k.0 (codes "bound")) (bound_in n given k.1)
       (cond (bytes_eq k.0 (codes "branch")) (branch_in n given k.1)
-      (cond (bytes_eq k.0 (codes "swap")) (swap_in n given k.1) None))
+      (cond (bytes_eq k.0 (codes "swap")) (swap_in n given k.1)
+      (cond (pairs && bytes_eq k.0 (codes "pairs")) (pairs_in n given k.1) None)))
 
 -- the load of a mode that a word is
 unfoldable pub load_in : ℕ → Mode → List ℕ → Option Load

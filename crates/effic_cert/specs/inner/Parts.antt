@@ -1,9 +1,11 @@
 -- The parts of the text of a certificate of a product, as grammars.
-use Rattle.std.specs.Prelude.{ℕ, List, codes}
+use Rattle.std.specs.Prelude.{ℕ, Bool, List, codes}
 use Rattle.cert_lines.specs.Faults.{Grammar}
-use Rattle.cert_lines.specs.Rows.{Row, span}
+use Rattle.cert_lines.specs.Rows.{Row, fixed, span}
+use Rattle.cert_text.specs.Parts.{MayHave}
 use Rattle.line_rules.specs.Products.{IsStations, IsSayable}
-use Rattle.effic_cert.specs.Product.{body_rows}
+use Rattle.effic_cert.specs.Product.{body_rows, version_line}
+use Rattle.effic_cert.specs.declared.version.Version.{Version}
 use Rattle.line_rules.specs.declared.products.EfficCert.{EfficCert}
 use Rattle.effic_cert.specs.declared.lines.Bound.{Bound}
 use Rattle.effic_cert.specs.declared.lines.Bound.TheVariants as bound
@@ -21,6 +23,10 @@ AreEnds v = IsStations v.0 × IsStations v.1
 abbrev pub ends_row : ℕ × ℕ → Row
 ends_row v = span (codes "stations") v.0 v.1
 
--- what stands behind the first line
-abbrev pub bodies : Grammar EfficCert
-bodies = record { rows = body_rows; ranged = IsSayable }
+-- the first line of a version
+abbrev pub version_row : Version → Row
+version_row v = fixed (version_line v)
+
+-- what stands behind the first line, of a text with entries by pairs or without
+abbrev pub bodies : Bool → Grammar EfficCert
+bodies pairs = record { rows = body_rows; ranged = λ cert. IsSayable cert × MayHave pairs cert.entries }

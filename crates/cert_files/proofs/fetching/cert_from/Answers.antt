@@ -1,5 +1,6 @@
 use Rattle.std.proofs.Common.{rules, ◌≡◌, ◌∙◌, Ok}
-use Rattle.cert_files.proofs.FileEnds.{same_files, stopped_read, fault_read, good_read, none_of, none_of_old}
+use Rattle.cert_files.proofs.FileEnds.{same_files, stopped_read, fault_read, good_read, none_of, none_of_newest}
+use Rattle.cert_files.proofs.FileEnds.{none_of_old}
 use Rattle.cert_files.proofs.fetching.cert_from.Goals as goal
 
 pub returns-in-Stopped-clause-read : goal.returns-in-Stopped-clause-read
@@ -28,6 +29,10 @@ pub returns-in-Fault-clause-none : goal.returns-in-Fault-clause-none
 returns-in-Fault-clause-none g c = λ t. none_of (g.S.Shelf.file c.args.shelf.now c.args.name.now) c.args.limit
     c.faulty.result (returns-in-Fault-clause-read g c t)
 
+pub returns-in-Fault-clause-none_newest : goal.returns-in-Fault-clause-none_newest
+returns-in-Fault-clause-none_newest g c = λ t. none_of_newest (g.S.Shelf.file c.args.shelf.now c.args.name.now)
+    c.args.limit c.faulty.result (returns-in-Fault-clause-read g c t)
+
 pub returns-in-Fault-clause-none_old : goal.returns-in-Fault-clause-none_old
 returns-in-Fault-clause-none_old g c = λ t. none_of_old (g.S.Shelf.file c.args.shelf.now c.args.name.now) c.args.limit
     c.faulty.result (returns-in-Fault-clause-read g c t)
@@ -51,6 +56,10 @@ returns-in-Ok-answer-clause-read g c = λ t.
 pub returns-in-Ok-answer-clause-none : goal.returns-in-Ok-answer-clause-none
 returns-in-Ok-answer-clause-none g c = λ t. none_of (g.S.Shelf.file c.args.shelf.now c.args.name.now) c.args.limit
     c.ended.result (returns-in-Ok-answer-clause-read g c t)
+
+pub returns-in-Ok-answer-clause-none_newest : goal.returns-in-Ok-answer-clause-none_newest
+returns-in-Ok-answer-clause-none_newest g c = λ t. none_of_newest (g.S.Shelf.file c.args.shelf.now c.args.name.now)
+    c.args.limit c.ended.result (returns-in-Ok-answer-clause-read g c t)
 
 pub returns-in-Ok-answer-clause-none_old : goal.returns-in-Ok-answer-clause-none_old
 returns-in-Ok-answer-clause-none_old g c = λ t. none_of_old (g.S.Shelf.file c.args.shelf.now c.args.name.now)

@@ -1,4 +1,4 @@
-use Rattle.std.proofs.Common.{sym, subst, List, [], Ok, Some}
+use Rattle.std.proofs.Common.{sym, subst, List, [], Ok, Some, false}
 use Rattle.line_rules.specs.declared.types.Entry.{Entry}
 use Rattle.cert_lines.specs.Pattern.{IsRead}
 use Rattle.cert_text.specs.inner.OldParts.{old_trails, one_part}
@@ -43,8 +43,9 @@ read_lines-requires-clause-can g c = (
 )
 
 pub read_lines-requires-clause-some : goal.read_lines-requires-clause-some
-read_lines-requires-clause-some g c = some_entry c.args.tasks c.in_ok-count.count (Some c.in_ok-cycle.cycle)
-    (cycle_is c.in_ok-cycle.cycle c.in_ok-cycle.ensures.said.0 c.in_ok-cycle.ensures.said.1)
+read_lines-requires-clause-some g c = some_entry c.args.tasks c.in_ok-count.count
+    (Some c.in_ok-cycle.cycle) false (cycle_is c.in_ok-cycle.cycle c.in_ok-cycle.ensures.said.0
+    c.in_ok-cycle.ensures.said.1)
 
 pub returns-in_err-entries-clause-read : goal.returns-in_err-entries-clause-read
 returns-in_err-entries-clause-read g c t =
@@ -58,7 +59,7 @@ returns-in_err-entries-clause-read g c t =
     (c.in_ok-count.ensures.read t)
     (first (short_entries c.args.tasks c.in_ok-cycle.cycle c.in_ok-count.count)
     (λ es. old_trails c.args.tasks c.in_ok-count.count c.args.room)
-    (unique_given c.args.tasks c.in_ok-count.count (Some c.in_ok-cycle.cycle) c.requires.few
+    (unique_given c.args.tasks c.in_ok-count.count (Some c.in_ok-cycle.cycle) false c.requires.few
     (few_entries c.in_ok-count.count c.in_ok-count.ensures.said.1))
     (λ es r. ([], no_frames c.args.tasks c.in_ok-count.count c.args.room))
     (ends (short_entries c.args.tasks c.in_ok-cycle.cycle c.in_ok-count.count) _ 0 _ [] _
@@ -76,7 +77,7 @@ returns-in_err-frames-clause-read g c t =
     (c.in_ok-count.ensures.read t)
     (second (short_entries c.args.tasks c.in_ok-cycle.cycle c.in_ok-count.count)
     (λ es. old_trails c.args.tasks c.in_ok-count.count c.args.room) _ _ _ _ _
-    (unique_given c.args.tasks c.in_ok-count.count (Some c.in_ok-cycle.cycle) c.requires.few
+    (unique_given c.args.tasks c.in_ok-count.count (Some c.in_ok-cycle.cycle) false c.requires.few
     (few_entries c.in_ok-count.count c.in_ok-count.ensures.said.1)) (c.in_ok-entries.ensures.read t)
     (ends (old_trails c.args.tasks c.in_ok-count.count c.args.room) _ 0 _ [] _ (c.in_err-frames.ensures.read t))))))
 

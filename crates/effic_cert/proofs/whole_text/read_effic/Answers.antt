@@ -1,18 +1,13 @@
-use Rattle.std.proofs.Common.{refl}
-use Rattle.effic_cert.specs.Product.{product_rows}
-use Rattle.effic_cert.proofs.PartFacts.{bodies_tell}
+use Rattle.effic_cert.specs.Product.{product_rows, least_version}
+use Rattle.effic_cert.specs.declared.version.Version.TheVariants as version
+use Rattle.effic_cert.proofs.PartFacts.{written_may}
 use Rattle.effic_cert.proofs.whole_text.read_effic.Goals as goal
-
-pub read_text-requires-clause-tells : goal.read_text-requires-clause-tells
-read_text-requires-clause-tells c = bodies_tell
-
-pub read_text-requires-clause-line : goal.read_text-requires-clause-line
-read_text-requires-clause-line c = refl
-
-pub returns-clause-read : goal.returns-clause-read
-unfolding product_rows
-returns-clause-read c = c.read_text.ensures.read
 
 pub returns-clause-none : goal.returns-clause-none
 unfolding product_rows
-returns-clause-none c = c.read_text.ensures.none
+returns-clause-none c f e cert h =
+    c.read.ensures.none f e (record { version = least_version cert.entries; cert = cert })
+    (h, written_may cert.entries)
+
+pub returns-clause-none_newer : goal.returns-clause-none_newer
+returns-clause-none_newer c f e cert h = c.read.ensures.none f e (record { version = version.Two; cert = cert }) (h, tt)

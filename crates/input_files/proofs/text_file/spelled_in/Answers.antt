@@ -9,10 +9,10 @@ use Rattle.input_files.proofs.text_file.spelled_in.Goals as goal
 pub returns-in-Fault-clause-said : goal.returns-in-Fault-clause-said
 returns-in-Fault-clause-said g c = λ t.
     let text = spelled g.T.Text.rows g.T.Text.may_say in
-    let W : List ℕ → Type 0 = λ bytes. length bytes ≤ 2147483648 in
+    let W : List ℕ → Type 0 = λ bytes. length bytes ≤ 4294967296 in
     subst (λ s. Stops (SpellsNone text (outside (g.S.Shelf.file c.args.shelf.now)
     (g.S.Shelf.blames c.fetch_within.new.shelf)) c.args.file.now) s) (sym c.refuse.ensures)
-    (inr (reads 2147483648 (g.S.Shelf.file c.args.shelf.now c.args.file.now) c.deref.result.now
+    (inr (reads 4294967296 (g.S.Shelf.file c.args.shelf.now c.args.file.now) c.deref.result.now
     (λ bytes. IsFaultyText text bytes (told ends.Refused c.in_ok-line-in-Fault.line.items))
     ((c.in_ok-bytes.ensures.source t).0 ∙ ap Some (sym c.deref.ensures.value))
     (subst W (sym c.deref.ensures.value) (c.in_ok-bytes.ensures.source t).1)

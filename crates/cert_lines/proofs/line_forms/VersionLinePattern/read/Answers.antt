@@ -16,6 +16,13 @@ returns-then-eq-2 c = (
       c.if-eq-2.ensures c.as_slice-2.ensures,
 )
 
+pub returns-then-eq-3 : goal.returns-then-eq-3
+returns-then-eq-3 c = (
+  tt,
+  fixed_is c.args.line.now (codes "line balance certificate 3") c.as_slice-3.result.now
+      c.if-eq-3.ensures c.as_slice-3.ensures,
+)
+
 pub returns : goal.returns
-returns c = version_not c.args.line.now c.as_slice.result.now c.as_slice-2.result.now c.if-eq.ensures c.as_slice.ensures
-    c.if-eq-2.ensures c.as_slice-2.ensures
+returns c = version_not c.args.line.now c.as_slice.result.now c.as_slice-2.result.now c.as_slice-3.result.now
+    c.if-eq.ensures c.as_slice.ensures c.if-eq-2.ensures c.as_slice-2.ensures c.if-eq-3.ensures c.as_slice-3.ensures
