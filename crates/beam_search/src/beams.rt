@@ -1,18 +1,20 @@
 //! A beam from level to level.
 //!
 //! Level 0 is the set of all tasks. Of each rest of a level the first loads are listed; the rests that the full ones
-//! leave are sorted by their total time, and the first ones that the bound lets have a balance in the stations that are
-//! left are the next level. Where a rest is itself a load, the loads on the way to it are a balance. A level takes as
+//! leave are sorted by their total time, and the first ones that the bound, and pairs where they are asked, let have a
+//! balance in the stations that are left are the next level. Where a rest is itself a load, the loads on the way to it are a balance. A level takes as
 //! many bytes as its full loads, some 150 each.
 ghost use Rattle.std.specs.Prelude.{◌≡◌, ◌≤◌, ◌+◌, IfOk, IfSome, length};
 ghost use Rattle.line_instance.specs.Line.{IsTaskSet, tasks};
 ghost use Rattle.line_rules.specs.Balance.{IsRight};
+ghost use Rattle.pair_search.specs.Sharing.{IsTableOf};
 
 use crate::listing::Listing;
 use crate::placed::Placed;
 use line_instance::{Instance, TaskSet};
 use line_rules::{Balance, BalanceCheck, LineKind, Mode, Places, Seatplace, Side, check_balance};
 use lower_bounds::exceeds;
+use pair_search::{PairTable, Paired};
 use std::alloc::{AllocError, Global};
 
 /// How many loads of a rest are listed at most.
@@ -140,13 +142,17 @@ impl Levels {
         &mut self,
         alloc: Global,
         inst: &Instance,
+        pairs: &mut Option<PairTable>,
         left: &[Rest],
         stations: u32,
         width: usize,
     ) -> Result<(), AllocError>
         requires some { 1 ≤ self.old.wanted.cycle }
         requires limit { self.old.wanted.cycle ≤ 1000000000000000000 }
+        requires few { stations ≤ 1024 }
+        requires pairs { IfSome pairs.old (IsTableOf inst.now) }
         ensures wanted { self.new.wanted ≡ self.old.wanted }
+        ensures pairs { pairs.new ≡ pairs.old }
     {
         let from = self.rests.len();
         let order = order_of(alloc, left)?;
@@ -157,7 +163,7 @@ impl Levels {
             let Some(rest) = left.get(*k) else {
                 return Ok(());
             };
-            if !self.is_kept(from, rest) && self.may_fit(inst, &rest.set, stations) {
+            if !self.is_kept(from, rest) && self.may_fit(inst, pairs, &rest.set, stations) {
                 self.rests.push(Rest {
                     set: rest.set,
                     total: rest.total,
@@ -168,13 +174,35 @@ impl Levels {
         Ok(())
     }
 
-    /// Whether the bound of a rest is at most so many stations.
-    fn may_fit(&self, inst: &Instance, set: &TaskSet, stations: u32) -> bool
+    /// Whether neither the bound of a rest nor pairs say that it needs more than so many stations. Pairs aren't asked
+    /// of one station, where they tell next to nothing more.
+    fn may_fit(
+        &self,
+        inst: &Instance,
+        pairs: &mut Option<PairTable>,
+        set: &TaskSet,
+        stations: u32,
+    ) -> bool
         requires some { 1 ≤ self.now.wanted.cycle }
         requires limit { self.now.wanted.cycle ≤ 1000000000000000000 }
+        requires few { stations ≤ 1024 }
+        requires pairs { IfSome pairs.old (IsTableOf inst.now) }
+        ensures pairs { pairs.new ≡ pairs.old }
     {
         let tasks = inst.all().meet(&self.line.tasks_at(set));
-        !exceeds(inst, self.wanted.kind, self.wanted.cycle, &tasks, stations)
+        if exceeds(inst, self.wanted.kind, self.wanted.cycle, &tasks, stations) {
+            return false;
+        }
+        if stations < 2 {
+            return true;
+        }
+        let Some(table) = pairs else {
+            return true;
+        };
+        match table.find(inst, &tasks, stations) {
+            Paired::Refuted { .. } => false,
+            Paired::Open => true,
+        }
     }
 
     /// Seats the tasks of a load, taken from a rest, at a station.
@@ -255,12 +283,15 @@ impl Levels {
         &mut self,
         alloc: Global,
         inst: &Instance,
+        pairs: &mut Option<PairTable>,
         width: usize,
     ) -> Result<Option<(usize, u32)>, AllocError>
         requires some { 1 ≤ self.old.wanted.cycle }
         requires limit { self.old.wanted.cycle ≤ 1000000000000000000 }
         requires few { self.old.wanted.most ≤ 1024 }
+        requires pairs { IfSome pairs.old (IsTableOf inst.now) }
         ensures wanted { self.new.wanted ≡ self.old.wanted }
+        ensures pairs { pairs.new ≡ pairs.old }
         ensures within { IfOk result (λ o. IfSome o (λ p. p.1 ≤ self.old.wanted.most)) }
     {
         let mut from = 0;
@@ -270,7 +301,8 @@ impl Levels {
                 LevelEnd::Last(number) => return Ok(Some((number, level))),
                 LevelEnd::Spent => return Ok(None),
                 LevelEnd::Left(left) => {
-                    self.keep(alloc, inst, &left, self.wanted.most - level, width)?;
+                    let stations = self.wanted.most - level;
+                    self.keep(alloc, inst, pairs, &left, stations, width)?;
                 }
             }
             from = to;
@@ -280,17 +312,21 @@ impl Levels {
 }
 
 /// A balance in at most so many stations, looked for with a beam of this width, at least 1, and with at most so many
-/// loads that are listed. An error where memory is wanting.
+/// loads that are listed. With a table of pairs, which is of this line, no rest is kept that they refute. An error where
+/// memory is wanting.
 pub fn beam(
     alloc: Global,
     inst: &Instance,
     wanted: Wanted,
+    pairs: &mut Option<PairTable>,
     width: usize,
     purse: u64,
 ) -> Result<Beamed, AllocError>
     requires some { 1 ≤ wanted.cycle }
     requires limit { wanted.cycle ≤ 1000000000000000000 }
     requires few { wanted.most ≤ 1024 }
+    requires pairs { IfSome pairs.old (IsTableOf inst.now) }
+    ensures pairs { pairs.new ≡ pairs.old }
     ensures within { IfOk result (λ b. b.listed ≤ purse) }
     ensures right { IfOk result (λ b. IfSome b.balance (IsRight wanted.kind inst.now wanted.cycle)) }
     ensures few { IfOk result (λ b. IfSome b.balance (λ x. x.stations ≤ wanted.most)) }
@@ -309,7 +345,7 @@ pub fn beam(
         rests,
         left: purse,
     };
-    let found = levels.run(alloc, inst, width)?;
+    let found = levels.run(alloc, inst, pairs, width)?;
     let listed = purse.saturating_sub(levels.left);
     let Some((number, stations)) = found else {
         return Ok(Beamed {

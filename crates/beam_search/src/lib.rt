@@ -12,3 +12,4 @@ mod listing;
 mod placed;
 
 pub use beams::{Beamed, Wanted, beam};
+pub use pair_search::{PairTable, Paired, pair_table};

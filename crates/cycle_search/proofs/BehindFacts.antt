@@ -96,6 +96,7 @@ module _ (kind : LineKind) (line : Line) (pre : List Entry) where
     after = f.after;
     apart = f.apart;
   }
+  by_up es e (why.Pairs two) f = f
 
   follows_up : (es : List Entry) (e : Entry) → Follows kind line es e → Follows kind line (behind pre es) (up e)
   follows_up es e f = record { set = f.set; cycle = f.cycle; by = by_up es e e.why f.by }
@@ -271,6 +272,7 @@ module _ (line : Line) (n : ℕ) where
   units_by_same e why.Bound u h = h
   units_by_same e (why.Branch mode cites) u h = h
   units_by_same e (why.Swap cite out into) u h = h
+  units_by_same e (why.Pairs two) u h = h
 
   pub units_raised : (es : List Entry) (u : ℕ) → UnitsOf line es u → UnitsOf line (map (raised_entry n) es) u
   units_raised [] u h = h

@@ -57,7 +57,9 @@ pub fn ask_book<R: Threads + Wait + Sync, G: Gate>(
     ensures { IfOk result (HasAskedBook stations plan.now book) }
 {
     let mut purse = fill(alloc, plan)?;
-    let round = decide_round(rt, alloc, inst, book, stations, &mut purse, gate);
+    let round = decide_round(
+        rt, alloc, inst, book, stations, plan.pairs, &mut purse, gate,
+    );
     Ok(Asked {
         book: round.book,
         verdict: round.verdict,

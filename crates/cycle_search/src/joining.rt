@@ -48,6 +48,7 @@ fn raise_why(alloc: Global, why: &Why, count: u64, earlier: u64) -> Result<Why, 
             out_task: *out_task,
             in_task: *in_task,
         }),
+        Why::Pairs { two } => Ok(Why::Pairs { two: two.copy()? }),
     }
 }
 

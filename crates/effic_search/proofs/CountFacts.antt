@@ -22,6 +22,7 @@ pub other_few : (w : Why) → other w ≤ 1
 other_few why.Bound = omega arith
 other_few (why.Branch mode cites) = omega arith
 other_few (why.Swap cite out into) = omega arith
+other_few (why.Pairs two) = omega arith
 
 pub others_few : (es : List Entry) → others es ≤ length es
 others_few [] = omega arith

@@ -258,11 +258,13 @@ module _ (kind : LineKind) (line : Line) (ok : IsLine line) (ranked : IsRanked l
   bound_other why.Bound a q = inl q
   bound_other (why.Branch mode cites) a q = inr (λ e. absurd (cc))
   bound_other (why.Swap cite out into) a q = inr (λ e. absurd (cc))
+  bound_other (why.Pairs two) a q = inr (λ e. absurd (cc))
 
   bound_unit : (e : Entry) (w : Why) (a : ℕ) → UnitsBy line e w a → (a ≡ 0) ⊎ (w ≢ why.Bound)
   bound_unit e why.Bound a q = inl q
   bound_unit e (why.Branch mode cites) a q = inr (λ e. absurd (cc))
   bound_unit e (why.Swap cite out into) a q = inr (λ e. absurd (cc))
+  bound_unit e (why.Pairs two) a q = inr (λ e. absurd (cc))
 
   module _ (cycles : HaveCycles line es) where
     abbrev longest : ℕ

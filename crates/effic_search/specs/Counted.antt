@@ -12,6 +12,7 @@ abbrev pub other : Why → ℕ
 other why.Bound = 0
 other (why.Branch mode cites) = 1
 other (why.Swap cite out into) = 1
+other (why.Pairs two) = 1
 
 -- how many of the entries aren't by Bound
 abbrev pub others : List Entry → ℕ

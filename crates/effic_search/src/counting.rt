@@ -32,7 +32,7 @@ fn searched(why: &Why) -> u64
 {
     match why {
         Why::Bound => 0,
-        Why::Branch { .. } | Why::Swap { .. } => 1,
+        Why::Branch { .. } | Why::Swap { .. } | Why::Pairs { .. } => 1,
     }
 }
 

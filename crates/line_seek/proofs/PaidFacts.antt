@@ -14,7 +14,7 @@ use Rattle.lemma_core.specs.Books.{BookView, IsBook, desk_of, opened}
 use Rattle.station_search.specs.Costs.{HasPublished, AddsFew}
 use Rattle.round_helpers.specs.Growth.{AreAtCycle}
 use Rattle.round_helpers.proofs.AddedEntries.{cycles_both}
-use Rattle.round_run.proofs.BookGain.{goes_on}
+use Rattle.round_helpers.proofs.BookGrowth.{goes_on}
 use Rattle.line_seek.specs.inner.Trying.{Gains, IsPaid}
 use Rattle.line_rules.proofs.ListUnits.{units_both}
 

@@ -11,8 +11,8 @@ use Rattle.line_rules.proofs.ListFacts.{get_some}
 use Rattle.lemma_core.specs.Own.{AreStatable}
 use Rattle.lemma_core.specs.Books.{BookView}
 use Rattle.entry_lists.specs.Trim.{IsTrimmed}
-use Rattle.round_run.proofs.Sayable.{entries_ok}
-use Rattle.round_run.proofs.CertificateFacts.{trimmed_cycles}
+use Rattle.entry_lists.proofs.TrimFacts.{trimmed_cycles}
+use Rattle.round_helpers.proofs.SayableEntries.{entries_ok}
 use Rattle.line_seek.specs.inner.Trying.{IsPaid}
 use Rattle.line_seek.specs.Seeking.{AreSought}
 

@@ -2,7 +2,7 @@
 //!
 //! What it keeps is the best balance, the scratch book of its searches, and how many loads were listed. Each try lists
 //! a load at least, so there are no more tries than loads.
-ghost use Rattle.std.specs.Prelude.{◌≡◌, ℕ, ◌+◌, ◌^◌, ◌<◌, ◌≤◌, length, [], false, IfOk, OnOk};
+ghost use Rattle.std.specs.Prelude.{◌≡◌, ℕ, ◌+◌, ◌^◌, ◌<◌, ◌≤◌, length, [], false, IfOk, OnOk, IfSome};
 ghost use Rattle.line_instance.specs.Line.{tasks};
 ghost use Rattle.line_rules.specs.Balance.{IsRight, all_tasks};
 ghost use Rattle.line_rules.specs.Bounds.{bound};
@@ -10,6 +10,7 @@ ghost use Rattle.line_rules.specs.Entries.{HasAnswer};
 ghost use Rattle.line_rules.specs.Ranges.{AreEntries, IsCycle};
 ghost use Rattle.line_rules.specs.Units.{UnitsOf};
 ghost use Rattle.round_helpers.specs.Growth.{AreAtCycle};
+ghost use Rattle.station_search.specs.Decide.{IsPairing};
 ghost use Rattle.line_seek.specs.inner.Trying.{IsTold, may_add};
 ghost use Rattle.line_seek.specs.Seeking.{IfDone, IsSeeking, AreSought, RefuteBelow, HasSought};
 
@@ -18,8 +19,9 @@ use crate::trying::{Told, try_beam, try_search};
 use entry_lists::trim;
 use lemma_core::{Book, Looked};
 use line_instance::Instance;
-use line_rules::{Balance, Entries};
+use line_rules::{Balance, Entries, LineKind};
 use lower_bounds::bound;
+use station_search::{PairTable, Paired, ask_pairs, table_for};
 use std::alloc::{AllocError, Global};
 
 /// How many loads a try of the first round may list: few, so that a seek that finds at once is short.
@@ -90,8 +92,18 @@ impl Seeker {
     }
 
     /// Whether nothing more is to be tried: the best balance has the fewest stations that the bound allows, the loads
-    /// are used, or an entry of the book refutes one station less.
-    fn is_over(&self, inst: &Instance, book: &Book, lower: u32, limit: u64) -> bool
+    /// are used, or an entry of the book or pairs refute one station less.
+    fn is_over(
+        &self,
+        inst: &Instance,
+        book: &Book,
+        pairs: &mut Option<PairTable>,
+        lower: u32,
+        limit: u64,
+    ) -> bool
+        requires few { self.now.best.stations ≤ 1024 }
+        requires pairs { IfSome pairs.old (IsPairing inst.now book.now.about.kind book.now.about.cycle) }
+        ensures pairs { pairs.new ≡ pairs.old }
         ensures left { result ≡ false → self.now.used < limit }
         ensures above { result ≡ false → lower < self.now.best.stations }
         ensures some { result ≡ false → 1 < self.now.best.stations }
@@ -100,8 +112,13 @@ impl Seeker {
             return true;
         }
         match book.look(&inst.all(), self.best.stations - 1) {
-            Looked::Found { .. } => true,
-            Looked::Absent => false,
+            Looked::Found { .. } => return true,
+            Looked::Absent => {}
+        }
+        let (kind, cycle, most) = (book.kind(), book.cycle(), self.best.stations - 1);
+        match ask_pairs(pairs, inst, kind, cycle, &inst.all(), most) {
+            Paired::Refuted { .. } => true,
+            Paired::Open => false,
         }
     }
 
@@ -110,6 +127,7 @@ impl Seeker {
         &mut self,
         alloc: Global,
         inst: &Instance,
+        pairs: &mut Option<PairTable>,
         most: u32,
         left: u64,
     ) -> Result<Told, AllocError>
@@ -119,6 +137,9 @@ impl Seeker {
         requires room { self.old.used + left < 2 ^ 64 }
         requires bounded { let about = self.old.scratch.about in
             bound about.kind inst.now about.cycle (all_tasks inst.now) ≤ most }
+        requires pairs { let about = self.old.scratch.about in
+            IfSome pairs.old (IsPairing inst.now about.kind about.cycle) }
+        ensures pairs { pairs.new ≡ pairs.old }
         ensures about { OnOk result (self.new.scratch.about ≡ self.old.scratch.about) }
         ensures best { OnOk result (self.new.best ≡ self.old.best) }
         ensures told { IfOk result (IsTold self.new.scratch most) }
@@ -128,12 +149,21 @@ impl Seeker {
         let purse = self.size.min(left);
         match self.turn {
             Try::Beam(mode) => {
-                let beamed = try_beam(alloc, inst, &self.scratch, mode, most, self.size, purse)?;
+                let beamed = try_beam(
+                    alloc,
+                    inst,
+                    &self.scratch,
+                    pairs,
+                    mode,
+                    most,
+                    self.size,
+                    purse,
+                )?;
                 self.used += beamed.listed;
                 Ok(beamed.told)
             }
             Try::Search(mode) => {
-                let tried = try_search(alloc, inst, &mut self.scratch, mode, most, purse)?;
+                let tried = try_search(alloc, inst, &mut self.scratch, pairs, mode, most, purse)?;
                 self.used += tried.listed;
                 Ok(tried.told)
             }
@@ -196,7 +226,13 @@ impl Seeker {
 }
 
 /// A seek over a book; an error where memory is wanting.
-fn go_through(alloc: Global, inst: &Instance, book: &Book, limit: u64) -> Result<Sought, AllocError>
+fn go_through(
+    alloc: Global,
+    inst: &Instance,
+    book: &Book,
+    limit: u64,
+    pairs: bool,
+) -> Result<Sought, AllocError>
     requires same { book.now.about.line ≡ inst.now }
     requires cycle { IsCycle book.now.about.cycle }
     ensures { IfOk result (λ r. IfDone r (HasSought book.now limit)) }
@@ -204,14 +240,15 @@ fn go_through(alloc: Global, inst: &Instance, book: &Book, limit: u64) -> Result
     let _best = book.best();
     let _tasks = inst.tasks();
     let mut seeker = Seeker::begin(alloc, inst, book)?;
+    let mut pairs = table_for(alloc, inst, book.kind(), book.cycle(), pairs)?;
     let lower = bound(inst, book.kind(), book.cycle(), &inst.all());
     for _ in 0..limit {
-        if seeker.is_over(inst, book, lower, limit) {
+        if seeker.is_over(inst, book, &mut pairs, lower, limit) {
             return Ok(seeker.ended(alloc));
         }
         let most = seeker.best.stations - 1;
         let left = limit - seeker.used;
-        match seeker.make_try(alloc, inst, most, left)? {
+        match seeker.make_try(alloc, inst, &mut pairs, most, left)? {
             Told::Found(balance) => seeker.best = balance,
             Told::Refuted => return seeker.refuted(alloc, inst, most),
             Told::Open => seeker.go_on(),
@@ -227,10 +264,10 @@ fn go_through(alloc: Global, inst: &Instance, book: &Book, limit: u64) -> Result
 /// Rounds follow in which a try may list 1,000, 4,000, 16,000 loads and so on. A round has a beam from the front and
 /// one from the back, and then a search from the front and one from the back; on a U-line a beam and a search from both
 /// ends. A try asks for one station less than the best balance has, and is made again where it finds one. The seek ends
-/// where the best balance has as many stations as the bound, where the loads are used, where an entry of the book
-/// refutes one station less, and where a search does; then the lemmas are the entries of the searches that show that,
-/// and in every other case there are none.
-pub fn seek(alloc: Global, inst: &Instance, book: &Book, limit: u64) -> Sought
+/// where the best balance has as many stations as the bound, where the loads are used, where an entry of the book or,
+/// if they are asked, pairs refute one station less, and where a search does; then the lemmas are the entries of the
+/// searches that show that, and in every other case there are none. With pairs the searches and the beams ask them too.
+pub fn seek(alloc: Global, inst: &Instance, book: &Book, limit: u64, pairs: bool) -> Sought
     requires same { book.now.about.line ≡ inst.now }
     requires cycle { IsCycle book.now.about.cycle }
     ensures used { IfDone result (λ best lemmas used. used ≤ limit) }
@@ -243,7 +280,7 @@ pub fn seek(alloc: Global, inst: &Instance, book: &Book, limit: u64) -> Sought
     ensures members { IfDone result (λ best lemmas used. length lemmas ≤ used + 1) }
     ensures shown { IfDone result (λ best lemmas used. RefuteBelow inst.now book.now.about.cycle best lemmas) }
 {
-    match go_through(alloc, inst, book, limit) {
+    match go_through(alloc, inst, book, limit, pairs) {
         Ok(sought) => sought,
         Err(_) => Sought::NoMemory,
     }

@@ -1,19 +1,20 @@
 //! One try: a beam that looks for a balance in so many stations, or a search that decides whether there is one.
 //!
 //! A search publishes what it refutes in the scratch book, which later searches of the same seek go on with.
-ghost use Rattle.std.specs.Prelude.{◌≡◌, ◌+◌, ◌^◌, ◌<◌, ◌≤◌, IfOk};
+ghost use Rattle.std.specs.Prelude.{◌≡◌, ◌+◌, ◌^◌, ◌<◌, ◌≤◌, IfOk, IfSome};
 ghost use Rattle.line_instance.specs.Line.{IsTaskSet};
 ghost use Rattle.line_rules.specs.Balance.{all_tasks};
 ghost use Rattle.line_rules.specs.Bounds.{bound};
 ghost use Rattle.line_rules.specs.Loads.{Belongs};
 ghost use Rattle.line_rules.specs.Ranges.{IsCycle};
+ghost use Rattle.station_search.specs.Decide.{IsPairing};
 ghost use Rattle.line_seek.specs.inner.Trying.{IsTold, Gains, may_add};
 
 use beam_search::{Wanted, beam};
 use lemma_core::Book;
 use line_instance::Instance;
 use line_rules::{Balance, Mode};
-use station_search::{Decided, Units, balance_of, decide_in};
+use station_search::{Decided, PairTable, Units, balance_of, decide_in};
 use std::alloc::{AllocError, Global};
 
 /// How many loads a beam lists of a rest at most. With fewer a rest, it gets through more stations for as many loads.
@@ -50,6 +51,7 @@ pub(crate) fn try_beam(
     alloc: Global,
     inst: &Instance,
     scratch: &Book,
+    pairs: &mut Option<PairTable>,
     mode: Mode,
     most: u32,
     size: u64,
@@ -58,6 +60,8 @@ pub(crate) fn try_beam(
     requires same { scratch.now.about.line ≡ inst.now }
     requires cycle { IsCycle scratch.now.about.cycle }
     requires few { most ≤ 1024 }
+    requires pairs { IfSome pairs.old (IsPairing inst.now scratch.now.about.kind scratch.now.about.cycle) }
+    ensures pairs { pairs.new ≡ pairs.old }
     ensures told { IfOk result (λ t. IsTold scratch.now most t.told) }
     ensures open { IfOk result (λ t. may_add t.told ≡ 0) }
     ensures within { IfOk result (λ t. t.listed ≤ purse) }
@@ -68,7 +72,7 @@ pub(crate) fn try_beam(
         cycle: scratch.cycle(),
         most,
     };
-    let beamed = beam(alloc, inst, wanted, width(size, most), purse)?;
+    let beamed = beam(alloc, inst, wanted, pairs, width(size, most), purse)?;
     let listed = beamed.listed;
     match beamed.balance {
         Some(balance) => Ok(Tried {
@@ -87,6 +91,7 @@ pub(crate) fn try_search(
     alloc: Global,
     inst: &Instance,
     scratch: &mut Book,
+    pairs: &mut Option<PairTable>,
     mode: Mode,
     most: u32,
     purse: u64,
@@ -96,6 +101,8 @@ pub(crate) fn try_search(
     requires mode { Belongs scratch.old.about.kind mode }
     requires few { most ≤ 1024 }
     requires bounded { bound scratch.old.about.kind inst.now scratch.old.about.cycle (all_tasks inst.now) ≤ most }
+    requires pairs { IfSome pairs.old (IsPairing inst.now scratch.old.about.kind scratch.old.about.cycle) }
+    ensures pairs { pairs.new ≡ pairs.old }
     ensures told { IfOk result (λ t. IsTold scratch.new most t.told) }
     ensures gains { IfOk result (λ t. Gains scratch.old scratch.new t.listed (t.listed + may_add t.told)) }
     ensures within { IfOk result (λ t. t.listed ≤ purse) }
@@ -116,6 +123,7 @@ pub(crate) fn try_search(
         &all,
         most,
         Some(mode),
+        pairs,
         &mut units,
     );
     let _after = scratch.len();

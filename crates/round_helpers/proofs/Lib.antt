@@ -13,3 +13,5 @@ pub mod Ranges
 pub mod HelpFacts
 pub mod JobFacts
 pub mod SplitFacts
+pub mod BookGrowth
+pub mod SayableEntries

@@ -127,13 +127,14 @@ fn help_at<R: Threads + Wait + Sync, G: Gate>(
 /// book's cycle, which is 1 to 10^18 in the instance's time unit. There is a helper for each of the units, at most 64,
 /// and each uses its own: one for each piece, and one for each load that is gone over. The book is about this instance,
 /// and `reserve_offers` was done for it. Each helper runs in a thread of its own and meets the gate before each
-/// publish.
+/// publish. With `pairs` its searches ask the pairs, by a table of its own.
 pub fn call_helpers<R: Threads + Wait + Sync, G: Gate>(
     rt: &R,
     alloc: Global,
     inst: &Instance,
     book: Book,
     most: u32,
+    pairs: bool,
     units: &mut [Units],
     gate: &G,
 ) -> Help
@@ -161,6 +162,7 @@ pub fn call_helpers<R: Threads + Wait + Sync, G: Gate>(
         kind: book.kind(),
         cycle: book.cycle(),
         most,
+        pairs,
     };
     let wanting = Helped::NoMemory;
     let Ok(jobs) = jobs(alloc, inst, question.kind, question.cycle, most) else {

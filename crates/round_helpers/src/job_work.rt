@@ -3,13 +3,13 @@
 //! A helper with an even number first asks for a better balance than the best one so far: with two stations less than
 //! the least published count, where that is more than it would ask with else. So half of the helpers look for balances
 //! and half for refutations. It works over any desk. Each load that a search lists costs a unit.
-ghost use Rattle.std.specs.Prelude.{◌≡◌, ◌+◌, ◌-◌, ◌^◌, ◌<◌, ◌≤◌, true, None, length, Some, IfOk, OnOk};
+ghost use Rattle.std.specs.Prelude.{◌≡◌, ◌+◌, ◌-◌, ◌^◌, ◌<◌, ◌≤◌, true, None, length, Some, IfSome, IfOk, OnOk};
 ghost use Rattle.line_instance.specs.Line.{IsTaskSet};
 ghost use Rattle.line_rules.specs.Entries.{HasAnswer};
 ghost use Rattle.line_rules.specs.Ranges.{IsCycle};
 ghost use Rattle.line_rules.specs.Seats.{AreSeated, around};
 ghost use Rattle.lemma_core.specs.Desks.{Keeps, entries};
-ghost use Rattle.station_search.specs.Decide.{IsFor, Decides};
+ghost use Rattle.station_search.specs.Decide.{IsFor, IsPairing, Decides};
 ghost use Rattle.round_helpers.specs.Jobs.{IsJobOf};
 ghost use Rattle.round_helpers.specs.inner.Works.{Works, IsAnswer, fewest_seen, most_decided, most_added};
 ghost use Rattle.round_helpers.specs.declared.job_work.Answer.TheVariants as answers;
@@ -18,7 +18,7 @@ use crate::job_list::Job;
 use lemma_core::{Desk, Offered};
 use line_instance::{Instance, TaskSet};
 use line_rules::{LineKind, Load, Loads, Mode};
-use station_search::{Decided, Units, balance_of, choose_mode, decide};
+use station_search::{Decided, PairTable, Units, balance_of, choose_mode, decide_in};
 use std::alloc::{AllocError, Global};
 
 /// The most stations that a question may ask for beside a load: the 1,024 of a line less the one that has the load.
@@ -30,6 +30,8 @@ pub struct Question {
     pub kind: LineKind,
     pub cycle: u64,
     pub most: u32,
+    /// Whether the searches ask the pairs.
+    pub pairs: bool,
 }
 
 /// The answer to a question about a job.
@@ -93,14 +95,17 @@ pub fn ask<D: Desk>(
     question: Question,
     set: &TaskSet,
     most: u32,
+    pairs: &mut Option<PairTable>,
     units: &mut Units,
 ) -> Decided
     requires desk { IsFor (D.desk desk.old) inst.now question.kind question.cycle }
     requires set { IsTaskSet inst.now set.now }
     requires cycle { IsCycle question.cycle }
     requires few { most ≤ 1024 }
+    requires pairs { IfSome pairs.old (IsPairing inst.now question.kind question.cycle) }
     requires units { units.old.used + units.old.left < 2 ^ 64 }
     ensures keeps { Keeps (D.desk desk.old) (D.desk desk.new) }
+    ensures pairs { pairs.new ≡ pairs.old }
     ensures units { units.new.used + units.new.left ≡ units.old.used + units.old.left }
     ensures spent { units.old.used ≤ units.new.used }
     ensures works { let used = units.new.used - units.old.used in
@@ -113,7 +118,7 @@ pub fn ask<D: Desk>(
         left: units.left,
         used: 0,
     };
-    let decided = decide(
+    let decided = decide_in(
         alloc,
         desk,
         inst,
@@ -121,6 +126,8 @@ pub fn ask<D: Desk>(
         question.cycle,
         set,
         most,
+        None,
+        pairs,
         &mut own,
     );
     units.left = own.left;
@@ -136,6 +143,7 @@ fn ask_job<D: Desk>(
     question: Question,
     job: &Job,
     most: u32,
+    pairs: &mut Option<PairTable>,
     units: &mut Units,
 ) -> Answer
     requires desk { IsFor (D.desk desk.old) inst.now question.kind question.cycle }
@@ -144,15 +152,17 @@ fn ask_job<D: Desk>(
     requires job { IsJobOf question.kind inst.now question.cycle question.most job.now }
     requires least { question.most ≤ most + 1 }
     requires few { most ≤ 1023 }
+    requires pairs { IfSome pairs.old (IsPairing inst.now question.kind question.cycle) }
     requires units { units.old.used + units.old.left < 2 ^ 64 }
     ensures keeps { Keeps (D.desk desk.old) (D.desk desk.new) }
+    ensures pairs { pairs.new ≡ pairs.old }
     ensures units { units.new.used + units.new.left ≡ units.old.used + units.old.left }
     ensures spent { units.old.used ≤ units.new.used }
     ensures works { let used = units.new.used - units.old.used in
         Works inst.now question.cycle (D.desk desk.old) (D.desk desk.new) used (most_added result used) }
     ensures answer { IsAnswer (D.desk desk.new) question.cycle job.now.set most units.new.left result }
 {
-    match ask(alloc, desk, inst, question, &job.set, most, units) {
+    match ask(alloc, desk, inst, question, &job.set, most, pairs, units) {
         Decided::Refuted(_) => Answer::Refuted,
         Decided::Found(loads) => match offer_job(alloc, desk, inst, question, job, loads) {
             Ok(()) => Answer::Found,
@@ -173,6 +183,7 @@ fn ask_for_better<D: Desk>(
     question: Question,
     job: &Job,
     eager: bool,
+    pairs: &mut Option<PairTable>,
     units: &mut Units,
 ) -> Answer
     requires desk { IsFor (D.desk desk.old) inst.now question.kind question.cycle }
@@ -180,8 +191,10 @@ fn ask_for_better<D: Desk>(
     requires cycle { IsCycle question.cycle }
     requires job { IsJobOf question.kind inst.now question.cycle question.most job.now }
     requires few { question.most ≤ 1024 }
+    requires pairs { IfSome pairs.old (IsPairing inst.now question.kind question.cycle) }
     requires units { units.old.used + units.old.left < 2 ^ 64 }
     ensures keeps { Keeps (D.desk desk.old) (D.desk desk.new) }
+    ensures pairs { pairs.new ≡ pairs.old }
     ensures units { units.new.used + units.new.left ≡ units.old.used + units.old.left }
     ensures spent { units.old.used ≤ units.new.used }
     ensures works { let used = units.new.used - units.old.used in
@@ -198,7 +211,7 @@ fn ask_for_better<D: Desk>(
         return Answer::Found;
     }
     let most = (least - 2).min(MOST_BESIDE);
-    ask_job(alloc, desk, inst, question, job, most, units)
+    ask_job(alloc, desk, inst, question, job, most, pairs, units)
 }
 
 /// Asks whether the rest of a job has a balance in one station less than the question has, and offers what is found.
@@ -209,6 +222,7 @@ pub fn do_job<D: Desk>(
     question: Question,
     job: &Job,
     eager: bool,
+    pairs: &mut Option<PairTable>,
     units: &mut Units,
 ) -> Answer
     requires desk { IsFor (D.desk desk.old) inst.now question.kind question.cycle }
@@ -217,16 +231,21 @@ pub fn do_job<D: Desk>(
     requires job { IsJobOf question.kind inst.now question.cycle question.most job.now }
     requires some { 1 ≤ question.most }
     requires few { question.most ≤ 1024 }
+    requires pairs { IfSome pairs.old (IsPairing inst.now question.kind question.cycle) }
     requires units { units.old.used + units.old.left < 2 ^ 64 }
     ensures keeps { Keeps (D.desk desk.old) (D.desk desk.new) }
+    ensures pairs { pairs.new ≡ pairs.old }
     ensures units { units.new.used + units.new.left ≡ units.old.used + units.old.left }
     ensures spent { units.old.used ≤ units.new.used }
     ensures works { let used = units.new.used - units.old.used in
         Works inst.now question.cycle (D.desk desk.old) (D.desk desk.new) used (used + 1) }
     ensures answer { IsAnswer (D.desk desk.new) question.cycle job.now.set (question.most - 1) units.new.left result }
 {
-    match ask_for_better(alloc, desk, inst, question, job, eager, units) {
-        Answer::Found => ask_job(alloc, desk, inst, question, job, question.most - 1, units),
+    match ask_for_better(alloc, desk, inst, question, job, eager, pairs, units) {
+        Answer::Found => {
+            let most = question.most - 1;
+            ask_job(alloc, desk, inst, question, job, most, pairs, units)
+        }
         answer => answer,
     }
 }

@@ -4,11 +4,11 @@
 //! asked for the sake of the lemmas that are published on the way: they close loads of the job above. The helper ends
 //! where all deques are empty, where a job has a balance, or where units or memory end. A piece costs a unit, and so
 //! does each load that is gone over or listed. It works over any desk.
-ghost use Rattle.std.specs.Prelude.{◌≡◌, ◌+◌, ◌-◌, ◌^◌, ◌<◌, ◌≤◌, true, IfSome, IsNone};
+ghost use Rattle.std.specs.Prelude.{◌≡◌, ◌+◌, ◌-◌, ◌^◌, ◌<◌, ◌≤◌, true, IfOk, IfSome, IsNone};
 ghost use Rattle.line_instance.specs.Line.{IsTaskSet};
 ghost use Rattle.line_rules.specs.Ranges.{IsCycle};
 ghost use Rattle.lemma_core.specs.Desks.{Keeps};
-ghost use Rattle.station_search.specs.Decide.{IsFor};
+ghost use Rattle.station_search.specs.Decide.{IsFor, IsPairing};
 ghost use Rattle.steal_pool.specs.Hands.{IsHandOf};
 ghost use Rattle.round_helpers.specs.Jobs.{AreJobs, IsJobOf};
 ghost use Rattle.round_helpers.specs.inner.Pieces.{Puts, HasSplit, SplitsAll, KeepsOwn, IsRefuted, IsDone, AreDone};
@@ -22,8 +22,8 @@ use crate::job_work::{Answer, MOST_BESIDE, Question, ask, do_job};
 use crate::splitting::split_piece;
 use lemma_core::Desk;
 use line_instance::{Instance, TaskSet};
-use station_search::{Decided, Units};
-use std::alloc::Global;
+use station_search::{Decided, PairTable, Units, pair_table};
+use std::alloc::{AllocError, Global};
 use std::sync::Wait;
 use steal_pool::{Hand, Piece, Pool, Took};
 
@@ -48,21 +48,24 @@ fn ask_put<D: Desk>(
     question: Question,
     set: &TaskSet,
     most: u32,
+    pairs: &mut Option<PairTable>,
     units: &mut Units,
 ) -> Option<End>
     requires desk { IsFor (D.desk desk.old) inst.now question.kind question.cycle }
     requires set { IsTaskSet inst.now set.now }
     requires cycle { IsCycle question.cycle }
     requires few { most ≤ 1024 }
+    requires pairs { IfSome pairs.old (IsPairing inst.now question.kind question.cycle) }
     requires units { units.old.used + units.old.left < 2 ^ 64 }
     ensures keeps { Keeps (D.desk desk.old) (D.desk desk.new) }
+    ensures pairs { pairs.new ≡ pairs.old }
     ensures units { units.new.used + units.new.left ≡ units.old.used + units.old.left }
     ensures spent { units.old.used ≤ units.new.used }
     ensures works { let used = units.new.used - units.old.used in
         Works inst.now question.cycle (D.desk desk.old) (D.desk desk.new) used (used + 1) }
     ensures early { IfSome result (IsEarly (D.desk desk.new) question.most units.new.left) }
 {
-    match ask(alloc, desk, inst, question, set, most, units) {
+    match ask(alloc, desk, inst, question, set, most, pairs, units) {
         Decided::Refuted(_) => None,
         Decided::Found(_) => None,
         Decided::Spent(_) => Some(End::Spent),
@@ -78,6 +81,7 @@ fn do_dealt<D: Desk>(
     question: Question,
     job: &Job,
     eager: bool,
+    pairs: &mut Option<PairTable>,
     units: &mut Units,
 ) -> Option<End>
     requires desk { IsFor (D.desk desk.old) inst.now question.kind question.cycle }
@@ -86,8 +90,10 @@ fn do_dealt<D: Desk>(
     requires job { IsJobOf question.kind inst.now question.cycle question.most job.now }
     requires some { 1 ≤ question.most }
     requires few { question.most ≤ 1024 }
+    requires pairs { IfSome pairs.old (IsPairing inst.now question.kind question.cycle) }
     requires units { units.old.used + units.old.left < 2 ^ 64 }
     ensures keeps { Keeps (D.desk desk.old) (D.desk desk.new) }
+    ensures pairs { pairs.new ≡ pairs.old }
     ensures units { units.new.used + units.new.left ≡ units.old.used + units.old.left }
     ensures spent { units.old.used ≤ units.new.used }
     ensures works { let used = units.new.used - units.old.used in
@@ -95,7 +101,7 @@ fn do_dealt<D: Desk>(
     ensures done { IsNone result → IsRefuted (D.desk desk.new) question.cycle question.most job.now }
     ensures early { IfSome result (IsEarly (D.desk desk.new) question.most units.new.left) }
 {
-    match do_job(alloc, desk, inst, question, job, eager, units) {
+    match do_job(alloc, desk, inst, question, job, eager, pairs, units) {
         Answer::Refuted => None,
         Answer::Found => Some(End::Found),
         Answer::Spent => Some(End::Spent),
@@ -114,6 +120,7 @@ fn do_piece<D: Desk>(
     hand: &mut Hand,
     eager: bool,
     piece: &Piece,
+    pairs: &mut Option<PairTable>,
     units: &mut Units,
 ) -> Option<End>
     requires desk { IsFor (D.desk desk.old) inst.now question.kind question.cycle }
@@ -123,8 +130,10 @@ fn do_piece<D: Desk>(
     requires hand { IsHandOf pool.now hand.old }
     requires some { 1 ≤ question.most }
     requires few { question.most ≤ 1024 }
+    requires pairs { IfSome pairs.old (IsPairing inst.now question.kind question.cycle) }
     requires units { units.old.used + units.old.left < 2 ^ 64 }
     ensures keeps { Keeps (D.desk desk.old) (D.desk desk.new) }
+    ensures pairs { pairs.new ≡ pairs.old }
     ensures units { units.new.used + units.new.left ≡ units.old.used + units.old.left }
     ensures spent { units.old.used ≤ units.new.used }
     ensures works { let used = units.new.used - units.old.used in
@@ -147,17 +156,34 @@ fn do_piece<D: Desk>(
         return Some(End::Spent);
     }
     if piece.depth > 0 {
-        return ask_put(alloc, desk, inst, question, &set, most, units);
+        return ask_put(alloc, desk, inst, question, &set, most, pairs, units);
     }
     // The number of a piece that was dealt is its job's.
     let k = piece.number as usize;
     if k >= jobs.len() {
         return None;
     }
-    do_dealt(alloc, desk, inst, question, &jobs[k], eager, units)
+    do_dealt(alloc, desk, inst, question, &jobs[k], eager, pairs, units)
 }
 
-/// Takes and does pieces, until all deques are empty, a job has a balance, or units or memory end.
+// A helper's own table of pairs, where the searches of the question ask them.
+fn own_table(
+    alloc: Global,
+    inst: &Instance,
+    question: Question,
+) -> Result<Option<PairTable>, AllocError>
+    requires { IsCycle question.cycle }
+    ensures { IfOk result (λ pairs. IfSome pairs (IsPairing inst.now question.kind question.cycle)) }
+{
+    if !question.pairs {
+        return Ok(None);
+    }
+    let table = pair_table(alloc, inst, question.kind, question.cycle)?;
+    Ok(Some(table))
+}
+
+/// Takes and does pieces, until all deques are empty, a job has a balance, or units or memory end. Where the question
+/// asks the pairs, it does so by a table of its own.
 pub fn do_pieces<R: Wait, D: Desk>(
     rt: &R,
     alloc: Global,
@@ -189,12 +215,15 @@ pub fn do_pieces<R: Wait, D: Desk>(
     ensures splits { result ≡ Empty → SplitsAll question.kind inst.now question.cycle hand.old hand.new }
     ensures ends { IsEnd (D.desk desk.new) question.cycle question.most jobs.now hand.new units.new.left result }
 {
+    let Ok(mut pairs) = own_table(alloc, inst, question) else {
+        return End::NoMemory;
+    };
     'working: for _ in rt.forever() {
         match pool.take(rt, hand) {
             Took::Empty => return End::Empty,
             Took::Got(piece) => {
                 let early = do_piece(
-                    alloc, desk, inst, question, jobs, pool, hand, eager, &piece, units,
+                    alloc, desk, inst, question, jobs, pool, hand, eager, &piece, &mut pairs, units,
                 );
                 if let Some(end) = early {
                     return end;

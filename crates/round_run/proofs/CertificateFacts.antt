@@ -78,14 +78,6 @@ module _ (kind : LineKind) (line : Line) (c lower : ℕ) (b : Assignment) (es : 
         true_bounds = accepted_true line cert lower b.stations units ok accepted;
       }
 
--- entries that are trimmed keep their cycles
-pub trimmed_cycles : (es : List Entry) (set : List Bool) (most cycle : ℕ) (new : List Entry)
-    → IsTrimmed es set most cycle new → HaveCyclesOf es new
-trimmed_cycles es set most cycle new t k e there =
-    let at = t.entries.each k (slice_get_within new k e there) in
-    let P : Entry → Type 0 = λ x. x.cycle ≡ at.old.cycle in
-    (at.number, at.old, (at.there, subst P (same_Some at.entry e (sym at.here ∙ there)) at.same.cycle))
-
 -- entries of a run at c, and those before them
 at_or_as : (c : ℕ) (before added es new : List Entry) → es ≡ before ++ added → AreAtCycle c added → HaveCyclesOf es new
     → AreAtOrAs c before new

@@ -6,3 +6,4 @@ pub mod Endings
 pub mod PurseFacts
 pub mod Sayable
 pub mod CertificateFacts
+pub mod RoundFacts

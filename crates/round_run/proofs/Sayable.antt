@@ -27,45 +27,8 @@ use Rattle.line_rules.proofs.Monotone.{rest_smaller}
 use Rattle.line_rules.proofs.ListFacts.{get_push_cases, get_some}
 use Rattle.line_rules.proofs.ReadPlaces.{seat_read}
 use Rattle.line_rules.proofs.LemmasHold.{get_take}
-use Rattle.lemma_core.specs.Own.{AreStatable}
-
--- a set of tasks of the line
-is_of : (line : Line) (s : List Bool) → IsTaskSet line s → IsOf (tasks line) s
-is_of line s t = record { truths = t.truths; tasks = t.tasks }
-
--- cites that cover loads are of entries of the list
-covered : (line : Line) (P : Load → Type 0) (es : List Entry) (R : List Bool) (most c : ℕ) (cites : List ℕ)
-    → Covers line P es R most c cites → AreCites (length es) cites
-covered line P es R most c cites v p cite there =
-    let l = get_some v.loads p (omega (arith, slice_get_within cites p cite there, v.as_many)) in
-    let at = v.cited p cite l.0 there l.1 in
-    slice_get_within es cite at.entry at.there
-
--- why an entry holds that follows from earlier ones
-why_ok : (kind : LineKind) (line : Line) (es : List Entry) (k : ℕ) (e : Entry) (w : Why) → k < length es
-    → IsTaskSet line e.set → FollowsBy kind line (take k es) e w → IsWhy (tasks line) (length es) w
-why_ok kind line es k e why.Bound h s f = tt
-why_ok kind line es k e (why.Branch mode cites) h s f = λ p cite there.
-    let l = get_some f.covers.loads p (omega (arith, slice_get_within cites p cite there, f.covers.as_many)) in
-    let at = f.covers.cited p cite l.0 there l.1 in
-    omega (arith, (get_take es k cite at.entry at.there).0)
-why_ok kind line es k e (why.Swap cite out into) h s f =
-    (omega (arith, (get_take es k cite f.entry f.there).0), (s.tasks out f.out_in, f.task))
-
--- derived entries that a certificate can say
-pub entries_ok : (kind : LineKind) (line : Line) (es : List Entry) → IsDerived kind line es → AreStatable es
-    → length es ≤ 20000000 → AreEntries (tasks line) es
-entries_ok kind line es d s many = record {
-  many = many;
-  each = λ k e there.
-      let f = d k e there in
-      record {
-        set = is_of line e.set f.set;
-        most = (s k e there).most;
-        cycle = (s k e there).cycle;
-        why = why_ok kind line es k e e.why (slice_get_within es k e there) f.set f.by;
-      };
-}
+use Rattle.round_helpers.proofs.SayableEntries.{is_of, covered}
+pub use Rattle.round_helpers.proofs.SayableEntries.{entries_ok}
 
 -- the last load of a frame
 last_ok : (line : Line) (X : ℕ) (mode : Mode) (R : List Bool) (last : Option Load) → LastIsLoad line X mode R last

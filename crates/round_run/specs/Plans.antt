@@ -5,11 +5,12 @@ use Rattle.round_helpers.specs.Helping.{IsTeam, all_used}
 use Rattle.round_run.specs.declared.plans.Plan.{Plan}
 use Rattle.round_run.specs.declared.plans.Purse.{Purse}
 
--- at most 64 helpers, and 1 to 3,000,000 units
+-- at most 64 helpers, 1 to 3,000,000 units, and a seek of at most 3,000,000 loads at each tried cycle
 pub record IsPlan (plan : Plan) : Type 0 where
   pub helpers : plan.helpers ≤ 64
   pub some : 1 ≤ plan.units
   pub limit : plan.units ≤ 3000000
+  pub seek : plan.seek ≤ 3000000
 
 -- the units that are left to all helpers together
 abbrev pub all_left : List Units → ℕ

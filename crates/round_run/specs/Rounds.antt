@@ -1,10 +1,12 @@
 -- What deciding one question over a book does to the book, and what it answers.
-use Rattle.std.specs.Prelude.{◌≡◌, ℕ, ◌+◌, ◌<◌, ◌≤◌, ◌⊎◌, List, [], ◌∷◌, length, None}
+use Rattle.std.specs.Prelude.{◌≡◌, ℕ, ◌+◌, ◌<◌, ◌≤◌, ◌⊎◌, Bool, List, [], ◌∷◌, length, None}
 use Rattle.line_instance.specs.Line.{Line}
 use Rattle.line_rules.specs.Balance.{all_tasks}
 use Rattle.line_rules.specs.Entries.{HasAnswer}
+use Rattle.line_rules.specs.Pairs.{IsRefutedByPairs}
 use Rattle.line_rules.specs.Trails.{IsOpenOver}
 use Rattle.line_rules.specs.Units.{UnitsOf, UnitsIn}
+use Rattle.line_rules.specs.declared.types.LineKind.{LineKind}
 use Rattle.line_rules.specs.declared.types.Entry.{Entry}
 use Rattle.line_rules.specs.declared.types.Why.TheVariants as why
 use Rattle.line_rules.specs.declared.types.OpenFrame.{OpenFrame}
@@ -13,6 +15,7 @@ use Rattle.station_search.specs.Decide.{Stops}
 use Rattle.station_search.specs.declared.answers.Units.{Units}
 use Rattle.round_helpers.specs.Growth.{GoesOn, Helps}
 use Rattle.round_helpers.specs.Helping.{HasHelped}
+use Rattle.round_helpers.specs.declared.helping.Helped.{Helped}
 use Rattle.round_helpers.specs.declared.helping.Helped.TheVariants.{Unneeded}
 use Rattle.round_run.specs.declared.closing.Verdict.{Verdict}
 use Rattle.round_run.specs.declared.closing.Verdict.TheVariants as verdict
@@ -28,6 +31,15 @@ pub record AddsBound (most : ℕ) (old new : BookView) : Type 0 where
   pub goes_on : GoesOn old new gained
   pub entry : (gained ≡ []) ⊎ (gained ≡ by_bound old.about.line most old.about.cycle ∷ [])
   pub best : new.state.best ≡ old.state.best
+
+-- pairs refute that all tasks have a balance in so many stations, with some tasks that count twice (own)
+abbrev pub ArePaired : LineKind → Line → ℕ → ℕ → Type 0
+ArePaired kind line c most = (two : List Bool) × IsRefutedByPairs kind line c (all_tasks line) most two
+
+-- What helpers did for the question; none of them was called where pairs refute it (own).
+abbrev pub IsHelp : BookView → BookView → ℕ → List Units → Helped → Type 0
+IsHelp old mid most team helped =
+    HasHelped old mid most team helped ⊎ ((helped ≡ Unneeded) × ArePaired old.about.kind old.about.line old.about.cycle most)
 
 -- the open frames of an answer
 abbrev pub frames_of : Verdict → List OpenFrame
@@ -83,7 +95,7 @@ pub record IsRound (old : BookView) (round : Round) (most : ℕ) (team : List Un
     : Type 0 where
   pub mid : BookView
   pub helps : Helps old mid helpers
-  pub helped : HasHelped old mid most team round.helped
+  pub helped : IsHelp old mid most team round.helped
   pub still : round.helped ≡ Unneeded → mid ≡ old
   pub gains : Gains mid round.book round.verdict closing
   pub from : round.closing_from ≡ length mid.state.entries

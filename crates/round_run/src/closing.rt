@@ -1,13 +1,15 @@
-//! The closing pass of a question: decides it on the book itself, with the units of the purse.
+//! The closing pass of a question: decides it on the book itself, with the units of the purse, and with the pairs where
+//! they are asked.
 //!
 //! What the bound refutes at once is published as a lemma, so that every refuted question has one; what is found is
 //! offered as a balance. Each load that the search lists costs a unit, and nothing else does.
-ghost use Rattle.std.specs.Prelude.{◌≡◌, ◌+◌, ◌-◌, ◌^◌, ◌<◌, ◌≤◌, [], length, OnOk, OnErr};
+ghost use Rattle.std.specs.Prelude.{◌≡◌, ◌+◌, ◌-◌, ◌^◌, ◌<◌, ◌≤◌, [], length, IfSome, OnOk, OnErr};
 ghost use Rattle.line_rules.specs.Balance.{all_tasks};
 ghost use Rattle.line_rules.specs.Bounds.{bound};
 ghost use Rattle.line_rules.specs.Ranges.{IsCycle};
 ghost use Rattle.line_rules.specs.Seats.{AreSeated};
 ghost use Rattle.lemma_core.specs.Books.{IsReserved};
+ghost use Rattle.station_search.specs.Decide.{IsPairing};
 ghost use Rattle.round_helpers.specs.Growth.{GoesOn};
 ghost use Rattle.round_run.specs.Rounds.{Gains, IsAnswer, StaysAbove};
 
@@ -16,7 +18,7 @@ use lemma_core::Book;
 use line_instance::Instance;
 use line_rules::{Frames, Loads};
 use lower_bounds::exceeds;
-use station_search::{Decided, Units, balance_of, decide};
+use station_search::{Decided, PairTable, Units, balance_of, decide_in};
 use std::alloc::{AllocError, Global};
 
 /// The answer to a question.
@@ -38,12 +40,14 @@ pub fn closing_pass(
     inst: &Instance,
     book: &mut Book,
     most: u32,
+    pairs: &mut Option<PairTable>,
     units: &mut Units,
 ) -> Verdict
     requires same { book.old.about.line ≡ inst.now }
     requires cycle { IsCycle book.old.about.cycle }
     requires reserved { IsReserved book.old }
     requires few { most ≤ 1024 }
+    requires pairs { IfSome pairs.old (IsPairing inst.now book.old.about.kind book.old.about.cycle) }
     requires units { units.old.used + units.old.left < 2 ^ 64 }
     ensures gains { Gains book.old book.new result (units.new.used - units.old.used) }
     ensures answer { IsAnswer book.new most units.new.left result }
@@ -63,7 +67,7 @@ pub fn closing_pass(
         left: units.left,
         used: 0,
     };
-    let verdict = search_all(alloc, inst, book, most, &mut asked);
+    let verdict = search_all(alloc, inst, book, most, pairs, &mut asked);
     units.left = asked.left;
     units.used += asked.used;
     verdict
@@ -75,12 +79,14 @@ fn search_all(
     inst: &Instance,
     book: &mut Book,
     most: u32,
+    pairs: &mut Option<PairTable>,
     units: &mut Units,
 ) -> Verdict
     requires same { book.old.about.line ≡ inst.now }
     requires cycle { IsCycle book.old.about.cycle }
     requires reserved { IsReserved book.old }
     requires few { most ≤ 1024 }
+    requires pairs { IfSome pairs.old (IsPairing inst.now book.old.about.kind book.old.about.cycle) }
     requires bounded { bound book.old.about.kind inst.now book.old.about.cycle (all_tasks inst.now) ≤ most }
     requires fresh { units.old.used ≡ 0 }
     requires units { units.old.left < 2 ^ 64 }
@@ -92,7 +98,10 @@ fn search_all(
 {
     let _before = book.len();
     let (kind, cycle) = (book.kind(), book.cycle());
-    let decided = decide(alloc, book, inst, kind, cycle, &inst.all(), most, units);
+    let all = inst.all();
+    let decided = decide_in(
+        alloc, book, inst, kind, cycle, &all, most, None, pairs, units,
+    );
     let _after = book.len();
     match decided {
         Decided::Refuted(_) => Verdict::Refuted,

@@ -7,13 +7,18 @@ ghost use Rattle.round_run.specs.Plans.{IsPlan, IsFilled};
 use station_search::Units;
 use std::alloc::{AllocError, Global};
 
-/// The helpers and the units of a run.
+/// The helpers and the units of a run, and what it asks.
 #[derive(Clone, Copy, Debug, PartialEq, Eq)]
 pub struct Plan {
     /// How many helpers search beside the closing passes, 0 to 64.
     pub helpers: u32,
     /// How many loads the closing passes of the whole run may list, 1 to 3,000,000.
     pub units: u64,
+    /// Whether the searches ask pairs: tasks of which no two can share a station.
+    pub pairs: bool,
+    /// How many loads the seek of each tried cycle may list, 0 to 3,000,000, in a search that tries cycles; 0 for no
+    /// seek. A run at one cycle leaves it alone.
+    pub seek: u64,
 }
 
 /// The units of a run: those of its closing passes, and those of each helper.

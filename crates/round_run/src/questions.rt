@@ -61,6 +61,7 @@ pub(crate) fn ask_all<R: Threads + Wait + Sync, G: Gate>(
     inst: &Instance,
     book: Book,
     first: u32,
+    pairs: bool,
     purse: Purse,
     gate: &G,
 ) -> Asked
@@ -77,7 +78,7 @@ pub(crate) fn ask_all<R: Threads + Wait + Sync, G: Gate>(
     let mut book = book;
     let mut lower = first;
     'asking: while lower < book.best().stations {
-        let round = decide_round(rt, alloc, inst, book, lower, &mut purse, gate);
+        let round = decide_round(rt, alloc, inst, book, lower, pairs, &mut purse, gate);
         book = round.book;
         match round.verdict {
             Verdict::Refuted => lower += 1,

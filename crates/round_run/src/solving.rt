@@ -132,7 +132,7 @@ pub fn solve_from<R: Threads + Wait + Sync, G: Gate>(
     let _tasks = inst.tasks();
     let _right = book.best();
     let first = bound(inst, book.kind(), book.cycle(), &inst.all());
-    let asked = ask_all(rt, alloc, inst, book, first, purse, gate);
+    let asked = ask_all(rt, alloc, inst, book, first, plan.pairs, purse, gate);
     concluded(inst, first, asked)
 }
 

@@ -43,6 +43,7 @@ fn entry_text(alloc: Global, entry: &Entry) -> Result<String, AllocError> {
         Why::Bound => "bound",
         Why::Branch { .. } => "branch",
         Why::Swap { .. } => "swap",
+        Why::Pairs { .. } => "pairs",
     };
     format!(in alloc; "{why} {set} {most}|")
 }
@@ -96,6 +97,8 @@ fn solved<R: Threads + Wait + Sync>(
     let plan = Plan {
         helpers: 0,
         units: u64::from(units),
+        pairs: false,
+        seek: 0,
     };
     let outcome = solve(rt, alloc, inst, kind, cycle, &plan, &AlwaysOpen);
     Ok(outcome_text(alloc, &outcome)?)
@@ -193,6 +196,8 @@ fn purse_of(alloc: Global, units: u32, helpers: u32, each: u32) -> Result<Purse,
     let plan = Plan {
         helpers,
         units: u64::from(each.min(40_000)) * u64::from(helpers) + 1,
+        pairs: false,
+        seek: 0,
     };
     let mut purse = fill(alloc, &plan)?;
     purse.closing.left = u64::from(units);
@@ -214,7 +219,7 @@ fn round_text<R: Threads + Wait + Sync>(
 {
     let mut purse = purse;
     let book = book_of(alloc, inst)?;
-    let round = decide_round(rt, alloc, inst, book, most, &mut purse, &AlwaysOpen);
+    let round = decide_round(rt, alloc, inst, book, most, false, &mut purse, &AlwaysOpen);
     let verdict = match &round.verdict {
         Verdict::Refuted => "refuted",
         Verdict::Found => "found",

@@ -7,6 +7,7 @@ ghost use Rattle.lemma_core.specs.Machine.{About};
 ghost use Rattle.lemma_core.specs.Books.{MayBeBest, desk_of};
 ghost use Rattle.station_search.specs.Decide.{IsFor};
 
+mod pairs;
 mod sharing;
 mod stops;
 
@@ -45,22 +46,29 @@ fn alone(alloc: Global, tasks: u32) -> Result<Balance, AllocError> {
 }
 
 // The balance, where it may be the best of a book.
-fn tested(inst: &Instance, kind: LineKind, best: Balance) -> Result<Balance, Fail>
-    ensures { IfOk result (λ b. MayBeBest (record { line = inst.now; kind = kind; cycle = 7 }) b) }
+fn tested(inst: &Instance, kind: LineKind, cycle: u64, best: Balance) -> Result<Balance, Fail>
+    ensures { IfOk result (λ b. MayBeBest (record { line = inst.now; kind = kind; cycle = cycle }) b) }
 {
     let few = best.place.len() <= inst.tasks() as usize && best.stations <= inst.tasks();
-    if few && check_balance(inst, kind, CYCLE, &best) == BalanceCheck::Right {
+    if few && check_balance(inst, kind, cycle, &best) == BalanceCheck::Right {
         return Ok(best);
     }
     Err("no balance")?
+}
+
+// An empty book of an instance at a cycle.
+fn book_at(alloc: Global, inst: &Instance, kind: LineKind, cycle: u64) -> Result<Book, Fail>
+    ensures { IfOk result (λ b. IsFor (desk_of b) inst.now kind cycle) }
+{
+    let best = tested(inst, kind, cycle, alone(alloc, inst.tasks())?)?;
+    Ok(Book::make(alloc, inst.copy(alloc)?, kind, cycle, best))
 }
 
 // An empty book of an instance.
 fn book_of(alloc: Global, inst: &Instance, kind: LineKind) -> Result<Book, Fail>
     ensures { IfOk result (λ b. IsFor (desk_of b) inst.now kind 7) }
 {
-    let best = tested(inst, kind, alone(alloc, inst.tasks())?)?;
-    Ok(Book::make(alloc, inst.copy(alloc)?, kind, CYCLE, best))
+    book_at(alloc, inst, kind, CYCLE)
 }
 
 // The cites as a text.
@@ -87,6 +95,10 @@ fn entry_text(alloc: Global, entry: &Entry) -> Result<String, AllocError> {
             out_task,
             in_task,
         } => { format!(in alloc; "swap {set} {most} {cite} {out_task} {in_task}|") }
+        Why::Pairs { two } => {
+            let two = *two.set();
+            format!(in alloc; "pairs {set} {most} {two}|")
+        }
     }
 }
 

@@ -1,5 +1,5 @@
 //! Beams over small lines: how many loads they list, and the balances that they find.
-use beam_search::{Wanted, beam};
+use beam_search::{PairTable, Wanted, beam};
 use line_instance::{Instance, Made, Prec, make};
 use line_rules::{LineKind, Mode};
 use std::alloc::{AllocError, Global};
@@ -53,7 +53,8 @@ fn told(alloc: Global, inst: &Instance, wanted: Wanted, purse: u64) -> Result<St
     if wanted.cycle < 1 || wanted.cycle > 100 || wanted.most > 100 {
         return Ok(text);
     }
-    let beamed = beam(alloc, inst, wanted, 2, purse)?;
+    let mut pairs: Option<PairTable> = None;
+    let beamed = beam(alloc, inst, wanted, &mut pairs, 2, purse)?;
     let listed = beamed.listed;
     write!(text, "{listed}")?;
     if let Some(balance) = beamed.balance {

@@ -91,8 +91,14 @@ fn line(alloc: Global, row: &Row) -> Result<Instance, Fail> {
     }
 }
 
-/// What a seek over an empty book comes to.
-fn told(alloc: Global, inst: &Instance, row: &Row, limit: u64) -> Result<String, Fail> {
+/// What a seek over an empty book comes to, with pairs or without.
+fn told(
+    alloc: Global,
+    inst: &Instance,
+    row: &Row,
+    limit: u64,
+    pairs: bool,
+) -> Result<String, Fail> {
     let (kind, cycle) = (row.kind, row.cycle);
     if cycle < 1 || cycle > 100 {
         return Err("out of range")?;
@@ -101,7 +107,7 @@ fn told(alloc: Global, inst: &Instance, row: &Row, limit: u64) -> Result<String,
         return Err("no ranked balance")?;
     };
     let book = open_book(alloc, inst, kind, cycle, best)?;
-    match seek(alloc, inst, &book, limit) {
+    match seek(alloc, inst, &book, limit, pairs) {
         Sought::Done { best, lemmas, used } => {
             let (many, stations) = (lemmas.len(), best.stations);
             Ok(format!(in alloc; "{used} {many} {stations}")?)
@@ -111,28 +117,34 @@ fn told(alloc: Global, inst: &Instance, row: &Row, limit: u64) -> Result<String,
 }
 
 /// What a seek for a row comes to.
-fn row_told(alloc: Global, row: &Row, limit: u64) -> Result<String, Fail> {
+fn row_told(alloc: Global, row: &Row, limit: u64, pairs: bool) -> Result<String, Fail> {
     let inst = line(alloc, row)?;
-    told(alloc, &inst, row, limit)
+    told(alloc, &inst, row, limit, pairs)
 }
 
 #[test]
 fn seeks_on_straight_lines(rt: HostRuntime) -> Result<(), Fail> {
     let alloc = rt.alloc();
-    assert_eq!(&rt; row_told(alloc, &SEVEN, 176)?.as_str(), "176 4 5");
-    assert_eq!(&rt; row_told(alloc, &SEVEN, 175)?.as_str(), "175 0 5");
-    assert_eq!(&rt; row_told(alloc, &JACKSON, 30)?.as_str(), "30 0 5");
-    assert_eq!(&rt; row_told(alloc, &JACKSON, 29)?.as_str(), "29 0 6");
-    assert_eq!(&rt; row_told(alloc, &NINE, 108)?.as_str(), "108 3 5");
-    assert_eq!(&rt; row_told(alloc, &FIVE, 1000)?.as_str(), "45 1 3");
+    assert_eq!(&rt; row_told(alloc, &SEVEN, 176, false)?.as_str(), "176 4 5");
+    assert_eq!(&rt; row_told(alloc, &SEVEN, 175, false)?.as_str(), "175 0 5");
+    assert_eq!(&rt; row_told(alloc, &JACKSON, 30, false)?.as_str(), "30 0 5");
+    assert_eq!(&rt; row_told(alloc, &JACKSON, 29, false)?.as_str(), "29 0 6");
+    assert_eq!(&rt; row_told(alloc, &NINE, 108, false)?.as_str(), "108 3 5");
+    assert_eq!(&rt; row_told(alloc, &FIVE, 1000, false)?.as_str(), "45 1 3");
     Ok(())
 }
 
 #[test]
 fn later_searches_go_on_with_the_scratch_book(rt: HostRuntime) -> Result<(), Fail> {
     let alloc = rt.alloc();
-    assert_eq!(&rt; row_told(alloc, &THIRTEEN, 5516)?.as_str(), "5516 100 6");
-    assert_eq!(&rt; row_told(alloc, &THIRTEEN, 5515)?.as_str(), "5515 0 6");
+    assert_eq!(&rt;
+        row_told(alloc, &THIRTEEN, 5516, false)?.as_str(),
+        "5516 100 6"
+    );
+    assert_eq!(&rt;
+        row_told(alloc, &THIRTEEN, 5515, false)?.as_str(),
+        "5515 0 6"
+    );
     Ok(())
 }
 
@@ -144,11 +156,26 @@ fn seeks_on_other_lines(rt: HostRuntime) -> Result<(), Fail> {
         kind: LineKind::U,
         ..FIVE
     };
-    assert_eq!(&rt; told(alloc, &five, &both, 1000)?.as_str(), "69 1 3");
+    assert_eq!(&rt; told(alloc, &five, &both, 1000, false)?.as_str(), "69 1 3");
     if five.tasks() == 5 {
         let apart = |first: u32, then: u32| -> Prec { Prec { first, then } };
         five.set_apart(&[apart(2, 3), apart(3, 4), apart(2, 4)]);
     }
-    assert_eq!(&rt; told(alloc, &five, &FIVE, 1000)?.as_str(), "33 1 3");
+    assert_eq!(&rt; told(alloc, &five, &FIVE, 1000, false)?.as_str(), "33 1 3");
+    Ok(())
+}
+
+#[test]
+fn pairs_shorten_a_seek_and_end_it(rt: HostRuntime) -> Result<(), Fail> {
+    let alloc = rt.alloc();
+    let four = Row {
+        times: &[13, 8, 8, 8],
+        arcs: &[],
+        kind: LineKind::Straight,
+        cycle: 20,
+    };
+    assert_eq!(&rt; row_told(alloc, &JACKSON, 28, true)?.as_str(), "28 0 5");
+    assert_eq!(&rt; row_told(alloc, &JACKSON, 27, true)?.as_str(), "27 0 6");
+    assert_eq!(&rt; row_told(alloc, &four, 100, true)?.as_str(), "0 0 3");
     Ok(())
 }

@@ -22,12 +22,12 @@ use Rattle.lemma_core.specs.Own.{added_of}
 use Rattle.station_search.specs.Decide.{Decides, IsFor}
 use Rattle.station_search.specs.Costs.{HasPublished, PaysExactly, PaysWithin, Costs, Spends, CostsAlone, AddsFew}
 use Rattle.station_search.specs.Costs.{FewAdded}
-use Rattle.station_search.specs.inner.Work.{Does, Accounts, Balances, Ends}
+use Rattle.station_search.specs.inner.Work.{Does, DoesFor, Accounts, Balances, Ends}
 use Rattle.station_search.specs.declared.answers.Decided.{Decided}
 use Rattle.station_search.specs.declared.answers.Decided.TheVariants as decided
 use Rattle.lemma_core.proofs.OwnFacts.{did_none, did_waits, entries_more}
 use Rattle.station_search.proofs.Events.{for_still}
-use Rattle.station_search.proofs.PaidSteps.{does_then, units_among, units_paid}
+use Rattle.station_search.proofs.PaidSteps.{does_then, does_waits, units_among}
 
 module _ (asked : Option Mode) (kind : LineKind) (line : Line) (X : ℕ) where
   own_does : (old new : DeskView) (items : List Item) (n : ℕ) → Does asked kind line X old new items n
@@ -73,7 +73,7 @@ module _ (asked : Option Mode) (kind : LineKind) (line : Line) (X : ℕ) where
       seen = a.done.alone alone;
       published = a.published;
       listed = a.listed;
-      entry_units = units_paid asked kind line X (entries new) a.items a.published (a.fresh alone) a.done.paid;
+      entry_units = a.fresh alone;
       framed = a.framed;
       sum = a.sum;
     }
@@ -171,6 +171,34 @@ module _ (asked : Option Mode) (kind : LineKind) (line : Line) (X : ℕ) where
       record { unanswered = λ k f g j x q same a. e.1 alone k f g j x q a; further = h.further },
     )
     ends_alone R most left (decided.NoMemory frames) alone h e = tt
+
+-- the account of a question that is answered at once: its one entry has no units
+pub answered_at_once : (asked : Option Mode) (kind : LineKind) (line : Line) (X : ℕ) (old new : DeskView)
+    (T : List Bool) (used : ℕ) → used ≡ 0 → DoesFor asked kind line X old new T 1 0
+    → Balances asked kind line X old new [] used (used + 1)
+answered_at_once asked kind line X old new T used z d = record {
+  items = d.items;
+  published = 0;
+  listed = 0;
+  done = d.done;
+  framed = refl;
+  sum = omega (arith, z);
+  few = omega (arith, d.few);
+  fresh = d.fresh;
+}
+
+-- the account of a call that adds no event
+pub accounts_none : (asked : Option Mode) (kind : LineKind) (line : Line) (X : ℕ) (old new : DeskView) (used most : ℕ)
+    → Waits old new → Accounts asked kind line X old new [] used most
+accounts_none asked kind line X old new used most w = record {
+  items = [];
+  published = 0;
+  listed = 0;
+  done = does_waits asked kind line X old new w;
+  framed = refl;
+  within = omega arith;
+  few = omega arith;
+}
 
 -- a call that adds no event adds no entry
 pub few_none : (line : Line) (X : ℕ) (old new : DeskView) (used most : ℕ) → Waits old new

@@ -2,6 +2,7 @@
 use Rattle.std.proofs.Common.{◌≡◌, ℕ, zero, suc, ◌+◌, ◌≤◌, Bool, true, List, [], ◌∷◌, ◌++◌, length, refl, sym, ap, ◌∙◌}
 use Rattle.std.proofs.Common.{subst, inl, inr, arith, Option, Some, length-append}
 use Rattle.std.specs.Prelude.{slice_get}
+use Rattle.line_instance.specs.Truths.{In, IsSubset}
 use Rattle.line_instance.specs.Line.{Line}
 use Rattle.line_rules.specs.Loads.{IsLoad}
 use Rattle.line_rules.specs.Order.{Counts}
@@ -11,12 +12,13 @@ use Rattle.line_rules.specs.declared.types.LineKind.{LineKind}
 use Rattle.line_rules.specs.declared.types.Mode.{Mode}
 use Rattle.line_rules.specs.declared.types.Entry.{Entry}
 use Rattle.line_rules.proofs.LongerLists.{get_longer}
+use Rattle.line_rules.proofs.ListUnits.{units_both}
 use Rattle.lemma_core.specs.History.{Item, added, known, better}
 use Rattle.lemma_core.specs.Desks.{DeskView, entries, entries_after, Keeps, Waits, Adds}
 use Rattle.lemma_core.specs.Own.{added_of}
 use Rattle.station_search.specs.Mode.{frame_mode}
 use Rattle.station_search.specs.Costs.{HasMode, AreLemmas, HasLoads, Pays, PayAll}
-use Rattle.station_search.specs.inner.Work.{Does, AllAdded, AreOfSet, DoesFor}
+use Rattle.station_search.specs.inner.Work.{Does, AreWithin, DoesFor}
 use Rattle.lemma_core.proofs.HistoryGrows.{keeps_none}
 use Rattle.lemma_core.proofs.OwnFacts.{did_none, did_waits, did_adds, did_both, saw_none, saw_waits, saw_adds, saw_both}
 use Rattle.lemma_core.proofs.OwnFacts.{entries_more, entries_added}
@@ -53,11 +55,11 @@ lemmas_both : (asked : Option Mode) (kind : LineKind) (line : Line) (X : ℕ) (x
 lemmas_both asked kind line X [] ys p q = q
 lemmas_both asked kind line X (x ∷ xs) ys p q = (p.0, p.1, lemmas_both asked kind line X xs ys p.2 q)
 
-pub all_added_both : (xs ys : List Item) → AllAdded xs → AllAdded ys → AllAdded (xs ++ ys)
-all_added_both [] ys p q = q
-all_added_both (added id e ∷ xs) ys p q = all_added_both xs ys p q
-all_added_both (known id most ∷ xs) ys p q = absurd p
-all_added_both (better n ∷ xs) ys p q = absurd p
+-- the units of the entries that two lists of items add
+pub fresh_both : (line : Line) (xs ys : List Item) (a b : ℕ) → UnitsOf line (added_of xs) a
+    → UnitsOf line (added_of ys) b → UnitsOf line (added_of (xs ++ ys)) (a + b)
+fresh_both line xs ys a b p q = let P : List Entry → Type 0 = λ z. UnitsOf line z (a + b) in
+    subst P (sym (added_both xs ys)) (units_both line (added_of xs) (added_of ys) a b p q)
 
 -- so many entries are added by two lists of items
 pub added_length : (xs ys : List Item) → length (added_of (xs ++ ys)) ≡ length (added_of xs) + length (added_of ys)
@@ -76,18 +78,6 @@ units_among asked kind line X es (known id most ∷ is) n p =
 units_among asked kind line X es (better m ∷ is) n p =
     let r : (a : ℕ) × (UnitsOf line (added_of is) a × (a ≤ p.1)) = units_among asked kind line X es is p.1 p.2.1 in
     (r.0, (r.1.0, omega (arith, r.1.1, p.2.2)))
-
--- where each item added an entry, what was paid are the units of the entries
-pub units_paid : (asked : Option Mode) (kind : LineKind) (line : Line) (X : ℕ) (es : List Entry) (is : List Item)
-    (n : ℕ) → AllAdded is → PayAll asked kind line X es is n → UnitsOf line (added_of is) n
-units_paid asked kind line X es [] n a p = p
-units_paid asked kind line X es (added id e ∷ is) n a p = (
-  p.0,
-  p.1,
-  (p.2.0, units_paid asked kind line X es is p.1 a p.2.1, p.2.2),
-)
-units_paid asked kind line X es (known id most ∷ is) n a p = absurd a
-units_paid asked kind line X es (better m ∷ is) n a p = absurd a
 
 pub counts_has : (line : Line) (c : ℕ) (mode : Mode) (R : List Bool) (n : ℕ) → Counts line (IsLoad line c mode R) n
     → HasLoads line c mode R n
@@ -142,15 +132,15 @@ module _ (asked : Option Mode) (kind : LineKind) (line : Line) (X : ℕ) where
     items = [];
     done = does_waits old new w;
     few = omega arith;
-    of_set = tt;
-    fresh = λ t. tt;
+    within = tt;
+    fresh = λ t. refl;
   }
 
   pub one_added : (old new : DeskView) (before : List Item) (id : ℕ) (e : Entry) (T : List Bool) (n : ℕ)
       → Adds old new before (added id e) → e.cycle ≡ X → HasMode asked kind line e.set e.why → UnitsBy line e e.why n
-      → e.set ≡ T
+      → IsSubset e.set T
       → DoesFor asked kind line X old new T 1 n
-  one_added old new before id e T n a cycle mode units set = record {
+  one_added old new before id e T n a cycle mode units part = record {
     items = added id e ∷ [];
     done = record {
       did = did_adds old old new [] before (added id e) (keeps_none old) (did_none old) a;
@@ -160,51 +150,72 @@ module _ (asked : Option Mode) (kind : LineKind) (line : Line) (X : ℕ) where
       alone = saw_adds old old new [] before (added id e) (keeps_none old) (saw_none old) a;
     };
     few = omega arith;
-    of_set = (set, tt);
-    fresh = λ t. tt;
+    within = (part, tt);
+    fresh = λ t. (n, 0, (units, refl, omega arith));
   }
+
+  -- a known entry pays with loads of its set
+  known_does : (old new : DeskView) (before : List Item) (id m : ℕ) (T : List Bool) (most n : ℕ)
+      → Adds old new before (known id m) → IsLastAnswer (entries_after old before) T most X id
+      → HasLoads line X (frame_mode asked kind line T) T n → Does asked kind line X old new (known id m ∷ []) n
+  known_does old new before id m T most n a last loads =
+      let s = known_answers old new before (known id m) T most X id a last in
+      let H : List Bool → Type 0 = λ z. HasLoads line X (frame_mode asked kind line z) z n in
+      record {
+        did = did_adds old old new [] before (known id m) (keeps_none old) (did_none old) a;
+        publishes = (tt, tt);
+        lemmas = tt;
+        paid = (n, 0, ((s.entry, s.there, subst H (sym s.answers.same) loads), refl, omega arith));
+        alone = saw_adds old old new [] before (known id m) (keeps_none old) (saw_none old) a;
+      }
 
   pub one_known : (old new : DeskView) (before : List Item) (id m : ℕ) (T : List Bool) (most n : ℕ)
       → Adds old new before (known id m) → IsLastAnswer (entries_after old before) T most X id
       → HasLoads line X (frame_mode asked kind line T) T n → (old.alone ≡ true → IsUnanswered (entries old) T most X)
       → DoesFor asked kind line X old new T 1 n
-  one_known old new before id m T most n a last loads un =
-      let s = known_answers old new before (known id m) T most X id a last in
-      let H : List Bool → Type 0 = λ z. HasLoads line X (frame_mode asked kind line z) z n in
-      record {
-        items = known id m ∷ [];
-        done = record {
-          did = did_adds old old new [] before (known id m) (keeps_none old) (did_none old) a;
-          publishes = (tt, tt);
-          lemmas = tt;
-          paid = (n, 0, ((s.entry, s.there, subst H (sym s.answers.same) loads), refl, omega arith));
-          alone = saw_adds old old new [] before (known id m) (keeps_none old) (saw_none old) a;
-        };
-        few = omega arith;
-        of_set = tt;
-        fresh = λ t.
-            let P : List Item → Type 0 = λ z. IsLastAnswer (entries_after old z) T most X id in
-            let g : IsLastAnswer (entries old) T most X id = subst P (a.still t) last in
-            absurd (un t id g.entry g.there g.answers);
-      }
+  one_known old new before id m T most n a last loads un = record {
+    items = known id m ∷ [];
+    done = known_does old new before id m T most n a last loads;
+    few = omega arith;
+    within = tt;
+    fresh = λ t.
+        let P : List Item → Type 0 = λ z. IsLastAnswer (entries_after old z) T most X id in
+        let g : IsLastAnswer (entries old) T most X id = subst P (a.still t) last in
+        absurd (un t id g.entry g.there g.answers);
+  }
 
--- entries of the set T answer no question of another set
-of_another : (T set : List Bool) (most X : ℕ) (es : List Entry) (k : ℕ) (e : Entry) → (set ≡ T → ⊥) → AreOfSet T es
-    → slice_get es k ≡ Some e → Answers e set most X → ⊥
-of_another T set most X [] k e differs s g a = absurd (cc)
-of_another T set most X (x ∷ es) zero e differs s g a = let q : x ≡ e = cc in
-    differs (sym a.same ∙ (ap (λ (z : Entry). z.set) (sym q) ∙ s.0))
-of_another T set most X (x ∷ es) (suc k) e differs s g a = of_another T set most X es k e differs s.1 g a
+  -- an entry that has no units, known or not, pays nothing
+  pub known_free : (old new : DeskView) (before : List Item) (id m : ℕ) (T R : List Bool) (most : ℕ)
+      → Adds old new before (known id m) → IsLastAnswer (entries_after old before) R most X id
+      → DoesFor asked kind line X old new T 1 0
+  known_free old new before id m T R most a last = record {
+    items = known id m ∷ [];
+    done = known_does old new before id m R most 0 a last
+        (no_loads line X (frame_mode asked kind line R) R);
+    few = omega arith;
+    within = tt;
+    fresh = λ t. refl;
+  }
 
--- where the desk is alone, a question of another set stays unanswered
+-- entries of parts of T answer no question of a set that has a task more
+of_another : (T set : List Bool) (most X : ℕ) (es : List Entry) (k : ℕ) (e : Entry)
+    → ((i : ℕ) × (In set i × (In T i → ⊥))) → AreWithin T es → slice_get es k ≡ Some e → Answers e set most X → ⊥
+of_another T set most X [] k e more s g a = absurd (cc)
+of_another T set most X (x ∷ es) zero e more s g a =
+    let q : x.set ≡ set = (let same : x ≡ e = cc in ap (λ (z : Entry). z.set) same ∙ a.same) in
+    let P : List Bool → Type 0 = λ z. In z more.0 in
+    more.1.1 (s.0 more.0 (subst P (sym q) more.1.0))
+of_another T set most X (x ∷ es) (suc k) e more s g a = of_another T set most X es k e more s.1 g a
+
+-- where the desk is alone, a question of a set that has a task more stays unanswered
 pub unanswered_still : (asked : Option Mode) (kind : LineKind) (line : Line) (X : ℕ) (old new : DeskView)
     (T : List Bool) (many n : ℕ) (set : List Bool) (most : ℕ) → old.alone ≡ true → Keeps old new
-    → DoesFor asked kind line X old new T many n → (set ≡ T → ⊥)
+    → DoesFor asked kind line X old new T many n → ((i : ℕ) × (In set i × (In T i → ⊥)))
     → IsUnanswered (entries old) set most X → IsUnanswered (entries new) set most X
-unanswered_still asked kind line X old new T many n set most alone k d differs un =
+unanswered_still asked kind line X old new T many n set most alone k d more un =
     let P : List Entry → Type 0 = λ z. IsUnanswered z set most X in
     subst P (sym (entries_added old new d.items k (d.done.alone alone)))
     (λ j e g a. elim (get_append_cases (entries old) (added_of d.items) j e g) [
       | inl h ↦ un j e h a
-      | inr h ↦ of_another T set most X (added_of d.items) h.0 e differs d.of_set h.1 a
+      | inr h ↦ of_another T set most X (added_of d.items) h.0 e more d.within h.1 a
     ])

@@ -69,7 +69,7 @@ does_for_then asked kind line X a b c T m n w k d = record {
   items = d.items;
   done = does_then asked kind line X a b c d.items n w k d.done;
   few = d.few;
-  of_set = d.of_set;
+  within = d.within;
   fresh = λ t. d.fresh (w.keeps.alone ∙ t);
 }
 

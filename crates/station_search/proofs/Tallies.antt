@@ -7,7 +7,7 @@ use Rattle.line_instance.specs.Line.{Line, IsRanked}
 use Rattle.line_rules.specs.Loads.{IsLoad, taken, rest}
 use Rattle.line_rules.specs.Order.{UpTo, After, IsFollowing, Counts}
 use Rattle.line_rules.specs.Entries.{IsUnanswered}
-use Rattle.line_rules.specs.Units.{FrameUnits, UnitsIn}
+use Rattle.line_rules.specs.Units.{UnitsOf, FrameUnits, UnitsIn}
 use Rattle.line_rules.specs.Trails.{LastIsLoad, Leads}
 use Rattle.line_rules.specs.declared.types.LineKind.{LineKind}
 use Rattle.line_rules.specs.declared.types.Mode.{Mode}
@@ -22,13 +22,13 @@ use Rattle.lemma_core.specs.History.{Item}
 use Rattle.lemma_core.specs.Desks.{DeskView, entries, Keeps}
 use Rattle.lemma_core.specs.Own.{added_of}
 use Rattle.station_search.specs.Costs.{AreUnanswered}
-use Rattle.station_search.specs.inner.Work.{with_last, with_cites, Does, AllAdded, DoesFor, Accounts, Balances}
+use Rattle.station_search.specs.inner.Work.{with_last, with_cites, Does, DoesFor, Accounts, Balances}
 use Rattle.station_search.proofs.Events.{waits_none}
-use Rattle.station_search.proofs.PaidSteps.{does_waits, does_both, all_added_both, added_length, unanswered_still}
+use Rattle.station_search.proofs.PaidSteps.{does_waits, does_both, fresh_both, added_length, unanswered_still}
 
 -- What the steps so far did on the desk, and the units of the frames, come to what was spent; the entries added, the
--- frames that wait and some room are no more. Where the desk is alone, each event added an entry, and no entry answers
--- a frame.
+-- frames that wait and some room are no more. Where the desk is alone, what was paid are the units of the entries added,
+-- and no entry answers a frame.
 pub record Tally (asked : Option Mode) (kind : LineKind) (line : Line) (X : ℕ) (old new : DeskView)
     (passed : List OpenFrame) (frame : OpenFrame) (spent room : ℕ) : Type 0 where
   pub items : List Item
@@ -40,7 +40,7 @@ pub record Tally (asked : Option Mode) (kind : LineKind) (line : Line) (X : ℕ)
   pub frame_units : FrameUnits line X frame here
   pub sum : published + (above + here) ≡ spent
   pub few : length (added_of items) + length passed + room ≤ spent
-  pub fresh : old.alone ≡ true → AllAdded items
+  pub fresh : old.alone ≡ true → UnitsOf line (added_of items) published
   pub unanswered : old.alone ≡ true → AreUnanswered (entries new) X (passed ++ frame ∷ [])
 
 -- each frame that waits has a task that the set at the end hasn't
@@ -62,21 +62,24 @@ leads_strict kind line X es (g ∷ fs) R most R' most' h zero f e =
 leads_strict kind line X es (g ∷ fs) R most R' most' h (suc k) f e =
     leads_strict kind line X es fs (rest g.set h.0) (g.most - 1) R' most' h.1.3 k f e
 
--- no frame has the set of the rest of a load of the last frame
-rest_differs : (kind : LineKind) (line : Line) (X : ℕ) (es : List Entry) (R : List Bool) (most : ℕ)
+-- each frame has a task that the rest of a load of the last frame hasn't
+rest_lacks : (kind : LineKind) (line : Line) (X : ℕ) (es : List Entry) (R : List Bool) (most : ℕ)
     (passed : List OpenFrame) (frame : OpenFrame) (l : Load) → Leads kind line X es R most passed frame.set frame.most
     → IsLoad line X frame.mode frame.set l → (k : ℕ) (f : OpenFrame) → slice_get (passed ++ frame ∷ []) k ≡ Some f
-    → f.set ≡ rest frame.set l → ⊥
-rest_differs kind line X es R most passed frame l leads load k f e q = elim (get_push_cases passed frame f k e) [
+    → (i : ℕ) × (In f.set i × (In (rest frame.set l) i → ⊥))
+rest_lacks kind line X es R most passed frame l leads load k f e = elim (get_push_cases passed frame f k e) [
   | inl h ↦
       let s : (i : ℕ) × (In f.set i × (In frame.set i → ⊥)) =
       leads_strict kind line X es passed R most frame.set frame.most leads k f h.1 in
-      let P : List Bool → Type 0 = λ z. In z s.0 in
-      s.1.1 (rest_inside frame.set l s.0 (subst P q s.1.0))
+      (s.0, (s.1.0, λ m. s.1.1 (rest_inside frame.set l s.0 m)))
   | inr h ↦
-      let P : List Bool → Type 0 = λ z. In z load.some.0 in
-      let Q : OpenFrame → Type 0 = λ z. In z.set load.some.0 in
-      rest_without frame.set l load.some.0 load.some.1 (subst P q (subst Q h.1 (load.within load.some.0 load.some.1)))
+      let Q : OpenFrame → Type 0 = λ z. In z.set load.some.0 in (
+        load.some.0,
+        (
+          subst Q h.1 (load.within load.some.0 load.some.1),
+          λ m. rest_without frame.set l load.some.0 load.some.1 m,
+        ),
+      )
 ]
 
 -- the questions of the frames stay the same where the last one gets another last load and other cites
@@ -132,7 +135,7 @@ module _ (asked : Option Mode) (kind : LineKind) (line : Line) (ranked : IsRanke
     frame_units = none_counts line X frame last;
     sum = refl;
     few = omega arith;
-    fresh = λ t. tt;
+    fresh = λ t. refl;
     unanswered = λ t. one_more X (entries old) [] frame (λ k f e. absurd (cc)) (un t);
   }
 
@@ -201,11 +204,11 @@ module _ (asked : Option Mode) (kind : LineKind) (line : Line) (ranked : IsRanke
       frame_units = units_push line ranked X frame.mode frame.set frame.last is_load l following t.here t.frame_units;
       sum = omega (arith, more, t.sum);
       few = omega (arith, added_length t.items d.items, d.few, t.few, less, more);
-      fresh = λ a. all_added_both t.items d.items (t.fresh a) (d.fresh (before.alone ∙ a));
+      fresh = λ a. fresh_both line t.items d.items t.published 0 (t.fresh a) (d.fresh (before.alone ∙ a));
       unanswered = λ a. same_questions X (entries new) passed frame (with_cites (with_last frame l) cites) refl refl
           (λ j f e.
           unanswered_still asked kind line X mid new (rest frame.set l) m 0 f.set f.most (before.alone ∙ a) k d
-          (rest_differs kind line X es R most passed frame l leads following.load j f e) (t.unanswered a j f e));
+          (rest_lacks kind line X es R most passed frame l leads following.load j f e) (t.unanswered a j f e));
     }
 
     module _ (is_load : LastIsLoad line X frame.mode frame.set frame.last)
@@ -228,7 +231,7 @@ module _ (asked : Option Mode) (kind : LineKind) (line : Line) (ranked : IsRanke
       sum = let P : List OpenFrame → Type 0 = λ z. UnitsIn line X z t.above in
           let z : t.above ≡ 0 = subst P e t.passed_units in omega (arith, t.sum, z);
       few = omega (arith, added_length t.items d.items, d.few, t.few);
-      fresh = λ a. all_added_both t.items d.items (t.fresh a) (d.fresh (before.alone ∙ a));
+      fresh = λ a. fresh_both line t.items d.items t.published t.here (t.fresh a) (d.fresh (before.alone ∙ a));
     }
 
     -- the frame is refuted, and the one above it goes on
@@ -257,12 +260,10 @@ module _ (asked : Option Mode) (kind : LineKind) (line : Line) (ranked : IsRanke
             ap (λ (z : List OpenFrame). length z) e,
             length-append upper (parent ∷ []),
           );
-          fresh = λ a. all_added_both t.items d.items (t.fresh a) (d.fresh (before.alone ∙ a));
+          fresh = λ a. fresh_both line t.items d.items t.published t.here (t.fresh a) (d.fresh (before.alone ∙ a));
           unanswered = λ a. same_questions X (entries new) upper parent (with_cites parent cites) refl refl (λ j f g.
               let there : slice_get passed j ≡ Some f = ap (λ (z : List OpenFrame). slice_get z j) e ∙ g in
-              let s : (i : ℕ) × (In f.set i × (In frame.set i → ⊥)) =
-              leads_strict kind line X es passed R most frame.set frame.most leads j f there in
               unanswered_still asked kind line X mid new frame.set 1 t.here f.set f.most (before.alone ∙ a) k d
-              (λ q. let P : List Bool → Type 0 = λ z. In z s.0 in s.1.1 (subst P q s.1.0))
+              (leads_strict kind line X es passed R most frame.set frame.most leads j f there)
               (t.unanswered a j f (get_longer passed (frame ∷ []) j f there)));
         }

@@ -25,6 +25,7 @@ abbrev pub HasMode : Option Mode → LineKind → Line → List Bool → Why →
 HasMode asked kind line R why.Bound = Unit {0}
 HasMode asked kind line R (why.Branch mode cites) = mode ≡ frame_mode asked kind line R
 HasMode asked kind line R (why.Swap cite out into) = Unit {0}
+HasMode asked kind line R (why.Pairs two) = Unit {0}
 
 -- each entry has the cycle X, and the mode asked for or that of its set where it is a Branch
 abbrev pub AreLemmas : Option Mode → LineKind → Line → ℕ → List Entry → Type 0

@@ -13,6 +13,7 @@ use Rattle.line_rules.specs.declared.types.Load.{Load}
 use Rattle.line_rules.specs.declared.types.Entry.{Entry}
 use Rattle.line_rules.specs.declared.types.OpenFrame.{OpenFrame}
 use Rattle.lemma_core.specs.Desks.{DeskView}
+use Rattle.pair_search.specs.Sharing.{Sharing, IsTableOf}
 use Rattle.station_search.specs.Mode.{frame_mode}
 use Rattle.station_search.specs.declared.answers.Reason.TheVariants as reason
 use Rattle.station_search.specs.declared.answers.Decided.{Decided}
@@ -23,6 +24,12 @@ pub record IsFor (desk : DeskView) (line : Line) (kind : LineKind) (cycle : ℕ)
   pub same_line : desk.about.line ≡ line
   pub same_kind : desk.about.kind ≡ kind
   pub same_cycle : desk.about.cycle ≡ cycle
+
+-- the table of pairs is of this line, its kind and this cycle (own)
+pub record IsPairing (line : Line) (kind : LineKind) (cycle : ℕ) (table : Sharing) : Type 0 where
+  pub table_of : IsTableOf line table
+  pub same_kind : table.kind ≡ kind
+  pub same_cycle : table.cycle ≡ cycle
 
 -- the entry of number id answers the question
 pub record IsAnswered (es : List Entry) (id : ℕ) (set : List Bool) (most cycle : ℕ) : Type 0 where

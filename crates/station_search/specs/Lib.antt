@@ -3,3 +3,4 @@ pub mod Decide
 pub mod Costs
 pub mod Parts
 pub mod inner
+pub use Rattle.pair_search.specs as pairs

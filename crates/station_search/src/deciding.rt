@@ -6,15 +6,17 @@ ghost use Rattle.line_rules.specs.Loads.{Belongs};
 ghost use Rattle.line_rules.specs.Entries.{HasAnswer};
 ghost use Rattle.line_rules.specs.Ranges.{IsCycle};
 ghost use Rattle.lemma_core.specs.Desks.{entries, Keeps};
-ghost use Rattle.station_search.specs.Decide.{IsFor, Decides, IsByEntry};
+ghost use Rattle.station_search.specs.Decide.{IsFor, IsPairing, Decides, IsByEntry};
 ghost use Rattle.station_search.specs.Costs.{HasPublished, Costs, CostsAlone, FewAdded};
 
 use crate::answers::{Decided, Reason, Units};
+use crate::pairing::{ask_pairs, refute_by_pairs};
 use crate::searching::search;
 use lemma_core::{Desk, Looked};
 use line_instance::{Instance, TaskSet};
 use line_rules::{Frames, LineKind, Loads, Mode};
 use lower_bounds::exceeds;
+use pair_search::{PairTable, Paired};
 use std::alloc::Global;
 
 /// Whether a set of tasks has a balance in `most` stations on a line of this kind at this cycle: by the bound, by an
@@ -53,11 +55,19 @@ pub fn decide<D: Desk>(
     ensures few { let used = units.new.used - units.old.used in
         FewAdded inst.now cycle (D.desk desk.old) (D.desk desk.new) used result }
 {
-    decide_in(alloc, desk, inst, kind, cycle, set, most, None, units)
+    let mut pairs: Option<PairTable> = None;
+    decide_in(
+        alloc, desk, inst, kind, cycle, set, most, None, &mut pairs, units,
+    )
 }
 
-/// The same question, with each frame of the search in the mode that is asked for, which belongs to the kind of line;
-/// `decide` asks for none, and then each frame has the mode of its set.
+/// The same question, with each frame of the search in the mode that is asked for, which belongs to the kind of line,
+/// and with a table of pairs, which is of this line, kind and cycle. `decide` asks for no mode, and then each frame has
+/// the mode of its set; and it has no table.
+///
+/// With a table the pairs are asked after the desk, where `most` is at least 2: of the question, and of each rest
+/// before a Swap is looked for. What they refute is published as an entry by Pairs, of the question's own set, or of the
+/// part of the rest that counts. That uses no unit.
 pub fn decide_in<D: Desk>(
     alloc: Global,
     desk: &mut D,
@@ -67,6 +77,7 @@ pub fn decide_in<D: Desk>(
     set: &TaskSet,
     most: u32,
     mode: Option<Mode>,
+    pairs: &mut Option<PairTable>,
     units: &mut Units,
 ) -> Decided
     requires desk { IsFor (D.desk desk.old) inst.now kind cycle }
@@ -74,8 +85,10 @@ pub fn decide_in<D: Desk>(
     requires cycle { IsCycle cycle }
     requires few { most ≤ 1024 }
     requires mode { IfSome mode (Belongs kind) }
+    requires pairs { IfSome pairs.old (IsPairing inst.now kind cycle) }
     requires units { units.old.used + units.old.left < 2 ^ 64 }
     ensures keeps { Keeps (D.desk desk.old) (D.desk desk.new) }
+    ensures pairs { pairs.new ≡ pairs.old }
     ensures units { units.new.used + units.new.left ≡ units.old.used + units.old.left }
     ensures own { HasPublished mode kind inst.now cycle (D.desk desk.old) (D.desk desk.new) }
     ensures decides { Decides mode kind inst.now cycle (entries (D.desk desk.new)) set.now most units.new.left result }
@@ -99,7 +112,12 @@ pub fn decide_in<D: Desk>(
     if set.is_empty() {
         return Decided::Found(Loads::from_vec(Vec::new(alloc)));
     }
-    match search(alloc, desk, inst, kind, cycle, set, most, mode, units) {
+    if let Paired::Refuted { two, .. } = ask_pairs(pairs, inst, kind, cycle, set, most) {
+        return refute_by_pairs(alloc, desk, inst, kind, cycle, set, most, &two);
+    }
+    match search(
+        alloc, desk, inst, kind, cycle, set, most, mode, pairs, units,
+    ) {
         Ok(decided) => decided,
         Err(_) => Decided::NoMemory(Frames::from_vec(Vec::new(alloc))),
     }

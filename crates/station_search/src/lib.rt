@@ -1,5 +1,6 @@
-//! Decides whether a set of tasks has a balance in so many stations: by the bound, by what a desk has seen, or by a
-//! search over the loads of the end station. Each load that is listed costs one unit, and what is refuted is published.
+//! Decides whether a set of tasks has a balance in so many stations: by the bound, by what a desk has seen, by pairs,
+//! or by a search over the loads of the end station. Each load that is listed costs one unit, and what is refuted is
+//! published.
 #![tactic(auto)]
 
 mod answers;
@@ -8,6 +9,7 @@ mod halves;
 mod listings;
 mod modes;
 mod ordering;
+mod pairing;
 mod placing;
 mod searching;
 mod sorting;
@@ -17,4 +19,6 @@ mod swaps;
 pub use answers::{Decided, Reason, Units};
 pub use deciding::{decide, decide_in};
 pub use modes::choose_mode;
+pub use pair_search::{PairTable, Paired, pair_table};
+pub use pairing::{ask_pairs, table_for};
 pub use placing::balance_of;

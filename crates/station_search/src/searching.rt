@@ -16,18 +16,20 @@ ghost use Rattle.line_rules.specs.declared.types.Mode.{Mode as Way};
 ghost use Rattle.lemma_core.specs.Desks.{entries, Keeps, Waits, FollowsSeen};
 ghost use Rattle.lemma_core.specs.Own.{IsStatable};
 ghost use Rattle.station_search.specs.Mode.{frame_mode};
-ghost use Rattle.station_search.specs.Decide.{IsFor, IsAnswered, Decides};
+ghost use Rattle.station_search.specs.Decide.{IsFor, IsPairing, IsAnswered, Decides};
 ghost use Rattle.station_search.specs.inner.Work.{branch_of, DoesFor, Accounts, Ends};
 
 use crate::answers::{Decided, Reason, Units};
 use crate::listings::{Listing, begin_listing, next_load};
 use crate::modes::mode_for;
 use crate::ordering::loads_in_order;
+use crate::pairing::{enter, enter_first, leave};
 use crate::sorting::{Sorted, sort_load};
 use crate::stacks::{pop_from, push_on, stack_with_room, take_from, trail_to};
 use lemma_core::{Desk, Published};
 use line_instance::{Instance, TaskSet};
 use line_rules::{Cites, Entry, LineKind, Mode, OpenFrame, Why};
+use pair_search::PairTable;
 use std::alloc::{AllocError, Global};
 
 // Publishes a frame whose loads ended as a Branch entry, and gives the number of an entry that answers it.
@@ -96,6 +98,7 @@ pub fn search<D: Desk>(
     set: &TaskSet,
     most: u32,
     mode: Option<Mode>,
+    pairs: &mut Option<PairTable>,
     units: &mut Units,
 ) -> Result<Decided, AllocError>
     requires desk { IsFor (D.desk desk.old) inst.now kind cycle }
@@ -103,11 +106,13 @@ pub fn search<D: Desk>(
     requires cycle { IsCycle cycle }
     requires few { most ≤ 1024 }
     requires mode { IfSome mode (Belongs kind) }
+    requires pairs { IfSome pairs.old (IsPairing inst.now kind cycle) }
     requires some { (i : ℕ) × In set.now i }
     requires bound { bound kind inst.now cycle set.now ≤ most }
     requires unanswered { (D.desk desk.old).alone ≡ true → IsUnanswered (entries (D.desk desk.old)) set.now most cycle }
     requires units { units.old.used + units.old.left < 2 ^ 64 }
     ensures keeps { Keeps (D.desk desk.old) (D.desk desk.new) }
+    ensures pairs { pairs.new ≡ pairs.old }
     ensures units { units.new.used + units.new.left ≡ units.old.used + units.old.left }
     ensures decides { IfOk result
         (Decides mode kind inst.now cycle (entries (D.desk desk.new)) set.now most units.new.left) }
@@ -121,10 +126,12 @@ pub fn search<D: Desk>(
     let mut listings: Vec<Listing> = Vec::new(alloc);
     let mut frame = open_frame(alloc, inst, kind, set, most, mode);
     let mut listing = begin_listing(inst, cycle, &frame);
+    enter_first(pairs, set)?;
     'search: loop {
         match next_load(inst, cycle, &frame, &mut listing) {
             None => {
                 let id = publish_branch(desk, cycle, frame)?;
+                leave(pairs);
                 match pop_from(&mut passed) {
                     None => return Ok(Decided::Refuted(Reason::ByEntry(id))),
                     Some(parent) => {
@@ -141,7 +148,9 @@ pub fn search<D: Desk>(
                 units.left -= 1;
                 units.used += 1;
                 frame.last = Some(load);
-                match sort_load(desk, inst, kind, cycle, &frame, &load, &listing)? {
+                match sort_load(
+                    alloc, desk, inst, kind, cycle, &frame, &load, &listing, pairs,
+                )? {
                     Sorted::Closed => {}
                     Sorted::Covered(id) => frame.cites.push(id)?,
                     Sorted::Empty => {
@@ -149,6 +158,7 @@ pub fn search<D: Desk>(
                         return Ok(Decided::Found(loads_in_order(alloc, &frames)?));
                     }
                     Sorted::Open(rest) => {
+                        enter(pairs, &rest)?;
                         let below = open_frame(alloc, inst, kind, &rest, frame.most - 1, mode);
                         push_on(&mut passed, frame)?;
                         push_on(&mut listings, listing)?;

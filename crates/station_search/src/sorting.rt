@@ -1,20 +1,22 @@
 //! What is to be done with a load that was listed: the tests of the load and of its rest.
-ghost use Rattle.std.specs.Prelude.{◌≡◌, ◌≤◌, Option, Some, IfOk, OnErr};
+ghost use Rattle.std.specs.Prelude.{◌≡◌, ◌≤◌, Option, Some, IfSome, IfOk, OnErr};
 ghost use Rattle.line_instance.specs.Line.{IsTaskSet};
 ghost use Rattle.line_rules.specs.Loads.{IsLoad, rest};
 ghost use Rattle.line_rules.specs.Ranges.{IsCycle};
 ghost use Rattle.line_rules.specs.declared.types.Mode.{Mode};
 ghost use Rattle.lemma_core.specs.Desks.{entries, Keeps};
-ghost use Rattle.station_search.specs.Decide.{IsFor};
+ghost use Rattle.station_search.specs.Decide.{IsFor, IsPairing};
 ghost use Rattle.station_search.specs.inner.Work.{IsBeside, Sorts, DoesFor, may_add};
 
 use crate::listings::{Listing, is_longer, rest_times};
+use crate::pairing::{ask_pairs, publish_pairs};
 use crate::swaps::publish_swap;
 use lemma_core::{Desk, Looked};
 use line_instance::{Instance, TaskSet};
 use line_rules::{LineKind, Load, OpenFrame};
 use lower_bounds::exceeds_with;
-use std::alloc::AllocError;
+use pair_search::{PairTable, Paired};
+use std::alloc::{AllocError, Global};
 
 /// What a search does with a load.
 pub enum Sorted {
@@ -31,6 +33,7 @@ pub enum Sorted {
 /// What is to be done with the last load of a frame, at which its listing stands. The total time of what it leaves
 /// is asked first, since it closes most loads, and then how many tasks over half a cycle it leaves.
 pub fn sort_load<D: Desk>(
+    alloc: Global,
     desk: &mut D,
     inst: &Instance,
     kind: LineKind,
@@ -38,6 +41,7 @@ pub fn sort_load<D: Desk>(
     frame: &OpenFrame,
     load: &Load,
     listing: &Listing,
+    pairs: &mut Option<PairTable>,
 ) -> Result<Sorted, AllocError>
     requires desk { IsFor (D.desk desk.old) inst.now kind cycle }
     requires cycle { IsCycle cycle }
@@ -47,7 +51,9 @@ pub fn sort_load<D: Desk>(
     requires beside { IsBeside inst.now cycle frame.now listing.now }
     requires some { 1 ≤ frame.now.most }
     requires few { frame.now.most ≤ 1024 }
+    requires pairs { IfSome pairs.old (IsPairing inst.now kind cycle) }
     ensures keeps { Keeps (D.desk desk.old) (D.desk desk.new) }
+    ensures pairs { pairs.new ≡ pairs.old }
     ensures publishes { (asked : Option Mode) → let rest = rest frame.now.set load.now in
         IfOk result (λ s. DoesFor asked kind inst.now cycle (D.desk desk.old) (D.desk desk.new) rest (may_add s) 0) }
     ensures fails { (asked : Option Mode) → let rest = rest frame.now.set load.now in
@@ -75,6 +81,18 @@ pub fn sort_load<D: Desk>(
     match desk.look(&rest, frame.most - 1) {
         Looked::Found { id, .. } => return Ok(Sorted::Covered(id)),
         Looked::Absent => {}
+    }
+    if let Paired::Refuted { hull, two } = ask_pairs(
+        pairs,
+        inst,
+        kind,
+        cycle,
+        &rest,
+        frame.most - 1,
+    ) {
+        let most = frame.most - 1;
+        let paired = publish_pairs(alloc, desk, inst, kind, cycle, &hull, most, &two)?;
+        return Ok(Sorted::Covered(paired));
     }
     match publish_swap(desk, inst, kind, cycle, &rest, frame.most - 1)? {
         Some(id) => Ok(Sorted::Covered(id)),

@@ -145,6 +145,10 @@ module _ (kind : LineKind) (line : Line) (numbers : List (Option ℕ)) (olds es 
       let s = by_swap_parts out into (new_number numbers cite) v is in
       let P : Why → Type 0 = λ z. FollowsBy kind line es (because e x) z in
       subst P s.1.1 (swaps_there e x cite s.0 out into s.1.0 h)
+  follows_there_by e x (why.Pairs two) v is h =
+      let s : why.Pairs two ≡ v = cc in
+      let P : Why → Type 0 = λ z. FollowsBy kind line es (because e x) z in
+      subst P s h
 
   units_there_by : (e : Entry) (x w v : Why) (units : ℕ) → renumbered_why numbers w ≡ Some v → UnitsBy line e w units
       → UnitsBy line (because e x) v units
@@ -160,6 +164,10 @@ module _ (kind : LineKind) (line : Line) (numbers : List (Option ℕ)) (olds es 
       let s = by_swap_parts out into (new_number numbers cite) v is in
       let P : Why → Type 0 = λ z. UnitsBy line (because e x) z units in
       subst P s.1.1 h
+  units_there_by e x (why.Pairs two) v units is h =
+      let s : why.Pairs two ≡ v = cc in
+      let P : Why → Type 0 = λ z. UnitsBy line (because e x) z units in
+      subst P s h
 
   -- an old entry that follows from old ones follows in the list, its cites renumbered, with as many units
   walked_there : (old new : Entry) (units : ℕ) → renumbered numbers old ≡ Some new → IsWalked kind line olds old units

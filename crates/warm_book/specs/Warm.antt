@@ -54,6 +54,7 @@ abbrev pub renumbered_why : List (Option ℕ) → Why → Option Why
 renumbered_why numbers why.Bound = Some why.Bound
 renumbered_why numbers (why.Branch mode cites) = by_branch mode (renumbered_cites numbers cites)
 renumbered_why numbers (why.Swap cite out into) = by_swap out into (new_number numbers cite)
+renumbered_why numbers (why.Pairs two) = Some (why.Pairs two)
 
 abbrev pub with_why : Entry → Option Why → Option Entry
 with_why e None = None

@@ -56,6 +56,7 @@ fn renumbered_why(
             out_task: *out_task,
             in_task: *in_task,
         })),
+        Why::Pairs { two } => Ok(Some(Why::Pairs { two: two.copy()? })),
     }
 }
 

@@ -81,6 +81,7 @@ fn has_hope(numbers: &[Option<u64>], why: &Why) -> bool
         Why::Bound => true,
         Why::Branch { cites, .. } => are_kept(numbers, cites.as_slice()),
         Why::Swap { cite, .. } => !is_dropped(numbers, *cite),
+        Why::Pairs { .. } => true,
     }
 }
 

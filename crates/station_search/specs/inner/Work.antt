@@ -1,18 +1,18 @@
 -- What the steps of a search do: how a load is sorted, what is published, and what a walk stands for.
 use Rattle.std.specs.Prelude.{◌≡◌, ℕ, ◌+◌, ◌-◌, ◌*◌, ◌<◌, ◌≤◌, Bool, true, List, [], ◌∷◌, ◌++◌, length, Option, Some}
 use Rattle.std.specs.Prelude.{None}
-use Rattle.line_instance.specs.Truths.{In, IsEmpty}
+use Rattle.line_instance.specs.Truths.{In, IsEmpty, IsSubset}
 use Rattle.line_instance.specs.Line.{Line, time}
 use Rattle.line_rules.specs.Loads.{rest}
 use Rattle.line_rules.specs.Entries.{IsOpen, Cites, IsUnanswered}
-use Rattle.line_rules.specs.Units.{UnitsIn}
+use Rattle.line_rules.specs.Units.{UnitsOf, UnitsIn}
 use Rattle.line_rules.specs.declared.types.LineKind.{LineKind}
 use Rattle.line_rules.specs.declared.types.Mode.{Mode}
 use Rattle.line_rules.specs.declared.types.Load.{Load}
 use Rattle.line_rules.specs.declared.types.Entry.{Entry}
 use Rattle.line_rules.specs.declared.types.Why.TheVariants as why
 use Rattle.line_rules.specs.declared.types.OpenFrame.{OpenFrame}
-use Rattle.lemma_core.specs.History.{Item, added, known, better}
+use Rattle.lemma_core.specs.History.{Item}
 use Rattle.lemma_core.specs.Desks.{DeskView, entries}
 use Rattle.lemma_core.specs.Own.{Did, ArePublish, added_of}
 use Rattle.line_rules.specs.Times.{AreTimes}
@@ -50,6 +50,10 @@ branch_of X f = record { set = f.set; most = f.most; cycle = X; why = why.Branch
 abbrev pub swap_of : ℕ → List Bool → ℕ → ℕ → ℕ → ℕ → Entry
 swap_of X set most cite out into = record { set = set; most = most; cycle = X; why = why.Swap cite out into }
 
+-- the Pairs entry of a set: pairs refute it, with these tasks counted twice
+abbrev pub pairs_of : ℕ → List Bool → ℕ → List Bool → Entry
+pairs_of X set most two = record { set = set; most = most; cycle = X; why = why.Pairs two }
+
 -- What is told of a load of the frame: it isn't open; an entry refutes its rest; its rest is empty; or its rest is
 -- open, and no entry answers it where the desk is alone.
 abbrev pub Sorts : LineKind → Line → ℕ → Bool → List Entry → OpenFrame → Load → Sorted → Type 0
@@ -70,28 +74,22 @@ pub record Does (asked : Option Mode) (kind : LineKind) (line : Line) (X : ℕ) 
   pub paid : PayAll asked kind line X (entries new) items n
   pub alone : old.alone ≡ true → new.seen ≡ old.seen ++ items
 
--- each item is of an entry that was added
-abbrev pub AllAdded : List Item → Type 0
-AllAdded [] = Unit {0}
-AllAdded (added id e ∷ is) = AllAdded is
-AllAdded (known id most ∷ is) = ⊥
-AllAdded (better n ∷ is) = ⊥
+-- each of the entries has a part of this set, or all of it
+abbrev pub AreWithin : List Bool → List Entry → Type 0
+AreWithin T [] = Unit {0}
+AreWithin T (e ∷ es) = IsSubset e.set T × AreWithin T es
 
--- each of the entries has this set
-abbrev pub AreOfSet : List Bool → List Entry → Type 0
-AreOfSet T [] = Unit {0}
-AreOfSet T (e ∷ es) = (e.set ≡ T) × AreOfSet T es
-
--- Publishes of entries of the set T, of which at most so many were added: all, where the desk is alone.
+-- Publishes of entries whose sets are parts of T, of which at most so many were added: what was paid are the units of
+-- these, where the desk is alone.
 pub record DoesFor (asked : Option Mode) (kind : LineKind) (line : Line) (X : ℕ) (old new : DeskView)
     (T : List Bool) (most n : ℕ) : Type 0 where
   pub items : List Item
   pub done : Does asked kind line X old new items n
   pub few : length (added_of items) ≤ most
-  pub of_set : AreOfSet T (added_of items)
-  pub fresh : old.alone ≡ true → AllAdded items
+  pub within : AreWithin T (added_of items)
+  pub fresh : old.alone ≡ true → UnitsOf line (added_of items) n
 
--- how many entries may be added where a load is sorted: a Swap entry where the load is covered
+-- how many entries may be added where a load is sorted: one by Pairs or by Swap where the load is covered
 abbrev pub may_add : Sorted → ℕ
 may_add sorted.Closed = 0
 may_add (sorted.Covered id) = 1
@@ -114,7 +112,7 @@ pub record Accounts (asked : Option Mode) (kind : LineKind) (line : Line) (X : �
   pub within : published + listed ≤ used
   pub few : length (added_of items) ≤ most
 
--- all units used are paid for, and a desk that is alone added an entry with each event
+-- all units used are paid for, on a desk that is alone by the entries added
 pub record Balances (asked : Option Mode) (kind : LineKind) (line : Line) (X : ℕ) (old new : DeskView)
     (frames : List OpenFrame) (used most : ℕ) : Type 0 where
   pub items : List Item
@@ -124,7 +122,7 @@ pub record Balances (asked : Option Mode) (kind : LineKind) (line : Line) (X : �
   pub framed : UnitsIn line X frames listed
   pub sum : published + listed ≡ used
   pub few : length (added_of items) ≤ most
-  pub fresh : old.alone ≡ true → AllAdded items
+  pub fresh : old.alone ≡ true → UnitsOf line (added_of items) published
 
 -- the account of an answer
 abbrev pub Ends : Option Mode → LineKind → Line → ℕ → DeskView → DeskView → ℕ → Decided → Type 0

@@ -26,6 +26,7 @@ abbrev pub has_hope : List (Option ℕ) → Why → Bool
 has_hope numbers why.Bound = true
 has_hope numbers (why.Branch mode cites) = list_all (λ cite. not (is_dropped numbers cite)) cites
 has_hope numbers (why.Swap cite out into) = not (is_dropped numbers cite)
+has_hope numbers (why.Pairs two) = true
 
 -- an old entry may still be kept, by what is known of those gone over: its cycle is at least the book's, and it cites
 -- none that was passed over

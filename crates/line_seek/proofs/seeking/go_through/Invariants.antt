@@ -1,4 +1,6 @@
 use Rattle.std.proofs.Common.{◌≡◌, ◌≤◌}
+use Rattle.std.specs.Prelude.{IfSome}
+use Rattle.station_search.specs.Decide.{IsPairing}
 use Rattle.line_seek.specs.Seeking.{IsSeeking}
 use Rattle.line_seek.proofs.seeking.go_through.Given as goal
 
@@ -8,4 +10,5 @@ invariant-loop l = record {
   few : l.seeker.best.stations ≤ l.book.state.best.stations;
   within : l.seeker.used ≤ l.limit;
   seeking : IsSeeking 0 l.seeker;
+  pairs : IfSome l.pairs (IsPairing l.inst l.book.about.kind l.book.about.cycle);
 }

@@ -1,5 +1,6 @@
-use Rattle.std.proofs.Common.{◌≡◌, ◌+◌, ◌-◌, ◌≤◌, List}
+use Rattle.std.proofs.Common.{◌≡◌, ◌+◌, ◌-◌, ◌≤◌, List, IfSome}
 use Rattle.lemma_core.specs.Desks.{Keeps}
+use Rattle.station_search.specs.Decide.{IsPairing}
 use Rattle.steal_pool.specs.declared.piece.Piece.{Piece}
 use Rattle.steal_pool.specs.Hands.{IsHandOf}
 use Rattle.round_helpers.specs.inner.Pieces.{KeepsOwn, HaveSplit, AreDone}
@@ -9,6 +10,7 @@ use Rattle.round_helpers.proofs.piece_work.do_pieces.Given as goal
 abbrev pub invariant-working : goal.invariant-working
 invariant-working g l = record {
   keeps : Keeps (g.D.Desk.desk l.fn.desk) (g.D.Desk.desk l.desk);
+  pairs : IfSome l.pairs (IsPairing l.inst l.question.kind l.question.cycle);
   sum : l.units.used + l.units.left ≡ l.fn.units.used + l.fn.units.left;
   spent : l.fn.units.used ≤ l.units.used;
   works : Works l.inst l.question.cycle (g.D.Desk.desk l.fn.desk) (g.D.Desk.desk l.desk)

@@ -3,7 +3,7 @@ use Rattle.std.proofs.lemmas.Result.{IfOk-weaker}
 use Rattle.line_instance.specs.Truths.{full_to}
 use Rattle.entry_lists.specs.Trim.{IsTrimmed}
 use Rattle.round_run.specs.Certified.{HaveCyclesOf}
-use Rattle.round_run.proofs.CertificateFacts.{trimmed_cycles}
+use Rattle.entry_lists.proofs.TrimFacts.{trimmed_cycles}
 use Rattle.round_run.proofs.certify.proof_of.Goals as goal
 
 pub returns-clause-cycles : goal.returns-clause-cycles

@@ -7,84 +7,84 @@ use Rattle.round_run.proofs.closing.search_all.Goals as goal
 
 pub returns-in-Refuted-clause-gains : goal.returns-in-Refuted-clause-gains
 returns-in-Refuted-clause-gains c =
-    let P : ℕ → Type 0 = λ z. Gains c.args.book.now c.decide-decided.new.desk verdict.Refuted z in
-    let n : ℕ = c.decide-decided.new.units.used - c.args.units.now.used in
-    let e : n ≡ c.decide-decided.new.units.used = omega arith in
-    subst P e (gains_all c.args.book.now c.decide-decided.new.desk c.len-before.ensures.kept c.len-after.ensures.kept
-    c.decide-decided.ensures.keeps c.kind-kind.result c.args.inst.now c.cycle-cycle.result (sym c.requires.same)
-    c.cycle-cycle.ensures c.decide-decided.ensures.own verdict.Refuted n (n + 1) (omega arith) c.in-Refuted.ensures.few
+    let P : ℕ → Type 0 = λ z. Gains c.args.book.now c.decide_in-decided.new.desk verdict.Refuted z in
+    let n : ℕ = c.decide_in-decided.new.units.used - c.args.units.now.used in
+    let e : n ≡ c.decide_in-decided.new.units.used = omega arith in
+    subst P e (gains_all c.args.book.now c.decide_in-decided.new.desk c.len-before.ensures.kept c.len-after.ensures.kept
+    c.decide_in-decided.ensures.keeps c.kind-kind.result c.args.inst.now c.cycle-cycle.result (sym c.requires.same)
+    c.cycle-cycle.ensures c.decide_in-decided.ensures.own verdict.Refuted n (n + 1) (omega arith) c.in-Refuted.ensures.few
     (c.in-Refuted.ensures.alone refl))
 
 pub returns-in-Refuted-clause-above : goal.returns-in-Refuted-clause-above
 returns-in-Refuted-clause-above c =
-    let e = best_same c.args.book.now c.decide-decided.new.desk c.len-before.ensures.kept c.len-after.ensures.kept
-    c.decide-decided.ensures.keeps c.kind-kind.result c.args.inst.now c.cycle-cycle.result (sym c.requires.same)
-    c.cycle-cycle.ensures c.decide-decided.ensures.own in
+    let e = best_same c.args.book.now c.decide_in-decided.new.desk c.len-before.ensures.kept c.len-after.ensures.kept
+    c.decide_in-decided.ensures.keeps c.kind-kind.result c.args.inst.now c.cycle-cycle.result (sym c.requires.same)
+    c.cycle-cycle.ensures c.decide_in-decided.ensures.own in
     λ l. omega (arith, e, l)
 
 pub returns-in-Ok-clause-gains : goal.returns-in-Ok-clause-gains
 returns-in-Ok-clause-gains c =
     let P : ℕ → Type 0 = λ z. Gains c.args.book.now c.offer_loads.new.book verdict.Found z in
-    let n : ℕ = c.decide-decided.new.units.used - c.args.units.now.used in
-    let e : n ≡ c.decide-decided.new.units.used = omega arith in
-    subst P e (gains_some c.args.book.now c.decide-decided.new.desk c.len-before.ensures.kept c.len-after.ensures.kept
-    c.decide-decided.ensures.keeps c.kind-kind.result c.args.inst.now c.cycle-cycle.result (sym c.requires.same)
-    c.cycle-cycle.ensures c.decide-decided.ensures.own c.offer_loads.new.book verdict.Found [] n n refl (λ x. x)
+    let n : ℕ = c.decide_in-decided.new.units.used - c.args.units.now.used in
+    let e : n ≡ c.decide_in-decided.new.units.used = omega arith in
+    subst P e (gains_some c.args.book.now c.decide_in-decided.new.desk c.len-before.ensures.kept c.len-after.ensures.kept
+    c.decide_in-decided.ensures.keeps c.kind-kind.result c.args.inst.now c.cycle-cycle.result (sym c.requires.same)
+    c.cycle-cycle.ensures c.decide_in-decided.ensures.own c.offer_loads.new.book verdict.Found [] n n refl (λ x. x)
     (omega arith) c.in-Found.ensures.few c.offer_loads.ensures.goes_on)
 
 pub returns-in-Found-clause-gains : goal.returns-in-Found-clause-gains
 returns-in-Found-clause-gains c =
     let P : ℕ → Type 0 = λ z. Gains c.args.book.now c.offer_loads.new.book (verdict.NoMemory c.from_vec.result) z in
-    let n : ℕ = c.decide-decided.new.units.used - c.args.units.now.used in
-    let e : n ≡ c.decide-decided.new.units.used = omega arith in
-    subst P e (gains_some c.args.book.now c.decide-decided.new.desk c.len-before.ensures.kept c.len-after.ensures.kept
-    c.decide-decided.ensures.keeps c.kind-kind.result c.args.inst.now c.cycle-cycle.result (sym c.requires.same)
-    c.cycle-cycle.ensures c.decide-decided.ensures.own c.offer_loads.new.book
+    let n : ℕ = c.decide_in-decided.new.units.used - c.args.units.now.used in
+    let e : n ≡ c.decide_in-decided.new.units.used = omega arith in
+    subst P e (gains_some c.args.book.now c.decide_in-decided.new.desk c.len-before.ensures.kept c.len-after.ensures.kept
+    c.decide_in-decided.ensures.keeps c.kind-kind.result c.args.inst.now c.cycle-cycle.result (sym c.requires.same)
+    c.cycle-cycle.ensures c.decide_in-decided.ensures.own c.offer_loads.new.book
     (verdict.NoMemory c.from_vec.result) [] n n
     (sym (c.from_vec.ensures ∙ c.new.ensures.items)) (λ x. x) (omega arith) c.in-Found.ensures.few
     c.offer_loads.ensures.goes_on)
 
 pub returns-in-Found-clause-above : goal.returns-in-Found-clause-above
 returns-in-Found-clause-above c =
-    let e = best_same c.args.book.now c.decide-decided.new.desk c.len-before.ensures.kept c.len-after.ensures.kept
-    c.decide-decided.ensures.keeps c.kind-kind.result c.args.inst.now c.cycle-cycle.result (sym c.requires.same)
-    c.cycle-cycle.ensures c.decide-decided.ensures.own in
-    let s : c.offer_loads.new.book.state.best.stations ≡ c.decide-decided.new.desk.state.best.stations =
+    let e = best_same c.args.book.now c.decide_in-decided.new.desk c.len-before.ensures.kept c.len-after.ensures.kept
+    c.decide_in-decided.ensures.keeps c.kind-kind.result c.args.inst.now c.cycle-cycle.result (sym c.requires.same)
+    c.cycle-cycle.ensures c.decide_in-decided.ensures.own in
+    let s : c.offer_loads.new.book.state.best.stations ≡ c.decide_in-decided.new.desk.state.best.stations =
     ap (λ (z : BookView). z.state.best.stations) c.in-Err.ensures.same in
     λ l. omega (arith, e, s, l)
 
 pub returns-in-Spent-clause-gains : goal.returns-in-Spent-clause-gains
 returns-in-Spent-clause-gains c =
-    let P : ℕ → Type 0 = λ z. Gains c.args.book.now c.decide-decided.new.desk (verdict.Spent c.in-Spent.frames) z in
-    let n : ℕ = c.decide-decided.new.units.used - c.args.units.now.used in
-    let e : n ≡ c.decide-decided.new.units.used = omega arith in
-    subst P e (gains_all c.args.book.now c.decide-decided.new.desk c.len-before.ensures.kept c.len-after.ensures.kept
-    c.decide-decided.ensures.keeps c.kind-kind.result c.args.inst.now c.cycle-cycle.result (sym c.requires.same)
-    c.cycle-cycle.ensures c.decide-decided.ensures.own (verdict.Spent c.in-Spent.frames) n n (omega arith)
+    let P : ℕ → Type 0 = λ z. Gains c.args.book.now c.decide_in-decided.new.desk (verdict.Spent c.in-Spent.frames) z in
+    let n : ℕ = c.decide_in-decided.new.units.used - c.args.units.now.used in
+    let e : n ≡ c.decide_in-decided.new.units.used = omega arith in
+    subst P e (gains_all c.args.book.now c.decide_in-decided.new.desk c.len-before.ensures.kept c.len-after.ensures.kept
+    c.decide_in-decided.ensures.keeps c.kind-kind.result c.args.inst.now c.cycle-cycle.result (sym c.requires.same)
+    c.cycle-cycle.ensures c.decide_in-decided.ensures.own (verdict.Spent c.in-Spent.frames) n n (omega arith)
     c.in-Spent.ensures.few (c.in-Spent.ensures.alone refl).0)
 
 pub returns-in-Spent-clause-above : goal.returns-in-Spent-clause-above
 returns-in-Spent-clause-above c =
-    let e = best_same c.args.book.now c.decide-decided.new.desk c.len-before.ensures.kept c.len-after.ensures.kept
-    c.decide-decided.ensures.keeps c.kind-kind.result c.args.inst.now c.cycle-cycle.result (sym c.requires.same)
-    c.cycle-cycle.ensures c.decide-decided.ensures.own in
+    let e = best_same c.args.book.now c.decide_in-decided.new.desk c.len-before.ensures.kept c.len-after.ensures.kept
+    c.decide_in-decided.ensures.keeps c.kind-kind.result c.args.inst.now c.cycle-cycle.result (sym c.requires.same)
+    c.cycle-cycle.ensures c.decide_in-decided.ensures.own in
     λ l. omega (arith, e, l)
 
 pub returns-clause-gains : goal.returns-clause-gains
 returns-clause-gains c =
-    let P : ℕ → Type 0 = λ z. Gains c.args.book.now c.decide-decided.new.desk
+    let P : ℕ → Type 0 = λ z. Gains c.args.book.now c.decide_in-decided.new.desk
     (verdict.NoMemory c.in-NoMemory.frames) z in
-    let n : ℕ = c.decide-decided.new.units.used - c.args.units.now.used in
-    let e : n ≡ c.decide-decided.new.units.used = omega arith in
-    subst P e (gains_some c.args.book.now c.decide-decided.new.desk c.len-before.ensures.kept c.len-after.ensures.kept
-    c.decide-decided.ensures.keeps c.kind-kind.result c.args.inst.now c.cycle-cycle.result (sym c.requires.same)
-    c.cycle-cycle.ensures c.decide-decided.ensures.own c.decide-decided.new.desk (verdict.NoMemory c.in-NoMemory.frames)
+    let n : ℕ = c.decide_in-decided.new.units.used - c.args.units.now.used in
+    let e : n ≡ c.decide_in-decided.new.units.used = omega arith in
+    subst P e (gains_some c.args.book.now c.decide_in-decided.new.desk c.len-before.ensures.kept c.len-after.ensures.kept
+    c.decide_in-decided.ensures.keeps c.kind-kind.result c.args.inst.now c.cycle-cycle.result (sym c.requires.same)
+    c.cycle-cycle.ensures c.decide_in-decided.ensures.own c.decide_in-decided.new.desk (verdict.NoMemory c.in-NoMemory.frames)
     c.in-NoMemory.frames n n refl (λ x. x) (omega arith) c.in-NoMemory.ensures.few
-    (goes_same c.decide-decided.new.desk))
+    (goes_same c.decide_in-decided.new.desk))
 
 pub returns-clause-above : goal.returns-clause-above
 returns-clause-above c =
-    let e = best_same c.args.book.now c.decide-decided.new.desk c.len-before.ensures.kept c.len-after.ensures.kept
-    c.decide-decided.ensures.keeps c.kind-kind.result c.args.inst.now c.cycle-cycle.result (sym c.requires.same)
-    c.cycle-cycle.ensures c.decide-decided.ensures.own in
+    let e = best_same c.args.book.now c.decide_in-decided.new.desk c.len-before.ensures.kept c.len-after.ensures.kept
+    c.decide_in-decided.ensures.keeps c.kind-kind.result c.args.inst.now c.cycle-cycle.result (sym c.requires.same)
+    c.cycle-cycle.ensures c.decide_in-decided.ensures.own in
     λ l. omega (arith, e, l)

@@ -1,6 +1,7 @@
-use Rattle.std.proofs.Common.{◌-◌, ◌∙◌, sym, List, [], subst, inl, inr}
+use Rattle.std.proofs.Common.{◌-◌, ◌∙◌, sym, List, [], subst, inl, inr, arith}
 use Rattle.std.proofs.lemmas.Bool.{false≢true}
 use Rattle.line_rules.proofs.Nonempty.{member_or_empty}
+use Rattle.line_rules.proofs.PairGrowth.{grow}
 use Rattle.line_rules.specs.Bounds.{bound}
 use Rattle.line_rules.specs.declared.types.OpenFrame.{OpenFrame}
 use Rattle.station_search.specs.Costs.{PaysWithin, AddsFew}
@@ -103,3 +104,50 @@ returns-in-Err-clause-few g c =
     c.args.cycle (g.D.Desk.desk c.args.desk.now) (g.D.Desk.desk c.look.new.self) (g.D.Desk.desk c.search.new.desk)
     c.look.ensures.waits c.search.ensures.keeps [] (c.search.new.units.used - c.args.units.now.used)
     (c.search.new.units.used - c.args.units.now.used) c.in-Err.ensures.accounts))
+
+pub refute_by_pairs-requires-clause-refuted : goal.refute_by_pairs-requires-clause-refuted
+refute_by_pairs-requires-clause-refuted g c =
+    grow c.args.kind c.args.inst.now c.args.cycle c.in-Refuted.hull c.args.set.now c.args.most c.in-Refuted.two
+    c.requires.set c.in-Refuted.ensures.within c.in-Refuted.ensures.refuted
+
+pub returns-in-Refuted-clause-own : goal.returns-in-Refuted-clause-own
+returns-in-Refuted-clause-own g c = ends_own c.args.mode c.args.kind c.args.inst.now c.args.cycle
+    (g.D.Desk.desk c.args.desk.now) (g.D.Desk.desk c.refute_by_pairs.new.desk) (c.args.units.now.used - c.args.units.now.used)
+    c.refute_by_pairs.result (ends_then c.args.mode c.args.kind c.args.inst.now c.args.cycle (g.D.Desk.desk c.args.desk.now)
+    (g.D.Desk.desk c.look.new.self) (g.D.Desk.desk c.refute_by_pairs.new.desk) (c.args.units.now.used - c.args.units.now.used) c.refute_by_pairs.result
+    c.look.ensures.waits c.refute_by_pairs.ensures.keeps (c.refute_by_pairs.ensures.ends c.args.mode
+    (c.args.units.now.used - c.args.units.now.used) (omega arith)))
+
+pub returns-in-Refuted-clause-decides : goal.returns-in-Refuted-clause-decides
+returns-in-Refuted-clause-decides g c = c.refute_by_pairs.ensures.decides c.args.mode c.args.units.now.left
+
+pub returns-in-Refuted-clause-known : goal.returns-in-Refuted-clause-known
+returns-in-Refuted-clause-known g c = λ b h. absurd (not_known (g.D.Desk.desk c.args.desk.now)
+    (g.D.Desk.desk c.look.new.self) c.args.inst.now c.args.kind c.args.set.now c.args.most c.args.cycle c.requires.desk
+    c.look.ensures.waits.keeps c.in-Absent.ensures.finds h)
+
+pub returns-in-Refuted-clause-costs : goal.returns-in-Refuted-clause-costs
+returns-in-Refuted-clause-costs g c = ends_costs c.args.mode c.args.kind c.args.inst.now c.args.cycle
+    (g.D.Desk.desk c.args.desk.now) (g.D.Desk.desk c.refute_by_pairs.new.desk) (c.args.units.now.used - c.args.units.now.used)
+    c.refute_by_pairs.result (ends_then c.args.mode c.args.kind c.args.inst.now c.args.cycle (g.D.Desk.desk c.args.desk.now)
+    (g.D.Desk.desk c.look.new.self) (g.D.Desk.desk c.refute_by_pairs.new.desk) (c.args.units.now.used - c.args.units.now.used) c.refute_by_pairs.result
+    c.look.ensures.waits c.refute_by_pairs.ensures.keeps (c.refute_by_pairs.ensures.ends c.args.mode
+    (c.args.units.now.used - c.args.units.now.used) (omega arith)))
+
+pub returns-in-Refuted-clause-alone : goal.returns-in-Refuted-clause-alone
+returns-in-Refuted-clause-alone g c = λ alone. ends_alone c.args.mode c.args.kind c.args.inst.now c.args.cycle
+    (g.D.Desk.desk c.args.desk.now) (g.D.Desk.desk c.refute_by_pairs.new.desk) (c.args.units.now.used - c.args.units.now.used)
+    c.args.set.now c.args.most c.args.units.now.left c.refute_by_pairs.result alone
+    (c.refute_by_pairs.ensures.decides c.args.mode c.args.units.now.left)
+    (ends_then c.args.mode c.args.kind c.args.inst.now c.args.cycle (g.D.Desk.desk c.args.desk.now)
+    (g.D.Desk.desk c.look.new.self) (g.D.Desk.desk c.refute_by_pairs.new.desk) (c.args.units.now.used - c.args.units.now.used) c.refute_by_pairs.result
+    c.look.ensures.waits c.refute_by_pairs.ensures.keeps (c.refute_by_pairs.ensures.ends c.args.mode
+    (c.args.units.now.used - c.args.units.now.used) (omega arith)))
+
+pub returns-in-Refuted-clause-few : goal.returns-in-Refuted-clause-few
+returns-in-Refuted-clause-few g c = ends_few c.args.mode c.args.kind c.args.inst.now c.args.cycle
+    (g.D.Desk.desk c.args.desk.now) (g.D.Desk.desk c.refute_by_pairs.new.desk) (c.args.units.now.used - c.args.units.now.used)
+    c.refute_by_pairs.result (ends_then c.args.mode c.args.kind c.args.inst.now c.args.cycle (g.D.Desk.desk c.args.desk.now)
+    (g.D.Desk.desk c.look.new.self) (g.D.Desk.desk c.refute_by_pairs.new.desk) (c.args.units.now.used - c.args.units.now.used) c.refute_by_pairs.result
+    c.look.ensures.waits c.refute_by_pairs.ensures.keeps (c.refute_by_pairs.ensures.ends c.args.mode
+    (c.args.units.now.used - c.args.units.now.used) (omega arith)))

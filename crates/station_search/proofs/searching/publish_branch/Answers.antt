@@ -31,4 +31,4 @@ pub returns-in-Added-clause-publishes : goal.returns-in-Added-clause-publishes
 returns-in-Added-clause-publishes g c = λ asked kind line n mode counts un.
     one_added asked kind line c.args.cycle (g.D.Desk.desk c.args.desk.now) (g.D.Desk.desk c.publish.new.self)
     c.in-Added.ensures.publishes.0 c.in-Added.id (branch_of c.args.cycle c.args.frame) c.args.frame.set n
-    c.in-Added.ensures.publishes.1 refl mode counts refl
+    c.in-Added.ensures.publishes.1 refl mode counts (λ i m. m)

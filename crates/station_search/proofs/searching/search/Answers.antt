@@ -1,4 +1,4 @@
-use Rattle.std.proofs.Common.{◌+◌, ◌-◌, Bool, List, [], ◌∷◌, length, refl, sym, ap, ◌∙◌, subst, arith, length-append}
+use Rattle.std.proofs.Common.{◌+◌, ◌-◌, Bool, Option, IfSome, List, [], ◌∷◌, length, refl, sym, ap, ◌∙◌, subst, arith, length-append}
 use Rattle.line_instance.specs.Line.{Line, IsTaskSet}
 use Rattle.line_rules.specs.Loads.{rest}
 use Rattle.line_rules.specs.Entries.{Follows}
@@ -6,7 +6,8 @@ use Rattle.line_rules.specs.declared.types.LineKind.{LineKind}
 use Rattle.line_rules.specs.declared.types.OpenFrame.{OpenFrame}
 use Rattle.lemma_core.specs.Desks.{DeskView, entries}
 use Rattle.lemma_core.proofs.HistoryGrows.{keeps_none, keeps_both}
-use Rattle.station_search.specs.Decide.{IsFor}
+use Rattle.pair_search.specs.Sharing.{Sharing}
+use Rattle.station_search.specs.Decide.{IsFor, IsPairing}
 use Rattle.station_search.specs.inner.Work.{branch_of, with_last, may_add, Sorts, Accounts}
 use Rattle.station_search.specs.declared.sorting.Sorted.{Sorted}
 use Rattle.station_search.proofs.Events.{for_still}
@@ -23,6 +24,7 @@ use Rattle.station_search.proofs.searching.search.Goals as goal
 pub search-init : goal.search-init
 search-init g c = record {
   keeps = keeps_none (g.D.Desk.desk c.args.desk.now);
+  pairs = c.enter_first.ensures.pairs;
   units = refl;
   spent = omega arith;
   searching = first c.args.mode c.args.kind c.args.inst.now c.tasks-tasks.ensures.ranked c.args.cycle c.args.set.now
@@ -99,6 +101,7 @@ pub search-preserved-in_ok-push-in-Some-pop_from : goal.search-preserved-in_ok-p
 search-preserved-in_ok-push-in-Some-pop_from g c = record {
   keeps = keeps_both (g.D.Desk.desk c.args.desk.now) (g.D.Desk.desk c.search.desk)
       (g.D.Desk.desk c.publish_branch.new.desk) c.search.invariant.keeps c.publish_branch.ensures.keeps;
+  pairs = c.leave.ensures.pairs ∙ c.search.invariant.pairs;
   units = c.search.invariant.units;
   spent = c.search.invariant.spent;
   searching = goes_up c.args.mode c.args.kind c.args.inst.now c.tasks-tasks.ensures.ranked c.args.cycle c.args.set.now
@@ -165,6 +168,11 @@ returns-then-units-eq0-clause-ends g c =
     (g.D.Desk.desk c.args.desk.now) (g.D.Desk.desk c.search.desk) c.search.passed.items c.trail_to.result
     c.search.frame (c.search.units.used - c.args.units.now.used) c.trail_to.ensures c.search.invariant.tally
 
+pub sort_load-requires-clause-pairs : goal.sort_load-requires-clause-pairs
+sort_load-requires-clause-pairs g c =
+    let P : Option Sharing → Type 0 = λ z. IfSome z (IsPairing c.args.inst.now c.args.kind c.args.cycle) in
+    subst P (sym c.search.invariant.pairs) c.requires.pairs
+
 pub sort_load-requires-clause-few : goal.sort_load-requires-clause-few
 sort_load-requires-clause-few g c = stations_few c.args.mode c.args.kind c.args.inst.now c.tasks-tasks.ensures.ranked
     c.args.cycle c.args.set.now c.args.most (entries (g.D.Desk.desk c.search.desk)) c.search.passed.items c.search.frame
@@ -190,6 +198,7 @@ search-preserved-in-Closed g c =
     record {
       keeps = keeps_both (g.D.Desk.desk c.args.desk.now) (g.D.Desk.desk c.search.desk)
           (g.D.Desk.desk c.sort_load.new.desk) c.search.invariant.keeps c.sort_load.ensures.keeps;
+      pairs = c.sort_load.ensures.pairs ∙ c.search.invariant.pairs;
       units = omega (arith, c.search.invariant.units, c.if-units-eq0.false);
       spent = (omega (arith, c.search.invariant.spent));
       searching = closed c.args.mode c.args.kind c.args.inst.now c.tasks-tasks.ensures.ranked c.args.cycle
@@ -219,6 +228,7 @@ search-preserved-in_ok-push-in-Covered g c =
     record {
       keeps = keeps_both (g.D.Desk.desk c.args.desk.now) (g.D.Desk.desk c.search.desk)
           (g.D.Desk.desk c.sort_load.new.desk) c.search.invariant.keeps c.sort_load.ensures.keeps;
+      pairs = c.sort_load.ensures.pairs ∙ c.search.invariant.pairs;
       units = omega (arith, c.search.invariant.units, c.if-units-eq0.false);
       spent = (omega (arith, c.search.invariant.spent));
       searching = covered c.args.mode c.args.kind c.args.inst.now c.tasks-tasks.ensures.ranked c.args.cycle
@@ -308,6 +318,24 @@ open_frame-below-requires-clause-set g c =
     let P : List Bool → Type 0 = λ z. IsTaskSet c.args.inst.now z in
     subst P (sym o.1) (rest_tasks c.args.inst.now c.search.frame.set c.in-Some.load c.search.invariant.searching.tasks)
 
+pub returns-in_err-enter-in-Open-clause-keeps : goal.returns-in_err-enter-in-Open-clause-keeps
+returns-in_err-enter-in-Open-clause-keeps g c =
+    keeps_both (g.D.Desk.desk c.args.desk.now) (g.D.Desk.desk c.search.desk) (g.D.Desk.desk c.sort_load.new.desk)
+    c.search.invariant.keeps c.sort_load.ensures.keeps
+
+pub returns-in_err-enter-in-Open-clause-accounts : goal.returns-in_err-enter-in-Open-clause-accounts
+returns-in_err-enter-in-Open-clause-accounts g c =
+    on_err c.from_residual-in_err-enter-in-Open.result (Accounts c.args.mode c.args.kind c.args.inst.now c.args.cycle
+    (g.D.Desk.desk c.args.desk.now) (g.D.Desk.desk c.sort_load.new.desk) []
+    (c.search.units.used + 1 - c.args.units.now.used) (c.search.units.used + 1 - c.args.units.now.used))
+    (gives_up c.args.mode c.args.kind c.args.inst.now c.tasks-tasks.ensures.ranked c.args.cycle c.args.set.now
+    c.args.most (g.D.Desk.desk c.args.desk.now) (g.D.Desk.desk c.search.desk) (g.D.Desk.desk c.sort_load.new.desk)
+    c.search.passed.items c.search.frame (c.search.units.used - c.args.units.now.used) c.search.invariant.keeps
+    c.sort_load.ensures.keeps c.search.invariant.tally (rest c.search.frame.set c.in-Some.load)
+    (may_add c.in_ok-sort_load-in-Some.field-0) (c.search.units.used + 1 - c.args.units.now.used)
+    (c.in_ok-sort_load-in-Some.ensures.publishes c.args.mode) (adds_few c.in_ok-sort_load-in-Some.field-0)
+    (omega (arith, c.search.invariant.spent)))
+
 pub returns-in_err-push_on-in-Open-clause-keeps : goal.returns-in_err-push_on-in-Open-clause-keeps
 returns-in_err-push_on-in-Open-clause-keeps g c =
     keeps_both (g.D.Desk.desk c.args.desk.now) (g.D.Desk.desk c.search.desk) (g.D.Desk.desk c.sort_load.new.desk)
@@ -361,6 +389,7 @@ search-preserved g c =
     record {
       keeps = keeps_both (g.D.Desk.desk c.args.desk.now) (g.D.Desk.desk c.search.desk)
           (g.D.Desk.desk c.sort_load.new.desk) c.search.invariant.keeps c.sort_load.ensures.keeps;
+      pairs = c.enter.ensures.pairs ∙ (c.sort_load.ensures.pairs ∙ c.search.invariant.pairs);
       units = omega (arith, c.search.invariant.units, c.if-units-eq0.false);
       spent = (omega (arith, c.search.invariant.spent));
       searching = down c.args.mode c.args.kind c.args.inst.now c.tasks-tasks.ensures.ranked c.args.cycle c.args.set.now

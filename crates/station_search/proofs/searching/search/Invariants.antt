@@ -9,6 +9,7 @@ use Rattle.station_search.proofs.searching.search.Given as goal
 abbrev pub invariant-search : goal.invariant-search
 invariant-search g l = record {
   keeps : Keeps (g.D.Desk.desk l.fn.desk) (g.D.Desk.desk l.desk);
+  pairs : l.pairs ≡ l.fn.pairs;
   units : l.units.used + l.units.left ≡ l.fn.units.used + l.fn.units.left;
   spent : l.fn.units.used ≤ l.units.used;
   searching : IsSearching l.mode l.kind l.inst l.cycle (entries (g.D.Desk.desk l.desk)) l.set l.most l.passed.items

@@ -1,5 +1,5 @@
 use Rattle.std.proofs.Common.{◌≡◌, ℕ, ◌-◌, ◌*◌, ◌<◌, List, Bool, ap, ◌∙◌, sym, subst, arith}
-use Rattle.line_instance.specs.Truths.{minus, meet, count}
+use Rattle.line_instance.specs.Truths.{IsSubset, minus, meet, count}
 use Rattle.line_instance.specs.Line.{IsTaskSet}
 use Rattle.line_rules.specs.Loads.{rest}
 use Rattle.line_rules.specs.Times.{AreTimes}
@@ -106,7 +106,7 @@ returns-in_err-id-clause-keeps g c = keeps_both (g.D.Desk.desk c.args.desk.now) 
 
 pub returns-in_err-id-clause-fails : goal.returns-in_err-id-clause-fails
 returns-in_err-id-clause-fails g c = λ asked.
-    on_err c.from_residual.result (DoesFor asked c.args.kind c.args.inst.now c.args.cycle
+    on_err c.from_residual-in_err-id.result (DoesFor asked c.args.kind c.args.inst.now c.args.cycle
     (g.D.Desk.desk c.args.desk.now) (g.D.Desk.desk c.publish_swap.new.desk)
     (rest c.args.frame.now.set c.args.load.now) 0 0)
     (does_for_then asked c.args.kind c.args.inst.now c.args.cycle (g.D.Desk.desk c.args.desk.now)
@@ -147,3 +147,39 @@ returns-in-None-clause-publishes g c = λ asked.
     (rest c.args.frame.now.set c.args.load.now) 0 0 c.look.ensures.waits c.publish_swap.ensures.keeps
     (subst Q (c.minus-rest.ensures.value ∙ ap (λ (z : List Bool). minus c.args.frame.now.set z) c.union.ensures.value)
     (subst P (ap may_swap c.in-None.is) (c.in_ok-id.ensures.publishes asked)))
+
+pub ask_pairs-requires-clause-set : goal.ask_pairs-requires-clause-set
+ask_pairs-requires-clause-set g c =
+    let P : List Bool → Type 0 = λ z. IsTaskSet c.args.inst.now z in
+    subst P (sym (c.minus-rest.ensures.value ∙ ap (λ (z : List Bool). minus c.args.frame.now.set z)
+    c.union.ensures.value)) (rest_tasks c.args.inst.now c.args.frame.now.set c.args.load.now c.requires.set)
+
+pub publish_pairs-requires-clause-set : goal.publish_pairs-requires-clause-set
+publish_pairs-requires-clause-set g c =
+    let P : List Bool → Type 0 = λ z. IsTaskSet c.args.inst.now z in
+    let whole : IsTaskSet c.args.inst.now c.minus-rest.result =
+    subst P (sym (c.minus-rest.ensures.value ∙ ap (λ (z : List Bool). minus c.args.frame.now.set z)
+    c.union.ensures.value)) (rest_tasks c.args.inst.now c.args.frame.now.set c.args.load.now c.requires.set) in
+    record { truths = c.in-Refuted.ensures.truths; tasks = λ i m. whole.tasks i (c.in-Refuted.ensures.within i m) }
+
+pub returns-in_err-paired-clause-fails : goal.returns-in_err-paired-clause-fails
+returns-in_err-paired-clause-fails g c = λ asked.
+    on_err c.from_residual.result (DoesFor asked c.args.kind c.args.inst.now c.args.cycle
+    (g.D.Desk.desk c.args.desk.now) (g.D.Desk.desk c.publish_pairs.new.desk)
+    (rest c.args.frame.now.set c.args.load.now) 0 0)
+    (does_for_then asked c.args.kind c.args.inst.now c.args.cycle (g.D.Desk.desk c.args.desk.now)
+    (g.D.Desk.desk c.look.new.self) (g.D.Desk.desk c.publish_pairs.new.desk)
+    (rest c.args.frame.now.set c.args.load.now) 0 0 c.look.ensures.waits c.publish_pairs.ensures.keeps
+    (one_none asked c.args.kind c.args.inst.now c.args.cycle (g.D.Desk.desk c.look.new.self)
+    (g.D.Desk.desk c.publish_pairs.new.desk) (rest c.args.frame.now.set c.args.load.now) 0
+    c.in_err-paired.ensures.waits))
+
+pub returns-in-Refuted-clause-publishes : goal.returns-in-Refuted-clause-publishes
+returns-in-Refuted-clause-publishes g c = λ asked.
+    let P : List Bool → Type 0 = λ z. IsSubset c.in-Refuted.hull z in
+    does_for_then asked c.args.kind c.args.inst.now c.args.cycle (g.D.Desk.desk c.args.desk.now)
+    (g.D.Desk.desk c.look.new.self) (g.D.Desk.desk c.publish_pairs.new.desk)
+    (rest c.args.frame.now.set c.args.load.now) 1 0 c.look.ensures.waits c.publish_pairs.ensures.keeps
+    (c.in_ok-paired.ensures.publishes asked (rest c.args.frame.now.set c.args.load.now)
+    (subst P (c.minus-rest.ensures.value ∙ ap (λ (z : List Bool). minus c.args.frame.now.set z) c.union.ensures.value)
+    c.in-Refuted.ensures.within))

@@ -39,7 +39,7 @@ returns-in-Added-clause-publishes g c = λ asked.
     (one_added asked c.args.kind c.args.inst.now c.args.cycle (g.D.Desk.desk c.find_swap.new.desk)
     (g.D.Desk.desk c.publish.new.self) c.in-Added.ensures.publishes.0 c.in-Added.id
     (swap_of c.args.cycle c.args.set.now c.args.most c.in-Some.swap.cite c.in-Some.swap.out_task
-    c.in-Some.swap.in_task) c.args.set.now 0 c.in-Added.ensures.publishes.1 refl tt refl refl)
+    c.in-Some.swap.in_task) c.args.set.now 0 c.in-Added.ensures.publishes.1 refl tt refl (λ i m. m))
 
 pub returns-in-Added-clause-answered : goal.returns-in-Added-clause-answered
 returns-in-Added-clause-answered g c = added_answers (g.D.Desk.desk c.find_swap.new.desk)

@@ -1,11 +1,12 @@
-use Rattle.std.proofs.Common.{subst}
-use Rattle.line_instance.specs.Truths.{In}
-use Rattle.line_instance.proofs.Members.{In-meet_parts}
+use Rattle.line_rules.proofs.Between.{met_tasks}
 use Rattle.beam_search.proofs.beams.Levels.may_fit.Goals as goal
 
 pub exceeds-requires-clause-set : goal.exceeds-requires-clause-set
-exceeds-requires-clause-set c = record {
-  truths = c.meet-tasks.ensures.truths;
-  tasks = λ i h. c.all.ensures.set.tasks i (In-meet_parts c.all.result c.tasks_at.result i
-      (subst (λ s. In s i) c.meet-tasks.ensures.value h)).0;
-}
+exceeds-requires-clause-set c =
+    met_tasks c.args.inst.now c.all.result c.tasks_at.result c.meet-tasks.result c.all.ensures.set
+    c.meet-tasks.ensures.value c.meet-tasks.ensures.truths
+
+pub find-requires-clause-set : goal.find-requires-clause-set
+find-requires-clause-set c =
+    met_tasks c.args.inst.now c.all.result c.tasks_at.result c.meet-tasks.result c.all.ensures.set
+    c.meet-tasks.ensures.value c.meet-tasks.ensures.truths
