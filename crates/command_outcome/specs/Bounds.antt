@@ -1,5 +1,5 @@
 -- The printed texts of bounds, and of a seek before a search.
-use Rattle.std.specs.Prelude.{ℕ, List, ◌++◌, codes, decimal}
+use Rattle.std.specs.Prelude.{ℕ, List, [], ◌++◌, cond, nat_eq, codes, decimal}
 
 -- the line with both bounds
 abbrev pub bounds_line : ℕ → ℕ → List ℕ
@@ -13,3 +13,8 @@ cut_short_text lower upper = codes "stopped by memory\n" ++ bounds_line lower up
 abbrev pub seek_line : ℕ → ℕ → ℕ → List ℕ
 seek_line used limit kept =
     codes "seek used " ++ decimal used ++ codes " of " ++ decimal limit ++ codes " kept " ++ decimal kept ++ codes "\n"
+
+-- the first line of a report on a search whose tries may each seek with so many loads: that on all their seeks, and none
+-- where there are no loads
+abbrev pub seek_text : ℕ → ℕ → ℕ → ℕ → List ℕ
+seek_text loads used limit kept = cond (nat_eq loads 0) [] (seek_line used limit kept)

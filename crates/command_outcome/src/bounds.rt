@@ -1,7 +1,7 @@
 //! The bounds of a search, as every command prints them, and the report of a search that memory ended: its memory is
 //! taken before the search, so that the report costs none.
 ghost use Rattle.std.specs.Prelude.{◌≡◌, ◌++◌, string_bytes, OnOk, IfOk, []};
-ghost use Rattle.command_outcome.specs.Bounds.{bounds_line, cut_short_text, seek_line};
+ghost use Rattle.command_outcome.specs.Bounds.{bounds_line, cut_short_text, seek_line, seek_text};
 
 use std::alloc::{AllocError, Global};
 
@@ -24,6 +24,24 @@ pub fn with_seek_line(text: String, used: u64, limit: u64, kept: u64) -> Result<
     let mut text = text;
     write!(text, "seek used {used} of {limit} kept {kept}\n")?;
     Ok(text)
+}
+
+/// The first line of a report on a search whose tries may each seek with so many loads: what all their seeks used of
+/// what they might, and how many of their lemmas were kept; no line where there are no loads.
+pub fn seek_text(
+    alloc: Global,
+    loads: u64,
+    used: u64,
+    limit: u64,
+    kept: u64,
+) -> Result<String, AllocError>
+    ensures { IfOk result (λ t. string_bytes t ≡ seek_text loads used limit kept) }
+{
+    let text = String::new(alloc);
+    if loads == 0 {
+        return Ok(text);
+    }
+    with_seek_line(text, used, limit, kept)
 }
 
 /// Memory for the report of a search that memory ends, taken before the search.

@@ -92,9 +92,9 @@ pub record IsShown (naming : Naming) (kind : LineKind) (line : Line) (m : ℕ) (
 
 -- The promise of `cycle` for the line that the file says: what is printed is shown by a certificate, which is kept, and
 -- written where the words name a file.
-pub record IsCyclePromised (files after : Files) (file : List ℕ) (kind : LineKind) (m helpers units : ℕ)
+pub record IsCyclePromised (files after : Files) (file : List ℕ) (kind : LineKind) (m : ℕ) (plan : Plan)
     (name : Option (List ℕ)) (status : Status) (text : List ℕ) (kept : Kept) : Type 0 where
   pub line : Line
   pub said : IsPlainLine files file line
-  pub shown : IsShown (naming_of files file) kind line m (record { helpers = helpers; units = units }) status text kept
+  pub shown : IsShown (naming_of files file) kind line m plan status text kept
   pub written : HasCertificate name after shown.certificate

@@ -60,8 +60,7 @@ pub record IsAnswered (files : Files) (file : List ℕ) (kind : LineKind) (m : �
   pub said : IsPlainLine files file line
   pub answer : IsFound (naming_of files file) kind line m plan name out ⊎ IsCutShort kind line m out
 
--- What `cycle` comes to for m stations, with so many helpers, and so many units for each cycle that is tried: an
--- answer, or why the file says no line of which no two tasks are apart.
-abbrev pub IsCycleOutcome : Outside → List ℕ → LineKind → ℕ → ℕ → ℕ → Option (List ℕ) → Outcome → Type 0
-IsCycleOutcome o file kind m helpers units name out =
-    IsAnswered o.files file kind m (record { helpers = helpers; units = units }) name out ⊎ IsNoPlainLine o file out
+-- What `cycle` comes to for m stations by a plan, which has units for each cycle that is tried: an answer, or why the
+-- file says no line of which no two tasks are apart.
+abbrev pub IsCycleOutcome : Outside → List ℕ → LineKind → ℕ → Plan → Option (List ℕ) → Outcome → Type 0
+IsCycleOutcome o file kind m plan name out = IsAnswered o.files file kind m plan name out ⊎ IsNoPlainLine o file out

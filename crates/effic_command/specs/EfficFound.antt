@@ -69,9 +69,7 @@ pub record IsAnswered (files : Files) (file : List ℕ) (kind : LineKind) (least
   pub said : IsPlainLine files file line
   pub answer : IsFound (naming_of files file) kind line least most plan name out ⊎ IsCutShort kind line least most out
 
--- What `effic` comes to for `least` to `most` stations, with so many helpers, and so many units for each cycle that is
--- tried: an answer, or why the file says no line of which no two tasks are apart.
-abbrev pub IsEfficOutcome : Outside → List ℕ → LineKind → ℕ → ℕ → ℕ → ℕ → Option (List ℕ) → Outcome → Type 0
-IsEfficOutcome o file kind least most helpers units name out =
-    IsAnswered o.files file kind least most (record { helpers = helpers; units = units }) name out
-    ⊎ IsNoPlainLine o file out
+-- What `effic` comes to for `least` to `most` stations by a plan, which has units for each cycle that is tried: an answer, or why the file says no line of which no two tasks are apart.
+abbrev pub IsEfficOutcome : Outside → List ℕ → LineKind → ℕ → ℕ → Plan → Option (List ℕ) → Outcome → Type 0
+IsEfficOutcome o file kind least most plan name out =
+    IsAnswered o.files file kind least most plan name out ⊎ IsNoPlainLine o file out

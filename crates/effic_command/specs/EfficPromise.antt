@@ -70,10 +70,9 @@ HasCertificate (Some name) after certificate = after name ≡ Some (product_text
 
 -- The promise of `effic` for the line that the file says: what is printed is shown by a certificate, which is kept, and
 -- written where the words name a file.
-pub record IsEfficPromised (files after : Files) (file : List ℕ) (kind : LineKind) (least most helpers units : ℕ)
+pub record IsEfficPromised (files after : Files) (file : List ℕ) (kind : LineKind) (least most : ℕ) (plan : Plan)
     (name : Option (List ℕ)) (status : Status) (text : List ℕ) (kept : Kept) : Type 0 where
   pub line : Line
   pub said : IsPlainLine files file line
-  pub shown : IsShown (naming_of files file) kind line least most (record { helpers = helpers; units = units }) status
-      text kept
+  pub shown : IsShown (naming_of files file) kind line least most plan status text kept
   pub written : HasCertificate name after shown.certificate

@@ -37,8 +37,8 @@ pub fn effic_check_report<S: Shelf>(
     ensures files { S.tells → (q : List ℕ) → S.file shelf.new q ≡ S.file shelf.old q }
 {
     let plain = plain_line(alloc, file, shelf)?;
-    let cert = spelled_in(alloc, &EfficText, proof, shelf)?;
-    let verified = verify_effic(&plain.inst, &cert, steps);
-    let report = verdict_report(alloc, &cert, &verified)?;
+    let said = spelled_in(alloc, &EfficText, proof, shelf)?;
+    let verified = verify_effic(&plain.inst, &said.cert, steps);
+    let report = verdict_report(alloc, &said.cert, &verified)?;
     Ok(report)
 }

@@ -187,7 +187,7 @@ pub fn effic_report<R: Threads + Wait + Sync, S: Shelf, G: Gate>(
     requires few { most_m ≤ 1024 }
     requires plan { IsPlan plan.now }
     ensures ends { S.tells → (let o = outside (S.file shelf.old) (S.blames shelf.new) in
-        Ends o (IsEfficOutcome o file.now kind least_m most_m plan.now.helpers plan.now.units
+        Ends o (IsEfficOutcome o file.now kind least_m most_m plan.now
         (option_map (λ a. a.now) name.entry))
         (S.file shelf.new) result) }
     ensures good { IfOk result (λ r. IsSolveStatus r.status) }
@@ -196,8 +196,7 @@ pub fn effic_report<R: Threads + Wait + Sync, S: Shelf, G: Gate>(
         (Rises (S.write_faults shelf.old) (S.write_faults shelf.new))) }
     ensures unwritten { result ≡ Err Unwritten → (n : List ℕ) × (option_map (λ a. a.now) name.entry ≡ Some n) }
     ensures promise { S.tells → IfOk result (λ r.
-        IsEfficPromised (S.file shelf.old) (S.file shelf.new) file.now kind least_m most_m plan.now.helpers
-        plan.now.units (option_map (λ a. a.now) name.entry) r.status r.text.items r.kept) }
+        IsEfficPromised (S.file shelf.old) (S.file shelf.new) file.now kind least_m most_m plan.now (option_map (λ a. a.now) name.entry) r.status r.text.items r.kept) }
 {
     let plain = plain_line(alloc, file, shelf)?;
     let wanted = Wanted {

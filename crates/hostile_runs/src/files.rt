@@ -22,6 +22,11 @@ const PROOF: &str =
     "line balance certificate 2\nline straight\ntasks 5\ncycle 7\nlower 3\nupper 3\nbalance 3\n1\n2\n1\n2\n3\n\
     entries 1\nbranch f 7 f8 2 -\ntrail 0\nend\n";
 
+/// The same with an entry by pairs, of another line.
+const PAIRS: &str =
+    "line balance certificate 3\nline straight\ntasks 4\ncycle 20\nlower 3\nupper 3\nbalance 3\n1\n2\n2\n3\n\
+    entries 1\npairs 20 f 2 8\ntrail 0\nend\n";
+
 /// A text with a few of its bytes changed, cut off, put twice or left out.
 pub fn spoiled(alloc: Global, draws: &mut Draws, bytes: &[u8]) -> Result<Vec<u8>, AllocError> {
     let mut text = Vec::from_slice(alloc, bytes)?;
@@ -84,7 +89,8 @@ pub fn draw_files(alloc: Global, draws: &mut Draws, line: &Small) -> Result<Cont
     files.push(Some(alb(alloc, line, cycle)?.into_bytes()))?;
     files.push(Some(apart.into_bytes()))?;
     files.push(Some(spoiled_apart))?;
-    files.push(Some(spoiled(alloc, draws, PROOF.as_bytes())?))?;
+    let proof = if draws.one_in(2) { PROOF } else { PAIRS };
+    files.push(Some(spoiled(alloc, draws, proof.as_bytes())?))?;
     files.push(Some(Vec::from_slice(alloc, PROOF.as_bytes())?))?;
     files.push(None)?;
     files.push(Some(mix(alloc, line.tasks)?.into_bytes()))?;

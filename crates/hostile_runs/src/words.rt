@@ -9,13 +9,13 @@ const COMMANDS: [(&str, &[&str], &[&str]); 17] = [
         "solve",
         &["in2"],
         &[
-            "cycle", "line", "helpers", "units", "cert", "apart", "warm", "seek",
+            "cycle", "line", "helpers", "units", "cert", "apart", "warm", "seek", "bound",
         ],
     ),
     (
         "cycle",
         &["in2"],
-        &["stations", "line", "helpers", "units", "cert"],
+        &["stations", "line", "helpers", "units", "cert", "bound"],
     ),
     ("check", &["in2", "cert"], &["steps", "apart"]),
     ("convert", &["any", "out"], &["to", "cycle", "apart"]),
@@ -33,13 +33,13 @@ const COMMANDS: [(&str, &[&str], &[&str]); 17] = [
     (
         "effic",
         &["in2"],
-        &["least", "most", "line", "helpers", "units", "cert"],
+        &["least", "most", "line", "helpers", "units", "cert", "bound"],
     ),
     ("effic-check", &["in2", "cert"], &["steps"]),
     (
         "sequence",
         &["csv", "cert"],
-        &["interval", "length", "units", "out"],
+        &["interval", "length", "units", "out", "seek"],
     ),
     (
         "sequence-check",
@@ -50,9 +50,9 @@ const COMMANDS: [(&str, &[&str], &[&str]); 17] = [
 ];
 
 /// Keys, those of all commands and none.
-const KEYS: [&str; 14] = [
+const KEYS: [&str; 15] = [
     "cycle", "line", "helpers", "units", "cert", "apart", "warm", "stations", "steps", "to",
-    "least", "seek", "out", "hat",
+    "least", "seek", "bound", "out", "hat",
 ];
 
 /// Names of files that are there, or may be.
@@ -98,6 +98,7 @@ fn push_value(word: &mut String, draws: &mut Draws, key: &str) -> Result<(), All
         "cert" | "out" => draws.one_of(&["x.cert", "y.cert", "e.cert", "a.in2"]),
         "apart" => draws.one_of(&["p.apart", "p.apart", "q.apart", "none"]),
         "warm" => draws.one_of(&["x.cert", "y.cert", "e.cert"]),
+        "bound" => draws.one_of(&["pairs", "plain"]),
         "helpers" => draws.one_of(&["0", "0", "0", "0", "0", "0", "0", "1", "2"]),
         _ => "",
     };
@@ -154,7 +155,7 @@ pub fn draw_words(alloc: Global, draws: &mut Draws) -> Result<Vec<String>, Alloc
         }
     }
     for key in *keys {
-        let is_wanted = !["apart", "warm", "line", "seek"].contains(key);
+        let is_wanted = !["apart", "warm", "line", "seek", "bound"].contains(key);
         if is_wanted && !draws.one_in(8) || draws.one_in(3) {
             let word = setting(alloc, draws, key)?;
             put(draws, &mut words, word)?;

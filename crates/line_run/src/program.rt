@@ -15,7 +15,7 @@ ghost use Rattle.command_outcome.specs.declared.report.Stop.TheVariants.{Unwritt
 ghost use Rattle.command_outcome.specs.declared.status.Status.TheVariants as ends;
 ghost use Rattle.line_run.specs.Usage.{HasFault};
 ghost use Rattle.line_run.specs.Headline.{IsAnswered, AsksPromise, HasPromise, IsHeadline};
-ghost use Rattle.line_run.specs.Run.{IsJobOutcome, IsAnswer, IsOutcome, IsPlainEnd, IsJobPlain, AsksFiles};
+ghost use Rattle.line_run.specs.Run.{planned, IsJobOutcome, IsAnswer, IsOutcome, IsPlainEnd, IsJobPlain, AsksFiles};
 ghost use Rattle.line_run.specs.Run.{IsPlainOutcome, IsPut, IsWriting, IsLeft, IsJobTrue, IsTrueRun, WritesFile};
 
 use crate::pages::{help_page, version_page};
@@ -29,7 +29,7 @@ use draw_command::{draw_report, plan_report};
 use effic_command::{effic_check_report, effic_report};
 use input_files::kind_of;
 use line_io::{Shelf, Sink};
-use line_words::{Job, JobRead, Name, job_of};
+use line_words::{BoundWord, Job, JobRead, Name, job_of};
 use mix_commands::{combine_report, timeline_draw_report, timeline_report, utility_report};
 use sequence_command::{sequence_check_report, sequence_report};
 use solve_command::{AlwaysOpen, Gate, Plan, solve_report};
@@ -45,6 +45,18 @@ fn name_of(name: &Option<Name>) -> Option<&str>
     match name {
         Some(name) => Some(name.text()),
         None => None,
+    }
+}
+
+/// The plan of a search.
+fn plan_of(helpers: u32, units: u64, bound: BoundWord) -> Plan
+    ensures { result ≡ planned helpers units bound }
+{
+    Plan {
+        helpers,
+        units,
+        pairs: bound.asks_pairs(),
+        seek: 0,
     }
 }
 
@@ -92,12 +104,10 @@ fn do_job<R: Threads + Wait + Sync, S: Shelf, G: Gate>(
             apart,
             warm,
             seek,
+            bound,
         } => {
             let kind = kind_of(*line);
-            let plan = Plan {
-                helpers: *helpers,
-                units: *units,
-            };
+            let plan = plan_of(*helpers, *units, *bound);
             solve_report(
                 rt,
                 alloc,
@@ -120,12 +130,10 @@ fn do_job<R: Threads + Wait + Sync, S: Shelf, G: Gate>(
             helpers,
             units,
             cert,
+            bound,
         } => {
             let kind = kind_of(*line);
-            let plan = Plan {
-                helpers: *helpers,
-                units: *units,
-            };
+            let plan = plan_of(*helpers, *units, *bound);
             cycle_report(
                 rt,
                 alloc,
@@ -249,12 +257,10 @@ fn do_job<R: Threads + Wait + Sync, S: Shelf, G: Gate>(
             helpers,
             units,
             cert,
+            bound,
         } => {
             let kind = kind_of(*line);
-            let plan = Plan {
-                helpers: *helpers,
-                units: *units,
-            };
+            let plan = plan_of(*helpers, *units, *bound);
             effic_report(
                 rt,
                 alloc,

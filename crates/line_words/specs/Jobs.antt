@@ -1,6 +1,6 @@
 -- What the words ask for, and the first fault in them.
 use Rattle.std.specs.Prelude.{◌≡◌, ◌⊎◌, ℕ, suc, ◌<◌, cond, nat_lt, nat_le, ◌&&◌, Bool, true, List, [], ◌∷◌, length}
-use Rattle.std.specs.Prelude.{take, slice_index_or, Option, Some, None, codes}
+use Rattle.std.specs.Prelude.{false, take, slice_index_or, Option, Some, None, codes}
 use Rattle.std.specs.Str.{bytes_eq}
 use Rattle.line_words.specs.Words.{Text, setting, names_of, value_of, sets}
 use Rattle.line_words.specs.Table.{command_named, names_wanted, keys_wanted, takes, sets_all, is_value, is_some}
@@ -15,6 +15,8 @@ use Rattle.line_words.specs.declared.job.Job.TheVariants.{Sequence}
 use Rattle.line_words.specs.declared.job.Job.TheVariants.{SequenceCheck}
 use Rattle.line_words.specs.declared.job.LineWord.{LineWord}
 use Rattle.line_words.specs.declared.job.LineWord.TheVariants.{Straight, U}
+use Rattle.line_words.specs.declared.job.BoundWord.{BoundWord}
+use Rattle.line_words.specs.declared.job.BoundWord.TheVariants.{Plain, Pairs}
 use Rattle.line_words.specs.declared.job.FormWord.{FormWord}
 use Rattle.line_words.specs.declared.job.FormWord.TheVariants.{In2, Alb, Csv, Cert}
 use Rattle.line_words.specs.declared.fault.UsageKind.{UsageKind}
@@ -109,6 +111,20 @@ line_named (Some value) = cond (bytes_eq value (codes "u")) U Straight
 abbrev pub line_set : List Text → LineWord
 line_set words = line_named (value_of words (codes "line"))
 
+-- what a search asks, by this name; pairs are the default
+abbrev pub bound_named : Option Text → BoundWord
+bound_named None = Pairs
+bound_named (Some value) = cond (bytes_eq value (codes "plain")) Plain Pairs
+
+-- what the words have a search ask
+abbrev pub bound_set : List Text → BoundWord
+bound_set words = bound_named (value_of words (codes "bound"))
+
+-- whether pairs are asked
+abbrev pub asks_pairs : BoundWord → Bool
+asks_pairs Plain = false
+asks_pairs Pairs = true
+
 -- the form with this name
 abbrev pub form_named : Option Text → FormWord
 form_named None = In2
@@ -134,10 +150,12 @@ job_for command.Solve ws =
     (number_or command.Solve ws (codes "units") 1000000) (value_of ws (codes "cert")) (value_of ws (codes "apart"))
     (value_of ws (codes "warm"))
     (number_or command.Solve ws (codes "seek") 0)
+    (bound_set ws)
 job_for command.Cycle ws =
     Cycle (name_at ws 0) (number_or command.Cycle ws (codes "stations") 1) (line_set ws)
     (number_or command.Cycle ws (codes "helpers") 4)
     (number_or command.Cycle ws (codes "units") 1000000) (value_of ws (codes "cert"))
+    (bound_set ws)
 job_for command.Check ws =
     Check (name_at ws 0) (name_at ws 1) (number_or command.Check ws (codes "steps") 20000000)
     (value_of ws (codes "apart"))
@@ -165,6 +183,7 @@ job_for command.Effic ws =
     (line_set ws)
     (number_or command.Effic ws (codes "helpers") 4) (number_or command.Effic ws (codes "units") 1000000)
     (value_of ws (codes "cert"))
+    (bound_set ws)
 job_for command.EfficCheck ws = EfficCheck (name_at ws 0) (name_at ws 1)
     (number_or command.EfficCheck ws (codes "steps") 20000000)
 job_for command.Sequence ws =

@@ -81,8 +81,9 @@ abbrev pub keys_taken : Command → List Text
 keys_taken Balance = codes "cycle" ∷ codes "line" ∷ codes "apart" ∷ []
 keys_taken Solve =
     codes "cycle" ∷ codes "line" ∷ codes "helpers" ∷ codes "units" ∷ codes "cert" ∷ codes "apart" ∷ codes "warm" ∷ codes
-    "seek" ∷ []
-keys_taken Cycle = codes "stations" ∷ codes "line" ∷ codes "helpers" ∷ codes "units" ∷ codes "cert" ∷ []
+    "seek" ∷ codes "bound" ∷ []
+keys_taken Cycle =
+    codes "stations" ∷ codes "line" ∷ codes "helpers" ∷ codes "units" ∷ codes "cert" ∷ codes "bound" ∷ []
 keys_taken Check = codes "steps" ∷ codes "apart" ∷ []
 keys_taken Convert = codes "to" ∷ codes "cycle" ∷ codes "apart" ∷ []
 keys_taken Combine = []
@@ -93,7 +94,8 @@ keys_taken Try = codes "seed" ∷ codes "tasks" ∷ codes "cycle" ∷ codes "lin
 keys_taken Draw = codes "apart" ∷ []
 keys_taken Plan = codes "apart" ∷ []
 keys_taken Effic =
-    codes "least" ∷ codes "most" ∷ codes "line" ∷ codes "helpers" ∷ codes "units" ∷ codes "cert" ∷ []
+    codes "least" ∷ codes "most" ∷ codes "line" ∷ codes "helpers" ∷ codes "units" ∷ codes "cert" ∷ codes
+    "bound" ∷ []
 keys_taken EfficCheck = codes "steps" ∷ []
 keys_taken Sequence = codes "interval" ∷ codes "length" ∷ codes "units" ∷ codes "out" ∷ codes "seek" ∷ []
 keys_taken SequenceCheck = codes "interval" ∷ codes "length" ∷ codes "steps" ∷ []
@@ -176,11 +178,21 @@ names_file key =
     bytes_eq key (codes "cert") || bytes_eq key (codes "apart") || bytes_eq key (codes "warm")
     || bytes_eq key (codes "out")
 
+-- a key is set to one of a few words
+abbrev pub takes_words : Text → Bool
+takes_words key = bytes_eq key (codes "line") || bytes_eq key (codes "bound") || bytes_eq key (codes "to")
+
+-- the word is one of those that the key is set to
+abbrev pub is_word_of : Text → Text → Bool
+is_word_of key word =
+    cond (bytes_eq key (codes "line")) (bytes_eq word (codes "straight") || bytes_eq word (codes "u"))
+    (cond (bytes_eq key (codes "bound")) (bytes_eq word (codes "plain") || bytes_eq word (codes "pairs"))
+    (bytes_eq word (codes "in2") || bytes_eq word (codes "alb") || bytes_eq word (codes "csv")
+    || bytes_eq word (codes "cert")))
+
 -- a key of a command takes the value
 abbrev pub is_value : Command → Text → Text → Bool
 is_value command key value =
-    cond (bytes_eq key (codes "line")) (bytes_eq value (codes "straight") || bytes_eq value (codes "u"))
-    (cond (bytes_eq key (codes "to")) (bytes_eq value (codes "in2") || bytes_eq value (codes "alb")
-    || bytes_eq value (codes "csv") || bytes_eq value (codes "cert"))
+    cond (takes_words key) (is_word_of key value)
     (cond (names_file key) (is_some value)
-    (is_least (least_of key) (number_up_to (most_of command key) value))))
+    (is_least (least_of key) (number_up_to (most_of command key) value)))

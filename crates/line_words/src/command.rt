@@ -153,9 +153,9 @@ impl Command {
         match self {
             Command::Balance => &["cycle", "line", "apart"],
             Command::Solve => &[
-                "cycle", "line", "helpers", "units", "cert", "apart", "warm", "seek",
+                "cycle", "line", "helpers", "units", "cert", "apart", "warm", "seek", "bound",
             ],
-            Command::Cycle => &["stations", "line", "helpers", "units", "cert"],
+            Command::Cycle => &["stations", "line", "helpers", "units", "cert", "bound"],
             Command::Check => &["steps", "apart"],
             Command::Convert => &["to", "cycle", "apart"],
             Command::Combine => &[],
@@ -165,7 +165,7 @@ impl Command {
             Command::Try => &["seed", "tasks", "cycle", "line", "units"],
             Command::Draw => &["apart"],
             Command::Plan => &["apart"],
-            Command::Effic => &["least", "most", "line", "helpers", "units", "cert"],
+            Command::Effic => &["least", "most", "line", "helpers", "units", "cert", "bound"],
             Command::EfficCheck => &["steps"],
             Command::Sequence => &["interval", "length", "units", "out", "seek"],
             Command::SequenceCheck => &["interval", "length", "steps"],

@@ -5,7 +5,7 @@
 ghost use Rattle.std.specs.Prelude.{◌≡◌, ◌≤◌, ◌<◌, ◌^◌, IfOk, IfSome, option_map, ℕ, codes};
 ghost use Rattle.line_words.specs.Words.{texts, names_of, value_of};
 ghost use Rattle.line_words.specs.Table.{most_of};
-ghost use Rattle.line_words.specs.Jobs.{number_set, number_or, line_set, form_set, name_at, job_for};
+ghost use Rattle.line_words.specs.Jobs.{asks_pairs, number_set, number_or, line_set, bound_set, form_set, name_at, job_for};
 
 use crate::command::Command;
 use crate::name::Name;
@@ -20,6 +20,27 @@ pub enum LineWord {
     Straight,
     /// A U-line.
     U,
+}
+
+/// What a search asks of a set of tasks beside its loads.
+#[derive(Clone, Copy, Debug, PartialEq, Eq)]
+pub enum BoundWord {
+    /// The bound and the lemmas that are known.
+    Plain,
+    /// Pairs too: tasks of which no two can share a station.
+    Pairs,
+}
+
+impl BoundWord {
+    /// Whether pairs are asked.
+    pub fn asks_pairs(&self) -> bool
+        ensures { result ≡ asks_pairs self.now }
+    {
+        match self {
+            BoundWord::Plain => false,
+            BoundWord::Pairs => true,
+        }
+    }
 }
 
 /// The form of a file.
@@ -61,6 +82,7 @@ pub enum Job {
         apart: Option<Name>,
         warm: Option<Name>,
         seek: u64,
+        bound: BoundWord,
     },
     /// The least cycle time of a number of stations.
     Cycle {
@@ -70,6 +92,7 @@ pub enum Job {
         helpers: u32,
         units: u64,
         cert: Option<Name>,
+        bound: BoundWord,
     },
     /// The test of a certificate, in at most as many steps.
     Check {
@@ -146,6 +169,7 @@ pub enum Job {
         helpers: u32,
         units: u64,
         cert: Option<Name>,
+        bound: BoundWord,
     },
     /// The test of a certificate of a least product, in at most as many steps.
     EfficCheck {
@@ -311,6 +335,21 @@ fn line_set(words: &[String]) -> LineWord
     }
 }
 
+/// What the words have a search ask.
+fn bound_set(words: &[String]) -> BoundWord
+    ensures { result ≡ bound_set (texts words.now) }
+{
+    match value_of(words, "bound") {
+        None => BoundWord::Pairs,
+        Some(value) => {
+            if value == "plain" {
+                return BoundWord::Plain;
+            }
+            BoundWord::Pairs
+        }
+    }
+}
+
 /// The form that the words set.
 fn form_set(words: &[String]) -> FormWord
     ensures { result ≡ form_set (texts words.now) }
@@ -346,6 +385,7 @@ fn solve_job(alloc: Global, words: &[String]) -> Result<Job, AllocError>
         apart: name_set(alloc, words, "apart")?,
         warm: name_set(alloc, words, "warm")?,
         seek: number_or(command, words, "seek", 0),
+        bound: bound_set(words),
     })
 }
 
@@ -360,6 +400,7 @@ fn cycle_job(alloc: Global, words: &[String]) -> Result<Job, AllocError>
         helpers: helpers_set(command, words),
         units: number_or(command, words, "units", 1_000_000),
         cert: name_set(alloc, words, "cert")?,
+        bound: bound_set(words),
     })
 }
 
@@ -479,6 +520,7 @@ fn effic_job(alloc: Global, words: &[String]) -> Result<Job, AllocError>
         helpers: helpers_set(command, words),
         units: number_or(command, words, "units", 1_000_000),
         cert: name_set(alloc, words, "cert")?,
+        bound: bound_set(words),
     })
 }
 

@@ -16,6 +16,6 @@ mod word;
 
 pub use command::Command;
 pub use fault::{UsageKind, push_usage};
-pub use job::{FormWord, Job, LineWord};
+pub use job::{BoundWord, FormWord, Job, LineWord};
 pub use name::Name;
 pub use reading::{JobRead, job_of};

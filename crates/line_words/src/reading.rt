@@ -5,7 +5,7 @@
 //! makes a job, and only a job takes memory.
 ghost use Rattle.std.specs.Prelude.{◌≡◌, ◌<◌, Option, None, MatchOption, ℕ};
 ghost use Rattle.line_words.specs.Words.{texts};
-ghost use Rattle.line_words.specs.Table.{least_of, names_file, is_value};
+ghost use Rattle.line_words.specs.Table.{least_of, names_file, takes_words, is_word_of, is_value};
 ghost use Rattle.line_words.specs.Ranges.{HasRange};
 ghost use Rattle.line_words.specs.Jobs.{are_ordered, ends_agree, setting_fault, name_fault, word_fault, missing};
 ghost use Rattle.line_words.specs.Jobs.{AreRight, IsFirstFault, IsBehind, IsJobRead};
@@ -50,15 +50,32 @@ fn names_file(key: &str) -> bool
     key == "cert" || key == "apart" || key == "warm" || key == "out"
 }
 
+/// Whether a key is set to one of a few words.
+fn takes_words(key: &str) -> bool
+    ensures { result ≡ takes_words key.now }
+{
+    key == "line" || key == "bound" || key == "to"
+}
+
+/// Whether a word is one of those that the key is set to.
+fn is_word_of(key: &str, word: &str) -> bool
+    ensures { result ≡ is_word_of key.now word.now }
+{
+    if key == "line" {
+        return word == "straight" || word == "u";
+    }
+    if key == "bound" {
+        return word == "plain" || word == "pairs";
+    }
+    word == "in2" || word == "alb" || word == "csv" || word == "cert"
+}
+
 /// Whether a key of a command takes the value.
 fn is_value(command: Command, key: &str, value: &str) -> bool
     ensures { result ≡ is_value command key.now value.now }
 {
-    if key == "line" {
-        return value == "straight" || value == "u";
-    }
-    if key == "to" {
-        return value == "in2" || value == "alb" || value == "csv" || value == "cert";
+    if takes_words(key) {
+        return is_word_of(key, value);
     }
     if names_file(key) {
         return !value.is_empty();

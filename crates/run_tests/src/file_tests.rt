@@ -70,7 +70,7 @@ convert first.cert a.cert to=cert|0|written a.cert/
 convert first-stopped.cert b.cert to=cert|0|written b.cert/
 convert stopped.cert c.cert to=cert|0|written c.cert/
 convert infeasible.cert d.cert to=cert|0|written d.cert/
-convert third.cert e.cert to=cert|7|certificate: line 1 form/";
+convert fourth.cert e.cert to=cert|7|certificate: line 1 form/";
 
 #[test]
 fn balances(rt: HostRuntime) -> Result<(), Fail> {

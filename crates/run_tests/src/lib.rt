@@ -11,6 +11,8 @@ mod file_tests;
 #[cfg(test)]
 mod gate_tests;
 #[cfg(test)]
+mod pair_tests;
+#[cfg(test)]
 mod runs;
 #[cfg(test)]
 mod sequence_tests;

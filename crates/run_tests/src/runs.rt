@@ -111,7 +111,7 @@ spare.cert utility sequence certificate 1/models 3/stations 1/lower 1/upper 1/un
 rootless.cert utility sequence certificate 1/models 3/stations 1/lower 1/upper 1/units 3/1/2/3/entries 2/\
     branch 0,1,1 0 1 -/branch 1,1,0 0 1 -/trail 0/end/
 leading.cert line balance certificate 2/line straight/tasks 5/cycle 07/
-third.cert line balance certificate 3/";
+fourth.cert line balance certificate 4/";
 
 /// The bytes of a text of a table.
 pub fn unslashed(alloc: Global, text: &str) -> Result<Vec<u8>, AllocError> {

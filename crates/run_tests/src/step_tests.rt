@@ -94,9 +94,11 @@ check seven.in2 s.cert|0|accepted straight cycle 7 lower 5 upper 5 units 48/
 solve seven.in2 cycle=7 helpers=0 units=1 seek=175|1|seek used 175 of 175 kept 0/stopped by units/bounds 4 5/idle 7/\
     station 1: 1/station 2: 2/station 3: 3 5/station 4: 4 6/station 5: 7/
 solve seven.in2 cycle=7 helpers=0 units=1 seek=176 warm=s.cert|0|warm 4 of 4/seek used 0 of 176 kept 0/optimal 5/|..
-solve jackson.in2 cycle=10 helpers=0 units=1 seek=30|0|seek used 30 of 30 kept 0/optimal 5/idle 4/station 1: 1 2 6/\
+solve jackson.in2 cycle=10 helpers=0 units=1 seek=30|0|seek used 28 of 30 kept 0/optimal 5/idle 4/station 1: 1 2 6/\
     station 2: 5 8/station 3: 3 10/station 4: 4 7/station 5: 9 11/
-solve jackson.in2 cycle=10 helpers=0 units=1 seek=29|1|seek used 29 of 29 kept 0/stopped by units/bounds 5 6/|..
+solve jackson.in2 cycle=10 helpers=0 units=1 seek=27|1|seek used 27 of 27 kept 0/stopped by units/bounds 5 6/|..
+solve jackson.in2 cycle=10 helpers=0 units=1 seek=30 bound=plain|0|seek used 30 of 30 kept 0/optimal 5/|..
+solve jackson.in2 cycle=10 helpers=0 units=1 seek=29 bound=plain|1|seek used 29 of 29 kept 0/stopped by units/|..
 solve nine.in2 cycle=16 helpers=0 units=1 seek=108|0|seek used 108 of 108 kept 3/optimal 5/idle 17/station 1: 1 2 3/\
     station 2: 4 6/station 3: 7 9/station 4: 5/station 5: 8/
 solve thirteen.in2 cycle=21 helpers=0 units=1 seek=5516 cert=t.cert|0|seek used 5516 of 5516 kept 100/optimal 6/\

@@ -236,7 +236,7 @@ fn take_sought<R: Threads + Sync>(
         units,
         first,
     } = taken;
-    let Sought::Done { best, lemmas, used } = seek(alloc, inst, &book, limit) else {
+    let Sought::Done { best, lemmas, used } = seek(alloc, inst, &book, limit, plan.pairs) else {
         return Err(AllocError);
     };
     let room = MOST_UNITS - 2 * plan.units - u64::from(kept).max(units);

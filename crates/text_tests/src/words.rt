@@ -1,5 +1,5 @@
 //! Rows of words, with what they ask for or their first fault.
-use line_words::{FormWord, Job, JobRead, LineWord, job_of, push_usage};
+use line_words::{BoundWord, FormWord, Job, JobRead, LineWord, job_of, push_usage};
 use std::alloc::{AllocError, Global};
 use std::test::Fail;
 
@@ -111,6 +111,7 @@ fn is_solve(job: &Job) -> bool {
         apart,
         warm,
         seek,
+        bound,
     } = job
     else {
         return false;
@@ -118,14 +119,15 @@ fn is_solve(job: &Job) -> bool {
     let names = file.text() == "a.in2" && cert.as_ref().is_some_and(|cert| cert.text() == "c");
     let numbers = *cycle == Some(7) && *helpers == 4 && *units == 1_000_000;
     let old = warm.as_ref().is_some_and(|warm| warm.text() == "w");
-    names && numbers && old && *seek == 5 && *line == LineWord::U && apart.is_none()
+    let asks = *bound == BoundWord::Plain && *seek == 5;
+    names && numbers && old && asks && *line == LineWord::U && apart.is_none()
 }
 
 #[test]
 fn jobs_have_their_values(rt: HostRuntime) -> Result<(), Fail> {
     let words = words_of(
         rt.alloc(),
-        "solve cycle=7 a.in2 line=u cert=c warm=w seek=5",
+        "solve cycle=7 a.in2 line=u cert=c warm=w seek=5 bound=plain",
     )?;
     let right = match job_of(rt.alloc(), &words) {
         JobRead::Good(job) => is_solve(&job),

@@ -1,5 +1,5 @@
 -- The text of a certificate is read as that certificate, and the check accepts one that is accepted.
-use Rattle.std.proofs.Common.{◌≡◌, ℕ, [], sym, ◌∙◌, inl, inr}
+use Rattle.std.proofs.Common.{◌≡◌, ◌⊎◌, ℕ, [], refl, sym, ap, ◌∙◌, inl, inr}
 use Rattle.std.proofs.lemmas.List.{append-nil}
 use Rattle.line_instance.specs.Line.{Line}
 use Rattle.line_rules.specs.Accepted.{IsAccepted, IsInfeasible, ClaimIsAccepted, ClaimIsInfeasible}
@@ -7,25 +7,43 @@ use Rattle.line_rules.specs.Ranges.{IsInRange}
 use Rattle.line_rules.specs.declared.types.Claim.{Claim}
 use Rattle.line_rules.specs.declared.types.Claim.TheVariants as claim
 use Rattle.line_rules.specs.declared.types.Certificate.{Certificate}
-use Rattle.entry_lists.specs.declared.version_one.OldCertificate.{OldCertificate}
-use Rattle.cert_text.specs.Cert.{cert_text}
+use Rattle.cert_lines.specs.Rows.{rows_text}
+use Rattle.cert_lines.specs.declared.line_forms.Version.{Version}
+use Rattle.cert_lines.specs.declared.line_forms.Version.TheVariants as version
+use Rattle.cert_text.specs.Cert.{cert_text, cert_rows, newest_text, least_version, rows_in}
 use Rattle.cert_text.specs.WholeText.{IsSaidBy}
-use Rattle.cert_text.specs.Versions.{newer, older}
+use Rattle.cert_text.specs.Versions.{AnyCertificate, newer, newest, older, IsAnyInRange, any_text, lifted}
 use Rattle.cert_text.proofs.LineTexts.{begins_none}
+use Rattle.cert_text.proofs.PairFacts.{least_not_one}
 
-same_newer : (c d : Certificate) → newer c ≡ newer d → c ≡ d
-same_newer c d e = cc
+-- what a certificate's text says, in the version in which it is written
+written_as : (cert : Certificate) → IsInRange cert
+    → (x : AnyCertificate) × IsAnyInRange x × (any_text x ≡ cert_text cert) × (lifted x ≡ cert)
+unfolding cert_rows
+written_as cert h = in_version (least_version cert.claim) refl
+  where
+    in_version : (v : Version) → least_version cert.claim ≡ v
+        → (x : AnyCertificate) × IsAnyInRange x × (any_text x ≡ cert_text cert) × (lifted x ≡ cert)
+    in_version version.One e = absurd (least_not_one cert.claim e)
+    in_version version.Two e = (newer cert, (h, e), ap (λ v. rows_text (rows_in v cert)) (sym e), refl)
+    in_version version.Three e = (newest cert, h, ap (λ v. rows_text (rows_in v cert)) (sym e), refl)
 
-differ : (c : Certificate) (d : OldCertificate) → newer c ≡ older d → (b : Certificate) → b ≡ c
-differ c d e b = absurd (cc)
+-- what equal texts say is the same
+one_text : (x y : AnyCertificate) → IsAnyInRange x → IsAnyInRange y → any_text x ≡ any_text y → lifted x ≡ lifted y
+one_text x y h k e = ap lifted (begins_none x y [] h k (append-nil (any_text x) ∙ e)).0
 
 pub read_same : (cert again : Certificate) → IsInRange cert → IsSaidBy (cert_text cert) again → again ≡ cert
-read_same cert again h (inl s) =
-    let e = begins_none (newer cert) (newer again) [] h s.0 (append-nil (cert_text cert) ∙ s.1) in
-    sym (same_newer cert again e.0)
+read_same cert again h (inl s) = let x = written_as cert h in by_text x s.1
+  where
+    by_text : (x : AnyCertificate) × IsAnyInRange x × (any_text x ≡ cert_text cert) × (lifted x ≡ cert)
+        → (cert_text cert ≡ cert_text again) ⊎ (cert_text cert ≡ newest_text again) → again ≡ cert
+    by_text x (inl e) =
+        let y = written_as again s.0 in
+        sym y.3 ∙ sym (one_text x.0 y.0 x.1 y.1 (x.2 ∙ e ∙ sym y.2)) ∙ x.3
+    by_text x (inr e) = sym (one_text x.0 (newest again) x.1 s.0 (x.2 ∙ e)) ∙ x.3
 read_same cert again h (inr o) =
-    let e = begins_none (newer cert) (older o.0) [] h o.1 (append-nil (cert_text cert) ∙ o.2) in
-    differ cert o.0 e.0 again
+    let x = written_as cert h in
+    o.3 ∙ sym (one_text x.0 (older o.0) x.1 o.1 (x.2 ∙ o.2)) ∙ x.3
 
 -- a certificate isn't accepted both with bounds and as infeasible
 claims_differ : (line : Line) (cert : Certificate) (said : Claim) (l u units i : ℕ)

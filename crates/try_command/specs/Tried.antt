@@ -1,6 +1,6 @@
 -- What `try` comes to: the line of a seed, what was proved of it within N units and no helpers, and a certificate that
 -- was written, read again and verified.
-use Rattle.std.specs.Prelude.{◌≡◌, ◌⊎◌, ◌≤◌, ℕ, List}
+use Rattle.std.specs.Prelude.{◌≡◌, ◌⊎◌, ◌≤◌, ℕ, true, List}
 use Rattle.line_instance.specs.Line.{Line, tasks}
 use Rattle.line_rules.specs.Accepted.{IsAccepted}
 use Rattle.line_rules.specs.Bounds.{IsTooLong}
@@ -26,9 +26,9 @@ use Rattle.command_outcome.specs.declared.status.Status.TheVariants as ends
 use Rattle.line_generator.specs.Drawn.{IsGenerated}
 use Rattle.try_command.specs.TryText.{bounds_line, none_line}
 
--- so many units, and no helpers
+-- so many units, no helpers, and pairs are asked
 abbrev pub alone : ℕ → Plan
-alone N = record { helpers = 0; units = N }
+alone N = record { helpers = 0; units = N; pairs = true; seek = 0 }
 
 -- The certificate is what its text reads as, and the check with its default steps accepts it with these bounds.
 pub record IsReadAndVerified (line : Line) (certificate : Certificate) (lower upper : ℕ) : Type 0 where

@@ -192,7 +192,12 @@ fn report_of<R: Threads + Wait + Sync>(
     requires few { units ≤ 3000000 }
     ensures { IfOk result (λ r. IsShown kind inst.now seed (tasks inst.now) cycle units r.status r.text.items r.kept) }
 {
-    let plan = Plan { helpers: 0, units };
+    let plan = Plan {
+        helpers: 0,
+        units,
+        pairs: true,
+        seek: 0,
+    };
     match solve(rt, alloc, inst, kind, cycle, &plan, &AlwaysOpen) {
         Outcome::TooLong(task) => infeasible(alloc, inst, seed, kind, cycle, task),
         Outcome::Solved { book } => optimal(rt, alloc, inst, seed, kind, cycle, book),

@@ -19,7 +19,7 @@ returns-in_err-plain-clause-ends g c = λ t.
     let file : List ℕ = c.args.file.now in
     let plan = c.args.plan.now in
     let name : Option (List ℕ) = option_map (λ a. a.now) c.args.name in
-    let P : Outcome → Type 0 = IsCycleOutcome o file c.args.kind c.args.stations plan.helpers plan.units name in
+    let P : Outcome → Type 0 = IsCycleOutcome o file c.args.kind c.args.stations plan name in
     let after : Files = g.S.Shelf.file c.plain_line.new.shelf in
     early o P (IsNoPlainLine o file) after c.in_err-plain.field-0.0 c.from_residual.result (λ out x. inr x)
     (c.in_err-plain.ensures.files t) (c.in_err-plain.ensures.said t) c.from_residual.ensures.1
@@ -44,7 +44,7 @@ returns-clause-ends g c = λ t.
     let r = c.in_ok-report.report in
     let found = in_file c.in_ok-plain.plain.naming a.kind line a.stations plan name r c.in_ok-report.ensures.answer in
     ends_as o (λ out. out ≡ outcome_of r (page_of name found.0))
-    (IsCycleOutcome o a.file.now a.kind a.stations plan.helpers plan.units name)
+    (IsCycleOutcome o a.file.now a.kind a.stations plan name)
     (g.S.Shelf.file c.write_certificate.new.shelf) c.write_certificate.result
     (λ out is. let N : Naming → Type 0 = λ n. IsFound n a.kind line a.stations plan name out in inl (record {
       line = line;
@@ -66,7 +66,7 @@ returns-clause-promise g c = λ t.
     in
     let shown = subst N (c.in_ok-plain.ensures.naming t) c.in_ok-report.ensures.shown in
     let P : Report → Type 0 = λ r. IsCyclePromised (g.S.Shelf.file a.shelf.now) after a.file.now a.kind a.stations
-    plan.helpers plan.units name r.status r.text.items r.kept in
+    plan name r.status r.text.items r.kept in
     let Q : Report → Type 0 = λ r. (cert : Certificate) → r.kept ≡ Certified cert → HasCertificate name after cert in
     handed_on P Q c.in_ok-report.report c.write_certificate.result
     (λ written. record {

@@ -1,4 +1,4 @@
-use Rattle.std.proofs.Common.{◌∙◌, inl, subst, List, ℕ, Option, None}
+use Rattle.std.proofs.Common.{◌∙◌, inl, refl, subst, List, ℕ, Option, None}
 use Rattle.command_outcome.specs.Outcome.{Files}
 use Rattle.command_outcome.proofs.OutcomeFacts.{told_as}
 use Rattle.input_files.specs.InputFile.{Reads, max_certificate}
@@ -11,9 +11,10 @@ pub returns-clause-ends : goal.returns-clause-ends
 returns-clause-ends g c = λ t.
     let files : Files = g.S.Shelf.file c.args.shelf.now in
     let proof : List ℕ = c.args.proof.now in
-    let cert = c.in_ok-cert.cert in
+    let said = c.in_ok-said.said in
+    let cert = said.cert in
     let found = c.verify_effic-verified.result in
-    let R : Option (List ℕ) → Type 0 = λ f. Reads max_certificate f (λ bytes. Says products bytes cert) in
+    let R : Option (List ℕ) → Type 0 = λ f. Reads max_certificate f (λ bytes. Says products bytes said) in
     record {
       page = None;
       reached = inl (record {
@@ -21,7 +22,7 @@ returns-clause-ends g c = λ t.
         cert = cert;
         found = found;
         said = c.in_ok-plain.ensures.said t;
-        read = subst R (c.in_ok-plain.ensures.files t proof) (c.in_ok-cert.ensures.said t);
+        read = (said, refl, subst R (c.in_ok-plain.ensures.files t proof) (c.in_ok-said.ensures.said t));
         verdict = c.verify_effic-verified.ensures.verdict;
         accepted = c.verify_effic-verified.ensures.accepted;
         rejected = c.verify_effic-verified.ensures.rejected;
@@ -29,5 +30,5 @@ returns-clause-ends g c = λ t.
         shown = told_as c.in_ok-report.report (verdict_status found) (verdict_text cert found)
             c.in_ok-report.ensures.status c.in_ok-report.ensures.text c.in_ok-report.ensures.kept;
       });
-      written = λ q. c.in_ok-cert.ensures.files t q ∙ c.in_ok-plain.ensures.files t q;
+      written = λ q. c.in_ok-said.ensures.files t q ∙ c.in_ok-plain.ensures.files t q;
     }

@@ -18,7 +18,7 @@ returns-in_err-plain-clause-ends g c = λ t.
     let plan = c.args.plan.now in
     let name : Option (List ℕ) = option_map (λ a. a.now) c.args.name in
     let P : Outcome → Type 0 =
-    IsEfficOutcome o file c.args.kind c.args.least_m c.args.most_m plan.helpers plan.units name in
+    IsEfficOutcome o file c.args.kind c.args.least_m c.args.most_m plan name in
     let after : Files = g.S.Shelf.file c.plain_line.new.shelf in
     early o P (IsNoPlainLine o file) after c.in_err-plain.field-0.0 c.from_residual.result (λ out x. inr x)
     (c.in_err-plain.ensures.files t) (c.in_err-plain.ensures.said t) c.from_residual.ensures.1
@@ -30,7 +30,7 @@ returns-in-None-clause-ends g c = λ t.
     let plan = c.args.plan.now in
     let after : Files = g.S.Shelf.file c.plain_line.new.shelf in
     let C : Option (List ℕ) → Type 0 = λ n.
-    Comes o (IsEfficOutcome o file c.args.kind c.args.least_m c.args.most_m plan.helpers plan.units n) after
+    Comes o (IsEfficOutcome o file c.args.kind c.args.least_m c.args.most_m plan n) after
     c.in_ok-report.report in
     let N : Naming → Type 0 = λ n. IsFound n c.args.kind c.in_ok-plain.plain.inst c.args.least_m c.args.most_m plan None
     (outcome_of c.in_ok-report.report None) in
@@ -68,11 +68,11 @@ returns-clause-ends g c = λ t.
     report
     c.in_ok-report.ensures.answer in
     let E : Option (List ℕ) → Type 0 = λ n.
-    Ends o (IsEfficOutcome o file c.args.kind c.args.least_m c.args.most_m plan.helpers plan.units n) after
+    Ends o (IsEfficOutcome o file c.args.kind c.args.least_m c.args.most_m plan n) after
     c.written.result in
     subst E (sym (ap (option_map (λ a. a.now)) c.in-Some.is))
     (ends_as o (λ out. out ≡ outcome_of report (page_of name found.0))
-    (IsEfficOutcome o file c.args.kind c.args.least_m c.args.most_m plan.helpers plan.units name) after
+    (IsEfficOutcome o file c.args.kind c.args.least_m c.args.most_m plan name) after
     c.written.result
     (λ out is. let N : Naming → Type 0 = λ n. IsFound n c.args.kind line c.args.least_m c.args.most_m plan name out in
     inl (record {
@@ -98,7 +98,7 @@ returns-clause-promise g c = λ t.
     r.status r.text.items r.kept in
     let shown = subst N (c.in_ok-plain.ensures.naming t) c.in_ok-report.ensures.shown in
     let P : Option (List ℕ) → Report → Type 0 = λ n r.
-    IsEfficPromised files after c.args.file.now c.args.kind c.args.least_m c.args.most_m plan.helpers plan.units n
+    IsEfficPromised files after c.args.file.now c.args.kind c.args.least_m c.args.most_m plan n
     r.status r.text.items r.kept in
     let Q : Report → Type 0 = λ r.
     (cert : EfficCert) → r.kept ≡ Certified cert → HasCertificate (Some name) after cert in
@@ -122,7 +122,7 @@ returns-in-None-clause-promise g c = λ t.
     let N : Naming → Type 0 = λ n. IsShown n c.args.kind c.in_ok-plain.plain.inst c.args.least_m c.args.most_m plan
     r.status r.text.items r.kept in
     let P : Option (List ℕ) → Type 0 = λ n. IsEfficPromised files after c.args.file.now c.args.kind c.args.least_m
-    c.args.most_m plan.helpers plan.units n r.status r.text.items r.kept in
+    c.args.most_m plan n r.status r.text.items r.kept in
     subst P (sym (ap (option_map (λ a. a.now)) c.in-None.is)) (record {
       line = c.in_ok-plain.plain.inst;
       said = c.in_ok-plain.ensures.said t;

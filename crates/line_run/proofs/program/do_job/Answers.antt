@@ -23,6 +23,7 @@ use Rattle.mix_commands.specs.Combine.{IsCombineOutcome}
 use Rattle.mix_commands.specs.Utility.{IsUtilityOutcome}
 use Rattle.mix_commands.specs.Timeline.{IsTimelineOutcome}
 use Rattle.mix_commands.specs.TimelineDraw.{IsTimelineDrawOutcome}
+use Rattle.solve_command.specs.rounds.declared.plans.Plan.{Plan}
 use Rattle.line_run.specs.Run.{planned, IsTryOutcome, IsJobOutcome, IsJobPlain, IsPlainEnd}
 use Rattle.line_run.specs.Headline.{HasPromise}
 use Rattle.line_run.proofs.HeadlineFacts.{reports_so}
@@ -89,11 +90,15 @@ returns-in-Solve-clause-ends g c = λ t.
     let o : Outside = outside (g.S.Shelf.file c.args.shelf.now) (g.S.Shelf.blames c.solve_report.new.shelf) in
     let after : Files = g.S.Shelf.file c.solve_report.new.shelf in
     let job = c.in-Solve in
+    let plan = c.plan_of-plan in
+    let E : Plan → Type 0 = λ p. Ends o
+    (IsSolveOutcome o job.file job.apart job.warm job.seek job.cycle (kind_of job.line) p job.cert) after
+    c.solve_report.result in
     of_job o after c.solve_report.result _ _ job.is
-    (of_solve (λ f a w k n. Ends o
-    (IsSolveOutcome o f a w job.seek job.cycle k (planned job.helpers job.units) n) after c.solve_report.result)
+    (subst E plan.ensures (of_solve (λ f a w k n. Ends o (IsSolveOutcome o f a w job.seek job.cycle k plan.result n) after
+    c.solve_report.result)
     c.text-in-Solve.ensures c.name_of-in-Solve.ensures c.name_of-in-Solve-2.ensures c.kind_of-kind-in-Solve.ensures
-    c.name_of-in-Solve-3.ensures (c.solve_report.ensures.ends t))
+    c.name_of-in-Solve-3.ensures (c.solve_report.ensures.ends t)))
 
 pub returns-in-Solve-clause-promise : goal.returns-in-Solve-clause-promise
 returns-in-Solve-clause-promise g c = λ t answers.
@@ -101,17 +106,18 @@ returns-in-Solve-clause-promise g c = λ t answers.
     let after : Files = g.S.Shelf.file c.solve_report.new.shelf in
     let job = c.in-Solve in
     let r = c.solve_report.result in
-    let P : List ℕ → Option (List ℕ) → Option (List ℕ) → LineKind → Option (List ℕ) → Report → Type 0 =
-    λ f a w k n x. IsPromised files after f a w job.seek job.cycle k (planned job.helpers job.units) n x.status
-    x.text.items x.kept in
+    let plan = c.plan_of-plan in
+    let P : Plan → List ℕ → Option (List ℕ) → Option (List ℕ) → LineKind → Option (List ℕ) → Report → Type 0 =
+    λ p f a w k n x. IsPromised files after f a w job.seek job.cycle k p n x.status x.text.items x.kept in
+    let O : Plan → Type 0 = λ p. IfOk r (P p job.file job.apart job.warm (kind_of job.line) job.cert) in
     let J : Job → Type 0 = λ j. HasPromise files after j r in
     subst J (sym job.is)
     (reports_so (Rises (g.S.Shelf.fetch_faults c.args.shelf.now) (g.S.Shelf.fetch_faults c.solve_report.new.shelf))
     (Rises (g.S.Shelf.write_faults c.args.shelf.now) (g.S.Shelf.write_faults c.solve_report.new.shelf))
-    (P job.file job.apart job.warm (kind_of job.line) job.cert) r
-    (of_solve (λ f a w k n. IfOk r (P f a w k n)) c.text-in-Solve.ensures c.name_of-in-Solve.ensures
-    c.name_of-in-Solve-2.ensures c.kind_of-kind-in-Solve.ensures c.name_of-in-Solve-3.ensures
-    (c.solve_report.ensures.promise t))
+    (P (planned job.helpers job.units job.bound) job.file job.apart job.warm (kind_of job.line) job.cert) r
+    (subst O plan.ensures (of_solve (λ f a w k n. IfOk r (P plan.result f a w k n)) c.text-in-Solve.ensures
+    c.name_of-in-Solve.ensures c.name_of-in-Solve-2.ensures c.kind_of-kind-in-Solve.ensures c.name_of-in-Solve-3.ensures
+    (c.solve_report.ensures.promise t)))
     c.solve_report.ensures.fault answers)
 
 pub returns-in-Draw-clause-ends : goal.returns-in-Draw-clause-ends
@@ -175,22 +181,24 @@ returns-in-Cycle-clause-ends g c = λ t.
     let o : Outside = outside (g.S.Shelf.file c.args.shelf.now) (g.S.Shelf.blames c.cycle_report.new.shelf) in
     let after : Files = g.S.Shelf.file c.cycle_report.new.shelf in
     let job = c.in-Cycle in
-    let E : List ℕ → LineKind → Option (List ℕ) → Type 0 = λ f k n.
-    Ends o (IsCycleOutcome o f k job.stations job.helpers job.units n) after c.cycle_report.result in
+    let plan = c.plan_of-plan-in-Cycle in
+    let E : Plan → List ℕ → LineKind → Option (List ℕ) → Type 0 = λ p f k n.
+    Ends o (IsCycleOutcome o f k job.stations p n) after c.cycle_report.result in
     of_job o after c.cycle_report.result _ _ job.is
-    (subst₃ E c.text-in-Cycle.ensures c.kind_of-kind-in-Cycle.ensures c.name_of-in-Cycle.ensures
-    (c.cycle_report.ensures.ends t))
+    (subst (λ p. E p job.file (kind_of job.line) job.cert) plan.ensures (subst₃ (E plan.result) c.text-in-Cycle.ensures
+    c.kind_of-kind-in-Cycle.ensures c.name_of-in-Cycle.ensures (c.cycle_report.ensures.ends t)))
 
 pub returns-in-Effic-clause-ends : goal.returns-in-Effic-clause-ends
 returns-in-Effic-clause-ends g c = λ t.
     let o : Outside = outside (g.S.Shelf.file c.args.shelf.now) (g.S.Shelf.blames c.effic_report.new.shelf) in
     let after : Files = g.S.Shelf.file c.effic_report.new.shelf in
     let job = c.in-Effic in
-    let E : List ℕ → LineKind → Option (List ℕ) → Type 0 = λ f k n.
-    Ends o (IsEfficOutcome o f k job.least job.most job.helpers job.units n) after c.effic_report.result in
+    let plan = c.plan_of-plan-in-Effic in
+    let E : Plan → List ℕ → LineKind → Option (List ℕ) → Type 0 = λ p f k n.
+    Ends o (IsEfficOutcome o f k job.least job.most p n) after c.effic_report.result in
     of_job o after c.effic_report.result _ _ job.is
-    (subst₃ E c.text-in-Effic.ensures c.kind_of-kind-in-Effic.ensures c.name_of-in-Effic.ensures
-    (c.effic_report.ensures.ends t))
+    (subst (λ p. E p job.file (kind_of job.line) job.cert) plan.ensures (subst₃ (E plan.result) c.text-in-Effic.ensures
+    c.kind_of-kind-in-Effic.ensures c.name_of-in-Effic.ensures (c.effic_report.ensures.ends t)))
 
 pub returns-in-EfficCheck-clause-ends : goal.returns-in-EfficCheck-clause-ends
 returns-in-EfficCheck-clause-ends g c = λ t.

@@ -4,7 +4,7 @@ use Rattle.command_outcome.specs.Outcome.{Outside, outside}
 use Rattle.command_outcome.specs.Output.{status_of}
 use Rattle.command_outcome.specs.declared.status.Status.TheVariants as ends
 use Rattle.line_run.specs.Run.{IsAnswer, IsPlainOutcome}
-use Rattle.line_run.proofs.RunFacts.{run_ends, run_leaves, plain_put, write_or}
+use Rattle.line_run.proofs.RunFacts.{run_ends, run_leaves, plain_put, write_or, unwritten_or}
 use Rattle.line_run.proofs.HeadlineFacts.{headlined}
 use Rattle.line_run.proofs.program.run_gated.Goals as goal
 
@@ -49,3 +49,9 @@ returns-clause-headline g c = λ s k a.
     (g.K.Sink.shown c.args.out.now) (g.K.Sink.shown c.finish.new.out) (g.K.Sink.faults c.args.out.now)
     (g.K.Sink.faults c.finish.new.out) c.finish.result c.finish.new.kept
     c.do_words-ended.result (c.do_words-ended.ensures.promise s) (c.finish.ensures.finishes k) a
+
+pub returns-clause-write : goal.returns-clause-write
+returns-clause-write g c = λ w. elim (unwritten_or c.do_words-ended.result) [
+  | inl u ↦ inr (c.do_words-ended.ensures.unwritten u)
+  | inr n ↦ inl (c.finish.ensures.write w n)
+]
