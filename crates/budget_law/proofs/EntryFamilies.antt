@@ -27,6 +27,7 @@ HasMode : LineKind → Why → Type 0
 HasMode kind why.Bound = Unit {0}
 HasMode kind (why.Branch mode cites) = Belongs kind mode
 HasMode kind (why.Swap cite out into) = Unit {0}
+HasMode kind (why.Pairs two) = Unit {0}
 
 -- what is known of an entry of the cycle
 record IsKnown (kind : LineKind) (line : Line) (e : Entry) : Type 0 where
@@ -55,6 +56,7 @@ unfolding HasMode
 has_mode kind line es e why.Bound f = tt
 has_mode kind line es e (why.Branch mode cites) f = f.belongs
 has_mode kind line es e (why.Swap cite out into) f = tt
+has_mode kind line es e (why.Pairs two) f = tt
 
 known : (kind : LineKind) (line : Line) → IsLine line → IsRanked line → (X : ℕ) → ((i : ℕ) → IsTooLong line X i → ⊥)
     → (es : List Entry) → IsDerived kind line es
@@ -174,6 +176,7 @@ module _ (kind : LineKind) (line : Line) (X : ℕ) where
       most c refl refl h units (omega (arith, n.long, sum)) fresh
   by_way e es units a b (why.Swap cite out into) set most mode c u sum fresh h =
       without e es units b (omega (arith, sum, u)) h
+  by_way e es units a b (why.Pairs two) set most mode c u sum fresh h = without e es units b (omega (arith, sum, u)) h
 
   AreKnown : List Entry → Type 0
   AreKnown es = (k : ℕ) (e : Entry) → slice_get es k ≡ Some e → e.cycle ≡ X → IsKnown kind line e
