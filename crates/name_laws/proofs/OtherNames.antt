@@ -12,7 +12,7 @@ use Rattle.station_report.specs.StationsText.{stations_text}
 use Rattle.station_report.specs.BalanceLines.{balance_lines}
 use Rattle.station_report.specs.InfeasibleText.{infeasible_text}
 use Rattle.command_outcome.specs.Outcome.{Outcome, Page}
-use Rattle.command_outcome.specs.Bounds.{bounds_line}
+use Rattle.command_outcome.specs.Bounds.{bounds_line, seek_text}
 use Rattle.command_outcome.specs.declared.report.Kept.{Kept}
 use Rattle.command_outcome.specs.declared.report.Kept.TheVariants.{Nothing, Line as Certified, Product}
 use Rattle.command_outcome.specs.declared.status.Status.{Status}
@@ -126,8 +126,8 @@ module _ (naming other : Naming) where
 
     module _ (plan : Plan) (start : Start) (name : Option (List ℕ)) where
       optimum_like : (before : List Entry) (first : List ℕ) (out : Outcome)
-          → solving.IsOptimal naming kind line c before first name out
-          → HasLike naming other out (λ renamed. solving.IsOptimal other kind line c before first name renamed)
+          → solving.IsOptimal naming kind line c plan before first name out
+          → HasLike naming other out (λ renamed. solving.IsOptimal other kind line c plan before first name renamed)
       optimum_like before first out p = (
         record {
           status = ends.Done;
@@ -234,7 +234,8 @@ module _ (naming other : Naming) where
       | inl p ↦ (
         record {
           status = ends.Done;
-          text = cycle_text.optimal_text other kind p.cycle p.balance (idle_time line p.cycle m);
+          text = seek_text plan.seek p.seeks.used p.seeks.most p.seeks.kept
+              ++ cycle_text.optimal_text other kind p.cycle p.balance (idle_time line p.cycle m);
           page = page_of name p.certificate;
           kept = Certified p.certificate;
         },
@@ -244,18 +245,23 @@ module _ (naming other : Naming) where
             balance = p.balance;
             certificate = p.certificate;
             proved = p.proved;
+            seeks = p.seeks;
+            counted = p.counted;
             shown = refl;
           }),
           renamed_as ends.Done (page_of name p.certificate) (Certified p.certificate)
-              (cycle_text.optimal_text naming kind p.cycle p.balance (idle_time line p.cycle m))
-              (cycle_text.optimal_text other kind p.cycle p.balance (idle_time line p.cycle m)) out
-              (differ (cycle_text.optimal_line p.cycle) kind p.balance (idle_time line p.cycle m)) p.shown,
+              (seek_text plan.seek p.seeks.used p.seeks.most p.seeks.kept
+              ++ cycle_text.optimal_text naming kind p.cycle p.balance (idle_time line p.cycle m))
+              (seek_text plan.seek p.seeks.used p.seeks.most p.seeks.kept
+              ++ cycle_text.optimal_text other kind p.cycle p.balance (idle_time line p.cycle m)) out
+              (differ_behind (seek_text plan.seek p.seeks.used p.seeks.most p.seeks.kept) (cycle_text.optimal_line p.cycle) kind p.balance (idle_time line p.cycle m)) p.shown,
         ),
       )
       | inr p ↦ (
         record {
           status = ends.Stopped;
-          text = cycle_text.stopped_text other kind p.lower p.upper p.balance (idle_time line p.upper m);
+          text = seek_text plan.seek p.seeks.used p.seeks.most p.seeks.kept
+              ++ cycle_text.stopped_text other kind p.lower p.upper p.balance (idle_time line p.upper m);
           page = page_of name p.certificate;
           kept = Certified p.certificate;
         },
@@ -266,12 +272,16 @@ module _ (naming other : Naming) where
             balance = p.balance;
             certificate = p.certificate;
             proved = p.proved;
+            seeks = p.seeks;
+            counted = p.counted;
             shown = refl;
           }),
           renamed_as ends.Stopped (page_of name p.certificate) (Certified p.certificate)
-              (cycle_text.stopped_text naming kind p.lower p.upper p.balance (idle_time line p.upper m))
-              (cycle_text.stopped_text other kind p.lower p.upper p.balance (idle_time line p.upper m)) out
-              (differ (codes "stopped by units\n" ++ bounds_line p.lower p.upper) kind p.balance
+              (seek_text plan.seek p.seeks.used p.seeks.most p.seeks.kept
+              ++ cycle_text.stopped_text naming kind p.lower p.upper p.balance (idle_time line p.upper m))
+              (seek_text plan.seek p.seeks.used p.seeks.most p.seeks.kept
+              ++ cycle_text.stopped_text other kind p.lower p.upper p.balance (idle_time line p.upper m)) out
+              (differ_behind (seek_text plan.seek p.seeks.used p.seeks.most p.seeks.kept) (codes "stopped by units\n" ++ bounds_line p.lower p.upper) kind p.balance
               (idle_time line p.upper m)) p.shown,
         ),
       )
@@ -284,16 +294,25 @@ module _ (naming other : Naming) where
       | inl p ↦ (
         record {
           status = ends.Done;
-          text = effic_text.optimal_text other p.certificate (efficient.idle_of line p.certificate);
+          text = seek_text plan.seek p.seeks.used p.seeks.most p.seeks.kept
+              ++ effic_text.optimal_text other p.certificate (efficient.idle_of line p.certificate);
           page = efficient.page_of name p.certificate;
           kept = Product p.certificate;
         },
         (
-          inl (record { certificate = p.certificate; solved = p.solved; shown = refl }),
+          inl (record {
+            certificate = p.certificate;
+            solved = p.solved;
+            seeks = p.seeks;
+            counted = p.counted;
+            shown = refl;
+          }),
           renamed_as ends.Done (efficient.page_of name p.certificate) (Product p.certificate)
-              (effic_text.optimal_text naming p.certificate (efficient.idle_of line p.certificate))
-              (effic_text.optimal_text other p.certificate (efficient.idle_of line p.certificate)) out
-              (differ (effic_text.optimal_line p.certificate.upper
+              (seek_text plan.seek p.seeks.used p.seeks.most p.seeks.kept
+              ++ effic_text.optimal_text naming p.certificate (efficient.idle_of line p.certificate))
+              (seek_text plan.seek p.seeks.used p.seeks.most p.seeks.kept
+              ++ effic_text.optimal_text other p.certificate (efficient.idle_of line p.certificate)) out
+              (differ_behind (seek_text plan.seek p.seeks.used p.seeks.most p.seeks.kept) (effic_text.optimal_line p.certificate.upper
               ++ effic_text.place_line p.certificate.balance.stations p.certificate.cycle) p.certificate.kind
               p.certificate.balance (efficient.idle_of line p.certificate)) p.shown,
         ),
@@ -301,16 +320,27 @@ module _ (naming other : Naming) where
       | inr p ↦ (
         record {
           status = ends.Stopped;
-          text = effic_text.stopped_text other p.why p.certificate (efficient.idle_of line p.certificate);
+          text = seek_text plan.seek p.seeks.used p.seeks.most p.seeks.kept
+              ++ effic_text.stopped_text other p.why p.certificate (efficient.idle_of line p.certificate);
           page = efficient.page_of name p.certificate;
           kept = Product p.certificate;
         },
         (
-          inr (record { why = p.why; certificate = p.certificate; stopped = p.stopped; shown = refl }),
+          inr (record {
+            why = p.why;
+            certificate = p.certificate;
+            closing_from = p.closing_from;
+            stopped = p.stopped;
+            seeks = p.seeks;
+            counted = p.counted;
+            shown = refl;
+          }),
           renamed_as ends.Stopped (efficient.page_of name p.certificate) (Product p.certificate)
-              (effic_text.stopped_text naming p.why p.certificate (efficient.idle_of line p.certificate))
-              (effic_text.stopped_text other p.why p.certificate (efficient.idle_of line p.certificate)) out
-              (differ (effic_text.stopped_line p.why ++ bounds_line p.certificate.lower p.certificate.upper
+              (seek_text plan.seek p.seeks.used p.seeks.most p.seeks.kept
+              ++ effic_text.stopped_text naming p.why p.certificate (efficient.idle_of line p.certificate))
+              (seek_text plan.seek p.seeks.used p.seeks.most p.seeks.kept
+              ++ effic_text.stopped_text other p.why p.certificate (efficient.idle_of line p.certificate)) out
+              (differ_behind (seek_text plan.seek p.seeks.used p.seeks.most p.seeks.kept) (effic_text.stopped_line p.why ++ bounds_line p.certificate.lower p.certificate.upper
               ++ effic_text.place_line p.certificate.balance.stations p.certificate.cycle) p.certificate.kind
               p.certificate.balance (efficient.idle_of line p.certificate)) p.shown,
         ),

@@ -32,7 +32,8 @@ use Rattle.round_helpers.specs.Growth.{AreAtCycle}
 use Rattle.round_run.specs.Solving.{IsRunBook, IsSolvedFrom, IsStoppedFrom, IsSpentFrom}
 use Rattle.round_run.specs.declared.plans.Plan.{Plan}
 use Rattle.entry_lists.specs.Trim.{IsTrimmed}
-use Rattle.round_run.specs.Certified.{IsCertified, AreAtOrAs, HaveCyclesOf, LeaveRoom, IsOptimumFrom, IsStopFrom}
+use Rattle.round_run.specs.Certified.{IsCertified, AreAtOrAs, AreProof, HaveCyclesOf, LeaveRoom, IsOptimumFrom}
+use Rattle.round_run.specs.Certified.{IsStopFrom}
 use Rattle.round_run.specs.Certified.{IsNoBalance, about_stations, max_units}
 use Rattle.round_run.proofs.Sayable.{entries_ok, trail_ok, balance_ok, all_are_tasks}
 
@@ -102,11 +103,11 @@ derived_of : (kind : LineKind) (line : Line) (c : ℕ) (about : About) (es : Lis
 derived_of kind line c about es e d = (let D : About → Type 0 = λ a. IsDerived a.kind a.line es in subst D e d)
 
 -- the entry that shows the lower bound, among the entries that a book gave
-pub shown_goal : (kind : LineKind) (line : Line) (c N : ℕ) (before : List Entry) (book : BookView) (es : List Entry)
+pub shown_goal : (kind : LineKind) (line : Line) (c : ℕ) (plan : Plan) (before : List Entry) (book : BookView) (es : List Entry)
     (b : Assignment) (n : ℕ) → n ≡ tasks line
-    → es ≡ book.state.entries → b ≡ book.state.best → IsSolvedFrom kind line c N before book → 1 < b.stations
+    → es ≡ book.state.entries → b ≡ book.state.best → IsSolvedFrom kind line c plan before book → 1 < b.stations
     → HasAnswer es (full_to n) (b.stations - 1) c
-shown_goal kind line c N before book es b n e f g solved =
+shown_goal kind line c plan before book es b n e f g solved =
     let S : List Entry → Type 0 = λ x. 1 < b.stations → HasAnswer x (full_to n) (b.stations - 1) c in
     let B : Assignment → Type 0 = λ x. 1 < x.stations → HasAnswer book.state.entries (full_to n) (x.stations - 1) c in
     let M : ℕ → Type 0 = λ m. 1 < book.state.best.stations → HasAnswer book.state.entries (full_to m)
@@ -122,33 +123,35 @@ room_alone line N limit = record {
   few = omega (arith, limit);
 }
 
-module _ (kind : LineKind) (line : Line) (c N : ℕ) (before : List Entry) (book : BookView) (es : List Entry)
-    (b : Assignment) (ok : IsLine line) (cycle : IsCycle c) (room : LeaveRoom line N before)
+-- the certificates of a run by a plan
+module _ (kind : LineKind) (line : Line) (c : ℕ) (plan : Plan) (before : List Entry) (book : BookView) (es : List Entry)
+    (b : Assignment) (ok : IsLine line) (cycle : IsCycle c) (room : LeaveRoom line plan.units before)
     (es_are : es ≡ book.state.entries) (b_is : b ≡ book.state.best)
     (derived : IsDerived book.about.kind book.about.line es) (statable : AreStatable es)
     (best : MayBeBest book.about b) where
-  module _ (added : List Entry) (frames : List OpenFrame) (r : IsRunBook kind line c N before added frames book) where
-    begins : es ≡ before ++ added
-    begins = es_are ∙ r.entries
+  module _ (added : List Entry) (frames : List OpenFrame) (r : IsRunBook kind line c plan.units before added frames book)
+    where
+      begins : es ≡ before ++ added
+      begins = es_are ∙ r.entries
 
-    many : length es ≤ 20000000
-    many = omega (arith, r.few, room.few, ap (λ (x : List Entry). length x) begins, length-append before added)
+      many : length es ≤ 20000000
+      many = omega (arith, r.few, room.few, ap (λ (x : List Entry). length x) begins, length-append before added)
 
-    units_all : (m : ℕ) → UnitsOf line added m → UnitsOf line es (room.units + m)
-    units_all m u =
-        let U : List Entry → Type 0 = λ x. UnitsOf line x (room.units + m) in
-        subst U (sym begins) (units_both line before added room.units m room.counted u)
+      units_all : (m : ℕ) → UnitsOf line added m → UnitsOf line es (room.units + m)
+      units_all m u =
+          let U : List Entry → Type 0 = λ x. UnitsOf line x (room.units + m) in
+          subst U (sym begins) (units_both line before added room.units m room.counted u)
 
   -- the certificate of a run that was solved, with a proof that is made of the book's entries
-  pub optimum : IsSolvedFrom kind line c N before book → (new : List Entry)
+  pub optimum : IsSolvedFrom kind line c plan before book → (new : List Entry)
       → ((kind : LineKind) (line : Line) → IsDerived kind line es → IsDerived kind line new)
       → (1 < b.stations → HasAnswer new (all_tasks line) (b.stations - 1) c)
       → ((line : Line) (old : ℕ) → UnitsOf line es old → (units : ℕ) × UnitsOf line new units × (units ≤ old))
       → ((m : ℕ) → AreEntries m es → AreEntries m new)
-      → HaveCyclesOf es new
-      → IsOptimumFrom kind line c before book.state.best (about_stations kind line c
+      → HaveCyclesOf es new → AreProof line c b.stations new
+      → IsOptimumFrom kind line c plan before book.state.best (about_stations kind line c
       (claim.Bounds b.stations b.stations b new None))
-  optimum solved new d goal units ranges cycles =
+  optimum solved new d goal units ranges cycles proof =
       let run = solved.run in
       let derived' = derived_of kind line c book.about es run.about derived in
       let right = right_of kind line c book.about b run.about best in
@@ -157,7 +160,7 @@ module _ (kind : LineKind) (line : Line) (c N : ℕ) (before : List Entry) (book
       let L : Assignment → Type 0 = λ x. IsLeastStations kind line c x.stations in
       let least = subst L (sym b_is) solved.least in
       let some = some_stations least right.right in
-      let B : Assignment → Type 0 = λ x. IsOptimumFrom kind line c before x
+      let B : Assignment → Type 0 = λ x. IsOptimumFrom kind line c plan before x
       (about_stations kind line c (claim.Bounds b.stations b.stations b new None)) in
       subst B b_is (record {
         entries = new;
@@ -168,6 +171,13 @@ module _ (kind : LineKind) (line : Line) (c N : ℕ) (before : List Entry) (book
             goal tt tt
             (used.0, 0, (used.1, refl, omega arith)) (omega (arith, used.2, run.within, room.paid));
         least = least;
+        proof = proof;
+        spent = record {
+          begun = room.units;
+          before_units = room.counted;
+          paid = omega (arith, used.2, run.within);
+          alone = λ none. omega (arith, used.2, solved.alone none);
+        };
         cycles = at_or_as c before solved.added es new (begins solved.added [] run) run.cycles cycles;
       })
     where
@@ -175,12 +185,7 @@ module _ (kind : LineKind) (line : Line) (c N : ℕ) (before : List Entry) (book
       some_stations l r = (balance_ok kind line c b ok r (right_of kind line c book.about b solved.run.about
           best).few).some
 
--- the certificate of a run whose units ended
-module _ (kind : LineKind) (line : Line) (c : ℕ) (plan : Plan) (before : List Entry) (book : BookView) (es : List Entry)
-    (b : Assignment) (ok : IsLine line) (cycle : IsCycle c) (room : LeaveRoom line plan.units before)
-    (es_are : es ≡ book.state.entries) (b_is : b ≡ book.state.best)
-    (derived : IsDerived book.about.kind book.about.line es) (statable : AreStatable es)
-    (best : MayBeBest book.about b) where
+  -- the certificate of a run whose units ended
   pub stop : (top lower : ℕ) (frames : List OpenFrame)
       → IsSpentFrom kind line c plan before top lower book frames → IsFresh es
       → IsStopFrom kind line c plan before lower book.state.best
@@ -202,7 +207,7 @@ module _ (kind : LineKind) (line : Line) (c : ℕ) (plan : Plan) (before : List 
         room.units + spent.units.0,
         spent.units.1,
         (
-          units_all kind line c plan.units before book es b ok cycle room es_are b_is derived statable best spent.added
+          units_all spent.added
               frames run
               spent.units.0 spent.units.2.0,
           spent.units.2.1,
@@ -215,16 +220,15 @@ module _ (kind : LineKind) (line : Line) (c : ℕ) (plan : Plan) (before : List 
         frames = frames;
         certified = certified kind line c lower b es (Some trail) (room.units + spent.listed) ok cycle
             spent.stopped.some (omega (arith, below)) right.right right.few derived'
-            (entries_ok kind line es derived' statable (many kind line c plan.units before book es b ok cycle room
-            es_are b_is derived statable best spent.added frames run))
+            (entries_ok kind line es derived' statable (many spent.added frames run))
             (subst G (sym es_are) spent.stopped.goal) (lower, (refl, omega arith, below), valid)
             (trail_ok kind line c es (all_tasks line) lower frames cycle (all_are_tasks line ok)
             (omega (arith, below, right.few, ok.small)) valid)
             whole (omega (arith, room.paid, spent.most));
         units = room.units + spent.listed;
-        begins = begins kind line c plan.units before book es b ok cycle room es_are b_is derived statable best
-            spent.added frames run;
+        begins = begins spent.added frames run;
         cycles = run.cycles;
+        few = run.few;
         below = below;
         from = spent.from;
         asks = valid;

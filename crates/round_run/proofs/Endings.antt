@@ -242,20 +242,21 @@ module _ (kind : LineKind) (line : Line) (c : ℕ) (before : List Entry) (top N 
       | inr few ↦ bound_holds kind line c cycle (all_tasks line) s (omega (arith, few, l, start, h.run.some))
     ]
 
-    pub solved : new.state.best.stations ≤ lower → IsSolvedFrom kind line c N before new
+    pub solved : new.state.best.stations ≤ lower → IsSolvedFrom kind line c plan before new
     solved best = record {
       added = added;
       run = record {
         about = run_book.about;
         entries = run_book.entries;
         cycles = run_book.cycles;
-        few = run_book.few;
-        published = run_book.published;
+        few = omega (arith, run_book.few, plan_units);
+        published = h.published;
         listed = 0;
-        entry_units = run_book.entry_units;
+        entry_units = units;
         frame_units = refl;
-        within = omega (arith, run_book.within);
+        within = omega (arith, h.within, helpers, plan_units);
       };
+      alone = λ none. omega (arith, h.within, alone none, plan_units);
       least = record {
         reached = (seat new.state.best.place, right.balance);
         least = λ s l. none_below s (omega (arith, l, best));
@@ -377,9 +378,7 @@ module _ (kind : LineKind) (line : Line) (c : ℕ) (before : List Entry) (top N 
 
   -- what the run comes to
   pub solves : Asked None → SolvesFrom kind line c plan before top (outcome.Solved new)
-  solves h =
-      let S : ℕ → Type 0 = λ z. IsSolvedFrom kind line c z before new in
-      subst S plan_units (solved None h (omega (arith, best_still, h.ends)))
+  solves h = solved None h (omega (arith, best_still, h.ends))
 
   pub stops_by : (why : Cause) (trail : List OpenFrame) → Asked (stop_by why trail)
       → SolvesFrom kind line c plan before top (outcome.Stopped why lower new trail)

@@ -1,5 +1,5 @@
 -- Certificates that runs for the least number of stations make of a line at a cycle.
-use Rattle.std.specs.Prelude.{◌≡◌, ◌⊎◌, ℕ, ◌+◌, ◌*◌, ◌^◌, ◌<◌, ◌≤◌, List, [], ◌++◌, length, slice_get, Option, Some}
+use Rattle.std.specs.Prelude.{◌≡◌, ◌⊎◌, ℕ, ◌+◌, ◌-◌, ◌*◌, ◌^◌, ◌<◌, ◌≤◌, List, [], ◌++◌, length, slice_get, Option, Some}
 use Rattle.std.specs.Prelude.{None}
 use Rattle.line_instance.specs.Line.{Line, tasks}
 use Rattle.line_rules.specs.Accepted.{IsAccepted, IsInfeasible, IsLeastStations}
@@ -19,6 +19,7 @@ use Rattle.line_rules.specs.declared.types.Ask.TheVariants as ask
 use Rattle.line_rules.specs.declared.types.Claim.{Claim}
 use Rattle.line_rules.specs.declared.types.Claim.TheVariants as claim
 use Rattle.line_rules.specs.declared.types.Certificate.{Certificate}
+use Rattle.entry_lists.specs.Trim.{IsTrimmed}
 use Rattle.budget_law.specs.Budget.{states}
 use Rattle.round_helpers.specs.Growth.{AreAtCycle}
 use Rattle.round_run.specs.declared.plans.Plan.{Plan}
@@ -64,21 +65,39 @@ pub record LeaveRoom (line : Line) (N : ℕ) (before : List Entry) : Type 0 wher
   pub paid : units + 2 * N ≤ max_units
   pub few : length before + 2 * N + 1025 ≤ 20000000
 
+-- What the units of a certificate are paid by: beside those of the entries with which the run began, they are at most
+-- twice the units of the plan, and at most these without helpers.
+pub record ArePaid (line : Line) (plan : Plan) (before : List Entry) (units : ℕ) : Type 0 where
+  pub begun : ℕ
+  pub before_units : UnitsOf line before begun
+  pub paid : units ≤ begun + 2 * plan.units
+  pub alone : plan.helpers ≡ 0 → units ≤ begun + plan.units
+
+-- The entries that show a lower bound of so many stations: none, where that is 1; else those that are left of a list of
+-- which the first entry that refutes all tasks in one station less is kept, and all that it stands on.
+abbrev pub AreProof : Line → ℕ → ℕ → List Entry → Type 0
+AreProof line c lower es = (lower ≤ 1 → es ≡ [])
+    × (1 < lower → (whole : List Entry) × IsTrimmed whole (all_tasks line) (lower - 1) c es)
+
 -- The certificate of an optimum, of a run that began with some entries: both its bounds are the least number of
--- stations, and it has no trail; its entries are at cycle c, or at cycles of those with which the run began.
-pub record IsOptimumFrom (kind : LineKind) (line : Line) (c : ℕ) (before : List Entry) (b : Assignment)
+-- stations, and it has no trail; its entries are the proof alone, at cycle c or at cycles of those with which the run
+-- began; and its units are paid for.
+pub record IsOptimumFrom (kind : LineKind) (line : Line) (c : ℕ) (plan : Plan) (before : List Entry) (b : Assignment)
     (cert : Certificate) : Type 0 where
   pub entries : List Entry
   pub units : ℕ
   pub certified : IsCertified kind line c b.stations b entries None units cert
   pub least : IsLeastStations kind line c b.stations
+  pub proof : AreProof line c b.stations entries
+  pub spent : ArePaid line plan before units
   pub cycles : AreAtOrAs c before entries
 
 -- The certificate of a search that began with some entries and used the units of its plan: its bounds differ; its
--- entries, of which none is answered by an earlier one, begin with those, and the others are at cycle c; these others
--- and its trail have at least the units of the plan, at most twice as many, and exactly so many without helpers; the
--- lower bound is at least the bound of all tasks; the trail asks whether all tasks have a balance in as many stations,
--- and is open over the entries; and the units of the plan are below what the budget law allows.
+-- entries, of which none is answered by an earlier one, begin with those, and the others are at cycle c, at most 1,025
+-- more than twice the units; these others and its trail have at least the units of the plan, at most twice as many, and
+-- exactly so many without helpers; the lower bound is at least the bound of all tasks; the trail asks whether all tasks
+-- have a balance in as many stations, and is open over the entries; and the units of the plan are below what the budget
+-- law allows.
 pub record IsStopFrom (kind : LineKind) (line : Line) (c : ℕ) (plan : Plan) (before : List Entry) (lower : ℕ)
     (b : Assignment) (cert : Certificate) : Type 0 where
   pub entries : List Entry
@@ -88,6 +107,7 @@ pub record IsStopFrom (kind : LineKind) (line : Line) (c : ℕ) (plan : Plan) (b
   pub certified : IsCertified kind line c lower b entries (Some (record { cycle = c; frames = frames })) units cert
   pub begins : entries ≡ before ++ added
   pub cycles : AreAtCycle c added
+  pub few : length added ≤ 2 * plan.units + 1025
   pub below : lower < b.stations
   pub from : bound kind line c (all_tasks line) ≤ lower
   pub asks : IsTrail kind line c entries (all_tasks line) lower frames
@@ -104,8 +124,8 @@ pub record IsStopFrom (kind : LineKind) (line : Line) (c : ℕ) (plan : Plan) (b
   pub budget : plan.units < (tasks line + 1) * states kind ^ tasks line
 
 -- the same of a run that began with an empty book
-abbrev pub IsOptimum : LineKind → Line → ℕ → Assignment → Certificate → Type 0
-IsOptimum kind line c b cert = IsOptimumFrom kind line c [] b cert
+abbrev pub IsOptimum : LineKind → Line → ℕ → Plan → Assignment → Certificate → Type 0
+IsOptimum kind line c plan b cert = IsOptimumFrom kind line c plan [] b cert
 
 abbrev pub IsStop : LineKind → Line → ℕ → Plan → ℕ → Assignment → Certificate → Type 0
 IsStop kind line c plan lower b cert = IsStopFrom kind line c plan [] lower b cert

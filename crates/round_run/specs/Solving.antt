@@ -40,10 +40,13 @@ pub record IsRunBook (kind : LineKind) (line : Line) (c N : ℕ) (before added :
 abbrev pub IsBelow : Line → ℕ → BookView → ℕ → Type 0
 IsBelow line c book m = 1 < m → HasAnswer book.state.entries (all_tasks line) (m - 1) c
 
--- The best balance of the book has the least number of stations, and above 1 an entry of the book shows it.
-pub record IsSolvedFrom (kind : LineKind) (line : Line) (c N : ℕ) (before : List Entry) (book : BookView) : Type 0 where
+-- The best balance of the book has the least number of stations, and above 1 an entry of the book shows it. Without
+-- helpers the entries that the run added have at most the units of the plan.
+pub record IsSolvedFrom (kind : LineKind) (line : Line) (c : ℕ) (plan : Plan) (before : List Entry) (book : BookView)
+    : Type 0 where
   pub added : List Entry
-  pub run : IsRunBook kind line c N before added [] book
+  pub run : IsRunBook kind line c plan.units before added [] book
+  pub alone : plan.helpers ≡ 0 → run.published ≤ plan.units
   pub least : IsLeastStations kind line c book.state.best.stations
   pub goal : IsBelow line c book book.state.best.stations
 
@@ -76,8 +79,8 @@ pub record IsSpentFrom (kind : LineKind) (line : Line) (c : ℕ) (plan : Plan) (
   pub budget : plan.units < (tasks line + 1) * states kind ^ tasks line
 
 -- the same of a run that began with an empty book
-abbrev pub IsSolved : LineKind → Line → ℕ → ℕ → BookView → Type 0
-IsSolved kind line c N book = IsSolvedFrom kind line c N [] book
+abbrev pub IsSolved : LineKind → Line → ℕ → Plan → BookView → Type 0
+IsSolved kind line c plan book = IsSolvedFrom kind line c plan [] book
 
 -- the same of a run that began with an empty book and the ranked balance
 pub record IsSpent (kind : LineKind) (line : Line) (c : ℕ) (plan : Plan) (lower : ℕ) (book : BookView)
@@ -94,7 +97,7 @@ FitsAll line c = (i : ℕ) → IsTooLong line c i → ⊥
 -- where the units of its closing passes ended or memory did. Out of memory is free.
 abbrev pub SolvesFrom : LineKind → Line → ℕ → Plan → List Entry → ℕ → Outcome → Type 0
 SolvesFrom kind line c plan before top (outcome.TooLong i) = ⊥
-SolvesFrom kind line c plan before top (outcome.Solved book) = IsSolvedFrom kind line c plan.units before book
+SolvesFrom kind line c plan before top (outcome.Solved book) = IsSolvedFrom kind line c plan before book
 SolvesFrom kind line c plan before top (outcome.Stopped cause.Units lower book trail) =
     IsSpentFrom kind line c plan before top lower book trail
 SolvesFrom kind line c plan before top (outcome.Stopped cause.Memory lower book trail) =
@@ -105,7 +108,7 @@ SolvesFrom kind line c plan before top outcome.NoMemory = Unit {0}
 -- where the units of its closing passes ended or memory did. Out of memory is free.
 abbrev pub Solves : LineKind → Line → ℕ → Plan → Outcome → Type 0
 Solves kind line c plan (outcome.TooLong i) = IsLeastWhere (IsTooLong line c) i
-Solves kind line c plan (outcome.Solved book) = FitsAll line c × IsSolved kind line c plan.units book
+Solves kind line c plan (outcome.Solved book) = FitsAll line c × IsSolved kind line c plan book
 Solves kind line c plan (outcome.Stopped cause.Units lower book trail) = FitsAll line c
     × IsSpent kind line c plan lower book trail
 Solves kind line c plan (outcome.Stopped cause.Memory lower book trail) =

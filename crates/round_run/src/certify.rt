@@ -1,5 +1,5 @@
 //! What a run proved, as a certificate.
-ghost use Rattle.std.specs.Prelude.{◌≡◌, ℕ, ◌-◌, ◌<◌, ◌≤◌, List, IfOk};
+ghost use Rattle.std.specs.Prelude.{◌≡◌, ℕ, ◌-◌, ◌<◌, ◌≤◌, List, [], IfOk};
 ghost use Rattle.line_instance.specs.Truths.{full_to};
 ghost use Rattle.line_instance.specs.Line.{Line, IsLine};
 ghost use Rattle.line_rules.specs.Bounds.{IsTooLong};
@@ -9,7 +9,7 @@ ghost use Rattle.line_rules.specs.Ranges.{IsCycle, AreEntries};
 ghost use Rattle.line_rules.specs.Units.{UnitsOf};
 ghost use Rattle.line_rules.specs.declared.types.Entry.{Entry};
 ghost use Rattle.line_rules.specs.declared.types.LineKind.{LineKind as Kind};
-ghost use Rattle.entry_lists.specs.Trim.{CitesEarlier};
+ghost use Rattle.entry_lists.specs.Trim.{CitesEarlier, IsTrimmed};
 ghost use Rattle.round_run.specs.Solving.{IsSolved, IsSolvedFrom, IsSpent, IsSpentFrom};
 ghost use Rattle.round_run.specs.declared.plans.Plan.{Plan};
 ghost use Rattle.round_run.specs.Certified.{about_stations, HaveCyclesOf, LeaveRoom, IsOptimum, IsOptimumFrom};
@@ -49,6 +49,8 @@ fn proof_of(
     ensures derived { IfOk result (λ new. (kind : Kind) (line : Line) → IsDerived kind line entries
         → IsDerived kind line new) }
     ensures goal { IfOk result (λ new. 1 < lower → HasAnswer new (full_to tasks) (lower - 1) cycle) }
+    ensures none { IfOk result (λ new. lower ≤ 1 → new ≡ []) }
+    ensures trimmed { IfOk result (λ new. 1 < lower → IsTrimmed entries (full_to tasks) (lower - 1) cycle new) }
     ensures units { IfOk result (λ new. (line : Line) (old : ℕ)
         → UnitsOf line entries old → (units : ℕ) × UnitsOf line new units × (units ≤ old)) }
     ensures ranges { IfOk result (λ new. (n : ℕ) → AreEntries n entries → AreEntries n new) }
@@ -70,8 +72,9 @@ pub fn certify_optimum(
     book: Book,
 ) -> Result<Certificate, AllocError>
     requires cycle { IsCycle cycle }
-    requires solved { (N : ℕ) × (N ≤ 3000000) × IsSolved kind inst.now cycle N book }
-    ensures { IfOk result (IsOptimum kind inst.now cycle book.state.best) }
+    requires solved { (plan : Plan) × (plan.units ≤ 3000000) × IsSolved kind inst.now cycle plan book }
+    ensures { IfOk result (λ cert. (plan : Plan) → plan.units ≤ 3000000 → IsSolved kind inst.now cycle plan book
+        → IsOptimum kind inst.now cycle plan book.state.best cert) }
 {
     certify_warm_optimum(alloc, inst, kind, cycle, book)
 }
@@ -85,11 +88,11 @@ pub fn certify_warm_optimum(
     book: Book,
 ) -> Result<Certificate, AllocError>
     requires cycle { IsCycle cycle }
-    requires solved { (before : List Entry) × (N : ℕ) × LeaveRoom inst.now N before
-        × IsSolvedFrom kind inst.now cycle N before book }
-    ensures { IfOk result (λ cert. (before : List Entry) (N : ℕ) → LeaveRoom inst.now N before
-        → IsSolvedFrom kind inst.now cycle N before book
-        → IsOptimumFrom kind inst.now cycle before book.state.best cert) }
+    requires solved { (before : List Entry) × (plan : Plan) × LeaveRoom inst.now plan.units before
+        × IsSolvedFrom kind inst.now cycle plan before book }
+    ensures { IfOk result (λ cert. (before : List Entry) (plan : Plan) → LeaveRoom inst.now plan.units before
+        → IsSolvedFrom kind inst.now cycle plan before book
+        → IsOptimumFrom kind inst.now cycle plan before book.state.best cert) }
 {
     let tasks = inst.tasks();
     let (entries, balance) = book.into_parts();

@@ -42,7 +42,7 @@ module _ (naming : Naming) (kind : LineKind) (line : Line) (c : ℕ) (plan : Pla
   module _ (before : List Entry) (first : List ℕ) (top : ℕ)
       (begins : BeginsWith kind line c plan start before first top) where
     -- the bounds of an optimum
-    of_optimum : (b : Assignment) (cert : Certificate) → IsOptimumFrom kind line c before b cert
+    of_optimum : (b : Assignment) (cert : Certificate) → IsOptimumFrom kind line c plan before b cert
         → HasBounds naming kind line c plan start cert ends.Done
         (first ++ optimal_text naming kind b (idle_time line c b.stations))
     of_optimum b cert p = record {
@@ -60,10 +60,11 @@ module _ (naming : Naming) (kind : LineKind) (line : Line) (c : ℕ) (plan : Pla
       sayable = p.certified.sayable;
       accepted = p.certified.accepted;
       few = p.certified.few;
+      spent = p.spent;
       true_bounds = p.certified.true_bounds;
       printed = optimum_behind first naming kind b (idle_time line c b.stations);
       differ = λ h. absurd (omega (arith, h));
-      equal = λ e. (refl, p.least);
+      equal = λ e. (refl, p.least, p.proof);
       complete = λ h. refl;
     }
 
@@ -87,6 +88,12 @@ module _ (naming : Naming) (kind : LineKind) (line : Line) (c : ℕ) (plan : Pla
       sayable = p.certified.sayable;
       accepted = p.certified.accepted;
       few = p.certified.few;
+      spent = record {
+        begun = p.paid;
+        before_units = p.before_units;
+        paid = omega (arith, p.sum, p.most);
+        alone = λ none. omega (arith, p.sum, p.alone none);
+      };
       true_bounds = p.certified.true_bounds;
       printed = stop_behind first naming kind lower b (idle_time line c b.stations) p.below;
       differ = λ h. (
@@ -96,6 +103,7 @@ module _ (naming : Naming) (kind : LineKind) (line : Line) (c : ℕ) (plan : Pla
           few = few;
           added = p.added;
           begins = p.begins;
+          many = p.few;
           frames = p.frames;
           left = refl;
           paid = p.paid;

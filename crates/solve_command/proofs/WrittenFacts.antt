@@ -124,10 +124,10 @@ wanting_of kind line c plan before top cause lower book trail e s =
     subst S e s
 
 -- a report of a run has the status of one
-pub optimal_status : (naming : Naming) (kind : LineKind) (line : Line) (c : ℕ) (before : List Entry) (first : List ℕ)
-    (r : Report)
-    → IsOptimal naming kind line c before first None (outcome_of r None) → IsSolveStatus r.status
-optimal_status naming kind line c before first r p = inl (ap (λ (o : Outcome). o.status) p.shown)
+pub optimal_status : (naming : Naming) (kind : LineKind) (line : Line) (c : ℕ) (plan : Plan) (before : List Entry)
+    (first : List ℕ) (r : Report)
+    → IsOptimal naming kind line c plan before first None (outcome_of r None) → IsSolveStatus r.status
+optimal_status naming kind line c plan before first r p = inl (ap (λ (o : Outcome). o.status) p.shown)
 
 pub stopped_status : (naming : Naming) (kind : LineKind) (line : Line) (c : ℕ) (plan : Plan) (before : List Entry)
     (first : List ℕ)

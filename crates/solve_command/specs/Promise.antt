@@ -1,5 +1,5 @@
 -- What `solve` promises, fact by fact, where it answers with status 0 or 1.
-use Rattle.std.specs.Prelude.{◌≡◌, ◌⊎◌, ℕ, ◌+◌, ◌*◌, ◌^◌, ◌<◌, ◌≤◌, List, ◌++◌, Option, Some, cond, nat_eq}
+use Rattle.std.specs.Prelude.{◌≡◌, ◌⊎◌, ℕ, ◌+◌, ◌*◌, ◌^◌, ◌<◌, ◌≤◌, List, ◌++◌, length, Option, Some, cond, nat_eq}
 use Rattle.line_instance.specs.Line.{Line, tasks, time}
 use Rattle.line_rules.specs.Accepted.{IsAccepted, IsInfeasible as IsAcceptedInfeasible, IsLeastStations}
 use Rattle.line_rules.specs.Balance.{IsRight, all_tasks}
@@ -19,7 +19,7 @@ use Rattle.line_rules.specs.declared.types.Ask.TheVariants as ask
 use Rattle.line_rules.specs.declared.types.Claim.TheVariants as claim
 use Rattle.line_rules.specs.declared.types.Certificate.{Certificate}
 use Rattle.budget_law.specs.Budget.{states}
-use Rattle.round_run.specs.Certified.{about_stations, max_units}
+use Rattle.round_run.specs.Certified.{ArePaid, AreProof, about_stations, max_units}
 use Rattle.round_run.specs.declared.plans.Plan.{Plan}
 use Rattle.command_outcome.specs.Outcome.{Files}
 use Rattle.command_outcome.specs.declared.report.Kept.{Kept}
@@ -39,16 +39,17 @@ bounds_text naming kind lower b idle = cond (nat_eq lower b.stations) (optimal_t
     (stopped_text naming kind lower b idle)
 
 -- The units of the plan were spent on loads that the certificate lists: its entries begin with those that the run began
--- with; the entries after these and its trail have at least so many units, at most twice as many, and exactly so many
--- without helpers; no entry is answered by an earlier one; and the trail, which asks whether all tasks have a balance
--- in as many stations as the lower bound, has a further load. The lower bound is at least the bound of all tasks, and
--- the upper bound at most the stations that the run began with.
+-- with; the entries after these are at most 1,025 more than twice the units; with its trail they have at least so many
+-- units, at most twice as many, and exactly so many without helpers; no entry is answered by an earlier one; and the
+-- trail, which asks whether all tasks have a balance in as many stations as the lower bound, has a further load. The
+-- lower bound is at least the bound of all tasks, and the upper bound at most the stations that the run began with.
 pub record AreSpent (kind : LineKind) (line : Line) (c : ℕ) (plan : Plan) (top lower upper : ℕ)
     (before es : List Entry) (trail : Option Trail) (units : ℕ) : Type 0 where
   pub from : bound kind line c (all_tasks line) ≤ lower
   pub few : upper ≤ top
   pub added : List Entry
   pub begins : es ≡ before ++ added
+  pub many : length added ≤ 2 * plan.units + 1025
   pub frames : List OpenFrame
   pub left : trail ≡ Some (record { cycle = c; frames = frames })
   pub paid : ℕ
@@ -64,11 +65,12 @@ pub record AreSpent (kind : LineKind) (line : Line) (c : ℕ) (plan : Plan) (top
   pub opens : IsOpenOver line c es frames
 
 -- What is promised of bounds: the printed balance keeps every precedence and the cycle; a text can say the certificate,
--- and the check accepts it with its default steps; no balance of that kind has fewer stations than the lower bound;
--- what is printed are the certificate's bounds and balance, behind the lines on old entries and on a seek, where there
--- are any; the bounds differ only where the units of the plan were spent on loads that the certificate lists, and
--- status 1 says so; where they are equal they are the least number of stations; and they are equal where the units are
--- at least (n + 1) x 3^n for n tasks, and on a U-line (n + 1) x 4^n.
+-- and the check accepts it with its default steps; beside those with which the run began, its units are paid for by the
+-- plan; no balance of that kind has fewer stations than the lower bound; what is printed are the
+-- certificate's bounds and balance, behind the lines on old entries and on a seek, where there are any; the bounds
+-- differ only where the units of the plan were spent on loads that the certificate lists, and status 1 says so; where
+-- they are equal they are the least number of stations, and the entries are the proof of that alone; and they are equal
+-- where the units are at least (n + 1) x 3^n for n tasks, and on a U-line (n + 1) x 4^n.
 pub record HasBounds (naming : Naming) (kind : LineKind) (line : Line) (c : ℕ) (plan : Plan) (start : Start)
     (certificate : Certificate)
     (status : Status) (text : List ℕ)
@@ -87,11 +89,13 @@ pub record HasBounds (naming : Naming) (kind : LineKind) (line : Line) (c : ℕ)
   pub sayable : IsInRange certificate
   pub accepted : IsAccepted line certificate lower balance.stations units
   pub few : units ≤ max_units
+  pub spent : ArePaid line plan before units
   pub true_bounds : IsProved kind line (ask.Stations c) lower balance.stations
   pub printed : text ≡ first ++ bounds_text naming kind lower balance (idle_time line c balance.stations)
   pub differ : lower < balance.stations
       → (status ≡ ends.Stopped) × AreSpent kind line c plan top lower balance.stations before entries trail units
-  pub equal : lower ≡ balance.stations → (status ≡ ends.Done) × IsLeastStations kind line c lower
+  pub equal : lower ≡ balance.stations
+      → (status ≡ ends.Done) × IsLeastStations kind line c lower × AreProof line c lower entries
   pub complete : (tasks line + 1) * states kind ^ tasks line ≤ plan.units → lower ≡ balance.stations
 
 -- What is promised where a task is longer than the cycle: the least such task is printed, the certificate names it and

@@ -21,14 +21,13 @@ use Rattle.solve_command.specs.SolutionText.{optimal_text, stopped_text}
 use Rattle.solution_page.specs.Page.{certified_by}
 use Rattle.task_names.specs.declared.naming.Naming.{Naming}
 
--- The optimum, of a run that began with some entries: the balance that is printed has the least number of stations, and
--- the certificate proves it.
-pub record IsOptimal (naming : Naming) (kind : LineKind) (line : Line) (c : ℕ) (before : List Entry) (first : List ℕ)
-    (name : Option (List ℕ))
-    (out : Outcome) : Type 0 where
+-- The optimum, of a run by a plan that began with some entries: the balance that is printed has the least number of
+-- stations, and the certificate proves it.
+pub record IsOptimal (naming : Naming) (kind : LineKind) (line : Line) (c : ℕ) (plan : Plan) (before : List Entry)
+    (first : List ℕ) (name : Option (List ℕ)) (out : Outcome) : Type 0 where
   pub balance : Assignment
   pub certificate : Certificate
-  pub proved : IsOptimumFrom kind line c before balance certificate
+  pub proved : IsOptimumFrom kind line c plan before balance certificate
   pub shown : out ≡ certified_by name certificate ends.Done
       (first ++ optimal_text naming kind balance (idle_time line c balance.stations))
 
@@ -63,7 +62,7 @@ pub record IsBounded (naming : Naming) (kind : LineKind) (line : Line) (c : ℕ)
   pub first : List ℕ
   pub top : ℕ
   pub begins : BeginsWith kind line c plan start before first top
-  pub found : IsOptimal naming kind line c before first name out
+  pub found : IsOptimal naming kind line c plan before first name out
       ⊎ IsStopped naming kind line c plan before first top name out
 
 -- what is found with a certificate

@@ -56,11 +56,11 @@ fn optimal(
     book: Book,
 ) -> Result<Report, AllocError>
     requires cycle { IsCycle cycle }
-    requires solved { (before : List Lemma) × (N : ℕ) × LeaveRoom inst.now N before
-        × IsSolvedFrom kind inst.now cycle N before book }
-    ensures { IfOk result (λ r. (before : List Lemma) (N : ℕ) → LeaveRoom inst.now N before
-        → IsSolvedFrom kind inst.now cycle N before book
-        → IsOptimal naming.now kind inst.now cycle before (string_bytes first) None (outcome_of r None)) }
+    requires solved { (before : List Lemma) × (plan : PlanOf) × LeaveRoom inst.now plan.units before
+        × IsSolvedFrom kind inst.now cycle plan before book }
+    ensures { IfOk result (λ r. (before : List Lemma) (plan : PlanOf) → LeaveRoom inst.now plan.units before
+        → IsSolvedFrom kind inst.now cycle plan before book
+        → IsOptimal naming.now kind inst.now cycle plan before (string_bytes first) None (outcome_of r None)) }
 {
     let _tasks = inst.tasks();
     let balance = book.best();

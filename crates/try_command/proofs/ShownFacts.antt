@@ -12,9 +12,9 @@ use Rattle.try_command.specs.TryText.{bounds_line}
 use Rattle.try_command.specs.Tried.{alone, IsAcceptable, IsReadAndVerified, IsTold, IsShown}
 use Rattle.try_command.proofs.ReadBack.{bounds_once}
 
-pub acceptable_optimum : (kind : LineKind) (line : Line) (c : ℕ) (b : Assignment) (cert : Certificate)
-    → IsOptimum kind line c b cert → IsAcceptable line cert
-acceptable_optimum kind line c b cert o = record {
+pub acceptable_optimum : (kind : LineKind) (line : Line) (c N : ℕ) (b : Assignment) (cert : Certificate)
+    → IsOptimum kind line c (alone N) b cert → IsAcceptable line cert
+acceptable_optimum kind line c N b cert o = record {
   sayable = o.certified.sayable;
   lower = b.stations;
   upper = b.stations;
@@ -45,10 +45,10 @@ found_as line cert l u m v e f r =
 line_as : (seed n code l u m v : ℕ) → l ≡ m → u ≡ v → bounds_line seed n code l u ≡ bounds_line seed n code m v
 line_as seed n code l u m v e f = ap (λ x. bounds_line seed n code x u) e ∙ ap (λ y. bounds_line seed n code m y) f
 
-pub shown_optimum : (kind : LineKind) (line : Line) (seed c : ℕ) (b : Assignment) (cert : Certificate) (r : Report)
-    → IsOptimum kind line c b cert → IsTold line seed ends.Done cert r → (N : ℕ)
+pub shown_optimum : (kind : LineKind) (line : Line) (seed c N : ℕ) (b : Assignment) (cert : Certificate) (r : Report)
+    → IsOptimum kind line c (alone N) b cert → IsTold line seed ends.Done cert r
     → IsShown kind line seed (tasks line) c N r.status r.text.items r.kept
-shown_optimum kind line seed c b cert r o t N =
+shown_optimum kind line seed c N b cert r o t =
     let same = bounds_once line cert t.lower t.upper t.units b.stations b.stations o.units t.accepted
     o.certified.accepted in
     record {

@@ -36,11 +36,11 @@ pub record IsReadAndVerified (line : Line) (certificate : Certificate) (lower up
   pub reads : IsCertRead (cert_text certificate) (Good certificate)
   pub verified : IsVerdict line certificate max_units (Accepted lower upper units)
 
--- The optimum was found: the balance has the least number of stations, and the certificate proves it.
-pub record IsOptimumTried (kind : LineKind) (line : Line) (seed n c : ℕ) (certificate : Certificate) (status : Status)
+-- The optimum was found with N units: the balance has the least number of stations, and the certificate proves it.
+pub record IsOptimumTried (kind : LineKind) (line : Line) (seed n c N : ℕ) (certificate : Certificate) (status : Status)
     (text : List ℕ) : Type 0 where
   pub balance : Assignment
-  pub proved : IsOptimum kind line c balance certificate
+  pub proved : IsOptimum kind line c (alone N) balance certificate
   pub done : status ≡ ends.Done
   pub accepted : IsReadAndVerified line certificate balance.stations balance.stations
   pub printed : text ≡ bounds_line seed n 0 balance.stations balance.stations
@@ -71,7 +71,7 @@ pub record IsShown (kind : LineKind) (line : Line) (seed n c N : ℕ) (status : 
     (kept : Kept) : Type 0 where
   pub certificate : Certificate
   pub keeps : kept ≡ Certified certificate
-  pub shows : IsOptimumTried kind line seed n c certificate status text
+  pub shows : IsOptimumTried kind line seed n c N certificate status text
       ⊎ IsStopTried kind line seed n c N certificate status text
       ⊎ IsNoneTried kind line seed n c certificate status text
 

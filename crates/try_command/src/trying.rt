@@ -12,7 +12,7 @@ ghost use Rattle.cert_text.specs.Cert.{cert_text};
 ghost use Rattle.cert_text.specs.WholeText.{IsCertRead};
 ghost use Rattle.cert_text.specs.declared.whole_text.CertRead.TheVariants.{Good};
 ghost use Rattle.round_run.specs.Solving.{IsSolved, IsSpent};
-ghost use Rattle.round_run.specs.Certified.{IsStop};
+ghost use Rattle.round_run.specs.Certified.{IsOptimum, IsStop};
 ghost use Rattle.command_outcome.specs.declared.report.Stop.TheVariants.{Memory};
 ghost use Rattle.command_outcome.specs.declared.status.Status.TheVariants as ends;
 ghost use Rattle.try_command.specs.Tried.{alone, IsAcceptable, IsShown, IsTold, IsTried};
@@ -94,6 +94,23 @@ fn told<R: Threads + Sync>(
     })
 }
 
+/// The certificate of a run that was solved, which the check accepts.
+fn optimum_certificate(
+    alloc: Global,
+    inst: &Instance,
+    kind: LineKind,
+    cycle: u64,
+    book: Book,
+) -> Result<Certificate, AllocError>
+    requires cycle { IsCycle cycle }
+    requires solved { (N : ℕ) × (N ≤ 3000000) × IsSolved kind inst.now cycle (alone N) book }
+    ensures acceptable { IfOk result (IsAcceptable inst.now) }
+    ensures optimum { IfOk result (λ cert. (N : ℕ) → N ≤ 3000000 → IsSolved kind inst.now cycle (alone N) book
+        → IsOptimum kind inst.now cycle (alone N) book.state.best cert) }
+{
+    certify_optimum(alloc, inst, kind, cycle, book)
+}
+
 /// The report of a run that was solved.
 fn optimal<R: Threads + Sync>(
     rt: &R,
@@ -105,12 +122,13 @@ fn optimal<R: Threads + Sync>(
     book: Book,
 ) -> Result<Report, AllocError>
     requires cycle { IsCycle cycle }
-    requires solved { (N : ℕ) × (N ≤ 3000000) × IsSolved kind inst.now cycle N book }
-    ensures { IfOk result (λ r. (N : ℕ) → IsShown kind inst.now seed (tasks inst.now) cycle N r.status r.text.items
-        r.kept) }
+    requires solved { (N : ℕ) × (N ≤ 3000000) × IsSolved kind inst.now cycle (alone N) book }
+    ensures { IfOk result (λ r. (N : ℕ) → N ≤ 3000000 → IsSolved kind inst.now cycle (alone N) book
+        → IsShown kind inst.now seed (tasks inst.now) cycle N r.status r.text.items r.kept) }
 {
-    let cert = certify_optimum(alloc, inst, kind, cycle, book)?;
-    told(rt, alloc, inst, seed, Status::Done, cert)
+    let cert = optimum_certificate(alloc, inst, kind, cycle, book)?;
+    let report = told(rt, alloc, inst, seed, Status::Done, cert)?;
+    Ok(report)
 }
 
 /// The certificate of a run whose units ended, which the check accepts.
