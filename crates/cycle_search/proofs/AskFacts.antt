@@ -17,8 +17,10 @@ use Rattle.round_run.specs.declared.plans.Purse.{Purse}
 use Rattle.round_run.specs.declared.rounds.Round.{Round}
 use Rattle.round_run.proofs.PurseFacts.{spent_sum}
 use Rattle.cycle_search.specs.Asking.{HasAskedBook, ListsAll}
-use Rattle.cycle_search.specs.inner.Searching.{HasAsked}
+use Rattle.cycle_search.specs.Seek.{HasSoughtBook}
+use Rattle.cycle_search.specs.inner.Searching.{HasSought, HasAsked}
 use Rattle.cycle_search.specs.declared.asking.Asked.{Asked}
+use Rattle.cycle_search.specs.declared.seek.SoughtBook.{SoughtBook}
 use Rattle.cycle_search.specs.declared.halving.Halving.{Halving}
 use Rattle.line_rules.proofs.ListUnits.{units_both}
 
@@ -132,12 +134,14 @@ pub search_asked : (m : ℕ) (plan : Plan) (old : Halving) (asked : Asked) → H
       proof = old.proof;
       book = asked.book;
       paid = old.paid + asked.used;
+      seeks = old.seeks;
     }) asked.verdict
 search_asked m plan old asked h = record {
   lower = refl;
   upper = refl;
   balance = refl;
   proof = refl;
+  seeks = refl;
   about = h.about;
   reserved = h.reserved;
   gained = h.gained;
@@ -153,4 +157,34 @@ search_asked m plan old asked h = record {
   left = h.left;
   answer = h.answer;
   all = h.all;
+}
+
+-- a seek over the book of a search
+pub search_sought : (m : ℕ) (plan : Plan) (old : Halving) (sought : SoughtBook)
+    → HasSoughtBook m plan old.book old.seeks sought → HasSought m plan old (record {
+      lower = old.lower;
+      upper = old.upper;
+      balance = old.balance;
+      proof = old.proof;
+      book = sought.book;
+      paid = old.paid + sought.paid;
+      seeks = sought.seeks;
+    }) sought.found
+search_sought m plan old sought h = record {
+  lower = refl;
+  upper = refl;
+  balance = refl;
+  proof = refl;
+  about = h.about;
+  reserved = h.reserved;
+  gained = h.gained;
+  entries = h.entries;
+  cycles = h.cycles;
+  few = h.few;
+  units = h.units;
+  counted = h.counted;
+  paid = omega (arith, h.paid);
+  within = omega (arith, h.within);
+  found = h.found;
+  seeks = h.seeks;
 }

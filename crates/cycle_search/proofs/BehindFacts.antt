@@ -1,11 +1,12 @@
 -- Entries behind those of an earlier list: what follows in their list follows there, with cites raised.
 use Rattle.std.proofs.Common.{◌≡◌, ℕ, suc, ◌+◌, ◌-◌, ◌<◌, ◌⊎◌, Bool, true, false, List, [], ◌∷◌, ◌++◌}
-use Rattle.std.proofs.Common.{length, map, take, refl, sym, ap, ◌∙◌, subst, inl, inr, arith, Some}
+use Rattle.std.proofs.Common.{length, map, take, drop, refl, sym, ap, ◌∙◌, subst, inl, inr, arith, Some}
 use Rattle.std.proofs.Common.{length-append, get_or}
 use Rattle.std.specs.Prelude.{slice_get, nat_eq}
 use Rattle.std.proofs.lemmas.Option.{slice_get-get_or}
 use Rattle.std.proofs.lemmas.Bool.{cases_lt, cases_Bool, eqb-true}
-use Rattle.std.proofs.lemmas.List.{map-append, length-map, take-append-le}
+use Rattle.std.proofs.lemmas.List.{map-append, length-map, take-append-le, drop-map}
+use Rattle.std.proofs.Math.Seq.{drop-append-add}
 use Rattle.line_instance.specs.Line.{Line}
 use Rattle.line_rules.specs.Loads.{IsLoad, rest}
 use Rattle.line_rules.specs.Order.{Precedes, UpTo, After}
@@ -325,6 +326,18 @@ module _ (line : Line) (pre es : List Entry) where
       ∙ at_raised X (length pre) es) in
       let P : List Entry → Type 0 = λ l. UnitsOf line l u in
       subst P (sym same) (units_raised line (length pre) (entries_at X es) u h)
+
+  -- the units at a cycle of the entries from a place of the second list on
+  pub units_from_behind : (X u n : ℕ) → UnitsOf line (entries_at X (drop n es)) u
+      → UnitsOf line (entries_at X (drop (length pre + n) (behind pre es))) u
+  units_from_behind X u n h =
+      let left : drop (length pre + n) (behind pre es) ≡ map (raised_entry (length pre)) (drop n es) =
+      drop-append-add pre (map (raised_entry (length pre)) es) n ∙ drop-map (raised_entry (length pre)) n es in
+      let same : entries_at X (drop (length pre + n) (behind pre es))
+      ≡ map (raised_entry (length pre)) (entries_at X (drop n es)) =
+      ap (λ (l : List Entry). entries_at X l) left ∙ at_raised X (length pre) (drop n es) in
+      let P : List Entry → Type 0 = λ l. UnitsOf line l u in
+      subst P (sym same) (units_raised line (length pre) (entries_at X (drop n es)) u h)
 
 -- the item at hand of a list cites entries of it
 pub item_cites : (count i : ℕ) (es items : List Entry) (e : Entry) → HaveCites (length es) es → items ≡ es

@@ -24,6 +24,8 @@ use Rattle.round_run.specs.declared.plans.Plan.{Plan}
 use Rattle.round_run.specs.Certified.{max_units}
 use Rattle.round_run.proofs.Sayable.{entries_ok, trail_ok, all_are_tasks}
 use Rattle.cycle_search.specs.Outcomes.{IsRightIn, IsBelow, IsSolved, IsSpent}
+use Rattle.cycle_search.specs.Seek.{try_room}
+use Rattle.cycle_search.proofs.SeekFacts.{try_limit}
 use Rattle.cycle_search.specs.CycleCertified.{about_cycle, IsCertified, IsOptimum, IsStop}
 
 -- a right balance in at most 1,024 stations
@@ -91,23 +93,24 @@ module _ (kind : LineKind) (line : Line) (m lower upper : ℕ) (b : Assignment) 
       }
 
 -- the entry that shows the least cycle
-pub shown_goal : (kind : LineKind) (line : Line) (m N c : ℕ) (b : Assignment) (es : List Entry) (n : ℕ) → n ≡ tasks line
-    → IsSolved kind line m N c b es → 1 < c → HasAnswer es (full_to n) m (c - 1)
-shown_goal kind line m N c b es n e s more =
+pub shown_goal : (kind : LineKind) (line : Line) (m : ℕ) (plan : Plan) (c : ℕ) (b : Assignment) (es : List Entry)
+    (n : ℕ) → n ≡ tasks line → IsSolved kind line m plan c b es → 1 < c → HasAnswer es (full_to n) m (c - 1)
+shown_goal kind line m plan c b es n e s more =
     let P : ℕ → Type 0 = λ z. HasAnswer es (full_to z) m (c - 1) in
     subst P (sym e) (s.proof.goal more)
 
 -- the certificate of the least cycle, with a proof that is made of the entries
-pub optimum : (kind : LineKind) (line : Line) (m N c : ℕ) (b : Assignment) (es new : List Entry) → IsLine line → 1 ≤ m
-    → m ≤ 1024 → N ≤ 3000000 → IsSolved kind line m N c b es → (c ≡ 1 → new ≡ [])
+pub optimum : (kind : LineKind) (line : Line) (m : ℕ) (plan : Plan) (c : ℕ) (b : Assignment) (es new : List Entry)
+    → IsLine line → 1 ≤ m → m ≤ 1024 → plan.units ≤ 3000000 → IsSolved kind line m plan c b es → (c ≡ 1 → new ≡ [])
     → ((kind : LineKind) (line : Line) → IsDerived kind line es → IsDerived kind line new)
     → (1 < c → HasAnswer new (all_tasks line) m (c - 1))
     → ((line : Line) (old : ℕ) → UnitsOf line es old → (units : ℕ) × UnitsOf line new units × (units ≤ old))
     → ((n : ℕ) → AreEntries n es → AreEntries n new)
     → IsOptimum kind line m c b (about_cycle kind line m (claim.Bounds c c b new None))
-optimum kind line m N c b es new ok one many limit s first derived goal units ranges =
+optimum kind line m plan c b es new ok one many limit s first derived goal units ranges =
     let u : (a : ℕ) × UnitsOf line new a × (a ≤ s.some.counted.0) = units line s.some.counted.0 s.some.counted.2.0 in
-    let few : length es ≤ 20000000 = omega (arith, s.some.many, limit) in
+    let room : try_room plan ≤ 6000000 = try_limit plan limit in
+    let few : length es ≤ 20000000 = omega (arith, s.some.many, room) in
     record {
       entries = new;
       units = u.0;
@@ -115,22 +118,24 @@ optimum kind line m N c b es new ok one many limit s first derived goal units ra
           (derived kind line s.proof.derived)
           (ranges (tasks line) (entries_ok kind line es s.proof.derived s.proof.statable few)) goal tt tt
           (u.0, 0, (u.1, refl, omega arith))
-          (omega (arith, u.2, s.some.counted.2.2, s.some.within, limit));
+          (omega (arith, u.2, s.some.counted.2.2, s.some.within, room));
       least = s.least;
       one = first;
     }
 
 -- the certificate of a search whose units ended
 pub stop : (kind : LineKind) (line : Line) (m : ℕ) (plan : Plan) (lower upper : ℕ) (b : Assignment) (es : List Entry)
-    (trail : Trail) → IsLine line → 1 ≤ m → m ≤ 1024 → plan.units ≤ 3000000
-    → IsSpent kind line m plan lower upper b es trail
+    (trail : Trail) (closing_from : ℕ) → IsLine line → 1 ≤ m → m ≤ 1024 → plan.units ≤ 3000000
+    → IsSpent kind line m plan lower upper b es trail closing_from
     → IsStop kind line m plan lower upper b (about_cycle kind line m (claim.Bounds lower upper b es (Some trail)))
-stop kind line m plan lower upper b es trail ok one many limit s =
+stop kind line m plan lower upper b es trail closing_from ok one many limit s =
     let h = s.stopped in
-    let few : length es ≤ 20000000 = omega (arith, h.some.many, limit) in
+    let room : try_room plan ≤ 6000000 = try_limit plan limit in
+    let few : length es ≤ 20000000 = omega (arith, h.some.many, room) in
     record {
       entries = es;
       trail = trail;
+      closing_from = closing_from;
       units = h.some.units;
       certified = certified kind line m lower upper b es (Some trail) h.some.units ok one many (omega (arith, h.from))
           (omega (arith, h.below)) h.limit h.balance h.proof.derived
@@ -139,6 +144,6 @@ stop kind line m plan lower upper b es trail ok one many limit s =
           (trail_ok kind line trail.cycle es (all_tasks line) m trail.frames
           (record { some = omega (arith, h.from, s.from); limit = omega (arith, s.to, h.limit) })
           (all_are_tasks line ok) (omega (arith, s.stations, ok.small)) s.valid)
-          h.some.counted (omega (arith, h.some.within, limit));
+          h.some.counted (omega (arith, h.some.within, room));
       spent = s;
     }

@@ -27,8 +27,10 @@ use Rattle.line_rules.proofs.SumsOverMembers.{below_at}
 use Rattle.line_rules.proofs.BoundCases.{long_ones, below_bound}
 use Rattle.lemma_core.specs.Books.{MayBeBest}
 use Rattle.round_run.specs.Rounds.{by_bound}
+use Rattle.round_run.specs.declared.plans.Plan.{Plan}
 use Rattle.cycle_search.specs.Ends.{NoneApart, first_lower, first_upper, at_first}
 use Rattle.cycle_search.specs.Outcomes.{IsRightIn, IsBelow}
+use Rattle.cycle_search.specs.Seek.{try_room, AreSeeks}
 use Rattle.cycle_search.specs.inner.Searching.{AreOutside, IsKept, IsBetween, IsFirstBook}
 use Rattle.cycle_search.specs.declared.halving.Halving.{Halving}
 
@@ -164,13 +166,14 @@ first_best kind line c b ok none long e =
     })
 
 -- the search before its first try
-pub begun : (kind : LineKind) (line : Line) (m N : ℕ) (h : Halving) → IsLine line → NoneApart line → 1 ≤ m → m ≤ 1024
+pub begun : (kind : LineKind) (line : Line) (m : ℕ) (plan : Plan) (h : Halving) → IsLine line → NoneApart line → 1 ≤ m
+    → m ≤ 1024
     → h.lower ≡ first_lower line m → h.upper ≡ first_upper line → h.upper ≤ 204800000000000000
     → h.balance ≡ record { stations = m; place = replicate (tasks line) at_first } → h.proof ≡ []
-    → IsFirstBook kind line m h.book → h.paid ≡ 0 → IsBetween kind line m N h
-begun kind line m N h ok none some few lower upper limit balance proof book paid =
+    → IsFirstBook kind line m h.book → h.paid ≡ 0 → AreSeeks plan h.seeks → IsBetween kind line m plan h
+begun kind line m plan h ok none some few lower upper limit balance proof book paid seeks =
     let B : Assignment → Type 0 = λ b. IsRightIn kind line m h.upper b in
-    let K : List Entry → Type 0 = λ es. IsKept kind line m N h.lower h.upper es in
+    let K : List Entry → Type 0 = λ es. IsKept kind line m (try_room plan) h.lower h.upper es in
     let E : List Entry → Type 0 = λ es. IsBelow line m es h.lower in
     let O : List Entry → Type 0 = λ es. AreOutside h.lower h.upper es in
     let V : List Entry → Type 0 = λ es. UnitsOf line es 0 in
@@ -181,6 +184,7 @@ begun kind line m N h ok none some few lower upper limit balance proof book paid
         reserved = book.reserved;
         from = omega (arith, lower);
         met = omega (arith, lower, upper, first_met line m some);
+        most = omega (arith, upper);
         limit = limit;
         balance = subst B (sym balance) (record {
           right = first_right kind line m h.upper ok none some (omega (arith, upper));
@@ -211,6 +215,7 @@ begun kind line m N h ok none some few lower upper limit balance proof book paid
             ),
           ))
         ];
+        seeks = seeks;
       };
       outside = elim book.entries [
         | inl e ↦ subst O (sym e.1) (λ k x g. absurd (cc))

@@ -2,6 +2,7 @@ pub mod BehindFacts
 pub mod EndFacts
 pub mod Tries
 pub mod AskFacts
+pub mod SeekFacts
 pub mod Results
 pub mod ReopenFacts
 pub mod CertificateFacts

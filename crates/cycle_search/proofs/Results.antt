@@ -1,6 +1,6 @@
 -- What a search comes to: the least cycle, or bounds, with the entries that show them.
 use Rattle.std.proofs.Common.{◌≡◌, ℕ, ◌+◌, ◌-◌, ◌*◌, ◌^◌, ◌<◌, ◌≤◌, Bool, true, cond, List, []}
-use Rattle.std.proofs.Common.{length, map, refl, sym, ap, subst, inl, inr, arith, Option, Some, None}
+use Rattle.std.proofs.Common.{length, map, drop, refl, sym, ap, subst, inl, inr, arith, Option, Some, None}
 use Rattle.std.specs.Prelude.{nat_eq, slice_get}
 use Rattle.std.proofs.lemmas.Bool.{cases_eq, eq-eqb}
 use Rattle.line_instance.specs.Line.{Line, IsLine, IsRanked, tasks}
@@ -24,13 +24,14 @@ use Rattle.round_run.specs.declared.solving.Cause.{Cause}
 use Rattle.round_run.specs.declared.solving.Cause.TheVariants as cause
 use Rattle.entry_lists.specs.Lift.{lifted_frame}
 use Rattle.cycle_search.specs.inner.Joined.{behind}
-use Rattle.cycle_search.specs.Outcomes.{IsRightIn, AreSome, ShowsLower, IsStopped, IsSpent, Searches}
-use Rattle.cycle_search.specs.inner.Searching.{HasEnds, IsBetween, IsStuck}
+use Rattle.cycle_search.specs.Outcomes.{IsRightIn, AreSome, ShowsLower, IsSolved, IsStopped, IsSpent, Searches}
+use Rattle.cycle_search.specs.Seek.{try_room}
+use Rattle.cycle_search.specs.inner.Searching.{HasEnds, IsBetween, HasListed, IsStuck}
 use Rattle.cycle_search.specs.declared.halving.Halving.{Halving}
 use Rattle.cycle_search.specs.declared.searching.CycleOutcome.TheVariants as outcome
 use Rattle.cycle_search.proofs.BehindFacts.{derived_up, trail_up, length_behind, statable_behind, answer_before}
 use Rattle.cycle_search.proofs.BehindFacts.{answer_behind, fresh_behind, opens_behind, frames_raised, units_behind}
-use Rattle.cycle_search.proofs.BehindFacts.{units_at_behind}
+use Rattle.cycle_search.proofs.BehindFacts.{units_at_behind, units_from_behind}
 use Rattle.cycle_search.proofs.EndFacts.{none_long}
 use Rattle.cycle_search.proofs.Tries.{outside_none}
 
@@ -53,16 +54,16 @@ module _ (kind : LineKind) (line : Line) (m : ℕ) (plan : Plan) (h : Halving) (
   abbrev all : List Entry
   all = behind h.proof es
 
-  derived_here : HasEnds kind line m plan.units h → IsDerived kind line es
+  derived_here : HasEnds kind line m plan h → IsDerived kind line es
   derived_here e =
       let P : LineKind → Type 0 = λ z. IsDerived z h.book.about.line es in
       let Q : Line → Type 0 = λ z. IsDerived kind z es in
       subst Q e.line_is (subst P e.kind_is derived)
 
-  all_derived : HasEnds kind line m plan.units h → IsDerived kind line all
+  all_derived : HasEnds kind line m plan h → IsDerived kind line all
   all_derived e = derived_up kind line h.proof es e.proof.derived (derived_here e)
 
-  shows_lower : HasEnds kind line m plan.units h → ShowsLower kind line m h.lower all
+  shows_lower : HasEnds kind line m plan h → ShowsLower kind line m h.lower all
   shows_lower e = record {
     derived = all_derived e;
     statable = statable_behind h.proof es e.proof.statable statable;
@@ -76,9 +77,10 @@ module _ (kind : LineKind) (line : Line) (m : ℕ) (plan : Plan) (h : Halving) (
   }
 
   -- entries of the book and frames behind the proof
-  some_of : (e : HasEnds kind line m plan.units h) (trail : Option Trail) (published listed : ℕ)
-      → length h.book.state.entries ≤ 2 * plan.units + 1000001 → UnitsOf line h.book.state.entries published
-      → TrailUnits line trail listed → published + listed ≤ 2 * plan.units + 1000000 → AreSome line plan.units all trail
+  some_of : (e : HasEnds kind line m plan h) (trail : Option Trail) (published listed : ℕ)
+      → length h.book.state.entries ≤ try_room plan + 1000001 → UnitsOf line h.book.state.entries published
+      → TrailUnits line trail listed → published + listed ≤ try_room plan + 1000000
+      → AreSome line (try_room plan) all trail
   some_of e trail published listed few p q within =
       let P : List Entry → Type 0 = λ z. UnitsOf line z published in
       let n : length es ≡ length h.book.state.entries = ap (λ (z : List Entry). length z) es_are in
@@ -98,10 +100,9 @@ module _ (kind : LineKind) (line : Line) (m : ℕ) (plan : Plan) (h : Halving) (
       }
 
   -- the ends met: the entries show the least cycle, and none are needed where it is 1
-  pub solved_is : (out : List Entry) → (h.lower ≡ 1 → out ≡ []) → ((h.lower ≡ 1 → ⊥) → out ≡ all)
-      → IsBetween kind line m plan.units h → h.lower ≡ h.upper
-      → Searches kind line m plan (outcome.Solved h.upper h.balance out)
-  solved_is out one more between met = elim (cases_eq h.lower 1) [
+  solved_so : (out : List Entry) → (h.lower ≡ 1 → out ≡ []) → ((h.lower ≡ 1 → ⊥) → out ≡ all)
+      → IsBetween kind line m plan h → h.lower ≡ h.upper → IsSolved kind line m plan h.upper h.balance out
+  solved_so out one more between met = elim (cases_eq h.lower 1) [
     | inl e ↦ record {
       least = record {
         some = omega (arith, met, e);
@@ -119,7 +120,7 @@ module _ (kind : LineKind) (line : Line) (m : ℕ) (plan : Plan) (h : Halving) (
           });
       one = λ c. one e;
       some =
-          let P : List Entry → Type 0 = λ z. AreSome line plan.units z None in
+          let P : List Entry → Type 0 = λ z. AreSome line (try_room plan) z None in
           subst P (sym (one e)) (record {
             many = omega arith;
             units = 0;
@@ -130,7 +131,7 @@ module _ (kind : LineKind) (line : Line) (m : ℕ) (plan : Plan) (h : Halving) (
     | inr n ↦
         let P : List Entry → Type 0 = λ z. ShowsLower kind line m h.upper z in
         let Q : ℕ → Type 0 = λ z. ShowsLower kind line m z all in
-        let R : List Entry → Type 0 = λ z. AreSome line plan.units z None in
+        let R : List Entry → Type 0 = λ z. AreSome line (try_room plan) z None in
         let shown : ShowsLower kind line m h.upper all = subst Q met (shows_lower between.ends) in
         record {
           least = record {
@@ -148,15 +149,21 @@ module _ (kind : LineKind) (line : Line) (m : ℕ) (plan : Plan) (h : Halving) (
         }
   ]
 
-  module _ (frames : List OpenFrame) where
+  pub solved_is : (out : List Entry) → (h.lower ≡ 1 → out ≡ []) → ((h.lower ≡ 1 → ⊥) → out ≡ all)
+      → IsBetween kind line m plan h → h.lower ≡ h.upper
+      → Searches kind line m plan (outcome.Solved h.upper h.balance out h.seeks)
+  solved_is out one more between met = (solved_so out one more between met, between.ends.seeks)
+
+  module _ (frames : List OpenFrame) (closing_from : ℕ) where
     abbrev trail : Trail
     trail = record { cycle = h.book.about.cycle; frames = map (lifted_frame (length h.proof)) frames }
 
-    stopped_is : (why : Cause) (s : IsStuck kind line m plan why h frames)
-        → IsStopped kind line m plan.units h.lower h.upper h.balance all trail
+    stopped_is : (why : Cause) (s : IsStuck kind line m plan why h frames closing_from)
+        → IsStopped kind line m plan h.lower h.upper h.balance all trail
     stopped_is why s = record {
       from = s.ends.from;
       below = omega (arith, s.from, s.to);
+      most = s.ends.most;
       limit = s.ends.limit;
       balance = s.ends.balance;
       proof = shows_lower s.ends;
@@ -164,32 +171,43 @@ module _ (kind : LineKind) (line : Line) (m : ℕ) (plan : Plan) (h : Halving) (
           (frames_raised line (length h.proof) h.book.about.cycle frames s.listed s.frame_units) s.within;
     }
 
-    spent_is : IsRanked line → IsFresh es → (s : IsStuck kind line m plan cause.Units h frames)
-        → IsSpent kind line m plan h.lower h.upper h.balance all trail
+    -- units of some entries and the frames at the cycle of the book, where the entries stand behind the proof
+    raised_at : (us vs : List Entry) (units : ℕ)
+        → ((u : ℕ) → UnitsOf line (entries_at h.book.about.cycle us) u
+        → UnitsOf line (entries_at h.book.about.cycle vs) u)
+        → UnitsAt line h.book.about.cycle us (Some (record { cycle = h.book.about.cycle; frames = frames })) units
+        → UnitsAt line h.book.about.cycle vs (Some trail) units
+    raised_at us vs units up at =
+        let X : ℕ = h.book.about.cycle in
+        let t : nat_eq X X ≡ true = eq-eqb X X refl in
+        let R : Bool → Type 0 = λ z. cond z (UnitsIn line X trail.frames at.1) (at.1 ≡ 0) in
+        let S : Bool → Type 0 = λ z. cond z (UnitsIn line X frames at.1) (at.1 ≡ 0) in (
+          at.0,
+          at.1,
+          (
+            up at.0 at.2.0,
+            subst R (sym t) (frames_raised line (length h.proof) X frames at.1 (subst S t at.2.1)),
+            at.2.2,
+          ),
+        )
+
+    spent_is : IsRanked line → IsFresh es → (s : IsStuck kind line m plan cause.Units h frames closing_from)
+        → IsSpent kind line m plan h.lower h.upper h.balance all trail (length h.proof + closing_from)
     spent_is ranked fresh s =
         let X : ℕ = h.book.about.cycle in
         let none : (k : ℕ) (e : Entry) → slice_get h.proof k ≡ Some e → e.cycle ≡ X → ⊥ =
         outside_none h.lower h.upper X h.proof s.ends.proof.outside s.from s.to in
         let T : List Entry → Type 0 = λ z. IsTrail kind line X z (all_tasks line) m frames in
         let O : List Entry → Type 0 = λ z. IsOpenOver line X z frames in
-        let V : List Entry → Type 0 = λ z. UnitsOf line (entries_at X z) s.stuck.2.1.0 in
+        let K : List Entry → Type 0 = λ z. HasListed line plan X z closing_from frames in
+        let l : HasListed line plan X es closing_from frames = subst K (sym es_are) s.stuck.2 in
         let valid : IsTrail kind line X all (all_tasks line) m trail.frames =
         trail_up kind line h.proof X es (all_tasks line) m frames (subst T (sym es_are) s.stuck.0) in
-        let t : nat_eq X X ≡ true = eq-eqb X X refl in
-        let R : Bool → Type 0 = λ z. cond z (UnitsIn line X trail.frames s.stuck.2.1.1) (s.stuck.2.1.1 ≡ 0) in
-        let S : Bool → Type 0 = λ z. cond z (UnitsIn line X frames s.stuck.2.1.1) (s.stuck.2.1.1 ≡ 0) in
-        let counted : UnitsAt line X all (Some trail) s.stuck.2.0 = (
-          s.stuck.2.1.0,
-          s.stuck.2.1.1,
-          (
-            units_at_behind line h.proof es X s.stuck.2.1.0 none (subst V (sym es_are) s.stuck.2.1.2.0),
-            subst R (sym t) (frames_raised line (length h.proof) X frames s.stuck.2.1.1 (subst S t s.stuck.2.1.2.1)),
-            s.stuck.2.1.2.2,
-          ),
-        ) in
-        let budget : s.stuck.2.0 < (tasks line + 1) * states kind ^ tasks line =
+        let whole : UnitsAt line X all (Some trail) l.whole =
+        raised_at es all l.whole (λ u k. units_at_behind line h.proof es X u none k) l.whole_counted in
+        let budget : l.whole < (tasks line + 1) * states kind ^ tasks line =
         units_few kind line ok ranked X (none_long line m X ok (omega (arith, s.ends.from, s.from))) all (Some trail)
-        (all_derived s.ends) (fresh_behind h.proof es X none fresh) (λ e. (m, valid)) s.stuck.2.0 counted in
+        (all_derived s.ends) (fresh_behind h.proof es X none fresh) (λ e. (m, valid)) l.whole whole in
         record {
           stopped = stopped_is cause.Units s;
           from = s.from;
@@ -198,15 +216,27 @@ module _ (kind : LineKind) (line : Line) (m : ℕ) (plan : Plan) (h : Halving) (
           valid = valid;
           opens = opens_behind h.proof es line X frames none (subst O (sym es_are) s.stuck.1);
           fresh = fresh_behind h.proof es X none fresh;
-          units = s.stuck.2.0;
-          counted = counted;
-          all = s.stuck.2.2;
-          alone = s.stuck.2.3;
-          budget = omega (arith, budget, s.stuck.2.2);
+          begun = omega (
+            arith,
+            length_behind h.proof es,
+            s.begun,
+            ap (λ (z : List Entry). length z) es_are,
+          );
+          units = l.units;
+          counted = raised_at (drop closing_from es) (drop (length h.proof + closing_from) all) l.units
+              (λ u k. units_from_behind line h.proof es X u closing_from k) l.counted;
+          all = l.all;
+          alone = l.alone;
+          whole = l.whole;
+          whole_counted = whole;
+          more = l.more;
+          unsought = l.unsought;
+          budget = omega (arith, budget, l.all, l.more);
         }
 
     -- the search stopped
-    pub searches : IsRanked line → IsFresh es → (why : Cause) → IsStuck kind line m plan why h frames
-        → Searches kind line m plan (outcome.Stopped why h.lower h.upper h.balance all trail)
-    searches ranked fresh cause.Units s = spent_is ranked fresh s
-    searches ranked fresh cause.Memory s = stopped_is cause.Memory s
+    pub searches : IsRanked line → IsFresh es → (why : Cause) → IsStuck kind line m plan why h frames closing_from
+        → Searches kind line m plan
+        (outcome.Stopped why h.lower h.upper h.balance all trail (length h.proof + closing_from) h.seeks)
+    searches ranked fresh cause.Units s = (spent_is ranked fresh s, s.ends.seeks)
+    searches ranked fresh cause.Memory s = (stopped_is cause.Memory s, s.ends.seeks)

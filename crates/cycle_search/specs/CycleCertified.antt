@@ -46,6 +46,7 @@ pub record IsStop (kind : LineKind) (line : Line) (m : ℕ) (plan : Plan) (lower
     (cert : Certificate) : Type 0 where
   pub entries : List Entry
   pub trail : Trail
+  pub closing_from : ℕ
   pub units : ℕ
   pub certified : IsCertified kind line m lower upper b entries (Some trail) units cert
-  pub spent : IsSpent kind line m plan lower upper b entries trail
+  pub spent : IsSpent kind line m plan lower upper b entries trail closing_from

@@ -8,8 +8,8 @@ ghost use Rattle.cycle_search.specs.Asking.{HasAskedBook};
 
 use lemma_core::Book;
 use line_instance::Instance;
+use line_seek::Units;
 use round_run::{Gate, Plan, Verdict, decide_round, fill};
-use station_search::Units;
 use std::alloc::{AllocError, Global};
 use std::sync::Wait;
 use std::thread::Threads;

@@ -69,7 +69,8 @@ pub fn certify_cycle(
 ) -> Result<Certificate, AllocError>
     requires some { 1 ≤ stations }
     requires few { stations ≤ 1024 }
-    requires solved { (N : ℕ) × (N ≤ 3000000) × IsSolved kind inst.now stations N cycle balance entries }
+    requires solved { (plan : Plan) × (plan.units ≤ 3000000)
+        × IsSolved kind inst.now stations plan cycle balance entries }
     ensures { IfOk result (IsOptimum kind inst.now stations cycle balance) }
 {
     let entries = proof_of(alloc, entries, inst.tasks(), stations, cycle)?;
@@ -97,8 +98,8 @@ pub fn certify_cycle_stop(
 ) -> Certificate
     requires some { 1 ≤ stations }
     requires few { stations ≤ 1024 }
-    ensures { (plan : Plan) → plan.units ≤ 3000000
-        → IsSpent kind inst.now stations plan lower upper balance entries trail
+    ensures { (plan : Plan) (closing_from : ℕ) → plan.units ≤ 3000000
+        → IsSpent kind inst.now stations plan lower upper balance entries trail closing_from
         → IsStop kind inst.now stations plan lower upper balance result }
 {
     let claim = Claim::Bounds {

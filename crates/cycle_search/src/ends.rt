@@ -8,7 +8,7 @@ ghost use Rattle.cycle_search.specs.Ends.{at_first, first_lower, first_upper};
 
 use line_instance::Instance;
 use line_rules::{Balance, Places, Seatplace, Side};
-use lower_bounds::times_in;
+use line_seek::times_in;
 use std::alloc::{AllocError, Global};
 
 /// The first ends of a search, in the instance's time unit.

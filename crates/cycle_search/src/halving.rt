@@ -1,6 +1,7 @@
 //! The search between two tries: its ends, its balance, its book, and the proof of its lower end where the book doesn't
-//! hold that.
+//! hold that; and what its seeks come to.
 
+use crate::seek::Seeks;
 use lemma_core::Book;
 use line_rules::{Balance, Entries};
 
@@ -19,4 +20,6 @@ pub(crate) struct Halving {
     pub book: Book,
     /// At least the units of the book's entries: what was spent on them.
     pub paid: u64,
+    /// The seeks so far.
+    pub seeks: Seeks,
 }

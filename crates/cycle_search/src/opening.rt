@@ -1,15 +1,17 @@
 //! The first book of a search, and its entry that shows the first lower end.
-ghost use Rattle.std.specs.Prelude.{◌≡◌, ◌<◌, ◌≤◌, ℕ, [], ◌∷◌, IfOk, OnOk};
+ghost use Rattle.std.specs.Prelude.{◌≡◌, ◌<◌, ◌≤◌, [], ◌∷◌, IfOk, OnOk};
 ghost use Rattle.line_rules.specs.Balance.{all_tasks};
 ghost use Rattle.line_rules.specs.Bounds.{bound};
 ghost use Rattle.line_rules.specs.Ranges.{IsCycle};
 ghost use Rattle.lemma_core.specs.Books.{IsReserved, MayBeBest};
 ghost use Rattle.round_run.specs.Rounds.{by_bound};
+ghost use Rattle.round_run.specs.declared.plans.Plan.{Plan};
 ghost use Rattle.cycle_search.specs.Ends.{NoneApart, first_lower, first_upper};
 ghost use Rattle.cycle_search.specs.inner.Searching.{IsBetween, IsFirstBook};
 
 use crate::ends::{Ends, all_at_first, first_ends};
 use crate::halving::Halving;
+use crate::seek::Seeks;
 use lemma_core::{Book, Published};
 use line_instance::Instance;
 use line_rules::{Balance, Entries, Entry, LineKind, Why};
@@ -92,7 +94,7 @@ pub(crate) fn begin(
     requires none { NoneApart inst.now }
     requires some { 1 ≤ stations }
     requires few { stations ≤ 1024 }
-    ensures { IfOk result (λ h. (N : ℕ) → IsBetween kind inst.now stations N h) }
+    ensures { IfOk result (λ h. (plan : Plan) → IsBetween kind inst.now stations plan h) }
 {
     let _tasks = inst.tasks();
     let ends = first_ends(inst, stations);
@@ -103,5 +105,6 @@ pub(crate) fn begin(
         proof: Entries::from_vec(Vec::new(alloc)),
         book: first_book(alloc, inst, kind, stations, ends)?,
         paid: 0,
+        seeks: Seeks::none(),
     })
 }

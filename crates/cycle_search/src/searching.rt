@@ -1,5 +1,5 @@
 //! What a search for the least cycle comes to.
-ghost use Rattle.std.specs.Prelude.{◌≡◌, ◌<◌, ◌≤◌, ◌^◌, ℕ, [], length, IfOk};
+ghost use Rattle.std.specs.Prelude.{◌≡◌, ◌<◌, ◌≤◌, [], length, IfOk};
 ghost use Rattle.line_rules.specs.declared.types.Entry.{Entry};
 ghost use Rattle.round_run.specs.Plans.{IsPlan};
 ghost use Rattle.round_run.specs.declared.plans.Plan.{Plan as Planned};
@@ -11,6 +11,7 @@ ghost use Rattle.cycle_search.specs.inner.Searching.{IsBetween, IsStuck};
 use crate::halving::Halving;
 use crate::joining::{joined, raise_frames};
 use crate::opening::begin;
+use crate::seek::Seeks;
 use crate::trying::{Tried, try_cycle};
 use line_instance::Instance;
 use line_rules::{Balance, Entries, Frames, LineKind, Trail};
@@ -23,15 +24,16 @@ use std::thread::Threads;
 #[derive(Drop)]
 pub enum CycleOutcome {
     /// The least cycle, a balance at it in the stations that were asked for, and entries of which one shows that there
-    /// is none at the cycle below; no entry where the answer is 1.
+    /// is none at the cycle below; no entry where the answer is 1. And the seeks of the search.
     Solved {
         cycle: u64,
         balance: Balance,
         entries: Entries,
+        seeks: Seeks,
     },
     /// The least cycle is at least `lower`, which above 1 an entry shows, and at most `upper`, at which the balance is
     /// right. The trail has the open frames of the search at the cycle that was tried last; where memory ended it has
-    /// none.
+    /// none. The entries of the last round are those from number `closing_from` on. And the seeks of the search.
     Stopped {
         cause: Cause,
         lower: u64,
@@ -39,6 +41,8 @@ pub enum CycleOutcome {
         balance: Balance,
         entries: Entries,
         trail: Trail,
+        closing_from: u64,
+        seeks: Seeks,
     },
     /// Out of memory before there were bounds with their proof.
     NoMemory,
@@ -63,7 +67,7 @@ fn solved(alloc: Global, inst: &Instance, search: Halving) -> Result<CycleOutcom
     requires count { length search.book.state.entries ≤ 20000000 }
     requires earlier { length search.proof ≤ 20000000 }
     ensures { IfOk result (λ o. (plan : Planned)
-        → IsBetween search.book.about.kind inst.now search.balance.stations plan.units search
+        → IsBetween search.book.about.kind inst.now search.balance.stations plan search
         → search.lower ≡ search.upper
         → Searches search.book.about.kind inst.now search.balance.stations plan o) }
 {
@@ -75,12 +79,14 @@ fn solved(alloc: Global, inst: &Instance, search: Halving) -> Result<CycleOutcom
         proof,
         book,
         paid: _,
+        seeks,
     } = search;
     let (entries, _best) = book.into_parts();
     Ok(CycleOutcome::Solved {
         cycle: upper,
         balance,
         entries: shown(alloc, lower, proof, entries)?,
+        seeks,
     })
 }
 
@@ -91,12 +97,14 @@ fn stopped(
     cause: Cause,
     search: Halving,
     frames: Frames,
+    closing_from: u64,
 ) -> Result<CycleOutcome, AllocError>
     requires count { length search.book.state.entries ≤ 20000000 }
     requires earlier { length search.proof ≤ 20000000 }
+    requires begun { closing_from ≤ length search.book.state.entries }
     requires cites { HaveFrameCites (length search.book.state.entries) frames }
     ensures { IfOk result (λ o. (plan : Planned)
-        → IsStuck search.book.about.kind inst.now search.balance.stations plan cause search frames
+        → IsStuck search.book.about.kind inst.now search.balance.stations plan cause search frames closing_from
         → Searches search.book.about.kind inst.now search.balance.stations plan o) }
 {
     let _tasks = inst.tasks();
@@ -108,6 +116,7 @@ fn stopped(
         proof,
         book,
         paid: _,
+        seeks,
     } = search;
     let (entries, _best) = book.into_parts();
     let (count, earlier) = (entries.len() as u64, proof.len() as u64);
@@ -119,6 +128,8 @@ fn stopped(
         balance,
         entries: joined(alloc, proof, entries)?,
         trail: Trail { cycle, frames },
+        closing_from: earlier + closing_from,
+        seeks,
     })
 }
 
@@ -148,7 +159,8 @@ fn halve<R: Threads + Wait + Sync, G: Gate>(
                 cause,
                 search,
                 frames,
-            } => return stopped(alloc, inst, cause, search, frames),
+                closing_from,
+            } => return stopped(alloc, inst, cause, search, frames, closing_from),
         }
     }
     solved(alloc, inst, search)
@@ -156,8 +168,9 @@ fn halve<R: Threads + Wait + Sync, G: Gate>(
 
 /// The least cycle, from 1 on and in the instance's time unit, at which a line of this kind has a balance in 1 to 1,024
 /// stations; or bounds on it, where the units of a try ended first. Of the instance no pair is apart. Each cycle that
-/// is tried has the units of the plan anew, and so has each helper its part of them. Helpers run in threads, in any
-/// order; they meet the gate before each publish.
+/// is tried has the units of the plan anew, and so has each helper its part of them; and where the ranked balance has
+/// too many stations, a seek with the loads of the plan comes first. Helpers run in threads, in any order; they meet
+/// the gate before each publish.
 pub fn least_cycle<R: Threads + Wait + Sync, G: Gate>(
     rt: &R,
     alloc: Global,

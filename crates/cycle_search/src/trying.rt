@@ -1,8 +1,9 @@
 //! One try of a cycle between the ends.
 //!
-//! The ranked balance is made first, and where it has few enough stations nothing is searched. Else the question is
-//! decided over the book, which is reopened at the cycle; a book that has grown too large is given up for a new one,
-//! and of its entries only the proof of the lower end is kept.
+//! The ranked balance is made first, and where it has few enough stations nothing is searched. Else a seek is made over
+//! the book, where the plan asks for one, and where it finds no balance the question is decided. The book is reopened
+//! at the cycle before; one that has grown too large is given up for a new one, and of its entries only the proof of
+//! the lower end is kept.
 ghost use Rattle.std.specs.Prelude.{◌≡◌, ◌+◌, ◌-◌, ◌<◌, ◌≤◌, ℕ, [], length, IfOk};
 ghost use Rattle.line_instance.specs.Truths.{full_to};
 ghost use Rattle.line_instance.specs.Line.{Line, tasks as count_tasks};
@@ -12,11 +13,14 @@ ghost use Rattle.line_rules.specs.declared.types.LineKind.{LineKind as Kind};
 ghost use Rattle.lemma_core.specs.Books.{IsReserved, MayBeBest};
 ghost use Rattle.entry_lists.specs.Trim.{CitesEarlier};
 ghost use Rattle.round_run.specs.Plans.{IsPlan};
-ghost use Rattle.cycle_search.specs.inner.Searching.{IsBetween, IsAsking, HasAsked, IsTried, IsKept};
+ghost use Rattle.round_run.specs.declared.plans.Plan.{Plan as Planned};
+ghost use Rattle.cycle_search.specs.inner.Searching.{IsBetween, IsReopened, IsAsking, HasSought, HasAsked, IsTried};
+ghost use Rattle.cycle_search.specs.inner.Searching.{IsKept};
 
 use crate::asking::ask_book;
 use crate::halving::Halving;
 use crate::opening::open_book;
+use crate::seek::seek_book;
 use entry_lists::trim;
 use first_fit::{Ranked, ranked_balance};
 use line_instance::Instance;
@@ -27,7 +31,8 @@ use std::sync::Wait;
 use std::thread::Threads;
 
 /// A book with more entries, or one on which more units were spent, isn't reopened. So a certificate, of a proof that
-/// was kept and a book, stays below 20,000,000 entries: a try adds at most one more than twice its units.
+/// was kept and a book, stays below 20,000,000 entries: a try adds at most one more than twice its units, and what its
+/// seek may.
 const MAX_ENTRIES: u64 = 1_000_000;
 
 /// The most units of a book that is reopened.
@@ -38,11 +43,13 @@ const MAX_PAID: u64 = 1_000_000;
 pub(crate) enum Tried {
     /// The ends are closer.
     Goes(Halving),
-    /// Units or memory ended first: the ends stay, and the open frames of the search over the book are these.
+    /// Units or memory ended first: the ends stay, and the open frames of the search over the book are these. The
+    /// entries of the last round are those from number `closing_from` on.
     Stops {
         cause: Cause,
         search: Halving,
         frames: Frames,
+        closing_from: u64,
     },
 }
 
@@ -59,10 +66,10 @@ fn kept_proof(
     requires some { 1 ≤ lower }
     requires goal { 1 < lower → length proof ≡ 0 → HasAnswer entries (full_to tasks) stations (lower - 1) }
     requires earlier { CitesEarlier entries }
-    ensures { IfOk result (λ kept. (kind : Kind) (line : Line) (N upper : ℕ) → tasks ≡ count_tasks line
-        → IsKept kind line stations N lower upper proof
-        → (length proof ≡ 0 → IsKept kind line stations N lower upper entries)
-        → IsKept kind line stations N lower upper kept × (length kept ≡ 0 → lower ≤ 1)) }
+    ensures { IfOk result (λ kept. (kind : Kind) (line : Line) (P upper : ℕ) → tasks ≡ count_tasks line
+        → IsKept kind line stations P lower upper proof
+        → (length proof ≡ 0 → IsKept kind line stations P lower upper entries)
+        → IsKept kind line stations P lower upper kept × (length kept ≡ 0 → lower ≤ 1)) }
 {
     if lower == 1 || !proof.is_empty() {
         return Ok(proof);
@@ -81,14 +88,14 @@ fn begun_anew(
     cycle: u64,
     best: Balance,
 ) -> Result<Halving, AllocError>
-    requires between { (N : ℕ) × IsBetween kind inst.now stations N search }
+    requires between { (plan : Planned) × IsBetween kind inst.now stations plan search }
     requires from { search.lower ≤ cycle }
     requires to { cycle < search.upper }
     requires best { MayBeBest (record { line = inst.now; kind = kind; cycle = cycle }) best }
     requires above { stations < best.stations }
     ensures same { IfOk result (λ h. (h.lower ≡ search.lower) × (h.upper ≡ search.upper)) }
-    ensures asking { IfOk result (λ h. (N : ℕ) → IsBetween kind inst.now stations N search
-        → IsAsking kind inst.now stations N cycle h) }
+    ensures reopened { IfOk result (λ h. (plan : Planned) → IsBetween kind inst.now stations plan search
+        → IsReopened kind inst.now stations plan cycle h) }
 {
     let Halving {
         lower,
@@ -97,6 +104,7 @@ fn begun_anew(
         proof,
         book,
         paid: _,
+        seeks,
     } = search;
     let (entries, _best) = book.into_parts();
     let proof = kept_proof(alloc, inst.tasks(), stations, lower, proof, entries)?;
@@ -107,6 +115,7 @@ fn begun_anew(
         proof,
         book: open_book(alloc, inst, kind, cycle, best)?,
         paid: 0,
+        seeks,
     })
 }
 
@@ -120,14 +129,14 @@ fn reopened(
     cycle: u64,
     best: Balance,
 ) -> Result<Halving, AllocError>
-    requires between { (N : ℕ) × IsBetween kind inst.now stations N search }
+    requires between { (plan : Planned) × IsBetween kind inst.now stations plan search }
     requires from { search.lower ≤ cycle }
     requires to { cycle < search.upper }
     requires best { MayBeBest (record { line = inst.now; kind = kind; cycle = cycle }) best }
     requires above { stations < best.stations }
     ensures same { IfOk result (λ h. (h.lower ≡ search.lower) × (h.upper ≡ search.upper)) }
-    ensures asking { IfOk result (λ h. (N : ℕ) → IsBetween kind inst.now stations N search
-        → IsAsking kind inst.now stations N cycle h) }
+    ensures reopened { IfOk result (λ h. (plan : Planned) → IsBetween kind inst.now stations plan search
+        → IsReopened kind inst.now stations plan cycle h) }
 {
     if search.book.len() > MAX_ENTRIES || search.paid > MAX_PAID {
         return begun_anew(alloc, inst, kind, stations, search, cycle, best);
@@ -139,6 +148,7 @@ fn reopened(
         proof,
         book,
         paid,
+        seeks,
     } = search;
     Ok(Halving {
         lower,
@@ -147,6 +157,7 @@ fn reopened(
         proof,
         book: book.reopen(cycle, best),
         paid,
+        seeks,
     })
 }
 
@@ -166,7 +177,7 @@ fn ask<R: Threads + Wait + Sync, G: Gate>(
     requires same { search.book.about.line ≡ inst.now }
     requires cycle { IsCycle search.book.about.cycle }
     requires reserved { IsReserved search.book }
-    requires paid { search.paid ≤ 1000000 }
+    requires paid { search.paid ≤ 3500000 }
     ensures { IfOk result (λ r. HasAsked stations plan.now search r.0 r.1) }
 {
     let Halving {
@@ -176,6 +187,7 @@ fn ask<R: Threads + Wait + Sync, G: Gate>(
         proof,
         book,
         paid,
+        seeks,
     } = search;
     let asked = ask_book(rt, alloc, inst, book, stations, plan, gate)?;
     let search = Halving {
@@ -185,6 +197,7 @@ fn ask<R: Threads + Wait + Sync, G: Gate>(
         proof,
         book: asked.book,
         paid: paid + asked.used,
+        seeks,
     };
     Ok((search, asked.verdict))
 }
@@ -212,6 +225,7 @@ fn refuted(alloc: Global, search: Halving) -> Halving
         proof: _,
         book,
         paid,
+        seeks,
     } = search;
     Halving {
         lower,
@@ -220,6 +234,7 @@ fn refuted(alloc: Global, search: Halving) -> Halving
         proof: Entries::from_vec(Vec::new(alloc)),
         book,
         paid,
+        seeks,
     }
 }
 
@@ -240,6 +255,7 @@ fn found(stations: u32, search: Halving) -> Result<Halving, AllocError>
         proof,
         book,
         paid,
+        seeks,
     } = search;
     Ok(Halving {
         lower,
@@ -248,10 +264,12 @@ fn found(stations: u32, search: Halving) -> Result<Halving, AllocError>
         proof,
         book,
         paid,
+        seeks,
     })
 }
 
-// Asks the question of so many stations at the cycle of the book.
+// Asks the question of so many stations at the cycle of the book. The entries of this round are those from number
+// `closing_from` on.
 fn asked<R: Threads + Wait + Sync, G: Gate>(
     rt: &R,
     alloc: Global,
@@ -265,10 +283,11 @@ fn asked<R: Threads + Wait + Sync, G: Gate>(
     requires some { 1 ≤ stations }
     requires few { stations ≤ 1024 }
     requires asking { let kind = search.book.about.kind in
-        IsAsking kind inst.now stations plan.now.units search.book.about.cycle search }
+        IsAsking kind inst.now stations plan.now search.book.about.cycle search }
     ensures { IfOk result (IsTried search.book.about.kind inst.now stations plan.now search.lower search.upper) }
 {
     let _tasks = inst.tasks();
+    let closing_from = search.book.len();
     let (search, verdict) = ask(rt, alloc, inst, stations, plan, gate, search)?;
     match verdict {
         Verdict::Refuted => Ok(Tried::Goes(refuted(alloc, search))),
@@ -277,17 +296,19 @@ fn asked<R: Threads + Wait + Sync, G: Gate>(
             cause: Cause::Units,
             search,
             frames,
+            closing_from,
         }),
         Verdict::NoMemory(_) => Ok(Tried::Stops {
             cause: Cause::Memory,
             search,
             frames: Frames::from_vec(Vec::new(alloc)),
+            closing_from,
         }),
     }
 }
 
-// Where the ranked balance has few enough stations, the search with it at the upper end.
-fn with_ranked(
+// Where a balance at a cycle has few enough stations, the search with it at the upper end.
+fn with_balance(
     stations: u32,
     search: Halving,
     cycle: u64,
@@ -305,6 +326,7 @@ fn with_ranked(
         proof,
         book,
         paid,
+        seeks,
     } = search;
     Ok(Halving {
         lower,
@@ -313,7 +335,74 @@ fn with_ranked(
         proof,
         book,
         paid,
+        seeks,
     })
+}
+
+// The search after a seek at the cycle of its book, and the balance that it found, if any.
+fn sought<R: Threads + Sync>(
+    rt: &R,
+    alloc: Global,
+    inst: &Instance,
+    stations: u32,
+    plan: &Plan,
+    search: Halving,
+) -> Result<(Halving, Option<Balance>), AllocError>
+    requires plan { IsPlan plan.now }
+    requires some { 1 ≤ stations }
+    requires few { stations ≤ 1024 }
+    requires same { search.book.about.line ≡ inst.now }
+    requires cycle { IsCycle search.book.about.cycle }
+    requires reserved { IsReserved search.book }
+    requires paid { search.paid ≤ 1000000 }
+    ensures { IfOk result (λ r. HasSought stations plan.now search r.0 r.1) }
+{
+    let Halving {
+        lower,
+        upper,
+        balance,
+        proof,
+        book,
+        paid,
+        seeks,
+    } = search;
+    let sought = seek_book(rt, alloc, inst, book, stations, plan, seeks)?;
+    let search = Halving {
+        lower,
+        upper,
+        balance,
+        proof,
+        book: sought.book,
+        paid: paid + sought.paid,
+        seeks: sought.seeks,
+    };
+    Ok((search, sought.found))
+}
+
+// Seeks at the cycle of the book, and asks the question where no balance was found.
+fn decided<R: Threads + Wait + Sync, G: Gate>(
+    rt: &R,
+    alloc: Global,
+    inst: &Instance,
+    stations: u32,
+    plan: &Plan,
+    gate: &G,
+    search: Halving,
+) -> Result<Tried, AllocError>
+    requires plan { IsPlan plan.now }
+    requires some { 1 ≤ stations }
+    requires few { stations ≤ 1024 }
+    requires reopened { let kind = search.book.about.kind in
+        IsReopened kind inst.now stations plan.now search.book.about.cycle search }
+    ensures { IfOk result (IsTried search.book.about.kind inst.now stations plan.now search.lower search.upper) }
+{
+    let _tasks = inst.tasks();
+    let cycle = search.book.cycle();
+    let (search, found) = sought(rt, alloc, inst, stations, plan, search)?;
+    match found {
+        Some(best) => Ok(Tried::Goes(with_balance(stations, search, cycle, &best)?)),
+        None => asked(rt, alloc, inst, stations, plan, gate, search),
+    }
 }
 
 /// Tries a cycle between the ends.
@@ -331,7 +420,7 @@ pub(crate) fn try_cycle<R: Threads + Wait + Sync, G: Gate>(
     requires plan { IsPlan plan.now }
     requires some { 1 ≤ stations }
     requires few { stations ≤ 1024 }
-    requires between { IsBetween kind inst.now stations plan.now.units search }
+    requires between { IsBetween kind inst.now stations plan.now search }
     requires from { search.lower ≤ cycle }
     requires to { cycle < search.upper }
     ensures { IfOk result (IsTried kind inst.now stations plan.now search.lower search.upper) }
@@ -343,8 +432,8 @@ pub(crate) fn try_cycle<R: Threads + Wait + Sync, G: Gate>(
         Ranked::NoMemory => return Err(AllocError),
     };
     if best.stations <= stations {
-        return Ok(Tried::Goes(with_ranked(stations, search, cycle, &best)?));
+        return Ok(Tried::Goes(with_balance(stations, search, cycle, &best)?));
     }
     let search = reopened(alloc, inst, kind, stations, search, cycle, best)?;
-    asked(rt, alloc, inst, stations, plan, gate, search)
+    decided(rt, alloc, inst, stations, plan, gate, search)
 }

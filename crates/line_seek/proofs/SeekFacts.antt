@@ -1,6 +1,6 @@
 -- A seek on its way: how it begins, and what each try leaves of it.
 use Rattle.std.proofs.Common.{◌≡◌, ℕ, ◌+◌, ◌≤◌, refl, sym, ap, ◌∙◌, subst, arith, Option, Some, None}
-use Rattle.std.proofs.Common.{◌-◌, inr, Result, Ok, Err}
+use Rattle.std.proofs.Common.{inr, Result, Ok, Err}
 use Rattle.std.specs.Prelude.{IfSome, IfOk}
 use Rattle.line_instance.specs.Line.{Line}
 use Rattle.line_rules.specs.Balance.{IsRight, all_tasks}
@@ -15,7 +15,9 @@ use Rattle.station_search.specs.Decide.{IsPairing}
 use Rattle.station_search.specs.pairs.Sharing.{Sharing, IsTableOf}
 use Rattle.line_seek.specs.inner.Tries.{mode_in}
 use Rattle.line_seek.specs.inner.Trying.{Gains, IsPaid, IsTold, may_add}
-use Rattle.line_seek.specs.Seeking.{IfDone, IsSeeking, AreSought, HasSought}
+use Rattle.line_seek.specs.inner.Aims.{asked_for}
+use Rattle.line_seek.specs.Seeking.{IfDone, IsSeeking, AreSought, HasSoughtFor}
+use Rattle.line_seek.specs.declared.aims.Aim.{Aim}
 use Rattle.line_seek.specs.declared.trying.Told.{Told}
 use Rattle.line_seek.specs.declared.trying.Told.TheVariants as told
 use Rattle.line_seek.specs.declared.seeking.Seeker.{Seeker}
@@ -120,17 +122,18 @@ pub tables : (line : Line) (kind : LineKind) (c : ℕ) (o : Option Sharing) → 
 tables line kind c None h = h
 tables line kind c (Some table) h = h.table_of
 
--- the end of a seek whose search refuted one station less than the best balance has
-pub refuted_sought : {E : Type 0} (book : BookView) (line : Line) (limit most free : ℕ) (s : Seeker)
+-- the end of a seek whose search refuted what a try for its best balance asks for
+pub refuted_sought : {E : Type 0} (aim : Aim) (book : BookView) (line : Line) (limit most free : ℕ) (s : Seeker)
     (r : Result Sought E) → book.about.line ≡ line → s.scratch.about ≡ book.about
-    → s.best.stations ≤ book.state.best.stations → s.used ≤ limit → IsSeeking free s → most ≡ s.best.stations - 1
+    → s.best.stations ≤ book.state.best.stations → s.used ≤ limit → IsSeeking free s
+    → most ≡ asked_for aim s.best.stations
     → IfOk r (λ x. IfDone x (λ best lemmas used. (best ≡ s.best) × (used ≡ s.used)))
     → IfOk r (λ x. IfDone x (λ best lemmas used. AreSought line s.scratch.about.cycle used lemmas))
     → IfOk r (λ x. IfDone x (λ best lemmas used. HasAnswer lemmas (all_tasks line) most s.scratch.about.cycle))
-    → IfOk r (λ x. IfDone x (HasSought book limit))
-refuted_sought book line limit most free s (Err e) l a f w k m same lem ans = tt
-refuted_sought book line limit most free s (Ok sought.NoMemory) l a f w k m same lem ans = tt
-refuted_sought book line limit most free s (Ok (sought.Done best lemmas used)) l a f w k m same lem ans =
+    → IfOk r (λ x. IfDone x (HasSoughtFor aim book limit))
+refuted_sought aim book line limit most free s (Err e) l a f w k m same lem ans = tt
+refuted_sought aim book line limit most free s (Ok sought.NoMemory) l a f w k m same lem ans = tt
+refuted_sought aim book line limit most free s (Ok (sought.Done best lemmas used)) l a f w k m same lem ans =
     let R : About → Type 0 = λ z. IsRight z.kind z.line z.cycle best in
     let B : Assignment → Type 0 = λ b. IsRight s.scratch.about.kind s.scratch.about.line s.scratch.about.cycle b in
     let F : Assignment → Type 0 = λ b. b.stations ≤ book.state.best.stations in
@@ -140,12 +143,12 @@ refuted_sought book line limit most free s (Ok (sought.Done best lemmas used)) l
     let L : Line → Type 0 = λ z. AreSought z book.about.cycle used lemmas in
     let H : ℕ → Type 0 = λ x. HasAnswer lemmas (all_tasks line) most x in
     let N : ℕ → Type 0 = λ x. HasAnswer lemmas (all_tasks line) x book.about.cycle in
-    let M : Line → Type 0 = λ z. HasAnswer lemmas (all_tasks z) (best.stations - 1) book.about.cycle in
+    let M : Line → Type 0 = λ z. HasAnswer lemmas (all_tasks z) (asked_for aim best.stations) book.about.cycle in
     record {
       within = subst U (sym same.1) w;
       right = subst R a (subst B (sym same.0) k.right);
       few = subst F (sym same.0) f;
       sought = subst L (sym l) (subst S c lem);
-      shown = inr (subst M (sym l) (subst N (m ∙ ap (λ (b : Assignment). b.stations - 1) (sym same.0))
+      shown = inr (subst M (sym l) (subst N (m ∙ ap (λ (b : Assignment). asked_for aim b.stations) (sym same.0))
           (subst H c ans)));
     }

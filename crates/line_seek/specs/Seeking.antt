@@ -1,5 +1,5 @@
 -- What a seek keeps on its way, and what it comes to.
-use Rattle.std.specs.Prelude.{◌≡◌, ◌⊎◌, ℕ, ◌+◌, ◌-◌, ◌<◌, ◌≤◌, List, [], length}
+use Rattle.std.specs.Prelude.{◌≡◌, ◌⊎◌, ℕ, ◌+◌, ◌<◌, ◌≤◌, List, [], length}
 use Rattle.line_instance.specs.Line.{Line, tasks}
 use Rattle.line_rules.specs.Balance.{IsRight, all_tasks}
 use Rattle.line_rules.specs.Entries.{HasAnswer}
@@ -10,8 +10,11 @@ use Rattle.line_rules.specs.declared.types.Balance.{Balance as Assignment}
 use Rattle.line_rules.specs.declared.types.Entry.{Entry}
 use Rattle.lemma_core.specs.Books.{BookView}
 use Rattle.round_helpers.specs.Growth.{AreAtCycle}
+use Rattle.line_seek.specs.inner.Aims.{asked_for}
 use Rattle.line_seek.specs.inner.Tries.{mode_in}
 use Rattle.line_seek.specs.inner.Trying.{IsPaid}
+use Rattle.line_seek.specs.declared.aims.Aim.{Aim}
+use Rattle.line_seek.specs.declared.aims.Aim.TheVariants as aims
 use Rattle.line_seek.specs.declared.seeking.Seeker.{Seeker}
 use Rattle.line_seek.specs.declared.seeking.Sought.{Sought}
 use Rattle.line_seek.specs.declared.seeking.Sought.TheVariants as sought
@@ -39,14 +42,20 @@ pub record AreSought (line : Line) (c used : ℕ) (lemmas : List Entry) : Type 0
   pub paid : units ≤ used
   pub few : length lemmas ≤ used + 1
 
--- the lemmas of a seek are none, or they refute that all tasks have a balance in one station less than the best one
-abbrev pub RefuteBelow : Line → ℕ → Assignment → List Entry → Type 0
-RefuteBelow line c best lemmas = (lemmas ≡ []) ⊎ HasAnswer lemmas (all_tasks line) (best.stations - 1) c
+-- the lemmas of a seek are none, or they refute that all tasks have a balance in so many stations
+abbrev pub RefuteIn : Line → ℕ → ℕ → List Entry → Type 0
+RefuteIn line c most lemmas = (lemmas ≡ []) ⊎ HasAnswer lemmas (all_tasks line) most c
 
--- what a seek over a book comes to, with a limit on its loads
-pub record HasSought (book : BookView) (limit : ℕ) (best : Assignment) (lemmas : List Entry) (used : ℕ) : Type 0 where
+-- What a seek with an aim over a book comes to, with a limit on its loads. Lemmas refute as many stations as a try for
+-- the best balance asks for.
+pub record HasSoughtFor (aim : Aim) (book : BookView) (limit : ℕ) (best : Assignment) (lemmas : List Entry)
+    (used : ℕ) : Type 0 where
   pub within : used ≤ limit
   pub right : IsRight book.about.kind book.about.line book.about.cycle best
   pub few : best.stations ≤ book.state.best.stations
   pub sought : AreSought book.about.line book.about.cycle used lemmas
-  pub shown : RefuteBelow book.about.line book.about.cycle best lemmas
+  pub shown : RefuteIn book.about.line book.about.cycle (asked_for aim best.stations) lemmas
+
+-- what a seek for a balance in fewer stations comes to
+abbrev pub HasSought : BookView → ℕ → Assignment → List Entry → ℕ → Type 0
+HasSought book limit best lemmas used = HasSoughtFor aims.Fewer book limit best lemmas used

@@ -4,13 +4,19 @@
 //! balance down, by one station less each time, with beams, which are quick to find a balance, and searches, which may
 //! show that there is none. They take turns with a purse that grows fourfold round by round. Nothing of them is
 //! believed: a balance is tested, and lemmas are checked anew by whoever takes them into a book. Each load that is
-//! listed costs one of the limit.
+//! listed costs one of the limit. `seek_for` asks for one number of stations alone, as before a question of so many.
 //!
-//! `tries` has the turns, `trying` makes one try, and `seeking` goes from try to try.
+//! `aims` says for how many stations a seek goes, `tries` has the turns, `trying` makes one try, and `seeking` goes
+//! from try to try; `answering` tells where there is nothing to seek.
 #![tactic(auto)]
 
+mod aims;
+mod answering;
 mod seeking;
 mod tries;
 mod trying;
 
-pub use seeking::{Sought, seek};
+pub use answering::is_answered;
+pub use lower_bounds::times_in;
+pub use seeking::{Sought, seek, seek_for};
+pub use station_search::Units;

@@ -1,8 +1,8 @@
 //! A seek, from try to try.
 //!
 //! What it keeps is the best balance, the scratch book of its searches, and how many loads were listed. Each try lists
-//! a load at least, so there are no more tries than loads.
-ghost use Rattle.std.specs.Prelude.{◌≡◌, ℕ, ◌+◌, ◌^◌, ◌<◌, ◌≤◌, length, [], false, IfOk, OnOk, IfSome};
+//! a load at least, so there are no more tries than loads. `seek` and `seek_for` differ in their aim alone.
+ghost use Rattle.std.specs.Prelude.{◌≡◌, ℕ, ◌+◌, ◌-◌, ◌^◌, ◌<◌, ◌≤◌, length, [], false, IfOk, OnOk, IfSome};
 ghost use Rattle.line_instance.specs.Line.{tasks};
 ghost use Rattle.line_rules.specs.Balance.{IsRight, all_tasks};
 ghost use Rattle.line_rules.specs.Bounds.{bound};
@@ -12,16 +12,18 @@ ghost use Rattle.line_rules.specs.Units.{UnitsOf};
 ghost use Rattle.round_helpers.specs.Growth.{AreAtCycle};
 ghost use Rattle.station_search.specs.Decide.{IsPairing};
 ghost use Rattle.line_seek.specs.inner.Trying.{IsTold, may_add};
-ghost use Rattle.line_seek.specs.Seeking.{IfDone, IsSeeking, AreSought, RefuteBelow, HasSought};
+ghost use Rattle.line_seek.specs.Seeking.{IfDone, IsSeeking, AreSought, RefuteIn, HasSoughtFor};
 
+use crate::aims::Aim;
+use crate::answering::is_refuted;
 use crate::tries::Try;
 use crate::trying::{Told, try_beam, try_search};
 use entry_lists::trim;
-use lemma_core::{Book, Looked};
+use lemma_core::Book;
 use line_instance::Instance;
 use line_rules::{Balance, Entries, LineKind};
 use lower_bounds::bound;
-use station_search::{PairTable, Paired, ask_pairs, table_for};
+use station_search::{PairTable, table_for};
 use std::alloc::{AllocError, Global};
 
 /// How many loads a try of the first round may list: few, so that a seek that finds at once is short.
@@ -34,8 +36,8 @@ const GROWTH: u64 = 4;
 /// What a seek comes to.
 #[derive(Drop)]
 pub enum Sought {
-    /// The best balance; the entries that show that there is none in one station less, or none at all; and how many
-    /// loads were listed.
+    /// The best balance; the entries that show that there is none in as many stations as the last try asked for, or
+    /// none at all; and how many loads were listed.
     Done {
         best: Balance,
         lemmas: Entries,
@@ -91,13 +93,14 @@ impl Seeker {
         })
     }
 
-    /// Whether nothing more is to be tried: the best balance has the fewest stations that the bound allows, the loads
-    /// are used, or an entry of the book or pairs refute one station less.
+    /// Whether nothing more is to be tried, where the next try would ask for `most` stations: the bound exceeds them,
+    /// the best balance has no more, the loads are used, or an entry of the book or pairs refute them.
     fn is_over(
         &self,
         inst: &Instance,
         book: &Book,
         pairs: &mut Option<PairTable>,
+        most: u32,
         lower: u32,
         limit: u64,
     ) -> bool
@@ -105,21 +108,13 @@ impl Seeker {
         requires pairs { IfSome pairs.old (IsPairing inst.now book.now.about.kind book.now.about.cycle) }
         ensures pairs { pairs.new ≡ pairs.old }
         ensures left { result ≡ false → self.now.used < limit }
-        ensures above { result ≡ false → lower < self.now.best.stations }
-        ensures some { result ≡ false → 1 < self.now.best.stations }
+        ensures above { result ≡ false → lower ≤ most }
+        ensures fewer { result ≡ false → most < self.now.best.stations }
     {
-        if self.best.stations <= lower.max(1) || self.used >= limit {
+        if most < lower.max(1) || most >= self.best.stations || self.used >= limit {
             return true;
         }
-        match book.look(&inst.all(), self.best.stations - 1) {
-            Looked::Found { .. } => return true,
-            Looked::Absent => {}
-        }
-        let (kind, cycle, most) = (book.kind(), book.cycle(), self.best.stations - 1);
-        match ask_pairs(pairs, inst, kind, cycle, &inst.all(), most) {
-            Paired::Refuted { .. } => true,
-            Paired::Open => false,
-        }
+        is_refuted(inst, book, pairs, most)
     }
 
     /// Makes the next try, for a balance in `most` stations, with at most so many loads.
@@ -225,17 +220,18 @@ impl Seeker {
     }
 }
 
-/// A seek over a book; an error where memory is wanting.
+/// A seek over a book with an aim; an error where memory is wanting.
 fn go_through(
     alloc: Global,
     inst: &Instance,
     book: &Book,
+    aim: Aim,
     limit: u64,
     pairs: bool,
 ) -> Result<Sought, AllocError>
     requires same { book.now.about.line ≡ inst.now }
     requires cycle { IsCycle book.now.about.cycle }
-    ensures { IfOk result (λ r. IfDone r (HasSought book.now limit)) }
+    ensures { IfOk result (λ r. IfDone r (HasSoughtFor aim book.now limit)) }
 {
     let _best = book.best();
     let _tasks = inst.tasks();
@@ -243,10 +239,10 @@ fn go_through(
     let mut pairs = table_for(alloc, inst, book.kind(), book.cycle(), pairs)?;
     let lower = bound(inst, book.kind(), book.cycle(), &inst.all());
     for _ in 0..limit {
-        if seeker.is_over(inst, book, &mut pairs, lower, limit) {
+        let most = aim.asked_for(seeker.best.stations);
+        if seeker.is_over(inst, book, &mut pairs, most, lower, limit) {
             return Ok(seeker.ended(alloc));
         }
-        let most = seeker.best.stations - 1;
         let left = limit - seeker.used;
         match seeker.make_try(alloc, inst, &mut pairs, most, left)? {
             Told::Found(balance) => seeker.best = balance,
@@ -278,9 +274,46 @@ pub fn seek(alloc: Global, inst: &Instance, book: &Book, limit: u64, pairs: bool
     ensures cycles { IfDone result (λ best lemmas used. AreAtCycle book.now.about.cycle lemmas) }
     ensures units { IfDone result (λ best lemmas used. (units : ℕ) × UnitsOf inst.now lemmas units × (units ≤ used)) }
     ensures members { IfDone result (λ best lemmas used. length lemmas ≤ used + 1) }
-    ensures shown { IfDone result (λ best lemmas used. RefuteBelow inst.now book.now.about.cycle best lemmas) }
+    ensures shown { IfDone result (λ best lemmas used.
+        RefuteIn inst.now book.now.about.cycle (best.stations - 1) lemmas) }
 {
-    match go_through(alloc, inst, book, limit, pairs) {
+    match go_through(alloc, inst, book, Aim::Fewer, limit, pairs) {
+        Ok(sought) => sought,
+        Err(_) => Sought::NoMemory,
+    }
+}
+
+/// Seeks a balance in at most `most` stations, 1 to 1,024, at the cycle of a book, and entries that show that there is
+/// none, listing at most so many loads. The book is about the instance, and its cycle is 1 to 10^18 in the instance's
+/// time unit.
+///
+/// The tries are those of `seek`, but each asks for `most` stations itself, however many the best balance has. The seek
+/// ends where the best balance has at most so many, where the loads are used, and where so many are refuted: by the
+/// bound, by an entry of the book, by pairs if they are asked, or by a search. Where a search refutes them the lemmas
+/// are its entries that show it, and in every other case there are none.
+pub fn seek_for(
+    alloc: Global,
+    inst: &Instance,
+    book: &Book,
+    most: u32,
+    limit: u64,
+    pairs: bool,
+) -> Sought
+    requires same { book.now.about.line ≡ inst.now }
+    requires cycle { IsCycle book.now.about.cycle }
+    requires some { 1 ≤ most }
+    requires few { most ≤ 1024 }
+    ensures used { IfDone result (λ best lemmas used. used ≤ limit) }
+    ensures right { let about = book.now.about in
+        IfDone result (λ best lemmas used. IsRight about.kind inst.now about.cycle best) }
+    ensures few { IfDone result (λ best lemmas used. best.stations ≤ book.now.state.best.stations) }
+    ensures ranges { limit < 20000000 → IfDone result (λ best lemmas used. AreEntries (tasks inst.now) lemmas) }
+    ensures cycles { IfDone result (λ best lemmas used. AreAtCycle book.now.about.cycle lemmas) }
+    ensures units { IfDone result (λ best lemmas used. (units : ℕ) × UnitsOf inst.now lemmas units × (units ≤ used)) }
+    ensures members { IfDone result (λ best lemmas used. length lemmas ≤ used + 1) }
+    ensures shown { IfDone result (λ best lemmas used. RefuteIn inst.now book.now.about.cycle most lemmas) }
+{
+    match go_through(alloc, inst, book, Aim::AtMost(most), limit, pairs) {
         Ok(sought) => sought,
         Err(_) => Sought::NoMemory,
     }

@@ -1,5 +1,5 @@
 use Rattle.std.proofs.Common.{◌≡◌, ℕ, ◌+◌, ◌≤◌, List, sym, ap, ◌∙◌, subst, arith}
-use Rattle.station_search.specs.declared.answers.Units.{Units}
+use Rattle.line_seek.specs.search.declared.answers.Units.{Units}
 use Rattle.round_helpers.specs.Helping.{all_used}
 use Rattle.cycle_search.specs.Asking.{HasAskedBook}
 use Rattle.cycle_search.proofs.AskFacts.{has_asked, fits}

@@ -10,7 +10,7 @@ pub returns-in-Refuted : goal.returns-in-Refuted
 returns-in-Refuted g c =
     let s = c.args.search in
     let P : Halving → Type 0 =
-    λ z. IsBetween s.book.about.kind c.args.inst.now c.args.stations c.args.plan.now.units z
+    λ z. IsBetween s.book.about.kind c.args.inst.now c.args.stations c.args.plan.now z
     × IsCloser s.lower s.upper z in
     subst P (sym c.refuted.ensures) (refuted s.book.about.kind c.args.inst.now c.args.stations c.args.plan.now
     s.book.about.cycle s c.in_ok-search.search c.requires.asking c.in_ok-search.verdict c.in_ok-search.ensures
@@ -20,7 +20,7 @@ pub returns-in-Found : goal.returns-in-Found
 returns-in-Found g c =
     let s = c.args.search in
     let P : Halving → Type 0 =
-    λ z. IsBetween s.book.about.kind c.args.inst.now c.args.stations c.args.plan.now.units z
+    λ z. IsBetween s.book.about.kind c.args.inst.now c.args.stations c.args.plan.now z
     × IsCloser s.lower s.upper z in
     subst P (sym c.in_ok-found-in-Found.ensures.found) (found s.book.about.kind c.args.inst.now c.args.stations
     c.args.plan.now s.book.about.cycle s c.in_ok-search.search c.requires.asking c.in_ok-search.verdict
@@ -30,14 +30,15 @@ pub returns-in-Spent : goal.returns-in-Spent
 returns-in-Spent g c =
     let s = c.args.search in
     spent s.book.about.kind c.args.inst.now c.args.stations c.args.plan.now s.book.about.cycle s
-    c.in_ok-search.search c.requires.asking c.in_ok-search.verdict c.in-Spent.frames c.in_ok-search.ensures
-    c.in-Spent.is
+    c.in_ok-search.search c.requires.asking c.in_ok-search.verdict c.in-Spent.frames c.len-closing_from.result
+    c.in_ok-search.ensures c.in-Spent.is c.len-closing_from.ensures.len
 
 pub returns : goal.returns
 returns g c =
     let s = c.args.search in
     let P : List OpenFrame → Type 0 = λ z. IsStuck s.book.about.kind c.args.inst.now c.args.stations c.args.plan.now
-    cause.Memory c.in_ok-search.search z in
+    cause.Memory c.in_ok-search.search z c.len-closing_from.result in
     subst P (sym (c.from_vec.ensures ∙ c.new.ensures.items)) (wanting s.book.about.kind c.args.inst.now c.args.stations
     c.args.plan.now s.book.about.cycle s c.in_ok-search.search c.requires.asking c.in_ok-search.verdict
-    c.in-NoMemory.field-0 c.in_ok-search.ensures c.in-NoMemory.is)
+    c.in-NoMemory.field-0 c.len-closing_from.result c.in_ok-search.ensures c.in-NoMemory.is
+    c.len-closing_from.ensures.len)

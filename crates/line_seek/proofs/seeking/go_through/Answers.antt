@@ -3,6 +3,7 @@ use Rattle.std.specs.Prelude.{IfSome}
 use Rattle.station_search.specs.Decide.{IsPairing}
 use Rattle.station_search.specs.pairs.Sharing.{Sharing}
 use Rattle.line_rules.specs.declared.types.Balance.{Balance as Assignment}
+use Rattle.line_seek.specs.inner.Aims.{asked_for}
 use Rattle.line_seek.specs.declared.seeking.Seeker.{Seeker}
 use Rattle.line_seek.proofs.SeekFacts.{IsUnderWay, under_better, under_open, refuted_sought}
 use Rattle.line_seek.proofs.seeking.go_through.Goals as goal
@@ -22,8 +23,8 @@ loop-preserved c =
       | in-Found w ↦ under_better c.args.book.now c.args.limit left c.loop.seeker c.make_try.new.self
           c.match-branch-4.seeker at c.in_ok-balance.ensures.about c.in_ok-balance.ensures.within
           (omega (arith, c.loop.invariant.within)) c.in_ok-balance.field-0 w.in-Found.balance
-          (c.loop.seeker.best.stations - 1) w.in-Found.is (omega arith) c.in_ok-balance.ensures.told
-          c.in_ok-balance.ensures.seeking w.seeker-is
+          c.asked_for-most.result w.in-Found.is (omega (arith, c.is_over.ensures.fewer c.if-is_over.false))
+          c.in_ok-balance.ensures.told c.in_ok-balance.ensures.seeking w.seeker-is
       | in-Open w ↦ subst N (sym w.seeker-is) (under_open c.args.book.now c.args.limit left c.loop.seeker
           c.make_try.new.self w.go_on.new.self at c.in_ok-balance.ensures.about c.in_ok-balance.ensures.within
           (omega (arith, c.loop.invariant.within)) c.in_ok-balance.ensures.best w.go_on.ensures.seeking
@@ -42,9 +43,11 @@ loop-preserved c =
 pub returns-in-Refuted : goal.returns-in-Refuted
 returns-in-Refuted c =
     let F : Assignment → Type 0 = λ b. b.stations ≤ c.args.book.now.state.best.stations in
-    refuted_sought c.args.book.now c.args.inst.now c.args.limit (c.loop.seeker.best.stations - 1) _
+    refuted_sought c.args.aim c.args.book.now c.args.inst.now c.args.limit c.asked_for-most.result _
     c.make_try.new.self c.refuted.result c.requires.same (c.in_ok-balance.ensures.about ∙ c.loop.invariant.about)
     (subst F (sym c.in_ok-balance.ensures.best) c.loop.invariant.few)
     (omega (arith, c.loop.invariant.within, c.in_ok-balance.ensures.within)) c.in_ok-balance.ensures.seeking
-    (ap (λ (b : Assignment). b.stations - 1) (sym c.in_ok-balance.ensures.best)) c.refuted.ensures.same
+    (c.asked_for-most.ensures
+    ∙ ap (λ (b : Assignment). asked_for c.args.aim b.stations) (sym c.in_ok-balance.ensures.best))
+    c.refuted.ensures.same
     c.refuted.ensures.lemmas c.refuted.ensures.answers

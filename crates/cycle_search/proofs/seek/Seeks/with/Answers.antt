@@ -1,0 +1,9 @@
+use Rattle.cycle_search.proofs.SeekFacts.{seeks_more}
+use Rattle.cycle_search.proofs.seek.Seeks.with.Goals as goal
+
+pub returns : goal.returns
+returns c = record {
+  seeks = λ plan same a.
+      seeks_more plan c.args.self _ c.args.used c.args.most c.requires.within same c.saturating_add.ensures
+      c.saturating_add-2.ensures a;
+}

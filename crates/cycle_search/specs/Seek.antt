@@ -1,0 +1,46 @@
+-- The seek at a tried cycle: what it may add to a book, what it comes to, and what the seeks of a search come to.
+use Rattle.std.specs.Prelude.{◌≡◌, ℕ, ◌+◌, ◌-◌, ◌*◌, ◌^◌, ◌≤◌, min, cond, nat_eq, List, ◌++◌, length, Some}
+use Rattle.line_rules.specs.Balance.{IsRight}
+use Rattle.line_rules.specs.Units.{UnitsOf}
+use Rattle.line_rules.specs.declared.types.Balance.{Balance as Assignment}
+use Rattle.line_rules.specs.declared.types.Entry.{Entry}
+use Rattle.lemma_core.specs.Books.{BookView, IsReserved}
+use Rattle.round_helpers.specs.Growth.{AreAtCycle}
+use Rattle.round_run.specs.declared.plans.Plan.{Plan}
+use Rattle.cycle_search.specs.declared.seek.Seeks.{Seeks}
+use Rattle.cycle_search.specs.declared.seek.SoughtBook.{SoughtBook}
+
+-- what the seek of a try may add to its book, in entries and in units: nothing where the plan has no seek, else
+-- 2,500,000 less twice the units of a try (own)
+abbrev pub seek_room : Plan → ℕ
+seek_room plan = cond (nat_eq plan.seek 0) 0 (2500000 - 2 * plan.units)
+
+-- what a try may add to its book: twice its units, and what its seek may (own)
+abbrev pub try_room : Plan → ℕ
+try_room plan = 2 * plan.units + seek_room plan
+
+-- The seeks of a search: so many were begun, each with the loads of the plan; and they listed no more. The counts stand
+-- still at 2^64 - 1. Own.
+pub record AreSeeks (plan : Plan) (s : Seeks) : Type 0 where
+  pub begun : ℕ
+  pub all : s.most ≡ min (begun * plan.seek) (2 ^ 64 - 1)
+  pub within : s.used ≤ s.most
+
+-- A seek for m stations over a book: the book gained entries at its cycle, no more than there is room for, and of no
+-- more units than are told, which the room holds too; a balance that was found is right, and has at most m stations;
+-- and the seeks of the search are still such. Own.
+pub record HasSoughtBook (m : ℕ) (plan : Plan) (old : BookView) (earlier : Seeks) (s : SoughtBook) : Type 0 where
+  pub about : s.book.about ≡ old.about
+  pub best : s.book.state.best ≡ old.state.best
+  pub reserved : IsReserved s.book
+  pub gained : List Entry
+  pub entries : s.book.state.entries ≡ old.state.entries ++ gained
+  pub cycles : AreAtCycle old.about.cycle gained
+  pub few : length gained ≤ seek_room plan
+  pub units : ℕ
+  pub counted : UnitsOf old.about.line gained units
+  pub paid : units ≤ s.paid
+  pub within : s.paid ≤ seek_room plan
+  pub found : (b : Assignment) → s.found ≡ Some b
+      → IsRight old.about.kind old.about.line old.about.cycle b × (b.stations ≤ m)
+  pub seeks : AreSeeks plan earlier → AreSeeks plan s.seeks
