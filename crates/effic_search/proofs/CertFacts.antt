@@ -1,9 +1,8 @@
 -- The certificate of a search is within its ranges and accepted, and what the search comes to.
-use Rattle.std.proofs.Common.{◌≡◌, ℕ, ◌+◌, ◌*◌, ◌^◌, ◌<◌, ◌≤◌, Bool, true, cond, List, length, take, Option}
-use Rattle.std.proofs.Common.{Some, None, ◌⊎◌}
-use Rattle.std.proofs.Common.{refl, sym, ap, ◌∙◌, subst, inl, inr, arith}
+use Rattle.std.proofs.Common.{◌≡◌, ℕ, ◌+◌, ◌*◌, ◌^◌, ◌<◌, ◌≤◌, ◌⊎◌, Bool, true, cond, List, ◌++◌, length, take}
+use Rattle.std.proofs.Common.{Option, Some, None, refl, sym, ap, ◌∙◌, subst, inl, inr, arith, append_assoc}
 use Rattle.std.specs.Prelude.{nat_eq}
-use Rattle.std.proofs.lemmas.Bool.{eq-eqb}
+use Rattle.std.proofs.lemmas.Bool.{eq-eqb, cases_lt}
 use Rattle.std.proofs.lemmas.Option.{slice_get_within}
 use Rattle.std.proofs.lemmas.Nat.{mul-le}
 use Rattle.std.proofs.Math.Seq.{take-length}
@@ -13,7 +12,7 @@ use Rattle.line_instance.specs.Line.{Line, IsLine, IsRanked, tasks}
 use Rattle.line_rules.specs.Balance.{IsRight, all_tasks}
 use Rattle.line_rules.specs.Entries.{IsDerived, IsFresh, IsFreshAt}
 use Rattle.line_rules.specs.Trails.{IsOpenOver}
-use Rattle.line_rules.specs.Ranges.{IsCycle, IsPlaced, IsPlacing, IsTrailOrNone}
+use Rattle.line_rules.specs.Ranges.{IsPlaced, IsPlacing, IsTrailOrNone}
 use Rattle.line_rules.specs.Units.{UnitsOf, UnitsIn, UnitsAt, entries_at}
 use Rattle.line_rules.specs.declared.types.LineKind.{LineKind}
 use Rattle.line_rules.specs.declared.types.Entry.{Entry}
@@ -25,12 +24,13 @@ use Rattle.line_rules.proofs.ReadPlaces.{seat_read}
 use Rattle.lemma_core.specs.Own.{AreStatable}
 use Rattle.budget_law.specs.Budget.{states}
 use Rattle.budget_law.proofs.FewUnits.{units_few}
+use Rattle.round_helpers.specs.Growth.{AreAtCycle}
 use Rattle.cycle_search.specs.rounds.declared.plans.Plan.{Plan}
 use Rattle.cycle_search.proofs.about_rounds.Sayable.{entries_ok, trail_ok, all_are_tasks}
 use Rattle.line_rules.specs.Products.{IsSayable}
 use Rattle.line_rules.specs.declared.products.EfficCert.{EfficCert}
 use Rattle.effic_check.specs.Accepted.{IsAccepted, HasTrail}
-use Rattle.effic_check.specs.Truth.{IsBetween, NoneBelow}
+use Rattle.effic_check.specs.Truth.{NoneBelow}
 use Rattle.effic_check.proofs.AcceptedIsTrue.{between}
 use Rattle.effic_search.specs.Counted.{others}
 use Rattle.effic_search.specs.Since.{IsSinceGoal}
@@ -38,14 +38,15 @@ use Rattle.effic_search.specs.inner.Going.{HaveCycles, IsLowering, IsGoing, IsLe
 use Rattle.effic_search.specs.inner.Going.{HasFewUnits}
 use Rattle.effic_search.specs.inner.Going.{product_of, entries_of}
 use Rattle.effic_search.specs.Lowest.{IsLowest}
-use Rattle.effic_search.specs.Outcomes.{IsCertified, IsSolved, IsSpent, IsLarge, StoppedBy, AreEnough}
+use Rattle.effic_search.specs.Outcomes.{IsCertified, IsSolved, IsSpent, IsLarge, IsCutShort, StoppedBy}
+use Rattle.effic_search.specs.Outcomes.{AreEnough}
 use Rattle.effic_search.specs.declared.searching.Ended.{Ended}
 use Rattle.effic_search.specs.declared.searching.Ended.TheVariants as ended
 use Rattle.effic_search.specs.declared.lowering.Lowering.{Lowering}
 use Rattle.effic_search.proofs.LowestFacts.{lowest_closed, lowest_meets, lowest_below}
-use Rattle.effic_search.proofs.SinceFacts.{since_units}
+use Rattle.effic_search.proofs.SinceFacts.{at_behind, units_at_end}
 use Rattle.effic_search.proofs.SizeFacts.{large_budget}
-use Rattle.effic_search.proofs.TryFacts.{below_upper, none_too_long, product_some}
+use Rattle.effic_search.proofs.TryFacts.{left_cycle, none_too_long, product_some}
 
 -- a right balance in 1 to 1,024 stations
 placing : (kind : LineKind) (line : Line) (c : ℕ) (b : Assignment) → IsLine line → IsRight kind line c b
@@ -98,17 +99,12 @@ module _ (kind : LineKind) (line : Line) (least most : ℕ) (h : Lowering) (ok :
         omega (arith, a, r.5)
   ]
 
-  cycle_ok : (m X : ℕ) → IsLeftAt line least most m X h → IsCycle X
-  cycle_ok m X left = record {
-    some = left.some;
-    limit = omega (arith, below_upper kind line least most m X h l left.from left.near, l.bounded);
-  }
-
   trail_said : (trail : Option Trail) → HasTrailBy kind line least most h trail
       → IsTrailOrNone (tasks line) (length (entries_of h)) trail
   trail_said None t = tt
   trail_said (Some t) s =
-      trail_ok kind line t.cycle (entries_of h) (all_tasks line) s.0 t.frames (cycle_ok s.0 t.cycle s.2)
+      trail_ok kind line t.cycle (entries_of h) (all_tasks line) s.0 t.frames
+      (left_cycle kind line least most s.0 t.cycle h l s.2)
       (all_are_tasks line ok) (omega (arith, s.1, ok.small)) s.3
 
   trail_valid : (trail whole : Option Trail) → HasTrailBy kind line least most h trail
@@ -157,6 +153,7 @@ module _ (kind : LineKind) (line : Line) (least most : ℕ) (h : Lowering) (ok :
       accepted = accepted;
       few = omega (arith, l.within, units.2);
       true_bounds = between line ok (cert_of trail) sayable (h.listed.units + units.0) accepted;
+      first = l.first;
       lowest = low;
       tight = l.tight;
     }
@@ -193,10 +190,6 @@ module _ (kind : LineKind) (line : Line) (least most : ℕ) (h : Lowering) (ok :
         let C : List Entry → Type 0 = λ z. P (tasks line) (product_of h) z in
         subst A (sym n_is) (subst B (sym upper_is) (subst C (sym es_is) certified_is))
 
-  -- the bounds alone
-  pub bounds_true : IsBetween kind line least most lower (product_of h)
-  bounds_true = (certified_is None tt (0, refl, omega arith)).true_bounds
-
 -- what a book says of its entries, said of a search
 pub derived_of : (kind : LineKind) (line : Line) (least most : ℕ) (h : Lowering) (es : List Entry)
     → IsLowering kind line least most h → es ≡ entries_of h → IsDerived h.book.about.kind h.book.about.line es
@@ -209,7 +202,8 @@ derived_of kind line least most h es l are d =
 
 -- the trail of a try whose units ended
 module _ (kind : LineKind) (line : Line) (least most : ℕ) (plan : Plan) (h : Lowering) (frames : List OpenFrame) (X : ℕ)
-    (at : X ≡ h.book.about.cycle) (s : IsStuck kind line least most plan h frames) where
+    (closing_from : ℕ) (at : X ≡ h.book.about.cycle)
+    (s : IsStuck kind line least most plan h frames closing_from) where
   pub trail_by : HasTrailBy kind line least most h (Some (record { cycle = X; frames = frames }))
   trail_by =
       let P : ℕ → Type 0 = λ z. HasTrailBy kind line least most h (Some (record { cycle = z; frames = frames })) in
@@ -219,6 +213,32 @@ module _ (kind : LineKind) (line : Line) (least most : ℕ) (plan : Plan) (h : L
   few_by =
       let P : ℕ → Type 0 = λ z. HasFewUnits line (Some (record { cycle = z; frames = frames })) in
       subst P (sym at) (s.listed, s.frame_units, s.within)
+
+-- the bounds of a certificate met, or they differ
+module _ (kind : LineKind) (line : Line) (least most : ℕ) (cert : EfficCert)
+    (c : IsCertified kind line least most cert) where
+  pub met_is : cert.trail ≡ None → cert.lower ≡ cert.upper → IsSolved kind line least most cert
+  met_is none same =
+      let P : ℕ → Type 0 = λ z. NoneBelow kind line least most z in
+      record {
+        certified = c;
+        meet = same;
+        none = none;
+        least_one = record {
+          reached = c.true_bounds.reached;
+          least_one = subst P same c.true_bounds.none;
+        };
+      }
+
+  pub cut_is : (cert.lower ≡ cert.upper → ⊥) → IsCutShort kind line least most cert.lower cert.upper
+  cut_is apart = record {
+    true_bounds = c.true_bounds;
+    below = elim (cases_lt cert.lower cert.upper) [
+      | inl l ↦ l
+      | inr more ↦ absurd (apart (omega (arith, more, c.lowest.within)))
+    ];
+    first = c.first;
+  }
 
 -- what a certificate of a search shows, where its bounds and lists are those of the search
 module _ (kind : LineKind) (line : Line) (least most : ℕ) (h : Lowering) (ok : IsLine line) (some : 1 ≤ least)
@@ -236,17 +256,7 @@ module _ (kind : LineKind) (line : Line) (least most : ℕ) (h : Lowering) (ok :
       let meet : cert.lower ≡ product_of h =
       lowest_meets line (entries_of h) least (most + 1) (product_of h) cert.lower lowest_here
       (λ m from to. going.closed m from to) some in
-      let same : cert.lower ≡ cert.upper = meet ∙ sym upper in
-      let P : ℕ → Type 0 = λ z. NoneBelow kind line least most z in
-      record {
-        certified = c;
-        meet = same;
-        none = none;
-        least_one = record {
-          reached = c.true_bounds.reached;
-          least_one = subst P same c.true_bounds.none;
-        };
-      }
+      met_is kind line least most cert c none (meet ∙ sym upper)
 
   left_below : (m X : ℕ) → IsLeftAt line least most m X h → cert.lower < cert.upper
   left_below m X left = omega (
@@ -257,9 +267,10 @@ module _ (kind : LineKind) (line : Line) (least most : ℕ) (h : Lowering) (ok :
   )
 
   -- the book was too large
-  pub large_is : IsRanked line → cert.trail ≡ None → IsFresh (entries_of h) → IsDerived kind line (entries_of h)
-      → IsDue kind line least most h → IsLarge kind line least most cert
-  large_is ranked none fresh derived due =
+  pub large_is : IsRanked line → cert.trail ≡ None → (closing_from : ℕ) → closing_from ≡ length (entries_of h)
+      → IsFresh (entries_of h) → IsDerived kind line (entries_of h) → IsDue kind line least most h
+      → IsLarge kind line least most cert closing_from
+  large_is ranked none closing_from from fresh derived due =
       let F : List Entry → Type 0 = λ z. IsFresh z in
       let U : List Entry → Type 0 = λ z. UnitsOf line z h.listed.units in
       let H : List Entry → Type 0 = λ z. HaveCycles line z in
@@ -278,6 +289,7 @@ module _ (kind : LineKind) (line : Line) (least most : ℕ) (h : Lowering) (ok :
         certified = c;
         below = left_below due.m due.X due.left;
         none = none;
+        from = from ∙ ap (λ (z : List Entry). length z) (sym entries);
         fresh = subst F (sym entries) fresh;
         units = h.listed.units;
         counted = subst U all due.lowering.counted.units;
@@ -298,16 +310,18 @@ module _ (kind : LineKind) (line : Line) (least most : ℕ) (h : Lowering) (ok :
   -- the units of a try ended
   pub spent_is : IsRanked line → (plan : Plan) (frames : List OpenFrame) (trail : Trail)
       → trail ≡ record { cycle = h.book.about.cycle; frames = frames } → cert.trail ≡ Some trail
-      → IsFresh (entries_of h) → IsDerived kind line (entries_of h) → IsStuck kind line least most plan h frames
-      → IsSpent kind line least most plan cert
-  spent_is ranked plan frames trail is has fresh derived s =
+      → (closing_from : ℕ) → IsFresh (entries_of h) → IsDerived kind line (entries_of h)
+      → IsStuck kind line least most plan h frames closing_from → IsSpent kind line least most plan cert closing_from
+  spent_is ranked plan frames trail is has closing_from fresh derived s =
       let X : ℕ = h.book.about.cycle in
       let t : Trail = record { cycle = X; frames = frames } in
       let es : List Entry = entries_of h in
       let U : List Entry → Type 0 = λ z. UnitsOf line z h.listed.units in
       let all : UnitsOf line es h.listed.units = subst U (take-length es) s.lowering.counted.units in
+      let split : es ≡ (s.front ++ s.sought) ++ s.since = s.added ∙ sym (append_assoc s.front s.sought s.since) in
+      let round : AreAtCycle X s.since = at_behind X s.sought s.since s.tried in
       let at : (more : ℕ) × UnitsOf line (entries_at X es) (more + s.published) =
-      since_units line X es s.since h.listed.units s.published s.goal all s.entry_units in
+      units_at_end X line es (s.front ++ s.sought) s.since h.listed.units s.published split round all s.entry_units in
       let e : nat_eq X X ≡ true = eq-eqb X X refl in
       let R : Bool → Type 0 = λ z. cond z (UnitsIn line X frames s.listed) (s.listed ≡ 0) in
       let whole : UnitsAt line X es (Some t) (at.0 + s.published + s.listed) =
@@ -319,6 +333,7 @@ module _ (kind : LineKind) (line : Line) (least most : ℕ) (h : Lowering) (ok :
       let E : List Entry → Type 0 = λ z. IsOpenOver line X z frames in
       let F : List Entry → Type 0 = λ z. IsFreshAt X z in
       let G : List Entry → Type 0 = λ z. IsSinceGoal line X z s.since in
+      let A : Trail → Type 0 = λ z. AreAtCycle z.cycle (s.sought ++ s.since) in
       let O : Trail → Type 0 = λ z. IsOpenOver line z.cycle cert.entries z.frames in
       let P : Trail → Type 0 = λ z. IsFreshAt z.cycle cert.entries in
       let Q : Trail → Type 0 = λ z. IsSinceGoal line z.cycle cert.entries s.since in
@@ -331,10 +346,14 @@ module _ (kind : LineKind) (line : Line) (least most : ℕ) (h : Lowering) (ok :
         opens = subst O (sym is) (subst E (sym entries) s.opens);
         fresh = subst P (sym is) (subst F (sym entries) fresh_at);
         front = s.front;
+        sought = s.sought;
         since = s.since;
         added = entries ∙ s.added;
+        from = s.from;
         few = s.small;
-        goal = subst Q (sym is) (subst G (sym entries) s.goal);
+        tried = subst A (sym is) s.tried;
+        room = s.room;
+        goal = λ seekless. subst Q (sym is) (subst G (sym entries) (s.goal seekless));
         published = s.published;
         listed = s.listed;
         entry_units = s.entry_units;
@@ -346,12 +365,15 @@ module _ (kind : LineKind) (line : Line) (least most : ℕ) (h : Lowering) (ok :
 
 -- the certificate of a search that stopped is one of the question
 pub stopped_certified : (why : Ended) (kind : LineKind) (line : Line) (least most : ℕ) (plan : Plan) (cert : EfficCert)
-    → StoppedBy why kind line least most plan cert → IsCertified kind line least most cert
-stopped_certified ended.Units kind line least most plan cert s = s.certified
-stopped_certified ended.Size kind line least most plan cert s = s.certified
+    (closing_from : ℕ) → StoppedBy why kind line least most plan cert closing_from
+    → IsCertified kind line least most cert
+stopped_certified ended.Units kind line least most plan cert closing_from s = s.certified
+stopped_certified ended.Size kind line least most plan cert closing_from s = s.certified
 
 -- with enough units no search stops
 pub never_stopped : (why : Ended) (kind : LineKind) (line : Line) (least most : ℕ) (plan : Plan) (cert : EfficCert)
-    → StoppedBy why kind line least most plan cert → AreEnough kind line plan.units → cert.lower ≡ cert.upper
-never_stopped ended.Units kind line least most plan cert s e = absurd (omega (arith, s.budget, e.units))
-never_stopped ended.Size kind line least most plan cert s e = absurd (omega (arith, s.budget, e.size))
+    (closing_from : ℕ) → StoppedBy why kind line least most plan cert closing_from → AreEnough kind line plan.units
+    → cert.lower ≡ cert.upper
+never_stopped ended.Units kind line least most plan cert closing_from s e =
+    absurd (omega (arith, s.budget, e.units))
+never_stopped ended.Size kind line least most plan cert closing_from s e = absurd (omega (arith, s.budget, e.size))

@@ -4,6 +4,8 @@ pub mod CountFacts
 pub mod LowestFacts
 pub mod StartFacts
 pub mod TryFacts
+pub mod GainFacts
+pub mod AnswerFacts
 pub mod CertFacts
 pub mod LookFacts
 pub mod CycleSums

@@ -1,5 +1,5 @@
 -- The entries of a cycle behind the last one of all tasks, as entries are added.
-use Rattle.std.proofs.Common.{◌≡◌, ℕ, ◌+◌, List, [], ◌∷◌, ◌++◌, refl, sym, ap, ◌∙◌, subst, inl, inr, Some}
+use Rattle.std.proofs.Common.{◌≡◌, ℕ, ◌+◌, List, [], ◌∷◌, ◌++◌, length, refl, sym, ap, ◌∙◌, subst, inl, inr, Some}
 use Rattle.std.proofs.Common.{append_assoc}
 use Rattle.std.specs.Prelude.{slice_get}
 use Rattle.std.proofs.lemmas.List.{append-nil}
@@ -11,6 +11,7 @@ use Rattle.station_search.proofs.Events.{get_append_cases}
 use Rattle.round_helpers.specs.Growth.{AreAtCycle}
 use Rattle.cycle_search.proofs.BehindFacts.{none_at}
 use Rattle.effic_search.specs.Since.{IsSinceGoal}
+use Rattle.effic_search.proofs.ListFacts.{get_behind}
 use Rattle.cycle_search.proofs.about_rounds.Endings.{at_both, all_at, units_front, units_some}
 use Rattle.line_rules.proofs.ListUnits.{units_both}
 
@@ -78,16 +79,20 @@ since_more line X es more at none s = record {
       sym here;
 }
 
--- the entries at the cycle have those units more that the entries before have
-pub since_units : (line : Line) (X : ℕ) (es since : List Entry) (all published : ℕ) → IsSinceGoal line X es since
-    → UnitsOf line es all → UnitsOf line since published
+-- the second of two lists is at a cycle where both are
+pub at_behind : (X : ℕ) (xs ys : List Entry) → AreAtCycle X (xs ++ ys) → AreAtCycle X ys
+at_behind X xs ys both k e g = both (k + length xs) e (get_behind xs ys k (k + length xs) e g refl)
+
+-- entries at a cycle have their units more there than the entries before them
+pub units_at_end : (X : ℕ) (line : Line) (es before since : List Entry) (all published : ℕ) → es ≡ before ++ since
+    → AreAtCycle X since → UnitsOf line es all → UnitsOf line since published
     → (more : ℕ) × UnitsOf line (entries_at X es) (more + published)
-since_units line X es since all published s u p =
+units_at_end X line es before since all published is at u p =
     let U : List Entry → Type 0 = λ z. UnitsOf line z all in
-    let first : (a : ℕ) × UnitsOf line s.before a = units_front line s.before s.behind all (subst U s.all u) in
-    let at : (b : ℕ) × UnitsOf line (entries_at X s.before) b = units_some line X s.before first.0 first.1 in
-    let V : List Entry → Type 0 = λ z. UnitsOf line z (at.0 + published) in
-    let here : entries_at X s.before ++ since ≡ entries_at X es =
-    ap (λ (z : List Entry). entries_at X s.before ++ z) s.are
-    ∙ (sym (at_both X s.before s.behind) ∙ ap (λ (z : List Entry). entries_at X z) (sym s.all)) in
-    (at.0, subst V here (units_both line (entries_at X s.before) since at.0 published at.1 p))
+    let first : (a : ℕ) × UnitsOf line before a = units_front line before since all (subst U is u) in
+    let some : (b : ℕ) × UnitsOf line (entries_at X before) b = units_some line X before first.0 first.1 in
+    let V : List Entry → Type 0 = λ z. UnitsOf line z (some.0 + published) in
+    let here : entries_at X before ++ since ≡ entries_at X es =
+    ap (λ (z : List Entry). entries_at X before ++ z) (sym (all_at X since at))
+    ∙ (sym (at_both X before since) ∙ ap (λ (z : List Entry). entries_at X z) (sym is)) in
+    (some.0, subst V here (units_both line (entries_at X before) since some.0 published some.1 p))

@@ -30,6 +30,9 @@ use Rattle.lemma_core.specs.declared.types.Published.{Published}
 use Rattle.lemma_core.specs.declared.types.Published.TheVariants as published
 use Rattle.lemma_core.proofs.Runs.{last_found}
 use Rattle.station_search.proofs.Events.{get_append_cases}
+use Rattle.cycle_search.specs.rounds.declared.plans.Plan.{Plan}
+use Rattle.cycle_search.specs.Seek.{AreSeeks}
+use Rattle.cycle_search.specs.declared.seek.Seeks.{Seeks}
 use Rattle.cycle_search.specs.Ends.{NoneApart, first_lower, first_upper, at_first}
 use Rattle.cycle_search.proofs.EndFacts.{first_right}
 use Rattle.effic_search.specs.Counted.{other, others, IsCounted}
@@ -257,3 +260,9 @@ going_begins kind line least most h ok none some order few book cycle limit bala
       clear = λ X one near. book.clear X;
       closed = λ s from to. absurd (omega (arith, from, to));
     }
+
+-- before its first try a search has no seek
+pub none_yet : (plan : Plan) (h : Lowering) → h.seeks ≡ record { used = 0; most = 0; kept = 0 } → AreSeeks plan h.seeks
+none_yet plan h none =
+    let S : Seeks → Type 0 = λ z. AreSeeks plan z in
+    subst S (sym none) (record { begun = 0; all = omega arith; within = omega arith })

@@ -1,5 +1,5 @@
 -- What the entries of a book are, but for those by Bound.
-use Rattle.std.specs.Prelude.{◌≡◌, ℕ, ◌+◌, ◌≤◌, List, [], ◌∷◌, take}
+use Rattle.std.specs.Prelude.{◌≡◌, ℕ, ◌+◌, ◌≤◌, List, [], ◌∷◌, length, take}
 use Rattle.line_instance.specs.Line.{Line}
 use Rattle.line_rules.specs.Units.{UnitsOf}
 use Rattle.line_rules.specs.declared.types.Entry.{Entry}
@@ -23,6 +23,13 @@ others (e ∷ es) = other e.why + others es
 pub record IsCounted (line : Line) (es : List Entry) (from : ℕ) (listed : Listed) : Type 0 where
   pub entries : listed.entries ≡ others (take from es)
   pub units : UnitsOf line (take from es) listed.units
+
+-- so many entries at most, of no more units (own)
+pub record IsWithin (line : Line) (es : List Entry) (room : ℕ) : Type 0 where
+  pub few : length es ≤ room
+  pub units : ℕ
+  pub counted : UnitsOf line es units
+  pub paid : units ≤ room
 
 -- Entries with which a try is made: they have at most 4,000,000 units, and at most 4,000,000 of them aren't by Bound.
 pub record AreFew (line : Line) (es : List Entry) : Type 0 where

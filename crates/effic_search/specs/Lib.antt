@@ -4,3 +4,4 @@ pub mod Lowest
 pub mod Outcomes
 pub mod inner
 pub use Rattle.cycle_search.specs.rounds as rounds
+pub use Rattle.cycle_search.specs as cycles

@@ -1,5 +1,6 @@
 -- What a search for the least product of stations and cycle comes to.
-use Rattle.std.specs.Prelude.{◌≡◌, ◌≢◌, ◌⊎◌, ℕ, ◌+◌, ◌*◌, ◌^◌, ◌<◌, ◌≤◌, max, List, ◌++◌, slice_get}
+use Rattle.std.specs.Prelude.{◌≡◌, ◌≢◌, ◌⊎◌, ℕ, ◌+◌, ◌*◌, ◌^◌, ◌<◌, ◌≤◌, max, List, ◌++◌}
+use Rattle.std.specs.Prelude.{length, slice_get}
 use Rattle.std.specs.Prelude.{Some, None}
 use Rattle.line_instance.specs.Line.{Line, tasks}
 use Rattle.line_rules.specs.Balance.{IsRight, all_tasks}
@@ -13,12 +14,15 @@ use Rattle.line_rules.specs.declared.types.Trail.{Trail}
 use Rattle.line_rules.specs.declared.types.Why.TheVariants as why
 use Rattle.line_rules.specs.Times.{longest_of}
 use Rattle.budget_law.specs.Budget.{states}
+use Rattle.round_helpers.specs.Growth.{AreAtCycle}
 use Rattle.cycle_search.specs.rounds.declared.plans.Plan.{Plan}
+use Rattle.cycle_search.specs.Ends.{first_upper}
+use Rattle.cycle_search.specs.Seek.{AreSeeks, seek_room}
 use Rattle.line_rules.specs.Products.{IsSayable}
 use Rattle.line_rules.specs.declared.products.EfficCert.{EfficCert}
 use Rattle.effic_check.specs.Accepted.{IsAccepted}
 use Rattle.effic_check.specs.Truth.{IsBetween, IsLeastProduct}
-use Rattle.effic_search.specs.Counted.{others, AreFew}
+use Rattle.effic_search.specs.Counted.{others, AreFew, IsWithin}
 use Rattle.effic_search.specs.Lowest.{IsLowest}
 use Rattle.effic_search.specs.Since.{IsSinceGoal}
 use Rattle.effic_search.specs.declared.searching.Ended.{Ended}
@@ -27,8 +31,9 @@ use Rattle.effic_search.specs.declared.searching.EfficOutcome.{EfficOutcome}
 use Rattle.effic_search.specs.declared.searching.EfficOutcome.TheVariants as outcome
 
 -- A certificate of the question: of this kind and this range of stations, within the ranges of its text, and accepted
--- with so many units, which are few enough for the default steps of the check; its bounds are true, the lower one is
--- the one that its entries show, and at no cycle from 1 on below its own its balance is right.
+-- with so many units, which are few enough for the default steps of the check. Its bounds are true. The upper one is no
+-- greater than the product of all tasks at the first of the fewest stations; the lower one is the one that its entries
+-- show. At no cycle from 1 on below its own its balance is right.
 pub record IsCertified (kind : LineKind) (line : Line) (least most : ℕ) (cert : EfficCert) : Type 0 where
   pub kind_is : cert.kind ≡ kind
   pub least_is : cert.least_m ≡ least
@@ -38,6 +43,7 @@ pub record IsCertified (kind : LineKind) (line : Line) (least most : ℕ) (cert 
   pub accepted : IsAccepted line cert units
   pub few : units ≤ 20000000
   pub true_bounds : IsBetween kind line least most cert.lower cert.upper
+  pub first : cert.upper ≤ least * first_upper line
   pub lowest : IsLowest line cert.entries least (most + 1) cert.upper cert.lower
   pub tight : (c : ℕ) → 1 ≤ c → IsRight kind line c cert.balance → cert.cycle ≤ c
 
@@ -48,11 +54,14 @@ pub record IsSolved (kind : LineKind) (line : Line) (least most : ℕ) (cert : E
   pub none : cert.trail ≡ None
   pub least_one : IsLeastProduct kind line least most cert.upper
 
--- The N units of a try ended, and one more load was needed: the bounds differ, and the trail is at the tried cycle X,
--- open over the entries, which are fresh at X; it and the entries of cycle X behind the last one of all tasks at X,
--- which are those of the try, have at least N units, and exactly so many where there are no helpers; the entries before
--- the try were few enough for it; and N is below what the budget law allows.
-pub record IsSpent (kind : LineKind) (line : Line) (least most : ℕ) (plan : Plan) (cert : EfficCert) : Type 0 where
+-- The N units of a try ended, and one more load was needed: the bounds differ. The trail is at the tried cycle X, open
+-- over the entries, which are fresh at X. First stand the entries before the try, which were few enough for it. Behind
+-- them are those of its seek, of cycle X, for which there was room: none where the plan has no seek. From the number
+-- `closing_from` on stand those of its round, of cycle X. They and the trail have at least N units, and exactly so many
+-- where there are no helpers. Where the plan has no seek, they are the entries of cycle X behind the last one of all
+-- tasks at X. N is below what the budget law allows. (Own.)
+pub record IsSpent (kind : LineKind) (line : Line) (least most : ℕ) (plan : Plan) (cert : EfficCert)
+    (closing_from : ℕ) : Type 0 where
   pub certified : IsCertified kind line least most cert
   pub below : cert.lower < cert.upper
   pub trail : Trail
@@ -60,10 +69,14 @@ pub record IsSpent (kind : LineKind) (line : Line) (least most : ℕ) (plan : Pl
   pub opens : IsOpenOver line trail.cycle cert.entries trail.frames
   pub fresh : IsFreshAt trail.cycle cert.entries
   pub front : List Entry
+  pub sought : List Entry
   pub since : List Entry
-  pub added : cert.entries ≡ front ++ since
+  pub added : cert.entries ≡ front ++ (sought ++ since)
+  pub from : closing_from ≡ length front + length sought
   pub few : AreFew line front
-  pub goal : IsSinceGoal line trail.cycle cert.entries since
+  pub tried : AreAtCycle trail.cycle (sought ++ since)
+  pub room : IsWithin line sought (seek_room plan)
+  pub goal : plan.seek ≡ 0 → IsSinceGoal line trail.cycle cert.entries since
   pub published : ℕ
   pub listed : ℕ
   pub entry_units : UnitsOf line since published
@@ -75,11 +88,13 @@ pub record IsSpent (kind : LineKind) (line : Line) (least most : ℕ) (plan : Pl
 -- A try was due, and the book was too large for it: the bounds differ, and the entries, which are fresh, have more than
 -- 4,000,000 units or more than 4,000,000 of them aren't by Bound; each such entry has a cycle from the longest time to
 -- the greater of 1 and the total. So the line is large: of n tasks, (n + 1) x 4^n times the greater of 1 and the total
--- is more than 4,000,000.
-pub record IsLarge (kind : LineKind) (line : Line) (least most : ℕ) (cert : EfficCert) : Type 0 where
+-- is more than 4,000,000. No round stopped, so all entries stand before `closing_from`.
+pub record IsLarge (kind : LineKind) (line : Line) (least most : ℕ) (cert : EfficCert)
+    (closing_from : ℕ) : Type 0 where
   pub certified : IsCertified kind line least most cert
   pub below : cert.lower < cert.upper
   pub none : cert.trail ≡ None
+  pub from : closing_from ≡ length cert.entries
   pub fresh : IsFresh cert.entries
   pub units : ℕ
   pub counted : UnitsOf line cert.entries units
@@ -89,9 +104,17 @@ pub record IsLarge (kind : LineKind) (line : Line) (least most : ℕ) (cert : Ef
   pub budget : 4000000 < (tasks line + 1) * 4 ^ tasks line * max (total_time line) 1
 
 -- why a search stopped, and what its certificate has then
-abbrev pub StoppedBy : Ended → LineKind → Line → ℕ → ℕ → Plan → EfficCert → Type 0
-StoppedBy ended.Units kind line least most plan cert = IsSpent kind line least most plan cert
-StoppedBy ended.Size kind line least most plan cert = IsLarge kind line least most cert
+abbrev pub StoppedBy : Ended → LineKind → Line → ℕ → ℕ → Plan → EfficCert → ℕ → Type 0
+StoppedBy ended.Units kind line least most plan cert closing_from =
+    IsSpent kind line least most plan cert closing_from
+StoppedBy ended.Size kind line least most plan cert closing_from = IsLarge kind line least most cert closing_from
+
+-- Memory ended after the first balance: the bounds are true and differ, and the upper one is no greater than the
+-- product of all tasks at the first of the fewest stations. (Own.)
+pub record IsCutShort (kind : LineKind) (line : Line) (least most lower upper : ℕ) : Type 0 where
+  pub true_bounds : IsBetween kind line least most lower upper
+  pub below : lower < upper
+  pub first : upper ≤ least * first_upper line
 
 -- Units of a try that are enough for a line: of n tasks at least (n + 1) x 3^n, on a U-line (n + 1) x 4^n; and the line
 -- is so small that its book can't become too large: (n + 1) x 4^n times the greater of 1 and the total is at most
@@ -101,9 +124,11 @@ pub record AreEnough (kind : LineKind) (line : Line) (N : ℕ) : Type 0 where
   pub size : (tasks line + 1) * 4 ^ tasks line * max (total_time line) 1 ≤ 4000000
 
 -- What is answered for `least` to `most` stations: the least product; or bounds, where the units of a try ended, the
--- book was too large for a try, or memory ended. Out of memory is free.
+-- book was too large for a try, or memory ended. The seeks are those of the plan. Out of memory is free.
 abbrev pub Lowers : LineKind → Line → ℕ → ℕ → Plan → EfficOutcome → Type 0
-Lowers kind line least most plan (outcome.Solved cert) = IsSolved kind line least most cert
-Lowers kind line least most plan (outcome.Stopped why cert) = StoppedBy why kind line least most plan cert
-Lowers kind line least most plan (outcome.Memory lower upper) = IsBetween kind line least most lower upper
+Lowers kind line least most plan (outcome.Solved cert seeks) =
+    IsSolved kind line least most cert × AreSeeks plan seeks
+Lowers kind line least most plan (outcome.Stopped why cert closing_from seeks) =
+    StoppedBy why kind line least most plan cert closing_from × AreSeeks plan seeks
+Lowers kind line least most plan (outcome.Memory lower upper) = IsCutShort kind line least most lower upper
 Lowers kind line least most plan outcome.NoMemory = Unit {0}

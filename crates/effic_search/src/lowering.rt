@@ -4,6 +4,7 @@ ghost use Rattle.effic_check.specs.Accepted.{cycle_below};
 ghost use Rattle.effic_search.specs.inner.Going.{product_of};
 
 use crate::counting::Listed;
+use cycle_search::Seeks;
 use lemma_core::Book;
 use line_rules::{Balance, LineKind};
 
@@ -29,6 +30,8 @@ pub(crate) struct Lowering {
     pub book: Book,
     /// What the entries of the book are.
     pub listed: Listed,
+    /// The seeks so far.
+    pub seeks: Seeks,
 }
 
 impl Lowering {

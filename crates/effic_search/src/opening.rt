@@ -7,7 +7,7 @@ ghost use Rattle.effic_search.specs.inner.Opening.{AddsGoal};
 
 use crate::counting::Listed;
 use crate::lowering::{Lowering, Wanted};
-use cycle_search::{all_at_first, first_ends, open_book};
+use cycle_search::{Seeks, all_at_first, first_ends, open_book};
 use lemma_core::{Book, Published};
 use line_instance::Instance;
 use line_rules::{Entry, Why};
@@ -47,7 +47,8 @@ pub(crate) fn begin(alloc: Global, inst: &Instance, wanted: Wanted) -> Result<Lo
     requires some { 1 ≤ wanted.least }
     requires order { wanted.least ≤ wanted.most }
     requires few { wanted.most ≤ 1024 }
-    ensures { IfOk result (IsGoing wanted.kind inst.now wanted.least wanted.most wanted.least) }
+    ensures going { IfOk result (IsGoing wanted.kind inst.now wanted.least wanted.most wanted.least) }
+    ensures none_yet { IfOk result (λ h. h.seeks ≡ record { used = 0; most = 0; kept = 0 }) }
 {
     let _tasks = inst.tasks();
     let ends = first_ends(inst, wanted.least);
@@ -64,5 +65,6 @@ pub(crate) fn begin(alloc: Global, inst: &Instance, wanted: Wanted) -> Result<Lo
             entries: 0,
             units: 0,
         },
+        seeks: Seeks::none(),
     })
 }

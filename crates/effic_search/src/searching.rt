@@ -3,18 +3,17 @@ ghost use Rattle.std.specs.Prelude.{◌≡◌, ◌≤◌, ◌+◌, IfOk};
 ghost use Rattle.line_rules.specs.Entries.{IsDerived, IsFresh};
 ghost use Rattle.cycle_search.specs.rounds.Plans.{IsPlan};
 ghost use Rattle.cycle_search.specs.rounds.declared.plans.Plan.{Plan as Planned};
+ghost use Rattle.cycle_search.specs.Seek.{AreSeeks};
 ghost use Rattle.effic_check.specs.Accepted.{NoneApart};
-ghost use Rattle.effic_check.specs.Truth.{IsBetween};
 ghost use Rattle.effic_search.specs.inner.Going.{IsLowering, IsGoing, IsSettled, HasTrailBy, HasFewUnits};
 ghost use Rattle.effic_search.specs.inner.Going.{product_of, entries_of};
-ghost use Rattle.effic_search.specs.Lowest.{IsLowest};
 ghost use Rattle.effic_search.specs.Outcomes.{IsCertified, Lowers};
 
 use crate::counting::lowest;
 use crate::lowering::{Lowering, Wanted};
 use crate::opening::begin;
 use crate::settling::{Settled, settle};
-use cycle_search::{Gate, Plan};
+use cycle_search::{Gate, Plan, Seeks};
 use line_instance::Instance;
 use line_rules::{EfficCert, LineKind, Trail};
 use std::alloc::{AllocError, Global};
@@ -34,34 +33,25 @@ pub enum Ended {
 #[derive(Drop)]
 pub enum EfficOutcome {
     /// The least product, with its certificate: both bounds are it.
-    Solved(EfficCert),
-    /// Bounds on the least product that differ, with their certificate.
-    Stopped { why: Ended, cert: EfficCert },
-    /// Out of memory, with bounds on the least product.
-    Memory { lower: u128, upper: u128 },
+    Solved {
+        cert: EfficCert,
+        seeks: Seeks,
+    },
+    /// Bounds on the least product that differ, with their certificate. So many of its entries stand before those of
+    /// the last round: all of them, where no round stopped.
+    Stopped {
+        why: Ended,
+        cert: EfficCert,
+        closing_from: u64,
+        seeks: Seeks,
+    },
+    /// Out of memory, with bounds on the least product that differ.
+    Memory {
+        lower: u128,
+        upper: u128,
+    },
     /// Out of memory before there were bounds.
     NoMemory,
-}
-
-// The lower bound that the entries of a search show.
-fn shown(inst: &Instance, wanted: Wanted, search: &Lowering) -> u128
-    requires some { 1 ≤ wanted.least }
-    requires order { wanted.least ≤ wanted.most }
-    requires few { wanted.most ≤ 1024 }
-    requires lowering { IsLowering wanted.kind inst.now wanted.least wanted.most search.now }
-    ensures lowest { let most = wanted.most + 1 in
-        IsLowest inst.now (entries_of search.now) wanted.least most (product_of search.now) result }
-    ensures true_bounds { IsBetween wanted.kind inst.now wanted.least wanted.most result (product_of search.now) }
-{
-    let _tasks = inst.tasks();
-    let _entries = search.book.len();
-    lowest(
-        inst,
-        search.book.entries(),
-        wanted.least,
-        wanted.most,
-        search.product(),
-    )
 }
 
 // The certificate of a search, with the trail of a try that stopped.
@@ -81,12 +71,14 @@ fn certified(inst: &Instance, wanted: Wanted, search: Lowering, trail: Option<Tr
 {
     let tasks = inst.tasks();
     let upper = search.product();
-    let lower = shown(inst, wanted, &search);
+    let entries = search.book.entries();
+    let lower = lowest(inst, entries, wanted.least, wanted.most, upper);
     let Lowering {
         cycle,
         balance,
         book,
         listed: _,
+        seeks: _,
     } = search;
     let (entries, _best) = book.into_parts();
     EfficCert {
@@ -115,23 +107,47 @@ fn come_to(inst: &Instance, wanted: Wanted, settled: Settled) -> EfficOutcome
 {
     let _tasks = inst.tasks();
     match settled {
-        Settled::Goes(search) => EfficOutcome::Solved(certified(inst, wanted, search, None)),
-        Settled::Large(search) => EfficOutcome::Stopped {
-            why: Ended::Size,
-            cert: certified(inst, wanted, search, None),
-        },
-        Settled::Spent(search, frames) => {
+        Settled::Goes(search) => {
+            let seeks = search.seeks;
+            let cert = certified(inst, wanted, search, None);
+            EfficOutcome::Solved { cert, seeks }
+        }
+        Settled::Large(search) => {
+            let seeks = search.seeks;
+            let closing_from = search.book.len();
+            EfficOutcome::Stopped {
+                why: Ended::Size,
+                cert: certified(inst, wanted, search, None),
+                closing_from,
+                seeks,
+            }
+        }
+        Settled::Spent {
+            search,
+            frames,
+            closing_from,
+        } => {
+            let seeks = search.seeks;
             let cycle = search.book.cycle();
             let trail = Trail { cycle, frames };
             EfficOutcome::Stopped {
                 why: Ended::Units,
                 cert: certified(inst, wanted, search, Some(trail)),
+                closing_from,
+                seeks,
             }
         }
-        Settled::NoMemory(search) => EfficOutcome::Memory {
-            lower: shown(inst, wanted, &search),
-            upper: search.product(),
-        },
+        Settled::NoMemory(search) => {
+            let seeks = search.seeks;
+            let cert = certified(inst, wanted, search, None);
+            if cert.lower == cert.upper {
+                return EfficOutcome::Solved { cert, seeks };
+            }
+            EfficOutcome::Memory {
+                lower: cert.lower,
+                upper: cert.upper,
+            }
+        }
     }
 }
 
@@ -164,8 +180,9 @@ fn lowered<R: Threads + Wait + Sync, G: Gate>(
 /// The least product of stations and cycle, in `least_m` to `most_m` stations, 1 to 1,024, and at a cycle from 1 on in
 /// the instance's time unit, of which a line of this kind has a balance; or bounds on it, where the units of a try
 /// ended first, or the book grew too large for a try. Of the instance no pair is apart. Each cycle that is tried has
-/// the units of the plan anew, and so has each helper its part of them. Helpers run in threads, in any order; they meet
-/// the gate before each publish.
+/// the units of the plan anew, and so has each helper its part of them. Where the plan has a seek, each cycle at which
+/// the ranked balance fails has one of its own before. Helpers run in threads, in any order; they meet the gate before
+/// each publish.
 pub fn least_product<R: Threads + Wait + Sync, G: Gate>(
     rt: &R,
     alloc: Global,

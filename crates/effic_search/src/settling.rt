@@ -1,6 +1,7 @@
 //! All tries at one number of stations, until no smaller product is left open there.
 ghost use Rattle.std.specs.Prelude.{◌≡◌, ◌≤◌, ◌<◌, ◌⊎◌, true, false, IfOk};
 ghost use Rattle.cycle_search.specs.rounds.Plans.{IsPlan};
+ghost use Rattle.cycle_search.specs.Seek.{AreSeeks};
 ghost use Rattle.effic_search.specs.inner.Going.{IsGoing, IsSettled};
 
 use crate::counting::{Listed, is_closed};
@@ -17,8 +18,8 @@ use std::thread::Threads;
 /// of what a search writes stays well within its 20,000,000 steps.
 const MOST: u64 = 4_000_000;
 
-/// The most entries of a book with which a try is made: with more there isn't room for those of the try. A try with
-/// 3,000,000 units adds at most 6,000,001, and a certificate has at most 20,000,000.
+/// The most entries of a book with which a try is made: with more there isn't room for those of the try. A try adds at
+/// most 6,000,001 with its seek, and a certificate has at most 20,000,000.
 const ROOM: u64 = 13_999_999;
 
 /// What the tries at one number of stations come to.
@@ -28,8 +29,13 @@ pub(crate) enum Settled {
     Goes(Lowering),
     /// A try is due, and the book is too large for it.
     Large(Lowering),
-    /// The units of a try ended first: the open frames of its search at the cycle of the book.
-    Spent(Lowering, Frames),
+    /// The units of a try ended first: the open frames of its search at the cycle of the book, and how many entries
+    /// stand before those of its round.
+    Spent {
+        search: Lowering,
+        frames: Frames,
+        closing_from: u64,
+    },
     /// Memory ended first.
     NoMemory(Lowering),
 }
@@ -63,6 +69,7 @@ pub(crate) fn settle<R: Threads + Wait + Sync, G: Gate>(
     requires to { stations ≤ wanted.most }
     requires few { wanted.most ≤ 1024 }
     requires going { IsGoing wanted.kind inst.now wanted.least wanted.most stations search }
+    requires seeks { AreSeeks plan.now search.seeks }
     ensures { IfOk result (IsSettled wanted.kind inst.now wanted.least wanted.most stations plan.now) }
 {
     let _tasks = inst.tasks();
@@ -81,7 +88,17 @@ pub(crate) fn settle<R: Threads + Wait + Sync, G: Gate>(
         match try_cycle(rt, alloc, inst, wanted, stations, plan, gate, search, cycle)? {
             Tried::Refuted(closed) => return Ok(Settled::Goes(closed)),
             Tried::Found(better) => search = better,
-            Tried::Spent(stuck, frames) => return Ok(Settled::Spent(stuck, frames)),
+            Tried::Spent {
+                search,
+                frames,
+                closing_from,
+            } => {
+                return Ok(Settled::Spent {
+                    search,
+                    frames,
+                    closing_from,
+                });
+            }
             Tried::NoMemory(left) => return Ok(Settled::NoMemory(left)),
         }
     }

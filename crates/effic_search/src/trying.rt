@@ -1,21 +1,22 @@
 //! One try: whether all tasks have a balance in so many stations at a cycle.
 //!
-//! The ranked balance is made first, and where it has few enough stations nothing is searched. Else the question is
-//! decided over the book, which is reopened at the cycle.
+//! The ranked balance is made first, and where it has few enough stations nothing is searched. Else the book is
+//! reopened at the cycle, and the seek of the plan looks for a balance. Where it finds none, the question is decided
+//! over the book, with what the seek refuted.
 ghost use Rattle.std.specs.Prelude.{◌≡◌, ◌≤◌, ◌<◌, ℕ, length, IfOk};
-ghost use Rattle.line_rules.specs.Balance.{IsRight, all_tasks};
-ghost use Rattle.line_rules.specs.Entries.{HasAnswer};
+ghost use Rattle.line_instance.specs.Line.{tasks};
+ghost use Rattle.line_rules.specs.Balance.{IsRight};
+ghost use Rattle.line_rules.specs.Bounds.{IsTooLong};
 ghost use Rattle.line_rules.specs.Ranges.{IsCycle};
 ghost use Rattle.lemma_core.specs.Books.{IsReserved, MayBeBest};
 ghost use Rattle.cycle_search.specs.rounds.Plans.{IsPlan};
-ghost use Rattle.effic_check.specs.Accepted.{cycle_below};
 ghost use Rattle.effic_search.specs.Counted.{IsCounted};
-ghost use Rattle.effic_search.specs.inner.Going.{IsGoing, IsTight, IsImproved, IsTried, HasAsked, product_of};
-ghost use Rattle.effic_search.specs.inner.Going.{entries_of};
+ghost use Rattle.effic_search.specs.inner.Going.{IsTry, IsTight, IsImproved, IsTried, HasSought, HasAsked};
+ghost use Rattle.effic_search.specs.inner.Going.{product_of, entries_of};
 
 use crate::counting::{counted, ends_with_all, has_all_from};
 use crate::lowering::{Lowering, Wanted};
-use cycle_search::{Gate, Plan, Verdict, ask_book, widened};
+use cycle_search::{Gate, Plan, Verdict, ask_book, seek_book, widened};
 use first_fit::{Ranked, ranked_balance};
 use line_instance::Instance;
 use line_rules::{Balance, BalanceCheck, Frames, LineKind, check_balance};
@@ -30,8 +31,13 @@ pub(crate) enum Tried {
     Refuted(Lowering),
     /// There is one, of a smaller product than the best.
     Found(Lowering),
-    /// The units of the try ended first: the open frames of its search at the cycle of the book.
-    Spent(Lowering, Frames),
+    /// The units of the try ended first: the open frames of its search at the cycle of the book, and how many entries
+    /// stand before those of its round.
+    Spent {
+        search: Lowering,
+        frames: Frames,
+        closing_from: u64,
+    },
     /// Memory ended first.
     NoMemory(Lowering),
 }
@@ -67,6 +73,7 @@ fn improved(
     requires one { 1 ≤ cycle }
     ensures book { result.book ≡ search.book }
     ensures listed { result.listed ≡ search.listed }
+    ensures seeks { result.seeks ≡ search.seeks }
     ensures balance { result.balance ≡ balance }
     ensures right { IsRight kind inst.now result.cycle balance }
     ensures tight { IsTight kind inst.now balance result.cycle }
@@ -79,27 +86,47 @@ fn improved(
         balance: _,
         book,
         listed,
+        seeks,
     } = search;
     Lowering {
         cycle: longest.max(1),
         balance,
         book,
         listed,
+        seeks,
     }
 }
 
-/// The search after a question was asked at a cycle, over its book with this best balance, and the answer.
-fn ask<R: Threads + Wait + Sync, G: Gate>(
+/// The search with a balance that is right at a cycle, in so many stations.
+fn taken(
+    inst: &Instance,
+    kind: LineKind,
+    stations: u32,
+    search: Lowering,
+    cycle: u64,
+    balance: &Balance,
+) -> Result<Lowering, AllocError>
+    requires right { IsRight kind inst.now cycle balance.now }
+    requires one { 1 ≤ cycle }
+    requires few { stations ≤ 1024 }
+    requires fits { balance.now.stations ≤ stations }
+    ensures { IfOk result (IsImproved kind inst.now stations cycle search) }
+{
+    let balance = widened(balance, stations)?;
+    Ok(improved(inst, kind, search, cycle, balance))
+}
+
+/// The search after a seek at a cycle, over its book with this best balance, and a balance that the seek found.
+fn sought<R: Threads + Sync>(
     rt: &R,
     alloc: Global,
     inst: &Instance,
     stations: u32,
     plan: &Plan,
-    gate: &G,
     search: Lowering,
     cycle: u64,
     best: Balance,
-) -> Result<(Lowering, Verdict), AllocError>
+) -> Result<(Lowering, Option<Balance>), AllocError>
     requires plan { IsPlan plan.now }
     requires some { 1 ≤ stations }
     requires few { stations ≤ 1024 }
@@ -110,17 +137,60 @@ fn ask<R: Threads + Wait + Sync, G: Gate>(
     requires counted { IsCounted inst.now (entries_of search) (length (entries_of search)) search.listed }
     requires small { search.listed.units ≤ 4000000 }
     requires room { length (entries_of search) ≤ 13999999 }
-    ensures { IfOk result (λ r. HasAsked stations plan.now cycle search r.0 r.1) }
+    ensures { IfOk result (λ r. HasSought stations plan.now cycle search r.0 r.1) }
 {
     let Lowering {
         cycle: reached,
         balance,
         book,
         listed,
+        seeks,
     } = search;
     let from = book.len() as usize;
     let kind = book.kind();
     let book = book.reopen(cycle, best);
+    let sought = seek_book(rt, alloc, inst, book, stations, plan, seeks)?;
+    let listed = counted(inst, kind, sought.book.entries(), from, listed, sought.paid);
+    let search = Lowering {
+        cycle: reached,
+        balance,
+        book: sought.book,
+        listed,
+        seeks: sought.seeks,
+    };
+    Ok((search, sought.found))
+}
+
+/// The search after a question was asked over its book, and the answer.
+fn ask<R: Threads + Wait + Sync, G: Gate>(
+    rt: &R,
+    alloc: Global,
+    inst: &Instance,
+    stations: u32,
+    plan: &Plan,
+    gate: &G,
+    search: Lowering,
+) -> Result<(Lowering, Verdict), AllocError>
+    requires plan { IsPlan plan.now }
+    requires some { 1 ≤ stations }
+    requires few { stations ≤ 1024 }
+    requires same { search.book.about.line ≡ inst.now }
+    requires cycle { IsCycle search.book.about.cycle }
+    requires reserved { IsReserved search.book }
+    requires counted { IsCounted inst.now (entries_of search) (length (entries_of search)) search.listed }
+    requires small { search.listed.units ≤ 10000000 }
+    requires room { length (entries_of search) ≤ 20000000 }
+    ensures { IfOk result (λ r. HasAsked stations plan.now search r.0 r.1) }
+{
+    let Lowering {
+        cycle,
+        balance,
+        book,
+        listed,
+        seeks,
+    } = search;
+    let from = book.len() as usize;
+    let kind = book.kind();
     let asked = ask_book(rt, alloc, inst, book, stations, plan, gate)?;
     let listed = counted(
         inst,
@@ -131,10 +201,11 @@ fn ask<R: Threads + Wait + Sync, G: Gate>(
         2 * plan.units,
     );
     let search = Lowering {
-        cycle: reached,
+        cycle,
         balance,
         book: asked.book,
         listed,
+        seeks,
     };
     Ok((search, asked.verdict))
 }
@@ -158,7 +229,22 @@ fn found(
     Ok(improved(inst, kind, search, cycle, balance))
 }
 
-/// Tries the greatest cycle of a smaller product in so many stations, at which no entry refutes all tasks.
+/// The ranked balance at a cycle that no task is longer than.
+fn ranked(alloc: Global, inst: &Instance, kind: LineKind, cycle: u64) -> Result<Balance, AllocError>
+    requires short { (i : ℕ) → IsTooLong inst.now cycle i → ⊥ }
+    requires some { 1 ≤ cycle }
+    ensures right { IfOk result (λ b. IsRight kind inst.now cycle b) }
+    ensures few { IfOk result (λ b. b.stations ≤ tasks inst.now) }
+{
+    match ranked_balance(alloc, inst, kind, cycle) {
+        Ranked::Good(best) => Ok(best),
+        Ranked::TooLong(_) => unreachable!(),
+        Ranked::NoMemory => Err(AllocError),
+    }
+}
+
+/// Tries the greatest cycle of a smaller product in so many stations, at which no entry refutes all tasks: by the
+/// ranked balance, by a seek, and by a search.
 pub(crate) fn try_cycle<R: Threads + Wait + Sync, G: Gate>(
     rt: &R,
     alloc: Global,
@@ -175,28 +261,23 @@ pub(crate) fn try_cycle<R: Threads + Wait + Sync, G: Gate>(
     requires from { wanted.least ≤ stations }
     requires to { stations ≤ wanted.most }
     requires few { wanted.most ≤ 1024 }
-    requires going { IsGoing wanted.kind inst.now wanted.least wanted.most stations search }
-    requires one { 1 ≤ cycle }
-    requires cycle { cycle ≡ cycle_below (product_of search) stations }
-    requires left { HasAnswer (entries_of search) (all_tasks inst.now) stations cycle → ⊥ }
-    requires small { search.listed.units ≤ 4000000 }
-    requires short { search.listed.entries ≤ 4000000 }
-    requires room { length (entries_of search) ≤ 13999999 }
+    requires due { IsTry wanted.kind inst.now wanted.least wanted.most stations cycle plan.now search }
     ensures { let tried = IsTried wanted.kind inst.now wanted.least wanted.most stations in
         IfOk result (tried plan.now (product_of search)) }
 {
     let _tasks = inst.tasks();
-    let best = match ranked_balance(alloc, inst, wanted.kind, cycle) {
-        Ranked::Good(best) => best,
-        Ranked::TooLong(_) => unreachable!(),
-        Ranked::NoMemory => return Err(AllocError),
-    };
+    let best = ranked(alloc, inst, wanted.kind, cycle)?;
     if best.stations <= stations {
-        let balance = widened(&best, stations)?;
-        return Ok(Tried::Found(improved(inst, wanted.kind, search, cycle, balance)));
+        let better = taken(inst, wanted.kind, stations, search, cycle, &best)?;
+        return Ok(Tried::Found(better));
+    }
+    let (search, balance) = sought(rt, alloc, inst, stations, plan, search, cycle, best)?;
+    if let Some(balance) = balance {
+        let better = taken(inst, wanted.kind, stations, search, cycle, &balance)?;
+        return Ok(Tried::Found(better));
     }
     let from = search.book.len() as usize;
-    let (search, verdict) = ask(rt, alloc, inst, stations, plan, gate, search, cycle, best)?;
+    let (search, verdict) = ask(rt, alloc, inst, stations, plan, gate, search)?;
     match verdict {
         Verdict::Refuted => {
             if !ends_with_all(inst, search.book.entries()) {
@@ -209,7 +290,11 @@ pub(crate) fn try_cycle<R: Threads + Wait + Sync, G: Gate>(
             if has_all_from(inst, search.book.entries(), from) {
                 return Ok(Tried::NoMemory(search));
             }
-            Ok(Tried::Spent(search, frames))
+            Ok(Tried::Spent {
+                search,
+                frames,
+                closing_from: from as u64,
+            })
         }
         Verdict::NoMemory(_) => Ok(Tried::NoMemory(search)),
     }

@@ -17,11 +17,14 @@ use Rattle.line_rules.specs.Times.{longest_of}
 use Rattle.lemma_core.specs.Books.{BookView, IsReserved}
 use Rattle.cycle_search.specs.rounds.declared.closing.Verdict.{Verdict}
 use Rattle.cycle_search.specs.rounds.declared.plans.Plan.{Plan}
+use Rattle.round_helpers.specs.Growth.{AreAtCycle}
 use Rattle.cycle_search.specs.Asking.{HasAskedBook}
 use Rattle.cycle_search.specs.Ends.{first_lower, first_upper}
+use Rattle.cycle_search.specs.Seek.{AreSeeks, HasSoughtBook, seek_room}
 use Rattle.cycle_search.specs.declared.asking.Asked.{Asked}
-use Rattle.effic_check.specs.Accepted.{IsClosed}
-use Rattle.effic_search.specs.Counted.{IsCounted, AreFew}
+use Rattle.cycle_search.specs.declared.seek.SoughtBook.{SoughtBook}
+use Rattle.effic_check.specs.Accepted.{IsClosed, cycle_below}
+use Rattle.effic_search.specs.Counted.{IsCounted, AreFew, IsWithin}
 use Rattle.effic_search.specs.Since.{IsSinceGoal}
 use Rattle.effic_search.specs.declared.lowering.Lowering.{Lowering}
 use Rattle.effic_search.specs.declared.trying.Tried.{Tried}
@@ -87,6 +90,17 @@ pub record IsLeftAt (line : Line) (least most m X : ℕ) (h : Lowering) : Type 0
   pub near : m * X < product_of h
   pub left : HasAnswer (entries_of h) (all_tasks line) m X → ⊥
 
+-- A try in m stations is due at the cycle X, the greatest one whose product is smaller: it is left open, and the book
+-- is small enough for a try. The seeks so far are those of the plan. (Own.)
+pub record IsTry (kind : LineKind) (line : Line) (least most m X : ℕ) (plan : Plan) (h : Lowering) : Type 0 where
+  pub going : IsGoing kind line least most m h
+  pub is : X ≡ cycle_below (product_of h) m
+  pub left : IsLeftAt line least most m X h
+  pub small : h.listed.units ≤ 4000000
+  pub short : h.listed.entries ≤ 4000000
+  pub room : length (entries_of h) ≤ 13999999
+  pub seeks : AreSeeks plan h.seeks
+
 -- a product is left open, and the entries are too many, or of too many units
 pub record IsDue (kind : LineKind) (line : Line) (least most : ℕ) (h : Lowering) : Type 0 where
   pub lowering : IsLowering kind line least most h
@@ -96,10 +110,11 @@ pub record IsDue (kind : LineKind) (line : Line) (least most : ℕ) (h : Lowerin
   pub large : (4000000 < h.listed.units) ⊎ (4000000 < h.listed.entries)
 
 -- The units of a try in m stations at the cycle of the book ended: its frames are a trail from the question, open over
--- the entries; the book before it was small enough for a try; and what the frames and the entries since, which are
--- those since the last one of all tasks, list is all units of the plan.
+-- the entries. First stand those before the try, few enough for it, then those of its seek, for which there was room.
+-- From the number `closing_from` on stand those of its round: what they and the frames list is all units of the plan.
+-- Where the plan has no seek, they are the entries since the last one of all tasks. (Own.)
 pub record IsStuck (kind : LineKind) (line : Line) (least most : ℕ) (plan : Plan) (h : Lowering)
-    (frames : List OpenFrame) : Type 0 where
+    (frames : List OpenFrame) (closing_from : ℕ) : Type 0 where
   pub lowering : IsLowering kind line least most h
   pub m : ℕ
   pub left : IsLeftAt line least most m h.book.about.cycle h
@@ -107,10 +122,14 @@ pub record IsStuck (kind : LineKind) (line : Line) (least most : ℕ) (plan : Pl
   pub trail : IsTrail kind line h.book.about.cycle (entries_of h) (all_tasks line) m frames
   pub opens : IsOpenOver line h.book.about.cycle (entries_of h) frames
   pub front : List Entry
+  pub sought : List Entry
   pub since : List Entry
-  pub added : entries_of h ≡ front ++ since
+  pub added : entries_of h ≡ front ++ (sought ++ since)
+  pub from : closing_from ≡ length front + length sought
   pub small : AreFew line front
-  pub goal : IsSinceGoal line h.book.about.cycle (entries_of h) since
+  pub tried : AreAtCycle h.book.about.cycle (sought ++ since)
+  pub room : IsWithin line sought (seek_room plan)
+  pub goal : plan.seek ≡ 0 → IsSinceGoal line h.book.about.cycle (entries_of h) since
   pub published : ℕ
   pub listed : ℕ
   pub entry_units : UnitsOf line since published
@@ -119,40 +138,59 @@ pub record IsStuck (kind : LineKind) (line : Line) (least most : ℕ) (plan : Pl
   pub all : plan.units ≤ published + listed
   pub alone : plan.helpers ≡ 0 → published + listed ≡ plan.units
 
--- what a try in m stations comes to, where the product was P
+-- what a try in m stations comes to, where the product was P; the seeks so far are those of the plan
 abbrev pub IsTried : LineKind → Line → ℕ → ℕ → ℕ → Plan → ℕ → Tried → Type 0
-IsTried kind line least most m plan P (tried.Refuted h) = IsGoing kind line least most (m + 1) h
-IsTried kind line least most m plan P (tried.Found h) = IsGoing kind line least most m h × (product_of h < P)
-IsTried kind line least most m plan P (tried.Spent h frames) = IsStuck kind line least most plan h frames
-IsTried kind line least most m plan P (tried.NoMemory h) = IsLowering kind line least most h
+IsTried kind line least most m plan P (tried.Refuted h) =
+    IsGoing kind line least most (m + 1) h × AreSeeks plan h.seeks
+IsTried kind line least most m plan P (tried.Found h) =
+    (IsGoing kind line least most m h × (product_of h < P)) × AreSeeks plan h.seeks
+IsTried kind line least most m plan P (tried.Spent h frames closing_from) =
+    IsStuck kind line least most plan h frames closing_from × AreSeeks plan h.seeks
+IsTried kind line least most m plan P (tried.NoMemory h) = IsLowering kind line least most h × AreSeeks plan h.seeks
 
--- what the tries in m stations come to
+-- what the tries in m stations come to; the seeks so far are those of the plan
 abbrev pub IsSettled : LineKind → Line → ℕ → ℕ → ℕ → Plan → Settled → Type 0
-IsSettled kind line least most m plan (settled.Goes h) = IsGoing kind line least most (m + 1) h
-IsSettled kind line least most m plan (settled.Large h) = IsDue kind line least most h
-IsSettled kind line least most m plan (settled.Spent h frames) = IsStuck kind line least most plan h frames
-IsSettled kind line least most m plan (settled.NoMemory h) = IsLowering kind line least most h
+IsSettled kind line least most m plan (settled.Goes h) =
+    IsGoing kind line least most (m + 1) h × AreSeeks plan h.seeks
+IsSettled kind line least most m plan (settled.Large h) = IsDue kind line least most h × AreSeeks plan h.seeks
+IsSettled kind line least most m plan (settled.Spent h frames closing_from) =
+    IsStuck kind line least most plan h frames closing_from × AreSeeks plan h.seeks
+IsSettled kind line least most m plan (settled.NoMemory h) =
+    IsLowering kind line least most h × AreSeeks plan h.seeks
 
--- The question of m stations was asked at the cycle X over the book of a search: what the book gained is counted, and
--- the rest of the search stays.
-pub record HasAsked (m : ℕ) (plan : Plan) (X : ℕ) (old new : Lowering) (v : Verdict) : Type 0 where
+-- A seek for m stations at the cycle X was made over the book of a search: what the book gained is counted, and the
+-- rest of the search stays. (Own.)
+pub record HasSought (m : ℕ) (plan : Plan) (X : ℕ) (old new : Lowering) (found : Option Assignment) : Type 0 where
   pub cycle : new.cycle ≡ old.cycle
   pub balance : new.balance ≡ old.balance
   pub mid : BookView
   pub about : mid.about ≡ record { line = old.book.about.line; kind = old.book.about.kind; cycle = X }
   pub same : mid.state.entries ≡ entries_of old
+  pub sought : SoughtBook
+  pub book : sought.book ≡ new.book
+  pub seeks : sought.seeks ≡ new.seeks
+  pub found_is : sought.found ≡ found
+  pub does : HasSoughtBook m plan mid old.seeks sought
+  pub counted : IsCounted old.book.about.line (entries_of new) (length (entries_of new)) new.listed
+
+-- The question of m stations was asked over the book of a search: what the book gained is counted, and the rest of the
+-- search stays.
+pub record HasAsked (m : ℕ) (plan : Plan) (old new : Lowering) (v : Verdict) : Type 0 where
+  pub cycle : new.cycle ≡ old.cycle
+  pub balance : new.balance ≡ old.balance
+  pub seeks : new.seeks ≡ old.seeks
   pub asked : Asked
   pub book : asked.book ≡ new.book
   pub verdict : asked.verdict ≡ v
-  pub does : HasAskedBook m plan mid asked
+  pub does : HasAskedBook m plan old.book asked
   pub counted : IsCounted old.book.about.line (entries_of new) (length (entries_of new)) new.listed
-  pub units : new.listed.units ≤ old.listed.units + 2 * plan.units
 
 -- A search with another balance, which is right at its cycle and at no lesser one, in m stations; the cycle is 1 to X.
 -- The rest stays.
 pub record IsImproved (kind : LineKind) (line : Line) (m X : ℕ) (old new : Lowering) : Type 0 where
   pub book : new.book ≡ old.book
   pub listed : new.listed ≡ old.listed
+  pub seeks : new.seeks ≡ old.seeks
   pub stations : new.balance.stations ≡ m
   pub right : IsRight kind line new.cycle new.balance
   pub tight : IsTight kind line new.balance new.cycle

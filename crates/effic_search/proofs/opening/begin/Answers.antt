@@ -27,8 +27,8 @@ loop-stations-preserved c =
     (c.in_ok-refute_below.ensures.reserved i.reserved) c.in_ok-refute_below.ensures.floored
     c.in_ok-refute_below.ensures.adds
 
-pub returns : goal.returns
-returns c =
+pub returns-clause-going : goal.returns-clause-going
+returns-clause-going c =
     let w = c.args.wanted in
     let P : ℕ → Type 0 = λ z. IsFirstBook w.kind c.args.inst.now w.least z c.loop-stations.book in
     let end : c.loop-stations.stations ≡ w.most + 1 =

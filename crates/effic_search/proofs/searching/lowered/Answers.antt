@@ -1,7 +1,14 @@
 use Rattle.std.proofs.Common.{◌≡◌, ℕ, ◌+◌, subst, arith}
 use Rattle.effic_search.specs.inner.Going.{IsGoing}
 use Rattle.effic_search.proofs.TryFacts.{settled_last}
+use Rattle.effic_search.proofs.StartFacts.{none_yet}
 use Rattle.effic_search.proofs.searching.lowered.Goals as goal
+
+pub loop-stations-init : goal.loop-stations-init
+loop-stations-init g c = (
+  c.in_ok-search.ensures.going,
+  none_yet c.args.plan.now c.in_ok-search.search c.in_ok-search.ensures.none_yet,
+)
 
 pub come_to-requires : goal.come_to-requires
 come_to-requires g c =
@@ -35,7 +42,7 @@ come_to-requires-2-clause-settled g c =
       c.loop-stations.auto.stations-end,
       c.requires.order,
     ) in
-    (c.args.plan.now, subst P end c.loop-stations.invariant)
+    (c.args.plan.now, (subst P end c.loop-stations.invariant.0, c.loop-stations.invariant.1))
 
 pub returns : goal.returns
 returns g c =
@@ -49,4 +56,4 @@ returns g c =
       c.loop-stations.auto.stations-end,
       c.requires.order,
     ) in
-    c.come_to-2.ensures c.args.plan.now (subst P end c.loop-stations.invariant)
+    c.come_to-2.ensures c.args.plan.now (subst P end c.loop-stations.invariant.0, c.loop-stations.invariant.1)

@@ -1,4 +1,4 @@
-use Rattle.std.proofs.Common.{ℕ, ◌≤◌, List, subst}
+use Rattle.std.proofs.Common.{ℕ, ◌≤◌, List, subst, arith}
 use Rattle.line_rules.specs.Balance.{all_tasks}
 use Rattle.line_rules.specs.Entries.{HasAnswer}
 use Rattle.line_rules.specs.declared.types.Entry.{Entry}
@@ -11,10 +11,12 @@ returns-then-is_closed g c =
     let H : List Entry → Type 0 =
     λ z. HasAnswer z (all_tasks c.args.inst.now) c.args.stations c.cycle_below-cycle.result in
     let C : ℕ → Type 0 =
-    λ z. 1 ≤ z → HasAnswer c.tries.search.book.state.entries (all_tasks c.args.inst.now) c.args.stations z in
-    closed_going w.kind c.args.inst.now w.least w.most c.args.stations c.tries.search c.tries.invariant
-    (subst C c.cycle_below-cycle.ensures (λ one.
-    subst H c.entries.ensures.entries (c.is_closed.ensures.closed c.if-is_closed.true one)))
+    λ z. 1 ≤ z → HasAnswer c.tries.search.book.state.entries (all_tasks c.args.inst.now) c.args.stations z in (
+      closed_going w.kind c.args.inst.now w.least w.most c.args.stations c.tries.search c.tries.invariant.0
+          (subst C c.cycle_below-cycle.ensures (λ one.
+          subst H c.entries.ensures.entries (c.is_closed.ensures.closed c.if-is_closed.true one))),
+      c.tries.invariant.1,
+    )
 
 pub returns-then-is_large : goal.returns-then-is_large
 returns-then-is_large g c =
@@ -22,19 +24,33 @@ returns-then-is_large g c =
     let L : List Entry → Type 0 =
     λ z. HasAnswer z (all_tasks c.args.inst.now) c.args.stations c.cycle_below-cycle.result → ⊥ in
     let left = left_at w.kind c.args.inst.now w.least w.most c.args.stations c.cycle_below-cycle.result
-    c.tries.search c.requires.some c.requires.from c.requires.to c.tries.invariant (c.is_closed.ensures.some
+    c.tries.search c.requires.some c.requires.from c.requires.to c.tries.invariant.0 (c.is_closed.ensures.some
     c.if-is_closed.false) c.cycle_below-cycle.ensures (subst L c.entries.ensures.entries (c.is_closed.ensures.left
-    c.if-is_closed.false)) in
-    record {
-      lowering = c.tries.invariant.lowering;
-      m = c.args.stations;
-      X = c.cycle_below-cycle.result;
-      left = left;
-      large = c.is_large.ensures.large c.if-is_large.true;
-    }
+    c.if-is_closed.false)) in (
+      record {
+        lowering = c.tries.invariant.0.lowering;
+        m = c.args.stations;
+        X = c.cycle_below-cycle.result;
+        left = left;
+        large = c.is_large.ensures.large c.if-is_large.true;
+      },
+      c.tries.invariant.1,
+    )
 
-pub try_cycle-requires-clause-left : goal.try_cycle-requires-clause-left
-try_cycle-requires-clause-left g c κs within =
+pub try_cycle-requires-clause-due : goal.try_cycle-requires-clause-due
+try_cycle-requires-clause-due g c κs within =
+    let w = c.args.wanted in
     let L : List Entry → Type 0 =
     λ z. HasAnswer z (all_tasks c.args.inst.now) c.args.stations c.cycle_below-cycle.result → ⊥ in
-    subst L c.entries.ensures.entries (c.is_closed.ensures.left c.if-is_closed.false)
+    record {
+      going = c.tries.invariant.0;
+      is = c.cycle_below-cycle.ensures;
+      left = left_at w.kind c.args.inst.now w.least w.most c.args.stations c.cycle_below-cycle.result c.tries.search
+          c.requires.some c.requires.from c.requires.to c.tries.invariant.0 (c.is_closed.ensures.some
+          c.if-is_closed.false) c.cycle_below-cycle.ensures (subst L c.entries.ensures.entries
+          (c.is_closed.ensures.left c.if-is_closed.false));
+      small = c.is_large.ensures.small c.if-is_large.false;
+      short = c.is_large.ensures.few c.if-is_large.false;
+      room = omega (arith, c.if-len-gt-ROOM.false, c.len.ensures.len);
+      seeks = c.tries.invariant.1;
+    }

@@ -25,6 +25,7 @@ returns c =
     record {
       book = c.improved.ensures.book;
       listed = c.improved.ensures.listed;
+      seeks = c.improved.ensures.seeks;
       stations = ap (λ (z : Assignment). z.stations) (c.improved.ensures.balance ∙ c.in_ok-balance.ensures);
       right = subst B (sym c.improved.ensures.balance) c.improved.ensures.right;
       tight = subst T (sym c.improved.ensures.balance) c.improved.ensures.tight;

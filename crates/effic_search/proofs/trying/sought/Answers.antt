@@ -1,0 +1,26 @@
+use Rattle.std.proofs.Common.{◌≡◌, ◌∙◌, sym, ap, subst, arith}
+use Rattle.line_instance.specs.Line.{Line}
+use Rattle.line_rules.specs.Entries.{IsDerived}
+use Rattle.line_rules.specs.declared.types.LineKind.{LineKind}
+use Rattle.lemma_core.specs.Machine.{About}
+use Rattle.lemma_core.specs.Books.{BookView}
+use Rattle.effic_search.proofs.GainFacts.{room_most}
+use Rattle.effic_search.proofs.trying.sought.Goals as goal
+
+pub counted-listed-requires-clause-derived : goal.counted-listed-requires-clause-derived
+counted-listed-requires-clause-derived g c =
+    let book = c.in_ok-sought.sought.book in
+    let es = c.entries.result.now in
+    let all : book.about ≡ record {
+      line = c.args.search.book.about.line;
+      kind = c.args.search.book.about.kind;
+      cycle = c.args.cycle;
+    } = c.in_ok-sought.ensures.sought.about ∙ ap (λ (z : BookView). z.about) c.reopen-book.ensures.reopened in
+    let P : LineKind → Type 0 = λ z. IsDerived z book.about.line es in
+    let Q : Line → Type 0 = λ z. IsDerived c.kind-kind.result z es in
+    subst Q (ap (λ (z : About). z.line) all ∙ c.requires.same)
+    (subst P (ap (λ (z : About). z.kind) all ∙ sym c.kind-kind.ensures) c.entries.ensures.derived)
+
+pub counted-listed-requires-clause-small : goal.counted-listed-requires-clause-small
+counted-listed-requires-clause-small g c =
+    omega (arith, c.requires.small, c.in_ok-sought.ensures.sought.within, room_most c.args.plan.now)
