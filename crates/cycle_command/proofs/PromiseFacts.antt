@@ -1,5 +1,5 @@
 -- What `cycle` answers is what it promises.
-use Rattle.std.proofs.Common.{inl, inr, ℕ, nat_eq, List, Option, Some, None, refl, sym, subst, arith, rules}
+use Rattle.std.proofs.Common.{inl, inr, ℕ, nat_eq, List, ◌++◌, Option, Some, None, refl, sym, ap, subst, arith, rules}
 use Rattle.std.proofs.lemmas.Bool.{cond-false, cond-true, ne_eqb}
 use Rattle.line_instance.specs.Line.{Line}
 use Rattle.line_rules.specs.Bounds.{idle_time}
@@ -7,19 +7,28 @@ use Rattle.line_rules.specs.declared.types.LineKind.{LineKind}
 use Rattle.line_rules.specs.declared.types.Balance.{Balance as Assignment}
 use Rattle.line_rules.specs.declared.types.Certificate.{Certificate}
 use Rattle.cycle_search.specs.rounds.declared.plans.Plan.{Plan}
+use Rattle.command_outcome.specs.Bounds.{seek_text}
 use Rattle.command_outcome.specs.Outcome.{Outcome}
 use Rattle.command_outcome.specs.declared.status.Status.TheVariants as ends
 use Rattle.cycle_search.specs.CycleCertified.{IsOptimum, IsStop}
+use Rattle.cycle_search.specs.Seek.{AreSeeks}
+use Rattle.cycle_search.specs.declared.seek.Seeks.{Seeks}
 use Rattle.cycle_command.specs.CycleText.{optimal_text, stopped_text}
 use Rattle.cycle_command.specs.Found.{IsFound}
 use Rattle.cycle_command.specs.CyclePromise.{HasBounds, IsShown}
 use Rattle.task_names.specs.declared.naming.Naming.{Naming}
 
 module _ (naming : Naming) (kind : LineKind) (line : Line) (m : ℕ) (plan : Plan) where
+  -- what is told of the seeks
+  abbrev told_of : Seeks → List ℕ
+  told_of seeks = seek_text plan.seek seeks.used seeks.most seeks.kept
+
   -- the bounds of an optimum
-  of_optimum : (c : ℕ) (b : Assignment) (cert : Certificate) → IsOptimum kind line m c b cert
-      → HasBounds naming kind line m plan cert ends.Done (optimal_text naming kind c b (idle_time line c m))
-  of_optimum c b cert p = record {
+  of_optimum : (c : ℕ) (b : Assignment) (cert : Certificate) (seeks : Seeks) → IsOptimum kind line m c b cert
+      → AreSeeks plan seeks
+      → HasBounds naming kind line m plan cert ends.Done
+      (told_of seeks ++ optimal_text naming kind c b (idle_time line c m))
+  of_optimum c b cert seeks p counted = record {
     lower = c;
     upper = c;
     balance = b;
@@ -32,18 +41,22 @@ module _ (naming : Naming) (kind : LineKind) (line : Line) (m : ℕ) (plan : Pla
     accepted = p.certified.accepted;
     few = p.certified.few;
     true_bounds = p.certified.true_bounds;
-    printed = sym (cond-true (nat_eq c c) (optimal_text naming kind c b (idle_time line c m))
-        (stopped_text naming kind c c b (idle_time line c m)) (search rules));
+    seeks = seeks;
+    counted = counted;
+    printed = ap (λ (t : List ℕ). told_of seeks ++ t) (sym (cond-true (nat_eq c c)
+        (optimal_text naming kind c b (idle_time line c m)) (stopped_text naming kind c c b (idle_time line c m))
+        (search rules)));
     differ = λ h. absurd (omega (arith, h));
     equal = λ e. (refl, p.least);
     complete = λ h. refl;
   }
 
   -- the bounds of a search whose units ended
-  of_stop : (lower upper : ℕ) (b : Assignment) (cert : Certificate) → IsStop kind line m plan lower upper b cert
+  of_stop : (lower upper : ℕ) (b : Assignment) (cert : Certificate) (seeks : Seeks)
+      → IsStop kind line m plan lower upper b cert → AreSeeks plan seeks
       → HasBounds naming kind line m plan cert ends.Stopped
-      (stopped_text naming kind lower upper b (idle_time line upper m))
-  of_stop lower upper b cert p = record {
+      (told_of seeks ++ stopped_text naming kind lower upper b (idle_time line upper m))
+  of_stop lower upper b cert seeks p counted = record {
     lower = lower;
     upper = upper;
     balance = b;
@@ -56,22 +69,32 @@ module _ (naming : Naming) (kind : LineKind) (line : Line) (m : ℕ) (plan : Pla
     accepted = p.certified.accepted;
     few = p.certified.few;
     true_bounds = p.certified.true_bounds;
-    printed = sym (cond-false (nat_eq lower upper) (optimal_text naming kind upper b (idle_time line upper m))
+    seeks = seeks;
+    counted = counted;
+    printed = ap (λ (t : List ℕ). told_of seeks ++ t) (sym (cond-false (nat_eq lower upper)
+        (optimal_text naming kind upper b (idle_time line upper m))
         (stopped_text naming kind lower upper b (idle_time line upper m))
-        (ne_eqb lower upper (λ e. omega (arith, p.spent.stopped.below, e))));
+        (ne_eqb lower upper (λ e. omega (arith, p.spent.stopped.below, e)))));
     differ = λ h. (
       refl,
       record {
         first = p.spent.stopped.from;
+        last = p.spent.stopped.most;
         stations = p.spent.stations;
         trail = p.trail;
         has = refl;
         from = p.spent.from;
         to = p.spent.to;
+        closing_from = p.closing_from;
+        begun = p.spent.begun;
         units = p.spent.units;
         counted = p.spent.counted;
         all = p.spent.all;
         alone = p.spent.alone;
+        whole = p.spent.whole;
+        whole_counted = p.spent.whole_counted;
+        more = p.spent.more;
+        unsought = p.spent.unsought;
         fresh = p.spent.fresh;
         asks = p.spent.valid;
         opens = p.spent.opens;
@@ -89,12 +112,12 @@ module _ (naming : Naming) (kind : LineKind) (line : Line) (m : ℕ) (plan : Pla
       subst S (sym p.shown) (record {
         certificate = p.certificate;
         keeps = refl;
-        shows = of_optimum p.cycle p.balance p.certificate p.proved;
+        shows = of_optimum p.cycle p.balance p.certificate p.seeks p.proved p.counted;
       })
   shown_of name out (inr p) =
       let S : Outcome → Type 0 = λ o. IsShown naming kind line m plan o.status o.text o.kept in
       subst S (sym p.shown) (record {
         certificate = p.certificate;
         keeps = refl;
-        shows = of_stop p.lower p.upper p.balance p.certificate p.proved;
+        shows = of_stop p.lower p.upper p.balance p.certificate p.seeks p.proved p.counted;
       })

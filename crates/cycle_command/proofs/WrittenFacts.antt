@@ -1,5 +1,5 @@
 -- What is found, with its certificate in the file that the words name, and what it says.
-use Rattle.std.proofs.Common.{◌≡◌, inl, inr, ℕ, List, Option, None, ap, subst}
+use Rattle.std.proofs.Common.{◌≡◌, inl, inr, ℕ, List, Option, None, ap}
 use Rattle.line_instance.specs.Line.{Line, IsLine}
 use Rattle.line_rules.specs.Laws.{IsProved}
 use Rattle.line_rules.specs.Ranges.{IsInRange}
@@ -14,11 +14,8 @@ use Rattle.command_outcome.specs.declared.report.Kept.TheVariants.{Line as Certi
 use Rattle.command_outcome.specs.declared.report.Report.{Report}
 use Rattle.command_outcome.proofs.WrittenFacts.{paged}
 use Rattle.cycle_search.specs.rounds.declared.plans.Plan.{Plan}
-use Rattle.cycle_search.specs.rounds.declared.solving.Cause.{Cause}
-use Rattle.cycle_search.specs.rounds.declared.solving.Cause.TheVariants as causes
 use Rattle.solution_page.specs.Page.{page_of, IsSolveStatus}
-use Rattle.cycle_search.specs.Outcomes.{IsSpent, IsStopped as HasStopped, Searches}
-use Rattle.cycle_search.specs.declared.searching.CycleOutcome.TheVariants as outcomes
+use Rattle.cycle_search.specs.Outcomes.{IsStopped as HasStopped}
 use Rattle.cycle_search.proofs.Results.{none_below, has_balance}
 use Rattle.cycle_command.specs.Found.{IsFound, IsStopped}
 use Rattle.task_names.specs.declared.naming.Naming.{Naming}
@@ -38,6 +35,8 @@ in_file naming kind line m plan name r (inl p) = (
     balance = p.balance;
     certificate = p.certificate;
     proved = p.proved;
+    seeks = p.seeks;
+    counted = p.counted;
     shown = ap (paged (page_of name p.certificate)) p.shown;
   }),
 )
@@ -51,24 +50,11 @@ in_file naming kind line m plan name r (inr p) = (
     balance = p.balance;
     certificate = p.certificate;
     proved = p.proved;
+    seeks = p.seeks;
+    counted = p.counted;
     shown = ap (paged (page_of name p.certificate)) p.shown;
   }),
 )
-
--- what is said of a search whose units ended, and of one that memory ended
-pub spent_of : (kind : LineKind) (line : Line) (m : ℕ) (plan : Plan) (cause : Cause) (lower upper : ℕ) (b : Assignment)
-    (es : List Entry) (trail : Trail) → cause ≡ causes.Units
-    → Searches kind line m plan (outcomes.Stopped cause lower upper b es trail)
-    → IsSpent kind line m plan lower upper b es trail
-spent_of kind line m plan cause lower upper b es trail e s =
-    let S : Cause → Type 0 = λ x. Searches kind line m plan (outcomes.Stopped x lower upper b es trail) in subst S e s
-
-pub memory_of : (kind : LineKind) (line : Line) (m : ℕ) (plan : Plan) (cause : Cause) (lower upper : ℕ)
-    (b : Assignment) (es : List Entry) (trail : Trail) → cause ≡ causes.Memory
-    → Searches kind line m plan (outcomes.Stopped cause lower upper b es trail)
-    → HasStopped kind line m plan.units lower upper b es trail
-memory_of kind line m plan cause lower upper b es trail e s =
-    let S : Cause → Type 0 = λ x. Searches kind line m plan (outcomes.Stopped x lower upper b es trail) in subst S e s
 
 -- its report has the status of a stop
 pub stopped_status : (naming : Naming) (kind : LineKind) (line : Line) (m : ℕ) (plan : Plan) (r : Report)
@@ -76,8 +62,8 @@ pub stopped_status : (naming : Naming) (kind : LineKind) (line : Line) (m : ℕ)
 stopped_status naming kind line m plan r p = inr (ap (λ (o : Outcome). o.status) p.shown)
 
 -- the bounds of a search that memory ended are true
-pub stopped_bounds : (kind : LineKind) (line : Line) (m N lower upper : ℕ) (b : Assignment) (es : List Entry)
-    (trail : Trail) → IsLine line → HasStopped kind line m N lower upper b es trail
+pub stopped_bounds : (kind : LineKind) (line : Line) (m : ℕ) (plan : Plan) (lower upper : ℕ) (b : Assignment)
+    (es : List Entry) (trail : Trail) → IsLine line → HasStopped kind line m plan lower upper b es trail
     → IsProved kind line (ask.Cycle m) lower upper
-stopped_bounds kind line m N lower upper b es trail ok s =
+stopped_bounds kind line m plan lower upper b es trail ok s =
     (has_balance kind line m upper b s.balance, none_below kind line m lower es ok s.proof)

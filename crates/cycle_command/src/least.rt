@@ -12,13 +12,16 @@ ghost use Rattle.cycle_search.specs.rounds.declared.plans.Plan.{Plan as Planned}
 ghost use Rattle.solution_page.specs.Page.{IsSolveStatus};
 ghost use Rattle.cycle_search.specs.Ends.{NoneApart};
 ghost use Rattle.cycle_search.specs.Outcomes.{IsSolved, IsSpent, IsStopped as HasStopped};
+ghost use Rattle.cycle_search.specs.Seek.{AreSeeks};
 ghost use Rattle.cycle_command.specs.CyclePromise.{IsCyclePromised, IsShown};
 ghost use Rattle.cycle_command.specs.Found.{IsOptimal, IsStopped, IsFound, IsCutShort, IsCycleOutcome};
 
 use crate::print_cycle::{optimal_text, stopped_text};
-use command_outcome::{Kept, Report, Status, Stop, cut_short_text, refuse, room_for_bounds};
+use command_outcome::{
+    Kept, Report, Status, Stop, cut_short_text, refuse, room_for_bounds, seek_text,
+};
 use cycle_search::{
-    Cause, CycleOutcome, Gate, Plan, certify_cycle, certify_cycle_stop, least_cycle,
+    Cause, CycleOutcome, Gate, Plan, Seeks, certify_cycle, certify_cycle_stop, least_cycle,
 };
 use input_files::plain_line;
 use line_instance::Instance;
@@ -31,25 +34,30 @@ use std::sync::Wait;
 use std::thread::Threads;
 use task_names::Naming;
 
-/// The report of the least cycle, with its certificate.
+/// The report of the least cycle, with its certificate, behind what is told of the seeks.
 fn optimal(
     alloc: Global,
     inst: &Instance,
     naming: &Naming,
     kind: LineKind,
     stations: u32,
+    plan: &Plan,
     cycle: u64,
     balance: Balance,
     entries: Entries,
+    seeks: Seeks,
 ) -> Result<Report, AllocError>
     requires some { 1 ≤ stations }
     requires few { stations ≤ 1024 }
-    requires solved { (N : ℕ) × (N ≤ 3000000) × IsSolved kind inst.now stations N cycle balance entries }
-    ensures { IfOk result (λ r. IsOptimal naming.now kind inst.now stations None (outcome_of r None)) }
+    requires plan { IsPlan plan.now }
+    requires solved { IsSolved kind inst.now stations plan.now cycle balance entries }
+    requires seeks { AreSeeks plan.now seeks }
+    ensures { IfOk result (λ r. IsOptimal naming.now kind inst.now stations plan.now None (outcome_of r None)) }
 {
     let _tasks = inst.tasks();
     let idle = idle_of(inst, cycle, stations);
-    let text = optimal_text(alloc, cycle, naming, &balance, kind, idle)?;
+    let first = seek_text(alloc, plan.seek, seeks.used, seeks.most, seeks.kept)?;
+    let text = optimal_text(alloc, first, cycle, naming, &balance, kind, idle)?;
     let certificate = certify_cycle(alloc, inst, kind, stations, cycle, balance, entries)?;
     Ok(Report {
         status: Status::Done,
@@ -58,30 +66,33 @@ fn optimal(
     })
 }
 
-/// The report of a search whose units ended, with its certificate.
+/// The report of a search whose units ended, with its certificate, behind what is told of the seeks.
 fn stopped(
     alloc: Global,
     inst: &Instance,
     naming: &Naming,
     kind: LineKind,
     stations: u32,
+    plan: &Plan,
     lower: u64,
     upper: u64,
     balance: Balance,
     entries: Entries,
     trail: Trail,
+    seeks: Seeks,
 ) -> Result<Report, AllocError>
     requires some { 1 ≤ stations }
     requires few { stations ≤ 1024 }
-    requires spent { (plan : Planned) × (plan.units ≤ 3000000)
-        × IsSpent kind inst.now stations plan lower upper balance entries trail }
-    ensures { IfOk result (λ r. (plan : Planned) → plan.units ≤ 3000000
-        → IsSpent kind inst.now stations plan lower upper balance entries trail
-        → IsStopped naming.now kind inst.now stations plan None (outcome_of r None)) }
+    requires plan { IsPlan plan.now }
+    requires spent { (closing_from : ℕ)
+        × IsSpent kind inst.now stations plan.now lower upper balance entries trail closing_from }
+    requires seeks { AreSeeks plan.now seeks }
+    ensures { IfOk result (λ r. IsStopped naming.now kind inst.now stations plan.now None (outcome_of r None)) }
 {
     let _tasks = inst.tasks();
     let idle = idle_of(inst, upper, stations);
-    let text = stopped_text(alloc, lower, upper, naming, &balance, kind, idle)?;
+    let first = seek_text(alloc, plan.seek, seeks.used, seeks.most, seeks.kept)?;
+    let text = stopped_text(alloc, first, lower, upper, naming, &balance, kind, idle)?;
     let certificate = certify_cycle_stop(
         inst, kind, stations, lower, upper, balance, entries, trail,
     );
@@ -102,8 +113,8 @@ fn cut_short(
     upper: u64,
 ) -> Result<Stop, AllocError>
     requires room { string_bytes room ≡ [] }
-    requires stopped { (N : ℕ) × (b : Assignment) × (es : List Entry) × (trail : Frames)
-        × HasStopped kind inst.now stations N lower upper b es trail }
+    requires stopped { (plan : Planned) × (b : Assignment) × (es : List Entry) × (trail : Frames)
+        × HasStopped kind inst.now stations plan lower upper b es trail }
     ensures answer { IfOk result (Stops (IsCutShort kind inst.now stations)) }
     ensures fault { IfOk result (MayStop ⊥) }
 {
@@ -143,7 +154,10 @@ fn found<R: Threads + Wait + Sync, G: Gate>(
             cycle,
             balance,
             entries,
-        } => Ok(optimal(alloc, inst, naming, kind, stations, cycle, balance, entries)?),
+            seeks,
+        } => Ok(optimal(
+            alloc, inst, naming, kind, stations, plan, cycle, balance, entries, seeks,
+        )?),
         CycleOutcome::Stopped {
             cause,
             lower,
@@ -151,9 +165,12 @@ fn found<R: Threads + Wait + Sync, G: Gate>(
             balance,
             entries,
             trail,
+            closing_from: _,
+            seeks,
         } => match cause {
             Cause::Units => Ok(stopped(
-                alloc, inst, naming, kind, stations, lower, upper, balance, entries, trail,
+                alloc, inst, naming, kind, stations, plan, lower, upper, balance, entries, trail,
+                seeks,
             )?),
             Cause::Memory => Err(cut_short(inst, kind, stations, room, lower, upper)?),
         },

@@ -1,5 +1,5 @@
 //! The printed texts of what `cycle` found.
-ghost use Rattle.std.specs.Prelude.{◌≡◌, ◌<◌, ◌^◌, IfOk, length};
+ghost use Rattle.std.specs.Prelude.{◌≡◌, ◌++◌, ◌<◌, ◌^◌, string_bytes, IfOk, length};
 ghost use Rattle.cycle_command.specs.CycleText.{optimal_text, stopped_text};
 
 use command_outcome::push_bounds;
@@ -8,9 +8,10 @@ use station_report::balance_text;
 use std::alloc::{AllocError, Global};
 use task_names::Naming;
 
-/// The report of the least cycle, with a balance at it.
+/// The report of the least cycle, with a balance at it, behind a first text.
 pub fn optimal_text(
     alloc: Global,
+    first: String,
     cycle: u64,
     naming: &Naming,
     balance: &Balance,
@@ -19,16 +20,17 @@ pub fn optimal_text(
 ) -> Result<Vec<u8>, AllocError>
     requires places { length balance.now.place < 2 ^ 31 }
     requires stations { balance.now.stations < 2 ^ 31 }
-    ensures { IfOk result (λ t. t.items ≡ optimal_text naming.now kind cycle balance.now idle) }
+    ensures { IfOk result (λ t. t.items ≡ string_bytes first ++ optimal_text naming.now kind cycle balance.now idle) }
 {
-    let mut heading = String::new(alloc);
+    let mut heading = first;
     write!(heading, "optimal cycle {cycle}\n")?;
     balance_text(alloc, heading, naming, balance, kind, idle)
 }
 
-/// The report of a search whose units ended, with a balance at the upper bound.
+/// The report of a search whose units ended, with a balance at the upper bound, behind a first text.
 pub fn stopped_text(
     alloc: Global,
+    first: String,
     lower: u64,
     upper: u64,
     naming: &Naming,
@@ -38,9 +40,11 @@ pub fn stopped_text(
 ) -> Result<Vec<u8>, AllocError>
     requires places { length balance.now.place < 2 ^ 31 }
     requires stations { balance.now.stations < 2 ^ 31 }
-    ensures { IfOk result (λ t. t.items ≡ stopped_text naming.now kind lower upper balance.now idle) }
+    ensures { IfOk result (λ t. t.items
+        ≡ string_bytes first ++ stopped_text naming.now kind lower upper balance.now idle) }
 {
-    let mut heading = String::from_str(alloc, "stopped by units\n")?;
+    let mut heading = first;
+    heading.push_str("stopped by units\n")?;
     push_bounds(&mut heading, lower as u128, upper as u128)?;
     balance_text(alloc, heading, naming, balance, kind, idle)
 }

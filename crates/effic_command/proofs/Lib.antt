@@ -1,1 +1,2 @@
+pub mod PromiseFacts
 pub mod WrittenFacts

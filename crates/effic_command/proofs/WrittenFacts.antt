@@ -39,19 +39,24 @@ in_file naming kind line least most plan name r (inl p) = (
   inl (record {
     certificate = p.certificate;
     solved = p.solved;
+    seeks = p.seeks;
+    counted = p.counted;
     shown = ap (paged (page_of (Some name) p.certificate)) p.shown;
   }),
 )
 in_file naming kind line least most plan name r (inr p) =
     let c : IsCertified kind line least most p.certificate =
-    stopped_certified p.why kind line least most plan p.certificate p.stopped in (
+    stopped_certified p.why kind line least most plan p.certificate p.closing_from p.stopped in (
       p.certificate,
       ap (λ (o : Outcome). o.kept) p.shown,
       c.sayable,
       inr (record {
         why = p.why;
         certificate = p.certificate;
+        closing_from = p.closing_from;
         stopped = p.stopped;
+        seeks = p.seeks;
+        counted = p.counted;
         shown = ap (paged (page_of (Some name) p.certificate)) p.shown;
       }),
     )

@@ -1,10 +1,11 @@
 -- What `effic` promises, fact by fact, where it answers with status 0 or 1.
-use Rattle.std.specs.Prelude.{◌≡◌, ℕ, ◌<◌, ◌≤◌, List, Option, Some, None}
+use Rattle.std.specs.Prelude.{◌≡◌, ℕ, ◌*◌, ◌<◌, ◌≤◌, List, ◌++◌, Option, Some, None}
 use Rattle.line_instance.specs.Line.{Line}
 use Rattle.line_rules.specs.Products.{IsSayable}
 use Rattle.line_rules.specs.declared.types.LineKind.{LineKind}
 use Rattle.effic_search.specs.rounds.declared.plans.Plan.{Plan}
 use Rattle.effic_search.specs.rounds.Certified.{max_units}
+use Rattle.command_outcome.specs.Bounds.{seek_text}
 use Rattle.command_outcome.specs.Outcome.{Files}
 use Rattle.command_outcome.specs.declared.report.Kept.{Kept}
 use Rattle.command_outcome.specs.declared.report.Kept.TheVariants.{Product}
@@ -17,29 +18,35 @@ use Rattle.effic_check.specs.Accepted.{IsAccepted}
 use Rattle.effic_check.specs.Truth.{IsBetween, IsLeastProduct}
 use Rattle.effic_search.specs.Outcomes.{StoppedBy, AreEnough}
 use Rattle.effic_search.specs.declared.searching.Ended.{Ended}
+use Rattle.effic_search.specs.cycles.Ends.{first_upper}
+use Rattle.effic_search.specs.cycles.Seek.{AreSeeks}
+use Rattle.effic_search.specs.cycles.declared.seek.Seeks.{Seeks}
 use Rattle.effic_command.specs.EfficText.{optimal_text, stopped_text}
 use Rattle.effic_command.specs.EfficFound.{idle_of}
 use Rattle.task_names.specs.declared.naming.Naming.{Naming}
 
--- A search stopped for a reason, which is printed with the bounds, and for which the certificate stands.
+-- A search stopped for a reason, which is printed with the bounds behind a first text, and for which the certificate
+-- stands: the number `closing_from` of its entries stand before those of the last round.
 pub record IsToldWhy (naming : Naming) (kind : LineKind) (line : Line) (least most : ℕ) (plan : Plan) (cert : EfficCert)
-    (text : List ℕ) : Type 0 where
+    (first text : List ℕ) : Type 0 where
   pub why : Ended
-  pub stopped : StoppedBy why kind line least most plan cert
-  pub printed : text ≡ stopped_text naming why cert (idle_of line cert)
+  pub closing_from : ℕ
+  pub stopped : StoppedBy why kind line least most plan cert closing_from
+  pub printed : text ≡ first ++ stopped_text naming why cert (idle_of line cert)
 
--- The certificate is of the least product, which is printed with its balance.
+-- The certificate is of the least product, which is printed with its balance behind a first text.
 pub record IsToldLeast (naming : Naming) (kind : LineKind) (line : Line) (least most : ℕ) (cert : EfficCert)
-    (text : List ℕ)
+    (first text : List ℕ)
     : Type 0 where
   pub least_one : IsLeastProduct kind line least most cert.upper
-  pub printed : text ≡ optimal_text naming cert (idle_of line cert)
+  pub printed : text ≡ first ++ optimal_text naming cert (idle_of line cert)
 
 -- What is promised of bounds on the product in `least` to `most` stations: the certificate is of this question, a text
 -- can say it, and the check accepts it with its default steps; so its balance reaches its upper bound, and none lies
--- below its lower one. The bounds differ only where the search stopped, by the units of a try or by the size of its
--- book, and status 1 says so; where they are equal they are the least product. What is printed are the bounds and the
--- balance of the certificate. The bounds are equal where the units are enough for the line.
+-- below its lower one. The upper bound is at most the product of all tasks at the first of the fewest stations. The
+-- bounds differ only where the search stopped, by the units of a try or by the size of its book, and status 1 says so;
+-- where they are equal they are the least product. What is printed are the bounds and the balance of the certificate,
+-- behind a line on the seeks, where the plan has them. The bounds are equal where the units are enough for the line.
 pub record HasBounds (naming : Naming) (kind : LineKind) (line : Line) (least most : ℕ) (plan : Plan) (cert : EfficCert)
     (status : Status) (text : List ℕ) : Type 0 where
   pub kind_is : cert.kind ≡ kind
@@ -51,8 +58,15 @@ pub record HasBounds (naming : Naming) (kind : LineKind) (line : Line) (least mo
   pub few : units ≤ max_units
   pub true_bounds : IsBetween kind line least most cert.lower cert.upper
   pub order : cert.lower ≤ cert.upper
-  pub differ : cert.lower < cert.upper → (status ≡ ends.Stopped) × IsToldWhy naming kind line least most plan cert text
-  pub equal : cert.lower ≡ cert.upper → (status ≡ ends.Done) × IsToldLeast naming kind line least most cert text
+  pub last : cert.upper ≤ least * first_upper line
+  pub seeks : Seeks
+  pub counted : AreSeeks plan seeks
+  pub differ : cert.lower < cert.upper
+      → (status ≡ ends.Stopped)
+      × IsToldWhy naming kind line least most plan cert (seek_text plan.seek seeks.used seeks.most seeks.kept) text
+  pub equal : cert.lower ≡ cert.upper
+      → (status ≡ ends.Done)
+      × IsToldLeast naming kind line least most cert (seek_text plan.seek seeks.used seeks.most seeks.kept) text
   pub complete : AreEnough kind line plan.units → cert.lower ≡ cert.upper
 
 -- what is printed is shown by a certificate, which is kept

@@ -3,9 +3,10 @@
 //! What a search found becomes a report with the certificate, which is kept, and written where the words name a file.
 //! The report and the text of the certificate are made before the file, so that a run without memory for them writes
 //! none.
-ghost use Rattle.std.specs.Prelude.{◌≡◌, ◌≤◌, ℕ, List, [], string_bytes, Some, None, Err, IfOk, MatchResult};
-ghost use Rattle.std.specs.Prelude.{option_map};
+ghost use Rattle.std.specs.Prelude.{◌≡◌, ◌≤◌, ℕ, List, [], ◌++◌, string_bytes, Some, None, Err, IfOk};
+ghost use Rattle.std.specs.Prelude.{MatchResult, option_map};
 ghost use Rattle.line_io.specs.Outside.{Rises};
+ghost use Rattle.command_outcome.specs.Bounds.{seek_text};
 ghost use Rattle.command_outcome.specs.Outcome.{Files, Ends, MayEnd, Stay, Stops, MayStop, outside, outcome_of};
 ghost use Rattle.command_outcome.specs.declared.report.Kept.TheVariants.{Product as Certified};
 ghost use Rattle.command_outcome.specs.declared.report.Stop.TheVariants.{Unwritten};
@@ -15,15 +16,17 @@ ghost use Rattle.solution_page.specs.Page.{IsSolveStatus};
 ghost use Rattle.line_rules.specs.Products.{IsSayable};
 ghost use Rattle.line_rules.specs.declared.products.EfficCert.{EfficCert as Proof};
 ghost use Rattle.effic_check.specs.Accepted.{NoneApart};
-ghost use Rattle.effic_check.specs.Truth.{IsBetween};
+ghost use Rattle.effic_search.specs.Outcomes.{IsCutShort as IsWanting};
 ghost use Rattle.effic_command.specs.EfficText.{optimal_text, stopped_text};
 ghost use Rattle.effic_command.specs.EfficFound.{idle_of, page_of, certified_by, IsFound, IsCutShort, IsEfficOutcome};
 ghost use Rattle.effic_command.specs.EfficPromise.{HasCertificate, IsEfficPromised, IsShown};
 
 use crate::print_effic::{optimal_text, stopped_text};
-use command_outcome::{Kept, Report, Status, Stop, cut_short_text, refuse, room_for_bounds};
+use command_outcome::{
+    Kept, Report, Status, Stop, cut_short_text, refuse, room_for_bounds, seek_text,
+};
 use effic_cert::write_effic;
-use effic_search::{EfficOutcome, Ended, Gate, Plan, least_product};
+use effic_search::{EfficOutcome, Ended, Gate, Plan, Seeks, least_product};
 use input_files::plain_line;
 use line_instance::Instance;
 use line_io::{Shelf, Written, write_whole};
@@ -45,19 +48,23 @@ struct Wanted {
     most: u32,
 }
 
-/// The report of the least product, with its certificate.
+/// The report of the least product, with its certificate, behind what is told of the seeks with so many loads each.
 fn optimal(
     alloc: Global,
     inst: &Instance,
     naming: &Naming,
+    loads: u64,
     cert: EfficCert,
+    seeks: Seeks,
 ) -> Result<Report, AllocError>
     requires { IsSayable cert }
     ensures { IfOk result (λ r. outcome_of r None
-        ≡ certified_by None cert ends.Done (optimal_text naming.now cert (idle_of inst.now cert))) }
+        ≡ certified_by None cert ends.Done (seek_text loads seeks.used seeks.most seeks.kept
+        ++ optimal_text naming.now cert (idle_of inst.now cert))) }
 {
     let idle = idle_of(inst, cert.cycle, cert.balance.stations);
-    let text = optimal_text(alloc, naming, &cert, idle)?;
+    let first = seek_text(alloc, loads, seeks.used, seeks.most, seeks.kept)?;
+    let text = optimal_text(alloc, first, naming, &cert, idle)?;
     Ok(Report {
         status: Status::Done,
         text,
@@ -65,20 +72,24 @@ fn optimal(
     })
 }
 
-/// The report of a search that stopped, with its certificate.
+/// The report of a search that stopped, with its certificate, behind what is told of the seeks with so many loads each.
 fn stopped(
     alloc: Global,
     inst: &Instance,
     naming: &Naming,
+    loads: u64,
     why: Ended,
     cert: EfficCert,
+    seeks: Seeks,
 ) -> Result<Report, AllocError>
     requires { IsSayable cert }
     ensures { IfOk result (λ r. outcome_of r None
-        ≡ certified_by None cert ends.Stopped (stopped_text naming.now why cert (idle_of inst.now cert))) }
+        ≡ certified_by None cert ends.Stopped (seek_text loads seeks.used seeks.most seeks.kept
+        ++ stopped_text naming.now why cert (idle_of inst.now cert))) }
 {
     let idle = idle_of(inst, cert.cycle, cert.balance.stations);
-    let text = stopped_text(alloc, naming, why, &cert, idle)?;
+    let first = seek_text(alloc, loads, seeks.used, seeks.most, seeks.kept)?;
+    let text = stopped_text(alloc, first, naming, why, &cert, idle)?;
     Ok(Report {
         status: Status::Stopped,
         text,
@@ -95,7 +106,7 @@ fn cut_short(
     upper: u128,
 ) -> Result<Stop, AllocError>
     requires room { string_bytes room ≡ [] }
-    requires true_bounds { IsBetween wanted.kind inst.now wanted.least wanted.most lower upper }
+    requires wanting { IsWanting wanted.kind inst.now wanted.least wanted.most lower upper }
     ensures answer { IfOk result (Stops (IsCutShort wanted.kind inst.now wanted.least wanted.most)) }
     ensures fault { IfOk result (MayStop ⊥) }
 {
@@ -129,8 +140,15 @@ fn found<R: Threads + Wait + Sync, G: Gate>(
     let room = room_for_bounds(alloc)?;
     let Wanted { kind, least, most } = wanted;
     match least_product(rt, alloc, inst, kind, least, most, plan, gate) {
-        EfficOutcome::Solved(cert) => Ok(optimal(alloc, inst, naming, cert)?),
-        EfficOutcome::Stopped { why, cert } => Ok(stopped(alloc, inst, naming, why, cert)?),
+        EfficOutcome::Solved { cert, seeks } => {
+            Ok(optimal(alloc, inst, naming, plan.seek, cert, seeks)?)
+        }
+        EfficOutcome::Stopped {
+            why,
+            cert,
+            closing_from: _,
+            seeks,
+        } => Ok(stopped(alloc, inst, naming, plan.seek, why, cert, seeks)?),
         EfficOutcome::Memory { lower, upper } => Err(cut_short(inst, wanted, room, lower, upper)?),
         EfficOutcome::NoMemory => Err(Stop::Memory),
     }
@@ -196,7 +214,8 @@ pub fn effic_report<R: Threads + Wait + Sync, S: Shelf, G: Gate>(
         (Rises (S.write_faults shelf.old) (S.write_faults shelf.new))) }
     ensures unwritten { result ≡ Err Unwritten → (n : List ℕ) × (option_map (λ a. a.now) name.entry ≡ Some n) }
     ensures promise { S.tells → IfOk result (λ r.
-        IsEfficPromised (S.file shelf.old) (S.file shelf.new) file.now kind least_m most_m plan.now (option_map (λ a. a.now) name.entry) r.status r.text.items r.kept) }
+        IsEfficPromised (S.file shelf.old) (S.file shelf.new) file.now kind least_m most_m plan.now
+        (option_map (λ a. a.now) name.entry) r.status r.text.items r.kept) }
 {
     let plain = plain_line(alloc, file, shelf)?;
     let wanted = Wanted {

@@ -26,27 +26,30 @@ fn stopped_line(why: Ended) -> &'static str
     }
 }
 
-/// The report of the least product, with its stations and its cycle, and the balance.
+/// The report of the least product, with its stations and its cycle, and the balance, behind a first text.
 pub(crate) fn optimal_text(
     alloc: Global,
+    first: String,
     naming: &Naming,
     cert: &EfficCert,
     idle: u128,
 ) -> Result<Vec<u8>, AllocError>
     requires places { length cert.now.balance.place < 2 ^ 31 }
     requires stations { cert.now.balance.stations < 2 ^ 31 }
-    ensures { IfOk result (λ t. t.items ≡ optimal_text naming.now cert.now idle) }
+    ensures { IfOk result (λ t. t.items ≡ string_bytes first ++ optimal_text naming.now cert.now idle) }
 {
     let product = cert.upper;
-    let mut heading = String::new(alloc);
+    let mut heading = first;
     write!(heading, "optimal product {product}\n")?;
     push_place(&mut heading, cert.balance.stations, cert.cycle)?;
     balance_text(alloc, heading, naming, &cert.balance, cert.kind, idle)
 }
 
-/// The report of a search that stopped: why, its bounds, the stations and the cycle of its balance, and the balance.
+/// The report of a search that stopped, behind a first text: why, its bounds, the stations and the cycle of its
+/// balance, and the balance.
 pub(crate) fn stopped_text(
     alloc: Global,
+    first: String,
     naming: &Naming,
     why: Ended,
     cert: &EfficCert,
@@ -54,9 +57,10 @@ pub(crate) fn stopped_text(
 ) -> Result<Vec<u8>, AllocError>
     requires places { length cert.now.balance.place < 2 ^ 31 }
     requires stations { cert.now.balance.stations < 2 ^ 31 }
-    ensures { IfOk result (λ t. t.items ≡ stopped_text naming.now why cert.now idle) }
+    ensures { IfOk result (λ t. t.items ≡ string_bytes first ++ stopped_text naming.now why cert.now idle) }
 {
-    let mut heading = String::from_str(alloc, stopped_line(why))?;
+    let mut heading = first;
+    heading.push_str(stopped_line(why))?;
     push_bounds(&mut heading, cert.lower, cert.upper)?;
     push_place(&mut heading, cert.balance.stations, cert.cycle)?;
     balance_text(alloc, heading, naming, &cert.balance, cert.kind, idle)

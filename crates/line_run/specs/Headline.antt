@@ -50,9 +50,10 @@ PromisesOf files after Help status text kept = Unit {0}
 PromisesOf files after Version status text kept = Unit {0}
 PromisesOf files after (Balance file cycle line apart) status text kept = Unit {0}
 PromisesOf files after (Solve file cycle line helpers units cert apart warm seek bound) status text kept =
-    IsPromised files after file apart warm seek cycle (kind_of line) (planned helpers units bound) cert status text kept
-PromisesOf files after (Cycle file stations line helpers units cert bound) status text kept =
-    IsCyclePromised files after file (kind_of line) stations (planned helpers units bound) cert status text kept
+    IsPromised files after file apart warm seek cycle (kind_of line) (planned helpers units bound 0) cert status text
+    kept
+PromisesOf files after (Cycle file stations line helpers units cert seek bound) status text kept =
+    IsCyclePromised files after file (kind_of line) stations (planned helpers units bound seek) cert status text kept
 PromisesOf files after (Check file cert steps apart) status text kept = status ≡ ends.Done
     → IsProvedTrue files file cert apart steps
 PromisesOf files after (Convert file name to cycle apart) status text kept = Unit {0}
@@ -65,8 +66,8 @@ PromisesOf files after (Try seed tasks cycle line units) status text kept =
     IsTried seed tasks cycle (kind_of line) units status text kept
 PromisesOf files after (Draw file cert name apart) status text kept = IsTrulyDrawn files after file cert name apart
 PromisesOf files after (Planning file cert apart) status text kept = IsTrulyPlanned files file cert apart text
-PromisesOf files after (Effic file least most line helpers units cert bound) status text kept =
-    IsEfficPromised files after file (kind_of line) least most (planned helpers units bound) cert status text kept
+PromisesOf files after (Effic file least most line helpers units cert seek bound) status text kept =
+    IsEfficPromised files after file (kind_of line) least most (planned helpers units bound seek) cert status text kept
 PromisesOf files after (EfficCheck file cert steps) status text kept = status ≡ ends.Done
     → IsProvedProduct files file cert steps
 PromisesOf files after (Sequence mix cert interval length units name seek) status text kept =

@@ -18,16 +18,16 @@ planning_text =
     ++ codes "    warm=CERT (none)  seek=0..3000000 (0)  bound=plain|pairs (pairs)\n"
     ++ codes "    line solve jackson.in2 cycle=10 cert=jackson.cert\n"
     ++ codes "cycle FILE stations=1..1024    the least cycle time, and the proof\n"
-    ++ codes "    line=straight|u (straight)  helpers=0..64 (4)\n"
-    ++ codes "    units=1..1000000 (1000000)  cert=OUT (none)  bound=plain|pairs (pairs)\n"
+    ++ codes "    line=straight|u (straight)  helpers=0..64 (4)  units=1..1000000 (1000000)\n"
+    ++ codes "    cert=OUT (none)  seek=0..3000000 (0)  bound=plain|pairs (pairs)\n"
     ++ codes "    line cycle jackson.in2 stations=5\n"
 
 -- what the least product and the tests of proofs give
 abbrev pub proof_text : List ℕ
 proof_text =
     codes "effic FILE least=1..1024 most=1..1024    the least stations times cycle time\n"
-    ++ codes "    line=straight|u (straight)  helpers=0..64 (4)\n"
-    ++ codes "    units=1..1000000 (1000000)  cert=OUT (none)  bound=plain|pairs (pairs)\n"
+    ++ codes "    line=straight|u (straight)  helpers=0..64 (4)  units=1..1000000 (1000000)\n"
+    ++ codes "    cert=OUT (none)  seek=0..3000000 (0)  bound=plain|pairs (pairs)\n"
     ++ codes "    line effic jackson.in2 least=3 most=6 cert=jackson.product\n"
     ++ codes "check FILE CERT    whether a proof holds, and what it shows then\n"
     ++ codes "    steps=1..20000000 (20000000)  apart=PAIRS (none)\n"

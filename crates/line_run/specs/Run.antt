@@ -41,9 +41,10 @@ use Rattle.sequence_command.specs.SequenceCheck.{IsSequenceCheckOutcome, IsProve
 use Rattle.line_run.specs.Usage.{IsUsageOutcome}
 use Rattle.line_run.specs.Pages.{help_text, version_text}
 
--- so many helpers, so many units, and whether pairs are asked
-abbrev pub planned : ℕ → ℕ → BoundWord → Plan
-planned helpers units bound = record { helpers = helpers; units = units; pairs = asks_pairs bound; seek = 0 }
+-- so many helpers, so many units, whether pairs are asked, and the loads of a seek at each tried cycle
+abbrev pub planned : ℕ → ℕ → BoundWord → ℕ → Plan
+planned helpers units bound seek =
+    record { helpers = helpers; units = units; pairs = asks_pairs bound; seek = seek }
 
 -- What `try` comes to: what is told of the line of a seed. No file is written.
 pub record IsTryOutcome (seed tasks cycle : ℕ) (kind : LineKind) (units : ℕ) (out : Outcome) : Type 0 where
@@ -56,9 +57,9 @@ IsJobOutcome o Help out = out ≡ told ends.Done help_text
 IsJobOutcome o Version out = out ≡ told ends.Done version_text
 IsJobOutcome o (Balance file cycle line apart) out = IsBalanceOutcome o file apart cycle (kind_of line) out
 IsJobOutcome o (Solve file cycle line helpers units cert apart warm seek bound) out =
-    IsSolveOutcome o file apart warm seek cycle (kind_of line) (planned helpers units bound) cert out
-IsJobOutcome o (Cycle file stations line helpers units cert bound) out =
-    IsCycleOutcome o file (kind_of line) stations (planned helpers units bound) cert out
+    IsSolveOutcome o file apart warm seek cycle (kind_of line) (planned helpers units bound 0) cert out
+IsJobOutcome o (Cycle file stations line helpers units cert seek bound) out =
+    IsCycleOutcome o file (kind_of line) stations (planned helpers units bound seek) cert out
 IsJobOutcome o (Check file cert steps apart) out = IsCheckOutcome o file cert apart steps out
 IsJobOutcome o (Convert file name to cycle apart) out = IsConvertOutcome o file name to apart cycle out
 IsJobOutcome o (Combine mix name) out = IsCombineOutcome o mix name out
@@ -69,8 +70,8 @@ IsJobOutcome o (TimelineDraw mix cert seq name interval length) out =
 IsJobOutcome o (Try seed tasks cycle line units) out = IsTryOutcome seed tasks cycle (kind_of line) units out
 IsJobOutcome o (Draw file cert name apart) out = IsDrawOutcome o file cert name apart out
 IsJobOutcome o (Planning file cert apart) out = IsPlanOutcome o file cert apart out
-IsJobOutcome o (Effic file least most line helpers units cert bound) out =
-    IsEfficOutcome o file (kind_of line) least most (planned helpers units bound) cert out
+IsJobOutcome o (Effic file least most line helpers units cert seek bound) out =
+    IsEfficOutcome o file (kind_of line) least most (planned helpers units bound seek) cert out
 IsJobOutcome o (EfficCheck file cert steps) out = IsEfficCheckOutcome o file cert steps out
 IsJobOutcome o (Sequence mix cert interval length units name seek) out =
     IsSequenceOutcome o mix cert interval length units seek name out
@@ -97,7 +98,7 @@ IsPage Help out = out ≡ told ends.Done help_text
 IsPage Version out = out ≡ told ends.Done version_text
 IsPage (Balance file cycle line apart) out = ⊥
 IsPage (Solve file cycle line helpers units cert apart warm seek bound) out = ⊥
-IsPage (Cycle file stations line helpers units cert bound) out = ⊥
+IsPage (Cycle file stations line helpers units cert seek bound) out = ⊥
 IsPage (Check file cert steps apart) out = ⊥
 IsPage (Convert file name to cycle apart) out = ⊥
 IsPage (Combine mix name) out = ⊥
@@ -107,7 +108,7 @@ IsPage (TimelineDraw mix cert seq name interval length) out = ⊥
 IsPage (Try seed tasks cycle line units) out = IsTryOutcome seed tasks cycle (kind_of line) units out
 IsPage (Draw file cert name apart) out = ⊥
 IsPage (Planning file cert apart) out = ⊥
-IsPage (Effic file least most line helpers units cert bound) out = ⊥
+IsPage (Effic file least most line helpers units cert seek bound) out = ⊥
 IsPage (EfficCheck file cert steps) out = ⊥
 IsPage (Sequence mix cert interval length units name seek) out = ⊥
 IsPage (SequenceCheck mix cert seq interval length steps) out = ⊥
@@ -118,7 +119,7 @@ ReadsFiles Help = ⊥
 ReadsFiles Version = ⊥
 ReadsFiles (Balance file cycle line apart) = Unit {0}
 ReadsFiles (Solve file cycle line helpers units cert apart warm seek bound) = Unit {0}
-ReadsFiles (Cycle file stations line helpers units cert bound) = Unit {0}
+ReadsFiles (Cycle file stations line helpers units cert seek bound) = Unit {0}
 ReadsFiles (Check file cert steps apart) = Unit {0}
 ReadsFiles (Convert file name to cycle apart) = Unit {0}
 ReadsFiles (Combine mix name) = Unit {0}
@@ -128,7 +129,7 @@ ReadsFiles (TimelineDraw mix cert seq name interval length) = Unit {0}
 ReadsFiles (Try seed tasks cycle line units) = ⊥
 ReadsFiles (Draw file cert name apart) = Unit {0}
 ReadsFiles (Planning file cert apart) = Unit {0}
-ReadsFiles (Effic file least most line helpers units cert bound) = Unit {0}
+ReadsFiles (Effic file least most line helpers units cert seek bound) = Unit {0}
 ReadsFiles (EfficCheck file cert steps) = Unit {0}
 ReadsFiles (Sequence mix cert interval length units name seek) = Unit {0}
 ReadsFiles (SequenceCheck mix cert seq interval length steps) = Unit {0}
@@ -162,7 +163,7 @@ out_of Help = None
 out_of Version = None
 out_of (Balance file cycle line apart) = None
 out_of (Solve file cycle line helpers units cert apart warm seek bound) = cert
-out_of (Cycle file stations line helpers units cert bound) = cert
+out_of (Cycle file stations line helpers units cert seek bound) = cert
 out_of (Check file cert steps apart) = None
 out_of (Convert file name to cycle apart) = Some name
 out_of (Combine mix name) = Some name
@@ -172,7 +173,7 @@ out_of (TimelineDraw mix cert seq name interval length) = Some name
 out_of (Try seed tasks cycle line units) = None
 out_of (Draw file cert name apart) = Some name
 out_of (Planning file cert apart) = None
-out_of (Effic file least most line helpers units cert bound) = cert
+out_of (Effic file least most line helpers units cert seek bound) = cert
 out_of (EfficCheck file cert steps) = None
 out_of (Sequence mix cert interval length units name seek) = name
 out_of (SequenceCheck mix cert seq interval length steps) = None
@@ -202,7 +203,7 @@ IsJobTrue files Help = Unit {0}
 IsJobTrue files Version = Unit {0}
 IsJobTrue files (Balance file cycle line apart) = Unit {0}
 IsJobTrue files (Solve file cycle line helpers units cert apart warm seek bound) = Unit {0}
-IsJobTrue files (Cycle file stations line helpers units cert bound) = Unit {0}
+IsJobTrue files (Cycle file stations line helpers units cert seek bound) = Unit {0}
 IsJobTrue files (Check file cert steps apart) = IsProvedTrue files file cert apart steps
 IsJobTrue files (Convert file name to cycle apart) = Unit {0}
 IsJobTrue files (Combine mix name) = Unit {0}
@@ -212,7 +213,7 @@ IsJobTrue files (TimelineDraw mix cert seq name interval length) = Unit {0}
 IsJobTrue files (Try seed tasks cycle line units) = Unit {0}
 IsJobTrue files (Draw file cert name apart) = Unit {0}
 IsJobTrue files (Planning file cert apart) = Unit {0}
-IsJobTrue files (Effic file least most line helpers units cert bound) = Unit {0}
+IsJobTrue files (Effic file least most line helpers units cert seek bound) = Unit {0}
 IsJobTrue files (EfficCheck file cert steps) = IsProvedProduct files file cert steps
 IsJobTrue files (Sequence mix cert interval length units name seek) = Unit {0}
 IsJobTrue files (SequenceCheck mix cert seq interval length steps) =

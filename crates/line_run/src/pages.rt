@@ -15,15 +15,15 @@ solve FILE    a balance of the fewest stations, and the proof that it is
     warm=CERT (none)  seek=0..3000000 (0)  bound=plain|pairs (pairs)
     line solve jackson.in2 cycle=10 cert=jackson.cert
 cycle FILE stations=1..1024    the least cycle time, and the proof
-    line=straight|u (straight)  helpers=0..64 (4)
-    units=1..1000000 (1000000)  cert=OUT (none)  bound=plain|pairs (pairs)
+    line=straight|u (straight)  helpers=0..64 (4)  units=1..1000000 (1000000)
+    cert=OUT (none)  seek=0..3000000 (0)  bound=plain|pairs (pairs)
     line cycle jackson.in2 stations=5
 ";
 
 /// What the least product and the tests of proofs give.
 const PROOFS: &str = "effic FILE least=1..1024 most=1..1024    the least stations times cycle time
-    line=straight|u (straight)  helpers=0..64 (4)
-    units=1..1000000 (1000000)  cert=OUT (none)  bound=plain|pairs (pairs)
+    line=straight|u (straight)  helpers=0..64 (4)  units=1..1000000 (1000000)
+    cert=OUT (none)  seek=0..3000000 (0)  bound=plain|pairs (pairs)
     line effic jackson.in2 least=3 most=6 cert=jackson.product
 check FILE CERT    whether a proof holds, and what it shows then
     steps=1..20000000 (20000000)  apart=PAIRS (none)

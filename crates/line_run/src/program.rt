@@ -48,15 +48,15 @@ fn name_of(name: &Option<Name>) -> Option<&str>
     }
 }
 
-/// The plan of a search.
-fn plan_of(helpers: u32, units: u64, bound: BoundWord) -> Plan
-    ensures { result ≡ planned helpers units bound }
+/// The plan of a search, with the loads of a seek at each cycle that it tries.
+fn plan_of(helpers: u32, units: u64, bound: BoundWord, seek: u64) -> Plan
+    ensures { result ≡ planned helpers units bound seek }
 {
     Plan {
         helpers,
         units,
         pairs: bound.asks_pairs(),
-        seek: 0,
+        seek,
     }
 }
 
@@ -107,7 +107,7 @@ fn do_job<R: Threads + Wait + Sync, S: Shelf, G: Gate>(
             bound,
         } => {
             let kind = kind_of(*line);
-            let plan = plan_of(*helpers, *units, *bound);
+            let plan = plan_of(*helpers, *units, *bound, 0);
             solve_report(
                 rt,
                 alloc,
@@ -130,10 +130,11 @@ fn do_job<R: Threads + Wait + Sync, S: Shelf, G: Gate>(
             helpers,
             units,
             cert,
+            seek,
             bound,
         } => {
             let kind = kind_of(*line);
-            let plan = plan_of(*helpers, *units, *bound);
+            let plan = plan_of(*helpers, *units, *bound, *seek);
             cycle_report(
                 rt,
                 alloc,
@@ -257,10 +258,11 @@ fn do_job<R: Threads + Wait + Sync, S: Shelf, G: Gate>(
             helpers,
             units,
             cert,
+            seek,
             bound,
         } => {
             let kind = kind_of(*line);
-            let plan = plan_of(*helpers, *units, *bound);
+            let plan = plan_of(*helpers, *units, *bound, *seek);
             effic_report(
                 rt,
                 alloc,

@@ -278,6 +278,7 @@ job_between command.Cycle ws r = (
   default_between command.Cycle ws (codes "stations") 1 (λ v. refl) r (omega arith, omega arith),
   default_between command.Cycle ws (codes "helpers") 4 (λ v. refl) r (omega arith, omega arith),
   default_between command.Cycle ws (codes "units") 1000000 (λ v. refl) r (omega arith, omega arith),
+  default_between command.Cycle ws (codes "seek") 0 (λ v. refl) r (omega arith, omega arith),
 )
 job_between command.Check ws r = default_between command.Check ws (codes "steps") 20000000 (λ v. refl) r
     (omega arith, omega arith)
@@ -309,6 +310,7 @@ job_between command.Effic ws r = (
   ends_in_order ws r,
   default_between command.Effic ws (codes "helpers") 4 (λ v. refl) r (omega arith, omega arith),
   default_between command.Effic ws (codes "units") 1000000 (λ v. refl) r (omega arith, omega arith),
+  default_between command.Effic ws (codes "seek") 0 (λ v. refl) r (omega arith, omega arith),
 )
 job_between command.EfficCheck ws r = default_between command.EfficCheck ws (codes "steps") 20000000 (λ v. refl) r
     (omega arith, omega arith)
@@ -334,7 +336,7 @@ page_between words Help p = tt
 page_between words Version p = tt
 page_between words (Balance file cycle line apart) p = absurd p
 page_between words (Solve file cycle line helpers units cert apart warm seek bound) p = absurd p
-page_between words (Cycle file stations line helpers units cert bound) p = absurd p
+page_between words (Cycle file stations line helpers units cert seek bound) p = absurd p
 page_between words (Check file cert steps apart) p = absurd p
 page_between words (Convert file out to cycle apart) p = absurd p
 page_between words (Combine mix out) p = absurd p
@@ -344,7 +346,7 @@ page_between words (TimelineDraw mix cert seq out interval length) p = absurd p
 page_between words (Try seed tasks cycle line units) p = absurd p
 page_between words (Draw file cert out apart) p = absurd p
 page_between words (Plan file cert apart) p = absurd p
-page_between words (Effic file least most line helpers units cert bound) p = absurd p
+page_between words (Effic file least most line helpers units cert seek bound) p = absurd p
 page_between words (EfficCheck file cert steps) p = absurd p
 page_between words (Sequence mix cert interval length units out seek) p = absurd p
 page_between words (SequenceCheck mix cert seq interval length steps) p = absurd p

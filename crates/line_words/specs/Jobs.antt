@@ -155,6 +155,7 @@ job_for command.Cycle ws =
     Cycle (name_at ws 0) (number_or command.Cycle ws (codes "stations") 1) (line_set ws)
     (number_or command.Cycle ws (codes "helpers") 4)
     (number_or command.Cycle ws (codes "units") 1000000) (value_of ws (codes "cert"))
+    (number_or command.Cycle ws (codes "seek") 0)
     (bound_set ws)
 job_for command.Check ws =
     Check (name_at ws 0) (name_at ws 1) (number_or command.Check ws (codes "steps") 20000000)
@@ -183,6 +184,7 @@ job_for command.Effic ws =
     (line_set ws)
     (number_or command.Effic ws (codes "helpers") 4) (number_or command.Effic ws (codes "units") 1000000)
     (value_of ws (codes "cert"))
+    (number_or command.Effic ws (codes "seek") 0)
     (bound_set ws)
 job_for command.EfficCheck ws = EfficCheck (name_at ws 0) (name_at ws 1)
     (number_or command.EfficCheck ws (codes "steps") 20000000)

@@ -26,8 +26,8 @@ IsInRange (Balance file cycle line apart) = IsSetBetween 1 1000000000000000000 c
 IsInRange (Solve file cycle line helpers units cert apart warm seek bound) =
     IsSetBetween 1 1000000000000000000 cycle × IsBetween 0 64 helpers × IsBetween 1 3000000 units
     × IsBetween 0 3000000 seek
-IsInRange (Cycle file stations line helpers units cert bound) = IsBetween 1 1024 stations × IsBetween 0 64 helpers
-    × IsBetween 1 1000000 units
+IsInRange (Cycle file stations line helpers units cert seek bound) = IsBetween 1 1024 stations × IsBetween 0 64 helpers
+    × IsBetween 1 1000000 units × IsBetween 0 3000000 seek
 IsInRange (Check file cert steps apart) = IsBetween 1 20000000 steps
 IsInRange (Convert file out to cycle apart) = IsSetBetween 1 1000000000000000000 cycle
 IsInRange (Combine mix out) = Unit {0}
@@ -40,8 +40,9 @@ IsInRange (Try seed tasks cycle line units) =
     × IsBetween 1 3000000 units
 IsInRange (Draw file cert out apart) = Unit {0}
 IsInRange (Plan file cert apart) = Unit {0}
-IsInRange (Effic file least most line helpers units cert bound) =
+IsInRange (Effic file least most line helpers units cert seek bound) =
     IsBetween 1 1024 least × IsBetween 1 1024 most × (least ≤ most) × IsBetween 0 64 helpers × IsBetween 1 1000000 units
+    × IsBetween 0 3000000 seek
 IsInRange (EfficCheck file cert steps) = IsBetween 1 20000000 steps
 IsInRange (Sequence mix cert interval length units out seek) =
     IsBetween 1 1000000000 interval × IsBetween 1 1000000000 length × IsBetween 1 1000000 units

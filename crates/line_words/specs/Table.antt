@@ -83,7 +83,8 @@ keys_taken Solve =
     codes "cycle" ∷ codes "line" ∷ codes "helpers" ∷ codes "units" ∷ codes "cert" ∷ codes "apart" ∷ codes "warm" ∷ codes
     "seek" ∷ codes "bound" ∷ []
 keys_taken Cycle =
-    codes "stations" ∷ codes "line" ∷ codes "helpers" ∷ codes "units" ∷ codes "cert" ∷ codes "bound" ∷ []
+    codes "stations" ∷ codes "line" ∷ codes "helpers" ∷ codes "units" ∷ codes "cert" ∷ codes "seek" ∷ codes
+    "bound" ∷ []
 keys_taken Check = codes "steps" ∷ codes "apart" ∷ []
 keys_taken Convert = codes "to" ∷ codes "cycle" ∷ codes "apart" ∷ []
 keys_taken Combine = []
@@ -95,7 +96,7 @@ keys_taken Draw = codes "apart" ∷ []
 keys_taken Plan = codes "apart" ∷ []
 keys_taken Effic =
     codes "least" ∷ codes "most" ∷ codes "line" ∷ codes "helpers" ∷ codes "units" ∷ codes "cert" ∷ codes
-    "bound" ∷ []
+    "seek" ∷ codes "bound" ∷ []
 keys_taken EfficCheck = codes "steps" ∷ []
 keys_taken Sequence = codes "interval" ∷ codes "length" ∷ codes "units" ∷ codes "out" ∷ codes "seek" ∷ []
 keys_taken SequenceCheck = codes "interval" ∷ codes "length" ∷ codes "steps" ∷ []

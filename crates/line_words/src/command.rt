@@ -155,7 +155,9 @@ impl Command {
             Command::Solve => &[
                 "cycle", "line", "helpers", "units", "cert", "apart", "warm", "seek", "bound",
             ],
-            Command::Cycle => &["stations", "line", "helpers", "units", "cert", "bound"],
+            Command::Cycle => &[
+                "stations", "line", "helpers", "units", "cert", "seek", "bound",
+            ],
             Command::Check => &["steps", "apart"],
             Command::Convert => &["to", "cycle", "apart"],
             Command::Combine => &[],
@@ -165,7 +167,9 @@ impl Command {
             Command::Try => &["seed", "tasks", "cycle", "line", "units"],
             Command::Draw => &["apart"],
             Command::Plan => &["apart"],
-            Command::Effic => &["least", "most", "line", "helpers", "units", "cert", "bound"],
+            Command::Effic => &[
+                "least", "most", "line", "helpers", "units", "cert", "seek", "bound",
+            ],
             Command::EfficCheck => &["steps"],
             Command::Sequence => &["interval", "length", "units", "out", "seek"],
             Command::SequenceCheck => &["interval", "length", "steps"],

@@ -84,7 +84,8 @@ pub enum Job {
         seek: u64,
         bound: BoundWord,
     },
-    /// The least cycle time of a number of stations.
+    /// The least cycle time of a number of stations, from what a seek of as many loads finds at each cycle that is
+    /// tried.
     Cycle {
         file: Name,
         stations: u32,
@@ -92,6 +93,7 @@ pub enum Job {
         helpers: u32,
         units: u64,
         cert: Option<Name>,
+        seek: u64,
         bound: BoundWord,
     },
     /// The test of a certificate, in at most as many steps.
@@ -160,7 +162,8 @@ pub enum Job {
         cert: Name,
         apart: Option<Name>,
     },
-    /// The least product of stations and cycle, in a number of stations from the least to the most one.
+    /// The least product of stations and cycle, in a number of stations from the least to the most one, with such a
+    /// seek at each cycle that is tried.
     Effic {
         file: Name,
         least: u32,
@@ -169,6 +172,7 @@ pub enum Job {
         helpers: u32,
         units: u64,
         cert: Option<Name>,
+        seek: u64,
         bound: BoundWord,
     },
     /// The test of a certificate of a least product, in at most as many steps.
@@ -400,6 +404,7 @@ fn cycle_job(alloc: Global, words: &[String]) -> Result<Job, AllocError>
         helpers: helpers_set(command, words),
         units: number_or(command, words, "units", 1_000_000),
         cert: name_set(alloc, words, "cert")?,
+        seek: number_or(command, words, "seek", 0),
         bound: bound_set(words),
     })
 }
@@ -520,6 +525,7 @@ fn effic_job(alloc: Global, words: &[String]) -> Result<Job, AllocError>
         helpers: helpers_set(command, words),
         units: number_or(command, words, "units", 1_000_000),
         cert: name_set(alloc, words, "cert")?,
+        seek: number_or(command, words, "seek", 0),
         bound: bound_set(words),
     })
 }

@@ -15,6 +15,8 @@ mod pair_tests;
 #[cfg(test)]
 mod runs;
 #[cfg(test)]
+mod seek_cycle_tests;
+#[cfg(test)]
 mod sequence_tests;
 #[cfg(test)]
 mod solve_tests;

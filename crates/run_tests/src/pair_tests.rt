@@ -1,7 +1,6 @@
 //! Runs whose lines are settled by pairs: tasks of which no two can share a station. The rows are worked by hand or by
 //! another program.
-use crate::runs::{files, first_wrong, slashed, unslashed};
-use line_io::MemShelf;
+use crate::runs::{files_with, first_wrong, other_entries, unslashed};
 use std::alloc::{AllocError, Global};
 use std::sync::Wait;
 use std::test::Fail;
@@ -106,36 +105,12 @@ thirds 12 3 1/2/2/3/|pairs 12 f 2 8|refused: entry 0 pairs/
 each 20 3 1/2/2/3/|pairs 20 f 2 c|refused: entry 0 pairs/
 b4 20 3 1/1/3/2/|pairs 20 b 2 b|refused: entry 0 pairs/";
 
-/// A shelf with the lines of these rows.
-fn lines(alloc: Global) -> Result<MemShelf, AllocError> {
-    let mut shelf = files(alloc, &[])?;
-    for row in LINES.lines() {
-        let (name, text) = row.split_once(' ').unwrap_or((row, ""));
-        shelf.put_file(name, &unslashed(alloc, text)?)?;
-    }
-    Ok(shelf)
-}
-
-/// The first row of a file whose version or entries are others; nothing where none is.
-fn other_entries(alloc: Global, shelf: &MemShelf) -> Result<String, AllocError> {
-    for row in ENTRIES.lines() {
-        let (name, rest) = row.split_once('|').unwrap_or(("", ""));
-        let (version, entries) = rest.split_once('|').unwrap_or(("", ""));
-        let text = slashed(alloc, shelf.file(name).unwrap_or(b""))?;
-        let first = format!(in alloc; "line balance {version}/")?;
-        if !text.starts_with(first.as_str()) || !text.ends_with(entries) {
-            return format!(in alloc; "{name}: {text}");
-        }
-    }
-    Ok(String::new(alloc))
-}
-
 #[test]
 fn pairs_settle_what_loads_would_have_to(rt: HostRuntime) -> Result<(), Fail> {
-    let mut shelf = lines(rt.alloc())?;
+    let mut shelf = files_with(rt.alloc(), LINES)?;
     let wrong = first_wrong(&rt, rt.alloc(), SOLVED, &mut shelf)?;
     assert_eq!(rt; wrong.as_str(), "");
-    let other = other_entries(rt.alloc(), &shelf)?;
+    let other = other_entries(rt.alloc(), ENTRIES, &shelf)?;
     assert_eq!(rt; other.as_str(), "");
     Ok(())
 }
@@ -155,7 +130,7 @@ fn wrong_refused<R: Threads + Wait + Sync>(
         "line balance certificate 3/line straight/tasks 4/cycle {cycle}/lower {stations}/upper {stations}/"
     )?;
     let rest = format!(in alloc; "balance {stations}/{places}entries 1/{entry}/trail 0/end/")?;
-    let mut shelf = lines(alloc)?;
+    let mut shelf = files_with(alloc, LINES)?;
     let whole = format!(in alloc; "{text}{rest}")?;
     shelf.put_file("r.cert", &unslashed(alloc, whole.as_str())?)?;
     let step = format!(in alloc; "check {line}.in2 r.cert|7|{told}")?;

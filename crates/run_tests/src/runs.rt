@@ -147,6 +147,31 @@ pub fn files(alloc: Global, fails: &[u64]) -> Result<MemShelf, AllocError> {
     Ok(shelf)
 }
 
+/// A shelf with the files of both tables, and with those of further rows.
+pub fn files_with(alloc: Global, rows: &str) -> Result<MemShelf, AllocError> {
+    let mut shelf = files(alloc, &[])?;
+    for row in rows.lines() {
+        let (name, text) = row.split_once(' ').unwrap_or((row, ""));
+        shelf.put_file(name, &unslashed(alloc, text)?)?;
+    }
+    Ok(shelf)
+}
+
+/// The text of the first certificate with another version or other entries than its row has; nothing where there is
+/// none. A row has the name of its file, the version, and what stands behind the places.
+pub fn other_entries(alloc: Global, rows: &str, shelf: &MemShelf) -> Result<String, AllocError> {
+    for row in rows.lines() {
+        let (name, rest) = row.split_once('|').unwrap_or(("", ""));
+        let (version, entries) = rest.split_once('|').unwrap_or(("", ""));
+        let text = slashed(alloc, shelf.file(name).unwrap_or(b""))?;
+        let first = format!(in alloc; "line balance {version}/")?;
+        if !text.starts_with(first.as_str()) || !text.ends_with(entries) {
+            return format!(in alloc; "{name}: {text}");
+        }
+    }
+    Ok(String::new(alloc))
+}
+
 /// The text of a certificate that is kept, and nothing where none is.
 fn kept_text(alloc: Global, kept: &Kept) -> Result<Vec<u8>, AllocError> {
     match kept {

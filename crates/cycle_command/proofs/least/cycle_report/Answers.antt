@@ -1,4 +1,4 @@
-use Rattle.std.proofs.Common.{◌≡◌, option_map, subst, sym, inl, inr, arith, List, ℕ, Option, None}
+use Rattle.std.proofs.Common.{◌≡◌, option_map, subst, sym, inl, inr, arith, List, ℕ, Option}
 use Rattle.line_rules.specs.declared.types.Certificate.{Certificate}
 use Rattle.command_outcome.specs.Outcome.{Files, Outside, Outcome, outcome_of, outside}
 use Rattle.command_outcome.specs.declared.report.Kept.TheVariants.{Line as Certified}

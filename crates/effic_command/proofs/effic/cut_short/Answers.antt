@@ -12,6 +12,8 @@ returns-clause-answer c =
     subst S (sym c.refuse.ensures) (record {
       lower = c.args.lower;
       upper = c.args.upper;
-      true_bounds = c.requires.true_bounds;
+      below = c.requires.wanting.below;
+      last = c.requires.wanting.first;
+      true_bounds = c.requires.wanting.true_bounds;
       shown = ap (told ends.Memory) c.in_ok-text.ensures;
     })

@@ -114,7 +114,7 @@ returns-in-Solve-clause-promise g c = λ t answers.
     subst J (sym job.is)
     (reports_so (Rises (g.S.Shelf.fetch_faults c.args.shelf.now) (g.S.Shelf.fetch_faults c.solve_report.new.shelf))
     (Rises (g.S.Shelf.write_faults c.args.shelf.now) (g.S.Shelf.write_faults c.solve_report.new.shelf))
-    (P (planned job.helpers job.units job.bound) job.file job.apart job.warm (kind_of job.line) job.cert) r
+    (P (planned job.helpers job.units job.bound 0) job.file job.apart job.warm (kind_of job.line) job.cert) r
     (subst O plan.ensures (of_solve (λ f a w k n. IfOk r (P plan.result f a w k n)) c.text-in-Solve.ensures
     c.name_of-in-Solve.ensures c.name_of-in-Solve-2.ensures c.kind_of-kind-in-Solve.ensures c.name_of-in-Solve-3.ensures
     (c.solve_report.ensures.promise t)))
