@@ -15,7 +15,9 @@ const COMMANDS: [(&str, &[&str], &[&str]); 17] = [
     (
         "cycle",
         &["in2"],
-        &["stations", "line", "helpers", "units", "cert", "bound"],
+        &[
+            "stations", "line", "helpers", "units", "cert", "seek", "bound",
+        ],
     ),
     ("check", &["in2", "cert"], &["steps", "apart"]),
     ("convert", &["any", "out"], &["to", "cycle", "apart"]),
@@ -33,7 +35,9 @@ const COMMANDS: [(&str, &[&str], &[&str]); 17] = [
     (
         "effic",
         &["in2"],
-        &["least", "most", "line", "helpers", "units", "cert", "bound"],
+        &[
+            "least", "most", "line", "helpers", "units", "cert", "seek", "bound",
+        ],
     ),
     ("effic-check", &["in2", "cert"], &["steps"]),
     (
