@@ -1,36 +1,18 @@
 //! Searches that ask the pairs, as they were worked out outside: their answers, units and entries in order, and those of
 //! the same searches without a table. The tasks of a set are counted from 0.
-ghost use Rattle.std.specs.Prelude.{◌≤◌, IfOk, IfSome};
+ghost use Rattle.std.specs.Prelude.{◌≤◌};
 ghost use Rattle.line_rules.specs.Ranges.{IsCycle};
-ghost use Rattle.station_search.specs.Decide.{IsPairing};
 
 use super::{answer_text, book_at, entries_text, instance};
 use line_instance::{Instance, Prec};
 use line_rules::LineKind;
-use station_search::{PairTable, Units, decide_in, pair_table};
-use std::alloc::{AllocError, Global};
+use station_search::{Units, decide_in, table_for};
+use std::alloc::Global;
 use std::test::Fail;
 
 const STRAIGHT: LineKind = LineKind::Straight;
 
 const U: LineKind = LineKind::U;
-
-/// A table for a line at a cycle, or none.
-fn table(
-    alloc: Global,
-    inst: &Instance,
-    kind: LineKind,
-    cycle: u64,
-    is_wanted: bool,
-) -> Result<Option<PairTable>, AllocError>
-    requires { IsCycle cycle }
-    ensures { IfOk result (λ pairs. IfSome pairs (IsPairing inst.now kind cycle)) }
-{
-    if !is_wanted {
-        return Ok(None);
-    }
-    Ok(Some(pair_table(alloc, inst, kind, cycle)?))
-}
 
 /// The answer on all tasks of an instance, by an empty book, with a table of pairs or without one.
 fn answer(
@@ -46,7 +28,7 @@ fn answer(
     requires few { most ≤ 1024 }
 {
     let mut book = book_at(alloc, inst, kind, cycle)?;
-    let mut pairs = table(alloc, inst, kind, cycle, is_paired)?;
+    let mut pairs = table_for(alloc, inst, kind, cycle, is_paired)?;
     let all = inst.all();
     let mut units = Units { left, used: 0 };
     let decided = decide_in(
