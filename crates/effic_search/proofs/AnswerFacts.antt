@@ -36,9 +36,11 @@ use Rattle.effic_search.specs.declared.lowering.Lowering.{Lowering}
 use Rattle.effic_search.proofs.ListFacts.{ends_split, last_added, get_behind}
 use Rattle.effic_search.proofs.SinceFacts.{since_goal, since_more}
 use Rattle.effic_search.proofs.TryFacts.{first_frame, left_cycle, ranked_going}
-use Rattle.effic_search.proofs.GainFacts.{HasGained, sought_gains, asked_gains, gains_both, both_at, room_most}
+use Rattle.cycle_search.proofs.SeekFacts.{room_limit}
+use Rattle.effic_search.proofs.GainFacts.{HasGained, sought_gains, asked_gains, gains_both, both_at}
 use Rattle.effic_search.proofs.GainFacts.{about_now, gained_lowering, near_now, closed_now, clear_other, found_going}
-use Rattle.effic_search.proofs.GainFacts.{product_now, none_sought, room_few}
+use Rattle.cycle_search.proofs.SeekFacts.{try_limit}
+use Rattle.effic_search.proofs.GainFacts.{product_now, none_sought}
 
 -- another balance leaves the seeks alone
 pub seeks_stay : (plan : Plan) (old new : Lowering) → new.seeks ≡ old.seeks → AreSeeks plan old.seeks
@@ -78,10 +80,10 @@ module _ (kind : LineKind) (line : Line) (least most m X : ℕ) (plan : Plan) (o
     sought_gain = sought_gains m plan X old mid found s
 
     sought_few : seek_room plan ≤ 6000001
-    sought_few = omega (arith, room_most plan)
+    sought_few = omega (arith, room_limit plan)
 
     sought_paid : seek_room plan ≤ 6000000
-    sought_paid = omega (arith, room_most plan)
+    sought_paid = omega (arith, room_limit plan)
 
     pub sought_lowering : IsLowering kind line least most mid
     sought_lowering =
@@ -134,10 +136,10 @@ module _ (kind : LineKind) (line : Line) (least most m X : ℕ) (plan : Plan) (o
           asked_gain
 
       all_few : many ≤ 6000001
-      all_few = omega (arith, room_few plan limit)
+      all_few = omega (arith, try_limit plan limit)
 
       all_paid : paid ≤ 6000000
-      all_paid = room_few plan limit
+      all_paid = omega (arith, try_limit plan limit)
 
       about_new : new.book.about ≡ record { line = line; kind = kind; cycle = X }
       about_new =

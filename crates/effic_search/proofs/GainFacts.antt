@@ -1,7 +1,6 @@
 -- What a book gains in a try, by its seek and by its round, and what the search is then.
-use Rattle.std.proofs.Common.{◌≡◌, ℕ, ◌+◌, ◌-◌, ◌*◌, ◌<◌, ◌≤◌, Bool, true, false, cond, List, [], ◌∷◌, ◌++◌, length}
+use Rattle.std.proofs.Common.{◌≡◌, ℕ, ◌+◌, ◌-◌, ◌*◌, ◌<◌, ◌≤◌, List, [], ◌∷◌, ◌++◌, length}
 use Rattle.std.proofs.Common.{refl, sym, ap, ◌∙◌, subst, inl, inr, arith, Option, length-append, append_assoc}
-use Rattle.std.specs.Prelude.{nat_eq}
 use Rattle.std.proofs.Math.Nat.{mul-le-mul_left}
 use Rattle.std.proofs.Math.Seq.{take-length}
 use Rattle.line_instance.specs.Line.{Line}
@@ -25,25 +24,11 @@ use Rattle.effic_check.specs.Accepted.{IsClosed, cycle_below}
 use Rattle.effic_search.specs.Counted.{IsCounted, IsWithin}
 use Rattle.effic_search.specs.Since.{IsSinceGoal}
 use Rattle.effic_search.specs.inner.Going.{IsFloored, HaveCycles, IsTight, IsLowering, IsGoing, IsTry, HasSought}
+use Rattle.cycle_search.proofs.SeekFacts.{no_room, room_limit, try_limit}
 use Rattle.effic_search.specs.inner.Going.{HasAsked, IsImproved, product_of, entries_of}
 use Rattle.effic_search.specs.declared.lowering.Lowering.{Lowering}
 use Rattle.effic_search.proofs.SinceFacts.{since_other}
 use Rattle.effic_search.proofs.TryFacts.{below_upper, improved_going, product_less}
-
--- what a seek may add, and what a try may
-room_least : (b : Bool) (u : ℕ) → cond b 0 (2500000 - 2 * u) ≤ 2500000
-room_least true u = omega arith
-room_least false u = omega arith
-
-room_step : (b : Bool) (u : ℕ) → u ≤ 3000000 → cond b 0 (2500000 - 2 * u) + 2 * u ≤ 6000000
-room_step true u l = omega (arith, l)
-room_step false u l = omega (arith, l)
-
-pub room_most : (plan : Plan) → seek_room plan ≤ 2500000
-room_most plan = room_least (nat_eq plan.seek 0) plan.units
-
-pub room_few : (plan : Plan) → plan.units ≤ 3000000 → seek_room plan + 2 * plan.units ≤ 6000000
-room_few plan l = room_step (nat_eq plan.seek 0) plan.units l
 
 -- without a seek there is no room for its entries
 no_entry : (es : List Entry) → length es ≤ 0 → es ≡ []
@@ -52,9 +37,7 @@ no_entry (e ∷ es) l = absurd (omega (arith, l))
 
 pub none_sought : (line : Line) (plan : Plan) (es : List Entry) → plan.seek ≡ 0 → IsWithin line es (seek_room plan)
     → es ≡ []
-none_sought line plan es none w =
-    let P : ℕ → Type 0 = λ z. length es ≤ cond (nat_eq z 0) 0 (2500000 - 2 * plan.units) in
-    no_entry es (subst P none w.few)
+none_sought line plan es none w = no_entry es (omega (arith, w.few, no_room plan none))
 
 -- A search whose book came to the cycle X and gained entries there, at most so many and of at most so many units: they
 -- are counted, and its balance stays.

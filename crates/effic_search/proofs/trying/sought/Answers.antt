@@ -4,7 +4,7 @@ use Rattle.line_rules.specs.Entries.{IsDerived}
 use Rattle.line_rules.specs.declared.types.LineKind.{LineKind}
 use Rattle.lemma_core.specs.Machine.{About}
 use Rattle.lemma_core.specs.Books.{BookView}
-use Rattle.effic_search.proofs.GainFacts.{room_most}
+use Rattle.cycle_search.proofs.SeekFacts.{room_limit}
 use Rattle.effic_search.proofs.trying.sought.Goals as goal
 
 pub counted-listed-requires-clause-derived : goal.counted-listed-requires-clause-derived
@@ -23,4 +23,4 @@ counted-listed-requires-clause-derived g c =
 
 pub counted-listed-requires-clause-small : goal.counted-listed-requires-clause-small
 counted-listed-requires-clause-small g c =
-    omega (arith, c.requires.small, c.in_ok-sought.ensures.sought.within, room_most c.args.plan.now)
+    omega (arith, c.requires.small, c.in_ok-sought.ensures.sought.within, room_limit c.args.plan.now)
