@@ -24,7 +24,7 @@ use Rattle.effic_check.specs.Accepted.{IsClosed, cycle_below}
 use Rattle.effic_search.specs.Counted.{IsCounted, IsWithin}
 use Rattle.effic_search.specs.Since.{IsSinceGoal}
 use Rattle.effic_search.specs.inner.Going.{IsFloored, HaveCycles, IsTight, IsLowering, IsGoing, IsTry, HasSought}
-use Rattle.cycle_search.proofs.SeekFacts.{no_room, room_limit, try_limit}
+use Rattle.cycle_search.proofs.SeekFacts.{no_room}
 use Rattle.effic_search.specs.inner.Going.{HasAsked, IsImproved, product_of, entries_of}
 use Rattle.effic_search.specs.declared.lowering.Lowering.{Lowering}
 use Rattle.effic_search.proofs.SinceFacts.{since_other}
