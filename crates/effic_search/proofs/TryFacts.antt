@@ -26,7 +26,7 @@ use Rattle.cycle_search.proofs.Tries.{widened_right}
 use Rattle.effic_check.specs.Accepted.{IsClosed, cycle_below}
 use Rattle.effic_search.specs.Counted.{IsCounted}
 use Rattle.effic_search.specs.inner.Going.{IsFloored, HaveCycles, IsLowering, IsGoing, IsLeftAt}
-use Rattle.effic_search.specs.inner.Going.{IsImproved}
+use Rattle.effic_search.specs.inner.Going.{IsImproved, IsTight}
 use Rattle.effic_search.specs.inner.Going.{IsSettled, product_of, entries_of}
 use Rattle.effic_search.specs.declared.settling.Settled.{Settled}
 use Rattle.effic_search.specs.declared.settling.Settled.TheVariants as settled
@@ -35,6 +35,25 @@ use Rattle.effic_search.specs.declared.counting.Listed.{Listed}
 use Rattle.effic_search.specs.declared.lowering.Lowering.{Lowering}
 use Rattle.effic_search.proofs.ListFacts.{has_shorter}
 use Rattle.effic_search.proofs.LowestFacts.{below_near, closed_less}
+
+-- a search is improved by a balance in m stations that is right at its new cycle, and at no lesser one
+pub improved_by : (kind : LineKind) (line : Line) (m X : ℕ) (old new : Lowering) (b : Assignment)
+    → new.book ≡ old.book → new.listed ≡ old.listed → new.seeks ≡ old.seeks → new.balance ≡ b → b.stations ≡ m
+    → IsRight kind line new.cycle b → IsTight kind line b new.cycle → 1 ≤ new.cycle → new.cycle ≤ X
+    → IsImproved kind line m X old new
+improved_by kind line m X old new b book listed seeks is stations right tight some less =
+    let B : Assignment → Type 0 = λ z. IsRight kind line new.cycle z in
+    let T : Assignment → Type 0 = λ z. IsTight kind line z new.cycle in
+    record {
+      book = book;
+      listed = listed;
+      seeks = seeks;
+      stations = ap (λ (z : Assignment). z.stations) is ∙ stations;
+      right = subst B (sym is) right;
+      tight = subst T (sym is) tight;
+      some = some;
+      less = less;
+    }
 
 -- a balance that is right at a cycle is right at a greater one
 pub right_longer : (kind : LineKind) (line : Line) (c d : ℕ) (b : Assignment) → c ≤ d → IsRight kind line c b
