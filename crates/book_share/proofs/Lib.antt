@@ -5,4 +5,4 @@ pub mod LoadSteps
 pub mod SplitFacts
 pub mod Hands
 pub mod CallFacts
-pub mod MarkFacts
+pub mod MemoFacts

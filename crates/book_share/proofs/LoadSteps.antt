@@ -16,7 +16,8 @@ use Rattle.lemma_core.proofs.ExactItems.{exact_begins}
 use Rattle.book_share.specs.Passes.{Phase, Idle, Holding, Recorded, Lowered, Spent, Base, PassView}
 use Rattle.book_share.specs.Places.{but_last, once_from}
 use Rattle.book_share.specs.Rule.{turn_of, shown, counted, fewest, spent, IsReached, Stands, Home, IsIdle, Kept}
-use Rattle.book_share.specs.Steps.{lowered, loaded, IsLeastCount, IsEventCount, Lowers, LoadsBest, LoadsCount, Settles}
+use Rattle.book_share.specs.Steps.{lowered, loaded, IsLeastCount, IsEventCount, Lowers, Peeks, LoadsBest}
+use Rattle.book_share.specs.Steps.{LoadsCount, Settles}
 use Rattle.book_share.specs.inner.Turning.{IsQuiet}
 use Rattle.book_share.proofs.Lists.{begins_refl, but_last_push, begins_but_last}
 use Rattle.book_share.proofs.Sums.{at_same, set_there, all_set}
@@ -180,6 +181,16 @@ event_count s k id v at rest =
       exact = subst (λ (b : Base). AreExact b.opening k.view.seen) (sym mine.base) k.stands.exact;
       count = ap (λ (l : List ℕ). slice_index l 1) k.words;
     }
+
+pub peeks : (n id : ℕ) (v : PassView) (c : List (ℕ × Option BookView))
+    → Allows Kept n id (v, c) 0 (λ m. m) (Peeks (step n 0 0 0 none) (v, c))
+peeks n id v c s k wide at _ = (
+  v,
+  keeps,
+  tt,
+  unchanged s k id v at 0 (subst (λ (l : List ℕ). slice_set l 0 (slice_index l 0) ≡ l) (sym k.words) refl),
+  refl,
+)
 
 pub loads_best : (n id : ℕ) (v : PassView) (c : List (ℕ × Option BookView)) → v.phase ≡ Idle
     → Allows Kept n id (v, c) 2 (λ m. m) (LoadsBest (step n 2 0 0 none) (v, c))

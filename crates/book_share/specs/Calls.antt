@@ -1,7 +1,8 @@
 -- What the calls of a share promise of a pass: what it has seen, its own places, its tries, its loads and its parts.
 -- Each answer is in the words of a desk (lemma_core), on a list that begins with what was seen before. Own.
-use Rattle.std.specs.Prelude.{◌≡◌, ℕ, suc, ◌<◌, ◌≤◌, slice_get, Option, Some, None}
+use Rattle.std.specs.Prelude.{◌≡◌, ℕ, suc, ◌<◌, ◌≤◌, List, Bool, slice_get, Option, Some, None}
 use Rattle.atomic_table.specs.Seated.{TableId}
+use Rattle.line_rules.specs.Entries.{Answers, IsUnanswered}
 use Rattle.line_rules.specs.declared.types.Entry.{Entry}
 use Rattle.lemma_core.specs.declared.types.Looked.{Looked}
 use Rattle.lemma_core.specs.declared.types.Looked.TheVariants as looked
@@ -14,6 +15,8 @@ use Rattle.book_share.specs.declared.pass.TryLooked.{TryLooked}
 use Rattle.book_share.specs.declared.pass.TryLooked.TheVariants as try_looked
 use Rattle.book_share.specs.declared.pass.TryPublished.{TryPublished}
 use Rattle.book_share.specs.declared.pass.TryPublished.TheVariants as try_published
+use Rattle.book_share.specs.declared.pass.Glimpsed.{Glimpsed}
+use Rattle.book_share.specs.declared.pass.Glimpsed.TheVariants as glimpsed
 use Rattle.book_share.specs.declared.pass.Started.{Started}
 use Rattle.book_share.specs.declared.pass.Started.TheVariants as started
 use Rattle.book_share.specs.Passes.{PassView, PassOf, desk_by}
@@ -57,6 +60,18 @@ abbrev pub found_by : TryLooked → Option Looked
 found_by (try_looked.Found id most) = Some (looked.Found id most)
 found_by try_looked.Absent = Some looked.Absent
 found_by try_looked.Busy = None
+
+-- what a glimpse tells of entries: the one of this number answers, none does, or nothing
+abbrev pub Glimpses : List Entry → List Bool → ℕ → ℕ → Glimpsed → Type 0
+Glimpses es set most cycle (glimpsed.Found id) = (e : Entry) × (slice_get es id ≡ Some e) × Answers e set most cycle
+Glimpses es set most cycle glimpsed.Absent = IsUnanswered es set most cycle
+Glimpses es set most cycle glimpsed.Unknown = Unit {0}
+
+-- a glimpse tells something
+abbrev pub IsKnown : Glimpsed → Type 0
+IsKnown (glimpsed.Found id) = Unit {0}
+IsKnown glimpsed.Absent = Unit {0}
+IsKnown glimpsed.Unknown = ⊥
 
 -- what became of an entry, where the turn wasn't held
 abbrev pub published_by : TryPublished → Option Published

@@ -47,6 +47,10 @@ Takes st m found n =
     (found ≡ 0 → (b : BookView) × (n ≡ (taken m.0 b.events, (0, Some b) ∷ [])) × IsHad m.0 b)
     × (found ≢ 0 → (found ≡ 1) × (n ≡ (missed m.0, [])))
 
+-- peek: nothing is learnt
+abbrev pub Peeks : Step (Option BookView) → Mine → ℕ → Mine → Type 0
+Peeks st m found n = n ≡ m
+
 -- the log of the book in the slot that the seat has
 abbrev pub log_in : List (ℕ × Option BookView) → List Item
 log_in [] = []

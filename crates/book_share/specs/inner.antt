@@ -1,3 +1,3 @@
 pub mod Inside
 pub mod Turning
-pub mod Marking
+pub mod Memo

@@ -5,18 +5,18 @@
 //! one slot with the book. Who has the turn has the book. The rule of the table says what is true between any two steps
 //! (specs/Rule.antt), and each step tells its pass what it learns (specs/Steps.antt). The promises of the calls are in
 //! terms of what a pass knows before and after (specs/Passes.antt, specs/Calls.antt), and a reader needs no step for
-//! them.
+//! them. A pass may keep a memo of what it has seen, which answers most questions without a turn (src/memo.rt).
 #![tactic(auto)]
 
 mod desked;
+mod lemma_rows;
 mod marks;
+mod memo;
 mod pass;
 mod rule;
 mod share;
-#[cfg(test)]
-mod tests;
 mod turns;
 mod view;
 
 pub use desked::Desked;
-pub use pass::{Pass, Share, Started, TryLooked, TryPublished};
+pub use pass::{Glimpsed, Pass, Share, Started, TryLooked, TryPublished};

@@ -1,9 +1,9 @@
 //! A share and its passes, and what they answer. What a pass knows stands in contracts alone; at run time
-//! it has marks of the entries that it has seen, where its caller wants some.
+//! it has a memo of the entries that it has seen, where its caller wants one.
 ghost use Rattle.std.specs.Prelude.{◌≡◌, Some};
 ghost use Rattle.book_share.specs.Calls.{found_by, published_by};
 
-use crate::marks::Marks;
+use crate::memo::Memo;
 use crate::turns::{Room, Sitter};
 use lemma_core::{Book, Looked, Published};
 use line_rules::Entry;
@@ -34,12 +34,12 @@ impl Model for Share {
 #[derive(Drop)]
 pub struct Pass {
     pub(crate) seat: Sitter,
-    pub(crate) marks: Marks,
+    pub(crate) memo: Option<Memo>,
 }
 
 impl Model for Pass {
     ghost use Rattle.book_share.specs.Passes.{PassOf, desk_by};
-    ghost use Rattle.book_share.specs.inner.Marking.{AreMarkedBy};
+    ghost use Rattle.book_share.specs.inner.Memo.{IsMemoBy};
 
     ghost Value = { PassOf };
 
@@ -47,16 +47,16 @@ impl Model for Pass {
 
     ghost view = { λ p. record { share = p.seat.table_id; view = p.seat.me.0 } };
 
-    ghost invariant = { λ p. IsResting p.seat.me × AreMarkedBy p.marks (desk_by p.seat.me.0) };
+    ghost invariant = { λ p. IsResting p.seat.me × IsMemoBy p.memo (desk_by p.seat.me.0) };
 }
 
 impl Pass {
-    /// Keeps marks of the entries that the pass sees from its next turn on, and of those that it has seen by then. They
-    /// take 512 KiB; out of memory, it keeps none.
-    pub fn keep_marks(&mut self, alloc: Global)
+    /// Keeps a memo of the entries that the pass has seen, for `glimpse`: from its next turn on, of all of them. It
+    /// takes 3 MB; where there is memory for a part of it alone, it tells less.
+    pub fn keep_memo(&mut self, alloc: Global)
         ensures { self.new ≡ self.old }
     {
-        self.marks = Marks::new(alloc);
+        self.memo = Some(Memo::new(alloc));
     }
 }
 
@@ -78,6 +78,17 @@ pub enum TryLooked {
     Absent,
     /// Another pass had the turn.
     Busy,
+}
+
+/// What a glimpse tells, which waits for nobody.
+#[derive(Clone, Copy, Debug, PartialEq, Eq)]
+pub enum Glimpsed {
+    /// The entry of this number, from 0, answers the question. It need not be the last such.
+    Found(u64),
+    /// No entry that the pass has seen answers it.
+    Absent,
+    /// Neither is known without a turn.
+    Unknown,
 }
 
 /// What becomes of an entry whose publishing waits for nobody.

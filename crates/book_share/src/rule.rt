@@ -1,7 +1,7 @@
 //! The rule of the table (specs/Rule.antt), and a type for each kind of step, which says what the step tells
 //! (specs/Steps.antt). They have no bytes.
 ghost use Rattle.book_share.specs.Rule.{Kept, newcomer, left_of, right_of, both_of, spent};
-ghost use Rattle.book_share.specs.Steps.{Takes, Records, Lowers, Gives, LoadsBest, LoadsCount, Settles};
+ghost use Rattle.book_share.specs.Steps.{Takes, Peeks, Records, Lowers, Gives, LoadsBest, LoadsCount, Settles};
 
 use crate::view::View;
 use atomic_table::{Join, Play, Split, TableRule};
@@ -22,6 +22,13 @@ pub struct Take;
 
 impl Play<Option<Book>, View> for Take {
     ghost then = { Takes };
+}
+
+/// A load of the turn's word, before a further attempt to take it.
+pub struct Peek;
+
+impl Play<Option<Book>, View> for Peek {
+    ghost then = { Peeks };
 }
 
 /// An event is counted, and so has its place.

@@ -1,24 +1,24 @@
 //! The calls of a share.
 //!
-//! Each but `least`, `glance`, `split` and `join` is one turn (turns.rt): what it answers is the book's answer at that
-//! point of the one history, and the pass has then seen the history up to there. A turn costs what the book's call
-//! costs and three or four atomic steps; the other calls cost one or two.
-ghost use Rattle.std.specs.Prelude.{◌≡◌, ◌≤◌, ℕ, length, IfSome, IfNone, IsTrue};
+//! Each but `least`, `glance`, `glimpse`, `split` and `join` is one turn (turns.rt): what it answers is the book's
+//! answer at that point of the one history, and the pass has then seen the history up to there. A turn costs what the
+//! book's call costs and three or four atomic steps. Of the other calls `glimpse` takes no step, and the rest take one
+//! or two.
+ghost use Rattle.std.specs.Prelude.{◌≡◌, ◌≤◌, length, IfSome, IfNone};
 ghost use Rattle.line_rules.specs.Balance.{IsRight};
 ghost use Rattle.lemma_core.specs.History.{Begins};
 ghost use Rattle.lemma_core.specs.Desks.{entries, HasDerived, FollowsSeen, Waits, Finds, Publishes, Offers};
 ghost use Rattle.lemma_core.specs.Books.{IsReserved};
 ghost use Rattle.lemma_core.specs.Own.{IsStatable};
-ghost use Rattle.line_rules.specs.Entries.{IsUnanswered};
 ghost use Rattle.book_share.specs.Passes.{desk_by};
 ghost use Rattle.book_share.specs.Places.{AreApart, AreAllFrom};
 ghost use Rattle.book_share.specs.Rule.{left_of, right_of, both_of};
 ghost use Rattle.book_share.specs.Steps.{missed, loaded, IsLeastCount, IsEventCount};
 ghost use Rattle.book_share.specs.Calls.{IsPassOf, Starts, IsSound, Rests, TriedOnce, Waited, found_by, published_by};
-ghost use Rattle.book_share.specs.Calls.{GivesBack};
+ghost use Rattle.book_share.specs.Calls.{GivesBack, Glimpses, IsKnown};
 
-use crate::marks::Marks;
-use crate::pass::{Pass, Share, Started, TryLooked, TryPublished};
+use crate::memo::{self, OwnEntry};
+use crate::pass::{Glimpsed, Pass, Share, Started, TryLooked, TryPublished};
 use crate::rule::{Both, Halve, LoadBest, LoadCount, Settle};
 use crate::turns::{self, COUNT, LEAST};
 use atomic_table::{Refused, Table};
@@ -47,8 +47,8 @@ impl Share {
         slots.push_reserved(Some(book));
         match Table::new(alloc, &[0, count, least], slots, &key) {
             Ok((table, seat)) => {
-                let marks = Marks::Off;
-                Started::Good(Share { table }, Pass { seat, marks })
+                let memo = None;
+                Started::Good(Share { table }, Pass { seat, memo })
             },
             Err(Refused { mut slots }) => {
                 let Some(Some(book)) = slots.pop() else {
@@ -76,14 +76,7 @@ impl Share {
         let Some(book) = turns::take(&self.table, &mut pass.seat) else {
             return TryLooked::Busy;
         };
-        TryLooked::of(turns::look(
-            &self.table,
-            &mut pass.seat,
-            book,
-            &mut pass.marks,
-            set,
-            most,
-        ))
+        TryLooked::of(turns::look(&self.table, &mut pass.seat, book, &mut pass.memo, set, most))
     }
 
     /// Publishes an entry as `publish` does; and Busy, where another pass has the turn, with the entry. It waits for
@@ -102,10 +95,18 @@ impl Share {
         ensures rests { Rests pass.old.view pass.new.view }
         ensures sound { IsSound pass.new.view }
     {
+        let own = OwnEntry::of(&step);
         let Some(book) = turns::take(&self.table, &mut pass.seat) else {
             return TryPublished::Busy(step);
         };
-        TryPublished::of(turns::publish(&self.table, &mut pass.seat, book, &mut pass.marks, step))
+        TryPublished::of(turns::publish(
+            &self.table,
+            &mut pass.seat,
+            book,
+            &mut pass.memo,
+            &own,
+            step,
+        ))
     }
 
     /// The least station count of a balance that was given at the start or offered since, 1 to 1,024: never more than
@@ -146,27 +147,23 @@ impl Share {
         ensures sound { IsSound pass.new.view }
     {
         let book = turns::take_waiting(rt, &self.table, &mut pass.seat);
-        turns::look(
-            &self.table,
-            &mut pass.seat,
-            book,
-            &mut pass.marks,
-            set,
-            most,
-        )
+        turns::look(&self.table, &mut pass.seat, book, &mut pass.memo, set, most)
     }
 
-    /// Whether the pass's marks show that no entry that it has seen has the set. Where they don't, there may be one or
-    /// none. It waits for nobody, takes no turn, and touches one word.
+    /// What the pass's memo tells of the question of the set and so many stations, at the book's cycle. It waits for
+    /// nobody, takes no turn and no memory, and touches two words of marks and a row.
     #[inline]
-    pub fn lacks(&self, pass: &Pass, set: &TaskSet) -> bool
+    pub fn glimpse(&self, pass: &Pass, set: &TaskSet, most: u32) -> Glimpsed
         requires { IsPassOf self.now pass.now }
-        ensures none { IsTrue result → (most cycle : ℕ) → IsUnanswered (entries (desk_by pass.now.view)) set.now most
-            cycle }
-        ensures derived { IsTrue result → HasDerived (desk_by pass.now.view) }
+        ensures glimpses { let desk = desk_by pass.now.view in
+            Glimpses (entries desk) set.now most desk.about.cycle result }
+        ensures derived { IsKnown result → HasDerived (desk_by pass.now.view) }
         ensures sound { IsSound pass.now.view }
     {
-        pass.marks.lack(set)
+        match &pass.memo {
+            Some(memo) => memo.glimpse(set, most),
+            None => Glimpsed::Unknown,
+        }
     }
 
     /// Publishes an entry that follows from those that the pass has seen and that a certificate can say: it is added
@@ -182,8 +179,16 @@ impl Share {
         ensures rests { Rests pass.old.view pass.new.view }
         ensures sound { IsSound pass.new.view }
     {
+        let own = OwnEntry::of(&step);
         let book = turns::take_waiting(rt, &self.table, &mut pass.seat);
-        turns::publish(&self.table, &mut pass.seat, book, &mut pass.marks, step)
+        turns::publish(
+            &self.table,
+            &mut pass.seat,
+            book,
+            &mut pass.memo,
+            &own,
+            step,
+        )
     }
 
     /// Offers a right balance of all tasks: it is the best from then on where it has fewer stations. It may wait for
@@ -198,7 +203,7 @@ impl Share {
         ensures sound { IsSound pass.new.view }
     {
         let book = turns::take_waiting(rt, &self.table, &mut pass.seat);
-        turns::offer(&self.table, &mut pass.seat, book, &mut pass.marks, balance)
+        turns::offer(&self.table, &mut pass.seat, book, &mut pass.memo, balance)
     }
 
     /// A further pass, which has seen the same and has no place of its own. One of the pass's parts goes to it, where
@@ -211,10 +216,7 @@ impl Share {
         ensures sound { IsSound pass.new.view × IsSound result.view }
     {
         let seat = self.table.shared.split_seat::<Halve>(&mut pass.seat);
-        Pass {
-            seat,
-            marks: Marks::Off,
-        }
+        Pass { seat, memo: None }
     }
 
     /// Ends another pass: this one has then the list that goes further, and the places and parts of both. What either
@@ -228,7 +230,7 @@ impl Share {
         ensures sound { IsSound pass.new.view }
     {
         let Pass { seat, .. } = other;
-        pass.marks.forget();
+        memo::forget(&mut pass.memo);
         self.table.shared.join_seat::<Both>(&mut pass.seat, seat);
         self.table.shared.load::<Settle>(&mut pass.seat, COUNT);
     }

@@ -1,22 +1,23 @@
 //! A turn, on a seat at the table: the turn and the book are taken, the book is asked, and both are given back.
 //!
 //! An event is counted when the book is home in its slot already, and before the turn is free, so its place is its
-//! number in the one history. Before the book goes home, marks of its entries catch up with it. Who finds the turn held
-//! spins for a while, and then yields the processor between tries.
+//! number in the one history. Before the book goes home, the pass's memo catches up with it. Who finds the turn held
+//! looks at its word until it is free, and tries again. It spins for a while between looks, and then yields the
+//! processor.
 ghost use Rattle.std.specs.Prelude.{◌≡◌, [], ◌∷◌, IfSome, IfNone, None};
 ghost use Rattle.line_rules.specs.Balance.{IsRight};
 ghost use Rattle.lemma_core.specs.History.{Item, AreExact, better};
 ghost use Rattle.lemma_core.specs.Desks.{entries, HasDerived, FollowsSeen, Finds, Publishes, Offers};
 ghost use Rattle.lemma_core.specs.Books.{IsReserved};
 ghost use Rattle.lemma_core.specs.Own.{IsStatable};
-ghost use Rattle.book_share.specs.inner.Marking.{AreMarkedBy, WereMarked};
+ghost use Rattle.book_share.specs.inner.Memo.{IsMemoBy, WasMemoBy, IsMemoBut, IsOwn};
 ghost use Rattle.book_share.specs.Passes.{desk_by};
 ghost use Rattle.book_share.specs.Rule.{OwnRises};
 ghost use Rattle.book_share.specs.Steps.{missed, taken, given, IsHad};
 ghost use Rattle.book_share.specs.inner.Turning.{Holds, HasNew, HasWaited, IsQuiet, Ends, noted};
 
-use crate::marks::Marks;
-use crate::rule::{Give, Lower, Record, Take, Turns};
+use crate::memo::{self, Memo, OwnEntry};
+use crate::rule::{Give, Lower, Peek, Record, Take, Turns};
 use crate::view::View;
 use atomic_table::{Seat, Table};
 use crossbeam_utils::Backoff;
@@ -62,6 +63,22 @@ pub fn take(room: &Room, seat: &mut Sitter) -> Option<Book>
     room.shared.exchange(seat, BOOK, None)
 }
 
+// Waits until the turn was seen to be free. It only loads the word, so whoever has the turn keeps its cache line.
+fn pause<R: Wait>(rt: &R, room: &Room, seat: &mut Sitter, backoff: &Backoff)
+    requires sized { (room.now.shared.table_id.words ≡ 3) × (room.now.shared.table_id.slots ≡ 1) }
+    requires seat { seat.old.table_id ≡ room.now.shared.table_id }
+    ensures seat { seat.new.table_id ≡ seat.old.table_id }
+    ensures me { seat.new.me ≡ seat.old.me }
+{
+    for _ in rt.forever() {
+        backoff.snooze();
+        if room.shared.load::<Peek>(seat, TURN) == 0 {
+            return;
+        }
+    }
+    unreachable!()
+}
+
 /// Waits for the turn, and takes it and the book.
 pub fn take_waiting<R: Wait>(rt: &R, room: &Room, seat: &mut Sitter) -> Book
     requires sized { (room.now.shared.table_id.words ≡ 3) × (room.now.shared.table_id.slots ≡ 1) }
@@ -73,7 +90,7 @@ pub fn take_waiting<R: Wait>(rt: &R, room: &Room, seat: &mut Sitter) -> Book
     for _ in rt.forever() {
         match take(room, seat) {
             Some(book) => return book,
-            None => backoff.snooze(),
+            None => pause(rt, room, seat, &backoff),
         }
     }
     unreachable!()
@@ -141,54 +158,83 @@ pub fn look(
     room: &Room,
     seat: &mut Sitter,
     mut book: Book,
-    marks: &mut Marks,
+    memo: &mut Option<Memo>,
     set: &TaskSet,
     most: u32,
 ) -> Looked
     requires sized { (room.now.shared.table_id.words ≡ 3) × (room.now.shared.table_id.slots ≡ 1) }
     requires seat { (seat.old.table_id ≡ room.now.shared.table_id) × Holds seat.old.me book }
-    requires marks { WereMarked marks.old (desk_by seat.old.me.0) }
+    requires memo { WasMemoBy memo.old (desk_by seat.old.me.0) }
     ensures seat { seat.new.table_id ≡ seat.old.table_id }
     ensures me { seat.new.me ≡ (given seat.old.me.0, []) }
     ensures finds { let desk = desk_by seat.new.me.0 in Finds (entries desk) set.now most desk.about.cycle result }
     ensures derived { HasDerived (desk_by seat.new.me.0) }
     ensures exact { AreExact seat.new.me.0.base.opening seat.new.me.0.seen }
-    ensures marks { AreMarkedBy marks.new (desk_by seat.new.me.0) }
+    ensures memo { IsMemoBy memo.new (desk_by seat.new.me.0) }
 {
     let looked = Desk::look(&mut book, set, most);
     let _exact = book.log_len();
-    marks.catch_up(&book);
+    memo::catch_up(memo, &book);
     give(room, seat, book);
     looked
 }
 
-/// Publishes an entry in the book in hand, and ends the turn.
+// Publishes an entry in the book in hand, and ends the turn. The memo catches up before, with what others published.
 #[inline]
-pub fn publish(
+fn publish_in_turn(
     room: &Room,
     seat: &mut Sitter,
     mut book: Book,
-    marks: &mut Marks,
+    memo: &mut Option<Memo>,
     step: Entry,
 ) -> Published
     requires sized { (room.now.shared.table_id.words ≡ 3) × (room.now.shared.table_id.slots ≡ 1) }
     requires seat { (seat.old.table_id ≡ room.now.shared.table_id) × Holds seat.old.me book × OwnRises seat.old.me.0 }
-    requires marks { WereMarked marks.old (desk_by seat.old.me.0) }
+    requires memo { WasMemoBy memo.old (desk_by seat.old.me.0) }
     requires follows { FollowsSeen (desk_by seat.old.me.0) step }
     requires range { IsStatable step }
     ensures seat { seat.new.table_id ≡ seat.old.table_id }
     ensures ends { Ends seat.old.me.0 seat.new.me }
     ensures publishes { Publishes (desk_by seat.old.me.0) (desk_by seat.new.me.0) step result }
     ensures derived { HasDerived (desk_by seat.new.me.0) }
-    ensures marks { AreMarkedBy marks.new (desk_by seat.new.me.0) }
+    ensures memo { IsMemoBut memo.new (desk_by seat.new.me.0) step result }
 {
+    let _before = book.log_len();
+    memo::catch_up(memo, &book);
     let published = Desk::publish(&mut book, step);
     let _exact = book.log_len();
-    marks.catch_up(&book);
+    let _grown = book.len();
     match published {
         Published::NoMemory => give(room, seat, book),
         _ => give_published(room, seat, book),
     }
+    published
+}
+
+/// Publishes an entry in the book in hand, and ends the turn. The memo keeps it after the turn.
+#[inline]
+pub fn publish(
+    room: &Room,
+    seat: &mut Sitter,
+    book: Book,
+    memo: &mut Option<Memo>,
+    own: &OwnEntry,
+    step: Entry,
+) -> Published
+    requires sized { (room.now.shared.table_id.words ≡ 3) × (room.now.shared.table_id.slots ≡ 1) }
+    requires seat { (seat.old.table_id ≡ room.now.shared.table_id) × Holds seat.old.me book × OwnRises seat.old.me.0 }
+    requires memo { WasMemoBy memo.old (desk_by seat.old.me.0) }
+    requires own { IsOwn own.now step }
+    requires follows { FollowsSeen (desk_by seat.old.me.0) step }
+    requires range { IsStatable step }
+    ensures seat { seat.new.table_id ≡ seat.old.table_id }
+    ensures ends { Ends seat.old.me.0 seat.new.me }
+    ensures publishes { Publishes (desk_by seat.old.me.0) (desk_by seat.new.me.0) step result }
+    ensures derived { HasDerived (desk_by seat.new.me.0) }
+    ensures memo { IsMemoBy memo.new (desk_by seat.new.me.0) }
+{
+    let published = publish_in_turn(room, seat, book, memo, step);
+    memo::keep_published(memo, published, own);
     published
 }
 
@@ -198,22 +244,22 @@ pub fn offer(
     room: &Room,
     seat: &mut Sitter,
     mut book: Book,
-    marks: &mut Marks,
+    memo: &mut Option<Memo>,
     balance: Balance,
 ) -> Offered
     requires sized { (room.now.shared.table_id.words ≡ 3) × (room.now.shared.table_id.slots ≡ 1) }
     requires seat { (seat.old.table_id ≡ room.now.shared.table_id) × Holds seat.old.me book × OwnRises seat.old.me.0 }
-    requires marks { WereMarked marks.old (desk_by seat.old.me.0) }
+    requires memo { WasMemoBy memo.old (desk_by seat.old.me.0) }
     requires right { let about = seat.old.me.0.base.about in IsRight about.kind about.line about.cycle balance }
     ensures seat { seat.new.table_id ≡ seat.old.table_id }
     ensures ends { Ends seat.old.me.0 seat.new.me }
     ensures offers { Offers (desk_by seat.old.me.0) (desk_by seat.new.me.0) balance.stations result }
-    ensures marks { AreMarkedBy marks.new (desk_by seat.new.me.0) }
+    ensures memo { IsMemoBy memo.new (desk_by seat.new.me.0) }
 {
     let stations = balance.stations;
     let offered = Desk::offer(&mut book, balance);
     let _exact = book.log_len();
-    marks.catch_up(&book);
+    memo::catch_up(memo, &book);
     match offered {
         Offered::Better => give_offered(room, seat, book, stations),
         Offered::NotBetter => give(room, seat, book),

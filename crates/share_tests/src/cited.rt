@@ -1,69 +1,22 @@
 //! Two passes of one share decide a question each, and the second cites an entry of the first.
-ghost use Rattle.std.specs.Prelude.{◌≡◌, ◌<◌, IfOk};
+ghost use Rattle.std.specs.Prelude.{◌≡◌, ◌<◌};
 ghost use Rattle.line_instance.specs.Line.{IsTaskSet};
 ghost use Rattle.line_rules.specs.declared.types.LineKind.TheVariants.{Straight};
-ghost use Rattle.lemma_core.specs.Books.{IsReserved, MayBeBest};
 ghost use Rattle.book_share.specs.Calls.{IsPassOf};
 
-use book_share::{Desked, Pass, Share, Started};
+use crate::books::{CYCLE, alone, free_tasks, shared};
+use book_share::{Desked, Pass, Share};
 use lemma_core::Book;
-use line_instance::{Instance, Made, TaskSet, make};
-use line_rules::{
-    Balance, BalanceCheck, Entry, LineKind, Mode, Places, Seatplace, Side, Why, check_balance,
-};
+use line_instance::{Instance, TaskSet};
+use line_rules::{Entry, LineKind, Mode, Why};
 use station_search::{Decided, Reason, Units, decide};
-use std::alloc::{AllocError, Global};
+use std::alloc::Global;
 use std::sync::Wait;
 use std::test::Fail;
 
-const CYCLE: u64 = 7;
-
-// Seven free tasks.
-fn seven(alloc: Global) -> Result<Instance, Fail> {
-    match make(alloc, vec![in alloc; 7, 7, 4, 4, 2, 2, 2]?, &[]) {
-        Made::Good(inst) => Ok(inst),
-        _ => Err("no instance")?,
-    }
-}
-
-// Each task at a station of its own.
-fn alone(alloc: Global, tasks: u32) -> Result<Balance, AllocError> {
-    let mut place = Vec::new(alloc);
-    for task in 0..tasks.min(1024) {
-        place.push(Seatplace {
-            station: task + 1,
-            side: Side::Front,
-        })?;
-    }
-    Ok(Balance {
-        stations: tasks,
-        place: Places::from_vec(place),
-    })
-}
-
-// The balance, where it may be the best of a book.
-fn tested(inst: &Instance, best: Balance) -> Result<Balance, Fail>
-    ensures { IfOk result (λ b. MayBeBest (record { line = inst.now; kind = Straight; cycle = 7 }) b) }
-{
-    let few = best.place.len() <= inst.tasks() as usize && best.stations <= inst.tasks();
-    if few && check_balance(inst, LineKind::Straight, CYCLE, &best) == BalanceCheck::Right {
-        return Ok(best);
-    }
-    Err("no balance")?
-}
-
-// A share of an empty book of the tasks.
-fn shared(alloc: Global, inst: &Instance) -> Result<(Share, Pass), Fail>
-    ensures pass { IfOk result (λ r. IsPassOf r.0 r.1) }
-    ensures about { IfOk result (λ r. r.1.view.base.about ≡ record { line = inst.now; kind = Straight; cycle = 7 }) }
-{
-    let best = tested(inst, alone(alloc, inst.tasks())?)?;
-    let mut book = Book::make(alloc, inst.copy(alloc)?, LineKind::Straight, CYCLE, best);
-    book.reserve_offers()?;
-    match Share::start(alloc, book) {
-        Started::Good(share, pass) => Ok((share, pass)),
-        Started::NoMemory(_) => Err("out of memory")?,
-    }
+/// Seven free tasks.
+pub fn seven(alloc: Global) -> Result<Instance, Fail> {
+    free_tasks(alloc, vec![in alloc; 7, 7, 4, 4, 2, 2, 2]?)
 }
 
 // The entry that refutes a set in three stations, and the units that it takes to find it.
@@ -104,16 +57,16 @@ fn refuted<R: Wait>(
     }
 }
 
-// All tasks but one.
-fn all_but(inst: &Instance, task: u32) -> TaskSet
+/// All tasks but one.
+pub fn all_but(inst: &Instance, task: u32) -> TaskSet
     requires { task < 1024 }
     ensures { IsTaskSet inst.now result }
 {
     inst.all().without(task)
 }
 
-// Whether an entry is by a branch that cites one entry alone, this one.
-fn cites_only(entry: &Entry, id: u64) -> bool {
+/// Whether an entry is by a branch that cites one entry alone, this one.
+pub fn cites_only(entry: &Entry, id: u64) -> bool {
     match &entry.why {
         Why::Branch {
             mode: Mode::Fore,
@@ -135,7 +88,7 @@ fn has_both(book: &Book, rest: &TaskSet) -> bool {
 fn a_pass_cites_an_entry_of_another(rt: HostRuntime) -> Result<(), Fail> {
     let alloc = rt.alloc();
     let inst = seven(alloc)?;
-    let (share, mut last) = shared(alloc, &inst)?;
+    let (share, mut last) = shared(alloc, &inst, alone(alloc, &inst)?)?;
     let one = share.split(&mut last);
     let two = share.split(&mut last);
     let (first, second) = (all_but(&inst, 1), all_but(&inst, 0));

@@ -8,7 +8,7 @@ use Rattle.book_share.proofs.Hands.{finds_by, derived_by}
 use Rattle.lemma_core.specs.Books.{desk_of}
 use Rattle.lemma_core.proofs.HistoryGrows.{keeps_none}
 use Rattle.book_share.specs.inner.Turning.{Holds}
-use Rattle.book_share.proofs.MarkFacts.{behind, marked_still}
+use Rattle.book_share.proofs.MemoFacts.{behind, memo_still}
 use Rattle.book_share.proofs.turns.look.Goals as goal
 
 pub returns-clause-finds : goal.returns-clause-finds
@@ -33,12 +33,12 @@ returns-clause-derived c =
 pub catch_up-requires : goal.catch_up-requires
 catch_up-requires c =
     let b : BookView = c.look-looked.new.self in
-    behind c.args.marks.now c.args.seat.now.me.0 b b (subst (λ (x : BookView). Holds c.args.seat.now.me x)
+    behind c.args.memo.now c.args.seat.now.me.0 b b (subst (λ (x : BookView). Holds c.args.seat.now.me x)
     (sym c.look-looked.ensures.same) c.requires.seat.1).book (keeps_none (desk_of b))
-    c.log_len-exact.ensures.replays c.requires.marks
+    c.log_len-exact.ensures.replays c.requires.memo
 
-pub returns-clause-marks : goal.returns-clause-marks
-returns-clause-marks c =
-    marked_still c.catch_up.new.self c.args.seat.now.me c.give.new.seat.me c.look-looked.new.self
+pub returns-clause-memo : goal.returns-clause-memo
+returns-clause-memo c =
+    memo_still c.catch_up.new.memo c.args.seat.now.me c.give.new.seat.me c.look-looked.new.self
     (subst (λ (x : BookView). Holds c.args.seat.now.me x) (sym c.look-looked.ensures.same) c.requires.seat.1)
-    c.log_len-exact.ensures.replays c.catch_up.ensures.marked c.catch_up.ensures.derived c.give.ensures.me
+    c.log_len-exact.ensures.replays c.catch_up.ensures c.give.ensures.me

@@ -32,11 +32,12 @@ loop-preserved g c =
     let u : PassView = c.loop.seat.me.0 in
     let w : u ≡ waited v u.tries u.met = ap (λ (m : Mine). m.0) c.loop.invariant.waits in
     let m = c.in-None-take.ensures.none in
-    let is : c.take.new.seat.me ≡ (waited v (suc u.tries) 1, []) = m ∙ ap (λ (x : PassView). (missed x, [])) w in
-    let more : c.take.new.seat.me.0.tries ≡ suc u.tries = ap (λ (x : Mine). x.0.tries) is in
+    let is : c.pause.new.seat.me ≡ (waited v (suc u.tries) 1, []) =
+    c.pause.ensures.me ∙ m ∙ ap (λ (x : PassView). (missed x, [])) w in
+    let more : c.pause.new.seat.me.0.tries ≡ suc u.tries = ap (λ (x : Mine). x.0.tries) is in
     let low = c.loop.invariant.tries in
     record {
-      table = c.take.ensures.seat ∙ c.loop.invariant.table;
+      table = c.pause.ensures.seat ∙ (c.take.ensures.seat ∙ c.loop.invariant.table);
       waits = is ∙ ap (λ (x : Mine). (waited v x.0.tries x.0.met, [])) (sym is);
       tries = omega arith;
     }

@@ -1,4 +1,4 @@
-use Rattle.std.proofs.Common.{◌≡◌, [], refl, sym, ap, ◌∙◌, subst, arith, rules}
+use Rattle.std.proofs.Common.{◌≡◌, [], Option, refl, sym, ap, ◌∙◌, subst, arith, rules}
 use Rattle.lemma_core.specs.History.{AreExact}
 use Rattle.book_share.specs.Places.{times}
 use Rattle.book_share.specs.Rule.{both_of, OwnRises}
@@ -8,10 +8,9 @@ use Rattle.book_share.proofs.SplitFacts.{joins}
 use Rattle.book_share.proofs.LoadSteps.{settles}
 use Rattle.book_share.proofs.Lists.{rises_once, times_merged}
 use Rattle.book_share.proofs.CallFacts.{sound_of}
-use Rattle.book_share.specs.declared.marks.Marks.{Marks}
-use Rattle.book_share.specs.inner.Marking.{AreMarkedBy}
+use Rattle.book_share.specs.declared.memo.Memo.{Memo}
+use Rattle.book_share.specs.inner.Memo.{IsMemoBy}
 use Rattle.book_share.specs.Passes.{PassView, PassOf, desk_by}
-use Rattle.book_share.proofs.MarkFacts.{unmarked}
 use Rattle.book_share.proofs.pass.Share.join.Goals as goal
 
 pub join_seat-requires : goal.join_seat-requires
@@ -51,8 +50,7 @@ invariant_of-pass c =
     (c.join_seat.ensures.2 ∙ ap (λ (m : Mine). (both_of c.pass.inside.seat.me.0 c.other.inside.seat.me.0, m.1))
     c.pass.invariant.0.me) c.load.ensures.2.1 in (
       rests,
-      subst (λ (m : Marks). AreMarkedBy m (desk_by c.load.new.seat.me.0)) (sym c.forget.ensures)
-          (unmarked (desk_by c.load.new.seat.me.0)),
+      subst (λ (m : Option Memo). IsMemoBy m (desk_by c.load.new.seat.me.0)) (sym c.forget.ensures) tt,
     )
 
 pub returns-clause-apart : goal.returns-clause-apart

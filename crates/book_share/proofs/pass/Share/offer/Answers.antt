@@ -4,7 +4,7 @@ use Rattle.book_share.specs.Passes.{PassOf, desk_by}
 use Rattle.book_share.specs.inner.Turning.{waited}
 use Rattle.book_share.proofs.Hands.{offers_from}
 use Rattle.book_share.proofs.CallFacts.{sound_of, holds, rises_in, waits_in}
-use Rattle.book_share.proofs.MarkFacts.{were_marked}
+use Rattle.book_share.proofs.MemoFacts.{was_memo}
 use Rattle.book_share.proofs.pass.Share.offer.Goals as goal
 
 pub offer-requires-clause-seat : goal.offer-requires-clause-seat
@@ -28,10 +28,10 @@ returns-clause-offers g c =
 pub returns-clause-sound : goal.returns-clause-sound
 returns-clause-sound g c = sound_of c.offer.new.seat.me c.offer.ensures.ends.resting
 
-pub offer-requires-clause-marks : goal.offer-requires-clause-marks
-offer-requires-clause-marks g c =
+pub offer-requires-clause-memo : goal.offer-requires-clause-memo
+offer-requires-clause-memo g c =
     let h = c.take_waiting-book.ensures.had in
     let v = waited c.pass.inside.seat.me.0 h.0 h.1 in
     let m = c.take_waiting-book.new.seat.me in
-    were_marked c.pass.inside.marks (desk_by v) (desk_by m.0) (waits_in v m c.take_waiting-book.result h.4 h.3).keeps
+    was_memo c.pass.inside.memo (desk_by v) (desk_by m.0) (waits_in v m c.take_waiting-book.result h.4 h.3).keeps
     c.pass.invariant.1

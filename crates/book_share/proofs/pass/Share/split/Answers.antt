@@ -2,8 +2,6 @@ use Rattle.std.proofs.Common.{ap, rules}
 use Rattle.book_share.specs.Steps.{Mine}
 use Rattle.book_share.proofs.SplitFacts.{splits}
 use Rattle.book_share.proofs.CallFacts.{sound_of, cut_off}
-use Rattle.book_share.specs.Passes.{desk_by}
-use Rattle.book_share.proofs.MarkFacts.{unmarked}
 use Rattle.book_share.proofs.pass.Share.split.Goals as goal
 
 pub split_seat-seat-requires : goal.split_seat-seat-requires
@@ -15,7 +13,7 @@ pub invariant_of-result : goal.invariant_of-result
 invariant_of-result c = (
   cut_off c.pass.inside.seat.me c.split_seat-seat.result.me c.pass.invariant.0
       c.split_seat-seat.ensures.4,
-  unmarked (desk_by c.split_seat-seat.result.me.0),
+  tt,
 )
 
 pub returns-clause-sound : goal.returns-clause-sound

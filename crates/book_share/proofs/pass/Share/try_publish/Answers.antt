@@ -5,7 +5,7 @@ use Rattle.lemma_core.specs.Desks.{FollowsSeen, Publishes}
 use Rattle.book_share.specs.Passes.{PassOf, desk_by}
 use Rattle.book_share.proofs.Hands.{publishes_from}
 use Rattle.book_share.proofs.CallFacts.{sound_of, after_miss, holds, rises_in, waits_in, follows_in_turn}
-use Rattle.book_share.proofs.MarkFacts.{were_marked}
+use Rattle.book_share.proofs.MemoFacts.{was_memo}
 use Rattle.book_share.proofs.pass.Share.try_publish.Goals as goal
 
 pub returns-in_default-clause-sound : goal.returns-in_default-clause-sound
@@ -40,10 +40,10 @@ returns-clause-publishes c =
 pub returns-clause-sound : goal.returns-clause-sound
 returns-clause-sound c = sound_of c.publish.new.seat.me c.publish.ensures.ends.resting
 
-pub publish-requires-clause-marks : goal.publish-requires-clause-marks
-publish-requires-clause-marks c =
+pub publish-requires-clause-memo : goal.publish-requires-clause-memo
+publish-requires-clause-memo c =
     let t = c.in-Some.ensures.some in
     let v = c.pass.inside.seat.me.0 in
     let m = c.take.new.seat.me in
-    were_marked c.pass.inside.marks (desk_by v) (desk_by m.0) (waits_in v m c.in-Some.book t.1 t.0).keeps
+    was_memo c.pass.inside.memo (desk_by v) (desk_by m.0) (waits_in v m c.in-Some.book t.1 t.0).keeps
     c.pass.invariant.1
