@@ -22,7 +22,7 @@ use Rattle.lemma_core.specs.Own.{added_of}
 use Rattle.station_search.specs.Decide.{Decides, IsFor}
 use Rattle.station_search.specs.Costs.{HasPublished, PaysExactly, PaysWithin, Costs, Spends, CostsAlone, AddsFew}
 use Rattle.station_search.specs.Costs.{FewAdded}
-use Rattle.station_search.specs.inner.Work.{Does, DoesFor, Accounts, Balances, Ends}
+use Rattle.station_search.specs.inner.Work.{Does, DoesFew, DoesFor, Accounts, Balances, Ends}
 use Rattle.station_search.specs.declared.answers.Decided.{Decided}
 use Rattle.station_search.specs.declared.answers.Decided.TheVariants as decided
 use Rattle.lemma_core.proofs.OwnFacts.{did_none, did_waits, entries_more}
@@ -198,6 +198,20 @@ accounts_none asked kind line X old new used most w = record {
   framed = refl;
   within = omega arith;
   few = omega arith;
+}
+
+-- the account of what has no units, after a call that added no event
+pub accounts_free : (asked : Option Mode) (kind : LineKind) (line : Line) (X : ℕ) (old mid new : DeskView)
+    (m used most : ℕ) → Waits old mid → Keeps mid new → DoesFew asked kind line X mid new m 0 → m ≤ most
+    → Accounts asked kind line X old new [] used most
+accounts_free asked kind line X old mid new m used most w k d less = record {
+  items = d.items;
+  published = 0;
+  listed = 0;
+  done = does_then asked kind line X old mid new d.items 0 w k d.done;
+  framed = refl;
+  within = omega arith;
+  few = omega (arith, d.few, less);
 }
 
 -- a call that adds no event adds no entry

@@ -3,6 +3,7 @@ pub mod Orders
 pub mod Events
 pub mod PaidSteps
 pub mod States
+pub mod WalkStates
 pub mod Pairs
 pub mod Tallies
 pub mod LoopTurns

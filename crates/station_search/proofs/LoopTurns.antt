@@ -188,7 +188,7 @@ module _ (asked : Option Mode) (kind : LineKind) (line : Line) (ranked : IsRanke
         → (mid.alone ≡ true → IsUnanswered (entries mid) frame.set frame.most X)
         → DoesFor asked' kind' line' X mid new frame.set 1 n) → DoesFor asked kind line X mid new frame.set 1 t.here
     refuted es s none publishes = publishes asked kind line t.here s.has_mode
-        (all_listed asked kind line ranked X old mid new passed frame spent before k t s.deep.last none)
+        (all_listed line ranked X frame t.here s.deep.last none t.reckoned.frame_units)
         (λ a. t.unanswered (sym before.alone ∙ a) (length passed) frame (get_last passed frame))
 
     -- the rest of a load is searched

@@ -2,6 +2,7 @@
 use Rattle.std.proofs.Common.{◌≡◌, ℕ, zero, suc, ◌+◌, ◌≤◌, Bool, true, List, [], ◌∷◌, ◌++◌, length, refl, sym, ap, ◌∙◌}
 use Rattle.std.proofs.Common.{subst, inl, inr, arith, Option, Some, length-append}
 use Rattle.std.specs.Prelude.{slice_get}
+use Rattle.std.proofs.lemmas.List.{append-nil}
 use Rattle.line_instance.specs.Truths.{In, IsSubset}
 use Rattle.line_instance.specs.Line.{Line}
 use Rattle.line_rules.specs.Loads.{IsLoad}
@@ -18,7 +19,7 @@ use Rattle.lemma_core.specs.Desks.{DeskView, entries, entries_after, Keeps, Wait
 use Rattle.lemma_core.specs.Own.{added_of}
 use Rattle.station_search.specs.Mode.{frame_mode}
 use Rattle.station_search.specs.Costs.{HasMode, AreLemmas, HasLoads, Pays, PayAll}
-use Rattle.station_search.specs.inner.Work.{Does, AreWithin, DoesFor}
+use Rattle.station_search.specs.inner.Work.{Does, DoesFew, AreWithin, DoesFor}
 use Rattle.lemma_core.proofs.HistoryGrows.{keeps_none}
 use Rattle.lemma_core.proofs.OwnFacts.{did_none, did_waits, did_adds, did_both, saw_none, saw_waits, saw_adds, saw_both}
 use Rattle.lemma_core.proofs.OwnFacts.{entries_more, entries_added}
@@ -168,6 +169,38 @@ module _ (asked : Option Mode) (kind : LineKind) (line : Line) (X : ℕ) where
         paid = (n, 0, ((s.entry, s.there, subst H (sym s.answers.same) loads), refl, omega arith));
         alone = saw_adds old old new [] before (known id m) (keeps_none old) (saw_none old) a;
       }
+
+  -- what was published for a set
+  pub does_few : (old new : DeskView) (T : List Bool) (most n : ℕ) → DoesFor asked kind line X old new T most n
+      → DoesFew asked kind line X old new most n
+  does_few old new T most n d = record { items = d.items; done = d.done; few = d.few }
+
+  -- a call that added no event
+  pub few_waits : (old new : DeskView) (most : ℕ) → Waits old new → DoesFew asked kind line X old new most 0
+  few_waits old new most w = record { items = []; done = does_waits old new w; few = omega arith }
+
+  -- a call that added no event after what was done
+  pub does_still : (a b c : DeskView) (items : List Item) (n : ℕ) → Keeps a b → Does asked kind line X a b items n
+      → Waits b c → Does asked kind line X a c items n
+  does_still a b c items n k d w =
+      let P : List Item → Type 0 = λ z. Does asked kind line X a c z n in
+      let Q : ℕ → Type 0 = λ z. Does asked kind line X a c (items ++ []) z in
+      let e : n + 0 ≡ n = omega arith in
+      subst P (append-nil items) (subst Q e (does_both a b c items [] n 0 k w.keeps d (does_waits b c w)))
+
+  pub few_then : (a b c : DeskView) (most n : ℕ) → Keeps a b → DoesFew asked kind line X a b most n → Waits b c
+      → DoesFew asked kind line X a c most n
+  few_then a b c most n k d w =
+      record { items = d.items; done = does_still a b c d.items n k d.done w; few = d.few }
+
+  pub few_known : (old new : DeskView) (before : List Item) (id m : ℕ) (T : List Bool) (most n : ℕ)
+      → Adds old new before (known id m) → IsLastAnswer (entries_after old before) T most X id
+      → HasLoads line X (frame_mode asked kind line T) T n → DoesFew asked kind line X old new 1 n
+  few_known old new before id m T most n a last loads = record {
+    items = known id m ∷ [];
+    done = known_does old new before id m T most n a last loads;
+    few = omega arith;
+  }
 
   pub one_known : (old new : DeskView) (before : List Item) (id m : ℕ) (T : List Bool) (most n : ℕ)
       → Adds old new before (known id m) → IsLastAnswer (entries_after old before) T most X id

@@ -8,11 +8,12 @@ use Rattle.line_instance.proofs.Members.{In-set_cases, In-clear_gone}
 use Rattle.line_instance.specs.Line.{Line, has}
 use Rattle.line_instance.specs.Walks.{at}
 use Rattle.line_instance.specs.Partners.{IsPartner, IsKeptAt}
-use Rattle.line_rules.specs.Entries.{IsLastAnswer, IsUnanswered, FollowsBySwap}
+use Rattle.line_rules.specs.Entries.{IsUnanswered, FollowsBySwap}
 use Rattle.line_rules.specs.declared.types.LineKind.{LineKind}
 use Rattle.line_rules.specs.declared.types.Mode.{Mode}
 use Rattle.line_rules.specs.declared.types.Entry.{Entry}
 use Rattle.lemma_core.specs.Desks.{DeskView, entries, Keeps, Waits}
+use Rattle.station_search.specs.Decide.{IsAnswered}
 use Rattle.station_search.specs.inner.Work.{DoesFor, swap_of}
 use Rattle.station_search.proofs.Events.{entries_same}
 use Rattle.station_search.proofs.PaidSteps.{does_then}
@@ -42,7 +43,7 @@ gone set out into i other m e = elim (In-set_cases (slice_set set out false) int
 pub stands_in : (line : Line) (es : List Entry) (set swapped : List Bool) (most X c out into id : ℕ)
     → IsPartner line out into → In set out → has set into ≡ false
     → swapped ≡ slice_set (slice_set set out false) into true → c ≡ X
-    → IsLastAnswer es swapped most c id → FollowsBySwap line es (swap_of X set most id out into) id out into
+    → IsAnswered es id swapped most c → FollowsBySwap line es (swap_of X set most id out into) id out into
 stands_in line es set swapped most X c out into id p m absent e same a =
     let set_is : a.entry.set ≡ slice_set (slice_set set out false) into true = a.answers.same ∙ e in
     let left : (i : ℕ) → In a.entry.set i → i ≡ out → ⊥ = λ i n.

@@ -49,17 +49,12 @@ rest_tasks line R l t = record {
   tasks = λ i n. t.tasks i (rest_inside R l i n);
 }
 
-module _ (asked : Option Mode) (kind : LineKind) (line : Line) (ranked : IsRanked line) (X : ℕ) (R : List Bool)
-    (most : ℕ) where
-  -- a frame of which no load was listed
-  pub starts : (es : List Entry) (passed : List OpenFrame) (frame : OpenFrame)
-      → Leads kind line X es R most passed frame.set frame.most → Belongs kind frame.mode → frame.last ≡ None
-      → frame.cites ≡ [] → ((i : ℕ) × In frame.set i)
-      → IsTaskSet line frame.set → frame.mode ≡ frame_mode asked kind line frame.set → 1 ≤ frame.most
-      → ((k : ℕ) (f : OpenFrame) → slice_get passed k ≡ Some f → IsHeld asked kind line X f)
-      → IsSearching asked kind line X es R most passed frame
-  starts es passed frame leads belongs last cites some tasks has_mode stations held =
-      let P : OpenFrame → Type 0 = λ z. IsSearching asked kind line X es R most passed z in
+-- what the cites of a frame cover, where they are those of all its loads so far
+module _ (kind : LineKind) (line : Line) (ranked : IsRanked line) (X : ℕ) (es : List Entry) (frame : OpenFrame) where
+  -- before its first load
+  pub deep_starts : Belongs kind frame.mode → frame.last ≡ None → frame.cites ≡ [] → IsDeepest kind line X es frame
+  deep_starts belongs last cites =
+      let P : OpenFrame → Type 0 = λ z. IsDeepest kind line X es z in
       let e : record { set = frame.set; most = frame.most; mode = frame.mode; last = None; cites = [] } ≡ frame =
       λ i. record {
         set = frame.set;
@@ -69,21 +64,122 @@ module _ (asked : Option Mode) (kind : LineKind) (line : Line) (ranked : IsRanke
         cites = sym cites i;
       } in
       subst P e (record {
-        leads = leads;
-        deep = record {
-          belongs = belongs;
-          last = tt;
-          covers =
-              covers_none line (λ k. IsOpen kind line X frame.mode frame.set frame.most k × UpTo line None k) es
-              frame.set
-              frame.most X (λ l p. p.1);
-        };
-        some = some;
-        tasks = tasks;
-        has_mode = has_mode;
-        stations = stations;
-        held = held;
+        belongs = belongs;
+        last = tt;
+        covers =
+            covers_none line (λ k. IsOpen kind line X frame.mode frame.set frame.most k × UpTo line None k) es
+            frame.set
+            frame.most X (λ l p. p.1);
       })
+
+  module _ (deep : IsDeepest kind line X es frame) where
+    module _ (l : Load) (next : IsFollowing line X frame.mode frame.set frame.last l) where
+      -- a load that needs no cite
+      pub deep_closed : (IsOpen kind line X frame.mode frame.set frame.most l → ⊥)
+          → IsDeepest kind line X es (with_last frame l)
+      deep_closed shut = record {
+        belongs = deep.belongs;
+        last = next.load;
+        covers = covers_skip line ranked X frame.mode frame.set frame.last deep.last l next kind es frame.most
+            frame.cites deep.covers shut;
+      }
+
+      before : Covers line (λ k. IsOpen kind line X frame.mode frame.set frame.most k × Precedes line k l) es frame.set
+          frame.most X frame.cites
+      before = covers_pass line ranked X frame.mode frame.set frame.last deep.last l next kind es frame.most
+          frame.cites deep.covers
+
+      -- a load whose rest an entry refutes
+      pub deep_covered : (id : ℕ) (cites : List ℕ) → cites ≡ frame.cites ++ id ∷ []
+          → IsOpen kind line X frame.mode frame.set frame.most l → Cites es id (rest frame.set l) (frame.most - 1) X
+          → IsDeepest kind line X es (with_cites (with_last frame l) cites)
+      deep_covered id cites e o y = record {
+        belongs = deep.belongs;
+        last = next.load;
+        covers = let P : List ℕ → Type 0 = λ z. Covers line
+            (λ k. IsOpen kind line X frame.mode frame.set frame.most k × UpTo line (Some l) k) es frame.set frame.most
+            X z in
+            subst P (sym e) (covers_cite kind line X frame.mode frame.set es frame.most frame.cites l id o y before);
+      }
+
+      -- a load whose rest is searched
+      pub passes : 1 ≤ frame.most → IsOpen kind line X frame.mode frame.set frame.most l
+          → IsPassed kind line X es (with_last frame l) l
+      passes stations o = record {
+        belongs = deep.belongs;
+        stations = stations;
+        last = refl;
+        load = next.load;
+        full = o.full;
+        covers = before;
+      }
+
+    -- the loads ended
+    pub deep_follows : 1 ≤ X → ((i : ℕ) × In frame.set i) → IsTaskSet line frame.set → 1 ≤ frame.most
+        → ((l : Load) → IsLoad line X frame.mode frame.set l → After line frame.last l → ⊥)
+        → Follows kind line es (branch_of X frame)
+    deep_follows cycle some tasks stations none = record {
+      set = tasks;
+      cycle = cycle;
+      by = record {
+        some = some;
+        stations = stations;
+        belongs = deep.belongs;
+        covers = covers_same line (λ k. IsOpen kind line X frame.mode frame.set frame.most k × UpTo line frame.last k)
+            (IsOpen kind line X frame.mode frame.set frame.most) es frame.set frame.most X frame.cites
+            (λ l p. p.0) (λ l o. (o, all_up_to line ranked X frame.mode frame.set frame.last deep.last none l o.load))
+            deep.covers;
+      };
+    }
+
+  -- the rest of its last load is refuted
+  pub resumes : (l : Load) (id : ℕ) (cites : List ℕ) → cites ≡ frame.cites ++ id ∷ []
+      → bound kind line X (rest frame.set l) < frame.most → Cites es id (rest frame.set l) (frame.most - 1) X
+      → IsPassed kind line X es frame l → IsDeepest kind line X es (with_cites frame cites)
+  resumes l id cites e b y p =
+      let o : IsOpen kind line X frame.mode frame.set frame.most l =
+      record { load = p.load; full = p.full; bound = b } in
+      let U : Option Load → Type 0 = λ z. Covers line (λ k. IsOpen kind line X frame.mode frame.set frame.most k
+      × UpTo line z k) es frame.set frame.most X cites in
+      let V : List ℕ → Type 0 = λ z. Covers line (λ k. IsOpen kind line X frame.mode frame.set frame.most k
+      × UpTo line (Some l) k) es frame.set frame.most X z in
+      let L : Option Load → Type 0 = λ z. LastIsLoad line X frame.mode frame.set z in
+      record {
+        belongs = p.belongs;
+        last = subst L (sym p.last) p.load;
+        covers = subst U (sym p.last) (subst V (sym e) (covers_cite kind line X frame.mode frame.set es frame.most
+            frame.cites l id o y p.covers));
+      }
+
+-- an entry that answers a question is one that a load with this rest may cite
+pub answer_cites : (es : List Entry) (id : ℕ) (T R : List Bool) (r most X : ℕ) → T ≡ R → r ≡ most
+    → IsAnswered es id T r X → Cites es id R most X
+answer_cites es id T R r most X same few a = record {
+  entry = a.entry;
+  there = a.there;
+  part = let S : List Bool → Type 0 = λ z. IsSubset z R in subst S (sym (a.answers.same ∙ same)) (λ i m. m);
+  stations = omega (arith, a.answers.stations, few);
+  cycle = a.answers.long;
+}
+
+module _ (asked : Option Mode) (kind : LineKind) (line : Line) (ranked : IsRanked line) (X : ℕ) (R : List Bool)
+    (most : ℕ) where
+  -- a frame of which no load was listed
+  pub starts : (es : List Entry) (passed : List OpenFrame) (frame : OpenFrame)
+      → Leads kind line X es R most passed frame.set frame.most → Belongs kind frame.mode → frame.last ≡ None
+      → frame.cites ≡ [] → ((i : ℕ) × In frame.set i)
+      → IsTaskSet line frame.set → frame.mode ≡ frame_mode asked kind line frame.set → 1 ≤ frame.most
+      → ((k : ℕ) (f : OpenFrame) → slice_get passed k ≡ Some f → IsHeld asked kind line X f)
+      → IsSearching asked kind line X es R most passed frame
+  starts es passed frame leads belongs last cites some tasks has_mode stations held = record {
+    leads = leads;
+    deep = deep_starts kind line ranked X es frame belongs last cites;
+    some = some;
+    tasks = tasks;
+    has_mode = has_mode;
+    stations = stations;
+    held = held;
+  }
 
   pub longer : (es more : List Entry) (passed : List OpenFrame) (frame : OpenFrame)
       → IsSearching asked kind line X es R most passed frame
@@ -106,23 +202,13 @@ module _ (asked : Option Mode) (kind : LineKind) (line : Line) (ranked : IsRanke
           → IsSearching asked kind line X es R most passed (with_last frame l)
       closed shut = record {
         leads = s.leads;
-        deep = record {
-          belongs = s.deep.belongs;
-          last = next.load;
-          covers = covers_skip line ranked X frame.mode frame.set frame.last s.deep.last l next kind es frame.most
-              frame.cites s.deep.covers shut;
-        };
+        deep = deep_closed kind line ranked X es frame s.deep l next shut;
         some = s.some;
         tasks = s.tasks;
         has_mode = s.has_mode;
         stations = s.stations;
         held = s.held;
       }
-
-      before : Covers line (λ k. IsOpen kind line X frame.mode frame.set frame.most k × Precedes line k l) es frame.set
-          frame.most X frame.cites
-      before = covers_pass line ranked X frame.mode frame.set frame.last s.deep.last l next kind es frame.most
-          frame.cites s.deep.covers
 
       -- a load whose rest an entry refutes
       pub covered : (id : ℕ) (cites : List ℕ) → cites ≡ frame.cites ++ id ∷ []
@@ -130,14 +216,7 @@ module _ (asked : Option Mode) (kind : LineKind) (line : Line) (ranked : IsRanke
           → IsSearching asked kind line X es R most passed (with_cites (with_last frame l) cites)
       covered id cites e o y = record {
         leads = s.leads;
-        deep = record {
-          belongs = s.deep.belongs;
-          last = next.load;
-          covers = let P : List ℕ → Type 0 = λ z. Covers line
-              (λ k. IsOpen kind line X frame.mode frame.set frame.most k × UpTo line (Some l) k) es frame.set frame.most
-              X z in
-              subst P (sym e) (covers_cite kind line X frame.mode frame.set es frame.most frame.cites l id o y before);
-        };
+        deep = deep_covered kind line ranked X es frame s.deep l next id cites e o y;
         some = s.some;
         tasks = s.tasks;
         has_mode = s.has_mode;
@@ -145,20 +224,11 @@ module _ (asked : Option Mode) (kind : LineKind) (line : Line) (ranked : IsRanke
         held = s.held;
       }
 
-      passes : IsOpen kind line X frame.mode frame.set frame.most l → IsPassed kind line X es (with_last frame l) l
-      passes o = record {
-        belongs = s.deep.belongs;
-        stations = s.stations;
-        last = refl;
-        load = next.load;
-        full = o.full;
-        covers = before;
-      }
-
       -- a load whose rest is searched
       pub goes_down : IsOpen kind line X frame.mode frame.set frame.most l
           → Leads kind line X es R most (passed ++ with_last frame l ∷ []) (rest frame.set l) (frame.most - 1)
-      goes_down o = leads_push kind line X es passed R most (with_last frame l) l s.leads (passes o)
+      goes_down o = leads_push kind line X es passed R most (with_last frame l) l s.leads
+          (passes kind line ranked X es frame s.deep l next s.stations o)
 
       pub holds_on : IsOpen kind line X frame.mode frame.set frame.most l → (k : ℕ) (f : OpenFrame)
           → slice_get (passed ++ with_last frame l ∷ []) k ≡ Some f → IsHeld asked kind line X f
@@ -175,30 +245,19 @@ module _ (asked : Option Mode) (kind : LineKind) (line : Line) (ranked : IsRanke
     -- the loads ended
     pub follows : 1 ≤ X → ((l : Load) → IsLoad line X frame.mode frame.set l → After line frame.last l → ⊥)
         → Follows kind line es (branch_of X frame)
-    follows cycle none = record {
-      set = s.tasks;
-      cycle = cycle;
-      by = record {
-        some = s.some;
-        stations = s.stations;
-        belongs = s.deep.belongs;
-        covers = covers_same line (λ k. IsOpen kind line X frame.mode frame.set frame.most k × UpTo line frame.last k)
-            (IsOpen kind line X frame.mode frame.set frame.most) es frame.set frame.most X frame.cites
-            (λ l p. p.0) (λ l o. (o, all_up_to line ranked X frame.mode frame.set frame.last s.deep.last none l o.load))
-            s.deep.covers;
-      };
-    }
+    follows cycle none = deep_follows kind line ranked X es frame s.deep cycle s.some s.tasks s.stations none
 
     -- the trail of a search that stops here
     pub trail : IsTrail kind line X es R most (passed ++ frame ∷ [])
     trail = record { passed = passed; deepest = frame; all = refl; leads = s.leads; deep = s.deep }
 
-  -- the frame is refuted, and the one above it goes on
+  -- an entry refutes the frame's question, and the one above it goes on
   pub goes_up : (es : List Entry) (passed upper : List OpenFrame) (frame parent : OpenFrame) (id : ℕ) (cites : List ℕ)
       → passed ≡ upper ++ parent ∷ [] → cites ≡ parent.cites ++ id ∷ [] → IsTaskSet line R
-      → IsSearching asked kind line X es R most passed frame → IsAnswered es id frame.set frame.most X
+      → IsSearching asked kind line X es R most passed frame
+      → ((T : List Bool) (r : ℕ) → frame.set ≡ T → frame.most ≡ r → Cites es id T r X)
       → IsSearching asked kind line X es R most upper (with_cites parent cites)
-  goes_up es passed upper frame parent id cites e f tasks s a =
+  goes_up es passed upper frame parent id cites e f tasks s y =
       let D : List OpenFrame → Type 0 = λ z. Leads kind line X es R most z frame.set frame.most in
       let r : (l : Load) × (Leads kind line X es R most upper parent.set parent.most × IsPassed kind line X es parent l
       × (frame.set ≡ rest parent.set l) × (frame.most ≡ parent.most - 1)) =
@@ -208,29 +267,10 @@ module _ (asked : Option Mode) (kind : LineKind) (line : Line) (ranked : IsRanke
       let here : slice_get passed (length upper) ≡ Some parent =
       ap (λ (z : List OpenFrame). slice_get z (length upper)) e ∙ get_last upper parent in
       let h : IsHeld asked kind line X parent = s.held (length upper) parent here in
-      let o : IsOpen kind line X parent.mode parent.set parent.most l =
-      record { load = p.load; full = p.full; bound = h.open_rest l p.last } in
-      let y : Cites es id (rest parent.set l) (parent.most - 1) X = record {
-        entry = a.entry;
-        there = a.there;
-        part = let S : List Bool → Type 0 = λ z. IsSubset z (rest parent.set l) in
-            subst S (sym (a.answers.same ∙ r.1.2)) (λ i m. m);
-        stations = omega (arith, a.answers.stations, r.1.3);
-        cycle = a.answers.long;
-      } in
-      let U : Option Load → Type 0 = λ z. Covers line (λ k. IsOpen kind line X parent.mode parent.set parent.most k
-      × UpTo line z k) es parent.set parent.most X cites in
-      let V : List ℕ → Type 0 = λ z. Covers line (λ k. IsOpen kind line X parent.mode parent.set parent.most k
-      × UpTo line (Some l) k) es parent.set parent.most X z in
-      let L : Option Load → Type 0 = λ z. LastIsLoad line X parent.mode parent.set z in
       record {
         leads = r.1.0;
-        deep = record {
-          belongs = p.belongs;
-          last = subst L (sym p.last) p.load;
-          covers = subst U (sym p.last) (subst V (sym f) (covers_cite kind line X parent.mode parent.set es parent.most
-              parent.cites l id o y p.covers));
-        };
+        deep = resumes kind line ranked X es parent l id cites f (h.open_rest l p.last)
+            (y (rest parent.set l) (parent.most - 1) r.1.2 r.1.3) p;
         some = (p.load.some.0, p.load.within p.load.some.0 p.load.some.1);
         tasks = h.tasks;
         has_mode = h.has_mode;

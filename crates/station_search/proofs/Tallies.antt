@@ -19,29 +19,46 @@ use Rattle.line_rules.proofs.ListFacts.{get_longer, get_push_cases, get_last}
 use Rattle.line_rules.proofs.Paths.{units_push, units_push_frame, units_pop_frame, all_up_to, rest_inside, rest_without}
 use Rattle.line_rules.proofs.Paths.{leads_inside}
 use Rattle.lemma_core.specs.History.{Item}
-use Rattle.lemma_core.specs.Desks.{DeskView, entries, Keeps}
+use Rattle.lemma_core.specs.Desks.{DeskView, entries, Keeps, Waits}
 use Rattle.lemma_core.specs.Own.{added_of}
 use Rattle.station_search.specs.Costs.{AreUnanswered}
-use Rattle.station_search.specs.inner.Work.{with_last, with_cites, Does, DoesFor, Accounts, Balances}
+use Rattle.station_search.specs.inner.Work.{with_last, with_cites, Does, DoesFew, DoesFor, Accounts, Balances}
 use Rattle.station_search.proofs.Events.{waits_none}
-use Rattle.station_search.proofs.PaidSteps.{does_waits, does_both, fresh_both, added_length, unanswered_still}
+use Rattle.station_search.proofs.PaidSteps.{does_waits, does_both, does_still, fresh_both, added_length}
+use Rattle.station_search.proofs.PaidSteps.{unanswered_still}
 
--- What the steps so far did on the desk, and the units of the frames, come to what was spent; the entries added, the
--- frames that wait and some room are no more. Where the desk is alone, what was paid are the units of the entries added,
--- and no entry answers a frame.
+-- What the steps so far come to: these own events, which paid so much; the units of the frames that wait and of the one
+-- in hand; and the entries added, the frames that wait and some room are no more than what was spent.
+pub record IsReckoned (asked : Option Mode) (kind : LineKind) (line : Line) (X : ℕ) (old new : DeskView)
+    (passed : List OpenFrame) (frame : OpenFrame) (items : List Item) (published above here spent room : ℕ)
+    : Type 0 where
+  pub done : Does asked kind line X old new items published
+  pub passed_units : UnitsIn line X passed above
+  pub frame_units : FrameUnits line X frame here
+  pub few : length (added_of items) + length passed + room ≤ spent
+
+-- What was done and the units of the frames are all that was spent. Where the desk is alone, what was paid are the units
+-- of the entries added, and no entry answers a frame.
 pub record Tally (asked : Option Mode) (kind : LineKind) (line : Line) (X : ℕ) (old new : DeskView)
     (passed : List OpenFrame) (frame : OpenFrame) (spent room : ℕ) : Type 0 where
   pub items : List Item
   pub published : ℕ
   pub above : ℕ
   pub here : ℕ
-  pub done : Does asked kind line X old new items published
-  pub passed_units : UnitsIn line X passed above
-  pub frame_units : FrameUnits line X frame here
+  pub reckoned : IsReckoned asked kind line X old new passed frame items published above here spent room
   pub sum : published + (above + here) ≡ spent
-  pub few : length (added_of items) + length passed + room ≤ spent
   pub fresh : old.alone ≡ true → UnitsOf line (added_of items) published
   pub unanswered : old.alone ≡ true → AreUnanswered (entries new) X (passed ++ frame ∷ [])
+
+-- What was done and the units of the frames are at most what was spent, as where loads are listed twice.
+pub record Outlay (asked : Option Mode) (kind : LineKind) (line : Line) (X : ℕ) (old new : DeskView)
+    (passed : List OpenFrame) (frame : OpenFrame) (spent room : ℕ) : Type 0 where
+  pub items : List Item
+  pub published : ℕ
+  pub above : ℕ
+  pub here : ℕ
+  pub reckoned : IsReckoned asked kind line X old new passed frame items published above here spent room
+  pub within : published + (above + here) ≤ spent
 
 -- each frame that waits has a task that the set at the end hasn't
 leads_strict : (kind : LineKind) (line : Line) (X : ℕ) (es : List Entry) (fs : List OpenFrame) (R : List Bool)
@@ -121,6 +138,96 @@ idle asked kind line X old used most = record {
   few = omega arith;
 }
 
+-- where no load follows, a frame's loads are all of its set
+pub all_listed : (line : Line) (ranked : IsRanked line) (X : ℕ) (frame : OpenFrame) (here : ℕ)
+    → LastIsLoad line X frame.mode frame.set frame.last
+    → ((l : Load) → IsLoad line X frame.mode frame.set l → After line frame.last l → ⊥) → FrameUnits line X frame here
+    → Counts line (IsLoad line X frame.mode frame.set) here
+all_listed line ranked X frame here is_load none units =
+    counts_same line (λ l. IsLoad line X frame.mode frame.set l × UpTo line frame.last l)
+    (IsLoad line X frame.mode frame.set) here (λ l p. p.0)
+    (λ l g. (g, all_up_to line ranked X frame.mode frame.set frame.last is_load none l g)) units
+
+-- what the steps come to, for either kind of account
+module _ (asked : Option Mode) (kind : LineKind) (line : Line) (ranked : IsRanked line) (X : ℕ) (old : DeskView) where
+  reckon_starts : (frame : OpenFrame) → frame.last ≡ None
+      → IsReckoned asked kind line X old old [] frame [] 0 0 0 0 0
+  reckon_starts frame last = record {
+    done = does_waits asked kind line X old old (waits_none old);
+    passed_units = refl;
+    frame_units = none_counts line X frame last;
+    few = omega arith;
+  }
+
+  module _ (mid new : DeskView) (passed : List OpenFrame) (frame : OpenFrame) (items : List Item)
+      (published above here spent room : ℕ)
+      (r : IsReckoned asked kind line X old mid passed frame items published above here spent room) where
+    reckon_down : (below : OpenFrame) → below.last ≡ None → room ≡ 1
+        → IsReckoned asked kind line X old mid (passed ++ frame ∷ []) below items published (above + here) 0 spent 0
+    reckon_down below last e = record {
+      done = r.done;
+      passed_units = units_push_frame line X passed frame above here r.passed_units r.frame_units;
+      frame_units = none_counts line X below last;
+      few = omega (arith, r.few, e, length-append passed (frame ∷ []));
+    }
+
+    module _ (before : Keeps old mid) (k : Keeps mid new) (is : List Item) (n m : ℕ)
+        (done : Does asked kind line X mid new is n) (few : length (added_of is) ≤ m) where
+      reckon_lists : (l : Load) (cites : List ℕ) (room' spent' : ℕ)
+          → IsFollowing line X frame.mode frame.set frame.last l → LastIsLoad line X frame.mode frame.set frame.last
+          → room ≡ 0 → m + room' ≤ 1 → spent' ≡ spent + 1
+          → IsReckoned asked kind line X old new passed (with_cites (with_last frame l) cites) (items ++ is)
+          (published + n) above (here + 1) spent' room'
+      reckon_lists l cites room' spent' following is_load none less more = record {
+        done = does_both asked kind line X old mid new items is published n before k r.done done;
+        passed_units = r.passed_units;
+        frame_units = units_push line ranked X frame.mode frame.set frame.last is_load l following here r.frame_units;
+        few = omega (arith, added_length items is, few, r.few, less, more, none);
+      }
+
+      reckon_up : (upper : List OpenFrame) (parent : OpenFrame) (cites : List ℕ) → room ≡ 0 → m ≤ 1
+          → passed ≡ upper ++ parent ∷ []
+          → (a : ℕ) × (b : ℕ) × (IsReckoned asked kind line X old new upper (with_cites parent cites) (items ++ is)
+          (published + n) a b spent 0 × (above ≡ a + b))
+      reckon_up upper parent cites none one e =
+          let U : List OpenFrame → Type 0 = λ z. UnitsIn line X z above in
+          let p : (a : ℕ) × (b : ℕ) × (UnitsIn line X upper a × FrameUnits line X parent b × (above ≡ a + b)) =
+          units_pop_frame line X upper parent above (subst U e r.passed_units) in (
+            p.0,
+            p.1,
+            (
+              record {
+                done = does_both asked kind line X old mid new items is published n before k r.done done;
+                passed_units = p.2.0;
+                frame_units = p.2.1;
+                few = omega (
+                  arith,
+                  added_length items is,
+                  few,
+                  r.few,
+                  none,
+                  one,
+                  ap (λ (z : List OpenFrame). length z) e,
+                  length-append upper (parent ∷ []),
+                );
+              },
+              p.2.2,
+            ),
+          )
+
+      -- the account of a search that gives its frames up
+      reckon_ends : (spent' most : ℕ) → published + (above + here) ≤ spent → n ≤ here → spent ≤ spent'
+          → m + spent ≤ length passed + room + most → Accounts asked kind line X old new [] spent' most
+      reckon_ends spent' most within l more less = record {
+        items = items ++ is;
+        published = published + n;
+        listed = 0;
+        done = does_both asked kind line X old mid new items is published n before k r.done done;
+        framed = refl;
+        within = omega (arith, within, l, more);
+        few = omega (arith, added_length items is, few, r.few, less);
+      }
+
 module _ (asked : Option Mode) (kind : LineKind) (line : Line) (ranked : IsRanked line) (X : ℕ) (old : DeskView) where
   pub tally_starts : (frame : OpenFrame) → frame.last ≡ None
       → (old.alone ≡ true → IsUnanswered (entries old) frame.set frame.most X)
@@ -130,11 +237,8 @@ module _ (asked : Option Mode) (kind : LineKind) (line : Line) (ranked : IsRanke
     published = 0;
     above = 0;
     here = 0;
-    done = does_waits asked kind line X old old (waits_none old);
-    passed_units = refl;
-    frame_units = none_counts line X frame last;
+    reckoned = reckon_starts asked kind line ranked X old frame last;
     sum = refl;
-    few = omega arith;
     fresh = λ t. refl;
     unanswered = λ t. one_more X (entries old) [] frame (λ k f e. absurd (cc)) (un t);
   }
@@ -149,11 +253,9 @@ module _ (asked : Option Mode) (kind : LineKind) (line : Line) (ranked : IsRanke
     published = t.published;
     above = t.above + t.here;
     here = 0;
-    done = t.done;
-    passed_units = units_push_frame line X passed frame t.above t.here t.passed_units t.frame_units;
-    frame_units = none_counts line X below last;
+    reckoned = reckon_down asked kind line ranked X old new new passed frame t.items t.published t.above t.here spent 1
+        t.reckoned below last refl;
     sum = omega (arith, t.sum);
-    few = omega (arith, t.few, length-append passed (frame ∷ []));
     fresh = t.fresh;
     unanswered = λ a. one_more X (entries new) (passed ++ frame ∷ []) below (t.unanswered a) (un a);
   }
@@ -166,10 +268,10 @@ module _ (asked : Option Mode) (kind : LineKind) (line : Line) (ranked : IsRanke
     items = t.items;
     published = t.published;
     listed = t.above + t.here;
-    done = t.done;
-    framed = units_push_frame line X passed frame t.above t.here t.passed_units t.frame_units;
+    done = t.reckoned.done;
+    framed = units_push_frame line X passed frame t.above t.here t.reckoned.passed_units t.reckoned.frame_units;
     sum = t.sum;
-    few = omega (arith, t.few);
+    few = omega (arith, t.reckoned.few);
     fresh = t.fresh;
   }
 
@@ -178,15 +280,9 @@ module _ (asked : Option Mode) (kind : LineKind) (line : Line) (ranked : IsRanke
     -- the account after a further step, for a search that gives its frames up
     pub accounts : (T : List Bool) (m n spent' : ℕ) → DoesFor asked kind line X mid new T m n → n ≤ t.here
         → spent ≤ spent' → m + spent ≤ length passed + spent' → Accounts asked kind line X old new [] spent' spent'
-    accounts T m n spent' d l more room = record {
-      items = t.items ++ d.items;
-      published = t.published + n;
-      listed = 0;
-      done = does_both asked kind line X old mid new t.items d.items t.published n before k t.done d.done;
-      framed = refl;
-      within = omega (arith, t.sum, l, more);
-      few = omega (arith, added_length t.items d.items, d.few, t.few, room);
-    }
+    accounts T m n spent' d l more room =
+        reckon_ends asked kind line ranked X old mid new passed frame t.items t.published t.above t.here spent 0
+        t.reckoned before k d.items n m d.done d.few spent' spent' (omega (arith, t.sum)) l more (omega (arith, room))
 
     -- a load is listed, and its rest may be published
     pub tally_lists : (es : List Entry) (R : List Bool) (most : ℕ) (l : Load) (cites : List ℕ) (m room spent' : ℕ)
@@ -199,25 +295,15 @@ module _ (asked : Option Mode) (kind : LineKind) (line : Line) (ranked : IsRanke
       published = t.published + 0;
       above = t.above;
       here = t.here + 1;
-      done = does_both asked kind line X old mid new t.items d.items t.published 0 before k t.done d.done;
-      passed_units = t.passed_units;
-      frame_units = units_push line ranked X frame.mode frame.set frame.last is_load l following t.here t.frame_units;
+      reckoned = reckon_lists asked kind line ranked X old mid new passed frame t.items t.published t.above t.here spent
+          0 t.reckoned before k d.items 0 m d.done d.few l cites room spent' following is_load refl less more;
       sum = omega (arith, more, t.sum);
-      few = omega (arith, added_length t.items d.items, d.few, t.few, less, more);
       fresh = λ a. fresh_both line t.items d.items t.published 0 (t.fresh a) (d.fresh (before.alone ∙ a));
       unanswered = λ a. same_questions X (entries new) passed frame (with_cites (with_last frame l) cites) refl refl
           (λ j f e.
           unanswered_still asked kind line X mid new (rest frame.set l) m 0 f.set f.most (before.alone ∙ a) k d
           (rest_lacks kind line X es R most passed frame l leads following.load j f e) (t.unanswered a j f e));
     }
-
-    module _ (is_load : LastIsLoad line X frame.mode frame.set frame.last)
-        (none : (l : Load) → IsLoad line X frame.mode frame.set l → After line frame.last l → ⊥) where
-      -- the frame's loads are all of its set
-      pub all_listed : Counts line (IsLoad line X frame.mode frame.set) t.here
-      all_listed = counts_same line (λ l. IsLoad line X frame.mode frame.set l × UpTo line frame.last l)
-          (IsLoad line X frame.mode frame.set) t.here (λ l p. p.0)
-          (λ l g. (g, all_up_to line ranked X frame.mode frame.set frame.last is_load none l g)) t.frame_units
 
     -- the question is refuted
     pub tally_ends : DoesFor asked kind line X mid new frame.set 1 t.here → passed ≡ []
@@ -226,11 +312,11 @@ module _ (asked : Option Mode) (kind : LineKind) (line : Line) (ranked : IsRanke
       items = t.items ++ d.items;
       published = t.published + t.here;
       listed = 0;
-      done = does_both asked kind line X old mid new t.items d.items t.published t.here before k t.done d.done;
+      done = does_both asked kind line X old mid new t.items d.items t.published t.here before k t.reckoned.done d.done;
       framed = refl;
       sum = let P : List OpenFrame → Type 0 = λ z. UnitsIn line X z t.above in
-          let z : t.above ≡ 0 = subst P e t.passed_units in omega (arith, t.sum, z);
-      few = omega (arith, added_length t.items d.items, d.few, t.few);
+          let z : t.above ≡ 0 = subst P e t.reckoned.passed_units in omega (arith, t.sum, z);
+      few = omega (arith, added_length t.items d.items, d.few, t.reckoned.few);
       fresh = λ a. fresh_both line t.items d.items t.published t.here (t.fresh a) (d.fresh (before.alone ∙ a));
     }
 
@@ -240,26 +326,15 @@ module _ (asked : Option Mode) (kind : LineKind) (line : Line) (ranked : IsRanke
         → Leads kind line X es R most passed frame.set frame.most
         → Tally asked kind line X old new upper (with_cites parent cites) spent 0
     tally_up upper parent cites es R most d e leads =
-        let U : List OpenFrame → Type 0 = λ z. UnitsIn line X z t.above in
-        let r : (a : ℕ) × (b : ℕ) × (UnitsIn line X upper a × FrameUnits line X parent b × (t.above ≡ a + b)) =
-        units_pop_frame line X upper parent t.above (subst U e t.passed_units) in
+        let r = reckon_up asked kind line ranked X old mid new passed frame t.items t.published t.above t.here spent 0
+        t.reckoned before k d.items t.here 1 d.done d.few upper parent cites refl (omega arith) e in
         record {
           items = t.items ++ d.items;
           published = t.published + t.here;
           above = r.0;
           here = r.1;
-          done = does_both asked kind line X old mid new t.items d.items t.published t.here before k t.done d.done;
-          passed_units = r.2.0;
-          frame_units = r.2.1;
-          sum = omega (arith, t.sum, r.2.2);
-          few = omega (
-            arith,
-            added_length t.items d.items,
-            d.few,
-            t.few,
-            ap (λ (z : List OpenFrame). length z) e,
-            length-append upper (parent ∷ []),
-          );
+          reckoned = r.2.0;
+          sum = omega (arith, t.sum, r.2.1);
           fresh = λ a. fresh_both line t.items d.items t.published t.here (t.fresh a) (d.fresh (before.alone ∙ a));
           unanswered = λ a. same_questions X (entries new) upper parent (with_cites parent cites) refl refl (λ j f g.
               let there : slice_get passed j ≡ Some f = ap (λ (z : List OpenFrame). slice_get z j) e ∙ g in
@@ -267,3 +342,106 @@ module _ (asked : Option Mode) (kind : LineKind) (line : Line) (ranked : IsRanke
               (leads_strict kind line X es passed R most frame.set frame.most leads j f there)
               (t.unanswered a j f (get_longer passed (frame ∷ []) j f there)));
         }
+
+  -- the same where loads may be listed twice
+  pub outlay_starts : (frame : OpenFrame) (passed : List OpenFrame) (spent : ℕ) → passed ≡ [] → frame.last ≡ None
+      → spent ≡ 0 → Outlay asked kind line X old old passed frame spent 0
+  outlay_starts frame passed spent e last z =
+      let P : List OpenFrame → Type 0 = λ z. Outlay asked kind line X old old z frame spent 0 in
+      let N : ℕ → Type 0 = λ z. Outlay asked kind line X old old [] frame z 0 in
+      subst P (sym e) (subst N (sym z) (record {
+        items = [];
+        published = 0;
+        above = 0;
+        here = 0;
+        reckoned = reckon_starts asked kind line ranked X old frame last;
+        within = omega arith;
+      }))
+
+  module _ (mid new : DeskView) (passed : List OpenFrame) (frame : OpenFrame) (spent : ℕ) (before : Keeps old mid)
+      (k : Keeps mid new) where
+    -- the frame waits, and a new one is opened
+    pub outlay_down : (all : List OpenFrame) (below : OpenFrame) → all ≡ passed ++ frame ∷ [] → below.last ≡ None
+        → Outlay asked kind line X old mid passed frame spent 1 → Outlay asked kind line X old mid all below spent 0
+    outlay_down all below e last o =
+        let P : List OpenFrame → Type 0 = λ z. Outlay asked kind line X old mid z below spent 0 in
+        subst P (sym e) (record {
+          items = o.items;
+          published = o.published;
+          above = o.above + o.here;
+          here = 0;
+          reckoned = reckon_down asked kind line ranked X old mid mid passed frame o.items o.published o.above o.here
+              spent 1 o.reckoned below last refl;
+          within = omega (arith, o.within);
+        })
+
+    module _ (o : Outlay asked kind line X old mid passed frame spent 0) where
+      -- a call that added no event
+      pub outlay_waits : Waits mid new → Outlay asked kind line X old new passed frame spent 0
+      outlay_waits w = record {
+        items = o.items;
+        published = o.published;
+        above = o.above;
+        here = o.here;
+        reckoned = record {
+          done = does_still asked kind line X old mid new o.items o.published before o.reckoned.done w;
+          passed_units = o.reckoned.passed_units;
+          frame_units = o.reckoned.frame_units;
+          few = o.reckoned.few;
+        };
+        within = o.within;
+      }
+
+      -- the frame stands before its first load again
+      pub outlay_again : (again : OpenFrame) → again.last ≡ None → Outlay asked kind line X old mid passed again spent 0
+      outlay_again again last = record {
+        items = o.items;
+        published = o.published;
+        above = o.above;
+        here = 0;
+        reckoned = record {
+          done = o.reckoned.done;
+          passed_units = o.reckoned.passed_units;
+          frame_units = none_counts line X again last;
+          few = o.reckoned.few;
+        };
+        within = omega (arith, o.within);
+      }
+
+      -- a load is listed, and its rest may be published
+      pub outlay_lists : (l : Load) (cites : List ℕ) (m room spent' : ℕ)
+          → IsFollowing line X frame.mode frame.set frame.last l → LastIsLoad line X frame.mode frame.set frame.last
+          → DoesFew asked kind line X mid new m 0 → m + room ≤ 1 → spent' ≡ spent + 1
+          → Outlay asked kind line X old new passed (with_cites (with_last frame l) cites) spent' room
+      outlay_lists l cites m room spent' following is_load d less more = record {
+        items = o.items ++ d.items;
+        published = o.published + 0;
+        above = o.above;
+        here = o.here + 1;
+        reckoned = reckon_lists asked kind line ranked X old mid new passed frame o.items o.published o.above o.here
+            spent 0 o.reckoned before k d.items 0 m d.done d.few l cites room spent' following is_load refl less more;
+        within = omega (arith, more, o.within);
+      }
+
+      -- the frame is refuted, and the one above it goes on
+      pub outlay_up : (upper : List OpenFrame) (parent : OpenFrame) (cites : List ℕ) (n : ℕ) → n ≤ o.here
+          → DoesFew asked kind line X mid new 1 n → passed ≡ upper ++ parent ∷ []
+          → Outlay asked kind line X old new upper (with_cites parent cites) spent 0
+      outlay_up upper parent cites n l d e =
+          let r = reckon_up asked kind line ranked X old mid new passed frame o.items o.published o.above o.here spent 0
+          o.reckoned before k d.items n 1 d.done d.few upper parent cites refl (omega arith) e in
+          record {
+            items = o.items ++ d.items;
+            published = o.published + n;
+            above = r.0;
+            here = r.1;
+            reckoned = r.2.0;
+            within = omega (arith, o.within, r.2.1, l);
+          }
+
+      -- the account after a further step, for a search that gives its frames up
+      pub outlay_ends : (m n spent' most : ℕ) → DoesFew asked kind line X mid new m n → n ≤ o.here → spent ≤ spent'
+          → m + spent ≤ length passed + most → Accounts asked kind line X old new [] spent' most
+      outlay_ends m n spent' most d l more room =
+          reckon_ends asked kind line ranked X old mid new passed frame o.items o.published o.above o.here spent 0
+          o.reckoned before k d.items n m d.done d.few spent' most o.within l more (omega (arith, room))

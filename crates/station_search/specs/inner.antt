@@ -1,2 +1,3 @@
 pub mod Order
 pub mod Work
+pub mod Walks

@@ -17,10 +17,11 @@ ghost use Rattle.lemma_core.specs.Desks.{entries, Keeps, Waits, FollowsSeen};
 ghost use Rattle.lemma_core.specs.Own.{IsStatable};
 ghost use Rattle.station_search.specs.Mode.{frame_mode};
 ghost use Rattle.station_search.specs.Decide.{IsFor, IsPairing, IsAnswered, Decides};
-ghost use Rattle.station_search.specs.inner.Work.{branch_of, DoesFor, Accounts, Ends};
+ghost use Rattle.station_search.specs.inner.Work.{branch_of, DoesFew, DoesFor, Accounts, Ends};
 
 use crate::answers::{Decided, Reason, Units};
 use crate::listings::{Listing, begin_listing, next_load};
+use crate::looking::ByLook;
 use crate::modes::mode_for;
 use crate::ordering::loads_in_order;
 use crate::pairing::{enter, enter_first, leave};
@@ -32,8 +33,12 @@ use line_rules::{Cites, Entry, LineKind, Mode, OpenFrame, Why};
 use pair_search::PairTable;
 use std::alloc::{AllocError, Global};
 
-// Publishes a frame whose loads ended as a Branch entry, and gives the number of an entry that answers it.
-fn publish_branch<D: Desk>(desk: &mut D, cycle: u64, frame: OpenFrame) -> Result<u64, AllocError>
+/// Publishes a frame whose loads ended as a Branch entry, and gives the number of an entry that answers it.
+pub fn publish_branch<D: Desk>(
+    desk: &mut D,
+    cycle: u64,
+    frame: OpenFrame,
+) -> Result<u64, AllocError>
     requires follows { FollowsSeen (D.desk desk.old) (branch_of cycle frame) }
     requires range { IsStatable (branch_of cycle frame) }
     ensures keeps { Keeps (D.desk desk.old) (D.desk desk.new) }
@@ -44,6 +49,10 @@ fn publish_branch<D: Desk>(desk: &mut D, cycle: u64, frame: OpenFrame) -> Result
         → Counts line (IsLoad line cycle frame.mode frame.set) n
         → ((D.desk desk.old).alone ≡ true → IsUnanswered (entries (D.desk desk.old)) frame.set frame.most cycle)
         → OnOk result (DoesFor asked kind line cycle (D.desk desk.old) (D.desk desk.new) frame.set 1 n) }
+    ensures pays { (asked : Option Way) (kind : Kind) (line : Line) (n : ℕ)
+        → frame.mode ≡ frame_mode asked kind line frame.set
+        → Counts line (IsLoad line cycle frame.mode frame.set) n
+        → OnOk result (DoesFew asked kind line cycle (D.desk desk.old) (D.desk desk.new) 1 n) }
 {
     let step = Entry {
         set: frame.set,
@@ -61,8 +70,8 @@ fn publish_branch<D: Desk>(desk: &mut D, cycle: u64, frame: OpenFrame) -> Result
     }
 }
 
-// A frame of which no load was listed: in the mode asked for, or else in that of its set.
-fn open_frame(
+/// A frame of which no load was listed: in the mode asked for, or else in that of its set.
+pub fn open_frame(
     alloc: Global,
     inst: &Instance,
     kind: LineKind,
@@ -148,7 +157,7 @@ pub fn search<D: Desk>(
                 units.left -= 1;
                 units.used += 1;
                 frame.last = Some(load);
-                match sort_load(
+                match sort_load::<ByLook, D>(
                     alloc, desk, inst, kind, cycle, &frame, &load, &listing, pairs,
                 )? {
                     Sorted::Closed => {}

@@ -1,5 +1,5 @@
 //! What is to be done with a load that was listed: the tests of the load and of its rest.
-ghost use Rattle.std.specs.Prelude.{◌≡◌, ◌≤◌, Option, Some, IfSome, IfOk, OnErr};
+ghost use Rattle.std.specs.Prelude.{◌≡◌, ◌≤◌, ◌&&◌, Option, Some, IfSome, IfOk, OnErr};
 ghost use Rattle.line_instance.specs.Line.{IsTaskSet};
 ghost use Rattle.line_rules.specs.Loads.{IsLoad, rest};
 ghost use Rattle.line_rules.specs.Ranges.{IsCycle};
@@ -9,9 +9,10 @@ ghost use Rattle.station_search.specs.Decide.{IsFor, IsPairing};
 ghost use Rattle.station_search.specs.inner.Work.{IsBeside, Sorts, DoesFor, may_add};
 
 use crate::listings::{Listing, is_longer, rest_times};
+use crate::looking::Looker;
 use crate::pairing::{ask_pairs, publish_pairs};
 use crate::swaps::publish_swap;
-use lemma_core::{Desk, Looked};
+use lemma_core::Desk;
 use line_instance::{Instance, TaskSet};
 use line_rules::{LineKind, Load, OpenFrame};
 use lower_bounds::exceeds_with;
@@ -32,7 +33,7 @@ pub enum Sorted {
 
 /// What is to be done with the last load of a frame, at which its listing stands. The total time of what it leaves
 /// is asked first, since it closes most loads, and then how many tasks over half a cycle it leaves.
-pub fn sort_load<D: Desk>(
+pub fn sort_load<L: Looker<D>, D: Desk>(
     alloc: Global,
     desk: &mut D,
     inst: &Instance,
@@ -59,7 +60,7 @@ pub fn sort_load<D: Desk>(
     ensures fails { (asked : Option Mode) → let rest = rest frame.now.set load.now in
         OnErr result (DoesFor asked kind inst.now cycle (D.desk desk.old) (D.desk desk.new) rest 0 0) }
     ensures sorts { IfOk result
-        (Sorts kind inst.now cycle (D.desk desk.old).alone (entries (D.desk desk.new)) frame.now load.now) }
+        (Sorts kind inst.now cycle (L.exact && (D.desk desk.old).alone) (entries (D.desk desk.new)) frame.now load.now) }
 {
     let times = rest_times(inst, cycle, frame, load, listing);
     if is_longer(times.total, frame.most - 1, cycle) {
@@ -78,9 +79,8 @@ pub fn sort_load<D: Desk>(
     if rest.is_empty() {
         return Ok(Sorted::Empty);
     }
-    match desk.look(&rest, frame.most - 1) {
-        Looked::Found { id, .. } => return Ok(Sorted::Covered(id)),
-        Looked::Absent => {}
+    if let Some(id) = L::find(desk, &rest, frame.most - 1) {
+        return Ok(Sorted::Covered(id));
     }
     if let Paired::Refuted { hull, two } = ask_pairs(
         pairs,
@@ -94,7 +94,7 @@ pub fn sort_load<D: Desk>(
         let paired = publish_pairs(alloc, desk, inst, kind, cycle, &hull, most, &two)?;
         return Ok(Sorted::Covered(paired));
     }
-    match publish_swap(desk, inst, kind, cycle, &rest, frame.most - 1)? {
+    match publish_swap::<L, D>(desk, inst, kind, cycle, &rest, frame.most - 1)? {
         Some(id) => Ok(Sorted::Covered(id)),
         None => Ok(Sorted::Open(rest)),
     }

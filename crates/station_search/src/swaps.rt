@@ -2,7 +2,7 @@
 //! can stand in for it.
 //!
 //! At most 32 looks are made for a rest, with the kept partners of its tasks.
-ghost use Rattle.std.specs.Prelude.{◌≡◌, ◌<◌, ◌≤◌, true, Option, IsNone, IfSome, IfOk, OnErr};
+ghost use Rattle.std.specs.Prelude.{◌≡◌, ◌<◌, ◌≤◌, ◌&&◌, true, Option, IsNone, IfSome, IfOk, OnErr};
 ghost use Rattle.line_instance.specs.Truths.{In};
 ghost use Rattle.line_instance.specs.Line.{IsTaskSet};
 ghost use Rattle.line_rules.specs.Entries.{IsUnanswered, FollowsBySwap};
@@ -12,7 +12,8 @@ ghost use Rattle.lemma_core.specs.Desks.{entries, Keeps, Waits};
 ghost use Rattle.station_search.specs.Decide.{IsFor, IsAnswered};
 ghost use Rattle.station_search.specs.inner.Work.{DoesFor, may_swap, swap_of};
 
-use lemma_core::{Desk, Looked, Published};
+use crate::looking::Looker;
+use lemma_core::{Desk, Published};
 use line_instance::{Instance, TaskSet};
 use line_rules::{Entry, LineKind, Why};
 use std::alloc::AllocError;
@@ -35,7 +36,7 @@ struct Swap {
 }
 
 // Looks for a set in which a partner stands in for the task, while looks are left.
-fn swap_out<D: Desk>(
+fn swap_out<L: Looker<D>, D: Desk>(
     desk: &mut D,
     inst: &Instance,
     kind: LineKind,
@@ -65,22 +66,19 @@ fn swap_out<D: Desk>(
         }
         *looks -= 1;
         let swapped = set.without(out_task).with(in_task);
-        match desk.look(&swapped, most) {
-            Looked::Found { id, .. } => {
-                return Some(Swap {
-                    cite: id,
-                    out_task,
-                    in_task,
-                });
-            }
-            Looked::Absent => {}
+        if let Some(cite) = L::find(desk, &swapped, most) {
+            return Some(Swap {
+                cite,
+                out_task,
+                in_task,
+            });
         }
     }
     None
 }
 
 // Looks for a way to refute the set by an entry, its tasks ascending.
-fn find_swap<D: Desk>(
+fn find_swap<L: Looker<D>, D: Desk>(
     desk: &mut D,
     inst: &Instance,
     kind: LineKind,
@@ -96,7 +94,7 @@ fn find_swap<D: Desk>(
 {
     let mut looks = MAX_LOOKS;
     for task in set {
-        if let Some(swap) = swap_out(desk, inst, kind, cycle, set, most, task, &mut looks) {
+        if let Some(swap) = swap_out::<L, D>(desk, inst, kind, cycle, set, most, task, &mut looks) {
             return Some(swap);
         }
         if looks == 0 {
@@ -108,7 +106,7 @@ fn find_swap<D: Desk>(
 
 /// Publishes that a set is refuted by the Swap rule, where an entry is found for that, and gives the number of an entry
 /// that answers the set.
-pub fn publish_swap<D: Desk>(
+pub fn publish_swap<L: Looker<D>, D: Desk>(
     desk: &mut D,
     inst: &Instance,
     kind: LineKind,
@@ -120,7 +118,8 @@ pub fn publish_swap<D: Desk>(
     requires set { IsTaskSet inst.now set.now }
     requires cycle { IsCycle cycle }
     requires few { most ≤ 1024 }
-    requires unanswered { (D.desk desk.old).alone ≡ true → IsUnanswered (entries (D.desk desk.old)) set.now most cycle }
+    requires unanswered { (L.exact && (D.desk desk.old).alone) ≡ true
+        → IsUnanswered (entries (D.desk desk.old)) set.now most cycle }
     ensures keeps { Keeps (D.desk desk.old) (D.desk desk.new) }
     ensures publishes { (asked : Option Mode) → IfOk result (λ found.
         DoesFor asked kind inst.now cycle (D.desk desk.old) (D.desk desk.new) set.now (may_swap found) 0) }
@@ -128,9 +127,10 @@ pub fn publish_swap<D: Desk>(
     ensures answered { IfOk result (λ found.
         IfSome found (λ id. IsAnswered (entries (D.desk desk.new)) id set.now most cycle)) }
     ensures unanswered { IfOk result (λ found. IsNone found
-        → (D.desk desk.old).alone ≡ true → IsUnanswered (entries (D.desk desk.new)) set.now most cycle) }
+        → (L.exact && (D.desk desk.old).alone) ≡ true
+        → IsUnanswered (entries (D.desk desk.new)) set.now most cycle) }
 {
-    let Some(swap) = find_swap(desk, inst, kind, cycle, set, most) else {
+    let Some(swap) = find_swap::<L, D>(desk, inst, kind, cycle, set, most) else {
         return Ok(None);
     };
     let step = Entry {

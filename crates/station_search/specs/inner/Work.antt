@@ -55,15 +55,15 @@ abbrev pub pairs_of : ℕ → List Bool → ℕ → List Bool → Entry
 pairs_of X set most two = record { set = set; most = most; cycle = X; why = why.Pairs two }
 
 -- What is told of a load of the frame: it isn't open; an entry refutes its rest; its rest is empty; or its rest is
--- open, and no entry answers it where the desk is alone.
+-- open, and no entry answers it where the looks were exact and the desk is alone.
 abbrev pub Sorts : LineKind → Line → ℕ → Bool → List Entry → OpenFrame → Load → Sorted → Type 0
-Sorts kind line X alone es f l sorted.Closed = IsOpen kind line X f.mode f.set f.most l → ⊥
-Sorts kind line X alone es f l (sorted.Covered id) =
+Sorts kind line X sure es f l sorted.Closed = IsOpen kind line X f.mode f.set f.most l → ⊥
+Sorts kind line X sure es f l (sorted.Covered id) =
     IsOpen kind line X f.mode f.set f.most l × Cites es id (rest f.set l) (f.most - 1) X
-Sorts kind line X alone es f l sorted.Empty = IsOpen kind line X f.mode f.set f.most l × IsEmpty (rest f.set l)
-Sorts kind line X alone es f l (sorted.Open set) =
+Sorts kind line X sure es f l sorted.Empty = IsOpen kind line X f.mode f.set f.most l × IsEmpty (rest f.set l)
+Sorts kind line X sure es f l (sorted.Open set) =
     IsOpen kind line X f.mode f.set f.most l × (set ≡ rest f.set l) × (IsEmpty set → ⊥)
-    × (alone ≡ true → IsUnanswered es set (f.most - 1) X)
+    × (sure ≡ true → IsUnanswered es set (f.most - 1) X)
 
 -- What was done on a desk: these own events, which paid so much; a desk that is alone saw nothing else.
 pub record Does (asked : Option Mode) (kind : LineKind) (line : Line) (X : ℕ) (old new : DeskView)
@@ -73,6 +73,13 @@ pub record Does (asked : Option Mode) (kind : LineKind) (line : Line) (X : ℕ) 
   pub lemmas : AreLemmas asked kind line X (added_of items)
   pub paid : PayAll asked kind line X (entries new) items n
   pub alone : old.alone ≡ true → new.seen ≡ old.seen ++ items
+
+-- Publishes that paid so much, and of which at most so many added an entry.
+pub record DoesFew (asked : Option Mode) (kind : LineKind) (line : Line) (X : ℕ) (old new : DeskView)
+    (most n : ℕ) : Type 0 where
+  pub items : List Item
+  pub done : Does asked kind line X old new items n
+  pub few : length (added_of items) ≤ most
 
 -- each of the entries has a part of this set, or all of it
 abbrev pub AreWithin : List Bool → List Entry → Type 0

@@ -4,7 +4,7 @@ use Rattle.lemma_core.specs.History.{known}
 use Rattle.station_search.specs.Costs.{HasLoads}
 use Rattle.station_search.specs.inner.Work.{branch_of}
 use Rattle.station_search.proofs.Events.{known_answers, added_answers}
-use Rattle.station_search.proofs.PaidSteps.{counts_has, one_added, one_known}
+use Rattle.station_search.proofs.PaidSteps.{counts_has, does_few, few_known, one_added, one_known}
 use Rattle.station_search.proofs.searching.publish_branch.Goals as goal
 
 pub returns-in-Known-clause-answered : goal.returns-in-Known-clause-answered
@@ -32,3 +32,18 @@ returns-in-Added-clause-publishes g c = λ asked kind line n mode counts un.
     one_added asked kind line c.args.cycle (g.D.Desk.desk c.args.desk.now) (g.D.Desk.desk c.publish.new.self)
     c.in-Added.ensures.publishes.0 c.in-Added.id (branch_of c.args.cycle c.args.frame) c.args.frame.set n
     c.in-Added.ensures.publishes.1 refl mode counts (λ i m. m)
+
+pub returns-in-Known-clause-pays : goal.returns-in-Known-clause-pays
+returns-in-Known-clause-pays g c = λ asked kind line n mode counts.
+    let P : Mode → Type 0 = λ z. HasLoads line c.args.cycle z c.args.frame.set n in
+    few_known asked kind line c.args.cycle (g.D.Desk.desk c.args.desk.now) (g.D.Desk.desk c.publish.new.self)
+    c.in-Known.ensures.publishes.0 c.in-Known.id c.args.frame.most c.args.frame.set c.args.frame.most n
+    c.in-Known.ensures.publishes.1 c.in-Known.ensures.publishes.2
+    (subst P mode (counts_has line c.args.cycle c.args.frame.mode c.args.frame.set n counts))
+
+pub returns-in-Added-clause-pays : goal.returns-in-Added-clause-pays
+returns-in-Added-clause-pays g c = λ asked kind line n mode counts.
+    does_few asked kind line c.args.cycle (g.D.Desk.desk c.args.desk.now) (g.D.Desk.desk c.publish.new.self)
+    c.args.frame.set 1 n (one_added asked kind line c.args.cycle (g.D.Desk.desk c.args.desk.now)
+    (g.D.Desk.desk c.publish.new.self) c.in-Added.ensures.publishes.0 c.in-Added.id
+    (branch_of c.args.cycle c.args.frame) c.args.frame.set n c.in-Added.ensures.publishes.1 refl mode counts (λ i m. m))

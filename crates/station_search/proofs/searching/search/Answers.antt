@@ -1,4 +1,5 @@
-use Rattle.std.proofs.Common.{◌+◌, ◌-◌, Bool, Option, IfSome, List, [], ◌∷◌, length, refl, sym, ap, ◌∙◌, subst, arith, length-append}
+use Rattle.std.proofs.Common.{◌+◌, ◌-◌, Bool, Option, IfSome, List, [], ◌∷◌, length, refl, sym, ap, ◌∙◌, subst, arith}
+use Rattle.std.proofs.Common.{length-append}
 use Rattle.line_instance.specs.Line.{Line, IsTaskSet}
 use Rattle.line_rules.specs.Loads.{rest}
 use Rattle.line_rules.specs.Entries.{Follows}
@@ -12,7 +13,7 @@ use Rattle.station_search.specs.inner.Work.{branch_of, with_last, may_add, Sorts
 use Rattle.station_search.specs.declared.sorting.Sorted.{Sorted}
 use Rattle.station_search.proofs.Events.{for_still}
 use Rattle.station_search.proofs.PaidSteps.{one_none}
-use Rattle.station_search.proofs.States.{rest_tasks, follows, closed, covered, goes_up}
+use Rattle.station_search.proofs.States.{rest_tasks, follows, closed, covered, goes_up, answer_cites}
 use Rattle.station_search.proofs.Pairs.{paired_none, paired_push, paired_pop, paired_last}
 use Rattle.station_search.proofs.Tallies.{tally_lists, tally_ends, tally_up, accounts, idle}
 use Rattle.station_search.proofs.Endings.{on_err}
@@ -111,7 +112,8 @@ search-preserved-in_ok-push-in-Some-pop_from g c = record {
       (grown c.args.mode c.args.kind c.args.inst.now c.tasks-tasks.ensures.ranked c.args.cycle c.args.set.now
       c.args.most (g.D.Desk.desk c.search.desk) (g.D.Desk.desk c.publish_branch.new.desk) c.search.passed.items
       c.search.frame c.publish_branch.ensures.keeps c.search.invariant.searching)
-      c.in_ok-id-in-None.ensures.answered;
+      (λ T r same few. answer_cites (entries (g.D.Desk.desk c.publish_branch.new.desk)) c.in_ok-id-in-None.id
+      c.search.frame.set T c.search.frame.most r c.args.cycle same few c.in_ok-id-in-None.ensures.answered);
   beside = paired_last c.args.inst.now c.args.cycle c.search.passed.items c.pop_from.new.stack.items
       c.search.listings.items c.take_from-listing.new.stack.items c.in-Some-pop_from.parent c.take_from-listing.result
       c.in-Some-pop_from.ensures.some c.take_from-listing.ensures c.search.invariant.paired c.push.new.self;

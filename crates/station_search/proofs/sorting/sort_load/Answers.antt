@@ -89,10 +89,10 @@ returns-then-is_empty-clause-publishes g c = λ asked.
     (g.D.Desk.desk c.args.desk.now) (rest c.args.frame.now.set c.args.load.now) 0
     (waits_none (g.D.Desk.desk c.args.desk.now))
 
-pub returns-in-Found-clause-publishes : goal.returns-in-Found-clause-publishes
-returns-in-Found-clause-publishes g c = λ asked.
+pub returns-in-Some-clause-publishes : goal.returns-in-Some-clause-publishes
+returns-in-Some-clause-publishes g c = λ asked.
     one_none asked c.args.kind c.args.inst.now c.args.cycle (g.D.Desk.desk c.args.desk.now)
-    (g.D.Desk.desk c.look.new.self) (rest c.args.frame.now.set c.args.load.now) 1 c.look.ensures.waits
+    (g.D.Desk.desk c.find.new.desk) (rest c.args.frame.now.set c.args.load.now) 1 c.find.ensures.waits
 
 pub publish_swap-requires-clause-set : goal.publish_swap-requires-clause-set
 publish_swap-requires-clause-set g c =
@@ -101,8 +101,8 @@ publish_swap-requires-clause-set g c =
     c.union.ensures.value)) (rest_tasks c.args.inst.now c.args.frame.now.set c.args.load.now c.requires.set)
 
 pub returns-in_err-id-clause-keeps : goal.returns-in_err-id-clause-keeps
-returns-in_err-id-clause-keeps g c = keeps_both (g.D.Desk.desk c.args.desk.now) (g.D.Desk.desk c.look.new.self)
-    (g.D.Desk.desk c.publish_swap.new.desk) c.look.ensures.waits.keeps c.publish_swap.ensures.keeps
+returns-in_err-id-clause-keeps g c = keeps_both (g.D.Desk.desk c.args.desk.now) (g.D.Desk.desk c.find.new.desk)
+    (g.D.Desk.desk c.publish_swap.new.desk) c.find.ensures.waits.keeps c.publish_swap.ensures.keeps
 
 pub returns-in_err-id-clause-fails : goal.returns-in_err-id-clause-fails
 returns-in_err-id-clause-fails g c = λ asked.
@@ -110,41 +110,41 @@ returns-in_err-id-clause-fails g c = λ asked.
     (g.D.Desk.desk c.args.desk.now) (g.D.Desk.desk c.publish_swap.new.desk)
     (rest c.args.frame.now.set c.args.load.now) 0 0)
     (does_for_then asked c.args.kind c.args.inst.now c.args.cycle (g.D.Desk.desk c.args.desk.now)
-    (g.D.Desk.desk c.look.new.self) (g.D.Desk.desk c.publish_swap.new.desk)
-    (rest c.args.frame.now.set c.args.load.now) 0 0 c.look.ensures.waits c.publish_swap.ensures.keeps
-    (one_none asked c.args.kind c.args.inst.now c.args.cycle (g.D.Desk.desk c.look.new.self)
+    (g.D.Desk.desk c.find.new.desk) (g.D.Desk.desk c.publish_swap.new.desk)
+    (rest c.args.frame.now.set c.args.load.now) 0 0 c.find.ensures.waits c.publish_swap.ensures.keeps
+    (one_none asked c.args.kind c.args.inst.now c.args.cycle (g.D.Desk.desk c.find.new.desk)
     (g.D.Desk.desk c.publish_swap.new.desk) (rest c.args.frame.now.set c.args.load.now) 0
     c.in_err-id.ensures.fails))
 
-pub returns-in-Some-clause-keeps : goal.returns-in-Some-clause-keeps
-returns-in-Some-clause-keeps g c = keeps_both (g.D.Desk.desk c.args.desk.now) (g.D.Desk.desk c.look.new.self)
-    (g.D.Desk.desk c.publish_swap.new.desk) c.look.ensures.waits.keeps c.publish_swap.ensures.keeps
+pub returns-in-Some-2-clause-keeps : goal.returns-in-Some-2-clause-keeps
+returns-in-Some-2-clause-keeps g c = keeps_both (g.D.Desk.desk c.args.desk.now) (g.D.Desk.desk c.find.new.desk)
+    (g.D.Desk.desk c.publish_swap.new.desk) c.find.ensures.waits.keeps c.publish_swap.ensures.keeps
 
-pub returns-in-Some-clause-publishes : goal.returns-in-Some-clause-publishes
-returns-in-Some-clause-publishes g c = λ asked.
-    let P : ℕ → Type 0 = λ z. DoesFor asked c.args.kind c.args.inst.now c.args.cycle (g.D.Desk.desk c.look.new.self)
+pub returns-in-Some-2-clause-publishes : goal.returns-in-Some-2-clause-publishes
+returns-in-Some-2-clause-publishes g c = λ asked.
+    let P : ℕ → Type 0 = λ z. DoesFor asked c.args.kind c.args.inst.now c.args.cycle (g.D.Desk.desk c.find.new.desk)
     (g.D.Desk.desk c.publish_swap.new.desk) c.minus-rest.result z 0 in
     let Q : List Bool → Type 0 = λ z. DoesFor asked c.args.kind c.args.inst.now c.args.cycle
-    (g.D.Desk.desk c.look.new.self) (g.D.Desk.desk c.publish_swap.new.desk) z 1 0 in
+    (g.D.Desk.desk c.find.new.desk) (g.D.Desk.desk c.publish_swap.new.desk) z 1 0 in
     does_for_then asked c.args.kind c.args.inst.now c.args.cycle (g.D.Desk.desk c.args.desk.now)
-    (g.D.Desk.desk c.look.new.self) (g.D.Desk.desk c.publish_swap.new.desk)
-    (rest c.args.frame.now.set c.args.load.now) 1 0 c.look.ensures.waits c.publish_swap.ensures.keeps
+    (g.D.Desk.desk c.find.new.desk) (g.D.Desk.desk c.publish_swap.new.desk)
+    (rest c.args.frame.now.set c.args.load.now) 1 0 c.find.ensures.waits c.publish_swap.ensures.keeps
     (subst Q (c.minus-rest.ensures.value ∙ ap (λ (z : List Bool). minus c.args.frame.now.set z) c.union.ensures.value)
-    (subst P (ap may_swap c.in-Some.is) (c.in_ok-id.ensures.publishes asked)))
+    (subst P (ap may_swap c.in-Some-2.is) (c.in_ok-id.ensures.publishes asked)))
 
 pub returns-in-None-clause-keeps : goal.returns-in-None-clause-keeps
-returns-in-None-clause-keeps g c = keeps_both (g.D.Desk.desk c.args.desk.now) (g.D.Desk.desk c.look.new.self)
-    (g.D.Desk.desk c.publish_swap.new.desk) c.look.ensures.waits.keeps c.publish_swap.ensures.keeps
+returns-in-None-clause-keeps g c = keeps_both (g.D.Desk.desk c.args.desk.now) (g.D.Desk.desk c.find.new.desk)
+    (g.D.Desk.desk c.publish_swap.new.desk) c.find.ensures.waits.keeps c.publish_swap.ensures.keeps
 
 pub returns-in-None-clause-publishes : goal.returns-in-None-clause-publishes
 returns-in-None-clause-publishes g c = λ asked.
-    let P : ℕ → Type 0 = λ z. DoesFor asked c.args.kind c.args.inst.now c.args.cycle (g.D.Desk.desk c.look.new.self)
+    let P : ℕ → Type 0 = λ z. DoesFor asked c.args.kind c.args.inst.now c.args.cycle (g.D.Desk.desk c.find.new.desk)
     (g.D.Desk.desk c.publish_swap.new.desk) c.minus-rest.result z 0 in
     let Q : List Bool → Type 0 = λ z. DoesFor asked c.args.kind c.args.inst.now c.args.cycle
-    (g.D.Desk.desk c.look.new.self) (g.D.Desk.desk c.publish_swap.new.desk) z 0 0 in
+    (g.D.Desk.desk c.find.new.desk) (g.D.Desk.desk c.publish_swap.new.desk) z 0 0 in
     does_for_then asked c.args.kind c.args.inst.now c.args.cycle (g.D.Desk.desk c.args.desk.now)
-    (g.D.Desk.desk c.look.new.self) (g.D.Desk.desk c.publish_swap.new.desk)
-    (rest c.args.frame.now.set c.args.load.now) 0 0 c.look.ensures.waits c.publish_swap.ensures.keeps
+    (g.D.Desk.desk c.find.new.desk) (g.D.Desk.desk c.publish_swap.new.desk)
+    (rest c.args.frame.now.set c.args.load.now) 0 0 c.find.ensures.waits c.publish_swap.ensures.keeps
     (subst Q (c.minus-rest.ensures.value ∙ ap (λ (z : List Bool). minus c.args.frame.now.set z) c.union.ensures.value)
     (subst P (ap may_swap c.in-None.is) (c.in_ok-id.ensures.publishes asked)))
 
@@ -168,9 +168,9 @@ returns-in_err-paired-clause-fails g c = λ asked.
     (g.D.Desk.desk c.args.desk.now) (g.D.Desk.desk c.publish_pairs.new.desk)
     (rest c.args.frame.now.set c.args.load.now) 0 0)
     (does_for_then asked c.args.kind c.args.inst.now c.args.cycle (g.D.Desk.desk c.args.desk.now)
-    (g.D.Desk.desk c.look.new.self) (g.D.Desk.desk c.publish_pairs.new.desk)
-    (rest c.args.frame.now.set c.args.load.now) 0 0 c.look.ensures.waits c.publish_pairs.ensures.keeps
-    (one_none asked c.args.kind c.args.inst.now c.args.cycle (g.D.Desk.desk c.look.new.self)
+    (g.D.Desk.desk c.find.new.desk) (g.D.Desk.desk c.publish_pairs.new.desk)
+    (rest c.args.frame.now.set c.args.load.now) 0 0 c.find.ensures.waits c.publish_pairs.ensures.keeps
+    (one_none asked c.args.kind c.args.inst.now c.args.cycle (g.D.Desk.desk c.find.new.desk)
     (g.D.Desk.desk c.publish_pairs.new.desk) (rest c.args.frame.now.set c.args.load.now) 0
     c.in_err-paired.ensures.waits))
 
@@ -178,8 +178,8 @@ pub returns-in-Refuted-clause-publishes : goal.returns-in-Refuted-clause-publish
 returns-in-Refuted-clause-publishes g c = λ asked.
     let P : List Bool → Type 0 = λ z. IsSubset c.in-Refuted.hull z in
     does_for_then asked c.args.kind c.args.inst.now c.args.cycle (g.D.Desk.desk c.args.desk.now)
-    (g.D.Desk.desk c.look.new.self) (g.D.Desk.desk c.publish_pairs.new.desk)
-    (rest c.args.frame.now.set c.args.load.now) 1 0 c.look.ensures.waits c.publish_pairs.ensures.keeps
+    (g.D.Desk.desk c.find.new.desk) (g.D.Desk.desk c.publish_pairs.new.desk)
+    (rest c.args.frame.now.set c.args.load.now) 1 0 c.find.ensures.waits c.publish_pairs.ensures.keeps
     (c.in_ok-paired.ensures.publishes asked (rest c.args.frame.now.set c.args.load.now)
     (subst P (c.minus-rest.ensures.value ∙ ap (λ (z : List Bool). minus c.args.frame.now.set z) c.union.ensures.value)
     c.in-Refuted.ensures.within))

@@ -1,10 +1,9 @@
-use Rattle.std.proofs.Common.{◌∙◌, sym, refl}
+use Rattle.std.proofs.Common.{refl}
 use Rattle.lemma_core.specs.History.{known}
-use Rattle.station_search.specs.Mode.{frame_mode}
 use Rattle.station_search.specs.inner.Work.{swap_of}
 use Rattle.station_search.proofs.Events.{known_answers, added_answers}
-use Rattle.station_search.proofs.PaidSteps.{no_loads, one_none, one_added, one_known}
-use Rattle.station_search.proofs.Standins.{does_for_then, unanswered_through}
+use Rattle.station_search.proofs.PaidSteps.{one_none, one_added, known_free}
+use Rattle.station_search.proofs.Standins.{does_for_then}
 use Rattle.station_search.proofs.swaps.publish_swap.Goals as goal
 
 pub returns-in_default-clause-publishes : goal.returns-in_default-clause-publishes
@@ -17,14 +16,9 @@ returns-in-Known-clause-publishes g c = λ asked.
     does_for_then asked c.args.kind c.args.inst.now c.args.cycle (g.D.Desk.desk c.args.desk.now)
     (g.D.Desk.desk c.find_swap.new.desk) (g.D.Desk.desk c.publish.new.self) c.args.set.now 1 0
     c.find_swap.ensures.waits c.in-Known.ensures.publishes.1.keeps
-    (one_known asked c.args.kind c.args.inst.now c.args.cycle (g.D.Desk.desk c.find_swap.new.desk)
+    (known_free asked c.args.kind c.args.inst.now c.args.cycle (g.D.Desk.desk c.find_swap.new.desk)
     (g.D.Desk.desk c.publish.new.self) c.in-Known.ensures.publishes.0 c.in-Known.id c.args.most c.args.set.now
-    c.args.most 0 c.in-Known.ensures.publishes.1 c.in-Known.ensures.publishes.2
-    (no_loads c.args.inst.now c.args.cycle (frame_mode asked c.args.kind c.args.inst.now c.args.set.now)
-    c.args.set.now)
-    (λ t. (unanswered_through (g.D.Desk.desk c.args.desk.now) (g.D.Desk.desk c.find_swap.new.desk) c.args.set.now
-    c.args.most c.args.cycle c.find_swap.ensures.waits c.requires.unanswered)
-    (sym c.find_swap.ensures.waits.keeps.alone ∙ t)))
+    c.args.set.now c.args.most c.in-Known.ensures.publishes.1 c.in-Known.ensures.publishes.2)
 
 pub returns-in-Known-clause-answered : goal.returns-in-Known-clause-answered
 returns-in-Known-clause-answered g c = known_answers (g.D.Desk.desk c.find_swap.new.desk)
