@@ -1,5 +1,5 @@
 -- What was done on a book as a desk is how the book goes on.
-use Rattle.std.proofs.Common.{◌≡◌, ℕ, zero, suc, ◌+◌, ◌≤◌, List, [], ◌∷◌, ◌++◌, length, refl, sym, ap, ◌∙◌, subst}
+use Rattle.std.proofs.Common.{◌≡◌, ℕ, zero, suc, ◌+◌, List, [], ◌∷◌, ◌++◌, length, refl, sym, ap, ◌∙◌, subst}
 use Rattle.std.proofs.Common.{arith, length-append, Option}
 use Rattle.std.proofs.lemmas.List.{append-nil, append_cancel_left}
 use Rattle.std.specs.List.{range_with_len}
@@ -17,7 +17,7 @@ use Rattle.lemma_core.proofs.BookAsDesk.{entries_seen, fewest_seen}
 use Rattle.lemma_core.proofs.OwnFacts.{entries_added}
 use Rattle.lemma_core.proofs.Runs.{replay-append}
 use Rattle.station_search.specs.Costs.{HasPublished}
-use Rattle.round_helpers.specs.Growth.{AreAtCycle, GoesOn}
+use Rattle.round_helpers.specs.Growth.{AreAtCycle, GoesOn, Helps}
 use Rattle.round_helpers.proofs.AddedEntries.{lemmas_at}
 use Rattle.round_helpers.proofs.Ranges.{at_range}
 
@@ -77,6 +77,17 @@ goes_same a = record {
   entries = sym (append-nil a.state.entries);
   cycles = λ k e g. absurd (cc);
   best = omega arith;
+}
+
+-- no help at all
+pub helps_none : (b : BookView) (used : ℕ) → Helps b b used
+helps_none b used = record {
+  gained = [];
+  goes_on = goes_same b;
+  few = omega arith;
+  published = 0;
+  units = refl;
+  within = omega arith;
 }
 
 module _ {asked : Option Mode} (old new : BookView) (ok : IsBook old) (okn : IsBook new)

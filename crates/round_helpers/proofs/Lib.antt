@@ -12,6 +12,5 @@ pub mod PassFacts
 pub mod Ranges
 pub mod HelpFacts
 pub mod JobFacts
-pub mod SplitFacts
 pub mod BookGrowth
 pub mod SayableEntries

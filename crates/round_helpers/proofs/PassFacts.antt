@@ -3,7 +3,7 @@ use Rattle.std.proofs.Common.{◌≡◌, ℕ, ◌+◌, ◌-◌, ◌<◌, ◌≤�
 use Rattle.std.proofs.Common.{◌∙◌, subst, inl, inr, arith, append_assoc, Some, cond}
 use Rattle.std.specs.Prelude.{slice_get, nat_lt}
 use Rattle.std.proofs.lemmas.Bool.Decides.{nat_tests}
-use Rattle.std.proofs.lemmas.List.{append-nil, length-map, map-append}
+use Rattle.std.proofs.lemmas.List.{append-nil}
 use Rattle.std.proofs.lemmas.Option.{same_Some}
 use Rattle.atomic_table.specs.Seated.{TableId}
 use Rattle.line_instance.specs.Line.{Line}
@@ -16,7 +16,7 @@ use Rattle.book_share.specs.Rule.{left_of, right_of, both_of}
 use Rattle.book_share.proofs.Lists.{begins_refl}
 use Rattle.station_search.specs.declared.answers.Units.{Units}
 use Rattle.steal_pool.specs.Hands.{HandView}
-use Rattle.round_helpers.specs.inner.Seats.{IsBare, IsReady, AreReady, HasAdded, HasJoined, hands_of, used_by}
+use Rattle.round_helpers.specs.inner.Seats.{IsBare, IsReady, AreReady, HasAdded, HasJoined, used_by}
 use Rattle.round_helpers.specs.inner.Teams.{AreJoinable}
 use Rattle.round_helpers.specs.declared.teams.Helper.{Helper}
 use Rattle.round_helpers.proofs.MixedItems.{added_joined}
@@ -72,20 +72,17 @@ used_push : (hs : List Helper) (h : Helper) → used_by (hs ++ h ∷ []) ≡ use
 used_push [] h = omega arith
 used_push (x ∷ hs) h = omega (arith, used_push hs h)
 
--- A pass with the passes of some helpers joined into it, the helpers that are left, and the hands that were given back.
-pub record IsJoining (share : TableId) (first : PassOf) (all left : List Helper) (now : PassOf)
-    (given : List HandView) : Type 0 where
+-- A pass with the passes of some helpers joined into it, and the helpers that are left.
+pub record IsJoining (share : TableId) (first : PassOf) (all left : List Helper) (now : PassOf) : Type 0 where
   pub done : List Helper
   pub whole : done ++ left ≡ all
   pub pass : IsPassOf share now
   pub joined : (line : Line) (X : ℕ) → AreJoinable first.view.base first.view.seen line X all
       → HasJoined share first.view.base first.view.seen first.view.parts line X done now
-  pub hands : given ≡ hands_of done
 
-pub joins_none : (share : TableId) (first : PassOf) (all : List Helper) (given : List HandView) → IsPassOf share first
-    → first.view.own ≡ [] → given ≡ []
-    → IsJoining share first all all first given
-joins_none share first all given of none empty = record {
+pub joins_none : (share : TableId) (first : PassOf) (all : List Helper) → IsPassOf share first
+    → first.view.own ≡ [] → IsJoining share first all all first
+joins_none share first all of none = record {
   done = [];
   whole = refl;
   pass = of;
@@ -111,39 +108,25 @@ joins_none share first all given of none empty = record {
     };
     each = λ k h e. absurd (cc);
   };
-  hands = empty;
 }
 
 -- the next helper is one of all
 pub joins_next : (share : TableId) (first : PassOf) (all left : List Helper) (h : Helper) (p : PassOf)
-    (given : List HandView) → IsJoining share first all (h ∷ left) p given
-    → (k : ℕ) × (slice_get all k ≡ Some h)
-joins_next share first all left h p given j =
+    → IsJoining share first all (h ∷ left) p → (k : ℕ) × (slice_get all k ≡ Some h)
+joins_next share first all left h p j =
     let whole : (j.done ++ h ∷ []) ++ left ≡ all = append_assoc j.done (h ∷ []) left ∙ j.whole in (
       length j.done,
       sym (ap (λ (z : List Helper). slice_get z (length j.done)) whole)
           ∙ get_longer (j.done ++ h ∷ []) left (length j.done) h (get_last j.done h),
     )
 
--- there is room for its hand
-pub joins_room : (share : TableId) (first : PassOf) (all left : List Helper) (h : Helper) (p : PassOf)
-    (given : List HandView) → IsJoining share first all (h ∷ left) p given → length given < length all
-joins_room share first all left h p given j = omega (
-  arith,
-  ap (λ (z : List HandView). length z) j.hands,
-  length-map j.done (λ (x : Helper). x.hand),
-  ap (λ (z : List Helper). length z) j.whole,
-  length-append j.done (h ∷ left),
-)
-
 pub joins_one : (share : TableId) (first : PassOf) (all left : List Helper) (h : Helper) (p q : PassOf)
-    (given more : List HandView) → IsJoining share first all (h ∷ left) p given → IsPassOf share q
-    → q.view ≡ both_of p.view h.pass.view
+    → IsJoining share first all (h ∷ left) p → IsPassOf share q → q.view ≡ both_of p.view h.pass.view
     → Begins p.view.seen q.view.seen → Begins h.pass.view.seen q.view.seen → IsSound q.view
-    → more ≡ given ++ h.hand ∷ [] → IsJoining share first all left q more
-joins_one share first all left h p q given more j of e from_p from_h sound grown =
+    → IsJoining share first all left q
+joins_one share first all left h p q j of e from_p from_h sound =
     let whole : (j.done ++ h ∷ []) ++ left ≡ all = append_assoc j.done (h ∷ []) left ∙ j.whole in
-    let here : (k : ℕ) × (slice_get all k ≡ Some h) = joins_next share first all left h p given j in
+    let here : (k : ℕ) × (slice_get all k ≡ Some h) = joins_next share first all left h p j in
     record {
       done = j.done ++ h ∷ [];
       whole = whole;
@@ -172,22 +155,16 @@ joins_one share first all left h p q given more j of e from_p from_h sound grown
               | inr y ↦ (let P : Helper → Type 0 = λ z. Begins z.pass.view.seen q.view.seen in subst P y.1 from_h)
             ];
           };
-      hands = grown ∙ (ap (λ (z : List HandView). z ++ h.hand ∷ []) j.hands
-          ∙ sym (map-append (λ (x : Helper). x.hand) j.done (h ∷ [])));
     }
 
-pub joins_all : (share : TableId) (first : PassOf) (all : List Helper) (p : PassOf) (given : List HandView)
-    → IsJoining share first all [] p given
-    → ((line : Line) (X : ℕ) → AreJoinable first.view.base first.view.seen line X all
-    → HasJoined share first.view.base first.view.seen first.view.parts line X all p) × (given ≡ hands_of all)
-joins_all share first all p given j =
-    let e : j.done ≡ all = sym (append-nil j.done) ∙ j.whole in (
-      λ line X able.
-          let P : List Helper → Type 0 =
-          λ z. HasJoined share first.view.base first.view.seen first.view.parts line X z p in
-          subst P e (j.joined line X able),
-      j.hands ∙ ap (λ (z : List Helper). hands_of z) e,
-    )
+pub joins_all : (share : TableId) (first : PassOf) (all : List Helper) (p : PassOf) → IsJoining share first all [] p
+    → (line : Line) (X : ℕ) → AreJoinable first.view.base first.view.seen line X all
+    → HasJoined share first.view.base first.view.seen first.view.parts line X all p
+joins_all share first all p j line X able =
+    let e : j.done ≡ all = sym (append-nil j.done) ∙ j.whole in
+    let P : List Helper → Type 0 =
+    λ z. HasJoined share first.view.base first.view.seen first.view.parts line X z p in
+    subst P e (j.joined line X able)
 
 -- Passes split off for some hands, and the hands that are left.
 pub record IsSplitting (share : TableId) (base : Base) (seen : List Item) (us : List Units) (hands left : List HandView)

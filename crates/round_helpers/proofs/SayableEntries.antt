@@ -1,6 +1,5 @@
 -- Entries that follow from each other can be said by a certificate.
-use Rattle.std.proofs.Common.{◌≡◌, ℕ, ◌<◌, ◌≤◌, Bool, List, length, take, arith}
-use Rattle.std.specs.Prelude.{slice_get}
+use Rattle.std.proofs.Common.{ℕ, ◌<◌, ◌≤◌, Bool, List, length, take, arith}
 use Rattle.std.proofs.lemmas.Option.{slice_get_within}
 use Rattle.line_instance.specs.Line.{Line, IsTaskSet, tasks}
 use Rattle.line_rules.specs.Entries.{Covers, FollowsBy, IsDerived}

@@ -1,6 +1,6 @@
 -- What is done on a desk, step by step, and what stays true of a desk that sees more.
 use Rattle.std.proofs.Common.{◌≡◌, ℕ, ◌+◌, ◌-◌, ◌≤◌, Bool, List, [], ◌∷◌, ◌++◌, length, length-append, refl, sym, ap}
-use Rattle.std.proofs.Common.{◌∙◌, subst, arith, Option}
+use Rattle.std.proofs.Common.{◌∙◌, subst, inl, inr, arith, Option}
 use Rattle.std.proofs.lemmas.List.{append_cancel_left}
 use Rattle.line_instance.specs.Line.{Line}
 use Rattle.line_rules.specs.Entries.{HasAnswer}
@@ -14,13 +14,18 @@ use Rattle.lemma_core.specs.Desks.{DeskView, entries, Keeps, Waits}
 use Rattle.lemma_core.specs.Own.{AreAt, Did, added_of}
 use Rattle.lemma_core.proofs.HistoryGrows.{stations_go_on}
 use Rattle.lemma_core.proofs.OwnFacts.{did_none, did_both, did_waits, entries_more}
-use Rattle.station_search.specs.Costs.{HasPublished, AddsFew, FewAdded}
-use Rattle.station_search.specs.declared.answers.Decided.{Decided}
-use Rattle.station_search.specs.declared.answers.Decided.TheVariants as decided
+use Rattle.station_search.specs.Costs.{HasPublished, AddsFew}
+use Rattle.station_search.specs.Beside.{FewBeside, most_added}
+use Rattle.station_search.specs.declared.beside.DecidedBeside.{DecidedBeside}
 use Rattle.station_search.proofs.Events.{added_both}
 use Rattle.round_helpers.specs.Growth.{AreAtCycle}
-use Rattle.round_helpers.specs.inner.Works.{Works, fewest_seen, most_decided}
+use Rattle.round_helpers.specs.inner.Works.{Works, IsEnd, fewest_seen}
+use Rattle.round_helpers.specs.declared.question_work.Question.{Question}
+use Rattle.round_helpers.specs.declared.question_work.End.{End}
+use Rattle.round_helpers.specs.declared.question_work.End.TheVariants as ends
+use Rattle.line_rules.specs.Balance.{all_tasks}
 use Rattle.round_helpers.proofs.AddedEntries.{cycles_both, lemmas_at}
+use Rattle.round_helpers.proofs.JobEnds.{decided_few}
 use Rattle.line_rules.proofs.LongerLists.{has_longer}
 use Rattle.line_rules.proofs.ListUnits.{units_both}
 
@@ -114,6 +119,22 @@ works_more line X a b c u v w l m k n x y =
     (omega (arith, l, m))
     (works_both line X a b c (v - u) (w - v) (v - u) (w - v) k n x y)
 
+-- and then nothing
+pub works_on : (line : Line) (X : ℕ) (a b c : DeskView) (n m : ℕ) → Keeps a b → Waits b c → Works line X a b n m
+    → Works line X a c n m
+works_on line X a b c n m k w x =
+    works_as line X a c (n + 0) n (m + 0) m (omega arith) (omega arith)
+    (works_both line X a b c n 0 m 0 k w.keeps x (works_waits line X b c w))
+
+-- a question was asked once more, with the numbers of units before, between and after
+pub works_asked : (line : Line) (X : ℕ) (a b c : DeskView) (u v w : ℕ) (r : DecidedBeside) → u ≤ v → v ≤ w
+    → Keeps a b → Keeps b c → Works line X a b (v - u) (v - u) → Works line X b c (w - v) (most_added (w - v) r)
+    → Works line X a c (w - u) (w - u + 1)
+works_asked line X a b c u v w r l m k n x y =
+    works_as line X a c ((v - u) + (w - v)) (w - u) ((v - u) + most_added (w - v) r) (w - u + 1) (omega (arith, l, m))
+    (omega (arith, l, m, decided_few r (w - v)))
+    (works_both line X a b c (v - u) (w - v) (v - u) (most_added (w - v) r) k n x y)
+
 -- a balance was offered after it
 pub works_offered : (line : Line) (X : ℕ) (a b c : DeskView) (n : ℕ) → Keeps a b → Keeps b c → Works line X a b n n
     → Works line X b c 0 0 → Works line X a c n n
@@ -144,11 +165,9 @@ module _ {asked : Option Mode} (kind : LineKind) (line : Line) (X : ℕ) (old ne
       }
 
   -- whatever the answer
-  pub works_decided : (r : Decided) → FewAdded line X old new used r → Works line X old new used (most_decided r used)
-  works_decided (decided.Refuted reason) f = works_few [] (used + 1) f
-  works_decided (decided.Found loads) f = works_few [] used f
-  works_decided (decided.Spent frames) f = works_few frames used f
-  works_decided (decided.NoMemory frames) f = works_few frames used f
+  pub works_decided : (r : DecidedBeside) → FewBeside line X old new used r
+      → Works line X old new used (most_added used r)
+  works_decided r f = works_few [] (most_added used r) f
 
 -- what was answered stays answered
 pub answered_on : (old new : DeskView) (R : List Bool) (most X : ℕ) → Keeps old new → HasAnswer (entries old) R most X
@@ -164,3 +183,13 @@ fewest_on old new k =
     let e : fewest_seen new ≡ (replay old.opening new.seen).stations =
     ap (λ (z : Standing). (replay z new.seen).stations) k.opening in
     omega (arith, e, stations_go_on old.opening old.seen new.seen k.seen)
+
+-- how work ends stays true of a desk that sees more
+pub end_on : (old new : DeskView) (line : Line) (question : Question) (left : ℕ) (r : End) → Keeps old new
+    → IsEnd old line question left r → IsEnd new line question left r
+end_on old new line question left ends.Answered k (inl a) =
+    inl (answered_on old new (all_tasks line) question.most question.cycle k a)
+end_on old new line question left ends.Answered k (inr f) = inr (omega (arith, f, fewest_on old new k))
+end_on old new line question left ends.Told k e = e
+end_on old new line question left ends.Spent k e = e
+end_on old new line question left ends.NoMemory k e = e

@@ -1,14 +1,12 @@
 -- What helpers are given for a question, and what they did for it. Own.
-use Rattle.std.specs.Prelude.{◌≡◌, ℕ, suc, ◌+◌, ◌-◌, ◌^◌, ◌<◌, ◌≤◌, ◌⊎◌, List, [], ◌∷◌, length, slice_get, Some}
+use Rattle.std.specs.Prelude.{◌≡◌, ℕ, suc, ◌+◌, ◌^◌, ◌<◌, ◌≤◌, ◌⊎◌, List, [], ◌∷◌, length, slice_get, Some}
 use Rattle.line_rules.specs.Balance.{all_tasks}
 use Rattle.line_rules.specs.Bounds.{bound}
 use Rattle.line_rules.specs.Entries.{HasAnswer}
 use Rattle.lemma_core.specs.Books.{BookView}
 use Rattle.station_search.specs.declared.answers.Units.{Units}
-use Rattle.round_helpers.specs.Jobs.{AreJobs}
 use Rattle.round_helpers.specs.declared.helping.Helped.{Helped}
 use Rattle.round_helpers.specs.declared.helping.Helped.TheVariants as helped
-use Rattle.round_helpers.specs.declared.job_list.Job.{Job}
 
 -- at most 64 helpers, and what each has used and has left is a number of 64 bits
 pub record IsTeam (team : List Units) : Type 0 where
@@ -34,19 +32,17 @@ IsUnneeded book most team =
     ⊎ (most < bound book.about.kind book.about.line book.about.cycle (all_tasks book.about.line))
     ⊎ HasAnswer book.state.entries (all_tasks book.about.line) most book.about.cycle
 
--- an entry of the book refutes each job of the question in one station less
-pub record HasAllJobs (book : BookView) (most : ℕ) : Type 0 where
-  pub jobs : List Job
-  pub are : AreJobs book.about.kind book.about.line book.about.cycle most jobs
-  pub each : (k : ℕ) (j : Job) → slice_get jobs k ≡ Some j
-      → HasAnswer book.state.entries j.set (most - 1) book.about.cycle
+-- the book answers the question: an entry refutes it, or the best balance has at most so many stations
+abbrev pub IsAnsweredBy : BookView → ℕ → Type 0
+IsAnsweredBy book most =
+    HasAnswer book.state.entries (all_tasks book.about.line) most book.about.cycle ⊎ (book.state.best.stations ≤ most)
 
 -- What helpers did for the question whether all tasks have a balance in `most` stations, with the book before and after
--- and the units after: no helper was needed; each job was decided, or the best balance has at most so many stations; a
--- helper, counted from 1, has no unit left; or memory ended.
+-- and the units after: no helper was needed; the question is answered; a helper, counted from 1, has no unit left; or
+-- memory ended.
 abbrev pub HasHelped : BookView → BookView → ℕ → List Units → Helped → Type 0
 HasHelped old new most team helped.Unneeded = IsUnneeded old most team
-HasHelped old new most team helped.Whole = HasAllJobs new most ⊎ (new.state.best.stations ≤ most)
+HasHelped old new most team helped.Whole = IsAnsweredBy new most
 HasHelped old new most team (helped.Cut h) =
     (k : ℕ) × (u : Units) × (h ≡ suc k) × (slice_get team k ≡ Some u) × (u.left ≡ 0)
 HasHelped old new most team helped.NoMemory = Unit {0}

@@ -1,24 +1,25 @@
 //! What a team works with: all that takes memory before its book is shared, so that nothing is wanting after that.
 //!
 //! Each job becomes a piece, which is its rest for one station less, and the pieces are dealt to the hands of a pool in
-//! turn. It costs a copy of each job's set, and the pool's room for 4,096 pieces a helper.
+//! turn. It costs a copy of each job's set, the pool's room for 4,096 pieces a helper, and the board's 128 KiB.
 ghost use Rattle.std.specs.Prelude.{◌≡◌, ◌<◌, ◌≤◌, length, IfOk};
 ghost use Rattle.round_helpers.specs.inner.Equipment.{IsEquipped};
 ghost use Rattle.round_helpers.specs.inner.Pieces.{pieces_of};
 
 use crate::job_list::Job;
 use crate::teams::Helper;
+use claim_board::{Board, open_board};
 use std::alloc::{AllocError, Global};
-use steal_pool::{Hand, Hands, Opened, Piece, Pool, open_pool};
+use steal_pool::{Hands, Opened, Piece, Pool, open_pool};
 
-/// The pool of a question's pieces with a hand for each helper, and room for the helpers and for the hands that they
-/// give back.
+/// The pool of a question's pieces with a hand for each helper, the board on which they say what they are at, and room
+/// for the helpers.
 #[derive(Drop)]
 pub struct Equipment {
     pub pool: Pool,
     pub hands: Hands,
+    pub board: Board,
     pub helpers: Vec<Helper>,
-    pub returned: Vec<Hand>,
 }
 
 // A piece for each job of the question of `most` stations.
@@ -48,13 +49,13 @@ pub fn equip(alloc: Global, jobs: &[Job], most: u32, count: usize) -> Result<Equ
 {
     let pieces = pieces_of(alloc, jobs, most)?;
     let helpers = Vec::with_capacity(alloc, count)?;
-    let returned = Vec::with_capacity(alloc, count)?;
+    let board = open_board(alloc)?;
     match open_pool(alloc, pieces, count as u32) {
         Opened::Good(pool, hands) => Ok(Equipment {
             pool,
             hands,
+            board,
             helpers,
-            returned,
         }),
         Opened::NoMemory => Err(AllocError),
     }

@@ -1,6 +1,6 @@
-//! The help for a question, from a book to the book that comes back: the book is shared, the helpers do the pieces of
-//! the question in threads, each taking from the others where it has none left, and the share is closed again. Every
-//! lemma of a helper enters the book through that close alone.
+//! The help for a question, from a book to the book that comes back: the book is shared, the helpers search the question
+//! in threads, each beside the others, and the share is closed again. Every lemma of a helper enters the book through
+//! that close alone.
 ghost use Rattle.std.specs.Prelude.{◌≡◌, ℕ, ◌+◌, ◌-◌, ◌<◌, ◌≤◌, ◌⊎◌, ◌↔◌, IsTrue, length};
 ghost use Rattle.line_rules.specs.Balance.{all_tasks};
 ghost use Rattle.line_rules.specs.Bounds.{bound};
@@ -18,7 +18,7 @@ ghost use Rattle.round_helpers.specs.declared.helping.Helped.TheVariants.{Unneed
 use crate::equipment::{Equipment, equip};
 use crate::gates::Gate;
 use crate::job_list::{Job, jobs};
-use crate::job_work::Question;
+use crate::question_work::Question;
 use crate::teams::{join_all, settle, split_off, tell, worked};
 use book_share::{Pass, Share, Started};
 use lemma_core::{Book, Looked};
@@ -28,14 +28,13 @@ use station_search::Units;
 use std::alloc::Global;
 use std::sync::Wait;
 use std::thread::Threads;
-use steal_pool::Hands;
 
 /// What the helpers did for a question.
 #[derive(Clone, Copy, Debug, PartialEq, Eq)]
 pub enum Helped {
     /// They weren't needed: there are none, or the bound or an entry of the book refutes the question.
     Unneeded,
-    /// Each job was decided, or a balance of the question was found.
+    /// The question is answered: an entry of the book refutes it, or the best balance has as few stations.
     Whole,
     /// The helper of this number, from 1, used all its units.
     Cut(u32),
@@ -90,6 +89,7 @@ fn help_at<R: Threads + Wait + Sync, G: Gate>(
     requires few { question.most ≤ 1024 }
     requires team { IsTeam units.old }
     requires helper { 0 < length units.old }
+    requires bounded { bound question.kind inst.now question.cycle (all_tasks inst.now) ≤ question.most }
     requires equipped { IsEquipped jobs.now question.most (length units.old) equipment }
     ensures help { (book : BookView) → IsBook book → pass.view ≡ newcomer book
         → book.about ≡ record { line = inst.now; kind = question.kind; cycle = question.cycle }
@@ -101,16 +101,17 @@ fn help_at<R: Threads + Wait + Sync, G: Gate>(
     let Equipment {
         pool,
         hands,
+        board,
         helpers,
-        returned,
     } = equipment;
     let mut pass = pass;
     let ready = split_off(&share, &mut pass, units, hands, helpers);
-    let helpers = worked(rt, alloc, &share, inst, question, jobs, &pool, gate, ready);
+    let helpers = worked(
+        rt, alloc, &share, inst, question, jobs, &pool, &board, gate, ready,
+    );
     settle(&helpers, units);
     let told = tell(&helpers);
-    let hands = join_all(&share, &mut pass, helpers, returned);
-    let _closed = pool.close(Hands::from_vec(alloc, hands));
+    join_all(&share, &mut pass, helpers);
     let book = share.close(rt, pass);
     let _len = book.len();
     let _log = book.log_len();
@@ -123,11 +124,11 @@ fn help_at<R: Threads + Wait + Sync, G: Gate>(
     Help { book, helped: told }
 }
 
-/// Has helpers decide the jobs of the question whether all tasks have a balance in `most` stations, 1 to 1,024, at the
-/// book's cycle, which is 1 to 10^18 in the instance's time unit. There is a helper for each of the units, at most 64,
-/// and each uses its own: one for each piece, and one for each load that is gone over. The book is about this instance,
-/// and `reserve_offers` was done for it. Each helper runs in a thread of its own and meets the gate before each
-/// publish. With `pairs` its searches ask the pairs, by a table of its own.
+/// Has helpers decide the question whether all tasks have a balance in `most` stations, 1 to 1,024, at the book's cycle,
+/// which is 1 to 10^18 in the instance's time unit. There is a helper for each of the units, at most 64, and each uses
+/// its own: one for each piece, one for its last question, and one for each load whenever it is listed. The book is
+/// about this instance, and `reserve_offers` was done for it. Each helper runs in a thread of its own and meets the gate
+/// before each publish. With `pairs` its searches ask the pairs, by a table of its own.
 pub fn call_helpers<R: Threads + Wait + Sync, G: Gate>(
     rt: &R,
     alloc: Global,

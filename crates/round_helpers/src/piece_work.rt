@@ -1,124 +1,60 @@
-//! What one helper does: it takes one piece after the other, splits it, and asks its question.
+//! What one helper does: it takes one piece after the other, settles its job, and asks the whole question at last.
 //!
-//! A piece that was dealt is a job, and the balance that its question gives is offered. A piece that a helper put is
-//! asked for the sake of the lemmas that are published on the way: they close loads of the job above. The helper ends
-//! where all deques are empty, where a job has a balance, or where units or memory end. A piece costs a unit, and so
-//! does each load that is gone over or listed. It works over any desk.
-ghost use Rattle.std.specs.Prelude.{◌≡◌, ◌+◌, ◌-◌, ◌^◌, ◌<◌, ◌≤◌, true, IfOk, IfSome, IsNone};
-ghost use Rattle.line_instance.specs.Line.{IsTaskSet};
+//! A piece is a job of the question: the rest of a load, for one station less. A balance of it is offered with the job's
+//! own load. Where all deques are empty the helper's last question follows, which is that of the round: there it joins
+//! those that are still at their pieces. It ends where it knows the answer, which it then calls, where it is told so, or
+//! where units or memory end. A piece costs a unit, so does the last question, and so does each load that is listed.
+ghost use Rattle.std.specs.Prelude.{◌≡◌, ◌+◌, ◌-◌, ◌^◌, ◌<◌, ◌≤◌, ℕ, true, false, IfSome};
+ghost use Rattle.line_rules.specs.Balance.{all_tasks};
+ghost use Rattle.line_rules.specs.Bounds.{bound};
 ghost use Rattle.line_rules.specs.Ranges.{IsCycle};
-ghost use Rattle.lemma_core.specs.Desks.{Keeps};
+ghost use Rattle.lemma_core.specs.Desks.{Keeps, Waits};
 ghost use Rattle.station_search.specs.Decide.{IsFor, IsPairing};
 ghost use Rattle.steal_pool.specs.Hands.{IsHandOf};
-ghost use Rattle.round_helpers.specs.Jobs.{AreJobs, IsJobOf};
-ghost use Rattle.round_helpers.specs.inner.Pieces.{Puts, HasSplit, SplitsAll, KeepsOwn, IsRefuted, IsDone, AreDone};
-ghost use Rattle.round_helpers.specs.inner.Pieces.{IsEarly};
-ghost use Rattle.round_helpers.specs.inner.Pieces.{IsEnd};
-ghost use Rattle.round_helpers.specs.inner.Works.{Works};
-ghost use Rattle.round_helpers.specs.declared.piece_work.End.TheVariants.{Empty};
+ghost use Rattle.round_helpers.specs.Jobs.{AreJobs};
+ghost use Rattle.round_helpers.specs.inner.Works.{Works, IsEnd};
+ghost use Rattle.round_helpers.specs.declared.question_work.End.TheVariants.{Answered};
 
 use crate::job_list::Job;
-use crate::job_work::{Answer, MOST_BESIDE, Question, ask, do_job};
-use crate::splitting::split_piece;
-use lemma_core::Desk;
-use line_instance::{Instance, TaskSet};
-use station_search::{Decided, PairTable, Units, pair_table};
-use std::alloc::{AllocError, Global};
+use crate::question_work::{End, Question, Shared, offer_job, offer_loads, settle, test_end};
+use line_instance::Instance;
+use station_search::{PairTable, Units, table_for};
+use std::alloc::Global;
 use std::sync::Wait;
 use steal_pool::{Hand, Piece, Pool, Took};
 
-/// How the work of a helper ends.
-#[derive(Clone, Copy, Debug, PartialEq, Eq)]
-pub enum End {
-    /// Each deque was found empty, and each job that the helper took is refuted.
-    Empty,
-    /// A balance of the question was found and offered.
-    Found,
-    /// The units ended.
-    Spent,
-    /// Out of memory.
-    NoMemory,
-}
-
-// Asks the question of a piece that was put. What is found isn't offered.
-fn ask_put<D: Desk>(
-    alloc: Global,
-    desk: &mut D,
-    inst: &Instance,
-    question: Question,
-    set: &TaskSet,
-    most: u32,
-    pairs: &mut Option<PairTable>,
-    units: &mut Units,
-) -> Option<End>
-    requires desk { IsFor (D.desk desk.old) inst.now question.kind question.cycle }
-    requires set { IsTaskSet inst.now set.now }
-    requires cycle { IsCycle question.cycle }
-    requires few { most ≤ 1024 }
-    requires pairs { IfSome pairs.old (IsPairing inst.now question.kind question.cycle) }
-    requires units { units.old.used + units.old.left < 2 ^ 64 }
-    ensures keeps { Keeps (D.desk desk.old) (D.desk desk.new) }
-    ensures pairs { pairs.new ≡ pairs.old }
+// Takes a unit for a piece or for the last question, where one is left.
+fn pay(units: &mut Units) -> bool
+    requires { units.old.used + units.old.left < 2 ^ 64 }
     ensures units { units.new.used + units.new.left ≡ units.old.used + units.old.left }
-    ensures spent { units.old.used ≤ units.new.used }
-    ensures works { let used = units.new.used - units.old.used in
-        Works inst.now question.cycle (D.desk desk.old) (D.desk desk.new) used (used + 1) }
-    ensures early { IfSome result (IsEarly (D.desk desk.new) question.most units.new.left) }
+    ensures paid { result ≡ true → units.new.used ≡ units.old.used + 1 }
+    ensures spent { result ≡ false → (units.new ≡ units.old) × (units.old.left ≡ 0) }
 {
-    match ask(alloc, desk, inst, question, set, most, pairs, units) {
-        Decided::Refuted(_) => None,
-        Decided::Found(_) => None,
-        Decided::Spent(_) => Some(End::Spent),
-        Decided::NoMemory(_) => Some(End::NoMemory),
+    if units.left == 0 {
+        return false;
     }
+    units.left -= 1;
+    units.used += 1;
+    true
 }
 
-// Does the job of a piece that was dealt.
-fn do_dealt<D: Desk>(
-    alloc: Global,
-    desk: &mut D,
-    inst: &Instance,
-    question: Question,
-    job: &Job,
-    eager: bool,
-    pairs: &mut Option<PairTable>,
-    units: &mut Units,
-) -> Option<End>
-    requires desk { IsFor (D.desk desk.old) inst.now question.kind question.cycle }
-    requires roomy { (D.desk desk.old).roomy ≡ true }
-    requires cycle { IsCycle question.cycle }
-    requires job { IsJobOf question.kind inst.now question.cycle question.most job.now }
-    requires some { 1 ≤ question.most }
-    requires few { question.most ≤ 1024 }
-    requires pairs { IfSome pairs.old (IsPairing inst.now question.kind question.cycle) }
-    requires units { units.old.used + units.old.left < 2 ^ 64 }
-    ensures keeps { Keeps (D.desk desk.old) (D.desk desk.new) }
-    ensures pairs { pairs.new ≡ pairs.old }
-    ensures units { units.new.used + units.new.left ≡ units.old.used + units.old.left }
-    ensures spent { units.old.used ≤ units.new.used }
-    ensures works { let used = units.new.used - units.old.used in
-        Works inst.now question.cycle (D.desk desk.old) (D.desk desk.new) used (used + 1) }
-    ensures done { IsNone result → IsRefuted (D.desk desk.new) question.cycle question.most job.now }
-    ensures early { IfSome result (IsEarly (D.desk desk.new) question.most units.new.left) }
+// The end of a helper that knows the answer, which it calls.
+fn answered<D: Shared>(desk: &mut D) -> End
+    ensures waits { Waits (D.desk desk.old) (D.desk desk.new) }
+    ensures end { result ≡ Answered }
 {
-    match do_job(alloc, desk, inst, question, job, eager, pairs, units) {
-        Answer::Refuted => None,
-        Answer::Found => Some(End::Found),
-        Answer::Spent => Some(End::Spent),
-        Answer::NoMemory => Some(End::NoMemory),
-    }
+    desk.call_end();
+    End::Answered
 }
 
-// Does a piece: pays for it, splits it, and asks its question. Some answer ends the helper's work.
-fn do_piece<D: Desk>(
+// Does a piece: pays for it, settles its job, and offers what is found. Some answer ends the helper's work.
+fn do_piece<R: Wait, D: Shared>(
+    rt: &R,
     alloc: Global,
     desk: &mut D,
     inst: &Instance,
     question: Question,
     jobs: &[Job],
-    pool: &Pool,
-    hand: &mut Hand,
-    eager: bool,
     piece: &Piece,
     pairs: &mut Option<PairTable>,
     units: &mut Units,
@@ -127,7 +63,6 @@ fn do_piece<D: Desk>(
     requires roomy { (D.desk desk.old).roomy ≡ true }
     requires cycle { IsCycle question.cycle }
     requires jobs { AreJobs question.kind inst.now question.cycle question.most jobs.now }
-    requires hand { IsHandOf pool.now hand.old }
     requires some { 1 ≤ question.most }
     requires few { question.most ≤ 1024 }
     requires pairs { IfSome pairs.old (IsPairing inst.now question.kind question.cycle) }
@@ -138,53 +73,94 @@ fn do_piece<D: Desk>(
     ensures spent { units.old.used ≤ units.new.used }
     ensures works { let used = units.new.used - units.old.used in
         Works inst.now question.cycle (D.desk desk.old) (D.desk desk.new) used used }
-    ensures hand { IsHandOf pool.now hand.new × (hand.new.name ≡ hand.old.name) }
-    ensures puts { Puts hand.old hand.new }
-    ensures splits { IsNone result → HasSplit question.kind inst.now question.cycle piece.now hand.old hand.new }
-    ensures done { IsNone result → IsDone (D.desk desk.new) question.cycle question.most jobs.now piece.now }
-    ensures early { IfSome result (IsEarly (D.desk desk.new) question.most units.new.left) }
+    ensures ends { IfSome result (IsEnd (D.desk desk.new) inst.now question units.new.left) }
 {
-    if units.left == 0 {
+    if !pay(units) {
         return Some(End::Spent);
     }
-    units.left -= 1;
-    units.used += 1;
-    // That a piece is as it was dealt or put is known only once the pool is closed.
-    let set = piece.set.meet(&inst.all());
-    let most = piece.most.min(MOST_BESIDE);
-    if !split_piece(inst, question, &set, piece.depth, most, pool, hand, units) {
-        return Some(End::Spent);
-    }
-    if piece.depth > 0 {
-        return ask_put(alloc, desk, inst, question, &set, most, pairs, units);
-    }
-    // The number of a piece that was dealt is its job's.
+    // The number of a piece is its job's.
     let k = piece.number as usize;
     if k >= jobs.len() {
         return None;
     }
-    do_dealt(alloc, desk, inst, question, &jobs[k], eager, pairs, units)
+    let job = &jobs[k];
+    let most = question.most - 1;
+    match settle(
+        rt, alloc, desk, inst, question, &job.set, most, pairs, units,
+    ) {
+        Err(end) => Some(end),
+        Ok(None) => None,
+        Ok(Some(loads)) => match offer_job(alloc, desk, inst, question, job, loads) {
+            Ok(()) => Some(answered(desk)),
+            Err(_) => Some(End::NoMemory),
+        },
+    }
 }
 
-// A helper's own table of pairs, where the searches of the question ask them.
-fn own_table(
+// The last question of a helper, which is that of the round; the bound leaves it open.
+fn ask_last<R: Wait, D: Shared>(
+    rt: &R,
     alloc: Global,
+    desk: &mut D,
     inst: &Instance,
     question: Question,
-) -> Result<Option<PairTable>, AllocError>
-    requires { IsCycle question.cycle }
-    ensures { IfOk result (λ pairs. IfSome pairs (IsPairing inst.now question.kind question.cycle)) }
+    pairs: &mut Option<PairTable>,
+    units: &mut Units,
+) -> End
+    requires desk { IsFor (D.desk desk.old) inst.now question.kind question.cycle }
+    requires roomy { (D.desk desk.old).roomy ≡ true }
+    requires cycle { IsCycle question.cycle }
+    requires bounded { bound question.kind inst.now question.cycle (all_tasks inst.now) ≤ question.most }
+    requires few { question.most ≤ 1024 }
+    requires pairs { IfSome pairs.old (IsPairing inst.now question.kind question.cycle) }
+    requires units { units.old.used + units.old.left < 2 ^ 64 }
+    ensures keeps { Keeps (D.desk desk.old) (D.desk desk.new) }
+    ensures units { units.new.used + units.new.left ≡ units.old.used + units.old.left }
+    ensures spent { units.old.used ≤ units.new.used }
+    ensures works { let used = units.new.used - units.old.used in
+        Works inst.now question.cycle (D.desk desk.old) (D.desk desk.new) used used }
+    ensures ends { IsEnd (D.desk desk.new) inst.now question units.new.left result }
 {
-    if !question.pairs {
-        return Ok(None);
+    if !pay(units) {
+        return End::Spent;
     }
-    let table = pair_table(alloc, inst, question.kind, question.cycle)?;
-    Ok(Some(table))
+    let all = inst.all();
+    match settle(
+        rt,
+        alloc,
+        desk,
+        inst,
+        question,
+        &all,
+        question.most,
+        pairs,
+        units,
+    ) {
+        Err(end) => end,
+        Ok(None) => answered(desk),
+        Ok(Some(loads)) => match offer_loads(alloc, desk, inst, question, &loads) {
+            Ok(()) => answered(desk),
+            Err(_) => End::NoMemory,
+        },
+    }
 }
 
-/// Takes and does pieces, until all deques are empty, a job has a balance, or units or memory end. Where the question
-/// asks the pairs, it does so by a table of its own.
-pub fn do_pieces<R: Wait, D: Desk>(
+// The end of the helper's work, where it is told of the end and the test agrees.
+fn told_end<D: Shared>(desk: &mut D, inst: &Instance, question: Question) -> Option<End>
+    requires desk { IsFor (D.desk desk.old) inst.now question.kind question.cycle }
+    ensures keeps { Keeps (D.desk desk.old) (D.desk desk.new) }
+    ensures works { Works inst.now question.cycle (D.desk desk.old) (D.desk desk.new) 0 0 }
+    ensures ends { IfSome result (λ end. (left : ℕ) → IsEnd (D.desk desk.new) inst.now question left end) }
+{
+    if !desk.is_ended() {
+        return None;
+    }
+    test_end(desk, inst, question)
+}
+
+/// Takes and does pieces, until all deques are empty, and then asks the last question. It ends before where it knows
+/// the answer, is told so, or units or memory end. Where the question asks the pairs, it does so by a table of its own.
+pub fn do_pieces<R: Wait, D: Shared>(
     rt: &R,
     alloc: Global,
     desk: &mut D,
@@ -193,7 +169,6 @@ pub fn do_pieces<R: Wait, D: Desk>(
     jobs: &[Job],
     pool: &Pool,
     hand: &mut Hand,
-    eager: bool,
     units: &mut Units,
 ) -> End
     requires desk { IsFor (D.desk desk.old) inst.now question.kind question.cycle }
@@ -201,7 +176,7 @@ pub fn do_pieces<R: Wait, D: Desk>(
     requires cycle { IsCycle question.cycle }
     requires jobs { AreJobs question.kind inst.now question.cycle question.most jobs.now }
     requires hand { IsHandOf pool.now hand.old }
-    requires done { AreDone (D.desk desk.old) question.cycle question.most jobs.now hand.old }
+    requires bounded { bound question.kind inst.now question.cycle (all_tasks inst.now) ≤ question.most }
     requires some { 1 ≤ question.most }
     requires few { question.most ≤ 1024 }
     requires units { units.old.used + units.old.left < 2 ^ 64 }
@@ -210,25 +185,23 @@ pub fn do_pieces<R: Wait, D: Desk>(
     ensures spent { units.old.used ≤ units.new.used }
     ensures works { let used = units.new.used - units.old.used in
         Works inst.now question.cycle (D.desk desk.old) (D.desk desk.new) used used }
-    ensures hand { IsHandOf pool.now hand.new × (hand.new.name ≡ hand.old.name) }
-    ensures own { KeepsOwn hand.old hand.new }
-    ensures splits { result ≡ Empty → SplitsAll question.kind inst.now question.cycle hand.old hand.new }
-    ensures ends { IsEnd (D.desk desk.new) question.cycle question.most jobs.now hand.new units.new.left result }
+    ensures ends { IsEnd (D.desk desk.new) inst.now question units.new.left result }
 {
-    let Ok(mut pairs) = own_table(alloc, inst, question) else {
+    let Ok(mut pairs) = table_for(alloc, inst, question.kind, question.cycle, question.pairs) else {
         return End::NoMemory;
     };
     'working: for _ in rt.forever() {
-        match pool.take(rt, hand) {
-            Took::Empty => return End::Empty,
-            Took::Got(piece) => {
-                let early = do_piece(
-                    alloc, desk, inst, question, jobs, pool, hand, eager, &piece, &mut pairs, units,
-                );
-                if let Some(end) = early {
-                    return end;
-                }
-            }
+        if let Some(end) = told_end(desk, inst, question) {
+            return end;
+        }
+        let Took::Got(piece) = pool.take(rt, hand) else {
+            return ask_last(rt, alloc, desk, inst, question, &mut pairs, units);
+        };
+        let ended = do_piece(
+            rt, alloc, desk, inst, question, jobs, &piece, &mut pairs, units,
+        );
+        if let Some(end) = ended {
+            return end;
         }
     }
     unreachable!()

@@ -1,22 +1,24 @@
 //! A team: the helpers of a question, each with a pass of the share, a hand of the pool and units of its own.
 //!
 //! The first pass is split, once for each helper. Then the helpers work in threads, one each, and afterwards their
-//! passes are joined into the first one again, so that it has seen what any of them has and has all their places; the
-//! hands go back, for the pool to be closed.
-ghost use Rattle.std.specs.Prelude.{◌≡◌, ℕ, ◌+◌, ◌-◌, ◌^◌, ◌<◌, ◌≤◌, List, [], length, vec_len, vec_capacity};
+//! passes are joined into the first one again, so that it has seen what any of them has and has all their places.
+ghost use Rattle.std.specs.Prelude.{◌≡◌, ℕ, ◌+◌, ◌-◌, ◌^◌, ◌<◌, ◌≤◌, List, [], true, Some, slice_get, length, vec_len, vec_capacity};
 ghost use Rattle.line_instance.specs.Line.{Line};
 ghost use Rattle.book_share.specs.Calls.{IsPassOf};
-ghost use Rattle.round_helpers.specs.inner.Seats.{IsBare, AreReady, HasWorked, HaveAllWorked, HasJoined, hands_of};
+ghost use Rattle.round_helpers.specs.inner.Seats.{IsBare, AreReady, HasWorked, HaveAllWorked, HasJoined};
 ghost use Rattle.round_helpers.specs.inner.Teams.{MayWork, MayAllWork, ArePassesOf, AreJoinable, AreSettled, settled};
 ghost use Rattle.round_helpers.specs.inner.Teams.{IsTold};
+ghost use Rattle.round_helpers.specs.declared.question_work.End.TheVariants as ends;
+ghost use Rattle.round_helpers.specs.declared.teams.Helper.{Helper as Helping};
 
 use crate::gates::Gate;
 use crate::helper_desk::HelperDesk;
 use crate::helping::Helped;
 use crate::job_list::Job;
-use crate::job_work::Question;
-use crate::piece_work::{End, do_pieces};
+use crate::piece_work::do_pieces;
+use crate::question_work::{End, Question};
 use book_share::{Pass, Share};
+use claim_board::Board;
 use line_instance::Instance;
 use station_search::Units;
 use std::alloc::Global;
@@ -44,7 +46,7 @@ fn ready(pass: Pass, hand: Hand, left: u64) -> Helper
         pass,
         hand,
         units: Units { left, used: 0 },
-        end: End::Empty,
+        end: End::NoMemory,
     }
 }
 
@@ -83,25 +85,27 @@ fn work<R: Wait, G: Gate>(
     question: Question,
     jobs: &[Job],
     pool: &Pool,
+    board: &Board,
     gate: &G,
     place: usize,
     helper: &mut Helper,
 )
     requires may { MayWork share.now inst.now question jobs.now pool.now place helper.old }
-    ensures worked { HasWorked share.now helper.old.pass.view.base helper.old.pass.view.seen inst.now question jobs.now
-        pool.now helper.old.hand helper.old.units.left helper.new }
+    ensures worked { HasWorked share.now helper.old.pass.view.base helper.old.pass.view.seen inst.now question
+        helper.old.units.left helper.new }
 {
     let _left = helper.units.left;
-    // Helpers are numbered from 1: those with an even number are eager.
-    let eager = place % 2 == 1;
-    helper.pass.keep_marks(alloc);
+    helper.pass.keep_memo(alloc);
+    // Helpers are numbered from 1.
     let mut desk = HelperDesk {
         rt,
         share,
         pass: &mut helper.pass,
+        board,
         gate,
         helper: place as u32 + 1,
         publishes: 0,
+        asks: true,
     };
     let end = do_pieces(
         rt,
@@ -112,7 +116,6 @@ fn work<R: Wait, G: Gate>(
         jobs,
         pool,
         &mut helper.hand,
-        eager,
         &mut helper.units,
     );
     helper.end = end;
@@ -127,6 +130,7 @@ fn work_in_threads<R: Threads + Wait + Sync, G: Gate>(
     question: Question,
     jobs: &[Job],
     pool: &Pool,
+    board: &Board,
     gate: &G,
     helpers: &mut [Helper],
 )
@@ -134,17 +138,16 @@ fn work_in_threads<R: Threads + Wait + Sync, G: Gate>(
     requires few { length helpers.old ≤ 64 }
     requires each { MayAllWork share.now inst.now question jobs.now pool.now helpers.old }
     ensures count { length helpers.new ≡ length helpers.old }
-    ensures each { HaveAllWorked share.now inst.now question jobs.now pool.now helpers.old helpers.new }
+    ensures each { HaveAllWorked share.now inst.now question helpers.old helpers.new }
 {
     let count = helpers.len();
     let shift = |place: usize, helper: &mut Helper|
         requires { MayWork share.now inst.now question jobs.now pool.now place helper.now }
         ensures { HasWorked share.entry.now helper.entry.now.pass.view.base helper.entry.now.pass.view.seen
-            inst.entry.now question jobs.entry.now pool.entry.now helper.entry.now.hand helper.entry.now.units.left
-            helper.exit.now }
+            inst.entry.now question helper.entry.now.units.left helper.exit.now }
     {
         work(
-            rt, alloc, share, inst, question, jobs, pool, gate, place, helper,
+            rt, alloc, share, inst, question, jobs, pool, board, gate, place, helper,
         )
     };
     thread::for_each_mut(rt, helpers, count, &shift);
@@ -159,6 +162,7 @@ pub fn worked<R: Threads + Wait + Sync, G: Gate>(
     question: Question,
     jobs: &[Job],
     pool: &Pool,
+    board: &Board,
     gate: &G,
     helpers: Vec<Helper>,
 ) -> Vec<Helper>
@@ -166,7 +170,7 @@ pub fn worked<R: Threads + Wait + Sync, G: Gate>(
     requires few { length helpers.items ≤ 64 }
     requires each { MayAllWork share.now inst.now question jobs.now pool.now helpers.items }
     ensures count { length result.items ≡ length helpers.items }
-    ensures each { HaveAllWorked share.now inst.now question jobs.now pool.now helpers.items result.items }
+    ensures each { HaveAllWorked share.now inst.now question helpers.items result.items }
 {
     let mut helpers = helpers;
     work_in_threads(
@@ -177,41 +181,26 @@ pub fn worked<R: Threads + Wait + Sync, G: Gate>(
         question,
         jobs,
         pool,
+        board,
         gate,
         &mut helpers,
     );
     helpers
 }
 
-/// Joins the passes of helpers into the first one, which has no own places, and gives their hands back. There is room
-/// for these.
-pub fn join_all(
-    share: &Share,
-    pass: &mut Pass,
-    helpers: Vec<Helper>,
-    returned: Vec<Hand>,
-) -> Vec<Hand>
+/// Joins the passes of helpers into the first one, which has no own places.
+pub fn join_all(share: &Share, pass: &mut Pass, helpers: Vec<Helper>)
     requires pass { IsPassOf share.now pass.old }
     requires none { pass.old.view.own ≡ [] }
     requires each { ArePassesOf share.now helpers.items }
-    requires empty { returned.items ≡ [] }
-    requires room { length helpers.items ≤ vec_capacity returned }
     ensures pass { IsPassOf share.now pass.new }
     ensures joined { (line : Line) (X : ℕ) → AreJoinable pass.old.view.base pass.old.view.seen line X helpers.items
         → HasJoined share.now pass.old.view.base pass.old.view.seen pass.old.view.parts line X helpers.items pass.new }
-    ensures hands { result.items ≡ hands_of helpers.items }
 {
-    let mut returned = returned;
     for helper in helpers {
-        let Helper {
-            pass: other,
-            hand,
-            ..
-        } = helper;
+        let Helper { pass: other, .. } = helper;
         share.join(pass, other);
-        returned.push_reserved(hand);
     }
-    returned
 }
 
 /// Takes over what helpers have left, and counts what they used.
@@ -228,18 +217,31 @@ pub fn settle(helpers: &[Helper], units: &mut [Units])
     }
 }
 
-/// What helpers did, by how their work ended: the first one that didn't end with all deques empty tells it.
+// Whether a helper knows that the question is answered.
+fn is_answered(helpers: &[Helper]) -> bool
+    ensures some { result ≡ true → (k : ℕ) × (h : Helping) × (slice_get helpers.now k ≡ Some h) × (h.end ≡ ends.Answered) }
+{
+    for helper in helpers {
+        if helper.end == End::Answered {
+            return true;
+        }
+    }
+    false
+}
+
+/// What helpers did, by how their work ended: one knows that the question is answered; else the first one whose units
+/// ended tells it; else memory was wanting.
 pub fn tell(helpers: &[Helper]) -> Helped
     requires { length helpers.now ≤ 64 }
     ensures { IsTold helpers.now result }
 {
+    if is_answered(helpers) {
+        return Helped::Whole;
+    }
     for k in 0..helpers.len() {
-        match helpers[k].end {
-            End::Empty => {}
-            End::Found => return Helped::Whole,
-            End::Spent => return Helped::Cut(k as u32 + 1),
-            End::NoMemory => return Helped::NoMemory,
+        if helpers[k].end == End::Spent {
+            return Helped::Cut(k as u32 + 1);
         }
     }
-    Helped::Whole
+    Helped::NoMemory
 }

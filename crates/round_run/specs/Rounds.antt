@@ -16,7 +16,7 @@ use Rattle.station_search.specs.declared.answers.Units.{Units}
 use Rattle.round_helpers.specs.Growth.{GoesOn, Helps}
 use Rattle.round_helpers.specs.Helping.{HasHelped}
 use Rattle.round_helpers.specs.declared.helping.Helped.{Helped}
-use Rattle.round_helpers.specs.declared.helping.Helped.TheVariants.{Unneeded}
+use Rattle.round_helpers.specs.declared.helping.Helped.TheVariants.{Unneeded, Whole}
 use Rattle.round_run.specs.declared.closing.Verdict.{Verdict}
 use Rattle.round_run.specs.declared.closing.Verdict.TheVariants as verdict
 use Rattle.round_run.specs.declared.rounds.Round.{Round}
@@ -90,7 +90,8 @@ StaysAbove most old new (verdict.Spent frames) = most < old.state.best.stations 
 StaysAbove most old new (verdict.NoMemory frames) = most < old.state.best.stations → most < new.state.best.stations
 
 -- A round: the helpers did so much for the question, for so many units of theirs, and the book that came back is `mid`;
--- then the closing pass began behind its entries, gained what it did for so many units, and gave the answer.
+-- then the closing pass began behind its entries, gained what it did for so many units, and gave the answer. Where the
+-- helpers answered the question, it used no unit.
 pub record IsRound (old : BookView) (round : Round) (most : ℕ) (team : List Units) (helpers closing : ℕ)
     : Type 0 where
   pub mid : BookView
@@ -99,3 +100,4 @@ pub record IsRound (old : BookView) (round : Round) (most : ℕ) (team : List Un
   pub still : round.helped ≡ Unneeded → mid ≡ old
   pub gains : Gains mid round.book round.verdict closing
   pub from : round.closing_from ≡ length mid.state.entries
+  pub whole : round.helped ≡ Whole → closing ≡ 0

@@ -6,6 +6,7 @@
 ghost use Rattle.std.specs.Prelude.{◌≡◌, ◌+◌, ◌-◌, ◌^◌, ◌<◌, ◌≤◌, [], length, IfSome, OnOk, OnErr};
 ghost use Rattle.line_rules.specs.Balance.{all_tasks};
 ghost use Rattle.line_rules.specs.Bounds.{bound};
+ghost use Rattle.line_rules.specs.Entries.{HasAnswer};
 ghost use Rattle.line_rules.specs.Ranges.{IsCycle};
 ghost use Rattle.line_rules.specs.Seats.{AreSeated};
 ghost use Rattle.lemma_core.specs.Books.{IsReserved};
@@ -34,7 +35,8 @@ pub enum Verdict {
     NoMemory(Frames),
 }
 
-/// Decides the question on the book itself, by the bound or by a search.
+/// Decides the question on the book itself, by the bound or by a search. Where an entry of the book answers it, no unit
+/// is used.
 pub fn closing_pass(
     alloc: Global,
     inst: &Instance,
@@ -50,6 +52,8 @@ pub fn closing_pass(
     requires pairs { IfSome pairs.old (IsPairing inst.now book.old.about.kind book.old.about.cycle) }
     requires units { units.old.used + units.old.left < 2 ^ 64 }
     ensures gains { Gains book.old book.new result (units.new.used - units.old.used) }
+    ensures known { HasAnswer book.old.state.entries (all_tasks inst.now) most book.old.about.cycle
+        → units.new.used ≡ units.old.used }
     ensures answer { IsAnswer book.new most units.new.left result }
     ensures above { StaysAbove most book.old book.new result }
     ensures reserved { IsReserved book.new }
@@ -91,6 +95,8 @@ fn search_all(
     requires fresh { units.old.used ≡ 0 }
     requires units { units.old.left < 2 ^ 64 }
     ensures gains { Gains book.old book.new result units.new.used }
+    ensures known { HasAnswer book.old.state.entries (all_tasks inst.now) most book.old.about.cycle
+        → units.new.used ≡ 0 }
     ensures answer { IsAnswer book.new most units.new.left result }
     ensures above { StaysAbove most book.old book.new result }
     ensures reserved { IsReserved book.new }

@@ -240,10 +240,11 @@ const SEVEN: &str =
     "Unneeded refuted from 0 used 48 7|branch {2, 3, 4, 5, 6} 2|branch {0, 2, 3, 4, 5, 6} 3|\
     swap {1, 2, 3, 4, 5, 6} 3|branch {0, 1, 2, 3, 4, 5, 6} 4|";
 
-// The same after a helper did both jobs of the question.
+// The same after a helper did both jobs of the question, with 1 and 31, and 1 and 16 units, and the last question, with
+// 1 and 17.
 const A_ROUND: &str =
-    "Whole refuted from 3 used 17 7|branch {2, 3, 4, 5, 6} 2|branch {0, 2, 3, 4, 5, 6} 3|\
-    branch {1, 2, 3, 4, 5, 6} 3|branch {0, 1, 2, 3, 4, 5, 6} 4| helper 113";
+    "Whole refuted from 4 used 0 7|branch {2, 3, 4, 5, 6} 2|branch {0, 2, 3, 4, 5, 6} 3|\
+    branch {1, 2, 3, 4, 5, 6} 3|branch {0, 1, 2, 3, 4, 5, 6} 4| helper 67";
 
 #[test]
 fn decides_questions_over_an_empty_book(rt: HostRuntime) -> Result<(), Fail> {
@@ -264,7 +265,7 @@ fn decides_questions_over_an_empty_book(rt: HostRuntime) -> Result<(), Fail> {
 }
 
 #[test]
-fn has_a_helper_do_the_jobs_of_a_round(rt: HostRuntime) -> Result<(), Fail> {
+fn has_a_helper_answer_a_round(rt: HostRuntime) -> Result<(), Fail> {
     let alloc = rt.alloc();
     let inst = seven(alloc)?;
     let purse = purse_of(alloc, 17, 1, 200)?;

@@ -5,10 +5,10 @@ use Rattle.round_helpers.specs.inner.Pieces.{pieces_of}
 use Rattle.round_helpers.specs.declared.equipment.Equipment.{Equipment}
 use Rattle.round_helpers.specs.declared.job_list.Job.{Job}
 
--- A new pool with the pieces of the jobs, its hands, and room for so many helpers and for their hands.
+-- A new pool with the pieces of the jobs, its hands, and room for so many helpers.
 pub record IsEquipped (jobs : List Job) (most count : ℕ) (e : Equipment) : Type 0 where
   pub count_is : length e.pool ≡ count
   pub hands : e.hands ≡ new_hands e.pool (pieces_of most jobs)
   pub are : AreHandsOf e.pool e.hands
-  pub none : (e.helpers.items ≡ []) × (e.returned.items ≡ [])
-  pub room : (count ≤ vec_capacity e.helpers) × (count ≤ vec_capacity e.returned)
+  pub none : e.helpers.items ≡ []
+  pub room : count ≤ vec_capacity e.helpers

@@ -1,5 +1,5 @@
 -- A helper's desk at a shared book, and what becomes of a helper. Own.
-use Rattle.std.specs.Prelude.{◌≡◌, ℕ, ◌+◌, ◌≤◌, List, [], ◌∷◌, length, map, slice_get, Some}
+use Rattle.std.specs.Prelude.{◌≡◌, ℕ, ◌+◌, ◌≤◌, List, [], ◌∷◌, length, slice_get, Some}
 use Rattle.atomic_table.specs.Seated.{TableId}
 use Rattle.line_instance.specs.Line.{Line}
 use Rattle.line_rules.specs.Units.{UnitsOf}
@@ -10,11 +10,9 @@ use Rattle.book_share.specs.Calls.{IsPassOf}
 use Rattle.book_share.specs.Passes.{Base, PassView, PassOf, desk_by}
 use Rattle.station_search.specs.declared.answers.Units.{Units}
 use Rattle.round_helpers.specs.Growth.{AreAtCycle}
-use Rattle.steal_pool.specs.Hands.{DequeId, HandView, IsHandOf}
-use Rattle.round_helpers.specs.inner.Pieces.{KeepsOwn, SplitsAll, IsEnd}
-use Rattle.round_helpers.specs.declared.job_list.Job.{Job}
-use Rattle.round_helpers.specs.declared.job_work.Question.{Question}
-use Rattle.round_helpers.specs.declared.piece_work.End.TheVariants.{Empty}
+use Rattle.steal_pool.specs.Hands.{HandView}
+use Rattle.round_helpers.specs.inner.Works.{IsEnd}
+use Rattle.round_helpers.specs.declared.question_work.Question.{Question}
 use Rattle.round_helpers.specs.declared.teams.Helper.{Helper}
 
 -- the numbers by which a helper knows its pass again: the name of the loan of it, the length of the log at the start,
@@ -51,10 +49,6 @@ AreReady share base seen us hands hs =
     (k : ℕ) (h : Helper) (u : Units) (v : HandView) → slice_get hs k ≡ Some h → slice_get us k ≡ Some u
     → slice_get hands k ≡ Some v → IsReady share base seen u.left v h
 
--- the hands of helpers
-abbrev pub hands_of : List Helper → List HandView
-hands_of hs = map (λ (h : Helper). h.hand) hs
-
 -- What the own events of a pass added, for so many units: entries of the cycle X, at most one for each unit, and with
 -- no more units than these.
 pub record HasAdded (line : Line) (X : ℕ) (v : PassView) (used : ℕ) : Type 0 where
@@ -67,34 +61,28 @@ pub record HasAdded (line : Line) (X : ℕ) (v : PassView) (used : ℕ) : Type 0
   pub within : published ≤ used
 
 -- A helper after its work: its pass is the same one and has seen no less, its own events paid for the units used, and
--- its work ended so. Its hand is of the pool, has the name that it had, and keeps what was dealt to it; where the work
--- ended with all deques empty, it split each piece that it took. It was given so many units.
+-- its work ended so. It was given so many units.
 pub record HasWorked (share : TableId) (base : Base) (seen : List Item) (line : Line) (question : Question)
-    (jobs : List Job) (pool : List DequeId) (hand : HandView) (given : ℕ) (h : Helper) : Type 0 where
+    (given : ℕ) (h : Helper) : Type 0 where
   pub pass : IsPassOf share h.pass
   pub same : h.pass.view.base ≡ base
   pub part : h.pass.view.parts ≡ 1
   pub begins : Begins seen h.pass.view.seen
   pub added : HasAdded line question.cycle h.pass.view h.units.used
-  pub own_hand : IsHandOf pool h.hand × (h.hand.name ≡ hand.name)
-  pub dealt : KeepsOwn hand h.hand
-  pub splits : h.end ≡ Empty → SplitsAll question.kind line question.cycle hand h.hand
-  pub ends : IsEnd (desk_by h.pass.view) question.cycle question.most jobs h.hand h.units.left h.end
+  pub ends : IsEnd (desk_by h.pass.view) line question h.units.left h.end
   pub sum : h.units.used + h.units.left ≡ given
 
 -- each helper has worked, one for each as it was before
-abbrev pub HaveAllWorked : TableId → Line → Question → List Job → List DequeId → List Helper → List Helper → Type 0
-HaveAllWorked share line question jobs pool before after =
+abbrev pub HaveAllWorked : TableId → Line → Question → List Helper → List Helper → Type 0
+HaveAllWorked share line question before after =
     (k : ℕ) (a b : Helper) → slice_get before k ≡ Some a → slice_get after k ≡ Some b
-    → HasWorked share a.pass.view.base a.pass.view.seen line question jobs pool a.hand a.units.left b
+    → HasWorked share a.pass.view.base a.pass.view.seen line question a.units.left b
 
--- each helper has worked, with its hand and the units that were left to it
-abbrev pub HaveWorked : TableId → Base → List Item → Line → Question → List Job → List DequeId → List Units
-    → List HandView → List Helper → Type 0
-HaveWorked share base seen line question jobs pool us hands hs =
-    (k : ℕ) (h : Helper) (u : Units) (v : HandView) → slice_get hs k ≡ Some h → slice_get us k ≡ Some u
-    → slice_get hands k ≡ Some v
-    → HasWorked share base seen line question jobs pool v u.left h
+-- each helper has worked, with the units that were left to it
+abbrev pub HaveWorked : TableId → Base → List Item → Line → Question → List Units → List Helper → Type 0
+HaveWorked share base seen line question us hs =
+    (k : ℕ) (h : Helper) (u : Units) → slice_get hs k ≡ Some h → slice_get us k ≡ Some u
+    → HasWorked share base seen line question u.left h
 
 -- the units that helpers have used
 abbrev pub used_by : List Helper → ℕ

@@ -1,5 +1,5 @@
 -- What the parts of a team's work need and tell. Own.
-use Rattle.std.specs.Prelude.{◌≡◌, ℕ, suc, ◌+◌, ◌^◌, ◌<◌, ◌≤◌, ◌⊎◌, List, [], ◌∷◌, slice_get, Some}
+use Rattle.std.specs.Prelude.{◌≡◌, ℕ, suc, ◌+◌, ◌^◌, ◌<◌, ◌≤◌, List, [], ◌∷◌, slice_get, Some}
 use Rattle.atomic_table.specs.Seated.{TableId}
 use Rattle.line_instance.specs.Line.{Line}
 use Rattle.line_rules.specs.Ranges.{IsCycle}
@@ -7,19 +7,20 @@ use Rattle.lemma_core.specs.History.{Item, Begins}
 use Rattle.book_share.specs.Calls.{IsPassOf}
 use Rattle.book_share.specs.Passes.{Base}
 use Rattle.station_search.specs.declared.answers.Units.{Units}
-use Rattle.steal_pool.specs.declared.piece.Piece.{Piece}
-use Rattle.steal_pool.specs.Hands.{DequeId, tooks, IsHandOf}
+use Rattle.steal_pool.specs.Hands.{DequeId, IsHandOf}
+use Rattle.line_rules.specs.Balance.{all_tasks}
+use Rattle.line_rules.specs.Bounds.{bound}
 use Rattle.round_helpers.specs.Jobs.{AreJobs}
 use Rattle.round_helpers.specs.inner.Seats.{IsBare, HasAdded}
 use Rattle.round_helpers.specs.declared.helping.Helped.{Helped}
 use Rattle.round_helpers.specs.declared.helping.Helped.TheVariants as helped
 use Rattle.round_helpers.specs.declared.job_list.Job.{Job}
-use Rattle.round_helpers.specs.declared.piece_work.End.TheVariants as ends
-use Rattle.round_helpers.specs.declared.job_work.Question.{Question}
+use Rattle.round_helpers.specs.declared.question_work.End.TheVariants as ends
+use Rattle.round_helpers.specs.declared.question_work.Question.{Question}
 use Rattle.round_helpers.specs.declared.teams.Helper.{Helper}
 
 -- The helper at a place may work: its pass is bare and about the question's line, the jobs are those of the question,
--- and its hand is of the pool and took no piece.
+-- which the bound leaves open, and its hand is of the pool.
 pub record MayWork (share : TableId) (line : Line) (question : Question) (jobs : List Job) (pool : List DequeId)
     (place : ℕ) (h : Helper) : Type 0 where
   pub bare : IsBare share h.pass.view.base h.pass.view.seen 1 h.pass
@@ -29,8 +30,8 @@ pub record MayWork (share : TableId) (line : Line) (question : Question) (jobs :
   pub most : question.most ≤ 1024
   pub are : AreJobs question.kind line question.cycle question.most jobs
   pub few : place < 64
+  pub bounded : bound question.kind line question.cycle (all_tasks line) ≤ question.most
   pub own_hand : IsHandOf pool h.hand
-  pub fresh : (k : ℕ) (xs : List Piece) → slice_get (tooks h.hand) k ≡ Some xs → xs ≡ []
   pub used : h.units.used ≡ 0
 
 -- each helper may work
@@ -66,12 +67,10 @@ abbrev pub AreSettled : List Units → List Helper → Type 0
 AreSettled us hs = (k : ℕ) (u : Units) (h : Helper) → slice_get us k ≡ Some u → slice_get hs k ≡ Some h
     → u.used + h.units.used < 2 ^ 64
 
--- What the ends of helpers tell: each one found all deques empty, or a balance was found; the helper of this number,
--- from 1, has no unit left; or memory ended.
+-- What the ends of helpers tell: one knows that the question is answered; the helper of this number, from 1, has no
+-- unit left; or memory ended.
 abbrev pub IsTold : List Helper → Helped → Type 0
 IsTold hs helped.Unneeded = ⊥
-IsTold hs helped.Whole =
-    ((k : ℕ) (h : Helper) → slice_get hs k ≡ Some h → h.end ≡ ends.Empty)
-    ⊎ ((k : ℕ) × (h : Helper) × (slice_get hs k ≡ Some h) × (h.end ≡ ends.Found))
+IsTold hs helped.Whole = (k : ℕ) × (h : Helper) × (slice_get hs k ≡ Some h) × (h.end ≡ ends.Answered)
 IsTold hs (helped.Cut n) = (k : ℕ) × (h : Helper) × (n ≡ suc k) × (slice_get hs k ≡ Some h) × (h.end ≡ ends.Spent)
 IsTold hs helped.NoMemory = Unit {0}

@@ -1,10 +1,8 @@
 use Rattle.std.proofs.Common.{List, sym, ap, ◌∙◌, subst, inr, arith}
 use Rattle.book_share.specs.Passes.{PassView}
-use Rattle.steal_pool.specs.Hands.{HandView, AreHandsOf}
-use Rattle.steal_pool.specs.Closing.{IsClosed}
 use Rattle.round_helpers.specs.inner.Teams.{AreSettled, IsTold, settled}
 use Rattle.round_helpers.specs.declared.teams.Helper.{Helper}
-use Rattle.round_helpers.proofs.HelpFacts.{bare_first, may_work, are_back, passes_are, are_settled, hands_back}
+use Rattle.round_helpers.proofs.HelpFacts.{bare_first, may_work, are_back, passes_are, are_settled}
 use Rattle.round_helpers.proofs.HelpFacts.{comes_back, spent_back}
 use Rattle.round_helpers.proofs.helping.help_at.Goals as goal
 
@@ -24,7 +22,7 @@ worked-helpers-requires-clause-each g c κs within =
     (c.requires.equipped.are.count ∙ c.requires.equipped.count_is) c.requires.team.few
     c.split_off-ready.ensures.ready
     (ap (λ (z : PassView). z.base.about) c.requires.started.1.0 ∙ c.requires.started.1.1)
-    c.requires.cycle c.requires.some c.requires.few c.requires.are c.requires.equipped.are c.requires.equipped.hands
+    c.requires.cycle c.requires.some c.requires.few c.requires.are c.requires.bounded c.requires.equipped.are
 
 pub settle-requires-clause-sums : goal.settle-requires-clause-sums
 settle-requires-clause-sums g c =
@@ -36,23 +34,13 @@ settle-requires-clause-sums g c =
     subst P (sym c.deref.ensures.value)
     (are_settled t c.requires.team)
 
-pub join_all-hands-requires-clause-each : goal.join_all-hands-requires-clause-each
-join_all-hands-requires-clause-each g c =
+pub join_all-requires-clause-each : goal.join_all-requires-clause-each
+join_all-requires-clause-each g c =
     let t = are_back c.args.share c.args.pass c.args.inst.now c.args.question c.args.jobs.now c.args.units.now
     c.args.equipment c.split_off-ready.result c.worked-helpers.result c.requires.equipped
     c.split_off-ready.ensures.count c.split_off-ready.ensures.ready c.worked-helpers.ensures.count
     c.worked-helpers.ensures.each in
     passes_are t
-
-pub close-closed-requires : goal.close-closed-requires
-close-closed-requires g c =
-    let t = are_back c.args.share c.args.pass c.args.inst.now c.args.question c.args.jobs.now c.args.units.now
-    c.args.equipment c.split_off-ready.result c.worked-helpers.result c.requires.equipped
-    c.split_off-ready.ensures.count c.split_off-ready.ensures.ready c.worked-helpers.ensures.count
-    c.worked-helpers.ensures.each in
-    let P : List HandView → Type 0 = λ z. AreHandsOf c.args.equipment.pool z in
-    subst P (sym (c.from_vec.ensures ∙ c.join_all-hands.ensures.hands))
-    (hands_back t c.requires.equipped.are)
 
 pub returns-then-least-question-clause-help : goal.returns-then-least-question-clause-help
 returns-then-least-question-clause-help g c = λ book ok e about.
@@ -61,13 +49,9 @@ returns-then-least-question-clause-help g c = λ book ok e about.
     c.split_off-ready.ensures.count c.split_off-ready.ensures.ready c.worked-helpers.ensures.count
     c.worked-helpers.ensures.each in
     let T : List Helper → Type 0 = λ z. IsTold z c.tell-told.result in
-    let C : List HandView → Type 0 = λ z. IsClosed z c.close-closed.result in
     let units = c.settle.ensures ∙ ap (λ (z : List Helper). settled c.args.units.now z) c.deref.ensures.value in
-    let back = comes_back c.settle.new.units c.args.pass c.split_off-ready.new.pass c.join_all-hands.new.pass book
-    c.close-book.result c.tell-told.result t c.requires.helper c.requires.team.few c.requires.equipped.count_is e about
-    c.requires.are c.requires.equipped.hands
-    (subst C (c.from_vec.ensures ∙ c.join_all-hands.ensures.hands) c.close-closed.ensures)
-    c.split_off-ready.ensures.bare c.join_all-hands.ensures.joined
+    let back = comes_back c.settle.new.units c.args.pass c.split_off-ready.new.pass c.join_all.new.pass book c.close-book.result
+    c.tell-told.result t c.requires.team.few e about c.split_off-ready.ensures.bare c.join_all.ensures.joined
     c.close-book.ensures.about c.close-book.ensures.opening c.close-book.ensures.seen c.close-book.ensures.all
     c.close-book.ensures.reserved ok c.len-len.ensures.kept units
     (subst T c.deref-2.ensures.value c.tell-told.ensures) in
@@ -89,13 +73,9 @@ returns-clause-help g c = λ book ok e about.
     c.split_off-ready.ensures.count c.split_off-ready.ensures.ready c.worked-helpers.ensures.count
     c.worked-helpers.ensures.each in
     let T : List Helper → Type 0 = λ z. IsTold z c.tell-told.result in
-    let C : List HandView → Type 0 = λ z. IsClosed z c.close-closed.result in
     let units = c.settle.ensures ∙ ap (λ (z : List Helper). settled c.args.units.now z) c.deref.ensures.value in
-    comes_back c.settle.new.units c.args.pass c.split_off-ready.new.pass c.join_all-hands.new.pass book
-    c.close-book.result c.tell-told.result t c.requires.helper c.requires.team.few c.requires.equipped.count_is e about
-    c.requires.are c.requires.equipped.hands
-    (subst C (c.from_vec.ensures ∙ c.join_all-hands.ensures.hands) c.close-closed.ensures)
-    c.split_off-ready.ensures.bare c.join_all-hands.ensures.joined
+    comes_back c.settle.new.units c.args.pass c.split_off-ready.new.pass c.join_all.new.pass book c.close-book.result
+    c.tell-told.result t c.requires.team.few e about c.split_off-ready.ensures.bare c.join_all.ensures.joined
     c.close-book.ensures.about c.close-book.ensures.opening c.close-book.ensures.seen c.close-book.ensures.all
     c.close-book.ensures.reserved ok c.len-len.ensures.kept units
     (subst T c.deref-2.ensures.value c.tell-told.ensures)

@@ -1,9 +1,7 @@
-use Rattle.std.proofs.Common.{◌≡◌, ◌+◌, ◌-◌, ◌≤◌, List, IfSome}
+use Rattle.std.proofs.Common.{◌≡◌, ◌+◌, ◌-◌, ◌≤◌, IfSome}
 use Rattle.lemma_core.specs.Desks.{Keeps}
 use Rattle.station_search.specs.Decide.{IsPairing}
-use Rattle.steal_pool.specs.declared.piece.Piece.{Piece}
 use Rattle.steal_pool.specs.Hands.{IsHandOf}
-use Rattle.round_helpers.specs.inner.Pieces.{KeepsOwn, HaveSplit, AreDone}
 use Rattle.round_helpers.specs.inner.Works.{Works}
 use Rattle.round_helpers.proofs.piece_work.do_pieces.Given as goal
 
@@ -16,8 +14,4 @@ invariant-working g l = record {
   works : Works l.inst l.question.cycle (g.D.Desk.desk l.fn.desk) (g.D.Desk.desk l.desk)
       (l.units.used - l.fn.units.used) (l.units.used - l.fn.units.used);
   hand : IsHandOf l.pool l.hand;
-  name : l.hand.name ≡ l.fn.hand.name;
-  own : KeepsOwn l.fn.hand l.hand;
-  split : (taken : List Piece) × HaveSplit l.question.kind l.inst l.question.cycle taken l.fn.hand l.hand;
-  done : AreDone (g.D.Desk.desk l.desk) l.question.cycle l.question.most l.jobs l.hand;
 }

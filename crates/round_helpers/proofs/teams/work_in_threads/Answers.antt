@@ -15,8 +15,7 @@ pub returns-clause-each : goal.returns-clause-each
 returns-clause-each g c = λ k a b at there.
     let r = (c.for_each_mut.ensures k a (slice_get_within c.args.helpers.now k a at)).1 in
     let W : Helper → Helper → Type 0 =
-    λ x y. HasWorked c.args.share.now x.pass.view.base x.pass.view.seen c.args.inst.now c.args.question
-    c.args.jobs.now c.args.pool.now x.hand x.units.left y in
+    λ x y. HasWorked c.args.share.now x.pass.view.base x.pass.view.seen c.args.inst.now c.args.question x.units.left y in
     let before : slice_index_or c.args.helpers.now k a ≡ a = get_or_from_slice_get c.args.helpers.now k a a at in
     let after : slice_index_or c.for_each_mut.new.s k a ≡ b =
     get_or_from_slice_get c.for_each_mut.new.s k b a there in

@@ -8,11 +8,9 @@ use Rattle.round_helpers.proofs.teams.worked.Goals as goal
 pub returns-clause-each : goal.returns-clause-each
 returns-clause-each g c =
     let P : List Helper → Type 0 =
-    λ z. HaveAllWorked c.args.share.now c.args.inst.now c.args.question c.args.jobs.now c.args.pool.now z
-    c.work_in_threads.new.helpers in
+    λ z. HaveAllWorked c.args.share.now c.args.inst.now c.args.question z c.work_in_threads.new.helpers in
     let Q : List Helper → Type 0 =
-    λ z. HaveAllWorked c.args.share.now c.args.inst.now c.args.question c.args.jobs.now c.args.pool.now
-    c.args.helpers.items z in
+    λ z. HaveAllWorked c.args.share.now c.args.inst.now c.args.question c.args.helpers.items z in
     subst Q (sym (take_at c.work_in_threads.new.helpers
     (drop (length c.work_in_threads.new.helpers) c.args.helpers.items) c.args.helpers.len
     (omega (

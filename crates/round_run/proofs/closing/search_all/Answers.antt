@@ -3,6 +3,7 @@ use Rattle.lemma_core.specs.Books.{BookView}
 use Rattle.round_run.specs.Rounds.{Gains}
 use Rattle.round_run.specs.declared.closing.Verdict.TheVariants as verdict
 use Rattle.round_run.proofs.BookGain.{goes_same, gains_all, gains_some, best_same}
+use Rattle.round_run.proofs.RoundFacts.{none_used}
 use Rattle.round_run.proofs.closing.search_all.Goals as goal
 
 pub returns-in-Refuted-clause-gains : goal.returns-in-Refuted-clause-gains
@@ -88,3 +89,43 @@ returns-clause-above c =
     c.decide_in-decided.ensures.keeps c.kind-kind.result c.args.inst.now c.cycle-cycle.result (sym c.requires.same)
     c.cycle-cycle.ensures c.decide_in-decided.ensures.own in
     λ l. omega (arith, e, l)
+
+pub returns-in-Refuted-clause-known : goal.returns-in-Refuted-clause-known
+returns-in-Refuted-clause-known c = λ a.
+    none_used c.kind-kind.result c.args.inst.now c.args.book.now c.all-all.result c.args.most c.cycle-cycle.result
+    c.decide_in-decided.new.units.used c.args.units.now.used c.decide_in-decided.result c.len-before.ensures.kept
+    c.kind-kind.ensures c.all-all.ensures.value c.cycle-cycle.ensures c.requires.bounded
+    c.decide_in-decided.ensures.known a
+    ∙ c.requires.fresh
+
+pub returns-in-Ok-clause-known : goal.returns-in-Ok-clause-known
+returns-in-Ok-clause-known c = λ a.
+    none_used c.kind-kind.result c.args.inst.now c.args.book.now c.all-all.result c.args.most c.cycle-cycle.result
+    c.decide_in-decided.new.units.used c.args.units.now.used c.decide_in-decided.result c.len-before.ensures.kept
+    c.kind-kind.ensures c.all-all.ensures.value c.cycle-cycle.ensures c.requires.bounded
+    c.decide_in-decided.ensures.known a
+    ∙ c.requires.fresh
+
+pub returns-in-Found-clause-known : goal.returns-in-Found-clause-known
+returns-in-Found-clause-known c = λ a.
+    none_used c.kind-kind.result c.args.inst.now c.args.book.now c.all-all.result c.args.most c.cycle-cycle.result
+    c.decide_in-decided.new.units.used c.args.units.now.used c.decide_in-decided.result c.len-before.ensures.kept
+    c.kind-kind.ensures c.all-all.ensures.value c.cycle-cycle.ensures c.requires.bounded
+    c.decide_in-decided.ensures.known a
+    ∙ c.requires.fresh
+
+pub returns-in-Spent-clause-known : goal.returns-in-Spent-clause-known
+returns-in-Spent-clause-known c = λ a.
+    none_used c.kind-kind.result c.args.inst.now c.args.book.now c.all-all.result c.args.most c.cycle-cycle.result
+    c.decide_in-decided.new.units.used c.args.units.now.used c.decide_in-decided.result c.len-before.ensures.kept
+    c.kind-kind.ensures c.all-all.ensures.value c.cycle-cycle.ensures c.requires.bounded
+    c.decide_in-decided.ensures.known a
+    ∙ c.requires.fresh
+
+pub returns-clause-known : goal.returns-clause-known
+returns-clause-known c = λ a.
+    none_used c.kind-kind.result c.args.inst.now c.args.book.now c.all-all.result c.args.most c.cycle-cycle.result
+    c.decide_in-decided.new.units.used c.args.units.now.used c.decide_in-decided.result c.len-before.ensures.kept
+    c.kind-kind.ensures c.all-all.ensures.value c.cycle-cycle.ensures c.requires.bounded
+    c.decide_in-decided.ensures.known a
+    ∙ c.requires.fresh

@@ -2,7 +2,8 @@ use Rattle.std.proofs.Common.{ℕ, refl, sym, subst, inr}
 use Rattle.line_instance.specs.Line.{Line}
 use Rattle.line_rules.specs.declared.types.LineKind.{LineKind}
 use Rattle.round_run.specs.Rounds.{ArePaired}
-use Rattle.round_run.proofs.RoundFacts.{helps_none, spent_none}
+use Rattle.round_helpers.proofs.BookGrowth.{helps_none}
+use Rattle.round_helpers.proofs.SettleFacts.{spent_none}
 use Rattle.round_run.proofs.rounds.decide_round.Goals as goal
 
 pub returns-then-pairs_refute-clause-round : goal.returns-then-pairs_refute-clause-round
@@ -23,6 +24,7 @@ returns-then-pairs_refute-clause-round g c =
       still = λ unneeded. refl;
       gains = c.closed.ensures.closed.gains;
       from = c.closed.ensures.closed.from;
+      whole = λ whole. absurd (cc (c.closed.ensures.helped, whole));
     }
 
 pub returns-then-pairs_refute-clause-team : goal.returns-then-pairs_refute-clause-team

@@ -25,4 +25,5 @@ returns-clause-closed c =
       above = λ old before. omega (arith, c.if-is_found.false, c.least.ensures);
       reserved = c.requires.reserved;
       from = c.len-from.ensures.len;
+      known = λ answered. omega arith;
     }
