@@ -2,3 +2,4 @@ pub mod ClosedFacts
 pub mod FoundFacts
 pub mod RefusalFacts
 pub mod AcceptedIsTrue
+pub mod OneVerdict

@@ -23,7 +23,7 @@ use Rattle.effic_check.specs.declared.verdict.EfficVerified.TheVariants as verif
 use Rattle.line_rules.proofs.Monotone.{entries_same}
 
 module _ (line : Line) (ok : IsLine line) (cert : EfficCert) where
-  balance_not : (p : EfficPlace) → BalanceFails line cert p → ShowsUpper line cert → ⊥
+  pub balance_not : (p : EfficPlace) → BalanceFails line cert p → ShowsUpper line cert → ⊥
   balance_not (place.Tasks said real) h s = h
   balance_not (place.Stations n) h s = h.1 s.asked
   balance_not (place.Station i) h s =
@@ -80,7 +80,7 @@ module _ (line : Line) (ok : IsLine line) (cert : EfficCert) where
   trail_spends None steps x h u = absurd h
   trail_spends (Some t) steps x h u = frames_spend line t.cycle cert.kind cert.entries t.frames steps x h.1 u
 
-  ends_spend : (steps x : ℕ) → ProofEnds line cert steps → IsAccepted line cert x → steps < x
+  pub ends_spend : (steps x : ℕ) → ProofEnds line cert steps → IsAccepted line cert x → steps < x
   ends_spend steps x h q = elim h [
     | inl w ↦ omega (arith, entries_more cert.kind line cert.entries steps q.spent.0 w q.spent.2.0, q.spent.2.2)
     | inr w ↦ omega (
@@ -92,7 +92,7 @@ module _ (line : Line) (ok : IsLine line) (cert : EfficCert) where
     )
   ]
 
-  found_refused : (steps units : ℕ) (p : EfficPlace) → IsFound line cert steps (verified.Refused p)
+  pub found_refused : (steps units : ℕ) (p : EfficPlace) → IsFound line cert steps (verified.Refused p)
       → IsAccepted line cert units → ⊥
   found_refused steps units p h q = elim h [
     | inl f ↦ balance_not p f q.shown

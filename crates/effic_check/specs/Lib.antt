@@ -1,3 +1,4 @@
 pub mod Accepted
 pub mod Truth
 pub mod Verdict
+pub mod Laws

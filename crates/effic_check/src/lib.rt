@@ -7,6 +7,7 @@
 #![tactic(auto)]
 
 mod checking;
+pub mod laws;
 mod verdict;
 
 pub use checking::verify_effic;

@@ -48,6 +48,9 @@ module _ (naming : Naming) (kind : LineKind) (line : Line) (least most : ℕ) (p
         true_bounds = p.true_bounds;
         order = omega (arith, below);
         last = p.first;
+        lowest = p.lowest;
+        from = p.from;
+        fresh = p.fresh;
         seeks = seeks;
         counted = counted;
         differ = λ h. (refl, record { why = why; closing_from = closing_from; stopped = s; printed = refl });

@@ -1,8 +1,10 @@
 -- What `effic` comes to.
-use Rattle.std.specs.Prelude.{◌≡◌, ◌⊎◌, ℕ, ◌*◌, ◌<◌, ◌≤◌, List, ◌++◌, Option, Some, None}
+use Rattle.std.specs.Prelude.{◌≡◌, ◌⊎◌, ℕ, ◌+◌, ◌*◌, ◌<◌, ◌≤◌, List, ◌++◌, Option, Some, None}
 use Rattle.line_instance.specs.Line.{Line}
 use Rattle.line_rules.specs.Bounds.{idle_time}
+use Rattle.line_rules.specs.Entries.{IsDerived}
 use Rattle.line_rules.specs.declared.types.LineKind.{LineKind}
+use Rattle.line_rules.specs.declared.types.Entry.{Entry}
 use Rattle.effic_search.specs.rounds.declared.plans.Plan.{Plan}
 use Rattle.command_outcome.specs.Outcome.{Files, Outside, Page, Outcome, told}
 use Rattle.command_outcome.specs.declared.report.Kept.TheVariants.{Product}
@@ -13,6 +15,7 @@ use Rattle.command_outcome.specs.Bounds.{cut_short_text, seek_text}
 use Rattle.effic_cert.specs.Product.{product_text}
 use Rattle.line_rules.specs.declared.products.EfficCert.{EfficCert}
 use Rattle.effic_check.specs.Truth.{IsBetween}
+use Rattle.effic_search.specs.Lowest.{IsLowest, IsAtLeastFirst}
 use Rattle.effic_search.specs.Outcomes.{IsSolved, StoppedBy}
 use Rattle.effic_search.specs.cycles.Ends.{first_upper}
 use Rattle.effic_search.specs.cycles.Seek.{AreSeeks}
@@ -69,14 +72,19 @@ abbrev pub IsFound : Naming → LineKind → Line → ℕ → ℕ → Plan → O
 IsFound naming kind line least most plan name out =
     IsOptimal naming kind line least most plan name out ⊎ IsStopped naming kind line least most plan name out
 
--- Memory ended the search: the bounds that are printed differ, and are true; the upper one is at most the product of
--- all tasks at the first of the fewest stations.
+-- Memory ended the search: the bounds that are printed differ, and are true. The upper one is at most the product of all
+-- tasks at the first of the fewest stations. The lower one is the one that some entries show, of which each follows from
+-- those before it, and at least the one that the times alone show.
 pub record IsCutShort (kind : LineKind) (line : Line) (least most : ℕ) (out : Outcome) : Type 0 where
   pub lower : ℕ
   pub upper : ℕ
   pub below : lower < upper
   pub last : upper ≤ least * first_upper line
   pub true_bounds : IsBetween kind line least most lower upper
+  pub entries : List Entry
+  pub derived : IsDerived kind line entries
+  pub lowest : IsLowest line entries least (most + 1) upper lower
+  pub from : IsAtLeastFirst line least most lower
   pub shown : out ≡ told ends.Memory (cut_short_text lower upper)
 
 -- the file says the line, and this is answered of it

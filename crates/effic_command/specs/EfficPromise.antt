@@ -1,6 +1,7 @@
 -- What `effic` promises, fact by fact, where it answers with status 0 or 1.
-use Rattle.std.specs.Prelude.{◌≡◌, ℕ, ◌*◌, ◌<◌, ◌≤◌, List, ◌++◌, Option, Some, None}
+use Rattle.std.specs.Prelude.{◌≡◌, ℕ, ◌+◌, ◌*◌, ◌<◌, ◌≤◌, List, ◌++◌, Option, Some, None}
 use Rattle.line_instance.specs.Line.{Line}
+use Rattle.line_rules.specs.Entries.{IsFresh}
 use Rattle.line_rules.specs.Products.{IsSayable}
 use Rattle.line_rules.specs.declared.types.LineKind.{LineKind}
 use Rattle.effic_search.specs.rounds.declared.plans.Plan.{Plan}
@@ -16,6 +17,7 @@ use Rattle.effic_cert.specs.Product.{product_text}
 use Rattle.line_rules.specs.declared.products.EfficCert.{EfficCert}
 use Rattle.effic_check.specs.Accepted.{IsAccepted}
 use Rattle.effic_check.specs.Truth.{IsBetween, IsLeastProduct}
+use Rattle.effic_search.specs.Lowest.{IsLowest, IsAtLeastFirst}
 use Rattle.effic_search.specs.Outcomes.{StoppedBy, AreEnough}
 use Rattle.effic_search.specs.declared.searching.Ended.{Ended}
 use Rattle.effic_search.specs.cycles.Ends.{first_upper}
@@ -44,7 +46,8 @@ pub record IsToldLeast (naming : Naming) (kind : LineKind) (line : Line) (least 
 -- What is promised of bounds on the product in `least` to `most` stations: the certificate is of this question, a text
 -- can say it, and the check accepts it with its default steps; so its balance reaches its upper bound, and none lies
 -- below its lower one. The upper bound is at most the product of all tasks at the first of the fewest stations. The
--- bounds differ only where the search stopped, by the units of a try or by the size of its book, and status 1 says so;
+-- lower one is the one that the entries of the certificate show, and at least the one that the times alone show. No
+-- entry is answered by an earlier one. The bounds differ only where the search stopped, by the units of a try or by the size of its book, and status 1 says so;
 -- where they are equal they are the least product. What is printed are the bounds and the balance of the certificate,
 -- behind a line on the seeks, where the plan has them. The bounds are equal where the units are enough for the line.
 pub record HasBounds (naming : Naming) (kind : LineKind) (line : Line) (least most : ℕ) (plan : Plan) (cert : EfficCert)
@@ -59,6 +62,9 @@ pub record HasBounds (naming : Naming) (kind : LineKind) (line : Line) (least mo
   pub true_bounds : IsBetween kind line least most cert.lower cert.upper
   pub order : cert.lower ≤ cert.upper
   pub last : cert.upper ≤ least * first_upper line
+  pub lowest : IsLowest line cert.entries least (most + 1) cert.upper cert.lower
+  pub from : IsAtLeastFirst line least most cert.lower
+  pub fresh : IsFresh cert.entries
   pub seeks : Seeks
   pub counted : AreSeeks plan seeks
   pub differ : cert.lower < cert.upper

@@ -29,6 +29,7 @@ use Rattle.cycle_search.specs.Seek.{AreSeeks, seek_room}
 use Rattle.cycle_search.specs.declared.seek.Seeks.{Seeks}
 use Rattle.effic_check.specs.Accepted.{IsClosed, cycle_below}
 use Rattle.effic_search.specs.Counted.{AreFew, IsWithin, others}
+use Rattle.effic_search.specs.NextTry.{IsNextTry}
 use Rattle.effic_search.specs.Since.{IsSinceGoal}
 use Rattle.effic_search.specs.inner.Going.{IsLowering, IsGoing, IsTry, IsLeftAt, IsStuck, IsImproved, HasSought}
 use Rattle.effic_search.specs.inner.Going.{HasAsked, EndsWith, product_of, entries_of}
@@ -350,7 +351,8 @@ module _ (kind : LineKind) (line : Line) (least most m X : ℕ) (plan : Plan) (o
             let same : X ≡ new.book.about.cycle = sym cycle_new in
             let G : ℕ → Type 0 = λ z. IsSinceGoal line z (entries_of new) h.does.gained in
             let A : ℕ → Type 0 = λ z. AreAtCycle z (sought_gain.gained ++ h.does.gained) in
-            let N : ℕ → Type 0 = λ z. IsLeftAt line least most m z new in (
+            let N : ℕ → Type 0 = λ z. IsLeftAt line least most m z new in
+            let K : ℕ → Type 0 = λ z. IsNextTry line (entries_of new) least most (product_of new) m z in (
               record {
                 lowering = asked_lowering;
                 m = m;
@@ -360,6 +362,14 @@ module _ (kind : LineKind) (line : Line) (least most m X : ℕ) (plan : Plan) (o
                   some = t.left.some;
                   floor = t.left.floor;
                   near = near_now kind line least most m X many paid plan old new some t all_few all_paid gain;
+                  left = left_now;
+                });
+                next = subst K same (record {
+                  from = t.left.from;
+                  to = t.left.to;
+                  closed = closed_new;
+                  some = t.left.some;
+                  is = t.is ∙ ap (λ (z : ℕ). cycle_below z m) (sym same_product);
                   left = left_now;
                 });
                 few = few;

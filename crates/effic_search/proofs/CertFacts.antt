@@ -1,17 +1,20 @@
 -- The certificate of a search is within its ranges and accepted, and what the search comes to.
-use Rattle.std.proofs.Common.{◌≡◌, ℕ, ◌+◌, ◌*◌, ◌^◌, ◌<◌, ◌≤◌, ◌⊎◌, Bool, true, cond, List, ◌++◌, length, take}
+use Rattle.std.proofs.Common.{◌≡◌, ℕ, ◌+◌, ◌-◌, ◌*◌, ◌^◌, ◌<◌, ◌≤◌, ◌⊎◌, Bool, true, cond, List, ◌++◌, length, take}
 use Rattle.std.proofs.Common.{Option, Some, None, refl, sym, ap, ◌∙◌, subst, inl, inr, arith, append_assoc}
 use Rattle.std.specs.Prelude.{nat_eq}
 use Rattle.std.proofs.lemmas.Bool.{eq-eqb, cases_lt}
 use Rattle.std.proofs.lemmas.Option.{slice_get_within}
 use Rattle.std.proofs.lemmas.Nat.{mul-le}
+use Rattle.std.proofs.Math.Nat.{mul-le-mul_left}
 use Rattle.std.proofs.Math.Seq.{take-length}
 use Rattle.line_instance.specs.Truths.{In}
 use Rattle.line_instance.proofs.Members.{In-full_to}
 use Rattle.line_instance.specs.Line.{Line, IsLine, IsRanked, tasks}
-use Rattle.line_rules.specs.Balance.{IsRight, all_tasks}
-use Rattle.line_rules.specs.Entries.{IsDerived, IsFresh, IsFreshAt}
-use Rattle.line_rules.specs.Trails.{IsOpenOver}
+use Rattle.line_rules.specs.Balance.{IsRight, all_tasks, seat}
+use Rattle.line_rules.specs.Bounds.{total_time, up}
+use Rattle.line_rules.specs.Entries.{HasAnswer, IsDerived, IsFresh, IsFreshAt}
+use Rattle.line_rules.specs.Trails.{IsTrail, IsOpenOver}
+use Rattle.line_rules.proofs.AcceptedIsTrue.{answer_holds}
 use Rattle.line_rules.specs.Ranges.{IsPlaced, IsPlacing, IsTrailOrNone}
 use Rattle.line_rules.specs.Units.{UnitsOf, UnitsIn, UnitsAt, entries_at}
 use Rattle.line_rules.specs.declared.types.LineKind.{LineKind}
@@ -26,6 +29,7 @@ use Rattle.budget_law.specs.Budget.{states}
 use Rattle.budget_law.proofs.FewUnits.{units_few}
 use Rattle.round_helpers.specs.Growth.{AreAtCycle}
 use Rattle.cycle_search.specs.rounds.declared.plans.Plan.{Plan}
+use Rattle.cycle_search.specs.Ends.{first_lower}
 use Rattle.cycle_search.proofs.about_rounds.Sayable.{entries_ok, trail_ok, all_are_tasks}
 use Rattle.line_rules.specs.Products.{IsSayable}
 use Rattle.line_rules.specs.declared.products.EfficCert.{EfficCert}
@@ -37,7 +41,8 @@ use Rattle.effic_search.specs.Since.{IsSinceGoal}
 use Rattle.effic_search.specs.inner.Going.{HaveCycles, IsLowering, IsGoing, IsLeftAt, IsDue, IsStuck, HasTrailBy}
 use Rattle.effic_search.specs.inner.Going.{HasFewUnits}
 use Rattle.effic_search.specs.inner.Going.{product_of, entries_of}
-use Rattle.effic_search.specs.Lowest.{IsLowest}
+use Rattle.effic_search.specs.Lowest.{IsLowest, IsAtLeastFirst}
+use Rattle.effic_search.specs.NextTry.{IsNextTry}
 use Rattle.effic_search.specs.Outcomes.{IsCertified, IsSolved, IsSpent, IsLarge, IsCutShort, StoppedBy}
 use Rattle.effic_search.specs.Outcomes.{AreEnough}
 use Rattle.effic_search.specs.declared.searching.Ended.{Ended}
@@ -46,7 +51,19 @@ use Rattle.effic_search.specs.declared.lowering.Lowering.{Lowering}
 use Rattle.effic_search.proofs.LowestFacts.{lowest_closed, lowest_meets, lowest_below}
 use Rattle.effic_search.proofs.SinceFacts.{at_behind, units_at_end}
 use Rattle.effic_search.proofs.SizeFacts.{large_budget}
-use Rattle.effic_search.proofs.TryFacts.{left_cycle, none_too_long, product_some}
+use Rattle.effic_search.proofs.TryFacts.{left_cycle, none_too_long, product_some, right_longer}
+
+-- b times what is divided by b and rounded up is no less
+up_covers : (a b : ℕ) → 1 ≤ b → a ≤ b * up a b
+up_covers a b o = omega (arith, o)
+
+-- a number that is at most another is at most its equal
+up_to_that : (a b d : ℕ) → a ≤ b → d ≡ b → a ≤ d
+up_to_that a b d l is = omega (arith, l, is)
+
+-- three steps up
+steps_up : (a b c d : ℕ) → a ≤ b → b ≤ c → c ≤ d → a ≤ d
+steps_up a b c d p q r = omega (arith, p, q, r)
 
 -- a right balance in 1 to 1,024 stations
 placing : (kind : LineKind) (line : Line) (c : ℕ) (b : Assignment) → IsLine line → IsRight kind line c b
@@ -68,7 +85,8 @@ placing kind line c b ok r some few = record {
 
 module _ (kind : LineKind) (line : Line) (least most : ℕ) (h : Lowering) (ok : IsLine line) (some : 1 ≤ least)
     (order : least ≤ most) (few : most ≤ 1024) (l : IsLowering kind line least most h)
-    (derived : IsDerived kind line (entries_of h)) (statable : AreStatable (entries_of h)) (lower : ℕ)
+    (derived : IsDerived kind line (entries_of h)) (statable : AreStatable (entries_of h))
+    (fresh : IsFresh (entries_of h)) (lower : ℕ)
     (low : IsLowest line (entries_of h) least (most + 1) (product_of h) lower) where
   abbrev pub cert_of : Option Trail → EfficCert
   cert_of trail = record {
@@ -90,6 +108,51 @@ module _ (kind : LineKind) (line : Line) (least most : ℕ) (h : Lowering) (ok :
       204800000000000000
       (omega (arith, l.to, few)) l.limit in
       omega (arith, a)
+
+  -- no balance of so many stations is right below the first lower end for them
+  cycle_from : first_lower line h.balance.stations ≤ h.cycle
+  cycle_from = elim (cases_lt h.cycle (first_lower line h.balance.stations)) [
+    | inl less ↦
+        let s : ℕ = h.balance.stations in
+        let c : ℕ = first_lower line s - 1 in
+        let near : h.cycle ≤ c = omega (arith, less) in
+        let refuted : HasAnswer (entries_of h) (all_tasks line) s c = l.floored s l.from l.to (omega (arith, less, l.some)) in
+        absurd (answer_holds kind line ok (entries_of h) derived (all_tasks line) s c refuted (seat h.balance.place)
+        (right_longer kind line h.cycle c h.balance near l.right).balance)
+    | inr more ↦ more
+  ]
+
+  -- what the times alone show, for one of the numbers of stations
+  first_of : (m v : ℕ) → least ≤ m → m ≤ most → first_lower line m ≤ v → lower ≡ m * v
+      → IsAtLeastFirst line least most lower
+  first_of m v from to more is =
+      let a : m * first_lower line m ≤ m * v = mul-le-mul_left m more in
+      let b : total_time line ≤ m * up (total_time line) m = up_covers (total_time line) m (omega (arith, some, from)) in
+      let c : m * up (total_time line) m ≤ m * first_lower line m = mul-le-mul_left m (omega arith) in
+      record {
+        stations = m;
+        from = from;
+        to = to;
+        product = up_to_that (m * first_lower line m) (m * v) lower a is;
+        total = up_to_that (total_time line) (m * v) lower (steps_up (total_time line) (m * up (total_time line) m)
+            (m * first_lower line m) (m * v) b c a) is;
+      }
+
+  at_least_first : IsAtLeastFirst line least most lower
+  at_least_first = elim low.reached [
+    | inl e ↦ first_of h.balance.stations h.cycle l.from l.to cycle_from e
+    | inr r ↦
+        let m : ℕ = r.0 in
+        let g : ℕ = r.1 in
+        first_of m (g + 1) r.2 (omega (arith, r.3)) (elim (cases_lt (g + 1) (first_lower line m)) [
+          | inl less ↦
+              let c : ℕ = first_lower line m - 1 in
+              let refuted : HasAnswer (entries_of h) (all_tasks line) m c =
+              l.floored m r.2 (omega (arith, r.3)) (omega (arith, less)) in
+              absurd (omega (arith, less, r.4.greatest c refuted))
+          | inr more ↦ more
+        ]) r.5
+  ]
 
   lower_some : 1 ≤ lower
   lower_some = elim low.reached [
@@ -155,6 +218,9 @@ module _ (kind : LineKind) (line : Line) (least most : ℕ) (h : Lowering) (ok :
       true_bounds = between line ok (cert_of trail) sayable (h.listed.units + units.0) accepted;
       first = l.first;
       lowest = low;
+      from = at_least_first;
+      fresh = fresh;
+      cycles = l.cycles;
       tight = l.tight;
     }
 
@@ -231,14 +297,20 @@ module _ (kind : LineKind) (line : Line) (least most : ℕ) (cert : EfficCert)
       }
 
   pub cut_is : (cert.lower ≡ cert.upper → ⊥) → IsCutShort kind line least most cert.lower cert.upper
-  cut_is apart = record {
-    true_bounds = c.true_bounds;
-    below = elim (cases_lt cert.lower cert.upper) [
-      | inl l ↦ l
-      | inr more ↦ absurd (apart (omega (arith, more, c.lowest.within)))
-    ];
-    first = c.first;
-  }
+  cut_is apart =
+      let D : LineKind → Type 0 = λ z. IsDerived z line cert.entries in
+      record {
+        true_bounds = c.true_bounds;
+        below = elim (cases_lt cert.lower cert.upper) [
+          | inl l ↦ l
+          | inr more ↦ absurd (apart (omega (arith, more, c.lowest.within)))
+        ];
+        first = c.first;
+        entries = cert.entries;
+        derived = subst D c.kind_is c.accepted.derived;
+        lowest = c.lowest;
+        from = c.from;
+      }
 
 -- what a certificate of a search shows, where its bounds and lists are those of the search
 module _ (kind : LineKind) (line : Line) (least most : ℕ) (h : Lowering) (ok : IsLine line) (some : 1 ≤ least)
@@ -266,6 +338,14 @@ module _ (kind : LineKind) (line : Line) (least most : ℕ) (h : Lowering) (ok :
         (omega (arith, left.to)) left.some left.near left.left,
   )
 
+  -- the next try of the search is that of the certificate
+  next_here : (m X : ℕ) → IsNextTry line (entries_of h) least most (product_of h) m X
+      → IsNextTry line cert.entries least most cert.upper m X
+  next_here m X next =
+      let P : ℕ → Type 0 = λ z. IsNextTry line (entries_of h) least most z m X in
+      let Q : List Entry → Type 0 = λ z. IsNextTry line z least most cert.upper m X in
+      subst Q (sym entries) (subst P (sym upper) next)
+
   -- the book was too large
   pub large_is : IsRanked line → cert.trail ≡ None → (closing_from : ℕ) → closing_from ≡ length (entries_of h)
       → IsFresh (entries_of h) → IsDerived kind line (entries_of h) → IsDue kind line least most h
@@ -276,34 +356,30 @@ module _ (kind : LineKind) (line : Line) (least most : ℕ) (h : Lowering) (ok :
       let H : List Entry → Type 0 = λ z. HaveCycles line z in
       let whole : take (length (entries_of h)) (entries_of h) ≡ entries_of h = take-length (entries_of h) in
       let all : take (length (entries_of h)) (entries_of h) ≡ cert.entries = whole ∙ sym entries in
-      let large : (4000000 < h.listed.units) ⊎ (4000000 < others (entries_of h)) = (elim due.large [
+      let same : others (entries_of h) ≡ h.listed.entries =
+      sym (due.lowering.counted.entries ∙ ap (λ (z : List Entry). others z) whole) in
+      let large : (4000000 < h.listed.units) ⊎ (4000000 < others (entries_of h)) ⊎ (13999999 < length (entries_of h)) =
+      (elim due.large [
         | inl u ↦ inl u
-        | inr n ↦ inr (omega (
-          arith,
-          n,
-          due.lowering.counted.entries,
-          ap (λ (z : List Entry). others z) whole,
-        ))
+        | inr r ↦ elim r [ inl n ↦ inr (inl (omega (arith, n, same))) | inr many ↦ inr (inr many) ]
       ]) in
+      let L : List Entry → Type 0 =
+      λ z. (4000000 < h.listed.units) ⊎ (4000000 < others z) ⊎ (13999999 < length z) in
       record {
         certified = c;
         below = left_below due.m due.X due.left;
         none = none;
+        stations = due.m;
+        cycle = due.X;
+        next = next_here due.m due.X due.next;
         from = from ∙ ap (λ (z : List Entry). length z) (sym entries);
         fresh = subst F (sym entries) fresh;
         units = h.listed.units;
         counted = subst U all due.lowering.counted.units;
-        large = elim due.large [
-          | inl u ↦ inl u
-          | inr n ↦ inr (omega (
-            arith,
-            n,
-            due.lowering.counted.entries,
-            ap (λ (z : List Entry). others z) all,
-          ))
-        ];
+        large = subst L (sym entries) large;
         cycles = subst H (sym entries) due.lowering.cycles;
-        budget = large_budget kind line ok ranked (entries_of h) derived fresh due.lowering.cycles h.listed.units
+        budget = large_budget kind line ok ranked (entries_of h) derived fresh due.lowering.cycles due.lowering.behind
+            h.listed.units
             (subst U whole due.lowering.counted.units) large;
       }
 
@@ -334,6 +410,9 @@ module _ (kind : LineKind) (line : Line) (least most : ℕ) (h : Lowering) (ok :
       let F : List Entry → Type 0 = λ z. IsFreshAt X z in
       let G : List Entry → Type 0 = λ z. IsSinceGoal line X z s.since in
       let A : Trail → Type 0 = λ z. AreAtCycle z.cycle (s.sought ++ s.since) in
+      let J : List Entry → Type 0 = λ z. IsTrail kind line X z (all_tasks line) s.m frames in
+      let K : Trail → Type 0 = λ z. IsTrail kind line z.cycle cert.entries (all_tasks line) s.m z.frames in
+      let N : Trail → Type 0 = λ z. IsNextTry line cert.entries least most cert.upper s.m z.cycle in
       let O : Trail → Type 0 = λ z. IsOpenOver line z.cycle cert.entries z.frames in
       let P : Trail → Type 0 = λ z. IsFreshAt z.cycle cert.entries in
       let Q : Trail → Type 0 = λ z. IsSinceGoal line z.cycle cert.entries s.since in
@@ -343,6 +422,10 @@ module _ (kind : LineKind) (line : Line) (least most : ℕ) (h : Lowering) (ok :
         below = left_below s.m X s.left;
         trail = trail;
         has = has;
+        stations = s.m;
+        next = subst N (sym is) (next_here s.m X s.next);
+        fewer = s.few;
+        asks = subst K (sym is) (subst J (sym entries) s.trail);
         opens = subst O (sym is) (subst E (sym entries) s.opens);
         fresh = subst P (sym is) (subst F (sym entries) fresh_at);
         front = s.front;

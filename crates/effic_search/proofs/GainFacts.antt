@@ -23,7 +23,8 @@ use Rattle.cycle_search.specs.Seek.{seek_room}
 use Rattle.effic_check.specs.Accepted.{IsClosed, cycle_below}
 use Rattle.effic_search.specs.Counted.{IsCounted, IsWithin}
 use Rattle.effic_search.specs.Since.{IsSinceGoal}
-use Rattle.effic_search.specs.inner.Going.{IsFloored, HaveCycles, IsTight, IsLowering, IsGoing, IsTry, HasSought}
+use Rattle.effic_search.specs.inner.Going.{IsFloored, HaveCycles, HaveCyclesBehind, IsTight, IsLowering, IsGoing}
+use Rattle.effic_search.specs.inner.Going.{IsTry, HasSought}
 use Rattle.cycle_search.proofs.SeekFacts.{no_room}
 use Rattle.effic_search.specs.inner.Going.{HasAsked, IsImproved, product_of, entries_of}
 use Rattle.effic_search.specs.declared.lowering.Lowering.{Lowering}
@@ -173,6 +174,17 @@ module _ (kind : LineKind) (line : Line) (least most m X many paid : ℕ) (plan 
             (omega (arith, t.left.floor, c), omega (arith, u, c))
       ])
 
+  behind_now : HaveCyclesBehind line (entries_of new)
+  behind_now =
+      let P : List Entry → Type 0 = λ z. HaveCyclesBehind line z in
+      let u : X < first_upper line = below_upper kind line least most m X old l t.left.from t.left.near in
+      subst P (sym h.entries) (λ k e g late. elim (get_append_cases (entries_of old) h.gained k e g) [
+        | inl a ↦ l.behind k e a late
+        | inr b ↦
+            let c : e.cycle ≡ X = h.cycles b.0 e b.1 in
+            (omega (arith, t.left.floor, c), omega (arith, u, c))
+      ])
+
   pub gained_lowering : IsLowering kind line least most new
   gained_lowering =
       let F : List Entry → Type 0 = λ z. (s : ℕ) → least ≤ s → s ≤ most → IsFloored line z s in
@@ -201,6 +213,7 @@ module _ (kind : LineKind) (line : Line) (least most m X many paid : ℕ) (plan 
             has_longer (entries_of old) h.gained (all_tasks line) s (first_lower line s - 1)
             (l.floored s from to more));
         cycles = cycles_now;
+        behind = behind_now;
       }
 
   pub near_now : m * X < product_of new

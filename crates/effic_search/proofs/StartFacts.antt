@@ -6,6 +6,7 @@ use Rattle.std.proofs.Common.{subst, inl, inr, arith, true, Option, Some, None, 
 use Rattle.std.specs.Prelude.{slice_get, nat_eq, ◌&&◌}
 use Rattle.std.proofs.lemmas.Bool.{cases_eq, and_from}
 use Rattle.std.proofs.lemmas.List.{get_or-replicate}
+use Rattle.std.proofs.lemmas.Option.{slice_get_within}
 use Rattle.std.proofs.Math.Seq.{take-length}
 use Rattle.line_instance.specs.Truths.{In}
 use Rattle.line_instance.proofs.Members.{In-full_to_below}
@@ -256,6 +257,7 @@ going_begins kind line least most h ok none some order few book cycle limit bala
         within = omega (arith, ap (λ (z : Listed). z.units) listed);
         floored = λ m from to. book.floored m from (omega (arith, to));
         cycles = λ k e g other. absurd (other (book.bounds k e g));
+        behind = λ k e g late. absurd (omega (arith, late, slice_get_within es k e g, book.few, some, few));
       };
       clear = λ X one near. book.clear X;
       closed = λ s from to. absurd (omega (arith, from, to));

@@ -1,5 +1,5 @@
 -- What a try does to a search: it goes on, its units ended, or memory did.
-use Rattle.std.proofs.Common.{◌≡◌, ℕ, ◌+◌, ◌-◌, ◌*◌, ◌<◌, ◌≤◌, Bool, List, [], ◌∷◌, ◌++◌, length}
+use Rattle.std.proofs.Common.{◌≡◌, ℕ, ◌+◌, ◌-◌, ◌*◌, ◌<◌, ◌≤◌, ◌⊎◌, Bool, List, [], ◌∷◌, ◌++◌, length}
 use Rattle.std.proofs.Common.{refl}
 use Rattle.std.proofs.Common.{sym, ap, ◌∙◌, subst, inl, inr, arith, Some}
 use Rattle.std.specs.Prelude.{slice_get}
@@ -25,7 +25,7 @@ use Rattle.cycle_search.proofs.EndFacts.{none_long}
 use Rattle.cycle_search.proofs.Tries.{widened_right}
 use Rattle.effic_check.specs.Accepted.{IsClosed, cycle_below}
 use Rattle.effic_search.specs.Counted.{IsCounted}
-use Rattle.effic_search.specs.inner.Going.{IsFloored, HaveCycles, IsLowering, IsGoing, IsLeftAt}
+use Rattle.effic_search.specs.inner.Going.{IsFloored, HaveCycles, HaveCyclesBehind, IsLowering, IsGoing, IsLeftAt}
 use Rattle.effic_search.specs.inner.Going.{IsImproved, IsTight}
 use Rattle.effic_search.specs.inner.Going.{IsSettled, product_of, entries_of}
 use Rattle.effic_search.specs.declared.settling.Settled.{Settled}
@@ -144,6 +144,14 @@ closed_going kind line least most m h going here = record {
   ];
 }
 
+-- a book is too large, where so many entries are counted
+pub large_book : (h : Lowering) (count : ℕ) → count ≡ length (entries_of h)
+    → (4000000 < h.listed.units) ⊎ (4000000 < h.listed.entries) ⊎ (13999999 < count)
+    → (4000000 < h.listed.units) ⊎ (4000000 < h.listed.entries) ⊎ (13999999 < length (entries_of h))
+large_book h count is large =
+    let P : ℕ → Type 0 = λ z. (4000000 < h.listed.units) ⊎ (4000000 < h.listed.entries) ⊎ (13999999 < z) in
+    subst P is large
+
 -- what stopped a search stopped it, whichever number of stations was the last
 pub settled_last : (kind : LineKind) (line : Line) (least most m last : ℕ) (plan : Plan) (v : Settled)
     → IsSettled kind line least most m plan v → ((h : Lowering) → v ≡ settled.Goes h → ⊥)
@@ -187,6 +195,7 @@ module _ (kind : LineKind) (line : Line) (least most m X : ℕ) (old new : Lower
       let D : List Entry → Type 0 = λ z. IsCounted line z (length z) new.listed in
       let F : List Entry → Type 0 = λ z. (s : ℕ) → least ≤ s → s ≤ most → IsFloored line z s in
       let H : List Entry → Type 0 = λ z. HaveCycles line z in
+      let B : List Entry → Type 0 = λ z. HaveCyclesBehind line z in
       let R : BookView → Type 0 = λ z. IsReserved z in
       let u : X < first_upper line = below_upper kind line least most m X old l from near in
       record {
@@ -206,6 +215,7 @@ module _ (kind : LineKind) (line : Line) (least most m X : ℕ) (old new : Lower
         within = omega (arith, l.within, ap (λ (z : Listed). z.units) i.listed);
         floored = subst F same_entries l.floored;
         cycles = subst H same_entries l.cycles;
+        behind = subst B same_entries l.behind;
       }
 
   pub improved_going : ((Y : ℕ) → 1 ≤ Y → Y < X → IsSinceGoal line Y (entries_of old) [])

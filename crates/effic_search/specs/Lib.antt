@@ -1,6 +1,7 @@
 pub mod Counted
 pub mod Since
 pub mod Lowest
+pub mod NextTry
 pub mod Outcomes
 pub mod inner
 pub use Rattle.cycle_search.specs.rounds as rounds

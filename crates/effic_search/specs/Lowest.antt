@@ -2,8 +2,10 @@
 use Rattle.std.specs.Prelude.{◌≡◌, ◌⊎◌, ℕ, ◌+◌, ◌*◌, ◌<◌, ◌≤◌, List}
 use Rattle.line_instance.specs.Line.{Line}
 use Rattle.line_rules.specs.Balance.{all_tasks}
+use Rattle.line_rules.specs.Bounds.{total_time}
 use Rattle.line_rules.specs.Entries.{HasAnswer}
 use Rattle.line_rules.specs.declared.types.Entry.{Entry}
+use Rattle.cycle_search.specs.Ends.{first_lower}
 
 -- g is the greatest cycle at which an entry refutes all tasks in m stations, 0 for none
 pub record IsGreatestRefuted (line : Line) (es : List Entry) (m g : ℕ) : Type 0 where
@@ -19,3 +21,12 @@ pub record IsLowest (line : Line) (es : List Entry) (least end upper lower : ℕ
       → (g : ℕ) × IsGreatestRefuted line es m g × (lower ≤ m * (g + 1))
   pub reached : (lower ≡ upper)
       ⊎ ((m : ℕ) × (g : ℕ) × (least ≤ m) × (m < end) × IsGreatestRefuted line es m g × (lower ≡ m * (g + 1)))
+
+-- A lower bound that is at least what the times alone show: for one of the numbers of stations from `least` to `most` it
+-- is at least that number times the first lower end for it. So it is at least the total time. (Own.)
+pub record IsAtLeastFirst (line : Line) (least most lower : ℕ) : Type 0 where
+  pub stations : ℕ
+  pub from : least ≤ stations
+  pub to : stations ≤ most
+  pub product : stations * first_lower line stations ≤ lower
+  pub total : total_time line ≤ lower

@@ -5,8 +5,8 @@ use Rattle.std.specs.Prelude.{Some, None}
 use Rattle.line_instance.specs.Line.{Line, tasks}
 use Rattle.line_rules.specs.Balance.{IsRight, all_tasks}
 use Rattle.line_rules.specs.Bounds.{total_time}
-use Rattle.line_rules.specs.Entries.{IsFresh, IsFreshAt}
-use Rattle.line_rules.specs.Trails.{IsOpenOver}
+use Rattle.line_rules.specs.Entries.{IsDerived, IsFresh, IsFreshAt}
+use Rattle.line_rules.specs.Trails.{IsTrail, IsOpenOver}
 use Rattle.line_rules.specs.Units.{UnitsOf, UnitsIn}
 use Rattle.line_rules.specs.declared.types.LineKind.{LineKind}
 use Rattle.line_rules.specs.declared.types.Entry.{Entry}
@@ -23,7 +23,8 @@ use Rattle.line_rules.specs.declared.products.EfficCert.{EfficCert}
 use Rattle.effic_check.specs.Accepted.{IsAccepted}
 use Rattle.effic_check.specs.Truth.{IsBetween, IsLeastProduct}
 use Rattle.effic_search.specs.Counted.{others, AreFew, IsWithin}
-use Rattle.effic_search.specs.Lowest.{IsLowest}
+use Rattle.effic_search.specs.Lowest.{IsLowest, IsAtLeastFirst}
+use Rattle.effic_search.specs.NextTry.{IsNextTry}
 use Rattle.effic_search.specs.Since.{IsSinceGoal}
 use Rattle.effic_search.specs.declared.searching.Ended.{Ended}
 use Rattle.effic_search.specs.declared.searching.Ended.TheVariants as ended
@@ -33,7 +34,9 @@ use Rattle.effic_search.specs.declared.searching.EfficOutcome.TheVariants as out
 -- A certificate of the question: of this kind and this range of stations, within the ranges of its text, and accepted
 -- with so many units, which are few enough for the default steps of the check. Its bounds are true. The upper one is no
 -- greater than the product of all tasks at the first of the fewest stations; the lower one is the one that its entries
--- show. At no cycle from 1 on below its own its balance is right.
+-- show, and at least the one that the times alone show. No entry is answered by an earlier one, and each that isn't by
+-- Bound has a cycle from the longest time to the greater of 1 and the total. At no cycle from 1 on below its own its
+-- balance is right.
 pub record IsCertified (kind : LineKind) (line : Line) (least most : ℕ) (cert : EfficCert) : Type 0 where
   pub kind_is : cert.kind ≡ kind
   pub least_is : cert.least_m ≡ least
@@ -45,6 +48,10 @@ pub record IsCertified (kind : LineKind) (line : Line) (least most : ℕ) (cert 
   pub true_bounds : IsBetween kind line least most cert.lower cert.upper
   pub first : cert.upper ≤ least * first_upper line
   pub lowest : IsLowest line cert.entries least (most + 1) cert.upper cert.lower
+  pub from : IsAtLeastFirst line least most cert.lower
+  pub fresh : IsFresh cert.entries
+  pub cycles : (k : ℕ) (e : Entry) → slice_get cert.entries k ≡ Some e → e.why ≢ why.Bound
+      → (longest_of line (all_tasks line) ≤ e.cycle) × (e.cycle ≤ max (total_time line) 1)
   pub tight : (c : ℕ) → 1 ≤ c → IsRight kind line c cert.balance → cert.cycle ≤ c
 
 -- the certificate of the least product: both its bounds are it, and it has no trail
@@ -54,18 +61,23 @@ pub record IsSolved (kind : LineKind) (line : Line) (least most : ℕ) (cert : E
   pub none : cert.trail ≡ None
   pub least_one : IsLeastProduct kind line least most cert.upper
 
--- The N units of a try ended, and one more load was needed: the bounds differ. The trail is at the tried cycle X, open
--- over the entries, which are fresh at X. First stand the entries before the try, which were few enough for it. Behind
--- them are those of its seek, of cycle X, for which there was room: none where the plan has no seek. From the number
--- `closing_from` on stand those of its round, of cycle X. They and the trail have at least N units, and exactly so many
--- where there are no helpers. Where the plan has no seek, they are the entries of cycle X behind the last one of all
--- tasks at X. N is below what the budget law allows. (Own.)
+-- The N units of a try ended, and one more load was needed: the bounds differ. The trail is at the tried cycle X, which
+-- is that of the next try, valid from its question, in fewer stations than tasks, and open over the entries, which are
+-- fresh at X. First stand the entries before the try, which were few enough for it. Behind them are those of its seek,
+-- of cycle X, for which there was room: none where the plan has no seek. From the number `closing_from` on stand those
+-- of its round, of cycle X. They and the trail have at least N units, and exactly so many where there are no helpers.
+-- Where the plan has no seek, they are the entries of cycle X behind the last one of all tasks at X. N is below what the
+-- budget law allows. (Own.)
 pub record IsSpent (kind : LineKind) (line : Line) (least most : ℕ) (plan : Plan) (cert : EfficCert)
     (closing_from : ℕ) : Type 0 where
   pub certified : IsCertified kind line least most cert
   pub below : cert.lower < cert.upper
   pub trail : Trail
   pub has : cert.trail ≡ Some trail
+  pub stations : ℕ
+  pub next : IsNextTry line cert.entries least most cert.upper stations trail.cycle
+  pub fewer : stations < tasks line
+  pub asks : IsTrail kind line trail.cycle cert.entries (all_tasks line) stations trail.frames
   pub opens : IsOpenOver line trail.cycle cert.entries trail.frames
   pub fresh : IsFreshAt trail.cycle cert.entries
   pub front : List Entry
@@ -85,20 +97,24 @@ pub record IsSpent (kind : LineKind) (line : Line) (least most : ℕ) (plan : Pl
   pub alone : plan.helpers ≡ 0 → published + listed ≡ plan.units
   pub budget : plan.units < (tasks line + 1) * states kind ^ tasks line
 
--- A try was due, and the book was too large for it: the bounds differ, and the entries, which are fresh, have more than
--- 4,000,000 units or more than 4,000,000 of them aren't by Bound; each such entry has a cycle from the longest time to
--- the greater of 1 and the total. So the line is large: of n tasks, (n + 1) x 4^n times the greater of 1 and the total
--- is more than 4,000,000. No round stopped, so all entries stand before `closing_from`.
+-- A next try was due, and the book was too large for it: the bounds differ. The entries, which are fresh, have more than
+-- 4,000,000 units, or more than 4,000,000 of them aren't by Bound, or there are more than 13,999,999 of them. Each that
+-- isn't by Bound has a cycle from the longest time to the greater of 1 and the total. So the line is large: of n tasks,
+-- (n + 1) x 4^n times the greater of 1 and the total is more than 4,000,000. No round stopped, so all entries stand
+-- before `closing_from`. (Own.)
 pub record IsLarge (kind : LineKind) (line : Line) (least most : ℕ) (cert : EfficCert)
     (closing_from : ℕ) : Type 0 where
   pub certified : IsCertified kind line least most cert
   pub below : cert.lower < cert.upper
   pub none : cert.trail ≡ None
+  pub stations : ℕ
+  pub cycle : ℕ
+  pub next : IsNextTry line cert.entries least most cert.upper stations cycle
   pub from : closing_from ≡ length cert.entries
   pub fresh : IsFresh cert.entries
   pub units : ℕ
   pub counted : UnitsOf line cert.entries units
-  pub large : (4000000 < units) ⊎ (4000000 < others cert.entries)
+  pub large : (4000000 < units) ⊎ (4000000 < others cert.entries) ⊎ (13999999 < length cert.entries)
   pub cycles : (k : ℕ) (e : Entry) → slice_get cert.entries k ≡ Some e → e.why ≢ why.Bound
       → (longest_of line (all_tasks line) ≤ e.cycle) × (e.cycle ≤ max (total_time line) 1)
   pub budget : 4000000 < (tasks line + 1) * 4 ^ tasks line * max (total_time line) 1
@@ -109,12 +125,17 @@ StoppedBy ended.Units kind line least most plan cert closing_from =
     IsSpent kind line least most plan cert closing_from
 StoppedBy ended.Size kind line least most plan cert closing_from = IsLarge kind line least most cert closing_from
 
--- Memory ended after the first balance: the bounds are true and differ, and the upper one is no greater than the
--- product of all tasks at the first of the fewest stations. (Own.)
+-- Memory ended after the first balance: the bounds are true and differ. The upper one is no greater than the product of
+-- all tasks at the first of the fewest stations. The lower one is the one that some entries show, of which each follows
+-- from those before it, and at least the one that the times alone show. (Own.)
 pub record IsCutShort (kind : LineKind) (line : Line) (least most lower upper : ℕ) : Type 0 where
   pub true_bounds : IsBetween kind line least most lower upper
   pub below : lower < upper
   pub first : upper ≤ least * first_upper line
+  pub entries : List Entry
+  pub derived : IsDerived kind line entries
+  pub lowest : IsLowest line entries least (most + 1) upper lower
+  pub from : IsAtLeastFirst line least most lower
 
 -- Units of a try that are enough for a line: of n tasks at least (n + 1) x 3^n, on a U-line (n + 1) x 4^n; and the line
 -- is so small that its book can't become too large: (n + 1) x 4^n times the greater of 1 and the total is at most

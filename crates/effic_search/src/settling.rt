@@ -18,8 +18,8 @@ use std::thread::Threads;
 /// of what a search writes stays well within its 20,000,000 steps.
 const MOST: u64 = 4_000_000;
 
-/// The most entries of a book with which a try is made: with more there isn't room for those of the try. A try adds at
-/// most 6,000,001 with its seek, and a certificate has at most 20,000,000.
+/// The most entries of a book with which a try is made, those by Bound too: with more there isn't room for those of the
+/// try. A try adds at most 6,000,001 with its seek, and a certificate has at most 20,000,000.
 const ROOM: u64 = 13_999_999;
 
 /// What the tries at one number of stations come to.
@@ -40,16 +40,20 @@ pub(crate) enum Settled {
     NoMemory(Lowering),
 }
 
-/// Whether a book is too large for a try.
-fn is_large(listed: Listed) -> bool
-    ensures large { result ≡ true → (4000000 < listed.units) ⊎ (4000000 < listed.entries) }
+/// Whether a book of so many entries is too large for a try.
+fn is_large(listed: Listed, count: u64) -> bool
+    ensures large { result ≡ true → (4000000 < listed.units) ⊎ (4000000 < listed.entries) ⊎ (13999999 < count) }
     ensures small { result ≡ false → listed.units ≤ 4000000 }
     ensures few { result ≡ false → listed.entries ≤ 4000000 }
+    ensures room { result ≡ false → count ≤ 13999999 }
 {
     if listed.units > MOST {
         return true;
     }
-    listed.entries > MOST
+    if listed.entries > MOST {
+        return true;
+    }
+    count > ROOM
 }
 
 /// Tries cycles at one number of stations, from the greatest whose product is below the best one.
@@ -79,11 +83,8 @@ pub(crate) fn settle<R: Threads + Wait + Sync, G: Gate>(
         if is_closed(inst, search.book.entries(), stations, cycle) {
             return Ok(Settled::Goes(search));
         }
-        if is_large(search.listed) {
+        if is_large(search.listed, search.book.len()) {
             return Ok(Settled::Large(search));
-        }
-        if search.book.len() > ROOM {
-            return Ok(Settled::NoMemory(search));
         }
         match try_cycle(rt, alloc, inst, wanted, stations, plan, gate, search, cycle)? {
             Tried::Refuted(closed) => return Ok(Settled::Goes(closed)),

@@ -25,6 +25,7 @@ use Rattle.cycle_search.specs.declared.asking.Asked.{Asked}
 use Rattle.cycle_search.specs.declared.seek.SoughtBook.{SoughtBook}
 use Rattle.effic_check.specs.Accepted.{IsClosed, cycle_below}
 use Rattle.effic_search.specs.Counted.{IsCounted, AreFew, IsWithin}
+use Rattle.effic_search.specs.NextTry.{IsNextTry}
 use Rattle.effic_search.specs.Since.{IsSinceGoal}
 use Rattle.effic_search.specs.declared.lowering.Lowering.{Lowering}
 use Rattle.effic_search.specs.declared.trying.Tried.{Tried}
@@ -47,6 +48,11 @@ IsFloored line es m = 1 < first_lower line m → HasAnswer es (all_tasks line) m
 -- each entry other than Bound has a cycle from the longest time to the greater of 1 and the total
 abbrev pub HaveCycles : Line → List Entry → Type 0
 HaveCycles line es = (k : ℕ) (e : Entry) → slice_get es k ≡ Some e → e.why ≢ why.Bound
+    → (longest_of line (all_tasks line) ≤ e.cycle) × (e.cycle ≤ max (total_time line) 1)
+
+-- each entry behind the first 1,024, which are those of a first book, has such a cycle
+abbrev pub HaveCyclesBehind : Line → List Entry → Type 0
+HaveCyclesBehind line es = (k : ℕ) (e : Entry) → slice_get es k ≡ Some e → 1024 ≤ k
     → (longest_of line (all_tasks line) ≤ e.cycle) × (e.cycle ≤ max (total_time line) 1)
 
 -- no lesser cycle from 1 on is enough for the balance: this one is the greater of 1 and its longest station
@@ -73,6 +79,7 @@ pub record IsLowering (kind : LineKind) (line : Line) (least most : ℕ) (h : Lo
   pub within : h.listed.units ≤ 10000000
   pub floored : (m : ℕ) → least ≤ m → m ≤ most → IsFloored line (entries_of h) m
   pub cycles : HaveCycles line (entries_of h)
+  pub behind : HaveCyclesBehind line (entries_of h)
 
 -- A search before a try in m stations: at each cycle of a smaller product no entry is behind the last one of all tasks,
 -- and the lesser numbers of stations are closed below the product.
@@ -101,13 +108,14 @@ pub record IsTry (kind : LineKind) (line : Line) (least most m X : ℕ) (plan : 
   pub room : length (entries_of h) ≤ 13999999
   pub seeks : AreSeeks plan h.seeks
 
--- a product is left open, and the entries are too many, or of too many units
+-- a try is due, and the entries are too many, or of too many units
 pub record IsDue (kind : LineKind) (line : Line) (least most : ℕ) (h : Lowering) : Type 0 where
   pub lowering : IsLowering kind line least most h
   pub m : ℕ
   pub X : ℕ
   pub left : IsLeftAt line least most m X h
-  pub large : (4000000 < h.listed.units) ⊎ (4000000 < h.listed.entries)
+  pub next : IsNextTry line (entries_of h) least most (product_of h) m X
+  pub large : (4000000 < h.listed.units) ⊎ (4000000 < h.listed.entries) ⊎ (13999999 < length (entries_of h))
 
 -- The units of a try in m stations at the cycle of the book ended: its frames are a trail from the question, open over
 -- the entries. First stand those before the try, few enough for it, then those of its seek, for which there was room.
@@ -118,6 +126,7 @@ pub record IsStuck (kind : LineKind) (line : Line) (least most : ℕ) (plan : Pl
   pub lowering : IsLowering kind line least most h
   pub m : ℕ
   pub left : IsLeftAt line least most m h.book.about.cycle h
+  pub next : IsNextTry line (entries_of h) least most (product_of h) m h.book.about.cycle
   pub few : m < tasks line
   pub trail : IsTrail kind line h.book.about.cycle (entries_of h) (all_tasks line) m frames
   pub opens : IsOpenOver line h.book.about.cycle (entries_of h) frames

@@ -15,5 +15,9 @@ returns-clause-answer c =
       below = c.requires.wanting.below;
       last = c.requires.wanting.first;
       true_bounds = c.requires.wanting.true_bounds;
+      entries = c.requires.wanting.entries;
+      derived = c.requires.wanting.derived;
+      lowest = c.requires.wanting.lowest;
+      from = c.requires.wanting.from;
       shown = ap (told ends.Memory) c.in_ok-text.ensures;
     })

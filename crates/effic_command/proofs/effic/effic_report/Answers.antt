@@ -1,8 +1,10 @@
-use Rattle.std.proofs.Common.{◌≡◌, IfOk, option_map, subst, sym, ap, inl, inr, List, ℕ, Option, Some, None}
+use Rattle.std.proofs.Common.{◌≡◌, IfOk, option_map, subst, sym, ap, inl, inr, arith, List, ℕ, Option, Some, None}
 use Rattle.command_outcome.specs.Outcome.{Files, Outside, Outcome, Comes, Ends, outcome_of, outside}
 use Rattle.command_outcome.specs.declared.report.Kept.TheVariants.{Product as Certified}
 use Rattle.command_outcome.specs.declared.report.Report.{Report}
 use Rattle.command_outcome.proofs.OutcomeFacts.{early, ends_as, handed_on}
+use Rattle.solution_page.specs.Page.{IsSolveStatus}
+use Rattle.solution_page.proofs.WrittenFacts.{may_end_as}
 use Rattle.input_files.specs.Instance.{IsNoPlainLine}
 use Rattle.line_rules.specs.declared.products.EfficCert.{EfficCert}
 use Rattle.effic_command.specs.EfficFound.{page_of, IsFound, IsEfficOutcome}
@@ -83,6 +85,18 @@ returns-clause-ends g c = λ t.
           found.3));
     }))
     (c.written.ensures.ends t files (c.in_ok-plain.ensures.files t) found.0 found.1))
+
+pub returns-clause-good : goal.returns-clause-good
+returns-clause-good g c =
+    let P : Report → Type 0 = λ r. IsSolveStatus r.status in
+    let Q : Report → Type 0 = λ r. r ≡ c.in_ok-report.report in
+    handed_on P Q c.in_ok-report.report c.written.result (λ same. c.in_ok-report.ensures.good)
+    c.written.ensures.same c.written.ensures.same
+
+pub returns-clause-fault : goal.returns-clause-fault
+returns-clause-fault g c =
+    may_end_as _ _ _ _ c.written.result (λ h. omega (arith, h, c.in_ok-plain.ensures.count))
+    (λ h. omega (arith, h, c.in_ok-plain.ensures.writes)) c.written.ensures.fault
 
 pub returns-clause-unwritten : goal.returns-clause-unwritten
 returns-clause-unwritten g c = λ e. (c.in-Some.name.now, ap (option_map (λ a. a.now)) c.in-Some.is)

@@ -14,6 +14,7 @@ returns-clause-certified c =
     let line = c.args.inst.now in
     let es = c.into_parts-entries.result.0 in
     let S : List Entry → Type 0 = λ z. AreStatable z in
+    let F : List Entry → Type 0 = λ z. IsFresh z in
     let P : ℕ → Type 0 =
     λ z. IsLowest line c.entries-entries.result.now w.least (w.most + 1) z c.lowest-lower.result in
     let Q : List Entry → Type 0 = λ z. IsLowest line z w.least (w.most + 1) (product_of h) c.lowest-lower.result in
@@ -21,7 +22,8 @@ returns-clause-certified c =
     c.requires.few c.requires.lowering
     (derived_of w.kind line w.least w.most h es c.requires.lowering c.into_parts-entries.ensures.entries
     c.into_parts-entries.ensures.derived)
-    (subst S c.into_parts-entries.ensures.entries c.into_parts-entries.ensures.statable) c.lowest-lower.result
+    (subst S c.into_parts-entries.ensures.entries c.into_parts-entries.ensures.statable)
+    (subst F c.into_parts-entries.ensures.entries c.into_parts-entries.ensures.fresh) c.lowest-lower.result
     (subst Q c.entries-entries.ensures.entries (subst P c.product-upper.ensures c.lowest-lower.ensures)) c.args.trail
     c.requires.trail c.requires.units c.tasks-tasks.result c.product-upper.result es c.tasks-tasks.ensures.tasks
     c.product-upper.ensures c.into_parts-entries.ensures.entries

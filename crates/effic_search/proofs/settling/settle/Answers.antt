@@ -2,7 +2,7 @@ use Rattle.std.proofs.Common.{ℕ, ◌≤◌, List, subst, arith}
 use Rattle.line_rules.specs.Balance.{all_tasks}
 use Rattle.line_rules.specs.Entries.{HasAnswer}
 use Rattle.line_rules.specs.declared.types.Entry.{Entry}
-use Rattle.effic_search.proofs.TryFacts.{closed_going, left_at}
+use Rattle.effic_search.proofs.TryFacts.{closed_going, left_at, large_book}
 use Rattle.effic_search.proofs.settling.settle.Goals as goal
 
 pub returns-then-is_closed : goal.returns-then-is_closed
@@ -32,7 +32,15 @@ returns-then-is_large g c =
         m = c.args.stations;
         X = c.cycle_below-cycle.result;
         left = left;
-        large = c.is_large.ensures.large c.if-is_large.true;
+        next = record {
+          from = left.from;
+          to = left.to;
+          closed = c.tries.invariant.0.closed;
+          some = left.some;
+          is = c.cycle_below-cycle.ensures;
+          left = left.left;
+        };
+        large = large_book c.tries.search _ c.len.ensures.len (c.is_large.ensures.large c.if-is_large.true);
       },
       c.tries.invariant.1,
     )
@@ -51,6 +59,6 @@ try_cycle-requires-clause-due g c κs within =
           (c.is_closed.ensures.left c.if-is_closed.false));
       small = c.is_large.ensures.small c.if-is_large.false;
       short = c.is_large.ensures.few c.if-is_large.false;
-      room = omega (arith, c.if-len-gt-ROOM.false, c.len.ensures.len);
+      room = omega (arith, c.is_large.ensures.room c.if-is_large.false, c.len.ensures.len);
       seeks = c.tries.invariant.1;
     }
