@@ -15,6 +15,11 @@ pub enum Kept {
     Nothing,
     /// The certificate of a line.
     Line(Certificate),
+    /// The certificate of a line that was read again from its text, and the units that the check counted in it.
+    Checked {
+        certificate: Certificate,
+        units: u64,
+    },
     /// The certificate of a least product of stations and cycle.
     Product(EfficCert),
     /// The certificate of a sequence of least utility work.

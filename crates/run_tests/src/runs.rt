@@ -176,6 +176,9 @@ pub fn other_entries(alloc: Global, rows: &str, shelf: &MemShelf) -> Result<Stri
 fn kept_text(alloc: Global, kept: &Kept) -> Result<Vec<u8>, AllocError> {
     match kept {
         Kept::Line(certificate) if is_in_range(certificate) => write_cert(alloc, certificate),
+        Kept::Checked { certificate, .. } if is_in_range(certificate) => {
+            write_cert(alloc, certificate)
+        }
         _ => Ok(Vec::new(alloc)),
     }
 }

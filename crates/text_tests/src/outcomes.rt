@@ -43,6 +43,7 @@ fn tasks_kept(alloc: Global, fails: &[u64]) -> Result<Option<u32>, AllocError> {
     Ok(match kept {
         Kept::Nothing => None,
         Kept::Line(certificate) => Some(certificate.tasks),
+        Kept::Checked { certificate, .. } => Some(certificate.tasks),
         Kept::Product(certificate) => Some(certificate.tasks),
         Kept::Sequence(certificate) => Some(certificate.models),
     })

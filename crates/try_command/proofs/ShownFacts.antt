@@ -7,6 +7,7 @@ use Rattle.line_rules.specs.declared.types.Certificate.{Certificate}
 use Rattle.line_rules.specs.Ranked.{IsRankedBalance}
 use Rattle.round_run.specs.Certified.{IsOptimum, IsStop}
 use Rattle.command_outcome.specs.declared.report.Report.{Report}
+use Rattle.command_outcome.specs.declared.report.Kept.{Kept}
 use Rattle.command_outcome.specs.declared.status.Status.TheVariants as ends
 use Rattle.try_command.specs.TryText.{bounds_line}
 use Rattle.try_command.specs.Tried.{alone, IsAcceptable, IsReadAndVerified, IsTold, IsShown}
@@ -35,11 +36,11 @@ acceptable_stop kind line c N lower b cert s = record {
 }
 
 -- the bounds that were found and printed are those of the certificate
-found_as : (line : Line) (cert : Certificate) (l u m v : ℕ) → l ≡ m → u ≡ v → IsReadAndVerified line cert l u
-    → IsReadAndVerified line cert m v
-found_as line cert l u m v e f r =
-    let P : ℕ → Type 0 = λ x. IsReadAndVerified line cert x u in
-    let Q : ℕ → Type 0 = λ y. IsReadAndVerified line cert m y in
+found_as : (line : Line) (cert : Certificate) (kept : Kept) (l u m v : ℕ) → l ≡ m → u ≡ v
+    → IsReadAndVerified line cert l u kept → IsReadAndVerified line cert m v kept
+found_as line cert kept l u m v e f r =
+    let P : ℕ → Type 0 = λ x. IsReadAndVerified line cert x u kept in
+    let Q : ℕ → Type 0 = λ y. IsReadAndVerified line cert m y kept in
     subst Q f (subst P e r)
 
 line_as : (seed n code l u m v : ℕ) → l ≡ m → u ≡ v → bounds_line seed n code l u ≡ bounds_line seed n code m v
@@ -51,17 +52,14 @@ pub shown_optimum : (kind : LineKind) (line : Line) (seed c N : ℕ) (b : Assign
 shown_optimum kind line seed c N b cert r o t =
     let same = bounds_once line cert t.lower t.upper t.units b.stations b.stations o.units t.accepted
     o.certified.accepted in
-    record {
+    inl (record {
       certificate = cert;
-      keeps = t.keeps;
-      shows = inl (record {
-        balance = b;
-        proved = o;
-        done = t.ends;
-        accepted = found_as line cert t.lower t.upper b.stations b.stations same.0 same.1 t.found;
-        printed = t.printed ∙ line_as seed (tasks line) 0 t.lower t.upper b.stations b.stations same.0 same.1;
-      });
-    }
+      balance = b;
+      proved = o;
+      done = t.ends;
+      accepted = found_as line cert r.kept t.lower t.upper b.stations b.stations same.0 same.1 t.found;
+      printed = t.printed ∙ line_as seed (tasks line) 0 t.lower t.upper b.stations b.stations same.0 same.1;
+    })
 
 pub shown_stop : (kind : LineKind) (line : Line) (seed c N lower : ℕ) (b : Assignment) (cert : Certificate) (r : Report)
     → IsStop kind line c (alone N) lower b cert
@@ -69,24 +67,21 @@ pub shown_stop : (kind : LineKind) (line : Line) (seed c N lower : ℕ) (b : Ass
     → IsTold line seed ends.Stopped cert r → IsShown kind line seed (tasks line) c N r.status r.text.items r.kept
 shown_stop kind line seed c N lower b cert r s ranked t =
     let same = bounds_once line cert t.lower t.upper t.units lower b.stations s.units t.accepted s.certified.accepted in
-    record {
+    inr (inl (record {
       certificate = cert;
-      keeps = t.keeps;
-      shows = inr (inl (record {
-        lower = lower;
-        balance = b;
-        proved = s;
-        ranked = ranked;
-        stopped = t.ends;
-        accepted = found_as line cert t.lower t.upper lower b.stations same.0 same.1 t.found;
-        printed = t.printed ∙ line_as seed (tasks line) 1 t.lower t.upper lower b.stations same.0 same.1;
-      }));
-    }
+      lower = lower;
+      balance = b;
+      proved = s;
+      ranked = ranked;
+      stopped = t.ends;
+      accepted = found_as line cert r.kept t.lower t.upper lower b.stations same.0 same.1 t.found;
+      printed = t.printed ∙ line_as seed (tasks line) 1 t.lower t.upper lower b.stations same.0 same.1;
+    }))
 
 -- what is told is done, or its units ended
 pub status_shown : (kind : LineKind) (line : Line) (seed n c N : ℕ) (r : Report)
     → IsShown kind line seed n c N r.status r.text.items r.kept → (r.status ≡ ends.Done) ⊎ (r.status ≡ ends.Stopped)
-status_shown kind line seed n c N r s = elim s.shows [
+status_shown kind line seed n c N r s = elim s [
   | inl o ↦ inl o.done
   | inr (inl p) ↦ inr p.stopped
   | inr (inr q) ↦ inl q.done

@@ -20,7 +20,7 @@ use Rattle.round_run.specs.declared.plans.Plan.{Plan}
 use Rattle.command_outcome.specs.Codes.{code_of}
 use Rattle.command_outcome.specs.declared.report.Report.{Report}
 use Rattle.command_outcome.specs.declared.report.Kept.{Kept}
-use Rattle.command_outcome.specs.declared.report.Kept.TheVariants.{Line as Certified}
+use Rattle.command_outcome.specs.declared.report.Kept.TheVariants.{Line as Certified, Checked}
 use Rattle.command_outcome.specs.declared.status.Status.{Status}
 use Rattle.command_outcome.specs.declared.status.Status.TheVariants as ends
 use Rattle.line_generator.specs.Drawn.{IsGenerated}
@@ -30,36 +30,42 @@ use Rattle.try_command.specs.TryText.{bounds_line, none_line}
 abbrev pub alone : ℕ → Plan
 alone N = record { helpers = 0; units = N; pairs = true; seek = 0 }
 
--- The certificate is what its text reads as, and the check with its default steps accepts it with these bounds.
-pub record IsReadAndVerified (line : Line) (certificate : Certificate) (lower upper : ℕ) : Type 0 where
+-- The certificate is what its text reads as, and the check with its default steps accepts it with these bounds. It is
+-- kept, beside the units that the check counted: a run that doesn't check has no such count.
+pub record IsReadAndVerified (line : Line) (certificate : Certificate) (lower upper : ℕ) (kept : Kept) : Type 0 where
   pub units : ℕ
   pub reads : IsCertRead (cert_text certificate) (Good certificate)
   pub verified : IsVerdict line certificate max_units (Accepted lower upper units)
+  pub keeps : kept ≡ Checked certificate units
 
 -- The optimum was found with N units: the balance has the least number of stations, and the certificate proves it.
-pub record IsOptimumTried (kind : LineKind) (line : Line) (seed n c N : ℕ) (certificate : Certificate) (status : Status)
-    (text : List ℕ) : Type 0 where
+pub record IsOptimumTried (kind : LineKind) (line : Line) (seed n c N : ℕ) (status : Status) (text : List ℕ)
+    (kept : Kept) : Type 0 where
+  pub certificate : Certificate
   pub balance : Assignment
   pub proved : IsOptimum kind line c (alone N) balance certificate
   pub done : status ≡ ends.Done
-  pub accepted : IsReadAndVerified line certificate balance.stations balance.stations
+  pub accepted : IsReadAndVerified line certificate balance.stations balance.stations kept
   pub printed : text ≡ bounds_line seed n 0 balance.stations balance.stations
 
 -- The N units were used: the certificate has the bounds and the best balance, and lists the units; the balance has no
 -- more stations than the ranked one.
-pub record IsStopTried (kind : LineKind) (line : Line) (seed n c N : ℕ) (certificate : Certificate) (status : Status)
-    (text : List ℕ) : Type 0 where
+pub record IsStopTried (kind : LineKind) (line : Line) (seed n c N : ℕ) (status : Status) (text : List ℕ)
+    (kept : Kept) : Type 0 where
+  pub certificate : Certificate
   pub lower : ℕ
   pub balance : Assignment
   pub proved : IsStop kind line c (alone N) lower balance certificate
   pub ranked : (b : Assignment) → IsRankedBalance kind line c b → balance.stations ≤ b.stations
   pub stopped : status ≡ ends.Stopped
-  pub accepted : IsReadAndVerified line certificate lower balance.stations
+  pub accepted : IsReadAndVerified line certificate lower balance.stations kept
   pub printed : text ≡ bounds_line seed n 1 lower balance.stations
 
 -- A task is longer than the cycle: the certificate names the least such task.
-pub record IsNoneTried (kind : LineKind) (line : Line) (seed n c : ℕ) (certificate : Certificate) (status : Status)
-    (text : List ℕ) : Type 0 where
+pub record IsNoneTried (kind : LineKind) (line : Line) (seed n c : ℕ) (status : Status) (text : List ℕ)
+    (kept : Kept) : Type 0 where
+  pub certificate : Certificate
+  pub keeps : kept ≡ Certified certificate
   pub task : ℕ
   pub least : IsLeastWhere (IsTooLong line c) task
   pub proved : IsNoBalance kind line c task certificate
@@ -67,13 +73,10 @@ pub record IsNoneTried (kind : LineKind) (line : Line) (seed n c : ℕ) (certifi
   pub printed : text ≡ none_line seed n
 
 -- what is told of a line, with a certificate, which is kept
-pub record IsShown (kind : LineKind) (line : Line) (seed n c N : ℕ) (status : Status) (text : List ℕ)
-    (kept : Kept) : Type 0 where
-  pub certificate : Certificate
-  pub keeps : kept ≡ Certified certificate
-  pub shows : IsOptimumTried kind line seed n c N certificate status text
-      ⊎ IsStopTried kind line seed n c N certificate status text
-      ⊎ IsNoneTried kind line seed n c certificate status text
+abbrev pub IsShown : LineKind → Line → ℕ → ℕ → ℕ → ℕ → Status → List ℕ → Kept → Type 0
+IsShown kind line seed n c N status text kept =
+    IsOptimumTried kind line seed n c N status text kept ⊎ IsStopTried kind line seed n c N status text kept
+    ⊎ IsNoneTried kind line seed n c status text kept
 
 -- what is told of the line of a seed
 pub record IsTried (seed n c : ℕ) (kind : LineKind) (N : ℕ) (status : Status) (text : List ℕ)
@@ -97,7 +100,6 @@ pub record IsTold (line : Line) (seed : ℕ) (status : Status) (certificate : Ce
   pub upper : ℕ
   pub units : ℕ
   pub accepted : IsAccepted line certificate lower upper units
-  pub found : IsReadAndVerified line certificate lower upper
-  pub keeps : r.kept ≡ Certified certificate
+  pub found : IsReadAndVerified line certificate lower upper r.kept
   pub ends : r.status ≡ status
   pub printed : r.text.items ≡ bounds_line seed (tasks line) (code_of status) lower upper

@@ -69,7 +69,8 @@ fn verdict_of<R: Threads + Sync>(
     }
 }
 
-/// The report of a certificate of bounds, once its text was read again and verified.
+/// The report of a certificate of bounds, once its text was read again and verified. The units that the check counted
+/// are kept beside it.
 fn told<R: Threads + Sync>(
     rt: &R,
     alloc: Global,
@@ -83,15 +84,21 @@ fn told<R: Threads + Sync>(
 {
     let tasks = inst.tasks();
     let cert = read_back(alloc, &cert)?;
-    let Verified::Accepted { lower, upper, .. } = verdict_of(rt, alloc, inst, &cert) else {
+    let verified = verdict_of(rt, alloc, inst, &cert);
+    let Verified::Accepted {
+        lower,
+        upper,
+        units,
+    } = verified
+    else {
         unreachable!()
     };
     let text = bounds_text(alloc, seed, tasks, status.code(), lower, upper)?;
-    Ok(Report {
-        status,
-        text,
-        kept: Kept::Line(cert),
-    })
+    let kept = Kept::Checked {
+        certificate: cert,
+        units,
+    };
+    Ok(Report { status, text, kept })
 }
 
 /// The certificate of a run that was solved, which the check accepts.
