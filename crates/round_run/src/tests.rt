@@ -275,3 +275,20 @@ fn has_a_helper_answer_a_round(rt: HostRuntime) -> Result<(), Fail> {
     assert!(&rt; text.as_str().starts_with("Cut(1) refuted from 0 used 48 "));
     Ok(())
 }
+
+#[test]
+fn helpers_answer_a_round_in_any_order(rt: HostRuntime) -> Result<(), Fail> {
+    let alloc = rt.alloc();
+    let inst = seven(alloc)?;
+    for helpers in 1..9 {
+        for _ in 0..25 {
+            let purse = purse_of(alloc, 48, helpers, 300)?;
+            let text = round_text(&rt, alloc, &inst, 4, purse)?;
+            assert!(&rt;
+                text.as_str().starts_with("Whole refuted from ")
+                    & text.as_str().contains(" used 0 7|")
+            );
+        }
+    }
+    Ok(())
+}

@@ -14,7 +14,7 @@ use Rattle.sequence_search.specs.Work.{most_units}
 use Rattle.sequence_cert.specs.SequenceText.{sequence_text}
 use Rattle.command_outcome.specs.Outcome.{Files, Outside, Page, Outcome, told}
 use Rattle.command_outcome.specs.declared.report.Kept.{Kept}
-use Rattle.command_outcome.specs.declared.report.Kept.TheVariants.{Nothing, Line, Product, Sequence}
+use Rattle.command_outcome.specs.declared.report.Kept.TheVariants.{Nothing, Line, Checked, Product, Sequence}
 use Rattle.command_outcome.specs.declared.status.Status.{Status}
 use Rattle.command_outcome.specs.declared.status.Status.TheVariants as ends
 use Rattle.sequence_command.specs.Beginning.{IsBegun}
@@ -84,6 +84,7 @@ abbrev pub page_of : Option (List ℕ) → Kept → Option Page
 page_of None kept = None
 page_of (Some name) Nothing = None
 page_of (Some name) (Line cert) = None
+page_of (Some name) (Checked cert units) = None
 page_of (Some name) (Product cert) = None
 page_of (Some name) (Sequence cert) = Some (record { name = name; bytes = sequence_text cert })
 

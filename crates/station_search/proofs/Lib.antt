@@ -1,6 +1,7 @@
 pub mod Sources
 pub mod Orders
 pub mod Events
+pub mod WaitFacts
 pub mod PaidSteps
 pub mod States
 pub mod WalkStates

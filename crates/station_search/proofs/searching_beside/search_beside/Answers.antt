@@ -696,3 +696,19 @@ search-smaller-then-takes_up g c = omega (
   ap all_left c.in_ok-push_frame-in-Open.ensures.walks,
   all_push c.search.walks.items c.search.walk,
 )
+
+pub returns-in_err-again-in-None-clause-keeps : goal.returns-in_err-again-in-None-clause-keeps
+returns-in_err-again-in-None-clause-keeps g c = keeps_both (g.D.Desk.desk c.args.desk.now) (g.D.Desk.desk c.search.desk)
+    (g.D.Desk.desk c.settle.new.desk) c.search.invariant.keeps c.settle.ensures.keeps
+
+pub returns-in-None-pop_from-clause-keeps : goal.returns-in-None-pop_from-clause-keeps
+returns-in-None-pop_from-clause-keeps g c = keeps_both (g.D.Desk.desk c.args.desk.now) (g.D.Desk.desk c.search.desk)
+    (g.D.Desk.desk c.settle.new.desk) c.search.invariant.keeps c.settle.ensures.keeps
+
+pub returns-in_err-push-in-Some-pop_from-clause-keeps : goal.returns-in_err-push-in-Some-pop_from-clause-keeps
+returns-in_err-push-in-Some-pop_from-clause-keeps g c = keeps_both (g.D.Desk.desk c.args.desk.now) (g.D.Desk.desk
+    c.search.desk) (g.D.Desk.desk c.settle.new.desk) c.search.invariant.keeps c.settle.ensures.keeps
+
+pub returns-in_err-sort_load-in-Some-clause-keeps : goal.returns-in_err-sort_load-in-Some-clause-keeps
+returns-in_err-sort_load-in-Some-clause-keeps g c = keeps_both (g.D.Desk.desk c.args.desk.now) (g.D.Desk.desk
+    c.search.desk) (g.D.Desk.desk c.sort_load.new.desk) c.search.invariant.keeps c.sort_load.ensures.keeps

@@ -183,3 +183,11 @@ returns-in-Refuted-clause-publishes g c = λ asked.
     (c.in_ok-paired.ensures.publishes asked (rest c.args.frame.now.set c.args.load.now)
     (subst P (c.minus-rest.ensures.value ∙ ap (λ (z : List Bool). minus c.args.frame.now.set z) c.union.ensures.value)
     c.in-Refuted.ensures.within))
+
+pub returns-in_err-paired-clause-keeps : goal.returns-in_err-paired-clause-keeps
+returns-in_err-paired-clause-keeps g c = keeps_both (g.D.Desk.desk c.args.desk.now) (g.D.Desk.desk c.find.new.desk)
+    (g.D.Desk.desk c.publish_pairs.new.desk) c.find.ensures.waits.keeps c.publish_pairs.ensures.keeps
+
+pub returns-in-Refuted-clause-keeps : goal.returns-in-Refuted-clause-keeps
+returns-in-Refuted-clause-keeps g c = keeps_both (g.D.Desk.desk c.args.desk.now) (g.D.Desk.desk c.find.new.desk)
+    (g.D.Desk.desk c.publish_pairs.new.desk) c.find.ensures.waits.keeps c.publish_pairs.ensures.keeps

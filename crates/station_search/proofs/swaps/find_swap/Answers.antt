@@ -1,5 +1,6 @@
 use Rattle.line_rules.proofs.SumsOverMembers.{all_in_start}
 use Rattle.station_search.proofs.Events.{waits_none}
+use Rattle.station_search.proofs.WaitFacts.{waits_both}
 use Rattle.station_search.proofs.swaps.find_swap.Goals as goal
 
 pub loop-task-init : goal.loop-task-init
@@ -10,3 +11,7 @@ loop-task-init g c = record {
       all_in_start _ _ c.into_iter-task-iterator.ensures.into_iter_gives;
   waits = waits_none (g.D.Desk.desk c.args.desk.now);
 }
+
+pub returns-in-Some-swap_out-clause-waits : goal.returns-in-Some-swap_out-clause-waits
+returns-in-Some-swap_out-clause-waits g c = waits_both (g.D.Desk.desk c.args.desk.now) (g.D.Desk.desk c.loop-task.desk)
+    (g.D.Desk.desk c.swap_out.new.desk) c.loop-task.invariant.waits c.swap_out.ensures.waits

@@ -1,5 +1,6 @@
 use Rattle.std.proofs.Common.{refl}
 use Rattle.lemma_core.specs.History.{known}
+use Rattle.lemma_core.proofs.HistoryGrows.{keeps_both}
 use Rattle.station_search.specs.inner.Work.{swap_of}
 use Rattle.station_search.proofs.Events.{known_answers, added_answers}
 use Rattle.station_search.proofs.PaidSteps.{one_none, one_added, known_free}
@@ -40,3 +41,11 @@ returns-in-Added-clause-answered g c = added_answers (g.D.Desk.desk c.find_swap.
     (g.D.Desk.desk c.publish.new.self) c.in-Added.ensures.publishes.0
     (swap_of c.args.cycle c.args.set.now c.args.most c.in-Some.swap.cite c.in-Some.swap.out_task c.in-Some.swap.in_task)
     c.in-Added.id c.in-Added.ensures.publishes.1 c.in-Added.ensures.publishes.3
+
+pub returns-in-Known-clause-keeps : goal.returns-in-Known-clause-keeps
+returns-in-Known-clause-keeps g c = keeps_both (g.D.Desk.desk c.args.desk.now) (g.D.Desk.desk c.find_swap.new.desk)
+    (g.D.Desk.desk c.publish.new.self) c.find_swap.ensures.waits.keeps c.in-Known.ensures.publishes.1.keeps
+
+pub returns-in-Added-clause-keeps : goal.returns-in-Added-clause-keeps
+returns-in-Added-clause-keeps g c = keeps_both (g.D.Desk.desk c.args.desk.now) (g.D.Desk.desk c.find_swap.new.desk)
+    (g.D.Desk.desk c.publish.new.self) c.find_swap.ensures.waits.keeps c.in-Added.ensures.publishes.1.keeps

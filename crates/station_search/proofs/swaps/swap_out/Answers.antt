@@ -4,6 +4,7 @@ use Rattle.lemma_core.specs.Desks.{entries, Keeps}
 use Rattle.lemma_core.proofs.HistoryGrows.{keeps_both}
 use Rattle.station_search.proofs.Events.{for_still}
 use Rattle.station_search.proofs.Standins.{kept_partner, stands_in}
+use Rattle.station_search.proofs.WaitFacts.{waits_both}
 use Rattle.station_search.proofs.swaps.swap_out.Goals as goal
 
 pub returns-in-Some-find-clause-found : goal.returns-in-Some-find-clause-found
@@ -18,3 +19,11 @@ returns-in-Some-find-clause-found g c =
     (c.with-swapped.ensures.value ∙ ap (λ (z : List Bool). slice_set z c.in-Some.in_task true) c.without.ensures.value)
     (for_still (g.D.Desk.desk c.args.desk.now) (g.D.Desk.desk c.find.new.desk) c.args.inst.now c.args.kind c.args.cycle
     c.requires.desk k).same_cycle c.in-Some-find.ensures.finds
+
+pub returns-in-Some-find-clause-waits : goal.returns-in-Some-find-clause-waits
+returns-in-Some-find-clause-waits g c = waits_both (g.D.Desk.desk c.args.desk.now) (g.D.Desk.desk c.loop-k.desk)
+    (g.D.Desk.desk c.find.new.desk) c.loop-k.invariant c.find.ensures.waits
+
+pub loop-k-preserved : goal.loop-k-preserved
+loop-k-preserved g c = waits_both (g.D.Desk.desk c.args.desk.now) (g.D.Desk.desk c.loop-k.desk)
+    (g.D.Desk.desk c.find.new.desk) c.loop-k.invariant c.find.ensures.waits
