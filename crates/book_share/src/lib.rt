@@ -15,6 +15,8 @@ mod memo;
 mod pass;
 mod rule;
 mod share;
+#[cfg(test)]
+mod tests;
 mod turns;
 mod view;
 

@@ -1,0 +1,11 @@
+use Rattle.std.proofs.Common.{sym, subst}
+use Rattle.line_rules.specs.Entries.{Follows}
+use Rattle.lemma_core.specs.Machine.{About}
+use Rattle.lemma_core.specs.Desks.{entries}
+use Rattle.book_share.specs.Passes.{desk_by}
+use Rattle.book_share.proofs.tests.try_publish.Goals as goal
+
+pub try_publish-requires-clause-follows : goal.try_publish-requires-clause-follows
+try_publish-requires-clause-follows c =
+    let es = entries (desk_by c.args.pass.now.view) in
+    subst (λ (a : About). Follows a.kind a.line es c.in_none.result) (sym c.requires.about) (c.in_none.ensures.follows es)
