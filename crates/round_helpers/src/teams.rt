@@ -2,12 +2,12 @@
 //!
 //! The first pass is split, once for each helper. Then the helpers work in threads, one each, and afterwards their
 //! passes are joined into the first one again, so that it has seen what any of them has and has all their places.
-ghost use Rattle.std.specs.Prelude.{◌≡◌, ℕ, ◌+◌, ◌-◌, ◌^◌, ◌<◌, ◌≤◌, List, [], true, Some, slice_get, length, vec_len, vec_capacity};
+ghost use Rattle.std.specs.Prelude.{◌≡◌, ℕ, ◌+◌, ◌-◌, ◌^◌, ◌<◌, ◌≤◌, List, [], true, false, Some, slice_get, length, vec_len, vec_capacity};
 ghost use Rattle.line_instance.specs.Line.{Line};
 ghost use Rattle.book_share.specs.Calls.{IsPassOf};
 ghost use Rattle.round_helpers.specs.inner.Seats.{IsBare, AreReady, HasWorked, HaveAllWorked, HasJoined};
 ghost use Rattle.round_helpers.specs.inner.Teams.{MayWork, MayAllWork, ArePassesOf, AreJoinable, AreSettled, settled};
-ghost use Rattle.round_helpers.specs.inner.Teams.{IsTold};
+ghost use Rattle.round_helpers.specs.inner.Teams.{IsTold, NoneEnded};
 ghost use Rattle.round_helpers.specs.declared.question_work.End.TheVariants as ends;
 ghost use Rattle.round_helpers.specs.declared.teams.Helper.{Helper as Helping};
 
@@ -219,18 +219,21 @@ pub fn settle(helpers: &[Helper], units: &mut [Units])
 
 // Whether a helper knows that the question is answered.
 fn is_answered(helpers: &[Helper]) -> bool
-    ensures some { result ≡ true → (k : ℕ) × (h : Helping) × (slice_get helpers.now k ≡ Some h) × (h.end ≡ ends.Answered) }
+    ensures some { result ≡ true
+        → (k : ℕ) × (h : Helping) × (slice_get helpers.now k ≡ Some h) × (h.end ≡ ends.Answered) }
+    ensures none { result ≡ false → NoneEnded ends.Answered (length helpers.now) helpers.now }
 {
-    for helper in helpers {
-        if helper.end == End::Answered {
-            return true;
+    for k in 0..helpers.len() {
+        match helpers[k].end {
+            End::Answered => return true,
+            End::Told | End::Spent | End::NoMemory => {}
         }
     }
     false
 }
 
-/// What helpers did, by how their work ended: one knows that the question is answered; else the first one whose units
-/// ended tells it; else memory was wanting.
+/// What helpers did, by how their work ended: one knows that the question is answered; or else the first one whose
+/// units ended tells it; or else memory was wanting.
 pub fn tell(helpers: &[Helper]) -> Helped
     requires { length helpers.now ≤ 64 }
     ensures { IsTold helpers.now result }
@@ -239,8 +242,9 @@ pub fn tell(helpers: &[Helper]) -> Helped
         return Helped::Whole;
     }
     for k in 0..helpers.len() {
-        if helpers[k].end == End::Spent {
-            return Helped::Cut(k as u32 + 1);
+        match helpers[k].end {
+            End::Spent => return Helped::Cut(k as u32 + 1),
+            End::Answered | End::Told | End::NoMemory => {}
         }
     }
     Helped::NoMemory

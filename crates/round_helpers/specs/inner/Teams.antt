@@ -1,5 +1,5 @@
 -- What the parts of a team's work need and tell. Own.
-use Rattle.std.specs.Prelude.{◌≡◌, ℕ, suc, ◌+◌, ◌^◌, ◌<◌, ◌≤◌, List, [], ◌∷◌, slice_get, Some}
+use Rattle.std.specs.Prelude.{◌≡◌, ℕ, suc, ◌+◌, ◌^◌, ◌<◌, ◌≤◌, List, [], ◌∷◌, length, slice_get, Some}
 use Rattle.atomic_table.specs.Seated.{TableId}
 use Rattle.line_instance.specs.Line.{Line}
 use Rattle.line_rules.specs.Ranges.{IsCycle}
@@ -15,6 +15,7 @@ use Rattle.round_helpers.specs.inner.Seats.{IsBare, HasAdded}
 use Rattle.round_helpers.specs.declared.helping.Helped.{Helped}
 use Rattle.round_helpers.specs.declared.helping.Helped.TheVariants as helped
 use Rattle.round_helpers.specs.declared.job_list.Job.{Job}
+use Rattle.round_helpers.specs.declared.question_work.End.{End}
 use Rattle.round_helpers.specs.declared.question_work.End.TheVariants as ends
 use Rattle.round_helpers.specs.declared.question_work.Question.{Question}
 use Rattle.round_helpers.specs.declared.teams.Helper.{Helper}
@@ -67,10 +68,16 @@ abbrev pub AreSettled : List Units → List Helper → Type 0
 AreSettled us hs = (k : ℕ) (u : Units) (h : Helper) → slice_get us k ≡ Some u → slice_get hs k ≡ Some h
     → u.used + h.units.used < 2 ^ 64
 
--- What the ends of helpers tell: one knows that the question is answered; the helper of this number, from 1, has no
--- unit left; or memory ended.
+-- none of the first so many helpers ended so
+abbrev pub NoneEnded : End → ℕ → List Helper → Type 0
+NoneEnded end n hs = (k : ℕ) (h : Helper) → k < n → slice_get hs k ≡ Some h → h.end ≡ end → ⊥
+
+-- What the ends of helpers tell: one knows that the question is answered; or else the first one that has no unit left,
+-- counted from 1; or else memory ended.
 abbrev pub IsTold : List Helper → Helped → Type 0
 IsTold hs helped.Unneeded = ⊥
 IsTold hs helped.Whole = (k : ℕ) × (h : Helper) × (slice_get hs k ≡ Some h) × (h.end ≡ ends.Answered)
-IsTold hs (helped.Cut n) = (k : ℕ) × (h : Helper) × (n ≡ suc k) × (slice_get hs k ≡ Some h) × (h.end ≡ ends.Spent)
-IsTold hs helped.NoMemory = Unit {0}
+IsTold hs (helped.Cut n) =
+    (k : ℕ) × (h : Helper) × (n ≡ suc k) × (slice_get hs k ≡ Some h) × (h.end ≡ ends.Spent)
+    × NoneEnded ends.Spent k hs × NoneEnded ends.Answered (length hs) hs
+IsTold hs helped.NoMemory = NoneEnded ends.Spent (length hs) hs × NoneEnded ends.Answered (length hs) hs
