@@ -8,7 +8,7 @@ ghost use Rattle.lemma_core.specs.Books.{IsReserved, MayBeBest};
 ghost use Rattle.round_helpers.specs.Helping.{IsTeam};
 
 use crate::plans::fill;
-use crate::{AlwaysOpen, Outcome, Plan, Purse, Verdict, decide_round, solve};
+use crate::{AlwaysOpen, Outcome, Plan, Purse, Verdict, decide_round, jobs, solve};
 use lemma_core::Book;
 use line_instance::{Instance, Made, Prec, make};
 use line_rules::{
@@ -290,5 +290,22 @@ fn helpers_answer_a_round_in_any_order(rt: HostRuntime) -> Result<(), Fail> {
             );
         }
     }
+    Ok(())
+}
+
+#[test]
+fn lists_two_jobs_of_seven_tasks(rt: HostRuntime) -> Result<(), Fail> {
+    let alloc = rt.alloc();
+    let inst = seven(alloc)?;
+    let mut text = String::new(alloc);
+    for job in &jobs(alloc, &inst, LineKind::Straight, CYCLE, 4)? {
+        let (set, front) = (job.set, job.load.front);
+        let one = format!(in alloc; "{front} {set}|")?;
+        text.push_str(one.as_str())?;
+    }
+    assert_eq!(&rt;
+        text.as_str(),
+        "{1} {0, 2, 3, 4, 5, 6}|{0} {1, 2, 3, 4, 5, 6}|"
+    );
     Ok(())
 }
