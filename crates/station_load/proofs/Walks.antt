@@ -1,11 +1,12 @@
 -- A walk and the load that it gave last.
 use Rattle.std.proofs.Common.{◌≡◌, ℕ, ◌+◌, ◌*◌, Bool, true, false, cond, List, refl, sym, ap, ◌∙◌, subst, Option, Some}
 use Rattle.std.proofs.Common.{None, IfSome, arith}
-use Rattle.std.proofs.lemmas.Option.{cond_some}
+use Rattle.std.proofs.lemmas.Bool.{false≢true, true≢false}
+use Rattle.std.proofs.lemmas.Option.{cond_some, same_Some}
 use Rattle.line_instance.specs.Line.{Line, IsLine, IsRanked, IsTaskSet, tasks, has}
 use Rattle.line_instance.specs.Sums.{sum_where}
 use Rattle.line_rules.specs.Loads.{IsLoad, IsFull, taken}
-use Rattle.line_rules.specs.Order.{IsNext, IsFollowing, After}
+use Rattle.line_rules.specs.Order.{IsFollowing, After}
 use Rattle.line_rules.specs.Sides.{MayJoin, fills, part, nothing_yet}
 use Rattle.line_rules.specs.declared.types.Mode.{Mode}
 use Rattle.line_rules.specs.declared.types.Side.{Side}
@@ -16,12 +17,10 @@ use Rattle.line_rules.proofs.SideFacts.{each_side}
 use Rattle.line_rules.proofs.JoinFacts.{full_of, full_none}
 use Rattle.line_rules.specs.inner.Scan.{Scan}
 use Rattle.line_rules.proofs.ScanFacts.{IsBase, scan_start, rescan, base_none, base_some, follows, none_follows}
-use Rattle.line_rules.proofs.ScanFacts.{none_above}
 use Rattle.station_load.specs.declared.ends.End.{End}
-use Rattle.station_load.specs.declared.shorts.Shorts.{Shorts}
 use Rattle.line_rules.specs.Ends.{IsEnd}
-use Rattle.station_load.specs.Shorts.{AreShort}
 use Rattle.station_load.specs.Walking.{Walking, IsWalk, end_of, last_load}
+use Rattle.station_load.specs.inner.Steps.{AreEnds, AreOver, IsBefore, IsNextFrom, pair}
 use Rattle.line_rules.proofs.NextLoad.{same_pair}
 
 base_of : (line : Line) (c : ℕ) (mode : Mode) (R : List Bool) (last : Option Load)
@@ -67,21 +66,94 @@ module _ (line : Line) (ok : IsLine line) (ranked : IsRanked line) (w : Walking)
       rescan line w.cycle w.mode w.set (stand w) (stand w) (2 * tasks line) (tasks line + tasks line) (omega arith)
       (scan_start line ok ranked w.cycle w.mode w.set (stand w) b.is_part)
 
-  -- once the back is gone over, the front is
-  pub turns : (now : Load) → Scan line w.cycle w.mode w.set (stand w) now (tasks line + 0)
-      → Scan line w.cycle w.mode w.set (stand w) now (tasks line)
-  turns now s = rescan line w.cycle w.mode w.set (stand w) now (tasks line + 0) (tasks line) (omega arith) s
+  -- all places are to be gone over, from the load that was given last
+  pub before : IsBefore line w.cycle w.mode w.set (tasks line + tasks line) (stand w)
+  before = (stand w, start)
 
-  pub goes_on : (b given : Load) → given ≡ b → IsNext line w.cycle w.mode w.set (stand w) b
-      → IsFollowing line w.cycle w.mode w.set w.last given
-  goes_on b given e n =
-      let P : Load → Type 0 = λ l. IsFollowing line w.cycle w.mode w.set w.last l in
-      subst P (sym e) (follows line w.cycle w.mode w.set ranked (stand w) w.last base b n)
+  pub ends_kept : w.ended ≡ false → AreEnds line w.mode w.set w.front w.back w.sum
+  ends_kept o = record { in_front = is.ready o Front; at_back = is.ready o Back; added = stand_sum }
 
-  pub ends : (now : Load) → Scan line w.cycle w.mode w.set (stand w) now 0 → (l : Load)
-      → IsLoad line w.cycle w.mode w.set l → After line w.last l → ⊥
-  ends now s = none_follows line w.cycle w.mode w.set ranked (stand w) w.last base
-      (none_above line w.cycle w.mode w.set (stand w) now s)
+  -- a load was found
+  pub next_given : (b : Load) → IsNextFrom line w.cycle w.mode w.set (tasks line + tasks line) (stand w) b
+      → IsFollowing line w.cycle w.mode w.set w.last b
+  next_given b n = follows line w.cycle w.mode w.set ranked (stand w) w.last base b (n (stand w) start)
+
+  pub walk_on : (front back : End) (sum : ℕ) → w.ended ≡ false
+      → IsNextFrom line w.cycle w.mode w.set (tasks line + tasks line) (stand w) (pair front back)
+      → AreEnds line w.mode w.set front back sum
+      → IsWalk line (record {
+        cycle = w.cycle;
+        mode = w.mode;
+        set = w.set;
+        last = Some (pair front back);
+        ended = w.ended;
+        sum = sum;
+        front = front;
+        back = back;
+      })
+  walk_on front back sum on n ends =
+      let new : Walking = record {
+        cycle = w.cycle;
+        mode = w.mode;
+        set = w.set;
+        last = Some (pair front back);
+        ended = w.ended;
+        sum = sum;
+        front = front;
+        back = back;
+      } in
+      let P : Load → Type 0 = λ l. IsLoad line w.cycle w.mode w.set l in
+      record {
+        set = is.set;
+        load = λ l e. subst P (same_Some (pair front back) l e) (n (stand w) start).load;
+        sum = ends.added;
+        stands = each_side (λ (s : Side). (end_of s new).tasks ≡ part s (pair front back)) refl refl;
+        ready = λ o. each_side (λ (s : Side). fills w.mode s ≡ true
+            → IsEnd line s w.set (end_of s new).tasks (end_of s new).free (end_of s new).places) ends.in_front
+            ends.at_back;
+        over = λ o. absurd (false≢true (sym on ∙ o));
+      }
+
+  -- none was found
+  module _ (front back : End)
+      (over : AreOver line w.cycle w.mode w.set (tasks line + tasks line) w.front w.back front back) where
+    pub none_after : (l : Load) → IsLoad line w.cycle w.mode w.set l → After line w.last l → ⊥
+    none_after = none_follows line w.cycle w.mode w.set ranked (stand w) w.last base (over.none (stand w) start)
+
+    pub walk_over : (given : Bool) → w.last ≡ cond given (Some (stand w)) None
+        → IsWalk line (record {
+          cycle = w.cycle;
+          mode = w.mode;
+          set = w.set;
+          last = cond given (Some (pair front back)) None;
+          ended = true;
+          sum = w.sum;
+          front = front;
+          back = back;
+        })
+    walk_over given last =
+        let new : Option Load → Walking = λ o. record {
+          cycle = w.cycle;
+          mode = w.mode;
+          set = w.set;
+          last = o;
+          ended = true;
+          sum = w.sum;
+          front = front;
+          back = back;
+        } in
+        let P : Option Load → Type 0 = λ o. IsWalk line (new o) in
+        let same : pair front back ≡ stand w = same_pair front.tasks w.front.tasks back.tasks w.back.tasks
+        over.same_front over.same_back in
+        subst P (last ∙ ap (λ l. cond given (Some l) None) (sym same)) (record {
+          set = is.set;
+          load = is.load;
+          sum = is.sum;
+          stands = each_side (λ (s : Side). (end_of s (new w.last)).tasks ≡ part s (last_load w.last))
+              (over.same_front ∙ is.stands Front) (over.same_back ∙ is.stands Back);
+          ready = λ o. absurd (true≢false o);
+          over = λ o. none_after;
+        })
 
 pub of_some : {P : Load → Type 0} (o : Option Load) → ((l : Load) → o ≡ Some l → P l) → IfSome o P
 of_some None f = tt
@@ -93,11 +165,11 @@ last_is false l h = sym (h refl)
 
 -- a walk that stands at a load given last, or before the first one
 pub stands_at : (line : Line) (c : ℕ) (mode : Mode) (R : List Bool) → IsTaskSet line R
-    → (given : Bool) (load : Load) (sum : ℕ) (front back : End) (shorts : Shorts)
+    → (given : Bool) (load : Load) (sum : ℕ) (front back : End)
     → (given ≡ true → IsLoad line c mode R load) → (given ≡ false → load ≡ nothing_yet)
     → sum ≡ sum_where (has (taken load)) line.times → front.tasks ≡ load.front → back.tasks ≡ load.back
     → (fills mode Front ≡ true → IsEnd line Front R front.tasks front.free front.places)
-    → (fills mode Back ≡ true → IsEnd line Back R back.tasks back.free back.places) → AreShort line c R shorts
+    → (fills mode Back ≡ true → IsEnd line Back R back.tasks back.free back.places)
     → IsWalk line (record {
       cycle = c;
       mode = mode;
@@ -107,9 +179,8 @@ pub stands_at : (line : Line) (c : ℕ) (mode : Mode) (R : List Bool) → IsTask
       sum = sum;
       front = front;
       back = back;
-      shorts = shorts;
     })
-stands_at line c mode R set given load sum front back shorts is nothing total f b ready_front ready_back short =
+stands_at line c mode R set given load sum front back is nothing total f b ready_front ready_back =
     let pair : Load = record { front = front.tasks; back = back.tasks } in
     let new : Walking = record {
       cycle = c;
@@ -120,7 +191,6 @@ stands_at line c mode R set given load sum front back shorts is nothing total f 
       sum = sum;
       front = front;
       back = back;
-      shorts = shorts;
     } in
     let same : pair ≡ load = same_pair front.tasks load.front back.tasks load.back f b in
     let at : last_load (cond given (Some pair) None) ≡ pair = last_is given pair (λ e. same ∙ nothing e) in
@@ -133,7 +203,6 @@ stands_at line c mode R set given load sum front back shorts is nothing total f 
           (ap (λ (l : Load). l.front) (sym at)) (ap (λ (l : Load). l.back) (sym at));
       ready = λ o. each_side (λ (s : Side). fills mode s ≡ true
           → IsEnd line s R (end_of s new).tasks (end_of s new).free (end_of s new).places) ready_front ready_back;
-      short = short;
       over = λ e. absurd (cc);
     }
 

@@ -1,3 +1,3 @@
 pub mod Laws
 pub mod Walking
-pub mod Shorts
+pub mod inner

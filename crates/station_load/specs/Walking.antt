@@ -10,12 +10,10 @@ use Rattle.line_rules.specs.declared.types.Side.{Side}
 use Rattle.line_rules.specs.declared.types.Side.TheVariants.{Front, Back}
 use Rattle.line_rules.specs.declared.types.Load.{Load}
 use Rattle.line_rules.specs.Ends.{IsEnd}
-use Rattle.station_load.specs.Shorts.{AreShort}
-use Rattle.station_load.specs.declared.shorts.Shorts.{Shorts}
 use Rattle.station_load.specs.declared.ends.End.{End}
 
 -- the cycle, the mode and the set of a walk, the load that it gave last, whether it has found that none comes after it,
--- the sum of that load's times, what it keeps of each side, and the short tasks of the set
+-- the sum of that load's times, and what it keeps of each side
 pub record Walking : Type 0 where
   pub cycle : ℕ
   pub mode : Mode
@@ -25,7 +23,6 @@ pub record Walking : Type 0 where
   pub sum : ℕ
   pub front : End
   pub back : End
-  pub shorts : Shorts
 
 -- the load given last, and the empty pair before the first
 abbrev pub last_load : Option Load → Load
@@ -39,8 +36,7 @@ end_of Back w = w.back
 
 -- A walk over the loads of a line: it stands at a load of its set, or before the first; the sum is that load's total
 -- time, and 0 before the first; at each side stand the tasks of that load, with those beside them that are ready, for
--- each side that its loads fill; its short tasks are those of the set; and once it has ended, no load comes after that
--- one.
+-- each side that its loads fill; and once it has ended, no load comes after that one.
 pub record IsWalk (line : Line) (w : Walking) : Type 0 where
   pub set : IsTaskSet line w.set
   pub load : (l : Load) → w.last ≡ Some l → IsLoad line w.cycle w.mode w.set l
@@ -48,7 +44,6 @@ pub record IsWalk (line : Line) (w : Walking) : Type 0 where
   pub stands : (s : Side) → (end_of s w).tasks ≡ part s (last_load w.last)
   pub ready : w.ended ≡ false → (s : Side) → fills w.mode s ≡ true
       → IsEnd line s w.set (end_of s w).tasks (end_of s w).free (end_of s w).places
-  pub short : AreShort line w.cycle w.set w.shorts
   pub over : w.ended ≡ true → (l : Load) → IsLoad line w.cycle w.mode w.set l → After line w.last l → ⊥
 
 -- the load given last after a step that gave this

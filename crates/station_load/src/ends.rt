@@ -5,6 +5,7 @@ ghost use Rattle.line_instance.specs.Line.{IsTaskSet, tasks, has};
 ghost use Rattle.line_rules.specs.Sides.{Ahead, IsReady, fills};
 ghost use Rattle.line_rules.specs.Ends.{AreMarked, IsEnd};
 
+use crate::marks::Marks;
 use crate::sides::{ahead, fills, nearest, place_of, places_of, waiting};
 use line_instance::{Instance, TaskSet};
 use line_rules::{Mode, Side};
@@ -15,7 +16,7 @@ use line_rules::{Mode, Side};
 pub struct End {
     pub tasks: TaskSet,
     pub free: TaskSet,
-    pub places: TaskSet,
+    pub places: Marks,
 }
 
 impl End {
@@ -36,7 +37,7 @@ impl End {
         let mut end = End {
             tasks: *part,
             free: TaskSet::empty(),
-            places: TaskSet::empty(),
+            places: Marks::none(),
         };
         if fills(mode, side) {
             end.places = places_of(inst, side, part);
@@ -47,6 +48,7 @@ impl End {
 
     // Makes those of the candidates free that are ready. What waits for a candidate isn't ready, so it is no candidate
     // any more.
+    #[inline(always)]
     fn add_ready(&mut self, inst: &Instance, set: &TaskSet, side: Side, candidates: TaskSet)
         requires set { IsTaskSet inst.now set.now }
         requires candidates { (i : ℕ) → In candidates i → In set.now i × (has self.old.tasks i ≡ false) }
@@ -57,15 +59,13 @@ impl End {
         ensures marked { AreMarked inst.now side self.new.tasks self.new.free self.new.places }
     {
         let _tasks = inst.tasks();
-        if inst.is_empty(&candidates) {
-            return;
-        }
-        let absent = set.minus(&self.tasks);
         let mut left = candidates;
         while let Some(task) = nearest(inst, &left, side) {
-            if inst.is_disjoint(ahead(inst, side, task), &absent) {
+            let mut absent = inst.meet(ahead(inst, side, task), set);
+            inst.take_out(&mut absent, &self.tasks);
+            if inst.is_empty(&absent) {
                 self.free.insert(task);
-                self.places.insert(place_of(inst, side, task));
+                self.places.mark(place_of(inst, side, task));
             }
             left.remove(task);
             inst.take_out(&mut left, waiting(inst, side, task));
@@ -73,7 +73,7 @@ impl End {
     }
 
     /// Gives up a task of the side: it is free again, and what waits for it isn't.
-    #[inline]
+    #[inline(always)]
     pub(crate) fn give_up(&mut self, inst: &Instance, side: Side, task: u32)
         requires task { In self.old.tasks task }
         requires within { task < tasks inst.now }
@@ -91,16 +91,32 @@ impl End {
         if inst.is_disjoint(waiting, &self.free) {
             return;
         }
-        let mut shut = inst.meet(waiting, &self.free);
+        self.shut(inst, side, task);
+    }
+
+    // Shuts out what waits for a free task that isn't at the side.
+    #[inline(never)]
+    fn shut(&mut self, inst: &Instance, side: Side, task: u32)
+        requires task { In self.old.free task }
+        requires gone { has self.old.tasks task ≡ false }
+        requires within { task < tasks inst.now }
+        requires apart { (i : ℕ) → In self.old.free i → has self.old.tasks i ≡ false }
+        requires marked { AreMarked inst.now side self.old.tasks self.old.free self.old.places }
+        ensures tasks { self.new.tasks ≡ self.old.tasks }
+        ensures free { (i : ℕ) → In self.new.free i ↔ In self.old.free i × (Ahead inst.now side task i → ⊥) }
+        ensures marked { AreMarked inst.now side self.new.tasks self.new.free self.new.places }
+    {
+        let _tasks = inst.tasks();
+        let mut shut = inst.meet(waiting(inst, side, task), &self.free);
         while let Some(other) = nearest(inst, &shut, Side::Front) {
             shut.remove(other);
             self.free.remove(other);
-            self.places.remove(place_of(inst, side, other));
+            self.places.unmark(place_of(inst, side, other));
         }
     }
 
     /// Takes in a task that is free: what waits for it may be free now.
-    #[inline]
+    #[inline(always)]
     pub(crate) fn take_in(&mut self, inst: &Instance, set: &TaskSet, side: Side, task: u32)
         requires set { IsTaskSet inst.now set.now }
         requires free { In self.old.free task }
@@ -117,6 +133,22 @@ impl End {
         if inst.is_disjoint(waiting, set) {
             return;
         }
-        self.add_ready(inst, set, side, inst.meet(waiting, set));
+        self.open(inst, set, side, task);
+    }
+
+    // Makes those free that wait for a task of the side and are ready.
+    #[inline(never)]
+    fn open(&mut self, inst: &Instance, set: &TaskSet, side: Side, task: u32)
+        requires set { IsTaskSet inst.now set.now }
+        requires within { task < tasks inst.now }
+        requires absent { (i : ℕ) → In set.now i → Ahead inst.now side task i → has self.old.tasks i ≡ false }
+        requires marked { AreMarked inst.now side self.old.tasks self.old.free self.old.places }
+        ensures tasks { self.new.tasks ≡ self.old.tasks }
+        ensures free { (i : ℕ) → In self.new.free i ↔ In self.old.free i
+            ⊎ (In set.now i × Ahead inst.now side task i × IsReady inst.now side set.now self.old.tasks i) }
+        ensures marked { AreMarked inst.now side self.new.tasks self.new.free self.new.places }
+    {
+        let _tasks = inst.tasks();
+        self.add_ready(inst, set, side, inst.meet(waiting(inst, side, task), set));
     }
 }

@@ -5,8 +5,8 @@
 mod ends;
 pub mod laws;
 mod loads;
+mod marks;
 pub mod places;
-mod shorts;
 mod sides;
 pub mod steps;
 

@@ -4,6 +4,7 @@ ghost use Rattle.line_instance.specs.Truths.{In, IsEmpty};
 ghost use Rattle.line_instance.specs.Line.{IsTaskSet, tasks, has};
 ghost use Rattle.line_rules.specs.Sides.{Ahead, part, changed, nothing_yet, fills, task_at};
 
+use crate::marks::Marks;
 use line_instance::{Instance, TaskSet};
 use line_rules::{Load, Mode, Side};
 
@@ -71,23 +72,23 @@ pub(crate) fn place_of(inst: &Instance, side: Side, task: u32) -> u32
 }
 
 /// The places of the tasks of a part of the side.
-pub(crate) fn places_of(inst: &Instance, side: Side, part: &TaskSet) -> TaskSet
+pub(crate) fn places_of(inst: &Instance, side: Side, part: &TaskSet) -> Marks
     requires { IsTaskSet inst.now part.now }
     ensures { (p : ℕ) → In result p ↔ (p < tasks inst.now) × In part.now (task_at inst.now side p) }
 {
     let _tasks = inst.tasks();
-    let mut places = TaskSet::empty();
+    let mut places = Marks::none();
     let mut left = *part;
     while let Some(task) = left.least() {
         left.remove(task);
-        places.insert(place_of(inst, side, task));
+        places.mark(place_of(inst, side, task));
     }
     places
 }
 
 /// The task of a set that is first looked at for the side: the least in front, the greatest at the back. Where tasks
 /// are numbered along their precedences, nothing else of the set is ahead of it.
-#[inline]
+#[inline(always)]
 pub(crate) fn nearest(inst: &Instance, set: &TaskSet, side: Side) -> Option<u32>
     requires { (i : ℕ) → In set.now i → i < tasks inst.now }
     ensures none { IsNone result → IsEmpty set.now }

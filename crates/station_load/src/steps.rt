@@ -17,15 +17,15 @@ ghost use Rattle.line_rules.specs.Loads.{IsLoad, IsFull, taken};
 ghost use Rattle.line_rules.specs.Order.{After, IsNext, IsFollowing};
 ghost use Rattle.line_rules.specs.Sides.{MayJoin, fills, spot, nothing_yet};
 ghost use Rattle.line_rules.specs.declared.types.Load.{Load as Pair};
+ghost use Rattle.line_rules.specs.declared.types.Side.TheVariants.{Front, Back};
 ghost use Rattle.line_rules.specs.inner.Scan.{Scan};
 ghost use Rattle.line_rules.specs.Ends.{IsEnd};
 ghost use Rattle.line_rules.specs.Sides.{pair_at};
-ghost use Rattle.station_load.specs.Shorts.{HasShort};
 ghost use Rattle.station_load.specs.Walking.{IsWalk, last_given};
+ghost use Rattle.station_load.specs.inner.Steps.{AreEnds, AreOver, IsBefore, IsNextFrom, pair};
 
 use crate::ends::End;
 use crate::places;
-use crate::shorts::{Shorts, count_load};
 use crate::sides::{fills, nothing, task_at};
 use line_instance::{Instance, TaskSet};
 use line_rules::{Load, Mode, Side};
@@ -33,7 +33,7 @@ use std::marker::Model;
 
 /// A walk over the loads of a set of tasks at a cycle in a mode, in their order.
 ///
-/// It is begun by `walk` or [`begin`] and is a value of about 1,300 bytes that needs no memory. A contract sees it as
+/// It is begun by `walk` or [`begin`] and is a value of about 900 bytes that needs no memory. A contract sees it as
 /// the cycle, the mode, the set, the load given last, and what it keeps of that load from step to step.
 #[derive(Drop)]
 pub struct Walk {
@@ -45,8 +45,6 @@ pub struct Walk {
     sum: u64,
     front: End,
     back: End,
-    shorts: Shorts,
-    loads: u32,
 }
 
 impl Model for Walk {
@@ -64,7 +62,6 @@ impl Model for Walk {
       sum = w.sum;
       front = w.front;
       back = w.back;
-      shorts = w.shorts;
     } };
 }
 
@@ -84,6 +81,17 @@ fn goes_with(inst: &Instance, here: &TaskSet, other: &TaskSet, task: u32) -> boo
     if inst.is_empty(apart) {
         return true;
     }
+    parted_from_none(inst, here, other, task)
+}
+
+// Whether none of these tasks of the two sides is apart from the task. Few lines have pairs apart, so this isn't inlined.
+#[inline(never)]
+fn parted_from_none(inst: &Instance, here: &TaskSet, other: &TaskSet, task: u32) -> bool
+    requires { task < tasks inst.now }
+    ensures { IsTrue result ↔ ((j : ℕ) → In (union here.now other.now) j → Apart inst.now j task → ⊥) }
+{
+    let _tasks = inst.tasks();
+    let apart = inst.apart(task);
     if !inst.is_disjoint(apart, here) {
         return false;
     }
@@ -91,7 +99,9 @@ fn goes_with(inst: &Instance, here: &TaskSet, other: &TaskSet, task: u32) -> boo
 }
 
 // Goes over the places of a side from the last one down: gives up what stands there, up to the first place where a task
-// may join. Whether one has joined. Loads of the mode fill the side. Clauses name the load that the scan began from, and the code has no need of it.
+// may join. Whether one has joined. Loads of the mode fill the side. Clauses name the load that the scan began from,
+// and the code has no need of it.
+#[inline(always)]
 fn go_over(
     inst: &Instance,
     cycle: u64,
@@ -117,56 +127,114 @@ fn go_over(
     ensures kept { fills mode side ≡ true → IsEnd inst.now side set.now end.new.tasks end.new.free end.new.places }
     ensures sum { sum.new ≡ sum_where (has (taken (pair_at side end.new.tasks other.now))) inst.now.times }
 {
-    let mut below = inst.tasks();
-    while let Some(place) = end.places.greatest_below(below) {
-        below = place;
-        let task = task_at(inst, side, place);
-        let time = inst.time(task);
+    let mut left = end.places.all_below(inst.tasks());
+    while end.places.go_down(&mut left) {
+        let task = task_at(inst, side, left.below);
         if end.tasks.has(task) {
             end.give_up(inst, side, task);
-            *sum -= time;
-        } else if time <= cycle - *sum && goes_with(inst, &end.tasks, other, task) {
+            *sum -= inst.time(task);
+        } else if inst.time(task) <= cycle - *sum && goes_with(inst, &end.tasks, other, task) {
             end.take_in(inst, set, side, task);
-            *sum += time;
+            *sum += inst.time(task);
             return true;
         }
     }
     false
 }
 
-// The same for any side: at one that loads of the mode don't fill, no task may join.
-#[inline]
-fn advance(
+// Goes over the front. Whether a task has joined; where none has, the front has its tasks again.
+#[inline(always)]
+fn front_goes_on(
     inst: &Instance,
     cycle: u64,
     set: &TaskSet,
     mode: Mode,
-    side: Side,
-    other: &TaskSet,
-    end: &mut End,
+    front: &mut End,
+    back: &End,
     sum: &mut u64,
 ) -> bool
     requires set { IsTaskSet inst.now set.now }
-    requires scan { (base : Pair) × Scan inst.now cycle mode set.now base (pair_at side end.old.tasks other.now)
-        (spot inst.now side (tasks inst.now)) }
-    requires kept { fills mode side ≡ true → IsEnd inst.now side set.now end.old.tasks end.old.free end.old.places }
-    requires sum { sum.old ≡ sum_where (has (taken (pair_at side end.old.tasks other.now))) inst.now.times }
-    ensures joined { IsTrue result → (base : Pair) → Scan inst.now cycle mode set.now base
-        (pair_at side end.old.tasks other.now) (spot inst.now side (tasks inst.now))
-        → IsNext inst.now cycle mode set.now base (pair_at side end.new.tasks other.now) }
-    ensures passed { result ≡ false → (base : Pair) → Scan inst.now cycle mode set.now base
-        (pair_at side end.old.tasks other.now) (spot inst.now side (tasks inst.now))
-        → Scan inst.now cycle mode set.now base (pair_at side end.new.tasks other.now) (spot inst.now side 0) }
-    ensures kept { fills mode side ≡ true → IsEnd inst.now side set.now end.new.tasks end.new.free end.new.places }
-    ensures sum { sum.new ≡ sum_where (has (taken (pair_at side end.new.tasks other.now))) inst.now.times }
+    requires filled { fills mode Front ≡ true }
+    requires scan { IsBefore inst.now cycle mode set.now (tasks inst.now) (pair front.old back.now) }
+    requires ends { AreEnds inst.now mode set.now front.old back.now sum.old }
+    ensures next { IsTrue result
+        → IsNextFrom inst.now cycle mode set.now (tasks inst.now) (pair front.old back.now) (pair front.new back.now) }
+    ensures ends { IsTrue result → AreEnds inst.now mode set.now front.new back.now sum.new }
+    ensures over { result ≡ false
+        → AreOver inst.now cycle mode set.now (tasks inst.now) front.old back.now front.new back.now }
 {
-    if !fills(mode, side) {
-        return false;
+    let _tasks = inst.tasks();
+    let tasks = front.tasks;
+    if go_over(inst, cycle, set, mode, Side::Front, &back.tasks, front, sum) {
+        return true;
     }
-    go_over(inst, cycle, set, mode, side, other, end, sum)
+    front.tasks = tasks;
+    false
+}
+
+// Goes over the back, and then over the front. Whether a task has joined; where none has, both have their tasks again.
+#[inline(always)]
+fn back_goes_on(
+    inst: &Instance,
+    cycle: u64,
+    set: &TaskSet,
+    mode: Mode,
+    front: &mut End,
+    back: &mut End,
+    sum: &mut u64,
+) -> bool
+    requires set { IsTaskSet inst.now set.now }
+    requires filled { fills mode Back ≡ true }
+    requires scan { IsBefore inst.now cycle mode set.now (tasks inst.now + tasks inst.now) (pair front.old back.old) }
+    requires ends { AreEnds inst.now mode set.now front.old back.old sum.old }
+    ensures next { IsTrue result → IsNextFrom inst.now cycle mode set.now (tasks inst.now + tasks inst.now)
+        (pair front.old back.old) (pair front.new back.new) }
+    ensures ends { IsTrue result → AreEnds inst.now mode set.now front.new back.new sum.new }
+    ensures over { result ≡ false → AreOver inst.now cycle mode set.now (tasks inst.now + tasks inst.now)
+        front.old back.old front.new back.new }
+{
+    let _tasks = inst.tasks();
+    let tasks = back.tasks;
+    if go_over(inst, cycle, set, mode, Side::Back, &front.tasks, back, sum) {
+        return true;
+    }
+    if fills(mode, Side::Front) && front_goes_on(inst, cycle, set, mode, front, back, sum) {
+        return true;
+    }
+    back.tasks = tasks;
+    false
+}
+
+// Goes over the sides that loads of the mode fill. Whether a task has joined; where none has, both sides have their
+// tasks again.
+#[inline(always)]
+fn goes_on(
+    inst: &Instance,
+    cycle: u64,
+    set: &TaskSet,
+    mode: Mode,
+    front: &mut End,
+    back: &mut End,
+    sum: &mut u64,
+) -> bool
+    requires set { IsTaskSet inst.now set.now }
+    requires scan { IsBefore inst.now cycle mode set.now (tasks inst.now + tasks inst.now) (pair front.old back.old) }
+    requires ends { AreEnds inst.now mode set.now front.old back.old sum.old }
+    ensures next { IsTrue result → IsNextFrom inst.now cycle mode set.now (tasks inst.now + tasks inst.now)
+        (pair front.old back.old) (pair front.new back.new) }
+    ensures ends { IsTrue result → AreEnds inst.now mode set.now front.new back.new sum.new }
+    ensures over { result ≡ false → AreOver inst.now cycle mode set.now (tasks inst.now + tasks inst.now)
+        front.old back.old front.new back.new }
+{
+    let _tasks = inst.tasks();
+    if fills(mode, Side::Back) {
+        return back_goes_on(inst, cycle, set, mode, front, back, sum);
+    }
+    front_goes_on(inst, cycle, set, mode, front, back, sum)
 }
 
 // Whether a task that is ready for the side may join it.
+#[inline(always)]
 fn grows(
     inst: &Instance,
     cycle: u64,
@@ -176,10 +244,8 @@ fn grows(
     end: &End,
     other: &TaskSet,
     sum: u64,
-    short: &TaskSet,
 ) -> bool
     requires set { IsTaskSet inst.now set.now }
-    requires short { HasShort inst.now set.now (cycle - sum) short.now }
     requires kept { fills mode side ≡ true → IsEnd inst.now side set.now end.now.tasks end.now.free end.now.places }
     requires sum { sum ≡ sum_where (has (taken (pair_at side end.now.tasks other.now))) inst.now.times }
     requires fits { sum ≤ cycle }
@@ -191,11 +257,13 @@ fn grows(
     if !fills(mode, side) {
         return false;
     }
-    let candidates = inst.meet(&end.free, short);
-    let mut below = inst.tasks();
-    while let Some(task) = candidates.greatest_below(below) {
-        below = task;
-        if inst.time(task) <= cycle - sum && goes_with(inst, &end.tasks, other, task) {
+    let mut left = end.places.all_below(inst.tasks());
+    while end.places.go_down(&mut left) {
+        let task = task_at(inst, side, left.below);
+        if inst.time(task) <= cycle - sum
+            && !end.tasks.has(task)
+            && goes_with(inst, &end.tasks, other, task)
+        {
             return true;
         }
     }
@@ -233,8 +301,6 @@ fn stand_at(
         sum,
         front: End::start(inst, set, mode, Side::Front, &load.front),
         back: End::start(inst, set, mode, Side::Back, &load.back),
-        shorts: Shorts::all(set),
-        loads: 0,
     }
 }
 
@@ -281,58 +347,53 @@ impl Walk {
         ensures set { self.new.set ≡ self.old.set }
         ensures walk { IsWalk inst.now self.new }
     {
+        if self.go_on(inst) {
+            return Some(self.load());
+        }
+        None
+    }
+
+    /// Goes on to the next load, which [`Walk::load`] tells. False after the last one, where the walk stays.
+    #[inline]
+    pub fn go_on(&mut self, inst: &Instance) -> bool
+        requires { IsWalk inst.now self.old }
+        ensures none { result ≡ false → (l : Pair) → IsLoad inst.now self.old.cycle self.old.mode self.old.set l
+            → After inst.now self.old.last l → ⊥ }
+        ensures next { IsTrue result → IfSome self.new.last
+            (IsFollowing inst.now self.old.cycle self.old.mode self.old.set self.old.last) }
+        ensures given { IsTrue result → IsSome self.new.last }
+        ensures stays { result ≡ false → self.new.last ≡ self.old.last }
+        ensures cycle { self.new.cycle ≡ self.old.cycle }
+        ensures mode { self.new.mode ≡ self.old.mode }
+        ensures set { self.new.set ≡ self.old.set }
+        ensures walk { IsWalk inst.now self.new }
+    {
         let _tasks = inst.tasks();
         if self.ended {
-            return None;
+            return false;
         }
-        count_load(
-            inst,
-            self.cycle,
-            &self.set,
-            &mut self.loads,
-            &mut self.shorts,
-        );
         let sum = self.sum;
-        let back = self.back.tasks;
-        if advance(
+        if goes_on(
             inst,
             self.cycle,
             &self.set,
             self.mode,
-            Side::Back,
-            &self.front.tasks,
+            &mut self.front,
             &mut self.back,
             &mut self.sum,
         ) {
             self.given = true;
-            return Some(self.load());
+            return true;
         }
-        let front = self.front.tasks;
-        if advance(
-            inst,
-            self.cycle,
-            &self.set,
-            self.mode,
-            Side::Front,
-            &self.back.tasks,
-            &mut self.front,
-            &mut self.sum,
-        ) {
-            self.given = true;
-            return Some(self.load());
-        }
-        self.front.tasks = front;
-        self.back.tasks = back;
         self.sum = sum;
         self.ended = true;
-        None
+        false
     }
 
-    // The load that the walk stands at, or nothing.
+    /// The load given last; nothing is said of it before the first.
     #[inline]
-    fn load(&self) -> Load
-        ensures front { result.front ≡ self.now.front.tasks }
-        ensures back { result.back ≡ self.now.back.tasks }
+    pub fn load(&self) -> Load
+        ensures { IsSome self.now.last → self.now.last ≡ Some result }
     {
         Load {
             front: self.front.tasks,
@@ -359,9 +420,6 @@ impl Walk {
         if self.ended {
             return places::full(inst, self.cycle, &self.set, self.mode, &self.load());
         }
-        let short = self
-            .shorts
-            .within(self.cycle, &self.set, self.cycle - self.sum);
         if grows(
             inst,
             self.cycle,
@@ -371,7 +429,6 @@ impl Walk {
             &self.front,
             &self.back.tasks,
             self.sum,
-            short,
         ) {
             return false;
         }
@@ -384,7 +441,6 @@ impl Walk {
             &self.back,
             &self.front.tasks,
             self.sum,
-            short,
         ) {
             return false;
         }

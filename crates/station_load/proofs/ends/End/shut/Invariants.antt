@@ -1,6 +1,6 @@
 use Rattle.line_instance.proofs.Members.{members}
 use Rattle.line_rules.proofs.SideTurns.{Shutting}
-use Rattle.station_load.proofs.ends.End.give_up.Given as goal
+use Rattle.station_load.proofs.ends.End.shut.Given as goal
 
 abbrev pub invariant-loop-other : goal.invariant-loop-other
 invariant-loop-other l = Shutting l.inst l.side l.task l.fn.self.tasks l.fn.self.free l.shut l.self.tasks l.self.free
