@@ -25,7 +25,8 @@ use Rattle.station_search.specs.Costs.{FewAdded}
 use Rattle.station_search.specs.inner.Work.{Does, DoesFew, DoesFor, Accounts, Balances, Ends}
 use Rattle.station_search.specs.declared.answers.Decided.{Decided}
 use Rattle.station_search.specs.declared.answers.Decided.TheVariants as decided
-use Rattle.lemma_core.proofs.OwnFacts.{did_none, did_waits, entries_more}
+use Rattle.lemma_core.proofs.HistoryGrows.{keeps_none}
+use Rattle.lemma_core.proofs.OwnFacts.{did_none, did_waits, saw_none, saw_waits, entries_more}
 use Rattle.station_search.proofs.Events.{for_still}
 use Rattle.station_search.proofs.PaidSteps.{does_then, does_waits, units_among}
 
@@ -226,6 +227,48 @@ few_none line X old new used most w = record {
   entry_units = refl;
   framed = refl;
   sum = omega arith;
+}
+
+-- what a call that adds no event has published
+pub own_waits : (asked : Option Mode) (kind : LineKind) (line : Line) (X : ℕ) (old new : DeskView) → Waits old new
+    → HasPublished asked kind line X old new
+own_waits asked kind line X old new w = record {
+  items = [];
+  did = did_waits old old new [] (did_none old) w;
+  publishes = tt;
+  lemmas = tt;
+}
+
+-- the account of a question that is refuted with no event
+balances_none : (asked : Option Mode) (kind : LineKind) (line : Line) (X : ℕ) (old new : DeskView) (used : ℕ)
+    → used ≡ 0 → Waits old new → Balances asked kind line X old new [] used (used + 1)
+balances_none asked kind line X old new used z w = record {
+  items = [];
+  published = 0;
+  listed = 0;
+  done = does_waits asked kind line X old new w;
+  framed = refl;
+  sum = omega (arith, z);
+  few = omega arith;
+  fresh = λ t. refl;
+}
+
+pub exactly_none : (asked : Option Mode) (kind : LineKind) (line : Line) (X : ℕ) (old new : DeskView) (used : ℕ)
+    → used ≡ 0 → Waits old new → PaysExactly asked kind line X old new [] used
+exactly_none asked kind line X old new used z w = exactly_balances asked kind line X old new [] used (used + 1)
+    (balances_none asked kind line X old new used z w)
+
+pub spends_none : (line : Line) (X : ℕ) (old new : DeskView) (used : ℕ) → used ≡ 0 → old.alone ≡ true → Waits old new
+    → Spends line X old new [] used
+spends_none line X old new used z alone w = record {
+  items = [];
+  did = did_waits old old new [] (did_none old) w;
+  seen = saw_waits old old new [] (keeps_none old) (saw_none old) w alone;
+  published = 0;
+  listed = 0;
+  entry_units = refl;
+  framed = refl;
+  sum = omega (arith, z);
 }
 
 -- an entry seen before a call is seen after it

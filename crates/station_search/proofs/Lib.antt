@@ -8,9 +8,12 @@ pub mod WalkStates
 pub mod Pairs
 pub mod Tallies
 pub mod LoopTurns
+pub mod StepTurns
+pub mod WalkSteps
 pub mod Clauses
 pub mod Standins
 pub mod Endings
 pub mod TaskPlaces
+pub mod SortFacts
 pub mod RestTimes
 pub mod HalfFacts

@@ -22,9 +22,9 @@ use Rattle.line_rules.proofs.Paths.{leads_depth}
 use Rattle.line_rules.proofs.SeatedLoads.{path_seated, seated_long, seated_none}
 use Rattle.lemma_core.specs.Desks.{DeskView, entries, Keeps}
 use Rattle.station_search.specs.Mode.{frame_mode}
-use Rattle.station_search.specs.Decide.{Stops, HaveModes}
+use Rattle.station_search.specs.Decide.{IsAnswered, Stops, HaveModes}
 use Rattle.station_search.specs.Costs.{AreUnanswered}
-use Rattle.station_search.specs.inner.Work.{IsBeside, with_last, with_cites, may_add, DoesFor, Accounts, Balances}
+use Rattle.station_search.specs.inner.Work.{IsBeside, with_last, with_cites, may_add, DoesFew, DoesFor, Accounts, Balances}
 use Rattle.station_search.specs.declared.listings.Listing.{Listing}
 use Rattle.station_search.specs.declared.sorting.Sorted.{Sorted}
 use Rattle.station_search.specs.declared.sorting.Sorted.TheVariants as sorted
@@ -92,6 +92,16 @@ module _ (asked : Option Mode) (kind : LineKind) (line : Line) (ranked : IsRanke
     -- no frame has more stations than the question
     pub stations_few : most ≤ 1024 → frame.most ≤ 1024
     stations_few l = omega (arith, l, leads_depth kind line X es passed R most frame.set frame.most s.leads)
+
+    -- where no frame waits, the one in hand has the question
+    pub answers_asked : (es' : List Entry) (id : ℕ) → passed ≡ [] → IsAnswered es' id frame.set frame.most X
+        → IsAnswered es' id R most X
+    answers_asked es' id e a =
+        let D : List OpenFrame → Type 0 = λ z. Leads kind line X es R most z frame.set frame.most in
+        let h : (frame.set ≡ R) × (frame.most ≡ most) = subst D e s.leads in
+        let A : List Bool → Type 0 = λ z. IsAnswered es' id z frame.most X in
+        let B : ℕ → Type 0 = λ z. IsAnswered es' id R z X in
+        subst B h.1 (subst A h.0 a)
 
     have_modes : HaveModes asked kind line (passed ++ frame ∷ [])
     have_modes k f e = elim (get_push_cases passed frame f k e) [
@@ -174,9 +184,9 @@ module _ (asked : Option Mode) (kind : LineKind) (line : Line) (ranked : IsRanke
   module _ (old mid new : DeskView) (passed : List OpenFrame) (frame : OpenFrame) (spent : ℕ) (before : Keeps old mid)
       (k : Keeps mid new) (t : Tally asked kind line X old mid passed frame spent 0) where
     -- memory ended after a load was listed
-    pub gives_up : (T : List Bool) (m spent' : ℕ) → DoesFor asked kind line X mid new T m 0 → m ≤ 1 → spent' ≡ spent + 1
+    pub gives_up : (m spent' : ℕ) → DoesFew asked kind line X mid new m 0 → m ≤ 1 → spent' ≡ spent + 1
         → Accounts asked kind line X old new [] spent' spent'
-    gives_up T m spent' d l e = accounts asked kind line ranked X old mid new passed frame spent before k t T m 0 spent'
+    gives_up m spent' d l e = accounts asked kind line ranked X old mid new passed frame spent before k t m 0 spent'
         d (omega arith) (omega (arith, e)) (omega (arith, l, e))
 
     -- the frame was published

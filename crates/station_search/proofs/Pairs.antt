@@ -1,5 +1,5 @@
 -- The frames that wait and their listings, one for one.
-use Rattle.std.proofs.Common.{◌≡◌, ℕ, List, [], ◌∷◌, ◌++◌, length, refl, sym, ap, ◌∙◌, subst, inl, inr, arith, Some}
+use Rattle.std.proofs.Common.{◌≡◌, ℕ, List, [], ◌∷◌, ◌++◌, length, refl, sym, ap, ◌∙◌, subst, inl, inr, arith}
 use Rattle.std.proofs.Common.{length-append}
 use Rattle.std.specs.Prelude.{slice_get}
 use Rattle.line_instance.specs.Line.{Line}
@@ -7,12 +7,7 @@ use Rattle.line_rules.specs.declared.types.OpenFrame.{OpenFrame}
 use Rattle.line_rules.proofs.ListFacts.{get_longer, get_push_cases, get_last}
 use Rattle.station_search.specs.declared.listings.Listing.{Listing}
 use Rattle.station_search.specs.inner.Work.{IsBeside, with_cites}
-
--- there are as many listings as frames, and each goes over the loads of its frame
-pub record ArePaired (line : Line) (X : ℕ) (fs : List OpenFrame) (ws : List Listing) : Type 0 where
-  pub as_many : length fs ≡ length ws
-  pub beside : (k : ℕ) (f : OpenFrame) (w : Listing) → slice_get fs k ≡ Some f → slice_get ws k ≡ Some w
-      → IsBeside line X f w
+use Rattle.station_search.specs.inner.Steps.{ArePaired}
 
 pub paired_none : (line : Line) (X : ℕ) (fs : List OpenFrame) (ws : List Listing) → fs ≡ [] → ws ≡ []
     → ArePaired line X fs ws

@@ -278,9 +278,9 @@ module _ (asked : Option Mode) (kind : LineKind) (line : Line) (ranked : IsRanke
   module _ (mid new : DeskView) (passed : List OpenFrame) (frame : OpenFrame) (spent : ℕ) (before : Keeps old mid)
       (k : Keeps mid new) (t : Tally asked kind line X old mid passed frame spent 0) where
     -- the account after a further step, for a search that gives its frames up
-    pub accounts : (T : List Bool) (m n spent' : ℕ) → DoesFor asked kind line X mid new T m n → n ≤ t.here
+    pub accounts : (m n spent' : ℕ) → DoesFew asked kind line X mid new m n → n ≤ t.here
         → spent ≤ spent' → m + spent ≤ length passed + spent' → Accounts asked kind line X old new [] spent' spent'
-    accounts T m n spent' d l more room =
+    accounts m n spent' d l more room =
         reckon_ends asked kind line ranked X old mid new passed frame t.items t.published t.above t.here spent 0
         t.reckoned before k d.items n m d.done d.few spent' spent' (omega (arith, t.sum)) l more (omega (arith, room))
 

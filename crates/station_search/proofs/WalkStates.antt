@@ -31,7 +31,7 @@ use Rattle.station_search.specs.declared.searching_beside.Walk.TheVariants as wa
 use Rattle.station_search.proofs.States.{IsSearching, IsHeld, starts, closed, covered, goes_up, deep_starts}
 use Rattle.station_search.proofs.States.{deep_closed}
 use Rattle.station_search.proofs.States.{deep_covered, deep_follows, passes, resumes, answer_cites}
-use Rattle.station_search.proofs.LoopTurns.{first, down, found}
+use Rattle.station_search.proofs.LoopTurns.{first, answers_asked, down, found}
 
 -- An entry that would refute every rest. A frame with put-off loads leads on as one whose cites all name this entry.
 abbrev pub wild : ℕ → ℕ → Entry
@@ -159,14 +159,8 @@ module _ (asked : Option Mode) (kind : LineKind) (line : Line) (ranked : IsRanke
     -- where no frame waits, the one in hand has the question
     pub walk_asked : (es' : List Entry) (id : ℕ) → passed ≡ [] → IsAnswered es' id frame.set frame.most X
         → IsAnswered es' id R most X
-    walk_asked es' id e a =
-        let D : List OpenFrame → Type 0 =
-        λ z. Leads kind line X (wild most X ∷ []) R most z frame.set frame.most in
-        let h : (frame.set ≡ R) × (frame.most ≡ most) =
-        subst D (alike_none passed s.shades e s.alike) s.chain.leads in
-        let A : List Bool → Type 0 = λ z. IsAnswered es' id z frame.most X in
-        let B : ℕ → Type 0 = λ z. IsAnswered es' id R z X in
-        subst B h.1 (subst A h.0 a)
+    walk_asked es' id e a = answers_asked asked kind line ranked X R most (wild most X ∷ []) s.shades
+        (with_cites frame s.marks) s.chain es' id (alike_none passed s.shades e s.alike) a
 
     -- the loads ended
     pub walk_follows : 1 ≤ X → ((l : Load) → IsLoad line X frame.mode frame.set l → After line frame.last l → ⊥)

@@ -1,3 +1,4 @@
 pub mod Order
 pub mod Work
+pub mod Steps
 pub mod Walks

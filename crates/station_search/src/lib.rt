@@ -17,6 +17,7 @@ mod searching;
 mod searching_beside;
 mod sorting;
 mod stacks;
+mod standing;
 mod swaps;
 
 pub use answers::{Decided, Reason, Units};

@@ -3,8 +3,7 @@
 //! It goes as the search alone does, and a frame's loads are walked at most twice. In its first walk a rest that another
 //! helper claims is put off, and so the frame lacks a cite. Such a frame is never published: where no entry answers it
 //! by then, its loads are walked again from the first, and none is put off.
-ghost use Rattle.std.specs.Prelude.{◌≡◌, ℕ, ◌+◌, ◌-◌, ◌^◌, ◌<◌, ◌≤◌, true, Option, None, IfOk, OnOk, OnErr, IfSome, []};
-ghost use Rattle.std.specs.Prelude.{◌∷◌, ◌++◌, vec_len, vec_capacity};
+ghost use Rattle.std.specs.Prelude.{◌≡◌, ℕ, ◌+◌, ◌-◌, ◌^◌, ◌<◌, ◌≤◌, true, false, Option, None, IfOk, OnOk, OnErr, IfSome, []};
 ghost use Rattle.line_instance.specs.Truths.{In};
 ghost use Rattle.line_instance.specs.Line.{Line, IsTaskSet};
 ghost use Rattle.line_rules.specs.Bounds.{bound};
@@ -24,13 +23,12 @@ ghost use Rattle.station_search.specs.declared.searching_beside.Walk.TheVariants
 
 use crate::answers::{Reason, Units};
 use crate::beside::{Beside, DecidedBeside};
-use crate::listings::{Listing, begin_listing, next_load};
+use crate::listings::begin_listing;
 use crate::looking::ByFind;
 use crate::ordering::loads_in_order;
-use crate::pairing::{enter, enter_first, leave};
-use crate::searching::{open_frame, publish_branch};
-use crate::sorting::{Sorted, sort_load};
-use crate::stacks::{pop_from, push_on, stack_with_room, take_from, trail_to};
+use crate::searching::publish_branch;
+use crate::stacks::{push_on, take_from};
+use crate::standing::{Listed, begin_standing, go_down, go_up, list_load, trail_of};
 use lemma_core::Looked;
 use line_instance::{Instance, TaskSet};
 use line_rules::{Cites, LineKind, OpenFrame};
@@ -48,45 +46,47 @@ pub enum Walk {
     Second,
 }
 
-/// What comes of a frame whose loads ended.
-pub enum Settled {
-    /// The entry of this number answers its question.
-    Refuted(u64),
-    /// It is walked again: the frame with no load listed.
-    Again(OpenFrame),
-}
-
-// Settles a frame whose loads ended: it is published, or looked for where a load of it was put off.
+// Settles a frame whose loads ended: it is published, or looked for where a load of it was put off. The number of an
+// entry that answers it; or None, and then the frame stands before its first load again.
 fn settle<D: Beside>(
     alloc: Global,
     desk: &mut D,
     cycle: u64,
-    frame: OpenFrame,
+    frame: &mut OpenFrame,
     walk: Walk,
-) -> Result<Settled, AllocError>
-    requires follows { IfWhole walk (FollowsSeen (D.desk desk.old) (branch_of cycle frame)) }
-    requires range { IsStatable (branch_of cycle frame) }
+) -> Result<Option<u64>, AllocError>
+    requires follows { IfWhole walk (FollowsSeen (D.desk desk.old) (branch_of cycle frame.old)) }
+    requires range { IsStatable (branch_of cycle frame.old) }
     requires cycle { (D.desk desk.old).about.cycle ≡ cycle }
     ensures keeps { Keeps (D.desk desk.old) (D.desk desk.new) }
     ensures waits { OnErr result (Waits (D.desk desk.old) (D.desk desk.new)) }
-    ensures settles { IfOk result (Settles cycle (D.desk desk.old) (D.desk desk.new) frame walk) }
+    ensures settles { IfOk result (Settles cycle (D.desk desk.old) (D.desk desk.new) frame.old frame.new walk) }
     ensures pays { (asked : Option Way) (kind : Kind) (line : Line) (n : ℕ)
-        → frame.mode ≡ frame_mode asked kind line frame.set
-        → Counts line (IsLoad line cycle frame.mode frame.set) n
+        → frame.old.mode ≡ frame_mode asked kind line frame.old.set
+        → Counts line (IsLoad line cycle frame.old.mode frame.old.set) n
         → IfOk result (PaysFor asked kind line cycle (D.desk desk.old) (D.desk desk.new) n) }
 {
     match walk {
-        Walk::First | Walk::Second => Ok(Settled::Refuted(publish_branch(desk, cycle, frame)?)),
+        Walk::First | Walk::Second => Ok(Some(publish_branch(alloc, desk, cycle, frame)?)),
         Walk::Gapped => match desk.look(&frame.set, frame.most) {
-            Looked::Found { id, .. } => Ok(Settled::Refuted(id)),
-            Looked::Absent => Ok(Settled::Again(OpenFrame {
-                set: frame.set,
-                most: frame.most,
-                mode: frame.mode,
-                last: None,
-                cites: Cites::from_vec(Vec::new(alloc)),
-            })),
+            Looked::Found { id, .. } => Ok(Some(id)),
+            Looked::Absent => {
+                frame.last = None;
+                frame.cites = Cites::from_vec(Vec::new(alloc));
+                Ok(None)
+            }
         },
+    }
+}
+
+// Whether the load of an open rest is put off: in the first walk where another helper claims the rest.
+fn is_put_off<D: Beside>(desk: &mut D, walk: Walk, rest: &TaskSet, most: u32) -> bool
+    ensures waits { Waits (D.desk desk.old) (D.desk desk.new) }
+    ensures settles { walk ≡ Second → result ≡ false }
+{
+    match walk {
+        Walk::First | Walk::Gapped => desk.is_claimed(rest, most),
+        Walk::Second => false,
     }
 }
 
@@ -95,35 +95,11 @@ fn takes_up<D: Beside>(desk: &mut D, walk: Walk, rest: &TaskSet, most: u32) -> b
     ensures waits { Waits (D.desk desk.old) (D.desk desk.new) }
     ensures settles { walk ≡ Second → result ≡ true }
 {
-    match walk {
-        Walk::First | Walk::Gapped => {
-            if desk.is_claimed(rest, most) {
-                return false;
-            }
-        }
-        Walk::Second => {}
+    if is_put_off(desk, walk, rest, most) {
+        return false;
     }
     desk.claim(rest, most);
     true
-}
-
-// Puts a frame on its stack, with what stands beside it on theirs, and leaves room for one more frame.
-fn push_frame(
-    passed: &mut Vec<OpenFrame>,
-    listings: &mut Vec<Listing>,
-    walks: &mut Vec<Walk>,
-    frame: OpenFrame,
-    listing: Listing,
-    walk: Walk,
-) -> Result<(), AllocError>
-    ensures frames { OnOk result (passed.new.items ≡ passed.old.items ++ frame ∷ []) }
-    ensures room { OnOk result (vec_len passed.new < vec_capacity passed.new) }
-    ensures listings { OnOk result (listings.new.items ≡ listings.old.items ++ listing ∷ []) }
-    ensures walks { OnOk result (walks.new.items ≡ walks.old.items ++ walk ∷ []) }
-{
-    push_on(passed, frame)?;
-    push_on(listings, listing)?;
-    push_on(walks, walk)
 }
 
 /// Goes from load to load until the set is refuted, a balance is found, the units end, or the end is called.
@@ -157,72 +133,40 @@ pub fn search_beside<D: Beside>(
         OnErr result (Accounts None kind inst.now cycle (D.desk desk.old) (D.desk desk.new) [] used used) }
 {
     let _tasks = inst.tasks();
-    let mut passed: Vec<OpenFrame> = stack_with_room(alloc)?;
-    let mut listings: Vec<Listing> = Vec::new(alloc);
+    let mut standing = begin_standing(alloc, inst, kind, cycle, set, most, None, pairs)?;
     let mut walks: Vec<Walk> = Vec::new(alloc);
-    let mut frame = open_frame(alloc, inst, kind, set, most, None);
-    let mut listing = begin_listing(inst, cycle, &frame);
     let mut walk = Walk::First;
-    enter_first(pairs, set)?;
     'search: loop {
-        match next_load(inst, cycle, &frame, &mut listing) {
-            None => match settle(alloc, desk, cycle, frame, walk)? {
-                Settled::Again(again) => {
-                    listing = begin_listing(inst, cycle, &again);
-                    frame = again;
+        match list_load::<ByFind, D>(alloc, desk, inst, kind, cycle, pairs, units, &mut standing)? {
+            Listed::Ended => {
+                let settled = settle(alloc, desk, cycle, &mut standing.frame, walk)?;
+                let Some(id) = settled else {
+                    standing.listing = begin_listing(inst, cycle, &standing.frame);
                     walk = Walk::Second;
+                    continue;
+                };
+                let up = go_up(pairs, &mut standing, id)?;
+                if !up {
+                    return Ok(DecidedBeside::Refuted(Reason::ByEntry(id)));
                 }
-                Settled::Refuted(id) => {
-                    leave(pairs);
-                    match pop_from(&mut passed) {
-                        None => return Ok(DecidedBeside::Refuted(Reason::ByEntry(id))),
-                        Some(parent) => {
-                            frame = parent;
-                            listing = take_from(&mut listings);
-                            walk = take_from(&mut walks);
-                            frame.cites.push(id)?;
-                            if desk.is_ended() {
-                                return Ok(DecidedBeside::Ended);
-                            }
-                        }
-                    }
+                walk = take_from(&mut walks);
+                if desk.is_ended() {
+                    return Ok(DecidedBeside::Ended);
                 }
-            },
-            Some(load) => {
-                if units.left == 0 {
-                    return Ok(DecidedBeside::Spent);
-                }
-                units.left -= 1;
-                units.used += 1;
-                frame.last = Some(load);
-                match sort_load::<ByFind, D>(
-                    alloc, desk, inst, kind, cycle, &frame, &load, &listing, pairs,
-                )? {
-                    Sorted::Closed => {}
-                    Sorted::Covered(id) => frame.cites.push(id)?,
-                    Sorted::Empty => {
-                        let frames = trail_to(passed, frame);
-                        return Ok(DecidedBeside::Found(loads_in_order(alloc, &frames)?));
-                    }
-                    Sorted::Open(rest) => {
-                        if takes_up(desk, walk, &rest, frame.most - 1) {
-                            enter(pairs, &rest)?;
-                            let below = open_frame(alloc, inst, kind, &rest, frame.most - 1, None);
-                            push_frame(
-                                &mut passed,
-                                &mut listings,
-                                &mut walks,
-                                frame,
-                                listing,
-                                walk,
-                            )?;
-                            listing = begin_listing(inst, cycle, &below);
-                            frame = below;
-                            walk = Walk::First;
-                        } else {
-                            walk = Walk::Gapped;
-                        }
-                    }
+            }
+            Listed::Spent => return Ok(DecidedBeside::Spent),
+            Listed::Passed => {}
+            Listed::Empty => {
+                let frames = trail_of(standing);
+                return Ok(DecidedBeside::Found(loads_in_order(alloc, &frames)?));
+            }
+            Listed::Open(rest) => {
+                if takes_up(desk, walk, &rest, standing.frame.most - 1) {
+                    go_down(alloc, inst, kind, cycle, &rest, None, pairs, &mut standing)?;
+                    push_on(&mut walks, walk)?;
+                    walk = Walk::First;
+                } else {
+                    walk = Walk::Gapped;
                 }
             }
         }

@@ -3,7 +3,6 @@
 //! in hand, takes no memory and can't fail.
 ghost use Rattle.std.specs.Prelude.{◌≡◌, ◌<◌, ◌∷◌, ◌++◌, [], length, vec_len, vec_capacity, IsNone, IfOk, IfSome, OnOk};
 
-use line_rules::{Frames, OpenFrame};
 use std::alloc::{AllocError, Global};
 
 /// An empty stack with room for an item.
@@ -44,13 +43,4 @@ pub fn take_from<T>(stack: &mut Vec<T>) -> T
         Some(item) => item,
         None => unreachable!(),
     }
-}
-
-/// The frames that wait and the one in hand after them, in the room that the stack has: this takes no memory.
-pub fn trail_to(mut passed: Vec<OpenFrame>, frame: OpenFrame) -> Frames
-    requires room { vec_len passed < vec_capacity passed }
-    ensures { result ≡ passed.items ++ frame ∷ [] }
-{
-    passed.push_reserved(frame);
-    Frames::from_vec(passed)
 }

@@ -1,5 +1,5 @@
 -- What the walks over a frame's loads come to, beside others.
-use Rattle.std.specs.Prelude.{◌≡◌, ℕ, ◌+◌, ◌≤◌, List, [], ◌∷◌, Option, None}
+use Rattle.std.specs.Prelude.{◌≡◌, ℕ, ◌+◌, ◌≤◌, List, [], ◌∷◌, Option, Some, None}
 use Rattle.line_instance.specs.Line.{Line}
 use Rattle.line_rules.specs.declared.types.LineKind.{LineKind}
 use Rattle.line_rules.specs.declared.types.Mode.{Mode}
@@ -9,8 +9,6 @@ use Rattle.station_search.specs.Decide.{IsAnswered}
 use Rattle.station_search.specs.inner.Work.{DoesFew}
 use Rattle.station_search.specs.declared.searching_beside.Walk.{Walk}
 use Rattle.station_search.specs.declared.searching_beside.Walk.TheVariants as walk
-use Rattle.station_search.specs.declared.searching_beside.Settled.{Settled}
-use Rattle.station_search.specs.declared.searching_beside.Settled.TheVariants as settled
 
 -- P holds, unless a load was put off in the walk
 abbrev pub IfWhole : Walk → Type 0 → Type 0
@@ -34,12 +32,11 @@ unlisted f = record { set = f.set; most = f.most; mode = f.mode; last = None; ci
 
 -- What came of a frame whose loads ended: an entry answers its question; or a load was put off, no event was added, and
 -- the frame stands before its first load again.
-abbrev pub Settles : ℕ → DeskView → DeskView → OpenFrame → Walk → Settled → Type 0
-Settles X old new f w (settled.Refuted id) = IsAnswered (entries new) id f.set f.most X
-Settles X old new f w (settled.Again again) = Waits old new × (w ≡ walk.Gapped) × (again ≡ unlisted f)
+abbrev pub Settles : ℕ → DeskView → DeskView → OpenFrame → OpenFrame → Walk → Option ℕ → Type 0
+Settles X old new f g w (Some id) = IsAnswered (entries new) id f.set f.most X
+Settles X old new f g w None = Waits old new × (w ≡ walk.Gapped) × (g ≡ unlisted f)
 
 -- a frame that is refuted paid so much at most, with one entry at most
-abbrev pub PaysFor : Option Mode → LineKind → Line → ℕ → DeskView → DeskView → ℕ → Settled → Type 0
-PaysFor asked kind line X old new n (settled.Refuted id) =
-    (m : ℕ) × ((m ≤ n) × DoesFew asked kind line X old new 1 m)
-PaysFor asked kind line X old new n (settled.Again again) = Unit {0}
+abbrev pub PaysFor : Option Mode → LineKind → Line → ℕ → DeskView → DeskView → ℕ → Option ℕ → Type 0
+PaysFor asked kind line X old new n (Some id) = (m : ℕ) × ((m ≤ n) × DoesFew asked kind line X old new 1 m)
+PaysFor asked kind line X old new n None = Unit {0}

@@ -1,13 +1,18 @@
-use Rattle.std.proofs.Common.{◌-◌, ◌∙◌, sym, List, [], subst, inl, inr, arith}
+use Rattle.std.proofs.Common.{ℕ, ◌+◌, ◌-◌, ◌∙◌, sym, List, [], subst, inl, inr, arith}
 use Rattle.std.proofs.lemmas.Bool.{false≢true}
 use Rattle.line_rules.proofs.Nonempty.{member_or_empty}
 use Rattle.line_rules.proofs.PairGrowth.{grow}
 use Rattle.line_rules.specs.Bounds.{bound}
 use Rattle.line_rules.specs.declared.types.OpenFrame.{OpenFrame}
+use Rattle.line_rules.specs.Entries.{IsUnanswered}
+use Rattle.lemma_core.specs.Desks.{entries}
+use Rattle.lemma_core.proofs.HistoryGrows.{keeps_none, keeps_both}
+use Rattle.station_search.specs.Decide.{IsAnswered}
 use Rattle.station_search.specs.Costs.{PaysWithin, AddsFew}
+use Rattle.station_search.proofs.Events.{for_still, waits_none}
 use Rattle.station_search.proofs.Clauses.{not_exceeds, own_accounts, within_accounts, few_accounts, accounts_then}
 use Rattle.station_search.proofs.Clauses.{ends_then, ends_own, ends_costs, ends_few, ends_alone, not_known, few_none}
-use Rattle.station_search.proofs.Clauses.{empty_found}
+use Rattle.station_search.proofs.Clauses.{empty_found, own_waits, exactly_none, spends_none, accounts_none}
 use Rattle.station_search.proofs.deciding.decide_in.Goals as goal
 
 pub returns-then-is_empty-clause-decides : goal.returns-then-is_empty-clause-decides
@@ -151,3 +156,107 @@ returns-in-Refuted-clause-few g c = ends_few c.args.mode c.args.kind c.args.inst
     (g.D.Desk.desk c.look.new.self) (g.D.Desk.desk c.refute_by_pairs.new.desk) (c.args.units.now.used - c.args.units.now.used) c.refute_by_pairs.result
     c.look.ensures.waits c.refute_by_pairs.ensures.keeps (c.refute_by_pairs.ensures.ends c.args.mode
     (c.args.units.now.used - c.args.units.now.used) (omega arith)))
+
+pub returns-then-exceeds-clause-keeps : goal.returns-then-exceeds-clause-keeps
+returns-then-exceeds-clause-keeps g c = keeps_none (g.D.Desk.desk c.args.desk.now)
+
+pub returns-then-exceeds-clause-own : goal.returns-then-exceeds-clause-own
+returns-then-exceeds-clause-own g c = own_waits c.args.mode c.args.kind c.args.inst.now c.args.cycle (g.D.Desk.desk
+    c.args.desk.now) (g.D.Desk.desk c.args.desk.now) (waits_none (g.D.Desk.desk c.args.desk.now))
+
+pub returns-then-exceeds-clause-costs : goal.returns-then-exceeds-clause-costs
+returns-then-exceeds-clause-costs g c = exactly_none c.args.mode c.args.kind c.args.inst.now c.args.cycle
+    (g.D.Desk.desk c.args.desk.now) (g.D.Desk.desk c.args.desk.now) (c.args.units.now.used - c.args.units.now.used)
+    (omega arith) (waits_none (g.D.Desk.desk c.args.desk.now))
+
+pub returns-then-exceeds-clause-alone : goal.returns-then-exceeds-clause-alone
+returns-then-exceeds-clause-alone g c = λ alone. spends_none c.args.inst.now c.args.cycle (g.D.Desk.desk
+    c.args.desk.now) (g.D.Desk.desk c.args.desk.now) (c.args.units.now.used - c.args.units.now.used) (omega arith)
+    alone (waits_none (g.D.Desk.desk c.args.desk.now))
+
+pub returns-then-exceeds-clause-few : goal.returns-then-exceeds-clause-few
+returns-then-exceeds-clause-few g c = few_none c.args.inst.now c.args.cycle (g.D.Desk.desk c.args.desk.now)
+    (g.D.Desk.desk c.args.desk.now) (c.args.units.now.used - c.args.units.now.used)
+    ((c.args.units.now.used - c.args.units.now.used) + 1) (waits_none (g.D.Desk.desk c.args.desk.now))
+
+pub returns-in-Found-clause-keeps : goal.returns-in-Found-clause-keeps
+returns-in-Found-clause-keeps g c = c.look.ensures.waits.keeps
+
+pub returns-in-Found-clause-own : goal.returns-in-Found-clause-own
+returns-in-Found-clause-own g c = own_waits c.args.mode c.args.kind c.args.inst.now c.args.cycle (g.D.Desk.desk
+    c.args.desk.now) (g.D.Desk.desk c.look.new.self) c.look.ensures.waits
+
+pub returns-in-Found-clause-decides : goal.returns-in-Found-clause-decides
+returns-in-Found-clause-decides g c =
+    let A : ℕ → Type 0 = λ z. IsAnswered (entries (g.D.Desk.desk c.look.new.self)) c.in-Found.id c.args.set.now
+    c.args.most z in
+    let last = c.in-Found.ensures.finds.0 in (
+      not_exceeds c.exceeds.result c.args.most (bound c.args.kind c.args.inst.now c.args.cycle c.args.set.now)
+          c.if-exceeds.false c.exceeds.ensures,
+      subst A (for_still (g.D.Desk.desk c.args.desk.now) (g.D.Desk.desk c.look.new.self) c.args.inst.now c.args.kind
+          c.args.cycle c.requires.desk c.look.ensures.waits.keeps).same_cycle
+          (record { entry = last.entry; there = last.there; answers = last.answers }),
+    )
+
+pub returns-in-Found-clause-costs : goal.returns-in-Found-clause-costs
+returns-in-Found-clause-costs g c = exactly_none c.args.mode c.args.kind c.args.inst.now c.args.cycle
+    (g.D.Desk.desk c.args.desk.now) (g.D.Desk.desk c.look.new.self) (c.args.units.now.used - c.args.units.now.used)
+    (omega arith) c.look.ensures.waits
+
+pub returns-in-Found-clause-alone : goal.returns-in-Found-clause-alone
+returns-in-Found-clause-alone g c = λ alone. spends_none c.args.inst.now c.args.cycle (g.D.Desk.desk
+    c.args.desk.now) (g.D.Desk.desk c.look.new.self) (c.args.units.now.used - c.args.units.now.used) (omega arith)
+    alone c.look.ensures.waits
+
+pub returns-in-Found-clause-few : goal.returns-in-Found-clause-few
+returns-in-Found-clause-few g c = few_none c.args.inst.now c.args.cycle (g.D.Desk.desk c.args.desk.now)
+    (g.D.Desk.desk c.look.new.self) (c.args.units.now.used - c.args.units.now.used)
+    ((c.args.units.now.used - c.args.units.now.used) + 1) c.look.ensures.waits
+
+pub returns-then-is_empty-clause-keeps : goal.returns-then-is_empty-clause-keeps
+returns-then-is_empty-clause-keeps g c = c.look.ensures.waits.keeps
+
+pub returns-then-is_empty-clause-own : goal.returns-then-is_empty-clause-own
+returns-then-is_empty-clause-own g c = own_waits c.args.mode c.args.kind c.args.inst.now c.args.cycle (g.D.Desk.desk
+    c.args.desk.now) (g.D.Desk.desk c.look.new.self) c.look.ensures.waits
+
+pub returns-then-is_empty-clause-costs : goal.returns-then-is_empty-clause-costs
+returns-then-is_empty-clause-costs g c = within_accounts c.args.mode c.args.kind c.args.inst.now c.args.cycle
+    (g.D.Desk.desk c.args.desk.now) (g.D.Desk.desk c.look.new.self) [] (c.args.units.now.used - c.args.units.now.used)
+    (c.args.units.now.used - c.args.units.now.used) (accounts_none c.args.mode c.args.kind c.args.inst.now c.args.cycle
+    (g.D.Desk.desk c.args.desk.now) (g.D.Desk.desk c.look.new.self) (c.args.units.now.used - c.args.units.now.used)
+    (c.args.units.now.used - c.args.units.now.used) c.look.ensures.waits)
+
+pub refute_by_pairs-requires-clause-desk : goal.refute_by_pairs-requires-clause-desk
+refute_by_pairs-requires-clause-desk g c = for_still (g.D.Desk.desk c.args.desk.now) (g.D.Desk.desk c.look.new.self)
+    c.args.inst.now c.args.kind c.args.cycle c.requires.desk c.look.ensures.waits.keeps
+
+pub refute_by_pairs-requires-clause-bounded : goal.refute_by_pairs-requires-clause-bounded
+refute_by_pairs-requires-clause-bounded g c = not_exceeds c.exceeds.result c.args.most (bound c.args.kind
+    c.args.inst.now c.args.cycle c.args.set.now) c.if-exceeds.false c.exceeds.ensures
+
+pub returns-in-Refuted-clause-keeps : goal.returns-in-Refuted-clause-keeps
+returns-in-Refuted-clause-keeps g c = keeps_both (g.D.Desk.desk c.args.desk.now) (g.D.Desk.desk c.look.new.self)
+    (g.D.Desk.desk c.refute_by_pairs.new.desk) c.look.ensures.waits.keeps c.refute_by_pairs.ensures.keeps
+
+pub search-requires-clause-desk : goal.search-requires-clause-desk
+search-requires-clause-desk g c = for_still (g.D.Desk.desk c.args.desk.now) (g.D.Desk.desk c.look.new.self)
+    c.args.inst.now c.args.kind c.args.cycle c.requires.desk c.look.ensures.waits.keeps
+
+pub search-requires-clause-bound : goal.search-requires-clause-bound
+search-requires-clause-bound g c = not_exceeds c.exceeds.result c.args.most (bound c.args.kind c.args.inst.now
+    c.args.cycle c.args.set.now) c.if-exceeds.false c.exceeds.ensures
+
+pub search-requires-clause-unanswered : goal.search-requires-clause-unanswered
+search-requires-clause-unanswered g c = λ t.
+    let U : ℕ → Type 0 = λ z. IsUnanswered (entries (g.D.Desk.desk c.look.new.self)) c.args.set.now c.args.most z in
+    subst U (for_still (g.D.Desk.desk c.args.desk.now) (g.D.Desk.desk c.look.new.self) c.args.inst.now c.args.kind
+    c.args.cycle c.requires.desk c.look.ensures.waits.keeps).same_cycle c.in-Absent.ensures.finds
+
+pub returns-in-Ok-clause-keeps : goal.returns-in-Ok-clause-keeps
+returns-in-Ok-clause-keeps g c = keeps_both (g.D.Desk.desk c.args.desk.now) (g.D.Desk.desk c.look.new.self)
+    (g.D.Desk.desk c.search.new.desk) c.look.ensures.waits.keeps c.search.ensures.keeps
+
+pub returns-in-Err-clause-keeps : goal.returns-in-Err-clause-keeps
+returns-in-Err-clause-keeps g c = keeps_both (g.D.Desk.desk c.args.desk.now) (g.D.Desk.desk c.look.new.self)
+    (g.D.Desk.desk c.search.new.desk) c.look.ensures.waits.keeps c.search.ensures.keeps

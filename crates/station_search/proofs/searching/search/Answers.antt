@@ -1,422 +1,546 @@
-use Rattle.std.proofs.Common.{◌+◌, ◌-◌, Bool, Option, IfSome, List, [], ◌∷◌, length, refl, sym, ap, ◌∙◌, subst, arith}
+use Rattle.std.proofs.Common.{◌-◌, Bool, Option, IfSome, List, [], ◌∷◌, length, refl, sym, ap, ◌∙◌, subst, arith}
 use Rattle.std.proofs.Common.{length-append}
 use Rattle.line_instance.specs.Line.{Line, IsTaskSet}
 use Rattle.line_rules.specs.Loads.{rest}
 use Rattle.line_rules.specs.Entries.{Follows}
 use Rattle.line_rules.specs.declared.types.LineKind.{LineKind}
 use Rattle.line_rules.specs.declared.types.OpenFrame.{OpenFrame}
-use Rattle.lemma_core.specs.Desks.{DeskView, entries}
+use Rattle.lemma_core.specs.Desks.{entries}
 use Rattle.lemma_core.proofs.HistoryGrows.{keeps_none, keeps_both}
 use Rattle.pair_search.specs.Sharing.{Sharing}
 use Rattle.station_search.specs.Decide.{IsFor, IsPairing}
-use Rattle.station_search.specs.inner.Work.{branch_of, with_last, may_add, Sorts, Accounts}
-use Rattle.station_search.specs.declared.sorting.Sorted.{Sorted}
+use Rattle.station_search.specs.inner.Work.{branch_of, with_last, with_cites, Accounts}
+use Rattle.station_search.specs.inner.Steps.{IsReady, Lists, units_of}
+use Rattle.station_search.specs.declared.standing.Standing.{Standing}
+use Rattle.station_search.specs.declared.standing.Listed.{Listed}
 use Rattle.station_search.proofs.Events.{for_still}
-use Rattle.station_search.proofs.PaidSteps.{one_none}
-use Rattle.station_search.proofs.States.{rest_tasks, follows, closed, covered, goes_up, answer_cites}
-use Rattle.station_search.proofs.Pairs.{paired_none, paired_push, paired_pop, paired_last}
-use Rattle.station_search.proofs.Tallies.{tally_lists, tally_ends, tally_up, accounts, idle}
+use Rattle.station_search.proofs.PaidSteps.{does_few}
+use Rattle.station_search.proofs.States.{rest_tasks, follows}
+use Rattle.station_search.proofs.Tallies.{tally_ends, idle}
 use Rattle.station_search.proofs.Endings.{on_err}
-use Rattle.station_search.proofs.LoopTurns.{adds_few, beside_cites, grown, first, first_tally, stations_few, stops}
-use Rattle.station_search.proofs.LoopTurns.{stopped}
-use Rattle.station_search.proofs.LoopTurns.{down, down_tally, found, gives_up, refuted}
+use Rattle.station_search.proofs.LoopTurns.{first, grown, first_tally, stations_few, gives_up, refuted, answers_asked}
+use Rattle.station_search.proofs.StepTurns.{ended, ready_with, up_ready, up_beside, searching_on}
+use Rattle.station_search.proofs.StepTurns.{tally_on, found_at, searching_down, tally_down_at, searching_up, tally_up_at}
+use Rattle.station_search.proofs.StepTurns.{stops_at, stopped_at, used_none, used_one, used_still, at_least, no_more, ends_waiting}
+use Rattle.station_search.proofs.StepTurns.{ends_refuted}
 use Rattle.station_search.proofs.searching.search.Goals as goal
 
 pub search-init : goal.search-init
-search-init g c = record {
-  keeps = keeps_none (g.D.Desk.desk c.args.desk.now);
-  pairs = c.enter_first.ensures.pairs;
-  units = refl;
-  spent = omega arith;
-  searching = first c.args.mode c.args.kind c.args.inst.now c.tasks-tasks.ensures.ranked c.args.cycle c.args.set.now
-      c.args.most (entries (g.D.Desk.desk c.args.desk.now)) c.in_ok-passed.passed.items c.open_frame-frame.result
-      c.in_ok-passed.ensures.empty c.open_frame-frame.ensures.set c.open_frame-frame.ensures.most
-      c.open_frame-frame.ensures.mode
-      c.open_frame-frame.ensures.belongs c.open_frame-frame.ensures.last c.open_frame-frame.ensures.cites
-      c.requires.some c.requires.set c.requires.bound;
-  beside = c.begin_listing-listing.ensures;
-  room = c.in_ok-passed.ensures.room;
-  paired = paired_none c.args.inst.now c.args.cycle c.in_ok-passed.passed.items c.new-listings.result.items
-      c.in_ok-passed.ensures.empty c.new-listings.ensures.items;
-  tally = first_tally c.args.mode c.args.kind c.args.inst.now c.tasks-tasks.ensures.ranked c.args.cycle c.args.set.now
-      c.args.most (g.D.Desk.desk c.args.desk.now) c.in_ok-passed.passed.items c.open_frame-frame.result
-      (c.args.units.now.used - c.args.units.now.used) c.in_ok-passed.ensures.empty c.open_frame-frame.ensures.set
-      c.open_frame-frame.ensures.most c.open_frame-frame.ensures.last (omega arith) c.requires.unanswered;
-}
+search-init g c =
+    let b = c.in_ok-standing.ensures.begun in
+    record {
+      keeps = keeps_none (g.D.Desk.desk c.args.desk.now);
+      pairs = c.begin_standing.ensures.pairs;
+      units = refl;
+      spent = no_more c.args.units.now.used;
+      searching = first c.args.mode c.args.kind c.args.inst.now c.tasks-tasks.ensures.ranked c.args.cycle c.args.set.now c.args.most (entries (g.D.Desk.desk c.args.desk.now)) c.in_ok-standing.standing.passed.items
+          c.in_ok-standing.standing.frame b.none b.fresh.set b.fresh.most b.fresh.mode b.fresh.belongs b.fresh.last
+          b.fresh.cites c.requires.some c.requires.set c.requires.bound;
+      beside = b.beside;
+      ready = b.ready;
+      tally = first_tally c.args.mode c.args.kind c.args.inst.now c.tasks-tasks.ensures.ranked c.args.cycle c.args.set.now c.args.most (g.D.Desk.desk c.args.desk.now) c.in_ok-standing.standing.passed.items c.in_ok-standing.standing.frame
+          (c.args.units.now.used - c.args.units.now.used) b.none b.fresh.set b.fresh.most b.fresh.last (omega arith)
+          c.requires.unanswered;
+    }
 
-pub returns-in_err-passed-clause-accounts : goal.returns-in_err-passed-clause-accounts
-returns-in_err-passed-clause-accounts g c =
-    on_err c.from_residual.result (Accounts c.args.mode c.args.kind c.args.inst.now c.args.cycle
-    (g.D.Desk.desk c.args.desk.now) (g.D.Desk.desk c.args.desk.now) []
-    (c.args.units.now.used - c.args.units.now.used) (c.args.units.now.used - c.args.units.now.used))
-    (idle c.args.mode c.args.kind c.args.inst.now c.args.cycle (g.D.Desk.desk c.args.desk.now)
-    (c.args.units.now.used - c.args.units.now.used) (c.args.units.now.used - c.args.units.now.used))
+pub returns-in_err-standing-clause-accounts : goal.returns-in_err-standing-clause-accounts
+returns-in_err-standing-clause-accounts g c =
+    on_err c.from_residual.result (Accounts c.args.mode c.args.kind c.args.inst.now c.args.cycle (g.D.Desk.desk c.args.desk.now) (g.D.Desk.desk c.args.desk.now) [] (c.args.units.now.used - c.args.units.now.used) (c.args.units.now.used - c.args.units.now.used))
+    (idle c.args.mode c.args.kind c.args.inst.now c.args.cycle (g.D.Desk.desk c.args.desk.now) (c.args.units.now.used - c.args.units.now.used) (c.args.units.now.used - c.args.units.now.used))
 
-pub publish_branch-requires-clause-follows : goal.publish_branch-requires-clause-follows
-publish_branch-requires-clause-follows g c =
-    let desk : DeskView = (g.D.Desk.desk c.search.desk) in
-    let f : IsFor desk c.args.inst.now c.args.kind c.args.cycle =
-    for_still (g.D.Desk.desk c.args.desk.now) desk c.args.inst.now c.args.kind c.args.cycle c.requires.desk
-    c.search.invariant.keeps in
-    let P : LineKind → Type 0 = λ z. Follows z desk.about.line (entries desk) (branch_of c.args.cycle c.search.frame) in
-    let Q : Line → Type 0 = λ z. Follows c.args.kind z (entries desk) (branch_of c.args.cycle c.search.frame) in
-    subst P (sym f.same_kind) (subst Q (sym f.same_line) (follows c.args.mode c.args.kind c.args.inst.now
-    c.tasks-tasks.ensures.ranked c.args.cycle c.args.set.now c.args.most (entries desk) c.search.passed.items
-    c.search.frame c.search.invariant.searching c.requires.cycle.some (c.in-None.ensures.none refl)))
+pub returns-in_err-standing-clause-keeps : goal.returns-in_err-standing-clause-keeps
+returns-in_err-standing-clause-keeps g c =
+    keeps_none (g.D.Desk.desk c.args.desk.now)
 
-pub publish_branch-requires-clause-range : goal.publish_branch-requires-clause-range
-publish_branch-requires-clause-range g c = record {
-  most = stations_few c.args.mode c.args.kind c.args.inst.now
-      c.tasks-tasks.ensures.ranked c.args.cycle c.args.set.now c.args.most (entries (g.D.Desk.desk c.search.desk))
-      c.search.passed.items c.search.frame c.search.invariant.searching c.requires.few;
-  cycle = c.requires.cycle;
-}
+pub list_load-requires-clause-desk : goal.list_load-requires-clause-desk
+list_load-requires-clause-desk g c =
+    for_still (g.D.Desk.desk c.args.desk.now) (g.D.Desk.desk c.search.desk) c.args.inst.now c.args.kind c.args.cycle c.requires.desk c.search.invariant.keeps
 
-pub returns-in_err-id-in-None-clause-accounts : goal.returns-in_err-id-in-None-clause-accounts
-returns-in_err-id-in-None-clause-accounts g c =
-    on_err c.from_residual-in_err-id-in-None.result (Accounts c.args.mode c.args.kind c.args.inst.now c.args.cycle
-    (g.D.Desk.desk c.args.desk.now) (g.D.Desk.desk c.publish_branch.new.desk) []
-    (c.search.units.used - c.args.units.now.used) (c.search.units.used - c.args.units.now.used))
-    (accounts c.args.mode c.args.kind c.args.inst.now c.tasks-tasks.ensures.ranked c.args.cycle
-    (g.D.Desk.desk c.args.desk.now) (g.D.Desk.desk c.search.desk) (g.D.Desk.desk c.publish_branch.new.desk)
-    c.search.passed.items c.search.frame (c.search.units.used - c.args.units.now.used) c.search.invariant.keeps
-    c.publish_branch.ensures.keeps c.search.invariant.tally c.search.frame.set 0 0
-    (c.search.units.used - c.args.units.now.used) (one_none c.args.mode c.args.kind c.args.inst.now c.args.cycle
-    (g.D.Desk.desk c.search.desk) (g.D.Desk.desk c.publish_branch.new.desk) c.search.frame.set 0
-    c.in_err-id-in-None.ensures.waits) (omega arith) (omega arith) (omega arith))
+pub list_load-requires-clause-set : goal.list_load-requires-clause-set
+list_load-requires-clause-set g c =
+    c.search.invariant.searching.tasks
 
-pub returns-in-None-pop_from-clause-ends : goal.returns-in-None-pop_from-clause-ends
-returns-in-None-pop_from-clause-ends g c =
-    tally_ends c.args.mode c.args.kind c.args.inst.now c.tasks-tasks.ensures.ranked c.args.cycle
-    (g.D.Desk.desk c.args.desk.now) (g.D.Desk.desk c.search.desk) (g.D.Desk.desk c.publish_branch.new.desk)
-    c.search.passed.items c.search.frame (c.search.units.used - c.args.units.now.used) c.search.invariant.keeps
-    c.publish_branch.ensures.keeps c.search.invariant.tally
-    (refuted c.args.mode c.args.kind c.args.inst.now c.tasks-tasks.ensures.ranked c.args.cycle c.args.set.now
-    c.args.most (g.D.Desk.desk c.args.desk.now) (g.D.Desk.desk c.search.desk)
-    (g.D.Desk.desk c.publish_branch.new.desk) c.search.passed.items c.search.frame
-    (c.search.units.used - c.args.units.now.used) c.search.invariant.keeps c.publish_branch.ensures.keeps
-    c.search.invariant.tally (entries (g.D.Desk.desk c.search.desk)) c.search.invariant.searching
-    (c.in-None.ensures.none refl) c.in_ok-id-in-None.ensures.publishes) (c.in-None-pop_from.ensures.none refl)
+pub list_load-requires-clause-some : goal.list_load-requires-clause-some
+list_load-requires-clause-some g c =
+    c.search.invariant.searching.stations
 
-pub search-preserved-in_ok-push-in-Some-pop_from : goal.search-preserved-in_ok-push-in-Some-pop_from
-search-preserved-in_ok-push-in-Some-pop_from g c = record {
-  keeps = keeps_both (g.D.Desk.desk c.args.desk.now) (g.D.Desk.desk c.search.desk)
-      (g.D.Desk.desk c.publish_branch.new.desk) c.search.invariant.keeps c.publish_branch.ensures.keeps;
-  pairs = c.leave.ensures.pairs ∙ c.search.invariant.pairs;
-  units = c.search.invariant.units;
-  spent = c.search.invariant.spent;
-  searching = goes_up c.args.mode c.args.kind c.args.inst.now c.tasks-tasks.ensures.ranked c.args.cycle c.args.set.now
-      c.args.most (entries (g.D.Desk.desk c.publish_branch.new.desk)) c.search.passed.items c.pop_from.new.stack.items
-      c.search.frame c.in-Some-pop_from.parent c.in_ok-id-in-None.id c.push.new.self c.in-Some-pop_from.ensures.some
-      c.in_ok-push-in-Some-pop_from.ensures.ok c.requires.set
-      (grown c.args.mode c.args.kind c.args.inst.now c.tasks-tasks.ensures.ranked c.args.cycle c.args.set.now
-      c.args.most (g.D.Desk.desk c.search.desk) (g.D.Desk.desk c.publish_branch.new.desk) c.search.passed.items
-      c.search.frame c.publish_branch.ensures.keeps c.search.invariant.searching)
-      (λ T r same few. answer_cites (entries (g.D.Desk.desk c.publish_branch.new.desk)) c.in_ok-id-in-None.id
-      c.search.frame.set T c.search.frame.most r c.args.cycle same few c.in_ok-id-in-None.ensures.answered);
-  beside = paired_last c.args.inst.now c.args.cycle c.search.passed.items c.pop_from.new.stack.items
-      c.search.listings.items c.take_from-listing.new.stack.items c.in-Some-pop_from.parent c.take_from-listing.result
-      c.in-Some-pop_from.ensures.some c.take_from-listing.ensures c.search.invariant.paired c.push.new.self;
-  room = c.pop_from.ensures.room c.search.invariant.room;
-  paired = paired_pop c.args.inst.now c.args.cycle c.search.passed.items c.pop_from.new.stack.items
-      c.search.listings.items c.take_from-listing.new.stack.items c.in-Some-pop_from.parent c.take_from-listing.result
-      c.in-Some-pop_from.ensures.some c.take_from-listing.ensures c.search.invariant.paired;
-  tally = tally_up c.args.mode c.args.kind c.args.inst.now c.tasks-tasks.ensures.ranked c.args.cycle
-      (g.D.Desk.desk c.args.desk.now) (g.D.Desk.desk c.search.desk) (g.D.Desk.desk c.publish_branch.new.desk)
-      c.search.passed.items c.search.frame (c.search.units.used - c.args.units.now.used) c.search.invariant.keeps
-      c.publish_branch.ensures.keeps c.search.invariant.tally c.pop_from.new.stack.items c.in-Some-pop_from.parent
-      c.push.new.self (entries (g.D.Desk.desk c.search.desk)) c.args.set.now c.args.most
-      (refuted c.args.mode c.args.kind c.args.inst.now c.tasks-tasks.ensures.ranked c.args.cycle c.args.set.now
-      c.args.most (g.D.Desk.desk c.args.desk.now) (g.D.Desk.desk c.search.desk)
-      (g.D.Desk.desk c.publish_branch.new.desk) c.search.passed.items c.search.frame
-      (c.search.units.used - c.args.units.now.used) c.search.invariant.keeps c.publish_branch.ensures.keeps
-      c.search.invariant.tally (entries (g.D.Desk.desk c.search.desk)) c.search.invariant.searching
-      (c.in-None.ensures.none refl) c.in_ok-id-in-None.ensures.publishes) c.in-Some-pop_from.ensures.some
-      c.search.invariant.searching.leads;
-}
+pub list_load-requires-clause-few : goal.list_load-requires-clause-few
+list_load-requires-clause-few g c =
+    stations_few c.args.mode c.args.kind c.args.inst.now c.tasks-tasks.ensures.ranked c.args.cycle c.args.set.now c.args.most (entries (g.D.Desk.desk c.search.desk)) c.search.standing.passed.items c.search.standing.frame
+    c.search.invariant.searching c.requires.few
 
-pub returns-in_err-push-in-Some-pop_from-clause-accounts : goal.returns-in_err-push-in-Some-pop_from-clause-accounts
-returns-in_err-push-in-Some-pop_from-clause-accounts g c =
-    on_err c.from_residual-in_err-push-in-Some-pop_from.result
-    (Accounts c.args.mode c.args.kind c.args.inst.now c.args.cycle (g.D.Desk.desk c.args.desk.now)
-    (g.D.Desk.desk c.publish_branch.new.desk) [] (c.search.units.used - c.args.units.now.used)
-    (c.search.units.used - c.args.units.now.used))
-    (accounts c.args.mode c.args.kind c.args.inst.now c.tasks-tasks.ensures.ranked c.args.cycle
-    (g.D.Desk.desk c.args.desk.now) (g.D.Desk.desk c.search.desk) (g.D.Desk.desk c.publish_branch.new.desk)
-    c.search.passed.items c.search.frame (c.search.units.used - c.args.units.now.used) c.search.invariant.keeps
-    c.publish_branch.ensures.keeps c.search.invariant.tally c.search.frame.set 1 c.search.invariant.tally.here
-    (c.search.units.used - c.args.units.now.used) (refuted c.args.mode c.args.kind c.args.inst.now
-    c.tasks-tasks.ensures.ranked c.args.cycle c.args.set.now c.args.most (g.D.Desk.desk c.args.desk.now)
-    (g.D.Desk.desk c.search.desk) (g.D.Desk.desk c.publish_branch.new.desk) c.search.passed.items c.search.frame
-    (c.search.units.used - c.args.units.now.used) c.search.invariant.keeps c.publish_branch.ensures.keeps
-    c.search.invariant.tally (entries (g.D.Desk.desk c.search.desk)) c.search.invariant.searching
-    (c.in-None.ensures.none refl) c.in_ok-id-in-None.ensures.publishes) (omega arith) (omega arith)
-    (omega (
-      arith,
-      ap (λ (z : List OpenFrame). length z) c.in-Some-pop_from.ensures.some,
-      length-append c.pop_from.new.stack.items (c.in-Some-pop_from.parent ∷ []),
-    )))
-
-pub returns-then-units-eq0-clause-decides : goal.returns-then-units-eq0-clause-decides
-returns-then-units-eq0-clause-decides g c =
-    stops c.args.mode c.args.kind c.args.inst.now c.tasks-tasks.ensures.ranked c.args.cycle c.args.set.now c.args.most
-    (entries (g.D.Desk.desk c.search.desk)) c.search.passed.items c.search.frame c.search.invariant.searching
-    c.trail_to.result c.in-Some.load c.search.units.left c.requires.bound c.trail_to.ensures c.if-units-eq0.true
-    c.in-Some.ensures.next
-
-pub returns-then-units-eq0-clause-ends : goal.returns-then-units-eq0-clause-ends
-returns-then-units-eq0-clause-ends g c =
-    stopped c.args.mode c.args.kind c.args.inst.now c.tasks-tasks.ensures.ranked c.args.cycle
-    (g.D.Desk.desk c.args.desk.now) (g.D.Desk.desk c.search.desk) c.search.passed.items c.trail_to.result
-    c.search.frame (c.search.units.used - c.args.units.now.used) c.trail_to.ensures c.search.invariant.tally
-
-pub sort_load-requires-clause-pairs : goal.sort_load-requires-clause-pairs
-sort_load-requires-clause-pairs g c =
+pub list_load-requires-clause-pairs : goal.list_load-requires-clause-pairs
+list_load-requires-clause-pairs g c =
     let P : Option Sharing → Type 0 = λ z. IfSome z (IsPairing c.args.inst.now c.args.kind c.args.cycle) in
     subst P (sym c.search.invariant.pairs) c.requires.pairs
 
-pub sort_load-requires-clause-few : goal.sort_load-requires-clause-few
-sort_load-requires-clause-few g c = stations_few c.args.mode c.args.kind c.args.inst.now c.tasks-tasks.ensures.ranked
-    c.args.cycle c.args.set.now c.args.most (entries (g.D.Desk.desk c.search.desk)) c.search.passed.items c.search.frame
-    c.search.invariant.searching c.requires.few
+pub returns-in_err-list_load-clause-keeps : goal.returns-in_err-list_load-clause-keeps
+returns-in_err-list_load-clause-keeps g c =
+    keeps_both (g.D.Desk.desk c.args.desk.now) (g.D.Desk.desk c.search.desk) (g.D.Desk.desk c.list_load.new.desk) c.search.invariant.keeps c.list_load.ensures.keeps
 
-pub returns-in_err-sort_load-in-Some-clause-accounts : goal.returns-in_err-sort_load-in-Some-clause-accounts
-returns-in_err-sort_load-in-Some-clause-accounts g c =
-    on_err c.from_residual-in_err-sort_load-in-Some.result (Accounts c.args.mode c.args.kind c.args.inst.now
-    c.args.cycle (g.D.Desk.desk c.args.desk.now) (g.D.Desk.desk c.sort_load.new.desk) []
-    (c.search.units.used + 1 - c.args.units.now.used) (c.search.units.used + 1 - c.args.units.now.used))
-    (gives_up c.args.mode c.args.kind c.args.inst.now c.tasks-tasks.ensures.ranked c.args.cycle c.args.set.now
-    c.args.most (g.D.Desk.desk c.args.desk.now) (g.D.Desk.desk c.search.desk) (g.D.Desk.desk c.sort_load.new.desk)
-    c.search.passed.items c.search.frame (c.search.units.used - c.args.units.now.used) c.search.invariant.keeps
-    c.sort_load.ensures.keeps c.search.invariant.tally (rest c.search.frame.set c.in-Some.load) 0
-    (c.search.units.used + 1 - c.args.units.now.used) (c.in_err-sort_load-in-Some.ensures.fails c.args.mode)
-    (omega arith) (omega (arith, c.search.invariant.spent)))
+pub returns-in_err-list_load-clause-accounts : goal.returns-in_err-list_load-clause-accounts
+returns-in_err-list_load-clause-accounts g c =
+    on_err c.from_residual-in_err-list_load.result (Accounts c.args.mode c.args.kind c.args.inst.now c.args.cycle (g.D.Desk.desk c.args.desk.now) (g.D.Desk.desk c.list_load.new.desk) [] (c.list_load.new.units.used - c.args.units.now.used) (c.list_load.new.units.used - c.args.units.now.used))
+    (gives_up c.args.mode c.args.kind c.args.inst.now c.tasks-tasks.ensures.ranked c.args.cycle c.args.set.now c.args.most (g.D.Desk.desk c.args.desk.now) (g.D.Desk.desk c.search.desk) (g.D.Desk.desk c.list_load.new.desk) c.search.standing.passed.items
+    c.search.standing.frame (c.search.units.used - c.args.units.now.used) c.search.invariant.keeps c.list_load.ensures.keeps c.search.invariant.tally 1
+    (c.list_load.new.units.used - c.args.units.now.used) (c.in_err-list_load.ensures.fails c.args.mode) (no_more 1)
+    (used_one c.list_load.new.units.used c.search.units.used 1 c.args.units.now.used
+    c.in_err-list_load.ensures.fails_used refl c.search.invariant.spent))
 
-pub search-preserved-in-Closed : goal.search-preserved-in-Closed
-search-preserved-in-Closed g c =
-    let S : Sorted → Type 0 = λ z. Sorts c.args.kind c.args.inst.now c.args.cycle (g.D.Desk.desk c.search.desk).alone
-    (entries (g.D.Desk.desk c.sort_load.new.desk)) (with_last c.search.frame c.in-Some.load) c.in-Some.load z in
-    let o = subst S c.in-Closed.is c.in_ok-sort_load-in-Some.ensures.sorts in
+pub publish_branch-requires-clause-follows : goal.publish_branch-requires-clause-follows
+publish_branch-requires-clause-follows g c =
+    let S : Listed → Type 0 = λ z. Lists c.args.kind c.args.inst.now c.args.cycle (g.D.Desk.desk c.search.desk).alone (g.D.Desk.desk c.search.desk) (g.D.Desk.desk c.list_load.new.desk)
+    c.search.standing c.list_load.new.standing c.list_load.new.units.left z in
+    let n = subst S c.in-Ended.is c.in_ok-list_load.ensures.lists in
+    let e = ended c.args.mode c.args.kind c.args.inst.now c.args.cycle c.args.set.now c.args.most (g.D.Desk.desk c.args.desk.now) (g.D.Desk.desk c.search.desk) (g.D.Desk.desk c.list_load.new.desk) c.search.standing
+    c.list_load.new.standing (c.search.units.used - c.args.units.now.used) (c.list_load.new.units.used - c.args.units.now.used)
+    (used_none c.list_load.new.units.used c.search.units.used (units_of c.in_ok-list_load.field-0) c.args.units.now.used
+    c.in_ok-list_load.ensures.used (ap units_of c.in-Ended.is)) n c.search.invariant.searching
+    c.search.invariant.tally in
+    let f : IsFor (g.D.Desk.desk c.list_load.new.desk) c.args.inst.now c.args.kind c.args.cycle = for_still (g.D.Desk.desk c.args.desk.now) (g.D.Desk.desk c.list_load.new.desk) c.args.inst.now c.args.kind
+    c.args.cycle c.requires.desk (keeps_both (g.D.Desk.desk c.args.desk.now) (g.D.Desk.desk c.search.desk) (g.D.Desk.desk c.list_load.new.desk) c.search.invariant.keeps c.list_load.ensures.keeps) in
+    let P : LineKind → Type 0 = λ z. Follows z (g.D.Desk.desk c.list_load.new.desk).about.line (entries (g.D.Desk.desk c.list_load.new.desk))
+    (branch_of c.args.cycle c.list_load.new.standing.frame) in
+    let Q : Line → Type 0 = λ z. Follows c.args.kind z (entries (g.D.Desk.desk c.list_load.new.desk))
+    (branch_of c.args.cycle c.list_load.new.standing.frame) in
+    subst P (sym f.same_kind) (subst Q (sym f.same_line) (follows c.args.mode c.args.kind c.args.inst.now c.tasks-tasks.ensures.ranked c.args.cycle c.args.set.now c.args.most (entries (g.D.Desk.desk c.list_load.new.desk))
+    c.list_load.new.standing.passed.items c.list_load.new.standing.frame e.now c.requires.cycle.some e.none))
+
+pub publish_branch-requires-clause-range : goal.publish_branch-requires-clause-range
+publish_branch-requires-clause-range g c =
+    let S : Listed → Type 0 = λ z. Lists c.args.kind c.args.inst.now c.args.cycle (g.D.Desk.desk c.search.desk).alone (g.D.Desk.desk c.search.desk) (g.D.Desk.desk c.list_load.new.desk)
+    c.search.standing c.list_load.new.standing c.list_load.new.units.left z in
+    let n = subst S c.in-Ended.is c.in_ok-list_load.ensures.lists in
+    let e = ended c.args.mode c.args.kind c.args.inst.now c.args.cycle c.args.set.now c.args.most (g.D.Desk.desk c.args.desk.now) (g.D.Desk.desk c.search.desk) (g.D.Desk.desk c.list_load.new.desk) c.search.standing
+    c.list_load.new.standing (c.search.units.used - c.args.units.now.used) (c.list_load.new.units.used - c.args.units.now.used)
+    (used_none c.list_load.new.units.used c.search.units.used (units_of c.in_ok-list_load.field-0) c.args.units.now.used
+    c.in_ok-list_load.ensures.used (ap units_of c.in-Ended.is)) n c.search.invariant.searching
+    c.search.invariant.tally in
     record {
-      keeps = keeps_both (g.D.Desk.desk c.args.desk.now) (g.D.Desk.desk c.search.desk)
-          (g.D.Desk.desk c.sort_load.new.desk) c.search.invariant.keeps c.sort_load.ensures.keeps;
-      pairs = c.sort_load.ensures.pairs ∙ c.search.invariant.pairs;
-      units = omega (arith, c.search.invariant.units, c.if-units-eq0.false);
-      spent = (omega (arith, c.search.invariant.spent));
-      searching = closed c.args.mode c.args.kind c.args.inst.now c.tasks-tasks.ensures.ranked c.args.cycle
-          c.args.set.now c.args.most (entries (g.D.Desk.desk c.sort_load.new.desk)) c.search.passed.items c.search.frame
-          (grown c.args.mode c.args.kind c.args.inst.now c.tasks-tasks.ensures.ranked c.args.cycle c.args.set.now
-          c.args.most (g.D.Desk.desk c.search.desk) (g.D.Desk.desk c.sort_load.new.desk) c.search.passed.items
-          c.search.frame c.sort_load.ensures.keeps c.search.invariant.searching) c.in-Some.load c.in-Some.ensures.next
-          o;
-      beside = c.in-Some.ensures.beside;
-      room = c.search.invariant.room;
-      paired = c.search.invariant.paired;
-      tally = tally_lists c.args.mode c.args.kind c.args.inst.now c.tasks-tasks.ensures.ranked c.args.cycle
-          (g.D.Desk.desk c.args.desk.now) (g.D.Desk.desk c.search.desk) (g.D.Desk.desk c.sort_load.new.desk)
-          c.search.passed.items c.search.frame (c.search.units.used - c.args.units.now.used) c.search.invariant.keeps
-          c.sort_load.ensures.keeps c.search.invariant.tally (entries (g.D.Desk.desk c.search.desk)) c.args.set.now
-          c.args.most c.in-Some.load c.search.frame.cites (may_add c.in_ok-sort_load-in-Some.field-0) 0
-          (c.search.units.used + 1 - c.args.units.now.used) c.search.invariant.searching.leads c.in-Some.ensures.next
-          c.search.invariant.searching.deep.last (c.in_ok-sort_load-in-Some.ensures.publishes c.args.mode)
-          (omega (arith, adds_few c.in_ok-sort_load-in-Some.field-0)) (omega (arith, c.search.invariant.spent));
+      most = stations_few c.args.mode c.args.kind c.args.inst.now c.tasks-tasks.ensures.ranked c.args.cycle c.args.set.now c.args.most (entries (g.D.Desk.desk c.list_load.new.desk)) c.list_load.new.standing.passed.items
+          c.list_load.new.standing.frame e.now c.requires.few;
+      cycle = c.requires.cycle;
     }
 
-pub search-preserved-in_ok-push-in-Covered : goal.search-preserved-in_ok-push-in-Covered
-search-preserved-in_ok-push-in-Covered g c =
-    let S : Sorted → Type 0 = λ z. Sorts c.args.kind c.args.inst.now c.args.cycle (g.D.Desk.desk c.search.desk).alone
-    (entries (g.D.Desk.desk c.sort_load.new.desk)) (with_last c.search.frame c.in-Some.load) c.in-Some.load z in
-    let o = subst S c.in-Covered.is c.in_ok-sort_load-in-Some.ensures.sorts in
+pub returns-in_err-id-in-Ended-clause-keeps : goal.returns-in_err-id-in-Ended-clause-keeps
+returns-in_err-id-in-Ended-clause-keeps g c =
+    keeps_both (g.D.Desk.desk c.args.desk.now) (g.D.Desk.desk c.list_load.new.desk) (g.D.Desk.desk c.publish_branch.new.desk) (keeps_both (g.D.Desk.desk c.args.desk.now) (g.D.Desk.desk c.search.desk) (g.D.Desk.desk c.list_load.new.desk) c.search.invariant.keeps c.list_load.ensures.keeps) c.publish_branch.ensures.keeps
+
+pub returns-in_err-id-in-Ended-clause-accounts : goal.returns-in_err-id-in-Ended-clause-accounts
+returns-in_err-id-in-Ended-clause-accounts g c =
+    let S : Listed → Type 0 = λ z. Lists c.args.kind c.args.inst.now c.args.cycle (g.D.Desk.desk c.search.desk).alone (g.D.Desk.desk c.search.desk) (g.D.Desk.desk c.list_load.new.desk)
+    c.search.standing c.list_load.new.standing c.list_load.new.units.left z in
+    let n = subst S c.in-Ended.is c.in_ok-list_load.ensures.lists in
+    let e = ended c.args.mode c.args.kind c.args.inst.now c.args.cycle c.args.set.now c.args.most (g.D.Desk.desk c.args.desk.now) (g.D.Desk.desk c.search.desk) (g.D.Desk.desk c.list_load.new.desk) c.search.standing
+    c.list_load.new.standing (c.search.units.used - c.args.units.now.used) (c.list_load.new.units.used - c.args.units.now.used)
+    (used_none c.list_load.new.units.used c.search.units.used (units_of c.in_ok-list_load.field-0) c.args.units.now.used
+    c.in_ok-list_load.ensures.used (ap units_of c.in-Ended.is)) n c.search.invariant.searching
+    c.search.invariant.tally in
+    on_err c.from_residual-in_err-id-in-Ended.result (Accounts c.args.mode c.args.kind c.args.inst.now c.args.cycle (g.D.Desk.desk c.args.desk.now) (g.D.Desk.desk c.publish_branch.new.desk) [] (c.list_load.new.units.used - c.args.units.now.used) (c.list_load.new.units.used - c.args.units.now.used))
+    (ends_waiting c.args.mode c.args.kind c.args.inst.now c.tasks-tasks.ensures.ranked c.args.cycle (g.D.Desk.desk c.args.desk.now) (g.D.Desk.desk c.list_load.new.desk) (g.D.Desk.desk c.publish_branch.new.desk) c.list_load.new.standing.passed.items
+    c.list_load.new.standing.frame (c.list_load.new.units.used - c.args.units.now.used) (keeps_both (g.D.Desk.desk c.args.desk.now) (g.D.Desk.desk c.search.desk) (g.D.Desk.desk c.list_load.new.desk) c.search.invariant.keeps c.list_load.ensures.keeps) c.publish_branch.ensures.keeps e.tally c.in_err-id-in-Ended.ensures.waits)
+
+pub go_up-requires : goal.go_up-requires
+go_up-requires g c =
+    let S : Listed → Type 0 = λ z. Lists c.args.kind c.args.inst.now c.args.cycle (g.D.Desk.desk c.search.desk).alone (g.D.Desk.desk c.search.desk) (g.D.Desk.desk c.list_load.new.desk)
+    c.search.standing c.list_load.new.standing c.list_load.new.units.left z in
+    let n = subst S c.in-Ended.is c.in_ok-list_load.ensures.lists in
+    let r = ready_with c.args.inst.now c.args.cycle c.search.standing c.list_load.new.standing c.search.standing.frame
+    c.list_load.new.standing.listing n.0.stays c.search.invariant.ready in
+    record { ready = sym r.paired.as_many }
+
+pub returns-in_err-up-in-Ended-clause-keeps : goal.returns-in_err-up-in-Ended-clause-keeps
+returns-in_err-up-in-Ended-clause-keeps g c =
+    keeps_both (g.D.Desk.desk c.args.desk.now) (g.D.Desk.desk c.list_load.new.desk) (g.D.Desk.desk c.publish_branch.new.desk) (keeps_both (g.D.Desk.desk c.args.desk.now) (g.D.Desk.desk c.search.desk) (g.D.Desk.desk c.list_load.new.desk) c.search.invariant.keeps c.list_load.ensures.keeps) c.publish_branch.ensures.keeps
+
+pub returns-in_err-up-in-Ended-clause-accounts : goal.returns-in_err-up-in-Ended-clause-accounts
+returns-in_err-up-in-Ended-clause-accounts g c =
+    let S : Listed → Type 0 = λ z. Lists c.args.kind c.args.inst.now c.args.cycle (g.D.Desk.desk c.search.desk).alone (g.D.Desk.desk c.search.desk) (g.D.Desk.desk c.list_load.new.desk)
+    c.search.standing c.list_load.new.standing c.list_load.new.units.left z in
+    let n = subst S c.in-Ended.is c.in_ok-list_load.ensures.lists in
+    let e = ended c.args.mode c.args.kind c.args.inst.now c.args.cycle c.args.set.now c.args.most (g.D.Desk.desk c.args.desk.now) (g.D.Desk.desk c.search.desk) (g.D.Desk.desk c.list_load.new.desk) c.search.standing
+    c.list_load.new.standing (c.search.units.used - c.args.units.now.used) (c.list_load.new.units.used - c.args.units.now.used)
+    (used_none c.list_load.new.units.used c.search.units.used (units_of c.in_ok-list_load.field-0) c.args.units.now.used
+    c.in_ok-list_load.ensures.used (ap units_of c.in-Ended.is)) n c.search.invariant.searching
+    c.search.invariant.tally in
+    on_err c.from_residual-in_err-up-in-Ended.result (Accounts c.args.mode c.args.kind c.args.inst.now c.args.cycle (g.D.Desk.desk c.args.desk.now) (g.D.Desk.desk c.publish_branch.new.desk) [] (c.list_load.new.units.used - c.args.units.now.used) (c.list_load.new.units.used - c.args.units.now.used))
+    (ends_refuted c.args.mode c.args.kind c.args.inst.now c.tasks-tasks.ensures.ranked c.args.cycle (g.D.Desk.desk c.args.desk.now) (g.D.Desk.desk c.list_load.new.desk) (g.D.Desk.desk c.publish_branch.new.desk) c.list_load.new.standing.passed.items
+    c.list_load.new.standing.frame (c.list_load.new.units.used - c.args.units.now.used) (keeps_both (g.D.Desk.desk c.args.desk.now) (g.D.Desk.desk c.search.desk) (g.D.Desk.desk c.list_load.new.desk) c.search.invariant.keeps c.list_load.ensures.keeps) c.publish_branch.ensures.keeps e.tally (refuted c.args.mode c.args.kind c.args.inst.now c.tasks-tasks.ensures.ranked c.args.cycle c.args.set.now c.args.most (g.D.Desk.desk c.args.desk.now) (g.D.Desk.desk c.list_load.new.desk) (g.D.Desk.desk c.publish_branch.new.desk) c.list_load.new.standing.passed.items
+    c.list_load.new.standing.frame (c.list_load.new.units.used - c.args.units.now.used) (keeps_both (g.D.Desk.desk c.args.desk.now) (g.D.Desk.desk c.search.desk) (g.D.Desk.desk c.list_load.new.desk) c.search.invariant.keeps c.list_load.ensures.keeps) c.publish_branch.ensures.keeps e.tally (entries (g.D.Desk.desk c.list_load.new.desk)) e.now
+    e.none c.in_ok-id-in-Ended.ensures.publishes) c.in_err-up-in-Ended.ensures.fails)
+
+pub returns-then-not-up-clause-keeps : goal.returns-then-not-up-clause-keeps
+returns-then-not-up-clause-keeps g c =
+    keeps_both (g.D.Desk.desk c.args.desk.now) (g.D.Desk.desk c.list_load.new.desk) (g.D.Desk.desk c.publish_branch.new.desk) (keeps_both (g.D.Desk.desk c.args.desk.now) (g.D.Desk.desk c.search.desk) (g.D.Desk.desk c.list_load.new.desk) c.search.invariant.keeps c.list_load.ensures.keeps) c.publish_branch.ensures.keeps
+
+pub returns-then-not-up-clause-decides : goal.returns-then-not-up-clause-decides
+returns-then-not-up-clause-decides g c =
+    let S : Listed → Type 0 = λ z. Lists c.args.kind c.args.inst.now c.args.cycle (g.D.Desk.desk c.search.desk).alone (g.D.Desk.desk c.search.desk) (g.D.Desk.desk c.list_load.new.desk)
+    c.search.standing c.list_load.new.standing c.list_load.new.units.left z in
+    let n = subst S c.in-Ended.is c.in_ok-list_load.ensures.lists in
+    let e = ended c.args.mode c.args.kind c.args.inst.now c.args.cycle c.args.set.now c.args.most (g.D.Desk.desk c.args.desk.now) (g.D.Desk.desk c.search.desk) (g.D.Desk.desk c.list_load.new.desk) c.search.standing
+    c.list_load.new.standing (c.search.units.used - c.args.units.now.used) (c.list_load.new.units.used - c.args.units.now.used)
+    (used_none c.list_load.new.units.used c.search.units.used (units_of c.in_ok-list_load.field-0) c.args.units.now.used
+    c.in_ok-list_load.ensures.used (ap units_of c.in-Ended.is)) n c.search.invariant.searching
+    c.search.invariant.tally in (
+      c.requires.bound,
+      answers_asked c.args.mode c.args.kind c.args.inst.now c.tasks-tasks.ensures.ranked c.args.cycle c.args.set.now c.args.most (entries (g.D.Desk.desk c.list_load.new.desk)) c.list_load.new.standing.passed.items
+          c.list_load.new.standing.frame e.now (entries (g.D.Desk.desk c.publish_branch.new.desk)) c.in_ok-id-in-Ended.id
+          (c.in_ok-up-in-Ended.ensures.top c.if-not-up.true) c.in_ok-id-in-Ended.ensures.answered,
+    )
+
+pub returns-then-not-up-clause-ends : goal.returns-then-not-up-clause-ends
+returns-then-not-up-clause-ends g c =
+    let S : Listed → Type 0 = λ z. Lists c.args.kind c.args.inst.now c.args.cycle (g.D.Desk.desk c.search.desk).alone (g.D.Desk.desk c.search.desk) (g.D.Desk.desk c.list_load.new.desk)
+    c.search.standing c.list_load.new.standing c.list_load.new.units.left z in
+    let n = subst S c.in-Ended.is c.in_ok-list_load.ensures.lists in
+    let e = ended c.args.mode c.args.kind c.args.inst.now c.args.cycle c.args.set.now c.args.most (g.D.Desk.desk c.args.desk.now) (g.D.Desk.desk c.search.desk) (g.D.Desk.desk c.list_load.new.desk) c.search.standing
+    c.list_load.new.standing (c.search.units.used - c.args.units.now.used) (c.list_load.new.units.used - c.args.units.now.used)
+    (used_none c.list_load.new.units.used c.search.units.used (units_of c.in_ok-list_load.field-0) c.args.units.now.used
+    c.in_ok-list_load.ensures.used (ap units_of c.in-Ended.is)) n c.search.invariant.searching
+    c.search.invariant.tally in
+    tally_ends c.args.mode c.args.kind c.args.inst.now c.tasks-tasks.ensures.ranked c.args.cycle (g.D.Desk.desk c.args.desk.now) (g.D.Desk.desk c.list_load.new.desk) (g.D.Desk.desk c.publish_branch.new.desk) c.list_load.new.standing.passed.items
+    c.list_load.new.standing.frame (c.list_load.new.units.used - c.args.units.now.used) (keeps_both (g.D.Desk.desk c.args.desk.now) (g.D.Desk.desk c.search.desk) (g.D.Desk.desk c.list_load.new.desk) c.search.invariant.keeps c.list_load.ensures.keeps) c.publish_branch.ensures.keeps e.tally (refuted c.args.mode c.args.kind c.args.inst.now c.tasks-tasks.ensures.ranked c.args.cycle c.args.set.now c.args.most (g.D.Desk.desk c.args.desk.now) (g.D.Desk.desk c.list_load.new.desk) (g.D.Desk.desk c.publish_branch.new.desk) c.list_load.new.standing.passed.items
+    c.list_load.new.standing.frame (c.list_load.new.units.used - c.args.units.now.used) (keeps_both (g.D.Desk.desk c.args.desk.now) (g.D.Desk.desk c.search.desk) (g.D.Desk.desk c.list_load.new.desk) c.search.invariant.keeps c.list_load.ensures.keeps) c.publish_branch.ensures.keeps e.tally (entries (g.D.Desk.desk c.list_load.new.desk)) e.now
+    e.none c.in_ok-id-in-Ended.ensures.publishes) (c.in_ok-up-in-Ended.ensures.top c.if-not-up.true)
+
+pub search-preserved-else-not-up : goal.search-preserved-else-not-up
+search-preserved-else-not-up g c =
+    let S : Listed → Type 0 = λ z. Lists c.args.kind c.args.inst.now c.args.cycle (g.D.Desk.desk c.search.desk).alone (g.D.Desk.desk c.search.desk) (g.D.Desk.desk c.list_load.new.desk)
+    c.search.standing c.list_load.new.standing c.list_load.new.units.left z in
+    let n = subst S c.in-Ended.is c.in_ok-list_load.ensures.lists in
+    let e = ended c.args.mode c.args.kind c.args.inst.now c.args.cycle c.args.set.now c.args.most (g.D.Desk.desk c.args.desk.now) (g.D.Desk.desk c.search.desk) (g.D.Desk.desk c.list_load.new.desk) c.search.standing
+    c.list_load.new.standing (c.search.units.used - c.args.units.now.used) (c.list_load.new.units.used - c.args.units.now.used)
+    (used_none c.list_load.new.units.used c.search.units.used (units_of c.in_ok-list_load.field-0) c.args.units.now.used
+    c.in_ok-list_load.ensures.used (ap units_of c.in-Ended.is)) n c.search.invariant.searching
+    c.search.invariant.tally in
+    let r = ready_with c.args.inst.now c.args.cycle c.search.standing c.list_load.new.standing c.search.standing.frame
+    c.list_load.new.standing.listing n.0.stays c.search.invariant.ready in
+    let up = c.in_ok-up-in-Ended.ensures.up c.if-not-up.false in
+    let w : Standing = record {
+      passed = c.list_load.new.standing.passed;
+      listings = c.list_load.new.standing.listings;
+      frame = c.publish_branch.new.frame;
+      listing = c.list_load.new.standing.listing;
+    } in
+    let q : IsReady c.args.inst.now c.args.cycle w = record { room = r.room; paired = r.paired } in
     record {
-      keeps = keeps_both (g.D.Desk.desk c.args.desk.now) (g.D.Desk.desk c.search.desk)
-          (g.D.Desk.desk c.sort_load.new.desk) c.search.invariant.keeps c.sort_load.ensures.keeps;
-      pairs = c.sort_load.ensures.pairs ∙ c.search.invariant.pairs;
-      units = omega (arith, c.search.invariant.units, c.if-units-eq0.false);
-      spent = (omega (arith, c.search.invariant.spent));
-      searching = covered c.args.mode c.args.kind c.args.inst.now c.tasks-tasks.ensures.ranked c.args.cycle
-          c.args.set.now c.args.most (entries (g.D.Desk.desk c.sort_load.new.desk)) c.search.passed.items c.search.frame
-          (grown c.args.mode c.args.kind c.args.inst.now c.tasks-tasks.ensures.ranked c.args.cycle c.args.set.now
-          c.args.most (g.D.Desk.desk c.search.desk) (g.D.Desk.desk c.sort_load.new.desk) c.search.passed.items
-          c.search.frame c.sort_load.ensures.keeps c.search.invariant.searching) c.in-Some.load c.in-Some.ensures.next
-          c.in-Covered.id c.push-in-Covered.new.self c.in_ok-push-in-Covered.ensures.ok o.0 o.1;
-      beside = beside_cites c.args.inst.now c.args.cycle (with_last c.search.frame c.in-Some.load)
-          c.next_load.new.listing c.push-in-Covered.new.self c.in-Some.ensures.beside;
-      room = c.search.invariant.room;
-      paired = c.search.invariant.paired;
-      tally = tally_lists c.args.mode c.args.kind c.args.inst.now c.tasks-tasks.ensures.ranked c.args.cycle
-          (g.D.Desk.desk c.args.desk.now) (g.D.Desk.desk c.search.desk) (g.D.Desk.desk c.sort_load.new.desk)
-          c.search.passed.items c.search.frame (c.search.units.used - c.args.units.now.used) c.search.invariant.keeps
-          c.sort_load.ensures.keeps c.search.invariant.tally (entries (g.D.Desk.desk c.search.desk)) c.args.set.now
-          c.args.most c.in-Some.load c.push-in-Covered.new.self (may_add c.in_ok-sort_load-in-Some.field-0) 0
-          (c.search.units.used + 1 - c.args.units.now.used) c.search.invariant.searching.leads c.in-Some.ensures.next
-          c.search.invariant.searching.deep.last (c.in_ok-sort_load-in-Some.ensures.publishes c.args.mode)
-          (omega (arith, adds_few c.in_ok-sort_load-in-Some.field-0)) (omega (arith, c.search.invariant.spent));
+      keeps = keeps_both (g.D.Desk.desk c.args.desk.now) (g.D.Desk.desk c.list_load.new.desk) (g.D.Desk.desk c.publish_branch.new.desk) (keeps_both (g.D.Desk.desk c.args.desk.now) (g.D.Desk.desk c.search.desk) (g.D.Desk.desk c.list_load.new.desk) c.search.invariant.keeps c.list_load.ensures.keeps) c.publish_branch.ensures.keeps;
+      pairs = c.go_up.ensures.pairs ∙ (c.list_load.ensures.pairs ∙ c.search.invariant.pairs);
+      units = c.list_load.ensures.units ∙ c.search.invariant.units;
+      spent = used_still c.list_load.new.units.used c.search.units.used (units_of c.in_ok-list_load.field-0) c.args.units.now.used
+          c.in_ok-list_load.ensures.used c.search.invariant.spent;
+      searching = searching_up c.args.mode c.args.kind c.args.inst.now c.tasks-tasks.ensures.ranked c.args.cycle c.args.set.now c.args.most w c.go_up.new.standing c.list_load.new.standing.frame
+          c.in_ok-id-in-Ended.id up (entries (g.D.Desk.desk c.publish_branch.new.desk)) c.requires.set (grown c.args.mode c.args.kind c.args.inst.now c.tasks-tasks.ensures.ranked c.args.cycle c.args.set.now c.args.most (g.D.Desk.desk c.list_load.new.desk) (g.D.Desk.desk c.publish_branch.new.desk)
+          c.list_load.new.standing.passed.items c.list_load.new.standing.frame c.publish_branch.ensures.keeps e.now)
+          c.in_ok-id-in-Ended.ensures.answered;
+      beside = up_beside c.args.inst.now c.args.cycle c.in_ok-id-in-Ended.id w c.go_up.new.standing up q;
+      ready = up_ready c.args.inst.now c.args.cycle c.in_ok-id-in-Ended.id w c.go_up.new.standing up q;
+      tally = tally_up_at c.args.mode c.args.kind c.args.inst.now c.tasks-tasks.ensures.ranked c.args.cycle c.args.set.now c.args.most w c.go_up.new.standing c.list_load.new.standing.frame c.in_ok-id-in-Ended.id up
+          (g.D.Desk.desk c.args.desk.now) (g.D.Desk.desk c.list_load.new.desk) (g.D.Desk.desk c.publish_branch.new.desk) (c.list_load.new.units.used - c.args.units.now.used) (keeps_both (g.D.Desk.desk c.args.desk.now) (g.D.Desk.desk c.search.desk) (g.D.Desk.desk c.list_load.new.desk) c.search.invariant.keeps c.list_load.ensures.keeps) c.publish_branch.ensures.keeps e.tally (entries (g.D.Desk.desk c.list_load.new.desk)) (refuted c.args.mode c.args.kind c.args.inst.now c.tasks-tasks.ensures.ranked c.args.cycle c.args.set.now c.args.most (g.D.Desk.desk c.args.desk.now) (g.D.Desk.desk c.list_load.new.desk) (g.D.Desk.desk c.publish_branch.new.desk) c.list_load.new.standing.passed.items
+          c.list_load.new.standing.frame (c.list_load.new.units.used - c.args.units.now.used) (keeps_both (g.D.Desk.desk c.args.desk.now) (g.D.Desk.desk c.search.desk) (g.D.Desk.desk c.list_load.new.desk) c.search.invariant.keeps c.list_load.ensures.keeps) c.publish_branch.ensures.keeps e.tally (entries (g.D.Desk.desk c.list_load.new.desk)) e.now
+          e.none c.in_ok-id-in-Ended.ensures.publishes) e.now.leads;
     }
 
-pub returns-in_err-push-in-Covered-clause-keeps : goal.returns-in_err-push-in-Covered-clause-keeps
-returns-in_err-push-in-Covered-clause-keeps g c =
-    keeps_both (g.D.Desk.desk c.args.desk.now) (g.D.Desk.desk c.search.desk) (g.D.Desk.desk c.sort_load.new.desk)
-    c.search.invariant.keeps c.sort_load.ensures.keeps
+pub search-smaller-else-not-up : goal.search-smaller-else-not-up
+search-smaller-else-not-up g c =
+    let S : Listed → Type 0 = λ z. Lists c.args.kind c.args.inst.now c.args.cycle (g.D.Desk.desk c.search.desk).alone (g.D.Desk.desk c.search.desk) (g.D.Desk.desk c.list_load.new.desk)
+    c.search.standing c.list_load.new.standing c.list_load.new.units.left z in
+    let n = subst S c.in-Ended.is c.in_ok-list_load.ensures.lists in
+    let e = ended c.args.mode c.args.kind c.args.inst.now c.args.cycle c.args.set.now c.args.most (g.D.Desk.desk c.args.desk.now) (g.D.Desk.desk c.search.desk) (g.D.Desk.desk c.list_load.new.desk) c.search.standing
+    c.list_load.new.standing (c.search.units.used - c.args.units.now.used) (c.list_load.new.units.used - c.args.units.now.used)
+    (used_none c.list_load.new.units.used c.search.units.used (units_of c.in_ok-list_load.field-0) c.args.units.now.used
+    c.in_ok-list_load.ensures.used (ap units_of c.in-Ended.is)) n c.search.invariant.searching
+    c.search.invariant.tally in
+    let up = c.in_ok-up-in-Ended.ensures.up c.if-not-up.false in
+    omega (
+      arith,
+      c.in_ok-list_load.ensures.used,
+      ap units_of c.in-Ended.is,
+      c.list_load.ensures.units,
+      ap (λ (z : Standing). length z.passed.items) n.0.stays,
+      ap (λ (z : List OpenFrame). length z) up.passed,
+      length-append c.go_up.new.standing.passed.items (up.parent ∷ []),
+    )
 
-pub returns-in_err-push-in-Covered-clause-accounts : goal.returns-in_err-push-in-Covered-clause-accounts
-returns-in_err-push-in-Covered-clause-accounts g c =
-    on_err c.from_residual-in_err-push-in-Covered.result (Accounts c.args.mode c.args.kind c.args.inst.now c.args.cycle
-    (g.D.Desk.desk c.args.desk.now) (g.D.Desk.desk c.sort_load.new.desk) []
-    (c.search.units.used + 1 - c.args.units.now.used) (c.search.units.used + 1 - c.args.units.now.used))
-    (gives_up c.args.mode c.args.kind c.args.inst.now c.tasks-tasks.ensures.ranked c.args.cycle c.args.set.now
-    c.args.most (g.D.Desk.desk c.args.desk.now) (g.D.Desk.desk c.search.desk) (g.D.Desk.desk c.sort_load.new.desk)
-    c.search.passed.items c.search.frame (c.search.units.used - c.args.units.now.used) c.search.invariant.keeps
-    c.sort_load.ensures.keeps c.search.invariant.tally (rest c.search.frame.set c.in-Some.load)
-    (may_add c.in_ok-sort_load-in-Some.field-0) (c.search.units.used + 1 - c.args.units.now.used)
-    (c.in_ok-sort_load-in-Some.ensures.publishes c.args.mode) (adds_few c.in_ok-sort_load-in-Some.field-0)
-    (omega (arith, c.search.invariant.spent)))
+pub search-smaller-in-Passed : goal.search-smaller-in-Passed
+search-smaller-in-Passed g c =
+    let S : Listed → Type 0 = λ z. Lists c.args.kind c.args.inst.now c.args.cycle (g.D.Desk.desk c.search.desk).alone (g.D.Desk.desk c.search.desk) (g.D.Desk.desk c.list_load.new.desk)
+    c.search.standing c.list_load.new.standing c.list_load.new.units.left z in
+    let n = subst S c.in-Passed.is c.in_ok-list_load.ensures.lists in
+    omega (
+      arith,
+      c.in_ok-list_load.ensures.used,
+      ap units_of c.in-Passed.is,
+      c.list_load.ensures.units,
+      ap (λ (z : Standing). length z.passed.items) n.stands,
+    )
+
+pub search-smaller : goal.search-smaller
+search-smaller g c =
+    let S : Listed → Type 0 = λ z. Lists c.args.kind c.args.inst.now c.args.cycle (g.D.Desk.desk c.search.desk).alone (g.D.Desk.desk c.search.desk) (g.D.Desk.desk c.list_load.new.desk)
+    c.search.standing c.list_load.new.standing c.list_load.new.units.left z in
+    let n = subst S c.in-Open.is c.in_ok-list_load.ensures.lists in
+    omega (
+      arith,
+      c.in_ok-list_load.ensures.used,
+      ap units_of c.in-Open.is,
+      c.list_load.ensures.units,
+      ap (λ (z : Standing). length z.passed.items) n.0.stands,
+      ap (λ (z : List OpenFrame). length z) c.in_ok-go_down-in-Open.ensures.down.passed,
+      length-append c.list_load.new.standing.passed.items (c.list_load.new.standing.frame ∷ []),
+    )
+
+pub returns-in-Spent-clause-keeps : goal.returns-in-Spent-clause-keeps
+returns-in-Spent-clause-keeps g c =
+    keeps_both (g.D.Desk.desk c.args.desk.now) (g.D.Desk.desk c.search.desk) (g.D.Desk.desk c.list_load.new.desk) c.search.invariant.keeps c.list_load.ensures.keeps
+
+pub returns-in-Spent-clause-decides : goal.returns-in-Spent-clause-decides
+returns-in-Spent-clause-decides g c =
+    let S : Listed → Type 0 = λ z. Lists c.args.kind c.args.inst.now c.args.cycle (g.D.Desk.desk c.search.desk).alone (g.D.Desk.desk c.search.desk) (g.D.Desk.desk c.list_load.new.desk)
+    c.search.standing c.list_load.new.standing c.list_load.new.units.left z in
+    let n = subst S c.in-Spent.is c.in_ok-list_load.ensures.lists in
+    stops_at c.args.mode c.args.kind c.args.inst.now c.tasks-tasks.ensures.ranked c.args.cycle c.args.set.now c.args.most (g.D.Desk.desk c.search.desk) (g.D.Desk.desk c.list_load.new.desk) c.search.standing c.list_load.new.standing c.trail_of.result
+    c.list_load.new.units.left c.requires.bound c.trail_of.ensures n c.search.invariant.searching
+
+pub returns-in-Spent-clause-ends : goal.returns-in-Spent-clause-ends
+returns-in-Spent-clause-ends g c =
+    let S : Listed → Type 0 = λ z. Lists c.args.kind c.args.inst.now c.args.cycle (g.D.Desk.desk c.search.desk).alone (g.D.Desk.desk c.search.desk) (g.D.Desk.desk c.list_load.new.desk)
+    c.search.standing c.list_load.new.standing c.list_load.new.units.left z in
+    let n = subst S c.in-Spent.is c.in_ok-list_load.ensures.lists in
+    stopped_at c.args.mode c.args.kind c.args.inst.now c.tasks-tasks.ensures.ranked c.args.cycle (g.D.Desk.desk c.args.desk.now) (g.D.Desk.desk c.search.desk) (g.D.Desk.desk c.list_load.new.desk) c.search.standing c.list_load.new.standing c.trail_of.result
+    (c.search.units.used - c.args.units.now.used) (c.list_load.new.units.used - c.args.units.now.used) (used_none c.list_load.new.units.used c.search.units.used (units_of c.in_ok-list_load.field-0) c.args.units.now.used
+    c.in_ok-list_load.ensures.used (ap units_of c.in-Spent.is)) c.trail_of.ensures
+    n.0 c.search.invariant.tally
+
+pub search-preserved-in-Passed : goal.search-preserved-in-Passed
+search-preserved-in-Passed g c =
+    let S : Listed → Type 0 = λ z. Lists c.args.kind c.args.inst.now c.args.cycle (g.D.Desk.desk c.search.desk).alone (g.D.Desk.desk c.search.desk) (g.D.Desk.desk c.list_load.new.desk)
+    c.search.standing c.list_load.new.standing c.list_load.new.units.left z in
+    let n = subst S c.in-Passed.is c.in_ok-list_load.ensures.lists in
+    record {
+      keeps = keeps_both (g.D.Desk.desk c.args.desk.now) (g.D.Desk.desk c.search.desk) (g.D.Desk.desk c.list_load.new.desk) c.search.invariant.keeps c.list_load.ensures.keeps;
+      pairs = c.list_load.ensures.pairs ∙ c.search.invariant.pairs;
+      units = c.list_load.ensures.units ∙ c.search.invariant.units;
+      spent = used_still c.list_load.new.units.used c.search.units.used (units_of c.in_ok-list_load.field-0) c.args.units.now.used
+          c.in_ok-list_load.ensures.used c.search.invariant.spent;
+      searching = searching_on c.args.mode c.args.kind c.args.inst.now c.tasks-tasks.ensures.ranked c.args.cycle c.args.set.now c.args.most (g.D.Desk.desk c.search.desk) (g.D.Desk.desk c.list_load.new.desk) c.search.standing c.list_load.new.standing
+          c.list_load.ensures.keeps c.search.invariant.searching n;
+      beside = n.beside;
+      ready = ready_with c.args.inst.now c.args.cycle c.search.standing c.list_load.new.standing
+          (with_cites (with_last c.search.standing.frame n.load) n.cites) c.list_load.new.standing.listing n.stands
+          c.search.invariant.ready;
+      tally = tally_on c.args.mode c.args.kind c.args.inst.now c.tasks-tasks.ensures.ranked c.args.cycle c.args.set.now c.args.most (g.D.Desk.desk c.search.desk) (g.D.Desk.desk c.list_load.new.desk) c.search.standing c.list_load.new.standing c.list_load.ensures.keeps
+          c.search.invariant.searching (g.D.Desk.desk c.args.desk.now) (c.search.units.used - c.args.units.now.used) (c.list_load.new.units.used - c.args.units.now.used) c.search.invariant.keeps c.search.invariant.tally
+          (used_one c.list_load.new.units.used c.search.units.used (units_of c.in_ok-list_load.field-0) c.args.units.now.used
+          c.in_ok-list_load.ensures.used (ap units_of c.in-Passed.is) c.search.invariant.spent) n;
+    }
+
+pub returns-in-Empty-clause-keeps : goal.returns-in-Empty-clause-keeps
+returns-in-Empty-clause-keeps g c =
+    keeps_both (g.D.Desk.desk c.args.desk.now) (g.D.Desk.desk c.search.desk) (g.D.Desk.desk c.list_load.new.desk) c.search.invariant.keeps c.list_load.ensures.keeps
 
 pub returns-in_err-loads_in_order-in-Empty-clause-keeps : goal.returns-in_err-loads_in_order-in-Empty-clause-keeps
 returns-in_err-loads_in_order-in-Empty-clause-keeps g c =
-    keeps_both (g.D.Desk.desk c.args.desk.now) (g.D.Desk.desk c.search.desk) (g.D.Desk.desk c.sort_load.new.desk)
-    c.search.invariant.keeps c.sort_load.ensures.keeps
-
-pub returns-in_err-loads_in_order-in-Empty-clause-accounts : goal.returns-in_err-loads_in_order-in-Empty-clause-accounts
-returns-in_err-loads_in_order-in-Empty-clause-accounts g c =
-    on_err c.from_residual-in_err-loads_in_order-in-Empty.result
-    (Accounts c.args.mode c.args.kind c.args.inst.now c.args.cycle (g.D.Desk.desk c.args.desk.now)
-    (g.D.Desk.desk c.sort_load.new.desk) [] (c.search.units.used + 1 - c.args.units.now.used)
-    (c.search.units.used + 1 - c.args.units.now.used)) (gives_up c.args.mode c.args.kind c.args.inst.now
-    c.tasks-tasks.ensures.ranked c.args.cycle c.args.set.now c.args.most (g.D.Desk.desk c.args.desk.now)
-    (g.D.Desk.desk c.search.desk) (g.D.Desk.desk c.sort_load.new.desk) c.search.passed.items c.search.frame
-    (c.search.units.used - c.args.units.now.used) c.search.invariant.keeps c.sort_load.ensures.keeps
-    c.search.invariant.tally (rest c.search.frame.set c.in-Some.load) (may_add c.in_ok-sort_load-in-Some.field-0)
-    (c.search.units.used + 1 - c.args.units.now.used) (c.in_ok-sort_load-in-Some.ensures.publishes c.args.mode)
-    (adds_few c.in_ok-sort_load-in-Some.field-0) (omega (arith, c.search.invariant.spent)))
+    keeps_both (g.D.Desk.desk c.args.desk.now) (g.D.Desk.desk c.search.desk) (g.D.Desk.desk c.list_load.new.desk) c.search.invariant.keeps c.list_load.ensures.keeps
 
 pub returns-in-Empty-clause-decides : goal.returns-in-Empty-clause-decides
 returns-in-Empty-clause-decides g c =
-    let S : Sorted → Type 0 = λ z. Sorts c.args.kind c.args.inst.now c.args.cycle (g.D.Desk.desk c.search.desk).alone
-    (entries (g.D.Desk.desk c.sort_load.new.desk)) (with_last c.search.frame c.in-Some.load) c.in-Some.load z in
-    let o = subst S c.in-Empty.is c.in_ok-sort_load-in-Some.ensures.sorts in
-    found c.args.mode c.args.kind c.args.inst.now c.tasks-tasks.ensures.ranked c.args.cycle c.args.set.now c.args.most
-    (entries (g.D.Desk.desk c.sort_load.new.desk)) c.search.passed.items c.search.frame
-    (grown c.args.mode c.args.kind c.args.inst.now c.tasks-tasks.ensures.ranked c.args.cycle c.args.set.now
-    c.args.most (g.D.Desk.desk c.search.desk) (g.D.Desk.desk c.sort_load.new.desk) c.search.passed.items
-    c.search.frame c.sort_load.ensures.keeps c.search.invariant.searching) c.in-Some.load c.in-Some.ensures.next o.0
-    c.trail_to-frames.result c.in_ok-loads_in_order-in-Empty.field-0 c.requires.bound c.trail_to-frames.ensures
-    c.in_ok-loads_in_order-in-Empty.ensures o.1
+    let S : Listed → Type 0 = λ z. Lists c.args.kind c.args.inst.now c.args.cycle (g.D.Desk.desk c.search.desk).alone (g.D.Desk.desk c.search.desk) (g.D.Desk.desk c.list_load.new.desk)
+    c.search.standing c.list_load.new.standing c.list_load.new.units.left z in
+    let n = subst S c.in-Empty.is c.in_ok-list_load.ensures.lists in
+    found_at c.args.mode c.args.kind c.args.inst.now c.tasks-tasks.ensures.ranked c.args.cycle c.args.set.now c.args.most (g.D.Desk.desk c.search.desk) (g.D.Desk.desk c.list_load.new.desk) c.search.standing c.list_load.new.standing c.list_load.ensures.keeps
+    c.search.invariant.searching n.0 c.trail_of-frames.result c.in_ok-loads_in_order-in-Empty.field-0 c.requires.bound
+    c.trail_of-frames.ensures c.in_ok-loads_in_order-in-Empty.ensures n.1
 
 pub returns-in-Empty-clause-ends : goal.returns-in-Empty-clause-ends
 returns-in-Empty-clause-ends g c =
-    gives_up c.args.mode c.args.kind c.args.inst.now c.tasks-tasks.ensures.ranked c.args.cycle c.args.set.now
-    c.args.most (g.D.Desk.desk c.args.desk.now) (g.D.Desk.desk c.search.desk) (g.D.Desk.desk c.sort_load.new.desk)
-    c.search.passed.items c.search.frame (c.search.units.used - c.args.units.now.used) c.search.invariant.keeps
-    c.sort_load.ensures.keeps c.search.invariant.tally (rest c.search.frame.set c.in-Some.load)
-    (may_add c.in_ok-sort_load-in-Some.field-0) (c.search.units.used + 1 - c.args.units.now.used)
-    (c.in_ok-sort_load-in-Some.ensures.publishes c.args.mode) (adds_few c.in_ok-sort_load-in-Some.field-0)
-    (omega (arith, c.search.invariant.spent))
+    let S : Listed → Type 0 = λ z. Lists c.args.kind c.args.inst.now c.args.cycle (g.D.Desk.desk c.search.desk).alone (g.D.Desk.desk c.search.desk) (g.D.Desk.desk c.list_load.new.desk)
+    c.search.standing c.list_load.new.standing c.list_load.new.units.left z in
+    let n = subst S c.in-Empty.is c.in_ok-list_load.ensures.lists in
+    gives_up c.args.mode c.args.kind c.args.inst.now c.tasks-tasks.ensures.ranked c.args.cycle c.args.set.now c.args.most (g.D.Desk.desk c.args.desk.now) (g.D.Desk.desk c.search.desk) (g.D.Desk.desk c.list_load.new.desk) c.search.standing.passed.items
+    c.search.standing.frame (c.search.units.used - c.args.units.now.used) c.search.invariant.keeps c.list_load.ensures.keeps c.search.invariant.tally 0
+    (c.list_load.new.units.used - c.args.units.now.used) (does_few c.args.mode c.args.kind c.args.inst.now c.args.cycle (g.D.Desk.desk c.search.desk) (g.D.Desk.desk c.list_load.new.desk) (rest c.search.standing.frame.set n.0.load) 0 0
+    (n.0.listed.does c.args.mode)) (at_least 1)
+    (used_one c.list_load.new.units.used c.search.units.used (units_of c.in_ok-list_load.field-0) c.args.units.now.used
+    c.in_ok-list_load.ensures.used (ap units_of c.in-Empty.is) c.search.invariant.spent)
 
-pub open_frame-below-requires-clause-set : goal.open_frame-below-requires-clause-set
-open_frame-below-requires-clause-set g c =
-    let S : Sorted → Type 0 = λ z. Sorts c.args.kind c.args.inst.now c.args.cycle (g.D.Desk.desk c.search.desk).alone
-    (entries (g.D.Desk.desk c.sort_load.new.desk)) (with_last c.search.frame c.in-Some.load) c.in-Some.load z in
-    let o = subst S c.in-Open.is c.in_ok-sort_load-in-Some.ensures.sorts in
+pub returns-in_err-loads_in_order-in-Empty-clause-accounts : goal.returns-in_err-loads_in_order-in-Empty-clause-accounts
+returns-in_err-loads_in_order-in-Empty-clause-accounts g c =
+    let S : Listed → Type 0 = λ z. Lists c.args.kind c.args.inst.now c.args.cycle (g.D.Desk.desk c.search.desk).alone (g.D.Desk.desk c.search.desk) (g.D.Desk.desk c.list_load.new.desk)
+    c.search.standing c.list_load.new.standing c.list_load.new.units.left z in
+    let n = subst S c.in-Empty.is c.in_ok-list_load.ensures.lists in
+    on_err c.from_residual-in_err-loads_in_order-in-Empty.result (Accounts c.args.mode c.args.kind c.args.inst.now c.args.cycle (g.D.Desk.desk c.args.desk.now) (g.D.Desk.desk c.list_load.new.desk) [] (c.list_load.new.units.used - c.args.units.now.used) (c.list_load.new.units.used - c.args.units.now.used))
+    (gives_up c.args.mode c.args.kind c.args.inst.now c.tasks-tasks.ensures.ranked c.args.cycle c.args.set.now c.args.most (g.D.Desk.desk c.args.desk.now) (g.D.Desk.desk c.search.desk) (g.D.Desk.desk c.list_load.new.desk) c.search.standing.passed.items
+    c.search.standing.frame (c.search.units.used - c.args.units.now.used) c.search.invariant.keeps c.list_load.ensures.keeps c.search.invariant.tally 0
+    (c.list_load.new.units.used - c.args.units.now.used) (does_few c.args.mode c.args.kind c.args.inst.now c.args.cycle (g.D.Desk.desk c.search.desk) (g.D.Desk.desk c.list_load.new.desk) (rest c.search.standing.frame.set n.0.load) 0 0
+    (n.0.listed.does c.args.mode)) (at_least 1)
+    (used_one c.list_load.new.units.used c.search.units.used (units_of c.in_ok-list_load.field-0) c.args.units.now.used
+    c.in_ok-list_load.ensures.used (ap units_of c.in-Empty.is) c.search.invariant.spent))
+
+pub go_down-requires-clause-set : goal.go_down-requires-clause-set
+go_down-requires-clause-set g c =
+    let S : Listed → Type 0 = λ z. Lists c.args.kind c.args.inst.now c.args.cycle (g.D.Desk.desk c.search.desk).alone (g.D.Desk.desk c.search.desk) (g.D.Desk.desk c.list_load.new.desk)
+    c.search.standing c.list_load.new.standing c.list_load.new.units.left z in
+    let n = subst S c.in-Open.is c.in_ok-list_load.ensures.lists in
     let P : List Bool → Type 0 = λ z. IsTaskSet c.args.inst.now z in
-    subst P (sym o.1) (rest_tasks c.args.inst.now c.search.frame.set c.in-Some.load c.search.invariant.searching.tasks)
-
-pub returns-in_err-enter-in-Open-clause-keeps : goal.returns-in_err-enter-in-Open-clause-keeps
-returns-in_err-enter-in-Open-clause-keeps g c =
-    keeps_both (g.D.Desk.desk c.args.desk.now) (g.D.Desk.desk c.search.desk) (g.D.Desk.desk c.sort_load.new.desk)
-    c.search.invariant.keeps c.sort_load.ensures.keeps
-
-pub returns-in_err-enter-in-Open-clause-accounts : goal.returns-in_err-enter-in-Open-clause-accounts
-returns-in_err-enter-in-Open-clause-accounts g c =
-    on_err c.from_residual-in_err-enter-in-Open.result (Accounts c.args.mode c.args.kind c.args.inst.now c.args.cycle
-    (g.D.Desk.desk c.args.desk.now) (g.D.Desk.desk c.sort_load.new.desk) []
-    (c.search.units.used + 1 - c.args.units.now.used) (c.search.units.used + 1 - c.args.units.now.used))
-    (gives_up c.args.mode c.args.kind c.args.inst.now c.tasks-tasks.ensures.ranked c.args.cycle c.args.set.now
-    c.args.most (g.D.Desk.desk c.args.desk.now) (g.D.Desk.desk c.search.desk) (g.D.Desk.desk c.sort_load.new.desk)
-    c.search.passed.items c.search.frame (c.search.units.used - c.args.units.now.used) c.search.invariant.keeps
-    c.sort_load.ensures.keeps c.search.invariant.tally (rest c.search.frame.set c.in-Some.load)
-    (may_add c.in_ok-sort_load-in-Some.field-0) (c.search.units.used + 1 - c.args.units.now.used)
-    (c.in_ok-sort_load-in-Some.ensures.publishes c.args.mode) (adds_few c.in_ok-sort_load-in-Some.field-0)
-    (omega (arith, c.search.invariant.spent)))
-
-pub returns-in_err-push_on-in-Open-clause-keeps : goal.returns-in_err-push_on-in-Open-clause-keeps
-returns-in_err-push_on-in-Open-clause-keeps g c =
-    keeps_both (g.D.Desk.desk c.args.desk.now) (g.D.Desk.desk c.search.desk) (g.D.Desk.desk c.sort_load.new.desk)
-    c.search.invariant.keeps c.sort_load.ensures.keeps
-
-pub returns-in_err-push_on-in-Open-clause-accounts : goal.returns-in_err-push_on-in-Open-clause-accounts
-returns-in_err-push_on-in-Open-clause-accounts g c =
-    on_err c.from_residual-in_err-push_on-in-Open.result (Accounts c.args.mode c.args.kind c.args.inst.now c.args.cycle
-    (g.D.Desk.desk c.args.desk.now) (g.D.Desk.desk c.sort_load.new.desk) []
-    (c.search.units.used + 1 - c.args.units.now.used) (c.search.units.used + 1 - c.args.units.now.used))
-    (gives_up c.args.mode c.args.kind c.args.inst.now c.tasks-tasks.ensures.ranked c.args.cycle c.args.set.now
-    c.args.most (g.D.Desk.desk c.args.desk.now) (g.D.Desk.desk c.search.desk) (g.D.Desk.desk c.sort_load.new.desk)
-    c.search.passed.items c.search.frame (c.search.units.used - c.args.units.now.used) c.search.invariant.keeps
-    c.sort_load.ensures.keeps c.search.invariant.tally (rest c.search.frame.set c.in-Some.load)
-    (may_add c.in_ok-sort_load-in-Some.field-0) (c.search.units.used + 1 - c.args.units.now.used)
-    (c.in_ok-sort_load-in-Some.ensures.publishes c.args.mode) (adds_few c.in_ok-sort_load-in-Some.field-0)
-    (omega (arith, c.search.invariant.spent)))
-
-pub returns-in_err-push_on-in-Open-2-clause-keeps : goal.returns-in_err-push_on-in-Open-2-clause-keeps
-returns-in_err-push_on-in-Open-2-clause-keeps g c =
-    keeps_both (g.D.Desk.desk c.args.desk.now) (g.D.Desk.desk c.search.desk) (g.D.Desk.desk c.sort_load.new.desk)
-    c.search.invariant.keeps c.sort_load.ensures.keeps
-
-pub returns-in_err-push_on-in-Open-2-clause-accounts : goal.returns-in_err-push_on-in-Open-2-clause-accounts
-returns-in_err-push_on-in-Open-2-clause-accounts g c =
-    on_err c.from_residual-in_err-push_on-in-Open-2.result (Accounts c.args.mode c.args.kind c.args.inst.now
-    c.args.cycle (g.D.Desk.desk c.args.desk.now) (g.D.Desk.desk c.sort_load.new.desk) []
-    (c.search.units.used + 1 - c.args.units.now.used) (c.search.units.used + 1 - c.args.units.now.used))
-    (gives_up c.args.mode c.args.kind c.args.inst.now c.tasks-tasks.ensures.ranked c.args.cycle c.args.set.now
-    c.args.most (g.D.Desk.desk c.args.desk.now) (g.D.Desk.desk c.search.desk) (g.D.Desk.desk c.sort_load.new.desk)
-    c.search.passed.items c.search.frame (c.search.units.used - c.args.units.now.used) c.search.invariant.keeps
-    c.sort_load.ensures.keeps c.search.invariant.tally (rest c.search.frame.set c.in-Some.load)
-    (may_add c.in_ok-sort_load-in-Some.field-0) (c.search.units.used + 1 - c.args.units.now.used)
-    (c.in_ok-sort_load-in-Some.ensures.publishes c.args.mode) (adds_few c.in_ok-sort_load-in-Some.field-0)
-    (omega (arith, c.search.invariant.spent)))
-
-pub begin_listing-listing-requires-in-Open-clause-set : goal.begin_listing-listing-requires-in-Open-clause-set
-begin_listing-listing-requires-in-Open-clause-set g c =
-    let S : Sorted → Type 0 = λ z. Sorts c.args.kind c.args.inst.now c.args.cycle (g.D.Desk.desk c.search.desk).alone
-    (entries (g.D.Desk.desk c.sort_load.new.desk)) (with_last c.search.frame c.in-Some.load) c.in-Some.load z in
-    let o = subst S c.in-Open.is c.in_ok-sort_load-in-Some.ensures.sorts in
-    let P : List Bool → Type 0 = λ z. IsTaskSet c.args.inst.now z in
-    subst P (sym (c.open_frame-below.ensures.set ∙ o.1)) (rest_tasks c.args.inst.now c.search.frame.set c.in-Some.load
+    subst P (sym n.1.0) (rest_tasks c.args.inst.now c.search.standing.frame.set n.0.load
     c.search.invariant.searching.tasks)
+
+pub go_down-requires-clause-some : goal.go_down-requires-clause-some
+go_down-requires-clause-some g c =
+    let S : Listed → Type 0 = λ z. Lists c.args.kind c.args.inst.now c.args.cycle (g.D.Desk.desk c.search.desk).alone (g.D.Desk.desk c.search.desk) (g.D.Desk.desk c.list_load.new.desk)
+    c.search.standing c.list_load.new.standing c.list_load.new.units.left z in
+    let n = subst S c.in-Open.is c.in_ok-list_load.ensures.lists in
+    omega (arith, c.search.invariant.searching.stations, ap (λ (z : Standing). z.frame.most) n.0.stands)
+
+pub go_down-requires-clause-beside : goal.go_down-requires-clause-beside
+go_down-requires-clause-beside g c =
+    let S : Listed → Type 0 = λ z. Lists c.args.kind c.args.inst.now c.args.cycle (g.D.Desk.desk c.search.desk).alone (g.D.Desk.desk c.search.desk) (g.D.Desk.desk c.list_load.new.desk)
+    c.search.standing c.list_load.new.standing c.list_load.new.units.left z in
+    let n = subst S c.in-Open.is c.in_ok-list_load.ensures.lists in
+    n.0.beside
+
+pub go_down-requires-clause-ready : goal.go_down-requires-clause-ready
+go_down-requires-clause-ready g c =
+    let S : Listed → Type 0 = λ z. Lists c.args.kind c.args.inst.now c.args.cycle (g.D.Desk.desk c.search.desk).alone (g.D.Desk.desk c.search.desk) (g.D.Desk.desk c.list_load.new.desk)
+    c.search.standing c.list_load.new.standing c.list_load.new.units.left z in
+    let n = subst S c.in-Open.is c.in_ok-list_load.ensures.lists in
+    ready_with c.args.inst.now c.args.cycle c.search.standing c.list_load.new.standing
+    (with_last c.search.standing.frame n.0.load) c.list_load.new.standing.listing n.0.stands c.search.invariant.ready
+
+pub returns-in_err-go_down-in-Open-clause-keeps : goal.returns-in_err-go_down-in-Open-clause-keeps
+returns-in_err-go_down-in-Open-clause-keeps g c =
+    keeps_both (g.D.Desk.desk c.args.desk.now) (g.D.Desk.desk c.search.desk) (g.D.Desk.desk c.list_load.new.desk) c.search.invariant.keeps c.list_load.ensures.keeps
+
+pub returns-in_err-go_down-in-Open-clause-accounts : goal.returns-in_err-go_down-in-Open-clause-accounts
+returns-in_err-go_down-in-Open-clause-accounts g c =
+    let S : Listed → Type 0 = λ z. Lists c.args.kind c.args.inst.now c.args.cycle (g.D.Desk.desk c.search.desk).alone (g.D.Desk.desk c.search.desk) (g.D.Desk.desk c.list_load.new.desk)
+    c.search.standing c.list_load.new.standing c.list_load.new.units.left z in
+    let n = subst S c.in-Open.is c.in_ok-list_load.ensures.lists in
+    on_err c.from_residual-in_err-go_down-in-Open.result (Accounts c.args.mode c.args.kind c.args.inst.now c.args.cycle (g.D.Desk.desk c.args.desk.now) (g.D.Desk.desk c.list_load.new.desk) [] (c.list_load.new.units.used - c.args.units.now.used) (c.list_load.new.units.used - c.args.units.now.used))
+    (gives_up c.args.mode c.args.kind c.args.inst.now c.tasks-tasks.ensures.ranked c.args.cycle c.args.set.now c.args.most (g.D.Desk.desk c.args.desk.now) (g.D.Desk.desk c.search.desk) (g.D.Desk.desk c.list_load.new.desk) c.search.standing.passed.items
+    c.search.standing.frame (c.search.units.used - c.args.units.now.used) c.search.invariant.keeps c.list_load.ensures.keeps c.search.invariant.tally 0
+    (c.list_load.new.units.used - c.args.units.now.used) (does_few c.args.mode c.args.kind c.args.inst.now c.args.cycle (g.D.Desk.desk c.search.desk) (g.D.Desk.desk c.list_load.new.desk) (rest c.search.standing.frame.set n.0.load) 0 0
+    (n.0.listed.does c.args.mode)) (at_least 1)
+    (used_one c.list_load.new.units.used c.search.units.used (units_of c.in_ok-list_load.field-0) c.args.units.now.used
+    c.in_ok-list_load.ensures.used (ap units_of c.in-Open.is) c.search.invariant.spent))
 
 pub search-preserved : goal.search-preserved
 search-preserved g c =
-    let S : Sorted → Type 0 = λ z. Sorts c.args.kind c.args.inst.now c.args.cycle (g.D.Desk.desk c.search.desk).alone
-    (entries (g.D.Desk.desk c.sort_load.new.desk)) (with_last c.search.frame c.in-Some.load) c.in-Some.load z in
-    let o = subst S c.in-Open.is c.in_ok-sort_load-in-Some.ensures.sorts in
+    let S : Listed → Type 0 = λ z. Lists c.args.kind c.args.inst.now c.args.cycle (g.D.Desk.desk c.search.desk).alone (g.D.Desk.desk c.search.desk) (g.D.Desk.desk c.list_load.new.desk)
+    c.search.standing c.list_load.new.standing c.list_load.new.units.left z in
+    let n = subst S c.in-Open.is c.in_ok-list_load.ensures.lists in
+    let d = c.in_ok-go_down-in-Open.ensures.down in
     record {
-      keeps = keeps_both (g.D.Desk.desk c.args.desk.now) (g.D.Desk.desk c.search.desk)
-          (g.D.Desk.desk c.sort_load.new.desk) c.search.invariant.keeps c.sort_load.ensures.keeps;
-      pairs = c.enter.ensures.pairs ∙ (c.sort_load.ensures.pairs ∙ c.search.invariant.pairs);
-      units = omega (arith, c.search.invariant.units, c.if-units-eq0.false);
-      spent = (omega (arith, c.search.invariant.spent));
-      searching = down c.args.mode c.args.kind c.args.inst.now c.tasks-tasks.ensures.ranked c.args.cycle c.args.set.now
-          c.args.most (entries (g.D.Desk.desk c.sort_load.new.desk)) c.search.passed.items c.search.frame
-          (grown c.args.mode c.args.kind c.args.inst.now c.tasks-tasks.ensures.ranked c.args.cycle c.args.set.now
-          c.args.most (g.D.Desk.desk c.search.desk) (g.D.Desk.desk c.sort_load.new.desk) c.search.passed.items
-          c.search.frame c.sort_load.ensures.keeps c.search.invariant.searching) c.in-Some.load c.in-Some.ensures.next
-          o.0 c.push_on.new.stack.items c.open_frame-below.result c.in-Open.rest c.in_ok-push_on-in-Open.ensures.items
-          c.open_frame-below.ensures.set c.open_frame-below.ensures.most c.open_frame-below.ensures.mode
-          c.open_frame-below.ensures.belongs c.open_frame-below.ensures.last c.open_frame-below.ensures.cites o.1 o.2;
-      beside = c.begin_listing-listing-in-Open.ensures;
-      room = c.in_ok-push_on-in-Open.ensures.room;
-      paired = paired_push c.args.inst.now c.args.cycle c.search.passed.items c.push_on.new.stack.items
-          c.search.listings.items c.push_on-in-Open.new.stack.items (with_last c.search.frame c.in-Some.load)
-          c.next_load.new.listing c.in_ok-push_on-in-Open.ensures.items c.in_ok-push_on-in-Open-2.ensures.items
-          c.in-Some.ensures.beside c.search.invariant.paired;
-      tally = down_tally c.args.mode c.args.kind c.args.inst.now c.tasks-tasks.ensures.ranked c.args.cycle
-          c.args.set.now c.args.most (g.D.Desk.desk c.args.desk.now) (g.D.Desk.desk c.search.desk)
-          (g.D.Desk.desk c.sort_load.new.desk) c.search.passed.items c.search.frame
-          (c.search.units.used - c.args.units.now.used) c.search.invariant.keeps c.sort_load.ensures.keeps
-          c.search.invariant.tally (entries (g.D.Desk.desk c.search.desk)) c.push_on.new.stack.items
-          c.open_frame-below.result c.in-Some.load c.in-Open.rest (may_add c.in_ok-sort_load-in-Some.field-0)
-          (c.search.units.used + 1 - c.args.units.now.used) c.search.invariant.searching c.in-Some.ensures.next
-          (c.in_ok-sort_load-in-Some.ensures.publishes c.args.mode) (ap may_add c.in-Open.is)
-          c.in_ok-push_on-in-Open.ensures.items
-          c.open_frame-below.ensures.set c.open_frame-below.ensures.most c.open_frame-below.ensures.last
-          (omega (arith, c.search.invariant.spent)) o.3;
+      keeps = keeps_both (g.D.Desk.desk c.args.desk.now) (g.D.Desk.desk c.search.desk) (g.D.Desk.desk c.list_load.new.desk) c.search.invariant.keeps c.list_load.ensures.keeps;
+      pairs = c.go_down.ensures.pairs ∙ (c.list_load.ensures.pairs ∙ c.search.invariant.pairs);
+      units = c.list_load.ensures.units ∙ c.search.invariant.units;
+      spent = used_still c.list_load.new.units.used c.search.units.used (units_of c.in_ok-list_load.field-0) c.args.units.now.used
+          c.in_ok-list_load.ensures.used c.search.invariant.spent;
+      searching = searching_down c.args.mode c.args.kind c.args.inst.now c.tasks-tasks.ensures.ranked c.args.cycle c.args.set.now c.args.most (g.D.Desk.desk c.search.desk) (g.D.Desk.desk c.list_load.new.desk) c.search.standing c.list_load.new.standing
+          c.list_load.ensures.keeps c.search.invariant.searching n.0 c.in-Open.rest c.go_down.new.standing d n.1.0 n.1.1;
+      beside = d.beside;
+      ready = d.ready;
+      tally = tally_down_at c.args.mode c.args.kind c.args.inst.now c.tasks-tasks.ensures.ranked c.args.cycle c.args.set.now c.args.most (g.D.Desk.desk c.search.desk) (g.D.Desk.desk c.list_load.new.desk) c.search.standing c.list_load.new.standing
+          c.list_load.ensures.keeps c.search.invariant.searching n.0 c.in-Open.rest c.go_down.new.standing d (g.D.Desk.desk c.args.desk.now) (c.search.units.used - c.args.units.now.used)
+          (c.list_load.new.units.used - c.args.units.now.used) c.search.invariant.keeps c.search.invariant.tally
+          (used_one c.list_load.new.units.used c.search.units.used (units_of c.in_ok-list_load.field-0) c.args.units.now.used
+          c.in_ok-list_load.ensures.used (ap units_of c.in-Open.is) c.search.invariant.spent) n.1.2;
     }
+
+pub returns-in_err-standing-clause-pairs : goal.returns-in_err-standing-clause-pairs
+returns-in_err-standing-clause-pairs g c =
+    c.begin_standing.ensures.pairs
+
+pub returns-in_err-standing-clause-units : goal.returns-in_err-standing-clause-units
+returns-in_err-standing-clause-units g c =
+    refl
+
+pub returns-in_err-list_load-clause-pairs : goal.returns-in_err-list_load-clause-pairs
+returns-in_err-list_load-clause-pairs g c =
+    c.list_load.ensures.pairs ∙ c.search.invariant.pairs
+
+pub returns-in_err-list_load-clause-units : goal.returns-in_err-list_load-clause-units
+returns-in_err-list_load-clause-units g c =
+    c.list_load.ensures.units ∙ c.search.invariant.units
+
+pub returns-in_err-id-in-Ended-clause-pairs : goal.returns-in_err-id-in-Ended-clause-pairs
+returns-in_err-id-in-Ended-clause-pairs g c =
+    c.list_load.ensures.pairs ∙ c.search.invariant.pairs
+
+pub returns-in_err-id-in-Ended-clause-units : goal.returns-in_err-id-in-Ended-clause-units
+returns-in_err-id-in-Ended-clause-units g c =
+    c.list_load.ensures.units ∙ c.search.invariant.units
+
+pub returns-in-Spent-clause-pairs : goal.returns-in-Spent-clause-pairs
+returns-in-Spent-clause-pairs g c =
+    c.list_load.ensures.pairs ∙ c.search.invariant.pairs
+
+pub returns-in-Spent-clause-units : goal.returns-in-Spent-clause-units
+returns-in-Spent-clause-units g c =
+    c.list_load.ensures.units ∙ c.search.invariant.units
+
+pub returns-in_err-loads_in_order-in-Empty-clause-pairs : goal.returns-in_err-loads_in_order-in-Empty-clause-pairs
+returns-in_err-loads_in_order-in-Empty-clause-pairs g c =
+    c.list_load.ensures.pairs ∙ c.search.invariant.pairs
+
+pub returns-in_err-loads_in_order-in-Empty-clause-units : goal.returns-in_err-loads_in_order-in-Empty-clause-units
+returns-in_err-loads_in_order-in-Empty-clause-units g c =
+    c.list_load.ensures.units ∙ c.search.invariant.units
+
+pub returns-in-Empty-clause-pairs : goal.returns-in-Empty-clause-pairs
+returns-in-Empty-clause-pairs g c =
+    c.list_load.ensures.pairs ∙ c.search.invariant.pairs
+
+pub returns-in-Empty-clause-units : goal.returns-in-Empty-clause-units
+returns-in-Empty-clause-units g c =
+    c.list_load.ensures.units ∙ c.search.invariant.units
+
+pub returns-in_err-up-in-Ended-clause-pairs : goal.returns-in_err-up-in-Ended-clause-pairs
+returns-in_err-up-in-Ended-clause-pairs g c =
+    c.go_up.ensures.pairs ∙ (c.list_load.ensures.pairs ∙ c.search.invariant.pairs)
+
+pub returns-in_err-up-in-Ended-clause-units : goal.returns-in_err-up-in-Ended-clause-units
+returns-in_err-up-in-Ended-clause-units g c =
+    c.list_load.ensures.units ∙ c.search.invariant.units
+
+pub returns-then-not-up-clause-pairs : goal.returns-then-not-up-clause-pairs
+returns-then-not-up-clause-pairs g c =
+    c.go_up.ensures.pairs ∙ (c.list_load.ensures.pairs ∙ c.search.invariant.pairs)
+
+pub returns-then-not-up-clause-units : goal.returns-then-not-up-clause-units
+returns-then-not-up-clause-units g c =
+    c.list_load.ensures.units ∙ c.search.invariant.units
+
+pub returns-in_err-go_down-in-Open-clause-pairs : goal.returns-in_err-go_down-in-Open-clause-pairs
+returns-in_err-go_down-in-Open-clause-pairs g c =
+    c.go_down.ensures.pairs ∙ (c.list_load.ensures.pairs ∙ c.search.invariant.pairs)
+
+pub returns-in_err-go_down-in-Open-clause-units : goal.returns-in_err-go_down-in-Open-clause-units
+returns-in_err-go_down-in-Open-clause-units g c =
+    c.list_load.ensures.units ∙ c.search.invariant.units
+
+pub list_load-requires-clause-units : goal.list_load-requires-clause-units
+list_load-requires-clause-units g c =
+    omega (arith, c.search.invariant.units, c.requires.units)
+
+pub list_load-requires-clause-beside : goal.list_load-requires-clause-beside
+list_load-requires-clause-beside g c =
+    c.search.invariant.beside
+
+pub trail_of-requires : goal.trail_of-requires
+trail_of-requires g c =
+    let S : Listed → Type 0 = λ z. Lists c.args.kind c.args.inst.now c.args.cycle (g.D.Desk.desk c.search.desk).alone (g.D.Desk.desk c.search.desk) (g.D.Desk.desk c.list_load.new.desk)
+    c.search.standing c.list_load.new.standing c.list_load.new.units.left z in
+    let n = subst S c.in-Spent.is c.in_ok-list_load.ensures.lists in
+    (ready_with c.args.inst.now c.args.cycle c.search.standing c.list_load.new.standing c.search.standing.frame
+    c.list_load.new.standing.listing n.0.stays c.search.invariant.ready).room
+
+pub trail_of-frames-requires : goal.trail_of-frames-requires
+trail_of-frames-requires g c =
+    let S : Listed → Type 0 = λ z. Lists c.args.kind c.args.inst.now c.args.cycle (g.D.Desk.desk c.search.desk).alone (g.D.Desk.desk c.search.desk) (g.D.Desk.desk c.list_load.new.desk)
+    c.search.standing c.list_load.new.standing c.list_load.new.units.left z in
+    let n = subst S c.in-Empty.is c.in_ok-list_load.ensures.lists in
+    (ready_with c.args.inst.now c.args.cycle c.search.standing c.list_load.new.standing (with_last c.search.standing.frame n.0.load)
+    c.list_load.new.standing.listing n.0.stands c.search.invariant.ready).room

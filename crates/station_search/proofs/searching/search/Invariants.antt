@@ -1,8 +1,8 @@
-use Rattle.std.proofs.Common.{◌≡◌, ◌+◌, ◌*◌, ◌-◌, ◌<◌, ◌≤◌, length, vec_len, vec_capacity}
+use Rattle.std.proofs.Common.{◌≡◌, ◌+◌, ◌*◌, ◌-◌, ◌≤◌, length}
 use Rattle.lemma_core.specs.Desks.{entries, Keeps}
 use Rattle.station_search.specs.inner.Work.{IsBeside}
+use Rattle.station_search.specs.inner.Steps.{IsReady}
 use Rattle.station_search.proofs.States.{IsSearching}
-use Rattle.station_search.proofs.Pairs.{ArePaired}
 use Rattle.station_search.proofs.Tallies.{Tally}
 use Rattle.station_search.proofs.searching.search.Given as goal
 
@@ -12,14 +12,13 @@ invariant-search g l = record {
   pairs : l.pairs ≡ l.fn.pairs;
   units : l.units.used + l.units.left ≡ l.fn.units.used + l.fn.units.left;
   spent : l.fn.units.used ≤ l.units.used;
-  searching : IsSearching l.mode l.kind l.inst l.cycle (entries (g.D.Desk.desk l.desk)) l.set l.most l.passed.items
-      l.frame;
-  beside : IsBeside l.inst l.cycle l.frame l.listing;
-  room : vec_len l.passed < vec_capacity l.passed;
-  paired : ArePaired l.inst l.cycle l.passed.items l.listings.items;
-  tally : Tally l.mode l.kind l.inst l.cycle (g.D.Desk.desk l.fn.desk) (g.D.Desk.desk l.desk) l.passed.items l.frame
-      (l.units.used - l.fn.units.used) 0;
+  searching : IsSearching l.mode l.kind l.inst l.cycle (entries (g.D.Desk.desk l.desk)) l.set l.most l.standing.passed.items
+      l.standing.frame;
+  beside : IsBeside l.inst l.cycle l.standing.frame l.standing.listing;
+  ready : IsReady l.inst l.cycle l.standing;
+  tally : Tally l.mode l.kind l.inst l.cycle (g.D.Desk.desk l.fn.desk) (g.D.Desk.desk l.desk)
+      l.standing.passed.items l.standing.frame (l.units.used - l.fn.units.used) 0;
 }
 
 abbrev pub decreases-search : goal.decreases-search
-decreases-search g l = 2 * l.units.left + length l.passed.items
+decreases-search g l = 2 * l.units.left + length l.standing.passed.items

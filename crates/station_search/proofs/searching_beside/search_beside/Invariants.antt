@@ -1,9 +1,9 @@
-use Rattle.std.proofs.Common.{◌≡◌, ◌+◌, ◌*◌, ◌-◌, ◌<◌, ◌≤◌, None, length, vec_len, vec_capacity}
+use Rattle.std.proofs.Common.{◌≡◌, ◌+◌, ◌*◌, ◌-◌, ◌≤◌, None, length}
 use Rattle.lemma_core.specs.Desks.{entries, Keeps}
 use Rattle.station_search.specs.inner.Work.{IsBeside}
+use Rattle.station_search.specs.inner.Steps.{IsReady}
 use Rattle.station_search.specs.inner.Walks.{walks_left, all_left}
 use Rattle.station_search.proofs.WalkStates.{IsWalking}
-use Rattle.station_search.proofs.Pairs.{ArePaired}
 use Rattle.station_search.proofs.Tallies.{Outlay}
 use Rattle.station_search.proofs.searching_beside.search_beside.Given as goal
 
@@ -13,15 +13,14 @@ invariant-search g l = record {
   pairs : l.pairs ≡ l.fn.pairs;
   units : l.units.used + l.units.left ≡ l.fn.units.used + l.fn.units.left;
   spent : l.fn.units.used ≤ l.units.used;
-  walking : IsWalking None l.kind l.inst l.cycle (entries (g.D.Desk.desk l.desk)) l.set l.most l.passed.items
-      l.walks.items l.frame l.walk;
-  beside : IsBeside l.inst l.cycle l.frame l.listing;
-  room : vec_len l.passed < vec_capacity l.passed;
-  paired : ArePaired l.inst l.cycle l.passed.items l.listings.items;
-  outlay : Outlay None l.kind l.inst l.cycle (g.D.Desk.desk l.fn.desk) (g.D.Desk.desk l.desk) l.passed.items l.frame
-      (l.units.used - l.fn.units.used) 0;
+  walking : IsWalking None l.kind l.inst l.cycle (entries (g.D.Desk.desk l.desk)) l.set l.most
+      l.standing.passed.items l.walks.items l.standing.frame l.walk;
+  beside : IsBeside l.inst l.cycle l.standing.frame l.standing.listing;
+  ready : IsReady l.inst l.cycle l.standing;
+  outlay : Outlay None l.kind l.inst l.cycle (g.D.Desk.desk l.fn.desk) (g.D.Desk.desk l.desk)
+      l.standing.passed.items l.standing.frame (l.units.used - l.fn.units.used) 0;
 }
 
 abbrev pub decreases-search : goal.decreases-search
 decreases-search g l =
-    3 * l.units.left + (length l.passed.items + (walks_left l.walk + all_left l.walks.items))
+    3 * l.units.left + (length l.standing.passed.items + (walks_left l.walk + all_left l.walks.items))

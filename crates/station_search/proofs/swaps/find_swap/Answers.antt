@@ -1,4 +1,4 @@
-use Rattle.line_rules.proofs.SumsOverMembers.{all_in_start}
+use Rattle.line_rules.proofs.SumsOverMembers.{all_in_start, all_in_turn}
 use Rattle.station_search.proofs.Events.{waits_none}
 use Rattle.station_search.proofs.WaitFacts.{waits_both}
 use Rattle.station_search.proofs.swaps.find_swap.Goals as goal
@@ -15,3 +15,13 @@ loop-task-init g c = record {
 pub returns-in-Some-swap_out-clause-waits : goal.returns-in-Some-swap_out-clause-waits
 returns-in-Some-swap_out-clause-waits g c = waits_both (g.D.Desk.desk c.args.desk.now) (g.D.Desk.desk c.loop-task.desk)
     (g.D.Desk.desk c.swap_out.new.desk) c.loop-task.invariant.waits c.swap_out.ensures.waits
+
+pub loop-task-preserved : goal.loop-task-preserved
+loop-task-preserved g c = record {
+  can_next = tt;
+  finite = tt;
+  members = (all_in_turn c.args.set.now c.loop-task.task-iterator c.next.new.self c.in-Some.task
+      c.in-Some.ensures.steps c.loop-task.invariant.members).1;
+  waits = waits_both (g.D.Desk.desk c.args.desk.now) (g.D.Desk.desk c.loop-task.desk)
+      (g.D.Desk.desk c.swap_out.new.desk) c.loop-task.invariant.waits c.swap_out.ensures.waits;
+}
