@@ -21,7 +21,6 @@ use line_rules::Entry;
 use std::alloc::Global;
 
 /// What a pass keeps of the entries that it has seen.
-#[derive(Drop)]
 pub struct Memo {
     pub(crate) marks: Marks,
     pub(crate) rows: LemmaRows,
@@ -31,6 +30,19 @@ pub struct Memo {
     pub(crate) count: u64,
     /// Whether it has caught up in a turn, so that all entries that the pass has seen are kept.
     pub(crate) ready: bool,
+}
+
+// By hand, and so a call: where a pass is let go its caller then has one goal for its memo, and not one for each part.
+impl Drop for Memo {
+    fn drop(self) {
+        let Memo {
+            marks: _marks,
+            rows: _rows,
+            cycle: _,
+            count: _,
+            ready: _,
+        } = self;
+    }
 }
 
 /// What is kept of an own entry, copied before it is published.

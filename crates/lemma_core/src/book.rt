@@ -27,7 +27,6 @@ use std::marker::Model;
 
 /// Entries, each of which follows from those before it, the best balance so far, and the log of what was published
 /// and offered.
-#[derive(Drop)]
 pub struct Book {
     instance: Instance,
     kind: LineKind,
@@ -39,6 +38,24 @@ pub struct Book {
     start: usize,
     opening: u32,
     room: u32,
+}
+
+// By hand, and so a call: where a book is let go its caller then has one goal for it, and not one for each part.
+impl Drop for Book {
+    fn drop(self) {
+        let Book {
+            instance: _instance,
+            kind: _,
+            cycle: _,
+            entries: _entries,
+            index: _index,
+            log: _log,
+            best: _best,
+            start: _,
+            opening: _,
+            room: _,
+        } = self;
+    }
 }
 
 impl Model for Book {
@@ -323,6 +340,18 @@ impl Book {
         ensures statable { AreStatable result.0 }
         ensures right { MayBeBest self.about result.1 }
     {
-        (self.entries, self.best)
+        let Book {
+            instance: _instance,
+            kind: _,
+            cycle: _,
+            entries,
+            index: _index,
+            log: _log,
+            best,
+            start: _,
+            opening: _,
+            room: _,
+        } = self;
+        (entries, best)
     }
 }

@@ -30,7 +30,6 @@ const LOW_TASKS: u32 = 128;
 
 /// Tasks with times, the set of tasks before each one, the set of tasks apart from each one, and the order of the tasks
 /// by rank. Tasks are counted from 0.
-#[derive(Drop)]
 pub struct Instance {
     pub(crate) times: Vec<u64>,
     pub(crate) before: Vec<TaskSet>,
@@ -39,6 +38,21 @@ pub struct Instance {
     pub(crate) order: Vec<u32>,
     pub(crate) ranks: Vec<u32>,
     pub(crate) partners: Vec<Kept>,
+}
+
+// By hand, and so a call: where an instance is let go its caller then has one goal for it, and not one for each vector.
+impl Drop for Instance {
+    fn drop(self) {
+        let Instance {
+            times: _times,
+            before: _before,
+            after: _after,
+            apart: _apart,
+            order: _order,
+            ranks: _ranks,
+            partners: _partners,
+        } = self;
+    }
 }
 
 impl Model for Instance {

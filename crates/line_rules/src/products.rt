@@ -7,7 +7,6 @@ use crate::types::{Balance, LineKind, Trail};
 
 /// Bounds on the least product of stations and cycle over a range of stations, with their proof. Cycles are in the
 /// instance's time unit.
-#[derive(Drop)]
 pub struct EfficCert {
     /// The kind of line.
     pub kind: LineKind,
@@ -29,4 +28,22 @@ pub struct EfficCert {
     pub entries: Entries,
     /// Where the search was when its units ended, if they did.
     pub trail: Option<Trail>,
+}
+
+// By hand, and so a call: where a certificate is let go its caller then has one goal for it, and not one for each part.
+impl Drop for EfficCert {
+    fn drop(self) {
+        let EfficCert {
+            kind: _,
+            tasks: _,
+            least_m: _,
+            most_m: _,
+            cycle: _,
+            lower: _,
+            upper: _,
+            balance: _balance,
+            entries: _entries,
+            trail: _trail,
+        } = self;
+    }
 }

@@ -136,7 +136,6 @@ impl EqualCopy for SeqFrame {
 }
 
 /// A sequence of the demands with its utility work, and a proof that no sequence has less than a lower bound.
-#[derive(Drop)]
 pub struct SeqCert {
     /// The number of models, 1 to 16.
     pub models: u32,
@@ -154,4 +153,20 @@ pub struct SeqCert {
     pub entries: SeqEntries,
     /// Where the search was when its units ended; none where it came to its end.
     pub frames: SeqFrames,
+}
+
+// By hand, and so a call: where a certificate is let go its caller then has one goal for it, and not one for each part.
+impl Drop for SeqCert {
+    fn drop(self) {
+        let SeqCert {
+            models: _,
+            stations: _,
+            charges: _charges,
+            lower: _,
+            upper: _,
+            sequence: _sequence,
+            entries: _entries,
+            frames: _frames,
+        } = self;
+    }
 }
