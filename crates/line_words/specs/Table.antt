@@ -13,25 +13,33 @@ use Rattle.line_words.specs.declared.command.Command.TheVariants.{Effic}
 use Rattle.line_words.specs.declared.command.Command.TheVariants.{EfficCheck}
 use Rattle.line_words.specs.declared.command.Command.TheVariants.{Sequence, SequenceCheck}
 
+-- the command for a mix of models that a word names
+abbrev pub mix_command_named : Text → Option Command
+mix_command_named word =
+    cond (bytes_eq word (codes "combine")) (Some Combine)
+    (cond (bytes_eq word (codes "utility")) (Some Utility)
+    (cond (bytes_eq word (codes "timeline")) (Some Timeline)
+    (cond (bytes_eq word (codes "timeline-draw")) (Some TimelineDraw) None)))
+
+-- the command for a certificate that a word names, or one for a mix
+abbrev pub proof_command_named : Text → Option Command
+proof_command_named word =
+    cond (bytes_eq word (codes "check")) (Some Check)
+    (cond (bytes_eq word (codes "effic-check")) (Some EfficCheck)
+    (cond (bytes_eq word (codes "sequence-check")) (Some SequenceCheck)
+    (cond (bytes_eq word (codes "draw")) (Some Draw)
+    (cond (bytes_eq word (codes "plan")) (Some Plan) (mix_command_named word)))))
+
 -- the command that a word names
 abbrev pub command_named : Text → Option Command
 command_named word =
     cond (bytes_eq word (codes "balance")) (Some Balance)
     (cond (bytes_eq word (codes "solve")) (Some Solve)
     (cond (bytes_eq word (codes "cycle")) (Some Cycle)
-    (cond (bytes_eq word (codes "check")) (Some Check)
-    (cond (bytes_eq word (codes "convert")) (Some Convert)
-    (cond (bytes_eq word (codes "combine")) (Some Combine)
-    (cond (bytes_eq word (codes "utility")) (Some Utility)
-    (cond (bytes_eq word (codes "timeline")) (Some Timeline)
-    (cond (bytes_eq word (codes "timeline-draw")) (Some TimelineDraw)
-    (cond (bytes_eq word (codes "try")) (Some Try)
-    (cond (bytes_eq word (codes "draw")) (Some Draw)
-    (cond (bytes_eq word (codes "plan")) (Some Plan)
     (cond (bytes_eq word (codes "effic")) (Some Effic)
-    (cond (bytes_eq word (codes "effic-check")) (Some EfficCheck)
     (cond (bytes_eq word (codes "sequence")) (Some Sequence)
-    (cond (bytes_eq word (codes "sequence-check")) (Some SequenceCheck) None)))))))))))))))
+    (cond (bytes_eq word (codes "convert")) (Some Convert)
+    (cond (bytes_eq word (codes "try")) (Some Try) (proof_command_named word)))))))
 
 -- how many names a command wants
 abbrev pub names_wanted : Command → ℕ
@@ -133,19 +141,24 @@ units_most SequenceCheck = 3000000
 abbrev pub least_of : Text → ℕ
 least_of key = cond (bytes_eq key (codes "helpers") || bytes_eq key (codes "seed") || bytes_eq key (codes "seek")) 0 1
 
+-- the greatest number that a key takes of those that count something else than loads and time
+abbrev pub most_count_of : Text → ℕ
+most_count_of key =
+    cond (bytes_eq key (codes "helpers")) 64
+    (cond (bytes_eq key (codes "stations") || bytes_eq key (codes "least") || bytes_eq key (codes "most")) 1024
+    (cond (bytes_eq key (codes "tasks")) 1024
+    18446744073709551615))
+
 -- the greatest number that a key takes
 abbrev pub most_of : Command → Text → ℕ
 most_of command key =
     cond (bytes_eq key (codes "cycle")) 1000000000000000000
-    (cond (bytes_eq key (codes "helpers")) 64
     (cond (bytes_eq key (codes "units")) (units_most command)
-    (cond (bytes_eq key (codes "stations") || bytes_eq key (codes "least") || bytes_eq key (codes "most")) 1024
-    (cond (bytes_eq key (codes "tasks")) 1024
     (cond (bytes_eq key (codes "steps")) 20000000
     (cond (bytes_eq key (codes "interval")) 1000000000
     (cond (bytes_eq key (codes "length")) 1000000000
     (cond (bytes_eq key (codes "seek")) 3000000
-    18446744073709551615))))))))
+    (most_count_of key))))))
 
 -- more than one byte, and the first is the digit 0
 abbrev pub leads_with_nought : Text → Bool

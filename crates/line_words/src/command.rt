@@ -3,7 +3,8 @@
 //! A command is a row of a table: its word, how many names it wants, and which keys it wants and takes. The table is
 //! small, and a look goes through it in order.
 ghost use Rattle.std.specs.Prelude.{◌≡◌, map};
-ghost use Rattle.line_words.specs.Table.{command_named, names_wanted, keys_wanted, keys_taken, units_most};
+ghost use Rattle.line_words.specs.Table.{command_named, proof_command_named, mix_command_named};
+ghost use Rattle.line_words.specs.Table.{names_wanted, keys_wanted, keys_taken, units_most};
 
 /// A command of the program.
 #[derive(Clone, Copy, Debug, PartialEq, Eq)]
@@ -42,6 +43,48 @@ pub enum Command {
     SequenceCheck,
 }
 
+/// The command for a mix of models that a word names. Each comparison of a chain makes the proof of the next one
+/// longer, so the chain stands in three parts.
+fn mix_command_named(word: &str) -> Option<Command>
+    ensures { result ≡ mix_command_named word.now }
+{
+    if word == "combine" {
+        return Some(Command::Combine);
+    }
+    if word == "utility" {
+        return Some(Command::Utility);
+    }
+    if word == "timeline" {
+        return Some(Command::Timeline);
+    }
+    if word == "timeline-draw" {
+        return Some(Command::TimelineDraw);
+    }
+    None
+}
+
+/// The command for a certificate that a word names, or one for a mix.
+fn proof_command_named(word: &str) -> Option<Command>
+    ensures { result ≡ proof_command_named word.now }
+{
+    if word == "check" {
+        return Some(Command::Check);
+    }
+    if word == "effic-check" {
+        return Some(Command::EfficCheck);
+    }
+    if word == "sequence-check" {
+        return Some(Command::SequenceCheck);
+    }
+    if word == "draw" {
+        return Some(Command::Draw);
+    }
+    if word == "plan" {
+        return Some(Command::Plan);
+    }
+    mix_command_named(word)
+}
+
 /// The command that a word names.
 pub(crate) fn command_named(word: &str) -> Option<Command>
     ensures { result ≡ command_named word.now }
@@ -55,46 +98,19 @@ pub(crate) fn command_named(word: &str) -> Option<Command>
     if word == "cycle" {
         return Some(Command::Cycle);
     }
-    if word == "check" {
-        return Some(Command::Check);
-    }
-    if word == "convert" {
-        return Some(Command::Convert);
-    }
-    if word == "combine" {
-        return Some(Command::Combine);
-    }
-    if word == "utility" {
-        return Some(Command::Utility);
-    }
-    if word == "timeline" {
-        return Some(Command::Timeline);
-    }
-    if word == "timeline-draw" {
-        return Some(Command::TimelineDraw);
-    }
-    if word == "try" {
-        return Some(Command::Try);
-    }
-    if word == "draw" {
-        return Some(Command::Draw);
-    }
-    if word == "plan" {
-        return Some(Command::Plan);
-    }
     if word == "effic" {
         return Some(Command::Effic);
-    }
-    if word == "effic-check" {
-        return Some(Command::EfficCheck);
     }
     if word == "sequence" {
         return Some(Command::Sequence);
     }
-    if word == "sequence-check" {
-        return Some(Command::SequenceCheck);
+    if word == "convert" {
+        return Some(Command::Convert);
     }
-    None
+    if word == "try" {
+        return Some(Command::Try);
+    }
+    proof_command_named(word)
 }
 
 impl Command {

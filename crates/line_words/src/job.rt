@@ -4,7 +4,7 @@
 //! value costs a look through the words, of which there are few.
 ghost use Rattle.std.specs.Prelude.{◌≡◌, ◌≤◌, ◌<◌, ◌^◌, IfOk, IfSome, option_map, ℕ, codes};
 ghost use Rattle.line_words.specs.Words.{texts, names_of, value_of};
-ghost use Rattle.line_words.specs.Table.{most_of};
+ghost use Rattle.line_words.specs.Table.{most_of, most_count_of};
 ghost use Rattle.line_words.specs.Jobs.{asks_pairs, number_set, number_or, line_set, bound_set, form_set, name_at, job_for};
 
 use crate::command::Command;
@@ -230,27 +230,34 @@ fn name_set(alloc: Global, words: &[String], key: &str) -> Result<Option<Name>, 
     }
 }
 
-/// The greatest number that a key takes. A cycle time of 10^18 is more than all tasks of a line take together. There
-/// are at most as many stations as tasks, 1,024. With 20,000,000 steps a check gets through every certificate that a
-/// search here writes. An interval and a length are at most 10^9, as a time of a model is. A seek may list as many
-/// loads as a search has units. A seed is any number of 64 bits.
-pub(crate) fn most_of(command: Command, key: &str) -> u64
-    ensures { result ≡ most_of command key.now }
+/// The greatest number that a key takes of those that count something else than loads and time. There are at most as
+/// many stations as tasks, 1,024. A seed is any number of 64 bits.
+fn most_count_of(key: &str) -> u64
+    ensures { result ≡ most_count_of key.now }
 {
-    if key == "cycle" {
-        return 1_000_000_000_000_000_000;
-    }
     if key == "helpers" {
         return 64;
-    }
-    if key == "units" {
-        return command.units_most();
     }
     if key == "stations" || key == "least" || key == "most" {
         return 1024;
     }
     if key == "tasks" {
         return 1024;
+    }
+    u64::MAX
+}
+
+/// The greatest number that a key takes. A cycle time of 10^18 is more than all tasks of a line take together. With
+/// 20,000,000 steps a check gets through every certificate that a search here writes. An interval and a length are at
+/// most 10^9, as a time of a model is. A seek may list as many loads as a search has units.
+pub(crate) fn most_of(command: Command, key: &str) -> u64
+    ensures { result ≡ most_of command key.now }
+{
+    if key == "cycle" {
+        return 1_000_000_000_000_000_000;
+    }
+    if key == "units" {
+        return command.units_most();
     }
     if key == "steps" {
         return 20_000_000;
@@ -264,7 +271,7 @@ pub(crate) fn most_of(command: Command, key: &str) -> u64
     if key == "seek" {
         return 3_000_000;
     }
-    u64::MAX
+    most_count_of(key)
 }
 
 /// The number that the words set a key to, where they set it.
