@@ -103,7 +103,7 @@ fn one_run<R: Threads + Wait + Sync>(
     let status = run(rt, alloc, words, &mut shelf, &mut out, &mut kept);
     tally.count(status);
     let after = contents_of(alloc, &shelf)?;
-    let keeps = match kept {
+    let keeps = match &kept {
         Kept::Nothing => false,
         _ => true,
     };

@@ -67,8 +67,8 @@ fn is_refuted(inst: &Instance, book: &Book, most: u32) -> bool
     }
 }
 
-// The help of a team at a share that was just started.
-fn help_at<R: Threads + Wait + Sync, G: Gate>(
+/// The help of a team at a share that was just started.
+pub fn help_at<R: Threads + Wait + Sync, G: Gate>(
     rt: &R,
     alloc: Global,
     inst: &Instance,

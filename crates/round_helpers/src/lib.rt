@@ -19,6 +19,8 @@ mod job_list;
 mod piece_work;
 mod question_work;
 mod teams;
+#[cfg(test)]
+mod tests;
 
 pub use gates::{AlwaysOpen, Gate};
 pub use helping::{Help, Helped, call_helpers};

@@ -276,20 +276,76 @@ fn has_a_helper_answer_a_round(rt: HostRuntime) -> Result<(), Fail> {
     Ok(())
 }
 
+// A line of thirty tasks, each behind the one of half its number. It needs 14 stations, and its times show 13.
+fn thirty(alloc: Global) -> Result<Instance, Fail> {
+    let mut times = Vec::new(alloc);
+    let mut arcs = Vec::new(alloc);
+    for task in 0..30u32 {
+        times.push(2 + u64::from(task.wrapping_mul(4 * task + 2) % 5))?;
+        if task > 0 {
+            arcs.push(Prec {
+                first: task / 2,
+                then: task,
+            })?;
+        }
+    }
+    instance(alloc, times, arcs.as_slice())
+}
+
+// Whether 1 to 8 helpers in turn, with so many units each, refute the question in so many rounds, and leave nothing to
+// the closing pass.
+fn always_refute<R: Threads + Wait + Sync>(
+    rt: &R,
+    alloc: Global,
+    inst: &Instance,
+    most: u32,
+    each: u32,
+    rounds: u32,
+) -> Result<bool, Fail>
+    requires some { 1 ≤ most }
+    requires few { most ≤ 1024 }
+{
+    for round in 0..rounds {
+        let purse = purse_of(alloc, 48, 1 + round % 8, each)?;
+        let text = round_text(rt, alloc, inst, most, purse)?;
+        let refuted = text.as_str().starts_with("Whole refuted from ");
+        if !refuted || !text.as_str().contains(" used 0 ") {
+            return Ok(false);
+        }
+    }
+    Ok(true)
+}
+
 #[test]
 fn helpers_answer_a_round_in_any_order(rt: HostRuntime) -> Result<(), Fail> {
     let alloc = rt.alloc();
-    let inst = seven(alloc)?;
-    for helpers in 1..9 {
-        for _ in 0..25 {
-            let purse = purse_of(alloc, 48, helpers, 300)?;
-            let text = round_text(&rt, alloc, &inst, 4, purse)?;
-            assert!(&rt;
-                text.as_str().starts_with("Whole refuted from ")
-                    & text.as_str().contains(" used 0 7|")
-            );
-        }
-    }
+    assert!(&rt; always_refute(&rt, alloc, &seven(alloc)?, 4, 300, 200)?);
+    Ok(())
+}
+
+#[test]
+fn helpers_answer_a_longer_round_in_any_order(rt: HostRuntime) -> Result<(), Fail> {
+    let alloc = rt.alloc();
+    assert!(&rt; always_refute(&rt, alloc, &thirty(alloc)?, 13, 40_000, 16)?);
+    Ok(())
+}
+
+// Of one task the only job leaves nothing, so its balance is found. Where the bound refutes what each load leaves, there
+// is no job: the helper's last question takes 1 and 15 units.
+#[test]
+fn a_helper_answers_small_questions(rt: HostRuntime) -> Result<(), Fail> {
+    let alloc = rt.alloc();
+    let one = instance(alloc, vec![in alloc; 5]?, &[])?;
+    let purse = purse_of(alloc, 48, 1, 200)?;
+    assert_eq!(&rt;
+        round_text(&rt, alloc, &one, 1, purse)?.as_str(),
+        "Whole found from 0 used 0 1| helper 1"
+    );
+    let purse = purse_of(alloc, 48, 1, 200)?;
+    assert_eq!(&rt;
+        round_text(&rt, alloc, &five(alloc)?, 2, purse)?.as_str(),
+        "Whole refuted from 1 used 0 5|branch {0, 1, 2, 3, 4} 2| helper 16"
+    );
     Ok(())
 }
 

@@ -1,5 +1,5 @@
 //! Two passes of one share decide a question each, and the second cites an entry of the first.
-ghost use Rattle.std.specs.Prelude.{◌≡◌, ◌<◌};
+ghost use Rattle.std.specs.Prelude.{◌≡◌, ◌≤◌, ◌<◌};
 ghost use Rattle.line_instance.specs.Line.{IsTaskSet};
 ghost use Rattle.line_rules.specs.declared.types.LineKind.TheVariants.{Straight};
 ghost use Rattle.book_share.specs.Calls.{IsPassOf};
@@ -19,18 +19,20 @@ pub fn seven(alloc: Global) -> Result<Instance, Fail> {
     free_tasks(alloc, vec![in alloc; 7, 7, 4, 4, 2, 2, 2]?)
 }
 
-// The entry that refutes a set in three stations, and the units that it takes to find it.
-fn refuted<R: Wait>(
+/// The entry that refutes a set in so many stations, and the units that it takes to find it.
+pub fn refuted<R: Wait>(
     rt: &R,
     alloc: Global,
     share: &Share,
     mut pass: Pass,
     inst: &Instance,
     set: &TaskSet,
+    most: u32,
 ) -> Option<(u64, u64)>
     requires pass { IsPassOf share.now pass }
     requires about { pass.view.base.about ≡ record { line = inst.now; kind = Straight; cycle = 7 } }
     requires set { IsTaskSet inst.now set.now }
+    requires few { most ≤ 1024 }
 {
     let mut units = Units {
         left: 1000,
@@ -48,7 +50,7 @@ fn refuted<R: Wait>(
         LineKind::Straight,
         CYCLE,
         set,
-        3,
+        most,
         &mut units,
     );
     match decided {
@@ -92,8 +94,8 @@ fn a_pass_cites_an_entry_of_another(rt: HostRuntime) -> Result<(), Fail> {
     let one = share.split(&mut last);
     let two = share.split(&mut last);
     let (first, second) = (all_but(&inst, 1), all_but(&inst, 0));
-    let asked = refuted(&rt, alloc, &share, one, &inst, &first) == Some((1, 31));
-    let cited = refuted(&rt, alloc, &share, two, &inst, &second) == Some((2, 16));
+    let asked = refuted(&rt, alloc, &share, one, &inst, &first, 3) == Some((1, 31));
+    let cited = refuted(&rt, alloc, &share, two, &inst, &second, 3) == Some((2, 16));
     let kept = has_both(&share.close(&rt, last), &first.without(0));
     if asked & cited & kept {
         return Ok(());

@@ -1,6 +1,7 @@
 //! One pass as worked by hand, calls that find the turn free, and an offer that another pass hears of.
 ghost use Rattle.std.specs.Prelude.{◌≡◌};
 ghost use Rattle.line_rules.specs.declared.types.LineKind.TheVariants.{Straight};
+ghost use Rattle.lemma_core.specs.Books.{MayBeBest};
 ghost use Rattle.book_share.specs.Calls.{IsPassOf};
 
 use crate::books::{balance, free_tasks, offer, publish, shared, tested, try_publish};
@@ -46,20 +47,29 @@ fn has_added_and_known(book: &Book) -> bool {
     (book.log_at(0) == LogItem::Added(0)) & (book.log_at(1) == known)
 }
 
+// Publishes and looks, is split and joined, and offers a balance that is no better.
+fn does_each<R: Wait>(rt: &R, share: Share, mut pass: Pass, inst: &Instance, best: Balance) -> bool
+    requires pass { IsPassOf share pass }
+    requires about { pass.view.base.about ≡ record { line = inst.now; kind = Straight; cycle = 7 } }
+    requires best { MayBeBest (record { line = inst.now; kind = Straight; cycle = 7 }) best }
+{
+    let published = publishes_and_looks(rt, &share, &mut pass, inst);
+    let other = share.split(&mut pass);
+    share.join(&mut pass, other);
+    let offered = offer(rt, &share, &mut pass, inst, best) == Offered::NotBetter;
+    let least = share.least(&mut pass) == 3;
+    let events = share.glance(&mut pass) == 2;
+    let kept = has_added_and_known(&share.close(rt, pass));
+    published & offered & least & events & kept
+}
+
 #[test]
 fn a_pass_works_alone(rt: HostRuntime) -> Result<(), Fail> {
     let alloc = rt.alloc();
     let inst = five(alloc)?;
     let three = tested(&inst, in_three(alloc)?)?;
-    let (share, mut pass) = shared(alloc, &inst, in_three(alloc)?)?;
-    let published = publishes_and_looks(&rt, &share, &mut pass, &inst);
-    let other = share.split(&mut pass);
-    share.join(&mut pass, other);
-    let offered = offer(&rt, &share, &mut pass, &inst, three) == Offered::NotBetter;
-    let least = share.least(&mut pass) == 3;
-    let events = share.glance(&mut pass) == 2;
-    let kept = has_added_and_known(&share.close(&rt, pass));
-    if published & offered & least & events & kept {
+    let (share, pass) = shared(alloc, &inst, in_three(alloc)?)?;
+    if does_each(&rt, share, pass, &inst, three) {
         return Ok(());
     }
     Err("another answer")?
@@ -82,21 +92,30 @@ fn a_free_turn_is_had(rt: HostRuntime) -> Result<(), Fail> {
     Err("another answer")?
 }
 
+// Offers a better balance, of which another pass hears.
+fn lowers<R: Wait>(rt: &R, share: Share, mut pass: Pass, inst: &Instance, best: Balance) -> bool
+    requires pass { IsPassOf share pass }
+    requires about { pass.view.base.about ≡ record { line = inst.now; kind = Straight; cycle = 7 } }
+    requires best { MayBeBest (record { line = inst.now; kind = Straight; cycle = 7 }) best }
+{
+    let mut other = share.split(&mut pass);
+    let before = share.least(&mut other) == 5;
+    let better = offer(rt, &share, &mut pass, inst, best) == Offered::Better;
+    let after = share.least(&mut other) == 3;
+    let events = share.glance(&mut other) == 1;
+    share.join(&mut other, pass);
+    let kept = share.close(rt, other).least() == 3;
+    before & better & after & events & kept
+}
+
 #[test]
 fn a_better_offer_lowers_the_least(rt: HostRuntime) -> Result<(), Fail> {
     let alloc = rt.alloc();
     let inst = five(alloc)?;
     let best = tested(&inst, in_three(alloc)?)?;
     let alone = balance(alloc, 5, &[1, 2, 3, 4, 5])?;
-    let (share, mut pass) = shared(alloc, &inst, alone)?;
-    let mut other = share.split(&mut pass);
-    let before = share.least(&mut other) == 5;
-    let better = offer(&rt, &share, &mut pass, &inst, best) == Offered::Better;
-    let after = share.least(&mut other) == 3;
-    let events = share.glance(&mut other) == 1;
-    share.join(&mut other, pass);
-    let kept = share.close(&rt, other).least() == 3;
-    if before & better & after & events & kept {
+    let (share, pass) = shared(alloc, &inst, alone)?;
+    if lowers(&rt, share, pass, &inst, best) {
         return Ok(());
     }
     Err("another answer")?

@@ -305,7 +305,38 @@ fn agrees(book: &Book, counts: &[u64], calls: &[Called], worker: u32) -> bool {
     next_place(book, from, worker) == None
 }
 
-// One run of so many workers, each in a thread of its own: how many calls were made, where all agree.
+// Whether the calls of so many workers are answered by the book.
+fn all_agree(
+    alloc: Global,
+    book: &Book,
+    calls: &[Called],
+    workers: u32,
+) -> Result<bool, AllocError> {
+    let counts = entries_before(alloc, book)?;
+    for worker in 0..workers {
+        if !agrees(book, counts.as_slice(), calls, worker) {
+            return Ok(false);
+        }
+    }
+    Ok(true)
+}
+
+// The calls of so many workers, each in a thread of its own, and the book that they leave.
+fn played<R: Threads + Wait + Sync>(
+    rt: &R,
+    alloc: Global,
+    inst: &Instance,
+    workers: u32,
+    seed: u64,
+) -> Result<(Book, Vec<Called>), Fail>
+    requires { workers ≤ 8 }
+{
+    let (share, pass) = shared(alloc, inst, alone(alloc, inst)?)?;
+    let (pass, calls) = in_threads(rt, alloc, &share, pass, inst, 0, workers, seed);
+    Ok((share.close(rt, pass), calls))
+}
+
+// One run of so many workers: how many calls were made, where all agree.
 fn run<R: Threads + Wait + Sync>(
     rt: &R,
     alloc: Global,
@@ -315,16 +346,11 @@ fn run<R: Threads + Wait + Sync>(
 ) -> Result<u64, Fail>
     requires { workers ≤ 8 }
 {
-    let (share, pass) = shared(alloc, inst, alone(alloc, inst)?)?;
-    let (pass, calls) = in_threads(rt, alloc, &share, pass, inst, 0, workers, seed);
-    let book = share.close(rt, pass);
-    let counts = entries_before(alloc, &book)?;
-    for worker in 0..workers {
-        if !agrees(&book, counts.as_slice(), calls.as_slice(), worker) {
-            return Err("an answer that isn't the book's")?;
-        }
+    let (book, calls) = played(rt, alloc, inst, workers, seed)?;
+    if all_agree(alloc, &book, calls.as_slice(), workers)? {
+        return Ok(calls.len() as u64);
     }
-    Ok(calls.len() as u64)
+    Err("an answer that isn't the book's")?
 }
 
 #[test]

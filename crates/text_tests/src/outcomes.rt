@@ -40,7 +40,7 @@ fn tasks_kept(alloc: Global, fails: &[u64]) -> Result<Option<u32>, AllocError> {
         kept: certificate(5),
     };
     let _status = finish(&mut out, Ok(report), &mut kept);
-    Ok(match kept {
+    Ok(match &kept {
         Kept::Nothing => None,
         Kept::Line(certificate) => Some(certificate.tasks),
         Kept::Checked { certificate, .. } => Some(certificate.tasks),

@@ -10,6 +10,11 @@ use Rattle.round_helpers.specs.declared.question_work.End.TheVariants as ends
 use Rattle.round_helpers.proofs.WorkFacts.{works_paid, works_on, works_offered, end_on}
 use Rattle.round_helpers.proofs.piece_work.ask_last.Goals as goal
 
+pub returns-in-Ok-None-clause-keeps : goal.returns-in-Ok-None-clause-keeps
+returns-in-Ok-None-clause-keeps g c =
+    keeps_both (g.D.Desk.desk c.args.desk.now) (g.D.Desk.desk c.settle.new.desk) (g.D.Desk.desk c.answered.new.desk)
+    c.settle.ensures.keeps c.answered.ensures.waits.keeps
+
 pub returns-in-Ok-None-clause-works : goal.returns-in-Ok-None-clause-works
 returns-in-Ok-None-clause-works g c =
     let a = g.D.Desk.desk c.args.desk.now in
@@ -37,6 +42,14 @@ returns-in-Ok-None-clause-ends g c =
     (subst S c.in-Ok-None.field-0-is c.in-Ok-None.ensures.settled
     (subst B (sym c.all-all.ensures.value) c.requires.bounded)))))
 
+pub returns-in-Ok-clause-keeps : goal.returns-in-Ok-clause-keeps
+returns-in-Ok-clause-keeps g c =
+    let a = g.D.Desk.desk c.args.desk.now in
+    let s = g.D.Desk.desk c.settle.new.desk in
+    let o = g.D.Desk.desk c.offer_loads.new.desk in
+    keeps_both a o (g.D.Desk.desk c.answered-in-Ok.new.desk)
+    (keeps_both a s o c.settle.ensures.keeps c.offer_loads.ensures.keeps) c.answered-in-Ok.ensures.waits.keeps
+
 pub returns-in-Ok-clause-works : goal.returns-in-Ok-clause-works
 returns-in-Ok-clause-works g c =
     let a = g.D.Desk.desk c.args.desk.now in
@@ -63,6 +76,11 @@ returns-in-Ok-clause-ends g c =
     subst E (sym c.answered-in-Ok.ensures.end)
     (end_on o n c.args.inst.now q c.settle.new.units.left ends.Answered c.answered-in-Ok.ensures.waits.keeps
     (inr (omega (arith, c.in-Ok.ensures.found, (subst S c.in-Ok-Some.field-0-is c.in-Ok-Some.ensures.settled).0))))
+
+pub returns-clause-keeps : goal.returns-clause-keeps
+returns-clause-keeps g c =
+    keeps_both (g.D.Desk.desk c.args.desk.now) (g.D.Desk.desk c.settle.new.desk) (g.D.Desk.desk c.offer_loads.new.desk)
+    c.settle.ensures.keeps c.offer_loads.ensures.keeps
 
 pub returns-clause-works : goal.returns-clause-works
 returns-clause-works g c =

@@ -30,6 +30,14 @@ offer_job-requires-clause-job g c =
     (slice_get_read c.args.jobs.now (length c.args.jobs.now) c.args.piece.now.number c.index-jobs-k.result refl
     (omega (arith, c.if-k-jobs.false)) c.index-jobs-k.is)
 
+pub returns-in-Ok-clause-keeps : goal.returns-in-Ok-clause-keeps
+returns-in-Ok-clause-keeps g c =
+    let a = g.D.Desk.desk c.args.desk.now in
+    let s = g.D.Desk.desk c.settle.new.desk in
+    let o = g.D.Desk.desk c.offer_job.new.desk in
+    keeps_both a o (g.D.Desk.desk c.answered.new.desk)
+    (keeps_both a s o c.settle.ensures.keeps c.offer_job.ensures.keeps) c.answered.ensures.waits.keeps
+
 pub returns-in-Ok-clause-works : goal.returns-in-Ok-clause-works
 returns-in-Ok-clause-works g c =
     let a = g.D.Desk.desk c.args.desk.now in
@@ -61,6 +69,11 @@ returns-in-Ok-clause-ends g c =
       (subst S c.in-Ok-Some.field-0-is c.in-Ok-Some.ensures.settled).0,
       c.requires.some,
     ))))
+
+pub returns-in-Err-offer_job-clause-keeps : goal.returns-in-Err-offer_job-clause-keeps
+returns-in-Err-offer_job-clause-keeps g c =
+    keeps_both (g.D.Desk.desk c.args.desk.now) (g.D.Desk.desk c.settle.new.desk) (g.D.Desk.desk c.offer_job.new.desk)
+    c.settle.ensures.keeps c.offer_job.ensures.keeps
 
 pub returns-in-Err-offer_job-clause-works : goal.returns-in-Err-offer_job-clause-works
 returns-in-Err-offer_job-clause-works g c =

@@ -26,6 +26,11 @@ working-init g c =
       hand = c.requires.hand;
     }
 
+pub returns-in-Some-told_end-clause-keeps : goal.returns-in-Some-told_end-clause-keeps
+returns-in-Some-told_end-clause-keeps g c =
+    keeps_both (g.D.Desk.desk c.args.desk.now) (g.D.Desk.desk c.working.desk) (g.D.Desk.desk c.told_end.new.desk)
+    c.working.invariant.keeps c.told_end.ensures.keeps
+
 pub returns-in-Some-told_end-clause-works : goal.returns-in-Some-told_end-clause-works
 returns-in-Some-told_end-clause-works g c =
     works_offered c.args.inst.now c.args.question.cycle (g.D.Desk.desk c.args.desk.now) (g.D.Desk.desk c.working.desk)
@@ -34,6 +39,13 @@ returns-in-Some-told_end-clause-works g c =
 
 pub returns-in-Some-told_end-clause-ends : goal.returns-in-Some-told_end-clause-ends
 returns-in-Some-told_end-clause-ends g c = c.in-Some-told_end.ensures.ends c.working.units.left
+
+pub returns-in_default-take-clause-keeps : goal.returns-in_default-take-clause-keeps
+returns-in_default-take-clause-keeps g c =
+    let a = g.D.Desk.desk c.args.desk.now in
+    let t = g.D.Desk.desk c.told_end.new.desk in
+    let both = keeps_both a (g.D.Desk.desk c.working.desk) t c.working.invariant.keeps c.told_end.ensures.keeps in
+    keeps_both a t (g.D.Desk.desk c.ask_last.new.desk) both c.ask_last.ensures.keeps
 
 pub returns-in_default-take-clause-works : goal.returns-in_default-take-clause-works
 returns-in_default-take-clause-works g c =
@@ -46,6 +58,13 @@ returns-in_default-take-clause-works g c =
     (works_offered c.args.inst.now c.args.question.cycle a b t (c.working.units.used - c.args.units.now.used)
     c.working.invariant.keeps c.told_end.ensures.keeps c.working.invariant.works c.told_end.ensures.works)
     c.ask_last.ensures.works
+
+pub returns-in-Some-ended-clause-keeps : goal.returns-in-Some-ended-clause-keeps
+returns-in-Some-ended-clause-keeps g c =
+    let a = g.D.Desk.desk c.args.desk.now in
+    let t = g.D.Desk.desk c.told_end.new.desk in
+    let both = keeps_both a (g.D.Desk.desk c.working.desk) t c.working.invariant.keeps c.told_end.ensures.keeps in
+    keeps_both a t (g.D.Desk.desk c.do_piece-ended.new.desk) both c.do_piece-ended.ensures.keeps
 
 pub returns-in-Some-ended-clause-works : goal.returns-in-Some-ended-clause-works
 returns-in-Some-ended-clause-works g c =

@@ -16,12 +16,22 @@ asking-init g c =
           (works_none c.args.inst.now c.args.question.cycle (g.D.Desk.desk c.args.desk.now));
     }
 
+pub returns-in-Refuted-clause-keeps : goal.returns-in-Refuted-clause-keeps
+returns-in-Refuted-clause-keeps g c =
+    keeps_both (g.D.Desk.desk c.args.desk.now) (g.D.Desk.desk c.asking.desk) (g.D.Desk.desk c.ask.new.desk)
+    c.asking.invariant.keeps c.ask.ensures.keeps
+
 pub returns-in-Refuted-clause-works : goal.returns-in-Refuted-clause-works
 returns-in-Refuted-clause-works g c =
     works_asked c.args.inst.now c.args.question.cycle (g.D.Desk.desk c.args.desk.now) (g.D.Desk.desk c.asking.desk)
     (g.D.Desk.desk c.ask.new.desk) c.args.units.now.used c.asking.units.used c.ask.new.units.used c.ask.result
     c.asking.invariant.spent c.ask.ensures.spent c.asking.invariant.keeps c.ask.ensures.keeps
     c.asking.invariant.works c.ask.ensures.works
+
+pub returns-in-Found-clause-keeps : goal.returns-in-Found-clause-keeps
+returns-in-Found-clause-keeps g c =
+    keeps_both (g.D.Desk.desk c.args.desk.now) (g.D.Desk.desk c.asking.desk) (g.D.Desk.desk c.ask.new.desk)
+    c.asking.invariant.keeps c.ask.ensures.keeps
 
 pub returns-in-Found-clause-works : goal.returns-in-Found-clause-works
 returns-in-Found-clause-works g c =
@@ -30,6 +40,11 @@ returns-in-Found-clause-works g c =
     c.asking.invariant.spent c.ask.ensures.spent c.asking.invariant.keeps c.ask.ensures.keeps
     c.asking.invariant.works c.ask.ensures.works
 
+pub returns-in-Spent-clause-keeps : goal.returns-in-Spent-clause-keeps
+returns-in-Spent-clause-keeps g c =
+    keeps_both (g.D.Desk.desk c.args.desk.now) (g.D.Desk.desk c.asking.desk) (g.D.Desk.desk c.ask.new.desk)
+    c.asking.invariant.keeps c.ask.ensures.keeps
+
 pub returns-in-Spent-clause-works : goal.returns-in-Spent-clause-works
 returns-in-Spent-clause-works g c =
     works_asked c.args.inst.now c.args.question.cycle (g.D.Desk.desk c.args.desk.now) (g.D.Desk.desk c.asking.desk)
@@ -37,12 +52,24 @@ returns-in-Spent-clause-works g c =
     c.asking.invariant.spent c.ask.ensures.spent c.asking.invariant.keeps c.ask.ensures.keeps
     c.asking.invariant.works c.ask.ensures.works
 
+pub returns-in-NoMemory-clause-keeps : goal.returns-in-NoMemory-clause-keeps
+returns-in-NoMemory-clause-keeps g c =
+    keeps_both (g.D.Desk.desk c.args.desk.now) (g.D.Desk.desk c.asking.desk) (g.D.Desk.desk c.ask.new.desk)
+    c.asking.invariant.keeps c.ask.ensures.keeps
+
 pub returns-in-NoMemory-clause-works : goal.returns-in-NoMemory-clause-works
 returns-in-NoMemory-clause-works g c =
     works_asked c.args.inst.now c.args.question.cycle (g.D.Desk.desk c.args.desk.now) (g.D.Desk.desk c.asking.desk)
     (g.D.Desk.desk c.ask.new.desk) c.args.units.now.used c.asking.units.used c.ask.new.units.used c.ask.result
     c.asking.invariant.spent c.ask.ensures.spent c.asking.invariant.keeps c.ask.ensures.keeps
     c.asking.invariant.works c.ask.ensures.works
+
+pub returns-in-Some-test_end-clause-keeps : goal.returns-in-Some-test_end-clause-keeps
+returns-in-Some-test_end-clause-keeps g c =
+    let a = g.D.Desk.desk c.args.desk.now in
+    let d = g.D.Desk.desk c.ask.new.desk in
+    let both = keeps_both a (g.D.Desk.desk c.asking.desk) d c.asking.invariant.keeps c.ask.ensures.keeps in
+    keeps_both a d (g.D.Desk.desk c.test_end.new.desk) both c.test_end.ensures.waits.keeps
 
 pub returns-in-Some-test_end-clause-works : goal.returns-in-Some-test_end-clause-works
 returns-in-Some-test_end-clause-works g c =
