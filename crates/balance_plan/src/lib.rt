@@ -6,7 +6,5 @@
 #![tactic(auto)]
 
 mod plan;
-#[cfg(test)]
-mod tests;
 
 pub use plan::plan_text;

@@ -9,8 +9,6 @@ mod draw;
 mod drawable;
 mod plan;
 mod shown;
-#[cfg(test)]
-mod tests;
 
 pub use draw::draw_report;
 pub use plan::plan_report;

@@ -9,8 +9,6 @@ mod body;
 pub mod laws;
 mod lines;
 mod listed;
-#[cfg(test)]
-mod tests;
 mod version;
 mod whole_text;
 mod words;

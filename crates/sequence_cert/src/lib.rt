@@ -10,8 +10,6 @@ mod charges;
 mod counted;
 pub mod laws;
 mod lines;
-#[cfg(test)]
-mod tests;
 mod version;
 mod whole_text;
 mod words;

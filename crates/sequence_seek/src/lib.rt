@@ -15,8 +15,6 @@ mod orders;
 mod rounds;
 mod seeking;
 mod testing;
-#[cfg(test)]
-mod tests;
 mod types;
 
 pub use seeking::seek_order;

@@ -11,8 +11,6 @@ mod known;
 pub mod laws;
 mod pass;
 mod table;
-#[cfg(test)]
-mod tests;
 mod told;
 mod types;
 

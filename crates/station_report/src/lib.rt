@@ -8,8 +8,6 @@
 mod balance_lines;
 mod infeasible;
 mod stations;
-#[cfg(test)]
-mod tests;
 mod timeline_text;
 
 pub use balance_lines::{balance_text, idle_of};

@@ -16,8 +16,6 @@ mod records;
 mod stop;
 mod table;
 mod tasks;
-#[cfg(test)]
-mod tests;
 
 pub use fault::{TableFault, TableKind};
 pub use mark::table_mark;

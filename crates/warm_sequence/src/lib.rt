@@ -6,8 +6,6 @@
 #![tactic(auto)]
 
 mod numbers;
-#[cfg(test)]
-mod tests;
 mod warming;
 
 pub use warming::{SeqWarmed, warm_seq};

@@ -3,7 +3,7 @@ use Rattle.std.proofs.lemmas.Option.{slice_get_within}
 use Rattle.sequence_values.specs.declared.types.SeqEntry.{SeqEntry}
 use Rattle.sequence_rules.specs.Ranges.{IsEntry}
 use Rattle.sequence_check.proofs.EntryFacts.{below_next}
-use Rattle.warm_sequence.proofs.tests.are_entries.Goals as goal
+use Rattle.sequence_tests.proofs.warm_lists.are_entries.Goals as goal
 
 pub loop-k-init : goal.loop-k-init
 loop-k-init c = λ j e l g. absurd (omega (arith, l))

@@ -1,8 +1,8 @@
 //! The station lines of small balances.
 ghost use Rattle.std.specs.Prelude.{◌<◌, ◌^◌, length};
 
-use crate::stations_text;
 use line_rules::{Balance, LineKind, Places, Seatplace, Side};
+use station_report::stations_text;
 use std::alloc::{AllocError, Global};
 use std::test::Fail;
 use task_names::{Name, Names, Naming, is_task_name};

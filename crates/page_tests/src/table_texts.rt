@@ -1,8 +1,8 @@
 //! The tables of small instances.
-use crate::write_table;
 use line_instance::{Instance, Made, Prec, make};
 use std::alloc::{AllocError, Global};
 use std::test::Fail;
+use table_text::write_table;
 use task_names::{Name, Names, is_task_name};
 
 /// An arc or a pair of tasks, counted from 0.

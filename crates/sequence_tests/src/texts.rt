@@ -1,6 +1,6 @@
 //! What no clause says: texts as they were written by hand, and lines that no text has.
-use crate::{SeqCertRead, read_seq, write_seq};
 use cert_lines::CertKind;
+use sequence_cert::{SeqCertRead, read_seq, write_seq};
 use sequence_values::{SeqCert, SeqEntry, SeqWhy};
 use std::alloc::{AllocError, Global};
 use std::test::Fail;

@@ -1,7 +1,7 @@
 //! The command over files in memory: rows worked by hand. In the texts of this file `|` stands for LF.
 
-use crate::draw_report;
 use command_outcome::{Report, Stop};
+use draw_command::draw_report;
 use line_io::MemShelf;
 use std::alloc::{AllocError, Global};
 use std::test::Fail;

@@ -1,5 +1,5 @@
 //! The plans of small balances, worked by hand.
-use crate::plan_text;
+use balance_plan::plan_text;
 use line_instance::{Instance, Made, Prec, make};
 use line_rules::{Balance, BalanceCheck, LineKind, Places, Seatplace, Side, check_balance};
 use std::alloc::{AllocError, Global};

@@ -1,6 +1,6 @@
 use Rattle.std.proofs.Common.{ℕ, Some, subst}
 use Rattle.sequence_rules.specs.Ranges.{IsEntry}
-use Rattle.warm_sequence.proofs.tests.kept.Goals as goal
+use Rattle.sequence_tests.proofs.warm_lists.kept.Goals as goal
 
 pub warm_seq-requires-clause-old : goal.warm_seq-requires-clause-old
 warm_seq-requires-clause-old c = λ k e there.

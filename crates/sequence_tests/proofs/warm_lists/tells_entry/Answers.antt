@@ -1,6 +1,6 @@
 use Rattle.std.proofs.Common.{ℕ, Some, subst}
 use Rattle.sequence_rules.specs.Ranges.{IsEntry}
-use Rattle.warm_sequence.proofs.tests.tells_entry.Goals as goal
+use Rattle.sequence_tests.proofs.warm_lists.tells_entry.Goals as goal
 
 pub verify_seq_entry-requires-clause-before : goal.verify_seq_entry-requires-clause-before
 verify_seq_entry-requires-clause-before c = λ k e there.

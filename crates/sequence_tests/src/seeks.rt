@@ -2,7 +2,7 @@
 ghost use Rattle.std.specs.Prelude.{IfOk};
 ghost use Rattle.sequence_rules.specs.Ranges.{AreTimes};
 
-use crate::{SeqSought, seek_order};
+use sequence_seek::{SeqSought, seek_order};
 use sequence_values::{Numbers, SeqEntries, SeqEntry, SeqWhy, Times};
 use std::alloc::{AllocError, Global};
 use std::test::Fail;

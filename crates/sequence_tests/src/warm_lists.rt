@@ -8,13 +8,13 @@ ghost use Rattle.sequence_values.specs.declared.types.SeqEntry.{SeqEntry as Step
 ghost use Rattle.sequence_rules.specs.Charges.{IsChargesOf};
 ghost use Rattle.sequence_rules.specs.Ranges.{AreTimes, IsState, IsWhy, IsEntry, IsInRange, numbers_by};
 
-use crate::{SeqWarmed, warm_seq};
 use sequence_check::{
     SeqEntryChecked, SeqEntryFault, SeqPlace, SeqVerified, verify_seq, verify_seq_entry,
 };
 use sequence_values::{Numbers, SeqCert, SeqEntries, SeqEntry, SeqFrames, SeqWhy, Times};
 use std::alloc::{AllocError, Global};
 use std::test::Fail;
+use warm_sequence::{SeqWarmed, warm_seq};
 
 // A list of three models whose second entry says too much. The next one stands on it, and later cites move up.
 const OLD: &str =

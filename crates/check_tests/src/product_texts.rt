@@ -1,6 +1,6 @@
 //! What no clause says: texts as they were written by hand, and lines that no text has.
-use crate::{EfficRead, read_effic, write_effic};
 use cert_lines::CertKind;
+use effic_cert::{EfficRead, read_effic, write_effic};
 use std::alloc::{AllocError, Global};
 use std::test::Fail;
 

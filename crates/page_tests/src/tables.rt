@@ -1,12 +1,10 @@
 //! What no clause says: that texts are read where there is memory. The rows are worked by hand.
 ghost use Rattle.std.specs.Prelude.{◌<◌, ◌^◌, length};
 
-use crate::fault::{TableFault, TableKind};
-use crate::mark::table_mark;
-use crate::table::{Table, TableRead, read_table};
 use std::alloc::{AllocError, Global};
 use std::test::Fail;
 use task_names::Names;
+use task_table::{Table, TableFault, TableKind, TableRead, read_table, table_mark};
 
 fn push_kind(text: &mut String, kind: &TableKind) -> Result<(), AllocError> {
     match kind {

@@ -4,7 +4,7 @@ use Rattle.std.proofs.lemmas.Option.{slice_get_within}
 use Rattle.sequence_values.specs.declared.types.SeqEntry.{SeqEntry}
 use Rattle.sequence_rules.specs.Charges.{IsChargesOf}
 use Rattle.sequence_rules.specs.Ranges.{AreChargesIf, IsEntry}
-use Rattle.warm_sequence.proofs.tests.is_in_range.Goals as goal
+use Rattle.sequence_tests.proofs.warm_lists.is_in_range.Goals as goal
 
 pub returns-then-are_charges : goal.returns-then-are_charges
 returns-then-are_charges c = λ t.

@@ -6,7 +6,7 @@
 ghost use Rattle.std.specs.Prelude.{IfOk};
 ghost use Rattle.sequence_rules.specs.Ranges.{AreTimes, AreLight};
 
-use crate::{Opened, Passed, Table, Tabled, Told, open_table};
+use sequence_table::{Opened, Passed, Table, Tabled, Told, open_table};
 use sequence_values::{Numbers, Times};
 use std::alloc::{AllocError, Global};
 use std::test::Fail;
