@@ -1,2 +1,3 @@
 pub mod OutcomeFacts
 pub mod WrittenFacts
+pub mod FoundFacts

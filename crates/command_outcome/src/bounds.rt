@@ -2,7 +2,11 @@
 //! taken before the search, so that the report costs none.
 ghost use Rattle.std.specs.Prelude.{◌≡◌, ◌++◌, string_bytes, OnOk, IfOk, []};
 ghost use Rattle.command_outcome.specs.Bounds.{bounds_line, cut_short_text, seek_line, seek_text};
+ghost use Rattle.command_outcome.specs.Outcome.{MayStop, Stops, told};
+ghost use Rattle.command_outcome.specs.declared.status.Status.TheVariants as ends;
 
+use crate::report::{Stop, refuse};
+use crate::status::Status;
 use std::alloc::{AllocError, Global};
 
 /// More bytes than the report of a search that memory ended can have: two numbers of at most 39 digits, and 27 bytes
@@ -60,4 +64,14 @@ pub fn cut_short_text(room: String, lower: u128, upper: u128) -> Result<Vec<u8>,
     text.push_str("stopped by memory\n")?;
     push_bounds(&mut text, lower, upper)?;
     Ok(text.into_bytes())
+}
+
+/// The refusal of a search that memory ended, with its bounds, in memory that was taken before.
+pub fn cut_short(room: String, lower: u128, upper: u128) -> Result<Stop, AllocError>
+    requires room { string_bytes room ≡ [] }
+    ensures answer { IfOk result (Stops (λ out. out ≡ told ends.Memory (cut_short_text lower upper))) }
+    ensures fault { IfOk result (MayStop ⊥) }
+{
+    let text = cut_short_text(room, lower, upper)?;
+    Ok(refuse(Status::Memory, text))
 }

@@ -13,7 +13,9 @@ mod print;
 mod report;
 mod status;
 
-pub use bounds::{cut_short_text, push_bounds, room_for_bounds, seek_text, with_seek_line};
+pub use bounds::{
+    cut_short, cut_short_text, push_bounds, room_for_bounds, seek_text, with_seek_line,
+};
 pub use output::finish;
 pub use page::{write_page, written};
 pub use print::{line_about, push_number, push_one, push_printed};

@@ -3,10 +3,11 @@ ghost use Rattle.std.specs.Prelude.{◌≡◌, ◌≤◌, ℕ, List, Option, Som
 ghost use Rattle.line_io.specs.Outside.{Rises};
 ghost use Rattle.line_rules.specs.Ranges.{IsInRange};
 ghost use Rattle.line_rules.specs.declared.types.Certificate.{Certificate as Proof};
+ghost use Rattle.cert_text.specs.Cert.{cert_text};
+ghost use Rattle.command_outcome.specs.Found.{HasText, page_of};
 ghost use Rattle.command_outcome.specs.Outcome.{Files, Ends, MayEnd, Stay, outside, outcome_of};
 ghost use Rattle.command_outcome.specs.declared.report.Kept.TheVariants.{Line as Certified};
 ghost use Rattle.command_outcome.specs.declared.report.Stop.TheVariants.{Unwritten};
-ghost use Rattle.solution_page.specs.Page.{HasCertificate, page_of};
 
 use cert_files::{Streamed, stream_cert};
 use command_outcome::{Kept, Report, Stop};
@@ -23,11 +24,11 @@ fn written<S: Shelf>(
     requires sayable { (certificate : Proof) → report.kept ≡ Certified certificate → IsInRange certificate }
     ensures ends { S.tells → (files : Files) → Stay files (S.file shelf.old)
         → (cert : Proof) → report.kept ≡ Certified cert
-        → Ends (outside files (S.blames shelf.new)) (λ out. out ≡ outcome_of report (page_of (Some name.now) cert))
+        → Ends (outside files (S.blames shelf.new)) (λ out. out ≡ outcome_of report (page_of (Some name.now) (cert_text cert)))
         (S.file shelf.new) result }
     ensures same { IfOk result (λ r. r ≡ report) }
     ensures certificate { S.tells → IfOk result (λ r. (cert : Proof) → r.kept ≡ Certified cert
-        → HasCertificate (Some name.now) (S.file shelf.new) cert) }
+        → HasText (Some name.now) (S.file shelf.new) (cert_text cert)) }
     ensures fault { MatchResult result (λ _. Unit {0})
         (MayEnd (Rises (S.fetch_faults shelf.old) (S.fetch_faults shelf.new))
         (Rises (S.write_faults shelf.old) (S.write_faults shelf.new))) }
@@ -54,11 +55,11 @@ pub fn write_certificate<S: Shelf>(
     ensures ends { S.tells → (files : Files) → Stay files (S.file shelf.old)
         → (cert : Proof) → report.kept ≡ Certified cert
         → Ends (outside files (S.blames shelf.new))
-        (λ out. out ≡ outcome_of report (page_of (option_map (λ a. a.now) name.entry) cert)) (S.file shelf.new)
+        (λ out. out ≡ outcome_of report (page_of (option_map (λ a. a.now) name.entry) (cert_text cert))) (S.file shelf.new)
         result }
     ensures same { IfOk result (λ r. r ≡ report) }
     ensures certificate { S.tells → IfOk result (λ r. (cert : Proof) → r.kept ≡ Certified cert
-        → HasCertificate (option_map (λ a. a.now) name.entry) (S.file shelf.new) cert) }
+        → HasText (option_map (λ a. a.now) name.entry) (S.file shelf.new) (cert_text cert)) }
     ensures fault { MatchResult result (λ _. Unit {0})
         (MayEnd (Rises (S.fetch_faults shelf.old) (S.fetch_faults shelf.new))
         (Rises (S.write_faults shelf.old) (S.write_faults shelf.new))) }
