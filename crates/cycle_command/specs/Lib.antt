@@ -1,3 +1,2 @@
 pub mod CycleText
 pub mod Found
-pub mod CyclePromise

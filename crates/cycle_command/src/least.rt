@@ -1,25 +1,17 @@
 //! What `cycle` answers of a line, and of a file that says one.
-ghost use Rattle.std.specs.Prelude.{◌≡◌, ◌≤◌, ℕ, List, [], string_bytes, Some, None, Err, IfOk, MatchResult};
-ghost use Rattle.std.specs.Prelude.{option_map};
+ghost use Rattle.std.specs.Prelude.{◌≡◌, ◌≤◌, ℕ, List, Some, Err, IfOk, MatchResult, option_map};
 ghost use Rattle.line_io.specs.Outside.{Rises};
-ghost use Rattle.line_rules.specs.declared.types.Balance.{Balance as Assignment};
-ghost use Rattle.line_rules.specs.declared.types.Entry.{Entry};
-ghost use Rattle.line_rules.specs.declared.types.Trail.{Trail as Frames};
-ghost use Rattle.command_outcome.specs.Outcome.{Ends, MayEnd, Stops, MayStop, outside, outcome_of};
+ghost use Rattle.command_outcome.specs.Found.{IsCutShort, IsFound, IsSearchStatus};
+ghost use Rattle.command_outcome.specs.Outcome.{Ends, MayEnd, Stops, MayStop, outside};
 ghost use Rattle.command_outcome.specs.declared.report.Stop.TheVariants.{Unwritten};
 ghost use Rattle.cycle_search.specs.rounds.Plans.{IsPlan};
-ghost use Rattle.cycle_search.specs.rounds.declared.plans.Plan.{Plan as Planned};
-ghost use Rattle.solution_page.specs.Page.{IsSolveStatus};
 ghost use Rattle.cycle_search.specs.Ends.{NoneApart};
-ghost use Rattle.cycle_search.specs.Outcomes.{IsSolved, IsSpent, IsStopped as HasStopped};
+ghost use Rattle.cycle_search.specs.Outcomes.{IsSolved, IsSpent};
 ghost use Rattle.cycle_search.specs.Seek.{AreSeeks};
-ghost use Rattle.cycle_command.specs.CyclePromise.{IsCyclePromised, IsShown};
-ghost use Rattle.cycle_command.specs.Found.{IsOptimal, IsStopped, IsFound, IsCutShort, IsCycleOutcome};
+ghost use Rattle.cycle_command.specs.Found.{IsCycleOutcome, IsCyclePromised, least_cycle};
 
 use crate::print_cycle::{optimal_text, stopped_text};
-use command_outcome::{
-    Kept, Report, Status, Stop, cut_short_text, refuse, room_for_bounds, seek_text,
-};
+use command_outcome::{Kept, Report, Status, Stop, cut_short, room_for_bounds, seek_text};
 use cycle_search::{
     Cause, CycleOutcome, Gate, Plan, Seeks, certify_cycle, certify_cycle_stop, least_cycle,
 };
@@ -52,7 +44,8 @@ fn optimal(
     requires plan { IsPlan plan.now }
     requires solved { IsSolved kind inst.now stations plan.now cycle balance entries }
     requires seeks { AreSeeks plan.now seeks }
-    ensures { IfOk result (λ r. IsOptimal naming.now kind inst.now stations plan.now None (outcome_of r None)) }
+    ensures { IfOk result (λ r.
+        IsFound (least_cycle naming.now kind inst.now stations plan.now) r.status r.text.items r.kept) }
 {
     let _tasks = inst.tasks();
     let idle = idle_of(inst, cycle, stations);
@@ -87,7 +80,8 @@ fn stopped(
     requires spent { (closing_from : ℕ)
         × IsSpent kind inst.now stations plan.now lower upper balance entries trail closing_from }
     requires seeks { AreSeeks plan.now seeks }
-    ensures { IfOk result (λ r. IsStopped naming.now kind inst.now stations plan.now None (outcome_of r None)) }
+    ensures { IfOk result (λ r.
+        IsFound (least_cycle naming.now kind inst.now stations plan.now) r.status r.text.items r.kept) }
 {
     let _tasks = inst.tasks();
     let idle = idle_of(inst, upper, stations);
@@ -101,28 +95,6 @@ fn stopped(
         text,
         kept: Kept::Line(certificate),
     })
-}
-
-/// The refusal of a search that memory ended, with its bounds.
-fn cut_short(
-    inst: &Instance,
-    kind: LineKind,
-    stations: u32,
-    room: String,
-    lower: u64,
-    upper: u64,
-) -> Result<Stop, AllocError>
-    requires room { string_bytes room ≡ [] }
-    requires stopped { (plan : Planned) × (b : Assignment) × (es : List Entry) × (trail : Frames)
-        × HasStopped kind inst.now stations plan lower upper b es trail }
-    ensures answer { IfOk result (Stops (IsCutShort kind inst.now stations)) }
-    ensures fault { IfOk result (MayStop ⊥) }
-{
-    let _tasks = inst.tasks();
-    let lower = u128::from(lower);
-    let upper = u128::from(upper);
-    let text = cut_short_text(room, lower, upper)?;
-    Ok(refuse(Status::Memory, text))
 }
 
 /// What is reported of a line of this kind in so many stations, with a certificate; or the bounds, where memory ended
@@ -142,12 +114,11 @@ fn found<R: Threads + Wait + Sync, G: Gate>(
     requires few { stations ≤ 1024 }
     requires plan { IsPlan plan.now }
     ensures answer { MatchResult result
-        (λ r. IsFound naming.now kind inst.now stations plan.now None (outcome_of r None))
-        (Stops (IsCutShort kind inst.now stations)) }
-    ensures shown { IfOk result (λ r. IsShown naming.now kind inst.now stations plan.now r.status r.text.items r.kept) }
-    ensures good { IfOk result (λ r. IsSolveStatus r.status) }
+        (λ r. IsFound (least_cycle naming.now kind inst.now stations plan.now) r.status r.text.items r.kept)
+        (Stops (IsCutShort (least_cycle naming.now kind inst.now stations plan.now))) }
     ensures fault { MatchResult result (λ _. Unit {0}) (MayStop ⊥) }
 {
+    let _tasks = inst.tasks();
     let room = room_for_bounds(alloc)?;
     match least_cycle(rt, alloc, inst, kind, stations, plan, gate) {
         CycleOutcome::Solved {
@@ -172,7 +143,7 @@ fn found<R: Threads + Wait + Sync, G: Gate>(
                 alloc, inst, naming, kind, stations, plan, lower, upper, balance, entries, trail,
                 seeks,
             )?),
-            Cause::Memory => Err(cut_short(inst, kind, stations, room, lower, upper)?),
+            Cause::Memory => Err(cut_short(room, lower as u128, upper as u128)?),
         },
         CycleOutcome::NoMemory => Err(Stop::Memory),
     }
@@ -199,7 +170,7 @@ pub fn cycle_report<R: Threads + Wait + Sync, S: Shelf, G: Gate>(
         Ends o (IsCycleOutcome o file.now kind stations plan.now
         (option_map (λ a. a.now) name.entry))
         (S.file shelf.new) result) }
-    ensures good { IfOk result (λ r. IsSolveStatus r.status) }
+    ensures good { IfOk result (λ r. IsSearchStatus r.status) }
     ensures fault { MatchResult result (λ _. Unit {0})
         (MayEnd (Rises (S.fetch_faults shelf.old) (S.fetch_faults shelf.new))
         (Rises (S.write_faults shelf.old) (S.write_faults shelf.new))) }

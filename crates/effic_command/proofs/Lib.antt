@@ -1,2 +1,1 @@
-pub mod PromiseFacts
-pub mod WrittenFacts
+pub mod FoundFacts

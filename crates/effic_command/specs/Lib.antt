@@ -3,4 +3,3 @@ pub mod ProductText
 pub mod EfficCheck
 pub mod EfficText
 pub mod EfficFound
-pub mod EfficPromise

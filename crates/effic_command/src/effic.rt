@@ -3,28 +3,24 @@
 //! What a search found becomes a report with the certificate, which is kept, and written where the words name a file.
 //! The report and the text of the certificate are made before the file, so that a run without memory for them writes
 //! none.
-ghost use Rattle.std.specs.Prelude.{◌≡◌, ◌≤◌, ℕ, List, [], ◌++◌, string_bytes, Some, None, Err, IfOk};
-ghost use Rattle.std.specs.Prelude.{MatchResult, option_map};
+ghost use Rattle.std.specs.Prelude.{◌≡◌, ◌≤◌, ℕ, List, Option, Some, Err, IfOk, MatchResult, option_map};
 ghost use Rattle.line_io.specs.Outside.{Rises};
-ghost use Rattle.command_outcome.specs.Bounds.{seek_text};
+ghost use Rattle.line_rules.specs.Products.{IsSayable};
+ghost use Rattle.line_rules.specs.declared.products.EfficCert.{EfficCert as Proof};
+ghost use Rattle.line_rules.specs.declared.types.LineKind.{LineKind as Kind};
+ghost use Rattle.effic_cert.specs.Product.{product_text};
+ghost use Rattle.effic_check.specs.Accepted.{NoneApart};
+ghost use Rattle.effic_search.specs.rounds.Plans.{IsPlan};
+ghost use Rattle.effic_search.specs.cycles.Seek.{AreSeeks};
+ghost use Rattle.effic_search.specs.Outcomes.{IsSolved, StoppedBy};
+ghost use Rattle.command_outcome.specs.Found.{IsFound, IsCutShort, IsSearchStatus, HasText, page_of};
 ghost use Rattle.command_outcome.specs.Outcome.{Files, Ends, MayEnd, Stay, Stops, MayStop, outside, outcome_of};
 ghost use Rattle.command_outcome.specs.declared.report.Kept.TheVariants.{Product as Certified};
 ghost use Rattle.command_outcome.specs.declared.report.Stop.TheVariants.{Unwritten};
-ghost use Rattle.command_outcome.specs.declared.status.Status.TheVariants as ends;
-ghost use Rattle.effic_search.specs.rounds.Plans.{IsPlan};
-ghost use Rattle.solution_page.specs.Page.{IsSolveStatus};
-ghost use Rattle.line_rules.specs.Products.{IsSayable};
-ghost use Rattle.line_rules.specs.declared.products.EfficCert.{EfficCert as Proof};
-ghost use Rattle.effic_check.specs.Accepted.{NoneApart};
-ghost use Rattle.effic_search.specs.Outcomes.{IsCutShort as IsWanting};
-ghost use Rattle.effic_command.specs.EfficText.{optimal_text, stopped_text};
-ghost use Rattle.effic_command.specs.EfficFound.{idle_of, page_of, certified_by, IsFound, IsCutShort, IsEfficOutcome};
-ghost use Rattle.effic_command.specs.EfficPromise.{HasCertificate, IsEfficPromised, IsShown};
+ghost use Rattle.effic_command.specs.EfficFound.{least_product, IsEfficOutcome, IsEfficPromised};
 
 use crate::print_effic::{optimal_text, stopped_text};
-use command_outcome::{
-    Kept, Report, Status, Stop, cut_short_text, refuse, room_for_bounds, seek_text,
-};
+use command_outcome::{Kept, Report, Status, Stop, cut_short, room_for_bounds, seek_text};
 use effic_cert::write_effic;
 use effic_search::{EfficOutcome, Ended, Gate, Plan, Seeks, least_product};
 use input_files::plain_line;
@@ -48,22 +44,23 @@ struct Wanted {
     most: u32,
 }
 
-/// The report of the least product, with its certificate, behind what is told of the seeks with so many loads each.
+/// The report of the least product, with its certificate, behind what is told of the seeks. It is what the search found
+/// of each question that the certificate solves.
 fn optimal(
     alloc: Global,
     inst: &Instance,
     naming: &Naming,
-    loads: u64,
+    plan: &Plan,
     cert: EfficCert,
     seeks: Seeks,
 ) -> Result<Report, AllocError>
     requires { IsSayable cert }
-    ensures { IfOk result (λ r. outcome_of r None
-        ≡ certified_by None cert ends.Done (seek_text loads seeks.used seeks.most seeks.kept
-        ++ optimal_text naming.now cert (idle_of inst.now cert))) }
+    ensures { IfOk result (λ r. (kind : Kind) → (least most : ℕ) → IsSolved kind inst.now least most cert
+        → AreSeeks plan.now seeks
+        → IsFound (least_product naming.now kind inst.now least most plan.now) r.status r.text.items r.kept) }
 {
     let idle = idle_of(inst, cert.cycle, cert.balance.stations);
-    let first = seek_text(alloc, loads, seeks.used, seeks.most, seeks.kept)?;
+    let first = seek_text(alloc, plan.seek, seeks.used, seeks.most, seeks.kept)?;
     let text = optimal_text(alloc, first, naming, &cert, idle)?;
     Ok(Report {
         status: Status::Done,
@@ -72,46 +69,30 @@ fn optimal(
     })
 }
 
-/// The report of a search that stopped, with its certificate, behind what is told of the seeks with so many loads each.
+/// The report of a search that stopped, with its certificate, behind what is told of the seeks. It is what the search
+/// found of each question that it stopped at so.
 fn stopped(
     alloc: Global,
     inst: &Instance,
     naming: &Naming,
-    loads: u64,
+    plan: &Plan,
     why: Ended,
     cert: EfficCert,
     seeks: Seeks,
 ) -> Result<Report, AllocError>
     requires { IsSayable cert }
-    ensures { IfOk result (λ r. outcome_of r None
-        ≡ certified_by None cert ends.Stopped (seek_text loads seeks.used seeks.most seeks.kept
-        ++ stopped_text naming.now why cert (idle_of inst.now cert))) }
+    ensures { IfOk result (λ r. (kind : Kind) → (least most closing_from : ℕ)
+        → StoppedBy why kind inst.now least most plan.now cert closing_from → AreSeeks plan.now seeks
+        → IsFound (least_product naming.now kind inst.now least most plan.now) r.status r.text.items r.kept) }
 {
     let idle = idle_of(inst, cert.cycle, cert.balance.stations);
-    let first = seek_text(alloc, loads, seeks.used, seeks.most, seeks.kept)?;
+    let first = seek_text(alloc, plan.seek, seeks.used, seeks.most, seeks.kept)?;
     let text = stopped_text(alloc, first, naming, why, &cert, idle)?;
     Ok(Report {
         status: Status::Stopped,
         text,
         kept: Kept::Product(cert),
     })
-}
-
-/// The refusal of a search that memory ended, with its bounds.
-fn cut_short(
-    inst: &Instance,
-    wanted: Wanted,
-    room: String,
-    lower: u128,
-    upper: u128,
-) -> Result<Stop, AllocError>
-    requires room { string_bytes room ≡ [] }
-    requires wanting { IsWanting wanted.kind inst.now wanted.least wanted.most lower upper }
-    ensures answer { IfOk result (Stops (IsCutShort wanted.kind inst.now wanted.least wanted.most)) }
-    ensures fault { IfOk result (MayStop ⊥) }
-{
-    let text = cut_short_text(room, lower, upper)?;
-    Ok(refuse(Status::Memory, text))
 }
 
 /// What is reported of a line, with a certificate; or the bounds, where memory ended the search.
@@ -129,52 +110,54 @@ fn found<R: Threads + Wait + Sync, G: Gate>(
     requires order { wanted.least ≤ wanted.most }
     requires few { wanted.most ≤ 1024 }
     requires plan { IsPlan plan.now }
-    ensures answer { MatchResult result
-        (λ r. IsFound naming.now wanted.kind inst.now wanted.least wanted.most plan.now None (outcome_of r None))
-        (Stops (IsCutShort wanted.kind inst.now wanted.least wanted.most)) }
-    ensures shown { IfOk result (λ r.
-        IsShown naming.now wanted.kind inst.now wanted.least wanted.most plan.now r.status r.text.items r.kept) }
-    ensures good { IfOk result (λ r. IsSolveStatus r.status) }
+    ensures answer { let s = least_product naming.now wanted.kind inst.now wanted.least wanted.most plan.now in
+        MatchResult result (λ r. IsFound s r.status r.text.items r.kept) (Stops (IsCutShort s)) }
     ensures fault { MatchResult result (λ _. Unit {0}) (MayStop ⊥) }
 {
     let room = room_for_bounds(alloc)?;
     let Wanted { kind, least, most } = wanted;
     match least_product(rt, alloc, inst, kind, least, most, plan, gate) {
         EfficOutcome::Solved { cert, seeks } => {
-            Ok(optimal(alloc, inst, naming, plan.seek, cert, seeks)?)
+            Ok(optimal(alloc, inst, naming, plan, cert, seeks)?)
         }
         EfficOutcome::Stopped {
             why,
             cert,
             closing_from: _,
             seeks,
-        } => Ok(stopped(alloc, inst, naming, plan.seek, why, cert, seeks)?),
-        EfficOutcome::Memory { lower, upper } => Err(cut_short(inst, wanted, room, lower, upper)?),
+        } => Ok(stopped(alloc, inst, naming, plan, why, cert, seeks)?),
+        EfficOutcome::Memory { lower, upper } => Err(cut_short(room, lower, upper)?),
         EfficOutcome::NoMemory => Err(Stop::Memory),
     }
 }
 
-/// Writes the certificate of a report, and hands the report on.
-fn written<S: Shelf>(
+/// Writes the certificate of a report where the words name a file, and hands the report on.
+fn write_certificate<S: Shelf>(
     alloc: Global,
     shelf: &mut S,
-    name: &str,
+    name: Option<&str>,
     report: Report,
 ) -> Result<Report, Stop>
     requires sayable { (certificate : Proof) → report.kept ≡ Certified certificate → IsSayable certificate }
     ensures ends { S.tells → (files : Files) → Stay files (S.file shelf.old)
         → (cert : Proof) → report.kept ≡ Certified cert
-        → Ends (outside files (S.blames shelf.new)) (λ out. out ≡ outcome_of report (page_of (Some name.now) cert))
+        → Ends (outside files (S.blames shelf.new))
+        (λ out. out ≡ outcome_of report (page_of (option_map (λ a. a.now) name.entry) (product_text cert)))
         (S.file shelf.new) result }
     ensures same { IfOk result (λ r. r ≡ report) }
     ensures certificate { S.tells → IfOk result (λ r. (cert : Proof) → r.kept ≡ Certified cert
-        → HasCertificate (Some name.now) (S.file shelf.new) cert) }
+        → HasText (option_map (λ a. a.now) name.entry) (S.file shelf.new) (product_text cert)) }
     ensures fault { MatchResult result (λ _. Unit {0})
         (MayEnd (Rises (S.fetch_faults shelf.old) (S.fetch_faults shelf.new))
         (Rises (S.write_faults shelf.old) (S.write_faults shelf.new))) }
+    ensures unwritten { result ≡ Err Unwritten → (n : List ℕ) × (option_map (λ a. a.now) name.entry ≡ Some n) }
     ensures count { S.write_faults shelf.old ≤ S.write_faults shelf.new }
     ensures fetches { S.fetch_faults shelf.new ≡ S.fetch_faults shelf.old }
 {
+    let name = match name {
+        None => return Ok(report),
+        Some(name) => name,
+    };
     let Kept::Product(cert) = &report.kept else {
         return Ok(report);
     };
@@ -208,7 +191,7 @@ pub fn effic_report<R: Threads + Wait + Sync, S: Shelf, G: Gate>(
         Ends o (IsEfficOutcome o file.now kind least_m most_m plan.now
         (option_map (λ a. a.now) name.entry))
         (S.file shelf.new) result) }
-    ensures good { IfOk result (λ r. IsSolveStatus r.status) }
+    ensures good { IfOk result (λ r. IsSearchStatus r.status) }
     ensures fault { MatchResult result (λ _. Unit {0})
         (MayEnd (Rises (S.fetch_faults shelf.old) (S.fetch_faults shelf.new))
         (Rises (S.write_faults shelf.old) (S.write_faults shelf.new))) }
@@ -224,8 +207,5 @@ pub fn effic_report<R: Threads + Wait + Sync, S: Shelf, G: Gate>(
         most: most_m,
     };
     let report = found(rt, alloc, &plain.inst, &plain.naming, wanted, plan, gate)?;
-    match name {
-        None => Ok(report),
-        Some(name) => written(alloc, shelf, name, report),
-    }
+    write_certificate(alloc, shelf, name, report)
 }

@@ -1,3 +1,2 @@
 pub mod WrittenFacts
-pub mod FoundFacts
 pub mod BeginningFacts

@@ -1,15 +1,19 @@
--- The page of a report whose certificate is written.
-use Rattle.std.proofs.Common.{◌≡◌, ℕ, List, Some, sym, ap}
+-- The certificate that is kept is the one that is written.
+use Rattle.std.proofs.Common.{◌≡◌, ℕ, List, Option, Some, ap}
+use Rattle.std.proofs.Math.Path.{subst⁻¹}
 use Rattle.sequence_values.specs.declared.types.SeqCert.{SeqCert}
 use Rattle.sequence_cert.specs.SequenceText.{sequence_text}
-use Rattle.command_outcome.specs.Outcome.{outcome_of}
-use Rattle.command_outcome.specs.declared.report.Kept.{Kept}
+use Rattle.command_outcome.specs.Found.{page_of}
+use Rattle.command_outcome.specs.Outcome.{Outcome, outcome_of}
 use Rattle.command_outcome.specs.declared.report.Kept.TheVariants.{Sequence}
 use Rattle.command_outcome.specs.declared.report.Report.{Report}
-use Rattle.sequence_command.specs.Ordered.{page_of}
 
--- the outcome with its certificate in the file
-pub in_file : (name : List ℕ) (r : Report) (cert : SeqCert) → r.kept ≡ Sequence cert
-    → outcome_of r (Some (record { name = name; bytes = sequence_text cert }))
-    ≡ outcome_of r (page_of (Some name) r.kept)
-in_file name r cert kept = ap (λ (k : Kept). outcome_of r (page_of (Some name) k)) (sym kept)
+-- the certificate that is kept, in the file that the words name, is the page of any certificate that is kept
+pub same_page : (given : Option (List ℕ)) (name : List ℕ) (r : Report) (a b : SeqCert) → given ≡ Some name
+    → r.kept ≡ Sequence a → r.kept ≡ Sequence b
+    → outcome_of r (Some (record { name = name; bytes = sequence_text a }))
+    ≡ outcome_of r (page_of given (sequence_text b))
+same_page given name r a b is one other =
+    let same : a ≡ b = cc in
+    let with_page : SeqCert → Outcome = λ x. outcome_of r (page_of (Some name) (sequence_text x)) in
+    subst⁻¹ (λ (n : Option (List ℕ)). with_page a ≡ outcome_of r (page_of n (sequence_text b))) is (ap with_page same)

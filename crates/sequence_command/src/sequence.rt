@@ -3,62 +3,26 @@
 //! What the search found becomes a report with the certificate, which is kept, and written where the words name a file.
 //! The report and the text of the certificate are made before the file, so that a run without memory for them writes
 //! none.
-ghost use Rattle.std.specs.Prelude.{◌≡◌, ◌≤◌, ℕ, List, [], length, string_bytes, Some, Err, IfOk, MatchResult};
-ghost use Rattle.std.specs.Prelude.{option_map};
+ghost use Rattle.std.specs.Prelude.{◌≡◌, ℕ, List, length, Some, Err, IfOk, MatchResult, option_map};
 ghost use Rattle.line_io.specs.Outside.{Rises};
 ghost use Rattle.line_words.specs.Ranges.{IsBetween};
 ghost use Rattle.sequence_rules.specs.Ranges.{AreTimes, IsInRange};
 ghost use Rattle.sequence_values.specs.declared.types.SeqCert.{SeqCert as Proof};
-ghost use Rattle.sequence_search.specs.About.{About};
-ghost use Rattle.sequence_search.specs.Outcomes.{AreBounds};
+ghost use Rattle.sequence_cert.specs.SequenceText.{sequence_text};
+ghost use Rattle.command_outcome.specs.Found.{HasText, IsCutShort, IsFound, IsSearchStatus, page_of};
 ghost use Rattle.command_outcome.specs.Outcome.{Files, Ends, MayEnd, Stay, Stops, MayStop, outside, outcome_of};
 ghost use Rattle.command_outcome.specs.declared.report.Kept.TheVariants.{Sequence as Certified};
 ghost use Rattle.command_outcome.specs.declared.report.Stop.TheVariants.{Unwritten};
-ghost use Rattle.sequence_command.specs.Beginning.{IsBegun};
-ghost use Rattle.sequence_command.specs.Ordered.{HasCertificate, IsAnswerStatus, IsCutShort, IsFound};
-ghost use Rattle.sequence_command.specs.Ordered.{IsSequenceOutcome, IsSequencePromised, page_of};
+ghost use Rattle.sequence_command.specs.Ordered.{IsSequenceOutcome, IsSequencePromised, least_work};
 
 use crate::beginning::{Beginning, begin};
 use crate::print_sequence::{optimal_text, stopped_text};
 use crate::timed_mix::{TimedMix, timed_of};
-use combined_graph::Mix;
-use command_outcome::{Kept, Report, Status, Stop, cut_short_text, refuse, room_for_bounds};
+use command_outcome::{Kept, Report, Status, Stop, cut_short, room_for_bounds};
 use line_io::{Shelf, Written, write_whole};
 use sequence_cert::write_seq;
 use sequence_search::{Ordered, order_from};
-use sequence_values::{SeqCert, Times};
-use std::alloc::{AllocError, Global};
-
-/// A report with a certificate.
-fn certified(status: Status, text: Vec<u8>, cert: SeqCert) -> Report
-    ensures { result ≡ record { status = status; text = text; kept = Certified cert } }
-{
-    Report {
-        status,
-        text,
-        kept: Kept::Sequence(cert),
-    }
-}
-
-/// The refusal of a search that memory ended, with its bounds.
-fn cut_short(
-    times: &Times,
-    interval: u64,
-    reach: u64,
-    room: String,
-    lower: u64,
-    upper: u64,
-) -> Result<Stop, AllocError>
-    requires room { string_bytes room ≡ [] }
-    ensures answer { (units seek : ℕ) (about : About) (said : List ℕ)
-        → IsBegun times.now interval reach units seek about said
-        → AreBounds times.now interval reach about lower upper
-        → IfOk result (Stops (IsCutShort times.now interval reach units seek)) }
-    ensures fault { IfOk result (MayStop ⊥) }
-{
-    let text = cut_short_text(room, u128::from(lower), u128::from(upper))?;
-    Ok(refuse(Status::Memory, text))
-}
+use std::alloc::Global;
 
 /// What is reported of a mix and its table, with a certificate; or the bounds, where memory ended the search.
 fn ordered(
@@ -76,9 +40,8 @@ fn ordered(
     requires units { IsBetween 1 1000000 units }
     requires seek { IsBetween 0 3000000 seek }
     ensures answer { MatchResult result
-        (λ r. IsFound timed.now.mix timed.now.times interval reach units seek r.status r.text.items r.kept)
-        (Stops (IsCutShort timed.now.times interval reach units seek)) }
-    ensures good { IfOk result (λ r. IsAnswerStatus r.status) }
+        (λ r. IsFound (least_work timed.now.mix timed.now.times interval reach units seek) r.status r.text.items r.kept)
+        (Stops (IsCutShort (least_work timed.now.mix timed.now.times interval reach units seek))) }
     ensures fault { MatchResult result (λ _. Unit {0}) (MayStop ⊥) }
 {
     let room = room_for_bounds(alloc)?;
@@ -100,39 +63,49 @@ fn ordered(
     ) {
         Ordered::Solved(cert) => {
             let text = optimal_text(said, &timed.mix, &cert)?;
-            Ok(certified(Status::Done, text, cert))
+            Ok(Report {
+                status: Status::Done,
+                text,
+                kept: Kept::Sequence(cert),
+            })
         }
         Ordered::Stopped(cert) => {
             let text = stopped_text(said, &timed.mix, &cert)?;
-            Ok(certified(Status::Stopped, text, cert))
+            Ok(Report {
+                status: Status::Stopped,
+                text,
+                kept: Kept::Sequence(cert),
+            })
         }
-        Ordered::Memory { lower, upper } => {
-            let times = &timed.times;
-            Err(cut_short(times, interval, reach, room, lower, upper)?)
-        }
+        Ordered::Memory { lower, upper } => Err(cut_short(room, lower as u128, upper as u128)?),
         Ordered::NoMemory => Err(Stop::Memory),
     }
 }
 
-/// Writes the certificate of a report, where it has one, and hands the report on.
+/// Writes the certificate of a report where the words name a file, and hands the report on.
 fn written<S: Shelf>(
     alloc: Global,
     shelf: &mut S,
-    name: &str,
+    name: Option<&str>,
     report: Report,
 ) -> Result<Report, Stop>
     requires range { (cert : Proof) → report.kept ≡ Certified cert → IsInRange cert }
     ensures ends { S.tells → (files : Files) → Stay files (S.file shelf.old)
+        → (cert : Proof) → report.kept ≡ Certified cert
         → Ends (outside files (S.blames shelf.new))
-        (λ out. out ≡ outcome_of report (page_of (Some name.now) report.kept)) (S.file shelf.new) result }
+        (λ out. out ≡ outcome_of report (page_of (option_map (λ a. a.now) name.entry) (sequence_text cert)))
+        (S.file shelf.new) result }
     ensures same { IfOk result (λ r. r ≡ report) }
-    ensures certificate { S.tells → IfOk result (λ r. HasCertificate (Some name.now) (S.file shelf.new) r.kept) }
+    ensures certificate { S.tells → IfOk result (λ r. (cert : Proof) → r.kept ≡ Certified cert
+        → HasText (option_map (λ a. a.now) name.entry) (S.file shelf.new) (sequence_text cert)) }
     ensures fault { MatchResult result (λ _. Unit {0})
         (MayEnd (Rises (S.fetch_faults shelf.old) (S.fetch_faults shelf.new))
         (Rises (S.write_faults shelf.old) (S.write_faults shelf.new))) }
-    ensures count { S.write_faults shelf.old ≤ S.write_faults shelf.new }
-    ensures fetches { S.fetch_faults shelf.new ≡ S.fetch_faults shelf.old }
+    ensures unwritten { result ≡ Err Unwritten → (n : List ℕ) × (option_map (λ a. a.now) name.entry ≡ Some n) }
 {
+    let Some(name) = name else {
+        return Ok(report);
+    };
     let Kept::Sequence(cert) = &report.kept else {
         return Ok(report);
     };
@@ -164,7 +137,7 @@ pub fn sequence_report<S: Shelf>(
     ensures ends { S.tells → (let o = outside (S.file shelf.old) (S.blames shelf.new) in
         Ends o (IsSequenceOutcome o mix.now cert.now interval reach units seek (option_map (λ a. a.now) name.entry))
         (S.file shelf.new) result) }
-    ensures good { IfOk result (λ r. IsAnswerStatus r.status) }
+    ensures good { IfOk result (λ r. IsSearchStatus r.status) }
     ensures fault { MatchResult result (λ _. Unit {0})
         (MayEnd (Rises (S.fetch_faults shelf.old) (S.fetch_faults shelf.new))
         (Rises (S.write_faults shelf.old) (S.write_faults shelf.new))) }
@@ -175,8 +148,5 @@ pub fn sequence_report<S: Shelf>(
 {
     let timed = timed_of(alloc, mix, cert, interval, shelf)?;
     let report = ordered(alloc, &timed, interval, reach, units, seek)?;
-    match name {
-        None => Ok(report),
-        Some(name) => written(alloc, shelf, name, report),
-    }
+    written(alloc, shelf, name, report)
 }

@@ -9,7 +9,7 @@ use Rattle.std.proofs.lemmas.List.{append-nil}
 use Rattle.std.specs.Prelude.{slice_get}
 use Rattle.line_instance.specs.Line.{Line, tasks}
 use Rattle.line_rules.specs.Balance.{IsRight}
-use Rattle.line_rules.specs.Ranges.{IsCycle, IsClaim, AreEntries}
+use Rattle.line_rules.specs.Ranges.{IsClaim, AreEntries}
 use Rattle.line_rules.specs.Units.{UnitsOf}
 use Rattle.line_rules.specs.declared.types.LineKind.{LineKind}
 use Rattle.line_rules.specs.declared.types.Balance.{Balance as Assignment}
@@ -23,7 +23,7 @@ use Rattle.lemma_core.specs.declared.types.Event.TheVariants as event
 use Rattle.line_seek.specs.Seeking.{HasSought, RefuteIn}
 use Rattle.warm_book.specs.Warm.{Taking, TakesAll, untaken}
 use Rattle.warm_book.proofs.TakingFacts.{Adds, all_add}
-use Rattle.round_run.specs.Solving.{FitsAll, SolvesFrom}
+use Rattle.round_run.specs.Solving.{SolvesFrom}
 use Rattle.round_run.specs.declared.plans.Plan.{Plan}
 use Rattle.round_run.specs.declared.solving.Outcome.{Outcome}
 use Rattle.solve_command.specs.WarmStart.{Start, IsOpened, TakesOld, TakesSought, Seeks, BeginsWith, entries_of}
@@ -101,26 +101,17 @@ pub some_sought : (N limit : ℕ) (at end : Taking) (said : List ℕ) (top : ℕ
 some_sought N zero at end said top n s = absurd (n refl)
 some_sought N (suc loads) at end said top n s = s
 
+-- what a run comes to that began with a book about the line
+pub solves_so : {kind : LineKind} {line : Line} {c : ℕ} {plan : Plan} {start : Start} {book : BookView} {first : List ℕ}
+    → IsBegun kind line c plan start book first → (o : Outcome)
+    → SolvesFrom book.about.kind line book.about.cycle plan book.state.entries book.state.best.stations o
+    → SolvesFrom kind line c plan book.state.entries book.state.best.stations o
+solves_so {line = line} {plan = plan} {book = book} b o s =
+    let S : About → Type 0 =
+    λ z. SolvesFrom z.kind line z.cycle plan book.state.entries book.state.best.stations o in
+    subst S b.about s
+
 module _ (kind : LineKind) (line : Line) (c : ℕ) (plan : Plan) where
-  module _ (start : Start) (book : BookView) (first : List ℕ)
-      (b : IsBegun kind line c plan start book first) where
-    pub about_line : book.about.line ≡ line
-    about_line = ap (λ (z : About). z.line) b.about
-
-    pub at_cycle : IsCycle c → IsCycle book.about.cycle
-    at_cycle h = let P : About → Type 0 = λ z. IsCycle z.cycle in subst P (sym b.about) h
-
-    pub fits_there : FitsAll line c → FitsAll line book.about.cycle
-    fits_there h = let P : About → Type 0 = λ z. FitsAll line z.cycle in subst P (sym b.about) h
-
-    pub solves_so : (o : Outcome)
-        → SolvesFrom book.about.kind line book.about.cycle plan book.state.entries book.state.best.stations o
-        → SolvesFrom kind line c plan book.state.entries book.state.best.stations o
-    solves_so o s =
-        let S : About → Type 0 =
-        λ z. SolvesFrom z.kind line z.cycle plan book.state.entries book.state.best.stations o in
-        subst S b.about s
-
   module _ (start : Start) (book final : BookView) (opened : IsOpened kind line c book) (at end : Taking)
       (first warm_said seek_said : List ℕ) (took : TakesOld plan.units book start.olds at warm_said)
       (seeks : Seeks plan.units start.seek at end seek_said final.state.best.stations)

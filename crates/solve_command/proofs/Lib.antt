@@ -1,3 +1,3 @@
-pub mod PromiseFacts
-pub mod WrittenFacts
+pub mod FoundFacts
+pub mod SaidFacts
 pub mod BegunFacts

@@ -1,6 +1,5 @@
 pub mod SolutionText
 pub mod WarmStart
 pub mod Solution
-pub mod Promise
 pub mod inner
 pub use Rattle.round_run.specs as rounds

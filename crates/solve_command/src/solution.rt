@@ -1,5 +1,5 @@
 //! What `solve` answers of a line, and of files that say one.
-ghost use Rattle.std.specs.Prelude.{◌≡◌, ◌≢◌, ◌≤◌, ℕ, List, [], Option, string_bytes, Some, None, Err, IfOk};
+ghost use Rattle.std.specs.Prelude.{◌≡◌, ◌≤◌, ℕ, List, [], Option, string_bytes, Some, Err, IfOk};
 ghost use Rattle.std.specs.Prelude.{MatchResult, option_map};
 ghost use Rattle.std.specs.Option.{ForSome};
 ghost use Rattle.line_io.specs.Outside.{Rises};
@@ -9,25 +9,25 @@ ghost use Rattle.line_rules.specs.Checked.{IsLeastWhere};
 ghost use Rattle.line_rules.specs.Ranges.{AreEntries, IsCycle};
 ghost use Rattle.line_rules.specs.declared.types.Entry.{Entry as Lemma};
 ghost use Rattle.line_rules.specs.declared.types.OpenFrame.{OpenFrame};
+ghost use Rattle.lemma_core.specs.Books.{BookView};
 ghost use Rattle.line_words.specs.Ranges.{IsSetBetween};
 ghost use Rattle.round_run.specs.Plans.{IsPlan};
 ghost use Rattle.round_run.specs.declared.plans.Plan.{Plan as PlanOf};
 ghost use Rattle.round_run.specs.Solving.{FitsAll, IsSolvedFrom, IsSpentFrom, IsStoppedFrom as HasStopped};
 ghost use Rattle.round_run.specs.Certified.{LeaveRoom};
-ghost use Rattle.command_outcome.specs.Outcome.{Ends, MayEnd, Stops, MayStop, outside, outcome_of};
-ghost use Rattle.command_outcome.specs.declared.status.Status.TheVariants as ends;
+ghost use Rattle.command_outcome.specs.Found.{IsFound, IsCutShort, IsSearchStatus};
+ghost use Rattle.command_outcome.specs.Outcome.{Ends, MayEnd, Stops, MayStop, outside};
 ghost use Rattle.command_outcome.specs.declared.report.Stop.TheVariants.{Unwritten};
 ghost use Rattle.solve_command.specs.inner.Begun.{IsBegun};
+ghost use Rattle.solve_command.specs.inner.Said.{search_of};
 ghost use Rattle.solve_command.specs.WarmStart.{Start};
-ghost use Rattle.solution_page.specs.Page.{IsSolveStatus};
-ghost use Rattle.solve_command.specs.Promise.{IsPromised, IsShown};
-ghost use Rattle.solve_command.specs.Solution.{IsOptimal, IsStopped, IsInfeasible, IsBounded, IsSolution};
-ghost use Rattle.solve_command.specs.Solution.{IsCutShort, IsSolveOutcome};
+ghost use Rattle.solve_command.specs.Solution.{fewest_stations, IsPromised, IsSolveOutcome};
+ghost use Rattle.task_names.specs.declared.naming.Naming.{Naming as NamingOf};
 
 use crate::print_solution::{optimal_text, stopped_text};
 use crate::said::{Said, said_of};
 use crate::warm_start::{Begun, begin};
-use command_outcome::{Kept, Report, Status, Stop, cut_short_text, refuse, room_for_bounds};
+use command_outcome::{Kept, Report, Status, Stop, cut_short, room_for_bounds};
 use first_fit::{Ranked, ranked_balance};
 use input_files::Timed;
 use lemma_core::Book;
@@ -58,9 +58,10 @@ fn optimal(
     requires cycle { IsCycle cycle }
     requires solved { (before : List Lemma) × (plan : PlanOf) × LeaveRoom inst.now plan.units before
         × IsSolvedFrom kind inst.now cycle plan before book }
-    ensures { IfOk result (λ r. (before : List Lemma) (plan : PlanOf) → LeaveRoom inst.now plan.units before
-        → IsSolvedFrom kind inst.now cycle plan before book
-        → IsOptimal naming.now kind inst.now cycle plan before (string_bytes first) None (outcome_of r None)) }
+    ensures { IfOk result (λ r. (start : Start) (old : BookView) (plan : PlanOf)
+        → IsBegun kind inst.now cycle plan start old (string_bytes first)
+        → IsSolvedFrom kind inst.now cycle plan old.state.entries book
+        → IsFound (fewest_stations naming.now kind inst.now cycle plan start) r.status r.text.items r.kept) }
 {
     let _tasks = inst.tasks();
     let balance = book.best();
@@ -89,9 +90,10 @@ fn stopped(
     requires cycle { IsCycle cycle }
     requires spent { (before : List Lemma) × (top : ℕ) × (plan : PlanOf)
         × IsSpentFrom kind inst.now cycle plan before top lower book trail }
-    ensures { IfOk result (λ r. (before : List Lemma) (top : ℕ) (plan : PlanOf) → LeaveRoom inst.now plan.units before
-        → IsSpentFrom kind inst.now cycle plan before top lower book trail
-        → IsStopped naming.now kind inst.now cycle plan before (string_bytes first) top None (outcome_of r None)) }
+    ensures { IfOk result (λ r. (start : Start) (old : BookView) (plan : PlanOf)
+        → IsBegun kind inst.now cycle plan start old (string_bytes first)
+        → IsSpentFrom kind inst.now cycle plan old.state.entries old.state.best.stations lower book trail
+        → IsFound (fewest_stations naming.now kind inst.now cycle plan start) r.status r.text.items r.kept) }
 {
     let _tasks = inst.tasks();
     let balance = book.best();
@@ -115,7 +117,8 @@ fn infeasible(
 ) -> Result<Report, AllocError>
     requires cycle { IsCycle cycle }
     requires long { IsLeastWhere (IsTooLong inst.now cycle) task }
-    ensures { IfOk result (λ r. IsInfeasible naming.now kind inst.now cycle None (outcome_of r None)) }
+    ensures { IfOk result (λ r. (start : Start) (plan : PlanOf)
+        → IsFound (fewest_stations naming.now kind inst.now cycle plan start) r.status r.text.items r.kept) }
 {
     let _tasks = inst.tasks();
     let text = infeasible_line(alloc, naming, task, inst.time(task))?;
@@ -126,8 +129,8 @@ fn infeasible(
     })
 }
 
-/// The refusal of a search that memory ended, with its bounds.
-fn cut_short(
+/// The refusal of a run that memory ended, with its bounds.
+fn ended_by_memory(
     inst: &Instance,
     kind: LineKind,
     cycle: u64,
@@ -138,15 +141,13 @@ fn cut_short(
     requires room { string_bytes room ≡ [] }
     requires stopped { (N : ℕ) × (before : List Lemma) × (added : List Lemma) × (trail : List OpenFrame)
         × HasStopped kind inst.now cycle N before added lower book.now trail }
-    ensures answer { IfOk result (Stops (IsCutShort kind inst.now cycle)) }
+    ensures answer { IfOk result (λ s. (naming : NamingOf) (plan : PlanOf) (start : Start)
+        → Stops (IsCutShort (fewest_stations naming kind inst.now cycle plan start)) s) }
     ensures fault { IfOk result (MayStop ⊥) }
 {
     let _tasks = inst.tasks();
     let _entries = book.entries();
-    let lower = u128::from(lower);
-    let upper = u128::from(book.best().stations);
-    let text = cut_short_text(room, lower, upper)?;
-    Ok(refuse(Status::Memory, text))
+    cut_short(room, lower as u128, book.best().stations as u128)
 }
 
 /// What is reported of a run that began so, with a certificate; or the bounds, where memory ended the search.
@@ -170,9 +171,8 @@ fn run<R: Threads + Wait + Sync, G: Gate>(
         × IsBegun kind inst.now cycle plan.now start begun.book (string_bytes begun.first) }
     ensures answer { (start : Start)
         → IsBegun kind inst.now cycle plan.now start begun.book (string_bytes begun.first)
-        → MatchResult result (λ r. IsBounded naming.now kind inst.now cycle plan.now start None (outcome_of r None))
-        (Stops (IsCutShort kind inst.now cycle)) }
-    ensures good { IfOk result (λ r. IsSolveStatus r.status) }
+        → let asked = fewest_stations naming.now kind inst.now cycle plan.now start in MatchResult result
+        (λ r. IsFound asked r.status r.text.items r.kept) (Stops (IsCutShort asked)) }
     ensures fault { MatchResult result (λ _. Unit {0}) (MayStop ⊥) }
 {
     let Begun { book, first } = begun;
@@ -188,7 +188,7 @@ fn run<R: Threads + Wait + Sync, G: Gate>(
             Cause::Units => Ok(stopped(
                 alloc, inst, naming, kind, cycle, first, lower, book, trail,
             )?),
-            Cause::Memory => Err(cut_short(inst, kind, cycle, room, lower, &book)?),
+            Cause::Memory => Err(ended_by_memory(inst, kind, cycle, room, lower, &book)?),
         },
         Outcome::NoMemory => Err(Stop::Memory),
     }
@@ -209,14 +209,8 @@ fn solution<R: Threads + Wait + Sync, G: Gate>(
     requires limit { limit ≤ 3000000 }
     requires plan { IsPlan plan.now }
     requires range { ForSome said.olds (AreEntries (tasks said.timed.inst)) }
-    ensures answer { let start : Start = record { olds = said.olds; seek = limit } in MatchResult result
-        (λ r. IsSolution said.timed.naming kind said.timed.inst said.timed.cycle plan.now start None
-        (outcome_of r None))
-        (Stops (IsCutShort kind said.timed.inst said.timed.cycle)) }
-    ensures shown { let start : Start = record { olds = said.olds; seek = limit } in IfOk result
-        (λ r. IsShown said.timed.naming kind said.timed.inst said.timed.cycle plan.now start r.status r.text.items
-        r.kept) }
-    ensures good { IfOk result (λ r. IsSolveStatus r.status) }
+    ensures answer { let asked = search_of said kind limit plan.now in MatchResult result
+        (λ r. IsFound asked r.status r.text.items r.kept) (Stops (IsCutShort asked)) }
     ensures fault { MatchResult result (λ _. Unit {0}) (MayStop ⊥) }
 {
     let Said { timed, olds } = said;
@@ -262,7 +256,7 @@ pub fn solve_report<R: Threads + Wait + Sync, S: Shelf, G: Gate>(
     ensures ends { S.tells → (let o = outside (S.file shelf.old) (S.blames shelf.new) in
         Ends o (IsSolveOutcome o file.now (option_map (λ a. a.now) apart.entry) (option_map (λ a. a.now) warm.entry)
         limit word kind plan.now (option_map (λ a. a.now) name.entry)) (S.file shelf.new) result) }
-    ensures good { IfOk result (λ r. IsSolveStatus r.status) }
+    ensures good { IfOk result (λ r. IsSearchStatus r.status) }
     ensures fault { MatchResult result (λ _. Unit {0})
         (MayEnd (Rises (S.fetch_faults shelf.old) (S.fetch_faults shelf.new))
         (Rises (S.write_faults shelf.old) (S.write_faults shelf.new))) }

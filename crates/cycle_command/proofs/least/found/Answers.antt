@@ -1,20 +1,20 @@
-use Rattle.std.proofs.Common.{None, inl, inr}
-use Rattle.command_outcome.specs.Outcome.{outcome_of}
-use Rattle.cycle_command.proofs.PromiseFacts.{shown_of}
-use Rattle.cycle_command.proofs.WrittenFacts.{stopped_status}
+use Rattle.std.proofs.Common.{rules}
+use Rattle.cycle_search.specs.Outcomes.{IsStopped as HasStopped}
+use Rattle.cycle_search.proofs.Results.{none_below, has_balance}
+use Rattle.command_outcome.proofs.FoundFacts.{cut_as}
+use Rattle.cycle_command.specs.Found.{least_cycle}
 use Rattle.cycle_command.proofs.least.found.Goals as goal
 
-pub returns-in_ok-optimal-in-Solved-clause-shown : goal.returns-in_ok-optimal-in-Solved-clause-shown
-returns-in_ok-optimal-in-Solved-clause-shown g c =
-    shown_of c.args.naming.now c.args.kind c.args.inst.now c.args.stations c.args.plan.now None
-    (outcome_of c.in_ok-optimal-in-Solved.field-0 None) (inl c.in_ok-optimal-in-Solved.ensures)
-
-pub returns-in_ok-stopped-in-Units-clause-shown : goal.returns-in_ok-stopped-in-Units-clause-shown
-returns-in_ok-stopped-in-Units-clause-shown g c =
-    shown_of c.args.naming.now c.args.kind c.args.inst.now c.args.stations c.args.plan.now None
-    (outcome_of c.in_ok-stopped-in-Units.field-0 None) (inr c.in_ok-stopped-in-Units.ensures)
-
-pub returns-in_ok-stopped-in-Units-clause-good : goal.returns-in_ok-stopped-in-Units-clause-good
-returns-in_ok-stopped-in-Units-clause-good g c =
-    stopped_status c.args.naming.now c.args.kind c.args.inst.now c.args.stations c.args.plan.now
-    c.in_ok-stopped-in-Units.field-0 c.in_ok-stopped-in-Units.ensures
+pub returns-in_ok-cut_short-in-Memory-clause-answer : goal.returns-in_ok-cut_short-in-Memory-clause-answer
+returns-in_ok-cut_short-in-Memory-clause-answer g c =
+    let a = c.args in
+    let line = a.inst.now in
+    let m = a.stations in
+    let end = c.in-Stopped in
+    let s : HasStopped a.kind line m a.plan.now end.lower end.upper end.balance end.entries end.trail = search rules in
+    cut_as (least_cycle a.naming.now a.kind line m a.plan.now) end.lower end.upper c.in_ok-cut_short-in-Memory.field-0
+    s.below (
+      has_balance a.kind line m end.upper end.balance s.balance,
+      none_below a.kind line m end.lower end.entries c.tasks-tasks.ensures.line s.proof,
+    )
+    c.in_ok-cut_short-in-Memory.ensures.answer

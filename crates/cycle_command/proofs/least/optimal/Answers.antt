@@ -1,7 +1,5 @@
-use Rattle.std.proofs.Common.{None, ap, ◌∙◌, ◌++◌, ℕ, List}
+use Rattle.std.proofs.Common.{ap, refl, inl, ◌∙◌, ◌++◌, ℕ, List}
 use Rattle.command_outcome.specs.Bounds.{seek_text}
-use Rattle.command_outcome.specs.declared.status.Status.TheVariants as ends
-use Rattle.solution_page.specs.Page.{certified_by}
 use Rattle.cycle_command.specs.CycleText.{optimal_text}
 use Rattle.cycle_command.proofs.least.optimal.Goals as goal
 
@@ -11,13 +9,19 @@ returns c =
     let told : List ℕ = seek_text a.plan.now.seek a.seeks.used a.seeks.most a.seeks.kept in
     let said : ℕ → List ℕ = λ idle. optimal_text a.naming.now a.kind a.cycle a.balance idle in
     record {
-      cycle = a.cycle;
-      balance = a.balance;
       certificate = c.in_ok-certificate.certificate;
-      proved = c.in_ok-certificate.ensures;
-      seeks = a.seeks;
-      counted = c.requires.seeks;
-      shown = ap (certified_by None c.in_ok-certificate.certificate ends.Done) (c.in_ok-text.ensures
-          ∙ ap (λ (first : List ℕ). first ++ said c.idle_of-idle.result) c.in_ok-first.ensures
-          ∙ ap (λ (idle : ℕ). told ++ said idle) c.idle_of-idle.ensures);
+      keeps = refl;
+      answer = inl (
+        refl,
+        record {
+          cycle = a.cycle;
+          balance = a.balance;
+          proved = c.in_ok-certificate.ensures;
+          seeks = a.seeks;
+          counted = c.requires.seeks;
+          printed = c.in_ok-text.ensures
+              ∙ ap (λ (first : List ℕ). first ++ said c.idle_of-idle.result) c.in_ok-first.ensures
+              ∙ ap (λ (idle : ℕ). told ++ said idle) c.idle_of-idle.ensures;
+        },
+      );
     }

@@ -1,6 +1,4 @@
-use Rattle.std.proofs.Common.{None, ap, ◌∙◌, ◌++◌, ℕ, List}
-use Rattle.command_outcome.specs.declared.status.Status.TheVariants as ends
-use Rattle.solution_page.specs.Page.{certified_by}
+use Rattle.std.proofs.Common.{ap, refl, inr, ◌∙◌, ◌++◌, ℕ, List}
 use Rattle.command_outcome.specs.Bounds.{seek_text}
 use Rattle.cycle_command.specs.CycleText.{stopped_text}
 use Rattle.cycle_command.proofs.least.stopped.Goals as goal
@@ -10,16 +8,22 @@ returns c =
     let a = c.args in
     let told : List ℕ = seek_text a.plan.now.seek a.seeks.used a.seeks.most a.seeks.kept in
     let said : ℕ → List ℕ = λ idle. stopped_text a.naming.now a.kind a.lower a.upper a.balance idle in
+    let spent = c.requires.spent in
     record {
-      lower = a.lower;
-      upper = a.upper;
-      balance = a.balance;
       certificate = c.certify_cycle_stop-certificate.result;
-      proved = c.certify_cycle_stop-certificate.ensures a.plan.now c.requires.spent.0 c.requires.plan.limit
-          c.requires.spent.1;
-      seeks = a.seeks;
-      counted = c.requires.seeks;
-      shown = ap (certified_by None c.certify_cycle_stop-certificate.result ends.Stopped) (c.in_ok-text.ensures
-          ∙ ap (λ (first : List ℕ). first ++ said c.idle_of-idle.result) c.in_ok-first.ensures
-          ∙ ap (λ (idle : ℕ). told ++ said idle) c.idle_of-idle.ensures);
+      keeps = refl;
+      answer = inr (
+        refl,
+        record {
+          lower = a.lower;
+          upper = a.upper;
+          balance = a.balance;
+          proved = c.certify_cycle_stop-certificate.ensures a.plan.now spent.0 c.requires.plan.limit spent.1;
+          seeks = a.seeks;
+          counted = c.requires.seeks;
+          printed = c.in_ok-text.ensures
+              ∙ ap (λ (first : List ℕ). first ++ said c.idle_of-idle.result) c.in_ok-first.ensures
+              ∙ ap (λ (idle : ℕ). told ++ said idle) c.idle_of-idle.ensures;
+        },
+      );
     }

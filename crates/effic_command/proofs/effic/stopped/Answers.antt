@@ -1,14 +1,24 @@
-use Rattle.std.proofs.Common.{ℕ, List, None, ap, ◌∙◌, ◌++◌}
-use Rattle.command_outcome.specs.Bounds.{seek_text}
-use Rattle.command_outcome.specs.declared.status.Status.TheVariants as ends
+use Rattle.std.proofs.Common.{inr, refl}
 use Rattle.effic_command.specs.EfficText.{stopped_text}
-use Rattle.effic_command.specs.EfficFound.{certified_by}
+use Rattle.effic_command.proofs.FoundFacts.{told_behind}
 use Rattle.effic_command.proofs.effic.stopped.Goals as goal
 
 pub returns : goal.returns
-returns c =
+returns c = λ kind least most closing_from stopped counted.
     let a = c.args in
-    let said : ℕ → List ℕ = λ idle. stopped_text a.naming.now a.why a.cert idle in
-    ap (certified_by None a.cert ends.Stopped) (c.in_ok-text.ensures
-    ∙ ap (λ (first : List ℕ). first ++ said c.idle_of-idle.result) c.in_ok-first.ensures
-    ∙ ap (λ (idle : ℕ). seek_text a.loads a.seeks.used a.seeks.most a.seeks.kept ++ said idle) c.idle_of-idle.ensures)
+    record {
+      certificate = a.cert;
+      keeps = refl;
+      answer = inr (
+        refl,
+        record {
+          why = a.why;
+          closing_from = closing_from;
+          stopped = stopped;
+          seeks = a.seeks;
+          counted = counted;
+          printed = told_behind (stopped_text a.naming.now a.why a.cert) c.idle_of-idle.ensures c.in_ok-first.ensures
+              c.in_ok-text.ensures;
+        },
+      );
+    }

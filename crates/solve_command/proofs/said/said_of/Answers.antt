@@ -5,7 +5,7 @@ use Rattle.input_files.specs.Instance.{IsUnsaid}
 use Rattle.solve_command.specs.WarmStart.{IsUnwarmed}
 use Rattle.solve_command.specs.inner.Said.{HasSaid, IsUnsaidOrUnwarmed}
 use Rattle.solve_command.specs.declared.said.Said.{Said}
-use Rattle.solve_command.proofs.WrittenFacts.{old_in, unwarmed_in}
+use Rattle.solve_command.proofs.SaidFacts.{old_in, unwarmed_in}
 use Rattle.solve_command.proofs.said.said_of.Goals as goal
 
 pub returns-in_err-timed-clause-said : goal.returns-in_err-timed-clause-said

@@ -1,18 +1,27 @@
-use Rattle.std.proofs.Common.{None, ap}
+use Rattle.std.proofs.Common.{◌++◌, inl, refl}
 use Rattle.std.specs.Prelude.{string_bytes}
-use Rattle.command_outcome.specs.declared.status.Status.TheVariants as ends
-use Rattle.solution_page.specs.Page.{certified_by}
-use Rattle.solve_command.proofs.WrittenFacts.{optimal_as}
+use Rattle.solve_command.specs.SolutionText.{optimal_text}
+use Rattle.solve_command.proofs.FoundFacts.{of_best}
 use Rattle.solve_command.proofs.solution.optimal.Goals as goal
 
 pub returns : goal.returns
-returns c = λ before plan room solved. record {
-  balance = c.args.book.state.best;
-  certificate = c.in_ok-certificate.certificate;
-  proved = c.in_ok-certificate.ensures before plan room solved;
-  shown = ap (certified_by None c.in_ok-certificate.certificate ends.Done)
-      (optimal_as c.in_ok-text.text.items (string_bytes c.args.first) c.args.naming.now c.args.kind c.args.inst.now
-      c.args.cycle
-      c.best-balance.result.now c.args.book.state.best c.idle_of-idle.result c.in_ok-text.ensures
-      c.best-balance.ensures.best c.idle_of-idle.ensures);
-}
+returns c = λ start old plan begun solved.
+    let a = c.args in
+    record {
+      certificate = c.in_ok-certificate.certificate;
+      keeps = refl;
+      answer = inl (
+        refl,
+        inl (record {
+          before = old.state.entries;
+          first = string_bytes a.first;
+          top = old.state.best.stations;
+          begins = begun.begins;
+          balance = a.book.state.best;
+          proved = c.in_ok-certificate.ensures old.state.entries plan begun.room solved;
+          printed = of_best (λ b idle. string_bytes a.first ++ optimal_text a.naming.now a.kind b idle)
+              c.in_ok-text.text.items a.inst.now a.cycle c.best-balance.result.now a.book.state.best
+              c.idle_of-idle.result c.in_ok-text.ensures c.best-balance.ensures.best c.idle_of-idle.ensures;
+        }),
+      );
+    }

@@ -1,2 +1,0 @@
-pub mod PromiseFacts
-pub mod WrittenFacts
