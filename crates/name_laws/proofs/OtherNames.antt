@@ -1,24 +1,25 @@
 -- An answer is taken apart and put together again with other names. Only the text is built from names.
-use Rattle.std.proofs.Common.{◌≡◌, inl, inr, ℕ, List, ◌++◌, Option, None, refl, sym, subst, ◌∙◌, append_assoc}
+use Rattle.std.proofs.Common.{◌≡◌, ◌⊎◌, inl, inr, ℕ, List, ◌++◌, Option, None, refl, sym, subst, ◌∙◌, append_assoc}
 use Rattle.std.specs.Prelude.{codes, decimal}
 use Rattle.line_instance.specs.Line.{Line, time}
 use Rattle.line_rules.specs.Bounds.{idle_time, total_bound}
 use Rattle.line_rules.specs.declared.types.LineKind.{LineKind}
 use Rattle.line_rules.specs.declared.types.Balance.{Balance as Assignment}
-use Rattle.line_rules.specs.declared.types.Entry.{Entry}
+use Rattle.line_rules.specs.declared.types.Certificate.{Certificate}
+use Rattle.line_rules.specs.declared.products.EfficCert.{EfficCert}
 use Rattle.round_run.specs.declared.plans.Plan.{Plan}
 use Rattle.task_names.specs.declared.naming.Naming.{Naming}
 use Rattle.station_report.specs.StationsText.{stations_text}
 use Rattle.station_report.specs.BalanceLines.{balance_lines}
 use Rattle.station_report.specs.InfeasibleText.{infeasible_text}
+use Rattle.command_outcome.specs.Found.{Search, IsReported, IsAnswer}
 use Rattle.command_outcome.specs.Outcome.{Outcome, Page}
 use Rattle.command_outcome.specs.Bounds.{bounds_line, seek_text}
 use Rattle.command_outcome.specs.declared.report.Kept.{Kept}
-use Rattle.command_outcome.specs.declared.report.Kept.TheVariants.{Nothing, Line as Certified, Product}
+use Rattle.command_outcome.specs.declared.report.Kept.TheVariants.{Nothing}
 use Rattle.command_outcome.specs.declared.status.Status.{Status}
 use Rattle.command_outcome.specs.declared.status.Status.TheVariants as ends
 use Rattle.input_files.specs.Instance.{naming_of}
-use Rattle.solution_page.specs.Page.{page_of}
 use Rattle.balance_command.specs.Balance as balancing
 use Rattle.balance_command.specs.BalanceText.{balance_text}
 use Rattle.solve_command.specs.Solution as solving
@@ -30,6 +31,53 @@ use Rattle.effic_command.specs.EfficFound as efficient
 use Rattle.effic_command.specs.EfficText as effic_text
 use Rattle.name_laws.specs.Renaming.{DifferInNames, IsRenamed, HasLike}
 use Rattle.name_laws.specs.Laws.{NamesChangeNothing}
+
+-- Two searches that differ in names alone. Where one is solved, so is the other, by the same certificate and with a text
+-- that differs in names. The same holds where one stops.
+module _ (naming other : Naming) (s : Search) (Solved Stopped : s.Cert → List ℕ → Type 0)
+    (solves : (cert : s.Cert) (text : List ℕ) → s.Solved cert text
+    → (renamed : List ℕ) × Solved cert renamed × DifferInNames naming other text renamed)
+    (stops : (cert : s.Cert) (text : List ℕ) → s.Stopped cert text
+    → (renamed : List ℕ) × Stopped cert renamed × DifferInNames naming other text renamed)
+    (name : Option (List ℕ)) (out : Outcome) where
+  -- the other search
+  abbrev pub the_other : Search
+  the_other = record s { Solved = Solved; Stopped = Stopped }
+
+  -- what one finds, the other finds with another text
+  with_text : (p : IsReported s name out) (text : List ℕ) → DifferInNames naming other out.text text
+      → ((out.status ≡ ends.Done) × Solved p.found.certificate text)
+      ⊎ ((out.status ≡ ends.Stopped) × Stopped p.found.certificate text)
+      → HasLike naming other out (λ renamed. IsReported the_other name renamed)
+  with_text p text differs answer = (
+    record out { text = text },
+    (
+      record {
+        found = record { certificate = p.found.certificate; keeps = p.found.keeps; answer = answer };
+        page = p.page;
+      },
+      record { status = refl; kept = refl; page = refl; text = differs },
+    ),
+  )
+
+  pub reported_like : IsReported s name out → HasLike naming other out (λ renamed. IsReported the_other name renamed)
+  reported_like p = elim p.found.answer [
+    | inl a ↦ let l = solves p.found.certificate out.text a.1 in with_text p l.0 l.2 (inl (a.0, l.1))
+    | inr a ↦ let l = stops p.found.certificate out.text a.1 in with_text p l.0 l.2 (inr (a.0, l.1))
+  ]
+
+  -- what one comes to, the other comes to: bounds have no names
+  pub answer_like : IsAnswer s name out → HasLike naming other out (λ renamed. IsAnswer the_other name renamed)
+  answer_like x = elim x [
+    | inl p ↦ let l = reported_like p in (l.0, (inl l.1.0, l.1.1))
+    | inr p ↦ (
+      out,
+      (
+        inr (record { lower = p.lower; upper = p.upper; below = p.below; bounds = p.bounds; shown = p.shown }),
+        record { status = refl; kept = refl; page = refl; text = inr (inr refl) },
+      ),
+    )
+  ]
 
 -- the line of an idle time
 abbrev idle_front : ℕ → List ℕ
@@ -69,6 +117,15 @@ module _ (naming other : Naming) where
         ∙ lines_last (first ++ front) other kind b idle;
   })
 
+  -- the same of a text that is these lines
+  differ_told : {text : List ℕ} (first front : List ℕ) (kind : LineKind) (b : Assignment) (idle : ℕ)
+      → text ≡ first ++ (front ++ balance_lines naming kind b idle)
+      → DifferInNames naming other text (first ++ (front ++ balance_lines other kind b idle))
+  differ_told first front kind b idle is =
+      let D : List ℕ → Type 0 =
+      λ x. DifferInNames naming other x (first ++ (front ++ balance_lines other kind b idle)) in
+      subst D (sym is) (differ_behind first front kind b idle)
+
   -- the lines about a task that is too long differ in its name
   differ_task : (task duration : ℕ)
       → DifferInNames naming other (infeasible_text naming task duration) (infeasible_text other task duration)
@@ -84,10 +141,6 @@ module _ (naming other : Naming) where
       subst (λ (o : Outcome). IsRenamed naming other o
       (record { status = status; text = renamed; page = page; kept = kept })) (sym e)
       (record { status = refl; kept = refl; page = refl; text = d })
-
-  -- an outcome without names stands for itself
-  renamed_same : (out : Outcome) → IsRenamed naming other out out
-  renamed_same out = record { status = refl; kept = refl; page = refl; text = inr (inr refl) }
 
   module _ (kind : LineKind) (line : Line) (c : ℕ) where
     balance_like : (out : Outcome) → balancing.IsAnswer naming kind line c out
@@ -124,228 +177,158 @@ module _ (naming other : Naming) where
       )
     ]
 
-    module _ (plan : Plan) (start : Start) (name : Option (List ℕ)) where
-      optimum_like : (before : List Entry) (first : List ℕ) (out : Outcome)
-          → solving.IsOptimal naming kind line c plan before first name out
-          → HasLike naming other out (λ renamed. solving.IsOptimal other kind line c plan before first name renamed)
-      optimum_like before first out p = (
-        record {
-          status = ends.Done;
-          text = first ++ solve_text.optimal_text other kind p.balance (idle_time line c p.balance.stations);
-          page = page_of name p.certificate;
-          kept = Certified p.certificate;
-        },
-        (
-          record { balance = p.balance; certificate = p.certificate; proved = p.proved; shown = refl },
-          renamed_as ends.Done (page_of name p.certificate) (Certified p.certificate)
-              (first ++ solve_text.optimal_text naming kind p.balance (idle_time line c p.balance.stations))
-              (first ++ solve_text.optimal_text other kind p.balance (idle_time line c p.balance.stations)) out
-              (differ_behind first (solve_text.optimal_line p.balance.stations) kind p.balance
-              (idle_time line c p.balance.stations)) p.shown,
-        ),
-      )
-
-      stop_like : (before : List Entry) (first : List ℕ) (top : ℕ) (out : Outcome)
-          → solving.IsStopped naming kind line c plan before first top name out
-          → HasLike naming other out
-          (λ renamed. solving.IsStopped other kind line c plan before first top name renamed)
-      stop_like before first top out p = (
-        record {
-          status = ends.Stopped;
-          text = first
-              ++ solve_text.stopped_text other kind p.lower p.balance (idle_time line c p.balance.stations);
-          page = page_of name p.certificate;
-          kept = Certified p.certificate;
-        },
-        (
-          record {
-            lower = p.lower;
+    module _ (plan : Plan) (start : Start) where
+      solve_solves : (cert : Certificate) (text : List ℕ)
+          → solving.IsOptimal naming kind line c plan start cert text
+          ⊎ solving.IsInfeasible naming kind line c cert text
+          → (renamed : List ℕ) × (solving.IsOptimal other kind line c plan start cert renamed
+          ⊎ solving.IsInfeasible other kind line c cert renamed) × DifferInNames naming other text renamed
+      solve_solves cert text x = elim x [
+        | inl p ↦ let idle : ℕ = idle_time line c p.balance.stations in (
+          p.first ++ solve_text.optimal_text other kind p.balance idle,
+          inl (record {
+            before = p.before;
+            first = p.first;
+            top = p.top;
+            begins = p.begins;
             balance = p.balance;
-            few = p.few;
-            certificate = p.certificate;
             proved = p.proved;
-            shown = refl;
-          },
-          renamed_as ends.Stopped (page_of name p.certificate) (Certified p.certificate)
-              (first ++ solve_text.stopped_text naming kind p.lower p.balance (idle_time line c p.balance.stations))
-              (first ++ solve_text.stopped_text other kind p.lower p.balance (idle_time line c p.balance.stations)) out
-              (differ_behind first (codes "stopped by units\n" ++ bounds_line p.lower p.balance.stations) kind p.balance
-              (idle_time line c p.balance.stations)) p.shown,
-        ),
-      )
-
-      solution_like : (out : Outcome) → solving.IsSolution naming kind line c plan start name out
-          → HasLike naming other out (λ renamed. solving.IsSolution other kind line c plan start name renamed)
-      solution_like out x = elim x [
-        | inl p ↦ elim p.found [
-          | inl q ↦ let l = optimum_like p.before p.first out q in (
-            l.0,
-            (
-              inl (record {
-                before = p.before;
-                first = p.first;
-                top = p.top;
-                begins = p.begins;
-                found = inl l.1.0;
-              }),
-              l.1.1,
-            ),
-          )
-          | inr q ↦ let l = stop_like p.before p.first p.top out q in (
-            l.0,
-            (
-              inl (record {
-                before = p.before;
-                first = p.first;
-                top = p.top;
-                begins = p.begins;
-                found = inr l.1.0;
-              }),
-              l.1.1,
-            ),
-          )
-        ]
+            printed = refl;
+          }),
+          differ_told p.first (solve_text.optimal_line p.balance.stations) kind p.balance idle p.printed,
+        )
         | inr p ↦ (
-          record {
-            status = ends.Done;
-            text = infeasible_text other p.task (time line p.task);
-            page = page_of name p.certificate;
-            kept = Certified p.certificate;
-          },
-          (
-            inr (record {
-              task = p.task;
-              least = p.least;
-              certificate = p.certificate;
-              proved = p.proved;
-              shown = refl;
-            }),
-            renamed_as ends.Done (page_of name p.certificate) (Certified p.certificate)
-                (infeasible_text naming p.task (time line p.task)) (infeasible_text other p.task (time line p.task)) out
-                (differ_task p.task (time line p.task)) p.shown,
-          ),
+          infeasible_text other p.task (time line p.task),
+          inr (record { task = p.task; least = p.least; proved = p.proved; printed = refl }),
+          inr (inl (record {
+            task = p.task;
+            time = time line p.task;
+            by_these = p.printed;
+            by_others = refl;
+          })),
         )
       ]
 
-  module _ (kind : LineKind) (line : Line) (m : ℕ) (plan : Plan) (name : Option (List ℕ)) where
-    cycle_like : (out : Outcome) → cycling.IsFound naming kind line m plan name out
-        → HasLike naming other out (λ renamed. cycling.IsFound other kind line m plan name renamed)
-    cycle_like out x = elim x [
-      | inl p ↦ (
-        record {
-          status = ends.Done;
-          text = seek_text plan.seek p.seeks.used p.seeks.most p.seeks.kept
-              ++ cycle_text.optimal_text other kind p.cycle p.balance (idle_time line p.cycle m);
-          page = page_of name p.certificate;
-          kept = Certified p.certificate;
-        },
-        (
-          inl (record {
+      solve_stops : (cert : Certificate) (text : List ℕ)
+          → solving.IsStopped naming kind line c plan start cert text
+          → (renamed : List ℕ) × solving.IsStopped other kind line c plan start cert renamed
+          × DifferInNames naming other text renamed
+      solve_stops cert text p =
+          let idle : ℕ = idle_time line c p.balance.stations in (
+            p.first ++ solve_text.stopped_text other kind p.lower p.balance idle,
+            record {
+              before = p.before;
+              first = p.first;
+              top = p.top;
+              begins = p.begins;
+              lower = p.lower;
+              balance = p.balance;
+              few = p.few;
+              proved = p.proved;
+              printed = refl;
+            },
+            differ_told p.first (codes "stopped by units\n" ++ bounds_line p.lower p.balance.stations) kind p.balance
+                idle p.printed,
+          )
+
+      solve_like : (name : Option (List ℕ)) (out : Outcome)
+          → IsAnswer (solving.fewest_stations naming kind line c plan start) name out
+          → HasLike naming other out
+          (λ renamed. IsAnswer (solving.fewest_stations other kind line c plan start) name renamed)
+      solve_like =
+          answer_like naming other (solving.fewest_stations naming kind line c plan start)
+          (λ cert text. solving.IsOptimal other kind line c plan start cert text
+          ⊎ solving.IsInfeasible other kind line c cert text)
+          (solving.IsStopped other kind line c plan start) solve_solves solve_stops
+
+  module _ (kind : LineKind) (line : Line) (m : ℕ) (plan : Plan) where
+    cycle_solves : (cert : Certificate) (text : List ℕ) → cycling.IsOptimal naming kind line m plan cert text
+        → (renamed : List ℕ) × cycling.IsOptimal other kind line m plan cert renamed
+        × DifferInNames naming other text renamed
+    cycle_solves cert text p =
+        let first : List ℕ = seek_text plan.seek p.seeks.used p.seeks.most p.seeks.kept in
+        let idle : ℕ = idle_time line p.cycle m in (
+          first ++ cycle_text.optimal_text other kind p.cycle p.balance idle,
+          record {
             cycle = p.cycle;
             balance = p.balance;
-            certificate = p.certificate;
             proved = p.proved;
             seeks = p.seeks;
             counted = p.counted;
-            shown = refl;
-          }),
-          renamed_as ends.Done (page_of name p.certificate) (Certified p.certificate)
-              (seek_text plan.seek p.seeks.used p.seeks.most p.seeks.kept
-              ++ cycle_text.optimal_text naming kind p.cycle p.balance (idle_time line p.cycle m))
-              (seek_text plan.seek p.seeks.used p.seeks.most p.seeks.kept
-              ++ cycle_text.optimal_text other kind p.cycle p.balance (idle_time line p.cycle m)) out
-              (differ_behind (seek_text plan.seek p.seeks.used p.seeks.most p.seeks.kept) (cycle_text.optimal_line p.cycle) kind p.balance (idle_time line p.cycle m)) p.shown,
-        ),
-      )
-      | inr p ↦ (
-        record {
-          status = ends.Stopped;
-          text = seek_text plan.seek p.seeks.used p.seeks.most p.seeks.kept
-              ++ cycle_text.stopped_text other kind p.lower p.upper p.balance (idle_time line p.upper m);
-          page = page_of name p.certificate;
-          kept = Certified p.certificate;
-        },
-        (
-          inr (record {
+            printed = refl;
+          },
+          differ_told first (cycle_text.optimal_line p.cycle) kind p.balance idle p.printed,
+        )
+
+    cycle_stops : (cert : Certificate) (text : List ℕ) → cycling.IsStopped naming kind line m plan cert text
+        → (renamed : List ℕ) × cycling.IsStopped other kind line m plan cert renamed
+        × DifferInNames naming other text renamed
+    cycle_stops cert text p =
+        let first : List ℕ = seek_text plan.seek p.seeks.used p.seeks.most p.seeks.kept in
+        let idle : ℕ = idle_time line p.upper m in (
+          first ++ cycle_text.stopped_text other kind p.lower p.upper p.balance idle,
+          record {
             lower = p.lower;
             upper = p.upper;
             balance = p.balance;
-            certificate = p.certificate;
             proved = p.proved;
             seeks = p.seeks;
             counted = p.counted;
-            shown = refl;
-          }),
-          renamed_as ends.Stopped (page_of name p.certificate) (Certified p.certificate)
-              (seek_text plan.seek p.seeks.used p.seeks.most p.seeks.kept
-              ++ cycle_text.stopped_text naming kind p.lower p.upper p.balance (idle_time line p.upper m))
-              (seek_text plan.seek p.seeks.used p.seeks.most p.seeks.kept
-              ++ cycle_text.stopped_text other kind p.lower p.upper p.balance (idle_time line p.upper m)) out
-              (differ_behind (seek_text plan.seek p.seeks.used p.seeks.most p.seeks.kept) (codes "stopped by units\n" ++ bounds_line p.lower p.upper) kind p.balance
-              (idle_time line p.upper m)) p.shown,
-        ),
-      )
-    ]
+            printed = refl;
+          },
+          differ_told first (codes "stopped by units\n" ++ bounds_line p.lower p.upper) kind p.balance idle p.printed,
+        )
 
-  module _ (kind : LineKind) (line : Line) (least most : ℕ) (plan : Plan) (name : Option (List ℕ)) where
-    effic_like : (out : Outcome) → efficient.IsFound naming kind line least most plan name out
-        → HasLike naming other out (λ renamed. efficient.IsFound other kind line least most plan name renamed)
-    effic_like out x = elim x [
-      | inl p ↦ (
-        record {
-          status = ends.Done;
-          text = seek_text plan.seek p.seeks.used p.seeks.most p.seeks.kept
-              ++ effic_text.optimal_text other p.certificate (efficient.idle_of line p.certificate);
-          page = efficient.page_of name p.certificate;
-          kept = Product p.certificate;
-        },
-        (
-          inl (record {
-            certificate = p.certificate;
-            solved = p.solved;
-            seeks = p.seeks;
-            counted = p.counted;
-            shown = refl;
-          }),
-          renamed_as ends.Done (efficient.page_of name p.certificate) (Product p.certificate)
-              (seek_text plan.seek p.seeks.used p.seeks.most p.seeks.kept
-              ++ effic_text.optimal_text naming p.certificate (efficient.idle_of line p.certificate))
-              (seek_text plan.seek p.seeks.used p.seeks.most p.seeks.kept
-              ++ effic_text.optimal_text other p.certificate (efficient.idle_of line p.certificate)) out
-              (differ_behind (seek_text plan.seek p.seeks.used p.seeks.most p.seeks.kept) (effic_text.optimal_line p.certificate.upper
-              ++ effic_text.place_line p.certificate.balance.stations p.certificate.cycle) p.certificate.kind
-              p.certificate.balance (efficient.idle_of line p.certificate)) p.shown,
-        ),
-      )
-      | inr p ↦ (
-        record {
-          status = ends.Stopped;
-          text = seek_text plan.seek p.seeks.used p.seeks.most p.seeks.kept
-              ++ effic_text.stopped_text other p.why p.certificate (efficient.idle_of line p.certificate);
-          page = efficient.page_of name p.certificate;
-          kept = Product p.certificate;
-        },
-        (
-          inr (record {
+    cycle_like : (name : Option (List ℕ)) (out : Outcome)
+        → IsAnswer (cycling.least_cycle naming kind line m plan) name out
+        → HasLike naming other out (λ renamed. IsAnswer (cycling.least_cycle other kind line m plan) name renamed)
+    cycle_like =
+        answer_like naming other (cycling.least_cycle naming kind line m plan)
+        (cycling.IsOptimal other kind line m plan) (cycling.IsStopped other kind line m plan)
+        cycle_solves cycle_stops
+
+  module _ (kind : LineKind) (line : Line) (least most : ℕ) (plan : Plan) where
+    effic_solves : (cert : EfficCert) (text : List ℕ)
+        → efficient.IsOptimal naming kind line least most plan cert text
+        → (renamed : List ℕ) × efficient.IsOptimal other kind line least most plan cert renamed
+        × DifferInNames naming other text renamed
+    effic_solves cert text p =
+        let first : List ℕ = seek_text plan.seek p.seeks.used p.seeks.most p.seeks.kept in
+        let idle : ℕ = efficient.idle_of line cert in (
+          first ++ effic_text.optimal_text other cert idle,
+          record { solved = p.solved; seeks = p.seeks; counted = p.counted; printed = refl },
+          differ_told first (effic_text.optimal_line cert.upper
+              ++ effic_text.place_line cert.balance.stations cert.cycle) cert.kind cert.balance idle p.printed,
+        )
+
+    effic_stops : (cert : EfficCert) (text : List ℕ)
+        → efficient.IsStopped naming kind line least most plan cert text
+        → (renamed : List ℕ) × efficient.IsStopped other kind line least most plan cert renamed
+        × DifferInNames naming other text renamed
+    effic_stops cert text p =
+        let first : List ℕ = seek_text plan.seek p.seeks.used p.seeks.most p.seeks.kept in
+        let idle : ℕ = efficient.idle_of line cert in (
+          first ++ effic_text.stopped_text other p.why cert idle,
+          record {
             why = p.why;
-            certificate = p.certificate;
             closing_from = p.closing_from;
             stopped = p.stopped;
             seeks = p.seeks;
             counted = p.counted;
-            shown = refl;
-          }),
-          renamed_as ends.Stopped (efficient.page_of name p.certificate) (Product p.certificate)
-              (seek_text plan.seek p.seeks.used p.seeks.most p.seeks.kept
-              ++ effic_text.stopped_text naming p.why p.certificate (efficient.idle_of line p.certificate))
-              (seek_text plan.seek p.seeks.used p.seeks.most p.seeks.kept
-              ++ effic_text.stopped_text other p.why p.certificate (efficient.idle_of line p.certificate)) out
-              (differ_behind (seek_text plan.seek p.seeks.used p.seeks.most p.seeks.kept) (effic_text.stopped_line p.why ++ bounds_line p.certificate.lower p.certificate.upper
-              ++ effic_text.place_line p.certificate.balance.stations p.certificate.cycle) p.certificate.kind
-              p.certificate.balance (efficient.idle_of line p.certificate)) p.shown,
-        ),
-      )
-    ]
+            printed = refl;
+          },
+          differ_told first (effic_text.stopped_line p.why ++ bounds_line cert.lower cert.upper
+              ++ effic_text.place_line cert.balance.stations cert.cycle) cert.kind cert.balance idle p.printed,
+        )
+
+    effic_like : (name : Option (List ℕ)) (out : Outcome)
+        → IsAnswer (efficient.least_product naming kind line least most plan) name out
+        → HasLike naming other out
+        (λ renamed. IsAnswer (efficient.least_product other kind line least most plan) name renamed)
+    effic_like =
+        answer_like naming other (efficient.least_product naming kind line least most plan)
+        (efficient.IsOptimal other kind line least most plan) (efficient.IsStopped other kind line least most plan)
+        effic_solves effic_stops
 
 -- What the commands answer, over the files.
 pub changed_nothing : NamesChangeNothing
@@ -353,61 +336,27 @@ changed_nothing = record {
   balance = λ word a b kind out same p.
       let l = balance_like (naming_of a.files a.line) (naming_of b.files b.line) kind p.line p.c out p.answer in
       (l.0, (record { line = p.line; c = p.c; said = same.said p.line p.c p.said; answer = l.1.0 }, l.1.1));
-  solve = λ word a b seek kind plan name out same p. elim p.answer [
-    | inl q ↦
-        let l = solution_like (naming_of a.files a.line) (naming_of b.files b.line) kind p.line p.c plan
-        (record { olds = p.olds; seek = seek }) name out q in (
-          l.0,
-          (
-            record {
-              line = p.line;
-              c = p.c;
-              said = same.said p.line p.c p.said;
-              olds = p.olds;
-              old = same.old kind p.line p.olds p.old;
-              answer = inl l.1.0;
-            },
-            l.1.1,
-          ),
-        )
-    | inr q ↦ (
-      out,
-      (
-        record {
-          line = p.line;
-          c = p.c;
-          said = same.said p.line p.c p.said;
-          olds = p.olds;
-          old = same.old kind p.line p.olds p.old;
-          answer = inr q;
-        },
-        renamed_same (naming_of a.files a.line) (naming_of b.files b.line) out,
-      ),
-    )
-  ];
-  cycle = λ a b kind m plan name out same p. elim p.answer [
-    | inl q ↦
-        let l = cycle_like (naming_of a.files a.line) (naming_of b.files b.line) kind p.line m plan name out q in
-        (l.0, (record { line = p.line; said = same p.line p.said; answer = inl l.1.0 }, l.1.1))
-    | inr q ↦ (
-      out,
-      (
-        record { line = p.line; said = same p.line p.said; answer = inr q },
-        renamed_same (naming_of a.files a.line) (naming_of b.files b.line) out,
-      ),
-    )
-  ];
-  effic = λ a b kind least most plan name out same p. elim p.answer [
-    | inl q ↦
-        let l = effic_like (naming_of a.files a.line) (naming_of b.files b.line) kind p.line least most plan name out
-        q in
-        (l.0, (record { line = p.line; said = same p.line p.said; answer = inl l.1.0 }, l.1.1))
-    | inr q ↦ (
-      out,
-      (
-        record { line = p.line; said = same p.line p.said; answer = inr q },
-        renamed_same (naming_of a.files a.line) (naming_of b.files b.line) out,
-      ),
-    )
-  ];
+  solve = λ word a b seek kind plan name out same p.
+      let l = solve_like (naming_of a.files a.line) (naming_of b.files b.line) kind p.line p.c plan
+      (record { olds = p.olds; seek = seek }) name out p.answer in (
+        l.0,
+        (
+          record {
+            line = p.line;
+            c = p.c;
+            said = same.said p.line p.c p.said;
+            olds = p.olds;
+            old = same.old kind p.line p.olds p.old;
+            answer = l.1.0;
+          },
+          l.1.1,
+        ),
+      );
+  cycle = λ a b kind m plan name out same p.
+      let l = cycle_like (naming_of a.files a.line) (naming_of b.files b.line) kind p.line m plan name out p.answer in
+      (l.0, (record { line = p.line; said = same p.line p.said; answer = l.1.0 }, l.1.1));
+  effic = λ a b kind least most plan name out same p.
+      let l = effic_like (naming_of a.files a.line) (naming_of b.files b.line) kind p.line least most plan name out
+      p.answer in
+      (l.0, (record { line = p.line; said = same p.line p.said; answer = l.1.0 }, l.1.1));
 }

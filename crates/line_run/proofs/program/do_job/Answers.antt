@@ -11,7 +11,7 @@ use Rattle.balance_command.specs.Balance.{IsBalanceOutcome}
 use Rattle.check_command.specs.Check.{IsCheckOutcome}
 use Rattle.convert_command.specs.Convert.{IsConvertOutcome}
 use Rattle.solve_command.specs.Solution.{IsSolveOutcome}
-use Rattle.solve_command.specs.Promise.{IsPromised}
+use Rattle.solve_command.specs.Solution.{IsPromised}
 use Rattle.cycle_command.specs.Found.{IsCycleOutcome}
 use Rattle.draw_command.specs.Draw.{IsDrawOutcome}
 use Rattle.draw_command.specs.Plan.{IsPlanOutcome}
