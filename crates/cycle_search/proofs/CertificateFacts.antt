@@ -1,5 +1,5 @@
 -- The certificate of a search for the least cycle is within its ranges and accepted.
-use Rattle.std.proofs.Common.{◌≡◌, ℕ, ◌-◌, ◌<◌, ◌≤◌, List, [], length, Option, Some, None, refl}
+use Rattle.std.proofs.Common.{◌≡◌, ℕ, ◌-◌, ◌<◌, ◌≤◌, List, length, Option, Some, None, refl}
 use Rattle.std.proofs.Common.{sym, subst, arith}
 use Rattle.std.proofs.lemmas.Option.{slice_get_within}
 use Rattle.line_instance.specs.Truths.{In, full_to}
@@ -26,7 +26,7 @@ use Rattle.round_run.proofs.Sayable.{entries_ok, trail_ok, all_are_tasks}
 use Rattle.cycle_search.specs.Outcomes.{IsRightIn, IsBelow, IsSolved, IsSpent}
 use Rattle.cycle_search.specs.Seek.{try_room}
 use Rattle.cycle_search.proofs.SeekFacts.{try_limit}
-use Rattle.cycle_search.specs.CycleCertified.{about_cycle, IsCertified, IsOptimum, IsStop}
+use Rattle.cycle_search.specs.CycleCertified.{about_cycle, AreCycleProof, IsCertified, IsOptimum, IsStop}
 
 -- a right balance in at most 1,024 stations
 placing_ok : (kind : LineKind) (line : Line) (m c : ℕ) (b : Assignment) → IsLine line → IsRightIn kind line m c b
@@ -101,13 +101,14 @@ shown_goal kind line m plan c b es n e s more =
 
 -- the certificate of the least cycle, with a proof that is made of the entries
 pub optimum : (kind : LineKind) (line : Line) (m : ℕ) (plan : Plan) (c : ℕ) (b : Assignment) (es new : List Entry)
-    → IsLine line → 1 ≤ m → m ≤ 1024 → plan.units ≤ 3000000 → IsSolved kind line m plan c b es → (c ≡ 1 → new ≡ [])
+    → IsLine line → 1 ≤ m → m ≤ 1024 → plan.units ≤ 3000000 → IsSolved kind line m plan c b es
+    → AreCycleProof line m c new
     → ((kind : LineKind) (line : Line) → IsDerived kind line es → IsDerived kind line new)
     → (1 < c → HasAnswer new (all_tasks line) m (c - 1))
     → ((line : Line) (old : ℕ) → UnitsOf line es old → (units : ℕ) × UnitsOf line new units × (units ≤ old))
     → ((n : ℕ) → AreEntries n es → AreEntries n new)
     → IsOptimum kind line m c b (about_cycle kind line m (claim.Bounds c c b new None))
-optimum kind line m plan c b es new ok one many limit s first derived goal units ranges =
+optimum kind line m plan c b es new ok one many limit s proof derived goal units ranges =
     let u : (a : ℕ) × UnitsOf line new a × (a ≤ s.some.counted.0) = units line s.some.counted.0 s.some.counted.2.0 in
     let room : try_room plan ≤ 6000000 = try_limit plan limit in
     let few : length es ≤ 20000000 = omega (arith, s.some.many, room) in
@@ -120,7 +121,7 @@ optimum kind line m plan c b es new ok one many limit s first derived goal units
           (u.0, 0, (u.1, refl, omega arith))
           (omega (arith, u.2, s.some.counted.2.2, s.some.within, room));
       least = s.least;
-      one = first;
+      proof = proof;
     }
 
 -- the certificate of a search whose units ended

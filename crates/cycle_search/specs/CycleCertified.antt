@@ -1,7 +1,8 @@
 -- Certificates that searches for the least cycle make of a line with so many stations.
-use Rattle.std.specs.Prelude.{◌≡◌, ℕ, ◌≤◌, List, [], Option, Some, None}
+use Rattle.std.specs.Prelude.{◌≡◌, ℕ, ◌-◌, ◌<◌, ◌≤◌, List, [], Option, Some, None}
 use Rattle.line_instance.specs.Line.{Line, tasks}
 use Rattle.line_rules.specs.Accepted.{IsAccepted, IsLeastCycle}
+use Rattle.line_rules.specs.Balance.{all_tasks}
 use Rattle.line_rules.specs.Laws.{IsProved}
 use Rattle.line_rules.specs.Ranges.{IsInRange}
 use Rattle.line_rules.specs.declared.types.LineKind.{LineKind}
@@ -12,6 +13,7 @@ use Rattle.line_rules.specs.declared.types.Ask.TheVariants as ask
 use Rattle.line_rules.specs.declared.types.Claim.{Claim}
 use Rattle.line_rules.specs.declared.types.Claim.TheVariants as claim
 use Rattle.line_rules.specs.declared.types.Certificate.{Certificate}
+use Rattle.entry_lists.specs.Trim.{IsTrimmed}
 use Rattle.round_run.specs.declared.plans.Plan.{Plan}
 use Rattle.round_run.specs.Certified.{max_units}
 use Rattle.cycle_search.specs.Outcomes.{IsRightIn, IsSpent}
@@ -32,13 +34,19 @@ pub record IsCertified (kind : LineKind) (line : Line) (m lower upper : ℕ) (b 
   pub few : units ≤ max_units
   pub true_bounds : IsProved kind line (ask.Cycle m) lower upper
 
--- The certificate of the least cycle c: both its bounds are c, and it has no trail, nor an entry where c is 1.
+-- The entries that show a least cycle in m stations: none, where that is 1; else those that are left of a list of which
+-- the first entry that refutes all tasks in m stations at the cycle below is kept, and all that it stands on.
+abbrev pub AreCycleProof : Line → ℕ → ℕ → List Entry → Type 0
+AreCycleProof line m c es =
+    (c ≡ 1 → es ≡ []) × (1 < c → (whole : List Entry) × IsTrimmed whole (all_tasks line) m (c - 1) es)
+
+-- The certificate of the least cycle c: both its bounds are c, it has no trail, and its entries are the proof alone.
 pub record IsOptimum (kind : LineKind) (line : Line) (m c : ℕ) (b : Assignment) (cert : Certificate) : Type 0 where
   pub entries : List Entry
   pub units : ℕ
   pub certified : IsCertified kind line m c c b entries None units cert
   pub least : IsLeastCycle kind line m c
-  pub one : c ≡ 1 → entries ≡ []
+  pub proof : AreCycleProof line m c entries
 
 -- The certificate of a search whose units ended at a tried cycle: its bounds differ, and it has the entries and the
 -- trail of the search, on which all units of that try were spent.

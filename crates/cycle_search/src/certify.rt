@@ -6,7 +6,7 @@ ghost use Rattle.line_rules.specs.Entries.{HasAnswer, IsDerived};
 ghost use Rattle.line_rules.specs.Ranges.{AreEntries};
 ghost use Rattle.line_rules.specs.Units.{UnitsOf};
 ghost use Rattle.line_rules.specs.declared.types.LineKind.{LineKind as Kind};
-ghost use Rattle.entry_lists.specs.Trim.{CitesEarlier};
+ghost use Rattle.entry_lists.specs.Trim.{CitesEarlier, IsTrimmed};
 ghost use Rattle.round_run.specs.declared.plans.Plan.{Plan};
 ghost use Rattle.cycle_search.specs.Outcomes.{IsSolved, IsSpent};
 ghost use Rattle.cycle_search.specs.CycleCertified.{about_cycle, IsOptimum, IsStop};
@@ -46,6 +46,7 @@ fn proof_of(
     ensures derived { IfOk result (λ new. (kind : Kind) (line : Line)
         → IsDerived kind line entries → IsDerived kind line new) }
     ensures goal { IfOk result (λ new. 1 < cycle → HasAnswer new (full_to tasks) stations (cycle - 1)) }
+    ensures trimmed { IfOk result (λ new. 1 < cycle → IsTrimmed entries (full_to tasks) stations (cycle - 1) new) }
     ensures units { IfOk result (λ new. (line : Line) (old : ℕ)
         → UnitsOf line entries old → (units : ℕ) × UnitsOf line new units × (units ≤ old)) }
     ensures ranges { IfOk result (λ new. (n : ℕ) → AreEntries n entries → AreEntries n new) }
