@@ -68,9 +68,9 @@ pub record IsStopped (kind : LineKind) (line : Line) (m : ℕ) (plan : Plan) (lo
 
 -- The N units of a try ended, and one more load was needed: there are fewer stations than tasks. The trail is at a
 -- cycle X between the bounds, valid from the question of all tasks in m stations, and open over the entries. These are
--- fresh at X. The entries from number `closing_from` on, those of the last round, and the trail have at least N units
--- at X, and exactly so many where there are no helpers. All entries and the trail have no fewer at X, and as many where
--- no seek is asked for. N is below what the budget law allows.
+-- fresh at X. The entries from a number `closing_from` on and the trail have at least N units at X, and exactly so many
+-- where there are no helpers. All entries and the trail have no fewer at X, and as many where no seek is asked for. N is
+-- below what the budget law allows.
 pub record IsSpent (kind : LineKind) (line : Line) (m : ℕ) (plan : Plan) (lower upper : ℕ) (b : Assignment)
     (es : List Entry) (trail : Trail) (closing_from : ℕ) : Type 0 where
   pub stopped : IsStopped kind line m plan lower upper b es trail

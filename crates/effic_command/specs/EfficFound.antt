@@ -35,8 +35,7 @@ pub record IsOptimal (naming : Naming) (kind : LineKind) (line : Line) (least mo
       ++ optimal_text naming cert (idle_of line cert)
 
 -- The search stopped: the certificate says why, and what is printed are its bounds and its balance. The line before
--- them tells of the seeks, where the plan has them. The number `closing_from` of its entries stand before those of the
--- last round.
+-- them tells of the seeks, where the plan has them. The units are counted from the entry `closing_from` on.
 pub record IsStopped (naming : Naming) (kind : LineKind) (line : Line) (least most : ℕ) (plan : Plan) (cert : EfficCert)
     (text : List ℕ) : Type 0 where
   pub why : Ended

@@ -63,11 +63,10 @@ pub record IsSolved (kind : LineKind) (line : Line) (least most : ℕ) (cert : E
 
 -- The N units of a try ended, and one more load was needed: the bounds differ. The trail is at the tried cycle X, which
 -- is that of the next try, valid from its question, in fewer stations than tasks, and open over the entries, which are
--- fresh at X. First stand the entries before the try, which were few enough for it. Behind them are those of its seek,
--- of cycle X, for which there was room: none where the plan has no seek. From the number `closing_from` on stand those
--- of its round, of cycle X. They and the trail have at least N units, and exactly so many where there are no helpers.
--- Where the plan has no seek, they are the entries of cycle X behind the last one of all tasks at X. N is below what the
--- budget law allows. (Own.)
+-- fresh at X. First stand entries that are few enough for a try. Behind them stand some of cycle X, for which a seek has
+-- room: none where the plan has no seek. From the number `closing_from` on stand others of cycle X. These and the trail
+-- have at least N units, and exactly so many where there are no helpers. Where the plan has no seek, they are the
+-- entries of cycle X behind the last one of all tasks at X. N is below what the budget law allows. (Own.)
 pub record IsSpent (kind : LineKind) (line : Line) (least most : ℕ) (plan : Plan) (cert : EfficCert)
     (closing_from : ℕ) : Type 0 where
   pub certified : IsCertified kind line least most cert

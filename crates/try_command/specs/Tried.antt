@@ -31,7 +31,7 @@ abbrev pub alone : ℕ → Plan
 alone N = record { helpers = 0; units = N; pairs = true; seek = 0 }
 
 -- The certificate is what its text reads as, and the check with its default steps accepts it with these bounds. It is
--- kept, beside the units that the check counted: a run that doesn't check has no such count.
+-- kept, beside the units that the check counts in it.
 pub record IsReadAndVerified (line : Line) (certificate : Certificate) (lower upper : ℕ) (kept : Kept) : Type 0 where
   pub units : ℕ
   pub reads : IsCertRead (cert_text certificate) (Good certificate)
