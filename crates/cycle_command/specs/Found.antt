@@ -1,5 +1,5 @@
 -- What `cycle` comes to, and what it promises.
-use Rattle.std.specs.Prelude.{◌≡◌, ◌⊎◌, ℕ, List, ◌++◌, Option}
+use Rattle.std.specs.Prelude.{◌≡◌, ◌≤◌, ◌⊎◌, ℕ, List, length, ◌++◌, Option}
 use Rattle.line_instance.specs.Line.{Line}
 use Rattle.line_rules.specs.Bounds.{idle_time}
 use Rattle.line_rules.specs.Laws.{IsProved}
@@ -18,6 +18,7 @@ use Rattle.command_outcome.specs.Outcome.{Files, Outside, Outcome}
 use Rattle.command_outcome.specs.declared.report.Kept.{Kept}
 use Rattle.command_outcome.specs.declared.report.Kept.TheVariants.{Line as Certified}
 use Rattle.command_outcome.specs.declared.status.Status.{Status}
+use Rattle.input_files.specs.InputFile.{max_certificate}
 use Rattle.input_files.specs.Instance.{IsPlainLine, IsNoPlainLine, naming_of}
 use Rattle.cycle_command.specs.CycleText.{optimal_text, stopped_text}
 use Rattle.task_names.specs.declared.naming.Naming.{Naming}
@@ -35,13 +36,15 @@ pub record IsOptimal (naming : Naming) (kind : LineKind) (line : Line) (m : ℕ)
       ++ optimal_text naming kind cycle balance (idle_time line cycle m)
 
 -- The units of a tried cycle were used: the bounds that are printed, and the balance at the upper one, are those of the
--- certificate, which lists the units. The line before them tells of the seeks, where the plan has them.
+-- certificate, which lists the units. The line before them tells of the seeks, where the plan has them. With at most
+-- 1,000,000 units a try, the check reads files of the certificate's length.
 pub record IsStopped (naming : Naming) (kind : LineKind) (line : Line) (m : ℕ) (plan : Plan) (cert : Certificate)
     (text : List ℕ) : Type 0 where
   pub lower : ℕ
   pub upper : ℕ
   pub balance : Assignment
   pub proved : IsStop kind line m plan lower upper balance cert
+  pub fits : plan.units ≤ 1000000 → length (cert_text cert) ≤ max_certificate
   pub seeks : Seeks
   pub counted : AreSeeks plan seeks
   pub printed : text ≡ seek_text plan.seek seeks.used seeks.most seeks.kept

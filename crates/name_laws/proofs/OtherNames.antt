@@ -193,13 +193,14 @@ module _ (naming other : Naming) where
             begins = p.begins;
             balance = p.balance;
             proved = p.proved;
+            fits = p.fits;
             printed = refl;
           }),
           differ_told p.first (solve_text.optimal_line p.balance.stations) kind p.balance idle p.printed,
         )
         | inr p ↦ (
           infeasible_text other p.task (time line p.task),
-          inr (record { task = p.task; least = p.least; proved = p.proved; printed = refl }),
+          inr (record { task = p.task; least = p.least; proved = p.proved; fits = p.fits; printed = refl }),
           inr (inl (record {
             task = p.task;
             time = time line p.task;
@@ -225,6 +226,7 @@ module _ (naming other : Naming) where
               balance = p.balance;
               few = p.few;
               proved = p.proved;
+              fits = p.fits;
               printed = refl;
             },
             differ_told p.first (codes "stopped by units\n" ++ bounds_line p.lower p.balance.stations) kind p.balance
@@ -272,6 +274,7 @@ module _ (naming other : Naming) where
             upper = p.upper;
             balance = p.balance;
             proved = p.proved;
+            fits = p.fits;
             seeks = p.seeks;
             counted = p.counted;
             printed = refl;

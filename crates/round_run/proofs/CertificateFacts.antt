@@ -1,5 +1,5 @@
 -- The certificate of a run is within its ranges and accepted.
-use Rattle.std.proofs.lemmas.Option.{slice_get_within, same_Some}
+use Rattle.std.proofs.lemmas.Bool.{cases_lt}
 use Rattle.line_instance.specs.Truths.{full_to}
 use Rattle.std.proofs.Common.{◌≡◌, inl, inr, ◌∙◌, ℕ, ◌+◌, ◌-◌, ◌<◌, ◌≤◌, Bool, List, [], ◌++◌, length, length-append}
 use Rattle.std.proofs.Common.{Option, Some, None, refl, sym, ap, subst, arith}
@@ -32,6 +32,8 @@ use Rattle.round_helpers.specs.Growth.{AreAtCycle}
 use Rattle.round_run.specs.Solving.{IsRunBook, IsSolvedFrom, IsStoppedFrom, IsSpentFrom}
 use Rattle.round_run.specs.declared.plans.Plan.{Plan}
 use Rattle.entry_lists.specs.Trim.{IsTrimmed}
+use Rattle.entry_lists.proofs.ThinnedLists.{no_longer}
+use Rattle.entry_lists.proofs.TrimFacts.{thinned}
 use Rattle.round_run.specs.Certified.{IsCertified, AreAtOrAs, AreProof, HaveCyclesOf, LeaveRoom, IsOptimumFrom}
 use Rattle.round_run.specs.Certified.{IsStopFrom}
 use Rattle.round_run.specs.Certified.{IsNoBalance, about_stations, max_units}
@@ -102,6 +104,15 @@ derived_of : (kind : LineKind) (line : Line) (c : ℕ) (about : About) (es : Lis
     → IsDerived kind line es
 derived_of kind line c about es e d = (let D : About → Type 0 = λ a. IsDerived a.kind a.line es in subst D e d)
 
+-- the proof of a lower bound has no more entries than the list of which it was made
+pub no_more : (es new : List Entry) (R : List Bool) (lower most c : ℕ) → (lower ≤ 1 → new ≡ [])
+    → (1 < lower → IsTrimmed es R most c new) → length new ≤ length es
+no_more es new R lower most c none trimmed = elim (cases_lt 1 lower) [
+  | inl some ↦ let t : IsTrimmed es R most c new = trimmed some in
+      no_longer t.numbers es new (thinned es t.numbers new t.kept.ascending t.entries)
+  | inr one ↦ omega (arith, ap (λ (z : List Entry). length z) (none one))
+]
+
 -- the entry that shows the lower bound, among the entries that a book gave
 pub shown_goal : (kind : LineKind) (line : Line) (c : ℕ) (plan : Plan) (before : List Entry) (book : BookView) (es : List Entry)
     (b : Assignment) (n : ℕ) → n ≡ tasks line
@@ -148,10 +159,10 @@ module _ (kind : LineKind) (line : Line) (c : ℕ) (plan : Plan) (before : List 
       → (1 < b.stations → HasAnswer new (all_tasks line) (b.stations - 1) c)
       → ((line : Line) (old : ℕ) → UnitsOf line es old → (units : ℕ) × UnitsOf line new units × (units ≤ old))
       → ((m : ℕ) → AreEntries m es → AreEntries m new)
-      → HaveCyclesOf es new → AreProof line c b.stations new
+      → HaveCyclesOf es new → length new ≤ length es → AreProof line c b.stations new
       → IsOptimumFrom kind line c plan before book.state.best (about_stations kind line c
       (claim.Bounds b.stations b.stations b new None))
-  optimum solved new d goal units ranges cycles proof =
+  optimum solved new d goal units ranges cycles less proof =
       let run = solved.run in
       let derived' = derived_of kind line c book.about es run.about derived in
       let right = right_of kind line c book.about b run.about best in
@@ -179,6 +190,13 @@ module _ (kind : LineKind) (line : Line) (c : ℕ) (plan : Plan) (before : List 
           alone = λ none. omega (arith, used.2, solved.alone none);
         };
         cycles = at_or_as c before solved.added es new (begins solved.added [] run) run.cycles cycles;
+        few = omega (
+          arith,
+          less,
+          run.few,
+          ap (λ (x : List Entry). length x) (begins solved.added [] run),
+          length-append before solved.added,
+        );
       })
     where
       some_stations : IsLeastStations kind line c b.stations → IsRight kind line c b → 1 ≤ b.stations

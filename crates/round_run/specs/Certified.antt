@@ -81,7 +81,7 @@ AreProof line c lower es = (lower ≤ 1 → es ≡ [])
 
 -- The certificate of an optimum, of a run that began with some entries: both its bounds are the least number of
 -- stations, and it has no trail; its entries are the proof alone, at cycle c or at cycles of those with which the run
--- began; and its units are paid for.
+-- began, and at most 1,025 more than these and twice the units; and its units are paid for.
 pub record IsOptimumFrom (kind : LineKind) (line : Line) (c : ℕ) (plan : Plan) (before : List Entry) (b : Assignment)
     (cert : Certificate) : Type 0 where
   pub entries : List Entry
@@ -91,6 +91,7 @@ pub record IsOptimumFrom (kind : LineKind) (line : Line) (c : ℕ) (plan : Plan)
   pub proof : AreProof line c b.stations entries
   pub spent : ArePaid line plan before units
   pub cycles : AreAtOrAs c before entries
+  pub few : length entries ≤ length before + 2 * plan.units + 1025
 
 -- The certificate of a search that began with some entries and used the units of its plan: its bounds differ; its
 -- entries, of which none is answered by an earlier one, begin with those, and the others are at cycle c, at most 1,025

@@ -1,1 +1,5 @@
 pub mod WrittenFacts
+pub mod CiteCounts
+pub mod WordLengths
+pub mod EntryLengths
+pub mod TextLengths

@@ -182,6 +182,16 @@ module _ (kind : LineKind) (line : Line) (c : ℕ) (plan : Plan) where
               length-append old_adds.added seek_adds.added,
             );
           };
+          few = omega (
+            arith,
+            old_adds.few,
+            seek_adds.few,
+            kept,
+            spent,
+            limit,
+            ap (λ (z : List Entry). length z) all,
+            length-append old_adds.added seek_adds.added,
+          );
         }
 
   module _ (limit : ℕ) (olds : Option (List Entry)) (book : BookView) (opened : IsOpened kind line c book)

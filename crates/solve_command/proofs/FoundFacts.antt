@@ -1,20 +1,26 @@
 -- What is found of the line that the files say.
 use Rattle.std.specs.declared.result.Result.{Result}
 use Rattle.std.specs.declared.result.Result.TheVariants.{Ok, Err}
-use Rattle.std.proofs.Common.{◌≡◌, ◌∙◌, inl, inr, ℕ, List, Option, IfOk, ap, subst, rules}
+use Rattle.std.proofs.Common.{◌≡◌, ◌≤◌, ◌+◌, ◌*◌, ◌++◌, ◌∙◌, inl, inr, ℕ, List, length, length-append, Option, Some, None}
+use Rattle.std.proofs.Common.{IfOk, ap, subst, rules, arith}
 use Rattle.line_instance.specs.Line.{Line}
 use Rattle.line_rules.specs.Bounds.{idle_time}
 use Rattle.line_rules.specs.Ranges.{IsInRange}
 use Rattle.line_rules.specs.declared.types.LineKind.{LineKind}
 use Rattle.line_rules.specs.declared.types.Balance.{Balance as Assignment}
+use Rattle.line_rules.specs.declared.types.Entry.{Entry}
 use Rattle.line_rules.specs.declared.types.Certificate.{Certificate}
+use Rattle.cert_text.specs.Cert.{cert_text}
+use Rattle.round_run.specs.Certified.{IsOptimumFrom, IsStopFrom, IsNoBalance}
 use Rattle.round_run.specs.declared.plans.Plan.{Plan}
 use Rattle.command_outcome.specs.Found.{Search, IsFound, IsAnswer, IsFiled}
 use Rattle.command_outcome.specs.Outcome.{Files, Outside, Outcome}
 use Rattle.command_outcome.specs.declared.report.Kept.TheVariants.{Line as Certified}
 use Rattle.command_outcome.specs.declared.report.Report.{Report}
 use Rattle.command_outcome.specs.declared.report.Stop.{Stop}
+use Rattle.input_files.specs.InputFile.{max_certificate}
 use Rattle.input_files.specs.Instance.{naming_of}
+use Rattle.solution_page.proofs.TextLengths.{bounds_fit, too_long_fits}
 use Rattle.solve_command.specs.Solution.{IsSolveOutcome, IsPromised, fewest_stations}
 use Rattle.solve_command.specs.inner.Said.{HasSaid, search_of}
 use Rattle.solve_command.specs.declared.said.Said.{Said}
@@ -26,6 +32,36 @@ pub of_best : (text_of : Assignment → ℕ → List ℕ) (text : List ℕ) (lin
     → text ≡ text_of best (idle_time line c best.stations)
 of_best text_of text line c b best idle e f g =
     e ∙ ap (λ (x : ℕ). text_of b x) g ∙ ap (λ (x : Assignment). text_of x (idle_time line c x.stations)) f
+
+-- Where a run began with so few entries, the check reads files of the length of its certificate.
+module _ (kind : LineKind) (line : Line) (c : ℕ) (plan : Plan) (before : List Entry) where
+  pub optimum_fits : (b : Assignment) (cert : Certificate) → IsOptimumFrom kind line c plan before b cert
+      → length before + 2 * plan.units ≤ 6000000 → length (cert_text cert) ≤ max_certificate
+  optimum_fits b cert o few = omega (
+    arith,
+    bounds_fit line cert b.stations b.stations o.units b o.entries None
+        (ap (λ (z : Certificate). z.claim) o.certified.said) o.certified.sayable o.certified.accepted,
+    o.few,
+    o.certified.few,
+    few,
+  )
+
+  pub stop_fits : (lower : ℕ) (b : Assignment) (cert : Certificate) → IsStopFrom kind line c plan before lower b cert
+      → length before + 2 * plan.units ≤ 6000000 → length (cert_text cert) ≤ max_certificate
+  stop_fits lower b cert s few = omega (
+    arith,
+    bounds_fit line cert lower b.stations s.units b s.entries (Some (record { cycle = c; frames = s.frames }))
+        (ap (λ (z : Certificate). z.claim) s.certified.said) s.certified.sayable s.certified.accepted,
+    s.few,
+    s.certified.few,
+    ap (λ (z : List Entry). length z) s.begins,
+    length-append before s.added,
+    few,
+  )
+
+pub refusal_fits : (kind : LineKind) (line : Line) (c task : ℕ) (cert : Certificate)
+    → IsNoBalance kind line c task cert → length (cert_text cert) ≤ max_certificate
+refusal_fits kind line c task cert n = omega (arith, too_long_fits line cert task n.sayable n.accepted)
 
 -- a text can say the certificate that is kept
 pub sayable : (said : Said) (kind : LineKind) (limit : ℕ) (plan : Plan) (r : Report)

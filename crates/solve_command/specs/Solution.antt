@@ -1,5 +1,5 @@
 -- What `solve` comes to, and what it promises.
-use Rattle.std.specs.Prelude.{◌≤◌, ◌≡◌, ◌⊎◌, ℕ, List, ◌++◌, Option}
+use Rattle.std.specs.Prelude.{◌≤◌, ◌≡◌, ◌⊎◌, ℕ, List, length, ◌++◌, Option}
 use Rattle.line_instance.specs.Line.{Line, time}
 use Rattle.line_rules.specs.Bounds.{idle_time, IsTooLong}
 use Rattle.line_rules.specs.Checked.{IsLeastWhere}
@@ -17,6 +17,7 @@ use Rattle.command_outcome.specs.Outcome.{Files, Outside, Outcome}
 use Rattle.command_outcome.specs.declared.report.Kept.{Kept}
 use Rattle.command_outcome.specs.declared.report.Kept.TheVariants.{Line as Certified}
 use Rattle.command_outcome.specs.declared.status.Status.{Status}
+use Rattle.input_files.specs.InputFile.{max_certificate}
 use Rattle.input_files.specs.Instance.{IsSaid, IsUnsaid, naming_of}
 use Rattle.station_report.specs.InfeasibleText.{infeasible_text}
 use Rattle.solve_command.specs.WarmStart.{AreOld, IsUnwarmed, Start, BeginsWith}
@@ -24,7 +25,7 @@ use Rattle.solve_command.specs.SolutionText.{optimal_text, stopped_text}
 use Rattle.task_names.specs.declared.naming.Naming.{Naming}
 
 -- The optimum. A run began with these entries and these first lines, and behind the lines the balance is printed. It has
--- the least number of stations, and the certificate proves it.
+-- the least number of stations, and the certificate proves it. The check reads files of this length.
 pub record IsOptimal (naming : Naming) (kind : LineKind) (line : Line) (c : ℕ) (plan : Plan) (start : Start)
     (cert : Certificate) (text : List ℕ) : Type 0 where
   pub before : List Entry
@@ -33,19 +34,22 @@ pub record IsOptimal (naming : Naming) (kind : LineKind) (line : Line) (c : ℕ)
   pub begins : BeginsWith kind line c plan start before first top
   pub balance : Assignment
   pub proved : IsOptimumFrom kind line c plan before balance cert
+  pub fits : length (cert_text cert) ≤ max_certificate
   pub printed : text ≡ first ++ optimal_text naming kind balance (idle_time line c balance.stations)
 
--- There is no balance: the least task that is longer than the cycle is printed, and the certificate names it.
+-- There is no balance: the least task that is longer than the cycle is printed, and the certificate names it. The check
+-- reads files of this length.
 pub record IsInfeasible (naming : Naming) (kind : LineKind) (line : Line) (c : ℕ) (cert : Certificate) (text : List ℕ)
     : Type 0 where
   pub task : ℕ
   pub least : IsLeastWhere (IsTooLong line c) task
   pub proved : IsNoBalance kind line c task cert
+  pub fits : length (cert_text cert) ≤ max_certificate
   pub printed : text ≡ infeasible_text naming task (time line task)
 
 -- The units of the plan were used. A run began with these entries and these first lines, and behind the lines the bounds
 -- and the balance of the certificate are printed. It lists the units. The balance has no more stations than the run began
--- with.
+-- with. The check reads files of this length.
 pub record IsStopped (naming : Naming) (kind : LineKind) (line : Line) (c : ℕ) (plan : Plan) (start : Start)
     (cert : Certificate) (text : List ℕ) : Type 0 where
   pub before : List Entry
@@ -56,6 +60,7 @@ pub record IsStopped (naming : Naming) (kind : LineKind) (line : Line) (c : ℕ)
   pub balance : Assignment
   pub few : balance.stations ≤ top
   pub proved : IsStopFrom kind line c plan before lower balance cert
+  pub fits : length (cert_text cert) ≤ max_certificate
   pub printed : text ≡ first ++ stopped_text naming kind lower balance (idle_time line c balance.stations)
 
 -- The search for the fewest stations of a line at a cycle. It is solved by an optimum, or where there is no balance.

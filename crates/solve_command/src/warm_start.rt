@@ -2,8 +2,8 @@
 //! of a seek, where they ask for one; and the book that takes them in.
 //!
 //! The old entries are read whole, checked side by side on the line as it is, and given up before the search. A run
-//! with N units takes at most 6,000,000 - 2N of them, with as many units, so that its certificate stays within the
-//! default steps of the check.
+//! with N units takes at most 6,000,000 - 2N of them, with as many units. So its certificate stays within the default
+//! steps of the check, and its text within the bytes that the check reads.
 ghost use Rattle.std.specs.Prelude.{◌≡◌, ◌≤◌, ◌↔◌, ℕ, List, ◌++◌, [], Some, None, IfOk, IsTrue, MatchResult};
 ghost use Rattle.std.specs.Prelude.{string_bytes, option_map};
 ghost use Rattle.std.specs.Option.{ForSome};

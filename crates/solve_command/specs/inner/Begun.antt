@@ -1,5 +1,5 @@
 -- The book with which a run begins, and the first line of its text.
-use Rattle.std.specs.Prelude.{◌≤◌, ◌≡◌, ℕ, List, ◌++◌, Option}
+use Rattle.std.specs.Prelude.{◌≤◌, ◌≡◌, ℕ, ◌+◌, ◌*◌, List, length, ◌++◌, Option}
 use Rattle.line_instance.specs.Line.{Line}
 use Rattle.line_rules.specs.declared.types.LineKind.{LineKind}
 use Rattle.line_rules.specs.declared.types.Entry.{Entry}
@@ -10,14 +10,15 @@ use Rattle.solve_command.specs.WarmStart.{Start, TakesOld, TakesSought, BeginsWi
 use Rattle.warm_book.specs.Warm.{Taking}
 use Rattle.solve_command.specs.declared.warm_start.Taken.{Taken}
 
--- the book is about the line, has room for offers, and begins with such entries that a certificate has room for all,
--- and with its best balance
+-- The book is about the line, has room for offers, and begins with such entries that a certificate has room for all,
+-- and with its best balance. The entries and twice the units of the plan are at most 6,000,000.
 pub record IsBegun (kind : LineKind) (line : Line) (c : ℕ) (plan : Plan) (start : Start) (book : BookView)
     (first : List ℕ) : Type 0 where
   pub begins : BeginsWith kind line c plan start book.state.entries first book.state.best.stations
   pub about : book.about ≡ record { line = line; kind = kind; cycle = c }
   pub reserved : IsReserved book
   pub room : LeaveRoom line plan.units book.state.entries
+  pub few : length book.state.entries + 2 * plan.units ≤ 6000000
 
 -- the book took in the old entries, where there are any: it kept so many, with so many units, and the line says so
 pub record IsTaken (N : ℕ) (book : BookView) (olds : Option (List Entry)) (taken : Taken) (said : List ℕ) : Type 0 where

@@ -6,7 +6,7 @@ use Rattle.line_rules.specs.declared.types.Claim.TheVariants as claim
 use Rattle.entry_lists.specs.Trim.{IsTrimmed}
 use Rattle.entry_lists.proofs.TrimFacts.{derived_earlier}
 use Rattle.round_run.specs.Certified.{IsOptimumFrom, about_stations}
-use Rattle.round_run.proofs.CertificateFacts.{optimum, shown_goal}
+use Rattle.round_run.proofs.CertificateFacts.{optimum, shown_goal, no_more}
 use Rattle.round_run.proofs.certify.certify_warm_optimum.Goals as goal
 
 pub proof_of-requires-clause-goal : goal.proof_of-requires-clause-goal
@@ -39,7 +39,9 @@ returns c = λ before plan room solved.
     c.into_parts-entries.ensures.entries c.into_parts-entries.ensures.best c.into_parts-entries.ensures.derived
     c.into_parts-entries.ensures.statable c.into_parts-entries.ensures.right
     solved new c.in_ok-entries.ensures.derived (subst G c.tasks-tasks.ensures.tasks c.in_ok-entries.ensures.goal)
-    c.in_ok-entries.ensures.units c.in_ok-entries.ensures.ranges c.in_ok-entries.ensures.cycles (
+    c.in_ok-entries.ensures.units c.in_ok-entries.ensures.ranges c.in_ok-entries.ensures.cycles
+    (no_more c.into_parts-entries.result.0 new (full_to c.tasks-tasks.result) b.stations (b.stations - 1) c.args.cycle
+    c.in_ok-entries.ensures.none c.in_ok-entries.ensures.trimmed) (
       c.in_ok-entries.ensures.none,
       λ l. (
         c.into_parts-entries.result.0,

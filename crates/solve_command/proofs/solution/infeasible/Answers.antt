@@ -1,5 +1,6 @@
 use Rattle.std.proofs.Common.{◌∙◌, ap, inl, inr, refl}
 use Rattle.station_report.specs.InfeasibleText.{infeasible_text}
+use Rattle.solve_command.proofs.FoundFacts.{refusal_fits}
 use Rattle.solve_command.proofs.solution.infeasible.Goals as goal
 
 pub returns : goal.returns
@@ -12,6 +13,8 @@ returns c = λ start plan. record {
       task = c.args.task;
       least = c.requires.long;
       proved = c.certify_too_long.ensures;
+      fits = refusal_fits c.args.kind c.args.inst.now c.args.cycle c.args.task c.certify_too_long.result
+          c.certify_too_long.ensures;
       printed = c.in_ok-text.ensures ∙ ap (λ k. infeasible_text c.args.naming.now c.args.task k) c.time.ensures.time;
     }),
   );
