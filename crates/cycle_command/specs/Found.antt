@@ -29,7 +29,7 @@ pub record IsOptimal (naming : Naming) (kind : LineKind) (line : Line) (m : ℕ)
     (text : List ℕ) : Type 0 where
   pub cycle : ℕ
   pub balance : Assignment
-  pub proved : IsOptimum kind line m cycle balance cert
+  pub proved : IsOptimum kind line m plan cycle balance cert
   pub seeks : Seeks
   pub counted : AreSeeks plan seeks
   pub printed : text ≡ seek_text plan.seek seeks.used seeks.most seeks.kept

@@ -1,6 +1,7 @@
 -- The certificate of a search for the least cycle is within its ranges and accepted.
 use Rattle.std.proofs.Common.{◌≡◌, ℕ, ◌-◌, ◌<◌, ◌≤◌, List, length, Option, Some, None, refl}
-use Rattle.std.proofs.Common.{sym, subst, arith}
+use Rattle.std.proofs.Common.{sym, ap, subst, inl, inr, arith, []}
+use Rattle.std.proofs.lemmas.Bool.{cases_eq}
 use Rattle.std.proofs.lemmas.Option.{slice_get_within}
 use Rattle.line_instance.specs.Truths.{In, full_to}
 use Rattle.line_instance.proofs.Members.{In-full_to}
@@ -20,13 +21,16 @@ use Rattle.line_rules.specs.declared.types.Claim.TheVariants as claim
 use Rattle.line_rules.specs.declared.types.Certificate.{Certificate}
 use Rattle.line_rules.proofs.AcceptedIsTrue.{accepted_true}
 use Rattle.line_rules.proofs.ReadPlaces.{seat_read}
+use Rattle.entry_lists.specs.Trim.{IsTrimmed}
+use Rattle.entry_lists.proofs.ThinnedLists.{no_longer}
+use Rattle.entry_lists.proofs.TrimFacts.{thinned}
 use Rattle.round_run.specs.declared.plans.Plan.{Plan}
 use Rattle.round_run.specs.Certified.{max_units}
 use Rattle.round_run.proofs.Sayable.{entries_ok, trail_ok, all_are_tasks}
 use Rattle.cycle_search.specs.Outcomes.{IsRightIn, IsBelow, IsSolved, IsSpent}
 use Rattle.cycle_search.specs.Seek.{try_room}
 use Rattle.cycle_search.proofs.SeekFacts.{try_limit}
-use Rattle.cycle_search.specs.CycleCertified.{about_cycle, AreCycleProof, IsCertified, IsOptimum, IsStop}
+use Rattle.cycle_search.specs.CycleCertified.{about_cycle, IsCertified, IsOptimum, IsStop}
 
 -- a right balance in at most 1,024 stations
 placing_ok : (kind : LineKind) (line : Line) (m c : ℕ) (b : Assignment) → IsLine line → IsRightIn kind line m c b
@@ -99,16 +103,26 @@ shown_goal kind line m plan c b es n e s more =
     let P : ℕ → Type 0 = λ z. HasAnswer es (full_to z) m (c - 1) in
     subst P (sym e) (s.proof.goal more)
 
+-- a proof that is made of entries has no more of them
+no_more : (line : Line) (m c : ℕ) (es new : List Entry) → 1 ≤ c → (c ≡ 1 → new ≡ [])
+    → (1 < c → IsTrimmed es (all_tasks line) m (c - 1) new) → length new ≤ length es
+no_more line m c es new some one more = elim (cases_eq c 1) [
+  | inl e ↦ omega (arith, ap (λ (z : List Entry). length z) (one e))
+  | inr n ↦
+      let t : IsTrimmed es (all_tasks line) m (c - 1) new = more (omega (arith, some, n)) in
+      no_longer t.numbers es new (thinned es t.numbers new t.kept.ascending t.entries)
+]
+
 -- the certificate of the least cycle, with a proof that is made of the entries
 pub optimum : (kind : LineKind) (line : Line) (m : ℕ) (plan : Plan) (c : ℕ) (b : Assignment) (es new : List Entry)
     → IsLine line → 1 ≤ m → m ≤ 1024 → plan.units ≤ 3000000 → IsSolved kind line m plan c b es
-    → AreCycleProof line m c new
+    → (c ≡ 1 → new ≡ []) → (1 < c → IsTrimmed es (all_tasks line) m (c - 1) new)
     → ((kind : LineKind) (line : Line) → IsDerived kind line es → IsDerived kind line new)
     → (1 < c → HasAnswer new (all_tasks line) m (c - 1))
     → ((line : Line) (old : ℕ) → UnitsOf line es old → (units : ℕ) × UnitsOf line new units × (units ≤ old))
     → ((n : ℕ) → AreEntries n es → AreEntries n new)
-    → IsOptimum kind line m c b (about_cycle kind line m (claim.Bounds c c b new None))
-optimum kind line m plan c b es new ok one many limit s proof derived goal units ranges =
+    → IsOptimum kind line m plan c b (about_cycle kind line m (claim.Bounds c c b new None))
+optimum kind line m plan c b es new ok one many limit s none trimmed derived goal units ranges =
     let u : (a : ℕ) × UnitsOf line new a × (a ≤ s.some.counted.0) = units line s.some.counted.0 s.some.counted.2.0 in
     let room : try_room plan ≤ 6000000 = try_limit plan limit in
     let few : length es ≤ 20000000 = omega (arith, s.some.many, room) in
@@ -121,7 +135,13 @@ optimum kind line m plan c b es new ok one many limit s proof derived goal units
           (u.0, 0, (u.1, refl, omega arith))
           (omega (arith, u.2, s.some.counted.2.2, s.some.within, room));
       least = s.least;
-      proof = proof;
+      proof = (none, λ more. (es, trimmed more));
+      some = record {
+        many = omega (arith, no_more line m c es new s.least.some none trimmed, s.some.many);
+        units = u.0;
+        counted = (u.0, 0, (u.1, refl, omega arith));
+        within = omega (arith, u.2, s.some.counted.2.2, s.some.within);
+      };
     }
 
 -- the certificate of a search whose units ended

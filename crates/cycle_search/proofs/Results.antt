@@ -1,13 +1,14 @@
 -- What a search comes to: the least cycle, or bounds, with the entries that show them.
 use Rattle.std.proofs.Common.{◌≡◌, ℕ, ◌+◌, ◌-◌, ◌*◌, ◌^◌, ◌<◌, ◌≤◌, Bool, true, cond, List, []}
-use Rattle.std.proofs.Common.{length, map, drop, refl, sym, ap, subst, inl, inr, arith, Option, Some, None}
+use Rattle.std.proofs.Common.{◌∷◌, ◌++◌, ◌∙◌, ◌⊎◌, length, map, drop, refl, sym, ap, subst, inl, inr, arith, Option, Some}
+use Rattle.std.proofs.Common.{None}
 use Rattle.std.specs.Prelude.{nat_eq, slice_get}
 use Rattle.std.proofs.lemmas.Bool.{cases_eq, eq-eqb}
 use Rattle.line_instance.specs.Line.{Line, IsLine, IsRanked, tasks}
 use Rattle.line_rules.specs.Accepted.{HasBalance}
 use Rattle.line_rules.specs.Balance.{IsBalance, Holds, all_tasks, seat}
 use Rattle.line_rules.specs.Entries.{HasAnswer, IsDerived, IsFresh}
-use Rattle.line_rules.specs.Trails.{IsTrail, IsOpenOver}
+use Rattle.line_rules.specs.Trails.{Leads, IsTrail, IsOpenOver}
 use Rattle.line_rules.specs.Units.{UnitsOf, UnitsIn, UnitsAt, TrailUnits, entries_at}
 use Rattle.line_rules.specs.declared.types.LineKind.{LineKind}
 use Rattle.line_rules.specs.declared.types.Balance.{Balance as Assignment}
@@ -31,9 +32,23 @@ use Rattle.cycle_search.specs.declared.halving.Halving.{Halving}
 use Rattle.cycle_search.specs.declared.searching.CycleOutcome.TheVariants as outcome
 use Rattle.cycle_search.proofs.BehindFacts.{derived_up, trail_up, length_behind, statable_behind, answer_before}
 use Rattle.cycle_search.proofs.BehindFacts.{answer_behind, fresh_behind, opens_behind, frames_raised, units_behind}
-use Rattle.cycle_search.proofs.BehindFacts.{units_at_behind, units_from_behind}
+use Rattle.cycle_search.proofs.BehindFacts.{cases_behind, units_at_behind, units_from_behind}
 use Rattle.cycle_search.proofs.EndFacts.{none_long}
 use Rattle.cycle_search.proofs.Tries.{outside_none}
+
+-- a trail begins with its question
+module _ (kind : LineKind) (line : Line) (X : ℕ) (es : List Entry) (R : List Bool) (most : ℕ) where
+  first_of : (ps : List OpenFrame) (d : OpenFrame) → Leads kind line X es R most ps d.set d.most
+      → (f : OpenFrame) × (slice_get (ps ++ d ∷ []) 0 ≡ Some f) × (f.set ≡ R) × (f.most ≡ most)
+  first_of [] d l = (d, refl, l.0, l.1)
+  first_of (p ∷ ps) d l = (p, refl, l.1.0, l.1.1)
+
+  pub first_frame : (fs : List OpenFrame) → IsTrail kind line X es R most fs
+      → (f : OpenFrame) × (slice_get fs 0 ≡ Some f) × (f.set ≡ R) × (f.most ≡ most)
+  first_frame fs t =
+      let P : List OpenFrame → Type 0 = λ z. (f : OpenFrame) × (slice_get z 0 ≡ Some f) × (f.set ≡ R)
+      × (f.most ≡ most) in
+      subst P (sym t.all) (first_of t.passed t.deepest t.leads)
 
 -- no balance is below the lower bound that entries show
 pub none_below : (kind : LineKind) (line : Line) (m lower : ℕ) (es : List Entry) → IsLine line
@@ -191,18 +206,74 @@ module _ (kind : LineKind) (line : Line) (m : ℕ) (plan : Plan) (h : Halving) (
           ),
         )
 
+    -- the kept proof has no entry at the cycle of the book
+    none_kept : HasEnds kind line m plan h → h.lower ≤ h.book.about.cycle → h.book.about.cycle < h.upper → (k : ℕ)
+        (e : Entry) → slice_get h.proof k ≡ Some e → e.cycle ≡ h.book.about.cycle → ⊥
+    none_kept e from to = outside_none h.lower h.upper h.book.about.cycle h.proof e.proof.outside from to
+
+    -- the frames are a trail over all entries, and open over them
+    valid_all : IsStuck kind line m plan cause.Units h frames closing_from
+        → IsTrail kind line h.book.about.cycle all (all_tasks line) m trail.frames
+    valid_all s =
+        let X : ℕ = h.book.about.cycle in
+        let T : List Entry → Type 0 = λ z. IsTrail kind line X z (all_tasks line) m frames in
+        trail_up kind line h.proof X es (all_tasks line) m frames (subst T (sym es_are) s.stuck.0)
+
+    opens_all : IsStuck kind line m plan cause.Units h frames closing_from
+        → IsOpenOver line h.book.about.cycle all trail.frames
+    opens_all s =
+        let X : ℕ = h.book.about.cycle in
+        let O : List Entry → Type 0 = λ z. IsOpenOver line X z frames in
+        opens_behind h.proof es line X frames (none_kept s.ends s.from s.to) (subst O (sym es_are) s.stuck.1)
+
+    -- an entry that isn't at the cycle of the book is outside the ends
+    outside_all : (s : IsStuck kind line m plan cause.Units h frames closing_from) (k : ℕ) (e : Entry)
+        → slice_get all k ≡ Some e → (e.cycle ≡ h.book.about.cycle → ⊥) → (e.cycle < h.lower) ⊎ (h.upper ≤ e.cycle)
+    outside_all s k e g n = elim (cases_behind h.proof es k e g) [
+      | inl x ↦ s.ends.proof.outside k e x
+      | inr (j, y, there, same, at) ↦
+          let P : List Entry → Type 0 = λ z. slice_get z j ≡ Some y in
+          let c : e.cycle ≡ y.cycle = ap (λ (w : Entry). w.cycle) same in
+          elim (s.outside j y (subst P es_are there) (λ q. n (c ∙ q))) [
+            | inl below ↦ inl (omega (arith, below, c))
+            | inr above ↦ inr (omega (arith, above, c))
+          ]
+    ]
+
+    -- no entry refutes a balance at the lower end: at the cycle of the book the trail is open, and from the upper end on
+    -- there is a balance
+    tight_is : IsStuck kind line m plan cause.Units h frames closing_from → HasAnswer all (all_tasks line) m h.lower → ⊥
+    tight_is s a =
+        let X : ℕ = h.book.about.cycle in
+        elim (cases_eq a.1.cycle X) [
+          | inl at ↦
+              let f = first_frame kind line X all (all_tasks line) m trail.frames (valid_all s) in
+              (opens_all s).unanswered 0 f.0 f.1 a.0 a.1 a.2.0 at (record {
+                same = a.2.1.same ∙ sym f.2;
+                stations = omega (arith, a.2.1.stations, f.3);
+                long = omega (arith, at);
+              })
+          | inr n ↦ elim (outside_all s a.0 a.1 a.2.0 n) [
+            | inl below ↦ omega (arith, below, a.2.1.long)
+            | inr above ↦
+                let b : HasBalance kind line h.upper m = has_balance kind line m h.upper h.balance s.ends.balance in
+                answer_holds kind line ok all (all_derived s.ends) (all_tasks line) m h.upper (
+                  a.0,
+                  a.1,
+                  (a.2.0, record { same = a.2.1.same; stations = a.2.1.stations; long = above }),
+                ) b.0 b.1
+          ]
+        ]
+
     spent_is : IsRanked line → IsFresh es → (s : IsStuck kind line m plan cause.Units h frames closing_from)
         → IsSpent kind line m plan h.lower h.upper h.balance all trail (length h.proof + closing_from)
     spent_is ranked fresh s =
         let X : ℕ = h.book.about.cycle in
         let none : (k : ℕ) (e : Entry) → slice_get h.proof k ≡ Some e → e.cycle ≡ X → ⊥ =
-        outside_none h.lower h.upper X h.proof s.ends.proof.outside s.from s.to in
-        let T : List Entry → Type 0 = λ z. IsTrail kind line X z (all_tasks line) m frames in
-        let O : List Entry → Type 0 = λ z. IsOpenOver line X z frames in
+        none_kept s.ends s.from s.to in
         let K : List Entry → Type 0 = λ z. HasListed line plan X z closing_from frames in
         let l : HasListed line plan X es closing_from frames = subst K (sym es_are) s.stuck.2 in
-        let valid : IsTrail kind line X all (all_tasks line) m trail.frames =
-        trail_up kind line h.proof X es (all_tasks line) m frames (subst T (sym es_are) s.stuck.0) in
+        let valid : IsTrail kind line X all (all_tasks line) m trail.frames = valid_all s in
         let whole : UnitsAt line X all (Some trail) l.whole =
         raised_at es all l.whole (λ u k. units_at_behind line h.proof es X u none k) l.whole_counted in
         let budget : l.whole < (tasks line + 1) * states kind ^ tasks line =
@@ -214,7 +285,7 @@ module _ (kind : LineKind) (line : Line) (m : ℕ) (plan : Plan) (h : Halving) (
           to = s.to;
           stations = s.stations;
           valid = valid;
-          opens = opens_behind h.proof es line X frames none (subst O (sym es_are) s.stuck.1);
+          opens = opens_all s;
           fresh = fresh_behind h.proof es X none fresh;
           begun = omega (
             arith,
@@ -232,6 +303,7 @@ module _ (kind : LineKind) (line : Line) (m : ℕ) (plan : Plan) (h : Halving) (
           more = l.more;
           unsought = l.unsought;
           budget = omega (arith, budget, l.all, l.more);
+          tight = tight_is s;
         }
 
     -- the search stopped

@@ -50,22 +50,30 @@ some_by seek N false e l = refl
 pub some_room : (plan : Plan) → 1 ≤ plan.seek → seek_room plan ≡ 2500000 - 2 * plan.units
 some_room plan l = some_by plan.seek plan.units (nat_eq plan.seek 0) refl l
 
+-- a count that stands still at its end, with a summand more
+kept_more : (most room before kept after next : ℕ) → next ≡ most + 1 * room → kept ≤ room
+    → after ≡ min (before + kept) (2 ^ 64 - 1) → before ≤ min most (2 ^ 64 - 1) → after ≤ min next (2 ^ 64 - 1)
+kept_more most room before kept after next is few now was = omega (arith, is, few, now, was)
+
 -- no seeks yet
 pub seeks_none : (plan : Plan) (s : Seeks) → s ≡ record { used = 0; most = 0; kept = 0 } → AreSeeks plan s
 seeks_none plan s is =
     let S : Seeks → Type 0 = λ z. AreSeeks plan z in
-    subst S (sym is) (record { begun = 0; all = omega arith; within = omega arith })
+    subst S (sym is) (record { begun = 0; all = omega arith; within = omega arith; kept = omega arith })
 
 -- one more seek
-pub seeks_more : (plan : Plan) (s r : Seeks) (used most : ℕ) → used ≤ most → plan.seek ≡ most
-    → r.used ≡ min (s.used + used) (2 ^ 64 - 1) → r.most ≡ min (s.most + most) (2 ^ 64 - 1) → AreSeeks plan s
-    → AreSeeks plan r
-seeks_more plan s r used most l same is_used is_most a =
+pub seeks_more : (plan : Plan) (s r : Seeks) (used most kept : ℕ) → used ≤ most → plan.seek ≡ most
+    → kept ≤ seek_room plan → r.used ≡ min (s.used + used) (2 ^ 64 - 1) → r.most ≡ min (s.most + most) (2 ^ 64 - 1)
+    → r.kept ≡ min (s.kept + kept) (2 ^ 64 - 1) → AreSeeks plan s → AreSeeks plan r
+seeks_more plan s r used most kept l same few is_used is_most is_kept a =
+    let room : ℕ = seek_room plan in
     let p : (a.begun + 1) * plan.seek ≡ a.begun * plan.seek + 1 * plan.seek = add-mul a.begun 1 plan.seek in
+    let q : (a.begun + 1) * room ≡ a.begun * room + 1 * room = add-mul a.begun 1 room in
     record {
       begun = a.begun + 1;
       all = omega (arith, p, same, is_most, a.all);
       within = omega (arith, l, is_used, is_most, a.within);
+      kept = kept_more (a.begun * room) room s.kept kept r.kept ((a.begun + 1) * room) q few is_kept a.kept;
     }
 
 -- the entries from a place on are all at X
@@ -111,8 +119,10 @@ module _ (m : ℕ) (plan : Plan) (old : BookView) (earlier : Seeks) where
   -- a seek that adds no entry
   pub nothing_sought : (s : SoughtBook) → s.book ≡ old → IsReserved old → s.paid ≡ 0
       → ((b : Assignment) → s.found ≡ Some b → IsRight old.about.kind old.about.line old.about.cycle b
-      × (b.stations ≤ m)) → (AreSeeks plan earlier → AreSeeks plan s.seeks) → HasSoughtBook m plan old earlier s
-  nothing_sought s is reserved paid found seeks =
+      × (b.stations ≤ m)) → (AreSeeks plan earlier → AreSeeks plan s.seeks)
+      → (AreSeeks plan earlier → s.seeks.kept ≡ min (earlier.kept + 0) (2 ^ 64 - 1))
+      → HasSoughtBook m plan old earlier s
+  nothing_sought s is reserved paid found seeks kept =
       let R : BookView → Type 0 = λ z. IsReserved z in
       record {
         about = ap (λ (z : BookView). z.about) is;
@@ -122,32 +132,44 @@ module _ (m : ℕ) (plan : Plan) (old : BookView) (earlier : Seeks) where
         entries = ap (λ (z : BookView). z.state.entries) is ∙ sym (append-nil old.state.entries);
         cycles = λ k e g. absurd (cc);
         few = omega arith;
+        lemmas = [];
+        lemmas_at = λ k e g. absurd (cc);
+        lemmas_few = omega arith;
+        taking = untaken old;
+        taken = refl;
+        took = sym is;
+        added = omega arith;
         units = 0;
         counted = refl;
         paid = omega arith;
         within = omega (arith, paid);
         found = found;
         seeks = seeks;
+        kept = kept;
       }
 
   -- a seek that found a balance
   pub balance_sought : (line : Line) (best : Assignment) (s : SoughtBook) → old.about.line ≡ line → s.book ≡ old
       → IsReserved old → s.paid ≡ 0 → s.found ≡ Some best → IsRight old.about.kind line old.about.cycle best
-      → best.stations ≤ m → (AreSeeks plan earlier → AreSeeks plan s.seeks) → HasSoughtBook m plan old earlier s
-  balance_sought line best s same is reserved paid found right few seeks =
+      → best.stations ≤ m → (AreSeeks plan earlier → AreSeeks plan s.seeks)
+      → (AreSeeks plan earlier → s.seeks.kept ≡ min (earlier.kept + 0) (2 ^ 64 - 1))
+      → HasSoughtBook m plan old earlier s
+  balance_sought line best s same is reserved paid found right few seeks kept =
       nothing_sought s is reserved paid (λ b e.
       let one : best ≡ b = same_Some best b (sym found ∙ e) in
       let L : Line → Type 0 = λ z. IsRight old.about.kind z old.about.cycle best in
       let B : Assignment → Type 0 =
       λ z. IsRight old.about.kind old.about.line old.about.cycle z × (z.stations ≤ m) in
-      subst B one (subst L (sym same) right, few)) seeks
+      subst B one (subst L (sym same) right, few)) seeks kept
 
   -- a seek of which lemmas are taken in
   pub lemmas_sought : (lemmas : List Entry) (room : ℕ) (t : Taking) (s : SoughtBook)
       → TakesAll room (untaken old) lemmas t → t.book ≡ s.book → t.units ≡ s.paid → room ≡ seek_room plan
-      → AreAtCycle old.about.cycle lemmas → IsReserved s.book → s.found ≡ None
-      → (AreSeeks plan earlier → AreSeeks plan s.seeks) → HasSoughtBook m plan old earlier s
-  lemmas_sought lemmas room t s all same_book same_units is_room at reserved none seeks =
+      → AreAtCycle old.about.cycle lemmas → length lemmas ≤ plan.seek + 1 → IsReserved s.book → s.found ≡ None
+      → (AreSeeks plan earlier → AreSeeks plan s.seeks)
+      → (AreSeeks plan earlier → s.seeks.kept ≡ min (earlier.kept + t.kept) (2 ^ 64 - 1))
+      → HasSoughtBook m plan old earlier s
+  lemmas_sought lemmas room t s all same_book same_units is_room at short reserved none seeks kept =
       let a : Adds room (untaken old) t = all_add room (untaken old) lemmas t all in
       let X : ℕ = old.about.cycle in
       let es : List Entry = old.state.entries in
@@ -163,10 +185,25 @@ module _ (m : ℕ) (plan : Plan) (old : BookView) (earlier : Seeks) where
         cycles = λ k e g. from (k + length es) e (omega arith)
             (ap (λ (z : List Entry). slice_get z (k + length es)) a.entries ∙ (get_behind es a.added k ∙ g));
         few = omega (arith, a.few, a.within (omega arith), is_room);
+        lemmas = lemmas;
+        lemmas_at = at;
+        lemmas_few = short;
+        taking = t;
+        taken = (let T : ℕ → Type 0 = λ z. TakesAll z (untaken old) lemmas t in subst T is_room all);
+        took = same_book;
+        added = omega (arith, a.few);
         units = a.units;
         counted = a.counted;
         paid = omega (arith, a.paid, same_units);
         within = omega (arith, same_units, a.spent (omega arith), is_room);
         found = λ b e. absurd (let c : None ≡ Some b = sym none ∙ e in cc);
         seeks = seeks;
+        kept = kept;
       }
+
+-- no more entries are kept than there is room for
+pub kept_within : (room : ℕ) (old : BookView) (lemmas : List Entry) (t : Taking) (kept : ℕ)
+    → TakesAll room (untaken old) lemmas t → t.kept ≡ kept → kept ≤ room
+kept_within room old lemmas t kept all is =
+    let a : Adds room (untaken old) t = all_add room (untaken old) lemmas t all in
+    omega (arith, a.within (omega arith), is)

@@ -26,8 +26,8 @@ use Rattle.round_run.specs.declared.closing.Verdict.TheVariants as verdict
 use Rattle.round_run.specs.declared.solving.Cause.TheVariants as cause
 use Rattle.cycle_search.specs.Outcomes.{IsRightIn, IsBelow}
 use Rattle.cycle_search.specs.Seek.{seek_room, try_room, AreSeeks}
-use Rattle.cycle_search.specs.inner.Searching.{AreOutside, IsKept, HasEnds, IsBetween, IsReopened, IsAsking}
-use Rattle.cycle_search.specs.inner.Searching.{HasSought, HasAsked, HasListed, IsStuck, IsCloser}
+use Rattle.cycle_search.specs.inner.Searching.{AreOutside, AreOutsideBut, IsKept, HasEnds, IsBetween, IsReopened}
+use Rattle.cycle_search.specs.inner.Searching.{IsAsking, HasSought, HasAsked, HasListed, IsStuck, IsCloser}
 use Rattle.cycle_search.specs.declared.halving.Halving.{Halving}
 use Rattle.cycle_search.specs.declared.seek.Seeks.{Seeks}
 use Rattle.cycle_search.proofs.SeekFacts.{no_room}
@@ -312,6 +312,21 @@ module _ (kind : LineKind) (line : Line) (m : ℕ) (plan : Plan) (X : ℕ) (old 
         subst P (sym h.entries) (both_outside lower upper lower upper X old.book.state.entries h.gained (omega arith)
         (omega arith) x (asking_outside kind line m plan X old a lower upper l u x) gained_at)
 
+    -- between the ends entries are at the tried cycle alone
+    but_here : AreOutsideBut new.lower new.upper new.book.about.cycle new.book.state.entries
+    but_here k e g n =
+        let P : List Entry → Type 0 = λ z. slice_get z k ≡ Some e in
+        elim (get_append_cases old.book.state.entries h.gained k e (subst P h.entries g)) [
+          | inl p ↦ elim (get_append_cases a.before a.sought k e (subst P a.entries p)) [
+            | inl b ↦ elim (a.outside k e b) [
+              | inl below ↦ inl (omega (arith, below, h.lower))
+              | inr above ↦ inr (omega (arith, above, h.upper))
+            ]
+            | inr s ↦ absurd (n (a.cycles s.0 e s.1 ∙ sym cycle_now))
+          ]
+          | inr r ↦ absurd (n (gained_at r.0 e r.1 ∙ sym cycle_now))
+        ]
+
     -- the book is no shorter
     added_behind : length old.book.state.entries ≤ length new.book.state.entries
     added_behind = omega (
@@ -472,6 +487,7 @@ module _ (kind : LineKind) (line : Line) (m : ℕ) (plan : Plan) (X : ℕ) (old 
           from = omega (arith, a.from, h.lower, same);
           to = omega (arith, a.to, h.upper, same);
           stations = a.stations;
+          outside = but_here v h;
           few = few_now v h;
           begun = added_behind v h;
           published = a.units + a.sought_units + h.published;
@@ -497,6 +513,7 @@ module _ (kind : LineKind) (line : Line) (m : ℕ) (plan : Plan) (X : ℕ) (old 
         from = omega (arith, a.from, h.lower, same);
         to = omega (arith, a.to, h.upper, same);
         stations = a.stations;
+        outside = but_here v h;
         few = few_now v h;
         begun = added_behind v h;
         published = a.units + a.sought_units + h.published;

@@ -16,7 +16,8 @@ use Rattle.line_rules.specs.declared.types.Certificate.{Certificate}
 use Rattle.entry_lists.specs.Trim.{IsTrimmed}
 use Rattle.round_run.specs.declared.plans.Plan.{Plan}
 use Rattle.round_run.specs.Certified.{max_units}
-use Rattle.cycle_search.specs.Outcomes.{IsRightIn, IsSpent}
+use Rattle.cycle_search.specs.Outcomes.{IsRightIn, AreSome, IsSpent}
+use Rattle.cycle_search.specs.Seek.{try_room}
 
 -- a certificate about the least cycle in m stations, with a claim
 abbrev pub about_cycle : LineKind → Line → ℕ → Claim → Certificate
@@ -41,12 +42,15 @@ AreCycleProof line m c es =
     (c ≡ 1 → es ≡ []) × (1 < c → (whole : List Entry) × IsTrimmed whole (all_tasks line) m (c - 1) es)
 
 -- The certificate of the least cycle c: both its bounds are c, it has no trail, and its entries are the proof alone.
-pub record IsOptimum (kind : LineKind) (line : Line) (m c : ℕ) (b : Assignment) (cert : Certificate) : Type 0 where
+-- They are no more than a search by the plan may have, and so are their units.
+pub record IsOptimum (kind : LineKind) (line : Line) (m : ℕ) (plan : Plan) (c : ℕ) (b : Assignment)
+    (cert : Certificate) : Type 0 where
   pub entries : List Entry
   pub units : ℕ
   pub certified : IsCertified kind line m c c b entries None units cert
   pub least : IsLeastCycle kind line m c
   pub proof : AreCycleProof line m c entries
+  pub some : AreSome line (try_room plan) entries None
 
 -- The certificate of a search whose units ended at a tried cycle: its bounds differ, and it has the entries and the
 -- trail of the search, on which all units of that try were spent.

@@ -70,7 +70,8 @@ pub record IsStopped (kind : LineKind) (line : Line) (m : ℕ) (plan : Plan) (lo
 -- cycle X between the bounds, valid from the question of all tasks in m stations, and open over the entries. These are
 -- fresh at X. The entries from a number `closing_from` on and the trail have at least N units at X, and exactly so many
 -- where there are no helpers. All entries and the trail have no fewer at X, and as many where no seek is asked for. N is
--- below what the budget law allows.
+-- below what the budget law allows. No entry refutes a balance at the lower bound itself: it is the best one that the
+-- entries show.
 pub record IsSpent (kind : LineKind) (line : Line) (m : ℕ) (plan : Plan) (lower upper : ℕ) (b : Assignment)
     (es : List Entry) (trail : Trail) (closing_from : ℕ) : Type 0 where
   pub stopped : IsStopped kind line m plan lower upper b es trail
@@ -90,6 +91,7 @@ pub record IsSpent (kind : LineKind) (line : Line) (m : ℕ) (plan : Plan) (lowe
   pub more : units ≤ whole
   pub unsought : plan.seek ≡ 0 → whole ≡ units
   pub budget : plan.units < (tasks line + 1) * states kind ^ tasks line
+  pub tight : HasAnswer es (all_tasks line) m lower → ⊥
 
 -- What is answered for m stations: the least cycle; or bounds, where the units of a try ended or memory did; and what
 -- the seeks of the search come to. Out of memory is free.

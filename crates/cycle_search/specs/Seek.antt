@@ -7,6 +7,7 @@ use Rattle.line_rules.specs.declared.types.Entry.{Entry}
 use Rattle.lemma_core.specs.Books.{BookView, IsReserved}
 use Rattle.round_helpers.specs.Growth.{AreAtCycle}
 use Rattle.round_run.specs.declared.plans.Plan.{Plan}
+use Rattle.warm_book.specs.Warm.{Taking, TakesAll, untaken}
 use Rattle.cycle_search.specs.declared.seek.Seeks.{Seeks}
 use Rattle.cycle_search.specs.declared.seek.SoughtBook.{SoughtBook}
 
@@ -19,16 +20,18 @@ seek_room plan = cond (nat_eq plan.seek 0) 0 (2500000 - 2 * plan.units)
 abbrev pub try_room : Plan → ℕ
 try_room plan = 2 * plan.units + seek_room plan
 
--- The seeks of a search: so many were begun, each with the loads of the plan; and they listed no more. The counts stand
--- still at 2^64 - 1. Own.
+-- The seeks of a search: so many were begun, each with the loads of the plan; they listed no more, and kept no more
+-- entries than there is room for in so many tries. The counts stand still at 2^64 - 1. Own.
 pub record AreSeeks (plan : Plan) (s : Seeks) : Type 0 where
   pub begun : ℕ
   pub all : s.most ≡ min (begun * plan.seek) (2 ^ 64 - 1)
   pub within : s.used ≤ s.most
+  pub kept : s.kept ≤ min (begun * seek_room plan) (2 ^ 64 - 1)
 
--- A seek for m stations over a book: the book gained entries at its cycle, no more than there is room for, and of no
--- more units than are told, which the room holds too; a balance that was found is right, and has at most m stations;
--- and the seeks of the search are still such. Own.
+-- A seek for m stations over a book: the book took in some lemmas at its cycle, at most one more than the loads of the
+-- plan, and so gained entries, no more than there is room for, and of no more units than are told, which the room holds
+-- too. A balance that was found is right, and has at most m stations. The seeks of the search are still such, and their
+-- count of kept entries grew by the number of these lemmas that the book kept. Own.
 pub record HasSoughtBook (m : ℕ) (plan : Plan) (old : BookView) (earlier : Seeks) (s : SoughtBook) : Type 0 where
   pub about : s.book.about ≡ old.about
   pub best : s.book.state.best ≡ old.state.best
@@ -37,6 +40,13 @@ pub record HasSoughtBook (m : ℕ) (plan : Plan) (old : BookView) (earlier : See
   pub entries : s.book.state.entries ≡ old.state.entries ++ gained
   pub cycles : AreAtCycle old.about.cycle gained
   pub few : length gained ≤ seek_room plan
+  pub lemmas : List Entry
+  pub lemmas_at : AreAtCycle old.about.cycle lemmas
+  pub lemmas_few : length lemmas ≤ plan.seek + 1
+  pub taking : Taking
+  pub taken : TakesAll (seek_room plan) (untaken old) lemmas taking
+  pub took : taking.book ≡ s.book
+  pub added : length gained ≤ taking.kept
   pub units : ℕ
   pub counted : UnitsOf old.about.line gained units
   pub paid : units ≤ s.paid
@@ -44,3 +54,4 @@ pub record HasSoughtBook (m : ℕ) (plan : Plan) (old : BookView) (earlier : See
   pub found : (b : Assignment) → s.found ≡ Some b
       → IsRight old.about.kind old.about.line old.about.cycle b × (b.stations ≤ m)
   pub seeks : AreSeeks plan earlier → AreSeeks plan s.seeks
+  pub kept : AreSeeks plan earlier → s.seeks.kept ≡ min (earlier.kept + taking.kept) (2 ^ 64 - 1)

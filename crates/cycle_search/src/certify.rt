@@ -72,7 +72,9 @@ pub fn certify_cycle(
     requires few { stations ≤ 1024 }
     requires solved { (plan : Plan) × (plan.units ≤ 3000000)
         × IsSolved kind inst.now stations plan cycle balance entries }
-    ensures { IfOk result (IsOptimum kind inst.now stations cycle balance) }
+    ensures { IfOk result (λ cert. (plan : Plan) → plan.units ≤ 3000000
+        → IsSolved kind inst.now stations plan cycle balance entries
+        → IsOptimum kind inst.now stations plan cycle balance cert) }
 {
     let entries = proof_of(alloc, entries, inst.tasks(), stations, cycle)?;
     let claim = Claim::Bounds {

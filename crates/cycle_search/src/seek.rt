@@ -4,7 +4,7 @@
 //! There is none where the question is answered already: where the bound exceeds the stations, or an entry of the book
 //! or pairs refute them. So a seek is begun only where a search would be. It costs at most the loads of the plan, and
 //! the walks over the lemmas that are taken in.
-ghost use Rattle.std.specs.Prelude.{◌≡◌, ◌≤◌, IfOk};
+ghost use Rattle.std.specs.Prelude.{◌≡◌, ◌≤◌, ◌+◌, ◌-◌, ◌^◌, min, IfOk};
 ghost use Rattle.line_rules.specs.Ranges.{IsCycle};
 ghost use Rattle.lemma_core.specs.Books.{IsReserved};
 ghost use Rattle.round_run.specs.Plans.{IsPlan};
@@ -63,7 +63,9 @@ impl Seeks {
     /// With one more seek, which listed so many of its loads, and so many kept entries.
     fn with(self, used: u64, most: u64, kept: u64) -> Seeks
         requires within { used ≤ most }
-        ensures seeks { (plan : Planned) → plan.seek ≡ most → AreSeeks plan self → AreSeeks plan result }
+        ensures seeks { (plan : Planned) → plan.seek ≡ most → kept ≤ seek_room plan → AreSeeks plan self
+            → AreSeeks plan result }
+        ensures kept { result.kept ≡ min (self.kept + kept) (2 ^ 64 - 1) }
     {
         Seeks {
             used: self.used.saturating_add(used),

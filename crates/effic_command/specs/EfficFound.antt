@@ -28,7 +28,7 @@ idle_of line cert = idle_time line cert.cycle cert.balance.stations
 -- them tells of the seeks, where the plan has them.
 pub record IsOptimal (naming : Naming) (kind : LineKind) (line : Line) (least most : ℕ) (plan : Plan) (cert : EfficCert)
     (text : List ℕ) : Type 0 where
-  pub solved : IsSolved kind line least most cert
+  pub solved : IsSolved kind line least most plan cert
   pub seeks : Seeks
   pub counted : AreSeeks plan seeks
   pub printed : text ≡ seek_text plan.seek seeks.used seeks.most seeks.kept

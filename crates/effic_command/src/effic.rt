@@ -55,7 +55,7 @@ fn optimal(
     seeks: Seeks,
 ) -> Result<Report, AllocError>
     requires { IsSayable cert }
-    ensures { IfOk result (λ r. (kind : Kind) → (least most : ℕ) → IsSolved kind inst.now least most cert
+    ensures { IfOk result (λ r. (kind : Kind) → (least most : ℕ) → IsSolved kind inst.now least most plan.now cert
         → AreSeeks plan.now seeks
         → IsFound (least_product naming.now kind inst.now least most plan.now) r.status r.text.items r.kept) }
 {

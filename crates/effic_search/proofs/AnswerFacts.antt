@@ -25,37 +25,55 @@ use Rattle.cycle_search.specs.rounds.declared.closing.Verdict.{Verdict}
 use Rattle.cycle_search.specs.rounds.declared.closing.Verdict.TheVariants as verdict
 use Rattle.cycle_search.specs.rounds.declared.plans.Plan.{Plan}
 use Rattle.cycle_search.specs.Asking.{ListsAll}
-use Rattle.cycle_search.specs.Seek.{AreSeeks, seek_room}
+use Rattle.cycle_search.specs.Seek.{AreSeeks, seek_room, try_room}
 use Rattle.cycle_search.specs.declared.seek.Seeks.{Seeks}
 use Rattle.effic_check.specs.Accepted.{IsClosed, cycle_below}
 use Rattle.effic_search.specs.Counted.{AreFew, IsWithin, others}
 use Rattle.effic_search.specs.NextTry.{IsNextTry}
 use Rattle.effic_search.specs.Since.{IsSinceGoal}
-use Rattle.effic_search.specs.inner.Going.{IsLowering, IsGoing, IsTry, IsLeftAt, IsStuck, IsImproved, HasSought}
-use Rattle.effic_search.specs.inner.Going.{HasAsked, EndsWith, product_of, entries_of}
+use Rattle.effic_search.specs.inner.Going.{IsLowering, IsGoing, IsTry, IsPaid, IsLeftAt, IsStuck, IsImproved}
+use Rattle.effic_search.specs.inner.Going.{HasSought, HasAsked, EndsWith, product_of, entries_of}
+use Rattle.effic_search.specs.declared.counting.Listed.{Listed}
 use Rattle.effic_search.specs.declared.lowering.Lowering.{Lowering}
 use Rattle.effic_search.proofs.ListFacts.{ends_split, last_added, get_behind}
 use Rattle.effic_search.proofs.SinceFacts.{since_goal, since_more}
-use Rattle.effic_search.proofs.TryFacts.{first_frame, left_cycle, ranked_going}
+use Rattle.cycle_search.proofs.Results.{first_frame}
+use Rattle.effic_search.proofs.TryFacts.{left_cycle, ranked_going}
 use Rattle.cycle_search.proofs.SeekFacts.{room_limit}
 use Rattle.effic_search.proofs.GainFacts.{HasGained, sought_gains, asked_gains, gains_both, both_at}
 use Rattle.effic_search.proofs.GainFacts.{about_now, gained_lowering, near_now, closed_now, clear_other, found_going}
 use Rattle.cycle_search.proofs.SeekFacts.{try_limit}
-use Rattle.effic_search.proofs.GainFacts.{product_now, none_sought}
+use Rattle.effic_search.proofs.GainFacts.{product_now, paid_now, none_sought}
 
--- another balance leaves the seeks alone
-pub seeks_stay : (plan : Plan) (old new : Lowering) → new.seeks ≡ old.seeks → AreSeeks plan old.seeks
-    → AreSeeks plan new.seeks
-seeks_stay plan old new same are = let S : Seeks → Type 0 = λ z. AreSeeks plan z in subst S (sym same) are
+-- another balance leaves what was taken alone
+paid_stays : (kind : LineKind) (line : Line) (m X : ℕ) (plan : Plan) (old new : Lowering)
+    → IsImproved kind line m X old new → IsPaid plan old → IsPaid plan new
+paid_stays kind line m X plan old new i p =
+    let S : Seeks → Type 0 = λ z. AreSeeks plan z in
+    record {
+      seeks = subst S (sym i.seeks) p.seeks;
+      units = omega (arith, p.units, ap (λ (z : Listed). z.units) i.listed);
+      entries = omega (arith, p.entries, ap (λ (z : Listed). z.entries) i.listed);
+      many = omega (arith, p.many, ap (λ (z : BookView). length z.state.entries) i.book);
+    }
 
 module _ (kind : LineKind) (line : Line) (least most m X : ℕ) (plan : Plan) (old : Lowering) (some : 1 ≤ least)
     (limit : plan.units ≤ 3000000) (t : IsTry kind line least most m X plan old) where
+  -- the book is small enough for the try, so what was taken is what the plan allows
+  try_pays : IsPaid plan old
+  try_pays = record {
+    seeks = t.seeks;
+    units = omega (arith, t.small);
+    entries = omega (arith, t.short);
+    many = omega (arith, t.room);
+  }
+
   -- the ranked balance has few enough stations
   pub ranked_found : (better : Lowering) → IsImproved kind line m X old better
-      → (IsGoing kind line least most m better × (product_of better < product_of old)) × AreSeeks plan better.seeks
+      → (IsGoing kind line least most m better × (product_of better < product_of old)) × IsPaid plan better
   ranked_found better i = (
     ranked_going kind line least most m X old better some t.going t.left i,
-    seeks_stay plan old better i.seeks t.seeks,
+    paid_stays kind line m X plan old better i try_pays,
   )
 
   -- the book before the try was small enough for it
@@ -99,8 +117,13 @@ module _ (kind : LineKind) (line : Line) (least most m X : ℕ) (plan : Plan) (o
         let P : ℕ → Type 0 = λ z. IsCycle z in
         subst P (sym sought_cycle) (left_cycle kind line least most m X old t.going.lowering t.left)
 
-    pub sought_seeks : AreSeeks plan mid.seeks
+    sought_seeks : AreSeeks plan mid.seeks
     sought_seeks = let P : Seeks → Type 0 = λ z. AreSeeks plan z in subst P s.seeks (s.does.seeks t.seeks)
+
+    sought_pays : IsPaid plan mid
+    sought_pays =
+        paid_now kind line least most m X (seek_room plan) (seek_room plan) plan old mid some t sought_few sought_paid
+        sought_gain (omega arith) (omega arith) sought_seeks
 
     -- a balance that it found is right
     pub sought_right : (b : Assignment) → found ≡ Some b → IsRight kind line X b × (b.stations ≤ m)
@@ -112,11 +135,11 @@ module _ (kind : LineKind) (line : Line) (least most m X : ℕ) (plan : Plan) (o
         (subst P about r.0, r.1)
 
     pub sought_found : (better : Lowering) → IsImproved kind line m X mid better
-        → (IsGoing kind line least most m better × (product_of better < product_of old)) × AreSeeks plan better.seeks
+        → (IsGoing kind line least most m better × (product_of better < product_of old)) × IsPaid plan better
     sought_found better i = (
       found_going kind line least most m X (seek_room plan) (seek_room plan) plan old mid some t sought_few sought_paid
           sought_gain better i,
-      seeks_stay plan mid better i.seeks sought_seeks,
+      paid_stays kind line m X plan mid better i sought_pays,
     )
 
     -- the question was asked
@@ -158,8 +181,11 @@ module _ (kind : LineKind) (line : Line) (least most m X : ℕ) (plan : Plan) (o
       pub some_new : 1 ≤ new.book.about.cycle
       some_new = omega (arith, cycle_new, t.left.some)
 
-      pub asked_seeks : AreSeeks plan new.seeks
-      asked_seeks = seeks_stay plan mid new h.seeks sought_seeks
+      asked_pays : IsPaid plan new
+      asked_pays =
+          let P : Seeks → Type 0 = λ z. AreSeeks plan z in
+          paid_now kind line least most m X many paid plan old new some t all_few all_paid gain (omega arith)
+          (omega arith) (subst P (sym h.seeks) sought_seeks)
 
       pub asked_lowering : IsLowering kind line least most new
       asked_lowering =
@@ -185,13 +211,12 @@ module _ (kind : LineKind) (line : Line) (least most m X : ℕ) (plan : Plan) (o
           subst Q h.book (subst P (h.verdict ∙ e) h.does.answer)
 
       pub found_after : (better : Lowering) → IsImproved kind line m new.book.about.cycle new better
-          → (IsGoing kind line least most m better × (product_of better < product_of old))
-          × AreSeeks plan better.seeks
+          → (IsGoing kind line least most m better × (product_of better < product_of old)) × IsPaid plan better
       found_after better i =
           let P : ℕ → Type 0 = λ z. IsImproved kind line m z new better in (
             found_going kind line least most m X many paid plan old new some t all_few all_paid gain better
                 (subst P cycle_new i),
-            seeks_stay plan new better i.seeks asked_seeks,
+            paid_stays kind line m new.book.about.cycle plan new better i asked_pays,
           )
 
       refuted_answer : v ≡ verdict.Refuted → HasAnswer (entries_of new) (all_tasks line) m X
@@ -212,12 +237,12 @@ module _ (kind : LineKind) (line : Line) (least most m X : ℕ) (plan : Plan) (o
           none_old (subst P (append-nil (entries_of old)) (subst Q none (subst P gain.entries a)))
 
       -- memory ended, or the last entry isn't as it should be
-      pub left_as : IsLowering kind line least most new × AreSeeks plan new.seeks
-      left_as = (asked_lowering, asked_seeks)
+      pub left_as : IsLowering kind line least most new × IsPaid plan new
+      left_as = (asked_lowering, asked_pays)
 
       -- the question was refuted, and the last entry is of all tasks
       pub refuted_going : v ≡ verdict.Refuted → EndsWith (entries_of new) (all_tasks line)
-          → IsGoing kind line least most (m + 1) new × AreSeeks plan new.seeks
+          → IsGoing kind line least most (m + 1) new × IsPaid plan new
       refuted_going refuted ends =
           let answer : HasAnswer (entries_of new) (all_tasks line) m X = refuted_answer refuted in
           let L : List Entry → Type 0 = λ z. length z ≡ suc ends.before in
@@ -248,7 +273,7 @@ module _ (kind : LineKind) (line : Line) (least most m X : ℕ) (plan : Plan) (o
                 | inr n ↦ closed_new s from (omega (arith, to, n))
               ];
             },
-            asked_seeks,
+            asked_pays,
           )
 
       -- the units ended, and no entry that the round added is of all tasks
@@ -346,7 +371,7 @@ module _ (kind : LineKind) (line : Line) (least most m X : ℕ) (plan : Plan) (o
             subst P (h.verdict ∙ spent) h.does.all
 
         pub spent_stuck : (closing_from : ℕ) → closing_from ≡ length (entries_of mid) → m < tasks line
-            → IsStuck kind line least most plan new frames closing_from × AreSeeks plan new.seeks
+            → IsStuck kind line least most plan new frames closing_from × IsPaid plan new
         spent_stuck closing_from from few =
             let same : X ≡ new.book.about.cycle = sym cycle_new in
             let G : ℕ → Type 0 = λ z. IsSinceGoal line z (entries_of new) h.does.gained in
@@ -396,8 +421,9 @@ module _ (kind : LineKind) (line : Line) (least most m X : ℕ) (plan : Plan) (o
                 entry_units = entry_units_now;
                 frame_units = frame_units_now;
                 within = omega (arith, h.does.paid, h.does.within, limit);
+                twice = omega (arith, h.does.paid, h.does.within);
                 all = lists.0;
                 alone = lists.1;
               },
-              asked_seeks,
+              asked_pays,
             )

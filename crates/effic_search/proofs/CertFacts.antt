@@ -36,10 +36,10 @@ use Rattle.line_rules.specs.declared.products.EfficCert.{EfficCert}
 use Rattle.effic_check.specs.Accepted.{IsAccepted, HasTrail}
 use Rattle.effic_check.specs.Truth.{NoneBelow}
 use Rattle.effic_check.proofs.AcceptedIsTrue.{between}
-use Rattle.effic_search.specs.Counted.{others}
+use Rattle.effic_search.specs.Counted.{others, ArePaid}
 use Rattle.effic_search.specs.Since.{IsSinceGoal}
 use Rattle.effic_search.specs.inner.Going.{HaveCycles, IsLowering, IsGoing, IsLeftAt, IsDue, IsStuck, HasTrailBy}
-use Rattle.effic_search.specs.inner.Going.{HasFewUnits}
+use Rattle.effic_search.specs.inner.Going.{IsPaid, HasFewUnits}
 use Rattle.effic_search.specs.inner.Going.{product_of, entries_of}
 use Rattle.effic_search.specs.Lowest.{IsLowest, IsAtLeastFirst}
 use Rattle.effic_search.specs.NextTry.{IsNextTry}
@@ -283,8 +283,9 @@ module _ (kind : LineKind) (line : Line) (least most : ℕ) (plan : Plan) (h : L
 -- the bounds of a certificate met, or they differ
 module _ (kind : LineKind) (line : Line) (least most : ℕ) (cert : EfficCert)
     (c : IsCertified kind line least most cert) where
-  pub met_is : cert.trail ≡ None → cert.lower ≡ cert.upper → IsSolved kind line least most cert
-  met_is none same =
+  pub met_is : (plan : Plan) → cert.trail ≡ None → cert.lower ≡ cert.upper → ArePaid line plan cert.entries
+      → IsSolved kind line least most plan cert
+  met_is plan none same paid =
       let P : ℕ → Type 0 = λ z. NoneBelow kind line least most z in
       record {
         certified = c;
@@ -294,6 +295,7 @@ module _ (kind : LineKind) (line : Line) (least most : ℕ) (cert : EfficCert)
           reached = c.true_bounds.reached;
           least_one = subst P same c.true_bounds.none;
         };
+        paid = paid;
       }
 
   pub cut_is : (cert.lower ≡ cert.upper → ⊥) → IsCutShort kind line least most cert.lower cert.upper
@@ -322,13 +324,28 @@ module _ (kind : LineKind) (line : Line) (least most : ℕ) (h : Lowering) (ok :
       let Q : List Entry → Type 0 = λ z. IsLowest line z least (most + 1) (product_of h) cert.lower in
       subst Q entries (subst P upper c.lowest)
 
+  -- the entries are those that a search by the plan may have
+  pub paid_is : (plan : Plan) → IsLowering kind line least most h → IsPaid plan h → ArePaid line plan cert.entries
+  paid_is plan l p =
+      let U : List Entry → Type 0 = λ z. UnitsOf line z h.listed.units in
+      let all : take (length (entries_of h)) (entries_of h) ≡ cert.entries =
+      take-length (entries_of h) ∙ sym entries in
+      record {
+        units = h.listed.units;
+        counted = subst U all l.counted.units;
+        within = p.units;
+        short = omega (arith, p.entries, l.counted.entries, ap (λ (z : List Entry). others z) all);
+        many = omega (arith, p.many, ap (λ (z : List Entry). length z) entries);
+      }
+
   -- each number of stations is closed: both bounds meet
-  pub solved_is : cert.trail ≡ None → IsGoing kind line least most (most + 1) h → IsSolved kind line least most cert
-  solved_is none going =
+  pub solved_is : cert.trail ≡ None → (plan : Plan) → IsGoing kind line least most (most + 1) h × IsPaid plan h
+      → IsSolved kind line least most plan cert
+  solved_is none plan (going, paid) =
       let meet : cert.lower ≡ product_of h =
       lowest_meets line (entries_of h) least (most + 1) (product_of h) cert.lower lowest_here
       (λ m from to. going.closed m from to) some in
-      met_is kind line least most cert c none (meet ∙ sym upper)
+      met_is kind line least most cert c plan none (meet ∙ sym upper) (paid_is plan going.lowering paid)
 
   left_below : (m X : ℕ) → IsLeftAt line least most m X h → cert.lower < cert.upper
   left_below m X left = omega (
@@ -348,9 +365,9 @@ module _ (kind : LineKind) (line : Line) (least most : ℕ) (h : Lowering) (ok :
 
   -- the book was too large
   pub large_is : IsRanked line → cert.trail ≡ None → (closing_from : ℕ) → closing_from ≡ length (entries_of h)
-      → IsFresh (entries_of h) → IsDerived kind line (entries_of h) → IsDue kind line least most h
-      → IsLarge kind line least most cert closing_from
-  large_is ranked none closing_from from fresh derived due =
+      → IsFresh (entries_of h) → IsDerived kind line (entries_of h) → (plan : Plan)
+      → IsDue kind line least most h × IsPaid plan h → IsLarge kind line least most plan cert closing_from
+  large_is ranked none closing_from from fresh derived plan (due, paid) =
       let F : List Entry → Type 0 = λ z. IsFresh z in
       let U : List Entry → Type 0 = λ z. UnitsOf line z h.listed.units in
       let H : List Entry → Type 0 = λ z. HaveCycles line z in
@@ -381,14 +398,16 @@ module _ (kind : LineKind) (line : Line) (least most : ℕ) (h : Lowering) (ok :
         budget = large_budget kind line ok ranked (entries_of h) derived fresh due.lowering.cycles due.lowering.behind
             h.listed.units
             (subst U whole due.lowering.counted.units) large;
+        paid = paid_is plan due.lowering paid;
       }
 
   -- the units of a try ended
   pub spent_is : IsRanked line → (plan : Plan) (frames : List OpenFrame) (trail : Trail)
       → trail ≡ record { cycle = h.book.about.cycle; frames = frames } → cert.trail ≡ Some trail
       → (closing_from : ℕ) → IsFresh (entries_of h) → IsDerived kind line (entries_of h)
-      → IsStuck kind line least most plan h frames closing_from → IsSpent kind line least most plan cert closing_from
-  spent_is ranked plan frames trail is has closing_from fresh derived s =
+      → IsStuck kind line least most plan h frames closing_from × IsPaid plan h
+      → IsSpent kind line least most plan cert closing_from
+  spent_is ranked plan frames trail is has closing_from fresh derived (s, paid) =
       let X : ℕ = h.book.about.cycle in
       let t : Trail = record { cycle = X; frames = frames } in
       let es : List Entry = entries_of h in
@@ -442,8 +461,10 @@ module _ (kind : LineKind) (line : Line) (least most : ℕ) (h : Lowering) (ok :
         entry_units = s.entry_units;
         frame_units = subst V (sym is) s.frame_units;
         all = s.all;
+        twice = s.twice;
         alone = s.alone;
         budget = omega (arith, few, s.all);
+        paid = paid_is plan s.lowering paid;
       }
 
 -- the certificate of a search that stopped is one of the question

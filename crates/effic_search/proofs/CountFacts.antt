@@ -14,7 +14,7 @@ use Rattle.line_rules.proofs.Monotone.{entries_same}
 use Rattle.line_rules.proofs.ListFacts.{drop_next, take_next}
 use Rattle.line_rules.proofs.ListUnits.{units_both}
 
-others_both : (xs ys : List Entry) → others (xs ++ ys) ≡ others xs + others ys
+pub others_both : (xs ys : List Entry) → others (xs ++ ys) ≡ others xs + others ys
 others_both [] ys = omega arith
 others_both (x ∷ xs) ys = omega (arith, others_both xs ys)
 

@@ -19,15 +19,16 @@ use Rattle.round_helpers.specs.Growth.{AreAtCycle}
 use Rattle.cycle_search.specs.rounds.declared.closing.Verdict.{Verdict}
 use Rattle.cycle_search.specs.rounds.declared.plans.Plan.{Plan}
 use Rattle.cycle_search.specs.Ends.{first_lower, first_upper}
-use Rattle.cycle_search.specs.Seek.{seek_room}
+use Rattle.cycle_search.specs.Seek.{AreSeeks, seek_room, try_room}
 use Rattle.effic_check.specs.Accepted.{IsClosed, cycle_below}
-use Rattle.effic_search.specs.Counted.{IsCounted, IsWithin}
+use Rattle.effic_search.specs.Counted.{IsCounted, IsWithin, others}
 use Rattle.effic_search.specs.Since.{IsSinceGoal}
 use Rattle.effic_search.specs.inner.Going.{IsFloored, HaveCycles, HaveCyclesBehind, IsTight, IsLowering, IsGoing}
-use Rattle.effic_search.specs.inner.Going.{IsTry, HasSought}
+use Rattle.effic_search.specs.inner.Going.{IsTry, IsPaid, HasSought}
 use Rattle.cycle_search.proofs.SeekFacts.{no_room}
 use Rattle.effic_search.specs.inner.Going.{HasAsked, IsImproved, product_of, entries_of}
 use Rattle.effic_search.specs.declared.lowering.Lowering.{Lowering}
+use Rattle.effic_search.proofs.CountFacts.{others_both, others_few}
 use Rattle.effic_search.proofs.SinceFacts.{since_other}
 use Rattle.effic_search.proofs.TryFacts.{below_upper, improved_going, product_less}
 
@@ -162,6 +163,36 @@ module _ (kind : LineKind) (line : Line) (least most m X many paid : ℕ) (plan 
       (subst after (take-length (entries_of new) ∙ h.entries) (subst C l.line_is h.counted).units)
       (units_both line (entries_of old) h.gained old.listed.units h.units
       (subst before (take-length (entries_of old)) l.counted.units) (subst L l.line_is h.entry_units))
+
+  -- and so are those that aren't by Bound
+  listed_now : new.listed.entries ≡ old.listed.entries + others h.gained
+  listed_now =
+      let C : Line → Type 0 = λ z. IsCounted z (entries_of new) (length (entries_of new)) new.listed in
+      let c : IsCounted line (entries_of new) (length (entries_of new)) new.listed = subst C l.line_is h.counted in
+      omega (
+        arith,
+        c.entries,
+        l.counted.entries,
+        ap (λ (z : List Entry). others z) (take-length (entries_of new) ∙ h.entries),
+        ap (λ (z : List Entry). others z) (take-length (entries_of old)),
+        others_both (entries_of old) h.gained,
+      )
+
+  -- what was taken is what the plan allows
+  pub paid_now : many ≤ try_room plan + 1 → paid ≤ try_room plan → AreSeeks plan new.seeks → IsPaid plan new
+  paid_now more pays seeks = record {
+    seeks = seeks;
+    units = omega (arith, units_now, h.within, pays, t.small);
+    entries = omega (arith, listed_now, others_few h.gained, h.few, more, t.short);
+    many = omega (
+      arith,
+      ap (λ (z : List Entry). length z) h.entries,
+      length-append (entries_of old) h.gained,
+      h.few,
+      more,
+      t.room,
+    );
+  }
 
   cycles_now : HaveCycles line (entries_of new)
   cycles_now =

@@ -32,12 +32,11 @@ use Rattle.lemma_core.specs.declared.types.Published.TheVariants as published
 use Rattle.lemma_core.proofs.Runs.{last_found}
 use Rattle.station_search.proofs.Events.{get_append_cases}
 use Rattle.cycle_search.specs.rounds.declared.plans.Plan.{Plan}
-use Rattle.cycle_search.specs.Seek.{AreSeeks}
-use Rattle.cycle_search.specs.declared.seek.Seeks.{Seeks}
+use Rattle.cycle_search.proofs.SeekFacts.{seeks_none}
 use Rattle.cycle_search.specs.Ends.{NoneApart, first_lower, first_upper, at_first}
 use Rattle.cycle_search.proofs.EndFacts.{first_right}
 use Rattle.effic_search.specs.Counted.{other, others, IsCounted}
-use Rattle.effic_search.specs.inner.Going.{IsFloored, IsTight, IsGoing}
+use Rattle.effic_search.specs.inner.Going.{IsFloored, IsTight, IsGoing, IsPaid}
 use Rattle.effic_search.specs.inner.Opening.{IsGoalByBound, AddsGoal, IsFirstBook}
 use Rattle.effic_search.specs.Since.{IsSinceGoal}
 use Rattle.effic_search.specs.declared.counting.Listed.{Listed}
@@ -263,8 +262,13 @@ going_begins kind line least most h ok none some order few book cycle limit bala
       closed = λ s from to. absurd (omega (arith, from, to));
     }
 
--- before its first try a search has no seek
-pub none_yet : (plan : Plan) (h : Lowering) → h.seeks ≡ record { used = 0; most = 0; kept = 0 } → AreSeeks plan h.seeks
-none_yet plan h none =
-    let S : Seeks → Type 0 = λ z. AreSeeks plan z in
-    subst S (sym none) (record { begun = 0; all = omega arith; within = omega arith })
+-- before its first try a search has no seek, no units, and entries by Bound alone
+pub none_taken : (kind : LineKind) (line : Line) (least most : ℕ) (h : Lowering) → most ≤ 1024
+    → IsFirstBook kind line least (most + 1) h.book → h.seeks ≡ record { used = 0; most = 0; kept = 0 }
+    → h.listed ≡ record { entries = 0; units = 0 } → (plan : Plan) → IsPaid plan h
+none_taken kind line least most h few book seeks listed plan = record {
+  seeks = seeks_none plan h.seeks seeks;
+  units = omega (arith, ap (λ (z : Listed). z.units) listed);
+  entries = omega (arith, ap (λ (z : Listed). z.entries) listed);
+  many = omega (arith, book.few, few);
+}

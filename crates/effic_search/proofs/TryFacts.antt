@@ -1,5 +1,5 @@
 -- What a try does to a search: it goes on, its units ended, or memory did.
-use Rattle.std.proofs.Common.{◌≡◌, ℕ, ◌+◌, ◌-◌, ◌*◌, ◌<◌, ◌≤◌, ◌⊎◌, Bool, List, [], ◌∷◌, ◌++◌, length}
+use Rattle.std.proofs.Common.{◌≡◌, ℕ, ◌+◌, ◌-◌, ◌*◌, ◌^◌, ◌<◌, ◌≤◌, ◌⊎◌, List, [], length}
 use Rattle.std.proofs.Common.{refl}
 use Rattle.std.proofs.Common.{sym, ap, ◌∙◌, subst, inl, inr, arith, Some}
 use Rattle.std.specs.Prelude.{slice_get}
@@ -11,10 +11,8 @@ use Rattle.line_rules.specs.Balance.{IsRight, all_tasks, seat}
 use Rattle.line_rules.specs.Bounds.{IsTooLong}
 use Rattle.line_rules.specs.Entries.{HasAnswer}
 use Rattle.line_rules.specs.Ranges.{IsCycle}
-use Rattle.line_rules.specs.Trails.{Leads, IsTrail}
 use Rattle.line_rules.specs.declared.types.LineKind.{LineKind}
 use Rattle.line_rules.specs.declared.types.Entry.{Entry}
-use Rattle.line_rules.specs.declared.types.OpenFrame.{OpenFrame}
 use Rattle.line_rules.specs.declared.types.Balance.{Balance as Assignment}
 use Rattle.line_rules.proofs.SubBalance.{restricted}
 use Rattle.lemma_core.specs.Machine.{About}
@@ -74,20 +72,6 @@ best_right kind line m about b line_is kind_is best few =
     let Q : LineKind → Type 0 = λ z. IsRight z line about.cycle b in
     (widened_right kind line m about.cycle b (subst Q kind_is (subst P line_is best.right)) few).right
 
--- a trail begins with its question
-module _ (kind : LineKind) (line : Line) (X : ℕ) (es : List Entry) (R : List Bool) (most : ℕ) where
-  first_of : (ps : List OpenFrame) (d : OpenFrame) → Leads kind line X es R most ps d.set d.most
-      → (f : OpenFrame) × (slice_get (ps ++ d ∷ []) 0 ≡ Some f) × (f.set ≡ R) × (f.most ≡ most)
-  first_of [] d l = (d, refl, l.0, l.1)
-  first_of (p ∷ ps) d l = (p, refl, l.1.0, l.1.1)
-
-  pub first_frame : (fs : List OpenFrame) → IsTrail kind line X es R most fs
-      → (f : OpenFrame) × (slice_get fs 0 ≡ Some f) × (f.set ≡ R) × (f.most ≡ most)
-  first_frame fs t =
-      let P : List OpenFrame → Type 0 = λ z. (f : OpenFrame) × (slice_get z 0 ≡ Some f) × (f.set ≡ R)
-      × (f.most ≡ most) in
-      subst P (sym t.all) (first_of t.passed t.deepest t.leads)
-
 module _ (kind : LineKind) (line : Line) (least most m X : ℕ) where
   -- a cycle that is left open is no less than the first lower end
   pub floor_of : (es : List Entry) → IsFloored line es m → 1 ≤ X → (HasAnswer es (all_tasks line) m X → ⊥)
@@ -114,6 +98,14 @@ product_some kind line least most h some l =
     let a : 1 * 1 ≤ h.balance.stations * h.cycle = mul-le 1 1 h.balance.stations h.cycle
     (omega (arith, some, l.from)) l.some in
     omega (arith, a)
+
+-- the cycle of a smaller product fits 64 bits
+pub below_limit : (kind : LineKind) (line : Line) (least most m : ℕ) (h : Lowering) → 1 ≤ least → least ≤ m
+    → IsLowering kind line least most h → cycle_below (product_of h) m < 2 ^ 64
+below_limit kind line least most m h some from l =
+    let near : m * cycle_below (product_of h) m < product_of h =
+    below_near (product_of h) m (product_some kind line least most h some l) in
+    omega (arith, below_upper kind line least most m (cycle_below (product_of h) m) h l from near, l.bounded)
 
 -- what is left open of a search before a try in m stations
 pub left_at : (kind : LineKind) (line : Line) (least most m X : ℕ) (h : Lowering) → 1 ≤ least → least ≤ m → m ≤ most

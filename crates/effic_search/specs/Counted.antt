@@ -5,6 +5,8 @@ use Rattle.line_rules.specs.Units.{UnitsOf}
 use Rattle.line_rules.specs.declared.types.Entry.{Entry}
 use Rattle.line_rules.specs.declared.types.Why.{Why}
 use Rattle.line_rules.specs.declared.types.Why.TheVariants as why
+use Rattle.cycle_search.specs.rounds.declared.plans.Plan.{Plan}
+use Rattle.cycle_search.specs.Seek.{try_room}
 use Rattle.effic_search.specs.declared.counting.Listed.{Listed}
 
 -- 1 for a reason other than Bound
@@ -37,3 +39,13 @@ pub record AreFew (line : Line) (es : List Entry) : Type 0 where
   pub counted : UnitsOf line es units
   pub small : units ≤ 4000000
   pub short : others es ≤ 4000000
+
+-- Entries that a search by a plan may have: those with which a try is made, and what one try may add. They have at most
+-- 4,000,000 units and those of a try. At most 4,000,001 and as many aren't by Bound, and with these there are at most
+-- 14,000,000 and as many.
+pub record ArePaid (line : Line) (plan : Plan) (es : List Entry) : Type 0 where
+  pub units : ℕ
+  pub counted : UnitsOf line es units
+  pub within : units ≤ 4000000 + try_room plan
+  pub short : others es ≤ 4000001 + try_room plan
+  pub many : length es ≤ 14000000 + try_room plan

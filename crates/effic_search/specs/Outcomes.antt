@@ -22,7 +22,7 @@ use Rattle.line_rules.specs.Products.{IsSayable}
 use Rattle.line_rules.specs.declared.products.EfficCert.{EfficCert}
 use Rattle.effic_check.specs.Accepted.{IsAccepted}
 use Rattle.effic_check.specs.Truth.{IsBetween, IsLeastProduct}
-use Rattle.effic_search.specs.Counted.{others, AreFew, IsWithin}
+use Rattle.effic_search.specs.Counted.{others, AreFew, ArePaid, IsWithin}
 use Rattle.effic_search.specs.Lowest.{IsLowest, IsAtLeastFirst}
 use Rattle.effic_search.specs.NextTry.{IsNextTry}
 use Rattle.effic_search.specs.Since.{IsSinceGoal}
@@ -54,19 +54,22 @@ pub record IsCertified (kind : LineKind) (line : Line) (least most : ℕ) (cert 
       → (longest_of line (all_tasks line) ≤ e.cycle) × (e.cycle ≤ max (total_time line) 1)
   pub tight : (c : ℕ) → 1 ≤ c → IsRight kind line c cert.balance → cert.cycle ≤ c
 
--- the certificate of the least product: both its bounds are it, and it has no trail
-pub record IsSolved (kind : LineKind) (line : Line) (least most : ℕ) (cert : EfficCert) : Type 0 where
+-- The certificate of the least product: both its bounds are it, and it has no trail. Its entries are those that a search
+-- by the plan may have.
+pub record IsSolved (kind : LineKind) (line : Line) (least most : ℕ) (plan : Plan) (cert : EfficCert) : Type 0 where
   pub certified : IsCertified kind line least most cert
   pub meet : cert.lower ≡ cert.upper
   pub none : cert.trail ≡ None
   pub least_one : IsLeastProduct kind line least most cert.upper
+  pub paid : ArePaid line plan cert.entries
 
 -- The N units of a try ended, and one more load was needed: the bounds differ. The trail is at the tried cycle X, which
 -- is that of the next try, valid from its question, in fewer stations than tasks, and open over the entries, which are
 -- fresh at X. First stand entries that are few enough for a try. Behind them stand some of cycle X, for which a seek has
 -- room: none where the plan has no seek. From the number `closing_from` on stand others of cycle X. These and the trail
--- have at least N units, and exactly so many where there are no helpers. Where the plan has no seek, they are the
--- entries of cycle X behind the last one of all tasks at X. N is below what the budget law allows. (Own.)
+-- have at least N units, at most 2N, and exactly N where there are no helpers. Where the plan has no seek, they are the
+-- entries of cycle X behind the last one of all tasks at X. N is below what the budget law allows. All entries are those
+-- that a search by the plan may have. (Own.)
 pub record IsSpent (kind : LineKind) (line : Line) (least most : ℕ) (plan : Plan) (cert : EfficCert)
     (closing_from : ℕ) : Type 0 where
   pub certified : IsCertified kind line least most cert
@@ -93,15 +96,17 @@ pub record IsSpent (kind : LineKind) (line : Line) (least most : ℕ) (plan : Pl
   pub entry_units : UnitsOf line since published
   pub frame_units : UnitsIn line trail.cycle trail.frames listed
   pub all : plan.units ≤ published + listed
+  pub twice : published + listed ≤ 2 * plan.units
   pub alone : plan.helpers ≡ 0 → published + listed ≡ plan.units
   pub budget : plan.units < (tasks line + 1) * states kind ^ tasks line
+  pub paid : ArePaid line plan cert.entries
 
 -- A next try was due, and the book was too large for it: the bounds differ. The entries, which are fresh, have more than
 -- 4,000,000 units, or more than 4,000,000 of them aren't by Bound, or there are more than 13,999,999 of them. Each that
 -- isn't by Bound has a cycle from the longest time to the greater of 1 and the total. So the line is large: of n tasks,
 -- (n + 1) x 4^n times the greater of 1 and the total is more than 4,000,000. No round stopped, so all entries stand
--- before `closing_from`. (Own.)
-pub record IsLarge (kind : LineKind) (line : Line) (least most : ℕ) (cert : EfficCert)
+-- before `closing_from`. They are those that a search by the plan may have. (Own.)
+pub record IsLarge (kind : LineKind) (line : Line) (least most : ℕ) (plan : Plan) (cert : EfficCert)
     (closing_from : ℕ) : Type 0 where
   pub certified : IsCertified kind line least most cert
   pub below : cert.lower < cert.upper
@@ -117,12 +122,13 @@ pub record IsLarge (kind : LineKind) (line : Line) (least most : ℕ) (cert : Ef
   pub cycles : (k : ℕ) (e : Entry) → slice_get cert.entries k ≡ Some e → e.why ≢ why.Bound
       → (longest_of line (all_tasks line) ≤ e.cycle) × (e.cycle ≤ max (total_time line) 1)
   pub budget : 4000000 < (tasks line + 1) * 4 ^ tasks line * max (total_time line) 1
+  pub paid : ArePaid line plan cert.entries
 
 -- why a search stopped, and what its certificate has then
 abbrev pub StoppedBy : Ended → LineKind → Line → ℕ → ℕ → Plan → EfficCert → ℕ → Type 0
 StoppedBy ended.Units kind line least most plan cert closing_from =
     IsSpent kind line least most plan cert closing_from
-StoppedBy ended.Size kind line least most plan cert closing_from = IsLarge kind line least most cert closing_from
+StoppedBy ended.Size kind line least most plan cert closing_from = IsLarge kind line least most plan cert closing_from
 
 -- Memory ended after the first balance: the bounds are true and differ. The upper one is no greater than the product of
 -- all tasks at the first of the fewest stations. The lower one is the one that some entries show, of which each follows
@@ -147,7 +153,7 @@ pub record AreEnough (kind : LineKind) (line : Line) (N : ℕ) : Type 0 where
 -- book was too large for a try, or memory ended. The seeks are those of the plan. Out of memory is free.
 abbrev pub Lowers : LineKind → Line → ℕ → ℕ → Plan → EfficOutcome → Type 0
 Lowers kind line least most plan (outcome.Solved cert seeks) =
-    IsSolved kind line least most cert × AreSeeks plan seeks
+    IsSolved kind line least most plan cert × AreSeeks plan seeks
 Lowers kind line least most plan (outcome.Stopped why cert closing_from seeks) =
     StoppedBy why kind line least most plan cert closing_from × AreSeeks plan seeks
 Lowers kind line least most plan (outcome.Memory lower upper) = IsCutShort kind line least most lower upper

@@ -1,8 +1,9 @@
 //! The first balance and the first book of a search.
 ghost use Rattle.std.specs.Prelude.{◌≡◌, ◌≤◌, IfOk, OnOk};
 ghost use Rattle.lemma_core.specs.Books.{IsReserved};
+ghost use Rattle.cycle_search.specs.rounds.declared.plans.Plan.{Plan as Planned};
 ghost use Rattle.effic_check.specs.Accepted.{NoneApart};
-ghost use Rattle.effic_search.specs.inner.Going.{IsFloored, IsGoing};
+ghost use Rattle.effic_search.specs.inner.Going.{IsFloored, IsGoing, IsPaid};
 ghost use Rattle.effic_search.specs.inner.Opening.{AddsGoal};
 
 use crate::counting::Listed;
@@ -48,7 +49,7 @@ pub(crate) fn begin(alloc: Global, inst: &Instance, wanted: Wanted) -> Result<Lo
     requires order { wanted.least ≤ wanted.most }
     requires few { wanted.most ≤ 1024 }
     ensures going { IfOk result (IsGoing wanted.kind inst.now wanted.least wanted.most wanted.least) }
-    ensures none_yet { IfOk result (λ h. h.seeks ≡ record { used = 0; most = 0; kept = 0 }) }
+    ensures paid { IfOk result (λ h. (plan : Planned) → IsPaid plan h) }
 {
     let _tasks = inst.tasks();
     let ends = first_ends(inst, wanted.least);

@@ -1,8 +1,7 @@
 //! All tries at one number of stations, until no smaller product is left open there.
 ghost use Rattle.std.specs.Prelude.{◌≡◌, ◌≤◌, ◌<◌, ◌⊎◌, true, false, IfOk};
 ghost use Rattle.cycle_search.specs.rounds.Plans.{IsPlan};
-ghost use Rattle.cycle_search.specs.Seek.{AreSeeks};
-ghost use Rattle.effic_search.specs.inner.Going.{IsGoing, IsSettled};
+ghost use Rattle.effic_search.specs.inner.Going.{IsGoing, IsPaid, IsSettled};
 
 use crate::counting::{Listed, is_closed};
 use crate::lowering::{Lowering, Wanted};
@@ -73,7 +72,7 @@ pub(crate) fn settle<R: Threads + Wait + Sync, G: Gate>(
     requires to { stations ≤ wanted.most }
     requires few { wanted.most ≤ 1024 }
     requires going { IsGoing wanted.kind inst.now wanted.least wanted.most stations search }
-    requires seeks { AreSeeks plan.now search.seeks }
+    requires paid { IsPaid plan.now search }
     ensures { IfOk result (IsSettled wanted.kind inst.now wanted.least wanted.most stations plan.now) }
 {
     let _tasks = inst.tasks();

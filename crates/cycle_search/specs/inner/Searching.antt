@@ -30,6 +30,11 @@ use Rattle.cycle_search.specs.declared.trying.Tried.TheVariants as tried
 abbrev pub AreOutside : ℕ → ℕ → List Entry → Type 0
 AreOutside lower upper es = (k : ℕ) (e : Entry) → slice_get es k ≡ Some e → (e.cycle < lower) ⊎ (upper ≤ e.cycle)
 
+-- no entry but those at X has a cycle from the lower end up to below the upper one
+abbrev pub AreOutsideBut : ℕ → ℕ → ℕ → List Entry → Type 0
+AreOutsideBut lower upper X es = (k : ℕ) (e : Entry) → slice_get es k ≡ Some e → (e.cycle ≡ X → ⊥)
+    → (e.cycle < lower) ⊎ (upper ≤ e.cycle)
+
 -- The proof that is kept beside the book, where a try may add P: entries of which each follows from those before it and
 -- can be said by a certificate, none at a cycle between the ends; where there are any, one shows the lower end.
 pub record IsKept (kind : LineKind) (line : Line) (m P lower upper : ℕ) (es : List Entry) : Type 0 where
@@ -176,14 +181,15 @@ IsStuckBy kind line m plan X es closing_from cause.Units frames =
     × HasListed line plan X es closing_from frames
 IsStuckBy kind line m plan X es closing_from cause.Memory frames = frames ≡ []
 
--- A search that stopped at the cycle of its book, which is between the ends. The entries of its last round are those
--- from number `closing_from` on.
+-- A search that stopped at the cycle of its book, which is between the ends, and at which alone between them it has
+-- entries. The entries of its last round are those from number `closing_from` on.
 pub record IsStuck (kind : LineKind) (line : Line) (m : ℕ) (plan : Plan) (why : Cause) (h : Halving)
     (frames : List OpenFrame) (closing_from : ℕ) : Type 0 where
   pub ends : HasEnds kind line m plan h
   pub from : h.lower ≤ h.book.about.cycle
   pub to : h.book.about.cycle < h.upper
   pub stations : m < tasks line
+  pub outside : AreOutsideBut h.lower h.upper h.book.about.cycle h.book.state.entries
   pub few : length h.book.state.entries ≤ try_room plan + 1000001
   pub begun : closing_from ≤ length h.book.state.entries
   pub published : ℕ

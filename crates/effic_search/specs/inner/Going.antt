@@ -20,7 +20,7 @@ use Rattle.cycle_search.specs.rounds.declared.plans.Plan.{Plan}
 use Rattle.round_helpers.specs.Growth.{AreAtCycle}
 use Rattle.cycle_search.specs.Asking.{HasAskedBook}
 use Rattle.cycle_search.specs.Ends.{first_lower, first_upper}
-use Rattle.cycle_search.specs.Seek.{AreSeeks, HasSoughtBook, seek_room}
+use Rattle.cycle_search.specs.Seek.{AreSeeks, HasSoughtBook, seek_room, try_room}
 use Rattle.cycle_search.specs.declared.asking.Asked.{Asked}
 use Rattle.cycle_search.specs.declared.seek.SoughtBook.{SoughtBook}
 use Rattle.effic_check.specs.Accepted.{IsClosed, cycle_below}
@@ -108,6 +108,14 @@ pub record IsTry (kind : LineKind) (line : Line) (least most m X : ℕ) (plan : 
   pub room : length (entries_of h) ≤ 13999999
   pub seeks : AreSeeks plan h.seeks
 
+-- What a search by a plan has taken so far: its seeks are those of the plan, and its entries are no more, and of no more
+-- units, than those with which a try is made and what one try may add. (Own.)
+pub record IsPaid (plan : Plan) (h : Lowering) : Type 0 where
+  pub seeks : AreSeeks plan h.seeks
+  pub units : h.listed.units ≤ 4000000 + try_room plan
+  pub entries : h.listed.entries ≤ 4000001 + try_room plan
+  pub many : length (entries_of h) ≤ 14000000 + try_room plan
+
 -- a try is due, and the entries are too many, or of too many units
 pub record IsDue (kind : LineKind) (line : Line) (least most : ℕ) (h : Lowering) : Type 0 where
   pub lowering : IsLowering kind line least most h
@@ -144,28 +152,28 @@ pub record IsStuck (kind : LineKind) (line : Line) (least most : ℕ) (plan : Pl
   pub entry_units : UnitsOf line since published
   pub frame_units : UnitsIn line h.book.about.cycle frames listed
   pub within : listed ≤ 6000000
+  pub twice : published + listed ≤ 2 * plan.units
   pub all : plan.units ≤ published + listed
   pub alone : plan.helpers ≡ 0 → published + listed ≡ plan.units
 
--- what a try in m stations comes to, where the product was P; the seeks so far are those of the plan
+-- what a try in m stations comes to, where the product was P; what was taken so far is what the plan allows
 abbrev pub IsTried : LineKind → Line → ℕ → ℕ → ℕ → Plan → ℕ → Tried → Type 0
 IsTried kind line least most m plan P (tried.Refuted h) =
-    IsGoing kind line least most (m + 1) h × AreSeeks plan h.seeks
+    IsGoing kind line least most (m + 1) h × IsPaid plan h
 IsTried kind line least most m plan P (tried.Found h) =
-    (IsGoing kind line least most m h × (product_of h < P)) × AreSeeks plan h.seeks
+    (IsGoing kind line least most m h × (product_of h < P)) × IsPaid plan h
 IsTried kind line least most m plan P (tried.Spent h frames closing_from) =
-    IsStuck kind line least most plan h frames closing_from × AreSeeks plan h.seeks
-IsTried kind line least most m plan P (tried.NoMemory h) = IsLowering kind line least most h × AreSeeks plan h.seeks
+    IsStuck kind line least most plan h frames closing_from × IsPaid plan h
+IsTried kind line least most m plan P (tried.NoMemory h) = IsLowering kind line least most h × IsPaid plan h
 
--- what the tries in m stations come to; the seeks so far are those of the plan
+-- what the tries in m stations come to; what was taken so far is what the plan allows
 abbrev pub IsSettled : LineKind → Line → ℕ → ℕ → ℕ → Plan → Settled → Type 0
 IsSettled kind line least most m plan (settled.Goes h) =
-    IsGoing kind line least most (m + 1) h × AreSeeks plan h.seeks
-IsSettled kind line least most m plan (settled.Large h) = IsDue kind line least most h × AreSeeks plan h.seeks
+    IsGoing kind line least most (m + 1) h × IsPaid plan h
+IsSettled kind line least most m plan (settled.Large h) = IsDue kind line least most h × IsPaid plan h
 IsSettled kind line least most m plan (settled.Spent h frames closing_from) =
-    IsStuck kind line least most plan h frames closing_from × AreSeeks plan h.seeks
-IsSettled kind line least most m plan (settled.NoMemory h) =
-    IsLowering kind line least most h × AreSeeks plan h.seeks
+    IsStuck kind line least most plan h frames closing_from × IsPaid plan h
+IsSettled kind line least most m plan (settled.NoMemory h) = IsLowering kind line least most h × IsPaid plan h
 
 -- A seek for m stations at the cycle X was made over the book of a search: what the book gained is counted, and the
 -- rest of the search stays. (Own.)

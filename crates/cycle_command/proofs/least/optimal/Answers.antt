@@ -16,7 +16,7 @@ returns c =
         record {
           cycle = a.cycle;
           balance = a.balance;
-          proved = c.in_ok-certificate.ensures;
+          proved = c.in_ok-certificate.ensures a.plan.now c.requires.plan.limit c.requires.solved;
           seeks = a.seeks;
           counted = c.requires.seeks;
           printed = c.in_ok-text.ensures

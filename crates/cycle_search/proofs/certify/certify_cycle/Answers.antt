@@ -18,17 +18,16 @@ proof_of-requires-clause-earlier c =
     derived_earlier c.args.kind c.args.inst.now c.args.entries c.requires.solved.2.proof.derived
 
 pub returns : goal.returns
-returns c =
-    let P : Certificate → Type 0 = IsOptimum c.args.kind c.args.inst.now c.args.stations c.args.cycle c.args.balance in
+returns c = λ plan limit solved.
+    let P : Certificate → Type 0 =
+    IsOptimum c.args.kind c.args.inst.now c.args.stations plan c.args.cycle c.args.balance in
     let new = c.in_ok-entries.entries in
     let G : ℕ → Type 0 = λ n. 1 < c.args.cycle → HasAnswer new (full_to n) c.args.stations (c.args.cycle - 1) in
     let T : ℕ → Type 0 = λ n. 1 < c.args.cycle
     → IsTrimmed c.args.entries (full_to n) c.args.stations (c.args.cycle - 1) new in
-    subst P (sym c.about_cycle.ensures.said) (optimum c.args.kind c.args.inst.now c.args.stations c.requires.solved.0
+    subst P (sym c.about_cycle.ensures.said) (optimum c.args.kind c.args.inst.now c.args.stations plan
     c.args.cycle c.args.balance c.args.entries new c.about_cycle.ensures.line c.requires.some c.requires.few
-    c.requires.solved.1 c.requires.solved.2 (
-      c.in_ok-entries.ensures.one,
-      λ more. (c.args.entries, subst T c.tasks.ensures.tasks c.in_ok-entries.ensures.trimmed more),
-    ) c.in_ok-entries.ensures.derived
+    limit solved c.in_ok-entries.ensures.one
+    (subst T c.tasks.ensures.tasks c.in_ok-entries.ensures.trimmed) c.in_ok-entries.ensures.derived
     (subst G c.tasks.ensures.tasks c.in_ok-entries.ensures.goal) c.in_ok-entries.ensures.units
     c.in_ok-entries.ensures.ranges)

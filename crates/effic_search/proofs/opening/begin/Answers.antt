@@ -1,7 +1,7 @@
 use Rattle.std.proofs.Common.{◌≡◌, ℕ, ◌+◌, refl, ap, ◌∙◌, subst, arith}
 use Rattle.cycle_search.proofs.EndFacts.{first_best}
 use Rattle.effic_search.specs.inner.Opening.{IsFirstBook}
-use Rattle.effic_search.proofs.StartFacts.{first_none, first_next, going_begins}
+use Rattle.effic_search.proofs.StartFacts.{first_none, first_next, going_begins, none_taken}
 use Rattle.effic_search.proofs.opening.begin.Goals as goal
 
 pub open_book-requires : goal.open_book-requires
@@ -42,3 +42,18 @@ returns-clause-going c =
     going_begins w.kind c.args.inst.now w.least w.most _ c.tasks-tasks.ensures.line c.requires.none c.requires.some
     c.requires.order c.requires.few (subst P end c.loop-stations.invariant) c.first_ends-ends.ensures.upper
     c.first_ends-ends.ensures.limit c.in_ok-all_at_first.ensures refl
+
+pub returns-clause-paid : goal.returns-clause-paid
+returns-clause-paid c =
+    let w = c.args.wanted in
+    let P : ℕ → Type 0 = λ z. IsFirstBook w.kind c.args.inst.now w.least z c.loop-stations.book in
+    let end : c.loop-stations.stations ≡ w.most + 1 =
+    omega (
+      arith,
+      c.loop-stations-test.false,
+      c.loop-stations.auto.stations,
+      c.loop-stations.auto.stations-end,
+      c.requires.order,
+    ) in
+    none_taken w.kind c.args.inst.now w.least w.most _ c.requires.few (subst P end c.loop-stations.invariant)
+    c.none.ensures refl

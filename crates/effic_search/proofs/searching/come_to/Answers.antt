@@ -1,7 +1,7 @@
 use Rattle.std.proofs.Common.{subst}
 use Rattle.effic_search.specs.inner.Going.{IsSettled}
 use Rattle.effic_search.specs.declared.settling.Settled.{Settled}
-use Rattle.effic_search.proofs.CertFacts.{solved_is, large_is, spent_is, met_is, cut_is, trail_by, few_by}
+use Rattle.effic_search.proofs.CertFacts.{solved_is, large_is, spent_is, met_is, cut_is, paid_is, trail_by, few_by}
 use Rattle.effic_search.proofs.searching.come_to.Goals as goal
 
 pub certified-cert-requires-clause-lowering : goal.certified-cert-requires-clause-lowering
@@ -55,8 +55,8 @@ returns-in-Goes c = λ plan s.
     let is = subst S c.in-Goes.is s in
     let cert = c.certified-cert in (
       solved_is w.kind c.args.inst.now w.least w.most c.in-Goes.search c.tasks-tasks.ensures.line c.requires.some
-          cert.result cert.ensures.certified cert.ensures.upper cert.ensures.entries cert.ensures.trail is.0,
-      is.1,
+          cert.result cert.ensures.certified cert.ensures.upper cert.ensures.entries cert.ensures.trail plan is,
+      is.1.seeks,
     )
 
 pub returns-in-Large : goal.returns-in-Large
@@ -68,8 +68,8 @@ returns-in-Large c = λ plan s.
       large_is w.kind c.args.inst.now w.least w.most c.in-Large.search c.tasks-tasks.ensures.line c.requires.some
           cert.result cert.ensures.certified cert.ensures.upper cert.ensures.entries c.tasks-tasks.ensures.ranked
           cert.ensures.trail c.len-closing_from.result c.len-closing_from.ensures.len cert.ensures.fresh
-          cert.ensures.derived is.0,
-      is.1,
+          cert.ensures.derived plan is,
+      is.1.seeks,
     )
 
 pub returns-in-Spent : goal.returns-in-Spent
@@ -82,18 +82,21 @@ returns-in-Spent c = λ plan s.
           cert.result cert.ensures.certified cert.ensures.upper cert.ensures.entries c.tasks-tasks.ensures.ranked plan
           c.in-Spent.frames (record { cycle = c.cycle-cycle.result; frames = c.in-Spent.frames })
           (λ i. record { cycle = c.cycle-cycle.ensures i; frames = c.in-Spent.frames }) cert.ensures.trail
-          c.in-Spent.closing_from cert.ensures.fresh cert.ensures.derived is.0,
-      is.1,
+          c.in-Spent.closing_from cert.ensures.fresh cert.ensures.derived is,
+      is.1.seeks,
     )
 
 pub returns-then-cert : goal.returns-then-cert
 returns-then-cert c = λ plan s.
     let w = c.args.wanted in
     let S : Settled → Type 0 = λ z. IsSettled w.kind c.args.inst.now w.least w.most w.most plan z in
+    let is = subst S c.in-NoMemory.is s in
     let cert = c.certified-cert-in-NoMemory in (
-      met_is w.kind c.args.inst.now w.least w.most cert.result cert.ensures.certified cert.ensures.trail
-          c.if-cert.true,
-      (subst S c.in-NoMemory.is s).1,
+      met_is w.kind c.args.inst.now w.least w.most cert.result cert.ensures.certified plan cert.ensures.trail
+          c.if-cert.true
+          (paid_is w.kind c.args.inst.now w.least w.most c.in-NoMemory.search c.tasks-tasks.ensures.line
+          c.requires.some cert.result cert.ensures.certified cert.ensures.upper cert.ensures.entries plan is.0 is.1),
+      is.1.seeks,
     )
 
 pub returns-else-cert : goal.returns-else-cert

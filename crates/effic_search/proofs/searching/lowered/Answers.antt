@@ -1,13 +1,12 @@
 use Rattle.std.proofs.Common.{◌≡◌, ℕ, ◌+◌, subst, arith}
 use Rattle.effic_search.specs.inner.Going.{IsGoing}
 use Rattle.effic_search.proofs.TryFacts.{settled_last}
-use Rattle.effic_search.proofs.StartFacts.{none_yet}
 use Rattle.effic_search.proofs.searching.lowered.Goals as goal
 
 pub loop-stations-init : goal.loop-stations-init
 loop-stations-init g c = (
   c.in_ok-search.ensures.going,
-  none_yet c.args.plan.now c.in_ok-search.search c.in_ok-search.ensures.none_yet,
+  c.in_ok-search.ensures.paid c.args.plan.now,
 )
 
 pub come_to-requires : goal.come_to-requires

@@ -1,7 +1,6 @@
-use Rattle.cycle_search.specs.Seek.{AreSeeks}
-use Rattle.effic_search.specs.inner.Going.{IsGoing}
+use Rattle.effic_search.specs.inner.Going.{IsGoing, IsPaid}
 use Rattle.effic_search.proofs.searching.lowered.Given as goal
 
 abbrev pub invariant-loop-stations : goal.invariant-loop-stations
 invariant-loop-stations g l = IsGoing l.wanted.kind l.inst l.wanted.least l.wanted.most l.stations l.search
-    × AreSeeks l.plan l.search.seeks
+    × IsPaid l.plan l.search

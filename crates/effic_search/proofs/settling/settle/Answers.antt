@@ -2,8 +2,14 @@ use Rattle.std.proofs.Common.{ℕ, ◌≤◌, List, subst, arith}
 use Rattle.line_rules.specs.Balance.{all_tasks}
 use Rattle.line_rules.specs.Entries.{HasAnswer}
 use Rattle.line_rules.specs.declared.types.Entry.{Entry}
-use Rattle.effic_search.proofs.TryFacts.{closed_going, left_at, large_book}
+use Rattle.effic_search.proofs.TryFacts.{below_limit, closed_going, left_at, large_book}
 use Rattle.effic_search.proofs.settling.settle.Goals as goal
+
+pub cycle_below-cycle-requires-clause-small : goal.cycle_below-cycle-requires-clause-small
+cycle_below-cycle-requires-clause-small g c =
+    let w = c.args.wanted in
+    below_limit w.kind c.args.inst.now w.least w.most c.args.stations c.tries.search c.requires.some c.requires.from
+    c.tries.invariant.0.lowering
 
 pub returns-then-is_closed : goal.returns-then-is_closed
 returns-then-is_closed g c =
@@ -60,5 +66,5 @@ try_cycle-requires-clause-due g c κs within =
       small = c.is_large.ensures.small c.if-is_large.false;
       short = c.is_large.ensures.few c.if-is_large.false;
       room = omega (arith, c.is_large.ensures.room c.if-is_large.false, c.len.ensures.len);
-      seeks = c.tries.invariant.1;
+      seeks = c.tries.invariant.1.seeks;
     }

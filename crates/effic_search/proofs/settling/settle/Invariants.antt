@@ -1,10 +1,9 @@
-use Rattle.cycle_search.specs.Seek.{AreSeeks}
-use Rattle.effic_search.specs.inner.Going.{IsGoing, product_of}
+use Rattle.effic_search.specs.inner.Going.{IsGoing, IsPaid, product_of}
 use Rattle.effic_search.proofs.settling.settle.Given as goal
 
 abbrev pub invariant-tries : goal.invariant-tries
 invariant-tries g l = IsGoing l.wanted.kind l.inst l.wanted.least l.wanted.most l.stations l.search
-    × AreSeeks l.plan l.search.seeks
+    × IsPaid l.plan l.search
 
 abbrev pub decreases-tries : goal.decreases-tries
 decreases-tries g l = product_of l.search

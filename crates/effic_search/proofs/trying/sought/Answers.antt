@@ -1,7 +1,8 @@
-use Rattle.std.proofs.Common.{◌≡◌, ◌∙◌, sym, ap, subst, arith}
+use Rattle.std.proofs.Common.{◌≡◌, ◌∙◌, List, length, length-append, sym, ap, subst, arith}
 use Rattle.line_instance.specs.Line.{Line}
 use Rattle.line_rules.specs.Entries.{IsDerived}
 use Rattle.line_rules.specs.declared.types.LineKind.{LineKind}
+use Rattle.line_rules.specs.declared.types.Entry.{Entry}
 use Rattle.lemma_core.specs.Machine.{About}
 use Rattle.lemma_core.specs.Books.{BookView}
 use Rattle.cycle_search.proofs.SeekFacts.{room_limit}
@@ -24,3 +25,17 @@ counted-listed-requires-clause-derived g c =
 pub counted-listed-requires-clause-small : goal.counted-listed-requires-clause-small
 counted-listed-requires-clause-small g c =
     omega (arith, c.requires.small, c.in_ok-sought.ensures.sought.within, room_limit c.args.plan.now)
+
+pub counted-listed-requires-clause-few : goal.counted-listed-requires-clause-few
+counted-listed-requires-clause-few g c =
+    let s = c.in_ok-sought.ensures.sought in
+    omega (
+      arith,
+      ap (λ (z : List Entry). length z) c.entries.ensures.entries,
+      ap (λ (z : List Entry). length z) s.entries,
+      ap (λ (z : BookView). length z.state.entries) c.reopen-book.ensures.reopened,
+      length-append c.reopen-book.result.state.entries s.gained,
+      s.few,
+      room_limit c.args.plan.now,
+      c.requires.room,
+    )

@@ -3,7 +3,8 @@ use Rattle.cycle_search.proofs.seek.Seeks.with.Goals as goal
 
 pub returns : goal.returns
 returns c = record {
-  seeks = λ plan same a.
-      seeks_more plan c.args.self _ c.args.used c.args.most c.requires.within same c.saturating_add.ensures
-      c.saturating_add-2.ensures a;
+  seeks = λ plan same few a.
+      seeks_more plan c.args.self _ c.args.used c.args.most c.args.kept c.requires.within same few
+      c.saturating_add.ensures c.saturating_add-2.ensures c.saturating_add-3.ensures a;
+  kept = c.saturating_add-3.ensures;
 }
