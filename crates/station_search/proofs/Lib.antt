@@ -17,3 +17,4 @@ pub mod TaskPlaces
 pub mod SortFacts
 pub mod RestTimes
 pub mod HalfFacts
+pub mod LightLoads

@@ -183,8 +183,8 @@ module _ (asked : Option Mode) (kind : LineKind) (line : Line) (ranked : IsRanke
 
   module _ (old mid new : DeskView) (passed : List OpenFrame) (frame : OpenFrame) (spent : ℕ) (before : Keeps old mid)
       (k : Keeps mid new) (t : Tally asked kind line X old mid passed frame spent 0) where
-    -- memory ended after a load was listed
-    pub gives_up : (m spent' : ℕ) → DoesFew asked kind line X mid new m 0 → m ≤ 1 → spent' ≡ spent + 1
+    -- memory ended after a load was listed, or more
+    pub gives_up : (m spent' : ℕ) → DoesFew asked kind line X mid new m 0 → m ≤ 1 → spent + 1 ≤ spent'
         → Accounts asked kind line X old new [] spent' spent'
     gives_up m spent' d l e = accounts asked kind line ranked X old mid new passed frame spent before k t m 0 spent'
         d (omega arith) (omega (arith, e)) (omega (arith, l, e))

@@ -174,8 +174,8 @@ module _ (asked : Option Mode) (kind : LineKind) (line : Line) (ranked : IsRanke
   leaves_waiting spent' e w = outlay_ends asked kind line ranked X old mid new passed frame spent before k outlay 0 0
       spent' spent' (few_waits asked kind line X mid new 0 w) (omega arith) (omega (arith, e)) (omega (arith, e))
 
-  -- after a load was listed
-  pub leaves_listed : (m spent' : ℕ) → m ≤ 1 → spent' ≡ spent + 1 → DoesFew asked kind line X mid new m 0
+  -- after a load was listed, or more
+  pub leaves_listed : (m spent' : ℕ) → m ≤ 1 → spent + 1 ≤ spent' → DoesFew asked kind line X mid new m 0
       → Accounts asked kind line X old new [] spent' spent'
   leaves_listed m spent' l e d = outlay_ends asked kind line ranked X old mid new passed frame spent before k outlay m 0
       spent' spent' d (omega arith) (omega (arith, e)) (omega (arith, e, l))

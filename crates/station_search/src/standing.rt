@@ -3,7 +3,7 @@
 //!
 //! Both searches take these steps. The frames that wait stand on a stack in the heap, and their listings on another.
 ghost use Rattle.std.specs.Prelude.{◌≡◌, ◌+◌, ◌^◌, ◌<◌, ◌≤◌, ◌&&◌, [], Option, None, IfOk, IfSome, OnOk, OnErr, true};
-ghost use Rattle.std.specs.Prelude.{false, length, vec_len, vec_capacity, ◌∷◌, ◌++◌};
+ghost use Rattle.std.specs.Prelude.{false, length, vec_len, vec_capacity, ◌∷◌, ◌++◌, IsSome};
 ghost use Rattle.line_instance.specs.Line.{IsTaskSet};
 ghost use Rattle.line_rules.specs.Loads.{Belongs};
 ghost use Rattle.line_rules.specs.Ranges.{IsCycle};
@@ -12,10 +12,10 @@ ghost use Rattle.lemma_core.specs.Desks.{Keeps};
 ghost use Rattle.station_search.specs.Mode.{frame_mode};
 ghost use Rattle.station_search.specs.Decide.{IsFor, IsPairing};
 ghost use Rattle.station_search.specs.inner.Work.{IsBeside, DoesFew};
-ghost use Rattle.station_search.specs.inner.Steps.{IsReady, IsBegun, GoesDown, GoesUp, Lists, units_of};
+ghost use Rattle.station_search.specs.inner.Steps.{IsReady, IsBegun, GoesDown, GoesUp, ListsOn, with_mark};
 
 use crate::answers::Units;
-use crate::listings::{Listing, begin_listing, next_load};
+use crate::listings::{Listing, begin_listing, next_load, pass_over};
 use crate::looking::Looker;
 use crate::modes::mode_for;
 use crate::pairing::{enter, enter_first, leave};
@@ -172,7 +172,19 @@ pub fn trail_of(standing: Standing) -> Frames
     Frames::from_vec(passed)
 }
 
-/// Lists the next load of the frame in hand, where there is one and a unit for it, and sorts it.
+// The frame has the load at which its listing stands as its last one, where loads were passed over.
+fn catch_up(frame: &mut OpenFrame, listing: &Listing, passed: bool)
+    requires none { passed ≡ false → listing.now.walk.last ≡ frame.old.last }
+    requires some { passed ≡ true → IsSome listing.now.walk.last }
+    ensures { frame.new ≡ with_mark frame.old listing.now.walk.last }
+{
+    if passed {
+        frame.last = Some(listing.walk.load());
+    }
+}
+
+/// Lists the next load of the frame in hand, where there is one and a unit for it, and sorts it. Loads before it whose
+/// rest takes too long are passed over.
 pub fn list_load<L: Looker<D>, D: Desk>(
     alloc: Global,
     desk: &mut D,
@@ -194,21 +206,28 @@ pub fn list_load<L: Looker<D>, D: Desk>(
     ensures keeps { Keeps (D.desk desk.old) (D.desk desk.new) }
     ensures pairs { pairs.new ≡ pairs.old }
     ensures units { units.new.used + units.new.left ≡ units.old.used + units.old.left }
-    ensures used { IfOk result (λ d. units.new.used ≡ units.old.used + units_of d) }
-    ensures lists { IfOk result (Lists kind inst.now cycle (L.exact && (D.desk desk.old).alone) (D.desk desk.old)
-        (D.desk desk.new) standing.old standing.new units.new.left) }
+    ensures lists { IfOk result (ListsOn kind inst.now cycle (L.exact && (D.desk desk.old).alone) (D.desk desk.old)
+        (D.desk desk.new) standing.old standing.new units.old.used units.new.used units.new.left) }
     ensures fails { (asked : Option Way)
         → OnErr result (DoesFew asked kind inst.now cycle (D.desk desk.old) (D.desk desk.new) 1 0) }
-    ensures fails_used { OnErr result (units.new.used ≡ units.old.used + 1) }
+    ensures fails_used { OnErr result (units.old.used + 1 ≤ units.new.used) }
 {
-    let Some(load) = next_load(inst, cycle, &standing.frame, &mut standing.listing) else {
-        return Ok(Listed::Ended);
-    };
-    if units.left == 0 {
-        return Ok(Listed::Spent);
+    let used = units.used;
+    if !pass_over(
+        inst,
+        kind,
+        cycle,
+        &standing.frame,
+        &mut standing.listing,
+        units,
+    ) {
+        catch_up(&mut standing.frame, &standing.listing, units.used != used);
+        return match next_load(inst, cycle, &standing.frame, &mut standing.listing) {
+            None => Ok(Listed::Ended),
+            Some(_) => Ok(Listed::Spent),
+        };
     }
-    units.left -= 1;
-    units.used += 1;
+    let load = standing.listing.walk.load();
     standing.frame.last = Some(load);
     match sort_load::<L, D>(
         alloc,

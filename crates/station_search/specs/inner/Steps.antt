@@ -1,5 +1,5 @@
 -- The steps of a search: where it stands before and after.
-use Rattle.std.specs.Prelude.{◌≡◌, ℕ, ◌-◌, ◌<◌, Bool, true, List, [], ◌∷◌, ◌++◌, length, slice_get, vec_len, vec_capacity}
+use Rattle.std.specs.Prelude.{◌≡◌, ℕ, ◌+◌, ◌-◌, ◌<◌, Bool, true, List, [], ◌∷◌, ◌++◌, length, slice_get, vec_len, vec_capacity}
 use Rattle.std.specs.Prelude.{Option, Some, None, ◌⊎◌}
 use Rattle.line_instance.specs.Truths.{IsEmpty}
 use Rattle.line_instance.specs.Line.{Line}
@@ -17,6 +17,42 @@ use Rattle.station_search.specs.declared.listings.Listing.{Listing}
 use Rattle.station_search.specs.declared.standing.Standing.{Standing}
 use Rattle.station_search.specs.declared.standing.Listed.{Listed}
 use Rattle.station_search.specs.declared.standing.Listed.TheVariants as listed
+
+-- the frame with another last load, or with none
+abbrev pub with_mark : OpenFrame → Option Load → OpenFrame
+with_mark f last = record { set = f.set; most = f.most; mode = f.mode; last = last; cites = f.cites }
+
+-- Loads follow one another from the last one of a frame on, and none of them is open: the last of these, and how many
+-- there are.
+pub data Skips (kind : LineKind) (line : Line) (X : ℕ) (f : OpenFrame) : Option Load → ℕ → Type 0 where
+  none : {last : Option Load} {n : ℕ} → last ≡ f.last → n ≡ 0 → Skips kind line X f last n
+  one_more : {last : Option Load} {n : ℕ} (before : Option Load) (k : ℕ) (l : Load) → Skips kind line X f before k
+      → IsFollowing line X f.mode f.set before l → (IsOpen kind line X f.mode f.set f.most l → ⊥)
+      → last ≡ Some l → n ≡ k + 1 → Skips kind line X f last n
+
+-- the listing stands at the last of some loads of the frame that were passed over, each for a unit, or where it stood
+pub record HasSkipped (kind : LineKind) (line : Line) (X : ℕ) (f : OpenFrame) (before after : ℕ) (g : Listing)
+    : Type 0 where
+  pub light : ℕ
+  pub skips : Skips kind line X f g.walk.last light
+  pub cost : after ≡ before + light
+  pub beside : IsBeside line X (with_mark f g.walk.last) g
+
+-- the listing stands at the load that comes after some that were passed over, each for a unit
+pub record HasMet (kind : LineKind) (line : Line) (X : ℕ) (f : OpenFrame) (before after : ℕ) (g : Listing)
+    : Type 0 where
+  pub last : Option Load
+  pub light : ℕ
+  pub skips : Skips kind line X f last light
+  pub load : Load
+  pub next : IsFollowing line X f.mode f.set last load
+  pub stands : g.walk.last ≡ Some load
+  pub cost : after ≡ before + (light + 1)
+  pub beside : IsBeside line X (with_last f load) g
+
+-- no load of the frame comes after this one
+abbrev pub IsLast : Line → ℕ → OpenFrame → Option Load → Type 0
+IsLast line X f last = (l : Load) → IsLoad line X f.mode f.set l → After line last l → ⊥
 
 -- there are as many listings as frames, and each goes over the loads of its frame
 pub record ArePaired (line : Line) (X : ℕ) (fs : List OpenFrame) (ws : List Listing) : Type 0 where
@@ -125,3 +161,14 @@ units_of listed.Spent = 0
 units_of listed.Passed = 1
 units_of listed.Empty = 1
 units_of (listed.Open T) = 1
+
+-- What comes of the next load that isn't passed over. Some loads before it were, none of them open; then the search
+-- stood with the last of them, and this came of the load after it. Each load that was listed took a unit.
+pub record ListsOn (kind : LineKind) (line : Line) (X : ℕ) (sure : Bool) (old new : DeskView) (s t : Standing)
+    (before after left : ℕ) (d : Listed) : Type 0 where
+  pub last : Option Load
+  pub light : ℕ
+  pub skips : Skips kind line X s.frame last light
+  pub listing : Listing
+  pub lists : Lists kind line X sure old new (stands_with s (with_mark s.frame last) listing) t left d
+  pub cost : after ≡ before + (light + units_of d)

@@ -1,4 +1,4 @@
-use Rattle.std.proofs.Common.{◌-◌, Bool, Option, IfSome, List, [], ◌∷◌, length, refl, sym, ap, ◌∙◌, subst, arith}
+use Rattle.std.proofs.Common.{◌+◌, ◌-◌, Bool, Option, IfSome, List, [], ◌∷◌, length, refl, sym, ap, ◌∙◌, subst, arith}
 use Rattle.std.proofs.Common.{length-append}
 use Rattle.line_instance.specs.Line.{Line, IsTaskSet}
 use Rattle.line_rules.specs.Loads.{rest}
@@ -10,7 +10,7 @@ use Rattle.lemma_core.proofs.HistoryGrows.{keeps_none, keeps_both}
 use Rattle.pair_search.specs.Sharing.{Sharing}
 use Rattle.station_search.specs.Decide.{IsFor, IsPairing}
 use Rattle.station_search.specs.inner.Work.{branch_of, with_last, with_cites, Accounts}
-use Rattle.station_search.specs.inner.Steps.{IsReady, Lists, units_of}
+use Rattle.station_search.specs.inner.Steps.{IsReady, ListsOn, stands_with, with_mark}
 use Rattle.station_search.specs.declared.standing.Standing.{Standing}
 use Rattle.station_search.specs.declared.standing.Listed.{Listed}
 use Rattle.station_search.proofs.Events.{for_still}
@@ -21,8 +21,9 @@ use Rattle.station_search.proofs.Endings.{on_err}
 use Rattle.station_search.proofs.LoopTurns.{first, grown, first_tally, stations_few, gives_up, refuted, answers_asked}
 use Rattle.station_search.proofs.StepTurns.{ended, ready_with, up_ready, up_beside, searching_on}
 use Rattle.station_search.proofs.StepTurns.{tally_on, found_at, searching_down, tally_down_at, searching_up, tally_up_at}
-use Rattle.station_search.proofs.StepTurns.{stops_at, stopped_at, used_none, used_one, used_still, at_least, no_more, ends_waiting}
+use Rattle.station_search.proofs.StepTurns.{stops_at, stopped_at, used_still, at_least, no_more, ends_waiting}
 use Rattle.station_search.proofs.StepTurns.{ends_refuted}
+use Rattle.station_search.proofs.LightLoads.{searching_past, tally_past, past_none, past_one, past_some, past_more}
 use Rattle.station_search.proofs.searching.search.Goals as goal
 
 pub search-init : goal.search-init
@@ -84,19 +85,27 @@ returns-in_err-list_load-clause-accounts g c =
     (gives_up c.args.mode c.args.kind c.args.inst.now c.tasks-tasks.ensures.ranked c.args.cycle c.args.set.now c.args.most (g.D.Desk.desk c.args.desk.now) (g.D.Desk.desk c.search.desk) (g.D.Desk.desk c.list_load.new.desk) c.search.standing.passed.items
     c.search.standing.frame (c.search.units.used - c.args.units.now.used) c.search.invariant.keeps c.list_load.ensures.keeps c.search.invariant.tally 1
     (c.list_load.new.units.used - c.args.units.now.used) (c.in_err-list_load.ensures.fails c.args.mode) (no_more 1)
-    (used_one c.list_load.new.units.used c.search.units.used 1 c.args.units.now.used
-    c.in_err-list_load.ensures.fails_used refl c.search.invariant.spent))
+    (past_more c.list_load.new.units.used c.search.units.used c.args.units.now.used
+    c.in_err-list_load.ensures.fails_used c.search.invariant.spent))
 
 pub publish_branch-requires-clause-follows : goal.publish_branch-requires-clause-follows
 publish_branch-requires-clause-follows g c =
-    let S : Listed → Type 0 = λ z. Lists c.args.kind c.args.inst.now c.args.cycle (g.D.Desk.desk c.search.desk).alone (g.D.Desk.desk c.search.desk) (g.D.Desk.desk c.list_load.new.desk)
-    c.search.standing c.list_load.new.standing c.list_load.new.units.left z in
-    let n = subst S c.in-Ended.is c.in_ok-list_load.ensures.lists in
-    let e = ended c.args.mode c.args.kind c.args.inst.now c.args.cycle c.args.set.now c.args.most (g.D.Desk.desk c.args.desk.now) (g.D.Desk.desk c.search.desk) (g.D.Desk.desk c.list_load.new.desk) c.search.standing
-    c.list_load.new.standing (c.search.units.used - c.args.units.now.used) (c.list_load.new.units.used - c.args.units.now.used)
-    (used_none c.list_load.new.units.used c.search.units.used (units_of c.in_ok-list_load.field-0) c.args.units.now.used
-    c.in_ok-list_load.ensures.used (ap units_of c.in-Ended.is)) n c.search.invariant.searching
-    c.search.invariant.tally in
+    let S : Listed → Type 0 = λ z. ListsOn c.args.kind c.args.inst.now c.args.cycle (g.D.Desk.desk c.search.desk).alone (g.D.Desk.desk c.search.desk) (g.D.Desk.desk c.list_load.new.desk)
+    c.search.standing c.list_load.new.standing c.search.units.used c.list_load.new.units.used
+    c.list_load.new.units.left z in
+    let on = subst S c.in-Ended.is c.in_ok-list_load.ensures.lists in
+    let n = on.lists in
+    let u = stands_with c.search.standing (with_mark c.search.standing.frame on.last) on.listing in
+    let searching = searching_past c.args.mode c.args.kind c.args.inst.now c.tasks-tasks.ensures.ranked c.args.cycle c.args.set.now c.args.most (g.D.Desk.desk c.args.desk.now) (g.D.Desk.desk c.search.desk) c.search.standing.passed.items c.search.standing.frame
+    c.search.invariant.searching on.last on.light on.skips in
+    let tally = tally_past c.args.mode c.args.kind c.args.inst.now c.tasks-tasks.ensures.ranked c.args.cycle c.args.set.now c.args.most (g.D.Desk.desk c.args.desk.now) (g.D.Desk.desk c.search.desk) c.search.standing.passed.items c.search.standing.frame
+    c.search.invariant.searching (c.search.units.used - c.args.units.now.used) (c.search.units.used - c.args.units.now.used + on.light)
+    c.search.invariant.keeps c.search.invariant.tally on.last on.light on.skips refl in
+    let e = ended c.args.mode c.args.kind c.args.inst.now c.args.cycle c.args.set.now c.args.most (g.D.Desk.desk c.args.desk.now) (g.D.Desk.desk c.search.desk) (g.D.Desk.desk c.list_load.new.desk) u
+    c.list_load.new.standing (c.search.units.used - c.args.units.now.used + on.light) (c.list_load.new.units.used - c.args.units.now.used)
+    (past_none c.list_load.new.units.used c.search.units.used on.light 0 c.args.units.now.used
+    on.cost refl c.search.invariant.spent) n searching
+    tally in
     let f : IsFor (g.D.Desk.desk c.list_load.new.desk) c.args.inst.now c.args.kind c.args.cycle = for_still (g.D.Desk.desk c.args.desk.now) (g.D.Desk.desk c.list_load.new.desk) c.args.inst.now c.args.kind
     c.args.cycle c.requires.desk (keeps_both (g.D.Desk.desk c.args.desk.now) (g.D.Desk.desk c.search.desk) (g.D.Desk.desk c.list_load.new.desk) c.search.invariant.keeps c.list_load.ensures.keeps) in
     let P : LineKind → Type 0 = λ z. Follows z (g.D.Desk.desk c.list_load.new.desk).about.line (entries (g.D.Desk.desk c.list_load.new.desk))
@@ -108,14 +117,22 @@ publish_branch-requires-clause-follows g c =
 
 pub publish_branch-requires-clause-range : goal.publish_branch-requires-clause-range
 publish_branch-requires-clause-range g c =
-    let S : Listed → Type 0 = λ z. Lists c.args.kind c.args.inst.now c.args.cycle (g.D.Desk.desk c.search.desk).alone (g.D.Desk.desk c.search.desk) (g.D.Desk.desk c.list_load.new.desk)
-    c.search.standing c.list_load.new.standing c.list_load.new.units.left z in
-    let n = subst S c.in-Ended.is c.in_ok-list_load.ensures.lists in
-    let e = ended c.args.mode c.args.kind c.args.inst.now c.args.cycle c.args.set.now c.args.most (g.D.Desk.desk c.args.desk.now) (g.D.Desk.desk c.search.desk) (g.D.Desk.desk c.list_load.new.desk) c.search.standing
-    c.list_load.new.standing (c.search.units.used - c.args.units.now.used) (c.list_load.new.units.used - c.args.units.now.used)
-    (used_none c.list_load.new.units.used c.search.units.used (units_of c.in_ok-list_load.field-0) c.args.units.now.used
-    c.in_ok-list_load.ensures.used (ap units_of c.in-Ended.is)) n c.search.invariant.searching
-    c.search.invariant.tally in
+    let S : Listed → Type 0 = λ z. ListsOn c.args.kind c.args.inst.now c.args.cycle (g.D.Desk.desk c.search.desk).alone (g.D.Desk.desk c.search.desk) (g.D.Desk.desk c.list_load.new.desk)
+    c.search.standing c.list_load.new.standing c.search.units.used c.list_load.new.units.used
+    c.list_load.new.units.left z in
+    let on = subst S c.in-Ended.is c.in_ok-list_load.ensures.lists in
+    let n = on.lists in
+    let u = stands_with c.search.standing (with_mark c.search.standing.frame on.last) on.listing in
+    let searching = searching_past c.args.mode c.args.kind c.args.inst.now c.tasks-tasks.ensures.ranked c.args.cycle c.args.set.now c.args.most (g.D.Desk.desk c.args.desk.now) (g.D.Desk.desk c.search.desk) c.search.standing.passed.items c.search.standing.frame
+    c.search.invariant.searching on.last on.light on.skips in
+    let tally = tally_past c.args.mode c.args.kind c.args.inst.now c.tasks-tasks.ensures.ranked c.args.cycle c.args.set.now c.args.most (g.D.Desk.desk c.args.desk.now) (g.D.Desk.desk c.search.desk) c.search.standing.passed.items c.search.standing.frame
+    c.search.invariant.searching (c.search.units.used - c.args.units.now.used) (c.search.units.used - c.args.units.now.used + on.light)
+    c.search.invariant.keeps c.search.invariant.tally on.last on.light on.skips refl in
+    let e = ended c.args.mode c.args.kind c.args.inst.now c.args.cycle c.args.set.now c.args.most (g.D.Desk.desk c.args.desk.now) (g.D.Desk.desk c.search.desk) (g.D.Desk.desk c.list_load.new.desk) u
+    c.list_load.new.standing (c.search.units.used - c.args.units.now.used + on.light) (c.list_load.new.units.used - c.args.units.now.used)
+    (past_none c.list_load.new.units.used c.search.units.used on.light 0 c.args.units.now.used
+    on.cost refl c.search.invariant.spent) n searching
+    tally in
     record {
       most = stations_few c.args.mode c.args.kind c.args.inst.now c.tasks-tasks.ensures.ranked c.args.cycle c.args.set.now c.args.most (entries (g.D.Desk.desk c.list_load.new.desk)) c.list_load.new.standing.passed.items
           c.list_load.new.standing.frame e.now c.requires.few;
@@ -128,25 +145,37 @@ returns-in_err-id-in-Ended-clause-keeps g c =
 
 pub returns-in_err-id-in-Ended-clause-accounts : goal.returns-in_err-id-in-Ended-clause-accounts
 returns-in_err-id-in-Ended-clause-accounts g c =
-    let S : Listed → Type 0 = λ z. Lists c.args.kind c.args.inst.now c.args.cycle (g.D.Desk.desk c.search.desk).alone (g.D.Desk.desk c.search.desk) (g.D.Desk.desk c.list_load.new.desk)
-    c.search.standing c.list_load.new.standing c.list_load.new.units.left z in
-    let n = subst S c.in-Ended.is c.in_ok-list_load.ensures.lists in
-    let e = ended c.args.mode c.args.kind c.args.inst.now c.args.cycle c.args.set.now c.args.most (g.D.Desk.desk c.args.desk.now) (g.D.Desk.desk c.search.desk) (g.D.Desk.desk c.list_load.new.desk) c.search.standing
-    c.list_load.new.standing (c.search.units.used - c.args.units.now.used) (c.list_load.new.units.used - c.args.units.now.used)
-    (used_none c.list_load.new.units.used c.search.units.used (units_of c.in_ok-list_load.field-0) c.args.units.now.used
-    c.in_ok-list_load.ensures.used (ap units_of c.in-Ended.is)) n c.search.invariant.searching
-    c.search.invariant.tally in
+    let S : Listed → Type 0 = λ z. ListsOn c.args.kind c.args.inst.now c.args.cycle (g.D.Desk.desk c.search.desk).alone (g.D.Desk.desk c.search.desk) (g.D.Desk.desk c.list_load.new.desk)
+    c.search.standing c.list_load.new.standing c.search.units.used c.list_load.new.units.used
+    c.list_load.new.units.left z in
+    let on = subst S c.in-Ended.is c.in_ok-list_load.ensures.lists in
+    let n = on.lists in
+    let u = stands_with c.search.standing (with_mark c.search.standing.frame on.last) on.listing in
+    let searching = searching_past c.args.mode c.args.kind c.args.inst.now c.tasks-tasks.ensures.ranked c.args.cycle c.args.set.now c.args.most (g.D.Desk.desk c.args.desk.now) (g.D.Desk.desk c.search.desk) c.search.standing.passed.items c.search.standing.frame
+    c.search.invariant.searching on.last on.light on.skips in
+    let tally = tally_past c.args.mode c.args.kind c.args.inst.now c.tasks-tasks.ensures.ranked c.args.cycle c.args.set.now c.args.most (g.D.Desk.desk c.args.desk.now) (g.D.Desk.desk c.search.desk) c.search.standing.passed.items c.search.standing.frame
+    c.search.invariant.searching (c.search.units.used - c.args.units.now.used) (c.search.units.used - c.args.units.now.used + on.light)
+    c.search.invariant.keeps c.search.invariant.tally on.last on.light on.skips refl in
+    let e = ended c.args.mode c.args.kind c.args.inst.now c.args.cycle c.args.set.now c.args.most (g.D.Desk.desk c.args.desk.now) (g.D.Desk.desk c.search.desk) (g.D.Desk.desk c.list_load.new.desk) u
+    c.list_load.new.standing (c.search.units.used - c.args.units.now.used + on.light) (c.list_load.new.units.used - c.args.units.now.used)
+    (past_none c.list_load.new.units.used c.search.units.used on.light 0 c.args.units.now.used
+    on.cost refl c.search.invariant.spent) n searching
+    tally in
     on_err c.from_residual-in_err-id-in-Ended.result (Accounts c.args.mode c.args.kind c.args.inst.now c.args.cycle (g.D.Desk.desk c.args.desk.now) (g.D.Desk.desk c.publish_branch.new.desk) [] (c.list_load.new.units.used - c.args.units.now.used) (c.list_load.new.units.used - c.args.units.now.used))
     (ends_waiting c.args.mode c.args.kind c.args.inst.now c.tasks-tasks.ensures.ranked c.args.cycle (g.D.Desk.desk c.args.desk.now) (g.D.Desk.desk c.list_load.new.desk) (g.D.Desk.desk c.publish_branch.new.desk) c.list_load.new.standing.passed.items
     c.list_load.new.standing.frame (c.list_load.new.units.used - c.args.units.now.used) (keeps_both (g.D.Desk.desk c.args.desk.now) (g.D.Desk.desk c.search.desk) (g.D.Desk.desk c.list_load.new.desk) c.search.invariant.keeps c.list_load.ensures.keeps) c.publish_branch.ensures.keeps e.tally c.in_err-id-in-Ended.ensures.waits)
 
 pub go_up-requires : goal.go_up-requires
 go_up-requires g c =
-    let S : Listed → Type 0 = λ z. Lists c.args.kind c.args.inst.now c.args.cycle (g.D.Desk.desk c.search.desk).alone (g.D.Desk.desk c.search.desk) (g.D.Desk.desk c.list_load.new.desk)
-    c.search.standing c.list_load.new.standing c.list_load.new.units.left z in
-    let n = subst S c.in-Ended.is c.in_ok-list_load.ensures.lists in
-    let r = ready_with c.args.inst.now c.args.cycle c.search.standing c.list_load.new.standing c.search.standing.frame
-    c.list_load.new.standing.listing n.0.stays c.search.invariant.ready in
+    let S : Listed → Type 0 = λ z. ListsOn c.args.kind c.args.inst.now c.args.cycle (g.D.Desk.desk c.search.desk).alone (g.D.Desk.desk c.search.desk) (g.D.Desk.desk c.list_load.new.desk)
+    c.search.standing c.list_load.new.standing c.search.units.used c.list_load.new.units.used
+    c.list_load.new.units.left z in
+    let on = subst S c.in-Ended.is c.in_ok-list_load.ensures.lists in
+    let n = on.lists in
+    let u = stands_with c.search.standing (with_mark c.search.standing.frame on.last) on.listing in
+    let ready : IsReady c.args.inst.now c.args.cycle u = record { room = c.search.invariant.ready.room; paired = c.search.invariant.ready.paired } in
+    let r = ready_with c.args.inst.now c.args.cycle u c.list_load.new.standing u.frame
+    c.list_load.new.standing.listing n.0.stays ready in
     record { ready = sym r.paired.as_many }
 
 pub returns-in_err-up-in-Ended-clause-keeps : goal.returns-in_err-up-in-Ended-clause-keeps
@@ -155,14 +184,22 @@ returns-in_err-up-in-Ended-clause-keeps g c =
 
 pub returns-in_err-up-in-Ended-clause-accounts : goal.returns-in_err-up-in-Ended-clause-accounts
 returns-in_err-up-in-Ended-clause-accounts g c =
-    let S : Listed → Type 0 = λ z. Lists c.args.kind c.args.inst.now c.args.cycle (g.D.Desk.desk c.search.desk).alone (g.D.Desk.desk c.search.desk) (g.D.Desk.desk c.list_load.new.desk)
-    c.search.standing c.list_load.new.standing c.list_load.new.units.left z in
-    let n = subst S c.in-Ended.is c.in_ok-list_load.ensures.lists in
-    let e = ended c.args.mode c.args.kind c.args.inst.now c.args.cycle c.args.set.now c.args.most (g.D.Desk.desk c.args.desk.now) (g.D.Desk.desk c.search.desk) (g.D.Desk.desk c.list_load.new.desk) c.search.standing
-    c.list_load.new.standing (c.search.units.used - c.args.units.now.used) (c.list_load.new.units.used - c.args.units.now.used)
-    (used_none c.list_load.new.units.used c.search.units.used (units_of c.in_ok-list_load.field-0) c.args.units.now.used
-    c.in_ok-list_load.ensures.used (ap units_of c.in-Ended.is)) n c.search.invariant.searching
-    c.search.invariant.tally in
+    let S : Listed → Type 0 = λ z. ListsOn c.args.kind c.args.inst.now c.args.cycle (g.D.Desk.desk c.search.desk).alone (g.D.Desk.desk c.search.desk) (g.D.Desk.desk c.list_load.new.desk)
+    c.search.standing c.list_load.new.standing c.search.units.used c.list_load.new.units.used
+    c.list_load.new.units.left z in
+    let on = subst S c.in-Ended.is c.in_ok-list_load.ensures.lists in
+    let n = on.lists in
+    let u = stands_with c.search.standing (with_mark c.search.standing.frame on.last) on.listing in
+    let searching = searching_past c.args.mode c.args.kind c.args.inst.now c.tasks-tasks.ensures.ranked c.args.cycle c.args.set.now c.args.most (g.D.Desk.desk c.args.desk.now) (g.D.Desk.desk c.search.desk) c.search.standing.passed.items c.search.standing.frame
+    c.search.invariant.searching on.last on.light on.skips in
+    let tally = tally_past c.args.mode c.args.kind c.args.inst.now c.tasks-tasks.ensures.ranked c.args.cycle c.args.set.now c.args.most (g.D.Desk.desk c.args.desk.now) (g.D.Desk.desk c.search.desk) c.search.standing.passed.items c.search.standing.frame
+    c.search.invariant.searching (c.search.units.used - c.args.units.now.used) (c.search.units.used - c.args.units.now.used + on.light)
+    c.search.invariant.keeps c.search.invariant.tally on.last on.light on.skips refl in
+    let e = ended c.args.mode c.args.kind c.args.inst.now c.args.cycle c.args.set.now c.args.most (g.D.Desk.desk c.args.desk.now) (g.D.Desk.desk c.search.desk) (g.D.Desk.desk c.list_load.new.desk) u
+    c.list_load.new.standing (c.search.units.used - c.args.units.now.used + on.light) (c.list_load.new.units.used - c.args.units.now.used)
+    (past_none c.list_load.new.units.used c.search.units.used on.light 0 c.args.units.now.used
+    on.cost refl c.search.invariant.spent) n searching
+    tally in
     on_err c.from_residual-in_err-up-in-Ended.result (Accounts c.args.mode c.args.kind c.args.inst.now c.args.cycle (g.D.Desk.desk c.args.desk.now) (g.D.Desk.desk c.publish_branch.new.desk) [] (c.list_load.new.units.used - c.args.units.now.used) (c.list_load.new.units.used - c.args.units.now.used))
     (ends_refuted c.args.mode c.args.kind c.args.inst.now c.tasks-tasks.ensures.ranked c.args.cycle (g.D.Desk.desk c.args.desk.now) (g.D.Desk.desk c.list_load.new.desk) (g.D.Desk.desk c.publish_branch.new.desk) c.list_load.new.standing.passed.items
     c.list_load.new.standing.frame (c.list_load.new.units.used - c.args.units.now.used) (keeps_both (g.D.Desk.desk c.args.desk.now) (g.D.Desk.desk c.search.desk) (g.D.Desk.desk c.list_load.new.desk) c.search.invariant.keeps c.list_load.ensures.keeps) c.publish_branch.ensures.keeps e.tally (refuted c.args.mode c.args.kind c.args.inst.now c.tasks-tasks.ensures.ranked c.args.cycle c.args.set.now c.args.most (g.D.Desk.desk c.args.desk.now) (g.D.Desk.desk c.list_load.new.desk) (g.D.Desk.desk c.publish_branch.new.desk) c.list_load.new.standing.passed.items
@@ -175,14 +212,22 @@ returns-then-not-up-clause-keeps g c =
 
 pub returns-then-not-up-clause-decides : goal.returns-then-not-up-clause-decides
 returns-then-not-up-clause-decides g c =
-    let S : Listed → Type 0 = λ z. Lists c.args.kind c.args.inst.now c.args.cycle (g.D.Desk.desk c.search.desk).alone (g.D.Desk.desk c.search.desk) (g.D.Desk.desk c.list_load.new.desk)
-    c.search.standing c.list_load.new.standing c.list_load.new.units.left z in
-    let n = subst S c.in-Ended.is c.in_ok-list_load.ensures.lists in
-    let e = ended c.args.mode c.args.kind c.args.inst.now c.args.cycle c.args.set.now c.args.most (g.D.Desk.desk c.args.desk.now) (g.D.Desk.desk c.search.desk) (g.D.Desk.desk c.list_load.new.desk) c.search.standing
-    c.list_load.new.standing (c.search.units.used - c.args.units.now.used) (c.list_load.new.units.used - c.args.units.now.used)
-    (used_none c.list_load.new.units.used c.search.units.used (units_of c.in_ok-list_load.field-0) c.args.units.now.used
-    c.in_ok-list_load.ensures.used (ap units_of c.in-Ended.is)) n c.search.invariant.searching
-    c.search.invariant.tally in (
+    let S : Listed → Type 0 = λ z. ListsOn c.args.kind c.args.inst.now c.args.cycle (g.D.Desk.desk c.search.desk).alone (g.D.Desk.desk c.search.desk) (g.D.Desk.desk c.list_load.new.desk)
+    c.search.standing c.list_load.new.standing c.search.units.used c.list_load.new.units.used
+    c.list_load.new.units.left z in
+    let on = subst S c.in-Ended.is c.in_ok-list_load.ensures.lists in
+    let n = on.lists in
+    let u = stands_with c.search.standing (with_mark c.search.standing.frame on.last) on.listing in
+    let searching = searching_past c.args.mode c.args.kind c.args.inst.now c.tasks-tasks.ensures.ranked c.args.cycle c.args.set.now c.args.most (g.D.Desk.desk c.args.desk.now) (g.D.Desk.desk c.search.desk) c.search.standing.passed.items c.search.standing.frame
+    c.search.invariant.searching on.last on.light on.skips in
+    let tally = tally_past c.args.mode c.args.kind c.args.inst.now c.tasks-tasks.ensures.ranked c.args.cycle c.args.set.now c.args.most (g.D.Desk.desk c.args.desk.now) (g.D.Desk.desk c.search.desk) c.search.standing.passed.items c.search.standing.frame
+    c.search.invariant.searching (c.search.units.used - c.args.units.now.used) (c.search.units.used - c.args.units.now.used + on.light)
+    c.search.invariant.keeps c.search.invariant.tally on.last on.light on.skips refl in
+    let e = ended c.args.mode c.args.kind c.args.inst.now c.args.cycle c.args.set.now c.args.most (g.D.Desk.desk c.args.desk.now) (g.D.Desk.desk c.search.desk) (g.D.Desk.desk c.list_load.new.desk) u
+    c.list_load.new.standing (c.search.units.used - c.args.units.now.used + on.light) (c.list_load.new.units.used - c.args.units.now.used)
+    (past_none c.list_load.new.units.used c.search.units.used on.light 0 c.args.units.now.used
+    on.cost refl c.search.invariant.spent) n searching
+    tally in (
       c.requires.bound,
       answers_asked c.args.mode c.args.kind c.args.inst.now c.tasks-tasks.ensures.ranked c.args.cycle c.args.set.now c.args.most (entries (g.D.Desk.desk c.list_load.new.desk)) c.list_load.new.standing.passed.items
           c.list_load.new.standing.frame e.now (entries (g.D.Desk.desk c.publish_branch.new.desk)) c.in_ok-id-in-Ended.id
@@ -191,14 +236,22 @@ returns-then-not-up-clause-decides g c =
 
 pub returns-then-not-up-clause-ends : goal.returns-then-not-up-clause-ends
 returns-then-not-up-clause-ends g c =
-    let S : Listed → Type 0 = λ z. Lists c.args.kind c.args.inst.now c.args.cycle (g.D.Desk.desk c.search.desk).alone (g.D.Desk.desk c.search.desk) (g.D.Desk.desk c.list_load.new.desk)
-    c.search.standing c.list_load.new.standing c.list_load.new.units.left z in
-    let n = subst S c.in-Ended.is c.in_ok-list_load.ensures.lists in
-    let e = ended c.args.mode c.args.kind c.args.inst.now c.args.cycle c.args.set.now c.args.most (g.D.Desk.desk c.args.desk.now) (g.D.Desk.desk c.search.desk) (g.D.Desk.desk c.list_load.new.desk) c.search.standing
-    c.list_load.new.standing (c.search.units.used - c.args.units.now.used) (c.list_load.new.units.used - c.args.units.now.used)
-    (used_none c.list_load.new.units.used c.search.units.used (units_of c.in_ok-list_load.field-0) c.args.units.now.used
-    c.in_ok-list_load.ensures.used (ap units_of c.in-Ended.is)) n c.search.invariant.searching
-    c.search.invariant.tally in
+    let S : Listed → Type 0 = λ z. ListsOn c.args.kind c.args.inst.now c.args.cycle (g.D.Desk.desk c.search.desk).alone (g.D.Desk.desk c.search.desk) (g.D.Desk.desk c.list_load.new.desk)
+    c.search.standing c.list_load.new.standing c.search.units.used c.list_load.new.units.used
+    c.list_load.new.units.left z in
+    let on = subst S c.in-Ended.is c.in_ok-list_load.ensures.lists in
+    let n = on.lists in
+    let u = stands_with c.search.standing (with_mark c.search.standing.frame on.last) on.listing in
+    let searching = searching_past c.args.mode c.args.kind c.args.inst.now c.tasks-tasks.ensures.ranked c.args.cycle c.args.set.now c.args.most (g.D.Desk.desk c.args.desk.now) (g.D.Desk.desk c.search.desk) c.search.standing.passed.items c.search.standing.frame
+    c.search.invariant.searching on.last on.light on.skips in
+    let tally = tally_past c.args.mode c.args.kind c.args.inst.now c.tasks-tasks.ensures.ranked c.args.cycle c.args.set.now c.args.most (g.D.Desk.desk c.args.desk.now) (g.D.Desk.desk c.search.desk) c.search.standing.passed.items c.search.standing.frame
+    c.search.invariant.searching (c.search.units.used - c.args.units.now.used) (c.search.units.used - c.args.units.now.used + on.light)
+    c.search.invariant.keeps c.search.invariant.tally on.last on.light on.skips refl in
+    let e = ended c.args.mode c.args.kind c.args.inst.now c.args.cycle c.args.set.now c.args.most (g.D.Desk.desk c.args.desk.now) (g.D.Desk.desk c.search.desk) (g.D.Desk.desk c.list_load.new.desk) u
+    c.list_load.new.standing (c.search.units.used - c.args.units.now.used + on.light) (c.list_load.new.units.used - c.args.units.now.used)
+    (past_none c.list_load.new.units.used c.search.units.used on.light 0 c.args.units.now.used
+    on.cost refl c.search.invariant.spent) n searching
+    tally in
     tally_ends c.args.mode c.args.kind c.args.inst.now c.tasks-tasks.ensures.ranked c.args.cycle (g.D.Desk.desk c.args.desk.now) (g.D.Desk.desk c.list_load.new.desk) (g.D.Desk.desk c.publish_branch.new.desk) c.list_load.new.standing.passed.items
     c.list_load.new.standing.frame (c.list_load.new.units.used - c.args.units.now.used) (keeps_both (g.D.Desk.desk c.args.desk.now) (g.D.Desk.desk c.search.desk) (g.D.Desk.desk c.list_load.new.desk) c.search.invariant.keeps c.list_load.ensures.keeps) c.publish_branch.ensures.keeps e.tally (refuted c.args.mode c.args.kind c.args.inst.now c.tasks-tasks.ensures.ranked c.args.cycle c.args.set.now c.args.most (g.D.Desk.desk c.args.desk.now) (g.D.Desk.desk c.list_load.new.desk) (g.D.Desk.desk c.publish_branch.new.desk) c.list_load.new.standing.passed.items
     c.list_load.new.standing.frame (c.list_load.new.units.used - c.args.units.now.used) (keeps_both (g.D.Desk.desk c.args.desk.now) (g.D.Desk.desk c.search.desk) (g.D.Desk.desk c.list_load.new.desk) c.search.invariant.keeps c.list_load.ensures.keeps) c.publish_branch.ensures.keeps e.tally (entries (g.D.Desk.desk c.list_load.new.desk)) e.now
@@ -206,16 +259,25 @@ returns-then-not-up-clause-ends g c =
 
 pub search-preserved-else-not-up : goal.search-preserved-else-not-up
 search-preserved-else-not-up g c =
-    let S : Listed → Type 0 = λ z. Lists c.args.kind c.args.inst.now c.args.cycle (g.D.Desk.desk c.search.desk).alone (g.D.Desk.desk c.search.desk) (g.D.Desk.desk c.list_load.new.desk)
-    c.search.standing c.list_load.new.standing c.list_load.new.units.left z in
-    let n = subst S c.in-Ended.is c.in_ok-list_load.ensures.lists in
-    let e = ended c.args.mode c.args.kind c.args.inst.now c.args.cycle c.args.set.now c.args.most (g.D.Desk.desk c.args.desk.now) (g.D.Desk.desk c.search.desk) (g.D.Desk.desk c.list_load.new.desk) c.search.standing
-    c.list_load.new.standing (c.search.units.used - c.args.units.now.used) (c.list_load.new.units.used - c.args.units.now.used)
-    (used_none c.list_load.new.units.used c.search.units.used (units_of c.in_ok-list_load.field-0) c.args.units.now.used
-    c.in_ok-list_load.ensures.used (ap units_of c.in-Ended.is)) n c.search.invariant.searching
-    c.search.invariant.tally in
-    let r = ready_with c.args.inst.now c.args.cycle c.search.standing c.list_load.new.standing c.search.standing.frame
-    c.list_load.new.standing.listing n.0.stays c.search.invariant.ready in
+    let S : Listed → Type 0 = λ z. ListsOn c.args.kind c.args.inst.now c.args.cycle (g.D.Desk.desk c.search.desk).alone (g.D.Desk.desk c.search.desk) (g.D.Desk.desk c.list_load.new.desk)
+    c.search.standing c.list_load.new.standing c.search.units.used c.list_load.new.units.used
+    c.list_load.new.units.left z in
+    let on = subst S c.in-Ended.is c.in_ok-list_load.ensures.lists in
+    let n = on.lists in
+    let u = stands_with c.search.standing (with_mark c.search.standing.frame on.last) on.listing in
+    let searching = searching_past c.args.mode c.args.kind c.args.inst.now c.tasks-tasks.ensures.ranked c.args.cycle c.args.set.now c.args.most (g.D.Desk.desk c.args.desk.now) (g.D.Desk.desk c.search.desk) c.search.standing.passed.items c.search.standing.frame
+    c.search.invariant.searching on.last on.light on.skips in
+    let tally = tally_past c.args.mode c.args.kind c.args.inst.now c.tasks-tasks.ensures.ranked c.args.cycle c.args.set.now c.args.most (g.D.Desk.desk c.args.desk.now) (g.D.Desk.desk c.search.desk) c.search.standing.passed.items c.search.standing.frame
+    c.search.invariant.searching (c.search.units.used - c.args.units.now.used) (c.search.units.used - c.args.units.now.used + on.light)
+    c.search.invariant.keeps c.search.invariant.tally on.last on.light on.skips refl in
+    let ready : IsReady c.args.inst.now c.args.cycle u = record { room = c.search.invariant.ready.room; paired = c.search.invariant.ready.paired } in
+    let e = ended c.args.mode c.args.kind c.args.inst.now c.args.cycle c.args.set.now c.args.most (g.D.Desk.desk c.args.desk.now) (g.D.Desk.desk c.search.desk) (g.D.Desk.desk c.list_load.new.desk) u
+    c.list_load.new.standing (c.search.units.used - c.args.units.now.used + on.light) (c.list_load.new.units.used - c.args.units.now.used)
+    (past_none c.list_load.new.units.used c.search.units.used on.light 0 c.args.units.now.used
+    on.cost refl c.search.invariant.spent) n searching
+    tally in
+    let r = ready_with c.args.inst.now c.args.cycle u c.list_load.new.standing u.frame
+    c.list_load.new.standing.listing n.0.stays ready in
     let up = c.in_ok-up-in-Ended.ensures.up c.if-not-up.false in
     let w : Standing = record {
       passed = c.list_load.new.standing.passed;
@@ -228,8 +290,8 @@ search-preserved-else-not-up g c =
       keeps = keeps_both (g.D.Desk.desk c.args.desk.now) (g.D.Desk.desk c.list_load.new.desk) (g.D.Desk.desk c.publish_branch.new.desk) (keeps_both (g.D.Desk.desk c.args.desk.now) (g.D.Desk.desk c.search.desk) (g.D.Desk.desk c.list_load.new.desk) c.search.invariant.keeps c.list_load.ensures.keeps) c.publish_branch.ensures.keeps;
       pairs = c.go_up.ensures.pairs ∙ (c.list_load.ensures.pairs ∙ c.search.invariant.pairs);
       units = c.list_load.ensures.units ∙ c.search.invariant.units;
-      spent = used_still c.list_load.new.units.used c.search.units.used (units_of c.in_ok-list_load.field-0) c.args.units.now.used
-          c.in_ok-list_load.ensures.used c.search.invariant.spent;
+      spent = used_still c.list_load.new.units.used c.search.units.used (on.light + 0) c.args.units.now.used
+          on.cost c.search.invariant.spent;
       searching = searching_up c.args.mode c.args.kind c.args.inst.now c.tasks-tasks.ensures.ranked c.args.cycle c.args.set.now c.args.most w c.go_up.new.standing c.list_load.new.standing.frame
           c.in_ok-id-in-Ended.id up (entries (g.D.Desk.desk c.publish_branch.new.desk)) c.requires.set (grown c.args.mode c.args.kind c.args.inst.now c.tasks-tasks.ensures.ranked c.args.cycle c.args.set.now c.args.most (g.D.Desk.desk c.list_load.new.desk) (g.D.Desk.desk c.publish_branch.new.desk)
           c.list_load.new.standing.passed.items c.list_load.new.standing.frame c.publish_branch.ensures.keeps e.now)
@@ -244,19 +306,26 @@ search-preserved-else-not-up g c =
 
 pub search-smaller-else-not-up : goal.search-smaller-else-not-up
 search-smaller-else-not-up g c =
-    let S : Listed → Type 0 = λ z. Lists c.args.kind c.args.inst.now c.args.cycle (g.D.Desk.desk c.search.desk).alone (g.D.Desk.desk c.search.desk) (g.D.Desk.desk c.list_load.new.desk)
-    c.search.standing c.list_load.new.standing c.list_load.new.units.left z in
-    let n = subst S c.in-Ended.is c.in_ok-list_load.ensures.lists in
-    let e = ended c.args.mode c.args.kind c.args.inst.now c.args.cycle c.args.set.now c.args.most (g.D.Desk.desk c.args.desk.now) (g.D.Desk.desk c.search.desk) (g.D.Desk.desk c.list_load.new.desk) c.search.standing
-    c.list_load.new.standing (c.search.units.used - c.args.units.now.used) (c.list_load.new.units.used - c.args.units.now.used)
-    (used_none c.list_load.new.units.used c.search.units.used (units_of c.in_ok-list_load.field-0) c.args.units.now.used
-    c.in_ok-list_load.ensures.used (ap units_of c.in-Ended.is)) n c.search.invariant.searching
-    c.search.invariant.tally in
+    let S : Listed → Type 0 = λ z. ListsOn c.args.kind c.args.inst.now c.args.cycle (g.D.Desk.desk c.search.desk).alone (g.D.Desk.desk c.search.desk) (g.D.Desk.desk c.list_load.new.desk)
+    c.search.standing c.list_load.new.standing c.search.units.used c.list_load.new.units.used
+    c.list_load.new.units.left z in
+    let on = subst S c.in-Ended.is c.in_ok-list_load.ensures.lists in
+    let n = on.lists in
+    let u = stands_with c.search.standing (with_mark c.search.standing.frame on.last) on.listing in
+    let searching = searching_past c.args.mode c.args.kind c.args.inst.now c.tasks-tasks.ensures.ranked c.args.cycle c.args.set.now c.args.most (g.D.Desk.desk c.args.desk.now) (g.D.Desk.desk c.search.desk) c.search.standing.passed.items c.search.standing.frame
+    c.search.invariant.searching on.last on.light on.skips in
+    let tally = tally_past c.args.mode c.args.kind c.args.inst.now c.tasks-tasks.ensures.ranked c.args.cycle c.args.set.now c.args.most (g.D.Desk.desk c.args.desk.now) (g.D.Desk.desk c.search.desk) c.search.standing.passed.items c.search.standing.frame
+    c.search.invariant.searching (c.search.units.used - c.args.units.now.used) (c.search.units.used - c.args.units.now.used + on.light)
+    c.search.invariant.keeps c.search.invariant.tally on.last on.light on.skips refl in
+    let e = ended c.args.mode c.args.kind c.args.inst.now c.args.cycle c.args.set.now c.args.most (g.D.Desk.desk c.args.desk.now) (g.D.Desk.desk c.search.desk) (g.D.Desk.desk c.list_load.new.desk) u
+    c.list_load.new.standing (c.search.units.used - c.args.units.now.used + on.light) (c.list_load.new.units.used - c.args.units.now.used)
+    (past_none c.list_load.new.units.used c.search.units.used on.light 0 c.args.units.now.used
+    on.cost refl c.search.invariant.spent) n searching
+    tally in
     let up = c.in_ok-up-in-Ended.ensures.up c.if-not-up.false in
     omega (
       arith,
-      c.in_ok-list_load.ensures.used,
-      ap units_of c.in-Ended.is,
+      on.cost,
       c.list_load.ensures.units,
       ap (λ (z : Standing). length z.passed.items) n.0.stays,
       ap (λ (z : List OpenFrame). length z) up.passed,
@@ -265,26 +334,28 @@ search-smaller-else-not-up g c =
 
 pub search-smaller-in-Passed : goal.search-smaller-in-Passed
 search-smaller-in-Passed g c =
-    let S : Listed → Type 0 = λ z. Lists c.args.kind c.args.inst.now c.args.cycle (g.D.Desk.desk c.search.desk).alone (g.D.Desk.desk c.search.desk) (g.D.Desk.desk c.list_load.new.desk)
-    c.search.standing c.list_load.new.standing c.list_load.new.units.left z in
-    let n = subst S c.in-Passed.is c.in_ok-list_load.ensures.lists in
+    let S : Listed → Type 0 = λ z. ListsOn c.args.kind c.args.inst.now c.args.cycle (g.D.Desk.desk c.search.desk).alone (g.D.Desk.desk c.search.desk) (g.D.Desk.desk c.list_load.new.desk)
+    c.search.standing c.list_load.new.standing c.search.units.used c.list_load.new.units.used
+    c.list_load.new.units.left z in
+    let on = subst S c.in-Passed.is c.in_ok-list_load.ensures.lists in
+    let n = on.lists in
     omega (
       arith,
-      c.in_ok-list_load.ensures.used,
-      ap units_of c.in-Passed.is,
+      on.cost,
       c.list_load.ensures.units,
       ap (λ (z : Standing). length z.passed.items) n.stands,
     )
 
 pub search-smaller : goal.search-smaller
 search-smaller g c =
-    let S : Listed → Type 0 = λ z. Lists c.args.kind c.args.inst.now c.args.cycle (g.D.Desk.desk c.search.desk).alone (g.D.Desk.desk c.search.desk) (g.D.Desk.desk c.list_load.new.desk)
-    c.search.standing c.list_load.new.standing c.list_load.new.units.left z in
-    let n = subst S c.in-Open.is c.in_ok-list_load.ensures.lists in
+    let S : Listed → Type 0 = λ z. ListsOn c.args.kind c.args.inst.now c.args.cycle (g.D.Desk.desk c.search.desk).alone (g.D.Desk.desk c.search.desk) (g.D.Desk.desk c.list_load.new.desk)
+    c.search.standing c.list_load.new.standing c.search.units.used c.list_load.new.units.used
+    c.list_load.new.units.left z in
+    let on = subst S c.in-Open.is c.in_ok-list_load.ensures.lists in
+    let n = on.lists in
     omega (
       arith,
-      c.in_ok-list_load.ensures.used,
-      ap units_of c.in-Open.is,
+      on.cost,
       c.list_load.ensures.units,
       ap (λ (z : Standing). length z.passed.items) n.0.stands,
       ap (λ (z : List OpenFrame). length z) c.in_ok-go_down-in-Open.ensures.down.passed,
@@ -297,43 +368,63 @@ returns-in-Spent-clause-keeps g c =
 
 pub returns-in-Spent-clause-decides : goal.returns-in-Spent-clause-decides
 returns-in-Spent-clause-decides g c =
-    let S : Listed → Type 0 = λ z. Lists c.args.kind c.args.inst.now c.args.cycle (g.D.Desk.desk c.search.desk).alone (g.D.Desk.desk c.search.desk) (g.D.Desk.desk c.list_load.new.desk)
-    c.search.standing c.list_load.new.standing c.list_load.new.units.left z in
-    let n = subst S c.in-Spent.is c.in_ok-list_load.ensures.lists in
-    stops_at c.args.mode c.args.kind c.args.inst.now c.tasks-tasks.ensures.ranked c.args.cycle c.args.set.now c.args.most (g.D.Desk.desk c.search.desk) (g.D.Desk.desk c.list_load.new.desk) c.search.standing c.list_load.new.standing c.trail_of.result
-    c.list_load.new.units.left c.requires.bound c.trail_of.ensures n c.search.invariant.searching
+    let S : Listed → Type 0 = λ z. ListsOn c.args.kind c.args.inst.now c.args.cycle (g.D.Desk.desk c.search.desk).alone (g.D.Desk.desk c.search.desk) (g.D.Desk.desk c.list_load.new.desk)
+    c.search.standing c.list_load.new.standing c.search.units.used c.list_load.new.units.used
+    c.list_load.new.units.left z in
+    let on = subst S c.in-Spent.is c.in_ok-list_load.ensures.lists in
+    let n = on.lists in
+    let u = stands_with c.search.standing (with_mark c.search.standing.frame on.last) on.listing in
+    let searching = searching_past c.args.mode c.args.kind c.args.inst.now c.tasks-tasks.ensures.ranked c.args.cycle c.args.set.now c.args.most (g.D.Desk.desk c.args.desk.now) (g.D.Desk.desk c.search.desk) c.search.standing.passed.items c.search.standing.frame
+    c.search.invariant.searching on.last on.light on.skips in
+    stops_at c.args.mode c.args.kind c.args.inst.now c.tasks-tasks.ensures.ranked c.args.cycle c.args.set.now c.args.most (g.D.Desk.desk c.search.desk) (g.D.Desk.desk c.list_load.new.desk) u c.list_load.new.standing c.trail_of.result
+    c.list_load.new.units.left c.requires.bound c.trail_of.ensures n searching
 
 pub returns-in-Spent-clause-ends : goal.returns-in-Spent-clause-ends
 returns-in-Spent-clause-ends g c =
-    let S : Listed → Type 0 = λ z. Lists c.args.kind c.args.inst.now c.args.cycle (g.D.Desk.desk c.search.desk).alone (g.D.Desk.desk c.search.desk) (g.D.Desk.desk c.list_load.new.desk)
-    c.search.standing c.list_load.new.standing c.list_load.new.units.left z in
-    let n = subst S c.in-Spent.is c.in_ok-list_load.ensures.lists in
-    stopped_at c.args.mode c.args.kind c.args.inst.now c.tasks-tasks.ensures.ranked c.args.cycle (g.D.Desk.desk c.args.desk.now) (g.D.Desk.desk c.search.desk) (g.D.Desk.desk c.list_load.new.desk) c.search.standing c.list_load.new.standing c.trail_of.result
-    (c.search.units.used - c.args.units.now.used) (c.list_load.new.units.used - c.args.units.now.used) (used_none c.list_load.new.units.used c.search.units.used (units_of c.in_ok-list_load.field-0) c.args.units.now.used
-    c.in_ok-list_load.ensures.used (ap units_of c.in-Spent.is)) c.trail_of.ensures
-    n.0 c.search.invariant.tally
+    let S : Listed → Type 0 = λ z. ListsOn c.args.kind c.args.inst.now c.args.cycle (g.D.Desk.desk c.search.desk).alone (g.D.Desk.desk c.search.desk) (g.D.Desk.desk c.list_load.new.desk)
+    c.search.standing c.list_load.new.standing c.search.units.used c.list_load.new.units.used
+    c.list_load.new.units.left z in
+    let on = subst S c.in-Spent.is c.in_ok-list_load.ensures.lists in
+    let n = on.lists in
+    let u = stands_with c.search.standing (with_mark c.search.standing.frame on.last) on.listing in
+    let tally = tally_past c.args.mode c.args.kind c.args.inst.now c.tasks-tasks.ensures.ranked c.args.cycle c.args.set.now c.args.most (g.D.Desk.desk c.args.desk.now) (g.D.Desk.desk c.search.desk) c.search.standing.passed.items c.search.standing.frame
+    c.search.invariant.searching (c.search.units.used - c.args.units.now.used) (c.search.units.used - c.args.units.now.used + on.light)
+    c.search.invariant.keeps c.search.invariant.tally on.last on.light on.skips refl in
+    stopped_at c.args.mode c.args.kind c.args.inst.now c.tasks-tasks.ensures.ranked c.args.cycle (g.D.Desk.desk c.args.desk.now) (g.D.Desk.desk c.search.desk) (g.D.Desk.desk c.list_load.new.desk) u c.list_load.new.standing c.trail_of.result
+    (c.search.units.used - c.args.units.now.used + on.light) (c.list_load.new.units.used - c.args.units.now.used) (past_none c.list_load.new.units.used c.search.units.used on.light 0 c.args.units.now.used
+    on.cost refl c.search.invariant.spent) c.trail_of.ensures
+    n.0 tally
 
 pub search-preserved-in-Passed : goal.search-preserved-in-Passed
 search-preserved-in-Passed g c =
-    let S : Listed → Type 0 = λ z. Lists c.args.kind c.args.inst.now c.args.cycle (g.D.Desk.desk c.search.desk).alone (g.D.Desk.desk c.search.desk) (g.D.Desk.desk c.list_load.new.desk)
-    c.search.standing c.list_load.new.standing c.list_load.new.units.left z in
-    let n = subst S c.in-Passed.is c.in_ok-list_load.ensures.lists in
+    let S : Listed → Type 0 = λ z. ListsOn c.args.kind c.args.inst.now c.args.cycle (g.D.Desk.desk c.search.desk).alone (g.D.Desk.desk c.search.desk) (g.D.Desk.desk c.list_load.new.desk)
+    c.search.standing c.list_load.new.standing c.search.units.used c.list_load.new.units.used
+    c.list_load.new.units.left z in
+    let on = subst S c.in-Passed.is c.in_ok-list_load.ensures.lists in
+    let n = on.lists in
+    let u = stands_with c.search.standing (with_mark c.search.standing.frame on.last) on.listing in
+    let searching = searching_past c.args.mode c.args.kind c.args.inst.now c.tasks-tasks.ensures.ranked c.args.cycle c.args.set.now c.args.most (g.D.Desk.desk c.args.desk.now) (g.D.Desk.desk c.search.desk) c.search.standing.passed.items c.search.standing.frame
+    c.search.invariant.searching on.last on.light on.skips in
+    let tally = tally_past c.args.mode c.args.kind c.args.inst.now c.tasks-tasks.ensures.ranked c.args.cycle c.args.set.now c.args.most (g.D.Desk.desk c.args.desk.now) (g.D.Desk.desk c.search.desk) c.search.standing.passed.items c.search.standing.frame
+    c.search.invariant.searching (c.search.units.used - c.args.units.now.used) (c.search.units.used - c.args.units.now.used + on.light)
+    c.search.invariant.keeps c.search.invariant.tally on.last on.light on.skips refl in
+    let ready : IsReady c.args.inst.now c.args.cycle u = record { room = c.search.invariant.ready.room; paired = c.search.invariant.ready.paired } in
     record {
       keeps = keeps_both (g.D.Desk.desk c.args.desk.now) (g.D.Desk.desk c.search.desk) (g.D.Desk.desk c.list_load.new.desk) c.search.invariant.keeps c.list_load.ensures.keeps;
       pairs = c.list_load.ensures.pairs ∙ c.search.invariant.pairs;
       units = c.list_load.ensures.units ∙ c.search.invariant.units;
-      spent = used_still c.list_load.new.units.used c.search.units.used (units_of c.in_ok-list_load.field-0) c.args.units.now.used
-          c.in_ok-list_load.ensures.used c.search.invariant.spent;
-      searching = searching_on c.args.mode c.args.kind c.args.inst.now c.tasks-tasks.ensures.ranked c.args.cycle c.args.set.now c.args.most (g.D.Desk.desk c.search.desk) (g.D.Desk.desk c.list_load.new.desk) c.search.standing c.list_load.new.standing
-          c.list_load.ensures.keeps c.search.invariant.searching n;
+      spent = used_still c.list_load.new.units.used c.search.units.used (on.light + 1) c.args.units.now.used
+          on.cost c.search.invariant.spent;
+      searching = searching_on c.args.mode c.args.kind c.args.inst.now c.tasks-tasks.ensures.ranked c.args.cycle c.args.set.now c.args.most (g.D.Desk.desk c.search.desk) (g.D.Desk.desk c.list_load.new.desk) u c.list_load.new.standing
+          c.list_load.ensures.keeps searching n;
       beside = n.beside;
-      ready = ready_with c.args.inst.now c.args.cycle c.search.standing c.list_load.new.standing
-          (with_cites (with_last c.search.standing.frame n.load) n.cites) c.list_load.new.standing.listing n.stands
-          c.search.invariant.ready;
-      tally = tally_on c.args.mode c.args.kind c.args.inst.now c.tasks-tasks.ensures.ranked c.args.cycle c.args.set.now c.args.most (g.D.Desk.desk c.search.desk) (g.D.Desk.desk c.list_load.new.desk) c.search.standing c.list_load.new.standing c.list_load.ensures.keeps
-          c.search.invariant.searching (g.D.Desk.desk c.args.desk.now) (c.search.units.used - c.args.units.now.used) (c.list_load.new.units.used - c.args.units.now.used) c.search.invariant.keeps c.search.invariant.tally
-          (used_one c.list_load.new.units.used c.search.units.used (units_of c.in_ok-list_load.field-0) c.args.units.now.used
-          c.in_ok-list_load.ensures.used (ap units_of c.in-Passed.is) c.search.invariant.spent) n;
+      ready = ready_with c.args.inst.now c.args.cycle u c.list_load.new.standing
+          (with_cites (with_last u.frame n.load) n.cites) c.list_load.new.standing.listing n.stands
+          ready;
+      tally = tally_on c.args.mode c.args.kind c.args.inst.now c.tasks-tasks.ensures.ranked c.args.cycle c.args.set.now c.args.most (g.D.Desk.desk c.search.desk) (g.D.Desk.desk c.list_load.new.desk) u c.list_load.new.standing c.list_load.ensures.keeps
+          searching (g.D.Desk.desk c.args.desk.now) (c.search.units.used - c.args.units.now.used + on.light) (c.list_load.new.units.used - c.args.units.now.used) c.search.invariant.keeps tally
+          (past_one c.list_load.new.units.used c.search.units.used on.light 1 c.args.units.now.used
+          on.cost refl c.search.invariant.spent) n;
     }
 
 pub returns-in-Empty-clause-keeps : goal.returns-in-Empty-clause-keeps
@@ -346,68 +437,100 @@ returns-in_err-loads_in_order-in-Empty-clause-keeps g c =
 
 pub returns-in-Empty-clause-decides : goal.returns-in-Empty-clause-decides
 returns-in-Empty-clause-decides g c =
-    let S : Listed → Type 0 = λ z. Lists c.args.kind c.args.inst.now c.args.cycle (g.D.Desk.desk c.search.desk).alone (g.D.Desk.desk c.search.desk) (g.D.Desk.desk c.list_load.new.desk)
-    c.search.standing c.list_load.new.standing c.list_load.new.units.left z in
-    let n = subst S c.in-Empty.is c.in_ok-list_load.ensures.lists in
-    found_at c.args.mode c.args.kind c.args.inst.now c.tasks-tasks.ensures.ranked c.args.cycle c.args.set.now c.args.most (g.D.Desk.desk c.search.desk) (g.D.Desk.desk c.list_load.new.desk) c.search.standing c.list_load.new.standing c.list_load.ensures.keeps
-    c.search.invariant.searching n.0 c.trail_of-frames.result c.in_ok-loads_in_order-in-Empty.field-0 c.requires.bound
+    let S : Listed → Type 0 = λ z. ListsOn c.args.kind c.args.inst.now c.args.cycle (g.D.Desk.desk c.search.desk).alone (g.D.Desk.desk c.search.desk) (g.D.Desk.desk c.list_load.new.desk)
+    c.search.standing c.list_load.new.standing c.search.units.used c.list_load.new.units.used
+    c.list_load.new.units.left z in
+    let on = subst S c.in-Empty.is c.in_ok-list_load.ensures.lists in
+    let n = on.lists in
+    let u = stands_with c.search.standing (with_mark c.search.standing.frame on.last) on.listing in
+    let searching = searching_past c.args.mode c.args.kind c.args.inst.now c.tasks-tasks.ensures.ranked c.args.cycle c.args.set.now c.args.most (g.D.Desk.desk c.args.desk.now) (g.D.Desk.desk c.search.desk) c.search.standing.passed.items c.search.standing.frame
+    c.search.invariant.searching on.last on.light on.skips in
+    found_at c.args.mode c.args.kind c.args.inst.now c.tasks-tasks.ensures.ranked c.args.cycle c.args.set.now c.args.most (g.D.Desk.desk c.search.desk) (g.D.Desk.desk c.list_load.new.desk) u c.list_load.new.standing c.list_load.ensures.keeps
+    searching n.0 c.trail_of-frames.result c.in_ok-loads_in_order-in-Empty.field-0 c.requires.bound
     c.trail_of-frames.ensures c.in_ok-loads_in_order-in-Empty.ensures n.1
 
 pub returns-in-Empty-clause-ends : goal.returns-in-Empty-clause-ends
 returns-in-Empty-clause-ends g c =
-    let S : Listed → Type 0 = λ z. Lists c.args.kind c.args.inst.now c.args.cycle (g.D.Desk.desk c.search.desk).alone (g.D.Desk.desk c.search.desk) (g.D.Desk.desk c.list_load.new.desk)
-    c.search.standing c.list_load.new.standing c.list_load.new.units.left z in
-    let n = subst S c.in-Empty.is c.in_ok-list_load.ensures.lists in
-    gives_up c.args.mode c.args.kind c.args.inst.now c.tasks-tasks.ensures.ranked c.args.cycle c.args.set.now c.args.most (g.D.Desk.desk c.args.desk.now) (g.D.Desk.desk c.search.desk) (g.D.Desk.desk c.list_load.new.desk) c.search.standing.passed.items
-    c.search.standing.frame (c.search.units.used - c.args.units.now.used) c.search.invariant.keeps c.list_load.ensures.keeps c.search.invariant.tally 0
-    (c.list_load.new.units.used - c.args.units.now.used) (does_few c.args.mode c.args.kind c.args.inst.now c.args.cycle (g.D.Desk.desk c.search.desk) (g.D.Desk.desk c.list_load.new.desk) (rest c.search.standing.frame.set n.0.load) 0 0
+    let S : Listed → Type 0 = λ z. ListsOn c.args.kind c.args.inst.now c.args.cycle (g.D.Desk.desk c.search.desk).alone (g.D.Desk.desk c.search.desk) (g.D.Desk.desk c.list_load.new.desk)
+    c.search.standing c.list_load.new.standing c.search.units.used c.list_load.new.units.used
+    c.list_load.new.units.left z in
+    let on = subst S c.in-Empty.is c.in_ok-list_load.ensures.lists in
+    let n = on.lists in
+    let u = stands_with c.search.standing (with_mark c.search.standing.frame on.last) on.listing in
+    let tally = tally_past c.args.mode c.args.kind c.args.inst.now c.tasks-tasks.ensures.ranked c.args.cycle c.args.set.now c.args.most (g.D.Desk.desk c.args.desk.now) (g.D.Desk.desk c.search.desk) c.search.standing.passed.items c.search.standing.frame
+    c.search.invariant.searching (c.search.units.used - c.args.units.now.used) (c.search.units.used - c.args.units.now.used + on.light)
+    c.search.invariant.keeps c.search.invariant.tally on.last on.light on.skips refl in
+    gives_up c.args.mode c.args.kind c.args.inst.now c.tasks-tasks.ensures.ranked c.args.cycle c.args.set.now c.args.most (g.D.Desk.desk c.args.desk.now) (g.D.Desk.desk c.search.desk) (g.D.Desk.desk c.list_load.new.desk) u.passed.items
+    u.frame (c.search.units.used - c.args.units.now.used + on.light) c.search.invariant.keeps c.list_load.ensures.keeps tally 0
+    (c.list_load.new.units.used - c.args.units.now.used) (does_few c.args.mode c.args.kind c.args.inst.now c.args.cycle (g.D.Desk.desk c.search.desk) (g.D.Desk.desk c.list_load.new.desk) (rest u.frame.set n.0.load) 0 0
     (n.0.listed.does c.args.mode)) (at_least 1)
-    (used_one c.list_load.new.units.used c.search.units.used (units_of c.in_ok-list_load.field-0) c.args.units.now.used
-    c.in_ok-list_load.ensures.used (ap units_of c.in-Empty.is) c.search.invariant.spent)
+    (past_some c.list_load.new.units.used c.search.units.used on.light 1 c.args.units.now.used
+    on.cost refl c.search.invariant.spent)
 
 pub returns-in_err-loads_in_order-in-Empty-clause-accounts : goal.returns-in_err-loads_in_order-in-Empty-clause-accounts
 returns-in_err-loads_in_order-in-Empty-clause-accounts g c =
-    let S : Listed → Type 0 = λ z. Lists c.args.kind c.args.inst.now c.args.cycle (g.D.Desk.desk c.search.desk).alone (g.D.Desk.desk c.search.desk) (g.D.Desk.desk c.list_load.new.desk)
-    c.search.standing c.list_load.new.standing c.list_load.new.units.left z in
-    let n = subst S c.in-Empty.is c.in_ok-list_load.ensures.lists in
+    let S : Listed → Type 0 = λ z. ListsOn c.args.kind c.args.inst.now c.args.cycle (g.D.Desk.desk c.search.desk).alone (g.D.Desk.desk c.search.desk) (g.D.Desk.desk c.list_load.new.desk)
+    c.search.standing c.list_load.new.standing c.search.units.used c.list_load.new.units.used
+    c.list_load.new.units.left z in
+    let on = subst S c.in-Empty.is c.in_ok-list_load.ensures.lists in
+    let n = on.lists in
+    let u = stands_with c.search.standing (with_mark c.search.standing.frame on.last) on.listing in
+    let tally = tally_past c.args.mode c.args.kind c.args.inst.now c.tasks-tasks.ensures.ranked c.args.cycle c.args.set.now c.args.most (g.D.Desk.desk c.args.desk.now) (g.D.Desk.desk c.search.desk) c.search.standing.passed.items c.search.standing.frame
+    c.search.invariant.searching (c.search.units.used - c.args.units.now.used) (c.search.units.used - c.args.units.now.used + on.light)
+    c.search.invariant.keeps c.search.invariant.tally on.last on.light on.skips refl in
     on_err c.from_residual-in_err-loads_in_order-in-Empty.result (Accounts c.args.mode c.args.kind c.args.inst.now c.args.cycle (g.D.Desk.desk c.args.desk.now) (g.D.Desk.desk c.list_load.new.desk) [] (c.list_load.new.units.used - c.args.units.now.used) (c.list_load.new.units.used - c.args.units.now.used))
-    (gives_up c.args.mode c.args.kind c.args.inst.now c.tasks-tasks.ensures.ranked c.args.cycle c.args.set.now c.args.most (g.D.Desk.desk c.args.desk.now) (g.D.Desk.desk c.search.desk) (g.D.Desk.desk c.list_load.new.desk) c.search.standing.passed.items
-    c.search.standing.frame (c.search.units.used - c.args.units.now.used) c.search.invariant.keeps c.list_load.ensures.keeps c.search.invariant.tally 0
-    (c.list_load.new.units.used - c.args.units.now.used) (does_few c.args.mode c.args.kind c.args.inst.now c.args.cycle (g.D.Desk.desk c.search.desk) (g.D.Desk.desk c.list_load.new.desk) (rest c.search.standing.frame.set n.0.load) 0 0
+    (gives_up c.args.mode c.args.kind c.args.inst.now c.tasks-tasks.ensures.ranked c.args.cycle c.args.set.now c.args.most (g.D.Desk.desk c.args.desk.now) (g.D.Desk.desk c.search.desk) (g.D.Desk.desk c.list_load.new.desk) u.passed.items
+    u.frame (c.search.units.used - c.args.units.now.used + on.light) c.search.invariant.keeps c.list_load.ensures.keeps tally 0
+    (c.list_load.new.units.used - c.args.units.now.used) (does_few c.args.mode c.args.kind c.args.inst.now c.args.cycle (g.D.Desk.desk c.search.desk) (g.D.Desk.desk c.list_load.new.desk) (rest u.frame.set n.0.load) 0 0
     (n.0.listed.does c.args.mode)) (at_least 1)
-    (used_one c.list_load.new.units.used c.search.units.used (units_of c.in_ok-list_load.field-0) c.args.units.now.used
-    c.in_ok-list_load.ensures.used (ap units_of c.in-Empty.is) c.search.invariant.spent))
+    (past_some c.list_load.new.units.used c.search.units.used on.light 1 c.args.units.now.used
+    on.cost refl c.search.invariant.spent))
 
 pub go_down-requires-clause-set : goal.go_down-requires-clause-set
 go_down-requires-clause-set g c =
-    let S : Listed → Type 0 = λ z. Lists c.args.kind c.args.inst.now c.args.cycle (g.D.Desk.desk c.search.desk).alone (g.D.Desk.desk c.search.desk) (g.D.Desk.desk c.list_load.new.desk)
-    c.search.standing c.list_load.new.standing c.list_load.new.units.left z in
-    let n = subst S c.in-Open.is c.in_ok-list_load.ensures.lists in
+    let S : Listed → Type 0 = λ z. ListsOn c.args.kind c.args.inst.now c.args.cycle (g.D.Desk.desk c.search.desk).alone (g.D.Desk.desk c.search.desk) (g.D.Desk.desk c.list_load.new.desk)
+    c.search.standing c.list_load.new.standing c.search.units.used c.list_load.new.units.used
+    c.list_load.new.units.left z in
+    let on = subst S c.in-Open.is c.in_ok-list_load.ensures.lists in
+    let n = on.lists in
+    let u = stands_with c.search.standing (with_mark c.search.standing.frame on.last) on.listing in
+    let searching = searching_past c.args.mode c.args.kind c.args.inst.now c.tasks-tasks.ensures.ranked c.args.cycle c.args.set.now c.args.most (g.D.Desk.desk c.args.desk.now) (g.D.Desk.desk c.search.desk) c.search.standing.passed.items c.search.standing.frame
+    c.search.invariant.searching on.last on.light on.skips in
     let P : List Bool → Type 0 = λ z. IsTaskSet c.args.inst.now z in
-    subst P (sym n.1.0) (rest_tasks c.args.inst.now c.search.standing.frame.set n.0.load
-    c.search.invariant.searching.tasks)
+    subst P (sym n.1.0) (rest_tasks c.args.inst.now u.frame.set n.0.load
+    searching.tasks)
 
 pub go_down-requires-clause-some : goal.go_down-requires-clause-some
 go_down-requires-clause-some g c =
-    let S : Listed → Type 0 = λ z. Lists c.args.kind c.args.inst.now c.args.cycle (g.D.Desk.desk c.search.desk).alone (g.D.Desk.desk c.search.desk) (g.D.Desk.desk c.list_load.new.desk)
-    c.search.standing c.list_load.new.standing c.list_load.new.units.left z in
-    let n = subst S c.in-Open.is c.in_ok-list_load.ensures.lists in
-    omega (arith, c.search.invariant.searching.stations, ap (λ (z : Standing). z.frame.most) n.0.stands)
+    let S : Listed → Type 0 = λ z. ListsOn c.args.kind c.args.inst.now c.args.cycle (g.D.Desk.desk c.search.desk).alone (g.D.Desk.desk c.search.desk) (g.D.Desk.desk c.list_load.new.desk)
+    c.search.standing c.list_load.new.standing c.search.units.used c.list_load.new.units.used
+    c.list_load.new.units.left z in
+    let on = subst S c.in-Open.is c.in_ok-list_load.ensures.lists in
+    let n = on.lists in
+    let searching = searching_past c.args.mode c.args.kind c.args.inst.now c.tasks-tasks.ensures.ranked c.args.cycle c.args.set.now c.args.most (g.D.Desk.desk c.args.desk.now) (g.D.Desk.desk c.search.desk) c.search.standing.passed.items c.search.standing.frame
+    c.search.invariant.searching on.last on.light on.skips in
+    omega (arith, searching.stations, ap (λ (z : Standing). z.frame.most) n.0.stands)
 
 pub go_down-requires-clause-beside : goal.go_down-requires-clause-beside
 go_down-requires-clause-beside g c =
-    let S : Listed → Type 0 = λ z. Lists c.args.kind c.args.inst.now c.args.cycle (g.D.Desk.desk c.search.desk).alone (g.D.Desk.desk c.search.desk) (g.D.Desk.desk c.list_load.new.desk)
-    c.search.standing c.list_load.new.standing c.list_load.new.units.left z in
-    let n = subst S c.in-Open.is c.in_ok-list_load.ensures.lists in
+    let S : Listed → Type 0 = λ z. ListsOn c.args.kind c.args.inst.now c.args.cycle (g.D.Desk.desk c.search.desk).alone (g.D.Desk.desk c.search.desk) (g.D.Desk.desk c.list_load.new.desk)
+    c.search.standing c.list_load.new.standing c.search.units.used c.list_load.new.units.used
+    c.list_load.new.units.left z in
+    let on = subst S c.in-Open.is c.in_ok-list_load.ensures.lists in
+    let n = on.lists in
     n.0.beside
 
 pub go_down-requires-clause-ready : goal.go_down-requires-clause-ready
 go_down-requires-clause-ready g c =
-    let S : Listed → Type 0 = λ z. Lists c.args.kind c.args.inst.now c.args.cycle (g.D.Desk.desk c.search.desk).alone (g.D.Desk.desk c.search.desk) (g.D.Desk.desk c.list_load.new.desk)
-    c.search.standing c.list_load.new.standing c.list_load.new.units.left z in
-    let n = subst S c.in-Open.is c.in_ok-list_load.ensures.lists in
-    ready_with c.args.inst.now c.args.cycle c.search.standing c.list_load.new.standing
-    (with_last c.search.standing.frame n.0.load) c.list_load.new.standing.listing n.0.stands c.search.invariant.ready
+    let S : Listed → Type 0 = λ z. ListsOn c.args.kind c.args.inst.now c.args.cycle (g.D.Desk.desk c.search.desk).alone (g.D.Desk.desk c.search.desk) (g.D.Desk.desk c.list_load.new.desk)
+    c.search.standing c.list_load.new.standing c.search.units.used c.list_load.new.units.used
+    c.list_load.new.units.left z in
+    let on = subst S c.in-Open.is c.in_ok-list_load.ensures.lists in
+    let n = on.lists in
+    let u = stands_with c.search.standing (with_mark c.search.standing.frame on.last) on.listing in
+    let ready : IsReady c.args.inst.now c.args.cycle u = record { room = c.search.invariant.ready.room; paired = c.search.invariant.ready.paired } in
+    ready_with c.args.inst.now c.args.cycle u c.list_load.new.standing
+    (with_last u.frame n.0.load) c.list_load.new.standing.listing n.0.stands ready
 
 pub returns-in_err-go_down-in-Open-clause-keeps : goal.returns-in_err-go_down-in-Open-clause-keeps
 returns-in_err-go_down-in-Open-clause-keeps g c =
@@ -415,38 +538,52 @@ returns-in_err-go_down-in-Open-clause-keeps g c =
 
 pub returns-in_err-go_down-in-Open-clause-accounts : goal.returns-in_err-go_down-in-Open-clause-accounts
 returns-in_err-go_down-in-Open-clause-accounts g c =
-    let S : Listed → Type 0 = λ z. Lists c.args.kind c.args.inst.now c.args.cycle (g.D.Desk.desk c.search.desk).alone (g.D.Desk.desk c.search.desk) (g.D.Desk.desk c.list_load.new.desk)
-    c.search.standing c.list_load.new.standing c.list_load.new.units.left z in
-    let n = subst S c.in-Open.is c.in_ok-list_load.ensures.lists in
+    let S : Listed → Type 0 = λ z. ListsOn c.args.kind c.args.inst.now c.args.cycle (g.D.Desk.desk c.search.desk).alone (g.D.Desk.desk c.search.desk) (g.D.Desk.desk c.list_load.new.desk)
+    c.search.standing c.list_load.new.standing c.search.units.used c.list_load.new.units.used
+    c.list_load.new.units.left z in
+    let on = subst S c.in-Open.is c.in_ok-list_load.ensures.lists in
+    let n = on.lists in
+    let u = stands_with c.search.standing (with_mark c.search.standing.frame on.last) on.listing in
+    let tally = tally_past c.args.mode c.args.kind c.args.inst.now c.tasks-tasks.ensures.ranked c.args.cycle c.args.set.now c.args.most (g.D.Desk.desk c.args.desk.now) (g.D.Desk.desk c.search.desk) c.search.standing.passed.items c.search.standing.frame
+    c.search.invariant.searching (c.search.units.used - c.args.units.now.used) (c.search.units.used - c.args.units.now.used + on.light)
+    c.search.invariant.keeps c.search.invariant.tally on.last on.light on.skips refl in
     on_err c.from_residual-in_err-go_down-in-Open.result (Accounts c.args.mode c.args.kind c.args.inst.now c.args.cycle (g.D.Desk.desk c.args.desk.now) (g.D.Desk.desk c.list_load.new.desk) [] (c.list_load.new.units.used - c.args.units.now.used) (c.list_load.new.units.used - c.args.units.now.used))
-    (gives_up c.args.mode c.args.kind c.args.inst.now c.tasks-tasks.ensures.ranked c.args.cycle c.args.set.now c.args.most (g.D.Desk.desk c.args.desk.now) (g.D.Desk.desk c.search.desk) (g.D.Desk.desk c.list_load.new.desk) c.search.standing.passed.items
-    c.search.standing.frame (c.search.units.used - c.args.units.now.used) c.search.invariant.keeps c.list_load.ensures.keeps c.search.invariant.tally 0
-    (c.list_load.new.units.used - c.args.units.now.used) (does_few c.args.mode c.args.kind c.args.inst.now c.args.cycle (g.D.Desk.desk c.search.desk) (g.D.Desk.desk c.list_load.new.desk) (rest c.search.standing.frame.set n.0.load) 0 0
+    (gives_up c.args.mode c.args.kind c.args.inst.now c.tasks-tasks.ensures.ranked c.args.cycle c.args.set.now c.args.most (g.D.Desk.desk c.args.desk.now) (g.D.Desk.desk c.search.desk) (g.D.Desk.desk c.list_load.new.desk) u.passed.items
+    u.frame (c.search.units.used - c.args.units.now.used + on.light) c.search.invariant.keeps c.list_load.ensures.keeps tally 0
+    (c.list_load.new.units.used - c.args.units.now.used) (does_few c.args.mode c.args.kind c.args.inst.now c.args.cycle (g.D.Desk.desk c.search.desk) (g.D.Desk.desk c.list_load.new.desk) (rest u.frame.set n.0.load) 0 0
     (n.0.listed.does c.args.mode)) (at_least 1)
-    (used_one c.list_load.new.units.used c.search.units.used (units_of c.in_ok-list_load.field-0) c.args.units.now.used
-    c.in_ok-list_load.ensures.used (ap units_of c.in-Open.is) c.search.invariant.spent))
+    (past_some c.list_load.new.units.used c.search.units.used on.light 1 c.args.units.now.used
+    on.cost refl c.search.invariant.spent))
 
 pub search-preserved : goal.search-preserved
 search-preserved g c =
-    let S : Listed → Type 0 = λ z. Lists c.args.kind c.args.inst.now c.args.cycle (g.D.Desk.desk c.search.desk).alone (g.D.Desk.desk c.search.desk) (g.D.Desk.desk c.list_load.new.desk)
-    c.search.standing c.list_load.new.standing c.list_load.new.units.left z in
-    let n = subst S c.in-Open.is c.in_ok-list_load.ensures.lists in
+    let S : Listed → Type 0 = λ z. ListsOn c.args.kind c.args.inst.now c.args.cycle (g.D.Desk.desk c.search.desk).alone (g.D.Desk.desk c.search.desk) (g.D.Desk.desk c.list_load.new.desk)
+    c.search.standing c.list_load.new.standing c.search.units.used c.list_load.new.units.used
+    c.list_load.new.units.left z in
+    let on = subst S c.in-Open.is c.in_ok-list_load.ensures.lists in
+    let n = on.lists in
+    let u = stands_with c.search.standing (with_mark c.search.standing.frame on.last) on.listing in
+    let searching = searching_past c.args.mode c.args.kind c.args.inst.now c.tasks-tasks.ensures.ranked c.args.cycle c.args.set.now c.args.most (g.D.Desk.desk c.args.desk.now) (g.D.Desk.desk c.search.desk) c.search.standing.passed.items c.search.standing.frame
+    c.search.invariant.searching on.last on.light on.skips in
+    let tally = tally_past c.args.mode c.args.kind c.args.inst.now c.tasks-tasks.ensures.ranked c.args.cycle c.args.set.now c.args.most (g.D.Desk.desk c.args.desk.now) (g.D.Desk.desk c.search.desk) c.search.standing.passed.items c.search.standing.frame
+    c.search.invariant.searching (c.search.units.used - c.args.units.now.used) (c.search.units.used - c.args.units.now.used + on.light)
+    c.search.invariant.keeps c.search.invariant.tally on.last on.light on.skips refl in
     let d = c.in_ok-go_down-in-Open.ensures.down in
     record {
       keeps = keeps_both (g.D.Desk.desk c.args.desk.now) (g.D.Desk.desk c.search.desk) (g.D.Desk.desk c.list_load.new.desk) c.search.invariant.keeps c.list_load.ensures.keeps;
       pairs = c.go_down.ensures.pairs ∙ (c.list_load.ensures.pairs ∙ c.search.invariant.pairs);
       units = c.list_load.ensures.units ∙ c.search.invariant.units;
-      spent = used_still c.list_load.new.units.used c.search.units.used (units_of c.in_ok-list_load.field-0) c.args.units.now.used
-          c.in_ok-list_load.ensures.used c.search.invariant.spent;
-      searching = searching_down c.args.mode c.args.kind c.args.inst.now c.tasks-tasks.ensures.ranked c.args.cycle c.args.set.now c.args.most (g.D.Desk.desk c.search.desk) (g.D.Desk.desk c.list_load.new.desk) c.search.standing c.list_load.new.standing
-          c.list_load.ensures.keeps c.search.invariant.searching n.0 c.in-Open.rest c.go_down.new.standing d n.1.0 n.1.1;
+      spent = used_still c.list_load.new.units.used c.search.units.used (on.light + 1) c.args.units.now.used
+          on.cost c.search.invariant.spent;
+      searching = searching_down c.args.mode c.args.kind c.args.inst.now c.tasks-tasks.ensures.ranked c.args.cycle c.args.set.now c.args.most (g.D.Desk.desk c.search.desk) (g.D.Desk.desk c.list_load.new.desk) u c.list_load.new.standing
+          c.list_load.ensures.keeps searching n.0 c.in-Open.rest c.go_down.new.standing d n.1.0 n.1.1;
       beside = d.beside;
       ready = d.ready;
-      tally = tally_down_at c.args.mode c.args.kind c.args.inst.now c.tasks-tasks.ensures.ranked c.args.cycle c.args.set.now c.args.most (g.D.Desk.desk c.search.desk) (g.D.Desk.desk c.list_load.new.desk) c.search.standing c.list_load.new.standing
-          c.list_load.ensures.keeps c.search.invariant.searching n.0 c.in-Open.rest c.go_down.new.standing d (g.D.Desk.desk c.args.desk.now) (c.search.units.used - c.args.units.now.used)
-          (c.list_load.new.units.used - c.args.units.now.used) c.search.invariant.keeps c.search.invariant.tally
-          (used_one c.list_load.new.units.used c.search.units.used (units_of c.in_ok-list_load.field-0) c.args.units.now.used
-          c.in_ok-list_load.ensures.used (ap units_of c.in-Open.is) c.search.invariant.spent) n.1.2;
+      tally = tally_down_at c.args.mode c.args.kind c.args.inst.now c.tasks-tasks.ensures.ranked c.args.cycle c.args.set.now c.args.most (g.D.Desk.desk c.search.desk) (g.D.Desk.desk c.list_load.new.desk) u c.list_load.new.standing
+          c.list_load.ensures.keeps searching n.0 c.in-Open.rest c.go_down.new.standing d (g.D.Desk.desk c.args.desk.now) (c.search.units.used - c.args.units.now.used + on.light)
+          (c.list_load.new.units.used - c.args.units.now.used) c.search.invariant.keeps tally
+          (past_one c.list_load.new.units.used c.search.units.used on.light 1 c.args.units.now.used
+          on.cost refl c.search.invariant.spent) n.1.2;
     }
 
 pub returns-in_err-standing-clause-pairs : goal.returns-in_err-standing-clause-pairs
@@ -531,16 +668,24 @@ list_load-requires-clause-beside g c =
 
 pub trail_of-requires : goal.trail_of-requires
 trail_of-requires g c =
-    let S : Listed → Type 0 = λ z. Lists c.args.kind c.args.inst.now c.args.cycle (g.D.Desk.desk c.search.desk).alone (g.D.Desk.desk c.search.desk) (g.D.Desk.desk c.list_load.new.desk)
-    c.search.standing c.list_load.new.standing c.list_load.new.units.left z in
-    let n = subst S c.in-Spent.is c.in_ok-list_load.ensures.lists in
-    (ready_with c.args.inst.now c.args.cycle c.search.standing c.list_load.new.standing c.search.standing.frame
-    c.list_load.new.standing.listing n.0.stays c.search.invariant.ready).room
+    let S : Listed → Type 0 = λ z. ListsOn c.args.kind c.args.inst.now c.args.cycle (g.D.Desk.desk c.search.desk).alone (g.D.Desk.desk c.search.desk) (g.D.Desk.desk c.list_load.new.desk)
+    c.search.standing c.list_load.new.standing c.search.units.used c.list_load.new.units.used
+    c.list_load.new.units.left z in
+    let on = subst S c.in-Spent.is c.in_ok-list_load.ensures.lists in
+    let n = on.lists in
+    let u = stands_with c.search.standing (with_mark c.search.standing.frame on.last) on.listing in
+    let ready : IsReady c.args.inst.now c.args.cycle u = record { room = c.search.invariant.ready.room; paired = c.search.invariant.ready.paired } in
+    (ready_with c.args.inst.now c.args.cycle u c.list_load.new.standing u.frame
+    c.list_load.new.standing.listing n.0.stays ready).room
 
 pub trail_of-frames-requires : goal.trail_of-frames-requires
 trail_of-frames-requires g c =
-    let S : Listed → Type 0 = λ z. Lists c.args.kind c.args.inst.now c.args.cycle (g.D.Desk.desk c.search.desk).alone (g.D.Desk.desk c.search.desk) (g.D.Desk.desk c.list_load.new.desk)
-    c.search.standing c.list_load.new.standing c.list_load.new.units.left z in
-    let n = subst S c.in-Empty.is c.in_ok-list_load.ensures.lists in
-    (ready_with c.args.inst.now c.args.cycle c.search.standing c.list_load.new.standing (with_last c.search.standing.frame n.0.load)
-    c.list_load.new.standing.listing n.0.stands c.search.invariant.ready).room
+    let S : Listed → Type 0 = λ z. ListsOn c.args.kind c.args.inst.now c.args.cycle (g.D.Desk.desk c.search.desk).alone (g.D.Desk.desk c.search.desk) (g.D.Desk.desk c.list_load.new.desk)
+    c.search.standing c.list_load.new.standing c.search.units.used c.list_load.new.units.used
+    c.list_load.new.units.left z in
+    let on = subst S c.in-Empty.is c.in_ok-list_load.ensures.lists in
+    let n = on.lists in
+    let u = stands_with c.search.standing (with_mark c.search.standing.frame on.last) on.listing in
+    let ready : IsReady c.args.inst.now c.args.cycle u = record { room = c.search.invariant.ready.room; paired = c.search.invariant.ready.paired } in
+    (ready_with c.args.inst.now c.args.cycle u c.list_load.new.standing (with_last u.frame n.0.load)
+    c.list_load.new.standing.listing n.0.stands ready).room
