@@ -7,7 +7,6 @@ use Rattle.line_rules.specs.declared.types.Certificate.{Certificate}
 use Rattle.cert_text.specs.Cert.{cert_text}
 use Rattle.cycle_search.specs.rounds.declared.plans.Plan.{Plan}
 use Rattle.cycle_search.specs.CycleCertified.{IsOptimum, IsStop}
-use Rattle.cycle_search.specs.Outcomes.{AreSome}
 use Rattle.cycle_search.specs.Seek.{try_room}
 use Rattle.input_files.specs.InputFile.{max_certificate}
 use Rattle.solution_page.proofs.TextLengths.{bounds_fit}
@@ -32,15 +31,15 @@ stop_fits kind line m plan lower upper b cert s h = omega (
   few_added plan h,
 )
 
--- the same of an optimum with as many entries as a search may have
+-- the same of an optimum
 pub optimum_fits : (kind : LineKind) (line : Line) (m : ℕ) (plan : Plan) (c : ℕ) (b : Assignment)
-    (cert : Certificate) (o : IsOptimum kind line m c b cert) → AreSome line (try_room plan) o.entries None
-    → plan.units ≤ 1000000 → length (cert_text cert) ≤ max_certificate
-optimum_fits kind line m plan c b cert o some h = omega (
+    (cert : Certificate) → IsOptimum kind line m plan c b cert → plan.units ≤ 1000000
+    → length (cert_text cert) ≤ max_certificate
+optimum_fits kind line m plan c b cert o h = omega (
   arith,
   bounds_fit line cert c c o.units b o.entries None (ap (λ (z : Certificate). z.claim) o.certified.said)
       o.certified.sayable o.certified.accepted,
-  some.many,
+  o.some.many,
   o.certified.few,
   few_added plan h,
 )

@@ -24,12 +24,14 @@ use Rattle.cycle_command.specs.CycleText.{optimal_text, stopped_text}
 use Rattle.task_names.specs.declared.naming.Naming.{Naming}
 
 -- The least cycle: the balance that is printed is right at it, and the certificate proves it. The line before it tells
--- of the seeks, where the plan has them.
+-- of the seeks, where the plan has them. With at most 1,000,000 units a try, the check reads files of the certificate's
+-- length.
 pub record IsOptimal (naming : Naming) (kind : LineKind) (line : Line) (m : ℕ) (plan : Plan) (cert : Certificate)
     (text : List ℕ) : Type 0 where
   pub cycle : ℕ
   pub balance : Assignment
   pub proved : IsOptimum kind line m plan cycle balance cert
+  pub fits : plan.units ≤ 1000000 → length (cert_text cert) ≤ max_certificate
   pub seeks : Seeks
   pub counted : AreSeeks plan seeks
   pub printed : text ≡ seek_text plan.seek seeks.used seeks.most seeks.kept

@@ -1,6 +1,7 @@
 use Rattle.std.proofs.Common.{ap, refl, inl, ◌∙◌, ◌++◌, ℕ, List}
 use Rattle.command_outcome.specs.Bounds.{seek_text}
 use Rattle.cycle_command.specs.CycleText.{optimal_text}
+use Rattle.cycle_command.proofs.FitFacts.{optimum_fits}
 use Rattle.cycle_command.proofs.least.optimal.Goals as goal
 
 pub returns : goal.returns
@@ -8,6 +9,7 @@ returns c =
     let a = c.args in
     let told : List ℕ = seek_text a.plan.now.seek a.seeks.used a.seeks.most a.seeks.kept in
     let said : ℕ → List ℕ = λ idle. optimal_text a.naming.now a.kind a.cycle a.balance idle in
+    let proved = c.in_ok-certificate.ensures a.plan.now c.requires.plan.limit c.requires.solved in
     record {
       certificate = c.in_ok-certificate.certificate;
       keeps = refl;
@@ -16,7 +18,9 @@ returns c =
         record {
           cycle = a.cycle;
           balance = a.balance;
-          proved = c.in_ok-certificate.ensures a.plan.now c.requires.plan.limit c.requires.solved;
+          proved = proved;
+          fits = optimum_fits a.kind a.inst.now a.stations a.plan.now a.cycle a.balance
+              c.in_ok-certificate.certificate proved;
           seeks = a.seeks;
           counted = c.requires.seeks;
           printed = c.in_ok-text.ensures
