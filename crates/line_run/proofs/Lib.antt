@@ -1,3 +1,5 @@
 pub mod RunFacts
 pub mod HeadlineFacts
-pub mod TryFacts
+pub mod PageFacts
+pub mod JobFacts
+pub mod RanFacts

@@ -1,5 +1,7 @@
 -- The pages that are printed of the program itself.
 use Rattle.std.specs.Prelude.{ℕ, List, ◌++◌, codes}
+use Rattle.line_words.specs.declared.job.PageJob.{PageJob}
+use Rattle.line_words.specs.declared.job.PageJob.TheVariants.{Help, Version}
 
 -- the name of the program and its version
 abbrev pub version_text : List ℕ
@@ -72,3 +74,8 @@ other_text =
 -- the page with every command
 abbrev pub help_text : List ℕ
 help_text = ((planning_text ++ proof_text) ++ mix_text) ++ other_text
+
+-- the text of each page
+abbrev pub page_text : PageJob → List ℕ
+page_text Help = help_text
+page_text Version = version_text

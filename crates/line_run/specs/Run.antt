@@ -6,11 +6,15 @@ use Rattle.line_words.specs.Words.{Text}
 use Rattle.line_words.specs.Jobs.{IsJob, asks_pairs}
 use Rattle.line_words.specs.declared.job.BoundWord.{BoundWord}
 use Rattle.line_words.specs.declared.job.Job.{Job}
-use Rattle.line_words.specs.declared.job.Job.TheVariants.{Help, Version, Balance, Solve, Cycle, Check, Convert, Combine}
-use Rattle.line_words.specs.declared.job.Job.TheVariants.{Utility, Timeline, TimelineDraw, Try, Draw, Plan as Planning}
-use Rattle.line_words.specs.declared.job.Job.TheVariants.{Effic, EfficCheck}
-use Rattle.line_words.specs.declared.job.Job.TheVariants.{Sequence}
-use Rattle.line_words.specs.declared.job.Job.TheVariants.{SequenceCheck}
+use Rattle.line_words.specs.declared.job.Job.TheVariants.{Page, Search, Check, Line, Mix}
+use Rattle.line_words.specs.declared.job.SearchJob.{SearchJob}
+use Rattle.line_words.specs.declared.job.SearchJob.TheVariants.{Solve, Cycle, Effic, Sequence, Try}
+use Rattle.line_words.specs.declared.job.CheckJob.{CheckJob}
+use Rattle.line_words.specs.declared.job.CheckJob.TheVariants.{LineCheck, EfficCheck, SequenceCheck}
+use Rattle.line_words.specs.declared.job.LineJob.{LineJob}
+use Rattle.line_words.specs.declared.job.LineJob.TheVariants.{Balance, Convert, Draw, Plan as Planning}
+use Rattle.line_words.specs.declared.job.MixJob.{MixJob}
+use Rattle.line_words.specs.declared.job.MixJob.TheVariants.{Combine, Utility, Timeline, TimelineDraw}
 use Rattle.line_rules.specs.declared.types.LineKind.{LineKind}
 use Rattle.solve_command.specs.rounds.declared.plans.Plan.{Plan}
 use Rattle.command_outcome.specs.Outcome.{Files, Outside, Outcome, IsCut, IsWritten, outcome_of, told}
@@ -39,7 +43,7 @@ use Rattle.effic_command.specs.EfficCheck.{IsEfficCheckOutcome, IsProvedProduct}
 use Rattle.sequence_command.specs.Ordered.{IsSequenceOutcome, IsSequencePromised}
 use Rattle.sequence_command.specs.SequenceCheck.{IsSequenceCheckOutcome, IsProvedSequence}
 use Rattle.line_run.specs.Usage.{IsUsageOutcome}
-use Rattle.line_run.specs.Pages.{help_text, version_text}
+use Rattle.line_run.specs.Pages.{page_text}
 
 -- so many helpers, so many units, whether pairs are asked, and the loads of a seek at each tried cycle
 abbrev pub planned : ℕ → ℕ → BoundWord → ℕ → Plan
@@ -62,16 +66,20 @@ pub record Meaning : Type 1 where
   pub truth : Files → Type 0
   pub promise : Files → Files → Status → List ℕ → Kept → Type 0
 
--- a job that reads no file, and comes to this page
-abbrev pub page_alone : (Outcome → Type 0) → Meaning
-page_alone page = record {
+-- a job that reads no file: what it comes to, and what it promises
+abbrev pub telling : (Outcome → Type 0) → (Files → Files → Status → List ℕ → Kept → Type 0) → Meaning
+telling page promise = record {
   outcome = λ o out. page out;
   reads = ⊥;
   page = page;
   writes = None;
   truth = λ files. Unit {0};
-  promise = λ files after status text kept. Unit {0};
+  promise = promise;
 }
+
+-- the same that promises nothing beyond what it comes to
+abbrev pub page_alone : (Outcome → Type 0) → Meaning
+page_alone page = telling page (λ files after status text kept. Unit {0})
 
 -- a job that reads files and comes to this, with the file that it writes and what it promises
 abbrev pub promising : (Outside → Outcome → Type 0) → Option Text
@@ -100,73 +108,90 @@ checking outcome truth = record {
   promise = λ files after status text kept. status ≡ ends.Done → truth files;
 }
 
--- What each job means. Of `solve`: for the line and the cycle that the files say, the balance that is printed is right,
--- a certificate that the check accepts is kept, and written where the words name a file, its bounds are the printed
--- ones and true, and they differ only where the units were spent on loads that it lists; of `cycle` the same of the
--- least cycle time in so many stations; of `effic` the same of the least product of stations and cycle, which may also
--- stop by the size of its book. Of `try`: the same as of `solve` of the line of a seed. Of `check`: where a certificate
--- is accepted, whoever made it, what it claims is true; the same of `effic-check` and `sequence-check`. Of `draw`: the
--- picture that is written is true of the line; of `plan`: so is the plan that is printed; of `timeline-draw`: the picture
--- is true of the timeline that the files say. Of `sequence`: for the mix and the balance that the files say, the
--- sequence that is printed is one of the demands, a certificate is kept and written as of `solve`, no sequence of the
--- demands has less utility work than its lower bound, and the bounds differ only where the units were spent.
+-- What each search means. Of `solve`: for the line and the cycle that the files say, the balance that is printed is
+-- right, a certificate that the check accepts is kept, and written where the words name a file, its bounds are the
+-- printed ones and true, and they differ only where the units were spent on loads that it lists; of `cycle` the same of
+-- the least cycle time in so many stations; of `effic` the same of the least product of stations and cycle, which may
+-- also stop by the size of its book. Of `sequence`: for the mix and the balance that the files say, the sequence that is
+-- printed is one of the demands, a certificate is kept and written as of `solve`, no sequence of the demands has less
+-- utility work than its lower bound, and the bounds differ only where the units were spent. Of `try`: the same as of
+-- `solve` of the line of a seed.
+abbrev pub search_meaning : SearchJob → Meaning
+search_meaning (Solve job) =
+    let plan = planned job.helpers job.units job.bound 0 in
+    promising (λ o out.
+    IsSolveOutcome o job.file job.apart job.warm job.seek job.cycle (kind_of job.line) plan job.cert out) job.cert
+    (λ files after status text kept.
+    IsPromised files after job.file job.apart job.warm job.seek job.cycle (kind_of job.line) plan job.cert status text
+    kept)
+search_meaning (Cycle job) =
+    let plan = planned job.helpers job.units job.bound job.seek in
+    promising (λ o out. IsCycleOutcome o job.file (kind_of job.line) job.stations plan job.cert out) job.cert
+    (λ files after status text kept.
+    IsCyclePromised files after job.file (kind_of job.line) job.stations plan job.cert status text kept)
+search_meaning (Effic job) =
+    let plan = planned job.helpers job.units job.bound job.seek in
+    promising (λ o out. IsEfficOutcome o job.file (kind_of job.line) job.least job.most plan job.cert out) job.cert
+    (λ files after status text kept.
+    IsEfficPromised files after job.file (kind_of job.line) job.least job.most plan job.cert status text kept)
+search_meaning (Sequence job) =
+    promising (λ o out.
+    IsSequenceOutcome o job.mix job.cert job.interval job.length job.units job.seek job.out out) job.out
+    (λ files after status text kept.
+    IsSequencePromised files after job.mix job.cert job.interval job.length job.units job.seek job.out status text
+    kept)
+search_meaning (Try job) =
+    telling (λ out. IsTryOutcome job.seed job.tasks job.cycle (kind_of job.line) job.units out)
+    (λ files after status text kept.
+    IsTried job.seed job.tasks job.cycle (kind_of job.line) job.units status text kept)
+
+-- What each test of a certificate means: where it is accepted, whoever made it, what it claims is true.
+abbrev pub check_meaning : CheckJob → Meaning
+check_meaning (LineCheck job) =
+    checking (λ o out. IsCheckOutcome o job.file job.cert job.apart job.steps out)
+    (λ files. IsProvedTrue files job.file job.cert job.apart job.steps)
+check_meaning (EfficCheck job) =
+    checking (λ o out. IsEfficCheckOutcome o job.file job.cert job.steps out)
+    (λ files. IsProvedProduct files job.file job.cert job.steps)
+check_meaning (SequenceCheck job) =
+    checking (λ o out. IsSequenceCheckOutcome o job.mix job.cert job.seq job.interval job.length job.steps out)
+    (λ files. IsProvedSequence files job.mix job.cert job.seq job.interval job.length job.steps)
+
+-- What each job of a line means that is no search. Of `draw`: the picture that is written is true of the line; of
+-- `plan`: so is the plan that is printed.
+abbrev pub line_meaning : LineJob → Meaning
+line_meaning (Balance job) =
+    answering (λ o out. IsBalanceOutcome o job.file job.apart job.cycle (kind_of job.line) out) None
+line_meaning (Convert job) =
+    answering (λ o out. IsConvertOutcome o job.file job.out job.to job.apart job.cycle out) (Some job.out)
+line_meaning (Draw job) =
+    promising (λ o out. IsDrawOutcome o job.file job.cert job.out job.apart out) (Some job.out)
+    (λ files after status text kept. IsTrulyDrawn files after job.file job.cert job.out job.apart)
+line_meaning (Planning job) =
+    promising (λ o out. IsPlanOutcome o job.file job.cert job.apart out) None
+    (λ files after status text kept. IsTrulyPlanned files job.file job.cert job.apart text)
+
+-- What each job of a mix means that is no search. Of `timeline-draw`: the picture is true of the timeline that the files
+-- say.
+abbrev pub mix_meaning : MixJob → Meaning
+mix_meaning (Combine job) = answering (λ o out. IsCombineOutcome o job.mix job.out out) (Some job.out)
+mix_meaning (Utility job) =
+    answering (λ o out. IsUtilityOutcome o job.mix job.cert job.seq job.interval job.length out) None
+mix_meaning (Timeline job) =
+    answering (λ o out. IsTimelineOutcome o job.mix job.cert job.seq job.interval job.length out) None
+mix_meaning (TimelineDraw job) =
+    promising (λ o out. IsTimelineDrawOutcome o job.mix job.cert job.seq job.out job.interval job.length out)
+    (Some job.out)
+    (λ files after status text kept. IsTimelineTrulyDrawn files after
+    (record { mix = job.mix; cert = job.cert; seq = job.seq }) job.out job.interval job.length)
+
+-- What each job means.
 abbrev pub meaning_of : Job → Meaning
-meaning_of Help = page_alone (λ out. out ≡ told ends.Done help_text)
-meaning_of Version = page_alone (λ out. out ≡ told ends.Done version_text)
-meaning_of (Balance file cycle line apart) =
-    answering (λ o out. IsBalanceOutcome o file apart cycle (kind_of line) out) None
-meaning_of (Solve file cycle line helpers units cert apart warm seek bound) =
-    let plan = planned helpers units bound 0 in
-    promising (λ o out. IsSolveOutcome o file apart warm seek cycle (kind_of line) plan cert out) cert
-    (λ files after status text kept.
-    IsPromised files after file apart warm seek cycle (kind_of line) plan cert status text kept)
-meaning_of (Cycle file stations line helpers units cert seek bound) =
-    let plan = planned helpers units bound seek in
-    promising (λ o out. IsCycleOutcome o file (kind_of line) stations plan cert out) cert
-    (λ files after status text kept.
-    IsCyclePromised files after file (kind_of line) stations plan cert status text kept)
-meaning_of (Check file cert steps apart) =
-    checking (λ o out. IsCheckOutcome o file cert apart steps out) (λ files. IsProvedTrue files file cert apart steps)
-meaning_of (Convert file name to cycle apart) =
-    answering (λ o out. IsConvertOutcome o file name to apart cycle out) (Some name)
-meaning_of (Combine mix name) = answering (λ o out. IsCombineOutcome o mix name out) (Some name)
-meaning_of (Utility mix cert seq interval length) =
-    answering (λ o out. IsUtilityOutcome o mix cert seq interval length out) None
-meaning_of (Timeline mix cert seq interval length) =
-    answering (λ o out. IsTimelineOutcome o mix cert seq interval length out) None
-meaning_of (TimelineDraw mix cert seq name interval length) =
-    promising (λ o out. IsTimelineDrawOutcome o mix cert seq name interval length out) (Some name)
-    (λ files after status text kept.
-    IsTimelineTrulyDrawn files after (record { mix = mix; cert = cert; seq = seq }) name interval length)
-meaning_of (Try seed tasks cycle line units) =
-    record {
-      outcome = λ o out. IsTryOutcome seed tasks cycle (kind_of line) units out;
-      reads = ⊥;
-      page = λ out. IsTryOutcome seed tasks cycle (kind_of line) units out;
-      writes = None;
-      truth = λ files. Unit {0};
-      promise = λ files after status text kept. IsTried seed tasks cycle (kind_of line) units status text kept;
-    }
-meaning_of (Draw file cert name apart) =
-    promising (λ o out. IsDrawOutcome o file cert name apart out) (Some name)
-    (λ files after status text kept. IsTrulyDrawn files after file cert name apart)
-meaning_of (Planning file cert apart) =
-    promising (λ o out. IsPlanOutcome o file cert apart out) None
-    (λ files after status text kept. IsTrulyPlanned files file cert apart text)
-meaning_of (Effic file least most line helpers units cert seek bound) =
-    let plan = planned helpers units bound seek in
-    promising (λ o out. IsEfficOutcome o file (kind_of line) least most plan cert out) cert
-    (λ files after status text kept.
-    IsEfficPromised files after file (kind_of line) least most plan cert status text kept)
-meaning_of (EfficCheck file cert steps) =
-    checking (λ o out. IsEfficCheckOutcome o file cert steps out) (λ files. IsProvedProduct files file cert steps)
-meaning_of (Sequence mix cert interval length units name seek) =
-    promising (λ o out. IsSequenceOutcome o mix cert interval length units seek name out) name
-    (λ files after status text kept.
-    IsSequencePromised files after mix cert interval length units seek name status text kept)
-meaning_of (SequenceCheck mix cert seq interval length steps) =
-    checking (λ o out. IsSequenceCheckOutcome o mix cert seq interval length steps out)
-    (λ files. IsProvedSequence files mix cert seq interval length steps)
+meaning_of (Page page) = page_alone (λ out. out ≡ told ends.Done (page_text page))
+meaning_of (Search job) = search_meaning job
+meaning_of (Check job) = check_meaning job
+meaning_of (Line job) = line_meaning job
+meaning_of (Mix job) = mix_meaning job
 
 -- what a job comes to
 abbrev pub IsJobOutcome : Outside → Job → Outcome → Type 0
@@ -257,11 +282,3 @@ IsPlainEnd P (Ok r) = P (outcome_of r None)
 IsPlainEnd P (Err (stop.Report r)) = P (outcome_of r None)
 IsPlainEnd P (Err stop.Memory) = Unit {0}
 IsPlainEnd P (Err stop.Unwritten) = ⊥
-
--- a job reads files, or its end is what a job without files comes to
-abbrev pub IsJobPlain : Job → Result Report Stop → Type 0
-IsJobPlain job result = ReadsFiles job ⊎ IsPlainEnd (IsPage job) result
-
--- the job writes a file
-abbrev pub WritesFile : Job → Type 0
-WritesFile job = (name : Text) × (out_of job ≡ Some name)

@@ -1,7 +1,12 @@
 //! The pages that are printed of the program itself: every command with an example, and the version.
-ghost use Rattle.std.specs.Prelude.{◌≡◌, ◌++◌, IfOk};
-ghost use Rattle.line_run.specs.Pages.{help_text, version_text};
+ghost use Rattle.std.specs.Prelude.{◌≡◌, ◌++◌, IfOk, MatchResult};
+ghost use Rattle.command_outcome.specs.declared.report.Kept.TheVariants.{Nothing};
+ghost use Rattle.command_outcome.specs.declared.report.Stop.TheVariants.{Memory};
+ghost use Rattle.command_outcome.specs.declared.status.Status.TheVariants as ends;
+ghost use Rattle.line_run.specs.Pages.{help_text, page_text, version_text};
 
+use command_outcome::{Report, Status, Stop};
+use line_words::PageJob;
 use std::alloc::{AllocError, Global};
 
 /// How the program is called, and what its balance and its searches at a cycle time or for given stations give.
@@ -66,7 +71,7 @@ station and then -1,-1. Times are whole numbers of one time unit.
 ";
 
 /// The page with every command, its names, keys, defaults and an example.
-pub fn help_page(alloc: Global) -> Result<Vec<u8>, AllocError>
+fn help_page(alloc: Global) -> Result<Vec<u8>, AllocError>
     ensures { IfOk result (λ t. t.items ≡ help_text) }
 {
     let mut text = String::new(alloc);
@@ -78,8 +83,28 @@ pub fn help_page(alloc: Global) -> Result<Vec<u8>, AllocError>
 }
 
 /// The name of the program and its version.
-pub fn version_page(alloc: Global) -> Result<Vec<u8>, AllocError>
+fn version_page(alloc: Global) -> Result<Vec<u8>, AllocError>
     ensures { IfOk result (λ t. t.items ≡ version_text) }
 {
     Vec::from_slice(alloc, b"line 0.1.0\n")
+}
+
+/// The text of a page.
+fn page_of(alloc: Global, page: &PageJob) -> Result<Vec<u8>, AllocError>
+    ensures { IfOk result (λ t. t.items ≡ page_text page.now) }
+{
+    match page {
+        PageJob::Help => help_page(alloc),
+        PageJob::Version => version_page(alloc),
+    }
+}
+
+/// The report that is a page.
+pub fn page_report(alloc: Global, page: &PageJob) -> Result<Report, Stop>
+    ensures status { IfOk result (λ r. r.status ≡ ends.Done) }
+    ensures text { IfOk result (λ r. r.text.items ≡ page_text page.now) }
+    ensures kept { IfOk result (λ r. r.kept ≡ Nothing) }
+    ensures memory { MatchResult result (λ _. Unit {0}) (λ s. s ≡ Memory) }
+{
+    Ok(Report::told(Status::Done, page_of(alloc, page)?))
 }

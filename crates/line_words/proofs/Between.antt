@@ -18,11 +18,7 @@ use Rattle.line_words.specs.declared.command.Command.{Command}
 use Rattle.line_words.specs.declared.command.Command.TheVariants as command
 use Rattle.line_words.specs.declared.fault.UsageKind.TheVariants.{UnknownKey, RepeatedKey, BadValue}
 use Rattle.line_words.specs.declared.job.Job.{Job}
-use Rattle.line_words.specs.declared.job.Job.TheVariants.{Help, Version, Balance, Solve, Cycle, Check, Convert, Combine}
-use Rattle.line_words.specs.declared.job.Job.TheVariants.{Utility, Timeline, TimelineDraw, Try, Draw, Plan, Effic}
-use Rattle.line_words.specs.declared.job.Job.TheVariants.{EfficCheck}
-use Rattle.line_words.specs.declared.job.Job.TheVariants.{Sequence}
-use Rattle.line_words.specs.declared.job.Job.TheVariants.{SequenceCheck}
+use Rattle.line_words.specs.declared.job.Job.TheVariants.{Page, Search, Check, Line, Mix}
 use Rattle.line_io.proofs.ReadFacts.{same_bytes}
 
 -- a setting at some place has the key and the value, which is that of the key in all words up to a place behind it
@@ -332,24 +328,11 @@ commanded_between [] job c = absurd c
 commanded_between (word ∷ words) job c = subst IsInRange (sym c.2.is) (job_between c.0 words c.2.right)
 
 page_between : (words : List Text) (job : Job) → IsPageJob words job → IsInRange job
-page_between words Help p = tt
-page_between words Version p = tt
-page_between words (Balance file cycle line apart) p = absurd p
-page_between words (Solve file cycle line helpers units cert apart warm seek bound) p = absurd p
-page_between words (Cycle file stations line helpers units cert seek bound) p = absurd p
-page_between words (Check file cert steps apart) p = absurd p
-page_between words (Convert file out to cycle apart) p = absurd p
-page_between words (Combine mix out) p = absurd p
-page_between words (Utility mix cert seq interval length) p = absurd p
-page_between words (Timeline mix cert seq interval length) p = absurd p
-page_between words (TimelineDraw mix cert seq out interval length) p = absurd p
-page_between words (Try seed tasks cycle line units) p = absurd p
-page_between words (Draw file cert out apart) p = absurd p
-page_between words (Plan file cert apart) p = absurd p
-page_between words (Effic file least most line helpers units cert seek bound) p = absurd p
-page_between words (EfficCheck file cert steps) p = absurd p
-page_between words (Sequence mix cert interval length units out seek) p = absurd p
-page_between words (SequenceCheck mix cert seq interval length steps) p = absurd p
+page_between words (Page page) p = tt
+page_between words (Search job) p = absurd p
+page_between words (Check job) p = absurd p
+page_between words (Line job) p = absurd p
+page_between words (Mix job) p = absurd p
 
 -- each job that words ask for is in its ranges
 pub every_job_between : (words : List Text) (job : Job) → IsJob words job → IsInRange job

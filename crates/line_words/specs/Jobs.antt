@@ -8,11 +8,27 @@ use Rattle.line_words.specs.Table.{most_of, number_up_to}
 use Rattle.line_words.specs.declared.command.Command.{Command}
 use Rattle.line_words.specs.declared.command.Command.TheVariants as command
 use Rattle.line_words.specs.declared.job.Job.{Job}
-use Rattle.line_words.specs.declared.job.Job.TheVariants.{Help, Version, Balance, Solve, Cycle, Check, Convert, Combine}
-use Rattle.line_words.specs.declared.job.Job.TheVariants.{Utility, Timeline, TimelineDraw, Try, Draw, Plan, Effic}
-use Rattle.line_words.specs.declared.job.Job.TheVariants.{EfficCheck}
-use Rattle.line_words.specs.declared.job.Job.TheVariants.{Sequence}
-use Rattle.line_words.specs.declared.job.Job.TheVariants.{SequenceCheck}
+use Rattle.line_words.specs.declared.job.Job.TheVariants.{Page, Search, Check, Line, Mix}
+use Rattle.line_words.specs.declared.job.PageJob.TheVariants.{Help, Version}
+use Rattle.line_words.specs.declared.job.SearchJob.TheVariants.{Solve, Cycle, Effic, Sequence, Try}
+use Rattle.line_words.specs.declared.job.CheckJob.TheVariants.{LineCheck, EfficCheck, SequenceCheck}
+use Rattle.line_words.specs.declared.job.LineJob.TheVariants.{Balance, Convert, Draw, Plan}
+use Rattle.line_words.specs.declared.job.MixJob.TheVariants.{Combine, Utility, Timeline, TimelineDraw}
+use Rattle.line_words.specs.declared.job.SolveJob.{SolveJob}
+use Rattle.line_words.specs.declared.job.CycleJob.{CycleJob}
+use Rattle.line_words.specs.declared.job.EfficJob.{EfficJob}
+use Rattle.line_words.specs.declared.job.SequenceJob.{SequenceJob}
+use Rattle.line_words.specs.declared.job.TryJob.{TryJob}
+use Rattle.line_words.specs.declared.job.LineCheckJob.{LineCheckJob}
+use Rattle.line_words.specs.declared.job.EfficCheckJob.{EfficCheckJob}
+use Rattle.line_words.specs.declared.job.SequenceCheckJob.{SequenceCheckJob}
+use Rattle.line_words.specs.declared.job.BalanceJob.{BalanceJob}
+use Rattle.line_words.specs.declared.job.ConvertJob.{ConvertJob}
+use Rattle.line_words.specs.declared.job.DrawJob.{DrawJob}
+use Rattle.line_words.specs.declared.job.PlanJob.{PlanJob}
+use Rattle.line_words.specs.declared.job.CombineJob.{CombineJob}
+use Rattle.line_words.specs.declared.job.UtilityJob.{UtilityJob}
+use Rattle.line_words.specs.declared.job.TimelineDrawJob.{TimelineDrawJob}
 use Rattle.line_words.specs.declared.job.LineWord.{LineWord}
 use Rattle.line_words.specs.declared.job.LineWord.TheVariants.{Straight, U}
 use Rattle.line_words.specs.declared.job.BoundWord.{BoundWord}
@@ -140,63 +156,173 @@ form_set words = form_named (value_of words (codes "to"))
 abbrev pub name_at : List Text → ℕ → Text
 name_at words k = slice_index_or (names_of words) k []
 
+-- the search for a balance of the fewest stations that the words set
+abbrev pub solve_job : List Text → SolveJob
+solve_job ws = record {
+  file = name_at ws 0;
+  cycle = number_set command.Solve ws (codes "cycle");
+  line = line_set ws;
+  helpers = number_or command.Solve ws (codes "helpers") 4;
+  units = number_or command.Solve ws (codes "units") 1000000;
+  cert = value_of ws (codes "cert");
+  apart = value_of ws (codes "apart");
+  warm = value_of ws (codes "warm");
+  seek = number_or command.Solve ws (codes "seek") 0;
+  bound = bound_set ws;
+}
+
+-- the search for the least cycle time that the words set
+abbrev pub cycle_job : List Text → CycleJob
+cycle_job ws = record {
+  file = name_at ws 0;
+  stations = number_or command.Cycle ws (codes "stations") 1;
+  line = line_set ws;
+  helpers = number_or command.Cycle ws (codes "helpers") 4;
+  units = number_or command.Cycle ws (codes "units") 1000000;
+  cert = value_of ws (codes "cert");
+  seek = number_or command.Cycle ws (codes "seek") 0;
+  bound = bound_set ws;
+}
+
+-- the search for the least product that the words set
+abbrev pub effic_job : List Text → EfficJob
+effic_job ws = record {
+  file = name_at ws 0;
+  least = number_or command.Effic ws (codes "least") 1;
+  most = number_or command.Effic ws (codes "most") 1024;
+  line = line_set ws;
+  helpers = number_or command.Effic ws (codes "helpers") 4;
+  units = number_or command.Effic ws (codes "units") 1000000;
+  cert = value_of ws (codes "cert");
+  seek = number_or command.Effic ws (codes "seek") 0;
+  bound = bound_set ws;
+}
+
+-- the search for a sequence that the words set
+abbrev pub sequence_job : List Text → SequenceJob
+sequence_job ws = record {
+  mix = name_at ws 0;
+  cert = name_at ws 1;
+  interval = number_or command.Sequence ws (codes "interval") 1;
+  length = number_or command.Sequence ws (codes "length") 1;
+  units = number_or command.Sequence ws (codes "units") 1000000;
+  out = value_of ws (codes "out");
+  seek = number_or command.Sequence ws (codes "seek") 0;
+}
+
+-- the generated line that the words set
+abbrev pub try_job : List Text → TryJob
+try_job ws = record {
+  seed = number_or command.Try ws (codes "seed") 0;
+  tasks = number_or command.Try ws (codes "tasks") 1;
+  cycle = number_or command.Try ws (codes "cycle") 200;
+  line = line_set ws;
+  units = number_or command.Try ws (codes "units") 1000000;
+}
+
+-- the test of a certificate that the words set
+abbrev pub line_check_job : List Text → LineCheckJob
+line_check_job ws = record {
+  file = name_at ws 0;
+  cert = name_at ws 1;
+  steps = number_or command.Check ws (codes "steps") 20000000;
+  apart = value_of ws (codes "apart");
+}
+
+-- the test of a certificate of a least product that the words set
+abbrev pub effic_check_job : List Text → EfficCheckJob
+effic_check_job ws = record {
+  file = name_at ws 0;
+  cert = name_at ws 1;
+  steps = number_or command.EfficCheck ws (codes "steps") 20000000;
+}
+
+-- the test of a certificate of a sequence that the words set
+abbrev pub sequence_check_job : List Text → SequenceCheckJob
+sequence_check_job ws = record {
+  mix = name_at ws 0;
+  cert = name_at ws 1;
+  seq = name_at ws 2;
+  interval = number_or command.SequenceCheck ws (codes "interval") 1;
+  length = number_or command.SequenceCheck ws (codes "length") 1;
+  steps = number_or command.SequenceCheck ws (codes "steps") 20000000;
+}
+
+-- the ranked balance that the words set
+abbrev pub balance_job : List Text → BalanceJob
+balance_job ws = record {
+  file = name_at ws 0;
+  cycle = number_set command.Balance ws (codes "cycle");
+  line = line_set ws;
+  apart = value_of ws (codes "apart");
+}
+
+-- the file in another form that the words set
+abbrev pub convert_job : List Text → ConvertJob
+convert_job ws = record {
+  file = name_at ws 0;
+  out = name_at ws 1;
+  to = form_set ws;
+  cycle = number_set command.Convert ws (codes "cycle");
+  apart = value_of ws (codes "apart");
+}
+
+-- the picture of a balance that the words set
+abbrev pub draw_job : List Text → DrawJob
+draw_job ws = record {
+  file = name_at ws 0;
+  cert = name_at ws 1;
+  out = name_at ws 2;
+  apart = value_of ws (codes "apart");
+}
+
+-- the plan of a balance that the words set
+abbrev pub plan_job : List Text → PlanJob
+plan_job ws = record { file = name_at ws 0; cert = name_at ws 1; apart = value_of ws (codes "apart") }
+
+-- the combined instance that the words set
+abbrev pub combine_job : List Text → CombineJob
+combine_job ws = record { mix = name_at ws 0; out = name_at ws 1 }
+
+-- the utility work that the words of this command set
+abbrev pub utility_job : Command → List Text → UtilityJob
+utility_job command ws = record {
+  mix = name_at ws 0;
+  cert = name_at ws 1;
+  seq = name_at ws 2;
+  interval = number_or command ws (codes "interval") 1;
+  length = number_or command ws (codes "length") 1;
+}
+
+-- the picture of utility work that the words set
+abbrev pub timeline_draw_job : List Text → TimelineDrawJob
+timeline_draw_job ws = record {
+  mix = name_at ws 0;
+  cert = name_at ws 1;
+  seq = name_at ws 2;
+  out = name_at ws 3;
+  interval = number_or command.TimelineDraw ws (codes "interval") 1;
+  length = number_or command.TimelineDraw ws (codes "length") 1;
+}
+
 -- the job of a command with these words, in which nothing is wrong or missing
 abbrev pub job_for : Command → List Text → Job
-job_for command.Balance ws =
-    Balance (name_at ws 0) (number_set command.Balance ws (codes "cycle")) (line_set ws) (value_of ws (codes "apart"))
-job_for command.Solve ws =
-    Solve (name_at ws 0) (number_set command.Solve ws (codes "cycle")) (line_set ws)
-    (number_or command.Solve ws (codes "helpers") 4)
-    (number_or command.Solve ws (codes "units") 1000000) (value_of ws (codes "cert")) (value_of ws (codes "apart"))
-    (value_of ws (codes "warm"))
-    (number_or command.Solve ws (codes "seek") 0)
-    (bound_set ws)
-job_for command.Cycle ws =
-    Cycle (name_at ws 0) (number_or command.Cycle ws (codes "stations") 1) (line_set ws)
-    (number_or command.Cycle ws (codes "helpers") 4)
-    (number_or command.Cycle ws (codes "units") 1000000) (value_of ws (codes "cert"))
-    (number_or command.Cycle ws (codes "seek") 0)
-    (bound_set ws)
-job_for command.Check ws =
-    Check (name_at ws 0) (name_at ws 1) (number_or command.Check ws (codes "steps") 20000000)
-    (value_of ws (codes "apart"))
-job_for command.Convert ws = Convert (name_at ws 0) (name_at ws 1) (form_set ws)
-    (number_set command.Convert ws (codes "cycle")) (value_of ws (codes "apart"))
-job_for command.Combine ws = Combine (name_at ws 0) (name_at ws 1)
-job_for command.Utility ws =
-    Utility (name_at ws 0) (name_at ws 1) (name_at ws 2) (number_or command.Utility ws (codes "interval") 1)
-    (number_or command.Utility ws (codes "length") 1)
-job_for command.Timeline ws =
-    Timeline (name_at ws 0) (name_at ws 1) (name_at ws 2) (number_or command.Timeline ws (codes "interval") 1)
-    (number_or command.Timeline ws (codes "length") 1)
-job_for command.TimelineDraw ws =
-    TimelineDraw (name_at ws 0) (name_at ws 1) (name_at ws 2) (name_at ws 3)
-    (number_or command.TimelineDraw ws (codes "interval") 1)
-    (number_or command.TimelineDraw ws (codes "length") 1)
-job_for command.Try ws =
-    Try (number_or command.Try ws (codes "seed") 0) (number_or command.Try ws (codes "tasks") 1)
-    (number_or command.Try ws (codes "cycle") 200) (line_set ws)
-    (number_or command.Try ws (codes "units") 1000000)
-job_for command.Draw ws = Draw (name_at ws 0) (name_at ws 1) (name_at ws 2) (value_of ws (codes "apart"))
-job_for command.Plan ws = Plan (name_at ws 0) (name_at ws 1) (value_of ws (codes "apart"))
-job_for command.Effic ws =
-    Effic (name_at ws 0) (number_or command.Effic ws (codes "least") 1) (number_or command.Effic ws (codes "most") 1024)
-    (line_set ws)
-    (number_or command.Effic ws (codes "helpers") 4) (number_or command.Effic ws (codes "units") 1000000)
-    (value_of ws (codes "cert"))
-    (number_or command.Effic ws (codes "seek") 0)
-    (bound_set ws)
-job_for command.EfficCheck ws = EfficCheck (name_at ws 0) (name_at ws 1)
-    (number_or command.EfficCheck ws (codes "steps") 20000000)
-job_for command.Sequence ws =
-    Sequence (name_at ws 0) (name_at ws 1) (number_or command.Sequence ws (codes "interval") 1)
-    (number_or command.Sequence ws (codes "length") 1)
-    (number_or command.Sequence ws (codes "units") 1000000) (value_of ws (codes "out"))
-    (number_or command.Sequence ws (codes "seek") 0)
-job_for command.SequenceCheck ws =
-    SequenceCheck (name_at ws 0) (name_at ws 1) (name_at ws 2) (number_or command.SequenceCheck ws (codes "interval") 1)
-    (number_or command.SequenceCheck ws (codes "length") 1)
-    (number_or command.SequenceCheck ws (codes "steps") 20000000)
+job_for command.Balance ws = Line (Balance (balance_job ws))
+job_for command.Solve ws = Search (Solve (solve_job ws))
+job_for command.Cycle ws = Search (Cycle (cycle_job ws))
+job_for command.Check ws = Check (LineCheck (line_check_job ws))
+job_for command.Convert ws = Line (Convert (convert_job ws))
+job_for command.Combine ws = Mix (Combine (combine_job ws))
+job_for command.Utility ws = Mix (Utility (utility_job command.Utility ws))
+job_for command.Timeline ws = Mix (Timeline (utility_job command.Timeline ws))
+job_for command.TimelineDraw ws = Mix (TimelineDraw (timeline_draw_job ws))
+job_for command.Try ws = Search (Try (try_job ws))
+job_for command.Draw ws = Line (Draw (draw_job ws))
+job_for command.Plan ws = Line (Plan (plan_job ws))
+job_for command.Effic ws = Search (Effic (effic_job ws))
+job_for command.EfficCheck ws = Check (EfficCheck (effic_check_job ws))
+job_for command.Sequence ws = Search (Sequence (sequence_job ws))
+job_for command.SequenceCheck ws = Check (SequenceCheck (sequence_check_job ws))
 
 -- the words behind a command ask for this job: nothing is wrong with them, nothing is missing, and it has their values
 -- or the defaults
@@ -229,8 +355,8 @@ pub record IsUncommanded (words : List Text) : Type 0 where
 
 -- the words ask for a page
 abbrev pub IsPageJob : List Text → Job → Type 0
-IsPageJob words Help = words ≡ codes "--help" ∷ []
-IsPageJob words Version = words ≡ codes "--version" ∷ []
+IsPageJob words (Page Help) = words ≡ codes "--help" ∷ []
+IsPageJob words (Page Version) = words ≡ codes "--version" ∷ []
 IsPageJob words job = ⊥
 
 -- The words ask for a job: for a page, or for what a command does.

@@ -1,11 +1,15 @@
 -- The ranges of the numbers of a job.
 use Rattle.std.specs.Prelude.{ℕ, ◌≤◌, Option, Some, None}
 use Rattle.line_words.specs.declared.job.Job.{Job}
-use Rattle.line_words.specs.declared.job.Job.TheVariants.{Help, Version, Balance, Solve, Cycle, Check, Convert, Combine}
-use Rattle.line_words.specs.declared.job.Job.TheVariants.{Utility, Timeline, TimelineDraw, Try, Draw, Plan, Effic}
-use Rattle.line_words.specs.declared.job.Job.TheVariants.{EfficCheck}
-use Rattle.line_words.specs.declared.job.Job.TheVariants.{Sequence}
-use Rattle.line_words.specs.declared.job.Job.TheVariants.{SequenceCheck}
+use Rattle.line_words.specs.declared.job.Job.TheVariants.{Page, Search, Check, Line, Mix}
+use Rattle.line_words.specs.declared.job.SearchJob.{SearchJob}
+use Rattle.line_words.specs.declared.job.SearchJob.TheVariants.{Solve, Cycle, Effic, Sequence, Try}
+use Rattle.line_words.specs.declared.job.CheckJob.{CheckJob}
+use Rattle.line_words.specs.declared.job.CheckJob.TheVariants.{LineCheck, EfficCheck, SequenceCheck}
+use Rattle.line_words.specs.declared.job.LineJob.{LineJob}
+use Rattle.line_words.specs.declared.job.LineJob.TheVariants.{Balance, Convert, Draw, Plan}
+use Rattle.line_words.specs.declared.job.MixJob.{MixJob}
+use Rattle.line_words.specs.declared.job.MixJob.TheVariants.{Combine, Utility, Timeline, TimelineDraw}
 use Rattle.line_words.specs.declared.reading.JobRead.{JobRead}
 use Rattle.line_words.specs.declared.reading.JobRead.TheVariants.{Good, Usage, NoMemory}
 
@@ -18,37 +22,47 @@ abbrev pub IsSetBetween : ℕ → ℕ → Option ℕ → Type 0
 IsSetBetween least most None = Unit {0}
 IsSetBetween least most (Some n) = IsBetween least most n
 
+-- each number of a search lies in the range of its key
+abbrev pub IsSearchInRange : SearchJob → Type 0
+IsSearchInRange (Solve job) = IsSetBetween 1 1000000000000000000 job.cycle × IsBetween 0 64 job.helpers
+    × IsBetween 1 3000000 job.units × IsBetween 0 3000000 job.seek
+IsSearchInRange (Cycle job) = IsBetween 1 1024 job.stations × IsBetween 0 64 job.helpers
+    × IsBetween 1 1000000 job.units × IsBetween 0 3000000 job.seek
+IsSearchInRange (Effic job) = IsBetween 1 1024 job.least × IsBetween 1 1024 job.most × (job.least ≤ job.most)
+    × IsBetween 0 64 job.helpers × IsBetween 1 1000000 job.units × IsBetween 0 3000000 job.seek
+IsSearchInRange (Sequence job) = IsBetween 1 1000000000 job.interval × IsBetween 1 1000000000 job.length
+    × IsBetween 1 1000000 job.units × IsBetween 0 3000000 job.seek
+IsSearchInRange (Try job) = IsBetween 0 18446744073709551615 job.seed × IsBetween 1 1024 job.tasks
+    × IsBetween 1 1000000000000000000 job.cycle × IsBetween 1 3000000 job.units
+
+-- each number of the test of a certificate does
+abbrev pub IsCheckInRange : CheckJob → Type 0
+IsCheckInRange (LineCheck job) = IsBetween 1 20000000 job.steps
+IsCheckInRange (EfficCheck job) = IsBetween 1 20000000 job.steps
+IsCheckInRange (SequenceCheck job) = IsBetween 1 1000000000 job.interval × IsBetween 1 1000000000 job.length
+    × IsBetween 1 20000000 job.steps
+
+-- each number of a job of a line does
+abbrev pub IsLineInRange : LineJob → Type 0
+IsLineInRange (Balance job) = IsSetBetween 1 1000000000000000000 job.cycle
+IsLineInRange (Convert job) = IsSetBetween 1 1000000000000000000 job.cycle
+IsLineInRange (Draw job) = Unit {0}
+IsLineInRange (Plan job) = Unit {0}
+
+-- each number of a job of a mix does
+abbrev pub IsMixInRange : MixJob → Type 0
+IsMixInRange (Combine job) = Unit {0}
+IsMixInRange (Utility job) = IsBetween 1 1000000000 job.interval × IsBetween 1 1000000000 job.length
+IsMixInRange (Timeline job) = IsBetween 1 1000000000 job.interval × IsBetween 1 1000000000 job.length
+IsMixInRange (TimelineDraw job) = IsBetween 1 1000000000 job.interval × IsBetween 1 1000000000 job.length
+
 -- Each number of a job lies in the range of its key.
 abbrev pub IsInRange : Job → Type 0
-IsInRange Help = Unit {0}
-IsInRange Version = Unit {0}
-IsInRange (Balance file cycle line apart) = IsSetBetween 1 1000000000000000000 cycle
-IsInRange (Solve file cycle line helpers units cert apart warm seek bound) =
-    IsSetBetween 1 1000000000000000000 cycle × IsBetween 0 64 helpers × IsBetween 1 3000000 units
-    × IsBetween 0 3000000 seek
-IsInRange (Cycle file stations line helpers units cert seek bound) = IsBetween 1 1024 stations × IsBetween 0 64 helpers
-    × IsBetween 1 1000000 units × IsBetween 0 3000000 seek
-IsInRange (Check file cert steps apart) = IsBetween 1 20000000 steps
-IsInRange (Convert file out to cycle apart) = IsSetBetween 1 1000000000000000000 cycle
-IsInRange (Combine mix out) = Unit {0}
-IsInRange (Utility mix cert seq interval length) = IsBetween 1 1000000000 interval × IsBetween 1 1000000000 length
-IsInRange (Timeline mix cert seq interval length) = IsBetween 1 1000000000 interval × IsBetween 1 1000000000 length
-IsInRange (TimelineDraw mix cert seq out interval length) =
-    IsBetween 1 1000000000 interval × IsBetween 1 1000000000 length
-IsInRange (Try seed tasks cycle line units) =
-    IsBetween 0 18446744073709551615 seed × IsBetween 1 1024 tasks × IsBetween 1 1000000000000000000 cycle
-    × IsBetween 1 3000000 units
-IsInRange (Draw file cert out apart) = Unit {0}
-IsInRange (Plan file cert apart) = Unit {0}
-IsInRange (Effic file least most line helpers units cert seek bound) =
-    IsBetween 1 1024 least × IsBetween 1 1024 most × (least ≤ most) × IsBetween 0 64 helpers × IsBetween 1 1000000 units
-    × IsBetween 0 3000000 seek
-IsInRange (EfficCheck file cert steps) = IsBetween 1 20000000 steps
-IsInRange (Sequence mix cert interval length units out seek) =
-    IsBetween 1 1000000000 interval × IsBetween 1 1000000000 length × IsBetween 1 1000000 units
-    × IsBetween 0 3000000 seek
-IsInRange (SequenceCheck mix cert seq interval length steps) =
-    IsBetween 1 1000000000 interval × IsBetween 1 1000000000 length × IsBetween 1 20000000 steps
+IsInRange (Page page) = Unit {0}
+IsInRange (Search job) = IsSearchInRange job
+IsInRange (Check job) = IsCheckInRange job
+IsInRange (Line job) = IsLineInRange job
+IsInRange (Mix job) = IsMixInRange job
 
 -- the job that was read is in its ranges, where there is one
 abbrev pub HasRange : JobRead → Type 0

@@ -1,17 +1,11 @@
-//! Jobs, and what the words of a command set.
+//! Jobs: what the words of the command line ask for.
 //!
-//! A job has the values of all keys of its command, with the defaults put in, so that nothing after it reads words. A
-//! value costs a look through the words, of which there are few.
-ghost use Rattle.std.specs.Prelude.{◌≡◌, ◌≤◌, ◌<◌, ◌^◌, IfOk, IfSome, option_map, ℕ, codes};
-ghost use Rattle.line_words.specs.Words.{texts, names_of, value_of};
-ghost use Rattle.line_words.specs.Table.{most_of, most_count_of};
-ghost use Rattle.line_words.specs.Jobs.{asks_pairs, number_set, number_or, line_set, bound_set, form_set, name_at, job_for};
+//! A job has the values of all keys of its command, with the defaults put in, so that nothing after it reads words. Jobs
+//! that are done alike stand in one group. A job costs its names alone.
+ghost use Rattle.std.specs.Prelude.{◌≡◌};
+ghost use Rattle.line_words.specs.Jobs.{asks_pairs};
 
-use crate::command::Command;
 use crate::name::Name;
-use crate::number::number_up_to;
-use crate::word::{is_name, value_of};
-use std::alloc::{AllocError, Global};
 
 /// The kind of a line.
 #[derive(Clone, Copy, Debug, PartialEq, Eq)]
@@ -56,549 +50,315 @@ pub enum FormWord {
     Cert,
 }
 
-/// What the words ask for. Times are whole numbers of the instance's time unit.
+/// What the words ask for, by groups. Times are whole numbers of the instance's time unit.
 #[derive(Drop)]
 pub enum Job {
+    /// A page of the program itself.
+    Page(PageJob),
+    /// A search for what is best, with a certificate of it.
+    Search(SearchJob),
+    /// The test of a certificate.
+    Check(CheckJob),
+    /// What is told of a line or written of it, without a search.
+    Line(LineJob),
+    /// What is told of a mix of models or written of it, without a search.
+    Mix(MixJob),
+}
+
+/// A page of the program itself.
+#[derive(Drop)]
+pub enum PageJob {
     /// The page with the commands.
     Help,
     /// The version.
     Version,
-    /// The ranked balance of the instance in a file.
-    Balance {
-        file: Name,
-        cycle: Option<u64>,
-        line: LineWord,
-        apart: Option<Name>,
-    },
-    /// A balance of the fewest stations, by as many helpers and at most as many work units, from what an earlier
-    /// certificate shows and what as many loads find that are listed before.
-    Solve {
-        file: Name,
-        cycle: Option<u64>,
-        line: LineWord,
-        helpers: u32,
-        units: u64,
-        cert: Option<Name>,
-        apart: Option<Name>,
-        warm: Option<Name>,
-        seek: u64,
-        bound: BoundWord,
-    },
-    /// The least cycle time of a number of stations, from what a seek of as many loads finds at each cycle that is
-    /// tried.
-    Cycle {
-        file: Name,
-        stations: u32,
-        line: LineWord,
-        helpers: u32,
-        units: u64,
-        cert: Option<Name>,
-        seek: u64,
-        bound: BoundWord,
-    },
-    /// The test of a certificate, in at most as many steps.
-    Check {
-        file: Name,
-        cert: Name,
-        steps: u64,
-        apart: Option<Name>,
-    },
+}
+
+/// A search for what is best, with a certificate of it.
+#[derive(Drop)]
+pub enum SearchJob {
+    /// A balance of the fewest stations.
+    Solve(SolveJob),
+    /// The least cycle time of a number of stations.
+    Cycle(CycleJob),
+    /// The least product of stations and cycle time.
+    Effic(EfficJob),
+    /// The sequence of a mix with the least utility work.
+    Sequence(SequenceJob),
+    /// A generated line, solved and checked.
+    Try(TryJob),
+}
+
+/// The test of a certificate, in at most as many steps.
+#[derive(Drop)]
+pub enum CheckJob {
+    /// Of a certificate of a balance.
+    LineCheck(LineCheckJob),
+    /// Of a certificate of a least product.
+    EfficCheck(EfficCheckJob),
+    /// Of a certificate of a sequence.
+    SequenceCheck(SequenceCheckJob),
+}
+
+/// What is told of a line or written of it, without a search.
+#[derive(Drop)]
+pub enum LineJob {
+    /// The ranked balance.
+    Balance(BalanceJob),
     /// A file, written in another form.
-    Convert {
-        file: Name,
-        out: Name,
-        to: FormWord,
-        cycle: Option<u64>,
-        apart: Option<Name>,
-    },
-    /// The combined instance of a mix of models.
-    Combine {
-        mix: Name,
-        out: Name,
-    },
-    /// The utility work of a sequence of models, at an interval and a length of the stations.
-    Utility {
-        mix: Name,
-        cert: Name,
-        seq: Name,
-        interval: u64,
-        length: u64,
-    },
-    /// The utility work of a sequence of models, step by step.
-    Timeline {
-        mix: Name,
-        cert: Name,
-        seq: Name,
-        interval: u64,
-        length: u64,
-    },
-    /// The picture of the same.
-    TimelineDraw {
-        mix: Name,
-        cert: Name,
-        seq: Name,
-        out: Name,
-        interval: u64,
-        length: u64,
-    },
-    /// A generated instance of as many tasks.
-    Try {
-        seed: u64,
-        tasks: u32,
-        cycle: u64,
-        line: LineWord,
-        units: u64,
-    },
+    Convert(ConvertJob),
     /// The picture of a certificate's balance.
-    Draw {
-        file: Name,
-        cert: Name,
-        out: Name,
-        apart: Option<Name>,
-    },
+    Draw(DrawJob),
     /// The plan of a certificate's balance, as a sheet.
-    Plan {
-        file: Name,
-        cert: Name,
-        apart: Option<Name>,
-    },
-    /// The least product of stations and cycle, in a number of stations from the least to the most one, with such a
-    /// seek at each cycle that is tried.
-    Effic {
-        file: Name,
-        least: u32,
-        most: u32,
-        line: LineWord,
-        helpers: u32,
-        units: u64,
-        cert: Option<Name>,
-        seek: u64,
-        bound: BoundWord,
-    },
-    /// The test of a certificate of a least product, in at most as many steps.
-    EfficCheck {
-        file: Name,
-        cert: Name,
-        steps: u64,
-    },
-    /// The sequence of a mix with the least utility work, at an interval and a length of the stations, in at most as
-    /// many work units, from what a seek of as many units finds before.
-    Sequence {
-        mix: Name,
-        cert: Name,
-        interval: u64,
-        length: u64,
-        units: u64,
-        out: Option<Name>,
-        seek: u64,
-    },
-    /// The test of a certificate of such a sequence, in at most as many steps.
-    SequenceCheck {
-        mix: Name,
-        cert: Name,
-        seq: Name,
-        interval: u64,
-        length: u64,
-        steps: u64,
-    },
+    Plan(PlanJob),
 }
 
-/// The name at a place among the names.
-fn name_at(alloc: Global, words: &[String], place: usize) -> Result<Name, AllocError>
-    ensures { IfOk result (λ n. n ≡ name_at (texts words.now) place) }
-{
-    let mut left = place;
-    for i in 0..words.len() {
-        let word = words[i].as_str();
-        if is_name(word) {
-            if left == 0 {
-                return Name::new(alloc, word);
-            }
-            left -= 1;
-        }
-    }
-    Name::new(alloc, "")
+/// What is told of a mix of models or written of it, without a search.
+#[derive(Drop)]
+pub enum MixJob {
+    /// The combined instance.
+    Combine(CombineJob),
+    /// The utility work of a sequence.
+    Utility(UtilityJob),
+    /// The utility work of a sequence, step by step.
+    Timeline(UtilityJob),
+    /// The picture of the same.
+    TimelineDraw(TimelineDrawJob),
 }
 
-/// The name that the words set a key to, where they set it.
-fn name_set(alloc: Global, words: &[String], key: &str) -> Result<Option<Name>, AllocError>
-    ensures { IfOk result (λ o. o ≡ value_of (texts words.now) key.now) }
-{
-    match value_of(words, key) {
-        None => Ok(None),
-        Some(value) => Ok(Some(Name::new(alloc, value)?)),
-    }
+/// A balance of the fewest stations of the line in a file.
+#[derive(Drop)]
+pub struct SolveJob {
+    /// The file with the line.
+    pub file: Name,
+    /// The cycle time, 1 to 10^18; else that of the file.
+    pub cycle: Option<u64>,
+    /// The kind of the line.
+    pub line: LineWord,
+    /// How many helpers search, 0 to 64.
+    pub helpers: u32,
+    /// The most work units, 1 to 3,000,000.
+    pub units: u64,
+    /// The file that the certificate is written to.
+    pub cert: Option<Name>,
+    /// The file with pairs of tasks that may share no station.
+    pub apart: Option<Name>,
+    /// The file with an earlier certificate, from which the search takes what follows.
+    pub warm: Option<Name>,
+    /// The most loads that a seek before the search lists, 0 to 3,000,000.
+    pub seek: u64,
+    /// What the search asks.
+    pub bound: BoundWord,
 }
 
-/// The greatest number that a key takes of those that count something else than loads and time. There are at most as
-/// many stations as tasks, 1,024. A seed is any number of 64 bits.
-fn most_count_of(key: &str) -> u64
-    ensures { result ≡ most_count_of key.now }
-{
-    if key == "helpers" {
-        return 64;
-    }
-    if key == "stations" || key == "least" || key == "most" {
-        return 1024;
-    }
-    if key == "tasks" {
-        return 1024;
-    }
-    u64::MAX
+/// The least cycle time of a number of stations, for the line in a file.
+#[derive(Drop)]
+pub struct CycleJob {
+    /// The file with the line.
+    pub file: Name,
+    /// The number of stations, 1 to 1,024.
+    pub stations: u32,
+    /// The kind of the line.
+    pub line: LineWord,
+    /// How many helpers search, 0 to 64.
+    pub helpers: u32,
+    /// The most work units at each cycle that is tried, 1 to 1,000,000.
+    pub units: u64,
+    /// The file that the certificate is written to.
+    pub cert: Option<Name>,
+    /// The most loads that a seek lists at each cycle that is tried, 0 to 3,000,000.
+    pub seek: u64,
+    /// What the search asks.
+    pub bound: BoundWord,
 }
 
-/// The greatest number that a key takes. A cycle time of 10^18 is more than all tasks of a line take together. With
-/// 20,000,000 steps a check gets through every certificate that a search here writes. An interval and a length are at
-/// most 10^9, as a time of a model is. A seek may list as many loads as a search has units.
-pub(crate) fn most_of(command: Command, key: &str) -> u64
-    ensures { result ≡ most_of command key.now }
-{
-    if key == "cycle" {
-        return 1_000_000_000_000_000_000;
-    }
-    if key == "units" {
-        return command.units_most();
-    }
-    if key == "steps" {
-        return 20_000_000;
-    }
-    if key == "interval" {
-        return 1_000_000_000;
-    }
-    if key == "length" {
-        return 1_000_000_000;
-    }
-    if key == "seek" {
-        return 3_000_000;
-    }
-    most_count_of(key)
+/// The least product of stations and cycle time, in a range of stations, for the line in a file.
+#[derive(Drop)]
+pub struct EfficJob {
+    /// The file with the line.
+    pub file: Name,
+    /// The least number of stations, 1 to 1,024.
+    pub least: u32,
+    /// The greatest number of stations, from the least one to 1,024.
+    pub most: u32,
+    /// The kind of the line.
+    pub line: LineWord,
+    /// How many helpers search, 0 to 64.
+    pub helpers: u32,
+    /// The most work units at each cycle that is tried, 1 to 1,000,000.
+    pub units: u64,
+    /// The file that the certificate is written to.
+    pub cert: Option<Name>,
+    /// The most loads that a seek lists at each cycle that is tried, 0 to 3,000,000.
+    pub seek: u64,
+    /// What the search asks.
+    pub bound: BoundWord,
 }
 
-/// The number that the words set a key to, where they set it.
-pub(crate) fn number_set(command: Command, words: &[String], key: &str) -> Option<u64>
-    ensures value { result ≡ number_set command (texts words.now) key.now }
-    ensures most { IfSome result (λ n. n ≤ most_of command key.now) }
-{
-    match value_of(words, key) {
-        None => None,
-        Some(value) => number_up_to(most_of(command, key), value),
-    }
+/// The sequence of a mix with the least utility work, for a balance of its combined line.
+#[derive(Drop)]
+pub struct SequenceJob {
+    /// The file with the mix.
+    pub mix: Name,
+    /// The file with the certificate of the balance.
+    pub cert: Name,
+    /// The time from one launch to the next, 1 to 10^9.
+    pub interval: u64,
+    /// The length of each station, 1 to 10^9.
+    pub length: u64,
+    /// The most work units, 1 to 1,000,000.
+    pub units: u64,
+    /// The file that the certificate of the sequence is written to.
+    pub out: Option<Name>,
+    /// The most units of a seek before the search, 0 to 3,000,000.
+    pub seek: u64,
 }
 
-/// The number that the words set a key to, else the default.
-fn number_or(command: Command, words: &[String], key: &str, default: u64) -> u64
-    ensures value { result ≡ number_or command (texts words.now) key.now default }
-    ensures most { default ≤ most_of command key.now → result ≤ most_of command key.now }
-{
-    match number_set(command, words, key) {
-        None => default,
-        Some(number) => number,
-    }
+/// A line that is generated, solved and checked.
+#[derive(Drop)]
+pub struct TryJob {
+    /// The seed, any number of 64 bits.
+    pub seed: u64,
+    /// The number of tasks, 1 to 1,024.
+    pub tasks: u32,
+    /// The cycle time, 1 to 10^18.
+    pub cycle: u64,
+    /// The kind of the line.
+    pub line: LineWord,
+    /// The most work units, 1 to 3,000,000.
+    pub units: u64,
 }
 
-/// The number of helpers.
-fn helpers_set(command: Command, words: &[String]) -> u32
-    ensures { result ≡ number_or command (texts words.now) (codes "helpers") 4 }
-{
-    number_or(command, words, "helpers", 4) as u32
+/// The test of a certificate of a balance.
+#[derive(Drop)]
+pub struct LineCheckJob {
+    /// The file with the line.
+    pub file: Name,
+    /// The file with the certificate.
+    pub cert: Name,
+    /// The most steps, 1 to 20,000,000.
+    pub steps: u64,
+    /// The file with pairs of tasks that may share no station.
+    pub apart: Option<Name>,
 }
 
-/// The number of stations.
-fn stations_set(command: Command, words: &[String]) -> u32
-    ensures { result ≡ number_or command (texts words.now) (codes "stations") 1 }
-{
-    number_or(command, words, "stations", 1) as u32
+/// The test of a certificate of a least product.
+#[derive(Drop)]
+pub struct EfficCheckJob {
+    /// The file with the line.
+    pub file: Name,
+    /// The file with the certificate.
+    pub cert: Name,
+    /// The most steps, 1 to 20,000,000.
+    pub steps: u64,
 }
 
-/// The least number of stations.
-fn least_set(command: Command, words: &[String]) -> u32
-    ensures { result ≡ number_or command (texts words.now) (codes "least") 1 }
-{
-    number_or(command, words, "least", 1) as u32
+/// The test of a certificate of a sequence.
+#[derive(Drop)]
+pub struct SequenceCheckJob {
+    /// The file with the mix.
+    pub mix: Name,
+    /// The file with the certificate of the balance.
+    pub cert: Name,
+    /// The file with the certificate of the sequence.
+    pub seq: Name,
+    /// The time from one launch to the next, 1 to 10^9.
+    pub interval: u64,
+    /// The length of each station, 1 to 10^9.
+    pub length: u64,
+    /// The most steps, 1 to 20,000,000.
+    pub steps: u64,
 }
 
-/// The most stations.
-fn most_set(command: Command, words: &[String]) -> u32
-    ensures { result ≡ number_or command (texts words.now) (codes "most") 1024 }
-{
-    number_or(command, words, "most", 1024) as u32
+/// The ranked balance of the line in a file.
+#[derive(Drop)]
+pub struct BalanceJob {
+    /// The file with the line.
+    pub file: Name,
+    /// The cycle time, 1 to 10^18; else that of the file.
+    pub cycle: Option<u64>,
+    /// The kind of the line.
+    pub line: LineWord,
+    /// The file with pairs of tasks that may share no station.
+    pub apart: Option<Name>,
 }
 
-/// The number of tasks.
-fn tasks_set(command: Command, words: &[String]) -> u32
-    ensures { result ≡ number_or command (texts words.now) (codes "tasks") 1 }
-{
-    number_or(command, words, "tasks", 1) as u32
+/// A file, written in another form.
+#[derive(Drop)]
+pub struct ConvertJob {
+    /// The file with a line or a certificate.
+    pub file: Name,
+    /// The file that is written.
+    pub out: Name,
+    /// The form of the file that is written.
+    pub to: FormWord,
+    /// The cycle time that is written, 1 to 10^18; else that of the file.
+    pub cycle: Option<u64>,
+    /// The file with pairs of tasks that may share no station.
+    pub apart: Option<Name>,
 }
 
-/// The kind of line that the words set.
-fn line_set(words: &[String]) -> LineWord
-    ensures { result ≡ line_set (texts words.now) }
-{
-    match value_of(words, "line") {
-        None => LineWord::Straight,
-        Some(value) => {
-            if value == "u" {
-                return LineWord::U;
-            }
-            LineWord::Straight
-        }
-    }
+/// The picture of a certificate's balance.
+#[derive(Drop)]
+pub struct DrawJob {
+    /// The file with the line.
+    pub file: Name,
+    /// The file with the certificate.
+    pub cert: Name,
+    /// The file that the picture is written to.
+    pub out: Name,
+    /// The file with pairs of tasks that may share no station.
+    pub apart: Option<Name>,
 }
 
-/// What the words have a search ask.
-fn bound_set(words: &[String]) -> BoundWord
-    ensures { result ≡ bound_set (texts words.now) }
-{
-    match value_of(words, "bound") {
-        None => BoundWord::Pairs,
-        Some(value) => {
-            if value == "plain" {
-                return BoundWord::Plain;
-            }
-            BoundWord::Pairs
-        }
-    }
+/// The plan of a certificate's balance, as a sheet.
+#[derive(Drop)]
+pub struct PlanJob {
+    /// The file with the line.
+    pub file: Name,
+    /// The file with the certificate.
+    pub cert: Name,
+    /// The file with pairs of tasks that may share no station.
+    pub apart: Option<Name>,
 }
 
-/// The form that the words set.
-fn form_set(words: &[String]) -> FormWord
-    ensures { result ≡ form_set (texts words.now) }
-{
-    match value_of(words, "to") {
-        None => FormWord::In2,
-        Some(value) => {
-            if value == "alb" {
-                return FormWord::Alb;
-            }
-            if value == "csv" {
-                return FormWord::Csv;
-            }
-            if value == "cert" {
-                return FormWord::Cert;
-            }
-            FormWord::In2
-        }
-    }
+/// The combined instance of a mix of models.
+#[derive(Drop)]
+pub struct CombineJob {
+    /// The file with the mix.
+    pub mix: Name,
+    /// The file that the instance is written to.
+    pub out: Name,
 }
 
-fn solve_job(alloc: Global, words: &[String]) -> Result<Job, AllocError>
-    ensures { IfOk result (λ j. j ≡ job_for Command.Solve (texts words.now)) }
-{
-    let command = Command::Solve;
-    Ok(Job::Solve {
-        file: name_at(alloc, words, 0)?,
-        cycle: number_set(command, words, "cycle"),
-        line: line_set(words),
-        helpers: helpers_set(command, words),
-        units: number_or(command, words, "units", 1_000_000),
-        cert: name_set(alloc, words, "cert")?,
-        apart: name_set(alloc, words, "apart")?,
-        warm: name_set(alloc, words, "warm")?,
-        seek: number_or(command, words, "seek", 0),
-        bound: bound_set(words),
-    })
+/// The utility work of a sequence of models.
+#[derive(Drop)]
+pub struct UtilityJob {
+    /// The file with the mix.
+    pub mix: Name,
+    /// The file with the certificate of the balance.
+    pub cert: Name,
+    /// The file with the sequence.
+    pub seq: Name,
+    /// The time from one launch to the next, 1 to 10^9.
+    pub interval: u64,
+    /// The length of each station, 1 to 10^9.
+    pub length: u64,
 }
 
-fn cycle_job(alloc: Global, words: &[String]) -> Result<Job, AllocError>
-    ensures { IfOk result (λ j. j ≡ job_for Command.Cycle (texts words.now)) }
-{
-    let command = Command::Cycle;
-    Ok(Job::Cycle {
-        file: name_at(alloc, words, 0)?,
-        stations: stations_set(command, words),
-        line: line_set(words),
-        helpers: helpers_set(command, words),
-        units: number_or(command, words, "units", 1_000_000),
-        cert: name_set(alloc, words, "cert")?,
-        seek: number_or(command, words, "seek", 0),
-        bound: bound_set(words),
-    })
-}
-
-fn balance_job(alloc: Global, words: &[String]) -> Result<Job, AllocError>
-    ensures { IfOk result (λ j. j ≡ job_for Command.Balance (texts words.now)) }
-{
-    Ok(Job::Balance {
-        file: name_at(alloc, words, 0)?,
-        cycle: number_set(Command::Balance, words, "cycle"),
-        line: line_set(words),
-        apart: name_set(alloc, words, "apart")?,
-    })
-}
-
-fn check_job(alloc: Global, words: &[String]) -> Result<Job, AllocError>
-    ensures { IfOk result (λ j. j ≡ job_for Command.Check (texts words.now)) }
-{
-    Ok(Job::Check {
-        file: name_at(alloc, words, 0)?,
-        cert: name_at(alloc, words, 1)?,
-        steps: number_or(Command::Check, words, "steps", 20_000_000),
-        apart: name_set(alloc, words, "apart")?,
-    })
-}
-
-fn convert_job(alloc: Global, words: &[String]) -> Result<Job, AllocError>
-    ensures { IfOk result (λ j. j ≡ job_for Command.Convert (texts words.now)) }
-{
-    Ok(Job::Convert {
-        file: name_at(alloc, words, 0)?,
-        out: name_at(alloc, words, 1)?,
-        to: form_set(words),
-        cycle: number_set(Command::Convert, words, "cycle"),
-        apart: name_set(alloc, words, "apart")?,
-    })
-}
-
-fn utility_job(alloc: Global, words: &[String]) -> Result<Job, AllocError>
-    ensures { IfOk result (λ j. j ≡ job_for Command.Utility (texts words.now)) }
-{
-    Ok(Job::Utility {
-        mix: name_at(alloc, words, 0)?,
-        cert: name_at(alloc, words, 1)?,
-        seq: name_at(alloc, words, 2)?,
-        interval: number_or(Command::Utility, words, "interval", 1),
-        length: number_or(Command::Utility, words, "length", 1),
-    })
-}
-
-fn timeline_job(alloc: Global, words: &[String]) -> Result<Job, AllocError>
-    ensures { IfOk result (λ j. j ≡ job_for Command.Timeline (texts words.now)) }
-{
-    Ok(Job::Timeline {
-        mix: name_at(alloc, words, 0)?,
-        cert: name_at(alloc, words, 1)?,
-        seq: name_at(alloc, words, 2)?,
-        interval: number_or(Command::Timeline, words, "interval", 1),
-        length: number_or(Command::Timeline, words, "length", 1),
-    })
-}
-
-fn timeline_draw_job(alloc: Global, words: &[String]) -> Result<Job, AllocError>
-    ensures { IfOk result (λ j. j ≡ job_for Command.TimelineDraw (texts words.now)) }
-{
-    Ok(Job::TimelineDraw {
-        mix: name_at(alloc, words, 0)?,
-        cert: name_at(alloc, words, 1)?,
-        seq: name_at(alloc, words, 2)?,
-        out: name_at(alloc, words, 3)?,
-        interval: number_or(Command::TimelineDraw, words, "interval", 1),
-        length: number_or(Command::TimelineDraw, words, "length", 1),
-    })
-}
-
-fn try_job(words: &[String]) -> Job
-    ensures { result ≡ job_for Command.Try (texts words.now) }
-{
-    Job::Try {
-        seed: number_or(Command::Try, words, "seed", 0),
-        tasks: tasks_set(Command::Try, words),
-        cycle: number_or(Command::Try, words, "cycle", 200),
-        line: line_set(words),
-        units: number_or(Command::Try, words, "units", 1_000_000),
-    }
-}
-
-fn draw_job(alloc: Global, words: &[String]) -> Result<Job, AllocError>
-    ensures { IfOk result (λ j. j ≡ job_for Command.Draw (texts words.now)) }
-{
-    Ok(Job::Draw {
-        file: name_at(alloc, words, 0)?,
-        cert: name_at(alloc, words, 1)?,
-        out: name_at(alloc, words, 2)?,
-        apart: name_set(alloc, words, "apart")?,
-    })
-}
-
-fn plan_job(alloc: Global, words: &[String]) -> Result<Job, AllocError>
-    ensures { IfOk result (λ j. j ≡ job_for Command.Plan (texts words.now)) }
-{
-    Ok(Job::Plan {
-        file: name_at(alloc, words, 0)?,
-        cert: name_at(alloc, words, 1)?,
-        apart: name_set(alloc, words, "apart")?,
-    })
-}
-
-fn effic_job(alloc: Global, words: &[String]) -> Result<Job, AllocError>
-    ensures { IfOk result (λ j. j ≡ job_for Command.Effic (texts words.now)) }
-{
-    let command = Command::Effic;
-    Ok(Job::Effic {
-        file: name_at(alloc, words, 0)?,
-        least: least_set(command, words),
-        most: most_set(command, words),
-        line: line_set(words),
-        helpers: helpers_set(command, words),
-        units: number_or(command, words, "units", 1_000_000),
-        cert: name_set(alloc, words, "cert")?,
-        seek: number_or(command, words, "seek", 0),
-        bound: bound_set(words),
-    })
-}
-
-fn effic_check_job(alloc: Global, words: &[String]) -> Result<Job, AllocError>
-    ensures { IfOk result (λ j. j ≡ job_for Command.EfficCheck (texts words.now)) }
-{
-    Ok(Job::EfficCheck {
-        file: name_at(alloc, words, 0)?,
-        cert: name_at(alloc, words, 1)?,
-        steps: number_or(Command::EfficCheck, words, "steps", 20_000_000),
-    })
-}
-
-fn sequence_job(alloc: Global, words: &[String]) -> Result<Job, AllocError>
-    ensures { IfOk result (λ j. j ≡ job_for Command.Sequence (texts words.now)) }
-{
-    let command = Command::Sequence;
-    Ok(Job::Sequence {
-        mix: name_at(alloc, words, 0)?,
-        cert: name_at(alloc, words, 1)?,
-        interval: number_or(command, words, "interval", 1),
-        length: number_or(command, words, "length", 1),
-        units: number_or(command, words, "units", 1_000_000),
-        out: name_set(alloc, words, "out")?,
-        seek: number_or(command, words, "seek", 0),
-    })
-}
-
-fn sequence_check_job(alloc: Global, words: &[String]) -> Result<Job, AllocError>
-    ensures { IfOk result (λ j. j ≡ job_for Command.SequenceCheck (texts words.now)) }
-{
-    let command = Command::SequenceCheck;
-    Ok(Job::SequenceCheck {
-        mix: name_at(alloc, words, 0)?,
-        cert: name_at(alloc, words, 1)?,
-        seq: name_at(alloc, words, 2)?,
-        interval: number_or(command, words, "interval", 1),
-        length: number_or(command, words, "length", 1),
-        steps: number_or(command, words, "steps", 20_000_000),
-    })
-}
-
-/// The job of a command with these words, in which nothing is wrong or missing.
-pub(crate) fn job_for(alloc: Global, command: Command, words: &[String]) -> Result<Job, AllocError>
-    ensures { IfOk result (λ j. j ≡ job_for command (texts words.now)) }
-{
-    match command {
-        Command::Balance => balance_job(alloc, words),
-        Command::Solve => solve_job(alloc, words),
-        Command::Cycle => cycle_job(alloc, words),
-        Command::Check => check_job(alloc, words),
-        Command::Convert => convert_job(alloc, words),
-        Command::Combine => Ok(Job::Combine {
-            mix: name_at(alloc, words, 0)?,
-            out: name_at(alloc, words, 1)?,
-        }),
-        Command::Utility => utility_job(alloc, words),
-        Command::Timeline => timeline_job(alloc, words),
-        Command::TimelineDraw => timeline_draw_job(alloc, words),
-        Command::Try => Ok(try_job(words)),
-        Command::Draw => draw_job(alloc, words),
-        Command::Plan => plan_job(alloc, words),
-        Command::Effic => effic_job(alloc, words),
-        Command::EfficCheck => effic_check_job(alloc, words),
-        Command::Sequence => sequence_job(alloc, words),
-        Command::SequenceCheck => sequence_check_job(alloc, words),
-    }
+/// The picture of the utility work of a sequence of models, step by step.
+#[derive(Drop)]
+pub struct TimelineDrawJob {
+    /// The file with the mix.
+    pub mix: Name,
+    /// The file with the certificate of the balance.
+    pub cert: Name,
+    /// The file with the sequence.
+    pub seq: Name,
+    /// The file that the picture is written to.
+    pub out: Name,
+    /// The time from one launch to the next, 1 to 10^9.
+    pub interval: u64,
+    /// The length of each station, 1 to 10^9.
+    pub length: u64,
 }

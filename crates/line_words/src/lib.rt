@@ -12,10 +12,15 @@ mod job;
 mod name;
 mod number;
 mod reading;
+mod settings;
 mod word;
 
 pub use command::Command;
 pub use fault::{UsageKind, push_usage};
-pub use job::{BoundWord, FormWord, Job, LineWord};
+pub use job::{
+    BalanceJob, BoundWord, CheckJob, CombineJob, ConvertJob, CycleJob, DrawJob, EfficCheckJob,
+    EfficJob, FormWord, Job, LineCheckJob, LineJob, LineWord, MixJob, PageJob, PlanJob, SearchJob,
+    SequenceCheckJob, SequenceJob, SolveJob, TimelineDrawJob, TryJob, UtilityJob,
+};
 pub use name::Name;
 pub use reading::{JobRead, job_of};

@@ -12,8 +12,9 @@ ghost use Rattle.line_words.specs.Jobs.{AreRight, IsFirstFault, IsBehind, IsJobR
 
 use crate::command::{Command, command_named};
 use crate::fault::UsageKind;
-use crate::job::{Job, job_for, most_of, number_set};
+use crate::job::{Job, PageJob};
 use crate::number::number_up_to;
+use crate::settings::{job_for, most_of, number_set};
 use crate::word::{count_names, is_one_of, sets, sets_all, setting};
 use std::alloc::Global;
 
@@ -213,10 +214,10 @@ pub fn job_of(alloc: Global, words: &[String]) -> JobRead
         };
     };
     if rest.is_empty() && first.as_str() == "--help" {
-        return JobRead::Good(Job::Help);
+        return JobRead::Good(Job::Page(PageJob::Help));
     }
     if rest.is_empty() && first.as_str() == "--version" {
-        return JobRead::Good(Job::Version);
+        return JobRead::Good(Job::Page(PageJob::Version));
     }
     match command_named(first.as_str()) {
         Some(command) => behind(alloc, command, rest),

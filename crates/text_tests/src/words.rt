@@ -1,5 +1,7 @@
 //! Rows of words, with what they ask for or their first fault.
-use line_words::{BoundWord, FormWord, Job, JobRead, LineWord, job_of, push_usage};
+use line_words::{
+    BoundWord, FormWord, Job, JobRead, LineJob, LineWord, SearchJob, job_of, push_usage,
+};
 use std::alloc::{AllocError, Global};
 use std::test::Fail;
 
@@ -101,26 +103,15 @@ fn no_words(rt: HostRuntime) -> Result<(), Fail> {
 
 /// Whether the job is to solve a line, with these values.
 fn is_solve(job: &Job) -> bool {
-    let Job::Solve {
-        file,
-        cycle,
-        line,
-        helpers,
-        units,
-        cert,
-        apart,
-        warm,
-        seek,
-        bound,
-    } = job
-    else {
+    let Job::Search(SearchJob::Solve(job)) = job else {
         return false;
     };
-    let names = file.text() == "a.in2" && cert.as_ref().is_some_and(|cert| cert.text() == "c");
-    let numbers = *cycle == Some(7) && *helpers == 4 && *units == 1_000_000;
-    let old = warm.as_ref().is_some_and(|warm| warm.text() == "w");
-    let asks = *bound == BoundWord::Plain && *seek == 5;
-    names && numbers && old && asks && *line == LineWord::U && apart.is_none()
+    let names = job.file.text() == "a.in2"
+        && job.cert.as_ref().is_some_and(|cert| cert.text() == "c");
+    let numbers = job.cycle == Some(7) && job.helpers == 4 && job.units == 1_000_000;
+    let old = job.warm.as_ref().is_some_and(|warm| warm.text() == "w");
+    let asks = job.bound == BoundWord::Plain && job.seek == 5;
+    names && numbers && old && asks && job.line == LineWord::U && job.apart.is_none()
 }
 
 #[test]
@@ -140,8 +131,8 @@ fn jobs_have_their_values(rt: HostRuntime) -> Result<(), Fail> {
 /// Whether the job is to convert a file, with these values.
 fn is_convert(job: &Job) -> bool {
     match job {
-        Job::Convert { out, to, cycle, .. } => {
-            out.text() == "b" && *to == FormWord::Alb && cycle.is_none()
+        Job::Line(LineJob::Convert(job)) => {
+            job.out.text() == "b" && job.to == FormWord::Alb && job.cycle.is_none()
         }
         _ => false,
     }

@@ -3,8 +3,8 @@ use Rattle.std.specs.Prelude.{IfOk}
 use Rattle.line_words.specs.Words.{is_name, texts}
 use Rattle.line_words.specs.Jobs.{name_at}
 use Rattle.line_words.proofs.Splits.{text_at, name_found, name_passed, name_skipped}
-use Rattle.line_words.proofs.job.name_at.Goals as goal
-use Rattle.line_words.proofs.job.name_at.Goals.{then-is_name+else-left-eq0, else-is_name}
+use Rattle.line_words.proofs.settings.name_at.Goals as goal
+use Rattle.line_words.proofs.settings.name_at.Goals.{then-is_name+else-left-eq0, else-is_name}
 
 pub returns-then-left-eq0 : goal.returns-then-left-eq0
 returns-then-left-eq0 c =
