@@ -255,6 +255,7 @@ module _ (naming other : Naming) where
             cycle = p.cycle;
             balance = p.balance;
             proved = p.proved;
+            fits = p.fits;
             seeks = p.seeks;
             counted = p.counted;
             printed = refl;
