@@ -12,8 +12,8 @@ use line_io::Shelf;
 use line_rules::Certificate;
 use std::alloc::{AllocError, Global};
 
-/// The most bytes of a certificate's file: 4 GiB. By reckoning, no certificate that the program writes takes more than
-/// 3.4 GB.
+/// The most bytes of a certificate's file: 4 GiB. No certificate of `solve` takes more than 3.5 GB, and none of `cycle`
+/// more than 4.0 GB. One of `effic` may take more, where it has all lemmas that it may have of a line of 1,024 tasks.
 pub const MAX_CERTIFICATE: u64 = 4_294_967_296;
 
 /// What is wrong with a line of a certificate.
