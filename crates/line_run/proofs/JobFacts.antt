@@ -15,7 +15,7 @@ use Rattle.command_outcome.specs.declared.report.Stop.{Stop}
 use Rattle.command_outcome.specs.declared.report.Stop.TheVariants as stop
 use Rattle.command_outcome.specs.declared.status.Status.{Status}
 use Rattle.command_outcome.specs.declared.status.Status.TheVariants as ends
-use Rattle.sequence_command.specs.VerdictText.{IsVerdictStatus}
+use Rattle.command_sequence.specs.VerdictText.{IsVerdictStatus}
 use Rattle.line_run.specs.Run.{IsPlainEnd, telling, promising, answering, checking}
 use Rattle.line_run.specs.Ran.{ShelfSeen, shelf_seen, shown_by, Does}
 use Rattle.line_run.proofs.HeadlineFacts.{reports_so}

@@ -10,7 +10,7 @@ use Rattle.command_outcome.specs.declared.report.Report.{Report}
 use Rattle.command_outcome.specs.declared.report.Stop.{Stop}
 use Rattle.command_outcome.specs.declared.status.Status.TheVariants as ends
 use Rattle.command_outcome.proofs.OutcomeFacts.{told_as}
-use Rattle.try_command.specs.Tried.{IsTried}
+use Rattle.command_try.specs.Tried.{IsTried}
 use Rattle.line_run.specs.Run.{IsTryOutcome}
 
 -- what is tried comes to its outcome

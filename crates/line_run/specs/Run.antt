@@ -16,7 +16,7 @@ use Rattle.line_words.specs.declared.job.LineJob.TheVariants.{Balance, Convert, 
 use Rattle.line_words.specs.declared.job.MixJob.{MixJob}
 use Rattle.line_words.specs.declared.job.MixJob.TheVariants.{Combine, Utility, Timeline, TimelineDraw}
 use Rattle.line_rules.specs.declared.types.LineKind.{LineKind}
-use Rattle.solve_command.specs.rounds.declared.plans.Plan.{Plan}
+use Rattle.command_solve.specs.rounds.declared.plans.Plan.{Plan}
 use Rattle.command_outcome.specs.Outcome.{Files, Outside, Outcome, IsCut, IsWritten, outcome_of, told}
 use Rattle.command_outcome.specs.Output.{Puts, memory_line}
 use Rattle.command_outcome.specs.declared.report.Kept.{Kept}
@@ -26,22 +26,22 @@ use Rattle.command_outcome.specs.declared.report.Stop.TheVariants as stop
 use Rattle.command_outcome.specs.declared.status.Status.{Status}
 use Rattle.command_outcome.specs.declared.status.Status.TheVariants as ends
 use Rattle.input_files.specs.Kind.{kind_of}
-use Rattle.balance_command.specs.Balance.{IsBalanceOutcome}
-use Rattle.check_command.specs.Check.{IsCheckOutcome, IsProvedTrue}
-use Rattle.convert_command.specs.Convert.{IsConvertOutcome}
-use Rattle.solve_command.specs.Solution.{IsSolveOutcome, IsPromised}
-use Rattle.cycle_command.specs.Found.{IsCycleOutcome, IsCyclePromised}
-use Rattle.mix_commands.specs.Combine.{IsCombineOutcome}
-use Rattle.mix_commands.specs.Utility.{IsUtilityOutcome}
-use Rattle.mix_commands.specs.Timeline.{IsTimelineOutcome}
-use Rattle.mix_commands.specs.TimelineDraw.{IsTimelineDrawOutcome, IsTimelineTrulyDrawn}
-use Rattle.try_command.specs.Tried.{IsTried}
-use Rattle.draw_command.specs.Draw.{IsDrawOutcome, IsTrulyDrawn}
-use Rattle.draw_command.specs.Plan.{IsPlanOutcome, IsTrulyPlanned}
-use Rattle.effic_command.specs.EfficFound.{IsEfficOutcome, IsEfficPromised}
-use Rattle.effic_command.specs.EfficCheck.{IsEfficCheckOutcome, IsProvedProduct}
-use Rattle.sequence_command.specs.Ordered.{IsSequenceOutcome, IsSequencePromised}
-use Rattle.sequence_command.specs.SequenceCheck.{IsSequenceCheckOutcome, IsProvedSequence}
+use Rattle.command_balance.specs.Balance.{IsBalanceOutcome}
+use Rattle.command_check.specs.Check.{IsCheckOutcome, IsProvedTrue}
+use Rattle.command_convert.specs.Convert.{IsConvertOutcome}
+use Rattle.command_solve.specs.Solution.{IsSolveOutcome, IsPromised}
+use Rattle.command_cycle.specs.Found.{IsCycleOutcome, IsCyclePromised}
+use Rattle.command_mix.specs.Combine.{IsCombineOutcome}
+use Rattle.command_mix.specs.Utility.{IsUtilityOutcome}
+use Rattle.command_mix.specs.Timeline.{IsTimelineOutcome}
+use Rattle.command_mix.specs.TimelineDraw.{IsTimelineDrawOutcome, IsTimelineTrulyDrawn}
+use Rattle.command_try.specs.Tried.{IsTried}
+use Rattle.command_draw.specs.Draw.{IsDrawOutcome, IsTrulyDrawn}
+use Rattle.command_draw.specs.Plan.{IsPlanOutcome, IsTrulyPlanned}
+use Rattle.command_effic.specs.EfficFound.{IsEfficOutcome, IsEfficPromised}
+use Rattle.command_effic.specs.EfficCheck.{IsEfficCheckOutcome, IsProvedProduct}
+use Rattle.command_sequence.specs.Ordered.{IsSequenceOutcome, IsSequencePromised}
+use Rattle.command_sequence.specs.SequenceCheck.{IsSequenceCheckOutcome, IsProvedSequence}
 use Rattle.line_run.specs.Usage.{IsUsageOutcome}
 use Rattle.line_run.specs.Pages.{page_text}
 

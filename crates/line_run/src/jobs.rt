@@ -8,26 +8,26 @@ ghost use Rattle.line_run.specs.Run.{planned, meaning_of, search_meaning, check_
 ghost use Rattle.line_run.specs.Ran.{Does, shelf_seen};
 
 use crate::pages::page_report;
-use balance_command::balance_report;
-use check_command::check_report;
+use command_balance::balance_report;
+use command_check::check_report;
+use command_convert::convert_report;
+use command_cycle::cycle_report;
+use command_draw::{draw_report, plan_report};
+use command_effic::{effic_check_report, effic_report};
+use command_mix::{combine_report, timeline_draw_report, timeline_report, utility_report};
 use command_outcome::{Report, Stop};
-use convert_command::convert_report;
-use cycle_command::cycle_report;
-use draw_command::{draw_report, plan_report};
-use effic_command::{effic_check_report, effic_report};
+use command_sequence::{sequence_check_report, sequence_report};
+use command_solve::{Gate, Plan, solve_report};
+use command_try::try_report;
 use input_files::kind_of;
 use line_io::Shelf;
 use line_words::{
     BoundWord, CheckJob, CycleJob, EfficJob, Job, LineJob, MixJob, Name, SearchJob, SequenceJob,
     SolveJob,
 };
-use mix_commands::{combine_report, timeline_draw_report, timeline_report, utility_report};
-use sequence_command::{sequence_check_report, sequence_report};
-use solve_command::{Gate, Plan, solve_report};
 use std::alloc::Global;
 use std::sync::Wait;
 use std::thread::Threads;
-use try_command::try_report;
 
 /// The name of an optional file.
 fn name_of(name: &Option<Name>) -> Option<&str>

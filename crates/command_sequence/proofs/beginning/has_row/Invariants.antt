@@ -1,0 +1,8 @@
+use Rattle.std.proofs.Common.{◌≡◌, ℕ, ◌<◌, Some}
+use Rattle.std.specs.Prelude.{slice_get}
+use Rattle.sequence_rules.specs.Entries.{IsByCharge}
+use Rattle.sequence_values.specs.declared.types.SeqEntry.{SeqEntry}
+use Rattle.command_sequence.proofs.beginning.has_row.Given as goal
+
+abbrev pub invariant-loop-k : goal.invariant-loop-k
+invariant-loop-k l = (j : ℕ) (e : SeqEntry) → j < l.k → slice_get l.entries j ≡ Some e → IsByCharge e.why → ⊥

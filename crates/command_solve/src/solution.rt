@@ -1,0 +1,272 @@
+//! What `solve` answers of a line, and of files that say one.
+ghost use Rattle.std.specs.Prelude.{◌≡◌, ◌≤◌, ℕ, List, [], Option, string_bytes, Some, Err, IfOk};
+ghost use Rattle.std.specs.Prelude.{MatchResult, option_map};
+ghost use Rattle.std.specs.Option.{ForSome};
+ghost use Rattle.line_io.specs.Outside.{Rises};
+ghost use Rattle.line_instance.specs.Line.{tasks};
+ghost use Rattle.line_rules.specs.Bounds.{IsTooLong};
+ghost use Rattle.line_rules.specs.Checked.{IsLeastWhere};
+ghost use Rattle.line_rules.specs.Ranges.{AreEntries, IsCycle};
+ghost use Rattle.line_rules.specs.declared.types.Entry.{Entry as Lemma};
+ghost use Rattle.line_rules.specs.declared.types.OpenFrame.{OpenFrame};
+ghost use Rattle.lemma_core.specs.Books.{BookView};
+ghost use Rattle.line_words.specs.Ranges.{IsSetBetween};
+ghost use Rattle.round_run.specs.Plans.{IsPlan};
+ghost use Rattle.round_run.specs.declared.plans.Plan.{Plan as PlanOf};
+ghost use Rattle.round_run.specs.Solving.{FitsAll, IsSolvedFrom, IsSpentFrom, IsStoppedFrom as HasStopped};
+ghost use Rattle.round_run.specs.Certified.{LeaveRoom};
+ghost use Rattle.command_outcome.specs.Found.{IsFound, IsCutShort, IsSearchStatus};
+ghost use Rattle.command_outcome.specs.Outcome.{Ends, MayEnd, Stops, MayStop, outside};
+ghost use Rattle.command_outcome.specs.declared.report.Stop.TheVariants.{Unwritten};
+ghost use Rattle.command_solve.specs.inner.Begun.{IsBegun};
+ghost use Rattle.command_solve.specs.inner.Said.{search_of};
+ghost use Rattle.command_solve.specs.WarmStart.{Start};
+ghost use Rattle.command_solve.specs.Solution.{fewest_stations, IsPromised, IsSolveOutcome};
+ghost use Rattle.task_names.specs.declared.naming.Naming.{Naming as NamingOf};
+
+use crate::print_solution::{optimal_text, stopped_text};
+use crate::said::{Said, said_of};
+use crate::warm_start::{Begun, begin};
+use command_outcome::{Kept, Report, Status, Stop, cut_short, room_for_bounds};
+use first_fit::{Ranked, ranked_balance};
+use input_files::Timed;
+use lemma_core::Book;
+use line_instance::Instance;
+use line_io::Shelf;
+use line_rules::{Frames, LineKind};
+use round_run::{
+    Cause, Gate, Outcome, Plan, certify_too_long, certify_warm_optimum, certify_warm_stop,
+    solve_from,
+};
+use solution_page::write_certificate;
+use station_report::{idle_of, infeasible_line};
+use std::alloc::{AllocError, Global};
+use std::sync::Wait;
+use std::thread::Threads;
+use task_names::Naming;
+
+/// The report of a run that was solved, with its certificate.
+fn optimal(
+    alloc: Global,
+    inst: &Instance,
+    naming: &Naming,
+    kind: LineKind,
+    cycle: u64,
+    first: String,
+    book: Book,
+) -> Result<Report, AllocError>
+    requires cycle { IsCycle cycle }
+    requires solved { (before : List Lemma) × (plan : PlanOf) × LeaveRoom inst.now plan.units before
+        × IsSolvedFrom kind inst.now cycle plan before book }
+    ensures { IfOk result (λ r. (start : Start) (old : BookView) (plan : PlanOf)
+        → IsBegun kind inst.now cycle plan start old (string_bytes first)
+        → IsSolvedFrom kind inst.now cycle plan old.state.entries book
+        → IsFound (fewest_stations naming.now kind inst.now cycle plan start) r.status r.text.items r.kept) }
+{
+    let _tasks = inst.tasks();
+    let balance = book.best();
+    let idle = idle_of(inst, cycle, balance.stations);
+    let text = optimal_text(alloc, first, naming, balance, kind, idle)?;
+    let certificate = certify_warm_optimum(alloc, inst, kind, cycle, book)?;
+    Ok(Report {
+        status: Status::Done,
+        text,
+        kept: Kept::Line(certificate),
+    })
+}
+
+/// The report of a run whose units ended, with its certificate.
+fn stopped(
+    alloc: Global,
+    inst: &Instance,
+    naming: &Naming,
+    kind: LineKind,
+    cycle: u64,
+    first: String,
+    lower: u32,
+    book: Book,
+    trail: Frames,
+) -> Result<Report, AllocError>
+    requires cycle { IsCycle cycle }
+    requires spent { (before : List Lemma) × (top : ℕ) × (plan : PlanOf)
+        × IsSpentFrom kind inst.now cycle plan before top lower book trail }
+    ensures { IfOk result (λ r. (start : Start) (old : BookView) (plan : PlanOf)
+        → IsBegun kind inst.now cycle plan start old (string_bytes first)
+        → IsSpentFrom kind inst.now cycle plan old.state.entries old.state.best.stations lower book trail
+        → IsFound (fewest_stations naming.now kind inst.now cycle plan start) r.status r.text.items r.kept) }
+{
+    let _tasks = inst.tasks();
+    let balance = book.best();
+    let idle = idle_of(inst, cycle, balance.stations);
+    let text = stopped_text(alloc, first, lower, naming, balance, kind, idle)?;
+    Ok(Report {
+        status: Status::Stopped,
+        text,
+        kept: Kept::Line(certify_warm_stop(inst, kind, cycle, lower, book, trail)),
+    })
+}
+
+/// The report that a task is longer than the cycle, with its certificate.
+fn infeasible(
+    alloc: Global,
+    inst: &Instance,
+    naming: &Naming,
+    kind: LineKind,
+    cycle: u64,
+    task: u32,
+) -> Result<Report, AllocError>
+    requires cycle { IsCycle cycle }
+    requires long { IsLeastWhere (IsTooLong inst.now cycle) task }
+    ensures { IfOk result (λ r. (start : Start) (plan : PlanOf)
+        → IsFound (fewest_stations naming.now kind inst.now cycle plan start) r.status r.text.items r.kept) }
+{
+    let _tasks = inst.tasks();
+    let text = infeasible_line(alloc, naming, task, inst.time(task))?;
+    Ok(Report {
+        status: Status::Done,
+        text,
+        kept: Kept::Line(certify_too_long(inst, kind, cycle, task)),
+    })
+}
+
+/// The refusal of a run that memory ended, with its bounds.
+fn ended_by_memory(
+    inst: &Instance,
+    kind: LineKind,
+    cycle: u64,
+    room: String,
+    lower: u32,
+    book: &Book,
+) -> Result<Stop, AllocError>
+    requires room { string_bytes room ≡ [] }
+    requires stopped { (N : ℕ) × (before : List Lemma) × (added : List Lemma) × (trail : List OpenFrame)
+        × HasStopped kind inst.now cycle N before added lower book.now trail }
+    ensures answer { IfOk result (λ s. (naming : NamingOf) (plan : PlanOf) (start : Start)
+        → Stops (IsCutShort (fewest_stations naming kind inst.now cycle plan start)) s) }
+    ensures fault { IfOk result (MayStop ⊥) }
+{
+    let _tasks = inst.tasks();
+    let _entries = book.entries();
+    cut_short(room, lower as u128, book.best().stations as u128)
+}
+
+/// What is reported of a run that began so, with a certificate; or the bounds, where memory ended the search.
+fn run<R: Threads + Wait + Sync, G: Gate>(
+    rt: &R,
+    alloc: Global,
+    inst: &Instance,
+    naming: &Naming,
+    kind: LineKind,
+    cycle: u64,
+    begun: Begun,
+    plan: &Plan,
+    gate: &G,
+    room: String,
+) -> Result<Report, Stop>
+    requires cycle { IsCycle cycle }
+    requires fits { FitsAll inst.now cycle }
+    requires plan { IsPlan plan.now }
+    requires room { string_bytes room ≡ [] }
+    requires begun { (start : Start)
+        × IsBegun kind inst.now cycle plan.now start begun.book (string_bytes begun.first) }
+    ensures answer { (start : Start)
+        → IsBegun kind inst.now cycle plan.now start begun.book (string_bytes begun.first)
+        → let asked = fewest_stations naming.now kind inst.now cycle plan.now start in MatchResult result
+        (λ r. IsFound asked r.status r.text.items r.kept) (Stops (IsCutShort asked)) }
+    ensures fault { MatchResult result (λ _. Unit {0}) (MayStop ⊥) }
+{
+    let Begun { book, first } = begun;
+    match solve_from(rt, alloc, inst, book, plan, gate) {
+        Outcome::TooLong(_) => unreachable!(),
+        Outcome::Solved { book } => Ok(optimal(alloc, inst, naming, kind, cycle, first, book)?),
+        Outcome::Stopped {
+            cause,
+            lower,
+            book,
+            trail,
+        } => match cause {
+            Cause::Units => Ok(stopped(
+                alloc, inst, naming, kind, cycle, first, lower, book, trail,
+            )?),
+            Cause::Memory => Err(ended_by_memory(inst, kind, cycle, room, lower, &book)?),
+        },
+        Outcome::NoMemory => Err(Stop::Memory),
+    }
+}
+
+/// What is reported of the line and the cycle time that the files say, with a certificate; or the bounds, where memory
+/// ended the search.
+fn solution<R: Threads + Wait + Sync, G: Gate>(
+    rt: &R,
+    alloc: Global,
+    said: Said,
+    kind: LineKind,
+    limit: u64,
+    plan: &Plan,
+    gate: &G,
+) -> Result<Report, Stop>
+    requires cycle { IsCycle said.timed.cycle }
+    requires limit { limit ≤ 3000000 }
+    requires plan { IsPlan plan.now }
+    requires range { ForSome said.olds (AreEntries (tasks said.timed.inst)) }
+    ensures answer { let asked = search_of said kind limit plan.now in MatchResult result
+        (λ r. IsFound asked r.status r.text.items r.kept) (Stops (IsCutShort asked)) }
+    ensures fault { MatchResult result (λ _. Unit {0}) (MayStop ⊥) }
+{
+    let Said { timed, olds } = said;
+    let Timed {
+        inst,
+        cycle,
+        naming,
+    } = timed;
+    let inst = &inst;
+    let room = room_for_bounds(alloc)?;
+    let best = match ranked_balance(alloc, inst, kind, cycle) {
+        Ranked::Good(best) => best,
+        Ranked::TooLong(task) => return Ok(infeasible(alloc, inst, &naming, kind, cycle, task)?),
+        Ranked::NoMemory => return Err(Stop::Memory),
+    };
+    let begun = begin(rt, alloc, inst, kind, cycle, best, olds, limit, plan)?;
+    run(
+        rt, alloc, inst, &naming, kind, cycle, begun, plan, gate, room,
+    )
+}
+
+/// The report of `solve` for the file of an instance, the file of the tasks that are apart, where there is one, the
+/// file of an old certificate with whose entries the run begins, where there is one, the loads of a seek before the
+/// run, 0 for none, the cycle time of the words, where they have one, the kind of line, the plan, and the name of the
+/// file that the certificate is written to, where there is one.
+pub fn solve_report<R: Threads + Wait + Sync, S: Shelf, G: Gate>(
+    rt: &R,
+    alloc: Global,
+    file: &str,
+    apart: Option<&str>,
+    warm: Option<&str>,
+    limit: u64,
+    word: Option<u64>,
+    kind: LineKind,
+    plan: &Plan,
+    name: Option<&str>,
+    shelf: &mut S,
+    gate: &G,
+) -> Result<Report, Stop>
+    requires word { IsSetBetween 1 1000000000000000000 word }
+    requires limit { limit ≤ 3000000 }
+    requires plan { IsPlan plan.now }
+    ensures ends { S.tells → (let o = outside (S.file shelf.old) (S.blames shelf.new) in
+        Ends o (IsSolveOutcome o file.now (option_map (λ a. a.now) apart.entry) (option_map (λ a. a.now) warm.entry)
+        limit word kind plan.now (option_map (λ a. a.now) name.entry)) (S.file shelf.new) result) }
+    ensures good { IfOk result (λ r. IsSearchStatus r.status) }
+    ensures fault { MatchResult result (λ _. Unit {0})
+        (MayEnd (Rises (S.fetch_faults shelf.old) (S.fetch_faults shelf.new))
+        (Rises (S.write_faults shelf.old) (S.write_faults shelf.new))) }
+    ensures unwritten { result ≡ Err Unwritten → (n : List ℕ) × (option_map (λ a. a.now) name.entry ≡ Some n) }
+    ensures promise { S.tells → IfOk result (λ r.
+        IsPromised (S.file shelf.old) (S.file shelf.new) file.now (option_map (λ a. a.now) apart.entry)
+        (option_map (λ a. a.now) warm.entry) limit word kind plan.now (option_map (λ a. a.now) name.entry) r.status
+        r.text.items r.kept) }
+{
+    let said = said_of(alloc, file, apart, warm, word, kind, shelf)?;
+    let report = solution(rt, alloc, said, kind, limit, plan, gate)?;
+    write_certificate(alloc, shelf, name, report)
+}

@@ -1,0 +1,282 @@
+//! What a run begins with: the entries of an old certificate, where the words name one, and the lemmas and the balance
+//! of a seek, where they ask for one; and the book that takes them in.
+//!
+//! The old entries are read whole, checked side by side on the line as it is, and given up before the search. A run
+//! with N units takes at most 6,000,000 - 2N of them, with as many units. So its certificate stays within the default
+//! steps of the check, and its text within the bytes that the check reads.
+ghost use Rattle.std.specs.Prelude.{◌≡◌, ◌≤◌, ◌↔◌, ℕ, List, ◌++◌, [], Some, None, IfOk, IsTrue, MatchResult};
+ghost use Rattle.std.specs.Prelude.{string_bytes, option_map};
+ghost use Rattle.std.specs.Option.{ForSome};
+ghost use Rattle.line_io.specs.Outside.{Rises};
+ghost use Rattle.line_instance.specs.Line.{tasks};
+ghost use Rattle.line_rules.specs.Ranges.{AreEntries, IsCycle, IsInRange};
+ghost use Rattle.line_rules.specs.Ranked.{IsRankedBalance};
+ghost use Rattle.line_rules.specs.declared.types.Certificate.{Certificate as Proof};
+ghost use Rattle.lemma_core.specs.Books.{IsReserved, MayBeBest};
+ghost use Rattle.command_outcome.specs.Outcome.{Stops, MayStop, outside};
+ghost use Rattle.input_files.specs.Certificate.{IsCertificateOf};
+ghost use Rattle.round_run.specs.Plans.{IsPlan};
+ghost use Rattle.command_solve.specs.WarmStart.{AreOld, IsOldOf, IsOther, IsUnwarmed, entries_of, tasks_line};
+ghost use Rattle.command_solve.specs.WarmStart.{warm_line};
+ghost use Rattle.command_solve.specs.WarmStart.{Start, old_room};
+ghost use Rattle.warm_book.specs.Warm.{Taking};
+ghost use Rattle.command_solve.specs.inner.Begun.{IsBegun, IsTaken, HasSoughtBehind};
+
+use command_outcome::{Status, Stop, refuse, with_seek_line};
+use input_files::certificate_of;
+use lemma_core::Book;
+use line_instance::Instance;
+use line_io::Shelf;
+use line_rules::{Balance, Certificate, Claim, Entries, LineKind};
+use line_seek::{Sought, seek};
+use round_run::{Plan, open_book};
+use std::alloc::{AllocError, Global};
+use std::thread::Threads;
+use warm_book::{Counted, Warmed, warm_counted, warm_wide};
+
+/// The units that a run and its old entries have together at most: twice the 3,000,000 that the words may ask for,
+/// since helpers together have as many as the run. With 3,000,000 units there is no room for old entries. So the
+/// certificate stays within the default steps of the check.
+const MOST_UNITS: u64 = 6_000_000;
+
+/// The book with which a run begins, and the first line of its text, where it has one on old entries.
+#[derive(Drop)]
+pub(crate) struct Begun {
+    pub book: Book,
+    pub first: String,
+}
+
+/// A book that took in old entries: how many it kept, with so many units, and the line that says so, where there were
+/// any.
+#[derive(Drop)]
+struct Taken {
+    book: Book,
+    kept: u32,
+    units: u64,
+    first: String,
+}
+
+/// The line about a certificate of another number of tasks.
+fn tasks_line(alloc: Global, said: u32, real: u32) -> Result<Vec<u8>, AllocError>
+    ensures { IfOk result (λ t. t.items ≡ tasks_line said real) }
+{
+    let mut text = String::new(alloc);
+    write!(text, "refused: tasks {said} {real}\n")?;
+    Ok(text.into_bytes())
+}
+
+/// The line that says how many of the old entries were kept.
+fn warm_line(alloc: Global, kept: u32, all: usize) -> Result<String, AllocError>
+    ensures { IfOk result (λ t. string_bytes t ≡ warm_line kept all) }
+{
+    let mut text = String::new(alloc);
+    write!(text, "warm {kept} of {all}\n")?;
+    Ok(text)
+}
+
+/// Whether two kinds of line are the same.
+fn is_same(kind: LineKind, other: LineKind) -> bool
+    ensures { IsTrue result ↔ kind ≡ other }
+{
+    match (kind, other) {
+        (LineKind::Straight, LineKind::Straight) => true,
+        (LineKind::U, LineKind::U) => true,
+        _ => false,
+    }
+}
+
+/// The entries of a claim: none where it says that there is no balance.
+fn entries_of(alloc: Global, claim: Claim) -> Entries
+    ensures { result ≡ entries_of claim }
+{
+    match claim {
+        Claim::TooLong { .. } => Entries::from_vec(Vec::new(alloc)),
+        Claim::Bounds { entries, .. } => entries,
+    }
+}
+
+/// The entries of a certificate that a run over the line may begin with.
+pub(crate) fn entries_in(
+    alloc: Global,
+    inst: &Instance,
+    kind: LineKind,
+    cert: Certificate,
+) -> Result<Entries, Stop>
+    requires { IsInRange cert }
+    ensures old { MatchResult result (IsOldOf kind inst.now cert) (Stops (IsOther kind inst.now cert)) }
+    ensures range { IfOk result (AreEntries (tasks inst.now)) }
+    ensures fault { MatchResult result (λ _. Unit {0}) (MayStop ⊥) }
+{
+    let tasks = inst.tasks();
+    if cert.tasks != tasks {
+        let text = tasks_line(alloc, cert.tasks, tasks)?;
+        return Err(refuse(Status::Refused, text));
+    }
+    if !is_same(cert.kind, kind) {
+        let text = String::from_str(alloc, "refused: kind\n")?;
+        return Err(refuse(Status::Refused, text.into_bytes()));
+    }
+    Ok(entries_of(alloc, cert.claim))
+}
+
+/// The entries of the certificate of a file that a run over the line may begin with.
+fn entries_from<S: Shelf>(
+    alloc: Global,
+    file: &str,
+    inst: &Instance,
+    kind: LineKind,
+    shelf: &mut S,
+) -> Result<Entries, Stop>
+    ensures said { S.tells → MatchResult result
+        (λ old. (cert : Proof) × (IsCertificateOf (S.file shelf.old) file.now cert × IsOldOf kind inst.now cert old))
+        (Stops (IsUnwarmed (outside (S.file shelf.old) (S.blames shelf.new)) (Some file.now) kind inst.now)) }
+    ensures range { IfOk result (AreEntries (tasks inst.now)) }
+    ensures fault { MatchResult result (λ _. Unit {0})
+        (MayStop (Rises (S.fetch_faults shelf.old) (S.fetch_faults shelf.new))) }
+    ensures count { S.fetch_faults shelf.old ≤ S.fetch_faults shelf.new }
+    ensures writes { S.write_faults shelf.new ≡ S.write_faults shelf.old }
+    ensures files { S.tells → (q : List ℕ) → S.file shelf.new q ≡ S.file shelf.old q }
+{
+    let cert = certificate_of(alloc, file, shelf)?;
+    let old = entries_in(alloc, inst, kind, cert)?;
+    Ok(old)
+}
+
+/// The old entries of a run over the line, where the words name a file of them.
+pub(crate) fn old_entries<S: Shelf>(
+    alloc: Global,
+    warm: Option<&str>,
+    inst: &Instance,
+    kind: LineKind,
+    shelf: &mut S,
+) -> Result<Option<Entries>, Stop>
+    ensures said { S.tells → MatchResult result
+        (AreOld (S.file shelf.old) (option_map (λ a. a.now) warm.entry) kind inst.now)
+        (Stops (IsUnwarmed (outside (S.file shelf.old) (S.blames shelf.new)) (option_map (λ a. a.now) warm.entry)
+        kind inst.now)) }
+    ensures range { IfOk result (λ olds. ForSome olds (AreEntries (tasks inst.now))) }
+    ensures fault { MatchResult result (λ _. Unit {0})
+        (MayStop (Rises (S.fetch_faults shelf.old) (S.fetch_faults shelf.new))) }
+    ensures count { S.fetch_faults shelf.old ≤ S.fetch_faults shelf.new }
+    ensures writes { S.write_faults shelf.new ≡ S.write_faults shelf.old }
+    ensures files { S.tells → (q : List ℕ) → S.file shelf.new q ≡ S.file shelf.old q }
+{
+    let Some(file) = warm else {
+        return Ok(None);
+    };
+    let old = entries_from(alloc, file, inst, kind, shelf)?;
+    Ok(Some(old))
+}
+
+/// An empty book, with the ranked balance, that takes in old entries, where there are any.
+fn take_olds<R: Threads + Sync>(
+    rt: &R,
+    alloc: Global,
+    inst: &Instance,
+    book: Book,
+    olds: Option<Entries>,
+    plan: &Plan,
+) -> Result<Taken, AllocError>
+    requires same { book.about.line ≡ inst.now }
+    requires range { ForSome olds (AreEntries (tasks inst.now)) }
+    requires plan { IsPlan plan.now }
+    requires reserved { IsReserved book }
+    ensures taken { IfOk result (λ t. IsTaken plan.now.units book olds t (string_bytes t.first)) }
+    ensures about { IfOk result (λ t. t.book.about ≡ book.about) }
+    ensures reserved { IfOk result (λ t. IsReserved t.book) }
+{
+    let Some(old) = olds else {
+        return Ok(Taken {
+            book,
+            kept: 0,
+            units: 0,
+            first: String::new(alloc),
+        });
+    };
+    let room = MOST_UNITS - 2 * plan.units;
+    match warm_counted(rt, alloc, inst, book, &old, room) {
+        Counted::Done { book, kept, units } => {
+            let first = warm_line(alloc, kept, old.len())?;
+            Ok(Taken {
+                book,
+                kept,
+                units,
+                first,
+            })
+        }
+        Counted::NoMemory(_) => Err(AllocError),
+    }
+}
+
+/// The book after a seek of so many loads, whose lemmas it takes in and whose balance it is offered.
+fn take_sought<R: Threads + Sync>(
+    rt: &R,
+    alloc: Global,
+    inst: &Instance,
+    taken: Taken,
+    limit: u64,
+    plan: &Plan,
+) -> Result<Begun, AllocError>
+    requires same { taken.book.about.line ≡ inst.now }
+    requires cycle { IsCycle taken.book.about.cycle }
+    requires limit { limit ≤ 3000000 }
+    requires plan { IsPlan plan.now }
+    requires reserved { IsReserved taken.book }
+    requires kept { taken.kept ≤ old_room plan.now.units }
+    requires units { taken.units ≤ old_room plan.now.units }
+    ensures sought { (at : Taking) → at.book ≡ taken.book → at.kept ≡ taken.kept → at.units ≡ taken.units
+        → IfOk result (λ b. HasSoughtBehind plan.now.units limit at b.book (string_bytes taken.first)
+        (string_bytes b.first)) }
+    ensures about { IfOk result (λ b. b.book.about ≡ taken.book.about) }
+    ensures reserved { IfOk result (λ b. IsReserved b.book) }
+{
+    let Taken {
+        book,
+        kept,
+        units,
+        first,
+    } = taken;
+    let Sought::Done { best, lemmas, used } = seek(alloc, inst, &book, limit, plan.pairs) else {
+        return Err(AllocError);
+    };
+    let room = MOST_UNITS - 2 * plan.units - u64::from(kept).max(units);
+    match warm_wide(rt, alloc, inst, book, &lemmas, room) {
+        Warmed::Done { mut book, kept } => {
+            book.offer(best);
+            let first = with_seek_line(first, used, limit, u64::from(kept))?;
+            Ok(Begun { book, first })
+        }
+        Warmed::NoMemory(_) => Err(AllocError),
+    }
+}
+
+/// The book with which a run begins: empty but for the old entries that it takes in and, where the words ask for a seek
+/// of some loads, for its lemmas; with the ranked balance, or a better one of the seek.
+pub(crate) fn begin<R: Threads + Sync>(
+    rt: &R,
+    alloc: Global,
+    inst: &Instance,
+    kind: LineKind,
+    cycle: u64,
+    best: Balance,
+    olds: Option<Entries>,
+    limit: u64,
+    plan: &Plan,
+) -> Result<Begun, AllocError>
+    requires cycle { IsCycle cycle }
+    requires best { MayBeBest (record { line = inst.now; kind = kind; cycle = cycle }) best }
+    requires ranked { IsRankedBalance kind inst.now cycle best }
+    requires range { ForSome olds (AreEntries (tasks inst.now)) }
+    requires limit { limit ≤ 3000000 }
+    requires plan { IsPlan plan.now }
+    ensures { let start : Start = record { olds = olds; seek = limit } in
+        IfOk result (λ b. IsBegun kind inst.now cycle plan.now start b.book (string_bytes b.first)) }
+{
+    let book = open_book(alloc, inst, kind, cycle, best)?;
+    let taken = take_olds(rt, alloc, inst, book, olds, plan)?;
+    if limit == 0 {
+        let Taken { book, first, .. } = taken;
+        return Ok(Begun { book, first });
+    }
+    take_sought(rt, alloc, inst, taken, limit, plan)
+}

@@ -1,5 +1,0 @@
-use Rattle.form_laws.proofs.RunFacts.{every_chain}
-use Rattle.form_laws.proofs.laws.every_chain_keeps_its_line.Goals as goal
-
-pub returns : goal.returns
-returns c = every_chain

@@ -1,7 +1,0 @@
-use Rattle.search_tests.proofs.PartFacts.{own_kept}
-use Rattle.search_tests.proofs.searches.sharing.PartDesk.look.Goals as goal
-
-pub returns-clause-own : goal.returns-clause-own
-returns-clause-own c =
-    let part = c.meet_other.new.self in
-    own_kept part.book c.look.new.self part.from part.to part.turned part.within c.look.ensures.waits

@@ -1,5 +1,0 @@
-use Rattle.station_load.specs.Walking.{IsWalk}
-use Rattle.search_tests.proofs.searches.stops.has_further.Given as goal
-
-abbrev pub invariant-walks : goal.invariant-walks
-invariant-walks l = IsWalk l.inst l.walk

@@ -1,7 +1,0 @@
-use Rattle.std.proofs.Common.{◌≡◌, ◌++◌, drop}
-use Rattle.sequence_command.specs.SequenceText.{names_text}
-use Rattle.sequence_command.proofs.print_sequence.push_names.Given as goal
-
-abbrev pub invariant-loop-k : goal.invariant-loop-k
-invariant-loop-k l = l.text.items ++ names_text l.mix.models (drop l.k l.units) ≡ l.fn.text.items
-    ++ names_text l.mix.models l.units
