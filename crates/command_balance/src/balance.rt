@@ -8,7 +8,7 @@ ghost use Rattle.command_outcome.specs.declared.status.Status.TheVariants as end
 ghost use Rattle.command_balance.specs.Balance.{IsAnswer, IsBalanceOutcome};
 
 use crate::print_balance::balance_report_text;
-use command_outcome::{Report, Status, Stop};
+use command_outcome::{EarlyEnd, Report, Status};
 use first_fit::{Ranked, ranked_balance};
 use input_files::said_instance;
 use line_instance::Instance;
@@ -52,7 +52,7 @@ pub fn balance_report<S: Shelf>(
     word: Option<u64>,
     kind: LineKind,
     shelf: &mut S,
-) -> Result<Report, Stop>
+) -> Result<Report, EarlyEnd>
     requires word { IsSetBetween 1 1000000000000000000 word }
     ensures ends { S.tells → Ends (outside (S.file shelf.old) (S.blames shelf.new))
         (IsBalanceOutcome (outside (S.file shelf.old) (S.blames shelf.new)) file.now

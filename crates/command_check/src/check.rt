@@ -10,7 +10,7 @@ ghost use Rattle.command_outcome.specs.declared.status.Status.TheVariants as end
 ghost use Rattle.command_check.specs.Check.{IsCheckOutcome, IsProvedTrue};
 ghost use Rattle.printed_verdict.specs.VerdictText.{IsVerdictStatus};
 
-use command_outcome::{Report, Stop};
+use command_outcome::{EarlyEnd, Report};
 use input_files::{certificate_of, line_of};
 use line_check::{Verified, verify};
 use line_instance::Instance;
@@ -53,7 +53,7 @@ pub fn check_report<R: Threads + Sync, S: Shelf>(
     apart: Option<&str>,
     steps: u64,
     shelf: &mut S,
-) -> Result<Report, Stop>
+) -> Result<Report, EarlyEnd>
     requires { IsBetween 1 20000000 steps }
     ensures ends { S.tells → Ends (outside (S.file shelf.old) (S.blames shelf.new))
         (IsCheckOutcome (outside (S.file shelf.old) (S.blames shelf.new)) file.now proof.now

@@ -14,7 +14,7 @@ ghost use Rattle.command_convert.specs.Convert.{IsConvertOutcome, IsTextIn, left
 
 use alb_reader::write_alb;
 use cert_files::{Streamed, stream_cert};
-use command_outcome::{Report, Stop, write_page, written};
+use command_outcome::{EarlyEnd, Report, write_page, written};
 use in2_reader::write_in2;
 use input_files::{Listed, certificate_of, listed_line};
 use line_instance::Instance;
@@ -107,7 +107,7 @@ fn convert_line<S: Shelf>(
     apart: Option<&str>,
     word: Option<u64>,
     shelf: &mut S,
-) -> Result<Report, Stop>
+) -> Result<Report, EarlyEnd>
     requires { to ≢ Cert }
     ensures ends { S.tells → Ends (outside (S.file shelf.old) (S.blames shelf.new))
         (IsConvertOutcome (outside (S.file shelf.old) (S.blames shelf.new)) file.now name.now to
@@ -138,7 +138,7 @@ fn convert_cert<S: Shelf>(
     apart: Option<&str>,
     word: Option<u64>,
     shelf: &mut S,
-) -> Result<Report, Stop>
+) -> Result<Report, EarlyEnd>
     ensures ends { S.tells → Ends (outside (S.file shelf.old) (S.blames shelf.new))
         (IsConvertOutcome (outside (S.file shelf.old) (S.blames shelf.new)) file.now name.now Cert
         (option_map (λ a. a.now) apart.entry) word) (S.file shelf.new) result }
@@ -152,8 +152,8 @@ fn convert_cert<S: Shelf>(
     let report = written(alloc, name)?;
     match stream_cert(alloc, shelf, name, &cert) {
         Streamed::Done => Ok(report),
-        Streamed::WriteFault => Err(Stop::Unwritten),
-        Streamed::NoMemory => Err(Stop::Memory),
+        Streamed::WriteFault => Err(EarlyEnd::Unwritten),
+        Streamed::NoMemory => Err(EarlyEnd::Memory),
     }
 }
 
@@ -168,7 +168,7 @@ pub fn convert_report<S: Shelf>(
     apart: Option<&str>,
     word: Option<u64>,
     shelf: &mut S,
-) -> Result<Report, Stop>
+) -> Result<Report, EarlyEnd>
     ensures ends { S.tells → Ends (outside (S.file shelf.old) (S.blames shelf.new))
         (IsConvertOutcome (outside (S.file shelf.old) (S.blames shelf.new)) file.now name.now to
         (option_map (λ a. a.now) apart.entry) word) (S.file shelf.new) result }

@@ -3,7 +3,7 @@ ghost use Rattle.std.specs.Prelude.{◌≡◌, ◌≤◌, ℕ, List, Some, Err, 
 ghost use Rattle.line_io.specs.Outside.{Rises};
 ghost use Rattle.command_outcome.specs.Found.{IsCutShort, IsFound, IsSearchStatus};
 ghost use Rattle.command_outcome.specs.Outcome.{Ends, MayEnd, Stops, MayStop, outside};
-ghost use Rattle.command_outcome.specs.declared.report.Stop.TheVariants.{Unwritten};
+ghost use Rattle.command_outcome.specs.declared.report.EarlyEnd.TheVariants.{Unwritten};
 ghost use Rattle.cycle_search.specs.rounds.Plans.{IsPlan};
 ghost use Rattle.cycle_search.specs.Ends.{NoneApart};
 ghost use Rattle.cycle_search.specs.Outcomes.{IsSolved, IsSpent};
@@ -11,7 +11,7 @@ ghost use Rattle.cycle_search.specs.Seek.{AreSeeks};
 ghost use Rattle.command_cycle.specs.Found.{IsCycleOutcome, IsCyclePromised, least_cycle};
 
 use crate::print_cycle::{optimal_text, stopped_text};
-use command_outcome::{Kept, Report, Status, Stop, cut_short, room_for_bounds, seek_text};
+use command_outcome::{EarlyEnd, Kept, Report, Status, cut_short, room_for_bounds, seek_text};
 use cycle_search::{
     Cause, CycleOutcome, Gate, Plan, Seeks, certify_cycle, certify_cycle_stop, least_cycle,
 };
@@ -108,7 +108,7 @@ fn found<R: Threads + Wait + Sync, G: Gate>(
     stations: u32,
     plan: &Plan,
     gate: &G,
-) -> Result<Report, Stop>
+) -> Result<Report, EarlyEnd>
     requires none { NoneApart inst.now }
     requires some { 1 ≤ stations }
     requires few { stations ≤ 1024 }
@@ -145,7 +145,7 @@ fn found<R: Threads + Wait + Sync, G: Gate>(
             )?),
             Cause::Memory => Err(cut_short(room, lower as u128, upper as u128)?),
         },
-        CycleOutcome::NoMemory => Err(Stop::Memory),
+        CycleOutcome::NoMemory => Err(EarlyEnd::Memory),
     }
 }
 
@@ -162,7 +162,7 @@ pub fn cycle_report<R: Threads + Wait + Sync, S: Shelf, G: Gate>(
     name: Option<&str>,
     shelf: &mut S,
     gate: &G,
-) -> Result<Report, Stop>
+) -> Result<Report, EarlyEnd>
     requires some { 1 ≤ stations }
     requires few { stations ≤ 1024 }
     requires plan { IsPlan plan.now }

@@ -11,7 +11,7 @@ ghost use Rattle.task_names.specs.Naming.{FitTasks};
 ghost use Rattle.command_draw.specs.Draw.{IsDrawOutcome, IsTrulyDrawn, ShowsNames, picture_of};
 
 use crate::shown::shown_of;
-use command_outcome::{Report, Stop, write_page, written};
+use command_outcome::{EarlyEnd, Report, write_page, written};
 use line_drawing::draw_text;
 use line_instance::Instance;
 use line_io::Shelf;
@@ -49,7 +49,7 @@ pub fn draw_report<S: Shelf>(
     name: &str,
     apart: Option<&str>,
     shelf: &mut S,
-) -> Result<Report, Stop>
+) -> Result<Report, EarlyEnd>
     ensures ends { S.tells → Ends (outside (S.file shelf.old) (S.blames shelf.new))
         (IsDrawOutcome (outside (S.file shelf.old) (S.blames shelf.new)) file.now proof.now name.now
         (option_map (λ a. a.now) apart.entry)) (S.file shelf.new) result }

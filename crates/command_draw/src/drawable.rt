@@ -7,7 +7,7 @@ ghost use Rattle.line_check.specs.declared.types.Verified.TheVariants.{Refused};
 ghost use Rattle.printed_verdict.specs.VerdictText.{verdict_text};
 ghost use Rattle.command_draw.specs.Drawable.{IsDrawable, IsUndrawable, bare_line};
 
-use command_outcome::{Status, Stop, refuse};
+use command_outcome::{EarlyEnd, Status, refuse};
 use line_check::{Place, Verified, balance_fault};
 use line_instance::Instance;
 use line_rules::{Certificate, Claim};
@@ -15,30 +15,30 @@ use printed_verdict::verdict_report;
 use std::alloc::Global;
 
 /// The refusal of a certificate at a place, or out of memory.
-fn refused(alloc: Global, cert: &Certificate, place: Place) -> Stop
+fn refused(alloc: Global, cert: &Certificate, place: Place) -> EarlyEnd
     requires { cert.now.tasks ≤ 1024 }
     ensures told { Stops (λ out. out ≡ told ends.Refused (verdict_text cert.now (Refused place))) result }
     ensures status { MayStop ⊥ result }
 {
     match verdict_report(alloc, cert, &Verified::Refused(place)) {
-        Ok(report) => Stop::Report(report),
-        Err(_) => Stop::Memory,
+        Ok(report) => EarlyEnd::Report(report),
+        Err(_) => EarlyEnd::Memory,
     }
 }
 
 /// The refusal of a certificate without a balance, or out of memory.
-fn bare(alloc: Global) -> Stop
+fn bare(alloc: Global) -> EarlyEnd
     ensures told { Stops (λ out. out ≡ told ends.Refused bare_line) result }
     ensures status { MayStop ⊥ result }
 {
     match Vec::from_slice(alloc, b"refused: no balance\n") {
         Ok(text) => refuse(Status::Refused, text),
-        Err(_) => Stop::Memory,
+        Err(_) => EarlyEnd::Memory,
     }
 }
 
 /// Tests whether a certificate can be drawn for a line: it is of as many tasks, and its balance shows its upper bound.
-pub(crate) fn test(alloc: Global, inst: &Instance, cert: &Certificate) -> Result<(), Stop>
+pub(crate) fn test(alloc: Global, inst: &Instance, cert: &Certificate) -> Result<(), EarlyEnd>
     requires { IsInRange cert.now }
     ensures said { MatchResult result (λ _. IsDrawable inst.now cert.now) (Stops (IsUndrawable inst.now cert.now)) }
     ensures status { MatchResult result (λ _. Unit {0}) (MayStop ⊥) }

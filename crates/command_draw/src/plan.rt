@@ -13,7 +13,7 @@ ghost use Rattle.command_draw.specs.Plan.{ClaimIsPlanned, IsPlanOutcome, IsTruly
 
 use crate::shown::{Shown, shown_of};
 use balance_plan::plan_text;
-use command_outcome::{Report, Status, Stop};
+use command_outcome::{EarlyEnd, Report, Status};
 use input_files::Listed;
 use line_instance::Instance;
 use line_io::Shelf;
@@ -86,7 +86,7 @@ pub fn plan_report<S: Shelf>(
     proof: &str,
     apart: Option<&str>,
     shelf: &mut S,
-) -> Result<Report, Stop>
+) -> Result<Report, EarlyEnd>
     ensures ends { S.tells → Ends (outside (S.file shelf.old) (S.blames shelf.new))
         (IsPlanOutcome (outside (S.file shelf.old) (S.blames shelf.new)) file.now proof.now
         (option_map (λ a. a.now) apart.entry)) (S.file shelf.new) result }

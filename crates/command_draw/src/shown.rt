@@ -10,7 +10,7 @@ ghost use Rattle.input_files.specs.Sheet.{IsListedFrom};
 ghost use Rattle.command_draw.specs.Drawable.{HasShown, IsNotShown};
 
 use crate::drawable::test;
-use command_outcome::Stop;
+use command_outcome::EarlyEnd;
 use input_files::{Listed, certificate_of, listed_line};
 use line_io::Shelf;
 use line_rules::Certificate;
@@ -31,7 +31,7 @@ pub(crate) fn shown_of<S: Shelf>(
     proof: &str,
     apart: Option<&str>,
     shelf: &mut S,
-) -> Result<Shown, Stop>
+) -> Result<Shown, EarlyEnd>
     ensures said { S.tells → MatchResult result
         (λ s. HasShown (S.file shelf.old) file.now proof.now (option_map (λ a. a.now) apart.entry) s.line.inst s.cert)
         (Stops (IsNotShown (outside (S.file shelf.old) (S.blames shelf.new)) file.now proof.now

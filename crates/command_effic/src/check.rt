@@ -9,7 +9,7 @@ ghost use Rattle.printed_verdict.specs.VerdictText.{IsVerdictStatus};
 ghost use Rattle.command_effic.specs.EfficCheck.{IsEfficCheckOutcome, IsProvedProduct};
 
 use crate::print_verdict::verdict_report;
-use command_outcome::{Report, Stop};
+use command_outcome::{EarlyEnd, Report};
 use effic_cert::EfficText;
 use effic_check::verify_effic;
 use input_files::{plain_line, spelled_in};
@@ -24,7 +24,7 @@ pub fn effic_check_report<S: Shelf>(
     proof: &str,
     steps: u64,
     shelf: &mut S,
-) -> Result<Report, Stop>
+) -> Result<Report, EarlyEnd>
     requires { IsBetween 1 20000000 steps }
     ensures ends { S.tells → (let o = outside (S.file shelf.old) (S.blames shelf.new) in
         Ends o (IsEfficCheckOutcome o file.now proof.now steps) (S.file shelf.new) result) }

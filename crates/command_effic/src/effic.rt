@@ -16,11 +16,11 @@ ghost use Rattle.effic_search.specs.Outcomes.{IsSolved, StoppedBy};
 ghost use Rattle.command_outcome.specs.Found.{IsFound, IsCutShort, IsSearchStatus, HasText, page_of};
 ghost use Rattle.command_outcome.specs.Outcome.{Files, Ends, MayEnd, Stay, Stops, MayStop, outside, outcome_of};
 ghost use Rattle.command_outcome.specs.declared.report.Kept.TheVariants.{Product as Certified};
-ghost use Rattle.command_outcome.specs.declared.report.Stop.TheVariants.{Unwritten};
+ghost use Rattle.command_outcome.specs.declared.report.EarlyEnd.TheVariants.{Unwritten};
 ghost use Rattle.command_effic.specs.EfficFound.{least_product, IsEfficOutcome, IsEfficPromised};
 
 use crate::print_effic::{optimal_text, stopped_text};
-use command_outcome::{Kept, Report, Status, Stop, cut_short, room_for_bounds, seek_text};
+use command_outcome::{EarlyEnd, Kept, Report, Status, cut_short, room_for_bounds, seek_text};
 use effic_cert::write_effic;
 use effic_search::{EfficOutcome, Ended, Gate, Plan, Seeks, least_product};
 use input_files::plain_line;
@@ -104,7 +104,7 @@ fn found<R: Threads + Wait + Sync, G: Gate>(
     wanted: Wanted,
     plan: &Plan,
     gate: &G,
-) -> Result<Report, Stop>
+) -> Result<Report, EarlyEnd>
     requires none { NoneApart inst.now }
     requires some { 1 ≤ wanted.least }
     requires order { wanted.least ≤ wanted.most }
@@ -127,7 +127,7 @@ fn found<R: Threads + Wait + Sync, G: Gate>(
             seeks,
         } => Ok(stopped(alloc, inst, naming, plan, why, cert, seeks)?),
         EfficOutcome::Memory { lower, upper } => Err(cut_short(room, lower, upper)?),
-        EfficOutcome::NoMemory => Err(Stop::Memory),
+        EfficOutcome::NoMemory => Err(EarlyEnd::Memory),
     }
 }
 
@@ -137,7 +137,7 @@ fn write_certificate<S: Shelf>(
     shelf: &mut S,
     name: Option<&str>,
     report: Report,
-) -> Result<Report, Stop>
+) -> Result<Report, EarlyEnd>
     requires sayable { (certificate : Proof) → report.kept ≡ Certified certificate → IsSayable certificate }
     ensures ends { S.tells → (files : Files) → Stay files (S.file shelf.old)
         → (cert : Proof) → report.kept ≡ Certified cert
@@ -164,7 +164,7 @@ fn write_certificate<S: Shelf>(
     let text = write_effic(alloc, cert)?;
     match write_whole(shelf, name, &text) {
         Written::Done => Ok(report),
-        Written::WriteFault => Err(Stop::Unwritten),
+        Written::WriteFault => Err(EarlyEnd::Unwritten),
     }
 }
 
@@ -182,7 +182,7 @@ pub fn effic_report<R: Threads + Wait + Sync, S: Shelf, G: Gate>(
     name: Option<&str>,
     shelf: &mut S,
     gate: &G,
-) -> Result<Report, Stop>
+) -> Result<Report, EarlyEnd>
     requires some { 1 ≤ least_m }
     requires order { least_m ≤ most_m }
     requires few { most_m ≤ 1024 }

@@ -8,7 +8,7 @@ ghost use Rattle.command_outcome.specs.declared.status.Status.TheVariants as end
 ghost use Rattle.command_mix.specs.Combine.{IsCombineOutcome, combined_line};
 
 use combined_graph::Mix;
-use command_outcome::{Report, Status, Stop, write_page};
+use command_outcome::{EarlyEnd, Report, Status, write_page};
 use in2_reader::write_in2;
 use line_io::Shelf;
 use mix_files::combined_of;
@@ -35,7 +35,7 @@ pub fn combine_report<S: Shelf>(
     mix: &str,
     name: &str,
     shelf: &mut S,
-) -> Result<Report, Stop>
+) -> Result<Report, EarlyEnd>
     ensures ends { S.tells → Ends (outside (S.file shelf.old) (S.blames shelf.new))
         (IsCombineOutcome (outside (S.file shelf.old) (S.blames shelf.new)) mix.now name.now) (S.file shelf.new)
         result }

@@ -9,7 +9,7 @@ ghost use Rattle.command_outcome.specs.declared.status.Status.TheVariants as end
 ghost use Rattle.mix_files.specs.inputs.InputFile.{fault_line};
 ghost use Rattle.command_mix.specs.Timeline.{IsTimelineOutcome, large_text};
 
-use command_outcome::{Report, Status, Stop, refuse};
+use command_outcome::{EarlyEnd, Report, Status, refuse};
 use line_io::Shelf;
 use mix_files::{Launch, fault_line_of, launch_of};
 use station_report::{TimelineRead, timeline};
@@ -23,7 +23,7 @@ fn text_of(
     launch: &Launch,
     interval: u64,
     reach: u64,
-) -> Result<Vec<u8>, Stop>
+) -> Result<Vec<u8>, EarlyEnd>
     requires places { length launch.now.balance.place ≡ launch.now.mix.tasks }
     requires stations { launch.now.balance.stations ≤ 1024 }
     requires few { length launch.now.units.items ≤ 100000 }
@@ -49,7 +49,7 @@ fn text_of(
             let text = fault_line_of(alloc, seq, "too large")?;
             Err(refuse(Status::Input, text))
         }
-        TimelineRead::NoMemory => Err(Stop::Memory),
+        TimelineRead::NoMemory => Err(EarlyEnd::Memory),
     }
 }
 
@@ -63,7 +63,7 @@ pub fn timeline_report<S: Shelf>(
     interval: u64,
     reach: u64,
     shelf: &mut S,
-) -> Result<Report, Stop>
+) -> Result<Report, EarlyEnd>
     requires interval { IsBetween 1 1000000000 interval }
     requires reach { IsBetween 1 1000000000 reach }
     ensures ends { S.tells → Ends (outside (S.file shelf.old) (S.blames shelf.new))

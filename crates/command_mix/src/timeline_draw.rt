@@ -14,7 +14,7 @@ ghost use Rattle.command_mix.specs.Timeline.{large_text};
 ghost use Rattle.command_mix.specs.TimelineDraw.{IsDrawable, IsTimelineDrawOutcome, IsTimelineTrulyDrawn};
 ghost use Rattle.command_mix.specs.TimelineDraw.{IsUndrawable};
 
-use command_outcome::{Report, Status, Stop, refuse, write_page, written};
+use command_outcome::{EarlyEnd, Report, Status, refuse, write_page, written};
 use line_io::Shelf;
 use mix_files::{Launch, fault_line_of, launch_of};
 use std::alloc::Global;
@@ -28,7 +28,7 @@ fn picture_of(
     launch: &Launch,
     interval: u64,
     reach: u64,
-) -> Result<Vec<u8>, Stop>
+) -> Result<Vec<u8>, EarlyEnd>
     requires places { length launch.now.balance.place ≡ launch.now.mix.tasks }
     requires stations { launch.now.balance.stations ≤ 1024 }
     requires few { length launch.now.units.items ≤ 100000 }
@@ -56,7 +56,7 @@ fn picture_of(
             let text = fault_line_of(alloc, seq, "too large")?;
             Err(refuse(Status::Input, text))
         }
-        TimelineRead::NoMemory => Err(Stop::Memory),
+        TimelineRead::NoMemory => Err(EarlyEnd::Memory),
     }
 }
 
@@ -72,7 +72,7 @@ pub fn timeline_draw_report<S: Shelf>(
     interval: u64,
     reach: u64,
     shelf: &mut S,
-) -> Result<Report, Stop>
+) -> Result<Report, EarlyEnd>
     requires interval { IsBetween 1 1000000000 interval }
     requires reach { IsBetween 1 1000000000 reach }
     ensures ends { S.tells → Ends (outside (S.file shelf.old) (S.blames shelf.new))

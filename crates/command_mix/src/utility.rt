@@ -9,7 +9,7 @@ ghost use Rattle.command_outcome.specs.declared.status.Status.TheVariants as end
 ghost use Rattle.command_mix.specs.Utility.{IsUtilityOutcome, lines_text, utility_lines, utility_text};
 
 use combined_graph::Mix;
-use command_outcome::{Report, Status, Stop};
+use command_outcome::{EarlyEnd, Report, Status};
 use line_io::Shelf;
 use line_rules::Balance;
 use mix_files::launch_of;
@@ -74,7 +74,7 @@ pub fn utility_report<S: Shelf>(
     interval: u64,
     reach: u64,
     shelf: &mut S,
-) -> Result<Report, Stop>
+) -> Result<Report, EarlyEnd>
     requires interval { IsBetween 1 1000000000 interval }
     requires reach { IsBetween 1 1000000000 reach }
     ensures ends { S.tells → Ends (outside (S.file shelf.old) (S.blames shelf.new))

@@ -7,8 +7,8 @@ use Rattle.command_outcome.specs.Bounds.{cut_short_text}
 use Rattle.command_outcome.specs.Outcome.{Files, Outside, Outcome, Ends, MayEnd, Stops, outcome_of, told}
 use Rattle.command_outcome.specs.Found.{Search, IsFound, IsReported, IsCutShort, IsFiled, HasText, page_of, IsSearchStatus}
 use Rattle.command_outcome.specs.declared.report.Report.{Report}
-use Rattle.command_outcome.specs.declared.report.Stop.{Stop}
-use Rattle.command_outcome.specs.declared.report.Stop.TheVariants as stop
+use Rattle.command_outcome.specs.declared.report.EarlyEnd.{EarlyEnd}
+use Rattle.command_outcome.specs.declared.report.EarlyEnd.TheVariants as stop
 use Rattle.command_outcome.specs.declared.status.Status.TheVariants as ends
 use Rattle.command_outcome.proofs.OutcomeFacts.{ends_as, stops_as, handed_on}
 
@@ -17,14 +17,14 @@ pub found_status : (s : Search) (r : Report) → IsFound s r.status r.text.items
 found_status s r f = elim f.answer [ inl a ↦ inl a.0 | inr a ↦ inr a.0 ]
 
 -- bounds that memory cut short are told so
-pub cut_as : (s : Search) (lower upper : ℕ) (e : Stop) → lower < upper → s.Bounds lower upper
+pub cut_as : (s : Search) (lower upper : ℕ) (e : EarlyEnd) → lower < upper → s.Bounds lower upper
     → Stops (λ out. out ≡ told ends.Memory (cut_short_text lower upper)) e → Stops (IsCutShort s) e
 cut_as s lower upper e below bounds told_so =
     stops_as (λ out. out ≡ told ends.Memory (cut_short_text lower upper)) (IsCutShort s) e
     (λ out shown. record { lower = lower; upper = upper; below = below; bounds = bounds; shown = shown }) told_so
 
 -- what may stop a step may stop what the step ends, where each cause is one
-pub may_end_as : {T : Type 0} (R Q W V : Type 0) (r : Result T Stop) → (R → Q) → (W → V)
+pub may_end_as : {T : Type 0} (R Q W V : Type 0) (r : Result T EarlyEnd) → (R → Q) → (W → V)
     → MatchResult r (λ _. Unit {0}) (MayEnd R W) → MatchResult r (λ _. Unit {0}) (MayEnd Q V)
 may_end_as R Q W V (Ok x) f h m = m
 may_end_as R Q W V (Err (stop.Report r)) f h m = record {
@@ -40,7 +40,7 @@ may_end_as R Q W V (Err stop.Unwritten) f h m = h m
 
 -- A report of what was found, handed on once its certificate is written where the words name a file.
 module _ (s : Search) (name : Option (List ℕ)) (r : Report) (found : IsFound s r.status r.text.items r.kept)
-    (after : Files) (result : Result Report Stop) where
+    (after : Files) (result : Result Report EarlyEnd) where
   -- what it ends with
   pub reported : (o : Outside) (P : Outcome → Type 0) → ((out : Outcome) → IsReported s name out → P out)
       → Ends o (λ out. out ≡ outcome_of r (page_of name (s.tell found.certificate))) after result

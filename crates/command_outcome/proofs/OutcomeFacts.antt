@@ -8,25 +8,25 @@ use Rattle.command_outcome.specs.Outcome.{Files, Outside, Outcome, Ends, Stay, S
 use Rattle.command_outcome.specs.declared.report.Kept.{Kept}
 use Rattle.command_outcome.specs.declared.report.Kept.TheVariants.{Nothing}
 use Rattle.command_outcome.specs.declared.report.Report.{Report}
-use Rattle.command_outcome.specs.declared.report.Stop.{Stop}
-use Rattle.command_outcome.specs.declared.report.Stop.TheVariants as stop
+use Rattle.command_outcome.specs.declared.report.EarlyEnd.{EarlyEnd}
+use Rattle.command_outcome.specs.declared.report.EarlyEnd.TheVariants as stop
 use Rattle.command_outcome.specs.declared.status.Status.{Status}
 
 -- a refusal of one kind is one of another that it implies
-pub stops_as : (P Q : Outcome → Type 0) (s : Stop) → ((out : Outcome) → P out → Q out) → Stops P s → Stops Q s
+pub stops_as : (P Q : Outcome → Type 0) (s : EarlyEnd) → ((out : Outcome) → P out → Q out) → Stops P s → Stops Q s
 stops_as P Q (stop.Report r) f p = f (outcome_of r None) p
 stops_as P Q stop.Memory f p = p
 stops_as P Q stop.Unwritten f p = p
 
 -- a command that is stopped before it writes anything
-pub stopped : (o : Outside) (P Q : Outcome → Type 0) (after : Files) (s : Stop) → ((out : Outcome) → Q out → P out)
+pub stopped : (o : Outside) (P Q : Outcome → Type 0) (after : Files) (s : EarlyEnd) → ((out : Outcome) → Q out → P out)
     → Stay o.files after → Stops Q s → Ends o P after (Err s)
 stopped o P Q after (stop.Report r) f k q = record { page = None; reached = f (outcome_of r None) q; written = k }
 stopped o P Q after stop.Memory f k q = k
 stopped o P Q after stop.Unwritten f k q = absurd q
 
 -- the same of a command that hands on by `?` what a step stopped with
-pub early : (o : Outside) (P Q : Outcome → Type 0) (after : Files) (s : Stop) (r : Result Report Stop)
+pub early : (o : Outside) (P Q : Outcome → Type 0) (after : Files) (s : EarlyEnd) (r : Result Report EarlyEnd)
     → ((out : Outcome) → Q out → P out) → Stay o.files after → Stops Q s → IsErrAnd r (λ e. e ≡ s) → Ends o P after r
 early o P Q after s r f k q is =
     let e = err_from_is_err_and r is in
@@ -34,12 +34,12 @@ early o P Q after s r f k q is =
     (subst (λ x. Ends o P after (Err x)) (sym e.2) (stopped o P Q after s f k q))
 
 -- the same of a step
-pub step_early : {T : Type 0} (P Q : Outcome → Type 0) (good : T → Type 0) (s : Stop) (r : Result T Stop)
+pub step_early : {T : Type 0} (P Q : Outcome → Type 0) (good : T → Type 0) (s : EarlyEnd) (r : Result T EarlyEnd)
     → ((out : Outcome) → Q out → P out) → Stops Q s → IsErrAnd r (λ e. e ≡ s) → MatchResult r good (Stops P)
 step_early {T = T} P Q good s r f q is =
     let e = err_from_is_err_and r is in
-    subst (λ (x : Result T Stop). MatchResult x good (Stops P)) (sym e.1)
-    (subst (λ (x : Stop). Stops P x) (sym e.2) (stops_as Q P s f q))
+    subst (λ (x : Result T EarlyEnd). MatchResult x good (Stops P)) (sym e.1)
+    (subst (λ (x : EarlyEnd). Stops P x) (sym e.2) (stops_as Q P s f q))
 
 -- what a report of this status and text comes to that keeps nothing
 pub told_as : (r : Report) (status : Status) (text : List ℕ) → r.status ≡ status → r.text.items ≡ text
@@ -51,7 +51,7 @@ told_as r status text s t k =
     ap with_status s ∙ ap with_text t ∙ ap with_kept k
 
 -- an end of which P is true is one of which Q is true, where P implies Q
-pub ends_as : (o : Outside) (P Q : Outcome → Type 0) (after : Files) (r : Result Report Stop)
+pub ends_as : (o : Outside) (P Q : Outcome → Type 0) (after : Files) (r : Result Report EarlyEnd)
     → ((out : Outcome) → P out → Q out) → Ends o P after r → Ends o Q after r
 ends_as o P Q after (Ok r) f e = record {
   page = e.page;
@@ -75,7 +75,7 @@ ends_as o P Q after (Err stop.Unwritten) f e = record {
 }
 
 -- what follows for a report from what was found out of it, where it was handed on
-pub handed_on : (P Q : Report → Type 0) (report : Report) (r : Result Report Stop) → (Q report → P report)
+pub handed_on : (P Q : Report → Type 0) (report : Report) (r : Result Report EarlyEnd) → (Q report → P report)
     → IfOk r (λ x. x ≡ report) → IfOk r Q → IfOk r P
 handed_on P Q report (Ok x) f same q = subst P (sym same) (f (subst Q same q))
 handed_on P Q report (Err e) f same q = search rules

@@ -6,8 +6,8 @@ use Rattle.line_io.specs.Whole.{IsPrefixWritten}
 use Rattle.command_outcome.specs.declared.report.Kept.{Kept}
 use Rattle.command_outcome.specs.declared.report.Kept.TheVariants.{Nothing}
 use Rattle.command_outcome.specs.declared.report.Report.{Report}
-use Rattle.command_outcome.specs.declared.report.Stop.{Stop}
-use Rattle.command_outcome.specs.declared.report.Stop.TheVariants as stop
+use Rattle.command_outcome.specs.declared.report.EarlyEnd.{EarlyEnd}
+use Rattle.command_outcome.specs.declared.report.EarlyEnd.TheVariants as stop
 use Rattle.command_outcome.specs.declared.status.Status.{Status}
 use Rattle.command_outcome.specs.declared.status.Status.TheVariants as ends
 
@@ -71,14 +71,14 @@ pub record IsCut (o : Outside) (P : Outcome → Type 0) (after : Files) : Type 0
 
 -- What a command ended with: a report that P is true of; its page could not be written; or out of memory, and all files
 -- stay.
-abbrev pub Ends : Outside → (Outcome → Type 0) → Files → Result Report Stop → Type 0
+abbrev pub Ends : Outside → (Outcome → Type 0) → Files → Result Report EarlyEnd → Type 0
 Ends o P after (Ok r) = Comes o P after r
 Ends o P after (Err (stop.Report r)) = Comes o P after r
 Ends o P after (Err stop.Memory) = Stay o.files after
 Ends o P after (Err stop.Unwritten) = IsCut o P after
 
 -- Why a file could not be taken in: a refusal that Q is true of, which writes no page; or out of memory.
-abbrev pub Stops : (Outcome → Type 0) → Stop → Type 0
+abbrev pub Stops : (Outcome → Type 0) → EarlyEnd → Type 0
 Stops Q (stop.Report r) = Q (outcome_of r None)
 Stops Q stop.Memory = Unit {0}
 Stops Q stop.Unwritten = ⊥
@@ -93,7 +93,7 @@ pub record IsRefusal (R : Type 0) (r : Report) : Type 0 where
   pub kept : r.kept ≡ Nothing
 
 -- the same of what stopped
-abbrev pub MayStop : Type 0 → Stop → Type 0
+abbrev pub MayStop : Type 0 → EarlyEnd → Type 0
 MayStop R (stop.Report r) = IsRefusal R r
 MayStop R stop.Memory = Unit {0}
 MayStop R stop.Unwritten = ⊥
@@ -103,7 +103,7 @@ abbrev pub outside : Files → (List ℕ → Bool) → Outside
 outside files blames = record { files = files; blames = blames }
 
 -- the same of a command that writes a file: it couldn't be written only where W
-abbrev pub MayEnd : Type 0 → Type 0 → Stop → Type 0
+abbrev pub MayEnd : Type 0 → Type 0 → EarlyEnd → Type 0
 MayEnd R W (stop.Report r) = IsRefusal R r
 MayEnd R W stop.Memory = Unit {0}
 MayEnd R W stop.Unwritten = W

@@ -6,8 +6,8 @@ use Rattle.line_io.specs.Outside.{up, Rises}
 use Rattle.command_outcome.specs.declared.report.Kept.{Kept}
 use Rattle.command_outcome.specs.declared.report.Kept.TheVariants.{Nothing}
 use Rattle.command_outcome.specs.declared.report.Report.{Report}
-use Rattle.command_outcome.specs.declared.report.Stop.{Stop}
-use Rattle.command_outcome.specs.declared.report.Stop.TheVariants as stop
+use Rattle.command_outcome.specs.declared.report.EarlyEnd.{EarlyEnd}
+use Rattle.command_outcome.specs.declared.report.EarlyEnd.TheVariants as stop
 use Rattle.command_outcome.specs.declared.status.Status.{Status}
 use Rattle.command_outcome.specs.declared.status.Status.TheVariants as ends
 
@@ -27,7 +27,7 @@ abbrev pub memory_line : List ℕ
 memory_line = codes "memory\n"
 
 -- what is put and kept of what a run ended with
-abbrev pub Finishes : Result Report Stop → List ℕ → List ℕ → ℕ → ℕ → Status → Kept → Type 0
+abbrev pub Finishes : Result Report EarlyEnd → List ℕ → List ℕ → ℕ → ℕ → Status → Kept → Type 0
 Finishes (Ok r) old new before after result kept = Puts r.status r.text.items r.kept old new before after result kept
 Finishes (Err (stop.Report r)) old new before after result kept =
     Puts r.status r.text.items r.kept old new before after result kept
@@ -37,14 +37,14 @@ Finishes (Err stop.Unwritten) old new before after result kept =
     (result ≡ ends.WriteFault) × (new ≡ old) × (kept ≡ Nothing)
 
 -- the status that a run ended with
-abbrev pub status_of : Result Report Stop → Status
+abbrev pub status_of : Result Report EarlyEnd → Status
 status_of (Ok r) = r.status
 status_of (Err (stop.Report r)) = r.status
 status_of (Err stop.Memory) = ends.Memory
 status_of (Err stop.Unwritten) = ends.WriteFault
 
 -- the certificate that is kept of what a run ended with, once it is put
-abbrev pub kept_of : Result Report Stop → Kept
+abbrev pub kept_of : Result Report EarlyEnd → Kept
 kept_of (Ok r) = r.kept
 kept_of (Err (stop.Report r)) = r.kept
 kept_of (Err stop.Memory) = Nothing

@@ -5,7 +5,7 @@ ghost use Rattle.command_outcome.specs.Bounds.{bounds_line, cut_short_text, seek
 ghost use Rattle.command_outcome.specs.Outcome.{MayStop, Stops, told};
 ghost use Rattle.command_outcome.specs.declared.status.Status.TheVariants as ends;
 
-use crate::report::{Stop, refuse};
+use crate::report::{EarlyEnd, refuse};
 use crate::status::Status;
 use std::alloc::{AllocError, Global};
 
@@ -67,7 +67,7 @@ pub fn cut_short_text(room: String, lower: u128, upper: u128) -> Result<Vec<u8>,
 }
 
 /// The refusal of a search that memory ended, with its bounds, in memory that was taken before.
-pub fn cut_short(room: String, lower: u128, upper: u128) -> Result<Stop, AllocError>
+pub fn cut_short(room: String, lower: u128, upper: u128) -> Result<EarlyEnd, AllocError>
     requires room { string_bytes room ≡ [] }
     ensures answer { IfOk result (Stops (λ out. out ≡ told ends.Memory (cut_short_text lower upper))) }
     ensures fault { IfOk result (MayStop ⊥) }

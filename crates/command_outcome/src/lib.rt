@@ -1,7 +1,7 @@
 //! What every command comes to: a status, a text that is put, the file that it writes where it writes one, and the
 //! certificate that the run keeps where it makes one.
 //!
-//! A command gives a [`Report`], or a [`Stop`] that says why there is none or why it came early. [`finish`] puts it. So
+//! A command gives a [`Report`], or a [`EarlyEnd`] that says why there is none or why it came early. [`finish`] puts it. So
 //! a command itself never puts anything, and its contract speaks of an outcome: the status, the text, the written page
 //! and the kept certificate.
 #![tactic(auto)]
@@ -19,5 +19,5 @@ pub use bounds::{
 pub use output::finish;
 pub use page::{write_page, written};
 pub use print::{line_about, push_number, push_one, push_printed};
-pub use report::{Kept, Report, Stop, refuse};
+pub use report::{EarlyEnd, Kept, Report, refuse};
 pub use status::Status;

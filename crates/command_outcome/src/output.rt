@@ -3,10 +3,10 @@ ghost use Rattle.std.specs.Prelude.{◌≡◌, ◌≢◌};
 ghost use Rattle.line_io.specs.Outside.{Rises};
 ghost use Rattle.command_outcome.specs.Output.{Finishes, IsOnePut, Puts, kept_of, status_of};
 ghost use Rattle.command_outcome.specs.declared.report.Kept.TheVariants.{Nothing};
-ghost use Rattle.command_outcome.specs.declared.report.Stop.TheVariants.{Unwritten};
+ghost use Rattle.command_outcome.specs.declared.report.EarlyEnd.TheVariants.{Unwritten};
 ghost use Rattle.command_outcome.specs.declared.status.Status.TheVariants as ends;
 
-use crate::report::{Kept, Report, Stop};
+use crate::report::{EarlyEnd, Kept, Report};
 use crate::status::Status;
 use line_io::{Sink, Stored};
 
@@ -62,7 +62,7 @@ fn put_report<K: Sink>(out: &mut K, report: Report, kept: &mut Kept) -> Status
 /// Puts what a run ended with: a report, in one put; the line `memory`; or nothing, where a file could not be written.
 /// It answers the status, or that the put failed. `kept` then holds the certificate of the report, where it was put,
 /// and else nothing.
-pub fn finish<K: Sink>(out: &mut K, ended: Result<Report, Stop>, kept: &mut Kept) -> Status
+pub fn finish<K: Sink>(out: &mut K, ended: Result<Report, EarlyEnd>, kept: &mut Kept) -> Status
     requires { status_of ended ≡ ends.WriteFault → ended ≡ Err Unwritten }
     ensures finishes { K.tells → Finishes ended (K.shown out.old) (K.shown out.new) (K.faults out.old)
         (K.faults out.new) result kept.new }
@@ -75,9 +75,9 @@ pub fn finish<K: Sink>(out: &mut K, ended: Result<Report, Stop>, kept: &mut Kept
     match ended {
         Ok(report) => put_report(out, report, kept),
         Err(stop) => match stop {
-            Stop::Report(report) => put_report(out, report, kept),
-            Stop::Memory => put(out, b"memory\n", Status::Memory, Kept::Nothing, kept),
-            Stop::Unwritten => give_up(kept),
+            EarlyEnd::Report(report) => put_report(out, report, kept),
+            EarlyEnd::Memory => put(out, b"memory\n", Status::Memory, Kept::Nothing, kept),
+            EarlyEnd::Unwritten => give_up(kept),
         },
     }
 }

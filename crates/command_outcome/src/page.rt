@@ -7,7 +7,7 @@ ghost use Rattle.command_outcome.specs.declared.report.Kept.TheVariants.{Nothing
 ghost use Rattle.command_outcome.specs.declared.status.Status.TheVariants as ends;
 
 use crate::print::line_about;
-use crate::report::{Report, Stop};
+use crate::report::{EarlyEnd, Report};
 use crate::status::Status;
 use line_io::{Shelf, Written, write_whole};
 use std::alloc::{AllocError, Global};
@@ -18,7 +18,7 @@ pub fn write_page<S: Shelf>(
     name: &str,
     bytes: &[u8],
     report: Report,
-) -> Result<Report, Stop>
+) -> Result<Report, EarlyEnd>
     ensures ends { S.tells → (files : Files) → Stay files (S.file shelf.old)
         → Ends (outside files (S.blames shelf.new))
         (λ out. out ≡ outcome_of report (Some (record { name = name.now; bytes = bytes.now }))) (S.file shelf.new)
@@ -34,7 +34,7 @@ pub fn write_page<S: Shelf>(
 {
     match write_whole(shelf, name, bytes) {
         Written::Done => Ok(report),
-        Written::WriteFault => Err(Stop::Unwritten),
+        Written::WriteFault => Err(EarlyEnd::Unwritten),
     }
 }
 

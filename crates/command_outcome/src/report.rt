@@ -1,7 +1,7 @@
 //! Reports, and why a command stops without one or early. A `?` on either carries a refusal up to the caller.
 ghost use Rattle.std.specs.Prelude.{◌≡◌};
 ghost use Rattle.command_outcome.specs.declared.report.Kept.TheVariants.{Nothing};
-ghost use Rattle.command_outcome.specs.declared.report.Stop.TheVariants.{Memory, Report as Early};
+ghost use Rattle.command_outcome.specs.declared.report.EarlyEnd.TheVariants.{Memory, Report as Early};
 
 use crate::status::Status;
 use line_rules::{Certificate, EfficCert};
@@ -65,7 +65,7 @@ impl Report {
 
 /// Why a command stops.
 #[derive(Drop)]
-pub enum Stop {
+pub enum EarlyEnd {
     /// Out of memory.
     Memory,
     /// The file that the command writes could not be written.
@@ -74,17 +74,17 @@ pub enum Stop {
     Report(Report),
 }
 
-impl From<AllocError> for Stop {
+impl From<AllocError> for EarlyEnd {
     ghost from_gives = { λ _ s. s ≡ Memory };
 
-    fn from(_error: AllocError) -> Stop {
-        Stop::Memory
+    fn from(_error: AllocError) -> EarlyEnd {
+        EarlyEnd::Memory
     }
 }
 
 /// A refusal with this status and text. Nothing is kept with it.
-pub fn refuse(status: Status, text: Vec<u8>) -> Stop
+pub fn refuse(status: Status, text: Vec<u8>) -> EarlyEnd
     ensures { result ≡ Early (record { status = status; text = text; kept = Nothing }) }
 {
-    Stop::Report(Report::told(status, text))
+    EarlyEnd::Report(Report::told(status, text))
 }

@@ -10,7 +10,7 @@ ghost use Rattle.command_sequence.specs.VerdictText.{IsVerdictStatus};
 
 use crate::print_verdict::verdict_report;
 use crate::timed_mix::timed_of;
-use command_outcome::{Report, Stop};
+use command_outcome::{EarlyEnd, Report};
 use line_io::Shelf;
 use mix_files::spelled_in;
 use sequence_cert::SeqText;
@@ -29,7 +29,7 @@ pub fn sequence_check_report<S: Shelf>(
     reach: u64,
     steps: u64,
     shelf: &mut S,
-) -> Result<Report, Stop>
+) -> Result<Report, EarlyEnd>
     requires interval { IsBetween 1 1000000000 interval }
     requires reach { IsBetween 1 1000000000 reach }
     requires steps { IsBetween 1 20000000 steps }

@@ -12,13 +12,13 @@ ghost use Rattle.sequence_cert.specs.SequenceText.{sequence_text};
 ghost use Rattle.command_outcome.specs.Found.{HasText, IsCutShort, IsFound, IsSearchStatus, page_of};
 ghost use Rattle.command_outcome.specs.Outcome.{Files, Ends, MayEnd, Stay, Stops, MayStop, outside, outcome_of};
 ghost use Rattle.command_outcome.specs.declared.report.Kept.TheVariants.{Sequence as Certified};
-ghost use Rattle.command_outcome.specs.declared.report.Stop.TheVariants.{Unwritten};
+ghost use Rattle.command_outcome.specs.declared.report.EarlyEnd.TheVariants.{Unwritten};
 ghost use Rattle.command_sequence.specs.Ordered.{IsSequenceOutcome, IsSequencePromised, least_work};
 
 use crate::beginning::{Beginning, begin};
 use crate::print_sequence::{optimal_text, stopped_text};
 use crate::timed_mix::{TimedMix, timed_of};
-use command_outcome::{Kept, Report, Status, Stop, cut_short, room_for_bounds};
+use command_outcome::{EarlyEnd, Kept, Report, Status, cut_short, room_for_bounds};
 use line_io::{Shelf, Written, write_whole};
 use sequence_cert::write_seq;
 use sequence_search::{Ordered, order_from};
@@ -32,7 +32,7 @@ fn ordered(
     reach: u64,
     units: u64,
     seek: u64,
-) -> Result<Report, Stop>
+) -> Result<Report, EarlyEnd>
     requires times { AreTimes timed.now.times }
     requires models { length timed.now.times.demands ≡ length timed.now.mix.models }
     requires interval { IsBetween 1 1000000000 interval }
@@ -78,7 +78,7 @@ fn ordered(
             })
         }
         Ordered::Memory { lower, upper } => Err(cut_short(room, lower as u128, upper as u128)?),
-        Ordered::NoMemory => Err(Stop::Memory),
+        Ordered::NoMemory => Err(EarlyEnd::Memory),
     }
 }
 
@@ -88,7 +88,7 @@ fn written<S: Shelf>(
     shelf: &mut S,
     name: Option<&str>,
     report: Report,
-) -> Result<Report, Stop>
+) -> Result<Report, EarlyEnd>
     requires range { (cert : Proof) → report.kept ≡ Certified cert → IsInRange cert }
     ensures ends { S.tells → (files : Files) → Stay files (S.file shelf.old)
         → (cert : Proof) → report.kept ≡ Certified cert
@@ -112,7 +112,7 @@ fn written<S: Shelf>(
     let text = write_seq(alloc, cert)?;
     match write_whole(shelf, name, &text) {
         Written::Done => Ok(report),
-        Written::WriteFault => Err(Stop::Unwritten),
+        Written::WriteFault => Err(EarlyEnd::Unwritten),
     }
 }
 
@@ -129,7 +129,7 @@ pub fn sequence_report<S: Shelf>(
     seek: u64,
     name: Option<&str>,
     shelf: &mut S,
-) -> Result<Report, Stop>
+) -> Result<Report, EarlyEnd>
     requires interval { IsBetween 1 1000000000 interval }
     requires reach { IsBetween 1 1000000000 reach }
     requires units { IsBetween 1 1000000 units }

@@ -8,7 +8,7 @@ ghost use Rattle.command_outcome.specs.Outcome.{Stops, MayStop, outside};
 ghost use Rattle.command_sequence.specs.TimedMix.{IsLarge, IsSmall, IsTimed, IsTimesOf, IsUntimed};
 
 use combined_graph::Mix;
-use command_outcome::{Status, Stop, refuse};
+use command_outcome::{EarlyEnd, Status, refuse};
 use line_io::Shelf;
 use mix_files::{Balanced, balanced_of, fault_line_of};
 use sequence_rules::MAX_STATIONS;
@@ -29,7 +29,7 @@ pub(crate) struct TimedMix {
 }
 
 /// The works of a mix at the stations of its balance, where both are small; `file` is the name of the mix.
-fn times_of(alloc: Global, file: &str, balanced: Balanced) -> Result<TimedMix, Stop>
+fn times_of(alloc: Global, file: &str, balanced: Balanced) -> Result<TimedMix, EarlyEnd>
     requires places { length balanced.balance.place ≡ balanced.mix.tasks }
     requires some { 1 ≤ balanced.balance.stations }
     requires demand { balanced.demand ≡ total_demand balanced.mix.models }
@@ -61,7 +61,7 @@ pub(crate) fn timed_of<S: Shelf>(
     cert: &str,
     interval: u64,
     shelf: &mut S,
-) -> Result<TimedMix, Stop>
+) -> Result<TimedMix, EarlyEnd>
     requires { IsBetween 1 1000000000 interval }
     ensures said { S.tells → MatchResult result
         (λ p. IsTimed (S.file shelf.old) mix.now cert.now interval p.mix p.times)

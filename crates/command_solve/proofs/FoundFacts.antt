@@ -17,7 +17,7 @@ use Rattle.command_outcome.specs.Found.{Search, IsFound, IsAnswer, IsFiled}
 use Rattle.command_outcome.specs.Outcome.{Files, Outside, Outcome}
 use Rattle.command_outcome.specs.declared.report.Kept.TheVariants.{Line as Certified}
 use Rattle.command_outcome.specs.declared.report.Report.{Report}
-use Rattle.command_outcome.specs.declared.report.Stop.{Stop}
+use Rattle.command_outcome.specs.declared.report.EarlyEnd.{EarlyEnd}
 use Rattle.input_files.specs.InputFile.{max_certificate}
 use Rattle.input_files.specs.Instance.{naming_of}
 use Rattle.solution_page.proofs.TextLengths.{bounds_fit, too_long_fits}
@@ -98,7 +98,7 @@ module _ (o : Outside) (file : List ℕ) (apart warm : Option (List ℕ)) (limit
   })
 
   -- what is promised of it, once its certificate is written
-  pub promised : (after : Files) (r : Result Report Stop)
+  pub promised : (after : Files) (r : Result Report EarlyEnd)
       → IfOk r (λ x. IsFiled (search_of said kind limit plan) name after x.status x.text.items x.kept)
       → IfOk r (λ x. IsPromised o.files after file apart warm limit word kind plan name x.status x.text.items x.kept)
   promised after (Ok x) f = record {

@@ -10,7 +10,7 @@ ghost use Rattle.input_files.specs.Instance.{naming_of};
 ghost use Rattle.command_solve.specs.inner.Said.{HasSaid, IsUnsaidOrUnwarmed};
 
 use crate::warm_start::old_entries;
-use command_outcome::Stop;
+use command_outcome::EarlyEnd;
 use input_files::{Timed, said_instance};
 use line_io::Shelf;
 use line_rules::{Entries, LineKind};
@@ -32,7 +32,7 @@ pub(crate) fn said_of<S: Shelf>(
     word: Option<u64>,
     kind: LineKind,
     shelf: &mut S,
-) -> Result<Said, Stop>
+) -> Result<Said, EarlyEnd>
     requires word { IsSetBetween 1 1000000000000000000 word }
     ensures said { S.tells → MatchResult result
         (λ s. HasSaid (S.file shelf.old) file.now (option_map (λ a. a.now) apart.entry)

@@ -17,7 +17,7 @@ ghost use Rattle.round_run.specs.Solving.{FitsAll, IsSolvedFrom, IsSpentFrom, Is
 ghost use Rattle.round_run.specs.Certified.{LeaveRoom};
 ghost use Rattle.command_outcome.specs.Found.{IsFound, IsCutShort, IsSearchStatus};
 ghost use Rattle.command_outcome.specs.Outcome.{Ends, MayEnd, Stops, MayStop, outside};
-ghost use Rattle.command_outcome.specs.declared.report.Stop.TheVariants.{Unwritten};
+ghost use Rattle.command_outcome.specs.declared.report.EarlyEnd.TheVariants.{Unwritten};
 ghost use Rattle.command_solve.specs.inner.Begun.{IsBegun};
 ghost use Rattle.command_solve.specs.inner.Said.{search_of};
 ghost use Rattle.command_solve.specs.WarmStart.{Start};
@@ -27,7 +27,7 @@ ghost use Rattle.task_names.specs.declared.naming.Naming.{Naming as NamingOf};
 use crate::print_solution::{optimal_text, stopped_text};
 use crate::said::{Said, said_of};
 use crate::warm_start::{Begun, begin};
-use command_outcome::{Kept, Report, Status, Stop, cut_short, room_for_bounds};
+use command_outcome::{EarlyEnd, Kept, Report, Status, cut_short, room_for_bounds};
 use first_fit::{Ranked, ranked_balance};
 use input_files::Timed;
 use lemma_core::Book;
@@ -137,7 +137,7 @@ fn ended_by_memory(
     room: String,
     lower: u32,
     book: &Book,
-) -> Result<Stop, AllocError>
+) -> Result<EarlyEnd, AllocError>
     requires room { string_bytes room ≡ [] }
     requires stopped { (N : ℕ) × (before : List Lemma) × (added : List Lemma) × (trail : List OpenFrame)
         × HasStopped kind inst.now cycle N before added lower book.now trail }
@@ -162,7 +162,7 @@ fn run<R: Threads + Wait + Sync, G: Gate>(
     plan: &Plan,
     gate: &G,
     room: String,
-) -> Result<Report, Stop>
+) -> Result<Report, EarlyEnd>
     requires cycle { IsCycle cycle }
     requires fits { FitsAll inst.now cycle }
     requires plan { IsPlan plan.now }
@@ -190,7 +190,7 @@ fn run<R: Threads + Wait + Sync, G: Gate>(
             )?),
             Cause::Memory => Err(ended_by_memory(inst, kind, cycle, room, lower, &book)?),
         },
-        Outcome::NoMemory => Err(Stop::Memory),
+        Outcome::NoMemory => Err(EarlyEnd::Memory),
     }
 }
 
@@ -204,7 +204,7 @@ fn solution<R: Threads + Wait + Sync, G: Gate>(
     limit: u64,
     plan: &Plan,
     gate: &G,
-) -> Result<Report, Stop>
+) -> Result<Report, EarlyEnd>
     requires cycle { IsCycle said.timed.cycle }
     requires limit { limit ≤ 3000000 }
     requires plan { IsPlan plan.now }
@@ -224,7 +224,7 @@ fn solution<R: Threads + Wait + Sync, G: Gate>(
     let best = match ranked_balance(alloc, inst, kind, cycle) {
         Ranked::Good(best) => best,
         Ranked::TooLong(task) => return Ok(infeasible(alloc, inst, &naming, kind, cycle, task)?),
-        Ranked::NoMemory => return Err(Stop::Memory),
+        Ranked::NoMemory => return Err(EarlyEnd::Memory),
     };
     let begun = begin(rt, alloc, inst, kind, cycle, best, olds, limit, plan)?;
     run(
@@ -249,7 +249,7 @@ pub fn solve_report<R: Threads + Wait + Sync, S: Shelf, G: Gate>(
     name: Option<&str>,
     shelf: &mut S,
     gate: &G,
-) -> Result<Report, Stop>
+) -> Result<Report, EarlyEnd>
     requires word { IsSetBetween 1 1000000000000000000 word }
     requires limit { limit ≤ 3000000 }
     requires plan { IsPlan plan.now }

@@ -22,7 +22,7 @@ ghost use Rattle.command_solve.specs.WarmStart.{Start, old_room};
 ghost use Rattle.warm_book.specs.Warm.{Taking};
 ghost use Rattle.command_solve.specs.inner.Begun.{IsBegun, IsTaken, HasSoughtBehind};
 
-use command_outcome::{Status, Stop, refuse, with_seek_line};
+use command_outcome::{EarlyEnd, Status, refuse, with_seek_line};
 use input_files::certificate_of;
 use lemma_core::Book;
 use line_instance::Instance;
@@ -101,7 +101,7 @@ pub(crate) fn entries_in(
     inst: &Instance,
     kind: LineKind,
     cert: Certificate,
-) -> Result<Entries, Stop>
+) -> Result<Entries, EarlyEnd>
     requires { IsInRange cert }
     ensures old { MatchResult result (IsOldOf kind inst.now cert) (Stops (IsOther kind inst.now cert)) }
     ensures range { IfOk result (AreEntries (tasks inst.now)) }
@@ -126,7 +126,7 @@ fn entries_from<S: Shelf>(
     inst: &Instance,
     kind: LineKind,
     shelf: &mut S,
-) -> Result<Entries, Stop>
+) -> Result<Entries, EarlyEnd>
     ensures said { S.tells → MatchResult result
         (λ old. (cert : Proof) × (IsCertificateOf (S.file shelf.old) file.now cert × IsOldOf kind inst.now cert old))
         (Stops (IsUnwarmed (outside (S.file shelf.old) (S.blames shelf.new)) (Some file.now) kind inst.now)) }
@@ -149,7 +149,7 @@ pub(crate) fn old_entries<S: Shelf>(
     inst: &Instance,
     kind: LineKind,
     shelf: &mut S,
-) -> Result<Option<Entries>, Stop>
+) -> Result<Option<Entries>, EarlyEnd>
     ensures said { S.tells → MatchResult result
         (AreOld (S.file shelf.old) (option_map (λ a. a.now) warm.entry) kind inst.now)
         (Stops (IsUnwarmed (outside (S.file shelf.old) (S.blames shelf.new)) (option_map (λ a. a.now) warm.entry)

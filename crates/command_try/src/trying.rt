@@ -13,13 +13,13 @@ ghost use Rattle.cert_text.specs.WholeText.{IsCertRead};
 ghost use Rattle.cert_text.specs.declared.whole_text.CertRead.TheVariants.{Good};
 ghost use Rattle.round_run.specs.Solving.{IsSolved, IsSpent};
 ghost use Rattle.round_run.specs.Certified.{IsOptimum, IsStop};
-ghost use Rattle.command_outcome.specs.declared.report.Stop.TheVariants.{Memory};
+ghost use Rattle.command_outcome.specs.declared.report.EarlyEnd.TheVariants.{Memory};
 ghost use Rattle.command_outcome.specs.declared.status.Status.TheVariants as ends;
 ghost use Rattle.command_try.specs.Tried.{alone, IsAcceptable, IsShown, IsTold, IsTried};
 
 use crate::print_try::{bounds_text, none_text};
 use cert_text::{CertRead, read_cert, write_cert};
-use command_outcome::{Kept, Report, Status, Stop};
+use command_outcome::{EarlyEnd, Kept, Report, Status};
 use lemma_core::Book;
 use line_check::{Verified, verify};
 use line_generator::{Generated, generate};
@@ -249,7 +249,7 @@ pub fn try_report<R: Threads + Wait + Sync>(
     cycle: u64,
     kind: LineKind,
     units: u64,
-) -> Result<Report, Stop>
+) -> Result<Report, EarlyEnd>
     requires some { 1 ≤ tasks }
     requires most { tasks ≤ 1024 }
     requires cycle { IsCycle cycle }
@@ -260,7 +260,7 @@ pub fn try_report<R: Threads + Wait + Sync>(
     ensures memory { MatchResult result (λ _. Unit {0}) (λ s. s ≡ Memory) }
 {
     let Generated::Good(inst) = generate(alloc, seed, tasks) else {
-        return Err(Stop::Memory);
+        return Err(EarlyEnd::Memory);
     };
     Ok(report_of(rt, alloc, &inst, seed, kind, cycle, units)?)
 }

@@ -9,7 +9,7 @@ ghost use Rattle.input_files.specs.Instance.{IsNoPairs};
 
 use crate::fetch_file::fetch;
 use crate::sheets::in2_fault_line;
-use command_outcome::{Status, Stop, refuse};
+use command_outcome::{EarlyEnd, Status, refuse};
 use in2_reader::{ApartRead, read_apart};
 use line_instance::Prec;
 use line_io::Shelf;
@@ -21,7 +21,7 @@ pub(crate) fn pairs_of<S: Shelf>(
     file: &str,
     tasks: u32,
     shelf: &mut S,
-) -> Result<Vec<Prec>, Stop>
+) -> Result<Vec<Prec>, EarlyEnd>
     requires some { 1 ≤ tasks }
     requires few { tasks ≤ 1024 }
     ensures said { S.tells → MatchResult result (λ v. Reads max_file (S.file shelf.old file.now)
@@ -41,6 +41,6 @@ pub(crate) fn pairs_of<S: Shelf>(
             let text = in2_fault_line(alloc, file, &fault)?;
             Err(refuse(Status::Input, text))
         }
-        ApartRead::NoMemory => Err(Stop::Memory),
+        ApartRead::NoMemory => Err(EarlyEnd::Memory),
     }
 }

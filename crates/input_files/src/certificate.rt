@@ -7,7 +7,7 @@ ghost use Rattle.input_files.specs.Certificate.{IsCertificateOf, IsNoCertificate
 
 use cert_files::{CertFrom, cert_from};
 use cert_text::{CertFault, CertKind};
-use command_outcome::{Status, Stop, line_about, push_number, refuse};
+use command_outcome::{EarlyEnd, Status, line_about, push_number, refuse};
 use line_io::Shelf;
 use line_rules::Certificate;
 use std::alloc::{AllocError, Global};
@@ -45,7 +45,7 @@ pub fn certificate_of<S: Shelf>(
     alloc: Global,
     file: &str,
     shelf: &mut S,
-) -> Result<Certificate, Stop>
+) -> Result<Certificate, EarlyEnd>
     ensures said { S.tells → MatchResult result (IsCertificateOf (S.file shelf.old) file.now)
         (Stops (IsNoCertificate (outside (S.file shelf.old) (S.blames shelf.new)) file.now)) }
     ensures range { IfOk result IsInRange }
@@ -69,6 +69,6 @@ pub fn certificate_of<S: Shelf>(
             let text = line_about(alloc, "read fault: ", file, "\n")?;
             Err(refuse(Status::ReadFault, text))
         }
-        CertFrom::NoMemory => Err(Stop::Memory),
+        CertFrom::NoMemory => Err(EarlyEnd::Memory),
     }
 }

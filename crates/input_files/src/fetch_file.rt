@@ -4,7 +4,7 @@ ghost use Rattle.line_io.specs.Outside.{Rises};
 ghost use Rattle.command_outcome.specs.Outcome.{Stops, MayStop, outside};
 ghost use Rattle.input_files.specs.InputFile.{IsUntaken, max_file};
 
-use command_outcome::{Status, Stop, line_about, refuse};
+use command_outcome::{EarlyEnd, Status, line_about, refuse};
 use line_io::{Shelf, Whole, read_whole};
 use std::alloc::Global;
 
@@ -18,7 +18,7 @@ pub fn fetch_within<S: Shelf>(
     file: &str,
     limit: u64,
     shelf: &mut S,
-) -> Result<Vec<u8>, Stop>
+) -> Result<Vec<u8>, EarlyEnd>
     ensures source { S.tells → MatchResult result
         (λ v. (S.file shelf.old file.now ≡ Some v.items) × (length v.items ≤ limit))
         (Stops (IsUntaken (outside (S.file shelf.old) (S.blames shelf.new)) limit file.now)) }
@@ -38,12 +38,12 @@ pub fn fetch_within<S: Shelf>(
             let text = line_about(alloc, "input: ", file, " too long\n")?;
             Err(refuse(Status::Input, text))
         }
-        Whole::NoMemory => Err(Stop::Memory),
+        Whole::NoMemory => Err(EarlyEnd::Memory),
     }
 }
 
 /// The bytes of an instance file or of a file of pairs.
-pub fn fetch<S: Shelf>(alloc: Global, file: &str, shelf: &mut S) -> Result<Vec<u8>, Stop>
+pub fn fetch<S: Shelf>(alloc: Global, file: &str, shelf: &mut S) -> Result<Vec<u8>, EarlyEnd>
     ensures source { S.tells → MatchResult result
         (λ v. (S.file shelf.old file.now ≡ Some v.items) × (length v.items ≤ max_file))
         (Stops (IsUntaken (outside (S.file shelf.old) (S.blames shelf.new)) max_file file.now)) }

@@ -13,7 +13,7 @@ ghost use Rattle.input_files.specs.Sheet.{IsListedFrom, IsRightSheet, IsSheetFro
 
 use crate::apart_pairs::pairs_of;
 use crate::sheets::{Sheet, sheet_of};
-use command_outcome::{Status, Stop, line_about, refuse};
+use command_outcome::{EarlyEnd, Status, line_about, refuse};
 use line_instance::{Instance, Prec};
 use line_io::Shelf;
 use std::alloc::Global;
@@ -39,7 +39,12 @@ pub struct Listed {
 }
 
 /// The cycle time of the words, and else that of the file.
-fn cycle_for(alloc: Global, file: &str, word: Option<u64>, given: Option<u64>) -> Result<u64, Stop>
+fn cycle_for(
+    alloc: Global,
+    file: &str,
+    word: Option<u64>,
+    given: Option<u64>,
+) -> Result<u64, EarlyEnd>
     requires word { IsSetBetween 1 1000000000000000000 word }
     requires given { IsSetBetween 1 1000000000000000000 given }
     ensures cycle { MatchResult result (λ c. cycle_of word given ≡ Some c)
@@ -70,7 +75,7 @@ fn timed_of<S: Shelf>(
     file: &str,
     word: Option<u64>,
     shelf: &mut S,
-) -> Result<TimedSheet, Stop>
+) -> Result<TimedSheet, EarlyEnd>
     requires word { IsSetBetween 1 1000000000000000000 word }
     ensures said { S.tells → MatchResult result (λ t. IsTimed (S.file shelf.old) file.now word t.sheet.inst t.cycle)
         (Stops (IsUntimedOrNone (outside (S.file shelf.old) (S.blames shelf.new)) file.now word)) }
@@ -95,7 +100,7 @@ fn part<S: Shelf>(
     listed: Vec<Prec>,
     apart: Option<&str>,
     shelf: &mut S,
-) -> Result<Instance, Stop>
+) -> Result<Instance, EarlyEnd>
     requires pairs { ArePairs (tasks inst) listed.items }
     requires given { (i j : ℕ) → Apart inst i j ↔ IsGiven listed.items i j }
     ensures said { S.tells → MatchResult result (IsPartedBy (S.file shelf.old) (option_map (λ a. a.now) apart.entry)
@@ -126,7 +131,7 @@ pub fn said_instance<S: Shelf>(
     apart: Option<&str>,
     word: Option<u64>,
     shelf: &mut S,
-) -> Result<Timed, Stop>
+) -> Result<Timed, EarlyEnd>
     requires word { IsSetBetween 1 1000000000000000000 word }
     ensures said { S.tells → MatchResult result (λ t. IsSaid (S.file shelf.old) file.now
         (option_map (λ a. a.now) apart.entry) word t.inst t.cycle)
@@ -155,7 +160,7 @@ pub fn listed_line<S: Shelf>(
     file: &str,
     apart: Option<&str>,
     shelf: &mut S,
-) -> Result<Listed, Stop>
+) -> Result<Listed, EarlyEnd>
     ensures said { S.tells → MatchResult result (λ l. IsLineGiven (S.file shelf.old) file.now
         (option_map (λ a. a.now) apart.entry) l.inst l.cycle)
         (Stops (IsNoLine (outside (S.file shelf.old) (S.blames shelf.new))
@@ -186,7 +191,7 @@ pub fn line_of<S: Shelf>(
     file: &str,
     apart: Option<&str>,
     shelf: &mut S,
-) -> Result<Instance, Stop>
+) -> Result<Instance, EarlyEnd>
     ensures said { S.tells → MatchResult result (IsLineOf (S.file shelf.old) file.now
         (option_map (λ a. a.now) apart.entry)) (Stops (IsNoLine (outside (S.file shelf.old) (S.blames shelf.new))
         file.now (option_map (λ a. a.now) apart.entry))) }

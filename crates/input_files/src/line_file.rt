@@ -8,7 +8,7 @@ ghost use Rattle.input_files.specs.Instance.{IsPlainLine, IsNoPlainLine, naming_
 ghost use Rattle.input_files.specs.TableTexts.{apart_text};
 
 use crate::sheets::{Sheet, fault_line_of, sheet_of};
-use command_outcome::{Status, Stop, push_number, refuse};
+use command_outcome::{EarlyEnd, Status, push_number, refuse};
 use line_instance::Instance;
 use line_io::Shelf;
 use std::alloc::{AllocError, Global};
@@ -33,7 +33,7 @@ fn apart_line(alloc: Global, file: &str, number: u64) -> Result<Vec<u8>, AllocEr
 
 /// The line that the file says, whatever the cycle time, for a command that knows no tasks that are apart: a table that
 /// lists some is refused.
-pub fn plain_line<S: Shelf>(alloc: Global, file: &str, shelf: &mut S) -> Result<Plain, Stop>
+pub fn plain_line<S: Shelf>(alloc: Global, file: &str, shelf: &mut S) -> Result<Plain, EarlyEnd>
     ensures said { S.tells → MatchResult result (λ p. IsPlainLine (S.file shelf.old) file.now p.inst)
         (Stops (IsNoPlainLine (outside (S.file shelf.old) (S.blames shelf.new)) file.now)) }
     ensures none { IfOk result (λ p. (i j : ℕ) → Apart p.inst i j → ⊥) }

@@ -16,7 +16,7 @@ ghost use Rattle.input_files.specs.TableTexts.{table_fault_text};
 use crate::fetch_file::fetch;
 use crate::table_texts::push_table_fault;
 use alb_reader::{AlbFault, AlbRead, begins_heading, push_fault as push_alb_fault, read_alb};
-use command_outcome::{Status, Stop, line_about, refuse};
+use command_outcome::{EarlyEnd, Status, line_about, refuse};
 use in2_reader::{In2Fault, In2Read, next_content, push_fault, read_in2};
 use line_instance::{Instance, Prec};
 use line_io::Shelf;
@@ -106,7 +106,7 @@ fn alb_fault_line(alloc: Global, file: &str, fault: &AlbFault) -> Result<Vec<u8>
 }
 
 /// What the bytes of an IN2 file say.
-fn in2_sheet(alloc: Global, file: &str, bytes: &[u8]) -> Result<Sheet, Stop>
+fn in2_sheet(alloc: Global, file: &str, bytes: &[u8]) -> Result<Sheet, EarlyEnd>
     requires length { length bytes.now < 2 ^ 63 }
     requires no_table { table_mark bytes.now ≡ None }
     requires in2 { is_alb bytes.now ≡ false }
@@ -122,12 +122,12 @@ fn in2_sheet(alloc: Global, file: &str, bytes: &[u8]) -> Result<Sheet, Stop>
             let text = in2_fault_line(alloc, file, &fault)?;
             Err(refuse(Status::Input, text))
         }
-        In2Read::NoMemory => Err(Stop::Memory),
+        In2Read::NoMemory => Err(EarlyEnd::Memory),
     }
 }
 
 /// What the bytes of an ALB file say.
-fn alb_sheet(alloc: Global, file: &str, bytes: &[u8]) -> Result<Sheet, Stop>
+fn alb_sheet(alloc: Global, file: &str, bytes: &[u8]) -> Result<Sheet, EarlyEnd>
     requires length { length bytes.now < 2 ^ 63 }
     requires no_table { table_mark bytes.now ≡ None }
     requires alb { is_alb bytes.now ≡ true }
@@ -143,7 +143,7 @@ fn alb_sheet(alloc: Global, file: &str, bytes: &[u8]) -> Result<Sheet, Stop>
             let text = alb_fault_line(alloc, file, &fault)?;
             Err(refuse(Status::Input, text))
         }
-        AlbRead::NoMemory => Err(Stop::Memory),
+        AlbRead::NoMemory => Err(EarlyEnd::Memory),
     }
 }
 
@@ -186,7 +186,7 @@ fn sheet_by(table: Table) -> Sheet
 }
 
 /// What the bytes of a table with this mark say.
-fn table_sheet(alloc: Global, file: &str, bytes: &[u8], mark: u8) -> Result<Sheet, Stop>
+fn table_sheet(alloc: Global, file: &str, bytes: &[u8], mark: u8) -> Result<Sheet, EarlyEnd>
     requires length { length bytes.now < 2 ^ 63 }
     requires mark { table_mark bytes.now ≡ Some mark }
     ensures said { MatchResult result (λ s. Says bytes.now s.inst s.cycle) (Stops (IsFaulty file.now bytes.now)) }
@@ -201,12 +201,12 @@ fn table_sheet(alloc: Global, file: &str, bytes: &[u8], mark: u8) -> Result<Shee
             let text = table_fault_line(alloc, file, &fault)?;
             Err(refuse(Status::Input, text))
         }
-        TableRead::NoMemory => Err(Stop::Memory),
+        TableRead::NoMemory => Err(EarlyEnd::Memory),
     }
 }
 
 /// What the bytes of a file with an instance say, in any form.
-fn sheet_in(alloc: Global, file: &str, bytes: &[u8]) -> Result<Sheet, Stop>
+fn sheet_in(alloc: Global, file: &str, bytes: &[u8]) -> Result<Sheet, EarlyEnd>
     requires { length bytes.now < 2 ^ 63 }
     ensures said { MatchResult result (λ s. Says bytes.now s.inst s.cycle) (Stops (IsFaulty file.now bytes.now)) }
     ensures limit { IfOk result (λ s. IsSetBetween 1 1000000000000000000 s.cycle) }
@@ -226,7 +226,7 @@ fn sheet_in(alloc: Global, file: &str, bytes: &[u8]) -> Result<Sheet, Stop>
 }
 
 /// What a file with an instance says.
-pub fn sheet_of<S: Shelf>(alloc: Global, file: &str, shelf: &mut S) -> Result<Sheet, Stop>
+pub fn sheet_of<S: Shelf>(alloc: Global, file: &str, shelf: &mut S) -> Result<Sheet, EarlyEnd>
     ensures said { S.tells → MatchResult result (λ s. IsInstance (S.file shelf.old) file.now s.inst s.cycle)
         (Stops (IsNoInstance (outside (S.file shelf.old) (S.blames shelf.new)) file.now)) }
     ensures limit { IfOk result (λ s. IsSetBetween 1 1000000000000000000 s.cycle) }

@@ -7,7 +7,7 @@ ghost use Rattle.input_files.specs.TextFile.{IsSpelledIn, SpellsNone};
 
 use crate::certificate::{MAX_CERTIFICATE, cert_fault_line_of};
 use crate::fetch_file::fetch_within;
-use command_outcome::{Status, Stop, refuse};
+use command_outcome::{EarlyEnd, Status, refuse};
 use line_io::Shelf;
 use std::alloc::Global;
 use text_grammar::{Text, TextRead};
@@ -18,7 +18,7 @@ pub fn spelled_in<S: Shelf, T: Text>(
     text: &T,
     file: &str,
     shelf: &mut S,
-) -> Result<T::Value, Stop>
+) -> Result<T::Value, EarlyEnd>
     ensures said { S.tells → MatchResult result (IsSpelledIn (spelled T.rows T.may_say) (S.file shelf.old) file.now)
         (Stops (SpellsNone (spelled T.rows T.may_say) (outside (S.file shelf.old) (S.blames shelf.new)) file.now)) }
     ensures range { IfOk result T.may_say }
@@ -35,6 +35,6 @@ pub fn spelled_in<S: Shelf, T: Text>(
             let line = cert_fault_line_of(alloc, fault)?;
             Err(refuse(Status::Refused, line))
         }
-        TextRead::NoMemory => Err(Stop::Memory),
+        TextRead::NoMemory => Err(EarlyEnd::Memory),
     }
 }

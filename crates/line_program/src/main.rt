@@ -4,7 +4,7 @@
 //! printed.
 #![tactic(auto)]
 
-use command_outcome::{Kept, Stop, finish};
+use command_outcome::{EarlyEnd, Kept, finish};
 use line_io::{DiskShelf, OutSink};
 use line_run::run;
 use std::io::ErrorKind;
@@ -25,7 +25,7 @@ fn main(rt: HostRuntime) -> ExitCode {
         Ok(words) => words,
         Err(error) if error.kind() == ErrorKind::InvalidData => Vec::new(rt.alloc()),
         Err(_) => {
-            let status = finish(&mut out, Err(Stop::Memory), &mut kept);
+            let status = finish(&mut out, Err(EarlyEnd::Memory), &mut kept);
             return ExitCode::from(status.code());
         }
     };

@@ -7,8 +7,8 @@ use Rattle.command_outcome.specs.Outcome.{Files, MayEnd}
 use Rattle.command_outcome.specs.Output.{Finishes, Puts, status_of}
 use Rattle.command_outcome.specs.declared.report.Kept.{Kept}
 use Rattle.command_outcome.specs.declared.report.Report.{Report}
-use Rattle.command_outcome.specs.declared.report.Stop.{Stop}
-use Rattle.command_outcome.specs.declared.report.Stop.TheVariants as stop
+use Rattle.command_outcome.specs.declared.report.EarlyEnd.{EarlyEnd}
+use Rattle.command_outcome.specs.declared.report.EarlyEnd.TheVariants as stop
 use Rattle.command_outcome.specs.declared.status.Status.{Status}
 use Rattle.command_outcome.specs.declared.status.Status.TheVariants as ends
 use Rattle.line_run.specs.Headline.{IsAnswered, PromisesOf, Reports, AsksPromise, IsHeadline}
@@ -23,7 +23,7 @@ not_memory s (inl e) f = (let h : ends.Done ≡ ends.Memory = sym e ∙ f in cc)
 not_memory s (inr e) f = (let h : ends.Stopped ≡ ends.Memory = sym e ∙ f in cc)
 
 -- a job that answers ended with a report, and what is true of its report is so
-pub reports_so : (R W : Type 0) (P : Report → Type 0) (r : Result Report Stop) → IfOk r P
+pub reports_so : (R W : Type 0) (P : Report → Type 0) (r : Result Report EarlyEnd) → IfOk r P
     → MatchResult r (λ _. Unit {0}) (MayEnd R W) → IsAnswered (status_of r) → Reports P r
 reports_so R W P (Ok x) p m a = p
 reports_so R W P (Err (stop.Report x)) p m (inl e) = absurd (m.done e)
@@ -50,7 +50,7 @@ module _ (words : List Text) (files after : Files) (old new : List ℕ) (before 
   of_report r p (inr q) a = absurd (not_written status a q.0)
 
   -- a run that answers has what its job promises
-  pub headlined : (r : Result Report Stop) → (IsAnswered (status_of r) → AsksPromise words files after r)
+  pub headlined : (r : Result Report EarlyEnd) → (IsAnswered (status_of r) → AsksPromise words files after r)
       → Finishes r old new before faults status kept → IsAnswered status
       → IsHeadline words files after old new status kept
   headlined (Ok r) p f a = of_report r p f a

@@ -11,8 +11,8 @@ use Rattle.command_outcome.specs.Found.{IsSearchStatus}
 use Rattle.command_outcome.specs.declared.report.Kept.{Kept}
 use Rattle.command_outcome.specs.declared.report.Kept.TheVariants.{Nothing}
 use Rattle.command_outcome.specs.declared.report.Report.{Report}
-use Rattle.command_outcome.specs.declared.report.Stop.{Stop}
-use Rattle.command_outcome.specs.declared.report.Stop.TheVariants as stop
+use Rattle.command_outcome.specs.declared.report.EarlyEnd.{EarlyEnd}
+use Rattle.command_outcome.specs.declared.report.EarlyEnd.TheVariants as stop
 use Rattle.command_outcome.specs.declared.status.Status.{Status}
 use Rattle.command_outcome.specs.declared.status.Status.TheVariants as ends
 use Rattle.command_sequence.specs.VerdictText.{IsVerdictStatus}
@@ -60,16 +60,16 @@ fair_steps x e k = record {
 }
 
 -- reports of searches, of commands that are done, and of verdicts are fair
-fair_search : (r : Result Report Stop) → IfOk r (λ x. IsSearchStatus x.status) → IfOk r IsFair
+fair_search : (r : Result Report EarlyEnd) → IfOk r (λ x. IsSearchStatus x.status) → IfOk r IsFair
 fair_search (Ok x) (inl e) = fair_done x e
 fair_search (Ok x) (inr e) = fair_stopped x e
 fair_search (Err s) h = h
 
-fair_told : (r : Result Report Stop) → IfOk r (λ x. x.status ≡ ends.Done) → IfOk r IsFair
+fair_told : (r : Result Report EarlyEnd) → IfOk r (λ x. x.status ≡ ends.Done) → IfOk r IsFair
 fair_told (Ok x) e = fair_done x e
 fair_told (Err s) h = h
 
-fair_verdict : (r : Result Report Stop) → IfOk r (λ x. IsVerdictStatus x.status) → IfOk r (λ x. x.kept ≡ Nothing)
+fair_verdict : (r : Result Report EarlyEnd) → IfOk r (λ x. IsVerdictStatus x.status) → IfOk r (λ x. x.kept ≡ Nothing)
     → IfOk r IsFair
 fair_verdict (Ok x) (inl e) k = fair_done x e
 fair_verdict (Ok x) (inr (inl e)) k = fair_refused x e k
@@ -77,7 +77,7 @@ fair_verdict (Ok x) (inr (inr e)) k = fair_steps x e k
 fair_verdict (Err s) h k = h
 
 -- a command that writes no file may end as one that writes one
-pub may_end : (R W : Type 0) (r : Result Report Stop) → MatchResult r (λ _. Unit {0}) (MayStop R)
+pub may_end : (R W : Type 0) (r : Result Report EarlyEnd) → MatchResult r (λ _. Unit {0}) (MayStop R)
     → MatchResult r (λ _. Unit {0}) (MayEnd R W)
 may_end R W (Ok x) m = tt
 may_end R W (Err (stop.Report x)) m = m
@@ -85,7 +85,7 @@ may_end R W (Err stop.Memory) m = tt
 may_end R W (Err stop.Unwritten) m = absurd m
 
 -- and it never ends with a file that could not be written
-never_unwritten : (R V : Type 0) (r : Result Report Stop) → MatchResult r (λ _. Unit {0}) (MayStop R)
+never_unwritten : (R V : Type 0) (r : Result Report EarlyEnd) → MatchResult r (λ _. Unit {0}) (MayStop R)
     → r ≡ Err stop.Unwritten → V
 never_unwritten R V (Ok x) m e = absurd (cc)
 never_unwritten R V (Err (stop.Report x)) m e = absurd (cc)
@@ -94,41 +94,41 @@ never_unwritten R V (Err stop.Unwritten) m e = absurd m
 
 -- what the status of an end says of it
 module _ (R W : Type 0) where
-  usage_so : (r : Result Report Stop) → IfOk r IsFair → MatchResult r (λ _. Unit {0}) (MayEnd R W)
+  usage_so : (r : Result Report EarlyEnd) → IfOk r IsFair → MatchResult r (λ _. Unit {0}) (MayEnd R W)
       → status_of r ≢ ends.Usage
   usage_so (Ok x) f m = f.usage
   usage_so (Err (stop.Report x)) f m = m.usage
   usage_so (Err stop.Memory) f m = λ e. cc
   usage_so (Err stop.Unwritten) f m = λ e. cc
 
-  read_so : (r : Result Report Stop) → IfOk r IsFair → MatchResult r (λ _. Unit {0}) (MayEnd R W)
+  read_so : (r : Result Report EarlyEnd) → IfOk r IsFair → MatchResult r (λ _. Unit {0}) (MayEnd R W)
       → status_of r ≡ ends.ReadFault → R
   read_so (Ok x) f m = λ e. absurd (f.read e)
   read_so (Err (stop.Report x)) f m = m.read
   read_so (Err stop.Memory) f m = λ e. absurd (cc)
   read_so (Err stop.Unwritten) f m = λ e. absurd (cc)
 
-  write_so : (r : Result Report Stop) → IfOk r IsFair → MatchResult r (λ _. Unit {0}) (MayEnd R W)
+  write_so : (r : Result Report EarlyEnd) → IfOk r IsFair → MatchResult r (λ _. Unit {0}) (MayEnd R W)
       → status_of r ≡ ends.WriteFault → r ≡ Err stop.Unwritten
   write_so (Ok x) f m = λ e. absurd (f.write e)
   write_so (Err (stop.Report x)) f m = λ e. absurd (m.write e)
   write_so (Err stop.Memory) f m = λ e. absurd (cc)
   write_so (Err stop.Unwritten) f m = λ e. refl
 
-  rises_so : (r : Result Report Stop) → MatchResult r (λ _. Unit {0}) (MayEnd R W) → r ≡ Err stop.Unwritten → W
+  rises_so : (r : Result Report EarlyEnd) → MatchResult r (λ _. Unit {0}) (MayEnd R W) → r ≡ Err stop.Unwritten → W
   rises_so (Ok x) m e = absurd (cc)
   rises_so (Err (stop.Report x)) m e = absurd (cc)
   rises_so (Err stop.Memory) m e = absurd (cc)
   rises_so (Err stop.Unwritten) m e = m
 
-  kept_so : (r : Result Report Stop) → IfOk r IsFair → MatchResult r (λ _. Unit {0}) (MayEnd R W)
+  kept_so : (r : Result Report EarlyEnd) → IfOk r IsFair → MatchResult r (λ _. Unit {0}) (MayEnd R W)
       → status_of r ≢ ends.Done → status_of r ≢ ends.Stopped → kept_of r ≡ Nothing
   kept_so (Ok x) f m = f.kept
   kept_so (Err (stop.Report x)) f m = λ d s. m.kept
   kept_so (Err stop.Memory) f m = λ d s. refl
   kept_so (Err stop.Unwritten) f m = λ d s. refl
 
-  true_so : (T : Type 0) (r : Result Report Stop) → IfOk r (λ x. x.status ≡ ends.Done → T)
+  true_so : (T : Type 0) (r : Result Report EarlyEnd) → IfOk r (λ x. x.status ≡ ends.Done → T)
       → MatchResult r (λ _. Unit {0}) (MayEnd R W) → status_of r ≡ ends.Done → T
   true_so T (Ok x) p m = p
   true_so T (Err (stop.Report x)) p m = λ e. absurd (m.done e)
@@ -136,12 +136,12 @@ module _ (R W : Type 0) where
   true_so T (Err stop.Unwritten) p m = λ e. absurd (cc)
 
 -- where nothing is promised, it is so
-pub nothing_promised : (r : Result Report Stop) → IfOk r (λ _. Unit {0})
+pub nothing_promised : (r : Result Report EarlyEnd) → IfOk r (λ _. Unit {0})
 nothing_promised (Ok x) = tt
 nothing_promised (Err s) = tt
 
 -- a job of these parts, which reads files
-module _ (shelf : ShelfSeen) (outcome : Outside → Outcome → Type 0) (r : Result Report Stop)
+module _ (shelf : ShelfSeen) (outcome : Outside → Outcome → Type 0) (r : Result Report EarlyEnd)
     (comes : shelf.tells → Ends (shown_by shelf) (outcome (shown_by shelf)) shelf.after r) where
   abbrev Reads : Type 0
   Reads = Rises shelf.fetch_faults_before shelf.fetch_faults
@@ -227,10 +227,10 @@ module _ (shelf : ShelfSeen) (outcome : Outside → Outcome → Type 0) (r : Res
       }
 
 -- a report, or out of memory
-abbrev pub OnlyMemory : Result Report Stop → Type 0
+abbrev pub OnlyMemory : Result Report EarlyEnd → Type 0
 OnlyMemory r = MatchResult r (λ (_ : Report). Unit {0}) (λ s. s ≡ stop.Memory)
 
-only_memory : (R W : Type 0) (r : Result Report Stop) → OnlyMemory r → MatchResult r (λ _. Unit {0}) (MayEnd R W)
+only_memory : (R W : Type 0) (r : Result Report EarlyEnd) → OnlyMemory r → MatchResult r (λ _. Unit {0}) (MayEnd R W)
 only_memory R W (Ok x) m = tt
 only_memory R W (Err (stop.Report x)) m = absurd (cc)
 only_memory R W (Err stop.Memory) m = tt
@@ -242,26 +242,26 @@ module _ (tells : Type 0) (files : Files) (blames : List ℕ → Bool) (fetches_
   abbrev still : ShelfSeen
   still = shelf_seen tells files files blames fetches_before fetches writes_before writes
 
-  still_ends : (r : Result Report Stop) → IfOk r (λ x. page (outcome_of x None)) → OnlyMemory r
+  still_ends : (r : Result Report EarlyEnd) → IfOk r (λ x. page (outcome_of x None)) → OnlyMemory r
       → Ends (shown_by still) page files r
   still_ends (Ok x) p m = record { page = None; reached = p; written = λ q. refl }
   still_ends (Err (stop.Report x)) p m = absurd (cc)
   still_ends (Err stop.Memory) p m = λ q. refl
   still_ends (Err stop.Unwritten) p m = absurd (cc)
 
-  plain_end : (r : Result Report Stop) → IfOk r (λ x. page (outcome_of x None)) → OnlyMemory r → IsPlainEnd page r
+  plain_end : (r : Result Report EarlyEnd) → IfOk r (λ x. page (outcome_of x None)) → OnlyMemory r → IsPlainEnd page r
   plain_end (Ok x) p m = p
   plain_end (Err (stop.Report x)) p m = absurd (cc)
   plain_end (Err stop.Memory) p m = tt
   plain_end (Err stop.Unwritten) p m = absurd (cc)
 
-  never : (V : Type 0) (r : Result Report Stop) → OnlyMemory r → r ≡ Err stop.Unwritten → V
+  never : (V : Type 0) (r : Result Report EarlyEnd) → OnlyMemory r → r ≡ Err stop.Unwritten → V
   never V (Ok x) m e = absurd (cc)
   never V (Err (stop.Report x)) m e = absurd (cc)
   never V (Err stop.Memory) m e = absurd (cc)
   never V (Err stop.Unwritten) m e = absurd (cc)
 
-  pub page_told : (r : Result Report Stop) → IfOk r (λ x. page (outcome_of x None))
+  pub page_told : (r : Result Report EarlyEnd) → IfOk r (λ x. page (outcome_of x None))
       → IfOk r (λ x. IsSearchStatus x.status) → OnlyMemory r
       → IfOk r (λ x. promise files files x.status x.text.items x.kept) → Does still (telling page promise) r
   page_told r p good m so =

@@ -13,8 +13,8 @@ use Rattle.command_outcome.specs.Output.{Finishes, IsOnePut, kept_of, status_of}
 use Rattle.command_outcome.specs.declared.report.Kept.{Kept}
 use Rattle.command_outcome.specs.declared.report.Kept.TheVariants.{Nothing}
 use Rattle.command_outcome.specs.declared.report.Report.{Report}
-use Rattle.command_outcome.specs.declared.report.Stop.{Stop}
-use Rattle.command_outcome.specs.declared.report.Stop.TheVariants.{Unwritten}
+use Rattle.command_outcome.specs.declared.report.EarlyEnd.{EarlyEnd}
+use Rattle.command_outcome.specs.declared.report.EarlyEnd.TheVariants.{Unwritten}
 use Rattle.command_outcome.specs.declared.status.Status.{Status}
 use Rattle.command_outcome.specs.declared.status.Status.TheVariants as ends
 use Rattle.command_outcome.proofs.OutcomeFacts.{told_as, ends_as}
@@ -35,7 +35,7 @@ not_done : (s : Status) → s ≡ ends.Done → s ≢ ends.WriteFault
 not_done s e f = (let h : ends.Done ≡ ends.WriteFault = sym e ∙ f in cc)
 
 -- a run of which this was done for its words, and put at its end
-module _ (words : List Text) (shelf : ShelfSeen) (out : SinkSeen) (r : Result Report Stop) (status : Status)
+module _ (words : List Text) (shelf : ShelfSeen) (out : SinkSeen) (r : Result Report EarlyEnd) (status : Status)
     (held : Kept) where
   pub is_run : DoesWords words shelf r
       → (out.tells → Finishes r out.shown_before out.shown out.faults_before out.faults status held)
@@ -69,7 +69,7 @@ module _ (words : List Text) (shelf : ShelfSeen) (out : SinkSeen) (r : Result Re
 
 -- what is done for the words: their job, or the line of their fault
 module _ (words : List Text) (shelf : ShelfSeen) where
-  pub job_done : (job : Job) (r : Result Report Stop) → IsJob words job → Does shelf (meaning_of job) r
+  pub job_done : (job : Job) (r : Result Report EarlyEnd) → IsJob words job → Does shelf (meaning_of job) r
       → DoesWords words shelf r
   job_done job r is did = record {
     ends = λ t. ends_as (shown_by shelf) (IsJobOutcome (shown_by shelf) job) (IsAnswer words (shown_by shelf))

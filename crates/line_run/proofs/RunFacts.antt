@@ -8,14 +8,14 @@ use Rattle.command_outcome.specs.Ending.{Ending, IsEnding}
 use Rattle.command_outcome.specs.declared.report.Kept.{Kept}
 use Rattle.command_outcome.specs.declared.report.Kept.TheVariants.{Nothing}
 use Rattle.command_outcome.specs.declared.report.Report.{Report}
-use Rattle.command_outcome.specs.declared.report.Stop.{Stop}
-use Rattle.command_outcome.specs.declared.report.Stop.TheVariants as stop
+use Rattle.command_outcome.specs.declared.report.EarlyEnd.{EarlyEnd}
+use Rattle.command_outcome.specs.declared.report.EarlyEnd.TheVariants as stop
 use Rattle.command_outcome.specs.declared.status.Status.{Status}
 use Rattle.command_outcome.specs.declared.status.Status.TheVariants as ends
 use Rattle.line_run.specs.Run.{IsPlainEnd, IsPut, IsLeft}
 
 -- an end that needs no file and of which P is true is one of which Q is true, where P implies Q
-pub plain_as : (P Q : Outcome → Type 0) (r : Result Report Stop) → ((out : Outcome) → P out → Q out) → IsPlainEnd P r
+pub plain_as : (P Q : Outcome → Type 0) (r : Result Report EarlyEnd) → ((out : Outcome) → P out → Q out) → IsPlainEnd P r
     → IsPlainEnd Q r
 plain_as P Q (Ok r) f p = f (outcome_of r None) p
 plain_as P Q (Err (stop.Report r)) f p = f (outcome_of r None) p
@@ -82,7 +82,7 @@ module _ (o : Outside) (P : Outcome → Type 0) (after : Files) (old new : List 
   }))
 
   -- what is put of an end is the end of the run
-  pub run_ends : (r : Result Report Stop) → Ends o P after r → Finishes r old new before faults result kept
+  pub run_ends : (r : Result Report EarlyEnd) → Ends o P after r → Finishes r old new before faults result kept
       → IsEnding o (OrMemory P) ending
   run_ends (Ok r) e f = reported r e f
   run_ends (Err (stop.Report r)) e f = reported r e f
@@ -111,7 +111,7 @@ module _ (o : Outside) (P : Outcome → Type 0) (after : Files) (result : Status
     written = e.written;
   })
 
-  pub run_leaves : (r : Result Report Stop) → Ends o P after r → (result ≡ status_of r) ⊎ (result ≡ ends.WriteFault)
+  pub run_leaves : (r : Result Report EarlyEnd) → Ends o P after r → (result ≡ status_of r) ⊎ (result ≡ ends.WriteFault)
       → IsLeft o (OrMemory P) result after
   run_leaves (Ok r) e k = left_by r e k
   run_leaves (Err (stop.Report r)) e k = left_by r e k
@@ -137,7 +137,7 @@ module _ (o : Outside) (P : Outcome → Type 0) (after : Files) (result : Status
 -- what is put of an end that needs no file
 module _ (P : Outcome → Type 0) (memory : P (told ends.Memory memory_line)) (old new : List ℕ) (before faults : ℕ)
     (result : Status) (kept : Kept) where
-  pub plain_put : (r : Result Report Stop) → IsPlainEnd P r → Finishes r old new before faults result kept
+  pub plain_put : (r : Result Report EarlyEnd) → IsPlainEnd P r → Finishes r old new before faults result kept
       → IsPut P old new before faults result kept
   plain_put (Ok r) p f = record { outcome = outcome_of r None; reached = p; put = f }
   plain_put (Err (stop.Report r)) p f = record { outcome = outcome_of r None; reached = p; put = f }
@@ -157,7 +157,7 @@ write_or ends.Refused = inr (λ e. cc)
 write_or ends.Steps = inr (λ e. cc)
 
 -- what ended could not be written, or it could
-pub unwritten_or : (r : Result Report Stop) → (r ≡ Err stop.Unwritten) ⊎ (r ≢ Err stop.Unwritten)
+pub unwritten_or : (r : Result Report EarlyEnd) → (r ≡ Err stop.Unwritten) ⊎ (r ≢ Err stop.Unwritten)
 unwritten_or (Ok r) = inr (λ e. cc)
 unwritten_or (Err (stop.Report r)) = inr (λ e. cc)
 unwritten_or (Err stop.Memory) = inr (λ e. cc)

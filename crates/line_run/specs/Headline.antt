@@ -8,7 +8,7 @@ use Rattle.line_words.specs.declared.job.Job.{Job}
 use Rattle.command_outcome.specs.Outcome.{Files}
 use Rattle.command_outcome.specs.declared.report.Kept.{Kept}
 use Rattle.command_outcome.specs.declared.report.Report.{Report}
-use Rattle.command_outcome.specs.declared.report.Stop.{Stop}
+use Rattle.command_outcome.specs.declared.report.EarlyEnd.{EarlyEnd}
 use Rattle.command_outcome.specs.declared.status.Status.{Status}
 use Rattle.command_outcome.specs.declared.status.Status.TheVariants as ends
 use Rattle.line_run.specs.Run.{meaning_of}
@@ -32,16 +32,16 @@ pub record IsHeadline (words : List Text) (files after : Files) (old new : List 
   pub promise : PromisesOf files after job status text kept
 
 -- a job ended with a report of which this is true
-abbrev pub Reports : (Report → Type 0) → Result Report Stop → Type 0
+abbrev pub Reports : (Report → Type 0) → Result Report EarlyEnd → Type 0
 Reports P (Ok r) = P r
 Reports P (Err stop) = ⊥
 
 -- the report of a job has what the job promises
-abbrev pub HasPromise : Files → Files → Job → Result Report Stop → Type 0
+abbrev pub HasPromise : Files → Files → Job → Result Report EarlyEnd → Type 0
 HasPromise files after job result = Reports (λ r. PromisesOf files after job r.status r.text.items r.kept) result
 
 -- the words ask for a job whose report has what it promises
-pub record AsksPromise (words : List Text) (files after : Files) (result : Result Report Stop) : Type 0 where
+pub record AsksPromise (words : List Text) (files after : Files) (result : Result Report EarlyEnd) : Type 0 where
   pub job : Job
   pub asked : IsJob words job
   pub promise : HasPromise files after job result

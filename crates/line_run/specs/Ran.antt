@@ -10,8 +10,8 @@ use Rattle.command_outcome.specs.Ending.{IsEnding}
 use Rattle.command_outcome.specs.declared.report.Kept.{Kept}
 use Rattle.command_outcome.specs.declared.report.Kept.TheVariants.{Nothing}
 use Rattle.command_outcome.specs.declared.report.Report.{Report}
-use Rattle.command_outcome.specs.declared.report.Stop.{Stop}
-use Rattle.command_outcome.specs.declared.report.Stop.TheVariants.{Unwritten}
+use Rattle.command_outcome.specs.declared.report.EarlyEnd.{EarlyEnd}
+use Rattle.command_outcome.specs.declared.report.EarlyEnd.TheVariants.{Unwritten}
 use Rattle.command_outcome.specs.declared.status.Status.{Status}
 use Rattle.command_outcome.specs.declared.status.Status.TheVariants.{Done, Stopped, Usage, ReadFault, WriteFault}
 use Rattle.line_run.specs.Usage.{HasFault}
@@ -63,7 +63,7 @@ shelf_seen tells files after blames fetches_before fetches writes_before writes 
 -- file ended as such a job does; its status is never that of a usage fault, and that of a failed fetch or write only
 -- where one failed; a certificate is kept only where it answers; and then what it has proved is true, and what it
 -- promises is so.
-pub record Does (shelf : ShelfSeen) (meaning : Meaning) (result : Result Report Stop) : Type 0 where
+pub record Does (shelf : ShelfSeen) (meaning : Meaning) (result : Result Report EarlyEnd) : Type 0 where
   pub ends : shelf.tells → Ends (shown_by shelf) (meaning.outcome (shown_by shelf)) shelf.after result
   pub plain : meaning.reads ⊎ IsPlainEnd meaning.page result
   pub usage : status_of result ≢ Usage
@@ -77,7 +77,7 @@ pub record Does (shelf : ShelfSeen) (meaning : Meaning) (result : Result Report 
       → Reports (λ r. meaning.promise shelf.files shelf.after r.status r.text.items r.kept) result
 
 -- The same of what the words ask for, or of their fault.
-pub record DoesWords (words : List Text) (shelf : ShelfSeen) (result : Result Report Stop) : Type 0 where
+pub record DoesWords (words : List Text) (shelf : ShelfSeen) (result : Result Report EarlyEnd) : Type 0 where
   pub ends : shelf.tells → Ends (shown_by shelf) (IsAnswer words (shown_by shelf)) shelf.after result
   pub plain : AsksFiles words ⊎ IsPlainEnd (IsPlainOutcome words) result
   pub usage : status_of result ≡ Usage → HasFault words

@@ -21,8 +21,8 @@ use Rattle.command_outcome.specs.Outcome.{Files, Outside, Outcome, IsCut, IsWrit
 use Rattle.command_outcome.specs.Output.{Puts, memory_line}
 use Rattle.command_outcome.specs.declared.report.Kept.{Kept}
 use Rattle.command_outcome.specs.declared.report.Report.{Report}
-use Rattle.command_outcome.specs.declared.report.Stop.{Stop}
-use Rattle.command_outcome.specs.declared.report.Stop.TheVariants as stop
+use Rattle.command_outcome.specs.declared.report.EarlyEnd.{EarlyEnd}
+use Rattle.command_outcome.specs.declared.report.EarlyEnd.TheVariants as stop
 use Rattle.command_outcome.specs.declared.status.Status.{Status}
 use Rattle.command_outcome.specs.declared.status.Status.TheVariants as ends
 use Rattle.input_files.specs.Kind.{kind_of}
@@ -277,7 +277,7 @@ pub record IsTrueRun (words : List Text) (files : Files) : Type 0 where
   pub holds : IsJobTrue files job
 
 -- what a job that reads no file ended with: what it comes to, or out of memory
-abbrev pub IsPlainEnd : (Outcome → Type 0) → Result Report Stop → Type 0
+abbrev pub IsPlainEnd : (Outcome → Type 0) → Result Report EarlyEnd → Type 0
 IsPlainEnd P (Ok r) = P (outcome_of r None)
 IsPlainEnd P (Err (stop.Report r)) = P (outcome_of r None)
 IsPlainEnd P (Err stop.Memory) = Unit {0}

@@ -15,7 +15,7 @@ use command_cycle::cycle_report;
 use command_draw::{draw_report, plan_report};
 use command_effic::{effic_check_report, effic_report};
 use command_mix::{combine_report, timeline_draw_report, timeline_report, utility_report};
-use command_outcome::{Report, Stop};
+use command_outcome::{EarlyEnd, Report};
 use command_sequence::{sequence_check_report, sequence_report};
 use command_solve::{Gate, Plan, solve_report};
 use command_try::try_report;
@@ -58,7 +58,7 @@ fn solve<R: Threads + Wait + Sync, S: Shelf, G: Gate>(
     job: &SolveJob,
     shelf: &mut S,
     gate: &G,
-) -> Result<Report, Stop>
+) -> Result<Report, EarlyEnd>
     requires range { IsSearchInRange (SearchJob.Solve job.now) }
     ensures { Does (shelf_seen S.tells (S.file shelf.old) (S.file shelf.new) (S.blames shelf.new)
         (S.fetch_faults shelf.old) (S.fetch_faults shelf.new) (S.write_faults shelf.old) (S.write_faults shelf.new))
@@ -90,7 +90,7 @@ fn cycle<R: Threads + Wait + Sync, S: Shelf, G: Gate>(
     job: &CycleJob,
     shelf: &mut S,
     gate: &G,
-) -> Result<Report, Stop>
+) -> Result<Report, EarlyEnd>
     requires range { IsSearchInRange (SearchJob.Cycle job.now) }
     ensures { Does (shelf_seen S.tells (S.file shelf.old) (S.file shelf.new) (S.blames shelf.new)
         (S.fetch_faults shelf.old) (S.fetch_faults shelf.new) (S.write_faults shelf.old) (S.write_faults shelf.new))
@@ -118,7 +118,7 @@ fn effic<R: Threads + Wait + Sync, S: Shelf, G: Gate>(
     job: &EfficJob,
     shelf: &mut S,
     gate: &G,
-) -> Result<Report, Stop>
+) -> Result<Report, EarlyEnd>
     requires range { IsSearchInRange (SearchJob.Effic job.now) }
     ensures { Does (shelf_seen S.tells (S.file shelf.old) (S.file shelf.new) (S.blames shelf.new)
         (S.fetch_faults shelf.old) (S.fetch_faults shelf.new) (S.write_faults shelf.old) (S.write_faults shelf.new))
@@ -141,7 +141,7 @@ fn effic<R: Threads + Wait + Sync, S: Shelf, G: Gate>(
 }
 
 /// Searches for the sequence of a mix with the least utility work.
-fn sequence<S: Shelf>(alloc: Global, job: &SequenceJob, shelf: &mut S) -> Result<Report, Stop>
+fn sequence<S: Shelf>(alloc: Global, job: &SequenceJob, shelf: &mut S) -> Result<Report, EarlyEnd>
     requires range { IsSearchInRange (SearchJob.Sequence job.now) }
     ensures { Does (shelf_seen S.tells (S.file shelf.old) (S.file shelf.new) (S.blames shelf.new)
         (S.fetch_faults shelf.old) (S.fetch_faults shelf.new) (S.write_faults shelf.old) (S.write_faults shelf.new))
@@ -167,7 +167,7 @@ fn do_search<R: Threads + Wait + Sync, S: Shelf, G: Gate>(
     job: &SearchJob,
     shelf: &mut S,
     gate: &G,
-) -> Result<Report, Stop>
+) -> Result<Report, EarlyEnd>
     requires range { IsSearchInRange job.now }
     ensures { Does (shelf_seen S.tells (S.file shelf.old) (S.file shelf.new) (S.blames shelf.new)
         (S.fetch_faults shelf.old) (S.fetch_faults shelf.new) (S.write_faults shelf.old) (S.write_faults shelf.new))
@@ -191,7 +191,7 @@ fn do_check<R: Threads + Sync, S: Shelf>(
     alloc: Global,
     job: &CheckJob,
     shelf: &mut S,
-) -> Result<Report, Stop>
+) -> Result<Report, EarlyEnd>
     requires range { IsCheckInRange job.now }
     ensures { Does (shelf_seen S.tells (S.file shelf.old) (S.file shelf.new) (S.blames shelf.new)
         (S.fetch_faults shelf.old) (S.fetch_faults shelf.new) (S.write_faults shelf.old) (S.write_faults shelf.new))
@@ -224,7 +224,7 @@ fn do_check<R: Threads + Sync, S: Shelf>(
 }
 
 /// Tells or writes something of a line.
-fn do_line<S: Shelf>(alloc: Global, job: &LineJob, shelf: &mut S) -> Result<Report, Stop>
+fn do_line<S: Shelf>(alloc: Global, job: &LineJob, shelf: &mut S) -> Result<Report, EarlyEnd>
     requires range { IsLineInRange job.now }
     ensures { Does (shelf_seen S.tells (S.file shelf.old) (S.file shelf.new) (S.blames shelf.new)
         (S.fetch_faults shelf.old) (S.fetch_faults shelf.new) (S.write_faults shelf.old) (S.write_faults shelf.new))
@@ -264,7 +264,7 @@ fn do_line<S: Shelf>(alloc: Global, job: &LineJob, shelf: &mut S) -> Result<Repo
 }
 
 /// Tells or writes something of a mix of models.
-fn do_mix<S: Shelf>(alloc: Global, job: &MixJob, shelf: &mut S) -> Result<Report, Stop>
+fn do_mix<S: Shelf>(alloc: Global, job: &MixJob, shelf: &mut S) -> Result<Report, EarlyEnd>
     requires range { IsMixInRange job.now }
     ensures { Does (shelf_seen S.tells (S.file shelf.old) (S.file shelf.new) (S.blames shelf.new)
         (S.fetch_faults shelf.old) (S.fetch_faults shelf.new) (S.write_faults shelf.old) (S.write_faults shelf.new))
@@ -310,7 +310,7 @@ pub(crate) fn do_job<R: Threads + Wait + Sync, S: Shelf, G: Gate>(
     job: &Job,
     shelf: &mut S,
     gate: &G,
-) -> Result<Report, Stop>
+) -> Result<Report, EarlyEnd>
     requires range { IsInRange job.now }
     ensures { Does (shelf_seen S.tells (S.file shelf.old) (S.file shelf.new) (S.blames shelf.new)
         (S.fetch_faults shelf.old) (S.fetch_faults shelf.new) (S.write_faults shelf.old) (S.write_faults shelf.new))

@@ -1,11 +1,11 @@
 //! The pages that are printed of the program itself: every command with an example, and the version.
 ghost use Rattle.std.specs.Prelude.{◌≡◌, ◌++◌, IfOk, MatchResult};
 ghost use Rattle.command_outcome.specs.declared.report.Kept.TheVariants.{Nothing};
-ghost use Rattle.command_outcome.specs.declared.report.Stop.TheVariants.{Memory};
+ghost use Rattle.command_outcome.specs.declared.report.EarlyEnd.TheVariants.{Memory};
 ghost use Rattle.command_outcome.specs.declared.status.Status.TheVariants as ends;
 ghost use Rattle.line_run.specs.Pages.{help_text, page_text, version_text};
 
-use command_outcome::{Report, Status, Stop};
+use command_outcome::{EarlyEnd, Report, Status};
 use line_words::PageJob;
 use std::alloc::{AllocError, Global};
 
@@ -100,7 +100,7 @@ fn page_of(alloc: Global, page: &PageJob) -> Result<Vec<u8>, AllocError>
 }
 
 /// The report that is a page.
-pub fn page_report(alloc: Global, page: &PageJob) -> Result<Report, Stop>
+pub fn page_report(alloc: Global, page: &PageJob) -> Result<Report, EarlyEnd>
     ensures status { IfOk result (λ r. r.status ≡ ends.Done) }
     ensures text { IfOk result (λ r. r.text.items ≡ page_text page.now) }
     ensures kept { IfOk result (λ r. r.kept ≡ Nothing) }

@@ -8,7 +8,7 @@ ghost use Rattle.line_run.specs.Ran.{DoesWords, IsRun, shelf_seen};
 
 use crate::jobs::do_job;
 use crate::usage::usage_report;
-use command_outcome::{Kept, Report, Status, Stop, finish};
+use command_outcome::{EarlyEnd, Kept, Report, Status, finish};
 use command_solve::{AlwaysOpen, Gate};
 use line_io::{Shelf, Sink};
 use line_words::{JobRead, job_of};
@@ -23,14 +23,14 @@ fn do_words<R: Threads + Wait + Sync, S: Shelf, G: Gate>(
     words: &[String],
     shelf: &mut S,
     gate: &G,
-) -> Result<Report, Stop>
+) -> Result<Report, EarlyEnd>
     ensures { DoesWords (texts words.now) (shelf_seen S.tells (S.file shelf.old) (S.file shelf.new) (S.blames shelf.new)
         (S.fetch_faults shelf.old) (S.fetch_faults shelf.new) (S.write_faults shelf.old) (S.write_faults shelf.new)) result }
 {
     match job_of(alloc, words) {
         JobRead::Good(job) => do_job(rt, alloc, &job, shelf, gate),
         JobRead::Usage { index, kind } => Ok(usage_report(alloc, index, kind)?),
-        JobRead::NoMemory => Err(Stop::Memory),
+        JobRead::NoMemory => Err(EarlyEnd::Memory),
     }
 }
 

@@ -13,7 +13,7 @@ ghost use Rattle.command_outcome.specs.declared.status.Status.TheVariants as end
 ghost use Rattle.mix_files.specs.BalanceFile.{IsBalanceFile, IsNoBalance, IsTested, IsRefused, IsWrong, check_text};
 ghost use Rattle.mix_files.specs.BalanceFile.{refused_line, tasks_text};
 
-use command_outcome::{Status, Stop, push_number, refuse};
+use command_outcome::{EarlyEnd, Status, push_number, refuse};
 use input_files::certificate_of;
 use line_instance::Instance;
 use line_io::Shelf;
@@ -67,14 +67,14 @@ fn push_check(text: &mut String, found: BalanceCheck) -> Result<(), AllocError>
 }
 
 /// A refusal of the certificate, or out of memory.
-fn refused(alloc: Global, what: &str) -> Stop
+fn refused(alloc: Global, what: &str) -> EarlyEnd
     ensures told { Stops (λ out. out ≡ told ends.Refused (refused_line what.now)) result }
     ensures status { MayStop ⊥ result }
 {
     let mut text = String::new(alloc);
     match write!(text, "refused: {what}\n") {
         Ok(()) => refuse(Status::Refused, text.into_bytes()),
-        Err(_) => Stop::Memory,
+        Err(_) => EarlyEnd::Memory,
     }
 }
 
@@ -88,7 +88,7 @@ fn tasks_text(alloc: Global, said: u32, real: u32) -> Result<String, AllocError>
 }
 
 /// The balance, where it is right for the line at the cycle time.
-fn right(alloc: Global, line: &Instance, cycle: u64, balance: Balance) -> Result<Balance, Stop>
+fn right(alloc: Global, line: &Instance, cycle: u64, balance: Balance) -> Result<Balance, EarlyEnd>
     requires places { length balance.place ≡ tasks line.now }
     requires stations { balance.stations ≤ 1024 }
     ensures said { MatchResult result (λ b. (b ≡ balance) × IsRight Straight line.now cycle b)
@@ -105,7 +105,12 @@ fn right(alloc: Global, line: &Instance, cycle: u64, balance: Balance) -> Result
 }
 
 /// The balance of a certificate, where it is a straight one that is right for the line at the cycle time.
-fn tested(alloc: Global, line: &Instance, cycle: u64, cert: Certificate) -> Result<Balance, Stop>
+fn tested(
+    alloc: Global,
+    line: &Instance,
+    cycle: u64,
+    cert: Certificate,
+) -> Result<Balance, EarlyEnd>
     requires { IsInRange cert }
     ensures said { MatchResult result (IsTested line.now cycle cert) (Stops (IsRefused line.now cycle cert)) }
     ensures few { IfOk result (λ b. b.stations ≤ 1024) }
@@ -133,7 +138,7 @@ pub fn balance_of<S: Shelf>(
     line: &Instance,
     cycle: u64,
     shelf: &mut S,
-) -> Result<Balance, Stop>
+) -> Result<Balance, EarlyEnd>
     ensures said { S.tells → MatchResult result (IsBalanceFile (S.file shelf.old) file.now line.now cycle)
         (Stops (IsNoBalance (outside (S.file shelf.old) (S.blames shelf.new)) file.now line.now cycle)) }
     ensures right { IfOk result (IsRight Straight line.now cycle) }

@@ -10,7 +10,7 @@ ghost use Rattle.mix_files.specs.Balanced.{IsBalanced, IsUnbalanced};
 use crate::balance_file::balance_of;
 use crate::mix_file::combined_of;
 use combined_graph::Mix;
-use command_outcome::Stop;
+use command_outcome::EarlyEnd;
 use line_io::Shelf;
 use line_rules::Balance;
 use std::alloc::Global;
@@ -33,7 +33,7 @@ pub fn balanced_of<S: Shelf>(
     cert: &str,
     interval: u64,
     shelf: &mut S,
-) -> Result<Balanced, Stop>
+) -> Result<Balanced, EarlyEnd>
     requires { IsBetween 1 1000000000 interval }
     ensures said { S.tells → MatchResult result
         (λ p. IsBalanced (S.file shelf.old) mix.now cert.now interval p.mix p.balance)

@@ -8,7 +8,7 @@ ghost use Rattle.mix_files.specs.Launch.{IsLaunch, IsUnlaunched};
 use crate::balanced::{Balanced, balanced_of};
 use crate::sequence_file::sequence_of;
 use combined_graph::Mix;
-use command_outcome::Stop;
+use command_outcome::EarlyEnd;
 use line_io::Shelf;
 use line_rules::Balance;
 use std::alloc::Global;
@@ -30,7 +30,7 @@ pub fn launch_of<S: Shelf>(
     seq: &str,
     interval: u64,
     shelf: &mut S,
-) -> Result<Launch, Stop>
+) -> Result<Launch, EarlyEnd>
     requires { IsBetween 1 1000000000 interval }
     ensures said { S.tells → MatchResult result
         (λ p. IsLaunch (S.file shelf.old) (record { mix = mix.now; cert = cert.now; seq = seq.now }) interval

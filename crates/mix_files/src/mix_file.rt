@@ -10,7 +10,7 @@ ghost use Rattle.mix_files.specs.MixFile.{IsMixFile, IsNoMix, IsCombinedFile, Is
 ghost use Rattle.mix_files.specs.MixFile.{fault_text, cycle_text};
 
 use combined_graph::{Combined, Mix, MixFault, MixKind, MixRead, combine, read_mix};
-use command_outcome::{Status, Stop, refuse};
+use command_outcome::{EarlyEnd, Status, refuse};
 use in2_reader::RingTasks;
 use input_files::{fault_line_of, fetch};
 use line_instance::{Instance, Ring};
@@ -65,7 +65,7 @@ fn cycle_line(alloc: Global, file: &str, ring: &Ring) -> Result<Vec<u8>, AllocEr
 }
 
 /// The mix of a file.
-pub fn mix_of<S: Shelf>(alloc: Global, file: &str, shelf: &mut S) -> Result<Mix, Stop>
+pub fn mix_of<S: Shelf>(alloc: Global, file: &str, shelf: &mut S) -> Result<Mix, EarlyEnd>
     ensures said { S.tells → MatchResult result (IsMixFile (S.file shelf.old) file.now)
         (Stops (IsNoMix (outside (S.file shelf.old) (S.blames shelf.new)) file.now)) }
     ensures fault { MatchResult result (λ _. Unit {0})
@@ -81,12 +81,12 @@ pub fn mix_of<S: Shelf>(alloc: Global, file: &str, shelf: &mut S) -> Result<Mix,
             let text = mix_fault_line(alloc, file, fault)?;
             Err(refuse(Status::Input, text))
         }
-        MixRead::NoMemory => Err(Stop::Memory),
+        MixRead::NoMemory => Err(EarlyEnd::Memory),
     }
 }
 
 /// The line that a mix of a file combines to.
-fn combine_models(alloc: Global, file: &str, mix: Mix) -> Result<CombinedMix, Stop>
+fn combine_models(alloc: Global, file: &str, mix: Mix) -> Result<CombinedMix, EarlyEnd>
     ensures said { MatchResult result (λ j. (j.mix ≡ mix) × IsCombined mix j.line) (Stops (IsCyclic file.now mix)) }
     ensures demand { IfOk result (λ j. j.demand ≡ total_demand j.mix.models) }
     ensures limit { IfOk result (λ j. j.demand ≤ 160000) }
@@ -99,12 +99,16 @@ fn combine_models(alloc: Global, file: &str, mix: Mix) -> Result<CombinedMix, St
             let text = cycle_line(alloc, file, &ring)?;
             Err(refuse(Status::Input, text))
         }
-        Combined::NoMemory => Err(Stop::Memory),
+        Combined::NoMemory => Err(EarlyEnd::Memory),
     }
 }
 
 /// The mix of a file, and the line that it combines to.
-pub fn combined_of<S: Shelf>(alloc: Global, file: &str, shelf: &mut S) -> Result<CombinedMix, Stop>
+pub fn combined_of<S: Shelf>(
+    alloc: Global,
+    file: &str,
+    shelf: &mut S,
+) -> Result<CombinedMix, EarlyEnd>
     ensures said { S.tells → MatchResult result (λ j. IsCombinedFile (S.file shelf.old) file.now j.mix j.line)
         (Stops (IsUncombined (outside (S.file shelf.old) (S.blames shelf.new)) file.now)) }
     ensures combined { IfOk result (λ j. IsCombined j.mix j.line) }

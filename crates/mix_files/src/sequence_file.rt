@@ -8,7 +8,7 @@ ghost use Rattle.input_files.specs.InputFile.{fault_line};
 ghost use Rattle.mix_files.specs.SequenceFile.{IsSequenceFile, IsNoSequence, unknown_text};
 
 use combined_graph::{Mix, SeqRead, read_sequence};
-use command_outcome::{Status, Stop, refuse};
+use command_outcome::{EarlyEnd, Status, refuse};
 use input_files::{fault_line_of, fetch};
 use line_io::Shelf;
 use std::alloc::{AllocError, Global};
@@ -28,7 +28,7 @@ pub fn sequence_of<S: Shelf>(
     file: &str,
     mix: &Mix,
     shelf: &mut S,
-) -> Result<Vec<u32>, Stop>
+) -> Result<Vec<u32>, EarlyEnd>
     ensures said { S.tells → MatchResult result (λ v. IsSequenceFile (S.file shelf.old) file.now mix.now.models v.items)
         (Stops (IsNoSequence (outside (S.file shelf.old) (S.blames shelf.new)) file.now mix.now.models)) }
     ensures few { IfOk result (λ v. length v.items ≤ 100000) }
@@ -50,6 +50,6 @@ pub fn sequence_of<S: Shelf>(
             let text = fault_line_of(alloc, file, "too many units")?;
             Err(refuse(Status::Input, text))
         }
-        SeqRead::NoMemory => Err(Stop::Memory),
+        SeqRead::NoMemory => Err(EarlyEnd::Memory),
     }
 }

@@ -7,10 +7,10 @@ ghost use Rattle.cert_text.specs.Cert.{cert_text};
 ghost use Rattle.command_outcome.specs.Found.{HasText, page_of};
 ghost use Rattle.command_outcome.specs.Outcome.{Files, Ends, MayEnd, Stay, outside, outcome_of};
 ghost use Rattle.command_outcome.specs.declared.report.Kept.TheVariants.{Line as Certified};
-ghost use Rattle.command_outcome.specs.declared.report.Stop.TheVariants.{Unwritten};
+ghost use Rattle.command_outcome.specs.declared.report.EarlyEnd.TheVariants.{Unwritten};
 
 use cert_files::{Streamed, stream_cert};
-use command_outcome::{Kept, Report, Stop};
+use command_outcome::{EarlyEnd, Kept, Report};
 use line_io::Shelf;
 use std::alloc::Global;
 
@@ -20,7 +20,7 @@ fn written<S: Shelf>(
     shelf: &mut S,
     name: &str,
     report: Report,
-) -> Result<Report, Stop>
+) -> Result<Report, EarlyEnd>
     requires sayable { (certificate : Proof) → report.kept ≡ Certified certificate → IsInRange certificate }
     ensures ends { S.tells → (files : Files) → Stay files (S.file shelf.old)
         → (cert : Proof) → report.kept ≡ Certified cert
@@ -39,8 +39,8 @@ fn written<S: Shelf>(
     };
     match stream_cert(alloc, shelf, name, certificate) {
         Streamed::Done => Ok(report),
-        Streamed::WriteFault => Err(Stop::Unwritten),
-        Streamed::NoMemory => Err(Stop::Memory),
+        Streamed::WriteFault => Err(EarlyEnd::Unwritten),
+        Streamed::NoMemory => Err(EarlyEnd::Memory),
     }
 }
 
@@ -50,7 +50,7 @@ pub fn write_certificate<S: Shelf>(
     shelf: &mut S,
     name: Option<&str>,
     report: Report,
-) -> Result<Report, Stop>
+) -> Result<Report, EarlyEnd>
     requires sayable { (certificate : Proof) → report.kept ≡ Certified certificate → IsInRange certificate }
     ensures ends { S.tells → (files : Files) → Stay files (S.file shelf.old)
         → (cert : Proof) → report.kept ≡ Certified cert

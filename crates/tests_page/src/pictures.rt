@@ -1,7 +1,7 @@
 //! The command over files in memory: rows worked by hand. In the texts of this file `|` stands for LF.
 
 use command_draw::draw_report;
-use command_outcome::{Report, Stop};
+use command_outcome::{EarlyEnd, Report};
 use line_io::MemShelf;
 use std::alloc::{AllocError, Global};
 use std::test::Fail;
@@ -236,14 +236,14 @@ fn push_report(text: &mut String, report: &Report) -> Result<(), AllocError> {
 }
 
 /// The exit code and the text that the command ended with.
-fn told(alloc: Global, ended: Result<Report, Stop>) -> Result<String, AllocError> {
+fn told(alloc: Global, ended: Result<Report, EarlyEnd>) -> Result<String, AllocError> {
     let mut text = String::new(alloc);
     match ended {
         Ok(report) => push_report(&mut text, &report)?,
         Err(stop) => match stop {
-            Stop::Report(report) => push_report(&mut text, &report)?,
-            Stop::Memory => text.push_str("memory")?,
-            Stop::Unwritten => text.push_str("unwritten")?,
+            EarlyEnd::Report(report) => push_report(&mut text, &report)?,
+            EarlyEnd::Memory => text.push_str("memory")?,
+            EarlyEnd::Unwritten => text.push_str("unwritten")?,
         },
     }
     Ok(text)
