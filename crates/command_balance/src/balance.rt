@@ -1,7 +1,7 @@
 //! What `balance` answers of a line, and of files that say one.
 ghost use Rattle.std.specs.Prelude.{◌≡◌, ◌≤◌, ℕ, List, IfOk, MatchResult, option_map};
 ghost use Rattle.line_io.specs.Outside.{Rises};
-ghost use Rattle.line_words.specs.Ranges.{IsSetBetween};
+ghost use Rattle.line_words.specs.Ranges.{IsCycleTimeOrNone};
 ghost use Rattle.command_outcome.specs.Outcome.{Stops, MayStop, outside, told, Ends};
 ghost use Rattle.command_outcome.specs.declared.report.Kept.TheVariants.{Nothing};
 ghost use Rattle.command_outcome.specs.declared.status.Status.TheVariants as ends;
@@ -53,7 +53,7 @@ pub fn balance_report<S: Shelf>(
     kind: LineKind,
     shelf: &mut S,
 ) -> Result<Report, EarlyEnd>
-    requires word { IsSetBetween 1 1000000000000000000 word }
+    requires word { IsCycleTimeOrNone word }
     ensures ends { S.tells → Ends (outside (S.file shelf.old) (S.blames shelf.new))
         (IsBalanceOutcome (outside (S.file shelf.old) (S.blames shelf.new)) file.now
         (option_map (λ a. a.now) apart.entry) word kind) (S.file shelf.new) result }

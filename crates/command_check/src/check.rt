@@ -3,7 +3,7 @@ ghost use Rattle.std.specs.Prelude.{◌≡◌, ◌≤◌, ℕ, List, IfOk, Match
 ghost use Rattle.line_io.specs.Outside.{Rises};
 ghost use Rattle.line_rules.specs.Ranges.{IsInRange};
 ghost use Rattle.line_check.specs.Certificates.{IsVerdict, IsAcceptedSo, IsRejectedSo, IsTrueOf};
-ghost use Rattle.line_words.specs.Ranges.{IsBetween};
+ghost use Rattle.line_words.specs.Ranges.{AreSteps};
 ghost use Rattle.command_outcome.specs.Outcome.{Ends, Stops, MayStop, outside};
 ghost use Rattle.command_outcome.specs.declared.report.Kept.TheVariants.{Nothing};
 ghost use Rattle.command_outcome.specs.declared.status.Status.TheVariants as ends;
@@ -31,7 +31,7 @@ fn verdict_of<R: Threads + Sync>(
     steps: u64,
 ) -> Verified
     requires range { IsInRange cert.now }
-    requires steps { IsBetween 1 20000000 steps }
+    requires steps { AreSteps steps }
     ensures verdict { IsVerdict inst.now cert.now steps result }
     ensures accepted { IsAcceptedSo inst.now cert.now steps result }
     ensures rejected { IsRejectedSo inst.now cert.now steps result }
@@ -54,7 +54,7 @@ pub fn check_report<R: Threads + Sync, S: Shelf>(
     steps: u64,
     shelf: &mut S,
 ) -> Result<Report, EarlyEnd>
-    requires { IsBetween 1 20000000 steps }
+    requires { AreSteps steps }
     ensures ends { S.tells → Ends (outside (S.file shelf.old) (S.blames shelf.new))
         (IsCheckOutcome (outside (S.file shelf.old) (S.blames shelf.new)) file.now proof.now
         (option_map (λ a. a.now) apart.entry) steps) (S.file shelf.new) result }

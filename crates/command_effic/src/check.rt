@@ -1,7 +1,7 @@
 //! What `effic-check` finds of a certificate, and of files that say one.
 ghost use Rattle.std.specs.Prelude.{◌≡◌, ◌≤◌, ℕ, List, IfOk, MatchResult};
 ghost use Rattle.line_io.specs.Outside.{Rises};
-ghost use Rattle.line_words.specs.Ranges.{IsBetween};
+ghost use Rattle.line_words.specs.Ranges.{AreSteps};
 ghost use Rattle.command_outcome.specs.Outcome.{Ends, Stops, MayStop, outside};
 ghost use Rattle.command_outcome.specs.declared.report.Kept.TheVariants.{Nothing};
 ghost use Rattle.command_outcome.specs.declared.status.Status.TheVariants as ends;
@@ -25,7 +25,7 @@ pub fn effic_check_report<S: Shelf>(
     steps: u64,
     shelf: &mut S,
 ) -> Result<Report, EarlyEnd>
-    requires { IsBetween 1 20000000 steps }
+    requires { AreSteps steps }
     ensures ends { S.tells → (let o = outside (S.file shelf.old) (S.blames shelf.new) in
         Ends o (IsEfficCheckOutcome o file.now proof.now steps) (S.file shelf.new) result) }
     ensures good { IfOk result (λ r. IsVerdictStatus r.status) }

@@ -1,7 +1,7 @@
 //! The timeline that `timeline` tells.
 ghost use Rattle.std.specs.Prelude.{◌≡◌, ◌≤◌, ◌<◌, ◌*◌, ℕ, List, All, length, IfOk, MatchResult};
 ghost use Rattle.line_io.specs.Outside.{Rises};
-ghost use Rattle.line_words.specs.Ranges.{IsBetween};
+ghost use Rattle.line_words.specs.Ranges.{IsInterval, IsReach};
 ghost use Rattle.station_report.specs.TimelineText.{timeline_text};
 ghost use Rattle.command_outcome.specs.Outcome.{Ends, Stops, MayStop, outside, told};
 ghost use Rattle.command_outcome.specs.declared.report.Kept.TheVariants.{Nothing};
@@ -64,8 +64,8 @@ pub fn timeline_report<S: Shelf>(
     reach: u64,
     shelf: &mut S,
 ) -> Result<Report, EarlyEnd>
-    requires interval { IsBetween 1 1000000000 interval }
-    requires reach { IsBetween 1 1000000000 reach }
+    requires interval { IsInterval interval }
+    requires reach { IsReach reach }
     ensures ends { S.tells → Ends (outside (S.file shelf.old) (S.blames shelf.new))
         (IsTimelineOutcome (outside (S.file shelf.old) (S.blames shelf.new)) mix.now cert.now seq.now interval reach)
         (S.file shelf.new) result }

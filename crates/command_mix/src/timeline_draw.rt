@@ -1,7 +1,7 @@
 //! The picture of a timeline that `timeline-draw` writes.
 ghost use Rattle.std.specs.Prelude.{◌≡◌, ◌≢◌, ◌⊎◌, ◌≤◌, ◌<◌, ℕ, List, All, length, IfOk, MatchResult};
 ghost use Rattle.line_io.specs.Outside.{Rises};
-ghost use Rattle.line_words.specs.Ranges.{IsBetween};
+ghost use Rattle.line_words.specs.Ranges.{IsInterval, IsReach};
 ghost use Rattle.timeline_drawing.specs.Visits.{course};
 ghost use Rattle.timeline_drawing.specs.Drawing.{timeline_text};
 ghost use Rattle.timeline_drawing.specs.Facts.{IsTruePicture};
@@ -73,8 +73,8 @@ pub fn timeline_draw_report<S: Shelf>(
     reach: u64,
     shelf: &mut S,
 ) -> Result<Report, EarlyEnd>
-    requires interval { IsBetween 1 1000000000 interval }
-    requires reach { IsBetween 1 1000000000 reach }
+    requires interval { IsInterval interval }
+    requires reach { IsReach reach }
     ensures ends { S.tells → Ends (outside (S.file shelf.old) (S.blames shelf.new))
         (IsTimelineDrawOutcome (outside (S.file shelf.old) (S.blames shelf.new)) mix.now cert.now seq.now name.now
         interval reach) (S.file shelf.new) result }

@@ -2,7 +2,7 @@
 ghost use Rattle.std.specs.Prelude.{◌≡◌, ◌≤◌, ◌<◌, ◌++◌, ℕ, List, All, length, sum, string_bytes, IfOk, OnOk};
 ghost use Rattle.std.specs.Prelude.{MatchResult};
 ghost use Rattle.line_io.specs.Outside.{Rises};
-ghost use Rattle.line_words.specs.Ranges.{IsBetween};
+ghost use Rattle.line_words.specs.Ranges.{IsInterval, IsReach};
 ghost use Rattle.command_outcome.specs.Outcome.{Ends, MayStop, outside};
 ghost use Rattle.command_outcome.specs.declared.report.Kept.TheVariants.{Nothing};
 ghost use Rattle.command_outcome.specs.declared.status.Status.TheVariants as ends;
@@ -75,8 +75,8 @@ pub fn utility_report<S: Shelf>(
     reach: u64,
     shelf: &mut S,
 ) -> Result<Report, EarlyEnd>
-    requires interval { IsBetween 1 1000000000 interval }
-    requires reach { IsBetween 1 1000000000 reach }
+    requires interval { IsInterval interval }
+    requires reach { IsReach reach }
     ensures ends { S.tells → Ends (outside (S.file shelf.old) (S.blames shelf.new))
         (IsUtilityOutcome (outside (S.file shelf.old) (S.blames shelf.new)) mix.now cert.now seq.now interval reach)
         (S.file shelf.new) result }

@@ -4,7 +4,7 @@
 //! tested one after the other, and those that follow from the kept ones are kept. The test takes time as a check of a
 //! certificate does.
 ghost use Rattle.std.specs.Prelude.{◌≡◌, ℕ, ◌↔◌, ◌≤◌, IfOk, IfSome, IsTrue, string_bytes};
-ghost use Rattle.line_words.specs.Ranges.{IsBetween};
+ghost use Rattle.line_words.specs.Ranges.{AreSeekLoads, AreTryUnits, IsBetween};
 ghost use Rattle.sequence_rules.specs.Ranges.{AreTimes, IsPlace};
 ghost use Rattle.sequence_rules.specs.States.{IsSequenceOf, cost, root_starts};
 ghost use Rattle.sequence_search.specs.Outcomes.{model_order};
@@ -72,7 +72,7 @@ fn better(times: &Times, interval: u64, reach: u64, found: Numbers, order: Numbe
 /// A beginning without a seek.
 fn unsought(alloc: Global, times: &Times, units: u64) -> Result<Beginning, AllocError>
     requires times { AreTimes times.now }
-    requires units { IsBetween 1 1000000 units }
+    requires units { AreTryUnits units }
     ensures { (interval reach : ℕ) → IfOk result (λ b. IsBegun times.now interval reach units 0
         (record { units = units; first = b.first; charges = b.charges; kept = b.kept }) (string_bytes b.said)) }
 {
@@ -96,7 +96,7 @@ fn sought(
     requires times { AreTimes times.now }
     requires interval { IsPlace interval }
     requires reach { IsPlace reach }
-    requires units { IsBetween 1 1000000 units }
+    requires units { AreTryUnits units }
     requires limit { IsBetween 1 3000000 limit }
     ensures { IfOk result (λ b. IsBegun times.now interval reach units limit
         (record { units = units; first = b.first; charges = b.charges; kept = b.kept }) (string_bytes b.said)) }
@@ -142,8 +142,8 @@ pub(crate) fn begin(
     requires times { AreTimes times.now }
     requires interval { IsPlace interval }
     requires reach { IsPlace reach }
-    requires units { IsBetween 1 1000000 units }
-    requires seek { IsBetween 0 3000000 seek }
+    requires units { AreTryUnits units }
+    requires seek { AreSeekLoads seek }
     ensures { IfOk result (λ b. IsBegun times.now interval reach units seek
         (record { units = units; first = b.first; charges = b.charges; kept = b.kept }) (string_bytes b.said)) }
 {

@@ -1,7 +1,7 @@
 //! What `sequence-check` finds of a certificate, and of files that say one.
 ghost use Rattle.std.specs.Prelude.{◌≡◌, ℕ, List, IfOk, MatchResult};
 ghost use Rattle.line_io.specs.Outside.{Rises};
-ghost use Rattle.line_words.specs.Ranges.{IsBetween};
+ghost use Rattle.line_words.specs.Ranges.{AreSteps, IsInterval, IsReach};
 ghost use Rattle.command_outcome.specs.Outcome.{Ends, MayStop, outside};
 ghost use Rattle.command_outcome.specs.declared.report.Kept.TheVariants.{Nothing};
 ghost use Rattle.command_outcome.specs.declared.status.Status.TheVariants as ends;
@@ -30,9 +30,9 @@ pub fn sequence_check_report<S: Shelf>(
     steps: u64,
     shelf: &mut S,
 ) -> Result<Report, EarlyEnd>
-    requires interval { IsBetween 1 1000000000 interval }
-    requires reach { IsBetween 1 1000000000 reach }
-    requires steps { IsBetween 1 20000000 steps }
+    requires interval { IsInterval interval }
+    requires reach { IsReach reach }
+    requires steps { AreSteps steps }
     ensures ends { S.tells → (let o = outside (S.file shelf.old) (S.blames shelf.new) in
         Ends o (IsSequenceCheckOutcome o mix.now cert.now seq.now interval reach steps) (S.file shelf.new) result) }
     ensures good { IfOk result (λ r. IsVerdictStatus r.status) }

@@ -5,7 +5,7 @@
 //! none.
 ghost use Rattle.std.specs.Prelude.{◌≡◌, ℕ, List, length, Some, Err, IfOk, MatchResult, option_map};
 ghost use Rattle.line_io.specs.Outside.{Rises};
-ghost use Rattle.line_words.specs.Ranges.{IsBetween};
+ghost use Rattle.line_words.specs.Ranges.{AreSeekLoads, AreTryUnits, IsInterval, IsReach};
 ghost use Rattle.sequence_rules.specs.Ranges.{AreTimes, IsInRange};
 ghost use Rattle.sequence_values.specs.declared.types.SeqCert.{SeqCert as Proof};
 ghost use Rattle.sequence_cert.specs.SequenceText.{sequence_text};
@@ -35,10 +35,10 @@ fn ordered(
 ) -> Result<Report, EarlyEnd>
     requires times { AreTimes timed.now.times }
     requires models { length timed.now.times.demands ≡ length timed.now.mix.models }
-    requires interval { IsBetween 1 1000000000 interval }
-    requires reach { IsBetween 1 1000000000 reach }
-    requires units { IsBetween 1 1000000 units }
-    requires seek { IsBetween 0 3000000 seek }
+    requires interval { IsInterval interval }
+    requires reach { IsReach reach }
+    requires units { AreTryUnits units }
+    requires seek { AreSeekLoads seek }
     ensures answer { MatchResult result
         (λ r. IsFound (least_work timed.now.mix timed.now.times interval reach units seek) r.status r.text.items r.kept)
         (Stops (IsCutShort (least_work timed.now.mix timed.now.times interval reach units seek))) }
@@ -130,10 +130,10 @@ pub fn sequence_report<S: Shelf>(
     name: Option<&str>,
     shelf: &mut S,
 ) -> Result<Report, EarlyEnd>
-    requires interval { IsBetween 1 1000000000 interval }
-    requires reach { IsBetween 1 1000000000 reach }
-    requires units { IsBetween 1 1000000 units }
-    requires seek { IsBetween 0 3000000 seek }
+    requires interval { IsInterval interval }
+    requires reach { IsReach reach }
+    requires units { AreTryUnits units }
+    requires seek { AreSeekLoads seek }
     ensures ends { S.tells → (let o = outside (S.file shelf.old) (S.blames shelf.new) in
         Ends o (IsSequenceOutcome o mix.now cert.now interval reach units seek (option_map (λ a. a.now) name.entry))
         (S.file shelf.new) result) }

@@ -1,7 +1,7 @@
 //! Mixes of files, with the works that they bring to the stations of a balance.
 ghost use Rattle.std.specs.Prelude.{◌≡◌, ◌≤◌, ℕ, List, length, IfOk, MatchResult};
 ghost use Rattle.line_io.specs.Outside.{Rises};
-ghost use Rattle.line_words.specs.Ranges.{IsBetween};
+ghost use Rattle.line_words.specs.Ranges.{IsInterval};
 ghost use Rattle.combined_graph.specs.Combined.{total_demand};
 ghost use Rattle.sequence_rules.specs.Ranges.{AreTimes};
 ghost use Rattle.command_outcome.specs.Outcome.{Stops, MayStop, outside};
@@ -62,7 +62,7 @@ pub(crate) fn timed_of<S: Shelf>(
     interval: u64,
     shelf: &mut S,
 ) -> Result<TimedMix, EarlyEnd>
-    requires { IsBetween 1 1000000000 interval }
+    requires { IsInterval interval }
     ensures said { S.tells → MatchResult result
         (λ p. IsTimed (S.file shelf.old) mix.now cert.now interval p.mix p.times)
         (Stops (IsUntimed (outside (S.file shelf.old) (S.blames shelf.new)) mix.now cert.now interval)) }

@@ -4,7 +4,7 @@ ghost use Rattle.std.specs.Option.{ForSome};
 ghost use Rattle.line_io.specs.Outside.{Rises};
 ghost use Rattle.line_instance.specs.Line.{tasks};
 ghost use Rattle.line_rules.specs.Ranges.{AreEntries};
-ghost use Rattle.line_words.specs.Ranges.{IsBetween, IsSetBetween};
+ghost use Rattle.line_words.specs.Ranges.{IsCycleTime, IsCycleTimeOrNone};
 ghost use Rattle.command_outcome.specs.Outcome.{MayStop, Stops, outside};
 ghost use Rattle.input_files.specs.Instance.{naming_of};
 ghost use Rattle.command_solve.specs.inner.Said.{HasSaid, IsUnsaidOrUnwarmed};
@@ -33,13 +33,13 @@ pub(crate) fn said_of<S: Shelf>(
     kind: LineKind,
     shelf: &mut S,
 ) -> Result<Said, EarlyEnd>
-    requires word { IsSetBetween 1 1000000000000000000 word }
+    requires word { IsCycleTimeOrNone word }
     ensures said { S.tells → MatchResult result
         (λ s. HasSaid (S.file shelf.old) file.now (option_map (λ a. a.now) apart.entry)
         (option_map (λ a. a.now) warm.entry) word kind s.timed.inst s.timed.cycle s.olds)
         (Stops (IsUnsaidOrUnwarmed (outside (S.file shelf.old) (S.blames shelf.new)) file.now
         (option_map (λ a. a.now) apart.entry) (option_map (λ a. a.now) warm.entry) word kind)) }
-    ensures limit { IfOk result (λ s. IsBetween 1 1000000000000000000 s.timed.cycle) }
+    ensures limit { IfOk result (λ s. IsCycleTime s.timed.cycle) }
     ensures naming { S.tells → IfOk result (λ s. s.timed.naming ≡ naming_of (S.file shelf.old) file.now) }
     ensures range { IfOk result (λ s. ForSome s.olds (AreEntries (tasks s.timed.inst))) }
     ensures fault { MatchResult result (λ _. Unit {0})

@@ -10,7 +10,7 @@ ghost use Rattle.line_rules.specs.Ranges.{AreEntries, IsCycle};
 ghost use Rattle.line_rules.specs.declared.types.Entry.{Entry as Lemma};
 ghost use Rattle.line_rules.specs.declared.types.OpenFrame.{OpenFrame};
 ghost use Rattle.lemma_core.specs.Books.{BookView};
-ghost use Rattle.line_words.specs.Ranges.{IsSetBetween};
+ghost use Rattle.line_words.specs.Ranges.{IsCycleTimeOrNone};
 ghost use Rattle.round_run.specs.Plans.{IsPlan};
 ghost use Rattle.round_run.specs.declared.plans.Plan.{Plan as PlanOf};
 ghost use Rattle.round_run.specs.Solving.{FitsAll, IsSolvedFrom, IsSpentFrom, IsStoppedFrom as HasStopped};
@@ -250,7 +250,7 @@ pub fn solve_report<R: Threads + Wait + Sync, S: Shelf, G: Gate>(
     shelf: &mut S,
     gate: &G,
 ) -> Result<Report, EarlyEnd>
-    requires word { IsSetBetween 1 1000000000000000000 word }
+    requires word { IsCycleTimeOrNone word }
     requires limit { limit ≤ 3000000 }
     requires plan { IsPlan plan.now }
     ensures ends { S.tells → (let o = outside (S.file shelf.old) (S.blames shelf.new) in

@@ -3,7 +3,7 @@ ghost use Rattle.std.specs.Prelude.{◌≡◌, ◌≤◌, ◌↔◌, ℕ, List, 
 ghost use Rattle.line_io.specs.Outside.{Rises};
 ghost use Rattle.line_instance.specs.Line.{Apart, tasks};
 ghost use Rattle.line_instance.specs.Walks.{ArePairs, IsGiven};
-ghost use Rattle.line_words.specs.Ranges.{IsBetween, IsSetBetween};
+ghost use Rattle.line_words.specs.Ranges.{IsCycleTime, IsCycleTimeOrNone};
 ghost use Rattle.command_outcome.specs.Outcome.{Stops, MayStop, outside, told};
 ghost use Rattle.command_outcome.specs.declared.status.Status.TheVariants as ends;
 ghost use Rattle.input_files.specs.Instance.{IsTimed, IsUntimedOrNone, IsPartedBy, IsUnparted, IsSaid, IsUnsaid};
@@ -45,11 +45,11 @@ fn cycle_for(
     word: Option<u64>,
     given: Option<u64>,
 ) -> Result<u64, EarlyEnd>
-    requires word { IsSetBetween 1 1000000000000000000 word }
-    requires given { IsSetBetween 1 1000000000000000000 given }
+    requires word { IsCycleTimeOrNone word }
+    requires given { IsCycleTimeOrNone given }
     ensures cycle { MatchResult result (λ c. cycle_of word given ≡ Some c)
         (Stops (λ out. (cycle_of word given ≡ None) × (out ≡ told ends.Input (no_cycle_line file.now)))) }
-    ensures limit { IfOk result (λ c. IsBetween 1 1000000000000000000 c) }
+    ensures limit { IfOk result (λ c. IsCycleTime c) }
     ensures status { MatchResult result (λ _. Unit {0}) (MayStop ⊥) }
 {
     match (word, given) {
@@ -76,10 +76,10 @@ fn timed_of<S: Shelf>(
     word: Option<u64>,
     shelf: &mut S,
 ) -> Result<TimedSheet, EarlyEnd>
-    requires word { IsSetBetween 1 1000000000000000000 word }
+    requires word { IsCycleTimeOrNone word }
     ensures said { S.tells → MatchResult result (λ t. IsTimed (S.file shelf.old) file.now word t.sheet.inst t.cycle)
         (Stops (IsUntimedOrNone (outside (S.file shelf.old) (S.blames shelf.new)) file.now word)) }
-    ensures limit { IfOk result (λ t. IsBetween 1 1000000000000000000 t.cycle) }
+    ensures limit { IfOk result (λ t. IsCycleTime t.cycle) }
     ensures right { IfOk result (λ t. IsRightSheet t.sheet) }
     ensures sheet { S.tells → IfOk result (λ t. IsSheetFrom (S.file shelf.old file.now) t.sheet) }
     ensures fault { MatchResult result (λ _. Unit {0})
@@ -132,12 +132,12 @@ pub fn said_instance<S: Shelf>(
     word: Option<u64>,
     shelf: &mut S,
 ) -> Result<Timed, EarlyEnd>
-    requires word { IsSetBetween 1 1000000000000000000 word }
+    requires word { IsCycleTimeOrNone word }
     ensures said { S.tells → MatchResult result (λ t. IsSaid (S.file shelf.old) file.now
         (option_map (λ a. a.now) apart.entry) word t.inst t.cycle)
         (Stops (IsUnsaid (outside (S.file shelf.old) (S.blames shelf.new)) file.now
         (option_map (λ a. a.now) apart.entry) word)) }
-    ensures limit { IfOk result (λ t. IsBetween 1 1000000000000000000 t.cycle) }
+    ensures limit { IfOk result (λ t. IsCycleTime t.cycle) }
     ensures naming { S.tells → IfOk result (λ t. t.naming ≡ naming_of (S.file shelf.old) file.now) }
     ensures fault { MatchResult result (λ _. Unit {0})
         (MayStop (Rises (S.fetch_faults shelf.old) (S.fetch_faults shelf.new))) }
@@ -165,7 +165,7 @@ pub fn listed_line<S: Shelf>(
         (option_map (λ a. a.now) apart.entry) l.inst l.cycle)
         (Stops (IsNoLine (outside (S.file shelf.old) (S.blames shelf.new))
         file.now (option_map (λ a. a.now) apart.entry))) }
-    ensures limit { IfOk result (λ l. IsSetBetween 1 1000000000000000000 l.cycle) }
+    ensures limit { IfOk result (λ l. IsCycleTimeOrNone l.cycle) }
     ensures names { IfOk result (λ l. FitTasks l.naming (tasks l.inst)) }
     ensures sheet { S.tells → IfOk result (IsListedFrom (S.file shelf.old file.now)) }
     ensures fault { MatchResult result (λ _. Unit {0})

@@ -2,7 +2,7 @@
 ghost use Rattle.std.specs.Prelude.{◌≡◌, ◌≤◌, ◌<◌, ◌^◌, ℕ, true, false, List, Some, None, length, IfOk, MatchResult};
 ghost use Rattle.line_io.specs.Outside.{Rises};
 ghost use Rattle.line_instance.specs.Line.{Apart};
-ghost use Rattle.line_words.specs.Ranges.{IsSetBetween};
+ghost use Rattle.line_words.specs.Ranges.{IsCycleTimeOrNone};
 ghost use Rattle.task_table.specs.Marks.{table_mark};
 ghost use Rattle.task_table.specs.Tables.{IsRightTable, IsTable};
 ghost use Rattle.command_outcome.specs.Outcome.{Stops, MayStop, outside};
@@ -111,7 +111,7 @@ fn in2_sheet(alloc: Global, file: &str, bytes: &[u8]) -> Result<Sheet, EarlyEnd>
     requires no_table { table_mark bytes.now ≡ None }
     requires in2 { is_alb bytes.now ≡ false }
     ensures said { MatchResult result (λ s. Says bytes.now s.inst s.cycle) (Stops (IsFaulty file.now bytes.now)) }
-    ensures limit { IfOk result (λ s. IsSetBetween 1 1000000000000000000 s.cycle) }
+    ensures limit { IfOk result (λ s. IsCycleTimeOrNone s.cycle) }
     ensures right { IfOk result IsRightSheet }
     ensures sheet { IfOk result (IsSheetIn bytes.now) }
     ensures status { MatchResult result (λ _. Unit {0}) (MayStop ⊥) }
@@ -132,7 +132,7 @@ fn alb_sheet(alloc: Global, file: &str, bytes: &[u8]) -> Result<Sheet, EarlyEnd>
     requires no_table { table_mark bytes.now ≡ None }
     requires alb { is_alb bytes.now ≡ true }
     ensures said { MatchResult result (λ s. Says bytes.now s.inst s.cycle) (Stops (IsFaulty file.now bytes.now)) }
-    ensures limit { IfOk result (λ s. IsSetBetween 1 1000000000000000000 s.cycle) }
+    ensures limit { IfOk result (λ s. IsCycleTimeOrNone s.cycle) }
     ensures right { IfOk result IsRightSheet }
     ensures sheet { IfOk result (IsSheetIn bytes.now) }
     ensures status { MatchResult result (λ _. Unit {0}) (MayStop ⊥) }
@@ -190,7 +190,7 @@ fn table_sheet(alloc: Global, file: &str, bytes: &[u8], mark: u8) -> Result<Shee
     requires length { length bytes.now < 2 ^ 63 }
     requires mark { table_mark bytes.now ≡ Some mark }
     ensures said { MatchResult result (λ s. Says bytes.now s.inst s.cycle) (Stops (IsFaulty file.now bytes.now)) }
-    ensures limit { IfOk result (λ s. IsSetBetween 1 1000000000000000000 s.cycle) }
+    ensures limit { IfOk result (λ s. IsCycleTimeOrNone s.cycle) }
     ensures right { IfOk result IsRightSheet }
     ensures sheet { IfOk result (IsSheetIn bytes.now) }
     ensures status { MatchResult result (λ _. Unit {0}) (MayStop ⊥) }
@@ -209,7 +209,7 @@ fn table_sheet(alloc: Global, file: &str, bytes: &[u8], mark: u8) -> Result<Shee
 fn sheet_in(alloc: Global, file: &str, bytes: &[u8]) -> Result<Sheet, EarlyEnd>
     requires { length bytes.now < 2 ^ 63 }
     ensures said { MatchResult result (λ s. Says bytes.now s.inst s.cycle) (Stops (IsFaulty file.now bytes.now)) }
-    ensures limit { IfOk result (λ s. IsSetBetween 1 1000000000000000000 s.cycle) }
+    ensures limit { IfOk result (λ s. IsCycleTimeOrNone s.cycle) }
     ensures right { IfOk result IsRightSheet }
     ensures sheet { IfOk result (IsSheetIn bytes.now) }
     ensures status { MatchResult result (λ _. Unit {0}) (MayStop ⊥) }
@@ -229,7 +229,7 @@ fn sheet_in(alloc: Global, file: &str, bytes: &[u8]) -> Result<Sheet, EarlyEnd>
 pub fn sheet_of<S: Shelf>(alloc: Global, file: &str, shelf: &mut S) -> Result<Sheet, EarlyEnd>
     ensures said { S.tells → MatchResult result (λ s. IsInstance (S.file shelf.old) file.now s.inst s.cycle)
         (Stops (IsNoInstance (outside (S.file shelf.old) (S.blames shelf.new)) file.now)) }
-    ensures limit { IfOk result (λ s. IsSetBetween 1 1000000000000000000 s.cycle) }
+    ensures limit { IfOk result (λ s. IsCycleTimeOrNone s.cycle) }
     ensures right { IfOk result IsRightSheet }
     ensures sheet { S.tells → IfOk result (IsSheetFrom (S.file shelf.old file.now)) }
     ensures fault { MatchResult result (λ _. Unit {0})

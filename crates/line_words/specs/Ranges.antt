@@ -22,39 +22,79 @@ abbrev pub IsSetBetween : ℕ → ℕ → Option ℕ → Type 0
 IsSetBetween least most None = Unit {0}
 IsSetBetween least most (Some n) = IsBetween least most n
 
+-- a cycle time that words or a file give, in time units
+abbrev pub IsCycleTime : ℕ → Type 0
+IsCycleTime c = IsBetween 1 1000000000000000000 c
+
+-- a cycle time, or none
+abbrev pub IsCycleTimeOrNone : Option ℕ → Type 0
+IsCycleTimeOrNone c = IsSetBetween 1 1000000000000000000 c
+
+-- a number of stations
+abbrev pub IsStationCount : ℕ → Type 0
+IsStationCount m = IsBetween 1 1024 m
+
+-- a number of helpers
+abbrev pub IsHelperCount : ℕ → Type 0
+IsHelperCount k = IsBetween 0 64 k
+
+-- the units of a run that asks for one cycle
+abbrev pub AreRunUnits : ℕ → Type 0
+AreRunUnits units = IsBetween 1 3000000 units
+
+-- the units of each try of a run that makes several, and those of a search for a sequence
+abbrev pub AreTryUnits : ℕ → Type 0
+AreTryUnits units = IsBetween 1 1000000 units
+
+-- the loads of a seek; 0 for none
+abbrev pub AreSeekLoads : ℕ → Type 0
+AreSeekLoads loads = IsBetween 0 3000000 loads
+
+-- the steps of a check
+abbrev pub AreSteps : ℕ → Type 0
+AreSteps steps = IsBetween 1 20000000 steps
+
+-- the time from one launch to the next, in time units
+abbrev pub IsInterval : ℕ → Type 0
+IsInterval interval = IsBetween 1 1000000000 interval
+
+-- the length of a station, in time units
+abbrev pub IsReach : ℕ → Type 0
+IsReach reach = IsBetween 1 1000000000 reach
+
 -- each number of a search lies in the range of its key
 abbrev pub IsSearchInRange : SearchJob → Type 0
-IsSearchInRange (Solve job) = IsSetBetween 1 1000000000000000000 job.cycle × IsBetween 0 64 job.helpers
-    × IsBetween 1 3000000 job.units × IsBetween 0 3000000 job.seek
-IsSearchInRange (Cycle job) = IsBetween 1 1024 job.stations × IsBetween 0 64 job.helpers
-    × IsBetween 1 1000000 job.units × IsBetween 0 3000000 job.seek
-IsSearchInRange (Effic job) = IsBetween 1 1024 job.least × IsBetween 1 1024 job.most × (job.least ≤ job.most)
-    × IsBetween 0 64 job.helpers × IsBetween 1 1000000 job.units × IsBetween 0 3000000 job.seek
-IsSearchInRange (Sequence job) = IsBetween 1 1000000000 job.interval × IsBetween 1 1000000000 job.length
-    × IsBetween 1 1000000 job.units × IsBetween 0 3000000 job.seek
+IsSearchInRange (Solve job) = IsCycleTimeOrNone job.cycle × IsHelperCount job.helpers
+    × AreRunUnits job.units × AreSeekLoads job.seek
+IsSearchInRange (Cycle job) = IsStationCount job.stations × IsHelperCount job.helpers
+    × AreTryUnits job.units × AreSeekLoads job.seek
+IsSearchInRange (Effic job) = IsStationCount job.least × IsStationCount job.most × (job.least ≤ job.most)
+    × IsHelperCount job.helpers × AreTryUnits job.units × AreSeekLoads job.seek
+IsSearchInRange (Sequence job) = IsInterval job.interval × IsReach job.length
+    × AreTryUnits job.units × AreSeekLoads job.seek
 IsSearchInRange (Try job) = IsBetween 0 18446744073709551615 job.seed × IsBetween 1 1024 job.tasks
-    × IsBetween 1 1000000000000000000 job.cycle × IsBetween 1 3000000 job.units
+    × IsCycleTime job.cycle × AreRunUnits job.units
 
 -- each number of the test of a certificate does
 abbrev pub IsCheckInRange : CheckJob → Type 0
-IsCheckInRange (LineCheck job) = IsBetween 1 20000000 job.steps
-IsCheckInRange (EfficCheck job) = IsBetween 1 20000000 job.steps
-IsCheckInRange (SequenceCheck job) = IsBetween 1 1000000000 job.interval × IsBetween 1 1000000000 job.length
-    × IsBetween 1 20000000 job.steps
+IsCheckInRange (LineCheck job) = AreSteps job.steps
+IsCheckInRange (EfficCheck job) = AreSteps job.steps
+IsCheckInRange (SequenceCheck job) = IsInterval job.interval × IsReach job.length
+    × AreSteps job.steps
 
 -- each number of a job of a line does
 abbrev pub IsLineInRange : LineJob → Type 0
-IsLineInRange (Balance job) = IsSetBetween 1 1000000000000000000 job.cycle
-IsLineInRange (Convert job) = IsSetBetween 1 1000000000000000000 job.cycle
+IsLineInRange (Balance job) = IsCycleTimeOrNone job.cycle
+IsLineInRange (Convert job) = IsCycleTimeOrNone job.cycle
 IsLineInRange (Draw job) = Unit {0}
 IsLineInRange (Plan job) = Unit {0}
 
 -- each number of a job of a mix does
 abbrev pub IsMixInRange : MixJob → Type 0
 IsMixInRange (Combine job) = Unit {0}
-IsMixInRange (Utility job) = IsBetween 1 1000000000 job.interval × IsBetween 1 1000000000 job.length
-IsMixInRange (Timeline job) = IsBetween 1 1000000000 job.interval × IsBetween 1 1000000000 job.length
-IsMixInRange (TimelineDraw job) = IsBetween 1 1000000000 job.interval × IsBetween 1 1000000000 job.length
+IsMixInRange (Utility job) = IsInterval job.interval × IsReach job.length
+IsMixInRange (Timeline job) = IsInterval job.interval × IsReach job.length
+IsMixInRange (TimelineDraw job) = IsInterval job.interval × IsReach job.length
 
 -- Each number of a job lies in the range of its key.
 abbrev pub IsInRange : Job → Type 0

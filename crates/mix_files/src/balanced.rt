@@ -2,7 +2,7 @@
 //! to.
 ghost use Rattle.std.specs.Prelude.{◌≡◌, ◌≤◌, ℕ, List, length, IfOk, MatchResult};
 ghost use Rattle.line_io.specs.Outside.{Rises};
-ghost use Rattle.line_words.specs.Ranges.{IsBetween};
+ghost use Rattle.line_words.specs.Ranges.{IsInterval};
 ghost use Rattle.combined_graph.specs.Combined.{total_demand};
 ghost use Rattle.command_outcome.specs.Outcome.{Stops, MayStop, outside};
 ghost use Rattle.mix_files.specs.Balanced.{IsBalanced, IsUnbalanced};
@@ -34,7 +34,7 @@ pub fn balanced_of<S: Shelf>(
     interval: u64,
     shelf: &mut S,
 ) -> Result<Balanced, EarlyEnd>
-    requires { IsBetween 1 1000000000 interval }
+    requires { IsInterval interval }
     ensures said { S.tells → MatchResult result
         (λ p. IsBalanced (S.file shelf.old) mix.now cert.now interval p.mix p.balance)
         (Stops (IsUnbalanced (outside (S.file shelf.old) (S.blames shelf.new)) mix.now cert.now interval)) }

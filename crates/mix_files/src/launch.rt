@@ -1,7 +1,7 @@
 //! What the files of `utility` and `timeline` say together.
 ghost use Rattle.std.specs.Prelude.{◌≡◌, ◌≤◌, ◌<◌, ℕ, List, All, length, IfOk, MatchResult};
 ghost use Rattle.line_io.specs.Outside.{Rises};
-ghost use Rattle.line_words.specs.Ranges.{IsBetween};
+ghost use Rattle.line_words.specs.Ranges.{IsInterval};
 ghost use Rattle.command_outcome.specs.Outcome.{Stops, MayStop, outside};
 ghost use Rattle.mix_files.specs.Launch.{IsLaunch, IsUnlaunched};
 
@@ -31,7 +31,7 @@ pub fn launch_of<S: Shelf>(
     interval: u64,
     shelf: &mut S,
 ) -> Result<Launch, EarlyEnd>
-    requires { IsBetween 1 1000000000 interval }
+    requires { IsInterval interval }
     ensures said { S.tells → MatchResult result
         (λ p. IsLaunch (S.file shelf.old) (record { mix = mix.now; cert = cert.now; seq = seq.now }) interval
         p.mix p.balance p.units.items)
