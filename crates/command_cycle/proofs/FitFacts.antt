@@ -1,5 +1,5 @@
 -- The check reads files of the length of a certificate of `cycle`.
-use Rattle.std.proofs.Common.{◌≡◌, ◌≤◌, ◌+◌, ◌*◌, ◌-◌, ℕ, length, Bool, true, false, cond, nat_eq, Some, None, ap, arith}
+use Rattle.std.proofs.Common.{◌≡◌, ◌≤◌, ℕ, length, nat_eq, Some, None, ap, arith}
 use Rattle.line_instance.specs.Line.{Line}
 use Rattle.line_rules.specs.declared.types.LineKind.{LineKind}
 use Rattle.line_rules.specs.declared.types.Balance.{Balance as Assignment}
@@ -7,17 +7,8 @@ use Rattle.line_rules.specs.declared.types.Certificate.{Certificate}
 use Rattle.cert_text.specs.Cert.{cert_text}
 use Rattle.cycle_search.specs.rounds.declared.plans.Plan.{Plan}
 use Rattle.cycle_search.specs.CycleCertified.{IsOptimum, IsStop}
-use Rattle.cycle_search.specs.Seek.{try_room}
 use Rattle.input_files.specs.InputFile.{max_certificate}
-use Rattle.solution_page.proofs.TextLengths.{bounds_fit}
-
--- what a try of at most 1,000,000 units may add, with a seek or without
-room_with : (b : Bool) (units : ℕ) → units ≤ 1000000 → 2 * units + cond b 0 (2500000 - 2 * units) ≤ 2500000
-room_with true units h = omega (arith, h)
-room_with false units h = omega (arith, h)
-
-few_added : (plan : Plan) → plan.units ≤ 1000000 → try_room plan ≤ 2500000
-few_added plan h = room_with (nat_eq plan.seek 0) plan.units h
+use Rattle.solution_page.proofs.TextLengths.{bounds_fit, few_added}
 
 pub stop_fits : (kind : LineKind) (line : Line) (m : ℕ) (plan : Plan) (lower upper : ℕ) (b : Assignment)
     (cert : Certificate) → IsStop kind line m plan lower upper b cert → plan.units ≤ 1000000
@@ -28,7 +19,7 @@ stop_fits kind line m plan lower upper b cert s h = omega (
       s.certified.sayable s.certified.accepted,
   s.spent.stopped.some.many,
   s.certified.few,
-  few_added plan h,
+  few_added (nat_eq plan.seek 0) plan.units h,
 )
 
 -- the same of an optimum
@@ -41,5 +32,5 @@ optimum_fits kind line m plan c b cert o h = omega (
       o.certified.sayable o.certified.accepted,
   o.some.many,
   o.certified.few,
-  few_added plan h,
+  few_added (nat_eq plan.seek 0) plan.units h,
 )

@@ -1,5 +1,5 @@
 -- What `effic` comes to, and what it promises where it answers with status 0 or 1.
-use Rattle.std.specs.Prelude.{◌≡◌, ◌⊎◌, ℕ, List, ◌++◌, Option}
+use Rattle.std.specs.Prelude.{◌≡◌, ◌⊎◌, ◌≤◌, ℕ, List, ◌++◌, length, Option}
 use Rattle.line_instance.specs.Line.{Line}
 use Rattle.line_rules.specs.Bounds.{idle_time}
 use Rattle.line_rules.specs.declared.types.LineKind.{LineKind}
@@ -15,6 +15,7 @@ use Rattle.command_outcome.specs.Outcome.{Files, Outside, Outcome}
 use Rattle.command_outcome.specs.declared.report.Kept.{Kept}
 use Rattle.command_outcome.specs.declared.report.Kept.TheVariants.{Product}
 use Rattle.command_outcome.specs.declared.status.Status.{Status}
+use Rattle.input_files.specs.InputFile.{max_certificate}
 use Rattle.input_files.specs.Instance.{IsPlainLine, IsNoPlainLine, naming_of}
 use Rattle.effic_cert.specs.Product.{product_text}
 use Rattle.command_effic.specs.EfficText.{optimal_text, stopped_text}
@@ -25,22 +26,26 @@ abbrev pub idle_of : Line → EfficCert → ℕ
 idle_of line cert = idle_time line cert.cycle cert.balance.stations
 
 -- The least product: the certificate proves it, and what is printed are its product and its balance. The line before
--- them tells of the seeks, where the plan has them.
+-- them tells of the seeks, where the plan has them. With at most 1,000,000 units a try, the check reads files of the
+-- certificate's length.
 pub record IsOptimal (naming : Naming) (kind : LineKind) (line : Line) (least most : ℕ) (plan : Plan) (cert : EfficCert)
     (text : List ℕ) : Type 0 where
   pub solved : IsSolved kind line least most plan cert
+  pub fits : plan.units ≤ 1000000 → length (product_text cert) ≤ max_certificate
   pub seeks : Seeks
   pub counted : AreSeeks plan seeks
   pub printed : text ≡ seek_text plan.seek seeks.used seeks.most seeks.kept
       ++ optimal_text naming cert (idle_of line cert)
 
 -- The search stopped: the certificate says why, and what is printed are its bounds and its balance. The line before
--- them tells of the seeks, where the plan has them. The units are counted from the entry `closing_from` on.
+-- them tells of the seeks, where the plan has them. The units are counted from the entry `closing_from` on. With at
+-- most 1,000,000 units a try, the check reads files of the certificate's length.
 pub record IsStopped (naming : Naming) (kind : LineKind) (line : Line) (least most : ℕ) (plan : Plan) (cert : EfficCert)
     (text : List ℕ) : Type 0 where
   pub why : Ended
   pub closing_from : ℕ
   pub stopped : StoppedBy why kind line least most plan cert closing_from
+  pub fits : plan.units ≤ 1000000 → length (product_text cert) ≤ max_certificate
   pub seeks : Seeks
   pub counted : AreSeeks plan seeks
   pub printed : text ≡ seek_text plan.seek seeks.used seeks.most seeks.kept

@@ -375,13 +375,13 @@ module _ (kind : LineKind) (line : Line) (least most : ℕ) (h : Lowering) (ok :
       let all : take (length (entries_of h)) (entries_of h) ≡ cert.entries = whole ∙ sym entries in
       let same : others (entries_of h) ≡ h.listed.entries =
       sym (due.lowering.counted.entries ∙ ap (λ (z : List Entry). others z) whole) in
-      let large : (4000000 < h.listed.units) ⊎ (4000000 < others (entries_of h)) ⊎ (13999999 < length (entries_of h)) =
+      let large : (4000000 < h.listed.units) ⊎ (4000000 < others (entries_of h)) ⊎ (4999999 < length (entries_of h)) =
       (elim due.large [
         | inl u ↦ inl u
         | inr r ↦ elim r [ inl n ↦ inr (inl (omega (arith, n, same))) | inr many ↦ inr (inr many) ]
       ]) in
       let L : List Entry → Type 0 =
-      λ z. (4000000 < h.listed.units) ⊎ (4000000 < others z) ⊎ (13999999 < length z) in
+      λ z. (4000000 < h.listed.units) ⊎ (4000000 < others z) ⊎ (4999999 < length z) in
       record {
         certified = c;
         below = left_below due.m due.X due.left;

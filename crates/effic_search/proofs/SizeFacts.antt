@@ -430,7 +430,7 @@ module _ (kind : LineKind) (line : Line) (ok : IsLine line) (ranked : IsRanked l
 
     -- where the book is too large, the line is large
     pub large_budget : HaveCyclesBehind line es → (u : ℕ) → UnitsOf line es u
-        → (4000000 < u) ⊎ (4000000 < others es) ⊎ (13999999 < length es)
+        → (4000000 < u) ⊎ (4000000 < others es) ⊎ (4999999 < length es)
         → 4000000 < (tasks line + 1) * 4 ^ tasks line * top
     unfolding space
     large_budget behind u h (inl l) = omega (arith, l, all_units_few u h)

@@ -138,10 +138,10 @@ closed_going kind line least most m h going here = record {
 
 -- a book is too large, where so many entries are counted
 pub large_book : (h : Lowering) (count : ℕ) → count ≡ length (entries_of h)
-    → (4000000 < h.listed.units) ⊎ (4000000 < h.listed.entries) ⊎ (13999999 < count)
-    → (4000000 < h.listed.units) ⊎ (4000000 < h.listed.entries) ⊎ (13999999 < length (entries_of h))
+    → (4000000 < h.listed.units) ⊎ (4000000 < h.listed.entries) ⊎ (4999999 < count)
+    → (4000000 < h.listed.units) ⊎ (4000000 < h.listed.entries) ⊎ (4999999 < length (entries_of h))
 large_book h count is large =
-    let P : ℕ → Type 0 = λ z. (4000000 < h.listed.units) ⊎ (4000000 < h.listed.entries) ⊎ (13999999 < z) in
+    let P : ℕ → Type 0 = λ z. (4000000 < h.listed.units) ⊎ (4000000 < h.listed.entries) ⊎ (4999999 < z) in
     subst P is large
 
 -- what stopped a search stopped it, whichever number of stations was the last

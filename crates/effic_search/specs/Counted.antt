@@ -42,10 +42,10 @@ pub record AreFew (line : Line) (es : List Entry) : Type 0 where
 
 -- Entries that a search by a plan may have: those with which a try is made, and what one try may add. They have at most
 -- 4,000,000 units and those of a try. At most 4,000,001 and as many aren't by Bound, and with these there are at most
--- 14,000,000 and as many.
+-- 5,000,000 and as many.
 pub record ArePaid (line : Line) (plan : Plan) (es : List Entry) : Type 0 where
   pub units : ℕ
   pub counted : UnitsOf line es units
   pub within : units ≤ 4000000 + try_room plan
   pub short : others es ≤ 4000001 + try_room plan
-  pub many : length es ≤ 14000000 + try_room plan
+  pub many : length es ≤ 5000000 + try_room plan

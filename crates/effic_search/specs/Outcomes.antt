@@ -102,7 +102,7 @@ pub record IsSpent (kind : LineKind) (line : Line) (least most : ℕ) (plan : Pl
   pub paid : ArePaid line plan cert.entries
 
 -- A next try was due, and the book was too large for it: the bounds differ. The entries, which are fresh, have more than
--- 4,000,000 units, or more than 4,000,000 of them aren't by Bound, or there are more than 13,999,999 of them. Each that
+-- 4,000,000 units, or more than 4,000,000 of them aren't by Bound, or there are more than 4,999,999 of them. Each that
 -- isn't by Bound has a cycle from the longest time to the greater of 1 and the total. So the line is large: of n tasks,
 -- (n + 1) x 4^n times the greater of 1 and the total is more than 4,000,000. No round stopped, so all entries stand
 -- before `closing_from`. They are those that a search by the plan may have. (Own.)
@@ -118,7 +118,7 @@ pub record IsLarge (kind : LineKind) (line : Line) (least most : ℕ) (plan : Pl
   pub fresh : IsFresh cert.entries
   pub units : ℕ
   pub counted : UnitsOf line cert.entries units
-  pub large : (4000000 < units) ⊎ (4000000 < others cert.entries) ⊎ (13999999 < length cert.entries)
+  pub large : (4000000 < units) ⊎ (4000000 < others cert.entries) ⊎ (4999999 < length cert.entries)
   pub cycles : (k : ℕ) (e : Entry) → slice_get cert.entries k ≡ Some e → e.why ≢ why.Bound
       → (longest_of line (all_tasks line) ≤ e.cycle) × (e.cycle ≤ max (total_time line) 1)
   pub budget : 4000000 < (tasks line + 1) * 4 ^ tasks line * max (total_time line) 1

@@ -17,9 +17,10 @@ use std::thread::Threads;
 /// of what a search writes stays well within its 20,000,000 steps.
 const MOST: u64 = 4_000_000;
 
-/// The most entries of a book with which a try is made, those by Bound too: with more there isn't room for those of the
-/// try. A try adds at most 6,000,001 with its seek, and a certificate has at most 20,000,000.
-const ROOM: u64 = 13_999_999;
+/// The most entries of a book with which a try is made, those by Bound too: with more the text of the certificate might
+/// be longer than the 4 GiB that the check reads. A try of 1,000,000 units adds at most 2,500,000, an entry takes at most
+/// 545 bytes beside its cites, and a unit has at most one cite, of 9 bytes.
+const ROOM: u64 = 4_999_999;
 
 /// What the tries at one number of stations come to.
 #[derive(Drop)]
@@ -41,10 +42,10 @@ pub(crate) enum Settled {
 
 /// Whether a book of so many entries is too large for a try.
 fn is_large(listed: Listed, count: u64) -> bool
-    ensures large { result ≡ true → (4000000 < listed.units) ⊎ (4000000 < listed.entries) ⊎ (13999999 < count) }
+    ensures large { result ≡ true → (4000000 < listed.units) ⊎ (4000000 < listed.entries) ⊎ (4999999 < count) }
     ensures small { result ≡ false → listed.units ≤ 4000000 }
     ensures few { result ≡ false → listed.entries ≤ 4000000 }
-    ensures room { result ≡ false → count ≤ 13999999 }
+    ensures room { result ≡ false → count ≤ 4999999 }
 {
     if listed.units > MOST {
         return true;

@@ -136,7 +136,7 @@ fn sought<R: Threads + Sync>(
     requires best { MayBeBest (record { line = inst.now; kind = search.book.about.kind; cycle = cycle }) best }
     requires counted { IsCounted inst.now (entries_of search) (length (entries_of search)) search.listed }
     requires small { search.listed.units ≤ 4000000 }
-    requires room { length (entries_of search) ≤ 13999999 }
+    requires room { length (entries_of search) ≤ 4999999 }
     ensures { IfOk result (λ r. HasSought stations plan.now cycle search r.0 r.1) }
 {
     let Lowering {

@@ -1,6 +1,6 @@
 -- How long the text of a certificate is.
-use Rattle.std.proofs.Common.{◌≡◌, ℕ, suc, ◌+◌, ◌*◌, ◌≤◌, List, [], ◌∷◌, ◌++◌, length, refl, map, take}
-use Rattle.std.proofs.Common.{arith, length-append, Option, Some, None, subst, ap}
+use Rattle.std.proofs.Common.{◌≡◌, ℕ, suc, ◌+◌, ◌-◌, ◌*◌, ◌≤◌, List, [], ◌∷◌, ◌++◌, length, refl, map, take}
+use Rattle.std.proofs.Common.{arith, length-append, Option, Some, None, subst, ap, Bool, true, false, cond}
 use Rattle.std.specs.Prelude.{slice_get, codes}
 use Rattle.line_rules.specs.lines.Line.{Line}
 use Rattle.line_rules.specs.Accepted.{IsAccepted, IsInfeasible, IsProof, ClaimIsAccepted, ClaimIsInfeasible, HasTrail}
@@ -32,12 +32,17 @@ use Rattle.solution_page.specs.CertificateSize.{most_bytes}
 use Rattle.solution_page.proofs.EntryLengths.{entries_length, frames_length, trail_paid}
 use Rattle.solution_page.proofs.WordLengths.{count_length, cycle_length, cite_length, line_length, lines_length}
 
+-- what a try of at most 1,000,000 units may add, with a seek or without
+pub few_added : (b : Bool) (units : ℕ) → units ≤ 1000000 → 2 * units + cond b 0 (2500000 - 2 * units) ≤ 2500000
+few_added true units h = omega (arith, h)
+few_added false units h = omega (arith, h)
+
 -- lines of one word, and of a word and a number
-fixed_length : (t : List ℕ) → length (line_text (fixed t)) ≡ suc (length t)
+pub fixed_length : (t : List ℕ) → length (line_text (fixed t)) ≡ suc (length t)
 unfolding row_text
 fixed_length t = omega (arith, length-append t (10 ∷ []))
 
-keyed_length : (key : List ℕ) (v : ℕ) → length (line_text (keyed key v)) ≡ length key + length (number_text v) + 2
+pub keyed_length : (key : List ℕ) (v : ℕ) → length (line_text (keyed key v)) ≡ length key + length (number_text v) + 2
 unfolding row_text
 keyed_length key v = omega (arith, line_length (keyed key v) key (number_text v ∷ []) refl)
 
@@ -46,7 +51,7 @@ version_length version.One = omega (arith, fixed_length (codes "line balance cer
 version_length version.Two = omega (arith, fixed_length (codes "line balance certificate 2"))
 version_length version.Three = omega (arith, fixed_length (codes "line balance certificate 3"))
 
-kind_length : (kind : LineKind) → length (line_text (kind_row kind)) ≤ 40
+pub kind_length : (kind : LineKind) → length (line_text (kind_row kind)) ≤ 40
 kind_length Straight = omega (arith, fixed_length (codes "line straight"))
 kind_length U = omega (arith, fixed_length (codes "line u"))
 
@@ -81,7 +86,7 @@ seat_length U station Front h =
 seat_length U station Back h =
     omega (arith, line_length (seat U station Back) (number_text station) (codes "b" ∷ []) refl, count_length station h)
 
-seats_length : (kind : LineKind) (stations : ℕ) (ps : List Seatplace) → stations ≤ 1024
+pub seats_length : (kind : LineKind) (stations : ℕ) (ps : List Seatplace) → stations ≤ 1024
     → ((i : ℕ) (p : Seatplace) → slice_get ps i ≡ Some p → IsPlaced kind stations p)
     → length (rows_text (map (seat_row kind) ps)) ≤ 7 * length ps
 seats_length kind stations [] few placed = omega arith
@@ -114,7 +119,7 @@ bounds_length kind n lower upper b es left few are =
     )
 
 -- the head of a trail
-trail_head : (t : Trail) → length t.frames ≤ 1024 → IsCycle t.cycle
+pub trail_head : (t : Trail) → length t.frames ≤ 1024 → IsCycle t.cycle
     → length (line_text (trail (Some (length t.frames, t.cycle)))) ≤ 40
 unfolding row_text
 trail_head t few cycle = omega (
@@ -125,7 +130,7 @@ trail_head t few cycle = omega (
   cycle_length t.cycle cycle,
 )
 
-no_trail : length (line_text (trail None)) ≤ 40
+pub no_trail : length (line_text (trail None)) ≤ 40
 unfolding row_text
 no_trail = omega (arith, line_length (trail None) (codes "trail") (codes "0" ∷ []) refl)
 

@@ -13,11 +13,11 @@ use Rattle.cert_lines.specs.Rows.{Row, row_text, line_text, rows_text, spaced}
 use Rattle.cert_lines.proofs.Digits.{number_small, number_more}
 
 -- the least number that has more than so many digits and one
-abbrev top : ℕ → ℕ
+abbrev pub top : ℕ → ℕ
 top zero = 10
 top (suc d) = 10 * top d
 
-digits_few : (d n : ℕ) → n < top d → length (number_text n) ≤ suc d
+pub digits_few : (d n : ℕ) → n < top d → length (number_text n) ≤ suc d
 digits_few zero n h = omega (arith, ap length (number_small n h))
 digits_few (suc d) n h = elim (cases_lt n 10) [
   | inl s ↦ omega (arith, ap length (number_small n s))

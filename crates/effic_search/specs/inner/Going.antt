@@ -105,7 +105,7 @@ pub record IsTry (kind : LineKind) (line : Line) (least most m X : ℕ) (plan : 
   pub left : IsLeftAt line least most m X h
   pub small : h.listed.units ≤ 4000000
   pub short : h.listed.entries ≤ 4000000
-  pub room : length (entries_of h) ≤ 13999999
+  pub room : length (entries_of h) ≤ 4999999
   pub seeks : AreSeeks plan h.seeks
 
 -- What a search by a plan has taken so far: its seeks are those of the plan, and its entries are no more, and of no more
@@ -114,7 +114,7 @@ pub record IsPaid (plan : Plan) (h : Lowering) : Type 0 where
   pub seeks : AreSeeks plan h.seeks
   pub units : h.listed.units ≤ 4000000 + try_room plan
   pub entries : h.listed.entries ≤ 4000001 + try_room plan
-  pub many : length (entries_of h) ≤ 14000000 + try_room plan
+  pub many : length (entries_of h) ≤ 5000000 + try_room plan
 
 -- a try is due, and the entries are too many, or of too many units
 pub record IsDue (kind : LineKind) (line : Line) (least most : ℕ) (h : Lowering) : Type 0 where
@@ -123,7 +123,7 @@ pub record IsDue (kind : LineKind) (line : Line) (least most : ℕ) (h : Lowerin
   pub X : ℕ
   pub left : IsLeftAt line least most m X h
   pub next : IsNextTry line (entries_of h) least most (product_of h) m X
-  pub large : (4000000 < h.listed.units) ⊎ (4000000 < h.listed.entries) ⊎ (13999999 < length (entries_of h))
+  pub large : (4000000 < h.listed.units) ⊎ (4000000 < h.listed.entries) ⊎ (4999999 < length (entries_of h))
 
 -- The units of a try in m stations at the cycle of the book ended: its frames are a trail from the question, open over
 -- the entries. First stand those before the try, few enough for it, then those of its seek, for which there was room.

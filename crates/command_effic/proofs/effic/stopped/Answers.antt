@@ -1,6 +1,7 @@
 use Rattle.std.proofs.Common.{inr, refl}
 use Rattle.command_effic.specs.EfficText.{stopped_text}
 use Rattle.command_effic.proofs.FoundFacts.{told_behind}
+use Rattle.command_effic.proofs.ProductLengths.{stop_fits}
 use Rattle.command_effic.proofs.effic.stopped.Goals as goal
 
 pub returns : goal.returns
@@ -15,6 +16,7 @@ returns c = λ kind least most closing_from stopped counted.
           why = a.why;
           closing_from = closing_from;
           stopped = stopped;
+          fits = stop_fits a.why kind a.inst.now least most a.plan.now a.cert closing_from stopped;
           seeks = a.seeks;
           counted = counted;
           printed = told_behind (stopped_text a.naming.now a.why a.cert) c.idle_of-idle.ensures c.in_ok-first.ensures
