@@ -1,2 +1,4 @@
 pub mod WrittenFacts
 pub mod BeginningFacts
+pub mod WordLengths
+pub mod SequenceLengths

@@ -1,5 +1,5 @@
 -- What `sequence` comes to, and what it promises.
-use Rattle.std.specs.Prelude.{◌≡◌, ◌⊎◌, ℕ, List, ◌++◌, Option}
+use Rattle.std.specs.Prelude.{◌≡◌, ◌⊎◌, ◌≤◌, ℕ, List, length, ◌++◌, Option}
 use Rattle.combined_graph.specs.Mixes.{MixedLine}
 use Rattle.sequence_rules.specs.Laws.{IsProved}
 use Rattle.sequence_values.specs.declared.types.Times.{Times}
@@ -12,12 +12,14 @@ use Rattle.command_outcome.specs.Outcome.{Files, Outside, Outcome}
 use Rattle.command_outcome.specs.declared.report.Kept.{Kept}
 use Rattle.command_outcome.specs.declared.report.Kept.TheVariants.{Sequence}
 use Rattle.command_outcome.specs.declared.status.Status.{Status}
+use Rattle.mix_files.specs.inputs.InputFile.{max_certificate}
 use Rattle.command_sequence.specs.Beginning.{IsBegun}
 use Rattle.command_sequence.specs.TimedMix.{IsTimed, IsUntimed}
 use Rattle.command_sequence.specs.SequenceText.{optimal_text, stopped_text}
 
 -- The least utility work: the bounds of the certificate meet, the check accepts it, and it proves them. It is printed
--- with the sequence, behind the line about a seek. The search began as `about` says.
+-- with the sequence, behind the line about a seek. The search began as `about` says. The check reads files of this
+-- length.
 pub record IsOptimal (mix : MixedLine) (times : Times) (interval reach units seek : ℕ) (cert : SeqCert)
     (text : List ℕ) : Type 0 where
   pub about : About
@@ -25,10 +27,12 @@ pub record IsOptimal (mix : MixedLine) (times : Times) (interval reach units see
   pub begun : IsBegun times interval reach units seek about said
   pub solved : IsSolved times interval reach about cert
   pub proved : IsProved times interval reach cert
+  pub fits : length (sequence_text cert) ≤ max_certificate
   pub printed : text ≡ said ++ optimal_text mix cert
 
 -- The units were all used behind the kept entries: the bounds of the certificate differ, and it proves them. They are
--- printed with the best sequence, behind the line about a seek. The search began as `about` says.
+-- printed with the best sequence, behind the line about a seek. The search began as `about` says. The check reads files
+-- of this length.
 pub record IsStopped (mix : MixedLine) (times : Times) (interval reach units seek : ℕ) (cert : SeqCert)
     (text : List ℕ) : Type 0 where
   pub about : About
@@ -36,6 +40,7 @@ pub record IsStopped (mix : MixedLine) (times : Times) (interval reach units see
   pub begun : IsBegun times interval reach units seek about said
   pub stopped : HasStopped times interval reach about cert
   pub proved : IsProved times interval reach cert
+  pub fits : length (sequence_text cert) ≤ max_certificate
   pub printed : text ≡ said ++ stopped_text mix cert
 
 -- bounds that differ, are true, and are no worse than those that the search begins with

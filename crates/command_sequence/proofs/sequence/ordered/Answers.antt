@@ -5,6 +5,7 @@ use Rattle.sequence_search.specs.About.{About}
 use Rattle.command_outcome.proofs.FoundFacts.{cut_as}
 use Rattle.command_sequence.specs.Ordered.{least_work}
 use Rattle.command_sequence.specs.declared.beginning.Beginning.{Beginning}
+use Rattle.command_sequence.proofs.SequenceLengths.{text_fits}
 use Rattle.command_sequence.proofs.sequence.ordered.Goals as goal
 
 -- what a search in so many units begins with
@@ -27,6 +28,8 @@ returns-in_ok-text-in-Solved-clause-answer c =
           begun = f.ensures;
           solved = c.in-Solved.ensures;
           proved = proved a.timed.now.times a.interval a.reach cert c.in-Solved.ensures.certified.accepted;
+          fits = text_fits a.timed.now.times a.interval a.reach cert c.in-Solved.ensures.certified.range
+              c.in-Solved.ensures.certified.accepted;
           printed = c.in_ok-text-in-Solved.ensures;
         },
       );
@@ -48,6 +51,8 @@ returns-in_ok-text-in-Stopped-clause-answer c =
           begun = f.ensures;
           stopped = c.in-Stopped.ensures;
           proved = proved a.timed.now.times a.interval a.reach cert c.in-Stopped.ensures.certified.accepted;
+          fits = text_fits a.timed.now.times a.interval a.reach cert c.in-Stopped.ensures.certified.range
+              c.in-Stopped.ensures.certified.accepted;
           printed = c.in_ok-text-in-Stopped.ensures;
         },
       );
