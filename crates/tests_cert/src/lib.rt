@@ -1,5 +1,5 @@
-//! Tests of certificates: their ranges, their lines and texts of all versions, what is read from memory and from a
-//! file, and the fault that each spoilt line has.
+//! Tests of certificates: their ranges, their lines and texts of all versions, what is read from memory, and the fault
+//! that each spoilt line has.
 #![tactic(auto)]
 
 #[cfg(test)]
@@ -10,8 +10,6 @@ mod lines;
 mod pairs;
 #[cfg(test)]
 mod ranges;
-#[cfg(test)]
-mod streams;
 #[cfg(test)]
 mod texts;
 #[cfg(test)]
