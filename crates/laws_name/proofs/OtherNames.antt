@@ -300,7 +300,7 @@ module _ (naming other : Naming) where
         let first : List ℕ = seek_text plan.seek p.seeks.used p.seeks.most p.seeks.kept in
         let idle : ℕ = efficient.idle_of line cert in (
           first ++ effic_text.optimal_text other cert idle,
-          record { solved = p.solved; seeks = p.seeks; counted = p.counted; printed = refl },
+          record { solved = p.solved; fits = p.fits; seeks = p.seeks; counted = p.counted; printed = refl },
           differ_told first (effic_text.optimal_line cert.upper
               ++ effic_text.place_line cert.balance.stations cert.cycle) cert.kind cert.balance idle p.printed,
         )
@@ -317,6 +317,7 @@ module _ (naming other : Naming) where
             why = p.why;
             closing_from = p.closing_from;
             stopped = p.stopped;
+            fits = p.fits;
             seeks = p.seeks;
             counted = p.counted;
             printed = refl;
