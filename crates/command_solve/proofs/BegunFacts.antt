@@ -20,7 +20,7 @@ use Rattle.line_rules.specs.declared.types.Entry.{Entry}
 use Rattle.lemma_core.specs.Machine.{About, State, is_better}
 use Rattle.lemma_core.specs.Books.{BookView, IsReserved, ran}
 use Rattle.lemma_core.specs.declared.types.Event.TheVariants as event
-use Rattle.line_seek.specs.Seeking.{HasSought, RefuteIn}
+use Rattle.line_seek.specs.Seeking.{HasSought, RefuteIn, IsOver}
 use Rattle.warm_book.specs.Warm.{Taking, TakesAll, untaken}
 use Rattle.warm_book.proofs.TakingFacts.{Adds, all_add}
 use Rattle.round_run.specs.Solving.{SolvesFrom}
@@ -240,8 +240,9 @@ pub has_sought : (book : BookView) (line : Line) (limit used : ℕ) (best : Assi
     → best.stations ≤ book.state.best.stations → AreEntries (tasks line) lemmas
     → ((k : ℕ) (e : Entry) → slice_get lemmas k ≡ Some e → e.cycle ≡ book.about.cycle)
     → (units : ℕ) × UnitsOf line lemmas units × (units ≤ used) → length lemmas ≤ used + 1
-    → RefuteIn line book.about.cycle (best.stations - 1) lemmas → HasSought book limit best lemmas used
-has_sought book line limit used best lemmas same within right few ranges cycles units members shown =
+    → RefuteIn line book.about.cycle (best.stations - 1) lemmas
+    → (lemmas ≡ [] → IsOver book limit (best.stations - 1) best used) → HasSought book limit best lemmas used
+has_sought book line limit used best lemmas same within right few ranges cycles units members shown over =
     let U : Line → Type 0 = λ z. UnitsOf z lemmas units.0 in
     let R : Line → Type 0 = λ z. IsRight book.about.kind z book.about.cycle best in
     let E : Line → Type 0 = λ z. AreEntries (tasks z) lemmas in
@@ -259,6 +260,7 @@ has_sought book line limit used best lemmas same within right few ranges cycles 
         few = members;
       };
       shown = subst S (sym same) shown;
+      over = over;
     }
 
 -- the lemmas of a seek are taken in, and its balance is offered

@@ -1,12 +1,13 @@
 -- The seek at a tried cycle: what its lemmas add to a book, and what it adds to the seeks of a search.
-use Rattle.std.proofs.Common.{◌≡◌, ℕ, zero, suc, ◌+◌, ◌-◌, ◌*◌, ◌^◌, ◌≤◌, min, cond, Bool, true, false, List, [], ◌∷◌}
+use Rattle.std.proofs.Common.{◌≡◌, ◌⊎◌, ℕ, zero, suc, ◌+◌, ◌-◌, ◌*◌, ◌^◌, ◌<◌, ◌≤◌, min, cond, Bool, true, false, List, [], ◌∷◌}
 use Rattle.std.proofs.Common.{length, refl, sym, ap, ◌∙◌, subst, inl, inr, arith, Option, Some, None, append-nil}
 use Rattle.std.specs.Prelude.{nat_eq, slice_get}
 use Rattle.std.proofs.Math.Nat.{add-mul}
 use Rattle.std.proofs.lemmas.Bool.{eq-eqb, eqb-true}
 use Rattle.std.proofs.lemmas.Option.{same_Some, slice_get_within}
 use Rattle.line_instance.specs.Line.{Line}
-use Rattle.line_rules.specs.Balance.{IsRight}
+use Rattle.line_rules.specs.Balance.{IsRight, all_tasks}
+use Rattle.line_rules.specs.Entries.{HasAnswer}
 use Rattle.line_rules.specs.declared.types.Balance.{Balance as Assignment}
 use Rattle.line_rules.specs.declared.types.Entry.{Entry}
 use Rattle.line_rules.proofs.ListFacts.{get_behind}
@@ -17,8 +18,9 @@ use Rattle.round_run.specs.declared.plans.Plan.{Plan}
 use Rattle.warm_book.specs.Warm.{Taking, Takes, TakesAll, untaken}
 use Rattle.warm_book.proofs.NumberFacts.{asks_same}
 use Rattle.warm_book.proofs.TakingFacts.{Adds, all_add}
+use Rattle.line_seek.specs.Seeking.{IsKnown, IsOver, RefuteIn}
 use Rattle.line_seek.proofs.about_search.Events.{get_append_cases}
-use Rattle.cycle_search.specs.Seek.{seek_room, try_room, AreSeeks, HasSoughtBook}
+use Rattle.cycle_search.specs.Seek.{seek_room, try_room, AreSeeks, with_seek, Counts, HasSoughtBook}
 use Rattle.cycle_search.specs.declared.seek.Seeks.{Seeks}
 use Rattle.cycle_search.specs.declared.seek.SoughtBook.{SoughtBook}
 
@@ -121,8 +123,8 @@ module _ (m : ℕ) (plan : Plan) (old : BookView) (earlier : Seeks) where
       → ((b : Assignment) → s.found ≡ Some b → IsRight old.about.kind old.about.line old.about.cycle b
       × (b.stations ≤ m)) → (AreSeeks plan earlier → AreSeeks plan s.seeks)
       → (AreSeeks plan earlier → s.seeks.kept ≡ min (earlier.kept + 0) (2 ^ 64 - 1))
-      → HasSoughtBook m plan old earlier s
-  nothing_sought s is reserved paid found seeks kept =
+      → Counts m plan old earlier s [] 0 → HasSoughtBook m plan old earlier s
+  nothing_sought s is reserved paid found seeks kept counts =
       let R : BookView → Type 0 = λ z. IsReserved z in
       record {
         about = ap (λ (z : BookView). z.about) is;
@@ -145,6 +147,7 @@ module _ (m : ℕ) (plan : Plan) (old : BookView) (earlier : Seeks) where
         within = omega (arith, paid);
         found = found;
         seeks = seeks;
+        counts = counts;
         kept = kept;
       }
 
@@ -153,14 +156,16 @@ module _ (m : ℕ) (plan : Plan) (old : BookView) (earlier : Seeks) where
       → IsReserved old → s.paid ≡ 0 → s.found ≡ Some best → IsRight old.about.kind line old.about.cycle best
       → best.stations ≤ m → (AreSeeks plan earlier → AreSeeks plan s.seeks)
       → (AreSeeks plan earlier → s.seeks.kept ≡ min (earlier.kept + 0) (2 ^ 64 - 1))
+      → (listed : ℕ) → listed ≤ plan.seek → s.seeks ≡ with_seek earlier listed plan.seek 0
       → HasSoughtBook m plan old earlier s
-  balance_sought line best s same is reserved paid found right few seeks kept =
+  balance_sought line best s same is reserved paid found right few seeks kept listed within counted =
       nothing_sought s is reserved paid (λ b e.
       let one : best ≡ b = same_Some best b (sym found ∙ e) in
       let L : Line → Type 0 = λ z. IsRight old.about.kind z old.about.cycle best in
       let B : Assignment → Type 0 =
       λ z. IsRight old.about.kind old.about.line old.about.cycle z × (z.stations ≤ m) in
       subst B one (subst L (sym same) right, few)) seeks kept
+      (inr (listed, within, counted, λ none. absurd (let c : None ≡ Some best = sym none ∙ found in cc)))
 
   -- a seek of which lemmas are taken in
   pub lemmas_sought : (lemmas : List Entry) (room : ℕ) (t : Taking) (s : SoughtBook)
@@ -168,8 +173,11 @@ module _ (m : ℕ) (plan : Plan) (old : BookView) (earlier : Seeks) where
       → AreAtCycle old.about.cycle lemmas → length lemmas ≤ plan.seek + 1 → IsReserved s.book → s.found ≡ None
       → (AreSeeks plan earlier → AreSeeks plan s.seeks)
       → (AreSeeks plan earlier → s.seeks.kept ≡ min (earlier.kept + t.kept) (2 ^ 64 - 1))
+      → (listed : ℕ) → listed ≤ plan.seek → s.seeks ≡ with_seek earlier listed plan.seek t.kept
+      → (plan.seek ≤ listed) ⊎ HasAnswer lemmas (all_tasks old.about.line) m old.about.cycle ⊎ IsKnown old m
       → HasSoughtBook m plan old earlier s
-  lemmas_sought lemmas room t s all same_book same_units is_room at short reserved none seeks kept =
+  lemmas_sought lemmas room t s all same_book same_units is_room at short reserved none seeks kept listed within
+      counted why =
       let a : Adds room (untaken old) t = all_add room (untaken old) lemmas t all in
       let X : ℕ = old.about.cycle in
       let es : List Entry = old.state.entries in
@@ -198,8 +206,25 @@ module _ (m : ℕ) (plan : Plan) (old : BookView) (earlier : Seeks) where
         within = omega (arith, same_units, a.spent (omega arith), is_room);
         found = λ b e. absurd (let c : None ≡ Some b = sym none ∙ e in cc);
         seeks = seeks;
+        counts = inr (listed, within, counted, λ _. why);
         kept = kept;
       }
+
+-- what a seek for m stations that found no balance of so many tells of them
+pub unfound : (book : BookView) (line : Line) (limit m used : ℕ) (best : Assignment) (lemmas : List Entry)
+    → book.about.line ≡ line → 1 ≤ m → m < best.stations → RefuteIn line book.about.cycle m lemmas
+    → (lemmas ≡ [] → IsOver book limit m best used)
+    → (limit ≤ used) ⊎ HasAnswer lemmas (all_tasks book.about.line) m book.about.cycle ⊎ IsKnown book m
+unfound book line limit m used best lemmas same some more (inr a) over =
+    let L : Line → Type 0 = λ z. HasAnswer lemmas (all_tasks z) m book.about.cycle in
+    inr (inl (subst L (sym same) a))
+unfound book line limit m used best lemmas same some more (inl empty) over =
+    elim (over empty) [
+      | inl all ↦ inl all
+      | inr (inl few) ↦ absurd (omega (arith, few, more))
+      | inr (inr (inl none)) ↦ absurd (omega (arith, none, some))
+      | inr (inr (inr known)) ↦ inr (inr known)
+    ]
 
 -- no more entries are kept than there is room for
 pub kept_within : (room : ℕ) (old : BookView) (lemmas : List Entry) (t : Taking) (kept : ℕ)

@@ -1,10 +1,12 @@
 -- The seek at a tried cycle: what it may add to a book, what it comes to, and what the seeks of a search come to.
-use Rattle.std.specs.Prelude.{◌≡◌, ℕ, ◌+◌, ◌-◌, ◌*◌, ◌^◌, ◌≤◌, min, cond, nat_eq, List, ◌++◌, length, Some}
-use Rattle.line_rules.specs.Balance.{IsRight}
+use Rattle.std.specs.Prelude.{◌≡◌, ◌⊎◌, ℕ, ◌+◌, ◌-◌, ◌*◌, ◌^◌, ◌≤◌, min, cond, nat_eq, List, ◌++◌, length, Some, None}
+use Rattle.line_rules.specs.Balance.{IsRight, all_tasks}
+use Rattle.line_rules.specs.Entries.{HasAnswer}
 use Rattle.line_rules.specs.Units.{UnitsOf}
 use Rattle.line_rules.specs.declared.types.Balance.{Balance as Assignment}
 use Rattle.line_rules.specs.declared.types.Entry.{Entry}
 use Rattle.lemma_core.specs.Books.{BookView, IsReserved}
+use Rattle.line_seek.specs.Seeking.{IsKnown}
 use Rattle.round_helpers.specs.Growth.{AreAtCycle}
 use Rattle.round_run.specs.declared.plans.Plan.{Plan}
 use Rattle.warm_book.specs.Warm.{Taking, TakesAll, untaken}
@@ -27,6 +29,25 @@ pub record AreSeeks (plan : Plan) (s : Seeks) : Type 0 where
   pub all : s.most ≡ min (begun * plan.seek) (2 ^ 64 - 1)
   pub within : s.used ≤ s.most
   pub kept : s.kept ≤ min (begun * seek_room plan) (2 ^ 64 - 1)
+
+-- the seeks of a search with one more, which listed so many of its loads, and of whose lemmas so many were kept
+abbrev pub with_seek : Seeks → ℕ → ℕ → ℕ → Seeks
+with_seek s used most kept = record {
+  used = min (s.used + used) (2 ^ 64 - 1);
+  most = min (s.most + most) (2 ^ 64 - 1);
+  kept = min (s.kept + kept) (2 ^ 64 - 1);
+}
+
+-- A seek for m stations over a book counts. Either none was begun, since the plan has none, or since it is known without
+-- one that there is no balance in m stations; then nothing was found, and the counts stay. Or the loads that it listed,
+-- those of the plan and the lemmas that were kept are counted; and where it found no balance, all its loads are used,
+-- its lemmas refute m stations, or that is known without them. Own.
+abbrev pub Counts : ℕ → Plan → BookView → Seeks → SoughtBook → List Entry → ℕ → Type 0
+Counts m plan old earlier s lemmas kept =
+    ((s.seeks ≡ earlier) × (s.found ≡ None) × ((plan.seek ≡ 0) ⊎ IsKnown old m))
+    ⊎ ((listed : ℕ) × (listed ≤ plan.seek) × (s.seeks ≡ with_seek earlier listed plan.seek kept)
+    × (s.found ≡ None → (plan.seek ≤ listed) ⊎ HasAnswer lemmas (all_tasks old.about.line) m old.about.cycle
+    ⊎ IsKnown old m))
 
 -- A seek for m stations over a book: the book took in some lemmas at its cycle, at most one more than the loads of the
 -- plan, and so gained entries, no more than there is room for, and of no more units than are told, which the room holds
@@ -54,4 +75,5 @@ pub record HasSoughtBook (m : ℕ) (plan : Plan) (old : BookView) (earlier : See
   pub found : (b : Assignment) → s.found ≡ Some b
       → IsRight old.about.kind old.about.line old.about.cycle b × (b.stations ≤ m)
   pub seeks : AreSeeks plan earlier → AreSeeks plan s.seeks
+  pub counts : Counts m plan old earlier s lemmas taking.kept
   pub kept : AreSeeks plan earlier → s.seeks.kept ≡ min (earlier.kept + taking.kept) (2 ^ 64 - 1)

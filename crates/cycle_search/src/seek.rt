@@ -4,12 +4,13 @@
 //! There is none where the question is answered already: where the bound exceeds the stations, or an entry of the book
 //! or pairs refute them. So a seek is begun only where a search would be. It costs at most the loads of the plan, and
 //! the walks over the lemmas that are taken in.
-ghost use Rattle.std.specs.Prelude.{◌≡◌, ◌≤◌, ◌+◌, ◌-◌, ◌^◌, min, IfOk};
+ghost use Rattle.std.specs.Prelude.{◌≡◌, ◌⊎◌, ◌≤◌, ◌+◌, ◌-◌, ◌^◌, min, true, false, IfOk};
 ghost use Rattle.line_rules.specs.Ranges.{IsCycle};
 ghost use Rattle.lemma_core.specs.Books.{IsReserved};
+ghost use Rattle.line_seek.specs.Seeking.{IsKnown};
 ghost use Rattle.round_run.specs.Plans.{IsPlan};
 ghost use Rattle.round_run.specs.declared.plans.Plan.{Plan as Planned};
-ghost use Rattle.cycle_search.specs.Seek.{AreSeeks, HasSoughtBook, seek_room};
+ghost use Rattle.cycle_search.specs.Seek.{AreSeeks, HasSoughtBook, seek_room, with_seek};
 
 use lemma_core::Book;
 use line_instance::Instance;
@@ -65,6 +66,7 @@ impl Seeks {
         requires within { used ≤ most }
         ensures seeks { (plan : Planned) → plan.seek ≡ most → kept ≤ seek_room plan → AreSeeks plan self
             → AreSeeks plan result }
+        ensures exact { result ≡ with_seek self used most kept }
         ensures kept { result.kept ≡ min (self.kept + kept) (2 ^ 64 - 1) }
     {
         Seeks {
@@ -82,6 +84,26 @@ fn room(plan: &Plan) -> u64
     ensures { result ≡ seek_room plan.now }
 {
     MOST_ADDED.saturating_sub(2 * plan.units)
+}
+
+/// Whether no seek is begun: the plan has none, or it is known without one that there is no balance in so many stations.
+fn is_needless(
+    alloc: Global,
+    inst: &Instance,
+    book: &Book,
+    stations: u32,
+    plan: &Plan,
+) -> Result<bool, AllocError>
+    requires same { book.now.about.line ≡ inst.now }
+    requires cycle { IsCycle book.now.about.cycle }
+    requires few { stations ≤ 1024 }
+    ensures needless { IfOk result (λ r. r ≡ true → (plan.now.seek ≡ 0) ⊎ IsKnown book.now stations) }
+    ensures some { IfOk result (λ r. r ≡ false → 1 ≤ plan.now.seek) }
+{
+    if plan.seek == 0 {
+        return Ok(true);
+    }
+    is_answered(alloc, inst, book, stations, plan.pairs)
 }
 
 /// Seeks a balance in so many stations, 1 to 1,024, at the cycle of a book, where the plan has a seek and the question
@@ -104,7 +126,8 @@ pub fn seek_book<R: Threads + Sync>(
     requires reserved { IsReserved book }
     ensures sought { IfOk result (HasSoughtBook stations plan.now book seeks) }
 {
-    if plan.seek == 0 || is_answered(alloc, inst, &book, stations, plan.pairs)? {
+    let needless = is_needless(alloc, inst, &book, stations, plan)?;
+    if needless {
         return Ok(SoughtBook {
             book,
             found: None,

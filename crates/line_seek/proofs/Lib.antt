@@ -1,3 +1,4 @@
+pub mod AnswerFacts
 pub mod PaidFacts
 pub mod TrimFacts
 pub mod SeekFacts

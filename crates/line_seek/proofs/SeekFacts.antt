@@ -1,7 +1,7 @@
 -- A seek on its way: how it begins, and what each try leaves of it.
-use Rattle.std.proofs.Common.{◌≡◌, ℕ, ◌+◌, ◌≤◌, refl, sym, ap, ◌∙◌, subst, arith, Option, Some, None}
-use Rattle.std.proofs.Common.{inr, Result, Ok, Err}
-use Rattle.std.specs.Prelude.{IfSome, IfOk}
+use Rattle.std.proofs.Common.{◌≡◌, ℕ, ◌+◌, ◌<◌, ◌≤◌, Bool, List, [], refl, sym, ap, ◌∙◌, subst, arith}
+use Rattle.std.proofs.Common.{Option, Some, None, inl, inr, Result, Ok, Err}
+use Rattle.std.specs.Prelude.{IfSome, IfOk, slice_get}
 use Rattle.line_instance.specs.Line.{Line}
 use Rattle.line_rules.specs.Balance.{IsRight, all_tasks}
 use Rattle.line_rules.specs.Entries.{HasAnswer}
@@ -9,6 +9,7 @@ use Rattle.line_rules.specs.Loads.{Belongs}
 use Rattle.line_rules.specs.Ranges.{IsCycle}
 use Rattle.line_rules.specs.declared.types.LineKind.{LineKind}
 use Rattle.line_rules.specs.declared.types.Balance.{Balance as Assignment}
+use Rattle.line_rules.specs.declared.types.Entry.{Entry}
 use Rattle.lemma_core.specs.Machine.{About}
 use Rattle.lemma_core.specs.Books.{BookView}
 use Rattle.station_search.specs.Decide.{IsPairing}
@@ -16,7 +17,7 @@ use Rattle.station_search.specs.pairs.Sharing.{Sharing, IsTableOf}
 use Rattle.line_seek.specs.inner.Tries.{mode_in}
 use Rattle.line_seek.specs.inner.Trying.{Gains, IsPaid, IsTold, may_add}
 use Rattle.line_seek.specs.inner.Aims.{asked_for}
-use Rattle.line_seek.specs.Seeking.{IfDone, IsSeeking, AreSought, HasSoughtFor}
+use Rattle.line_seek.specs.Seeking.{IfDone, IsSeeking, AreSought, IsOver, HasSoughtFor}
 use Rattle.line_seek.specs.declared.aims.Aim.{Aim}
 use Rattle.line_seek.specs.declared.trying.Told.{Told}
 use Rattle.line_seek.specs.declared.trying.Told.TheVariants as told
@@ -43,9 +44,9 @@ seeking_begins a b s cycle right same best paid turn =
       turn = subst M (sym same) turn;
     }
 
--- after a search
+-- after a search, which counts as many loads as it listed, or more
 pub seeking_on : (s t : Seeker) (listed free : ℕ) → IsSeeking 0 s → Gains s.scratch t.scratch listed (listed + free)
-    → t.best ≡ s.best → t.turn ≡ s.turn → t.used ≡ s.used + listed → IsSeeking free t
+    → t.best ≡ s.best → t.turn ≡ s.turn → s.used + listed ≤ t.used → IsSeeking free t
 seeking_on s t listed free k g best turn used =
     let a : t.scratch.about ≡ s.scratch.about = g.goes_on.about in
     let C : About → Type 0 = λ z. IsCycle z.cycle in
@@ -79,27 +80,29 @@ seeking_better s t k same turn used right =
           (subst (λ m. Belongs s.scratch.about.kind m) (sym (ap mode_in turn)) k.turn);
     }
 
--- between two tries of a seek over a book
-pub record IsUnderWay (book : BookView) (limit : ℕ) (s : Seeker) : Type 0 where
+-- between two tries of a seek over a book: so many were made, and each counts as a load at least
+pub record IsUnderWay (book : BookView) (limit tries : ℕ) (s : Seeker) : Type 0 where
+  pub tried : tries ≤ s.used
   pub about : s.scratch.about ≡ book.about
   pub few : s.best.stations ≤ book.state.best.stations
   pub within : s.used ≤ limit
   pub seeking : IsSeeking 0 s
 
-module _ (book : BookView) (limit left : ℕ) (old mid new : Seeker) (at : IsUnderWay book limit old)
-    (about : mid.scratch.about ≡ old.scratch.about) (listed : mid.used ≤ old.used + left)
+module _ (book : BookView) (limit tries left : ℕ) (old mid new : Seeker) (at : IsUnderWay book limit tries old)
+    (about : mid.scratch.about ≡ old.scratch.about) (counted : old.used < mid.used) (listed : mid.used ≤ old.used + left)
     (room : old.used + left ≤ limit) where
   -- a try found a better balance
   pub under_better : (t : Told) (b : Assignment) (most : ℕ) → t ≡ told.Found b → most ≤ old.best.stations
       → IsTold mid.scratch most t → IsSeeking (may_add t) mid
       → new ≡ record { best = b; scratch = mid.scratch; used = mid.used; size = mid.size; turn = mid.turn }
-      → IsUnderWay book limit new
+      → IsUnderWay book limit (tries + 1) new
   under_better t b most is l h k e =
       let T : Told → Type 0 = λ z. IsTold mid.scratch most z in
       let K : Told → Type 0 = λ z. IsSeeking (may_add z) mid in
-      let N : Seeker → Type 0 = λ z. IsUnderWay book limit z in
+      let N : Seeker → Type 0 = λ z. IsUnderWay book limit (tries + 1) z in
       let said = subst T is h in
       subst N (sym e) (record {
+        tried = omega (arith, at.tried, counted);
         about = about ∙ at.about;
         few = omega (arith, said.1, l, at.few);
         within = omega (arith, listed, room);
@@ -108,8 +111,9 @@ module _ (book : BookView) (limit left : ℕ) (old mid new : Seeker) (at : IsUnd
 
   -- a try found nothing out
   pub under_open : mid.best ≡ old.best → IsSeeking 0 new → new.scratch.about ≡ mid.scratch.about
-      → new.best ≡ mid.best → new.used ≡ mid.used → IsUnderWay book limit new
+      → new.best ≡ mid.best → new.used ≡ mid.used → IsUnderWay book limit (tries + 1) new
   under_open best k same kept used = record {
+    tried = omega (arith, at.tried, counted, used);
     about = same ∙ (about ∙ at.about);
     few = omega (arith, ap (λ (z : Assignment). z.stations) (kept ∙ best), at.few);
     within = omega (arith, used, listed, room);
@@ -121,6 +125,24 @@ pub tables : (line : Line) (kind : LineKind) (c : ℕ) (o : Option Sharing) → 
     → IfSome o (IsTableOf line)
 tables line kind c None h = h
 tables line kind c (Some table) h = h.table_of
+
+-- no entry of an empty list answers a question
+no_answer : (es : List Entry) (set : List Bool) (most cycle : ℕ) → es ≡ [] → HasAnswer es set most cycle → ⊥
+no_answer es set most cycle none a =
+    let H : List Entry → Type 0 = λ z. HasAnswer z set most cycle in
+    let h = subst H none a in
+    absurd (let g : slice_get [] h.0 ≡ Some h.1 = h.2.0 in cc)
+
+-- no lemmas are those of any seek
+nothing_sought : (line : Line) (c used : ℕ) → AreSought line c used []
+nothing_sought line c used = record {
+  ranges = λ l. record { many = omega arith; each = λ k e g. absurd (cc) };
+  cycles = λ k e g. absurd (cc);
+  units = 0;
+  counted = refl;
+  paid = omega arith;
+  few = omega arith;
+}
 
 -- the end of a seek whose search refuted what a try for its best balance asks for
 pub refuted_sought : {E : Type 0} (aim : Aim) (book : BookView) (line : Line) (limit most free : ℕ) (s : Seeker)
@@ -151,4 +173,28 @@ refuted_sought aim book line limit most free s (Ok (sought.Done best lemmas used
       sought = subst L (sym l) (subst S c lem);
       shown = inr (subst M (sym l) (subst N (m ∙ ap (λ (b : Assignment). asked_for aim b.stations) (sym same.0))
           (subst H c ans)));
+      over = λ none. absurd (no_answer lemmas (all_tasks line) most s.scratch.about.cycle none ans);
+    }
+
+-- the end of a seek without lemmas
+pub ended_sought : (aim : Aim) (book : BookView) (limit : ℕ) (s : Seeker) (r : Sought)
+    → IfDone r (λ best lemmas used. (best ≡ s.best) × (used ≡ s.used) × (lemmas ≡ []))
+    → s.scratch.about ≡ book.about → s.best.stations ≤ book.state.best.stations → s.used ≤ limit → IsSeeking 0 s
+    → IsOver book limit (asked_for aim s.best.stations) s.best s.used
+    → IfDone r (HasSoughtFor aim book limit)
+ended_sought aim book limit s sought.NoMemory same a f w k over = tt
+ended_sought aim book limit s (sought.Done best lemmas used) same a f w k over =
+    let none : lemmas ≡ [] = same.2 in
+    let R : About → Type 0 = λ z. IsRight z.kind z.line z.cycle best in
+    let B : Assignment → Type 0 = λ b. IsRight s.scratch.about.kind s.scratch.about.line s.scratch.about.cycle b in
+    let F : Assignment → Type 0 = λ b. b.stations ≤ book.state.best.stations in
+    let S : List Entry → Type 0 = λ z. AreSought book.about.line book.about.cycle used z in
+    let O : Assignment → ℕ → Type 0 = λ b u. IsOver book limit (asked_for aim b.stations) b u in
+    record {
+      within = omega (arith, same.1, w);
+      right = subst R a (subst B (sym same.0) k.right);
+      few = subst F (sym same.0) f;
+      sought = subst S (sym none) (nothing_sought book.about.line book.about.cycle used);
+      shown = inl none;
+      over = λ _. subst (λ b. O b used) (sym same.0) (subst (λ u. O s.best u) (sym same.1) over);
     }

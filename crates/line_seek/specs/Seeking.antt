@@ -1,9 +1,12 @@
 -- What a seek keeps on its way, and what it comes to.
-use Rattle.std.specs.Prelude.{◌≡◌, ◌⊎◌, ℕ, ◌+◌, ◌<◌, ◌≤◌, List, [], length}
+use Rattle.std.specs.Prelude.{◌≡◌, ◌⊎◌, ℕ, ◌+◌, ◌<◌, ◌≤◌, Bool, List, [], length}
 use Rattle.line_instance.specs.Line.{Line, tasks}
+use Rattle.line_instance.specs.Truths.{IsSubset}
 use Rattle.line_rules.specs.Balance.{IsRight, all_tasks}
+use Rattle.line_rules.specs.Bounds.{bound}
 use Rattle.line_rules.specs.Entries.{HasAnswer}
 use Rattle.line_rules.specs.Loads.{Belongs}
+use Rattle.line_rules.specs.Pairs.{IsRefutedByPairs}
 use Rattle.line_rules.specs.Ranges.{AreEntries, IsCycle}
 use Rattle.line_rules.specs.Units.{UnitsOf}
 use Rattle.line_rules.specs.declared.types.Balance.{Balance as Assignment}
@@ -46,8 +49,27 @@ pub record AreSought (line : Line) (c used : ℕ) (lemmas : List Entry) : Type 0
 abbrev pub RefuteIn : Line → ℕ → ℕ → List Entry → Type 0
 RefuteIn line c most lemmas = (lemmas ≡ []) ⊎ HasAnswer lemmas (all_tasks line) most c
 
+-- an entry of the book, or pairs of its line, refute that all tasks have a balance in so many stations
+abbrev pub IsRefuted : BookView → ℕ → Type 0
+IsRefuted book most =
+    HasAnswer book.state.entries (all_tasks book.about.line) most book.about.cycle
+    ⊎ ((hull : List Bool) × (two : List Bool) × IsSubset hull (all_tasks book.about.line)
+    × IsRefutedByPairs book.about.kind book.about.line book.about.cycle hull most two)
+
+-- it is known without a search that all tasks have no balance in so many stations: the bound of all tasks exceeds them,
+-- or an entry of the book or pairs refute them
+abbrev pub IsKnown : BookView → ℕ → Type 0
+IsKnown book most =
+    (most < bound book.about.kind book.about.line book.about.cycle (all_tasks book.about.line)) ⊎ IsRefuted book most
+
+-- Why a seek with a limit on its loads ends without lemmas: all loads are used; its balance has no more stations than
+-- are asked for; none are asked for; or it is known that all tasks have no balance in so many.
+abbrev pub IsOver : BookView → ℕ → ℕ → Assignment → ℕ → Type 0
+IsOver book limit asked best used =
+    (limit ≤ used) ⊎ (best.stations ≤ asked) ⊎ (asked ≡ 0) ⊎ IsKnown book asked
+
 -- What a seek with an aim over a book comes to, with a limit on its loads. Lemmas refute as many stations as a try for
--- the best balance asks for.
+-- the best balance asks for; and there are some, unless nothing is left to seek or all loads are used.
 pub record HasSoughtFor (aim : Aim) (book : BookView) (limit : ℕ) (best : Assignment) (lemmas : List Entry)
     (used : ℕ) : Type 0 where
   pub within : used ≤ limit
@@ -55,6 +77,7 @@ pub record HasSoughtFor (aim : Aim) (book : BookView) (limit : ℕ) (best : Assi
   pub few : best.stations ≤ book.state.best.stations
   pub sought : AreSought book.about.line book.about.cycle used lemmas
   pub shown : RefuteIn book.about.line book.about.cycle (asked_for aim best.stations) lemmas
+  pub over : lemmas ≡ [] → IsOver book limit (asked_for aim best.stations) best used
 
 -- what a seek for a balance in fewer stations comes to
 abbrev pub HasSought : BookView → ℕ → Assignment → List Entry → ℕ → Type 0

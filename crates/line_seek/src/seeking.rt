@@ -1,8 +1,8 @@
 //! A seek, from try to try.
 //!
-//! What it keeps is the best balance, the scratch book of its searches, and how many loads were listed. Each try lists
-//! a load at least, so there are no more tries than loads. `seek` and `seek_for` differ in their aim alone.
-ghost use Rattle.std.specs.Prelude.{◌≡◌, ℕ, ◌+◌, ◌-◌, ◌^◌, ◌<◌, ◌≤◌, length, [], false, IfOk, OnOk, IfSome};
+//! What it keeps is the best balance, the scratch book of its searches, and how many loads were listed. Each try counts
+//! as a load at least, so there are no more tries than loads. `seek` and `seek_for` differ in their aim alone.
+ghost use Rattle.std.specs.Prelude.{◌≡◌, ℕ, ◌+◌, ◌-◌, ◌^◌, ◌<◌, ◌≤◌, max, length, [], true, false, IfOk, OnOk, IfSome};
 ghost use Rattle.line_instance.specs.Line.{tasks};
 ghost use Rattle.line_rules.specs.Balance.{IsRight, all_tasks};
 ghost use Rattle.line_rules.specs.Bounds.{bound};
@@ -12,12 +12,12 @@ ghost use Rattle.line_rules.specs.Units.{UnitsOf};
 ghost use Rattle.round_helpers.specs.Growth.{AreAtCycle};
 ghost use Rattle.station_search.specs.Decide.{IsPairing};
 ghost use Rattle.line_seek.specs.inner.Trying.{IsTold, may_add};
-ghost use Rattle.line_seek.specs.Seeking.{IfDone, IsSeeking, AreSought, RefuteIn, HasSoughtFor};
+ghost use Rattle.line_seek.specs.Seeking.{IfDone, IsSeeking, AreSought, RefuteIn, IsOver, HasSoughtFor};
 
 use crate::aims::Aim;
 use crate::answering::is_refuted;
 use crate::tries::Try;
-use crate::trying::{Told, try_beam, try_search};
+use crate::trying::{Told, Tried, try_beam, try_search};
 use entry_lists::trim;
 use lemma_core::Book;
 use line_instance::Instance;
@@ -104,20 +104,33 @@ impl Seeker {
         lower: u32,
         limit: u64,
     ) -> bool
+        requires same { book.now.about.line ≡ inst.now }
         requires few { self.now.best.stations ≤ 1024 }
+        requires lower { let about = book.now.about in
+            lower ≡ bound about.kind about.line about.cycle (all_tasks about.line) }
         requires pairs { IfSome pairs.old (IsPairing inst.now book.now.about.kind book.now.about.cycle) }
         ensures pairs { pairs.new ≡ pairs.old }
+        ensures over { result ≡ true → IsOver book.now limit most self.now.best self.now.used }
         ensures left { result ≡ false → self.now.used < limit }
         ensures above { result ≡ false → lower ≤ most }
         ensures fewer { result ≡ false → most < self.now.best.stations }
     {
-        if most < lower.max(1) || most >= self.best.stations || self.used >= limit {
+        if self.used >= limit {
+            return true;
+        }
+        if most >= self.best.stations {
+            return true;
+        }
+        if most == 0 {
+            return true;
+        }
+        if most < lower {
             return true;
         }
         is_refuted(inst, book, pairs, most)
     }
 
-    /// Makes the next try, for a balance in `most` stations, with at most so many loads.
+    /// Makes the next try, for a balance in `most` stations, with at most so many loads. It counts as a load at least.
     fn make_try(
         &mut self,
         alloc: Global,
@@ -125,10 +138,11 @@ impl Seeker {
         pairs: &mut Option<PairTable>,
         most: u32,
         left: u64,
-    ) -> Result<Told, AllocError>
+    ) -> Result<Tried, AllocError>
         requires same { self.old.scratch.about.line ≡ inst.now }
         requires seeking { IsSeeking 0 self.old }
         requires few { most ≤ 1024 }
+        requires some { 1 ≤ left }
         requires room { self.old.used + left < 2 ^ 64 }
         requires bounded { let about = self.old.scratch.about in
             bound about.kind inst.now about.cycle (all_tasks inst.now) ≤ most }
@@ -137,8 +151,9 @@ impl Seeker {
         ensures pairs { pairs.new ≡ pairs.old }
         ensures about { OnOk result (self.new.scratch.about ≡ self.old.scratch.about) }
         ensures best { OnOk result (self.new.best ≡ self.old.best) }
-        ensures told { IfOk result (IsTold self.new.scratch most) }
-        ensures seeking { IfOk result (λ t. IsSeeking (may_add t) self.new) }
+        ensures told { IfOk result (λ t. IsTold self.new.scratch most t.told) }
+        ensures seeking { IfOk result (λ t. IsSeeking (may_add t.told) self.new) }
+        ensures used { IfOk result (λ t. self.new.used ≡ self.old.used + max t.listed 1) }
         ensures within { OnOk result (self.new.used ≤ self.old.used + left) }
     {
         let purse = self.size.min(left);
@@ -154,13 +169,13 @@ impl Seeker {
                     self.size,
                     purse,
                 )?;
-                self.used += beamed.listed;
-                Ok(beamed.told)
+                self.used += beamed.listed.max(1);
+                Ok(beamed)
             }
             Try::Search(mode) => {
                 let tried = try_search(alloc, inst, &mut self.scratch, pairs, mode, most, purse)?;
-                self.used += tried.listed;
-                Ok(tried.told)
+                self.used += tried.listed.max(1);
+                Ok(tried)
             }
         }
     }
@@ -238,13 +253,14 @@ fn go_through(
     let mut seeker = Seeker::begin(alloc, inst, book)?;
     let mut pairs = table_for(alloc, inst, book.kind(), book.cycle(), pairs)?;
     let lower = bound(inst, book.kind(), book.cycle(), &inst.all());
-    for _ in 0..limit {
+    for tries in 0..limit {
         let most = aim.asked_for(seeker.best.stations);
         if seeker.is_over(inst, book, &mut pairs, most, lower, limit) {
             return Ok(seeker.ended(alloc));
         }
         let left = limit - seeker.used;
-        match seeker.make_try(alloc, inst, &mut pairs, most, left)? {
+        let Tried { told, .. } = seeker.make_try(alloc, inst, &mut pairs, most, left)?;
+        match told {
             Told::Found(balance) => seeker.best = balance,
             Told::Refuted => return seeker.refuted(alloc, inst, most),
             Told::Open => seeker.go_on(),
@@ -276,6 +292,8 @@ pub fn seek(alloc: Global, inst: &Instance, book: &Book, limit: u64, pairs: bool
     ensures members { IfDone result (λ best lemmas used. length lemmas ≤ used + 1) }
     ensures shown { IfDone result (λ best lemmas used.
         RefuteIn inst.now book.now.about.cycle (best.stations - 1) lemmas) }
+    ensures over { IfDone result (λ best lemmas used.
+        lemmas ≡ [] → IsOver book.now limit (best.stations - 1) best used) }
 {
     match go_through(alloc, inst, book, Aim::Fewer, limit, pairs) {
         Ok(sought) => sought,
@@ -312,6 +330,7 @@ pub fn seek_for(
     ensures units { IfDone result (λ best lemmas used. (units : ℕ) × UnitsOf inst.now lemmas units × (units ≤ used)) }
     ensures members { IfDone result (λ best lemmas used. length lemmas ≤ used + 1) }
     ensures shown { IfDone result (λ best lemmas used. RefuteIn inst.now book.now.about.cycle most lemmas) }
+    ensures over { IfDone result (λ best lemmas used. lemmas ≡ [] → IsOver book.now limit most best used) }
 {
     match go_through(alloc, inst, book, Aim::AtMost(most), limit, pairs) {
         Ok(sought) => sought,

@@ -3,6 +3,7 @@ use Rattle.std.proofs.Common.{◌≡◌, ℕ, ◌+◌, ◌-◌, ◌≤◌, Bool,
 use Rattle.std.proofs.Common.{◌∙◌, subst, inl, inr, arith, Option}
 use Rattle.std.proofs.lemmas.List.{append_cancel_left}
 use Rattle.line_instance.specs.Line.{Line}
+use Rattle.line_rules.specs.Accepted.{HasBalance}
 use Rattle.line_rules.specs.Entries.{HasAnswer}
 use Rattle.line_rules.specs.Units.{UnitsOf}
 use Rattle.line_rules.specs.declared.types.LineKind.{LineKind}
@@ -10,16 +11,18 @@ use Rattle.line_rules.specs.declared.types.Mode.{Mode}
 use Rattle.line_rules.specs.declared.types.Entry.{Entry}
 use Rattle.line_rules.specs.declared.types.OpenFrame.{OpenFrame}
 use Rattle.lemma_core.specs.History.{Item, Standing, replay}
-use Rattle.lemma_core.specs.Desks.{DeskView, entries, Keeps, Waits}
+use Rattle.lemma_core.specs.Machine.{About}
+use Rattle.lemma_core.specs.Desks.{DeskView, entries, Keeps, Waits, Tells}
 use Rattle.lemma_core.specs.Own.{AreAt, Did, added_of}
 use Rattle.lemma_core.proofs.HistoryGrows.{stations_go_on}
 use Rattle.lemma_core.proofs.OwnFacts.{did_none, did_both, did_waits, entries_more}
 use Rattle.station_search.specs.Costs.{HasPublished, AddsFew}
+use Rattle.station_search.specs.Decide.{IsFor}
 use Rattle.station_search.specs.Beside.{FewBeside, most_added}
 use Rattle.station_search.specs.declared.beside.DecidedBeside.{DecidedBeside}
 use Rattle.station_search.proofs.Events.{added_both}
 use Rattle.round_helpers.specs.Growth.{AreAtCycle}
-use Rattle.round_helpers.specs.inner.Works.{Works, IsEnd, fewest_seen}
+use Rattle.round_helpers.specs.inner.Works.{Works, HasFew, IsEnd, fewest_seen}
 use Rattle.round_helpers.specs.declared.question_work.Question.{Question}
 use Rattle.round_helpers.specs.declared.question_work.End.{End}
 use Rattle.round_helpers.specs.declared.question_work.End.TheVariants as ends
@@ -193,3 +196,14 @@ end_on old new line question left ends.Answered k (inr f) = inr (omega (arith, f
 end_on old new line question left ends.Told k e = e
 end_on old new line question left ends.Spent k e = e
 end_on old new line question left ends.NoMemory k e = e
+
+-- what a desk for a question tells of the fewest stations of a balance
+pub told_few : (old mid new : DeskView) (line : Line) (question : Question) (n : ℕ)
+    → IsFor old line question.kind question.cycle → Keeps old mid → Tells mid new n → n ≤ question.most
+    → HasFew line question
+told_few old mid new line question n f k t l =
+    let A : About → Type 0 = λ z. HasBalance z.kind z.line z.cycle n in
+    let L : Line → Type 0 = λ z. HasBalance old.about.kind z old.about.cycle n in
+    let K : LineKind → Type 0 = λ z. HasBalance z line old.about.cycle n in
+    let C : ℕ → Type 0 = λ z. HasBalance question.kind line z n in
+    (n, subst C f.same_cycle (subst K f.same_kind (subst L f.same_line (subst A k.about t.balance))), l)

@@ -1,6 +1,7 @@
 -- What is done on a desk for a question, and what it answers. Own.
 use Rattle.std.specs.Prelude.{◌≡◌, ◌⊎◌, ℕ, ◌≤◌, Bool, List, length, Option, Some, None}
 use Rattle.line_instance.specs.Line.{Line}
+use Rattle.line_rules.specs.Accepted.{HasBalance}
 use Rattle.line_rules.specs.Balance.{all_tasks}
 use Rattle.line_rules.specs.Bounds.{bound}
 use Rattle.line_rules.specs.Entries.{HasAnswer}
@@ -38,11 +39,15 @@ IsSettled desk line question R most None =
 IsSettled desk line question R most (Some loads) =
     (length loads ≤ most) × AreSeated question.kind line question.cycle R loads
 
+-- all tasks have a balance in at most as many stations as the question has
+abbrev pub HasFew : Line → Question → Type 0
+HasFew line question = (n : ℕ) × HasBalance question.kind line question.cycle n × (n ≤ question.most)
+
 -- How the work of a helper on a question ends: an entry seen refutes the question, or a balance of it was seen; it was
--- told of such a balance; no unit is left; or memory ended.
+-- told of such a balance, and there is one; no unit is left; or memory ended.
 abbrev pub IsEnd : DeskView → Line → Question → ℕ → End → Type 0
 IsEnd desk line question left ends.Answered =
     HasAnswer (entries desk) (all_tasks line) question.most question.cycle ⊎ (fewest_seen desk ≤ question.most)
-IsEnd desk line question left ends.Told = Unit {0}
+IsEnd desk line question left ends.Told = HasFew line question
 IsEnd desk line question left ends.Spent = left ≡ 0
 IsEnd desk line question left ends.NoMemory = Unit {0}
