@@ -1,1 +1,2 @@
 pub mod StateFacts
+pub mod WalkFacts

@@ -3,6 +3,9 @@
 //! The numbers of all states stand one behind the other, so that no state takes memory of its own. A map has the last
 //! state of each key, which is made of what is left, and a list leads from each state to the one of its key before it.
 //! So whether a state stands for another is looked for among those of one key alone.
+ghost use Rattle.std.specs.Prelude.{◌≡◌};
+ghost use Rattle.sequence_walk.specs.Rows.{row_at};
+
 use sequence_rules::{is_no_later, is_same};
 use std::alloc::{AllocError, Global};
 use std::collections::HashMap;
@@ -52,8 +55,10 @@ pub struct Layer {
     steps: Vec<Step>,
 }
 
-/// The numbers of place `k`, of so many each; none where there are none.
-fn row(all: &[u64], width: usize, k: usize) -> &[u64] {
+/// The numbers of place `k`, of so many each; none where there aren't so many.
+fn row(all: &[u64], width: usize, k: usize) -> &[u64]
+    ensures { result.now ≡ row_at all.now width k }
+{
     let from = k.saturating_mul(width);
     let to = from.saturating_add(width);
     if to > all.len() {
@@ -63,6 +68,8 @@ fn row(all: &[u64], width: usize, k: usize) -> &[u64] {
 }
 
 impl Layer {
+    ghost use Rattle.sequence_walk.specs.Walks.{states_of, rem_at, starts_at};
+
     /// No state, of so many models and stations.
     pub fn new(alloc: Global, models: usize, stations: usize) -> Layer {
         Layer {
@@ -75,17 +82,23 @@ impl Layer {
     }
 
     /// How many states there are.
-    pub fn len(&self) -> usize {
+    pub fn len(&self) -> usize
+        ensures { result ≡ states_of self.now }
+    {
         self.steps.len()
     }
 
-    /// What is left of each model, of the state at place `k`.
-    pub fn rem(&self, k: usize) -> &[u64] {
+    /// What is left of each model, of the state at place `k`; nothing where there is none.
+    pub fn rem(&self, k: usize) -> &[u64]
+        ensures { result.now ≡ rem_at self.now k }
+    {
         row(self.rems.as_slice(), self.models, k)
     }
 
-    /// Where the next unit is begun at each station, of the state at place `k`.
-    pub fn starts(&self, k: usize) -> &[u64] {
+    /// Where the next unit is begun at each station, of the state at place `k`; nothing where there is none.
+    pub fn starts(&self, k: usize) -> &[u64]
+        ensures { result.now ≡ starts_at self.now k }
+    {
         row(self.starts.as_slice(), self.stations, k)
     }
 

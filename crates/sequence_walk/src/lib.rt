@@ -6,7 +6,10 @@
 //! the table tells of them.
 //!
 //! Nothing that these parts find has to be believed: a sequence is counted again, and a lemma is tested. So the clauses
-//! say that states are in their ranges where a rule is asked, and that a walk takes no more units than it is given.
+//! say of what is found only that numbers are in their ranges. They are exact about states and about units. What is
+//! taken for a state is one, and what isn't taken for one is none. A walk pays one unit for each step of each state of
+//! its layers but the last, neither more nor less, and has one layer more than units are wanted. It is given up only
+//! when no unit is left, or for want of memory.
 #![tactic(auto)]
 
 mod layers;

@@ -82,6 +82,8 @@ pub fn make_pass(alloc: Global, table: &Table, charges: &Charges) -> Result<Pass
 }
 
 impl Pass {
+    ghost use Rattle.sequence_walk.specs.Walks.{units_of};
+
     /// How many nodes there were.
     pub fn nodes(&self) -> u32 {
         self.told.nodes()
@@ -89,7 +91,8 @@ impl Pass {
 
     /// How many units are wanted.
     pub fn units(&self) -> usize
-        ensures { result < 4294967296 }
+        ensures units { result ≡ units_of self.now }
+        ensures few { result < 4294967296 }
     {
         self.told.left() as usize
     }

@@ -1,9 +1,10 @@
 //! A walk over states, layer by layer: a beam search that is told by a table (own).
 //!
-//! Each step of a state costs a unit. What a step leads to is dropped where its cost so far, and what it still costs at
-//! least, come to the best total. Of the others few are kept, the most promising first, and none for which another one
-//! stands. A walk that dropped nothing else has seen all that could be better.
-ghost use Rattle.std.specs.Prelude.{◌≤◌};
+//! Each step of a state costs a unit, and nothing else does. What a step leads to is dropped where its cost so far, and
+//! what it still costs at least, come to the best total. Of the others few are kept, the most promising first, and none
+//! for which another one stands. A walk that dropped nothing else has seen all that could be better.
+ghost use Rattle.std.specs.Prelude.{◌≡◌, ◌+◌, ◌-◌, ◌≤◌, IfOk, IfSome, IsTrue, IsFalse, MatchOption, vec_len};
+ghost use Rattle.sequence_walk.specs.Walks.{units_of, HasSteps, LayerHasSteps, WalkHasSteps};
 
 use crate::layers::{Indexed, Layer, Step};
 use crate::passes::Pass;
@@ -80,7 +81,8 @@ impl Candidates {
         Ok(())
     }
 
-    /// Takes the steps of the state at place `from` of a layer, a unit each. Whether the units sufficed.
+    /// Takes the steps of the state at place `from` of a layer, for a unit each; none of what isn't a state. Whether
+    /// the units sufficed: if they did, just the steps were paid, and else no unit is left.
     fn push_steps(
         &mut self,
         table: &Table,
@@ -89,7 +91,10 @@ impl Candidates {
         from: usize,
         units: &mut u64,
     ) -> Result<bool, AllocError>
-        ensures { units.new ≤ units.old }
+        ensures steps { IfOk result (λ all. IsTrue all
+            → HasSteps table.now.times layer.now from (units.old - units.new)) }
+        ensures ended { IfOk result (λ all. IsFalse all → units.new ≡ 0) }
+        ensures fewer { units.new ≤ units.old }
     {
         let rem = layer.rem(from);
         let starts = layer.starts(from);
@@ -142,7 +147,7 @@ impl Candidates {
     }
 }
 
-/// Takes all steps of a layer. None where the units ended.
+/// Takes all steps of all states of a layer, for a unit each. None where the units ended: then no unit is left.
 fn next_layer(
     table: &Table,
     pass: &Pass,
@@ -150,7 +155,9 @@ fn next_layer(
     mut candidates: Candidates,
     units: &mut u64,
 ) -> Result<Option<Candidates>, AllocError>
-    ensures { units.new ≤ units.old }
+    ensures steps { IfOk result (λ taken. MatchOption taken (units.new ≡ 0)
+        (λ _. LayerHasSteps table.now.times layer.now (units.old - units.new))) }
+    ensures fewer { units.new ≤ units.old }
 {
     for from in 0..layer.len() {
         if !candidates.push_steps(table, pass, layer, from, units)? {
@@ -160,8 +167,9 @@ fn next_layer(
     Ok(Some(candidates))
 }
 
-/// Walks from the root, with so many states a layer at most, in search of a total below the best one. Takes a unit a
-/// step from `units`; none where they ended.
+/// Walks from the root, with so many states a layer at most, in search of a total below the best one. Takes from
+/// `units` just one for each step of each state of the layers that it found, but for the last layer, whose steps it
+/// doesn't take. It finds one layer more than units are wanted. None where the units ended: then no unit is left.
 pub fn walk_from_root(
     alloc: Global,
     table: &Table,
@@ -170,7 +178,11 @@ pub fn walk_from_root(
     width: usize,
     units: &mut u64,
 ) -> Result<Option<Walk>, AllocError>
-    ensures { units.new ≤ units.old }
+    ensures steps { IfOk result (λ found. MatchOption found (units.new ≡ 0)
+        (λ walk. WalkHasSteps table.now.times walk.layers.items (units.old - units.new))) }
+    ensures layers { IfOk result (λ found. IfSome found
+        (λ walk. vec_len walk.layers ≡ units_of pass.now + 1)) }
+    ensures fewer { units.new ≤ units.old }
 {
     let mut layers = Vec::new(alloc);
     let mut whole = true;

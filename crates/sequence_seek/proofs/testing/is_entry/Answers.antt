@@ -15,7 +15,7 @@ returns c =
     c.args.entry.now.rem xs in
     λ e charges. record {
       state = subst S c.as_slice.ensures (subst R c.as_slice-rem.ensures
-          (subst M many (c.is_state_of.ensures c.if-not-is_state_of.false)));
+          (subst M many (c.is_state_of.ensures.0 c.if-not-is_state_of.false)));
       least = omega (arith, c.if-entry-gt-MOST.false);
       why = c.are_cites.ensures e charges;
     }
