@@ -9,6 +9,7 @@ use Rattle.std.proofs.lemmas.List.{append-nil}
 use Rattle.std.specs.Prelude.{slice_get}
 use Rattle.line_instance.specs.Line.{Line, tasks}
 use Rattle.line_rules.specs.Balance.{IsRight}
+use Rattle.line_rules.specs.Entries.{IsDerived}
 use Rattle.line_rules.specs.Ranges.{IsClaim, AreEntries}
 use Rattle.line_rules.specs.Units.{UnitsOf}
 use Rattle.line_rules.specs.declared.types.LineKind.{LineKind}
@@ -240,9 +241,9 @@ pub has_sought : (book : BookView) (line : Line) (limit used : ℕ) (best : Assi
     → best.stations ≤ book.state.best.stations → AreEntries (tasks line) lemmas
     → ((k : ℕ) (e : Entry) → slice_get lemmas k ≡ Some e → e.cycle ≡ book.about.cycle)
     → (units : ℕ) × UnitsOf line lemmas units × (units ≤ used) → length lemmas ≤ used + 1
-    → RefuteIn line book.about.cycle (best.stations - 1) lemmas
+    → IsDerived book.about.kind book.about.line lemmas → RefuteIn line book.about.cycle (best.stations - 1) lemmas
     → (lemmas ≡ [] → IsOver book limit (best.stations - 1) best used) → HasSought book limit best lemmas used
-has_sought book line limit used best lemmas same within right few ranges cycles units members shown over =
+has_sought book line limit used best lemmas same within right few ranges cycles units members derived shown over =
     let U : Line → Type 0 = λ z. UnitsOf z lemmas units.0 in
     let R : Line → Type 0 = λ z. IsRight book.about.kind z book.about.cycle best in
     let E : Line → Type 0 = λ z. AreEntries (tasks z) lemmas in
@@ -259,6 +260,7 @@ has_sought book line limit used best lemmas same within right few ranges cycles 
         paid = units.2;
         few = members;
       };
+      derived = derived;
       shown = subst S (sym same) shown;
       over = over;
     }

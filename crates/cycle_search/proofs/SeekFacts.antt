@@ -7,7 +7,7 @@ use Rattle.std.proofs.lemmas.Bool.{eq-eqb, eqb-true}
 use Rattle.std.proofs.lemmas.Option.{same_Some, slice_get_within}
 use Rattle.line_instance.specs.Line.{Line}
 use Rattle.line_rules.specs.Balance.{IsRight, all_tasks}
-use Rattle.line_rules.specs.Entries.{HasAnswer}
+use Rattle.line_rules.specs.Entries.{HasAnswer, IsDerived}
 use Rattle.line_rules.specs.declared.types.Balance.{Balance as Assignment}
 use Rattle.line_rules.specs.declared.types.Entry.{Entry}
 use Rattle.line_rules.proofs.ListFacts.{get_behind}
@@ -136,6 +136,7 @@ module _ (m : ℕ) (plan : Plan) (old : BookView) (earlier : Seeks) where
         few = omega arith;
         lemmas = [];
         lemmas_at = λ k e g. absurd (cc);
+        lemmas_derived = λ k e g. absurd (cc);
         lemmas_few = omega arith;
         taking = untaken old;
         taken = refl;
@@ -170,13 +171,14 @@ module _ (m : ℕ) (plan : Plan) (old : BookView) (earlier : Seeks) where
   -- a seek of which lemmas are taken in
   pub lemmas_sought : (lemmas : List Entry) (room : ℕ) (t : Taking) (s : SoughtBook)
       → TakesAll room (untaken old) lemmas t → t.book ≡ s.book → t.units ≡ s.paid → room ≡ seek_room plan
-      → AreAtCycle old.about.cycle lemmas → length lemmas ≤ plan.seek + 1 → IsReserved s.book → s.found ≡ None
+      → AreAtCycle old.about.cycle lemmas → IsDerived old.about.kind old.about.line lemmas
+      → length lemmas ≤ plan.seek + 1 → IsReserved s.book → s.found ≡ None
       → (AreSeeks plan earlier → AreSeeks plan s.seeks)
       → (AreSeeks plan earlier → s.seeks.kept ≡ min (earlier.kept + t.kept) (2 ^ 64 - 1))
       → (listed : ℕ) → listed ≤ plan.seek → s.seeks ≡ with_seek earlier listed plan.seek t.kept
       → (plan.seek ≤ listed) ⊎ HasAnswer lemmas (all_tasks old.about.line) m old.about.cycle ⊎ IsKnown old m
       → HasSoughtBook m plan old earlier s
-  lemmas_sought lemmas room t s all same_book same_units is_room at short reserved none seeks kept listed within
+  lemmas_sought lemmas room t s all same_book same_units is_room at derived short reserved none seeks kept listed within
       counted why =
       let a : Adds room (untaken old) t = all_add room (untaken old) lemmas t all in
       let X : ℕ = old.about.cycle in
@@ -195,6 +197,7 @@ module _ (m : ℕ) (plan : Plan) (old : BookView) (earlier : Seeks) where
         few = omega (arith, a.few, a.within (omega arith), is_room);
         lemmas = lemmas;
         lemmas_at = at;
+        lemmas_derived = derived;
         lemmas_few = short;
         taking = t;
         taken = (let T : ℕ → Type 0 = λ z. TakesAll z (untaken old) lemmas t in subst T is_room all);

@@ -1,7 +1,7 @@
 -- The seek at a tried cycle: what it may add to a book, what it comes to, and what the seeks of a search come to.
 use Rattle.std.specs.Prelude.{◌≡◌, ◌⊎◌, ℕ, ◌+◌, ◌-◌, ◌*◌, ◌^◌, ◌≤◌, min, cond, nat_eq, List, ◌++◌, length, Some, None}
 use Rattle.line_rules.specs.Balance.{IsRight, all_tasks}
-use Rattle.line_rules.specs.Entries.{HasAnswer}
+use Rattle.line_rules.specs.Entries.{HasAnswer, IsDerived}
 use Rattle.line_rules.specs.Units.{UnitsOf}
 use Rattle.line_rules.specs.declared.types.Balance.{Balance as Assignment}
 use Rattle.line_rules.specs.declared.types.Entry.{Entry}
@@ -49,8 +49,8 @@ Counts m plan old earlier s lemmas kept =
     × (s.found ≡ None → (plan.seek ≤ listed) ⊎ HasAnswer lemmas (all_tasks old.about.line) m old.about.cycle
     ⊎ IsKnown old m))
 
--- A seek for m stations over a book: the book took in some lemmas at its cycle, at most one more than the loads of the
--- plan, and so gained entries, no more than there is room for, and of no more units than are told, which the room holds
+-- A seek for m stations over a book: the book took in some lemmas at its cycle, each of which follows from those before
+-- it, at most one more than the loads of the plan, and so gained entries, no more than there is room for, and of no more units than are told, which the room holds
 -- too. A balance that was found is right, and has at most m stations. The seeks of the search are still such, and their
 -- count of kept entries grew by the number of these lemmas that the book kept. Own.
 pub record HasSoughtBook (m : ℕ) (plan : Plan) (old : BookView) (earlier : Seeks) (s : SoughtBook) : Type 0 where
@@ -63,6 +63,7 @@ pub record HasSoughtBook (m : ℕ) (plan : Plan) (old : BookView) (earlier : See
   pub few : length gained ≤ seek_room plan
   pub lemmas : List Entry
   pub lemmas_at : AreAtCycle old.about.cycle lemmas
+  pub lemmas_derived : IsDerived old.about.kind old.about.line lemmas
   pub lemmas_few : length lemmas ≤ plan.seek + 1
   pub taking : Taking
   pub taken : TakesAll (seek_room plan) (untaken old) lemmas taking

@@ -4,7 +4,7 @@ use Rattle.std.proofs.Common.{Option, Some, None, inl, inr, Result, Ok, Err}
 use Rattle.std.specs.Prelude.{IfSome, IfOk, slice_get}
 use Rattle.line_instance.specs.Line.{Line}
 use Rattle.line_rules.specs.Balance.{IsRight, all_tasks}
-use Rattle.line_rules.specs.Entries.{HasAnswer}
+use Rattle.line_rules.specs.Entries.{HasAnswer, IsDerived}
 use Rattle.line_rules.specs.Loads.{Belongs}
 use Rattle.line_rules.specs.Ranges.{IsCycle}
 use Rattle.line_rules.specs.declared.types.LineKind.{LineKind}
@@ -151,11 +151,12 @@ pub refuted_sought : {E : Type 0} (aim : Aim) (book : BookView) (line : Line) (l
     → most ≡ asked_for aim s.best.stations
     → IfOk r (λ x. IfDone x (λ best lemmas used. (best ≡ s.best) × (used ≡ s.used)))
     → IfOk r (λ x. IfDone x (λ best lemmas used. AreSought line s.scratch.about.cycle used lemmas))
+    → IfOk r (λ x. IfDone x (λ best lemmas used. IsDerived s.scratch.about.kind s.scratch.about.line lemmas))
     → IfOk r (λ x. IfDone x (λ best lemmas used. HasAnswer lemmas (all_tasks line) most s.scratch.about.cycle))
     → IfOk r (λ x. IfDone x (HasSoughtFor aim book limit))
-refuted_sought aim book line limit most free s (Err e) l a f w k m same lem ans = tt
-refuted_sought aim book line limit most free s (Ok sought.NoMemory) l a f w k m same lem ans = tt
-refuted_sought aim book line limit most free s (Ok (sought.Done best lemmas used)) l a f w k m same lem ans =
+refuted_sought aim book line limit most free s (Err e) l a f w k m same lem der ans = tt
+refuted_sought aim book line limit most free s (Ok sought.NoMemory) l a f w k m same lem der ans = tt
+refuted_sought aim book line limit most free s (Ok (sought.Done best lemmas used)) l a f w k m same lem der ans =
     let R : About → Type 0 = λ z. IsRight z.kind z.line z.cycle best in
     let B : Assignment → Type 0 = λ b. IsRight s.scratch.about.kind s.scratch.about.line s.scratch.about.cycle b in
     let F : Assignment → Type 0 = λ b. b.stations ≤ book.state.best.stations in
@@ -171,6 +172,7 @@ refuted_sought aim book line limit most free s (Ok (sought.Done best lemmas used
       right = subst R a (subst B (sym same.0) k.right);
       few = subst F (sym same.0) f;
       sought = subst L (sym l) (subst S c lem);
+      derived = (let D : About → Type 0 = λ z. IsDerived z.kind z.line lemmas in subst D a der);
       shown = inr (subst M (sym l) (subst N (m ∙ ap (λ (b : Assignment). asked_for aim b.stations) (sym same.0))
           (subst H c ans)));
       over = λ none. absurd (no_answer lemmas (all_tasks line) most s.scratch.about.cycle none ans);
@@ -195,6 +197,9 @@ ended_sought aim book limit s (sought.Done best lemmas used) same a f w k over =
       right = subst R a (subst B (sym same.0) k.right);
       few = subst F (sym same.0) f;
       sought = subst S (sym none) (nothing_sought book.about.line book.about.cycle used);
+      derived = (
+          let D : List Entry → Type 0 = λ z. IsDerived book.about.kind book.about.line z in
+          subst D (sym none) (λ n e g. absurd (cc)));
       shown = inl none;
       over = λ _. subst (λ b. O b used) (sym same.0) (subst (λ u. O s.best u) (sym same.1) over);
     }

@@ -4,7 +4,7 @@ use Rattle.line_instance.specs.Line.{Line, tasks}
 use Rattle.line_instance.specs.Truths.{IsSubset}
 use Rattle.line_rules.specs.Balance.{IsRight, all_tasks}
 use Rattle.line_rules.specs.Bounds.{bound}
-use Rattle.line_rules.specs.Entries.{HasAnswer}
+use Rattle.line_rules.specs.Entries.{HasAnswer, IsDerived}
 use Rattle.line_rules.specs.Loads.{Belongs}
 use Rattle.line_rules.specs.Pairs.{IsRefutedByPairs}
 use Rattle.line_rules.specs.Ranges.{AreEntries, IsCycle}
@@ -68,14 +68,16 @@ abbrev pub IsOver : BookView → ℕ → ℕ → Assignment → ℕ → Type 0
 IsOver book limit asked best used =
     (limit ≤ used) ⊎ (best.stations ≤ asked) ⊎ (asked ≡ 0) ⊎ IsKnown book asked
 
--- What a seek with an aim over a book comes to, with a limit on its loads. Lemmas refute as many stations as a try for
--- the best balance asks for; and there are some, unless nothing is left to seek or all loads are used.
+-- What a seek with an aim over a book comes to, with a limit on its loads. Each lemma follows from those before it, and
+-- one refutes as many stations as a try for the best balance asks for; and there are lemmas, unless nothing is left to
+-- seek or all loads are used.
 pub record HasSoughtFor (aim : Aim) (book : BookView) (limit : ℕ) (best : Assignment) (lemmas : List Entry)
     (used : ℕ) : Type 0 where
   pub within : used ≤ limit
   pub right : IsRight book.about.kind book.about.line book.about.cycle best
   pub few : best.stations ≤ book.state.best.stations
   pub sought : AreSought book.about.line book.about.cycle used lemmas
+  pub derived : IsDerived book.about.kind book.about.line lemmas
   pub shown : RefuteIn book.about.line book.about.cycle (asked_for aim best.stations) lemmas
   pub over : lemmas ≡ [] → IsOver book limit (asked_for aim best.stations) best used
 

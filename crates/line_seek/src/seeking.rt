@@ -6,7 +6,7 @@ ghost use Rattle.std.specs.Prelude.{◌≡◌, ℕ, ◌+◌, ◌-◌, ◌^◌, �
 ghost use Rattle.line_instance.specs.Line.{tasks};
 ghost use Rattle.line_rules.specs.Balance.{IsRight, all_tasks};
 ghost use Rattle.line_rules.specs.Bounds.{bound};
-ghost use Rattle.line_rules.specs.Entries.{HasAnswer};
+ghost use Rattle.line_rules.specs.Entries.{HasAnswer, IsDerived};
 ghost use Rattle.line_rules.specs.Ranges.{AreEntries, IsCycle};
 ghost use Rattle.line_rules.specs.Units.{UnitsOf};
 ghost use Rattle.round_helpers.specs.Growth.{AreAtCycle};
@@ -207,6 +207,8 @@ impl Seeker {
         ensures same { IfOk result (λ r. IfDone r (λ best lemmas used. (best ≡ self.best) × (used ≡ self.used))) }
         ensures lemmas { IfOk result (λ r. IfDone r (λ best lemmas used.
             AreSought inst.now self.scratch.about.cycle used lemmas)) }
+        ensures derived { IfOk result (λ r. IfDone r (λ best lemmas used.
+            IsDerived self.scratch.about.kind self.scratch.about.line lemmas)) }
         ensures answers { IfOk result (λ r. IfDone r (λ best lemmas used.
             HasAnswer lemmas (all_tasks inst.now) most self.scratch.about.cycle)) }
     {
@@ -290,6 +292,8 @@ pub fn seek(alloc: Global, inst: &Instance, book: &Book, limit: u64, pairs: bool
     ensures cycles { IfDone result (λ best lemmas used. AreAtCycle book.now.about.cycle lemmas) }
     ensures units { IfDone result (λ best lemmas used. (units : ℕ) × UnitsOf inst.now lemmas units × (units ≤ used)) }
     ensures members { IfDone result (λ best lemmas used. length lemmas ≤ used + 1) }
+    ensures derived { let about = book.now.about in
+        IfDone result (λ best lemmas used. IsDerived about.kind about.line lemmas) }
     ensures shown { IfDone result (λ best lemmas used.
         RefuteIn inst.now book.now.about.cycle (best.stations - 1) lemmas) }
     ensures over { IfDone result (λ best lemmas used.
@@ -329,6 +333,8 @@ pub fn seek_for(
     ensures cycles { IfDone result (λ best lemmas used. AreAtCycle book.now.about.cycle lemmas) }
     ensures units { IfDone result (λ best lemmas used. (units : ℕ) × UnitsOf inst.now lemmas units × (units ≤ used)) }
     ensures members { IfDone result (λ best lemmas used. length lemmas ≤ used + 1) }
+    ensures derived { let about = book.now.about in
+        IfDone result (λ best lemmas used. IsDerived about.kind about.line lemmas) }
     ensures shown { IfDone result (λ best lemmas used. RefuteIn inst.now book.now.about.cycle most lemmas) }
     ensures over { IfDone result (λ best lemmas used. lemmas ≡ [] → IsOver book.now limit most best used) }
 {

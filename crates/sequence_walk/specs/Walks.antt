@@ -25,7 +25,7 @@ rem_at layer k = row_at layer.rems.items layer.models k
 abbrev pub starts_at : Layer → ℕ → List ℕ
 starts_at layer k = row_at layer.starts.items layer.stations k
 
--- what a layer holds at place k is a state of these works, with each number in its range (own)
+-- what a layer holds at place k is a state of these times, with each number in its range (own)
 abbrev pub HoldsState : Times → Layer → ℕ → Type 0
 HoldsState times layer k = IsState (length times.demands) times.stations (rem_at layer k) (starts_at layer k)
 

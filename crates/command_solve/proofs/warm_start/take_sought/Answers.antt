@@ -12,7 +12,7 @@ returns-in_ok-first-in-Done-warm_wide-clause-sought g c = λ at same_book same_k
     let warm = c.in-Done-warm_wide in
     let sought = has_sought taken.book line c.args.limit c.in-Done.used c.in-Done.best c.in-Done.lemmas c.requires.same
     done.used done.right done.few (done.ranges (omega (arith, c.requires.limit))) done.cycles done.units done.members
-    done.shown done.over in
+    done.derived done.shown done.over in
     let room : 6000000 - 2 * N - c.max.result ≡ 6000000 - 2 * N - max taken.kept taken.units =
     ap (λ z. 6000000 - 2 * N - z) (c.max.ensures ∙ ap (λ z. max z taken.units) c.from.ensures) in
     sought_behind N c.args.limit (6000000 - 2 * N - c.max.result) at taken.book taken.kept taken.units c.in-Done.used

@@ -28,7 +28,7 @@ returns-in-Done-warm_counted g c =
     λ z. with.result ≡ with_seek c.args.seeks c.in-Done.used c.args.plan.now.seek z in
     record {
       sought = lemmas_sought c.args.stations c.args.plan.now c.args.book c.args.seeks c.in-Done.lemmas c.room.result
-          t.0 _ t.1.0 t.1.1 t.1.3 c.room.ensures c.in-Done.ensures.cycles
+          t.0 _ t.1.0 t.1.1 t.1.3 c.room.ensures c.in-Done.ensures.cycles c.in-Done.ensures.derived
           (omega (arith, c.in-Done.ensures.members, c.in-Done.ensures.used))
           (c.in-Done-warm_counted.ensures.reserved c.requires.reserved) refl
           (with.ensures.seeks c.args.plan.now refl (omega (arith, few, c.room.ensures)))

@@ -54,7 +54,7 @@ returns-in-Refuted c =
     (c.asked_for-most.ensures
     ∙ ap (λ (b : Assignment). asked_for c.args.aim b.stations) (sym c.in_ok-told.ensures.best))
     c.refuted.ensures.same
-    c.refuted.ensures.lemmas c.refuted.ensures.answers
+    c.refuted.ensures.lemmas c.refuted.ensures.derived c.refuted.ensures.answers
 
 pub returns-then-is_over : goal.returns-then-is_over
 returns-then-is_over c =

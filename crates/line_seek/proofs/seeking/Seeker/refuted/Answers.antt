@@ -18,6 +18,11 @@ returns-clause-lemmas c =
     c.requires.seeking.paid c.into_parts-entries.ensures.derived c.into_parts-entries.ensures.statable
     c.in_ok-lemmas.ensures.trimmed c.in_ok-lemmas.ensures.units c.in_ok-lemmas.ensures.ranges
 
+pub returns-clause-derived : goal.returns-clause-derived
+returns-clause-derived c =
+    c.in_ok-lemmas.ensures.derived c.args.self.scratch.about.kind c.args.self.scratch.about.line
+    c.into_parts-entries.ensures.derived
+
 pub returns-clause-answers : goal.returns-clause-answers
 returns-clause-answers c =
     let A : ℕ → Type 0 = λ z. HasAnswer c.in_ok-lemmas.lemmas (full_to z) c.args.most c.cycle-cycle.result in
