@@ -3,7 +3,7 @@ use Rattle.std.proofs.Common.{◌≡◌, ℕ, ◌+◌, ◌*◌, ◌<◌, ◌≤�
 use Rattle.std.proofs.Common.{ap, ◌∙◌, subst, refl, bit_or, bit_and, w64, arith, map, inl, inr}
 use Rattle.std.specs.Int.{bit_not, trailing_zeros}
 use Rattle.std.specs.Int.Bits.{and_zero_l}
-use Rattle.std.proofs.lemmas.Nat.{le_or_l, le_or_r, and_le_l}
+use Rattle.std.proofs.lemmas.Nat.{le_or_l, le_or_r, and_le_l, ones-le}
 use Rattle.std.proofs.lemmas.List.{ext_get_or, get_or_past, get_or-set_same, get_or-set_other, get_or-map, length-set}
 use Rattle.std.proofs.lemmas.List.{length-map, length-replicate}
 use Rattle.std.proofs.lemmas.Bool.{cases_lt, cases_eq}
@@ -11,7 +11,12 @@ use Rattle.std.proofs.lemmas.Simd.{get_or-zip2, length-zip2}
 use lib.Lanes.{zip2}
 use Rattle.line_instance.specs.Truths.{In, IsEmpty, meet, minus, truths_of, AreWords}
 use Rattle.line_instance.proofs.Bits.{empty_words, lowest, truths-and, truths-minus, words_empty}
-use Rattle.line_instance.proofs.Bits.{zeros_at}
+use Rattle.line_instance.proofs.Bits.{zeros_at, count_word}
+use Rattle.line_instance.proofs.Members.{In-meet_parts, In-minus_parts}
+use Rattle.line_instance.specs.Truths.{count}
+use Rattle.line_instance.specs.inner.Words.{length-truths}
+use Rattle.std.specs.Prelude.{count_ones, take, zero, suc}
+use Rattle.std.proofs.lemmas.List.{take_all}
 
 both_zero : (a b : ℕ) → bit_or a b ≡ 0 → (a ≡ 0) × (b ≡ 0)
 both_zero a b e = (omega (arith, e, le_or_l a b), omega (arith, e, le_or_r a b))
@@ -137,3 +142,39 @@ module _ (ws vs : List ℕ) (h : AreWords ws) (k : AreWords vs) (low : (i : ℕ)
       (set (set ws 0 x) 1 y) t.0 (t.1 ∙ is_x ∙ ap (λ v. bit_and (get_or ws 0 0) v) (sym (not_at 0 (omega arith))))
       (t.2 ∙ is_y ∙ ap (λ v. bit_and (get_or ws 1 0) v) (sym (not_at 1 (omega arith))))
       (λ j l. t.3 j l ∙ high ws h low j l)) ∙ truths-minus ws vs h k
+
+module _ (ws : List ℕ) (h : AreWords ws) (low : (i : ℕ) → In (truths_of ws) i → i < 128) where
+  -- no word from the third on adds a member
+  count_from : (k : ℕ) → k ≤ 14 → count (take (64 * (2 + k)) (truths_of ws)) ≡ count (take 128 (truths_of ws))
+  count_from zero l = refl
+  count_from (suc k) l =
+      ap (λ n. count (take n (truths_of ws))) (omega arith)
+      ∙ count_word ws h (2 + k) (omega arith)
+      ∙ ap (λ w. count (take (64 * (2 + k)) (truths_of ws)) + count_ones w) (high ws h low (2 + k) (omega arith))
+      ∙ omega (arith, count_from k (omega arith), ones-le 0 0 (omega arith))
+
+  pub low_none : get_or ws 0 0 ≡ 0 → get_or ws 1 0 ≡ 0 → IsEmpty (truths_of ws)
+  low_none zeroth first = low_empty ws h low (none_or (get_or ws 0 0) (get_or ws 1 0) zeroth first)
+
+  -- the members of the first two words are all
+  pub low_count : count_ones (get_or ws 0 0) + count_ones (get_or ws 1 0) ≡ count (truths_of ws)
+  low_count =
+      let t : List Bool = truths_of ws in
+      let one : count (take 64 t) ≡ count (take 0 t) + count_ones (get_or ws 0 0) = count_word ws h 0 (omega arith) in
+      let two : count (take 128 t) ≡ count (take 64 t) + count_ones (get_or ws 1 0) = count_word ws h 1 (omega arith) in
+      let all : count (take 1024 t) ≡ count t =
+      ap count (take_all 1024 t (omega (arith, length-truths ws))) in
+      omega (arith, one, two, all, count_from 14 (omega arith))
+
+-- what a set of few tasks has in common with another one
+pub low_common : (a b m : List Bool) (n : ℕ) → ((i : ℕ) → In a i → i < n) → n ≤ 128 → m ≡ meet a b
+    → (i : ℕ) → In m i → i < 128
+low_common a b m n low few e i h =
+    let P : List Bool → Type 0 = λ t. In t i in
+    omega (arith, few, low i (In-meet_parts a b i (subst P e h)).0)
+
+-- what is left of few tasks
+pub low_left : (a b m : List Bool) → ((i : ℕ) → In a i → i < 128) → m ≡ minus a b → (i : ℕ) → In m i → i < 128
+low_left a b m low e i h =
+    let P : List Bool → Type 0 = λ t. In t i in
+    low i (In-minus_parts a b i (subst P e h)).0

@@ -4,12 +4,13 @@
 //! it, after it and apart from it, with its rank and its kept partners. That is 384 bytes of sets and 52 more a task,
 //! so 1,024 tasks take less than half a megabyte. Only pairs apart can be changed later.
 ghost use Rattle.std.specs.Prelude.{◌≡◌, ◌≤◌, ◌<◌, ◌↔◌, ℕ, List, [], length, slice_index_or, IsTrue, IfOk};
+ghost use Rattle.std.specs.Prelude.{IsNone, IfSome};
 ghost use Rattle.line_instance.specs.Walks.{ArePairs, IsGiven};
 ghost use Rattle.line_instance.specs.Partners.{IsKeptAt};
 ghost use Rattle.line_instance.specs.Line.{Line, IsLine, IsRanked, IsTaskSet, Before, Apart, Covers, tasks, time};
 ghost use Rattle.line_instance.specs.Line.{at_rank, has};
 ghost use Rattle.line_instance.specs.Sums.{sum_where};
-ghost use Rattle.line_instance.specs.Truths.{In, IsEmpty, full_to, meet, minus};
+ghost use Rattle.line_instance.specs.Truths.{In, IsEmpty, IsSubset, IsLeast, count, full_to, meet, minus};
 
 use crate::arcs::Prec;
 use crate::partners::{Kept, kept_at, part};
@@ -208,7 +209,7 @@ impl Instance {
         TaskSet::full_to(self.times.len() as u32)
     }
 
-    /// Whether a set of tasks has none. Like the three below, it reads the first two words of a set where there are at
+    /// Whether a set of tasks has none. Like the six below, it reads the first two words of a set where there are at
     /// most 128 tasks.
     #[inline]
     pub fn is_empty(&self, set: &TaskSet) -> bool
@@ -244,6 +245,46 @@ impl Instance {
             return set.meet_low(other);
         }
         set.meet(other)
+    }
+
+    /// How many members a set of tasks has in common with another set, at most 1,024.
+    #[inline(always)]
+    pub fn count_common(&self, set: &TaskSet, other: &TaskSet) -> u32
+        requires { (i : ℕ) → In set.now i → i < tasks self.now }
+        ensures value { result ≡ count (meet set.now other.now) }
+        ensures most { result ≤ 1024 }
+    {
+        if self.tasks() <= LOW_TASKS {
+            return set.meet_low(other).count_low();
+        }
+        set.meet(other).count()
+    }
+
+    /// The least member that a set of tasks has in common with another set; None where there is none.
+    #[inline]
+    pub fn least_common(&self, set: &TaskSet, other: &TaskSet) -> Option<u32>
+        requires { (i : ℕ) → In set.now i → i < tasks self.now }
+        ensures none { IsNone result ↔ IsEmpty (meet set.now other.now) }
+        ensures some { IfSome result (IsLeast (meet set.now other.now)) }
+    {
+        if self.tasks() <= LOW_TASKS {
+            return set.meet_low(other).least_low();
+        }
+        set.meet(other).least()
+    }
+
+    /// Whether each member that a set of tasks has in common with another set is in a third one.
+    #[inline]
+    pub fn is_covered(&self, set: &TaskSet, other: &TaskSet, by: &TaskSet) -> bool
+        requires { (i : ℕ) → In set.now i → i < tasks self.now }
+        ensures { IsTrue result ↔ IsSubset (meet set.now other.now) by.now }
+    {
+        if self.tasks() <= LOW_TASKS {
+            let mut left = set.meet_low(other);
+            left.take_out_low(by);
+            return left.is_empty_low();
+        }
+        set.meet(other).is_subset(by)
     }
 
     /// Takes the members of another set out of a set of tasks.

@@ -281,6 +281,32 @@ impl TaskSet {
         self.words[1] = high;
     }
 
+    // How many members a set with none from 128 on has.
+    #[inline]
+    pub(crate) fn count_low(&self) -> u32
+        requires { (i : ℕ) → In self.now i → i < 128 }
+        ensures value { result ≡ count self.now }
+        ensures most { result ≤ 128 }
+    {
+        self.words[0].count_ones() + self.words[1].count_ones()
+    }
+
+    // The least member of a set with none from 128 on; `None` for the empty set.
+    #[inline]
+    pub(crate) fn least_low(&self) -> Option<u32>
+        requires { (i : ℕ) → In self.now i → i < 128 }
+        ensures none { IsNone result ↔ IsEmpty self.now }
+        ensures some { IfSome result (IsLeast self.now) }
+    {
+        if self.words[0] != 0 {
+            return Some(self.words[0].trailing_zeros());
+        }
+        if self.words[1] != 0 {
+            return Some(64 + self.words[1].trailing_zeros());
+        }
+        None
+    }
+
     /// How many members there are, at most 1,024.
     #[inline]
     pub fn count(&self) -> u32
