@@ -3,13 +3,15 @@
 //! The search asks whether far oftener than how many: of each full load, about the set that the load leaves. So a
 //! question is settled as soon as may be. The total time comes first: one division, where the caller keeps the times
 //! of the set. Then the sizes of the tasks are counted, in one pass; and only then heads and tails are gone over, at
-//! most a pass over the set for each of its tasks.
-ghost use Rattle.std.specs.Prelude.{◌≡◌, ◌≤◌, ◌<◌, ◌↔◌, ℕ, IsTrue};
+//! most a pass over the set for each of its tasks. A search that keeps the tasks of its line in sets by their
+//! sizes asks these in place of the pass, and then heads and tails alone.
+ghost use Rattle.std.specs.Prelude.{◌≡◌, ◌≤◌, ◌<◌, ◌*◌, ◌↔◌, ℕ, IsTrue};
 ghost use Rattle.line_instance.specs.Truths.{IsEmpty};
 ghost use Rattle.line_instance.specs.Line.{IsTaskSet};
 ghost use Rattle.line_rules.specs.Balance.{Holds};
 ghost use Rattle.line_rules.specs.Bounds.{bound, lm1};
 ghost use Rattle.line_rules.specs.Times.{AreTimes};
+ghost use Rattle.lower_bounds.specs.Sizes.{FitsBySizes};
 
 use crate::chains::{has_longer_chain, longest_chain};
 use crate::sizes::{Times, counts_of, times_in};
@@ -118,4 +120,35 @@ fn exceeds_by_tasks(
         return true;
     }
     has_longer_chain(inst, kind, cycle, set, times, most)
+}
+
+/// Whether the bound of a set exceeds `most`, where neither its total time nor the sizes of its tasks show it: by what
+/// is before and after a task (Scholl's heads and tails), or since `most` is 0 and the set has a task. No task of the
+/// set takes longer than the longest of the times. The cycle is 1 to 1,000,000,000,000,000,000, in the instance's time
+/// unit. Takes no memory.
+pub fn exceeds_by_chains(
+    inst: &Instance,
+    kind: LineKind,
+    cycle: u64,
+    set: &TaskSet,
+    times: Times,
+    most: u32,
+) -> bool
+    requires set { IsTaskSet inst.now set.now }
+    requires some { 1 ≤ cycle }
+    requires limit { cycle ≤ 1000000000000000000 }
+    requires times { AreTimes inst.now set.now times.total times.longest }
+    requires few { most < 1025 }
+    requires total { times.total ≤ most * cycle }
+    requires sizes { FitsBySizes inst.now cycle set.now most }
+    ensures { IsTrue result ↔ most < bound kind inst.now cycle set.now }
+{
+    let _tasks = inst.tasks();
+    if inst.is_empty(set) {
+        return false;
+    }
+    if most == 0 {
+        return true;
+    }
+    has_longer_chain(inst, kind, cycle, set, times, u64::from(most))
 }

@@ -67,7 +67,9 @@ fn time_elsewhere(
     {
         return None;
     }
-    let mut elsewhere = set.minus(before).minus(after);
+    let mut elsewhere = *set;
+    inst.take_out(&mut elsewhere, before);
+    inst.take_out(&mut elsewhere, after);
     elsewhere.remove(j);
     match sum_up_to(inst, &elsewhere, limit) {
         Ok(sum) => Some(sum),

@@ -2,10 +2,12 @@
 #![tactic(auto)]
 
 mod bounds;
+mod by_size;
 mod chains;
 mod sizes;
 mod total;
 
-pub use bounds::{bound, exceeds, exceeds_with};
+pub use bounds::{bound, exceeds, exceeds_by_chains, exceeds_with};
+pub use by_size::{SizeSets, exceeds_by_sizes, size_sets};
 pub use sizes::{Times, times_in};
 pub use total::{first_too_long, total_bound, total_time};

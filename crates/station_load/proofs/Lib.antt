@@ -4,3 +4,4 @@ pub mod Walks
 pub mod AllLoadsGiven
 pub mod LeftFacts
 pub mod PlaceTests
+pub mod SetFacts

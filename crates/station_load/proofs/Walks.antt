@@ -1,11 +1,13 @@
 -- A walk and the load that it gave last.
 use Rattle.std.proofs.Common.{◌≡◌, ℕ, ◌+◌, ◌*◌, Bool, true, false, cond, List, refl, sym, ap, ◌∙◌, subst, Option, Some}
-use Rattle.std.proofs.Common.{None, IfSome, arith}
+use Rattle.std.proofs.Common.{None, IfSome, length, arith}
 use Rattle.std.proofs.lemmas.Bool.{false≢true, true≢false}
 use Rattle.std.proofs.lemmas.Option.{cond_some, same_Some}
 use Rattle.line_instance.specs.Line.{Line, IsLine, IsRanked, IsTaskSet, tasks, has}
 use Rattle.line_instance.specs.Sums.{sum_where}
-use Rattle.line_rules.specs.Loads.{IsLoad, IsFull, taken}
+use Rattle.line_instance.specs.Truths.{IsSubset, minus}
+use Rattle.line_instance.proofs.Members.{In-minus_parts}
+use Rattle.line_rules.specs.Loads.{IsLoad, IsFull, rest, taken}
 use Rattle.line_rules.specs.Order.{IsFollowing, After}
 use Rattle.line_rules.specs.Sides.{MayJoin, fills, part, nothing_yet}
 use Rattle.line_rules.specs.declared.types.Mode.{Mode}
@@ -22,6 +24,7 @@ use Rattle.line_rules.specs.Ends.{IsEnd}
 use Rattle.station_load.specs.Walking.{Walking, IsWalk, end_of, last_load}
 use Rattle.station_load.specs.inner.Steps.{AreEnds, AreOver, IsBefore, IsNextFrom, pair}
 use Rattle.line_rules.proofs.NextLoad.{same_pair}
+use Rattle.station_load.proofs.SetFacts.{minus_union}
 
 base_of : (line : Line) (c : ℕ) (mode : Mode) (R : List Bool) (last : Option Load)
     → ((l : Load) → last ≡ Some l → IsLoad line c mode R l) → IsBase line c mode R last (last_load last)
@@ -54,6 +57,25 @@ module _ (line : Line) (ok : IsLine line) (ranked : IsRanked line) (w : Walking)
       → w.last ≡ Some l → IsFull line w.cycle w.mode w.set l → ⊥
   full_no s i f may l e full = full_none line ok w.cycle w.mode w.set is.set l (is.load l e) full s i f
       (let P : Load → Type 0 = λ k. MayJoin line w.cycle w.set s k i in subst P (sym (stand_last l e)) may)
+
+  -- the set without the front
+  pub less_within : {less : List Bool} → less ≡ minus w.set w.front.tasks → IsSubset less w.set
+  less_within {less} e i m = (In-minus_parts w.set w.front.tasks i (ap (λ s. has s i) (sym e) ∙ m)).0
+
+  -- and without the back as well
+  module _ {less left : List Bool} (is_less : less ≡ minus w.set w.front.tasks)
+      (is_left : left ≡ minus less w.back.tasks) where
+    pub left_set : length left ≡ 1024 → IsTaskSet line left
+    left_set long = record {
+      truths = long;
+      tasks = λ i m. is.set.tasks i (less_within is_less i
+          (In-minus_parts less w.back.tasks i (ap (λ s. has s i) (sym is_left) ∙ m)).0);
+    }
+
+    -- it is what the load given last leaves
+    pub left_rest : (l : Load) → w.last ≡ Some l → left ≡ rest w.set l
+    left_rest l e = is_left ∙ ap (λ s. minus s w.back.tasks) is_less
+        ∙ minus_union w.set w.front.tasks w.back.tasks ∙ ap (λ k. rest w.set k) (sym (stand_last l e))
 
   pub base : IsBase line w.cycle w.mode w.set w.last (stand w)
   base =

@@ -61,9 +61,7 @@ impl End {
         let _tasks = inst.tasks();
         let mut left = candidates;
         while let Some(task) = nearest(inst, &left, side) {
-            let mut absent = inst.meet(ahead(inst, side, task), set);
-            inst.take_out(&mut absent, &self.tasks);
-            if inst.is_empty(&absent) {
+            if inst.is_covered(ahead(inst, side, task), set, &self.tasks) {
                 self.free.insert(task);
                 self.places.mark(place_of(inst, side, task));
             }
@@ -107,9 +105,8 @@ impl End {
         ensures marked { AreMarked inst.now side self.new.tasks self.new.free self.new.places }
     {
         let _tasks = inst.tasks();
-        let mut shut = inst.meet(waiting(inst, side, task), &self.free);
-        while let Some(other) = nearest(inst, &shut, Side::Front) {
-            shut.remove(other);
+        let waiting = waiting(inst, side, task);
+        while let Some(other) = inst.least_common(waiting, &self.free) {
             self.free.remove(other);
             self.places.unmark(place_of(inst, side, other));
         }

@@ -13,7 +13,7 @@ ghost use Rattle.std.specs.Prelude.{false, cond};
 ghost use Rattle.line_instance.specs.Truths.{In, union};
 ghost use Rattle.line_instance.specs.Line.{IsTaskSet, Apart, tasks, has};
 ghost use Rattle.line_instance.specs.Sums.{sum_where};
-ghost use Rattle.line_rules.specs.Loads.{IsLoad, IsFull, taken};
+ghost use Rattle.line_rules.specs.Loads.{IsLoad, IsFull, rest, taken};
 ghost use Rattle.line_rules.specs.Order.{After, IsNext, IsFollowing};
 ghost use Rattle.line_rules.specs.Sides.{MayJoin, fills, spot, nothing_yet};
 ghost use Rattle.line_rules.specs.declared.types.Load.{Load as Pair};
@@ -399,6 +399,20 @@ impl Walk {
             front: self.front.tasks,
             back: self.back.tasks,
         }
+    }
+
+    /// What the load given last leaves of the set.
+    #[inline]
+    pub fn rest(&self, inst: &Instance) -> TaskSet
+        requires walk { IsWalk inst.now self.now }
+        ensures rest { IfSome self.now.last (λ l. result ≡ rest self.now.set l) }
+        ensures set { IsTaskSet inst.now result }
+    {
+        let _tasks = inst.tasks();
+        let mut rest = self.set;
+        inst.take_out(&mut rest, &self.front.tasks);
+        inst.take_out(&mut rest, &self.back.tasks);
+        rest
     }
 
     /// The total time of the load given last, in the instance's time unit; 0 before the first.

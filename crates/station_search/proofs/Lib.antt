@@ -16,5 +16,4 @@ pub mod Endings
 pub mod TaskPlaces
 pub mod SortFacts
 pub mod RestTimes
-pub mod HalfFacts
 pub mod LightLoads

@@ -3,8 +3,7 @@ use Rattle.std.proofs.Common.{◌≡◌, ℕ, ◌+◌, ◌-◌, ◌*◌, ◌<◌
 use Rattle.std.proofs.Common.{ap, ◌∙◌, subst, arith}
 use Rattle.std.proofs.lemmas.Option.{same_Some}
 use Rattle.std.specs.Prelude.{IsSome, IfSome}
-use Rattle.line_instance.specs.Truths.{In}
-use Rattle.line_instance.specs.Line.{Line, IsRanked, time}
+use Rattle.line_instance.specs.Line.{Line, IsRanked}
 use Rattle.line_rules.specs.Loads.{IsLoad, rest}
 use Rattle.line_rules.specs.Order.{IsFollowing}
 use Rattle.line_rules.specs.Entries.{IsOpen}
@@ -52,11 +51,11 @@ skips_none kind line X f g used b =
 -- the listing goes on to the next load
 pub meets : (kind : LineKind) (line : Line) (X : ℕ) (f : OpenFrame) (before used after : ℕ) (g h : Listing)
     → HasSkipped kind line X f before used g → IsWalk line h.walk → h.walk.cycle ≡ g.walk.cycle
-    → h.walk.mode ≡ g.walk.mode → h.walk.set ≡ g.walk.set → h.times ≡ g.times → h.halves ≡ g.halves
+    → h.walk.mode ≡ g.walk.mode → h.walk.set ≡ g.walk.set → h.times ≡ g.times
     → IsSome h.walk.last
     → IfSome h.walk.last (IsFollowing line g.walk.cycle g.walk.mode g.walk.set g.walk.last) → after ≡ used + 1
     → HasMet kind line X f before after h
-meets kind line X f before used after g h s walk cycle mode set times halves given next more =
+meets kind line X f before used after g h s walk cycle mode set times given next more =
     let b = s.beside in
     let v = value_of h.walk.last given in
     let N : Option Load → Type 0 =
@@ -65,7 +64,6 @@ meets kind line X f before used after g h s walk cycle mode set times halves giv
     let M : Mode → Type 0 = λ z. IsFollowing line X z g.walk.set g.walk.last v.0 in
     let S : List Bool → Type 0 = λ z. IsFollowing line X f.mode z g.walk.last v.0 in
     let T : Times → Type 0 = λ z. AreTimes line f.set z.total z.longest in
-    let H : List Bool → Type 0 = λ z. (i : ℕ) → In z i → X < 2 * time line i in
     record {
       last = g.walk.last;
       light = s.light;
@@ -81,7 +79,6 @@ meets kind line X f before used after g h s walk cycle mode set times halves giv
         same_set = set ∙ b.same_set;
         same_last = v.1;
         times = subst T (sym times) b.times;
-        halves = subst H (sym halves) b.halves;
       };
     }
 
@@ -97,19 +94,25 @@ light_closed kind line X f g l b load cycle some few more o =
       long_rest kind line X (rest f.set l) f.most cycle some (omega (arith, few)) (omega (arith, more, t.total)),
     )
 
--- such a load is passed over
+-- a load that isn't open is passed over
 pub passes_over : (kind : LineKind) (line : Line) (X : ℕ) (f : OpenFrame) (before after : ℕ) (g : Listing)
-    → HasMet kind line X f before after g → 1 ≤ X → 1 ≤ f.most → f.most ≤ 1024
-    → (f.most - 1) * X < g.times.total - g.walk.sum → HasSkipped kind line X f before after g
-passes_over kind line X f before after g m cycle some few more =
+    → (m : HasMet kind line X f before after g) → (IsOpen kind line X f.mode f.set f.most m.load → ⊥)
+    → HasSkipped kind line X f before after g
+passes_over kind line X f before after g m shut =
     let P : Option Load → Type 0 = λ z. IsBeside line X (with_mark f z) g in
     record {
       light = m.light + 1;
-      skips = one_more m.last m.light m.load m.skips m.next
-          (light_closed kind line X f g m.load m.beside m.next.load cycle some few more) m.stands refl;
+      skips = one_more m.last m.light m.load m.skips m.next shut m.stands refl;
       cost = m.cost;
       beside = subst P (sym m.stands) m.beside;
     }
+
+-- the listing is beside the frame that has the load at which it stands
+pub beside_met : (kind : LineKind) (line : Line) (X : ℕ) (f : OpenFrame) (before after : ℕ) (g : Listing)
+    → HasMet kind line X f before after g → IsBeside line X (with_mark f g.walk.last) g
+beside_met kind line X f before after g m =
+    let P : Option Load → Type 0 = λ z. IsBeside line X (with_mark f z) g in
+    subst P (sym m.stands) m.beside
 
 -- where no load was passed over, the listing stands where it stood; else it stands at a load
 pub stood : (kind : LineKind) (line : Line) (X : ℕ) (f : OpenFrame) (last : Option Load) (n : ℕ)
@@ -209,6 +212,23 @@ met_load kind line X f before after g l m told =
     let N : Load → Type 0 = λ z. IsFollowing line X f.mode f.set m.last z in
     let B : Load → Type 0 = λ z. IsBeside line X (with_last f z) g in
     (subst N same m.next, subst B same m.beside)
+
+-- what the walk says that its load leaves is what the load leaves of the frame's set
+pub rest_at : (line : Line) (X : ℕ) (f : OpenFrame) (g : Listing) (l : Load) → IsBeside line X f g → f.last ≡ Some l
+    → (r : List Bool) → IfSome g.walk.last (λ k. r ≡ rest g.walk.set k) → r ≡ rest f.set l
+rest_at line X f g l b e r h =
+    let L : Option Load → Type 0 = λ z. IfSome z (λ k. r ≡ rest g.walk.set k) in
+    let S : List Bool → Type 0 = λ z. r ≡ rest z l in
+    subst S b.same_set (subst L (b.same_last ∙ e) h)
+
+-- the load at which the listing stands is one of the frame
+pub load_at : (line : Line) (X : ℕ) (f : OpenFrame) (g : Listing) (l : Load) → IsBeside line X f g → g.walk.last ≡ Some l
+    → IsLoad line X f.mode f.set l
+load_at line X f g l b e =
+    let C : ℕ → Type 0 = λ z. IsLoad line z g.walk.mode g.walk.set l in
+    let M : Mode → Type 0 = λ z. IsLoad line X z g.walk.set l in
+    let S : List Bool → Type 0 = λ z. IsLoad line X f.mode z l in
+    subst S b.same_set (subst M b.same_mode (subst C b.same_cycle (b.walk.load l e)))
 
 -- no load or no unit is left, and the frame has the last load that was passed over
 module _ (kind : LineKind) (line : Line) (X : ℕ) (s : Standing) (before after left : ℕ) (g h : Listing) (f : OpenFrame)

@@ -34,10 +34,9 @@ use Rattle.station_search.proofs.Tallies.{Tally, tally_starts, tally_lists, tall
 use Rattle.station_search.proofs.Tallies.{all_listed}
 
 pub adds_few : (s : Sorted) → may_add s ≤ 1
-adds_few sorted.Closed = omega arith
 adds_few (sorted.Covered id) = omega arith
 adds_few sorted.Empty = omega arith
-adds_few (sorted.Open set) = omega arith
+adds_few sorted.Open = omega arith
 
 -- a load beside other cites
 pub beside_cites : (line : Line) (X : ℕ) (f : OpenFrame) (w : Listing) (cites : List ℕ) → IsBeside line X f w
@@ -49,7 +48,6 @@ beside_cites line X f w cites b = record {
   same_set = b.same_set;
   same_last = b.same_last;
   times = b.times;
-  halves = b.halves;
 }
 
 module _ (asked : Option Mode) (kind : LineKind) (line : Line) (ranked : IsRanked line) (X : ℕ) (R : List Bool)

@@ -71,5 +71,4 @@ module _ (line : Line) (X : ℕ) (fs upper : List OpenFrame) (ws above : List Li
         same_set = b.same_set;
         same_last = b.same_last;
         times = b.times;
-        halves = b.halves;
       }

@@ -1,8 +1,10 @@
 -- A partner stands in for a task.
 use Rattle.std.proofs.Common.{◌≡◌, ℕ, zero, suc, Bool, true, false, List, [], ◌∷◌, sym, ◌∙◌, subst, inl, inr, arith}
-use Rattle.std.proofs.Common.{Some, Option}
+use Rattle.std.proofs.Common.{Some, Option, get_or, set, ap}
 use Rattle.std.specs.Prelude.{slice_get, slice_set}
 use Rattle.std.proofs.lemmas.Option.{slice_get_within}
+use Rattle.std.proofs.lemmas.Bool.{cases_Bool, cases_eq}
+use Rattle.std.proofs.lemmas.List.{set-set, set-get_or, get_or-set_other}
 use Rattle.line_instance.specs.Truths.{In}
 use Rattle.line_instance.proofs.Members.{In-set_cases, In-clear_gone}
 use Rattle.line_instance.specs.Line.{Line, has}
@@ -30,6 +32,31 @@ kept_partner line i k j answer e h =
     let g : slice_get h.0 k ≡ Some j = sym h.2 ∙ e in
     let P : ℕ → Type 0 = λ z. IsPartner line i z in
     subst P (value_at h.0 k j g) (h.1.right k (slice_get_within h.0 k j g))
+
+-- a truth that is changed and changed back
+pub back_again : (s : List Bool) (i : ℕ) (b c : Bool) → get_or s i false ≡ c → set (set s i b) i c ≡ s
+back_again s i b c e = set-set s i b c ∙ ap (λ (z : Bool). set s i z) (sym e) ∙ set-get_or s i false
+
+-- what is no member of a set is none without another task
+pub still_out : (s : List Bool) (out i : ℕ) → get_or s i false ≡ false → get_or (set s out false) i false ≡ false
+still_out s out i e = elim (cases_eq i out) [
+  | inl q ↦ (
+      let P : ℕ → Type 0 = λ z. In (set s out false) z in
+      elim (cases_Bool (get_or (set s out false) i false)) [
+        | inl t ↦ absurd (In-clear_gone s out (subst P q t))
+        | inr f ↦ f
+      ]
+      )
+  | inr n ↦ get_or-set_other s out i false false n ∙ e
+]
+
+-- a partner that is put into the set without the task, and taken out again
+pub turned : (s : List Bool) (out into : ℕ) (begun here with back : List Bool) → get_or s into false ≡ false
+    → begun ≡ set s out false → here ≡ begun → with ≡ set here into true → back ≡ set with into false → back ≡ begun
+turned s out into begun here with back absent e h i r =
+    r ∙ ap (λ (z : List Bool). set z into false) i
+    ∙ back_again here into true false (ap (λ (z : List Bool). get_or z into false) (h ∙ e) ∙ still_out s out into absent)
+    ∙ h
 
 -- the task that gives way is no member of the set in which another one stands in for it
 gone : (set : List Bool) (out into i : ℕ) → (out ≡ into → ⊥) → In (slice_set (slice_set set out false) into true) i

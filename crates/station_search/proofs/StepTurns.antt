@@ -1,6 +1,6 @@
 -- The steps of a search over the values before and after them.
 use Rattle.std.proofs.Common.{◌≡◌, ℕ, ◌+◌, ◌-◌, ◌≤◌, Bool, true, List, [], ◌∷◌, ◌++◌, length, refl, sym, ap, ◌∙◌, subst}
-use Rattle.std.proofs.Common.{arith, inl, inr, Option}
+use Rattle.std.proofs.Common.{arith, Option}
 use Rattle.line_instance.specs.Truths.{IsEmpty}
 use Rattle.line_instance.specs.Line.{Line, IsTaskSet, IsRanked}
 use Rattle.line_rules.specs.Bounds.{bound}
@@ -17,12 +17,12 @@ use Rattle.line_rules.specs.declared.types.OpenFrame.{OpenFrame}
 use Rattle.lemma_core.specs.Desks.{DeskView, entries, Keeps, Waits}
 use Rattle.station_search.specs.Decide.{IsAnswered, Stops}
 use Rattle.station_search.specs.Costs.{AreUnanswered}
-use Rattle.station_search.specs.inner.Work.{IsBeside, Accounts, Balances, DoesFor, DoesFew, with_last, with_cites}
+use Rattle.station_search.specs.inner.Work.{IsBeside, Accounts, Balances, DoesFor, DoesFew, with_last}
 use Rattle.station_search.specs.inner.Steps.{IsReady, GoesDown, GoesUp, stands_with, ListsNone, ListsPassed, ListsOpen}
 use Rattle.station_search.specs.declared.listings.Listing.{Listing}
 use Rattle.station_search.specs.declared.standing.Standing.{Standing}
 use Rattle.station_search.proofs.Pairs.{paired_pop, paired_last}
-use Rattle.station_search.proofs.States.{IsSearching, closed, covered, goes_up, answer_cites}
+use Rattle.station_search.proofs.States.{IsSearching, covered, goes_up, answer_cites}
 use Rattle.station_search.proofs.PaidSteps.{does_few, few_waits}
 use Rattle.station_search.proofs.Tallies.{Tally, tally_lists, tally_up, accounts}
 use Rattle.station_search.proofs.LoopTurns.{grown, stops, stopped, found, down, down_tally}
@@ -106,14 +106,9 @@ module _ (asked : Option Mode) (kind : LineKind) (line : Line) (ranked : IsRanke
         → IsSearching asked kind line X (entries new) R most t.passed.items t.frame
     searching_on p =
         let Q : Standing → Type 0 = λ z. IsSearching asked kind line X (entries new) R most z.passed.items z.frame in
-        let C : List ℕ → Type 0 = λ z. IsSearching asked kind line X (entries new) R most s.passed.items
-        (with_cites (with_last s.frame p.load) z) in
-        subst Q (sym p.stands) (elim p.passes [
-          | inl h ↦ subst C (sym h.0) (closed asked kind line ranked X R most (entries new) s.passed.items s.frame here
-              p.load p.listed.next h.1)
-          | inr h ↦ covered asked kind line ranked X R most (entries new) s.passed.items s.frame here p.load
-              p.listed.next h.0 p.cites h.1.0 h.1.1 h.1.2
-        ])
+        let h = p.passes in
+        subst Q (sym p.stands) (covered asked kind line ranked X R most (entries new) s.passed.items s.frame here p.load
+        p.listed.next h.0 p.cites h.1.0 h.1.1 h.1.2)
 
     pub tally_on : (old : DeskView) (spent spent' : ℕ) → Keeps old mid
         → Tally asked kind line X old mid s.passed.items s.frame spent 0 → spent' ≡ spent + 1

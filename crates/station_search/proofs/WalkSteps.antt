@@ -1,6 +1,6 @@
 -- The steps of a search beside others over the values before and after them.
 use Rattle.std.proofs.Common.{◌≡◌, ℕ, ◌+◌, ◌≤◌, Bool, List, [], ◌∷◌, ◌++◌, length, sym, ap, ◌∙◌, subst}
-use Rattle.std.proofs.Common.{arith, inl, inr, Option}
+use Rattle.std.proofs.Common.{arith, Option}
 use Rattle.line_instance.specs.Truths.{IsEmpty}
 use Rattle.line_instance.specs.Line.{Line, IsTaskSet, IsRanked}
 use Rattle.line_rules.specs.Bounds.{bound}
@@ -23,7 +23,7 @@ use Rattle.station_search.proofs.PaidSteps.{does_few, few_waits}
 use Rattle.station_search.proofs.Tallies.{Outlay, outlay_lists, outlay_waits, outlay_down, outlay_up}
 use Rattle.station_search.proofs.Tallies.{outlay_ends}
 use Rattle.station_search.proofs.StepTurns.{HasNone, none_at}
-use Rattle.station_search.proofs.WalkStates.{IsWalking, walk_grown, walk_closed, walk_covered, walk_puts_off, walk_down}
+use Rattle.station_search.proofs.WalkStates.{IsWalking, walk_grown, walk_covered, walk_puts_off, walk_down}
 use Rattle.station_search.proofs.WalkStates.{walk_found, walk_up}
 
 module _ (asked : Option Mode) (kind : LineKind) (line : Line) (ranked : IsRanked line) (X : ℕ) (R : List Bool)
@@ -39,14 +39,9 @@ module _ (asked : Option Mode) (kind : LineKind) (line : Line) (ranked : IsRanke
     walking_on p =
         let Q : Standing → Type 0 =
         λ z. IsWalking asked kind line X (entries new) R most z.passed.items walks z.frame walk in
-        let C : List ℕ → Type 0 = λ z. IsWalking asked kind line X (entries new) R most s.passed.items walks
-        (with_cites (with_last s.frame p.load) z) walk in
-        subst Q (sym p.stands) (elim p.passes [
-          | inl h ↦ subst C (sym h.0) (walk_closed asked kind line ranked X R most (entries new) s.passed.items walks
-              s.frame walk here p.load p.listed.next h.1)
-          | inr h ↦ walk_covered asked kind line ranked X R most (entries new) s.passed.items walks s.frame walk here
-              p.load p.listed.next h.1.1 h.0 p.cites h.1.0 h.1.2
-        ])
+        let h = p.passes in
+        subst Q (sym p.stands) (walk_covered asked kind line ranked X R most (entries new) s.passed.items walks s.frame
+        walk here p.load p.listed.next h.1.1 h.0 p.cites h.1.0 h.1.2)
 
     pub outlay_on : (old : DeskView) (spent spent' : ℕ) → Keeps old mid
         → Outlay asked kind line X old mid s.passed.items s.frame spent 0 → spent' ≡ spent + 1

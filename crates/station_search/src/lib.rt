@@ -6,7 +6,6 @@
 mod answers;
 mod beside;
 mod deciding;
-mod halves;
 mod listings;
 mod looking;
 mod modes;

@@ -15,7 +15,7 @@ fn is_source(inst: &Instance, set: &TaskSet, task: u32) -> bool
     requires { task < tasks inst.now }
     ensures { result ≡ is_source inst.now set.now task }
 {
-    inst.before(task).meet(set).is_empty()
+    inst.is_disjoint(inst.before(task), set)
 }
 
 // Whether no member of the set is after the task.
@@ -24,7 +24,7 @@ fn is_sink(inst: &Instance, set: &TaskSet, task: u32) -> bool
     requires { task < tasks inst.now }
     ensures { result ≡ is_sink inst.now set.now task }
 {
-    inst.after(task).meet(set).is_empty()
+    inst.is_disjoint(inst.after(task), set)
 }
 
 /// The mode of a set of tasks: both ends on a U-line. On a straight line it is the front, where the tasks of the set

@@ -26,6 +26,7 @@ use crate::standing::{Listed, begin_standing, go_down, go_up, list_load, trail_o
 use lemma_core::{Desk, Published};
 use line_instance::{Instance, TaskSet};
 use line_rules::{Cites, Entry, LineKind, Mode, OpenFrame, Why};
+use lower_bounds::size_sets;
 use pair_search::PairTable;
 use std::alloc::{AllocError, Global};
 use std::mem::replace;
@@ -105,9 +106,20 @@ pub fn search<D: Desk>(
         OnErr result (Accounts mode kind inst.now cycle (D.desk desk.old) (D.desk desk.new) [] used used) }
 {
     let _tasks = inst.tasks();
+    let sizes = size_sets(inst, cycle);
     let mut standing = begin_standing(alloc, inst, kind, cycle, set, most, mode, pairs)?;
     'search: loop {
-        match list_load::<ByLook, D>(alloc, desk, inst, kind, cycle, pairs, units, &mut standing)? {
+        match list_load::<ByLook, D>(
+            alloc,
+            desk,
+            inst,
+            kind,
+            cycle,
+            &sizes,
+            pairs,
+            units,
+            &mut standing,
+        )? {
             Listed::Ended => {
                 let id = publish_branch(alloc, desk, cycle, &mut standing.frame)?;
                 let up = go_up(pairs, &mut standing, id)?;

@@ -32,6 +32,7 @@ use crate::standing::{Listed, begin_standing, go_down, go_up, list_load, trail_o
 use lemma_core::Looked;
 use line_instance::{Instance, TaskSet};
 use line_rules::{Cites, LineKind, OpenFrame};
+use lower_bounds::size_sets;
 use pair_search::PairTable;
 use std::alloc::{AllocError, Global};
 
@@ -133,11 +134,22 @@ pub fn search_beside<D: Beside>(
         OnErr result (Accounts None kind inst.now cycle (D.desk desk.old) (D.desk desk.new) [] used used) }
 {
     let _tasks = inst.tasks();
+    let sizes = size_sets(inst, cycle);
     let mut standing = begin_standing(alloc, inst, kind, cycle, set, most, None, pairs)?;
     let mut walks: Vec<Walk> = Vec::new(alloc);
     let mut walk = Walk::First;
     'search: loop {
-        match list_load::<ByFind, D>(alloc, desk, inst, kind, cycle, pairs, units, &mut standing)? {
+        match list_load::<ByFind, D>(
+            alloc,
+            desk,
+            inst,
+            kind,
+            cycle,
+            &sizes,
+            pairs,
+            units,
+            &mut standing,
+        )? {
             Listed::Ended => {
                 let settled = settle(alloc, desk, cycle, &mut standing.frame, walk)?;
                 let Some(id) = settled else {

@@ -1,101 +1,69 @@
-//! What is to be done with a load that was listed: the tests of the load and of its rest.
+//! What is to be done with what an open load leaves.
 ghost use Rattle.std.specs.Prelude.{◌≡◌, ◌≤◌, ◌&&◌, Option, Some, IfSome, IfOk, OnErr};
 ghost use Rattle.line_instance.specs.Line.{IsTaskSet};
-ghost use Rattle.line_rules.specs.Loads.{IsLoad, rest};
 ghost use Rattle.line_rules.specs.Ranges.{IsCycle};
 ghost use Rattle.line_rules.specs.declared.types.Mode.{Mode};
 ghost use Rattle.lemma_core.specs.Desks.{entries, Keeps};
 ghost use Rattle.station_search.specs.Decide.{IsFor, IsPairing};
-ghost use Rattle.station_search.specs.inner.Work.{IsBeside, Sorts, DoesFor, may_add};
+ghost use Rattle.station_search.specs.inner.Work.{Sorts, DoesFor, may_add};
 
-use crate::listings::{Listing, is_longer, rest_times};
 use crate::looking::Looker;
 use crate::pairing::{ask_pairs, publish_pairs};
 use crate::swaps::publish_swap;
 use lemma_core::Desk;
 use line_instance::{Instance, TaskSet};
-use line_rules::{LineKind, Load, OpenFrame};
-use lower_bounds::exceeds_with;
+use line_rules::LineKind;
 use pair_search::{PairTable, Paired};
 use std::alloc::{AllocError, Global};
 
-/// What a search does with a load.
+/// What a search does with the rest of an open load.
 pub enum Sorted {
-    /// It needs no cite: it isn't full, or the bound refutes its rest.
-    Closed,
-    /// The entry of this number refutes its rest.
+    /// The entry of this number refutes it.
     Covered(u64),
-    /// Its rest is empty, so there is a balance.
+    /// It is empty, so there is a balance.
     Empty,
-    /// Its rest is to be searched.
-    Open(TaskSet),
+    /// It is to be searched.
+    Open,
 }
 
-/// What is to be done with the last load of a frame, at which its listing stands. The total time of what it leaves
-/// is asked first, since it closes most loads, and then how many tasks over half a cycle it leaves.
-pub fn sort_load<L: Looker<D>, D: Desk>(
+/// What is to be done with the rest of an open load, for which so many stations are left: an entry that refutes it is
+/// looked for, then pairs, and then a Swap.
+pub fn sort_rest<L: Looker<D>, D: Desk>(
     alloc: Global,
     desk: &mut D,
     inst: &Instance,
     kind: LineKind,
     cycle: u64,
-    frame: &OpenFrame,
-    load: &Load,
-    listing: &Listing,
+    rest: &TaskSet,
+    most: u32,
     pairs: &mut Option<PairTable>,
 ) -> Result<Sorted, AllocError>
     requires desk { IsFor (D.desk desk.old) inst.now kind cycle }
     requires cycle { IsCycle cycle }
-    requires set { IsTaskSet inst.now frame.now.set }
-    requires load { IsLoad inst.now cycle frame.now.mode frame.now.set load.now }
-    requires last { frame.now.last ≡ Some load.now }
-    requires beside { IsBeside inst.now cycle frame.now listing.now }
-    requires some { 1 ≤ frame.now.most }
-    requires few { frame.now.most ≤ 1024 }
+    requires set { IsTaskSet inst.now rest.now }
+    requires few { most ≤ 1024 }
     requires pairs { IfSome pairs.old (IsPairing inst.now kind cycle) }
     ensures keeps { Keeps (D.desk desk.old) (D.desk desk.new) }
     ensures pairs { pairs.new ≡ pairs.old }
-    ensures publishes { (asked : Option Mode) → let rest = rest frame.now.set load.now in
-        IfOk result (λ s. DoesFor asked kind inst.now cycle (D.desk desk.old) (D.desk desk.new) rest (may_add s) 0) }
-    ensures fails { (asked : Option Mode) → let rest = rest frame.now.set load.now in
-        OnErr result (DoesFor asked kind inst.now cycle (D.desk desk.old) (D.desk desk.new) rest 0 0) }
+    ensures publishes { (asked : Option Mode) → IfOk result (λ s.
+        DoesFor asked kind inst.now cycle (D.desk desk.old) (D.desk desk.new) rest.now (may_add s) 0) }
+    ensures fails { (asked : Option Mode) →
+        OnErr result (DoesFor asked kind inst.now cycle (D.desk desk.old) (D.desk desk.new) rest.now 0 0) }
     ensures sorts { IfOk result
-        (Sorts kind inst.now cycle (L.exact && (D.desk desk.old).alone) (entries (D.desk desk.new)) frame.now load.now) }
+        (Sorts cycle (L.exact && (D.desk desk.old).alone) (entries (D.desk desk.new)) rest.now most) }
 {
-    let times = rest_times(inst, cycle, frame, load, listing);
-    if is_longer(times.total, frame.most - 1, cycle) {
-        return Ok(Sorted::Closed);
-    }
-    let rest = frame.set.minus(&load.front.union(&load.back));
-    if listing.halves.meet(&rest).count() > frame.most - 1 {
-        return Ok(Sorted::Closed);
-    }
-    if !listing.walk.full(inst) {
-        return Ok(Sorted::Closed);
-    }
-    if exceeds_with(inst, kind, cycle, &rest, times, frame.most - 1) {
-        return Ok(Sorted::Closed);
-    }
     if rest.is_empty() {
         return Ok(Sorted::Empty);
     }
-    if let Some(id) = L::find(desk, &rest, frame.most - 1) {
+    if let Some(id) = L::find(desk, rest, most) {
         return Ok(Sorted::Covered(id));
     }
-    if let Paired::Refuted { hull, two } = ask_pairs(
-        pairs,
-        inst,
-        kind,
-        cycle,
-        &rest,
-        frame.most - 1,
-    ) {
-        let most = frame.most - 1;
+    if let Paired::Refuted { hull, two } = ask_pairs(pairs, inst, kind, cycle, rest, most) {
         let paired = publish_pairs(alloc, desk, inst, kind, cycle, &hull, most, &two)?;
         return Ok(Sorted::Covered(paired));
     }
-    match publish_swap::<L, D>(desk, inst, kind, cycle, &rest, frame.most - 1)? {
+    match publish_swap::<L, D>(desk, inst, kind, cycle, rest, most)? {
         Some(id) => Ok(Sorted::Covered(id)),
-        None => Ok(Sorted::Open(rest)),
+        None => Ok(Sorted::Open),
     }
 }

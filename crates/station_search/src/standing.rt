@@ -8,6 +8,7 @@ ghost use Rattle.line_instance.specs.Line.{IsTaskSet};
 ghost use Rattle.line_rules.specs.Loads.{Belongs};
 ghost use Rattle.line_rules.specs.Ranges.{IsCycle};
 ghost use Rattle.line_rules.specs.declared.types.Mode.{Mode as Way};
+ghost use Rattle.lower_bounds.specs.Sizes.{AreSizeSets};
 ghost use Rattle.lemma_core.specs.Desks.{Keeps};
 ghost use Rattle.station_search.specs.Mode.{frame_mode};
 ghost use Rattle.station_search.specs.Decide.{IsFor, IsPairing};
@@ -19,11 +20,12 @@ use crate::listings::{Listing, begin_listing, next_load, pass_over};
 use crate::looking::Looker;
 use crate::modes::mode_for;
 use crate::pairing::{enter, enter_first, leave};
-use crate::sorting::{Sorted, sort_load};
+use crate::sorting::{Sorted, sort_rest};
 use crate::stacks::{pop_from, push_on, stack_with_room, take_from};
 use lemma_core::Desk;
 use line_instance::{Instance, TaskSet};
 use line_rules::{Cites, Frames, LineKind, Mode, OpenFrame};
+use lower_bounds::SizeSets;
 use pair_search::PairTable;
 use std::alloc::{AllocError, Global};
 use std::mem::replace;
@@ -47,7 +49,7 @@ pub enum Listed {
     Ended,
     /// There is one, and no unit for it.
     Spent,
-    /// It needs no search: it isn't open, or the frame cites an entry that refutes its rest.
+    /// It needs no search: the frame cites an entry that refutes its rest.
     Passed,
     /// Its rest is empty, so there is a balance.
     Empty,
@@ -183,20 +185,22 @@ fn catch_up(frame: &mut OpenFrame, listing: &Listing, passed: bool)
     }
 }
 
-/// Lists the next load of the frame in hand, where there is one and a unit for it, and sorts it. Loads before it whose
-/// rest takes too long are passed over.
+/// Lists the next load of the frame in hand, where there is one and a unit for it, and sorts what it leaves. Loads before
+/// it that aren't open are passed over.
 pub fn list_load<L: Looker<D>, D: Desk>(
     alloc: Global,
     desk: &mut D,
     inst: &Instance,
     kind: LineKind,
     cycle: u64,
+    sizes: &SizeSets,
     pairs: &mut Option<PairTable>,
     units: &mut Units,
     standing: &mut Standing,
 ) -> Result<Listed, AllocError>
     requires desk { IsFor (D.desk desk.old) inst.now kind cycle }
     requires cycle { IsCycle cycle }
+    requires sizes { AreSizeSets inst.now cycle sizes.now }
     requires set { IsTaskSet inst.now standing.old.frame.set }
     requires beside { IsBeside inst.now cycle standing.old.frame standing.old.listing }
     requires some { 1 ≤ standing.old.frame.most }
@@ -217,6 +221,7 @@ pub fn list_load<L: Looker<D>, D: Desk>(
         inst,
         kind,
         cycle,
+        sizes,
         &standing.frame,
         &mut standing.listing,
         units,
@@ -227,25 +232,15 @@ pub fn list_load<L: Looker<D>, D: Desk>(
             Some(_) => Ok(Listed::Spent),
         };
     }
-    let load = standing.listing.walk.load();
-    standing.frame.last = Some(load);
-    match sort_load::<L, D>(
-        alloc,
-        desk,
-        inst,
-        kind,
-        cycle,
-        &standing.frame,
-        &load,
-        &standing.listing,
-        pairs,
-    )? {
-        Sorted::Closed => Ok(Listed::Passed),
+    standing.frame.last = Some(standing.listing.walk.load());
+    let rest = standing.listing.walk.rest(inst);
+    let most = standing.frame.most - 1;
+    match sort_rest::<L, D>(alloc, desk, inst, kind, cycle, &rest, most, pairs)? {
         Sorted::Covered(cite) => {
             standing.frame.cites.push(cite)?;
             Ok(Listed::Passed)
         }
         Sorted::Empty => Ok(Listed::Empty),
-        Sorted::Open(rest) => Ok(Listed::Open(rest)),
+        Sorted::Open => Ok(Listed::Open(rest)),
     }
 }

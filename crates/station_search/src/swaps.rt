@@ -1,8 +1,9 @@
 //! The Swap rule: a rest is refuted where an entry refutes the set in which one of its tasks gives way to a task that
 //! can stand in for it.
 //!
-//! At most 32 looks are made for a rest, with the kept partners of its tasks.
-ghost use Rattle.std.specs.Prelude.{◌≡◌, ◌<◌, ◌≤◌, ◌&&◌, true, Option, IsNone, IfSome, IfOk, OnErr};
+//! At most 32 looks are made for a rest, with the kept partners of its tasks. One set serves all looks: a task is taken
+//! out and its partner put in, and both are turned back after the look, so nothing is copied.
+ghost use Rattle.std.specs.Prelude.{◌≡◌, false, slice_set, ◌<◌, ◌≤◌, ◌&&◌, true, Option, IsNone, IfSome, IfOk, OnErr};
 ghost use Rattle.line_instance.specs.Truths.{In};
 ghost use Rattle.line_instance.specs.Line.{IsTaskSet};
 ghost use Rattle.line_rules.specs.Entries.{IsUnanswered, FollowsBySwap};
@@ -35,7 +36,8 @@ struct Swap {
     in_task: u32,
 }
 
-// Looks for a set in which a partner stands in for the task, while looks are left.
+// Looks for a set in which a partner stands in for the task, while looks are left. `swapped` is the set without the task,
+// and is so again in the end.
 fn swap_out<L: Looker<D>, D: Desk>(
     desk: &mut D,
     inst: &Instance,
@@ -44,11 +46,14 @@ fn swap_out<L: Looker<D>, D: Desk>(
     set: &TaskSet,
     most: u32,
     out_task: u32,
+    swapped: &mut TaskSet,
     looks: &mut u32,
 ) -> Option<Swap>
     requires desk { IsFor (D.desk desk.old) inst.now kind cycle }
     requires set { IsTaskSet inst.now set.now }
     requires task { In set.now out_task }
+    requires swapped { swapped.old ≡ slice_set set.now out_task false }
+    ensures swapped { swapped.new ≡ swapped.old }
     ensures waits { Waits (D.desk desk.old) (D.desk desk.new) }
     ensures found { IfSome result (λ s. let swap = swap_of cycle set.now most s.cite s.out_task s.in_task in
         FollowsBySwap inst.now (entries (D.desk desk.new)) swap s.cite s.out_task s.in_task) }
@@ -65,8 +70,10 @@ fn swap_out<L: Looker<D>, D: Desk>(
             return None;
         }
         *looks -= 1;
-        let swapped = set.without(out_task).with(in_task);
-        if let Some(cite) = L::find(desk, &swapped, most) {
+        swapped.insert(in_task);
+        let found = L::find(desk, swapped, most);
+        swapped.remove(in_task);
+        if let Some(cite) = found {
             return Some(Swap {
                 cite,
                 out_task,
@@ -93,10 +100,23 @@ fn find_swap<L: Looker<D>, D: Desk>(
         FollowsBySwap inst.now (entries (D.desk desk.new)) swap s.cite s.out_task s.in_task) }
 {
     let mut looks = MAX_LOOKS;
+    let mut swapped = *set;
     for task in set {
-        if let Some(swap) = swap_out::<L, D>(desk, inst, kind, cycle, set, most, task, &mut looks) {
+        swapped.remove(task);
+        if let Some(swap) = swap_out::<L, D>(
+            desk,
+            inst,
+            kind,
+            cycle,
+            set,
+            most,
+            task,
+            &mut swapped,
+            &mut looks,
+        ) {
             return Some(swap);
         }
+        swapped.insert(task);
         if looks == 0 {
             return None;
         }

@@ -1,6 +1,6 @@
 -- The steps of a search: where it stands before and after.
 use Rattle.std.specs.Prelude.{◌≡◌, ℕ, ◌+◌, ◌-◌, ◌<◌, Bool, true, List, [], ◌∷◌, ◌++◌, length, slice_get, vec_len, vec_capacity}
-use Rattle.std.specs.Prelude.{Option, Some, None, ◌⊎◌}
+use Rattle.std.specs.Prelude.{Option, Some, None}
 use Rattle.line_instance.specs.Truths.{IsEmpty}
 use Rattle.line_instance.specs.Line.{Line}
 use Rattle.line_rules.specs.Loads.{IsLoad, Belongs, rest}
@@ -116,12 +116,11 @@ pub record ListsNone (old new : DeskView) (s t : Standing) : Type 0 where
   pub stays : t ≡ stands_with s s.frame t.listing
   pub desk : new ≡ old
 
--- the load isn't open and the cites are the same, or one cite more refutes its rest
+-- the load is open, and one cite more refutes its rest
 abbrev pub PassesBy : LineKind → Line → ℕ → DeskView → OpenFrame → Load → List ℕ → Type 0
 PassesBy kind line X new f l cites =
-    ((cites ≡ f.cites) × (IsOpen kind line X f.mode f.set f.most l → ⊥))
-    ⊎ ((id : ℕ) × ((cites ≡ f.cites ++ id ∷ []) × IsOpen kind line X f.mode f.set f.most l
-    × Cites (entries new) id (rest f.set l) (f.most - 1) X))
+    (id : ℕ) × ((cites ≡ f.cites ++ id ∷ []) × IsOpen kind line X f.mode f.set f.most l
+    × Cites (entries new) id (rest f.set l) (f.most - 1) X)
 
 pub record ListsPassed (kind : LineKind) (line : Line) (X : ℕ) (old new : DeskView) (s t : Standing) : Type 0 where
   pub load : Load

@@ -1,10 +1,9 @@
 -- What the steps of a search do: how a load is sorted, what is published, and what a walk stands for.
-use Rattle.std.specs.Prelude.{◌≡◌, ℕ, ◌+◌, ◌-◌, ◌*◌, ◌<◌, ◌≤◌, Bool, true, List, [], ◌∷◌, ◌++◌, length, Option, Some}
+use Rattle.std.specs.Prelude.{◌≡◌, ℕ, ◌+◌, ◌≤◌, Bool, true, List, [], ◌∷◌, ◌++◌, length, Option, Some}
 use Rattle.std.specs.Prelude.{None}
-use Rattle.line_instance.specs.Truths.{In, IsEmpty, IsSubset}
-use Rattle.line_instance.specs.Line.{Line, time}
-use Rattle.line_rules.specs.Loads.{rest}
-use Rattle.line_rules.specs.Entries.{IsOpen, Cites, IsUnanswered}
+use Rattle.line_instance.specs.Truths.{IsEmpty, IsSubset}
+use Rattle.line_instance.specs.Line.{Line}
+use Rattle.line_rules.specs.Entries.{Cites, IsUnanswered}
 use Rattle.line_rules.specs.Units.{UnitsOf, UnitsIn}
 use Rattle.line_rules.specs.declared.types.LineKind.{LineKind}
 use Rattle.line_rules.specs.declared.types.Mode.{Mode}
@@ -24,8 +23,7 @@ use Rattle.station_search.specs.declared.listings.Listing.{Listing}
 use Rattle.station_search.specs.declared.sorting.Sorted.{Sorted}
 use Rattle.station_search.specs.declared.sorting.Sorted.TheVariants as sorted
 
--- the listing goes over the loads of the frame, stands at its last one, has the times of its set, and knows tasks that
--- take more than half a cycle
+-- the listing goes over the loads of the frame, stands at its last one, and has the times of its set
 pub record IsBeside (line : Line) (X : ℕ) (f : OpenFrame) (g : Listing) : Type 0 where
   pub walk : IsWalk line g.walk
   pub same_cycle : g.walk.cycle ≡ X
@@ -33,7 +31,6 @@ pub record IsBeside (line : Line) (X : ℕ) (f : OpenFrame) (g : Listing) : Type
   pub same_set : g.walk.set ≡ f.set
   pub same_last : g.walk.last ≡ f.last
   pub times : AreTimes line f.set g.times.total g.times.longest
-  pub halves : (i : ℕ) → In g.halves i → X < 2 * time line i
 
 -- the frame with a load as its last, and with other cites
 abbrev pub with_last : OpenFrame → Load → OpenFrame
@@ -54,16 +51,12 @@ swap_of X set most cite out into = record { set = set; most = most; cycle = X; w
 abbrev pub pairs_of : ℕ → List Bool → ℕ → List Bool → Entry
 pairs_of X set most two = record { set = set; most = most; cycle = X; why = why.Pairs two }
 
--- What is told of a load of the frame: it isn't open; an entry refutes its rest; its rest is empty; or its rest is
--- open, and no entry answers it where the looks were exact and the desk is alone.
-abbrev pub Sorts : LineKind → Line → ℕ → Bool → List Entry → OpenFrame → Load → Sorted → Type 0
-Sorts kind line X sure es f l sorted.Closed = IsOpen kind line X f.mode f.set f.most l → ⊥
-Sorts kind line X sure es f l (sorted.Covered id) =
-    IsOpen kind line X f.mode f.set f.most l × Cites es id (rest f.set l) (f.most - 1) X
-Sorts kind line X sure es f l sorted.Empty = IsOpen kind line X f.mode f.set f.most l × IsEmpty (rest f.set l)
-Sorts kind line X sure es f l (sorted.Open set) =
-    IsOpen kind line X f.mode f.set f.most l × (set ≡ rest f.set l) × (IsEmpty set → ⊥)
-    × (sure ≡ true → IsUnanswered es set (f.most - 1) X)
+-- What is told of the rest of an open load, for which n stations are left: an entry refutes it; it is empty; or it isn't,
+-- and no entry answers it where the looks were exact and the desk is alone.
+abbrev pub Sorts : ℕ → Bool → List Entry → List Bool → ℕ → Sorted → Type 0
+Sorts X sure es T n (sorted.Covered id) = Cites es id T n X
+Sorts X sure es T n sorted.Empty = IsEmpty T
+Sorts X sure es T n sorted.Open = (IsEmpty T → ⊥) × (sure ≡ true → IsUnanswered es T n X)
 
 -- What was done on a desk: these own events, which paid so much; a desk that is alone saw nothing else.
 pub record Does (asked : Option Mode) (kind : LineKind) (line : Line) (X : ℕ) (old new : DeskView)
@@ -96,12 +89,11 @@ pub record DoesFor (asked : Option Mode) (kind : LineKind) (line : Line) (X : �
   pub within : AreWithin T (added_of items)
   pub fresh : old.alone ≡ true → UnitsOf line (added_of items) n
 
--- how many entries may be added where a load is sorted: one by Pairs or by Swap where the load is covered
+-- how many entries may be added where a rest is sorted: one by Pairs or by Swap where it is covered
 abbrev pub may_add : Sorted → ℕ
-may_add sorted.Closed = 0
 may_add (sorted.Covered id) = 1
 may_add sorted.Empty = 0
-may_add (sorted.Open set) = 0
+may_add sorted.Open = 0
 
 -- how many entries may be added where a Swap is looked for: one where it is found
 abbrev pub may_swap : Option ℕ → ℕ
