@@ -1,10 +1,10 @@
 //! The bound on the stations of a set of tasks, and whether it exceeds a number.
 //!
-//! The search asks whether far oftener than how many: of each full load, about the set that the load leaves. So a
-//! question is settled as soon as may be. The total time comes first: one division, where the caller keeps the times
-//! of the set. Then the sizes of the tasks are counted, in one pass; and only then heads and tails are gone over, at
-//! most a pass over the set for each of its tasks. A search that keeps the tasks of its line in sets by their
-//! sizes asks these in place of the pass, and then heads and tails alone.
+//! Whether is asked far oftener than how many, so a question is settled as soon as may be. The total time comes first:
+//! one pass and one division. Then the sizes of the tasks are counted, in one pass; and only then heads and tails are
+//! gone over, at most a pass over the set for each of its tasks. A search asks of each load, about the set that the
+//! load leaves. It keeps total times, and the tasks of its line in sets by their sizes. So it asks these two, which
+//! cost no pass, and then heads and tails alone.
 ghost use Rattle.std.specs.Prelude.{◌≡◌, ◌≤◌, ◌<◌, ◌*◌, ◌↔◌, ℕ, IsTrue};
 ghost use Rattle.line_instance.specs.Truths.{IsEmpty};
 ghost use Rattle.line_instance.specs.Line.{IsTaskSet};
@@ -63,11 +63,8 @@ pub fn exceeds(inst: &Instance, kind: LineKind, cycle: u64, set: &TaskSet, most:
     exceeds_with(inst, kind, cycle, set, times_in(inst, set), most)
 }
 
-/// The same, with the times of the set, which a caller may keep: so the set isn't summed anew. For a set that a load
-/// leaves, the total is the total of the whole less that of the load, and no task of it takes longer than the longest
-/// of the whole.
-#[inline]
-pub fn exceeds_with(
+/// The same, with the times of the set.
+fn exceeds_with(
     inst: &Instance,
     kind: LineKind,
     cycle: u64,

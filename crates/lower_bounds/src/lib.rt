@@ -7,7 +7,7 @@ mod chains;
 mod sizes;
 mod total;
 
-pub use bounds::{bound, exceeds, exceeds_by_chains, exceeds_with};
+pub use bounds::{bound, exceeds, exceeds_by_chains};
 pub use by_size::{SizeSets, exceeds_by_sizes, size_sets};
 pub use sizes::{Times, times_in};
 pub use total::{first_too_long, total_bound, total_time};

@@ -79,7 +79,7 @@ pub(crate) fn places_of(inst: &Instance, side: Side, part: &TaskSet) -> Marks
     let _tasks = inst.tasks();
     let mut places = Marks::none();
     let mut left = *part;
-    while let Some(task) = left.least() {
+    while let Some(task) = nearest(inst, &left, Side::Front) {
         left.remove(task);
         places.mark(place_of(inst, side, task));
     }

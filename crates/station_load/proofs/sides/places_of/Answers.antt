@@ -15,7 +15,7 @@ loop-task-init c =
 pub loop-task-smaller : goal.loop-task-smaller
 loop-task-smaller c =
     let P : List Bool → Type 0 = λ b. members b < members c.loop-task.left in
-    subst P (sym c.remove.ensures.value) (members_less c.loop-task.left c.in-Some.task c.in-Some.ensures.some.member)
+    subst P (sym c.remove.ensures.value) (members_less c.loop-task.left c.in-Some.task c.in-Some.ensures.some)
 
 pub loop-task-preserved : goal.loop-task-preserved
 loop-task-preserved c =
@@ -26,8 +26,8 @@ loop-task-preserved c =
     (omega (arith, c.place_of.ensures.within, c.tasks-tasks.ensures.line.small)) in
     place_turn c.args.inst.now c.tasks-tasks.ensures.ranked c.args.side c.args.part.now c.loop-task.left
     c.loop-task.places c.loop-task.invariant c.remove.new.self c.mark.new.self c.place_of.result c.in-Some.task
-    c.place_of.ensures.within c.place_of.ensures.task c.in-Some.ensures.some.member inL inP
+    c.place_of.ensures.within c.place_of.ensures.task c.in-Some.ensures.some inL inP
 
 pub returns : goal.returns
 returns c = place_end c.args.inst.now c.args.side c.args.part.now c.loop-task.left c.loop-task.places
-    c.loop-task.invariant (c.in_default.ensures.none.0 refl)
+    c.loop-task.invariant (c.in_default.ensures.none refl)
