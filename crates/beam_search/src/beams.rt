@@ -174,8 +174,8 @@ impl Levels {
         Ok(())
     }
 
-    /// Whether neither the bound of a rest nor pairs say that it needs more than so many stations. Pairs aren't asked
-    /// of one station, where they tell next to nothing more.
+    /// Whether neither the bound of a rest nor pairs say that it needs more than so many stations. One station is asked
+    /// for too: two tasks that are apart refute it then.
     fn may_fit(
         &self,
         inst: &Instance,
@@ -192,9 +192,6 @@ impl Levels {
         let tasks = inst.all().meet(&self.line.tasks_at(set));
         if exceeds(inst, self.wanted.kind, self.wanted.cycle, &tasks, stations) {
             return false;
-        }
-        if stations < 2 {
-            return true;
         }
         let Some(table) = pairs else {
             return true;

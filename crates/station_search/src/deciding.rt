@@ -65,8 +65,8 @@ pub fn decide<D: Desk>(
 /// and with a table of pairs, which is of this line, kind and cycle. `decide` asks for no mode, and then each frame has
 /// the mode of its set; and it has no table.
 ///
-/// With a table the pairs are asked after the desk, where `most` is at least 2: of the question, and of each rest
-/// before a Swap is looked for. What they refute is published as an entry by Pairs, of the question's own set, or of the
+/// With a table the pairs are asked after the desk: of the question, where `most` is at least 2, and of each rest, before
+/// a Swap is looked for. What they refute is published as an entry by Pairs, of the question's own set, or of the
 /// part of the rest that counts. That uses no unit.
 pub fn decide_in<D: Desk>(
     alloc: Global,

@@ -40,8 +40,8 @@ pub fn table_for(
     Ok(Some(pair_table(alloc, inst, kind, cycle)?))
 }
 
-/// What pairs say of a set of tasks in `most` stations, where there is a table. One station isn't asked for: there
-/// only tasks that are apart could refute what the bound leaves open.
+/// What pairs say of a question, a set of tasks in `most` stations, where there is a table. A question of one station
+/// isn't asked: there only tasks that are apart could refute what the bound leaves open.
 #[inline]
 pub fn ask_pairs(
     pairs: &mut Option<PairTable>,
@@ -62,6 +62,28 @@ pub fn ask_pairs(
     if most < 2 {
         return Paired::Open;
     }
+    ask_pairs_of_rest(pairs, inst, kind, cycle, set, most)
+}
+
+/// What pairs say of the rest that a load leaves, in the stations that are left, where there is a table. One station is
+/// asked for too: two tasks that are apart refute it then.
+#[inline]
+pub fn ask_pairs_of_rest(
+    pairs: &mut Option<PairTable>,
+    inst: &Instance,
+    kind: LineKind,
+    cycle: u64,
+    set: &TaskSet,
+    most: u32,
+) -> Paired
+    requires pairs { IfSome pairs.old (IsPairing inst.now kind cycle) }
+    requires set { IsTaskSet inst.now set.now }
+    requires few { most ≤ 1024 }
+    ensures pairs { pairs.new ≡ pairs.old }
+    ensures truths { IfRefuted result (λ hull two. length hull ≡ 1024) }
+    ensures within { IfRefuted result (λ hull two. IsSubset hull set.now) }
+    ensures refuted { IfRefuted result (λ hull two. IsRefutedByPairs kind inst.now cycle hull most two) }
+{
     let Some(table) = pairs else {
         return Paired::Open;
     };

@@ -8,7 +8,7 @@ ghost use Rattle.station_search.specs.Decide.{IsFor, IsPairing};
 ghost use Rattle.station_search.specs.inner.Work.{Sorts, DoesFor, may_add};
 
 use crate::looking::Looker;
-use crate::pairing::{ask_pairs, publish_pairs};
+use crate::pairing::{ask_pairs_of_rest, publish_pairs};
 use crate::swaps::publish_swap;
 use lemma_core::Desk;
 use line_instance::{Instance, TaskSet};
@@ -58,7 +58,7 @@ pub fn sort_rest<L: Looker<D>, D: Desk>(
     if let Some(id) = L::find(desk, rest, most) {
         return Ok(Sorted::Covered(id));
     }
-    if let Paired::Refuted { hull, two } = ask_pairs(pairs, inst, kind, cycle, rest, most) {
+    if let Paired::Refuted { hull, two } = ask_pairs_of_rest(pairs, inst, kind, cycle, rest, most) {
         let paired = publish_pairs(alloc, desk, inst, kind, cycle, &hull, most, &two)?;
         return Ok(Sorted::Covered(paired));
     }

@@ -158,16 +158,16 @@ pub returns-in-Some-clause-pairs : goal.returns-in-Some-clause-pairs
 returns-in-Some-clause-pairs g c = refl
 
 pub returns-in_err-paired-clause-pairs : goal.returns-in_err-paired-clause-pairs
-returns-in_err-paired-clause-pairs g c = c.ask_pairs.ensures.pairs
+returns-in_err-paired-clause-pairs g c = c.ask_pairs_of_rest.ensures.pairs
 
 pub returns-in-Refuted-clause-pairs : goal.returns-in-Refuted-clause-pairs
-returns-in-Refuted-clause-pairs g c = c.ask_pairs.ensures.pairs
+returns-in-Refuted-clause-pairs g c = c.ask_pairs_of_rest.ensures.pairs
 
 pub returns-in_err-id-clause-pairs : goal.returns-in_err-id-clause-pairs
-returns-in_err-id-clause-pairs g c = c.ask_pairs.ensures.pairs
+returns-in_err-id-clause-pairs g c = c.ask_pairs_of_rest.ensures.pairs
 
 pub returns-in-Some-2-clause-pairs : goal.returns-in-Some-2-clause-pairs
-returns-in-Some-2-clause-pairs g c = c.ask_pairs.ensures.pairs
+returns-in-Some-2-clause-pairs g c = c.ask_pairs_of_rest.ensures.pairs
 
 pub returns-in-None-clause-pairs : goal.returns-in-None-clause-pairs
-returns-in-None-clause-pairs g c = c.ask_pairs.ensures.pairs
+returns-in-None-clause-pairs g c = c.ask_pairs_of_rest.ensures.pairs
