@@ -14,7 +14,7 @@
 # Above 126 the program couldn't be run, or a signal ended it.
 set -euf
 [ $# -ge 2 ] || { echo "examples/batch/one.sh OUT NUMBER .." >&2; exit 2; }
-program=${LINE:-$(dirname "$0")/../../crates/line_program/out/line_program}
+program=${LINE:-$("$(dirname "$0")/../../tools/program" 2> /dev/null || echo "$(dirname "$0")/../../bin/line")}
 case $program in
     /*) ;;
     */*) program=$PWD/$program ;;
