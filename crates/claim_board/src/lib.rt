@@ -13,7 +13,5 @@
 #![tactic(auto)]
 
 mod board;
-#[cfg(test)]
-mod tests;
 
 pub use board::{Board, open_board};

@@ -9,8 +9,7 @@ mod print_solution;
 mod said;
 mod solution;
 mod warm_start;
-#[cfg(test)]
-mod warm_tests;
 
 pub use round_run::{AlwaysOpen, Gate, Plan};
 pub use solution::solve_report;
+pub use warm_start::entries_in;

@@ -96,7 +96,7 @@ fn entries_of(alloc: Global, claim: Claim) -> Entries
 }
 
 /// The entries of a certificate that a run over the line may begin with.
-pub(crate) fn entries_in(
+pub fn entries_in(
     alloc: Global,
     inst: &Instance,
     kind: LineKind,

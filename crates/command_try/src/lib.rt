@@ -3,8 +3,6 @@
 #![tactic(auto)]
 
 mod print_try;
-#[cfg(test)]
-mod tests;
 mod trying;
 
 pub use trying::try_report;

@@ -3,7 +3,5 @@
 #![tactic(auto)]
 
 mod drawing;
-#[cfg(test)]
-mod tests;
 
 pub use drawing::{Generated, generate};

@@ -19,9 +19,9 @@ mod job_list;
 mod piece_work;
 mod question_work;
 mod teams;
-#[cfg(test)]
-mod tests;
 
+pub use equipment::equip;
 pub use gates::{AlwaysOpen, Gate};
-pub use helping::{Help, Helped, call_helpers};
+pub use helping::{Help, Helped, call_helpers, help_at};
 pub use job_list::{Job, jobs};
+pub use question_work::Question;

@@ -19,8 +19,6 @@ mod plans;
 mod questions;
 mod rounds;
 mod solving;
-#[cfg(test)]
-mod tests;
 
 pub use certify::{
     certify_optimum, certify_stop, certify_too_long, certify_warm_optimum, certify_warm_stop,

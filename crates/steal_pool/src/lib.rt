@@ -18,8 +18,6 @@ mod piece;
 mod pool;
 mod port;
 mod rules;
-#[cfg(test)]
-mod tests;
 mod views;
 
 pub use closing::Closed;

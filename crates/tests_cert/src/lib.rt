@@ -1,16 +1,8 @@
-//! Tests of certificates: their ranges, their lines and texts of all versions, what is read from memory, and the fault
-//! that each spoilt line has.
+//! Tests of certificates that no run shows: those that are out of their ranges, which no text says; and texts that are
+//! read and written piece by piece, with calls that fail.
 #![tactic(auto)]
 
 #[cfg(test)]
-mod hostile;
-#[cfg(test)]
-mod lines;
-#[cfg(test)]
-mod pairs;
-#[cfg(test)]
 mod ranges;
 #[cfg(test)]
-mod texts;
-#[cfg(test)]
-mod versions;
+mod streams;

@@ -1,6 +1,0 @@
-use Rattle.std.proofs.Common.{◌≡◌}
-use Rattle.steal_pool.specs.Hands.{IsHandOf}
-use Rattle.steal_pool.proofs.tests.work.Given as goal
-
-abbrev pub invariant-loop : goal.invariant-loop
-invariant-loop g l = record { hand : IsHandOf l.pool l.hand; name : l.hand.name ≡ l.fn.hand.name }

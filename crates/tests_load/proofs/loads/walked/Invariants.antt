@@ -1,5 +1,0 @@
-use Rattle.station_load.specs.Walking.{IsWalk}
-use Rattle.tests_load.proofs.loads.walked.Given as goal
-
-abbrev pub invariant-steps : goal.invariant-steps
-invariant-steps l = IsWalk l.inst l.walk

@@ -1,0 +1,6 @@
+use Rattle.line_rules.proofs.Between.{met_tasks}
+use Rattle.tests_search.proofs.pair_searches.is_right.Goals as goal
+
+pub find-requires-clause-set : goal.find-requires-clause-set
+find-requires-clause-set c = met_tasks c.args.inst.now c.all.result c.set_of.result c.meet-set.result
+    c.all.ensures.set c.meet-set.ensures.value c.meet-set.ensures.truths
