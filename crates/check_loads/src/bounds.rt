@@ -3,9 +3,10 @@
 //! The tests go from cheap to dear: the total time, the sizes of the tasks, and last what is before and after a task.
 //! Most questions ask only whether the bound exceeds a number. The value itself is needed only where an entry is
 //! refused. It is found by asking for 0, 1, 2 and so on, at most 1,025 times, so that the bound has one code.
-ghost use Rattle.std.specs.Prelude.{◌≡◌, ◌≤◌, ◌<◌, ◌↔◌, IsTrue};
+ghost use Rattle.std.specs.Prelude.{◌≡◌, ℕ, ◌≤◌, ◌<◌, ◌↔◌, IsTrue};
+ghost use Rattle.line_instance.specs.Truths.{In};
 ghost use Rattle.line_instance.specs.Line.{IsTaskSet};
-ghost use Rattle.line_rules.specs.Bounds.{bound};
+ghost use Rattle.line_rules.specs.Bounds.{bound, IsChained};
 ghost use Rattle.line_rules.specs.Times.{AreTimes};
 
 use crate::chains::has_longer_chain;
@@ -35,6 +36,27 @@ pub fn exceeds(
     requires times { AreTimes inst.now set.now times.total times.longest }
     ensures { IsTrue result ↔ most < bound kind inst.now cycle set.now }
 {
+    exceeds_of(inst, kind, cycle, set, times, set, most)
+}
+
+/// The same, where only tasks of `chained` are looked at for their heads and tails. It has all those of the set that need
+/// more than `most` stations by them.
+pub fn exceeds_of(
+    inst: &Instance,
+    kind: LineKind,
+    cycle: u64,
+    set: &TaskSet,
+    times: Times,
+    chained: &TaskSet,
+    most: u32,
+) -> bool
+    requires set { IsTaskSet inst.now set.now }
+    requires some { 1 ≤ cycle }
+    requires limit { cycle ≤ 1000000000000000000 }
+    requires times { AreTimes inst.now set.now times.total times.longest }
+    requires chained { (j : ℕ) → IsChained kind inst.now cycle set.now most j → In chained.now j }
+    ensures { IsTrue result ↔ most < bound kind inst.now cycle set.now }
+{
     let _tasks = inst.tasks();
     if set.is_empty() || most >= TOO_LONG {
         return false;
@@ -47,7 +69,7 @@ pub fn exceeds(
     if counts.too_long > 0 || stations(counts) > most {
         return true;
     }
-    has_longer_chain(inst, kind, cycle, set, times, most)
+    has_longer_chain(inst, kind, cycle, set, times, chained, most)
 }
 
 /// The bound of a set of tasks: the first number that it doesn't exceed.

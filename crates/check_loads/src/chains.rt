@@ -3,11 +3,12 @@
 //! On a straight line a task with all before it needs some stations, and with all after it some more; its own is
 //! counted once. To sum both for each task costs two passes over the set. Two tests come before that. The longest task
 //! is asked about once for the set. Then what is neither before nor after a task is summed, up to a limit.
-ghost use Rattle.std.specs.Prelude.{◌≡◌, ◌≤◌, ◌<◌, ◌+◌, ◌-◌, ◌*◌, ◌↔◌, IsTrue};
+ghost use Rattle.std.specs.Prelude.{◌≡◌, ℕ, ◌≤◌, ◌<◌, ◌+◌, ◌-◌, ◌*◌, ◌↔◌, IsTrue};
 ghost use Rattle.line_instance.specs.Truths.{In};
 ghost use Rattle.line_instance.specs.Line.{IsTaskSet, has, time};
 ghost use Rattle.line_instance.specs.Sums.{sum_where};
-ghost use Rattle.line_rules.specs.Bounds.{chained, head, tail};
+ghost use Rattle.line_rules.specs.Bounds.{chained, head, tail, IsChained};
+ghost use Rattle.line_rules.specs.declared.types.LineKind.TheVariants.{Straight};
 ghost use Rattle.line_rules.specs.Times.{AreTimes, time_elsewhere};
 
 use crate::sizes::Times;
@@ -90,19 +91,45 @@ fn needs_more(inst: &Instance, cycle: u64, set: &TaskSet, total: u64, stations: 
     chain(inst, cycle, set, j) > stations
 }
 
-/// Whether the head and the tail of a task of a set need more than `stations`, which those of none do on a U-line.
+/// The tasks of a set whose head and tail there need more than `most` stations on a straight line, their own counted
+/// once. Head and tail are sums over the set, so what needs more in a part of the set is among them.
+pub fn chained_tasks(inst: &Instance, cycle: u64, set: &TaskSet, times: Times, most: u32) -> TaskSet
+    requires set { IsTaskSet inst.now set.now }
+    requires some { 1 ≤ cycle }
+    requires limit { cycle ≤ 1000000000000000000 }
+    requires times { AreTimes inst.now set.now times.total times.longest }
+    ensures { (j : ℕ) → In result j ↔ IsChained Straight inst.now cycle set.now most j }
+{
+    let _tasks = inst.tasks();
+    let stations = u64::from(most);
+    let mut found = TaskSet::empty();
+    if u128::from(times.total + times.longest) < enough(cycle, stations) {
+        return found;
+    }
+    for j in set {
+        if needs_more(inst, cycle, set, times.total, stations, j) {
+            found.insert(j);
+        }
+    }
+    found
+}
+
+/// Whether the head and the tail of a task of a set need more than `stations`, which those of none do on a U-line. The
+/// tasks that do are in the set `among`, and no others are looked at.
 pub fn has_longer_chain(
     inst: &Instance,
     kind: LineKind,
     cycle: u64,
     set: &TaskSet,
     times: Times,
+    among: &TaskSet,
     stations: u64,
 ) -> bool
     requires set { IsTaskSet inst.now set.now }
     requires some { 1 ≤ cycle }
     requires limit { cycle ≤ 1000000000000000000 }
     requires times { AreTimes inst.now set.now times.total times.longest }
+    requires among { (j : ℕ) → IsChained kind inst.now cycle set.now stations j → In among.now j }
     ensures { IsTrue result ↔ stations < chained kind inst.now cycle set.now }
 {
     let _tasks = inst.tasks();
@@ -113,7 +140,8 @@ pub fn has_longer_chain(
     if u128::from(times.total + times.longest) < enough(cycle, stations) {
         return false;
     }
-    for j in set {
+    let looked = set.meet(among);
+    for j in &looked {
         if needs_more(inst, cycle, set, times.total, stations, j) {
             return true;
         }

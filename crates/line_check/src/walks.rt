@@ -2,26 +2,29 @@
 //!
 //! A load needs a cite only if it is full and the bound leaves its rest open. Such loads take the cites in their order.
 //! The tests of a load go from cheap to dear: the total time of its rest, whether it is full, the bound of its rest.
-//! The first is one comparison. Each load costs one unit, whatever it needs.
+//! The first is one comparison. The last asks heads and tails of the set's chained tasks alone, which the first load that
+//! comes so far finds. Each load costs one unit, whatever it needs.
 ghost use Rattle.std.specs.Prelude.{◌≡◌, ℕ, ◌-◌, ◌<◌, ◌≤◌, ◌↔◌, length, take, slice_get, Some, IsTrue, IsNone, IfSome};
 ghost use Rattle.std.specs.Prelude.{true, false};
+ghost use Rattle.line_instance.specs.Truths.{In};
 ghost use Rattle.line_rules.specs.Loads.{IsLoad, rest};
-ghost use Rattle.line_rules.specs.Bounds.{bound};
+ghost use Rattle.line_rules.specs.Bounds.{bound, IsChained};
 ghost use Rattle.line_rules.specs.Entries.{IsOpen, Cites as Refutes};
 ghost use Rattle.line_check.specs.Walks.{IsFirstLate, AreBelow, Tells};
-ghost use Rattle.line_check.specs.inner.Steps.{IsLacking, Takes};
+ghost use Rattle.line_check.specs.inner.Steps.{AreChained, IsLacking, Takes};
 ghost use Rattle.line_check.specs.Reaches.{TellsTo, HasEnded};
 ghost use Rattle.check_loads.specs.inner.Posed.{IsPosed};
 ghost use Rattle.check_loads.specs.Standing.{IsWalk, stand};
 
 use crate::entries::is_same;
 use crate::types::Walked;
-use check_loads::bounds::{TOO_LONG, exceeds};
+use check_loads::bounds::{TOO_LONG, exceeds_of};
+use check_loads::chains::chained_tasks;
 use check_loads::loads::Walk;
 use check_loads::questions::{Question, rest};
 use check_loads::sizes::Times;
 use line_instance::{Instance, TaskSet};
-use line_rules::{Cites, Entries, Load};
+use line_rules::{Cites, Entries, LineKind, Load};
 
 /// The first cite that isn't below `k`.
 pub(crate) fn first_late(cites: &Cites, k: u64) -> Option<u64>
@@ -61,12 +64,36 @@ fn is_closed_by_time(inst: &Instance, q: &Question, walk: &Walk) -> bool
     true
 }
 
-/// Whether the bound of the rest of the load is at least as many stations as are asked for.
-fn is_closed(inst: &Instance, q: &Question, walk: &Walk) -> bool
+/// The chained tasks of the question's set, for a station less than it asks for: none on a U-line. They are found where
+/// no load has asked for them yet.
+fn chained_for(inst: &Instance, q: &Question, chained: &mut Option<TaskSet>) -> TaskSet
+    requires posed { IsPosed inst.now q.now }
+    requires some { 1 ≤ q.now.most }
+    requires chained { IfSome chained.old (AreChained inst.now q.now) }
+    ensures chained { IfSome chained.new (AreChained inst.now q.now) }
+    ensures all { (j : ℕ) → IsChained q.now.kind inst.now q.now.cycle q.now.set (q.now.most - 1) j → In result j }
+{
+    match q.kind {
+        LineKind::U => return TaskSet::empty(),
+        LineKind::Straight => {}
+    }
+    if let Some(found) = *chained {
+        return found;
+    }
+    let found = chained_tasks(inst, q.cycle, &q.set, q.times, q.most - 1);
+    *chained = Some(found);
+    found
+}
+
+/// Whether the bound of the rest of the load is at least as many stations as are asked for. Heads and tails are looked at
+/// of the chained tasks alone, of which the rest can have no others.
+fn is_closed(inst: &Instance, q: &Question, walk: &Walk, chained: &TaskSet) -> bool
     requires posed { IsPosed inst.now q.now }
     requires walk { IsWalk inst.now q.now.cycle q.now.mode q.now.set walk.now }
     requires given { walk.now.given ≡ true }
     requires some { 1 ≤ q.now.most }
+    requires chained { (j : ℕ) → IsChained q.now.kind inst.now q.now.cycle q.now.set (q.now.most - 1) j
+        → In chained.now j }
     ensures { IsTrue result ↔ q.now.most ≤ bound q.now.kind inst.now q.now.cycle (rest q.now.set (stand walk.now)) }
 {
     let _tasks = inst.tasks();
@@ -75,15 +102,18 @@ fn is_closed(inst: &Instance, q: &Question, walk: &Walk) -> bool
         longest: q.times.longest,
     };
     let left = rest(&q.set, &walk.load());
-    exceeds(inst, q.kind, q.cycle, &left, times, q.most - 1)
+    exceeds_of(inst, q.kind, q.cycle, &left, times, chained, q.most - 1)
 }
 
 /// Whether the load is full and the bound leaves its rest open, so that it needs a cite.
-fn is_open(inst: &Instance, q: &Question, walk: &Walk) -> bool
+fn is_open(inst: &Instance, q: &Question, walk: &Walk, chained: &mut Option<TaskSet>) -> bool
     requires posed { IsPosed inst.now q.now }
     requires walk { IsWalk inst.now q.now.cycle q.now.mode q.now.set walk.now }
     requires given { walk.now.given ≡ true }
-    ensures { IsTrue result ↔ IsOpen q.now.kind inst.now q.now.cycle q.now.mode q.now.set q.now.most (stand walk.now) }
+    requires chained { IfSome chained.old (AreChained inst.now q.now) }
+    ensures chained { IfSome chained.new (AreChained inst.now q.now) }
+    ensures open { IsTrue result ↔ IsOpen q.now.kind inst.now q.now.cycle q.now.mode q.now.set q.now.most
+        (stand walk.now) }
 {
     if is_closed_by_time(inst, q, walk) {
         return false;
@@ -91,7 +121,8 @@ fn is_open(inst: &Instance, q: &Question, walk: &Walk) -> bool
     if !walk.is_full(inst, q) {
         return false;
     }
-    !is_closed(inst, q, walk)
+    let looked = chained_for(inst, q, chained);
+    !is_closed(inst, q, walk, &looked)
 }
 
 /// Whether the entry `cite`, one of the first `k`, refutes a set in `most` stations at a cycle.
@@ -120,6 +151,7 @@ fn taken_with(
     cites: &Cites,
     taken: usize,
     walk: &Walk,
+    chained: &mut Option<TaskSet>,
 ) -> Option<usize>
     requires posed { IsPosed inst.now q.now }
     requires k { k ≤ length entries.now }
@@ -127,6 +159,8 @@ fn taken_with(
     requires taken { taken ≤ length cites.now }
     requires walk { IsWalk inst.now q.now.cycle q.now.mode q.now.set walk.now }
     requires given { walk.now.given ≡ true }
+    requires chained { IfSome chained.old (AreChained inst.now q.now) }
+    ensures chained { IfSome chained.new (AreChained inst.now q.now) }
     ensures open { IsNone result → IsOpen q.now.kind inst.now q.now.cycle q.now.mode q.now.set q.now.most
         (stand walk.now) }
     ensures lacking { IsNone result → IsLacking q.now.kind inst.now q.now.cycle q.now.mode q.now.set q.now.most
@@ -134,7 +168,7 @@ fn taken_with(
     ensures some { IfSome result (Takes q.now.kind inst.now q.now.cycle q.now.mode q.now.set q.now.most
         (take k entries.now) cites.now (stand walk.now) taken) }
 {
-    if !is_open(inst, q, walk) {
+    if !is_open(inst, q, walk, chained) {
         return Some(taken);
     }
     if taken >= cites.len() {
@@ -177,6 +211,7 @@ pub(crate) fn walk_all(
     let mut walk = Walk::begin(inst, q);
     let mut units: u64 = 0;
     let mut taken: usize = 0;
+    let mut chained: Option<TaskSet> = None;
     'loads: loop {
         if !walk.step(inst, q) {
             return ended(cites, taken, units);
@@ -185,7 +220,7 @@ pub(crate) fn walk_all(
             return Walked::StepsEnded;
         }
         units += 1;
-        match taken_with(inst, q, entries, k, cites, taken, &walk) {
+        match taken_with(inst, q, entries, k, cites, taken, &walk, &mut chained) {
             None => {
                 return Walked::Uncovered {
                     load: walk.load(),
@@ -229,6 +264,7 @@ pub(crate) fn walk_to(
     let mut walk = Walk::begin(inst, q);
     let mut units: u64 = 0;
     let mut taken: usize = 0;
+    let mut chained: Option<TaskSet> = None;
     'loads: loop {
         if !walk.step(inst, q) {
             return Walked::Right { units };
@@ -241,7 +277,16 @@ pub(crate) fn walk_to(
         if ends && !deepest {
             return ended(cites, taken, units);
         }
-        match taken_with(inst, q, entries, entries.len(), cites, taken, &walk) {
+        match taken_with(
+            inst,
+            q,
+            entries,
+            entries.len(),
+            cites,
+            taken,
+            &walk,
+            &mut chained,
+        ) {
             None => {
                 return Walked::Uncovered {
                     load: walk.load(),

@@ -52,6 +52,7 @@ impl PartialEq for TaskSet {
 
     ghost laws = { Prim.search (comparing, rules) };
 
+    #[inline]
     fn eq(&self, other: &TaskSet) -> bool {
         self.words == other.words
     }

@@ -34,6 +34,7 @@ pub mod MembersInOrder
 pub mod SumsOverMembers
 pub mod SizeClasses
 pub mod HeadTail
+pub mod ChainFacts
 pub mod BoundCases
 pub mod Rest
 pub mod NextLoad

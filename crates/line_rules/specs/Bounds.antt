@@ -1,6 +1,6 @@
 -- Lower bounds on the number of stations that a set of tasks needs, and the idle time.
 use Rattle.std.specs.Prelude.{ℕ, zero, suc, ◌+◌, ◌-◌, ◌*◌, ◌/◌, ◌<◌, max, Bool, cond, ◌&&◌, ◌||◌, nat_eq, nat_lt, List}
-use Rattle.line_instance.specs.Truths.{count}
+use Rattle.line_instance.specs.Truths.{In, count}
 use Rattle.line_instance.specs.Line.{Line, has, is_before, tasks, time}
 use Rattle.line_instance.specs.Sums.{sum_where, count_where, weigh}
 use Rattle.line_rules.specs.Balance.{all_tasks}
@@ -65,6 +65,12 @@ greatest_below (suc n) f = max (f n) (greatest_below n f)
 unfoldable pub chained : LineKind → Line → ℕ → List Bool → ℕ
 chained Straight line c R = greatest_below (tasks line) (λ j. cond (has R j) (head line c R j + tail line c R j - 1) 0)
 chained U line c R = 0
+
+-- j is chained in R for m stations: a task of R whose head and tail need more than m, its own station counted once
+-- (Scholl); on a U-line none is
+unfoldable pub IsChained : LineKind → Line → ℕ → List Bool → ℕ → ℕ → Type 0
+IsChained Straight line c R m j = In R j × (m < head line c R j + tail line c R j - 1)
+IsChained U line c R m j = ⊥
 
 -- The bound of R at cycle c: 0 for the empty set; 1,025 where a time of R exceeds c; otherwise the greatest of 1 and
 -- the bounds above (Scholl).

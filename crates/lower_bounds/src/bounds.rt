@@ -4,12 +4,12 @@
 //! one pass and one division. Then the sizes of the tasks are counted, in one pass; and only then heads and tails are
 //! gone over, at most a pass over the set for each of its tasks. A search asks of each load, about the set that the
 //! load leaves. It keeps total times, and the tasks of its line in sets by their sizes. So it asks these two, which
-//! cost no pass, and then heads and tails alone.
+//! cost no pass, and then heads and tails alone, of the tasks that are chained in the set before the load.
 ghost use Rattle.std.specs.Prelude.{◌≡◌, ◌≤◌, ◌<◌, ◌*◌, ◌↔◌, ℕ, IsTrue};
-ghost use Rattle.line_instance.specs.Truths.{IsEmpty};
+ghost use Rattle.line_instance.specs.Truths.{In, IsEmpty};
 ghost use Rattle.line_instance.specs.Line.{IsTaskSet};
 ghost use Rattle.line_rules.specs.Balance.{Holds};
-ghost use Rattle.line_rules.specs.Bounds.{bound, lm1};
+ghost use Rattle.line_rules.specs.Bounds.{bound, lm1, IsChained};
 ghost use Rattle.line_rules.specs.Times.{AreTimes};
 ghost use Rattle.lower_bounds.specs.Sizes.{FitsBySizes};
 
@@ -116,19 +116,21 @@ fn exceeds_by_tasks(
     if counts.too_long > 0 || counts.stations() > most {
         return true;
     }
-    has_longer_chain(inst, kind, cycle, set, times, most)
+    has_longer_chain(inst, kind, cycle, set, times, set, most)
 }
 
 /// Whether the bound of a set exceeds `most`, where neither its total time nor the sizes of its tasks show it: by what
-/// is before and after a task (Scholl's heads and tails), or since `most` is 0 and the set has a task. No task of the
-/// set takes longer than the longest of the times. The cycle is 1 to 1,000,000,000,000,000,000, in the instance's time
-/// unit. Takes no memory.
-pub fn exceeds_by_chains(
+/// is before and after a task (Scholl's heads and tails), or since `most` is 0 and the set has a task. Only the tasks of
+/// `chained` are asked: it has those that need more than `most` stations in the set, as the chained tasks of a set do of
+/// which this one is a part. No task of the set takes longer than the longest of the times. The cycle is 1 to
+/// 1,000,000,000,000,000,000, in the instance's time unit. Takes no memory.
+pub fn exceeds_by_chains_of(
     inst: &Instance,
     kind: LineKind,
     cycle: u64,
     set: &TaskSet,
     times: Times,
+    chained: &TaskSet,
     most: u32,
 ) -> bool
     requires set { IsTaskSet inst.now set.now }
@@ -138,6 +140,7 @@ pub fn exceeds_by_chains(
     requires few { most < 1025 }
     requires total { times.total ≤ most * cycle }
     requires sizes { FitsBySizes inst.now cycle set.now most }
+    requires chained { (j : ℕ) → IsChained kind inst.now cycle set.now most j → In chained.now j }
     ensures { IsTrue result ↔ most < bound kind inst.now cycle set.now }
 {
     let _tasks = inst.tasks();
@@ -147,5 +150,5 @@ pub fn exceeds_by_chains(
     if most == 0 {
         return true;
     }
-    has_longer_chain(inst, kind, cycle, set, times, u64::from(most))
+    has_longer_chain(inst, kind, cycle, set, times, chained, u64::from(most))
 }

@@ -7,11 +7,16 @@
 //! `most` cycles. It is passed over as soon as the times found elsewhere exceed that; the task with which they did is
 //! kept as a witness, and is tried first at the next task. Only what stays gets its head summed. The cost is one pass
 //! over the set for each of its tasks at most.
-ghost use Rattle.std.specs.Prelude.{◌≡◌, ◌≤◌, ◌<◌, ◌+◌, ◌-◌, ◌*◌, ◌↔◌, max, IsTrue, IsNone, IfSome, IfOk, IfErr};
+//!
+//! A task is chained in a set for so many stations where it needs more. Head and tail are sums over the set, so what is
+//! chained in a part of it is chained in the whole. Who asks of many parts of a set finds its chained tasks once, and
+//! asks of each part these alone.
+ghost use Rattle.std.specs.Prelude.{◌≡◌, ℕ, ◌≤◌, ◌<◌, ◌+◌, ◌-◌, ◌*◌, ◌↔◌, max, IsTrue, IsNone, IfSome, IfOk, IfErr};
 ghost use Rattle.line_instance.specs.Truths.{In};
 ghost use Rattle.line_instance.specs.Line.{IsTaskSet, has, tasks};
 ghost use Rattle.line_instance.specs.Sums.{sum_where};
-ghost use Rattle.line_rules.specs.Bounds.{head, tail, chained};
+ghost use Rattle.line_rules.specs.Bounds.{head, tail, chained, IsChained};
+ghost use Rattle.line_rules.specs.declared.types.LineKind.TheVariants.{Straight};
 ghost use Rattle.line_rules.specs.Times.{AreTimes, time_elsewhere};
 
 use crate::sizes::{Times, times_in};
@@ -164,20 +169,54 @@ pub(crate) fn longest_chain(
     longest
 }
 
+/// The tasks of a set whose head and tail there need more than `least` stations on a straight line, their own counted
+/// once. The times are those of the set. The cycle is 1 to 1,000,000,000,000,000,000, in the instance's time unit. Takes
+/// no memory.
+pub fn chained_tasks(
+    inst: &Instance,
+    cycle: u64,
+    set: &TaskSet,
+    times: Times,
+    least: u32,
+) -> TaskSet
+    requires set { IsTaskSet inst.now set.now }
+    requires some { 1 ≤ cycle }
+    requires limit { cycle ≤ 1000000000000000000 }
+    requires times { AreTimes inst.now set.now times.total times.longest }
+    ensures members { (j : ℕ) → In result j ↔ IsChained Straight inst.now cycle set.now least j }
+    ensures set { IsTaskSet inst.now result }
+{
+    let _tasks = inst.tasks();
+    let least = u64::from(least);
+    let mut chained = TaskSet::empty();
+    if u128::from(times.total + times.longest) < enough(cycle, least) {
+        return chained;
+    }
+    let mut witness = 0;
+    for j in set {
+        if around(inst, cycle, set, times.total, least, j, &mut witness).is_some() {
+            chained.insert(j);
+        }
+    }
+    chained
+}
+
 /// Whether the head and the tail of a task of a set need more than `most` stations, which no task does on a U-line. The
-/// times are those of the set.
+/// times are those of the set. Only tasks of `asked` are asked, which has all those that are chained.
 pub(crate) fn has_longer_chain(
     inst: &Instance,
     kind: LineKind,
     cycle: u64,
     set: &TaskSet,
     times: Times,
+    asked: &TaskSet,
     most: u64,
 ) -> bool
     requires set { IsTaskSet inst.now set.now }
     requires some { 1 ≤ cycle }
     requires limit { cycle ≤ 1000000000000000000 }
     requires times { AreTimes inst.now set.now times.total times.longest }
+    requires asked { (j : ℕ) → IsChained kind inst.now cycle set.now most j → In asked.now j }
     ensures { IsTrue result ↔ most < chained kind inst.now cycle set.now }
 {
     let _tasks = inst.tasks();
@@ -188,8 +227,9 @@ pub(crate) fn has_longer_chain(
     if u128::from(times.total + times.longest) < enough(cycle, most) {
         return false;
     }
+    let chosen = inst.meet(set, asked);
     let mut witness = 0;
-    for j in set {
+    for j in &chosen {
         if around(inst, cycle, set, times.total, most, j, &mut witness).is_some() {
             return true;
         }

@@ -2,7 +2,10 @@
 use Rattle.std.proofs.Common.{◌≡◌, ℕ, ◌+◌, ◌-◌, ◌*◌, ◌<◌, ◌≤◌, ◌⊎◌, inl, inr, List, Bool, Option, Some, None, refl, sym}
 use Rattle.std.proofs.Common.{ap, ◌∙◌, subst, arith}
 use Rattle.std.proofs.lemmas.Option.{same_Some}
-use Rattle.std.specs.Prelude.{IsSome, IfSome}
+use Rattle.std.specs.Prelude.{IsSome, IfSome, ◌↔◌}
+use Rattle.line_instance.specs.Truths.{In}
+use Rattle.line_rules.specs.Bounds.{IsChained}
+use Rattle.line_rules.specs.declared.types.LineKind.TheVariants.{Straight}
 use Rattle.line_instance.specs.Line.{Line, IsRanked}
 use Rattle.line_rules.specs.Loads.{IsLoad, rest}
 use Rattle.line_rules.specs.Order.{IsFollowing}
@@ -51,11 +54,11 @@ skips_none kind line X f g used b =
 -- the listing goes on to the next load
 pub meets : (kind : LineKind) (line : Line) (X : ℕ) (f : OpenFrame) (before used after : ℕ) (g h : Listing)
     → HasSkipped kind line X f before used g → IsWalk line h.walk → h.walk.cycle ≡ g.walk.cycle
-    → h.walk.mode ≡ g.walk.mode → h.walk.set ≡ g.walk.set → h.times ≡ g.times
+    → h.walk.mode ≡ g.walk.mode → h.walk.set ≡ g.walk.set → h.times ≡ g.times → h.chained ≡ g.chained
     → IsSome h.walk.last
     → IfSome h.walk.last (IsFollowing line g.walk.cycle g.walk.mode g.walk.set g.walk.last) → after ≡ used + 1
     → HasMet kind line X f before after h
-meets kind line X f before used after g h s walk cycle mode set times given next more =
+meets kind line X f before used after g h s walk cycle mode set times chained given next more =
     let b = s.beside in
     let v = value_of h.walk.last given in
     let N : Option Load → Type 0 =
@@ -64,6 +67,8 @@ meets kind line X f before used after g h s walk cycle mode set times given next
     let M : Mode → Type 0 = λ z. IsFollowing line X z g.walk.set g.walk.last v.0 in
     let S : List Bool → Type 0 = λ z. IsFollowing line X f.mode z g.walk.last v.0 in
     let T : Times → Type 0 = λ z. AreTimes line f.set z.total z.longest in
+    let K : Option (List Bool) → Type 0 =
+    λ z. IfSome z (λ t. (j : ℕ) → In t j ↔ IsChained Straight line X f.set (f.most - 1) j) in
     record {
       last = g.walk.last;
       light = s.light;
@@ -79,7 +84,25 @@ meets kind line X f before used after g h s walk cycle mode set times given next
         same_set = set ∙ b.same_set;
         same_last = v.1;
         times = subst T (sym times) b.times;
+        chained = subst K (sym chained) b.chained;
       };
+    }
+
+-- a listing that stands where another does has met the same load
+pub met_at : (kind : LineKind) (line : Line) (X : ℕ) (f : OpenFrame) (before after : ℕ) (g h : Listing)
+    → HasMet kind line X f before after g → h.walk ≡ g.walk → IsBeside line X (with_mark f g.walk.last) h
+    → HasMet kind line X f before after h
+met_at kind line X f before after g h m same beside =
+    let P : Option Load → Type 0 = λ z. IsBeside line X (with_mark f z) h in
+    record {
+      last = m.last;
+      light = m.light;
+      skips = m.skips;
+      load = m.load;
+      next = m.next;
+      stands = ap (λ w. w.last) same ∙ m.stands;
+      cost = m.cost;
+      beside = subst P m.stands beside;
     }
 
 -- a load whose rest takes too long isn't open

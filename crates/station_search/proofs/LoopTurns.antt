@@ -48,6 +48,7 @@ beside_cites line X f w cites b = record {
   same_set = b.same_set;
   same_last = b.same_last;
   times = b.times;
+  chained = b.chained;
 }
 
 module _ (asked : Option Mode) (kind : LineKind) (line : Line) (ranked : IsRanked line) (X : ℕ) (R : List Bool)

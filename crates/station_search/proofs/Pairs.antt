@@ -71,4 +71,5 @@ module _ (line : Line) (X : ℕ) (fs upper : List OpenFrame) (ws above : List Li
         same_set = b.same_set;
         same_last = b.same_last;
         times = b.times;
+        chained = b.chained;
       }

@@ -1,12 +1,15 @@
 //! The listing of a frame's loads: the walk from load to load, beside the times of the frame's set.
 //!
 //! The rest of a load takes the total time of the set less the load's own, which the walk keeps. So most loads are
-//! closed by two numbers, before the tasks that they leave are looked at. Others are closed by the sizes of these
-//! tasks, since they aren't full, or by heads and tails. All loads that aren't open are passed over in one loop, and
-//! nothing is copied of them: only the walk stands at the last one.
+//! closed by two numbers, before the tasks that they leave are looked at. Others are closed since they aren't full, by
+//! the sizes of these tasks, or by heads and tails. What is left is a part of the set, so heads and tails are asked of
+//! the set's chained tasks alone, which the first load that comes so far finds. All loads that aren't open are passed
+//! over in one loop, and nothing is copied of them: only the walk stands at the last one.
 ghost use Rattle.std.specs.Prelude.{◌≡◌, ℕ, ◌+◌, ◌-◌, ◌*◌, ◌^◌, ◌<◌, ◌≤◌, ◌↔◌, ◌⊎◌, IsTrue, false, Some, None, IsNone};
 ghost use Rattle.std.specs.Prelude.{IfSome, IsSome};
+ghost use Rattle.line_instance.specs.Truths.{In};
 ghost use Rattle.line_instance.specs.Line.{IsTaskSet};
+ghost use Rattle.line_rules.specs.Bounds.{IsChained};
 ghost use Rattle.line_rules.specs.Loads.{IsLoad, rest};
 ghost use Rattle.line_rules.specs.Order.{After, IsFollowing};
 ghost use Rattle.line_rules.specs.declared.types.Load.{Load as Pair};
@@ -18,9 +21,11 @@ ghost use Rattle.station_search.specs.inner.Steps.{HasSkipped, HasMet, IsLast, w
 ghost use Rattle.lower_bounds.specs.Sizes.{AreSizeSets};
 
 use crate::answers::Units;
-use line_instance::Instance;
+use line_instance::{Instance, TaskSet};
 use line_rules::{LineKind, Load, OpenFrame};
-use lower_bounds::{SizeSets, Times, exceeds_by_chains, exceeds_by_sizes, times_in};
+use lower_bounds::{
+    SizeSets, Times, chained_tasks, exceeds_by_chains_of, exceeds_by_sizes, times_in,
+};
 use station_load::Walk;
 use station_load::steps::begin;
 
@@ -31,6 +36,9 @@ pub struct Listing {
     pub walk: Walk,
     /// The times of the set.
     pub times: Times,
+    /// The tasks of the set that need more stations than its frame has but one by their heads and tails, once a load has
+    /// asked for them.
+    pub chained: Option<TaskSet>,
 }
 
 /// The listing of a frame of which no load was listed.
@@ -42,6 +50,7 @@ pub fn begin_listing(inst: &Instance, cycle: u64, frame: &OpenFrame) -> Listing
     Listing {
         walk: begin(inst, cycle, &frame.set, frame.mode),
         times: times_in(inst, &frame.set),
+        chained: None,
     }
 }
 
@@ -74,6 +83,35 @@ fn rest_times(inst: &Instance, cycle: u64, frame: &OpenFrame, listing: &Listing)
     }
 }
 
+// The chained tasks of the frame's set, for a station less than it has: none on a U-line. They are found where no load
+// has asked for them yet, and kept with the listing.
+fn chained_for(
+    inst: &Instance,
+    kind: LineKind,
+    cycle: u64,
+    frame: &OpenFrame,
+    listing: &mut Listing,
+) -> TaskSet
+    requires cycle { IsCycle cycle }
+    requires beside { IsBeside inst.now cycle (with_mark frame.now listing.old.walk.last) listing.old }
+    requires some { 1 ≤ frame.now.most }
+    ensures all { (j : ℕ) → IsChained kind inst.now cycle frame.now.set (frame.now.most - 1) j → In result j }
+    ensures walk { listing.new.walk ≡ listing.old.walk }
+    ensures times { listing.new.times ≡ listing.old.times }
+    ensures beside { IsBeside inst.now cycle (with_mark frame.now listing.old.walk.last) listing.new }
+{
+    match kind {
+        LineKind::U => return TaskSet::empty(),
+        LineKind::Straight => {}
+    }
+    if let Some(chained) = listing.chained {
+        return chained;
+    }
+    let chained = chained_tasks(inst, cycle, &frame.set, listing.times, frame.most - 1);
+    listing.chained = Some(chained);
+    chained
+}
+
 // Whether the load at which a listing stands is open, where what it leaves doesn't take too long.
 fn is_open(
     inst: &Instance,
@@ -81,29 +119,33 @@ fn is_open(
     cycle: u64,
     sizes: &SizeSets,
     frame: &OpenFrame,
-    listing: &Listing,
+    listing: &mut Listing,
 ) -> bool
     requires cycle { IsCycle cycle }
     requires sizes { AreSizeSets inst.now cycle sizes.now }
-    requires beside { IsBeside inst.now cycle (with_mark frame.now listing.now.walk.last) listing.now }
-    requires given { IsSome listing.now.walk.last }
+    requires beside { IsBeside inst.now cycle (with_mark frame.now listing.old.walk.last) listing.old }
+    requires given { IsSome listing.old.walk.last }
     requires some { 1 ≤ frame.now.most }
     requires few { frame.now.most ≤ 1024 }
-    requires heavy { listing.now.times.total - listing.now.walk.sum ≤ (frame.now.most - 1) * cycle }
-    ensures { (l : Pair) → listing.now.walk.last ≡ Some l
+    requires heavy { listing.old.times.total - listing.old.walk.sum ≤ (frame.now.most - 1) * cycle }
+    ensures open { (l : Pair) → listing.old.walk.last ≡ Some l
         → IsTrue result ↔ IsOpen kind inst.now cycle frame.now.mode frame.now.set frame.now.most l }
+    ensures walk { listing.new.walk ≡ listing.old.walk }
+    ensures times { listing.new.times ≡ listing.old.times }
+    ensures beside { IsBeside inst.now cycle (with_mark frame.now listing.old.walk.last) listing.new }
 {
     let _tasks = inst.tasks();
+    if !listing.walk.full(inst) {
+        return false;
+    }
     let rest = listing.walk.rest(inst);
     let most = frame.most - 1;
     if exceeds_by_sizes(inst, sizes, &rest, most) {
         return false;
     }
-    if !listing.walk.full(inst) {
-        return false;
-    }
     let times = rest_times(inst, cycle, frame, listing);
-    !exceeds_by_chains(inst, kind, cycle, &rest, times, most)
+    let chained = chained_for(inst, kind, cycle, frame, listing);
+    !exceeds_by_chains_of(inst, kind, cycle, &rest, times, &chained, most)
 }
 
 /// Passes over the next loads of a frame that aren't open: what such a load leaves takes longer than the stations that
@@ -142,7 +184,10 @@ pub fn pass_over(
         }
         units.left -= 1;
         units.used += 1;
-        if listing.walk.sum() >= least && is_open(inst, kind, cycle, sizes, frame, listing) {
+        if listing.walk.sum() < least {
+            continue 'closed;
+        }
+        if is_open(inst, kind, cycle, sizes, frame, listing) {
             return true;
         }
     }

@@ -1,12 +1,20 @@
--- One step of a walk: the cite of one load.
-use Rattle.std.specs.Prelude.{◌≡◌, ℕ, ◌+◌, ◌-◌, ◌⊎◌, Bool, List, slice_get, Some}
+-- One step of a walk: the cite of one load, and the chained tasks that its tests keep.
+use Rattle.std.specs.Prelude.{◌≡◌, ◌↔◌, ℕ, ◌+◌, ◌-◌, ◌⊎◌, Bool, List, slice_get, Some}
+use Rattle.line_instance.specs.Truths.{In}
 use Rattle.line_instance.specs.Line.{Line}
+use Rattle.line_rules.specs.Bounds.{IsChained}
 use Rattle.line_rules.specs.Loads.{rest}
 use Rattle.line_rules.specs.Entries.{IsOpen, Cites}
 use Rattle.line_rules.specs.declared.types.LineKind.{LineKind}
+use Rattle.line_rules.specs.declared.types.LineKind.TheVariants.{Straight}
 use Rattle.line_rules.specs.declared.types.Mode.{Mode}
 use Rattle.line_rules.specs.declared.types.Load.{Load}
 use Rattle.line_rules.specs.declared.types.Entry.{Entry}
+use Rattle.check_loads.specs.declared.questions.Question.{Question}
+
+-- exactly the tasks of the question's set that are chained for a station less than it asks for, on a straight line
+abbrev pub AreChained : Line → Question → List Bool → Type 0
+AreChained line q s = (j : ℕ) → In s j ↔ IsChained Straight line q.cycle q.set (q.most - 1) j
 
 module _ (kind : LineKind) (line : Line) (c : ℕ) (mode : Mode) (R : List Bool) (most : ℕ) (earlier : List Entry)
     (cites : List ℕ) (load : Load) (taken : ℕ) where

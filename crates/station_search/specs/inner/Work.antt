@@ -1,11 +1,13 @@
 -- What the steps of a search do: how a load is sorted, what is published, and what a walk stands for.
-use Rattle.std.specs.Prelude.{◌≡◌, ℕ, ◌+◌, ◌≤◌, Bool, true, List, [], ◌∷◌, ◌++◌, length, Option, Some}
-use Rattle.std.specs.Prelude.{None}
-use Rattle.line_instance.specs.Truths.{IsEmpty, IsSubset}
+use Rattle.std.specs.Prelude.{◌≡◌, ◌↔◌, ℕ, ◌+◌, ◌-◌, ◌≤◌, Bool, true, List, [], ◌∷◌, ◌++◌, length, Option, Some}
+use Rattle.std.specs.Prelude.{None, IfSome}
+use Rattle.line_instance.specs.Truths.{In, IsEmpty, IsSubset}
 use Rattle.line_instance.specs.Line.{Line}
+use Rattle.line_rules.specs.Bounds.{IsChained}
 use Rattle.line_rules.specs.Entries.{Cites, IsUnanswered}
 use Rattle.line_rules.specs.Units.{UnitsOf, UnitsIn}
 use Rattle.line_rules.specs.declared.types.LineKind.{LineKind}
+use Rattle.line_rules.specs.declared.types.LineKind.TheVariants.{Straight}
 use Rattle.line_rules.specs.declared.types.Mode.{Mode}
 use Rattle.line_rules.specs.declared.types.Load.{Load}
 use Rattle.line_rules.specs.declared.types.Entry.{Entry}
@@ -23,7 +25,8 @@ use Rattle.station_search.specs.declared.listings.Listing.{Listing}
 use Rattle.station_search.specs.declared.sorting.Sorted.{Sorted}
 use Rattle.station_search.specs.declared.sorting.Sorted.TheVariants as sorted
 
--- the listing goes over the loads of the frame, stands at its last one, and has the times of its set
+-- The listing goes over the loads of the frame, stands at its last one, and has the times of its set. Where it has
+-- chained tasks, they are exactly those of the frame's set for a station less than the frame has, on a straight line.
 pub record IsBeside (line : Line) (X : ℕ) (f : OpenFrame) (g : Listing) : Type 0 where
   pub walk : IsWalk line g.walk
   pub same_cycle : g.walk.cycle ≡ X
@@ -31,6 +34,7 @@ pub record IsBeside (line : Line) (X : ℕ) (f : OpenFrame) (g : Listing) : Type
   pub same_set : g.walk.set ≡ f.set
   pub same_last : g.walk.last ≡ f.last
   pub times : AreTimes line f.set g.times.total g.times.longest
+  pub chained : IfSome g.chained (λ s. (j : ℕ) → In s j ↔ IsChained Straight line X f.set (f.most - 1) j)
 
 -- the frame with a load as its last, and with other cites
 abbrev pub with_last : OpenFrame → Load → OpenFrame

@@ -1,4 +1,4 @@
-use Rattle.std.proofs.Common.{◌≡◌, ◌∙◌, Bool, List, refl, sym, subst, arith}
+use Rattle.std.proofs.Common.{◌∙◌, Bool, List, refl, sym, subst, arith}
 use Rattle.std.proofs.lemmas.Bool.{false≢true}
 use Rattle.line_rules.specs.Units.{UnitsBy}
 use Rattle.line_rules.specs.Entries.{FollowsBy}

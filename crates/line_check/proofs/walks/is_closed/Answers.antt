@@ -1,8 +1,10 @@
-use Rattle.std.proofs.Common.{◌≡◌, ◌+◌, List, Bool, sym, ap, ◌∙◌, arith}
+use Rattle.std.proofs.Common.{◌≡◌, ◌+◌, ◌-◌, List, Bool, sym, ap, ◌∙◌, subst, arith}
+use Rattle.line_instance.specs.Truths.{IsSubset}
 use Rattle.line_instance.specs.Line.{has}
 use Rattle.line_instance.specs.Sums.{sum_where}
 use Rattle.line_rules.specs.Loads.{rest, taken}
 use Rattle.line_rules.specs.declared.types.Load.{Load}
+use Rattle.line_rules.proofs.ChainFacts.{chained_within}
 use Rattle.line_rules.proofs.Paths.{rest_inside}
 use Rattle.check_loads.specs.Standing.{stand}
 use Rattle.line_rules.proofs.Rest.{rest_sum}
@@ -16,8 +18,8 @@ overflow_sub-times c = omega (
   rest_sum c.args.inst.now c.args.q.now.set (stand c.args.walk.now) (c.requires.walk.load c.requires.given).within,
 )
 
-pub exceeds-requires-clause-set : goal.exceeds-requires-clause-set
-exceeds-requires-clause-set c =
+pub exceeds_of-requires-clause-set : goal.exceeds_of-requires-clause-set
+exceeds_of-requires-clause-set c =
     let is : c.rest-left.result ≡ rest c.args.q.now.set (stand c.args.walk.now) =
     c.rest-left.ensures.rest ∙ ap (λ (l : Load). rest c.args.q.now.set l) c.load.ensures in
     record {
@@ -26,8 +28,8 @@ exceeds-requires-clause-set c =
           (ap (λ s. has s i) (sym is) ∙ m));
     }
 
-pub exceeds-requires-clause-times : goal.exceeds-requires-clause-times
-exceeds-requires-clause-times c =
+pub exceeds_of-requires-clause-times : goal.exceeds_of-requires-clause-times
+exceeds_of-requires-clause-times c =
     let is : c.rest-left.result ≡ rest c.args.q.now.set (stand c.args.walk.now) =
     c.rest-left.ensures.rest ∙ ap (λ (l : Load). rest c.args.q.now.set l) c.load.ensures in
     let sum : sum_where (has c.rest-left.result) c.args.inst.now.times
@@ -44,3 +46,12 @@ exceeds-requires-clause-times c =
           (ap (λ s. has s i) (sym is) ∙ m));
       longest_limit = c.requires.posed.times.longest_limit;
     }
+
+pub exceeds_of-requires-clause-chained : goal.exceeds_of-requires-clause-chained
+exceeds_of-requires-clause-chained c =
+    let is : c.rest-left.result ≡ rest c.args.q.now.set (stand c.args.walk.now) =
+    c.rest-left.ensures.rest ∙ ap (λ (l : Load). rest c.args.q.now.set l) c.load.ensures in
+    let P : List Bool → Type 0 = λ s. IsSubset s c.args.q.now.set in
+    λ j h. c.requires.chained j (chained_within c.args.inst.now c.args.q.now.cycle c.requires.posed.cycle.some
+    c.rest-left.result c.args.q.now.set (subst P (sym is) (rest_inside c.args.q.now.set (stand c.args.walk.now))) j
+    c.args.q.now.kind (c.args.q.now.most - 1) h)

@@ -20,6 +20,7 @@ loads-init c =
           c.args.q.now.mode
           c.args.q.now.set c.args.q.now.most (take c.args.k c.args.entries.now) c.args.cites.now);
       less = omega arith;
+      chained = tt;
     }
 
 pub returns-then-not-step : goal.returns-then-not-step
@@ -70,4 +71,5 @@ loads-preserved c =
           (c.step.ensures.next c.if-not-step.false)
           c.in-Some.more c.in-Some.ensures.some);
       less = omega (arith, c.if-units-steps.false);
+      chained = c.taken_with.ensures.chained;
     }

@@ -30,6 +30,7 @@ loads-init c =
           c.args.q.now.set c.args.q.now.most c.args.entries.now c.args.cites.now);
       ahead = subst A (sym none) tt;
       less = omega arith;
+      chained = tt;
     }
 
 pub returns-then-not-step : goal.returns-then-not-step
@@ -117,4 +118,5 @@ loads-preserved c =
           (c.step.ensures.next c.if-not-step.false) (λ e. false≢true
           (sym c.if-ends-2.false ∙ c.is_at-ends.ensures.1 e)));
       less = omega (arith, c.if-steps-units.false);
+      chained = c.taken_with.ensures.chained;
     }

@@ -1,6 +1,7 @@
-use Rattle.std.proofs.Common.{◌≤◌, ◌-◌}
+use Rattle.std.proofs.Common.{IfSome, ◌≤◌, ◌-◌}
 use Rattle.line_rules.specs.Order.{After}
 use Rattle.check_loads.specs.Standing.{IsWalk, last_of}
+use Rattle.line_check.specs.inner.Steps.{AreChained}
 use Rattle.line_check.proofs.WalkFacts.{IsWalking}
 use Rattle.line_check.proofs.walks.walk_to.Given as goal
 
@@ -11,6 +12,7 @@ invariant-loads l = record {
       l.taken;
   ahead : After l.inst (last_of l.walk) l.end;
   less : l.units ≤ l.steps;
+  chained : IfSome l.chained (AreChained l.inst l.q);
 }
 
 abbrev pub decreases-loads : goal.decreases-loads

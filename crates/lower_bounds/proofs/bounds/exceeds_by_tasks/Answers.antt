@@ -3,6 +3,7 @@ use Rattle.std.specs.Int.{div_ceil}
 use Rattle.std.proofs.lemmas.Bool.{false≢true}
 use Rattle.line_instance.specs.Truths.{IsEmpty}
 use Rattle.line_rules.proofs.BoundCases.{long_exceeds, counts_exceed, chains_decide, time_part}
+use Rattle.line_rules.proofs.ChainFacts.{chained_member}
 use Rattle.lower_bounds.proofs.bounds.exceeds_by_tasks.Goals as goal
 use Rattle.lower_bounds.proofs.bounds.exceeds_by_tasks.Goals.{then-counts-gt0-via-then-counts-gt0}
 use Rattle.lower_bounds.proofs.bounds.exceeds_by_tasks.Goals.{then-counts-gt0-via-else-counts-gt0+then-stations-most}
@@ -29,3 +30,6 @@ returns c =
     c.counts_of-counts.ensures refl c.stations.ensures c.requires.some c.requires.times.total refl
     (omega (arith, time, c.requires.total)) c.if-counts-gt0.false c.if-stations-most.false c.has_longer_chain.ensures
     c.requires.one
+
+pub has_longer_chain-requires-clause-asked : goal.has_longer_chain-requires-clause-asked
+has_longer_chain-requires-clause-asked c = λ j h. chained_member c.args.kind _ _ _ _ j h
