@@ -12,4 +12,5 @@ mod listing;
 mod placed;
 
 pub use beams::{Beamed, Wanted, beam};
+pub use lower_bounds::{bound, times_in};
 pub use pair_search::{PairTable, Paired, pair_table};

@@ -1,11 +1,10 @@
 -- A seek on its way: how it begins, and what each try leaves of it.
-use Rattle.std.proofs.Common.{◌≡◌, ℕ, ◌+◌, ◌<◌, ◌≤◌, Bool, List, [], refl, sym, ap, ◌∙◌, subst, arith}
+use Rattle.std.proofs.Common.{◌≡◌, ℕ, ◌+◌, ◌-◌, ◌*◌, ◌<◌, ◌≤◌, Bool, List, [], refl, sym, ap, ◌∙◌, subst, arith}
 use Rattle.std.proofs.Common.{Option, Some, None, inl, inr, Result, Ok, Err}
 use Rattle.std.specs.Prelude.{IfSome, IfOk, slice_get}
 use Rattle.line_instance.specs.Line.{Line}
 use Rattle.line_rules.specs.Balance.{IsRight, all_tasks}
 use Rattle.line_rules.specs.Entries.{HasAnswer, IsDerived}
-use Rattle.line_rules.specs.Loads.{Belongs}
 use Rattle.line_rules.specs.Ranges.{IsCycle}
 use Rattle.line_rules.specs.declared.types.LineKind.{LineKind}
 use Rattle.line_rules.specs.declared.types.Balance.{Balance as Assignment}
@@ -14,11 +13,13 @@ use Rattle.lemma_core.specs.Machine.{About}
 use Rattle.lemma_core.specs.Books.{BookView}
 use Rattle.station_search.specs.Decide.{IsPairing}
 use Rattle.station_search.specs.pairs.Sharing.{Sharing, IsTableOf}
-use Rattle.line_seek.specs.inner.Tries.{mode_in}
+use Rattle.line_seek.specs.inner.Tries.{Suits, counted, lag}
 use Rattle.line_seek.specs.inner.Trying.{Gains, IsPaid, IsTold, may_add}
 use Rattle.line_seek.specs.inner.Aims.{asked_for}
 use Rattle.line_seek.specs.Seeking.{IfDone, IsSeeking, AreSought, IsOver, HasSoughtFor}
 use Rattle.line_seek.specs.declared.aims.Aim.{Aim}
+use Rattle.line_seek.specs.declared.tries.Try.{Try}
+use Rattle.line_seek.specs.declared.tries.Try.TheVariants as tries
 use Rattle.line_seek.specs.declared.trying.Told.{Told}
 use Rattle.line_seek.specs.declared.trying.Told.TheVariants as told
 use Rattle.line_seek.specs.declared.seeking.Seeker.{Seeker}
@@ -31,12 +32,12 @@ pub about_same : (a : About) (line : Line) (kind : LineKind) (c : ℕ) → line 
 about_same a line kind c l k e = λ i. record { line = l i; kind = k i; cycle = e i }
 
 pub seeking_begins : (a : About) (b : Assignment) (s : Seeker) → IsCycle a.cycle → IsRight a.kind a.line a.cycle b
-    → s.scratch.about ≡ a → s.best ≡ b → IsPaid s.scratch 0 0 → Belongs a.kind (mode_in s.turn) → IsSeeking 0 s
+    → s.scratch.about ≡ a → s.best ≡ b → IsPaid s.scratch 0 0 → Suits a.kind s.turn → IsSeeking 0 s
 seeking_begins a b s cycle right same best paid turn =
     let C : About → Type 0 = λ z. IsCycle z.cycle in
     let R : About → Type 0 = λ z. IsRight z.kind z.line z.cycle s.best in
     let B : Assignment → Type 0 = λ z. IsRight a.kind a.line a.cycle z in
-    let M : About → Type 0 = λ z. Belongs z.kind (mode_in s.turn) in
+    let M : About → Type 0 = λ z. Suits z.kind s.turn in
     record {
       cycle = subst C (sym same) cycle;
       right = subst R (sym same) (subst B (sym best) right);
@@ -52,15 +53,14 @@ seeking_on s t listed free k g best turn used =
     let C : About → Type 0 = λ z. IsCycle z.cycle in
     let R : About → Type 0 = λ z. IsRight z.kind z.line z.cycle t.best in
     let B : Assignment → Type 0 = λ z. IsRight s.scratch.about.kind s.scratch.about.line s.scratch.about.cycle z in
-    let M : About → Type 0 = λ z. Belongs z.kind (mode_in t.turn) in
-    let same : mode_in t.turn ≡ mode_in s.turn = ap mode_in turn in
+    let M : About → Type 0 = λ z. Suits z.kind t.turn in
     record {
       cycle = subst C (sym a) k.cycle;
       right = subst R (sym a) (subst B (sym best) k.right);
       paid = paid_as t.scratch (s.used + listed) (s.used + 0 + (listed + free)) t.used (t.used + free)
           (omega (arith, used)) (omega (arith, used))
           (paid_more s.scratch t.scratch s.used (s.used + 0) listed (listed + free) k.paid g);
-      turn = subst M (sym a) (subst (λ m. Belongs s.scratch.about.kind m) (sym same) k.turn);
+      turn = subst M (sym a) (subst (λ m. Suits s.scratch.about.kind m) (sym turn) k.turn);
     }
 
 -- with a better balance
@@ -70,55 +70,89 @@ seeking_better s t k same turn used right =
     let C : BookView → Type 0 = λ z. IsCycle z.about.cycle in
     let R : BookView → Type 0 = λ z. IsRight z.about.kind z.about.line z.about.cycle t.best in
     let P : BookView → Type 0 = λ z. IsPaid z t.used (t.used + 0) in
-    let M : BookView → Type 0 = λ z. Belongs z.about.kind (mode_in t.turn) in
+    let M : BookView → Type 0 = λ z. Suits z.about.kind t.turn in
     record {
       cycle = subst C (sym same) k.cycle;
       right = subst R (sym same) right;
       paid = subst P (sym same) (paid_as s.scratch s.used (s.used + 0) t.used (t.used + 0)
           (omega (arith, used)) (omega (arith, used)) k.paid);
       turn = subst M (sym same)
-          (subst (λ m. Belongs s.scratch.about.kind m) (sym (ap mode_in turn)) k.turn);
+          (subst (λ m. Suits s.scratch.about.kind m) (sym turn) k.turn);
     }
 
--- between two tries of a seek over a book: so many were made, and each counts as a load at least
-pub record IsUnderWay (book : BookView) (limit tries : ℕ) (s : Seeker) : Type 0 where
-  pub tried : tries ≤ s.used
+-- between two tries of a seek over a book
+pub record IsUnderWay (book : BookView) (limit : ℕ) (s : Seeker) : Type 0 where
   pub about : s.scratch.about ≡ book.about
   pub few : s.best.stations ≤ book.state.best.stations
   pub within : s.used ≤ limit
   pub seeking : IsSeeking 0 s
 
-module _ (book : BookView) (limit tries left : ℕ) (old mid new : Seeker) (at : IsUnderWay book limit tries old)
-    (about : mid.scratch.about ≡ old.scratch.about) (counted : old.used < mid.used) (listed : mid.used ≤ old.used + left)
+-- what falls with each try: a try that counts as nothing finds a better balance, or none that may do so follows
+abbrev pub left_to_try : ℕ → Seeker → ℕ
+left_to_try limit s = 2 * (limit - s.used) + (s.best.stations + lag s.turn)
+
+-- a try counts as one load, or it is a drift
+pub counts : (t : Try) (listed : ℕ) → 1 ≤ counted t listed + lag t
+counts tries.Drift listed = omega arith
+counts (tries.Beam mode) listed = omega arith
+counts (tries.Search mode) listed = omega arith
+
+module _ (book : BookView) (limit left listed : ℕ) (old mid new : Seeker) (at : IsUnderWay book limit old)
+    (about : mid.scratch.about ≡ old.scratch.about) (turn : mid.turn ≡ old.turn)
+    (count : mid.used ≡ old.used + counted old.turn listed) (paid : mid.used ≤ old.used + left)
     (room : old.used + left ≤ limit) where
   -- a try found a better balance
-  pub under_better : (t : Told) (b : Assignment) (most : ℕ) → t ≡ told.Found b → most ≤ old.best.stations
-      → IsTold mid.scratch most t → IsSeeking (may_add t) mid
-      → new ≡ record { best = b; scratch = mid.scratch; used = mid.used; size = mid.size; turn = mid.turn }
-      → IsUnderWay book limit (tries + 1) new
-  under_better t b most is l h k e =
-      let T : Told → Type 0 = λ z. IsTold mid.scratch most z in
-      let K : Told → Type 0 = λ z. IsSeeking (may_add z) mid in
-      let N : Seeker → Type 0 = λ z. IsUnderWay book limit (tries + 1) z in
-      let said = subst T is h in
-      subst N (sym e) (record {
-        tried = omega (arith, at.tried, counted);
-        about = about ∙ at.about;
-        few = omega (arith, said.1, l, at.few);
-        within = omega (arith, listed, room);
-        seeking = seeking_better mid _ (subst K is k) refl refl refl said.0;
-      })
+  module _ (t : Told) (b : Assignment) (most : ℕ) (is : t ≡ told.Found b) (fewer : most < old.best.stations)
+      (h : IsTold mid.scratch most t) (e : new ≡ record {
+        best = b;
+        scratch = mid.scratch;
+        used = mid.used;
+        size = mid.size;
+        turn = mid.turn;
+        random = mid.random;
+      }) where
+    said : IsTold mid.scratch most (told.Found b)
+    said = (let T : Told → Type 0 = λ z. IsTold mid.scratch most z in subst T is h)
+
+    pub under_better : IsSeeking (may_add t) mid → IsUnderWay book limit new
+    under_better k =
+        let K : Told → Type 0 = λ z. IsSeeking (may_add z) mid in
+        let N : Seeker → Type 0 = λ z. IsUnderWay book limit z in
+        subst N (sym e) (record {
+          about = about ∙ at.about;
+          few = omega (arith, said.1, fewer, at.few);
+          within = omega (arith, paid, room);
+          seeking = seeking_better mid _ (subst K is k) refl refl refl said.0;
+        })
+
+    pub less_better : left_to_try limit new < left_to_try limit old
+    less_better =
+        let N : Seeker → Type 0 = λ z. left_to_try limit z < left_to_try limit old in
+        subst N (sym e) (omega (arith, said.1, fewer, count, ap lag turn))
 
   -- a try found nothing out
-  pub under_open : mid.best ≡ old.best → IsSeeking 0 new → new.scratch.about ≡ mid.scratch.about
-      → new.best ≡ mid.best → new.used ≡ mid.used → IsUnderWay book limit (tries + 1) new
-  under_open best k same kept used = record {
-    tried = omega (arith, at.tried, counted, used);
-    about = same ∙ (about ∙ at.about);
-    few = omega (arith, ap (λ (z : Assignment). z.stations) (kept ∙ best), at.few);
-    within = omega (arith, used, listed, room);
-    seeking = k;
-  }
+  module _ (best : mid.best ≡ old.best) (kept : new.best ≡ mid.best) (used : new.used ≡ mid.used) where
+    pub under_open : IsSeeking 0 new → new.scratch.about ≡ mid.scratch.about → IsUnderWay book limit new
+    under_open k same = record {
+      about = same ∙ (about ∙ at.about);
+      few = omega (arith, ap (λ (z : Assignment). z.stations) (kept ∙ best), at.few);
+      within = omega (arith, used, paid, room);
+      seeking = k;
+    }
+
+    pub less_open : lag new.turn + lag mid.turn ≤ 1 → old.used < limit → left_to_try limit new < left_to_try limit old
+    less_open after more = omega (
+      arith,
+      ap (λ (z : Assignment). z.stations) (kept ∙ best),
+      used,
+      count,
+      paid,
+      room,
+      counts old.turn listed,
+      ap lag turn,
+      after,
+      more,
+    )
 
 -- a table of the line, its kind and a cycle is one of the line
 pub tables : (line : Line) (kind : LineKind) (c : ℕ) (o : Option Sharing) → IfSome o (IsPairing line kind c)

@@ -5,7 +5,6 @@ use Rattle.line_instance.specs.Truths.{IsSubset}
 use Rattle.line_rules.specs.Balance.{IsRight, all_tasks}
 use Rattle.line_rules.specs.Bounds.{bound}
 use Rattle.line_rules.specs.Entries.{HasAnswer, IsDerived}
-use Rattle.line_rules.specs.Loads.{Belongs}
 use Rattle.line_rules.specs.Pairs.{IsRefutedByPairs}
 use Rattle.line_rules.specs.Ranges.{AreEntries, IsCycle}
 use Rattle.line_rules.specs.Units.{UnitsOf}
@@ -14,7 +13,7 @@ use Rattle.line_rules.specs.declared.types.Entry.{Entry}
 use Rattle.lemma_core.specs.Books.{BookView}
 use Rattle.round_helpers.specs.Growth.{AreAtCycle}
 use Rattle.line_seek.specs.inner.Aims.{asked_for}
-use Rattle.line_seek.specs.inner.Tries.{mode_in}
+use Rattle.line_seek.specs.inner.Tries.{Suits}
 use Rattle.line_seek.specs.inner.Trying.{IsPaid}
 use Rattle.line_seek.specs.declared.aims.Aim.{Aim}
 use Rattle.line_seek.specs.declared.aims.Aim.TheVariants as aims
@@ -23,12 +22,12 @@ use Rattle.line_seek.specs.declared.seeking.Sought.{Sought}
 use Rattle.line_seek.specs.declared.seeking.Sought.TheVariants as sought
 
 -- A seek on its way: its best balance is right; the entries of its scratch book and their units are paid for by the
--- loads that it listed, but for so many entries; and the next try has a mode of the line's kind.
+-- loads that it listed, but for so many entries; and the next try suits the line's kind.
 pub record IsSeeking (free : ℕ) (s : Seeker) : Type 0 where
   pub cycle : IsCycle s.scratch.about.cycle
   pub right : IsRight s.scratch.about.kind s.scratch.about.line s.scratch.about.cycle s.best
   pub paid : IsPaid s.scratch s.used (s.used + free)
-  pub turn : Belongs s.scratch.about.kind (mode_in s.turn)
+  pub turn : Suits s.scratch.about.kind s.turn
 
 -- what is said of a seek that was done
 abbrev pub IfDone : Sought → (Assignment → List Entry → ℕ → Type 0) → Type 0

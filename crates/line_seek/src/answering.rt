@@ -6,9 +6,9 @@ ghost use Rattle.line_rules.specs.Ranges.{IsCycle};
 ghost use Rattle.station_search.specs.Decide.{IsPairing};
 ghost use Rattle.line_seek.specs.Seeking.{IsRefuted, IsKnown};
 
+use beam_search::bound;
 use lemma_core::{Book, Looked};
 use line_instance::Instance;
-use lower_bounds::bound;
 use station_search::{PairTable, Paired, ask_pairs, table_for};
 use std::alloc::{AllocError, Global};
 

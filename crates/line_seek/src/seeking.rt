@@ -1,8 +1,9 @@
 //! A seek, from try to try.
 //!
-//! What it keeps is the best balance, the scratch book of its searches, and how many loads were listed. Each try counts
-//! as a load at least, so there are no more tries than loads. `seek` and `seek_for` differ in their aim alone.
-ghost use Rattle.std.specs.Prelude.{◌≡◌, ℕ, ◌+◌, ◌-◌, ◌^◌, ◌<◌, ◌≤◌, max, length, [], true, false, IfOk, OnOk, IfSome};
+//! What it keeps is the best balance, the scratch book of its searches, the generator of its drifts, and how many loads
+//! were listed. A try counts as a load at least, or it is a drift: that one finds a better balance, or another try
+//! follows. So a seek ends. `seek` and `seek_for` differ in their aim alone.
+ghost use Rattle.std.specs.Prelude.{◌≡◌, ℕ, ◌+◌, ◌-◌, ◌^◌, ◌<◌, ◌≤◌, length, [], true, false, IfOk, OnOk, IfSome};
 ghost use Rattle.line_instance.specs.Line.{tasks};
 ghost use Rattle.line_rules.specs.Balance.{IsRight, all_tasks};
 ghost use Rattle.line_rules.specs.Bounds.{bound};
@@ -11,20 +12,23 @@ ghost use Rattle.line_rules.specs.Ranges.{AreEntries, IsCycle};
 ghost use Rattle.line_rules.specs.Units.{UnitsOf};
 ghost use Rattle.round_helpers.specs.Growth.{AreAtCycle};
 ghost use Rattle.station_search.specs.Decide.{IsPairing};
+ghost use Rattle.line_seek.specs.inner.Tries.{counted, lag};
 ghost use Rattle.line_seek.specs.inner.Trying.{IsTold, may_add};
 ghost use Rattle.line_seek.specs.Seeking.{IfDone, IsSeeking, AreSought, RefuteIn, IsOver, HasSoughtFor};
 
 use crate::aims::Aim;
 use crate::answering::is_refuted;
 use crate::tries::Try;
-use crate::trying::{Told, Tried, try_beam, try_search};
+use crate::trying::{Told, Tried, try_beam, try_drift, try_search};
+use beam_search::bound;
 use entry_lists::trim;
 use lemma_core::Book;
 use line_instance::Instance;
 use line_rules::{Balance, Entries, LineKind};
-use lower_bounds::bound;
+use rand_core::SeedableRng;
 use station_search::{PairTable, table_for};
 use std::alloc::{AllocError, Global};
+use threshold_search::Lcg64Xsh32;
 
 /// How many loads a try of the first round may list: few, so that a seek that finds at once is short.
 const FIRST_SIZE: u64 = 1_000;
@@ -59,6 +63,8 @@ struct Seeker {
     size: u64,
     /// The next try.
     turn: Try,
+    /// What the drifts draw from.
+    random: Lcg64Xsh32,
 }
 
 /// An equal balance.
@@ -90,6 +96,7 @@ impl Seeker {
             used: 0,
             size: FIRST_SIZE,
             turn: Try::first(kind),
+            random: Lcg64Xsh32::seed_from_u64(0),
         })
     }
 
@@ -130,7 +137,8 @@ impl Seeker {
         is_refuted(inst, book, pairs, most)
     }
 
-    /// Makes the next try, for a balance in `most` stations, with at most so many loads. It counts as a load at least.
+    /// Makes the next try, for a balance in `most` stations, with at most so many loads. A beam and a search count as a
+    /// load at least.
     fn make_try(
         &mut self,
         alloc: Global,
@@ -153,11 +161,25 @@ impl Seeker {
         ensures best { OnOk result (self.new.best ≡ self.old.best) }
         ensures told { IfOk result (λ t. IsTold self.new.scratch most t.told) }
         ensures seeking { IfOk result (λ t. IsSeeking (may_add t.told) self.new) }
-        ensures used { IfOk result (λ t. self.new.used ≡ self.old.used + max t.listed 1) }
+        ensures turn { OnOk result (self.new.turn ≡ self.old.turn) }
+        ensures used { IfOk result (λ t. self.new.used ≡ self.old.used + counted self.old.turn t.listed) }
         ensures within { OnOk result (self.new.used ≤ self.old.used + left) }
     {
         let purse = self.size.min(left);
         match self.turn {
+            Try::Drift => {
+                let drifted = try_drift(
+                    alloc,
+                    inst,
+                    &self.scratch,
+                    &self.best,
+                    &mut self.random,
+                    most,
+                    purse,
+                )?;
+                self.used += drifted.listed;
+                Ok(drifted)
+            }
             Try::Beam(mode) => {
                 let beamed = try_beam(
                     alloc,
@@ -181,18 +203,19 @@ impl Seeker {
     }
 
     /// Goes to the next try of the round, or to the first one of the next round.
-    fn go_on(&mut self)
+    fn go_on(&mut self, inst: &Instance)
         requires seeking { IsSeeking 0 self.old }
         ensures about { self.new.scratch.about ≡ self.old.scratch.about }
         ensures best { self.new.best ≡ self.old.best }
         ensures used { self.new.used ≡ self.old.used }
+        ensures turn { lag self.new.turn + lag self.old.turn ≤ 1 }
         ensures seeking { IsSeeking 0 self.new }
     {
         let kind = self.scratch.kind();
         match self.turn.next(kind) {
             Some(turn) => self.turn = turn,
             None => {
-                self.turn = Try::first(kind);
+                self.turn = Try::first_again(kind, inst.tasks());
                 self.size = self.size.saturating_mul(GROWTH);
             }
         }
@@ -255,7 +278,7 @@ fn go_through(
     let mut seeker = Seeker::begin(alloc, inst, book)?;
     let mut pairs = table_for(alloc, inst, book.kind(), book.cycle(), pairs)?;
     let lower = bound(inst, book.kind(), book.cycle(), &inst.all());
-    for tries in 0..limit {
+    'tries: loop {
         let most = aim.asked_for(seeker.best.stations);
         if seeker.is_over(inst, book, &mut pairs, most, lower, limit) {
             return Ok(seeker.ended(alloc));
@@ -265,10 +288,9 @@ fn go_through(
         match told {
             Told::Found(balance) => seeker.best = balance,
             Told::Refuted => return seeker.refuted(alloc, inst, most),
-            Told::Open => seeker.go_on(),
+            Told::Open => seeker.go_on(inst),
         }
     }
-    Ok(seeker.ended(alloc))
 }
 
 /// Seeks a balance in fewer stations than the best of a book, at the book's cycle, and entries that show that there is
@@ -277,10 +299,12 @@ fn go_through(
 ///
 /// Rounds follow in which a try may list 1,000, 4,000, 16,000 loads and so on. A round has a beam from the front and
 /// one from the back, and then a search from the front and one from the back; on a U-line a beam and a search from both
-/// ends. A try asks for one station less than the best balance has, and is made again where it finds one. The seek ends
-/// where the best balance has as many stations as the bound, where the loads are used, where an entry of the book or,
-/// if they are asked, pairs refute one station less, and where a search does; then the lemmas are the entries of the
-/// searches that show that, and in every other case there are none. With pairs the searches and the beams ask them too.
+/// ends. On a line of at least 150 tasks each round but the first begins with a drift: a unit of it, which pays one step
+/// for every eight tasks, counts as a load. A try asks for one station less than the best balance has, and is made again
+/// where it finds one. The seek ends where the best balance has as many stations as the bound, where the loads are used,
+/// where an entry of the book or, if they are asked, pairs refute one station less, and where a search does; then the
+/// lemmas are the entries of the searches that show that, and in every other case there are none. With pairs the searches
+/// and the beams ask them too.
 pub fn seek(alloc: Global, inst: &Instance, book: &Book, limit: u64, pairs: bool) -> Sought
     requires same { book.now.about.line ≡ inst.now }
     requires cycle { IsCycle book.now.about.cycle }

@@ -1,9 +1,10 @@
-//! One try: a beam that looks for a balance in so many stations, or a search that decides whether there is one.
+//! One try: a drift or a beam that looks for a balance in so many stations, or a search that decides whether there is
+//! one.
 //!
 //! A search publishes what it refutes in the scratch book, which later searches of the same seek go on with.
 ghost use Rattle.std.specs.Prelude.{◌≡◌, ◌+◌, ◌^◌, ◌<◌, ◌≤◌, IfOk, IfSome};
 ghost use Rattle.line_instance.specs.Line.{IsTaskSet};
-ghost use Rattle.line_rules.specs.Balance.{all_tasks};
+ghost use Rattle.line_rules.specs.Balance.{IsRight, all_tasks};
 ghost use Rattle.line_rules.specs.Bounds.{bound};
 ghost use Rattle.line_rules.specs.Loads.{Belongs};
 ghost use Rattle.line_rules.specs.Ranges.{IsCycle};
@@ -16,6 +17,7 @@ use line_instance::Instance;
 use line_rules::{Balance, Mode};
 use station_search::{Decided, PairTable, Units, balance_of, decide_in};
 use std::alloc::{AllocError, Global};
+use threshold_search::{Lcg64Xsh32, drift};
 
 /// How many loads a beam lists of a rest at most. With fewer a rest, it gets through more stations for as many loads.
 const LOADS: u64 = 100;
@@ -43,6 +45,38 @@ fn width(size: u64, most: u32) -> usize {
     match size.checked_div(LOADS * u64::from(most)) {
         Some(width) => width.max(1) as usize,
         None => 1,
+    }
+}
+
+/// A try by a balance that drifts from the best one, for one in `most` stations.
+pub(crate) fn try_drift(
+    alloc: Global,
+    inst: &Instance,
+    scratch: &Book,
+    best: &Balance,
+    random: &mut Lcg64Xsh32,
+    most: u32,
+    purse: u64,
+) -> Result<Tried, AllocError>
+    requires same { scratch.now.about.line ≡ inst.now }
+    requires few { most ≤ 1024 }
+    requires best { IsRight scratch.now.about.kind scratch.now.about.line scratch.now.about.cycle best.now }
+    ensures told { IfOk result (λ t. IsTold scratch.now most t.told) }
+    ensures open { IfOk result (λ t. may_add t.told ≡ 0) }
+    ensures within { IfOk result (λ t. t.listed ≤ purse) }
+{
+    let (kind, cycle) = (scratch.kind(), scratch.cycle());
+    let drifted = drift(alloc, inst, kind, cycle, best, most, random, purse)?;
+    let listed = drifted.used;
+    match drifted.balance {
+        Some(balance) => Ok(Tried {
+            told: Told::Found(balance),
+            listed,
+        }),
+        None => Ok(Tried {
+            told: Told::Open,
+            listed,
+        }),
     }
 }
 
