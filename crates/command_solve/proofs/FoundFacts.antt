@@ -23,6 +23,7 @@ use Rattle.input_files.specs.Instance.{naming_of}
 use Rattle.solution_page.proofs.TextLengths.{bounds_fit, too_long_fits}
 use Rattle.command_solve.specs.Solution.{IsSolveOutcome, IsPromised, fewest_stations}
 use Rattle.command_solve.specs.inner.Said.{HasSaid, search_of}
+use Rattle.command_solve.specs.declared.effort.Effort.{Effort}
 use Rattle.command_solve.specs.declared.said.Said.{Said}
 use Rattle.task_names.specs.declared.naming.Naming.{Naming}
 
@@ -36,7 +37,7 @@ of_best text_of text line c b best idle e f g =
 -- Where a run began with so few entries, the check reads files of the length of its certificate.
 module _ (kind : LineKind) (line : Line) (c : ℕ) (plan : Plan) (before : List Entry) where
   pub optimum_fits : (b : Assignment) (cert : Certificate) → IsOptimumFrom kind line c plan before b cert
-      → length before + 2 * plan.units ≤ 6000000 → length (cert_text cert) ≤ max_certificate
+      → length before + 2 * plan.units ≤ 6101025 → length (cert_text cert) ≤ max_certificate
   optimum_fits b cert o few = omega (
     arith,
     bounds_fit line cert b.stations b.stations o.units b o.entries None
@@ -47,7 +48,7 @@ module _ (kind : LineKind) (line : Line) (c : ℕ) (plan : Plan) (before : List 
   )
 
   pub stop_fits : (lower : ℕ) (b : Assignment) (cert : Certificate) → IsStopFrom kind line c plan before lower b cert
-      → length before + 2 * plan.units ≤ 6000000 → length (cert_text cert) ≤ max_certificate
+      → length before + 2 * plan.units ≤ 6101025 → length (cert_text cert) ≤ max_certificate
   stop_fits lower b cert s few = omega (
     arith,
     bounds_fit line cert lower b.stations s.units b s.entries (Some (record { cycle = c; frames = s.frames }))
@@ -64,30 +65,34 @@ pub refusal_fits : (kind : LineKind) (line : Line) (c task : ℕ) (cert : Certif
 refusal_fits kind line c task cert n = omega (arith, too_long_fits line cert task n.sayable n.accepted)
 
 -- a text can say the certificate that is kept
-pub sayable : (said : Said) (kind : LineKind) (limit : ℕ) (plan : Plan) (r : Report)
-    → IsFound (search_of said kind limit plan) r.status r.text.items r.kept
+pub sayable : (said : Said) (kind : LineKind) (effort : Effort) (plan : Plan) (r : Report)
+    → IsFound (search_of said kind effort plan) r.status r.text.items r.kept
     → (cert : Certificate) → r.kept ≡ Certified cert → IsInRange cert
-sayable said kind limit plan r f cert kept =
+sayable said kind effort plan r f cert kept =
     let mine : Certificate = f.certificate in
     let keeps : r.kept ≡ Certified mine = f.keeps in
     let same : mine ≡ cert = cc in
     let in_range : IsInRange mine = elim f.answer [
-      | inl a ↦ elim a.1 [ inl p ↦ p.proved.certified.sayable | inr p ↦ p.proved.sayable ]
+      | inl a ↦ elim a.1 [
+        | inl p ↦ p.told.proved.certified.sayable
+        | inr (inl p) ↦ p.told.proved.certified.sayable
+        | inr (inr p) ↦ p.proved.sayable
+      ]
       | inr a ↦ a.1.proved.certified.sayable
     ] in
     subst IsInRange same in_range
 
-module _ (o : Outside) (file : List ℕ) (apart warm : Option (List ℕ)) (limit : ℕ) (word : Option ℕ) (kind : LineKind)
-    (plan : Plan) (name : Option (List ℕ)) (said : Said)
+module _ (o : Outside) (file : List ℕ) (apart warm : Option (List ℕ)) (effort : Effort) (word : Option ℕ)
+    (kind : LineKind) (plan : Plan) (name : Option (List ℕ)) (said : Said)
     (has : HasSaid o.files file apart warm word kind said.timed.inst said.timed.cycle said.olds)
     (names : said.timed.naming ≡ naming_of o.files file) where
   abbrev named : Naming → Search
   named n =
-      fewest_stations n kind said.timed.inst said.timed.cycle plan (record { olds = said.olds; seek = limit })
+      fewest_stations n kind said.timed.inst said.timed.cycle plan (record { olds = said.olds; effort = effort })
 
   -- what is answered of what the files say
-  pub answered : (out : Outcome) → IsAnswer (search_of said kind limit plan) name out
-      → IsSolveOutcome o file apart warm limit word kind plan name out
+  pub answered : (out : Outcome) → IsAnswer (search_of said kind effort plan) name out
+      → IsSolveOutcome o file apart warm effort word kind plan name out
   answered out answer = inl (record {
     line = said.timed.inst;
     c = said.timed.cycle;
@@ -99,8 +104,8 @@ module _ (o : Outside) (file : List ℕ) (apart warm : Option (List ℕ)) (limit
 
   -- what is promised of it, once its certificate is written
   pub promised : (after : Files) (r : Result Report EarlyEnd)
-      → IfOk r (λ x. IsFiled (search_of said kind limit plan) name after x.status x.text.items x.kept)
-      → IfOk r (λ x. IsPromised o.files after file apart warm limit word kind plan name x.status x.text.items x.kept)
+      → IfOk r (λ x. IsFiled (search_of said kind effort plan) name after x.status x.text.items x.kept)
+      → IfOk r (λ x. IsPromised o.files after file apart warm effort word kind plan name x.status x.text.items x.kept)
   promised after (Ok x) f = record {
     line = said.timed.inst;
     c = said.timed.cycle;

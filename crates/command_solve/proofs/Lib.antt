@@ -1,3 +1,4 @@
 pub mod FoundFacts
 pub mod SaidFacts
 pub mod BegunFacts
+pub mod TurnFacts

@@ -1,4 +1,5 @@
 pub mod SolutionText
+pub mod Effort
 pub mod WarmStart
 pub mod Solution
 pub mod inner

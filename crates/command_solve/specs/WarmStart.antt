@@ -1,4 +1,5 @@
--- What a run begins with: the old entries that a file says, why it says none, and which of them the run keeps.
+-- What the search of a run begins with: the old entries that a file says, why it says none, and which of them the run
+-- keeps; what a first search adds; and the lemmas of a seek.
 use Rattle.std.specs.Prelude.{◌≤◌, ◌≡◌, ◌≢◌, ◌⊎◌, ℕ, zero, suc, max, ◌-◌, ◌*◌, List, [], length, ◌++◌, Option, Some, None}
 use Rattle.std.specs.Prelude.{codes, decimal}
 use Rattle.line_instance.specs.Line.{Line, tasks}
@@ -13,6 +14,8 @@ use Rattle.lemma_core.specs.Books.{BookView}
 use Rattle.warm_book.specs.Warm.{Taking, TakesAll, untaken}
 use Rattle.command_outcome.specs.Bounds.{seek_line}
 use Rattle.line_seek.specs.Seeking.{HasSought}
+use Rattle.command_solve.specs.Effort.{SearchesFirst, first_room}
+use Rattle.command_solve.specs.declared.effort.Effort.{Effort}
 use Rattle.round_run.specs.declared.plans.Plan.{Plan}
 use Rattle.command_outcome.specs.Outcome.{Files, Outside, Outcome, told}
 use Rattle.command_outcome.specs.declared.status.Status.TheVariants as ends
@@ -66,10 +69,10 @@ old_room N = 6000000 - 2 * N
 abbrev pub warm_line : ℕ → ℕ → List ℕ
 warm_line kept all = codes "warm " ++ decimal kept ++ codes " of " ++ decimal all ++ codes "\n"
 
--- with what a run begins: old entries, where there are any, and a seek that may list so many loads
+-- with what a run begins: old entries, where there are any, and what it spends before its search
 pub record Start : Type 0 where
   pub olds : Option (List Entry)
-  pub seek : ℕ
+  pub effort : Effort
 
 -- an empty book about the line, with the ranked balance
 pub record IsOpened (kind : LineKind) (line : Line) (c : ℕ) (book : BookView) : Type 0 where
@@ -84,29 +87,31 @@ TakesOld N book None end said = (end ≡ untaken book) × (said ≡ [])
 TakesOld N book (Some old) end said =
     TakesAll (old_room N) (untaken book) old end × (said ≡ warm_line end.kept (length old))
 
--- the room for the lemmas of a seek, and for their units: what the kept old entries and their units leave
-abbrev pub seek_room : ℕ → Taking → ℕ
-seek_room N at = old_room N - max at.kept at.units
+-- the room for the lemmas of a seek, and for their units: what the kept old entries and their units leave, less the
+-- most entries that a first search of so many units adds
+abbrev pub seek_room : ℕ → ℕ → Taking → ℕ
+seek_room N first at = old_room N - max at.kept at.units - first_room first
 
--- A book that took in old entries takes in the lemmas of a seek over it, and this line says how many were kept. The
--- number of stations is at most that of the balance of the seek.
-pub record TakesSought (N limit : ℕ) (at end : Taking) (said : List ℕ) (top : ℕ) : Type 0 where
+-- A book takes in the lemmas of a seek over it, as many as there is room for, and this line says how many were kept.
+-- The number of stations is at most that of the balance of the seek.
+pub record TakesSought (room limit : ℕ) (book : BookView) (end : Taking) (said : List ℕ) (top : ℕ) : Type 0 where
   pub best : Assignment
   pub offered : top ≤ best.stations
   pub lemmas : List Entry
   pub used : ℕ
-  pub sought : HasSought at.book limit best lemmas used
-  pub taken : TakesAll (seek_room N at) (untaken at.book) lemmas end
+  pub sought : HasSought book limit best lemmas used
+  pub taken : TakesAll room (untaken book) lemmas end
   pub said_so : said ≡ seek_line used limit end.kept
 
--- the same where the words ask for a seek; else the book stays, and there is no line
-abbrev pub Seeks : ℕ → ℕ → Taking → Taking → List ℕ → ℕ → Type 0
-Seeks N zero at end said top = (end ≡ at) × (said ≡ [])
-Seeks N (suc loads) at end said top = TakesSought N (suc loads) at end said top
+-- the same where there is a seek; else the book stays, and there is no line
+abbrev pub Seeks : ℕ → ℕ → BookView → Taking → List ℕ → ℕ → Type 0
+Seeks room zero book end said top = (end ≡ untaken book) × (said ≡ [])
+Seeks room (suc loads) book end said top = TakesSought room (suc loads) book end said top
 
--- The entries with which a run begins, the first lines of its text, and a number of stations: the entries are those
--- that an empty book with the ranked balance has after it took in the old entries and the lemmas of a seek; the number
--- is at most that of the ranked balance, and at most that of a right balance that the seek names.
+-- The entries with which the search of a run begins, the first lines of its text, and a number of stations. The entries
+-- are those that an empty book with the ranked balance has after it took in the old entries, went through a first
+-- search, and took in the lemmas of a seek. The number is at most that of the ranked balance, at most that of the best
+-- balance of the first search, and at most that of a right balance that the seek names.
 pub record BeginsWith (kind : LineKind) (line : Line) (c : ℕ) (plan : Plan) (start : Start) (before : List Entry)
     (first : List ℕ) (top : ℕ) : Type 0 where
   pub book : BookView
@@ -115,8 +120,11 @@ pub record BeginsWith (kind : LineKind) (line : Line) (c : ℕ) (plan : Plan) (s
   pub at : Taking
   pub warm_said : List ℕ
   pub took : TakesOld plan.units book start.olds at warm_said
+  pub mid : BookView
+  pub searches : SearchesFirst kind line c start.effort.first plan at.book mid
+  pub better : top ≤ mid.state.best.stations
   pub end : Taking
   pub seek_said : List ℕ
-  pub seeks : Seeks plan.units start.seek at end seek_said top
+  pub seeks : Seeks (seek_room plan.units start.effort.first at) start.effort.seek mid end seek_said top
   pub entries : end.book.state.entries ≡ before
   pub said : first ≡ warm_said ++ seek_said

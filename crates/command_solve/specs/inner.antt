@@ -1,2 +1,4 @@
 pub mod Begun
+pub mod Reports
+pub mod FirstSearch
 pub mod Said

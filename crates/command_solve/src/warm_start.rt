@@ -1,27 +1,32 @@
-//! What a run begins with: the entries of an old certificate, where the words name one, and the lemmas and the balance
-//! of a seek, where they ask for one; and the book that takes them in.
+//! What the search of a run begins with: the entries of an old certificate, where the words name one, and the lemmas
+//! and the balance of a seek, where the run has one; and the book that takes them in.
 //!
-//! The old entries are read whole, checked side by side on the line as it is, and given up before the search. A run
-//! with N units takes at most 6,000,000 - 2N of them, with as many units. So its certificate stays within the default
-//! steps of the check, and its text within the bytes that the check reads.
+//! The old entries are read whole, checked side by side on the line as it is, and given up before the first search. A
+//! run with N units takes at most 6,000,000 - 2N of them, with as many units; the lemmas of a seek have what these and
+//! a first search leave. So its certificate stays within the default steps of the check, and its text within the bytes
+//! that the check reads.
 ghost use Rattle.std.specs.Prelude.{◌≡◌, ◌≤◌, ◌↔◌, ℕ, List, ◌++◌, [], Some, None, IfOk, IsTrue, MatchResult};
-ghost use Rattle.std.specs.Prelude.{string_bytes, option_map};
+ghost use Rattle.std.specs.Prelude.{string_bytes, option_map, Option};
 ghost use Rattle.std.specs.Option.{ForSome};
 ghost use Rattle.line_io.specs.Outside.{Rises};
 ghost use Rattle.line_instance.specs.Line.{tasks};
 ghost use Rattle.line_rules.specs.Ranges.{AreEntries, IsCycle, IsInRange};
 ghost use Rattle.line_rules.specs.Ranked.{IsRankedBalance};
 ghost use Rattle.line_rules.specs.declared.types.Certificate.{Certificate as Proof};
+ghost use Rattle.line_rules.specs.declared.types.Entry.{Entry as Lemma};
+ghost use Rattle.line_rules.specs.declared.types.LineKind.{LineKind as Kind};
 ghost use Rattle.lemma_core.specs.Books.{IsReserved, MayBeBest};
 ghost use Rattle.command_outcome.specs.Outcome.{Stops, MayStop, outside};
 ghost use Rattle.input_files.specs.Certificate.{IsCertificateOf};
 ghost use Rattle.round_run.specs.Plans.{IsPlan};
 ghost use Rattle.command_solve.specs.WarmStart.{AreOld, IsOldOf, IsOther, IsUnwarmed, entries_of, tasks_line};
 ghost use Rattle.command_solve.specs.WarmStart.{warm_line};
-ghost use Rattle.command_solve.specs.WarmStart.{Start, old_room};
+ghost use Rattle.command_solve.specs.Effort.{IsEffort};
+ghost use Rattle.command_solve.specs.WarmStart.{Start, old_room, seek_room};
 ghost use Rattle.warm_book.specs.Warm.{Taking};
-ghost use Rattle.command_solve.specs.inner.Begun.{IsBegun, IsTaken, HasSoughtBehind};
+ghost use Rattle.command_solve.specs.inner.Begun.{IsBegun, IsReady, IsTaken, HasSoughtBehind};
 
+use crate::effort::Effort;
 use command_outcome::{EarlyEnd, Status, refuse, with_seek_line};
 use input_files::certificate_of;
 use lemma_core::Book;
@@ -39,7 +44,8 @@ use warm_book::{Counted, Warmed, warm_counted, warm_wide};
 /// certificate stays within the default steps of the check.
 const MOST_UNITS: u64 = 6_000_000;
 
-/// The book with which a run begins, and the first line of its text, where it has one on old entries.
+/// The book with which the search of a run begins, and the first lines of its text, where it has such on old entries
+/// and on a seek.
 #[derive(Drop)]
 pub(crate) struct Begun {
     pub book: Book,
@@ -49,11 +55,11 @@ pub(crate) struct Begun {
 /// A book that took in old entries: how many it kept, with so many units, and the line that says so, where there were
 /// any.
 #[derive(Drop)]
-struct Taken {
-    book: Book,
-    kept: u32,
-    units: u64,
-    first: String,
+pub(crate) struct Taken {
+    pub book: Book,
+    pub kept: u32,
+    pub units: u64,
+    pub first: String,
 }
 
 /// The line about a certificate of another number of tasks.
@@ -214,19 +220,19 @@ fn take_sought<R: Threads + Sync>(
     alloc: Global,
     inst: &Instance,
     taken: Taken,
-    limit: u64,
+    effort: Effort,
     plan: &Plan,
 ) -> Result<Begun, AllocError>
     requires same { taken.book.about.line ≡ inst.now }
     requires cycle { IsCycle taken.book.about.cycle }
-    requires limit { limit ≤ 3000000 }
+    requires effort { IsEffort effort }
     requires plan { IsPlan plan.now }
     requires reserved { IsReserved taken.book }
     requires kept { taken.kept ≤ old_room plan.now.units }
     requires units { taken.units ≤ old_room plan.now.units }
-    ensures sought { (at : Taking) → at.book ≡ taken.book → at.kept ≡ taken.kept → at.units ≡ taken.units
-        → IfOk result (λ b. HasSoughtBehind plan.now.units limit at b.book (string_bytes taken.first)
-        (string_bytes b.first)) }
+    ensures sought { (at : Taking) → at.kept ≡ taken.kept → at.units ≡ taken.units
+        → IfOk result (λ b. HasSoughtBehind (seek_room plan.now.units effort.first at) effort.seek taken.book b.book
+        (string_bytes taken.first) (string_bytes b.first)) }
     ensures about { IfOk result (λ b. b.book.about ≡ taken.book.about) }
     ensures reserved { IfOk result (λ b. IsReserved b.book) }
 {
@@ -236,23 +242,25 @@ fn take_sought<R: Threads + Sync>(
         units,
         first,
     } = taken;
-    let Sought::Done { best, lemmas, used } = seek(alloc, inst, &book, limit, plan.pairs) else {
+    let Sought::Done { best, lemmas, used } = seek(alloc, inst, &book, effort.seek, plan.pairs)
+    else {
         return Err(AllocError);
     };
-    let room = MOST_UNITS - 2 * plan.units - u64::from(kept).max(units);
+    let left = MOST_UNITS - 2 * plan.units - u64::from(kept).max(units);
+    let room = left.saturating_sub(effort.first_room());
     match warm_wide(rt, alloc, inst, book, &lemmas, room) {
         Warmed::Done { mut book, kept } => {
             book.offer(best);
-            let first = with_seek_line(first, used, limit, u64::from(kept))?;
+            let first = with_seek_line(first, used, effort.seek, u64::from(kept))?;
             Ok(Begun { book, first })
         }
         Warmed::NoMemory(_) => Err(AllocError),
     }
 }
 
-/// The book with which a run begins: empty but for the old entries that it takes in and, where the words ask for a seek
-/// of some loads, for its lemmas; with the ranked balance, or a better one of the seek.
-pub(crate) fn begin<R: Threads + Sync>(
+/// What a run has before a first search: an empty book with the ranked balance, but for the old entries that it took
+/// in.
+pub(crate) fn warm_up<R: Threads + Sync>(
     rt: &R,
     alloc: Global,
     inst: &Instance,
@@ -260,23 +268,42 @@ pub(crate) fn begin<R: Threads + Sync>(
     cycle: u64,
     best: Balance,
     olds: Option<Entries>,
-    limit: u64,
     plan: &Plan,
-) -> Result<Begun, AllocError>
+) -> Result<Taken, AllocError>
     requires cycle { IsCycle cycle }
     requires best { MayBeBest (record { line = inst.now; kind = kind; cycle = cycle }) best }
     requires ranked { IsRankedBalance kind inst.now cycle best }
     requires range { ForSome olds (AreEntries (tasks inst.now)) }
-    requires limit { limit ≤ 3000000 }
     requires plan { IsPlan plan.now }
-    ensures { let start : Start = record { olds = olds; seek = limit } in
-        IfOk result (λ b. IsBegun kind inst.now cycle plan.now start b.book (string_bytes b.first)) }
+    ensures { IfOk result (λ t. IsReady kind inst.now cycle plan.now 0 olds t (string_bytes t.first)) }
 {
     let book = open_book(alloc, inst, kind, cycle, best)?;
-    let taken = take_olds(rt, alloc, inst, book, olds, plan)?;
-    if limit == 0 {
+    take_olds(rt, alloc, inst, book, olds, plan)
+}
+
+/// The book with which the search of a run begins: what the run has before, and the lemmas of a seek where it has one;
+/// with its best balance, or a better one of the seek.
+pub(crate) fn begin<R: Threads + Sync>(
+    rt: &R,
+    alloc: Global,
+    inst: &Instance,
+    taken: Taken,
+    effort: Effort,
+    plan: &Plan,
+) -> Result<Begun, AllocError>
+    requires cycle { IsCycle taken.book.about.cycle }
+    requires effort { IsEffort effort }
+    requires plan { IsPlan plan.now }
+    requires ready { (kind : Kind) × (cycle : ℕ) × (olds : Option (List Lemma))
+        × IsReady kind inst.now cycle plan.now effort.first olds taken (string_bytes taken.first) }
+    ensures { (kind : Kind) (cycle : ℕ) (olds : Option (List Lemma))
+        → IsReady kind inst.now cycle plan.now effort.first olds taken (string_bytes taken.first)
+        → let start : Start = record { olds = olds; effort = effort } in
+        IfOk result (λ b. IsBegun kind inst.now cycle plan.now start b.book (string_bytes b.first)) }
+{
+    if effort.seek == 0 {
         let Taken { book, first, .. } = taken;
         return Ok(Begun { book, first });
     }
-    take_sought(rt, alloc, inst, taken, limit, plan)
+    take_sought(rt, alloc, inst, taken, effort, plan)
 }

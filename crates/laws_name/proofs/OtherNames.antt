@@ -3,6 +3,7 @@ use Rattle.std.proofs.Common.{◌≡◌, ◌⊎◌, inl, inr, ℕ, List, ◌++�
 use Rattle.std.specs.Prelude.{codes, decimal}
 use Rattle.line_instance.specs.Line.{Line, time}
 use Rattle.line_rules.specs.Bounds.{idle_time, total_bound}
+use Rattle.line_rules.specs.declared.types.Entry.{Entry}
 use Rattle.line_rules.specs.declared.types.LineKind.{LineKind}
 use Rattle.line_rules.specs.declared.types.Balance.{Balance as Assignment}
 use Rattle.line_rules.specs.declared.types.Certificate.{Certificate}
@@ -24,6 +25,7 @@ use Rattle.command_balance.specs.Balance as balancing
 use Rattle.command_balance.specs.BalanceText.{balance_text}
 use Rattle.command_solve.specs.Solution as solving
 use Rattle.command_solve.specs.SolutionText as solve_text
+use Rattle.command_solve.specs.Effort.{first_plan}
 use Rattle.command_solve.specs.WarmStart.{Start}
 use Rattle.command_cycle.specs.Found as cycling
 use Rattle.command_cycle.specs.CycleText as cycle_text
@@ -177,30 +179,52 @@ module _ (naming other : Naming) where
       )
     ]
 
-    module _ (plan : Plan) (start : Start) where
-      solve_solves : (cert : Certificate) (text : List ℕ)
-          → solving.IsOptimal naming kind line c plan start cert text
-          ⊎ solving.IsInfeasible naming kind line c cert text
-          → (renamed : List ℕ) × (solving.IsOptimal other kind line c plan start cert renamed
-          ⊎ solving.IsInfeasible other kind line c cert renamed) × DifferInNames naming other text renamed
-      solve_solves cert text x = elim x [
-        | inl p ↦ let idle : ℕ = idle_time line c p.balance.stations in (
-          p.first ++ solve_text.optimal_text other kind p.balance idle,
-          inl (record {
-            before = p.before;
-            first = p.first;
-            top = p.top;
-            begins = p.begins;
-            balance = p.balance;
-            proved = p.proved;
-            fits = p.fits;
-            printed = refl;
-          }),
-          differ_told p.first (solve_text.optimal_line p.balance.stations) kind p.balance idle p.printed,
+    -- an optimum is told with other names
+    told_like : (plan : Plan) (before : List Entry) (first : List ℕ) (cert : Certificate) (text : List ℕ)
+        → solving.IsToldOptimal naming kind line c plan before first cert text
+        → (renamed : List ℕ) × solving.IsToldOptimal other kind line c plan before first cert renamed
+        × DifferInNames naming other text renamed
+    told_like plan before first cert text p =
+        let idle : ℕ = idle_time line c p.balance.stations in (
+          first ++ solve_text.optimal_text other kind p.balance idle,
+          record { balance = p.balance; proved = p.proved; fits = p.fits; printed = refl },
+          differ_told first (solve_text.optimal_line p.balance.stations) kind p.balance idle p.printed,
         )
-        | inr p ↦ (
+
+    module _ (plan : Plan) (start : Start) where
+      -- what solves the search, with these names
+      abbrev Solves : Naming → Certificate → List ℕ → Type 0
+      Solves n cert text =
+          solving.IsOptimal n kind line c plan start cert text
+          ⊎ solving.IsOptimalAtFirst n kind line c plan start cert text
+          ⊎ solving.IsInfeasible n kind line c cert text
+
+      solve_solves : (cert : Certificate) (text : List ℕ) → Solves naming cert text
+          → (renamed : List ℕ) × Solves other cert renamed × DifferInNames naming other text renamed
+      solve_solves cert text x = elim x [
+        | inl p ↦ let l = told_like plan p.before p.first cert text p.told in (
+          l.0,
+          inl (record { before = p.before; first = p.first; top = p.top; begins = p.begins; told = l.1 }),
+          l.2,
+        )
+        | inr (inl p) ↦
+            let l = told_like (first_plan start.effort.first plan) p.at.book.state.entries p.warm_said cert text
+            p.told in (
+              l.0,
+              inr (inl (record {
+                has = p.has;
+                book = p.book;
+                opened = p.opened;
+                at = p.at;
+                warm_said = p.warm_said;
+                took = p.took;
+                told = l.1;
+              })),
+              l.2,
+            )
+        | inr (inr p) ↦ (
           infeasible_text other p.task (time line p.task),
-          inr (record { task = p.task; least = p.least; proved = p.proved; fits = p.fits; printed = refl }),
+          inr (inr (record { task = p.task; least = p.least; proved = p.proved; fits = p.fits; printed = refl })),
           inr (inl (record {
             task = p.task;
             time = time line p.task;
@@ -239,9 +263,7 @@ module _ (naming other : Naming) where
           (λ renamed. IsAnswer (solving.fewest_stations other kind line c plan start) name renamed)
       solve_like =
           answer_like naming other (solving.fewest_stations naming kind line c plan start)
-          (λ cert text. solving.IsOptimal other kind line c plan start cert text
-          ⊎ solving.IsInfeasible other kind line c cert text)
-          (solving.IsStopped other kind line c plan start) solve_solves solve_stops
+          (Solves other) (solving.IsStopped other kind line c plan start) solve_solves solve_stops
 
   module _ (kind : LineKind) (line : Line) (m : ℕ) (plan : Plan) where
     cycle_solves : (cert : Certificate) (text : List ℕ) → cycling.IsOptimal naming kind line m plan cert text
@@ -341,9 +363,9 @@ changed_nothing = record {
   balance = λ word a b kind out same p.
       let l = balance_like (naming_of a.files a.line) (naming_of b.files b.line) kind p.line p.c out p.answer in
       (l.0, (record { line = p.line; c = p.c; said = same.said p.line p.c p.said; answer = l.1.0 }, l.1.1));
-  solve = λ word a b seek kind plan name out same p.
+  solve = λ word a b effort kind plan name out same p.
       let l = solve_like (naming_of a.files a.line) (naming_of b.files b.line) kind p.line p.c plan
-      (record { olds = p.olds; seek = seek }) name out p.answer in (
+      (record { olds = p.olds; effort = effort }) name out p.answer in (
         l.0,
         (
           record {

@@ -10,6 +10,7 @@ use Rattle.input_files.specs.Instance.{IsSaid, IsPlainLine, naming_of}
 use Rattle.command_balance.specs.Balance as balancing
 use Rattle.command_solve.specs.Solution as solving
 use Rattle.command_solve.specs.WarmStart.{AreOld}
+use Rattle.command_solve.specs.declared.effort.Effort.{Effort}
 use Rattle.command_cycle.specs.Found as cycling
 use Rattle.command_effic.specs.EfficFound as efficient
 use Rattle.laws_name.specs.Renaming.{HasLike}
@@ -41,11 +42,11 @@ pub record NamesChangeNothing : Type 0 where
       → balancing.IsAnswered a.files a.line a.apart word kind out
       → HasLike (naming_of a.files a.line) (naming_of b.files b.line) out
       (λ renamed. balancing.IsAnswered b.files b.line b.apart word kind renamed)
-  pub solve : (word : Option ℕ) (a b : Given) (seek : ℕ) (kind : LineKind) (plan : Plan) (name : Option (List ℕ))
+  pub solve : (word : Option ℕ) (a b : Given) (effort : Effort) (kind : LineKind) (plan : Plan) (name : Option (List ℕ))
       (out : Outcome) → SaysSame word a b
-      → solving.IsAnswered a.files a.line a.apart a.warm seek word kind plan name out
+      → solving.IsAnswered a.files a.line a.apart a.warm effort word kind plan name out
       → HasLike (naming_of a.files a.line) (naming_of b.files b.line) out
-      (λ renamed. solving.IsAnswered b.files b.line b.apart b.warm seek word kind plan name renamed)
+      (λ renamed. solving.IsAnswered b.files b.line b.apart b.warm effort word kind plan name renamed)
   pub cycle : (a b : Given) (kind : LineKind) (m : ℕ) (plan : Plan) (name : Option (List ℕ)) (out : Outcome)
       → SaysSamePlain a b → cycling.IsAnswered a.files a.line kind m plan name out
       → HasLike (naming_of a.files a.line) (naming_of b.files b.line) out

@@ -5,6 +5,10 @@
 //! used, and where a limit on addresses leaves it no room then, the system ends the program.
 #![tactic(auto)]
 
+ghost use Rattle.std.specs.Prelude.{◌≡◌};
+ghost use Rattle.command_outcome.specs.Codes.{code_of};
+ghost use Rattle.command_outcome.specs.declared.status.Status.{Status};
+
 use command_outcome::{EarlyEnd, Kept, finish};
 use line_io::{DiskShelf, OutSink};
 use line_run::run;
@@ -25,14 +29,18 @@ fn words_of<R: Runtime + AllocGlobal>(rt: &R) -> io::Result<Vec<String>> {
     Ok(words)
 }
 
-/// The exit code of a run that memory ends before it begins.
-fn end_by_memory<R: Runtime>(rt: &R) -> u8 {
+/// The exit code of a run that memory ends before it begins: that of a status.
+fn end_by_memory<R: Runtime>(rt: &R) -> u8
+    ensures { (status : Status) × (result ≡ code_of status) }
+{
     let mut out = OutSink::new(rt);
     finish(&mut out, Err(EarlyEnd::Memory), &mut Kept::Nothing).code()
 }
 
-/// The exit code of a run over the system's files and the standard output.
-fn run_words<R: Runtime + AllocGlobal + Threads + Wait + Sync>(rt: &R) -> u8 {
+/// The exit code of a run over the system's files and the standard output: that of a status.
+fn run_words<R: Runtime + AllocGlobal + Threads + Wait + Sync>(rt: &R) -> u8
+    ensures { (status : Status) × (result ≡ code_of status) }
+{
     // Words that aren't text are taken for no words.
     let words = match words_of(rt) {
         Ok(words) => words,

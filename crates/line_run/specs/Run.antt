@@ -1,5 +1,5 @@
 -- What each job means, and what a run comes to, over the words and the outside.
-use Rattle.std.specs.Prelude.{◌≡◌, ◌⊎◌, ℕ, List, Option, Some, None}
+use Rattle.std.specs.Prelude.{◌≡◌, ◌⊎◌, ℕ, List, Option, Some, None, unwrap_or}
 use Rattle.std.specs.declared.result.Result.{Result}
 use Rattle.std.specs.declared.result.Result.TheVariants.{Ok, Err}
 use Rattle.line_words.specs.Words.{Text}
@@ -30,6 +30,7 @@ use Rattle.command_balance.specs.Balance.{IsBalanceOutcome}
 use Rattle.command_check.specs.Check.{IsCheckOutcome, IsProvedTrue}
 use Rattle.command_convert.specs.Convert.{IsConvertOutcome}
 use Rattle.command_solve.specs.Solution.{IsSolveOutcome, IsPromised}
+use Rattle.command_solve.specs.declared.effort.Effort.{Effort}
 use Rattle.command_cycle.specs.Found.{IsCycleOutcome, IsCyclePromised}
 use Rattle.command_mix.specs.Combine.{IsCombineOutcome}
 use Rattle.command_mix.specs.Utility.{IsUtilityOutcome}
@@ -49,6 +50,18 @@ use Rattle.line_run.specs.Pages.{page_text}
 abbrev pub planned : ℕ → ℕ → BoundWord → ℕ → Plan
 planned helpers units bound seek =
     record { helpers = helpers; units = units; pairs = asks_pairs bound; seek = seek }
+
+-- What `solve` spends before its search, by the units and the loads of a seek that the words name. Where they name
+-- neither, it goes in turns: a first search of 50,000 units, and a seek of 1,000,000 loads. Else there is no first
+-- search, and no seek but the one that they name.
+abbrev pub effort_of : Option ℕ → Option ℕ → Effort
+effort_of units (Some seek) = record { first = 0; seek = seek }
+effort_of (Some units) None = record { first = 0; seek = 0 }
+effort_of None None = record { first = 50000; seek = 1000000 }
+
+-- the units of the search of `solve`: those that the words name; 1,000,000 is the default
+abbrev pub units_of : Option ℕ → ℕ
+units_of units = unwrap_or units 1000000
 
 -- What `try` comes to: what is told of the line of a seed. No file is written.
 pub record IsTryOutcome (seed tasks cycle : ℕ) (kind : LineKind) (units : ℕ) (out : Outcome) : Type 0 where
@@ -112,17 +125,18 @@ checking outcome truth = record {
 -- right, a certificate that the check accepts is kept, and written where the words name a file, its bounds are the
 -- printed ones and true, and they differ only where the units were spent on loads that it lists; of `cycle` the same of
 -- the least cycle time in so many stations; of `effic` the same of the least product of stations and cycle, which may
--- also stop by the size of its book. Of `sequence`: for the mix and the balance that the files say, the sequence that is
--- printed is one of the demands, a certificate is kept and written as of `solve`, no sequence of the demands has less
--- utility work than its lower bound, and the bounds differ only where the units were spent. Of `try`: the same as of
--- `solve` of the line of a seed.
+-- also stop by the size of its book. Of `sequence`: for the mix and the balance that the files say, the sequence that
+-- is printed is one of the demands, a certificate is kept and written as of `solve`, no sequence of the demands has
+-- less utility work than its lower bound, and the bounds differ only where the units were spent. Of `try`: the same as
+-- of `solve` of the line of a seed.
 abbrev pub search_meaning : SearchJob → Meaning
 search_meaning (Solve job) =
-    let plan = planned job.helpers job.units job.bound 0 in
+    let plan = planned job.helpers (units_of job.units) job.bound 0 in
+    let effort = effort_of job.units job.seek in
     promising (λ o out.
-    IsSolveOutcome o job.file job.apart job.warm job.seek job.cycle (kind_of job.line) plan job.cert out) job.cert
+    IsSolveOutcome o job.file job.apart job.warm effort job.cycle (kind_of job.line) plan job.cert out) job.cert
     (λ files after status text kept.
-    IsPromised files after job.file job.apart job.warm job.seek job.cycle (kind_of job.line) plan job.cert status text
+    IsPromised files after job.file job.apart job.warm effort job.cycle (kind_of job.line) plan job.cert status text
     kept)
 search_meaning (Cycle job) =
     let plan = planned job.helpers job.units job.bound job.seek in
@@ -171,8 +185,8 @@ line_meaning (Planning job) =
     promising (λ o out. IsPlanOutcome o job.file job.cert job.apart out) None
     (λ files after status text kept. IsTrulyPlanned files job.file job.cert job.apart text)
 
--- What each job of a mix means that is no search. Of `timeline-draw`: the picture is true of the timeline that the files
--- say.
+-- What each job of a mix means that is no search. Of `timeline-draw`: the picture is true of the timeline that the
+-- files say.
 abbrev pub mix_meaning : MixJob → Meaning
 mix_meaning (Combine job) = answering (λ o out. IsCombineOutcome o job.mix job.out out) (Some job.out)
 mix_meaning (Utility job) =

@@ -4,7 +4,10 @@
 //! it. Nothing is searched or kept here, so a job costs what its command costs.
 ghost use Rattle.std.specs.Prelude.{◌≡◌, option_map};
 ghost use Rattle.line_words.specs.Ranges.{IsInRange, IsSearchInRange, IsCheckInRange, IsLineInRange, IsMixInRange};
+ghost use Rattle.line_words.specs.Ranges.{AreRunUnits, AreRunUnitsOrNone, AreSeekLoadsOrNone};
+ghost use Rattle.command_solve.specs.Effort.{IsEffort};
 ghost use Rattle.line_run.specs.Run.{planned, meaning_of, search_meaning, check_meaning, line_meaning, mix_meaning};
+ghost use Rattle.line_run.specs.Run.{effort_of, units_of};
 ghost use Rattle.line_run.specs.Ran.{Does, shelf_seen};
 
 use crate::pages::page_report;
@@ -17,7 +20,7 @@ use command_effic::{effic_check_report, effic_report};
 use command_mix::{combine_report, timeline_draw_report, timeline_report, utility_report};
 use command_outcome::{EarlyEnd, Report};
 use command_sequence::{sequence_check_report, sequence_report};
-use command_solve::{Gate, Plan, solve_report};
+use command_solve::{Effort, Gate, Plan, solve_report};
 use command_try::try_report;
 use input_files::kind_of;
 use line_io::Shelf;
@@ -51,6 +54,36 @@ fn plan_of(helpers: u32, units: u64, bound: BoundWord, seek: u64) -> Plan
     }
 }
 
+/// What `solve` spends before its search, by the units and the loads of a seek that the words name. Where they name
+/// neither, it goes in turns: a first search of 50,000 units closes most lines, and a seek of 1,000,000 loads most
+/// others.
+fn effort_of(units: Option<u64>, seek: Option<u64>) -> Effort
+    ensures value { result ≡ effort_of units seek }
+    ensures range { AreSeekLoadsOrNone seek → IsEffort result }
+{
+    match seek {
+        Some(seek) => Effort { first: 0, seek },
+        None => match units {
+            Some(_) => Effort { first: 0, seek: 0 },
+            None => Effort {
+                first: 50_000,
+                seek: 1_000_000,
+            },
+        },
+    }
+}
+
+/// The units of the search of `solve`.
+fn units_of(units: Option<u64>) -> u64
+    ensures value { result ≡ units_of units }
+    ensures range { AreRunUnitsOrNone units → AreRunUnits result }
+{
+    match units {
+        Some(units) => units,
+        None => 1_000_000,
+    }
+}
+
 /// Searches for a balance of the fewest stations.
 fn solve<R: Threads + Wait + Sync, S: Shelf, G: Gate>(
     rt: &R,
@@ -65,7 +98,8 @@ fn solve<R: Threads + Wait + Sync, S: Shelf, G: Gate>(
         (search_meaning (SearchJob.Solve job.now)) result }
 {
     let kind = kind_of(job.line);
-    let plan = plan_of(job.helpers, job.units, job.bound, 0);
+    let plan = plan_of(job.helpers, units_of(job.units), job.bound, 0);
+    let effort = effort_of(job.units, job.seek);
     let cert = name_of(&job.cert);
     solve_report(
         rt,
@@ -73,7 +107,7 @@ fn solve<R: Threads + Wait + Sync, S: Shelf, G: Gate>(
         job.file.text(),
         name_of(&job.apart),
         name_of(&job.warm),
-        job.seek,
+        effort,
         job.cycle,
         kind,
         &plan,

@@ -16,8 +16,8 @@ balance FILE    a balance at once, a bound on its stations, the idle time
     line balance jackson.in2 cycle=10
 solve FILE    a balance of the fewest stations, and the proof that it is
     cycle=C (the file's)  line=straight|u (straight)  helpers=0..64 (4)
-    units=1..3000000 (1000000)  cert=OUT (none)  apart=PAIRS (none)
-    warm=CERT (none)  seek=0..3000000 (0)  bound=plain|pairs (pairs)
+    units=1..3000000 (in turns)  cert=OUT (none)  apart=PAIRS (none)
+    warm=CERT (none)  seek=0..3000000 (in turns)  bound=plain|pairs (pairs)
     line solve jackson.in2 cycle=10 cert=jackson.cert
 cycle FILE stations=1..1024    the least cycle time, and the proof
     line=straight|u (straight)  helpers=0..64 (4)  units=1..1000000 (1000000)

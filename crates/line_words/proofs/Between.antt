@@ -267,8 +267,8 @@ job_between command.Balance ws r = set_between command.Balance ws (codes "cycle"
 job_between command.Solve ws r = (
   set_between command.Solve ws (codes "cycle") (λ v. refl) r,
   default_between command.Solve ws (codes "helpers") 4 (λ v. refl) r (omega arith, omega arith),
-  default_between command.Solve ws (codes "units") 1000000 (λ v. refl) r (omega arith, omega arith),
-  default_between command.Solve ws (codes "seek") 0 (λ v. refl) r (omega arith, omega arith),
+  set_between command.Solve ws (codes "units") (λ v. refl) r,
+  set_between command.Solve ws (codes "seek") (λ v. refl) r,
 )
 job_between command.Cycle ws r = (
   default_between command.Cycle ws (codes "stations") 1 (λ v. refl) r (omega arith, omega arith),

@@ -163,11 +163,11 @@ solve_job ws = record {
   cycle = number_set command.Solve ws (codes "cycle");
   line = line_set ws;
   helpers = number_or command.Solve ws (codes "helpers") 4;
-  units = number_or command.Solve ws (codes "units") 1000000;
+  units = number_set command.Solve ws (codes "units");
   cert = value_of ws (codes "cert");
   apart = value_of ws (codes "apart");
   warm = value_of ws (codes "warm");
-  seek = number_or command.Solve ws (codes "seek") 0;
+  seek = number_set command.Solve ws (codes "seek");
   bound = bound_set ws;
 }
 

@@ -42,6 +42,10 @@ IsHelperCount k = IsBetween 0 64 k
 abbrev pub AreRunUnits : ℕ → Type 0
 AreRunUnits units = IsBetween 1 3000000 units
 
+-- such units, or none
+abbrev pub AreRunUnitsOrNone : Option ℕ → Type 0
+AreRunUnitsOrNone units = IsSetBetween 1 3000000 units
+
 -- the units of each try of a run that makes several, and those of a search for a sequence
 abbrev pub AreTryUnits : ℕ → Type 0
 AreTryUnits units = IsBetween 1 1000000 units
@@ -49,6 +53,10 @@ AreTryUnits units = IsBetween 1 1000000 units
 -- the loads of a seek; 0 for none
 abbrev pub AreSeekLoads : ℕ → Type 0
 AreSeekLoads loads = IsBetween 0 3000000 loads
+
+-- such loads, or none
+abbrev pub AreSeekLoadsOrNone : Option ℕ → Type 0
+AreSeekLoadsOrNone loads = IsSetBetween 0 3000000 loads
 
 -- the steps of a check
 abbrev pub AreSteps : ℕ → Type 0
@@ -65,7 +73,7 @@ IsReach reach = IsBetween 1 1000000000 reach
 -- each number of a search lies in the range of its key
 abbrev pub IsSearchInRange : SearchJob → Type 0
 IsSearchInRange (Solve job) = IsCycleTimeOrNone job.cycle × IsHelperCount job.helpers
-    × AreRunUnits job.units × AreSeekLoads job.seek
+    × AreRunUnitsOrNone job.units × AreSeekLoadsOrNone job.seek
 IsSearchInRange (Cycle job) = IsStationCount job.stations × IsHelperCount job.helpers
     × AreTryUnits job.units × AreSeekLoads job.seek
 IsSearchInRange (Effic job) = IsStationCount job.least × IsStationCount job.most × (job.least ≤ job.most)

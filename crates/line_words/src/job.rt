@@ -137,16 +137,16 @@ pub struct SolveJob {
     pub line: LineWord,
     /// How many helpers search, 0 to 64.
     pub helpers: u32,
-    /// The most work units, 1 to 3,000,000.
-    pub units: u64,
+    /// The most work units, 1 to 3,000,000, where the words name them.
+    pub units: Option<u64>,
     /// The file that the certificate is written to.
     pub cert: Option<Name>,
     /// The file with pairs of tasks that may share no station.
     pub apart: Option<Name>,
     /// The file with an earlier certificate, from which the search takes what follows.
     pub warm: Option<Name>,
-    /// The most loads that a seek before the search lists, 0 to 3,000,000.
-    pub seek: u64,
+    /// The most loads that a seek before the search lists, 0 to 3,000,000, where the words name them.
+    pub seek: Option<u64>,
     /// What the search asks.
     pub bound: BoundWord,
 }

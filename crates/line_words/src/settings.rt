@@ -209,11 +209,11 @@ fn solve_job(alloc: Global, words: &[String]) -> Result<SolveJob, AllocError>
         cycle: number_set(command, words, "cycle"),
         line: line_set(words),
         helpers: helpers_set(command, words),
-        units: number_or(command, words, "units", 1_000_000),
+        units: number_set(command, words, "units"),
         cert: name_set(alloc, words, "cert")?,
         apart: name_set(alloc, words, "apart")?,
         warm: name_set(alloc, words, "warm")?,
-        seek: number_or(command, words, "seek", 0),
+        seek: number_set(command, words, "seek"),
         bound: bound_set(words),
     })
 }

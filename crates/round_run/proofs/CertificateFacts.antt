@@ -7,7 +7,7 @@ use Rattle.std.specs.Prelude.{slice_get}
 use Rattle.line_instance.specs.Line.{Line, IsLine, IsRanked, tasks}
 use Rattle.line_rules.specs.Accepted.{HasTrail, IsAccepted, IsInfeasible, IsLeastStations}
 use Rattle.line_rules.specs.Balance.{IsRight, all_tasks}
-use Rattle.line_rules.specs.Entries.{HasAnswer, IsDerived, IsFresh}
+use Rattle.line_rules.specs.Entries.{HasAnswer, IsDerived, IsFresh, IsUnanswered}
 use Rattle.line_rules.specs.Trails.{IsTrail, IsOpenOver}
 use Rattle.line_rules.specs.Bounds.{IsTooLong}
 use Rattle.line_rules.specs.Checked.{IsLeastWhere}
@@ -216,6 +216,7 @@ module _ (kind : LineKind) (line : Line) (c : ℕ) (plan : Plan) (before : List 
       let trail : Trail = record { cycle = c; frames = frames } in
       let V : List Entry → Type 0 = λ x. IsTrail kind line c x (all_tasks line) lower frames in
       let O : List Entry → Type 0 = λ x. IsOpenOver line c x frames in
+      let N : List Entry → Type 0 = λ x. IsUnanswered x (all_tasks line) lower c in
       let G : List Entry → Type 0 = λ x. 1 < lower → HasAnswer x (all_tasks line) (lower - 1) c in
       let below : lower < b.stations = omega (arith, spent.stopped.below, ap (λ (x : Assignment). x.stations) b_is) in
       let valid = subst V (sym es_are) spent.valid in
@@ -260,6 +261,7 @@ module _ (kind : LineKind) (line : Line) (c : ℕ) (plan : Plan) (before : List 
         alone = spent.alone;
         fresh = fresh;
         opens = subst O (sym es_are) spent.opens;
+        tight = subst N (sym es_are) spent.tight;
         budget = spent.budget;
       })
 

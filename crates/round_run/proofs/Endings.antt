@@ -9,7 +9,7 @@ use Rattle.line_instance.specs.Truths.{In, IsSubset}
 use Rattle.line_instance.specs.Line.{Line, IsLine, IsRanked, tasks}
 use Rattle.line_rules.specs.Balance.{Holds, IsRight, all_tasks, seat}
 use Rattle.line_rules.specs.Bounds.{bound}
-use Rattle.line_rules.specs.Entries.{Answers, HasAnswer, IsDerived}
+use Rattle.line_rules.specs.Entries.{Answers, HasAnswer, IsDerived, IsUnanswered}
 use Rattle.line_rules.specs.Loads.{taken, rest}
 use Rattle.line_rules.specs.Ranked.{IsRankedBalance}
 use Rattle.line_rules.specs.Trails.{Leads, IsTrail, IsOpenOver}
@@ -271,27 +271,40 @@ module _ (kind : LineKind) (line : Line) (c : ℕ) (before : List Entry) (top N 
         → IsStoppedFrom kind line c N before added lower new (trail_of stop)
     stopped l = record { run = run_book; some = omega (arith, h.run.some, h.run.from); below = l; goal = shown }
 
-  -- a frame of the trail isn't answered by the entry of the bound
+  -- what was added behind the questions is the entry of the bound, which is about fewer stations than the last one
   module _ (trail : List OpenFrame) (h : Asked (stop_by cause.Units trail)) where
-    unanswered : (k : ℕ) (f : OpenFrame) → slice_get trail k ≡ Some f → (j : ℕ) (x : Entry)
-        → slice_get a.gained j ≡ Some x
-        → Answers x f.set f.most c → ⊥
-    unanswered k f e j x g r =
+    bound_entry : (j : ℕ) (x : Entry) → slice_get a.gained j ≡ Some x → (x.set ≡ all_tasks line) × (x.most ≡ first - 1)
+    bound_entry j x g =
         let same : b.about.line ≡ line = ap (λ (z : About). z.line) h.run.about in
         elim a.entry [
           | inl none ↦
               let y : slice_get [] j ≡ Some x = sym (ap (λ (z : List Entry). slice_get z j) none) ∙ g in
-              get_none j x y
+              absurd (get_none j x y)
           | inr one ↦
               let y : by_bound b.about.line (first - 1) b.about.cycle ≡ x =
               one_entry (by_bound b.about.line (first - 1) b.about.cycle) j x
-              (sym (ap (λ (z : List Entry). slice_get z j) one) ∙ g) in
-              let set : f.set ≡ all_tasks line =
-              sym r.same ∙ (sym (ap (λ (z : Entry). z.set) y) ∙ ap (λ (z : Line). all_tasks z) same) in
-              let most : f.most ≡ lower =
-              question_most kind line c b.state.entries (all_tasks line) lower trail h.ends.1.1 k f e set in
-              let few : x.most ≡ first - 1 = sym (ap (λ (z : Entry). z.most) y) in
-              omega (arith, most, few, r.stations, h.run.some, h.run.from)
+              (sym (ap (λ (z : List Entry). slice_get z j) one) ∙ g) in (
+                sym (ap (λ (z : Entry). z.set) y) ∙ ap (λ (z : Line). all_tasks z) same,
+                sym (ap (λ (z : Entry). z.most) y),
+              )
+        ]
+
+    -- a frame of the trail isn't answered by it
+    unanswered : (k : ℕ) (f : OpenFrame) → slice_get trail k ≡ Some f → (j : ℕ) (x : Entry)
+        → slice_get a.gained j ≡ Some x
+        → Answers x f.set f.most c → ⊥
+    unanswered k f e j x g r =
+        let one = bound_entry j x g in
+        let most : f.most ≡ lower =
+        question_most kind line c b.state.entries (all_tasks line) lower trail h.ends.1.1 k f e (sym r.same ∙ one.0) in
+        omega (arith, most, one.1, r.stations, h.run.some, h.run.from)
+
+    tight : IsUnanswered new.state.entries (all_tasks line) lower c
+    tight k x g r =
+        let P : List Entry → Type 0 = λ z. slice_get z k ≡ Some x in
+        elim (get_append_cases b.state.entries a.gained k x (subst P a.goes_on.entries g)) [
+          | inl y ↦ h.ends.1.3 k x y r
+          | inr y ↦ omega (arith, (bound_entry y.0 x y.1).1, r.stations, h.run.some, h.run.from)
         ]
 
     valid : IsTrail kind line c new.state.entries (all_tasks line) lower trail
@@ -361,6 +374,7 @@ module _ (kind : LineKind) (line : Line) (c : ℕ) (before : List Entry) (top N 
           best = omega (arith, a.goes_on.best, h.run.best);
           valid = valid;
           opens = opens;
+          tight = tight;
           listed = h.published + h.listed;
           units = (
             h.published,
@@ -385,10 +399,13 @@ module _ (kind : LineKind) (line : Line) (c : ℕ) (before : List Entry) (top N 
   stops_by cause.Units trail h = spent trail h (omega (arith, best_still, h.ends.0))
   stops_by cause.Memory trail h =
       let S : ℕ → Type 0 =
-      λ z. IsStoppedFrom kind line c z before (added (stop_by cause.Memory trail) h) lower new trail in (
-        added (stop_by cause.Memory trail) h,
-        subst S plan_units (stopped (stop_by cause.Memory trail) h (omega (arith, best_still, h.ends.0))),
-      )
+      λ z. IsStoppedFrom kind line c z before (added (stop_by cause.Memory trail) h) lower new trail in
+      record {
+        added = added (stop_by cause.Memory trail) h;
+        stopped = subst S plan_units (stopped (stop_by cause.Memory trail) h (omega (arith, best_still, h.ends.0)));
+        from = omega (arith, start, h.run.from);
+        best = omega (arith, a.goes_on.best, h.run.best);
+      }
 
 -- a run that began with an empty book and the ranked balance
 pub from_ranked : (kind : LineKind) (line : Line) (c : ℕ) (plan : Plan) (best : Assignment) (o : Outcome)
@@ -404,5 +421,12 @@ from_ranked kind line c plan best (outcome.Stopped cause.Units lower book trail)
     ranked = λ a r. omega (arith, same_stations kind line c best a ranked r);
   },
 )
-from_ranked kind line c plan best (outcome.Stopped cause.Memory lower book trail) ranked fits s = (fits, s)
+from_ranked kind line c plan best (outcome.Stopped cause.Memory lower book trail) ranked fits s = (
+  fits,
+  record {
+    top = best.stations;
+    cut_short = s;
+    ranked = λ a r. omega (arith, same_stations kind line c best a ranked r);
+  },
+)
 from_ranked kind line c plan best outcome.NoMemory ranked fits s = tt

@@ -1,6 +1,7 @@
 pub mod BoundEntries
 pub mod BookGain
 pub mod RankedOnce
+pub mod TrailFacts
 pub mod TurnFacts
 pub mod Endings
 pub mod PurseFacts

@@ -1,6 +1,6 @@
 -- What a run has can be said by a certificate: entries that follow from each other, the frames of a trail, and a right
 -- balance are within their ranges.
-use Rattle.std.proofs.Common.{◌≡◌, ℕ, zero, suc, ◌+◌, ◌-◌, ◌<◌, ◌≤◌, ◌⊎◌, inl, inr, Bool, List, [], ◌∷◌, length, take}
+use Rattle.std.proofs.Common.{◌≡◌, ℕ, zero, suc, ◌+◌, ◌-◌, ◌<◌, ◌≤◌, ◌⊎◌, inl, inr, Bool, List, [], ◌∷◌, length}
 use Rattle.std.proofs.Common.{Option, Some, None, sym, subst, arith, length-append}
 use Rattle.std.specs.Prelude.{slice_get}
 use Rattle.std.proofs.lemmas.Option.{slice_get_within}
@@ -10,8 +10,7 @@ use Rattle.line_instance.proofs.Fills.{length-full_to}
 use Rattle.line_instance.specs.Line.{Line, IsLine, IsTaskSet, tasks}
 use Rattle.line_rules.specs.Balance.{IsRight, all_tasks}
 use Rattle.line_rules.specs.Loads.{rest}
-use Rattle.line_rules.specs.Entries.{Covers, FollowsBy, IsDerived}
-use Rattle.line_rules.specs.Ranges.{IsOf, IsCycle, IsPlaced, IsPlacing, AreCites, IsWhy, AreEntries, IsLast, IsFrame}
+use Rattle.line_rules.specs.Ranges.{IsCycle, IsPlaced, IsPlacing, IsLast, IsFrame}
 use Rattle.line_rules.specs.Ranges.{IsTrailLike}
 use Rattle.line_rules.specs.Trails.{IsPassed, IsDeepest, LastIsLoad, Leads, IsTrail}
 use Rattle.line_rules.specs.declared.types.LineKind.{LineKind}
@@ -21,12 +20,9 @@ use Rattle.line_rules.specs.declared.types.Balance.{Balance as Assignment}
 use Rattle.line_rules.specs.declared.types.Load.{Load}
 use Rattle.line_rules.specs.declared.types.Entry.{Entry}
 use Rattle.line_rules.specs.declared.types.OpenFrame.{OpenFrame}
-use Rattle.line_rules.specs.declared.types.Why.{Why}
-use Rattle.line_rules.specs.declared.types.Why.TheVariants as why
 use Rattle.line_rules.proofs.Monotone.{rest_smaller}
-use Rattle.line_rules.proofs.ListFacts.{get_push_cases, get_some}
+use Rattle.line_rules.proofs.ListFacts.{get_push_cases}
 use Rattle.line_rules.proofs.ReadPlaces.{seat_read}
-use Rattle.line_rules.proofs.LemmasHold.{get_take}
 use Rattle.round_helpers.proofs.SayableEntries.{is_of, covered}
 pub use Rattle.round_helpers.proofs.SayableEntries.{entries_ok}
 

@@ -3,7 +3,7 @@ use Rattle.std.proofs.Common.{◌≡◌, ℕ, ◌+◌, ◌-◌, ◌<◌, ◌≤�
 use Rattle.std.proofs.Common.{arith, append_assoc, length-append, Option, None}
 use Rattle.line_instance.specs.Line.{Line, tasks}
 use Rattle.line_rules.specs.Balance.{all_tasks}
-use Rattle.line_rules.specs.Entries.{HasAnswer}
+use Rattle.line_rules.specs.Entries.{HasAnswer, IsUnanswered}
 use Rattle.line_rules.specs.Trails.{IsTrail, IsOpenOver}
 use Rattle.line_rules.specs.Units.{UnitsOf, UnitsIn}
 use Rattle.line_rules.specs.declared.types.LineKind.{LineKind}
@@ -13,7 +13,8 @@ use Rattle.lemma_core.specs.Machine.{About}
 use Rattle.lemma_core.specs.Books.{BookView, IsReserved}
 use Rattle.round_helpers.specs.Growth.{AreAtCycle, GoesOn, Helps}
 use Rattle.round_helpers.proofs.AddedEntries.{cycles_both}
-use Rattle.round_run.specs.Rounds.{Gains, IsAnswer, StaysAbove, frames_of}
+use Rattle.round_run.proofs.TrailFacts.{open_over}
+use Rattle.round_run.specs.Rounds.{Gains, IsAnswer, StaysAbove, WasOpen, frames_of}
 use Rattle.round_run.specs.inner.Questions.{IsRun, IsPaid, HasAsked, EndsBy, trail_of, stop_by, stop_of}
 use Rattle.round_run.specs.declared.questions.Stop.{Stop}
 use Rattle.station_search.specs.declared.answers.Units.{Units}
@@ -84,6 +85,7 @@ pub record IsTurn (kind : LineKind) (line : Line) (c : ℕ) (before : List Entry
   pub gains : Gains mid new v (units.used - old_units.used)
   pub answer : IsAnswer new lower units.left v
   pub above : StaysAbove lower b new v
+  pub was_open : WasOpen mid lower v
 
 module _ (kind : LineKind) (line : Line) (c : ℕ) (before : List Entry) (top N G first lower : ℕ)
     (b mid new : BookView) (old_units units : Units) (old_helped helped : ℕ) where
@@ -210,6 +212,20 @@ module _ (kind : LineKind) (line : Line) (c : ℕ) (before : List Entry) (top N 
   found : (r : Turn verdict.Found) → Asks None
   found r = ended verdict.Found r None refl r.answer
 
+  -- no entry answers the question: none did before the closing pass, and those that it added don't, since the trail
+  -- is open over them
+  still_open : (trail : List OpenFrame) (r : Turn (verdict.Spent trail))
+      → IsUnanswered new.state.entries (all_tasks line) lower c
+  still_open trail r =
+      let m : mid.about ≡ record { line = line; kind = kind; cycle = c } = about_mid (verdict.Spent trail) r in
+      let s : new.about ≡ record { line = line; kind = kind; cycle = c } = same_about (verdict.Spent trail) r in
+      let T : About → Type 0 = λ z. IsTrail z.kind z.line z.cycle new.state.entries (all_tasks z.line) lower trail in
+      let O : About → Type 0 = λ z. IsOpenOver z.line z.cycle new.state.entries trail in
+      let U : About → Type 0 = λ z. IsUnanswered mid.state.entries (all_tasks z.line) lower z.cycle in
+      open_over kind line c lower mid.state.entries r.gains.gained new.state.entries trail r.gains.goes_on.entries
+      (let C : About → Type 0 = λ z. AreAtCycle z.cycle r.gains.gained in subst C m r.gains.goes_on.cycles)
+      (subst T s r.answer.0.trail) (subst O s r.answer.1) (subst U m r.was_open)
+
   spent : (trail : List OpenFrame) (r : Turn (verdict.Spent trail)) → Asks (stop_by cause.Units trail)
   spent trail r =
       let P : About → Type 0 = λ z. IsTrail z.kind z.line z.cycle new.state.entries (all_tasks z.line) lower trail in
@@ -218,7 +234,7 @@ module _ (kind : LineKind) (line : Line) (c : ℕ) (before : List Entry) (top N 
       let all : N ≤ r.paid.published + (r.helps.published + r.gains.published) + r.gains.listed =
       omega (arith, r.gains.exact tt, r.spent, r.all, r.answer.0.spent, r.paid.least) in
       ended (verdict.Spent trail) r (stop_by cause.Units trail) refl
-      (r.above r.below, (all, subst P s r.answer.0.trail, subst Q s r.answer.1))
+      (r.above r.below, (all, subst P s r.answer.0.trail, subst Q s r.answer.1, still_open trail r))
 
   wanting : (trail : List OpenFrame) (r : Turn (verdict.NoMemory trail)) → Asks (stop_by cause.Memory trail)
   wanting trail r =

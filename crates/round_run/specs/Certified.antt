@@ -5,7 +5,7 @@ use Rattle.line_instance.specs.Line.{Line, tasks}
 use Rattle.line_rules.specs.Accepted.{IsAccepted, IsInfeasible, IsLeastStations}
 use Rattle.line_rules.specs.Balance.{IsRight, all_tasks}
 use Rattle.line_rules.specs.Bounds.{bound}
-use Rattle.line_rules.specs.Entries.{IsFresh}
+use Rattle.line_rules.specs.Entries.{IsFresh, IsUnanswered}
 use Rattle.line_rules.specs.Laws.{IsProved, NoBalanceIsLeft}
 use Rattle.line_rules.specs.Ranges.{IsInRange}
 use Rattle.line_rules.specs.Trails.{IsOpenOver, IsTrail}
@@ -97,8 +97,8 @@ pub record IsOptimumFrom (kind : LineKind) (line : Line) (c : ℕ) (plan : Plan)
 -- entries, of which none is answered by an earlier one, begin with those, and the others are at cycle c, at most 1,025
 -- more than twice the units; these others and its trail have at least the units of the plan, at most twice as many, and
 -- exactly so many without helpers; the lower bound is at least the bound of all tasks; the trail asks whether all tasks
--- have a balance in as many stations, and is open over the entries; and the units of the plan are below what the budget
--- law allows.
+-- have a balance in as many stations, and is open over the entries; no entry, of a longer cycle neither, refutes that;
+-- and the units of the plan are below what the budget law allows.
 pub record IsStopFrom (kind : LineKind) (line : Line) (c : ℕ) (plan : Plan) (before : List Entry) (lower : ℕ)
     (b : Assignment) (cert : Certificate) : Type 0 where
   pub entries : List Entry
@@ -122,6 +122,7 @@ pub record IsStopFrom (kind : LineKind) (line : Line) (c : ℕ) (plan : Plan) (b
   pub alone : plan.helpers ≡ 0 → listed ≡ plan.units
   pub fresh : IsFresh entries
   pub opens : IsOpenOver line c entries frames
+  pub tight : IsUnanswered entries (all_tasks line) lower c
   pub budget : plan.units < (tasks line + 1) * states kind ^ tasks line
 
 -- the same of a run that began with an empty book

@@ -2,7 +2,7 @@
 use Rattle.std.specs.Prelude.{◌≡◌, ℕ, ◌+◌, ◌<◌, ◌≤◌, ◌⊎◌, Bool, List, [], ◌∷◌, length, None}
 use Rattle.line_instance.specs.Line.{Line}
 use Rattle.line_rules.specs.Balance.{all_tasks}
-use Rattle.line_rules.specs.Entries.{HasAnswer}
+use Rattle.line_rules.specs.Entries.{HasAnswer, IsUnanswered}
 use Rattle.line_rules.specs.Pairs.{IsRefutedByPairs}
 use Rattle.line_rules.specs.Trails.{IsOpenOver}
 use Rattle.line_rules.specs.Units.{UnitsOf, UnitsIn}
@@ -82,6 +82,14 @@ IsAnswer book most left (verdict.Spent frames) =
     × IsOpenOver book.about.line book.about.cycle book.state.entries frames
 IsAnswer book most left (verdict.NoMemory frames) = Unit {0}
 
+-- where the units ended, no entry of the book answered the question before (own)
+abbrev pub WasOpen : BookView → ℕ → Verdict → Type 0
+WasOpen book most verdict.Refuted = Unit {0}
+WasOpen book most verdict.Found = Unit {0}
+WasOpen book most (verdict.Spent frames) =
+    IsUnanswered book.state.entries (all_tasks book.about.line) most book.about.cycle
+WasOpen book most (verdict.NoMemory frames) = Unit {0}
+
 -- where no balance of the question was found, a best balance with more stations than it asks for still has more
 abbrev pub StaysAbove : ℕ → BookView → BookView → Verdict → Type 0
 StaysAbove most old new verdict.Refuted = most < old.state.best.stations → most < new.state.best.stations
@@ -91,7 +99,7 @@ StaysAbove most old new (verdict.NoMemory frames) = most < old.state.best.statio
 
 -- A round: the helpers did so much for the question, for so many units of theirs, and the book that came back is `mid`;
 -- then the closing pass began behind its entries, gained what it did for so many units, and gave the answer. Where the
--- helpers answered the question, it used no unit.
+-- helpers answered the question, it used no unit; and where its units ended, no entry had answered the question.
 pub record IsRound (old : BookView) (round : Round) (most : ℕ) (team : List Units) (helpers closing : ℕ)
     : Type 0 where
   pub mid : BookView
@@ -101,3 +109,4 @@ pub record IsRound (old : BookView) (round : Round) (most : ℕ) (team : List Un
   pub gains : Gains mid round.book round.verdict closing
   pub from : round.closing_from ≡ length mid.state.entries
   pub whole : round.helped ≡ Whole → closing ≡ 0
+  pub was_open : WasOpen mid most round.verdict

@@ -5,7 +5,7 @@ use Rattle.line_rules.specs.Accepted.{IsLeastStations}
 use Rattle.line_rules.specs.Balance.{all_tasks}
 use Rattle.line_rules.specs.Bounds.{bound, IsTooLong}
 use Rattle.line_rules.specs.Checked.{IsLeastWhere}
-use Rattle.line_rules.specs.Entries.{HasAnswer}
+use Rattle.line_rules.specs.Entries.{HasAnswer, IsUnanswered}
 use Rattle.line_rules.specs.Ranked.{IsRankedBalance}
 use Rattle.line_rules.specs.Trails.{IsTrail, IsOpenOver}
 use Rattle.line_rules.specs.Units.{UnitsOf, UnitsIn, UnitsWhole}
@@ -61,8 +61,9 @@ pub record IsStoppedFrom (kind : LineKind) (line : Line) (c N : ℕ) (before add
 
 -- The units of the closing passes ended: the lower bound is at least the bound of all tasks, and the best balance has
 -- no more stations than the one that the run began with; the trail is valid from all tasks in `lower` stations, and
--- open over the book; the entries that the run added and the trail have at least the units of the plan, exactly so many
--- without helpers, and these are fewer than the budget law allows.
+-- open over the book; no entry of the book, those of longer cycles too, refutes all tasks in `lower` stations; the
+-- entries that the run added and the trail have at least the units of the plan, exactly so many without helpers, and
+-- these are fewer than the budget law allows.
 pub record IsSpentFrom (kind : LineKind) (line : Line) (c : ℕ) (plan : Plan) (before : List Entry) (top lower : ℕ)
     (book : BookView) (trail : List OpenFrame) : Type 0 where
   pub added : List Entry
@@ -71,12 +72,22 @@ pub record IsSpentFrom (kind : LineKind) (line : Line) (c : ℕ) (plan : Plan) (
   pub best : book.state.best.stations ≤ top
   pub valid : IsTrail kind line c book.state.entries (all_tasks line) lower trail
   pub opens : IsOpenOver line c book.state.entries trail
+  pub tight : IsUnanswered book.state.entries (all_tasks line) lower c
   pub listed : ℕ
   pub units : UnitsWhole line added (Some (record { cycle = c; frames = trail })) listed
   pub least : plan.units ≤ listed
   pub alone : plan.helpers ≡ 0 → listed ≡ plan.units
   pub most : listed ≤ 2 * plan.units
   pub budget : plan.units < (tasks line + 1) * states kind ^ tasks line
+
+-- Memory ended the run: the bounds are those of a run that stopped; the lower one is at least the bound of all tasks,
+-- and the best balance has no more stations than the one that the run began with.
+pub record IsCutShortFrom (kind : LineKind) (line : Line) (c N : ℕ) (before : List Entry) (top lower : ℕ)
+    (book : BookView) (trail : List OpenFrame) : Type 0 where
+  pub added : List Entry
+  pub stopped : IsStoppedFrom kind line c N before added lower book trail
+  pub from : bound kind line c (all_tasks line) ≤ lower
+  pub best : book.state.best.stations ≤ top
 
 -- the same of a run that began with an empty book
 abbrev pub IsSolved : LineKind → Line → ℕ → Plan → BookView → Type 0
@@ -87,6 +98,13 @@ pub record IsSpent (kind : LineKind) (line : Line) (c : ℕ) (plan : Plan) (lowe
     (trail : List OpenFrame) : Type 0 where
   pub top : ℕ
   pub spent : IsSpentFrom kind line c plan [] top lower book trail
+  pub ranked : (b : Assignment) → IsRankedBalance kind line c b → top ≤ b.stations
+
+-- the same of a run that memory ended
+pub record IsCutShort (kind : LineKind) (line : Line) (c N lower : ℕ) (book : BookView) (trail : List OpenFrame)
+    : Type 0 where
+  pub top : ℕ
+  pub cut_short : IsCutShortFrom kind line c N [] top lower book trail
   pub ranked : (b : Assignment) → IsRankedBalance kind line c b → top ≤ b.stations
 
 -- no task is longer than the cycle
@@ -101,7 +119,7 @@ SolvesFrom kind line c plan before top (outcome.Solved book) = IsSolvedFrom kind
 SolvesFrom kind line c plan before top (outcome.Stopped cause.Units lower book trail) =
     IsSpentFrom kind line c plan before top lower book trail
 SolvesFrom kind line c plan before top (outcome.Stopped cause.Memory lower book trail) =
-    (added : List Entry) × IsStoppedFrom kind line c plan.units before added lower book trail
+    IsCutShortFrom kind line c plan.units before top lower book trail
 SolvesFrom kind line c plan before top outcome.NoMemory = Unit {0}
 
 -- What a run answers: the least task that is longer than the cycle; else a balance of the fewest stations; or bounds,
@@ -112,5 +130,5 @@ Solves kind line c plan (outcome.Solved book) = FitsAll line c × IsSolved kind 
 Solves kind line c plan (outcome.Stopped cause.Units lower book trail) = FitsAll line c
     × IsSpent kind line c plan lower book trail
 Solves kind line c plan (outcome.Stopped cause.Memory lower book trail) =
-    FitsAll line c × ((added : List Entry) × IsStoppedFrom kind line c plan.units [] added lower book trail)
+    FitsAll line c × IsCutShort kind line c plan.units lower book trail
 Solves kind line c plan outcome.NoMemory = Unit {0}

@@ -12,7 +12,7 @@ ghost use Rattle.line_rules.specs.Seats.{AreSeated};
 ghost use Rattle.lemma_core.specs.Books.{IsReserved};
 ghost use Rattle.station_search.specs.Decide.{IsPairing};
 ghost use Rattle.round_helpers.specs.Growth.{GoesOn};
-ghost use Rattle.round_run.specs.Rounds.{Gains, IsAnswer, StaysAbove};
+ghost use Rattle.round_run.specs.Rounds.{Gains, IsAnswer, StaysAbove, WasOpen};
 
 use crate::bounding::refute_by_bound;
 use lemma_core::Book;
@@ -54,6 +54,7 @@ pub fn closing_pass(
     ensures gains { Gains book.old book.new result (units.new.used - units.old.used) }
     ensures known { HasAnswer book.old.state.entries (all_tasks inst.now) most book.old.about.cycle
         → units.new.used ≡ units.old.used }
+    ensures was_open { WasOpen book.old most result }
     ensures answer { IsAnswer book.new most units.new.left result }
     ensures above { StaysAbove most book.old book.new result }
     ensures reserved { IsReserved book.new }
@@ -97,6 +98,7 @@ fn search_all(
     ensures gains { Gains book.old book.new result units.new.used }
     ensures known { HasAnswer book.old.state.entries (all_tasks inst.now) most book.old.about.cycle
         → units.new.used ≡ 0 }
+    ensures was_open { WasOpen book.old most result }
     ensures answer { IsAnswer book.new most units.new.left result }
     ensures above { StaysAbove most book.old book.new result }
     ensures reserved { IsReserved book.new }

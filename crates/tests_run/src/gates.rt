@@ -48,7 +48,7 @@ fn two_helpers_at_once(rt: HostRuntime) -> Result<(), Fail> {
     shelf.put_file("p7.in2", b"7\n7\n7\n4\n4\n2\n2\n2\n-1,-1\n")?;
     let mut out = MemSink::new(alloc, Vec::new(alloc));
     let mut words = Vec::new(alloc);
-    for word in ["solve", "p7.in2", "cycle=7", "helpers=2"] {
+    for word in ["solve", "p7.in2", "cycle=7", "helpers=2", "units=1000000"] {
         words.push(String::from_str(alloc, word)?)?;
     }
     let gate = Meeting {

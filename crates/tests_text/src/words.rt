@@ -19,9 +19,9 @@ fn is_solve(job: &Job) -> bool {
     };
     let names = job.file.text() == "a.in2"
         && job.cert.as_ref().is_some_and(|cert| cert.text() == "c");
-    let numbers = job.cycle == Some(7) && job.helpers == 4 && job.units == 1_000_000;
+    let numbers = job.cycle == Some(7) && job.helpers == 4 && job.units.is_none();
     let old = job.warm.as_ref().is_some_and(|warm| warm.text() == "w");
-    let asks = job.bound == BoundWord::Plain && job.seek == 5;
+    let asks = job.bound == BoundWord::Plain && job.seek == Some(5);
     names && numbers && old && asks && job.line == LineWord::U && job.apart.is_none()
 }
 

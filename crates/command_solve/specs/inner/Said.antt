@@ -9,6 +9,7 @@ use Rattle.command_outcome.specs.Outcome.{Files, Outside, Outcome}
 use Rattle.input_files.specs.Instance.{IsSaid, IsUnsaid}
 use Rattle.command_solve.specs.WarmStart.{AreOld}
 use Rattle.command_solve.specs.Solution.{fewest_stations, IsSaidUnwarmed}
+use Rattle.command_solve.specs.declared.effort.Effort.{Effort}
 use Rattle.command_solve.specs.declared.said.Said.{Said}
 
 -- the files say the line, the cycle time, and the old entries, where the words name a file of them
@@ -23,8 +24,8 @@ abbrev pub IsUnsaidOrUnwarmed : Outside → List ℕ → Option (List ℕ) → O
 IsUnsaidOrUnwarmed o file apart warm word kind out =
     IsUnsaid o file apart word out ⊎ IsSaidUnwarmed o file apart warm word kind out
 
--- the search for the line, the cycle time and the old entries that are said, with a seek of so many loads
-abbrev pub search_of : Said → LineKind → ℕ → Plan → Search
-search_of said kind limit plan =
+-- the search for the line, the cycle time and the old entries that are said, and what is spent before it
+abbrev pub search_of : Said → LineKind → Effort → Plan → Search
+search_of said kind effort plan =
     fewest_stations said.timed.naming kind said.timed.inst said.timed.cycle plan
-    (record { olds = said.olds; seek = limit })
+    (record { olds = said.olds; effort = effort })

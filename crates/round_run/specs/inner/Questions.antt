@@ -2,7 +2,7 @@
 use Rattle.std.specs.Prelude.{◌≡◌, ℕ, ◌+◌, ◌-◌, ◌<◌, ◌≤◌, List, [], ◌++◌, length, Option, Some, None}
 use Rattle.line_instance.specs.Line.{Line, tasks}
 use Rattle.line_rules.specs.Balance.{all_tasks}
-use Rattle.line_rules.specs.Entries.{HasAnswer}
+use Rattle.line_rules.specs.Entries.{HasAnswer, IsUnanswered}
 use Rattle.line_rules.specs.Trails.{IsTrail, IsOpenOver}
 use Rattle.line_rules.specs.Units.{UnitsOf, UnitsIn}
 use Rattle.line_rules.specs.declared.types.LineKind.{LineKind}
@@ -61,12 +61,12 @@ stop_of verdict.Found = None
 stop_of (verdict.Spent frames) = stop_by cause.Units frames
 stop_of (verdict.NoMemory frames) = stop_by cause.Memory frames
 
--- Units ended: at least N are listed, and the trail of the search is valid from the next question and open over the
--- book.
+-- Units ended: at least N are listed, the trail of the search is valid from the next question and open over the book,
+-- and no entry of the book answers that question.
 abbrev pub StopsBy : LineKind → Line → ℕ → ℕ → ℕ → BookView → ℕ → Cause → List OpenFrame → Type 0
 StopsBy kind line c N lower book listed cause.Units trail =
     (N ≤ listed) × IsTrail kind line c book.state.entries (all_tasks line) lower trail
-    × IsOpenOver line c book.state.entries trail
+    × IsOpenOver line c book.state.entries trail × IsUnanswered book.state.entries (all_tasks line) lower c
 StopsBy kind line c N lower book listed cause.Memory trail = Unit {0}
 
 -- The best balance has at most as many stations as the next question asks for; or the run stopped below it.

@@ -9,13 +9,13 @@ returns c = λ start plan. record {
   keeps = refl;
   answer = inl (
     refl,
-    inr (record {
+    inr (inr (record {
       task = c.args.task;
       least = c.requires.long;
       proved = c.certify_too_long.ensures;
       fits = refusal_fits c.args.kind c.args.inst.now c.args.cycle c.args.task c.certify_too_long.result
           c.certify_too_long.ensures;
       printed = c.in_ok-text.ensures ∙ ap (λ k. infeasible_text c.args.naming.now c.args.task k) c.time.ensures.time;
-    }),
+    })),
   );
 }

@@ -4,7 +4,9 @@ use Rattle.line_run.proofs.jobs.solve.Goals as goal
 pub returns : goal.returns
 returns g c =
     rw (
+      ← c.units_of.ensures.value,
       ← c.plan_of-plan.ensures,
+      ← c.effort_of-effort.ensures.value,
       ← c.kind_of-kind.ensures,
       ← c.name_of-cert.ensures,
       ← c.text.ensures,

@@ -3,7 +3,7 @@ use Rattle.lemma_core.specs.Books.{BookView}
 use Rattle.round_run.specs.Rounds.{Gains}
 use Rattle.round_run.specs.declared.closing.Verdict.TheVariants as verdict
 use Rattle.round_run.proofs.BookGain.{goes_same, gains_all, gains_some, best_same}
-use Rattle.round_run.proofs.RoundFacts.{none_used}
+use Rattle.round_run.proofs.RoundFacts.{none_used, was_open}
 use Rattle.round_run.proofs.closing.search_all.Goals as goal
 
 pub returns-in-Refuted-clause-gains : goal.returns-in-Refuted-clause-gains
@@ -129,3 +129,9 @@ returns-clause-known c = λ a.
     c.kind-kind.ensures c.all-all.ensures.value c.cycle-cycle.ensures c.requires.bounded
     c.decide_in-decided.ensures.known a
     ∙ c.requires.fresh
+
+pub returns-in-Spent-clause-was_open : goal.returns-in-Spent-clause-was_open
+returns-in-Spent-clause-was_open c =
+    was_open c.kind-kind.result c.args.inst.now c.args.book.now c.all-all.result c.args.most c.cycle-cycle.result
+    c.decide_in-decided.new.units.used c.args.units.now.used c.in-Spent.frames c.len-before.ensures.kept
+    c.requires.same c.kind-kind.ensures c.all-all.ensures.value c.cycle-cycle.ensures c.requires.bounded c.in-Spent.ensures.known

@@ -54,6 +54,7 @@ asking-preserved g c =
             gains = c.decide_round-round.ensures.round.gains;
             answer = c.decide_round-round.ensures.answer;
             above = c.decide_round-round.ensures.above;
+            was_open = c.decide_round-round.ensures.round.was_open;
           }) c.in-Refuted.is;
       sum = omega (arith, c.decide_round-round.ensures.units, c.asking.invariant.sum);
       team = spent_team c.asking.purse.helper.items c.decide_round-round.new.purse.helper.items
@@ -93,4 +94,5 @@ returns-in_default g c =
       gains = c.decide_round-round.ensures.round.gains;
       answer = c.decide_round-round.ensures.answer;
       above = c.decide_round-round.ensures.above;
+      was_open = c.decide_round-round.ensures.round.was_open;
     }) c.in_default.not-Refuted)

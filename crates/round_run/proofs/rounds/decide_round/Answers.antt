@@ -25,6 +25,7 @@ returns-then-pairs_refute-clause-round g c =
       gains = c.closed.ensures.closed.gains;
       from = c.closed.ensures.closed.from;
       whole = λ whole. absurd (cc (c.closed.ensures.helped, whole));
+      was_open = c.closed.ensures.closed.was_open;
     }
 
 pub returns-then-pairs_refute-clause-team : goal.returns-then-pairs_refute-clause-team

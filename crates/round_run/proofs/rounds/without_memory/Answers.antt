@@ -26,4 +26,5 @@ returns-clause-closed c =
       reserved = c.requires.reserved;
       from = c.len-from.ensures.len;
       known = λ answered. omega arith;
+      was_open = tt;
     }
