@@ -10,6 +10,7 @@ use Rattle.line_rules.specs.declared.types.Certificate.{Certificate}
 use Rattle.cert_text.specs.Cert.{cert_text}
 use Rattle.cycle_search.specs.rounds.declared.plans.Plan.{Plan}
 use Rattle.cycle_search.specs.CycleCertified.{IsOptimum, IsStop}
+use Rattle.cycle_search.specs.Ends.{first_lower, first_upper}
 use Rattle.cycle_search.specs.Seek.{AreSeeks}
 use Rattle.cycle_search.specs.declared.seek.Seeks.{Seeks}
 use Rattle.command_outcome.specs.Bounds.{seek_text}
@@ -52,8 +53,14 @@ pub record IsStopped (naming : Naming) (kind : LineKind) (line : Line) (m : ℕ)
   pub printed : text ≡ seek_text plan.seek seeks.used seeks.most seeks.kept
       ++ stopped_text naming kind lower upper balance (idle_time line upper m)
 
--- The search for the least cycle in m stations by a plan: it answers by the certificate of a line, and bounds are true
--- where memory cut it short.
+-- Bounds of a search that memory ended: they are true. The lower one is at least the first lower end, and the upper one
+-- at most the first upper end. (Own.)
+pub record AreBounds (kind : LineKind) (line : Line) (m lower upper : ℕ) : Type 0 where
+  pub true_bounds : IsProved kind line (ask.Cycle m) lower upper
+  pub from : first_lower line m ≤ lower
+  pub most : upper ≤ first_upper line
+
+-- the search for the least cycle in m stations by a plan: it answers by the certificate of a line
 abbrev pub least_cycle : Naming → LineKind → Line → ℕ → Plan → Search
 least_cycle naming kind line m plan = record {
   Cert = Certificate;
@@ -61,7 +68,7 @@ least_cycle naming kind line m plan = record {
   tell = cert_text;
   Solved = IsOptimal naming kind line m plan;
   Stopped = IsStopped naming kind line m plan;
-  Bounds = IsProved kind line (ask.Cycle m);
+  Bounds = AreBounds kind line m;
 }
 
 -- the file says the line, and this is answered of it

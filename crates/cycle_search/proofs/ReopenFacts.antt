@@ -26,7 +26,7 @@ use Rattle.round_run.proofs.Sayable.{entries_ok, trail_ok, all_are_tasks}
 use Rattle.cycle_search.specs.inner.Joined.{HaveCites, HaveFrameCites}
 use Rattle.cycle_search.specs.Outcomes.{IsBelow, Searches}
 use Rattle.cycle_search.specs.Seek.{try_room}
-use Rattle.cycle_search.specs.inner.Searching.{AreOutside, IsKept, IsBetween, IsReopened, IsStuck}
+use Rattle.cycle_search.specs.inner.Searching.{AreOutside, IsKept, IsBetween, IsReopened, IsStuck, IsTriedAt}
 use Rattle.cycle_search.specs.declared.halving.Halving.{Halving}
 use Rattle.cycle_search.specs.declared.searching.CycleOutcome.{CycleOutcome}
 use Rattle.cycle_search.proofs.SeekFacts.{try_limit}
@@ -148,7 +148,7 @@ pub anew_reopened : (kind : LineKind) (line : Line) (m : ℕ) (plan : Plan) (X :
     → IsKept kind line m (try_room plan) h.lower h.upper proof
     → (length proof ≡ 0 → h.lower ≤ 1)
     → book.about ≡ record { line = line; kind = kind; cycle = X } → book.state ≡ record { entries = []; best = best }
-    → IsReserved book → h.lower ≤ X → X < h.upper → m < tasks line
+    → IsReserved book → h.lower ≤ X → X < h.upper → m < tasks line → IsTriedAt kind line m X h
     → IsReopened kind line m plan X (record {
       lower = h.lower;
       upper = h.upper;
@@ -158,7 +158,7 @@ pub anew_reopened : (kind : LineKind) (line : Line) (m : ℕ) (plan : Plan) (X :
       paid = 0;
       seeks = h.seeks;
     })
-anew_reopened kind line m plan X h proof book best b k one about state reserved from to few =
+anew_reopened kind line m plan X h proof book best b k one about state reserved from to few tried =
     let none : book.state.entries ≡ [] = ap (λ z. z.entries) state in
     let O : List Entry → Type 0 = λ z. AreOutside h.lower h.upper z in
     let V : List Entry → Type 0 = λ z. UnitsOf line z 0 in
@@ -190,12 +190,14 @@ anew_reopened kind line m plan X h proof book best b k one about state reserved 
       stations = few;
       small = omega (arith, ap (λ (z : List Entry). length z) none);
       cheap = omega arith;
+      tried = record { half = tried.half; ranked = tried.ranked };
     }
 
 -- the book opened again at a cycle
 pub again_reopened : (kind : LineKind) (line : Line) (m : ℕ) (plan : Plan) (X : ℕ) (h : Halving) (book : BookView)
     (best : Assignment) → IsBetween kind line m plan h → book ≡ reopened h.book X best book.room
-    → (IsReserved h.book → IsReserved book) → length h.book.state.entries ≤ 1000000 → h.paid ≤ 1000000 → h.lower ≤ X → X < h.upper → m < tasks line
+    → (IsReserved h.book → IsReserved book) → length h.book.state.entries ≤ 1000000 → h.paid ≤ 1000000 → h.lower ≤ X
+    → X < h.upper → m < tasks line → IsTriedAt kind line m X h
     → IsReopened kind line m plan X (record {
       lower = h.lower;
       upper = h.upper;
@@ -205,7 +207,7 @@ pub again_reopened : (kind : LineKind) (line : Line) (m : ℕ) (plan : Plan) (X 
       paid = h.paid;
       seeks = h.seeks;
     })
-again_reopened kind line m plan X h book best b is reserved small cheap from to few =
+again_reopened kind line m plan X h book best b is reserved small cheap from to few tried =
     let same : book.state.entries ≡ h.book.state.entries = ap (λ (z : BookView). z.state.entries) is in
     let O : List Entry → Type 0 = λ z. AreOutside h.lower h.upper z in
     let B : List Entry → Type 0 = λ z. length h.proof ≡ 0 → IsBelow line m z h.lower in
@@ -238,4 +240,5 @@ again_reopened kind line m plan X h book best b is reserved small cheap from to 
       stations = few;
       small = omega (arith, small, ap (λ (z : List Entry). length z) same);
       cheap = cheap;
+      tried = record { half = tried.half; ranked = tried.ranked };
     }

@@ -8,7 +8,7 @@ use Rattle.line_instance.specs.Line.{Line, IsLine, IsRanked, tasks}
 use Rattle.line_rules.specs.Accepted.{HasBalance}
 use Rattle.line_rules.specs.Balance.{IsBalance, Holds, all_tasks, seat}
 use Rattle.line_rules.specs.Entries.{HasAnswer, IsDerived, IsFresh}
-use Rattle.line_rules.specs.Trails.{Leads, IsTrail, IsOpenOver}
+use Rattle.line_rules.specs.Trails.{IsTrail, IsOpenOver}
 use Rattle.line_rules.specs.Units.{UnitsOf, UnitsIn, UnitsAt, TrailUnits, entries_at}
 use Rattle.line_rules.specs.declared.types.LineKind.{LineKind}
 use Rattle.line_rules.specs.declared.types.Balance.{Balance as Assignment}
@@ -23,6 +23,7 @@ use Rattle.budget_law.proofs.FewUnits.{units_few}
 use Rattle.round_run.specs.declared.plans.Plan.{Plan}
 use Rattle.round_run.specs.declared.solving.Cause.{Cause}
 use Rattle.round_run.specs.declared.solving.Cause.TheVariants as cause
+use Rattle.round_run.proofs.TrailFacts.{first_frame}
 use Rattle.entry_lists.specs.Lift.{lifted_frame}
 use Rattle.cycle_search.specs.inner.Joined.{behind}
 use Rattle.cycle_search.specs.Outcomes.{IsRightIn, AreSome, ShowsLower, IsSolved, IsStopped, IsSpent, Searches}
@@ -35,20 +36,6 @@ use Rattle.cycle_search.proofs.BehindFacts.{answer_behind, fresh_behind, opens_b
 use Rattle.cycle_search.proofs.BehindFacts.{cases_behind, units_at_behind, units_from_behind}
 use Rattle.cycle_search.proofs.EndFacts.{none_long}
 use Rattle.cycle_search.proofs.Tries.{outside_none}
-
--- a trail begins with its question
-module _ (kind : LineKind) (line : Line) (X : ℕ) (es : List Entry) (R : List Bool) (most : ℕ) where
-  first_of : (ps : List OpenFrame) (d : OpenFrame) → Leads kind line X es R most ps d.set d.most
-      → (f : OpenFrame) × (slice_get (ps ++ d ∷ []) 0 ≡ Some f) × (f.set ≡ R) × (f.most ≡ most)
-  first_of [] d l = (d, refl, l.0, l.1)
-  first_of (p ∷ ps) d l = (p, refl, l.1.0, l.1.1)
-
-  pub first_frame : (fs : List OpenFrame) → IsTrail kind line X es R most fs
-      → (f : OpenFrame) × (slice_get fs 0 ≡ Some f) × (f.set ≡ R) × (f.most ≡ most)
-  first_frame fs t =
-      let P : List OpenFrame → Type 0 = λ z. (f : OpenFrame) × (slice_get z 0 ≡ Some f) × (f.set ≡ R)
-      × (f.most ≡ most) in
-      subst P (sym t.all) (first_of t.passed t.deepest t.leads)
 
 -- no balance is below the lower bound that entries show
 pub none_below : (kind : LineKind) (line : Line) (m lower : ℕ) (es : List Entry) → IsLine line
@@ -184,6 +171,8 @@ module _ (kind : LineKind) (line : Line) (m : ℕ) (plan : Plan) (h : Halving) (
       proof = shows_lower s.ends;
       some = some_of s.ends (Some trail) s.published s.listed s.few s.entry_units
           (frames_raised line (length h.proof) h.book.about.cycle frames s.listed s.frame_units) s.within;
+      tried = s.tried.half;
+      ranked = s.tried.ranked;
     }
 
     -- units of some entries and the frames at the cycle of the book, where the entries stand behind the proof
@@ -240,8 +229,8 @@ module _ (kind : LineKind) (line : Line) (m : ℕ) (plan : Plan) (h : Halving) (
           ]
     ]
 
-    -- no entry refutes a balance at the lower end: at the cycle of the book the trail is open, and from the upper end on
-    -- there is a balance
+    -- no entry refutes a balance at the lower end: at the cycle of the book the trail is open, and from the upper end
+    -- on there is a balance
     tight_is : IsStuck kind line m plan cause.Units h frames closing_from → HasAnswer all (all_tasks line) m h.lower → ⊥
     tight_is s a =
         let X : ℕ = h.book.about.cycle in

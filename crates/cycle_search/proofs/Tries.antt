@@ -24,10 +24,10 @@ use Rattle.round_run.specs.declared.plans.Plan.{Plan}
 use Rattle.round_run.specs.declared.closing.Verdict.{Verdict}
 use Rattle.round_run.specs.declared.closing.Verdict.TheVariants as verdict
 use Rattle.round_run.specs.declared.solving.Cause.TheVariants as cause
-use Rattle.cycle_search.specs.Outcomes.{IsRightIn, IsBelow}
+use Rattle.cycle_search.specs.Outcomes.{IsRightIn, IsBelow, RankedNeedsMore, halfway}
 use Rattle.cycle_search.specs.Seek.{seek_room, try_room, AreSeeks}
 use Rattle.cycle_search.specs.inner.Searching.{AreOutside, AreOutsideBut, IsKept, HasEnds, IsBetween, IsReopened}
-use Rattle.cycle_search.specs.inner.Searching.{IsAsking, HasSought, HasAsked, HasListed, IsStuck, IsCloser}
+use Rattle.cycle_search.specs.inner.Searching.{IsAsking, HasSought, HasAsked, HasListed, IsStuck, IsCloser, IsTriedAt}
 use Rattle.cycle_search.specs.declared.halving.Halving.{Halving}
 use Rattle.cycle_search.specs.declared.seek.Seeks.{Seeks}
 use Rattle.cycle_search.proofs.SeekFacts.{no_room}
@@ -201,6 +201,16 @@ ranked_closer kind line m plan X h b between from to right few = (
   omega (arith, from, to),
 )
 
+-- a search with the same ends
+tried_on : (kind : LineKind) (line : Line) (m X Y : ℕ) (old new : Halving) → Y ≡ X → new.lower ≡ old.lower
+    → new.upper ≡ old.upper → IsTriedAt kind line m X old → IsTriedAt kind line m Y new
+tried_on kind line m X Y old new same lower upper t =
+    let R : ℕ → Type 0 = λ z. RankedNeedsMore kind line m z in
+    record {
+      half = same ∙ t.half ∙ ap (λ z. halfway z old.upper) (sym lower) ∙ ap (λ z. halfway new.lower z) (sym upper);
+      ranked = subst R (sym same) t.ranked;
+    }
+
 -- what a seek does to a search whose book was reopened at X
 module _ (kind : LineKind) (line : Line) (m : ℕ) (plan : Plan) (X : ℕ) (old new : Halving) (best : Option Assignment)
     (a : IsReopened kind line m plan X old) (h : HasSought m plan old new best) where
@@ -232,6 +242,7 @@ module _ (kind : LineKind) (line : Line) (m : ℕ) (plan : Plan) (X : ℕ) (old 
         sought_counted = subst V ends.line_is h.counted;
         paid = omega (arith, a.between.paid, h.paid);
         cheap = omega (arith, a.cheap, h.within);
+        tried = tried_on kind line m X X old new refl h.lower h.upper a.tried;
       }
 
   -- a balance was found: the cycle is the upper end
@@ -500,6 +511,7 @@ module _ (kind : LineKind) (line : Line) (m : ℕ) (plan : Plan) (X : ℕ) (old 
             subst R (line_now v h) h.answer.1,
             spent_units,
           );
+          tried = tried_on kind line m X X' old new same h.lower h.upper a.tried;
         }
 
   -- memory ended
@@ -522,6 +534,7 @@ module _ (kind : LineKind) (line : Line) (m : ℕ) (plan : Plan) (X : ℕ) (old 
         frame_units = refl;
         within = omega (arith, paid_now v h, within_now v h);
         stuck = refl;
+        tried = tried_on kind line m X new.book.about.cycle old new same h.lower h.upper a.tried;
       }
 
   -- the same of a verdict that is known

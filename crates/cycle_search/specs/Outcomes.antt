@@ -1,9 +1,10 @@
 -- What a search for the least cycle comes to.
-use Rattle.std.specs.Prelude.{◌≡◌, ℕ, ◌+◌, ◌-◌, ◌*◌, ◌^◌, ◌<◌, ◌≤◌, List, [], length, drop, Option, Some, None}
+use Rattle.std.specs.Prelude.{◌≡◌, ℕ, ◌+◌, ◌-◌, ◌*◌, ◌/◌, ◌^◌, ◌<◌, ◌≤◌, List, [], length, drop, Option, Some, None}
 use Rattle.line_instance.specs.Line.{Line, tasks}
 use Rattle.line_rules.specs.Accepted.{IsLeastCycle}
 use Rattle.line_rules.specs.Balance.{IsRight, all_tasks}
 use Rattle.line_rules.specs.Entries.{HasAnswer, IsDerived, IsFreshAt}
+use Rattle.line_rules.specs.Ranked.{IsRankedBalance}
 use Rattle.line_rules.specs.Trails.{IsTrail, IsOpenOver}
 use Rattle.line_rules.specs.Units.{UnitsAt, UnitsWhole}
 use Rattle.line_rules.specs.declared.types.LineKind.{LineKind}
@@ -27,6 +28,14 @@ pub record IsRightIn (kind : LineKind) (line : Line) (m c : ℕ) (b : Assignment
 -- above 1, an entry shows that there is no balance of all tasks in m stations at the cycle below c
 abbrev pub IsBelow : Line → ℕ → List Entry → ℕ → Type 0
 IsBelow line m es c = 1 < c → HasAnswer es (all_tasks line) m (c - 1)
+
+-- the cycle halfway between two ends, rounded down (own)
+abbrev pub halfway : ℕ → ℕ → ℕ
+halfway lower upper = (lower + upper) / 2
+
+-- the ranked balance at cycle c has more than m stations
+abbrev pub RankedNeedsMore : LineKind → Line → ℕ → ℕ → Type 0
+RankedNeedsMore kind line m c = (b : Assignment) × IsRankedBalance kind line c b × (m < b.stations)
 
 -- The entries of a search in which a try may add P, and the trail, have at most 2P + 2,000,000 units, and the entries
 -- are at most 2P + 2,000,100: 7,000,000 and 7,000,100 where P is 2,500,000.
@@ -55,7 +64,8 @@ pub record IsSolved (kind : LineKind) (line : Line) (m : ℕ) (plan : Plan) (cyc
   pub some : AreSome line (try_room plan) es None
 
 -- The search stopped: the lower bound, which is no less than the first lower end, is below the upper one, which is no
--- more than the first upper end, and at which the balance is right.
+-- more than the first upper end, and at which the balance is right. The cycle of the trail is the tried one: the one
+-- halfway between the bounds, rounded down, at which the ranked balance has more than m stations.
 pub record IsStopped (kind : LineKind) (line : Line) (m : ℕ) (plan : Plan) (lower upper : ℕ) (b : Assignment)
     (es : List Entry) (trail : Trail) : Type 0 where
   pub from : first_lower line m ≤ lower
@@ -65,13 +75,15 @@ pub record IsStopped (kind : LineKind) (line : Line) (m : ℕ) (plan : Plan) (lo
   pub balance : IsRightIn kind line m upper b
   pub proof : ShowsLower kind line m lower es
   pub some : AreSome line (try_room plan) es (Some trail)
+  pub tried : trail.cycle ≡ halfway lower upper
+  pub ranked : RankedNeedsMore kind line m trail.cycle
 
 -- The N units of a try ended, and one more load was needed: there are fewer stations than tasks. The trail is at a
 -- cycle X between the bounds, valid from the question of all tasks in m stations, and open over the entries. These are
 -- fresh at X. The entries from a number `closing_from` on and the trail have at least N units at X, and exactly so many
--- where there are no helpers. All entries and the trail have no fewer at X, and as many where no seek is asked for. N is
--- below what the budget law allows. No entry refutes a balance at the lower bound itself: it is the best one that the
--- entries show.
+-- where there are no helpers. All entries and the trail have no fewer at X, and as many where no seek is asked for. N
+-- is below what the budget law allows. No entry refutes a balance at the lower bound itself: it is the best one that
+-- the entries show.
 pub record IsSpent (kind : LineKind) (line : Line) (m : ℕ) (plan : Plan) (lower upper : ℕ) (b : Assignment)
     (es : List Entry) (trail : Trail) (closing_from : ℕ) : Type 0 where
   pub stopped : IsStopped kind line m plan lower upper b es trail

@@ -15,7 +15,8 @@ ghost use Rattle.entry_lists.specs.Trim.{CitesEarlier};
 ghost use Rattle.round_run.specs.Plans.{IsPlan};
 ghost use Rattle.round_run.specs.declared.plans.Plan.{Plan as Planned};
 ghost use Rattle.cycle_search.specs.inner.Searching.{IsBetween, IsReopened, IsAsking, HasSought, HasAsked, IsTried};
-ghost use Rattle.cycle_search.specs.inner.Searching.{IsKept};
+ghost use Rattle.cycle_search.specs.inner.Searching.{IsKept, IsTriedAt};
+ghost use Rattle.cycle_search.specs.Outcomes.{halfway};
 
 use crate::asking::ask_book;
 use crate::halving::Halving;
@@ -93,6 +94,7 @@ fn begun_anew(
     requires to { cycle < search.upper }
     requires best { MayBeBest (record { line = inst.now; kind = kind; cycle = cycle }) best }
     requires above { stations < best.stations }
+    requires tried { IsTriedAt kind inst.now stations cycle search }
     ensures same { IfOk result (λ h. (h.lower ≡ search.lower) × (h.upper ≡ search.upper)) }
     ensures reopened { IfOk result (λ h. (plan : Planned) → IsBetween kind inst.now stations plan search
         → IsReopened kind inst.now stations plan cycle h) }
@@ -134,6 +136,7 @@ fn reopened(
     requires to { cycle < search.upper }
     requires best { MayBeBest (record { line = inst.now; kind = kind; cycle = cycle }) best }
     requires above { stations < best.stations }
+    requires tried { IsTriedAt kind inst.now stations cycle search }
     ensures same { IfOk result (λ h. (h.lower ≡ search.lower) × (h.upper ≡ search.upper)) }
     ensures reopened { IfOk result (λ h. (plan : Planned) → IsBetween kind inst.now stations plan search
         → IsReopened kind inst.now stations plan cycle h) }
@@ -423,6 +426,7 @@ pub(crate) fn try_cycle<R: Threads + Wait + Sync, G: Gate>(
     requires between { IsBetween kind inst.now stations plan.now search }
     requires from { search.lower ≤ cycle }
     requires to { cycle < search.upper }
+    requires half { cycle ≡ halfway search.lower search.upper }
     ensures { IfOk result (IsTried kind inst.now stations plan.now search.lower search.upper) }
 {
     let _tasks = inst.tasks();

@@ -20,7 +20,7 @@ use Rattle.round_run.specs.declared.solving.Cause.{Cause}
 use Rattle.round_run.specs.declared.solving.Cause.TheVariants as cause
 use Rattle.cycle_search.specs.Asking.{ListsAll}
 use Rattle.cycle_search.specs.Ends.{first_lower, first_upper}
-use Rattle.cycle_search.specs.Outcomes.{IsRightIn, IsBelow}
+use Rattle.cycle_search.specs.Outcomes.{IsRightIn, IsBelow, RankedNeedsMore, halfway}
 use Rattle.cycle_search.specs.Seek.{seek_room, try_room, AreSeeks}
 use Rattle.cycle_search.specs.declared.halving.Halving.{Halving}
 use Rattle.cycle_search.specs.declared.trying.Tried.{Tried}
@@ -82,7 +82,13 @@ pub record IsFirstBook (kind : LineKind) (line : Line) (m : ℕ) (b : BookView) 
   pub entries : ((first_lower line m ≤ 1) × (b.state.entries ≡ []))
       ⊎ ((1 < first_lower line m) × (b.state.entries ≡ by_bound line m (first_lower line m - 1) ∷ []))
 
--- A search whose book is open at the cycle X between the ends, and isn't too large for a try.
+-- a try in m stations is at the cycle X: halfway between the ends of the search, rounded down, at which the ranked
+-- balance has more stations
+pub record IsTriedAt (kind : LineKind) (line : Line) (m X : ℕ) (h : Halving) : Type 0 where
+  pub half : X ≡ halfway h.lower h.upper
+  pub ranked : RankedNeedsMore kind line m X
+
+-- A search whose book is open at the tried cycle X between the ends, and isn't too large for a try.
 pub record IsReopened (kind : LineKind) (line : Line) (m : ℕ) (plan : Plan) (X : ℕ) (h : Halving) : Type 0 where
   pub between : IsBetween kind line m plan h
   pub cycle : h.book.about.cycle ≡ X
@@ -91,6 +97,7 @@ pub record IsReopened (kind : LineKind) (line : Line) (m : ℕ) (plan : Plan) (X
   pub stations : m < tasks line
   pub small : length h.book.state.entries ≤ 1000000
   pub cheap : h.paid ≤ 1000000
+  pub tried : IsTriedAt kind line m X h
 
 -- A seek for m stations was made over the book of a search: what the book gained is at its cycle, no more than there is
 -- room for, and paid for; a balance that was found is right at that cycle, and has at most m stations; the seeks of the
@@ -114,8 +121,8 @@ pub record HasSought (m : ℕ) (plan : Plan) (old new : Halving) (best : Option 
       → IsRight old.book.about.kind old.book.about.line old.book.about.cycle b × (b.stations ≤ m)
   pub seeks : AreSeeks plan old.seeks → AreSeeks plan new.seeks
 
--- A search whose question is asked at the cycle X of its book, between the ends: its entries are those of before the
--- try, none at a cycle between the ends, and behind them those of a seek, all at X. Both are few, and paid for.
+-- A search whose question is asked at the tried cycle X of its book, between the ends: its entries are those of before
+-- the try, none at a cycle between the ends, and behind them those of a seek, all at X. Both are few, and paid for.
 pub record IsAsking (kind : LineKind) (line : Line) (m : ℕ) (plan : Plan) (X : ℕ) (h : Halving) : Type 0 where
   pub ends : HasEnds kind line m plan h
   pub cycle : h.book.about.cycle ≡ X
@@ -135,6 +142,7 @@ pub record IsAsking (kind : LineKind) (line : Line) (m : ℕ) (plan : Plan) (X :
   pub sought_counted : UnitsOf line sought sought_units
   pub paid : units + sought_units ≤ h.paid
   pub cheap : h.paid ≤ 1000000 + seek_room plan
+  pub tried : IsTriedAt kind line m X h
 
 -- The question of m stations was asked over the book of a search: what the book gained is at its cycle, and paid for,
 -- and the rest of the search stays.
@@ -181,8 +189,8 @@ IsStuckBy kind line m plan X es closing_from cause.Units frames =
     × HasListed line plan X es closing_from frames
 IsStuckBy kind line m plan X es closing_from cause.Memory frames = frames ≡ []
 
--- A search that stopped at the cycle of its book, which is between the ends, and at which alone between them it has
--- entries. The entries of its last round are those from number `closing_from` on.
+-- A search that stopped at the tried cycle of its book, which is between the ends, and at which alone between them it
+-- has entries. The entries of its last round are those from number `closing_from` on.
 pub record IsStuck (kind : LineKind) (line : Line) (m : ℕ) (plan : Plan) (why : Cause) (h : Halving)
     (frames : List OpenFrame) (closing_from : ℕ) : Type 0 where
   pub ends : HasEnds kind line m plan h
@@ -198,6 +206,7 @@ pub record IsStuck (kind : LineKind) (line : Line) (m : ℕ) (plan : Plan) (why 
   pub frame_units : UnitsIn line h.book.about.cycle frames listed
   pub within : published + listed ≤ try_room plan + 1000000
   pub stuck : IsStuckBy kind line m plan h.book.about.cycle h.book.state.entries closing_from why frames
+  pub tried : IsTriedAt kind line m h.book.about.cycle h
 
 -- the ends are closer than these
 abbrev pub IsCloser : ℕ → ℕ → Halving → Type 0

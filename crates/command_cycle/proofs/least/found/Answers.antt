@@ -13,8 +13,12 @@ returns-in_ok-cut_short-in-Memory-clause-answer g c =
     let end = c.in-Stopped in
     let s : HasStopped a.kind line m a.plan.now end.lower end.upper end.balance end.entries end.trail = search rules in
     cut_as (least_cycle a.naming.now a.kind line m a.plan.now) end.lower end.upper c.in_ok-cut_short-in-Memory.field-0
-    s.below (
-      has_balance a.kind line m end.upper end.balance s.balance,
-      none_below a.kind line m end.lower end.entries c.tasks-tasks.ensures.line s.proof,
-    )
+    s.below (record {
+      true_bounds = (
+        has_balance a.kind line m end.upper end.balance s.balance,
+        none_below a.kind line m end.lower end.entries c.tasks-tasks.ensures.line s.proof,
+      );
+      from = s.from;
+      most = s.most;
+    })
     c.in_ok-cut_short-in-Memory.ensures.answer

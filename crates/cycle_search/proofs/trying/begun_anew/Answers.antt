@@ -19,4 +19,4 @@ returns-clause-reopened c = λ plan b.
     anew_reopened c.args.kind c.args.inst.now c.args.stations plan c.args.cycle s c.in_ok-proof.proof
     c.in_ok-open_book.field-0 c.args.best b k.0 k.1 c.in_ok-open_book.ensures.about c.in_ok-open_book.ensures.state
     c.in_ok-open_book.ensures.reserved c.requires.from c.requires.to
-    (omega (arith, c.requires.above, c.requires.best.few))
+    (omega (arith, c.requires.above, c.requires.best.few)) c.requires.tried

@@ -7,4 +7,4 @@ returns-clause-reopened c = λ plan b.
     again_reopened c.args.kind c.args.inst.now c.args.stations plan c.args.cycle c.args.search c.reopen.result
     c.args.best b c.reopen.ensures.reopened c.reopen.ensures.reserved
     (omega (arith, c.len.ensures.len, c.if-len-gt-MAX_ENTRIES.false)) c.if-search-gt-MAX_PAID.false c.requires.from
-    c.requires.to (omega (arith, c.requires.above, c.requires.best.few))
+    c.requires.to (omega (arith, c.requires.above, c.requires.best.few)) c.requires.tried
